@@ -1,0 +1,4 @@
+pub mod SameActor
+pub mod AloneIsLawful
+pub mod Texts
+pub mod AloneIsWhole

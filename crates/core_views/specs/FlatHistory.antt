@@ -1,0 +1,63 @@
+-- The flat history of a trace: each line runs alone, in file order.
+use Rattle.std.specs.Prelude.{ℕ, List, [], ◌∷◌, ◌++◌, Option, Some, None}
+use Rattle.core_views.specs.declared.answer.Answer.{Answer}
+use Rattle.core_views.specs.declared.answer.Answer.TheVariants.{Reached, Mmio, Done, Refused}
+use Rattle.core_views.specs.declared.event.Event.{Event}
+use Rattle.core_views.specs.declared.event.EventKind.{EventKind}
+use Rattle.core_views.specs.declared.event.EventKind.TheVariants.{Begun, LookedAtSlots, Accessed, Exited, SlotChanged, Answered}
+use Rattle.core_views.specs.declared.trace.Command.{Command}
+use Rattle.core_views.specs.declared.trace.Command.TheVariants.{Access, SetSlot}
+use Rattle.core_views.specs.declared.answer.Refusal.{Refusal}
+use Rattle.core_views.specs.Sizes.{Sizes, sizes_of}
+use Rattle.core_views.specs.declared.trace.Line.{Line}
+use Rattle.core_views.specs.declared.trace.Op.{Op}
+use Rattle.core_views.specs.declared.trace.Slot.{Slot}
+use Rattle.core_views.specs.declared.trace.Trace.{Trace}
+use Rattle.core_views.specs.Slots.{page_behind, slot_refusal}
+use Rattle.core_views.specs.Flat.{Facts, Stage, Idle, Fresh, HasAccessed, HasLeft, HasSetSlot, first_facts}
+use Rattle.core_views.specs.Events.{facts_after_all}
+
+abbrev pub by : Line → EventKind → Event
+by line kind = record { actor = line.actor; kind = kind }
+
+abbrev pub answers : Line → Answer → List Event
+answers line answer = by line (Answered line.number answer) ∷ []
+
+-- An access leaves the guest where no page is behind its frame, and reaches that page's word where one is.
+abbrev pub accessing : Line → ℕ → ℕ → Op → Facts → Option ℕ → List Event
+accessing line gfn word op f None = by line (Exited Mmio) ∷ answers line Mmio
+accessing line gfn word op f (Some page) = by line (Accessed gfn word op (f.host page).frame (f.memory page word)) ∷ answers line (Reached (f.host page).frame (f.memory page word))
+
+-- A slot that the machine refuses changes nothing.
+abbrev pub setting : Line → ℕ → Slot → Option Refusal → List Event
+setting line id slot None = by line (SlotChanged id slot) ∷ answers line Done
+setting line id slot (Some refusal) = answers line (Refused refusal)
+
+abbrev pub doing : Sizes → Line → Command → Facts → List Event
+doing z line (Access gfn word op) f = accessing line gfn word op f (page_behind f.slots gfn op)
+doing z line (SetSlot id slot) f = setting line id slot (slot_refusal z.pages id slot)
+
+-- what is left of a line, from each stage on
+abbrev pub rest_of : Sizes → Line → Stage → Facts → List Event
+rest_of z line Idle f = []
+rest_of z line Fresh f = doing z line line.command f
+rest_of z line (HasAccessed frame value) f = answers line (Reached frame value)
+rest_of z line (HasLeft answer) f = answers line answer
+rest_of z line HasSetSlot f = answers line Done
+
+-- what a line looks at before it does anything
+abbrev pub looks : Line → Command → List Event
+looks line (Access gfn word op) = by line LookedAtSlots ∷ []
+looks line (SetSlot id slot) = []
+
+-- the whole line, alone
+abbrev pub alone : Sizes → Line → Facts → List Event
+alone z line f = by line (Begun line) ∷ (looks line line.command ++ rest_of z line Fresh f)
+
+-- the lines one after another, each alone
+abbrev pub one_by_one : Sizes → List Line → Facts → List Event
+one_by_one z [] f = []
+one_by_one z (line ∷ lines) f = alone z line f ++ one_by_one z lines (facts_after_all (alone z line f) f)
+
+abbrev pub flat_history : Trace → List Event
+flat_history trace = one_by_one (sizes_of trace.header) trace.lines first_facts

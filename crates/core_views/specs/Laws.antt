@@ -1,0 +1,58 @@
+-- What holds of the definitions alone.
+use Rattle.std.specs.Prelude.{◌≡◌, ◌-◌, ◌^◌, ℕ, List, [], ◌∷◌, Bool, true, false, codes}
+use Rattle.core_views.specs.declared.actor.Actor.TheVariants.{Vcpu, Manager}
+use Rattle.core_views.specs.declared.trace.Command.TheVariants.{Access, SetSlot}
+use Rattle.core_views.specs.Sizes.{Sizes}
+use Rattle.core_views.specs.declared.trace.Line.{Line}
+use Rattle.core_views.specs.declared.trace.Op.{Op}
+use Rattle.core_views.specs.declared.trace.Op.TheVariants.{Read, Write, Add}
+use Rattle.core_views.specs.declared.trace.Slot.{Slot}
+use Rattle.core_views.specs.Flat.{first_facts, first_flat}
+use Rattle.core_views.specs.Lawful.{IsLawful}
+use Rattle.core_views.specs.Whole.{IsWhole}
+use Rattle.core_views.specs.FlatHistory.{one_by_one}
+use Rattle.core_views.specs.Text.{text}
+
+-- Lines that run alone, one after another, are lawful.
+abbrev pub FlatIsLawful : Type 0
+FlatIsLawful = (z : Sizes) (lines : List Line) → IsLawful z first_flat (one_by_one z lines first_facts)
+
+-- They are begun and answered, each once, in the order of each actor.
+abbrev pub FlatIsWhole : Type 0
+FlatIsWhole = (z : Sizes) (lines : List Line) → IsWhole (one_by_one z lines first_facts) lines
+
+abbrev pub example_sizes : Sizes
+example_sizes = record { pages = 128 }
+
+abbrev pub example_slot : ℕ → Bool → Slot
+example_slot base read_only = record { base = base; pages = 3; host = 64; read_only = read_only }
+
+abbrev pub manager_line : ℕ → ℕ → Slot → Line
+manager_line number id slot = record { number = number; actor = Manager; command = SetSlot id slot }
+
+abbrev pub access_line : ℕ → ℕ → ℕ → ℕ → Op → Line
+access_line number vcpu gfn word op = record { number = number; actor = Vcpu vcpu; command = Access gfn word op }
+
+-- slots that are refused, a read-only slot, and accesses on both sides of a slot's ends, to both words of a page
+abbrev pub example : List Line
+example =
+    manager_line 2 0 (example_slot (2 ^ 36 - 2) false)
+    ∷ manager_line 3 32 (example_slot 5 false)
+    ∷ manager_line 4 0 (example_slot 5 true)
+    ∷ access_line 5 0 6 0 (Write 7)
+    ∷ access_line 6 0 6 0 Read
+    ∷ manager_line 7 0 (example_slot 5 false)
+    ∷ access_line 8 0 6 0 (Write 7)
+    ∷ access_line 9 1 6 1 (Write 8)
+    ∷ access_line 10 1 6 0 (Add (2 ^ 64 - 1))
+    ∷ access_line 11 0 6 0 Read
+    ∷ access_line 12 0 6 1 Read
+    ∷ access_line 13 0 5 1 Read
+    ∷ access_line 14 0 7 1 Read
+    ∷ access_line 15 0 4 1 Read
+    ∷ access_line 16 0 8 1 Read
+    ∷ []
+
+abbrev pub FlatPrints : Type 0
+FlatPrints = text (one_by_one example_sizes example first_facts)
+    ≡ codes "2 vm refused too-large\n3 vm refused bad-id\n4 vm done\n5 v0 mmio\n6 v0 frame 65 value 0\n7 vm done\n8 v0 frame 65 value 0\n9 v1 frame 65 value 0\n10 v1 frame 65 value 7\n11 v0 frame 65 value 6\n12 v0 frame 65 value 8\n13 v0 frame 64 value 0\n14 v0 frame 66 value 0\n15 v0 mmio\n16 v0 mmio\n"

@@ -1,0 +1,15 @@
+pub mod Actors
+pub mod Traces
+pub mod Sizes
+pub mod Slots
+pub mod Host
+pub mod Memory
+pub mod Names
+pub mod Flat
+pub mod Events
+pub mod Lawful
+pub mod Text
+pub mod Whole
+pub mod FlatHistory
+pub mod Need
+pub mod Laws

@@ -1,0 +1,58 @@
+-- What a trace may hold: the ranges of its header and of its lines.
+use Rattle.std.specs.Prelude.{◌≡◌, ◌*◌, ◌%◌, ◌^◌, ◌<◌, ◌≤◌, ◌⊎◌, ℕ, List, All, Some, length, slice_get}
+use Rattle.std.specs.List.Sorted.{IsStrictlyIncreasing}
+use Rattle.core_views.specs.declared.actor.Actor.{Actor}
+use Rattle.core_views.specs.declared.actor.Actor.TheVariants.{Vcpu, Manager}
+use Rattle.core_views.specs.declared.trace.Command.{Command}
+use Rattle.core_views.specs.declared.trace.Command.TheVariants.{Access, SetSlot}
+use Rattle.core_views.specs.declared.trace.Header.{Header}
+use Rattle.core_views.specs.declared.trace.Line.{Line}
+use Rattle.core_views.specs.declared.trace.Slot.{Slot}
+use Rattle.core_views.specs.declared.trace.Trace.{Trace}
+
+-- The slot's numbers are in the ranges of a line.
+pub record IsSlotInRange (slot : Slot) : Type 0 where
+  pub some : 1 ≤ slot.pages
+  pub pages : slot.pages < 2 ^ 36
+  pub base : slot.base < 2 ^ 36
+  pub host : slot.host < 2 ^ 36
+  pub aligned : slot.host % 64 ≡ 0
+
+-- The actor makes such lines, and the header declares it; the line's numbers are in their ranges.
+abbrev pub IsCommandOf : Header → Actor → Command → Type 0
+IsCommandOf h (Vcpu n) (Access gfn word op) = (n < h.vcpus) × (gfn < 2 ^ 36) × (word < h.words)
+IsCommandOf h Manager (SetSlot id slot) = IsSlotInRange slot
+IsCommandOf h _ _ = ⊥
+
+abbrev pub IsLineOf : Header → Line → Type 0
+IsLineOf h line = IsCommandOf h line.actor line.command
+
+-- Each line is one that the header allows.
+abbrev pub AreLinesOf : Header → List Line → Type 0
+AreLinesOf h lines = All (IsLineOf h) lines
+
+-- One to four host threads own all pages: the first from page 0 on, and each from a page behind the one before.
+pub record AreHostsOf (pages : ℕ) (hosts : List ℕ) : Type 0 where
+  pub first : slice_get hosts 0 ≡ Some 0
+  pub count : length hosts ≤ 4
+  pub rising : IsStrictlyIncreasing hosts
+  pub below : All (λ page. page < pages) hosts
+
+-- The header's numbers are in their ranges.
+pub record IsHeader (h : Header) : Type 0 where
+  pub version : h.version ≡ 1
+  pub vcpus : (1 ≤ h.vcpus) × (h.vcpus ≤ 16)
+  pub workers : h.workers ≤ 4
+  pub pages : (1 ≤ h.pages) × (h.pages ≤ 1048576)
+  pub frames : (h.pages ≤ h.frames) × (h.frames ≤ 2097152)
+  pub words : (h.words ≡ 1) ⊎ (h.words ≡ 2) ⊎ (h.words ≡ 4) ⊎ (h.words ≡ 8)
+  pub content : h.frames * h.words ≤ 8388608
+  pub pool : (4 ≤ h.pool) × (h.pool ≤ 16384)
+  pub cache : (1 ≤ h.cache) × (h.cache ≤ 64)
+  pub manual : h.manual ≤ 2
+  pub hosts : AreHostsOf h.pages h.hosts
+
+-- All numbers of the trace are in their ranges.
+pub record IsTrace (t : Trace) : Type 0 where
+  pub header : IsHeader t.header
+  pub lines : AreLinesOf t.header t.lines

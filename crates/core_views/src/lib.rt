@@ -1,0 +1,19 @@
+//! The trace, its answers and its events, and the definitions of what flat
+//! guest memory is: `specs/` holds them, one topic a file.
+#![tactic(auto)]
+
+mod actor;
+mod answer;
+mod event;
+mod laws;
+mod no_memory;
+mod sequence;
+mod trace;
+
+pub use actor::Actor;
+pub use answer::{Answer, Answered, AnsweredLine, Refusal};
+pub use event::{Event, EventKind};
+pub use laws::flat_history_is_lawful;
+pub use no_memory::NoMemory;
+pub use sequence::Sequence;
+pub use trace::{Command, Header, Line, Lines, Op, Slot, Trace, Words};
