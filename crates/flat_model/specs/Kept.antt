@@ -1,0 +1,43 @@
+-- What the interpreter keeps, and what it stands for.
+use Rattle.std.specs.Prelude.{◌≡◌, ℕ, List, [], ◌∷◌, Bool, ◌==◌, ◌&&◌, unwrap_or}
+use Rattle.std.specs.Map.{lookup}
+use Rattle.core_views.specs.declared.answer.Answer.{Answer}
+use Rattle.core_views.specs.declared.trace.Command.{Command}
+use Rattle.core_views.specs.declared.trace.Command.TheVariants.{Access, SetSlot}
+use Rattle.core_views.specs.declared.trace.Line.{Line}
+use Rattle.core_views.specs.Traces.{IsSlotInRange}
+use Rattle.core_views.specs.Sizes.{Sizes}
+use Rattle.core_views.specs.Slots.{Slots}
+use Rattle.core_views.specs.Host.{own_frames}
+use Rattle.core_views.specs.Memory.{Memory}
+use Rattle.core_views.specs.Flat.{Facts}
+use Rattle.core_views.specs.Events.{facts_after_all}
+use Rattle.core_views.specs.FlatHistory.{alone}
+use Rattle.core_views.specs.Text.{answers_of}
+
+-- the machine's sizes, the slots by rising ID, and the words that were written, each at its host page and word
+pub record Kept : Type 0 where
+  pub sizes : Sizes
+  pub slots : Slots
+  pub words : List ((ℕ × ℕ) × ℕ)
+
+abbrev pub is_place : ℕ × ℕ → ℕ × ℕ → Bool
+is_place x y = (x.0 == y.0) && (x.1 == y.1)
+
+-- A word that was not written is zero.
+abbrev pub memory_of : List ((ℕ × ℕ) × ℕ) → Memory
+memory_of words page word = unwrap_or (lookup (is_place (page, word)) words) 0
+
+-- the flat facts that this stands for; each host page is at its own frame
+abbrev pub facts_of : Kept → Facts
+facts_of kept = record { slots = kept.slots; host = own_frames; memory = memory_of kept.words }
+
+-- The command's numbers are in the ranges of a line.
+abbrev pub IsInRange : Command → Type 0
+IsInRange (Access gfn word op) = Unit {0}
+IsInRange (SetSlot id slot) = IsSlotInRange slot
+
+-- The line, alone on a machine of these sizes, leads from these facts to those, and is answered so.
+pub record GivesLine (z : Sizes) (line : Line) (before after : Facts) (answer : Answer) : Type 0 where
+  pub leads : after ≡ facts_after_all (alone z line before) before
+  pub tells : answers_of (alone z line before) ≡ record { number = line.number; actor = line.actor; answer = answer } ∷ []
