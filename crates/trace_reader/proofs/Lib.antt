@@ -1,0 +1,15 @@
+pub mod Values
+pub mod Prefix
+pub mod Results
+pub mod Spelled
+pub mod Said
+pub mod Bytes
+pub mod Refused
+pub mod Ranges
+pub mod Loop
+pub mod Begin
+pub mod NeedCounts
+pub mod NeedRuns
+pub mod NeedTables
+pub mod HeaderSaid
+pub mod HeaderRefused

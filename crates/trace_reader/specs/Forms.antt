@@ -1,0 +1,129 @@
+-- What the words of a line behind the header say: one function for each count of words, one case in it for each form.
+use Rattle.std.specs.Prelude.{◌*◌, ◌/◌, ◌%◌, ◌^◌, ℕ, List, [], ◌∷◌, Bool, true, false, ◌&&◌, nat_lt, nat_le, ◌==◌, if◌then◌else◌, codes, length, Result, Ok, Err}
+use Rattle.std.specs.List.{list_any, slice_split}
+use Rattle.std.specs.Str.{bytes_eq}
+use Rattle.std.specs.declared.option.Option.{Option}
+use Rattle.std.specs.declared.option.Option.TheVariants.{Some, None}
+use Rattle.core_views.specs.declared.actor.Actor.{Actor}
+use Rattle.core_views.specs.declared.actor.Actor.TheVariants.{Vcpu, Manager}
+use Rattle.core_views.specs.declared.trace.Command.{Command}
+use Rattle.core_views.specs.declared.trace.Command.TheVariants.{Access, SetSlot}
+use Rattle.core_views.specs.declared.trace.Op.TheVariants.{Read, Write, Add}
+use Rattle.core_views.specs.declared.trace.Slot.{Slot}
+use Rattle.core_views.specs.declared.trace.Header.{Header}
+use Rattle.trace_reader.specs.declared.reason.Reason.{Reason}
+use Rattle.trace_reader.specs.declared.reason.Reason.TheVariants as reason
+use Rattle.trace_reader.specs.Numbers.{number_of, decimal_number}
+
+infixl 10 ◌>>=◌
+-- the first refusal, or what the second step gives
+abbrev pub ◌>>=◌ : {A B : Type 0} → Result A Reason → (A → Result B Reason) → Result B Reason
+(Ok x) >>= f = f x
+(Err e) >>= f = Err e
+
+-- the value, or `number` where there is none
+abbrev pub or_number : {A : Type 0} → Option A → Result A Reason
+or_number None = Err reason.Number
+or_number (Some x) = Ok x
+
+-- the number that the word spells
+unfoldable pub number : List ℕ → Result ℕ Reason
+number w = or_number (number_of w)
+
+-- the address of a content word, where each page has this many
+abbrev pub is_address : ℕ → ℕ → Bool
+is_address words a = nat_lt a (2 ^ 48) && (a % 8 == 0) && nat_lt (a % 4096) (8 * words)
+
+-- the guest frame and the content word of an address
+abbrev pub access_at : ℕ → Option ℕ → Result (ℕ × ℕ) Reason
+access_at words None = Err reason.Number
+access_at words (Some a) = if is_address words a then Ok (a / 4096, a % 4096 / 8) else Err reason.Number
+
+-- the guest frame and the content word of the address that the word spells
+unfoldable pub address : Header → List ℕ → Result (ℕ × ℕ) Reason
+address h w = access_at h.words (number_of w)
+
+-- an index that an actor's name may have, below the count of those that are declared
+abbrev pub declared : ℕ → Option ℕ → Result ℕ Reason
+declared count None = Err reason.Word
+declared count (Some n) = if nat_le n 15 then (if nat_lt n count then Ok n else Err reason.Actor) else Err reason.Word
+
+-- the index in a name: the letter, and an index in decimal
+unfoldable pub indexed : ℕ → ℕ → List ℕ → Result ℕ Reason
+indexed letter count [] = Err reason.Word
+indexed letter count (c ∷ ds) = if c == letter then declared count (decimal_number ds) else Err reason.Word
+
+-- the virtual processor that the word names: `v` and its index
+unfoldable pub vcpu : Header → List ℕ → Result ℕ Reason
+vcpu h w = indexed 118 h.vcpus w
+
+-- an actor and its command, or why there is none
+abbrev pub Said : Type 0
+Said = Result (Actor × Command) Reason
+
+-- `vN read A`
+unfoldable pub read_form : Header → List ℕ → List ℕ → List ℕ → Said
+read_form h who verb x =
+    if bytes_eq verb (codes "read") then (vcpu h who >>= λ n. address h x >>= λ a. Ok (Vcpu n, Access a.0 a.1 Read)) else
+    Err reason.Word
+
+-- `vN write A X` and `vN add A X`
+unfoldable pub store_form : Header → List ℕ → List ℕ → List ℕ → List ℕ → Said
+store_form h who verb x y =
+    if bytes_eq verb (codes "write") then (vcpu h who >>= λ n. address h x >>= λ a. number y >>= λ v. Ok (Vcpu n, Access a.0 a.1 (Write v))) else
+    if bytes_eq verb (codes "add") then (vcpu h who >>= λ n. address h x >>= λ a. number y >>= λ v. Ok (Vcpu n, Access a.0 a.1 (Add v))) else
+    Err reason.Word
+
+-- the ranges of a slot's numbers
+abbrev pub is_slot : ℕ → ℕ → ℕ → Bool
+is_slot base pages host = nat_lt base (2 ^ 36) && nat_le 1 pages && nat_lt pages (2 ^ 36) && nat_lt host (2 ^ 36) && (host % 64 == 0)
+
+-- the slot of `BASE PAGES HOST`
+unfoldable pub slot : List ℕ → List ℕ → List ℕ → Bool → Result Slot Reason
+slot base pages host read_only = do
+  b ← number base
+  p ← number pages
+  k ← number host
+  if is_slot b p k then Ok (record { base = b; pages = p; host = k; read_only = read_only }) else Err reason.Number
+
+-- `ID BASE PAGES HOST` behind `vm slot`, which only one line may have
+unfoldable pub setting : Bool → List ℕ → List ℕ → List ℕ → List ℕ → Bool → Said
+setting seen id base pages host read_only =
+    if seen then Err reason.Word else
+    number id >>= λ i. slot base pages host read_only >>= λ s. Ok (Manager, SetSlot i s)
+
+-- `vm slot ID BASE PAGES HOST`
+unfoldable pub slot_form : Bool → List ℕ → List ℕ → List ℕ → List ℕ → List ℕ → List ℕ → Said
+slot_form seen who verb id base pages host =
+    if bytes_eq who (codes "vm") && bytes_eq verb (codes "slot") then setting seen id base pages host false else
+    Err reason.Word
+
+-- `vm slot ID BASE PAGES HOST ro`
+unfoldable pub read_only_slot_form : Bool → List ℕ → List ℕ → List ℕ → List ℕ → List ℕ → List ℕ → List ℕ → Said
+read_only_slot_form seen who verb id base pages host last =
+    if bytes_eq who (codes "vm") && bytes_eq verb (codes "slot") && bytes_eq last (codes "ro") then setting seen id base pages host true else
+    Err reason.Word
+
+-- what these words say, by their count; `seen`: a slot line stands before
+unfoldable pub by_form : Header → Bool → List (List ℕ) → Said
+by_form h seen (who ∷ verb ∷ x ∷ []) = read_form h who verb x
+by_form h seen (who ∷ verb ∷ x ∷ y ∷ []) = store_form h who verb x y
+by_form h seen (who ∷ verb ∷ a ∷ b ∷ c ∷ d ∷ []) = slot_form seen who verb a b c d
+by_form h seen (who ∷ verb ∷ a ∷ b ∷ c ∷ d ∷ e ∷ []) = read_only_slot_form seen who verb a b c d e
+by_form h seen _ = Err reason.Word
+
+-- It has no bytes.
+abbrev pub is_empty : List ℕ → Bool
+is_empty w = length w == 0
+
+-- what the words say, none of which may be empty
+unfoldable pub by_words : Header → Bool → List (List ℕ) → Said
+by_words h seen words = if list_any is_empty words then Err reason.Word else by_form h seen words
+
+-- the words of a line: what stands between its spaces
+abbrev pub words_of : List ℕ → List (List ℕ)
+words_of bytes = slice_split (λ b. b == 32) bytes
+
+-- what the bytes of a line say
+unfoldable pub said : Header → Bool → List ℕ → Said
+said h seen bytes = by_words h seen (words_of bytes)

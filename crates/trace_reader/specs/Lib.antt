@@ -1,0 +1,10 @@
+pub mod Reasons
+pub mod Numbers
+pub mod Forms
+pub mod Headers
+pub mod Steps
+pub mod Lines
+pub mod Reading
+pub mod Runs
+pub mod Grammar
+pub mod HeaderGrammar

@@ -1,0 +1,100 @@
+-- What the lines behind the header say, one after the other.
+use Rattle.std.specs.Prelude.{◌+◌, ℕ, List, [], ◌∷◌, Bool, true, false, ◌&&◌, ◌||◌, length, nat_le, ◌==◌, if◌then◌else◌, Result, Ok, Err}
+use Rattle.std.specs.List.{slice_split, list_all}
+use Rattle.std.specs.declared.option.Option.{Option}
+use Rattle.std.specs.declared.option.Option.TheVariants.{Some, None}
+use Rattle.core_views.specs.declared.actor.Actor.{Actor}
+use Rattle.core_views.specs.declared.trace.Command.{Command}
+use Rattle.core_views.specs.declared.trace.Command.TheVariants.{Access, SetSlot}
+use Rattle.core_views.specs.declared.trace.Header.{Header}
+use Rattle.core_views.specs.declared.trace.Line.{Line}
+use Rattle.trace_reader.specs.declared.reason.Reason.{Reason}
+use Rattle.trace_reader.specs.declared.reason.Reason.TheVariants as reason
+use Rattle.trace_reader.specs.Forms.{◌>>=◌, is_empty, said}
+
+-- the parts of an input: LF ends each but the last
+abbrev pub parts_of : List ℕ → List (List ℕ)
+parts_of bytes = slice_split (λ b. b == 10) bytes
+
+-- A line: its number, how many bytes of the input stand up to its end, whether LF ends it, its bytes before that.
+pub record Raw : Type 0 where
+  pub number : ℕ
+  pub end : ℕ
+  pub ended_by_lf : Bool
+  pub bytes : List ℕ
+
+-- The byte is one of 0x20 to 0x7e.
+abbrev pub is_plain : ℕ → Bool
+is_plain b = nat_le 32 b && nat_le b 126
+
+-- the reason of the first check that fails
+abbrev pub first_of : List (Bool × Reason) → Option Reason
+first_of [] = None
+first_of ((holds, r) ∷ checks) = if holds then first_of checks else Some r
+
+-- the checks before a line's words are looked at, in their order
+abbrev pub checks : Raw → List (Bool × Reason)
+checks raw =
+    (nat_le raw.end 16777216, reason.Size)
+    ∷ (nat_le raw.number 1000000, reason.Lines)
+    ∷ (raw.ended_by_lf || is_empty raw.bytes, reason.Cut)
+    ∷ (nat_le (length raw.bytes) 65536, reason.Long)
+    ∷ (list_all is_plain raw.bytes, reason.Byte)
+    ∷ []
+
+-- the first of these checks that a line fails
+unfoldable pub fault_of : Raw → Option Reason
+fault_of raw = first_of (checks raw)
+
+-- what was read, unless a check failed before
+abbrev pub after_checks : {A : Type 0} → Option Reason → Result A Reason → Result A Reason
+after_checks (Some r) read = Err r
+after_checks None read = read
+
+-- the line with this number, actor and command
+abbrev pub numbered : ℕ → (Actor × Command) → Line
+numbered n x = record { number = n; actor = x.0; command = x.1 }
+
+-- The line has no bytes, or is a comment: its first byte is `#`.
+abbrev pub is_skipped : List ℕ → Bool
+is_skipped [] = true
+is_skipped (b ∷ bs) = b == 35
+
+-- what the bytes of a line say: nothing where it is skipped
+unfoldable pub content : Header → Bool → ℕ → List ℕ → Result (Option Line) Reason
+content h seen n bytes = if is_skipped bytes then Ok None else (said h seen bytes >>= λ x. Ok (Some (numbered n x)))
+
+-- what a line behind the header says; `seen`: a slot line stands before
+unfoldable pub line_of : Header → Bool → Raw → Result (Option Line) Reason
+line_of h seen raw = after_checks (fault_of raw) (content h seen raw.number raw.bytes)
+
+-- It sets a slot.
+abbrev pub is_setting : Command → Bool
+is_setting (Access gfn word op) = false
+is_setting (SetSlot id slot) = true
+
+-- A slot line stands before what follows.
+abbrev pub seen_after : Bool → Option Line → Bool
+seen_after seen None = seen
+seen_after seen (Some line) = seen || is_setting line.command
+
+-- the line in front of those that follow, or a refusal of those
+abbrev pub with_line : Option Line → Result (List Line) (ℕ × Reason) → Result (List Line) (ℕ × Reason)
+with_line None rest = rest
+with_line (Some line) (Ok lines) = Ok (line ∷ lines)
+with_line (Some line) (Err e) = Err e
+
+-- what line n gives and what the lines behind it say, or the first refusal: its line and the reason
+abbrev pub onto : ℕ → Bool → Result (Option Line) Reason → (Bool → Result (List Line) (ℕ × Reason)) → Result (List Line) (ℕ × Reason)
+onto n seen (Err r) rest = Err (n, r)
+onto n seen (Ok found) rest = with_line found (rest (seen_after seen found))
+
+-- line n with these bytes, behind `at` bytes of the input
+abbrev pub raw : ℕ → ℕ → Bool → List ℕ → Raw
+raw n at ended bytes = record { number = n; end = at + (length bytes + (if ended then 1 else 0)); ended_by_lf = ended; bytes = bytes }
+
+-- the lines of these parts, of which the first has number n and stands behind `at` bytes; `seen`: a slot line stands before
+unfoldable pub lines_of : Header → ℕ → ℕ → Bool → List (List ℕ) → Result (List Line) (ℕ × Reason)
+lines_of h n at seen [] = Ok []
+lines_of h n at seen (last ∷ []) = if is_empty last then Ok [] else onto n seen (line_of h seen (raw n at false last)) (λ now. Ok [])
+lines_of h n at seen (x ∷ y ∷ more) = onto n seen (line_of h seen (raw n at true x)) (λ now. lines_of h (n + 1) (at + (length x + 1)) now (y ∷ more))

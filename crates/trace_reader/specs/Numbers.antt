@@ -1,0 +1,48 @@
+-- The number that a word spells.
+use Rattle.std.specs.Prelude.{◌+◌, ◌-◌, ◌*◌, ◌^◌, ℕ, List, [], ◌∷◌, Bool, ◌&&◌, ◌||◌, length, slice_index, nat_lt, nat_le, not, ◌==◌, if◌then◌else◌}
+use Rattle.std.specs.List.{list_all}
+use Rattle.std.specs.declared.option.Option.{Option}
+use Rattle.std.specs.declared.option.Option.TheVariants.{Some, None}
+
+-- `0` to `9`
+abbrev pub is_digit : ℕ → Bool
+is_digit c = nat_le 48 c && nat_le c 57
+
+-- `0` to `9`, and `a` to `f`
+abbrev pub is_hex_digit : ℕ → Bool
+is_hex_digit c = is_digit c || (nat_le 97 c && nat_le c 102)
+
+-- the value of a digit
+abbrev pub digit : ℕ → ℕ
+digit c = if nat_le c 57 then c - 48 else c - 87
+
+-- the value of the digits behind those that give n
+abbrev pub value_after : ℕ → ℕ → List ℕ → ℕ
+value_after radix n [] = n
+value_after radix n (c ∷ cs) = value_after radix (n * radix + digit c) cs
+
+-- the value of the digits
+unfoldable pub value : ℕ → List ℕ → ℕ
+value radix ds = value_after radix 0 ds
+
+-- a number below 2 ^ 64
+abbrev pub fitting : ℕ → Option ℕ
+fitting n = if nat_lt n (2 ^ 64) then Some n else None
+
+-- It does not begin with `0`, unless it is `0`.
+abbrev pub has_no_needless_zero : List ℕ → Bool
+has_no_needless_zero ds = nat_lt 0 (length ds) && (nat_lt (length ds) 2 || not (slice_index ds 0 == 48))
+
+-- the number that a word spells in decimal
+abbrev pub decimal_number : List ℕ → Option ℕ
+decimal_number ds = if has_no_needless_zero ds && list_all is_digit ds then fitting (value 10 ds) else None
+
+-- the number that 1 to 16 hexadecimal digits spell
+abbrev pub hex_number : List ℕ → Option ℕ
+hex_number ds = if nat_lt 0 (length ds) && nat_lt (length ds) 17 && list_all is_hex_digit ds then fitting (value 16 ds) else None
+
+-- the number that a word spells: in decimal, or in hexadecimal behind `0x`
+abbrev pub number_of : List ℕ → Option ℕ
+number_of [] = None
+number_of (a ∷ []) = decimal_number (a ∷ [])
+number_of (a ∷ b ∷ ds) = if a == 48 && b == 120 then hex_number ds else decimal_number (a ∷ b ∷ ds)

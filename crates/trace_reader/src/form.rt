@@ -1,0 +1,246 @@
+ghost use Rattle.std.specs.Prelude.{◌≡◌, ◌≤◌, ◌<◌, ◌^◌, map, IfOk};
+ghost use Rattle.std.specs.List.{list_any};
+ghost use Rattle.std.specs.Str.{bytes_eq};
+ghost use Rattle.core_views.specs.Traces.{IsCommandOf, IsSlotInRange};
+ghost use Rattle.trace_reader.specs.Forms.{indexed, vcpu, address, number as number_word, slot, setting, read_form, store_form, slot_form, read_only_slot_form, by_form, by_words, is_empty};
+
+use crate::Reason;
+use crate::number::{decimal, number};
+use core_views::{Actor, Command, Header, Op, Slot};
+
+/// Whether the word is this name.
+pub fn is(word: &[u8], name: &str) -> bool
+    ensures { result ≡ bytes_eq word.now name.now }
+{
+    word == name.as_bytes()
+}
+
+#[tactic(auto, unfolding(crate::specs::Forms::number))]
+fn number_of(word: &[u8]) -> Result<u64, Reason>
+    ensures { result ≡ number_word word.now }
+{
+    number(word).ok_or(Reason::Number)
+}
+
+#[tactic(auto, unfolding(crate::specs::Forms::address))]
+fn address_of(header: &Header, word: &[u8]) -> Result<(u64, u8), Reason>
+    requires { header.now.words ≤ 8 }
+    ensures value { result ≡ address header.now word.now }
+    ensures page { IfOk result (λ x. x.0 < 2 ^ 36) }
+    ensures word { IfOk result (λ x. x.1 < header.now.words) }
+{
+    match number(word) {
+        Some(at) if at < 1 << 48 && at % 8 == 0 && at % 4096 < 8 * header.words as u64 => {
+            Ok((at / 4096, (at % 4096 / 8) as u8))
+        }
+        _ => Err(Reason::Number),
+    }
+}
+
+#[tactic(auto, unfolding(crate::specs::Forms::indexed))]
+fn index_of(letter: u8, count: u8, word: &[u8]) -> Result<u8, Reason>
+    ensures value { result ≡ indexed letter count word.now }
+    ensures small { IfOk result (λ n. n < count) }
+{
+    let [first, digits @ ..] = word else {
+        return Err(Reason::Word);
+    };
+    if *first != letter {
+        return Err(Reason::Word);
+    }
+    match decimal(digits) {
+        Some(index) if index <= 15 => {
+            if index < count as u64 {
+                Ok(index as u8)
+            } else {
+                Err(Reason::Actor)
+            }
+        }
+        _ => Err(Reason::Word),
+    }
+}
+
+#[tactic(auto, unfolding(crate::specs::Forms::vcpu))]
+fn vcpu_of(header: &Header, word: &[u8]) -> Result<u8, Reason>
+    ensures value { result ≡ vcpu header.now word.now }
+    ensures small { IfOk result (λ n. n < header.now.vcpus) }
+{
+    index_of(b'v', header.vcpus, word)
+}
+
+#[tactic(auto, unfolding(crate::specs::Forms::read_form))]
+fn read_said(
+    header: &Header,
+    who: &[u8],
+    verb: &[u8],
+    word: &[u8],
+) -> Result<(Actor, Command), Reason>
+    requires { header.now.words ≤ 8 }
+    ensures value { result ≡ read_form header.now who.now verb.now word.now }
+    ensures allowed { IfOk result (λ x. IsCommandOf header.now x.0 x.1) }
+{
+    if is(verb, "read") {
+        let index = vcpu_of(header, who)?;
+        let (gfn, word) = address_of(header, word)?;
+        let op = Op::Read;
+        return Ok((Actor::Vcpu(index), Command::Access { gfn, word, op }));
+    }
+    Err(Reason::Word)
+}
+
+#[tactic(auto, unfolding(crate::specs::Forms::store_form))]
+fn store_said(
+    header: &Header,
+    who: &[u8],
+    verb: &[u8],
+    first: &[u8],
+    second: &[u8],
+) -> Result<(Actor, Command), Reason>
+    requires { header.now.words ≤ 8 }
+    ensures value { result ≡ store_form header.now who.now verb.now first.now second.now }
+    ensures allowed { IfOk result (λ x. IsCommandOf header.now x.0 x.1) }
+{
+    if is(verb, "write") {
+        let index = vcpu_of(header, who)?;
+        let (gfn, word) = address_of(header, first)?;
+        let op = Op::Write(number_of(second)?);
+        return Ok((Actor::Vcpu(index), Command::Access { gfn, word, op }));
+    }
+    if is(verb, "add") {
+        let index = vcpu_of(header, who)?;
+        let (gfn, word) = address_of(header, first)?;
+        let op = Op::Add(number_of(second)?);
+        return Ok((Actor::Vcpu(index), Command::Access { gfn, word, op }));
+    }
+    Err(Reason::Word)
+}
+
+#[tactic(auto, unfolding(crate::specs::Forms::slot))]
+fn slot_of(base: &[u8], pages: &[u8], host: &[u8], read_only: bool) -> Result<Slot, Reason>
+    ensures value { result ≡ slot base.now pages.now host.now read_only }
+    ensures allowed { IfOk result (λ s. IsSlotInRange s) }
+{
+    let base = number_of(base)?;
+    let pages = number_of(pages)?;
+    let host = number_of(host)?;
+    if base >= 1 << 36 || pages < 1 || pages >= 1 << 36 {
+        return Err(Reason::Number);
+    }
+    if host >= 1 << 36 || host % 64 != 0 {
+        return Err(Reason::Number);
+    }
+    Ok(Slot {
+        base,
+        pages,
+        host,
+        read_only,
+    })
+}
+
+#[tactic(auto, unfolding(crate::specs::Forms::setting))]
+fn setting_said(
+    header: &Header,
+    seen: bool,
+    id: &[u8],
+    base: &[u8],
+    pages: &[u8],
+    host: &[u8],
+    read_only: bool,
+) -> Result<(Actor, Command), Reason>
+    ensures value { result ≡ setting seen id.now base.now pages.now host.now read_only }
+    ensures allowed { IfOk result (λ x. IsCommandOf header.now x.0 x.1) }
+{
+    if seen {
+        return Err(Reason::Word);
+    }
+    let id = number_of(id)?;
+    let slot = slot_of(base, pages, host, read_only)?;
+    Ok((Actor::Manager, Command::SetSlot { id, slot }))
+}
+
+#[tactic(auto, unfolding(crate::specs::Forms::slot_form))]
+fn slot_said(
+    header: &Header,
+    seen: bool,
+    who: &[u8],
+    verb: &[u8],
+    id: &[u8],
+    base: &[u8],
+    pages: &[u8],
+    host: &[u8],
+) -> Result<(Actor, Command), Reason>
+    ensures value { result ≡ slot_form seen who.now verb.now id.now base.now pages.now host.now }
+    ensures allowed { IfOk result (λ x. IsCommandOf header.now x.0 x.1) }
+{
+    if is(who, "vm") && is(verb, "slot") {
+        return setting_said(header, seen, id, base, pages, host, false);
+    }
+    Err(Reason::Word)
+}
+
+#[tactic(auto, unfolding(crate::specs::Forms::read_only_slot_form))]
+fn read_only_slot_said(
+    header: &Header,
+    seen: bool,
+    who: &[u8],
+    verb: &[u8],
+    id: &[u8],
+    base: &[u8],
+    pages: &[u8],
+    host: &[u8],
+    last: &[u8],
+) -> Result<(Actor, Command), Reason>
+    ensures value { result ≡ read_only_slot_form seen who.now verb.now id.now base.now pages.now host.now last.now }
+    ensures allowed { IfOk result (λ x. IsCommandOf header.now x.0 x.1) }
+{
+    if is(who, "vm") && is(verb, "slot") && is(last, "ro") {
+        return setting_said(header, seen, id, base, pages, host, true);
+    }
+    Err(Reason::Word)
+}
+
+#[tactic(auto, unfolding(crate::specs::Forms::by_form))]
+fn form_said(header: &Header, seen: bool, words: &[&[u8]]) -> Result<(Actor, Command), Reason>
+    requires { header.now.words ≤ 8 }
+    ensures value { result ≡ by_form header.now seen (map (λ w. w.now) words.now) }
+    ensures allowed { IfOk result (λ x. IsCommandOf header.now x.0 x.1) }
+{
+    match words {
+        [who, verb, word] => read_said(header, who, verb, word),
+        [who, verb, first, second] => store_said(header, who, verb, first, second),
+        [who, verb, id, base, pages, host] => {
+            slot_said(header, seen, who, verb, id, base, pages, host)
+        }
+        [who, verb, id, base, pages, host, last] => {
+            read_only_slot_said(header, seen, who, verb, id, base, pages, host, last)
+        }
+        _ => Err(Reason::Word),
+    }
+}
+
+fn has_empty(words: &[&[u8]]) -> bool
+    ensures { result ≡ list_any is_empty (map (λ w. w.now) words.now) }
+{
+    let mut rest = words;
+    while let [word, after @ ..] = rest {
+        if word.is_empty() {
+            return true;
+        }
+        rest = after;
+    }
+    false
+}
+
+/// What a line says, by its words: its actor and its command.
+#[tactic(auto, unfolding(crate::specs::Forms::by_words))]
+pub fn words_said(header: &Header, seen: bool, words: &[&[u8]]) -> Result<(Actor, Command), Reason>
+    requires { header.now.words ≤ 8 }
+    ensures value { result ≡ by_words header.now seen (map (λ w. w.now) words.now) }
+    ensures allowed { IfOk result (λ x. IsCommandOf header.now x.0 x.1) }
+{
+    if has_empty(words) {
+        Err(Reason::Word)
+    } else {
+        form_said(header, seen, words)
+    }
+}

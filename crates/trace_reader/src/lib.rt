@@ -1,0 +1,23 @@
+//! Reads a trace: the bytes of an input give the trace, or the first line that
+//! is refused and the reason.
+#![tactic(auto)]
+
+mod form;
+mod grammar;
+mod header;
+mod line;
+mod lines;
+mod number;
+mod outcome;
+mod pool;
+mod reading;
+mod reason;
+mod refusal;
+#[cfg(test)]
+mod tests;
+
+pub use grammar::{grammar_is_exact, header_grammar_is_exact};
+pub use outcome::Read;
+pub use pool::need;
+pub use reading::read_trace;
+pub use reason::Reason;

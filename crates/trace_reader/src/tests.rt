@@ -1,0 +1,309 @@
+use crate::{Read, Reason, read_trace};
+use core_views::{Actor, Command, Line, Op, Slot};
+use std::alloc::{AllocError, Global};
+use std::test::Fail;
+use tdp_io::MemSource;
+
+const HEAD: &str =
+    "tdp 1 vcpus 2 workers 0 pages 96 frames 0x60 words 4 pool 64 cache 8 manual 2 hosts 0 32\n";
+
+// One case a line: what is answered, and the input, in which one character
+// stands for a text (`push_text`).
+const TABLE: &str = "\
+1 header|\n\
+1 header|;\n\
+1 header|# c;\n\
+1 header|v0 read 0;\n\
+1 header|tdp;\n\
+1 header|tdp 0x1 vcpus 1 workers 0 pages 1 frames 1 words 1=\n\
+1 header|tdp 2 vcpus 1 workers 0 pages 1 frames 1 words 1=\n\
+1 header|tdp 1 vcpus 0 workers 0 pages 1 frames 1 words 1=\n\
+1 header|tdp 1 vcpus 17 workers 0 pages 1 frames 1 words 1=\n\
+1 header|tdp 1 vcpu 1 workers 0 pages 1 frames 1 words 1=\n\
+1 header|tdp 1 vcpus 1 workers 5 pages 1 frames 1 words 1=\n\
+1 header|<0 frames 1 words 1=\n\
+1 header|<1048577 frames 1048577 words 1=\n\
+1 header|<2 frames 1 words 1=\n\
+1 header|<1 frames 2097153 words 1=\n\
+1 header|<1 frames 1 words 0=\n\
+1 header|<1 frames 1 words 3=\n\
+1 header|<1 frames 1 words 16=\n\
+1 header|<1 frames 1048577 words 8=\n\
+1 header|<1 frames 1 words 1 pool 3 cache 1 manual 0 hosts 0;\n\
+1 header|<1 frames 1 words 1 pool 16385 cache 1 manual 0 hosts 0;\n\
+1 header|<1 frames 1 words 1 pool 4 cache 0 manual 0 hosts 0;\n\
+1 header|<1 frames 1 words 1 pool 4 cache 65 manual 0 hosts 0;\n\
+1 header|<1 frames 1 words 1 pool 4 cache 1 manual 3 hosts 0;\n\
+1 header|<1 frames 1 words 1 pool 4 cache 1 manual 0 hosts;\n\
+1 header|<1 frames 1 words 1 pool 4 cache 1 manual 0 hosts 1;\n\
+1 header|<1 frames 1 words 1 pool 4 cache 1 manual 0 hosts 00;\n\
+1 header|<1 frames 1 words 1 pool 4 cache 1 manual 0 hosts 0 ;\n\
+1 header|<1 frames 1 words 1 pool 4 cache 1 manual 0 hosts 0 1;\n\
+1 header|<9 frames 9 words 1 pool 4 cache 1 manual 0 hosts 0 9;\n\
+1 header|<9 frames 9 words 1 pool 4 cache 1 manual 0 hosts 0 3 3;\n\
+1 header|<9 frames 9 words 1 pool 4 cache 1 manual 0 hosts 0 5 4;\n\
+1 header|<9 frames 9 words 1 pool 4 cache 1 manual 0 hosts 0 1 2 3 4;\n\
+1 header| <1 frames 1 words 1=\n\
+1 header|tdp  1 vcpus 1 workers 0 pages 1 frames 1 words 1=\n\
+1 cut|tdp 1\n\
+1 cut|x\n\
+2 cut|&v0 read 0\n\
+2 cut|&^\n\
+3 cut|&v0 read 0;#\n\
+4 cut|&;;x\n\
+1 byte|tdp^1;\n\
+1 byte|?;\n\
+2 byte|&v0^read 0;\n\
+2 byte|&v0 read 0$;\n\
+2 byte|&#@;\n\
+2 byte|&#?;\n\
+2 byte|&!;\n\
+3 byte|&v0 read 0;#^;\n\
+2 word|& ;\n\
+2 word|&v0;\n\
+2 word|&v0 read;\n\
+2 word|&v0 read 0 0;\n\
+2 word|&v0  read 0;\n\
+2 word|& v0 read 0;\n\
+2 word|&v0 read 0 ;\n\
+2 word|&v0 write 0;\n\
+2 word|&v0 write 0 1 2;\n\
+2 word|&v0 add 0;\n\
+2 word|&v0 sub 0 1;\n\
+2 word|&v0 Read 0;\n\
+2 word|&v16 read 0;\n\
+2 word|&v01 read 0;\n\
+2 word|&v0x1 read 0;\n\
+2 word|&v read 0;\n\
+2 word|&h0 read 0;\n\
+2 word|&w0 read 0;\n\
+2 word|&vm read 0;\n\
+2 word|&v16 read z;\n\
+2 word|&v2 look z;\n\
+2 word|&h0 move 1;\n\
+2 word|&go;\n\
+2 word|&vm slot;\n\
+2 word|&vm slot 0 0 1;\n\
+2 word|&vm slot 0 0 1 0 rw;\n\
+2 word|&vm slot 0 0 1 0 ro ro;\n\
+2 word|&vm slot 0 0 1 0 ;\n\
+2 word|&vm slots 0 0 1 0;\n\
+2 word|&v0 slot 0 0 1 0;\n\
+3 word|&%vm slot 1 0 1 0;\n\
+3 word|&%vm slot x x x x;\n\
+3 word|&%vm slot 1 0 1 0 ro;\n\
+5 word|&%# c;;vm slot 1 0 1 0;\n\
+4 word|&vm slot 1 0 1 0 ro;v0 read 0;vm slot 1 0 1 0;\n\
+2 actor|&v2 read 0;\n\
+2 actor|&v15 read z;\n\
+2 actor|&v2 write z 1;\n\
+2 actor|&v3 add 0 z;\n\
+2 number|&v0 read 01;\n\
+2 number|&v0 read 0x;\n\
+2 number|&v0 read 0xA;\n\
+2 number|&v0 read 0xg;\n\
+2 number|&v0 read 0x00000000000000000;\n\
+2 number|&v0 read 32;\n\
+2 number|&v0 read 4;\n\
+2 number|&v0 read 4095;\n\
+2 number|&v0 read 281474976710656;\n\
+2 number|&v0 read 0x1000000000000;\n\
+2 number|&v0 read z;\n\
+2 number|&v0 read -1;\n\
+2 number|&v0 read +0;\n\
+2 number|&v0 read 00;\n\
+2 number|&v0 write 0 18446744073709551616;\n\
+2 number|&v0 write 0 0x10000000000000000;\n\
+2 number|&v0 write 32 z;\n\
+2 number|&v0 write 0 z;\n\
+2 number|&v0 add 0 00;\n\
+2 number|&v0 add 1 1;\n\
+2 number|&v0 add 0 18446744073709551616;\n\
+2 number|&vm slot z 0 1 0;\n\
+2 number|&vm slot 18446744073709551616 0 1 0;\n\
+2 number|&vm slot 0 68719476736 1 0;\n\
+2 number|&vm slot 0 00 1 0;\n\
+2 number|&vm slot 0 0 0 0;\n\
+2 number|&vm slot 0 0 0 0 ro;\n\
+2 number|&vm slot 0 0 68719476736 0;\n\
+2 number|&vm slot 0 0 1 68719476736;\n\
+2 number|&vm slot 0 0 1 1;\n\
+2 number|&vm slot 0 0 1 63;\n\
+3 number|&v0 read 0;v0 read 1;v0 read 2;\n\
+0 lines|&\n\
+0 lines|&;\n\
+0 lines|&#;\n\
+0 lines|&#  v9;;\n\
+0 lines|tdp 1 vcpus 16 workers 4 pages 1048576 frames 1048576 words 8 pool 16384 cache 64 manual 2 hosts 0 1 2 1048575;\n\
+0 lines|<1 frames 1 words 1=\n\
+0 lines|<1 frames 2097152 words 4=\n\
+1 lines|&%\n\
+1 lines|&v1 read 0;\n\
+1 lines|&v0 read 24;\n\
+1 lines|&v0 read 281474976706584;\n\
+1 lines|&v0 read 0x0000fffffffff018;\n\
+1 lines|&v0 write 8 18446744073709551615;\n\
+1 lines|&v0 add 0x8 0xffffffffffffffff;\n\
+1 lines|&vm slot 18446744073709551615 68719476735 68719476735 68719476672;\n\
+1 lines|&vm slot 0x20 0 1 0 ro;\n\
+1 lines|&#;v0 read 0;;\n\
+3 lines|&v0 read 0;%v1 add 0 1;\n\
+";
+
+fn push_text(bytes: &mut Vec<u8>, byte: u8) -> Result<(), AllocError> {
+    match byte {
+        b';' => bytes.extend_from_slice(b"\n"),
+        b'&' => bytes.extend_from_slice(HEAD.as_bytes()),
+        b'%' => bytes.extend_from_slice(b"vm slot 0 0x10 32 64\n"),
+        b'<' => bytes.extend_from_slice(b"tdp 1 vcpus 1 workers 0 pages "),
+        b'=' => bytes.extend_from_slice(b" pool 4 cache 1 manual 0 hosts 0\n"),
+        b'^' => bytes.extend_from_slice(b"\t"),
+        b'$' => bytes.extend_from_slice(b"\r"),
+        b'@' => bytes.extend_from_slice(b"\x00"),
+        b'?' => bytes.extend_from_slice(b"\x7f"),
+        b'!' => bytes.extend_from_slice(b"\xff"),
+        _ => bytes.extend_from_slice(&[byte]),
+    }
+}
+
+fn input(alloc: Global, text: &[u8]) -> Result<Vec<u8>, AllocError> {
+    let mut bytes = Vec::new(alloc);
+    for byte in text {
+        push_text(&mut bytes, *byte)?;
+    }
+    Ok(bytes)
+}
+
+// What is answered, as the table has it.
+fn answer(alloc: Global, bytes: Vec<u8>) -> Result<String, Fail> {
+    let mut source = MemSource::new(bytes, Vec::new(alloc));
+    match read_trace(alloc, &mut source)? {
+        Read::Trace(trace) => {
+            let count = trace.lines.as_slice().len();
+            Ok(format!(in alloc; "{count} lines")?)
+        }
+        Read::Refused { line, reason } => {
+            let name = reason.name();
+            Ok(format!(in alloc; "{line} {name}")?)
+        }
+        Read::ReadFault => Ok(format!(in alloc; "fault")?),
+    }
+}
+
+// The header and a slot line, and this text behind them.
+fn behind(alloc: Global, text: &str) -> Result<Vec<u8>, AllocError> {
+    let mut bytes = input(alloc, b"&%")?;
+    bytes.extend_from_slice(text.as_bytes())?;
+    Ok(bytes)
+}
+
+fn is_refused(alloc: Global, bytes: Vec<u8>, line: u32, reason: Reason) -> Result<bool, Fail> {
+    let mut source = MemSource::new(bytes, Vec::new(alloc));
+    match read_trace(alloc, &mut source)? {
+        Read::Refused {
+            line: named,
+            reason: given,
+        } => Ok(named == line && given == reason),
+        _ => Ok(false),
+    }
+}
+
+#[test]
+fn answers_the_table(rt: HostRuntime) -> Result<(), Fail> {
+    let alloc = rt.alloc();
+    let mut cases = 0u8;
+    for case in TABLE.split('\n') {
+        if let Some((wanted, text)) = case.split_once('|') {
+            let given = answer(alloc, input(alloc, text.as_bytes())?)?;
+            assert!(rt; given.as_str() == wanted, "{case}");
+            cases = cases.saturating_add(1);
+        }
+    }
+    assert_eq!(rt; cases, 138);
+    Ok(())
+}
+
+#[test]
+fn refuses_long_inputs(rt: HostRuntime) -> Result<(), Fail> {
+    let alloc = rt.alloc();
+    for (count, reason) in [(16_777_216, Reason::Cut), (16_777_217, Reason::Size)] {
+        let bytes = vec![in alloc; b'x'; count]?;
+        assert!(rt; is_refused(alloc, bytes, 1, reason)?);
+    }
+    for (count, reason) in [(65_536, Reason::Word), (65_537, Reason::Long)] {
+        let mut bytes = behind(alloc, "")?;
+        let long = vec![in alloc; b'x'; count]?;
+        bytes.extend_from_slice(&long)?;
+        bytes.extend_from_slice(b"\n")?;
+        assert!(rt; is_refused(alloc, bytes, 3, reason)?);
+    }
+    let mut bytes = behind(alloc, "")?;
+    for _ in 0..999_998 {
+        bytes.extend_from_slice(b"v1 read 8\n")?;
+    }
+    bytes.extend_from_slice(b"cut")?;
+    assert!(rt; is_refused(alloc, bytes, 1_000_001, Reason::Lines)?);
+    Ok(())
+}
+
+#[test]
+fn reads_a_trace(rt: HostRuntime) -> Result<(), Fail> {
+    let alloc = rt.alloc();
+    let bytes = behind(
+        alloc,
+        "v1 read 0x12018\nv0 write 8 0xff\n\n# c\nv0 add 0 18446744073709551615\n",
+    )?;
+    let mut source = MemSource::new(bytes, Vec::new(alloc));
+    let Read::Trace(trace) = read_trace(alloc, &mut source)? else {
+        return Ok(assert!(rt; false, "it is a trace"));
+    };
+    let header = &trace.header;
+    assert_eq!(rt; (header.version, header.vcpus, header.workers), (1, 2, 0));
+    assert_eq!(rt; (header.pages, header.frames, header.words), (96, 96, 4));
+    assert_eq!(rt; (header.pool, header.cache, header.manual), (64, 8, 2));
+    assert_eq!(rt; header.hosts.as_slice(), [0, 32].as_slice());
+    let slot = Slot {
+        base: 16,
+        pages: 32,
+        host: 64,
+        read_only: false,
+    };
+    let lines = [
+        Line {
+            number: 2,
+            actor: Actor::Manager,
+            command: Command::SetSlot { id: 0, slot },
+        },
+        Line {
+            number: 3,
+            actor: Actor::Vcpu(1),
+            command: Command::Access {
+                gfn: 18,
+                word: 3,
+                op: Op::Read,
+            },
+        },
+        Line {
+            number: 4,
+            actor: Actor::Vcpu(0),
+            command: Command::Access {
+                gfn: 0,
+                word: 1,
+                op: Op::Write(255),
+            },
+        },
+        Line {
+            number: 7,
+            actor: Actor::Vcpu(0),
+            command: Command::Access {
+                gfn: 0,
+                word: 0,
+                op: Op::Add(18_446_744_073_709_551_615),
+            },
+        },
+    ];
+    assert_eq!(rt; trace.lines.as_slice(), lines.as_slice());
+    let mut failing = MemSource::new(behind(alloc, "")?, vec![in alloc; 0]?);
+    assert!(rt; matches!(read_trace(alloc, &mut failing)?, Read::ReadFault));
+    Ok(())
+}
