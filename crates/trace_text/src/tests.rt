@@ -1,0 +1,33 @@
+use crate::{answer_line, text};
+use core_views::{Actor, Answer, Answered, AnsweredLine, Refusal};
+use std::test::Fail;
+
+#[test]
+fn prints_one_line(rt: HostRuntime) -> Result<(), Fail> {
+    let answer = Answer::Reached {
+        frame: 5,
+        value: 70,
+    };
+    let line = answer_line(rt.alloc(), 12, Actor::Vcpu(3), &answer)?;
+    assert_eq!(rt; line.as_str(), "12 v3 frame 5 value 70\n");
+    Ok(())
+}
+
+#[test]
+fn prints_two_lines(rt: HostRuntime) -> Result<(), Fail> {
+    let alloc = rt.alloc();
+    let mut lines = Vec::new(alloc);
+    lines.push(AnsweredLine {
+        number: 2,
+        actor: Actor::Manager,
+        answer: Answer::Refused(Refusal::BadId),
+    })?;
+    lines.push(AnsweredLine {
+        number: 3,
+        actor: Actor::Worker(0),
+        answer: Answer::Done,
+    })?;
+    let printed = text(alloc, &Answered::from_vec(lines))?;
+    assert_eq!(rt; printed.as_str(), "2 vm refused bad-id\n3 w0 done\n");
+    Ok(())
+}
