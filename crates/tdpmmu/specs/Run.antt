@@ -1,0 +1,114 @@
+-- What a run of the program does, by its status.
+use Rattle.std.specs.Prelude.{◌≡◌, ◌≤◌, ◌⊎◌, ℕ, List, [], ◌∷◌, length, codes, Bool, true, if◌then◌else◌, Option, Some, None, Result, Ok, Err}
+use Rattle.std.specs.Str.{bytes_eq}
+use Rattle.std.specs.Io.KnownBytes.{Appends, Consumes, IsAtEnd}
+use Rattle.core_views.specs.declared.trace.Trace.{Trace}
+use Rattle.core_views.specs.FlatHistory.{flat_history}
+use Rattle.core_views.specs.Need.{need}
+use Rattle.core_views.specs.Text.{text}
+use Rattle.tdp_io.specs.Ends.{AppendsPrefix, Rose}
+use Rattle.trace_reader.specs.declared.reason.Reason.{Reason}
+use Rattle.trace_reader.specs.Reading.{reading, IsTraceOf, IsRefusalOf}
+use Rattle.tdpmmu.specs.Output.{check_text, refusal_text, usage_text}
+use Rattle.tdpmmu.specs.declared.command.Command.{Command}
+use Rattle.tdpmmu.specs.declared.command.Command.TheVariants.{Check, Replay}
+use Rattle.tdpmmu.specs.declared.status.Status.{Status}
+use Rattle.tdpmmu.specs.declared.status.Status.TheVariants.{Done, Usage, Refused, ReadFault, WriteFault, Unfinished, NoMemory}
+
+-- The words are the program's name and the name of a command.
+abbrev pub command_named : List ℕ → Option Command
+command_named word =
+    if bytes_eq word (codes "check") then Some Check else
+    if bytes_eq word (codes "replay") then Some Replay else
+    None
+
+abbrev pub command_of : List (List ℕ) → Option Command
+command_of (name ∷ word ∷ []) = command_named word
+command_of _ = None
+
+-- what a command writes of a trace: how long it is and what it needs, or the text of its flat history
+abbrev pub trace_output : Command → Trace → List ℕ
+trace_output Check trace = check_text (length trace.lines) (need trace.header trace.lines)
+trace_output Replay trace = text (flat_history trace)
+
+-- the whole output of a command for what an input says
+abbrev pub output_of : Command → Result Trace (ℕ × Reason) → List ℕ
+output_of command (Ok trace) = trace_output command trace
+output_of command (Err e) = refusal_text e.0 e.1
+
+-- the whole output of the command that the words name, if they name one, on an input
+abbrev pub output : Option Command → List ℕ → List ℕ
+output (Some command) input = output_of command (reading input)
+output None input = usage_text
+
+-- What the source had left, and whether it has ended; what the sink was given: before a run and after it.
+pub record Around : Type 0 where
+  pub left : Option (List ℕ)
+  pub left_after : Option (List ℕ)
+  pub ended : Bool
+  pub written : Option (List ℕ)
+  pub written_after : Option (List ℕ)
+
+-- The input was read: all that the source had left, or as much of it as is looked at.
+pub record IsInputOf (a : Around) (input : List ℕ) : Type 0 where
+  pub taken : Consumes a.left a.left_after input
+  pub small : length input ≤ 16777217
+  pub looked : (length input ≡ 16777217) ⊎ ((a.ended ≡ true) × IsAtEnd a.left_after)
+
+-- A command read this input, or there is none and nothing was taken.
+abbrev pub WasRead : Option Command → Around → List ℕ → Type 0
+WasRead (Some command) a input = IsInputOf a input
+WasRead None a input = Consumes a.left a.left_after []
+
+-- Memory was refused while the input was read, and nothing was written.
+abbrev pub StopsReading : Around → Type 0
+StopsReading a = (taken : List ℕ) × Consumes a.left a.left_after taken × (length taken ≤ 16777217) × (a.written_after ≡ a.written)
+
+-- What the run did, by its status. Where the source tells what it has left, the input is what was taken of it; where it tells nothing, some input explains the run.
+abbrev pub RunsTo : Option Command → Around → Status → Type 0
+RunsTo asked a Done = (command : Command) × (asked ≡ Some command) × (input : List ℕ) × (trace : Trace) × IsTraceOf a.left a.left_after a.ended input trace × Appends a.written a.written_after (trace_output command trace)
+RunsTo asked a Usage = (asked ≡ None) × Consumes a.left a.left_after [] × Appends a.written a.written_after usage_text
+RunsTo asked a (Refused line reason) = (command : Command) × (asked ≡ Some command) × (input : List ℕ) × IsRefusalOf a.left a.left_after a.ended input line reason × Appends a.written a.written_after (refusal_text line reason)
+RunsTo asked a ReadFault = (command : Command) × (asked ≡ Some command) × (input : List ℕ) × Consumes a.left a.left_after input × (length input ≤ 16777216) × (a.written_after ≡ a.written)
+RunsTo asked a WriteFault = (input : List ℕ) × WasRead asked a input × AppendsPrefix a.written a.written_after (output asked input)
+RunsTo asked a NoMemory = StopsReading a ⊎ ((input : List ℕ) × WasRead asked a input × AppendsPrefix a.written a.written_after (output asked input))
+RunsTo asked a (Unfinished actor line) = ⊥
+
+-- The same where the source tells that it had this input left, of which no more than 16777217 bytes are looked at.
+abbrev pub Prints : Option Command → List ℕ → Option (List ℕ) → Option (List ℕ) → Status → Type 0
+Prints asked input before after Done = (command : Command) × (asked ≡ Some command) × (trace : Trace) × (reading input ≡ Ok trace) × Appends before after (trace_output command trace)
+Prints asked input before after Usage = (asked ≡ None) × Appends before after usage_text
+Prints asked input before after (Refused line reason) = (command : Command) × (asked ≡ Some command) × (reading input ≡ Err (line, reason)) × Appends before after (refusal_text line reason)
+Prints asked input before after ReadFault = (command : Command) × (asked ≡ Some command) × (after ≡ before)
+Prints asked input before after WriteFault = AppendsPrefix before after (output asked input)
+Prints asked input before after NoMemory = AppendsPrefix before after (output asked input)
+Prints asked input before after (Unfinished actor line) = ⊥
+
+-- The count of failed reads rose where the status says that reading failed, and stayed at any other status.
+abbrev pub ReadCause : ℕ → ℕ → Status → Type 0
+ReadCause before now ReadFault = Rose before now
+ReadCause before now Done = now ≡ before
+ReadCause before now Usage = now ≡ before
+ReadCause before now (Refused line reason) = now ≡ before
+ReadCause before now WriteFault = now ≡ before
+ReadCause before now (Unfinished actor line) = now ≡ before
+ReadCause before now NoMemory = now ≡ before
+
+-- The count of failed writes rose where the status says that writing failed, and stayed at any other status.
+abbrev pub WriteCause : ℕ → ℕ → Status → Type 0
+WriteCause before now WriteFault = Rose before now
+WriteCause before now Done = now ≡ before
+WriteCause before now Usage = now ≡ before
+WriteCause before now (Refused line reason) = now ≡ before
+WriteCause before now ReadFault = now ≡ before
+WriteCause before now (Unfinished actor line) = now ≡ before
+WriteCause before now NoMemory = now ≡ before
+
+abbrev pub exit_code : Status → ℕ
+exit_code Done = 0
+exit_code Usage = 2
+exit_code (Refused line reason) = 3
+exit_code ReadFault = 4
+exit_code WriteFault = 5
+exit_code (Unfinished actor line) = 6
+exit_code NoMemory = 7

@@ -1,0 +1,160 @@
+ghost use Rattle.std.specs.Prelude.{◌≡◌, IfOk, IfSome, length, map, string_bytes, take};
+ghost use Rattle.core_views.specs.Need.{need as need_of};
+ghost use Rattle.core_views.specs.Traces.{IsTrace};
+ghost use Rattle.tdpmmu.specs.Output.{check_text, refusal_text};
+ghost use Rattle.tdp_io.specs.Ends.{Wrote, WroteFaults};
+ghost use Rattle.tdpmmu.specs.Run.{command_named as named, command_of, trace_output, Prints, ReadCause, RunsTo, WriteCause};
+ghost use Rattle.tdpmmu.specs.Steps.{WritesOutput, WritesRefusal, WritesUsage};
+
+use crate::command::Command;
+use crate::replay::replay;
+use crate::status::Status;
+use core_views::{NoMemory, Trace};
+use std::alloc::{AllocError, Global};
+use std::sync::Wait;
+use std::thread::Threads;
+use tdp_io::{Gate, Sink, Source, Stop, write_all};
+use trace_reader::{Read, Reason, need, read_trace};
+
+const USAGE: &str = "usage: tdpmmu check | replay | weave | live | gen N\n";
+
+#[tactic(auto, unfolding(crate::specs::Output::refusal_text))]
+fn refusal(alloc: Global, line: u32, reason: Reason) -> Result<String, AllocError>
+    ensures { IfOk result (λ t. string_bytes t ≡ refusal_text line reason) }
+{
+    let name = reason.name();
+    format!(in alloc; "refused {line} {name}\n")
+}
+
+#[tactic(auto, unfolding(crate::specs::Output::check_text))]
+fn check_line(alloc: Global, lines: usize, need: u64) -> Result<String, AllocError>
+    ensures { IfOk result (λ t. string_bytes t ≡ check_text lines need) }
+{
+    format!(in alloc; "ok {lines} need {need}\n")
+}
+
+// Writes how long the trace is and what it needs.
+fn check<K: Sink>(alloc: Global, trace: &Trace, out: &mut K) -> Result<(), Stop>
+    ensures bytes { Wrote (K.written out.old) (K.written out.new) result (check_text (length trace.now.lines) (need_of trace.now.header trace.now.lines)) }
+    ensures faults { WroteFaults (K.faults out.old) (K.faults out.new) result }
+{
+    let Ok(need) = need(alloc, trace) else {
+        return Err(Stop::NoMemory);
+    };
+    let Ok(text) = check_line(alloc, trace.lines.as_slice().len(), need) else {
+        return Err(Stop::NoMemory);
+    };
+    write_all(out, text.as_bytes())
+}
+
+// The command that the words name, if they name one.
+fn asked(words: &[String]) -> Option<Command>
+    ensures { result ≡ command_of (map string_bytes words.now) }
+{
+    match words {
+        [_, word] => command_named(word.as_str()),
+        _ => None,
+    }
+}
+
+fn command_named(word: &str) -> Option<Command>
+    ensures { result ≡ named word.now }
+{
+    if word == "check" {
+        Some(Command::Check)
+    } else if word == "replay" {
+        Some(Command::Replay)
+    } else {
+        None
+    }
+}
+
+// The words are no command of the program.
+fn usage<K: Sink>(out: &mut K) -> Status
+    ensures written { WritesUsage (K.written out.old) (K.written out.new) result }
+    ensures write { WriteCause (K.faults out.old) (K.faults out.new) result }
+{
+    match write_all(out, USAGE.as_bytes()) {
+        Ok(()) => Status::Usage,
+        Err(Stop::Failed) => Status::WriteFault,
+        Err(Stop::NoMemory) => Status::NoMemory,
+    }
+}
+
+// The input is refused at this line.
+fn refuse<K: Sink>(alloc: Global, line: u32, reason: Reason, out: &mut K) -> Status
+    ensures written { WritesRefusal line reason (K.written out.old) (K.written out.new) result }
+    ensures write { WriteCause (K.faults out.old) (K.faults out.new) result }
+{
+    let Ok(text) = refusal(alloc, line, reason) else {
+        return Status::NoMemory;
+    };
+    match write_all(out, text.as_bytes()) {
+        Ok(()) => Status::Refused { line, reason },
+        Err(Stop::Failed) => Status::WriteFault,
+        Err(Stop::NoMemory) => Status::NoMemory,
+    }
+}
+
+// The input is this trace.
+fn run_trace<K: Sink>(alloc: Global, command: Command, trace: &Trace, out: &mut K) -> Status
+    requires { IsTrace trace.now }
+    ensures written { WritesOutput (trace_output command trace.now) (K.written out.old) (K.written out.new) result }
+    ensures write { WriteCause (K.faults out.old) (K.faults out.new) result }
+{
+    let written = match command {
+        Command::Check => check(alloc, trace, out),
+        Command::Replay => replay(alloc, trace, out),
+    };
+    match written {
+        Ok(()) => Status::Done,
+        Err(Stop::Failed) => Status::WriteFault,
+        Err(Stop::NoMemory) => Status::NoMemory,
+    }
+}
+
+// The whole program but for its threads: nothing here waits, so it returns.
+fn run_command<S: Source, K: Sink>(
+    alloc: Global,
+    words: &[String],
+    src: &mut S,
+    out: &mut K,
+) -> Status
+    ensures runs { RunsTo (command_of (map string_bytes words.now)) (record { left = S.left src.old; left_after = S.left src.new; ended = S.ended src.new; written = K.written out.old; written_after = K.written out.new }) result }
+    ensures prints { IfSome (S.left src.old) (λ input. Prints (command_of (map string_bytes words.now)) (take 16777217 input) (K.written out.old) (K.written out.new) result) }
+    ensures read { ReadCause (S.faults src.old) (S.faults src.new) result }
+    ensures write { WriteCause (K.faults out.old) (K.faults out.new) result }
+{
+    let Some(command) = asked(words) else {
+        return usage(out);
+    };
+    match read_trace(alloc, src) {
+        Err(NoMemory) => Status::NoMemory,
+        Ok(Read::ReadFault) => Status::ReadFault,
+        Ok(Read::Refused { line, reason }) => refuse(alloc, line, reason, out),
+        Ok(Read::Trace(trace)) => run_trace(alloc, command, &trace, out),
+    }
+}
+
+/// The whole program: runs the command that `words` name, the program's name
+/// first, on the trace that `src` has left, and writes to `out` all that there
+/// is to say. Today the commands are `check` and `replay`; any other words are
+/// answered by the usage line. `rt` and `gate` are for commands that start threads.
+///
+/// The status says how it went, and each has its cause: `ReadFault` and
+/// `WriteFault` come only where the count of faults of `src` or `out` rose.
+pub fn run<R: Threads + Wait + Sync, S: Source, K: Sink, G: Gate + Sync>(
+    _rt: &R,
+    alloc: Global,
+    words: &[String],
+    src: &mut S,
+    out: &mut K,
+    _gate: &G,
+) -> Status
+    ensures runs { RunsTo (command_of (map string_bytes words.now)) (record { left = S.left src.old; left_after = S.left src.new; ended = S.ended src.new; written = K.written out.old; written_after = K.written out.new }) result }
+    ensures prints { IfSome (S.left src.old) (λ input. Prints (command_of (map string_bytes words.now)) (take 16777217 input) (K.written out.old) (K.written out.new) result) }
+    ensures read { ReadCause (S.faults src.old) (S.faults src.new) result }
+    ensures write { WriteCause (K.faults out.old) (K.faults out.new) result }
+{
+    run_command(alloc, words, src, out)
+}

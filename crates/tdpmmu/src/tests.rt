@@ -1,0 +1,213 @@
+//! Whole runs of the program, over sources and sinks in memory.
+
+use crate::program::run;
+use crate::status::Status;
+use std::alloc::Global;
+use std::sync::Wait;
+use std::test::Fail;
+use std::thread::Threads;
+use tdp_io::{MemSink, MemSource, NoGate};
+use trace_reader::Reason;
+
+const H: &str =
+    "tdp 1 vcpus 2 workers 1 pages 1024 frames 1040 words 1 pool 64 cache 64 manual 0 hosts 0\n";
+
+const TWO_WORDS: &str =
+    "tdp 1 vcpus 2 workers 1 pages 1024 frames 1040 words 2 pool 64 cache 64 manual 0 hosts 0\n";
+
+const LARGE: &str =
+    "tdp 1 vcpus 2 workers 1 pages 262144 frames 262160 words 1 pool 6 cache 64 manual 0 hosts 0\n";
+
+const ONE_WRITE: &str = "vm slot 0 0 16 0\nv0 write 0x1000 7\nv1 read 0x1000\n";
+
+const USAGE: &str = "usage: tdpmmu check | replay | weave | live | gen N\n";
+
+fn words(alloc: Global, words: &[&str]) -> Result<Vec<String>, Fail> {
+    let mut all = Vec::new(alloc);
+    for word in words {
+        all.push(String::from_str(alloc, word)?)?;
+    }
+    Ok(all)
+}
+
+// Runs the program on a header and the lines behind it. The reads and the
+// writes with these numbers fail.
+fn run_on<R: Threads + Wait + Sync>(
+    rt: &R,
+    alloc: Global,
+    command: &[&str],
+    header: &str,
+    lines: &str,
+    failing_reads: &[u64],
+    failing_writes: &[u64],
+) -> Result<(Status, MemSink), Fail> {
+    let mut input = Vec::new(alloc);
+    input.extend_from_slice(header.as_bytes())?;
+    input.extend_from_slice(lines.as_bytes())?;
+    let mut src = MemSource::new(input, failing_reads.to_vec(alloc)?);
+    let mut out = MemSink::new(alloc, failing_writes.to_vec(alloc)?);
+    let words = words(alloc, command)?;
+    let status = run(rt, alloc, &words, &mut src, &mut out, &NoGate);
+    Ok((status, out))
+}
+
+#[test]
+fn prints_each_answer(rt: HostRuntime) -> Result<(), Fail> {
+    for (header, lines, text) in [
+        (H, "", ""),
+        (
+            H,
+            ONE_WRITE,
+            "2 vm done\n3 v0 frame 1 value 0\n4 v1 frame 1 value 7\n",
+        ),
+        (
+            TWO_WORDS,
+            "vm slot 0 0 16 0\nv0 write 0xf008 3\nv0 add 0xf000 1\nv0 read 0xf008\n",
+            "2 vm done\n3 v0 frame 15 value 0\n4 v0 frame 15 value 0\n5 v0 frame 15 value 3\n",
+        ),
+        (
+            H,
+            "vm slot 0 0 16 0\nv0 read 0x10000\n",
+            "2 vm done\n3 v0 mmio\n",
+        ),
+        (
+            H,
+            "vm slot 0 68719476720 16 0\nv0 read 0xfffffffff000\n",
+            "2 vm done\n3 v0 frame 15 value 0\n",
+        ),
+        (
+            H,
+            "vm slot 0 0 16 0 ro\nv0 write 0x1000 1\nv0 read 0x1000\n",
+            "2 vm done\n3 v0 mmio\n4 v0 frame 1 value 0\n",
+        ),
+        (
+            H,
+            "vm slot 0 0 16 0\nv0 write 0x0 0xffffffffffffffff\nv0 add 0x0 2\nv0 read 0x0\n",
+            "2 vm done\n3 v0 frame 0 value 0\n4 v0 frame 0 value 18446744073709551615\n5 v0 frame 0 value 1\n",
+        ),
+        (
+            H,
+            "# comment\n\nv0 read 0x0\nvm slot 32 0 16 0\nv1 read 0x0\n",
+            "4 v0 mmio\n5 vm refused bad-id\n6 v1 mmio\n",
+        ),
+        (H, "vm slot 31 0 16 1024\n", "2 vm refused too-large\n"),
+    ] {
+        let (status, out) = run_on(
+            &rt,
+            rt.alloc(),
+            &["tdpmmu", "replay"],
+            header,
+            lines,
+            &[],
+            &[],
+        )?;
+        assert_eq!(rt; status, Status::Done, "on {lines}");
+        assert_eq!(rt; out.bytes(), text.as_bytes(), "on {lines}");
+    }
+    Ok(())
+}
+
+#[test]
+fn checks_a_trace(rt: HostRuntime) -> Result<(), Fail> {
+    for (header, lines, text) in [
+        (H, ONE_WRITE, "ok 3 need 7\n"),
+        (H, "# comment\n\n", "ok 0 need 4\n"),
+        (
+            LARGE,
+            "vm slot 0 0 262144 0\nv0 read 0x0\n",
+            "ok 2 need 518\n",
+        ),
+    ] {
+        let (status, out) = run_on(
+            &rt,
+            rt.alloc(),
+            &["tdpmmu", "check"],
+            header,
+            lines,
+            &[],
+            &[],
+        )?;
+        assert_eq!(rt; status, Status::Done, "on {lines}");
+        assert_eq!(rt; out.bytes(), text.as_bytes(), "on {lines}");
+    }
+    Ok(())
+}
+
+#[test]
+fn refuses_each_reason(rt: HostRuntime) -> Result<(), Fail> {
+    for (header, lines, line, reason, text) in [
+        ("", "", 1, Reason::Header, "refused 1 header\n"),
+        (
+            H,
+            "vm slot 0 0 16 0\nv0 write 0x1000 7\nv1 read 0x1000",
+            4,
+            Reason::Cut,
+            "refused 4 cut\n",
+        ),
+        (
+            H,
+            "vm slot 0 0 16 0\nv2 read 0x0\n",
+            3,
+            Reason::Actor,
+            "refused 3 actor\n",
+        ),
+        (
+            H,
+            "vm slot 0 0 16 0\nv0 read 0x1004\n",
+            3,
+            Reason::Number,
+            "refused 3 number\n",
+        ),
+        (
+            H,
+            "vm slot 0 0 16 0\nv0 get 0\n",
+            3,
+            Reason::Word,
+            "refused 3 word\n",
+        ),
+    ] {
+        let (status, out) = run_on(
+            &rt,
+            rt.alloc(),
+            &["tdpmmu", "replay"],
+            header,
+            lines,
+            &[],
+            &[],
+        )?;
+        assert_eq!(rt; status, Status::Refused { line, reason }, "on {lines}");
+        assert_eq!(rt; out.bytes(), text.as_bytes(), "on {lines}");
+    }
+    Ok(())
+}
+
+#[test]
+fn tells_its_usage(rt: HostRuntime) -> Result<(), Fail> {
+    for command in [
+        ["tdpmmu", "fly"].as_slice(),
+        &[],
+        &["tdpmmu"],
+        &["replay"],
+        &["tdpmmu", "replay", "replay"],
+        &["tdpmmu", "weave"],
+        &["tdpmmu", "gen", "1"],
+    ] {
+        let (status, out) = run_on(&rt, rt.alloc(), command, H, ONE_WRITE, &[], &[])?;
+        assert_eq!(rt; status, Status::Usage);
+        assert_eq!(rt; status.code(), 2);
+        assert_eq!(rt; out.bytes(), USAGE.as_bytes());
+    }
+    Ok(())
+}
+
+#[test]
+fn says_which_end_failed(rt: HostRuntime) -> Result<(), Fail> {
+    let replay = ["tdpmmu", "replay"];
+    let (status, out) = run_on(&rt, rt.alloc(), &replay, H, ONE_WRITE, &[0], &[])?;
+    assert_eq!(rt; status, Status::ReadFault);
+    assert_eq!(rt; out.bytes().len(), 0);
+    let (status, out) = run_on(&rt, rt.alloc(), &replay, H, ONE_WRITE, &[], &[0])?;
+    assert_eq!(rt; status, Status::WriteFault);
+    assert_eq!(rt; out.bytes().len(), 0);
+    Ok(())
+}
