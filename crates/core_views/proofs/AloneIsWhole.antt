@@ -11,7 +11,7 @@ use Rattle.core_views.specs.declared.event.EventKind.TheVariants.{Begun, LookedA
 use Rattle.core_views.specs.declared.trace.Command.{Command}
 use Rattle.core_views.specs.declared.trace.Command.TheVariants.{Access, SetSlot}
 use Rattle.core_views.specs.declared.answer.Refusal.{Refusal}
-use Rattle.core_views.specs.Sizes.{Sizes}
+use Rattle.core_views.specs.declared.sizes.Sizes.{Sizes}
 use Rattle.core_views.specs.declared.trace.Line.{Line}
 use Rattle.core_views.specs.declared.trace.Slot.{Slot}
 use Rattle.core_views.specs.declared.trace.Op.{Op}

@@ -2,7 +2,7 @@
 use Rattle.std.specs.Prelude.{◌≡◌, ◌-◌, ◌^◌, ℕ, List, [], ◌∷◌, Bool, true, false, codes}
 use Rattle.core_views.specs.declared.actor.Actor.TheVariants.{Vcpu, Manager}
 use Rattle.core_views.specs.declared.trace.Command.TheVariants.{Access, SetSlot}
-use Rattle.core_views.specs.Sizes.{Sizes}
+use Rattle.core_views.specs.declared.sizes.Sizes.{Sizes}
 use Rattle.core_views.specs.declared.trace.Line.{Line}
 use Rattle.core_views.specs.declared.trace.Op.{Op}
 use Rattle.core_views.specs.declared.trace.Op.TheVariants.{Read, Write, Add}
@@ -22,7 +22,7 @@ abbrev pub FlatIsWhole : Type 0
 FlatIsWhole = (z : Sizes) (lines : List Line) → IsWhole (one_by_one z lines first_facts) lines
 
 abbrev pub example_sizes : Sizes
-example_sizes = record { pages = 128 }
+example_sizes = record { pages = 128; frames = 128; words = 2; pool = 4; vcpus = 2; hosts = 1; workers = 0 }
 
 abbrev pub example_slot : ℕ → Bool → Slot
 example_slot base read_only = record { base = base; pages = 3; host = 64; read_only = read_only }

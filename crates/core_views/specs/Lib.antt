@@ -12,4 +12,6 @@ pub mod Text
 pub mod Whole
 pub mod FlatHistory
 pub mod Need
+pub mod Kinds
+pub mod Held
 pub mod Laws

@@ -5,15 +5,23 @@
 mod actor;
 mod answer;
 mod event;
+mod hand;
+mod kind;
 mod laws;
 mod no_memory;
+mod place;
 mod sequence;
+mod sizes;
 mod trace;
 
 pub use actor::Actor;
 pub use answer::{Answer, Answered, AnsweredLine, Refusal};
 pub use event::{Event, EventKind};
+pub use hand::{Closing, Hand, Hands, Seen, SlotLook, State};
+pub use kind::{Kind, Operation, StepKind};
 pub use laws::flat_history_is_lawful;
 pub use no_memory::NoMemory;
+pub use place::{AccessPlace, Place, SetSlotPlace, SlotField};
 pub use sequence::Sequence;
+pub use sizes::Sizes;
 pub use trace::{Command, Header, Line, Lines, Op, Slot, Trace, Words};

@@ -6,7 +6,7 @@ use Rattle.core_views.specs.declared.trace.Command.{Command}
 use Rattle.core_views.specs.declared.trace.Command.TheVariants.{Access, SetSlot}
 use Rattle.core_views.specs.declared.trace.Line.{Line}
 use Rattle.core_views.specs.Traces.{IsSlotInRange}
-use Rattle.core_views.specs.Sizes.{Sizes}
+use Rattle.core_views.specs.declared.sizes.Sizes.{Sizes}
 use Rattle.core_views.specs.Slots.{Slots}
 use Rattle.core_views.specs.Host.{own_frames}
 use Rattle.core_views.specs.Memory.{Memory}

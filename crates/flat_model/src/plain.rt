@@ -6,7 +6,7 @@ ghost use Rattle.core_views.specs.Traces.{IsSlotInRange};
 ghost use Rattle.flat_model.specs.Kept.{GivesLine, IsInRange, facts_of};
 ghost use Rattle.flat_model.specs.Steps.{Accesses, IsSlotOf, SetsSlot};
 
-use core_views::{Answer, Command, Header, Line, NoMemory, Op, Refusal, Slot, Trace};
+use core_views::{Answer, Command, Line, NoMemory, Op, Refusal, Sizes, Slot, Trace};
 use std::alloc::Global;
 use std::collections::{BTreeMap, HashMap};
 use std::marker::Model;
@@ -21,7 +21,7 @@ const GUEST_FRAMES: u64 = 1 << 36;
 /// and the content words that were written, by host page and word.
 #[derive(Drop)]
 pub struct Plain {
-    pages: u64,
+    sizes: Sizes,
     slots: BTreeMap<u64, Slot>,
     memory: HashMap<(u64, u8), u64>,
 }
@@ -33,15 +33,9 @@ impl Model for Plain {
 
     ghost Value = { Kept };
 
-    ghost view = { λ p. record { sizes = record { pages = p.pages }; slots = p.slots.entries; words = p.memory.entries } };
+    ghost view = { λ p. record { sizes = p.sizes; slots = p.slots.entries; words = p.memory.entries } };
 
-    ghost invariant = { λ p. (p.pages < 2 ^ 64) × AreSlotsOf p.pages p.slots.entries };
-}
-
-fn host_pages(header: &Header) -> u64
-    ensures { result ≡ header.now.pages }
-{
-    header.pages
+    ghost invariant = { λ p. (p.sizes.pages < 2 ^ 64) × AreSlotsOf p.sizes.pages p.slots.entries };
 }
 
 // The slot that contains the guest frame.
@@ -62,9 +56,8 @@ impl Plain {
         ensures start { IfOk result (λ plain. facts_of plain ≡ first_facts) }
         ensures sizes { IfOk result (λ plain. plain.sizes ≡ sizes_of trace.now.header) }
     {
-        let pages = host_pages(&trace.header);
         Ok(Plain {
-            pages,
+            sizes: Sizes::of(&trace.header),
             slots: BTreeMap::new(alloc),
             memory: HashMap::new(alloc),
         })
@@ -92,7 +85,9 @@ impl Plain {
     {
         if id > LAST_ID {
             Some(Refusal::BadId)
-        } else if slot.base + slot.pages > GUEST_FRAMES || slot.host + slot.pages > self.pages {
+        } else if slot.base + slot.pages > GUEST_FRAMES
+            || slot.host + slot.pages > self.sizes.pages
+        {
             Some(Refusal::TooLarge)
         } else {
             None

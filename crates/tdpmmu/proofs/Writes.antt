@@ -11,7 +11,7 @@ use Rattle.core_views.specs.declared.trace.Line.{Line}
 use Rattle.core_views.specs.Events.{facts_after_all}
 use Rattle.core_views.specs.Flat.{Facts}
 use Rattle.core_views.specs.FlatHistory.{alone, one_by_one}
-use Rattle.core_views.specs.Sizes.{Sizes}
+use Rattle.core_views.specs.declared.sizes.Sizes.{Sizes}
 use Rattle.core_views.specs.Text.{text}
 use Rattle.core_views.proofs.Texts.{text_append}
 use Rattle.tdpmmu.specs.Steps.{Buffers}

@@ -12,7 +12,7 @@ returns-in_ok-insert-clause-reached c =
     let page = c.in-Some.page in
     let word = c.args.word in
     let op = c.args.op in
-    let before : Kept = record { sizes = record { pages = c.self.inside.pages }; slots = c.self.inside.slots.entries; words = c.self.inside.memory.entries } in
+    let before : Kept = record { sizes = c.self.inside.sizes; slots = c.self.inside.slots.entries; words = c.self.inside.memory.entries } in
     let after : Kept = record before { words = c.insert.new.self.entries } in
     let behind : Some page ≡ page_behind before.slots c.args.gfn op = rw (← c.self.view_is) at c.in-Some.ensures in
     let value : c.unwrap_or-value.result ≡ memory_of before.words page word = search rules in

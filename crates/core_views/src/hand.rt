@@ -1,0 +1,176 @@
+ghost use Rattle.std.specs.Prelude.{◌≡◌, ◌+◌, ◌-◌, ◌<◌, ◌++◌, ◌∷◌, [], OnOk, length, slice_get};
+ghost use Rattle.core_views.specs.Held.{first_held, first_state};
+
+use crate::{Actor, AnsweredLine, Command, Line, NoMemory, Op, Place, Sequence, Sizes, Slot};
+use std::alloc::Global;
+use std::marker::Model;
+
+/// What a turn's step found: the word and its value.
+#[derive(Clone, Copy, Debug, PartialEq, Eq, Drop)]
+pub struct Seen {
+    pub word: u32,
+    pub value: u64,
+}
+
+/// What a line loaded of the memory slots: the page of the slot set, and the
+/// slot under look, or found.
+#[derive(Clone, Copy, Debug, PartialEq, Eq, Drop)]
+pub struct SlotLook {
+    pub set: u64,
+    pub slot: Slot,
+}
+
+/// What an actor holds besides its lines and their answers. Each field is a
+/// topic of its own, which few kinds of step write.
+#[derive(Clone, Copy, Debug, PartialEq, Eq, Drop)]
+pub struct State {
+    /// The sizes of the machine.
+    pub sizes: Sizes,
+    /// Whose hand it is.
+    pub actor: Actor,
+    /// Where the line stands in the order of its steps.
+    pub place: Place,
+    /// The line under way, or the last one.
+    pub line: Line,
+    /// What was loaded of the slots.
+    pub look: SlotLook,
+    /// The host word that was loaded.
+    pub host: u64,
+    /// The leaf that was seen or installed.
+    pub spte: u64,
+    /// The manager's own record: it has set a slot.
+    pub has_set_slot: bool,
+}
+
+impl State {
+    /// What an actor holds before its first line.
+    pub fn first(sizes: Sizes, actor: Actor) -> Self
+        ensures { result ≡ first_state sizes actor }
+    {
+        let slot = Slot {
+            base: 0,
+            pages: 0,
+            host: 0,
+            read_only: false,
+        };
+        let command = Command::Access {
+            gfn: 0,
+            word: 0,
+            op: Op::Read,
+        };
+        State {
+            sizes,
+            actor,
+            place: Place::Between,
+            line: Line {
+                number: 0,
+                actor: Actor::Vcpu(0),
+                command,
+            },
+            look: SlotLook { set: 0, slot },
+            host: 0,
+            spte: 0,
+            has_set_slot: false,
+        }
+    }
+}
+
+/// What one actor holds: its state, its lines of the trace, and the answers
+/// that it has given them, with room for more.
+#[derive(Debug, Drop)]
+pub struct Hand {
+    state: State,
+    lines: Vec<Line>,
+    answers: Vec<AnsweredLine>,
+    room: usize,
+}
+
+impl Model for Hand {
+    ghost use Rattle.std.specs.Prelude.{◌≤◌, ◌+◌, vec_len, vec_capacity};
+    ghost use Rattle.core_views.specs.Held.{Handful};
+
+    ghost Value = { Handful };
+
+    ghost view = { λ h. record { core = record { state = h.state; lines = h.lines.items; answers = h.answers.items }; room = h.room } };
+
+    ghost invariant = { λ h. vec_len h.answers + h.room ≤ vec_capacity h.answers };
+}
+
+impl Hand {
+    /// The hand of an actor before its first line.
+    pub fn new(alloc: Global, sizes: Sizes, actor: Actor, lines: Vec<Line>) -> Self
+        ensures { result.core ≡ first_held sizes actor lines.items }
+    {
+        Hand {
+            state: State::first(sizes, actor),
+            lines,
+            answers: Vec::new(alloc),
+            room: 0,
+        }
+    }
+
+    /// What is held besides lines and answers.
+    pub fn state(&self) -> &State
+        ensures { result.now ≡ self.now.core.state }
+    {
+        &self.state
+    }
+
+    /// The first line that has no answer.
+    pub fn next_line(&self) -> Option<Line>
+        ensures { result ≡ slice_get self.now.core.lines (length self.now.core.answers) }
+    {
+        if self.answers.len() < self.lines.len() {
+            Some(self.lines[self.answers.len()])
+        } else {
+            None
+        }
+    }
+
+    /// The lines that are answered, in the order of their answers.
+    pub fn answers(&self) -> &[AnsweredLine]
+        ensures { result.now ≡ self.now.core.answers }
+    {
+        &self.answers
+    }
+
+    /// Holds this state from now on.
+    pub fn set_state(&mut self, state: State)
+        ensures { self.new ≡ record { core = record { state = state; lines = self.old.core.lines; answers = self.old.core.answers }; room = self.old.room } }
+    {
+        self.state = state;
+    }
+
+    /// Takes room for one more answer.
+    pub fn reserve(&mut self) -> Result<(), NoMemory>
+        ensures core { self.new.core ≡ self.old.core }
+        ensures room { OnOk result (0 < self.new.room) }
+    {
+        self.room = 0;
+        self.answers.reserve(1)?;
+        self.room = 1;
+        Ok(())
+    }
+
+    /// Adds an answer, for which there is room.
+    pub fn answer(&mut self, answer: AnsweredLine)
+        requires { 0 < self.old.room }
+        ensures { self.new ≡ record { core = record { state = self.old.core.state; lines = self.old.core.lines; answers = self.old.core.answers ++ answer ∷ [] }; room = self.old.room - 1 } }
+    {
+        self.room -= 1;
+        match self.answers.push(answer) {
+            Ok(()) => {}
+            Err(_) => { unreachable!() }
+        }
+    }
+}
+
+/// Hands, by the place of their actors.
+pub type Hands = Sequence<Hand>;
+
+/// The last words and hands of a run.
+#[derive(Debug, Drop)]
+pub struct Closing {
+    pub words: Sequence<u64>,
+    pub hands: Hands,
+}
