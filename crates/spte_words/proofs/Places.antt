@@ -1,0 +1,72 @@
+-- Places in the areas: where each area begins, that places are apart, and that they are words of the map.
+use Rattle.std.proofs.Common.{◌≡◌, ◌+◌, ◌*◌, ◌/◌, ◌-◌, ◌<◌, ◌≤◌, ℕ, zero, suc, List, [], ◌∷◌, Some, None, refl, arith, take, sym, ap, ◌∙◌, subst, ◌⊎◌, inl, inr}
+use Rattle.std.specs.List.{sum_by, slice_get}
+use Rattle.std.proofs.lemmas.Bool.{cases_order}
+use Rattle.std.proofs.lemmas.List.Sums.{sum_by-cons}
+use Rattle.spte_words.specs.declared.area.Area.{Area}
+use Rattle.spte_words.specs.declared.area.Area.TheVariants.{Root, Slots, Seq, Count, RangeStart, RangeEnd, Lock, Pause, State, PoolMap, FrameMap, Log, Host, Role, Pool, Linear, Content}
+use Rattle.spte_words.specs.declared.word_map.WordMap.{WordMap}
+use Rattle.spte_words.specs.Areas.{IsWordMap, words_of_bits, areas, number_of, size_of, place, total}
+
+some_same : {X : Type 0} (x y : X) → Some x ≡ Some y → x ≡ y
+some_same x y e = cc
+
+-- a sum ends where the next term's begins
+sum_before : {X : Type 0} (f : X → ℕ) (xs : List X) (m n : ℕ) (x : X) → slice_get xs m ≡ Some x → m < n → sum_by f (take m xs) + f x ≤ sum_by f (take n xs)
+sum_before f [] m n x at lt = absurd (cc)
+sum_before f (y ∷ ys) zero zero x at lt = absurd (omega arith)
+sum_before f (y ∷ ys) zero (suc n) x at lt = omega (arith, sum_by-cons f y (take n ys), ap f (some_same y x at))
+sum_before f (y ∷ ys) (suc m) zero x at lt = absurd (omega arith)
+sum_before f (y ∷ ys) (suc m) (suc n) x at lt = omega (arith, sum_by-cons f y (take m ys), sum_by-cons f y (take n ys), sum_before f ys m n x at (omega arith))
+
+sum_within : {X : Type 0} (f : X → ℕ) (xs : List X) (m : ℕ) (x : X) → slice_get xs m ≡ Some x → sum_by f (take m xs) + f x ≤ sum_by f xs
+sum_within f [] m x at = absurd (cc)
+sum_within f (y ∷ ys) zero x at = omega (arith, sum_by-cons f y ys, ap f (some_same y x at))
+sum_within f (y ∷ ys) (suc m) x at = omega (arith, sum_by-cons f y ys, sum_by-cons f y (take m ys), sum_within f ys m x at)
+
+-- each area stands in the order at its number
+pub at_number : (a : Area) → slice_get areas (number_of a) ≡ Some a
+at_number Root = refl
+at_number Slots = refl
+at_number Seq = refl
+at_number Count = refl
+at_number RangeStart = refl
+at_number RangeEnd = refl
+at_number Lock = refl
+at_number Pause = refl
+at_number State = refl
+at_number PoolMap = refl
+at_number FrameMap = refl
+at_number Log = refl
+at_number Host = refl
+at_number Role = refl
+at_number Pool = refl
+at_number Linear = refl
+at_number Content = refl
+
+pub same_number : (a b : Area) → number_of a ≡ number_of b → a ≡ b
+same_number a b e = let x = at_number a in let y = at_number b in cc
+
+-- an area ends before each later one begins
+pub areas_apart : (m : WordMap) (a b : Area) → number_of a < number_of b → place m a (size_of m a) ≤ place m b 0
+unfolding place
+areas_apart m a b lt = omega (arith, sum_before (size_of m) areas (number_of a) (number_of b) a (at_number a) lt)
+
+pub place_at : (m : WordMap) (a : Area) (i : ℕ) → place m a i ≡ place m a 0 + i
+unfolding place
+place_at m a i = omega arith
+
+pub place_below : (m : WordMap) (a : Area) (i : ℕ) → i < size_of m a → place m a i < total m
+unfolding place total
+place_below m a i lt = omega (arith, sum_within (size_of m) areas (number_of a) a (at_number a))
+
+pub places_apart : (m : WordMap) (a b : Area) (i j : ℕ) → i < size_of m a → j < size_of m b → place m a i ≡ place m b j → (a ≡ b) × (i ≡ j)
+places_apart m a b i j within_a within_b e = order (cases_order (number_of a) (number_of b))
+  where
+    same : a ≡ b → (a ≡ b) × (i ≡ j)
+    same p = (p, omega (arith, place_at m a i, place_at m b j, ap (λ x. place m x 0) p))
+
+    order : (number_of a ≡ number_of b) ⊎ ((number_of a < number_of b) ⊎ (number_of b < number_of a)) → (a ≡ b) × (i ≡ j)
+    order (inl n) = same (same_number a b n)
+    order (inr (inl lt)) = absurd (omega (arith, areas_apart m a b lt, place_at m a i, place_at m b j, place_at m a (size_of m a)))
+    order (inr (inr lt)) = absurd (omega (arith, areas_apart m b a lt, place_at m a i, place_at m b j, place_at m b (size_of m b)))

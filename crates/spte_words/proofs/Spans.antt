@@ -1,0 +1,25 @@
+-- The runs of the levels: their numbers, and how far a child lies from its leaf's first frame.
+use Rattle.std.proofs.Common.{◌≡◌, ◌+◌, ◌*◌, ◌-◌, ◌^◌, ◌<◌, ◌≤◌, ℕ, refl, arith}
+use Rattle.spte_words.specs.Entries.{level_span}
+
+pub span_1 : level_span 1 ≡ 1
+unfolding level_span
+span_1 = refl
+
+pub span_2 : level_span 2 ≡ 512
+unfolding level_span
+span_2 = refl
+
+pub span_3 : level_span 3 ≡ 262144
+unfolding level_span
+span_3 = refl
+
+pub span_4 : level_span 4 ≡ 134217728
+unfolding level_span
+span_4 = refl
+
+pub ruleset spans = (span_1, span_2, span_3, span_4)
+
+-- a child's place in its leaf's run
+pub child_within : (level i : ℕ) → 2 ≤ level → level ≤ 3 → i < 512 → i * level_span (level - 1) < 2 ^ 18
+child_within level i from to small = grind (arith, spans)

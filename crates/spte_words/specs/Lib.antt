@@ -1,0 +1,5 @@
+pub mod Bits
+pub mod Entries
+pub mod HostWords
+pub mod Flags
+pub mod Areas
