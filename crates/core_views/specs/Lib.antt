@@ -1,6 +1,6 @@
 pub mod Actors
-pub mod Traces
 pub mod Sizes
+pub mod Traces
 pub mod Slots
 pub mod Host
 pub mod Memory

@@ -9,6 +9,8 @@ use Rattle.core_views.specs.declared.trace.Header.{Header}
 use Rattle.core_views.specs.declared.trace.Line.{Line}
 use Rattle.core_views.specs.declared.trace.Slot.{Slot}
 use Rattle.core_views.specs.declared.trace.Trace.{Trace}
+use Rattle.core_views.specs.declared.sizes.Sizes.{Sizes}
+use Rattle.core_views.specs.Sizes.{sizes_of}
 
 -- The slot's numbers are in the ranges of a line.
 pub record IsSlotInRange (slot : Slot) : Type 0 where
@@ -18,11 +20,15 @@ pub record IsSlotInRange (slot : Slot) : Type 0 where
   pub host : slot.host < 2 ^ 36
   pub aligned : slot.host % 64 ≡ 0
 
--- The actor makes such lines, and the header declares it; the line's numbers are in their ranges.
+-- The actor makes such lines, and the machine has it; the line's numbers are in their ranges.
+abbrev pub IsCommandFor : Sizes → Actor → Command → Type 0
+IsCommandFor z (Vcpu n) (Access gfn word op) = (n < z.vcpus) × (gfn < 2 ^ 36) × (word < z.words)
+IsCommandFor z Manager (SetSlot id slot) = IsSlotInRange slot
+IsCommandFor z _ _ = ⊥
+
+-- The same of the machine of a header.
 abbrev pub IsCommandOf : Header → Actor → Command → Type 0
-IsCommandOf h (Vcpu n) (Access gfn word op) = (n < h.vcpus) × (gfn < 2 ^ 36) × (word < h.words)
-IsCommandOf h Manager (SetSlot id slot) = IsSlotInRange slot
-IsCommandOf h _ _ = ⊥
+IsCommandOf h actor command = IsCommandFor (sizes_of h) actor command
 
 abbrev pub IsLineOf : Header → Line → Type 0
 IsLineOf h line = IsCommandOf h line.actor line.command

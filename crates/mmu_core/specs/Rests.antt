@@ -1,0 +1,45 @@
+-- What a job may rest on, from its hand alone: the bounds of what was loaded, at each place.
+use Rattle.std.specs.Prelude.{◌≡◌, ◌-◌, ◌≤◌, ◌<◌, ℕ}
+use Rattle.core_views.specs.declared.hand.State.{State}
+use Rattle.core_views.specs.declared.place.AccessPlace.{AccessPlace}
+use Rattle.core_views.specs.declared.place.AccessPlace.TheVariants.{Slots, Slot, Walk, Host, Install, Touch}
+use Rattle.core_views.specs.declared.place.Place.{Place}
+use Rattle.core_views.specs.declared.place.Place.TheVariants as place
+use Rattle.core_views.specs.declared.place.SetSlotPlace.TheVariants.{Refuse, Fill}
+use Rattle.core_views.specs.declared.sizes.Sizes.{Sizes}
+use Rattle.core_views.specs.declared.trace.Command.{Command}
+use Rattle.core_views.specs.declared.trace.Command.TheVariants.{Access, SetSlot}
+use Rattle.core_views.specs.Held.{Held}
+use Rattle.core_views.specs.Sizes.{AreSizes}
+use Rattle.core_views.specs.Traces.{IsCommandFor}
+use Rattle.spte_words.specs.Entries.{frame_in}
+use Rattle.spte_words.specs.HostWords.{host_frame}
+use Rattle.mmu_core.specs.SlotWords.{page_of}
+use Rattle.mmu_core.specs.Steps.{line_at, place_at}
+
+-- The guest frame is one of the slot found, and the host page behind it is one of the machine's.
+pub record InSlot (s : State) (gfn : ℕ) : Type 0 where
+  pub above : s.look.slot.base ≤ gfn
+  pub below : gfn - s.look.slot.base < s.sizes.pages
+  pub page : page_of s.look.slot gfn < s.sizes.pages
+
+abbrev pub AccessRests : AccessPlace → State → ℕ → Type 0
+AccessRests Slots s gfn = Unit {0}
+AccessRests (Slot id field) s gfn = (id ≤ 31) × (s.look.set < s.sizes.pool)
+AccessRests Walk s gfn = InSlot s gfn
+AccessRests Host s gfn = InSlot s gfn
+AccessRests Install s gfn = InSlot s gfn × (host_frame s.host < s.sizes.frames)
+AccessRests Touch s gfn = frame_in s.spte < s.sizes.frames
+
+abbrev pub RestsAt : Place → Command → State → Type 0
+RestsAt (place.Access p) (Access gfn word op) s = AccessRests p s gfn
+RestsAt (place.SetSlot (Refuse refusal)) (SetSlot id slot) s = Unit {0}
+RestsAt (place.SetSlot (Fill field)) (SetSlot id slot) s = id ≤ 31
+RestsAt place.Between command s = Unit {0}
+RestsAt _ _ s = ⊥
+
+-- What holds of every hand that has a line without an answer.
+pub record Rests (h : Held) : Type 0 where
+  pub sizes : AreSizes h.state.sizes
+  pub line : IsCommandFor h.state.sizes (line_at h.state.place h).actor (line_at h.state.place h).command
+  pub at : RestsAt (place_at h.state.place h) (line_at h.state.place h).command h.state

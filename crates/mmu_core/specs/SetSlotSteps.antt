@@ -1,0 +1,50 @@
+-- The order of steps of a slot setting: a refused one makes one load of the sequence; else the slot's words are stored, its flags
+-- last, with which the slot is live (api.rst, KVM_SET_USER_MEMORY_REGION).
+use Rattle.std.specs.Prelude.{ℕ, List, [], ◌∷◌, true, Option, Some, None}
+use Rattle.core_views.specs.declared.answer.Answer.TheVariants.{Done, Refused}
+use Rattle.core_views.specs.declared.answer.Refusal.{Refusal}
+use Rattle.core_views.specs.declared.event.EventKind.{EventKind}
+use Rattle.core_views.specs.declared.event.EventKind.TheVariants.{SlotChanged}
+use Rattle.core_views.specs.declared.hand.State.{State}
+use Rattle.core_views.specs.declared.kind.StepKind.TheVariants as kind
+use Rattle.core_views.specs.declared.place.SetSlotPlace.{SetSlotPlace}
+use Rattle.core_views.specs.declared.place.SetSlotPlace.TheVariants.{Refuse, Fill}
+use Rattle.core_views.specs.declared.place.Place.TheVariants.{SetSlot}
+use Rattle.core_views.specs.declared.place.SlotField.TheVariants.{Base, Pages, Host, Flags}
+use Rattle.core_views.specs.declared.trace.Slot.{Slot}
+use Rattle.spte_words.specs.declared.area.Area.TheVariants as area
+use Rattle.mmu_core.specs.declared.outcome.Outcome.{Outcome}
+use Rattle.mmu_core.specs.declared.outcome.Outcome.TheVariants.{Goes, Ends}
+use Rattle.mmu_core.specs.declared.outcome.Task.{Task}
+use Rattle.mmu_core.specs.SlotWords.{field_word, slot_index}
+use Rattle.mmu_core.specs.Tasks.{loads}
+
+-- the pool page of the published slot set, which is the manager's
+abbrev pub published_set : ℕ
+published_set = 1
+
+-- where a setting begins
+abbrev pub set_slot_first : Option Refusal → SetSlotPlace
+set_slot_first (Some refusal) = Refuse refusal
+set_slot_first None = Fill Base
+
+abbrev pub set_slot_task : SetSlotPlace → ℕ → Slot → Task
+set_slot_task (Refuse refusal) id slot = loads kind.Control area.Seq 0 1
+set_slot_task (Fill Flags) id slot = record { kind = kind.Fill; area = area.Pool; index = slot_index published_set id Flags; expected = 0; written = field_word Flags slot; may_end = 1 }
+set_slot_task (Fill field) id slot = record { kind = kind.Fill; area = area.Pool; index = slot_index published_set id field; expected = 0; written = field_word field slot; may_end = 0 }
+
+-- the manager's record after a step: a slot is set once its flags are stored
+abbrev pub set_slot_loads : SetSlotPlace → State → State
+set_slot_loads (Fill Flags) s = record s { has_set_slot = true }
+set_slot_loads _ s = s
+
+abbrev pub set_slot_outcome : SetSlotPlace → Outcome
+set_slot_outcome (Refuse refusal) = Ends (Refused refusal)
+set_slot_outcome (Fill Base) = Goes (SetSlot (Fill Pages))
+set_slot_outcome (Fill Pages) = Goes (SetSlot (Fill Host))
+set_slot_outcome (Fill Host) = Goes (SetSlot (Fill Flags))
+set_slot_outcome (Fill Flags) = Ends Done
+
+abbrev pub set_slot_tells : SetSlotPlace → ℕ → Slot → List EventKind
+set_slot_tells (Fill Flags) id slot = SlotChanged id slot ∷ []
+set_slot_tells _ id slot = []

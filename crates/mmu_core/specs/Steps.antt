@@ -1,0 +1,126 @@
+-- What each form of line does, put together: the step that a hand allows, and the hand after it.
+use Rattle.std.specs.Prelude.{◌≡◌, ◌<◌, ◌^◌, ℕ, List, [], ◌∷◌, ◌++◌, length, map, false, slice_get, unwrap_or}
+use Rattle.core_views.specs.declared.actor.Actor.TheVariants.{Manager}
+use Rattle.core_views.specs.declared.event.Event.{Event}
+use Rattle.core_views.specs.declared.event.EventKind.{EventKind}
+use Rattle.core_views.specs.declared.event.EventKind.TheVariants.{Begun}
+use Rattle.core_views.specs.declared.hand.State.{State}
+use Rattle.core_views.specs.declared.kind.Kind.{Kind}
+use Rattle.core_views.specs.declared.place.Place.{Place}
+use Rattle.core_views.specs.declared.place.Place.TheVariants as place
+use Rattle.core_views.specs.declared.place.AccessPlace.TheVariants.{Slots}
+use Rattle.core_views.specs.declared.place.SetSlotPlace.TheVariants.{Refuse, Fill}
+use Rattle.core_views.specs.declared.sizes.Sizes.{Sizes}
+use Rattle.core_views.specs.declared.trace.Command.{Command}
+use Rattle.core_views.specs.declared.trace.Command.TheVariants.{Access, SetSlot}
+use Rattle.core_views.specs.declared.trace.Line.{Line}
+use Rattle.core_views.specs.Flat.{no_line}
+use Rattle.core_views.specs.Held.{Held, first_held}
+use Rattle.core_views.specs.Kinds.{after, answer}
+use Rattle.core_views.specs.Slots.{slot_refusal}
+use Rattle.spte_words.specs.Areas.{total}
+use Rattle.mmu_core.specs.declared.outcome.Outcome.{Outcome}
+use Rattle.mmu_core.specs.declared.outcome.Outcome.TheVariants.{Goes}
+use Rattle.mmu_core.specs.declared.outcome.Task.{Task}
+use Rattle.mmu_core.specs.AccessSteps.{access_loads, access_outcome, access_task, access_tells}
+use Rattle.mmu_core.specs.Machine.{Core}
+use Rattle.mmu_core.specs.SetSlotSteps.{set_slot_first, set_slot_loads, set_slot_outcome, set_slot_task, set_slot_tells}
+use Rattle.mmu_core.specs.Tasks.{answering, answers_after, kind_of_task, map_of, no_task, place_after}
+
+-- the first of a hand's lines that has no answer
+abbrev pub next_line : Held → Line
+next_line h = unwrap_or (slice_get h.lines (length h.answers)) no_line
+
+-- the line that the hand's next step is of: the one under way, or the next one
+abbrev pub line_at : Place → Held → Line
+line_at place.Between h = next_line h
+line_at (place.Access p) h = h.state.line
+line_at (place.SetSlot p) h = h.state.line
+
+-- where a line begins
+abbrev pub first_place : Sizes → Command → Place
+first_place z (Access gfn word op) = place.Access Slots
+first_place z (SetSlot id slot) = place.SetSlot (set_slot_first (slot_refusal z.pages id slot))
+
+-- where the line of the hand's next step stands
+abbrev pub place_at : Place → Held → Place
+place_at place.Between h = first_place h.state.sizes (next_line h).command
+place_at (place.Access p) h = place.Access p
+place_at (place.SetSlot p) h = place.SetSlot p
+
+-- what the step of a place is to do for the command
+abbrev pub task_at : Place → Command → State → Task
+task_at (place.Access p) (Access gfn word op) s = access_task p s gfn word op
+task_at (place.SetSlot p) (SetSlot id slot) s = set_slot_task p id slot
+task_at _ _ s = no_task
+
+-- what the state has loaded after it
+abbrev pub loads_at : Place → Command → State → ℕ → State
+loads_at (place.Access p) (Access gfn word op) s v = access_loads p s v
+loads_at (place.SetSlot p) (SetSlot id slot) s v = set_slot_loads p s
+loads_at _ _ s v = s
+
+-- where the line stands after it
+abbrev pub outcome_at : Place → Command → State → ℕ → Outcome
+outcome_at (place.Access p) (Access gfn word op) s v = access_outcome p s gfn op v
+outcome_at (place.SetSlot p) (SetSlot id slot) s v = set_slot_outcome p
+outcome_at p _ s v = Goes p
+
+-- what it tells of the line, besides its begin and its answer
+abbrev pub tells_at : Place → Command → State → ℕ → List EventKind
+tells_at (place.Access p) (Access gfn word op) s v = access_tells p s gfn word op v
+tells_at (place.SetSlot p) (SetSlot id slot) s v = set_slot_tells p id slot
+tells_at _ _ s v = []
+
+-- what the hand's next step is to do
+abbrev pub task_of : Held → Task
+task_of h = task_at (place_at h.state.place h) (line_at h.state.place h).command h.state
+
+-- Only the first slot may be set.
+abbrev pub MayFill : Place → State → Type 0
+MayFill (place.SetSlot (Fill field)) s = (s.actor ≡ Manager) × (s.has_set_slot ≡ false)
+MayFill _ s = Unit {0}
+
+-- The hand has a line without an answer, and the step is the next one of this line, in the order of its steps, at one of the words.
+pub record IsNext (h : Held) (k : Kind) : Type 0 where
+  pub left : length h.answers < length h.lines
+  pub fills : MayFill (place_at h.state.place h) h.state
+  pub is : k ≡ kind_of_task h.state.sizes (task_of h)
+  pub inside : k.word < total (map_of h.state.sizes)
+  pub small : k.new < 2 ^ 64
+
+unfoldable pub Enabled : Held → Kind → Type 0
+Enabled h k = IsNext h k
+
+-- the hand after a step of this line, at this place, that found v
+abbrev pub held_after : Line → Place → Held → ℕ → Held
+held_after line p h v = record {
+  state = record (loads_at p line.command h.state v) { line = line; place = place_after (outcome_at p line.command h.state v) };
+  lines = h.lines;
+  answers = answers_after (outcome_at p line.command h.state v) line h.answers;
+}
+
+-- the hand after its next step, which answered v
+unfoldable pub next : Held → Kind → ℕ → Held
+next h k v = held_after (line_at h.state.place h) (place_at h.state.place h) h v
+
+-- A line begins with its first step.
+abbrev pub beginning : Place → Line → List EventKind
+beginning place.Between line = Begun line ∷ []
+beginning (place.Access p) line = []
+beginning (place.SetSlot p) line = []
+
+abbrev pub event_kinds : Place → Line → Place → Held → ℕ → List EventKind
+event_kinds stood line p h v = beginning stood line ++ (tells_at p line.command h.state v ++ answering (outcome_at p line.command h.state v) line)
+
+-- what the hand's next step tells, where it answered v
+unfoldable pub events_of : Held → ℕ → List Event
+events_of h v = map (λ kind. record { actor = h.state.actor; kind = kind }) (event_kinds h.state.place (line_at h.state.place h) (place_at h.state.place h) h v)
+
+-- the hand of an actor that is none
+abbrev pub nobody : Held
+nobody = first_held (record { pages = 0; frames = 0; words = 0; pool = 0; vcpus = 0; hosts = 0; workers = 0 }) Manager []
+
+-- the machine of this project
+abbrev pub mmu : Core Held Kind
+mmu = record { Enabled = Enabled; word = λ k. k.word; after = after; answer = answer; next = next; nobody = nobody }

@@ -1,0 +1,107 @@
+//! The steps of a guest access.
+ghost use Rattle.std.specs.Prelude.{◌≡◌, ◌≤◌, ◌<◌};
+ghost use Rattle.core_views.specs.Sizes.{AreSizes};
+ghost use Rattle.mmu_core.specs.AccessSteps.{access_loads, access_outcome, access_task, behind_slot, touch_of};
+ghost use Rattle.mmu_core.specs.Rests.{AccessRests};
+ghost use Rattle.mmu_core.specs.Tasks.{loads};
+ghost use Rattle.spte_words.specs.Entries.{absent_word};
+
+use crate::outcome::{Outcome, Task};
+use crate::slot_words::{leaf_of, slot_word};
+use crate::map_of;
+use core_views::{AccessPlace, Answer, Op, Place, SlotField, State, StepKind};
+use spte_words::{Area, HostWord, SlotFlags, Spte};
+
+fn touch(op: Op, index: u64) -> Task
+    ensures { result ≡ touch_of op index }
+{
+    let (kind, written) = match op {
+        Op::Read => (StepKind::Read, 0),
+        Op::Write(number) => (StepKind::Write, number),
+        Op::Add(number) => (StepKind::Add, number),
+    };
+    Task {
+        kind,
+        area: Area::Content,
+        index,
+        expected: 0,
+        written,
+        may_end: 1,
+    }
+}
+
+/// What the step of this place is to do.
+pub(crate) fn task(place: AccessPlace, state: &State, gfn: u64, word: u8, op: Op) -> Task
+    requires sizes { AreSizes state.now.sizes }
+    requires rests { AccessRests place state.now gfn }
+    requires word { word < state.now.sizes.words }
+    ensures { result ≡ access_task place state.now gfn word op }
+{
+    let slot = &state.look.slot;
+    match place {
+        AccessPlace::Slots => Task::load(StepKind::Control, Area::Slots, 0, 0),
+        AccessPlace::Slot { id, field } => {
+            Task::load(StepKind::Slot, Area::Pool, slot_word(state.look.set, id, field), 1)
+        }
+        AccessPlace::Walk => Task::load(StepKind::Walk, Area::Linear, gfn - slot.base, 0),
+        AccessPlace::Host => {
+            Task::load(StepKind::Host, Area::Host, slot.host + (gfn - slot.base), 0)
+        }
+        AccessPlace::Install => Task {
+            kind: StepKind::Swap,
+            area: Area::Linear,
+            index: gfn - slot.base,
+            expected: Spte::absent().word(),
+            written: leaf_of(slot, state.host),
+            may_end: 0,
+        },
+        AccessPlace::Touch => {
+            let frame = Spte::from_word(state.spte).frame();
+            touch(op, map_of(&state.sizes).content_index(frame, word))
+        }
+    }
+}
+
+/// Keeps what the step of this place found.
+pub(crate) fn load(place: AccessPlace, state: &mut State, found: u64)
+    requires { AccessRests place state.old 0 }
+    ensures { state.new ≡ access_loads place state.old found }
+{
+    match place {
+        AccessPlace::Slots => state.look.set = found,
+        AccessPlace::Slot { field, .. } => match field {
+            SlotField::Base => state.look.slot.base = found,
+            SlotField::Pages => state.look.slot.pages = found,
+            SlotField::Host => state.look.slot.host = found,
+            SlotField::Flags => {
+                state.look.slot.read_only = SlotFlags::from_word(found).is_read_only()
+            }
+        },
+        AccessPlace::Walk => state.spte = found,
+        AccessPlace::Host => state.host = found,
+        AccessPlace::Install => {
+            state.spte = if found == Spte::absent().word() {
+                leaf_of(&state.look.slot, state.host)
+            } else {
+                found
+            }
+        }
+        AccessPlace::Touch => {}
+    }
+}
+
+// Behind a slot that doesn't hold the guest frame: the next one, or an exit
+// behind the last.
+fn behind_slot(id: u64) -> Outcome
+    requires { id ≤ 31 }
+    ensures { result ≡ behind_slot id }
+{
+    if id == 31 {
+        Outcome::Ends(Answer::Mmio)
+    } else {
+        Outcome::Goes(Place::Access(AccessPlace::Slot {
+            id: id + 1,
+            field: SlotField::Flags,
+        }))
+    }
+}

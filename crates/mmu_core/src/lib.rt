@@ -1,0 +1,29 @@
+//! The steps of the machine: which step a hand allows, and what it does to its
+//! word and to the hand.
+#![tactic(auto)]
+ghost use Rattle.std.specs.Prelude.{◌≡◌};
+ghost use Rattle.core_views.specs.Sizes.{AreSizes};
+ghost use Rattle.mmu_core.specs.Tasks.{map_of};
+
+mod access;
+mod outcome;
+mod slot_words;
+
+pub use outcome::{Outcome, Task};
+
+use core_views::Sizes;
+use spte_words::WordMap;
+
+/// Where the words of a machine of these sizes stand.
+pub fn map_of(sizes: &Sizes) -> WordMap
+    requires { AreSizes sizes.now }
+    ensures { result ≡ map_of sizes.now }
+{
+    WordMap::new(
+        sizes.pages,
+        sizes.frames,
+        sizes.words,
+        sizes.pool,
+        sizes.actors(),
+    )
+}

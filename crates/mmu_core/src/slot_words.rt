@@ -1,0 +1,52 @@
+ghost use Rattle.std.specs.Prelude.{◌≡◌, ◌≤◌, ◌<◌, ◌^◌};
+ghost use Rattle.mmu_core.specs.SlotWords.{field_number, field_word, leaf_of, may_write, slot_index};
+ghost use Rattle.core_views.specs.Traces.{IsSlotInRange};
+ghost use Rattle.spte_words.specs.HostWords.{host_frame};
+
+use core_views::{Slot, SlotField};
+use spte_words::{HostWord, SlotFlags, Spte};
+
+fn field_number(field: SlotField) -> u64
+    ensures { result ≡ field_number field }
+{
+    match field {
+        SlotField::Base => 0,
+        SlotField::Pages => 1,
+        SlotField::Host => 2,
+        SlotField::Flags => 3,
+    }
+}
+
+/// The pool's word that holds a field of the slot with this ID, in the slot
+/// set of a pool page.
+#[tactic(auto, unfolding(Rattle.spte_words.specs.Areas.pool_index))]
+pub(crate) fn slot_word(set: u64, id: u64, field: SlotField) -> u64
+    requires set { set < 2 ^ 32 }
+    requires id { id ≤ 31 }
+    ensures { result ≡ slot_index set id field }
+{
+    512 * set + (4 * id + field_number(field))
+}
+
+/// What a field's word holds of a live slot.
+pub(crate) fn field_word(field: SlotField, slot: &Slot) -> u64
+    ensures { result ≡ field_word field slot.now }
+{
+    match field {
+        SlotField::Base => slot.base,
+        SlotField::Pages => slot.pages,
+        SlotField::Host => slot.host,
+        SlotField::Flags => SlotFlags::new(true, slot.read_only, false).word(),
+    }
+}
+
+/// The leaf of a page in the slot, from its host word: with write permission
+/// where host and slot allow it.
+pub(crate) fn leaf_of(slot: &Slot, host: u64) -> u64
+    requires { host_frame host < 2 ^ 40 }
+    ensures { result ≡ leaf_of slot.now host }
+{
+    let host = HostWord::from_word(host);
+    let writable = host.is_writable() && !slot.read_only;
+    Spte::leaf(1, host.frame(), writable, host.is_writable(), writable).word()
+}
