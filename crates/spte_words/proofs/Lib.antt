@@ -1,2 +1,4 @@
 pub mod Spans
+pub mod ReadsBits
+pub mod ReadsEntries
 pub mod Places

@@ -1,5 +1,5 @@
 -- Places in the areas: where each area begins, that places are apart, and that they are words of the map.
-use Rattle.std.proofs.Common.{◌≡◌, ◌+◌, ◌*◌, ◌/◌, ◌-◌, ◌<◌, ◌≤◌, ℕ, zero, suc, List, [], ◌∷◌, Some, None, refl, arith, take, sym, ap, ◌∙◌, subst, ◌⊎◌, inl, inr}
+use Rattle.std.proofs.Common.{◌≡◌, ◌+◌, ◌*◌, ◌/◌, ◌-◌, ◌^◌, ◌<◌, ◌≤◌, ℕ, zero, suc, List, [], ◌∷◌, Some, None, refl, arith, take, sym, ap, ◌∙◌, subst, ◌⊎◌, inl, inr}
 use Rattle.std.specs.List.{sum_by, slice_get}
 use Rattle.std.proofs.lemmas.Bool.{cases_order}
 use Rattle.std.proofs.lemmas.List.Sums.{sum_by-cons}
@@ -59,6 +59,14 @@ place_at m a i = omega arith
 pub place_below : (m : WordMap) (a : Area) (i : ℕ) → i < size_of m a → place m a i < total m
 unfolding place total
 place_below m a i lt = omega (arith, sum_within (size_of m) areas (number_of a) a (at_number a))
+
+-- the words have numbers of 32 bits
+pub total_fits : (m : WordMap) → IsWordMap m → total m < 2 ^ 32
+unfolding total
+total_fits m is = omega arith
+
+pub place_fits : (m : WordMap) (a : Area) (i : ℕ) → IsWordMap m → i < size_of m a → place m a i < 2 ^ 32
+place_fits m a i is lt = omega (arith, place_below m a i lt, total_fits m is)
 
 pub places_apart : (m : WordMap) (a b : Area) (i j : ℕ) → i < size_of m a → j < size_of m b → place m a i ≡ place m b j → (a ≡ b) × (i ≡ j)
 places_apart m a b i j within_a within_b e = order (cases_order (number_of a) (number_of b))
