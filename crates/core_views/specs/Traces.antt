@@ -1,5 +1,5 @@
 -- What a trace may hold: the ranges of its header and of its lines.
-use Rattle.std.specs.Prelude.{◌≡◌, ◌*◌, ◌%◌, ◌^◌, ◌<◌, ◌≤◌, ◌⊎◌, ℕ, List, All, Some, length, slice_get}
+use Rattle.std.specs.Prelude.{◌≡◌, ◌+◌, ◌*◌, ◌%◌, ◌^◌, ◌<◌, ◌≤◌, ◌⊎◌, ℕ, List, [], ◌∷◌, Bool, true, false, if◌then◌else◌, All, Some, length, slice_get}
 use Rattle.std.specs.List.Sorted.{IsStrictlyIncreasing}
 use Rattle.core_views.specs.declared.actor.Actor.{Actor}
 use Rattle.core_views.specs.declared.actor.Actor.TheVariants.{Vcpu, Manager}
@@ -36,6 +36,16 @@ IsLineOf h line = IsCommandOf h line.actor line.command
 -- Each line is one that the header allows.
 abbrev pub AreLinesOf : Header → List Line → Type 0
 AreLinesOf h lines = All (IsLineOf h) lines
+
+-- The command sets a slot.
+abbrev pub sets_slot : Command → Bool
+sets_slot (Access gfn word op) = false
+sets_slot (SetSlot id slot) = true
+
+-- how many of the lines set a slot
+abbrev pub settings : List Line → ℕ
+settings [] = 0
+settings (line ∷ lines) = (if sets_slot line.command then 1 else 0) + settings lines
 
 -- One to four host threads own all pages: the first from page 0 on, and each from a page behind the one before.
 pub record AreHostsOf (pages : ℕ) (hosts : List ℕ) : Type 0 where

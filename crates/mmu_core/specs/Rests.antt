@@ -1,10 +1,11 @@
 -- What a job may rest on, from its hand alone: the bounds of what was loaded, at each place.
-use Rattle.std.specs.Prelude.{◌≡◌, ◌-◌, ◌≤◌, ◌<◌, ℕ}
+use Rattle.std.specs.Prelude.{◌≡◌, ◌-◌, ◌^◌, ◌≤◌, ◌<◌, ℕ}
 use Rattle.core_views.specs.declared.hand.State.{State}
 use Rattle.core_views.specs.declared.place.AccessPlace.{AccessPlace}
 use Rattle.core_views.specs.declared.place.AccessPlace.TheVariants.{Slots, Slot, Walk, Host, Install, Touch}
 use Rattle.core_views.specs.declared.place.Place.{Place}
 use Rattle.core_views.specs.declared.place.Place.TheVariants as place
+use Rattle.core_views.specs.declared.place.SetSlotPlace.{SetSlotPlace}
 use Rattle.core_views.specs.declared.place.SetSlotPlace.TheVariants.{Refuse, Fill}
 use Rattle.core_views.specs.declared.sizes.Sizes.{Sizes}
 use Rattle.core_views.specs.declared.trace.Command.{Command}
@@ -31,12 +32,31 @@ AccessRests Host s gfn = InSlot s gfn
 AccessRests Install s gfn = InSlot s gfn × (host_frame s.host < s.sizes.frames)
 AccessRests Touch s gfn = frame_in s.spte < s.sizes.frames
 
+abbrev pub SetSlotRests : SetSlotPlace → ℕ → Type 0
+SetSlotRests (Refuse refusal) id = Unit {0}
+SetSlotRests (Fill field) id = id ≤ 31
+
 abbrev pub RestsAt : Place → Command → State → Type 0
 RestsAt (place.Access p) (Access gfn word op) s = AccessRests p s gfn
-RestsAt (place.SetSlot (Refuse refusal)) (SetSlot id slot) s = Unit {0}
-RestsAt (place.SetSlot (Fill field)) (SetSlot id slot) s = id ≤ 31
+RestsAt (place.SetSlot p) (SetSlot id slot) s = SetSlotRests p id
 RestsAt place.Between command s = Unit {0}
 RestsAt _ _ s = ⊥
+
+-- A line stands there that has begun, or begins with the next step.
+abbrev pub IsUnderWay : Place → Type 0
+IsUnderWay place.Between = ⊥
+IsUnderWay (place.Access p) = Unit {0}
+IsUnderWay (place.SetSlot p) = Unit {0}
+
+-- The host word that a leaf is made of names a frame that an entry can hold.
+abbrev pub HasHost : AccessPlace → State → Type 0
+HasHost Install s = host_frame s.host < 2 ^ 40
+HasHost _ s = Unit {0}
+
+-- The slot under look has one of the IDs.
+abbrev pub IsSlotOnList : AccessPlace → Type 0
+IsSlotOnList (Slot id field) = id ≤ 31
+IsSlotOnList _ = Unit {0}
 
 -- What holds of every hand that has a line without an answer.
 pub record Rests (h : Held) : Type 0 where

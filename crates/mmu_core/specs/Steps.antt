@@ -42,11 +42,15 @@ abbrev pub first_place : Sizes → Command → Place
 first_place z (Access gfn word op) = place.Access Slots
 first_place z (SetSlot id slot) = place.SetSlot (set_slot_first (slot_refusal z.pages id slot))
 
+-- where a line with this command stands, which is at its first place where it hasn't begun
+abbrev pub standing : Place → Sizes → Command → Place
+standing place.Between z command = first_place z command
+standing (place.Access p) z command = place.Access p
+standing (place.SetSlot p) z command = place.SetSlot p
+
 -- where the line of the hand's next step stands
 abbrev pub place_at : Place → Held → Place
-place_at place.Between h = first_place h.state.sizes (next_line h).command
-place_at (place.Access p) h = place.Access p
-place_at (place.SetSlot p) h = place.SetSlot p
+place_at p h = standing p h.state.sizes (line_at p h).command
 
 -- what the step of a place is to do for the command
 abbrev pub task_at : Place → Command → State → Task
@@ -76,15 +80,9 @@ tells_at _ _ s v = []
 abbrev pub task_of : Held → Task
 task_of h = task_at (place_at h.state.place h) (line_at h.state.place h).command h.state
 
--- Only the first slot may be set.
-abbrev pub MayFill : Place → State → Type 0
-MayFill (place.SetSlot (Fill field)) s = (s.actor ≡ Manager) × (s.has_set_slot ≡ false)
-MayFill _ s = Unit {0}
-
 -- The hand has a line without an answer, and the step is the next one of this line, in the order of its steps, at one of the words.
 pub record IsNext (h : Held) (k : Kind) : Type 0 where
   pub left : length h.answers < length h.lines
-  pub fills : MayFill (place_at h.state.place h) h.state
   pub is : k ≡ kind_of_task h.state.sizes (task_of h)
   pub inside : k.word < total (map_of h.state.sizes)
   pub small : k.new < 2 ^ 64

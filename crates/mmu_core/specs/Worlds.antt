@@ -1,5 +1,5 @@
 -- The worlds of the machine: its start, and what a list of steps leads to and tells.
-use Rattle.std.specs.Prelude.{◌≡◌, ◌+◌, ◌-◌, ◌*◌, ◌^◌, ◌<◌, ℕ, zero, suc, List, [], ◌∷◌, ◌++◌, All, length, map, true, nat_le, ◌==◌, if◌then◌else◌, slice_index}
+use Rattle.std.specs.Prelude.{◌≡◌, ◌+◌, ◌-◌, ◌*◌, ◌^◌, ◌<◌, ◌≤◌, ℕ, zero, suc, List, [], ◌∷◌, ◌++◌, All, length, map, true, nat_le, ◌==◌, if◌then◌else◌, slice_index}
 use Rattle.core_views.specs.declared.actor.Actor.{Actor}
 use Rattle.core_views.specs.declared.event.Event.{Event}
 use Rattle.core_views.specs.declared.kind.Kind.{Kind}
@@ -7,7 +7,7 @@ use Rattle.core_views.specs.declared.sizes.Sizes.{Sizes}
 use Rattle.core_views.specs.declared.trace.Line.{Line}
 use Rattle.core_views.specs.Held.{Held, Handful, first_held}
 use Rattle.core_views.specs.Sizes.{AreSizes, actor_at, actors_of}
-use Rattle.core_views.specs.Traces.{IsCommandFor}
+use Rattle.core_views.specs.Traces.{IsCommandFor, settings}
 use Rattle.core_views.specs.Whole.{lines_of}
 use Rattle.spte_words.specs.declared.area.Area.{Area}
 use Rattle.spte_words.specs.declared.area.Area.TheVariants.{Root, Slots, Seq, Count, RangeStart, RangeEnd, Lock, Pause, State, PoolMap, FrameMap, Log, Host, Role, Pool, Linear, Content}
@@ -50,6 +50,7 @@ start_hands z lines (suc n) = start_hands z lines n ++ first_held z (actor_at z 
 pub record IsStart (z : Sizes) (lines : List Line) (w : World Held) : Type 0 where
   pub sizes : AreSizes z
   pub allowed : All (λ line. IsCommandFor z line.actor line.command) lines
+  pub once : settings lines ≤ 1
   pub words : AreStartWords z w.words
   pub hands : w.hands ≡ start_hands z lines (actors_of z)
 

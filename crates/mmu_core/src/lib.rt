@@ -4,12 +4,16 @@
 ghost use Rattle.std.specs.Prelude.{◌≡◌};
 ghost use Rattle.core_views.specs.Sizes.{AreSizes};
 ghost use Rattle.mmu_core.specs.Tasks.{map_of};
+ghost use Rattle.spte_words.specs.Areas.{IsWordMap};
 
 mod access;
 mod outcome;
+mod set_slot;
 mod slot_words;
+mod step;
 
 pub use outcome::{Outcome, Task};
+pub use step::{advance, next_kind};
 
 use core_views::Sizes;
 use spte_words::WordMap;
@@ -17,7 +21,8 @@ use spte_words::WordMap;
 /// Where the words of a machine of these sizes stand.
 pub fn map_of(sizes: &Sizes) -> WordMap
     requires { AreSizes sizes.now }
-    ensures { result ≡ map_of sizes.now }
+    ensures is { result ≡ map_of sizes.now }
+    ensures bounds { IsWordMap result }
 {
     WordMap::new(
         sizes.pages,

@@ -2,9 +2,11 @@ ghost use Rattle.std.specs.Prelude.{◌≡◌, ◌≤◌, ◌<◌, ◌^◌};
 ghost use Rattle.mmu_core.specs.SlotWords.{field_number, field_word, leaf_of, may_write, slot_index};
 ghost use Rattle.core_views.specs.Traces.{IsSlotInRange};
 ghost use Rattle.spte_words.specs.HostWords.{host_frame};
+ghost use Rattle.spte_words.specs.Areas.{IsWordMap, size_of};
+ghost use Rattle.spte_words.specs.declared.area.Area.TheVariants as Area;
 
 use core_views::{Slot, SlotField};
-use spte_words::{HostWord, SlotFlags, Spte};
+use spte_words::{HostWord, SlotFlags, Spte, WordMap};
 
 fn field_number(field: SlotField) -> u64
     ensures { result ≡ field_number field }
@@ -19,13 +21,14 @@ fn field_number(field: SlotField) -> u64
 
 /// The pool's word that holds a field of the slot with this ID, in the slot
 /// set of a pool page.
-#[tactic(auto, unfolding(Rattle.spte_words.specs.Areas.pool_index))]
-pub(crate) fn slot_word(set: u64, id: u64, field: SlotField) -> u64
-    requires set { set < 2 ^ 32 }
+pub(crate) fn slot_word(map: &WordMap, set: u64, id: u64, field: SlotField) -> u64
+    requires map { IsWordMap map.now }
+    requires set { set < map.now.pool }
     requires id { id ≤ 31 }
-    ensures { result ≡ slot_index set id field }
+    ensures index { result ≡ slot_index set id field }
+    ensures within { result < size_of map.now Area.Pool }
 {
-    512 * set + (4 * id + field_number(field))
+    map.pool_index(set, 4 * id + field_number(field))
 }
 
 /// What a field's word holds of a live slot.

@@ -1,0 +1,160 @@
+//! The step that a hand allows, and the hand after it.
+ghost use Rattle.std.specs.Prelude.{◌≡◌, ◌≤◌, ◌<◌, ◌+◌, length};
+ghost use Rattle.core_views.specs.declared.kind.Kind.{Kind as KindOf};
+ghost use Rattle.core_views.specs.Sizes.{AreSizes};
+ghost use Rattle.core_views.specs.Traces.{IsCommandFor};
+ghost use Rattle.mmu_core.specs.Rests.{IsUnderWay, Rests, RestsAt};
+ghost use Rattle.mmu_core.specs.Steps.{Enabled, first_place, line_at, loads_at, next, outcome_at, place_at, standing, task_at};
+ghost use Rattle.mmu_core.specs.Tasks.{kind_of_task, map_of};
+ghost use Rattle.spte_words.specs.Areas.{size_of, total};
+
+use crate::outcome::{Outcome, Task};
+use crate::{access, map_of, set_slot};
+use core_views::{AccessPlace, AnsweredLine, Command, Hand, Kind, Line, Place, Sizes, State};
+
+// The line that the hand's next step is of: the one under way, or the next one.
+fn line_of(hand: &Hand) -> Line
+    requires { length hand.now.core.answers < length hand.now.core.lines }
+    ensures { result ≡ line_at hand.now.core.state.place hand.now.core }
+{
+    match hand.state().place {
+        Place::Between => match hand.next_line() {
+            Some(line) => line,
+            None => unreachable!(),
+        },
+        Place::Access(_) | Place::SetSlot(_) => hand.state().line,
+    }
+}
+
+// Where a line begins.
+fn first(sizes: &Sizes, line: &Line) -> Place
+    requires { IsCommandFor sizes.now line.now.actor line.now.command }
+    ensures { result ≡ first_place sizes.now line.now.command }
+{
+    match &line.command {
+        Command::Access { .. } => Place::Access(AccessPlace::Slots),
+        Command::SetSlot { id, slot } => Place::SetSlot(set_slot::first(sizes, *id, slot)),
+    }
+}
+
+// Where the line of the hand's next step stands.
+fn place_of(state: &State, line: &Line) -> Place
+    requires { IsCommandFor state.now.sizes line.now.actor line.now.command }
+    ensures { result ≡ standing state.now.place state.now.sizes line.now.command }
+{
+    match state.place {
+        Place::Between => first(&state.sizes, line),
+        Place::Access(_) | Place::SetSlot(_) => state.place,
+    }
+}
+
+// What the step of a place is to do.
+fn task(place: Place, state: &State, line: &Line) -> Task
+    requires sizes { AreSizes state.now.sizes }
+    requires line { IsCommandFor state.now.sizes line.now.actor line.now.command }
+    requires rests { RestsAt place line.now.command state.now }
+    requires begun { IsUnderWay place }
+    ensures task { result ≡ task_at place line.now.command state.now }
+    ensures within { result.index < size_of (map_of state.now.sizes) result.area }
+{
+    match (place, &line.command) {
+        (Place::Access(place), Command::Access { gfn, word, op }) => {
+            access::task(place, state, *gfn, *word, *op)
+        }
+        (Place::SetSlot(place), Command::SetSlot { id, slot }) => {
+            set_slot::task(place, &state.sizes, *id, slot)
+        }
+        _ => unreachable!(),
+    }
+}
+
+// The step as the words of the machine see it.
+fn kind_of(sizes: &Sizes, task: &Task) -> Kind
+    requires sizes { AreSizes sizes.now }
+    requires within { task.now.index < size_of (map_of sizes.now) task.now.area }
+    ensures is { result ≡ kind_of_task sizes.now task.now }
+    ensures inside { result.word < total (map_of sizes.now) }
+{
+    Kind {
+        code: task.kind.code(),
+        word: map_of(sizes).word_of(task.area, task.index),
+        old: task.expected,
+        new: task.written,
+        note: task.may_end,
+    }
+}
+
+/// The one step that the hand allows: the next one of its line, in the order
+/// of the line's steps.
+#[tactic(auto, unfolding(crate::specs::Steps::Enabled))]
+pub fn next_kind(hand: &Hand) -> Kind
+    requires left { length hand.now.core.answers < length hand.now.core.lines }
+    requires rests { Rests hand.now.core }
+    ensures { Enabled hand.now.core result }
+{
+    let state = hand.state();
+    let line = line_of(hand);
+    let task = task(place_of(state, &line), state, &line);
+    kind_of(&state.sizes, &task)
+}
+
+// Keeps what the step of a place found.
+fn load(place: Place, command: &Command, state: &mut State, found: u64)
+    requires sizes { AreSizes state.old.sizes }
+    requires rests { RestsAt place command.now state.old }
+    ensures { state.new ≡ loads_at place command.now state.old found }
+{
+    match (place, command) {
+        (Place::Access(place), Command::Access { .. }) => access::load(place, state, found),
+        (Place::SetSlot(place), Command::SetSlot { .. }) => set_slot::load(place, state),
+        _ => {}
+    }
+}
+
+// Where the line stands after the step of a place.
+fn outcome(place: Place, command: &Command, state: &State, found: u64) -> Outcome
+    requires sizes { AreSizes state.now.sizes }
+    requires rests { RestsAt place command.now state.now }
+    ensures { result ≡ outcome_at place command.now state.now found }
+{
+    match (place, command) {
+        (Place::Access(place), Command::Access { gfn, op, .. }) => {
+            access::outcome(place, state, *gfn, *op, found)
+        }
+        (Place::SetSlot(place), Command::SetSlot { .. }) => set_slot::outcome(place),
+        _ => Outcome::Goes(place),
+    }
+}
+
+/// Makes the effect of the hand's next step on the hand, where the step
+/// answered `found`.
+#[tactic(auto, unfolding(crate::specs::Steps::next))]
+pub fn advance(hand: &mut Hand, found: u64)
+    requires left { length hand.old.core.answers < length hand.old.core.lines }
+    requires rests { Rests hand.old.core }
+    requires room { 0 < hand.old.room }
+    ensures core { (kind : KindOf) → hand.new.core ≡ next hand.old.core kind found }
+    ensures room { length hand.new.core.answers + hand.new.room ≡ length hand.old.core.answers + hand.old.room }
+{
+    let line = line_of(hand);
+    let mut state = *hand.state();
+    let place = place_of(&state, &line);
+    let outcome = outcome(place, &line.command, &state, found);
+    load(place, &line.command, &mut state, found);
+    state.line = line;
+    match outcome {
+        Outcome::Goes(place) => {
+            state.place = place;
+            hand.set_state(state);
+        }
+        Outcome::Ends(answer) => {
+            state.place = Place::Between;
+            hand.set_state(state);
+            hand.answer(AnsweredLine {
+                number: line.number,
+                actor: line.actor,
+                answer,
+            });
+        }
+    }
+}

@@ -1,0 +1,36 @@
+-- What one act of a seat does to the world that it tells, and to the steps that it tells.
+use Rattle.std.specs.Prelude.{◌≡◌, ◌+◌, ℕ, List, [], ◌∷◌, ◌++◌, length, map, slice_index_or, Option, Some, IfSome}
+use Rattle.core_views.specs.declared.kind.Kind.{Kind}
+use Rattle.core_views.specs.Held.{Held, Handful}
+use Rattle.mmu_core.specs.Machine.{Step, World, May, answered, effect}
+use Rattle.mmu_core.specs.Steps.{mmu, nobody}
+
+abbrev pub step_by : ℕ → Kind → Step Kind
+step_by actor kind = record { actor = actor; kind = kind }
+
+-- Where the world was told, the actor may make this step there, which answers so, and the world behind it is told.
+abbrev pub Tells : Option (World Held) → ℕ → Kind → ℕ → Option (World Held) → Type 0
+Tells before actor kind answer after = IfSome before (λ w. May mmu w (step_by actor kind) × (answered mmu w kind ≡ answer) × (after ≡ Some (effect mmu w (step_by actor kind))))
+
+-- Where the steps so far were told, they are told with this one.
+abbrev pub Adds : Option (List (Step Kind)) → ℕ → Kind → Option (List (Step Kind)) → Type 0
+Adds before actor kind after = IfSome before (λ ss. after ≡ Some (ss ++ step_by actor kind ∷ []))
+
+-- An answer takes the room of one.
+abbrev pub KeepsRoom : Handful → Handful → Type 0
+KeepsRoom before after = length after.core.answers + after.room ≡ length before.core.answers + before.room
+
+-- a hand without its room
+abbrev pub core_of : Handful → Held
+core_of h = h.core
+
+-- the world of these words and hands
+abbrev pub world_of : List ℕ → List Handful → World Held
+world_of words hands = record { words = words; hands = map core_of hands }
+
+abbrev pub no_hand : Handful
+no_hand = record { core = nobody; room = 0 }
+
+-- the hand of the actor at a place
+abbrev pub handful_in : List Handful → ℕ → Handful
+handful_in hands actor = slice_index_or hands actor no_hand
