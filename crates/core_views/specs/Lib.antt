@@ -11,5 +11,6 @@ pub mod Lawful
 pub mod Text
 pub mod Whole
 pub mod FlatHistory
+pub mod Alone
 pub mod Need
 pub mod Laws

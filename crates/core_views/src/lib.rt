@@ -13,7 +13,7 @@ mod trace;
 pub use actor::Actor;
 pub use answer::{Answer, Answered, AnsweredLine, Refusal};
 pub use event::{Event, EventKind};
-pub use laws::flat_history_is_lawful;
+pub use laws::{alone_is_flat, flat_history_is_lawful};
 pub use no_memory::NoMemory;
 pub use sequence::Sequence;
 pub use trace::{Command, Header, Line, Lines, Op, Slot, Trace, Words};
