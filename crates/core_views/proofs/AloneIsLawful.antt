@@ -24,7 +24,7 @@ use Rattle.core_views.specs.FlatHistory.{by, answers, accessing, doing, rest_of,
 use Rattle.core_views.proofs.SameActor.{changed_here}
 
 -- No line of another actor is under way.
-abbrev OthersIdle : Actor → Flat → Type 0
+abbrev pub OthersIdle : Actor → Flat → Type 0
 OthersIdle actor f = (i : Actor) → is_same actor i ≡ false → (f.under i).stage ≡ Idle
 
 -- No line is under way.
@@ -32,17 +32,17 @@ abbrev pub AllIdle : Flat → Type 0
 AllIdle f = (i : Actor) → (f.under i).stage ≡ Idle
 
 -- the facts, the actor and its line under way, and that no other line is
-record IsAt (actor : Actor) (facts : Facts) (u : LineUnderWay) (f : Flat) : Type 0 where
-  facts_are : f.facts ≡ facts
-  line_is : f.under actor ≡ u
-  others : OthersIdle actor f
+pub record IsAt (actor : Actor) (facts : Facts) (u : LineUnderWay) (f : Flat) : Type 0 where
+  pub facts_are : f.facts ≡ facts
+  pub line_is : f.under actor ≡ u
+  pub others : OthersIdle actor f
 
 unchanged : (b : Bool) (x y : LineUnderWay) → b ≡ false → y.stage ≡ Idle → (cond b x y).stage ≡ Idle
 unchanged true x y e idle = cc
 unchanged false x y e idle = idle
 
 -- An event of the actor leads on to what it makes of the line.
-step : (actor : Actor) (kind : EventKind) (facts : Facts) (u : LineUnderWay) (f : Flat) → IsAt actor facts u f → IsAt actor (facts_after kind facts) (line_after kind facts u) (after (record { actor = actor; kind = kind }) f)
+pub step : (actor : Actor) (kind : EventKind) (facts : Facts) (u : LineUnderWay) (f : Flat) → IsAt actor facts u f → IsAt actor (facts_after kind facts) (line_after kind facts u) (after (record { actor = actor; kind = kind }) f)
 step actor kind facts u f at = record {
   facts_are = ap (facts_after kind) at.facts_are;
   line_is = changed_here actor (line_after kind f.facts (f.under actor)) f.under ∙ rw (at.facts_are, at.line_is) refl;
@@ -52,7 +52,7 @@ step actor kind facts u f at = record {
 allowed : (z : Sizes) (actor : Actor) (kind : EventKind) (facts : Facts) (u : LineUnderWay) (f : Flat) → IsAt actor facts u f → IsAllowed z facts actor u kind → IsAllowed z f.facts actor (f.under actor) kind
 allowed z actor kind facts u f at may = rw (at.facts_are, at.line_is) may
 
-at_end : (b : Bool) (x y : LineUnderWay) → x.stage ≡ Idle → (b ≡ false → y.stage ≡ Idle) → (cond b x y).stage ≡ Idle
+pub at_end : (b : Bool) (x y : LineUnderWay) → x.stage ≡ Idle → (b ≡ false → y.stage ≡ Idle) → (cond b x y).stage ≡ Idle
 at_end true x y here there = here
 at_end false x y here there = there refl
 
@@ -106,7 +106,7 @@ alone_closes z line f idle =
     more z (by line (Begun line)) (looks line line.command ++ rest_of z line Fresh f.facts) f (idle line.actor, refl)
     (doing_closes z line line.command f.facts (after (by line (Begun line)) f) refl (step line.actor (Begun line) f.facts (f.under line.actor) f start))
 
-lawful_append : (z : Sizes) (xs ys : List Event) (f : Flat) → IsLawful z f xs → IsLawful z (after_all xs f) ys → IsLawful z f (xs ++ ys)
+pub lawful_append : (z : Sizes) (xs ys : List Event) (f : Flat) → IsLawful z f xs → IsLawful z (after_all xs f) ys → IsLawful z f (xs ++ ys)
 lawful_append z [] ys f front back = back
 lawful_append z (x ∷ xs) ys f front back = (front.0, lawful_append z xs ys (after x f) front.1 back)
 

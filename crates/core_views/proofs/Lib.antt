@@ -2,3 +2,8 @@ pub mod SameActor
 pub mod AloneIsLawful
 pub mod Texts
 pub mod AloneIsWhole
+pub mod Looks
+pub mod FlatShows
+pub mod NextAlone
+pub mod AloneIsFlat
+pub mod StandsAlone

@@ -1,6 +1,7 @@
 -- What holds of the definitions alone.
 use Rattle.std.specs.Prelude.{◌≡◌, ◌-◌, ◌^◌, ℕ, List, [], ◌∷◌, Bool, true, false, codes}
 use Rattle.core_views.specs.declared.actor.Actor.TheVariants.{Vcpu, Manager}
+use Rattle.core_views.specs.declared.event.Event.{Event}
 use Rattle.core_views.specs.declared.trace.Command.TheVariants.{Access, SetSlot}
 use Rattle.core_views.specs.declared.sizes.Sizes.{Sizes}
 use Rattle.core_views.specs.declared.trace.Line.{Line}
@@ -11,7 +12,8 @@ use Rattle.core_views.specs.Flat.{first_facts, first_flat}
 use Rattle.core_views.specs.Lawful.{IsLawful}
 use Rattle.core_views.specs.Whole.{IsWhole}
 use Rattle.core_views.specs.FlatHistory.{one_by_one}
-use Rattle.core_views.specs.Text.{text}
+use Rattle.core_views.specs.Alone.{StandsAlone, without_looks}
+use Rattle.core_views.specs.Text.{text, answers_of}
 
 -- Lines that run alone, one after another, are lawful.
 abbrev pub FlatIsLawful : Type 0
@@ -20,6 +22,23 @@ FlatIsLawful = (z : Sizes) (lines : List Line) → IsLawful z first_flat (one_by
 -- They are begun and answered, each once, in the order of each actor.
 abbrev pub FlatIsWhole : Type 0
 FlatIsWhole = (z : Sizes) (lines : List Line) → IsWhole (one_by_one z lines first_facts) lines
+
+-- Each of them stands alone, in their order.
+abbrev pub FlatStandsAlone : Type 0
+FlatStandsAlone = (z : Sizes) (lines : List Line) → StandsAlone (one_by_one z lines first_facts) lines
+
+-- A lawful history in which each line stands alone is the flat history, but for what the lines looked at.
+abbrev pub AloneIsFlat : Type 0
+AloneIsFlat = (z : Sizes) (lines : List Line) (h : List Event) → IsLawful z first_flat h → StandsAlone h lines → without_looks h ≡ without_looks (one_by_one z lines first_facts)
+
+-- So it answers and prints the same.
+abbrev pub AloneAnswersAsFlat : Type 0
+AloneAnswersAsFlat = (z : Sizes) (lines : List Line) (h : List Event) → IsLawful z first_flat h → StandsAlone h lines
+    → (answers_of h ≡ answers_of (one_by_one z lines first_facts)) × (text h ≡ text (one_by_one z lines first_facts))
+
+-- And each line is begun and answered in it, once, in the order of its actor.
+abbrev pub AloneIsWhole : Type 0
+AloneIsWhole = (z : Sizes) (lines : List Line) (h : List Event) → IsLawful z first_flat h → StandsAlone h lines → IsWhole h lines
 
 abbrev pub example_sizes : Sizes
 example_sizes = record { pages = 128; frames = 128; words = 2; pool = 4; vcpus = 2; hosts = 1; workers = 0 }

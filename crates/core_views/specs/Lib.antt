@@ -11,6 +11,7 @@ pub mod Lawful
 pub mod Text
 pub mod Whole
 pub mod FlatHistory
+pub mod Alone
 pub mod Need
 pub mod Kinds
 pub mod Held

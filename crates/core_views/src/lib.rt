@@ -19,7 +19,7 @@ pub use answer::{Answer, Answered, AnsweredLine, Refusal};
 pub use event::{Event, EventKind};
 pub use hand::{Closing, Hand, Hands, Seen, SlotLook, State};
 pub use kind::{Kind, Operation, StepKind};
-pub use laws::flat_history_is_lawful;
+pub use laws::{alone_is_flat, flat_history_is_lawful};
 pub use no_memory::NoMemory;
 pub use place::{AccessPlace, Place, SetSlotPlace, SlotField};
 pub use sequence::Sequence;

@@ -5,6 +5,7 @@ use Rattle.core_views.specs.Flat.{first_facts, first_flat}
 use Rattle.core_views.specs.Text.{line_text}
 use Rattle.core_views.proofs.AloneIsLawful.{one_by_one_lawful}
 use Rattle.core_views.proofs.AloneIsWhole.{one_by_one_whole}
+use Rattle.core_views.proofs.StandsAlone.{one_by_one_stands}
 use Rattle.core_views.proofs.laws.flat_history_is_lawful.Goals as goal
 
 pub returns-clause-lawful : goal.returns-clause-lawful
@@ -12,6 +13,9 @@ returns-clause-lawful c h lines = one_by_one_lawful h lines first_flat (λ i. re
 
 pub returns-clause-whole : goal.returns-clause-whole
 returns-clause-whole c h lines = one_by_one_whole h lines first_facts
+
+pub returns-clause-alone : goal.returns-clause-alone
+returns-clause-alone c h lines = one_by_one_stands h lines first_facts
 
 -- the numbers that the example prints, in digits
 two_digits : (n : ℕ) → 10 ≤ n → n < 100 → decimal n ≡ (48 + n / 10) ∷ (48 + n % 10) ∷ []
