@@ -4,5 +4,6 @@ pub mod SlotWords
 pub mod AccessSteps
 pub mod SetSlotSteps
 pub mod Steps
-pub mod Worlds
 pub mod Rests
+pub mod Enabled
+pub mod Worlds

@@ -16,16 +16,13 @@ use Rattle.core_views.specs.declared.trace.Command.TheVariants.{Access, SetSlot}
 use Rattle.core_views.specs.declared.trace.Line.{Line}
 use Rattle.core_views.specs.Flat.{no_line}
 use Rattle.core_views.specs.Held.{Held, first_held}
-use Rattle.core_views.specs.Kinds.{after, answer}
 use Rattle.core_views.specs.Slots.{slot_refusal}
-use Rattle.spte_words.specs.Areas.{total}
 use Rattle.mmu_core.specs.declared.outcome.Outcome.{Outcome}
 use Rattle.mmu_core.specs.declared.outcome.Outcome.TheVariants.{Goes}
 use Rattle.mmu_core.specs.declared.outcome.Task.{Task}
 use Rattle.mmu_core.specs.AccessSteps.{access_loads, access_outcome, access_task, access_tells}
-use Rattle.mmu_core.specs.Machine.{Core}
 use Rattle.mmu_core.specs.SetSlotSteps.{set_slot_first, set_slot_loads, set_slot_outcome, set_slot_task, set_slot_tells}
-use Rattle.mmu_core.specs.Tasks.{answering, answers_after, kind_of_task, map_of, no_task, place_after}
+use Rattle.mmu_core.specs.Tasks.{answering, answers_after, no_task, place_after}
 
 -- the first of a hand's lines that has no answer
 abbrev pub next_line : Held → Line
@@ -80,16 +77,6 @@ tells_at _ _ s v = []
 abbrev pub task_of : Held → Task
 task_of h = task_at (place_at h.state.place h) (line_at h.state.place h).command h.state
 
--- The hand has a line without an answer, and the step is the next one of this line, in the order of its steps, at one of the words.
-pub record IsNext (h : Held) (k : Kind) : Type 0 where
-  pub left : length h.answers < length h.lines
-  pub is : k ≡ kind_of_task h.state.sizes (task_of h)
-  pub inside : k.word < total (map_of h.state.sizes)
-  pub small : k.new < 2 ^ 64
-
-unfoldable pub Enabled : Held → Kind → Type 0
-Enabled h k = IsNext h k
-
 -- the hand after a step of this line, at this place, that found v
 abbrev pub held_after : Line → Place → Held → ℕ → Held
 held_after line p h v = record {
@@ -119,6 +106,3 @@ events_of h v = map (λ kind. record { actor = h.state.actor; kind = kind }) (ev
 abbrev pub nobody : Held
 nobody = first_held (record { pages = 0; frames = 0; words = 0; pool = 0; vcpus = 0; hosts = 0; workers = 0 }) Manager []
 
--- the machine of this project
-abbrev pub mmu : Core Held Kind
-mmu = record { Enabled = Enabled; word = λ k. k.word; after = after; answer = answer; next = next; nobody = nobody }

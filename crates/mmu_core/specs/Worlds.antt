@@ -14,7 +14,8 @@ use Rattle.spte_words.specs.declared.area.Area.TheVariants.{Root, Slots, Seq, Co
 use Rattle.spte_words.specs.Areas.{place, size_of, total}
 use Rattle.spte_words.specs.HostWords.{host_word}
 use Rattle.mmu_core.specs.Machine.{World, Step, Leads, effect, answered, hand_in}
-use Rattle.mmu_core.specs.Steps.{Enabled, events_of, mmu}
+use Rattle.mmu_core.specs.Enabled.{mmu}
+use Rattle.mmu_core.specs.Steps.{events_of}
 use Rattle.mmu_core.specs.Tasks.{map_of}
 
 -- the lesser of two numbers

@@ -1,10 +1,10 @@
 //! The step that a hand allows, and the hand after it.
 ghost use Rattle.std.specs.Prelude.{◌≡◌, ◌≤◌, ◌<◌, ◌+◌, length};
-ghost use Rattle.core_views.specs.declared.kind.Kind.{Kind as KindOf};
 ghost use Rattle.core_views.specs.Sizes.{AreSizes};
 ghost use Rattle.core_views.specs.Traces.{IsCommandFor};
 ghost use Rattle.mmu_core.specs.Rests.{IsUnderWay, Rests, RestsAt};
-ghost use Rattle.mmu_core.specs.Steps.{Enabled, first_place, line_at, loads_at, next, outcome_at, place_at, standing, task_at};
+ghost use Rattle.mmu_core.specs.Enabled.{Enabled};
+ghost use Rattle.mmu_core.specs.Steps.{first_place, line_at, loads_at, next, outcome_at, place_at, standing, task_at};
 ghost use Rattle.mmu_core.specs.Tasks.{kind_of_task, map_of};
 ghost use Rattle.spte_words.specs.Areas.{size_of, total};
 
@@ -86,7 +86,7 @@ fn kind_of(sizes: &Sizes, task: &Task) -> Kind
 
 /// The one step that the hand allows: the next one of its line, in the order
 /// of the line's steps.
-#[tactic(auto, unfolding(crate::specs::Steps::Enabled))]
+#[tactic(auto, unfolding(crate::specs::Enabled::Enabled))]
 pub fn next_kind(hand: &Hand) -> Kind
     requires left { length hand.now.core.answers < length hand.now.core.lines }
     requires rests { Rests hand.now.core }
@@ -126,14 +126,13 @@ fn outcome(place: Place, command: &Command, state: &State, found: u64) -> Outcom
     }
 }
 
-/// Makes the effect of the hand's next step on the hand, where the step
-/// answered `found`.
-#[tactic(auto, unfolding(crate::specs::Steps::next))]
-pub fn advance(hand: &mut Hand, found: u64)
-    requires left { length hand.old.core.answers < length hand.old.core.lines }
-    requires rests { Rests hand.old.core }
+/// Makes the effect of the hand's step on the hand, where the step answered
+/// `found`.
+#[tactic(auto, unfolding(crate::specs::Steps::next, crate::specs::Enabled::Enabled))]
+pub fn advance(hand: &mut Hand, _kind: Kind, found: u64)
+    requires enabled { Enabled hand.old.core _kind }
     requires room { 0 < hand.old.room }
-    ensures core { (kind : KindOf) → hand.new.core ≡ next hand.old.core kind found }
+    ensures core { hand.new.core ≡ next hand.old.core _kind found }
     ensures room { length hand.new.core.answers + hand.new.room ≡ length hand.old.core.answers + hand.old.room }
 {
     let line = line_of(hand);

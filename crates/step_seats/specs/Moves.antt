@@ -3,7 +3,8 @@ use Rattle.std.specs.Prelude.{◌≡◌, ◌+◌, ℕ, List, [], ◌∷◌, ◌+
 use Rattle.core_views.specs.declared.kind.Kind.{Kind}
 use Rattle.core_views.specs.Held.{Held, Handful}
 use Rattle.mmu_core.specs.Machine.{Step, World, May, answered, effect}
-use Rattle.mmu_core.specs.Steps.{mmu, nobody}
+use Rattle.mmu_core.specs.Enabled.{mmu}
+use Rattle.mmu_core.specs.Steps.{nobody}
 
 abbrev pub step_by : ℕ → Kind → Step Kind
 step_by actor kind = record { actor = actor; kind = kind }

@@ -1,5 +1,6 @@
 ghost use Rattle.std.specs.Prelude.{◌≡◌, ◌<◌, OnOk};
-ghost use Rattle.mmu_core.specs.Steps.{Enabled, next};
+ghost use Rattle.mmu_core.specs.Enabled.{Enabled};
+ghost use Rattle.mmu_core.specs.Steps.{next};
 ghost use Rattle.mmu_core.specs.Worlds.{HandReached, Possible};
 ghost use Rattle.step_seats.specs.Moves.{Adds, KeepsRoom, Tells};
 
