@@ -7,3 +7,5 @@ pub mod Steps
 pub mod Rests
 pub mod Enabled
 pub mod Worlds
+pub mod View
+pub mod Invariant
