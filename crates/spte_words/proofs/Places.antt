@@ -1,12 +1,13 @@
 -- Places in the areas: where each area begins, that places are apart, and that they are words of the map.
 use Rattle.std.proofs.Common.{◌≡◌, ◌+◌, ◌*◌, ◌/◌, ◌-◌, ◌^◌, ◌<◌, ◌≤◌, ℕ, zero, suc, List, [], ◌∷◌, Some, None, refl, arith, take, sym, ap, ◌∙◌, subst, ◌⊎◌, inl, inr}
 use Rattle.std.specs.List.{sum_by, slice_get}
-use Rattle.std.proofs.lemmas.Bool.{cases_order}
-use Rattle.std.proofs.lemmas.List.Sums.{sum_by-cons}
+use Rattle.std.proofs.lemmas.Bool.{cases_lt, cases_order}
+use Rattle.std.proofs.lemmas.List.Sums.{sum_by-cons, sum_by_more}
+use Rattle.std.proofs.lemmas.Option.{slice_get_within, get_or_from_slice_get}
 use Rattle.spte_words.specs.declared.area.Area.{Area}
 use Rattle.spte_words.specs.declared.area.Area.TheVariants.{Root, Slots, Seq, Count, RangeStart, RangeEnd, Lock, Pause, State, PoolMap, FrameMap, Log, Host, Role, Pool, Linear, Content}
 use Rattle.spte_words.specs.declared.word_map.WordMap.{WordMap}
-use Rattle.spte_words.specs.Areas.{IsWordMap, words_of_bits, areas, number_of, size_of, place, total}
+use Rattle.spte_words.specs.Areas.{IsWordMap, words_of_bits, areas, number_of, size_of, place, total, StandsSomewhere}
 
 some_same : {X : Type 0} (x y : X) → Some x ≡ Some y → x ≡ y
 some_same x y e = cc
@@ -23,6 +24,9 @@ sum_within : {X : Type 0} (f : X → ℕ) (xs : List X) (m : ℕ) (x : X) → sl
 sum_within f [] m x at = absurd (cc)
 sum_within f (y ∷ ys) zero x at = omega (arith, sum_by-cons f y ys, ap f (some_same y x at))
 sum_within f (y ∷ ys) (suc m) x at = omega (arith, sum_by-cons f y ys, sum_by-cons f y (take m ys), sum_within f ys m x at)
+
+sum_next : {X : Type 0} (f : X → ℕ) (xs : List X) (m : ℕ) (x : X) → slice_get xs m ≡ Some x → sum_by f (take (m + 1) xs) ≡ sum_by f (take m xs) + f x
+sum_next f xs m x at = sum_by_more f xs m x (slice_get_within xs m x at) ∙ ap (λ y. sum_by f (take m xs) + f y) (get_or_from_slice_get xs m x x at)
 
 -- each area stands in the order at its number
 pub at_number : (a : Area) → slice_get areas (number_of a) ≡ Some a
@@ -78,3 +82,36 @@ places_apart m a b i j within_a within_b e = order (cases_order (number_of a) (n
     order (inl n) = same (same_number a b n)
     order (inr (inl lt)) = absurd (omega (arith, areas_apart m a b lt, place_at m a i, place_at m b j, place_at m a (size_of m a)))
     order (inr (inr lt)) = absurd (omega (arith, areas_apart m b a lt, place_at m a i, place_at m b j, place_at m b (size_of m b)))
+
+-- the areas follow one another
+pub first_place : (m : WordMap) → place m Root 0 ≡ 0
+unfolding place
+first_place m = refl
+
+pub next_place : (m : WordMap) (a b : Area) → number_of b ≡ number_of a + 1 → place m b 0 ≡ place m a (size_of m a)
+unfolding place
+next_place m a b after = omega (arith, ap (λ n. sum_by (size_of m) (take n areas)) after, sum_next (size_of m) areas (number_of a) a (at_number a))
+
+pub last_place : (m : WordMap) → place m Content (size_of m Content) ≡ total m
+unfolding place total
+last_place m = omega arith
+
+-- each word below the total stands in some area
+pub word_stands : (m : WordMap) (word : ℕ) → word < total m → StandsSomewhere m word
+word_stands m word below = last (on Linear Content refl (on Pool Linear refl (on Role Pool refl (on Host Role refl (on Log Host refl (on FrameMap Log refl (on PoolMap FrameMap refl (on State PoolMap refl (on Pause State refl (on Lock Pause refl (on RangeEnd Lock refl (on RangeStart RangeEnd refl (on Count RangeStart refl (on Seq Count refl (on Slots Seq refl (on Root Slots refl (inr (omega (arith, first_place m)))))))))))))))))))
+  where
+    here : (a : Area) → place m a 0 ≤ word → word < place m a (size_of m a) → StandsSomewhere m word
+    here a from to = record { area = a; i = word - place m a 0; within = omega (arith, place_at m a (size_of m a)); at = omega (arith, place_at m a (word - place m a 0)) }
+
+    split : (a b : Area) → number_of b ≡ number_of a + 1 → place m a 0 ≤ word → (word < place m a (size_of m a)) ⊎ (place m a (size_of m a) ≤ word) → StandsSomewhere m word ⊎ (place m b 0 ≤ word)
+    split a b after from (inl to) = inl (here a from to)
+    split a b after from (inr past) = inr (omega (arith, next_place m a b after))
+
+    -- in area a, or at least where the next one begins
+    on : (a b : Area) → number_of b ≡ number_of a + 1 → StandsSomewhere m word ⊎ (place m a 0 ≤ word) → StandsSomewhere m word ⊎ (place m b 0 ≤ word)
+    on a b after (inl stands) = inl stands
+    on a b after (inr from) = split a b after from (cases_lt word (place m a (size_of m a)))
+
+    last : StandsSomewhere m word ⊎ (place m Content 0 ≤ word) → StandsSomewhere m word
+    last (inl stands) = stands
+    last (inr from) = here Content from (omega (arith, last_place m))
