@@ -28,6 +28,7 @@ fn entries_are_read_by_level(rt: HostRuntime) -> Result<(), Fail> {
 }
 
 #[test]
+#[tactic(auto, using(crate::proofs::ReadsEntries::leaf_frame))]
 fn children_of_a_large_leaf(rt: HostRuntime) -> Result<(), Fail> {
     let huge = Spte::leaf(3, 0x40000, false, true, true);
     let child = huge.child(3, 2);
