@@ -1,5 +1,5 @@
 -- A bit is read where it was set: a word is what lies below the bit, the bit, and what lies above it.
-use Rattle.std.proofs.Common.{◌≡◌, ◌+◌, ◌*◌, ◌/◌, ◌%◌, ◌^◌, ◌<◌, ◌≤◌, ℕ, true, false, refl, arith, ap, ◌∙◌, eq-eqb}
+use Rattle.std.proofs.Common.{◌≡◌, ◌+◌, ◌*◌, ◌/◌, ◌%◌, ◌^◌, ◌<◌, ◌≤◌, ℕ, true, false, arith, ap, ◌∙◌, eq-eqb}
 use Rattle.std.specs.Prelude.{Bool, if◌then◌else◌, ◌==◌}
 use Rattle.std.proofs.lemmas.Nat.{div-mul-add}
 use Rattle.std.proofs.lemmas.Bool.Decides.{nat_tests}

@@ -1,5 +1,5 @@
 -- Where each word of the machine stands: areas that follow one another, and places in them.
-use Rattle.std.specs.Prelude.{◌+◌, ◌*◌, ◌/◌, ◌≤◌, ℕ, List, [], ◌∷◌, take}
+use Rattle.std.specs.Prelude.{◌+◌, ◌*◌, ◌/◌, ◌<◌, ◌≤◌, ◌≡◌, ℕ, List, [], ◌∷◌, take}
 use Rattle.std.specs.List.{sum_by}
 use Rattle.spte_words.specs.declared.area.Area.{Area}
 use Rattle.spte_words.specs.declared.area.Area.TheVariants.{Root, Slots, Seq, Count, RangeStart, RangeEnd, Lock, Pause, State, PoolMap, FrameMap, Log, Host, Role, Pool, Linear, Content}
@@ -70,6 +70,13 @@ place m area i = sum_by (size_of m) (take (number_of area) areas) + i
 -- how many words there are
 unfoldable pub total : WordMap → ℕ
 total m = sum_by (size_of m) areas
+
+-- The word is some area's word.
+pub record StandsSomewhere (m : WordMap) (word : ℕ) : Type 0 where
+  pub area : Area
+  pub i : ℕ
+  pub within : i < size_of m area
+  pub at : place m area i ≡ word
 
 -- word `word` of a frame, in the area Content
 unfoldable pub content_index : WordMap → ℕ → ℕ → ℕ

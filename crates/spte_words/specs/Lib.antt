@@ -3,3 +3,4 @@ pub mod Entries
 pub mod HostWords
 pub mod Flags
 pub mod Areas
+pub mod Laws

@@ -5,13 +5,19 @@
 mod area;
 mod bit;
 mod host_word;
+mod laws;
 mod slot_flags;
 mod spte;
 mod spte_kind;
+#[cfg(test)]
+mod tests;
 mod word_map;
 
 pub use area::Area;
 pub use host_word::HostWord;
+pub use laws::{
+    entries_tell_what_they_are, host_words_and_flags_tell_what_they_are, places_are_apart,
+};
 pub use slot_flags::SlotFlags;
 pub use spte::Spte;
 pub use spte_kind::SpteKind;

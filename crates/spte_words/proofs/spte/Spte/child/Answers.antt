@@ -1,5 +1,5 @@
-use Rattle.std.proofs.Common.{◌*◌, ◌-◌, ◌<◌, ◌^◌, arith}
-use Rattle.spte_words.specs.Entries.{child_word, level_span}
+use Rattle.std.proofs.Common.{arith}
+use Rattle.spte_words.specs.Entries.{child_word}
 use Rattle.spte_words.proofs.Spans.{child_within}
 use Rattle.spte_words.proofs.spte.Spte.child.Goals as goal
 
