@@ -9,3 +9,4 @@ pub mod Enabled
 pub mod Worlds
 pub mod View
 pub mod Invariant
+pub mod FlatInvariant
