@@ -1,3 +1,4 @@
 pub mod Columns
 pub mod LinesKept
 pub mod Stepping
+pub mod Unset
