@@ -64,7 +64,7 @@ same_unset : (pool : ℕ → ℕ) (h s : State) → s.actor ≡ h.actor → s.ha
 same_unset pool h s actor set unset = λ is none. unset (sym actor ∙ is) (sym set ∙ none)
 
 -- the fields of a slot tell it
-same_slot : (x y : SlotOf) → x.base ≡ y.base → x.pages ≡ y.pages → x.host ≡ y.host → x.read_only ≡ y.read_only → x ≡ y
+pub same_slot : (x y : SlotOf) → x.base ≡ y.base → x.pages ≡ y.pages → x.host ≡ y.host → x.read_only ≡ y.read_only → x ≡ y
 same_slot x y base pages host read_only = λ t. record { base = base t; pages = pages t; host = host t; read_only = read_only t }
 
 -- Behind a slot that doesn't hold the guest frame the next one is looked at.

@@ -1,4 +1,6 @@
 pub mod Columns
 pub mod LinesKept
 pub mod Stepping
+pub mod Unset
 pub mod AccessKept
+pub mod SetSlotKept
