@@ -4,3 +4,5 @@ pub mod Stepping
 pub mod Unset
 pub mod AccessKept
 pub mod SetSlotKept
+pub mod Kept
+pub mod Views
