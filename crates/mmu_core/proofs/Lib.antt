@@ -6,3 +6,4 @@ pub mod AccessKept
 pub mod SetSlotKept
 pub mod Kept
 pub mod Views
+pub mod RestsKept

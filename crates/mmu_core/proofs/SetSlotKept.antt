@@ -52,7 +52,7 @@ use Rattle.mmu_core.proofs.Unset.{no_slot_live, setting_is_managers}
 abbrev NoneLive : (ℕ → ℕ) → Type 0
 NoneLive pool = (j : ℕ) → j ≤ 31 → live_at pool published_set j ≡ false
 
-is_number : (f : SlotField) → field_number f ≤ 3
+pub is_number : (f : SlotField) → field_number f ≤ 3
 is_number field.Base = omega arith
 is_number field.Pages = omega arith
 is_number field.Host = omega arith
@@ -150,7 +150,7 @@ filled z v a line id slot f x o S I low not_flags holds =
     (subst (λ c. Holds z other (v.words area.Host) (place_after o) c (behind h line h.state o).state) (sym S.command_is) holds)
     (λ is unset j below. after_ j below)
 
-not_refused : (pages id : ℕ) (slot : Slot) → slot_refusal pages id slot ≡ None → (id ≤ 31) × (slot.host + slot.pages ≤ pages)
+pub not_refused : (pages id : ℕ) (slot : Slot) → slot_refusal pages id slot ≡ None → (id ≤ 31) × (slot.host + slot.pages ≤ pages)
 not_refused pages id slot = by (nat_lt 31 id) (nat_lt (2 ^ 36) (slot.base + slot.pages)) (nat_lt pages (slot.host + slot.pages)) (λ e. grind (arith, nat_tests, e)) (λ e. grind (arith, nat_tests, e))
   where
     by : (high past over : Bool) → (high ≡ false → id ≤ 31) → (over ≡ false → slot.host + slot.pages ≤ pages) → (if high then Some BadId else if past || over then Some TooLarge else None) ≡ None → (id ≤ 31) × (slot.host + slot.pages ≤ pages)
