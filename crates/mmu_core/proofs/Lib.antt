@@ -7,3 +7,4 @@ pub mod SetSlotKept
 pub mod Kept
 pub mod Views
 pub mod RestsKept
+pub mod Worlds
