@@ -8,3 +8,4 @@ pub mod Kept
 pub mod Views
 pub mod RestsKept
 pub mod Worlds
+pub mod Starts
