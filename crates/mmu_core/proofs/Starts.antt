@@ -2,8 +2,11 @@
 use Rattle.std.proofs.Common.{◌≡◌, ◌≢◌, ◌⊎◌, inl, inr, ◌<◌, ◌≤◌, ◌+◌, ◌-◌, ◌*◌, ◌^◌, ℕ, zero, suc, List, [], ◌∷◌, ◌++◌, length, length-append, get_or, refl, sym, subst, ap, ◌∙◌, arith}
 use Rattle.std.proofs.Math.Logic.{∥∥₁_elim}
 use Rattle.std.proofs.Props.{props}
+use Rattle.std.proofs.Math.Pow.{pow_mono}
 use Rattle.std.proofs.lemmas.Bool.Decides.{nat_tests, Decides-eqb}
-use Rattle.std.specs.Prelude.{All, Bool, true, false, ◌==◌, nat_lt, filter, if◌then◌else◌, slice_index}
+use Rattle.std.proofs.lemmas.List.{get_or_append_left}
+use Rattle.std.proofs.lemmas.Nat.{pow_pos}
+use Rattle.std.specs.Prelude.{All, Bool, true, false, ◌==◌, nat_le, nat_lt, filter, if◌then◌else◌, slice_index}
 use Rattle.core_views.specs.declared.actor.Actor.{Actor}
 use Rattle.core_views.specs.declared.actor.Actor.TheVariants.{Vcpu, Host, Manager, Worker}
 use Rattle.core_views.specs.declared.sizes.Sizes.{Sizes}
@@ -19,6 +22,9 @@ use Rattle.spte_words.specs.Areas.{place, size_of, total}
 use Rattle.spte_words.specs.Entries.{absent_word}
 use Rattle.spte_words.specs.Flags.{flags_live}
 use Rattle.spte_words.specs.HostWords.{host_word}
+use Rattle.spte_words.specs.Areas.{StandsSomewhere}
+use Rattle.spte_words.proofs.Places.{word_stands}
+use Rattle.spte_words.proofs.ReadsHost.{host_fits}
 use Rattle.mmu_core.specs.Enabled.{mmu}
 use Rattle.mmu_core.specs.Invariant.{Holds, Invariant, InvariantOf, OwnLines, UnsetPart}
 use Rattle.mmu_core.specs.Machine.{Leads, World, hand_in}
@@ -28,9 +34,10 @@ use Rattle.mmu_core.specs.SlotWords.{live_at, slot_index}
 use Rattle.mmu_core.specs.Steps.{nobody}
 use Rattle.mmu_core.specs.Tasks.{map_of}
 use Rattle.mmu_core.specs.View.{View, view, word_in}
-use Rattle.mmu_core.specs.Worlds.{AreStartWords, HandReached, IsStart, Reachable, start_hands, start_word}
+use Rattle.mmu_core.specs.Worlds.{AreStartWords, HandReached, IsStart, Reachable, free_bits, least, start_hands, start_word}
 use Rattle.mmu_core.proofs.RestsKept.{hand_rests, rests_prop}
-use Rattle.mmu_core.proofs.Worlds.{Good, good_run}
+use Rattle.mmu_core.specs.Laws.{IsSound}
+use Rattle.mmu_core.proofs.Worlds.{good_run}
 
 -- each word at the start, behind its area's end too where its start word is 0
 word_at_start : (z : Sizes) (w : World Held) (a : Area) (i x : ℕ) → AreStartWords z w.words → (i < size_of (map_of z) a → start_word z a i ≡ x) → (nat_lt i (size_of (map_of z) a) ≡ false → 0 ≡ x) → word_in z w a i ≡ x
@@ -62,11 +69,6 @@ hands_count : (z : Sizes) (lines : List Line) (n : ℕ) → length (start_hands 
 hands_count z lines zero = refl
 hands_count z lines (suc n) = length-append (start_hands z lines n) _ ∙ ap (λ m. m + 1) (hands_count z lines n) ∙ omega arith
 
-get_front : (xs ys : List Held) (i : ℕ) (d : Held) → i < length xs → get_or (xs ++ ys) i d ≡ get_or xs i d
-get_front [] ys i d lt = absurd (omega arith)
-get_front (x ∷ xs) ys zero d lt = refl
-get_front (x ∷ xs) ys (suc i) d lt = get_front xs ys i d (omega arith)
-
 get_last : (xs : List Held) (y : Held) (d : Held) → get_or (xs ++ y ∷ []) (length xs) d ≡ y
 get_last [] y d = refl
 get_last (x ∷ xs) y d = get_last xs y d
@@ -84,7 +86,7 @@ hand_at z lines (suc n) i lt = by (λ l. hand_at z lines n i l) (i == n) (λ e. 
         subst (λ k. get_or (start_hands z lines (suc n)) k nobody ≡ first_held z (actor_at z k) (lines_of (actor_at z k) lines)) (sym (same refl))
         (subst (λ k. get_or (start_hands z lines n ++ first_held z (actor_at z n) (lines_of (actor_at z n) lines) ∷ []) k nobody ≡ first_held z (actor_at z n) (lines_of (actor_at z n) lines)) count
             (get_last (start_hands z lines n) (first_held z (actor_at z n) (lines_of (actor_at z n) lines)) nobody))
-    by before false same less = get_front (start_hands z lines n) _ i nobody (subst (λ m. i < m) (sym count) (less refl)) ∙ before (less refl)
+    by before false same less = get_or_append_left (start_hands z lines n) _ nobody i (subst (λ m. i < m) (sym count) (less refl)) ∙ before (less refl)
 
 -- The place of the actor at a place is that place.
 place_of_actor : (z : Sizes) (i : ℕ) → i < actors_of z → index_of z (actor_at z i) ≡ i
@@ -174,10 +176,70 @@ first_lines z lines w i start lt =
       counted = λ e. absurd (cc e);
     }
 
-pub start_good : (z : Sizes) (lines : List Line) (w : World Held) → IsStart z lines w → Good z w
+-- every word at the start is a number below 2 ^ 64
+power_small : (a : ℕ) → a ≤ 64 → 2 ^ a ≤ 2 ^ 64
+power_small a le = pow_mono le
+
+least_low : (a b : ℕ) → least a b ≤ a
+least_low a b = by (nat_le a b) (λ e. grind (arith, nat_tests))
+  where
+    by : (c : Bool) → (c ≡ false → b ≤ a) → (if c then a else b) ≤ a
+    by true le = omega arith
+    by false le = le refl
+
+bits_small : (first count i : ℕ) → free_bits first count i < 2 ^ 64
+bits_small first count i =
+    let a = power_small (least 64 (count - 64 * i)) (least_low 64 (count - 64 * i)) in
+    let b : 1 ≤ 2 ^ least 64 (first - 64 * i) = pow_pos (least 64 (first - 64 * i)) in
+    omega (arith, a, b)
+
+role_small : (i : ℕ) → (if i == 0 then 4 else if i == 1 then 5 else 0) < 2 ^ 64
+role_small i = by (i == 0) (i == 1)
+  where
+    by : (a b : Bool) → (if a then 4 else if b then 5 else 0) < 2 ^ 64
+    by true b = omega arith
+    by false true = omega arith
+    by false false = omega arith
+
+start_small : (z : Sizes) (a : Area) (i : ℕ) → AreSizes z → i < size_of (map_of z) a → start_word z a i < 2 ^ 64
+start_small z area.Root i sizes lt = omega arith
+start_small z area.Slots i sizes lt = omega arith
+start_small z area.Seq i sizes lt = omega arith
+start_small z area.Count i sizes lt = omega arith
+start_small z area.RangeStart i sizes lt = omega arith
+start_small z area.RangeEnd i sizes lt = omega arith
+start_small z area.Lock i sizes lt = omega arith
+start_small z area.Pause i sizes lt = omega arith
+start_small z area.State i sizes lt = omega arith
+start_small z area.PoolMap i sizes lt = bits_small 2 z.pool i
+start_small z area.FrameMap i sizes lt = bits_small z.pages z.frames i
+start_small z area.Log i sizes lt = omega arith
+start_small z area.Host i sizes lt = host_fits i true true 1 (omega (arith, lt, sizes.pages.1)) (omega arith)
+start_small z area.Role i sizes lt = role_small i
+start_small z area.Pool i sizes lt = omega arith
+start_small z area.Linear i sizes lt = omega arith
+start_small z area.Content i sizes lt = omega arith
+
+get_or_past : (words : List ℕ) (i d : ℕ) → length words ≤ i → get_or words i d ≡ d
+get_or_past [] i d le = refl
+get_or_past (x ∷ xs) zero d le = absurd (omega arith)
+get_or_past (x ∷ xs) (suc i) d le = get_or_past xs i d (omega arith)
+
+all_small : (z : Sizes) (words : List ℕ) → AreSizes z → AreStartWords z words → (i : ℕ) → slice_index words i < 2 ^ 64
+all_small z words sizes start i = by (nat_lt i (length words)) (λ e. grind (arith, nat_tests)) (λ e. grind (arith, nat_tests))
+  where
+    inside : StandsSomewhere (map_of z) i → slice_index words i < 2 ^ 64
+    inside s = subst (λ k. slice_index words k < 2 ^ 64) s.at (rw (start.each s.area s.i s.within) (start_small z s.area s.i sizes s.within))
+
+    by : (b : Bool) → (b ≡ true → i < length words) → (b ≡ false → length words ≤ i) → slice_index words i < 2 ^ 64
+    by true lt le = inside (word_stands (map_of z) i (subst (λ n. i < n) start.count (lt refl)))
+    by false lt le = rw (get_or_past words i 0 (le refl)) (omega arith)
+
+pub start_good : (z : Sizes) (lines : List Line) (w : World Held) → IsStart z lines w → IsSound z w
 start_good z lines w start = record {
   words = start.words.count;
   hands = ap length start.hands ∙ hands_count z lines (actors_of z);
+  small = all_small z w.words start.sizes start.words;
   holds = record {
     sizes = start.sizes;
     hosts = λ p lt. word_at_start z w area.Host p (host_word p true true 1) start.words (λ l. refl) (λ e. let t = below p z.pages lt in absurd (cc (e, t)));
@@ -193,8 +255,8 @@ start_good z lines w start = record {
   };
 }
 
-pub reached_good : (w : World Held) (r : Reachable w) → Good r.sizes w
-reached_good w r = subst (Good r.sizes) r.leads.ends (good_run r.sizes r.start r.leads.steps (start_good r.sizes r.lines r.start r.is_start) r.leads.legal)
+pub reached_good : (w : World Held) (r : Reachable w) → IsSound r.sizes w
+reached_good w r = subst (IsSound r.sizes) r.leads.ends (good_run r.sizes r.start r.leads.steps (start_good r.sizes r.lines r.start r.is_start) r.leads.legal)
 
 pub reached_rests : (h : Held) → ∥ HandReached h ∥₁ → length h.answers < length h.lines → Rests h
 reached_rests h reached left = ∥∥₁_elim reached (rests_prop h) (λ x. rests_of x)

@@ -3,7 +3,13 @@ use Rattle.std.proofs.Common.{◌≡◌, ◌≢◌, ◌⊎◌, inl, inr, ◌<◌
 use Rattle.std.proofs.Math.Logic.{∥∥₁_elim}
 use Rattle.std.proofs.Math.ListN.{length-set}
 use Rattle.std.proofs.lemmas.Bool.Decides.{nat_tests}
-use Rattle.std.specs.Prelude.{All, Bool, true, false, ◌==◌, nat_lt, filter, if◌then◌else◌, slice_index}
+use Rattle.std.specs.Prelude.{All, Bool, true, false, ◌==◌, nat_lt, filter, if◌then◌else◌, slice_index, slice_set}
+use Rattle.std.proofs.lemmas.List.{get_or-set_other, get_or-set_same}
+use Rattle.core_views.specs.declared.kind.Operation.{Operation}
+use Rattle.core_views.specs.declared.kind.Operation.TheVariants as operation
+use Rattle.core_views.specs.Kinds.{after, operation_of_code, word_after}
+use Rattle.mmu_core.specs.Laws.{IsSound}
+use Rattle.mmu_core.proofs.Columns.{same_or}
 use Rattle.core_views.specs.declared.actor.Actor.{Actor}
 use Rattle.core_views.specs.declared.actor.Actor.TheVariants.{Vcpu, Host, Manager, Worker}
 use Rattle.core_views.specs.declared.kind.Kind.{Kind}
@@ -35,11 +41,28 @@ use Rattle.mmu_core.proofs.RestsKept.{hand_rests, rests_prop, task_within}
 use Rattle.mmu_core.proofs.Stepping.{IsStep, is_step}
 use Rattle.mmu_core.proofs.Views.{view_behind}
 
--- The words and hands are as many as the machine has, and the invariant holds of them.
-pub record Good (z : Sizes) (w : World Held) : Type 0 where
-  pub words : length w.words ≡ total (map_of z)
-  pub hands : length w.hands ≡ actors_of z
-  pub holds : Invariant z (view z w)
+-- A step writes a number below 2 ^ 64 where it found one.
+word_small : (o : Operation) (old_ new_ n : ℕ) → new_ < 2 ^ 64 → n < 2 ^ 64 → word_after o old_ new_ n < 2 ^ 64
+word_small operation.Load old_ new_ n small found = found
+word_small operation.Store old_ new_ n small found = small
+word_small operation.Swap old_ new_ n small found = small
+word_small operation.FetchAdd old_ new_ n small found = omega arith
+word_small operation.CompareExchange old_ new_ n small found = by (n == old_)
+  where
+    by : (b : Bool) → (if b then new_ else n) < 2 ^ 64
+    by true = small
+    by false = found
+
+after_small : (k : Kind) (n : ℕ) → k.new < 2 ^ 64 → n < 2 ^ 64 → after k n < 2 ^ 64
+unfolding after
+after_small k n small found = word_small (operation_of_code k.code) k.old k.new n small found
+
+words_small : (words : List ℕ) (a x : ℕ) → a < length words → x < 2 ^ 64 → ((i : ℕ) → slice_index words i < 2 ^ 64) → (i : ℕ) → slice_index (slice_set words a x) i < 2 ^ 64
+words_small words a x lt small all i = by (same_or i a)
+  where
+    by : (i ≡ a) ⊎ (i ≢ a) → slice_index (slice_set words a x) i < 2 ^ 64
+    by (inl e) = rw (e, get_or-set_same words a x 0 lt) small
+    by (inr ne) = rw (get_or-set_other words a i x 0 ne) (all i)
 
 -- what an enabled step is
 pub is_next : (h : Held) (k : Kind) → Enabled h k → IsNext h k
@@ -57,7 +80,7 @@ stepped_is : (z : Sizes) (w : World Held) (a : ℕ) (h : Held) → hand_in mmu w
 unfolding next
 stepped_is z w a h is = refl
 
-pub good_step : (z : Sizes) (w : World Held) (s : Step Kind) → Good z w → May mmu w s → Good z (effect mmu w s)
+pub good_step : (z : Sizes) (w : World Held) (s : Step Kind) → IsSound z w → May mmu w s → IsSound z (effect mmu w s)
 unfolding effect
 good_step z w s G may =
     let h : Held = hand_in mmu w s.actor in
@@ -72,9 +95,10 @@ good_step z w s G may =
     record {
       words = length-set _ _ _ ∙ G.words;
       hands = length-set _ _ _ ∙ G.hands;
+      small = words_small w.words s.kind.word (after s.kind (slice_index w.words s.kind.word)) may.inside (after_small s.kind (slice_index w.words s.kind.word) N.small (G.small s.kind.word)) G.small;
       holds = subst (λ k. Invariant z (view z (effect mmu w (record { actor = s.actor; kind = k })))) (sym kind) at_task;
     }
 
-pub good_run : (z : Sizes) (w : World Held) (ss : List (Step Kind)) → Good z w → Legal mmu w ss → Good z (run mmu w ss)
+pub good_run : (z : Sizes) (w : World Held) (ss : List (Step Kind)) → IsSound z w → Legal mmu w ss → IsSound z (run mmu w ss)
 good_run z w [] G legal = G
 good_run z w (s ∷ ss) G legal = good_run z (effect mmu w s) ss (good_step z w s G legal.0) legal.1

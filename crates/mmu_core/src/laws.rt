@@ -1,4 +1,5 @@
 ghost use Rattle.std.specs.Prelude.{◌<◌, length};
+ghost use Rattle.mmu_core.specs.Laws.{StaysSound};
 ghost use Rattle.mmu_core.specs.Rests.{Rests};
 ghost use Rattle.mmu_core.specs.Worlds.{HandReached};
 
@@ -11,4 +12,10 @@ pub fn rests(hand: &Hand)
     requires reached { ∥ HandReached hand.now.core ∥₁ }
     requires left { length hand.now.core.answers < length hand.now.core.lines }
     ensures { Rests hand.now.core }
+{}
+
+/// What holds of every list of steps that is enabled step by step, of all
+/// actors in any order, from the start of every machine.
+pub fn every_list_of_steps()
+    ensures sound { StaysSound }
 {}

@@ -13,7 +13,7 @@ mod set_slot;
 mod slot_words;
 mod step;
 
-pub use laws::rests;
+pub use laws::{every_list_of_steps, rests};
 pub use outcome::{Outcome, Task};
 pub use step::{advance, next_kind};
 
