@@ -2,3 +2,4 @@ pub mod Columns
 pub mod LinesKept
 pub mod Stepping
 pub mod Unset
+pub mod SlotLists
