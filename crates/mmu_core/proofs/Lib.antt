@@ -3,3 +3,5 @@ pub mod LinesKept
 pub mod Stepping
 pub mod Unset
 pub mod SlotLists
+pub mod Told
+pub mod FlatSteps
