@@ -5,3 +5,5 @@ pub mod Unset
 pub mod SlotLists
 pub mod Told
 pub mod FlatSteps
+pub mod PageFound
+pub mod AccessFlat
