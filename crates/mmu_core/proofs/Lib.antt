@@ -7,3 +7,4 @@ pub mod Told
 pub mod FlatSteps
 pub mod PageFound
 pub mod AccessFlat
+pub mod SetSlotFlat
