@@ -8,3 +8,4 @@ pub mod FlatSteps
 pub mod PageFound
 pub mod AccessFlat
 pub mod SetSlotFlat
+pub mod FlatKept
