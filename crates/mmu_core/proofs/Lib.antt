@@ -9,3 +9,10 @@ pub mod Views
 pub mod RestsKept
 pub mod Worlds
 pub mod Starts
+pub mod SlotLists
+pub mod Told
+pub mod FlatSteps
+pub mod PageFound
+pub mod AccessFlat
+pub mod SetSlotFlat
+pub mod FlatKept
