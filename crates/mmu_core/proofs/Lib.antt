@@ -16,3 +16,4 @@ pub mod PageFound
 pub mod AccessFlat
 pub mod SetSlotFlat
 pub mod FlatKept
+pub mod EveryHistory
