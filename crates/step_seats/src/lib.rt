@@ -3,8 +3,10 @@
 
 mod plain;
 mod seat;
+mod start;
 mod stepper;
 
 pub use plain::PlainMachine;
 pub use seat::{ActorSeat, MachineFrame};
+pub use start::{start_hands, start_words};
 pub use stepper::Stepper;

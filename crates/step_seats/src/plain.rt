@@ -1,16 +1,19 @@
 //! All words and hands under one owner.
-ghost use Rattle.std.specs.Prelude.{◌≡◌, ◌<◌, OnOk, Some, length};
-ghost use Rattle.core_views.specs.Sizes.{AreSizes, actors_of, index_of};
+ghost use Rattle.std.specs.Prelude.{◌≡◌, ◌<◌, ◌≤◌, IfOk, OnOk, length};
+ghost use Rattle.core_views.specs.Sizes.{AreSizes, actors_of, index_of, sizes_of};
+ghost use Rattle.core_views.specs.Traces.{IsTrace, settings};
 ghost use Rattle.mmu_core.specs.Enabled.{Enabled, mmu};
 ghost use Rattle.mmu_core.specs.Machine.{May, answered, effect};
 ghost use Rattle.mmu_core.specs.Steps.{next};
-ghost use Rattle.mmu_core.specs.Worlds.{HandReached, Possible};
+ghost use Rattle.mmu_core.specs.Worlds.{HandReached, IsStart, Possible};
 ghost use Rattle.step_seats.specs.Machines.{world_in};
 ghost use Rattle.step_seats.specs.Moves.{KeepsRoom, handful_in, step_by};
 
 use crate::ActorSeat;
-use core_views::{Actor, Closing, Hand, Kind, Line, NoMemory, Sequence, Sizes};
+use crate::start::{start_hands, start_words};
+use core_views::{Actor, Closing, Hand, Kind, NoMemory, Sequence, Sizes, Trace};
 use mmu_core::advance;
+use std::alloc::Global;
 use std::marker::Model;
 
 /// A machine whose words and hands have one owner, so that its actors take
@@ -33,6 +36,23 @@ impl Model for PlainMachine {
 }
 
 impl PlainMachine {
+    /// The machine of a trace at its start.
+    pub fn new(alloc: Global, trace: &Trace) -> Result<PlainMachine, NoMemory>
+        requires trace { IsTrace trace.now }
+        requires once { settings trace.now.lines ≤ 1 }
+        ensures start { IfOk result (λ m. IsStart (sizes_of trace.now.header) trace.now.lines (world_in m)) }
+        ensures sizes { IfOk result (λ m. m.sizes ≡ sizes_of trace.now.header) }
+    {
+        let sizes = Sizes::of(&trace.header);
+        let words = start_words(alloc, &sizes)?;
+        let hands = start_hands(alloc, &sizes, trace.lines.as_slice())?;
+        Ok(PlainMachine {
+            sizes,
+            words,
+            hands,
+        })
+    }
+
     // Makes one step of the actor at this place.
     pub(crate) fn make_step(&mut self, index: usize, kind: Kind) -> u64
         requires there { index < length self.old.hands }
