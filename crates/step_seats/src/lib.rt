@@ -10,3 +10,6 @@ pub use plain::PlainMachine;
 pub use seat::{ActorSeat, MachineFrame};
 pub use start::{start_hands, start_words};
 pub use stepper::Stepper;
+
+#[cfg(test)]
+mod tests;
