@@ -17,3 +17,5 @@ pub mod AccessFlat
 pub mod SetSlotFlat
 pub mod FlatKept
 pub mod EveryHistory
+pub mod Extend
+pub mod Sized
