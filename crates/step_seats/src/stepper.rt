@@ -1,5 +1,6 @@
-ghost use Rattle.std.specs.Prelude.{◌≡◌, ◌<◌, OnOk};
+ghost use Rattle.std.specs.Prelude.{◌≡◌, ◌<◌, OnOk, length};
 ghost use Rattle.mmu_core.specs.Enabled.{Enabled};
+ghost use Rattle.mmu_core.specs.Rests.{Rests};
 ghost use Rattle.mmu_core.specs.Steps.{next};
 ghost use Rattle.mmu_core.specs.Worlds.{HandReached, Possible};
 ghost use Rattle.step_seats.specs.Moves.{Adds, KeepsRoom, Tells};
@@ -47,7 +48,8 @@ pub trait Stepper {
     /// The hand as it is.
     fn hand(&self) -> &Hand
         ensures hand { result.now ≡ handful self.now }
-        ensures reached { ∥ HandReached (handful self.now).core ∥₁ };
+        ensures reached { ∥ HandReached (handful self.now).core ∥₁ }
+        ensures rests { length (handful self.now).core.answers < length (handful self.now).core.lines → Rests (handful self.now).core };
 
     /// Takes the room that this line needs in the hand. It changes no word and
     /// no hand, whatever it answers.
