@@ -1,0 +1,4 @@
+pub mod Bounded
+pub mod LineEvents
+pub mod HandAfter
+pub mod LineRuns

@@ -7,3 +7,6 @@ pub mod Steps
 pub mod Rests
 pub mod Enabled
 pub mod Worlds
+pub mod Bounds
+pub mod Turns
+pub mod LineRuns
