@@ -54,3 +54,25 @@ impl LineJob {
         }
     }
 }
+
+/// Runs the actor's next line to its answer, while nobody else makes a step.
+/// Where the memory that it needs is refused, nothing has changed.
+pub fn run_line<S: Stepper>(s: &mut S, line: &Line) -> Result<Answer, NoMemory>
+    requires idle { (S.handful s.old).core.state.place ≡ Between }
+    requires next { slice_get (S.handful s.old).core.lines (length (S.handful s.old).core.answers) ≡ Some line.now }
+    requires own { line.now.actor ≡ (S.handful s.old).core.state.actor }
+    requires told { HasHand (S.told s.old) (S.actor s.old) (S.handful s.old).core }
+    ensures answered { IfOk result (λ answer. IsAnswered line.now answer (S.handful s.old).core (S.handful s.new).core) }
+    ensures alone { IfOk result (λ answer. RanAlone line.now answer (S.actor s.old) (record { world = S.told s.old; steps = S.steps s.old }) (record { world = S.told s.new; steps = S.steps s.new })) }
+    ensures hand { IsSameHand (S.handful s.old).core (S.handful s.new).core }
+    ensures refused { OnErr result (((S.handful s.new).core ≡ (S.handful s.old).core) × (S.told s.new ≡ S.told s.old) × (S.steps s.new ≡ S.steps s.old)) }
+    ensures same { (S.actor s.new ≡ S.actor s.old) × (S.frame s.new ≡ S.frame s.old) }
+{
+    let mut job = start_line(s, line)?;
+    loop {
+        match job.turn(s) {
+            Turn::More => {}
+            Turn::Done(answer) => return Ok(answer),
+        }
+    }
+}
