@@ -19,3 +19,7 @@ pub mod FlatKept
 pub mod EveryHistory
 pub mod Extend
 pub mod Sized
+pub mod Bounded
+pub mod LineEvents
+pub mod HandAfter
+pub mod LineRuns

@@ -11,3 +11,6 @@ pub mod View
 pub mod Invariant
 pub mod FlatInvariant
 pub mod Laws
+pub mod Bounds
+pub mod Turns
+pub mod LineRuns
