@@ -2,3 +2,4 @@ pub mod Writes
 pub mod Runs
 pub mod Turning
 pub mod PartRuns
+pub mod FileOrder
