@@ -3,3 +3,4 @@ pub mod Runs
 pub mod Turning
 pub mod PartRuns
 pub mod FileOrder
+pub mod Replaying
