@@ -53,15 +53,15 @@ abbrev pub AppendsPrefix : Option (List ℕ) → Option (List ℕ) → List ℕ 
 AppendsPrefix before after text = (n : ℕ) × (n ≤ length text) × Appends before after (take n text)
 
 -- What writing a whole text added: all of it, or a prefix of it where the writing stopped early.
-abbrev pub Wrote : Option (List ℕ) → Option (List ℕ) → Result (Unit {0}) Stop → List ℕ → Type 0
-Wrote before after (Ok u) text = Appends before after text
-Wrote before after (Err e) text = AppendsPrefix before after text
+abbrev pub Wrote : {A : Type 0} → Option (List ℕ) → Option (List ℕ) → Result A Stop → List ℕ → Type 0
+Wrote {A} before after (Ok x) text = Appends before after text
+Wrote {A} before after (Err e) text = AppendsPrefix before after text
 
 -- The writing says that the sink failed only where the count of failed writes rose, and any other answer leaves the count.
-abbrev pub WroteFaults : ℕ → ℕ → Result (Unit {0}) Stop → Type 0
-WroteFaults before now (Ok u) = now ≡ before
-WroteFaults before now (Err StopFailed) = Rose before now
-WroteFaults before now (Err StopFull) = now ≡ before
+abbrev pub WroteFaults : {A : Type 0} → ℕ → ℕ → Result A Stop → Type 0
+WroteFaults {A} before now (Ok x) = now ≡ before
+WroteFaults {A} before now (Err StopFailed) = Rose before now
+WroteFaults {A} before now (Err StopFull) = now ≡ before
 
 -- A prefix of what the source had left was taken, at most so many bytes and maybe none, and the rest is left now.
 abbrev pub TakesSome : Option (List ℕ) → Option (List ℕ) → ℕ → Type 0

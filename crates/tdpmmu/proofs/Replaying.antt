@@ -1,7 +1,7 @@
 -- A replay, line by line: the list of steps goes on, the hands come behind the lines, and each answer is flat guest memory's.
 use Rattle.std.proofs.Common.{◌≡◌, ◌≢◌, ◌⊎◌, inl, inr, ◌<◌, ◌≤◌, ◌+◌, ℕ, zero, suc, List, [], ◌∷◌, ◌++◌, length, length-append, map, take, get_or, refl, sym, ap, subst, ◌∙◌, append_assoc, arith}
 use Rattle.std.proofs.lemmas.List.{append-nil, get_or-set_other}
-use Rattle.std.specs.Prelude.{All, Some}
+use Rattle.std.specs.Prelude.{All, Ok, Result, Some, slice_get}
 use Rattle.core_views.specs.declared.actor.Actor.{Actor}
 use Rattle.core_views.specs.declared.answer.Answer.{Answer}
 use Rattle.core_views.specs.declared.answer.AnsweredLine.{AnsweredLine}
@@ -10,13 +10,14 @@ use Rattle.core_views.specs.declared.kind.Kind.{Kind}
 use Rattle.core_views.specs.declared.place.Place.TheVariants.{Between}
 use Rattle.core_views.specs.declared.sizes.Sizes.{Sizes}
 use Rattle.core_views.specs.declared.trace.Line.{Line}
+use Rattle.core_views.specs.declared.trace.Trace.{Trace}
 use Rattle.core_views.specs.Alone.{StandsAlone}
 use Rattle.core_views.specs.Events.{after, after_all, facts_after_all}
 use Rattle.core_views.specs.Flat.{Facts, Flat, first_facts, first_flat, no_line}
 use Rattle.core_views.specs.FlatHistory.{alone, one_by_one}
 use Rattle.core_views.specs.Held.{Held}
 use Rattle.core_views.specs.Lawful.{IsLawful}
-use Rattle.core_views.specs.Sizes.{actor_at, actors_of, index_of}
+use Rattle.core_views.specs.Sizes.{actor_at, actors_of, index_of, sizes_of}
 use Rattle.core_views.specs.Text.{answers_of, line_text, lines_text, text}
 use Rattle.core_views.specs.Traces.{IsCommandFor}
 use Rattle.core_views.specs.Whole.{IsWhole, lines_of}
@@ -32,7 +33,19 @@ use Rattle.mmu_core.proofs.EveryHistory.{every_history}
 use Rattle.mmu_core.proofs.Extend.{legal-append, run-append}
 use Rattle.mmu_core.proofs.LineRuns.{history_append}
 use Rattle.mmu_core.proofs.Starts.{hand_is}
-use Rattle.tdpmmu.specs.Replays.{AreBehind, IsBehind, RanOn, RunsLines}
+use Rattle.std.proofs.Math.ListN.{length-map}
+use Rattle.std.proofs.Math.Seq.{take-append_seam}
+use Rattle.std.specs.declared.option.Option.{Option}
+use Rattle.std.specs.Io.KnownBytes.{Appends}
+use Rattle.mmu_core.proofs.Starts.{start_good}
+use Rattle.step_seats.specs.Machines.{Machine, world_in}
+use Rattle.step_seats.specs.Moves.{core_of, handful_in}
+use Rattle.step_seats.proofs.Worlds.{core_at}
+use Rattle.tdp_io.specs.Ends.{AppendsPrefix, Wrote}
+use Rattle.tdp_io.specs.declared.sink.Stop.{Stop}
+use Rattle.tdpmmu.specs.Steps.{Buffers}
+use Rattle.tdpmmu.proofs.Writes.{Follows, ends}
+use Rattle.tdpmmu.specs.Replays.{AreBehind, IsBehind, RanOn, Replays, RunsLines}
 use Rattle.tdpmmu.proofs.FileOrder.{maker_is, maker_there, next_is, one_more_line, other_line, other_place, own_line}
 
 lawful_split : (z : Sizes) (xs ys : List Event) (f : Flat) → IsLawful z f (xs ++ ys) → IsLawful z (after_all xs f) ys
@@ -148,3 +161,77 @@ hands_more z lines i w t answer lt may ran behind b below = by (same_or b a)
     by : (b ≡ a) ⊎ (b ≢ a) → IsBehind z lines (i + 1) b (hand_in mmu t b)
     by (inl e) = own e
     by (inr ne) = other ne
+
+-- The next line's hand: it is the machine's, nothing is under way in it, and the line is its next one.
+pub record IsReady (z : Sizes) (line : Line) (w : World Held) : Type 0 where
+  pub there : index_of z line.actor < actors_of z
+  pub idle : (hand_in mmu w (index_of z line.actor)).state.place ≡ Between
+  pub next : slice_get (hand_in mmu w (index_of z line.actor)).lines (length (hand_in mmu w (index_of z line.actor)).answers) ≡ Some line
+  pub own : line.actor ≡ (hand_in mmu w (index_of z line.actor)).state.actor
+
+pub is_ready : (z : Sizes) (lines : List Line) (i : ℕ) (w : World Held) → i < length lines → IsCommandFor z (get_or lines i no_line).actor (get_or lines i no_line).command → AreBehind z lines i w → IsReady z (get_or lines i no_line) w
+is_ready z lines i w lt may behind =
+    let line : Line = get_or lines i no_line in
+    let there = maker_there z line.actor line.command may in
+    let is = maker_is z line.actor line.command may in
+    let B = behind (index_of z line.actor) there in
+    record {
+      there = there;
+      idle = B.between;
+      next = subst (λ xs. slice_get xs (length (hand_in mmu w (index_of z line.actor)).answers) ≡ Some line) (sym B.lines_are)
+          (subst (λ n. slice_get (lines_of (actor_at z (index_of z line.actor)) lines) n ≡ Some line) (sym B.answered) (next_is (actor_at z (index_of z line.actor)) lines i no_line lt is));
+      own = sym is ∙ sym B.whose;
+    }
+
+-- the same of the machine's own lists
+pub record IsReadyOn (m : Machine) (line : Line) : Type 0 where
+  pub there : index_of m.sizes line.actor < length m.hands
+  pub idle : (handful_in m.hands (index_of m.sizes line.actor)).core.state.place ≡ Between
+  pub next : slice_get (handful_in m.hands (index_of m.sizes line.actor)).core.lines (length (handful_in m.hands (index_of m.sizes line.actor)).core.answers) ≡ Some line
+  pub own : line.actor ≡ (handful_in m.hands (index_of m.sizes line.actor)).core.state.actor
+
+pub hands_at_start : (z : Sizes) (lines : List Line) (m : Machine) → IsStart z lines (world_in m) → length m.hands ≡ actors_of z
+hands_at_start z lines m start = sym (length-map m.hands core_of) ∙ (start_good z lines (world_in m) start).hands
+
+pub ready_on : (z : Sizes) (lines : List Line) (i : ℕ) (m : Machine) → m.sizes ≡ z → length m.hands ≡ actors_of z → i < length lines
+    → IsCommandFor z (get_or lines i no_line).actor (get_or lines i no_line).command → AreBehind z lines i (world_in m) → IsReadyOn m (get_or lines i no_line)
+ready_on z lines i m same count lt may behind =
+    let line : Line = get_or lines i no_line in
+    let R = is_ready z lines i (world_in m) lt may behind in
+    let place : index_of z line.actor ≡ index_of m.sizes line.actor = ap (λ (y : Sizes). index_of y line.actor) (sym same) in
+    let core : hand_in mmu (world_in m) (index_of z line.actor) ≡ (handful_in m.hands (index_of m.sizes line.actor)).core =
+        sym (core_at m.words m.hands (index_of z line.actor)) ∙ ap (λ (n : ℕ). (handful_in m.hands n).core) place in
+    record {
+      there = subst (λ n. n < length m.hands) place (subst (λ n. index_of z line.actor < n) (sym count) R.there);
+      idle = subst (λ (h : Held). h.state.place ≡ Between) core R.idle;
+      next = subst (λ (h : Held). slice_get h.lines (length h.answers) ≡ Some line) core R.next;
+      own = subst (λ (h : Held). line.actor ≡ h.state.actor) core R.own;
+    }
+
+-- What was put so far is a prefix of the whole.
+pub so_far_prefix : (start here : Option (List ℕ)) (rest whole : List ℕ) → Follows start here rest whole → AppendsPrefix start here whole
+so_far_prefix start here rest whole (w, p, e) =
+    let front : take (length w) whole ≡ w = ap (take (length w)) (sym e) ∙ take-append_seam w rest in
+    let long : length w ≤ length whole = subst (λ (x : List ℕ). length w ≤ length x) e (let l = length-append w rest in omega (arith, l)) in
+    (length w, long, subst (Appends start here) (sym front) p)
+
+-- One line more: the list of steps, and the answer's text.
+pub steps_more : (z : Sizes) (lines : List Line) (i : ℕ) (start w t : World Held) (answer : Answer) (a : ℕ) → i < length lines → RunsLines start (take i lines) w → RanOn (get_or lines i no_line) answer a w t
+    → RunsLines start (take (i + 1) lines) t
+steps_more z lines i start w t answer a lt r ran = subst (λ ls. RunsLines start ls t) (sym (one_more_line lines i no_line lt)) (runs_more start w t (take i lines) (get_or lines i no_line) answer ran.steps r ran.runs)
+
+pub line_prints : (z : Sizes) (lines : List Line) (i : ℕ) (start w t : World Held) (answer : Answer) (a : ℕ) → IsStart z lines start → RunsLines start (take i lines) w → RanOn (get_or lines i no_line) answer a w t
+    → line_text (get_or lines i no_line).number (get_or lines i no_line).actor answer ≡ text (alone z (get_or lines i no_line) (facts_at z (take i lines) first_facts))
+line_prints z lines i start w t answer a is_start r ran = prints_flat z lines (take i lines) start w t (get_or lines i no_line) answer r ran.steps is_start ran.runs
+
+-- Lines that ran alone from a trace's start are a replay of it.
+pub replays : (trace : Trace) (start end_ : World Held) → IsStart (sizes_of trace.header) trace.lines start → RunsLines start trace.lines end_ → Replays trace end_
+replays trace start end_ is_start r =
+    let z : Sizes = sizes_of trace.header in
+    let lawful = every_history z trace.lines start r.steps is_start r.legal in
+    record { start = start; is_start = is_start; runs = r; lawful = lawful; whole = (goes_as_flat z trace.lines (history start r.steps) first_flat (λ i. refl) lawful r.alone).whole }
+
+-- All was put, and what waits is written, or a prefix of it.
+pub writes_rest : (start here after : Option (List ℕ)) (waited waits piece put whole : List ℕ) (r : Result (Unit {0}) Stop) → waited ≡ [] → put ≡ whole → Buffers start here waited waits (Ok tt) put → piece ≡ waits → Wrote here after r piece → Wrote start after r whole
+writes_rest start here after waited waits piece put whole r none is (w, p, e) same wrote =
+    ends start here after piece whole r (w, p, ap (λ (x : List ℕ). w ++ x) (append-nil piece ∙ same) ∙ e ∙ ap (λ (x : List ℕ). x ++ put) none ∙ is) wrote

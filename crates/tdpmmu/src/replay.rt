@@ -1,15 +1,20 @@
-ghost use Rattle.std.specs.Prelude.{◌≡◌, OnOk, string_bytes};
-ghost use Rattle.core_views.specs.Events.{facts_after_all};
-ghost use Rattle.core_views.specs.FlatHistory.{alone, flat_history};
-ghost use Rattle.core_views.specs.Text.{text};
-ghost use Rattle.core_views.specs.Traces.{AreLinesOf};
-ghost use Rattle.flat_model.specs.Kept.{facts_of, IsInRange};
+//! The command `replay`: each line of the trace alone, in file order.
+ghost use Rattle.std.specs.Prelude.{◌≡◌, ◌≤◌, IfOk, OnOk, string_bytes};
+ghost use Rattle.core_views.specs.Flat.{first_facts};
+ghost use Rattle.core_views.specs.FlatHistory.{flat_history, one_by_one};
+ghost use Rattle.core_views.specs.Text.{line_text, text};
+ghost use Rattle.core_views.specs.Traces.{IsTrace, settings};
+ghost use Rattle.mmu_core.specs.Worlds.{IsStart};
+ghost use Rattle.step_seats.specs.Machines.{world_in};
+ghost use Rattle.step_seats.specs.Moves.{world_of};
 ghost use Rattle.tdp_io.specs.Ends.{Wrote, WroteFaults};
+ghost use Rattle.tdpmmu.specs.Replays.{Replays, RunsLines};
 ghost use Rattle.tdpmmu.specs.Steps.{Buffers};
 
-use core_views::{Line, Trace};
-use flat_model::Plain;
+use crate::run_on::run_on;
+use core_views::{Answer, Closing, Line, Trace};
 use std::alloc::Global;
+use step_seats::PlainMachine;
 use tdp_io::{Sink, Stop, write_all};
 use trace_text::answer_line;
 
@@ -32,43 +37,60 @@ fn put<K: Sink>(out: &mut K, pending: &mut String, text: &str) -> Result<(), Sto
     Ok(())
 }
 
-// Runs one line alone, and puts what it is answered.
-fn run_line<K: Sink>(
+// Puts what a line is answered.
+fn put_answer<K: Sink>(
     alloc: Global,
-    plain: &mut Plain,
     line: &Line,
+    answer: &Answer,
     out: &mut K,
     waiting: &mut String,
 ) -> Result<(), Stop>
-    requires { IsInRange line.now.command }
-    ensures bytes { Buffers (K.written out.old) (K.written out.new) (string_bytes waiting.old) (string_bytes waiting.new) result (text (alone plain.old.sizes line.now (facts_of plain.old))) }
-    ensures facts { OnOk result (facts_of plain.new ≡ facts_after_all (alone plain.old.sizes line.now (facts_of plain.old)) (facts_of plain.old)) }
-    ensures sizes { plain.new.sizes ≡ plain.old.sizes }
+    ensures bytes { Buffers (K.written out.old) (K.written out.new) (string_bytes waiting.old) (string_bytes waiting.new) result (line_text line.now.number line.now.actor answer.now) }
     ensures faults { WroteFaults (K.faults out.old) (K.faults out.new) result }
 {
-    let Ok(answer) = plain.line(alloc, line) else {
-        return Err(Stop::NoMemory);
-    };
-    let Ok(text) = answer_line(alloc, line.number, line.actor, &answer) else {
+    let Ok(text) = answer_line(alloc, line.number, line.actor, answer) else {
         return Err(Stop::NoMemory);
     };
     put(out, waiting, &text)
 }
 
-/// Runs the lines of the trace one after another, each alone, and writes what
-/// they are answered.
-pub fn replay<K: Sink>(alloc: Global, trace: &Trace, out: &mut K) -> Result<(), Stop>
-    requires { AreLinesOf trace.now.header trace.now.lines }
+// Runs the lines one after another, each alone, and puts what they are answered.
+fn run_lines<K: Sink>(
+    alloc: Global,
+    machine: &mut PlainMachine,
+    lines: &[Line],
+    out: &mut K,
+    waiting: &mut String,
+) -> Result<(), Stop>
+    requires start { IsStart machine.old.sizes lines.now (world_in machine.old) }
+    ensures ran { OnOk result (RunsLines (world_in machine.old) lines.now (world_in machine.new)) }
+    ensures bytes { Buffers (K.written out.old) (K.written out.new) (string_bytes waiting.old) (string_bytes waiting.new) result (text (one_by_one machine.old.sizes lines.now first_facts)) }
+    ensures faults { WroteFaults (K.faults out.old) (K.faults out.new) result }
+{
+    for line in lines {
+        let Ok(answer) = run_on(machine, line) else {
+            return Err(Stop::NoMemory);
+        };
+        put_answer(alloc, line, &answer, out, waiting)?;
+    }
+    Ok(())
+}
+
+/// Runs the lines of the trace one after another, each alone, a step at a time
+/// over the words of the machine, and writes what they are answered. It gives
+/// the last words and hands.
+pub fn replay<K: Sink>(alloc: Global, trace: &Trace, out: &mut K) -> Result<Closing, Stop>
+    requires trace { IsTrace trace.now }
+    requires once { settings trace.now.lines ≤ 1 }
+    ensures ran { IfOk result (λ closing. Replays trace.now (world_of closing.words closing.hands)) }
     ensures bytes { Wrote (K.written out.old) (K.written out.new) result (text (flat_history trace.now)) }
     ensures faults { WroteFaults (K.faults out.old) (K.faults out.new) result }
 {
-    let Ok(mut plain) = Plain::new(alloc, trace) else {
+    let Ok(mut machine) = PlainMachine::new(alloc, trace) else {
         return Err(Stop::NoMemory);
     };
     let mut waiting = String::new(alloc);
-    let lines = trace.lines.as_slice();
-    for line in lines {
-        run_line(alloc, &mut plain, line, out, &mut waiting)?;
-    }
-    write_all(out, waiting.as_bytes())
+    run_lines(alloc, &mut machine, trace.lines.as_slice(), out, &mut waiting)?;
+    write_all(out, waiting.as_bytes())?;
+    Ok(machine.into_closing())
 }
