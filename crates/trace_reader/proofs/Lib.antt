@@ -5,6 +5,7 @@ pub mod Spelled
 pub mod Said
 pub mod Bytes
 pub mod Refused
+pub mod Reasons
 pub mod Ranges
 pub mod Loop
 pub mod Begin
