@@ -62,7 +62,7 @@ decimal_word n lt = record { filled = omega (arith, decimal_nonempty n lt); plai
 hex_word : (ds : List ℕ) → list_all is_hex_digit ds ≡ true → IsWord (48 ∷ 120 ∷ ds)
 hex_word ds all = record { filled = omega arith; plain = digits_plain ds all }
 
-spelled_word : (w : List ℕ) (n : ℕ) → Spells w n → IsWord w
+pub spelled_word : (w : List ℕ) (n : ℕ) → Spells w n → IsWord w
 spelled_word w n (lt, inl e) = rw e (decimal_word n lt)
 spelled_word w n (lt, inr (ds, e, low, high, all, v)) = rw e (hex_word ds all)
 
@@ -71,7 +71,7 @@ name_word i lt =
     let d : 0 < length (decimal i) = decimal_nonempty i (omega arith) in
     record { filled = omega arith; plain = decimals_plain (decimal i) (digits_decimal own i (omega arith)) }
 
-text_word : (w : List ℕ) → 1 ≤ length w → list_all (λ b. not (b == 32)) w ≡ true → IsWord w
+pub text_word : (w : List ℕ) → 1 ≤ length w → list_all (λ b. not (b == 32)) w ≡ true → IsWord w
 text_word w a b = record { filled = a; plain = b }
 
 last_word : (read_only : Bool) → AreWords (ending read_only)

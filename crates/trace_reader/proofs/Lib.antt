@@ -14,3 +14,6 @@ pub mod NeedRuns
 pub mod NeedTables
 pub mod HeaderSaid
 pub mod HeaderRefused
+pub mod Checks
+pub mod InputLines
+pub mod Input

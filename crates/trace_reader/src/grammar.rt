@@ -1,4 +1,5 @@
 ghost use Rattle.trace_reader.specs.Grammar.{ReadsWhatIsSaid, ReadsNothingElse, RefusesTheRest, RefusesForTheReason, RefusesForNoOther};
+ghost use Rattle.trace_reader.specs.InputGrammar.{ReadsTheTrace, ReadsNoOtherTrace, RefusesWhereItFails, RefusesNowhereElse};
 ghost use Rattle.trace_reader.specs.HeaderGrammar.{ReadsTheHeader, ReadsNoOtherHeader, RefusesOtherFirstLines};
 
 /// The laws of the lines behind the header: the reader takes the bytes that say
@@ -19,4 +20,14 @@ pub fn header_grammar_is_exact()
     ensures forward { ReadsTheHeader }
     ensures backward { ReadsNoOtherHeader }
     ensures refused { RefusesOtherFirstLines }
+{}
+
+/// The laws of a whole input: the reader takes the bytes that say a trace, gives
+/// just it, and refuses any other input at the first line that fails, for the
+/// first check that this line fails.
+pub fn input_grammar_is_exact()
+    ensures forward { ReadsTheTrace }
+    ensures backward { ReadsNoOtherTrace }
+    ensures refused { RefusesWhereItFails }
+    ensures only_refused { RefusesNowhereElse }
 {}
