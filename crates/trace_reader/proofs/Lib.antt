@@ -5,6 +5,7 @@ pub mod Spelled
 pub mod Said
 pub mod Bytes
 pub mod Refused
+pub mod Reasons
 pub mod Ranges
 pub mod Loop
 pub mod Begin
@@ -13,3 +14,6 @@ pub mod NeedRuns
 pub mod NeedTables
 pub mod HeaderSaid
 pub mod HeaderRefused
+pub mod Checks
+pub mod InputLines
+pub mod Input

@@ -56,7 +56,7 @@ unfolding lines_of
 nothing_left h n at seen [] lt = refl
 nothing_left h n at seen (b ∷ bs) lt = absurd (omega arith)
 
-not_empty : (c : ℕ) (cs : List ℕ) → is_empty (c ∷ cs) ≡ false
+pub not_empty : (c : ℕ) (cs : List ℕ) → is_empty (c ∷ cs) ≡ false
 not_empty c cs = grind (arith, nat_tests)
 
 -- The first line, and the lines behind it.

@@ -1,112 +1,262 @@
--- A line that says nothing is refused, for a reason of a line's words.
-use Rattle.std.proofs.Common.{◌≡◌, inl, inr, ℕ, List, [], ◌∷◌, Bool, true, false, cond, Result, Ok, Err, refl, nat_lt, nat_le, ◌==◌, ◌&&◌}
+-- Why words say nothing: of which form they are, and which step of the reader refuses them.
+use Rattle.std.proofs.Common.{◌≡◌, ◌≤◌, ◌<◌, inl, inr, ℕ, List, [], ◌∷◌, Bool, true, false, cond, Result, Ok, Err, refl, length, ◌⊎◌, ap, arith, nat_lt, nat_le, ◌==◌, ◌&&◌}
 use Rattle.std.specs.Prelude.{codes}
+use Rattle.std.specs.Fmt.{decimal}
 use Rattle.std.specs.Str.{bytes_eq}
-use Rattle.std.specs.List.{list_any}
 use Rattle.std.specs.declared.option.Option.{Option}
 use Rattle.std.specs.declared.option.Option.TheVariants.{Some, None}
+use Rattle.std.proofs.lemmas.Bool.Decides.{nat_tests}
 use Rattle.core_views.specs.declared.actor.Actor.{Actor}
-use Rattle.core_views.specs.declared.trace.Command.{Command}
+use Rattle.core_views.specs.declared.actor.Actor.TheVariants.{Vcpu, Host, Manager, Worker}
 use Rattle.core_views.specs.declared.trace.Header.{Header}
 use Rattle.trace_reader.specs.declared.reason.Reason.{Reason}
 use Rattle.trace_reader.specs.declared.reason.Reason.TheVariants as reason
 use Rattle.trace_reader.specs.Numbers.{number_of, decimal_number}
-use Rattle.trace_reader.specs.Forms.{◌>>=◌, number, or_number, is_address, access_at, address, declared, indexed, vcpu, read_form, store_form, is_slot, slot, setting, slot_form, read_only_slot_form, by_form, by_words, is_empty, words_of, said}
-use Rattle.trace_reader.specs.Grammar.{SaysLine, IsLineReason}
-use Rattle.trace_reader.proofs.Bytes.{only_said}
+use Rattle.trace_reader.specs.Forms.{◌>>=◌, Said, number, or_number, is_address, access_at, address, declared, indexed, vcpu, read_form, store_form, is_slot, slot, setting, slot_form, read_only_slot_form, by_form}
+use Rattle.trace_reader.specs.Grammar.{HasForm, IsActor, IsDeclared}
+use Rattle.trace_reader.proofs.Results.{both, word_is, is_word}
+use Rattle.trace_reader.proofs.Spelled.{decimal_found, decimal_only}
 
--- An error of it is for a reason of a line's words.
-abbrev IsOfLine : {A : Type 0} → Result A Reason → Type 0
-IsOfLine (Ok x) = Unit {0}
-IsOfLine (Err r) = IsLineReason r
+-- An error of it is `number`.
+abbrev IsNumber : {A : Type 0} → Result A Reason → Type 0
+IsNumber (Ok x) = Unit {0}
+IsNumber (Err r) = r ≡ reason.Number
 
-is_word : IsLineReason reason.Word
-is_word = inl refl
-
-is_actor : IsLineReason reason.Actor
-is_actor = inr (inl refl)
-
-is_number : IsLineReason reason.Number
-is_number = inr (inr refl)
-
-bound : {A B : Type 0} (r : Result A Reason) (f : A → Result B Reason) → IsOfLine r → ((x : A) → IsOfLine (f x)) → IsOfLine (r >>= f)
+bound : {A B : Type 0} (r : Result A Reason) (f : A → Result B Reason) → IsNumber r → ((x : A) → IsNumber (f x)) → IsNumber (r >>= f)
 bound (Ok x) f is more = more x
 bound (Err r) f is more = is
 
-chosen : {A : Type 0} (b : Bool) (x y : Result A Reason) → IsOfLine x → IsOfLine y → IsOfLine (cond b x y)
-chosen true x y p q = p
-chosen false x y p q = q
+fits : {A : Type 0} (b : Bool) (x : A) → IsNumber {A = A} (cond b (Ok x) (Err reason.Number))
+fits true x = tt
+fits false x = refl
 
-option_of : (o : Option ℕ) → IsOfLine (or_number o)
-option_of None = is_number
-option_of (Some n) = tt
+option_number : (o : Option ℕ) → IsNumber (or_number o)
+option_number None = refl
+option_number (Some n) = tt
 
-number_of_line : (w : List ℕ) → IsOfLine (number w)
+number_number : (w : List ℕ) → IsNumber (number w)
 unfolding number
-number_of_line w = option_of (number_of w)
+number_number w = option_number (number_of w)
 
-access_of : (words : ℕ) (o : Option ℕ) → IsOfLine (access_at words o)
-access_of words None = is_number
-access_of words (Some a) = chosen (is_address words a) _ _ tt is_number
+access_number : (words : ℕ) (o : Option ℕ) → IsNumber (access_at words o)
+access_number words None = refl
+access_number words (Some a) = fits (is_address words a) _
 
-address_of : (h : Header) (w : List ℕ) → IsOfLine (address h w)
+address_number : (h : Header) (w : List ℕ) → IsNumber (address h w)
 unfolding address
-address_of h w = access_of h.words (number_of w)
+address_number h w = access_number h.words (number_of w)
 
-declared_of : (count : ℕ) (o : Option ℕ) → IsOfLine (declared count o)
-declared_of count None = is_word
-declared_of count (Some n) = chosen (nat_le n 15) _ (Err reason.Word) (chosen (nat_lt n count) (Ok n) (Err reason.Actor) tt is_actor) is_word
-
-vcpu_of : (h : Header) (w : List ℕ) → IsOfLine (vcpu h w)
-unfolding vcpu indexed
-vcpu_of h [] = is_word
-vcpu_of h (c ∷ ds) = chosen (c == 118) _ _ (declared_of h.vcpus (decimal_number ds)) is_word
-
-read_of : (h : Header) (who verb x : List ℕ) → IsOfLine (read_form h who verb x)
-unfolding read_form
-read_of h who verb x = chosen (bytes_eq verb (codes "read")) _ _ (bound (vcpu h who) _ (vcpu_of h who) (λ n. bound (address h x) _ (address_of h x) (λ a. tt))) is_word
-
-store_of : (h : Header) (who verb x y : List ℕ) → IsOfLine (store_form h who verb x y)
-unfolding store_form
-store_of h who verb x y =
-    chosen (bytes_eq verb (codes "write")) _ _ (bound (vcpu h who) _ (vcpu_of h who) (λ n. bound (address h x) _ (address_of h x) (λ a. bound (number y) _ (number_of_line y) (λ v. tt))))
-    (chosen (bytes_eq verb (codes "add")) _ _ (bound (vcpu h who) _ (vcpu_of h who) (λ n. bound (address h x) _ (address_of h x) (λ a. bound (number y) _ (number_of_line y) (λ v. tt)))) is_word)
-
-slot_of : (x y z : List ℕ) (ro : Bool) → IsOfLine (slot x y z ro)
+slot_number : (x y z : List ℕ) (ro : Bool) → IsNumber (slot x y z ro)
 unfolding slot
-slot_of x y z ro = bound (number x) _ (number_of_line x) (λ b. bound (number y) _ (number_of_line y) (λ p. bound (number z) _ (number_of_line z) (λ k. chosen (is_slot b p k) _ _ tt is_number)))
+slot_number x y z ro = bound (number x) _ (number_number x) (λ b. bound (number y) _ (number_number y) (λ p. bound (number z) _ (number_number z) (λ k. fits (is_slot b p k) _)))
 
-setting_of : (seen : Bool) (i x y z : List ℕ) (ro : Bool) → IsOfLine (setting seen i x y z ro)
+-- What a first word names: a virtual processor that is declared, or one that is not, or none.
+abbrev Names : ℕ → List ℕ → Result ℕ Reason → Type 0
+Names count w (Ok i) = (i ≤ 15) × (i < count) × (w ≡ 118 ∷ decimal i)
+Names count w (Err reason.Word) = (i : ℕ) → i ≤ 15 → w ≡ 118 ∷ decimal i → ⊥
+Names count w (Err reason.Actor) = (i : ℕ) × (i ≤ 15) × (i < count → ⊥) × (w ≡ 118 ∷ decimal i)
+Names count w (Err _) = ⊥
+
+in_decimal : (ds : List ℕ) (i : ℕ) → i ≤ 15 → 118 ∷ ds ≡ 118 ∷ decimal i → decimal_number ds ≡ Some i
+in_decimal ds i le e = let same : ds ≡ decimal i = cc in rw same (decimal_only i (omega arith))
+
+index_in : (count : ℕ) (ds : List ℕ) (n : ℕ) (small known : Bool) → decimal_number ds ≡ Some n → nat_le n 15 ≡ small → nat_lt n count ≡ known → Names count (118 ∷ ds) (cond small (cond known (Ok n) (Err reason.Actor)) (Err reason.Word))
+index_in count ds n true true e s k = (grind (arith, nat_tests), grind (arith, nat_tests), ap (λ (l : List ℕ). 118 ∷ l) (decimal_found ds n e).1)
+index_in count ds n true false e s k = (n, grind (arith, nat_tests), (λ lt. grind (arith, nat_tests)), ap (λ (l : List ℕ). 118 ∷ l) (decimal_found ds n e).1)
+index_in count ds n false known e s k = λ i le is.
+    let d : decimal_number ds ≡ Some i = in_decimal ds i le is in
+    let same : n ≡ i = cc in
+    grind (arith, nat_tests)
+
+index : (count : ℕ) (ds : List ℕ) (o : Option ℕ) → decimal_number ds ≡ o → Names count (118 ∷ ds) (declared count o)
+index count ds None e = λ i le is. let d : decimal_number ds ≡ Some i = in_decimal ds i le is in cc
+index count ds (Some n) e = index_in count ds n (nat_le n 15) (nat_lt n count) e refl refl
+
+letter : (count c : ℕ) (ds : List ℕ) (b : Bool) → (c == 118) ≡ b → Names count (c ∷ ds) (cond b (declared count (decimal_number ds)) (Err reason.Word))
+letter count c ds true e = let v : c ≡ 118 = grind (arith, nat_tests) in rw v (index count ds (decimal_number ds) refl)
+letter count c ds false e = λ i le is. let v : c ≡ 118 = cc in grind (arith, nat_tests)
+
+named : (h : Header) (w : List ℕ) → Names h.vcpus w (vcpu h w)
+unfolding vcpu indexed
+named h [] = λ i le is. cc
+named h (c ∷ ds) = letter h.vcpus c ds (c == 118) refl
+
+-- Why words say nothing.
+abbrev pub Why : Header → Bool → List (List ℕ) → Reason → Type 0
+Why h seen words reason.Word = (a : Actor) → HasForm seen words a → IsActor a → ⊥
+Why h seen words reason.Actor = (a : Actor) × HasForm seen words a × IsActor a × (IsDeclared h a → ⊥)
+Why h seen words reason.Number = (a : Actor) × HasForm seen words a × IsActor a × IsDeclared h a
+Why h seen words _ = ⊥
+
+-- An error of it tells why the words say nothing.
+abbrev pub Tells : Header → Bool → List (List ℕ) → Said → Type 0
+Tells h seen words (Ok p) = Unit {0}
+Tells h seen words (Err r) = Why h seen words r
+
+-- The words are of no form.
+abbrev Formless : Bool → List (List ℕ) → Type 0
+Formless seen words = (a : Actor) → HasForm seen words a → ⊥
+
+none : (h : Header) (seen : Bool) (words : List (List ℕ)) → Formless seen words → Tells h seen words (Err reason.Word)
+none h seen words never = λ a form is. never a form
+
+-- A declared actor's words of a form are refused for a number only.
+numbers : (h : Header) (seen : Bool) (words : List (List ℕ)) (a : Actor) (r : Said) → HasForm seen words a → IsActor a → IsDeclared h a → IsNumber r → Tells h seen words r
+numbers h seen words a (Ok p) form is known number = tt
+numbers h seen words a (Err r) form is known number = rw number (a, form, is, known)
+
+-- The actor is the virtual processor that the word names.
+abbrev IsNamedBy : List ℕ → Actor → Type 0
+IsNamedBy w (Vcpu i) = w ≡ 118 ∷ decimal i
+IsNamedBy w _ = ⊥
+
+unnamed : (w : List ℕ) (a : Actor) → ((i : ℕ) → i ≤ 15 → w ≡ 118 ∷ decimal i → ⊥) → IsNamedBy w a → IsActor a → ⊥
+unnamed w (Vcpu i) never is le = never i le is
+unnamed w (Host i) never is le = is
+unnamed w Manager never is le = is
+unnamed w (Worker i) never is le = is
+
+-- An access's words: the first names the actor, then the numbers are looked at.
+access_why : (h : Header) (seen : Bool) (words : List (List ℕ)) (who : List ℕ) (r : Result ℕ Reason) (f : ℕ → Said) → Names h.vcpus who r
+    → ((i : ℕ) → who ≡ 118 ∷ decimal i → HasForm seen words (Vcpu i)) → ((a : Actor) → HasForm seen words a → IsNamedBy who a) → ((i : ℕ) → IsNumber (f i)) → Tells h seen words (r >>= f)
+access_why h seen words who (Ok i) f (le, lt, is) form only number = numbers h seen words (Vcpu i) (f i) (form i is) le lt (number i)
+access_why h seen words who (Err reason.Word) f never form only number = λ a has le. unnamed who a never (only a has) le
+access_why h seen words who (Err reason.Actor) f (i, le, never, is) form only number = (Vcpu i, form i is, le, never)
+access_why h seen words who (Err reason.Size) f never form only number = absurd never
+access_why h seen words who (Err reason.Lines) f never form only number = absurd never
+access_why h seen words who (Err reason.Cut) f never form only number = absurd never
+access_why h seen words who (Err reason.Long) f never form only number = absurd never
+access_why h seen words who (Err reason.Byte) f never form only number = absurd never
+access_why h seen words who (Err reason.Header) f never form only number = absurd never
+access_why h seen words who (Err reason.Number) f never form only number = absurd never
+
+-- Of which form three words, four, six and seven can be.
+abbrev Three : List ℕ → List ℕ → Actor → Type 0
+Three who verb a = IsNamedBy who a × (verb ≡ codes "read")
+
+three : (seen : Bool) (who verb x : List ℕ) (a : Actor) → HasForm seen (who ∷ verb ∷ x ∷ []) a → Three who verb a
+three seen who verb x (Vcpu i) (inl (y, e)) = (cc, cc)
+three seen who verb x (Vcpu i) (inr (inl (y, z, e))) = absurd (let no : ⊥ = cc in no)
+three seen who verb x (Vcpu i) (inr (inr (y, z, e))) = absurd (let no : ⊥ = cc in no)
+three seen who verb x (Host i) form = absurd form
+three seen who verb x Manager (i, b, p, k, ro, first, e) = absurd (let no : ⊥ = cc in no)
+three seen who verb x (Worker i) form = absurd form
+
+abbrev Four : List ℕ → List ℕ → Actor → Type 0
+Four who verb a = IsNamedBy who a × ((verb ≡ codes "write") ⊎ (verb ≡ codes "add"))
+
+four : (seen : Bool) (who verb x y : List ℕ) (a : Actor) → HasForm seen (who ∷ verb ∷ x ∷ y ∷ []) a → Four who verb a
+four seen who verb x y (Vcpu i) (inl (z, e)) = absurd (let no : ⊥ = cc in no)
+four seen who verb x y (Vcpu i) (inr (inl (z, u, e))) = (cc, inl cc)
+four seen who verb x y (Vcpu i) (inr (inr (z, u, e))) = (cc, inr cc)
+four seen who verb x y (Host i) form = absurd form
+four seen who verb x y Manager (i, b, p, k, ro, first, e) = absurd (let no : ⊥ = cc in no)
+four seen who verb x y (Worker i) form = absurd form
+
+abbrev Six : Bool → List ℕ → List ℕ → Type 0
+Six seen who verb = (seen ≡ false) × (who ≡ codes "vm") × (verb ≡ codes "slot")
+
+six : (seen : Bool) (who verb i b p k : List ℕ) (a : Actor) → HasForm seen (who ∷ verb ∷ i ∷ b ∷ p ∷ k ∷ []) a → Six seen who verb
+six seen who verb i b p k (Vcpu n) (inl (z, e)) = absurd (let no : ⊥ = cc in no)
+six seen who verb i b p k (Vcpu n) (inr (inl (z, u, e))) = absurd (let no : ⊥ = cc in no)
+six seen who verb i b p k (Vcpu n) (inr (inr (z, u, e))) = absurd (let no : ⊥ = cc in no)
+six seen who verb i b p k (Host n) form = absurd form
+six seen who verb i b p k Manager (i1, b1, p1, k1, ro, first, e) = (first, cc, cc)
+six seen who verb i b p k (Worker n) form = absurd form
+
+abbrev Seven : Bool → List ℕ → List ℕ → List ℕ → Type 0
+Seven seen who verb last = (seen ≡ false) × (who ≡ codes "vm") × (verb ≡ codes "slot") × (last ≡ codes "ro")
+
+seven : (seen : Bool) (who verb i b p k last : List ℕ) (a : Actor) → HasForm seen (who ∷ verb ∷ i ∷ b ∷ p ∷ k ∷ last ∷ []) a → Seven seen who verb last
+seven seen who verb i b p k last (Vcpu n) (inl (z, e)) = absurd (let no : ⊥ = cc in no)
+seven seen who verb i b p k last (Vcpu n) (inr (inl (z, u, e))) = absurd (let no : ⊥ = cc in no)
+seven seen who verb i b p k last (Vcpu n) (inr (inr (z, u, e))) = absurd (let no : ⊥ = cc in no)
+seven seen who verb i b p k last (Host n) form = absurd form
+seven seen who verb i b p k last Manager (i1, b1, p1, k1, true, first, e) = (first, cc, cc, cc)
+seven seen who verb i b p k last Manager (i1, b1, p1, k1, false, first, e) = absurd (let no : ⊥ = cc in no)
+seven seen who verb i b p k last (Worker n) form = absurd form
+
+differs : (w v : List ℕ) → bytes_eq w v ≡ false → w ≡ v → ⊥
+differs w v e same = let t : bytes_eq w v ≡ true = is_word w v same in cc
+
+read_test : (h : Header) (seen : Bool) (who verb x : List ℕ) (b : Bool) (y : Said) → bytes_eq verb (codes "read") ≡ b → (verb ≡ codes "read" → Tells h seen (who ∷ verb ∷ x ∷ []) y) → Tells h seen (who ∷ verb ∷ x ∷ []) (cond b y (Err reason.Word))
+read_test h seen who verb x true y e is = is (word_is verb (codes "read") e)
+read_test h seen who verb x false y e is = none h seen (who ∷ verb ∷ x ∷ []) (λ a form. differs verb (codes "read") e (three seen who verb x a form).1)
+
+read_why : (h : Header) (seen : Bool) (who verb x : List ℕ) → Tells h seen (who ∷ verb ∷ x ∷ []) (read_form h who verb x)
+unfolding read_form
+read_why h seen who verb x = read_test h seen who verb x (bytes_eq verb (codes "read")) _ refl (λ is.
+    access_why h seen (who ∷ verb ∷ x ∷ []) who (vcpu h who) _ (named h who) (λ i name. inl (x, rw (name, is) refl)) (λ a form. (three seen who verb x a form).0)
+    (λ n. bound (address h x) _ (address_number h x) (λ a. tt)))
+
+store_test : (h : Header) (seen : Bool) (who verb x y : List ℕ) (b c : Bool) (p q : Said) → bytes_eq verb (codes "write") ≡ b → bytes_eq verb (codes "add") ≡ c
+    → (verb ≡ codes "write" → Tells h seen (who ∷ verb ∷ x ∷ y ∷ []) p) → (verb ≡ codes "add" → Tells h seen (who ∷ verb ∷ x ∷ y ∷ []) q)
+    → Tells h seen (who ∷ verb ∷ x ∷ y ∷ []) (cond b p (cond c q (Err reason.Word)))
+store_test h seen who verb x y true c p q e f is also = is (word_is verb (codes "write") e)
+store_test h seen who verb x y false true p q e f is also = also (word_is verb (codes "add") f)
+store_test h seen who verb x y false false p q e f is also = none h seen (who ∷ verb ∷ x ∷ y ∷ []) (λ a form. elim ((four seen who verb x y a form).1) [
+  | inl s ↦ differs verb (codes "write") e s
+  | inr s ↦ differs verb (codes "add") f s
+])
+
+store_why : (h : Header) (seen : Bool) (who verb x y : List ℕ) → Tells h seen (who ∷ verb ∷ x ∷ y ∷ []) (store_form h who verb x y)
+unfolding store_form
+store_why h seen who verb x y = store_test h seen who verb x y (bytes_eq verb (codes "write")) (bytes_eq verb (codes "add")) _ _ refl refl
+    (λ is. access_why h seen (who ∷ verb ∷ x ∷ y ∷ []) who (vcpu h who) _ (named h who) (λ i name. inr (inl (x, y, rw (name, is) refl))) (λ a form. (four seen who verb x y a form).0)
+    (λ n. bound (address h x) _ (address_number h x) (λ a. bound (number y) _ (number_number y) (λ v. tt))))
+    (λ is. access_why h seen (who ∷ verb ∷ x ∷ y ∷ []) who (vcpu h who) _ (named h who) (λ i name. inr (inr (x, y, rw (name, is) refl))) (λ a form. (four seen who verb x y a form).0)
+    (λ n. bound (address h x) _ (address_number h x) (λ a. bound (number y) _ (number_number y) (λ v. tt))))
+
+-- A slot line's words: it has to be the first, then the numbers are looked at.
+setting_why : (h : Header) (seen : Bool) (words : List (List ℕ)) (i x y z : List ℕ) (ro : Bool) → (seen ≡ true → Formless seen words) → (seen ≡ false → HasForm seen words Manager) → Tells h seen words (setting seen i x y z ro)
 unfolding setting
-setting_of seen i x y z ro = chosen seen _ _ is_word (bound (number i) _ (number_of_line i) (λ id. bound (slot x y z ro) _ (slot_of x y z ro) (λ s. tt)))
+setting_why h true words i x y z ro never form = none h true words (never refl)
+setting_why h false words i x y z ro never form = numbers h false words Manager _ (form refl) tt tt (bound (number i) _ (number_number i) (λ id. bound (slot x y z ro) _ (slot_number x y z ro) (λ s. tt)))
 
-slot_form_of : (seen : Bool) (who verb i x y z : List ℕ) → IsOfLine (slot_form seen who verb i x y z)
+slot_test : (h : Header) (seen b : Bool) (words : List (List ℕ)) (y : Said) (t : Bool) → t ≡ b → (t ≡ false → Formless seen words) → (t ≡ true → Tells h seen words y) → Tells h seen words (cond b y (Err reason.Word))
+slot_test h seen true words y t e never is = is e
+slot_test h seen false words y t e never is = none h seen words (never e)
+
+slot_why : (h : Header) (seen : Bool) (who verb i x y z : List ℕ) → Tells h seen (who ∷ verb ∷ i ∷ x ∷ y ∷ z ∷ []) (slot_form seen who verb i x y z)
 unfolding slot_form
-slot_form_of seen who verb i x y z = chosen (bytes_eq who (codes "vm") && bytes_eq verb (codes "slot")) _ _ (setting_of seen i x y z false) is_word
+slot_why h seen who verb i x y z =
+    slot_test h seen (bytes_eq who (codes "vm") && bytes_eq verb (codes "slot")) (who ∷ verb ∷ i ∷ x ∷ y ∷ z ∷ []) _ (bytes_eq who (codes "vm") && bytes_eq verb (codes "slot")) refl
+    (λ e a form. let s = six seen who verb i x y z a form in absurd (let w : (bytes_eq who (codes "vm") && bytes_eq verb (codes "slot")) ≡ true = rw (is_word who (codes "vm") s.1, is_word verb (codes "slot") s.2) refl in cc))
+    (λ e. let t = both (bytes_eq who (codes "vm")) (bytes_eq verb (codes "slot")) e in
+    setting_why h seen (who ∷ verb ∷ i ∷ x ∷ y ∷ z ∷ []) i x y z false
+    (λ second a form. let s = six seen who verb i x y z a form in absurd (let no : ⊥ = cc in no))
+    (λ first. (i, x, y, z, false, first, rw (word_is who (codes "vm") t.0, word_is verb (codes "slot") t.1) refl)))
 
-read_only_of : (seen : Bool) (who verb i x y z last : List ℕ) → IsOfLine (read_only_slot_form seen who verb i x y z last)
+read_only_why : (h : Header) (seen : Bool) (who verb i x y z last : List ℕ) → Tells h seen (who ∷ verb ∷ i ∷ x ∷ y ∷ z ∷ last ∷ []) (read_only_slot_form seen who verb i x y z last)
 unfolding read_only_slot_form
-read_only_of seen who verb i x y z last = chosen (bytes_eq who (codes "vm") && bytes_eq verb (codes "slot") && bytes_eq last (codes "ro")) _ _ (setting_of seen i x y z true) is_word
+read_only_why h seen who verb i x y z last =
+    slot_test h seen (bytes_eq who (codes "vm") && bytes_eq verb (codes "slot") && bytes_eq last (codes "ro")) (who ∷ verb ∷ i ∷ x ∷ y ∷ z ∷ last ∷ []) _ (bytes_eq who (codes "vm") && bytes_eq verb (codes "slot") && bytes_eq last (codes "ro")) refl
+    (λ e a form. let s = seven seen who verb i x y z last a form in absurd (let t : bytes_eq who (codes "vm") ≡ true = is_word who (codes "vm") s.1 in let u : bytes_eq verb (codes "slot") ≡ true = is_word verb (codes "slot") s.2 in let v : bytes_eq last (codes "ro") ≡ true = is_word last (codes "ro") s.3 in let w : (bytes_eq who (codes "vm") && bytes_eq verb (codes "slot") && bytes_eq last (codes "ro")) ≡ true = rw (t, u, v) refl in cc))
+    (λ e. let u = both (bytes_eq who (codes "vm") && bytes_eq verb (codes "slot")) (bytes_eq last (codes "ro")) e in
+    let t = both (bytes_eq who (codes "vm")) (bytes_eq verb (codes "slot")) u.0 in
+    setting_why h seen (who ∷ verb ∷ i ∷ x ∷ y ∷ z ∷ last ∷ []) i x y z true
+    (λ second a form. let s = seven seen who verb i x y z last a form in absurd (let no : ⊥ = cc in no))
+    (λ first. (i, x, y, z, true, first, rw (word_is who (codes "vm") t.0, word_is verb (codes "slot") t.1, word_is last (codes "ro") u.1) refl)))
 
-form_of : (h : Header) (seen : Bool) (words : List (List ℕ)) → IsOfLine (by_form h seen words)
+-- No other count of words has a form.
+counted : (seen : Bool) (words : List (List ℕ)) (a : Actor) → HasForm seen words a → (length words ≡ 3) ⊎ (length words ≡ 4) ⊎ (length words ≡ 6) ⊎ (length words ≡ 7)
+counted seen words (Vcpu i) (inl (x, e)) = inl (rw e refl)
+counted seen words (Vcpu i) (inr (inl (x, y, e))) = inr (inl (rw e refl))
+counted seen words (Vcpu i) (inr (inr (x, y, e))) = inr (inl (rw e refl))
+counted seen words (Host i) form = absurd form
+counted seen words Manager (i, x, y, z, true, first, e) = inr (inr (inr (rw e refl)))
+counted seen words Manager (i, x, y, z, false, first, e) = inr (inr (inl (rw e refl)))
+counted seen words (Worker i) form = absurd form
+
+-- What the reader refuses, it refuses for what it is.
+pub why : (h : Header) (seen : Bool) (words : List (List ℕ)) → Tells h seen words (by_form h seen words)
 unfolding by_form
-form_of h seen [] = is_word
-form_of h seen (a ∷ []) = is_word
-form_of h seen (a ∷ b ∷ []) = is_word
-form_of h seen (a ∷ b ∷ c ∷ []) = read_of h a b c
-form_of h seen (a ∷ b ∷ c ∷ d ∷ []) = store_of h a b c d
-form_of h seen (a ∷ b ∷ c ∷ d ∷ f ∷ []) = is_word
-form_of h seen (a ∷ b ∷ c ∷ d ∷ f ∷ g ∷ []) = slot_form_of seen a b c d f g
-form_of h seen (a ∷ b ∷ c ∷ d ∷ f ∷ g ∷ i ∷ []) = read_only_of seen a b c d f g i
-form_of h seen (a ∷ b ∷ c ∷ d ∷ f ∷ g ∷ i ∷ j ∷ more) = is_word
-
-said_of : (h : Header) (seen : Bool) (bytes : List ℕ) → IsOfLine (said h seen bytes)
-unfolding said by_words
-said_of h seen bytes = chosen (list_any is_empty (words_of bytes)) (Err reason.Word) _ is_word (form_of h seen (words_of bytes))
-
-refused : (r : Result (Actor × Command) Reason) → IsOfLine r → ((p : Actor × Command) → r ≡ Ok p → ⊥) → (k : Reason) × (r ≡ Err k) × IsLineReason k
-refused (Ok p) is none = absurd (none p refl)
-refused (Err k) is none = (k, refl, is)
-
-pub refuses : (h : Header) (seen : Bool) (bytes : List ℕ) → ((a : Actor) (c : Command) → SaysLine h seen bytes a c → ⊥) → (r : Reason) × (said h seen bytes ≡ Err r) × IsLineReason r
-refuses h seen bytes none = refused (said h seen bytes) (said_of h seen bytes) (λ p e. none p.0 p.1 (only_said h seen bytes p.0 p.1 e))
+why h seen [] = none h seen [] (λ a form. let n = counted seen [] a form in grind (arith, n))
+why h seen (a ∷ []) = none h seen (a ∷ []) (λ x form. let n = counted seen (a ∷ []) x form in grind (arith, n))
+why h seen (a ∷ b ∷ []) = none h seen (a ∷ b ∷ []) (λ x form. let n = counted seen (a ∷ b ∷ []) x form in grind (arith, n))
+why h seen (a ∷ b ∷ c ∷ []) = read_why h seen a b c
+why h seen (a ∷ b ∷ c ∷ d ∷ []) = store_why h seen a b c d
+why h seen (a ∷ b ∷ c ∷ d ∷ f ∷ []) = none h seen (a ∷ b ∷ c ∷ d ∷ f ∷ []) (λ x form. let n = counted seen (a ∷ b ∷ c ∷ d ∷ f ∷ []) x form in grind (arith, n))
+why h seen (a ∷ b ∷ c ∷ d ∷ f ∷ g ∷ []) = slot_why h seen a b c d f g
+why h seen (a ∷ b ∷ c ∷ d ∷ f ∷ g ∷ i ∷ []) = read_only_why h seen a b c d f g i
+why h seen (a ∷ b ∷ c ∷ d ∷ f ∷ g ∷ i ∷ j ∷ more) = none h seen (a ∷ b ∷ c ∷ d ∷ f ∷ g ∷ i ∷ j ∷ more) (λ x form. let n = counted seen (a ∷ b ∷ c ∷ d ∷ f ∷ g ∷ i ∷ j ∷ more) x form in grind (arith, n))

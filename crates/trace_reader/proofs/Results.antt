@@ -24,3 +24,6 @@ both false b e = cc
 
 pub word_is : (w v : List ℕ) → bytes_eq w v ≡ true → w ≡ v
 word_is w v e = (bytes_eq-Decides w v).0 e
+
+pub is_word : (w v : List ℕ) → w ≡ v → bytes_eq w v ≡ true
+is_word w v e = (bytes_eq-Decides w v).1 e

@@ -1,33 +1,11 @@
 -- What the words of line 1 say: the header, with no order of checks; and that the reader takes just this.
-use Rattle.std.specs.Prelude.{◌≡◌, ◌≤◌, ◌<◌, ◌+◌, ◌*◌, ◌⊎◌, ℕ, List, [], ◌∷◌, codes, length, Ok, Err}
+use Rattle.std.specs.Prelude.{◌≡◌, ℕ, List, ◌∷◌, codes, Ok, Err}
 use Rattle.std.specs.List.{AllZip}
+use Rattle.core_views.specs.Traces.{IsHeader}
 use Rattle.core_views.specs.declared.trace.Header.{Header}
 use Rattle.trace_reader.specs.declared.reason.Reason.TheVariants as reason
 use Rattle.trace_reader.specs.Headers.{header_of}
 use Rattle.trace_reader.specs.Grammar.{Spells}
-
--- The numbers are strictly rising, from low on and below top.
-abbrev pub RiseFrom : ℕ → ℕ → List ℕ → Type 0
-RiseFrom low top [] = Unit {0}
-RiseFrom low top (n ∷ ns) = (low ≤ n) × (n < top) × RiseFrom (n + 1) top ns
-
--- The first host pages of one to four host threads: 0, and strictly rising numbers below the number of pages.
-abbrev pub AreHosts : ℕ → List ℕ → Type 0
-AreHosts pages hosts = (more : List ℕ) × (hosts ≡ 0 ∷ more) × (length more ≤ 3) × RiseFrom 1 pages more
-
--- The header's numbers are in their ranges.
-pub record IsHeader (h : Header) : Type 0 where
-  pub version : h.version ≡ 1
-  pub vcpus : (1 ≤ h.vcpus) × (h.vcpus ≤ 16)
-  pub workers : h.workers ≤ 4
-  pub pages : (1 ≤ h.pages) × (h.pages ≤ 1048576)
-  pub frames : (h.pages ≤ h.frames) × (h.frames ≤ 2097152)
-  pub words : (h.words ≡ 1) ⊎ (h.words ≡ 2) ⊎ (h.words ≡ 4) ⊎ (h.words ≡ 8)
-  pub room : h.frames * h.words ≤ 8388608
-  pub pool : (4 ≤ h.pool) × (h.pool ≤ 16384)
-  pub cache : (1 ≤ h.cache) × (h.cache ≤ 64)
-  pub manual : h.manual ≤ 2
-  pub hosts : AreHosts h.pages h.hosts
 
 -- The words behind a header's labels.
 pub record HeaderWords : Type 0 where

@@ -8,3 +8,4 @@ pub mod Reading
 pub mod Runs
 pub mod Grammar
 pub mod HeaderGrammar
+pub mod InputGrammar

@@ -16,7 +16,7 @@ mod refusal;
 #[cfg(test)]
 mod tests;
 
-pub use grammar::{grammar_is_exact, header_grammar_is_exact};
+pub use grammar::{grammar_is_exact, header_grammar_is_exact, input_grammar_is_exact};
 pub use outcome::Read;
 pub use pool::need;
 pub use reading::read_trace;

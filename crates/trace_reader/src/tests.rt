@@ -20,6 +20,20 @@ const TABLE: &str = "\
 1 header|tdp 1 vcpus 0 workers 0 pages 1 frames 1 words 1=\n\
 1 header|tdp 1 vcpus 17 workers 0 pages 1 frames 1 words 1=\n\
 1 header|tdp 1 vcpu 1 workers 0 pages 1 frames 1 words 1=\n\
+1 header|TDP 1 vcpus 1 workers 0 pages 1 frames 1 words 1=\n\
+1 header|tdp 0 vcpus 1 workers 0 pages 1 frames 1 words 1=\n\
+1 header|tdp 1 vcpus 01 workers 0 pages 1 frames 1 words 1=\n\
+1 header|tdp 1 vcpus 0X1 workers 0 pages 1 frames 1 words 1=\n\
+1 header|tdp 1 vcpus 18446744073709551617 workers 0 pages 1 frames 1 words 1=\n\
+1 header|tdp 1 vcpus 1 worker 0 pages 1 frames 1 words 1=\n\
+1 header|tdp 1 workers 0 vcpus 1 pages 1 frames 1 words 1=\n\
+1 header|tdp 1 vcpus 1 workers 0 page 1 frames 1 words 1=\n\
+1 header|<1 frame 1 words 1=\n\
+1 header|<1 frames 1 word 1=\n\
+1 header|<1 frames 1 words 1 pools 4 cache 1 manual 0 hosts 0;\n\
+1 header|<1 frames 1 words 1 pool 4 caches 1 manual 0 hosts 0;\n\
+1 header|<1 frames 1 words 1 pool 4 cache 1 manuals 0 hosts 0;\n\
+1 header|<1 frames 1 words 1 pool 4 cache 1 manual 0 host 0;\n\
 1 header|tdp 1 vcpus 1 workers 5 pages 1 frames 1 words 1=\n\
 1 header|<0 frames 1 words 1=\n\
 1 header|<1048577 frames 1048577 words 1=\n\
@@ -28,6 +42,11 @@ const TABLE: &str = "\
 1 header|<1 frames 1 words 0=\n\
 1 header|<1 frames 1 words 3=\n\
 1 header|<1 frames 1 words 16=\n\
+1 header|<1 frames 1 words 5=\n\
+1 header|<1 frames 1 words 7=\n\
+1 header|<1 frames 1 words 9=\n\
+1 header|<9 frames 8 words 1=\n\
+1 header|<1 frames 2097152 words 8=\n\
 1 header|<1 frames 1048577 words 8=\n\
 1 header|<1 frames 1 words 1 pool 3 cache 1 manual 0 hosts 0;\n\
 1 header|<1 frames 1 words 1 pool 16385 cache 1 manual 0 hosts 0;\n\
@@ -40,6 +59,9 @@ const TABLE: &str = "\
 1 header|<1 frames 1 words 1 pool 4 cache 1 manual 0 hosts 0 ;\n\
 1 header|<1 frames 1 words 1 pool 4 cache 1 manual 0 hosts 0 1;\n\
 1 header|<9 frames 9 words 1 pool 4 cache 1 manual 0 hosts 0 9;\n\
+1 header|<9 frames 9 words 1 pool 4 cache 1 manual 0 hosts 0 0;\n\
+1 header|<9 frames 9 words 1 pool 4 cache 1 manual 0 hosts 0 8 9;\n\
+1 header|<9 frames 9 words 1 pool 4 cache 1 manual 0 hosts 0  8;\n\
 1 header|<9 frames 9 words 1 pool 4 cache 1 manual 0 hosts 0 3 3;\n\
 1 header|<9 frames 9 words 1 pool 4 cache 1 manual 0 hosts 0 5 4;\n\
 1 header|<9 frames 9 words 1 pool 4 cache 1 manual 0 hosts 0 1 2 3 4;\n\
@@ -47,6 +69,9 @@ const TABLE: &str = "\
 1 header|tdp  1 vcpus 1 workers 0 pages 1 frames 1 words 1=\n\
 1 cut|tdp 1\n\
 1 cut|x\n\
+1 cut|<1 frames 1 words 1 pool 4 cache 1 manual 0 hosts 0\n\
+2 cut|& \n\
+2 cut|&#\n\
 2 cut|&v0 read 0\n\
 2 cut|&^\n\
 3 cut|&v0 read 0;#\n\
@@ -57,6 +82,8 @@ const TABLE: &str = "\
 2 byte|&v0 read 0$;\n\
 2 byte|&#@;\n\
 2 byte|&#?;\n\
+2 byte|&#*;\n\
+2 byte|&#{;\n\
 2 byte|&!;\n\
 3 byte|&v0 read 0;#^;\n\
 2 word|& ;\n\
@@ -72,6 +99,11 @@ const TABLE: &str = "\
 2 word|&v0 sub 0 1;\n\
 2 word|&v0 Read 0;\n\
 2 word|&v16 read 0;\n\
+2 word|tdp 1 vcpus 16 workers 0 pages 1 frames 1 words 1=v16 read 0;\n\
+2 word|&v18446744073709551616 read 0;\n\
+2 word|&v-1 read 0;\n\
+2 word|&v00 read 0;\n\
+2 word|&V0 read 0;\n\
 2 word|&v01 read 0;\n\
 2 word|&v0x1 read 0;\n\
 2 word|&v read 0;\n\
@@ -85,6 +117,9 @@ const TABLE: &str = "\
 2 word|&vm slot;\n\
 2 word|&vm slot 0 0 1;\n\
 2 word|&vm slot 0 0 1 0 rw;\n\
+2 word|&vm slot 0 0 1 0 Ro;\n\
+2 word|&vm slot 0  1 0;\n\
+2 word|&VM slot 0 0 1 0;\n\
 2 word|&vm slot 0 0 1 0 ro ro;\n\
 2 word|&vm slot 0 0 1 0 ;\n\
 2 word|&vm slots 0 0 1 0;\n\
@@ -95,6 +130,10 @@ const TABLE: &str = "\
 5 word|&%# c;;vm slot 1 0 1 0;\n\
 4 word|&vm slot 1 0 1 0 ro;v0 read 0;vm slot 1 0 1 0;\n\
 2 actor|&v2 read 0;\n\
+2 actor|&v2 read 0;v0 look;\n\
+3 actor|&v0 read 0;v2 read 0;\n\
+2 actor|<1 frames 1 words 1=v1 read 0;\n\
+2 actor|&v10 add z z;\n\
 2 actor|&v15 read z;\n\
 2 actor|&v2 write z 1;\n\
 2 actor|&v3 add 0 z;\n\
@@ -106,6 +145,14 @@ const TABLE: &str = "\
 2 number|&v0 read 32;\n\
 2 number|&v0 read 4;\n\
 2 number|&v0 read 4095;\n\
+2 number|&v0 read 23;\n\
+2 number|&v0 read 25;\n\
+2 number|&v0 read 4128;\n\
+2 number|&v0 read 281474976706592;\n\
+2 number|&v0 read 281474976710648;\n\
+2 number|<1 frames 1 words 1=v0 read 8;\n\
+2 number|<1 frames 1 words 2=v0 read 16;\n\
+2 number|<1 frames 1 words 8=v0 read 64;\n\
 2 number|&v0 read 281474976710656;\n\
 2 number|&v0 read 0x1000000000000;\n\
 2 number|&v0 read z;\n\
@@ -113,6 +160,12 @@ const TABLE: &str = "\
 2 number|&v0 read +0;\n\
 2 number|&v0 read 00;\n\
 2 number|&v0 write 0 18446744073709551616;\n\
+2 number|&v0 write 0 18446744073709551617;\n\
+2 number|&v0 write 0 99999999999999999999;\n\
+2 number|&v0 write 0 0X1;\n\
+2 number|&v0 write 0 0xfF;\n\
+2 number|&v0 write 0 0x000000000000000ff;\n\
+2 number|&v0 write 0 0xffffffffffffffff0;\n\
 2 number|&v0 write 0 0x10000000000000000;\n\
 2 number|&v0 write 32 z;\n\
 2 number|&v0 write 0 z;\n\
@@ -129,6 +182,12 @@ const TABLE: &str = "\
 2 number|&vm slot 0 0 1 68719476736;\n\
 2 number|&vm slot 0 0 1 1;\n\
 2 number|&vm slot 0 0 1 63;\n\
+2 number|&vm slot 0 0 1 65;\n\
+2 number|&vm slot 0 0 1 32 ro;\n\
+2 number|&vm slot z 0 1 0 ro;\n\
+2 number|&vm slot 0 z 1 0;\n\
+2 number|&vm slot 0 0 z 0;\n\
+2 number|&vm slot 0 0 1 z;\n\
 3 number|&v0 read 0;v0 read 1;v0 read 2;\n\
 0 lines|&\n\
 0 lines|&;\n\
@@ -137,13 +196,29 @@ const TABLE: &str = "\
 0 lines|tdp 1 vcpus 16 workers 4 pages 1048576 frames 1048576 words 8 pool 16384 cache 64 manual 2 hosts 0 1 2 1048575;\n\
 0 lines|<1 frames 1 words 1=\n\
 0 lines|<1 frames 2097152 words 4=\n\
+0 lines|<1 frames 1 words 2=\n\
+0 lines|<1 frames 1 words 8=\n\
+0 lines|<1048576 frames 2097152 words 1=\n\
+0 lines|<9 frames 9 words 1 pool 4 cache 1 manual 1 hosts 0 8;\n\
+0 lines|<9 frames 9 words 1 pool 0x4 cache 0x1 manual 0x2 hosts 0x0 0x8;\n\
+0 lines|tdp 1 vcpus 0x10 workers 0x4 pages 0x1 frames 0x1 words 0x1=\n\
+0 lines|&#~ ~;\n\
 1 lines|&%\n\
 1 lines|&v1 read 0;\n\
 1 lines|&v0 read 24;\n\
+1 lines|&v0 read 4120;\n\
+1 lines|<1 frames 1 words 1=v0 read 0;\n\
+1 lines|<1 frames 1 words 2=v0 read 8;\n\
+1 lines|<1 frames 1 words 8=v0 read 56;\n\
+1 lines|tdp 1 vcpus 16 workers 0 pages 1 frames 1 words 1=v15 read 0;\n\
 1 lines|&v0 read 281474976706584;\n\
 1 lines|&v0 read 0x0000fffffffff018;\n\
 1 lines|&v0 write 8 18446744073709551615;\n\
 1 lines|&v0 add 0x8 0xffffffffffffffff;\n\
+1 lines|&v0 add 0 0x00000000000000ff;\n\
+1 lines|&v0 write 0 0;\n\
+1 lines|&v0 write 0 0x0;\n\
+1 lines|&vm slot 31 68719476735 1 64;\n\
 1 lines|&vm slot 18446744073709551615 68719476735 68719476735 68719476672;\n\
 1 lines|&vm slot 0x20 0 1 0 ro;\n\
 1 lines|&#;v0 read 0;;\n\
@@ -162,6 +237,8 @@ fn push_text(bytes: &mut Vec<u8>, byte: u8) -> Result<(), AllocError> {
         b'@' => bytes.extend_from_slice(b"\x00"),
         b'?' => bytes.extend_from_slice(b"\x7f"),
         b'!' => bytes.extend_from_slice(b"\xff"),
+        b'*' => bytes.extend_from_slice(b"\x1f"),
+        b'{' => bytes.extend_from_slice(b"\x80"),
         _ => bytes.extend_from_slice(&[byte]),
     }
 }
@@ -219,8 +296,17 @@ fn answers_the_table(rt: HostRuntime) -> Result<(), Fail> {
             cases = cases.saturating_add(1);
         }
     }
-    assert_eq!(rt; cases, 138);
+    assert_eq!(rt; cases, 213);
     Ok(())
+}
+
+// A line of this many times this byte, behind the text.
+fn with_line(alloc: Global, text: &str, byte: u8, count: usize) -> Result<Vec<u8>, AllocError> {
+    let mut bytes = input(alloc, text.as_bytes())?;
+    let line = vec![in alloc; byte; count]?;
+    bytes.extend_from_slice(&line)?;
+    bytes.extend_from_slice(b"\n")?;
+    Ok(bytes)
 }
 
 #[test]
@@ -230,19 +316,63 @@ fn refuses_long_inputs(rt: HostRuntime) -> Result<(), Fail> {
         let bytes = vec![in alloc; b'x'; count]?;
         assert!(rt; is_refused(alloc, bytes, 1, reason)?);
     }
-    for (count, reason) in [(65_536, Reason::Word), (65_537, Reason::Long)] {
-        let mut bytes = behind(alloc, "")?;
-        let long = vec![in alloc; b'x'; count]?;
-        bytes.extend_from_slice(&long)?;
-        bytes.extend_from_slice(b"\n")?;
-        assert!(rt; is_refused(alloc, bytes, 3, reason)?);
+    for (count, reason) in [(16_777_215, Reason::Long), (16_777_216, Reason::Size)] {
+        assert!(rt; is_refused(alloc, with_line(alloc, "", b'x', count)?, 1, reason)?);
     }
-    let mut bytes = behind(alloc, "")?;
-    for _ in 0..999_998 {
-        bytes.extend_from_slice(b"v1 read 8\n")?;
+    Ok(())
+}
+
+#[test]
+fn refuses_long_lines(rt: HostRuntime) -> Result<(), Fail> {
+    let alloc = rt.alloc();
+    for (byte, count, reason) in [
+        (b'x', 65_536, Reason::Word),
+        (b'x', 65_537, Reason::Long),
+        (b'#', 65_537, Reason::Long),
+        (b'\t', 65_536, Reason::Byte),
+        (b'\t', 65_537, Reason::Long),
+    ] {
+        assert!(rt; is_refused(alloc, with_line(alloc, "&%", byte, count)?, 3, reason)?);
     }
-    bytes.extend_from_slice(b"cut")?;
-    assert!(rt; is_refused(alloc, bytes, 1_000_001, Reason::Lines)?);
+    for (count, reason) in [(65_536, Reason::Header), (65_537, Reason::Long)] {
+        assert!(rt; is_refused(alloc, with_line(alloc, "", b'x', count)?, 1, reason)?);
+    }
+    let longest = answer(alloc, with_line(alloc, "&%", b'#', 65_536)?)?;
+    assert_eq!(rt; longest.as_str(), "1 lines");
+    let mut cut = with_line(alloc, "&%", b'x', 65_537)?;
+    cut.pop();
+    assert!(rt; is_refused(alloc, cut, 3, Reason::Cut)?);
+    Ok(())
+}
+
+// The header, and this line as line 2 and each further one up to line 1,000,000.
+fn full(alloc: Global, line: &[u8]) -> Result<Vec<u8>, AllocError> {
+    let mut bytes = input(alloc, b"&")?;
+    for _ in 0..999_999 {
+        bytes.extend_from_slice(line)?;
+    }
+    Ok(bytes)
+}
+
+#[test]
+fn refuses_many_lines(rt: HostRuntime) -> Result<(), Fail> {
+    let alloc = rt.alloc();
+    let most = answer(alloc, full(alloc, b"v1 read 8\n")?)?;
+    assert_eq!(rt; most.as_str(), "999999 lines");
+    for text in ["v1 read 8\n", "\n", "cut"] {
+        let mut bytes = full(alloc, b"v1 read 8\n")?;
+        bytes.extend_from_slice(text.as_bytes())?;
+        assert!(rt; is_refused(alloc, bytes, 1_000_001, Reason::Lines)?);
+    }
+    for (count, reason) in [
+        (16_777_216usize, Reason::Lines),
+        (16_777_217usize, Reason::Size),
+    ] {
+        let mut bytes = full(alloc, b"# a comment...\n")?;
+        let missing = vec![in alloc; b'x'; count.saturating_sub(bytes.len())]?;
+        bytes.extend_from_slice(&missing)?;
+        assert!(rt; is_refused(alloc, bytes, 1_000_001, reason)?);
+    }
     Ok(())
 }
 
