@@ -68,7 +68,8 @@ pub record IsHeader (h : Header) : Type 0 where
   pub manual : h.manual ≤ 2
   pub hosts : AreHostsOf h.pages h.hosts
 
--- All numbers of the trace are in their ranges.
+-- All numbers of the trace are in their ranges, and one line at most sets a slot.
 pub record IsTrace (t : Trace) : Type 0 where
   pub header : IsHeader t.header
   pub lines : AreLinesOf t.header t.lines
+  pub once : settings t.lines ≤ 1

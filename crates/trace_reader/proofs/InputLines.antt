@@ -12,7 +12,8 @@ use Rattle.core_views.specs.declared.trace.Header.{Header}
 use Rattle.core_views.specs.declared.trace.Line.{Line}
 use Rattle.trace_reader.specs.declared.reason.Reason.{Reason}
 use Rattle.trace_reader.specs.Forms.{◌>>=◌, Said, said}
-use Rattle.trace_reader.specs.Lines.{Raw, fault_of, after_checks, numbered, is_skipped, content, line_of, is_setting, with_line, onto, raw, lines_of}
+use Rattle.core_views.specs.Traces.{sets_slot}
+use Rattle.trace_reader.specs.Lines.{Raw, fault_of, after_checks, numbered, is_skipped, content, line_of, with_line, onto, raw, lines_of}
 use Rattle.trace_reader.specs.Grammar.{SaysLine}
 use Rattle.trace_reader.specs.InputGrammar.{with_ends, IsText, IsSkipped, SayLines, PassesAll, LineFails}
 use Rattle.trace_reader.proofs.Prefix.{with_prefix}
@@ -70,7 +71,7 @@ line_fails h seen line r header (inr (all, never, why)) = rw (faultless line all
 
 -- One of the lines sets a slot.
 abbrev pub sets : List Line → Bool
-sets lines = list_any (λ l. is_setting l.command) lines
+sets lines = list_any (λ l. sets_slot l.command) lines
 
 -- LF ends the first of them.
 abbrev pub more_of : List (List ℕ) → Bool
@@ -128,7 +129,7 @@ skip_front h n at seen text parts x is s k =
       ends = moved h _ _ _ _ _ _ k.text k.rest k.lines x next far refl k.ends;
     }
 
-line_front : (h : Header) (n at : ℕ) (seen : Bool) (text : List ℕ) (parts : List (List ℕ)) (l : Line) (x : Result (List Line) (ℕ × Reason)) → IsText text → (IsSkipped text → ⊥) → l.number ≡ n → SaysLine h seen text l.actor l.command → IsCut h (n + 1) (at + (length text + 1)) (seen || is_setting l.command) parts x → IsCut h n at seen (text ∷ parts) (with_line (Some l) x)
+line_front : (h : Header) (n at : ℕ) (seen : Bool) (text : List ℕ) (parts : List (List ℕ)) (l : Line) (x : Result (List Line) (ℕ × Reason)) → IsText text → (IsSkipped text → ⊥) → l.number ≡ n → SaysLine h seen text l.actor l.command → IsCut h (n + 1) (at + (length text + 1)) (seen || sets_slot l.command) parts x → IsCut h n at seen (text ∷ parts) (with_line (Some l) x)
 line_front h n at seen text parts l x is never number s k =
     let far : at + (length text + 1) + length (with_ends k.texts) ≡ at + length (with_ends (text ∷ k.texts)) = omega (arith, long text k.texts) in
     let next : n + 1 + length k.texts ≡ n + length (text ∷ k.texts) = omega arith in
@@ -141,7 +142,7 @@ line_front h n at seen text parts l x is never number s k =
       say = (is, inr (never, (l.actor, l.command, k.lines, ap (λ (m : ℕ). record { number = m; actor = l.actor; command = l.command } ∷ k.lines) number, s, k.say)));
       size = omega (arith, far, k.size);
       count = omega (arith, next, k.count);
-      ends = front_ends h _ _ _ k.text k.rest l k.lines x (moved h _ _ _ _ _ _ k.text k.rest k.lines x next far (or_right seen (is_setting l.command) (sets k.lines)) k.ends);
+      ends = front_ends h _ _ _ k.text k.rest l k.lines x (moved h _ _ _ _ _ _ k.text k.rest k.lines x next far (or_right seen (sets_slot l.command) (sets k.lines)) k.ends);
     }
 
 -- The first of the lines fails.
@@ -174,7 +175,7 @@ next_cut : (h : Header) (n at : ℕ) (seen : Bool) (text y : List ℕ) (more : L
 next_cut h n at seen text y more (Ok None) small few (all, s) rest =
     skip_front h n at seen text (y ∷ more) _ (all.3, all.4) s (rest seen all.0 (omega (arith, all.1)))
 next_cut h n at seen text y more (Ok (Some l)) small few (all, never, number, s) rest =
-    line_front h n at seen text (y ∷ more) l _ (all.3, all.4) never number s (rest (seen || is_setting l.command) all.0 (omega (arith, all.1)))
+    line_front h n at seen text (y ∷ more) l _ (all.3, all.4) never number s (rest (seen || sets_slot l.command) all.0 (omega (arith, all.1)))
 next_cut h n at seen text y more (Err r) small few fails rest = fails_here h n at seen text (y ∷ more) r small few (λ none empty. cc) fails
 
 -- What is read of the lines behind the header is what they say.
@@ -222,7 +223,7 @@ said_lines h n at seen (x ∷ xs) lines p ps header (is, inr (never, (a, c, more
     let next : n + 1 + length xs ≡ n + length (x ∷ xs) = omega arith in
     let (y, ys, e) = consed xs p ps in
     let all : PassesAll (raw n at true x) = (omega (arith, far), omega (arith, next), inl refl, is.0, is.1) in
-    let line : lines_of h n at seen (x ∷ (xs ++ p ∷ ps)) ≡ with_line (Some (numbered n (a, c))) (lines_of h (n + 1) (at + (length x + 1)) (seen || is_setting c) (xs ++ p ∷ ps)) = unroll h n at seen x y (xs ++ p ∷ ps) ys e ∙ rw (line_says h seen (raw n at true x) a c header all never s) refl in
-    rw e0 (line ∙ ap (with_line (Some (numbered n (a, c)))) (said_lines h (n + 1) (at + (length x + 1)) (seen || is_setting c) xs more p ps header say (omega (arith, far)) (omega (arith, next))
-    ∙ ap (with_prefix more) (same_lines h _ _ _ _ _ _ (p ∷ ps) next far (or_right seen (is_setting c) (sets more))))
+    let line : lines_of h n at seen (x ∷ (xs ++ p ∷ ps)) ≡ with_line (Some (numbered n (a, c))) (lines_of h (n + 1) (at + (length x + 1)) (seen || sets_slot c) (xs ++ p ∷ ps)) = unroll h n at seen x y (xs ++ p ∷ ps) ys e ∙ rw (line_says h seen (raw n at true x) a c header all never s) refl in
+    rw e0 (line ∙ ap (with_line (Some (numbered n (a, c)))) (said_lines h (n + 1) (at + (length x + 1)) (seen || sets_slot c) xs more p ps header say (omega (arith, far)) (omega (arith, next))
+    ∙ ap (with_prefix more) (same_lines h _ _ _ _ _ _ (p ∷ ps) next far (or_right seen (sets_slot c) (sets more))))
     ∙ onto_prefix (numbered n (a, c)) more _)

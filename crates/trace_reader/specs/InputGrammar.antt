@@ -8,7 +8,8 @@ use Rattle.core_views.specs.declared.trace.Line.{Line}
 use Rattle.core_views.specs.declared.trace.Trace.{Trace}
 use Rattle.trace_reader.specs.declared.reason.Reason.{Reason}
 use Rattle.trace_reader.specs.declared.reason.Reason.TheVariants as reason
-use Rattle.trace_reader.specs.Lines.{Raw, is_setting}
+use Rattle.core_views.specs.Traces.{sets_slot}
+use Rattle.trace_reader.specs.Lines.{Raw}
 use Rattle.trace_reader.specs.Reading.{reading}
 use Rattle.trace_reader.specs.Grammar.{spaced, SaysLine, SaysNothingFor}
 use Rattle.trace_reader.specs.HeaderGrammar.{IsHeaderSaid}
@@ -38,7 +39,7 @@ SaysHeader text h = (words : List (List ℕ)) × (text ≡ spaced words) × IsHe
 -- and its command. `seen`: a slot line stands before them.
 abbrev pub SayLines : Header → ℕ → Bool → List (List ℕ) → List Line → Type 0
 SayLines h n seen [] lines = lines ≡ []
-SayLines h n seen (text ∷ texts) lines = IsText text × ((IsSkipped text × SayLines h (n + 1) seen texts lines) ⊎ ((IsSkipped text → ⊥) × ((actor : Actor) × (command : Command) × (more : List Line) × (lines ≡ record { number = n; actor = actor; command = command } ∷ more) × SaysLine h seen text actor command × SayLines h (n + 1) (seen || is_setting command) texts more)))
+SayLines h n seen (text ∷ texts) lines = IsText text × ((IsSkipped text × SayLines h (n + 1) seen texts lines) ⊎ ((IsSkipped text → ⊥) × ((actor : Actor) × (command : Command) × (more : List Line) × (lines ≡ record { number = n; actor = actor; command = command } ∷ more) × SaysLine h seen text actor command × SayLines h (n + 1) (seen || sets_slot command) texts more)))
 
 -- The texts of an input's lines say the trace: the first its header, the others its lines.
 abbrev pub SayTrace : List (List ℕ) → Trace → Type 0
@@ -94,7 +95,7 @@ FirstLineFails input r = (text : List ℕ) × (ended : Bool) × HasLine input []
 
 -- Line n of the input is a later one, and fails for this reason; the lines before it say a trace by themselves.
 abbrev pub LaterLineFails : List ℕ → ℕ → Reason → Type 0
-LaterLineFails input n r = (before : List (List ℕ)) × (t : Trace) × SayTrace before t × (n ≡ length before + 1) × ((text : List ℕ) × (ended : Bool) × HasLine input before text ended × (ended ≡ false → text ≡ [] → ⊥) × LineFails t.header (list_any (λ l. is_setting l.command) t.lines) (line_behind before text ended) r)
+LaterLineFails input n r = (before : List (List ℕ)) × (t : Trace) × SayTrace before t × (n ≡ length before + 1) × ((text : List ℕ) × (ended : Bool) × HasLine input before text ended × (ended ≡ false → text ≡ [] → ⊥) × LineFails t.header (list_any (λ l. sets_slot l.command) t.lines) (line_behind before text ended) r)
 
 -- Line n is the first of the input that fails, and fails for this reason.
 abbrev pub FailsAt : List ℕ → ℕ → Reason → Type 0

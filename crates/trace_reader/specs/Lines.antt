@@ -8,6 +8,7 @@ use Rattle.core_views.specs.declared.trace.Command.{Command}
 use Rattle.core_views.specs.declared.trace.Command.TheVariants.{Access, SetSlot}
 use Rattle.core_views.specs.declared.trace.Header.{Header}
 use Rattle.core_views.specs.declared.trace.Line.{Line}
+use Rattle.core_views.specs.Traces.{sets_slot}
 use Rattle.trace_reader.specs.declared.reason.Reason.{Reason}
 use Rattle.trace_reader.specs.declared.reason.Reason.TheVariants as reason
 use Rattle.trace_reader.specs.Forms.{◌>>=◌, is_empty, said}
@@ -68,15 +69,10 @@ content h seen n bytes = if is_skipped bytes then Ok None else (said h seen byte
 unfoldable pub line_of : Header → Bool → Raw → Result (Option Line) Reason
 line_of h seen raw = after_checks (fault_of raw) (content h seen raw.number raw.bytes)
 
--- It sets a slot.
-abbrev pub is_setting : Command → Bool
-is_setting (Access gfn word op) = false
-is_setting (SetSlot id slot) = true
-
 -- A slot line stands before what follows.
 abbrev pub seen_after : Bool → Option Line → Bool
 seen_after seen None = seen
-seen_after seen (Some line) = seen || is_setting line.command
+seen_after seen (Some line) = seen || sets_slot line.command
 
 -- the line in front of those that follow, or a refusal of those
 abbrev pub with_line : Option Line → Result (List Line) (ℕ × Reason) → Result (List Line) (ℕ × Reason)

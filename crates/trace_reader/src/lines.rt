@@ -1,7 +1,7 @@
 ghost use Rattle.std.specs.Prelude.{◌≡◌, ◌≤◌, ◌<◌, ◌+◌, ◌==◌, ◌^◌, [], ◌∷◌, length, false, if◌then◌else◌, OnOk, IfOk, IfSome};
 ghost use Rattle.std.specs.List.{position};
-ghost use Rattle.core_views.specs.Traces.{AreLinesOf, IsLineOf};
-ghost use Rattle.trace_reader.specs.Lines.{parts_of, lines_of, is_setting, seen_after};
+ghost use Rattle.core_views.specs.Traces.{AreLinesOf, IsLineOf, sets_slot};
+ghost use Rattle.trace_reader.specs.Lines.{parts_of, lines_of, seen_after};
 ghost use Rattle.trace_reader.specs.Steps.{Tells, Keeps};
 
 use crate::line::line;
@@ -35,8 +35,8 @@ pub fn first_line(bytes: &[u8]) -> (&[u8], bool, &[u8])
     }
 }
 
-fn sets_slot(command: Command) -> bool
-    ensures { result ≡ is_setting command }
+fn is_setting(command: Command) -> bool
+    ensures { result ≡ sets_slot command }
 {
     match command {
         Command::Access { .. } => false,
@@ -50,7 +50,7 @@ fn now_seen(seen: bool, found: Option<Line>) -> bool
 {
     match found {
         None => seen,
-        Some(line) => seen || sets_slot(line.command),
+        Some(line) => seen || is_setting(line.command),
     }
 }
 
