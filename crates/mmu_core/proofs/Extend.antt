@@ -1,5 +1,5 @@
 -- A list of steps goes on by one step, or by another list; and it keeps the numbers of words and of hands.
-use Rattle.std.proofs.Common.{◌≡◌, ℕ, List, [], ◌∷◌, ◌++◌, length, refl, ◌∙◌, ap, subst, sym}
+use Rattle.std.proofs.Common.{◌≡◌, List, [], ◌∷◌, ◌++◌, length, refl, ◌∙◌, ap, subst, sym}
 use Rattle.std.proofs.lemmas.List.{length-set}
 use Rattle.mmu_core.specs.Machine.{Core, World, Step, effect, run, May, Legal, Leads}
 

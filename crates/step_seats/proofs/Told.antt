@@ -1,5 +1,5 @@
 -- Told worlds go on by one step, and by one list of steps after another.
-use Rattle.std.proofs.Common.{◌≡◌, ℕ, Option, Some, None, refl, sym, subst}
+use Rattle.std.proofs.Common.{ℕ, Option, Some, None, sym, subst}
 use Rattle.core_views.specs.declared.kind.Kind.{Kind}
 use Rattle.core_views.specs.Held.{Held}
 use Rattle.mmu_core.specs.Enabled.{mmu}

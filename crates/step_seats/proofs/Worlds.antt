@@ -1,17 +1,17 @@
 -- The world of a plain machine before and after one step.
-use Rattle.std.proofs.Common.{◌≡◌, ◌<◌, ℕ, zero, suc, List, [], ◌∷◌, length, map, refl, ◌∙◌, ap, subst, sym, arith, slice_index, slice_index_or, slice_set}
+use Rattle.std.proofs.Common.{◌≡◌, ◌<◌, ℕ, zero, suc, List, [], ◌∷◌, length, map, refl, ◌∙◌, ap, subst, sym, slice_index, slice_index_or, slice_set}
 use Rattle.std.proofs.Math.ListN.{length-map, get_or-map}
 use Rattle.std.proofs.lemmas.List.{get_or_read}
 use Rattle.std.proofs.Math.Seq.{map-set_same}
 use Rattle.core_views.specs.declared.kind.Kind.{Kind}
 use Rattle.core_views.specs.declared.sizes.Sizes.{Sizes}
-use Rattle.core_views.specs.Held.{Held, Handful}
+use Rattle.core_views.specs.Held.{Handful}
 use Rattle.core_views.specs.Sizes.{actors_of}
 use Rattle.core_views.specs.Kinds.{after, answer}
 use Rattle.mmu_core.specs.Enabled.{Enabled, mmu}
-use Rattle.mmu_core.specs.Machine.{World, Leads, May, effect, answered, hand_in}
+use Rattle.mmu_core.specs.Machine.{Leads, May, effect, answered, hand_in}
 use Rattle.mmu_core.specs.Steps.{next}
-use Rattle.mmu_core.specs.Worlds.{HandReached, Possible, Reachable}
+use Rattle.mmu_core.specs.Worlds.{HandReached, Possible}
 use Rattle.mmu_core.proofs.Extend.{goes_on}
 use Rattle.mmu_core.proofs.Sized.{as_many_as_actors, enabled_inside}
 use Rattle.step_seats.specs.Machines.{IsMachine, Machine, world_in}

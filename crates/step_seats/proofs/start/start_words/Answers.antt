@@ -1,4 +1,4 @@
-use Rattle.std.proofs.Common.{◌≡◌, ◌∙◌, ap, arith}
+use Rattle.std.proofs.Common.{◌∙◌, ap, arith}
 use Rattle.spte_words.specs.Areas.{total}
 use Rattle.step_seats.proofs.Starts.{all_made, one_more}
 use Rattle.step_seats.proofs.start.start_words.Goals as goal
