@@ -1,5 +1,5 @@
 -- A line that runs alone, as far as it has come.
-use Rattle.std.proofs.Common.{◌≡◌, ◌≤◌, ◌<◌, ◌+◌, ◌-◌, ◌*◌, ℕ, List, [], ◌∷◌, ◌++◌, All, Option, Some, None, IfSome, length, slice_get, refl, sym, ap, ◌∙◌, subst, append_assoc, arith, length-append}
+use Rattle.std.proofs.Common.{◌≡◌, ◌≤◌, ◌<◌, ◌+◌, ℕ, List, [], ◌∷◌, ◌++◌, All, Option, Some, None, IfSome, length, slice_get, refl, sym, ap, ◌∙◌, subst, append_assoc, arith, length-append}
 use Rattle.std.proofs.lemmas.List.{append-nil}
 use Rattle.std.proofs.lemmas.List.Elements.{All-append, All-cons, All-nil}
 use Rattle.core_views.specs.declared.answer.Answer.{Answer}
@@ -11,14 +11,12 @@ use Rattle.core_views.specs.declared.place.Place.{Place}
 use Rattle.core_views.specs.declared.place.Place.TheVariants as place
 use Rattle.core_views.specs.declared.place.SetSlotPlace.{SetSlotPlace}
 use Rattle.core_views.specs.declared.place.SetSlotPlace.TheVariants.{Refuse, Fill}
-use Rattle.core_views.specs.declared.place.SlotField.{SlotField}
 use Rattle.core_views.specs.declared.place.SlotField.TheVariants as field
 use Rattle.core_views.specs.declared.trace.Line.{Line}
-use Rattle.core_views.specs.Flat.{no_line}
 use Rattle.core_views.specs.Held.{Held}
 use Rattle.mmu_core.specs.declared.outcome.Outcome.{Outcome}
 use Rattle.mmu_core.specs.declared.outcome.Outcome.TheVariants.{Goes, Ends}
-use Rattle.mmu_core.specs.Bounds.{access_left, fill_left, look_left, most_steps, set_slot_left, steps_left}
+use Rattle.mmu_core.specs.Bounds.{access_left, most_steps, set_slot_left, steps_left}
 use Rattle.mmu_core.specs.Enabled.{mmu}
 use Rattle.mmu_core.specs.LineRuns.{RunsLine}
 use Rattle.mmu_core.specs.Machine.{Legal, May, Step, World, answered, effect, hand_in, run}
@@ -30,7 +28,6 @@ use Rattle.mmu_core.proofs.LineEvents as events
 use Rattle.mmu_core.proofs.LineEvents.{IsClosed, IsOpen, SoFar, step_tells}
 use Rattle.mmu_core.proofs.LineRuns.{history_one_more, legal_one_more, own_hand, run_one_more}
 use Rattle.step_seats.specs.Moves.{Adds, Tells, step_by}
-use Rattle.tdpmmu.specs.declared.turn.Turn.{Turn}
 use Rattle.tdpmmu.specs.declared.turn.Turn.TheVariants.{More, Done}
 use Rattle.tdpmmu.specs.Turns.{HasHand, OneStep, RanAlone, Told, turn_of}
 

@@ -1,10 +1,9 @@
-use Rattle.std.proofs.Common.{◌≡◌, ◌<◌, List, length, sym, ap, ◌∙◌, arith}
+use Rattle.std.proofs.Common.{List, length, sym, ap, ◌∙◌, arith}
 use Rattle.std.proofs.lemmas.Option.{slice_get_within}
 use Rattle.core_views.specs.declared.answer.AnsweredLine.{AnsweredLine}
 use Rattle.core_views.specs.Held.{Held}
 use Rattle.tdpmmu.specs.declared.job.LineJob.{LineJob}
-use Rattle.tdpmmu.specs.Turns.{Told}
-use Rattle.tdpmmu.proofs.PartRuns.{part_ends, part_goes_on, part_starts, PartRun}
+use Rattle.tdpmmu.proofs.PartRuns.{part_ends, part_goes_on, part_starts}
 use Rattle.tdpmmu.proofs.job.run_line.Goals as goal
 
 pub loop-answer-init : goal.loop-answer-init

@@ -1,6 +1,3 @@
-use Rattle.std.proofs.Common.{◌≡◌}
-use Rattle.core_views.specs.Held.{Handful}
-use Rattle.mmu_core.specs.Enabled.{Enabled}
 use Rattle.tdpmmu.proofs.Turning.{same_hand, turn_is_done, turn_is_more, turn_says}
 use Rattle.tdpmmu.proofs.job.LineJob.turn.Goals as goal
 
