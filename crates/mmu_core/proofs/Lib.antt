@@ -2,6 +2,13 @@ pub mod Columns
 pub mod LinesKept
 pub mod Stepping
 pub mod Unset
+pub mod AccessKept
+pub mod SetSlotKept
+pub mod Kept
+pub mod Views
+pub mod RestsKept
+pub mod Worlds
+pub mod Starts
 pub mod SlotLists
 pub mod Told
 pub mod FlatSteps

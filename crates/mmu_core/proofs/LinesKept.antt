@@ -23,7 +23,7 @@ settings_grow zero (line ∷ lines) = omega arith
 settings_grow (suc n) [] = omega arith
 settings_grow (suc n) (line ∷ lines) = omega (arith, settings_grow n lines)
 
-answers_length : (answers : List AnsweredLine) (x : AnsweredLine) → length (answers ++ x ∷ []) ≡ suc (length answers)
+pub answers_length : (answers : List AnsweredLine) (x : AnsweredLine) → length (answers ++ x ∷ []) ≡ suc (length answers)
 answers_length answers x = length-append answers (x ∷ []) ∙ omega arith
 
 pub counted_kept : (o : Outcome) (line : Line) (lines : List Line) (answers : List AnsweredLine) → 1 ≤ settings (take (length answers) lines) → 1 ≤ settings (take (length (answers_after o line answers)) lines)

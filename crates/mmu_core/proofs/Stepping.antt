@@ -1,5 +1,5 @@
 -- A step of an actor, with what the invariant says of its hand.
-use Rattle.std.proofs.Common.{◌≡◌, ◌<◌, ◌≤◌, ℕ, List, length, refl, sym, subst, ap, ◌∙◌, arith}
+use Rattle.std.proofs.Common.{◌≡◌, ◌<◌, ◌≤◌, ℕ, zero, suc, List, [], ◌∷◌, length, refl, sym, subst, ap, ◌∙◌, arith}
 use Rattle.std.specs.Prelude.{All, Bool, true, false, Option, Some, None, slice_get, unwrap_or}
 use Rattle.core_views.specs.declared.hand.State.{State}
 use Rattle.core_views.specs.declared.place.Place.{Place}
@@ -8,6 +8,8 @@ use Rattle.core_views.specs.declared.sizes.Sizes.{Sizes}
 use Rattle.core_views.specs.declared.trace.Command.{Command}
 use Rattle.core_views.specs.declared.trace.Command.TheVariants.{Access, SetSlot}
 use Rattle.core_views.specs.declared.trace.Line.{Line}
+use Rattle.core_views.specs.declared.trace.Slot.{Slot}
+use Rattle.core_views.specs.Flat.{no_line}
 use Rattle.core_views.specs.declared.answer.Refusal.{Refusal}
 use Rattle.core_views.specs.Held.{Held}
 use Rattle.core_views.specs.Sizes.{actors_of}
@@ -47,3 +49,46 @@ is_begun place.Between z command = first_is_begun z command
 is_begun (place.Access p) z command = tt
 is_begun (place.SetSlot p) z command = tt
 
+-- the loads of a line that begins: none
+set_slot_begins : (z : Sizes) (pool host : ℕ → ℕ) (id : ℕ) (slot : Slot) (s : State) (r : Option Refusal) → slot_refusal z.pages id slot ≡ r → Holds z pool host (place.SetSlot (set_slot_first r)) (SetSlot id slot) s
+set_slot_begins z pool host id slot s None is = is
+set_slot_begins z pool host id slot s (Some refusal) is = is
+
+first_holds : (z : Sizes) (pool host : ℕ → ℕ) (command : Command) (s : State) → Holds z pool host (first_place z command) command s
+first_holds z pool host (Access gfn word op) s = tt
+first_holds z pool host (SetSlot id slot) s = set_slot_begins z pool host id slot s (slot_refusal z.pages id slot) refl
+
+standing_holds : (z : Sizes) (pool host : ℕ → ℕ) (q : Place) (h : Held) → h.state.place ≡ q → Holds z pool host q h.state.line.command h.state → Holds z pool host (standing q z (line_at q h).command) (line_at q h).command h.state
+standing_holds z pool host place.Between h is holds = first_holds z pool host (next_line h).command h.state
+standing_holds z pool host (place.Access p) h is holds = holds
+standing_holds z pool host (place.SetSlot p) h is holds = holds
+
+-- what holds of all lines of a hand holds of its next one
+pub next_has : (P : Line → Type 0) (h : Held) → All P h.lines → length h.answers < length h.lines → P (next_line h)
+next_has P h all left = in_list h.lines (length h.answers) all left
+  where
+    in_list : (lines : List Line) (n : ℕ) → All P lines → n < length lines → P (unwrap_or (slice_get lines n) no_line)
+    in_list [] n all lt = absurd (omega arith)
+    in_list (line ∷ lines) zero all lt = all 0 line (omega arith)
+    in_list (line ∷ lines) (suc n) all lt = in_list lines n (λ k d h. all (suc k) d (omega arith)) (omega arith)
+
+-- the step that a hand is about to make
+pub is_step : (z : Sizes) (v : View) (a : ℕ) → Invariant z v → a < actors_of z → length (v.hand a).answers < length (v.hand a).lines
+    → IsStep z v a (line_at (v.hand a).state.place (v.hand a)) (line_at (v.hand a).state.place (v.hand a)).command (place_at (v.hand a).state.place (v.hand a))
+is_step z v a I there left =
+    let h : Held = v.hand a in
+    let O = I.lines a there in
+    let next : line_at h.state.place h ≡ next_line h = line_is_next h.state.place h O.under refl in
+    record {
+      there = there;
+      left = left;
+      next = next;
+      line_is = refl;
+      command_is = refl;
+      place_is = refl;
+      begun = is_begun h.state.place h.state.sizes (line_at h.state.place h).command;
+      allowed = subst (λ l. IsCommandFor z l.actor l.command) (sym next) (next_has (λ l. IsCommandFor z l.actor l.command) h O.allowed left);
+      own = subst (λ (l : Line). l.actor ≡ h.state.actor) (sym next) (next_has (λ l. l.actor ≡ h.state.actor) h O.own left);
+      holds = subst (λ y. Holds z (v.words area.Pool) (v.words area.Host) (standing h.state.place y (line_at h.state.place h).command) (line_at h.state.place h).command h.state) (sym O.sizes)
+          (standing_holds z (v.words area.Pool) (v.words area.Host) h.state.place h refl (I.loads a there));
+    }

@@ -10,3 +10,4 @@ pub mod Worlds
 pub mod View
 pub mod Invariant
 pub mod FlatInvariant
+pub mod Laws

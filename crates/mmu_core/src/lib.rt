@@ -7,11 +7,13 @@ ghost use Rattle.mmu_core.specs.Tasks.{map_of};
 ghost use Rattle.spte_words.specs.Areas.{IsWordMap};
 
 mod access;
+mod laws;
 mod outcome;
 mod set_slot;
 mod slot_words;
 mod step;
 
+pub use laws::{every_list_of_steps, rests};
 pub use outcome::{Outcome, Task};
 pub use step::{advance, next_kind};
 

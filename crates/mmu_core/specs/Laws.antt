@@ -1,0 +1,31 @@
+-- What holds of every list of steps, from every start.
+use Rattle.std.specs.Prelude.{◌≡◌, ◌<◌, ◌^◌, ℕ, List, length, slice_index}
+use Rattle.core_views.specs.declared.kind.Kind.{Kind}
+use Rattle.core_views.specs.declared.sizes.Sizes.{Sizes}
+use Rattle.core_views.specs.declared.trace.Line.{Line}
+use Rattle.core_views.specs.Flat.{first_flat}
+use Rattle.core_views.specs.Held.{Held}
+use Rattle.core_views.specs.Lawful.{IsLawful}
+use Rattle.core_views.specs.Sizes.{actors_of}
+use Rattle.spte_words.specs.Areas.{total}
+use Rattle.mmu_core.specs.Enabled.{mmu}
+use Rattle.mmu_core.specs.Invariant.{Invariant}
+use Rattle.mmu_core.specs.Machine.{Legal, Step, World, run}
+use Rattle.mmu_core.specs.Tasks.{map_of}
+use Rattle.mmu_core.specs.View.{view}
+use Rattle.mmu_core.specs.Worlds.{IsStart, history}
+
+-- The words and hands are as many as the machine has, each word is a number below 2 ^ 64, and every part of the invariant holds.
+pub record IsSound (z : Sizes) (w : World Held) : Type 0 where
+  pub words : length w.words ≡ total (map_of z)
+  pub hands : length w.hands ≡ actors_of z
+  pub small : (i : ℕ) → slice_index w.words i < 2 ^ 64
+  pub holds : Invariant z (view z w)
+
+-- The world behind every list of steps is sound.
+abbrev pub StaysSound : Type 0
+StaysSound = (z : Sizes) (lines : List Line) (w : World Held) (ss : List (Step Kind)) → IsStart z lines w → Legal mmu w ss → IsSound z (run mmu w ss)
+
+-- What every list of steps tells is what flat guest memory allows, event by event.
+abbrev pub TellsLawfully : Type 0
+TellsLawfully = (z : Sizes) (lines : List Line) (w : World Held) (ss : List (Step Kind)) → IsStart z lines w → Legal mmu w ss → IsLawful z first_flat (history w ss)

@@ -1,0 +1,21 @@
+ghost use Rattle.std.specs.Prelude.{◌<◌, length};
+ghost use Rattle.mmu_core.specs.Laws.{StaysSound};
+ghost use Rattle.mmu_core.specs.Rests.{Rests};
+ghost use Rattle.mmu_core.specs.Worlds.{HandReached};
+
+use core_views::Hand;
+
+/// A hand that some reachable world has holds what its line rests on: the
+/// bounds of what was loaded, at each place. This is how what holds at every
+/// moment reaches the jobs.
+pub fn rests(hand: &Hand)
+    requires reached { ∥ HandReached hand.now.core ∥₁ }
+    requires left { length hand.now.core.answers < length hand.now.core.lines }
+    ensures { Rests hand.now.core }
+{}
+
+/// What holds of every list of steps that is enabled step by step, of all
+/// actors in any order, from the start of every machine.
+pub fn every_list_of_steps()
+    ensures sound { StaysSound }
+{}
