@@ -7,3 +7,4 @@ pub mod FlatShows
 pub mod NextAlone
 pub mod AloneIsFlat
 pub mod StandsAlone
+pub mod HeaderSizes

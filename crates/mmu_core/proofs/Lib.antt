@@ -16,3 +16,6 @@ pub mod PageFound
 pub mod AccessFlat
 pub mod SetSlotFlat
 pub mod FlatKept
+pub mod EveryHistory
+pub mod Extend
+pub mod Sized

@@ -40,7 +40,7 @@ use Rattle.mmu_core.specs.Laws.{IsSound}
 use Rattle.mmu_core.proofs.Worlds.{good_run}
 
 -- each word at the start, behind its area's end too where its start word is 0
-word_at_start : (z : Sizes) (w : World Held) (a : Area) (i x : ℕ) → AreStartWords z w.words → (i < size_of (map_of z) a → start_word z a i ≡ x) → (nat_lt i (size_of (map_of z) a) ≡ false → 0 ≡ x) → word_in z w a i ≡ x
+pub word_at_start : (z : Sizes) (w : World Held) (a : Area) (i x : ℕ) → AreStartWords z w.words → (i < size_of (map_of z) a → start_word z a i ≡ x) → (nat_lt i (size_of (map_of z) a) ≡ false → 0 ≡ x) → word_in z w a i ≡ x
 word_at_start z w a i x start inside outside = by (nat_lt i (size_of (map_of z) a)) (λ e. grind (arith, nat_tests)) (λ e. outside e)
   where
     by : (b : Bool) → (b ≡ true → i < size_of (map_of z) a) → (b ≡ false → 0 ≡ x) → (if b then slice_index w.words (place (map_of z) a i) else 0) ≡ x
@@ -61,7 +61,7 @@ absent_is_0 = refl
 pool_word : (z : Sizes) (w : World Held) (i : ℕ) → AreStartWords z w.words → word_in z w area.Pool i ≡ 0
 pool_word z w i start = word_at_start z w area.Pool i 0 start (λ lt. refl) (λ e. refl)
 
-none_live : (z : Sizes) (w : World Held) (id : ℕ) → AreStartWords z w.words → live_at (word_in z w area.Pool) published_set id ≡ false
+pub none_live : (z : Sizes) (w : World Held) (id : ℕ) → AreStartWords z w.words → live_at (word_in z w area.Pool) published_set id ≡ false
 none_live z w id start = ap flags_live (pool_word z w _ start) ∙ no_flags
 
 -- the hands at the start
@@ -159,7 +159,7 @@ chosen_settings actor (line ∷ lines) = by (chosen_settings actor lines) (is_sa
     by rest true = omega (arith, rest)
     by rest false = omega (arith, rest)
 
-hand_is : (z : Sizes) (lines : List Line) (w : World Held) (i : ℕ) → IsStart z lines w → i < actors_of z → hand_in mmu w i ≡ first_held z (actor_at z i) (lines_of (actor_at z i) lines)
+pub hand_is : (z : Sizes) (lines : List Line) (w : World Held) (i : ℕ) → IsStart z lines w → i < actors_of z → hand_in mmu w i ≡ first_held z (actor_at z i) (lines_of (actor_at z i) lines)
 hand_is z lines w i start lt = ap (λ (hs : List Held). get_or hs i nobody) start.hands ∙ hand_at z lines (actors_of z) i lt
 
 first_lines : (z : Sizes) (lines : List Line) (w : World Held) (i : ℕ) → IsStart z lines w → i < actors_of z → OwnLines z i (first_held z (actor_at z i) (lines_of (actor_at z i) lines))

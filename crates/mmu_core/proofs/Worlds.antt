@@ -28,7 +28,7 @@ use Rattle.spte_words.specs.Flags.{flags_live}
 use Rattle.spte_words.specs.HostWords.{host_word}
 use Rattle.mmu_core.specs.Enabled.{Enabled, IsNext, mmu}
 use Rattle.mmu_core.specs.Invariant.{Invariant, InvariantOf, Holds, OwnLines}
-use Rattle.mmu_core.specs.Machine.{Leads, Legal, May, Step, World, effect, hand_in, run}
+use Rattle.mmu_core.specs.Machine.{Leads, Legal, May, Step, World, answered, effect, hand_in, run}
 use Rattle.mmu_core.specs.Rests.{Rests}
 use Rattle.mmu_core.specs.SetSlotSteps.{published_set}
 use Rattle.mmu_core.specs.SlotWords.{live_at}
@@ -38,8 +38,8 @@ use Rattle.mmu_core.specs.View.{View, answer_in, stepped, upd, view, word_in, wo
 use Rattle.mmu_core.specs.Worlds.{AreStartWords, HandReached, IsStart, Reachable, start_hands, start_word}
 use Rattle.mmu_core.proofs.Kept.{step_kept}
 use Rattle.mmu_core.proofs.RestsKept.{hand_rests, rests_prop, task_within}
-use Rattle.mmu_core.proofs.Stepping.{IsStep, is_step}
-use Rattle.mmu_core.proofs.Views.{view_behind}
+use Rattle.mmu_core.proofs.Stepping.{IsStep, is_step as step_of_hand}
+use Rattle.mmu_core.proofs.Views.{answered_is, view_behind}
 
 -- A step writes a number below 2 ^ 64 where it found one.
 word_small : (o : Operation) (old_ new_ n : ℕ) → new_ < 2 ^ 64 → n < 2 ^ 64 → word_after o old_ new_ n < 2 ^ 64
@@ -80,23 +80,39 @@ stepped_is : (z : Sizes) (w : World Held) (a : ℕ) (h : Held) → hand_in mmu w
 unfolding next
 stepped_is z w a h is = refl
 
+-- A step that may be made, as the step of its line in the view.
+pub record Takes (z : Sizes) (w : World Held) (s : Step Kind) (h : Held) : Type 0 where
+  pub is_step : IsStep z (view z w) s.actor (line_at h.state.place h) (line_at h.state.place h).command (place_at h.state.place h)
+  pub leads : ◌≡◌ {A = View} (view z (effect mmu w s)) (stepped s.actor (line_at h.state.place h) (line_at h.state.place h).command (place_at h.state.place h) (view z w))
+  pub answers : answered mmu w s.kind ≡ answer_in (task_of h) (word_in z w)
+  pub writes : s.kind.new < 2 ^ 64
+
+pub takes : (z : Sizes) (w : World Held) (s : Step Kind) → IsSound z w → May mmu w s → Takes z w s (hand_in mmu w s.actor)
+takes z w s G may =
+    let h : Held = hand_in mmu w s.actor in
+    let N = is_next h s.kind may.enabled in
+    let there : s.actor < actors_of z = omega (arith, may.there, G.hands) in
+    let same : h.state.sizes ≡ z = (G.holds.lines s.actor there).sizes in
+    let kind : s.kind ≡ kind_of_task z (task_of h) = N.is ∙ ap (λ y. kind_of_task y (task_of h)) same in
+    let within = subst (λ y. (task_of h).index < size_of (map_of y) (task_of h).area) same (task_within h N.rests) in
+    record {
+      is_step = step_of_hand z (view z w) s.actor G.holds there N.left;
+      leads = ap (λ k. view z (effect mmu w (record { actor = s.actor; kind = k }))) kind
+          ∙ (view_behind z w s.actor (task_of h) within G.words may.there ∙ stepped_is z w s.actor h refl);
+      answers = ap (answered mmu w) kind ∙ answered_is z w (task_of h) within;
+      writes = N.small;
+    }
+
 pub good_step : (z : Sizes) (w : World Held) (s : Step Kind) → IsSound z w → May mmu w s → IsSound z (effect mmu w s)
 unfolding effect
 good_step z w s G may =
     let h : Held = hand_in mmu w s.actor in
-    let N = is_next h s.kind may.enabled in
-    let there : s.actor < actors_of z = omega (arith, may.there, G.hands) in
-    let I = G.holds in
-    let same : h.state.sizes ≡ z = (I.lines s.actor there).sizes in
-    let kind : s.kind ≡ kind_of_task z (task_of h) = N.is ∙ ap (λ y. kind_of_task y (task_of h)) same in
-    let within = subst (λ y. (task_of h).index < size_of (map_of y) (task_of h).area) same (task_within h N.rests) in
-    let kept = step_kept z (view z w) s.actor (line_at h.state.place h) (line_at h.state.place h).command (place_at h.state.place h) (is_step z (view z w) s.actor I there N.left) I in
-    let at_task = subst (Invariant z) (sym (view_behind z w s.actor (task_of h) within G.words may.there ∙ stepped_is z w s.actor h refl)) kept in
+    let T = takes z w s G may in
     record {
       words = length-set _ _ _ ∙ G.words;
       hands = length-set _ _ _ ∙ G.hands;
-      small = words_small w.words s.kind.word (after s.kind (slice_index w.words s.kind.word)) may.inside (after_small s.kind (slice_index w.words s.kind.word) N.small (G.small s.kind.word)) G.small;
-      holds = subst (λ k. Invariant z (view z (effect mmu w (record { actor = s.actor; kind = k })))) (sym kind) at_task;
+      small = words_small w.words s.kind.word (after s.kind (slice_index w.words s.kind.word)) may.inside (after_small s.kind (slice_index w.words s.kind.word) T.writes (G.small s.kind.word)) G.small;
+      holds = subst (Invariant z) (sym T.leads) (step_kept z (view z w) s.actor (line_at h.state.place h) (line_at h.state.place h).command (place_at h.state.place h) T.is_step G.holds);
     }
 
 pub good_run : (z : Sizes) (w : World Held) (ss : List (Step Kind)) → IsSound z w → Legal mmu w ss → IsSound z (run mmu w ss)

@@ -1,5 +1,5 @@
 ghost use Rattle.std.specs.Prelude.{◌<◌, length};
-ghost use Rattle.mmu_core.specs.Laws.{StaysSound};
+ghost use Rattle.mmu_core.specs.Laws.{StaysSound, TellsLawfully};
 ghost use Rattle.mmu_core.specs.Rests.{Rests};
 ghost use Rattle.mmu_core.specs.Worlds.{HandReached};
 
@@ -18,4 +18,5 @@ pub fn rests(hand: &Hand)
 /// actors in any order, from the start of every machine.
 pub fn every_list_of_steps()
     ensures sound { StaysSound }
+    ensures lawful { TellsLawfully }
 {}

@@ -25,9 +25,12 @@ KeepsRoom before after = length after.core.answers + after.room ≡ length befor
 abbrev pub core_of : Handful → Held
 core_of h = h.core
 
+abbrev pub cores_of : List Handful → List Held
+cores_of hands = map core_of hands
+
 -- the world of these words and hands
 abbrev pub world_of : List ℕ → List Handful → World Held
-world_of words hands = record { words = words; hands = map core_of hands }
+world_of words hands = record { words = words; hands = cores_of hands }
 
 abbrev pub no_hand : Handful
 no_hand = record { core = nobody; room = 0 }

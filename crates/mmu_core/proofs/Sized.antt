@@ -1,0 +1,104 @@
+-- The sizes of a machine stay as they are in each hand, and the words and hands are as many as the sizes say.
+use Rattle.std.proofs.Common.{◌≡◌, ◌<◌, ℕ, zero, suc, List, [], ◌∷◌, ◌++◌, All, length, length-append, refl, ◌∙◌, ap, subst, sym, arith}
+use Rattle.std.proofs.lemmas.List.Elements.{All-append, All-cons, All-get_or, All-nil, All-set}
+use Rattle.core_views.specs.declared.hand.State.{State}
+use Rattle.core_views.specs.declared.kind.Kind.{Kind}
+use Rattle.core_views.specs.declared.place.AccessPlace.{AccessPlace}
+use Rattle.core_views.specs.declared.place.AccessPlace.TheVariants.{Slots, Slot, Walk, Host, Install, Touch}
+use Rattle.core_views.specs.declared.place.Place.{Place}
+use Rattle.core_views.specs.declared.place.Place.TheVariants as place
+use Rattle.core_views.specs.declared.place.SetSlotPlace.{SetSlotPlace}
+use Rattle.core_views.specs.declared.place.SetSlotPlace.TheVariants.{Refuse, Fill}
+use Rattle.core_views.specs.declared.place.SlotField.TheVariants as field
+use Rattle.core_views.specs.declared.sizes.Sizes.{Sizes}
+use Rattle.core_views.specs.declared.trace.Command.{Command}
+use Rattle.core_views.specs.declared.trace.Command.TheVariants.{Access, SetSlot}
+use Rattle.core_views.specs.declared.trace.Line.{Line}
+use Rattle.core_views.specs.Held.{Held, first_held}
+use Rattle.core_views.specs.Sizes.{actor_at, actors_of}
+use Rattle.core_views.specs.Whole.{lines_of}
+use Rattle.spte_words.specs.Areas.{total}
+use Rattle.mmu_core.specs.AccessSteps.{access_loads}
+use Rattle.mmu_core.specs.Enabled.{Enabled, mmu}
+use Rattle.mmu_core.specs.Machine.{World, Step, effect, run, hand_in, May, Legal, Leads}
+use Rattle.mmu_core.specs.SetSlotSteps.{set_slot_loads}
+use Rattle.mmu_core.specs.Steps.{loads_at, next}
+use Rattle.mmu_core.specs.Tasks.{map_of}
+use Rattle.mmu_core.specs.Worlds.{IsStart, Reachable, start_hands}
+use Rattle.mmu_core.proofs.Extend.{as_many_hands, as_many_words}
+
+access_keeps_sizes : (p : AccessPlace) (s : State) (v : ℕ) → (access_loads p s v).sizes ≡ s.sizes
+access_keeps_sizes Slots s v = refl
+access_keeps_sizes (Slot id field.Flags) s v = refl
+access_keeps_sizes (Slot id field.Base) s v = refl
+access_keeps_sizes (Slot id field.Pages) s v = refl
+access_keeps_sizes (Slot id field.Host) s v = refl
+access_keeps_sizes Walk s v = refl
+access_keeps_sizes Host s v = refl
+access_keeps_sizes Install s v = refl
+access_keeps_sizes Touch s v = refl
+
+set_slot_keeps_sizes : (p : SetSlotPlace) (s : State) → (set_slot_loads p s).sizes ≡ s.sizes
+set_slot_keeps_sizes (Refuse refusal) s = refl
+set_slot_keeps_sizes (Fill field.Base) s = refl
+set_slot_keeps_sizes (Fill field.Pages) s = refl
+set_slot_keeps_sizes (Fill field.Host) s = refl
+set_slot_keeps_sizes (Fill field.Flags) s = refl
+
+loads_keep_sizes : (p : Place) (command : Command) (s : State) (v : ℕ) → (loads_at p command s v).sizes ≡ s.sizes
+loads_keep_sizes place.Between command s v = refl
+loads_keep_sizes (place.Access p) (Access gfn word op) s v = access_keeps_sizes p s v
+loads_keep_sizes (place.Access p) (SetSlot id slot) s v = refl
+loads_keep_sizes (place.SetSlot p) (Access gfn word op) s v = refl
+loads_keep_sizes (place.SetSlot p) (SetSlot id slot) s v = set_slot_keeps_sizes p s
+
+-- A step leaves the sizes in its hand.
+pub next_keeps_sizes : (h : Held) (k : Kind) (v : ℕ) → (next h k v).state.sizes ≡ h.state.sizes
+unfolding next
+next_keeps_sizes h k v = loads_keep_sizes _ _ h.state v
+
+-- The hand is of a machine of these sizes.
+abbrev HasSizes : Sizes → Held → Type 0
+HasSizes z h = h.state.sizes ≡ z
+
+effect_keeps_sizes : (z : Sizes) (w : World Held) (s : Step Kind) → May mmu w s → All (HasSizes z) w.hands → All (HasSizes z) (effect mmu w s).hands
+unfolding effect
+effect_keeps_sizes z w s may all = All-set (HasSizes z) w.hands s.actor _ (next_keeps_sizes (hand_in mmu w s.actor) s.kind _ ∙ All-get_or (HasSizes z) w.hands s.actor mmu.nobody may.there all) all
+
+run_keeps_sizes : (z : Sizes) (w : World Held) (ss : List (Step Kind)) → Legal mmu w ss → All (HasSizes z) w.hands → All (HasSizes z) (run mmu w ss).hands
+run_keeps_sizes z w [] legal all = all
+run_keeps_sizes z w (s ∷ ss) legal all = run_keeps_sizes z (effect mmu w s) ss legal.1 (effect_keeps_sizes z w s legal.0 all)
+
+-- the hand of the actor at a place, at the start
+abbrev hand_at : Sizes → List Line → ℕ → Held
+hand_at z lines i = first_held z (actor_at z i) (lines_of (actor_at z i) lines)
+
+start_has_sizes : (z : Sizes) (lines : List Line) (n : ℕ) → All (HasSizes z) (start_hands z lines n)
+start_has_sizes z lines zero = All-nil (HasSizes z)
+start_has_sizes z lines (suc n) = All-append (HasSizes z) (start_hands z lines n) _ (start_has_sizes z lines n) (All-cons (HasSizes z) (hand_at z lines n) [] refl (All-nil (HasSizes z)))
+
+-- There is a hand for each actor at the start.
+pub count_at_start : (z : Sizes) (lines : List Line) (n : ℕ) → length (start_hands z lines n) ≡ n
+count_at_start z lines zero = refl
+count_at_start z lines (suc n) = omega (arith, length-append (start_hands z lines n) (hand_at z lines n ∷ []), count_at_start z lines n)
+
+-- A world reached from a start has a hand for each actor, and the words of its sizes.
+pub as_many_as_actors : (z : Sizes) (lines : List Line) (w t : World Held) → IsStart z lines w → Leads mmu w t → length t.hands ≡ actors_of z
+as_many_as_actors z lines w t start leads = as_many_hands mmu w t leads ∙ (ap length start.hands ∙ count_at_start z lines (actors_of z))
+
+pub as_many_as_mapped : (z : Sizes) (lines : List Line) (w t : World Held) → IsStart z lines w → Leads mmu w t → length t.words ≡ total (map_of z)
+as_many_as_mapped z lines w t start leads = as_many_words mmu w t leads ∙ start.words.count
+
+-- Each hand of a reachable world has the sizes of the start.
+pub reached_has_sizes : (w : World Held) (r : Reachable w) (actor : ℕ) → actor < length w.hands → (hand_in mmu w actor).state.sizes ≡ r.sizes
+reached_has_sizes w r actor there =
+    let start : All (HasSizes r.sizes) r.start.hands = subst (All (HasSizes r.sizes)) (sym r.is_start.hands) (start_has_sizes r.sizes r.lines (actors_of r.sizes)) in
+    let all : All (HasSizes r.sizes) w.hands = subst (λ (x : World Held). All (HasSizes r.sizes) x.hands) r.leads.ends (run_keeps_sizes r.sizes r.start r.leads.steps r.leads.legal start) in
+    All-get_or (HasSizes r.sizes) w.hands actor mmu.nobody there all
+
+-- A step that a reachable world's hand allows is at one of its words.
+pub enabled_inside : (w : World Held) (r : Reachable w) (actor : ℕ) (k : Kind) → actor < length w.hands → Enabled (hand_in mmu w actor) k → k.word < length w.words
+unfolding Enabled
+enabled_inside w r actor k there enabled =
+    let size = ap (λ z. total (map_of z)) (reached_has_sizes w r actor there) in
+    omega (arith, enabled.inside, size, as_many_as_mapped r.sizes r.lines r.start w r.is_start r.leads)

@@ -1,0 +1,44 @@
+use Rattle.std.proofs.Common.{arith}
+use Rattle.std.proofs.lemmas.Grind.{merely}
+use Rattle.step_seats.proofs.Worlds.{machine_after, step_made, word_inside}
+use Rattle.step_seats.proofs.plain.PlainMachine.make_step.Goals as goal
+
+pub index-found-requires : goal.index-found-requires
+index-found-requires c =
+    let m = c.self.inside in
+    omega (arith, m.words.ok.0, word_inside m.sizes m.words.items m.hands.items c.args.self.now c.args.index c.args.kind c.self.invariant c.self.view_is c.requires.there c.requires.enabled)
+
+pub index_mut-requires : goal.index_mut-requires
+index_mut-requires c =
+    let m = c.self.inside in
+    omega (arith, m.words.ok.0, word_inside m.sizes m.words.items m.hands.items c.args.self.now c.args.index c.args.kind c.self.invariant c.self.view_is c.requires.there c.requires.enabled)
+
+pub returns-clause-may : goal.returns-clause-may
+returns-clause-may c =
+    let m = c.self.inside in
+    let made = step_made m.sizes m.words.items m.hands.items c.args.self.now c.args.index c.args.kind c.index-found.result.now c.after.result c.answer-answer.result c.index_mut-hand.result.now c.advance.new.hand c.self.invariant c.self.view_is c.requires.there c.requires.enabled c.index-found.ensures c.index_mut-hand.ensures.value c.after.ensures c.answer-answer.ensures c.advance.ensures.core in
+    made.may
+
+pub returns-clause-answer : goal.returns-clause-answer
+returns-clause-answer c =
+    let m = c.self.inside in
+    let made = step_made m.sizes m.words.items m.hands.items c.args.self.now c.args.index c.args.kind c.index-found.result.now c.after.result c.answer-answer.result c.index_mut-hand.result.now c.advance.new.hand c.self.invariant c.self.view_is c.requires.there c.requires.enabled c.index-found.ensures c.index_mut-hand.ensures.value c.after.ensures c.answer-answer.ensures c.advance.ensures.core in
+    made.answers
+
+pub returns-clause-world : goal.returns-clause-world
+returns-clause-world c =
+    let m = c.self.inside in
+    let made = step_made m.sizes m.words.items m.hands.items c.args.self.now c.args.index c.args.kind c.index-found.result.now c.after.result c.answer-answer.result c.index_mut-hand.result.now c.advance.new.hand c.self.invariant c.self.view_is c.requires.there c.requires.enabled c.index-found.ensures c.index_mut-hand.ensures.value c.after.ensures c.answer-answer.ensures c.advance.ensures.core in
+    made.leaves
+
+pub returns-clause-possible : goal.returns-clause-possible
+returns-clause-possible c =
+    let m = c.self.inside in
+    let made = step_made m.sizes m.words.items m.hands.items c.args.self.now c.args.index c.args.kind c.index-found.result.now c.after.result c.answer-answer.result c.index_mut-hand.result.now c.advance.new.hand c.self.invariant c.self.view_is c.requires.there c.requires.enabled c.index-found.ensures c.index_mut-hand.ensures.value c.after.ensures c.answer-answer.ensures c.advance.ensures.core in
+    merely made.possible
+
+pub invariant_of-self : goal.invariant_of-self
+invariant_of-self c =
+    let m = c.self.inside in
+    let made = step_made m.sizes m.words.items m.hands.items c.args.self.now c.args.index c.args.kind c.index-found.result.now c.after.result c.answer-answer.result c.index_mut-hand.result.now c.advance.new.hand c.self.invariant c.self.view_is c.requires.there c.requires.enabled c.index-found.ensures c.index_mut-hand.ensures.value c.after.ensures c.answer-answer.ensures c.advance.ensures.core in
+    machine_after m.sizes m.words.items m.hands.items c.args.self.now c.args.index c.args.kind c.after.result c.answer-answer.result c.advance.new.hand c.self.invariant c.self.view_is made

@@ -1,0 +1,21 @@
+-- The plain machine: its sizes, words and hands, which some steps of its actors lead to from a start.
+use Rattle.std.specs.Prelude.{◌≡◌, ℕ, List}
+use Rattle.core_views.specs.declared.sizes.Sizes.{Sizes}
+use Rattle.core_views.specs.Held.{Held, Handful}
+use Rattle.mmu_core.specs.Machine.{World}
+use Rattle.mmu_core.specs.Worlds.{Reachable}
+use Rattle.step_seats.specs.Moves.{world_of}
+
+pub record Machine : Type 0 where
+  pub sizes : Sizes
+  pub words : List ℕ
+  pub hands : List Handful
+
+-- the world of a machine
+abbrev pub world_in : Machine → World Held
+world_in m = world_of m.words m.hands
+
+-- Some list of steps leads from a start of these sizes to these words and hands.
+pub record IsMachine (z : Sizes) (words : List ℕ) (hands : List Handful) : Type 0 where
+  pub reached : Reachable (world_of words hands)
+  pub sizes : reached.sizes ≡ z

@@ -1,0 +1,49 @@
+//! The seat of one actor at a plain machine.
+ghost use Rattle.std.specs.Prelude.{Some, None, ◌<◌, length};
+ghost use Rattle.step_seats.specs.Machines.{world_in};
+ghost use Rattle.step_seats.specs.Moves.{handful_in};
+
+use crate::{PlainMachine, Stepper};
+use core_views::{Hand, Kind, Line, NoMemory, Sizes};
+
+/// What the steps of a seat at a plain machine leave as it is: which machine
+/// it borrows, its sizes, and how many hands it has.
+pub struct MachineFrame {
+    pub borrowed: usize,
+    pub sizes: Sizes,
+    pub hands: usize,
+}
+
+/// The seat of the actor at this place among all actors of the machine.
+#[derive(Drop)]
+pub struct ActorSeat<'a> {
+    pub machine: &'a mut PlainMachine,
+    pub index: usize,
+    ghost there: { index < length machine.now.hands },
+}
+
+impl Stepper for ActorSeat<'_> {
+    type Frame = MachineFrame;
+
+    ghost actor = { λ s. s.index };
+
+    ghost handful = { λ s. handful_in s.machine.now.hands s.index };
+
+    ghost frame = { λ s. record { borrowed = s.machine.ghost_name; sizes = s.machine.now.sizes; hands = length s.machine.now.hands } };
+
+    ghost told = { λ s. Some (world_in s.machine.now) };
+
+    ghost steps = { λ s. None };
+
+    fn act(&mut self, kind: Kind) -> u64 {
+        self.machine.make_step(self.index, kind)
+    }
+
+    fn hand(&self) -> &Hand {
+        self.machine.hand(self.index)
+    }
+
+    fn reserve(&mut self, _line: &Line) -> Result<(), NoMemory> {
+        self.machine.reserve(self.index)
+    }
+}
