@@ -19,3 +19,7 @@ pub mod FlatKept
 pub mod EveryHistory
 pub mod Extend
 pub mod Sized
+pub mod CanStep
+pub mod ViewRuns
+pub mod StartViews
+pub mod ExampleRun

@@ -11,3 +11,4 @@ pub mod View
 pub mod Invariant
 pub mod FlatInvariant
 pub mod Laws
+pub mod Example

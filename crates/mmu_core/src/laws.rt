@@ -1,4 +1,5 @@
 ghost use Rattle.std.specs.Prelude.{◌<◌, length};
+ghost use Rattle.mmu_core.specs.Example.{EachMayStep, EveryMachineStarts, ExamplePrints, ExampleRuns};
 ghost use Rattle.mmu_core.specs.Laws.{StaysSound, TellsLawfully};
 ghost use Rattle.mmu_core.specs.Rests.{Rests};
 ghost use Rattle.mmu_core.specs.Worlds.{HandReached};
@@ -19,4 +20,14 @@ pub fn rests(hand: &Hand)
 pub fn every_list_of_steps()
     ensures sound { StaysSound }
     ensures lawful { TellsLawfully }
+{}
+
+/// That the steps can be made: every machine has a start, at every moment each
+/// actor that has a line left has a step to make, and a small run goes from
+/// its start to its answers.
+pub fn the_steps_can_be_made()
+    ensures starts { EveryMachineStarts }
+    ensures goes_on { EachMayStep }
+    ensures example { ExampleRuns }
+    ensures prints { ExamplePrints }
 {}
