@@ -88,11 +88,12 @@ run_events =
     ∷ by read_line (Answered 4 (Reached 65 7))
     ∷ []
 
--- From every start with these lines these steps can be made, and they tell this.
-abbrev pub ExampleRuns : Type 0
-ExampleRuns =
-    (w : World Held) → IsStart example_sizes run_lines w
-    → Legal mmu w (turns example_sizes w run_order) × (history w (turns example_sizes w run_order) ≡ run_events)
+-- From a start with these lines these steps can be made, and they tell this.
+pub record ExampleRuns : Type 0 where
+  pub start : World Held
+  pub is_start : IsStart example_sizes run_lines start
+  pub legal : Legal mmu start (turns example_sizes start run_order)
+  pub tells : history start (turns example_sizes start run_order) ≡ run_events
 
 -- So it prints this.
 abbrev pub ExamplePrints : Type 0
