@@ -23,3 +23,7 @@ pub mod CanStep
 pub mod ViewRuns
 pub mod StartViews
 pub mod ExampleRun
+pub mod Bounded
+pub mod LineEvents
+pub mod HandAfter
+pub mod LineRuns

@@ -12,3 +12,6 @@ pub mod Invariant
 pub mod FlatInvariant
 pub mod Laws
 pub mod Example
+pub mod Bounds
+pub mod Turns
+pub mod LineRuns

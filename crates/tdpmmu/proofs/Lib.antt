@@ -1,2 +1,4 @@
 pub mod Writes
 pub mod Runs
+pub mod Turning
+pub mod PartRuns

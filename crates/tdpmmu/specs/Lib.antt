@@ -1,3 +1,4 @@
 pub mod Output
 pub mod Run
 pub mod Steps
+pub mod Turns

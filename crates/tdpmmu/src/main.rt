@@ -3,9 +3,11 @@
 #![tactic(auto)]
 
 mod command;
+mod job;
 mod program;
 mod replay;
 mod status;
+mod turn;
 
 use core_views::NoMemory;
 use program::run;

@@ -1,0 +1,50 @@
+-- What a turn answers, by the answers in the hand before and after its step.
+use Rattle.std.proofs.Common.{◌≡◌, ◌≤◌, ◌<◌, ℕ, List, [], ◌∷◌, ◌++◌, length, get_or, refl, sym, ap, ◌∙◌, subst, arith, length-append}
+use Rattle.std.proofs.Math.Seq.{get_or-append_seam}
+use Rattle.core_views.specs.declared.answer.Answer.{Answer}
+use Rattle.core_views.specs.declared.answer.AnsweredLine.{AnsweredLine}
+use Rattle.core_views.specs.declared.kind.Kind.{Kind}
+use Rattle.core_views.specs.declared.trace.Line.{Line}
+use Rattle.core_views.specs.Held.{Held}
+use Rattle.mmu_core.specs.declared.outcome.Outcome.{Outcome}
+use Rattle.mmu_core.specs.declared.outcome.Outcome.TheVariants.{Goes, Ends}
+use Rattle.mmu_core.specs.Enabled.{Enabled}
+use Rattle.mmu_core.specs.Steps.{next}
+use Rattle.mmu_core.specs.Tasks.{answers_after}
+use Rattle.mmu_core.specs.Turns.{Comes, IsSameHand, line_of, outcome_of, with_answer}
+use Rattle.mmu_core.proofs.HandAfter.{next_comes, next_same}
+use Rattle.tdpmmu.specs.declared.turn.Turn.{Turn}
+use Rattle.tdpmmu.specs.declared.turn.Turn.TheVariants.{More, Done}
+use Rattle.tdpmmu.specs.Turns.{Says, turn_of}
+
+next_answers : (h : Held) (k : Kind) (v : ℕ) → (next h k v).answers ≡ answers_after (outcome_of h v) (line_of h) h.answers
+unfolding next
+next_answers h k v = refl
+
+-- one answer more stands there
+answered_by : (o : Outcome) (line : Line) (xs ys : List AnsweredLine) (x : AnsweredLine) → ys ≡ answers_after o line xs → length xs < length ys → x ≡ get_or ys (length xs) x → Done x.answer ≡ turn_of o
+answered_by (Goes p) line xs ys x is more seen = absurd (omega (arith, ap length is))
+answered_by (Ends answer) line xs ys x is more seen =
+    ap (λ (y : AnsweredLine). Done y.answer) (seen ∙ ap (λ (zs : List AnsweredLine). get_or zs (length xs) x) is ∙ get_or-append_seam xs (with_answer line answer) [] x)
+
+-- no answer more stands there
+unanswered_by : (o : Outcome) (line : Line) (xs ys : List AnsweredLine) → ys ≡ answers_after o line xs → length ys ≤ length xs → More ≡ turn_of o
+unanswered_by (Goes p) line xs ys is few = refl
+unanswered_by (Ends answer) line xs ys is few = absurd (omega (arith, ap length is, length-append xs (with_answer line answer ∷ [])))
+
+pub turn_is_done : (h g : Held) (k : Kind) (v i : ℕ) (seen : List AnsweredLine) (x : AnsweredLine) → g ≡ next h k v → seen ≡ g.answers → i ≡ length h.answers → i < length seen → x ≡ get_or seen i x → Done x.answer ≡ turn_of (outcome_of h v)
+turn_is_done h g k v i seen x hand answers at below is =
+    answered_by (outcome_of h v) (line_of h) h.answers seen x (answers ∙ ap (λ (e : Held). e.answers) hand ∙ next_answers h k v) (omega arith) (is ∙ ap (λ (j : ℕ). get_or seen j x) at)
+
+pub turn_is_more : (h g : Held) (k : Kind) (v i : ℕ) (seen : List AnsweredLine) → g ≡ next h k v → seen ≡ g.answers → i ≡ length h.answers → length seen ≤ i → More ≡ turn_of (outcome_of h v)
+turn_is_more h g k v i seen hand answers at few = unanswered_by (outcome_of h v) (line_of h) h.answers seen (answers ∙ ap (λ (e : Held). e.answers) hand ∙ next_answers h k v) (omega arith)
+
+says_by : (o : Outcome) (line : Line) (h g : Held) → Comes o line h g → Says (turn_of o) line h g
+says_by (Goes p) line h g comes = comes
+says_by (Ends answer) line h g comes = comes
+
+pub turn_says : (turn : Turn Answer) (h g : Held) (k : Kind) (v : ℕ) → Enabled h k → g ≡ next h k v → turn ≡ turn_of (outcome_of h v) → Says turn (line_of h) h g
+turn_says turn h g k v enabled hand is = rw (is, hand) (says_by (outcome_of h v) (line_of h) h (next h k v) (next_comes h k v enabled))
+
+pub same_hand : (h g : Held) (k : Kind) (v : ℕ) → g ≡ next h k v → IsSameHand h g
+same_hand h g k v hand = rw hand (next_same h k v)

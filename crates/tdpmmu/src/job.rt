@@ -1,0 +1,79 @@
+ghost use Rattle.std.specs.Prelude.{◌≡◌, ◌<◌, IfOk, OnErr, OnOk, Some, length, slice_get};
+ghost use Rattle.core_views.specs.declared.place.Place.TheVariants.{Between};
+ghost use Rattle.mmu_core.specs.Turns.{IsAnswered, IsSameHand, line_of};
+ghost use Rattle.step_seats.specs.Moves.{KeepsRoom};
+ghost use Rattle.tdpmmu.specs.Turns.{HasHand, OneStep, RanAlone, Says};
+
+use crate::turn::Turn;
+use core_views::{Answer, Line, NoMemory};
+use mmu_core::{next_kind, rests};
+use step_seats::Stepper;
+
+/// The work on one line of an actor, a step a turn. Where the line stands is
+/// kept in the actor's hand, which drives the job.
+#[derive(Clone, Copy, Debug, PartialEq, Eq, Drop)]
+pub struct LineJob {
+    /// The place of the line among the lines of its actor, from 0.
+    pub index: usize,
+}
+
+/// The job of the actor's next line. It takes the memory that the line needs,
+/// and changes nothing else, whatever it answers.
+pub fn start_line<S: Stepper>(s: &mut S, line: &Line) -> Result<LineJob, NoMemory>
+    ensures job { IfOk result (λ job. job.index ≡ length (S.handful s.old).core.answers) }
+    ensures reserved { OnOk result (0 < (S.handful s.new).room) }
+    ensures hand { (S.handful s.new).core ≡ (S.handful s.old).core }
+    ensures told { (S.told s.new ≡ S.told s.old) × (S.steps s.new ≡ S.steps s.old) }
+    ensures same { (S.actor s.new ≡ S.actor s.old) × (S.frame s.new ≡ S.frame s.old) }
+{
+    s.reserve(line)?;
+    Ok(LineJob {
+        index: s.hand().answers().len(),
+    })
+}
+
+impl LineJob {
+    /// Makes the next step of the line, and says whether it is answered.
+    pub fn turn<S: Stepper>(&mut self, s: &mut S) -> Turn<Answer>
+        requires left { length (S.handful s.old).core.answers < length (S.handful s.old).core.lines }
+        requires next { self.old.index ≡ length (S.handful s.old).core.answers }
+        requires reserved { 0 < (S.handful s.old).room }
+        ensures step { OneStep result (S.actor s.old) (S.handful s.old).core (S.handful s.new).core (record { world = S.told s.old; steps = S.steps s.old }) (record { world = S.told s.new; steps = S.steps s.new }) }
+        ensures says { Says result (line_of (S.handful s.old).core) (S.handful s.old).core (S.handful s.new).core }
+        ensures hand { IsSameHand (S.handful s.old).core (S.handful s.new).core }
+        ensures room { KeepsRoom (S.handful s.old) (S.handful s.new) }
+        ensures job { self.new ≡ self.old }
+        ensures same { (S.actor s.new ≡ S.actor s.old) × (S.frame s.new ≡ S.frame s.old) }
+    {
+        let hand = s.hand();
+        rests(hand);
+        let kind = next_kind(hand);
+        let _ = s.act(kind);
+        match s.hand().answers().get(self.index) {
+            Some(answered) => Turn::Done(answered.answer),
+            None => Turn::More,
+        }
+    }
+}
+
+/// Runs the actor's next line to its answer, while nobody else makes a step.
+/// Where the memory that it needs is refused, nothing has changed.
+pub fn run_line<S: Stepper>(s: &mut S, line: &Line) -> Result<Answer, NoMemory>
+    requires idle { (S.handful s.old).core.state.place ≡ Between }
+    requires next { slice_get (S.handful s.old).core.lines (length (S.handful s.old).core.answers) ≡ Some line.now }
+    requires own { line.now.actor ≡ (S.handful s.old).core.state.actor }
+    requires told { HasHand (S.told s.old) (S.actor s.old) (S.handful s.old).core }
+    ensures answered { IfOk result (λ answer. IsAnswered line.now answer (S.handful s.old).core (S.handful s.new).core) }
+    ensures alone { IfOk result (λ answer. RanAlone line.now answer (S.actor s.old) (record { world = S.told s.old; steps = S.steps s.old }) (record { world = S.told s.new; steps = S.steps s.new })) }
+    ensures hand { IsSameHand (S.handful s.old).core (S.handful s.new).core }
+    ensures refused { OnErr result (((S.handful s.new).core ≡ (S.handful s.old).core) × (S.told s.new ≡ S.told s.old) × (S.steps s.new ≡ S.steps s.old)) }
+    ensures same { (S.actor s.new ≡ S.actor s.old) × (S.frame s.new ≡ S.frame s.old) }
+{
+    let mut job = start_line(s, line)?;
+    loop {
+        match job.turn(s) {
+            Turn::More => {}
+            Turn::Done(answer) => return Ok(answer),
+        }
+    }
+}
