@@ -27,3 +27,4 @@ pub mod Bounded
 pub mod LineEvents
 pub mod HandAfter
 pub mod LineRuns
+pub mod ToldOf

@@ -15,3 +15,4 @@ pub mod Example
 pub mod Bounds
 pub mod Turns
 pub mod LineRuns
+pub mod Histories
