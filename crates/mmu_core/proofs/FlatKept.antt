@@ -104,11 +104,11 @@ under_still pool other (place.SetSlot p) s u still under = under
 abbrev Others : Sizes → View → ℕ → Flat → Type 0
 Others z v a f = (i : ℕ) → i < actors_of z → i ≢ a → UnderIs (v.words area.Pool) (v.hand i).state.place (v.hand i).state (f.under (v.hand i).state.actor)
 
-other_actor : (z : Sizes) (v : View) (a i : ℕ) → Invariant z v → a < actors_of z → i < actors_of z → i ≢ a → is_same (v.hand a).state.actor (v.hand i).state.actor ≡ false
+pub other_actor : (z : Sizes) (v : View) (a i : ℕ) → Invariant z v → a < actors_of z → i < actors_of z → i ≢ a → is_same (v.hand a).state.actor (v.hand i).state.actor ≡ false
 other_actor z v a i I a_in i_in apart = apart_actors z (v.hand a).state.actor (v.hand i).state.actor (λ e. apart (sym (sym (I.lines a a_in).index ∙ e ∙ (I.lines i i_in).index)))
 
 -- The step's actor is its hand's, whatever it loads.
-same_actor : (p : Place) (command : Command) (s : State) (x : ℕ) → (loads_at p command s x).actor ≡ s.actor
+pub same_actor : (p : Place) (command : Command) (s : State) (x : ℕ) → (loads_at p command s x).actor ≡ s.actor
 same_actor place.Between command s x = refl
 same_actor (place.Access p) (Access gfn word op) s x = accessing p s x
   where

@@ -28,3 +28,4 @@ pub mod LineEvents
 pub mod HandAfter
 pub mod LineRuns
 pub mod ToldOf
+pub mod Followed
