@@ -29,3 +29,4 @@ pub mod HandAfter
 pub mod LineRuns
 pub mod ToldOf
 pub mod Followed
+pub mod EveryAnswer

@@ -89,7 +89,7 @@ hand_at z lines (suc n) i lt = by (λ l. hand_at z lines n i l) (i == n) (λ e. 
     by before false same less = get_or_append_left (start_hands z lines n) _ nobody i (subst (λ m. i < m) (sym count) (less refl)) ∙ before (less refl)
 
 -- The place of the actor at a place is that place.
-place_of_actor : (z : Sizes) (i : ℕ) → i < actors_of z → index_of z (actor_at z i) ≡ i
+pub place_of_actor : (z : Sizes) (i : ℕ) → i < actors_of z → index_of z (actor_at z i) ≡ i
 place_of_actor z i lt = by (nat_lt i z.vcpus) (nat_lt (i - z.vcpus) z.hosts) (i == z.vcpus + z.hosts) (λ e. grind (arith, nat_tests)) (λ e. grind (arith, nat_tests)) (λ e. (Decides-eqb i (z.vcpus + z.hosts)).0 e) (λ e. grind (arith, nat_tests))
   where
     by : (v h m : Bool) → (v ≡ false → z.vcpus ≤ i) → (h ≡ false → z.hosts ≤ i - z.vcpus) → (m ≡ true → i ≡ z.vcpus + z.hosts) → (m ≡ false → i ≢ z.vcpus + z.hosts)
@@ -99,7 +99,7 @@ place_of_actor z i lt = by (nat_lt i z.vcpus) (nat_lt (i - z.vcpus) z.hosts) (i 
     by false false true past behind is not = sym (is refl)
     by false false false past behind is not = let p = past refl in let q = behind refl in let r = not refl in grind (arith, p, q, r)
 
-same_actor : (x y : Actor) → is_same x y ≡ true → y ≡ x
+pub same_actor : (x y : Actor) → is_same x y ≡ true → y ≡ x
 same_actor (Vcpu m) (Vcpu n) e = ap Vcpu (sym ((Decides-eqb m n).0 e))
 same_actor (Vcpu m) (Host n) e = absurd (cc e)
 same_actor (Vcpu m) Manager e = absurd (cc e)

@@ -1,5 +1,6 @@
 ghost use Rattle.std.specs.Prelude.{◌<◌, length};
 ghost use Rattle.mmu_core.specs.Example.{EachMayStep, EveryMachineStarts, ExamplePrints, ExampleRuns};
+ghost use Rattle.mmu_core.specs.Histories.{AnswersAreTold, EndsWhole};
 ghost use Rattle.mmu_core.specs.Laws.{StaysSound, TellsLawfully};
 ghost use Rattle.mmu_core.specs.Rests.{Rests};
 ghost use Rattle.mmu_core.specs.Worlds.{HandReached};
@@ -30,4 +31,12 @@ pub fn the_steps_can_be_made()
     ensures goes_on { EachMayStep }
     ensures example { ExampleRuns }
     ensures prints { ExamplePrints }
+{}
+
+/// What each hand has answered behind a list of steps is what the history tells
+/// of its actor; and where each has answered all its lines, the history answers
+/// the whole trace.
+pub fn every_answer_is_told()
+    ensures answers { AnswersAreTold }
+    ensures whole { EndsWhole }
 {}
