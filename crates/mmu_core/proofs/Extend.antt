@@ -4,11 +4,11 @@ use Rattle.std.proofs.lemmas.List.{length-set}
 use Rattle.mmu_core.specs.Machine.{Core, World, Step, effect, run, May, Legal, Leads}
 
 module _ {H K : Type 0} (C : Core H K) where
-  run-append : (w : World H) (ss ts : List (Step K)) → run C w (ss ++ ts) ≡ run C (run C w ss) ts
+  pub run-append : (w : World H) (ss ts : List (Step K)) → run C w (ss ++ ts) ≡ run C (run C w ss) ts
   run-append w [] ts = refl
   run-append w (s ∷ ss) ts = run-append (effect C w s) ss ts
 
-  legal-append : (w : World H) (ss ts : List (Step K)) → Legal C w ss → Legal C (run C w ss) ts → Legal C w (ss ++ ts)
+  pub legal-append : (w : World H) (ss ts : List (Step K)) → Legal C w ss → Legal C (run C w ss) ts → Legal C w (ss ++ ts)
   legal-append w [] ts first more = more
   legal-append w (s ∷ ss) ts first more = (first.0, legal-append (effect C w s) ss ts first.1 more)
 

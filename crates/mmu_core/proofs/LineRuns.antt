@@ -31,3 +31,10 @@ history_one_more w (x ∷ ss) s =
 pub own_hand : (w : World Held) (s : Step Kind) → s.actor < length w.hands → hand_in mmu (effect mmu w s) s.actor ≡ next (hand_in mmu w s.actor) s.kind (answered mmu w s.kind)
 unfolding effect
 own_hand w s there = get_or-set_same w.hands s.actor (next (hand_in mmu w s.actor) s.kind (answered mmu w s.kind)) nobody there
+
+-- what two lists of steps tell, one behind the other
+pub history_append : (w : World Held) (ss ts : List (Step Kind)) → history w (ss ++ ts) ≡ history w ss ++ history (run mmu w ss) ts
+history_append w [] ts = refl
+history_append w (s ∷ ss) ts =
+    ap (λ (es : List Event). told_last w s ++ es) (history_append (effect mmu w s) ss ts)
+    ∙ sym (append_assoc (told_last w s) (history (effect mmu w s) ss) (history (run mmu (effect mmu w s) ss) ts))

@@ -6,6 +6,7 @@ mod command;
 mod job;
 mod program;
 mod replay;
+mod run_on;
 mod status;
 mod turn;
 
