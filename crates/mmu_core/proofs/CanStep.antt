@@ -1,9 +1,8 @@
 -- An actor that has a line left may make a step.
-use Rattle.std.proofs.Common.{true, false, ◌≡◌, ◌+◌, ◌^◌, ◌<◌, ◌≤◌, ℕ, List, length, refl, sym, subst, ap, ◌∙◌, arith}
+use Rattle.std.proofs.Common.{true, false, ◌≡◌, ◌^◌, ◌<◌, ℕ, sym, subst, ap, arith}
 use Rattle.core_views.specs.declared.actor.Actor.{Actor}
 use Rattle.core_views.specs.declared.actor.Actor.TheVariants.{Vcpu, Host, Manager, Worker}
 use Rattle.core_views.specs.declared.hand.State.{State}
-use Rattle.core_views.specs.declared.kind.Kind.{Kind}
 use Rattle.core_views.specs.declared.place.AccessPlace.{AccessPlace}
 use Rattle.core_views.specs.declared.place.AccessPlace.TheVariants as access
 use Rattle.core_views.specs.declared.place.Place.{Place}
@@ -27,14 +26,14 @@ use Rattle.spte_words.proofs.Places.{place_below}
 use Rattle.spte_words.proofs.ReadsEntries.{leaf_fits}
 use Rattle.spte_words.proofs.ReadsFlags.{flags_fit}
 use Rattle.mmu_core.specs.AccessSteps.{access_task, touch_of}
-use Rattle.mmu_core.specs.Enabled.{IsNext, mmu}
+use Rattle.mmu_core.specs.Enabled.{mmu}
 use Rattle.mmu_core.specs.Example.{HasLine, WritesOneWord, next_step}
 use Rattle.mmu_core.specs.Laws.{IsSound}
 use Rattle.mmu_core.specs.Machine.{May, World, hand_in}
 use Rattle.mmu_core.specs.Rests.{AccessRests, Rests, RestsAt}
 use Rattle.mmu_core.specs.SetSlotSteps.{set_slot_task}
 use Rattle.mmu_core.specs.SlotWords.{leaf_of, may_write}
-use Rattle.mmu_core.specs.Steps.{line_at, next_line, place_at, task_at, task_of}
+use Rattle.mmu_core.specs.Steps.{line_at, place_at, task_at, task_of}
 use Rattle.mmu_core.specs.Tasks.{kind_of_task, map_of}
 use Rattle.mmu_core.specs.View.{view}
 use Rattle.mmu_core.proofs.RestsKept.{hand_rests, task_within}

@@ -1,6 +1,6 @@
 -- What the hands hold behind a list of steps is what its history tells; where all is answered it answers the trace.
-use Rattle.std.proofs.Common.{◌≡◌, ◌≢◌, ◌⊎◌, inl, inr, ◌+◌, ◌-◌, ◌<◌, ◌≤◌, ℕ, zero, suc, List, [], ◌∷◌, ◌++◌, length, take, refl, sym, subst, ap, ◌∙◌, arith, eqb}
-use Rattle.std.specs.Prelude.{All, Bool, true, false, ◌==◌, filter, map, nat_lt, if◌then◌else◌}
+use Rattle.std.proofs.Common.{◌≡◌, ◌⊎◌, inl, inr, ◌+◌, ◌-◌, ◌<◌, ◌≤◌, ℕ, List, [], ◌∷◌, ◌++◌, length, refl, sym, subst, ap, ◌∙◌, arith}
+use Rattle.std.specs.Prelude.{All, Bool, true, false, ◌==◌, map, nat_lt, if◌then◌else◌}
 use Rattle.std.proofs.lemmas.Bool.Decides.{nat_tests}
 use Rattle.std.proofs.lemmas.List.{take_all}
 use Rattle.std.proofs.lemmas.List.Elements.{All-head, All-tail, All-weaker}
@@ -18,19 +18,18 @@ use Rattle.core_views.specs.declared.trace.Line.{Line}
 use Rattle.core_views.specs.Actors.{is_same}
 use Rattle.core_views.specs.Held.{Held, first_held}
 use Rattle.core_views.specs.Sizes.{actor_at, actors_of, index_of}
-use Rattle.core_views.specs.Text.{answers_of}
 use Rattle.core_views.specs.Traces.{IsCommandFor}
-use Rattle.core_views.specs.Whole.{IsWhole, lines_begun, lines_of}
+use Rattle.core_views.specs.Whole.{lines_of}
 use Rattle.mmu_core.specs.Bounds.{steps_left}
 use Rattle.mmu_core.specs.Enabled.{mmu}
 use Rattle.mmu_core.specs.Histories.{AnswersAreTold, EndsWhole, answers_by}
 use Rattle.mmu_core.specs.Laws.{IsSound}
 use Rattle.mmu_core.specs.Machine.{Legal, May, Step, World, answered, effect, hand_in, run}
 use Rattle.mmu_core.specs.Rests.{Rests}
-use Rattle.mmu_core.specs.Steps.{events_of, line_at, outcome_at, place_at, task_of}
-use Rattle.mmu_core.specs.View.{View, answer_in, stepped, upd, view, word_in}
+use Rattle.mmu_core.specs.Steps.{events_of, line_at, place_at, task_of}
+use Rattle.mmu_core.specs.View.{View, answer_in, view, word_in}
 use Rattle.mmu_core.specs.Worlds.{IsStart, history}
-use Rattle.mmu_core.proofs.Bounded.{Falls, step_falls}
+use Rattle.mmu_core.proofs.Bounded.{step_falls}
 use Rattle.mmu_core.proofs.FlatKept.{same_index, told_events, told_is_events}
 use Rattle.mmu_core.proofs.Followed.{Follows, begun_count, begun_lines, follows_more, follows_still, silent_answers, silent_begins, view_follows}
 use Rattle.mmu_core.proofs.RestsKept.{hand_rests}
@@ -41,7 +40,7 @@ use Rattle.mmu_core.proofs.Worlds.{Takes, good_step, takes}
 -- what a step of a world tells, as its view has it
 step_events : (z : Sizes) (w : World Held) (s : Step Kind) → Takes z w s (hand_in mmu w s.actor)
     → events_of (hand_in mmu w s.actor) (answered mmu w s.kind)
-        ≡ told_events (view z w) s.actor (line_at (hand_in mmu w s.actor).state.place (hand_in mmu w s.actor)) (line_at (hand_in mmu w s.actor).state.place (hand_in mmu w s.actor)).command (place_at (hand_in mmu w s.actor).state.place (hand_in mmu w s.actor))
+    ≡ told_events (view z w) s.actor (line_at (hand_in mmu w s.actor).state.place (hand_in mmu w s.actor)) (line_at (hand_in mmu w s.actor).state.place (hand_in mmu w s.actor)).command (place_at (hand_in mmu w s.actor).state.place (hand_in mmu w s.actor))
 step_events z w s T =
     let h : Held = hand_in mmu w s.actor in
     ap (events_of h) T.answers ∙ sym (told_is_events z (view z w) s.actor (line_at h.state.place h) (place_at h.state.place h) T.is_step)

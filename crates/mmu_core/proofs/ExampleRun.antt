@@ -13,7 +13,7 @@ use Rattle.mmu_core.specs.Machine.{Legal, World}
 use Rattle.mmu_core.specs.Worlds.{IsStart, history}
 use Rattle.core_views.specs.Laws.{example_sizes}
 use Rattle.core_views.specs.Text.{line_text}
-use Rattle.spte_words.specs.Areas.{content_index, place, pool_index}
+use Rattle.spte_words.specs.Areas.{content_index, pool_index}
 use Rattle.spte_words.specs.Entries.{absent_word, frame_in, leaf_word}
 use Rattle.spte_words.specs.Flags.{flags_live, flags_read_only, flags_word}
 use Rattle.spte_words.specs.HostWords.{host_allows_write, host_frame, host_word}

@@ -1,5 +1,5 @@
 -- A hand goes on as the history tells: what it has answered and begun, step by step.
-use Rattle.std.proofs.Common.{◌≡◌, ◌≢◌, ◌<◌, ◌≤◌, ℕ, zero, suc, List, [], ◌∷◌, ◌++◌, append_assoc, append-nil, length, take, refl, sym, subst, ap, ◌∙◌, arith, length-append}
+use Rattle.std.proofs.Common.{◌≡◌, ◌<◌, ℕ, zero, suc, List, [], ◌∷◌, ◌++◌, append_assoc, append-nil, length, take, refl, sym, ap, ◌∙◌, arith, length-append}
 use Rattle.std.specs.Prelude.{false, filter, map, slice_get, unwrap_or}
 use Rattle.std.proofs.lemmas.List.{map-append}
 use Rattle.core_views.specs.declared.actor.Actor.{Actor}
@@ -17,17 +17,15 @@ use Rattle.core_views.specs.Text.{answers_of}
 use Rattle.core_views.specs.Whole.{lines_begun, lines_of}
 use Rattle.mmu_core.specs.declared.outcome.Outcome.{Outcome}
 use Rattle.mmu_core.specs.declared.outcome.Outcome.TheVariants.{Goes, Ends}
-use Rattle.mmu_core.specs.Bounds.{steps_left}
 use Rattle.mmu_core.specs.Histories.{answers_by}
 use Rattle.mmu_core.specs.Invariant.{Invariant}
-use Rattle.mmu_core.specs.Steps.{line_at, outcome_at, place_at, task_at, tells_at}
+use Rattle.mmu_core.specs.Steps.{outcome_at, task_at, tells_at}
 use Rattle.mmu_core.specs.Tasks.{answers_after, place_after}
 use Rattle.mmu_core.specs.View.{View, answer_in, hand_after, upd}
-use Rattle.mmu_core.proofs.Bounded.{Falls, step_falls}
+use Rattle.mmu_core.proofs.Bounded.{Falls}
 use Rattle.mmu_core.proofs.Columns.{at_upd}
 use Rattle.mmu_core.proofs.FlatKept.{other_actor, same_actor, told_events}
 use Rattle.mmu_core.proofs.LineEvents.{tells_within}
-use Rattle.mmu_core.proofs.RestsKept.{hand_rests}
 use Rattle.mmu_core.proofs.Stepping.{IsStep}
 use Rattle.mmu_core.proofs.ToldOf.{answered_with, answers_by_more, answers_told, begins_told, begun_by, begun_by_append, begun_from, other_answers, other_begins, own_answers, own_begins}
 
@@ -149,5 +147,5 @@ module _ (z : Sizes) (v : View) (a : ℕ) (line : Line) (p : Place) where
       at_upd (λ i (g : Held). i < actors_of z → Follows (v.hand i) g (told_events v a line line.command p)) v.hand a (hand_after line line.command p (v.hand a) found)
       (λ _. own_follows n S falls)
       (λ i apart i_in. let other : is_same (v.hand i).state.actor (v.hand a).state.actor ≡ false = other_actor z v i a I i_in S.there (λ e. apart (sym e)) in
-          follows_still (v.hand i) (told_events v a line line.command p) (silent_answers (v.hand i).state.actor other) (silent_begins (v.hand i).state.actor S.own other))
+      follows_still (v.hand i) (told_events v a line line.command p) (silent_answers (v.hand i).state.actor other) (silent_begins (v.hand i).state.actor S.own other))
       i i_in

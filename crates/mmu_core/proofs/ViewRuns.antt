@@ -79,9 +79,8 @@ turns_are z w (a ∷ actors) G have =
     let may = may_step z w a G have.0 have.1 in
     let T = takes z w (next_step z w a) G may in
     let rest = turns_are z (effect mmu w (next_step z w a)) actors (good_step z w (next_step z w a) G may) (subst (λ (v : View). HaveLines z v actors) (sym T.leads) have.2) in
-    let here : events_of h (answered mmu w (next_step z w a).kind) ≡ tells (view z w) a = ap (events_of h) T.answers ∙ sym (told_is_events z (view z w) a (line_at h.state.place h) (place_at h.state.place h) T.is_step) in
-    (
+    let here : events_of h (answered mmu w (next_step z w a).kind) ≡ tells (view z w) a = ap (events_of h) T.answers ∙ sym (told_is_events z (view z w) a (line_at h.state.place h) (place_at h.state.place h) T.is_step) in (
       (may, rest.0),
       ap (λ (es : List Event). es ++ history (effect mmu w (next_step z w a)) (turns z (effect mmu w (next_step z w a)) actors)) here
-      ∙ ap (λ (es : List Event). tells (view z w) a ++ es) (rest.1 ∙ ap (λ (v : View). tale v actors) T.leads),
+          ∙ ap (λ (es : List Event). tells (view z w) a ++ es) (rest.1 ∙ ap (λ (v : View). tale v actors) T.leads),
     )

@@ -1,10 +1,7 @@
 -- That the machine goes on: every machine has a start, each actor with a line left can make a step, and a small run to its answers.
 use Rattle.std.specs.Prelude.{◌≡◌, ◌^◌, ◌<◌, ◌≤◌, ℕ, List, [], ◌∷◌, All, codes, false, length}
-use Rattle.core_views.specs.declared.actor.Actor.{Actor}
-use Rattle.core_views.specs.declared.actor.Actor.TheVariants.{Vcpu, Manager}
 use Rattle.core_views.specs.declared.answer.Answer.TheVariants.{Done, Reached}
 use Rattle.core_views.specs.declared.event.Event.{Event}
-use Rattle.core_views.specs.declared.event.EventKind.{EventKind}
 use Rattle.core_views.specs.declared.event.EventKind.TheVariants.{Accessed, Answered, Begun, LookedAtSlots, SlotChanged}
 use Rattle.core_views.specs.declared.kind.Kind.{Kind}
 use Rattle.core_views.specs.declared.sizes.Sizes.{Sizes}

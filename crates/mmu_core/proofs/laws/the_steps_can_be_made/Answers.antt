@@ -1,4 +1,3 @@
-use Rattle.std.proofs.Common.{◌<◌, ℕ, List, subst, arith}
 use Rattle.mmu_core.specs.Enabled.{mmu}
 use Rattle.mmu_core.specs.Machine.{run}
 use Rattle.mmu_core.proofs.CanStep.{may_step}
