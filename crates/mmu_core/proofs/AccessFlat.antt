@@ -1,11 +1,10 @@
 -- What the steps of an access owe flat memory.
-use Rattle.std.proofs.Common.{◌≡◌, ◌≢◌, ◌+◌, ◌-◌, ◌^◌, ◌<◌, ◌≤◌, ◌⊎◌, inl, inr, ℕ, List, [], ◌∷◌, ◌++◌, refl, sym, subst, ap, ◌∙◌, arith, eqb}
-use Rattle.std.specs.Prelude.{All, Bool, true, false, ◌==◌, ◌&&◌, if◌then◌else◌, Option, Some, None}
+use Rattle.std.proofs.Common.{◌≡◌, ◌≢◌, ◌+◌, ◌-◌, ◌<◌, ◌≤◌, ◌⊎◌, inl, inr, ℕ, List, [], ◌∷◌, ◌++◌, refl, sym, subst, ap, ◌∙◌, arith}
+use Rattle.std.specs.Prelude.{All, Bool, true, false, ◌==◌, ◌&&◌, if◌then◌else◌, Some, None}
 use Rattle.std.proofs.lemmas.Bool.Decides.{nat_tests, Decides-eqb}
 use Rattle.core_views.specs.declared.actor.Actor.{Actor}
 use Rattle.core_views.specs.declared.answer.Answer.TheVariants.{Mmio, Reached}
-use Rattle.core_views.specs.declared.event.EventKind.{EventKind}
-use Rattle.core_views.specs.declared.event.EventKind.TheVariants.{Accessed, Answered, Exited, LookedAtSlots}
+use Rattle.core_views.specs.declared.event.EventKind.TheVariants.{Accessed, Answered, Exited}
 use Rattle.core_views.specs.declared.hand.State.{State}
 use Rattle.core_views.specs.declared.place.AccessPlace.{AccessPlace}
 use Rattle.core_views.specs.declared.place.AccessPlace.TheVariants.{Slots, Slot, Walk, Host, Install, Touch}
@@ -13,16 +12,15 @@ use Rattle.core_views.specs.declared.place.Place.TheVariants as place
 use Rattle.core_views.specs.declared.place.SlotField.{SlotField}
 use Rattle.core_views.specs.declared.place.SlotField.TheVariants as field
 use Rattle.core_views.specs.declared.sizes.Sizes.{Sizes}
-use Rattle.core_views.specs.declared.trace.Command.{Command}
 use Rattle.core_views.specs.declared.trace.Command.TheVariants.{Access}
 use Rattle.core_views.specs.declared.trace.Line.{Line}
 use Rattle.core_views.specs.declared.trace.Op.{Op}
 use Rattle.core_views.specs.declared.trace.Op.TheVariants.{Read, Write, Add}
 use Rattle.core_views.specs.declared.trace.Slot.{Slot as SlotOf}
 use Rattle.core_views.specs.Events.{touched}
-use Rattle.core_views.specs.Flat.{Facts, LineUnderWay, Fresh}
+use Rattle.core_views.specs.Flat.{Facts, LineUnderWay}
 use Rattle.core_views.specs.Host.{HostMap}
-use Rattle.core_views.specs.Lawful.{MayLeave, SawNoPage}
+use Rattle.core_views.specs.Lawful.{MayLeave}
 use Rattle.core_views.specs.Memory.{Memory, stored, with_word}
 use Rattle.core_views.specs.Names.{frame_at}
 use Rattle.core_views.specs.Slots.{contains, is_write, page_behind}
@@ -35,18 +33,17 @@ use Rattle.spte_words.proofs.Indices.{same_content}
 use Rattle.mmu_core.specs.declared.outcome.Outcome.{Outcome}
 use Rattle.mmu_core.specs.declared.outcome.Outcome.TheVariants.{Goes as GoesOn, Ends}
 use Rattle.mmu_core.specs.AccessSteps.{behind_slot, exiting}
-use Rattle.mmu_core.specs.FlatInvariant.{NotedAt, NotedSlots, Refines}
-use Rattle.mmu_core.specs.Invariant.{Found, Invariant, IsLive}
+use Rattle.mmu_core.specs.FlatInvariant.{NotedSlots}
+use Rattle.mmu_core.specs.Invariant.{Invariant, IsLive}
 use Rattle.mmu_core.specs.SetSlotSteps.{published_set}
 use Rattle.mmu_core.specs.SlotWords.{live_at, page_of, slot_at, slot_index}
 use Rattle.mmu_core.specs.Tasks.{answering, map_of, place_after}
-use Rattle.mmu_core.specs.View.{View, put, upd}
+use Rattle.mmu_core.specs.View.{View, put}
 use Rattle.mmu_core.proofs.Columns.{same_or, upd_same, upd_other}
 use Rattle.mmu_core.proofs.FlatSteps.{Goes, Ready, StepGoes}
 use Rattle.mmu_core.proofs.PageFound.{frame_of_leaf, page_in_machine, page_is_behind, word_in_page}
 use Rattle.mmu_core.proofs.SlotLists.{each_is_live, no_page_behind}
 use Rattle.mmu_core.proofs.Stepping.{IsStep}
-use Rattle.mmu_core.proofs.Told.{AreAllowed}
 
 -- what the step of this place owes
 abbrev pub AccessGoes : Sizes → View → ℕ → Line → ℕ → ℕ → Op → AccessPlace → Type 0
@@ -59,12 +56,16 @@ looks_goes : (z : Sizes) (v : View) (a : ℕ) (line : Line) (gfn word : ℕ) (op
 looks_goes z v a line gfn word op facts u S I R = record {
   allowed = (R.stage, tt);
   refines = R.refines;
-  under = (R.stage, R.line_is, record {
-    slots = facts.slots;
-    noted = refl;
-    live = subst (All (λ (e : ℕ × SlotOf). IsLive (v.words area.Pool) e.0 e.1)) (sym R.refines.slots) (each_is_live (v.words area.Pool) 32 (omega arith));
-    passed = λ k d lt low. absurd (omega arith);
-  });
+  under = (
+    R.stage,
+    R.line_is,
+    record {
+      slots = facts.slots;
+      noted = refl;
+      live = subst (All (λ (e : ℕ × SlotOf). IsLive (v.words area.Pool) e.0 e.1)) (sym R.refines.slots) (each_is_live (v.words area.Pool) 32 (omega arith));
+      passed = λ k d lt low. absurd (omega arith);
+    },
+  );
   live = λ e l. l;
 }
 

@@ -1,6 +1,6 @@
 -- Each step tells lawful events, and the words and hands are flat guest memory behind it.
-use Rattle.std.proofs.Common.{◌≡◌, ◌≢◌, ◌+◌, ◌<◌, ◌≤◌, ◌⊎◌, ℕ, List, [], ◌∷◌, ◌++◌, refl, sym, subst, ap, ◌∙◌}
-use Rattle.std.specs.Prelude.{All, Bool, true, false, Some, None}
+use Rattle.std.proofs.Common.{◌≡◌, ◌≢◌, ◌+◌, ◌<◌, ℕ, List, [], ◌∷◌, ◌++◌, refl, sym, subst, ap, ◌∙◌}
+use Rattle.std.specs.Prelude.{Bool, true, false}
 use Rattle.std.proofs.lemmas.Bool.Decides.{Decides-eqb}
 use Rattle.core_views.specs.declared.actor.Actor.{Actor}
 use Rattle.core_views.specs.declared.actor.Actor.TheVariants as actor
@@ -19,10 +19,9 @@ use Rattle.core_views.specs.declared.sizes.Sizes.{Sizes}
 use Rattle.core_views.specs.declared.trace.Command.{Command}
 use Rattle.core_views.specs.declared.trace.Command.TheVariants.{Access, SetSlot}
 use Rattle.core_views.specs.declared.trace.Line.{Line}
-use Rattle.core_views.specs.declared.trace.Slot.{Slot}
 use Rattle.core_views.specs.Actors.{changed_at, is_same}
 use Rattle.core_views.specs.Events.{after, after_all, line_after}
-use Rattle.core_views.specs.Flat.{Flat, LineUnderWay, Notes, Fresh, Idle, no_notes}
+use Rattle.core_views.specs.Flat.{Flat, LineUnderWay, Notes, Idle, no_notes}
 use Rattle.core_views.specs.Held.{Held}
 use Rattle.core_views.specs.Lawful.{IsLawful}
 use Rattle.core_views.specs.Sizes.{actors_of, index_of}
@@ -31,17 +30,17 @@ use Rattle.spte_words.specs.declared.area.Area.{Area}
 use Rattle.spte_words.specs.declared.area.Area.TheVariants as area
 use Rattle.mmu_core.specs.AccessSteps.{access_loads}
 use Rattle.mmu_core.specs.FlatInvariant.{FlatInvariant, NotedAt, NotedSlots, Refines, UnderIs}
-use Rattle.mmu_core.specs.Invariant.{Invariant, IsLive}
+use Rattle.mmu_core.specs.Invariant.{Invariant}
 use Rattle.mmu_core.specs.SetSlotSteps.{set_slot_loads}
-use Rattle.mmu_core.specs.Steps.{beginning, event_kinds, events_of, first_place, line_at, next_line, outcome_at, place_at, standing, task_at, tells_at, loads_at}
-use Rattle.mmu_core.specs.Tasks.{answering, place_after}
-use Rattle.mmu_core.specs.View.{View, answer_in, hand_after, stepped, upd, words_after}
+use Rattle.mmu_core.specs.Steps.{beginning, event_kinds, events_of, first_place, line_at, next_line, outcome_at, standing, task_at, tells_at, loads_at}
+use Rattle.mmu_core.specs.Tasks.{answering}
+use Rattle.mmu_core.specs.View.{View, answer_in, hand_after, stepped, words_after}
 use Rattle.mmu_core.proofs.AccessFlat.{access_goes}
 use Rattle.mmu_core.proofs.Columns.{at_upd}
-use Rattle.mmu_core.proofs.FlatSteps.{Goes, Ready, StayLive, StepGoes, UnderAt, under_is}
+use Rattle.mmu_core.proofs.FlatSteps.{Ready, StayLive, StepGoes, under_is}
 use Rattle.mmu_core.proofs.SetSlotFlat.{set_slot_goes}
 use Rattle.mmu_core.proofs.Stepping.{IsStep}
-use Rattle.mmu_core.proofs.Told.{AreAllowed, line_behind, told, told_facts, told_lawful, told_line, told_others}
+use Rattle.mmu_core.proofs.Told.{line_behind, told, told_facts, told_lawful, told_line, told_others}
 
 -- what a step tells besides that its line begins
 abbrev pub told_kinds : View → ℕ → Line → Command → Place → List EventKind
@@ -105,11 +104,11 @@ under_still pool other (place.SetSlot p) s u still under = under
 abbrev Others : Sizes → View → ℕ → Flat → Type 0
 Others z v a f = (i : ℕ) → i < actors_of z → i ≢ a → UnderIs (v.words area.Pool) (v.hand i).state.place (v.hand i).state (f.under (v.hand i).state.actor)
 
-other_actor : (z : Sizes) (v : View) (a i : ℕ) → Invariant z v → a < actors_of z → i < actors_of z → i ≢ a → is_same (v.hand a).state.actor (v.hand i).state.actor ≡ false
+pub other_actor : (z : Sizes) (v : View) (a i : ℕ) → Invariant z v → a < actors_of z → i < actors_of z → i ≢ a → is_same (v.hand a).state.actor (v.hand i).state.actor ≡ false
 other_actor z v a i I a_in i_in apart = apart_actors z (v.hand a).state.actor (v.hand i).state.actor (λ e. apart (sym (sym (I.lines a a_in).index ∙ e ∙ (I.lines i i_in).index)))
 
 -- The step's actor is its hand's, whatever it loads.
-same_actor : (p : Place) (command : Command) (s : State) (x : ℕ) → (loads_at p command s x).actor ≡ s.actor
+pub same_actor : (p : Place) (command : Command) (s : State) (x : ℕ) → (loads_at p command s x).actor ≡ s.actor
 same_actor place.Between command s x = refl
 same_actor (place.Access p) (Access gfn word op) s x = accessing p s x
   where

@@ -19,7 +19,14 @@ pub mod FlatKept
 pub mod EveryHistory
 pub mod Extend
 pub mod Sized
+pub mod CanStep
+pub mod ViewRuns
+pub mod StartViews
+pub mod ExampleRun
 pub mod Bounded
 pub mod LineEvents
 pub mod HandAfter
 pub mod LineRuns
+pub mod ToldOf
+pub mod Followed
+pub mod EveryAnswer

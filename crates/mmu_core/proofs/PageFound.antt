@@ -1,5 +1,5 @@
 -- What an access has found: a host page of the machine, at the frame of its own number, that the one live slot gives.
-use Rattle.std.proofs.Common.{◌≡◌, ◌≢◌, ◌+◌, ◌-◌, ◌^◌, ◌<◌, ◌≤◌, ℕ, [], ◌∷◌, refl, sym, subst, ap, ◌∙◌, arith}
+use Rattle.std.proofs.Common.{◌≡◌, ◌≢◌, ◌+◌, ◌<◌, ◌≤◌, ℕ, [], ◌∷◌, refl, subst, ap, ◌∙◌, arith}
 use Rattle.std.specs.Prelude.{Bool, true, false, ◌&&◌, Some, nat_le, nat_lt}
 use Rattle.std.proofs.lemmas.Bool.Decides.{nat_tests}
 use Rattle.core_views.specs.declared.actor.Actor.{Actor}
@@ -10,7 +10,7 @@ use Rattle.core_views.specs.declared.trace.Command.TheVariants.{Access}
 use Rattle.core_views.specs.declared.trace.Op.{Op}
 use Rattle.core_views.specs.declared.trace.Slot.{Slot}
 use Rattle.core_views.specs.Sizes.{AreSizes}
-use Rattle.core_views.specs.Slots.{Slots, contains, is_write, page_behind}
+use Rattle.core_views.specs.Slots.{Slots, contains, page_behind}
 use Rattle.core_views.specs.Traces.{IsCommandFor}
 use Rattle.spte_words.specs.Entries.{frame_in}
 use Rattle.spte_words.specs.HostWords.{host_allows_write, host_frame}
@@ -18,7 +18,7 @@ use Rattle.spte_words.proofs.ReadsEntries.{leaf_frame}
 use Rattle.spte_words.proofs.ReadsHost.{host_has_frame}
 use Rattle.mmu_core.specs.Invariant.{Found, HostWordsPart, SlotSetPart}
 use Rattle.mmu_core.specs.SetSlotSteps.{published_set}
-use Rattle.mmu_core.specs.SlotWords.{leaf_of, live_at, may_write, page_of, slot_at, slots_below}
+use Rattle.mmu_core.specs.SlotWords.{leaf_of, live_at, may_write, page_of, slots_below}
 use Rattle.mmu_core.proofs.SlotLists.{one_below, page_behind_one}
 
 pub contains_bounds : (gfn : ℕ) (slot : Slot) → contains gfn slot ≡ true → (slot.base ≤ gfn) × (gfn < slot.base + slot.pages)

@@ -1,5 +1,5 @@
 -- What the steps of a slot setting owe flat memory.
-use Rattle.std.proofs.Common.{◌≡◌, ◌≢◌, ◌+◌, ◌*◌, ◌<◌, ◌≤◌, ℕ, List, [], ◌∷◌, refl, sym, subst, ap, ◌∙◌, arith}
+use Rattle.std.proofs.Common.{◌≡◌, ◌≢◌, ◌<◌, ◌≤◌, ℕ, [], refl, sym, subst, ap, ◌∙◌, arith}
 use Rattle.std.specs.Prelude.{Bool, true, false, Option, Some, None, nat_lt, if◌then◌else◌}
 use Rattle.std.proofs.lemmas.Bool.Decides.{nat_tests}
 use Rattle.core_views.specs.declared.answer.Answer.TheVariants.{Refused}
@@ -11,7 +11,6 @@ use Rattle.core_views.specs.declared.place.SetSlotPlace.TheVariants.{Refuse, Fil
 use Rattle.core_views.specs.declared.place.SlotField.{SlotField}
 use Rattle.core_views.specs.declared.place.SlotField.TheVariants.{Base, Pages, Host, Flags}
 use Rattle.core_views.specs.declared.sizes.Sizes.{Sizes}
-use Rattle.core_views.specs.declared.trace.Command.{Command}
 use Rattle.core_views.specs.declared.trace.Command.TheVariants.{SetSlot}
 use Rattle.core_views.specs.declared.trace.Line.{Line}
 use Rattle.core_views.specs.declared.trace.Slot.{Slot}
@@ -20,9 +19,9 @@ use Rattle.core_views.specs.Lawful.{IsRefused, Tells}
 use Rattle.core_views.specs.Slots.{slot_refusal, with_slot}
 use Rattle.spte_words.specs.declared.area.Area.TheVariants as area
 use Rattle.spte_words.specs.Areas.{pool_index}
-use Rattle.spte_words.specs.Flags.{flags_live, flags_read_only, flags_word}
+use Rattle.spte_words.specs.Flags.{flags_live, flags_read_only}
 use Rattle.spte_words.proofs.ReadsFlags.{flags_are_live, flags_are_read_only}
-use Rattle.mmu_core.specs.Invariant.{Invariant, IsLive}
+use Rattle.mmu_core.specs.Invariant.{Invariant}
 use Rattle.mmu_core.specs.SetSlotSteps.{published_set}
 use Rattle.mmu_core.specs.SlotWords.{field_number, field_word, live_at, slot_at, slot_index, slots_below}
 use Rattle.mmu_core.specs.View.{View, put, upd}
@@ -147,10 +146,13 @@ flags_goes z v a line id slot facts u S I R = record {
 
 refuse_goes : (z : Sizes) (v : View) (a : ℕ) (line : Line) (id : ℕ) (slot : Slot) (refusal : Refusal) → SetSlotGoes z v a line id slot (Refuse refusal)
 refuse_goes z v a line id slot refusal facts u S I R = record {
-  allowed = ((
-    ap (λ (l : Line). l.number) (sym R.line_is),
-    subst (λ stage. Tells z u.line.command stage (Refused refusal)) (sym R.stage) (subst (λ c. IsRefused z c (Refused refusal)) (sym (ap (λ (l : Line). l.command) R.line_is ∙ S.command_is)) S.holds),
-  ), tt);
+  allowed = (
+    (
+      ap (λ (l : Line). l.number) (sym R.line_is),
+      subst (λ stage. Tells z u.line.command stage (Refused refusal)) (sym R.stage) (subst (λ c. IsRefused z c (Refused refusal)) (sym (ap (λ (l : Line). l.command) R.line_is ∙ S.command_is)) S.holds),
+    ),
+    tt,
+  );
   refines = R.refines;
   under = refl;
   live = λ e l. l;

@@ -1,11 +1,11 @@
 -- Events of one actor, told together: what they make of the facts and of its line, and that the lines of other actors stay.
-use Rattle.std.proofs.Common.{◌≡◌, ℕ, List, [], ◌∷◌, refl, sym, subst, ap, ◌∙◌}
-use Rattle.std.specs.Prelude.{map, Bool, true, false}
+use Rattle.std.proofs.Common.{◌≡◌, List, [], ◌∷◌, refl, sym, subst, ap, ◌∙◌}
+use Rattle.std.specs.Prelude.{map, false}
 use Rattle.core_views.specs.declared.actor.Actor.{Actor}
 use Rattle.core_views.specs.declared.event.Event.{Event}
 use Rattle.core_views.specs.declared.event.EventKind.{EventKind}
 use Rattle.core_views.specs.declared.sizes.Sizes.{Sizes}
-use Rattle.core_views.specs.Actors.{is_same, changed_at}
+use Rattle.core_views.specs.Actors.{is_same}
 use Rattle.core_views.specs.Events.{after, after_all, facts_after, line_after}
 use Rattle.core_views.specs.Flat.{Facts, Flat, LineUnderWay}
 use Rattle.core_views.specs.Lawful.{IsAllowed, IsLawful}
@@ -31,9 +31,11 @@ AreAllowed z actor (kind ∷ kinds) facts u = IsAllowed z facts actor u kind × 
 
 pub told_lawful : (z : Sizes) (actor : Actor) (kinds : List EventKind) (f : Flat) → AreAllowed z actor kinds f.facts (f.under actor) → IsLawful z f (told actor kinds)
 told_lawful z actor [] f may = tt
-told_lawful z actor (kind ∷ kinds) f may =
-    (may.0, told_lawful z actor kinds (after (record { actor = actor; kind = kind }) f)
-    (subst (AreAllowed z actor kinds (facts_after kind f.facts)) (sym (changed_here actor (line_after kind f.facts (f.under actor)) f.under)) may.1))
+told_lawful z actor (kind ∷ kinds) f may = (
+  may.0,
+  told_lawful z actor kinds (after (record { actor = actor; kind = kind }) f)
+      (subst (AreAllowed z actor kinds (facts_after kind f.facts)) (sym (changed_here actor (line_after kind f.facts (f.under actor)) f.under)) may.1),
+)
 
 pub told_facts : (actor : Actor) (kinds : List EventKind) (f : Flat) → (after_all (told actor kinds) f).facts ≡ facts_behind kinds f.facts
 told_facts actor [] f = refl

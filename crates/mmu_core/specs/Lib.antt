@@ -11,6 +11,8 @@ pub mod View
 pub mod Invariant
 pub mod FlatInvariant
 pub mod Laws
+pub mod Example
 pub mod Bounds
 pub mod Turns
 pub mod LineRuns
+pub mod Histories

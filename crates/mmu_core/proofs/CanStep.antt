@@ -1,0 +1,108 @@
+-- An actor that has a line left may make a step.
+use Rattle.std.proofs.Common.{true, false, ◌≡◌, ◌^◌, ◌<◌, ℕ, sym, subst, ap, arith}
+use Rattle.core_views.specs.declared.actor.Actor.{Actor}
+use Rattle.core_views.specs.declared.actor.Actor.TheVariants.{Vcpu, Host, Manager, Worker}
+use Rattle.core_views.specs.declared.hand.State.{State}
+use Rattle.core_views.specs.declared.place.AccessPlace.{AccessPlace}
+use Rattle.core_views.specs.declared.place.AccessPlace.TheVariants as access
+use Rattle.core_views.specs.declared.place.Place.{Place}
+use Rattle.core_views.specs.declared.place.Place.TheVariants as place
+use Rattle.core_views.specs.declared.place.SetSlotPlace.{SetSlotPlace}
+use Rattle.core_views.specs.declared.place.SetSlotPlace.TheVariants.{Refuse, Fill}
+use Rattle.core_views.specs.declared.place.SlotField.TheVariants as field
+use Rattle.core_views.specs.declared.sizes.Sizes.{Sizes}
+use Rattle.core_views.specs.declared.trace.Command.{Command}
+use Rattle.core_views.specs.declared.trace.Command.TheVariants.{Access, SetSlot}
+use Rattle.core_views.specs.declared.trace.Line.{Line}
+use Rattle.core_views.specs.declared.trace.Op.{Op}
+use Rattle.core_views.specs.declared.trace.Op.TheVariants.{Add, Read, Write}
+use Rattle.core_views.specs.declared.trace.Slot.{Slot}
+use Rattle.core_views.specs.Held.{Held}
+use Rattle.core_views.specs.Sizes.{AreSizes, actors_of}
+use Rattle.core_views.specs.Traces.{IsCommandFor, IsSlotInRange}
+use Rattle.spte_words.specs.Areas.{place as word_place, size_of, total}
+use Rattle.spte_words.specs.HostWords.{host_allows_write, host_frame}
+use Rattle.spte_words.proofs.Places.{place_below}
+use Rattle.spte_words.proofs.ReadsEntries.{leaf_fits}
+use Rattle.spte_words.proofs.ReadsFlags.{flags_fit}
+use Rattle.mmu_core.specs.AccessSteps.{access_task, touch_of}
+use Rattle.mmu_core.specs.Enabled.{mmu}
+use Rattle.mmu_core.specs.Example.{HasLine, WritesOneWord, next_step}
+use Rattle.mmu_core.specs.Laws.{IsSound}
+use Rattle.mmu_core.specs.Machine.{May, World, hand_in}
+use Rattle.mmu_core.specs.Rests.{AccessRests, Rests, RestsAt}
+use Rattle.mmu_core.specs.SetSlotSteps.{set_slot_task}
+use Rattle.mmu_core.specs.SlotWords.{leaf_of, may_write}
+use Rattle.mmu_core.specs.Steps.{line_at, place_at, task_at, task_of}
+use Rattle.mmu_core.specs.Tasks.{kind_of_task, map_of}
+use Rattle.mmu_core.specs.View.{view}
+use Rattle.mmu_core.proofs.RestsKept.{hand_rests, task_within}
+use Rattle.mmu_core.proofs.Stepping.{IsStep, is_step}
+use Rattle.mmu_core.proofs.Worlds.{enabled_is}
+
+-- What a step writes has 64 bits.
+touch_small : (op : Op) (gfn word index : ℕ) → WritesOneWord (Access gfn word op) → (touch_of op index).written < 2 ^ 64
+touch_small Read gfn word index fits = omega arith
+touch_small (Write x) gfn word index fits = fits
+touch_small (Add x) gfn word index fits = fits
+
+leaf_small : (slot : Slot) (host : ℕ) → host_frame host < 2 ^ 40 → leaf_of slot host < 2 ^ 64
+leaf_small slot host small = leaf_fits 1 (host_frame host) (may_write slot host) (host_allows_write host) (may_write slot host) small
+
+access_small : (p : AccessPlace) (s : State) (gfn word : ℕ) (op : Op) → AreSizes s.sizes → AccessRests p s gfn → WritesOneWord (Access gfn word op) → (access_task p s gfn word op).written < 2 ^ 64
+access_small access.Slots s gfn word op sizes rests fits = omega arith
+access_small (access.Slot id f) s gfn word op sizes rests fits = omega arith
+access_small access.Walk s gfn word op sizes rests fits = omega arith
+access_small access.Host s gfn word op sizes rests fits = omega arith
+access_small access.Install s gfn word op sizes rests fits = leaf_small s.look.slot s.host (omega (arith, rests.1, sizes.frames))
+access_small access.Touch s gfn word op sizes rests fits = touch_small op gfn word _ fits
+
+slot_in_range : (z : Sizes) (actor : Actor) (id : ℕ) (slot : Slot) → IsCommandFor z actor (SetSlot id slot) → IsSlotInRange slot
+slot_in_range z (Vcpu n) id slot may = absurd may
+slot_in_range z (Host n) id slot may = absurd may
+slot_in_range z Manager id slot may = may
+slot_in_range z (Worker n) id slot may = absurd may
+
+set_slot_small : (p : SetSlotPlace) (id : ℕ) (slot : Slot) → IsSlotInRange slot → (set_slot_task p id slot).written < 2 ^ 64
+set_slot_small (Refuse refusal) id slot range = omega arith
+set_slot_small (Fill field.Base) id slot range = omega (arith, range.base)
+set_slot_small (Fill field.Pages) id slot range = omega (arith, range.pages)
+set_slot_small (Fill field.Host) id slot range = omega (arith, range.host)
+set_slot_small (Fill field.Flags) id slot range = flags_fit true slot.read_only false
+
+written_small : (p : Place) (actor : Actor) (command : Command) (s : State) → AreSizes s.sizes → IsCommandFor s.sizes actor command → RestsAt p command s → WritesOneWord command → (task_at p command s).written < 2 ^ 64
+written_small place.Between actor (Access gfn word op) s sizes may rests fits = omega arith
+written_small place.Between actor (SetSlot id slot) s sizes may rests fits = omega arith
+written_small (place.Access p) actor (Access gfn word op) s sizes may rests fits = access_small p s gfn word op sizes rests fits
+written_small (place.Access p) actor (SetSlot id slot) s sizes may rests fits = absurd rests
+written_small (place.SetSlot p) actor (Access gfn word op) s sizes may rests fits = absurd rests
+written_small (place.SetSlot p) actor (SetSlot id slot) s sizes may rests fits = set_slot_small p id slot (slot_in_range s.sizes actor id slot may)
+
+pub may_step : (z : Sizes) (w : World Held) (a : ℕ) → IsSound z w → a < actors_of z → HasLine (hand_in mmu w a) → May mmu w (next_step z w a)
+may_step z w a G there has = record {
+  there = omega (arith, there, G.hands);
+  enabled = enabled_is h (next_step z w a).kind (record {
+    left = has.left;
+    rests = R;
+    is = ap (λ y. kind_of_task y (task_of h)) (sym same);
+    inside = subst (λ y. word_place (map_of z) (task_of h).area (task_of h).index < total (map_of y)) (sym same) below;
+    small = written_small (place_at h.state.place h) (line_at h.state.place h).actor (line_at h.state.place h).command h.state R.sizes R.line R.at
+        (subst (λ (l : Line). WritesOneWord l.command) (sym S.next) has.fits);
+  });
+  inside = omega (arith, below, G.words);
+}
+  where
+    h : Held
+    h = hand_in mmu w a
+
+    same : h.state.sizes ≡ z
+    same = (G.holds.lines a there).sizes
+
+    R : Rests h
+    R = hand_rests z (view z w) a G.holds there has.left
+
+    S : IsStep z (view z w) a (line_at h.state.place h) (line_at h.state.place h).command (place_at h.state.place h)
+    S = is_step z (view z w) a G.holds there has.left
+
+    below : word_place (map_of z) (task_of h).area (task_of h).index < total (map_of z)
+    below = place_below (map_of z) (task_of h).area (task_of h).index (subst (λ y. (task_of h).index < size_of (map_of y) (task_of h).area) same (task_within h R))
