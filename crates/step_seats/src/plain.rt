@@ -1,7 +1,7 @@
 //! All words and hands under one owner.
 ghost use Rattle.std.specs.Prelude.{◌≡◌, ◌<◌, ◌≤◌, IfOk, OnOk, length};
 ghost use Rattle.core_views.specs.Sizes.{AreSizes, actors_of, index_of, sizes_of};
-ghost use Rattle.core_views.specs.Traces.{IsTrace, settings};
+ghost use Rattle.core_views.specs.Traces.{IsTrace};
 ghost use Rattle.mmu_core.specs.Enabled.{Enabled, mmu};
 ghost use Rattle.mmu_core.specs.Machine.{May, answered, effect};
 ghost use Rattle.mmu_core.specs.Steps.{next};
@@ -39,7 +39,6 @@ impl PlainMachine {
     /// The machine of a trace at its start.
     pub fn new(alloc: Global, trace: &Trace) -> Result<PlainMachine, NoMemory>
         requires trace { IsTrace trace.now }
-        requires once { settings trace.now.lines ≤ 1 }
         ensures start { IfOk result (λ m. IsStart (sizes_of trace.now.header) trace.now.lines (world_in m)) }
         ensures sizes { IfOk result (λ m. m.sizes ≡ sizes_of trace.now.header) }
     {

@@ -2,7 +2,7 @@
 ghost use Rattle.std.specs.Prelude.{◌≡◌, ◌+◌, ◌^◌, ◌<◌, ◌≤◌, IfOk, length};
 ghost use Rattle.core_views.specs.Actors.{is_same};
 ghost use Rattle.core_views.specs.Sizes.{AreSizes, actors_of, sizes_of};
-ghost use Rattle.core_views.specs.Traces.{IsTrace, settings};
+ghost use Rattle.core_views.specs.Traces.{IsTrace};
 ghost use Rattle.core_views.specs.Whole.{lines_of};
 ghost use Rattle.mmu_core.specs.Tasks.{map_of};
 ghost use Rattle.mmu_core.specs.Worlds.{AreStartWords, free_bits, least, start_hands, start_word};

@@ -1,6 +1,6 @@
 ghost use Rattle.std.specs.Prelude.{◌≡◌, ◌≤◌, IfOk, IfSome, length, map, string_bytes, take};
 ghost use Rattle.core_views.specs.Need.{need as need_of};
-ghost use Rattle.core_views.specs.Traces.{IsTrace, settings};
+ghost use Rattle.core_views.specs.Traces.{IsTrace};
 ghost use Rattle.tdpmmu.specs.Output.{check_text, refusal_text};
 ghost use Rattle.tdp_io.specs.Ends.{Wrote, WroteFaults};
 ghost use Rattle.tdpmmu.specs.Run.{command_named as named, command_of, trace_output, Prints, ReadCause, RunsTo, WriteCause};
@@ -98,8 +98,7 @@ fn refuse<K: Sink>(alloc: Global, line: u32, reason: Reason, out: &mut K) -> Sta
 
 // The input is this trace.
 fn run_trace<K: Sink>(alloc: Global, command: Command, trace: &Trace, out: &mut K) -> Status
-    requires trace { IsTrace trace.now }
-    requires once { settings trace.now.lines ≤ 1 }
+    requires { IsTrace trace.now }
     ensures written { WritesOutput (trace_output command trace.now) (K.written out.old) (K.written out.new) result }
     ensures write { WriteCause (K.faults out.old) (K.faults out.new) result }
 {

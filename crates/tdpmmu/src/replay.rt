@@ -3,7 +3,7 @@ ghost use Rattle.std.specs.Prelude.{◌≡◌, ◌≤◌, IfOk, OnOk, string_byt
 ghost use Rattle.core_views.specs.Flat.{first_facts};
 ghost use Rattle.core_views.specs.FlatHistory.{flat_history, one_by_one};
 ghost use Rattle.core_views.specs.Text.{line_text, text};
-ghost use Rattle.core_views.specs.Traces.{IsTrace, settings};
+ghost use Rattle.core_views.specs.Traces.{IsTrace};
 ghost use Rattle.mmu_core.specs.Worlds.{IsStart};
 ghost use Rattle.step_seats.specs.Machines.{world_in};
 ghost use Rattle.step_seats.specs.Moves.{world_of};
@@ -81,7 +81,6 @@ fn run_lines<K: Sink>(
 /// the last words and hands.
 pub fn replay<K: Sink>(alloc: Global, trace: &Trace, out: &mut K) -> Result<Closing, Stop>
     requires trace { IsTrace trace.now }
-    requires once { settings trace.now.lines ≤ 1 }
     ensures ran { IfOk result (λ closing. Replays trace.now (world_of closing.words closing.hands)) }
     ensures bytes { Wrote (K.written out.old) (K.written out.new) result (text (flat_history trace.now)) }
     ensures faults { WroteFaults (K.faults out.old) (K.faults out.new) result }
