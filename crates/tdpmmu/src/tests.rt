@@ -1,13 +1,18 @@
 //! Whole runs of the program, over sources and sinks in memory.
+ghost use Rattle.core_views.specs.Traces.{AreLinesOf};
 
 use crate::program::run;
 use crate::status::Status;
+use crate::traces::{COUNT, TRACES};
+use core_views::Trace;
+use flat_model::Plain;
 use std::alloc::Global;
 use std::sync::Wait;
 use std::test::Fail;
 use std::thread::Threads;
 use tdp_io::{MemSink, MemSource, NoGate};
-use trace_reader::Reason;
+use trace_reader::{Read, Reason, read_trace};
+use trace_text::answer_line;
 
 const H: &str =
     "tdp 1 vcpus 2 workers 1 pages 1024 frames 1040 words 1 pool 64 cache 64 manual 0 hosts 0\n";
@@ -209,5 +214,62 @@ fn says_which_end_failed(rt: HostRuntime) -> Result<(), Fail> {
     let (status, out) = run_on(&rt, rt.alloc(), &replay, H, ONE_WRITE, &[], &[0])?;
     assert_eq!(rt; status, Status::WriteFault);
     assert_eq!(rt; out.bytes().len(), 0);
+    Ok(())
+}
+
+// A whole trace of a text of the table, which begins with the header's sizes.
+fn whole_trace(alloc: Global, text: &str) -> Result<String, Fail> {
+    let mut whole = String::from_str(alloc, "tdp 1 ")?;
+    if let Some((sizes, lines)) = text.split_once("\n") {
+        whole.push_str(sizes)?;
+        whole.push_str(" pool 64 cache 64 manual 0 hosts 0\n")?;
+        whole.push_str(lines)?;
+    }
+    Ok(whole)
+}
+
+// What flat guest memory answers the trace, as text.
+fn plain_answers(alloc: Global, trace: &Trace) -> Result<String, Fail>
+    requires { AreLinesOf trace.now.header trace.now.lines }
+{
+    let mut plain = Plain::new(alloc, trace)?;
+    let mut text = String::new(alloc);
+    for line in trace.lines.as_slice() {
+        let answer = plain.line(alloc, line)?;
+        text.push_str(&answer_line(alloc, line.number, line.actor, &answer)?)?;
+    }
+    Ok(text)
+}
+
+// What flat guest memory answers the trace that the text is, if it is one.
+fn flat_answers(alloc: Global, whole: &str) -> Result<Option<String>, Fail> {
+    let mut input = Vec::new(alloc);
+    input.extend_from_slice(whole.as_bytes())?;
+    let mut src = MemSource::new(input, Vec::new(alloc));
+    match read_trace(alloc, &mut src)? {
+        Read::Trace(trace) => Ok(Some(plain_answers(alloc, &trace)?)),
+        _ => Ok(None),
+    }
+}
+
+// The machine answers each trace of the table as flat guest memory does.
+#[test]
+fn answers_as_flat_memory(rt: HostRuntime) -> Result<(), Fail> {
+    let mut rest = TRACES;
+    for _ in 0..COUNT {
+        let Some((text, more)) = rest.split_once("--\n") else {
+            break;
+        };
+        let whole = whole_trace(rt.alloc(), text)?;
+        let answers = flat_answers(rt.alloc(), &whole)?;
+        let (status, out) = run_on(&rt, rt.alloc(), &["tdpmmu", "replay"], "", &whole, &[], &[])?;
+        assert_eq!(rt; status, Status::Done, "on {whole}");
+        assert!(rt; answers.is_some(), "on {whole}");
+        if let Some(answers) = answers {
+            assert_eq!(rt; out.bytes(), answers.as_bytes(), "on {whole}");
+        }
+        rest = more;
+    }
+    assert_eq!(rt; rest, "");
     Ok(())
 }
