@@ -240,6 +240,7 @@ start_good z lines w start = record {
   words = start.words.count;
   hands = ap length start.hands ∙ hands_count z lines (actors_of z);
   small = all_small z w.words start.sizes start.words;
+  none_opened = record { seq = word_at_start z w area.Seq 0 0 start.words (λ l. refl) (λ e. refl); count = word_at_start z w area.Count 0 0 start.words (λ l. refl) (λ e. refl) };
   holds = record {
     sizes = start.sizes;
     hosts = λ p lt. word_at_start z w area.Host p (host_word p true true 1) start.words (λ l. refl) (λ e. let t = below p z.pages lt in absurd (cc (e, t)));

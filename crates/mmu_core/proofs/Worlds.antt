@@ -8,7 +8,8 @@ use Rattle.std.proofs.lemmas.List.{get_or-set_other, get_or-set_same}
 use Rattle.core_views.specs.declared.kind.Operation.{Operation}
 use Rattle.core_views.specs.declared.kind.Operation.TheVariants as operation
 use Rattle.core_views.specs.Kinds.{after, operation_of_code, word_after}
-use Rattle.mmu_core.specs.Laws.{IsSound}
+use Rattle.mmu_core.specs.Laws.{IsSound, NoneOpened}
+use Rattle.mmu_core.proofs.Control.{none_opened_kept}
 use Rattle.mmu_core.proofs.Columns.{same_or}
 use Rattle.core_views.specs.declared.actor.Actor.{Actor}
 use Rattle.core_views.specs.declared.actor.Actor.TheVariants.{Vcpu, Host, Manager, Worker}
@@ -112,6 +113,7 @@ good_step z w s G may =
       words = length-set _ _ _ ∙ G.words;
       hands = length-set _ _ _ ∙ G.hands;
       small = words_small w.words s.kind.word (after s.kind (slice_index w.words s.kind.word)) may.inside (after_small s.kind (slice_index w.words s.kind.word) T.writes (G.small s.kind.word)) G.small;
+      none_opened = subst (λ (v : View). NoneOpened v.words) (sym T.leads) (none_opened_kept (place_at h.state.place h) (line_at h.state.place h).command h.state (word_in z w) G.none_opened);
       holds = subst (Invariant z) (sym T.leads) (step_kept z (view z w) s.actor (line_at h.state.place h) (line_at h.state.place h).command (place_at h.state.place h) T.is_step G.holds);
     }
 
