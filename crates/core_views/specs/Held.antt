@@ -1,7 +1,6 @@
 -- What one actor holds, as contracts see it.
 use Rattle.std.specs.Prelude.{ℕ, List, [], false}
 use Rattle.core_views.specs.declared.actor.Actor.{Actor}
-use Rattle.core_views.specs.declared.actor.Actor.TheVariants.{Manager}
 use Rattle.core_views.specs.declared.answer.AnsweredLine.{AnsweredLine}
 use Rattle.core_views.specs.declared.hand.SlotLook.{SlotLook}
 use Rattle.core_views.specs.declared.hand.State.{State}

@@ -1,6 +1,6 @@
 -- The steps of an access keep the invariant.
-use Rattle.std.proofs.Common.{◌≡◌, ◌≢◌, ◌⊎◌, inl, inr, ◌<◌, ◌≤◌, ◌+◌, ◌-◌, ℕ, List, length, take, refl, sym, subst, ap, ◌∙◌, arith, eqb}
-use Rattle.std.proofs.lemmas.Bool.Decides.{nat_tests, eqb_tells, Decides-eqb}
+use Rattle.std.proofs.Common.{◌≡◌, ◌≢◌, ◌⊎◌, inl, inr, ◌<◌, ◌≤◌, ◌+◌, ◌-◌, ℕ, refl, sym, subst, ap, ◌∙◌, arith}
+use Rattle.std.proofs.lemmas.Bool.Decides.{nat_tests, Decides-eqb}
 use Rattle.std.specs.Prelude.{Bool, true, false, ◌&&◌, ◌==◌, nat_le, nat_lt, if◌then◌else◌}
 use Rattle.core_views.specs.declared.answer.Answer.TheVariants.{Mmio}
 use Rattle.core_views.specs.declared.hand.State.{State}
@@ -11,7 +11,7 @@ use Rattle.core_views.specs.declared.place.Place.TheVariants as place
 use Rattle.core_views.specs.declared.place.SlotField.TheVariants as field
 use Rattle.core_views.specs.declared.sizes.Sizes.{Sizes}
 use Rattle.core_views.specs.declared.trace.Command.{Command}
-use Rattle.core_views.specs.declared.trace.Command.TheVariants.{Access, SetSlot}
+use Rattle.core_views.specs.declared.trace.Command.TheVariants.{Access}
 use Rattle.core_views.specs.declared.trace.Line.{Line}
 use Rattle.core_views.specs.declared.trace.Op.{Op}
 use Rattle.core_views.specs.declared.trace.Op.TheVariants.{Read, Write, Add}
@@ -24,13 +24,13 @@ use Rattle.spte_words.specs.Entries.{absent_word}
 use Rattle.spte_words.specs.Flags.{flags_live, flags_read_only}
 use Rattle.mmu_core.specs.declared.outcome.Outcome.{Outcome}
 use Rattle.mmu_core.specs.declared.outcome.Outcome.TheVariants.{Goes, Ends}
-use Rattle.mmu_core.specs.AccessSteps.{access_loads, access_outcome, access_task, behind_slot, touch_of}
-use Rattle.mmu_core.specs.Invariant.{AccessHolds, Found, Holds, HostWordsPart, Invariant, InvariantOf, IsLeaf, IsLive, LeavesPart, OwnLines, SlotSetPart, UnsetPart}
+use Rattle.mmu_core.specs.AccessSteps.{access_loads, access_outcome, behind_slot}
+use Rattle.mmu_core.specs.Invariant.{AccessHolds, Found, Holds, Invariant, InvariantOf, IsLeaf, LeavesPart, OwnLines, SlotSetPart, UnsetPart}
 use Rattle.mmu_core.specs.SetSlotSteps.{published_set}
 use Rattle.mmu_core.specs.SlotWords.{leaf_of, live_at, page_of, slot_at, slot_index}
-use Rattle.mmu_core.specs.Tasks.{answers_after, place_after}
-use Rattle.mmu_core.specs.View.{View, answer_in, hand_after, stepped, upd}
-use Rattle.mmu_core.proofs.Columns.{at_upd, same_or, upd_same, upd_other}
+use Rattle.mmu_core.specs.Tasks.{place_after}
+use Rattle.mmu_core.specs.View.{View, hand_after, stepped, upd}
+use Rattle.mmu_core.proofs.Columns.{at_upd}
 use Rattle.mmu_core.proofs.LinesKept.{behind, counted_kept, lines_behind}
 use Rattle.mmu_core.proofs.Stepping.{IsStep}
 

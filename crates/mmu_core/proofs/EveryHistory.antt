@@ -1,31 +1,27 @@
 -- What every list of steps tells is lawful.
-use Rattle.std.proofs.Common.{◌≡◌, ◌<◌, ℕ, List, [], ◌∷◌, ◌++◌, length, refl, sym, subst, ap, ◌∙◌, arith}
-use Rattle.std.specs.Prelude.{map}
-use Rattle.core_views.specs.declared.actor.Actor.{Actor}
+use Rattle.std.proofs.Common.{◌≡◌, List, [], ◌∷◌, ◌++◌, refl, sym, subst, ap, ◌∙◌}
 use Rattle.core_views.specs.declared.event.Event.{Event}
 use Rattle.core_views.specs.declared.kind.Kind.{Kind}
 use Rattle.core_views.specs.declared.sizes.Sizes.{Sizes}
 use Rattle.core_views.specs.declared.trace.Line.{Line}
 use Rattle.core_views.specs.Events.{after_all}
-use Rattle.core_views.specs.Flat.{Flat, Idle, first_flat}
-use Rattle.core_views.specs.Held.{Held, first_held}
+use Rattle.core_views.specs.Flat.{Flat, first_flat}
+use Rattle.core_views.specs.Held.{Held}
 use Rattle.core_views.specs.Lawful.{IsLawful}
-use Rattle.core_views.specs.Sizes.{actor_at, actors_of}
-use Rattle.core_views.specs.Whole.{lines_of}
 use Rattle.core_views.proofs.AloneIsLawful.{lawful_append}
 use Rattle.spte_words.specs.declared.area.Area.TheVariants as area
 use Rattle.mmu_core.specs.Enabled.{mmu}
 use Rattle.mmu_core.specs.FlatInvariant.{FlatInvariant, UnderIs}
 use Rattle.mmu_core.specs.Laws.{IsSound}
-use Rattle.mmu_core.specs.Machine.{Legal, May, Step, World, answered, effect, hand_in}
-use Rattle.mmu_core.specs.Steps.{event_kinds, events_of, line_at, place_at, task_of}
+use Rattle.mmu_core.specs.Machine.{Legal, Step, World, answered, effect, hand_in}
+use Rattle.mmu_core.specs.Steps.{events_of, line_at, place_at}
 use Rattle.mmu_core.specs.SetSlotSteps.{published_set}
-use Rattle.mmu_core.specs.View.{View, answer_in, stepped, view, word_in}
+use Rattle.mmu_core.specs.View.{View, view, word_in}
 use Rattle.mmu_core.specs.Worlds.{IsStart, history}
 use Rattle.mmu_core.proofs.FlatKept.{flat_kept, told_events, told_is_events}
 use Rattle.mmu_core.proofs.SlotLists.{none_below}
 use Rattle.mmu_core.proofs.Starts.{hand_is, none_live, start_good, word_at_start}
-use Rattle.mmu_core.proofs.Worlds.{Takes, good_step, takes}
+use Rattle.mmu_core.proofs.Worlds.{good_step, takes}
 
 -- Any list of steps from a sound world that stands for a flat state tells what is lawful from there.
 pub run_lawful : (z : Sizes) (w : World Held) (f : Flat) (ss : List (Step Kind)) → IsSound z w → FlatInvariant z (view z w) f → Legal mmu w ss → IsLawful z f (history w ss)

@@ -30,3 +30,4 @@ pub mod LineRuns
 pub mod ToldOf
 pub mod Followed
 pub mod EveryAnswer
+pub mod Control

@@ -1,7 +1,7 @@
 -- What a line rests on, from the invariant; and that the word of its next step is one of the words.
-use Rattle.std.proofs.Common.{◌≡◌, ◌<◌, ◌≤◌, ◌+◌, ◌-◌, ◌*◌, ◌^◌, ℕ, length, refl, sym, subst, ap, ◌∙◌, arith}
+use Rattle.std.proofs.Common.{◌≡◌, ◌<◌, ◌≤◌, ◌+◌, ◌*◌, ℕ, length, sym, subst, ap, arith}
 use Rattle.std.proofs.Props.{props}
-use Rattle.std.specs.Prelude.{Bool, true, false, ◌&&◌, not}
+use Rattle.std.specs.Prelude.{true}
 use Rattle.core_views.specs.declared.actor.Actor.{Actor}
 use Rattle.core_views.specs.declared.actor.Actor.TheVariants.{Vcpu, Host, Manager, Worker}
 use Rattle.core_views.specs.declared.hand.State.{State}
@@ -25,23 +25,22 @@ use Rattle.core_views.specs.Sizes.{AreSizes, actors_of}
 use Rattle.core_views.specs.Traces.{IsCommandFor}
 use Rattle.spte_words.specs.declared.area.Area.TheVariants as area
 use Rattle.spte_words.specs.Areas.{content_index, size_of}
-use Rattle.spte_words.specs.Entries.{frame_in, leaf_word}
-use Rattle.spte_words.specs.HostWords.{host_allows_write, host_frame, host_word}
+use Rattle.spte_words.specs.Entries.{frame_in}
+use Rattle.spte_words.specs.HostWords.{host_allows_write, host_frame}
 use Rattle.spte_words.proofs.Indices.{content_within, pool_within}
 use Rattle.spte_words.proofs.ReadsEntries.{leaf_frame}
 use Rattle.spte_words.proofs.ReadsHost.{host_has_frame}
-use Rattle.mmu_core.specs.declared.outcome.Task.{Task}
 use Rattle.mmu_core.specs.AccessSteps.{access_task, touch_of}
 use Rattle.mmu_core.specs.Invariant.{AccessHolds, Found, Holds, HostWordsPart, Invariant, SlotSetPart}
 use Rattle.mmu_core.specs.Rests.{AccessRests, InSlot, Rests, RestsAt, SetSlotRests}
 use Rattle.mmu_core.specs.SetSlotSteps.{published_set, set_slot_task}
-use Rattle.mmu_core.specs.SlotWords.{field_number, leaf_of, may_write, page_of, slot_index}
+use Rattle.mmu_core.specs.SlotWords.{field_number, may_write, page_of, slot_index}
 use Rattle.mmu_core.specs.Steps.{line_at, place_at, task_at, task_of}
 use Rattle.mmu_core.specs.Tasks.{map_of}
 use Rattle.mmu_core.specs.View.{View}
 use Rattle.mmu_core.proofs.AccessKept.{in_slot}
 use Rattle.mmu_core.proofs.SetSlotKept.{is_number, not_refused}
-use Rattle.mmu_core.proofs.Stepping.{IsStep, is_step}
+use Rattle.mmu_core.proofs.Stepping.{is_step}
 
 -- the host word of a page that the machine has
 host_at : (z : Sizes) (host : ℕ → ℕ) (p : ℕ) → AreSizes z → HostWordsPart z host → p < z.pages → host_frame (host p) < z.frames

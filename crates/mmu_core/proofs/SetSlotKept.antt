@@ -1,12 +1,9 @@
 -- The steps of a slot setting keep the invariant.
-use Rattle.std.proofs.Common.{◌≡◌, ◌≢◌, ◌⊎◌, inl, inr, ◌<◌, ◌≤◌, ◌+◌, ◌-◌, ◌*◌, ◌^◌, ℕ, zero, suc, List, [], ◌∷◌, ◌++◌, length, length-append, take, refl, sym, subst, ap, ◌∙◌, arith}
+use Rattle.std.proofs.Common.{◌≡◌, ◌≢◌, ◌⊎◌, inl, inr, ◌<◌, ◌≤◌, ◌+◌, ◌*◌, ◌^◌, ℕ, zero, suc, List, [], ◌∷◌, length, take, refl, sym, subst, ap, ◌∙◌, arith}
 use Rattle.std.proofs.lemmas.Bool.Decides.{nat_tests}
-use Rattle.std.specs.Prelude.{All, Bool, true, false, ◌&&◌, ◌||◌, ◌==◌, nat_le, nat_lt, if◌then◌else◌, Option, Some, None, slice_get, unwrap_or}
-use Rattle.core_views.specs.declared.actor.Actor.{Actor}
-use Rattle.core_views.specs.declared.actor.Actor.TheVariants.{Vcpu, Host, Manager, Worker}
-use Rattle.core_views.specs.declared.answer.AnsweredLine.{AnsweredLine}
+use Rattle.std.specs.Prelude.{Bool, true, false, ◌||◌, nat_lt, if◌then◌else◌, Some, None, slice_get, unwrap_or}
+use Rattle.core_views.specs.declared.actor.Actor.TheVariants.{Manager}
 use Rattle.core_views.specs.declared.answer.Answer.TheVariants.{Done}
-use Rattle.core_views.specs.declared.answer.Refusal.{Refusal}
 use Rattle.core_views.specs.declared.answer.Refusal.TheVariants.{BadId, TooLarge}
 use Rattle.core_views.specs.declared.hand.State.{State}
 use Rattle.core_views.specs.declared.place.AccessPlace.{AccessPlace}
@@ -29,19 +26,17 @@ use Rattle.core_views.specs.Sizes.{actors_of, index_of}
 use Rattle.core_views.specs.Slots.{slot_refusal}
 use Rattle.core_views.specs.Traces.{IsCommandFor, sets_slot, settings}
 use Rattle.spte_words.specs.declared.area.Area.TheVariants as area
-use Rattle.spte_words.specs.Areas.{pool_index}
 use Rattle.spte_words.specs.Entries.{absent_word}
 use Rattle.spte_words.specs.Flags.{flags_live, flags_read_only, flags_word}
 use Rattle.spte_words.proofs.Indices.{same_pool_word}
-use Rattle.spte_words.proofs.ReadsFlags.{flags_are_live, flags_are_read_only}
+use Rattle.spte_words.proofs.ReadsFlags.{flags_are_read_only}
 use Rattle.mmu_core.specs.declared.outcome.Outcome.{Outcome}
-use Rattle.mmu_core.specs.declared.outcome.Outcome.TheVariants.{Goes, Ends}
-use Rattle.mmu_core.specs.Invariant.{AccessHolds, Found, Holds, Invariant, InvariantOf, IsLeaf, IsLive, LeavesPart, OwnLines, SetSlotHolds, SlotSetPart, UnderWay, UnsetPart}
+use Rattle.mmu_core.specs.Invariant.{AccessHolds, Holds, Invariant, InvariantOf, IsLeaf, OwnLines, SlotSetPart, UnderWay, UnsetPart}
 use Rattle.mmu_core.specs.SetSlotSteps.{published_set, set_slot_loads, set_slot_outcome}
-use Rattle.mmu_core.specs.SlotWords.{field_number, field_word, live_at, slot_at, slot_index}
+use Rattle.mmu_core.specs.SlotWords.{field_number, live_at, slot_at, slot_index}
 use Rattle.mmu_core.specs.Steps.{next_line}
 use Rattle.mmu_core.specs.Tasks.{answers_after, place_after}
-use Rattle.mmu_core.specs.View.{View, hand_after, stepped, upd}
+use Rattle.mmu_core.specs.View.{View, stepped, upd}
 use Rattle.mmu_core.proofs.AccessKept.{quiet, same_slot}
 use Rattle.mmu_core.proofs.Columns.{at_upd, same_or, upd_other, upd_same}
 use Rattle.mmu_core.proofs.LinesKept.{answers_length, behind, counted_kept, lines_behind}
@@ -110,7 +105,7 @@ stored z v a other h there none I manager set own holds unset = record {
   lines = at_upd (λ i x. i < actors_of z → OwnLines z i x) v.hand a h (λ lt. own) (λ i ne. I.lines i);
   loads = at_upd (λ i x. i < actors_of z → Holds z other (v.words area.Host) x.state.place x.state.line.command x.state) v.hand a h (λ lt. holds)
       (λ i ne lt. holds_other z (v.words area.Pool) other (v.words area.Host) (v.hand i).state.place (v.hand i).state.line.command (v.hand i).state none
-          (λ q id slot is command. ne (one_manager z i a (v.hand i) (v.hand a) (I.lines i lt) (I.lines a there) (setting_hand z i (v.hand i) q id slot (I.lines i lt) is command) manager)) (I.loads i lt));
+      (λ q id slot is command. ne (one_manager z i a (v.hand i) (v.hand a) (I.lines i lt) (I.lines a there) (setting_hand z i (v.hand i) q id slot (I.lines i lt) is command) manager)) (I.loads i lt));
   unset = at_upd (λ i x. i < actors_of z → UnsetPart other x.state) v.hand a h (λ lt. unset)
       (λ i ne lt is. absurd (ne (one_manager z i a (v.hand i) (v.hand a) (I.lines i lt) (I.lines a there) is manager)));
 }
@@ -224,19 +219,23 @@ set_slot_kept z v a line (Fill field.Base) id slot S I =
     filled z v a line id slot field.Base slot.base (set_slot_outcome (Fill field.Base)) S I may.0 (omega arith) (S.holds, upd_same (v.words area.Pool) (slot_index published_set id field.Base) slot.base)
 set_slot_kept z v a line (Fill field.Pages) id slot S I =
     let may = not_refused z.pages id slot S.holds.0 in
-    filled z v a line id slot field.Pages slot.pages (set_slot_outcome (Fill field.Pages)) S I may.0 (omega arith)
-    (S.holds.0, upd_other (v.words area.Pool) (slot_index published_set id field.Pages) (slot_index published_set id field.Base) slot.pages (λ e. let t = same_field id id field.Base field.Pages may.0 may.0 e in omega (arith, t.1)) ∙ S.holds.1,
-      upd_same (v.words area.Pool) (slot_index published_set id field.Pages) slot.pages)
+    filled z v a line id slot field.Pages slot.pages (set_slot_outcome (Fill field.Pages)) S I may.0 (omega arith) (
+      S.holds.0,
+      upd_other (v.words area.Pool) (slot_index published_set id field.Pages) (slot_index published_set id field.Base) slot.pages (λ e. let t = same_field id id field.Base field.Pages may.0 may.0 e in omega (arith, t.1)) ∙ S.holds.1,
+      upd_same (v.words area.Pool) (slot_index published_set id field.Pages) slot.pages,
+    )
 set_slot_kept z v a line (Fill field.Host) id slot S I =
     let may = not_refused z.pages id slot S.holds.0 in
-    filled z v a line id slot field.Host slot.host (set_slot_outcome (Fill field.Host)) S I may.0 (omega arith)
-    (S.holds.0, upd_other (v.words area.Pool) (slot_index published_set id field.Host) (slot_index published_set id field.Base) slot.host (λ e. let t = same_field id id field.Base field.Host may.0 may.0 e in omega (arith, t.1)) ∙ S.holds.1,
+    filled z v a line id slot field.Host slot.host (set_slot_outcome (Fill field.Host)) S I may.0 (omega arith) (
+      S.holds.0,
+      upd_other (v.words area.Pool) (slot_index published_set id field.Host) (slot_index published_set id field.Base) slot.host (λ e. let t = same_field id id field.Base field.Host may.0 may.0 e in omega (arith, t.1)) ∙ S.holds.1,
       upd_other (v.words area.Pool) (slot_index published_set id field.Host) (slot_index published_set id field.Pages) slot.host (λ e. let t = same_field id id field.Pages field.Host may.0 may.0 e in omega (arith, t.1)) ∙ S.holds.2,
-      upd_same (v.words area.Pool) (slot_index published_set id field.Host) slot.host)
+      upd_same (v.words area.Pool) (slot_index published_set id field.Host) slot.host,
+    )
 set_slot_kept z v a line (Fill field.Flags) id slot S I =
     let h : Held = v.hand a in
     let o : Outcome = set_slot_outcome (Fill field.Flags) in
     flags_stored z v a line id slot (set_slot_loads (Fill field.Flags) h.state) o S I refl refl refl
     (subst (λ n. 1 ≤ settings (take n h.lines)) (sym (answers_length h.answers (record { number = line.number; actor = line.actor; answer = Done })))
-        (counted_here (length h.answers) h.lines S.left (ap (λ (l : Line). sets_slot l.command) (sym S.next) ∙ ap sets_slot S.command_is)))
+    (counted_here (length h.answers) h.lines S.left (ap (λ (l : Line). sets_slot l.command) (sym S.next) ∙ ap sets_slot S.command_is)))
     tt refl

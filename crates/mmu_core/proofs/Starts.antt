@@ -1,12 +1,11 @@
 -- The invariant holds of every start, and so of every world that is reached.
-use Rattle.std.proofs.Common.{◌≡◌, ◌≢◌, ◌⊎◌, inl, inr, ◌<◌, ◌≤◌, ◌+◌, ◌-◌, ◌*◌, ◌^◌, ℕ, zero, suc, List, [], ◌∷◌, ◌++◌, length, length-append, get_or, refl, sym, subst, ap, ◌∙◌, arith}
+use Rattle.std.proofs.Common.{◌≡◌, ◌≢◌, inl, ◌<◌, ◌≤◌, ◌+◌, ◌-◌, ◌*◌, ◌^◌, ℕ, zero, suc, List, [], ◌∷◌, ◌++◌, length, length-append, get_or, refl, sym, subst, ap, ◌∙◌, arith}
 use Rattle.std.proofs.Math.Logic.{∥∥₁_elim}
-use Rattle.std.proofs.Props.{props}
 use Rattle.std.proofs.Math.Pow.{pow_mono}
 use Rattle.std.proofs.lemmas.Bool.Decides.{nat_tests, Decides-eqb}
 use Rattle.std.proofs.lemmas.List.{get_or_append_left}
 use Rattle.std.proofs.lemmas.Nat.{pow_pos}
-use Rattle.std.specs.Prelude.{All, Bool, true, false, ◌==◌, nat_le, nat_lt, filter, if◌then◌else◌, slice_index}
+use Rattle.std.specs.Prelude.{All, Bool, true, false, ◌==◌, nat_le, nat_lt, if◌then◌else◌, slice_index}
 use Rattle.core_views.specs.declared.actor.Actor.{Actor}
 use Rattle.core_views.specs.declared.actor.Actor.TheVariants.{Vcpu, Host, Manager, Worker}
 use Rattle.core_views.specs.declared.sizes.Sizes.{Sizes}
@@ -14,11 +13,11 @@ use Rattle.core_views.specs.declared.trace.Line.{Line}
 use Rattle.core_views.specs.Actors.{is_same}
 use Rattle.core_views.specs.Held.{Held, first_held}
 use Rattle.core_views.specs.Sizes.{AreSizes, actor_at, actors_of, index_of}
-use Rattle.core_views.specs.Traces.{IsCommandFor, settings, sets_slot}
+use Rattle.core_views.specs.Traces.{IsCommandFor, settings}
 use Rattle.core_views.specs.Whole.{lines_of}
 use Rattle.spte_words.specs.declared.area.Area.{Area}
 use Rattle.spte_words.specs.declared.area.Area.TheVariants as area
-use Rattle.spte_words.specs.Areas.{place, size_of, total}
+use Rattle.spte_words.specs.Areas.{place, size_of}
 use Rattle.spte_words.specs.Entries.{absent_word}
 use Rattle.spte_words.specs.Flags.{flags_live}
 use Rattle.spte_words.specs.HostWords.{host_word}
@@ -26,14 +25,14 @@ use Rattle.spte_words.specs.Areas.{StandsSomewhere}
 use Rattle.spte_words.proofs.Places.{word_stands}
 use Rattle.spte_words.proofs.ReadsHost.{host_fits}
 use Rattle.mmu_core.specs.Enabled.{mmu}
-use Rattle.mmu_core.specs.Invariant.{Holds, Invariant, InvariantOf, OwnLines, UnsetPart}
-use Rattle.mmu_core.specs.Machine.{Leads, World, hand_in}
+use Rattle.mmu_core.specs.Invariant.{Holds, OwnLines}
+use Rattle.mmu_core.specs.Machine.{World, hand_in}
 use Rattle.mmu_core.specs.Rests.{Rests}
 use Rattle.mmu_core.specs.SetSlotSteps.{published_set}
-use Rattle.mmu_core.specs.SlotWords.{live_at, slot_index}
+use Rattle.mmu_core.specs.SlotWords.{live_at}
 use Rattle.mmu_core.specs.Steps.{nobody}
 use Rattle.mmu_core.specs.Tasks.{map_of}
-use Rattle.mmu_core.specs.View.{View, view, word_in}
+use Rattle.mmu_core.specs.View.{view, word_in}
 use Rattle.mmu_core.specs.Worlds.{AreStartWords, HandReached, IsStart, Reachable, free_bits, least, start_hands, start_word}
 use Rattle.mmu_core.proofs.RestsKept.{hand_rests, rests_prop}
 use Rattle.mmu_core.specs.Laws.{IsSound}
@@ -85,7 +84,7 @@ hand_at z lines (suc n) i lt = by (λ l. hand_at z lines n i l) (i == n) (λ e. 
     by before true same less =
         subst (λ k. get_or (start_hands z lines (suc n)) k nobody ≡ first_held z (actor_at z k) (lines_of (actor_at z k) lines)) (sym (same refl))
         (subst (λ k. get_or (start_hands z lines n ++ first_held z (actor_at z n) (lines_of (actor_at z n) lines) ∷ []) k nobody ≡ first_held z (actor_at z n) (lines_of (actor_at z n) lines)) count
-            (get_last (start_hands z lines n) (first_held z (actor_at z n) (lines_of (actor_at z n) lines)) nobody))
+        (get_last (start_hands z lines n) (first_held z (actor_at z n) (lines_of (actor_at z n) lines)) nobody))
     by before false same less = get_or_append_left (start_hands z lines n) _ nobody i (subst (λ m. i < m) (sym count) (less refl)) ∙ before (less refl)
 
 -- The place of the actor at a place is that place.
@@ -240,6 +239,7 @@ start_good z lines w start = record {
   words = start.words.count;
   hands = ap length start.hands ∙ hands_count z lines (actors_of z);
   small = all_small z w.words start.sizes start.words;
+  none_opened = record { seq = word_at_start z w area.Seq 0 0 start.words (λ l. refl) (λ e. refl); count = word_at_start z w area.Count 0 0 start.words (λ l. refl) (λ e. refl) };
   holds = record {
     sizes = start.sizes;
     hosts = λ p lt. word_at_start z w area.Host p (host_word p true true 1) start.words (λ l. refl) (λ e. let t = below p z.pages lt in absurd (cc (e, t)));

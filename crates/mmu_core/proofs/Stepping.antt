@@ -1,6 +1,6 @@
 -- A step of an actor, with what the invariant says of its hand.
-use Rattle.std.proofs.Common.{◌≡◌, ◌<◌, ◌≤◌, ℕ, zero, suc, List, [], ◌∷◌, length, refl, sym, subst, ap, ◌∙◌, arith}
-use Rattle.std.specs.Prelude.{All, Bool, true, false, Option, Some, None, slice_get, unwrap_or}
+use Rattle.std.proofs.Common.{◌≡◌, ◌<◌, ℕ, zero, suc, List, [], ◌∷◌, length, refl, sym, subst, arith}
+use Rattle.std.specs.Prelude.{All, Option, Some, None, slice_get, unwrap_or}
 use Rattle.core_views.specs.declared.hand.State.{State}
 use Rattle.core_views.specs.declared.place.Place.{Place}
 use Rattle.core_views.specs.declared.place.Place.TheVariants as place
@@ -16,7 +16,7 @@ use Rattle.core_views.specs.Sizes.{actors_of}
 use Rattle.core_views.specs.Slots.{slot_refusal}
 use Rattle.core_views.specs.Traces.{IsCommandFor}
 use Rattle.spte_words.specs.declared.area.Area.TheVariants as area
-use Rattle.mmu_core.specs.Invariant.{Holds, Invariant, OwnLines, UnderWay}
+use Rattle.mmu_core.specs.Invariant.{Holds, Invariant, UnderWay}
 use Rattle.mmu_core.specs.Rests.{IsUnderWay}
 use Rattle.mmu_core.specs.SetSlotSteps.{set_slot_first}
 use Rattle.mmu_core.specs.Steps.{first_place, line_at, next_line, place_at, standing}

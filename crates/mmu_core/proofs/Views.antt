@@ -1,9 +1,8 @@
 -- The view of the words and hands behind a step is the step of the view.
-use Rattle.std.proofs.Common.{◌≡◌, ◌≢◌, ◌⊎◌, inl, inr, ◌<◌, ◌≤◌, ◌+◌, ℕ, List, length, get_or, set, refl, sym, subst, ap, ◌∙◌, arith, eqb}
-use Rattle.std.specs.Prelude.{Bool, true, false, ◌==◌, nat_lt, if◌then◌else◌, slice_index, slice_set}
-use Rattle.std.proofs.lemmas.Bool.Decides.{nat_tests, Decides-eqb, eqb_tells}
+use Rattle.std.proofs.Common.{◌≡◌, ◌≢◌, ◌⊎◌, inl, inr, ◌<◌, ℕ, List, length, get_or, set, refl, sym, subst, ap, ◌∙◌, arith, eqb}
+use Rattle.std.specs.Prelude.{Bool, true, false, nat_lt, if◌then◌else◌, slice_index, slice_set}
+use Rattle.std.proofs.lemmas.Bool.Decides.{nat_tests, eqb_tells}
 use Rattle.std.proofs.lemmas.List.{get_or-set_other, get_or-set_same, set-get_or}
-use Rattle.core_views.specs.declared.kind.Kind.{Kind}
 use Rattle.core_views.specs.declared.kind.Operation.{Operation}
 use Rattle.core_views.specs.declared.kind.Operation.TheVariants as operation
 use Rattle.core_views.specs.declared.kind.StepKind.{StepKind}
@@ -17,10 +16,10 @@ use Rattle.spte_words.specs.Areas.{number_of, place, size_of, total}
 use Rattle.spte_words.proofs.Places.{place_below, places_apart, same_number}
 use Rattle.mmu_core.specs.declared.outcome.Task.{Task}
 use Rattle.mmu_core.specs.Enabled.{mmu}
-use Rattle.mmu_core.specs.Machine.{Step, World, answered, effect, found, hand_in}
+use Rattle.mmu_core.specs.Machine.{World, answered, effect, hand_in}
 use Rattle.mmu_core.specs.Steps.{nobody}
 use Rattle.mmu_core.specs.Tasks.{kind_of_task, map_of}
-use Rattle.mmu_core.specs.View.{View, answer_in, put, stores, upd, view, word_in, words_after}
+use Rattle.mmu_core.specs.View.{answer_in, put, stores, upd, view, word_in, words_after}
 use Rattle.mmu_core.proofs.Columns.{same_or, upd_other, upd_same}
 
 -- the word of an area in a list of words; 0 behind the area's end
@@ -93,7 +92,7 @@ answer_is z t n = ap (λ (o : Operation). word_answered o t.written n) (operatio
 -- the words behind an operation on the word of a place
 words_behind : (m : WordMap) (words : List ℕ) (o : Operation) (area other : Area) (i j expected written : ℕ) → i < size_of m area → length words ≡ total m
     → read m (slice_set words (place m area i) (word_after o expected written (slice_index words (place m area i)))) other j
-        ≡ (if stores o then put (read m words) area i (word_after o expected written (read m words area i)) else read m words) other j
+    ≡ (if stores o then put (read m words) area i (word_after o expected written (read m words area i)) else read m words) other j
 words_behind m words operation.Load area other i j expected written lt count = ap (λ (ws : List ℕ). read m ws other j) (set-get_or words (place m area i) 0)
 words_behind m words operation.Store area other i j expected written lt count = read_set m words area other i j written lt count
 words_behind m words operation.Swap area other i j expected written lt count = read_set m words area other i j written lt count
@@ -116,7 +115,7 @@ answered_is z w t lt = answer_is z t _ ∙ ap (word_answered (operation_of t.kin
 -- The view behind a step of the task: one word and one hand.
 pub view_behind : (z : Sizes) (w : World Held) (a : ℕ) (t : Task) → t.index < size_of (map_of z) t.area → length w.words ≡ total (map_of z) → a < length w.hands
     → view z (effect mmu w (record { actor = a; kind = kind_of_task z t }))
-        ≡ record { words = words_after t (word_in z w); hand = upd (hand_in mmu w) a (mmu.next (hand_in mmu w a) (kind_of_task z t) (answer_in t (word_in z w))) }
+    ≡ record { words = words_after t (word_in z w); hand = upd (hand_in mmu w) a (mmu.next (hand_in mmu w a) (kind_of_task z t) (answer_in t (word_in z w))) }
 unfolding effect
 view_behind z w a t lt count there = λ s. record { words = λ other j. word other j s; hand = λ i. hand i s }
   where

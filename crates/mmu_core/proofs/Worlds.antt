@@ -1,43 +1,27 @@
 -- The invariant holds of every world that is reached from a start.
-use Rattle.std.proofs.Common.{◌≡◌, ◌≢◌, ◌⊎◌, inl, inr, ◌<◌, ◌≤◌, ◌+◌, ◌-◌, ◌*◌, ◌^◌, ℕ, zero, suc, List, [], ◌∷◌, ◌++◌, length, length-append, get_or, refl, sym, subst, ap, ◌∙◌, arith}
-use Rattle.std.proofs.Math.Logic.{∥∥₁_elim}
+use Rattle.std.proofs.Common.{◌≡◌, ◌≢◌, ◌⊎◌, inl, inr, ◌<◌, ◌^◌, ℕ, List, [], ◌∷◌, length, refl, sym, subst, ap, ◌∙◌, arith}
 use Rattle.std.proofs.Math.ListN.{length-set}
-use Rattle.std.proofs.lemmas.Bool.Decides.{nat_tests}
-use Rattle.std.specs.Prelude.{All, Bool, true, false, ◌==◌, nat_lt, filter, if◌then◌else◌, slice_index, slice_set}
+use Rattle.std.specs.Prelude.{Bool, true, false, ◌==◌, if◌then◌else◌, slice_index, slice_set}
 use Rattle.std.proofs.lemmas.List.{get_or-set_other, get_or-set_same}
 use Rattle.core_views.specs.declared.kind.Operation.{Operation}
 use Rattle.core_views.specs.declared.kind.Operation.TheVariants as operation
 use Rattle.core_views.specs.Kinds.{after, operation_of_code, word_after}
-use Rattle.mmu_core.specs.Laws.{IsSound}
+use Rattle.mmu_core.specs.Laws.{IsSound, NoneOpened}
+use Rattle.mmu_core.proofs.Control.{none_opened_kept}
 use Rattle.mmu_core.proofs.Columns.{same_or}
-use Rattle.core_views.specs.declared.actor.Actor.{Actor}
-use Rattle.core_views.specs.declared.actor.Actor.TheVariants.{Vcpu, Host, Manager, Worker}
 use Rattle.core_views.specs.declared.kind.Kind.{Kind}
 use Rattle.core_views.specs.declared.sizes.Sizes.{Sizes}
-use Rattle.core_views.specs.declared.trace.Line.{Line}
-use Rattle.core_views.specs.Actors.{is_same}
-use Rattle.core_views.specs.Held.{Held, first_held}
-use Rattle.core_views.specs.Sizes.{AreFewActors, AreSizes, actor_at, actors_of, index_of}
-use Rattle.core_views.specs.Traces.{IsCommandFor, settings, sets_slot}
-use Rattle.core_views.specs.Whole.{lines_of}
-use Rattle.spte_words.specs.declared.area.Area.{Area}
-use Rattle.spte_words.specs.declared.area.Area.TheVariants as area
-use Rattle.spte_words.specs.Areas.{place, size_of, total}
-use Rattle.spte_words.specs.Entries.{absent_word}
-use Rattle.spte_words.specs.Flags.{flags_live}
-use Rattle.spte_words.specs.HostWords.{host_word}
+use Rattle.core_views.specs.Held.{Held}
+use Rattle.core_views.specs.Sizes.{actors_of}
+use Rattle.spte_words.specs.Areas.{size_of}
 use Rattle.mmu_core.specs.Enabled.{Enabled, IsNext, mmu}
-use Rattle.mmu_core.specs.Invariant.{Invariant, InvariantOf, Holds, OwnLines}
-use Rattle.mmu_core.specs.Machine.{Leads, Legal, May, Step, World, answered, effect, hand_in, run}
-use Rattle.mmu_core.specs.Rests.{Rests}
-use Rattle.mmu_core.specs.SetSlotSteps.{published_set}
-use Rattle.mmu_core.specs.SlotWords.{live_at}
-use Rattle.mmu_core.specs.Steps.{line_at, next, nobody, place_at, task_of}
+use Rattle.mmu_core.specs.Invariant.{Invariant}
+use Rattle.mmu_core.specs.Machine.{Legal, May, Step, World, answered, effect, hand_in, run}
+use Rattle.mmu_core.specs.Steps.{line_at, next, place_at, task_of}
 use Rattle.mmu_core.specs.Tasks.{kind_of_task, map_of}
 use Rattle.mmu_core.specs.View.{View, answer_in, stepped, upd, view, word_in, words_after}
-use Rattle.mmu_core.specs.Worlds.{AreStartWords, HandReached, IsStart, Reachable, start_hands, start_word}
 use Rattle.mmu_core.proofs.Kept.{step_kept}
-use Rattle.mmu_core.proofs.RestsKept.{hand_rests, rests_prop, task_within}
+use Rattle.mmu_core.proofs.RestsKept.{task_within}
 use Rattle.mmu_core.proofs.Stepping.{IsStep, is_step as step_of_hand}
 use Rattle.mmu_core.proofs.Views.{answered_is, view_behind}
 
@@ -76,7 +60,7 @@ enabled_is h k e = e
 -- the view behind a step, as the step of a line at its place
 stepped_is : (z : Sizes) (w : World Held) (a : ℕ) (h : Held) → hand_in mmu w a ≡ h
     → ◌≡◌ {A = View} (record { words = words_after (task_of (hand_in mmu w a)) (word_in z w); hand = upd (hand_in mmu w) a (next (hand_in mmu w a) (kind_of_task z (task_of (hand_in mmu w a))) (answer_in (task_of (hand_in mmu w a)) (word_in z w))) })
-        (stepped a (line_at (hand_in mmu w a).state.place (hand_in mmu w a)) (line_at (hand_in mmu w a).state.place (hand_in mmu w a)).command (place_at (hand_in mmu w a).state.place (hand_in mmu w a)) (view z w))
+    (stepped a (line_at (hand_in mmu w a).state.place (hand_in mmu w a)) (line_at (hand_in mmu w a).state.place (hand_in mmu w a)).command (place_at (hand_in mmu w a).state.place (hand_in mmu w a)) (view z w))
 unfolding next
 stepped_is z w a h is = refl
 
@@ -112,6 +96,7 @@ good_step z w s G may =
       words = length-set _ _ _ ∙ G.words;
       hands = length-set _ _ _ ∙ G.hands;
       small = words_small w.words s.kind.word (after s.kind (slice_index w.words s.kind.word)) may.inside (after_small s.kind (slice_index w.words s.kind.word) T.writes (G.small s.kind.word)) G.small;
+      none_opened = subst (λ (v : View). NoneOpened v.words) (sym T.leads) (none_opened_kept (place_at h.state.place h) (line_at h.state.place h).command h.state (word_in z w) G.none_opened);
       holds = subst (Invariant z) (sym T.leads) (step_kept z (view z w) s.actor (line_at h.state.place h) (line_at h.state.place h).command (place_at h.state.place h) T.is_step G.holds);
     }
 

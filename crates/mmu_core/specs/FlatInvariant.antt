@@ -1,12 +1,12 @@
 -- The words and hands as flat guest memory: the facts that the words stand for, and the lines that the hands have under way.
-use Rattle.std.specs.Prelude.{◌≡◌, ◌<◌, ◌≤◌, ℕ, All, Some, true, false}
+use Rattle.std.specs.Prelude.{◌≡◌, ◌<◌, ℕ, All, Some, false}
 use Rattle.core_views.specs.declared.hand.State.{State}
 use Rattle.core_views.specs.declared.place.AccessPlace.TheVariants as access
 use Rattle.core_views.specs.declared.place.Place.{Place}
 use Rattle.core_views.specs.declared.place.Place.TheVariants as place
 use Rattle.core_views.specs.declared.sizes.Sizes.{Sizes}
 use Rattle.core_views.specs.declared.trace.Command.{Command}
-use Rattle.core_views.specs.declared.trace.Command.TheVariants.{Access, SetSlot}
+use Rattle.core_views.specs.declared.trace.Command.TheVariants.{Access}
 use Rattle.core_views.specs.Flat.{Facts, Flat, LineUnderWay, Notes, Fresh, Idle}
 use Rattle.core_views.specs.Host.{HostMap, own_frames}
 use Rattle.core_views.specs.Sizes.{actors_of}

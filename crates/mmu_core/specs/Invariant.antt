@@ -1,5 +1,5 @@
 -- What holds of the words and hands at every moment, a part for each topic. Each part names the words and hand fields that it speaks of.
-use Rattle.std.specs.Prelude.{◌≡◌, ◌≢◌, ◌+◌, ◌-◌, ◌<◌, ◌≤◌, ◌⊎◌, ◌&&◌, ℕ, All, length, take, true, false, Some, None}
+use Rattle.std.specs.Prelude.{◌≡◌, ◌+◌, ◌<◌, ◌≤◌, ◌⊎◌, ◌&&◌, ℕ, All, length, take, true, false, Some, None}
 use Rattle.core_views.specs.declared.actor.Actor.TheVariants.{Manager}
 use Rattle.core_views.specs.declared.hand.State.{State}
 use Rattle.core_views.specs.declared.place.AccessPlace.{AccessPlace}
@@ -20,7 +20,6 @@ use Rattle.core_views.specs.Slots.{contains, is_write, slot_refusal}
 use Rattle.core_views.specs.Traces.{IsCommandFor, settings}
 use Rattle.spte_words.specs.declared.area.Area.TheVariants as area
 use Rattle.spte_words.specs.Entries.{absent_word}
-use Rattle.spte_words.specs.Flags.{flags_read_only}
 use Rattle.spte_words.specs.HostWords.{host_word}
 use Rattle.mmu_core.specs.SetSlotSteps.{published_set}
 use Rattle.mmu_core.specs.SlotWords.{leaf_of, live_at, page_of, slot_at, slot_index}

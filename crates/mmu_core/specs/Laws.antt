@@ -7,19 +7,28 @@ use Rattle.core_views.specs.Flat.{first_flat}
 use Rattle.core_views.specs.Held.{Held}
 use Rattle.core_views.specs.Lawful.{IsLawful}
 use Rattle.core_views.specs.Sizes.{actors_of}
+use Rattle.spte_words.specs.declared.area.Area.{Area}
+use Rattle.spte_words.specs.declared.area.Area.TheVariants as area
 use Rattle.spte_words.specs.Areas.{total}
 use Rattle.mmu_core.specs.Enabled.{mmu}
 use Rattle.mmu_core.specs.Invariant.{Invariant}
 use Rattle.mmu_core.specs.Machine.{Legal, Step, World, run}
 use Rattle.mmu_core.specs.Tasks.{map_of}
-use Rattle.mmu_core.specs.View.{view}
+use Rattle.mmu_core.specs.View.{view, word_in}
 use Rattle.mmu_core.specs.Worlds.{IsStart, history}
 
--- The words and hands are as many as the machine has, each word is a number below 2 ^ 64, and every part of the invariant holds.
+-- No invalidation was opened: their sequence number and their count are 0.
+pub record NoneOpened (words : Area → ℕ → ℕ) : Type 0 where
+  pub seq : words area.Seq 0 ≡ 0
+  pub count : words area.Count 0 ≡ 0
+
+-- The words and hands are as many as the machine has, each word is a number below 2 ^ 64, no invalidation was opened, and every part
+-- of the invariant holds.
 pub record IsSound (z : Sizes) (w : World Held) : Type 0 where
   pub words : length w.words ≡ total (map_of z)
   pub hands : length w.hands ≡ actors_of z
   pub small : (i : ℕ) → slice_index w.words i < 2 ^ 64
+  pub none_opened : NoneOpened (word_in z w)
   pub holds : Invariant z (view z w)
 
 -- The world behind every list of steps is sound.

@@ -1,5 +1,5 @@
 -- A machine of words and hands, for any kinds of step: each step reads and writes one word, and changes the hand of the actor that makes it.
-use Rattle.std.specs.Prelude.{◌≡◌, ◌<◌, ℕ, List, [], ◌∷◌, ◌++◌, length, slice_index, slice_index_or, slice_set}
+use Rattle.std.specs.Prelude.{◌≡◌, ◌<◌, ℕ, List, [], ◌∷◌, length, slice_index, slice_index_or, slice_set}
 
 -- What a step may do, where H is what an actor holds and K a kind of step with its numbers: whether the hand allows it, its word,
 -- what stands in the word after it and what it answers, of the number found there, and the hand after that answer.

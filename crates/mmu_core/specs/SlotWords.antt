@@ -1,5 +1,5 @@
 -- The words of a slot in a slot set, and the leaf of a host page in a slot.
-use Rattle.std.specs.Prelude.{◌+◌, ◌-◌, ◌*◌, ℕ, List, [], ◌∷◌, ◌++◌, zero, suc, Bool, true, false, ◌&&◌, not, if◌then◌else◌}
+use Rattle.std.specs.Prelude.{◌+◌, ◌-◌, ◌*◌, ℕ, [], ◌∷◌, ◌++◌, zero, suc, Bool, true, false, ◌&&◌, not, if◌then◌else◌}
 use Rattle.core_views.specs.declared.place.SlotField.{SlotField}
 use Rattle.core_views.specs.declared.place.SlotField.TheVariants.{Base, Pages, Host, Flags}
 use Rattle.core_views.specs.declared.trace.Slot.{Slot}

@@ -1,5 +1,5 @@
 -- What each form of line does, put together: the step that a hand allows, and the hand after it.
-use Rattle.std.specs.Prelude.{◌≡◌, ◌<◌, ◌^◌, ℕ, List, [], ◌∷◌, ◌++◌, length, map, false, slice_get, unwrap_or}
+use Rattle.std.specs.Prelude.{ℕ, List, [], ◌∷◌, ◌++◌, length, map, slice_get, unwrap_or}
 use Rattle.core_views.specs.declared.actor.Actor.TheVariants.{Manager}
 use Rattle.core_views.specs.declared.event.Event.{Event}
 use Rattle.core_views.specs.declared.event.EventKind.{EventKind}
@@ -9,7 +9,6 @@ use Rattle.core_views.specs.declared.kind.Kind.{Kind}
 use Rattle.core_views.specs.declared.place.Place.{Place}
 use Rattle.core_views.specs.declared.place.Place.TheVariants as place
 use Rattle.core_views.specs.declared.place.AccessPlace.TheVariants.{Slots}
-use Rattle.core_views.specs.declared.place.SetSlotPlace.TheVariants.{Refuse, Fill}
 use Rattle.core_views.specs.declared.sizes.Sizes.{Sizes}
 use Rattle.core_views.specs.declared.trace.Command.{Command}
 use Rattle.core_views.specs.declared.trace.Command.TheVariants.{Access, SetSlot}
@@ -105,4 +104,3 @@ events_of h v = map (λ kind. record { actor = h.state.actor; kind = kind }) (ev
 -- the hand of an actor that is none
 abbrev pub nobody : Held
 nobody = first_held (record { pages = 0; frames = 0; words = 0; pool = 0; vcpus = 0; hosts = 0; workers = 0 }) Manager []
-

@@ -1,16 +1,15 @@
 -- The worlds of the machine: its start, and what a list of steps leads to and tells.
-use Rattle.std.specs.Prelude.{◌≡◌, ◌+◌, ◌-◌, ◌*◌, ◌^◌, ◌<◌, ◌≤◌, ℕ, zero, suc, List, [], ◌∷◌, ◌++◌, All, length, map, true, nat_le, ◌==◌, if◌then◌else◌, slice_index}
-use Rattle.core_views.specs.declared.actor.Actor.{Actor}
+use Rattle.std.specs.Prelude.{◌≡◌, ◌-◌, ◌*◌, ◌^◌, ◌<◌, ◌≤◌, ℕ, zero, suc, List, [], ◌∷◌, ◌++◌, All, length, true, nat_le, ◌==◌, if◌then◌else◌, slice_index}
 use Rattle.core_views.specs.declared.event.Event.{Event}
 use Rattle.core_views.specs.declared.kind.Kind.{Kind}
 use Rattle.core_views.specs.declared.sizes.Sizes.{Sizes}
 use Rattle.core_views.specs.declared.trace.Line.{Line}
-use Rattle.core_views.specs.Held.{Held, Handful, first_held}
+use Rattle.core_views.specs.Held.{Held, first_held}
 use Rattle.core_views.specs.Sizes.{AreSizes, actor_at, actors_of}
 use Rattle.core_views.specs.Traces.{IsCommandFor, settings}
 use Rattle.core_views.specs.Whole.{lines_of}
 use Rattle.spte_words.specs.declared.area.Area.{Area}
-use Rattle.spte_words.specs.declared.area.Area.TheVariants.{Root, Slots, Seq, Count, RangeStart, RangeEnd, Lock, Pause, State, PoolMap, FrameMap, Log, Host, Role, Pool, Linear, Content}
+use Rattle.spte_words.specs.declared.area.Area.TheVariants.{Slots, PoolMap, FrameMap, Host, Role}
 use Rattle.spte_words.specs.Areas.{place, size_of, total}
 use Rattle.spte_words.specs.HostWords.{host_word}
 use Rattle.mmu_core.specs.Machine.{World, Step, Leads, effect, answered, hand_in}

@@ -9,9 +9,9 @@ ghost use Rattle.spte_words.specs.Areas.{size_of};
 ghost use Rattle.spte_words.specs.declared.area.Area.TheVariants.{Content};
 ghost use Rattle.spte_words.specs.Entries.{absent_word};
 
+use crate::map_of;
 use crate::outcome::{Outcome, Task};
 use crate::slot_words::{leaf_of, slot_word};
-use crate::map_of;
 use core_views::{AccessPlace, Answer, Op, Place, SlotField, State, StepKind};
 use spte_words::{Area, HostWord, SlotFlags, Spte};
 
@@ -47,7 +47,12 @@ pub(crate) fn task(place: AccessPlace, state: &State, gfn: u64, word: u8, op: Op
     match place {
         AccessPlace::Slots => Task::load(StepKind::Control, Area::Slots, 0, 0),
         AccessPlace::Slot { id, field } => {
-            Task::load(StepKind::Slot, Area::Pool, slot_word(&map, state.look.set, id, field), 1)
+            Task::load(
+                StepKind::Slot,
+                Area::Pool,
+                slot_word(&map, state.look.set, id, field),
+                1,
+            )
         }
         AccessPlace::Walk => Task::load(StepKind::Walk, Area::Linear, gfn - slot.base, 0),
         AccessPlace::Host => {
@@ -142,14 +147,7 @@ pub(crate) fn outcome(place: AccessPlace, state: &State, gfn: u64, op: Op, found
 }
 
 // The same of the places in the look-up of the slot.
-fn slot_outcome(
-    id: u64,
-    field: SlotField,
-    state: &State,
-    gfn: u64,
-    op: Op,
-    found: u64,
-) -> Outcome
+fn slot_outcome(id: u64, field: SlotField, state: &State, gfn: u64, op: Op, found: u64) -> Outcome
     requires { id ≤ 31 }
     ensures { result ≡ access_outcome (Slot id field) state.now gfn op found }
 {

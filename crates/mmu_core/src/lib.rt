@@ -1,6 +1,7 @@
 //! The steps of the machine: which step a hand allows, and what it does to its
 //! word and to the hand.
 #![tactic(auto)]
+
 ghost use Rattle.std.specs.Prelude.{◌≡◌};
 ghost use Rattle.core_views.specs.Sizes.{AreSizes};
 ghost use Rattle.mmu_core.specs.Tasks.{map_of};
@@ -13,12 +14,11 @@ mod set_slot;
 mod slot_words;
 mod step;
 
+use core_views::Sizes;
 pub use laws::{every_list_of_steps, rests};
 pub use outcome::{Outcome, Task};
-pub use step::{advance, next_kind};
-
-use core_views::Sizes;
 use spte_words::WordMap;
+pub use step::{advance, next_kind};
 
 /// Where the words of a machine of these sizes stand.
 pub fn map_of(sizes: &Sizes) -> WordMap

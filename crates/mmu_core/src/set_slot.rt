@@ -11,9 +11,7 @@ ghost use Rattle.spte_words.specs.Areas.{size_of};
 use crate::map_of;
 use crate::outcome::{Outcome, Task};
 use crate::slot_words::{field_word, slot_word};
-use core_views::{
-    Answer, Place, Refusal, SetSlotPlace, Sizes, Slot, SlotField, State, StepKind,
-};
+use core_views::{Answer, Place, Refusal, SetSlotPlace, Sizes, Slot, SlotField, State, StepKind};
 use spte_words::Area;
 
 /// The pool page of the published slot set, which is the manager's.

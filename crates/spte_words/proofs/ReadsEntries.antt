@@ -1,6 +1,6 @@
 -- What the words of entries tell: each reader gives back what the word was made of, and words of different kinds differ.
 use Rattle.std.proofs.Common.{◌≡◌, ◌≢◌, ◌+◌, ◌-◌, ◌*◌, ◌%◌, ◌^◌, ◌<◌, ◌≤◌, ℕ, true, false, refl, arith, ap, ◌∙◌, sym, eqb, ne_eqb, ◌⊎◌, inl, inr}
-use Rattle.std.specs.Prelude.{Bool, nat_lt, ◌&&◌, ◌||◌, if◌then◌else◌, ◌==◌, not}
+use Rattle.std.specs.Prelude.{Bool, nat_lt, if◌then◌else◌, not}
 use Rattle.std.proofs.lemmas.Bool.Decides.{nat_tests, eqb_tells}
 use Rattle.spte_words.specs.declared.spte_kind.SpteKind.TheVariants.{Absent, Frozen, Leaf, Table}
 use Rattle.spte_words.specs.Bits.{has_bit, bit_if}

@@ -50,8 +50,8 @@ next_is actor lines i d lt is =
     let same : is_same actor line.actor ≡ true = subst (λ x. is_same actor x ≡ true) is (is_same_self actor) in
     let rest : lines_of actor (line ∷ drop (suc i) lines) ≡ line ∷ back = rw same refl in
     let whole : lines_of actor lines ≡ front ++ line ∷ back =
-        ap (lines_of actor) (sym (take-append-drop i lines)) ∙ lines_of_append actor (take i lines) (drop i lines)
-        ∙ ap (λ xs. front ++ lines_of actor xs) (drop-cons lines i d lt) ∙ ap (λ xs. front ++ xs) rest in
+    ap (lines_of actor) (sym (take-append-drop i lines)) ∙ lines_of_append actor (take i lines) (drop i lines)
+    ∙ ap (λ xs. front ++ lines_of actor xs) (drop-cons lines i d lt) ∙ ap (λ xs. front ++ xs) rest in
     let count : length (front ++ line ∷ back) ≡ length front + length (line ∷ back) = length-append front (line ∷ back) in
     let here : slice_get (front ++ line ∷ back) (length front) ≡ Some (get_or (front ++ line ∷ back) (length front) line) = slice_get-get_or (front ++ line ∷ back) (length front) line (omega (arith, count)) in
     subst (λ xs. slice_get xs (length front) ≡ Some line) (sym whole) (here ∙ ap Some (get_or-append_seam front line back line))

@@ -200,7 +200,7 @@ ready_on z lines i m same count lt may behind =
     let R = is_ready z lines i (world_in m) lt may behind in
     let place : index_of z line.actor ≡ index_of m.sizes line.actor = ap (λ (y : Sizes). index_of y line.actor) (sym same) in
     let core : hand_in mmu (world_in m) (index_of z line.actor) ≡ (handful_in m.hands (index_of m.sizes line.actor)).core =
-        sym (core_at m.words m.hands (index_of z line.actor)) ∙ ap (λ (n : ℕ). (handful_in m.hands n).core) place in
+    sym (core_at m.words m.hands (index_of z line.actor)) ∙ ap (λ (n : ℕ). (handful_in m.hands n).core) place in
     record {
       there = subst (λ n. n < length m.hands) place (subst (λ n. index_of z line.actor < n) (sym count) R.there);
       idle = subst (λ (h : Held). h.state.place ≡ Between) core R.idle;

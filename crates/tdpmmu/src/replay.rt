@@ -89,7 +89,13 @@ pub fn replay<K: Sink>(alloc: Global, trace: &Trace, out: &mut K) -> Result<Clos
         return Err(Stop::NoMemory);
     };
     let mut waiting = String::new(alloc);
-    run_lines(alloc, &mut machine, trace.lines.as_slice(), out, &mut waiting)?;
+    run_lines(
+        alloc,
+        &mut machine,
+        trace.lines.as_slice(),
+        out,
+        &mut waiting,
+    )?;
     write_all(out, waiting.as_bytes())?;
     Ok(machine.into_closing())
 }

@@ -28,28 +28,28 @@ run_on-requires-clause-there g c =
     let z = c.args.machine.now.sizes in
     let i = c.loop-line.invariant in
     (ready_on z c.args.lines.now c.loop-line.line-index c.loop-line.machine i.sizes (i.count ∙ hands_at_start z c.args.lines.now c.args.machine.now c.requires.start) c.loop-line-test.true
-        (c.requires.start.allowed c.loop-line.line-index no_line c.loop-line-test.true) i.behind).there
+    (c.requires.start.allowed c.loop-line.line-index no_line c.loop-line-test.true) i.behind).there
 
 pub run_on-requires-clause-idle : goal.run_on-requires-clause-idle
 run_on-requires-clause-idle g c =
     let z = c.args.machine.now.sizes in
     let i = c.loop-line.invariant in
     (ready_on z c.args.lines.now c.loop-line.line-index c.loop-line.machine i.sizes (i.count ∙ hands_at_start z c.args.lines.now c.args.machine.now c.requires.start) c.loop-line-test.true
-        (c.requires.start.allowed c.loop-line.line-index no_line c.loop-line-test.true) i.behind).idle
+    (c.requires.start.allowed c.loop-line.line-index no_line c.loop-line-test.true) i.behind).idle
 
 pub run_on-requires-clause-next : goal.run_on-requires-clause-next
 run_on-requires-clause-next g c =
     let z = c.args.machine.now.sizes in
     let i = c.loop-line.invariant in
     (ready_on z c.args.lines.now c.loop-line.line-index c.loop-line.machine i.sizes (i.count ∙ hands_at_start z c.args.lines.now c.args.machine.now c.requires.start) c.loop-line-test.true
-        (c.requires.start.allowed c.loop-line.line-index no_line c.loop-line-test.true) i.behind).next
+    (c.requires.start.allowed c.loop-line.line-index no_line c.loop-line-test.true) i.behind).next
 
 pub run_on-requires-clause-own : goal.run_on-requires-clause-own
 run_on-requires-clause-own g c =
     let z = c.args.machine.now.sizes in
     let i = c.loop-line.invariant in
     (ready_on z c.args.lines.now c.loop-line.line-index c.loop-line.machine i.sizes (i.count ∙ hands_at_start z c.args.lines.now c.args.machine.now c.requires.start) c.loop-line-test.true
-        (c.requires.start.allowed c.loop-line.line-index no_line c.loop-line-test.true) i.behind).own
+    (c.requires.start.allowed c.loop-line.line-index no_line c.loop-line-test.true) i.behind).own
 
 pub returns-in_default-clause-bytes : goal.returns-in_default-clause-bytes
 returns-in_default-clause-bytes g c = so_far_prefix _ _ _ _ c.loop-line.invariant.so_far
@@ -72,7 +72,7 @@ loop-line-preserved g c =
     let i = c.loop-line.invariant in
     let may = c.requires.start.allowed n no_line c.loop-line-test.true in
     let ran : RanOn (get_or lines n no_line) c.in-Ok.answer (index_of z (get_or lines n no_line).actor) (world_in c.loop-line.machine) (world_in c.run_on.new.machine) =
-        subst (λ y. RanOn (get_or lines n no_line) c.in-Ok.answer (index_of y (get_or lines n no_line).actor) (world_in c.loop-line.machine) (world_in c.run_on.new.machine)) i.sizes c.in-Ok.ensures.ran in
+    subst (λ y. RanOn (get_or lines n no_line) c.in-Ok.answer (index_of y (get_or lines n no_line).actor) (world_in c.loop-line.machine) (world_in c.run_on.new.machine)) i.sizes c.in-Ok.ensures.ran in
     let prints = line_prints z lines n (world_in c.args.machine.now) (world_in c.loop-line.machine) (world_in c.run_on.new.machine) c.in-Ok.answer (index_of z (get_or lines n no_line).actor) c.requires.start i.ran ran in
     record {
       ran = steps_more z lines n (world_in c.args.machine.now) (world_in c.loop-line.machine) (world_in c.run_on.new.machine) c.in-Ok.answer (index_of z (get_or lines n no_line).actor) c.loop-line-test.true i.ran ran;
