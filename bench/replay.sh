@@ -1,14 +1,17 @@
 #!/usr/bin/env bash
-# Times `tdpmmu replay`, the machine that makes one atomic step at a time.
+# Times `tdpmmu replay`, the machine that makes one atomic step at a time, and
+# `tdpmmu check`, which reads a trace and runs nothing.
 #
-# First on traces of 10,000, 100,000 and 1,000,000 lines, or as many of these as
-# 16 MiB hold: lines and steps a second, beside the time of `plain_replay`, which
-# runs the same trace over maps, and whether a line costs more in the longest
-# trace than in the shortest. What both print has to be the same.
+# First `replay` on traces of 10,000, 100,000 and 1,000,000 lines, or as many of
+# these as 16 MiB hold: lines and steps a second, beside the time of
+# `plain_replay`, which runs the same trace over maps, and whether a line costs
+# more in the longest trace than in the shortest. What both print has to be the
+# same.
 #
-# Then against awk on two traces of nearly 16 MiB: reads and writes spread over
+# Then both commands on two traces of nearly 16 MiB: reads and writes spread over
 # 1,048,576 pages of 8 words, and comments, empty lines, lines of 65,536 bytes
-# and numbers of every spelling.
+# and numbers of every spelling. Reading them should take no more than six times
+# what awk takes to count their words.
 #
 # All times are seconds of a processor (user and system), the least of five
 # measurements. Needs `rt`, awk and bash.
@@ -17,7 +20,7 @@ top=$(cd "$(dirname "$0")/.." && pwd)
 folder=$(mktemp -d)
 trap 'rm -rf "$folder"' EXIT
 growth=1.3   # a line's cost in the longest trace, over that in the shortest
-bound=6      # times of awk
+bound=6      # times of awk, for reading
 small='tdp 1 vcpus 4 workers 0 pages 4096 frames 4096 words 1 pool 64 cache 64 manual 0 hosts 0'
 header='tdp 1 vcpus 16 workers 4 pages 1048576 frames 1048576 words 8 pool 16384 cache 64 manual 0 hosts 0'
 
@@ -143,12 +146,13 @@ for kind in accesses spellings; do
   "$program" replay < "$folder/trace" > "$folder/machine"   # stops here where the trace is refused
   "$plain" < "$folder/trace" > "$folder/plain"
   cmp "$folder/machine" "$folder/plain"
+  reading=$(best 1 "$program" check)
   replay=$(best 1 "$program" replay)
   flat=$(best 1 "$plain")
   count=$(best 1 awk '{n += NF} END {print n}')
   printf '%s: %s bytes, %s lines\n' "$kind" "$(wc -c < "$folder/trace")" "$(wc -l < "$folder/trace")"
-  awk -v r="$replay" -v f="$flat" -v c="$count" -v bound="$bound" 'BEGIN {
-    printf "replay %.2f s, flat interpreter %.2f s, awk %.2f s, ratio to awk %.1f: ", r, f, c, r / c
+  awk -v r="$reading" -v m="$replay" -v f="$flat" -v c="$count" -v bound="$bound" 'BEGIN {
+    printf "replay %.2f s, flat interpreter %.2f s; check %.2f s, awk %.2f s, ratio of check to awk %.1f: ", m, f, r, c, r / c
     print (r > bound * c ? "more than " : "not more than ") bound
   }'
 done
