@@ -16,3 +16,9 @@ pub mod Bounds
 pub mod Turns
 pub mod LineRuns
 pub mod Histories
+pub mod HostWordsPart
+pub mod SlotSetPart
+pub mod LeavesPart
+pub mod LinesPart
+pub mod LoadsPart
+pub mod UnsetPart
