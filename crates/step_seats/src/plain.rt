@@ -1,5 +1,5 @@
 //! All words and hands under one owner.
-ghost use Rattle.std.specs.Prelude.{◌≡◌, ◌<◌, ◌≤◌, IfOk, OnOk, length};
+ghost use Rattle.std.specs.Prelude.{◌≡◌, ◌<◌, ◌≤◌, IfOk, OnOk, length, slice_set};
 ghost use Rattle.core_views.specs.Sizes.{AreSizes, actors_of, index_of, sizes_of};
 ghost use Rattle.core_views.specs.Traces.{IsTrace};
 ghost use Rattle.mmu_core.specs.Enabled.{Enabled, mmu};
@@ -63,6 +63,7 @@ impl PlainMachine {
         ensures hand { (handful_in self.new.hands index).core ≡ next (handful_in self.old.hands index).core kind result }
         ensures room { KeepsRoom (handful_in self.old.hands index) (handful_in self.new.hands index) }
         ensures possible { ∥ Possible (handful_in self.old.hands index).core kind result ∥₁ }
+        ensures others { self.new.hands ≡ slice_set self.old.hands index (handful_in self.new.hands index) }
         ensures same { (self.new.sizes ≡ self.old.sizes) × (length self.new.hands ≡ length self.old.hands) }
     {
         let word = kind.word as usize;
@@ -89,6 +90,7 @@ impl PlainMachine {
         ensures world { world_in self.new ≡ world_in self.old }
         ensures hand { (handful_in self.new.hands index).core ≡ (handful_in self.old.hands index).core }
         ensures room { OnOk result (0 < (handful_in self.new.hands index).room) }
+        ensures others { self.new.hands ≡ slice_set self.old.hands index (handful_in self.new.hands index) }
         ensures same { (self.new.sizes ≡ self.old.sizes) × (length self.new.hands ≡ length self.old.hands) }
     {
         let hand = &mut self.hands[index];
