@@ -15,7 +15,7 @@ mod slot_words;
 mod step;
 
 use core_views::Sizes;
-pub use laws::{every_list_of_steps, rests};
+pub use laws::{every_answer_is_told, every_list_of_steps, rests, the_steps_can_be_made};
 pub use outcome::{Outcome, Task};
 use spte_words::WordMap;
 pub use step::{advance, next_kind};

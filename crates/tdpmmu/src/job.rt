@@ -17,8 +17,8 @@ pub struct LineJob {
     pub index: usize,
 }
 
-/// The job of the actor's next line. It takes the memory that the line needs,
-/// and changes nothing else, whatever it answers.
+/// The job of the actor's next line. It takes room for the line's answer, and
+/// changes no word and nothing that the hand holds, whatever it answers.
 pub fn start_line<S: Stepper>(s: &mut S, line: &Line) -> Result<LineJob, NoMemory>
     ensures job { IfOk result (λ job. job.index ≡ length (S.handful s.old).core.answers) }
     ensures reserved { OnOk result (0 < (S.handful s.new).room) }
