@@ -16,3 +16,4 @@ pub mod Need
 pub mod Kinds
 pub mod Held
 pub mod Laws
+pub mod Rows

@@ -7,7 +7,7 @@ use Rattle.core_views.specs.declared.answer.Answer.{Answer}
 use Rattle.core_views.specs.declared.answer.AnsweredLine.{AnsweredLine}
 use Rattle.core_views.specs.declared.answer.Answer.TheVariants.{Reached, Mmio, Done, Refused}
 use Rattle.core_views.specs.declared.answer.Refusal.{Refusal}
-use Rattle.core_views.specs.declared.answer.Refusal.TheVariants.{BadId, TooLarge}
+use Rattle.core_views.specs.declared.answer.Refusal.TheVariants.{BadId, TooLarge, Missing, Logged, NoLog, Resize, Fixed, Overlap, HostOverlap}
 use Rattle.core_views.specs.declared.event.Event.{Event}
 use Rattle.core_views.specs.declared.event.EventKind.{EventKind}
 use Rattle.core_views.specs.declared.event.EventKind.TheVariants.{Answered}
@@ -21,6 +21,13 @@ actor_name (Worker n) = codes "w" ++ decimal n
 abbrev pub refusal_name : Refusal → List ℕ
 refusal_name BadId = codes "bad-id"
 refusal_name TooLarge = codes "too-large"
+refusal_name Missing = codes "missing"
+refusal_name Logged = codes "logged"
+refusal_name NoLog = codes "no-log"
+refusal_name Resize = codes "resize"
+refusal_name Fixed = codes "fixed"
+refusal_name Overlap = codes "overlap"
+refusal_name HostOverlap = codes "host-overlap"
 
 abbrev pub answer_text : Answer → List ℕ
 answer_text (Reached frame value) = codes "frame " ++ (decimal frame ++ (codes " value " ++ decimal value))

@@ -26,6 +26,21 @@ pub enum Refusal {
     /// The slot's guest frames reach past 2^36, or its host pages past the
     /// machine's.
     TooLarge,
+    /// No slot has this ID.
+    Missing,
+    /// The slot has a dirty log: it can't be deleted or moved, or get another.
+    Logged,
+    /// The slot has no dirty log that could be taken away.
+    NoLog,
+    /// The slot that has this ID has another number of pages.
+    Resize,
+    /// The slot that has this ID has other host pages, or is read-only where
+    /// the new one isn't, or the other way round.
+    Fixed,
+    /// Another slot has one of the guest frames.
+    Overlap,
+    /// Another slot has one of the host pages.
+    HostOverlap,
 }
 
 impl Refusal {
@@ -36,6 +51,13 @@ impl Refusal {
         match self {
             Refusal::BadId => "bad-id",
             Refusal::TooLarge => "too-large",
+            Refusal::Missing => "missing",
+            Refusal::Logged => "logged",
+            Refusal::NoLog => "no-log",
+            Refusal::Resize => "resize",
+            Refusal::Fixed => "fixed",
+            Refusal::Overlap => "overlap",
+            Refusal::HostOverlap => "host-overlap",
         }
     }
 }

@@ -1,7 +1,9 @@
-ghost use Rattle.std.specs.Prelude.{◌≡◌, ◌+◌, ◌-◌, ◌<◌, ◌++◌, ◌∷◌, [], OnOk, length, slice_get};
+ghost use Rattle.std.specs.Prelude.{◌≡◌, ◌+◌, ◌-◌, ◌<◌, ◌++◌, ◌∷◌, [], OnErr, OnOk, length, slice_get};
 ghost use Rattle.core_views.specs.Held.{first_held, first_state};
 
-use crate::{Actor, AnsweredLine, Command, Line, NoMemory, Op, Place, Sequence, Sizes, Slot};
+use crate::{
+    Actor, AnsweredLine, Command, Line, NoMemory, Op, Place, Sequence, Sizes, Slot, Topics,
+};
 use std::alloc::Global;
 use std::marker::Model;
 
@@ -75,11 +77,13 @@ impl State {
     }
 }
 
-/// What one actor holds: its state, its lines of the trace, and the answers
+/// What one actor holds: where its line stands and what this line loaded; what
+/// it holds of each part of the machine; its lines of the trace, and the answers
 /// that it has given them, with room for more.
 #[derive(Debug, Drop)]
 pub struct Hand {
     state: State,
+    topics: Topics,
     lines: Vec<Line>,
     answers: Vec<AnsweredLine>,
     room: usize,
@@ -91,29 +95,41 @@ impl Model for Hand {
 
     ghost Value = { Handful };
 
-    ghost view = { λ h. record { core = record { state = h.state; lines = h.lines.items; answers = h.answers.items }; room = h.room } };
+    ghost view = { λ h. record { core = record { state = h.state; topics = h.topics; lines = h.lines.items; answers = h.answers.items }; room = h.room } };
 
     ghost invariant = { λ h. vec_len h.answers + h.room ≤ vec_capacity h.answers };
 }
 
 impl Hand {
+    ghost use Rattle.std.specs.Borrow.{Lends, sem};
+    ghost use Rattle.core_views.specs.contracts.hand.Hand.{the_row};
+    ghost use Rattle.core_views.specs.Rows.{state_row, topics_row};
+
     /// The hand of an actor before its first line.
     pub fn new(alloc: Global, sizes: Sizes, actor: Actor, lines: Vec<Line>) -> Self
         ensures { result.core ≡ first_held sizes actor lines.items }
     {
         Hand {
             state: State::first(sizes, actor),
+            topics: Topics::first(),
             lines,
             answers: Vec::new(alloc),
             room: 0,
         }
     }
 
-    /// What is held besides lines and answers.
+    /// Where the line stands, and what it loaded.
     pub fn state(&self) -> &State
         ensures { result.now ≡ self.now.core.state }
     {
         &self.state
+    }
+
+    /// What is held of each part of the machine.
+    pub fn topics(&self) -> &Topics
+        ensures { result.now ≡ self.now.core.topics }
+    {
+        &self.topics
     }
 
     /// The first line that has no answer.
@@ -134,19 +150,28 @@ impl Hand {
         &self.answers
     }
 
-    /// Holds this state from now on.
-    pub fn set_state(&mut self, state: State)
-        ensures { self.new ≡ record { core = record { state = state; lines = self.old.core.lines; answers = self.old.core.answers }; room = self.old.room } }
+    /// Where the line stands and what it loaded, to be changed in place.
+    pub fn state_mut(&mut self) -> &mut State
+        ensures value { result.now ≡ self.old.core.state }
+        ensures* lends { sem 𝓛 (Lends the_row state_row self.entry result (λ s. record { core = record { state = s; topics = self.old.core.topics; lines = self.old.core.lines; answers = self.old.core.answers }; room = self.old.room })) }
     {
-        self.state = state;
+        &mut self.state
     }
 
-    /// Takes room for one more answer.
+    /// What is held of each part of the machine, to be changed in place.
+    pub fn topics_mut(&mut self) -> &mut Topics
+        ensures value { result.now ≡ self.old.core.topics }
+        ensures* lends { sem 𝓛 (Lends the_row topics_row self.entry result (λ t. record { core = record { state = self.old.core.state; topics = t; lines = self.old.core.lines; answers = self.old.core.answers }; room = self.old.room })) }
+    {
+        &mut self.topics
+    }
+
+    /// Takes room for one more answer. Where it is refused nothing has changed.
     pub fn reserve(&mut self) -> Result<(), NoMemory>
         ensures core { self.new.core ≡ self.old.core }
         ensures room { OnOk result (0 < self.new.room) }
+        ensures refused { OnErr result (self.new ≡ self.old) }
     {
-        self.room = 0;
         self.answers.reserve(1)?;
         self.room = 1;
         Ok(())
@@ -155,7 +180,7 @@ impl Hand {
     /// Adds an answer, for which there is room.
     pub fn answer(&mut self, answer: AnsweredLine)
         requires { 0 < self.old.room }
-        ensures { self.new ≡ record { core = record { state = self.old.core.state; lines = self.old.core.lines; answers = self.old.core.answers ++ answer ∷ [] }; room = self.old.room - 1 } }
+        ensures { self.new ≡ record { core = record { state = self.old.core.state; topics = self.old.core.topics; lines = self.old.core.lines; answers = self.old.core.answers ++ answer ∷ [] }; room = self.old.room - 1 } }
     {
         self.room -= 1;
         match self.answers.push(answer) {

@@ -12,6 +12,7 @@ mod no_memory;
 mod place;
 mod sequence;
 mod sizes;
+mod topics;
 mod trace;
 
 pub use actor::Actor;
@@ -24,4 +25,5 @@ pub use no_memory::NoMemory;
 pub use place::{AccessPlace, Place, SetSlotPlace, SlotField};
 pub use sequence::Sequence;
 pub use sizes::Sizes;
+pub use topics::{Hold, Invalidations, MapClaim, OwnedPage, SlotSearch, Stay, TableWalk, Topics};
 pub use trace::{Command, Header, Line, Lines, Op, Slot, Trace, Words};

@@ -33,3 +33,7 @@ span_above level from = let up : level + 1 - 1 ≡ level - 1 + 1 = omega arith i
 -- A child's place lies in the run of level 3.
 pub child_within : (level i : ℕ) → 2 ≤ level → level ≤ 3 → i < 512 → i * level_span (level - 1) < 2 ^ 18
 child_within level i from to small = grind (arith, spans)
+
+-- Each run has a page.
+pub span_positive : (level : ℕ) → 1 ≤ level → level ≤ 4 → 0 < level_span level
+span_positive level from to = grind (arith, spans)

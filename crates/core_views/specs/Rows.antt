@@ -1,0 +1,10 @@
+-- The types of what a hand lends.
+use Rattle.std.specs.Borrow.{RattleType}
+use Rattle.core_views.specs.contracts.hand.State as state
+use Rattle.core_views.specs.contracts.topics.Topics as topics
+
+abbrev pub state_row : RattleType
+state_row = state.the_row
+
+abbrev pub topics_row : RattleType
+topics_row = topics.the_row

@@ -1,0 +1,165 @@
+use crate::{Slot, SlotField};
+
+/// Where an actor is, as its own state word tells the others (KVM's
+/// vcpu-requests.rst, "VCPU Mode").
+#[derive(Clone, Copy, Debug, PartialEq, Eq, Drop)]
+pub enum Stay {
+    /// In no section, and not in the guest.
+    Outside,
+    /// In the guest.
+    Guest,
+    /// In a section, from whose loads nothing is given back until it ends.
+    Section,
+}
+
+/// How an actor holds the MMU lock (KVM's locking.rst, `mmu_lock`).
+#[derive(Clone, Copy, Debug, PartialEq, Eq, Drop)]
+pub enum Hold {
+    /// Not at all.
+    Loose,
+    /// As one of its readers.
+    Shared,
+    /// It counts as a reader, but saw this word, with a writer in it: it has yet
+    /// to take itself out again.
+    Owing(u64),
+    /// As its writer, alone.
+    Exclusive,
+}
+
+/// What an actor loaded of a slot set, slot after slot, in this section or under
+/// the lock: of each slot the flags first, and where it is live its base, pages
+/// and host page.
+#[derive(Clone, Copy, Debug, PartialEq, Eq, Drop)]
+pub struct SlotSearch {
+    /// The pool page of the slot set, where one is held.
+    pub set: Option<u64>,
+    /// The slot whose word is next; 32 behind the last one.
+    pub id: u64,
+    /// The word that is next.
+    pub next: SlotField,
+    /// The slot whose words are loaded; behind it, the one that was loaded last.
+    pub slot: Slot,
+    /// Whether the flags that were loaded last have a dirty log in them.
+    pub logged: bool,
+}
+
+/// What an actor loaded of the invalidations: their sequence number before it
+/// touched the lock and since, how many are open, and the range of guest frames of
+/// these.
+#[derive(Clone, Copy, Debug, PartialEq, Eq, Drop)]
+pub struct Invalidations {
+    /// The sequence number before the look-up.
+    pub snapshot: u64,
+    /// How many are open.
+    pub count: u64,
+    /// The first guest frame of their range.
+    pub start: u64,
+    /// The guest frame behind their range.
+    pub end: u64,
+    /// The sequence number under the lock.
+    pub seq: u64,
+}
+
+/// A walk from the root down to an entry: the tables that it has come through
+/// in this section or stay, or under the lock.
+#[derive(Clone, Copy, Debug, PartialEq, Eq, Drop)]
+pub struct TableWalk {
+    /// The level of the table that it has come to, 4 at the root; 0 where none
+    /// is held.
+    pub level: u8,
+    /// The pool pages of its tables of levels 4, 3, 2 and 1, down to its level.
+    pub root: u64,
+    pub third: u64,
+    pub second: u64,
+    pub first: u64,
+    /// The entry that was loaded last.
+    pub entry: u64,
+}
+
+/// A claim of a free page of the pool's map.
+#[derive(Clone, Copy, Debug, PartialEq, Eq, Drop)]
+pub struct MapClaim {
+    /// The word of the map that the claim has come to: each before it was seen 0.
+    pub at: u64,
+    /// The free pages that were seen in this word, a bit for each; 0 where it is
+    /// yet to be loaded.
+    pub seen: u64,
+}
+
+/// A pool page that an actor owns alone: claimed, and not linked or given back.
+#[derive(Clone, Copy, Debug, PartialEq, Eq, Drop)]
+pub struct OwnedPage {
+    pub page: u64,
+    /// How many of its words are filled, 512 and then its role: 0 to 513.
+    pub filled: u64,
+    /// Whether each of the 512 that is filled holds 0.
+    pub absent: bool,
+}
+
+/// What an actor holds of each part of the machine. Each field is a topic of its
+/// own, which few kinds of step write.
+#[derive(Clone, Copy, Debug, PartialEq, Eq, Drop)]
+pub struct Topics {
+    pub stay: Stay,
+    pub hold: Hold,
+    pub search: SlotSearch,
+    pub invalidations: Invalidations,
+    pub walk: TableWalk,
+    pub claim: MapClaim,
+    pub owned: Option<OwnedPage>,
+    /// The place of the actor whose state word is looked at next; each before it
+    /// was seen outside.
+    pub watched: u64,
+    /// The host word that was loaded last.
+    pub host: u64,
+    /// The pause word that was loaded last.
+    pub pause: u64,
+}
+
+impl Topics {
+    ghost use Rattle.std.specs.Prelude.{◌≡◌};
+    ghost use Rattle.core_views.specs.Held.{first_topics};
+
+    /// What an actor holds before its first step: nothing.
+    pub fn first() -> Self
+        ensures { result ≡ first_topics }
+    {
+        let slot = Slot {
+            base: 0,
+            pages: 0,
+            host: 0,
+            read_only: false,
+        };
+        Topics {
+            stay: Stay::Outside,
+            hold: Hold::Loose,
+            search: SlotSearch {
+                set: None,
+                id: 0,
+                next: SlotField::Flags,
+                slot,
+                logged: false,
+            },
+            invalidations: Invalidations {
+                snapshot: 0,
+                count: 0,
+                start: 0,
+                end: 0,
+                seq: 0,
+            },
+            walk: TableWalk {
+                level: 0,
+                root: 0,
+                third: 0,
+                second: 0,
+                first: 0,
+                entry: 0,
+            },
+            claim: MapClaim { at: 0, seen: 0 },
+            owned: None,
+            watched: 0,
+            host: 0,
+            pause: 0,
+        }
+    }
+}
