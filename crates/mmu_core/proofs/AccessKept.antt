@@ -16,6 +16,7 @@ use Rattle.core_views.specs.declared.trace.Line.{Line}
 use Rattle.core_views.specs.declared.trace.Op.{Op}
 use Rattle.core_views.specs.declared.trace.Op.TheVariants.{Read, Write, Add}
 use Rattle.core_views.specs.declared.trace.Slot.{Slot as SlotOf}
+use Rattle.core_views.specs.declared.topics.Topics.{Topics}
 use Rattle.core_views.specs.Held.{Held}
 use Rattle.core_views.specs.Sizes.{actors_of}
 use Rattle.core_views.specs.Slots.{contains, is_write}
@@ -53,12 +54,12 @@ abbrev HoldsBehind : Sizes → (ℕ → ℕ) → (ℕ → ℕ) → Outcome → C
 HoldsBehind z pool host o command s = Holds z pool host (place_after o) command s
 
 -- a line of an access that has loaded something, in a state that differs in what was loaded alone
-same_state : (z : Sizes) (v : View) (a : ℕ) (line : Line) (command : Command) (p : Place) (s : State) (o : Outcome) → IsStep z v a line command p → Invariant z v
-    → s.sizes ≡ (v.hand a).state.sizes → s.actor ≡ (v.hand a).state.actor → s.has_set_slot ≡ (v.hand a).state.has_set_slot → OwnLines z a (behind (v.hand a) line s o)
-same_state z v a line command p s o S I sizes actor set =
+same_state : (z : Sizes) (v : View) (a : ℕ) (line : Line) (command : Command) (p : Place) (s : State) (o : Outcome) (t : Topics) → IsStep z v a line command p → Invariant z v
+    → s.sizes ≡ (v.hand a).state.sizes → s.actor ≡ (v.hand a).state.actor → s.has_set_slot ≡ (v.hand a).state.has_set_slot → OwnLines z a (behind (v.hand a) line s o t)
+same_state z v a line command p s o t S I sizes actor set =
     let h : Held = v.hand a in
     let O = I.lines a S.there in
-    lines_behind z a h line s o O S.next S.left (sizes ∙ O.sizes) actor (λ e. counted_kept o line h.lines h.answers (O.counted (sym set ∙ e)))
+    lines_behind z a h line s o t O S.next S.left (sizes ∙ O.sizes) actor (λ e. counted_kept o line h.lines h.answers (O.counted (sym set ∙ e)))
 
 same_unset : (pool : ℕ → ℕ) (h s : State) → s.actor ≡ h.actor → s.has_set_slot ≡ h.has_set_slot → UnsetPart pool h → UnsetPart pool s
 same_unset pool h s actor set unset = λ is none. unset (sym actor ∙ is) (sym set ∙ none)
@@ -116,15 +117,16 @@ loaded z v a line p gfn word op x S I holds =
     let h : Held = v.hand a in
     let s : State = access_loads p h.state x in
     let o : Outcome = access_outcome p h.state gfn op x in
-    quiet z (v.words area.Slots) (v.words area.Pool) (v.words area.Host) (v.words area.Linear) v.hand a (behind h line s o)
-    (same_state z v a line (Access gfn word op) (place.Access p) s o S I (loads_sizes p h.state x) (loads_actor p h.state x) (loads_set p h.state x))
-    (subst (λ c. Holds z (v.words area.Pool) (v.words area.Host) (place_after o) c (behind h line s o).state) (sym S.command_is) (agrees (place_after o) holds))
-    (same_unset (v.words area.Pool) h.state (behind h line s o).state (loads_actor p h.state x) (loads_set p h.state x) (I.unset a S.there))
+    let t : Topics = (hand_after line (Access gfn word op) (place.Access p) h x).topics in
+    quiet z (v.words area.Slots) (v.words area.Pool) (v.words area.Host) (v.words area.Linear) v.hand a (behind h line s o t)
+    (same_state z v a line (Access gfn word op) (place.Access p) s o t S I (loads_sizes p h.state x) (loads_actor p h.state x) (loads_set p h.state x))
+    (subst (λ c. Holds z (v.words area.Pool) (v.words area.Host) (place_after o) c (behind h line s o t).state) (sym S.command_is) (agrees (place_after o) holds))
+    (same_unset (v.words area.Pool) h.state (behind h line s o t).state (loads_actor p h.state x) (loads_set p h.state x) (I.unset a S.there))
     I
   where
     -- what holds at a place speaks of what was loaded alone
     agrees : (q : Place) → Holds z (v.words area.Pool) (v.words area.Host) q (Access gfn word op) (access_loads p (v.hand a).state x)
-        → Holds z (v.words area.Pool) (v.words area.Host) q (Access gfn word op) (behind (v.hand a) line (access_loads p (v.hand a).state x) (access_outcome p (v.hand a).state gfn op x)).state
+        → Holds z (v.words area.Pool) (v.words area.Host) q (Access gfn word op) (behind (v.hand a) line (access_loads p (v.hand a).state x) (access_outcome p (v.hand a).state gfn op x) (hand_after line (Access gfn word op) (place.Access p) (v.hand a) x).topics).state
     agrees place.Between e = tt
     agrees (place.Access Slots) e = tt
     agrees (place.Access (Slot id field.Flags)) e = e

@@ -38,7 +38,7 @@ use Rattle.mmu_core.specs.Tasks.{kind_of_task, map_of}
 use Rattle.mmu_core.specs.View.{view}
 use Rattle.mmu_core.proofs.RestsKept.{hand_rests, task_within}
 use Rattle.mmu_core.proofs.Stepping.{IsStep, is_step}
-use Rattle.mmu_core.proofs.Worlds.{enabled_is}
+use Rattle.mmu_core.proofs.Which.{enabled_is}
 
 -- What a step writes has 64 bits.
 touch_small : (op : Op) (gfn word index : ℕ) → WritesOneWord (Access gfn word op) → (touch_of op index).written < 2 ^ 64
@@ -99,7 +99,7 @@ may_step z w a G there has = record {
     same = (G.holds.lines a there).sizes
 
     R : Rests h
-    R = hand_rests z (view z w) a G.holds there has.left
+    R = hand_rests z (view z w) a G.holds G.topics there has.left
 
     S : IsStep z (view z w) a (line_at h.state.place h) (line_at h.state.place h).command (place_at h.state.place h)
     S = is_step z (view z w) a G.holds there has.left

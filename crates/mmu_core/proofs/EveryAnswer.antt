@@ -1,8 +1,8 @@
 -- What the hands hold behind a list of steps is what its history tells; where all is answered it answers the trace.
-use Rattle.std.proofs.Common.{◌≡◌, ◌⊎◌, inl, inr, ◌+◌, ◌-◌, ◌<◌, ◌≤◌, ℕ, List, [], ◌∷◌, ◌++◌, length, refl, sym, subst, ap, ◌∙◌, arith}
+use Rattle.std.proofs.Common.{◌≡◌, ◌⊎◌, inl, inr, ◌+◌, ◌-◌, ◌<◌, ◌≤◌, ℕ, List, [], ◌∷◌, ◌++◌, length, take, refl, sym, subst, ap, ◌∙◌, arith}
 use Rattle.std.specs.Prelude.{All, Bool, true, false, ◌==◌, map, nat_lt, if◌then◌else◌}
 use Rattle.std.proofs.lemmas.Bool.Decides.{nat_tests}
-use Rattle.std.proofs.lemmas.List.{take_all}
+use Rattle.std.proofs.lemmas.List.{append-nil, take_all}
 use Rattle.std.proofs.lemmas.List.Elements.{All-head, All-tail, All-weaker}
 use Rattle.core_views.specs.declared.actor.Actor.{Actor}
 use Rattle.core_views.specs.declared.actor.Actor.TheVariants.{Vcpu, Host, Manager, Worker}
@@ -26,7 +26,7 @@ use Rattle.mmu_core.specs.Histories.{AnswersAreTold, EndsWhole, answers_by}
 use Rattle.mmu_core.specs.Laws.{IsSound}
 use Rattle.mmu_core.specs.Machine.{Legal, May, Step, World, answered, effect, hand_in, run}
 use Rattle.mmu_core.specs.Rests.{Rests}
-use Rattle.mmu_core.specs.Steps.{events_of, line_at, place_at, task_of}
+use Rattle.mmu_core.specs.Steps.{events_of, idle_after, line_at, place_at, task_of}
 use Rattle.mmu_core.specs.View.{View, answer_in, view, word_in}
 use Rattle.mmu_core.specs.Worlds.{IsStart, history}
 use Rattle.mmu_core.proofs.Bounded.{step_falls}
@@ -35,7 +35,13 @@ use Rattle.mmu_core.proofs.Followed.{Follows, begun_count, begun_lines, follows_
 use Rattle.mmu_core.proofs.RestsKept.{hand_rests}
 use Rattle.mmu_core.proofs.Starts.{hand_is, place_of_actor, same_actor, start_good}
 use Rattle.mmu_core.proofs.ToldOf.{answers_by_more, begun_by, begun_by_append}
-use Rattle.mmu_core.proofs.Worlds.{Takes, good_step, takes}
+use Rattle.mmu_core.proofs.Worlds.{Takes, TakesPart, good_step, takes}
+use Rattle.mmu_core.proofs.Which.{events_of_part}
+use Rattle.mmu_core.proofs.PartKept.{with_topics}
+use Rattle.mmu_core.proofs.Columns.{at_upd}
+use Rattle.mmu_core.specs.PartSteps.{own_index, part_task}
+use Rattle.core_views.specs.declared.topics.Topics.{Topics}
+use Rattle.mmu_core.specs.Tasks.{kind_of_task}
 
 -- what a step of a world tells, as its view has it
 step_events : (z : Sizes) (w : World Held) (s : Step Kind) → Takes z w s (hand_in mmu w s.actor)
@@ -45,17 +51,36 @@ step_events z w s T =
     let h : Held = hand_in mmu w s.actor in
     ap (events_of h) T.answers ∙ sym (told_is_events z (view z w) s.actor (line_at h.state.place h) (place_at h.state.place h) T.is_step)
 
+-- a hand with other topics has answered and begun the same
+part_follows : (h g : Held) (t : Topics) → g ≡ with_topics h t → Follows h g []
+part_follows h g t is = subst (λ (x : Held). Follows h x []) (sym is) (record {
+  actor = refl;
+  lines = refl;
+  answers = sym (append-nil h.answers);
+  begun = sym (append-nil (take (begun_lines h) h.lines));
+  numbers = λ n. n;
+})
+
 step_follows : (z : Sizes) (w : World Held) (s : Step Kind) (i : ℕ) → IsSound z w → May mmu w s → i < actors_of z
     → Follows (hand_in mmu w i) (hand_in mmu (effect mmu w s) i) (events_of (hand_in mmu w s.actor) (answered mmu w s.kind))
-step_follows z w s i G may i_in =
-    let h : Held = hand_in mmu w s.actor in
-    let T = takes z w s G may in
-    let there : s.actor < actors_of z = T.is_step.there in
-    let R : Rests h = hand_rests z (view z w) s.actor G.holds there T.is_step.left in
-    let falls = step_falls h.state.place h.state.sizes (line_at h.state.place h).command h.state (answer_in (task_of h) (word_in z w)) R.at in
-    let F = view_follows z (view z w) s.actor (line_at h.state.place h) (place_at h.state.place h) (steps_left h.state.place) i T.is_step falls G.holds i_in in
-    subst (λ (g : Held). Follows (hand_in mmu w i) g (events_of h (answered mmu w s.kind))) (sym (ap (λ (v : View). v.hand i) T.leads))
-    (subst (Follows (hand_in mmu w i) _) (sym (step_events z w s T)) F)
+step_follows z w s i G may i_in = by (takes z w s G may)
+  where
+    h : Held
+    h = hand_in mmu w s.actor
+
+    by : Takes z w s h ⊎ TakesPart z w s h → Follows (hand_in mmu w i) (hand_in mmu (effect mmu w s) i) (events_of h (answered mmu w s.kind))
+    by (inl T) =
+        let there : s.actor < actors_of z = T.is_step.there in
+        let R : Rests h = hand_rests z (view z w) s.actor G.holds G.topics there T.is_step.left in
+        let falls = step_falls h.state.place h.state.sizes (line_at h.state.place h).command h.state (answer_in (task_of h) (word_in z w)) R.at in
+        let F = view_follows z (view z w) s.actor (line_at h.state.place h) (place_at h.state.place h) (steps_left h.state.place) i T.is_step falls G.holds i_in in
+        subst (λ (g : Held). Follows (hand_in mmu w i) g (events_of h (answered mmu w s.kind))) (sym (ap (λ (v : View). v.hand i) T.leads))
+        (subst (Follows (hand_in mmu w i) _) (sym (step_events z w s T)) F)
+    by (inr T) =
+        let t : Topics = (idle_after h (kind_of_task h.state.sizes (part_task T.step (own_index h) h.topics T.note)) (answer_in (part_task T.step (own_index h) h.topics T.note) (word_in z w))).topics in
+        let F = at_upd (λ j (g : Held). Follows (hand_in mmu w j) g []) (hand_in mmu w) s.actor (with_topics h t) (part_follows h (with_topics h t) t refl) (λ j ne. follows_still (hand_in mmu w j) [] refl refl) i in
+        subst (λ (g : Held). Follows (hand_in mmu w i) g (events_of h (answered mmu w s.kind))) (sym (ap (λ (v : View). v.hand i) T.leads))
+        (subst (Follows (hand_in mmu w i) _) (sym (events_of_part h (answered mmu w s.kind) T.none_left)) F)
 
 pub run_follows : (z : Sizes) (w : World Held) (ss : List (Step Kind)) (i : ℕ) → IsSound z w → Legal mmu w ss → i < actors_of z → Follows (hand_in mmu w i) (hand_in mmu (run mmu w ss) i) (history w ss)
 run_follows z w [] i G legal i_in = follows_still (hand_in mmu w i) [] refl refl
@@ -73,19 +98,31 @@ record Silent (actor : Actor) (h : List Event) : Type 0 where
   answers : answers_by actor h ≡ []
   begun : begun_by actor h ≡ []
 
+silent_step : (z : Sizes) (w : World Held) (s : Step Kind) (actor : Actor) → IsSound z w → May mmu w s → Absent z w actor → Silent actor (events_of (hand_in mmu w s.actor) (answered mmu w s.kind))
+silent_step z w s actor G may absent = by (takes z w s G may)
+  where
+    h : Held
+    h = hand_in mmu w s.actor
+
+    by : Takes z w s h ⊎ TakesPart z w s h → Silent actor (events_of h (answered mmu w s.kind))
+    by (inl T) =
+        let apart : is_same actor h.state.actor ≡ false = absent s.actor T.is_step.there in
+        record {
+          answers = ap (answers_by actor) (step_events z w s T) ∙ silent_answers z (view z w) s.actor (line_at h.state.place h) (place_at h.state.place h) actor apart;
+          begun = ap (begun_by actor) (step_events z w s T) ∙ silent_begins z (view z w) s.actor (line_at h.state.place h) (place_at h.state.place h) actor T.is_step.own apart;
+        }
+    by (inr T) = record { answers = ap (answers_by actor) (events_of_part h (answered mmu w s.kind) T.none_left); begun = ap (begun_by actor) (events_of_part h (answered mmu w s.kind) T.none_left) }
+
 run_silent : (z : Sizes) (w : World Held) (ss : List (Step Kind)) (actor : Actor) → IsSound z w → Legal mmu w ss → Absent z w actor → Silent actor (history w ss)
 run_silent z w [] actor G legal absent = record { answers = refl; begun = refl }
 run_silent z w (s ∷ ss) actor G legal absent =
     let h : Held = hand_in mmu w s.actor in
     let es : List Event = events_of h (answered mmu w s.kind) in
-    let T = takes z w s G legal.0 in
-    let apart : is_same actor h.state.actor ≡ false = absent s.actor T.is_step.there in
     let rest = run_silent z (effect mmu w s) ss actor (good_step z w s G legal.0) legal.1 (λ i i_in. ap (is_same actor) (step_follows z w s i G legal.0 i_in).actor ∙ absent i i_in) in
-    let here : answers_by actor es ≡ [] = ap (answers_by actor) (step_events z w s T) ∙ silent_answers z (view z w) s.actor (line_at h.state.place h) (place_at h.state.place h) actor apart in
-    let begins : begun_by actor es ≡ [] = ap (begun_by actor) (step_events z w s T) ∙ silent_begins z (view z w) s.actor (line_at h.state.place h) (place_at h.state.place h) actor T.is_step.own apart in
+    let here = silent_step z w s actor G legal.0 absent in
     record {
-      answers = answers_by_more actor es (history (effect mmu w s) ss) ∙ ap (λ (xs : List AnsweredLine). xs ++ answers_by actor (history (effect mmu w s) ss)) here ∙ rest.answers;
-      begun = begun_by_append actor es (history (effect mmu w s) ss) ∙ ap (λ (xs : List Line). xs ++ begun_by actor (history (effect mmu w s) ss)) begins ∙ rest.begun;
+      answers = answers_by_more actor es (history (effect mmu w s) ss) ∙ ap (λ (xs : List AnsweredLine). xs ++ answers_by actor (history (effect mmu w s) ss)) here.answers ∙ rest.answers;
+      begun = begun_by_append actor es (history (effect mmu w s) ss) ∙ ap (λ (xs : List Line). xs ++ begun_by actor (history (effect mmu w s) ss)) here.begun ∙ rest.begun;
     }
 
 -- behind a start

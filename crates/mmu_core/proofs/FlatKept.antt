@@ -39,6 +39,7 @@ use Rattle.mmu_core.proofs.AccessFlat.{access_goes}
 use Rattle.mmu_core.proofs.Columns.{at_upd}
 use Rattle.mmu_core.proofs.FlatSteps.{Ready, StayLive, StepGoes, under_is}
 use Rattle.mmu_core.proofs.SetSlotFlat.{set_slot_goes}
+use Rattle.mmu_core.proofs.Which.{events_of_line, has_line_is}
 use Rattle.mmu_core.proofs.Stepping.{IsStep}
 use Rattle.mmu_core.proofs.Told.{line_behind, told, told_facts, told_lawful, told_line, told_others}
 
@@ -272,8 +273,8 @@ flat_kept z v f a line command p S I F = case (v.hand a).state.place refl
 -- A step tells what its hand's next step tells.
 pub told_is_events : (z : Sizes) (v : View) (a : ℕ) (line : Line) (p : Place) → IsStep z v a line line.command p
     → told_events v a line line.command p ≡ events_of (v.hand a) (answer_in (task_at p line.command (v.hand a).state) v.words)
-unfolding events_of
-told_is_events z v a line p S = ap (λ l. of_line l p) S.line_is ∙ ap (of_line (line_at (v.hand a).state.place (v.hand a))) (sym S.place_is)
+told_is_events z v a line p S =
+    ap (λ l. of_line l p) S.line_is ∙ ap (of_line (line_at (v.hand a).state.place (v.hand a))) (sym S.place_is) ∙ sym (events_of_line (v.hand a) x (has_line_is (v.hand a) S.left))
   where
     x : ℕ
     x = answer_in (task_at p line.command (v.hand a).state) v.words

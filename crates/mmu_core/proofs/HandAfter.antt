@@ -1,5 +1,6 @@
 -- What one step makes of its actor's hand.
-use Rattle.std.proofs.Common.{◌≡◌, ℕ, refl}
+use Rattle.std.proofs.Common.{◌≡◌, ◌<◌, ℕ, length, refl, sym, subst}
+use Rattle.std.specs.Prelude.{Bool, true, false}
 use Rattle.core_views.specs.declared.hand.State.{State}
 use Rattle.core_views.specs.declared.kind.Kind.{Kind}
 use Rattle.core_views.specs.declared.place.AccessPlace.{AccessPlace}
@@ -19,7 +20,8 @@ use Rattle.mmu_core.specs.AccessSteps.{access_loads}
 use Rattle.mmu_core.specs.SetSlotSteps.{set_slot_loads}
 use Rattle.mmu_core.specs.Bounds.{steps_left}
 use Rattle.mmu_core.specs.Enabled.{Enabled}
-use Rattle.mmu_core.specs.Steps.{loads_at, next, place_at}
+use Rattle.mmu_core.specs.Steps.{has_line, held_after, line_at, loads_at, next, next_by, place_at}
+use Rattle.mmu_core.proofs.Which.{has_line_is, is_next, next_of_line}
 use Rattle.mmu_core.specs.Tasks.{answers_after, place_after}
 use Rattle.mmu_core.specs.Turns.{Comes, IsSameHand, line_of, outcome_of}
 use Rattle.mmu_core.proofs.Bounded.{Falls, step_falls}
@@ -56,9 +58,11 @@ loads_same place.Between command s v = record { actor = refl; sizes = refl }
 
 pub next_same : (h : Held) (k : Kind) (v : ℕ) → IsSameHand h (next h k v)
 unfolding next
-next_same h k v =
-    let same = loads_same (place_at h.state.place h) (line_of h).command h.state v in
-    record { actor = same.actor; sizes = same.sizes; lines = refl }
+next_same h k v = by (has_line h)
+  where
+    by : (b : Bool) → IsSameHand h (next_by b h k v)
+    by true = let same = loads_same (place_at h.state.place h) (line_of h).command h.state v in record { actor = same.actor; sizes = same.sizes; lines = refl }
+    by false = record { actor = refl; sizes = refl; lines = refl }
 
 comes : (o : Outcome) (line : Line) (h g : Held) → Falls (steps_left h.state.place) o → g.state.place ≡ place_after o → g.state.line ≡ line → g.answers ≡ answers_after o line h.answers → Comes o line h g
 comes (Goes p) line h g falls stands line_is answers = record {
@@ -69,7 +73,9 @@ comes (Goes p) line h g falls stands line_is answers = record {
 }
 comes (Ends answer) line h g falls stands line_is answers = record { between = stands; answers = answers }
 
-pub next_comes : (h : Held) (k : Kind) (v : ℕ) → Enabled h k → Comes (outcome_of h v) (line_of h) h (next h k v)
-unfolding next Enabled
-next_comes h k v enabled =
-    comes (outcome_of h v) (line_of h) h (next h k v) (step_falls h.state.place h.state.sizes (line_of h).command h.state v enabled.rests.at) refl refl refl
+pub next_comes : (h : Held) (k : Kind) (v : ℕ) → length h.answers < length h.lines → Enabled h k → Comes (outcome_of h v) (line_of h) h (next h k v)
+next_comes h k v left enabled =
+    let has = has_line_is h left in
+    let N = is_next h k enabled has in
+    subst (Comes (outcome_of h v) (line_of h) h) (sym (next_of_line h k v has))
+    (comes (outcome_of h v) (line_of h) h (held_after (line_at h.state.place h) (place_at h.state.place h) h k v) (step_falls h.state.place h.state.sizes (line_of h).command h.state v N.rests.at) refl refl refl)

@@ -1,5 +1,6 @@
 -- What the steps of one line tell, one behind the other: its begin, events of its own, its answer.
 use Rattle.std.proofs.Common.{◌≡◌, ℕ, List, [], ◌∷◌, ◌++◌, map, refl, sym, ap, ◌∙◌, subst, append_assoc}
+use Rattle.std.specs.Prelude.{true}
 use Rattle.std.proofs.lemmas.List.{append-nil, map-append}
 use Rattle.core_views.specs.declared.actor.Actor.{Actor}
 use Rattle.core_views.specs.declared.answer.Answer.{Answer}
@@ -31,7 +32,8 @@ use Rattle.mmu_core.specs.declared.outcome.Outcome.{Outcome}
 use Rattle.mmu_core.specs.declared.outcome.Outcome.TheVariants.{Goes, Ends}
 use Rattle.mmu_core.specs.AccessSteps.{access_outcome, access_tells, exiting}
 use Rattle.mmu_core.specs.SetSlotSteps.{set_slot_tells}
-use Rattle.mmu_core.specs.Steps.{beginning, event_kinds, events_of, line_at, outcome_at, place_at, tells_at}
+use Rattle.mmu_core.proofs.Which.{events_of_line}
+use Rattle.mmu_core.specs.Steps.{beginning, event_kinds, events_of, has_line, line_at, outcome_at, place_at, tells_at}
 use Rattle.mmu_core.specs.Tasks.{answering}
 
 -- Each of the events stands within a line.
@@ -164,7 +166,8 @@ step_tells_at stood line other actor p hand v told is own so_far =
     (tells_by (outcome_at p line.command hand.state v) stood line told (tells_at p line.command hand.state v) (tells_within p line.command hand.state v) so_far))
 
 -- A step of a hand's line: from its begin on the line tells events of its own, and with the step that ends it, its answer.
-pub step_tells : (hand : Held) (line : Line) (v : ℕ) (told : List Event) → line_at hand.state.place hand ≡ line → hand.state.actor ≡ line.actor → SoFar hand.state.place line told
+pub step_tells : (hand : Held) (line : Line) (v : ℕ) (told : List Event) → has_line hand ≡ true → line_at hand.state.place hand ≡ line → hand.state.actor ≡ line.actor → SoFar hand.state.place line told
     → Tells (outcome_at (place_at hand.state.place hand) (line_at hand.state.place hand).command hand.state v) line (told ++ events_of hand v)
-unfolding events_of
-step_tells hand line v told is own so_far = step_tells_at hand.state.place line (line_at hand.state.place hand) hand.state.actor (place_at hand.state.place hand) hand v told is own so_far
+step_tells hand line v told has is own so_far =
+    subst (λ (es : List Event). Tells (outcome_at (place_at hand.state.place hand) (line_at hand.state.place hand).command hand.state v) line (told ++ es)) (sym (events_of_line hand v has))
+    (step_tells_at hand.state.place line (line_at hand.state.place hand) hand.state.actor (place_at hand.state.place hand) hand v told is own so_far)

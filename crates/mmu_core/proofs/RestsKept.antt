@@ -37,6 +37,8 @@ use Rattle.mmu_core.specs.SetSlotSteps.{published_set, set_slot_task}
 use Rattle.mmu_core.specs.SlotWords.{field_number, may_write, page_of, slot_index}
 use Rattle.mmu_core.specs.Steps.{line_at, place_at, task_at, task_of}
 use Rattle.mmu_core.specs.Tasks.{map_of}
+use Rattle.mmu_core.specs.TopicsInvariant.{TopicsInvariant}
+use Rattle.mmu_core.proofs.Which.{has_line_is}
 use Rattle.mmu_core.specs.View.{View}
 use Rattle.mmu_core.proofs.AccessKept.{in_slot}
 use Rattle.mmu_core.proofs.SetSlotKept.{is_number, not_refused}
@@ -89,14 +91,15 @@ rests_at z v (place.SetSlot (Fill field.Pages)) (SetSlot id slot) s I same e = (
 rests_at z v (place.SetSlot (Fill field.Host)) (SetSlot id slot) s I same e = (not_refused z.pages id slot e.0).0
 rests_at z v (place.SetSlot (Fill field.Flags)) (SetSlot id slot) s I same e = (not_refused z.pages id slot e.0).0
 
-pub hand_rests : (z : Sizes) (v : View) (a : ℕ) → Invariant z v → a < actors_of z → length (v.hand a).answers < length (v.hand a).lines → Rests (v.hand a)
-hand_rests z v a I there left =
+pub hand_rests : (z : Sizes) (v : View) (a : ℕ) → Invariant z v → TopicsInvariant z v → a < actors_of z → length (v.hand a).answers < length (v.hand a).lines → Rests (v.hand a)
+hand_rests z v a I P there left =
     let S = is_step z v a I there left in
     let same = (I.lines a there).sizes in
     record {
       sizes = subst AreSizes (sym same) I.sizes;
       line = subst (λ y. IsCommandFor y (line_at (v.hand a).state.place (v.hand a)).actor (line_at (v.hand a).state.place (v.hand a)).command) (sym same) S.allowed;
       at = rests_at z v (place_at (v.hand a).state.place (v.hand a)) (line_at (v.hand a).state.place (v.hand a)).command (v.hand a).state I same S.holds;
+      topics = P.resting a there (has_line_is (v.hand a) left);
     }
 
 -- There is at most one proof of what a line rests on.

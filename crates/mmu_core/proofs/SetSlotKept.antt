@@ -21,6 +21,7 @@ use Rattle.core_views.specs.declared.trace.Line.{Line}
 use Rattle.core_views.specs.declared.trace.Op.{Op}
 use Rattle.core_views.specs.declared.trace.Slot.{Slot}
 use Rattle.core_views.specs.Flat.{no_line}
+use Rattle.core_views.specs.declared.topics.Topics.{Topics}
 use Rattle.core_views.specs.Held.{Held}
 use Rattle.core_views.specs.Sizes.{actors_of, index_of}
 use Rattle.core_views.specs.Slots.{slot_refusal}
@@ -36,7 +37,7 @@ use Rattle.mmu_core.specs.SetSlotSteps.{published_set, set_slot_loads, set_slot_
 use Rattle.mmu_core.specs.SlotWords.{field_number, live_at, slot_at, slot_index}
 use Rattle.mmu_core.specs.Steps.{next_line}
 use Rattle.mmu_core.specs.Tasks.{answers_after, place_after}
-use Rattle.mmu_core.specs.View.{View, stepped, upd}
+use Rattle.mmu_core.specs.View.{View, hand_after, stepped, upd}
 use Rattle.mmu_core.proofs.AccessKept.{quiet, same_slot}
 use Rattle.mmu_core.proofs.Columns.{at_upd, same_or, upd_other, upd_same}
 use Rattle.mmu_core.proofs.LinesKept.{answers_length, behind, counted_kept, lines_behind}
@@ -130,19 +131,19 @@ empty_set z slots pool other none part = record {
 }
 
 -- The stores before the flags: no slot is live behind them.
-filled : (z : Sizes) (v : View) (a : ℕ) (line : Line) (id : ℕ) (slot : Slot) (f : SlotField) (x : ℕ) (o : Outcome) → IsStep z v a line (SetSlot id slot) (place.SetSlot (Fill f)) → Invariant z v → id ≤ 31 → field_number f < 3
-    → Holds z (upd (v.words area.Pool) (slot_index published_set id f) x) (v.words area.Host) (place_after o) (SetSlot id slot) (behind (v.hand a) line (v.hand a).state o).state
-    → InvariantOf z (v.words area.Slots) (upd (v.words area.Pool) (slot_index published_set id f) x) (v.words area.Host) (v.words area.Linear) (upd v.hand a (behind (v.hand a) line (v.hand a).state o))
-filled z v a line id slot f x o S I low not_flags holds =
+filled : (z : Sizes) (v : View) (a : ℕ) (line : Line) (id : ℕ) (slot : Slot) (f : SlotField) (x : ℕ) (o : Outcome) (t : Topics) → IsStep z v a line (SetSlot id slot) (place.SetSlot (Fill f)) → Invariant z v → id ≤ 31 → field_number f < 3
+    → Holds z (upd (v.words area.Pool) (slot_index published_set id f) x) (v.words area.Host) (place_after o) (SetSlot id slot) (behind (v.hand a) line (v.hand a).state o t).state
+    → InvariantOf z (v.words area.Slots) (upd (v.words area.Pool) (slot_index published_set id f) x) (v.words area.Host) (v.words area.Linear) (upd v.hand a (behind (v.hand a) line (v.hand a).state o t))
+filled z v a line id slot f x o t S I low not_flags holds =
     let h : Held = v.hand a in
     let O = I.lines a S.there in
     let other : ℕ → ℕ = upd (v.words area.Pool) (slot_index published_set id f) x in
     let none = no_slot_live z v a line id slot f S I in
     let after_ = none_live (v.words area.Pool) id x f low not_flags none in
-    stored z v a other (behind h line h.state o) S.there none I (sym S.own ∙ setting_is_managers z line.actor id slot S.allowed)
+    stored z v a other (behind h line h.state o t) S.there none I (sym S.own ∙ setting_is_managers z line.actor id slot S.allowed)
     (empty_set z (v.words area.Slots) (v.words area.Pool) other after_ I.set)
-    (lines_behind z a h line h.state o O S.next S.left O.sizes refl (λ e. counted_kept o line h.lines h.answers (O.counted e)))
-    (subst (λ c. Holds z other (v.words area.Host) (place_after o) c (behind h line h.state o).state) (sym S.command_is) holds)
+    (lines_behind z a h line h.state o t O S.next S.left O.sizes refl (λ e. counted_kept o line h.lines h.answers (O.counted e)))
+    (subst (λ c. Holds z other (v.words area.Host) (place_after o) c (behind h line h.state o t).state) (sym S.command_is) holds)
     (λ is unset j below. after_ j below)
 
 pub not_refused : (pages id : ℕ) (slot : Slot) → slot_refusal pages id slot ≡ None → (id ≤ 31) × (slot.host + slot.pages ≤ pages)
@@ -161,23 +162,23 @@ counted_here zero (line ∷ lines) lt sets = rw sets (omega arith)
 counted_here (suc n) (line ∷ lines) lt sets = let more = counted_here n lines (omega arith) sets in omega (arith, more)
 
 -- The flags are stored: the slot is live, and no other.
-flags_stored : (z : Sizes) (v : View) (a : ℕ) (line : Line) (id : ℕ) (slot : Slot) (s : State) (o : Outcome) → IsStep z v a line (SetSlot id slot) (place.SetSlot (Fill field.Flags)) → Invariant z v
+flags_stored : (z : Sizes) (v : View) (a : ℕ) (line : Line) (id : ℕ) (slot : Slot) (s : State) (o : Outcome) (t : Topics) → IsStep z v a line (SetSlot id slot) (place.SetSlot (Fill field.Flags)) → Invariant z v
     → s.sizes ≡ (v.hand a).state.sizes → s.actor ≡ (v.hand a).state.actor → s.has_set_slot ≡ true
     → (1 ≤ settings (take (length (answers_after o line (v.hand a).answers)) (v.hand a).lines)) → Holds z (v.words area.Pool) (v.words area.Host) (place_after o) (SetSlot id slot) s → place_after o ≡ place.Between
-    → InvariantOf z (v.words area.Slots) (upd (v.words area.Pool) (slot_index published_set id field.Flags) (flags_word true slot.read_only false)) (v.words area.Host) (v.words area.Linear) (upd v.hand a (behind (v.hand a) line s o))
-flags_stored z v a line id slot s o S I sizes actor set counted holds between =
+    → InvariantOf z (v.words area.Slots) (upd (v.words area.Pool) (slot_index published_set id field.Flags) (flags_word true slot.read_only false)) (v.words area.Host) (v.words area.Linear) (upd v.hand a (behind (v.hand a) line s o t))
+flags_stored z v a line id slot s o t S I sizes actor set counted holds between =
     let h : Held = v.hand a in
     let O = I.lines a S.there in
     let may = not_refused z.pages id slot S.holds.0 in
     let none = no_slot_live z v a line id slot field.Flags S I in
-    stored z v a other (behind h line s o) S.there none I (sym S.own ∙ setting_is_managers z line.actor id slot S.allowed)
+    stored z v a other (behind h line s o t) S.there none I (sym S.own ∙ setting_is_managers z line.actor id slot S.allowed)
     (record {
       published = I.set.published;
       fits = λ j below live. let same : j ≡ id = one j below live in subst (λ (x : Slot). x.host + x.pages ≤ z.pages) (sym (ap (slot_at other published_set) same ∙ now_slot)) may.1;
       one = λ i j below under live more. one i below live ∙ sym (one j under more);
     })
-    (lines_behind z a h line s o O S.next S.left (sizes ∙ O.sizes) actor (λ e. counted))
-    (subst (λ q. Holds z other (v.words area.Host) q line.command (behind h line s o).state) (sym between) tt)
+    (lines_behind z a h line s o t O S.next S.left (sizes ∙ O.sizes) actor (λ e. counted))
+    (subst (λ q. Holds z other (v.words area.Host) q line.command (behind h line s o t).state) (sym between) tt)
     (λ is unset. absurd (cc (set, unset)))
   where
     other : ℕ → ℕ
@@ -211,22 +212,23 @@ set_slot_kept z v a line (Refuse refusal) id slot S I =
     let h : Held = v.hand a in
     let O = I.lines a S.there in
     let o : Outcome = set_slot_outcome (Refuse refusal) in
-    quiet z (v.words area.Slots) (v.words area.Pool) (v.words area.Host) (v.words area.Linear) v.hand a (behind h line h.state o)
-    (lines_behind z a h line h.state o O S.next S.left O.sizes refl (λ e. counted_kept o line h.lines h.answers (O.counted e)))
+    let t : Topics = (hand_after line (SetSlot id slot) (place.SetSlot (Refuse refusal)) h (v.words area.Seq 0)).topics in
+    quiet z (v.words area.Slots) (v.words area.Pool) (v.words area.Host) (v.words area.Linear) v.hand a (behind h line h.state o t)
+    (lines_behind z a h line h.state o t O S.next S.left O.sizes refl (λ e. counted_kept o line h.lines h.answers (O.counted e)))
     tt (I.unset a S.there) I
 set_slot_kept z v a line (Fill field.Base) id slot S I =
     let may = not_refused z.pages id slot S.holds in
-    filled z v a line id slot field.Base slot.base (set_slot_outcome (Fill field.Base)) S I may.0 (omega arith) (S.holds, upd_same (v.words area.Pool) (slot_index published_set id field.Base) slot.base)
+    filled z v a line id slot field.Base slot.base (set_slot_outcome (Fill field.Base)) (hand_after line (SetSlot id slot) (place.SetSlot (Fill field.Base)) (v.hand a) slot.base).topics S I may.0 (omega arith) (S.holds, upd_same (v.words area.Pool) (slot_index published_set id field.Base) slot.base)
 set_slot_kept z v a line (Fill field.Pages) id slot S I =
     let may = not_refused z.pages id slot S.holds.0 in
-    filled z v a line id slot field.Pages slot.pages (set_slot_outcome (Fill field.Pages)) S I may.0 (omega arith) (
+    filled z v a line id slot field.Pages slot.pages (set_slot_outcome (Fill field.Pages)) (hand_after line (SetSlot id slot) (place.SetSlot (Fill field.Pages)) (v.hand a) slot.pages).topics S I may.0 (omega arith) (
       S.holds.0,
       upd_other (v.words area.Pool) (slot_index published_set id field.Pages) (slot_index published_set id field.Base) slot.pages (λ e. let t = same_field id id field.Base field.Pages may.0 may.0 e in omega (arith, t.1)) ∙ S.holds.1,
       upd_same (v.words area.Pool) (slot_index published_set id field.Pages) slot.pages,
     )
 set_slot_kept z v a line (Fill field.Host) id slot S I =
     let may = not_refused z.pages id slot S.holds.0 in
-    filled z v a line id slot field.Host slot.host (set_slot_outcome (Fill field.Host)) S I may.0 (omega arith) (
+    filled z v a line id slot field.Host slot.host (set_slot_outcome (Fill field.Host)) (hand_after line (SetSlot id slot) (place.SetSlot (Fill field.Host)) (v.hand a) slot.host).topics S I may.0 (omega arith) (
       S.holds.0,
       upd_other (v.words area.Pool) (slot_index published_set id field.Host) (slot_index published_set id field.Base) slot.host (λ e. let t = same_field id id field.Base field.Host may.0 may.0 e in omega (arith, t.1)) ∙ S.holds.1,
       upd_other (v.words area.Pool) (slot_index published_set id field.Host) (slot_index published_set id field.Pages) slot.host (λ e. let t = same_field id id field.Pages field.Host may.0 may.0 e in omega (arith, t.1)) ∙ S.holds.2,
@@ -235,7 +237,7 @@ set_slot_kept z v a line (Fill field.Host) id slot S I =
 set_slot_kept z v a line (Fill field.Flags) id slot S I =
     let h : Held = v.hand a in
     let o : Outcome = set_slot_outcome (Fill field.Flags) in
-    flags_stored z v a line id slot (set_slot_loads (Fill field.Flags) h.state) o S I refl refl refl
+    flags_stored z v a line id slot (set_slot_loads (Fill field.Flags) h.state) o (hand_after line (SetSlot id slot) (place.SetSlot (Fill field.Flags)) h (flags_word true slot.read_only false)).topics S I refl refl refl
     (subst (λ n. 1 ≤ settings (take n h.lines)) (sym (answers_length h.answers (record { number = line.number; actor = line.actor; answer = Done })))
     (counted_here (length h.answers) h.lines S.left (ap (λ (l : Line). sets_slot l.command) (sym S.next) ∙ ap sets_slot S.command_is)))
     tt refl

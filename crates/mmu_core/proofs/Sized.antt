@@ -1,5 +1,5 @@
 -- The sizes of a machine stay as they are in each hand, and the words and hands are as many as the sizes say.
-use Rattle.std.proofs.Common.{◌≡◌, ◌<◌, ℕ, zero, suc, List, [], ◌∷◌, All, length, length-append, refl, ◌∙◌, ap, subst, sym, arith}
+use Rattle.std.proofs.Common.{◌≡◌, ◌<◌, ◌⊎◌, inl, inr, ℕ, zero, suc, List, [], ◌∷◌, All, length, length-append, refl, ◌∙◌, ap, subst, sym, arith}
 use Rattle.std.proofs.lemmas.List.Elements.{All-append, All-cons, All-get_or, All-nil, All-set}
 use Rattle.core_views.specs.declared.hand.State.{State}
 use Rattle.core_views.specs.declared.kind.Kind.{Kind}
@@ -17,12 +17,18 @@ use Rattle.core_views.specs.declared.trace.Line.{Line}
 use Rattle.core_views.specs.Held.{Held, first_held}
 use Rattle.core_views.specs.Sizes.{actor_at, actors_of}
 use Rattle.core_views.specs.Whole.{lines_of}
-use Rattle.spte_words.specs.Areas.{total}
+use Rattle.std.specs.Prelude.{Bool, true, false}
+use Rattle.spte_words.specs.declared.area.Area.{Area}
+use Rattle.spte_words.specs.Areas.{size_of, total}
+use Rattle.spte_words.proofs.Places.{place_below}
+use Rattle.mmu_core.specs.declared.outcome.Task.{Task}
+use Rattle.mmu_core.specs.PartSteps.{own_index, part_task}
+use Rattle.mmu_core.proofs.PartIndex.{index_same}
 use Rattle.mmu_core.specs.AccessSteps.{access_loads}
-use Rattle.mmu_core.specs.Enabled.{Enabled, mmu}
+use Rattle.mmu_core.specs.Enabled.{Enabled, IsNext, IsPartStep, mmu}
 use Rattle.mmu_core.specs.Machine.{World, Step, effect, run, hand_in, May, Legal, Leads}
 use Rattle.mmu_core.specs.SetSlotSteps.{set_slot_loads}
-use Rattle.mmu_core.specs.Steps.{loads_at, next}
+use Rattle.mmu_core.specs.Steps.{has_line, line_at, loads_at, next, next_by, place_at}
 use Rattle.mmu_core.specs.Tasks.{map_of}
 use Rattle.mmu_core.specs.Worlds.{IsStart, Reachable, start_hands}
 use Rattle.mmu_core.proofs.Extend.{as_many_hands, as_many_words}
@@ -55,7 +61,11 @@ loads_keep_sizes (place.SetSlot p) (SetSlot id slot) s v = set_slot_keeps_sizes 
 -- A step leaves the sizes in its hand.
 pub next_keeps_sizes : (h : Held) (k : Kind) (v : ℕ) → (next h k v).state.sizes ≡ h.state.sizes
 unfolding next
-next_keeps_sizes h k v = loads_keep_sizes _ _ h.state v
+next_keeps_sizes h k v = by (has_line h)
+  where
+    by : (b : Bool) → (next_by b h k v).state.sizes ≡ h.state.sizes
+    by true = loads_keep_sizes (place_at h.state.place h) (line_at h.state.place h).command h.state v
+    by false = refl
 
 -- The hand is of a machine of these sizes.
 abbrev HasSizes : Sizes → Held → Type 0
@@ -96,9 +106,22 @@ reached_has_sizes w r actor there =
     let all : All (HasSizes r.sizes) w.hands = subst (λ (x : World Held). All (HasSizes r.sizes) x.hands) r.leads.ends (run_keeps_sizes r.sizes r.start r.leads.steps r.leads.legal start) in
     All-get_or (HasSizes r.sizes) w.hands actor mmu.nobody there all
 
+-- A step of a part is at one of the words.
+part_inside : (h : Held) (k : Kind) → IsPartStep h k → k.word < total (map_of h.state.sizes)
+part_inside h k N =
+    let t : Task = part_task N.step (own_index h) h.topics N.note in
+    let at = index_same N.step (own_index h) h.topics N.note in
+    let within : t.index < size_of (map_of h.state.sizes) t.area = subst (λ (b : Area). t.index < size_of (map_of h.state.sizes) b) (sym at.1) (subst (λ i. i < size_of (map_of h.state.sizes) (part_task N.step (own_index h) h.topics 0).area) (sym at.0) N.within) in
+    subst (λ (x : Kind). x.word < total (map_of h.state.sizes)) (sym N.is) (place_below (map_of h.state.sizes) t.area t.index within)
+
 -- A step that a reachable world's hand allows is at one of its words.
 pub enabled_inside : (w : World Held) (r : Reachable w) (actor : ℕ) (k : Kind) → actor < length w.hands → Enabled (hand_in mmu w actor) k → k.word < length w.words
 unfolding Enabled
 enabled_inside w r actor k there enabled =
     let size = ap (λ z. total (map_of z)) (reached_has_sizes w r actor there) in
-    omega (arith, enabled.inside, size, as_many_as_mapped r.sizes r.lines r.start w r.is_start r.leads)
+    let count = as_many_as_mapped r.sizes r.lines r.start w r.is_start r.leads in
+    by enabled size count
+  where
+    by : IsNext (hand_in mmu w actor) k ⊎ IsPartStep (hand_in mmu w actor) k → total (map_of (hand_in mmu w actor).state.sizes) ≡ total (map_of r.sizes) → length w.words ≡ total (map_of r.sizes) → k.word < length w.words
+    by (inl e) size count = omega (arith, e.inside, size, count)
+    by (inr e) size count = let inside = part_inside (hand_in mmu w actor) k e in omega (arith, inside, size, count)

@@ -1,11 +1,10 @@
 -- The invariant holds of every start, and so of every world that is reached.
-use Rattle.std.proofs.Common.{◌≡◌, ◌≢◌, inl, ◌<◌, ◌≤◌, ◌+◌, ◌-◌, ◌*◌, ◌^◌, ℕ, zero, suc, List, [], ◌∷◌, ◌++◌, length, length-append, get_or, refl, sym, subst, ap, ◌∙◌, arith}
+use Rattle.std.proofs.Common.{◌≡◌, ◌≢◌, inl, ◌<◌, ◌≤◌, ◌+◌, ◌-◌, ◌*◌, ◌^◌, ℕ, zero, suc, List, [], ◌∷◌, length, get_or, refl, sym, subst, ap, ◌∙◌, arith}
 use Rattle.std.proofs.Math.Logic.{∥∥₁_elim}
 use Rattle.std.proofs.Math.Pow.{pow_mono}
 use Rattle.std.proofs.lemmas.Bool.Decides.{nat_tests, Decides-eqb}
-use Rattle.std.proofs.lemmas.List.{get_or_append_left}
 use Rattle.std.proofs.lemmas.Nat.{pow_pos}
-use Rattle.std.specs.Prelude.{All, Bool, true, false, ◌==◌, nat_le, nat_lt, if◌then◌else◌, slice_index}
+use Rattle.std.specs.Prelude.{All, Bool, true, false, ◌==◌, nat_lt, if◌then◌else◌, slice_index}
 use Rattle.core_views.specs.declared.actor.Actor.{Actor}
 use Rattle.core_views.specs.declared.actor.Actor.TheVariants.{Vcpu, Host, Manager, Worker}
 use Rattle.core_views.specs.declared.sizes.Sizes.{Sizes}
@@ -17,34 +16,27 @@ use Rattle.core_views.specs.Traces.{IsCommandFor, settings}
 use Rattle.core_views.specs.Whole.{lines_of}
 use Rattle.spte_words.specs.declared.area.Area.{Area}
 use Rattle.spte_words.specs.declared.area.Area.TheVariants as area
-use Rattle.spte_words.specs.Areas.{place, size_of}
+use Rattle.spte_words.specs.Areas.{size_of}
 use Rattle.spte_words.specs.Entries.{absent_word}
 use Rattle.spte_words.specs.Flags.{flags_live}
 use Rattle.spte_words.specs.HostWords.{host_word}
 use Rattle.spte_words.specs.Areas.{StandsSomewhere}
 use Rattle.spte_words.proofs.Places.{word_stands}
 use Rattle.spte_words.proofs.ReadsHost.{host_fits}
-use Rattle.mmu_core.specs.Enabled.{mmu}
 use Rattle.mmu_core.specs.Invariant.{Holds, OwnLines}
-use Rattle.mmu_core.specs.Machine.{World, hand_in}
+use Rattle.mmu_core.specs.Machine.{World}
 use Rattle.mmu_core.specs.Rests.{Rests}
 use Rattle.mmu_core.specs.SetSlotSteps.{published_set}
 use Rattle.mmu_core.specs.SlotWords.{live_at}
-use Rattle.mmu_core.specs.Steps.{nobody}
 use Rattle.mmu_core.specs.Tasks.{map_of}
 use Rattle.mmu_core.specs.View.{view, word_in}
-use Rattle.mmu_core.specs.Worlds.{AreStartWords, HandReached, IsStart, Reachable, free_bits, least, start_hands, start_word}
+use Rattle.mmu_core.specs.Worlds.{AreStartWords, HandReached, IsStart, Reachable, free_bits, least, start_word}
+pub use Rattle.mmu_core.proofs.StartWords.{hand_is, word_at_start}
+use Rattle.mmu_core.proofs.StartWords.{hands_count, least_low, pool_word}
+use Rattle.mmu_core.proofs.StartTopics.{start_topics}
 use Rattle.mmu_core.proofs.RestsKept.{hand_rests, rests_prop}
 use Rattle.mmu_core.specs.Laws.{IsSound}
 use Rattle.mmu_core.proofs.Worlds.{good_run}
-
--- each word at the start, behind its area's end too where its start word is 0
-pub word_at_start : (z : Sizes) (w : World Held) (a : Area) (i x : ℕ) → AreStartWords z w.words → (i < size_of (map_of z) a → start_word z a i ≡ x) → (nat_lt i (size_of (map_of z) a) ≡ false → 0 ≡ x) → word_in z w a i ≡ x
-word_at_start z w a i x start inside outside = by (nat_lt i (size_of (map_of z) a)) (λ e. grind (arith, nat_tests)) (λ e. outside e)
-  where
-    by : (b : Bool) → (b ≡ true → i < size_of (map_of z) a) → (b ≡ false → 0 ≡ x) → (if b then slice_index w.words (place (map_of z) a i) else 0) ≡ x
-    by true lt none = start.each a i (lt refl) ∙ inside (lt refl)
-    by false lt none = none refl
 
 below : (a b : ℕ) → a < b → nat_lt a b ≡ true
 below a b lt = grind (arith, nat_tests)
@@ -57,35 +49,8 @@ absent_is_0 : absent_word ≡ 0
 unfolding absent_word
 absent_is_0 = refl
 
-pool_word : (z : Sizes) (w : World Held) (i : ℕ) → AreStartWords z w.words → word_in z w area.Pool i ≡ 0
-pool_word z w i start = word_at_start z w area.Pool i 0 start (λ lt. refl) (λ e. refl)
-
 pub none_live : (z : Sizes) (w : World Held) (id : ℕ) → AreStartWords z w.words → live_at (word_in z w area.Pool) published_set id ≡ false
 none_live z w id start = ap flags_live (pool_word z w _ start) ∙ no_flags
-
--- the hands at the start
-hands_count : (z : Sizes) (lines : List Line) (n : ℕ) → length (start_hands z lines n) ≡ n
-hands_count z lines zero = refl
-hands_count z lines (suc n) = length-append (start_hands z lines n) _ ∙ ap (λ m. m + 1) (hands_count z lines n) ∙ omega arith
-
-get_last : (xs : List Held) (y : Held) (d : Held) → get_or (xs ++ y ∷ []) (length xs) d ≡ y
-get_last [] y d = refl
-get_last (x ∷ xs) y d = get_last xs y d
-
-hand_at : (z : Sizes) (lines : List Line) (n i : ℕ) → i < n → get_or (start_hands z lines n) i nobody ≡ first_held z (actor_at z i) (lines_of (actor_at z i) lines)
-hand_at z lines zero i lt = absurd (omega arith)
-hand_at z lines (suc n) i lt = by (λ l. hand_at z lines n i l) (i == n) (λ e. (Decides-eqb i n).0 e) (λ e. grind (arith, nat_tests))
-  where
-    count : length (start_hands z lines n) ≡ n
-    count = hands_count z lines n
-
-    by : (i < n → get_or (start_hands z lines n) i nobody ≡ first_held z (actor_at z i) (lines_of (actor_at z i) lines)) → (b : Bool) → (b ≡ true → i ≡ n) → (b ≡ false → i < n)
-        → get_or (start_hands z lines (suc n)) i nobody ≡ first_held z (actor_at z i) (lines_of (actor_at z i) lines)
-    by before true same less =
-        subst (λ k. get_or (start_hands z lines (suc n)) k nobody ≡ first_held z (actor_at z k) (lines_of (actor_at z k) lines)) (sym (same refl))
-        (subst (λ k. get_or (start_hands z lines n ++ first_held z (actor_at z n) (lines_of (actor_at z n) lines) ∷ []) k nobody ≡ first_held z (actor_at z n) (lines_of (actor_at z n) lines)) count
-        (get_last (start_hands z lines n) (first_held z (actor_at z n) (lines_of (actor_at z n) lines)) nobody))
-    by before false same less = get_or_append_left (start_hands z lines n) _ nobody i (subst (λ m. i < m) (sym count) (less refl)) ∙ before (less refl)
 
 -- The place of the actor at a place is that place.
 pub place_of_actor : (z : Sizes) (i : ℕ) → i < actors_of z → index_of z (actor_at z i) ≡ i
@@ -158,9 +123,6 @@ chosen_settings actor (line ∷ lines) = by (chosen_settings actor lines) (is_sa
     by rest true = omega (arith, rest)
     by rest false = omega (arith, rest)
 
-pub hand_is : (z : Sizes) (lines : List Line) (w : World Held) (i : ℕ) → IsStart z lines w → i < actors_of z → hand_in mmu w i ≡ first_held z (actor_at z i) (lines_of (actor_at z i) lines)
-hand_is z lines w i start lt = ap (λ (hs : List Held). get_or hs i nobody) start.hands ∙ hand_at z lines (actors_of z) i lt
-
 first_lines : (z : Sizes) (lines : List Line) (w : World Held) (i : ℕ) → IsStart z lines w → i < actors_of z → OwnLines z i (first_held z (actor_at z i) (lines_of (actor_at z i) lines))
 first_lines z lines w i start lt =
     let actor : Actor = actor_at z i in
@@ -178,13 +140,6 @@ first_lines z lines w i start lt =
 -- every word at the start is a number below 2 ^ 64
 power_small : (a : ℕ) → a ≤ 64 → 2 ^ a ≤ 2 ^ 64
 power_small a le = pow_mono le
-
-least_low : (a b : ℕ) → least a b ≤ a
-least_low a b = by (nat_le a b) (λ e. grind (arith, nat_tests))
-  where
-    by : (c : Bool) → (c ≡ false → b ≤ a) → (if c then a else b) ≤ a
-    by true le = omega arith
-    by false le = le refl
 
 bits_small : (first count i : ℕ) → free_bits first count i < 2 ^ 64
 bits_small first count i =
@@ -253,6 +208,7 @@ start_good z lines w start = record {
     loads = λ i lt. subst (λ (h : Held). Holds z (word_in z w area.Pool) (word_in z w area.Host) h.state.place h.state.line.command h.state) (sym (hand_is z lines w i start lt)) tt;
     unset = λ i lt is none id low. none_live z w id start.words;
   };
+  topics = start_topics z lines w start;
 }
 
 pub reached_good : (w : World Held) (r : Reachable w) → IsSound r.sizes w
@@ -265,4 +221,4 @@ reached_rests h reached left = ∥∥₁_elim reached (rests_prop h) (λ x. rest
     rests_of x =
         let G = reached_good x.world x.reached in
         let there = subst (λ n. x.actor < n) G.hands x.there in
-        subst Rests x.has (hand_rests x.reached.sizes (view x.reached.sizes x.world) x.actor G.holds there (subst (λ (g : Held). length g.answers < length g.lines) (sym x.has) left))
+        subst Rests x.has (hand_rests x.reached.sizes (view x.reached.sizes x.world) x.actor G.holds G.topics there (subst (λ (g : Held). length g.answers < length g.lines) (sym x.has) left))

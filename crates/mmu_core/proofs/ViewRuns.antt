@@ -18,7 +18,8 @@ use Rattle.mmu_core.specs.View.{View, stepped, view}
 use Rattle.mmu_core.specs.Worlds.{history}
 use Rattle.mmu_core.proofs.CanStep.{may_step}
 use Rattle.mmu_core.proofs.FlatKept.{told_events, told_is_events}
-use Rattle.mmu_core.proofs.Worlds.{good_step, takes}
+use Rattle.mmu_core.proofs.Worlds.{good_step, takes_line}
+use Rattle.mmu_core.proofs.Which.{has_line_is, is_next}
 
 -- the words and hands behind the actor's next step, and what it tells
 abbrev pub turned : View → ℕ → View
@@ -77,7 +78,7 @@ turns_are z w [] G have = (tt, refl)
 turns_are z w (a ∷ actors) G have =
     let h : Held = hand_in mmu w a in
     let may = may_step z w a G have.0 have.1 in
-    let T = takes z w (next_step z w a) G may in
+    let T = takes_line z w (next_step z w a) G may (is_next h (next_step z w a).kind may.enabled (has_line_is h have.1.left)) in
     let rest = turns_are z (effect mmu w (next_step z w a)) actors (good_step z w (next_step z w a) G may) (subst (λ (v : View). HaveLines z v actors) (sym T.leads) have.2) in
     let here : events_of h (answered mmu w (next_step z w a).kind) ≡ tells (view z w) a = ap (events_of h) T.answers ∙ sym (told_is_events z (view z w) a (line_at h.state.place h) (place_at h.state.place h) T.is_step) in (
       (may, rest.0),

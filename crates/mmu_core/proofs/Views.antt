@@ -70,6 +70,17 @@ read_set m words area other i j x lt count = by (eqb_tells (number_of other) (nu
 
 -- the operation of a kind, by its number
 operation_is : (k : StepKind) → operation_of_code (code_of k) ≡ operation_of k
+operation_is kind.Enter = refl
+operation_is kind.Leave = refl
+operation_is kind.Begin = refl
+operation_is kind.End = refl
+operation_is kind.Share = refl
+operation_is kind.Unshare = refl
+operation_is kind.Exclude = refl
+operation_is kind.Release = refl
+operation_is kind.Claim = refl
+operation_is kind.Give = refl
+operation_is kind.Watch = refl
 operation_is kind.Walk = refl
 operation_is kind.Read = refl
 operation_is kind.Write = refl
@@ -98,6 +109,12 @@ words_behind m words operation.Store area other i j expected written lt count = 
 words_behind m words operation.Swap area other i j expected written lt count = read_set m words area other i j written lt count
 words_behind m words operation.FetchAdd area other i j expected written lt count =
     read_set m words area other i j _ lt count ∙ ap (λ n. put (read m words) area i (word_after operation.FetchAdd expected written n) other j) (sym (read_inside m words area i lt))
+words_behind m words operation.FetchSub area other i j expected written lt count =
+    read_set m words area other i j _ lt count ∙ ap (λ n. put (read m words) area i (word_after operation.FetchSub expected written n) other j) (sym (read_inside m words area i lt))
+words_behind m words operation.FetchAnd area other i j expected written lt count =
+    read_set m words area other i j _ lt count ∙ ap (λ n. put (read m words) area i (word_after operation.FetchAnd expected written n) other j) (sym (read_inside m words area i lt))
+words_behind m words operation.FetchOr area other i j expected written lt count =
+    read_set m words area other i j _ lt count ∙ ap (λ n. put (read m words) area i (word_after operation.FetchOr expected written n) other j) (sym (read_inside m words area i lt))
 words_behind m words operation.CompareExchange area other i j expected written lt count =
     read_set m words area other i j _ lt count ∙ ap (λ n. put (read m words) area i (word_after operation.CompareExchange expected written n) other j) (sym (read_inside m words area i lt))
 

@@ -14,6 +14,7 @@ use Rattle.mmu_core.specs.Enabled.{mmu}
 use Rattle.mmu_core.specs.Invariant.{Invariant}
 use Rattle.mmu_core.specs.Machine.{Legal, Step, World, run}
 use Rattle.mmu_core.specs.Tasks.{map_of}
+use Rattle.mmu_core.specs.TopicsInvariant.{TopicsInvariant}
 use Rattle.mmu_core.specs.View.{view, word_in}
 use Rattle.mmu_core.specs.Worlds.{IsStart, history}
 
@@ -23,13 +24,14 @@ pub record NoneOpened (words : Area → ℕ → ℕ) : Type 0 where
   pub count : words area.Count 0 ≡ 0
 
 -- The words and hands are as many as the machine has, each word is a number below 2 ^ 64, no invalidation was opened, and every part
--- of the invariant holds.
+-- of the invariant holds: what lines rest on, and what is held of the machine's parts.
 pub record IsSound (z : Sizes) (w : World Held) : Type 0 where
   pub words : length w.words ≡ total (map_of z)
   pub hands : length w.hands ≡ actors_of z
   pub small : (i : ℕ) → slice_index w.words i < 2 ^ 64
   pub none_opened : NoneOpened (word_in z w)
   pub holds : Invariant z (view z w)
+  pub topics : TopicsInvariant z (view z w)
 
 -- The world behind every list of steps is sound.
 abbrev pub StaysSound : Type 0

@@ -3,6 +3,9 @@ pub mod Tasks
 pub mod SlotWords
 pub mod AccessSteps
 pub mod SetSlotSteps
+pub mod TopicSteps
+pub mod PartSteps
+pub mod PartTopics
 pub mod Steps
 pub mod Rests
 pub mod Enabled
@@ -22,3 +25,13 @@ pub mod LeavesPart
 pub mod LinesPart
 pub mod LoadsPart
 pub mod UnsetPart
+pub mod Sums
+pub mod LockPart
+pub mod StatesPart
+pub mod PoolPart
+pub mod HeldPart
+pub mod TopicsInvariant
+pub mod PartRests
+pub mod OthersRest
+pub mod Grace
+pub mod Scans

@@ -15,6 +15,7 @@ use Rattle.core_views.specs.Traces.{IsCommandFor}
 use Rattle.spte_words.specs.Entries.{frame_in}
 use Rattle.spte_words.specs.HostWords.{host_frame}
 use Rattle.mmu_core.specs.SlotWords.{page_of}
+use Rattle.mmu_core.specs.PartSteps.{IsAtRest}
 use Rattle.mmu_core.specs.Steps.{line_at, place_at}
 
 -- The guest frame is one of the slot found, and the host page behind it is one of the machine's.
@@ -62,3 +63,4 @@ pub record Rests (h : Held) : Type 0 where
   pub sizes : AreSizes h.state.sizes
   pub line : IsCommandFor h.state.sizes (line_at h.state.place h).actor (line_at h.state.place h).command
   pub at : RestsAt (place_at h.state.place h) (line_at h.state.place h).command h.state
+  pub topics : IsAtRest h.topics

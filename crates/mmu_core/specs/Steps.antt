@@ -1,5 +1,5 @@
 -- What each form of line does, put together: the step that a hand allows, and the hand after it.
-use Rattle.std.specs.Prelude.{ℕ, List, [], ◌∷◌, ◌++◌, length, map, slice_get, unwrap_or}
+use Rattle.std.specs.Prelude.{ℕ, Bool, true, false, List, [], ◌∷◌, ◌++◌, length, map, nat_lt, slice_get, unwrap_or}
 use Rattle.core_views.specs.declared.actor.Actor.TheVariants.{Manager}
 use Rattle.core_views.specs.declared.event.Event.{Event}
 use Rattle.core_views.specs.declared.event.EventKind.{EventKind}
@@ -22,6 +22,7 @@ use Rattle.mmu_core.specs.declared.outcome.Task.{Task}
 use Rattle.mmu_core.specs.AccessSteps.{access_loads, access_outcome, access_task, access_tells}
 use Rattle.mmu_core.specs.SetSlotSteps.{set_slot_first, set_slot_loads, set_slot_outcome, set_slot_task, set_slot_tells}
 use Rattle.mmu_core.specs.Tasks.{answering, answers_after, no_task, place_after}
+use Rattle.mmu_core.specs.TopicSteps.{topics_after}
 
 -- the first of a hand's lines that has no answer
 abbrev pub next_line : Held → Line
@@ -76,17 +77,39 @@ tells_at _ _ s v = []
 abbrev pub task_of : Held → Task
 task_of h = task_at (place_at h.state.place h) (line_at h.state.place h).command h.state
 
--- the hand after a step of this line, at this place, that found v
-abbrev pub held_after : Line → Place → Held → ℕ → Held
-held_after line p h v = record {
+-- the hand after a step of this line, at this place, that found v, but for its topics
+abbrev pub line_after : Line → Place → Held → ℕ → Held
+line_after line p h v = record {
   state = record (loads_at p line.command h.state v) { line = line; place = place_after (outcome_at p line.command h.state v) };
+  topics = h.topics;
   lines = h.lines;
   answers = answers_after (outcome_at p line.command h.state v) line h.answers;
 }
 
--- the hand after its next step, which answered v
+-- the hand after a step of this line
+abbrev pub held_after : Line → Place → Held → Kind → ℕ → Held
+held_after line p h k v = record {
+  state = record (loads_at p line.command h.state v) { line = line; place = place_after (outcome_at p line.command h.state v) };
+  topics = topics_after h.state.sizes k h.topics v;
+  lines = h.lines;
+  answers = answers_after (outcome_at p line.command h.state v) line h.answers;
+}
+
+-- The hand has a line that has no answer.
+abbrev pub has_line : Held → Bool
+has_line h = nat_lt (length h.answers) (length h.lines)
+
+-- the hand after a step of a part, which is no line's
+abbrev pub idle_after : Held → Kind → ℕ → Held
+idle_after h k v = record { state = h.state; topics = topics_after h.state.sizes k h.topics v; lines = h.lines; answers = h.answers }
+
+-- the hand after this step, which answered v: its line's next step where it has a line left, else a step of a part
+abbrev pub next_by : Bool → Held → Kind → ℕ → Held
+next_by true h k v = held_after (line_at h.state.place h) (place_at h.state.place h) h k v
+next_by false h k v = idle_after h k v
+
 unfoldable pub next : Held → Kind → ℕ → Held
-next h k v = held_after (line_at h.state.place h) (place_at h.state.place h) h v
+next h k v = next_by (has_line h) h k v
 
 -- A line begins with its first step.
 abbrev pub beginning : Place → Line → List EventKind
@@ -97,9 +120,13 @@ beginning (place.SetSlot p) line = []
 abbrev pub event_kinds : Place → Line → Place → Held → ℕ → List EventKind
 event_kinds stood line p h v = beginning stood line ++ (tells_at p line.command h.state v ++ answering (outcome_at p line.command h.state v) line)
 
--- what the hand's next step tells, where it answered v
+-- what the hand's next step tells, where it answered v; a step of a part tells nothing
+abbrev pub events_by : Bool → Held → ℕ → List Event
+events_by true h v = map (λ kind. record { actor = h.state.actor; kind = kind }) (event_kinds h.state.place (line_at h.state.place h) (place_at h.state.place h) h v)
+events_by false h v = []
+
 unfoldable pub events_of : Held → ℕ → List Event
-events_of h v = map (λ kind. record { actor = h.state.actor; kind = kind }) (event_kinds h.state.place (line_at h.state.place h) (place_at h.state.place h) h v)
+events_of h v = events_by (has_line h) h v
 
 -- the hand of an actor that is none
 abbrev pub nobody : Held

@@ -13,8 +13,11 @@ use Rattle.spte_words.specs.Areas.{number_of, place, size_of}
 use Rattle.mmu_core.specs.declared.outcome.Task.{Task}
 use Rattle.mmu_core.specs.Enabled.{mmu}
 use Rattle.mmu_core.specs.Machine.{World, hand_in}
-use Rattle.mmu_core.specs.Steps.{loads_at, outcome_at, task_at}
-use Rattle.mmu_core.specs.Tasks.{answers_after, map_of, place_after}
+use Rattle.mmu_core.specs.Steps.{idle_after, loads_at, outcome_at, task_at}
+use Rattle.mmu_core.specs.PartSteps.{own_index, part_task}
+use Rattle.mmu_core.specs.declared.part_step.PartStep.{PartStep}
+use Rattle.mmu_core.specs.Tasks.{answers_after, kind_of_task, map_of, place_after}
+use Rattle.mmu_core.specs.TopicSteps.{topics_after}
 
 pub record View : Type 0 where
   pub words : Area → ℕ → ℕ
@@ -41,6 +44,9 @@ stores operation.Load = false
 stores operation.Store = true
 stores operation.Swap = true
 stores operation.FetchAdd = true
+stores operation.FetchSub = true
+stores operation.FetchAnd = true
+stores operation.FetchOr = true
 stores operation.CompareExchange = true
 
 -- the words after a step's task, and what the step answers
@@ -54,6 +60,7 @@ answer_in t words = word_answered (operation_of t.kind) t.written (words t.area 
 abbrev pub hand_after : Line → Command → Place → Held → ℕ → Held
 hand_after line command p h v = record {
   state = record (loads_at p command h.state v) { line = line; place = place_after (outcome_at p command h.state v) };
+  topics = topics_after h.state.sizes (kind_of_task h.state.sizes (task_at p command h.state)) h.topics v;
   lines = h.lines;
   answers = answers_after (outcome_at p command h.state v) line h.answers;
 }
@@ -64,3 +71,12 @@ stepped a line command p v = record {
   words = words_after (task_at p command (v.hand a).state) v.words;
   hand = upd v.hand a (hand_after line command p (v.hand a) (answer_in (task_at p command (v.hand a).state) v.words));
 }
+
+-- what a step of a part makes of them
+abbrev pub part_stepped : ℕ → PartStep → ℕ → View → View
+part_stepped a step note v =
+    let t : Task = part_task step (own_index (v.hand a)) (v.hand a).topics note in
+    record {
+      words = words_after t v.words;
+      hand = upd v.hand a (idle_after (v.hand a) (kind_of_task (v.hand a).state.sizes t) (answer_in t v.words));
+    }

@@ -10,13 +10,16 @@ ghost use Rattle.spte_words.specs.Areas.{IsWordMap};
 mod access;
 mod laws;
 mod outcome;
+mod part_step;
 mod set_slot;
 mod slot_words;
 mod step;
+mod topics;
 
 use core_views::Sizes;
 pub use laws::{every_answer_is_told, every_list_of_steps, rests, the_steps_can_be_made};
 pub use outcome::{Outcome, Task};
+pub use part_step::{PartStep, allows, may_make, next_watched, part_kind, part_rests};
 use spte_words::WordMap;
 pub use step::{advance, next_kind};
 

@@ -4,11 +4,14 @@ ghost use Rattle.core_views.specs.Sizes.{AreSizes};
 ghost use Rattle.core_views.specs.Traces.{IsCommandFor};
 ghost use Rattle.mmu_core.specs.Rests.{IsUnderWay, Rests, RestsAt};
 ghost use Rattle.mmu_core.specs.Enabled.{Enabled};
-ghost use Rattle.mmu_core.specs.Steps.{first_place, line_at, loads_at, next, outcome_at, place_at, standing, task_at};
+ghost use Rattle.mmu_core.specs.Steps.{first_place, idle_after, line_after, line_at, loads_at, next, outcome_at, place_at, standing, task_at};
+ghost use Rattle.core_views.specs.Kinds.{kind_named};
 ghost use Rattle.mmu_core.specs.Tasks.{kind_of_task, map_of};
+ghost use Rattle.mmu_core.specs.TopicSteps.{HasRoom};
 ghost use Rattle.spte_words.specs.Areas.{size_of, total};
 
 use crate::outcome::{Outcome, Task};
+use crate::topics::step_topics;
 use crate::{access, map_of, set_slot};
 use core_views::{AccessPlace, AnsweredLine, Command, Hand, Kind, Line, Place, Sizes, State};
 
@@ -69,7 +72,7 @@ fn task(place: Place, state: &State, line: &Line) -> Task
 }
 
 // The step as the words of the machine see it.
-fn kind_of(sizes: &Sizes, task: &Task) -> Kind
+pub(crate) fn kind_of(sizes: &Sizes, task: &Task) -> Kind
     requires sizes { AreSizes sizes.now }
     requires within { task.now.index < size_of (map_of sizes.now) task.now.area }
     ensures is { result ≡ kind_of_task sizes.now task.now }
@@ -126,34 +129,54 @@ fn outcome(place: Place, command: &Command, state: &State, found: u64) -> Outcom
     }
 }
 
-/// Makes the effect of the hand's step on the hand, where the step answered
-/// `found`.
-#[tactic(auto, unfolding(crate::specs::Steps::next, crate::specs::Enabled::Enabled))]
-pub fn advance(hand: &mut Hand, _kind: Kind, found: u64)
-    requires enabled { Enabled hand.old.core _kind }
+// The effect of a line's step on the hand, whose topics are those behind it.
+fn advance_line(hand: &mut Hand, line: &Line, place: Place, found: u64)
+    requires sizes { AreSizes hand.old.core.state.sizes }
+    requires rests { RestsAt place line.now.command hand.old.core.state }
     requires room { 0 < hand.old.room }
-    ensures core { hand.new.core ≡ next hand.old.core _kind found }
+    ensures core { hand.new.core ≡ line_after line.now place hand.old.core found }
     ensures room { length hand.new.core.answers + hand.new.room ≡ length hand.old.core.answers + hand.old.room }
 {
-    let line = line_of(hand);
-    let mut state = *hand.state();
-    let place = place_of(&state, &line);
-    let outcome = outcome(place, &line.command, &state, found);
-    load(place, &line.command, &mut state, found);
-    state.line = line;
+    let outcome = outcome(place, &line.command, hand.state(), found);
+    let state = hand.state_mut();
+    load(place, &line.command, state, found);
+    state.line = *line;
     match outcome {
-        Outcome::Goes(place) => {
-            state.place = place;
-            hand.set_state(state);
-        }
+        Outcome::Goes(place) => state.place = place,
         Outcome::Ends(answer) => {
             state.place = Place::Between;
-            hand.set_state(state);
             hand.answer(AnsweredLine {
                 number: line.number,
                 actor: line.actor,
                 answer,
             });
         }
+    }
+}
+
+// The effect of a step on the topics of the hand.
+fn advance_topics(hand: &mut Hand, kind: Kind, found: u64)
+    requires sizes { AreSizes hand.old.core.state.sizes }
+    requires room { HasRoom (kind_named kind.code) hand.old.core.topics }
+    ensures core { hand.new.core ≡ idle_after hand.old.core kind found }
+    ensures room { hand.new.room ≡ hand.old.room }
+{
+    let sizes = hand.state().sizes;
+    step_topics(&sizes, kind, hand.topics_mut(), found);
+}
+
+/// Makes the effect of a step on the hand, where the step answered `found`.
+#[tactic(auto, unfolding(crate::specs::Steps::next))]
+pub fn advance(hand: &mut Hand, kind: Kind, found: u64)
+    requires enabled { Enabled hand.old.core kind }
+    requires room { 0 < hand.old.room }
+    ensures core { hand.new.core ≡ next hand.old.core kind found }
+    ensures room { length hand.new.core.answers + hand.new.room ≡ length hand.old.core.answers + hand.old.room }
+{
+    advance_topics(hand, kind, found);
+    if hand.next_line().is_some() {
+        let line = line_of(hand);
+        let place = place_of(hand.state(), &line);
+        advance_line(hand, &line, place, found);
     }
 }

@@ -1,0 +1,29 @@
+-- What the steps of the parts may rest on, from the hand alone.
+use Rattle.std.specs.Prelude.{◌≡◌, ◌<◌, ◌≤◌, ℕ, Some, true}
+use Rattle.core_views.specs.declared.topics.Hold.TheVariants.{Owing}
+use Rattle.core_views.specs.declared.topics.OwnedPage.{OwnedPage}
+use Rattle.core_views.specs.Held.{Held}
+use Rattle.core_views.specs.Sizes.{AreSizes, actors_of}
+use Rattle.mmu_core.specs.declared.part_step.PartStep.{PartStep}
+use Rattle.mmu_core.specs.Enabled.{Enabled}
+use Rattle.mmu_core.specs.HeldPart.{CountersPart}
+use Rattle.mmu_core.specs.PartSteps.{PartNeeds, own_index, part_kind, table_page}
+use Rattle.mmu_core.specs.TopicSteps.{has_writer}
+
+-- What holds of every hand that some world has: its actor is one of the machine's, its pages are pages of the pool, its counters
+-- stay within what they count, and where it has yet to take itself out of the lock's readers it saw a writer.
+pub record PartRests (h : Held) : Type 0 where
+  pub sizes : AreSizes h.state.sizes
+  pub own_place : own_index h < actors_of h.state.sizes
+  pub level : h.topics.walk.level ≤ 4
+  pub table : 1 ≤ h.topics.walk.level → table_page h.topics.walk < h.state.sizes.pool
+  pub set : (k : ℕ) → h.topics.search.set ≡ Some k → k < h.state.sizes.pool
+  pub page : (o : OwnedPage) → h.topics.owned ≡ Some o → o.page < h.state.sizes.pool
+  pub filled : (o : OwnedPage) → h.topics.owned ≡ Some o → o.filled ≤ 513
+  pub counters : CountersPart h.state.sizes h.topics
+  pub saw_writer : (word : ℕ) → h.topics.hold ≡ Owing word → has_writer word ≡ true
+
+-- The hand holds what the step of the part needs, and allows it.
+pub record MayMake (step : PartStep) (note : ℕ) (h : Held) : Type 0 where
+  pub needs : PartNeeds step h
+  pub enabled : Enabled h (part_kind h step note)

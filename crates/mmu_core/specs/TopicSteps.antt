@@ -1,0 +1,225 @@
+-- What an actor holds of each part of the machine after a step: a function of the step's numbers, of what it held, and of what the step answered.
+use Rattle.std.specs.Prelude.{◌≡◌, ◌<◌, ◌≤◌, ◌+◌, ◌-◌, ◌*◌, ◌^◌, ℕ, Bool, true, false, ◌==◌, ◌&&◌, ◌||◌, nat_le, nat_lt, not, if◌then◌else◌, Option, Some, None, is_some}
+use Rattle.std.specs.Int.{trailing_zeros}
+use mir.Syntax.{w64}
+use Rattle.core_views.specs.declared.kind.Kind.{Kind}
+use Rattle.core_views.specs.declared.kind.StepKind.{StepKind}
+use Rattle.core_views.specs.declared.kind.StepKind.TheVariants as kind
+use Rattle.core_views.specs.declared.place.SlotField.{SlotField}
+use Rattle.core_views.specs.declared.place.SlotField.TheVariants as field
+use Rattle.core_views.specs.declared.sizes.Sizes.{Sizes}
+use Rattle.core_views.specs.declared.topics.Hold.{Hold}
+use Rattle.core_views.specs.declared.topics.Hold.TheVariants.{Loose, Shared, Owing, Exclusive}
+use Rattle.core_views.specs.declared.topics.Invalidations.{Invalidations}
+use Rattle.core_views.specs.declared.topics.MapClaim.{MapClaim}
+use Rattle.core_views.specs.declared.topics.OwnedPage.{OwnedPage}
+use Rattle.core_views.specs.declared.topics.SlotSearch.{SlotSearch}
+use Rattle.core_views.specs.declared.topics.Stay.{Stay}
+use Rattle.core_views.specs.declared.topics.Stay.TheVariants.{Outside, Guest, Section}
+use Rattle.core_views.specs.declared.topics.TableWalk.{TableWalk}
+use Rattle.core_views.specs.declared.topics.Topics.{Topics}
+use Rattle.core_views.specs.Kinds.{kind_named}
+use Rattle.spte_words.specs.declared.area.Area.{Area}
+use Rattle.spte_words.specs.declared.area.Area.TheVariants as area
+use Rattle.spte_words.specs.declared.spte_kind.SpteKind.{SpteKind}
+use Rattle.spte_words.specs.declared.spte_kind.SpteKind.TheVariants as entry_kind
+use Rattle.spte_words.specs.Areas.{number_of, place}
+use Rattle.spte_words.specs.Bits.{has_bit}
+use Rattle.spte_words.specs.Entries.{kind_of}
+use Rattle.spte_words.specs.Flags.{flags_live, flags_logged, flags_read_only}
+use Rattle.mmu_core.specs.Tasks.{map_of}
+
+-- The actor is outside the guest and outside every section.
+abbrev pub is_outside : Stay → Bool
+is_outside Outside = true
+is_outside Guest = false
+is_outside Section = false
+
+abbrev pub is_section : Stay → Bool
+is_section Outside = false
+is_section Guest = false
+is_section Section = true
+
+-- The actor has the lock, as a reader or alone.
+abbrev pub has_lock : Hold → Bool
+has_lock Loose = false
+has_lock Shared = true
+has_lock (Owing word) = false
+has_lock Exclusive = true
+
+abbrev pub is_alone : Hold → Bool
+is_alone Exclusive = true
+is_alone _ = false
+
+abbrev pub is_loose : Hold → Bool
+is_loose Loose = true
+is_loose _ = false
+
+-- A page of tables that is loaded now is held: in the guest, in a section, or under the lock.
+abbrev pub may_walk : Stay → Hold → Bool
+may_walk stay hold = not (is_outside stay) || has_lock hold
+
+-- A slot set's page that is loaded now is held: in a section, or by who has the lock alone.
+abbrev pub may_search : Stay → Hold → Bool
+may_search stay hold = is_section stay || is_alone hold
+
+-- A walk and a search, where they are kept; else nothing of them is held.
+abbrev pub kept_walk : Bool → TableWalk → TableWalk
+kept_walk keeps walk = record walk { level = if keeps then walk.level else 0 }
+
+abbrev pub kept_search : Bool → SlotSearch → SlotSearch
+kept_search keeps search = record search { set = if keeps then search.set else None }
+
+-- what is held where the actor goes into the guest, into a section, or out of them: of tables and slots nothing
+abbrev pub begun : Stay → Topics → Topics
+begun stay t = record t { stay = stay; walk = kept_walk false t.walk; search = kept_search false t.search }
+
+-- what is held without the lock: of tables and slots nothing, unless the actor is in the guest or in a section
+abbrev pub let_go : Topics → Topics
+let_go t = record t { hold = Loose; walk = kept_walk (not (is_outside t.stay)) t.walk; search = kept_search (is_section t.stay) t.search }
+
+-- the pool page that an entry links to, if it is a link
+abbrev pub linked_page : SpteKind → Option ℕ
+linked_page (entry_kind.Table page) = Some page
+linked_page _ = None
+
+-- A walk goes down where the entry is a link, and else stays.
+abbrev pub gone_down : Option ℕ → TableWalk → ℕ → TableWalk
+gone_down None walk v = record walk { entry = v }
+gone_down (Some page) walk v = record {
+  level = walk.level - 1;
+  root = walk.root;
+  third = if walk.level == 4 then page else walk.third;
+  second = if walk.level == 3 then page else walk.second;
+  first = if walk.level == 2 then page else walk.first;
+  entry = v;
+}
+
+abbrev pub walked : TableWalk → ℕ → TableWalk
+walked walk v = gone_down (linked_page (kind_of walk.level v)) walk v
+
+-- A search goes on to the slot's next word, and behind the last one, or where the slot isn't live, to the flags of the next slot.
+abbrev pub searched_at : SlotField → SlotSearch → ℕ → SlotSearch
+searched_at field.Flags search v = record search {
+  id = if flags_live v then search.id else search.id + 1;
+  next = if flags_live v then field.Base else field.Flags;
+  slot = record search.slot { read_only = flags_read_only v };
+  logged = flags_logged v;
+}
+searched_at field.Base search v = record search { next = field.Pages; slot = record search.slot { base = v } }
+searched_at field.Pages search v = record search { next = field.Host; slot = record search.slot { pages = v } }
+searched_at field.Host search v = record search { next = field.Flags; id = search.id + 1; slot = record search.slot { host = v } }
+
+abbrev pub searched : SlotSearch → ℕ → SlotSearch
+searched search v = searched_at search.next search v
+
+-- the bit that a claim tries: the lowest of those seen
+abbrev pub tried_bit : MapClaim → ℕ
+tried_bit claim = trailing_zeros w64 claim.seen
+
+-- A claim is won where the bit was still there.
+abbrev pub is_won : MapClaim → ℕ → Bool
+is_won claim v = has_bit (tried_bit claim) v
+
+abbrev pub claimed : MapClaim → ℕ → Option OwnedPage
+claimed claim v = if is_won claim v then Some (record { page = 64 * claim.at + tried_bit claim; filled = 0; absent = true }) else None
+
+-- a claim after its try: over, or with the bits seen now
+abbrev pub tried : MapClaim → ℕ → MapClaim
+tried claim v = record { at = if is_won claim v then 0 else claim.at; seen = if is_won claim v then 0 else v }
+
+-- One more word of an owned page is filled.
+abbrev pub filled_more : Option OwnedPage → ℕ → Option OwnedPage
+filled_more None v = None
+filled_more (Some o) v = Some (record { page = o.page; filled = o.filled + 1; absent = o.absent && (nat_le 512 o.filled || v == 0) })
+
+-- Bit 63 of a lock word: a writer has it.
+abbrev pub has_writer : ℕ → Bool
+has_writer v = nat_le (2 ^ 63) v
+
+-- Bit 1 of a state word: the actor is in the guest or in a section.
+abbrev pub in_section : ℕ → Bool
+in_section v = has_bit 1 v
+
+-- the lone words of the machine's control stand first, each at the number of its area
+abbrev pub is_word_of : Area → ℕ → Bool
+is_word_of a word = word == number_of a
+
+-- where the words of the pool's map begin, and where they end
+abbrev pub map_begins : Sizes → ℕ
+map_begins z = place (map_of z) area.PoolMap 0
+
+abbrev pub map_ends : Sizes → ℕ
+map_ends z = place (map_of z) area.FrameMap 0
+
+abbrev pub is_pool_map : Sizes → ℕ → Bool
+is_pool_map z word = nat_le (map_begins z) word && nat_lt word (map_ends z)
+
+-- The root was loaded: a walk begins at it, where its page is held.
+abbrev pub at_root : Bool → TableWalk → ℕ → TableWalk
+at_root holds walk v = record walk { level = if holds then 4 else 0; root = v }
+
+-- Which slot set is published was loaded: a search of it begins, where its page is held.
+abbrev pub at_set : Bool → SlotSearch → ℕ → SlotSearch
+at_set holds search v = record search { set = if holds then Some v else None; id = 0; next = field.Flags }
+
+-- A word of the invalidations was loaded; the sequence number is the snapshot where the actor hasn't touched the lock.
+abbrev pub noted : ℕ → Hold → Invalidations → ℕ → Invalidations
+noted word hold n v = record {
+  snapshot = if is_word_of area.Seq word && is_loose hold then v else n.snapshot;
+  count = if is_word_of area.Count word then v else n.count;
+  start = if is_word_of area.RangeStart word then v else n.start;
+  end = if is_word_of area.RangeEnd word then v else n.end;
+  seq = if is_word_of area.Seq word && not (is_loose hold) then v else n.seq;
+}
+
+-- A word of the pool's map was loaded: a claim has come to it, or to the next one where it is 0.
+abbrev pub at_word : Sizes → ℕ → MapClaim → ℕ → MapClaim
+at_word z word claim v = record {
+  at = if is_pool_map z word then (word - map_begins z) + (if v == 0 then 1 else 0) else claim.at;
+  seen = if is_pool_map z word then v else claim.seen;
+}
+
+-- A word of the machine's control was loaded: each of these words has a topic of its own that keeps what was found.
+abbrev pub controlled : Sizes → ℕ → Topics → ℕ → Topics
+controlled z word t v = record t {
+  walk = if is_word_of area.Root word then at_root (may_walk t.stay t.hold) t.walk v else t.walk;
+  search = if is_word_of area.Slots word then at_set (may_search t.stay t.hold) t.search v else t.search;
+  invalidations = noted word t.hold t.invalidations v;
+  claim = at_word z word t.claim v;
+  pause = if is_word_of area.Pause word then v else t.pause;
+}
+
+-- what is held after a step of the kind with these numbers, which answered v
+abbrev pub topics_by : StepKind → Sizes → Kind → Topics → ℕ → Topics
+topics_by kind.Enter z k t v = begun Guest t
+topics_by kind.Leave z k t v = begun Outside t
+topics_by kind.Begin z k t v = begun Section t
+topics_by kind.End z k t v = begun Outside t
+topics_by kind.Walk z k t v = record t { walk = walked t.walk v }
+topics_by kind.Control z k t v = controlled z k.word t v
+topics_by kind.Slot z k t v = record t { search = if is_some t.search.set then searched t.search v else t.search }
+topics_by kind.Host z k t v = record t { host = v }
+topics_by kind.Share z k t v = record t { hold = if has_writer v then Owing v else Shared }
+topics_by kind.Unshare z k t v = let_go t
+topics_by kind.Exclude z k t v = record t { hold = if v == 0 then Exclusive else t.hold }
+topics_by kind.Release z k t v = let_go t
+topics_by kind.Claim z k t v = record t { owned = claimed t.claim v; claim = tried t.claim v }
+topics_by kind.Fill z k t v = record t { owned = filled_more t.owned v }
+topics_by kind.Give z k t v = record t { owned = None }
+topics_by kind.Watch z k t v = record t { watched = (k.word - number_of area.State) + (if in_section v then 0 else 1) }
+topics_by kind.Read z k t v = t
+topics_by kind.Write z k t v = t
+topics_by kind.Add z k t v = t
+topics_by kind.Swap z k t v = t
+
+-- what is held after a step that answered v
+unfoldable pub topics_after : Sizes → Kind → Topics → ℕ → Topics
+topics_after z k t v = topics_by (kind_named k.code) z k t v
+
+-- What is counted has room for one more: the words of an owned page, the slots of a set, the words of the map.
+abbrev pub HasRoom : StepKind → Topics → Type 0
+HasRoom kind.Fill t = (o : OwnedPage) → t.owned ≡ Some o → o.filled < 513
+HasRoom kind.Slot t = is_some t.search.set ≡ true → t.search.id ≤ 31
+HasRoom kind.Claim t = (0 < t.claim.seen) × (t.claim.at < 2 ^ 32)
+HasRoom _ t = Unit {0}
