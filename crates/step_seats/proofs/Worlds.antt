@@ -15,6 +15,9 @@ use Rattle.mmu_core.specs.Worlds.{HandReached, Possible}
 use Rattle.mmu_core.proofs.Extend.{goes_on}
 use Rattle.mmu_core.proofs.Sized.{as_many_as_actors, enabled_inside}
 use Rattle.step_seats.specs.Machines.{IsMachine, Machine, world_in}
+use Rattle.std.proofs.lemmas.Grind.{merely}
+use Rattle.step_seats.specs.Frames.{frame_of, other_rooms, room_of}
+use Rattle.step_seats.specs.PartTurns.{HasHand}
 use Rattle.step_seats.specs.Moves.{core_of, handful_in, no_hand, step_by, world_of}
 
 pub core_at : (words : List ℕ) (hands : List Handful) (i : ℕ) → core_of (handful_in hands i) ≡ hand_in mmu (world_of words hands) i
@@ -70,7 +73,7 @@ stepped_inside z words hands i k was n v before h machine there enabled read han
       possible = record { world = world_of words hands; actor = i; reached = machine.reached; there = there_too hands i there; has = sym at; answers = tells };
     }
 
-there_inside : (z : Sizes) (words : List ℕ) (hands : List Handful) (m : Machine) (i : ℕ) → machine_of z words hands ≡ m → i < length m.hands → i < length hands
+pub there_inside : (z : Sizes) (words : List ℕ) (hands : List Handful) (m : Machine) (i : ℕ) → machine_of z words hands ≡ m → i < length m.hands → i < length hands
 there_inside z words hands m i view there = subst (λ (x : Machine). i < length x.hands) (sym view) there
 
 enabled_in : (z : Sizes) (words : List ℕ) (hands : List Handful) (m : Machine) (i : ℕ) (k : Kind) → machine_of z words hands ≡ m → Enabled (core_of (handful_in m.hands i)) k → Enabled (core_of (handful_in hands i)) k
@@ -118,6 +121,12 @@ hand_reached z words hands m i machine view there =
     let inside : HandReached (core_of (handful_in hands i)) = record { world = world_of words hands; actor = i; reached = machine.reached; there = there_too hands i (there_inside z words hands m i view there); has = sym (core_at words hands i) } in
     subst (λ (x : Machine). HandReached (core_of (handful_in x.hands i))) view inside
 
+-- The machine's world is reached, and has this hand.
+pub has_hand : (z : Sizes) (words : List ℕ) (hands : List Handful) (m : Machine) (i : ℕ) → IsMachine z words hands → machine_of z words hands ≡ m → i < length m.hands → HasHand i (core_of (handful_in m.hands i)) (world_in m)
+has_hand z words hands m i machine view there =
+    let inside : HasHand i (core_of (handful_in hands i)) (world_of words hands) = record { reached = merely machine.reached; there = there_too hands i (there_inside z words hands m i view there); is = sym (core_at words hands i) } in
+    subst (λ (x : Machine). HasHand i (core_of (handful_in x.hands i)) (world_in x)) view inside
+
 -- The world is as it was where a hand takes the place of one that holds the same.
 pub world_same : (z : Sizes) (words : List ℕ) (hands : List Handful) (m : Machine) (i : ℕ) (before h : Handful) → machine_of z words hands ≡ m → i < length m.hands → before ≡ slice_index_or hands i before → core_of h ≡ core_of before → world_of words (slice_set hands i h) ≡ world_in m
 world_same z words hands m i before h view there hand same =
@@ -140,3 +149,15 @@ count_of_hands z words hands m machine view =
     let count = as_many_as_actors r.sizes r.lines r.start (world_of words hands) r.is_start r.leads in
     let inside : length hands ≡ actors_of z = sym (length-map hands core_of) ∙ (count ∙ ap actors_of machine.sizes) in
     subst (λ (x : Machine). length x.hands ≡ actors_of x.sizes) view inside
+
+-- The room in the other hands doesn't hang on the own one.
+pub other_rooms_same : (hands behind : List Handful) (i : ℕ) (h : Handful) → behind ≡ slice_set hands i h → other_rooms behind i ≡ other_rooms hands i
+other_rooms_same hands behind i h is = ap (λ (hs : List Handful). other_rooms hs i) is ∙ set_again hands i
+  where
+    set_again : (hs : List Handful) (k : ℕ) → other_rooms (slice_set hs k h) k ≡ other_rooms hs k
+    set_again [] k = refl
+    set_again (x ∷ hs) zero = refl
+    set_again (x ∷ hs) (suc k) = ap (λ t. room_of x ∷ t) (set_again hs k)
+
+pub frame_same : (name : ℕ) (before behind : Machine) (i : ℕ) (h : Handful) → behind.sizes ≡ before.sizes → behind.hands ≡ slice_set before.hands i h → frame_of name behind i ≡ frame_of name before i
+frame_same name before behind i h sizes hands = λ t. record { borrowed = name; sizes = sizes t; rooms = other_rooms_same before.hands behind.hands i h hands t }

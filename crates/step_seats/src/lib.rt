@@ -1,15 +1,19 @@
 //! Seats at the words of the machine: each makes the steps of one actor.
 #![tactic(auto)]
 
+mod part;
 mod plain;
 mod seat;
 mod start;
 mod stepper;
+mod turn;
 
+pub use part::make_part;
 pub use plain::PlainMachine;
 pub use seat::{ActorSeat, MachineFrame};
 pub use start::{start_hands, start_words};
 pub use stepper::Stepper;
+pub use turn::Turn;
 
 #[cfg(test)]
 mod tests;

@@ -1,5 +1,5 @@
 //! All words and hands under one owner.
-ghost use Rattle.std.specs.Prelude.{◌≡◌, ◌<◌, ◌≤◌, IfOk, OnOk, length, slice_set};
+ghost use Rattle.std.specs.Prelude.{◌≡◌, ◌<◌, ◌≤◌, IfOk, OnErr, OnOk, length, slice_set};
 ghost use Rattle.core_views.specs.Sizes.{AreSizes, actors_of, index_of, sizes_of};
 ghost use Rattle.core_views.specs.Traces.{IsTrace};
 ghost use Rattle.mmu_core.specs.Enabled.{Enabled, mmu};
@@ -8,6 +8,7 @@ ghost use Rattle.mmu_core.specs.Steps.{next};
 ghost use Rattle.mmu_core.specs.Worlds.{HandReached, IsStart, Possible};
 ghost use Rattle.step_seats.specs.Machines.{world_in};
 ghost use Rattle.step_seats.specs.Moves.{KeepsRoom, handful_in, step_by};
+ghost use Rattle.step_seats.specs.PartTurns.{HasHand};
 
 use crate::ActorSeat;
 use crate::start::{start_hands, start_words};
@@ -63,6 +64,7 @@ impl PlainMachine {
         ensures hand { (handful_in self.new.hands index).core ≡ next (handful_in self.old.hands index).core kind result }
         ensures room { KeepsRoom (handful_in self.old.hands index) (handful_in self.new.hands index) }
         ensures possible { ∥ Possible (handful_in self.old.hands index).core kind result ∥₁ }
+        ensures has { HasHand index (handful_in self.new.hands index).core (world_in self.new) }
         ensures others { self.new.hands ≡ slice_set self.old.hands index (handful_in self.new.hands index) }
         ensures same { (self.new.sizes ≡ self.old.sizes) × (length self.new.hands ≡ length self.old.hands) }
     {
@@ -80,6 +82,7 @@ impl PlainMachine {
         requires there { index < length self.now.hands }
         ensures hand { result.now ≡ handful_in self.now.hands index }
         ensures reached { ∥ HandReached (handful_in self.now.hands index).core ∥₁ }
+        ensures has { HasHand index (handful_in self.now.hands index).core (world_in self.now) }
     {
         &self.hands[index]
     }
@@ -90,6 +93,7 @@ impl PlainMachine {
         ensures world { world_in self.new ≡ world_in self.old }
         ensures hand { (handful_in self.new.hands index).core ≡ (handful_in self.old.hands index).core }
         ensures room { OnOk result (0 < (handful_in self.new.hands index).room) }
+        ensures refused { OnErr result (handful_in self.new.hands index ≡ handful_in self.old.hands index) }
         ensures others { self.new.hands ≡ slice_set self.old.hands index (handful_in self.new.hands index) }
         ensures same { (self.new.sizes ≡ self.old.sizes) × (length self.new.hands ≡ length self.old.hands) }
     {

@@ -1,17 +1,25 @@
 //! The seat of one actor at a plain machine.
 ghost use Rattle.std.specs.Prelude.{Some, None, ◌<◌, length};
+ghost use Rattle.step_seats.specs.Frames.{frame_of};
 ghost use Rattle.step_seats.specs.Machines.{world_in};
 ghost use Rattle.step_seats.specs.Moves.{handful_in};
 
 use crate::{PlainMachine, Stepper};
-use core_views::{Hand, Kind, Line, NoMemory, Sizes};
+use core_views::{Hand, Kind, Line, NoMemory};
+use std::marker::{Model, PhantomData};
 
-/// What the steps of a seat at a plain machine leave as it is: which machine
-/// it borrows, its sizes, and how many hands it has.
+/// What the steps of a seat at a plain machine leave as it is: which machine it
+/// borrows, its sizes, and the room in the other hands. No value of it is made.
 pub struct MachineFrame {
-    pub borrowed: usize,
-    pub sizes: Sizes,
-    pub hands: usize,
+    marker: PhantomData<()>,
+}
+
+impl Model for MachineFrame {
+    ghost use Rattle.step_seats.specs.Frames.{Frame, no_frame};
+
+    ghost Value = { Frame };
+
+    ghost view = { λ f. no_frame };
 }
 
 /// The seat of the actor at this place among all actors of the machine.
@@ -29,7 +37,7 @@ impl Stepper for ActorSeat<'_> {
 
     ghost handful = { λ s. handful_in s.machine.now.hands s.index };
 
-    ghost frame = { λ s. record { borrowed = s.machine.ghost_name; sizes = s.machine.now.sizes; hands = length s.machine.now.hands } };
+    ghost frame = { λ s. frame_of s.machine.ghost_name s.machine.now s.index };
 
     ghost told = { λ s. Some (world_in s.machine.now) };
 

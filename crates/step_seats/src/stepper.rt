@@ -1,8 +1,9 @@
-ghost use Rattle.std.specs.Prelude.{◌≡◌, ◌<◌, OnOk};
+ghost use Rattle.std.specs.Prelude.{◌≡◌, ◌<◌, IfSome, OnErr, OnOk};
 ghost use Rattle.mmu_core.specs.Enabled.{Enabled};
 ghost use Rattle.mmu_core.specs.Steps.{next};
 ghost use Rattle.mmu_core.specs.Worlds.{HandReached, Possible};
 ghost use Rattle.step_seats.specs.Moves.{Adds, KeepsRoom, Tells};
+ghost use Rattle.step_seats.specs.PartTurns.{HasHand};
 
 use core_views::{Hand, Kind, Line, NoMemory};
 
@@ -42,18 +43,21 @@ pub trait Stepper {
         ensures told { Tells (told self.old) (actor self.old) kind result (told self.new) }
         ensures steps { Adds (steps self.old) (actor self.old) kind (steps self.new) }
         ensures possible { ∥ Possible (handful self.old).core kind result ∥₁ }
+        ensures has { IfSome (told self.new) (HasHand (actor self.new) (handful self.new).core) }
         ensures same { (actor self.new ≡ actor self.old) × (frame self.new ≡ frame self.old) };
 
     /// The hand as it is.
     fn hand(&self) -> &Hand
         ensures hand { result.now ≡ handful self.now }
-        ensures reached { ∥ HandReached (handful self.now).core ∥₁ };
+        ensures reached { ∥ HandReached (handful self.now).core ∥₁ }
+        ensures has { IfSome (told self.now) (HasHand (actor self.now) (handful self.now).core) };
 
     /// Takes the room that this line needs in the hand. It changes no word and
-    /// no hand, whatever it answers.
+    /// no hand, whatever it answers; where it is refused, no room either.
     fn reserve(&mut self, line: &Line) -> Result<(), NoMemory>
         ensures hand { (handful self.new).core ≡ (handful self.old).core }
         ensures room { OnOk result (0 < (handful self.new).room) }
+        ensures refused { OnErr result (handful self.new ≡ handful self.old) }
         ensures told { (told self.new ≡ told self.old) × (steps self.new ≡ steps self.old) }
         ensures same { (actor self.new ≡ actor self.old) × (frame self.new ≡ frame self.old) };
 }

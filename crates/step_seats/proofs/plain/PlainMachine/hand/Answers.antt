@@ -1,8 +1,13 @@
 use Rattle.std.proofs.lemmas.Grind.{merely}
-use Rattle.step_seats.proofs.Worlds.{hand_reached}
+use Rattle.step_seats.proofs.Worlds.{hand_reached, has_hand}
 use Rattle.step_seats.proofs.plain.PlainMachine.hand.Goals as goal
 
 pub returns-clause-reached : goal.returns-clause-reached
 returns-clause-reached c =
     let m = c.self.inside in
     merely (hand_reached m.sizes m.words.items m.hands.items c.args.self.now c.args.index c.self.invariant c.self.view_is c.requires.there)
+
+pub returns-clause-has : goal.returns-clause-has
+returns-clause-has c =
+    let m = c.self.inside in
+    has_hand m.sizes m.words.items m.hands.items c.args.self.now c.args.index c.self.invariant c.self.view_is c.requires.there

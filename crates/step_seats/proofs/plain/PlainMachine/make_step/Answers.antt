@@ -1,6 +1,7 @@
-use Rattle.std.proofs.Common.{arith}
+use Rattle.std.proofs.Common.{arith, refl}
+use Rattle.std.proofs.Math.ListN.{length-set}
 use Rattle.std.proofs.lemmas.Grind.{merely}
-use Rattle.step_seats.proofs.Worlds.{machine_after, step_made, word_inside}
+use Rattle.step_seats.proofs.Worlds.{has_hand, machine_after, step_made, there_inside, word_inside}
 use Rattle.step_seats.proofs.plain.PlainMachine.make_step.Goals as goal
 
 pub index-found-requires : goal.index-found-requires
@@ -42,3 +43,10 @@ invariant_of-self c =
     let m = c.self.inside in
     let made = step_made m.sizes m.words.items m.hands.items c.args.self.now c.args.index c.args.kind c.index-found.result.now c.after.result c.answer-answer.result c.index_mut-hand.result.now c.advance.new.hand c.self.invariant c.self.view_is c.requires.there c.requires.enabled c.index-found.ensures c.index_mut-hand.ensures.value c.after.ensures c.answer-answer.ensures c.advance.ensures.core in
     machine_after m.sizes m.words.items m.hands.items c.args.self.now c.args.index c.args.kind c.after.result c.answer-answer.result c.advance.new.hand c.self.invariant c.self.view_is made
+
+pub returns-clause-has : goal.returns-clause-has
+returns-clause-has c =
+    let m = c.self.inside in
+    let made = step_made m.sizes m.words.items m.hands.items c.args.self.now c.args.index c.args.kind c.index-found.result.now c.after.result c.answer-answer.result c.index_mut-hand.result.now c.advance.new.hand c.self.invariant c.self.view_is c.requires.there c.requires.enabled c.index-found.ensures c.index_mut-hand.ensures.value c.after.ensures c.answer-answer.ensures c.advance.ensures.core in
+    let after_ = machine_after m.sizes m.words.items m.hands.items c.args.self.now c.args.index c.args.kind c.after.result c.answer-answer.result c.advance.new.hand c.self.invariant c.self.view_is made in
+    has_hand _ _ _ _ c.args.index after_ refl (omega (arith, length-set m.hands.items c.args.index c.advance.new.hand, there_inside m.sizes m.words.items m.hands.items c.args.self.now c.args.index c.self.view_is c.requires.there))

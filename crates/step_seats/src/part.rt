@@ -1,0 +1,23 @@
+ghost use Rattle.std.specs.Prelude.{◌≡◌, ◌<◌, IfSome};
+ghost use Rattle.mmu_core.specs.PartRests.{MayMake};
+ghost use Rattle.step_seats.specs.Moves.{KeepsRoom};
+ghost use Rattle.step_seats.specs.PartTurns.{HasHand, MadePart};
+
+use crate::Stepper;
+use mmu_core::{PartStep, part_kind, part_rests};
+
+/// Makes this step of a part of the machine, and answers what it found in its
+/// word (a store: what it wrote).
+pub fn make_part<S: Stepper>(s: &mut S, step: PartStep, note: u64) -> u64
+    requires may { MayMake step note (S.handful s.old).core }
+    requires reserved { 0 < (S.handful s.old).room }
+    ensures made { MadePart step note result (S.actor s.old) (S.handful s.old).core (S.handful s.new).core (record { world = S.told s.old; steps = S.steps s.old }) (record { world = S.told s.new; steps = S.steps s.new }) }
+    ensures has { IfSome (S.told s.new) (HasHand (S.actor s.new) (S.handful s.new).core) }
+    ensures room { KeepsRoom (S.handful s.old) (S.handful s.new) }
+    ensures same { (S.actor s.new ≡ S.actor s.old) × (S.frame s.new ≡ S.frame s.old) }
+{
+    let hand = s.hand();
+    part_rests(hand);
+    let kind = part_kind(hand, step, note);
+    s.act(kind)
+}

@@ -1,0 +1,13 @@
+use core_views::Seen;
+
+/// How a turn of a job or a part ended. A turn makes one step.
+#[derive(Clone, Copy, Debug, PartialEq, Eq, Drop)]
+pub enum Turn<T> {
+    /// There is more to do.
+    More,
+    /// Another actor stands in the way: this word was found, with this value. The
+    /// turn is to be made again.
+    Wait(Seen),
+    /// It is done, with this answer.
+    Done(T),
+}
