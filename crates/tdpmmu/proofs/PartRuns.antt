@@ -22,14 +22,18 @@ use Rattle.mmu_core.specs.LineRuns.{RunsLine}
 use Rattle.mmu_core.specs.Machine.{Legal, May, Step, World, answered, effect, hand_in, run}
 use Rattle.mmu_core.specs.Rests.{IsUnderWay}
 use Rattle.mmu_core.specs.Steps.{events_of, line_at, next}
+use Rattle.mmu_core.specs.Steps.{has_line}
 use Rattle.mmu_core.specs.Turns.{GoesOn, IsSameHand, line_of, outcome_of}
+use Rattle.std.specs.Prelude.{true}
+use Rattle.mmu_core.proofs.Which.{has_line_is}
 use Rattle.mmu_core.specs.Worlds.{history}
 use Rattle.mmu_core.proofs.LineEvents as events
 use Rattle.mmu_core.proofs.LineEvents.{IsClosed, IsOpen, SoFar, step_tells}
 use Rattle.mmu_core.proofs.LineRuns.{history_one_more, legal_one_more, own_hand, run_one_more}
 use Rattle.step_seats.specs.Moves.{Adds, Tells, step_by}
-use Rattle.tdpmmu.specs.declared.turn.Turn.TheVariants.{More, Done}
-use Rattle.tdpmmu.specs.Turns.{HasHand, OneStep, RanAlone, Told, turn_of}
+use Rattle.step_seats.specs.declared.turn.Turn.TheVariants.{More, Done}
+use Rattle.step_seats.specs.PartTurns.{HasHand, Told}
+use Rattle.tdpmmu.specs.Turns.{OneStep, RanAlone, turn_of}
 
 -- From this world the steps lead to the one that is told, where the hand stands, and tell what the line has told so far.
 pub record PartTold (line : Line) (actor : ℕ) (here : Held) (steps : List (Step Kind)) (before : World Held) (behind : Option (World Held)) : Type 0 where
@@ -60,15 +64,15 @@ none_told p line idle = rw idle refl
 all_left : (p : Place) → p ≡ place.Between → 0 + steps_left p ≤ most_steps
 all_left p idle = rw idle (omega arith)
 
-world_starts : (told : Option (World Held)) (line : Line) (actor : ℕ) (h : Held) → h.state.place ≡ place.Between → HasHand told actor h → IfSome told (λ w. PartTold line actor h [] w told)
+world_starts : (told : Option (World Held)) (line : Line) (actor : ℕ) (h : Held) → h.state.place ≡ place.Between → IfSome told (HasHand actor h) → IfSome told (λ w. PartTold line actor h [] w told)
 world_starts None line actor h idle has = tt
-world_starts (Some w) line actor h idle has = record { legal = tt; ends = refl; has = has; so_far = none_told h.state.place line idle }
+world_starts (Some w) line actor h idle has = record { legal = tt; ends = refl; has = has.is; so_far = none_told h.state.place line idle }
 
 adds_none : (told : Option (List (Step Kind))) → IfSome told (λ ss. told ≡ Some (ss ++ []))
 adds_none None = tt
 adds_none (Some ss) = ap (λ (xs : List (Step Kind)). Some xs) (sym (append-nil ss))
 
-pub part_starts : (line : Line) (actor : ℕ) (h : Held) (told : Told) → h.state.place ≡ place.Between → slice_get h.lines (length h.answers) ≡ Some line → HasHand told.world actor h → PartRun line actor h h told told
+pub part_starts : (line : Line) (actor : ℕ) (h : Held) (told : Told) → h.state.place ≡ place.Between → slice_get h.lines (length h.answers) ≡ Some line → IfSome told.world (HasHand actor h) → PartRun line actor h h told told
 part_starts line actor h told idle first has = record {
   line_is = next_is h.state.place h line idle first;
   same = record { actor = refl; sizes = refl; lines = refl };
@@ -91,10 +95,10 @@ record ToldStep (line : Line) (actor : ℕ) (o : Outcome) (here : Held) (steps :
 
 -- at the world that is told before the step
 told_step : (line : Line) (actor : ℕ) (a b : Held) (steps : List (Step Kind)) (before : World Held) (k : Kind) (v : ℕ) (behind : Option (World Held))
-    → line_of a ≡ line → a.state.actor ≡ line.actor → Legal mmu before steps → hand_in mmu (run mmu before steps) actor ≡ a → SoFar a.state.place line (history before steps)
+    → has_line a ≡ true → line_of a ≡ line → a.state.actor ≡ line.actor → Legal mmu before steps → hand_in mmu (run mmu before steps) actor ≡ a → SoFar a.state.place line (history before steps)
     → b ≡ next a k v → May mmu (run mmu before steps) (step_by actor k) → answered mmu (run mmu before steps) k ≡ v → behind ≡ Some (effect mmu (run mmu before steps) (step_by actor k))
     → ToldStep line actor (outcome_of a v) b (steps ++ step_by actor k ∷ []) before behind
-told_step line actor a b steps before k v behind is own legal has so_far hand may found ends =
+told_step line actor a b steps before k v behind has_line_ is own legal has so_far hand may found ends =
     let here : World Held = run mmu before steps in
     let step : Step Kind = step_by actor k in
     let further : run mmu before (steps ++ step ∷ []) ≡ effect mmu here step = run_one_more before steps step in
@@ -105,17 +109,17 @@ told_step line actor a b steps before k v behind is own legal has so_far hand ma
       has = ap (λ (w : World Held). hand_in mmu w actor) further ∙ (own_hand here step may.there
           ∙ (ap (λ (h : Held). next h k (answered mmu here k)) has ∙ (ap (λ (n : ℕ). next a k n) found ∙ sym hand)));
       tells = subst (λ (es : List Event). events.Tells (outcome_of a v) line es) (sym (history_one_more before steps step ∙ ap (λ (es : List Event). history before steps ++ es) tells))
-          (step_tells a line v (history before steps) is own so_far);
+          (step_tells a line v (history before steps) has_line_ is own so_far);
     }
 
 -- the same, where the world may not be told
 told_on : (told mid tells : Option (World Held)) (line : Line) (actor : ℕ) (a b : Held) (steps : List (Step Kind)) (k : Kind) (v : ℕ)
-    → line_of a ≡ line → a.state.actor ≡ line.actor → b ≡ next a k v → IfSome told (λ w. PartTold line actor a steps w mid) → Tells mid actor k v tells
+    → has_line a ≡ true → line_of a ≡ line → a.state.actor ≡ line.actor → b ≡ next a k v → IfSome told (λ w. PartTold line actor a steps w mid) → Tells mid actor k v tells
     → IfSome told (λ w. ToldStep line actor (outcome_of a v) b (steps ++ step_by actor k ∷ []) w tells)
-told_on None mid tells line actor a b steps k v is own hand part moves = tt
-told_on (Some w) mid tells line actor a b steps k v is own hand part moves =
+told_on None mid tells line actor a b steps k v has_line_ is own hand part moves = tt
+told_on (Some w) mid tells line actor a b steps k v has_line_ is own hand part moves =
     let moved = subst (λ (m : Option (World Held)). Tells m actor k v tells) part.ends moves in
-    told_step line actor a b steps w k v tells is own part.legal part.has part.so_far hand moved.0 moved.1 moved.2
+    told_step line actor a b steps w k v tells has_line_ is own part.legal part.has part.so_far hand moved.0 moved.1 moved.2
 
 adds_on : (told mid tells : Option (List (Step Kind))) (actor : ℕ) (steps : List (Step Kind)) (k : Kind) → IfSome told (λ ss. mid ≡ Some (ss ++ steps)) → Adds mid actor k tells
     → IfSome told (λ ss. tells ≡ Some (ss ++ (steps ++ step_by actor k ∷ [])))
@@ -149,9 +153,9 @@ world_on None tells line actor o b steps is under step = tt
 world_on (Some w) tells line actor o b steps is under step =
     record { legal = step.legal; ends = step.ends; has = step.has; so_far = under_told b.state.place line (history w steps) under (opened o line (history w steps) is step.tells) }
 
-pub part_goes_on : (line : Line) (actor by : ℕ) (start a b : Held) (told mid tells : Told) → by ≡ actor → line.actor ≡ start.state.actor
+pub part_goes_on : (line : Line) (actor by : ℕ) (start a b : Held) (told mid tells : Told) → by ≡ actor → length a.answers < length a.lines → line.actor ≡ start.state.actor
     → PartRun line actor start a told mid → OneStep More by a b mid tells → GoesOn (line_of a) a b → IsSameHand a b → PartRun line actor start b told tells
-part_goes_on line actor by start a b told mid tells mine own part one says same =
+part_goes_on line actor by start a b told mid tells mine left own part one says same =
     let step : OneStep More actor a b mid tells = subst (λ (n : ℕ). OneStep More n a b mid tells) mine one in
     let more : List (Step Kind) = step_by actor step.kind ∷ [] in
     record {
@@ -162,7 +166,7 @@ part_goes_on line actor by start a b told mid tells mine own part one says same 
       own = All-append (λ s. s.actor ≡ actor) part.steps more part.own (All-cons (λ s. s.actor ≡ actor) (step_by actor step.kind) [] refl (All-nil (λ s. s.actor ≡ actor)));
       few = omega (arith, length-append part.steps more, part.few, says.nearer);
       world = world_on told.world tells.world line actor (outcome_of a step.found) b (part.steps ++ more) step.gives says.under_way
-          (told_on told.world mid.world tells.world line actor a b part.steps step.kind step.found part.line_is (part.same.actor ∙ sym own) step.hand part.world step.world);
+          (told_on told.world mid.world tells.world line actor a b part.steps step.kind step.found (has_line_is a left) part.line_is (part.same.actor ∙ sym own) step.hand part.world step.world);
       added = adds_on told.steps mid.steps tells.steps actor part.steps step.kind part.added step.steps;
     }
 
@@ -195,9 +199,9 @@ world_ends (Some w) tells line answer actor o b steps is step =
     let whole = closed o line answer (history w steps) is step.tells in
     record { legal = step.legal; ends = step.ends; alone = whole.alone; answers = whole.answers }
 
-pub part_ends : (line : Line) (answer : Answer) (actor by : ℕ) (start a b : Held) (told mid tells : Told) → by ≡ actor → line.actor ≡ start.state.actor
+pub part_ends : (line : Line) (answer : Answer) (actor by : ℕ) (start a b : Held) (told mid tells : Told) → by ≡ actor → length a.answers < length a.lines → line.actor ≡ start.state.actor
     → PartRun line actor start a told mid → OneStep (Done answer) by a b mid tells → RanAlone line answer actor told tells
-part_ends line answer actor by start a b told mid tells mine own part one =
+part_ends line answer actor by start a b told mid tells mine left own part one =
     let step : OneStep (Done answer) actor a b mid tells = subst (λ (n : ℕ). OneStep (Done answer) n a b mid tells) mine one in
     let more : List (Step Kind) = step_by actor step.kind ∷ [] in
     record {
@@ -205,6 +209,6 @@ part_ends line answer actor by start a b told mid tells mine own part one =
       own = All-append (λ s. s.actor ≡ actor) part.steps more part.own (All-cons (λ s. s.actor ≡ actor) (step_by actor step.kind) [] refl (All-nil (λ s. s.actor ≡ actor)));
       few = omega (arith, length-append part.steps more, part.few, some_left a.state.place);
       world = world_ends told.world tells.world line answer actor (outcome_of a step.found) b (part.steps ++ more) step.gives
-          (told_on told.world mid.world tells.world line actor a b part.steps step.kind step.found part.line_is (part.same.actor ∙ sym own) step.hand part.world step.world);
+          (told_on told.world mid.world tells.world line actor a b part.steps step.kind step.found (has_line_is a left) part.line_is (part.same.actor ∙ sym own) step.hand part.world step.world);
       added = adds_on told.steps mid.steps tells.steps actor part.steps step.kind part.added step.steps;
     }

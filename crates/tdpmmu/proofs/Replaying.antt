@@ -23,6 +23,7 @@ use Rattle.core_views.specs.Traces.{IsCommandFor}
 use Rattle.core_views.specs.Whole.{IsWhole, lines_of}
 use Rattle.core_views.proofs.AloneIsFlat.{goes_as_flat}
 use Rattle.core_views.proofs.StandsAlone.{stands_append}
+use Rattle.mmu_core.specs.Bounds.{most_steps}
 use Rattle.mmu_core.specs.Enabled.{mmu}
 use Rattle.mmu_core.specs.LineRuns.{RunsLine}
 use Rattle.mmu_core.specs.Machine.{Legal, Step, World, effect, hand_in, run}
@@ -92,13 +93,14 @@ prints_flat z trace done start w t line answer r ss is_start L =
     sym (append-nil (line_text line.number line.actor answer)) ∙ sym one ∙ flat ∙ ap text (append-nil (alone z line (facts_at z done first_facts)))
 
 -- One line more has run.
-pub runs_more : (start w t : World Held) (done : List Line) (line : Line) (answer : Answer) (ss : List (Step Kind)) → RunsLines start done w → RunsLine line answer ss w (Some t) → RunsLines start (done ++ line ∷ []) t
-runs_more start w t done line answer ss r L = record {
+pub runs_more : (start w t : World Held) (done : List Line) (line : Line) (answer : Answer) (ss : List (Step Kind)) → RunsLines start done w → RunsLine line answer ss w (Some t) → length ss ≤ most_steps → RunsLines start (done ++ line ∷ []) t
+runs_more start w t done line answer ss r L few = record {
   steps = r.steps ++ ss;
   legal = legal-append mmu start r.steps ss r.legal (subst (λ x. Legal mmu x ss) (sym r.ends) L.legal);
   ends = run-append mmu start r.steps ss ∙ ap (λ x. run mmu x ss) r.ends ∙ sym (some_is t (run mmu w ss) L.ends);
   alone = subst (λ es. StandsAlone es (done ++ line ∷ [])) (sym (history_append start r.steps ss ∙ ap (λ x. history start r.steps ++ history x ss) r.ends))
       (stands_append done (line ∷ []) (history start r.steps) (history w ss) r.alone L.alone);
+  few = omega (arith, length-append r.steps ss, length-append done (line ∷ []), r.few, few);
 }
   where
     some_is : (x y : World Held) → Some x ≡ Some y → x ≡ y
@@ -106,7 +108,7 @@ runs_more start w t done line answer ss r L = record {
 
 -- Nothing has run at the start.
 pub runs_none : (start : World Held) → RunsLines start [] start
-runs_none start = record { steps = []; legal = tt; ends = refl; alone = refl }
+runs_none start = record { steps = []; legal = tt; ends = refl; alone = refl; few = omega arith }
 
 pub behind_none : (z : Sizes) (lines : List Line) (w : World Held) → IsStart z lines w → AreBehind z lines 0 w
 behind_none z lines w start = λ i lt. subst (IsBehind z lines 0 i) (sym (hand_is z lines w i start lt)) (record { between = refl; whose = refl; lines_are = refl; answered = refl })
@@ -218,7 +220,7 @@ so_far_prefix start here rest whole (w, p, e) =
 -- One line more: the list of steps, and the answer's text.
 pub steps_more : (z : Sizes) (lines : List Line) (i : ℕ) (start w t : World Held) (answer : Answer) (a : ℕ) → i < length lines → RunsLines start (take i lines) w → RanOn (get_or lines i no_line) answer a w t
     → RunsLines start (take (i + 1) lines) t
-steps_more z lines i start w t answer a lt r ran = subst (λ ls. RunsLines start ls t) (sym (one_more_line lines i no_line lt)) (runs_more start w t (take i lines) (get_or lines i no_line) answer ran.steps r ran.runs)
+steps_more z lines i start w t answer a lt r ran = subst (λ ls. RunsLines start ls t) (sym (one_more_line lines i no_line lt)) (runs_more start w t (take i lines) (get_or lines i no_line) answer ran.steps r ran.runs ran.few)
 
 pub line_prints : (z : Sizes) (lines : List Line) (i : ℕ) (start w t : World Held) (answer : Answer) (a : ℕ) → IsStart z lines start → RunsLines start (take i lines) w → RanOn (get_or lines i no_line) answer a w t
     → line_text (get_or lines i no_line).number (get_or lines i no_line).actor answer ≡ text (alone z (get_or lines i no_line) (facts_at z (take i lines) first_facts))
@@ -229,7 +231,8 @@ pub replays : (trace : Trace) (start end_ : World Held) → IsStart (sizes_of tr
 replays trace start end_ is_start r =
     let z : Sizes = sizes_of trace.header in
     let lawful = every_history z trace.lines start r.steps is_start r.legal in
-    record { start = start; is_start = is_start; runs = r; lawful = lawful; whole = (goes_as_flat z trace.lines (history start r.steps) first_flat (λ i. refl) lawful r.alone).whole }
+    let flat = goes_as_flat z trace.lines (history start r.steps) first_flat (λ i. refl) lawful r.alone in
+    record { start = start; is_start = is_start; runs = r; lawful = lawful; whole = flat.whole; prints = flat.prints }
 
 -- All was put, and what waits is written, or a prefix of it.
 pub writes_rest : (start here after : Option (List ℕ)) (waited waits piece put whole : List ℕ) (r : Result (Unit {0}) Stop) → waited ≡ [] → put ≡ whole → Buffers start here waited waits (Ok tt) put → piece ≡ waits → Wrote here after r piece → Wrote start after r whole

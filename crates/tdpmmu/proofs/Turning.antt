@@ -13,13 +13,13 @@ use Rattle.mmu_core.specs.Steps.{next}
 use Rattle.mmu_core.specs.Tasks.{answers_after}
 use Rattle.mmu_core.specs.Turns.{Comes, IsSameHand, line_of, outcome_of, with_answer}
 use Rattle.mmu_core.proofs.HandAfter.{next_comes, next_same}
-use Rattle.tdpmmu.specs.declared.turn.Turn.{Turn}
-use Rattle.tdpmmu.specs.declared.turn.Turn.TheVariants.{More, Done}
+use Rattle.mmu_core.proofs.Which.{has_line_is, next_of_line}
+use Rattle.step_seats.specs.declared.turn.Turn.{Turn}
+use Rattle.step_seats.specs.declared.turn.Turn.TheVariants.{More, Done}
 use Rattle.tdpmmu.specs.Turns.{Says, turn_of}
 
-next_answers : (h : Held) (k : Kind) (v : ℕ) → (next h k v).answers ≡ answers_after (outcome_of h v) (line_of h) h.answers
-unfolding next
-next_answers h k v = refl
+next_answers : (h : Held) (k : Kind) (v : ℕ) → length h.answers < length h.lines → (next h k v).answers ≡ answers_after (outcome_of h v) (line_of h) h.answers
+next_answers h k v left = ap (λ (g : Held). g.answers) (next_of_line h k v (has_line_is h left))
 
 -- one answer more stands there
 answered_by : (o : Outcome) (line : Line) (xs ys : List AnsweredLine) (x : AnsweredLine) → ys ≡ answers_after o line xs → length xs < length ys → x ≡ get_or ys (length xs) x → Done x.answer ≡ turn_of o
@@ -32,19 +32,19 @@ unanswered_by : (o : Outcome) (line : Line) (xs ys : List AnsweredLine) → ys �
 unanswered_by (Goes p) line xs ys is few = refl
 unanswered_by (Ends answer) line xs ys is few = absurd (omega (arith, ap length is, length-append xs (with_answer line answer ∷ [])))
 
-pub turn_is_done : (h g : Held) (k : Kind) (v i : ℕ) (seen : List AnsweredLine) (x : AnsweredLine) → g ≡ next h k v → seen ≡ g.answers → i ≡ length h.answers → i < length seen → x ≡ get_or seen i x → Done x.answer ≡ turn_of (outcome_of h v)
-turn_is_done h g k v i seen x hand answers at below is =
-    answered_by (outcome_of h v) (line_of h) h.answers seen x (answers ∙ ap (λ (e : Held). e.answers) hand ∙ next_answers h k v) (omega arith) (is ∙ ap (λ (j : ℕ). get_or seen j x) at)
+pub turn_is_done : (h g : Held) (k : Kind) (v i : ℕ) (seen : List AnsweredLine) (x : AnsweredLine) → length h.answers < length h.lines → g ≡ next h k v → seen ≡ g.answers → i ≡ length h.answers → i < length seen → x ≡ get_or seen i x → Done x.answer ≡ turn_of (outcome_of h v)
+turn_is_done h g k v i seen x left hand answers at below is =
+    answered_by (outcome_of h v) (line_of h) h.answers seen x (answers ∙ ap (λ (e : Held). e.answers) hand ∙ next_answers h k v left) (omega arith) (is ∙ ap (λ (j : ℕ). get_or seen j x) at)
 
-pub turn_is_more : (h g : Held) (k : Kind) (v i : ℕ) (seen : List AnsweredLine) → g ≡ next h k v → seen ≡ g.answers → i ≡ length h.answers → length seen ≤ i → More ≡ turn_of (outcome_of h v)
-turn_is_more h g k v i seen hand answers at few = unanswered_by (outcome_of h v) (line_of h) h.answers seen (answers ∙ ap (λ (e : Held). e.answers) hand ∙ next_answers h k v) (omega arith)
+pub turn_is_more : (h g : Held) (k : Kind) (v i : ℕ) (seen : List AnsweredLine) → length h.answers < length h.lines → g ≡ next h k v → seen ≡ g.answers → i ≡ length h.answers → length seen ≤ i → More ≡ turn_of (outcome_of h v)
+turn_is_more h g k v i seen left hand answers at few = unanswered_by (outcome_of h v) (line_of h) h.answers seen (answers ∙ ap (λ (e : Held). e.answers) hand ∙ next_answers h k v left) (omega arith)
 
 says_by : (o : Outcome) (line : Line) (h g : Held) → Comes o line h g → Says (turn_of o) line h g
 says_by (Goes p) line h g comes = comes
 says_by (Ends answer) line h g comes = comes
 
-pub turn_says : (turn : Turn Answer) (h g : Held) (k : Kind) (v : ℕ) → Enabled h k → g ≡ next h k v → turn ≡ turn_of (outcome_of h v) → Says turn (line_of h) h g
-turn_says turn h g k v enabled hand is = rw (is, hand) (says_by (outcome_of h v) (line_of h) h (next h k v) (next_comes h k v enabled))
+pub turn_says : (turn : Turn Answer) (h g : Held) (k : Kind) (v : ℕ) → length h.answers < length h.lines → Enabled h k → g ≡ next h k v → turn ≡ turn_of (outcome_of h v) → Says turn (line_of h) h g
+turn_says turn h g k v left enabled hand is = rw (is, hand) (says_by (outcome_of h v) (line_of h) h (next h k v) (next_comes h k v left enabled))
 
 pub same_hand : (h g : Held) (k : Kind) (v : ℕ) → g ≡ next h k v → IsSameHand h g
 same_hand h g k v hand = rw hand (next_same h k v)

@@ -13,18 +13,14 @@ use Rattle.mmu_core.specs.Machine.{Step, World, hand_in}
 use Rattle.mmu_core.specs.Steps.{next}
 use Rattle.mmu_core.specs.Turns.{GoesOn, IsAnswered, outcome_of}
 use Rattle.step_seats.specs.Moves.{Adds, Tells}
-use Rattle.tdpmmu.specs.declared.turn.Turn.{Turn}
-use Rattle.tdpmmu.specs.declared.turn.Turn.TheVariants.{More, Done}
+use Rattle.step_seats.specs.declared.turn.Turn.{Turn}
+use Rattle.step_seats.specs.declared.turn.Turn.TheVariants.{More, Wait, Done}
+use Rattle.step_seats.specs.PartTurns.{Told}
 
 -- what a turn answers, by where the line stands after its step
 abbrev pub turn_of : Outcome → Turn Answer
 turn_of (Goes place) = More
 turn_of (Ends answer) = Done answer
-
--- all that a seat tells: the world, and the steps made so far
-pub record Told : Type 0 where
-  pub world : Option (World Held)
-  pub steps : Option (List (Step Kind))
 
 -- One step that the hand allows takes the actor's hand, and what its seat tells, to the next; the turn answers what its line is answered.
 pub record OneStep (turn : Turn Answer) (actor : ℕ) (before after : Held) (told tells : Told) : Type 0 where
@@ -40,10 +36,7 @@ pub record OneStep (turn : Turn Answer) (actor : ℕ) (before after : Held) (tol
 abbrev pub Says : Turn Answer → Line → Held → Held → Type 0
 Says More line before after = GoesOn line before after
 Says (Done answer) line before after = IsAnswered line answer before after
-
--- Where the world is told, the actor's hand in it is this one.
-abbrev pub HasHand : Option (World Held) → ℕ → Held → Type 0
-HasHand told actor hand = IfSome told (λ w. hand_in mmu w actor ≡ hand)
+Says (Wait seen) line before after = ⊥
 
 -- The line ran alone: some steps of its actor alone, no more than a line makes, lead from what was told to what is told now.
 pub record RanAlone (line : Line) (answer : Answer) (actor : ℕ) (told tells : Told) : Type 0 where

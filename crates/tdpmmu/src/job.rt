@@ -1,13 +1,13 @@
-ghost use Rattle.std.specs.Prelude.{◌≡◌, ◌<◌, IfOk, OnErr, OnOk, Some, length, slice_get};
+ghost use Rattle.std.specs.Prelude.{◌≡◌, ◌<◌, IfOk, IfSome, OnErr, OnOk, Some, length, slice_get};
 ghost use Rattle.core_views.specs.declared.place.Place.TheVariants.{Between};
 ghost use Rattle.mmu_core.specs.Turns.{IsAnswered, IsSameHand, line_of};
 ghost use Rattle.step_seats.specs.Moves.{KeepsRoom};
-ghost use Rattle.tdpmmu.specs.Turns.{HasHand, OneStep, RanAlone, Says};
+ghost use Rattle.step_seats.specs.PartTurns.{HasHand};
+ghost use Rattle.tdpmmu.specs.Turns.{OneStep, RanAlone, Says};
 
-use crate::turn::Turn;
 use core_views::{Answer, Line, NoMemory};
 use mmu_core::{next_kind, rests};
-use step_seats::Stepper;
+use step_seats::{Stepper, Turn};
 
 /// The work on one line of an actor, a step a turn. Where the line stands is
 /// kept in the actor's hand, which drives the job.
@@ -22,6 +22,8 @@ pub struct LineJob {
 pub fn start_line<S: Stepper>(s: &mut S, line: &Line) -> Result<LineJob, NoMemory>
     ensures job { IfOk result (λ job. job.index ≡ length (S.handful s.old).core.answers) }
     ensures reserved { OnOk result (0 < (S.handful s.new).room) }
+    ensures has { OnOk result (IfSome (S.told s.new) (HasHand (S.actor s.new) (S.handful s.new).core)) }
+    ensures refused { OnErr result (S.handful s.new ≡ S.handful s.old) }
     ensures hand { (S.handful s.new).core ≡ (S.handful s.old).core }
     ensures told { (S.told s.new ≡ S.told s.old) × (S.steps s.new ≡ S.steps s.old) }
     ensures same { (S.actor s.new ≡ S.actor s.old) × (S.frame s.new ≡ S.frame s.old) }
@@ -62,7 +64,6 @@ pub fn run_line<S: Stepper>(s: &mut S, line: &Line) -> Result<Answer, NoMemory>
     requires idle { (S.handful s.old).core.state.place ≡ Between }
     requires next { slice_get (S.handful s.old).core.lines (length (S.handful s.old).core.answers) ≡ Some line.now }
     requires own { line.now.actor ≡ (S.handful s.old).core.state.actor }
-    requires told { HasHand (S.told s.old) (S.actor s.old) (S.handful s.old).core }
     ensures answered { IfOk result (λ answer. IsAnswered line.now answer (S.handful s.old).core (S.handful s.new).core) }
     ensures alone { IfOk result (λ answer. RanAlone line.now answer (S.actor s.old) (record { world = S.told s.old; steps = S.steps s.old }) (record { world = S.told s.new; steps = S.steps s.new })) }
     ensures hand { IsSameHand (S.handful s.old).core (S.handful s.new).core }
@@ -73,6 +74,7 @@ pub fn run_line<S: Stepper>(s: &mut S, line: &Line) -> Result<Answer, NoMemory>
     loop {
         match job.turn(s) {
             Turn::More => {}
+            Turn::Wait(_) => unreachable!(),
             Turn::Done(answer) => return Ok(answer),
         }
     }

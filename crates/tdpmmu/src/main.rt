@@ -8,7 +8,6 @@ mod program;
 mod replay;
 mod run_on;
 mod status;
-mod turn;
 
 use core_views::NoMemory;
 use program::run;

@@ -1,4 +1,5 @@
 -- A printed line tells its parts: each number ends at the first byte that is no digit.
+use Rattle.std.specs.Prelude.{◌==◌, if◌then◌else◌}
 use Rattle.std.proofs.Common.{◌≡◌, ◌≤◌, ◌<◌, ◌^◌, ℕ, List, [], ◌∷◌, ◌++◌, codes, length, drop, get_or, arith, refl, sym, ap, ◌∙◌, append_assoc}
 use Rattle.std.proofs.lemmas.Fmt.{decimal_is_IsNumeral, decimal_injective}
 use Rattle.std.specs.Char.{digit_value}
@@ -9,7 +10,8 @@ use Rattle.core_views.specs.declared.actor.Actor.{Actor}
 use Rattle.core_views.specs.declared.actor.Actor.TheVariants.{Vcpu, Host, Manager, Worker}
 use Rattle.core_views.specs.declared.answer.Answer.{Answer}
 use Rattle.core_views.specs.declared.answer.Answer.TheVariants.{Reached, Mmio, Done, Refused}
-use Rattle.core_views.specs.declared.answer.Refusal.TheVariants.{BadId, TooLarge}
+use Rattle.core_views.specs.declared.answer.Refusal.{Refusal}
+use Rattle.core_views.specs.declared.answer.Refusal.TheVariants.{BadId, TooLarge, Missing, Logged, NoLog, Resize, Fixed, Overlap, HostOverlap}
 use Rattle.trace_text.specs.Laws.{IsPrintable, AreNumbers, LinesTell}
 
 -- The first items of equal lists, and what is behind them.
@@ -84,6 +86,31 @@ reached f v = decimal f ++ 32 ∷ (codes "value " ++ (decimal v ++ 10 ∷ []))
 reached_is : (f v : ℕ) → drop 6 (answer_text (Reached f v) ++ 10 ∷ []) ≡ reached f v
 reached_is f v = append_assoc (decimal f) (codes " value " ++ decimal v) (10 ∷ [])
 
+-- The refusal whose name begins with the letter.
+by_letter : ℕ → Refusal
+by_letter c =
+    if c == 98 then BadId else
+    if c == 116 then TooLarge else
+    if c == 109 then Missing else
+    if c == 108 then Logged else
+    if c == 110 then NoLog else
+    if c == 114 then Resize else
+    if c == 102 then Fixed else
+    if c == 111 then Overlap else
+    HostOverlap
+
+letter_tells : (r : Refusal) → by_letter (get_or (answer_text (Refused r) ++ 10 ∷ []) 8 0) ≡ r
+unfolding by_letter
+letter_tells BadId = refl
+letter_tells TooLarge = refl
+letter_tells Missing = refl
+letter_tells Logged = refl
+letter_tells NoLog = refl
+letter_tells Resize = refl
+letter_tells Fixed = refl
+letter_tells Overlap = refl
+letter_tells HostOverlap = refl
+
 -- An answer and its LF.
 answer : (x y : Answer) → AreNumbers x → AreNumbers y → answer_text x ++ 10 ∷ [] ≡ answer_text y ++ 10 ∷ [] → x ≡ y
 answer (Reached f v) (Reached g w) xb yb e =
@@ -93,10 +120,7 @@ answer (Reached f v) (Reached g w) xb yb e =
     rw (p.0, q.0) refl
 answer Mmio Mmio xb yb e = refl
 answer Done Done xb yb e = refl
-answer (Refused BadId) (Refused BadId) xb yb e = refl
-answer (Refused TooLarge) (Refused TooLarge) xb yb e = refl
-answer (Refused BadId) (Refused TooLarge) xb yb e = absurd (differ 98 116 (omega arith) (ap (λ (l : List ℕ). get_or l 8 0) e))
-answer (Refused TooLarge) (Refused BadId) xb yb e = absurd (differ 116 98 (omega arith) (ap (λ (l : List ℕ). get_or l 8 0) e))
+answer (Refused r) (Refused s) xb yb e = ap Refused (sym (letter_tells r) ∙ ap (λ (l : List ℕ). by_letter (get_or l 8 0)) e ∙ letter_tells s)
 answer (Reached f v) Mmio xb yb e = absurd (differ 102 109 (omega arith) (ap (λ (l : List ℕ). get_or l 0 0) e))
 answer (Reached f v) Done xb yb e = absurd (differ 102 100 (omega arith) (ap (λ (l : List ℕ). get_or l 0 0) e))
 answer (Reached f v) (Refused r) xb yb e = absurd (differ 102 114 (omega arith) (ap (λ (l : List ℕ). get_or l 0 0) e))
