@@ -1,0 +1,46 @@
+-- What tries for the lock come to.
+use Rattle.std.proofs.Common.{◌≡◌, ◌<◌, ◌≤◌, ◌^◌, ℕ, refl, ap, ◌∙◌, arith}
+use Rattle.std.specs.Prelude.{Bool, true, false, if◌then◌else◌}
+use Rattle.std.proofs.lemmas.Bool.Decides.{nat_tests}
+use Rattle.core_views.specs.declared.topics.Hold.{Hold}
+use Rattle.core_views.specs.declared.topics.Hold.TheVariants.{Loose, Shared, Owing, Exclusive}
+use Rattle.core_views.specs.declared.topics.Topics.{Topics}
+use Rattle.core_views.specs.Held.{Held}
+use Rattle.mmu_core.specs.declared.part_step.PartStep.TheVariants.{Share}
+use Rattle.mmu_core.specs.PartRests.{MayMake}
+use Rattle.mmu_core.specs.PartSteps.{PartNeeds}
+use Rattle.mmu_core.specs.TopicSteps.{has_writer}
+use Rattle.mmu_lock.specs.Locking.{shared_step, tries_left}
+
+-- Who isn't owing wants to share, and holds nothing of the lock.
+pub wants_share : (h : Held) (note : ℕ) → ((w : ℕ) → h.topics.hold ≡ Owing w → ⊥) → MayMake (shared_step h.topics.hold) note h → (shared_step h.topics.hold ≡ Share) × (h.topics.hold ≡ Loose)
+wants_share h note never may = by h.topics.hold refl may.needs
+  where
+    by : (x : Hold) → h.topics.hold ≡ x → PartNeeds (shared_step x) h → (shared_step x ≡ Share) × (h.topics.hold ≡ Loose)
+    by Loose is needs = (refl, needs)
+    by Shared is needs = (refl, needs)
+    by Exclusive is needs = (refl, needs)
+    by (Owing w) is needs = absurd (never w is)
+
+pub writer_seen : (found : ℕ) → 2 ^ 63 ≤ found → has_writer found ≡ true
+writer_seen found le = grind (arith, nat_tests)
+
+pub no_writer_seen : (found : ℕ) → found < 2 ^ 63 → has_writer found ≡ false
+no_writer_seen found lt = grind (arith, nat_tests)
+
+-- what is held behind a share
+abbrev pub with_hold : Topics → Hold → Topics
+with_hold t x = record t { hold = x }
+
+pub owes_behind : (before after : Topics) (found : ℕ) → after ≡ with_hold before (if has_writer found then Owing found else Shared) → 2 ^ 63 ≤ found → after ≡ with_hold before (Owing found)
+owes_behind before after found is le = is ∙ ap (λ (b : Bool). with_hold before (if b then Owing found else Shared)) (writer_seen found le)
+
+pub shares_behind : (before after : Topics) (found : ℕ) → after ≡ with_hold before (if has_writer found then Owing found else Shared) → found < 2 ^ 63 → after ≡ with_hold before Shared
+shares_behind before after found is lt = is ∙ ap (λ (b : Bool). with_hold before (if b then Owing found else Shared)) (no_writer_seen found lt)
+
+pub not_free : (n : ℕ) → 2 ^ 63 ≤ n → n ≡ 0 → ⊥
+not_free n le is = absurd (omega (arith, le, is))
+
+-- Who has yet to take itself out has one turn left.
+pub fewer_left : (before after : Hold) (word : ℕ) → before ≡ Loose → after ≡ Owing word → tries_left after < tries_left before
+fewer_left before after word loose owes = rw (loose, owes) (omega arith)
