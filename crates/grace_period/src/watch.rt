@@ -1,0 +1,100 @@
+ghost use Rattle.std.specs.Prelude.{◌≡◌, ◌<◌, true, false, IfSome};
+ghost use Rattle.grace_period.specs.Watches.{IsFoundBy, Watched, actors_left, is_done, looked_at, waits};
+ghost use Rattle.mmu_core.specs.OthersRest.{OthersRest};
+ghost use Rattle.mmu_core.specs.PartRests.{MayMake, PartRests};
+ghost use Rattle.mmu_core.specs.PartSteps.{PartNeeds};
+ghost use Rattle.mmu_core.specs.TopicSteps.{in_section};
+ghost use Rattle.mmu_core.specs.declared.part_step.PartStep.TheVariants as part;
+ghost use Rattle.step_seats.specs.Moves.{KeepsRoom};
+ghost use Rattle.step_seats.specs.PartTurns.{MakesPart};
+ghost use Rattle.step_seats.specs.declared.turn.Turn.TheVariants.{More};
+
+use core_views::{Hand, Seen};
+use mmu_core::{PartStep, map_of, next_watched, part_rests};
+use std::marker::Model;
+use step_seats::{Stepper, Turn, make_part};
+
+/// A watch of all other actors, one after another in the order of their state
+/// words: each is looked at until it is seen in no section and not in the guest
+/// (KVM's `synchronize_rcu` and `synchronize_srcu`). Behind it nobody holds, in a
+/// section or in the guest, what was loaded before the watch.
+#[derive(Clone, Copy, Debug, PartialEq, Eq, Drop)]
+pub struct Watch {
+    has_looked: bool,
+}
+
+impl Model for Watch {
+    ghost use Rattle.grace_period.specs.Watches.{Watching};
+
+    ghost Value = { Watching };
+
+    ghost view = { λ w. record { has_looked = w.has_looked } };
+
+    ghost inverse = { λ w. record { has_looked = w.has_looked } };
+}
+
+// Bit 1 of a state word: its actor is in a section, or in the guest.
+fn in_section(state: u64) -> bool
+    ensures { result ≡ in_section state }
+{
+    state / 2 % 2 == 1
+}
+
+impl Watch {
+    /// A watch that has looked at nobody yet.
+    pub fn new() -> Self
+        ensures { result.has_looked ≡ false }
+    {
+        Watch { has_looked: false }
+    }
+
+    // The place of the actor that the next turn looks at.
+    pub(crate) fn next_look(&self, hand: &Hand) -> u64
+        requires { PartRests hand.now.core }
+        ensures { result ≡ looked_at self.now hand.now.core }
+    {
+        let state = hand.state();
+        let own = state.sizes.index_of(state.actor);
+        let seen = if self.has_looked {
+            hand.topics().watched
+        } else {
+            0
+        };
+        next_watched(own, seen)
+    }
+
+    /// Looks at the next actor. Where this one is in a section or in the guest,
+    /// the turn waits, and the next turn looks at it again; else the watch goes
+    /// on to the next actor, and is done behind the last one. There must be an
+    /// actor left to look at; of the first turn there always is.
+    pub fn turn<S: Stepper>(&mut self, s: &mut S, note: u64) -> Turn<()>
+        requires may { MayMake (part.Watch (looked_at self.old (S.handful s.old).core)) note (S.handful s.old).core }
+        requires reserved { 0 < (S.handful s.old).room }
+        ensures step { MakesPart (part.Watch (looked_at self.old (S.handful s.old).core)) note (S.actor s.old) (S.handful s.old).core (S.handful s.new).core (record { world = S.told s.old; steps = S.steps s.old }) (record { world = S.told s.new; steps = S.steps s.new }) }
+        ensures found { IsFoundBy result (looked_at self.old (S.handful s.old).core) note (S.actor s.old) (S.handful s.old).core (S.handful s.new).core (record { world = S.told s.old; steps = S.steps s.old }) (record { world = S.told s.new; steps = S.steps s.new }) }
+        ensures watched { Watched result (looked_at self.old (S.handful s.old).core) (S.handful s.old).core (S.handful s.new).core.topics }
+        ensures goes_on { is_done result ≡ false → PartNeeds (part.Watch (looked_at self.new (S.handful s.new).core)) (S.handful s.new).core }
+        ensures looked { self.new.has_looked ≡ true }
+        ensures nearer { result ≡ More → actors_left self.new (S.handful s.new).core < actors_left self.old (S.handful s.old).core }
+        ensures alone { IfSome (S.told s.old) (λ w. OthersRest (S.actor s.old) w → waits result ≡ false) }
+        ensures room { KeepsRoom (S.handful s.old) (S.handful s.new) }
+        ensures same { (S.actor s.new ≡ S.actor s.old) × (S.frame s.new ≡ S.frame s.old) }
+    {
+        let hand = s.hand();
+        part_rests(hand);
+        let sizes = hand.state().sizes;
+        let own = sizes.index_of(hand.state().actor);
+        let index = self.next_look(hand);
+        self.has_looked = true;
+        let value = make_part(s, PartStep::Watch(index), note);
+        if in_section(value) {
+            let word = map_of(&sizes).word_of_state(index);
+            return Turn::Wait(Seen { word, value });
+        }
+        if next_watched(own, index + 1) < sizes.actors() {
+            Turn::More
+        } else {
+            Turn::Done(())
+        }
+    }
+}
