@@ -1,0 +1,109 @@
+-- Claims of pool pages: what comes next, and what each answer says.
+use Rattle.std.specs.Prelude.{◌≡◌, ◌≢◌, ◌+◌, ◌-◌, ◌*◌, ◌%◌, ◌<◌, ◌⊎◌, ℕ, Bool, true, false, ◌&&◌, nat_lt, if◌then◌else◌, Option, Some, None, IfSome, length}
+use Rattle.core_views.specs.declared.hand.Seen.{Seen}
+use Rattle.core_views.specs.declared.sizes.Sizes.{Sizes}
+use Rattle.core_views.specs.declared.topics.MapClaim.{MapClaim}
+use Rattle.core_views.specs.declared.topics.Topics.{Topics}
+use Rattle.core_views.specs.Held.{Held}
+use Rattle.spte_words.specs.declared.area.Area.TheVariants as area
+use Rattle.spte_words.specs.Areas.{place, words_of_bits}
+use Rattle.spte_words.specs.Bits.{has_bit}
+use Rattle.mmu_core.specs.declared.part_step.PartStep.{PartStep}
+use Rattle.mmu_core.specs.declared.part_step.PartStep.TheVariants as part
+use Rattle.mmu_core.specs.Enabled.{mmu}
+use Rattle.mmu_core.specs.Machine.{World, hand_in}
+use Rattle.mmu_core.specs.PartTopics.{part_topics}
+use Rattle.mmu_core.specs.PoolPart.{is_free, is_owned}
+use Rattle.mmu_core.specs.Tasks.{map_of}
+use Rattle.mmu_core.specs.TopicSteps.{tried_bit}
+use Rattle.mmu_core.specs.View.{word_in}
+use Rattle.step_seats.specs.declared.turn.Turn.{Turn}
+use Rattle.step_seats.specs.declared.turn.Turn.TheVariants.{More, Wait, Done}
+use Rattle.table_pool.specs.declared.claim.Claim.{Claim}
+use Rattle.table_pool.specs.declared.claim.Claimed.{Claimed}
+use Rattle.table_pool.specs.declared.claim.Claimed.TheVariants.{Page, Empty}
+
+-- The claim has begun, and saw free pages in the word that it has come to.
+abbrev pub sees_pages : Claim → MapClaim → Bool
+sees_pages job claim = job.begun && nat_lt 0 claim.seen
+
+-- the word of the map that a claim loads next: the first one, where it hasn't begun
+abbrev pub next_word : Claim → MapClaim → ℕ
+next_word job claim = if job.begun then claim.at else 0
+
+-- A claim tries the lowest page of those that it saw, and loads the next word where it saw none.
+abbrev pub claim_step : Claim → MapClaim → PartStep
+claim_step job claim = if sees_pages job claim then part.Claim else part.Map (next_word job claim)
+
+-- The claim has come to this word, and saw free pages in it.
+abbrev pub SawPages : ℕ → MapClaim → Type 0
+SawPages word claim = (claim.at ≡ word) × (0 < claim.seen)
+
+-- It saw none in this word, and goes on to the one behind it.
+abbrev pub SawNone : ℕ → MapClaim → Type 0
+SawNone word claim = (claim.at ≡ word + 1) × (claim.seen ≡ 0)
+
+-- The next word was loaded, and there is more to do: free pages were seen in it, or none were, and it isn't the last one. Nothing else
+-- that the actor holds has changed.
+pub record LooksOn (z : Sizes) (job : Claim) (before after : Topics) : Type 0 where
+  pub loads : sees_pages job before.claim ≡ false
+  pub saw : SawPages (next_word job before.claim) after.claim ⊎ SawNone (next_word job before.claim) after.claim
+  pub within : after.claim.at < words_of_bits z.pool
+  pub owns_none : after.owned ≡ None
+  pub only : after ≡ record before { claim = after.claim }
+
+-- The page is the lowest of those seen, and its bit stood in the word that was found. The actor owns it, with nothing filled, and its
+-- claim is over. Nothing else that it holds has changed.
+pub record TakesPage (job : Claim) (page : ℕ) (before after : Topics) : Type 0 where
+  pub tries : sees_pages job before.claim ≡ true
+  pub lowest : page ≡ 64 * before.claim.at + tried_bit before.claim
+  pub found : ℕ
+  pub leads : after ≡ part_topics part.Claim before found
+  pub stood : has_bit (page % 64) found ≡ true
+  pub behind : after ≡ record before { owned = Some (record { page = page; filled = 0; absent = true }); claim = record { at = 0; seen = 0 } }
+
+-- The lowest page of those seen was taken meanwhile: what was seen is the word of the map with its bit clear. The actor owns none, and
+-- its claim goes on with what was seen. Nothing else that it holds has changed.
+pub record LosesPage (z : Sizes) (job : Claim) (seen : Seen) (before after : Topics) : Type 0 where
+  pub tries : sees_pages job before.claim ≡ true
+  pub word : seen.word ≡ place (map_of z) area.PoolMap before.claim.at
+  pub taken : has_bit (tried_bit before.claim) seen.value ≡ false
+  pub owns_none : after.owned ≡ None
+  pub behind : after ≡ record before { claim = record { at = before.claim.at; seen = seen.value } }
+
+-- The last word of the map was loaded, and no free page was seen in it: the claim has come behind all words. Nothing else that the
+-- actor holds has changed.
+pub record FindsNone (z : Sizes) (job : Claim) (before after : Topics) : Type 0 where
+  pub loads : sees_pages job before.claim ≡ false
+  pub last : next_word job before.claim + 1 ≡ words_of_bits z.pool
+  pub owns_none : after.owned ≡ None
+  pub behind : after ≡ record before { claim = record { at = words_of_bits z.pool; seen = 0 } }
+
+-- what each answer of a claim's turn says of what the actor held before and holds behind it
+abbrev pub ClaimTurn : Sizes → Claim → Turn Claimed → Topics → Topics → Type 0
+ClaimTurn z job More before after = LooksOn z job before after
+ClaimTurn z job (Wait seen) before after = LosesPage z job seen before after
+ClaimTurn z job (Done (Page page)) before after = TakesPage job page before after
+ClaimTurn z job (Done Empty) before after = FindsNone z job before after
+
+-- The page's bit in the map is set.
+abbrev pub IsFreePage : Sizes → ℕ → World Held → Type 0
+IsFreePage z page w = is_free (word_in z w area.PoolMap) page ≡ true
+
+-- The page is the claimer's alone: it is a page of the pool, no other actor owns it, its bit in the map is clear, and it is neither the
+-- root nor the published slot set.
+pub record IsClaimersAlone (z : Sizes) (actor page : ℕ) (w : World Held) : Type 0 where
+  pub there : page < z.pool
+  pub owned : is_owned (hand_in mmu w actor).topics.owned page ≡ true
+  pub others : (i : ℕ) → i < length w.hands → i ≢ actor → is_owned (hand_in mmu w i).topics.owned page ≡ false
+  pub not_free : is_free (word_in z w area.PoolMap) page ≡ false
+  pub not_root : word_in z w area.Root 0 ≢ page
+  pub not_slots : word_in z w area.Slots 0 ≢ page
+
+-- Where the claim saw free pages, what it saw is what stands in the map.
+abbrev pub SawStands : Sizes → MapClaim → World Held → Type 0
+SawStands z claim w = 0 < claim.seen → word_in z w area.PoolMap claim.at ≡ claim.seen
+
+-- at most so many turns until a claim is over, where none of them waits
+abbrev pub turns_left : Sizes → Claim → MapClaim → ℕ
+turns_left z job claim = if sees_pages job claim then 1 else words_of_bits z.pool - next_word job claim + 1

@@ -1,0 +1,91 @@
+ghost use Rattle.std.specs.Prelude.{◌≡◌, ◌≢◌, ◌<◌, ℕ, true, false, None, IfSome};
+ghost use Rattle.core_views.specs.declared.hand.Seen.{Seen};
+ghost use Rattle.mmu_core.specs.PartRests.{MayMake};
+ghost use Rattle.mmu_core.specs.Steps.{has_line};
+ghost use Rattle.mmu_core.specs.Worlds.{HandReached};
+ghost use Rattle.spte_words.specs.Areas.{words_of_bits};
+ghost use Rattle.step_seats.specs.Moves.{KeepsRoom};
+ghost use Rattle.step_seats.specs.PartTurns.{MakesPart, ToldBoth};
+ghost use Rattle.step_seats.specs.declared.turn.Turn.TheVariants.{More, Wait, Done};
+ghost use Rattle.table_pool.specs.Claims.{ClaimTurn, IsClaimersAlone, IsFreePage, SawStands, claim_step, turns_left};
+ghost use Rattle.table_pool.specs.declared.claim.Claimed.TheVariants.{Page};
+
+use core_views::{Hand, Seen};
+use mmu_core::{PartStep, map_of, part_rests};
+use spte_words::Area;
+use step_seats::{Stepper, Turn, make_part};
+
+/// What a claim ended with.
+#[derive(Clone, Copy, Debug, PartialEq, Eq, Drop)]
+pub enum Claimed {
+    /// The actor owns this page of the pool, and no other actor does.
+    Page(u64),
+    /// Each word of the map was seen with no free page.
+    Empty,
+}
+
+/// A claim of a free page, a step a turn. It goes through the words of the
+/// pool's map in their order, and tries the lowest free page of the first one
+/// where it sees any (tdp_mmu.c, `tdp_mmu_alloc_sp`).
+#[derive(Clone, Copy, Debug, PartialEq, Eq, Drop)]
+pub struct Claim {
+    /// Whether the first word of the map was loaded.
+    pub begun: bool,
+}
+
+impl Claim {
+    /// A claim that is yet to begin.
+    pub fn new() -> Claim
+        ensures { result ≡ record { begun = false } }
+    {
+        Claim { begun: false }
+    }
+
+    /// A claim that isn't over may take its next turn, by a hand that has no line
+    /// left and owns no page.
+    pub fn may_turn(&self, hand: &Hand, note: u64)
+        requires reached { ∥ HandReached hand.now.core ∥₁ }
+        requires idle { has_line hand.now.core ≡ false }
+        requires owns_none { hand.now.core.topics.owned ≡ None }
+        requires not_over { self.now.begun ≡ true → hand.now.core.topics.claim.at < words_of_bits hand.now.core.state.sizes.pool }
+        ensures { MayMake (claim_step self.now hand.now.core.topics.claim) note hand.now.core }
+    {}
+
+    /// Tries the lowest page of those seen, or loads the next word of the map.
+    /// `Wait` where another actor took the page meanwhile: what was seen then is
+    /// what the claim goes on with.
+    pub fn turn<S: Stepper>(&mut self, s: &mut S, note: u64) -> Turn<Claimed>
+        requires may { MayMake (claim_step self.old (S.handful s.old).core.topics.claim) note (S.handful s.old).core }
+        requires reserved { 0 < (S.handful s.old).room }
+        ensures step { MakesPart (claim_step self.old (S.handful s.old).core.topics.claim) note (S.actor s.old) (S.handful s.old).core (S.handful s.new).core (record { world = S.told s.old; steps = S.steps s.old }) (record { world = S.told s.new; steps = S.steps s.new }) }
+        ensures turned { ClaimTurn (S.handful s.old).core.state.sizes self.old result (S.handful s.old).core.topics (S.handful s.new).core.topics }
+        ensures begun { self.new.begun ≡ true }
+        ensures free { (page : ℕ) → result ≡ Done (Page page) → IfSome (S.told s.old) (IsFreePage (S.handful s.old).core.state.sizes page) }
+        ensures sole { (page : ℕ) → result ≡ Done (Page page) → IfSome (S.told s.new) (IsClaimersAlone (S.handful s.old).core.state.sizes (S.actor s.new) page) }
+        ensures stands { ToldBoth (S.told s.old) (S.told s.new) (λ w t. SawStands (S.handful s.old).core.state.sizes (S.handful s.new).core.topics.claim t) }
+        ensures alone { IfSome (S.told s.old) (λ w. SawStands (S.handful s.old).core.state.sizes (S.handful s.old).core.topics.claim w → (seen : Seen) → result ≢ Wait seen) }
+        ensures nearer { result ≡ More → turns_left (S.handful s.old).core.state.sizes self.new (S.handful s.new).core.topics.claim < turns_left (S.handful s.old).core.state.sizes self.old (S.handful s.old).core.topics.claim }
+        ensures room { KeepsRoom (S.handful s.old) (S.handful s.new) }
+        ensures same { (S.actor s.new ≡ S.actor s.old) × (S.frame s.new ≡ S.frame s.old) }
+    {
+        part_rests(s.hand());
+        let map = map_of(&s.hand().state().sizes);
+        let claim = s.hand().topics().claim;
+        if self.begun && claim.seen > 0 {
+            let word = map.word_of(Area::PoolMap, claim.at);
+            let value = make_part(s, PartStep::Claim, note);
+            return match s.hand().topics().owned {
+                Some(owned) => Turn::Done(Claimed::Page(owned.page)),
+                None => Turn::Wait(Seen { word, value }),
+            };
+        }
+        let word = if self.begun { claim.at } else { 0 };
+        self.begun = true;
+        let _ = make_part(s, PartStep::Map(word), note);
+        if s.hand().topics().claim.at < map.size_of(Area::PoolMap) as u64 {
+            Turn::More
+        } else {
+            Turn::Done(Claimed::Empty)
+        }
+    }
+}

@@ -1,0 +1,98 @@
+ghost use Rattle.std.specs.Prelude.{◌≡◌, ◌<◌, None, IfSome};
+ghost use Rattle.mmu_core.specs.PartRests.{MayMake};
+ghost use Rattle.mmu_core.specs.PartSteps.{page_owned, words_filled};
+ghost use Rattle.mmu_core.specs.declared.part_step.PartStep.TheVariants as part;
+ghost use Rattle.step_seats.specs.Moves.{KeepsRoom};
+ghost use Rattle.step_seats.specs.PartTurns.{MadePart, MakesPart, ToldBoth};
+ghost use Rattle.step_seats.specs.declared.turn.Turn.TheVariants.{More, Done};
+ghost use Rattle.table_pool.specs.Pages.{FillTurn, FreesPage, GivesPage, StoresNext, words_left};
+
+use mmu_core::{PartStep, part_kind, part_rests};
+use step_seats::{Stepper, Turn, make_part};
+
+// Writes this value in the word of the owned page that is next, or in its role:
+// a store answers what it wrote.
+fn fill_next<S: Stepper>(s: &mut S, value: u64, note: u64)
+    requires may { MayMake (part.Fill value) note (S.handful s.old).core }
+    requires reserved { 0 < (S.handful s.old).room }
+    ensures made { MadePart (part.Fill value) note value (S.actor s.old) (S.handful s.old).core (S.handful s.new).core (record { world = S.told s.old; steps = S.steps s.old }) (record { world = S.told s.new; steps = S.steps s.new }) }
+    ensures room { KeepsRoom (S.handful s.old) (S.handful s.new) }
+    ensures same { (S.actor s.new ≡ S.actor s.old) × (S.frame s.new ≡ S.frame s.old) }
+{
+    let hand = s.hand();
+    part_rests(hand);
+    let kind = part_kind(hand, PartStep::Fill(value), note);
+    let _ = s.act(kind);
+}
+
+/// A fill of an owned page, a word a turn: its 512 words in their order, and
+/// then its role.
+#[derive(Clone, Copy, Debug, PartialEq, Eq, Drop)]
+pub struct Fill {
+    /// The page, below the pool's size.
+    pub page: u64,
+}
+
+impl Fill {
+    /// A fill of this page, from its first word on.
+    pub fn new(page: u64) -> Fill
+        ensures { result ≡ record { page = page } }
+    {
+        Fill { page }
+    }
+
+    /// Writes this value in the word of the page that is next, or in its role
+    /// where all 512 are written. `Done` once the role is written. It never
+    /// waits.
+    pub fn turn<S: Stepper>(&mut self, s: &mut S, value: u64, note: u64) -> Turn<()>
+        requires may { MayMake (part.Fill value) note (S.handful s.old).core }
+        requires page { page_owned (S.handful s.old).core.topics.owned ≡ self.old.page }
+        requires reserved { 0 < (S.handful s.old).room }
+        ensures step { MakesPart (part.Fill value) note (S.actor s.old) (S.handful s.old).core (S.handful s.new).core (record { world = S.told s.old; steps = S.steps s.old }) (record { world = S.told s.new; steps = S.steps s.new }) }
+        ensures turned { FillTurn self.old.page value result (S.handful s.old).core.topics (S.handful s.new).core.topics }
+        ensures writes { ToldBoth (S.told s.old) (S.told s.new) (StoresNext (S.handful s.old).core.state.sizes self.old.page (words_filled (S.handful s.old).core.topics.owned) value) }
+        ensures page { self.new ≡ self.old }
+        ensures nearer { result ≡ More → words_left (S.handful s.new).core.topics < words_left (S.handful s.old).core.topics }
+        ensures room { KeepsRoom (S.handful s.old) (S.handful s.new) }
+        ensures same { (S.actor s.new ≡ S.actor s.old) × (S.frame s.new ≡ S.frame s.old) }
+    {
+        part_rests(s.hand());
+        fill_next(s, value, note);
+        match s.hand().topics().owned {
+            Some(owned) if owned.filled < 513 => Turn::More,
+            _ => Turn::Done(()),
+        }
+    }
+}
+
+/// A give of an owned page that was never linked.
+#[derive(Clone, Copy, Debug, PartialEq, Eq, Drop)]
+pub struct Give {
+    /// The page, below the pool's size.
+    pub page: u64,
+}
+
+impl Give {
+    /// A give of this page.
+    pub fn new(page: u64) -> Give
+        ensures { result ≡ record { page = page } }
+    {
+        Give { page }
+    }
+
+    /// Puts the page's bit back into the map. It is done in one turn.
+    pub fn turn<S: Stepper>(&mut self, s: &mut S, note: u64) -> Turn<()>
+        requires may { MayMake part.Give note (S.handful s.old).core }
+        requires page { page_owned (S.handful s.old).core.topics.owned ≡ self.old.page }
+        requires reserved { 0 < (S.handful s.old).room }
+        ensures step { MakesPart part.Give note (S.actor s.old) (S.handful s.old).core (S.handful s.new).core (record { world = S.told s.old; steps = S.steps s.old }) (record { world = S.told s.new; steps = S.steps s.new }) }
+        ensures turned { GivesPage result (S.handful s.old).core.topics (S.handful s.new).core.topics }
+        ensures frees { ToldBoth (S.told s.old) (S.told s.new) (FreesPage (S.handful s.old).core.state.sizes self.old.page) }
+        ensures page { self.new ≡ self.old }
+        ensures room { KeepsRoom (S.handful s.old) (S.handful s.new) }
+        ensures same { (S.actor s.new ≡ S.actor s.old) × (S.frame s.new ≡ S.frame s.old) }
+    {
+        let _ = make_part(s, PartStep::Give, note);
+        Turn::Done(())
+    }
+}
