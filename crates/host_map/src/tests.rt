@@ -1,0 +1,179 @@
+//! Host words and content words, at a machine.
+ghost use Rattle.std.specs.Prelude.{◌≡◌, [], ◌∷◌, IfOk, false};
+ghost use Rattle.core_views.specs.declared.actor.Actor.TheVariants.{Manager, Vcpu};
+ghost use Rattle.core_views.specs.declared.trace.Command.TheVariants.{Access, SetSlot};
+
+use crate::content::touch_kind;
+use crate::{load, look, touch};
+use core_views::{Actor, Command, Header, Line, Lines, NoMemory, Op, Slot, Trace, Words};
+use mmu_core::{PartStep, allows, next_kind, part_rests, rests};
+use std::alloc::Global;
+use std::test::Fail;
+use step_seats::{PlainMachine, Stepper};
+
+fn header(alloc: Global) -> Result<Header, NoMemory>
+    ensures { IfOk result (λ h. h ≡ record { version = 1; vcpus = 2; workers = 0; pages = 70; frames = 130; words = 2; pool = 4; cache = 64; manual = 0; hosts = 0 ∷ [] }) }
+{
+    Ok(Header {
+        version: 1,
+        vcpus: 2,
+        workers: 0,
+        pages: 70,
+        frames: 130,
+        words: 2,
+        pool: 4,
+        cache: 64,
+        manual: 0,
+        hosts: Words::from_vec(vec![in alloc; 0]?),
+    })
+}
+
+// The line that sets slot 0: guest frames 16 to 19 are host pages 64 to 67.
+fn slot_line() -> Line
+    ensures { result ≡ record { number = 2; actor = Manager; command = SetSlot 0 (record { base = 16; pages = 4; host = 64; read_only = false }) } }
+{
+    Line {
+        number: 2,
+        actor: Actor::Manager,
+        command: Command::SetSlot {
+            id: 0,
+            slot: Slot {
+                base: 16,
+                pages: 4,
+                host: 64,
+                read_only: false,
+            },
+        },
+    }
+}
+
+// A line of v0 at word 1 of guest frame 18, which is host page 66.
+fn access_line(number: u32, op: Op) -> Line
+    ensures { result ≡ record { number = number; actor = Vcpu 0; command = Access 18 1 op } }
+{
+    Line {
+        number,
+        actor: Actor::Vcpu(0),
+        command: Command::Access {
+            gfn: 18,
+            word: 1,
+            op,
+        },
+    }
+}
+
+// Makes the steps of the seat's lines until none is left.
+fn run<S: Stepper>(seat: &mut S, line: &Line) -> Result<(), NoMemory> {
+    for _ in 0..64 {
+        seat.reserve(line)?;
+        let hand = seat.hand();
+        if hand.next_line().is_none() {
+            break;
+        }
+        rests(hand);
+        let kind = next_kind(hand);
+        let _ = seat.act(kind);
+    }
+    Ok(())
+}
+
+// Makes the steps of the seat's line until the next one is this operation, and
+// makes it: a read by `load`, the others by `touch`. `None` where none is.
+fn touch_next<S: Stepper>(
+    seat: &mut S,
+    line: &Line,
+    frame: u64,
+    word: u8,
+    op: Op,
+) -> Result<Option<u64>, NoMemory> {
+    for _ in 0..64 {
+        seat.reserve(line)?;
+        let hand = seat.hand();
+        if hand.next_line().is_none() {
+            break;
+        }
+        rests(hand);
+        part_rests(hand);
+        let sizes = hand.state().sizes;
+        if frame >= sizes.frames || word as u64 >= sizes.words {
+            break;
+        }
+        let kind = next_kind(hand);
+        if kind == touch_kind(&sizes, frame, word, op, 1) {
+            return Ok(Some(match op {
+                Op::Read => load(seat, frame, word, 1),
+                Op::Write(_) | Op::Add(_) => touch(seat, frame, word, op, 1),
+            }));
+        }
+        let _ = seat.act(kind);
+    }
+    Ok(None)
+}
+
+// Each page is at the frame of its own number at first, present, writable and
+// small.
+#[test]
+fn looks_at_a_page(rt: HostRuntime) -> Result<(), Fail> {
+    let alloc = rt.alloc();
+    let trace = Trace {
+        header: header(alloc)?,
+        lines: Lines::from_vec(Vec::new(alloc)),
+    };
+    let mut machine = PlainMachine::new(alloc, &trace)?;
+    let _sizes = machine.sizes();
+    let mut seat = machine.as_actor(Actor::Vcpu(1));
+    for (page, word) in [(0, 7), (66, 4096 * 66 + 7), (69, 4096 * 69 + 7)] {
+        seat.reserve(&slot_line())?;
+        assert!(rt; allows(seat.hand(), PartStep::Host(page), 0));
+        assert_eq!(rt; look(&mut seat, page, 0), word);
+        assert_eq!(rt; seat.hand().topics().host, word);
+    }
+    assert!(rt; !allows(seat.hand(), PartStep::Host(70), 0));
+    Ok(())
+}
+
+// A write, an add and a read of one word, each the last step of a line, as its
+// word of all 2,470 holds them.
+#[test]
+fn touches_a_word(rt: HostRuntime) -> Result<(), Fail> {
+    let alloc = rt.alloc();
+    let [write, add, read] = [
+        access_line(3, Op::Write(77)),
+        access_line(4, Op::Add(u64::MAX - 1)),
+        access_line(5, Op::Read),
+    ];
+    let trace = Trace {
+        header: header(alloc)?,
+        lines: Lines::from_vec(vec![in alloc; slot_line(), write, add, read]?),
+    };
+    let mut machine = PlainMachine::new(alloc, &trace)?;
+    let _sizes = machine.sizes();
+    let mut manager = machine.as_actor(Actor::Manager);
+    run(&mut manager, &slot_line())?;
+    drop(manager);
+    let _sizes = machine.sizes();
+    let mut vcpu = machine.as_actor(Actor::Vcpu(0));
+    assert_eq!(rt;
+        touch_next(&mut vcpu, &write, 66, 1, Op::Write(77))?,
+        Some(0)
+    );
+    assert_eq!(rt;
+        touch_next(&mut vcpu, &add, 66, 1, Op::Add(u64::MAX - 1))?,
+        Some(77)
+    );
+    assert_eq!(rt; touch_next(&mut vcpu, &read, 66, 1, Op::Read)?, Some(75));
+    assert_eq!(rt; touch_next(&mut vcpu, &read, 66, 1, Op::Read)?, None);
+    drop(vcpu);
+    let closing = machine.into_closing();
+    let words = closing.words.as_slice();
+    assert_eq!(rt; words.len(), 2470);
+    // the contents begin at word 2,210, with two words a frame
+    for (i, word) in words.iter().skip(2210).enumerate() {
+        assert_eq!(rt;
+            *word,
+            if i == 2 * 66 + 1 { 75 } else { 0 },
+            "content word {i}"
+        );
+    }
+    Ok(())
+}
