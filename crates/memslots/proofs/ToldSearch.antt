@@ -1,0 +1,97 @@
+-- What a turn of a search says of the words of the world that its seat told.
+use Rattle.std.proofs.Common.{◌≡◌, ◌<◌, ℕ, Option, Some, None, length, sym, subst, ap, ◌∙◌}
+use Rattle.std.specs.Prelude.{Bool, true, IfSome, is_some, if◌then◌else◌}
+use Rattle.std.proofs.Math.Logic.{∥∥₁_elim}
+use Rattle.std.proofs.Props.{props}
+use Rattle.core_views.specs.declared.sizes.Sizes.{Sizes}
+use Rattle.core_views.specs.declared.topics.Topics.{Topics}
+use Rattle.core_views.specs.Held.{Held}
+use Rattle.spte_words.specs.declared.area.Area.TheVariants as area
+use Rattle.spte_words.specs.Areas.{size_of}
+use Rattle.mmu_core.specs.declared.outcome.Task.{Task}
+use Rattle.mmu_core.specs.declared.part_step.PartStep.TheVariants as part
+use Rattle.mmu_core.specs.Enabled.{mmu}
+use Rattle.mmu_core.specs.Machine.{World, effect, hand_in}
+use Rattle.mmu_core.specs.PartSteps.{PartNeeds, own_index, part_kind, part_task}
+use Rattle.mmu_core.specs.PartTopics.{part_topics}
+use Rattle.mmu_core.specs.Tasks.{kind_of_task, map_of}
+use Rattle.mmu_core.specs.TopicSteps.{may_search, searched}
+use Rattle.mmu_core.specs.View.{View, word_in}
+use Rattle.mmu_core.specs.Worlds.{Reachable}
+use Rattle.mmu_core.proofs.PartRested.{part_within, rests_in}
+use Rattle.mmu_core.proofs.Starts.{reached_good}
+use Rattle.mmu_core.proofs.Views.{view_behind}
+use Rattle.step_seats.specs.Moves.{Tells, step_by}
+use Rattle.step_seats.specs.PartTurns.{HasHand, MadePart, Told}
+use Rattle.step_seats.specs.declared.turn.Turn.{Turn}
+use Rattle.memslots.specs.declared.find.Find.{Find}
+use Rattle.memslots.specs.declared.find.FoundSlot.{FoundSlot}
+use Rattle.memslots.specs.Finding.{FindsIn, IsSearchFor, Searches, find_step}
+use Rattle.step_seats.proofs.AloneTold.{if_some}
+use Rattle.step_seats.proofs.Found.{Answers, found_told}
+use Rattle.memslots.proofs.Searching.{finds_by}
+
+-- The load of a slot's word leaves the words of the pool.
+stays_in : (w : World Held) (a note : ℕ) → Reachable w → a < length w.hands → PartNeeds part.Slot (hand_in mmu w a)
+    → word_in (hand_in mmu w a).state.sizes (effect mmu w (step_by a (part_kind (hand_in mmu w a) part.Slot note))) area.Pool ≡ word_in (hand_in mmu w a).state.sizes w area.Pool
+stays_in w a note r there N =
+    let G = reached_good w r in
+    let lt = subst (λ n. a < n) G.hands there in
+    let h : Held = hand_in mmu w a in
+    let same : h.state.sizes ≡ r.sizes = (G.holds.lines a lt).sizes in
+    let t : Task = part_task part.Slot (own_index h) h.topics note in
+    let inside = part_within part.Slot h N (rests_in r.sizes w a G lt) in
+    let within : t.index < size_of (map_of r.sizes) t.area = subst (λ (y : Sizes). t.index < size_of (map_of y) t.area) same inside in
+    subst (λ (z : Sizes). word_in z (effect mmu w (step_by a (kind_of_task z t))) area.Pool ≡ word_in z w area.Pool) (sym same)
+    (ap (λ (v : View). v.words area.Pool) (view_behind r.sizes w a t within G.words there))
+
+pool_stays : (w : World Held) (a note : ℕ) (h : Held) → HasHand a h w → PartNeeds part.Slot h → word_in h.state.sizes (effect mmu w (step_by a (part_kind h part.Slot note))) area.Pool ≡ word_in h.state.sizes w area.Pool
+pool_stays w a note h has N =
+    let needs : PartNeeds part.Slot (hand_in mmu w a) = subst (λ (x : Held). PartNeeds part.Slot x) (sym has.is) N in
+    subst (λ (x : Held). word_in x.state.sizes (effect mmu w (step_by a (part_kind x part.Slot note))) area.Pool ≡ word_in x.state.sizes w area.Pool) has.is
+    (∥∥₁_elim has.reached (hlevel props) (λ r. stays_in w a note r has.there needs))
+
+-- the search behind a word of a slot set that is held
+behind_word : (before after : Topics) (v : ℕ) → is_some before.search.set ≡ true → after ≡ part_topics part.Slot before v → after.search ≡ searched before.search v
+behind_word before after v held made = ap (λ (t : Topics). t.search) made ∙ ap (λ (b : Bool). if b then searched before.search v else before.search) held
+
+-- what the turn says, of a world that was told and the one that is told now
+abbrev Says : Find → Held → Held → Turn (Option FoundSlot) → World Held → World Held → Type 0
+Says job before after result w t = (job.begun ≡ true → IsSearchFor job.gfn (word_in before.state.sizes w area.Pool) before.topics.search) → FindsIn job.gfn (word_in before.state.sizes t area.Pool) after.topics.search result
+
+says_at : (job : Find) (note found a : ℕ) (before after : Held) (result : Turn (Option FoundSlot)) (w : World Held) → job.begun ≡ true → PartNeeds part.Slot before → HasHand a before w → Answers part.Slot note found before w → after.topics ≡ part_topics part.Slot before.topics found
+    → Searches job.gfn result before.topics.search after.topics.search → Says job before after result w (effect mmu w (step_by a (part_kind before part.Slot note)))
+says_at job note found a before after result w begun N has is made looks agrees =
+    subst (λ (pool : ℕ → ℕ). FindsIn job.gfn pool after.topics.search result) (sym (pool_stays w a note before has N))
+    (finds_by job.gfn (word_in before.state.sizes w area.Pool) before.topics.search after.topics.search found result (agrees begun) N.1 is (behind_word before.topics after.topics found N.0 made) looks)
+
+says_by : (job : Find) (note found a : ℕ) (before after : Held) (result : Turn (Option FoundSlot)) (told tells : Option (World Held)) → job.begun ≡ true → PartNeeds part.Slot before → IfSome told (HasHand a before) → IfSome told (Answers part.Slot note found before)
+    → IfSome told (λ w. tells ≡ Some (effect mmu w (step_by a (part_kind before part.Slot note)))) → after.topics ≡ part_topics part.Slot before.topics found → Searches job.gfn result before.topics.search after.topics.search
+    → IfSome told (λ w. IfSome tells (Says job before after result w))
+says_by job note found a before after result None tells begun N has is moves made looks = tt
+says_by job note found a before after result (Some w) tells begun N has is moves made looks =
+    subst (λ (o : Option (World Held)). IfSome o (Says job before after result w)) (sym moves) (says_at job note found a before after result w begun N has is made looks)
+
+told_moves : (before : Option (World Held)) (a note found : ℕ) (h : Held) (tells : Option (World Held)) → Tells before a (part_kind h part.Slot note) found tells → IfSome before (λ w. tells ≡ Some (effect mmu w (step_by a (part_kind h part.Slot note))))
+told_moves None a note found h tells t = tt
+told_moves (Some w) a note found h tells t = t.2
+
+needs_slot : (job : Find) (h : Held) → job.begun ≡ true → PartNeeds (find_step job) h → PartNeeds part.Slot h
+needs_slot job h begun N = rw begun at N
+
+pub now_found : (job : Find) (note found a : ℕ) (before after : Held) (told tells : Told) (result : Turn (Option FoundSlot)) → job.begun ≡ true → PartNeeds (find_step job) before → MadePart part.Slot note found a before after told tells
+    → Searches job.gfn result before.topics.search after.topics.search
+    → IfSome told.world (λ w. IfSome tells.world (λ t. (job.begun ≡ true → IsSearchFor job.gfn (word_in before.state.sizes w area.Pool) before.topics.search) → FindsIn job.gfn (word_in before.state.sizes t area.Pool) after.topics.search result))
+now_found job note found a before after told tells result begun needs made looks =
+    let N = needs_slot job before begun needs in
+    says_by job note found a before after result told.world tells.world begun N made.has (found_told part.Slot note found a before after told tells made N) (told_moves told.world a note found before tells.world made.world) made.topics looks
+
+set_loaded : (before after : Topics) (v : ℕ) → may_search before.stay before.hold ≡ true → after ≡ part_topics part.Slots before v → after.search.set ≡ Some v
+set_loaded before after v held made = ap (λ (t : Topics). t.search.set) made ∙ ap (λ (b : Bool). if b then Some v else None) held
+
+pub set_published : (note found a : ℕ) (before after : Held) (told tells : Told) → may_search before.topics.stay before.topics.hold ≡ true → MadePart part.Slots note found a before after told tells
+    → IfSome told.world (λ w. after.topics.search.set ≡ Some (word_in before.state.sizes w area.Slots 0))
+set_published note found a before after told tells held made =
+    if_some told.world (Answers part.Slots note found before) (λ w. after.topics.search.set ≡ Some (word_in before.state.sizes w area.Slots 0))
+    (λ w is. set_loaded before.topics after.topics found held made.topics ∙ ap Some is)
+    (found_told part.Slots note found a before after told tells made tt)

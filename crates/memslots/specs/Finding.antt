@@ -1,0 +1,80 @@
+-- The search of a slot set for the slot that contains a guest frame (api.rst, KVM_SET_USER_MEMORY_REGION).
+use Rattle.std.specs.Prelude.{◌≡◌, ◌<◌, ◌≤◌, ◌+◌, ◌-◌, ◌*◌, ℕ, true, false, if◌then◌else◌, Option, Some, None, is_some}
+use Rattle.core_views.specs.declared.place.SlotField.{SlotField}
+use Rattle.core_views.specs.declared.place.SlotField.TheVariants.{Base, Pages, Host, Flags}
+use Rattle.core_views.specs.declared.topics.SlotSearch.{SlotSearch}
+use Rattle.core_views.specs.Slots.{contains, slot_of}
+use Rattle.spte_words.specs.Flags.{flags_logged}
+use Rattle.mmu_core.specs.declared.part_step.PartStep.{PartStep}
+use Rattle.mmu_core.specs.declared.part_step.PartStep.TheVariants as part
+use Rattle.mmu_core.specs.Bounds.{look_left}
+use Rattle.mmu_core.specs.PartSteps.{set_held}
+use Rattle.mmu_core.specs.SlotWords.{live_at, slot_at, slot_index, slots_below}
+use Rattle.step_seats.specs.declared.turn.Turn.{Turn}
+use Rattle.step_seats.specs.declared.turn.Turn.TheVariants.{More, Wait, Done}
+use Rattle.memslots.specs.declared.find.Find.{Find}
+use Rattle.memslots.specs.declared.find.FoundSlot.{FoundSlot}
+
+-- the step of the next turn: which slot set is published is loaded first, and then the words of its slots
+abbrev pub find_step : Find → PartStep
+find_step job = if job.begun then part.Slot else part.Slots
+
+-- The search of a slot set begins, with the flags of slot 0.
+abbrev pub Begins : Turn (Option FoundSlot) → SlotSearch → SlotSearch → Type 0
+Begins More before after = (is_some after.set ≡ true) × (after ≡ record before { set = after.set; id = 0; next = Flags })
+Begins (Done found) before after = ⊥
+Begins (Wait seen) before after = ⊥
+
+-- The last word of a slot was loaded, and the slot contains the guest frame.
+abbrev pub Hits : ℕ → SlotSearch → SlotSearch → Type 0
+Hits gfn before after = (before.next ≡ Host) × (contains gfn after.slot ≡ true)
+
+-- A word was loaded: the answer is the slot under search, with its ID, where it contains the guest frame. Else it is none behind the
+-- last slot, and before it the search goes on.
+abbrev pub Searches : ℕ → Turn (Option FoundSlot) → SlotSearch → SlotSearch → Type 0
+Searches gfn More before after = (Hits gfn before after → ⊥) × (after.id ≤ 31)
+Searches gfn (Done (Some found)) before after = Hits gfn before after × (found ≡ record { id = before.id; slot = after.slot; logged = after.logged })
+Searches gfn (Done None) before after = (Hits gfn before after → ⊥) × (after.id ≡ 32)
+Searches gfn (Wait seen) before after = ⊥
+
+-- The slot under search is live, and its flags were loaded as the words of its slot set hold them.
+abbrev pub HasFlags : (ℕ → ℕ) → ℕ → SlotSearch → Type 0
+HasFlags pool set so_far = (live_at pool set so_far.id ≡ true) × (so_far.slot.read_only ≡ (slot_at pool set so_far.id).read_only) × (so_far.logged ≡ flags_logged (pool (slot_index set so_far.id Flags)))
+
+-- What was loaded of the slot under search, up to the word that is next, is what the words of its slot set hold.
+abbrev pub HasLoaded : SlotField → (ℕ → ℕ) → ℕ → SlotSearch → Type 0
+HasLoaded Flags pool set so_far = Unit {0}
+HasLoaded Base pool set so_far = HasFlags pool set so_far
+HasLoaded Pages pool set so_far = HasFlags pool set so_far × (so_far.slot.base ≡ (slot_at pool set so_far.id).base)
+HasLoaded Host pool set so_far = HasFlags pool set so_far × (so_far.slot.base ≡ (slot_at pool set so_far.id).base) × (so_far.slot.pages ≡ (slot_at pool set so_far.id).pages)
+
+-- No live slot with an ID below this one contains the guest frame.
+abbrev pub NoneBelow : ℕ → (ℕ → ℕ) → ℕ → ℕ → Type 0
+NoneBelow gfn pool set id = (i : ℕ) → i < id → live_at pool set i ≡ true → contains gfn (slot_at pool set i) ≡ false
+
+-- The search agrees with the words of the pool: what was loaded of the slot under search, and that none before it contains the
+-- guest frame.
+pub record IsSearchFor (gfn : ℕ) (pool : ℕ → ℕ) (so_far : SlotSearch) : Type 0 where
+  pub held : is_some so_far.set ≡ true
+  pub loaded : HasLoaded so_far.next pool (set_held so_far.set) so_far
+  pub before : NoneBelow gfn pool (set_held so_far.set) so_far.id
+
+-- The slot is live in the slot set, under its ID, with its words and its dirty log, and is the first that contains the guest frame.
+pub record IsFirst (gfn : ℕ) (pool : ℕ → ℕ) (set : ℕ) (found : FoundSlot) : Type 0 where
+  pub low : found.id ≤ 31
+  pub live : live_at pool set found.id ≡ true
+  pub slot : slot_at pool set found.id ≡ found.slot
+  pub logged : flags_logged (pool (slot_index set found.id Flags)) ≡ found.logged
+  pub before : NoneBelow gfn pool set found.id
+  pub first : slot_of (slots_below pool set 32) gfn ≡ Some found.slot
+
+-- What a turn says of the words of the pool: the search agrees with them, or its answer is what they give the guest frame.
+abbrev pub FindsIn : ℕ → (ℕ → ℕ) → SlotSearch → Turn (Option FoundSlot) → Type 0
+FindsIn gfn pool so_far More = IsSearchFor gfn pool so_far
+FindsIn gfn pool so_far (Done (Some found)) = IsFirst gfn pool (set_held so_far.set) found
+FindsIn gfn pool so_far (Done None) = slot_of (slots_below pool (set_held so_far.set) 32) gfn ≡ None
+FindsIn gfn pool so_far (Wait seen) = ⊥
+
+-- the most turns that are left: the words of the slot under search and of each one behind it, and the load of the slot set
+abbrev pub turns_left : Find → SlotSearch → ℕ
+turns_left job so_far = if job.begun then 4 * (31 - so_far.id) + look_left so_far.next else 129

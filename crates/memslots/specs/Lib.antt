@@ -1,0 +1,4 @@
+pub mod SlotSets
+pub mod Refusals
+pub mod Places
+pub mod Finding

@@ -1,0 +1,96 @@
+ghost use Rattle.std.specs.Prelude.{◌≡◌, ◌<◌, ◌≤◌, true, false, Some, IfSome};
+ghost use Rattle.mmu_core.specs.PartRests.{MayMake};
+ghost use Rattle.mmu_core.specs.TopicSteps.{may_search};
+ghost use Rattle.mmu_core.specs.View.{word_in};
+ghost use Rattle.spte_words.specs.declared.area.Area.TheVariants as Area;
+ghost use Rattle.step_seats.specs.Moves.{KeepsRoom};
+ghost use Rattle.step_seats.specs.PartTurns.{MakesPart};
+ghost use Rattle.step_seats.specs.declared.turn.Turn.TheVariants.{More};
+ghost use Rattle.memslots.specs.Finding.{Begins, FindsIn, IsSearchFor, Searches, find_step, turns_left};
+
+use core_views::{Slot, SlotField, SlotSearch};
+use mmu_core::{PartStep, part_rests};
+use step_seats::{Stepper, Turn, make_part};
+
+/// How many IDs there are.
+const IDS: u64 = 32;
+
+/// The slot that contains a guest frame.
+#[derive(Clone, Copy, Debug, PartialEq, Eq, Drop)]
+pub struct FoundSlot {
+    /// Its ID, 0 to 31.
+    pub id: u64,
+    pub slot: Slot,
+    /// Whether it has a dirty log (`KVM_MEM_LOG_DIRTY_PAGES`).
+    pub logged: bool,
+}
+
+/// A search of the published slot set for the slot that contains one guest
+/// frame, a step a turn: its slots by rising ID, of each the flags first, and
+/// where it is live its base, pages and host page (KVM's api.rst,
+/// `KVM_SET_USER_MEMORY_REGION`).
+#[derive(Clone, Copy, Debug, PartialEq, Eq, Drop)]
+pub struct Find {
+    /// The guest frame.
+    pub gfn: u64,
+    /// Whether it was loaded which slot set is published.
+    pub begun: bool,
+}
+
+impl Find {
+    /// A search that is yet to begin, for this guest frame.
+    pub fn new(gfn: u64) -> Find
+        ensures { result ≡ record { gfn = gfn; begun = false } }
+    {
+        Find { gfn, begun: false }
+    }
+
+    // What the search has come to behind its last word.
+    fn look(&self, before: &SlotSearch, after: &SlotSearch) -> Turn<Option<FoundSlot>>
+        requires { after.now.id ≤ 32 }
+        ensures { Searches self.now.gfn result before.now after.now }
+    {
+        if before.next == SlotField::Host && after.slot.contains(self.gfn) {
+            return Turn::Done(Some(FoundSlot {
+                id: before.id,
+                slot: after.slot,
+                logged: after.logged,
+            }));
+        }
+        if after.id == IDS {
+            Turn::Done(None)
+        } else {
+            Turn::More
+        }
+    }
+
+    /// Loads which slot set is published, or the next word of its search. The
+    /// answer is the first live slot that contains the guest frame, or none
+    /// where no slot does. It never waits.
+    pub fn turn<S: Stepper>(&mut self, s: &mut S, note: u64) -> Turn<Option<FoundSlot>>
+        requires may { MayMake (find_step self.old) note (S.handful s.old).core }
+        requires reserved { 0 < (S.handful s.old).room }
+        requires held { self.old.begun ≡ false → may_search (S.handful s.old).core.topics.stay (S.handful s.old).core.topics.hold ≡ true }
+        ensures step { MakesPart (find_step self.old) note (S.actor s.old) (S.handful s.old).core (S.handful s.new).core (record { world = S.told s.old; steps = S.steps s.old }) (record { world = S.told s.new; steps = S.steps s.new }) }
+        ensures begins { self.old.begun ≡ false → Begins result (S.handful s.old).core.topics.search (S.handful s.new).core.topics.search }
+        ensures searches { self.old.begun ≡ true → Searches self.old.gfn result (S.handful s.old).core.topics.search (S.handful s.new).core.topics.search }
+        ensures others { (S.handful s.new).core.topics ≡ record (S.handful s.old).core.topics { search = (S.handful s.new).core.topics.search } }
+        ensures published { self.old.begun ≡ false → IfSome (S.told s.old) (λ w. (S.handful s.new).core.topics.search.set ≡ Some (word_in (S.handful s.old).core.state.sizes w Area.Slots 0)) }
+        ensures now { IfSome (S.told s.old) (λ w. IfSome (S.told s.new) (λ t. (self.old.begun ≡ true → IsSearchFor self.old.gfn (word_in (S.handful s.old).core.state.sizes w Area.Pool) (S.handful s.old).core.topics.search) → FindsIn self.old.gfn (word_in (S.handful s.old).core.state.sizes t Area.Pool) (S.handful s.new).core.topics.search result)) }
+        ensures goes_on { self.new ≡ record { gfn = self.old.gfn; begun = true } }
+        ensures nearer { result ≡ More → turns_left self.new (S.handful s.new).core.topics.search < turns_left self.old (S.handful s.old).core.topics.search }
+        ensures room { KeepsRoom (S.handful s.old) (S.handful s.new) }
+        ensures same { (S.actor s.new ≡ S.actor s.old) × (S.frame s.new ≡ S.frame s.old) }
+    {
+        if !self.begun {
+            let _ = make_part(s, PartStep::Slots, note);
+            self.begun = true;
+            return Turn::More;
+        }
+        let before = s.hand().topics().search;
+        let _ = make_part(s, PartStep::Slot, note);
+        part_rests(s.hand());
+        let after = s.hand().topics().search;
+        self.look(&before, &after)
+    }
+}

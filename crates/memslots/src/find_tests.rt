@@ -1,0 +1,169 @@
+//! Searches at machines with no slot, and with one.
+ghost use Rattle.std.specs.Prelude.{◌≡◌, ◌<◌, [], ◌∷◌, IfOk, length};
+ghost use Rattle.core_views.specs.Sizes.{index_of};
+
+use crate::{Find, FoundSlot};
+use core_views::{Actor, Command, Header, Line, Lines, NoMemory, Op, Slot, Stay, Trace, Words};
+use mmu_core::{PartStep, allows, next_kind, rests};
+use std::alloc::Global;
+use std::test::Fail;
+use step_seats::{PlainMachine, Stepper, Turn, make_part};
+
+fn header(alloc: Global) -> Result<Header, NoMemory>
+    ensures { IfOk result (λ h. h ≡ record { version = 1; vcpus = 2; workers = 0; pages = 70; frames = 130; words = 2; pool = 4; cache = 64; manual = 0; hosts = 0 ∷ [] }) }
+{
+    Ok(Header {
+        version: 1,
+        vcpus: 2,
+        workers: 0,
+        pages: 70,
+        frames: 130,
+        words: 2,
+        pool: 4,
+        cache: 64,
+        manual: 0,
+        hosts: Words::from_vec(vec![in alloc; 0]?),
+    })
+}
+
+// An access, for whose answer room is taken.
+fn access() -> Line {
+    Line {
+        number: 3,
+        actor: Actor::Vcpu(0),
+        command: Command::Access {
+            gfn: 5,
+            word: 1,
+            op: Op::Read,
+        },
+    }
+}
+
+// One step of the seat's line, where it has one left.
+fn step<S: Stepper>(seat: &mut S, line: &Line) -> Result<bool, NoMemory>
+    ensures same { (S.actor seat.new ≡ S.actor seat.old) × (S.frame seat.new ≡ S.frame seat.old) }
+{
+    seat.reserve(line)?;
+    if seat.hand().next_line().is_none() {
+        return Ok(false);
+    }
+    rests(seat.hand());
+    let kind = next_kind(seat.hand());
+    let _ = seat.act(kind);
+    Ok(true)
+}
+
+// The same of an actor of the machine.
+fn step_of(machine: &mut PlainMachine, line: &Line) -> Result<bool, NoMemory>
+    requires there { index_of machine.old.sizes line.now.actor < length machine.old.hands }
+    ensures sizes { machine.new.sizes ≡ machine.old.sizes }
+    ensures count { length machine.new.hands ≡ length machine.old.hands }
+{
+    let mut seat = machine.as_actor(line.actor);
+    step(&mut seat, line)
+}
+
+// Begins a section, where the hand allows it.
+fn begin<S: Stepper>(seat: &mut S) -> Result<bool, NoMemory> {
+    seat.reserve(&access())?;
+    let allowed = allows(seat.hand(), PartStep::Begin, 0);
+    if allowed {
+        let _ = make_part(seat, PartStep::Begin, 0);
+    }
+    Ok(allowed)
+}
+
+// The next turn of the search, where the hand allows its step.
+fn turn<S: Stepper>(
+    find: &mut Find,
+    seat: &mut S,
+) -> Result<Option<Turn<Option<FoundSlot>>>, NoMemory> {
+    seat.reserve(&access())?;
+    let in_section = seat.hand().topics().stay == Stay::Section;
+    let allowed = if find.begun {
+        allows(seat.hand(), PartStep::Slot, 0)
+    } else {
+        allows(seat.hand(), PartStep::Slots, 0) && in_section
+    };
+    Ok(if allowed {
+        Some(find.turn(seat, 0))
+    } else {
+        None
+    })
+}
+
+// No slot is live at the start: the search ends with the flags of ID 31.
+#[test]
+fn finds_none_at_the_start(rt: HostRuntime) -> Result<(), Fail> {
+    let alloc = rt.alloc();
+    let trace = Trace {
+        header: header(alloc)?,
+        lines: Lines::from_vec(Vec::new(alloc)),
+    };
+    let mut machine = PlainMachine::new(alloc, &trace)?;
+    let mut seat = machine.as_actor(Actor::Vcpu(0));
+    assert!(rt; begin(&mut seat)?);
+    let mut find = Find::new(5);
+    for i in 0..32 {
+        assert_eq!(rt; turn(&mut find, &mut seat)?, Some(Turn::More), "at {i}");
+    }
+    assert_eq!(rt; seat.hand().topics().search.set, Some(1));
+    assert_eq!(rt; turn(&mut find, &mut seat)?, Some(Turn::Done(None)));
+    Ok(())
+}
+
+// The manager sets slot 3, of guest frames 5, 6 and 7: each search loads the
+// flags of IDs 0 to 2, and the four words of ID 3.
+#[test]
+fn finds_the_slot_of_a_frame(rt: HostRuntime) -> Result<(), Fail> {
+    let alloc = rt.alloc();
+    let slot = Slot {
+        base: 5,
+        pages: 3,
+        host: 64,
+        read_only: true,
+    };
+    let line = Line {
+        number: 2,
+        actor: Actor::Manager,
+        command: Command::SetSlot { id: 3, slot },
+    };
+    let trace = Trace {
+        header: header(alloc)?,
+        lines: Lines::from_vec(vec![in alloc; line]?),
+    };
+    let mut machine = PlainMachine::new(alloc, &trace)?;
+    assert!(rt; step_of(&mut machine, &line)?);
+    assert!(rt; step_of(&mut machine, &line)?);
+    assert!(rt; step_of(&mut machine, &line)?);
+    assert!(rt; step_of(&mut machine, &line)?);
+    assert!(rt; !step_of(&mut machine, &line)?);
+    let found = FoundSlot {
+        id: 3,
+        slot,
+        logged: false,
+    };
+    let mut seat = machine.as_actor(Actor::Vcpu(0));
+    assert!(rt; begin(&mut seat)?);
+    for (gfn, more, want) in [
+        (5, 7, Some(found)),
+        (7, 7, Some(found)),
+        (4, 35, None),
+        (8, 35, None),
+    ] {
+        let mut find = Find::new(gfn);
+        for i in 0..more {
+            assert_eq!(rt;
+                turn(&mut find, &mut seat)?,
+                Some(Turn::More),
+                "frame {gfn} at {i}"
+            );
+        }
+        assert_eq!(rt;
+            turn(&mut find, &mut seat)?,
+            Some(Turn::Done(want)),
+            "frame {gfn}"
+        );
+    }
+    Ok(())
+}
