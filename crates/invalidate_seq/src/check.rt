@@ -1,0 +1,125 @@
+ghost use Rattle.std.specs.Prelude.{◌≡◌, ◌<◌, true, IfSome};
+ghost use Rattle.mmu_core.specs.PartRests.{MayMake};
+ghost use Rattle.mmu_core.specs.TopicSteps.{has_lock};
+ghost use Rattle.mmu_core.specs.View.{word_in};
+ghost use Rattle.step_seats.specs.Moves.{KeepsRoom};
+ghost use Rattle.step_seats.specs.PartTurns.{MakesPart};
+ghost use Rattle.step_seats.specs.declared.turn.Turn.TheVariants.{More};
+ghost use Rattle.invalidate_seq.specs.Checks.{AnswersBy, LoadsOnly, Stands, area_of, loaded, step_of, turns_left};
+
+use core_views::Invalidations;
+use mmu_core::PartStep;
+use step_seats::{Stepper, Turn, make_part};
+
+/// What a check found of the invalidations.
+#[derive(Clone, Copy, Debug, PartialEq, Eq, Drop)]
+pub enum Checked {
+    /// None is open over the guest frame, and none was since the snapshot.
+    Fresh,
+    /// So many are open, over guest frames from `start` up to `end`, the frame
+    /// among them.
+    Open { count: u64, start: u64, end: u64 },
+    /// None is open over the guest frame, but the sequence number is another one
+    /// than that of the snapshot.
+    Moved { snapshot: u64, seq: u64 },
+}
+
+/// The word that a check loads in its next turn.
+#[derive(Clone, Copy, Debug, PartialEq, Eq, Drop)]
+pub enum Stage {
+    /// How many invalidations are open.
+    Count,
+    /// The first guest frame of their range, where some are open.
+    Start,
+    /// The guest frame behind it.
+    End,
+    /// The sequence number, where none is open over the guest frame.
+    Seq,
+}
+
+impl Stage {
+    // The step that loads it.
+    fn step(self) -> PartStep
+        ensures { result ≡ step_of self }
+    {
+        match self {
+            Stage::Count => PartStep::Count,
+            Stage::Start => PartStep::RangeStart,
+            Stage::End => PartStep::RangeEnd,
+            Stage::Seq => PartStep::Seq,
+        }
+    }
+}
+
+/// A check under the lock whether a look-up of one guest frame still holds, a
+/// step a turn (`mmu_invalidate_retry_gfn`).
+#[derive(Clone, Copy, Debug, PartialEq, Eq, Drop)]
+pub struct Check {
+    /// The guest frame.
+    pub gfn: u64,
+    /// How far the check has come.
+    pub stage: Stage,
+}
+
+impl Check {
+    /// A check that is yet to begin, for this guest frame.
+    pub fn new(gfn: u64) -> Check
+        ensures { result ≡ record { gfn = gfn; stage = Stage.Count } }
+    {
+        Check {
+            gfn,
+            stage: Stage::Count,
+        }
+    }
+
+    // Goes on behind the word of its stage, which is kept now.
+    pub(crate) fn go_on(&mut self, kept: &Invalidations) -> Turn<Checked>
+        requires stands { Stands self.old.stage self.old.gfn kept.now }
+        ensures answers { AnswersBy self.old.stage result self.new.stage self.old.gfn kept.now }
+        ensures stands { result ≡ More → Stands self.new.stage self.new.gfn kept.now }
+        ensures gfn { self.new.gfn ≡ self.old.gfn }
+        ensures nearer { result ≡ More → turns_left self.new.stage < turns_left self.old.stage }
+    {
+        let Invalidations {
+            snapshot,
+            count,
+            start,
+            end,
+            seq,
+        } = *kept;
+        self.stage = match self.stage {
+            Stage::Count if count > 0 => Stage::Start,
+            Stage::Start => Stage::End,
+            Stage::End if start <= self.gfn && self.gfn < end => {
+                return Turn::Done(Checked::Open { count, start, end });
+            }
+            Stage::Count | Stage::End => Stage::Seq,
+            Stage::Seq if seq == snapshot => return Turn::Done(Checked::Fresh),
+            Stage::Seq => return Turn::Done(Checked::Moved { snapshot, seq }),
+        };
+        Turn::More
+    }
+
+    /// Loads the next word of the check: how many invalidations are open, their
+    /// range where some are, and the sequence number where none is open over the
+    /// guest frame. It never waits.
+    pub fn turn<S: Stepper>(&mut self, s: &mut S, note: u64) -> Turn<Checked>
+        requires may { MayMake (step_of self.old.stage) note (S.handful s.old).core }
+        requires reserved { 0 < (S.handful s.old).room }
+        requires locked { has_lock (S.handful s.old).core.topics.hold ≡ true }
+        requires stands { Stands self.old.stage self.old.gfn (S.handful s.old).core.topics.invalidations }
+        ensures step { MakesPart (step_of self.old.stage) note (S.actor s.old) (S.handful s.old).core (S.handful s.new).core (record { world = S.told s.old; steps = S.steps s.old }) (record { world = S.told s.new; steps = S.steps s.new }) }
+        ensures loads { LoadsOnly self.old.stage (S.handful s.old).core.topics (S.handful s.new).core.topics }
+        ensures word { IfSome (S.told s.old) (λ w. loaded self.old.stage (S.handful s.new).core.topics.invalidations ≡ word_in (S.handful s.old).core.state.sizes w (area_of self.old.stage) 0) }
+        ensures answers { AnswersBy self.old.stage result self.new.stage self.old.gfn (S.handful s.new).core.topics.invalidations }
+        ensures stands { result ≡ More → Stands self.new.stage self.new.gfn (S.handful s.new).core.topics.invalidations }
+        ensures gfn { self.new.gfn ≡ self.old.gfn }
+        ensures nearer { result ≡ More → turns_left self.new.stage < turns_left self.old.stage }
+        ensures room { KeepsRoom (S.handful s.old) (S.handful s.new) }
+        ensures same { (S.actor s.new ≡ S.actor s.old) × (S.frame s.new ≡ S.frame s.old) }
+    {
+        let _ = make_part(s, self.stage.step(), note);
+        let kept = s.hand().topics().invalidations;
+        self.go_on(&kept)
+    }
+}
