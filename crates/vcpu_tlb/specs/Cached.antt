@@ -1,15 +1,15 @@
 -- Cached translations: which guest frames one covers, what it allows, and which of a list is used.
-use Rattle.std.specs.Prelude.{◌≡◌, ◌/◌, ◌++◌, ◌∷◌, ◌==◌, ◌&&◌, ◌||◌, ℕ, Bool, List, All, true, false, not, if◌then◌else◌}
-use Rattle.spte_words.specs.Entries.{can_write}
+use Rattle.std.specs.Prelude.{◌≡◌, ◌≤◌, ◌/◌, ◌++◌, ◌∷◌, ◌==◌, ◌&&◌, ◌||◌, ℕ, Bool, List, All, true, false, not}
+use Rattle.spte_words.specs.Entries.{can_write, level_span}
 use Rattle.vcpu_tlb.specs.declared.cache.Translation.{Translation}
 
--- how many pages a leaf of the level covers: 1, 512, and 262,144 at level 3
-abbrev pub leaf_span : ℕ → ℕ
-leaf_span level = if level == 1 then 1 else if level == 2 then 512 else 262144
+-- Its leaf is one of a level that has leaves, 1 to 3.
+abbrev pub IsAtLeafLevel : Translation → Type 0
+IsAtLeafLevel t = (1 ≤ t.level) × (t.level ≤ 3)
 
 -- The leaf's run holds the guest frame, as it holds the one that the walk was for.
 abbrev pub covers : ℕ → Translation → Bool
-covers gfn t = gfn / leaf_span t.level == t.gfn / leaf_span t.level
+covers gfn t = gfn / level_span t.level == t.gfn / level_span t.level
 
 -- A leaf allows reads, and writes where it is writable.
 abbrev pub allows : Bool → Translation → Bool

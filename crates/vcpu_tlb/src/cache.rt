@@ -1,6 +1,6 @@
-ghost use Rattle.std.specs.Prelude.{◌≡◌, ◌<◌, ◌≤◌, [], ◌∷◌, take, IfOk, MatchOption};
+ghost use Rattle.std.specs.Prelude.{◌≡◌, ◌≤◌, [], ◌∷◌, take, IfOk, MatchOption};
 ghost use Rattle.circular_buffer.specs.Buffer.{buffer};
-ghost use Rattle.vcpu_tlb.specs.Cached.{IsFirst, IsNone, allows, covers, leaf_span};
+ghost use Rattle.vcpu_tlb.specs.Cached.{IsAtLeafLevel, IsFirst, IsNone, allows, covers};
 
 use circular_buffer::HeapCircularBuffer;
 use core_views::NoMemory;
@@ -9,7 +9,7 @@ use std::alloc::Global;
 use std::marker::Model;
 
 /// A cached translation: the guest frame that a walk was for, and the leaf that
-/// it met, at its level.
+/// it met, at its level, 1 to 3.
 #[derive(Clone, Copy, Debug, PartialEq, Eq, Drop)]
 pub struct Translation {
     pub gfn: u64,
@@ -17,24 +17,14 @@ pub struct Translation {
     pub leaf: Spte,
 }
 
-// How many pages a leaf of the level, 1 to 3, covers.
-fn leaf_span(level: u8) -> u64
-    ensures is { result ≡ leaf_span level }
-    ensures positive { 0 < result }
-{
-    match level {
-        1 => 1,
-        2 => 512,
-        _ => 262_144,
-    }
-}
-
 impl Translation {
     /// Whether the leaf's run holds this guest frame too.
+    #[tactic(auto, using(spte_words::proofs::Spans::span_positive))]
     pub fn covers(self, gfn: u64) -> bool
+        requires { IsAtLeafLevel self }
         ensures { result ≡ covers gfn self }
     {
-        let span = leaf_span(self.level);
+        let span = Spte::level_span(self.level);
         gfn / span == self.gfn / span
     }
 
@@ -46,7 +36,7 @@ impl Translation {
     }
 }
 
-/// What one virtual processor has cached: at most a fixed number of
+/// What one virtual processor has cached (its TLB): at most a fixed number of
 /// translations, the newest first.
 #[derive(Drop)]
 pub struct Cache {
@@ -54,19 +44,23 @@ pub struct Cache {
 }
 
 impl Model for Cache {
+    ghost use Rattle.std.specs.Prelude.{All};
     ghost use Rattle.circular_buffer.specs.Buffer.{Buffer};
     ghost use Rattle.vcpu_tlb.specs.declared.cache.Translation.{Translation};
+    ghost use Rattle.vcpu_tlb.specs.Cached.{IsAtLeafLevel};
 
     ghost Value = { Buffer Translation };
 
     ghost view = { λ c. c.translations };
 
-    ghost inverse = { λ b. record { translations = b } };
+    ghost invariant = { λ c. All IsAtLeafLevel c.translations.items };
 }
 
 impl Cache {
     /// An empty cache that holds at most `capacity` translations, 1 to 64.
     pub fn new(alloc: Global, capacity: u8) -> Result<Cache, NoMemory>
+        requires least { 1 ≤ capacity }
+        requires most { capacity ≤ 64 }
         ensures { IfOk result (λ c. c ≡ buffer [] capacity) }
     {
         let translations = HeapCircularBuffer::with_capacity(alloc, capacity as usize)?;
@@ -74,7 +68,7 @@ impl Cache {
     }
 
     /// The leaf and its level of the newest translation that covers the guest
-    /// frame and allows the access.
+    /// frame and allows the access; `None` where there is none.
     pub fn lookup(&self, gfn: u64, write: bool) -> Option<(Spte, u8)>
         ensures { MatchOption result (IsNone gfn write self.now.items) (IsFirst gfn write self.now.items) }
     {
@@ -84,6 +78,13 @@ impl Cache {
             }
         }
         None
+    }
+
+    /// Empties the cache.
+    pub fn clear(&mut self)
+        ensures { self.new ≡ buffer [] self.old.capacity }
+    {
+        self.translations.clear();
     }
 
     /// Caches the leaf of this level, 1 to 3, that a walk for the guest frame

@@ -1,0 +1,41 @@
+-- What a virtual processor finds as it enters the guest, and what becomes of its cache (vcpu-requests.rst, KVM_REQ_TLB_FLUSH).
+use Rattle.std.specs.Prelude.{◌≡◌, ℕ, Bool, [], if◌then◌else◌}
+use Rattle.circular_buffer.specs.Buffer.{Buffer, buffer}
+use Rattle.core_views.specs.Held.{Held}
+use Rattle.spte_words.specs.declared.area.Area.TheVariants as area
+use Rattle.spte_words.specs.Bits.{has_bit}
+use Rattle.mmu_core.specs.declared.part_step.PartStep.TheVariants as part
+use Rattle.mmu_core.specs.Machine.{World}
+use Rattle.mmu_core.specs.PartSteps.{own_index}
+use Rattle.mmu_core.specs.View.{word_in}
+use Rattle.step_seats.specs.PartTurns.{MadePart, Told}
+use Rattle.vcpu_tlb.specs.declared.cache.Translation.{Translation}
+use Rattle.vcpu_tlb.specs.declared.guest.Entered.{Entered}
+use Rattle.vcpu_tlb.specs.declared.guest.Entered.TheVariants.{In, Flushed}
+
+-- Bit 2 of a state word: a flush is asked for.
+abbrev pub asks_flush : ℕ → Bool
+asks_flush state = has_bit 2 state
+
+-- the answer of who found this in its state word
+abbrev pub answer_to : ℕ → Entered
+answer_to state = if asks_flush state then Flushed else In
+
+-- The actor entered the guest by one swap of its state word, and answers as it found that word.
+pub record Enters (note actor : ℕ) (answer : Entered) (before after : Held) (told tells : Told) : Type 0 where
+  pub found : ℕ
+  pub made : MadePart part.Enter note found actor before after told tells
+  pub answers : answer ≡ answer_to found
+
+-- the cache behind the answer: as it was, or with nothing in it
+abbrev pub cache_behind : Entered → Buffer Translation → Buffer Translation
+cache_behind In cache = cache
+cache_behind Flushed cache = buffer [] cache.capacity
+
+-- the state word of the hand's actor
+abbrev pub state_in : Held → World Held → ℕ
+state_in h w = word_in h.state.sizes w area.State (own_index h)
+
+-- the pause word of the hand's machine
+abbrev pub pause_in : Held → World Held → ℕ
+pause_in h w = word_in h.state.sizes w area.Pause 0
