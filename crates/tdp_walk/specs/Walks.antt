@@ -1,0 +1,62 @@
+-- A walk over the second-stage tables, from the root down to the entry of one guest frame (mmu.rst, "Page fault").
+use Rattle.std.specs.Prelude.{◌≡◌, ◌+◌, ℕ, if◌then◌else◌}
+use Rattle.core_views.specs.declared.topics.TableWalk.{TableWalk}
+use Rattle.core_views.specs.declared.topics.Topics.{Topics}
+use Rattle.spte_words.specs.declared.area.Area.{Area}
+use Rattle.spte_words.specs.declared.area.Area.TheVariants as area
+use Rattle.spte_words.specs.declared.spte_kind.SpteKind.{SpteKind}
+use Rattle.spte_words.specs.declared.spte_kind.SpteKind.TheVariants as entry_kind
+use Rattle.spte_words.specs.Areas.{pool_index}
+use Rattle.spte_words.specs.Entries.{kind_of}
+use Rattle.mmu_core.specs.declared.part_step.PartStep.{PartStep}
+use Rattle.mmu_core.specs.declared.part_step.PartStep.TheVariants as part
+use Rattle.mmu_core.specs.PartSteps.{entry_index, table_page}
+use Rattle.step_seats.specs.declared.turn.Turn.{Turn}
+use Rattle.step_seats.specs.declared.turn.Turn.TheVariants.{More, Wait, Done}
+use Rattle.tdp_walk.specs.declared.walk.Walk.{Walk}
+use Rattle.tdp_walk.specs.declared.walk.Walked.{Walked}
+use Rattle.tdp_walk.specs.declared.walk.Walked.TheVariants.{Leaf, Absent, Frozen}
+
+-- the step of the next turn: the root is loaded first, and then the frame's entry in the table that the walk has come to
+abbrev pub walk_step : Walk → PartStep
+walk_step walk = if walk.rooted then part.Walk walk.gfn else part.Root
+
+-- The root was loaded: the walk stands in it, at level 4. Nothing else that the actor holds has changed.
+abbrev pub FindsRoot : Turn Walked → Topics → Topics → Type 0
+FindsRoot More before after = after ≡ record before { walk = record before.walk { level = 4; root = after.walk.root } }
+FindsRoot (Done walked) before after = ⊥
+FindsRoot (Wait seen) before after = ⊥
+
+-- The entry is a link to the table in this page: the walk stands in that table now, one level down. Nothing but the walk has changed.
+pub record GoesDown (before after : Topics) : Type 0 where
+  pub page : ℕ
+  pub link : kind_of before.walk.level after.walk.entry ≡ entry_kind.Table page
+  pub down : after.walk.level + 1 ≡ before.walk.level
+  pub there : table_page after.walk ≡ page
+  pub others : after ≡ record before { walk = after.walk }
+
+-- The entry is of this kind at this level, which is the walk's: there the walk stays. Nothing but the entry has changed.
+pub record StopsAt (kind : SpteKind) (level : ℕ) (before after : Topics) : Type 0 where
+  pub is : kind_of level after.walk.entry ≡ kind
+  pub here : level ≡ before.walk.level
+  pub others : after ≡ record before { walk = record before.walk { entry = after.walk.entry } }
+
+-- The entry was loaded: a link leads down, and else the walk has come to its end.
+abbrev pub Looks : Turn Walked → Topics → Topics → Type 0
+Looks More before after = GoesDown before after
+Looks (Done (Leaf word level)) before after = (word ≡ after.walk.entry) × StopsAt entry_kind.Leaf level before after
+Looks (Done (Absent level)) before after = StopsAt entry_kind.Absent level before after
+Looks (Done (Frozen level)) before after = StopsAt entry_kind.Frozen level before after
+Looks (Wait seen) before after = ⊥
+
+-- what the last turn has loaded
+abbrev pub found_last : Walk → TableWalk → ℕ
+found_last walk at = if walk.rooted then at.entry else at.root
+
+-- the word that the next turn loads
+abbrev pub word_next : Walk → TableWalk → (Area → ℕ → ℕ) → ℕ
+word_next walk at words = if walk.rooted then words area.Pool (pool_index (table_page at) (entry_index walk.gfn at.level)) else words area.Root 0
+
+-- the most turns that are left
+abbrev pub turns_left : Walk → TableWalk → ℕ
+turns_left walk at = if walk.rooted then at.level else 5

@@ -1,0 +1,76 @@
+ghost use Rattle.std.specs.Prelude.{◌≡◌, ◌<◌, ◌^◌, true, false, IfSome};
+ghost use Rattle.mmu_core.specs.PartRests.{MayMake};
+ghost use Rattle.mmu_core.specs.TopicSteps.{may_walk};
+ghost use Rattle.mmu_core.specs.View.{word_in};
+ghost use Rattle.step_seats.specs.Moves.{KeepsRoom};
+ghost use Rattle.step_seats.specs.PartTurns.{MakesPart};
+ghost use Rattle.step_seats.specs.declared.turn.Turn.TheVariants.{More};
+ghost use Rattle.tdp_walk.specs.Walks.{FindsRoot, Looks, found_last, turns_left, walk_step, word_next};
+
+use mmu_core::{PartStep, part_rests};
+use spte_words::{Spte, SpteKind};
+use step_seats::{Stepper, Turn, make_part};
+
+/// What a walk ended at, and the level of the table that the entry stands in:
+/// 4 at the root, 1 at the lowest.
+#[derive(Clone, Copy, Debug, PartialEq, Eq, Drop)]
+pub enum Walked {
+    /// A run of frames, by this word.
+    Leaf { word: u64, level: u8 },
+    /// Nothing is mapped there.
+    Absent { level: u8 },
+    /// The table below is being removed.
+    Frozen { level: u8 },
+}
+
+/// A walk to the entry of one guest frame, over four levels of tables, a step a
+/// turn (mmu.rst, "Page fault").
+#[derive(Clone, Copy, Debug, PartialEq, Eq, Drop)]
+pub struct Walk {
+    /// The guest frame, below 2^36.
+    pub gfn: u64,
+    /// Whether the root was loaded.
+    pub rooted: bool,
+}
+
+impl Walk {
+    /// A walk that is yet to begin, to the entry of this guest frame.
+    pub fn new(gfn: u64) -> Walk
+        ensures { result ≡ record { gfn = gfn; rooted = false } }
+    {
+        Walk { gfn, rooted: false }
+    }
+
+    /// Loads the root, or the frame's entry in the table that the walk has come
+    /// to: a link leads one level down, and every other entry ends the walk. It
+    /// never waits.
+    pub fn turn<S: Stepper>(&mut self, s: &mut S, note: u64) -> Turn<Walked>
+        requires may { MayMake (walk_step self.old) note (S.handful s.old).core }
+        requires reserved { 0 < (S.handful s.old).room }
+        requires gfn { self.old.gfn < 2 ^ 36 }
+        requires held { self.old.rooted ≡ false → may_walk (S.handful s.old).core.topics.stay (S.handful s.old).core.topics.hold ≡ true }
+        ensures step { MakesPart (walk_step self.old) note (S.actor s.old) (S.handful s.old).core (S.handful s.new).core (record { world = S.told s.old; steps = S.steps s.old }) (record { world = S.told s.new; steps = S.steps s.new }) }
+        ensures root { self.old.rooted ≡ false → FindsRoot result (S.handful s.old).core.topics (S.handful s.new).core.topics }
+        ensures entry { self.old.rooted ≡ true → Looks result (S.handful s.old).core.topics (S.handful s.new).core.topics }
+        ensures word { IfSome (S.told s.old) (λ w. found_last self.old (S.handful s.new).core.topics.walk ≡ word_next self.old (S.handful s.old).core.topics.walk (word_in (S.handful s.old).core.state.sizes w)) }
+        ensures goes_on { self.new ≡ record { gfn = self.old.gfn; rooted = true } }
+        ensures nearer { result ≡ More → turns_left self.new (S.handful s.new).core.topics.walk < turns_left self.old (S.handful s.old).core.topics.walk }
+        ensures room { KeepsRoom (S.handful s.old) (S.handful s.new) }
+        ensures same { (S.actor s.new ≡ S.actor s.old) × (S.frame s.new ≡ S.frame s.old) }
+    {
+        if !self.rooted {
+            let _ = make_part(s, PartStep::Root, note);
+            self.rooted = true;
+            return Turn::More;
+        }
+        part_rests(s.hand());
+        let level = s.hand().topics().walk.level;
+        let word = make_part(s, PartStep::Walk(self.gfn), note);
+        match Spte::from_word(word).kind(level) {
+            SpteKind::Table(_) => Turn::More,
+            SpteKind::Leaf => Turn::Done(Walked::Leaf { word, level }),
+            SpteKind::Absent => Turn::Done(Walked::Absent { level }),
+            SpteKind::Frozen => Turn::Done(Walked::Frozen { level }),
+        }
+    }
+}
