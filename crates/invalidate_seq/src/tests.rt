@@ -50,6 +50,7 @@ fn finds_nothing_at_the_start(rt: HostRuntime) -> Result<(), Fail> {
     seat.reserve(&line)?;
     assert!(rt; allows(seat.hand(), PartStep::Seq, 0));
     assert!(rt; seat.hand().topics().hold == Hold::Loose);
+    assert!(rt; seat.hand().topics().search.set == None);
     assert_eq!(rt; Snapshot::new().turn(&mut seat, 0), Turn::Done(0));
     seat.reserve(&line)?;
     assert!(rt; allows(seat.hand(), PartStep::Share, 0));
