@@ -62,7 +62,7 @@ record Closes (z : Sizes) (es : List Event) (f : Flat) : Type 0 where
   idle : AllIdle (after_all es f)
   facts_are : (after_all es f).facts ≡ facts_after_all es f.facts
 
-answered : (z : Sizes) (line : Line) (answer : Answer) (facts : Facts) (u : LineUnderWay) (f : Flat) → IsAt line.actor facts u f → u.line ≡ line → Tells z u.line.command u.stage answer → Closes z (answers line answer) f
+answered : (z : Sizes) (line : Line) (answer : Answer) (facts : Facts) (u : LineUnderWay) (f : Flat) → IsAt line.actor facts u f → u.line ≡ line → Tells z facts.slots u.line.command u.stage answer → Closes z (answers line answer) f
 answered z line answer facts u f at is tells = record {
   lawful = (allowed z line.actor (Answered line.number answer) facts u f at (ap (λ (l : Line). l.number) (sym is), tells), tt);
   idle = λ i. at_end (is_same line.actor i) (line_after (Answered line.number answer) f.facts (f.under line.actor)) (f.under i) refl (at.others i);
@@ -84,7 +84,7 @@ access_closes z line gfn word op facts (Some page) f behind is at =
     (allowed z line.actor access facts _ f at (refl, is, record { named = ap (frame_at facts.host) behind; page = page; behind = behind; value_is = refl }))
     (answered z line (Reached (facts.host page).frame (facts.memory page word)) (facts_after access facts) _ _ (step line.actor access facts _ f at) refl refl)
 
-setting_closes : (z : Sizes) (line : Line) (id : ℕ) (slot : Slot) (refusal : Option Refusal) (facts : Facts) (f : Flat) → slot_refusal z.pages id slot ≡ refusal → line.command ≡ SetSlot id slot
+setting_closes : (z : Sizes) (line : Line) (id : ℕ) (slot : Slot) (refusal : Option Refusal) (facts : Facts) (f : Flat) → slot_refusal z.pages facts.slots id slot ≡ refusal → line.command ≡ SetSlot id slot
     → IsAt line.actor facts (record { line = line; stage = Fresh; notes = no_notes }) f → Closes z (setting line id slot refusal) f
 setting_closes z line id slot None facts f may is at =
     more z (by line (SlotChanged id slot)) (answers line Done) f
@@ -98,7 +98,7 @@ doing_closes z line (Access gfn word op) facts f is at =
     more z (by line LookedAtSlots) (accessing line gfn word op facts (page_behind facts.slots gfn op)) f
     (allowed z line.actor LookedAtSlots facts _ f at refl)
     (access_closes z line gfn word op facts (page_behind facts.slots gfn op) _ refl is (step line.actor LookedAtSlots facts _ f at))
-doing_closes z line (SetSlot id slot) facts f is at = setting_closes z line id slot (slot_refusal z.pages id slot) facts f refl is at
+doing_closes z line (SetSlot id slot) facts f is at = setting_closes z line id slot (slot_refusal z.pages facts.slots id slot) facts f refl is at
 
 alone_closes : (z : Sizes) (line : Line) (f : Flat) → AllIdle f → Closes z (alone z line f.facts) f
 alone_closes z line f idle =

@@ -46,7 +46,7 @@ setting_begins line id slot (Some refusal) = refl
 
 doing_begins : (z : Sizes) (line : Line) (command : Command) (f : Facts) → lines_begun (looks line command ++ doing z line command f) ≡ []
 doing_begins z line (Access gfn word op) f = accessing_begins line gfn word op f (page_behind f.slots gfn op)
-doing_begins z line (SetSlot id slot) f = setting_begins line id slot (slot_refusal z.pages id slot)
+doing_begins z line (SetSlot id slot) f = setting_begins line id slot (slot_refusal z.pages f.slots id slot)
 
 abbrev with_answer : Line → Answer → AnsweredLine
 with_answer line answer = record { number = line.number; actor = line.actor; answer = answer }
@@ -61,7 +61,7 @@ setting_answers line id slot (Some refusal) = (Refused refusal, refl)
 
 doing_answers : (z : Sizes) (line : Line) (command : Command) (f : Facts) → (answer : Answer) × (answers_of (looks line command ++ doing z line command f) ≡ with_answer line answer ∷ [])
 doing_answers z line (Access gfn word op) f = accessing_answers line gfn word op f (page_behind f.slots gfn op)
-doing_answers z line (SetSlot id slot) f = setting_answers line id slot (slot_refusal z.pages id slot)
+doing_answers z line (SetSlot id slot) f = setting_answers line id slot (slot_refusal z.pages f.slots id slot)
 
 all_begun : (z : Sizes) (lines : List Line) (f : Facts) → lines_begun (one_by_one z lines f) ≡ lines
 all_begun z [] f = refl

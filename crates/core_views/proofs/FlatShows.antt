@@ -27,7 +27,7 @@ setting_shows line id slot (Some refusal) = refl
 
 doing_shows : (z : Sizes) (line : Line) (command : Command) (f : Facts) → without_looks (looks line command ++ doing z line command f) ≡ doing z line command f
 doing_shows z line (Access gfn word op) f = accessing_shows line gfn word op f (page_behind f.slots gfn op)
-doing_shows z line (SetSlot id slot) f = setting_shows line id slot (slot_refusal z.pages id slot)
+doing_shows z line (SetSlot id slot) f = setting_shows line id slot (slot_refusal z.pages f.slots id slot)
 
 alone_shows : (z : Sizes) (line : Line) (f : Facts) → without_looks (alone z line f) ≡ by line (Begun line) ∷ rest_of z line Fresh f
 alone_shows z line f = ap (λ (es : List Event). by line (Begun line) ∷ es) (doing_shows z line line.command f)

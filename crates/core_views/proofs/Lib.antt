@@ -8,3 +8,9 @@ pub mod NextAlone
 pub mod AloneIsFlat
 pub mod StandsAlone
 pub mod HeaderSizes
+pub mod Places
+pub mod Sound
+pub mod Holding
+pub mod FlatSlots
+pub mod Unlogged
+pub mod SlotIds

@@ -61,7 +61,7 @@ slot_change_is_next z f u id slot may = rw (may.0) (rw (may.1) (ap (setting u.li
 -- The answer: what the line's stage tells, or a refusal.
 
 -- a clause for each command and answer with which it may be refused
-refused : (z : Sizes) (line : Line) (command : Command) (f : Facts) (answer : Answer) → IsRefused z command answer → doing z line command f ≡ answers line answer
+refused : (z : Sizes) (line : Line) (command : Command) (f : Facts) (answer : Answer) → IsRefused z f.slots command answer → doing z line command f ≡ answers line answer
 refused z line (SetSlot id slot) f (Refused refusal) why = ap (setting line id slot) why
 refused z line (SetSlot id slot) f (Reached frame value) why = absurd why
 refused z line (SetSlot id slot) f Mmio why = absurd why
@@ -69,7 +69,7 @@ refused z line (SetSlot id slot) f Done why = absurd why
 refused z line (Access gfn word op) f answer why = absurd why
 
 -- a clause for each stage
-pub told : (z : Sizes) (line : Line) (stage : Stage) (f : Facts) (answer : Answer) → Tells z line.command stage answer → rest_of z line stage f ≡ answers line answer
+pub told : (z : Sizes) (line : Line) (stage : Stage) (f : Facts) (answer : Answer) → Tells z f.slots line.command stage answer → rest_of z line stage f ≡ answers line answer
 told z line Idle f answer tells = absurd tells
 told z line Fresh f answer tells = refused z line line.command f answer tells
 told z line (HasAccessed frame value) f answer tells = ap (answers line) (sym tells)

@@ -64,7 +64,7 @@ setting_closed line id slot (Some refusal) = record { within = []; answer = Refu
 
 doing_closed : (z : Sizes) (line : Line) (command : Command) (f : Facts) → Closed line (looks line command ++ doing z line command f)
 doing_closed z line (Access gfn word op) f = accessing_closed line gfn word op f (page_behind f.slots gfn op)
-doing_closed z line (SetSlot id slot) f = setting_closed line id slot (slot_refusal z.pages id slot)
+doing_closed z line (SetSlot id slot) f = setting_closed line id slot (slot_refusal z.pages f.slots id slot)
 
 alone_first : (z : Sizes) (line : Line) (f : Facts) (rest : List Event) → StandsFirst line (alone z line f ++ rest) rest
 alone_first z line f rest =

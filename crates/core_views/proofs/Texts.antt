@@ -19,7 +19,7 @@ pub answers_append : (xs ys : List Event) → answers_of (xs ++ ys) ≡ answers_
 answers_append [] ys = refl
 answers_append (x ∷ xs) ys = ap (or_answered x.actor x.kind) (answers_append xs ys) ∙ or_answered_append x.actor x.kind (answers_of xs) (answers_of ys)
 
-lines_text_append : (xs ys : List AnsweredLine) → lines_text (xs ++ ys) ≡ lines_text xs ++ lines_text ys
+pub lines_text_append : (xs ys : List AnsweredLine) → lines_text (xs ++ ys) ≡ lines_text xs ++ lines_text ys
 lines_text_append [] ys = refl
 lines_text_append (x ∷ xs) ys = ap (λ (t : List ℕ). line_text x.number x.actor x.answer ++ t) (lines_text_append xs ys) ∙ sym (append_assoc (line_text x.number x.actor x.answer) (lines_text xs) (lines_text ys))
 

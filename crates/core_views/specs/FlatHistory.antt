@@ -36,7 +36,7 @@ setting line id slot (Some refusal) = answers line (Refused refusal)
 
 abbrev pub doing : Sizes → Line → Command → Facts → List Event
 doing z line (Access gfn word op) f = accessing line gfn word op f (page_behind f.slots gfn op)
-doing z line (SetSlot id slot) f = setting line id slot (slot_refusal z.pages id slot)
+doing z line (SetSlot id slot) f = setting line id slot (slot_refusal z.pages f.slots id slot)
 
 -- what is left of a line, from each stage on
 abbrev pub rest_of : Sizes → Line → Stage → Facts → List Event

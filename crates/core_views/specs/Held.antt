@@ -1,5 +1,5 @@
 -- What one actor holds, as contracts see it.
-use Rattle.std.specs.Prelude.{ℕ, List, [], false, true, None}
+use Rattle.std.specs.Prelude.{ℕ, List, [], false, None}
 use Rattle.core_views.specs.declared.actor.Actor.{Actor}
 use Rattle.core_views.specs.declared.answer.AnsweredLine.{AnsweredLine}
 use Rattle.core_views.specs.declared.hand.SlotLook.{SlotLook}
@@ -7,6 +7,7 @@ use Rattle.core_views.specs.declared.hand.State.{State}
 use Rattle.core_views.specs.declared.place.Place.TheVariants.{Between}
 use Rattle.core_views.specs.declared.place.SlotField.TheVariants.{Flags}
 use Rattle.core_views.specs.declared.sizes.Sizes.{Sizes}
+use Rattle.core_views.specs.declared.topics.Checked.TheVariants.{Nothing}
 use Rattle.core_views.specs.declared.topics.Hold.TheVariants.{Loose}
 use Rattle.core_views.specs.declared.topics.Invalidations.{Invalidations}
 use Rattle.core_views.specs.declared.topics.MapClaim.{MapClaim}
@@ -17,11 +18,13 @@ use Rattle.core_views.specs.declared.topics.Topics.{Topics}
 use Rattle.core_views.specs.declared.trace.Line.{Line}
 use Rattle.core_views.specs.declared.trace.Slot.{Slot}
 use Rattle.core_views.specs.Flat.{no_line}
+use Rattle.core_views.specs.SlotSets.{MemorySlots}
 
 -- what steps read and change: all but the room that was taken
 pub record Held : Type 0 where
   pub state : State
   pub topics : Topics
+  pub slots : MemorySlots  -- the manager's own record of the slots
   pub lines : List Line
   pub answers : List AnsweredLine
 
@@ -38,16 +41,16 @@ no_look = record { set = 0; slot = no_slot }
 
 -- what an actor holds before its first line
 abbrev pub first_state : Sizes → Actor → State
-first_state z actor = record { sizes = z; actor = actor; place = Between; line = no_line; look = no_look; host = 0; spte = 0; has_set_slot = false }
+first_state z actor = record { sizes = z; actor = actor; place = Between; line = no_line; look = no_look; host = 0; spte = 0 }
 
 abbrev pub no_search : SlotSearch
-no_search = record { set = None; id = 0; next = Flags; slot = no_slot; logged = false }
+no_search = record { set = None; id = 0; next = Flags; slot = no_slot; logged = false; whole = false }
 
 abbrev pub no_invalidations : Invalidations
-no_invalidations = record { snapshot = 0; count = 0; start = 0; end = 0; seq = 0 }
+no_invalidations = record { snapshot = None; count = 0; start = 0; end = 0; seq = 0; checked = Nothing }
 
 abbrev pub no_walk : TableWalk
-no_walk = record { level = 0; root = 0; third = 0; second = 0; first = 0; entry = 0 }
+no_walk = record { level = 0; prefix = 0; root = 0; third = 0; second = 0; first = 0; index = 512; entry = 0 }
 
 abbrev pub no_claim : MapClaim
 no_claim = record { at = 0; seen = 0 }
@@ -63,9 +66,9 @@ first_topics = record {
   claim = no_claim;
   owned = None;
   watched = 0;
-  host = 0;
+  host = None;
   pause = 0;
 }
 
 abbrev pub first_held : Sizes → Actor → List Line → Held
-first_held z actor lines = record { state = first_state z actor; topics = first_topics; lines = lines; answers = [] }
+first_held z actor lines = record { state = first_state z actor; topics = first_topics; slots = []; lines = lines; answers = [] }

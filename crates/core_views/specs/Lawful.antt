@@ -33,18 +33,18 @@ abbrev pub MayLeave : Command → Notes → Answer → Type 0
 MayLeave (Access gfn word op) notes Mmio = SawNoPage notes gfn op
 MayLeave _ _ _ = ⊥
 
--- The machine refuses the command with this answer.
-abbrev pub IsRefused : Sizes → Command → Answer → Type 0
-IsRefused z (SetSlot id slot) (Refused refusal) = slot_refusal z.pages id slot ≡ Some refusal
-IsRefused z _ _ = ⊥
+-- A machine with these slots refuses the command with this answer.
+abbrev pub IsRefused : Sizes → Slots → Command → Answer → Type 0
+IsRefused z slots (SetSlot id slot) (Refused refusal) = slot_refusal z.pages slots id slot ≡ Some refusal
+IsRefused z slots _ _ = ⊥
 
 -- The line's own events tell this answer, or it has none and is refused.
-abbrev pub Tells : Sizes → Command → Stage → Answer → Type 0
-Tells z command (HasAccessed frame value) answer = answer ≡ Reached frame value
-Tells z command (HasLeft how) answer = answer ≡ how
-Tells z command HasSetSlot answer = answer ≡ Done
-Tells z command Idle answer = ⊥
-Tells z command Fresh answer = IsRefused z command answer
+abbrev pub Tells : Sizes → Slots → Command → Stage → Answer → Type 0
+Tells z slots command (HasAccessed frame value) answer = answer ≡ Reached frame value
+Tells z slots command (HasLeft how) answer = answer ≡ how
+Tells z slots command HasSetSlot answer = answer ≡ Done
+Tells z slots command Idle answer = ⊥
+Tells z slots command Fresh answer = IsRefused z slots command answer
 
 -- The actor, with this line under way, may do this next.
 abbrev pub IsAllowed : Sizes → Facts → Actor → LineUnderWay → EventKind → Type 0
@@ -52,8 +52,8 @@ IsAllowed z f actor u (Begun line) = (u.stage ≡ Idle) × (line.actor ≡ actor
 IsAllowed z f actor u LookedAtSlots = u.stage ≡ Fresh
 IsAllowed z f actor u (Accessed gfn word op frame before) = (u.stage ≡ Fresh) × (u.line.command ≡ Access gfn word op) × Reaches f gfn word op frame before
 IsAllowed z f actor u (Exited answer) = (u.stage ≡ Fresh) × MayLeave u.line.command u.notes answer
-IsAllowed z f actor u (SlotChanged id slot) = (u.stage ≡ Fresh) × (u.line.command ≡ SetSlot id slot) × (slot_refusal z.pages id slot ≡ None)
-IsAllowed z f actor u (Answered line answer) = (line ≡ u.line.number) × Tells z u.line.command u.stage answer
+IsAllowed z f actor u (SlotChanged id slot) = (u.stage ≡ Fresh) × (u.line.command ≡ SetSlot id slot) × (slot_refusal z.pages f.slots id slot ≡ None)
+IsAllowed z f actor u (Answered line answer) = (line ≡ u.line.number) × Tells z f.slots u.line.command u.stage answer
 
 -- Each event of the history is allowed in the state that the events before it give.
 abbrev pub IsLawful : Sizes → Flat → List Event → Type 0

@@ -43,8 +43,8 @@ AloneIsWhole = (z : Sizes) (lines : List Line) (h : List Event) → IsLawful z f
 abbrev pub example_sizes : Sizes
 example_sizes = record { pages = 128; frames = 128; words = 2; pool = 4; vcpus = 2; hosts = 1; workers = 0 }
 
-abbrev pub example_slot : ℕ → Bool → Slot
-example_slot base read_only = record { base = base; pages = 3; host = 64; read_only = read_only }
+abbrev pub example_slot : ℕ → ℕ → Bool → Slot
+example_slot base host read_only = record { base = base; pages = 3; host = host; read_only = read_only }
 
 abbrev pub manager_line : ℕ → ℕ → Slot → Line
 manager_line number id slot = record { number = number; actor = Manager; command = SetSlot id slot }
@@ -52,26 +52,29 @@ manager_line number id slot = record { number = number; actor = Manager; command
 abbrev pub access_line : ℕ → ℕ → ℕ → ℕ → Op → Line
 access_line number vcpu gfn word op = record { number = number; actor = Vcpu vcpu; command = Access gfn word op }
 
--- slots that are refused, a read-only slot, and accesses on both sides of a slot's ends, to both words of a page
+-- slots that are refused, a read-only slot and one behind it, and accesses on both sides of the ends of both, to both words of a page
 abbrev pub example : List Line
 example =
-    manager_line 2 0 (example_slot (2 ^ 36 - 2) false)
-    ∷ manager_line 3 32 (example_slot 5 false)
-    ∷ manager_line 4 0 (example_slot 5 true)
+    manager_line 2 0 (example_slot (2 ^ 36 - 2) 64 false)
+    ∷ manager_line 3 32 (example_slot 5 64 false)
+    ∷ manager_line 4 1 (example_slot 5 64 true)
     ∷ access_line 5 0 6 0 (Write 7)
     ∷ access_line 6 0 6 0 Read
-    ∷ manager_line 7 0 (example_slot 5 false)
-    ∷ access_line 8 0 6 0 (Write 7)
-    ∷ access_line 9 1 6 1 (Write 8)
-    ∷ access_line 10 1 6 0 (Add (2 ^ 64 - 1))
-    ∷ access_line 11 0 6 0 Read
-    ∷ access_line 12 0 6 1 Read
-    ∷ access_line 13 0 5 1 Read
-    ∷ access_line 14 0 7 1 Read
-    ∷ access_line 15 0 4 1 Read
-    ∷ access_line 16 0 8 1 Read
+    ∷ manager_line 7 2 (example_slot 7 0 false)
+    ∷ manager_line 8 3 (example_slot 8 64 false)
+    ∷ manager_line 9 4 (example_slot 8 0 false)
+    ∷ access_line 10 0 9 0 (Write 7)
+    ∷ access_line 11 1 9 1 (Write 8)
+    ∷ access_line 12 1 9 0 (Add (2 ^ 64 - 1))
+    ∷ access_line 13 0 9 0 Read
+    ∷ access_line 14 0 9 1 Read
+    ∷ access_line 15 0 8 1 Read
+    ∷ access_line 16 0 10 1 Read
+    ∷ access_line 17 0 7 1 Read
+    ∷ access_line 18 0 4 1 Read
+    ∷ access_line 19 0 11 1 Read
     ∷ []
 
 abbrev pub FlatPrints : Type 0
 FlatPrints = text (one_by_one example_sizes example first_facts)
-    ≡ codes "2 vm refused too-large\n3 vm refused bad-id\n4 vm done\n5 v0 mmio\n6 v0 frame 65 value 0\n7 vm done\n8 v0 frame 65 value 0\n9 v1 frame 65 value 0\n10 v1 frame 65 value 7\n11 v0 frame 65 value 6\n12 v0 frame 65 value 8\n13 v0 frame 64 value 0\n14 v0 frame 66 value 0\n15 v0 mmio\n16 v0 mmio\n"
+    ≡ codes "2 vm refused too-large\n3 vm refused bad-id\n4 vm done\n5 v0 mmio\n6 v0 frame 65 value 0\n7 vm refused overlap\n8 vm refused host-overlap\n9 vm done\n10 v0 frame 1 value 0\n11 v1 frame 1 value 0\n12 v1 frame 1 value 7\n13 v0 frame 1 value 6\n14 v0 frame 1 value 8\n15 v0 frame 0 value 0\n16 v0 frame 2 value 0\n17 v0 frame 66 value 0\n18 v0 mmio\n19 v0 mmio\n"

@@ -2,6 +2,9 @@ pub mod Actors
 pub mod Sizes
 pub mod Traces
 pub mod Slots
+pub mod SlotSets
+pub mod Refusals
+pub mod Places
 pub mod Host
 pub mod Memory
 pub mod Names

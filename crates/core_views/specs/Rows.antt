@@ -1,6 +1,7 @@
 -- The types of what a hand lends.
 use Rattle.std.specs.Borrow.{RattleType}
 use Rattle.core_views.specs.contracts.hand.State as state
+use Rattle.core_views.specs.contracts.slot_set.SlotSet as slots
 use Rattle.core_views.specs.contracts.topics.Topics as topics
 
 abbrev pub state_row : RattleType
@@ -8,3 +9,6 @@ state_row = state.the_row
 
 abbrev pub topics_row : RattleType
 topics_row = topics.the_row
+
+abbrev pub slots_row : RattleType
+slots_row = slots.the_row

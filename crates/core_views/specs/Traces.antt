@@ -1,5 +1,6 @@
 -- What a trace may hold: the ranges of its header and of its lines.
-use Rattle.std.specs.Prelude.{◌≡◌, ◌+◌, ◌*◌, ◌%◌, ◌^◌, ◌<◌, ◌≤◌, ◌⊎◌, ℕ, List, [], ◌∷◌, Bool, true, false, if◌then◌else◌, All, Some, length, slice_get}
+use Rattle.std.specs.Prelude.{◌≡◌, ◌*◌, ◌%◌, ◌^◌, ◌<◌, ◌≤◌, ◌==◌, ◌⊎◌, ℕ, List, [], ◌∷◌, false, All, Some, length, slice_get}
+use Rattle.std.specs.List.{AllByRecursion}
 use Rattle.std.specs.List.Sorted.{IsStrictlyIncreasing}
 use Rattle.core_views.specs.declared.actor.Actor.{Actor}
 use Rattle.core_views.specs.declared.actor.Actor.TheVariants.{Vcpu, Manager}
@@ -37,15 +38,20 @@ IsLineOf h line = IsCommandOf h line.actor line.command
 abbrev pub AreLinesOf : Header → List Line → Type 0
 AreLinesOf h lines = All (IsLineOf h) lines
 
--- The command sets a slot.
-abbrev pub sets_slot : Command → Bool
-sets_slot (Access gfn word op) = false
-sets_slot (SetSlot id slot) = true
+-- before these IDs the one that the command sets a slot at, if it sets one
+abbrev pub or_slot_id : Command → List ℕ → List ℕ
+or_slot_id (Access gfn word op) ids = ids
+or_slot_id (SetSlot id slot) ids = id ∷ ids
 
--- how many of the lines set a slot
-abbrev pub settings : List Line → ℕ
-settings [] = 0
-settings (line ∷ lines) = (if sets_slot line.command then 1 else 0) + settings lines
+-- the IDs that the lines set slots at, in their order
+abbrev pub slot_ids : List Line → List ℕ
+slot_ids [] = []
+slot_ids (line ∷ lines) = or_slot_id line.command (slot_ids lines)
+
+-- No ID is there twice.
+abbrev pub AreDistinct : List ℕ → Type 0
+AreDistinct [] = Unit {0}
+AreDistinct (id ∷ ids) = AllByRecursion (λ j. (id == j) ≡ false) ids × AreDistinct ids
 
 -- One to four host threads own all pages: the first from page 0 on, and each from a page behind the one before.
 pub record AreHostsOf (pages : ℕ) (hosts : List ℕ) : Type 0 where
@@ -68,8 +74,8 @@ pub record IsHeader (h : Header) : Type 0 where
   pub manual : h.manual ≤ 2
   pub hosts : AreHostsOf h.pages h.hosts
 
--- All numbers of the trace are in their ranges, and one line at most sets a slot.
+-- All numbers of the trace are in their ranges, and no two lines set a slot at one ID.
 pub record IsTrace (t : Trace) : Type 0 where
   pub header : IsHeader t.header
   pub lines : AreLinesOf t.header t.lines
-  pub once : settings t.lines ≤ 1
+  pub distinct : AreDistinct (slot_ids t.lines)

@@ -2,7 +2,7 @@ ghost use Rattle.std.specs.Prelude.{◌≡◌, ◌+◌, ◌-◌, ◌<◌, ◌++�
 ghost use Rattle.core_views.specs.Held.{first_held, first_state};
 
 use crate::{
-    Actor, AnsweredLine, Command, Line, NoMemory, Op, Place, Sequence, Sizes, Slot, Topics,
+    Actor, AnsweredLine, Command, Line, NoMemory, Op, Place, Sequence, Sizes, Slot, SlotSet, Topics,
 };
 use std::alloc::Global;
 use std::marker::Model;
@@ -40,8 +40,6 @@ pub struct State {
     pub host: u64,
     /// The leaf that was seen or installed.
     pub spte: u64,
-    /// The manager's own record: it has set a slot.
-    pub has_set_slot: bool,
 }
 
 impl State {
@@ -72,18 +70,18 @@ impl State {
             look: SlotLook { set: 0, slot },
             host: 0,
             spte: 0,
-            has_set_slot: false,
         }
     }
 }
 
 /// What one actor holds: where its line stands and what this line loaded; what
-/// it holds of each part of the machine; its lines of the trace, and the answers
-/// that it has given them, with room for more.
+/// it holds of each part of the machine; the manager's own record of the slots; its
+/// lines of the trace, and the answers that it has given them, with room for more.
 #[derive(Debug, Drop)]
 pub struct Hand {
     state: State,
     topics: Topics,
+    slots: SlotSet,
     lines: Vec<Line>,
     answers: Vec<AnsweredLine>,
     room: usize,
@@ -95,7 +93,7 @@ impl Model for Hand {
 
     ghost Value = { Handful };
 
-    ghost view = { λ h. record { core = record { state = h.state; topics = h.topics; lines = h.lines.items; answers = h.answers.items }; room = h.room } };
+    ghost view = { λ h. record { core = record { state = h.state; topics = h.topics; slots = h.slots; lines = h.lines.items; answers = h.answers.items }; room = h.room } };
 
     ghost invariant = { λ h. vec_len h.answers + h.room ≤ vec_capacity h.answers };
 }
@@ -103,7 +101,7 @@ impl Model for Hand {
 impl Hand {
     ghost use Rattle.std.specs.Borrow.{Lends, sem};
     ghost use Rattle.core_views.specs.contracts.hand.Hand.{the_row};
-    ghost use Rattle.core_views.specs.Rows.{state_row, topics_row};
+    ghost use Rattle.core_views.specs.Rows.{slots_row, state_row, topics_row};
 
     /// The hand of an actor before its first line.
     pub fn new(alloc: Global, sizes: Sizes, actor: Actor, lines: Vec<Line>) -> Self
@@ -112,6 +110,7 @@ impl Hand {
         Hand {
             state: State::first(sizes, actor),
             topics: Topics::first(),
+            slots: SlotSet::empty(),
             lines,
             answers: Vec::new(alloc),
             room: 0,
@@ -130,6 +129,13 @@ impl Hand {
         ensures { result.now ≡ self.now.core.topics }
     {
         &self.topics
+    }
+
+    /// The manager's own record of the slots.
+    pub fn slots(&self) -> &SlotSet
+        ensures { result.now ≡ self.now.core.slots }
+    {
+        &self.slots
     }
 
     /// The first line that has no answer.
@@ -153,7 +159,7 @@ impl Hand {
     /// Where the line stands and what it loaded, to be changed in place.
     pub fn state_mut(&mut self) -> &mut State
         ensures value { result.now ≡ self.old.core.state }
-        ensures* lends { sem 𝓛 (Lends the_row state_row self.entry result (λ s. record { core = record { state = s; topics = self.old.core.topics; lines = self.old.core.lines; answers = self.old.core.answers }; room = self.old.room })) }
+        ensures* lends { sem 𝓛 (Lends the_row state_row self.entry result (λ s. record { core = record { state = s; topics = self.old.core.topics; slots = self.old.core.slots; lines = self.old.core.lines; answers = self.old.core.answers }; room = self.old.room })) }
     {
         &mut self.state
     }
@@ -161,9 +167,17 @@ impl Hand {
     /// What is held of each part of the machine, to be changed in place.
     pub fn topics_mut(&mut self) -> &mut Topics
         ensures value { result.now ≡ self.old.core.topics }
-        ensures* lends { sem 𝓛 (Lends the_row topics_row self.entry result (λ t. record { core = record { state = self.old.core.state; topics = t; lines = self.old.core.lines; answers = self.old.core.answers }; room = self.old.room })) }
+        ensures* lends { sem 𝓛 (Lends the_row topics_row self.entry result (λ t. record { core = record { state = self.old.core.state; topics = t; slots = self.old.core.slots; lines = self.old.core.lines; answers = self.old.core.answers }; room = self.old.room })) }
     {
         &mut self.topics
+    }
+
+    /// The manager's own record of the slots, to be changed in place.
+    pub fn slots_mut(&mut self) -> &mut SlotSet
+        ensures value { result.now ≡ self.old.core.slots }
+        ensures* lends { sem 𝓛 (Lends the_row slots_row self.entry result (λ s. record { core = record { state = self.old.core.state; topics = self.old.core.topics; slots = s; lines = self.old.core.lines; answers = self.old.core.answers }; room = self.old.room })) }
+    {
+        &mut self.slots
     }
 
     /// Takes room for one more answer. Where it is refused nothing has changed.
@@ -180,7 +194,7 @@ impl Hand {
     /// Adds an answer, for which there is room.
     pub fn answer(&mut self, answer: AnsweredLine)
         requires { 0 < self.old.room }
-        ensures { self.new ≡ record { core = record { state = self.old.core.state; topics = self.old.core.topics; lines = self.old.core.lines; answers = self.old.core.answers ++ answer ∷ [] }; room = self.old.room - 1 } }
+        ensures { self.new ≡ record { core = record { state = self.old.core.state; topics = self.old.core.topics; slots = self.old.core.slots; lines = self.old.core.lines; answers = self.old.core.answers ++ answer ∷ [] }; room = self.old.room - 1 } }
     {
         self.room -= 1;
         match self.answers.push(answer) {

@@ -12,6 +12,7 @@ mod no_memory;
 mod place;
 mod sequence;
 mod sizes;
+mod slot_set;
 mod topics;
 mod trace;
 
@@ -22,8 +23,17 @@ pub use hand::{Closing, Hand, Hands, Seen, SlotLook, State};
 pub use kind::{Kind, Operation, StepKind};
 pub use laws::{alone_is_flat, flat_history_is_lawful};
 pub use no_memory::NoMemory;
-pub use place::{AccessPlace, Place, SetSlotPlace, SlotField};
+pub use place::{
+    AccessPlace, Cause, CheckStage, FaultEnd, FaultNext, FaultPlace, Place, SetSlotPlace, SlotField,
+};
 pub use sequence::Sequence;
 pub use sizes::Sizes;
-pub use topics::{Hold, Invalidations, MapClaim, OwnedPage, SlotSearch, Stay, TableWalk, Topics};
+pub use slot_set::{MemorySlot, SlotSet};
+pub use topics::{
+    Checked, Hold, HostLook, Invalidations, MapClaim, OwnedPage, SlotSearch, Stay, TableWalk,
+    Topics,
+};
 pub use trace::{Command, Header, Line, Lines, Op, Slot, Trace, Words};
+
+#[cfg(test)]
+mod slot_set_tests;

@@ -41,15 +41,40 @@ pub struct SlotSearch {
     pub slot: Slot,
     /// Whether the flags that were loaded last have a dirty log in them.
     pub logged: bool,
+    /// Whether each word of the slot was loaded, its host page last.
+    pub whole: bool,
+}
+
+/// A host word, and the page that it is of.
+#[derive(Clone, Copy, Debug, PartialEq, Eq, Drop)]
+pub struct HostLook {
+    pub page: u64,
+    pub word: u64,
+}
+
+/// Which words of the invalidations were loaded under the lock, in the order of
+/// the check.
+#[derive(Clone, Copy, Debug, PartialEq, Eq, Drop)]
+pub enum Checked {
+    /// None, or not in this order.
+    Nothing,
+    /// How many are open.
+    Count,
+    /// And the first guest frame of their range.
+    Start,
+    /// And the guest frame behind it.
+    Range,
+    /// And, behind the count where it was 0, or behind the range, the sequence
+    /// number.
+    All,
 }
 
 /// What an actor loaded of the invalidations: their sequence number before it
-/// touched the lock and since, how many are open, and the range of guest frames of
-/// these.
+/// looked up and since, how many are open, and the range of guest frames of these.
 #[derive(Clone, Copy, Debug, PartialEq, Eq, Drop)]
 pub struct Invalidations {
-    /// The sequence number before the look-up.
-    pub snapshot: u64,
+    /// The sequence number before the look-up of this section, where it was taken.
+    pub snapshot: Option<u64>,
     /// How many are open.
     pub count: u64,
     /// The first guest frame of their range.
@@ -58,6 +83,8 @@ pub struct Invalidations {
     pub end: u64,
     /// The sequence number under the lock.
     pub seq: u64,
+    /// Which of them were loaded since the actor has the lock.
+    pub checked: Checked,
 }
 
 /// A walk from the root down to an entry: the tables that it has come through
@@ -67,11 +94,17 @@ pub struct TableWalk {
     /// The level of the table that it has come to, 4 at the root; 0 where none
     /// is held.
     pub level: u8,
+    /// The run of guest frames that this table is for: its number among the runs
+    /// of 512 entries of the level, 0 at the root.
+    pub prefix: u64,
     /// The pool pages of its tables of levels 4, 3, 2 and 1, down to its level.
     pub root: u64,
     pub third: u64,
     pub second: u64,
     pub first: u64,
+    /// The place of the entry that was loaded last in this table; 512 where none
+    /// was.
+    pub index: u64,
     /// The entry that was loaded last.
     pub entry: u64,
 }
@@ -94,6 +127,8 @@ pub struct OwnedPage {
     pub filled: u64,
     /// Whether each of the 512 that is filled holds 0.
     pub absent: bool,
+    /// The role that was stored, once all is filled.
+    pub role: u64,
 }
 
 /// What an actor holds of each part of the machine. Each field is a topic of its
@@ -110,8 +145,8 @@ pub struct Topics {
     /// The place of the actor whose state word is looked at next; each before it
     /// was seen outside.
     pub watched: u64,
-    /// The host word that was loaded last.
-    pub host: u64,
+    /// The host word that was loaded last in this look-up.
+    pub host: Option<HostLook>,
     /// The pause word that was loaded last.
     pub pause: u64,
 }
@@ -139,26 +174,30 @@ impl Topics {
                 next: SlotField::Flags,
                 slot,
                 logged: false,
+                whole: false,
             },
             invalidations: Invalidations {
-                snapshot: 0,
+                snapshot: None,
                 count: 0,
                 start: 0,
                 end: 0,
                 seq: 0,
+                checked: Checked::Nothing,
             },
             walk: TableWalk {
                 level: 0,
+                prefix: 0,
                 root: 0,
                 third: 0,
                 second: 0,
                 first: 0,
+                index: 512,
                 entry: 0,
             },
             claim: MapClaim { at: 0, seen: 0 },
             owned: None,
             watched: 0,
-            host: 0,
+            host: None,
             pause: 0,
         }
     }

@@ -45,6 +45,9 @@ mod tests {
             ),
             (0, 0, 1024, false, Answer::Refused(Refusal::TooLarge)),
             (0, 0, 0, false, Answer::Done),
+            (1, 15, 64, false, Answer::Refused(Refusal::Overlap)),
+            (1, 16, 0, false, Answer::Refused(Refusal::HostOverlap)),
+            (0, 16, 64, false, Answer::Refused(Refusal::Fixed)),
             (31, 32, 64, true, Answer::Done),
         ] {
             let slot = Slot {

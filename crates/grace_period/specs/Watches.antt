@@ -10,7 +10,7 @@ use Rattle.mmu_core.specs.PartSteps.{next_watched, own_index}
 use Rattle.mmu_core.specs.Tasks.{map_of}
 use Rattle.mmu_core.specs.TopicSteps.{in_section}
 use Rattle.step_seats.specs.declared.turn.Turn.{Turn}
-use Rattle.step_seats.specs.declared.turn.Turn.TheVariants.{More, Wait, Done}
+use Rattle.step_seats.specs.declared.turn.Turn.TheVariants.{More, Wait, Retry, Done}
 use Rattle.step_seats.specs.PartTurns.{MadePart, Told}
 
 -- what a watch keeps: whether it has looked at an actor yet
@@ -33,12 +33,14 @@ next_behind h index = next_watched (own_index h) (index + 1)
 abbrev pub waits : Turn (Unit {0}) → Bool
 waits More = false
 waits (Wait seen) = true
+waits (Retry cause) = false
 waits (Done answer) = false
 
 -- the watch is over
 abbrev pub is_done : Turn (Unit {0}) → Bool
 is_done More = false
 is_done (Wait seen) = false
+is_done (Retry cause) = false
 is_done (Done answer) = true
 
 -- A turn that looked at the actor at this place, and what the watch has come to. Where the state word has bit 1 set, the turn waits for
@@ -46,12 +48,14 @@ is_done (Done answer) = true
 -- No other topic has changed.
 abbrev pub Watched : Turn (Unit {0}) → ℕ → Held → Topics → Type 0
 Watched (Wait seen) index h after = (seen.word ≡ place (map_of h.state.sizes) State index) × (in_section seen.value ≡ true) × (after ≡ record h.topics { watched = index })
+Watched (Retry cause) index h after = ⊥
 Watched More index h after = (next_behind h index < actors_of h.state.sizes) × (after ≡ record h.topics { watched = index + 1 })
 Watched (Done answer) index h after = (actors_of h.state.sizes ≤ next_behind h index) × (after ≡ record h.topics { watched = index + 1 })
 
 -- A number that the look may have found: where the turn waits, the one that it tells; else one with bit 1 clear.
 abbrev pub MayBeFound : Turn (Unit {0}) → ℕ → Type 0
 MayBeFound (Wait seen) found = found ≡ seen.value
+MayBeFound (Retry cause) found = ⊥
 MayBeFound More found = in_section found ≡ false
 MayBeFound (Done answer) found = in_section found ≡ false
 

@@ -1,4 +1,4 @@
-ghost use Rattle.std.specs.Prelude.{◌≡◌, ◌<◌, IfSome};
+ghost use Rattle.std.specs.Prelude.{◌≡◌, ◌<◌, Some, IfSome};
 ghost use Rattle.host_map.specs.Touching.{host_in};
 ghost use Rattle.mmu_core.specs.PartRests.{MayMake};
 ghost use Rattle.mmu_core.specs.declared.part_step.PartStep.TheVariants.{Host};
@@ -8,15 +8,15 @@ ghost use Rattle.step_seats.specs.PartTurns.{MadePart};
 use mmu_core::PartStep;
 use step_seats::{Stepper, make_part};
 
-/// Loads the host word of a host page (below the pages of the machine), and
-/// answers it: whether the page is present and writable, the level of its
-/// mapping, and its frame (`HostWord`; KVM's mmu.rst, "Memory"). It never waits
-/// and takes no memory.
+/// Loads the host word of a host page (below the pages of the machine), keeps it
+/// with its page, and answers it: whether the page is present and writable, the
+/// level of its mapping, and its frame (`HostWord`; KVM's mmu.rst, "Memory"). It
+/// never waits and takes no memory.
 pub fn look<S: Stepper>(s: &mut S, page: u64, note: u64) -> u64
     requires may { MayMake (Host page) note (S.handful s.old).core }
     requires reserved { 0 < (S.handful s.old).room }
     ensures step { MadePart (Host page) note result (S.actor s.old) (S.handful s.old).core (S.handful s.new).core (record { world = S.told s.old; steps = S.steps s.old }) (record { world = S.told s.new; steps = S.steps s.new }) }
-    ensures host { (S.handful s.new).core.topics ≡ record (S.handful s.old).core.topics { host = result } }
+    ensures host { (S.handful s.new).core.topics ≡ record (S.handful s.old).core.topics { host = Some (record { page = page; word = result }) } }
     ensures told { IfSome (S.told s.old) (λ w. result ≡ host_in (S.handful s.old).core.state.sizes page w) }
     ensures room { KeepsRoom (S.handful s.old) (S.handful s.new) }
     ensures same { (S.actor s.new ≡ S.actor s.old) × (S.frame s.new ≡ S.frame s.old) }

@@ -5,7 +5,7 @@ ghost use Rattle.core_views.specs.declared.trace.Command.TheVariants.{Access, Se
 
 use crate::content::touch_kind;
 use crate::{load, look, touch};
-use core_views::{Actor, Command, Header, Line, Lines, NoMemory, Op, Slot, Trace, Words};
+use core_views::{Actor, Command, Header, HostLook, Line, Lines, NoMemory, Op, Slot, Trace, Words};
 use mmu_core::{PartStep, allows, next_kind, part_rests, rests};
 use std::alloc::Global;
 use std::test::Fail;
@@ -126,7 +126,7 @@ fn looks_at_a_page(rt: HostRuntime) -> Result<(), Fail> {
         seat.reserve(&slot_line())?;
         assert!(rt; allows(seat.hand(), PartStep::Host(page), 0));
         assert_eq!(rt; look(&mut seat, page, 0), word);
-        assert_eq!(rt; seat.hand().topics().host, word);
+        assert_eq!(rt; seat.hand().topics().host, Some(HostLook { page, word }));
     }
     assert!(rt; !allows(seat.hand(), PartStep::Host(70), 0));
     Ok(())

@@ -1,20 +1,21 @@
 -- Which word each stage of a check loads, and where it is kept.
-use Rattle.std.proofs.Common.{◌≡◌, ℕ, Option, Some, None, refl, sym, ap, ◌∙◌}
-use Rattle.std.specs.Prelude.{true, false, IfSome}
+use Rattle.std.proofs.Common.{◌≡◌, ℕ, Some, refl, sym, ap, ◌∙◌}
+use Rattle.std.specs.Prelude.{Bool, true, false, IfSome}
+use Rattle.core_views.specs.declared.place.CheckStage.{CheckStage}
+use Rattle.core_views.specs.declared.place.CheckStage.TheVariants.{Count, Start, End, Seq}
 use Rattle.core_views.specs.declared.topics.Hold.{Hold}
 use Rattle.core_views.specs.declared.topics.Hold.TheVariants.{Loose, Shared, Owing, Exclusive}
+use Rattle.core_views.specs.declared.topics.Invalidations.{Invalidations}
 use Rattle.core_views.specs.declared.topics.Topics.{Topics}
 use Rattle.core_views.specs.Held.{Held}
 use Rattle.spte_words.specs.declared.area.Area.TheVariants as area
 use Rattle.mmu_core.specs.declared.part_step.PartStep.TheVariants as part
 use Rattle.mmu_core.specs.Machine.{World}
 use Rattle.mmu_core.specs.PartSteps.{PartNeeds}
-use Rattle.mmu_core.specs.PartTopics.{part_topics}
-use Rattle.mmu_core.specs.TopicSteps.{has_lock, is_loose}
+use Rattle.mmu_core.specs.PartTopics.{part_topics, sequenced}
+use Rattle.mmu_core.specs.TopicSteps.{has_lock, is_loose, seq_checked}
 use Rattle.mmu_core.specs.View.{word_in}
 use Rattle.step_seats.specs.PartTurns.{MadePart, Told}
-use Rattle.invalidate_seq.specs.declared.check.Stage.{Stage}
-use Rattle.invalidate_seq.specs.declared.check.Stage.TheVariants.{Count, Start, End, Seq}
 use Rattle.invalidate_seq.specs.Checks.{LoadsOnly, area_of, loaded, step_of}
 use Rattle.step_seats.proofs.AloneTold.{if_some}
 use Rattle.step_seats.proofs.Found.{Answers, found_told}
@@ -25,37 +26,38 @@ locked Shared is = refl
 locked (Owing word) is = refl
 locked Exclusive is = refl
 
--- Under the lock the sequence number is no snapshot.
-seq_loaded : (before after : Topics) (v : ℕ) → has_lock before.hold ≡ true → after ≡ part_topics part.Seq before v → after ≡ record before { invalidations = record before.invalidations { seq = v } }
-seq_loaded before after v lock made = let not_loose = locked before.hold lock in rw not_loose at made
+-- Under the lock the sequence number is no snapshot, and the look-up goes on.
+seq_loaded : (before after : Topics) (v : ℕ) → has_lock before.hold ≡ true → after ≡ part_topics part.Seq before v
+    → after ≡ record before { invalidations = record before.invalidations { seq = v; checked = seq_checked before.invalidations.count before.invalidations.checked } }
+seq_loaded before after v lock made = made ∙ ap (λ (b : Bool). sequenced b before v) (locked before.hold lock)
 
-pub loads_only : (stage : Stage) (before after : Topics) (v : ℕ) → has_lock before.hold ≡ true → after ≡ part_topics (step_of stage) before v → LoadsOnly stage before after
-loads_only Count before after v lock made = made ∙ ap (λ (n : ℕ). record before { invalidations = record before.invalidations { count = n } }) (sym (ap (λ (t : Topics). t.invalidations.count) made))
-loads_only Start before after v lock made = made ∙ ap (λ (n : ℕ). record before { invalidations = record before.invalidations { start = n } }) (sym (ap (λ (t : Topics). t.invalidations.start) made))
-loads_only End before after v lock made = made ∙ ap (λ (n : ℕ). record before { invalidations = record before.invalidations { end = n } }) (sym (ap (λ (t : Topics). t.invalidations.end) made))
+pub loads_only : (stage : CheckStage) (before after : Topics) (v : ℕ) → has_lock before.hold ≡ true → after ≡ part_topics (step_of stage) before v → LoadsOnly stage before after
+loads_only Count before after v lock made = made ∙ ap (λ (n : Invalidations). record before { invalidations = record before.invalidations { count = n.count; checked = n.checked } }) (sym (ap (λ (t : Topics). t.invalidations) made))
+loads_only Start before after v lock made = made ∙ ap (λ (n : Invalidations). record before { invalidations = record before.invalidations { start = n.start; checked = n.checked } }) (sym (ap (λ (t : Topics). t.invalidations) made))
+loads_only End before after v lock made = made ∙ ap (λ (n : Invalidations). record before { invalidations = record before.invalidations { end = n.end; checked = n.checked } }) (sym (ap (λ (t : Topics). t.invalidations) made))
 loads_only Seq before after v lock made =
     let is = seq_loaded before after v lock made in
-    is ∙ ap (λ (n : ℕ). record before { invalidations = record before.invalidations { seq = n } }) (sym (ap (λ (t : Topics). t.invalidations.seq) is))
+    is ∙ ap (λ (n : Invalidations). record before { invalidations = record before.invalidations { seq = n.seq; checked = n.checked } }) (sym (ap (λ (t : Topics). t.invalidations) is))
 
-loaded_is : (stage : Stage) (before after : Topics) (v : ℕ) → has_lock before.hold ≡ true → after ≡ part_topics (step_of stage) before v → loaded stage after.invalidations ≡ v
+loaded_is : (stage : CheckStage) (before after : Topics) (v : ℕ) → has_lock before.hold ≡ true → after ≡ part_topics (step_of stage) before v → loaded stage after.invalidations ≡ v
 loaded_is Count before after v lock made = ap (λ (t : Topics). t.invalidations.count) made
 loaded_is Start before after v lock made = ap (λ (t : Topics). t.invalidations.start) made
 loaded_is End before after v lock made = ap (λ (t : Topics). t.invalidations.end) made
 loaded_is Seq before after v lock made = ap (λ (t : Topics). t.invalidations.seq) (seq_loaded before after v lock made)
 
-needs_nothing : (stage : Stage) (h : Held) → PartNeeds (step_of stage) h
+needs_nothing : (stage : CheckStage) (h : Held) → PartNeeds (step_of stage) h
 needs_nothing Count h = tt
 needs_nothing Start h = tt
 needs_nothing End h = tt
 needs_nothing Seq h = tt
 
-stage_word : (stage : Stage) (note found : ℕ) (h : Held) (w : World Held) → Answers (step_of stage) note found h w → found ≡ word_in h.state.sizes w (area_of stage) 0
+stage_word : (stage : CheckStage) (note found : ℕ) (h : Held) (w : World Held) → Answers (step_of stage) note found h w → found ≡ word_in h.state.sizes w (area_of stage) 0
 stage_word Count note found h w is = is
 stage_word Start note found h w is = is
 stage_word End note found h w is = is
 stage_word Seq note found h w is = is
 
-pub word_told : (stage : Stage) (note found a : ℕ) (before after : Held) (told tells : Told) → has_lock before.topics.hold ≡ true → MadePart (step_of stage) note found a before after told tells
+pub word_told : (stage : CheckStage) (note found a : ℕ) (before after : Held) (told tells : Told) → has_lock before.topics.hold ≡ true → MadePart (step_of stage) note found a before after told tells
     → IfSome told.world (λ w. loaded stage after.topics.invalidations ≡ word_in before.state.sizes w (area_of stage) 0)
 word_told stage note found a before after told tells lock made =
     if_some told.world (Answers (step_of stage) note found before) (λ w. loaded stage after.topics.invalidations ≡ word_in before.state.sizes w (area_of stage) 0)
@@ -63,12 +65,12 @@ word_told stage note found a before after told tells lock made =
     (found_told (step_of stage) note found a before after told tells made (needs_nothing stage before))
 
 -- The sequence number is the snapshot where the lock isn't held.
-snapshot_loaded : (before after : Topics) (v : ℕ) → before.hold ≡ Loose → after ≡ part_topics part.Seq before v → after.invalidations.snapshot ≡ v
-snapshot_loaded before after v loose made = let is : is_loose before.hold ≡ true = ap is_loose loose in ap (λ (t : Topics). t.invalidations.snapshot) (rw is at made)
+snapshot_taken : (before after : Topics) (v : ℕ) → before.hold ≡ Loose → after ≡ part_topics part.Seq before v → after ≡ sequenced true before v
+snapshot_taken before after v loose made = made ∙ ap (λ (h : Hold). sequenced (is_loose h) before v) loose
 
 pub snapshot_told : (note found a : ℕ) (before after : Held) (told tells : Told) → before.topics.hold ≡ Loose → MadePart part.Seq note found a before after told tells
-    → IfSome told.world (λ w. after.topics.invalidations.snapshot ≡ word_in before.state.sizes w area.Seq 0)
+    → IfSome told.world (λ w. after.topics.invalidations.snapshot ≡ Some (word_in before.state.sizes w area.Seq 0))
 snapshot_told note found a before after told tells loose made =
-    if_some told.world (Answers part.Seq note found before) (λ w. after.topics.invalidations.snapshot ≡ word_in before.state.sizes w area.Seq 0)
-    (λ w is. snapshot_loaded before.topics after.topics found loose made.topics ∙ is)
+    if_some told.world (Answers part.Seq note found before) (λ w. after.topics.invalidations.snapshot ≡ Some (word_in before.state.sizes w area.Seq 0))
+    (λ w is. ap (λ (t : Topics). t.invalidations.snapshot) (snapshot_taken before.topics after.topics found loose made.topics) ∙ ap Some is)
     (found_told part.Seq note found a before after told tells made tt)

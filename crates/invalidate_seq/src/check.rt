@@ -1,13 +1,13 @@
-ghost use Rattle.std.specs.Prelude.{◌≡◌, ◌<◌, true, IfSome};
+ghost use Rattle.std.specs.Prelude.{◌≡◌, ◌<◌, true, IfSome, is_some};
 ghost use Rattle.mmu_core.specs.PartRests.{MayMake};
 ghost use Rattle.mmu_core.specs.TopicSteps.{has_lock};
 ghost use Rattle.mmu_core.specs.View.{word_in};
 ghost use Rattle.step_seats.specs.Moves.{KeepsRoom};
 ghost use Rattle.step_seats.specs.PartTurns.{MakesPart};
 ghost use Rattle.step_seats.specs.declared.turn.Turn.TheVariants.{More};
-ghost use Rattle.invalidate_seq.specs.Checks.{AnswersBy, LoadsOnly, Stands, area_of, loaded, step_of, turns_left};
+ghost use Rattle.invalidate_seq.specs.Checks.{AnswersBy, LoadsOnly, Stands, StandsBehind, area_of, loaded, step_of, turns_left};
 
-use core_views::Invalidations;
+use core_views::{CheckStage, Invalidations};
 use mmu_core::PartStep;
 use step_seats::{Stepper, Turn, make_part};
 
@@ -24,30 +24,15 @@ pub enum Checked {
     Moved { snapshot: u64, seq: u64 },
 }
 
-/// The word that a check loads in its next turn.
-#[derive(Clone, Copy, Debug, PartialEq, Eq, Drop)]
-pub enum Stage {
-    /// How many invalidations are open.
-    Count,
-    /// The first guest frame of their range, where some are open.
-    Start,
-    /// The guest frame behind it.
-    End,
-    /// The sequence number, where none is open over the guest frame.
-    Seq,
-}
-
-impl Stage {
-    // The step that loads it.
-    fn step(self) -> PartStep
-        ensures { result ≡ step_of self }
-    {
-        match self {
-            Stage::Count => PartStep::Count,
-            Stage::Start => PartStep::RangeStart,
-            Stage::End => PartStep::RangeEnd,
-            Stage::Seq => PartStep::Seq,
-        }
+// The step that loads a stage's word.
+fn step(stage: CheckStage) -> PartStep
+    ensures { result ≡ step_of stage }
+{
+    match stage {
+        CheckStage::Count => PartStep::Count,
+        CheckStage::Start => PartStep::RangeStart,
+        CheckStage::End => PartStep::RangeEnd,
+        CheckStage::Seq => PartStep::Seq,
     }
 }
 
@@ -58,55 +43,61 @@ pub struct Check {
     /// The guest frame.
     pub gfn: u64,
     /// How far the check has come.
-    pub stage: Stage,
+    pub stage: CheckStage,
 }
 
 impl Check {
     /// A check that is yet to begin, for this guest frame.
     pub fn new(gfn: u64) -> Check
-        ensures { result ≡ record { gfn = gfn; stage = Stage.Count } }
+        ensures { result ≡ record { gfn = gfn; stage = CheckStage.Count } }
     {
         Check {
             gfn,
-            stage: Stage::Count,
+            stage: CheckStage::Count,
         }
     }
 
     // Goes on behind the word of its stage, which is kept now.
     pub(crate) fn go_on(&mut self, kept: &Invalidations) -> Turn<Checked>
-        requires stands { Stands self.old.stage self.old.gfn kept.now }
+        requires taken { is_some kept.now.snapshot ≡ true }
+        requires stands { StandsBehind self.old.stage self.old.gfn kept.now }
         ensures answers { AnswersBy self.old.stage result self.new.stage self.old.gfn kept.now }
         ensures stands { result ≡ More → Stands self.new.stage self.new.gfn kept.now }
         ensures gfn { self.new.gfn ≡ self.old.gfn }
         ensures nearer { result ≡ More → turns_left self.new.stage < turns_left self.old.stage }
     {
         let Invalidations {
-            snapshot,
+            snapshot: Some(snapshot),
             count,
             start,
             end,
             seq,
-        } = *kept;
+            ..
+        } = *kept
+        else {
+            unreachable!()
+        };
         self.stage = match self.stage {
-            Stage::Count if count > 0 => Stage::Start,
-            Stage::Start => Stage::End,
-            Stage::End if start <= self.gfn && self.gfn < end => {
+            CheckStage::Count if count > 0 => CheckStage::Start,
+            CheckStage::Start => CheckStage::End,
+            CheckStage::End if start <= self.gfn && self.gfn < end => {
                 return Turn::Done(Checked::Open { count, start, end });
             }
-            Stage::Count | Stage::End => Stage::Seq,
-            Stage::Seq if seq == snapshot => return Turn::Done(Checked::Fresh),
-            Stage::Seq => return Turn::Done(Checked::Moved { snapshot, seq }),
+            CheckStage::Count | CheckStage::End => CheckStage::Seq,
+            CheckStage::Seq if seq == snapshot => return Turn::Done(Checked::Fresh),
+            CheckStage::Seq => return Turn::Done(Checked::Moved { snapshot, seq }),
         };
         Turn::More
     }
 
-    /// Loads the next word of the check: how many invalidations are open, their
-    /// range where some are, and the sequence number where none is open over the
-    /// guest frame. It never waits.
+    /// Loads the next word of the check of a look-up that began with a snapshot:
+    /// how many invalidations are open, their range where some are, and the
+    /// sequence number where none is open over the guest frame. It never waits.
     pub fn turn<S: Stepper>(&mut self, s: &mut S, note: u64) -> Turn<Checked>
         requires may { MayMake (step_of self.old.stage) note (S.handful s.old).core }
         requires reserved { 0 < (S.handful s.old).room }
         requires locked { has_lock (S.handful s.old).core.topics.hold ≡ true }
+        requires taken { is_some (S.handful s.old).core.topics.invalidations.snapshot ≡ true }
         requires stands { Stands self.old.stage self.old.gfn (S.handful s.old).core.topics.invalidations }
         ensures step { MakesPart (step_of self.old.stage) note (S.actor s.old) (S.handful s.old).core (S.handful s.new).core (record { world = S.told s.old; steps = S.steps s.old }) (record { world = S.told s.new; steps = S.steps s.new }) }
         ensures loads { LoadsOnly self.old.stage (S.handful s.old).core.topics (S.handful s.new).core.topics }
@@ -118,7 +109,7 @@ impl Check {
         ensures room { KeepsRoom (S.handful s.old) (S.handful s.new) }
         ensures same { (S.actor s.new ≡ S.actor s.old) × (S.frame s.new ≡ S.frame s.old) }
     {
-        let _ = make_part(s, self.stage.step(), note);
+        let _ = make_part(s, step(self.stage), note);
         let kept = s.hand().topics().invalidations;
         self.go_on(&kept)
     }

@@ -6,7 +6,7 @@
 mod check;
 mod snapshot;
 
-pub use check::{Check, Checked, Stage};
+pub use check::{Check, Checked};
 pub use snapshot::Snapshot;
 
 #[cfg(test)]

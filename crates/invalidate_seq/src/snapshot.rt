@@ -1,4 +1,4 @@
-ghost use Rattle.std.specs.Prelude.{◌≡◌, ◌<◌, None, IfSome};
+ghost use Rattle.std.specs.Prelude.{◌≡◌, ◌<◌, Some, IfSome};
 ghost use Rattle.core_views.specs.declared.topics.Hold.TheVariants.{Loose};
 ghost use Rattle.mmu_core.specs.PartRests.{MayMake};
 ghost use Rattle.mmu_core.specs.View.{word_in};
@@ -22,16 +22,15 @@ impl Snapshot {
     }
 
     /// Takes it, in one step: the answer is the sequence number, which the hand
-    /// keeps. The look-up comes behind it, so no slot set is held yet. It never
-    /// waits.
+    /// keeps. The look-up begins with it: what was held of a slot set and of the
+    /// host before is let go. It never waits.
     pub fn turn<S: Stepper>(&mut self, s: &mut S, note: u64) -> Turn<u64>
         requires may { MayMake PartStep.Seq note (S.handful s.old).core }
         requires reserved { 0 < (S.handful s.old).room }
         requires loose { (S.handful s.old).core.topics.hold ≡ Loose }
-        requires first { (S.handful s.old).core.topics.search.set ≡ None }
         ensures step { MakesPart PartStep.Seq note (S.actor s.old) (S.handful s.old).core (S.handful s.new).core (record { world = S.told s.old; steps = S.steps s.old }) (record { world = S.told s.new; steps = S.steps s.new }) }
         ensures taken { TakesSnapshot result (S.handful s.old).core.topics (S.handful s.new).core.topics }
-        ensures word { IfSome (S.told s.old) (λ w. (S.handful s.new).core.topics.invalidations.snapshot ≡ word_in (S.handful s.old).core.state.sizes w Area.Seq 0) }
+        ensures word { IfSome (S.told s.old) (λ w. (S.handful s.new).core.topics.invalidations.snapshot ≡ Some (word_in (S.handful s.old).core.state.sizes w Area.Seq 0)) }
         ensures room { KeepsRoom (S.handful s.old) (S.handful s.new) }
         ensures same { (S.actor s.new ≡ S.actor s.old) × (S.frame s.new ≡ S.frame s.old) }
     {

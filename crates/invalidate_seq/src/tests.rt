@@ -1,9 +1,10 @@
 //! Snapshots and checks at a machine that is at its start, and at numbers.
 ghost use Rattle.std.specs.Prelude.{◌≡◌, [], ◌∷◌, IfOk};
 
-use crate::{Check, Checked, Snapshot, Stage};
+use crate::{Check, Checked, Snapshot};
 use core_views::{
-    Actor, Command, Header, Hold, Invalidations, Line, Lines, NoMemory, Op, Trace, Words,
+    Actor, CheckStage, Command, Header, Hold, Invalidations, Line, Lines, NoMemory, Op, Trace,
+    Words,
 };
 use mmu_core::{PartStep, allows};
 use std::alloc::Global;
@@ -50,7 +51,6 @@ fn finds_nothing_at_the_start(rt: HostRuntime) -> Result<(), Fail> {
     seat.reserve(&line)?;
     assert!(rt; allows(seat.hand(), PartStep::Seq, 0));
     assert!(rt; seat.hand().topics().hold == Hold::Loose);
-    assert!(rt; seat.hand().topics().search.set == None);
     assert_eq!(rt; Snapshot::new().turn(&mut seat, 0), Turn::Done(0));
     seat.reserve(&line)?;
     assert!(rt; allows(seat.hand(), PartStep::Share, 0));
@@ -59,12 +59,13 @@ fn finds_nothing_at_the_start(rt: HostRuntime) -> Result<(), Fail> {
     seat.reserve(&line)?;
     assert!(rt; allows(seat.hand(), PartStep::Count, 0));
     assert!(rt; seat.hand().topics().hold == Hold::Shared);
+    assert!(rt; seat.hand().topics().invalidations.snapshot.is_some());
     assert_eq!(rt; check.turn(&mut seat, 0), Turn::More);
     assert_eq!(rt;
         check,
         Check {
             gfn: 5,
-            stage: Stage::Seq
+            stage: CheckStage::Seq
         }
     );
     seat.reserve(&line)?;
@@ -77,11 +78,12 @@ fn finds_nothing_at_the_start(rt: HostRuntime) -> Result<(), Fail> {
 #[test]
 fn answers_by_the_numbers_kept(rt: HostRuntime) {
     let kept = Invalidations {
-        snapshot: 7,
+        snapshot: Some(7),
         count: 2,
         start: 5,
         end: 9,
         seq: 8,
+        checked: core_views::Checked::Range,
     };
     let open = Turn::Done(Checked::Open {
         count: 2,
@@ -91,17 +93,21 @@ fn answers_by_the_numbers_kept(rt: HostRuntime) {
     for (gfn, want) in [(4, Turn::More), (5, open), (8, open), (9, Turn::More)] {
         let mut check = Check {
             gfn,
-            stage: Stage::End,
+            stage: CheckStage::End,
         };
         assert_eq!(rt; check.go_on(&kept), want, "at {gfn}");
     }
     let mut check = Check {
         gfn: 9,
-        stage: Stage::Seq,
+        stage: CheckStage::Seq,
     };
     let moved = Checked::Moved {
         snapshot: 7,
         seq: 8,
     };
-    assert_eq!(rt; check.go_on(&kept), Turn::Done(moved));
+    let all = Invalidations {
+        checked: core_views::Checked::All,
+        ..kept
+    };
+    assert_eq!(rt; check.go_on(&all), Turn::Done(moved));
 }

@@ -12,7 +12,7 @@ use Rattle.mmu_core.specs.SlotWords.{live_at, slot_at, slot_index}
 use Rattle.mmu_core.specs.TopicSteps.{searched, searched_at}
 use Rattle.mmu_core.proofs.Columns.{same_or}
 use Rattle.step_seats.specs.declared.turn.Turn.{Turn}
-use Rattle.step_seats.specs.declared.turn.Turn.TheVariants.{More, Wait, Done}
+use Rattle.step_seats.specs.declared.turn.Turn.TheVariants.{More, Wait, Retry, Done}
 use Rattle.memslots.specs.declared.find.FoundSlot.{FoundSlot}
 use Rattle.memslots.specs.Finding.{FindsIn, HasLoaded, Hits, IsFirst, IsSearchFor, NoneBelow, Searches}
 use Rattle.memslots.proofs.FirstSlot.{first_of, none_of}
@@ -34,7 +34,7 @@ not_true false no_ = refl
 
 -- behind the flags
 flags_then : (gfn : ℕ) (pool : ℕ → ℕ) (s : SlotSearch) (live : Bool) → is_some s.set ≡ true → live_at pool (set_held s.set) s.id ≡ live → NoneBelow gfn pool (set_held s.set) s.id
-    → IsSearchFor gfn pool (record s { id = if live then s.id else s.id + 1; next = if live then Base else Flags; slot = record s.slot { read_only = flags_read_only (next_word pool Flags s) }; logged = flags_logged (next_word pool Flags s) })
+    → IsSearchFor gfn pool (record s { id = if live then s.id else s.id + 1; next = if live then Base else Flags; slot = record s.slot { read_only = flags_read_only (next_word pool Flags s) }; logged = flags_logged (next_word pool Flags s); whole = false })
 flags_then gfn pool s true held is none = record { held = held; loaded = (is, refl, refl); before = none }
 flags_then gfn pool s false held is none = record { held = held; loaded = tt; before = no_more gfn pool (set_held s.set) s.id none (λ live. absurd (cc (is, live))) }
 
@@ -101,8 +101,13 @@ finds gfn pool s (Done None) I low found =
     let after : SlotSearch = searched s (next_word pool s.next s) in
     none_of gfn pool (set_held after.set) 32 (subst (λ k. NoneBelow gfn pool (set_held after.set) k) found.1 behind.before)
 finds gfn pool s (Wait seen) I low found = absurd found
+finds gfn pool s (Retry cause) I low found = absurd found
 
 pub finds_by : (gfn : ℕ) (pool : ℕ → ℕ) (s after : SlotSearch) (v : ℕ) (result : Turn (Option FoundSlot)) → IsSearchFor gfn pool s → s.id ≤ 31 → v ≡ next_word pool s.next s → after ≡ searched s v → Searches gfn result s after → FindsIn gfn pool after result
 finds_by gfn pool s after v result I low is made found =
     let e : after ≡ searched s (next_word pool s.next s) = made ∙ ap (searched s) is in
     subst (λ (x : SlotSearch). FindsIn gfn pool x result) (sym e) (finds gfn pool s result I low (subst (λ (x : SlotSearch). Searches gfn result s x) e found))
+
+-- Behind the last word of a slot each of them was loaded.
+pub whole_behind : (before after : SlotSearch) (v : ℕ) → after ≡ searched before v → before.next ≡ Host → after.whole ≡ true
+whole_behind before after v is last = ap (λ (s : SlotSearch). s.whole) is ∙ ap (λ f. (searched_at f before v).whole) last

@@ -9,9 +9,10 @@ use Rattle.mmu_core.specs.declared.part_step.PartStep.{PartStep}
 use Rattle.mmu_core.specs.declared.part_step.PartStep.TheVariants as part
 use Rattle.mmu_core.specs.Bounds.{look_left}
 use Rattle.mmu_core.specs.PartSteps.{set_held}
+pub use Rattle.mmu_core.specs.SearchPart.{HasFlags, HasLoaded}
 use Rattle.mmu_core.specs.SlotWords.{live_at, slot_at, slot_index, slots_below}
 use Rattle.step_seats.specs.declared.turn.Turn.{Turn}
-use Rattle.step_seats.specs.declared.turn.Turn.TheVariants.{More, Wait, Done}
+use Rattle.step_seats.specs.declared.turn.Turn.TheVariants.{More, Wait, Retry, Done}
 use Rattle.memslots.specs.declared.find.Find.{Find}
 use Rattle.memslots.specs.declared.find.FoundSlot.{FoundSlot}
 
@@ -21,32 +22,23 @@ find_step job = if job.begun then part.Slot else part.Slots
 
 -- The search of a slot set begins, with the flags of slot 0.
 abbrev pub Begins : Turn (Option FoundSlot) → SlotSearch → SlotSearch → Type 0
-Begins More before after = (is_some after.set ≡ true) × (after ≡ record before { set = after.set; id = 0; next = Flags })
+Begins More before after = (is_some after.set ≡ true) × (after ≡ record before { set = after.set; id = 0; next = Flags; whole = false })
 Begins (Done found) before after = ⊥
 Begins (Wait seen) before after = ⊥
+Begins (Retry cause) before after = ⊥
 
 -- The last word of a slot was loaded, and the slot contains the guest frame.
 abbrev pub Hits : ℕ → SlotSearch → SlotSearch → Type 0
 Hits gfn before after = (before.next ≡ Host) × (contains gfn after.slot ≡ true)
 
--- A word was loaded: the answer is the slot under search, with its ID, where it contains the guest frame. Else it is none behind the
--- last slot, and before it the search goes on.
+-- A word was loaded: the answer is the slot under search, with its ID, where it contains the guest frame; then each of its words was
+-- loaded. Else it is none behind the last slot, and before it the search goes on.
 abbrev pub Searches : ℕ → Turn (Option FoundSlot) → SlotSearch → SlotSearch → Type 0
 Searches gfn More before after = (Hits gfn before after → ⊥) × (after.id ≤ 31)
-Searches gfn (Done (Some found)) before after = Hits gfn before after × (found ≡ record { id = before.id; slot = after.slot; logged = after.logged })
+Searches gfn (Done (Some found)) before after = Hits gfn before after × (found ≡ record { id = before.id; slot = after.slot; logged = after.logged }) × (after.whole ≡ true)
 Searches gfn (Done None) before after = (Hits gfn before after → ⊥) × (after.id ≡ 32)
 Searches gfn (Wait seen) before after = ⊥
-
--- The slot under search is live, and its flags were loaded as the words of its slot set hold them.
-abbrev pub HasFlags : (ℕ → ℕ) → ℕ → SlotSearch → Type 0
-HasFlags pool set so_far = (live_at pool set so_far.id ≡ true) × (so_far.slot.read_only ≡ (slot_at pool set so_far.id).read_only) × (so_far.logged ≡ flags_logged (pool (slot_index set so_far.id Flags)))
-
--- What was loaded of the slot under search, up to the word that is next, is what the words of its slot set hold.
-abbrev pub HasLoaded : SlotField → (ℕ → ℕ) → ℕ → SlotSearch → Type 0
-HasLoaded Flags pool set so_far = Unit {0}
-HasLoaded Base pool set so_far = HasFlags pool set so_far
-HasLoaded Pages pool set so_far = HasFlags pool set so_far × (so_far.slot.base ≡ (slot_at pool set so_far.id).base)
-HasLoaded Host pool set so_far = HasFlags pool set so_far × (so_far.slot.base ≡ (slot_at pool set so_far.id).base) × (so_far.slot.pages ≡ (slot_at pool set so_far.id).pages)
+Searches gfn (Retry cause) before after = ⊥
 
 -- No live slot with an ID below this one contains the guest frame.
 abbrev pub NoneBelow : ℕ → (ℕ → ℕ) → ℕ → ℕ → Type 0
@@ -74,6 +66,7 @@ FindsIn gfn pool so_far More = IsSearchFor gfn pool so_far
 FindsIn gfn pool so_far (Done (Some found)) = IsFirst gfn pool (set_held so_far.set) found
 FindsIn gfn pool so_far (Done None) = slot_of (slots_below pool (set_held so_far.set) 32) gfn ≡ None
 FindsIn gfn pool so_far (Wait seen) = ⊥
+FindsIn gfn pool so_far (Retry cause) = ⊥
 
 -- the most turns that are left: the words of the slot under search and of each one behind it, and the load of the slot set
 abbrev pub turns_left : Find → SlotSearch → ℕ

@@ -1,4 +1,1 @@
-pub mod SlotSets
-pub mod Refusals
-pub mod Places
 pub mod Finding

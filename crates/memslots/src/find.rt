@@ -1,4 +1,5 @@
 ghost use Rattle.std.specs.Prelude.{◌≡◌, ◌<◌, ◌≤◌, true, false, Some, IfSome};
+ghost use Rattle.core_views.specs.declared.place.SlotField.TheVariants.{Host};
 ghost use Rattle.mmu_core.specs.PartRests.{MayMake};
 ghost use Rattle.mmu_core.specs.TopicSteps.{may_search};
 ghost use Rattle.mmu_core.specs.View.{word_in};
@@ -47,7 +48,8 @@ impl Find {
 
     // What the search has come to behind its last word.
     fn look(&self, before: &SlotSearch, after: &SlotSearch) -> Turn<Option<FoundSlot>>
-        requires { after.now.id ≤ 32 }
+        requires id { after.now.id ≤ 32 }
+        requires whole { before.now.next ≡ Host → after.now.whole ≡ true }
         ensures { Searches self.now.gfn result before.now after.now }
     {
         if before.next == SlotField::Host && after.slot.contains(self.gfn) {

@@ -3,12 +3,9 @@
 #![tactic(auto)]
 
 mod find;
-mod slot_set;
 
+pub use core_views::{MemorySlot, SlotSet};
 pub use find::{Find, FoundSlot};
-pub use slot_set::{MemorySlot, SlotSet};
 
 #[cfg(test)]
 mod find_tests;
-#[cfg(test)]
-mod tests;

@@ -1,5 +1,5 @@
 -- What the steps of an access owe flat memory.
-use Rattle.std.proofs.Common.{◌≡◌, ◌≢◌, ◌+◌, ◌-◌, ◌<◌, ◌≤◌, ◌⊎◌, inl, inr, ℕ, List, [], ◌∷◌, ◌++◌, refl, sym, subst, ap, ◌∙◌, arith}
+use Rattle.std.proofs.Common.{◌≡◌, ◌≢◌, ◌+◌, ◌<◌, ◌≤◌, ◌⊎◌, inl, inr, ℕ, List, [], ◌∷◌, ◌++◌, refl, sym, subst, ap, ◌∙◌, arith}
 use Rattle.std.specs.Prelude.{All, Bool, true, false, ◌==◌, ◌&&◌, if◌then◌else◌, Some, None}
 use Rattle.std.proofs.lemmas.Bool.Decides.{nat_tests, Decides-eqb}
 use Rattle.core_views.specs.declared.actor.Actor.{Actor}
@@ -157,9 +157,9 @@ host_field_goes z v a line gfn word id op facts u S I R = case (contains gfn slo
     outcome : Bool → Bool → Outcome
     outcome holds denied = if holds then (if denied then Ends Mmio else GoesOn (place.Access Walk)) else behind_slot id
 
-    denied_to : (e : ℕ × SlotOf) → IsLive pool e.0 e.1 → (is_write op && slot.read_only) ≡ true → contains gfn e.1 ≡ true → (is_write op && e.1.read_only) ≡ true
-    denied_to e live denied holds =
-        let same : e.0 ≡ id = I.set.one e.0 id live.low S.holds.0 live.live S.holds.2 in
+    denied_to : (e : ℕ × SlotOf) → contains gfn slot ≡ true → IsLive pool e.0 e.1 → (is_write op && slot.read_only) ≡ true → contains gfn e.1 ≡ true → (is_write op && e.1.read_only) ≡ true
+    denied_to e here live denied holds =
+        let same : e.0 ≡ id = I.set.guest_apart gfn e.0 id live.low S.holds.0 live.live S.holds.2 (ap (contains gfn) live.is ∙ holds) (sym same_frames ∙ here) in
         let is : slot_at pool published_set id ≡ e.1 = ap (slot_at pool published_set) (sym same) ∙ live.is in
         ap (λ (t : SlotOf). is_write op && t.read_only) (sym is) ∙ ap (λ b. is_write op && b) (sym S.holds.3) ∙ denied
 
@@ -167,14 +167,14 @@ host_field_goes z v a line gfn word id op facts u S I R = case (contains gfn slo
         → Goes z (v.hand a).state.actor line (Access gfn word op) v.words v.words (place_after (outcome holds denied)) (exiting (outcome holds denied) ++ answering (outcome holds denied) line) facts u
     case true true holds denied =
         exits z v (v.hand a).state.actor line gfn word id op (Slot id field.Host) facts u S.command_is R N
-        (no_page_behind N.slots gfn op (λ k d lt. denied_to _ (N.live k d lt) denied))
+        (no_page_behind N.slots gfn op (λ k d lt. denied_to _ holds (N.live k d lt) denied))
     case true false holds denied = record { allowed = tt; refines = R.refines; under = (R.stage, R.line_is, tt); live = λ e l. l }
     case false denied holds _ =
         behind z v (v.hand a).state.actor line gfn word id field.Host op facts u S.command_is S.holds.0 R
         (λ t l. ap (contains gfn) (sym l.is) ∙ sym same_frames ∙ holds)
 
 walk_goes : (z : Sizes) (v : View) (a : ℕ) (line : Line) (gfn word : ℕ) (op : Op) → AccessGoes z v a line gfn word op Walk
-walk_goes z v a line gfn word op facts u S I R = case (v.words area.Linear (gfn - (v.hand a).state.look.slot.base) == absent_word)
+walk_goes z v a line gfn word op facts u S I R = case (v.words area.Linear (page_of (v.hand a).state.look.slot gfn) == absent_word)
   where
     case : (absent : Bool) → Goes z (v.hand a).state.actor line (Access gfn word op) v.words v.words (place.Access (if absent then Host else Touch)) [] facts u
     case true = record { allowed = tt; refines = R.refines; under = (R.stage, R.line_is, tt); live = λ e l. l }

@@ -1,5 +1,6 @@
 -- What a hand must have for a step, and what its fields are behind it.
-use Rattle.std.proofs.Common.{◌≡◌, ◌<◌, ◌≤◌, ◌⊎◌, inl, inr, ℕ, zero, suc, List, [], ◌∷◌, length, refl, sym, subst, ap, ◌∙◌, arith}
+use Rattle.std.proofs.Math.Nat.{div-le_self}
+use Rattle.std.proofs.Common.{◌≡◌, ◌<◌, ◌≤◌, ◌^◌, ◌⊎◌, inl, inr, ℕ, zero, suc, List, [], ◌∷◌, length, refl, sym, subst, ap, ◌∙◌, arith}
 use Rattle.std.specs.Prelude.{Bool, true, false, ◌==◌, Some, None, is_some, slice_get, if◌then◌else◌}
 use Rattle.core_views.specs.declared.kind.Kind.{Kind}
 use Rattle.core_views.specs.declared.kind.StepKind.{StepKind}
@@ -13,6 +14,7 @@ use Rattle.core_views.specs.declared.place.SetSlotPlace.{SetSlotPlace}
 use Rattle.core_views.specs.declared.place.SetSlotPlace.TheVariants.{Refuse, Fill}
 use Rattle.core_views.specs.declared.place.SlotField.TheVariants as field
 use Rattle.core_views.specs.declared.topics.OwnedPage.{OwnedPage}
+use Rattle.core_views.specs.declared.topics.TableWalk.{TableWalk}
 use Rattle.core_views.specs.declared.topics.Topics.{Topics}
 use Rattle.core_views.specs.declared.trace.Command.{Command}
 use Rattle.core_views.specs.declared.trace.Command.TheVariants.{Access, SetSlot}
@@ -31,8 +33,9 @@ use Rattle.core_views.specs.Traces.{IsCommandFor}
 use Rattle.mmu_core.specs.declared.part_step.PartStep.{PartStep}
 use Rattle.mmu_core.specs.declared.part_step.PartStep.TheVariants as part
 use Rattle.mmu_core.specs.Enabled.{Enabled, IsNext, IsPartStep}
-use Rattle.mmu_core.specs.PartSteps.{IsAtRest, HasToFill, PartNeeds, own_index, part_task, words_filled}
-use Rattle.mmu_core.specs.Rests.{RestsAt}
+use Rattle.spte_words.specs.Entries.{level_span}
+use Rattle.mmu_core.specs.PartSteps.{IsAtRest, IsOver, HasToFill, PartNeeds, own_index, part_task, words_filled}
+use Rattle.mmu_core.specs.Rests.{AcceptsAt, RestsAt}
 use Rattle.mmu_core.specs.Steps.{has_line, idle_after, line_after, line_at, next, place_at, standing, task_at, task_of}
 use Rattle.mmu_core.specs.TopicSteps.{HasRoom, topics_after}
 use Rattle.mmu_core.proofs.PartKept.{with_topics}
@@ -50,12 +53,19 @@ no_set_room t none = λ some. let e : is_some t.search.set ≡ false = ap is_som
 no_page_room : (t : Topics) → t.owned ≡ None → HasRoom kind.Fill t
 no_page_room t none = λ o is. let e : None ≡ Some o = sym none ∙ is in absurd (cc e)
 
+no_run_room : (t : Topics) → t.walk.level ≡ 0 → 1 ≤ t.walk.level → t.walk.prefix < 2 ^ 36
+no_run_room t none from = absurd (omega (arith, none, from))
+
+-- the run of a guest frame is a small number
+pub run_small : (gfn : ℕ) (walk : TableWalk) → IsOver gfn walk → walk.prefix < 2 ^ 36
+run_small gfn walk O = let le = div-le_self gfn (level_span walk.level) in omega (arith, O.small, O.run, le)
+
 access_room : (p : AccessPlace) (s : State) (gfn word : ℕ) (op : Op) (t : Topics) → IsAtRest t → HasRoom (access_task p s gfn word op).kind t
 access_room Slots s gfn word op t R = tt
 access_room (Slot id f) s gfn word op t R = no_set_room t R.no_set
-access_room Walk s gfn word op t R = tt
+access_room Walk s gfn word op t R = no_run_room t R.no_table
 access_room Host s gfn word op t R = tt
-access_room Install s gfn word op t R = tt
+access_room Install s gfn word op t R = no_run_room t R.no_table
 access_room Touch s gfn word Read t R = tt
 access_room Touch s gfn word (Write x) t R = tt
 access_room Touch s gfn word (Add x) t R = tt
@@ -129,7 +139,9 @@ part_room part.Count h note z N = tt
 part_room part.RangeStart h note z N = tt
 part_room part.RangeEnd h note z N = tt
 part_room part.Root h note z N = tt
-part_room (part.Walk gfn) h note z N = tt
+part_room (part.Walk gfn) h note z N = λ from. run_small gfn h.topics.walk N
+part_room (part.Link gfn) h note z N = λ from. run_small gfn h.topics.walk N.0.saw.over
+part_room (part.Leaf gfn) h note z N = λ from. run_small gfn h.topics.walk N.0.saw.over
 part_room (part.Host page) h note z N = tt
 part_room (part.Watch index) h note z N = tt
 
@@ -193,20 +205,26 @@ module _ (h g : Held) (k : Kind) (v : ℕ) (enabled : Enabled h k) (is : g ≡ i
       subst (λ (x : Held). IsCommandFor x.state.sizes line.actor line.command) (sym is)
       (subst (λ (l : Line). IsCommandFor h.state.sizes l.actor l.command) (sym (line_is ∙ line_at_too)) (next_one some).rests.line)
 
-  pub place_too : (line : Line) (p : Place) → line ≡ line_at g.state.place g → p ≡ standing g.state.place g.state.sizes line.command → p ≡ place_at h.state.place h
+  pub place_too : (line : Line) (p : Place) → line ≡ line_at g.state.place g → p ≡ standing g.state.place g.state.sizes g.slots line.command → p ≡ place_at h.state.place h
   place_too line p line_is place_is =
-      place_is ∙ ap (λ (x : Held). standing x.state.place x.state.sizes line.command) is ∙ ap (λ (l : Line). standing h.state.place h.state.sizes l.command) (line_is ∙ line_at_too)
+      place_is ∙ ap (λ (x : Held). standing x.state.place x.state.sizes x.slots line.command) is ∙ ap (λ (l : Line). standing h.state.place h.state.sizes h.slots l.command) (line_is ∙ line_at_too)
 
   pub sizes_too : AreSizes g.state.sizes
   sizes_too = subst (λ (x : Held). AreSizes x.state.sizes) (sym is) (enabled_sizes h k enabled)
 
-  pub rests_too : (line : Line) (p : Place) → is_some (slice_get g.lines (length g.answers)) ≡ true → line ≡ line_at g.state.place g → p ≡ standing g.state.place g.state.sizes line.command → RestsAt p line.command g.state
+  pub rests_too : (line : Line) (p : Place) → is_some (slice_get g.lines (length g.answers)) ≡ true → line ≡ line_at g.state.place g → p ≡ standing g.state.place g.state.sizes g.slots line.command → RestsAt p line.command g.state
   rests_too line p some line_is place_is =
       subst (λ (x : Held). RestsAt p line.command x.state) (sym is)
       (subst (λ q. RestsAt q line.command h.state) (sym (place_too line p line_is place_is))
       (subst (λ (l : Line). RestsAt (place_at h.state.place h) l.command h.state) (sym (line_is ∙ line_at_too)) (next_one some).rests.at))
 
-  pub advanced_too : (x : Held) (line : Line) (p : Place) → is_some (slice_get g.lines (length g.answers)) ≡ true → line ≡ line_at g.state.place g → p ≡ standing g.state.place g.state.sizes line.command
+  pub accepts_too : (line : Line) (p : Place) → is_some (slice_get g.lines (length g.answers)) ≡ true → line ≡ line_at g.state.place g → p ≡ standing g.state.place g.state.sizes g.slots line.command → AcceptsAt p line.command g.state.sizes g.slots
+  accepts_too line p some line_is place_is =
+      subst (λ (x : Held). AcceptsAt p line.command x.state.sizes x.slots) (sym is)
+      (subst (λ q. AcceptsAt q line.command h.state.sizes h.slots) (sym (place_too line p line_is place_is))
+      (subst (λ (l : Line). AcceptsAt (place_at h.state.place h) l.command h.state.sizes h.slots) (sym (line_is ∙ line_at_too)) (next_one some).rests.accepts))
+
+  pub advanced_too : (x : Held) (line : Line) (p : Place) → is_some (slice_get g.lines (length g.answers)) ≡ true → line ≡ line_at g.state.place g → p ≡ standing g.state.place g.state.sizes g.slots line.command
       → x ≡ line_after line p g v → x ≡ next h k v
   advanced_too x line p some line_is place_is made = advanced h g x k v line p (left_too some) is (line_is ∙ line_at_too) (place_too line p line_is place_is) made
 

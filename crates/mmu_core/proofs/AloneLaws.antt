@@ -46,7 +46,7 @@ part_found z w a step note G there N =
     ap (λ y. answered mmu w (kind_of_task y t)) same ∙ answered_is z w t within
 
 -- the lock, where nobody holds it
-lock_free : (z : Sizes) (w : World Held) (a : ℕ) → IsSound z w → a < actors_of z → OthersRest a w → (hand_in mmu w a).topics.hold ≡ Loose → word_in z w area.Lock 0 ≡ 0
+pub lock_free : (z : Sizes) (w : World Held) (a : ℕ) → IsSound z w → a < actors_of z → OthersRest a w → (hand_in mmu w a).topics.hold ≡ Loose → word_in z w area.Lock 0 ≡ 0
 lock_free z w a G there others loose =
     G.topics.lock_part.word
     ∙ ap (λ n. n + 2 ^ 63 * sum_below (actors_of z) (λ i. one_if (is_alone (hand_in mmu w i).topics.hold))) (sum_none (actors_of z) (λ i. one_if (counts (hand_in mmu w i).topics.hold)) (λ i lt. ap (λ (x : Hold). one_if (counts x)) (all_loose i lt)))

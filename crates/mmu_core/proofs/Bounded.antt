@@ -16,7 +16,9 @@ use Rattle.core_views.specs.declared.sizes.Sizes.{Sizes}
 use Rattle.core_views.specs.declared.trace.Command.{Command}
 use Rattle.core_views.specs.declared.trace.Command.TheVariants.{Access, SetSlot}
 use Rattle.core_views.specs.declared.trace.Op.{Op}
-use Rattle.core_views.specs.Slots.{contains, is_write, slot_refusal}
+use Rattle.core_views.specs.Slots.{contains, is_write}
+use Rattle.core_views.specs.Refusals.{set_refusal}
+use Rattle.core_views.specs.SlotSets.{MemorySlots}
 use Rattle.spte_words.specs.Entries.{absent_word}
 use Rattle.spte_words.specs.Flags.{flags_live}
 use Rattle.mmu_core.specs.declared.outcome.Outcome.{Outcome}
@@ -96,26 +98,26 @@ first_setting : (refusal : Option Refusal) → set_slot_left (set_slot_first ref
 first_setting (Some refusal) = omega arith
 first_setting None = omega arith
 
-first_left : (z : Sizes) (command : Command) → steps_left (first_place z command) ≤ 133
-first_left z (Access gfn word op) = omega arith
-first_left z (SetSlot id slot) = first_setting (slot_refusal z.pages id slot)
+first_left : (z : Sizes) (slots : MemorySlots) (command : Command) → steps_left (first_place z slots command) ≤ 133
+first_left z slots (Access gfn word op) = omega arith
+first_left z slots (SetSlot id slot) = first_setting (set_refusal z.pages id slot slots)
 
 -- A line that begins has no more steps left than any line.
-standing_left : (p : Place) (z : Sizes) (command : Command) → steps_left (standing p z command) ≤ steps_left p
-standing_left place.Between z command = first_left z command
-standing_left (place.Access p) z command = omega arith
-standing_left (place.SetSlot p) z command = omega arith
+standing_left : (p : Place) (z : Sizes) (slots : MemorySlots) (command : Command) → steps_left (standing p z slots command) ≤ steps_left p
+standing_left place.Between z slots command = first_left z slots command
+standing_left (place.Access p) z slots command = omega arith
+standing_left (place.SetSlot p) z slots command = omega arith
 
-first_under : (z : Sizes) (command : Command) → IsUnderWay (first_place z command)
-first_under z (Access gfn word op) = tt
-first_under z (SetSlot id slot) = tt
+first_under : (z : Sizes) (slots : MemorySlots) (command : Command) → IsUnderWay (first_place z slots command)
+first_under z slots (Access gfn word op) = tt
+first_under z slots (SetSlot id slot) = tt
 
-standing_under : (p : Place) (z : Sizes) (command : Command) → IsUnderWay (standing p z command)
-standing_under place.Between z command = first_under z command
-standing_under (place.Access p) z command = tt
-standing_under (place.SetSlot p) z command = tt
+standing_under : (p : Place) (z : Sizes) (slots : MemorySlots) (command : Command) → IsUnderWay (standing p z slots command)
+standing_under place.Between z slots command = first_under z slots command
+standing_under (place.Access p) z slots command = tt
+standing_under (place.SetSlot p) z slots command = tt
 
-pub step_falls : (p : Place) (z : Sizes) (command : Command) (s : State) (v : ℕ) → RestsAt (standing p z command) command s → Falls (steps_left p) (outcome_at (standing p z command) command s v)
-step_falls p z command s v rests =
-    falls_more (steps_left (standing p z command)) (steps_left p) (outcome_at (standing p z command) command s v) (standing_left p z command)
-    (outcome_falls (standing p z command) command s v (standing_under p z command) rests)
+pub step_falls : (p : Place) (z : Sizes) (slots : MemorySlots) (command : Command) (s : State) (v : ℕ) → RestsAt (standing p z slots command) command s → Falls (steps_left p) (outcome_at (standing p z slots command) command s v)
+step_falls p z slots command s v rests =
+    falls_more (steps_left (standing p z slots command)) (steps_left p) (outcome_at (standing p z slots command) command s v) (standing_left p z slots command)
+    (outcome_falls (standing p z slots command) command s v (standing_under p z slots command) rests)

@@ -72,7 +72,7 @@ step_follows z w s i G may i_in = by (takes z w s G may)
     by (inl T) =
         let there : s.actor < actors_of z = T.is_step.there in
         let R : Rests h = hand_rests z (view z w) s.actor G.holds G.topics there T.is_step.left in
-        let falls = step_falls h.state.place h.state.sizes (line_at h.state.place h).command h.state (answer_in (task_of h) (word_in z w)) R.at in
+        let falls = step_falls h.state.place h.state.sizes h.slots (line_at h.state.place h).command h.state (answer_in (task_of h) (word_in z w)) R.at in
         let F = view_follows z (view z w) s.actor (line_at h.state.place h) (place_at h.state.place h) (steps_left h.state.place) i T.is_step falls G.holds i_in in
         subst (λ (g : Held). Follows (hand_in mmu w i) g (events_of h (answered mmu w s.kind))) (sym (ap (λ (v : View). v.hand i) T.leads))
         (subst (Follows (hand_in mmu w i) _) (sym (step_events z w s T)) F)
@@ -126,7 +126,7 @@ run_silent z w (s ∷ ss) actor G legal absent =
     }
 
 -- behind a start
-start_follows : (z : Sizes) (lines : List Line) (w : World Held) (ss : List (Step Kind)) (i : ℕ) → IsStart z lines w → Legal mmu w ss → i < actors_of z
+pub start_follows : (z : Sizes) (lines : List Line) (w : World Held) (ss : List (Step Kind)) (i : ℕ) → IsStart z lines w → Legal mmu w ss → i < actors_of z
     → Follows (first_held z (actor_at z i) (lines_of (actor_at z i) lines)) (hand_in mmu (run mmu w ss) i) (history w ss)
 start_follows z lines w ss i start legal i_in = subst (λ (h : Held). Follows h (hand_in mmu (run mmu w ss) i) (history w ss)) (hand_is z lines w i start i_in) (run_follows z w ss i (start_good z lines w start) legal i_in)
 

@@ -5,10 +5,7 @@ use Rattle.core_views.specs.declared.kind.Kind.{Kind}
 use Rattle.core_views.specs.declared.sizes.Sizes.{Sizes}
 use Rattle.core_views.specs.declared.trace.Line.{Line}
 use Rattle.core_views.specs.Events.{after_all}
-use Rattle.core_views.specs.declared.hand.State.{State}
-use Rattle.core_views.specs.declared.place.Place.{Place}
-use Rattle.core_views.specs.declared.place.Place.TheVariants as place
-use Rattle.core_views.specs.Flat.{Flat, LineUnderWay, first_flat}
+use Rattle.core_views.specs.Flat.{Flat, first_flat}
 use Rattle.core_views.specs.Held.{Held}
 use Rattle.core_views.specs.Lawful.{IsLawful}
 use Rattle.core_views.proofs.AloneIsLawful.{lawful_append}
@@ -30,11 +27,11 @@ use Rattle.mmu_core.proofs.Columns.{at_upd}
 use Rattle.mmu_core.proofs.PartKept.{with_topics}
 use Rattle.mmu_core.proofs.PartStepping.{IsPart}
 use Rattle.mmu_core.proofs.PartWords.{areas_stay}
-use Rattle.mmu_core.proofs.SlotsStay.{SetStays, below_stay, noted_stay}
+use Rattle.mmu_core.proofs.SlotsStay.{below_stay, is_live_stays}
 use Rattle.mmu_core.proofs.TopicsKept.{published_stays}
 use Rattle.mmu_core.proofs.Which.{events_of_part}
 use Rattle.mmu_core.specs.Worlds.{IsStart, history}
-use Rattle.mmu_core.proofs.FlatKept.{flat_kept, told_events, told_is_events}
+use Rattle.mmu_core.proofs.FlatKept.{flat_kept, told_events, told_is_events, under_still}
 use Rattle.mmu_core.proofs.SlotLists.{none_below}
 use Rattle.mmu_core.proofs.Starts.{hand_is, none_live, start_good, word_at_start}
 use Rattle.mmu_core.proofs.Worlds.{Takes, TakesPart, good_step, takes}
@@ -45,6 +42,7 @@ part_keeps_flat z v f a step note S I P F =
     let h : Held = v.hand a in
     let stays = published_stays z v a step note S P I.set.published in
     let pool_ : ℕ → ℕ = (part_stepped a step note v).words area.Pool in
+    let live = is_live_stays (v.words area.Pool) pool_ stays in
     record {
       refines = record {
         slots = F.refines.slots ∙ sym (below_stay (v.words area.Pool) pool_ stays 32 (omega arith));
@@ -52,14 +50,9 @@ part_keeps_flat z v f a step note S I P F =
         memory = λ p j lt below. F.refines.memory p j lt below ∙ sym (ap (λ (g : ℕ → ℕ). g (content_index (map_of z) p j)) (areas_stay v a step note area.Content refl));
       };
       under = at_upd (λ i (g : Held). i < actors_of z → UnderIs pool_ g.state.place g.state (f.under g.state.actor)) v.hand a (with_topics h _)
-          (λ lt. under_stays pool_ stays h.state.place h.state (f.under h.state.actor) (F.under a lt))
-          (λ i ne lt. under_stays pool_ stays (v.hand i).state.place (v.hand i).state (f.under (v.hand i).state.actor) (F.under i lt));
+          (λ lt. under_still (v.words area.Pool) pool_ h.state.place h.state (f.under h.state.actor) live (F.under a lt))
+          (λ i ne lt. under_still (v.words area.Pool) pool_ (v.hand i).state.place (v.hand i).state (f.under (v.hand i).state.actor) live (F.under i lt));
     }
-  where
-    under_stays : (after : ℕ → ℕ) → SetStays (v.words area.Pool) after → (p : Place) (s : State) (u : LineUnderWay) → UnderIs (v.words area.Pool) p s u → UnderIs after p s u
-    under_stays after stays place.Between s u e = e
-    under_stays after stays (place.Access p) s u e = (e.0, e.1, noted_stay (v.words area.Pool) after stays (place.Access p) s.line.command u.notes e.2)
-    under_stays after stays (place.SetSlot p) s u e = e
 
 -- Any list of steps from a sound world that stands for a flat state tells what is lawful from there.
 pub run_lawful : (z : Sizes) (w : World Held) (f : Flat) (ss : List (Step Kind)) → IsSound z w → FlatInvariant z (view z w) f → Legal mmu w ss → IsLawful z f (history w ss)

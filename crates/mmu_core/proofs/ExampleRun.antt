@@ -7,7 +7,7 @@ use Rattle.std.proofs.lemmas.List.Elements.{All-cons, All-nil}
 use Rattle.core_views.specs.declared.trace.Line.{Line}
 use Rattle.core_views.specs.Held.{Held}
 use Rattle.core_views.specs.Sizes.{AreSizes}
-use Rattle.core_views.specs.Traces.{IsCommandFor}
+use Rattle.core_views.specs.Traces.{AreDistinct, IsCommandFor, slot_ids}
 use Rattle.mmu_core.specs.Enabled.{mmu}
 use Rattle.mmu_core.specs.Machine.{Legal, World}
 use Rattle.mmu_core.specs.Worlds.{IsStart, history}
@@ -17,7 +17,7 @@ use Rattle.spte_words.specs.Areas.{content_index, pool_index}
 use Rattle.spte_words.specs.Entries.{absent_word, frame_in, leaf_word}
 use Rattle.spte_words.specs.Flags.{flags_live, flags_read_only, flags_word}
 use Rattle.spte_words.specs.HostWords.{host_allows_write, host_frame, host_word}
-use Rattle.mmu_core.specs.Example.{ExamplePrints, ExampleRuns, read_line, run_events, run_lines, run_order, set_line, turns, write_line}
+use Rattle.mmu_core.specs.Example.{ExamplePrints, ExampleRuns, add_line, other_set_line, read_line, run_events, run_lines, run_order, set_line, turns, write_line}
 use Rattle.mmu_core.specs.View.{View, view}
 use Rattle.mmu_core.proofs.StartViews.{a_start, start_view, start_view_is}
 use Rattle.mmu_core.proofs.Starts.{start_good}
@@ -54,13 +54,18 @@ May line = IsCommandFor example_sizes line.actor line.command
 
 example_allowed : All May run_lines
 example_allowed =
-    All-cons May set_line (write_line ∷ read_line ∷ []) (record { some = omega arith; pages = omega arith; base = omega arith; host = omega arith; aligned = omega arith })
-    (All-cons May write_line (read_line ∷ []) (omega arith, omega arith, omega arith)
-    (All-cons May read_line [] (omega arith, omega arith, omega arith) (All-nil May)))
+    All-cons May set_line (write_line ∷ read_line ∷ other_set_line ∷ add_line ∷ []) (record { some = omega arith; pages = omega arith; base = omega arith; host = omega arith; aligned = omega arith })
+    (All-cons May write_line (read_line ∷ other_set_line ∷ add_line ∷ []) (omega arith, omega arith, omega arith)
+    (All-cons May read_line (other_set_line ∷ add_line ∷ []) (omega arith, omega arith, omega arith)
+    (All-cons May other_set_line (add_line ∷ []) (record { some = omega arith; pages = omega arith; base = omega arith; host = omega arith; aligned = omega arith })
+    (All-cons May add_line [] (omega arith, omega arith, omega arith) (All-nil May)))))
+
+example_distinct : AreDistinct (slot_ids run_lines)
+example_distinct = ((refl, tt), (tt, tt))
 
 pub example_runs : ExampleRuns
 example_runs =
-    let s = a_start example_sizes run_lines example_in_range example_allowed (omega arith) in
+    let s = a_start example_sizes run_lines example_in_range example_allowed example_distinct in
     let runs = from_start s.0 s.1 in
     record { start = s.0; is_start = s.1; legal = runs.0; tells = runs.1 }
 
@@ -70,4 +75,4 @@ two_digits n low high = rw (decimal_step n low (omega arith), decimal_digit (n /
 
 pub example_prints : ExamplePrints
 unfolding line_text
-example_prints = simp (decimal_digit 0 (lit< tt), decimal_digit 1 (lit< tt), decimal_digit 2 (lit< tt), decimal_digit 3 (lit< tt), decimal_digit 4 (lit< tt), decimal_digit 7 (lit< tt), two_digits 65 (lit≤ tt) (lit< tt))
+example_prints = simp (decimal_digit 0 (lit< tt), decimal_digit 1 (lit< tt), decimal_digit 2 (lit< tt), decimal_digit 3 (lit< tt), decimal_digit 4 (lit< tt), decimal_digit 5 (lit< tt), decimal_digit 6 (lit< tt), decimal_digit 7 (lit< tt), two_digits 65 (lit≤ tt) (lit< tt))

@@ -13,7 +13,6 @@ use Rattle.core_views.specs.declared.place.AccessPlace.TheVariants as access
 use Rattle.core_views.specs.declared.place.Place.{Place}
 use Rattle.core_views.specs.declared.place.Place.TheVariants as place
 use Rattle.core_views.specs.declared.place.SetSlotPlace.{SetSlotPlace}
-use Rattle.core_views.specs.declared.place.SetSlotPlace.TheVariants.{Refuse, Fill}
 use Rattle.core_views.specs.declared.place.SlotField.TheVariants as field
 use Rattle.core_views.specs.declared.sizes.Sizes.{Sizes}
 use Rattle.core_views.specs.declared.trace.Command.{Command}
@@ -24,6 +23,7 @@ use Rattle.core_views.specs.Events.{after, after_all, line_after}
 use Rattle.core_views.specs.Flat.{Flat, LineUnderWay, Notes, Idle, no_notes}
 use Rattle.core_views.specs.Held.{Held}
 use Rattle.core_views.specs.Lawful.{IsLawful}
+use Rattle.core_views.specs.SlotSets.{MemorySlots}
 use Rattle.core_views.specs.Sizes.{actors_of, index_of}
 use Rattle.core_views.proofs.SameActor.{changed_here}
 use Rattle.spte_words.specs.declared.area.Area.{Area}
@@ -31,13 +31,13 @@ use Rattle.spte_words.specs.declared.area.Area.TheVariants as area
 use Rattle.mmu_core.specs.AccessSteps.{access_loads}
 use Rattle.mmu_core.specs.FlatInvariant.{FlatInvariant, NotedAt, NotedSlots, Refines, UnderIs}
 use Rattle.mmu_core.specs.Invariant.{Invariant}
-use Rattle.mmu_core.specs.SetSlotSteps.{set_slot_loads}
 use Rattle.mmu_core.specs.Steps.{beginning, event_kinds, events_of, first_place, line_at, next_line, outcome_at, standing, task_at, tells_at, loads_at}
 use Rattle.mmu_core.specs.Tasks.{answering}
 use Rattle.mmu_core.specs.View.{View, answer_in, hand_after, stepped, words_after}
 use Rattle.mmu_core.proofs.AccessFlat.{access_goes}
 use Rattle.mmu_core.proofs.Columns.{at_upd}
-use Rattle.mmu_core.proofs.FlatSteps.{Ready, StayLive, StepGoes, under_is}
+use Rattle.mmu_core.proofs.FlatSteps.{Ready, StepGoes, under_is}
+use Rattle.mmu_core.proofs.LiveStay.{StayLive}
 use Rattle.mmu_core.proofs.SetSlotFlat.{set_slot_goes}
 use Rattle.mmu_core.proofs.Which.{events_of_line, has_line_is}
 use Rattle.mmu_core.proofs.Stepping.{IsStep}
@@ -96,7 +96,7 @@ noted_at_still pool other access.Install command notes still N = tt
 noted_at_still pool other access.Touch command notes still N = tt
 
 -- A line under way is flat's still where live slots stay live.
-under_still : (pool other : ℕ → ℕ) (p : Place) (s : State) (u : LineUnderWay) → StayLive pool other → UnderIs pool p s u → UnderIs other p s u
+pub under_still : (pool other : ℕ → ℕ) (p : Place) (s : State) (u : LineUnderWay) → StayLive pool other → UnderIs pool p s u → UnderIs other p s u
 under_still pool other place.Between s u still under = under
 under_still pool other (place.Access p) s u still under = (under.0, under.1, noted_at_still pool other p s.line.command u.notes still under.2)
 under_still pool other (place.SetSlot p) s u still under = under
@@ -125,14 +125,7 @@ same_actor (place.Access p) (Access gfn word op) s x = accessing p s x
     accessing access.Touch s x = refl
 same_actor (place.Access p) (SetSlot id slot) s x = refl
 same_actor (place.SetSlot p) (Access gfn word op) s x = refl
-same_actor (place.SetSlot p) (SetSlot id slot) s x = setting p s
-  where
-    setting : (p : SetSlotPlace) (s : State) → (set_slot_loads p s).actor ≡ s.actor
-    setting (Refuse refusal) s = refl
-    setting (Fill field.Flags) s = refl
-    setting (Fill field.Base) s = refl
-    setting (Fill field.Pages) s = refl
-    setting (Fill field.Host) s = refl
+same_actor (place.SetSlot p) (SetSlot id slot) s x = refl
 
 -- Behind the begin of its line a step meets flat memory.
 meets_begun : (z : Sizes) (v : View) (f : Flat) (a : ℕ) (line : Line) (command : Command) (p : Place) → IsStep z v a line command p → Invariant z v
@@ -179,9 +172,9 @@ meets_begun z v f a line command p S I R others = (
         (sym (told_others s.actor (v.hand i).state.actor kinds f (other_actor z v a i I S.there i_in apart)))
         (under_still (v.words area.Pool) (words area.Pool) (v.hand i).state.place (v.hand i).state (f.under (v.hand i).state.actor) G.live (others i i_in apart))
 
-noted_first : (pool : ℕ → ℕ) (z : Sizes) (command : Command) (notes : Notes) → NotedAt pool (first_place z command) command notes
-noted_first pool z (Access gfn word op) notes = tt
-noted_first pool z (SetSlot id slot) notes = tt
+noted_first : (pool : ℕ → ℕ) (z : Sizes) (slots : MemorySlots) (command : Command) (notes : Notes) → NotedAt pool (first_place z slots command) command notes
+noted_first pool z slots (Access gfn word op) notes = tt
+noted_first pool z slots (SetSlot id slot) notes = tt
 
 -- A line that begins is under way, and has done nothing.
 ready_first : (z : Sizes) (v : View) (f : Flat) (a : ℕ) (line : Line) (command : Command) (p : Place) → IsStep z v a line command p → FlatInvariant z v f → (v.hand a).state.place ≡ place.Between
@@ -190,7 +183,7 @@ ready_first z v f a line command p S F e = record {
   refines = F.refines;
   stage = ap (λ (u : LineUnderWay). u.stage) begun;
   line_is = ap (λ (u : LineUnderWay). u.line) begun;
-  noted = subst (λ (u : LineUnderWay). NotedAt (v.words area.Pool) p command u.notes) (sym begun) (subst (λ q. NotedAt (v.words area.Pool) q command no_notes) first_is (noted_first (v.words area.Pool) h.state.sizes command no_notes));
+  noted = subst (λ (u : LineUnderWay). NotedAt (v.words area.Pool) p command u.notes) (sym begun) (subst (λ q. NotedAt (v.words area.Pool) q command no_notes) first_is (noted_first (v.words area.Pool) h.state.sizes h.slots command no_notes));
 }
   where
     h : Held
@@ -202,8 +195,8 @@ ready_first z v f a line command p S F e = record {
     command_is : (next_line h).command ≡ command
     command_is = ap (λ (l : Line). l.command) (sym S.next) ∙ S.command_is
 
-    first_is : first_place h.state.sizes command ≡ p
-    first_is = ap (first_place h.state.sizes) (sym command_is) ∙ subst (λ q. standing q h.state.sizes (line_at q h).command ≡ p) e S.place_is
+    first_is : first_place h.state.sizes h.slots command ≡ p
+    first_is = ap (first_place h.state.sizes h.slots) (sym command_is) ∙ subst (λ q. standing q h.state.sizes h.slots (line_at q h).command ≡ p) e S.place_is
 
 -- A line goes on as it stood.
 ready_access : (z : Sizes) (v : View) (f : Flat) (a : ℕ) (line : Line) (command : Command) (p : Place) (q : AccessPlace) → IsStep z v a line command p → FlatInvariant z v f → (v.hand a).state.place ≡ place.Access q
@@ -212,7 +205,7 @@ ready_access z v f a line command p q S F e = record {
   refines = F.refines;
   stage = under.0;
   line_is = under.1 ∙ sym line_is;
-  noted = subst (λ r. NotedAt (v.words area.Pool) r command u.notes) (subst (λ r. standing r h.state.sizes (line_at r h).command ≡ p) e S.place_is)
+  noted = subst (λ r. NotedAt (v.words area.Pool) r command u.notes) (subst (λ r. standing r h.state.sizes h.slots (line_at r h).command ≡ p) e S.place_is)
       (subst (λ c. NotedAt (v.words area.Pool) (place.Access q) c u.notes) (ap (λ (l : Line). l.command) (sym line_is) ∙ S.command_is) under.2);
 }
   where
@@ -234,7 +227,7 @@ ready_setting z v f a line command p q S F e = record {
   refines = F.refines;
   stage = under.0;
   line_is = under.1 ∙ sym (subst (λ r. line ≡ line_at r h) e S.line_is);
-  noted = subst (λ r. NotedAt (v.words area.Pool) r command u.notes) (subst (λ r. standing r h.state.sizes (line_at r h).command ≡ p) e S.place_is) tt;
+  noted = subst (λ r. NotedAt (v.words area.Pool) r command u.notes) (subst (λ r. standing r h.state.sizes h.slots (line_at r h).command ≡ p) e S.place_is) tt;
 }
   where
     h : Held

@@ -8,15 +8,14 @@ use Rattle.core_views.specs.declared.place.Place.TheVariants as place
 use Rattle.core_views.specs.declared.sizes.Sizes.{Sizes}
 use Rattle.core_views.specs.declared.trace.Command.{Command}
 use Rattle.core_views.specs.declared.trace.Line.{Line}
-use Rattle.core_views.specs.declared.trace.Slot.{Slot}
 use Rattle.core_views.specs.Flat.{Facts, LineUnderWay, Fresh, Idle}
 use Rattle.spte_words.specs.declared.area.Area.{Area}
 use Rattle.spte_words.specs.declared.area.Area.TheVariants as area
 use Rattle.mmu_core.specs.FlatInvariant.{NotedAt, Refines, UnderIs}
-use Rattle.mmu_core.specs.Invariant.{IsLive}
 use Rattle.mmu_core.specs.Steps.{outcome_at, task_at, tells_at}
 use Rattle.mmu_core.specs.Tasks.{answering, place_after}
 use Rattle.mmu_core.specs.View.{View, answer_in, words_after}
+use Rattle.mmu_core.proofs.LiveStay.{StayLive}
 use Rattle.mmu_core.proofs.Told.{AreAllowed, facts_behind, line_behind}
 
 -- The line under way is this one, with this command, at this place.
@@ -41,10 +40,6 @@ pub record Ready (z : Sizes) (v : View) (line : Line) (command : Command) (p : P
   pub stage : u.stage ≡ Fresh
   pub line_is : u.line ≡ line
   pub noted : NotedAt (v.words area.Pool) p command u.notes
-
--- Each live slot stays live, and the same.
-abbrev pub StayLive : (ℕ → ℕ) → (ℕ → ℕ) → Type 0
-StayLive pool after = (e : ℕ × Slot) → IsLive pool e.0 e.1 → IsLive after e.0 e.1
 
 -- What the step tells is allowed; behind it the facts are what the words say, and the line stands at this place.
 pub record Goes (z : Sizes) (actor : Actor) (line : Line) (command : Command) (words after : Area → ℕ → ℕ) (p : Place) (kinds : List EventKind) (facts : Facts) (u : LineUnderWay) : Type 0 where

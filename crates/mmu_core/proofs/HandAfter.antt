@@ -7,8 +7,6 @@ use Rattle.core_views.specs.declared.place.AccessPlace.{AccessPlace}
 use Rattle.core_views.specs.declared.place.AccessPlace.TheVariants.{Slots, Slot, Walk, Host, Install, Touch}
 use Rattle.core_views.specs.declared.place.Place.{Place}
 use Rattle.core_views.specs.declared.place.Place.TheVariants as place
-use Rattle.core_views.specs.declared.place.SetSlotPlace.{SetSlotPlace}
-use Rattle.core_views.specs.declared.place.SetSlotPlace.TheVariants.{Refuse, Fill}
 use Rattle.core_views.specs.declared.place.SlotField.TheVariants as field
 use Rattle.core_views.specs.declared.trace.Command.{Command}
 use Rattle.core_views.specs.declared.trace.Command.TheVariants.{Access, SetSlot}
@@ -17,7 +15,6 @@ use Rattle.core_views.specs.Held.{Held}
 use Rattle.mmu_core.specs.declared.outcome.Outcome.{Outcome}
 use Rattle.mmu_core.specs.declared.outcome.Outcome.TheVariants.{Goes, Ends}
 use Rattle.mmu_core.specs.AccessSteps.{access_loads}
-use Rattle.mmu_core.specs.SetSlotSteps.{set_slot_loads}
 use Rattle.mmu_core.specs.Bounds.{steps_left}
 use Rattle.mmu_core.specs.Enabled.{Enabled}
 use Rattle.mmu_core.specs.Steps.{has_line, held_after, line_at, loads_at, next, next_by, place_at}
@@ -42,16 +39,9 @@ access_same Host s v = record { actor = refl; sizes = refl }
 access_same Install s v = record { actor = refl; sizes = refl }
 access_same Touch s v = record { actor = refl; sizes = refl }
 
-set_slot_same : (p : SetSlotPlace) (s : State) → IsSameState s (set_slot_loads p s)
-set_slot_same (Refuse refusal) s = record { actor = refl; sizes = refl }
-set_slot_same (Fill field.Base) s = record { actor = refl; sizes = refl }
-set_slot_same (Fill field.Pages) s = record { actor = refl; sizes = refl }
-set_slot_same (Fill field.Host) s = record { actor = refl; sizes = refl }
-set_slot_same (Fill field.Flags) s = record { actor = refl; sizes = refl }
-
 loads_same : (p : Place) (command : Command) (s : State) (v : ℕ) → IsSameState s (loads_at p command s v)
 loads_same (place.Access p) (Access gfn word op) s v = access_same p s v
-loads_same (place.SetSlot p) (SetSlot id slot) s v = set_slot_same p s
+loads_same (place.SetSlot p) (SetSlot id slot) s v = record { actor = refl; sizes = refl }
 loads_same (place.Access p) (SetSlot id slot) s v = record { actor = refl; sizes = refl }
 loads_same (place.SetSlot p) (Access gfn word op) s v = record { actor = refl; sizes = refl }
 loads_same place.Between command s v = record { actor = refl; sizes = refl }
@@ -78,4 +68,4 @@ next_comes h k v left enabled =
     let has = has_line_is h left in
     let N = is_next h k enabled has in
     subst (Comes (outcome_of h v) (line_of h) h) (sym (next_of_line h k v has))
-    (comes (outcome_of h v) (line_of h) h (held_after (line_at h.state.place h) (place_at h.state.place h) h k v) (step_falls h.state.place h.state.sizes (line_of h).command h.state v N.rests.at) refl refl refl)
+    (comes (outcome_of h v) (line_of h) h (held_after (line_at h.state.place h) (place_at h.state.place h) h k v) (step_falls h.state.place h.state.sizes h.slots (line_of h).command h.state v N.rests.at) refl refl refl)

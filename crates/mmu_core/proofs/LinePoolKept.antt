@@ -1,6 +1,6 @@
--- The steps of lines keep what each pool page is, what owners have filled, and the root's entries.
-use Rattle.std.proofs.Common.{◌≡◌, ◌≢◌, ◌+◌, ◌*◌, ◌<◌, ◌≤◌, ℕ, length, refl, sym, subst, ap, ◌∙◌, arith}
-use Rattle.std.specs.Prelude.{true, nat_lt, Option, None}
+-- The steps of lines keep what each pool page is, what owners have filled, and what the tables are.
+use Rattle.std.proofs.Common.{◌≡◌, ◌≢◌, inl, ◌+◌, ◌*◌, ◌<◌, ◌≤◌, ℕ, length, refl, sym, subst, ap, ◌∙◌, arith}
+use Rattle.std.specs.Prelude.{Bool, true, false, nat_lt, if◌then◌else◌, Option, Some, None}
 use Rattle.std.proofs.lemmas.Bool.Decides.{nat_tests}
 use Rattle.core_views.specs.declared.hand.State.{State}
 use Rattle.core_views.specs.declared.place.AccessPlace.TheVariants as access
@@ -11,6 +11,7 @@ use Rattle.core_views.specs.declared.place.SlotField.{SlotField}
 use Rattle.core_views.specs.declared.place.SlotField.TheVariants as field
 use Rattle.core_views.specs.declared.sizes.Sizes.{Sizes}
 use Rattle.core_views.specs.declared.topics.OwnedPage.{OwnedPage}
+use Rattle.core_views.specs.declared.topics.TableWalk.{TableWalk}
 use Rattle.core_views.specs.declared.topics.Topics.{Topics}
 use Rattle.core_views.specs.declared.trace.Command.{Command}
 use Rattle.core_views.specs.declared.trace.Command.TheVariants.{Access, SetSlot}
@@ -20,63 +21,80 @@ use Rattle.core_views.specs.Sizes.{actors_of}
 use Rattle.spte_words.specs.declared.area.Area.{Area}
 use Rattle.spte_words.specs.declared.area.Area.TheVariants as area
 use Rattle.spte_words.specs.Areas.{pool_index}
+use Rattle.spte_words.specs.Entries.{kind_of}
 use Rattle.spte_words.proofs.Indices.{same_pool_word}
 use Rattle.mmu_core.specs.Invariant.{Holds, Invariant}
-use Rattle.mmu_core.specs.PoolPart.{FilledPart, PoolPart, TablesPart}
+use Rattle.mmu_core.specs.PoolPart.{FilledPart, PoolPart}
 use Rattle.mmu_core.specs.SetSlotSteps.{published_set}
 use Rattle.mmu_core.specs.SlotWords.{field_number, slot_index}
 use Rattle.mmu_core.specs.Steps.{has_line, task_at}
 use Rattle.mmu_core.specs.Tasks.{kind_of_task}
-use Rattle.mmu_core.specs.TopicSteps.{filled_more, topics_after}
+use Rattle.mmu_core.specs.TopicSteps.{filled_more, is_in_table, linked_page, still_owned, topics_after, unless_linked}
 use Rattle.mmu_core.specs.TopicsInvariant.{TopicsInvariant}
+use Rattle.mmu_core.specs.TreePart.{Position, TreePart}
 use Rattle.mmu_core.specs.View.{View, stepped, upd, words_after}
 use Rattle.mmu_core.proofs.Columns.{upd_other}
+use Rattle.mmu_core.proofs.LiveStays.{line_live_stays}
 use Rattle.mmu_core.proofs.OwnedBehind.{owned_same}
-use Rattle.mmu_core.proofs.PoolPages.{owned_not_slots, root_not_slots}
-use Rattle.mmu_core.proofs.SetSlotKept.{is_number, not_refused}
+use Rattle.mmu_core.proofs.PoolPages.{owned_not_slots, table_not_slots}
+use Rattle.mmu_core.proofs.SetSlotKept.{is_number}
+use Rattle.mmu_core.proofs.Accepted.{accepted_id}
+use Rattle.core_views.specs.SlotSets.{MemorySlots}
 use Rattle.mmu_core.proofs.Stepping.{IsStep}
+use Rattle.mmu_core.proofs.TreeStored.{tree_moved}
 
--- What the words behind a line's step share with those before it: root, published set, map and roles, and of the pool all pages but the manager's.
+-- What the words behind a line's step share with those before it: root, published set, map, roles and host words, and of the pool all pages but the manager's.
 pub record SamePool (words behind : Area → ℕ → ℕ) : Type 0 where
   pub root : behind area.Root ≡ words area.Root
   pub slots : behind area.Slots ≡ words area.Slots
   pub map : behind area.PoolMap ≡ words area.PoolMap
   pub role : behind area.Role ≡ words area.Role
+  pub host : behind area.Host ≡ words area.Host
   pub pages : (k j : ℕ) → k ≢ published_set → j < 512 → behind area.Pool (pool_index k j) ≡ words area.Pool (pool_index k j)
 
-same_words : (words behind : Area → ℕ → ℕ) → behind area.Root ≡ words area.Root → behind area.Slots ≡ words area.Slots → behind area.PoolMap ≡ words area.PoolMap → behind area.Role ≡ words area.Role → behind area.Pool ≡ words area.Pool → SamePool words behind
-same_words words behind root slots map role pool = record { root = root; slots = slots; map = map; role = role; pages = λ k j apart low. ap (λ (p : ℕ → ℕ). p (pool_index k j)) pool }
+same_words : (words behind : Area → ℕ → ℕ) → behind area.Root ≡ words area.Root → behind area.Slots ≡ words area.Slots → behind area.PoolMap ≡ words area.PoolMap → behind area.Role ≡ words area.Role → behind area.Host ≡ words area.Host → behind area.Pool ≡ words area.Pool → SamePool words behind
+same_words words behind root slots map role host pool = record { root = root; slots = slots; map = map; role = role; host = host; pages = λ k j apart low. ap (λ (p : ℕ → ℕ). p (pool_index k j)) pool }
 
 -- A field of a slot of the manager's page is no word of another page.
 field_apart : (pool : ℕ → ℕ) (id x k j : ℕ) (f : SlotField) → id ≤ 31 → k ≢ published_set → j < 512 → upd pool (slot_index published_set id f) x (pool_index k j) ≡ pool (pool_index k j)
 field_apart pool id x k j f low apart in_page =
     upd_other pool (slot_index published_set id f) (pool_index k j) x (λ e. apart (same_pool_word k published_set j (4 * id + field_number f) in_page (omega (arith, low, is_number f)) e).0)
 
-slot_words : (words behind : Area → ℕ → ℕ) (id x : ℕ) (f : SlotField) → id ≤ 31 → behind area.Root ≡ words area.Root → behind area.Slots ≡ words area.Slots → behind area.PoolMap ≡ words area.PoolMap → behind area.Role ≡ words area.Role
+slot_words : (words behind : Area → ℕ → ℕ) (id x : ℕ) (f : SlotField) → id ≤ 31 → behind area.Root ≡ words area.Root → behind area.Slots ≡ words area.Slots → behind area.PoolMap ≡ words area.PoolMap → behind area.Role ≡ words area.Role → behind area.Host ≡ words area.Host
     → behind area.Pool ≡ upd (words area.Pool) (slot_index published_set id f) x → SamePool words behind
-slot_words words behind id x f low root slots map role pool = record { root = root; slots = slots; map = map; role = role; pages = λ k j apart in_page. ap (λ (p : ℕ → ℕ). p (pool_index k j)) pool ∙ field_apart (words area.Pool) id x k j f low apart in_page }
+slot_words words behind id x f low root slots map role host pool = record { root = root; slots = slots; map = map; role = role; host = host; pages = λ k j apart in_page. ap (λ (p : ℕ → ℕ). p (pool_index k j)) pool ∙ field_apart (words area.Pool) id x k j f low apart in_page }
 
 -- Each step of a line leaves these.
-pub same_pool : (z : Sizes) (p : Place) (command : Command) (s : State) (words : Area → ℕ → ℕ) → Holds z (words area.Pool) (words area.Host) p command s → SamePool words (words_after (task_at p command s) words)
-same_pool z place.Between (Access gfn word op) s words holds = same_words words _ refl refl refl refl refl
-same_pool z place.Between (SetSlot id slot) s words holds = same_words words _ refl refl refl refl refl
-same_pool z (place.Access access.Slots) (Access gfn word op) s words holds = same_words words _ refl refl refl refl refl
-same_pool z (place.Access (access.Slot id f)) (Access gfn word op) s words holds = same_words words _ refl refl refl refl refl
-same_pool z (place.Access access.Walk) (Access gfn word op) s words holds = same_words words _ refl refl refl refl refl
-same_pool z (place.Access access.Host) (Access gfn word op) s words holds = same_words words _ refl refl refl refl refl
-same_pool z (place.Access access.Install) (Access gfn word op) s words holds = same_words words _ refl refl refl refl refl
-same_pool z (place.Access access.Touch) (Access gfn word Read) s words holds = same_words words _ refl refl refl refl refl
-same_pool z (place.Access access.Touch) (Access gfn word (Write x)) s words holds = same_words words _ refl refl refl refl refl
-same_pool z (place.Access access.Touch) (Access gfn word (Add x)) s words holds = same_words words _ refl refl refl refl refl
-same_pool z (place.Access p) (SetSlot id slot) s words holds = absurd holds
-same_pool z (place.SetSlot p) (Access gfn word op) s words holds = absurd holds
-same_pool z (place.SetSlot (Refuse refusal)) (SetSlot id slot) s words holds = same_words words _ refl refl refl refl refl
-same_pool z (place.SetSlot (Fill field.Base)) (SetSlot id slot) s words holds = slot_words words _ id _ field.Base (not_refused z.pages id slot holds).0 refl refl refl refl refl
-same_pool z (place.SetSlot (Fill field.Pages)) (SetSlot id slot) s words holds = slot_words words _ id _ field.Pages (not_refused z.pages id slot holds.0).0 refl refl refl refl refl
-same_pool z (place.SetSlot (Fill field.Host)) (SetSlot id slot) s words holds = slot_words words _ id _ field.Host (not_refused z.pages id slot holds.0).0 refl refl refl refl refl
-same_pool z (place.SetSlot (Fill field.Flags)) (SetSlot id slot) s words holds = slot_words words _ id _ field.Flags (not_refused z.pages id slot holds.0).0 refl refl refl refl refl
+pub same_pool : (z : Sizes) (p : Place) (command : Command) (slots : MemorySlots) (s : State) (words : Area → ℕ → ℕ) → Holds z (words area.Pool) (words area.Host) p command slots s → SamePool words (words_after (task_at p command s) words)
+same_pool z place.Between (Access gfn word op) slots s words holds = same_words words _ refl refl refl refl refl refl
+same_pool z place.Between (SetSlot id slot) slots s words holds = same_words words _ refl refl refl refl refl refl
+same_pool z (place.Access access.Slots) (Access gfn word op) slots s words holds = same_words words _ refl refl refl refl refl refl
+same_pool z (place.Access (access.Slot id f)) (Access gfn word op) slots s words holds = same_words words _ refl refl refl refl refl refl
+same_pool z (place.Access access.Walk) (Access gfn word op) slots s words holds = same_words words _ refl refl refl refl refl refl
+same_pool z (place.Access access.Host) (Access gfn word op) slots s words holds = same_words words _ refl refl refl refl refl refl
+same_pool z (place.Access access.Install) (Access gfn word op) slots s words holds = same_words words _ refl refl refl refl refl refl
+same_pool z (place.Access access.Touch) (Access gfn word Read) slots s words holds = same_words words _ refl refl refl refl refl refl
+same_pool z (place.Access access.Touch) (Access gfn word (Write x)) slots s words holds = same_words words _ refl refl refl refl refl refl
+same_pool z (place.Access access.Touch) (Access gfn word (Add x)) slots s words holds = same_words words _ refl refl refl refl refl refl
+same_pool z (place.Access p) (SetSlot id slot) slots s words holds = absurd holds
+same_pool z (place.SetSlot p) (Access gfn word op) slots s words holds = absurd holds
+same_pool z (place.SetSlot (Refuse refusal)) (SetSlot id slot) slots s words holds = same_words words _ refl refl refl refl refl refl
+same_pool z (place.SetSlot (Fill field.Base)) (SetSlot id slot) slots s words holds = slot_words words _ id _ field.Base (accepted_id z.pages id slot slots holds) refl refl refl refl refl refl
+same_pool z (place.SetSlot (Fill field.Pages)) (SetSlot id slot) slots s words holds = slot_words words _ id _ field.Pages (accepted_id z.pages id slot slots holds.0) refl refl refl refl refl refl
+same_pool z (place.SetSlot (Fill field.Host)) (SetSlot id slot) slots s words holds = slot_words words _ id _ field.Host (accepted_id z.pages id slot slots holds.0) refl refl refl refl refl refl
+same_pool z (place.SetSlot (Fill field.Flags)) (SetSlot id slot) slots s words holds = slot_words words _ id _ field.Flags (accepted_id z.pages id slot slots holds.0) refl refl refl refl refl refl
 
--- Who owned no page owns none behind a line's step.
+-- Who owned no page owns none behind an exchange.
+swaps_none : (in_table won : Bool) (walk : TableWalk) (new_ : ℕ) (owned : Option OwnedPage) → owned ≡ None → (if in_table then still_owned won walk new_ owned else owned) ≡ None
+swaps_none false won walk new_ owned none = none
+swaps_none true false walk new_ owned none = none
+swaps_none true true walk new_ owned none = by (linked_page (kind_of walk.level new_))
+  where
+    by : (page : Option ℕ) → unless_linked page owned ≡ None
+    by None = none
+    by (Some page) = refl
+
+-- Nor behind any step of a line.
 pub owns_none : (z : Sizes) (p : Place) (command : Command) (s : State) (t : Topics) (v : ℕ) → t.owned ≡ None → (topics_after z (kind_of_task z (task_at p command s)) t v).owned ≡ None
 unfolding topics_after
 owns_none z place.Between command s t v none = none
@@ -84,7 +102,7 @@ owns_none z (place.Access access.Slots) (Access gfn word op) s t v none = none
 owns_none z (place.Access (access.Slot id f)) (Access gfn word op) s t v none = none
 owns_none z (place.Access access.Walk) (Access gfn word op) s t v none = none
 owns_none z (place.Access access.Host) (Access gfn word op) s t v none = none
-owns_none z (place.Access access.Install) (Access gfn word op) s t v none = none
+owns_none z (place.Access access.Install) (Access gfn word op) s t v none = swaps_none (is_in_table t.walk) _ t.walk _ t.owned none
 owns_none z (place.Access access.Touch) (Access gfn word Read) s t v none = none
 owns_none z (place.Access access.Touch) (Access gfn word (Write x)) s t v none = none
 owns_none z (place.Access access.Touch) (Access gfn word (Add x)) s t v none = none
@@ -114,23 +132,34 @@ module _ (z : Sizes) (v : View) (a : ℕ) (line : Line) (command : Command) (p :
   same_owned = owned_same v.hand a _ (owns_none (v.hand a).state.sizes p command (v.hand a).state (v.hand a).topics _ none_owned ∙ sym none_owned)
 
   same : SamePool v.words behind.words
-  same = same_pool z p command (v.hand a).state v.words S.holds
+  same = same_pool z p command (v.hand a).slots (v.hand a).state v.words S.holds
 
   -- Each step of a line keeps what the pool pages are.
-  pub line_pool_kept : PoolPart (actors_of z) z.pool (behind.words area.Root 0) (behind.words area.Slots 0) (behind.words area.PoolMap) (λ i. (behind.hand i).topics.owned)
+  pub line_pool_kept : PoolPart (actors_of z) z.pool (behind.words area.Slots 0) (behind.words area.PoolMap) (λ i. (behind.hand i).topics.owned) I.stands
   line_pool_kept =
-      subst (λ (r : ℕ → ℕ). PoolPart (actors_of z) z.pool (r 0) (behind.words area.Slots 0) (behind.words area.PoolMap) (λ i. (behind.hand i).topics.owned)) (sym same.root)
-      (subst (λ (s : ℕ → ℕ). PoolPart (actors_of z) z.pool (v.words area.Root 0) (s 0) (behind.words area.PoolMap) (λ i. (behind.hand i).topics.owned)) (sym same.slots)
-      (subst (λ (map : ℕ → ℕ). PoolPart (actors_of z) z.pool (v.words area.Root 0) (v.words area.Slots 0) map (λ i. (behind.hand i).topics.owned)) (sym same.map)
-      (subst (PoolPart (actors_of z) z.pool (v.words area.Root 0) (v.words area.Slots 0) (v.words area.PoolMap)) (sym same_owned) I.pool_part)))
+      subst (λ (s : ℕ → ℕ). PoolPart (actors_of z) z.pool (s 0) (behind.words area.PoolMap) (λ i. (behind.hand i).topics.owned) I.stands) (sym same.slots)
+      (subst (λ (map : ℕ → ℕ). PoolPart (actors_of z) z.pool (v.words area.Slots 0) map (λ i. (behind.hand i).topics.owned) I.stands) (sym same.map)
+      (subst (λ (owned : ℕ → Option OwnedPage). PoolPart (actors_of z) z.pool (v.words area.Slots 0) (v.words area.PoolMap) owned I.stands) (sym same_owned) I.pool_part))
 
   -- The owners' pages are none of the manager's, so what they have filled stays.
-  pub line_filled_kept : FilledPart (actors_of z) (behind.words area.Pool) (λ i. (behind.hand i).topics.owned)
-  line_filled_kept = subst (FilledPart (actors_of z) (behind.words area.Pool)) (sym same_owned) (λ i o lt is.
+  pub line_filled_kept : FilledPart (actors_of z) (behind.words area.Role) (behind.words area.Pool) (λ i. (behind.hand i).topics.owned)
+  line_filled_kept = subst (FilledPart (actors_of z) (behind.words area.Role) (behind.words area.Pool)) (sym same_owned) (λ i o lt is.
       let F = I.filled i o lt is in
-      (F.0, λ absent j below low. same.pages o.page j (λ e. owned_not_slots (actors_of z) z.pool (v.words area.Root 0) (v.words area.Slots 0) (v.words area.PoolMap) (λ l. (v.hand l).topics.owned) I.pool_part i o lt is (e ∙ sym J.set.published)) low ∙ F.1 absent j below low))
+      record {
+        most = F.most;
+        absent = λ absent j below low. same.pages o.page j (λ e. owned_not_slots (actors_of z) z.pool (v.words area.Slots 0) (v.words area.PoolMap) (λ l. (v.hand l).topics.owned) I.stands I.pool_part i o lt is (e ∙ sym J.set.published)) low ∙ F.absent absent j below low;
+        role_is = λ whole. ap (λ (role : ℕ → ℕ). role o.page) same.role ∙ F.role_is whole;
+      })
 
-  -- The root isn't the manager's page, so its entries stay absent.
-  pub line_tables_kept : TablesPart (behind.words area.Root 0) (behind.words area.Pool)
-  line_tables_kept = subst (λ (r : ℕ → ℕ). TablesPart (r 0) (behind.words area.Pool)) (sym same.root)
-      (λ j low. same.pages (v.words area.Root 0) j (λ e. root_not_slots (actors_of z) z.pool (v.words area.Root 0) (v.words area.Slots 0) (v.words area.PoolMap) (λ l. (v.hand l).topics.owned) I.pool_part (e ∙ sym J.set.published)) low ∙ I.tables j low)
+  -- Nor are the tables, so these stay too.
+  pub line_tree_kept : TreePart z.pool (behind.words area.Root 0) (behind.words area.Slots 0) (behind.words area.Role) (behind.words area.Pool) (behind.words area.Host) I.stands
+  line_tree_kept =
+      subst (λ (r : ℕ → ℕ). TreePart z.pool (r 0) (behind.words area.Slots 0) (behind.words area.Role) (behind.words area.Pool) (behind.words area.Host) I.stands) (sym same.root)
+      (subst (λ (s : ℕ → ℕ). TreePart z.pool (v.words area.Root 0) (s 0) (behind.words area.Role) (behind.words area.Pool) (behind.words area.Host) I.stands) (sym same.slots)
+      (subst (λ (host : ℕ → ℕ). TreePart z.pool (v.words area.Root 0) (v.words area.Slots 0) (behind.words area.Role) (behind.words area.Pool) host I.stands) (sym same.host)
+      (tree_moved z.pool (v.words area.Root 0) (v.words area.Slots 0) (v.words area.Role) (behind.words area.Role) (v.words area.Pool) (behind.words area.Pool) (v.words area.Host) I.stands I.stands I.tree
+      (λ k p is. is) (λ k p is. inl is) (λ k p is. ap (λ (role : ℕ → ℕ). role k) same.role) (λ k p is j low. inl (same.pages k j (not_published k p is) low))
+      (line_live_stays z v a line command p S J))))
+    where
+      not_published : (k : ℕ) (p : Position) → I.stands k ≡ Some p → k ≢ published_set
+      not_published k p is e = table_not_slots (actors_of z) z.pool (v.words area.Slots 0) (v.words area.PoolMap) (λ l. (v.hand l).topics.owned) I.stands I.pool_part k p (I.tree.there k p is).0 is (e ∙ sym J.set.published)

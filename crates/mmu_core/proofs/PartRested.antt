@@ -1,29 +1,37 @@
 -- What the steps of the parts rest on holds of every hand that some world has; with it, a hand with no line left may make each step that it holds the needs of.
-use Rattle.std.proofs.Common.{◌≡◌, inl, inr, ◌<◌, ◌≤◌, ◌^◌, ◌%◌, ◌+◌, ◌*◌, ◌≢◌, ℕ, refl, sym, subst, ap, ◌∙◌, arith}
+use Rattle.std.proofs.Common.{◌≡◌, ◌⊎◌, inl, inr, ◌<◌, ◌≤◌, ◌^◌, ◌%◌, ◌+◌, ◌-◌, ◌*◌, ◌≢◌, ℕ, refl, sym, subst, ap, ◌∙◌, arith}
 use Rattle.std.specs.Prelude.{Bool, true, false, ◌==◌, Some, None, is_some, Option, if◌then◌else◌}
+use Rattle.std.proofs.lemmas.Bool.{cases_lt}
 use Rattle.std.proofs.lemmas.Bool.Decides.{nat_tests}
 use Rattle.std.proofs.Math.Logic.{∥∥₁_elim}
 use Rattle.std.proofs.Math.Pow.{pow-lt}
 use Rattle.std.proofs.Props.{props}
 use Rattle.core_views.specs.declared.kind.StepKind.TheVariants as kind
 use Rattle.core_views.specs.declared.sizes.Sizes.{Sizes}
+use Rattle.core_views.specs.declared.topics.HostLook.{HostLook}
 use Rattle.core_views.specs.declared.topics.OwnedPage.{OwnedPage}
 use Rattle.core_views.specs.declared.topics.Topics.{Topics}
+use Rattle.core_views.specs.declared.trace.Slot.{Slot as SlotOf}
 use Rattle.core_views.specs.Held.{Held}
 use Rattle.core_views.specs.Sizes.{AreSizes, actors_of, index_of}
 use Rattle.spte_words.specs.declared.area.Area.TheVariants as area
 use Rattle.spte_words.specs.Areas.{pool_index, size_of}
+use Rattle.spte_words.specs.Entries.{table_word}
+use Rattle.spte_words.specs.HostWords.{host_allows_write, host_frame}
 use Rattle.spte_words.proofs.Indices.{pool_within}
+use Rattle.spte_words.proofs.ReadsEntries.{leaf_fits, table_fits}
 use Rattle.mmu_core.specs.declared.part_step.PartStep.{PartStep}
 use Rattle.mmu_core.specs.declared.part_step.PartStep.TheVariants as part
 use Rattle.mmu_core.specs.Enabled.{Enabled, IsPartStep, mmu}
-use Rattle.mmu_core.specs.HeldPart.{CountersPart, HeldPart, HoldsTables}
+use Rattle.mmu_core.specs.HeldPart.{CountersPart, HeldPart}
 use Rattle.mmu_core.specs.Laws.{IsSound}
 use Rattle.mmu_core.specs.LockPart.{SawWriter}
 use Rattle.mmu_core.specs.Machine.{World, hand_in}
 use Rattle.mmu_core.specs.PartRests.{MayMake, PartRests}
-use Rattle.mmu_core.specs.PartSteps.{HasToFill, IsWithin, PartNeeds, all_but, page_owned, part_kind, set_held, table_page, words_filled, works}
-use Rattle.mmu_core.specs.SlotWords.{field_number, slot_index}
+use Rattle.mmu_core.specs.PartSteps.{HasToFill, IsWithin, LookedUp, OwnsTable, PartNeeds, all_but, leaf_written, link_written, page_owned, part_kind, set_held, table_page, word_looked, words_filled, works}
+use Rattle.mmu_core.specs.SlotWords.{field_number, leaf_of, may_write, slot_index}
+use Rattle.mmu_core.specs.SetSlotSteps.{published_set}
+use Rattle.mmu_core.specs.TreePart.{IsLiveIn}
 use Rattle.mmu_core.specs.Invariant.{OwnLines}
 use Rattle.mmu_core.specs.Steps.{has_line}
 use Rattle.mmu_core.specs.Tasks.{map_of}
@@ -31,6 +39,7 @@ use Rattle.mmu_core.specs.TopicsInvariant.{TopicsInvariant}
 use Rattle.mmu_core.specs.TopicSteps.{tried_bit}
 use Rattle.mmu_core.specs.View.{view, word_in}
 use Rattle.mmu_core.specs.Worlds.{HandReached}
+use Rattle.mmu_core.proofs.RestsKept.{host_at}
 use Rattle.mmu_core.proofs.SetSlotKept.{is_number}
 use Rattle.mmu_core.proofs.Starts.{reached_good}
 
@@ -38,12 +47,14 @@ pub rests_in : (z : Sizes) (w : World Held) (i : ℕ) → IsSound z w → i < ac
 rests_in z w i G there = record {
   sizes = subst AreSizes (sym same) G.holds.sizes;
   own_place = subst (λ n. n < actors_of h.state.sizes) (sym (ap (λ y. index_of y h.state.actor) same ∙ O.index)) (subst (λ (y : Sizes). i < actors_of y) (sym same) there);
-  level = level H.tables;
-  table = λ from. subst (λ (y : Sizes). table_page h.topics.walk < y.pool) (sym same) (table from H.tables);
+  level = level (cases_lt 0 h.topics.walk.level);
+  table = λ from. subst (λ (y : Sizes). table_page h.topics.walk < y.pool) (sym same) (P.tree.there _ _ (H.table from)).0;
   set = λ k is. subst (λ (y : Sizes). k < y.pool) (sym same) (subst (λ n. n < z.pool) (sym (H.set k is)) P.pool_part.slots_there);
   page = λ o is. subst (λ (y : Sizes). o.page < y.pool) (sym same) (P.pool_part.there i o there is);
-  filled = λ o is. (P.filled i o there is).0;
+  filled = λ o is. (P.filled i o there is).most;
   counters = subst (λ y. CountersPart y h.topics) (sym same) (P.counters i there);
+  found = λ whole. subst (λ (y : Sizes). h.topics.search.slot.host + h.topics.search.slot.pages ≤ y.pages) (sym same) (found whole);
+  looked = λ look is. subst (λ (y : Sizes). (look.page < y.pages) × (host_frame look.word < y.frames)) (sym same) (looked look is);
   saw_writer = λ word is. subst SawWriter is (P.saw_writer i there);
 }
   where
@@ -59,16 +70,26 @@ rests_in z w i G there = record {
     P : TopicsInvariant z (view z w)
     P = G.topics
 
-    H : HeldPart (word_in z w area.Root 0) (word_in z w area.Slots 0) h.topics
+    H : HeldPart (word_in z w area.Slots 0) P.stands h.topics
     H = P.held i there
 
-    level : HoldsTables (word_in z w area.Root 0) h.topics.walk → h.topics.walk.level ≤ 4
-    level (inl e) = omega (arith, e)
-    level (inr e) = omega (arith, e.0)
+    level : (0 < h.topics.walk.level) ⊎ (h.topics.walk.level ≤ 0) → h.topics.walk.level ≤ 4
+    level (inl from) = (P.tree.there _ _ (H.table from)).2
+    level (inr none) = omega (arith, none)
 
-    table : 1 ≤ h.topics.walk.level → HoldsTables (word_in z w area.Root 0) h.topics.walk → table_page h.topics.walk < z.pool
-    table from (inl e) = absurd (omega (arith, from, e))
-    table from (inr e) = let four : (h.topics.walk.level == 4) ≡ true = grind (arith, nat_tests, e.0) in rw (four, e.1) P.pool_part.root_there
+    -- The slot that was loaded whole is live in the published set.
+    found : h.topics.search.whole ≡ true → h.topics.search.slot.host + h.topics.search.slot.pages ≤ z.pages
+    found whole =
+        let S = P.searches i there in
+        let own = S.held whole in
+        let live : IsLiveIn (word_in z w area.Pool) published_set (h.topics.search.id - 1) h.topics.search.slot =
+        subst (λ n. IsLiveIn (word_in z w area.Pool) n (h.topics.search.id - 1) h.topics.search.slot) (H.set own.0 own.1 ∙ G.holds.set.published) (S.whole own.0 own.1 whole).1 in
+        subst (λ (s : SlotOf). s.host + s.pages ≤ z.pages) live.is (G.holds.set.fits (h.topics.search.id - 1) live.low live.live).pages
+
+    looked : (look : HostLook) → h.topics.host ≡ Some look → (look.page < z.pages) × (host_frame look.word < z.frames)
+    looked look is =
+        let L = P.looks i there in
+        (L.there look is, subst (λ n. n < z.frames) (ap host_frame (sym (L.is look is))) (host_at z (word_in z w area.Host) look.page G.holds.sizes G.holds.hosts (L.there look is)))
 
 rests_prop : (h : Held) → IsProp (PartRests h)
 rests_prop h = hlevel props
@@ -132,7 +153,9 @@ part_within part.Count h N R = omega arith
 part_within part.RangeStart h N R = omega arith
 part_within part.RangeEnd h N R = omega arith
 part_within part.Root h N R = omega arith
-part_within (part.Walk gfn) h N R = pool_within (map_of h.state.sizes) (table_page h.topics.walk) _ (R.table N) (omega arith)
+part_within (part.Walk gfn) h N R = pool_within (map_of h.state.sizes) (table_page h.topics.walk) _ (R.table N.there) (omega arith)
+part_within (part.Link gfn) h N R = pool_within (map_of h.state.sizes) (table_page h.topics.walk) _ (R.table N.0.saw.over.there) (omega arith)
+part_within (part.Leaf gfn) h N R = pool_within (map_of h.state.sizes) (table_page h.topics.walk) _ (R.table N.0.saw.over.there) (omega arith)
 part_within (part.Host page) h N R = N
 part_within (part.Watch index) h N R = N.0
 
@@ -150,30 +173,44 @@ fill_small false page j value note small = small
 power_small : (k : ℕ) → k < 64 → 2 ^ k < 2 ^ 64
 power_small k lt = pow-lt lt
 
-part_small : (step : PartStep) (h : Held) (note : ℕ) → PartNeeds step h → (part_kind h step note).new < 2 ^ 64
-part_small part.Enter h note N = omega arith
-part_small part.Leave h note N = not_small 3
-part_small part.Begin h note N = omega arith
-part_small part.End h note N = not_small 2
-part_small part.Share h note N = omega arith
-part_small part.Unshare h note N = omega arith
-part_small part.Exclude h note N = omega arith
-part_small part.Release h note N = not_small (2 ^ 63)
-part_small part.Claim h note N = not_small (2 ^ tried_bit h.topics.claim)
-part_small (part.Fill value) h note N = fill_small (words_filled h.topics.owned == 512) (page_owned h.topics.owned) _ value note N.1
-part_small part.Give h note N = power_small (page_owned h.topics.owned % 64) (omega arith)
-part_small part.Pause h note N = omega arith
-part_small (part.Map word) h note N = omega arith
-part_small part.Slots h note N = omega arith
-part_small part.Slot h note N = omega arith
-part_small part.Seq h note N = omega arith
-part_small part.Count h note N = omega arith
-part_small part.RangeStart h note N = omega arith
-part_small part.RangeEnd h note N = omega arith
-part_small part.Root h note N = omega arith
-part_small (part.Walk gfn) h note N = omega arith
-part_small (part.Host page) h note N = omega arith
-part_small (part.Watch index) h note N = omega arith
+-- A link is to a page of the pool, and a leaf to a frame of the machine.
+link_small : (h : Held) → OwnsTable (h.topics.walk.level - 1) h.topics → PartRests h → link_written h.topics < 2 ^ 64
+link_small h O R =
+    let page = R.page O.owned O.is in
+    subst (λ o. table_word (page_owned o) < 2 ^ 64) (sym O.is) (table_fits O.owned.page (omega (arith, page, R.sizes.pool.1)))
+
+leaf_small : {gfn : ℕ} (h : Held) → LookedUp gfn h.topics → PartRests h → leaf_written h.topics < 2 ^ 64
+leaf_small h U R =
+    let looked = R.looked _ U.host in
+    subst (λ o. leaf_of h.topics.search.slot (word_looked o) < 2 ^ 64) (sym U.host)
+    (leaf_fits 1 (host_frame U.word) (may_write h.topics.search.slot U.word) (host_allows_write U.word) (may_write h.topics.search.slot U.word) (omega (arith, looked.1, R.sizes.frames.1)))
+
+part_small : (step : PartStep) (h : Held) (note : ℕ) → PartNeeds step h → PartRests h → (part_kind h step note).new < 2 ^ 64
+part_small part.Enter h note N R = omega arith
+part_small part.Leave h note N R = not_small 3
+part_small part.Begin h note N R = omega arith
+part_small part.End h note N R = not_small 2
+part_small part.Share h note N R = omega arith
+part_small part.Unshare h note N R = omega arith
+part_small part.Exclude h note N R = omega arith
+part_small part.Release h note N R = not_small (2 ^ 63)
+part_small part.Claim h note N R = not_small (2 ^ tried_bit h.topics.claim)
+part_small (part.Fill value) h note N R = fill_small (words_filled h.topics.owned == 512) (page_owned h.topics.owned) _ value note N.1
+part_small part.Give h note N R = power_small (page_owned h.topics.owned % 64) (omega arith)
+part_small part.Pause h note N R = omega arith
+part_small (part.Map word) h note N R = omega arith
+part_small part.Slots h note N R = omega arith
+part_small part.Slot h note N R = omega arith
+part_small part.Seq h note N R = omega arith
+part_small part.Count h note N R = omega arith
+part_small part.RangeStart h note N R = omega arith
+part_small part.RangeEnd h note N R = omega arith
+part_small part.Root h note N R = omega arith
+part_small (part.Walk gfn) h note N R = omega arith
+part_small (part.Link gfn) h note N R = link_small h N.3 R
+part_small (part.Leaf gfn) h note N R = leaf_small h N.0.looked_up R
+part_small (part.Host page) h note N R = omega arith
+part_small (part.Watch index) h note N R = omega arith
 
 enabled_part : (h : Held) (step : PartStep) (note : ℕ) → IsPartStep h (part_kind h step note) → Enabled h (part_kind h step note)
 unfolding Enabled
@@ -182,5 +219,5 @@ enabled_part h step note e = inr e
 pub may_make : (h : Held) (step : PartStep) (note : ℕ) → PartRests h → has_line h ≡ false → PartNeeds step h → MayMake step note h
 may_make h step note R none N = record {
   needs = N;
-  enabled = enabled_part h step note (record { none_left = none; sizes = R.sizes; step = step; note = note; is = refl; needs = N; within = part_within step h N R; small = part_small step h note N });
+  enabled = enabled_part h step note (record { none_left = none; sizes = R.sizes; step = step; note = note; is = refl; needs = N; within = part_within step h N R; small = part_small step h note N R });
 }

@@ -1,9 +1,10 @@
 -- The words that a step of a part leaves: whole areas, and of the pool all pages but the actor's own.
-use Rattle.std.proofs.Common.{◌≡◌, ◌≢◌, ◌<◌, ℕ, refl, sym, ap, ◌∙◌, arith}
+use Rattle.std.proofs.Common.{◌≡◌, ◌≢◌, ◌<◌, ◌≤◌, ℕ, refl, sym, ap, ◌∙◌, arith}
 use Rattle.std.specs.Prelude.{Bool, true, false, ◌==◌, if◌then◌else◌, Some}
 use Rattle.std.proofs.lemmas.Bool.Decides.{nat_tests}
 use Rattle.core_views.specs.declared.sizes.Sizes.{Sizes}
 use Rattle.core_views.specs.declared.topics.OwnedPage.{OwnedPage}
+use Rattle.core_views.specs.declared.topics.TableWalk.{TableWalk}
 use Rattle.core_views.specs.declared.topics.Topics.{Topics}
 use Rattle.core_views.specs.Sizes.{actors_of}
 use Rattle.spte_words.specs.declared.area.Area.{Area}
@@ -12,13 +13,13 @@ use Rattle.spte_words.specs.Areas.{number_of, pool_index}
 use Rattle.spte_words.proofs.Indices.{same_pool_word}
 use Rattle.mmu_core.specs.declared.part_step.PartStep.{PartStep}
 use Rattle.mmu_core.specs.declared.part_step.PartStep.TheVariants as part
-use Rattle.mmu_core.specs.PartSteps.{HasToFill, own_index, page_owned, part_task, words_filled}
+use Rattle.mmu_core.specs.PartSteps.{HasToFill, entry_index, entry_task, leaf_written, link_written, own_index, page_owned, part_task, table_page, words_filled}
 use Rattle.mmu_core.specs.TopicsInvariant.{TopicsInvariant}
 use Rattle.mmu_core.specs.View.{View, answer_in, part_stepped, put, upd, words_after}
 use Rattle.mmu_core.proofs.Columns.{upd_other, upd_same}
 use Rattle.mmu_core.proofs.OwnedBehind.{fill_by}
 use Rattle.mmu_core.proofs.PartStepping.{IsPart}
-use Rattle.mmu_core.proofs.PoolPages.{owned_not_slots}
+use Rattle.mmu_core.proofs.PoolPages.{owned_not_slots, table_not_owned, table_not_slots}
 
 -- No step of a part stores in the area.
 abbrev pub stays : Area → Bool
@@ -63,6 +64,8 @@ words_stay part.Exclude own t note words b A = put_elsewhere words area.Lock b 0
 words_stay part.Release own t note words b A = put_elsewhere words area.Lock b 0 _ A.lock
 words_stay part.Claim own t note words b A = put_elsewhere words area.PoolMap b t.claim.at _ A.map
 words_stay part.Give own t note words b A = put_elsewhere words area.PoolMap b _ _ A.map
+words_stay (part.Link gfn) own t note words b A = put_elsewhere words area.Pool b _ _ A.pool
+words_stay (part.Leaf gfn) own t note words b A = put_elsewhere words area.Pool b _ _ A.pool
 words_stay (part.Fill value) own t note words b A = fill_elsewhere_by (words_filled t.owned == 512) (page_owned t.owned) (words_filled t.owned) value note words b A
 words_stay _ own t note words b A = refl
 
@@ -96,8 +99,29 @@ pub fill_map : (role : Bool) (page filled value note : ℕ) (words : Area → �
 fill_map true page filled value note words = refl
 fill_map false page filled value note words = refl
 
--- A step leaves each page of the pool that isn't the actor's own.
-pub page_stays : (z : Sizes) (v : View) (a : ℕ) (step : PartStep) (note : ℕ) → IsPart z v a step → (k : ℕ) → ((o : OwnedPage) → (v.hand a).topics.owned ≡ Some o → o.page ≢ k) → (j : ℕ) → j < 512
+-- The role is stored where the words are filled, and else stays; that of each other page stays.
+pub role_stored : (role : Bool) (page filled value note : ℕ) (words : Area → ℕ → ℕ) → role ≡ true → words_after (fill_by role page filled value note) words area.Role page ≡ value
+role_stored true page filled value note words is = upd_same (words area.Role) page value
+role_stored false page filled value note words is = absurd (cc is)
+
+role_leaves : (role : Bool) (page filled value note : ℕ) (words : Area → ℕ → ℕ) (k : ℕ) → page ≢ k → words_after (fill_by role page filled value note) words area.Role k ≡ words area.Role k
+role_leaves true page filled value note words k apart = upd_other (words area.Role) page k value (λ e. apart (sym e))
+role_leaves false page filled value note words k apart = refl
+
+-- The step stores in no word of the page: in none of the page that the actor owns, where it fills that, and in none of the table that
+-- its walk has come to, where it exchanges an entry.
+abbrev pub IsElsewhere : PartStep → Topics → ℕ → Type 0
+IsElsewhere (part.Fill value) t k = (o : OwnedPage) → t.owned ≡ Some o → o.page ≢ k
+IsElsewhere (part.Link gfn) t k = table_page t.walk ≢ k
+IsElsewhere (part.Leaf gfn) t k = table_page t.walk ≢ k
+IsElsewhere _ t k = Unit {0}
+
+-- An exchange of an entry leaves each other page.
+pub entry_leaves : (gfn new_ note : ℕ) (walk : TableWalk) (words : Area → ℕ → ℕ) (k j : ℕ) → j < 512 → table_page walk ≢ k → words_after (entry_task gfn new_ walk note) words area.Pool (pool_index k j) ≡ words area.Pool (pool_index k j)
+entry_leaves gfn new_ note walk words k j low apart =
+    upd_other (words area.Pool) (pool_index (table_page walk) (entry_index gfn walk.level)) (pool_index k j) _ (λ e. let s = same_pool_word k (table_page walk) j (entry_index gfn walk.level) low (omega arith) e in apart (sym s.0))
+
+pub page_stays : (z : Sizes) (v : View) (a : ℕ) (step : PartStep) (note : ℕ) → IsPart z v a step → (k : ℕ) → IsElsewhere step (v.hand a).topics k → (j : ℕ) → j < 512
     → (part_stepped a step note v).words area.Pool (pool_index k j) ≡ v.words area.Pool (pool_index k j)
 page_stays z v a (part.Fill value) note S k differs j low =
     let t : Topics = (v.hand a).topics in
@@ -106,10 +130,35 @@ page_stays z v a (part.Fill value) note S k differs j low =
     let filled : words_filled t.owned ≡ to_fill.owned.filled = ap words_filled to_fill.is in
     fill_leaves (words_filled t.owned == 512) (page_owned t.owned) (words_filled t.owned) value note v.words k j (λ is. is_word (words_filled t.owned) (omega (arith, filled, to_fill.left)) is) low
     (λ e d. differs to_fill.owned to_fill.is (sym page ∙ e))
+page_stays z v a (part.Link gfn) note S k differs j low = entry_leaves gfn (link_written (v.hand a).topics) note (v.hand a).topics.walk v.words k j low differs
+page_stays z v a (part.Leaf gfn) note S k differs j low = entry_leaves gfn (leaf_written (v.hand a).topics) note (v.hand a).topics.walk v.words k j low differs
 page_stays z v a _ note S k differs j low = refl
 
+pub role_stays : (z : Sizes) (v : View) (a : ℕ) (step : PartStep) (note : ℕ) → IsPart z v a step → (k : ℕ) → IsElsewhere step (v.hand a).topics k → (part_stepped a step note v).words area.Role k ≡ v.words area.Role k
+role_stays z v a (part.Fill value) note S k differs =
+    let t : Topics = (v.hand a).topics in
+    let to_fill : HasToFill t = S.needs.0 in
+    let page : page_owned t.owned ≡ to_fill.owned.page = ap page_owned to_fill.is in
+    role_leaves (words_filled t.owned == 512) (page_owned t.owned) (words_filled t.owned) value note v.words k (λ e. differs to_fill.owned to_fill.is (sym page ∙ e))
+role_stays z v a _ note S k differs = refl
+
+-- The table that an entry is exchanged in is no page of the published slot set, and nobody owns it.
+pub walks_elsewhere : (z : Sizes) (v : View) (a : ℕ) → a < actors_of z → TopicsInvariant z v → 1 ≤ (v.hand a).topics.walk.level → table_page (v.hand a).topics.walk ≢ v.words area.Slots 0
+walks_elsewhere z v a lt I from =
+    let at = (I.held a lt).table from in
+    table_not_slots (actors_of z) z.pool (v.words area.Slots 0) (v.words area.PoolMap) (λ i. (v.hand i).topics.owned) I.stands I.pool_part (table_page (v.hand a).topics.walk) _ (I.tree.there _ _ at).0 at
+
+pub walks_unowned : (z : Sizes) (v : View) (a : ℕ) → a < actors_of z → TopicsInvariant z v → 1 ≤ (v.hand a).topics.walk.level → (i : ℕ) (o : OwnedPage) → i < actors_of z → (v.hand i).topics.owned ≡ Some o → o.page ≢ table_page (v.hand a).topics.walk
+walks_unowned z v a lt I from =
+    table_not_owned (actors_of z) z.pool (v.words area.Slots 0) (v.words area.PoolMap) (λ i. (v.hand i).topics.owned) I.stands I.pool_part (table_page (v.hand a).topics.walk) _ ((I.held a lt).table from)
+
 -- A step leaves the page of the published slot set.
+pub slots_elsewhere : (z : Sizes) (v : View) (a : ℕ) (step : PartStep) → IsPart z v a step → TopicsInvariant z v → IsElsewhere step (v.hand a).topics (v.words area.Slots 0)
+slots_elsewhere z v a (part.Fill value) S I = λ o is. owned_not_slots (actors_of z) z.pool (v.words area.Slots 0) (v.words area.PoolMap) (λ i. (v.hand i).topics.owned) I.stands I.pool_part a o S.there is
+slots_elsewhere z v a (part.Link gfn) S I = walks_elsewhere z v a S.there I S.needs.0.saw.over.there
+slots_elsewhere z v a (part.Leaf gfn) S I = walks_elsewhere z v a S.there I S.needs.0.saw.over.there
+slots_elsewhere z v a _ S I = tt
+
 pub fill_elsewhere : (z : Sizes) (v : View) (a : ℕ) (step : PartStep) (note : ℕ) → IsPart z v a step → TopicsInvariant z v → (j : ℕ) → j < 512
     → (part_stepped a step note v).words area.Pool (pool_index (v.words area.Slots 0) j) ≡ v.words area.Pool (pool_index (v.words area.Slots 0) j)
-fill_elsewhere z v a step note S I = page_stays z v a step note S (v.words area.Slots 0)
-    (λ o is. owned_not_slots (actors_of z) z.pool (v.words area.Root 0) (v.words area.Slots 0) (v.words area.PoolMap) (λ i. (v.hand i).topics.owned) I.pool_part a o S.there is)
+fill_elsewhere z v a step note S I = page_stays z v a step note S (v.words area.Slots 0) (slots_elsewhere z v a step S I)

@@ -1,11 +1,12 @@
--- What a page of the pool is, it is alone: free, owned by one actor, the root, or the published slot set.
+-- What a page of the pool is, it is alone: free, owned by one actor, a table, or the published slot set.
 use Rattle.std.proofs.Common.{◌≡◌, ◌≢◌, ◌⊎◌, inl, inr, ◌<◌, ◌≤◌, ℕ, refl, sym, ap, ◌∙◌, arith}
-use Rattle.std.specs.Prelude.{Bool, true, false, ◌==◌, Option, Some}
+use Rattle.std.specs.Prelude.{Bool, true, false, ◌==◌, Option, Some, is_some}
 use Rattle.std.proofs.lemmas.Bool.{cases_lt}
 use Rattle.std.proofs.lemmas.Bool.Decides.{nat_tests}
 use Rattle.core_views.specs.declared.topics.OwnedPage.{OwnedPage}
 use Rattle.mmu_core.specs.PoolPart.{PoolPart, is_free, is_owned, owners}
 use Rattle.mmu_core.specs.Sums.{one_if}
+use Rattle.mmu_core.specs.TreePart.{Position}
 use Rattle.mmu_core.proofs.Columns.{same_or}
 use Rattle.mmu_core.proofs.SumsBelow.{sum_ge, sum_two}
 
@@ -29,8 +30,8 @@ has_two_owners n owned i j o p lt more apart is be same =
     let second : one_if (is_owned (owned j) o.page) ≡ 1 = ap (λ k. one_if (is_owned (owned j) k)) (sym same) ∙ owned_counts (owned j) p be in
     omega (arith, sum_two n (λ l. one_if (is_owned (owned l) o.page)) i j lt more apart, owned_counts (owned i) o is, second)
 
-module _ (n pages root slots : ℕ) (map : ℕ → ℕ) (owned : ℕ → Option OwnedPage) (P : PoolPart n pages root slots map owned) where
-  -- An owned page isn't free, isn't the root and isn't the published slot set.
+module _ (n pages slots : ℕ) (map : ℕ → ℕ) (owned : ℕ → Option OwnedPage) (stands : ℕ → Option Position) (P : PoolPart n pages slots map owned stands) where
+  -- An owned page isn't free, is no table and isn't the published slot set.
   pub owned_not_free : (i : ℕ) (o : OwnedPage) → i < n → owned i ≡ Some o → is_free map o.page ≡ false
   owned_not_free i o lt is = by (is_free map o.page) (omega (arith, P.each o.page (P.there i o lt is), has_owner n owned i o lt is))
     where
@@ -38,10 +39,10 @@ module _ (n pages root slots : ℕ) (map : ℕ → ℕ) (owned : ℕ → Option 
       by true le = absurd (omega (arith, le))
       by false le = refl
 
-  pub owned_not_root : (i : ℕ) (o : OwnedPage) → i < n → owned i ≡ Some o → o.page ≢ root
-  owned_not_root i o lt is e =
-      let at : one_if (root == o.page) ≡ 1 = ap (λ k. one_if (root == k)) e ∙ itself root in
-      omega (arith, P.each o.page (P.there i o lt is), has_owner n owned i o lt is, at)
+  pub owned_no_table : (i : ℕ) (o : OwnedPage) (p : Position) → i < n → owned i ≡ Some o → stands o.page ≡ Some p → ⊥
+  owned_no_table i o p lt is at =
+      let table : one_if (is_some (stands o.page)) ≡ 1 = ap (λ (x : Option Position). one_if (is_some x)) at in
+      omega (arith, P.each o.page (P.there i o lt is), has_owner n owned i o lt is, table)
 
   pub owned_not_slots : (i : ℕ) (o : OwnedPage) → i < n → owned i ≡ Some o → o.page ≢ slots
   owned_not_slots i o lt is e =
@@ -56,11 +57,15 @@ module _ (n pages root slots : ℕ) (map : ℕ → ℕ) (owned : ℕ → Option 
       by (inl e) = e
       by (inr apart) = absurd (omega (arith, P.each o.page (P.there i o lt is), has_two_owners n owned i j o p lt more apart is be same))
 
-  -- The root isn't the published slot set.
-  pub root_not_slots : root ≢ slots
-  root_not_slots e =
-      let at : one_if (slots == root) ≡ 1 = ap (λ k. one_if (slots == k)) e ∙ itself slots in
-      omega (arith, P.each root P.root_there, itself root, at)
+  -- A table isn't free, has no owner, and isn't the published slot set.
+  pub table_not_slots : (k : ℕ) (p : Position) → k < pages → stands k ≡ Some p → k ≢ slots
+  table_not_slots k p there at e =
+      let table : one_if (is_some (stands k)) ≡ 1 = ap (λ (x : Option Position). one_if (is_some x)) at in
+      let set : one_if (slots == k) ≡ 1 = ap (λ l. one_if (slots == l)) e ∙ itself slots in
+      omega (arith, P.each k there, table, set)
+
+  pub table_not_owned : (k : ℕ) (p : Position) → stands k ≡ Some p → (i : ℕ) (o : OwnedPage) → i < n → owned i ≡ Some o → o.page ≢ k
+  table_not_owned k p at i o lt is e = owned_no_table i o p lt is (ap stands e ∙ at)
 
   -- A free page is one of the pool.
   pub free_there : (k : ℕ) → is_free map k ≡ true → k < pages

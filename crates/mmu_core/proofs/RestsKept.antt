@@ -21,6 +21,7 @@ use Rattle.core_views.specs.declared.trace.Op.{Op}
 use Rattle.core_views.specs.declared.trace.Op.TheVariants.{Read, Write, Add}
 use Rattle.core_views.specs.declared.trace.Slot.{Slot}
 use Rattle.core_views.specs.Held.{Held}
+use Rattle.core_views.specs.SlotSets.{MemorySlots}
 use Rattle.core_views.specs.Sizes.{AreSizes, actors_of}
 use Rattle.core_views.specs.Traces.{IsCommandFor}
 use Rattle.spte_words.specs.declared.area.Area.TheVariants as area
@@ -32,7 +33,7 @@ use Rattle.spte_words.proofs.ReadsEntries.{leaf_frame}
 use Rattle.spte_words.proofs.ReadsHost.{host_has_frame}
 use Rattle.mmu_core.specs.AccessSteps.{access_task, touch_of}
 use Rattle.mmu_core.specs.Invariant.{AccessHolds, Found, Holds, HostWordsPart, Invariant, SlotSetPart}
-use Rattle.mmu_core.specs.Rests.{AccessRests, InSlot, Rests, RestsAt, SetSlotRests}
+use Rattle.mmu_core.specs.Rests.{AcceptsAt, AccessRests, InSlot, RecordAccepts, Rests, RestsAt, SetSlotRests}
 use Rattle.mmu_core.specs.SetSlotSteps.{published_set, set_slot_task}
 use Rattle.mmu_core.specs.SlotWords.{field_number, may_write, page_of, slot_index}
 use Rattle.mmu_core.specs.Steps.{line_at, place_at, task_at, task_of}
@@ -41,18 +42,19 @@ use Rattle.mmu_core.specs.TopicsInvariant.{TopicsInvariant}
 use Rattle.mmu_core.proofs.Which.{has_line_is}
 use Rattle.mmu_core.specs.View.{View}
 use Rattle.mmu_core.proofs.AccessKept.{in_slot}
-use Rattle.mmu_core.proofs.SetSlotKept.{is_number, not_refused}
+use Rattle.mmu_core.proofs.SetSlotKept.{is_number}
+use Rattle.mmu_core.proofs.Accepted.{accepted, accepted_id}
 use Rattle.mmu_core.proofs.Stepping.{is_step}
 
 -- the host word of a page that the machine has
-host_at : (z : Sizes) (host : ℕ → ℕ) (p : ℕ) → AreSizes z → HostWordsPart z host → p < z.pages → host_frame (host p) < z.frames
+pub host_at : (z : Sizes) (host : ℕ → ℕ) (p : ℕ) → AreSizes z → HostWordsPart z host → p < z.pages → host_frame (host p) < z.frames
 host_at z host p sizes hosts lt = rw (hosts p lt, host_has_frame p true true 1 (omega arith)) (omega (arith, sizes.frames.0))
 
 found_rests : (z : Sizes) (slots pool : ℕ → ℕ) (s : State) (gfn : ℕ) (op : Op) → s.sizes ≡ z → SlotSetPart z slots pool → Found pool s gfn op → InSlot s gfn
 found_rests z slots pool s gfn op same part found =
     let i = in_slot z slots pool s gfn op part found in
     let pages : s.sizes.pages ≡ z.pages = ap (λ (y : Sizes). y.pages) same in
-    record { above = i.0; below = omega (arith, i.1, i.2, pages); page = omega (arith, i.1, i.2, pages) }
+    record { above = i.0; page = omega (arith, i.1, i.2, pages) }
 
 access_rests : (z : Sizes) (slots pool host : ℕ → ℕ) (p : AccessPlace) (s : State) (gfn : ℕ) (op : Op) → AreSizes z → s.sizes ≡ z → SlotSetPart z slots pool → HostWordsPart z host
     → AccessHolds pool host p s gfn op → AccessRests p s gfn
@@ -80,16 +82,20 @@ access_rests z slots pool host access.Touch s gfn op sizes same part hosts e =
     let w : ℕ = host (page_of s.look.slot gfn) in
     rw (e.1, frames, leaf_frame 1 (host_frame w) (may_write s.look.slot w) (host_allows_write w) (may_write s.look.slot w) (omega (arith, h, sizes.frames.1))) h
 
-rests_at : (z : Sizes) (v : View) (p : Place) (command : Command) (s : State) → Invariant z v → s.sizes ≡ z → Holds z (v.words area.Pool) (v.words area.Host) p command s → RestsAt p command s
-rests_at z v place.Between command s I same e = tt
-rests_at z v (place.Access p) (Access gfn word op) s I same e = access_rests z (v.words area.Slots) (v.words area.Pool) (v.words area.Host) p s gfn op I.sizes same I.set I.hosts e
-rests_at z v (place.Access p) (SetSlot id slot) s I same e = absurd e
-rests_at z v (place.SetSlot p) (Access gfn word op) s I same e = absurd e
-rests_at z v (place.SetSlot (Refuse refusal)) (SetSlot id slot) s I same e = tt
-rests_at z v (place.SetSlot (Fill field.Base)) (SetSlot id slot) s I same e = (not_refused z.pages id slot e).0
-rests_at z v (place.SetSlot (Fill field.Pages)) (SetSlot id slot) s I same e = (not_refused z.pages id slot e.0).0
-rests_at z v (place.SetSlot (Fill field.Host)) (SetSlot id slot) s I same e = (not_refused z.pages id slot e.0).0
-rests_at z v (place.SetSlot (Fill field.Flags)) (SetSlot id slot) s I same e = (not_refused z.pages id slot e.0).0
+rests_at : (z : Sizes) (v : View) (p : Place) (command : Command) (slots : MemorySlots) (s : State) → Invariant z v → s.sizes ≡ z → Holds z (v.words area.Pool) (v.words area.Host) p command slots s → RestsAt p command s
+rests_at z v place.Between command slots s I same e = tt
+rests_at z v (place.Access p) (Access gfn word op) slots s I same e = access_rests z (v.words area.Slots) (v.words area.Pool) (v.words area.Host) p s gfn op I.sizes same I.set I.hosts e
+rests_at z v (place.Access p) (SetSlot id slot) slots s I same e = absurd e
+rests_at z v (place.SetSlot p) (Access gfn word op) slots s I same e = absurd e
+rests_at z v (place.SetSlot (Refuse refusal)) (SetSlot id slot) slots s I same e = tt
+rests_at z v (place.SetSlot (Fill f)) (SetSlot id slot) slots s I same e = accepted_id z.pages id slot slots (accepted z (v.words area.Pool) (v.words area.Host) f id slot slots s e)
+
+accepts_at : (z : Sizes) (v : View) (p : Place) (command : Command) (slots : MemorySlots) (s : State) → Holds z (v.words area.Pool) (v.words area.Host) p command slots s → AcceptsAt p command z slots
+accepts_at z v place.Between command slots s e = tt
+accepts_at z v (place.Access p) command slots s e = tt
+accepts_at z v (place.SetSlot p) (Access gfn word op) slots s e = tt
+accepts_at z v (place.SetSlot (Refuse refusal)) (SetSlot id slot) slots s e = tt
+accepts_at z v (place.SetSlot (Fill f)) (SetSlot id slot) slots s e = accepted z (v.words area.Pool) (v.words area.Host) f id slot slots s e
 
 pub hand_rests : (z : Sizes) (v : View) (a : ℕ) → Invariant z v → TopicsInvariant z v → a < actors_of z → length (v.hand a).answers < length (v.hand a).lines → Rests (v.hand a)
 hand_rests z v a I P there left =
@@ -98,7 +104,9 @@ hand_rests z v a I P there left =
     record {
       sizes = subst AreSizes (sym same) I.sizes;
       line = subst (λ y. IsCommandFor y (line_at (v.hand a).state.place (v.hand a)).actor (line_at (v.hand a).state.place (v.hand a)).command) (sym same) S.allowed;
-      at = rests_at z v (place_at (v.hand a).state.place (v.hand a)) (line_at (v.hand a).state.place (v.hand a)).command (v.hand a).state I same S.holds;
+      at = rests_at z v (place_at (v.hand a).state.place (v.hand a)) (line_at (v.hand a).state.place (v.hand a)).command (v.hand a).slots (v.hand a).state I same S.holds;
+      accepts = subst (λ y. AcceptsAt (place_at (v.hand a).state.place (v.hand a)) (line_at (v.hand a).state.place (v.hand a)).command y (v.hand a).slots) (sym same)
+          (accepts_at z v (place_at (v.hand a).state.place (v.hand a)) (line_at (v.hand a).state.place (v.hand a)).command (v.hand a).slots (v.hand a).state S.holds);
       topics = P.resting a there (has_line_is (v.hand a) left);
     }
 
@@ -122,6 +130,16 @@ rests_at_prop (place.Access p) (SetSlot id slot) s = hlevel props
 rests_at_prop (place.SetSlot p) (Access gfn word op) s = hlevel props
 rests_at_prop (place.SetSlot p) (SetSlot id slot) s = set_slot_prop p id
 
+accepts_prop : (p : SetSlotPlace) (total id : ℕ) (slot : Slot) (slots : MemorySlots) → IsProp (RecordAccepts p total id slot slots)
+accepts_prop (Refuse refusal) total id slot slots = hlevel props
+accepts_prop (Fill f) total id slot slots = hlevel props
+
+accepts_at_prop : (p : Place) (command : Command) (z : Sizes) (slots : MemorySlots) → IsProp (AcceptsAt p command z slots)
+accepts_at_prop place.Between command z slots = hlevel props
+accepts_at_prop (place.Access p) command z slots = hlevel props
+accepts_at_prop (place.SetSlot p) (Access gfn word op) z slots = hlevel props
+accepts_at_prop (place.SetSlot p) (SetSlot id slot) z slots = accepts_prop p z.pages id slot slots
+
 command_prop : (z : Sizes) (actor : Actor) (command : Command) → IsProp (IsCommandFor z actor command)
 command_prop z (Vcpu n) (Access gfn word op) = hlevel props
 command_prop z (Vcpu n) (SetSlot id slot) = hlevel props
@@ -133,7 +151,7 @@ command_prop z (Worker n) (Access gfn word op) = hlevel props
 command_prop z (Worker n) (SetSlot id slot) = hlevel props
 
 pub rests_prop : (h : Held) → IsProp (Rests h)
-rests_prop h = hlevel (props, rests_at_prop, command_prop)
+rests_prop h = hlevel (props, rests_at_prop, accepts_at_prop, command_prop)
 
 -- The word of the next step is one of its area.
 touch_within : (z : Sizes) (op : Op) (frame word : ℕ) → frame < z.frames → word < z.words → (touch_of op (content_index (map_of z) frame word)).index < size_of (map_of z) (touch_of op (content_index (map_of z) frame word)).area
@@ -153,9 +171,9 @@ command_word z (Worker n) gfn word op e = absurd e
 access_within : (p : AccessPlace) (s : State) (gfn word : ℕ) (op : Op) → word < s.sizes.words → AccessRests p s gfn → (access_task p s gfn word op).index < size_of (map_of s.sizes) (access_task p s gfn word op).area
 access_within access.Slots s gfn word op w e = omega arith
 access_within (access.Slot id f) s gfn word op w e = slot_within s.sizes s.look.set id f e.1 e.0
-access_within access.Walk s gfn word op w e = e.below
+access_within access.Walk s gfn word op w e = e.page
 access_within access.Host s gfn word op w e = e.page
-access_within access.Install s gfn word op w e = e.0.below
+access_within access.Install s gfn word op w e = e.0.page
 access_within access.Touch s gfn word op w e = touch_within s.sizes op (frame_in s.spte) word e w
 
 set_slot_within : (z : Sizes) (p : SetSlotPlace) (id : ℕ) (slot : Slot) → AreSizes z → SetSlotRests p id → (set_slot_task p id slot).index < size_of (map_of z) (set_slot_task p id slot).area

@@ -52,6 +52,8 @@ saw_behind part.RangeStart t v saw = saw
 saw_behind part.RangeEnd t v saw = saw
 saw_behind part.Root t v saw = saw
 saw_behind (part.Walk gfn) t v saw = saw
+saw_behind (part.Link gfn) t v saw = saw
+saw_behind (part.Leaf gfn) t v saw = saw
 saw_behind (part.Host page) t v saw = saw
 saw_behind (part.Watch index) t v saw = saw
 

@@ -219,7 +219,7 @@ module _ (z : Sizes) (actor : ℕ) where
       same = (G.holds.lines s.actor there).sizes
 
       words : 0 < words_of_bits z.pool
-      words = let root = G.topics.pool_part.root_there in omega (arith, root)
+      words = let slots = G.topics.pool_part.slots_there in omega (arith, slots)
 
       at_is : at_in actor (effect mmu u s) ≡ (if v == 0 then 1 else 0)
       at_is =

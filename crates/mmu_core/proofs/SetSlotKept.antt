@@ -1,13 +1,9 @@
 -- The steps of a slot setting keep the invariant.
-use Rattle.std.proofs.Common.{◌≡◌, ◌≢◌, ◌⊎◌, inl, inr, ◌<◌, ◌≤◌, ◌+◌, ◌*◌, ◌^◌, ℕ, zero, suc, List, [], ◌∷◌, length, take, refl, sym, subst, ap, ◌∙◌, arith}
-use Rattle.std.proofs.lemmas.Bool.Decides.{nat_tests}
-use Rattle.std.specs.Prelude.{Bool, true, false, ◌||◌, nat_lt, if◌then◌else◌, Some, None, slice_get, unwrap_or}
+use Rattle.std.proofs.Common.{◌≡◌, ◌≢◌, ◌⊎◌, inl, inr, ◌<◌, ◌≤◌, ◌+◌, ◌*◌, ℕ, List, [], ◌∷◌, ◌++◌, length, take, refl, sym, subst, ap, ◌∙◌, arith}
+use Rattle.std.specs.Prelude.{Bool, true, false}
 use Rattle.core_views.specs.declared.actor.Actor.TheVariants.{Manager}
 use Rattle.core_views.specs.declared.answer.Answer.TheVariants.{Done}
-use Rattle.core_views.specs.declared.answer.Refusal.TheVariants.{BadId, TooLarge}
 use Rattle.core_views.specs.declared.hand.State.{State}
-use Rattle.core_views.specs.declared.place.AccessPlace.{AccessPlace}
-use Rattle.core_views.specs.declared.place.AccessPlace.TheVariants as access
 use Rattle.core_views.specs.declared.place.Place.{Place}
 use Rattle.core_views.specs.declared.place.Place.TheVariants as place
 use Rattle.core_views.specs.declared.place.SetSlotPlace.{SetSlotPlace}
@@ -18,35 +14,42 @@ use Rattle.core_views.specs.declared.sizes.Sizes.{Sizes}
 use Rattle.core_views.specs.declared.trace.Command.{Command}
 use Rattle.core_views.specs.declared.trace.Command.TheVariants.{Access, SetSlot}
 use Rattle.core_views.specs.declared.trace.Line.{Line}
-use Rattle.core_views.specs.declared.trace.Op.{Op}
 use Rattle.core_views.specs.declared.trace.Slot.{Slot}
-use Rattle.core_views.specs.Flat.{no_line}
 use Rattle.core_views.specs.declared.topics.Topics.{Topics}
 use Rattle.core_views.specs.Held.{Held}
 use Rattle.core_views.specs.Sizes.{actors_of, index_of}
-use Rattle.core_views.specs.Slots.{slot_refusal}
-use Rattle.core_views.specs.Traces.{IsCommandFor, sets_slot, settings}
+use Rattle.core_views.specs.Traces.{IsCommandFor, slot_ids}
 use Rattle.spte_words.specs.declared.area.Area.TheVariants as area
-use Rattle.spte_words.specs.Entries.{absent_word}
 use Rattle.spte_words.specs.Flags.{flags_live, flags_read_only, flags_word}
 use Rattle.spte_words.proofs.Indices.{same_pool_word}
-use Rattle.spte_words.proofs.ReadsFlags.{flags_are_read_only}
+use Rattle.spte_words.proofs.ReadsFlags.{flags_are_live, flags_are_read_only}
 use Rattle.mmu_core.specs.declared.outcome.Outcome.{Outcome}
-use Rattle.mmu_core.specs.Invariant.{AccessHolds, Holds, Invariant, InvariantOf, IsLeaf, OwnLines, SlotSetPart, UnderWay, UnsetPart}
-use Rattle.mmu_core.specs.SetSlotSteps.{published_set, set_slot_loads, set_slot_outcome}
-use Rattle.mmu_core.specs.SlotWords.{field_number, live_at, slot_at, slot_index}
+use Rattle.mmu_core.specs.Invariant.{Holds, Invariant, InvariantOf, OwnLines, RecordPart, SlotSetPart, UnderWay}
+use Rattle.mmu_core.specs.SetSlotSteps.{published_set, set_slot_outcome}
+use Rattle.mmu_core.specs.SlotWords.{field_number, live_at, slot_at, slot_index, slots_below}
 use Rattle.mmu_core.specs.Steps.{next_line}
-use Rattle.mmu_core.specs.Tasks.{answers_after, place_after}
+use Rattle.mmu_core.specs.Tasks.{place_after}
 use Rattle.mmu_core.specs.View.{View, hand_after, stepped, upd}
 use Rattle.mmu_core.proofs.AccessKept.{quiet, same_slot}
 use Rattle.mmu_core.proofs.Columns.{at_upd, same_or, upd_other, upd_same}
-use Rattle.mmu_core.proofs.LinesKept.{answers_length, behind, counted_kept, lines_behind}
+use Rattle.mmu_core.proofs.LinesKept.{answered_kept, answers_length, behind, line_sets, lines_behind, set_by_with, set_here}
 use Rattle.mmu_core.proofs.Stepping.{IsStep, next_has}
-use Rattle.mmu_core.proofs.Unset.{no_slot_live, setting_is_managers}
-
--- No slot is live.
-abbrev NoneLive : (ℕ → ℕ) → Type 0
-NoneLive pool = (j : ℕ) → j ≤ 31 → live_at pool published_set j ≡ false
+use Rattle.mmu_core.proofs.Accepted.{MayBeSet, may_be_set, record_of, setting_is_managers}
+use Rattle.mmu_core.proofs.SlotLists.{one_more_live, same_below}
+use Rattle.mmu_core.proofs.LiveStay.{StayLive, access_stays, leaves_stay, set_stays}
+use Rattle.mmu_core.specs.SlotSetPart.{Fits}
+use Rattle.core_views.specs.declared.answer.AnsweredLine.{AnsweredLine}
+use Rattle.core_views.specs.declared.slot_set.MemorySlot.{MemorySlot}
+use Rattle.core_views.specs.Refusals.{after_set, is_logged}
+use Rattle.core_views.specs.SlotSets.{MemorySlots}
+use Rattle.core_views.specs.Slots.{contains, has_host_page, with_slot}
+use Rattle.core_views.proofs.FlatSlots.{flat_with}
+use Rattle.core_views.proofs.Unlogged.{unlogged_behind}
+use Rattle.std.proofs.lemmas.Map.Views.{All-keys-insert_entry}
+use Rattle.std.specs.List.{Contains}
+use Rattle.std.specs.Map.{keys_of}
+use Rattle.std.specs.Ordering.{nat_cmp}
+use Rattle.mmu_core.specs.declared.outcome.Outcome.TheVariants.{Ends}
 
 pub is_number : (f : SlotField) → field_number f ≤ 3
 is_number field.Base = omega arith
@@ -73,138 +76,173 @@ setting_hand z i h p id slot O is command =
 one_manager : (z : Sizes) (i a : ℕ) (h g : Held) → OwnLines z i h → OwnLines z a g → h.state.actor ≡ Manager → g.state.actor ≡ Manager → i ≡ a
 one_manager z i a h g O P is be = sym O.index ∙ (ap (index_of z) (is ∙ sym be) ∙ P.index)
 
--- While no slot is live, what another hand has loaded speaks of no pool word.
-access_other : (pool other host : ℕ → ℕ) (p : AccessPlace) (s : State) (gfn : ℕ) (op : Op) → NoneLive pool → AccessHolds pool host p s gfn op → AccessHolds other host p s gfn op
-access_other pool other host access.Slots s gfn op none e = tt
-access_other pool other host (access.Slot id field.Flags) s gfn op none e = e
-access_other pool other host (access.Slot id field.Base) s gfn op none e = let p = none id e.0 in let q = e.2 in absurd (cc (p, q))
-access_other pool other host (access.Slot id field.Pages) s gfn op none e = let p = none id e.0 in let q = e.2 in absurd (cc (p, q))
-access_other pool other host (access.Slot id field.Host) s gfn op none e = let p = none id e.0 in let q = e.2 in absurd (cc (p, q))
-access_other pool other host access.Walk s gfn op none e = let p = none e.id e.is_live.low in let q = e.is_live.live in absurd (cc (p, q))
-access_other pool other host access.Host s gfn op none e = let p = none e.id e.is_live.low in let q = e.is_live.live in absurd (cc (p, q))
-access_other pool other host access.Install s gfn op none e = let p = none e.0.id e.0.is_live.low in let q = e.0.is_live.live in absurd (cc (p, q))
-access_other pool other host access.Touch s gfn op none e = let p = none e.0.id e.0.is_live.low in let q = e.0.is_live.live in absurd (cc (p, q))
+-- A slot's word is stored: those of slots with other IDs stay.
+pub other_word : (pool : ℕ → ℕ) (id x : ℕ) (f : SlotField) (j : ℕ) (g : SlotField) → id ≤ 31 → j ≤ 31 → j ≢ id → upd pool (slot_index published_set id f) x (slot_index published_set j g) ≡ pool (slot_index published_set j g)
+other_word pool id x f j g low below apart = upd_other pool (slot_index published_set id f) (slot_index published_set j g) x (λ e. apart (same_field j id g f below low e).0)
 
--- What another hand holds, while no slot is live and it is no setting's.
-holds_other : (z : Sizes) (pool other host : ℕ → ℕ) (p : Place) (c : Command) (s : State) → NoneLive pool → ((q : SetSlotPlace) (id : ℕ) (slot : Slot) → p ≡ place.SetSlot q → c ≡ SetSlot id slot → ⊥)
-    → Holds z pool host p c s → Holds z other host p c s
-holds_other z pool other host place.Between c s none apart e = tt
-holds_other z pool other host (place.Access p) (Access gfn word op) s none apart e = access_other pool other host p s gfn op none e
-holds_other z pool other host (place.Access p) (SetSlot id slot) s none apart e = absurd e
-holds_other z pool other host (place.SetSlot p) (Access gfn word op) s none apart e = absurd e
-holds_other z pool other host (place.SetSlot p) (SetSlot id slot) s none apart e = absurd (apart p id slot refl refl)
+other_slot : (pool : ℕ → ℕ) (id x : ℕ) (f : SlotField) (j : ℕ) → id ≤ 31 → j ≤ 31 → j ≢ id → slot_at (upd pool (slot_index published_set id f) x) published_set j ≡ slot_at pool published_set j
+other_slot pool id x f j low below apart =
+    same_slot (slot_at (upd pool (slot_index published_set id f) x) published_set j) (slot_at pool published_set j)
+    (other_word pool id x f j field.Base low below apart) (other_word pool id x f j field.Pages low below apart) (other_word pool id x f j field.Host low below apart)
+    (ap flags_read_only (other_word pool id x f j field.Flags low below apart))
 
--- A word of the pool is stored by the manager, while no slot is live.
-stored : (z : Sizes) (v : View) (a : ℕ) (other : ℕ → ℕ) (h : Held) → a < actors_of z → NoneLive (v.words area.Pool) → Invariant z v → (v.hand a).state.actor ≡ Manager
-    → SlotSetPart z (v.words area.Slots) other → OwnLines z a h → Holds z other (v.words area.Host) h.state.place h.state.line.command h.state → UnsetPart other h.state
+-- A live slot has another ID than one that isn't live.
+pub not_it : (pool : ℕ → ℕ) (id j : ℕ) → live_at pool published_set id ≡ false → live_at pool published_set j ≡ true → j ≢ id
+not_it pool id j not_live live same = let is : live_at pool published_set j ≡ live_at pool published_set id = ap (live_at pool published_set) same in absurd (cc (is, not_live, live))
+
+-- Any word of a slot that isn't live is stored: each live slot stays.
+pub still_live : (pool : ℕ → ℕ) (id x : ℕ) (f : SlotField) → id ≤ 31 → live_at pool published_set id ≡ false → StayLive pool (upd pool (slot_index published_set id f) x)
+still_live pool id x f low not_live e l =
+    let apart = not_it pool id e.0 not_live l.live in
+    record {
+      low = l.low;
+      live = ap flags_live (other_word pool id x f e.0 field.Flags low l.low apart) ∙ l.live;
+      is = other_slot pool id x f e.0 low l.low apart ∙ l.is;
+    }
+
+-- A word that isn't the flags is stored: which slots are live stays.
+pub live_same : (pool : ℕ → ℕ) (id j x : ℕ) (f : SlotField) → id ≤ 31 → j ≤ 31 → field_number f < 3 → live_at (upd pool (slot_index published_set id f) x) published_set j ≡ live_at pool published_set j
+live_same pool id j x f low below not_flags = ap flags_live (upd_other pool (slot_index published_set id f) (slot_index published_set j field.Flags) x (λ e. let s = same_field j id field.Flags f below low e in omega (arith, s.1, not_flags)))
+
+was_live : (pool : ℕ → ℕ) (id x : ℕ) (f : SlotField) → id ≤ 31 → field_number f < 3 → live_at pool published_set id ≡ false → StayLive (upd pool (slot_index published_set id f) x) pool
+was_live pool id x f low not_flags not_live e l =
+    let live = sym (live_same pool id e.0 x f low l.low not_flags) ∙ l.live in
+    record { low = l.low; live = live; is = sym (other_slot pool id x f e.0 low l.low (not_it pool id e.0 not_live live)) ∙ l.is }
+
+-- What another hand holds, where live slots stay and it is no setting's.
+holds_other : (z : Sizes) (pool other host : ℕ → ℕ) (p : Place) (c : Command) (slots : MemorySlots) (s : State) → StayLive pool other → ((q : SetSlotPlace) (id : ℕ) (slot : Slot) → p ≡ place.SetSlot q → c ≡ SetSlot id slot → ⊥)
+    → Holds z pool host p c slots s → Holds z other host p c slots s
+holds_other z pool other host place.Between c slots s stay apart e = tt
+holds_other z pool other host (place.Access p) (Access gfn word op) slots s stay apart e = access_stays pool other stay host p s gfn op e
+holds_other z pool other host (place.Access p) (SetSlot id slot) slots s stay apart e = absurd e
+holds_other z pool other host (place.SetSlot p) (Access gfn word op) slots s stay apart e = absurd e
+holds_other z pool other host (place.SetSlot p) (SetSlot id slot) slots s stay apart e = absurd (apart p id slot refl refl)
+
+-- A word of the pool is stored by the manager, where live slots stay.
+stored : (z : Sizes) (v : View) (a : ℕ) (other : ℕ → ℕ) (h : Held) → a < actors_of z → StayLive (v.words area.Pool) other → Invariant z v → (v.hand a).state.actor ≡ Manager
+    → SlotSetPart z (v.words area.Slots) other → OwnLines z a h → Holds z other (v.words area.Host) h.state.place h.state.line.command h.slots h.state → RecordPart other h.slots
     → InvariantOf z (v.words area.Slots) other (v.words area.Host) (v.words area.Linear) (upd v.hand a h)
-stored z v a other h there none I manager set own holds unset = record {
+stored z v a other h there stay I manager set own holds recorded = record {
   sizes = I.sizes;
   hosts = I.hosts;
   set = set;
-  leaves = λ i lt. absent i (I.leaves i lt);
+  leaves = leaves_stay (v.words area.Pool) other stay z (v.words area.Host) (v.words area.Linear) I.leaves;
   lines = at_upd (λ i x. i < actors_of z → OwnLines z i x) v.hand a h (λ lt. own) (λ i ne. I.lines i);
-  loads = at_upd (λ i x. i < actors_of z → Holds z other (v.words area.Host) x.state.place x.state.line.command x.state) v.hand a h (λ lt. holds)
-      (λ i ne lt. holds_other z (v.words area.Pool) other (v.words area.Host) (v.hand i).state.place (v.hand i).state.line.command (v.hand i).state none
+  loads = at_upd (λ i x. i < actors_of z → Holds z other (v.words area.Host) x.state.place x.state.line.command x.slots x.state) v.hand a h (λ lt. holds)
+      (λ i ne lt. holds_other z (v.words area.Pool) other (v.words area.Host) (v.hand i).state.place (v.hand i).state.line.command (v.hand i).slots (v.hand i).state stay
       (λ q id slot is command. ne (one_manager z i a (v.hand i) (v.hand a) (I.lines i lt) (I.lines a there) (setting_hand z i (v.hand i) q id slot (I.lines i lt) is command) manager)) (I.loads i lt));
-  unset = at_upd (λ i x. i < actors_of z → UnsetPart other x.state) v.hand a h (λ lt. unset)
+  recorded = at_upd (λ i (x : Held). i < actors_of z → x.state.actor ≡ Manager → RecordPart other x.slots) v.hand a h (λ lt is. recorded)
       (λ i ne lt is. absurd (ne (one_manager z i a (v.hand i) (v.hand a) (I.lines i lt) (I.lines a there) is manager)));
 }
-  where
-    absent : (i : ℕ) → (v.words area.Linear i ≡ absent_word) ⊎ IsLeaf (v.words area.Pool) (v.words area.Host) i (v.words area.Linear i) → (v.words area.Linear i ≡ absent_word) ⊎ IsLeaf other (v.words area.Host) i (v.words area.Linear i)
-    absent i (inl e) = inl e
-    absent i (inr leaf) = let p = none leaf.id leaf.is_live.low in let q = leaf.is_live.live in absurd (cc (p, q))
 
--- A field that isn't the flags is stored: the slots that are live stay so.
-live_same : (pool : ℕ → ℕ) (id j x : ℕ) (f : SlotField) → id ≤ 31 → j ≤ 31 → field_number f < 3 → live_at (upd pool (slot_index published_set id f) x) published_set j ≡ live_at pool published_set j
-live_same pool id j x f low below not_flags = ap flags_live (upd_other pool (slot_index published_set id f) (slot_index published_set j field.Flags) x (λ e. let s = same_field j id field.Flags f below low e in omega (arith, s.1, not_flags)))
+-- A word that isn't the flags is stored: the list of live slots stays.
+pub filled_below : (pool : ℕ → ℕ) (id x : ℕ) (f : SlotField) → id ≤ 31 → field_number f < 3 → live_at pool published_set id ≡ false → slots_below pool published_set 32 ≡ slots_below (upd pool (slot_index published_set id f) x) published_set 32
+filled_below pool id x f low not_flags not_live =
+    same_below pool (upd pool (slot_index published_set id f) x) published_set 32 (λ i lt. sym (live_same pool id i x f low (omega arith) not_flags))
+    (λ i lt live. sym (other_slot pool id x f i low (omega arith) (not_it pool id i not_live live)))
 
-none_live : (pool : ℕ → ℕ) (id x : ℕ) (f : SlotField) → id ≤ 31 → field_number f < 3 → NoneLive pool → NoneLive (upd pool (slot_index published_set id f) x)
-none_live pool id x f low not_flags none j below = live_same pool id j x f low below not_flags ∙ none j below
-
--- A set without a live slot.
-empty_set : (z : Sizes) (slots pool other : ℕ → ℕ) → NoneLive other → SlotSetPart z slots pool → SlotSetPart z slots other
-empty_set z slots pool other none part = record {
-  published = part.published;
-  fits = λ id low live. absurd (let p = none id low in cc (p, live));
-  one = λ i j low below live more. absurd (let p = none i low in cc (p, live));
-}
-
--- The stores before the flags: no slot is live behind them.
-filled : (z : Sizes) (v : View) (a : ℕ) (line : Line) (id : ℕ) (slot : Slot) (f : SlotField) (x : ℕ) (o : Outcome) (t : Topics) → IsStep z v a line (SetSlot id slot) (place.SetSlot (Fill f)) → Invariant z v → id ≤ 31 → field_number f < 3
-    → Holds z (upd (v.words area.Pool) (slot_index published_set id f) x) (v.words area.Host) (place_after o) (SetSlot id slot) (behind (v.hand a) line (v.hand a).state o t).state
-    → InvariantOf z (v.words area.Slots) (upd (v.words area.Pool) (slot_index published_set id f) x) (v.words area.Host) (v.words area.Linear) (upd v.hand a (behind (v.hand a) line (v.hand a).state o t))
-filled z v a line id slot f x o t S I low not_flags holds =
+-- The stores before the flags: no other slot is live behind them.
+filled : (z : Sizes) (v : View) (a : ℕ) (line : Line) (id : ℕ) (slot : Slot) (f : SlotField) (x : ℕ) (o : Outcome) (t : Topics) → IsStep z v a line (SetSlot id slot) (place.SetSlot (Fill f)) → Invariant z v → field_number f < 3
+    → Holds z (upd (v.words area.Pool) (slot_index published_set id f) x) (v.words area.Host) (place_after o) (SetSlot id slot) (v.hand a).slots (behind (v.hand a) line (v.hand a).state o t (v.hand a).slots).state
+    → InvariantOf z (v.words area.Slots) (upd (v.words area.Pool) (slot_index published_set id f) x) (v.words area.Host) (v.words area.Linear) (upd v.hand a (behind (v.hand a) line (v.hand a).state o t (v.hand a).slots))
+filled z v a line id slot f x o t S I not_flags holds =
     let h : Held = v.hand a in
     let O = I.lines a S.there in
-    let other : ℕ → ℕ = upd (v.words area.Pool) (slot_index published_set id f) x in
-    let none = no_slot_live z v a line id slot f S I in
-    let after_ = none_live (v.words area.Pool) id x f low not_flags none in
-    stored z v a other (behind h line h.state o t) S.there none I (sym S.own ∙ setting_is_managers z line.actor id slot S.allowed)
-    (empty_set z (v.words area.Slots) (v.words area.Pool) other after_ I.set)
-    (lines_behind z a h line h.state o t O S.next S.left O.sizes refl (λ e. counted_kept o line h.lines h.answers (O.counted e)))
-    (subst (λ c. Holds z other (v.words area.Host) (place_after o) c (behind h line h.state o t).state) (sym S.command_is) holds)
-    (λ is unset j below. after_ j below)
+    let pool : ℕ → ℕ = v.words area.Pool in
+    let other : ℕ → ℕ = upd pool (slot_index published_set id f) x in
+    let may = may_be_set z v a line id slot f S I in
+    let R = record_of z v a line id slot (Fill f) S I in
+    stored z v a other (behind h line h.state o t h.slots) S.there (still_live pool id x f may.low may.not_live) I (sym S.own ∙ setting_is_managers z line.actor id slot S.allowed)
+    (set_stays z (v.words area.Slots) pool other (was_live pool id x f may.low not_flags may.not_live) I.set)
+    (lines_behind z a h line h.state o t h.slots O S.next S.left O.sizes refl (answered_kept o line h.lines h.answers (keys_of h.slots) S.left O.answered) O.set)
+    (subst (λ c. Holds z other (v.words area.Host) (place_after o) c h.slots (behind h line h.state o t h.slots).state) (sym S.command_is) holds)
+    (record { same = R.same ∙ filled_below pool id x f may.low not_flags may.not_live; unlogged = R.unlogged })
 
-pub not_refused : (pages id : ℕ) (slot : Slot) → slot_refusal pages id slot ≡ None → (id ≤ 31) × (slot.host + slot.pages ≤ pages)
-not_refused pages id slot = by (nat_lt 31 id) (nat_lt (2 ^ 36) (slot.base + slot.pages)) (nat_lt pages (slot.host + slot.pages)) (λ e. grind (arith, nat_tests, e)) (λ e. grind (arith, nat_tests, e))
-  where
-    by : (high past over : Bool) → (high ≡ false → id ≤ 31) → (over ≡ false → slot.host + slot.pages ≤ pages) → (if high then Some BadId else if past || over then Some TooLarge else None) ≡ None → (id ≤ 31) × (slot.host + slot.pages ≤ pages)
-    by true past over low fits e = absurd (cc e)
-    by false true over low fits e = absurd (cc e)
-    by false false true low fits e = absurd (cc e)
-    by false false false low fits e = (low refl, fits refl)
+-- The flags of a slot that may be set are stored, behind its other words: it is live, and this one.
+module _ (z : Sizes) (pool : ℕ → ℕ) (id : ℕ) (slot : Slot) (may : MayBeSet z pool id slot) (base : pool (slot_index published_set id field.Base) ≡ slot.base)
+    (pages : pool (slot_index published_set id field.Pages) ≡ slot.pages) (host : pool (slot_index published_set id field.Host) ≡ slot.host) where
+  abbrev flags_in : ℕ → ℕ
+  flags_in = upd pool (slot_index published_set id field.Flags) (flags_word true slot.read_only false)
 
--- A line that sets a slot is counted behind it.
-counted_here : (n : ℕ) (lines : List Line) → n < length lines → sets_slot (unwrap_or (slice_get lines n) no_line).command ≡ true → 1 ≤ settings (take (suc n) lines)
-counted_here n [] lt sets = absurd (omega arith)
-counted_here zero (line ∷ lines) lt sets = rw sets (omega arith)
-counted_here (suc n) (line ∷ lines) lt sets = let more = counted_here n lines (omega arith) sets in omega (arith, more)
+  flags_are : flags_in (slot_index published_set id field.Flags) ≡ flags_word true slot.read_only false
+  flags_are = upd_same pool (slot_index published_set id field.Flags) (flags_word true slot.read_only false)
 
--- The flags are stored: the slot is live, and no other.
-flags_stored : (z : Sizes) (v : View) (a : ℕ) (line : Line) (id : ℕ) (slot : Slot) (s : State) (o : Outcome) (t : Topics) → IsStep z v a line (SetSlot id slot) (place.SetSlot (Fill field.Flags)) → Invariant z v
-    → s.sizes ≡ (v.hand a).state.sizes → s.actor ≡ (v.hand a).state.actor → s.has_set_slot ≡ true
-    → (1 ≤ settings (take (length (answers_after o line (v.hand a).answers)) (v.hand a).lines)) → Holds z (v.words area.Pool) (v.words area.Host) (place_after o) (SetSlot id slot) s → place_after o ≡ place.Between
-    → InvariantOf z (v.words area.Slots) (upd (v.words area.Pool) (slot_index published_set id field.Flags) (flags_word true slot.read_only false)) (v.words area.Host) (v.words area.Linear) (upd v.hand a (behind (v.hand a) line s o t))
-flags_stored z v a line id slot s o t S I sizes actor set counted holds between =
+  field_stays : (f : SlotField) → field_number f < 3 → flags_in (slot_index published_set id f) ≡ pool (slot_index published_set id f)
+  field_stays f lt = upd_other pool (slot_index published_set id field.Flags) (slot_index published_set id f) _ (λ e. let t = same_field id id f field.Flags may.low may.low e in omega (arith, t.1, lt))
+
+  pub now_live : live_at flags_in published_set id ≡ true
+  now_live = ap flags_live flags_are ∙ flags_are_live true slot.read_only false
+
+  pub now_slot : slot_at flags_in published_set id ≡ slot
+  now_slot = same_slot (slot_at flags_in published_set id) slot (field_stays field.Base (omega arith) ∙ base) (field_stays field.Pages (omega arith) ∙ pages) (field_stays field.Host (omega arith) ∙ host)
+      (ap flags_read_only flags_are ∙ flags_are_read_only true slot.read_only false)
+
+  -- the slots that are live then: this one, and those that were
+  pub others_same : (j : ℕ) → j ≤ 31 → j ≢ id → live_at flags_in published_set j ≡ live_at pool published_set j
+  others_same j below apart = ap flags_live (other_word pool id (flags_word true slot.read_only false) field.Flags j field.Flags may.low below apart)
+
+  pub others_are : (j : ℕ) → j ≤ 31 → j ≢ id → slot_at flags_in published_set j ≡ slot_at pool published_set j
+  others_are j below apart = other_slot pool id (flags_word true slot.read_only false) field.Flags j may.low below apart
+
+  pub now_below : slots_below flags_in published_set 32 ≡ with_slot id slot (slots_below pool published_set 32)
+  now_below =
+      one_more_live pool flags_in published_set id 32 (omega (arith, may.low)) may.not_live now_live (λ i lt apart. others_same i (omega arith) apart) (λ i lt apart live. others_are i (omega arith) apart)
+      ∙ ap (λ s. with_slot id s (slots_below pool published_set 32)) now_slot
+
+  one_fits : (j : ℕ) → j ≤ 31 → live_at flags_in published_set j ≡ true → ((i : ℕ) → i ≤ 31 → live_at pool published_set i ≡ true → Fits z (slot_at pool published_set i)) → Fits z (slot_at flags_in published_set j)
+  one_fits j below live each = by (same_or j id)
+    where
+      by : (j ≡ id) ⊎ (j ≢ id) → Fits z (slot_at flags_in published_set j)
+      by (inl e) = subst (Fits z) (sym (ap (slot_at flags_in published_set) e ∙ now_slot)) may.fits
+      by (inr ne) = subst (Fits z) (sym (others_are j below ne)) (each j below (sym (others_same j below ne) ∙ live))
+
+  -- what has two live slots with different IDs, has the new one and one that was live, or two that were
+  apart_still : (test : Slot → Bool) (i j : ℕ) → i ≤ 31 → j ≤ 31 → live_at flags_in published_set i ≡ true → live_at flags_in published_set j ≡ true
+      → ((k : ℕ) → k ≤ 31 → live_at pool published_set k ≡ true → test (slot_at pool published_set k) ≡ true → test slot ≡ true → ⊥)
+      → (live_at pool published_set i ≡ true → live_at pool published_set j ≡ true → test (slot_at pool published_set i) ≡ true → test (slot_at pool published_set j) ≡ true → i ≡ j)
+      → test (slot_at flags_in published_set i) ≡ true → test (slot_at flags_in published_set j) ≡ true → i ≡ j
+  apart_still test i j low below live more new_ old holds too = by (same_or i id) (same_or j id)
+    where
+      by : (i ≡ id) ⊎ (i ≢ id) → (j ≡ id) ⊎ (j ≢ id) → i ≡ j
+      by (inl e) (inl f) = e ∙ sym f
+      by (inl e) (inr ne) = absurd (new_ j below (sym (others_same j below ne) ∙ more) (ap test (sym (others_are j below ne)) ∙ too) (ap test (sym (ap (slot_at flags_in published_set) e ∙ now_slot)) ∙ holds))
+      by (inr ne) (inl e) = absurd (new_ i low (sym (others_same i low ne) ∙ live) (ap test (sym (others_are i low ne)) ∙ holds) (ap test (sym (ap (slot_at flags_in published_set) e ∙ now_slot)) ∙ too))
+      by (inr ne) (inr nf) = old (sym (others_same i low ne) ∙ live) (sym (others_same j below nf) ∙ more) (ap test (sym (others_are i low ne)) ∙ holds) (ap test (sym (others_are j below nf)) ∙ too)
+
+  set_with : (slots : ℕ → ℕ) → SlotSetPart z slots pool → SlotSetPart z slots flags_in
+  set_with slots part = record {
+    published = part.published;
+    fits = λ j below live. one_fits j below live part.fits;
+    guest_apart = λ gfn i j low below live more holds too. apart_still (contains gfn) i j low below live more (may.guest_apart gfn) (part.guest_apart gfn i j low below) holds too;
+    host_apart = λ page i j low below live more has too. apart_still (has_host_page page) i j low below live more (may.host_apart page) (part.host_apart page i j low below) has too;
+  }
+
+-- The flags are stored: the slot is live, and the record has it.
+flags_stored : (z : Sizes) (v : View) (a : ℕ) (line : Line) (id : ℕ) (slot : Slot) (t : Topics) → IsStep z v a line (SetSlot id slot) (place.SetSlot (Fill field.Flags)) → Invariant z v
+    → InvariantOf z (v.words area.Slots) (upd (v.words area.Pool) (slot_index published_set id field.Flags) (flags_word true slot.read_only false)) (v.words area.Host) (v.words area.Linear)
+    (upd v.hand a (behind (v.hand a) line (v.hand a).state (Ends Done) t (after_set id slot (v.hand a).slots)))
+flags_stored z v a line id slot t S I =
     let h : Held = v.hand a in
     let O = I.lines a S.there in
-    let may = not_refused z.pages id slot S.holds.0 in
-    let none = no_slot_live z v a line id slot field.Flags S I in
-    stored z v a other (behind h line s o t) S.there none I (sym S.own ∙ setting_is_managers z line.actor id slot S.allowed)
+    let pool : ℕ → ℕ = v.words area.Pool in
+    let other : ℕ → ℕ = upd pool (slot_index published_set id field.Flags) (flags_word true slot.read_only false) in
+    let may = may_be_set z v a line id slot field.Flags S I in
+    let R = record_of z v a line id slot (Fill field.Flags) S I in
+    let set : MemorySlot = record { slot = slot; logged = is_logged id h.slots } in
+    let is_set : (next_line h).command ≡ SetSlot id slot = ap (λ (l : Line). l.command) (sym S.next) ∙ S.command_is in
+    let x : AnsweredLine = record { number = line.number; actor = line.actor; answer = Done } in
+    let lines : List Line = take (length (h.answers ++ x ∷ [])) h.lines in
+    stored z v a other (behind h line h.state (Ends Done) t (after_set id slot h.slots)) S.there (still_live pool id (flags_word true slot.read_only false) field.Flags may.low may.not_live) I (sym S.own ∙ setting_is_managers z line.actor id slot S.allowed)
+    (set_with z pool id slot may S.holds.1 S.holds.2 S.holds.3 (v.words area.Slots) I.set)
+    (lines_behind z a h line h.state (Ends Done) t (after_set id slot h.slots) O S.next S.left O.sizes refl
+    (All-keys-insert_entry nat_cmp id set (Contains (slot_ids lines)) h.slots (answered_kept (Ends Done) line h.lines h.answers (keys_of h.slots) S.left O.answered)
+    (subst (λ n. Contains (slot_ids (take n h.lines)) id) (sym (answers_length h.answers x)) (set_here (length h.answers) h.lines id slot S.left is_set)))
+    (set_by_with h.lines id set h.slots (line_sets (length h.answers) h.lines id slot S.left is_set) O.set))
+    tt
     (record {
-      published = I.set.published;
-      fits = λ j below live. let same : j ≡ id = one j below live in subst (λ (x : Slot). x.host + x.pages ≤ z.pages) (sym (ap (slot_at other published_set) same ∙ now_slot)) may.1;
-      one = λ i j below under live more. one i below live ∙ sym (one j under more);
+      same = flat_with id set h.slots ∙ ap (with_slot id slot) R.same ∙ sym (now_below z pool id slot may S.holds.1 S.holds.2 S.holds.3);
+      unlogged = unlogged_behind id slot h.slots R.unlogged;
     })
-    (lines_behind z a h line s o t O S.next S.left (sizes ∙ O.sizes) actor (λ e. counted))
-    (subst (λ q. Holds z other (v.words area.Host) q line.command (behind h line s o t).state) (sym between) tt)
-    (λ is unset. absurd (cc (set, unset)))
-  where
-    other : ℕ → ℕ
-    other = upd (v.words area.Pool) (slot_index published_set id field.Flags) (flags_word true slot.read_only false)
-
-    may_be : (id ≤ 31) × (slot.host + slot.pages ≤ z.pages)
-    may_be = not_refused z.pages id slot S.holds.0
-
-    apart : (f : SlotField) → field_number f < 3 → other (slot_index published_set id f) ≡ v.words area.Pool (slot_index published_set id f)
-    apart f lt = upd_other (v.words area.Pool) (slot_index published_set id field.Flags) (slot_index published_set id f) _ (λ e. let t = same_field id id f field.Flags may_be.0 may_be.0 e in omega (arith, t.1, lt))
-
-    flags : other (slot_index published_set id field.Flags) ≡ flags_word true slot.read_only false
-    flags = upd_same (v.words area.Pool) (slot_index published_set id field.Flags) (flags_word true slot.read_only false)
-
-    now_slot : slot_at other published_set id ≡ slot
-    now_slot = same_slot (slot_at other published_set id) slot (apart field.Base (omega arith) ∙ S.holds.1) (apart field.Pages (omega arith) ∙ S.holds.2) (apart field.Host (omega arith) ∙ S.holds.3) (ap flags_read_only flags ∙ flags_are_read_only true slot.read_only false)
-
-    one : (j : ℕ) → j ≤ 31 → live_at other published_set j ≡ true → j ≡ id
-    one j below live = by (same_or j id)
-      where
-        by : (j ≡ id) ⊎ (j ≢ id) → j ≡ id
-        by (inl e) = e
-        by (inr ne) =
-            let same : live_at other published_set j ≡ live_at (v.words area.Pool) published_set j = ap flags_live (upd_other (v.words area.Pool) (slot_index published_set id field.Flags) (slot_index published_set j field.Flags) _ (λ e. ne (same_field j id field.Flags field.Flags below may_be.0 e).0)) in
-            let none = no_slot_live z v a line id slot field.Flags S I j below in
-            absurd (cc (same, none, live))
 
 pub set_slot_kept : (z : Sizes) (v : View) (a : ℕ) (line : Line) (p : SetSlotPlace) (id : ℕ) (slot : Slot) → IsStep z v a line (SetSlot id slot) (place.SetSlot p) → Invariant z v
     → Invariant z (stepped a line (SetSlot id slot) (place.SetSlot p) v)
@@ -213,31 +251,24 @@ set_slot_kept z v a line (Refuse refusal) id slot S I =
     let O = I.lines a S.there in
     let o : Outcome = set_slot_outcome (Refuse refusal) in
     let t : Topics = (hand_after line (SetSlot id slot) (place.SetSlot (Refuse refusal)) h (v.words area.Seq 0)).topics in
-    quiet z (v.words area.Slots) (v.words area.Pool) (v.words area.Host) (v.words area.Linear) v.hand a (behind h line h.state o t)
-    (lines_behind z a h line h.state o t O S.next S.left O.sizes refl (λ e. counted_kept o line h.lines h.answers (O.counted e)))
-    tt (I.unset a S.there) I
+    quiet z (v.words area.Slots) (v.words area.Pool) (v.words area.Host) (v.words area.Linear) v.hand a (behind h line h.state o t h.slots)
+    (lines_behind z a h line h.state o t h.slots O S.next S.left O.sizes refl (answered_kept o line h.lines h.answers (keys_of h.slots) S.left O.answered) O.set)
+    tt (I.recorded a S.there) I
 set_slot_kept z v a line (Fill field.Base) id slot S I =
-    let may = not_refused z.pages id slot S.holds in
-    filled z v a line id slot field.Base slot.base (set_slot_outcome (Fill field.Base)) (hand_after line (SetSlot id slot) (place.SetSlot (Fill field.Base)) (v.hand a) slot.base).topics S I may.0 (omega arith) (S.holds, upd_same (v.words area.Pool) (slot_index published_set id field.Base) slot.base)
+    filled z v a line id slot field.Base slot.base (set_slot_outcome (Fill field.Base)) (hand_after line (SetSlot id slot) (place.SetSlot (Fill field.Base)) (v.hand a) slot.base).topics S I (omega arith) (S.holds, upd_same (v.words area.Pool) (slot_index published_set id field.Base) slot.base)
 set_slot_kept z v a line (Fill field.Pages) id slot S I =
-    let may = not_refused z.pages id slot S.holds.0 in
-    filled z v a line id slot field.Pages slot.pages (set_slot_outcome (Fill field.Pages)) (hand_after line (SetSlot id slot) (place.SetSlot (Fill field.Pages)) (v.hand a) slot.pages).topics S I may.0 (omega arith) (
+    let low = (may_be_set z v a line id slot field.Pages S I).low in
+    filled z v a line id slot field.Pages slot.pages (set_slot_outcome (Fill field.Pages)) (hand_after line (SetSlot id slot) (place.SetSlot (Fill field.Pages)) (v.hand a) slot.pages).topics S I (omega arith) (
       S.holds.0,
-      upd_other (v.words area.Pool) (slot_index published_set id field.Pages) (slot_index published_set id field.Base) slot.pages (λ e. let t = same_field id id field.Base field.Pages may.0 may.0 e in omega (arith, t.1)) ∙ S.holds.1,
+      upd_other (v.words area.Pool) (slot_index published_set id field.Pages) (slot_index published_set id field.Base) slot.pages (λ e. let t = same_field id id field.Base field.Pages low low e in omega (arith, t.1)) ∙ S.holds.1,
       upd_same (v.words area.Pool) (slot_index published_set id field.Pages) slot.pages,
     )
 set_slot_kept z v a line (Fill field.Host) id slot S I =
-    let may = not_refused z.pages id slot S.holds.0 in
-    filled z v a line id slot field.Host slot.host (set_slot_outcome (Fill field.Host)) (hand_after line (SetSlot id slot) (place.SetSlot (Fill field.Host)) (v.hand a) slot.host).topics S I may.0 (omega arith) (
+    let low = (may_be_set z v a line id slot field.Host S I).low in
+    filled z v a line id slot field.Host slot.host (set_slot_outcome (Fill field.Host)) (hand_after line (SetSlot id slot) (place.SetSlot (Fill field.Host)) (v.hand a) slot.host).topics S I (omega arith) (
       S.holds.0,
-      upd_other (v.words area.Pool) (slot_index published_set id field.Host) (slot_index published_set id field.Base) slot.host (λ e. let t = same_field id id field.Base field.Host may.0 may.0 e in omega (arith, t.1)) ∙ S.holds.1,
-      upd_other (v.words area.Pool) (slot_index published_set id field.Host) (slot_index published_set id field.Pages) slot.host (λ e. let t = same_field id id field.Pages field.Host may.0 may.0 e in omega (arith, t.1)) ∙ S.holds.2,
+      upd_other (v.words area.Pool) (slot_index published_set id field.Host) (slot_index published_set id field.Base) slot.host (λ e. let t = same_field id id field.Base field.Host low low e in omega (arith, t.1)) ∙ S.holds.1,
+      upd_other (v.words area.Pool) (slot_index published_set id field.Host) (slot_index published_set id field.Pages) slot.host (λ e. let t = same_field id id field.Pages field.Host low low e in omega (arith, t.1)) ∙ S.holds.2,
       upd_same (v.words area.Pool) (slot_index published_set id field.Host) slot.host,
     )
-set_slot_kept z v a line (Fill field.Flags) id slot S I =
-    let h : Held = v.hand a in
-    let o : Outcome = set_slot_outcome (Fill field.Flags) in
-    flags_stored z v a line id slot (set_slot_loads (Fill field.Flags) h.state) o (hand_after line (SetSlot id slot) (place.SetSlot (Fill field.Flags)) h (flags_word true slot.read_only false)).topics S I refl refl refl
-    (subst (λ n. 1 ≤ settings (take n h.lines)) (sym (answers_length h.answers (record { number = line.number; actor = line.actor; answer = Done })))
-    (counted_here (length h.answers) h.lines S.left (ap (λ (l : Line). sets_slot l.command) (sym S.next) ∙ ap sets_slot S.command_is)))
-    tt refl
+set_slot_kept z v a line (Fill field.Flags) id slot S I = flags_stored z v a line id slot (hand_after line (SetSlot id slot) (place.SetSlot (Fill field.Flags)) (v.hand a) (flags_word true slot.read_only false)).topics S I

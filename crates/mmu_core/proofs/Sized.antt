@@ -7,8 +7,6 @@ use Rattle.core_views.specs.declared.place.AccessPlace.{AccessPlace}
 use Rattle.core_views.specs.declared.place.AccessPlace.TheVariants.{Slots, Slot, Walk, Host, Install, Touch}
 use Rattle.core_views.specs.declared.place.Place.{Place}
 use Rattle.core_views.specs.declared.place.Place.TheVariants as place
-use Rattle.core_views.specs.declared.place.SetSlotPlace.{SetSlotPlace}
-use Rattle.core_views.specs.declared.place.SetSlotPlace.TheVariants.{Refuse, Fill}
 use Rattle.core_views.specs.declared.place.SlotField.TheVariants as field
 use Rattle.core_views.specs.declared.sizes.Sizes.{Sizes}
 use Rattle.core_views.specs.declared.trace.Command.{Command}
@@ -27,7 +25,6 @@ use Rattle.mmu_core.proofs.PartIndex.{index_same}
 use Rattle.mmu_core.specs.AccessSteps.{access_loads}
 use Rattle.mmu_core.specs.Enabled.{Enabled, IsNext, IsPartStep, mmu}
 use Rattle.mmu_core.specs.Machine.{World, Step, effect, run, hand_in, May, Legal, Leads}
-use Rattle.mmu_core.specs.SetSlotSteps.{set_slot_loads}
 use Rattle.mmu_core.specs.Steps.{has_line, line_at, loads_at, next, next_by, place_at}
 use Rattle.mmu_core.specs.Tasks.{map_of}
 use Rattle.mmu_core.specs.Worlds.{IsStart, Reachable, start_hands}
@@ -44,19 +41,12 @@ access_keeps_sizes Host s v = refl
 access_keeps_sizes Install s v = refl
 access_keeps_sizes Touch s v = refl
 
-set_slot_keeps_sizes : (p : SetSlotPlace) (s : State) → (set_slot_loads p s).sizes ≡ s.sizes
-set_slot_keeps_sizes (Refuse refusal) s = refl
-set_slot_keeps_sizes (Fill field.Base) s = refl
-set_slot_keeps_sizes (Fill field.Pages) s = refl
-set_slot_keeps_sizes (Fill field.Host) s = refl
-set_slot_keeps_sizes (Fill field.Flags) s = refl
-
 loads_keep_sizes : (p : Place) (command : Command) (s : State) (v : ℕ) → (loads_at p command s v).sizes ≡ s.sizes
 loads_keep_sizes place.Between command s v = refl
 loads_keep_sizes (place.Access p) (Access gfn word op) s v = access_keeps_sizes p s v
 loads_keep_sizes (place.Access p) (SetSlot id slot) s v = refl
 loads_keep_sizes (place.SetSlot p) (Access gfn word op) s v = refl
-loads_keep_sizes (place.SetSlot p) (SetSlot id slot) s v = set_slot_keeps_sizes p s
+loads_keep_sizes (place.SetSlot p) (SetSlot id slot) s v = refl
 
 -- A step leaves the sizes in its hand.
 pub next_keeps_sizes : (h : Held) (k : Kind) (v : ℕ) → (next h k v).state.sizes ≡ h.state.sizes

@@ -8,7 +8,7 @@ use Rattle.core_views.specs.declared.sizes.Sizes.{Sizes}
 use Rattle.core_views.specs.declared.trace.Line.{Line}
 use Rattle.core_views.specs.Held.{Held}
 use Rattle.core_views.specs.Sizes.{AreSizes, actors_of}
-use Rattle.core_views.specs.Traces.{IsCommandFor, settings}
+use Rattle.core_views.specs.Traces.{AreDistinct, IsCommandFor, slot_ids}
 use Rattle.spte_words.specs.declared.area.Area.{Area}
 use Rattle.spte_words.specs.Areas.{StandsSomewhere, place, size_of, total}
 use Rattle.spte_words.proofs.Places.{place_below, places_apart, word_stands}
@@ -69,8 +69,8 @@ start_words z = record {
   each = λ area i lt. first_at (word_of z) (total (map_of z)) (place (map_of z) area i) (place_below (map_of z) area i lt) ∙ word_is z area i lt (cases_lt (place (map_of z) area i) (total (map_of z)));
 }
 
-pub a_start : (z : Sizes) (lines : List Line) → AreSizes z → All (λ line. IsCommandFor z line.actor line.command) lines → settings lines ≤ 1 → (w : World Held) × IsStart z lines w
-a_start z lines sizes allowed once = (
+pub a_start : (z : Sizes) (lines : List Line) → AreSizes z → All (λ line. IsCommandFor z line.actor line.command) lines → AreDistinct (slot_ids lines) → (w : World Held) × IsStart z lines w
+a_start z lines sizes allowed distinct = (
   record { words = first_of (word_of z) (total (map_of z)); hands = start_hands z lines (actors_of z) },
-  record { sizes = sizes; allowed = allowed; once = once; words = start_words z; hands = refl },
+  record { sizes = sizes; allowed = allowed; distinct = distinct; words = start_words z; hands = refl },
 )

@@ -1,18 +1,23 @@
 -- The invariant holds of every start, and so of every world that is reached.
-use Rattle.std.proofs.Common.{◌≡◌, ◌≢◌, inl, ◌<◌, ◌≤◌, ◌+◌, ◌-◌, ◌*◌, ◌^◌, ℕ, zero, suc, List, [], ◌∷◌, length, get_or, refl, sym, subst, ap, ◌∙◌, arith}
+use Rattle.std.proofs.Common.{◌≡◌, ◌≢◌, inl, ◌<◌, ◌≤◌, ◌+◌, ◌-◌, ◌*◌, ◌^◌, ℕ, zero, suc, List, [], ◌∷◌, length, take, get_or, refl, sym, subst, ap, ◌∙◌, arith}
 use Rattle.std.proofs.Math.Logic.{∥∥₁_elim}
 use Rattle.std.proofs.Math.Pow.{pow_mono}
 use Rattle.std.proofs.lemmas.Bool.Decides.{nat_tests, Decides-eqb}
 use Rattle.std.proofs.lemmas.Nat.{pow_pos}
+use Rattle.std.proofs.lemmas.List.Elements.{All-nil}
+use Rattle.std.specs.List.{AllByRecursion, Contains}
+use Rattle.mmu_core.proofs.SlotLists.{none_below}
 use Rattle.std.specs.Prelude.{All, Bool, true, false, ◌==◌, nat_lt, if◌then◌else◌, slice_index}
 use Rattle.core_views.specs.declared.actor.Actor.{Actor}
 use Rattle.core_views.specs.declared.actor.Actor.TheVariants.{Vcpu, Host, Manager, Worker}
 use Rattle.core_views.specs.declared.sizes.Sizes.{Sizes}
+use Rattle.core_views.specs.declared.trace.Command.{Command}
+use Rattle.core_views.specs.declared.trace.Command.TheVariants.{Access, SetSlot}
 use Rattle.core_views.specs.declared.trace.Line.{Line}
 use Rattle.core_views.specs.Actors.{is_same}
 use Rattle.core_views.specs.Held.{Held, first_held}
 use Rattle.core_views.specs.Sizes.{AreSizes, actor_at, actors_of, index_of}
-use Rattle.core_views.specs.Traces.{IsCommandFor, settings}
+use Rattle.core_views.specs.Traces.{AreDistinct, IsCommandFor, or_slot_id, slot_ids}
 use Rattle.core_views.specs.Whole.{lines_of}
 use Rattle.spte_words.specs.declared.area.Area.{Area}
 use Rattle.spte_words.specs.declared.area.Area.TheVariants as area
@@ -23,7 +28,7 @@ use Rattle.spte_words.specs.HostWords.{host_word}
 use Rattle.spte_words.specs.Areas.{StandsSomewhere}
 use Rattle.spte_words.proofs.Places.{word_stands}
 use Rattle.spte_words.proofs.ReadsHost.{host_fits}
-use Rattle.mmu_core.specs.Invariant.{Holds, OwnLines}
+use Rattle.mmu_core.specs.Invariant.{Holds, IsSetBy, OwnLines, RecordPart}
 use Rattle.mmu_core.specs.Machine.{World}
 use Rattle.mmu_core.specs.Rests.{Rests}
 use Rattle.mmu_core.specs.SetSlotSteps.{published_set}
@@ -98,7 +103,7 @@ each_of : (P : Line → Type 0) (xs : List Line) → All P xs → Each P xs
 each_of P [] all = tt
 each_of P (x ∷ xs) all = (all 0 x (omega arith), each_of P xs (λ k d lt. all (suc k) d (omega arith)))
 
--- an actor's lines among all: what holds of all, that they are its own, and how many settings they have
+-- an actor's lines among all: what holds of all, that they are its own, and that their IDs differ
 chosen_each : (P : Line → Type 0) (actor : Actor) (lines : List Line) → Each P lines → Each P (lines_of actor lines)
 chosen_each P actor [] e = tt
 chosen_each P actor (line ∷ lines) e = by (chosen_each P actor lines e.1) (is_same actor line.actor)
@@ -115,13 +120,39 @@ chosen_own actor (line ∷ lines) = by (chosen_own actor lines) (is_same actor l
     by rest true is = (is refl, rest)
     by rest false is = rest
 
-chosen_settings : (actor : Actor) (lines : List Line) → settings (lines_of actor lines) ≤ settings lines
-chosen_settings actor [] = omega arith
-chosen_settings actor (line ∷ lines) = by (chosen_settings actor lines) (is_same actor line.actor)
+-- the IDs that an actor's lines set are among those of all, in their order
+all_behind : (P : ℕ → Type 0) (c : Command) (ids : List ℕ) → AllByRecursion P (or_slot_id c ids) → AllByRecursion P ids
+all_behind P (Access gfn word op) ids e = e
+all_behind P (SetSlot id slot) ids e = e.1
+
+all_with : (P : ℕ → Type 0) (c : Command) (ids own : List ℕ) → (AllByRecursion P ids → AllByRecursion P own) → AllByRecursion P (or_slot_id c ids) → AllByRecursion P (or_slot_id c own)
+all_with P (Access gfn word op) ids own rest e = rest e
+all_with P (SetSlot id slot) ids own rest e = (e.0, rest e.1)
+
+chosen_ids : (P : ℕ → Type 0) (actor : Actor) (lines : List Line) → AllByRecursion P (slot_ids lines) → AllByRecursion P (slot_ids (lines_of actor lines))
+chosen_ids P actor [] e = tt
+chosen_ids P actor (line ∷ lines) e = by (is_same actor line.actor) (chosen_ids P actor lines)
   where
-    by : settings (lines_of actor lines) ≤ settings lines → (b : Bool) → settings (if b then line ∷ lines_of actor lines else lines_of actor lines) ≤ settings (line ∷ lines)
-    by rest true = omega (arith, rest)
-    by rest false = omega (arith, rest)
+    by : (b : Bool) → (AllByRecursion P (slot_ids lines) → AllByRecursion P (slot_ids (lines_of actor lines))) → AllByRecursion P (slot_ids (if b then line ∷ lines_of actor lines else lines_of actor lines))
+    by true rest = all_with P line.command (slot_ids lines) (slot_ids (lines_of actor lines)) rest e
+    by false rest = rest (all_behind P line.command (slot_ids lines) e)
+
+-- No two of an actor's lines set a slot at one ID, where no two of all do.
+differ_behind : (c : Command) (ids : List ℕ) → AreDistinct (or_slot_id c ids) → AreDistinct ids
+differ_behind (Access gfn word op) ids e = e
+differ_behind (SetSlot id slot) ids e = e.1
+
+differ_with : (c : Command) (ids own : List ℕ) → ((P : ℕ → Type 0) → AllByRecursion P ids → AllByRecursion P own) → (AreDistinct ids → AreDistinct own) → AreDistinct (or_slot_id c ids) → AreDistinct (or_slot_id c own)
+differ_with (Access gfn word op) ids own each rest e = rest e
+differ_with (SetSlot id slot) ids own each rest e = (each (λ j. (id == j) ≡ false) e.0, rest e.1)
+
+chosen_distinct : (actor : Actor) (lines : List Line) → AreDistinct (slot_ids lines) → AreDistinct (slot_ids (lines_of actor lines))
+chosen_distinct actor [] e = e
+chosen_distinct actor (line ∷ lines) e = by (is_same actor line.actor) (chosen_distinct actor lines)
+  where
+    by : (b : Bool) → (AreDistinct (slot_ids lines) → AreDistinct (slot_ids (lines_of actor lines))) → AreDistinct (slot_ids (if b then line ∷ lines_of actor lines else lines_of actor lines))
+    by true rest = differ_with line.command (slot_ids lines) (slot_ids (lines_of actor lines)) (λ P. chosen_ids P actor lines) rest e
+    by false rest = rest (differ_behind line.command (slot_ids lines) e)
 
 first_lines : (z : Sizes) (lines : List Line) (w : World Held) (i : ℕ) → IsStart z lines w → i < actors_of z → OwnLines z i (first_held z (actor_at z i) (lines_of (actor_at z i) lines))
 first_lines z lines w i start lt =
@@ -132,9 +163,10 @@ first_lines z lines w i start lt =
       index = place_of_actor z i lt;
       allowed = all_of P (lines_of actor lines) (chosen_each P actor lines (each_of P lines start.allowed));
       own = all_of (λ line. line.actor ≡ actor) (lines_of actor lines) (chosen_own actor lines);
-      once = let s = chosen_settings actor lines in omega (arith, s, start.once);
+      distinct = chosen_distinct actor lines start.distinct;
       under = tt;
-      counted = λ e. absurd (cc e);
+      answered = All-nil (Contains (slot_ids (take 0 (lines_of actor lines))));
+      set = All-nil (IsSetBy (lines_of actor lines));
     }
 
 -- every word at the start is a number below 2 ^ 64
@@ -201,12 +233,14 @@ start_good z lines w start = record {
     set = record {
       published = word_at_start z w area.Slots 0 1 start.words (λ l. refl) (λ e. absurd (cc e));
       fits = λ id low live. let e = none_live z w id start.words in absurd (cc (e, live));
-      one = λ i j low under live more. let e = none_live z w i start.words in absurd (cc (e, live));
+      guest_apart = λ gfn i j low under live more holds too. let e = none_live z w i start.words in absurd (cc (e, live));
+      host_apart = λ page i j low under live more has too. let e = none_live z w i start.words in absurd (cc (e, live));
     };
     leaves = λ i lt. inl (word_at_start z w area.Linear i 0 start.words (λ l. refl) (λ e. refl) ∙ sym absent_is_0);
     lines = λ i lt. subst (OwnLines z i) (sym (hand_is z lines w i start lt)) (first_lines z lines w i start lt);
-    loads = λ i lt. subst (λ (h : Held). Holds z (word_in z w area.Pool) (word_in z w area.Host) h.state.place h.state.line.command h.state) (sym (hand_is z lines w i start lt)) tt;
-    unset = λ i lt is none id low. none_live z w id start.words;
+    loads = λ i lt. subst (λ (h : Held). Holds z (word_in z w area.Pool) (word_in z w area.Host) h.state.place h.state.line.command h.slots h.state) (sym (hand_is z lines w i start lt)) tt;
+    recorded = λ i lt is. subst (λ (h : Held). RecordPart (word_in z w area.Pool) h.slots) (sym (hand_is z lines w i start lt))
+        (record { same = sym (none_below (word_in z w area.Pool) published_set 32 (λ id low. none_live z w id start.words)); unlogged = λ id m at. absurd (cc at) });
   };
   topics = start_topics z lines w start;
 }

@@ -13,7 +13,8 @@ use Rattle.core_views.specs.Flat.{no_line}
 use Rattle.core_views.specs.declared.answer.Refusal.{Refusal}
 use Rattle.core_views.specs.Held.{Held}
 use Rattle.core_views.specs.Sizes.{actors_of}
-use Rattle.core_views.specs.Slots.{slot_refusal}
+use Rattle.core_views.specs.Refusals.{set_refusal}
+use Rattle.core_views.specs.SlotSets.{MemorySlots}
 use Rattle.core_views.specs.Traces.{IsCommandFor}
 use Rattle.spte_words.specs.declared.area.Area.TheVariants as area
 use Rattle.mmu_core.specs.Invariant.{Holds, Invariant, UnderWay}
@@ -33,33 +34,33 @@ pub record IsStep (z : Sizes) (v : View) (a : ℕ) (line : Line) (command : Comm
   pub begun : IsUnderWay p
   pub allowed : IsCommandFor z line.actor command
   pub own : line.actor ≡ (v.hand a).state.actor
-  pub holds : Holds z (v.words area.Pool) (v.words area.Host) p command (v.hand a).state
+  pub holds : Holds z (v.words area.Pool) (v.words area.Host) p command (v.hand a).slots (v.hand a).state
 
 line_is_next : (p : Place) (h : Held) → UnderWay p h → h.state.place ≡ p → line_at p h ≡ next_line h
 line_is_next place.Between h under is = refl
 line_is_next (place.Access p) h under is = under.0
 line_is_next (place.SetSlot p) h under is = under.0
 
-first_is_begun : (z : Sizes) (command : Command) → IsUnderWay (first_place z command)
-first_is_begun z (Access gfn word op) = tt
-first_is_begun z (SetSlot id slot) = tt
+first_is_begun : (z : Sizes) (slots : MemorySlots) (command : Command) → IsUnderWay (first_place z slots command)
+first_is_begun z slots (Access gfn word op) = tt
+first_is_begun z slots (SetSlot id slot) = tt
 
-is_begun : (p : Place) (z : Sizes) (command : Command) → IsUnderWay (standing p z command)
-is_begun place.Between z command = first_is_begun z command
-is_begun (place.Access p) z command = tt
-is_begun (place.SetSlot p) z command = tt
+is_begun : (p : Place) (z : Sizes) (slots : MemorySlots) (command : Command) → IsUnderWay (standing p z slots command)
+is_begun place.Between z slots command = first_is_begun z slots command
+is_begun (place.Access p) z slots command = tt
+is_begun (place.SetSlot p) z slots command = tt
 
 -- the loads of a line that begins: none
-set_slot_begins : (z : Sizes) (pool host : ℕ → ℕ) (id : ℕ) (slot : Slot) (s : State) (r : Option Refusal) → slot_refusal z.pages id slot ≡ r → Holds z pool host (place.SetSlot (set_slot_first r)) (SetSlot id slot) s
-set_slot_begins z pool host id slot s None is = is
-set_slot_begins z pool host id slot s (Some refusal) is = is
+set_slot_begins : (z : Sizes) (pool host : ℕ → ℕ) (id : ℕ) (slot : Slot) (slots : MemorySlots) (s : State) (r : Option Refusal) → set_refusal z.pages id slot slots ≡ r → Holds z pool host (place.SetSlot (set_slot_first r)) (SetSlot id slot) slots s
+set_slot_begins z pool host id slot slots s None is = is
+set_slot_begins z pool host id slot slots s (Some refusal) is = is
 
-first_holds : (z : Sizes) (pool host : ℕ → ℕ) (command : Command) (s : State) → Holds z pool host (first_place z command) command s
-first_holds z pool host (Access gfn word op) s = tt
-first_holds z pool host (SetSlot id slot) s = set_slot_begins z pool host id slot s (slot_refusal z.pages id slot) refl
+first_holds : (z : Sizes) (pool host : ℕ → ℕ) (command : Command) (slots : MemorySlots) (s : State) → Holds z pool host (first_place z slots command) command slots s
+first_holds z pool host (Access gfn word op) slots s = tt
+first_holds z pool host (SetSlot id slot) slots s = set_slot_begins z pool host id slot slots s (set_refusal z.pages id slot slots) refl
 
-standing_holds : (z : Sizes) (pool host : ℕ → ℕ) (q : Place) (h : Held) → h.state.place ≡ q → Holds z pool host q h.state.line.command h.state → Holds z pool host (standing q z (line_at q h).command) (line_at q h).command h.state
-standing_holds z pool host place.Between h is holds = first_holds z pool host (next_line h).command h.state
+standing_holds : (z : Sizes) (pool host : ℕ → ℕ) (q : Place) (h : Held) → h.state.place ≡ q → Holds z pool host q h.state.line.command h.slots h.state → Holds z pool host (standing q z h.slots (line_at q h).command) (line_at q h).command h.slots h.state
+standing_holds z pool host place.Between h is holds = first_holds z pool host (next_line h).command h.slots h.state
 standing_holds z pool host (place.Access p) h is holds = holds
 standing_holds z pool host (place.SetSlot p) h is holds = holds
 
@@ -86,9 +87,9 @@ is_step z v a I there left =
       line_is = refl;
       command_is = refl;
       place_is = refl;
-      begun = is_begun h.state.place h.state.sizes (line_at h.state.place h).command;
+      begun = is_begun h.state.place h.state.sizes h.slots (line_at h.state.place h).command;
       allowed = subst (λ l. IsCommandFor z l.actor l.command) (sym next) (next_has (λ l. IsCommandFor z l.actor l.command) h O.allowed left);
       own = subst (λ (l : Line). l.actor ≡ h.state.actor) (sym next) (next_has (λ l. l.actor ≡ h.state.actor) h O.own left);
-      holds = subst (λ y. Holds z (v.words area.Pool) (v.words area.Host) (standing h.state.place y (line_at h.state.place h).command) (line_at h.state.place h).command h.state) (sym O.sizes)
+      holds = subst (λ y. Holds z (v.words area.Pool) (v.words area.Host) (standing h.state.place y h.slots (line_at h.state.place h).command) (line_at h.state.place h).command h.slots h.state) (sym O.sizes)
           (standing_holds z (v.words area.Pool) (v.words area.Host) h.state.place h refl (I.loads a there));
     }

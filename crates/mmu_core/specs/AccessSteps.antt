@@ -1,6 +1,6 @@
 -- The order of steps of a guest access: which slot set is published, its slots by rising ID until one holds the guest frame, the
 -- frame's entry, where it is absent the host word and an exchange to the leaf, and then the touch (mmu.rst, "Page fault").
-use Rattle.std.specs.Prelude.{◌+◌, ◌-◌, ℕ, List, [], ◌∷◌, ◌==◌, ◌&&◌, if◌then◌else◌}
+use Rattle.std.specs.Prelude.{◌+◌, ℕ, List, [], ◌∷◌, ◌==◌, ◌&&◌, if◌then◌else◌}
 use Rattle.core_views.specs.declared.answer.Answer.TheVariants.{Mmio, Reached}
 use Rattle.core_views.specs.declared.event.EventKind.{EventKind}
 use Rattle.core_views.specs.declared.event.EventKind.TheVariants.{Accessed, Exited, LookedAtSlots}
@@ -32,9 +32,9 @@ touch_of (Add x) index = record { kind = kind.Add; area = area.Content; index = 
 abbrev pub access_task : AccessPlace → State → ℕ → ℕ → Op → Task
 access_task Slots s gfn word op = loads kind.Control area.Slots 0 0
 access_task (Slot id field) s gfn word op = loads kind.Slot area.Pool (slot_index s.look.set id field) 1
-access_task Walk s gfn word op = loads kind.Walk area.Linear (gfn - s.look.slot.base) 0
+access_task Walk s gfn word op = loads kind.Walk area.Linear (page_of s.look.slot gfn) 0
 access_task Host s gfn word op = loads kind.Host area.Host (page_of s.look.slot gfn) 0
-access_task Install s gfn word op = record { kind = kind.Swap; area = area.Linear; index = gfn - s.look.slot.base; expected = absent_word; written = leaf_of s.look.slot s.host; may_end = 0 }
+access_task Install s gfn word op = record { kind = kind.Swap; area = area.Linear; index = page_of s.look.slot gfn; expected = absent_word; written = leaf_of s.look.slot s.host; may_end = 0 }
 access_task Touch s gfn word op = touch_of op (content_index (map_of s.sizes) (frame_in s.spte) word)
 
 -- what the state has loaded after a step that found v

@@ -8,13 +8,7 @@ use Rattle.core_views.specs.declared.place.SetSlotPlace.{SetSlotPlace}
 use Rattle.core_views.specs.declared.place.SetSlotPlace.TheVariants.{Refuse, Fill}
 use Rattle.core_views.specs.declared.place.SlotField.{SlotField}
 use Rattle.core_views.specs.declared.place.SlotField.TheVariants as field
-
--- the words of a slot that a look-up has yet to load, from this one on
-abbrev pub look_left : SlotField → ℕ
-look_left field.Flags = 4
-look_left field.Base = 3
-look_left field.Pages = 2
-look_left field.Host = 1
+pub use Rattle.mmu_core.specs.SearchLeft.{look_left}
 
 -- the words of a slot that a setting has yet to store, from this one on
 abbrev pub fill_left : SlotField → ℕ

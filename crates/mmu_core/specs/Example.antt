@@ -1,5 +1,5 @@
 -- That the machine goes on: every machine has a start, each actor with a line left can make a step, and a small run to its answers.
-use Rattle.std.specs.Prelude.{◌≡◌, ◌^◌, ◌<◌, ◌≤◌, ℕ, List, [], ◌∷◌, All, codes, false, length}
+use Rattle.std.specs.Prelude.{◌≡◌, ◌^◌, ◌<◌, ℕ, List, [], ◌∷◌, All, codes, false, length}
 use Rattle.core_views.specs.declared.answer.Answer.TheVariants.{Done, Reached}
 use Rattle.core_views.specs.declared.event.Event.{Event}
 use Rattle.core_views.specs.declared.event.EventKind.TheVariants.{Accessed, Answered, Begun, LookedAtSlots, SlotChanged}
@@ -14,7 +14,7 @@ use Rattle.core_views.specs.Held.{Held}
 use Rattle.core_views.specs.Laws.{access_line, example_sizes, example_slot, manager_line}
 use Rattle.core_views.specs.Sizes.{AreSizes, actors_of}
 use Rattle.core_views.specs.Text.{text}
-use Rattle.core_views.specs.Traces.{IsCommandFor, settings}
+use Rattle.core_views.specs.Traces.{AreDistinct, IsCommandFor, slot_ids}
 use Rattle.mmu_core.specs.Enabled.{mmu}
 use Rattle.mmu_core.specs.Machine.{Legal, May, Step, World, effect, hand_in, run}
 use Rattle.mmu_core.specs.Steps.{next_line, task_of}
@@ -23,7 +23,7 @@ use Rattle.mmu_core.specs.Worlds.{IsStart, history}
 
 -- Every machine has a start, with all lines that a trace may have.
 abbrev pub EveryMachineStarts : Type 0
-EveryMachineStarts = (z : Sizes) (lines : List Line) → AreSizes z → All (λ line. IsCommandFor z line.actor line.command) lines → settings lines ≤ 1 → (w : World Held) × IsStart z lines w
+EveryMachineStarts = (z : Sizes) (lines : List Line) → AreSizes z → All (λ line. IsCommandFor z line.actor line.command) lines → AreDistinct (slot_ids lines) → (w : World Held) × IsStart z lines w
 
 -- the step that an actor's hand is to make next
 abbrev pub next_step : Sizes → World Held → ℕ → Step Kind
@@ -52,9 +52,9 @@ abbrev pub turns : Sizes → World Held → List ℕ → List (Step Kind)
 turns z w [] = []
 turns z w (actor ∷ actors) = next_step z w actor ∷ turns z (effect mmu w (next_step z w actor)) actors
 
--- The manager sets a slot, and two processors access one guest frame of it.
+-- The manager sets a slot, and two processors access one guest frame of it. While they do, it sets another, which one of them accesses then.
 abbrev pub set_line : Line
-set_line = manager_line 2 0 (example_slot 5 false)
+set_line = manager_line 2 0 (example_slot 5 64 false)
 
 abbrev pub write_line : Line
 write_line = access_line 3 0 6 0 (Write 7)
@@ -62,27 +62,43 @@ write_line = access_line 3 0 6 0 (Write 7)
 abbrev pub read_line : Line
 read_line = access_line 4 1 6 0 Read
 
-abbrev pub run_lines : List Line
-run_lines = set_line ∷ write_line ∷ read_line ∷ []
+abbrev pub other_set_line : Line
+other_set_line = manager_line 5 1 (example_slot 20 0 false)
 
--- First the manager sets the slot. Then the two take turns: both find no entry, both try to store the leaf, and only the first does.
+abbrev pub add_line : Line
+add_line = access_line 6 0 21 1 (Add 5)
+
+abbrev pub run_lines : List Line
+run_lines = set_line ∷ write_line ∷ read_line ∷ other_set_line ∷ add_line ∷ []
+
+-- First the manager sets the slot. Then the two processors take turns, with the manager between them as long as it sets the other slot:
+-- both find no entry, both try to store the leaf, and only the first does. Then the first processor accesses the other slot.
 abbrev pub run_order : List ℕ
-run_order = 3 ∷ 3 ∷ 3 ∷ 3 ∷ 0 ∷ 1 ∷ 0 ∷ 1 ∷ 0 ∷ 1 ∷ 0 ∷ 1 ∷ 0 ∷ 1 ∷ 0 ∷ 1 ∷ 0 ∷ 1 ∷ 0 ∷ 1 ∷ 0 ∷ 1 ∷ []
+run_order =
+    3 ∷ 3 ∷ 3 ∷ 3 ∷ 0 ∷ 1 ∷ 3 ∷ 0 ∷ 1 ∷ 3 ∷ 0 ∷ 1 ∷ 3 ∷ 0 ∷ 1 ∷ 3 ∷ 0 ∷ 1 ∷ 0 ∷ 1 ∷ 0 ∷ 1 ∷ 0 ∷ 1 ∷ 0 ∷ 1
+    ∷ 0 ∷ 0 ∷ 0 ∷ 0 ∷ 0 ∷ 0 ∷ 0 ∷ 0 ∷ 0 ∷ 0 ∷ 0 ∷ 0 ∷ 0 ∷ []
 
 -- what they tell
 abbrev pub run_events : List Event
 run_events =
     by set_line (Begun set_line)
-    ∷ by set_line (SlotChanged 0 (example_slot 5 false))
+    ∷ by set_line (SlotChanged 0 (example_slot 5 64 false))
     ∷ by set_line (Answered 2 Done)
     ∷ by write_line (Begun write_line)
     ∷ by write_line LookedAtSlots
     ∷ by read_line (Begun read_line)
     ∷ by read_line LookedAtSlots
+    ∷ by other_set_line (Begun other_set_line)
+    ∷ by other_set_line (SlotChanged 1 (example_slot 20 0 false))
+    ∷ by other_set_line (Answered 5 Done)
     ∷ by write_line (Accessed 6 0 (Write 7) 65 0)
     ∷ by write_line (Answered 3 (Reached 65 0))
     ∷ by read_line (Accessed 6 0 Read 65 7)
     ∷ by read_line (Answered 4 (Reached 65 7))
+    ∷ by add_line (Begun add_line)
+    ∷ by add_line LookedAtSlots
+    ∷ by add_line (Accessed 21 1 (Add 5) 1 0)
+    ∷ by add_line (Answered 6 (Reached 1 0))
     ∷ []
 
 -- From a start with these lines these steps can be made, and they tell this.
@@ -94,4 +110,4 @@ pub record ExampleRuns : Type 0 where
 
 -- So it prints this.
 abbrev pub ExamplePrints : Type 0
-ExamplePrints = text run_events ≡ codes "2 vm done\n3 v0 frame 65 value 0\n4 v1 frame 65 value 7\n"
+ExamplePrints = text run_events ≡ codes "2 vm done\n5 vm done\n3 v0 frame 65 value 0\n4 v1 frame 65 value 7\n6 v0 frame 1 value 0\n"

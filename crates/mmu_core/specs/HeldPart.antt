@@ -1,20 +1,17 @@
 -- What an actor holds of tables and slot sets, and its counters.
-use Rattle.std.specs.Prelude.{◌≡◌, ◌^◌, ◌<◌, ◌≤◌, ◌⊎◌, ℕ, false, Some, None}
+use Rattle.std.specs.Prelude.{◌≡◌, ◌^◌, ◌<◌, ◌≤◌, ℕ, false, Option, Some, None}
 use Rattle.core_views.specs.declared.sizes.Sizes.{Sizes}
-use Rattle.core_views.specs.declared.topics.TableWalk.{TableWalk}
 use Rattle.core_views.specs.declared.topics.Topics.{Topics}
 use Rattle.core_views.specs.Sizes.{actors_of}
 use Rattle.spte_words.specs.Areas.{words_of_bits}
+use Rattle.mmu_core.specs.PartSteps.{table_page}
 use Rattle.mmu_core.specs.TopicSteps.{may_search, may_walk}
+use Rattle.mmu_core.specs.TreePart.{Position, at}
 
--- The tables of a walk are linked: it stands at the root, since none is linked below it yet.
-abbrev pub HoldsTables : ℕ → TableWalk → Type 0
-HoldsTables root walk = (walk.level ≡ 0) ⊎ ((walk.level ≡ 4) × (walk.root ≡ root))
-
--- What is held of tables is linked, the slot set that is held is published, and neither is held outside of the guest, of a section
--- and of the lock.
-pub record HeldPart (root slots : ℕ) (t : Topics) : Type 0 where
-  pub tables : HoldsTables root t.walk
+-- The table that a walk has come to is one, at the walk's level and run; the slot set that is held is the published one; and neither
+-- is held outside of the guest, of a section and of the lock.
+pub record HeldPart (slots : ℕ) (stands : ℕ → Option Position) (t : Topics) : Type 0 where
+  pub table : 1 ≤ t.walk.level → stands (table_page t.walk) ≡ Some (at t.walk.level t.walk.prefix)
   pub set : (k : ℕ) → t.search.set ≡ Some k → k ≡ slots
   pub no_table : may_walk t.stay t.hold ≡ false → t.walk.level ≡ 0
   pub no_set : may_search t.stay t.hold ≡ false → t.search.set ≡ None
@@ -25,3 +22,4 @@ pub record CountersPart (z : Sizes) (t : Topics) : Type 0 where
   pub claim : t.claim.at ≤ words_of_bits z.pool
   pub seen : t.claim.seen < 2 ^ 64
   pub watched : t.watched ≤ actors_of z
+  pub run : 1 ≤ t.walk.level → t.walk.prefix < 2 ^ 36

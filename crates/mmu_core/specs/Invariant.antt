@@ -1,5 +1,6 @@
 -- What holds of the words and hands at every moment: a part for each topic, each in a file of its own, over the columns that it names.
-use Rattle.std.specs.Prelude.{◌<◌, ℕ}
+use Rattle.std.specs.Prelude.{◌≡◌, ◌<◌, ℕ}
+use Rattle.core_views.specs.declared.actor.Actor.TheVariants.{Manager}
 use Rattle.core_views.specs.declared.sizes.Sizes.{Sizes}
 use Rattle.core_views.specs.Held.{Held}
 use Rattle.core_views.specs.Sizes.{AreSizes, actors_of}
@@ -8,9 +9,9 @@ use Rattle.mmu_core.specs.View.{View}
 pub use Rattle.mmu_core.specs.HostWordsPart.{HostWordsPart}
 pub use Rattle.mmu_core.specs.SlotSetPart.{SlotSetPart, IsLive}
 pub use Rattle.mmu_core.specs.LeavesPart.{IsLeaf, LeavesPart}
-pub use Rattle.mmu_core.specs.LinesPart.{UnderWay, OwnLines}
+pub use Rattle.mmu_core.specs.LinesPart.{IsSetBy, UnderWay, OwnLines}
 pub use Rattle.mmu_core.specs.LoadsPart.{Found, AccessHolds, SetSlotHolds, Holds}
-pub use Rattle.mmu_core.specs.UnsetPart.{UnsetPart}
+pub use Rattle.mmu_core.specs.RecordPart.{RecordPart}
 
 -- All parts, of the columns of words and the column of hands.
 pub record InvariantOf (z : Sizes) (slots pool host linear : ℕ → ℕ) (hand : ℕ → Held) : Type 0 where
@@ -19,8 +20,8 @@ pub record InvariantOf (z : Sizes) (slots pool host linear : ℕ → ℕ) (hand 
   pub set : SlotSetPart z slots pool
   pub leaves : LeavesPart z pool host linear
   pub lines : (i : ℕ) → i < actors_of z → OwnLines z i (hand i)
-  pub loads : (i : ℕ) → i < actors_of z → Holds z pool host (hand i).state.place (hand i).state.line.command (hand i).state
-  pub unset : (i : ℕ) → i < actors_of z → UnsetPart pool (hand i).state
+  pub loads : (i : ℕ) → i < actors_of z → Holds z pool host (hand i).state.place (hand i).state.line.command (hand i).slots (hand i).state
+  pub recorded : (i : ℕ) → i < actors_of z → (hand i).state.actor ≡ Manager → RecordPart pool (hand i).slots
 
 abbrev pub Invariant : Sizes → View → Type 0
 Invariant z v = InvariantOf z (v.words area.Slots) (v.words area.Pool) (v.words area.Host) (v.words area.Linear) v.hand

@@ -1,11 +1,16 @@
 -- Lines: whose a hand is, and which of its lines is under way.
-use Rattle.std.specs.Prelude.{◌≡◌, ◌<◌, ◌≤◌, ℕ, All, length, take, true}
+use Rattle.std.specs.Prelude.{◌≡◌, ◌<◌, ℕ, List, All, length, map, take}
+use Rattle.std.specs.List.{Contains}
+use Rattle.std.specs.Map.{keys_of}
 use Rattle.core_views.specs.declared.place.Place.{Place}
 use Rattle.core_views.specs.declared.place.Place.TheVariants as place
 use Rattle.core_views.specs.declared.sizes.Sizes.{Sizes}
+use Rattle.core_views.specs.declared.slot_set.MemorySlot.{MemorySlot}
+use Rattle.core_views.specs.declared.trace.Command.TheVariants.{SetSlot}
+use Rattle.core_views.specs.declared.trace.Line.{Line}
 use Rattle.core_views.specs.Held.{Held}
 use Rattle.core_views.specs.Sizes.{index_of}
-use Rattle.core_views.specs.Traces.{IsCommandFor, settings}
+use Rattle.core_views.specs.Traces.{AreDistinct, IsCommandFor, slot_ids}
 use Rattle.mmu_core.specs.Steps.{next_line}
 
 -- A line is under way: it is the hand's next line, which has no answer yet.
@@ -14,12 +19,17 @@ UnderWay place.Between h = Unit {0}
 UnderWay (place.Access p) h = (h.state.line ≡ next_line h) × (length h.answers < length h.lines)
 UnderWay (place.SetSlot p) h = (h.state.line ≡ next_line h) × (length h.answers < length h.lines)
 
--- Lines: whose the hand is, and that its lines are its actor's; where it has set a slot, one of its answered lines did.
+-- One of the lines sets this slot at this ID.
+abbrev pub IsSetBy : List Line → ℕ × MemorySlot → Type 0
+IsSetBy lines entry = Contains (map (λ line. line.command) lines) (SetSlot entry.0 entry.1.slot)
+
+-- Lines: whose the hand is, and that its lines are its actor's; no two of them set a slot at one ID, and each slot of its record was set, as it is, by one of them, which is answered.
 pub record OwnLines (z : Sizes) (i : ℕ) (h : Held) : Type 0 where
   pub sizes : h.state.sizes ≡ z
   pub index : index_of z h.state.actor ≡ i
   pub allowed : All (λ line. IsCommandFor z line.actor line.command) h.lines
   pub own : All (λ line. line.actor ≡ h.state.actor) h.lines
-  pub once : settings h.lines ≤ 1
+  pub distinct : AreDistinct (slot_ids h.lines)
   pub under : UnderWay h.state.place h
-  pub counted : h.state.has_set_slot ≡ true → 1 ≤ settings (take (length h.answers) h.lines)
+  pub answered : All (Contains (slot_ids (take (length h.answers) h.lines))) (keys_of h.slots)
+  pub set : All (IsSetBy h.lines) h.slots

@@ -13,7 +13,9 @@ use Rattle.core_views.specs.declared.trace.Command.{Command}
 use Rattle.core_views.specs.declared.trace.Command.TheVariants.{Access, SetSlot}
 use Rattle.core_views.specs.declared.trace.Op.{Op}
 use Rattle.core_views.specs.declared.trace.Slot.{Slot as SlotOf}
-use Rattle.core_views.specs.Slots.{contains, is_write, slot_refusal}
+use Rattle.core_views.specs.Refusals.{set_refusal}
+use Rattle.core_views.specs.SlotSets.{MemorySlots}
+use Rattle.core_views.specs.Slots.{contains, is_write}
 use Rattle.mmu_core.specs.SetSlotSteps.{published_set}
 use Rattle.mmu_core.specs.SlotWords.{leaf_of, live_at, page_of, slot_at, slot_index}
 use Rattle.mmu_core.specs.SlotSetPart.{IsLive}
@@ -37,17 +39,17 @@ AccessHolds pool host Host s gfn op = Found pool s gfn op
 AccessHolds pool host Install s gfn op = Found pool s gfn op × (s.host ≡ host (page_of s.look.slot gfn))
 AccessHolds pool host Touch s gfn op = Found pool s gfn op × (s.spte ≡ leaf_of s.look.slot (host (page_of s.look.slot gfn)))
 
--- What a slot setting has stored stands in the words.
-abbrev pub SetSlotHolds : Sizes → (ℕ → ℕ) → SetSlotPlace → ℕ → SlotOf → Type 0
-SetSlotHolds z pool (Refuse refusal) id slot = slot_refusal z.pages id slot ≡ Some refusal
-SetSlotHolds z pool (Fill field.Base) id slot = slot_refusal z.pages id slot ≡ None
-SetSlotHolds z pool (Fill field.Pages) id slot = (slot_refusal z.pages id slot ≡ None) × (pool (slot_index published_set id field.Base) ≡ slot.base)
-SetSlotHolds z pool (Fill field.Host) id slot = (slot_refusal z.pages id slot ≡ None) × (pool (slot_index published_set id field.Base) ≡ slot.base) × (pool (slot_index published_set id field.Pages) ≡ slot.pages)
-SetSlotHolds z pool (Fill field.Flags) id slot = (slot_refusal z.pages id slot ≡ None) × (pool (slot_index published_set id field.Base) ≡ slot.base) × (pool (slot_index published_set id field.Pages) ≡ slot.pages) × (pool (slot_index published_set id field.Host) ≡ slot.host)
+-- The manager's record accepts the slot, and what a slot setting has stored stands in the words.
+abbrev pub SetSlotHolds : Sizes → (ℕ → ℕ) → SetSlotPlace → ℕ → SlotOf → MemorySlots → Type 0
+SetSlotHolds z pool (Refuse refusal) id slot slots = set_refusal z.pages id slot slots ≡ Some refusal
+SetSlotHolds z pool (Fill field.Base) id slot slots = set_refusal z.pages id slot slots ≡ None
+SetSlotHolds z pool (Fill field.Pages) id slot slots = (set_refusal z.pages id slot slots ≡ None) × (pool (slot_index published_set id field.Base) ≡ slot.base)
+SetSlotHolds z pool (Fill field.Host) id slot slots = (set_refusal z.pages id slot slots ≡ None) × (pool (slot_index published_set id field.Base) ≡ slot.base) × (pool (slot_index published_set id field.Pages) ≡ slot.pages)
+SetSlotHolds z pool (Fill field.Flags) id slot slots = (set_refusal z.pages id slot slots ≡ None) × (pool (slot_index published_set id field.Base) ≡ slot.base) × (pool (slot_index published_set id field.Pages) ≡ slot.pages) × (pool (slot_index published_set id field.Host) ≡ slot.host)
 
 -- Loads: what the line under way has loaded or stored agrees with the words.
-abbrev pub Holds : Sizes → (ℕ → ℕ) → (ℕ → ℕ) → Place → Command → State → Type 0
-Holds z pool host (place.Access p) (Access gfn word op) s = AccessHolds pool host p s gfn op
-Holds z pool host (place.SetSlot p) (SetSlot id slot) s = SetSlotHolds z pool p id slot
-Holds z pool host place.Between command s = Unit {0}
-Holds z pool host _ _ s = ⊥
+abbrev pub Holds : Sizes → (ℕ → ℕ) → (ℕ → ℕ) → Place → Command → MemorySlots → State → Type 0
+Holds z pool host (place.Access p) (Access gfn word op) slots s = AccessHolds pool host p s gfn op
+Holds z pool host (place.SetSlot p) (SetSlot id slot) slots s = SetSlotHolds z pool p id slot slots
+Holds z pool host place.Between command slots s = Unit {0}
+Holds z pool host _ _ slots s = ⊥

@@ -1,5 +1,5 @@
 -- The steps of the machine's parts: what each needs of the hand, and which word it is on.
-use Rattle.std.specs.Prelude.{◌≡◌, ◌≢◌, ◌+◌, ◌/◌, ◌%◌, ◌^◌, ◌<◌, ◌≤◌, ◌⊎◌, ℕ, Bool, true, false, ◌==◌, if◌then◌else◌, Option, Some, None, is_some}
+use Rattle.std.specs.Prelude.{◌≡◌, ◌≢◌, ◌+◌, ◌-◌, ◌/◌, ◌%◌, ◌^◌, ◌<◌, ◌≤◌, ◌⊎◌, ℕ, Bool, true, false, ◌==◌, if◌then◌else◌, Option, Some, None, is_some}
 use Rattle.std.specs.Int.{bit_not}
 use mir.Syntax.{w64}
 use Rattle.core_views.specs.declared.actor.Actor.{Actor}
@@ -7,22 +7,27 @@ use Rattle.core_views.specs.declared.actor.Actor.TheVariants.{Vcpu}
 use Rattle.core_views.specs.declared.kind.Kind.{Kind}
 use Rattle.core_views.specs.declared.kind.StepKind.{StepKind}
 use Rattle.core_views.specs.declared.kind.StepKind.TheVariants as kind
+use Rattle.core_views.specs.declared.topics.Checked.TheVariants as checked
 use Rattle.core_views.specs.declared.topics.Hold.{Hold}
 use Rattle.core_views.specs.declared.topics.Hold.TheVariants.{Loose, Shared, Owing, Exclusive}
+use Rattle.core_views.specs.declared.topics.HostLook.{HostLook}
+use Rattle.core_views.specs.declared.topics.Invalidations.{Invalidations}
 use Rattle.core_views.specs.declared.topics.OwnedPage.{OwnedPage}
 use Rattle.core_views.specs.declared.topics.Stay.TheVariants.{Outside, Guest, Section}
 use Rattle.core_views.specs.declared.topics.TableWalk.{TableWalk}
 use Rattle.core_views.specs.declared.topics.Topics.{Topics}
 use Rattle.core_views.specs.Held.{Held}
 use Rattle.core_views.specs.Sizes.{actors_of, index_of}
+use Rattle.core_views.specs.Slots.{contains}
 use Rattle.spte_words.specs.declared.area.Area.{Area}
 use Rattle.spte_words.specs.declared.area.Area.TheVariants as area
+use Rattle.spte_words.specs.declared.spte_kind.SpteKind.TheVariants as entry_kind
 use Rattle.spte_words.specs.Areas.{pool_index, size_of, words_of_bits}
-use Rattle.spte_words.specs.Entries.{level_span}
+use Rattle.spte_words.specs.Entries.{kind_of, level_span, table_word}
 use Rattle.mmu_core.specs.declared.outcome.Task.{Task}
 use Rattle.mmu_core.specs.declared.part_step.PartStep.{PartStep}
 use Rattle.mmu_core.specs.declared.part_step.PartStep.TheVariants as part
-use Rattle.mmu_core.specs.SlotWords.{slot_index}
+use Rattle.mmu_core.specs.SlotWords.{leaf_of, page_of, slot_index}
 use Rattle.mmu_core.specs.Tasks.{kind_of_task, loads, map_of}
 use Rattle.mmu_core.specs.TopicSteps.{tried_bit}
 
@@ -60,6 +65,22 @@ abbrev pub set_held : Option ℕ → ℕ
 set_held None = 0
 set_held (Some set) = set
 
+-- the host word that was loaded
+abbrev pub word_looked : Option HostLook → ℕ
+word_looked None = 0
+word_looked (Some look) = look.word
+
+-- what a link to the owned page is, and the leaf of the page that was looked up
+abbrev pub link_written : Topics → ℕ
+link_written t = table_word (page_owned t.owned)
+
+abbrev pub leaf_written : Topics → ℕ
+leaf_written t = leaf_of t.search.slot (word_looked t.host)
+
+-- an exchange of a guest frame's entry in the table that the walk has come to, where it is as it was loaded
+abbrev pub entry_task : ℕ → ℕ → TableWalk → ℕ → Task
+entry_task gfn new_ walk note = record { kind = kind.Swap; area = area.Pool; index = pool_index (table_page walk) (entry_index gfn walk.level); expected = walk.entry; written = new_; may_end = note }
+
 -- a step that stores, or an operation with this number
 abbrev pub works : StepKind → Area → ℕ → ℕ → ℕ → Task
 works k a index written note = record { kind = k; area = a; index = index; expected = 0; written = written; may_end = note }
@@ -91,6 +112,8 @@ part_task part.RangeStart own t note = loads kind.Control area.RangeStart 0 note
 part_task part.RangeEnd own t note = loads kind.Control area.RangeEnd 0 note
 part_task part.Root own t note = loads kind.Control area.Root 0 note
 part_task (part.Walk gfn) own t note = loads kind.Walk area.Pool (pool_index (table_page t.walk) (entry_index gfn t.walk.level)) note
+part_task (part.Link gfn) own t note = entry_task gfn (link_written t) t.walk note
+part_task (part.Leaf gfn) own t note = entry_task gfn (leaf_written t) t.walk note
 part_task (part.Host page) own t note = loads kind.Host area.Host page note
 part_task (part.Watch index) own t note = loads kind.Watch area.State index note
 
@@ -137,6 +160,51 @@ OwnsPage t = is_some t.owned ≡ true
 abbrev pub HoldsSet : Topics → Type 0
 HoldsSet t = is_some t.search.set ≡ true
 
+-- The walk has come to a table, and this table has the guest frame's entry of its level.
+pub record IsOver (gfn : ℕ) (walk : TableWalk) : Type 0 where
+  pub small : gfn < 2 ^ 36
+  pub there : 1 ≤ walk.level
+  pub run : gfn / level_span walk.level / 512 ≡ walk.prefix
+
+-- The guest frame's entry in the walk's table was loaded.
+pub record SawEntry (gfn : ℕ) (walk : TableWalk) : Type 0 where
+  pub over : IsOver gfn walk
+  pub loaded : walk.index ≡ entry_index gfn walk.level
+
+-- The page that is owned is filled whole, as a table of the level whose entries are absent.
+pub record OwnsTable (level : ℕ) (t : Topics) : Type 0 where
+  pub owned : OwnedPage
+  pub is : t.owned ≡ Some owned
+  pub whole : owned.filled ≡ 513
+  pub absent : owned.absent ≡ true
+  pub role : owned.role ≡ level
+
+-- A slot with the guest frame was loaded whole.
+pub record FoundSlot (gfn : ℕ) (t : Topics) : Type 0 where
+  pub whole : t.search.whole ≡ true
+  pub holds : contains gfn t.search.slot ≡ true
+
+-- And the host word of the page behind the guest frame.
+pub record LookedUp (gfn : ℕ) (t : Topics) : Type 0 where
+  pub found : FoundSlot gfn t
+  pub word : ℕ
+  pub host : t.host ≡ Some (record { page = page_of t.search.slot gfn; word = word })
+
+-- The look-up is checked under the lock: its snapshot is the sequence number still, and no invalidation is open over the guest frame
+-- (locking.rst, mmu_invalidate_retry_gfn).
+pub record IsFresh (gfn : ℕ) (n : Invalidations) : Type 0 where
+  pub checked_all : n.checked ≡ checked.All
+  pub still : n.snapshot ≡ Some n.seq
+  pub none_over : (n.count ≡ 0) ⊎ (gfn < n.start) ⊎ (n.end ≤ gfn)
+
+-- A fault may store an entry of the guest frame's: it shares the lock, in a section, with a fresh look-up, and saw the entry.
+pub record MayEnter (gfn : ℕ) (t : Topics) : Type 0 where
+  pub shares : t.hold ≡ Shared
+  pub section : t.stay ≡ Section
+  pub fresh : IsFresh gfn t.invalidations
+  pub looked_up : LookedUp gfn t
+  pub saw : SawEntry gfn t.walk
+
 -- what a step needs of the hand
 abbrev pub PartNeeds : PartStep → Held → Type 0
 PartNeeds part.Enter h = IsVcpu h.state.actor × (h.topics.stay ≡ Outside)
@@ -159,7 +227,9 @@ PartNeeds part.Count h = Unit {0}
 PartNeeds part.RangeStart h = Unit {0}
 PartNeeds part.RangeEnd h = Unit {0}
 PartNeeds part.Root h = Unit {0}
-PartNeeds (part.Walk gfn) h = 1 ≤ h.topics.walk.level
+PartNeeds (part.Walk gfn) h = IsOver gfn h.topics.walk
+PartNeeds (part.Link gfn) h = MayEnter gfn h.topics × (2 ≤ h.topics.walk.level) × (kind_of h.topics.walk.level h.topics.walk.entry ≡ entry_kind.Absent) × OwnsTable (h.topics.walk.level - 1) h.topics
+PartNeeds (part.Leaf gfn) h = MayEnter gfn h.topics × (h.topics.walk.level ≡ 1)
 PartNeeds (part.Host page) h = page < h.state.sizes.pages
 PartNeeds (part.Watch index) h = (index < actors_of h.state.sizes) × (index ≢ own_index h) × ((index ≡ next_watched (own_index h) 0) ⊎ (index ≡ next_watched (own_index h) h.topics.watched))
 

@@ -1,9 +1,10 @@
 -- Pool pages: what each of them is.
-use Rattle.std.specs.Prelude.{◌≡◌, ◌+◌, ◌/◌, ◌%◌, ◌<◌, ◌≤◌, ℕ, Bool, true, false, ◌==◌, Option, Some, None}
+use Rattle.std.specs.Prelude.{◌≡◌, ◌+◌, ◌/◌, ◌%◌, ◌<◌, ◌≤◌, ℕ, Bool, true, false, ◌==◌, Option, Some, None, is_some}
 use Rattle.core_views.specs.declared.topics.OwnedPage.{OwnedPage}
 use Rattle.spte_words.specs.Areas.{pool_index}
 use Rattle.spte_words.specs.Bits.{has_bit}
 use Rattle.mmu_core.specs.Sums.{one_if, sum_below}
+use Rattle.mmu_core.specs.TreePart.{Position}
 
 -- The page's bit in the map is set.
 abbrev pub is_free : (ℕ → ℕ) → ℕ → Bool
@@ -17,18 +18,19 @@ is_owned (Some o) k = o.page == k
 abbrev pub owners : ℕ → (ℕ → Option OwnedPage) → ℕ → ℕ
 owners n owned k = sum_below n (λ i. one_if (is_owned (owned i) k))
 
--- Each page is exactly one of these: free, owned by one actor, the root, the published slot set. Bits behind the last page are clear.
-pub record PoolPart (n pages root slots : ℕ) (map : ℕ → ℕ) (owned : ℕ → Option OwnedPage) : Type 0 where
-  pub each : (k : ℕ) → k < pages → one_if (is_free map k) + owners n owned k + one_if (root == k) + one_if (slots == k) ≡ 1
+-- Each page is exactly one of these: free, owned by one actor, a table (the root, or linked below it), the published slot set. Bits
+-- behind the last page are clear.
+pub record PoolPart (n pages slots : ℕ) (map : ℕ → ℕ) (owned : ℕ → Option OwnedPage) (stands : ℕ → Option Position) : Type 0 where
+  pub each : (k : ℕ) → k < pages → one_if (is_free map k) + owners n owned k + one_if (is_some (stands k)) + one_if (slots == k) ≡ 1
   pub behind : (k : ℕ) → pages ≤ k → is_free map k ≡ false
   pub there : (i : ℕ) (o : OwnedPage) → i < n → owned i ≡ Some o → o.page < pages
-  pub root_there : root < pages
   pub slots_there : slots < pages
 
--- What an owner has filled: 512 words and the role at most, and where it says that all are 0 they are.
-abbrev pub FilledPart : ℕ → (ℕ → ℕ) → (ℕ → Option OwnedPage) → Type 0
-FilledPart n pool owned = (i : ℕ) (o : OwnedPage) → i < n → owned i ≡ Some o → (o.filled ≤ 513) × (o.absent ≡ true → (j : ℕ) → j < o.filled → j < 512 → pool (pool_index o.page j) ≡ 0)
+-- What an owner has filled: 512 words and the role at most; where it says that all are 0 they are; and the role is what it says.
+pub record IsFilled (role pool : ℕ → ℕ) (o : OwnedPage) : Type 0 where
+  pub most : o.filled ≤ 513
+  pub absent : o.absent ≡ true → (j : ℕ) → j < o.filled → j < 512 → pool (pool_index o.page j) ≡ 0
+  pub role_is : o.filled ≡ 513 → role o.page ≡ o.role
 
--- Until tables are linked, the root's entries are absent.
-abbrev pub TablesPart : ℕ → (ℕ → ℕ) → Type 0
-TablesPart root pool = (j : ℕ) → j < 512 → pool (pool_index root j) ≡ 0
+abbrev pub FilledPart : ℕ → (ℕ → ℕ) → (ℕ → ℕ) → (ℕ → Option OwnedPage) → Type 0
+FilledPart n role pool owned = (i : ℕ) (o : OwnedPage) → i < n → owned i ≡ Some o → IsFilled role pool o

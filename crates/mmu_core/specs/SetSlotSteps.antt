@@ -1,17 +1,18 @@
 -- The order of steps of a slot setting: a refused one makes one load of the sequence; else the slot's words are stored, its flags
 -- last, with which the slot is live (api.rst, KVM_SET_USER_MEMORY_REGION).
-use Rattle.std.specs.Prelude.{ℕ, List, [], ◌∷◌, true, Option, Some, None}
+use Rattle.std.specs.Prelude.{ℕ, List, [], ◌∷◌, Option, Some, None}
 use Rattle.core_views.specs.declared.answer.Answer.TheVariants.{Done, Refused}
 use Rattle.core_views.specs.declared.answer.Refusal.{Refusal}
 use Rattle.core_views.specs.declared.event.EventKind.{EventKind}
 use Rattle.core_views.specs.declared.event.EventKind.TheVariants.{SlotChanged}
-use Rattle.core_views.specs.declared.hand.State.{State}
 use Rattle.core_views.specs.declared.kind.StepKind.TheVariants as kind
 use Rattle.core_views.specs.declared.place.SetSlotPlace.{SetSlotPlace}
 use Rattle.core_views.specs.declared.place.SetSlotPlace.TheVariants.{Refuse, Fill}
 use Rattle.core_views.specs.declared.place.Place.TheVariants.{SetSlot}
 use Rattle.core_views.specs.declared.place.SlotField.TheVariants.{Base, Pages, Host, Flags}
 use Rattle.core_views.specs.declared.trace.Slot.{Slot}
+use Rattle.core_views.specs.Refusals.{after_set}
+use Rattle.core_views.specs.SlotSets.{MemorySlots}
 use Rattle.spte_words.specs.declared.area.Area.TheVariants as area
 use Rattle.mmu_core.specs.declared.outcome.Outcome.{Outcome}
 use Rattle.mmu_core.specs.declared.outcome.Outcome.TheVariants.{Goes, Ends}
@@ -33,10 +34,10 @@ set_slot_task (Refuse refusal) id slot = loads kind.Control area.Seq 0 1
 set_slot_task (Fill Flags) id slot = record { kind = kind.Fill; area = area.Pool; index = slot_index published_set id Flags; expected = 0; written = field_word Flags slot; may_end = 1 }
 set_slot_task (Fill field) id slot = record { kind = kind.Fill; area = area.Pool; index = slot_index published_set id field; expected = 0; written = field_word field slot; may_end = 0 }
 
--- the manager's record after a step: a slot is set once its flags are stored
-abbrev pub set_slot_loads : SetSlotPlace → State → State
-set_slot_loads (Fill Flags) s = record s { has_set_slot = true }
-set_slot_loads _ s = s
+-- the manager's record of the slots after a step: it has the slot once the flags are stored
+abbrev pub set_slot_records : SetSlotPlace → ℕ → Slot → MemorySlots → MemorySlots
+set_slot_records (Fill Flags) id slot slots = after_set id slot slots
+set_slot_records _ id slot slots = slots
 
 abbrev pub set_slot_outcome : SetSlotPlace → Outcome
 set_slot_outcome (Refuse refusal) = Ends (Refused refusal)

@@ -15,12 +15,13 @@ use Rattle.core_views.specs.declared.trace.Command.TheVariants.{Access, SetSlot}
 use Rattle.core_views.specs.declared.trace.Line.{Line}
 use Rattle.core_views.specs.Flat.{no_line}
 use Rattle.core_views.specs.Held.{Held, first_held}
-use Rattle.core_views.specs.Slots.{slot_refusal}
+use Rattle.core_views.specs.Refusals.{set_refusal}
+use Rattle.core_views.specs.SlotSets.{MemorySlots}
 use Rattle.mmu_core.specs.declared.outcome.Outcome.{Outcome}
 use Rattle.mmu_core.specs.declared.outcome.Outcome.TheVariants.{Goes}
 use Rattle.mmu_core.specs.declared.outcome.Task.{Task}
 use Rattle.mmu_core.specs.AccessSteps.{access_loads, access_outcome, access_task, access_tells}
-use Rattle.mmu_core.specs.SetSlotSteps.{set_slot_first, set_slot_loads, set_slot_outcome, set_slot_task, set_slot_tells}
+use Rattle.mmu_core.specs.SetSlotSteps.{set_slot_first, set_slot_outcome, set_slot_records, set_slot_task, set_slot_tells}
 use Rattle.mmu_core.specs.Tasks.{answering, answers_after, no_task, place_after}
 use Rattle.mmu_core.specs.TopicSteps.{topics_after}
 
@@ -35,19 +36,19 @@ line_at (place.Access p) h = h.state.line
 line_at (place.SetSlot p) h = h.state.line
 
 -- where a line begins
-abbrev pub first_place : Sizes → Command → Place
-first_place z (Access gfn word op) = place.Access Slots
-first_place z (SetSlot id slot) = place.SetSlot (set_slot_first (slot_refusal z.pages id slot))
+abbrev pub first_place : Sizes → MemorySlots → Command → Place
+first_place z slots (Access gfn word op) = place.Access Slots
+first_place z slots (SetSlot id slot) = place.SetSlot (set_slot_first (set_refusal z.pages id slot slots))
 
 -- where a line with this command stands, which is at its first place where it hasn't begun
-abbrev pub standing : Place → Sizes → Command → Place
-standing place.Between z command = first_place z command
-standing (place.Access p) z command = place.Access p
-standing (place.SetSlot p) z command = place.SetSlot p
+abbrev pub standing : Place → Sizes → MemorySlots → Command → Place
+standing place.Between z slots command = first_place z slots command
+standing (place.Access p) z slots command = place.Access p
+standing (place.SetSlot p) z slots command = place.SetSlot p
 
 -- where the line of the hand's next step stands
 abbrev pub place_at : Place → Held → Place
-place_at p h = standing p h.state.sizes (line_at p h).command
+place_at p h = standing p h.state.sizes h.slots (line_at p h).command
 
 -- what the step of a place is to do for the command
 abbrev pub task_at : Place → Command → State → Task
@@ -58,8 +59,12 @@ task_at _ _ s = no_task
 -- what the state has loaded after it
 abbrev pub loads_at : Place → Command → State → ℕ → State
 loads_at (place.Access p) (Access gfn word op) s v = access_loads p s v
-loads_at (place.SetSlot p) (SetSlot id slot) s v = set_slot_loads p s
 loads_at _ _ s v = s
+
+-- the manager's own record of the slots after it
+abbrev pub records_at : Place → Command → MemorySlots → MemorySlots
+records_at (place.SetSlot p) (SetSlot id slot) slots = set_slot_records p id slot slots
+records_at _ _ slots = slots
 
 -- where the line stands after it
 abbrev pub outcome_at : Place → Command → State → ℕ → Outcome
@@ -82,6 +87,7 @@ abbrev pub line_after : Line → Place → Held → ℕ → Held
 line_after line p h v = record {
   state = record (loads_at p line.command h.state v) { line = line; place = place_after (outcome_at p line.command h.state v) };
   topics = h.topics;
+  slots = records_at p line.command h.slots;
   lines = h.lines;
   answers = answers_after (outcome_at p line.command h.state v) line h.answers;
 }
@@ -91,6 +97,7 @@ abbrev pub held_after : Line → Place → Held → Kind → ℕ → Held
 held_after line p h k v = record {
   state = record (loads_at p line.command h.state v) { line = line; place = place_after (outcome_at p line.command h.state v) };
   topics = topics_after h.state.sizes k h.topics v;
+  slots = records_at p line.command h.slots;
   lines = h.lines;
   answers = answers_after (outcome_at p line.command h.state v) line h.answers;
 }
@@ -101,7 +108,7 @@ has_line h = nat_lt (length h.answers) (length h.lines)
 
 -- the hand after a step of a part, which is no line's
 abbrev pub idle_after : Held → Kind → ℕ → Held
-idle_after h k v = record { state = h.state; topics = topics_after h.state.sizes k h.topics v; lines = h.lines; answers = h.answers }
+idle_after h k v = record { state = h.state; topics = topics_after h.state.sizes k h.topics v; slots = h.slots; lines = h.lines; answers = h.answers }
 
 -- the hand after this step, which answered v: its line's next step where it has a line left, else a step of a part
 abbrev pub next_by : Bool → Held → Kind → ℕ → Held

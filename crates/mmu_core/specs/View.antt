@@ -13,7 +13,7 @@ use Rattle.spte_words.specs.Areas.{number_of, place, size_of}
 use Rattle.mmu_core.specs.declared.outcome.Task.{Task}
 use Rattle.mmu_core.specs.Enabled.{mmu}
 use Rattle.mmu_core.specs.Machine.{World, hand_in}
-use Rattle.mmu_core.specs.Steps.{idle_after, loads_at, outcome_at, task_at}
+use Rattle.mmu_core.specs.Steps.{idle_after, loads_at, outcome_at, records_at, task_at}
 use Rattle.mmu_core.specs.PartSteps.{own_index, part_task}
 use Rattle.mmu_core.specs.declared.part_step.PartStep.{PartStep}
 use Rattle.mmu_core.specs.Tasks.{answers_after, kind_of_task, map_of, place_after}
@@ -61,6 +61,7 @@ abbrev pub hand_after : Line → Command → Place → Held → ℕ → Held
 hand_after line command p h v = record {
   state = record (loads_at p command h.state v) { line = line; place = place_after (outcome_at p command h.state v) };
   topics = topics_after h.state.sizes (kind_of_task h.state.sizes (task_at p command h.state)) h.topics v;
+  slots = records_at p command h.slots;
   lines = h.lines;
   answers = answers_after (outcome_at p command h.state v) line h.answers;
 }

@@ -11,7 +11,7 @@ ghost use Rattle.spte_words.specs.Entries.{absent_word};
 
 use crate::map_of;
 use crate::outcome::{Outcome, Task};
-use crate::slot_words::{leaf_of, slot_word};
+use crate::slot_words::{leaf_of, page_of, slot_word};
 use core_views::{AccessPlace, Answer, Op, Place, SlotField, State, StepKind};
 use spte_words::{Area, HostWord, SlotFlags, Spte};
 
@@ -54,14 +54,12 @@ pub(crate) fn task(place: AccessPlace, state: &State, gfn: u64, word: u8, op: Op
                 1,
             )
         }
-        AccessPlace::Walk => Task::load(StepKind::Walk, Area::Linear, gfn - slot.base, 0),
-        AccessPlace::Host => {
-            Task::load(StepKind::Host, Area::Host, slot.host + (gfn - slot.base), 0)
-        }
+        AccessPlace::Walk => Task::load(StepKind::Walk, Area::Linear, page_of(slot, gfn), 0),
+        AccessPlace::Host => Task::load(StepKind::Host, Area::Host, page_of(slot, gfn), 0),
         AccessPlace::Install => Task {
             kind: StepKind::Swap,
             area: Area::Linear,
-            index: gfn - slot.base,
+            index: page_of(slot, gfn),
             expected: Spte::absent().word(),
             written: leaf_of(slot, state.host),
             may_end: 0,

@@ -1,5 +1,9 @@
 ghost use Rattle.std.specs.Prelude.{◌<◌, length};
+ghost use Rattle.mmu_core.specs.Enough.{EachTableIsWanted, EnoughPages};
 ghost use Rattle.mmu_core.specs.Example.{EachMayStep, EveryMachineStarts, ExamplePrints, ExampleRuns};
+ghost use Rattle.mmu_core.specs.FaultAlone.{FaultGoesThrough, LeadsDown};
+ghost use Rattle.mmu_core.specs.FaultRuns.{ExampleFault, FaultAloneEnds, FaultAloneIsServed};
+ghost use Rattle.mmu_core.specs.FaultLaws.{FaultIsBounded, FaultMeetsNeeds, FaultStaysKnown, FaultStepsFall, PartsAnswer};
 ghost use Rattle.mmu_core.specs.Histories.{AnswersAreTold, EndsWhole};
 ghost use Rattle.mmu_core.specs.Laws.{StaysSound, TellsLawfully};
 ghost use Rattle.mmu_core.specs.Rests.{Rests};
@@ -39,4 +43,46 @@ pub fn the_steps_can_be_made()
 pub fn every_answer_is_told()
     ensures answers { AnswersAreTold }
     ensures whole { EndsWhole }
+{}
+
+/// The order of a fault's steps can be kept, and comes to an end: what it knows
+/// at a place, with what every reachable hand rests on, is what the step of this
+/// place needs; whatever that step answers, the fault knows what its next place
+/// asks; and each step that doesn't wait for another actor leaves it fewer steps,
+/// of which it has at most 8,192 and one for each pool page (tdp_mmu.c,
+/// `kvm_tdp_mmu_map`; locking.rst).
+pub fn a_fault_goes_on()
+    ensures needs { FaultMeetsNeeds }
+    ensures answers { PartsAnswer }
+    ensures known { FaultStaysKnown }
+    ensures falls { FaultStepsFall }
+    ensures bounded { FaultIsBounded }
+{}
+
+/// A pool of `need` pages is enough, in every list of steps: each table below
+/// the root is for a run of guest frames that a slot line of the trace wants
+/// (one that sets a slot of at least one page, and no more than the machine has,
+/// below guest frame 2^36); and where the pool has as many pages as `need` says,
+/// and no actor owns one, some page of it is free, so that who claims one then is
+/// not starved (tdp_mmu.c, `kvm_tdp_mmu_map`; mmu.rst, "Translation").
+pub fn the_pool_is_enough()
+    ensures wanted { EachTableIsWanted }
+    ensures enough { EnoughPages }
+{}
+
+/// What a fault comes to that runs while all other actors rest: no step of it
+/// waits, it never begins anew, where it ends with an entry installed, links lead
+/// from the root to a leaf that allows the access, and where it is starved, each
+/// word of the pool's map is 0, up to where its claim came (tdp_mmu.c,
+/// `kvm_tdp_mmu_map`; locking.rst). So the fault of an actor with no line left is
+/// over after at most 8,192 steps and one for each pool page, and isn't starved
+/// where the pool has as many pages as `need` says; and one from a start links a
+/// table of each level below the root, and installs the leaf. From each table over
+/// a guest frame links lead to the same entries as from the root.
+pub fn a_fault_alone_goes_through()
+    ensures through { FaultGoesThrough }
+    ensures leads { LeadsDown }
+    ensures ends { FaultAloneEnds }
+    ensures served { FaultAloneIsServed }
+    ensures example { ExampleFault }
 {}

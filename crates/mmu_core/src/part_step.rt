@@ -1,13 +1,16 @@
 //! The steps of the machine's parts: which word each is on, and what is done
 //! with it.
-ghost use Rattle.std.specs.Prelude.{◌≡◌, ◌≢◌, ◌⊎◌, ◌≤◌, ◌<◌, ◌^◌, ◌/◌, ◌%◌, ℕ, true, false, Some, is_some};
+ghost use Rattle.std.specs.Prelude.{◌≡◌, ◌≢◌, ◌⊎◌, ◌≤◌, ◌<◌, ◌-◌, ◌^◌, ◌/◌, ◌%◌, ℕ, true, false, Some, is_some};
 ghost use Rattle.core_views.specs.declared.kind.StepKind.TheVariants as StepKind;
 ghost use Rattle.core_views.specs.declared.topics.OwnedPage.{OwnedPage};
 ghost use Rattle.spte_words.specs.declared.area.Area.TheVariants as Area;
 ghost use Rattle.spte_words.specs.Areas.{IsWordMap, pool_index, size_of};
 ghost use Rattle.mmu_core.specs.PartRests.{MayMake, PartRests};
-ghost use Rattle.mmu_core.specs.PartSteps.{PartNeeds, all_but, entry_index, fill_task, next_watched, own_index, page_owned, part_kind, part_task, set_held, table_page, words_filled, works};
-ghost use Rattle.mmu_core.specs.SlotWords.{slot_index};
+ghost use Rattle.core_views.specs.Slots.{contains};
+ghost use Rattle.mmu_core.specs.PartSteps.{IsFresh, IsOver, MayEnter, OwnsTable, PartNeeds, SawEntry, all_but, entry_index, entry_task, fill_task, leaf_written, next_watched, own_index, page_owned, part_kind, part_task, set_held, table_page, word_looked, words_filled, works};
+ghost use Rattle.mmu_core.specs.SlotWords.{page_of, slot_index};
+ghost use Rattle.spte_words.specs.Entries.{level_span, table_word};
+ghost use Rattle.spte_words.specs.HostWords.{host_frame};
 ghost use Rattle.mmu_core.specs.Steps.{has_line};
 ghost use Rattle.mmu_core.specs.Tasks.{loads, map_of};
 ghost use Rattle.mmu_core.specs.TopicSteps.{tried_bit};
@@ -16,13 +19,14 @@ ghost use Rattle.mmu_core.specs.declared.part_step.PartStep.TheVariants.{Enter, 
 
 use crate::map_of;
 use crate::outcome::Task;
-use crate::slot_words::slot_word;
+use crate::slot_words::{leaf_of, slot_word};
 use crate::step::kind_of;
 use crate::topics::WRITER;
 use core_views::{
-    Actor, Hand, Hold, Kind, MapClaim, OwnedPage, SlotSearch, Stay, StepKind, TableWalk,
+    Actor, Checked, Hand, Hold, HostLook, Invalidations, Kind, MapClaim, OwnedPage, Slot,
+    SlotSearch, Stay, StepKind, TableWalk, Topics,
 };
-use spte_words::{Area, Spte, WordMap};
+use spte_words::{Area, Spte, SpteKind, WordMap};
 
 /// One step of a part of the machine, with the number that its caller gives.
 /// Which word it is on follows from this, and from what the hand holds.
@@ -70,6 +74,10 @@ pub enum PartStep {
     Root,
     /// Loads the entry of this guest frame in the table that the walk has come to.
     Walk(u64),
+    /// Links the page that it owns as a table, at the entry of this guest frame.
+    Link(u64),
+    /// Puts the leaf of this guest frame's page at its entry.
+    Leaf(u64),
     /// Loads the host word of this page.
     Host(u64),
     /// Loads the state word of the actor at this place.
@@ -156,6 +164,15 @@ fn slot(map: &WordMap, search: &SlotSearch, note: u64) -> Task
     )
 }
 
+// The run of entries of the level that the guest frame is in.
+fn run_of(gfn: u64, level: u8) -> u64
+    requires from { 1 ≤ level }
+    requires to { level ≤ 4 }
+    ensures { result ≡ gfn / level_span level }
+{
+    gfn / Spte::level_span(level)
+}
+
 // Loads the guest frame's entry in the table that the walk has come to.
 fn walk(map: &WordMap, walk: &TableWalk, gfn: u64, note: u64) -> Task
     requires map { IsWordMap map.now }
@@ -165,9 +182,51 @@ fn walk(map: &WordMap, walk: &TableWalk, gfn: u64, note: u64) -> Task
     ensures task { result ≡ loads StepKind.Walk Area.Pool (pool_index (table_page walk.now) (entry_index gfn walk.now.level)) note }
     ensures within { result.index < size_of map.now result.area }
 {
-    let entry = gfn / Spte::level_span(walk.level) % 512;
-    let index = map.pool_index(table_page(walk), entry);
+    let index = map.pool_index(table_page(walk), run_of(gfn, walk.level) % 512);
     Task::load(StepKind::Walk, Area::Pool, index, note)
+}
+
+// Exchanges the guest frame's entry in the table that the walk has come to.
+fn enter(map: &WordMap, walk: &TableWalk, gfn: u64, new: u64, note: u64) -> Task
+    requires map { IsWordMap map.now }
+    requires from { 1 ≤ walk.now.level }
+    requires to { walk.now.level ≤ 4 }
+    requires page { table_page walk.now < map.now.pool }
+    ensures task { result ≡ entry_task gfn new walk.now note }
+    ensures within { result.index < size_of map.now result.area }
+{
+    Task {
+        kind: StepKind::Swap,
+        area: Area::Pool,
+        index: map.pool_index(table_page(walk), run_of(gfn, walk.level) % 512),
+        expected: walk.entry,
+        written: new,
+        may_end: note,
+    }
+}
+
+// A link to the owned page.
+fn link(owned: Option<OwnedPage>) -> u64
+    requires page { (o : OwnedPage) → owned ≡ Some o → o.page < 2 ^ 32 }
+    requires owned { is_some owned ≡ true }
+    ensures { result ≡ table_word (page_owned owned) }
+{
+    let Some(OwnedPage { page, .. }) = owned else {
+        unreachable!()
+    };
+    Spte::table(page as u32).word()
+}
+
+// The leaf of the page that was looked up.
+fn leaf(topics: &Topics) -> u64
+    requires frame { host_frame (word_looked topics.now.host) < 2 ^ 40 }
+    requires looked { is_some topics.now.host ≡ true }
+    ensures { result ≡ leaf_written topics.now }
+{
+    let Some(HostLook { word, .. }) = topics.host else {
+        unreachable!()
+    };
+    leaf_of(&topics.search.slot, word)
 }
 
 // Tries to take the lowest free page of those seen.
@@ -228,6 +287,8 @@ fn task(hand: &Hand, step: PartStep, note: u64) -> Task
         PartStep::RangeEnd => Task::load(StepKind::Control, Area::RangeEnd, 0, note),
         PartStep::Root => Task::load(StepKind::Control, Area::Root, 0, note),
         PartStep::Walk(gfn) => walk(map, &topics.walk, gfn, note),
+        PartStep::Link(gfn) => enter(map, &topics.walk, gfn, link(topics.owned), note),
+        PartStep::Leaf(gfn) => enter(map, &topics.walk, gfn, leaf(topics), note),
         PartStep::Host(page) => Task::load(StepKind::Host, Area::Host, page, note),
         PartStep::Watch(index) => Task::load(StepKind::Watch, Area::State, index, note),
     }
@@ -266,6 +327,75 @@ fn goes_on_to(word: u64, claim: &MapClaim) -> bool
     word == 0 || (word == claim.at && claim.seen == 0)
 }
 
+// Whether the walk's table has the guest frame's entry of its level.
+fn is_over(gfn: u64, walk: &TableWalk) -> bool
+    requires { walk.now.level ≤ 4 }
+    ensures { result ≡ true → IsOver gfn walk.now }
+{
+    gfn < 1 << 36 && walk.level >= 1 && run_of(gfn, walk.level) / 512 == walk.prefix
+}
+
+// Whether the guest frame's entry was loaded.
+fn saw_entry(gfn: u64, walk: &TableWalk) -> bool
+    requires { walk.now.level ≤ 4 }
+    ensures { result ≡ true → SawEntry gfn walk.now }
+{
+    is_over(gfn, walk) && walk.index == run_of(gfn, walk.level) % 512
+}
+
+// Whether what was looked up of the guest frame is fresh.
+fn is_fresh(gfn: u64, invalidations: &Invalidations) -> bool
+    ensures { result ≡ true → IsFresh gfn invalidations.now }
+{
+    invalidations.checked == Checked::All
+        && invalidations.snapshot == Some(invalidations.seq)
+        && (invalidations.count == 0 || gfn < invalidations.start || invalidations.end <= gfn)
+}
+
+// Whether the host page is the one behind a guest frame of the slot.
+fn is_behind(page: u64, slot: &Slot, gfn: u64) -> bool
+    requires { slot.now.base ≤ gfn }
+    ensures { result ≡ true → page ≡ page_of slot.now gfn }
+{
+    page >= slot.host && page - slot.host == gfn - slot.base
+}
+
+// Whether a slot with the guest frame, and the host word of its page, were loaded.
+fn looked_up(gfn: u64, search: &SlotSearch, host: Option<HostLook>) -> bool
+    ensures { result ≡ true → (search.now.whole ≡ true) × (contains gfn search.now.slot ≡ true) × ((word : ℕ) × (host ≡ Some (record { page = page_of search.now.slot gfn; word = word }))) }
+{
+    let slot = &search.slot;
+    let Some(look) = host else {
+        return false;
+    };
+    search.whole && slot.contains(gfn) && is_behind(look.page, slot, gfn)
+}
+
+// Whether the hand may store an entry of the guest frame's.
+fn may_enter(gfn: u64, topics: &Topics) -> bool
+    requires { topics.now.walk.level ≤ 4 }
+    ensures { result ≡ true → MayEnter gfn topics.now }
+{
+    topics.hold == Hold::Shared
+        && topics.stay == Stay::Section
+        && is_fresh(gfn, &topics.invalidations)
+        && looked_up(gfn, &topics.search, topics.host)
+        && saw_entry(gfn, &topics.walk)
+}
+
+// Whether the page that is owned is filled as a table of the level below.
+fn owns_table(topics: &Topics) -> bool
+    requires { 1 ≤ topics.now.walk.level }
+    ensures { result ≡ true → OwnsTable (topics.now.walk.level - 1) topics.now }
+{
+    match topics.owned {
+        Some(owned) => {
+            owned.filled == 513 && owned.absent && owned.role == topics.walk.level as u64 - 1
+        }
+        None => false,
+    }
+}
+
 // Whether the hand holds what the step needs.
 fn has_needs(hand: &Hand, step: PartStep) -> bool
     requires { PartRests hand.now.core }
@@ -300,7 +430,14 @@ fn has_needs(hand: &Hand, step: PartStep) -> bool
         },
         PartStep::Give => topics.owned.is_some(),
         PartStep::Slot => topics.search.set.is_some() && topics.search.id <= 31,
-        PartStep::Walk(_) => topics.walk.level >= 1,
+        PartStep::Walk(gfn) => is_over(gfn, &topics.walk),
+        PartStep::Link(gfn) => {
+            may_enter(gfn, topics)
+                && topics.walk.level >= 2
+                && Spte::from_word(topics.walk.entry).kind(topics.walk.level) == SpteKind::Absent
+                && owns_table(topics)
+        }
+        PartStep::Leaf(gfn) => may_enter(gfn, topics) && topics.walk.level == 1,
         PartStep::Host(page) => page < sizes.pages,
         PartStep::Watch(index) => {
             index < sizes.actors()

@@ -1,50 +1,28 @@
 //! The steps of a slot setting.
 ghost use Rattle.std.specs.Prelude.{◌≡◌, ◌≤◌, ◌<◌};
 ghost use Rattle.core_views.specs.Sizes.{AreSizes};
-ghost use Rattle.core_views.specs.Slots.{slot_refusal};
-ghost use Rattle.core_views.specs.Traces.{IsSlotInRange};
-ghost use Rattle.mmu_core.specs.Rests.{SetSlotRests};
-ghost use Rattle.mmu_core.specs.SetSlotSteps.{set_slot_first, set_slot_loads, set_slot_outcome, set_slot_task};
+ghost use Rattle.core_views.specs.Refusals.{set_refusal};
+ghost use Rattle.mmu_core.specs.Rests.{RecordAccepts, SetSlotRests};
+ghost use Rattle.mmu_core.specs.SetSlotSteps.{set_slot_first, set_slot_outcome, set_slot_records, set_slot_task};
 ghost use Rattle.mmu_core.specs.Tasks.{map_of};
 ghost use Rattle.spte_words.specs.Areas.{size_of};
 
 use crate::map_of;
 use crate::outcome::{Outcome, Task};
 use crate::slot_words::{field_word, slot_word};
-use core_views::{Answer, Place, Refusal, SetSlotPlace, Sizes, Slot, SlotField, State, StepKind};
+use core_views::{Answer, Place, SetSlotPlace, Sizes, Slot, SlotField, SlotSet, StepKind};
 use spte_words::Area;
 
 /// The pool page of the published slot set, which is the manager's.
 const PUBLISHED_SET: u64 = 1;
 
-/// The last ID of a slot.
-const LAST_ID: u64 = 31;
-
-/// How many guest frames there are.
-const GUEST_FRAMES: u64 = 1 << 36;
-
-// Why a slot is refused, if it is.
-fn refusal(pages: u64, id: u64, slot: &Slot) -> Option<Refusal>
-    requires slot { IsSlotInRange slot.now }
-    ensures is { result ≡ slot_refusal pages id slot.now }
+/// Where a setting begins, by the manager's own record of the slots.
+pub(crate) fn first(sizes: &Sizes, slots: &SlotSet, id: u64, slot: &Slot) -> SetSlotPlace
+    ensures { result ≡ set_slot_first (set_refusal sizes.now.pages id slot.now slots.now) }
 {
-    if id > LAST_ID {
-        Some(Refusal::BadId)
-    } else if slot.base + slot.pages > GUEST_FRAMES || slot.host + slot.pages > pages {
-        Some(Refusal::TooLarge)
-    } else {
-        None
-    }
-}
-
-/// Where a setting begins.
-pub(crate) fn first(sizes: &Sizes, id: u64, slot: &Slot) -> SetSlotPlace
-    requires { IsSlotInRange slot.now }
-    ensures { result ≡ set_slot_first (slot_refusal sizes.now.pages id slot.now) }
-{
-    match refusal(sizes.pages, id, slot) {
-        Some(refusal) => SetSlotPlace::Refuse(refusal),
-        None => SetSlotPlace::Fill(SlotField::Base),
+    match slots.check_set(id, slot, sizes.pages) {
+        Err(refusal) => SetSlotPlace::Refuse(refusal),
+        Ok(()) => SetSlotPlace::Fill(SlotField::Base),
     }
 }
 
@@ -69,12 +47,24 @@ pub(crate) fn task(place: SetSlotPlace, sizes: &Sizes, id: u64, slot: &Slot) -> 
     }
 }
 
-/// The manager's record after the step of this place.
-pub(crate) fn load(place: SetSlotPlace, state: &mut State)
-    ensures { state.new ≡ set_slot_loads place state.old }
+/// The manager's own record of the slots after the step of this place.
+pub(crate) fn record_slot(
+    place: SetSlotPlace,
+    slots: &mut SlotSet,
+    id: u64,
+    slot: &Slot,
+    total: u64,
+)
+    requires some { 1 ≤ slot.now.pages }
+    requires accepts { RecordAccepts place total id slot.now slots.old }
+    ensures { slots.new ≡ set_slot_records place id slot.now slots.old }
 {
     if let SetSlotPlace::Fill(SlotField::Flags) = place {
-        state.has_set_slot = true;
+        let set = slots.set(id, slot.base, slot.pages, slot.host, slot.read_only, total);
+        match set {
+            Ok(()) => {}
+            Err(_) => unreachable!(),
+        }
     }
 }
 

@@ -1,5 +1,5 @@
 ghost use Rattle.std.specs.Prelude.{◌≡◌, ◌≤◌, ◌<◌, ◌^◌};
-ghost use Rattle.mmu_core.specs.SlotWords.{field_number, field_word, leaf_of, may_write, slot_index};
+ghost use Rattle.mmu_core.specs.SlotWords.{field_number, field_word, leaf_of, may_write, page_of, slot_index};
 ghost use Rattle.core_views.specs.Traces.{IsSlotInRange};
 ghost use Rattle.spte_words.specs.HostWords.{host_frame};
 ghost use Rattle.spte_words.specs.Areas.{IsWordMap, size_of};
@@ -41,6 +41,15 @@ pub(crate) fn field_word(field: SlotField, slot: &Slot) -> u64
         SlotField::Host => slot.host,
         SlotField::Flags => SlotFlags::new(true, slot.read_only, false).word(),
     }
+}
+
+/// The host page behind a guest frame of the slot.
+pub(crate) fn page_of(slot: &Slot, gfn: u64) -> u64
+    requires above { slot.now.base ≤ gfn }
+    requires small { page_of slot.now gfn < 2 ^ 64 }
+    ensures { result ≡ page_of slot.now gfn }
+{
+    slot.host + (gfn - slot.base)
 }
 
 /// The leaf of a page in the slot, from its host word: with write permission

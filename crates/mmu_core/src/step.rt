@@ -2,9 +2,9 @@
 ghost use Rattle.std.specs.Prelude.{◌≡◌, ◌≤◌, ◌<◌, ◌+◌, length};
 ghost use Rattle.core_views.specs.Sizes.{AreSizes};
 ghost use Rattle.core_views.specs.Traces.{IsCommandFor};
-ghost use Rattle.mmu_core.specs.Rests.{IsUnderWay, Rests, RestsAt};
+ghost use Rattle.mmu_core.specs.Rests.{AcceptsAt, IsUnderWay, Rests, RestsAt};
 ghost use Rattle.mmu_core.specs.Enabled.{Enabled};
-ghost use Rattle.mmu_core.specs.Steps.{first_place, idle_after, line_after, line_at, loads_at, next, outcome_at, place_at, standing, task_at};
+ghost use Rattle.mmu_core.specs.Steps.{first_place, idle_after, line_after, line_at, loads_at, next, outcome_at, place_at, records_at, standing, task_at};
 ghost use Rattle.core_views.specs.Kinds.{kind_named};
 ghost use Rattle.mmu_core.specs.Tasks.{kind_of_task, map_of};
 ghost use Rattle.mmu_core.specs.TopicSteps.{HasRoom};
@@ -13,7 +13,9 @@ ghost use Rattle.spte_words.specs.Areas.{size_of, total};
 use crate::outcome::{Outcome, Task};
 use crate::topics::step_topics;
 use crate::{access, map_of, set_slot};
-use core_views::{AccessPlace, AnsweredLine, Command, Hand, Kind, Line, Place, Sizes, State};
+use core_views::{
+    AccessPlace, AnsweredLine, Command, Hand, Kind, Line, Place, Sizes, SlotSet, State,
+};
 
 // The line that the hand's next step is of: the one under way, or the next one.
 fn line_of(hand: &Hand) -> Line
@@ -30,24 +32,26 @@ fn line_of(hand: &Hand) -> Line
 }
 
 // Where a line begins.
-fn first(sizes: &Sizes, line: &Line) -> Place
-    requires { IsCommandFor sizes.now line.now.actor line.now.command }
-    ensures { result ≡ first_place sizes.now line.now.command }
+fn first(hand: &Hand, line: &Line) -> Place
+    ensures { result ≡ first_place hand.now.core.state.sizes hand.now.core.slots line.now.command }
 {
     match &line.command {
         Command::Access { .. } => Place::Access(AccessPlace::Slots),
-        Command::SetSlot { id, slot } => Place::SetSlot(set_slot::first(sizes, *id, slot)),
+        Command::SetSlot { id, slot } => {
+            let sizes = &hand.state().sizes;
+            Place::SetSlot(set_slot::first(sizes, hand.slots(), *id, slot))
+        }
     }
 }
 
 // Where the line of the hand's next step stands.
-fn place_of(state: &State, line: &Line) -> Place
-    requires { IsCommandFor state.now.sizes line.now.actor line.now.command }
-    ensures { result ≡ standing state.now.place state.now.sizes line.now.command }
+fn place_of(hand: &Hand, line: &Line) -> Place
+    ensures { result ≡ standing hand.now.core.state.place hand.now.core.state.sizes hand.now.core.slots line.now.command }
 {
-    match state.place {
-        Place::Between => first(&state.sizes, line),
-        Place::Access(_) | Place::SetSlot(_) => state.place,
+    let place = hand.state().place;
+    match place {
+        Place::Between => first(hand, line),
+        Place::Access(_) | Place::SetSlot(_) => place,
     }
 }
 
@@ -97,7 +101,7 @@ pub fn next_kind(hand: &Hand) -> Kind
 {
     let state = hand.state();
     let line = line_of(hand);
-    let task = task(place_of(state, &line), state, &line);
+    let task = task(place_of(hand, &line), state, &line);
     kind_of(&state.sizes, &task)
 }
 
@@ -109,8 +113,18 @@ fn load(place: Place, command: &Command, state: &mut State, found: u64)
 {
     match (place, command) {
         (Place::Access(place), Command::Access { .. }) => access::load(place, state, found),
-        (Place::SetSlot(place), Command::SetSlot { .. }) => set_slot::load(place, state),
         _ => {}
+    }
+}
+
+// The manager's own record of the slots after the step of a place.
+fn record_step(place: Place, line: &Line, sizes: &Sizes, slots: &mut SlotSet)
+    requires line { IsCommandFor sizes.now line.now.actor line.now.command }
+    requires accepts { AcceptsAt place line.now.command sizes.now slots.old }
+    ensures { slots.new ≡ records_at place line.now.command slots.old }
+{
+    if let (Place::SetSlot(place), Command::SetSlot { id, slot }) = (place, &line.command) {
+        set_slot::record_slot(place, slots, *id, slot, sizes.pages);
     }
 }
 
@@ -132,12 +146,16 @@ fn outcome(place: Place, command: &Command, state: &State, found: u64) -> Outcom
 // The effect of a line's step on the hand, whose topics are those behind it.
 fn advance_line(hand: &mut Hand, line: &Line, place: Place, found: u64)
     requires sizes { AreSizes hand.old.core.state.sizes }
+    requires line { IsCommandFor hand.old.core.state.sizes line.now.actor line.now.command }
     requires rests { RestsAt place line.now.command hand.old.core.state }
+    requires accepts { AcceptsAt place line.now.command hand.old.core.state.sizes hand.old.core.slots }
     requires room { 0 < hand.old.room }
     ensures core { hand.new.core ≡ line_after line.now place hand.old.core found }
     ensures room { length hand.new.core.answers + hand.new.room ≡ length hand.old.core.answers + hand.old.room }
 {
     let outcome = outcome(place, &line.command, hand.state(), found);
+    let sizes = hand.state().sizes;
+    record_step(place, line, &sizes, hand.slots_mut());
     let state = hand.state_mut();
     load(place, &line.command, state, found);
     state.line = *line;
@@ -176,7 +194,7 @@ pub fn advance(hand: &mut Hand, kind: Kind, found: u64)
     advance_topics(hand, kind, found);
     if hand.next_line().is_some() {
         let line = line_of(hand);
-        let place = place_of(hand.state(), &line);
+        let place = place_of(hand, &line);
         advance_line(hand, &line, place, found);
     }
 }

@@ -1,6 +1,6 @@
 -- What tries for the lock come to.
-use Rattle.std.proofs.Common.{◌≡◌, ◌<◌, ◌≤◌, ◌^◌, ℕ, refl, ap, ◌∙◌, arith}
-use Rattle.std.specs.Prelude.{Bool, true, false, if◌then◌else◌}
+use Rattle.std.proofs.Common.{◌≡◌, ◌≢◌, ◌<◌, ◌≤◌, ◌^◌, ℕ, refl, ap, ◌∙◌, arith}
+use Rattle.std.specs.Prelude.{Bool, true, false, ◌==◌, if◌then◌else◌}
 use Rattle.std.proofs.lemmas.Bool.Decides.{nat_tests}
 use Rattle.core_views.specs.declared.topics.Hold.{Hold}
 use Rattle.core_views.specs.declared.topics.Hold.TheVariants.{Loose, Shared, Owing, Exclusive}
@@ -10,7 +10,7 @@ use Rattle.mmu_core.specs.declared.part_step.PartStep.TheVariants.{Share}
 use Rattle.mmu_core.specs.PartRests.{MayMake}
 use Rattle.mmu_core.specs.PartSteps.{PartNeeds}
 use Rattle.mmu_core.specs.TopicSteps.{has_writer}
-use Rattle.mmu_lock.specs.Locking.{shared_step, tries_left}
+use Rattle.mmu_lock.specs.Locking.{holding, shared_step, tries_left}
 
 -- Who isn't owing wants to share, and holds nothing of the lock.
 pub wants_share : (h : Held) (note : ℕ) → ((w : ℕ) → h.topics.hold ≡ Owing w → ⊥) → MayMake (shared_step h.topics.hold) note h → (shared_step h.topics.hold ≡ Share) × (h.topics.hold ≡ Loose)
@@ -28,15 +28,18 @@ writer_seen found le = grind (arith, nat_tests)
 pub no_writer_seen : (found : ℕ) → found < 2 ^ 63 → has_writer found ≡ false
 no_writer_seen found lt = grind (arith, nat_tests)
 
--- what is held behind a share
-abbrev pub with_hold : Topics → Hold → Topics
-with_hold t x = record t { hold = x }
+pub owes_behind : (before after : Topics) (found : ℕ) → after ≡ holding (if has_writer found then Owing found else Shared) before → 2 ^ 63 ≤ found → after ≡ holding (Owing found) before
+owes_behind before after found is le = is ∙ ap (λ (b : Bool). holding (if b then Owing found else Shared) before) (writer_seen found le)
 
-pub owes_behind : (before after : Topics) (found : ℕ) → after ≡ with_hold before (if has_writer found then Owing found else Shared) → 2 ^ 63 ≤ found → after ≡ with_hold before (Owing found)
-owes_behind before after found is le = is ∙ ap (λ (b : Bool). with_hold before (if b then Owing found else Shared)) (writer_seen found le)
+pub shares_behind : (before after : Topics) (found : ℕ) → after ≡ holding (if has_writer found then Owing found else Shared) before → found < 2 ^ 63 → after ≡ holding Shared before
+shares_behind before after found is lt = is ∙ ap (λ (b : Bool). holding (if b then Owing found else Shared) before) (no_writer_seen found lt)
 
-pub shares_behind : (before after : Topics) (found : ℕ) → after ≡ with_hold before (if has_writer found then Owing found else Shared) → found < 2 ^ 63 → after ≡ with_hold before Shared
-shares_behind before after found is lt = is ∙ ap (λ (b : Bool). with_hold before (if b then Owing found else Shared)) (no_writer_seen found lt)
+-- A writer's try, won or lost.
+pub excludes_behind : (before after : Topics) (found : ℕ) → after ≡ holding (if found == 0 then Exclusive else before.hold) before → found ≡ 0 → after ≡ holding Exclusive before
+excludes_behind before after found is free = is ∙ ap (λ n. holding (if n == 0 then Exclusive else before.hold) before) free
+
+pub keeps_behind : (before after : Topics) (found : ℕ) → after ≡ holding (if found == 0 then Exclusive else before.hold) before → found ≢ 0 → after ≡ holding before.hold before
+keeps_behind before after found is taken = let test : (found == 0) ≡ false = grind (arith, nat_tests) in is ∙ ap (λ (b : Bool). holding (if b then Exclusive else before.hold) before) test
 
 pub not_free : (n : ℕ) → 2 ^ 63 ≤ n → n ≡ 0 → ⊥
 not_free n le is = absurd (omega (arith, le, is))

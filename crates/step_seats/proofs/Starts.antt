@@ -9,7 +9,7 @@ use Rattle.core_views.specs.declared.trace.Line.{Line}
 use Rattle.core_views.specs.declared.trace.Trace.{Trace}
 use Rattle.core_views.specs.Held.{Held, Handful, first_held}
 use Rattle.core_views.specs.Sizes.{AreSizes, actor_at, actors_of, sizes_of}
-use Rattle.core_views.specs.Traces.{IsCommandFor, IsTrace, settings}
+use Rattle.core_views.specs.Traces.{IsCommandFor, IsTrace}
 use Rattle.core_views.specs.Whole.{lines_of}
 use Rattle.core_views.proofs.HeaderSizes.{header_sizes}
 use Rattle.mmu_core.specs.Enabled.{mmu}
@@ -86,8 +86,8 @@ pub hand_at_start : (z : Sizes) (lines : List Line) (words : List ℕ) (hands : 
 hand_at_start z lines words hands i start there = core_at words hands i ∙ (ap (λ (x : List Held). slice_index_or x i nobody) start.hands ∙ hand_among z lines (actors_of z) i nobody there)
 
 -- The words and hands of a trace's start are a machine.
-pub machine_at_start : (t : Trace) (z : Sizes) (words : List ℕ) (hands : List Handful) → IsTrace t → settings t.lines ≤ 1 → z ≡ sizes_of t.header → AreStartWords z words → cores_of hands ≡ start_hands z t.lines (actors_of z) → IsMachine z words hands
-machine_at_start t z words hands trace once sizes made dealt = record {
+pub machine_at_start : (t : Trace) (z : Sizes) (words : List ℕ) (hands : List Handful) → IsTrace t → z ≡ sizes_of t.header → AreStartWords z words → cores_of hands ≡ start_hands z t.lines (actors_of z) → IsMachine z words hands
+machine_at_start t z words hands trace sizes made dealt = record {
   reached = record {
     sizes = z;
     lines = t.lines;
@@ -95,7 +95,7 @@ machine_at_start t z words hands trace once sizes made dealt = record {
     is_start = record {
       sizes = subst AreSizes (sym sizes) (header_sizes t.header trace.header);
       allowed = subst (λ x. All (λ line. IsCommandFor x line.actor line.command) t.lines) (sym sizes) trace.lines;
-      once = once;
+      distinct = trace.distinct;
       words = made;
       hands = dealt;
     };

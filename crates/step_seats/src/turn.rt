@@ -1,4 +1,4 @@
-use core_views::Seen;
+use core_views::{Cause, Seen};
 
 /// How a turn of a job or a part ended. A turn makes one step.
 #[derive(Clone, Copy, Debug, PartialEq, Eq, Drop)]
@@ -8,6 +8,8 @@ pub enum Turn<T> {
     /// Another actor stands in the way: this word was found, with this value. The
     /// turn is to be made again.
     Wait(Seen),
+    /// It is to begin anew, for this cause.
+    Retry(Cause),
     /// It is done, with this answer.
     Done(T),
 }

@@ -26,12 +26,13 @@ use Rattle.mmu_core.specs.PartSteps.{PartNeeds, own_index, page_owned, part_kind
 use Rattle.mmu_core.specs.PoolPart.{PoolPart, is_free, is_owned}
 use Rattle.mmu_core.specs.Steps.{has_line}
 use Rattle.mmu_core.specs.TopicSteps.{claimed, is_won, tried, tried_bit}
+use Rattle.mmu_core.specs.TreePart.{at}
 use Rattle.mmu_core.specs.View.{word_in}
 use Rattle.mmu_core.specs.Worlds.{HandReached, Reachable}
 use Rattle.mmu_core.proofs.Columns.{upd_same}
 use Rattle.mmu_core.proofs.PartRested.{may_make, reached_part_rests}
 use Rattle.mmu_core.proofs.PoolBits.{page_free}
-use Rattle.mmu_core.proofs.PoolPages.{one_owner, owned_not_free, owned_not_root, owned_not_slots}
+use Rattle.mmu_core.proofs.PoolPages.{one_owner, owned_no_table, owned_not_free, owned_not_slots}
 use Rattle.mmu_core.proofs.Starts.{reached_good}
 use Rattle.step_seats.specs.PartTurns.{HasHand, MadePart, Told, ToldBoth}
 use Rattle.table_pool.specs.Claims.{IsClaimersAlone, IsFreePage, SawStands, claim_step, next_word, sees_pages}
@@ -39,7 +40,7 @@ use Rattle.table_pool.specs.declared.claim.Claim.{Claim}
 use Rattle.table_pool.specs.declared.claim.Claimed.{Claimed}
 use Rattle.table_pool.specs.declared.claim.Claimed.TheVariants.{Page, Empty}
 use Rattle.step_seats.specs.declared.turn.Turn.{Turn}
-use Rattle.step_seats.specs.declared.turn.Turn.TheVariants.{More, Wait, Done}
+use Rattle.step_seats.specs.declared.turn.Turn.TheVariants.{More, Wait, Retry, Done}
 use Rattle.mmu_core.proofs.Sized.{next_keeps_sizes}
 use Rattle.step_seats.proofs.ToldWords.{StepsTo, told_before, told_both}
 
@@ -110,6 +111,7 @@ word_begun job claim word begun is = is ∙ ap (λ (b : Bool). if b then claim.a
 abbrev pub page_in : Turn Claimed → ℕ
 page_in More = 0
 page_in (Wait seen) = 0
+page_in (Retry cause) = 0
 page_in (Done (Page page)) = page
 page_in (Done Empty) = 0
 
@@ -127,7 +129,7 @@ won_if : (claim : MapClaim) (found : ℕ) (o : OwnedPage) → claimed claim foun
 won_if claim found o is = by (is_won claim found) refl is
   where
     made : OwnedPage
-    made = record { page = 64 * claim.at + tried_bit claim; filled = 0; absent = true }
+    made = record { page = 64 * claim.at + tried_bit claim; filled = 0; absent = true; role = 0 }
 
     by : (b : Bool) → is_won claim found ≡ b → (if b then Some made else None) ≡ Some o → (is_won claim found ≡ true) × (o.page ≡ 64 * claim.at + tried_bit claim)
     by true won e = (won, ap page_owned (sym e))
@@ -137,7 +139,7 @@ lost_if : (claim : MapClaim) (found : ℕ) → claimed claim found ≡ None → 
 lost_if claim found is = by (is_won claim found) is
   where
     made : OwnedPage
-    made = record { page = 64 * claim.at + tried_bit claim; filled = 0; absent = true }
+    made = record { page = 64 * claim.at + tried_bit claim; filled = 0; absent = true; role = 0 }
 
     by : (b : Bool) → (if b then Some made else None) ≡ None → b ≡ false
     by true e = absurd (cc e)
@@ -212,7 +214,7 @@ sole_in w a o r there mine = subst (λ (y : Sizes). IsClaimersAlone y a o.page w
     owned : ℕ → Option OwnedPage
     owned i = (hand_in mmu w i).topics.owned
 
-    P : PoolPart (actors_of z) z.pool (word_in z w area.Root 0) (word_in z w area.Slots 0) (word_in z w area.PoolMap) owned
+    P : PoolPart (actors_of z) z.pool (word_in z w area.Slots 0) (word_in z w area.PoolMap) owned G.topics.stands
     P = G.topics.pool_part
 
     itself : (o.page == o.page) ≡ true
@@ -223,7 +225,7 @@ sole_in w a o r there mine = subst (λ (y : Sizes). IsClaimersAlone y a o.page w
     other i i_lt apart (Some p) is = by (p.page == o.page) (λ e. grind (arith, nat_tests))
       where
         by : (b : Bool) → (b ≡ true → p.page ≡ o.page) → b ≡ false
-        by true same = absurd (apart (sym (one_owner (actors_of z) z.pool (word_in z w area.Root 0) (word_in z w area.Slots 0) (word_in z w area.PoolMap) owned P a i o p lt i_lt mine is (same refl))))
+        by true same = absurd (apart (sym (one_owner (actors_of z) z.pool (word_in z w area.Slots 0) (word_in z w area.PoolMap) owned G.topics.stands P a i o p lt i_lt mine is (same refl))))
         by false same = refl
 
     alone : IsClaimersAlone z a o.page w
@@ -231,9 +233,9 @@ sole_in w a o r there mine = subst (λ (y : Sizes). IsClaimersAlone y a o.page w
       there = P.there a o lt mine;
       owned = ap (λ x. is_owned x o.page) mine ∙ itself;
       others = λ i i_in apart. other i (subst (λ n. i < n) G.hands i_in) apart (owned i) refl;
-      not_free = owned_not_free (actors_of z) z.pool (word_in z w area.Root 0) (word_in z w area.Slots 0) (word_in z w area.PoolMap) owned P a o lt mine;
-      not_root = λ e. owned_not_root (actors_of z) z.pool (word_in z w area.Root 0) (word_in z w area.Slots 0) (word_in z w area.PoolMap) owned P a o lt mine (sym e);
-      not_slots = λ e. owned_not_slots (actors_of z) z.pool (word_in z w area.Root 0) (word_in z w area.Slots 0) (word_in z w area.PoolMap) owned P a o lt mine (sym e);
+      not_free = owned_not_free (actors_of z) z.pool (word_in z w area.Slots 0) (word_in z w area.PoolMap) owned G.topics.stands P a o lt mine;
+      not_root = λ e. owned_no_table (actors_of z) z.pool (word_in z w area.Slots 0) (word_in z w area.PoolMap) owned G.topics.stands P a o (at 4 0) lt mine (sym (ap G.topics.stands e) ∙ G.topics.tree.root_stands);
+      not_slots = λ e. owned_not_slots (actors_of z) z.pool (word_in z w area.Slots 0) (word_in z w area.PoolMap) owned G.topics.stands P a o lt mine (sym e);
     }
 
 sole_prop : (z : Sizes) (a page : ℕ) (w : World Held) → IsProp (IsClaimersAlone z a page w)

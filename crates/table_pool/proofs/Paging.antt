@@ -112,8 +112,8 @@ fills_next value page before after to_fill is made = record {
   owned = to_fill.is;
   page_is = same;
   behind = made ∙ ap (λ o. record before { owned = filled_more o value }) to_fill.is
-      ∙ ap (λ (b : Bool). record before { owned = Some (record { page = to_fill.owned.page; filled = to_fill.owned.filled + 1; absent = to_fill.owned.absent && (b || value == 0) }) }) (role_next to_fill.owned.filled to_fill.left)
-      ∙ ap (λ k. record before { owned = Some (record { page = k; filled = to_fill.owned.filled + 1; absent = to_fill.owned.absent && (to_fill.owned.filled == 512 || value == 0) }) }) same;
+      ∙ ap (λ (b : Bool). record before { owned = Some (record { page = to_fill.owned.page; filled = to_fill.owned.filled + 1; absent = to_fill.owned.absent && (b || value == 0); role = if to_fill.owned.filled == 512 then value else to_fill.owned.role }) }) (role_next to_fill.owned.filled to_fill.left)
+      ∙ ap (λ k. record before { owned = Some (record { page = k; filled = to_fill.owned.filled + 1; absent = to_fill.owned.absent && (to_fill.owned.filled == 512 || value == 0); role = if to_fill.owned.filled == 512 then value else to_fill.owned.role }) }) same;
 }
   where
     same : to_fill.owned.page ≡ page

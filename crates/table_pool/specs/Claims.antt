@@ -18,7 +18,7 @@ use Rattle.mmu_core.specs.Tasks.{map_of}
 use Rattle.mmu_core.specs.TopicSteps.{tried_bit}
 use Rattle.mmu_core.specs.View.{word_in}
 use Rattle.step_seats.specs.declared.turn.Turn.{Turn}
-use Rattle.step_seats.specs.declared.turn.Turn.TheVariants.{More, Wait, Done}
+use Rattle.step_seats.specs.declared.turn.Turn.TheVariants.{More, Wait, Retry, Done}
 use Rattle.table_pool.specs.declared.claim.Claim.{Claim}
 use Rattle.table_pool.specs.declared.claim.Claimed.{Claimed}
 use Rattle.table_pool.specs.declared.claim.Claimed.TheVariants.{Page, Empty}
@@ -60,7 +60,7 @@ pub record TakesPage (job : Claim) (page : ℕ) (before after : Topics) : Type 0
   pub found : ℕ
   pub leads : after ≡ part_topics part.Claim before found
   pub stood : has_bit (page % 64) found ≡ true
-  pub behind : after ≡ record before { owned = Some (record { page = page; filled = 0; absent = true }); claim = record { at = 0; seen = 0 } }
+  pub behind : after ≡ record before { owned = Some (record { page = page; filled = 0; absent = true; role = 0 }); claim = record { at = 0; seen = 0 } }
 
 -- The lowest page of those seen was taken meanwhile: what was seen is the word of the map with its bit clear. The actor owns none, and
 -- its claim goes on with what was seen. Nothing else that it holds has changed.
@@ -83,6 +83,7 @@ pub record FindsNone (z : Sizes) (job : Claim) (before after : Topics) : Type 0 
 abbrev pub ClaimTurn : Sizes → Claim → Turn Claimed → Topics → Topics → Type 0
 ClaimTurn z job More before after = LooksOn z job before after
 ClaimTurn z job (Wait seen) before after = LosesPage z job seen before after
+ClaimTurn z job (Retry cause) before after = ⊥
 ClaimTurn z job (Done (Page page)) before after = TakesPage job page before after
 ClaimTurn z job (Done Empty) before after = FindsNone z job before after
 

@@ -12,20 +12,21 @@ use Rattle.mmu_core.specs.PartSteps.{words_filled}
 use Rattle.mmu_core.specs.PoolPart.{is_free}
 use Rattle.mmu_core.specs.View.{word_in}
 use Rattle.step_seats.specs.declared.turn.Turn.{Turn}
-use Rattle.step_seats.specs.declared.turn.Turn.TheVariants.{More, Wait, Done}
+use Rattle.step_seats.specs.declared.turn.Turn.TheVariants.{More, Wait, Retry, Done}
 
 -- The page, which is owned, has one more of its words filled, or its role behind the last of them; it still counts as absent where all
--- words so far hold 0. Nothing else that the actor holds has changed.
+-- words so far hold 0, and its role is remembered. Nothing else that the actor holds has changed.
 pub record FillsNext (page value : ℕ) (was : OwnedPage) (before after : Topics) : Type 0 where
   pub owned : before.owned ≡ Some was
   pub page_is : was.page ≡ page
-  pub behind : after ≡ record before { owned = Some (record { page = page; filled = was.filled + 1; absent = was.absent && (was.filled == 512 || value == 0) }) }
+  pub behind : after ≡ record before { owned = Some (record { page = page; filled = was.filled + 1; absent = was.absent && (was.filled == 512 || value == 0); role = if was.filled == 512 then value else was.role }) }
 
 -- A fill goes on while one of the 512 words was written, and is done where the role was.
 abbrev pub FillTurn : ℕ → ℕ → Turn (Unit {0}) → Topics → Topics → Type 0
 FillTurn page value More before after = (was : OwnedPage) × (was.filled < 512) × FillsNext page value was before after
 FillTurn page value (Done _) before after = (was : OwnedPage) × (was.filled ≡ 512) × FillsNext page value was before after
 FillTurn page value (Wait seen) before after = ⊥
+FillTurn page value (Retry cause) before after = ⊥
 
 -- the word that is filled next: that of the page, and its role where all 512 are filled
 abbrev pub next_area : ℕ → Area
@@ -48,6 +49,7 @@ abbrev pub GivesPage : Turn (Unit {0}) → Topics → Topics → Type 0
 GivesPage (Done _) before after = after ≡ record before { owned = None }
 GivesPage More before after = ⊥
 GivesPage (Wait seen) before after = ⊥
+GivesPage (Retry cause) before after = ⊥
 
 -- The page is free, and every other page is free where it was free before.
 pub record FreesPage (z : Sizes) (page : ℕ) (w t : World Held) : Type 0 where

@@ -48,7 +48,7 @@ impl Fill {
         requires may { MayMake (part.Fill value) note (S.handful s.old).core }
         requires page { page_owned (S.handful s.old).core.topics.owned ≡ self.old.page }
         requires reserved { 0 < (S.handful s.old).room }
-        ensures step { MakesPart (part.Fill value) note (S.actor s.old) (S.handful s.old).core (S.handful s.new).core (record { world = S.told s.old; steps = S.steps s.old }) (record { world = S.told s.new; steps = S.steps s.new }) }
+        ensures made { MadePart (part.Fill value) note value (S.actor s.old) (S.handful s.old).core (S.handful s.new).core (record { world = S.told s.old; steps = S.steps s.old }) (record { world = S.told s.new; steps = S.steps s.new }) }
         ensures turned { FillTurn self.old.page value result (S.handful s.old).core.topics (S.handful s.new).core.topics }
         ensures writes { ToldBoth (S.told s.old) (S.told s.new) (StoresNext (S.handful s.old).core.state.sizes self.old.page (words_filled (S.handful s.old).core.topics.owned) value) }
         ensures page { self.new ≡ self.old }

@@ -1,5 +1,5 @@
 -- Where a walk stands behind a link, and which word it loaded.
-use Rattle.std.proofs.Common.{◌≡◌, ◌-◌, ◌≤◌, ℕ, Option, Some, None, refl, sym, subst, ap, ◌∙◌, arith}
+use Rattle.std.proofs.Common.{◌≡◌, ◌+◌, ◌-◌, ◌*◌, ◌/◌, ◌<◌, ◌≤◌, ℕ, zero, suc, Option, Some, None, refl, sym, subst, ap, ◌∙◌, arith}
 use Rattle.std.specs.Prelude.{Bool, true, false, ◌==◌, if◌then◌else◌, IfSome, ◌%◌, ◌^◌}
 use Rattle.std.proofs.lemmas.Bool.Decides.{nat_tests}
 use Rattle.core_views.specs.declared.topics.TableWalk.{TableWalk}
@@ -8,16 +8,18 @@ use Rattle.core_views.specs.Held.{Held}
 use Rattle.spte_words.specs.declared.spte_kind.SpteKind.{SpteKind}
 use Rattle.spte_words.specs.declared.spte_kind.SpteKind.TheVariants as entry_kind
 use Rattle.spte_words.specs.Bits.{has_bit}
-use Rattle.spte_words.specs.Entries.{frame_in, frozen_word, is_leaf_at, kind_of}
+use Rattle.spte_words.specs.Entries.{frame_in, frozen_word, is_leaf_at, kind_of, level_span}
+use Rattle.spte_words.proofs.Spans.{span_1, span_2, span_3, span_4}
 use Rattle.mmu_core.specs.declared.part_step.PartStep.TheVariants as part
 use Rattle.mmu_core.specs.Machine.{World}
-use Rattle.mmu_core.specs.PartSteps.{PartNeeds, table_page}
+use Rattle.mmu_core.specs.PartSteps.{IsOver, PartNeeds, SawEntry, entry_index, table_page}
 use Rattle.mmu_core.specs.PartTopics.{part_topics}
-use Rattle.mmu_core.specs.TopicSteps.{gone_down, linked_page}
+use Rattle.mmu_core.specs.TopicSteps.{at_root, gone_down, linked_page, may_walk}
 use Rattle.mmu_core.specs.View.{word_in}
 use Rattle.step_seats.specs.PartTurns.{MadePart, Told}
 use Rattle.tdp_walk.specs.declared.walk.Walk.{Walk}
-use Rattle.tdp_walk.specs.Walks.{GoesDown, found_last, walk_step, word_next}
+use Rattle.tdp_walk.specs.Walks.{GoesDown, StandsAtRoot, StopsAt, found_last, walk_step, word_next}
+use Rattle.mmu_core.proofs.HeldKept.{page_below}
 use Rattle.step_seats.proofs.AloneTold.{if_some}
 use Rattle.step_seats.proofs.Found.{Answers, found_told}
 
@@ -38,27 +40,74 @@ above level v page is from = by (level == 1) (λ e. grind (arith, nat_tests)) (�
     by true one more = absurd (lowest v page (subst (λ l. kind_of l v ≡ entry_kind.Table page) (one refl) is))
     by false one more = more refl
 
-page_below : (level root third second first page : ℕ) → 2 ≤ level → level ≤ 4
-    → (if (level - 1) == 4 then root else if (level - 1) == 3 then (if level == 4 then page else third) else if (level - 1) == 2 then (if level == 3 then page else second) else (if level == 2 then page else first)) ≡ page
-page_below level root third second first page from to = grind (arith, nat_tests)
+-- The guest frame's run one level down: its number among the runs of this level, and its place in that one.
+run_below : (level gfn prefix : ℕ) → 2 ≤ level → level ≤ 4 → gfn / level_span level / 512 ≡ prefix → gfn / level_span (level - 1) / 512 ≡ prefix * 512 + gfn / level_span level % 512
+run_below zero gfn prefix from to is = absurd (omega arith)
+run_below (suc zero) gfn prefix from to is = absurd (omega arith)
+run_below (suc (suc zero)) gfn prefix from to is =
+    let run : gfn / 512 / 512 ≡ prefix = sym (ap (λ n. gfn / n / 512) span_2) ∙ is in
+    let below : gfn / 1 / 512 ≡ prefix * 512 + gfn / 512 % 512 = omega (arith, run) in
+    ap (λ n. gfn / n / 512) span_1 ∙ below ∙ ap (λ n. prefix * 512 + gfn / n % 512) (sym span_2)
+run_below (suc (suc (suc zero))) gfn prefix from to is =
+    let run : gfn / 262144 / 512 ≡ prefix = sym (ap (λ n. gfn / n / 512) span_3) ∙ is in
+    let below : gfn / 512 / 512 ≡ prefix * 512 + gfn / 262144 % 512 = omega (arith, run) in
+    ap (λ n. gfn / n / 512) span_2 ∙ below ∙ ap (λ n. prefix * 512 + gfn / n % 512) (sym span_3)
+run_below (suc (suc (suc (suc zero)))) gfn prefix from to is =
+    let run : gfn / 134217728 / 512 ≡ prefix = sym (ap (λ n. gfn / n / 512) span_4) ∙ is in
+    let below : gfn / 262144 / 512 ≡ prefix * 512 + gfn / 134217728 % 512 = omega (arith, run) in
+    ap (λ n. gfn / n / 512) span_3 ∙ below ∙ ap (λ n. prefix * 512 + gfn / n % 512) (sym span_4)
+run_below (suc (suc (suc (suc (suc level))))) gfn prefix from to is = absurd (omega arith)
 
-pub goes_down : (before after : Topics) (gfn v page : ℕ) → 1 ≤ before.walk.level → before.walk.level ≤ 4 → kind_of before.walk.level v ≡ entry_kind.Table page → after ≡ part_topics (part.Walk gfn) before v → GoesDown before after
-goes_down before after gfn v page from to is made =
-    let two = above before.walk.level v page is from in
-    let w : TableWalk = gone_down (Some page) before.walk v in
-    let walk : after.walk ≡ w = ap (λ (t : Topics). t.walk) made ∙ ap (λ (k : SpteKind). gone_down (linked_page k) before.walk v) is in
+-- The root is over every guest frame below 2 ^ 36.
+pub stands_at_root : (before after : Topics) (gfn v : ℕ) → gfn < 2 ^ 36 → may_walk before.stay before.hold ≡ true → after ≡ part_topics part.Root before v → StandsAtRoot gfn before after
+stands_at_root before after gfn v small may made = record { over = subst (IsOver gfn) (sym walk) over; others = same ∙ ap (λ root. record before { walk = record before.walk { level = 4; prefix = 0; root = root; index = 512 } }) (sym (ap (λ (x : TableWalk). x.root) walk)) }
+  where
+    same : after ≡ record before { walk = at_root true before.walk v }
+    same = made ∙ ap (λ (b : Bool). record before { walk = at_root b before.walk v }) may
+
+    walk : after.walk ≡ at_root true before.walk v
+    walk = ap (λ (t : Topics). t.walk) same
+
+    over : IsOver gfn (at_root true before.walk v)
+    over = record { small = small; there = omega arith; run = ap (λ n. gfn / n / 512) span_4 ∙ omega (arith, small) }
+
+pub goes_down : (before after : Topics) (gfn v page : ℕ) → IsOver gfn before.walk → before.walk.level ≤ 4 → kind_of before.walk.level v ≡ entry_kind.Table page → after ≡ part_topics (part.Walk gfn) before v → GoesDown gfn before after
+goes_down before after gfn v page over to is made =
+    let two = above before.walk.level v page is over.there in
+    let j : ℕ = entry_index gfn before.walk.level in
+    let w : TableWalk = gone_down (Some page) before.walk j v in
+    let walk : after.walk ≡ w = ap (λ (t : Topics). t.walk) made ∙ ap (λ (k : SpteKind). gone_down (linked_page k) before.walk j v) is in
     let level : after.walk.level ≡ before.walk.level - 1 = ap (λ (x : TableWalk). x.level) walk in
     record {
       page = page;
       link = ap (kind_of before.walk.level) (ap (λ (x : TableWalk). x.entry) walk) ∙ is;
       down = omega (arith, level, two);
       there = ap table_page walk ∙ page_below before.walk.level before.walk.root before.walk.third before.walk.second before.walk.first page two to;
+      over = subst (IsOver gfn) (sym walk) (record { small = over.small; there = omega (arith, two); run = run_below before.walk.level gfn before.walk.prefix two to over.run });
       others = made ∙ ap (λ (x : TableWalk). record before { walk = x }) (sym (ap (λ (t : Topics). t.walk) made));
     }
 
-keeps_entry : (to : Option ℕ) (w : TableWalk) (v : ℕ) → (gone_down to w v).entry ≡ v
-keeps_entry None w v = refl
-keeps_entry (Some page) w v = refl
+-- Where the entry is no link the walk stays, and has seen it.
+pub stops_at : (kind : SpteKind) (before after : Topics) (gfn v level : ℕ) → linked_page kind ≡ None → IsOver gfn before.walk → level ≡ before.walk.level → kind_of level v ≡ kind → after ≡ part_topics (part.Walk gfn) before v → (v ≡ after.walk.entry) × StopsAt kind level gfn before after
+stops_at kind before after gfn v level none over here is made = (
+  sym entry,
+  record {
+    is = ap (kind_of level) entry ∙ is;
+    here = here;
+    saw = subst (SawEntry gfn) (sym walk) (record { over = record { small = over.small; there = over.there; run = over.run }; loaded = refl });
+    others = made ∙ ap (λ (x : TableWalk). record before { walk = x }) (sym (ap (λ (t : Topics). t.walk) made) ∙ walk) ∙ ap (λ (x : TableWalk). record before { walk = record before.walk { index = x.index; entry = x.entry } }) (sym walk);
+  },
+)
+  where
+    walk : after.walk ≡ gone_down None before.walk (entry_index gfn before.walk.level) v
+    walk = ap (λ (t : Topics). t.walk) made ∙ ap (λ (k : SpteKind). gone_down (linked_page k) before.walk (entry_index gfn before.walk.level) v) (ap (λ l. kind_of l v) (sym here) ∙ is) ∙ ap (λ (o : Option ℕ). gone_down o before.walk (entry_index gfn before.walk.level) v) none
+
+    entry : after.walk.entry ≡ v
+    entry = ap (λ (x : TableWalk). x.entry) walk
+
+keeps_entry : (to : Option ℕ) (w : TableWalk) (j v : ℕ) → (gone_down to w j v).entry ≡ v
+keeps_entry None w j v = refl
+keeps_entry (Some page) w j v = refl
 
 pub root_found : (walk : Walk) (note found a : ℕ) (before after : Held) (told tells : Told) → walk.rooted ≡ false → MadePart part.Root note found a before after told tells
     → IfSome told.world (λ w. found_last walk after.topics.walk ≡ word_next walk before.topics.walk (word_in before.state.sizes w))
@@ -66,12 +115,12 @@ root_found walk note found a before after told tells not_yet made =
     if_some told.world (Answers part.Root note found before) (λ w. found_last walk after.topics.walk ≡ word_next walk before.topics.walk (word_in before.state.sizes w))
     (λ w is. rw (not_yet) (ap (λ (t : Topics). t.walk.root) made.topics ∙ is)) (found_told part.Root note found a before after told tells made tt)
 
--- the walk has come to a table
-pub in_table : (walk : Walk) (h : Held) → walk.rooted ≡ true → PartNeeds (walk_step walk) h → 1 ≤ h.topics.walk.level
-in_table walk h already needs = rw already at needs
+-- the walk has come to a table with the guest frame's entry
+pub is_over : (walk : Walk) (h : Held) → walk.rooted ≡ true → PartNeeds (walk_step walk) h → IsOver walk.gfn h.topics.walk
+is_over walk h already needs = rw already at needs
 
 pub entry_found : (walk : Walk) (note found a : ℕ) (before after : Held) (told tells : Told) → walk.rooted ≡ true → PartNeeds (walk_step walk) before → MadePart (part.Walk walk.gfn) note found a before after told tells
     → IfSome told.world (λ w. found_last walk after.topics.walk ≡ word_next walk before.topics.walk (word_in before.state.sizes w))
 entry_found walk note found a before after told tells already needs made =
     if_some told.world (Answers (part.Walk walk.gfn) note found before) (λ w. found_last walk after.topics.walk ≡ word_next walk before.topics.walk (word_in before.state.sizes w))
-    (λ w is. rw (already) (ap (λ (t : Topics). t.walk.entry) made.topics ∙ keeps_entry (linked_page (kind_of before.topics.walk.level found)) before.topics.walk found ∙ is)) (found_told (part.Walk walk.gfn) note found a before after told tells made (in_table walk before already needs))
+    (λ w is. rw (already) (ap (λ (t : Topics). t.walk.entry) made.topics ∙ keeps_entry (linked_page (kind_of before.topics.walk.level found)) before.topics.walk (entry_index walk.gfn before.topics.walk.level) found ∙ is)) (found_told (part.Walk walk.gfn) note found a before after told tells made (is_over walk before already needs))

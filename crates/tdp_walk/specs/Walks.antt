@@ -10,9 +10,9 @@ use Rattle.spte_words.specs.Areas.{pool_index}
 use Rattle.spte_words.specs.Entries.{kind_of}
 use Rattle.mmu_core.specs.declared.part_step.PartStep.{PartStep}
 use Rattle.mmu_core.specs.declared.part_step.PartStep.TheVariants as part
-use Rattle.mmu_core.specs.PartSteps.{entry_index, table_page}
+use Rattle.mmu_core.specs.PartSteps.{IsOver, SawEntry, entry_index, table_page}
 use Rattle.step_seats.specs.declared.turn.Turn.{Turn}
-use Rattle.step_seats.specs.declared.turn.Turn.TheVariants.{More, Wait, Done}
+use Rattle.step_seats.specs.declared.turn.Turn.TheVariants.{More, Wait, Retry, Done}
 use Rattle.tdp_walk.specs.declared.walk.Walk.{Walk}
 use Rattle.tdp_walk.specs.declared.walk.Walked.{Walked}
 use Rattle.tdp_walk.specs.declared.walk.Walked.TheVariants.{Leaf, Absent, Frozen}
@@ -21,33 +21,44 @@ use Rattle.tdp_walk.specs.declared.walk.Walked.TheVariants.{Leaf, Absent, Frozen
 abbrev pub walk_step : Walk → PartStep
 walk_step walk = if walk.rooted then part.Walk walk.gfn else part.Root
 
--- The root was loaded: the walk stands in it, at level 4. Nothing else that the actor holds has changed.
-abbrev pub FindsRoot : Turn Walked → Topics → Topics → Type 0
-FindsRoot More before after = after ≡ record before { walk = record before.walk { level = 4; root = after.walk.root } }
-FindsRoot (Done walked) before after = ⊥
-FindsRoot (Wait seen) before after = ⊥
+-- The root was loaded: the walk stands in it, at level 4, where it is over the guest frame. Nothing else that the actor holds has
+-- changed.
+pub record StandsAtRoot (gfn : ℕ) (before after : Topics) : Type 0 where
+  pub over : IsOver gfn after.walk
+  pub others : after ≡ record before { walk = record before.walk { level = 4; prefix = 0; root = after.walk.root; index = 512 } }
 
--- The entry is a link to the table in this page: the walk stands in that table now, one level down. Nothing but the walk has changed.
-pub record GoesDown (before after : Topics) : Type 0 where
+abbrev pub FindsRoot : Turn Walked → ℕ → Topics → Topics → Type 0
+FindsRoot More gfn before after = StandsAtRoot gfn before after
+FindsRoot (Done walked) gfn before after = ⊥
+FindsRoot (Wait seen) gfn before after = ⊥
+FindsRoot (Retry cause) gfn before after = ⊥
+
+-- The entry is a link to the table in this page: the walk stands in that table now, one level down, where it is over the guest frame
+-- still. Nothing but the walk has changed.
+pub record GoesDown (gfn : ℕ) (before after : Topics) : Type 0 where
   pub page : ℕ
   pub link : kind_of before.walk.level after.walk.entry ≡ entry_kind.Table page
   pub down : after.walk.level + 1 ≡ before.walk.level
   pub there : table_page after.walk ≡ page
+  pub over : IsOver gfn after.walk
   pub others : after ≡ record before { walk = after.walk }
 
--- The entry is of this kind at this level, which is the walk's: there the walk stays. Nothing but the entry has changed.
-pub record StopsAt (kind : SpteKind) (level : ℕ) (before after : Topics) : Type 0 where
+-- The guest frame's entry is of this kind at this level, which is the walk's: there the walk stays, and has seen the entry. Nothing but
+-- the entry, and its place, has changed.
+pub record StopsAt (kind : SpteKind) (level gfn : ℕ) (before after : Topics) : Type 0 where
   pub is : kind_of level after.walk.entry ≡ kind
   pub here : level ≡ before.walk.level
-  pub others : after ≡ record before { walk = record before.walk { entry = after.walk.entry } }
+  pub saw : SawEntry gfn after.walk
+  pub others : after ≡ record before { walk = record before.walk { index = after.walk.index; entry = after.walk.entry } }
 
 -- The entry was loaded: a link leads down, and else the walk has come to its end.
-abbrev pub Looks : Turn Walked → Topics → Topics → Type 0
-Looks More before after = GoesDown before after
-Looks (Done (Leaf word level)) before after = (word ≡ after.walk.entry) × StopsAt entry_kind.Leaf level before after
-Looks (Done (Absent level)) before after = StopsAt entry_kind.Absent level before after
-Looks (Done (Frozen level)) before after = StopsAt entry_kind.Frozen level before after
-Looks (Wait seen) before after = ⊥
+abbrev pub Looks : Turn Walked → ℕ → Topics → Topics → Type 0
+Looks More gfn before after = GoesDown gfn before after
+Looks (Done (Leaf word level)) gfn before after = (word ≡ after.walk.entry) × StopsAt entry_kind.Leaf level gfn before after
+Looks (Done (Absent level)) gfn before after = StopsAt entry_kind.Absent level gfn before after
+Looks (Done (Frozen level)) gfn before after = StopsAt entry_kind.Frozen level gfn before after
+Looks (Wait seen) gfn before after = ⊥
+Looks (Retry cause) gfn before after = ⊥
 
 -- what the last turn has loaded
 abbrev pub found_last : Walk → TableWalk → ℕ

@@ -42,7 +42,8 @@ impl Walk {
     }
 
     /// Loads the root, or the frame's entry in the table that the walk has come
-    /// to: a link leads one level down, and every other entry ends the walk. It
+    /// to: a link leads one level down, and every other entry ends the walk. Each
+    /// table that it comes to is for a run of frames that this one is in. It
     /// never waits.
     pub fn turn<S: Stepper>(&mut self, s: &mut S, note: u64) -> Turn<Walked>
         requires may { MayMake (walk_step self.old) note (S.handful s.old).core }
@@ -50,8 +51,8 @@ impl Walk {
         requires gfn { self.old.gfn < 2 ^ 36 }
         requires held { self.old.rooted ≡ false → may_walk (S.handful s.old).core.topics.stay (S.handful s.old).core.topics.hold ≡ true }
         ensures step { MakesPart (walk_step self.old) note (S.actor s.old) (S.handful s.old).core (S.handful s.new).core (record { world = S.told s.old; steps = S.steps s.old }) (record { world = S.told s.new; steps = S.steps s.new }) }
-        ensures root { self.old.rooted ≡ false → FindsRoot result (S.handful s.old).core.topics (S.handful s.new).core.topics }
-        ensures entry { self.old.rooted ≡ true → Looks result (S.handful s.old).core.topics (S.handful s.new).core.topics }
+        ensures root { self.old.rooted ≡ false → FindsRoot result self.old.gfn (S.handful s.old).core.topics (S.handful s.new).core.topics }
+        ensures entry { self.old.rooted ≡ true → Looks result self.old.gfn (S.handful s.old).core.topics (S.handful s.new).core.topics }
         ensures word { IfSome (S.told s.old) (λ w. found_last self.old (S.handful s.new).core.topics.walk ≡ word_next self.old (S.handful s.old).core.topics.walk (word_in (S.handful s.old).core.state.sizes w)) }
         ensures goes_on { self.new ≡ record { gfn = self.old.gfn; rooted = true } }
         ensures nearer { result ≡ More → turns_left self.new (S.handful s.new).core.topics.walk < turns_left self.old (S.handful s.old).core.topics.walk }

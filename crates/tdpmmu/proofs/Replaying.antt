@@ -1,8 +1,7 @@
 -- A replay, line by line: the list of steps goes on, the hands come behind the lines, and each answer is flat guest memory's.
-use Rattle.std.proofs.Common.{◌≡◌, ◌≢◌, ◌⊎◌, inl, inr, ◌<◌, ◌≤◌, ◌+◌, ℕ, zero, suc, List, [], ◌∷◌, ◌++◌, length, length-append, map, take, get_or, refl, sym, ap, subst, ◌∙◌, append_assoc, arith}
+use Rattle.std.proofs.Common.{◌≡◌, ◌≢◌, ◌⊎◌, inl, inr, ◌<◌, ◌≤◌, ◌+◌, ℕ, suc, List, [], ◌∷◌, ◌++◌, length, length-append, take, get_or, refl, sym, ap, subst, ◌∙◌, arith}
 use Rattle.std.proofs.lemmas.List.{append-nil, get_or-set_other}
 use Rattle.std.specs.Prelude.{All, Ok, Result, Some, slice_get}
-use Rattle.core_views.specs.declared.actor.Actor.{Actor}
 use Rattle.core_views.specs.declared.answer.Answer.{Answer}
 use Rattle.core_views.specs.declared.answer.AnsweredLine.{AnsweredLine}
 use Rattle.core_views.specs.declared.event.Event.{Event}
@@ -18,9 +17,9 @@ use Rattle.core_views.specs.FlatHistory.{alone, one_by_one}
 use Rattle.core_views.specs.Held.{Held}
 use Rattle.core_views.specs.Lawful.{IsLawful}
 use Rattle.core_views.specs.Sizes.{actor_at, actors_of, index_of, sizes_of}
-use Rattle.core_views.specs.Text.{answers_of, line_text, lines_text, text}
+use Rattle.core_views.specs.Text.{line_text, lines_text, text}
 use Rattle.core_views.specs.Traces.{IsCommandFor}
-use Rattle.core_views.specs.Whole.{IsWhole, lines_of}
+use Rattle.core_views.specs.Whole.{lines_of}
 use Rattle.core_views.proofs.AloneIsFlat.{goes_as_flat}
 use Rattle.core_views.proofs.StandsAlone.{stands_append}
 use Rattle.mmu_core.specs.Bounds.{most_steps}

@@ -1,6 +1,6 @@
 -- What the run of a trace wrote is what the whole program owes, at each status.
-use Rattle.std.proofs.Common.{◌≡◌, inl, inr, ℕ, List, take, ap, arith, refl, sym, subst}
-use Rattle.std.specs.Prelude.{IfSome, Ok, Err}
+use Rattle.std.proofs.Common.{◌≡◌, inr, ℕ, List, take, ap, arith, sym, subst}
+use Rattle.std.specs.Prelude.{IfSome, Ok}
 use Rattle.std.specs.declared.option.Option.{Option}
 use Rattle.std.specs.declared.option.Option.TheVariants.{Some, None}
 use Rattle.std.specs.Io.KnownBytes.{Appends}

@@ -1,5 +1,5 @@
 -- What a turn of a job makes of the seat that it has: one enabled step, and what it says of it.
-use Rattle.std.specs.Prelude.{◌≡◌, ◌≤◌, ◌++◌, ℕ, List, All, Option, Some, IfSome, length}
+use Rattle.std.specs.Prelude.{◌≡◌, ◌≤◌, ◌++◌, ℕ, List, All, Some, IfSome, length}
 use Rattle.core_views.specs.declared.answer.Answer.{Answer}
 use Rattle.core_views.specs.declared.kind.Kind.{Kind}
 use Rattle.core_views.specs.declared.trace.Line.{Line}
@@ -7,14 +7,14 @@ use Rattle.core_views.specs.Held.{Held}
 use Rattle.mmu_core.specs.declared.outcome.Outcome.{Outcome}
 use Rattle.mmu_core.specs.declared.outcome.Outcome.TheVariants.{Goes, Ends}
 use Rattle.mmu_core.specs.Bounds.{most_steps}
-use Rattle.mmu_core.specs.Enabled.{Enabled, mmu}
+use Rattle.mmu_core.specs.Enabled.{Enabled}
 use Rattle.mmu_core.specs.LineRuns.{RunsLine}
-use Rattle.mmu_core.specs.Machine.{Step, World, hand_in}
+use Rattle.mmu_core.specs.Machine.{Step}
 use Rattle.mmu_core.specs.Steps.{next}
 use Rattle.mmu_core.specs.Turns.{GoesOn, IsAnswered, outcome_of}
 use Rattle.step_seats.specs.Moves.{Adds, Tells}
 use Rattle.step_seats.specs.declared.turn.Turn.{Turn}
-use Rattle.step_seats.specs.declared.turn.Turn.TheVariants.{More, Wait, Done}
+use Rattle.step_seats.specs.declared.turn.Turn.TheVariants.{More, Wait, Retry, Done}
 use Rattle.step_seats.specs.PartTurns.{Told}
 
 -- what a turn answers, by where the line stands after its step
@@ -37,6 +37,7 @@ abbrev pub Says : Turn Answer → Line → Held → Held → Type 0
 Says More line before after = GoesOn line before after
 Says (Done answer) line before after = IsAnswered line answer before after
 Says (Wait seen) line before after = ⊥
+Says (Retry cause) line before after = ⊥
 
 -- The line ran alone: some steps of its actor alone, no more than a line makes, lead from what was told to what is told now.
 pub record RanAlone (line : Line) (answer : Answer) (actor : ℕ) (told tells : Told) : Type 0 where

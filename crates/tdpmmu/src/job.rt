@@ -74,7 +74,7 @@ pub fn run_line<S: Stepper>(s: &mut S, line: &Line) -> Result<Answer, NoMemory>
     loop {
         match job.turn(s) {
             Turn::More => {}
-            Turn::Wait(_) => unreachable!(),
+            Turn::Wait(_) | Turn::Retry(_) => unreachable!(),
             Turn::Done(answer) => return Ok(answer),
         }
     }

@@ -96,6 +96,16 @@ fn prints_each_answer(rt: HostRuntime) -> Result<(), Fail> {
             "4 v0 mmio\n5 vm refused bad-id\n6 v1 mmio\n",
         ),
         (H, "vm slot 31 0 16 1024\n", "2 vm refused too-large\n"),
+        (
+            H,
+            "vm slot 0 0 16 0\nvm slot 1 8 16 64\nvm slot 2 100 16 0\nvm slot 3 100 2000 0\nvm slot 40 100 16 64\n",
+            "2 vm done\n3 vm refused overlap\n4 vm refused host-overlap\n5 vm refused too-large\n6 vm refused bad-id\n",
+        ),
+        (
+            H,
+            "vm slot 0 0 16 0\nvm slot 5 100 16 64\nv0 write 0x64000 7\nv1 read 0x64000\nv0 read 0x0\n",
+            "2 vm done\n3 vm done\n4 v0 frame 64 value 0\n5 v1 frame 64 value 7\n6 v0 frame 0 value 0\n",
+        ),
     ] {
         let (status, out) = run_on(
             &rt,
@@ -169,6 +179,20 @@ fn refuses_each_reason(rt: HostRuntime) -> Result<(), Fail> {
             3,
             Reason::Word,
             "refused 3 word\n",
+        ),
+        (
+            H,
+            "vm slot 3 0 16 0\nvm slot 4 16 16 64\nvm slot 0x3 32 16 128\n",
+            4,
+            Reason::Number,
+            "refused 4 number\n",
+        ),
+        (
+            H,
+            "vm slot 40 0 16 0\nv0 read 0x0\nvm slot 40 0 16 0\n",
+            4,
+            Reason::Number,
+            "refused 4 number\n",
         ),
     ] {
         let (status, out) = run_on(

@@ -2,7 +2,7 @@
 //! ends with a line of two dashes.
 
 /// How many traces the table has.
-pub const COUNT: usize = 36;
+pub const COUNT: usize = 42;
 
 /// The table.
 pub const TRACES: &str = "vcpus 1 workers 0 pages 1 frames 1 words 1
@@ -296,5 +296,120 @@ v2 read 0xfa0000
 v2 read 0x3e7000
 v0 read 0xf9f000
 v0 read 0x7d0008
+--
+vcpus 2 workers 1 pages 1024 frames 1040 words 1
+vm slot 0 0 16 0
+vm slot 1 8 16 64
+vm slot 2 100 16 0
+vm slot 3 100 2000 0
+vm slot 40 100 16 64
+v0 write 0x0 91
+v1 read 0x17000
+v1 read 0x64000
+--
+vcpus 2 workers 0 pages 1024 frames 1024 words 1
+vm slot 0 0 16 0
+vm slot 5 100 16 64
+v0 write 0x64000 7
+v1 read 0x64000
+v0 read 0x0
+v0 write 0xf000 8
+v1 write 0x73000 9
+v0 read 0x10000
+v1 read 0x74000
+v0 read 0x63000
+v1 read 0xf000
+v0 read 0x73000
+--
+vcpus 2 workers 0 pages 1024 frames 1024 words 2
+vm slot 9 64 64 128
+vm slot 3 128 64 64 ro
+vm slot 12 0 64 0
+v0 write 0x3f000 1
+v1 write 0x40000 2
+v0 write 0x7f008 3
+v1 write 0x80000 4
+v0 read 0x3f000
+v1 read 0x40000
+v0 read 0x7f008
+v1 read 0x80000
+v0 read 0xbf008
+v1 read 0xc0000
+--
+vcpus 2 workers 0 pages 1024 frames 1024 words 1
+v0 read 0x20000
+vm slot 7 32 8 64
+v0 add 0x20000 1
+v1 read 0x27000
+v1 read 0x28000
+vm slot 2 40 8 128
+v0 add 0x20000 1
+v1 add 0x28000 1
+vm slot 30 24 9 192
+vm slot 31 24 8 192
+v0 read 0x18000
+v1 read 0x1f000
+v0 read 0x20000
+v1 read 0x28000
+--
+vcpus 2 workers 0 pages 1024 frames 1024 words 1
+vm slot 0 16 16 0
+vm slot 1 0 17 64
+vm slot 2 31 1 64
+vm slot 3 0 64 64
+vm slot 4 20 4 64
+vm slot 5 32 65 64
+vm slot 6 100 65 64
+vm slot 7 200 1 128
+vm slot 8 300 128 128
+vm slot 9 0 16 192
+v0 read 0xf000
+v1 read 0x10000
+v0 read 0x1f000
+v1 read 0x20000
+v0 write 0x60000 3
+v1 read 0x61000
+--
+vcpus 2 workers 0 pages 2048 frames 2048 words 1
+vm slot 31 31 1 1984
+vm slot 30 30 1 1920
+vm slot 29 29 1 1856
+vm slot 28 28 1 1792
+vm slot 27 27 1 1728
+vm slot 26 26 1 1664
+vm slot 25 25 1 1600
+vm slot 24 24 1 1536
+vm slot 23 23 1 1472
+vm slot 22 22 1 1408
+vm slot 21 21 1 1344
+vm slot 20 20 1 1280
+vm slot 19 19 1 1216
+vm slot 18 18 1 1152
+vm slot 17 17 1 1088
+vm slot 16 16 1 1024
+vm slot 0 0 1 0
+vm slot 1 1 1 64
+vm slot 2 2 1 128
+vm slot 3 3 1 192
+vm slot 4 4 1 256
+vm slot 5 5 1 320
+vm slot 6 6 1 384
+vm slot 7 7 1 448
+vm slot 8 8 1 512
+vm slot 9 9 1 576
+vm slot 10 10 1 640
+vm slot 11 11 1 704
+vm slot 12 12 1 768
+vm slot 13 13 1 832
+vm slot 14 14 1 896
+vm slot 15 15 1 960
+vm slot 32 32 1 0
+v0 write 0xf000 15
+v1 write 0x10000 16
+v0 write 0x1f000 31
+v1 read 0xf000
+v0 read 0x10000
+v1 read 0x1f000
+v0 read 0x20000
 --
 ";

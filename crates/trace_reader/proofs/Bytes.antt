@@ -79,7 +79,7 @@ last_word true = (text_word (codes "ro") (omega arith) refl, tt)
 last_word false = tt
 
 -- Words that say a command are words, of a form of its actor.
-pub form_words : (seen : Bool) (words : List (List ℕ)) (a : Actor) (c : Command) → IsActor a → AreWordsOf seen words a c → AreWords words
+pub form_words : (seen : ℕ → Bool) (words : List (List ℕ)) (a : Actor) (c : Command) → IsActor a → AreWordsOf seen words a c → AreWords words
 form_words seen words (Vcpu i) (Access gfn word Read) le (x, is, s) =
     rw is (name_word i (omega arith), (text_word (codes "read") (omega arith) refl, (spelled_word x _ s, tt)))
 form_words seen words (Vcpu i) (Access gfn word (Write v)) le (x, y, is, s, t) =
@@ -93,14 +93,14 @@ form_words seen words Manager (SetSlot id s) le (i, x, y, z, first, is, n, a, b,
     rw is (text_word (codes "vm") (omega arith) refl, (text_word (codes "slot") (omega arith) refl, (spelled_word i _ n, (spelled_word x _ a, (spelled_word y _ b, (spelled_word z _ c, last_word s.read_only))))))
 form_words seen words (Worker i) c le form = absurd form
 
-pub has_form : (seen : Bool) (words : List (List ℕ)) (a : Actor) (c : Command) → AreWordsOf seen words a c → HasForm seen words a
+pub has_form : (seen : ℕ → Bool) (words : List (List ℕ)) (a : Actor) (c : Command) → AreWordsOf seen words a c → HasForm words a
 has_form seen words (Vcpu i) (Access gfn word Read) (x, is, s) = inl (x, is)
 has_form seen words (Vcpu i) (Access gfn word (Write v)) (x, y, is, s, t) = inr (inl (x, y, is))
 has_form seen words (Vcpu i) (Access gfn word (Add v)) (x, y, is, s, t) = inr (inr (x, y, is))
 has_form seen words (Vcpu i) (SetSlot id slot) form = absurd form
 has_form seen words (Host i) c form = absurd form
 has_form seen words Manager (Access gfn word op) form = absurd form
-has_form seen words Manager (SetSlot id s) (i, x, y, z, first, is, n, a, b, c) = (i, x, y, z, s.read_only, first, is)
+has_form seen words Manager (SetSlot id s) (i, x, y, z, first, is, n, a, b, c) = (i, x, y, z, s.read_only, is)
 has_form seen words (Worker i) c form = absurd form
 
 -- An actor that makes a command is declared.
@@ -112,36 +112,36 @@ commanding h Manager (Access gfn word op) few range = absurd range
 commanding h Manager (SetSlot id s) few range = (tt, tt)
 commanding h (Worker i) c few range = absurd range
 
-no_words : (seen : Bool) (a : Actor) → HasForm seen [] a → ⊥
-no_words seen (Vcpu i) (inl (x, e)) = cc
-no_words seen (Vcpu i) (inr (inl (x, y, e))) = cc
-no_words seen (Vcpu i) (inr (inr (x, y, e))) = cc
-no_words seen (Host i) form = form
-no_words seen Manager (i, x, y, z, ro, first, e) = cc
-no_words seen (Worker i) form = form
+no_words : (a : Actor) → HasForm [] a → ⊥
+no_words (Vcpu i) (inl (x, e)) = cc
+no_words (Vcpu i) (inr (inl (x, y, e))) = cc
+no_words (Vcpu i) (inr (inr (x, y, e))) = cc
+no_words (Host i) form = form
+no_words Manager (i, x, y, z, ro, e) = cc
+no_words (Worker i) form = form
 
 -- The words of a form are what stands between the spaces of its line.
-pub cut_words : (seen : Bool) (bytes : List ℕ) (words : List (List ℕ)) (a : Actor) → bytes ≡ spaced words → AreWords words → HasForm seen words a → words_of bytes ≡ words
-cut_words seen bytes [] a e are form = absurd (no_words seen a form)
-cut_words seen bytes (w ∷ ws) a e are form = rw e (words_spaced w ws are)
+pub cut_words : (bytes : List ℕ) (words : List (List ℕ)) (a : Actor) → bytes ≡ spaced words → AreWords words → HasForm words a → words_of bytes ≡ words
+cut_words bytes [] a e are form = absurd (no_words a form)
+cut_words bytes (w ∷ ws) a e are form = rw e (words_spaced w ws are)
 
 -- What a line says is read.
-pub says : (h : Header) (seen : Bool) (bytes : List ℕ) (a : Actor) (c : Command) → IsHeader h → SaysLine h seen bytes a c → said h seen bytes ≡ Ok (a, c)
+pub says : (h : Header) (seen : ℕ → Bool) (bytes : List ℕ) (a : Actor) (c : Command) → IsHeader h → SaysLine h seen bytes a c → said h seen bytes ≡ Ok (a, c)
 unfolding said by_words
 says h seen bytes a c header (range, (words, e, form)) =
     let are = form_words seen words a c (commanding h a c header.vcpus.1 range).0 form in
-    let cut = cut_words seen bytes words a e are (has_form seen words a c form) in
+    let cut = cut_words bytes words a e are (has_form seen words a c form) in
     rw (cut, none_empty words are) (reads h seen words a c header.vcpus.1 (small_words h header) range form)
 
 -- Only what a line says is read.
-by_words_ok : (h : Header) (seen : Bool) (words : List (List ℕ)) (p : Actor × Command) → by_words h seen words ≡ Ok p → by_form h seen words ≡ Ok p
+by_words_ok : (h : Header) (seen : ℕ → Bool) (words : List (List ℕ)) (p : Actor × Command) → by_words h seen words ≡ Ok p → by_form h seen words ≡ Ok p
 unfolding by_words
 by_words_ok h seen words p e = elim (branch (list_any is_empty words) _ _ (Ok p) e) [
   | inl q ↦ absurd (let no : ⊥ = cc in no)
   | inr q ↦ q.1
 ]
 
-pub only_said : (h : Header) (seen : Bool) (bytes : List ℕ) (a : Actor) (c : Command) → said h seen bytes ≡ Ok (a, c) → SaysLine h seen bytes a c
+pub only_said : (h : Header) (seen : ℕ → Bool) (bytes : List ℕ) (a : Actor) (c : Command) → said h seen bytes ≡ Ok (a, c) → SaysLine h seen bytes a c
 unfolding said
 only_said h seen bytes a c e =
     let f = only h seen (words_of bytes) (a, c) (by_words_ok h seen (words_of bytes) (a, c) e) in

@@ -16,18 +16,18 @@ use Rattle.trace_reader.specs.declared.reason.Reason.{Reason}
 use Rattle.trace_reader.specs.declared.reason.Reason.TheVariants as reason
 use Rattle.trace_reader.specs.Forms.{words_of}
 use Rattle.trace_reader.specs.Headers.{header_of}
-use Rattle.trace_reader.specs.Lines.{Raw, parts_of, fault_of, after_checks, raw, lines_of}
+use Rattle.trace_reader.specs.Lines.{Raw, parts_of, fault_of, after_checks, raw, lines_of, none_seen}
 use Rattle.trace_reader.specs.Reading.{head_of, with_header, under, reading_of, reading}
 use Rattle.trace_reader.specs.Grammar.{Spells, spaced, AreWords}
 use Rattle.trace_reader.specs.HeaderGrammar.{HeaderWords, labelled, SpellsHeader}
-use Rattle.trace_reader.specs.InputGrammar.{with_ends, ArePlain, IsText, SaysHeader, SayLines, SayTrace, SaysTrace, PassesAll, HeaderFails, LineFails, line_behind, HasLine, FailsAt}
+use Rattle.trace_reader.specs.InputGrammar.{with_ends, ArePlain, IsText, SaysHeader, SayLines, SayTrace, SaysTrace, PassesAll, HeaderFails, LineFails, line_behind, set_by, HasLine, FailsAt}
 use Rattle.trace_reader.proofs.Prefix.{with_prefix}
 use Rattle.trace_reader.proofs.Loop.{part, not_empty}
 use Rattle.trace_reader.proofs.Bytes.{words_spaced, text_word, spelled_word}
 use Rattle.trace_reader.proofs.HeaderSaid.{header_reads, header_only}
 use Rattle.trace_reader.proofs.HeaderRefused.{header_refuses}
 use Rattle.trace_reader.proofs.Checks.{Judged, judged, faultless, faulty}
-use Rattle.trace_reader.proofs.InputLines.{line_fails, sets, more_of, IsCut, cuts, consed, said_lines, long}
+use Rattle.trace_reader.proofs.InputLines.{line_fails, more_of, IsCut, cuts, consed, said_lines, long}
 
 -- The header's line.
 all_words : (ws : List (List ℕ)) (ns : List ℕ) → AllZip Spells ws ns → AreWords ws
@@ -172,14 +172,14 @@ abbrev AreTexts : List (List ℕ) → Type 0
 AreTexts [] = Unit {0}
 AreTexts (x ∷ xs) = IsText x × AreTexts xs
 
-lines_texts : (h : Header) (n : ℕ) (seen : Bool) (texts : List (List ℕ)) (lines : List Line) → SayLines h n seen texts lines → AreTexts texts
+lines_texts : (h : Header) (n : ℕ) (seen : ℕ → Bool) (texts : List (List ℕ)) (lines : List Line) → SayLines h n seen texts lines → AreTexts texts
 lines_texts h n seen [] lines say = tt
 lines_texts h n seen (x ∷ xs) lines (is, inl (s, say)) = (is, lines_texts h (n + 1) seen xs lines say)
 lines_texts h n seen (x ∷ xs) lines (is, inr (never, (a, c, more, e, s, say))) = (is, lines_texts h (n + 1) _ xs more say)
 
 trace_texts : (texts : List (List ℕ)) (t : Trace) → SayTrace texts t → AreTexts texts
 trace_texts [] t say = absurd say
-trace_texts (first ∷ texts) t (size, count, is, head, say) = (is, lines_texts t.header 2 false texts t.lines say)
+trace_texts (first ∷ texts) t (size, count, is, head, say) = (is, lines_texts t.header 2 none_seen texts t.lines say)
 
 parts_behind : (texts : List (List ℕ)) (tail : List ℕ) → AreTexts texts → parts_of (with_ends texts ++ tail) ≡ texts ++ parts_of tail
 parts_behind [] tail are = refl
@@ -208,7 +208,7 @@ InputJudged input (Err e) = FailsAt input e.0 e.1
 head_moved : (n m a b : ℕ) (is : Bool) (text : List ℕ) (r : Reason) → n ≡ m → a ≡ b → HeaderFails (record { number = n; end = a; ended_by_lf = is; bytes = text }) r → HeaderFails (record { number = m; end = b; ended_by_lf = is; bytes = text }) r
 head_moved n m a b is text r e e1 fails = rw (← e, ← e1) fails
 
-line_moved : (h : Header) (seen : Bool) (n m a b : ℕ) (is : Bool) (text : List ℕ) (r : Reason) → n ≡ m → a ≡ b → LineFails h seen (record { number = n; end = a; ended_by_lf = is; bytes = text }) r → LineFails h seen (record { number = m; end = b; ended_by_lf = is; bytes = text }) r
+line_moved : (h : Header) (seen : ℕ → Bool) (n m a b : ℕ) (is : Bool) (text : List ℕ) (r : Reason) → n ≡ m → a ≡ b → LineFails h seen (record { number = n; end = a; ended_by_lf = is; bytes = text }) r → LineFails h seen (record { number = m; end = b; ended_by_lf = is; bytes = text }) r
 line_moved h seen n m a b is text r e e1 fails = rw (← e, ← e1) fails
 
 first_fails : (input text : List ℕ) (is : Bool) (size : ℕ) (r : Reason) → HasLine input [] text is → size ≡ length text + cond is 1 0 → HeaderFails (record { number = 1; end = size; ended_by_lf = is; bytes = text }) r → FailsAt input 1 r
@@ -222,7 +222,7 @@ alone : (input text : List ℕ) (z : Result Header Reason) → NoLf text → inp
 alone input text (Ok h) are e (all, s) = elim (all.2) [ inl t ↦ cc | inr t ↦ absurd (empty_head text h t s) ]
 alone input text (Err r) are e fails = first_fails input text false (length text) r (are, e) (omega arith) fails
 
-behind : (input text : List ℕ) (parts : List (List ℕ)) (h : Header) (x : Result (List Line) (ℕ × Reason)) → parts_of input ≡ text ∷ parts → PassesAll (record { number = 1; end = length text + 1; ended_by_lf = true; bytes = text }) → SaysHeader text h → IsCut h 2 (length text + 1) false parts x → InputJudged input (with_header h x)
+behind : (input text : List ℕ) (parts : List (List ℕ)) (h : Header) (x : Result (List Line) (ℕ × Reason)) → parts_of input ≡ text ∷ parts → PassesAll (record { number = 1; end = length text + 1; ended_by_lf = true; bytes = text }) → SaysHeader text h → IsCut h 2 (length text + 1) none_seen parts x → InputJudged input (with_header h x)
 behind input text parts h (Ok out) e all s k =
     let ends = k.ends in
     let join : input ≡ join_with_byte 10 (parts_of input) = sym (join_with_byte-slice_split 10 input) in
@@ -247,12 +247,12 @@ behind input text parts h (Err (m, r)) e all s k =
         more_of k.rest,
         has_line input (text ∷ k.texts) k.text k.rest cut clean,
         (λ last empty. some (none_more k.rest last) empty),
-        line_moved h (sets k.lines) _ _ _ _ (more_of k.rest) k.text r (omega arith) (omega (arith, far)) fails,
+        line_moved h (set_by k.lines) _ _ _ _ (more_of k.rest) k.text r (omega arith) (omega (arith, far)) fails,
       ),
     )
 
-headed : (input text y : List ℕ) (more : List (List ℕ)) (z : Result Header Reason) → parts_of input ≡ text ∷ y ∷ more → HeadJudged (record { number = 1; end = length text + 1; ended_by_lf = true; bytes = text }) z → InputJudged input (under z (λ h. lines_of h 2 (length text + 1) false (y ∷ more)))
-headed input text y more (Ok h) e (all, s) = behind input text (y ∷ more) h _ e all s (cuts h 2 (length text + 1) false y more s.2.0 all.0 (omega arith))
+headed : (input text y : List ℕ) (more : List (List ℕ)) (z : Result Header Reason) → parts_of input ≡ text ∷ y ∷ more → HeadJudged (record { number = 1; end = length text + 1; ended_by_lf = true; bytes = text }) z → InputJudged input (under z (λ h. lines_of h 2 (length text + 1) none_seen (y ∷ more)))
+headed input text y more (Ok h) e (all, s) = behind input text (y ∷ more) h _ e all s (cuts h 2 (length text + 1) none_seen y more s.2.0 all.0 (omega arith))
 headed input text y more (Err r) e fails =
     let join : input ≡ join_with_byte 10 (parts_of input) = sym (join_with_byte-slice_split 10 input) in
     let cut : input ≡ join_with_byte 10 (text ∷ y ∷ more) = join ∙ ap (join_with_byte 10) e in
@@ -278,25 +278,25 @@ pub only_where : (input : List ℕ) (n : ℕ) (r : Reason) → reading input ≡
 only_where input n r e = subst (InputJudged input) e (input_judged input)
 
 -- What an input says is read.
-first_line : (x y : List ℕ) (zs ys : List (List ℕ)) → zs ≡ y ∷ ys → reading_of (x ∷ zs) ≡ under (head_of (record { number = 1; end = length x + 1; ended_by_lf = true; bytes = x })) (λ h. lines_of h 2 (length x + 1) false zs)
+first_line : (x y : List ℕ) (zs ys : List (List ℕ)) → zs ≡ y ∷ ys → reading_of (x ∷ zs) ≡ under (head_of (record { number = 1; end = length x + 1; ended_by_lf = true; bytes = x })) (λ h. lines_of h 2 (length x + 1) none_seen zs)
 unfolding reading_of
 first_line x y zs ys e = rw e refl
 
-same_rest : (h : Header) (n m a b : ℕ) (seen : Bool) (parts : List (List ℕ)) → n ≡ m → a ≡ b → lines_of h n a seen parts ≡ lines_of h m b seen parts
+same_rest : (h : Header) (n m a b : ℕ) (seen : ℕ → Bool) (parts : List (List ℕ)) → n ≡ m → a ≡ b → lines_of h n a seen parts ≡ lines_of h m b seen parts
 same_rest h n m a b seen parts e e1 = rw (e, e1) refl
 
 trace_then : (before : List (List ℕ)) (t : Trace) (p : List ℕ) (ps : List (List ℕ)) → SayTrace before t
-    → reading_of (before ++ p ∷ ps) ≡ with_header t.header (with_prefix t.lines (lines_of t.header (length before + 1) (length (with_ends before)) (sets t.lines) (p ∷ ps)))
+    → reading_of (before ++ p ∷ ps) ≡ with_header t.header (with_prefix t.lines (lines_of t.header (length before + 1) (length (with_ends before)) (set_by t.lines) (p ∷ ps)))
 trace_then [] t p ps say = absurd say
 trace_then (x ∷ xs) t p ps (size, count, is, s, say) =
     let far : length (with_ends (x ∷ xs)) ≡ length x + 1 + length (with_ends xs) = long x xs in
     let (y, ys, e) = consed xs p ps in
     let all : PassesAll (record { number = 1; end = length x + 1; ended_by_lf = true; bytes = x }) = (omega (arith, far, size), omega arith, inl refl, is.0, is.1) in
     first_line x y (xs ++ p ∷ ps) ys e ∙ rw (head_said (record { number = 1; end = length x + 1; ended_by_lf = true; bytes = x }) t.header all s) (ap (with_header t.header)
-    (said_lines t.header 2 (length x + 1) false xs t.lines p ps s.2.0 say (omega (arith, far, size)) (omega (arith, count))
-    ∙ ap (with_prefix t.lines) (same_rest t.header (2 + length xs) (length (x ∷ xs) + 1) (length x + 1 + length (with_ends xs)) (length (with_ends (x ∷ xs))) (sets t.lines) (p ∷ ps) (omega arith) (omega (arith, far)))))
+    (said_lines t.header 2 (length x + 1) none_seen xs t.lines p ps s.2.0 say (omega (arith, far, size)) (omega (arith, count))
+    ∙ ap (with_prefix t.lines) (same_rest t.header (2 + length xs) (length (x ∷ xs) + 1) (length x + 1 + length (with_ends xs)) (length (with_ends (x ∷ xs))) (set_by t.lines) (p ∷ ps) (omega arith) (omega (arith, far)))))
 
-no_more : (h : Header) (n at : ℕ) (seen : Bool) → lines_of h n at seen ([] ∷ []) ≡ Ok []
+no_more : (h : Header) (n at : ℕ) (seen : ℕ → Bool) → lines_of h n at seen ([] ∷ []) ≡ Ok []
 unfolding lines_of
 no_more h n at seen = refl
 
@@ -304,13 +304,13 @@ pub the_trace : (input : List ℕ) (t : Trace) → SaysTrace input t → reading
 unfolding reading
 the_trace input t (texts, e, say) =
     let whole : parts_of input ≡ texts ++ [] ∷ [] = ap parts_of (e ∙ sym (append-nil (with_ends texts))) ∙ parts_behind texts [] (trace_texts texts t say) in
-    ap reading_of whole ∙ trace_then texts t [] [] say ∙ rw (no_more t.header (length texts + 1) (length (with_ends texts)) (sets t.lines), append-nil t.lines) refl
+    ap reading_of whole ∙ trace_then texts t [] [] say ∙ rw (no_more t.header (length texts + 1) (length (with_ends texts)) (set_by t.lines), append-nil t.lines) refl
 
-fails_more : (h : Header) (n at : ℕ) (seen : Bool) (text y : List ℕ) (ys : List (List ℕ)) (r : Reason) → IsHeader h → LineFails h seen (raw n at true text) r → lines_of h n at seen (text ∷ y ∷ ys) ≡ Err (n, r)
+fails_more : (h : Header) (n at : ℕ) (seen : ℕ → Bool) (text y : List ℕ) (ys : List (List ℕ)) (r : Reason) → IsHeader h → LineFails h seen (raw n at true text) r → lines_of h n at seen (text ∷ y ∷ ys) ≡ Err (n, r)
 unfolding lines_of
 fails_more h n at seen text y ys r header fails = rw (line_fails h seen (raw n at true text) r header fails) refl
 
-fails_last : (h : Header) (n at : ℕ) (seen : Bool) (text : List ℕ) (r : Reason) → IsHeader h → (text ≡ [] → ⊥) → LineFails h seen (raw n at false text) r → lines_of h n at seen (text ∷ []) ≡ Err (n, r)
+fails_last : (h : Header) (n at : ℕ) (seen : ℕ → Bool) (text : List ℕ) (r : Reason) → IsHeader h → (text ≡ [] → ⊥) → LineFails h seen (raw n at false text) r → lines_of h n at seen (text ∷ []) ≡ Err (n, r)
 unfolding lines_of
 fails_last h n at seen [] r header some fails = absurd (some refl)
 fails_last h n at seen (c ∷ cs) r header some fails = rw (not_empty c cs, line_fails h seen (raw n at false (c ∷ cs)) r header fails) refl
@@ -319,15 +319,15 @@ header_in : (before : List (List ℕ)) (t : Trace) → SayTrace before t → IsH
 header_in [] t say = absurd say
 header_in (x ∷ xs) t (size, count, is, s, say) = s.2.0
 
-later : (input : List ℕ) (before : List (List ℕ)) (t : Trace) (text : List ℕ) (ended : Bool) (r : Reason) → SayTrace before t → HasLine input before text ended → (ended ≡ false → text ≡ [] → ⊥) → LineFails t.header (sets t.lines) (line_behind before text ended) r → reading input ≡ Err (length before + 1, r)
+later : (input : List ℕ) (before : List (List ℕ)) (t : Trace) (text : List ℕ) (ended : Bool) (r : Reason) → SayTrace before t → HasLine input before text ended → (ended ≡ false → text ≡ [] → ⊥) → LineFails t.header (set_by t.lines) (line_behind before text ended) r → reading input ≡ Err (length before + 1, r)
 unfolding reading
 later input before t text true r say (are, (rest, e)) some fails =
     let (y, ys, f) = part rest in
     let whole : parts_of input ≡ before ++ text ∷ y ∷ ys = ap parts_of e ∙ parts_behind before (text ++ 10 ∷ rest) (trace_texts before t say) ∙ ap (λ (v : List (List ℕ)). before ++ v) (ended_part text rest are ∙ ap (λ (v : List (List ℕ)). text ∷ v) f) in
-    ap reading_of whole ∙ trace_then before t text (y ∷ ys) say ∙ rw (fails_more t.header (length before + 1) (length (with_ends before)) (sets t.lines) text y ys r (header_in before t say) fails) refl
+    ap reading_of whole ∙ trace_then before t text (y ∷ ys) say ∙ rw (fails_more t.header (length before + 1) (length (with_ends before)) (set_by t.lines) text y ys r (header_in before t say) fails) refl
 later input before t text false r say (are, e) some fails =
     let whole : parts_of input ≡ before ++ text ∷ [] = ap parts_of e ∙ parts_behind before text (trace_texts before t say) ∙ ap (λ (v : List (List ℕ)). before ++ v) (last_part text are) in
-    ap reading_of whole ∙ trace_then before t text [] say ∙ rw (fails_last t.header (length before + 1) (length (with_ends before)) (sets t.lines) text r (header_in before t say) (some refl) fails) refl
+    ap reading_of whole ∙ trace_then before t text [] say ∙ rw (fails_last t.header (length before + 1) (length (with_ends before)) (set_by t.lines) text r (header_in before t say) (some refl) fails) refl
 
 fails_first : (input text : List ℕ) (ended : Bool) (r : Reason) → HasLine input [] text ended → HeaderFails (line_behind [] text ended) r → reading input ≡ Err (1, r)
 unfolding reading reading_of

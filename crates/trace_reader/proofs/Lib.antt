@@ -17,4 +17,4 @@ pub mod HeaderRefused
 pub mod Checks
 pub mod InputLines
 pub mod Input
-pub mod Once
+pub mod Distinct

@@ -51,7 +51,7 @@ an_end xs at e =
     let f = found (position_or_len (λ b. b == 10) xs) (length xs) at e in
     rw f.1 (slice_split_first (λ b. b == 10) xs 0 f.0)
 
-nothing_left : (h : Header) (n at : ℕ) (seen : Bool) (rest : List ℕ) → length rest < 1 → lines_of h n at seen (parts_of rest) ≡ Ok []
+nothing_left : (h : Header) (n at : ℕ) (seen : ℕ → Bool) (rest : List ℕ) → length rest < 1 → lines_of h n at seen (parts_of rest) ≡ Ok []
 unfolding lines_of
 nothing_left h n at seen [] lt = refl
 nothing_left h n at seen (b ∷ bs) lt = absurd (omega arith)
@@ -60,7 +60,7 @@ pub not_empty : (c : ℕ) (cs : List ℕ) → is_empty (c ∷ cs) ≡ false
 not_empty c cs = grind (arith, nat_tests)
 
 -- The first line, and the lines behind it.
-pub unrolled : (h : Header) (n at size : ℕ) (seen : Bool) (rest text after : List ℕ) (ended : Bool) → 0 < length rest → parts_of rest ≡ text ∷ cond ended (parts_of after) [] → (ended ≡ false → after ≡ []) → length rest ≡ length text + cond ended 1 0 + length after → size ≡ length text + cond ended 1 0
+pub unrolled : (h : Header) (n at size : ℕ) (seen : ℕ → Bool) (rest text after : List ℕ) (ended : Bool) → 0 < length rest → parts_of rest ≡ text ∷ cond ended (parts_of after) [] → (ended ≡ false → after ≡ []) → length rest ≡ length text + cond ended 1 0 + length after → size ≡ length text + cond ended 1 0
     → lines_of h n at seen (parts_of rest) ≡ onto n seen (line_of h seen (record { number = n; end = at + size; ended_by_lf = ended; bytes = text })) (λ now. lines_of h (n + 1) (at + size) now (parts_of after))
 unfolding lines_of
 unrolled h n at size seen rest text after true lt e last len is =
@@ -80,14 +80,14 @@ moves size rest text after false lt last len is = let z : length after ≡ 0 = a
 
 -- What the lines behind line n are read with.
 abbrev Rest : Type 0
-Rest = Bool → Result (List Line) (ℕ × Reason)
+Rest = (ℕ → Bool) → Result (List Line) (ℕ × Reason)
 
 read_on : (prefix : List Line) (found : Option Line) (rest : Result (List Line) (ℕ × Reason)) → with_prefix prefix (with_line found rest) ≡ with_prefix (with_found prefix found) rest
 read_on prefix None rest = refl
 read_on prefix (Some l) (Ok ls) = ap (λ (v : List Line). Ok v) (simp append_assoc)
 read_on prefix (Some l) (Err e) = refl
 
-pub goes_on : (prefix new : List Line) (n : ℕ) (seen now : Bool) (read : Result (Option Line) Reason) (found : Option Line) (here : Result (List Line) (ℕ × Reason)) (rest : Rest) (total : Result (List Line) (ℕ × Reason)) → here ≡ onto n seen read rest → read ≡ Ok found → new ≡ with_found prefix found → now ≡ seen_after seen found → with_prefix prefix here ≡ total → with_prefix new (rest now) ≡ total
+pub goes_on : (prefix new : List Line) (n : ℕ) (seen now : ℕ → Bool) (read : Result (Option Line) Reason) (found : Option Line) (here : Result (List Line) (ℕ × Reason)) (rest : Rest) (total : Result (List Line) (ℕ × Reason)) → here ≡ onto n seen read rest → read ≡ Ok found → new ≡ with_found prefix found → now ≡ seen_after seen found → with_prefix prefix here ≡ total → with_prefix new (rest now) ≡ total
 goes_on prefix new n seen now read found here rest total u is more sees so_far =
     let one : with_prefix prefix here ≡ with_prefix (with_found prefix found) (rest (seen_after seen found)) = rw (u, is) (read_on prefix found (rest (seen_after seen found))) in
     rw (more, sees) (sym one ∙ so_far)
@@ -96,13 +96,13 @@ pub all_lines : (h : Header) (prefix new : List Line) (found : Option Line) → 
 all_lines h prefix new None all here is = rw is all
 all_lines h prefix new (Some l) all here is = rw is (All-push (IsLineOf h) prefix l all here)
 
-pub stops : (prefix : List Line) (n : ℕ) (seen : Bool) (read : Result (Option Line) Reason) (e : ReadError) (here : Result (List Line) (ℕ × Reason)) (rest : Rest) (total : Result (List Line) (ℕ × Reason)) → here ≡ onto n seen read rest → Fails n e read → with_prefix prefix here ≡ total → Tells {X = List Line} (λ v. v) (Err e) total
+pub stops : (prefix : List Line) (n : ℕ) (seen : ℕ → Bool) (read : Result (Option Line) Reason) (e : ReadError) (here : Result (List Line) (ℕ × Reason)) (rest : Rest) (total : Result (List Line) (ℕ × Reason)) → here ≡ onto n seen read rest → Fails n e read → with_prefix prefix here ≡ total → Tells {X = List Line} (λ v. v) (Err e) total
 stops prefix n seen read errors.NoMemory here rest total u fails so_far = tt
 stops prefix n seen read (errors.Refused line r) here rest total u fails so_far =
     let one : with_prefix prefix here ≡ Err (line, r) = rw (u, fails.1, fails.0) refl in
     sym so_far ∙ one
 
-pub is_done : (h : Header) (prefix : List Line) (n at : ℕ) (seen : Bool) (rest : List ℕ) (total : Result (List Line) (ℕ × Reason)) → length rest < 1 → with_prefix prefix (lines_of h n at seen (parts_of rest)) ≡ total → total ≡ Ok prefix
+pub is_done : (h : Header) (prefix : List Line) (n at : ℕ) (seen : ℕ → Bool) (rest : List ℕ) (total : Result (List Line) (ℕ × Reason)) → length rest < 1 → with_prefix prefix (lines_of h n at seen (parts_of rest)) ≡ total → total ≡ Ok prefix
 is_done h prefix n at seen rest total lt so_far =
     let one : with_prefix prefix (lines_of h n at seen (parts_of rest)) ≡ Ok prefix = rw (nothing_left h n at seen rest lt, append-nil prefix) refl in
     sym so_far ∙ one

@@ -15,7 +15,7 @@ use Rattle.core_views.specs.declared.trace.Op.TheVariants.{Read, Write, Add}
 use Rattle.core_views.specs.declared.trace.Slot.{Slot}
 use Rattle.core_views.specs.declared.trace.Header.{Header}
 use Rattle.trace_reader.specs.Numbers.{number_of, decimal_number}
-use Rattle.trace_reader.specs.Forms.{number, or_number, is_address, access_at, address, declared, indexed, vcpu, read_form, store_form, is_slot, slot, setting, slot_form, read_only_slot_form, by_form}
+use Rattle.trace_reader.specs.Forms.{number, or_number, is_address, access_at, address, declared, indexed, vcpu, read_form, store_form, is_slot, slot, new_number, setting, slot_form, read_only_slot_form, by_form}
 use Rattle.trace_reader.specs.Grammar.{Spells, ending, AreWordsOf}
 use Rattle.trace_reader.proofs.Results.{branch, then_ok, both, word_is}
 use Rattle.trace_reader.proofs.Spelled.{spelled, spelling, decimal_found, decimal_only}
@@ -52,9 +52,9 @@ unfolding slot
 slot_spelled x y z s a b c fits =
     rw (number_spelled x s.base a, number_spelled y s.pages b, number_spelled z s.host c, slot_fits s.base s.pages s.host fits.some fits.pages fits.base fits.host fits.aligned) refl
 
-setting_spelled : (seen : Bool) (i x y z : List ℕ) (id : ℕ) (s : Slot) → seen ≡ false → Spells i id → Spells x s.base → Spells y s.pages → Spells z s.host → IsSlotInRange s → setting seen i x y z s.read_only ≡ Ok (Manager, SetSlot id s)
+setting_spelled : (seen : ℕ → Bool) (i x y z : List ℕ) (id : ℕ) (s : Slot) → seen id ≡ false → Spells i id → Spells x s.base → Spells y s.pages → Spells z s.host → IsSlotInRange s → setting seen i x y z s.read_only ≡ Ok (Manager, SetSlot id s)
 unfolding setting
-setting_spelled seen i x y z id s first n a b c fits = rw (first, number_spelled i id n, slot_spelled x y z s a b c fits) refl
+setting_spelled seen i x y z id s first n a b c fits = rw (number_spelled i id n, first, slot_spelled x y z s a b c fits) refl
 
 pub small_words : (h : Header) → IsHeader h → h.words ≤ 8
 small_words h is = elim is.words [
@@ -65,13 +65,13 @@ small_words h is = elim is.words [
   ]
 ]
 
-either_form : (h : Header) (seen ro : Bool) (i x y z : List ℕ) → by_form h seen (codes "vm" ∷ codes "slot" ∷ i ∷ x ∷ y ∷ z ∷ ending ro) ≡ setting seen i x y z ro
+either_form : (h : Header) (seen : ℕ → Bool) (ro : Bool) (i x y z : List ℕ) → by_form h seen (codes "vm" ∷ codes "slot" ∷ i ∷ x ∷ y ∷ z ∷ ending ro) ≡ setting seen i x y z ro
 unfolding by_form slot_form read_only_slot_form
 either_form h seen true i x y z = refl
 either_form h seen false i x y z = refl
 
 -- What the words of a form say is read.
-pub reads : (h : Header) (seen : Bool) (words : List (List ℕ)) (a : Actor) (c : Command) → h.vcpus ≤ 16 → h.words ≤ 8 → IsCommandOf h a c → AreWordsOf seen words a c → by_form h seen words ≡ Ok (a, c)
+pub reads : (h : Header) (seen : ℕ → Bool) (words : List (List ℕ)) (a : Actor) (c : Command) → h.vcpus ≤ 16 → h.words ≤ 8 → IsCommandOf h a c → AreWordsOf seen words a c → by_form h seen words ≡ Ok (a, c)
 unfolding by_form read_form store_form slot_form read_only_slot_form
 reads h seen words (Vcpu i) (Access gfn word Read) vcpus few (known, low, small) (x, e, s) =
     rw (e, vcpu_named h i known vcpus, address_spelled h x gfn word s low small few) refl
@@ -155,32 +155,37 @@ slot_found x y z ro s e =
     ])))
 
 -- The words say this actor and command.
-abbrev IsPairSaid : Header → Bool → List (List ℕ) → Actor × Command → Type 0
+abbrev IsPairSaid : Header → (ℕ → Bool) → List (List ℕ) → Actor × Command → Type 0
 IsPairSaid h seen words p = IsCommandOf h p.0 p.1 × AreWordsOf seen words p.0 p.1
 
-read_said : (h : Header) (seen : Bool) (who verb x : List ℕ) (i gfn word : ℕ) → who ≡ 118 ∷ decimal i → verb ≡ codes "read" → i < h.vcpus → Spells x (4096 * gfn + 8 * word) → gfn < 2 ^ 36 → word < h.words → IsPairSaid h seen (who ∷ verb ∷ x ∷ []) (Vcpu i, Access gfn word Read)
+read_said : (h : Header) (seen : ℕ → Bool) (who verb x : List ℕ) (i gfn word : ℕ) → who ≡ 118 ∷ decimal i → verb ≡ codes "read" → i < h.vcpus → Spells x (4096 * gfn + 8 * word) → gfn < 2 ^ 36 → word < h.words → IsPairSaid h seen (who ∷ verb ∷ x ∷ []) (Vcpu i, Access gfn word Read)
 read_said h seen who verb x i gfn word name is known s low small = ((known, low, small), (x, rw (name, is) refl, s))
 
-write_said : (h : Header) (seen : Bool) (who verb x y : List ℕ) (i gfn word k : ℕ) → who ≡ 118 ∷ decimal i → verb ≡ codes "write" → i < h.vcpus → Spells x (4096 * gfn + 8 * word) → gfn < 2 ^ 36 → word < h.words → Spells y k → IsPairSaid h seen (who ∷ verb ∷ x ∷ y ∷ []) (Vcpu i, Access gfn word (Write k))
+write_said : (h : Header) (seen : ℕ → Bool) (who verb x y : List ℕ) (i gfn word k : ℕ) → who ≡ 118 ∷ decimal i → verb ≡ codes "write" → i < h.vcpus → Spells x (4096 * gfn + 8 * word) → gfn < 2 ^ 36 → word < h.words → Spells y k → IsPairSaid h seen (who ∷ verb ∷ x ∷ y ∷ []) (Vcpu i, Access gfn word (Write k))
 write_said h seen who verb x y i gfn word k name is known s low small t = ((known, low, small), (x, y, rw (name, is) refl, s, t))
 
-add_said : (h : Header) (seen : Bool) (who verb x y : List ℕ) (i gfn word k : ℕ) → who ≡ 118 ∷ decimal i → verb ≡ codes "add" → i < h.vcpus → Spells x (4096 * gfn + 8 * word) → gfn < 2 ^ 36 → word < h.words → Spells y k → IsPairSaid h seen (who ∷ verb ∷ x ∷ y ∷ []) (Vcpu i, Access gfn word (Add k))
+add_said : (h : Header) (seen : ℕ → Bool) (who verb x y : List ℕ) (i gfn word k : ℕ) → who ≡ 118 ∷ decimal i → verb ≡ codes "add" → i < h.vcpus → Spells x (4096 * gfn + 8 * word) → gfn < 2 ^ 36 → word < h.words → Spells y k → IsPairSaid h seen (who ∷ verb ∷ x ∷ y ∷ []) (Vcpu i, Access gfn word (Add k))
 add_said h seen who verb x y i gfn word k name is known s low small t = ((known, low, small), (x, y, rw (name, is) refl, s, t))
 
--- The slot's numbers are spelled, and it is the first.
-abbrev IsSettingSaid : Bool → List ℕ → List ℕ → List ℕ → List ℕ → Bool → Actor × Command → Type 0
-IsSettingSaid seen i x y z ro p = (id : ℕ) × (s : Slot) × (p ≡ (Manager, SetSlot id s)) × (seen ≡ false) × Spells i id × IsSlotSaid x y z ro s
+-- The slot's numbers are spelled, and its ID wasn't seen.
+abbrev IsSettingSaid : (ℕ → Bool) → List ℕ → List ℕ → List ℕ → List ℕ → Bool → Actor × Command → Type 0
+IsSettingSaid seen i x y z ro p = (id : ℕ) × (s : Slot) × (p ≡ (Manager, SetSlot id s)) × (seen id ≡ false) × Spells i id × IsSlotSaid x y z ro s
 
-setting_found : (seen : Bool) (i x y z : List ℕ) (ro : Bool) (p : Actor × Command) → setting seen i x y z ro ≡ Ok p → IsSettingSaid seen i x y z ro p
+new_found : (b : Bool) (n id : ℕ) → new_number b n ≡ Ok id → (b ≡ false) × (n ≡ id)
+new_found true n id e = absurd (let no : ⊥ = cc in no)
+new_found false n id e = (refl, cc)
+
+setting_found : (seen : ℕ → Bool) (i x y z : List ℕ) (ro : Bool) (p : Actor × Command) → setting seen i x y z ro ≡ Ok p → IsSettingSaid seen i x y z ro p
 unfolding setting
-setting_found true i x y z ro p e = absurd (let no : ⊥ = cc in no)
-setting_found false i x y z ro p e =
-    then_ok (number i) _ p e (λ id is_id e1.
-    then_ok (slot x y z ro) _ p e1 (λ s is_s e2.
-    let same : p ≡ (Manager, SetSlot id s) = cc in
-    (id, s, same, refl, number_found i id is_id, slot_found x y z ro s is_s)))
+setting_found seen i x y z ro p e =
+    then_ok (number i) _ p e (λ n is_n e1.
+    then_ok (new_number (seen n) n) _ p e1 (λ id is_new e2.
+    then_ok (slot x y z ro) _ p e2 (λ s is_s e3.
+    let new = new_found (seen n) n id is_new in
+    let same : p ≡ (Manager, SetSlot n s) = cc in
+    (n, s, same, new.0, number_found i n is_n, slot_found x y z ro s is_s))))
 
-read_found : (h : Header) (seen : Bool) (who verb x : List ℕ) (p : Actor × Command) → read_form h who verb x ≡ Ok p → IsPairSaid h seen (who ∷ verb ∷ x ∷ []) p
+read_found : (h : Header) (seen : ℕ → Bool) (who verb x : List ℕ) (p : Actor × Command) → read_form h who verb x ≡ Ok p → IsPairSaid h seen (who ∷ verb ∷ x ∷ []) p
 unfolding read_form
 read_found h seen who verb x p e = elim (branch (bytes_eq verb (codes "read")) _ _ (Ok p) e) [
   | inl q ↦ then_ok (vcpu h who) _ p q.1 (λ i is_i e1.
@@ -192,7 +197,7 @@ read_found h seen who verb x p e = elim (branch (bytes_eq verb (codes "read")) _
   | inr q ↦ absurd (let no : ⊥ = cc in no)
 ]
 
-store_found : (h : Header) (seen : Bool) (who verb x y : List ℕ) (p : Actor × Command) → store_form h who verb x y ≡ Ok p → IsPairSaid h seen (who ∷ verb ∷ x ∷ y ∷ []) p
+store_found : (h : Header) (seen : ℕ → Bool) (who verb x y : List ℕ) (p : Actor × Command) → store_form h who verb x y ≡ Ok p → IsPairSaid h seen (who ∷ verb ∷ x ∷ y ∷ []) p
 unfolding store_form
 store_found h seen who verb x y p e = elim (branch (bytes_eq verb (codes "write")) _ _ (Ok p) e) [
   | inl q ↦ then_ok (vcpu h who) _ p q.1 (λ i is_i e1.
@@ -214,7 +219,7 @@ store_found h seen who verb x y p e = elim (branch (bytes_eq verb (codes "write"
   ]
 ]
 
-slot_form_found : (h : Header) (seen : Bool) (who verb i x y z : List ℕ) (p : Actor × Command) → slot_form seen who verb i x y z ≡ Ok p → IsPairSaid h seen (who ∷ verb ∷ i ∷ x ∷ y ∷ z ∷ []) p
+slot_form_found : (h : Header) (seen : ℕ → Bool) (who verb i x y z : List ℕ) (p : Actor × Command) → slot_form seen who verb i x y z ≡ Ok p → IsPairSaid h seen (who ∷ verb ∷ i ∷ x ∷ y ∷ z ∷ []) p
 unfolding slot_form
 slot_form_found h seen who verb i x y z p e = elim (branch (bytes_eq who (codes "vm") && bytes_eq verb (codes "slot")) _ _ (Ok p) e) [
   | inl q ↦ let t = both (bytes_eq who (codes "vm")) (bytes_eq verb (codes "slot")) q.0 in
@@ -223,7 +228,7 @@ slot_form_found h seen who verb i x y z p e = elim (branch (bytes_eq who (codes 
   | inr q ↦ absurd (let no : ⊥ = cc in no)
 ]
 
-read_only_slot_form_found : (h : Header) (seen : Bool) (who verb i x y z last : List ℕ) (p : Actor × Command) → read_only_slot_form seen who verb i x y z last ≡ Ok p → IsPairSaid h seen (who ∷ verb ∷ i ∷ x ∷ y ∷ z ∷ last ∷ []) p
+read_only_slot_form_found : (h : Header) (seen : ℕ → Bool) (who verb i x y z last : List ℕ) (p : Actor × Command) → read_only_slot_form seen who verb i x y z last ≡ Ok p → IsPairSaid h seen (who ∷ verb ∷ i ∷ x ∷ y ∷ z ∷ last ∷ []) p
 unfolding read_only_slot_form
 read_only_slot_form_found h seen who verb i x y z last p e = elim (branch (bytes_eq who (codes "vm") && bytes_eq verb (codes "slot") && bytes_eq last (codes "ro")) _ _ (Ok p) e) [
   | inl q ↦ let u = both (bytes_eq who (codes "vm") && bytes_eq verb (codes "slot")) (bytes_eq last (codes "ro")) q.0 in
@@ -233,7 +238,7 @@ read_only_slot_form_found h seen who verb i x y z last p e = elim (branch (bytes
   | inr q ↦ absurd (let no : ⊥ = cc in no)
 ]
 
-pub only : (h : Header) (seen : Bool) (words : List (List ℕ)) (p : Actor × Command) → by_form h seen words ≡ Ok p → IsPairSaid h seen words p
+pub only : (h : Header) (seen : ℕ → Bool) (words : List (List ℕ)) (p : Actor × Command) → by_form h seen words ≡ Ok p → IsPairSaid h seen words p
 unfolding by_form
 only h seen [] p e = absurd (let no : ⊥ = cc in no)
 only h seen (a ∷ []) p e = absurd (let no : ⊥ = cc in no)

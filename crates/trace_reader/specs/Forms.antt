@@ -86,26 +86,29 @@ slot base pages host read_only = do
   k ← number host
   if is_slot b p k then Ok (record { base = b; pages = p; host = k; read_only = read_only }) else Err reason.Number
 
--- `ID BASE PAGES HOST` behind `vm slot`, which only one line may have
-unfoldable pub setting : Bool → List ℕ → List ℕ → List ℕ → List ℕ → Bool → Said
+-- the number, or `number` where it was seen
+abbrev pub new_number : Bool → ℕ → Result ℕ Reason
+new_number seen n = if seen then Err reason.Number else Ok n
+
+-- `ID BASE PAGES HOST` behind `vm slot`: an ID that was seen can't be set again
+unfoldable pub setting : (ℕ → Bool) → List ℕ → List ℕ → List ℕ → List ℕ → Bool → Said
 setting seen id base pages host read_only =
-    if seen then Err reason.Word else
-    number id >>= λ i. slot base pages host read_only >>= λ s. Ok (Manager, SetSlot i s)
+    number id >>= λ n. new_number (seen n) n >>= λ i. slot base pages host read_only >>= λ s. Ok (Manager, SetSlot i s)
 
 -- `vm slot ID BASE PAGES HOST`
-unfoldable pub slot_form : Bool → List ℕ → List ℕ → List ℕ → List ℕ → List ℕ → List ℕ → Said
+unfoldable pub slot_form : (ℕ → Bool) → List ℕ → List ℕ → List ℕ → List ℕ → List ℕ → List ℕ → Said
 slot_form seen who verb id base pages host =
     if bytes_eq who (codes "vm") && bytes_eq verb (codes "slot") then setting seen id base pages host false else
     Err reason.Word
 
 -- `vm slot ID BASE PAGES HOST ro`
-unfoldable pub read_only_slot_form : Bool → List ℕ → List ℕ → List ℕ → List ℕ → List ℕ → List ℕ → List ℕ → Said
+unfoldable pub read_only_slot_form : (ℕ → Bool) → List ℕ → List ℕ → List ℕ → List ℕ → List ℕ → List ℕ → List ℕ → Said
 read_only_slot_form seen who verb id base pages host last =
     if bytes_eq who (codes "vm") && bytes_eq verb (codes "slot") && bytes_eq last (codes "ro") then setting seen id base pages host true else
     Err reason.Word
 
--- what these words say, by their count; `seen`: a slot line stands before
-unfoldable pub by_form : Header → Bool → List (List ℕ) → Said
+-- what these words say, by their count; `seen`: the IDs that slot lines before name
+unfoldable pub by_form : Header → (ℕ → Bool) → List (List ℕ) → Said
 by_form h seen (who ∷ verb ∷ x ∷ []) = read_form h who verb x
 by_form h seen (who ∷ verb ∷ x ∷ y ∷ []) = store_form h who verb x y
 by_form h seen (who ∷ verb ∷ a ∷ b ∷ c ∷ d ∷ []) = slot_form seen who verb a b c d
@@ -117,7 +120,7 @@ abbrev pub is_empty : List ℕ → Bool
 is_empty w = length w == 0
 
 -- what the words say, none of which may be empty
-unfoldable pub by_words : Header → Bool → List (List ℕ) → Said
+unfoldable pub by_words : Header → (ℕ → Bool) → List (List ℕ) → Said
 by_words h seen words = if list_any is_empty words then Err reason.Word else by_form h seen words
 
 -- the words of a line: what stands between its spaces
@@ -125,5 +128,5 @@ abbrev pub words_of : List ℕ → List (List ℕ)
 words_of bytes = slice_split (λ b. b == 32) bytes
 
 -- what the bytes of a line say
-unfoldable pub said : Header → Bool → List ℕ → Said
+unfoldable pub said : Header → (ℕ → Bool) → List ℕ → Said
 said h seen bytes = by_words h seen (words_of bytes)

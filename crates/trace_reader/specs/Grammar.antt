@@ -47,26 +47,26 @@ ending read_only = if read_only then codes "ro" ∷ [] else []
 abbrev pub slot_words : List ℕ → List ℕ → List ℕ → List ℕ → Bool → List (List ℕ)
 slot_words i b p k read_only = actor_name Manager ∷ codes "slot" ∷ i ∷ b ∷ p ∷ k ∷ ending read_only
 
--- The words are of the command's form, and spell its numbers; only the first slot line may be one.
-abbrev pub AreWordsOf : Bool → List (List ℕ) → Actor → Command → Type 0
+-- The words are of the command's form, and spell its numbers; an ID of a slot that was seen is none.
+abbrev pub AreWordsOf : (ℕ → Bool) → List (List ℕ) → Actor → Command → Type 0
 AreWordsOf seen words (Vcpu i) (Access gfn word Read) = (a : List ℕ) × (words ≡ read_words i a) × Spells a (4096 * gfn + 8 * word)
 AreWordsOf seen words (Vcpu i) (Access gfn word (Write v)) = (a x : List ℕ) × (words ≡ write_words i a x) × Spells a (4096 * gfn + 8 * word) × Spells x v
 AreWordsOf seen words (Vcpu i) (Access gfn word (Add v)) = (a x : List ℕ) × (words ≡ add_words i a x) × Spells a (4096 * gfn + 8 * word) × Spells x v
-AreWordsOf seen words Manager (SetSlot id slot) = (i b p k : List ℕ) × (seen ≡ false) × (words ≡ slot_words i b p k slot.read_only) × Spells i id × Spells b slot.base × Spells p slot.pages × Spells k slot.host
+AreWordsOf seen words Manager (SetSlot id slot) = (i b p k : List ℕ) × (seen id ≡ false) × (words ≡ slot_words i b p k slot.read_only) × Spells i id × Spells b slot.base × Spells p slot.pages × Spells k slot.host
 AreWordsOf seen words _ _ = ⊥
 
 -- The bytes of a line say that the actor makes the command: they are words of its form, and its numbers are in their
--- ranges. `seen`: a slot line stands before.
-abbrev pub SaysLine : Header → Bool → List ℕ → Actor → Command → Type 0
+-- ranges. `seen`: the IDs that slot lines before name.
+abbrev pub SaysLine : Header → (ℕ → Bool) → List ℕ → Actor → Command → Type 0
 SaysLine h seen bytes actor command = IsCommandOf h actor command × ((words : List (List ℕ)) × (bytes ≡ spaced words) × AreWordsOf seen words actor command)
 
 -- What a line says is read.
 abbrev pub ReadsWhatIsSaid : Type 0
-ReadsWhatIsSaid = (h : Header) (seen : Bool) (bytes : List ℕ) (actor : Actor) (command : Command) → IsHeader h → SaysLine h seen bytes actor command → said h seen bytes ≡ Ok (actor, command)
+ReadsWhatIsSaid = (h : Header) (seen : ℕ → Bool) (bytes : List ℕ) (actor : Actor) (command : Command) → IsHeader h → SaysLine h seen bytes actor command → said h seen bytes ≡ Ok (actor, command)
 
 -- Only what a line says is read.
 abbrev pub ReadsNothingElse : Type 0
-ReadsNothingElse = (h : Header) (seen : Bool) (bytes : List ℕ) (actor : Actor) (command : Command) → said h seen bytes ≡ Ok (actor, command) → SaysLine h seen bytes actor command
+ReadsNothingElse = (h : Header) (seen : ℕ → Bool) (bytes : List ℕ) (actor : Actor) (command : Command) → said h seen bytes ≡ Ok (actor, command) → SaysLine h seen bytes actor command
 
 -- The word has bytes, and no space.
 pub record IsWord (w : List ℕ) : Type 0 where
@@ -82,15 +82,15 @@ AreWords (w ∷ ws) = IsWord w × AreWords ws
 abbrev pub IsAccessForm : ℕ → List (List ℕ) → Type 0
 IsAccessForm i words = ((a : List ℕ) × (words ≡ read_words i a)) ⊎ ((a x : List ℕ) × (words ≡ write_words i a x)) ⊎ ((a x : List ℕ) × (words ≡ add_words i a x))
 
--- The words are those of a slot line, whatever stands in the numbers' places; only the first slot line may be one.
-abbrev pub IsSlotForm : Bool → List (List ℕ) → Type 0
-IsSlotForm seen words = (i b p k : List ℕ) × (read_only : Bool) × (seen ≡ false) × (words ≡ slot_words i b p k read_only)
+-- The words are those of a slot line, whatever stands in the numbers' places.
+abbrev pub IsSlotForm : List (List ℕ) → Type 0
+IsSlotForm words = (i b p k : List ℕ) × (read_only : Bool) × (words ≡ slot_words i b p k read_only)
 
 -- The words are of a form that the actor's lines have.
-abbrev pub HasForm : Bool → List (List ℕ) → Actor → Type 0
-HasForm seen words (Vcpu i) = IsAccessForm i words
-HasForm seen words Manager = IsSlotForm seen words
-HasForm seen words _ = ⊥
+abbrev pub HasForm : List (List ℕ) → Actor → Type 0
+HasForm words (Vcpu i) = IsAccessForm i words
+HasForm words Manager = IsSlotForm words
+HasForm words _ = ⊥
 
 -- Some header declares the actor.
 abbrev pub IsActor : Actor → Type 0
@@ -107,24 +107,24 @@ IsDeclared h Manager = Unit {0}
 IsDeclared h (Worker i) = i < h.workers
 
 -- The bytes of a line are words of a form of this actor's lines; neither its being declared nor the numbers are judged.
-abbrev pub IsOfForm : Bool → List ℕ → Actor → Type 0
-IsOfForm seen bytes actor = IsActor actor × ((words : List (List ℕ)) × (bytes ≡ spaced words) × AreWords words × HasForm seen words actor)
+abbrev pub IsOfForm : List ℕ → Actor → Type 0
+IsOfForm bytes actor = IsActor actor × ((words : List (List ℕ)) × (bytes ≡ spaced words) × AreWords words × HasForm words actor)
 
 -- Why a line says nothing: it is of no form; or of a form of an actor that the header doesn't declare; or of a form of
 -- one that it does, and says none of this actor's commands.
-abbrev pub SaysNothingFor : Header → Bool → List ℕ → Reason → Type 0
-SaysNothingFor h seen bytes reason.Word = (actor : Actor) → IsOfForm seen bytes actor → ⊥
-SaysNothingFor h seen bytes reason.Actor = (actor : Actor) × IsOfForm seen bytes actor × (IsDeclared h actor → ⊥)
-SaysNothingFor h seen bytes reason.Number = (actor : Actor) × IsOfForm seen bytes actor × IsDeclared h actor × ((command : Command) → SaysLine h seen bytes actor command → ⊥)
+abbrev pub SaysNothingFor : Header → (ℕ → Bool) → List ℕ → Reason → Type 0
+SaysNothingFor h seen bytes reason.Word = (actor : Actor) → IsOfForm bytes actor → ⊥
+SaysNothingFor h seen bytes reason.Actor = (actor : Actor) × IsOfForm bytes actor × (IsDeclared h actor → ⊥)
+SaysNothingFor h seen bytes reason.Number = (actor : Actor) × IsOfForm bytes actor × IsDeclared h actor × ((command : Command) → SaysLine h seen bytes actor command → ⊥)
 SaysNothingFor h seen bytes _ = ⊥
 
 -- A line that says nothing for a reason is refused for this one.
 abbrev pub RefusesForTheReason : Type 0
-RefusesForTheReason = (h : Header) (seen : Bool) (bytes : List ℕ) (r : Reason) → IsHeader h → SaysNothingFor h seen bytes r → said h seen bytes ≡ Err r
+RefusesForTheReason = (h : Header) (seen : ℕ → Bool) (bytes : List ℕ) (r : Reason) → IsHeader h → SaysNothingFor h seen bytes r → said h seen bytes ≡ Err r
 
 -- A line is refused only for the reason for which it says nothing.
 abbrev pub RefusesForNoOther : Type 0
-RefusesForNoOther = (h : Header) (seen : Bool) (bytes : List ℕ) (r : Reason) → IsHeader h → said h seen bytes ≡ Err r → SaysNothingFor h seen bytes r
+RefusesForNoOther = (h : Header) (seen : ℕ → Bool) (bytes : List ℕ) (r : Reason) → IsHeader h → said h seen bytes ≡ Err r → SaysNothingFor h seen bytes r
 
 -- The reason is one of a line that says nothing.
 abbrev pub IsLineReason : Reason → Type 0
@@ -132,4 +132,4 @@ IsLineReason r = (r ≡ reason.Word) ⊎ (r ≡ reason.Actor) ⊎ (r ≡ reason.
 
 -- A line that says nothing is refused.
 abbrev pub RefusesTheRest : Type 0
-RefusesTheRest = (h : Header) (seen : Bool) (bytes : List ℕ) → ((actor : Actor) (command : Command) → SaysLine h seen bytes actor command → ⊥) → (r : Reason) × (said h seen bytes ≡ Err r) × IsLineReason r
+RefusesTheRest = (h : Header) (seen : ℕ → Bool) (bytes : List ℕ) → ((actor : Actor) (command : Command) → SaysLine h seen bytes actor command → ⊥) → (r : Reason) × (said h seen bytes ≡ Err r) × IsLineReason r

@@ -8,7 +8,6 @@ use Rattle.core_views.specs.declared.trace.Command.{Command}
 use Rattle.core_views.specs.declared.trace.Command.TheVariants.{Access, SetSlot}
 use Rattle.core_views.specs.declared.trace.Header.{Header}
 use Rattle.core_views.specs.declared.trace.Line.{Line}
-use Rattle.core_views.specs.Traces.{sets_slot}
 use Rattle.trace_reader.specs.declared.reason.Reason.{Reason}
 use Rattle.trace_reader.specs.declared.reason.Reason.TheVariants as reason
 use Rattle.trace_reader.specs.Forms.{◌>>=◌, is_empty, said}
@@ -62,17 +61,30 @@ is_skipped [] = true
 is_skipped (b ∷ bs) = b == 35
 
 -- what the bytes of a line say: nothing where it is skipped
-unfoldable pub content : Header → Bool → ℕ → List ℕ → Result (Option Line) Reason
+unfoldable pub content : Header → (ℕ → Bool) → ℕ → List ℕ → Result (Option Line) Reason
 content h seen n bytes = if is_skipped bytes then Ok None else (said h seen bytes >>= λ x. Ok (Some (numbered n x)))
 
--- what a line behind the header says; `seen`: a slot line stands before
-unfoldable pub line_of : Header → Bool → Raw → Result (Option Line) Reason
+-- what a line behind the header says; `seen`: the IDs that slot lines before name
+unfoldable pub line_of : Header → (ℕ → Bool) → Raw → Result (Option Line) Reason
 line_of h seen raw = after_checks (fault_of raw) (content h seen raw.number raw.bytes)
 
--- A slot line stands before what follows.
-abbrev pub seen_after : Bool → Option Line → Bool
+-- The command sets a slot at this ID.
+abbrev pub sets_at : ℕ → Command → Bool
+sets_at id (Access gfn word op) = false
+sets_at id (SetSlot i slot) = i == id
+
+-- the IDs that were seen, and the one that the command sets a slot at
+abbrev pub seen_with : (ℕ → Bool) → Command → ℕ → Bool
+seen_with seen command id = seen id || sets_at id command
+
+-- before the first line
+abbrev pub none_seen : ℕ → Bool
+none_seen id = false
+
+-- the IDs that slot lines before what follows name
+abbrev pub seen_after : (ℕ → Bool) → Option Line → ℕ → Bool
 seen_after seen None = seen
-seen_after seen (Some line) = seen || sets_slot line.command
+seen_after seen (Some line) = seen_with seen line.command
 
 -- the line in front of those that follow, or a refusal of those
 abbrev pub with_line : Option Line → Result (List Line) (ℕ × Reason) → Result (List Line) (ℕ × Reason)
@@ -81,7 +93,7 @@ with_line (Some line) (Ok lines) = Ok (line ∷ lines)
 with_line (Some line) (Err e) = Err e
 
 -- what line n gives and what the lines behind it say, or the first refusal: its line and the reason
-abbrev pub onto : ℕ → Bool → Result (Option Line) Reason → (Bool → Result (List Line) (ℕ × Reason)) → Result (List Line) (ℕ × Reason)
+abbrev pub onto : ℕ → (ℕ → Bool) → Result (Option Line) Reason → ((ℕ → Bool) → Result (List Line) (ℕ × Reason)) → Result (List Line) (ℕ × Reason)
 onto n seen (Err r) rest = Err (n, r)
 onto n seen (Ok found) rest = with_line found (rest (seen_after seen found))
 
@@ -89,8 +101,8 @@ onto n seen (Ok found) rest = with_line found (rest (seen_after seen found))
 abbrev pub raw : ℕ → ℕ → Bool → List ℕ → Raw
 raw n at ended bytes = record { number = n; end = at + (length bytes + (if ended then 1 else 0)); ended_by_lf = ended; bytes = bytes }
 
--- the lines of these parts, of which the first has number n and stands behind `at` bytes; `seen`: a slot line stands before
-unfoldable pub lines_of : Header → ℕ → ℕ → Bool → List (List ℕ) → Result (List Line) (ℕ × Reason)
+-- the lines of these parts, of which the first has number n and stands behind `at` bytes; `seen`: the IDs that slot lines before name
+unfoldable pub lines_of : Header → ℕ → ℕ → (ℕ → Bool) → List (List ℕ) → Result (List Line) (ℕ × Reason)
 lines_of h n at seen [] = Ok []
 lines_of h n at seen (last ∷ []) = if is_empty last then Ok [] else onto n seen (line_of h seen (raw n at false last)) (λ now. Ok [])
 lines_of h n at seen (x ∷ y ∷ more) = onto n seen (line_of h seen (raw n at true x)) (λ now. lines_of h (n + 1) (at + (length x + 1)) now (y ∷ more))

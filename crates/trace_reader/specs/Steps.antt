@@ -1,11 +1,12 @@
 -- What a function returns that reads a line or an input, where memory may run out.
-use Rattle.std.specs.Prelude.{◌≡◌, ◌++◌, ℕ, List, [], ◌∷◌, Result, Ok, Err}
+use Rattle.std.specs.Prelude.{◌≡◌, ◌++◌, ℕ, List, [], ◌∷◌, Bool, Result, Ok, Err}
 use Rattle.std.specs.declared.option.Option.{Option}
 use Rattle.std.specs.declared.option.Option.TheVariants.{Some, None}
 use Rattle.core_views.specs.declared.trace.Line.{Line}
 use Rattle.trace_reader.specs.declared.reason.Reason.{Reason}
 use Rattle.trace_reader.specs.declared.refusal.ReadError.{ReadError}
 use Rattle.trace_reader.specs.declared.refusal.ReadError.TheVariants as errors
+use Rattle.trace_reader.specs.Lines.{seen_after}
 
 -- Want of memory is free; another error is the one that reading gives.
 abbrev pub Fails : {Y : Type 0} → ℕ → ReadError → Result Y Reason → Type 0
@@ -32,3 +33,8 @@ with_found lines (Some line) = lines ++ line ∷ []
 abbrev pub Keeps : List Line → List Line → Option Line → Result (Unit {0}) ReadError → Type 0
 Keeps before after found (Ok u) = after ≡ with_found before found
 Keeps before after found (Err e) = e ≡ errors.NoMemory
+
+-- Of the IDs, those that slot lines before what follows name are noted, unless memory ran out.
+abbrev pub Notes : (ℕ → Bool) → (ℕ → Bool) → Option Line → Result (Unit {0}) ReadError → Type 0
+Notes before after found (Ok u) = (id : ℕ) → after id ≡ seen_after before found id
+Notes before after found (Err e) = e ≡ errors.NoMemory

@@ -1,12 +1,15 @@
 ghost use Rattle.std.specs.Prelude.{◌≡◌, ◌≤◌, ◌<◌, ◌^◌, map, IfOk};
 ghost use Rattle.std.specs.List.{list_any};
+ghost use Rattle.std.specs.BTreeSet.{contains};
+ghost use Rattle.std.specs.Ordering.{nat_cmp};
 ghost use Rattle.std.specs.Str.{bytes_eq};
 ghost use Rattle.core_views.specs.Traces.{IsCommandOf, IsSlotInRange};
-ghost use Rattle.trace_reader.specs.Forms.{indexed, vcpu, address, number as number_word, slot, setting, read_form, store_form, slot_form, read_only_slot_form, by_form, by_words, is_empty};
+ghost use Rattle.trace_reader.specs.Forms.{indexed, vcpu, address, new_number, number as number_word, slot, setting, read_form, store_form, slot_form, read_only_slot_form, by_form, by_words, is_empty};
 
 use crate::Reason;
 use crate::number::{decimal, number};
 use core_views::{Actor, Command, Header, Op, Slot};
+use std::collections::BTreeSet;
 
 /// Whether the word is this name.
 pub fn is(word: &[u8], name: &str) -> bool
@@ -137,23 +140,30 @@ fn slot_of(base: &[u8], pages: &[u8], host: &[u8], read_only: bool) -> Result<Sl
     })
 }
 
+// The number, which none of those that were seen may be.
+fn new_number(seen: &BTreeSet<u64>, number: u64) -> Result<u64, Reason>
+    ensures { result ≡ new_number (contains nat_cmp seen.now number) number }
+{
+    if seen.contains(&number) {
+        return Err(Reason::Number);
+    }
+    Ok(number)
+}
+
 #[tactic(auto, unfolding(crate::specs::Forms::setting))]
 fn setting_said(
     header: &Header,
-    seen: bool,
+    seen: &BTreeSet<u64>,
     id: &[u8],
     base: &[u8],
     pages: &[u8],
     host: &[u8],
     read_only: bool,
 ) -> Result<(Actor, Command), Reason>
-    ensures value { result ≡ setting seen id.now base.now pages.now host.now read_only }
+    ensures value { result ≡ setting (contains nat_cmp seen.now) id.now base.now pages.now host.now read_only }
     ensures allowed { IfOk result (λ x. IsCommandOf header.now x.0 x.1) }
 {
-    if seen {
-        return Err(Reason::Word);
-    }
-    let id = number_of(id)?;
+    let id = new_number(seen, number_of(id)?)?;
     let slot = slot_of(base, pages, host, read_only)?;
     Ok((Actor::Manager, Command::SetSlot { id, slot }))
 }
@@ -161,7 +171,7 @@ fn setting_said(
 #[tactic(auto, unfolding(crate::specs::Forms::slot_form))]
 fn slot_said(
     header: &Header,
-    seen: bool,
+    seen: &BTreeSet<u64>,
     who: &[u8],
     verb: &[u8],
     id: &[u8],
@@ -169,7 +179,7 @@ fn slot_said(
     pages: &[u8],
     host: &[u8],
 ) -> Result<(Actor, Command), Reason>
-    ensures value { result ≡ slot_form seen who.now verb.now id.now base.now pages.now host.now }
+    ensures value { result ≡ slot_form (contains nat_cmp seen.now) who.now verb.now id.now base.now pages.now host.now }
     ensures allowed { IfOk result (λ x. IsCommandOf header.now x.0 x.1) }
 {
     if is(who, "vm") && is(verb, "slot") {
@@ -181,7 +191,7 @@ fn slot_said(
 #[tactic(auto, unfolding(crate::specs::Forms::read_only_slot_form))]
 fn read_only_slot_said(
     header: &Header,
-    seen: bool,
+    seen: &BTreeSet<u64>,
     who: &[u8],
     verb: &[u8],
     id: &[u8],
@@ -190,7 +200,7 @@ fn read_only_slot_said(
     host: &[u8],
     last: &[u8],
 ) -> Result<(Actor, Command), Reason>
-    ensures value { result ≡ read_only_slot_form seen who.now verb.now id.now base.now pages.now host.now last.now }
+    ensures value { result ≡ read_only_slot_form (contains nat_cmp seen.now) who.now verb.now id.now base.now pages.now host.now last.now }
     ensures allowed { IfOk result (λ x. IsCommandOf header.now x.0 x.1) }
 {
     if is(who, "vm") && is(verb, "slot") && is(last, "ro") {
@@ -200,9 +210,13 @@ fn read_only_slot_said(
 }
 
 #[tactic(auto, unfolding(crate::specs::Forms::by_form))]
-fn form_said(header: &Header, seen: bool, words: &[&[u8]]) -> Result<(Actor, Command), Reason>
+fn form_said(
+    header: &Header,
+    seen: &BTreeSet<u64>,
+    words: &[&[u8]],
+) -> Result<(Actor, Command), Reason>
     requires { header.now.words ≤ 8 }
-    ensures value { result ≡ by_form header.now seen (map (λ w. w.now) words.now) }
+    ensures value { result ≡ by_form header.now (contains nat_cmp seen.now) (map (λ w. w.now) words.now) }
     ensures allowed { IfOk result (λ x. IsCommandOf header.now x.0 x.1) }
 {
     match words {
@@ -233,9 +247,13 @@ fn has_empty(words: &[&[u8]]) -> bool
 
 /// What a line says, by its words: its actor and its command.
 #[tactic(auto, unfolding(crate::specs::Forms::by_words))]
-pub fn words_said(header: &Header, seen: bool, words: &[&[u8]]) -> Result<(Actor, Command), Reason>
+pub fn words_said(
+    header: &Header,
+    seen: &BTreeSet<u64>,
+    words: &[&[u8]],
+) -> Result<(Actor, Command), Reason>
     requires { header.now.words ≤ 8 }
-    ensures value { result ≡ by_words header.now seen (map (λ w. w.now) words.now) }
+    ensures value { result ≡ by_words header.now (contains nat_cmp seen.now) (map (λ w. w.now) words.now) }
     ensures allowed { IfOk result (λ x. IsCommandOf header.now x.0 x.1) }
 {
     if has_empty(words) {

@@ -1,5 +1,7 @@
 ghost use Rattle.std.specs.Prelude.{◌≡◌, ◌≤◌, ◌==◌, ℕ, map, IfOk, IfSome, OnOk, IfNone};
+ghost use Rattle.std.specs.BTreeSet.{contains};
 ghost use Rattle.std.specs.List.{list_all};
+ghost use Rattle.std.specs.Ordering.{nat_cmp};
 ghost use Rattle.core_views.specs.Traces.{IsLineOf};
 ghost use Rattle.trace_reader.specs.Forms.{words_of, said as said_of};
 ghost use Rattle.trace_reader.specs.Lines.{is_plain, is_skipped as is_skipped_line, fault_of, content, line_of};
@@ -10,6 +12,7 @@ use crate::form::words_said;
 use crate::refusal::ReadError;
 use core_views::{Header, Line};
 use std::alloc::{AllocError, Global};
+use std::collections::BTreeSet;
 
 /// The longest input that is read.
 const SIZE: usize = 16_777_216;
@@ -73,12 +76,12 @@ fn is_skipped(bytes: &[u8]) -> bool
 fn said(
     alloc: Global,
     header: &Header,
-    seen: bool,
+    seen: &BTreeSet<u64>,
     number: u32,
     bytes: &[u8],
 ) -> Result<Line, ReadError>
     requires { header.now.words ≤ 8 }
-    ensures read { Gives number (λ l. (l.actor, l.command)) result (said_of header.now seen bytes.now) }
+    ensures read { Gives number (λ l. (l.actor, l.command)) result (said_of header.now (contains nat_cmp seen.now) bytes.now) }
     ensures number { IfOk result (λ l. l.number ≡ number) }
     ensures allowed { IfOk result (λ l. IsLineOf header.now l) }
 {
@@ -100,12 +103,12 @@ fn said(
 fn content_of(
     alloc: Global,
     header: &Header,
-    seen: bool,
+    seen: &BTreeSet<u64>,
     number: u32,
     bytes: &[u8],
 ) -> Result<Option<Line>, ReadError>
     requires { header.now.words ≤ 8 }
-    ensures read { Gives number (λ x. x) result (content header.now seen number bytes.now) }
+    ensures read { Gives number (λ x. x) result (content header.now (contains nat_cmp seen.now) number bytes.now) }
     ensures allowed { IfOk result (λ found. IfSome found (λ l. IsLineOf header.now l)) }
 {
     if is_skipped(bytes) {
@@ -117,12 +120,13 @@ fn content_of(
     }
 }
 
-/// What a line behind the header says; `seen`: a slot line stands before.
+/// What a line behind the header says; `seen`: the IDs that slot
+/// lines before name.
 #[tactic(auto, unfolding(crate::specs::Lines::line_of))]
 pub fn line(
     alloc: Global,
     header: &Header,
-    seen: bool,
+    seen: &BTreeSet<u64>,
     number: u32,
     end: usize,
     ended: bool,
@@ -130,7 +134,7 @@ pub fn line(
 ) -> Result<Option<Line>, ReadError>
     requires { header.now.words ≤ 8 }
     ensures small { OnOk result (end ≤ 16777216) }
-    ensures read { Gives number (λ x. x) result (line_of header.now seen (record { number = number; end = end; ended_by_lf = ended; bytes = bytes.now })) }
+    ensures read { Gives number (λ x. x) result (line_of header.now (contains nat_cmp seen.now) (record { number = number; end = end; ended_by_lf = ended; bytes = bytes.now })) }
     ensures allowed { IfOk result (λ found. IfSome found (λ l. IsLineOf header.now l)) }
 {
     if let Some(reason) = fault(number, end, ended, bytes) {

@@ -1,13 +1,16 @@
 ghost use Rattle.std.specs.Prelude.{◌≡◌, ◌≤◌, ◌<◌, ◌+◌, ◌==◌, ◌^◌, [], ◌∷◌, length, false, if◌then◌else◌, OnOk, IfOk, IfSome};
+ghost use Rattle.std.specs.BTreeSet.{contains};
 ghost use Rattle.std.specs.List.{position};
-ghost use Rattle.core_views.specs.Traces.{AreLinesOf, IsLineOf, sets_slot};
-ghost use Rattle.trace_reader.specs.Lines.{parts_of, lines_of, seen_after};
-ghost use Rattle.trace_reader.specs.Steps.{Tells, Keeps};
+ghost use Rattle.std.specs.Ordering.{nat_cmp};
+ghost use Rattle.core_views.specs.Traces.{AreLinesOf, IsLineOf};
+ghost use Rattle.trace_reader.specs.Lines.{parts_of, lines_of, none_seen};
+ghost use Rattle.trace_reader.specs.Steps.{Tells, Keeps, Notes};
 
 use crate::line::line;
 use crate::refusal::ReadError;
 use core_views::{Command, Header, Line};
 use std::alloc::Global;
+use std::collections::BTreeSet;
 
 fn line_end(bytes: &[u8]) -> Option<usize>
     ensures { result ≡ position (λ b. b == 10) bytes.now }
@@ -35,23 +38,20 @@ pub fn first_line(bytes: &[u8]) -> (&[u8], bool, &[u8])
     }
 }
 
-fn is_setting(command: Command) -> bool
-    ensures { result ≡ sets_slot command }
+/// Notes the ID of the slot line that was found, if it is one.
+fn note(seen: &mut BTreeSet<u64>, found: Option<Line>) -> Result<(), ReadError>
+    ensures { Notes (contains nat_cmp seen.old) (contains nat_cmp seen.new) found result }
 {
-    match command {
-        Command::Access { .. } => false,
-        Command::SetSlot { .. } => true,
+    let Some(line) = found else {
+        return Ok(());
+    };
+    match line.command {
+        Command::Access { .. } => {}
+        Command::SetSlot { id, .. } => {
+            seen.insert(id)?;
+        }
     }
-}
-
-/// Whether a slot line stands before what follows the line that was found.
-fn now_seen(seen: bool, found: Option<Line>) -> bool
-    ensures { result ≡ seen_after seen found }
-{
-    match found {
-        None => seen,
-        Some(line) => seen || is_setting(line.command),
-    }
+    Ok(())
 }
 
 /// Puts the line that was found behind the others.
@@ -65,13 +65,12 @@ fn keep(lines: &mut Vec<Line>, found: Option<Line>) -> Result<(), ReadError>
 }
 
 /// The lines of an input from line `number` on, in front of which `at` bytes
-/// stand, and a slot line if `seen`.
+/// stand, and no slot line.
 pub fn lines(
     alloc: Global,
     header: &Header,
     number: u32,
     at: usize,
-    seen: bool,
     bytes: &[u8],
 ) -> Result<Vec<Line>, ReadError>
     requires words { header.now.words ≤ 8 }
@@ -79,20 +78,20 @@ pub fn lines(
     requires begun { at ≤ 16777216 }
     requires number { number ≤ at + 2 }
     ensures small { OnOk result (at + length bytes.now ≤ 16777216) }
-    ensures read { Tells (λ v. v.items) result (lines_of header.now number at seen (parts_of bytes.now)) }
+    ensures read { Tells (λ v. v.items) result (lines_of header.now number at none_seen (parts_of bytes.now)) }
     ensures allowed { IfOk result (λ v. AreLinesOf header.now v.items) }
 {
     let mut lines = Vec::new(alloc);
     let mut number = number;
     let mut at = at;
-    let mut seen = seen;
+    let mut seen = BTreeSet::new(alloc);
     let mut rest = bytes;
     while !rest.is_empty() {
         let (text, ended, after) = first_line(rest);
         at += taken(text, ended);
-        let found = line(alloc, header, seen, number, at, ended, text)?;
+        let found = line(alloc, header, &seen, number, at, ended, text)?;
         keep(&mut lines, found)?;
-        seen = now_seen(seen, found);
+        note(&mut seen, found)?;
         number += 1;
         rest = after;
     }

@@ -34,7 +34,7 @@ fn parse(alloc: Global, bytes: &[u8]) -> Result<Trace, ReadError>
     let (text, ended, after) = first_line(bytes);
     let size = taken(text, ended);
     let header = head(alloc, size, ended, text)?;
-    let lines = lines(alloc, &header, 2, size, false, after)?;
+    let lines = lines(alloc, &header, 2, size, after)?;
     Ok(Trace {
         header,
         lines: Lines::from_vec(lines),

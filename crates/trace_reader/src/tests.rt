@@ -124,11 +124,19 @@ const TABLE: &str = "\
 2 word|&vm slot 0 0 1 0 ;\n\
 2 word|&vm slots 0 0 1 0;\n\
 2 word|&v0 slot 0 0 1 0;\n\
-3 word|&%vm slot 1 0 1 0;\n\
-3 word|&%vm slot x x x x;\n\
-3 word|&%vm slot 1 0 1 0 ro;\n\
-5 word|&%# c;;vm slot 1 0 1 0;\n\
-4 word|&vm slot 1 0 1 0 ro;v0 read 0;vm slot 1 0 1 0;\n\
+3 word|&%vm slot 0;\n\
+3 word|&%vm slot 0 0 1 0 rw;\n\
+3 number|&%vm slot 0 0 1 0;\n\
+3 number|&%vm slot 0x0 0 1 0 ro;\n\
+3 number|&%vm slot x x x x;\n\
+3 number|&%vm slot 1 x 1 0;\n\
+5 number|&%# c;;vm slot 0 200 1 0;\n\
+4 number|&vm slot 0x1f 0 1 0 ro;v0 read 0;vm slot 31 9 1 0;\n\
+3 number|&vm slot 18446744073709551615 0 1 0;vm slot 0xffffffffffffffff 0 1 0;\n\
+5 number|&vm slot 3 0 1 0;vm slot 1 0 1 0;vm slot 2 0 1 0;vm slot 3 0 1 0;\n\
+2 lines|&%vm slot 1 0 1 0;\n\
+2 lines|&%vm slot 0x10 0x10 32 64 ro;\n\
+4 lines|&vm slot 2 0 1 0 ro;%vm slot 0x20 0 1 0;vm slot 20 0 1 0;\n\
 2 actor|&v2 read 0;\n\
 2 actor|&v2 read 0;v0 look;\n\
 3 actor|&v0 read 0;v2 read 0;\n\
@@ -296,7 +304,7 @@ fn answers_the_table(rt: HostRuntime) -> Result<(), Fail> {
             cases = cases.saturating_add(1);
         }
     }
-    assert_eq!(rt; cases, 213);
+    assert_eq!(rt; cases, 221);
     Ok(())
 }
 
@@ -372,6 +380,35 @@ fn refuses_many_lines(rt: HostRuntime) -> Result<(), Fail> {
         let missing = vec![in alloc; b'x'; count.saturating_sub(bytes.len())]?;
         bytes.extend_from_slice(&missing)?;
         assert!(rt; is_refused(alloc, bytes, 1_000_001, reason)?);
+    }
+    Ok(())
+}
+
+// The header, and 50,000 slot lines at IDs that fall from 99,999 by 2.
+fn many_slots(alloc: Global) -> Result<Vec<u8>, Fail> {
+    let mut bytes = input(alloc, b"&")?;
+    for count in 0..50_000u64 {
+        let id = 99_999u64.saturating_sub(2 * count);
+        let line = format!(in alloc; "vm slot {id} 0 1 0\n")?;
+        bytes.extend_from_slice(line.as_bytes())?;
+    }
+    Ok(bytes)
+}
+
+#[test]
+fn compares_each_id_with_those_before(rt: HostRuntime) -> Result<(), Fail> {
+    let alloc = rt.alloc();
+    for (text, wanted) in [
+        ("vm slot 99999 0 1 0\n", "50002 number"),
+        ("vm slot 0xc351 0 1 0\n", "50002 number"),
+        ("vm slot 1 0 1 0\n", "50002 number"),
+        ("vm slot 50000 0 1 0\n", "50001 lines"),
+        ("vm slot 0 0 1 0\nvm slot 100000 0 1 0\n", "50002 lines"),
+    ] {
+        let mut bytes = many_slots(alloc)?;
+        bytes.extend_from_slice(text.as_bytes())?;
+        let given = answer(alloc, bytes)?;
+        assert!(rt; given.as_str() == wanted, "{text}");
     }
     Ok(())
 }

@@ -14,7 +14,7 @@ fn prints_one_line(rt: HostRuntime) -> Result<(), Fail> {
 }
 
 #[test]
-fn prints_two_lines(rt: HostRuntime) -> Result<(), Fail> {
+fn prints_line_after_line(rt: HostRuntime) -> Result<(), Fail> {
     let alloc = rt.alloc();
     let mut lines = Vec::new(alloc);
     lines.push(AnsweredLine {
@@ -27,7 +27,17 @@ fn prints_two_lines(rt: HostRuntime) -> Result<(), Fail> {
         actor: Actor::Worker(0),
         answer: Answer::Done,
     })?;
+    for refusal in [Refusal::Overlap, Refusal::HostOverlap] {
+        lines.push(AnsweredLine {
+            number: 4,
+            actor: Actor::Manager,
+            answer: Answer::Refused(refusal),
+        })?;
+    }
     let printed = text(alloc, &Answered::from_vec(lines))?;
-    assert_eq!(rt; printed.as_str(), "2 vm refused bad-id\n3 w0 done\n");
+    assert_eq!(rt;
+        printed.as_str(),
+        "2 vm refused bad-id\n3 w0 done\n4 vm refused overlap\n4 vm refused host-overlap\n"
+    );
     Ok(())
 }

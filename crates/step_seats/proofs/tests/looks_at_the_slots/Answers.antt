@@ -20,7 +20,7 @@ the_line = record { number = 2; actor = Vcpu 0; command = Access 5 1 Read }
 
 first_rests : (words : List ℕ) (hands : List Handful) → IsStart (sizes_of the_header) (the_line ∷ []) (world_of words hands) → Rests (core_of (handful_in hands 0))
 first_rests words hands start =
-    let first : Rests (first_held (sizes_of the_header) (Vcpu 0) (the_line ∷ [])) = record { sizes = start.sizes; line = (omega arith, omega arith, omega arith); at = tt; topics = record { outside = refl; loose = refl; owns_none = refl; no_table = refl; no_set = refl } } in
+    let first : Rests (first_held (sizes_of the_header) (Vcpu 0) (the_line ∷ [])) = record { sizes = start.sizes; line = (omega arith, omega arith, omega arith); at = tt; accepts = tt; topics = record { outside = refl; loose = refl; owns_none = refl; no_table = refl; no_set = refl } } in
     subst Rests (sym (hand_at_start (sizes_of the_header) (the_line ∷ []) words hands 0 start (omega arith))) first
 
 rests_at : (h : Header) (lines : List Line) (words : List ℕ) (hands : List Handful) → h ≡ the_header → lines ≡ the_line ∷ [] → IsStart (sizes_of h) lines (world_of words hands) → Rests (core_of (handful_in hands 0))

@@ -1,16 +1,13 @@
-use Rattle.std.proofs.Common.{◌≡◌, ◌∙◌, ap, Err, List, Ok, Result, string_bytes, subst, sym}
+use Rattle.std.proofs.Common.{◌≡◌, ◌∙◌, ap, Err, List, string_bytes, subst}
 use Rattle.std.proofs.lemmas.Result.{err_from_is_err_and}
 use Rattle.core_views.specs.declared.sizes.Sizes.{Sizes}
 use Rattle.core_views.specs.declared.trace.Line.{Line}
 use Rattle.core_views.specs.Flat.{first_facts}
 use Rattle.core_views.specs.FlatHistory.{flat_history, one_by_one}
-use Rattle.core_views.specs.Held.{Handful}
 use Rattle.core_views.specs.Sizes.{sizes_of}
 use Rattle.core_views.specs.Text.{text}
-use Rattle.mmu_core.specs.Worlds.{IsStart}
 use Rattle.step_seats.specs.Machines.{world_in}
-use Rattle.step_seats.specs.Moves.{world_of}
-use Rattle.tdpmmu.specs.Replays.{Replays, RunsLines}
+use Rattle.tdpmmu.specs.Replays.{RunsLines}
 use Rattle.tdpmmu.proofs.Replaying.{replays, writes_rest}
 use Rattle.tdpmmu.proofs.replay.replay.Goals as goal
 

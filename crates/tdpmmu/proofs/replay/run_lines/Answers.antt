@@ -1,4 +1,4 @@
-use Rattle.std.proofs.Common.{◌≡◌, ◌∙◌, ◌++◌, ap, arith, get_or, ◌+◌, length, List, [], ℕ, Ok, refl, rules, string_bytes, subst, sym, take}
+use Rattle.std.proofs.Common.{◌∙◌, ◌++◌, get_or, ◌+◌, List, [], ℕ, Ok, refl, rules, string_bytes, subst, take}
 use Rattle.std.proofs.KnownBytes.{Appends-nil}
 use Rattle.std.proofs.lemmas.Result.{err_from_is_err_and}
 use Rattle.core_views.specs.Flat.{first_facts, no_line}

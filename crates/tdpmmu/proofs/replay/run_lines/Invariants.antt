@@ -1,4 +1,4 @@
-use Rattle.std.proofs.Common.{◌≡◌, ◌++◌, List, ℕ, length, drop, take, string_bytes}
+use Rattle.std.proofs.Common.{◌≡◌, ◌++◌, length, drop, take, string_bytes}
 use Rattle.core_views.specs.Flat.{first_facts}
 use Rattle.core_views.specs.FlatHistory.{one_by_one}
 use Rattle.core_views.specs.Text.{text}

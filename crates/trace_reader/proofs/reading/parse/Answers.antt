@@ -1,6 +1,6 @@
 use Rattle.std.proofs.lemmas.Result.{err_from_is_err_and}
 use Rattle.trace_reader.proofs.Begin.{begun, bad_head, bad_line, all_read}
-use Rattle.trace_reader.proofs.Once.{read_once}
+use Rattle.trace_reader.proofs.Distinct.{read_distinct}
 use Rattle.trace_reader.proofs.Ranges.{head_in_range}
 use Rattle.trace_reader.proofs.reading.parse.Goals as goal
 
@@ -22,4 +22,4 @@ returns-clause-read c =
     rw c.from_vec.ensures (all_read c.in_ok-lines.lines.items _ _ c.in_ok-header.header _ (begun c.taken-size.result c.args.bytes.now c.first_line-ended.result.0.now c.first_line-ended.result.2.now c.first_line-ended.result.1 f.parts f.ended c.taken-size.ensures) c.in_ok-header.ensures.read c.in_ok-lines.ensures.read)
 
 pub returns-clause-in_range : goal.returns-clause-in_range
-returns-clause-in_range c = rw c.from_vec.ensures (record { header = head_in_range _ c.in_ok-header.header c.in_ok-header.ensures.read; lines = c.in_ok-lines.ensures.allowed; once = read_once c.in_ok-header.header 2 c.taken-size.result _ c.in_ok-lines.lines.items c.in_ok-lines.ensures.read })
+returns-clause-in_range c = rw c.from_vec.ensures (record { header = head_in_range _ c.in_ok-header.header c.in_ok-header.ensures.read; lines = c.in_ok-lines.ensures.allowed; distinct = read_distinct c.in_ok-header.header 2 c.taken-size.result _ c.in_ok-lines.lines.items c.in_ok-lines.ensures.read })

@@ -2,6 +2,7 @@ use Rattle.std.proofs.Common.{◌≡◌, ◌∙◌, ℕ, Some, ap, subst, refl, 
 use Rattle.core_views.specs.Memory.{stored, with_word}
 use Rattle.core_views.specs.Slots.{page_behind}
 use Rattle.core_views.specs.declared.answer.Answer.TheVariants.{Reached}
+use Rattle.core_views.specs.SlotSets.{flat_slots}
 use Rattle.flat_model.specs.Kept.{Kept, memory_of}
 use Rattle.flat_model.specs.Steps.{Accesses}
 use Rattle.flat_model.proofs.Words.{reached, written}
@@ -12,7 +13,7 @@ returns-in_ok-insert-clause-reached c =
     let page = c.in-Some.page in
     let word = c.args.word in
     let op = c.args.op in
-    let before : Kept = record { sizes = c.self.inside.sizes; slots = c.self.inside.slots.entries; words = c.self.inside.memory.entries } in
+    let before : Kept = record { sizes = c.self.inside.sizes; slots = flat_slots c.self.inside.slots; words = c.self.inside.memory.entries } in
     let after : Kept = record before { words = c.insert.new.self.entries } in
     let behind : Some page ≡ page_behind before.slots c.args.gfn op = rw (← c.self.view_is) at c.in-Some.ensures in
     let value : c.unwrap_or-value.result ≡ memory_of before.words page word = search rules in

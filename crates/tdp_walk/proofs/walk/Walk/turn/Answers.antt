@@ -1,5 +1,6 @@
-use Rattle.std.proofs.Common.{rules}
-use Rattle.tdp_walk.proofs.Walking.{entry_found, goes_down, in_table, root_found}
+use Rattle.std.proofs.Common.{refl, rules}
+use Rattle.spte_words.specs.declared.spte_kind.SpteKind.TheVariants.{Absent, Frozen, Leaf}
+use Rattle.tdp_walk.proofs.Walking.{entry_found, goes_down, is_over, root_found, stands_at_root, stops_at}
 use Rattle.tdp_walk.proofs.walk.Walk.turn.Goals as goal
 
 pub returns-then-not-self-clause-word : goal.returns-then-not-self-clause-word
@@ -8,10 +9,29 @@ returns-then-not-self-clause-word g c =
     (record { world = g.S.Stepper.told c.args.s.now; steps = g.S.Stepper.steps c.args.s.now }) (record { world = g.S.Stepper.told c.make_part.new.s; steps = g.S.Stepper.steps c.make_part.new.s })
     c.if-not-self.true c.make_part.ensures.made
 
+pub returns-then-not-self-clause-root : goal.returns-then-not-self-clause-root
+returns-then-not-self-clause-root g c not_yet =
+    stands_at_root (g.S.Stepper.handful c.args.s.now).core.topics (g.S.Stepper.handful c.make_part.new.s).core.topics c.args.self.now.gfn c.make_part.result c.requires.gfn (c.requires.held not_yet) c.make_part.ensures.made.topics
+
 pub returns-in-Table-clause-entry : goal.returns-in-Table-clause-entry
 returns-in-Table-clause-entry g c already =
     goes_down (g.S.Stepper.handful c.args.s.now).core.topics (g.S.Stepper.handful c.make_part-word.new.s).core.topics c.args.self.now.gfn c.make_part-word.result c.in-Table.field-0
-    (in_table c.args.self.now (g.S.Stepper.handful c.args.s.now).core already c.requires.may.needs) (search rules) (search rules) c.make_part-word.ensures.made.topics
+    (is_over c.args.self.now (g.S.Stepper.handful c.args.s.now).core already c.requires.may.needs) (search rules) (search rules) c.make_part-word.ensures.made.topics
+
+pub returns-in-Leaf-clause-entry : goal.returns-in-Leaf-clause-entry
+returns-in-Leaf-clause-entry g c already =
+    (stops_at Leaf (g.S.Stepper.handful c.args.s.now).core.topics (g.S.Stepper.handful c.make_part-word.new.s).core.topics c.args.self.now.gfn c.make_part-word.result c.topics.result.now.walk.level refl
+    (is_over c.args.self.now (g.S.Stepper.handful c.args.s.now).core already c.requires.may.needs) (search rules) (search rules) c.make_part-word.ensures.made.topics)
+
+pub returns-in-Absent-clause-entry : goal.returns-in-Absent-clause-entry
+returns-in-Absent-clause-entry g c already =
+    (stops_at Absent (g.S.Stepper.handful c.args.s.now).core.topics (g.S.Stepper.handful c.make_part-word.new.s).core.topics c.args.self.now.gfn c.make_part-word.result c.topics.result.now.walk.level refl
+    (is_over c.args.self.now (g.S.Stepper.handful c.args.s.now).core already c.requires.may.needs) (search rules) (search rules) c.make_part-word.ensures.made.topics).1
+
+pub returns-in-Frozen-clause-entry : goal.returns-in-Frozen-clause-entry
+returns-in-Frozen-clause-entry g c already =
+    (stops_at Frozen (g.S.Stepper.handful c.args.s.now).core.topics (g.S.Stepper.handful c.make_part-word.new.s).core.topics c.args.self.now.gfn c.make_part-word.result c.topics.result.now.walk.level refl
+    (is_over c.args.self.now (g.S.Stepper.handful c.args.s.now).core already c.requires.may.needs) (search rules) (search rules) c.make_part-word.ensures.made.topics).1
 
 pub returns-in-Table-clause-word : goal.returns-in-Table-clause-word
 returns-in-Table-clause-word g c =

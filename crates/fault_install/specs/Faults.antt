@@ -1,0 +1,80 @@
+-- What one turn of a fault is: the step of its place, and where it stands behind it.
+use Rattle.std.specs.Prelude.{◌≡◌, ◌≢◌, ◌<◌, ◌^◌, ℕ, Bool, true}
+use Rattle.core_views.specs.declared.place.FaultEnd.{FaultEnd}
+use Rattle.core_views.specs.declared.place.FaultEnd.TheVariants as end_of
+use Rattle.core_views.specs.declared.place.FaultNext.{FaultNext}
+use Rattle.core_views.specs.declared.place.FaultNext.TheVariants.{Goes, Ends}
+use Rattle.core_views.specs.declared.place.FaultPlace.{FaultPlace}
+use Rattle.core_views.specs.Held.{Held}
+use Rattle.mmu_core.specs.FaultKnows.{EndKnows, FaultKnows, KnowsNext}
+use Rattle.mmu_core.specs.FaultLaws.{CanAnswer}
+use Rattle.mmu_core.specs.FaultSteps.{fault_next, fault_part, waits}
+use Rattle.mmu_core.specs.PartRests.{MayMake}
+use Rattle.step_seats.specs.PartTurns.{MadePart, Told}
+use Rattle.step_seats.specs.declared.turn.Turn.{Turn}
+use Rattle.step_seats.specs.declared.turn.Turn.TheVariants.{More, Wait, Retry, Done}
+use Rattle.fault_install.specs.declared.fault.FaultJob.{FaultJob}
+use Rattle.fault_install.specs.declared.fault.Faulted.{Faulted}
+use Rattle.fault_install.specs.declared.fault.Faulted.TheVariants.{Installed, Mmio, HostFault, Starved}
+
+-- the end of a fault that an answer stands for
+abbrev pub end_with : Faulted → FaultEnd
+end_with Installed = end_of.Installed
+end_with Mmio = end_of.Mmio
+end_with HostFault = end_of.HostFault
+end_with Starved = end_of.Starved
+
+-- The fault stands at this place now, or it is over, and the turn answers so. A wait has the value that the step's word was seen with.
+abbrev pub Turned : FaultNext → Turn Faulted → FaultPlace → Type 0
+Turned (Goes p) More place = place ≡ p
+Turned (Goes p) (Wait seen) place = place ≡ p
+Turned (Goes p) _ place = ⊥
+Turned (Ends e) (Done answer) place = e ≡ end_with answer
+Turned (Ends e) (Retry cause) place = e ≡ end_of.Retry cause
+Turned (Ends e) _ place = ⊥
+
+-- The turn waits exactly where its step is one that waits for another actor.
+abbrev pub WaitsBy : Turn Faulted → Bool → Type 0
+WaitsBy (Wait seen) b = b ≡ true
+WaitsBy _ b = b ≢ true
+
+-- The fault isn't over: the turn has more to do, or is to be made again.
+abbrev pub IsToGoOn : Turn Faulted → Type 0
+IsToGoOn More = Unit {0}
+IsToGoOn (Wait seen) = Unit {0}
+IsToGoOn (Retry cause) = ⊥
+IsToGoOn (Done answer) = ⊥
+
+-- What an end rests on: what was known right before it, by the words that this fault has loaded.
+abbrev pub EndsBy : Turn Faulted → (FaultEnd → Type 0) → Type 0
+EndsBy (Done answer) Knows = Knows (end_with answer)
+EndsBy (Retry cause) Knows = Knows (end_of.Retry cause)
+EndsBy _ Knows = Unit {0}
+
+-- The fault is at this place, whose step its actor may make, and knows what the place asks.
+pub record IsAt (p : FaultPlace) (job : FaultJob) (note : ℕ) (h : Held) : Type 0 where
+  pub place : job.place ≡ p
+  pub may : MayMake (fault_part p job.gfn h.topics) note h
+  pub gfn : job.gfn < 2 ^ 36
+  pub knows : FaultKnows p h.state.sizes job.gfn job.write h.topics
+
+-- The step of the fault's place was made, of which this was found (a fill: what it stored); the fault stands where the order of steps
+-- leads from there, and the turn answers so.
+pub record MakesStep (before after : FaultJob) (turn : Turn Faulted) (note actor : ℕ) (h g : Held) (told tells : Told) : Type 0 where
+  pub found : ℕ
+  pub made : MadePart (fault_part before.place before.gfn h.topics) note found actor h g told tells
+  pub can : CanAnswer (fault_part before.place before.gfn h.topics) found
+  pub work : (after.gfn ≡ before.gfn) × (after.write ≡ before.write)
+  pub turned : Turned (fault_next before.place h.state.sizes before.gfn before.write h.topics found) turn after.place
+  pub waits_by : WaitsBy turn (waits before.place h.topics found)
+
+-- One turn of the fault: its place's step was made, of which this was found; the fault stands where the order of steps leads from there,
+-- and knows what its next place asks; where it is over, its answer has its cause in what was loaded, and the actor holds nothing.
+pub record TurnsFault (before after : FaultJob) (turn : Turn Faulted) (note actor : ℕ) (h g : Held) (told tells : Told) : Type 0 where
+  pub found : ℕ
+  pub made : MadePart (fault_part before.place before.gfn h.topics) note found actor h g told tells
+  pub work : (after.gfn ≡ before.gfn) × (after.write ≡ before.write)
+  pub turned : Turned (fault_next before.place h.state.sizes before.gfn before.write h.topics found) turn after.place
+  pub waits_by : WaitsBy turn (waits before.place h.topics found)
+  pub knows : KnowsNext (fault_next before.place h.state.sizes before.gfn before.write h.topics found) h.state.sizes before.gfn before.write g.topics
+  pub ends_by : EndsBy turn (λ e. EndKnows e h.state.sizes before.gfn before.write h.topics)

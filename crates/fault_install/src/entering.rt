@@ -1,0 +1,201 @@
+ghost use Rattle.std.specs.Prelude.{◌≡◌, ◌<◌, true, false};
+ghost use Rattle.core_views.specs.declared.place.FaultPlace.TheVariants as at;
+ghost use Rattle.fault_install.specs.Faults.{IsAt, MakesStep};
+ghost use Rattle.mmu_core.specs.FaultSteps.{entry_word, table_value};
+ghost use Rattle.mmu_core.specs.PartRests.{PartRests};
+ghost use Rattle.mmu_core.specs.PartSteps.{HasToFill, IsOver, page_owned};
+ghost use Rattle.step_seats.specs.Moves.{KeepsRoom};
+
+use crate::places::{after_claim, after_end, after_fill, after_walk, claim_turn};
+use crate::{FaultJob, Faulted};
+use core_views::{Cause, FaultEnd, FaultPlace, Hand, OwnedPage, Topics};
+use grace_period::end;
+use mmu_core::{PartStep, part_kind, part_rests};
+use mmu_lock::unlock;
+use step_seats::{Stepper, Turn, make_part};
+use table_pool::{Claim, Fill, Give};
+use tdp_walk::Walk;
+
+// The word of the guest frame's entry in the table that the walk has come to.
+fn entry_word(hand: &Hand, gfn: u64) -> u32
+    requires rests { PartRests hand.now.core }
+    requires over { IsOver gfn hand.now.core.topics.walk }
+    ensures { result ≡ entry_word hand.now.core.state.sizes gfn hand.now.core.topics.walk }
+{
+    part_kind(hand, PartStep::Walk(gfn), 0).word
+}
+
+// The page that is owned.
+fn page_of(topics: &Topics) -> u64
+    ensures { result ≡ page_owned topics.now.owned }
+{
+    match topics.owned {
+        Some(OwnedPage { page, .. }) => page,
+        None => 0,
+    }
+}
+
+// What the next word of the page that is filled is to hold: its 512 entries are
+// absent, and its role is the level below the walk's.
+fn table_value(topics: &Topics) -> u64
+    requires fill { HasToFill topics.now }
+    requires level { 0 < topics.now.walk.level }
+    ensures { result ≡ table_value topics.now }
+{
+    match topics.owned {
+        Some(OwnedPage { filled: 512, .. }) => topics.walk.level as u64 - 1,
+        _ => 0,
+    }
+}
+
+impl FaultJob {
+    // Loads the root.
+    pub(crate) fn root<S: Stepper>(&mut self, s: &mut S, note: u64) -> Turn<Faulted>
+        requires is_at { IsAt (at.Walk false) self.old note (S.handful s.old).core }
+        requires reserved { 0 < (S.handful s.old).room }
+        ensures makes { MakesStep self.old self.new result note (S.actor s.old) (S.handful s.old).core (S.handful s.new).core (record { world = S.told s.old; steps = S.steps s.old }) (record { world = S.told s.new; steps = S.steps s.new }) }
+        ensures room { KeepsRoom (S.handful s.old) (S.handful s.new) }
+        ensures same { (S.actor s.new ≡ S.actor s.old) × (S.frame s.new ≡ S.frame s.old) }
+    {
+        let mut walk = Walk {
+            gfn: self.gfn,
+            rooted: false,
+        };
+        let _ = walk.turn(s, note);
+        self.place = FaultPlace::Walk { rooted: true };
+        Turn::More
+    }
+
+    // Loads the entry in the table that the walk has come to.
+    pub(crate) fn walk<S: Stepper>(&mut self, s: &mut S, note: u64) -> Turn<Faulted>
+        requires is_at { IsAt (at.Walk true) self.old note (S.handful s.old).core }
+        requires reserved { 0 < (S.handful s.old).room }
+        ensures makes { MakesStep self.old self.new result note (S.actor s.old) (S.handful s.old).core (S.handful s.new).core (record { world = S.told s.old; steps = S.steps s.old }) (record { world = S.told s.new; steps = S.steps s.new }) }
+        ensures room { KeepsRoom (S.handful s.old) (S.handful s.new) }
+        ensures same { (S.actor s.new ≡ S.actor s.old) × (S.frame s.new ≡ S.frame s.old) }
+    {
+        part_rests(s.hand());
+        let word = entry_word(s.hand(), self.gfn);
+        let mut walk = Walk {
+            gfn: self.gfn,
+            rooted: true,
+        };
+        let answer = walk.turn(s, note);
+        let seen = s.hand().topics().walk.entry;
+        self.place = after_walk(self.write, word, seen, answer);
+        Turn::More
+    }
+
+    // Claims a page for a table.
+    pub(crate) fn claim<S: Stepper>(&mut self, s: &mut S, begun: bool, note: u64) -> Turn<Faulted>
+        requires is_at { IsAt (at.Claim begun) self.old note (S.handful s.old).core }
+        requires reserved { 0 < (S.handful s.old).room }
+        ensures makes { MakesStep self.old self.new result note (S.actor s.old) (S.handful s.old).core (S.handful s.new).core (record { world = S.told s.old; steps = S.steps s.old }) (record { world = S.told s.new; steps = S.steps s.new }) }
+        ensures room { KeepsRoom (S.handful s.old) (S.handful s.new) }
+        ensures same { (S.actor s.new ≡ S.actor s.old) × (S.frame s.new ≡ S.frame s.old) }
+    {
+        let mut claim = Claim { begun };
+        let answer = claim.turn(s, note);
+        self.place = after_claim(answer);
+        claim_turn(answer)
+    }
+
+    // Fills the page as a table whose entries are absent.
+    pub(crate) fn fill<S: Stepper>(&mut self, s: &mut S, note: u64) -> Turn<Faulted>
+        requires is_at { IsAt at.Fill self.old note (S.handful s.old).core }
+        requires reserved { 0 < (S.handful s.old).room }
+        ensures makes { MakesStep self.old self.new result note (S.actor s.old) (S.handful s.old).core (S.handful s.new).core (record { world = S.told s.old; steps = S.steps s.old }) (record { world = S.told s.new; steps = S.steps s.new }) }
+        ensures room { KeepsRoom (S.handful s.old) (S.handful s.new) }
+        ensures same { (S.actor s.new ≡ S.actor s.old) × (S.frame s.new ≡ S.frame s.old) }
+    {
+        let value = table_value(s.hand().topics());
+        let mut fill = Fill::new(page_of(s.hand().topics()));
+        let answer = fill.turn(s, value, note);
+        self.place = after_fill(answer);
+        Turn::More
+    }
+
+    // Links the page where the entry is as it was seen.
+    pub(crate) fn link<S: Stepper>(&mut self, s: &mut S, note: u64) -> Turn<Faulted>
+        requires is_at { IsAt at.Link self.old note (S.handful s.old).core }
+        requires reserved { 0 < (S.handful s.old).room }
+        ensures makes { MakesStep self.old self.new result note (S.actor s.old) (S.handful s.old).core (S.handful s.new).core (record { world = S.told s.old; steps = S.steps s.old }) (record { world = S.told s.new; steps = S.steps s.new }) }
+        ensures room { KeepsRoom (S.handful s.old) (S.handful s.new) }
+        ensures same { (S.actor s.new ≡ S.actor s.old) × (S.frame s.new ≡ S.frame s.old) }
+    {
+        part_rests(s.hand());
+        let word = entry_word(s.hand(), self.gfn);
+        let read = s.hand().topics().walk.entry;
+        let seen = make_part(s, PartStep::Link(self.gfn), note);
+        self.place = if seen == read {
+            FaultPlace::Walk { rooted: true }
+        } else {
+            FaultPlace::Give(FaultEnd::Retry(Cause::Entry { word, read, seen }))
+        };
+        Turn::More
+    }
+
+    // Gives the page back, since another entry stands.
+    pub(crate) fn give<S: Stepper>(&mut self, s: &mut S, end: FaultEnd, note: u64) -> Turn<Faulted>
+        requires is_at { IsAt (at.Give end) self.old note (S.handful s.old).core }
+        requires reserved { 0 < (S.handful s.old).room }
+        ensures makes { MakesStep self.old self.new result note (S.actor s.old) (S.handful s.old).core (S.handful s.new).core (record { world = S.told s.old; steps = S.steps s.old }) (record { world = S.told s.new; steps = S.steps s.new }) }
+        ensures room { KeepsRoom (S.handful s.old) (S.handful s.new) }
+        ensures same { (S.actor s.new ≡ S.actor s.old) × (S.frame s.new ≡ S.frame s.old) }
+    {
+        let mut give = Give::new(page_of(s.hand().topics()));
+        let _ = give.turn(s, note);
+        self.place = FaultPlace::Unshare(end);
+        Turn::More
+    }
+
+    // Puts the leaf where the entry is as it was seen.
+    pub(crate) fn leaf<S: Stepper>(&mut self, s: &mut S, note: u64) -> Turn<Faulted>
+        requires is_at { IsAt at.Leaf self.old note (S.handful s.old).core }
+        requires reserved { 0 < (S.handful s.old).room }
+        ensures makes { MakesStep self.old self.new result note (S.actor s.old) (S.handful s.old).core (S.handful s.new).core (record { world = S.told s.old; steps = S.steps s.old }) (record { world = S.told s.new; steps = S.steps s.new }) }
+        ensures room { KeepsRoom (S.handful s.old) (S.handful s.new) }
+        ensures same { (S.actor s.new ≡ S.actor s.old) × (S.frame s.new ≡ S.frame s.old) }
+    {
+        part_rests(s.hand());
+        let word = entry_word(s.hand(), self.gfn);
+        let read = s.hand().topics().walk.entry;
+        let seen = make_part(s, PartStep::Leaf(self.gfn), note);
+        self.place = FaultPlace::Unshare(if seen == read {
+            FaultEnd::Installed
+        } else {
+            FaultEnd::Retry(Cause::Entry { word, read, seen })
+        });
+        Turn::More
+    }
+
+    // Gives the lock back.
+    pub(crate) fn unshare<S: Stepper>(
+        &mut self,
+        s: &mut S,
+        end: FaultEnd,
+        note: u64,
+    ) -> Turn<Faulted>
+        requires is_at { IsAt (at.Unshare end) self.old note (S.handful s.old).core }
+        requires reserved { 0 < (S.handful s.old).room }
+        ensures makes { MakesStep self.old self.new result note (S.actor s.old) (S.handful s.old).core (S.handful s.new).core (record { world = S.told s.old; steps = S.steps s.old }) (record { world = S.told s.new; steps = S.steps s.new }) }
+        ensures room { KeepsRoom (S.handful s.old) (S.handful s.new) }
+        ensures same { (S.actor s.new ≡ S.actor s.old) × (S.frame s.new ≡ S.frame s.old) }
+    {
+        unlock(s, note);
+        self.place = FaultPlace::End(end);
+        Turn::More
+    }
+
+    // Ends the section.
+    pub(crate) fn end<S: Stepper>(&mut self, s: &mut S, ended: FaultEnd, note: u64) -> Turn<Faulted>
+        requires is_at { IsAt (at.End ended) self.old note (S.handful s.old).core }
+        requires reserved { 0 < (S.handful s.old).room }
+        ensures makes { MakesStep self.old self.new result note (S.actor s.old) (S.handful s.old).core (S.handful s.new).core (record { world = S.told s.old; steps = S.steps s.old }) (record { world = S.told s.new; steps = S.steps s.new }) }
+        ensures room { KeepsRoom (S.handful s.old) (S.handful s.new) }
+        ensures same { (S.actor s.new ≡ S.actor s.old) × (S.frame s.new ≡ S.frame s.old) }
+    {
+        end(s, note);
+        after_end(ended)
+    }
+}

@@ -1,0 +1,323 @@
+//! Faults of processors with no line, beside a manager that sets slot 0: of guest
+//! frames 0 to 5, which are host pages 64 to 69, at frames 64 to 69.
+ghost use Rattle.std.specs.Prelude.{◌≡◌, ◌<◌, ◌^◌, true, false, [], ◌∷◌, IfOk, OnOk, length};
+ghost use Rattle.core_views.specs.Sizes.{index_of};
+ghost use Rattle.core_views.specs.declared.actor.Actor.TheVariants.{Manager};
+ghost use Rattle.core_views.specs.declared.trace.Command.TheVariants.{SetSlot};
+ghost use Rattle.fault_install.specs.Faults.{IsToGoOn};
+ghost use Rattle.mmu_core.specs.FaultKnows.{FaultKnows};
+ghost use Rattle.mmu_core.specs.PartSteps.{IsAtRest};
+ghost use Rattle.mmu_core.specs.Worlds.{HandReached};
+
+use crate::{FaultJob, Faulted};
+use core_views::{
+    Actor, Cause, Command, FaultPlace, Hand, Header, Hold, Line, Lines, NoMemory, Op, Slot, Stay,
+    Topics, Trace, Words,
+};
+use mmu_core::{PartStep, allows, next_kind, rests};
+use std::alloc::Global;
+use std::test::Fail;
+use step_seats::{PlainMachine, Stepper, Turn};
+
+// Where the pool's map stands, and with 8 pool pages the entries of the root and
+// of pages 2 to 5.
+const MAP: usize = 12;
+
+const ROOT: usize = 96;
+
+const PAGE_2: usize = 1120;
+
+const PAGE_3: usize = 1632;
+
+const PAGE_4: usize = 2144;
+
+const PAGE_5: usize = 2656;
+
+// Any line: each takes the same room.
+const LINE: Line = Line {
+    number: 3,
+    actor: Actor::Vcpu(0),
+    command: Command::Access {
+        gfn: 0,
+        word: 0,
+        op: Op::Read,
+    },
+};
+
+// Eight pool pages, and four.
+fn header(alloc: Global) -> Result<Header, NoMemory>
+    ensures { IfOk result (λ h. h ≡ record { version = 1; vcpus = 2; workers = 0; pages = 70; frames = 130; words = 2; pool = 8; cache = 64; manual = 0; hosts = 0 ∷ [] }) }
+{
+    Ok(Header {
+        version: 1,
+        vcpus: 2,
+        workers: 0,
+        pages: 70,
+        frames: 130,
+        words: 2,
+        pool: 8,
+        cache: 64,
+        manual: 0,
+        hosts: Words::from_vec(vec![in alloc; 0]?),
+    })
+}
+
+fn small_header(alloc: Global) -> Result<Header, NoMemory>
+    ensures { IfOk result (λ h. h ≡ record { version = 1; vcpus = 2; workers = 0; pages = 70; frames = 130; words = 2; pool = 4; cache = 64; manual = 0; hosts = 0 ∷ [] }) }
+{
+    Ok(Header {
+        version: 1,
+        vcpus: 2,
+        workers: 0,
+        pages: 70,
+        frames: 130,
+        words: 2,
+        pool: 4,
+        cache: 64,
+        manual: 0,
+        hosts: Words::from_vec(vec![in alloc; 0]?),
+    })
+}
+
+// Makes the lines of the seat's actor, if it has any, up to so many steps.
+fn run_lines<S: Stepper>(s: &mut S, steps: u64) -> Result<(), NoMemory>
+    ensures same { (S.actor s.new ≡ S.actor s.old) × (S.frame s.new ≡ S.frame s.old) }
+{
+    for _ in 0..steps {
+        s.reserve(&LINE)?;
+        if s.hand().next_line().is_some() {
+            rests(s.hand());
+            let kind = next_kind(s.hand());
+            let _ = s.act(kind);
+        }
+    }
+    Ok(())
+}
+
+// Looks whether the machine has this actor.
+fn expect_actor(machine: &PlainMachine, actor: Actor) -> Result<(), Fail>
+    ensures { OnOk result (index_of machine.now.sizes actor < length machine.now.hands) }
+{
+    let sizes = machine.sizes();
+    if sizes.index_of(actor) >= sizes.actors() {
+        return Err(Fail::new("there is no such actor"));
+    }
+    Ok(())
+}
+
+// The manager's line.
+fn setting() -> Line
+    ensures { result ≡ record { number = 2; actor = Manager; command = SetSlot 0 (record { base = 0; pages = 6; host = 64; read_only = false }) } }
+{
+    let slot = Slot {
+        base: 0,
+        pages: 6,
+        host: 64,
+        read_only: false,
+    };
+    Line {
+        number: 2,
+        actor: Actor::Manager,
+        command: Command::SetSlot { id: 0, slot },
+    }
+}
+
+// Makes the four steps of the manager's line.
+fn set_slot(machine: &mut PlainMachine) -> Result<(), Fail> {
+    expect_actor(machine, Actor::Manager)?;
+    let mut seat = machine.as_actor(Actor::Manager);
+    run_lines(&mut seat, 4)?;
+    Ok(())
+}
+
+// The machine whose manager has set the slot.
+fn start(alloc: Global) -> Result<PlainMachine, Fail> {
+    let trace = Trace {
+        header: header(alloc)?,
+        lines: Lines::from_vec(vec![in alloc; setting()]?),
+    };
+    let mut machine = PlainMachine::new(alloc, &trace)?;
+    set_slot(&mut machine)?;
+    Ok(machine)
+}
+
+fn start_small(alloc: Global) -> Result<PlainMachine, Fail> {
+    let trace = Trace {
+        header: small_header(alloc)?,
+        lines: Lines::from_vec(vec![in alloc; setting()]?),
+    };
+    let mut machine = PlainMachine::new(alloc, &trace)?;
+    set_slot(&mut machine)?;
+    Ok(machine)
+}
+
+fn is_at_rest(topics: &Topics) -> bool
+    ensures { result ≡ true → IsAtRest topics.now }
+{
+    topics.stay == Stay::Outside
+        && topics.hold == Hold::Loose
+        && topics.owned.is_none()
+        && topics.walk.level == 0
+        && topics.search.set.is_none()
+}
+
+// Whether the hand shows what the fault knows at its start, or at a link.
+fn stands(job: &FaultJob, hand: &Hand) -> bool
+    requires reached { ∥ HandReached hand.now.core ∥₁ }
+    ensures { result ≡ true → FaultKnows job.now.place hand.now.core.state.sizes job.now.gfn job.now.write hand.now.core.topics }
+{
+    match job.place {
+        FaultPlace::Begin => is_at_rest(hand.topics()),
+        FaultPlace::Link => !job.write && allows(hand, PartStep::Link(job.gfn), 0),
+        _ => false,
+    }
+}
+
+fn goes_on(turn: Turn<Faulted>) -> bool
+    ensures { result ≡ true → IsToGoOn turn }
+{
+    match turn {
+        Turn::More | Turn::Wait(_) => true,
+        Turn::Retry(_) | Turn::Done(_) => false,
+    }
+}
+
+// Makes the turns of a fault up to its end, or up to its first link: how many
+// they were, and the last one.
+fn run<S: Stepper>(job: &mut FaultJob, s: &mut S, stops: bool) -> Result<(u64, Turn<Faulted>), Fail>
+    requires gfn { job.old.gfn < 2 ^ 36 }
+    requires knows { FaultKnows job.old.place (S.handful s.old).core.state.sizes job.old.gfn job.old.write (S.handful s.old).core.topics }
+{
+    for turns in 0..9000 {
+        if stops && job.place == FaultPlace::Link {
+            return Ok((turns, Turn::More));
+        }
+        s.reserve(&LINE)?;
+        if s.hand().next_line().is_some() {
+            return Err(Fail::new("a line is left"));
+        }
+        job.may_turn(s.hand(), 0);
+        let last = job.turn(s, 0);
+        if !goes_on(last) {
+            return Ok((turns + 1, last));
+        }
+    }
+    Err(Fail::new("the fault goes on"))
+}
+
+// The same of a processor of the machine.
+fn fault(
+    machine: &mut PlainMachine,
+    vcpu: u8,
+    job: &mut FaultJob,
+    stops: bool,
+) -> Result<(u64, Turn<Faulted>), Fail> {
+    let actor = Actor::Vcpu(vcpu);
+    expect_actor(machine, actor)?;
+    let mut seat = machine.as_actor(actor);
+    if job.gfn >= 1 << 36 || !stands(job, seat.hand()) {
+        return Err(Fail::new("the fault doesn't stand there"));
+    }
+    run(job, &mut seat, stops)
+}
+
+// The first fault makes 12 turns up to the root, then for the levels 4, 3 and 2
+// the entry, the map, the page, 513 fills and the link each, and the entry, the
+// leaf and two turns to the end. The second one finds the three tables.
+#[test]
+fn puts_tables_and_leaves(rt: HostRuntime) -> Result<(), Fail> {
+    let mut machine = start(rt.alloc())?;
+    let mut first = FaultJob::new(5, false);
+    assert_eq!(rt;
+        fault(&mut machine, 0, &mut first, false)?,
+        (12 + 3 * 517 + 4, Turn::Done(Faulted::Installed))
+    );
+    let mut second = FaultJob::new(4, true);
+    assert_eq!(rt;
+        fault(&mut machine, 1, &mut second, false)?,
+        (12 + 3 + 4, Turn::Done(Faulted::Installed))
+    );
+    let mut again = FaultJob::new(5, true);
+    assert_eq!(rt;
+        fault(&mut machine, 0, &mut again, false)?,
+        (12 + 4 + 2, Turn::Done(Faulted::Installed))
+    );
+    let closing = machine.into_closing();
+    let words = closing.words.as_slice();
+    assert_eq!(rt; words.len(), 4522);
+    assert_eq!(rt; words[MAP], 0xe0);
+    assert_eq!(rt; words[ROOT], 0x2807);
+    assert_eq!(rt; words[PAGE_2], 0x3807);
+    assert_eq!(rt; words[PAGE_3], 0x4807);
+    assert_eq!(rt; words[PAGE_4 + 4], 0x0600_0000_0004_4807);
+    assert_eq!(rt; words[PAGE_4 + 5], 0x0600_0000_0004_5807);
+    Ok(())
+}
+
+// Outside the slot: the four words of slot 0, and the flags of the 31 others.
+#[test]
+fn leaves_outside_the_slot(rt: HostRuntime) -> Result<(), Fail> {
+    let mut machine = start_small(rt.alloc())?;
+    let mut job = FaultJob::new(6, false);
+    assert_eq!(rt;
+        fault(&mut machine, 0, &mut job, false)?,
+        (3 + 4 + 31 + 1, Turn::Done(Faulted::Mmio))
+    );
+    Ok(())
+}
+
+// With four pool pages two tables are linked, and there is none for level 1.
+#[test]
+fn starves_where_no_page_is_free(rt: HostRuntime) -> Result<(), Fail> {
+    let mut machine = start_small(rt.alloc())?;
+    let mut job = FaultJob::new(5, false);
+    assert_eq!(rt;
+        fault(&mut machine, 0, &mut job, false)?,
+        (12 + 2 * 517 + 4, Turn::Done(Faulted::Starved))
+    );
+    let closing = machine.into_closing();
+    let words = closing.words.as_slice();
+    assert_eq!(rt; words.len(), 2470);
+    assert_eq!(rt; words[MAP], 0);
+    assert_eq!(rt; words[92], 0x2807);
+    assert_eq!(rt; words[1116], 0x3807);
+    assert_eq!(rt; words[1628], 0);
+    Ok(())
+}
+
+// The first processor has page 2 ready, and the second one links page 3 at the
+// root first: page 2 is given back, and the first one is to begin anew.
+#[test]
+fn loses_its_link(rt: HostRuntime) -> Result<(), Fail> {
+    let mut machine = start(rt.alloc())?;
+    let mut slow = FaultJob::new(5, false);
+    assert_eq!(rt;
+        fault(&mut machine, 0, &mut slow, true)?,
+        (12 + 516, Turn::More)
+    );
+    let mut quick = FaultJob::new(5, false);
+    assert_eq!(rt;
+        fault(&mut machine, 1, &mut quick, false)?,
+        (12 + 3 * 517 + 4, Turn::Done(Faulted::Installed))
+    );
+    assert_eq!(rt;
+        fault(&mut machine, 0, &mut slow, false)?,
+        (
+            4,
+            Turn::Retry(Cause::Entry {
+                word: 96,
+                read: 0,
+                seen: 0x3807
+            })
+        )
+    );
+    let closing = machine.into_closing();
+    let words = closing.words.as_slice();
+    assert_eq!(rt; words.len(), 4522);
+    assert_eq!(rt; words[MAP], 0xc4);
+    assert_eq!(rt; words[ROOT], 0x3807);
+    assert_eq!(rt; words[PAGE_3], 0x4807);
+    assert_eq!(rt; words[PAGE_4], 0x5807);
+    assert_eq!(rt; words[PAGE_5 + 5], 0x0600_0000_0004_5807);
+    Ok(())
+}
