@@ -1,0 +1,140 @@
+-- The steps of an access keep the invariant.
+use Rattle.std.proofs.Common.{◌≡◌, ◌<◌, ℕ, refl, sym, subst, ◌∙◌}
+use Rattle.std.specs.Prelude.{Bool, true, false, Option, Some, None}
+use Rattle.std.specs.Map.{keys_of}
+use Rattle.table_views.specs.declared.cache.Translation.{Translation}
+use Rattle.table_views.specs.declared.hand.State.{State}
+use Rattle.table_views.specs.declared.place.AccessPlace.{AccessPlace}
+use Rattle.table_views.specs.declared.place.AccessPlace.TheVariants.{Enter, Pause, Root, Walk, Touch, Leave, Fault}
+use Rattle.table_views.specs.declared.place.FaultEnd.TheVariants as end_of
+use Rattle.table_views.specs.declared.place.FaultNext.{FaultNext}
+use Rattle.table_views.specs.declared.place.FaultNext.TheVariants as next_of
+use Rattle.table_views.specs.declared.place.Leaving.TheVariants as leaving
+use Rattle.table_views.specs.declared.place.Place.{Place}
+use Rattle.table_views.specs.declared.place.Place.TheVariants as place
+use Rattle.table_views.specs.declared.sizes.Sizes.{Sizes}
+use Rattle.table_views.specs.declared.trace.Command.TheVariants.{Access}
+use Rattle.table_views.specs.declared.trace.Line.{Line}
+use Rattle.table_views.specs.declared.trace.Op.{Op}
+use Rattle.table_views.specs.Held.{Held}
+use Rattle.table_views.specs.Sizes.{actors_of}
+use Rattle.table_views.specs.Slots.{is_write}
+use Rattle.table_views.specs.SlotSets.{MemorySlots}
+use Rattle.table_words.specs.declared.area.Area.{Area}
+use Rattle.table_words.specs.declared.area.Area.TheVariants as area
+use Rattle.table_words.specs.declared.spte_kind.SpteKind.{SpteKind}
+use Rattle.table_words.specs.declared.spte_kind.SpteKind.TheVariants as entry_kind
+use Rattle.table_words.specs.Areas.{pool_index}
+use Rattle.table_words.specs.Entries.{kind_of}
+use Rattle.table_core.specs.declared.outcome.Outcome.{Outcome}
+use Rattle.table_core.specs.AccessSteps.{access_loads, access_outcome, access_task, behind_fault, leaf_used, pause_next, walk_next}
+use Rattle.table_core.specs.Cached.{first_usable}
+use Rattle.table_core.specs.FaultSteps.{allows_access, fault_next}
+use Rattle.table_core.specs.Invariant.{AccessHolds, Holds, Invariant, InvariantOf, IsLeafFor, OwnLines}
+use Rattle.table_core.specs.KnowsPart.{AccessKnows}
+use Rattle.table_core.specs.PartSteps.{entry_index, table_page}
+use Rattle.table_core.specs.Tasks.{place_after}
+use Rattle.table_core.specs.TopicsInvariant.{TopicsInvariant}
+use Rattle.table_core.specs.View.{View, answer_in, hand_after, stepped, upd}
+use Rattle.table_core.proofs.CachedKept.{cached_kept, leaf_found, used_leaf}
+use Rattle.table_core.proofs.LinesKept.{answered_kept, lines_behind}
+use Rattle.table_core.proofs.LiveStays.{MakesParts, access_host_stays, access_set_stays, access_slots_stay}
+use Rattle.table_core.proofs.SlotsStay.{AllKnow, SetStays, hand_moved, record_stays}
+use Rattle.table_core.proofs.Stepping.{IsStep}
+
+loads_sizes : (p : AccessPlace) (h : Held) (gfn : ℕ) (op : Op) (x : ℕ) → (access_loads p h gfn op x).sizes ≡ h.state.sizes
+loads_sizes (Pause again) h gfn op x = refl
+loads_sizes (Walk again) h gfn op x = refl
+loads_sizes _ h gfn op x = refl
+
+loads_actor : (p : AccessPlace) (h : Held) (gfn : ℕ) (op : Op) (x : ℕ) → (access_loads p h gfn op x).actor ≡ h.state.actor
+loads_actor (Pause again) h gfn op x = refl
+loads_actor (Walk again) h gfn op x = refl
+loads_actor _ h gfn op x = refl
+
+-- What an access has loaded where it stands behind a step, of the pool's words behind it: where it is to touch, the leaf that it uses agrees.
+abbrev HoldsBehind : Sizes → View → ℕ → Line → Place → ℕ → ℕ → Op → Outcome → State → Type 0
+HoldsBehind z v a line p gfn word op o s = Holds z ((stepped a line (Access gfn word op) p v).words area.Pool) (v.words area.Host) (place_after o) (Access gfn word op) (v.hand a).slots s
+
+-- behind the pause: a translation that is used is cached
+pause_holds : (z : Sizes) (v : View) (a : ℕ) (line : Line) (again : Bool) (gfn word : ℕ) (op : Op) (s : State) (used : Option Translation) → a < actors_of z → Invariant z v
+    → first_usable gfn (is_write op) (v.hand a).cached.items ≡ used → s.leaf ≡ leaf_used used (v.hand a).state.leaf
+    → AccessHolds (v.words area.Pool) (v.words area.Host) (pause_next again used) s gfn
+pause_holds z v a line again gfn word op s None lt I is leaf = tt
+pause_holds z v a line again gfn word op s (Some t) lt I is leaf =
+    subst (IsLeafFor (v.words area.Pool) (v.words area.Host) gfn) (sym leaf) (used_leaf (v.words area.Pool) (v.words area.Host) gfn (is_write op) (v.hand a).cached.items t (I.cached a lt) is)
+
+-- behind an entry: a leaf that allows the access is used
+walk_holds : (z : Sizes) (v : View) (again : Bool) (gfn w : ℕ) (s : State) (k : SpteKind) (allowed : Bool) → s.leaf ≡ w → (k ≡ entry_kind.Leaf → IsLeafFor (v.words area.Pool) (v.words area.Host) gfn w)
+    → AccessHolds (v.words area.Pool) (v.words area.Host) (walk_next again k allowed) s gfn
+walk_holds z v again gfn w s entry_kind.Leaf true leaf found = subst (IsLeafFor (v.words area.Pool) (v.words area.Host) gfn) (sym leaf) (found refl)
+walk_holds z v again gfn w s entry_kind.Leaf false leaf found = tt
+walk_holds z v again gfn w s entry_kind.Absent allowed leaf found = tt
+walk_holds z v again gfn w s entry_kind.Frozen allowed leaf found = tt
+walk_holds z v again gfn w s (entry_kind.Table page) allowed leaf found = tt
+
+-- behind a fault: nothing
+fault_holds : (z : Sizes) (pool host : ℕ → ℕ) (n : FaultNext) (gfn word : ℕ) (op : Op) (slots : MemorySlots) (s : State) → Holds z pool host (place_after (behind_fault n)) (Access gfn word op) slots s
+fault_holds z pool host (next_of.Goes q) gfn word op slots s = tt
+fault_holds z pool host (next_of.Ends end_of.Installed) gfn word op slots s = tt
+fault_holds z pool host (next_of.Ends end_of.Mmio) gfn word op slots s = tt
+fault_holds z pool host (next_of.Ends end_of.HostFault) gfn word op slots s = tt
+fault_holds z pool host (next_of.Ends end_of.Starved) gfn word op slots s = tt
+fault_holds z pool host (next_of.Ends (end_of.Retry cause)) gfn word op slots s = tt
+
+access_holds : (z : Sizes) (v : View) (a : ℕ) (line : Line) (p : AccessPlace) (gfn word : ℕ) (op : Op) (s : State) → a < actors_of z → Invariant z v → TopicsInvariant z v → AccessKnows p gfn (is_write op) (v.hand a)
+    → s.leaf ≡ (access_loads p (v.hand a) gfn op (answer_in (access_task p (v.hand a) gfn word op) v.words)).leaf
+    → HoldsBehind z v a line (place.Access p) gfn word op (access_outcome p (v.hand a) gfn op (answer_in (access_task p (v.hand a) gfn word op) v.words)) s
+access_holds z v a line (Enter again) gfn word op s lt I P K leaf = tt
+access_holds z v a line (Pause again) gfn word op s lt I P K leaf = pause_holds z v a line again gfn word op s (first_usable gfn (is_write op) (v.hand a).cached.items) lt I refl leaf
+access_holds z v a line (Root again) gfn word op s lt I P K leaf = tt
+access_holds z v a line (Walk again) gfn word op s lt I P K leaf =
+    let h : Held = v.hand a in
+    let w : ℕ = v.words area.Pool (pool_index (table_page h.topics.walk) (entry_index gfn h.topics.walk.level)) in
+    walk_holds z v again gfn w s (kind_of h.topics.walk.level w) (allows_access (is_write op) w) leaf (λ is. (leaf_found z v a gfn lt I P K.1 is).1)
+access_holds z v a line Touch gfn word op s lt I P K leaf = tt
+access_holds z v a line (Leave (leaving.Reached frame value)) gfn word op s lt I P K leaf = tt
+access_holds z v a line (Leave leaving.Faults) gfn word op s lt I P K leaf = tt
+access_holds z v a line (Fault q) gfn word op s lt I P K leaf =
+    let h : Held = v.hand a in
+    fault_holds z ((stepped a line (Access gfn word op) (place.Access (Fault q)) v).words area.Pool) (v.words area.Host)
+    (fault_next q h.state.sizes gfn (is_write op) h.topics (answer_in (access_task (Fault q) h gfn word op) v.words)) gfn word op h.slots s
+
+-- The invariant behind each step of an access, where each actor knows behind it what its place asks.
+pub access_kept : (z : Sizes) (v : View) (a : ℕ) (line : Line) (p : AccessPlace) (gfn word : ℕ) (op : Op) → IsStep z v a line (Access gfn word op) (place.Access p) → Invariant z v → TopicsInvariant z v
+    → AccessKnows p gfn (is_write op) (v.hand a) → MakesParts z v a p gfn → AllKnow z (stepped a line (Access gfn word op) (place.Access p) v).hand
+    → Invariant z (stepped a line (Access gfn word op) (place.Access p) v)
+access_kept z v a line p gfn word op S I P K makes knows =
+    subst (λ (f : ℕ → ℕ). InvariantOf z f (words area.Pool) (words area.Host) (upd v.hand a after)) (sym (access_slots_stay z v a line p gfn word op makes P))
+    (subst (λ (f : ℕ → ℕ). InvariantOf z (v.words area.Slots) (words area.Pool) f (upd v.hand a after)) (sym (access_host_stays z v a line p gfn word op makes P))
+    (hand_moved z (v.words area.Slots) (v.words area.Pool) (words area.Pool) (v.words area.Host) v.hand a after stays own holds (cached_kept z v a line p gfn word op S.there I P K makes)
+    (λ is. record_stays (v.words area.Pool) (words area.Pool) stays h.slots (I.recorded a S.there (sym (loads_actor p h gfn op x) ∙ is))) knows I))
+  where
+    h : Held
+    h = v.hand a
+
+    x : ℕ
+    x = answer_in (access_task p h gfn word op) v.words
+
+    s : State
+    s = access_loads p h gfn op x
+
+    o : Outcome
+    o = access_outcome p h gfn op x
+
+    words : Area → ℕ → ℕ
+    words = (stepped a line (Access gfn word op) (place.Access p) v).words
+
+    after : Held
+    after = hand_after line (Access gfn word op) (place.Access p) h x
+
+    stays : SetStays (v.words area.Pool) (words area.Pool)
+    stays = access_set_stays z v a line p gfn word op makes P I.set.published
+
+    own : OwnLines z a after
+    own =
+        let O = I.lines a S.there in
+        lines_behind z a h line s o after.topics after.cached h.slots O S.next S.left (loads_sizes p h gfn op x ∙ O.sizes) (loads_actor p h gfn op x) (answered_kept o line h.lines h.answers (keys_of h.slots) S.left O.answered) O.set
+
+    holds : Holds z (words area.Pool) (v.words area.Host) after.state.place after.state.line.command after.slots after.state
+    holds = subst (λ c. Holds z (words area.Pool) (v.words area.Host) (place_after o) c h.slots after.state) (sym S.command_is) (access_holds z v a line p gfn word op after.state S.there I P K refl)

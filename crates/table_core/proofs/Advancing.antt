@@ -1,0 +1,229 @@
+-- What a hand must have for a step, and what its fields are behind it.
+use Rattle.std.proofs.Math.Nat.{div-le_self}
+use Rattle.std.proofs.Common.{◌≡◌, ◌<◌, ◌≤◌, ◌^◌, ◌⊎◌, inl, inr, ℕ, zero, suc, List, [], ◌∷◌, length, refl, sym, subst, ap, ◌∙◌, arith}
+use Rattle.std.specs.Prelude.{Bool, true, false, ◌==◌, Some, None, Option, is_some, slice_get, if◌then◌else◌}
+use Rattle.table_views.specs.declared.kind.Kind.{Kind}
+use Rattle.table_views.specs.declared.kind.StepKind.{StepKind}
+use Rattle.table_views.specs.declared.kind.StepKind.TheVariants as kind
+use Rattle.table_views.specs.declared.place.Place.{Place}
+use Rattle.table_views.specs.declared.place.Place.TheVariants as place
+use Rattle.table_views.specs.declared.place.SetSlotPlace.{SetSlotPlace}
+use Rattle.table_views.specs.declared.place.SetSlotPlace.TheVariants.{Refuse, Fill}
+use Rattle.table_views.specs.declared.place.SlotField.TheVariants as field
+use Rattle.table_views.specs.declared.topics.OwnedPage.{OwnedPage}
+use Rattle.table_views.specs.declared.topics.TableWalk.{TableWalk}
+use Rattle.table_views.specs.declared.topics.Topics.{Topics}
+use Rattle.table_views.specs.declared.trace.Command.{Command}
+use Rattle.table_views.specs.declared.trace.Command.TheVariants.{Access, SetSlot}
+use Rattle.table_views.specs.declared.trace.Line.{Line}
+use Rattle.table_views.specs.declared.trace.Op.{Op}
+use Rattle.table_views.specs.declared.trace.Op.TheVariants.{Read, Write, Add}
+use Rattle.table_views.specs.declared.trace.Slot.{Slot as SlotOf}
+use Rattle.table_core.specs.declared.outcome.Task.{Task}
+use Rattle.table_core.specs.AccessSteps.{access_note, access_part, task_by, touch_of}
+use Rattle.table_core.specs.SetSlotSteps.{set_slot_task}
+use Rattle.std.proofs.lemmas.Bool.Decides.{nat_tests}
+use Rattle.table_views.specs.Held.{Held}
+use Rattle.table_views.specs.Kinds.{code_of, kind_named}
+use Rattle.table_views.specs.Sizes.{AreSizes}
+use Rattle.table_views.specs.Traces.{IsCommandFor}
+use Rattle.table_core.specs.declared.part_step.PartStep.{PartStep}
+use Rattle.table_core.specs.declared.part_step.PartStep.TheVariants as part
+use Rattle.table_core.specs.Enabled.{Enabled, IsNext, IsPartStep}
+use Rattle.table_words.specs.Entries.{level_span}
+use Rattle.table_core.specs.PartSteps.{IsAtRest, IsOver, HasToFill, PartNeeds, own_index, part_task, words_filled}
+use Rattle.table_core.specs.Rests.{AcceptsAt, Rests, RestsAt, RestsOn, SetSlotRests}
+use Rattle.table_core.specs.Cached.{flushed}
+use Rattle.table_core.specs.PartBounds.{PartRests}
+use Rattle.table_views.specs.declared.sizes.Sizes.{Sizes}
+use Rattle.table_core.proofs.Sized.{loads_keep_sizes}
+use Rattle.table_core.specs.Steps.{has_line, held_after, idle_after, line_after, line_at, next, place_at, standing, task_at, task_of}
+use Rattle.table_core.specs.TopicSteps.{HasRoom, topics_after}
+use Rattle.table_core.proofs.Which.{has_line_is, next_of_line, next_of_part}
+
+pub enabled_sizes : (h : Held) (k : Kind) → Enabled h k → AreSizes h.state.sizes
+unfolding Enabled
+enabled_sizes h k (inl e) = e.rests.part.sizes
+enabled_sizes h k (inr e) = e.sizes
+
+-- a hand at rest has nothing that a line's step would count
+no_page_room : (t : Topics) → t.owned ≡ None → HasRoom kind.Fill t
+no_page_room t none = λ o is. let e : None ≡ Some o = sym none ∙ is in absurd (cc e)
+
+-- the run of a guest frame is a small number
+pub run_small : (gfn : ℕ) (walk : TableWalk) → IsOver gfn walk → walk.prefix < 2 ^ 36
+run_small gfn walk O = let le = div-le_self gfn (level_span walk.level) in omega (arith, O.small, O.run, le)
+
+set_slot_room : (p : SetSlotPlace) (id : ℕ) (slot : SlotOf) (t : Topics) → IsAtRest t → HasRoom (set_slot_task p id slot).kind t
+set_slot_room (Refuse refusal) id slot t R = tt
+set_slot_room (Fill field.Base) id slot t R = no_page_room t R.owns_none
+set_slot_room (Fill field.Pages) id slot t R = no_page_room t R.owns_none
+set_slot_room (Fill field.Host) id slot t R = no_page_room t R.owns_none
+set_slot_room (Fill field.Flags) id slot t R = no_page_room t R.owns_none
+
+-- the kind that a kind's number names
+pub named_is : (k : StepKind) → kind_named (code_of k) ≡ k
+named_is kind.Enter = refl
+named_is kind.Leave = refl
+named_is kind.Walk = refl
+named_is kind.Read = refl
+named_is kind.Write = refl
+named_is kind.Add = refl
+named_is kind.Begin = refl
+named_is kind.End = refl
+named_is kind.Control = refl
+named_is kind.Slot = refl
+named_is kind.Host = refl
+named_is kind.Swap = refl
+named_is kind.Share = refl
+named_is kind.Unshare = refl
+named_is kind.Exclude = refl
+named_is kind.Release = refl
+named_is kind.Claim = refl
+named_is kind.Fill = refl
+named_is kind.Give = refl
+named_is kind.Watch = refl
+
+fill_room : (t : Topics) → HasToFill t → (b : Bool) (x y : Task) → x.kind ≡ kind.Fill → y.kind ≡ kind.Fill → HasRoom (if b then x else y).kind t
+fill_room t N true x y is other = subst (λ k. HasRoom k t) (sym is) (λ o e. let q : Some N.owned ≡ Some o = sym N.is ∙ e in subst (λ (o : OwnedPage). o.filled < 513) (some_is q) N.left)
+  where
+    some_is : {a b : OwnedPage} → Some a ≡ Some b → a ≡ b
+    some_is q = cc q
+fill_room t N false x y is other = subst (λ k. HasRoom k t) (sym other) (λ o e. let q : Some N.owned ≡ Some o = sym N.is ∙ e in subst (λ (o : OwnedPage). o.filled < 513) (some_is q) N.left)
+  where
+    some_is : {a b : OwnedPage} → Some a ≡ Some b → a ≡ b
+    some_is q = cc q
+
+part_room : (step : PartStep) (h : Held) (note : ℕ) → AreSizes h.state.sizes → PartNeeds step h → HasRoom (part_task step (own_index h) h.topics note).kind h.topics
+part_room (part.Fill value) h note z N = fill_room h.topics N.0 (words_filled h.topics.owned == 512) _ _ refl refl
+part_room part.Slot h note z N = λ some. N.1
+part_room part.Claim h note z N = (N.1, omega (arith, N.2, z.pool.1))
+part_room part.Enter h note z N = tt
+part_room part.Leave h note z N = tt
+part_room part.Pause h note z N = tt
+part_room part.Begin h note z N = tt
+part_room part.End h note z N = tt
+part_room part.Share h note z N = tt
+part_room part.Unshare h note z N = tt
+part_room part.Exclude h note z N = tt
+part_room part.Release h note z N = tt
+part_room (part.Map word) h note z N = tt
+part_room part.Give h note z N = tt
+part_room part.Slots h note z N = tt
+part_room part.Seq h note z N = tt
+part_room part.Count h note z N = tt
+part_room part.RangeStart h note z N = tt
+part_room part.RangeEnd h note z N = tt
+part_room part.Root h note z N = tt
+part_room (part.Walk gfn) h note z N = λ from. run_small gfn h.topics.walk N
+part_room (part.Link gfn) h note z N = λ from. run_small gfn h.topics.walk N.0.saw.over
+part_room (part.Leaf gfn) h note z N = λ from. run_small gfn h.topics.walk N.0.saw.over
+part_room (part.Host page) h note z N = tt
+part_room (part.Watch index) h note z N = tt
+
+touch_room : (op : Op) (index : ℕ) (t : Topics) → HasRoom (touch_of op index).kind t
+touch_room Read index t = tt
+touch_room (Write x) index t = tt
+touch_room (Add x) index t = tt
+
+access_room : (s : Option PartStep) (h : Held) (note : ℕ) (op : Op) (index : ℕ) → AreSizes h.state.sizes → RestsOn s h → HasRoom (task_by s h note (touch_of op index)).kind h.topics
+access_room None h note op index z N = touch_room op index h.topics
+access_room (Some step) h note op index z N = part_room step h note z N
+
+setting_room : (p : SetSlotPlace) (id : ℕ) (slot : SlotOf) (t : Topics) → SetSlotRests p id t → HasRoom (set_slot_task p id slot).kind t
+setting_room (Refuse refusal) id slot t R = tt
+setting_room (Fill f) id slot t R = set_slot_room (Fill f) id slot t R.1
+
+task_room : (p : Place) (command : Command) (h : Held) → AreSizes h.state.sizes → RestsAt p command h → HasRoom (task_at p command h).kind h.topics
+task_room place.Between (Access gfn word op) h z R = tt
+task_room place.Between (SetSlot id slot) h z R = tt
+task_room (place.Access p) (Access gfn word op) h z R = access_room (access_part p gfn h.topics) h (access_note p) op _ z R
+task_room (place.Access p) (SetSlot id slot) h z R = absurd R
+task_room (place.SetSlot p) (Access gfn word op) h z R = absurd R
+task_room (place.SetSlot p) (SetSlot id slot) h z R = setting_room p id slot h.topics R
+
+room_of : (h : Held) (k : Kind) → IsNext h k ⊎ IsPartStep h k → HasRoom (kind_named k.code) h.topics
+room_of h k (inl e) = subst (λ (x : Kind). HasRoom (kind_named x.code) h.topics) (sym e.is) (subst (λ x. HasRoom x h.topics) (sym (named_is (task_of h).kind)) (task_room (place_at h.state.place h) (line_at h.state.place h).command h e.rests.part.sizes e.rests.at))
+room_of h k (inr e) =
+    subst (λ (x : Kind). HasRoom (kind_named x.code) h.topics) (sym e.is)
+    (subst (λ x. HasRoom x h.topics) (sym (named_is (part_task e.step (own_index h) h.topics e.note).kind)) (part_room e.step h e.note e.sizes e.needs))
+
+pub enabled_room : (h : Held) (k : Kind) → Enabled h k → HasRoom (kind_named k.code) h.topics
+unfolding Enabled
+enabled_room h k e = room_of h k e
+
+-- a place of a list that has something
+pub some_below : {X : Type 0} (xs : List X) (n : ℕ) → is_some (slice_get xs n) ≡ true → n < length xs
+some_below [] n is = absurd (cc is)
+some_below (x ∷ xs) zero is = omega arith
+some_below (x ∷ xs) (suc n) is = omega (arith, some_below xs n is)
+
+pub none_below : {X : Type 0} (xs : List X) (n : ℕ) → is_some (slice_get xs n) ≡ false → length xs ≤ n
+none_below [] n is = omega arith
+none_below (x ∷ xs) zero is = absurd (cc is)
+none_below (x ∷ xs) (suc n) is = omega (arith, none_below xs n is)
+
+-- A hand with a line left takes its next step.
+module _ (h : Held) (rests : has_line h ≡ true → Rests h) (some : is_some (slice_get h.lines (length h.answers)) ≡ true) where
+  pub left_here : length h.answers < length h.lines
+  left_here = some_below h.lines (length h.answers) some
+
+  pub has_here : has_line h ≡ true
+  has_here = has_line_is h left_here
+
+  pub rests_here : Rests h
+  rests_here = rests has_here
+
+  pub part_here : PartRests h
+  part_here = rests_here.part
+
+  pub command_here : (line : Line) → line ≡ line_at h.state.place h → IsCommandFor h.state.sizes line.actor line.command
+  command_here line line_is = subst (λ (l : Line). IsCommandFor h.state.sizes l.actor l.command) (sym line_is) rests_here.line
+
+  place_here : (line : Line) (p : Place) → line ≡ line_at h.state.place h → p ≡ standing h.state.place h.state.sizes h.slots line.command → p ≡ place_at h.state.place h
+  place_here line p line_is place_is = place_is ∙ ap (λ (l : Line). standing h.state.place h.state.sizes h.slots l.command) line_is
+
+  pub rests_at_here : (line : Line) (p : Place) → line ≡ line_at h.state.place h → p ≡ standing h.state.place h.state.sizes h.slots line.command → RestsAt p line.command h
+  rests_at_here line p line_is place_is =
+      subst (λ q. RestsAt q line.command h) (sym (place_here line p line_is place_is)) (subst (λ (l : Line). RestsAt (place_at h.state.place h) l.command h) (sym line_is) rests_here.at)
+
+  pub accepts_here : (line : Line) (p : Place) → line ≡ line_at h.state.place h → p ≡ standing h.state.place h.state.sizes h.slots line.command → AcceptsAt p line.command h.state.sizes h.slots
+  accepts_here line p line_is place_is =
+      subst (λ q. AcceptsAt q line.command h.state.sizes h.slots) (sym (place_here line p line_is place_is))
+      (subst (λ (l : Line). AcceptsAt (place_at h.state.place h) l.command h.state.sizes h.slots) (sym line_is) rests_here.accepts)
+
+  pub made_here : (x : Held) (line : Line) (p : Place) (v : ℕ) → line ≡ line_at h.state.place h → p ≡ standing h.state.place h.state.sizes h.slots line.command → x ≡ line_after line p h v
+      → x ≡ line_after (line_at h.state.place h) (place_at h.state.place h) h v
+  made_here x line p v line_is place_is made =
+      made ∙ ap (λ (q : Place). line_after line q h v) (place_here line p line_is place_is) ∙ ap (λ (l : Line). line_after l (place_at h.state.place h) h v) line_is
+
+pub none_here : (h : Held) → is_some (slice_get h.lines (length h.answers)) ≡ false → has_line h ≡ false
+none_here h none = let few = none_below h.lines (length h.answers) none in grind (arith, nat_tests)
+
+-- Behind the line's step, where a line is left, come the flush and the topics, and make the hand that the step leads to.
+module _ (h g : Held) (k : Kind) (v : ℕ) (enabled : Enabled h k) (line : has_line h ≡ true → g ≡ line_after (line_at h.state.place h) (place_at h.state.place h) h v) (none : has_line h ≡ false → g ≡ h) where
+  still : (g.state.sizes ≡ h.state.sizes) × (g.topics ≡ h.topics)
+  still = by (has_line h) refl
+    where
+      by : (b : Bool) → has_line h ≡ b → (g.state.sizes ≡ h.state.sizes) × (g.topics ≡ h.topics)
+      by true has = (ap (λ (y : Held). y.state.sizes) (line has) ∙ loads_keep_sizes (place_at h.state.place h) (line_at h.state.place h).command h v, ap (λ (y : Held). y.topics) (line has))
+      by false no_ = (ap (λ (y : Held). y.state.sizes) (none no_), ap (λ (y : Held). y.topics) (none no_))
+
+  pub sizes_still : (x : Held) → x ≡ record g { cached = flushed k g.cached v } → AreSizes x.state.sizes
+  sizes_still x is = subst AreSizes (sym (ap (λ (y : Held). y.state.sizes) is ∙ still.0)) (enabled_sizes h k enabled)
+
+  pub room_still : (x : Held) → x ≡ record g { cached = flushed k g.cached v } → HasRoom (kind_named k.code) x.topics
+  room_still x is = subst (HasRoom (kind_named k.code)) (sym (ap (λ (y : Held). y.topics) is ∙ still.1)) (enabled_room h k enabled)
+
+  finished : idle_after g k v ≡ next h k v
+  finished = by (has_line h) refl
+    where
+      by : (b : Bool) → has_line h ≡ b → idle_after g k v ≡ next h k v
+      by true has =
+          ap (λ (y : Held). idle_after y k v) (line has)
+          ∙ ap (λ (z : Sizes). record (held_after (line_at h.state.place h) (place_at h.state.place h) h k v) { topics = topics_after z k h.topics v }) (loads_keep_sizes (place_at h.state.place h) (line_at h.state.place h).command h v)
+          ∙ sym (next_of_line h k v has)
+      by false no_ = ap (λ (y : Held). idle_after y k v) (none no_) ∙ sym (next_of_part h k v no_)
+
+  pub advanced : (x y : Held) → x ≡ record g { cached = flushed k g.cached v } → y ≡ record x { topics = topics_after x.state.sizes k x.topics v } → y ≡ next h k v
+  advanced x y flush_is is = is ∙ ap (λ (q : Held). record q { topics = topics_after q.state.sizes k q.topics v }) flush_is ∙ finished

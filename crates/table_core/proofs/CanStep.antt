@@ -1,0 +1,99 @@
+-- An actor that has a line left may make a step.
+use Rattle.std.specs.Prelude.{Option, Some, None}
+use Rattle.std.proofs.Common.{true, false, ◌≡◌, ◌^◌, ◌<◌, ℕ, sym, subst, ap, arith}
+use Rattle.table_views.specs.declared.actor.Actor.{Actor}
+use Rattle.table_views.specs.declared.actor.Actor.TheVariants.{Vcpu, Host, Manager, Worker}
+use Rattle.table_views.specs.declared.place.Place.{Place}
+use Rattle.table_views.specs.declared.place.Place.TheVariants as place
+use Rattle.table_views.specs.declared.place.SetSlotPlace.{SetSlotPlace}
+use Rattle.table_views.specs.declared.place.SetSlotPlace.TheVariants.{Refuse, Fill}
+use Rattle.table_views.specs.declared.place.SlotField.TheVariants as field
+use Rattle.table_views.specs.declared.sizes.Sizes.{Sizes}
+use Rattle.table_views.specs.declared.trace.Command.{Command}
+use Rattle.table_views.specs.declared.trace.Command.TheVariants.{Access, SetSlot}
+use Rattle.table_views.specs.declared.trace.Line.{Line}
+use Rattle.table_views.specs.declared.trace.Op.{Op}
+use Rattle.table_views.specs.declared.trace.Op.TheVariants.{Add, Read, Write}
+use Rattle.table_views.specs.declared.trace.Slot.{Slot}
+use Rattle.table_views.specs.Held.{Held}
+use Rattle.table_views.specs.Sizes.{actors_of}
+use Rattle.table_views.specs.Traces.{IsCommandFor, IsSlotInRange}
+use Rattle.table_words.specs.Areas.{place as word_place, size_of, total}
+use Rattle.table_words.proofs.Places.{place_below}
+use Rattle.table_words.proofs.ReadsFlags.{flags_fit}
+use Rattle.table_core.specs.AccessSteps.{access_note, access_part, task_by, touch_of}
+use Rattle.table_core.specs.Enabled.{mmu}
+use Rattle.table_core.specs.Example.{HasLine, WritesOneWord, next_step}
+use Rattle.table_core.specs.Laws.{IsSound}
+use Rattle.table_core.specs.declared.part_step.PartStep.{PartStep}
+use Rattle.table_core.specs.PartBounds.{PartRests}
+use Rattle.table_core.proofs.PartFits.{part_small}
+use Rattle.table_core.specs.Machine.{May, World, hand_in}
+use Rattle.table_core.specs.Rests.{Rests, RestsAt, RestsOn}
+use Rattle.table_core.specs.SetSlotSteps.{set_slot_task}
+use Rattle.table_core.specs.Steps.{line_at, place_at, task_at, task_of}
+use Rattle.table_core.specs.Tasks.{kind_of_task, map_of}
+use Rattle.table_core.specs.View.{view}
+use Rattle.table_core.proofs.RestsKept.{hand_rests, task_within}
+use Rattle.table_core.proofs.Stepping.{IsStep, is_step}
+use Rattle.table_core.proofs.Which.{enabled_is}
+
+-- What a step writes has 64 bits.
+touch_small : (op : Op) (gfn word index : ℕ) → WritesOneWord (Access gfn word op) → (touch_of op index).written < 2 ^ 64
+touch_small Read gfn word index fits = omega arith
+touch_small (Write x) gfn word index fits = fits
+touch_small (Add x) gfn word index fits = fits
+
+access_small : (s : Option PartStep) (h : Held) (note gfn word : ℕ) (op : Op) (index : ℕ) → PartRests h → RestsOn s h → WritesOneWord (Access gfn word op) → (task_by s h note (touch_of op index)).written < 2 ^ 64
+access_small None h note gfn word op index R N fits = touch_small op gfn word index fits
+access_small (Some step) h note gfn word op index R N fits = part_small step h note N R
+
+slot_in_range : (z : Sizes) (actor : Actor) (id : ℕ) (slot : Slot) → IsCommandFor z actor (SetSlot id slot) → IsSlotInRange slot
+slot_in_range z (Vcpu n) id slot may = absurd may
+slot_in_range z (Host n) id slot may = absurd may
+slot_in_range z Manager id slot may = may
+slot_in_range z (Worker n) id slot may = absurd may
+
+set_slot_small : (p : SetSlotPlace) (id : ℕ) (slot : Slot) → IsSlotInRange slot → (set_slot_task p id slot).written < 2 ^ 64
+set_slot_small (Refuse refusal) id slot range = omega arith
+set_slot_small (Fill field.Base) id slot range = omega (arith, range.base)
+set_slot_small (Fill field.Pages) id slot range = omega (arith, range.pages)
+set_slot_small (Fill field.Host) id slot range = omega (arith, range.host)
+set_slot_small (Fill field.Flags) id slot range = flags_fit true slot.read_only false
+
+written_small : (p : Place) (actor : Actor) (command : Command) (h : Held) → PartRests h → IsCommandFor h.state.sizes actor command → RestsAt p command h → WritesOneWord command → (task_at p command h).written < 2 ^ 64
+written_small place.Between actor (Access gfn word op) h R may rests fits = omega arith
+written_small place.Between actor (SetSlot id slot) h R may rests fits = omega arith
+written_small (place.Access p) actor (Access gfn word op) h R may rests fits = access_small (access_part p gfn h.topics) h (access_note p) gfn word op _ R rests fits
+written_small (place.Access p) actor (SetSlot id slot) h R may rests fits = absurd rests
+written_small (place.SetSlot p) actor (Access gfn word op) h R may rests fits = absurd rests
+written_small (place.SetSlot p) actor (SetSlot id slot) h R may rests fits = set_slot_small p id slot (slot_in_range h.state.sizes actor id slot may)
+
+pub may_step : (z : Sizes) (w : World Held) (a : ℕ) → IsSound z w → a < actors_of z → HasLine (hand_in mmu w a) → May mmu w (next_step z w a)
+may_step z w a G there has = record {
+  there = omega (arith, there, G.hands);
+  enabled = enabled_is h (next_step z w a).kind (record {
+    left = has.left;
+    rests = R;
+    is = ap (λ y. kind_of_task y (task_of h)) (sym same);
+    inside = subst (λ y. word_place (map_of z) (task_of h).area (task_of h).index < total (map_of y)) (sym same) below;
+    small = written_small (place_at h.state.place h) (line_at h.state.place h).actor (line_at h.state.place h).command h R.part R.line R.at
+        (subst (λ (l : Line). WritesOneWord l.command) (sym S.next) has.fits);
+  });
+  inside = omega (arith, below, G.words);
+}
+  where
+    h : Held
+    h = hand_in mmu w a
+
+    same : h.state.sizes ≡ z
+    same = (G.holds.lines a there).sizes
+
+    R : Rests h
+    R = hand_rests z (view z w) a G.holds G.topics there has.left
+
+    S : IsStep z (view z w) a (line_at h.state.place h) (line_at h.state.place h).command (place_at h.state.place h)
+    S = is_step z (view z w) a G.holds there has.left
+
+    below : word_place (map_of z) (task_of h).area (task_of h).index < total (map_of z)
+    below = place_below (map_of z) (task_of h).area (task_of h).index (subst (λ y. (task_of h).index < size_of (map_of y) (task_of h).area) same (task_within h R))

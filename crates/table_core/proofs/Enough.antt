@@ -1,0 +1,217 @@
+-- The pool that a trace needs at most is enough: the tables of a level stand at different runs of guest frames that are wanted.
+use Rattle.std.proofs.Common.{◌≡◌, ◌≢◌, ◌⊎◌, inl, inr, ◌+◌, ◌/◌, ◌^◌, ◌<◌, ◌≤◌, ◌==◌, ℕ, List, refl, sym, subst, ap, ◌∙◌, arith}
+use Rattle.std.proofs.lemmas.Bool.Decides.{nat_tests, Decides-eqb}
+use Rattle.std.specs.Prelude.{Bool, true, false, Option, Some, None, is_some}
+use Rattle.table_views.specs.declared.kind.Kind.{Kind}
+use Rattle.table_views.specs.declared.sizes.Sizes.{Sizes}
+use Rattle.table_views.specs.declared.topics.OwnedPage.{OwnedPage}
+use Rattle.table_views.specs.declared.trace.Header.{Header}
+use Rattle.table_views.specs.declared.trace.Line.{Line}
+use Rattle.table_views.specs.Held.{Held}
+use Rattle.table_views.specs.Need.{count_below, need}
+use Rattle.table_views.specs.Sizes.{actors_of, sizes_of}
+use Rattle.table_words.specs.declared.area.Area.TheVariants as area
+use Rattle.table_core.specs.Enabled.{mmu}
+use Rattle.table_core.specs.Enough.{EachTableIsWanted, EnoughPages, IsWantedTable, some_line_wants}
+use Rattle.table_core.specs.Laws.{IsSound}
+use Rattle.table_core.specs.Machine.{Legal, Step, World, hand_in, run}
+use Rattle.table_core.specs.PoolPart.{PoolPart, is_free, is_owned, owners}
+use Rattle.table_core.specs.Sums.{one_if, sum_below}
+use Rattle.table_core.specs.TreePart.{IsWanted, Position, TreePart, at}
+use Rattle.table_core.specs.View.{word_in}
+use Rattle.table_core.specs.Worlds.{IsStart}
+use Rattle.table_core.proofs.WantedRuns.{IsWantedRun, wanted_by_line}
+use Rattle.table_core.proofs.Columns.{same_or}
+use Rattle.table_core.proofs.Pigeonhole.{count_le, pigeonhole, sum_each, sum_plus, sum_some}
+use Rattle.table_core.proofs.Starts.{start_good}
+use Rattle.table_core.proofs.SumsBelow.{sum_mono, sum_none}
+use Rattle.table_core.proofs.Worlds.{good_run}
+
+-- A table of this level stands there; and at which run of guest frames.
+abbrev stands_at : ℕ → Option Position → Bool
+stands_at level None = false
+stands_at level (Some p) = p.level == level
+
+abbrev run_of : Option Position → ℕ
+run_of None = 0
+run_of (Some p) = p.prefix
+
+abbrev level_of : Option Position → ℕ
+level_of None = 0
+level_of (Some p) = p.level
+
+stands_where : (level : ℕ) (o : Option Position) → stands_at level o ≡ true → (p : Position) × (o ≡ Some p) × (p.level ≡ level)
+stands_where level None is = absurd (cc is)
+stands_where level (Some p) is = (p, refl, (Decides-eqb p.level level).0 is)
+
+same_position : (p q : Position) → p.level ≡ q.level → p.prefix ≡ q.prefix → p ≡ q
+same_position p q level prefix = λ t. record { level = level t; prefix = prefix t }
+
+-- A table is of one of the four levels.
+one_level : (o : Option Position) → ((p : Position) → o ≡ Some p → (1 ≤ p.level) × (p.level ≤ 4))
+    → one_if (is_some o) ≤ one_if (stands_at 4 o) + (one_if (stands_at 3 o) + (one_if (stands_at 2 o) + one_if (stands_at 1 o)))
+one_level None low = omega arith
+one_level (Some p) low = let there = low p refl in of_four p.level there.0 there.1
+  where
+    of_four : (level : ℕ) → 1 ≤ level → level ≤ 4 → 1 ≤ one_if (level == 4) + (one_if (level == 3) + (one_if (level == 2) + one_if (level == 1)))
+    of_four level some most = grind (arith, nat_tests)
+
+-- What is known of each table: it is the root, or for a run that is wanted.
+abbrev AreWanted : Header → List Line → ℕ → (ℕ → Option Position) → Type 0
+AreWanted h lines root stands = (k : ℕ) (p : Position) → stands k ≡ Some p → (k ≡ root) ⊎ IsWantedRun h lines p
+
+module _ (h : Header) (lines : List Line) (root set : ℕ) (role pool host : ℕ → ℕ) (stands : ℕ → Option Position) (T : TreePart h.pool root set role pool host stands) (A : AreWanted h lines root stands) where
+  -- No two tables of a level stand at one run.
+  one_run : (level k l : ℕ) → stands_at level (stands k) ≡ true → stands_at level (stands l) ≡ true → run_of (stands k) ≡ run_of (stands l) → k ≡ l
+  one_run level k l is be same =
+      let x = stands_where level (stands k) is in
+      let y = stands_where level (stands l) be in
+      let run_same : x.0.prefix ≡ y.0.prefix = sym (ap run_of x.1) ∙ same ∙ ap run_of y.1 in
+      T.apart k l x.0 x.1 (y.1 ∙ ap Some (same_position y.0 x.0 (y.2 ∙ sym x.2) (sym run_same)))
+
+  -- the tables of a level below the root's
+  few_of_level : (level : ℕ) → level ≤ 3 → sum_below h.pool (λ k. one_if (stands_at level (stands k))) ≤ count_below (2 ^ 36 / 512 ^ level) (some_line_wants h lines level)
+  few_of_level level below = pigeonhole h.pool (2 ^ 36 / 512 ^ level) (λ k. stands_at level (stands k)) (λ k. run_of (stands k)) (some_line_wants h lines level) (λ k lt is. at k is) (one_run level)
+    where
+      at : (k : ℕ) → stands_at level (stands k) ≡ true → (run_of (stands k) < 2 ^ 36 / 512 ^ level) × (some_line_wants h lines level (run_of (stands k)) ≡ true)
+      at k is = by (A k x.0 x.1)
+        where
+          x : (p : Position) × (stands k ≡ Some p) × (p.level ≡ level)
+          x = stands_where level (stands k) is
+
+          by : (k ≡ root) ⊎ IsWantedRun h lines x.0 → (run_of (stands k) < 2 ^ 36 / 512 ^ level) × (some_line_wants h lines level (run_of (stands k)) ≡ true)
+          by (inl e) =
+              let top : 4 ≡ level = ap level_of (sym T.root_stands ∙ sym (ap stands e) ∙ x.1) ∙ x.2 in
+              absurd (omega (arith, top, below))
+          by (inr R) =
+              let run_is : x.0.prefix ≡ run_of (stands k) = sym (ap run_of x.1) in (
+                subst (λ i. i < 2 ^ 36 / 512 ^ level) run_is (subst (λ n. x.0.prefix < 2 ^ 36 / 512 ^ n) x.2 R.below),
+                subst (λ i. some_line_wants h lines level i ≡ true) run_is (subst (λ n. some_line_wants h lines n x.0.prefix ≡ true) x.2 R.wanted),
+              )
+
+  -- The root stands alone at its level.
+  few_roots : sum_below h.pool (λ k. one_if (stands_at 4 (stands k))) ≤ 1
+  few_roots = omega (arith, pigeonhole h.pool 1 (λ k. stands_at 4 (stands k)) (λ k. run_of (stands k)) (λ index. true) (λ k lt is. (at k is, refl)) (one_run 4), count_le 1 (λ index. true))
+    where
+      at : (k : ℕ) → stands_at 4 (stands k) ≡ true → run_of (stands k) < 1
+      at k is = by (A k x.0 x.1)
+        where
+          x : (p : Position) × (stands k ≡ Some p) × (p.level ≡ 4)
+          x = stands_where 4 (stands k) is
+
+          by : (k ≡ root) ⊎ IsWantedRun h lines x.0 → run_of (stands k) < 1
+          by (inl e) = let first : run_of (stands k) ≡ 0 = ap run_of (ap stands e ∙ T.root_stands) in omega (arith, first)
+          by (inr R) = let run_is : x.0.prefix ≡ run_of (stands k) = sym (ap run_of x.1) in subst (λ i. i < 1) run_is (subst (λ n. x.0.prefix < 2 ^ 36 / 512 ^ n) x.2 R.below)
+
+  -- the tables altogether, by level
+  abbrev of_level : ℕ → ℕ
+  of_level level = sum_below h.pool (λ k. one_if (stands_at level (stands k)))
+
+  by_level : sum_below h.pool (λ k. one_if (is_some (stands k))) ≤ of_level 4 + (of_level 3 + (of_level 2 + of_level 1))
+  by_level =
+      let each = sum_mono h.pool (λ k. one_if (is_some (stands k))) (λ k. one_if (stands_at 4 (stands k)) + (one_if (stands_at 3 (stands k)) + (one_if (stands_at 2 (stands k)) + one_if (stands_at 1 (stands k)))))
+      (λ k. one_level (stands k) (λ p is. let there = T.there k p is in (there.1, there.2))) in
+      let a = sum_plus h.pool (λ k. one_if (stands_at 4 (stands k))) (λ k. one_if (stands_at 3 (stands k)) + (one_if (stands_at 2 (stands k)) + one_if (stands_at 1 (stands k)))) in
+      let b = sum_plus h.pool (λ k. one_if (stands_at 3 (stands k))) (λ k. one_if (stands_at 2 (stands k)) + one_if (stands_at 1 (stands k))) in
+      let c = sum_plus h.pool (λ k. one_if (stands_at 2 (stands k))) (λ k. one_if (stands_at 1 (stands k))) in
+      omega (arith, each, a, b, c)
+
+-- Four pages more than there are tables below the root: enough for the root, the slot set, and a free page.
+room : (pool need_ upper middle lower free tables sets roots third second first : ℕ) → 4 + upper + middle + lower ≡ need_ → need_ ≤ pool → pool ≤ free + (tables + sets) → sets ≤ 1
+    → tables ≤ roots + (third + (second + first)) → roots ≤ 1 → third ≤ upper → second ≤ middle → first ≤ lower → 1 ≤ free
+room pool need_ upper middle lower free tables sets roots third second first is most all one levels a b c d = omega arith
+
+need_is : (h : Header) (lines : List Line) → 4 + count_below (2 ^ 36 / 512 ^ 3) (some_line_wants h lines 3) + count_below (2 ^ 36 / 512 ^ 2) (some_line_wants h lines 2) + count_below (2 ^ 36 / 512 ^ 1) (some_line_wants h lines 1) ≡ need h lines
+unfolding need
+need_is h lines = refl
+
+one_set : (n slots : ℕ) → sum_below n (λ k. one_if (slots == k)) ≤ 1
+one_set n slots =
+    omega (arith, pigeonhole n 1 (λ k. slots == k) (λ k. 0) (λ index. true) (λ k lt is. (omega arith, refl)) (λ k l is be same. sym ((Decides-eqb slots k).0 is) ∙ (Decides-eqb slots l).0 be), count_le 1 (λ index. true))
+
+owns_none : (n : ℕ) (owned : ℕ → Option OwnedPage) (k : ℕ) → ((i : ℕ) → i < n → owned i ≡ None) → owners n owned k ≡ 0
+owns_none n owned k none = sum_none n (λ i. one_if (is_owned (owned i) k)) (λ i lt. ap (λ (o : Option OwnedPage). one_if (is_owned o k)) (none i lt))
+
+-- Where no actor owns a page, each page is free, a table, or the published slot set.
+free_or_not : (n pages slots : ℕ) (map : ℕ → ℕ) (owned : ℕ → Option OwnedPage) (stands : ℕ → Option Position) → PoolPart n pages slots map owned stands → ((i : ℕ) → i < n → owned i ≡ None)
+    → pages ≤ sum_below pages (λ k. one_if (is_free map k)) + (sum_below pages (λ k. one_if (is_some (stands k))) + sum_below pages (λ k. one_if (slots == k)))
+free_or_not n pages slots map owned stands P none =
+    let each = sum_each pages (λ k. one_if (is_free map k) + (one_if (is_some (stands k)) + one_if (slots == k))) (λ k lt. let e = P.each k lt in let o = owns_none n owned k none in omega (arith, e, o)) in
+    let a = sum_plus pages (λ k. one_if (is_free map k)) (λ k. one_if (is_some (stands k)) + one_if (slots == k)) in
+    let b = sum_plus pages (λ k. one_if (is_some (stands k))) (λ k. one_if (slots == k)) in
+    omega (arith, each, a, b)
+
+-- what is known of each table behind a list of steps
+wanted_behind : (h : Header) (lines : List Line) (w : World Held) (ss : List (Step Kind)) → IsStart (sizes_of h) lines w → Legal mmu w ss → (G : IsSound (sizes_of h) (run mmu w ss))
+    → AreWanted h lines (word_in (sizes_of h) (run mmu w ss) area.Root 0) G.topics.stands
+wanted_behind h lines w ss start legal G k p is = by (G.topics.tree.wanted k p is)
+  where
+    z : Sizes
+    z = sizes_of h
+
+    by : (k ≡ word_in z (run mmu w ss) area.Root 0) ⊎ IsWanted (word_in z (run mmu w ss) area.Pool) (word_in z (run mmu w ss) area.Slots 0) p → (k ≡ word_in z (run mmu w ss) area.Root 0) ⊎ IsWantedRun h lines p
+    by (inl e) = inl e
+    by (inr W) =
+        let there = G.topics.tree.there k p is in
+        inr (wanted_by_line h lines w ss p start legal there.1 there.2 (subst (λ s. IsWanted (word_in z (run mmu w ss) area.Pool) s p) G.holds.set.published W))
+
+pub enough_pages : EnoughPages
+enough_pages h lines w ss start legal most none =
+    let z : Sizes = sizes_of h in
+    let u : World Held = run mmu w ss in
+    let G : IsSound z u = good_run z w ss (start_good z lines w start) legal in
+    let A = wanted_behind h lines w ss start legal G in
+    let T = G.topics.tree in
+    let root : ℕ = word_in z u area.Root 0 in
+    let set : ℕ = word_in z u area.Slots 0 in
+    let role : ℕ → ℕ = word_in z u area.Role in
+    let pool : ℕ → ℕ = word_in z u area.Pool in
+    let host : ℕ → ℕ = word_in z u area.Host in
+    let few = few_of_level h lines root set role pool host G.topics.stands T A in
+    let some = room h.pool (need h lines) _ _ _ _ _ _ _ _ _ _ (need_is h lines) most
+    (free_or_not (actors_of z) h.pool set (word_in z u area.PoolMap) (λ i. (hand_in mmu u i).topics.owned) G.topics.stands G.topics.pool_part none) (one_set h.pool set)
+    (by_level h lines root set role pool host G.topics.stands T A) (few_roots h lines root set role pool host G.topics.stands T A)
+    (few 3 (omega arith)) (few 2 (omega arith)) (few 1 (omega arith)) in
+    let found = sum_some h.pool (λ k. is_free (word_in z u area.PoolMap) k) some in
+    record { page = found.0; there = found.1; free = found.2 }
+
+-- a page that isn't free, owned or the slot set is a table
+no_owner : (n : ℕ) (owned : ℕ → Option OwnedPage) (k : ℕ) → ((i : ℕ) → i < n → is_owned (owned i) k ≡ false) → owners n owned k ≡ 0
+no_owner n owned k none = sum_none n (λ i. one_if (is_owned (owned i) k)) (λ i lt. ap one_if (none i lt))
+
+is_table : (free : Bool) (owners_ slots k : ℕ) (o : Option Position) → one_if free + owners_ + one_if (is_some o) + one_if (slots == k) ≡ 1 → free ≡ false → owners_ ≡ 0 → k ≢ slots → (p : Position) × (o ≡ Some p)
+is_table free owners_ slots k None all is none ne = absurd (not_one free owners_ slots k all is none ne)
+  where
+    not_one : (free : Bool) (owners_ slots k : ℕ) → one_if free + owners_ + 0 + one_if (slots == k) ≡ 1 → free ≡ false → owners_ ≡ 0 → k ≢ slots → ⊥
+    not_one free owners_ slots k all is none ne = grind (arith, nat_tests)
+is_table free owners_ slots k (Some p) all is none ne = (p, refl)
+
+-- A table for a run that is wanted is the root, or stands below it, where its role says.
+wanted_below : (h : Header) (lines : List Line) (root set : ℕ) (role pool host : ℕ → ℕ) (stands : ℕ → Option Position) → TreePart h.pool root set role pool host stands → (k : ℕ) (p : Position) → stands k ≡ Some p
+    → IsWantedRun h lines p → (p.level ≡ 4) ⊎ (p.level ≢ 4) → (k ≡ root) ⊎ IsWantedTable h lines (role k)
+wanted_below h lines root set role pool host stands T k p is R (inl e) =
+    let first : p.prefix < 1 = subst (λ n. p.prefix < 2 ^ 36 / 512 ^ n) e R.below in
+    inl (T.apart k root p is (T.root_stands ∙ ap Some (same_position (at 4 0) p (sym e) (omega (arith, first)))))
+wanted_below h lines root set role pool host stands T k p is R (inr ne) =
+    let there = T.there k p is in
+    inr (subst (IsWantedTable h lines) (sym (T.roles k p is)) (record { below_root = (there.1, omega (arith, there.2, ne)); index = p.prefix; wanted = R.wanted }))
+
+pub each_table_is_wanted : EachTableIsWanted
+each_table_is_wanted h lines w ss k start legal there taken none ne = by (wanted_behind h lines w ss start legal G k table.0 table.1)
+  where
+    z : Sizes
+    z = sizes_of h
+
+    u : World Held
+    u = run mmu w ss
+
+    G : IsSound z u
+    G = good_run z w ss (start_good z lines w start) legal
+
+    table : (p : Position) × (G.topics.stands k ≡ Some p)
+    table = is_table (is_free (word_in z u area.PoolMap) k) (owners (actors_of z) (λ i. (hand_in mmu u i).topics.owned) k) (word_in z u area.Slots 0) k (G.topics.stands k)
+        (G.topics.pool_part.each k there) taken (no_owner (actors_of z) (λ i. (hand_in mmu u i).topics.owned) k none) ne
+
+    by : (k ≡ word_in z u area.Root 0) ⊎ IsWantedRun h lines table.0 → (k ≡ word_in z u area.Root 0) ⊎ IsWantedTable h lines (word_in z u area.Role k)
+    by (inl e) = inl e
+    by (inr R) = wanted_below h lines (word_in z u area.Root 0) (word_in z u area.Slots 0) (word_in z u area.Role) (word_in z u area.Pool) (word_in z u area.Host) G.topics.stands G.topics.tree k table.0 table.1 R (same_or table.0.level 4)

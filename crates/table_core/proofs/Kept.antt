@@ -1,0 +1,24 @@
+-- Each step keeps the invariant.
+use Rattle.std.proofs.Common.{ℕ}
+use Rattle.table_views.specs.declared.place.Place.{Place}
+use Rattle.table_views.specs.declared.place.Place.TheVariants as place
+use Rattle.table_views.specs.declared.sizes.Sizes.{Sizes}
+use Rattle.table_views.specs.declared.trace.Command.{Command}
+use Rattle.table_views.specs.declared.trace.Command.TheVariants.{Access, SetSlot}
+use Rattle.table_views.specs.declared.trace.Line.{Line}
+use Rattle.table_core.specs.Invariant.{Invariant}
+use Rattle.table_core.specs.TopicsInvariant.{TopicsInvariant}
+use Rattle.table_core.specs.View.{View, stepped}
+use Rattle.table_core.proofs.AccessKept.{access_kept}
+use Rattle.table_core.proofs.AccessParts.{AreSmall, makes_parts}
+use Rattle.table_core.proofs.KnowsKept.{knows_behind, step_knows}
+use Rattle.table_core.proofs.SetSlotKept.{set_slot_kept}
+use Rattle.table_core.proofs.Stepping.{IsStep}
+
+pub step_kept : (z : Sizes) (v : View) (a : ℕ) (line : Line) (command : Command) (p : Place) → AreSmall v → IsStep z v a line command p → Invariant z v → TopicsInvariant z v → Invariant z (stepped a line command p v)
+step_kept z v a line command place.Between small S I P = absurd S.begun
+step_kept z v a line (Access gfn word op) (place.Access p) small S I P =
+    access_kept z v a line p gfn word op S I P (step_knows z v a line (Access gfn word op) (place.Access p) S I) (makes_parts z v a line p gfn word op small S I P) (knows_behind z v a line (Access gfn word op) (place.Access p) S I P)
+step_kept z v a line (SetSlot id slot) (place.Access p) small S I P = absurd S.holds
+step_kept z v a line (Access gfn word op) (place.SetSlot p) small S I P = absurd S.holds
+step_kept z v a line (SetSlot id slot) (place.SetSlot p) small S I P = set_slot_kept z v a line p id slot S I (knows_behind z v a line (SetSlot id slot) (place.SetSlot p) S I P)

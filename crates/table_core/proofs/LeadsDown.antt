@@ -1,0 +1,82 @@
+-- Links lead from the root to an entry exactly where they do so from a table that stands over the guest frame.
+use Rattle.std.proofs.Math.Nat.{div-div-eq-div-mul}
+use Rattle.std.proofs.Common.{◌≡◌, ◌⊎◌, inl, inr, ◌+◌, ◌-◌, ◌/◌, ◌%◌, ◌^◌, ◌<◌, ◌≤◌, ℕ, zero, suc, sym, subst, ap, ◌∙◌, arith}
+use Rattle.std.specs.Prelude.{Option, Some}
+use Rattle.table_views.specs.declared.sizes.Sizes.{Sizes}
+use Rattle.table_views.specs.Held.{Held}
+use Rattle.table_words.specs.declared.area.Area.TheVariants as area
+use Rattle.table_words.specs.declared.spte_kind.SpteKind.{SpteKind}
+use Rattle.table_words.specs.Areas.{pool_index}
+use Rattle.table_words.specs.Entries.{kind_of, level_span}
+use Rattle.table_words.proofs.ReadsEntries.{kind_of_table}
+use Rattle.table_words.proofs.Spans.{span_above}
+use Rattle.table_core.specs.FaultAlone.{LeadSame, LeadsTo}
+use Rattle.table_core.specs.Laws.{IsSound}
+use Rattle.table_core.specs.Machine.{World}
+use Rattle.table_core.specs.PartSteps.{entry_index}
+use Rattle.table_core.specs.TopicSteps.{linked_page}
+use Rattle.table_core.specs.TreePart.{IsLinked, Position, TreePart, at}
+use Rattle.table_core.specs.View.{word_in}
+use Rattle.table_core.proofs.TreeStored.{one_position}
+
+same_page : {k l : ℕ} → Some k ≡ Some l → k ≡ l
+same_page e = cc e
+
+-- the run of a guest frame, one level up
+run_above : (gfn level : ℕ) → 1 ≤ level → gfn / level_span level / 512 ≡ gfn / level_span (level + 1)
+run_above gfn level from = div-div-eq-div-mul gfn (level_span level) 512 ∙ ap (λ n. gfn / n) (let up = span_above level from in omega (arith, up))
+
+module _ (pages root set : ℕ) (role pool host : ℕ → ℕ) (stands : ℕ → Option Position) (T : TreePart pages root set role pool host stands) (few : pages ≤ 2 ^ 32) (gfn entry : ℕ) where
+  -- the table that is linked by an entry leads on where it is the guest frame's
+  one_down : (level page below : ℕ) → linked_page (kind_of (suc (suc level)) (pool (pool_index page (entry_index gfn (suc (suc level)))))) ≡ Some below
+      → LeadSame pool root (suc (suc level)) page gfn entry → LeadSame pool root (suc level) below gfn entry
+  one_down level page below link S = record {
+    below = λ from. let down = S.below from in subst (λ k. LeadsTo pool (suc level) k gfn entry) (same_page (sym down.1 ∙ link)) down.2;
+    above = λ leads. S.above (below, link, leads);
+  }
+
+  -- So it is with each table over the guest frame, from the top level down.
+  leads_at_root : (level page : ℕ) → stands page ≡ Some (at (suc level) (gfn / level_span (suc level) / 512)) → page ≡ root → LeadSame pool root (suc level) page gfn entry
+  leads_at_root level page at_page e =
+      let top : suc level ≡ 4 = ap (λ (p : Position). p.level) (one_position (sym at_page ∙ ap stands e ∙ T.root_stands)) in
+      subst (λ l. LeadSame pool root l page gfn entry) (sym top) (subst (λ k. LeadSame pool root 4 k gfn entry) (sym e) (record { below = λ leads. leads; above = λ leads. leads }))
+
+  -- the table's parent stands over the guest frame too, and its entry there is the link
+  parent_over : (level page : ℕ) (L : IsLinked pool stands page (at (suc level) (gfn / level_span (suc level) / 512))) → stands L.parent ≡ Some (at (suc (suc level)) (gfn / level_span (suc (suc level)) / 512))
+  parent_over level page L =
+      let one : suc level + 1 ≡ suc (suc level) = omega arith in
+      let run : gfn / level_span (suc level) / 512 ≡ gfn / level_span (suc (suc level)) = run_above gfn (suc level) (omega arith) ∙ ap (λ n. gfn / level_span n) one in
+      L.above ∙ ap (λ n. Some (at n (gfn / level_span (suc level) / 512 / 512))) one ∙ ap (λ n. Some (at (suc (suc level)) (n / 512))) run
+
+  parent_links : (level page : ℕ) → stands page ≡ Some (at (suc level) (gfn / level_span (suc level) / 512)) → (L : IsLinked pool stands page (at (suc level) (gfn / level_span (suc level) / 512)))
+      → linked_page (kind_of (suc (suc level)) (pool (pool_index L.parent (entry_index gfn (suc (suc level)))))) ≡ Some page
+  parent_links level page at_page L =
+      let one : suc level + 1 ≡ suc (suc level) = omega arith in
+      let run : gfn / level_span (suc (suc level)) ≡ gfn / level_span (suc level) / 512 = sym (run_above gfn (suc level) (omega arith) ∙ ap (λ n. gfn / level_span n) one) in
+      ap (λ n. linked_page (kind_of (suc (suc level)) (pool (pool_index L.parent (n % 512))))) run
+      ∙ ap (λ w. linked_page (kind_of (suc (suc level)) w)) L.link
+      ∙ ap (λ (k : SpteKind). linked_page k) (kind_of_table (suc (suc level)) page (omega arith) (let lt = (T.there page _ at_page).0 in omega (arith, lt, few)))
+
+  -- The table is the root, or linked.
+  leads_from : (level page : ℕ) → stands page ≡ Some (at (suc level) (gfn / level_span (suc level) / 512))
+      → ((k : ℕ) → suc level < 4 → stands k ≡ Some (at (suc (suc level)) (gfn / level_span (suc (suc level)) / 512)) → LeadSame pool root (suc (suc level)) k gfn entry)
+      → LeadSame pool root (suc level) page gfn entry
+  leads_from level page at_page over = by (T.linked page _ at_page)
+    where
+      by : (page ≡ root) ⊎ IsLinked pool stands page (at (suc level) (gfn / level_span (suc level) / 512)) → LeadSame pool root (suc level) page gfn entry
+      by (inl e) = leads_at_root level page at_page e
+      by (inr L) = one_down level L.parent page (parent_links level page at_page L) (over L.parent L.lower (parent_over level page L))
+
+  leads_by : (above level page : ℕ) → level + above ≡ 3 → stands page ≡ Some (at (suc level) (gfn / level_span (suc level) / 512)) → LeadSame pool root (suc level) page gfn entry
+  leads_by zero level page levels at_page = leads_from level page at_page (λ k lower at_k. absurd (omega (arith, levels, lower)))
+  leads_by (suc n) level page levels at_page = leads_from level page at_page (λ k lower at_k. leads_by n (suc level) k (omega (arith, levels)) at_k)
+
+  pub leads_same : (level page : ℕ) → stands page ≡ Some (at level (gfn / level_span level / 512)) → LeadSame pool root level page gfn entry
+  leads_same zero page at_page = absurd (let low = (T.there page _ at_page).1 in omega (arith, low))
+  leads_same (suc level) page at_page = leads_by (3 - level) level page (let most = (T.there page _ at_page).2 in omega (arith, most)) at_page
+
+pub leads_down : (z : Sizes) (w : World Held) (gfn page level entry : ℕ) (sound : IsSound z w) → sound.topics.stands page ≡ Some (at level (gfn / level_span level / 512))
+    → LeadSame (word_in z w area.Pool) (word_in z w area.Root 0) level page gfn entry
+leads_down z w gfn page level entry sound at_page =
+    let I = sound.topics in
+    leads_same z.pool (word_in z w area.Root 0) (word_in z w area.Slots 0) (word_in z w area.Role) (word_in z w area.Pool) (word_in z w area.Host) I.stands I.tree (let most = sound.holds.sizes.pool.1 in omega (arith, most)) gfn entry level page at_page

@@ -1,0 +1,37 @@
+-- What the steps of the parts rest on holds of every hand that some world has; with it, a hand with no line left may make each step that it holds the needs of.
+use Rattle.std.proofs.Common.{◌≡◌, inr, ◌<◌, ℕ, refl, subst}
+use Rattle.std.specs.Prelude.{false}
+use Rattle.std.proofs.Math.Logic.{∥∥₁_elim}
+use Rattle.table_views.specs.declared.sizes.Sizes.{Sizes}
+use Rattle.table_views.specs.Held.{Held}
+use Rattle.table_views.specs.Sizes.{actors_of}
+use Rattle.table_core.specs.declared.part_step.PartStep.{PartStep}
+use Rattle.table_core.specs.Enabled.{Enabled, IsPartStep, mmu}
+use Rattle.table_core.specs.Laws.{IsSound}
+use Rattle.table_core.specs.Machine.{World, hand_in}
+use Rattle.table_core.specs.PartRests.{MayMake, PartRests}
+use Rattle.table_core.specs.PartSteps.{PartNeeds, part_kind}
+use Rattle.table_core.specs.Steps.{has_line}
+use Rattle.table_core.specs.View.{view}
+use Rattle.table_core.specs.Worlds.{HandReached}
+use Rattle.table_core.proofs.PartBounded.{part_rests_at}
+use Rattle.table_core.proofs.PartFits.{part_small}
+pub use Rattle.table_core.proofs.PartFits.{part_within}
+use Rattle.table_core.proofs.RestsKept.{part_rests_prop}
+use Rattle.table_core.proofs.Starts.{reached_good}
+
+pub rests_in : (z : Sizes) (w : World Held) (i : ℕ) → IsSound z w → i < actors_of z → PartRests (hand_in mmu w i)
+rests_in z w i G there = part_rests_at z (view z w) i G.holds G.topics there
+
+pub reached_part_rests : (h : Held) → ∥ HandReached h ∥₁ → PartRests h
+reached_part_rests h reached = ∥∥₁_elim reached (part_rests_prop h) (λ x. let G = reached_good x.world x.reached in subst PartRests x.has (rests_in x.reached.sizes x.world x.actor G (subst (λ n. x.actor < n) G.hands x.there)))
+
+enabled_part : (h : Held) (step : PartStep) (note : ℕ) → IsPartStep h (part_kind h step note) → Enabled h (part_kind h step note)
+unfolding Enabled
+enabled_part h step note e = inr e
+
+pub may_make : (h : Held) (step : PartStep) (note : ℕ) → PartRests h → has_line h ≡ false → PartNeeds step h → MayMake step note h
+may_make h step note R none N = record {
+  needs = N;
+  enabled = enabled_part h step note (record { none_left = none; sizes = R.sizes; step = step; note = note; is = refl; needs = N; within = part_within step h N R; small = part_small step h note N R });
+}

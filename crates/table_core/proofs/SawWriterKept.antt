@@ -1,0 +1,74 @@
+-- Who has yet to take itself out of the readers saw a writer: each step keeps it.
+use Rattle.std.proofs.Common.{◌≡◌, ◌<◌, ℕ, refl, sym, subst}
+use Rattle.std.specs.Prelude.{Bool, true, false, ◌==◌, if◌then◌else◌}
+use Rattle.table_views.specs.declared.place.Place.TheVariants as place
+use Rattle.table_views.specs.declared.place.SetSlotPlace.{SetSlotPlace}
+use Rattle.table_views.specs.declared.sizes.Sizes.{Sizes}
+use Rattle.table_views.specs.declared.topics.Hold.TheVariants.{Shared, Owing, Exclusive}
+use Rattle.table_views.specs.declared.topics.Topics.{Topics}
+use Rattle.table_views.specs.declared.trace.Command.TheVariants.{SetSlot}
+use Rattle.table_views.specs.declared.trace.Line.{Line}
+use Rattle.table_views.specs.declared.trace.Slot.{Slot}
+use Rattle.table_views.specs.Held.{Held}
+use Rattle.table_views.specs.Sizes.{actors_of}
+use Rattle.table_core.specs.declared.part_step.PartStep.{PartStep}
+use Rattle.table_core.specs.declared.part_step.PartStep.TheVariants as part
+use Rattle.table_core.specs.Invariant.{Invariant}
+use Rattle.table_core.specs.LockPart.{SawWriter}
+use Rattle.table_core.specs.PartTopics.{part_topics}
+use Rattle.table_core.specs.TopicsInvariant.{TopicsInvariant}
+use Rattle.table_core.specs.TopicSteps.{has_writer}
+use Rattle.table_core.specs.View.{View, part_stepped, stepped}
+use Rattle.table_core.proofs.Columns.{at_upd}
+use Rattle.table_core.proofs.LineTopicsKept.{still_rests}
+use Rattle.table_core.proofs.PartStepping.{IsPart}
+use Rattle.table_core.proofs.PartTopics.{behind_step}
+use Rattle.table_core.proofs.Stepping.{IsStep}
+
+saw_behind : (step : PartStep) (t : Topics) (v : ℕ) → SawWriter t.hold → SawWriter (part_topics step t v).hold
+saw_behind part.Share t v saw = by (has_writer v) refl
+  where
+    by : (b : Bool) → has_writer v ≡ b → SawWriter (if b then Owing v else Shared)
+    by true is = is
+    by false is = tt
+saw_behind part.Exclude t v saw = by (v == 0)
+  where
+    by : (b : Bool) → SawWriter (if b then Exclusive else t.hold)
+    by true = tt
+    by false = saw
+saw_behind part.Unshare t v saw = tt
+saw_behind part.Release t v saw = tt
+saw_behind part.Enter t v saw = saw
+saw_behind part.Leave t v saw = saw
+saw_behind part.Pause t v saw = saw
+saw_behind part.Begin t v saw = saw
+saw_behind part.End t v saw = saw
+saw_behind (part.Map word) t v saw = saw
+saw_behind part.Claim t v saw = saw
+saw_behind (part.Fill value) t v saw = saw
+saw_behind part.Give t v saw = saw
+saw_behind part.Slots t v saw = saw
+saw_behind part.Slot t v saw = saw
+saw_behind part.Seq t v saw = saw
+saw_behind part.Count t v saw = saw
+saw_behind part.RangeStart t v saw = saw
+saw_behind part.RangeEnd t v saw = saw
+saw_behind part.Root t v saw = saw
+saw_behind (part.Walk gfn) t v saw = saw
+saw_behind (part.Link gfn) t v saw = saw
+saw_behind (part.Leaf gfn) t v saw = saw
+saw_behind (part.Host page) t v saw = saw
+saw_behind (part.Watch index) t v saw = saw
+
+abbrev pub SawAt : Sizes → View → Type 0
+SawAt z v = (i : ℕ) → i < actors_of z → SawWriter (v.hand i).topics.hold
+
+pub saw_kept : (z : Sizes) (v : View) (a : ℕ) (step : PartStep) (note : ℕ) → IsPart z v a step → TopicsInvariant z v → SawAt z (part_stepped a step note v)
+saw_kept z v a step note S I =
+    behind_step (SawAt z) z v a step note S
+    (at_upd (λ i (h : Held). i < actors_of z → SawWriter h.topics.hold) v.hand a _ (λ lt. saw_behind step (v.hand a).topics _ (I.saw_writer a lt)) (λ i ne lt. I.saw_writer i lt))
+
+pub setting_saw_kept : (z : Sizes) (v : View) (a : ℕ) (line : Line) (p : SetSlotPlace) (id : ℕ) (slot : Slot) → IsStep z v a line (SetSlot id slot) (place.SetSlot p) → Invariant z v → TopicsInvariant z v
+    → SawAt z (stepped a line (SetSlot id slot) (place.SetSlot p) v)
+setting_saw_kept z v a line p id slot S J I =
+    at_upd (λ i (h : Held). i < actors_of z → SawWriter h.topics.hold) v.hand a _ (λ lt. subst SawWriter (sym (still_rests z v a line p id slot S J I).hold) (I.saw_writer a lt)) (λ i ne lt. I.saw_writer i lt)

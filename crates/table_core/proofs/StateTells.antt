@@ -1,0 +1,44 @@
+-- What the state word of an actor tells of where it is, and at which place the actor stands.
+use Rattle.std.proofs.Common.{◌≡◌, ◌<◌, ◌%◌, ℕ, length, sym, subst, ap, ◌∙◌, arith}
+use Rattle.std.specs.Prelude.{not}
+use Rattle.std.proofs.Math.Logic.{∥∥₁_elim}
+use Rattle.std.proofs.Props.{props}
+use Rattle.std.proofs.lemmas.Bool.Decides.{nat_tests}
+use Rattle.table_views.specs.declared.sizes.Sizes.{Sizes}
+use Rattle.table_views.specs.declared.topics.Stay.{Stay}
+use Rattle.table_views.specs.declared.topics.Stay.TheVariants.{Outside, Guest, Section}
+use Rattle.table_views.specs.Held.{Held}
+use Rattle.table_views.specs.Sizes.{actors_of, index_of}
+use Rattle.table_words.specs.declared.area.Area.TheVariants as area
+use Rattle.table_core.specs.Enabled.{mmu}
+use Rattle.table_core.specs.Laws.{IsSound}
+use Rattle.table_core.specs.Machine.{World, hand_in}
+use Rattle.table_core.specs.PartSteps.{own_index}
+use Rattle.table_core.specs.StatesPart.{stay_bits}
+use Rattle.table_core.specs.TopicSteps.{in_section, is_outside}
+use Rattle.table_core.specs.View.{word_in}
+use Rattle.table_core.specs.Worlds.{Reachable}
+use Rattle.table_core.proofs.Starts.{reached_good}
+
+bit_tells : (x : ℕ) (stay : Stay) → x < 8 → x % 4 ≡ stay_bits stay → in_section x ≡ not (is_outside stay)
+bit_tells x Outside lt is = grind (arith, nat_tests)
+bit_tells x Guest lt is = grind (arith, nat_tests)
+bit_tells x Section lt is = grind (arith, nat_tests)
+
+-- Bit 1 of an actor's state word is clear exactly where the actor is outside.
+pub word_tells : (z : Sizes) (w : World Held) (i : ℕ) → IsSound z w → i < actors_of z → in_section (word_in z w area.State i) ≡ not (is_outside (hand_in mmu w i).topics.stay)
+word_tells z w i G there = let S = G.topics.states_part i there in bit_tells (word_in z w area.State i) (hand_in mmu w i).topics.stay S.0 S.1
+
+-- The same in a reachable world, whose sizes are those of each of its hands.
+pub state_tells : (w : World Held) (i : ℕ) → ∥ Reachable w ∥₁ → i < length w.hands → in_section (word_in (hand_in mmu w i).state.sizes w area.State i) ≡ not (is_outside (hand_in mmu w i).topics.stay)
+state_tells w i reached there = ∥∥₁_elim reached (hlevel props) (λ r.
+    let G = reached_good w r in
+    let lt = subst (λ n. i < n) G.hands there in
+    subst (λ (y : Sizes). in_section (word_in y w area.State i) ≡ not (is_outside (hand_in mmu w i).topics.stay)) (sym (G.holds.lines i lt).sizes) (word_tells r.sizes w i G lt))
+
+-- A hand's actor stands at the place of the hand.
+pub own_place : (w : World Held) (i : ℕ) → ∥ Reachable w ∥₁ → i < length w.hands → own_index (hand_in mmu w i) ≡ i
+own_place w i reached there = ∥∥₁_elim reached (hlevel props) (λ r.
+    let G = reached_good w r in
+    let O = G.holds.lines i (subst (λ n. i < n) G.hands there) in
+    ap (λ (y : Sizes). index_of y (hand_in mmu w i).state.actor) O.sizes ∙ O.index)

@@ -1,0 +1,95 @@
+-- A step of an actor, with what the invariant says of its hand.
+use Rattle.std.proofs.Common.{◌≡◌, ◌<◌, ℕ, zero, suc, List, [], ◌∷◌, length, refl, sym, subst, arith}
+use Rattle.std.specs.Prelude.{All, Option, Some, None, slice_get, unwrap_or}
+use Rattle.table_views.specs.declared.hand.State.{State}
+use Rattle.table_views.specs.declared.place.Place.{Place}
+use Rattle.table_views.specs.declared.place.Place.TheVariants as place
+use Rattle.table_views.specs.declared.sizes.Sizes.{Sizes}
+use Rattle.table_views.specs.declared.trace.Command.{Command}
+use Rattle.table_views.specs.declared.trace.Command.TheVariants.{Access, SetSlot}
+use Rattle.table_views.specs.declared.trace.Line.{Line}
+use Rattle.table_views.specs.declared.trace.Slot.{Slot}
+use Rattle.table_views.specs.Flat.{no_line}
+use Rattle.table_views.specs.declared.answer.Refusal.{Refusal}
+use Rattle.table_views.specs.Held.{Held}
+use Rattle.table_views.specs.Sizes.{actors_of}
+use Rattle.table_views.specs.Refusals.{set_refusal}
+use Rattle.table_views.specs.SlotSets.{MemorySlots}
+use Rattle.table_views.specs.Traces.{IsCommandFor}
+use Rattle.table_words.specs.declared.area.Area.TheVariants as area
+use Rattle.table_core.specs.Invariant.{Holds, Invariant, UnderWay}
+use Rattle.table_core.specs.Rests.{IsUnderWay}
+use Rattle.table_core.specs.SetSlotSteps.{set_slot_first}
+use Rattle.table_core.specs.Steps.{first_place, line_at, next_line, place_at, standing}
+use Rattle.table_core.specs.View.{View}
+
+-- The actor makes the step of this place for this line, whose command it is.
+pub record IsStep (z : Sizes) (v : View) (a : ℕ) (line : Line) (command : Command) (p : Place) : Type 0 where
+  pub there : a < actors_of z
+  pub left : length (v.hand a).answers < length (v.hand a).lines
+  pub next : line ≡ next_line (v.hand a)
+  pub line_is : line ≡ line_at (v.hand a).state.place (v.hand a)
+  pub command_is : line.command ≡ command
+  pub place_is : place_at (v.hand a).state.place (v.hand a) ≡ p
+  pub begun : IsUnderWay p
+  pub allowed : IsCommandFor z line.actor command
+  pub own : line.actor ≡ (v.hand a).state.actor
+  pub holds : Holds z (v.words area.Pool) (v.words area.Host) p command (v.hand a).slots (v.hand a).state
+
+line_is_next : (p : Place) (h : Held) → UnderWay p h → h.state.place ≡ p → line_at p h ≡ next_line h
+line_is_next place.Between h under is = refl
+line_is_next (place.Access p) h under is = under.0
+line_is_next (place.SetSlot p) h under is = under.0
+
+first_is_begun : (z : Sizes) (slots : MemorySlots) (command : Command) → IsUnderWay (first_place z slots command)
+first_is_begun z slots (Access gfn word op) = tt
+first_is_begun z slots (SetSlot id slot) = tt
+
+pub is_begun : (p : Place) (z : Sizes) (slots : MemorySlots) (command : Command) → IsUnderWay (standing p z slots command)
+is_begun place.Between z slots command = first_is_begun z slots command
+is_begun (place.Access p) z slots command = tt
+is_begun (place.SetSlot p) z slots command = tt
+
+-- the loads of a line that begins: none
+set_slot_begins : (z : Sizes) (pool host : ℕ → ℕ) (id : ℕ) (slot : Slot) (slots : MemorySlots) (s : State) (r : Option Refusal) → set_refusal z.pages id slot slots ≡ r → Holds z pool host (place.SetSlot (set_slot_first r)) (SetSlot id slot) slots s
+set_slot_begins z pool host id slot slots s None is = is
+set_slot_begins z pool host id slot slots s (Some refusal) is = is
+
+first_holds : (z : Sizes) (pool host : ℕ → ℕ) (command : Command) (slots : MemorySlots) (s : State) → Holds z pool host (first_place z slots command) command slots s
+first_holds z pool host (Access gfn word op) slots s = tt
+first_holds z pool host (SetSlot id slot) slots s = set_slot_begins z pool host id slot slots s (set_refusal z.pages id slot slots) refl
+
+standing_holds : (z : Sizes) (pool host : ℕ → ℕ) (q : Place) (h : Held) → h.state.place ≡ q → Holds z pool host q h.state.line.command h.slots h.state → Holds z pool host (standing q z h.slots (line_at q h).command) (line_at q h).command h.slots h.state
+standing_holds z pool host place.Between h is holds = first_holds z pool host (next_line h).command h.slots h.state
+standing_holds z pool host (place.Access p) h is holds = holds
+standing_holds z pool host (place.SetSlot p) h is holds = holds
+
+-- what holds of all lines of a hand holds of its next one
+pub next_has : (P : Line → Type 0) (h : Held) → All P h.lines → length h.answers < length h.lines → P (next_line h)
+next_has P h all left = in_list h.lines (length h.answers) all left
+  where
+    in_list : (lines : List Line) (n : ℕ) → All P lines → n < length lines → P (unwrap_or (slice_get lines n) no_line)
+    in_list [] n all lt = absurd (omega arith)
+    in_list (line ∷ lines) zero all lt = all 0 line (omega arith)
+    in_list (line ∷ lines) (suc n) all lt = in_list lines n (λ k d h. all (suc k) d (omega arith)) (omega arith)
+
+-- the step that a hand is about to make
+pub is_step : (z : Sizes) (v : View) (a : ℕ) → Invariant z v → a < actors_of z → length (v.hand a).answers < length (v.hand a).lines
+    → IsStep z v a (line_at (v.hand a).state.place (v.hand a)) (line_at (v.hand a).state.place (v.hand a)).command (place_at (v.hand a).state.place (v.hand a))
+is_step z v a I there left =
+    let h : Held = v.hand a in
+    let O = I.lines a there in
+    let next : line_at h.state.place h ≡ next_line h = line_is_next h.state.place h O.under refl in
+    record {
+      there = there;
+      left = left;
+      next = next;
+      line_is = refl;
+      command_is = refl;
+      place_is = refl;
+      begun = is_begun h.state.place h.state.sizes h.slots (line_at h.state.place h).command;
+      allowed = subst (λ l. IsCommandFor z l.actor l.command) (sym next) (next_has (λ l. IsCommandFor z l.actor l.command) h O.allowed left);
+      own = subst (λ (l : Line). l.actor ≡ h.state.actor) (sym next) (next_has (λ l. l.actor ≡ h.state.actor) h O.own left);
+      holds = subst (λ y. Holds z (v.words area.Pool) (v.words area.Host) (standing h.state.place y h.slots (line_at h.state.place h).command) (line_at h.state.place h).command h.slots h.state) (sym O.sizes)
+          (standing_holds z (v.words area.Pool) (v.words area.Host) h.state.place h refl (I.loads a there));
+    }

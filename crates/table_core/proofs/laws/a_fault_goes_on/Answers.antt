@@ -1,0 +1,19 @@
+use Rattle.table_core.proofs.FaultFalls.{fault_falls, fault_is_bounded}
+use Rattle.table_core.proofs.FaultKnown.{fault_known, parts_answer}
+use Rattle.table_core.proofs.FaultNeeds.{fault_needs}
+use Rattle.table_core.proofs.laws.a_fault_goes_on.Goals as goal
+
+pub returns-clause-needs : goal.returns-clause-needs
+returns-clause-needs c = fault_needs
+
+pub returns-clause-answers : goal.returns-clause-answers
+returns-clause-answers c = parts_answer
+
+pub returns-clause-known : goal.returns-clause-known
+returns-clause-known c = fault_known
+
+pub returns-clause-falls : goal.returns-clause-falls
+returns-clause-falls c = fault_falls
+
+pub returns-clause-bounded : goal.returns-clause-bounded
+returns-clause-bounded c = fault_is_bounded

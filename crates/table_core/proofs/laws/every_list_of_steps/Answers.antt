@@ -1,0 +1,10 @@
+use Rattle.table_core.proofs.EveryHistory.{every_history}
+use Rattle.table_core.proofs.Starts.{start_good}
+use Rattle.table_core.proofs.Worlds.{good_run}
+use Rattle.table_core.proofs.laws.every_list_of_steps.Goals as goal
+
+pub returns-clause-sound : goal.returns-clause-sound
+returns-clause-sound c z lines w ss start legal = good_run z w ss (start_good z lines w start) legal
+
+pub returns-clause-lawful : goal.returns-clause-lawful
+returns-clause-lawful c = every_history

@@ -1,0 +1,53 @@
+-- The order of a fault's steps can be kept, and comes to an end.
+use Rattle.std.specs.Prelude.{◌≡◌, ◌+◌, ◌^◌, ◌<◌, ◌≤◌, ℕ, Bool, false}
+use Rattle.table_views.specs.declared.place.FaultPlace.{FaultPlace}
+use Rattle.table_views.specs.declared.place.FaultPlace.TheVariants.{Begin}
+use Rattle.table_views.specs.declared.sizes.Sizes.{Sizes}
+use Rattle.table_views.specs.declared.topics.Topics.{Topics}
+use Rattle.table_views.specs.Held.{Held}
+use Rattle.table_views.specs.Sizes.{AreSizes}
+use Rattle.table_words.specs.declared.area.Area.{Area}
+use Rattle.table_core.specs.declared.part_step.PartStep.{PartStep}
+use Rattle.table_core.specs.declared.part_step.PartStep.TheVariants as part
+use Rattle.table_core.specs.FaultKnows.{FaultKnows, KnowsNext}
+use Rattle.table_core.specs.FaultSteps.{fault_left, fault_next, fault_part, next_left, waits}
+use Rattle.table_core.specs.PartRests.{PartRests}
+use Rattle.table_core.specs.PartSteps.{PartNeeds, part_task}
+use Rattle.table_core.specs.PartTopics.{part_topics}
+use Rattle.table_core.specs.View.{answer_in}
+
+-- what a step of a part can answer: a fill what it stored, and every other step any word
+abbrev pub CanAnswer : PartStep → ℕ → Type 0
+CanAnswer (part.Fill value) v = v ≡ value
+CanAnswer _ v = Unit {0}
+
+-- What a step of a part answers is what it can answer, whatever the words are.
+abbrev pub PartsAnswer : Type 0
+PartsAnswer = (step : PartStep) (own : ℕ) (t : Topics) (note : ℕ) (words : Area → ℕ → ℕ) → CanAnswer step (answer_in (part_task step own t note) words)
+
+-- What a fault knows at a place, with what every reachable hand rests on, is what the step of this place needs.
+abbrev pub FaultMeetsNeeds : Type 0
+FaultMeetsNeeds =
+    (p : FaultPlace) (h : Held) (gfn : ℕ) (write : Bool)
+    → gfn < 2 ^ 36 → PartRests h → FaultKnows p h.state.sizes gfn write h.topics
+    → PartNeeds (fault_part p gfn h.topics) h
+
+-- Whatever the step answers, the fault knows behind it what its next place asks.
+abbrev pub FaultStaysKnown : Type 0
+FaultStaysKnown =
+    (p : FaultPlace) (h : Held) (gfn v : ℕ) (write : Bool)
+    → gfn < 2 ^ 36 → PartRests h → FaultKnows p h.state.sizes gfn write h.topics
+    → CanAnswer (fault_part p gfn h.topics) v
+    → KnowsNext (fault_next p h.state.sizes gfn write h.topics v) h.state.sizes gfn write (part_topics (fault_part p gfn h.topics) h.topics v)
+
+-- Each step that doesn't wait for another actor leaves the fault fewer steps.
+abbrev pub FaultStepsFall : Type 0
+FaultStepsFall =
+    (p : FaultPlace) (h : Held) (gfn v : ℕ) (write : Bool)
+    → gfn < 2 ^ 36 → PartRests h → FaultKnows p h.state.sizes gfn write h.topics
+    → waits p h.topics v ≡ false
+    → next_left (fault_next p h.state.sizes gfn write h.topics v) h.state.sizes (part_topics (fault_part p gfn h.topics) h.topics v) < fault_left p h.state.sizes h.topics
+
+-- A fault has at most so many steps.
+abbrev pub FaultIsBounded : Type 0
+FaultIsBounded = (z : Sizes) (t : Topics) → AreSizes z → fault_left Begin z t ≤ 8192 + z.pool

@@ -1,0 +1,33 @@
+-- What the history of a list of steps says beside what the hands hold behind it.
+use Rattle.std.specs.Prelude.{◌≡◌, ◌<◌, ℕ, List, filter, length}
+use Rattle.table_views.specs.declared.actor.Actor.{Actor}
+use Rattle.table_views.specs.declared.answer.AnsweredLine.{AnsweredLine}
+use Rattle.table_views.specs.declared.event.Event.{Event}
+use Rattle.table_views.specs.declared.kind.Kind.{Kind}
+use Rattle.table_views.specs.declared.sizes.Sizes.{Sizes}
+use Rattle.table_views.specs.declared.trace.Line.{Line}
+use Rattle.table_views.specs.Actors.{is_same}
+use Rattle.table_views.specs.Held.{Held}
+use Rattle.table_views.specs.Sizes.{actor_at, actors_of}
+use Rattle.table_views.specs.Text.{answers_of}
+use Rattle.table_views.specs.Whole.{IsWhole}
+use Rattle.table_core.specs.Enabled.{mmu}
+use Rattle.table_core.specs.Machine.{Legal, Step, World, hand_in, run}
+use Rattle.table_core.specs.Worlds.{IsStart, history}
+
+-- the lines of the actor that the history answers, in its order
+abbrev pub answers_by : Actor → List Event → List AnsweredLine
+answers_by actor h = filter (λ x. is_same actor x.actor) (answers_of h)
+
+-- Each hand has answered what the history answers of its actor: the same lines, with the same answers, in the same order.
+abbrev pub AnswersAreTold : Type 0
+AnswersAreTold =
+    (z : Sizes) (lines : List Line) (w : World Held) (ss : List (Step Kind)) (i : ℕ) → IsStart z lines w → Legal mmu w ss → i < actors_of z
+    → (hand_in mmu (run mmu w ss) i).answers ≡ answers_by (actor_at z i) (history w ss)
+
+-- Where each hand has answered all its lines, the history answers the trace: each actor's lines, in its order, each once.
+abbrev pub EndsWhole : Type 0
+EndsWhole =
+    (z : Sizes) (lines : List Line) (w : World Held) (ss : List (Step Kind)) → IsStart z lines w → Legal mmu w ss
+    → ((i : ℕ) → i < actors_of z → length (hand_in mmu (run mmu w ss) i).answers ≡ length (hand_in mmu (run mmu w ss) i).lines)
+    → IsWhole (history w ss) lines

@@ -1,0 +1,42 @@
+-- What holds of every list of steps, from every start.
+use Rattle.std.specs.Prelude.{◌≡◌, ◌<◌, ◌^◌, ℕ, List, length, slice_index}
+use Rattle.table_views.specs.declared.kind.Kind.{Kind}
+use Rattle.table_views.specs.declared.sizes.Sizes.{Sizes}
+use Rattle.table_views.specs.declared.trace.Line.{Line}
+use Rattle.table_views.specs.Flat.{first_flat}
+use Rattle.table_views.specs.Held.{Held}
+use Rattle.table_views.specs.Lawful.{IsLawful}
+use Rattle.table_views.specs.Sizes.{actors_of}
+use Rattle.table_words.specs.declared.area.Area.{Area}
+use Rattle.table_words.specs.declared.area.Area.TheVariants as area
+use Rattle.table_words.specs.Areas.{total}
+use Rattle.table_core.specs.Enabled.{mmu}
+use Rattle.table_core.specs.Invariant.{Invariant}
+use Rattle.table_core.specs.Machine.{Legal, Step, World, run}
+use Rattle.table_core.specs.Tasks.{map_of}
+use Rattle.table_core.specs.TopicsInvariant.{TopicsInvariant}
+use Rattle.table_core.specs.View.{view, word_in}
+use Rattle.table_core.specs.Worlds.{IsStart, history}
+
+-- No invalidation was opened: their sequence number and their count are 0.
+pub record NoneOpened (words : Area → ℕ → ℕ) : Type 0 where
+  pub seq : words area.Seq 0 ≡ 0
+  pub count : words area.Count 0 ≡ 0
+
+-- The words and hands are as many as the machine has, each word is a number below 2 ^ 64, no invalidation was opened, and every part
+-- of the invariant holds: what lines rest on, and what is held of the machine's parts.
+pub record IsSound (z : Sizes) (w : World Held) : Type 0 where
+  pub words : length w.words ≡ total (map_of z)
+  pub hands : length w.hands ≡ actors_of z
+  pub small : (i : ℕ) → slice_index w.words i < 2 ^ 64
+  pub none_opened : NoneOpened (word_in z w)
+  pub holds : Invariant z (view z w)
+  pub topics : TopicsInvariant z (view z w)
+
+-- The world behind every list of steps is sound.
+abbrev pub StaysSound : Type 0
+StaysSound = (z : Sizes) (lines : List Line) (w : World Held) (ss : List (Step Kind)) → IsStart z lines w → Legal mmu w ss → IsSound z (run mmu w ss)
+
+-- What every list of steps tells is what flat guest memory allows, event by event.
+abbrev pub TellsLawfully : Type 0
+TellsLawfully = (z : Sizes) (lines : List Line) (w : World Held) (ss : List (Step Kind)) → IsStart z lines w → Legal mmu w ss → IsLawful z first_flat (history w ss)

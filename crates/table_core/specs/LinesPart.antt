@@ -1,0 +1,35 @@
+-- Lines: whose a hand is, and which of its lines is under way.
+use Rattle.std.specs.Prelude.{◌≡◌, ◌<◌, ◌==◌, ℕ, List, All, length, map, take}
+use Rattle.std.specs.List.{Contains, IsDistinct}
+use Rattle.std.specs.Map.{keys_of}
+use Rattle.table_views.specs.declared.place.Place.{Place}
+use Rattle.table_views.specs.declared.place.Place.TheVariants as place
+use Rattle.table_views.specs.declared.sizes.Sizes.{Sizes}
+use Rattle.table_views.specs.declared.slot_set.MemorySlot.{MemorySlot}
+use Rattle.table_views.specs.declared.trace.Command.TheVariants.{SetSlot}
+use Rattle.table_views.specs.declared.trace.Line.{Line}
+use Rattle.table_views.specs.Held.{Held}
+use Rattle.table_views.specs.Sizes.{index_of}
+use Rattle.table_views.specs.Traces.{IsCommandFor, slot_ids}
+use Rattle.table_core.specs.Steps.{next_line}
+
+-- A line is under way: it is the hand's next line, which has no answer yet.
+abbrev pub UnderWay : Place → Held → Type 0
+UnderWay place.Between h = Unit {0}
+UnderWay (place.Access p) h = (h.state.line ≡ next_line h) × (length h.answers < length h.lines)
+UnderWay (place.SetSlot p) h = (h.state.line ≡ next_line h) × (length h.answers < length h.lines)
+
+-- One of the lines sets this slot at this ID.
+abbrev pub IsSetBy : List Line → ℕ × MemorySlot → Type 0
+IsSetBy lines entry = Contains (map (λ line. line.command) lines) (SetSlot entry.0 entry.1.slot)
+
+-- Lines: whose the hand is, and that its lines are its actor's; no two of them set a slot at one ID, and each slot of its record was set, as it is, by one of them, which is answered.
+pub record OwnLines (z : Sizes) (i : ℕ) (h : Held) : Type 0 where
+  pub sizes : h.state.sizes ≡ z
+  pub index : index_of z h.state.actor ≡ i
+  pub allowed : All (λ line. IsCommandFor z line.actor line.command) h.lines
+  pub own : All (λ line. line.actor ≡ h.state.actor) h.lines
+  pub distinct : IsDistinct (λ i j. i == j) (slot_ids h.lines)
+  pub under : UnderWay h.state.place h
+  pub answered : All (Contains (slot_ids (take (length h.answers) h.lines))) (keys_of h.slots)
+  pub set : All (IsSetBy h.lines) h.slots

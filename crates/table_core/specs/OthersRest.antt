@@ -1,0 +1,19 @@
+-- One actor alone: what the others hold, and who has the lock.
+use Rattle.std.specs.Prelude.{◌≡◌, ◌≢◌, ◌<◌, ℕ, false, length}
+use Rattle.table_views.specs.Held.{Held}
+use Rattle.table_core.specs.Enabled.{mmu}
+use Rattle.table_core.specs.Machine.{World, hand_in}
+use Rattle.table_core.specs.PartSteps.{IsAtRest}
+use Rattle.table_core.specs.TopicSteps.{has_lock, is_alone}
+
+-- Each other actor holds nothing.
+abbrev pub OthersRest : ℕ → World Held → Type 0
+OthersRest a w = (i : ℕ) → i < length w.hands → i ≢ a → IsAtRest (hand_in mmu w i).topics
+
+-- No other actor has the lock.
+abbrev pub NoOtherHasLock : ℕ → World Held → Type 0
+NoOtherHasLock a w = (i : ℕ) → i < length w.hands → i ≢ a → has_lock (hand_in mmu w i).topics.hold ≡ false
+
+-- No actor has the lock alone.
+abbrev pub NoneHasLockAlone : World Held → Type 0
+NoneHasLockAlone w = (i : ℕ) → i < length w.hands → is_alone (hand_in mmu w i).topics.hold ≡ false

@@ -1,0 +1,59 @@
+-- What a job may rest on, from its hand alone: what its line's next step needs.
+use Rattle.std.specs.Prelude.{◌≡◌, ◌≤◌, ◌<◌, ℕ, Option, Some, None}
+use Rattle.table_views.specs.declared.place.Place.{Place}
+use Rattle.table_views.specs.declared.place.Place.TheVariants as place
+use Rattle.table_views.specs.declared.place.SetSlotPlace.{SetSlotPlace}
+use Rattle.table_views.specs.declared.place.SetSlotPlace.TheVariants.{Refuse, Fill}
+use Rattle.table_views.specs.declared.topics.Stay.TheVariants.{Guest}
+use Rattle.table_views.specs.declared.topics.Topics.{Topics}
+use Rattle.table_views.specs.declared.trace.Command.{Command}
+use Rattle.table_views.specs.declared.trace.Command.TheVariants.{Access, SetSlot}
+use Rattle.table_views.specs.declared.trace.Slot.{Slot as SlotOf}
+use Rattle.table_views.specs.Held.{Held}
+use Rattle.table_views.specs.declared.sizes.Sizes.{Sizes}
+use Rattle.table_views.specs.Refusals.{set_refusal}
+use Rattle.table_views.specs.SlotSets.{MemorySlots}
+use Rattle.table_views.specs.Traces.{IsCommandFor}
+use Rattle.table_words.specs.Entries.{frame_in}
+use Rattle.table_core.specs.declared.part_step.PartStep.{PartStep}
+use Rattle.table_core.specs.AccessSteps.{access_part}
+use Rattle.table_core.specs.PartBounds.{PartRests}
+use Rattle.table_core.specs.PartSteps.{IsAtRest, PartNeeds}
+use Rattle.table_core.specs.Steps.{line_at, place_at}
+
+-- what the next step of a line needs: a step of a part its needs, and the touch a frame of the machine, from a stay in the guest
+abbrev pub RestsOn : Option PartStep → Held → Type 0
+RestsOn (Some step) h = PartNeeds step h
+RestsOn None h = (frame_in h.state.leaf < h.state.sizes.frames) × (h.topics.stay ≡ Guest)
+
+abbrev pub SetSlotRests : SetSlotPlace → ℕ → Topics → Type 0
+SetSlotRests (Refuse refusal) id t = IsAtRest t
+SetSlotRests (Fill field) id t = (id ≤ 31) × IsAtRest t
+
+abbrev pub RestsAt : Place → Command → Held → Type 0
+RestsAt (place.Access p) (Access gfn word op) h = RestsOn (access_part p gfn h.topics) h
+RestsAt (place.SetSlot p) (SetSlot id slot) h = SetSlotRests p id h.topics
+RestsAt place.Between command h = Unit {0}
+RestsAt _ _ h = ⊥
+
+-- A line stands there that has begun, or begins with the next step.
+abbrev pub IsUnderWay : Place → Type 0
+IsUnderWay place.Between = ⊥
+IsUnderWay (place.Access p) = Unit {0}
+IsUnderWay (place.SetSlot p) = Unit {0}
+
+-- The manager's own record accepts the slot whose words are stored.
+abbrev pub RecordAccepts : SetSlotPlace → ℕ → ℕ → SlotOf → MemorySlots → Type 0
+RecordAccepts (Refuse refusal) total id slot slots = Unit {0}
+RecordAccepts (Fill field) total id slot slots = set_refusal total id slot slots ≡ None
+
+abbrev pub AcceptsAt : Place → Command → Sizes → MemorySlots → Type 0
+AcceptsAt (place.SetSlot p) (SetSlot id slot) z slots = RecordAccepts p z.pages id slot slots
+AcceptsAt _ _ z slots = Unit {0}
+
+-- What holds of every hand that has a line without an answer.
+pub record Rests (h : Held) : Type 0 where
+  pub part : PartRests h
+  pub line : IsCommandFor h.state.sizes (line_at h.state.place h).actor (line_at h.state.place h).command
+  pub at : RestsAt (place_at h.state.place h) (line_at h.state.place h).command h
+  pub accepts : AcceptsAt (place_at h.state.place h) (line_at h.state.place h).command h.state.sizes h.slots

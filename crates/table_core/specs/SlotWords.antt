@@ -1,0 +1,57 @@
+-- The words of a slot in a slot set, and the leaf of a host page in a slot.
+use Rattle.std.specs.Prelude.{◌+◌, ◌-◌, ◌*◌, ℕ, [], ◌∷◌, ◌++◌, zero, suc, Bool, true, false, ◌&&◌, not, if◌then◌else◌}
+use Rattle.table_views.specs.declared.place.SlotField.{SlotField}
+use Rattle.table_views.specs.declared.place.SlotField.TheVariants.{Base, Pages, Host, Flags}
+use Rattle.table_views.specs.declared.trace.Slot.{Slot}
+use Rattle.table_views.specs.Slots.{Slots}
+use Rattle.table_words.specs.Areas.{pool_index}
+use Rattle.table_words.specs.Entries.{leaf_word}
+use Rattle.table_words.specs.Flags.{flags_word, flags_live, flags_read_only}
+use Rattle.table_words.specs.HostWords.{host_frame, host_allows_write}
+
+-- A slot's four words in its set, in their order.
+abbrev pub field_number : SlotField → ℕ
+field_number Base = 0
+field_number Pages = 1
+field_number Host = 2
+field_number Flags = 3
+
+-- the pool's word that holds a field of the slot with this ID, in the slot set of a pool page
+abbrev pub slot_index : ℕ → ℕ → SlotField → ℕ
+slot_index set id field = pool_index set (4 * id + field_number field)
+
+-- what that word holds of a live slot
+abbrev pub field_word : SlotField → Slot → ℕ
+field_word Base slot = slot.base
+field_word Pages slot = slot.pages
+field_word Host slot = slot.host
+field_word Flags slot = flags_word true slot.read_only false
+
+-- the slot with this ID as the pool's words have it, and whether it is live
+abbrev pub live_at : (ℕ → ℕ) → ℕ → ℕ → Bool
+live_at pool set id = flags_live (pool (slot_index set id Flags))
+
+abbrev pub slot_at : (ℕ → ℕ) → ℕ → ℕ → Slot
+slot_at pool set id = record {
+  base = pool (slot_index set id Base);
+  pages = pool (slot_index set id Pages);
+  host = pool (slot_index set id Host);
+  read_only = flags_read_only (pool (slot_index set id Flags));
+}
+
+-- the live slots with IDs below n, by rising ID
+abbrev pub slots_below : (ℕ → ℕ) → ℕ → ℕ → Slots
+slots_below pool set zero = []
+slots_below pool set (suc n) = slots_below pool set n ++ (if live_at pool set n then (n, slot_at pool set n) ∷ [] else [])
+
+-- the host page behind a guest frame of the slot
+abbrev pub page_of : Slot → ℕ → ℕ
+page_of slot gfn = slot.host + (gfn - slot.base)
+
+-- The host, and the slot too, allow writes to the page whose host word this is.
+abbrev pub may_write : Slot → ℕ → Bool
+may_write slot host = host_allows_write host && not slot.read_only
+
+-- the leaf of a page in the slot, from its host word: with write permission where host and slot allow it
+abbrev pub leaf_of : Slot → ℕ → ℕ
+leaf_of slot host = leaf_word 1 (host_frame host) (may_write slot host) (host_allows_write host) (may_write slot host)

@@ -1,0 +1,30 @@
+-- What holds at every moment of the words of the machine's parts and of what actors hold of them.
+use Rattle.std.specs.Prelude.{◌<◌, ℕ, Option}
+use Rattle.table_views.specs.declared.sizes.Sizes.{Sizes}
+use Rattle.table_views.specs.Held.{Held}
+use Rattle.table_views.specs.Sizes.{actors_of}
+use Rattle.table_words.specs.declared.area.Area.TheVariants as area
+use Rattle.table_core.specs.View.{View}
+pub use Rattle.table_core.specs.HeldPart.{CountersPart, HeldPart}
+pub use Rattle.table_core.specs.LockPart.{LockPart, SawWriter}
+pub use Rattle.table_core.specs.PoolPart.{FilledPart, IsFilled, PoolPart}
+pub use Rattle.table_core.specs.SearchPart.{LookPart, SearchPart}
+pub use Rattle.table_core.specs.StatesPart.{StatesPart}
+pub use Rattle.table_core.specs.TreePart.{Position, TreePart}
+
+-- All parts, of the columns of words and the column of hands; and where each table stands.
+pub record TopicsInvariantOf (z : Sizes) (lock root slots seq : ℕ) (states map host role pool : ℕ → ℕ) (hand : ℕ → Held) : Type 0 where
+  pub stands : ℕ → Option Position
+  pub lock_part : LockPart (actors_of z) lock (λ i. (hand i).topics.hold)
+  pub saw_writer : (i : ℕ) → i < actors_of z → SawWriter (hand i).topics.hold
+  pub states_part : StatesPart (actors_of z) states (λ i. (hand i).topics.stay)
+  pub pool_part : PoolPart (actors_of z) z.pool slots map (λ i. (hand i).topics.owned) stands
+  pub tree : TreePart z.pool root slots role pool host stands
+  pub filled : FilledPart (actors_of z) role pool (λ i. (hand i).topics.owned)
+  pub held : (i : ℕ) → i < actors_of z → HeldPart slots stands (hand i).topics
+  pub searches : (i : ℕ) → i < actors_of z → SearchPart pool (hand i).topics.search
+  pub looks : (i : ℕ) → i < actors_of z → LookPart z seq host (hand i).topics
+  pub counters : (i : ℕ) → i < actors_of z → CountersPart z (hand i).topics
+
+abbrev pub TopicsInvariant : Sizes → View → Type 0
+TopicsInvariant z v = TopicsInvariantOf z (v.words area.Lock 0) (v.words area.Root 0) (v.words area.Slots 0) (v.words area.Seq 0) (v.words area.State) (v.words area.PoolMap) (v.words area.Host) (v.words area.Role) (v.words area.Pool) v.hand

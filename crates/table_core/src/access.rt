@@ -1,0 +1,230 @@
+//! The steps of a guest access.
+ghost use Rattle.std.specs.Prelude.{◌≡◌, ◌≤◌, ◌<◌, All};
+ghost use Rattle.table_views.specs.Slots.{is_write};
+ghost use Rattle.table_core.specs.FaultSteps.{allows_access};
+ghost use Rattle.table_words.specs.Entries.{kind_of};
+ghost use Rattle.table_core.specs.AccessSteps.{access_caches, access_loads, access_note, access_outcome, access_part, access_task, behind_fault, touch_of, walk_next};
+ghost use Rattle.table_core.specs.Cached.{IsAtLeafLevel, allows, covers, first_usable, is_usable};
+ghost use Rattle.table_core.specs.PartBounds.{PartRests};
+ghost use Rattle.table_core.specs.Rests.{RestsOn};
+ghost use Rattle.table_core.specs.Tasks.{map_of};
+ghost use Rattle.table_words.specs.Areas.{size_of};
+ghost use Rattle.table_words.specs.declared.area.Area.TheVariants.{Content};
+
+use crate::outcome::{Outcome, Task};
+use crate::part_step::PartStep;
+use crate::{fault, map_of, part_step};
+use table_views::{
+    AccessPlace, Answer, Cache, FaultEnd, FaultNext, FaultPlace, Hand, Leaving, Op, Place,
+    StepKind, Translation,
+};
+use table_words::{Area, Spte, SpteKind};
+
+// Whether the operation writes.
+fn is_write(op: Op) -> bool
+    ensures { result ≡ is_write op }
+{
+    !matches!(op, Op::Read)
+}
+
+// Whether the translation's leaf covers the guest frame.
+#[tactic(auto, using(table_words::proofs::Spans::span_positive))]
+fn covers(gfn: u64, translation: &Translation) -> bool
+    requires { IsAtLeafLevel translation.now }
+    ensures { result ≡ covers gfn translation.now }
+{
+    let span = Spte::level_span(translation.level);
+    gfn / span == translation.gfn / span
+}
+
+// Whether it allows a read, or a write.
+fn allows(write: bool, translation: &Translation) -> bool
+    ensures { result ≡ allows write translation.now }
+{
+    !write || Spte::from_word(translation.leaf).is_writable()
+}
+
+// Whether an access of the guest frame may use it.
+fn is_usable(gfn: u64, write: bool, translation: &Translation) -> bool
+    requires { IsAtLeafLevel translation.now }
+    ensures { result ≡ is_usable gfn write translation.now }
+{
+    covers(gfn, translation) && allows(write, translation)
+}
+
+/// The newest translation that covers the guest frame and allows the access;
+/// `None` where there is none.
+pub fn lookup(cache: &Cache, gfn: u64, write: bool) -> Option<Translation>
+    requires { All IsAtLeafLevel cache.now.items }
+    ensures { result ≡ first_usable gfn write cache.now.items }
+{
+    for i in 0..cache.len() {
+        if let Some(translation) = cache.get(i) {
+            if is_usable(gfn, write, &translation) {
+                return Some(translation);
+            }
+        }
+    }
+    None
+}
+
+// The touch of a content word.
+fn touch(op: Op, index: u64) -> Task
+    ensures task { result ≡ touch_of op index }
+    ensures word { (result.area ≡ Content) × (result.index ≡ index) }
+{
+    let (kind, written) = match op {
+        Op::Read => (StepKind::Read, 0),
+        Op::Write(number) => (StepKind::Write, number),
+        Op::Add(number) => (StepKind::Add, number),
+    };
+    Task {
+        kind,
+        area: Area::Content,
+        index,
+        expected: 0,
+        written,
+        may_end: 0,
+    }
+}
+
+// The step of this place, but for the touch.
+fn part(place: AccessPlace, gfn: u64, hand: &Hand) -> Option<PartStep>
+    requires rests { RestsOn (access_part place gfn hand.now.core.topics) hand.now.core }
+    requires part { PartRests hand.now.core }
+    ensures { result ≡ access_part place gfn hand.now.core.topics }
+{
+    Some(match place {
+        AccessPlace::Enter { .. } => PartStep::Enter,
+        AccessPlace::Pause { .. } => PartStep::Pause,
+        AccessPlace::Root { .. } => PartStep::Root,
+        AccessPlace::Walk { .. } => PartStep::Walk(gfn),
+        AccessPlace::Touch => return None,
+        AccessPlace::Leave(_) => PartStep::Leave,
+        AccessPlace::Fault(place) => fault::part(place, gfn, hand.topics()),
+    })
+}
+
+// 1 where the line may end with the step of this place.
+fn note(place: AccessPlace) -> u64
+    ensures { result ≡ access_note place }
+{
+    match place {
+        AccessPlace::Leave(Leaving::Reached { .. }) => 1,
+        AccessPlace::Fault(FaultPlace::End(end)) => match end {
+            FaultEnd::Installed | FaultEnd::Retry(_) => 0,
+            FaultEnd::Mmio | FaultEnd::HostFault | FaultEnd::Starved => 1,
+        },
+        _ => 0,
+    }
+}
+
+/// What the step of this place is to do.
+pub(crate) fn task(place: AccessPlace, hand: &Hand, gfn: u64, word: u8, op: Op) -> Task
+    requires rests { RestsOn (access_part place gfn hand.now.core.topics) hand.now.core }
+    requires part { PartRests hand.now.core }
+    requires word { word < hand.now.core.state.sizes.words }
+    ensures task { result ≡ access_task place hand.now.core gfn word op }
+    ensures within { result.index < size_of (map_of hand.now.core.state.sizes) result.area }
+{
+    if let Some(step) = part(place, gfn, hand) {
+        return part_step::task(hand, step, note(place));
+    }
+    let frame = Spte::from_word(hand.state().leaf).frame();
+    touch(op, map_of(&hand.state().sizes).content_index(frame, word))
+}
+
+/// The leaf that the access uses behind the step of this place.
+pub(crate) fn leaf_behind(place: AccessPlace, hand: &Hand, gfn: u64, op: Op, found: u64) -> u64
+    requires part { PartRests hand.now.core }
+    ensures { result ≡ (access_loads place hand.now.core gfn op found).leaf }
+{
+    match place {
+        AccessPlace::Pause { .. } => match lookup(hand.cache(), gfn, is_write(op)) {
+            Some(translation) => translation.leaf,
+            None => hand.state().leaf,
+        },
+        AccessPlace::Walk { .. } => found,
+        _ => hand.state().leaf,
+    }
+}
+
+/// Caches the leaf that the step of this place found, where it allows the access.
+pub(crate) fn fill_cache(place: AccessPlace, hand: &mut Hand, gfn: u64, op: Op, found: u64)
+    ensures core { hand.new.core ≡ record hand.old.core { cached = access_caches place hand.old.core gfn op found } }
+    ensures room { hand.new.room ≡ hand.old.room }
+{
+    if let AccessPlace::Walk { .. } = place {
+        let level = hand.topics().walk.level;
+        let entry = Spte::from_word(found);
+        if entry.kind(level) == SpteKind::Leaf && (!is_write(op) || entry.is_writable()) {
+            hand.cache_mut().fill(Translation {
+                gfn,
+                level,
+                leaf: found,
+            });
+        }
+    }
+}
+
+// Behind an entry of the walk's table.
+fn walk_next(again: bool, level: u8, op: Op, found: u64) -> AccessPlace
+    ensures { result ≡ walk_next again (kind_of level found) (allows_access (is_write op) found) }
+{
+    let entry = Spte::from_word(found);
+    match entry.kind(level) {
+        SpteKind::Table(_) => AccessPlace::Walk { again },
+        SpteKind::Leaf if !is_write(op) || entry.is_writable() => AccessPlace::Touch,
+        _ => AccessPlace::Leave(Leaving::Faults),
+    }
+}
+
+// Behind a step of the fault.
+fn behind_fault(next: FaultNext) -> Outcome
+    ensures { result ≡ behind_fault next }
+{
+    let end = match next {
+        FaultNext::Goes(place) => return Outcome::Goes(Place::Access(AccessPlace::Fault(place))),
+        FaultNext::Ends(end) => end,
+    };
+    let again = match end {
+        FaultEnd::Installed => true,
+        FaultEnd::Retry(_) => false,
+        FaultEnd::Mmio => return Outcome::Ends(Answer::Mmio),
+        FaultEnd::HostFault => return Outcome::Ends(Answer::HostFault),
+        FaultEnd::Starved => return Outcome::Ends(Answer::Starved),
+    };
+    Outcome::Goes(Place::Access(AccessPlace::Enter { again }))
+}
+
+/// Where the line stands after the step of this place.
+pub(crate) fn outcome(place: AccessPlace, hand: &Hand, gfn: u64, op: Op, found: u64) -> Outcome
+    requires rests { RestsOn (access_part place gfn hand.now.core.topics) hand.now.core }
+    requires part { PartRests hand.now.core }
+    ensures { result ≡ access_outcome place hand.now.core gfn op found }
+{
+    let next = match place {
+        AccessPlace::Enter { again } => AccessPlace::Pause { again },
+        AccessPlace::Pause { again } => match lookup(hand.cache(), gfn, is_write(op)) {
+            Some(_) => AccessPlace::Touch,
+            None => AccessPlace::Root { again },
+        },
+        AccessPlace::Root { again } => AccessPlace::Walk { again },
+        AccessPlace::Walk { again } => walk_next(again, hand.topics().walk.level, op, found),
+        AccessPlace::Touch => {
+            let frame = Spte::from_word(hand.state().leaf).frame();
+            AccessPlace::Leave(Leaving::Reached {
+                frame,
+                value: found,
+            })
+        }
+        AccessPlace::Leave(Leaving::Reached { frame, value }) => {
+            return Outcome::Ends(Answer::Reached { frame, value });
+        }
+        AccessPlace::Leave(Leaving::Faults) => AccessPlace::Fault(FaultPlace::Begin),
+        AccessPlace::Fault(place) => {
+            return behind_fault(fault::next(place, hand, gfn, is_write(op), found));
+        }
+    };
+    Outcome::Goes(Place::Access(next))
+}

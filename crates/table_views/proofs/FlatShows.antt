@@ -1,0 +1,46 @@
+-- The flat history, but for what its lines look at. A clause for each form of line.
+use Rattle.std.proofs.Common.{◌≡◌, ℕ, List, ◌∷◌, ◌++◌, Bool, true, false, refl, ap, ◌∙◌}
+use Rattle.std.specs.Prelude.{Option, Some, None}
+use Rattle.table_views.specs.declared.event.Event.{Event}
+use Rattle.table_views.specs.declared.event.EventKind.TheVariants.{Begun}
+use Rattle.table_views.specs.declared.answer.Refusal.{Refusal}
+use Rattle.table_views.specs.declared.trace.Command.{Command}
+use Rattle.table_views.specs.declared.trace.Command.TheVariants.{Access, SetSlot}
+use Rattle.table_views.specs.declared.trace.Line.{Line}
+use Rattle.table_views.specs.declared.trace.Op.{Op}
+use Rattle.table_views.specs.declared.trace.Slot.{Slot}
+use Rattle.table_views.specs.declared.sizes.Sizes.{Sizes}
+use Rattle.table_views.specs.Host.{is_denied}
+use Rattle.table_views.specs.Slots.{page_behind, slot_refusal}
+use Rattle.table_views.specs.Flat.{Facts, Fresh}
+use Rattle.table_views.specs.Events.{facts_after_all}
+use Rattle.table_views.specs.FlatHistory.{by, accessing, reaching, setting, doing, rest_of, looks, looks_behind, alone, one_by_one}
+use Rattle.table_views.specs.Alone.{without_looks}
+use Rattle.table_views.proofs.Looks.{without_looks_append, facts_without_looks}
+
+reaching_shows : (line : Line) (gfn word : ℕ) (op : Op) (f : Facts) (page : ℕ) (denied : Bool) → without_looks (reaching line gfn word op f page denied) ≡ reaching line gfn word op f page denied
+reaching_shows line gfn word op f page true = refl
+reaching_shows line gfn word op f page false = refl
+
+accessing_shows : (line : Line) (gfn word : ℕ) (op : Op) (f : Facts) (page : Option ℕ) → without_looks (looks_behind line page ++ accessing line gfn word op f page) ≡ accessing line gfn word op f page
+accessing_shows line gfn word op f None = refl
+accessing_shows line gfn word op f (Some page) = reaching_shows line gfn word op f page (is_denied op (f.host page))
+
+setting_shows : (line : Line) (id : ℕ) (slot : Slot) (refusal : Option Refusal) → without_looks (setting line id slot refusal) ≡ setting line id slot refusal
+setting_shows line id slot None = refl
+setting_shows line id slot (Some refusal) = refl
+
+doing_shows : (z : Sizes) (line : Line) (command : Command) (f : Facts) → without_looks (looks line command f ++ doing z line command f) ≡ doing z line command f
+doing_shows z line (Access gfn word op) f = accessing_shows line gfn word op f (page_behind f.slots gfn op)
+doing_shows z line (SetSlot id slot) f = setting_shows line id slot (slot_refusal z.pages f.slots id slot)
+
+alone_shows : (z : Sizes) (line : Line) (f : Facts) → without_looks (alone z line f) ≡ by line (Begun line) ∷ rest_of z line Fresh f
+alone_shows z line f = ap (λ (es : List Event). by line (Begun line) ∷ es) (doing_shows z line line.command f)
+
+pub flat_shows : (z : Sizes) (line : Line) (lines : List Line) (f : Facts)
+    → without_looks (one_by_one z (line ∷ lines) f) ≡ by line (Begun line) ∷ (rest_of z line Fresh f ++ without_looks (one_by_one z lines (facts_after_all (rest_of z line Fresh f) f)))
+flat_shows z line lines f =
+    let facts_are : facts_after_all (alone z line f) f ≡ facts_after_all (rest_of z line Fresh f) f = facts_without_looks (alone z line f) f ∙ ap (λ (es : List Event). facts_after_all es f) (alone_shows z line f) in
+    without_looks_append (alone z line f) (one_by_one z lines (facts_after_all (alone z line f) f))
+    ∙ (ap (λ (es : List Event). es ++ without_looks (one_by_one z lines (facts_after_all (alone z line f) f))) (alone_shows z line f)
+    ∙ ap (λ (g : Facts). by line (Begun line) ∷ (rest_of z line Fresh f ++ without_looks (one_by_one z lines g))) facts_are)

@@ -1,0 +1,15 @@
+pub mod SameActor
+pub mod AloneIsLawful
+pub mod Texts
+pub mod AloneIsWhole
+pub mod Looks
+pub mod FlatShows
+pub mod NextAlone
+pub mod AloneIsFlat
+pub mod StandsAlone
+pub mod HeaderSizes
+pub mod Places
+pub mod Sound
+pub mod Holding
+pub mod FlatSlots
+pub mod Unlogged

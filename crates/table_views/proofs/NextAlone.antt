@@ -1,0 +1,95 @@
+-- What a line does next, alone: each event of its own that is allowed, and is no look, is the next one of the flat history. One lemma a form of line, and one of its answer.
+use Rattle.std.proofs.Common.{◌≡◌, ℕ, ◌∷◌, Bool, true, false, cond, refl, sym, ap, ◌∙◌, subst}
+use Rattle.std.specs.Prelude.{◌≢◌, Option, Some, None}
+use Rattle.table_views.specs.declared.answer.Answer.{Answer}
+use Rattle.table_views.specs.declared.answer.Answer.TheVariants.{Reached, Mmio, HostFault, Starved, Done, Refused}
+use Rattle.table_views.specs.declared.event.EventKind.{EventKind}
+use Rattle.table_views.specs.declared.event.EventKind.TheVariants.{Accessed, Exited, SlotChanged}
+use Rattle.table_views.specs.declared.trace.Command.{Command}
+use Rattle.table_views.specs.declared.trace.Command.TheVariants.{Access, SetSlot}
+use Rattle.table_views.specs.declared.trace.Line.{Line}
+use Rattle.table_views.specs.declared.trace.Op.{Op}
+use Rattle.table_views.specs.declared.trace.Slot.{Slot}
+use Rattle.table_views.specs.declared.sizes.Sizes.{Sizes}
+use Rattle.table_views.specs.Host.{HostEntry, is_denied}
+use Rattle.table_views.specs.Slots.{Slots, page_behind}
+use Rattle.table_views.specs.Names.{frame_at}
+use Rattle.table_views.specs.Flat.{Facts, Notes, LineUnderWay, Stage, Idle, Fresh, HasAccessed, HasLeft, HasSetSlot}
+use Rattle.table_views.specs.Events.{facts_after, line_after}
+use Rattle.table_views.specs.Lawful.{IsAllowed, MayLeave, SawForbidden, IsRefused, Tells}
+use Rattle.table_views.specs.FlatHistory.{by, answers, accessing, reaching, setting, doing, rest_of}
+
+-- What the line noted is so now.
+pub record AreExact (f : Facts) (notes : Notes) : Type 0 where
+  pub slots : (slots : Slots) → notes.slots ≡ Some slots → slots ≡ f.slots
+  pub host : (page : ℕ) (entry : HostEntry) → notes.host ≡ Some (page, entry) → entry ≡ f.host page
+
+-- What is left of the line begins with this event.
+abbrev pub IsNext : Sizes → Facts → LineUnderWay → EventKind → Type 0
+IsNext z f u kind = rest_of z u.line u.stage f ≡ by u.line kind ∷ rest_of z u.line (line_after kind f u).stage (facts_after kind f)
+
+-- An access: the word that it reaches, or its exit.
+
+some_is : (m n : ℕ) → Some m ≡ Some n → m ≡ n
+some_is m n e = cc e
+
+reached_at : (line : Line) (gfn word : ℕ) (op : Op) (f : Facts) (page : ℕ) (denied : Bool) (frame before : ℕ) → cond denied None (Some (f.host page).frame) ≡ Some frame → f.memory page word ≡ before
+    → reaching line gfn word op f page denied ≡ by line (Accessed gfn word op frame before) ∷ answers line (Reached frame before)
+reached_at line gfn word op f page true frame before named value_is = absurd (cc named)
+reached_at line gfn word op f page false frame before named value_is = rw (some_is (f.host page).frame frame named, value_is) refl
+
+reached : (line : Line) (gfn word : ℕ) (op : Op) (f : Facts) (behind : Option ℕ) (page frame before : ℕ) → behind ≡ Some page → frame_at f.host op behind ≡ Some frame → f.memory page word ≡ before
+    → accessing line gfn word op f behind ≡ by line (Accessed gfn word op frame before) ∷ answers line (Reached frame before)
+reached line gfn word op f None page frame before is named value_is = absurd (cc is)
+reached line gfn word op f (Some at) page frame before is named value_is =
+    reached_at line gfn word op f at (is_denied op (f.host at)) frame before named (ap (λ (p : ℕ). f.memory p word) (some_is at page is) ∙ value_is)
+
+pub access_is_next : (z : Sizes) (f : Facts) (u : LineUnderWay) (gfn word : ℕ) (op : Op) (frame before : ℕ) → IsAllowed z f u.line.actor u (Accessed gfn word op frame before) → IsNext z f u (Accessed gfn word op frame before)
+access_is_next z f u gfn word op frame before may =
+    rw (may.0) (rw (may.1) (reached u.line gfn word op f (page_behind f.slots gfn op) may.2.page frame before may.2.behind may.2.named may.2.value_is))
+
+-- the host page that the noted slots give is as it was noted, so the host forbids the access now
+forbidden : (line : Line) (gfn word : ℕ) (op : Op) (f : Facts) (notes : Notes) → AreExact f notes → SawForbidden notes gfn op → accessing line gfn word op f (page_behind f.slots gfn op) ≡ by line (Exited HostFault) ∷ answers line HostFault
+forbidden line gfn word op f notes exact saw =
+    let behind : page_behind f.slots gfn op ≡ Some saw.page = subst (λ (slots : Slots). page_behind slots gfn op ≡ Some saw.page) (exact.slots saw.slots saw.noted) saw.behind in
+    let denies : is_denied op (f.host saw.page) ≡ true = subst (λ (entry : HostEntry). is_denied op entry ≡ true) (exact.host saw.page saw.entry saw.looked) saw.forbids in
+    ap (accessing line gfn word op f) behind ∙ ap (reaching line gfn word op f saw.page) denies
+
+-- a clause for each command and answer with which it may leave
+left : (z : Sizes) (line : Line) (command : Command) (f : Facts) (notes : Notes) (answer : Answer) → AreExact f notes → Exited answer ≢ Exited Starved → MayLeave command notes answer → doing z line command f ≡ by line (Exited answer) ∷ answers line answer
+left z line (Access gfn word op) f notes Mmio exact fed may =
+    ap (accessing line gfn word op f) (subst (λ (slots : Slots). page_behind slots gfn op ≡ None) (exact.slots may.slots may.noted) may.none)
+left z line (Access gfn word op) f notes HostFault exact fed may = forbidden line gfn word op f notes exact may
+left z line (Access gfn word op) f notes Starved exact fed may = absurd (fed refl)
+left z line (Access gfn word op) f notes (Reached frame value) exact fed may = absurd may
+left z line (Access gfn word op) f notes Done exact fed may = absurd may
+left z line (Access gfn word op) f notes (Refused refusal) exact fed may = absurd may
+left z line (SetSlot id slot) f notes answer exact fed may = absurd may
+
+pub exit_is_next : (z : Sizes) (f : Facts) (u : LineUnderWay) (answer : Answer) → (u.stage ≡ Fresh → AreExact f u.notes) → Exited answer ≢ Exited Starved → IsAllowed z f u.line.actor u (Exited answer) → IsNext z f u (Exited answer)
+exit_is_next z f u answer exact fed may = rw (may.0) (left z u.line u.line.command f u.notes answer (exact may.0) fed may.1)
+
+-- A slot line: the slot that it sets.
+
+pub slot_change_is_next : (z : Sizes) (f : Facts) (u : LineUnderWay) (id : ℕ) (slot : Slot) → IsAllowed z f u.line.actor u (SlotChanged id slot) → IsNext z f u (SlotChanged id slot)
+slot_change_is_next z f u id slot may = rw (may.0) (rw (may.1) (ap (setting u.line id slot) may.2))
+
+-- The answer: what the line's stage tells, or a refusal.
+
+-- a clause for each command and answer with which it may be refused
+refused : (z : Sizes) (line : Line) (command : Command) (f : Facts) (answer : Answer) → IsRefused z f.slots command answer → doing z line command f ≡ answers line answer
+refused z line (SetSlot id slot) f (Refused refusal) why = ap (setting line id slot) why
+refused z line (SetSlot id slot) f (Reached frame value) why = absurd why
+refused z line (SetSlot id slot) f Mmio why = absurd why
+refused z line (SetSlot id slot) f HostFault why = absurd why
+refused z line (SetSlot id slot) f Starved why = absurd why
+refused z line (SetSlot id slot) f Done why = absurd why
+refused z line (Access gfn word op) f answer why = absurd why
+
+-- a clause for each stage
+pub told : (z : Sizes) (line : Line) (stage : Stage) (f : Facts) (answer : Answer) → Tells z f.slots line.command stage answer → rest_of z line stage f ≡ answers line answer
+told z line Idle f answer tells = absurd tells
+told z line Fresh f answer tells = refused z line line.command f answer tells
+told z line (HasAccessed frame value) f answer tells = ap (answers line) (sym tells)
+told z line (HasLeft how) f answer tells = ap (answers line) (sym tells)
+told z line HasSetSlot f answer tells = ap (answers line) (sym tells)

@@ -1,0 +1,18 @@
+-- The map from actors, at the actor that changed.
+use Rattle.std.proofs.Common.{◌≡◌, ◌==◌, ℕ, true, refl, arith}
+use Rattle.std.proofs.lemmas.Bool.Decides.{nat_tests}
+use Rattle.table_views.specs.declared.actor.Actor.{Actor}
+use Rattle.table_views.specs.declared.actor.Actor.TheVariants.{Vcpu, Host, Manager, Worker}
+use Rattle.table_views.specs.Actors.{is_same, changed_at}
+
+same_number : (n : ℕ) → (n == n) ≡ true
+same_number n = grind (arith, nat_tests)
+
+pub is_same_self : (actor : Actor) → is_same actor actor ≡ true
+is_same_self (Vcpu n) = same_number n
+is_same_self (Host n) = same_number n
+is_same_self Manager = refl
+is_same_self (Worker n) = same_number n
+
+pub changed_here : {X : Type 0} (actor : Actor) (x : X) (map : Actor → X) → changed_at actor x map actor ≡ x
+changed_here actor x map = rw (is_same_self actor) refl

@@ -1,0 +1,93 @@
+-- Histories of lines that stand alone: one line, such histories one behind the other, and the flat history.
+use Rattle.std.proofs.Common.{◌≡◌, ℕ, List, [], ◌∷◌, ◌++◌, Bool, true, false, refl, ap, ◌∙◌, append_assoc}
+use Rattle.std.specs.Prelude.{Option, Some, None}
+use Rattle.table_views.specs.declared.answer.Answer.{Answer}
+use Rattle.table_views.specs.declared.answer.Answer.TheVariants.{Reached, Mmio, HostFault, Done, Refused}
+use Rattle.table_views.specs.declared.answer.Refusal.{Refusal}
+use Rattle.table_views.specs.declared.event.Event.{Event}
+use Rattle.table_views.specs.declared.event.EventKind.TheVariants.{Begun, LookedAtSlots, LookedAtHost, Accessed, Exited, SlotChanged, Answered}
+use Rattle.table_views.specs.declared.trace.Command.{Command}
+use Rattle.table_views.specs.declared.trace.Command.TheVariants.{Access, SetSlot}
+use Rattle.table_views.specs.declared.trace.Line.{Line}
+use Rattle.table_views.specs.declared.trace.Op.{Op}
+use Rattle.table_views.specs.declared.trace.Slot.{Slot}
+use Rattle.table_views.specs.declared.sizes.Sizes.{Sizes}
+use Rattle.table_views.specs.Host.{is_denied}
+use Rattle.table_views.specs.Slots.{page_behind, slot_refusal}
+use Rattle.table_views.specs.Flat.{Facts}
+use Rattle.table_views.specs.Events.{facts_after_all}
+use Rattle.table_views.specs.FlatHistory.{by, answers, accessing, reaching, setting, doing, looks, looks_behind, alone, one_by_one}
+use Rattle.table_views.specs.Alone.{AreWithin, StandsAlone, StandsFirst}
+
+-- events of one line, and further ones behind them
+pub within_append : (line : Line) (xs ys : List Event) → AreWithin line xs → AreWithin line ys → AreWithin line (xs ++ ys)
+within_append line [] ys front back = back
+within_append line (x ∷ xs) ys front back = (front.0, front.1, within_append line xs ys front.2 back)
+
+-- the events of one line
+pub one_stands : (line : Line) (within : List Event) (answer : Answer) → AreWithin line within → StandsAlone (by line (Begun line) ∷ (within ++ answers line answer)) (line ∷ [])
+one_stands line within answer are = ([], record { within = within; answer = answer; are_within = are; history_is = refl }, refl)
+
+more_behind : (line : Line) (h rest more : List Event) → StandsFirst line h rest → StandsFirst line (h ++ more) (rest ++ more)
+more_behind line h rest more first = record {
+  within = first.within;
+  answer = first.answer;
+  are_within = first.are_within;
+  history_is = ap (λ (es : List Event). es ++ more) first.history_is
+      ∙ ap (λ (es : List Event). by line (Begun line) ∷ es) (append_assoc first.within (by line (Answered line.number first.answer) ∷ rest) more);
+}
+
+-- A history of such lines, and behind it one of further lines.
+pub stands_append : (lines further : List Line) (h more : List Event) → StandsAlone h lines → StandsAlone more further → StandsAlone (h ++ more) (lines ++ further)
+stands_append [] further h more stands then_ = rw stands then_
+stands_append (line ∷ lines) further h more stands then_ = (stands.0 ++ more, more_behind line h stands.0 more stands.1, stands_append lines further stands.0 more stands.2 then_)
+
+-- The flat history: a clause for each form of line.
+
+record Closed (line : Line) (es : List Event) : Type 0 where
+  within : List Event
+  answer : Answer
+  are_within : AreWithin line within
+  events_are : es ≡ within ++ answers line answer
+
+reaching_closed : (line : Line) (gfn word : ℕ) (op : Op) (f : Facts) (page : ℕ) (denied : Bool) → Closed line (by line LookedAtSlots ∷ by line (LookedAtHost page) ∷ reaching line gfn word op f page denied)
+reaching_closed line gfn word op f page true = record {
+  within = by line LookedAtSlots ∷ by line (LookedAtHost page) ∷ by line (Exited HostFault) ∷ [];
+  answer = HostFault;
+  are_within = (refl, tt, (refl, tt, (refl, tt, tt)));
+  events_are = refl;
+}
+reaching_closed line gfn word op f page false = record {
+  within = by line LookedAtSlots ∷ by line (LookedAtHost page) ∷ by line (Accessed gfn word op (f.host page).frame (f.memory page word)) ∷ [];
+  answer = Reached (f.host page).frame (f.memory page word);
+  are_within = (refl, tt, (refl, tt, (refl, tt, tt)));
+  events_are = refl;
+}
+
+accessing_closed : (line : Line) (gfn word : ℕ) (op : Op) (f : Facts) (page : Option ℕ) → Closed line (by line LookedAtSlots ∷ (looks_behind line page ++ accessing line gfn word op f page))
+accessing_closed line gfn word op f None = record { within = by line LookedAtSlots ∷ by line (Exited Mmio) ∷ []; answer = Mmio; are_within = (refl, tt, (refl, tt, tt)); events_are = refl }
+accessing_closed line gfn word op f (Some page) = reaching_closed line gfn word op f page (is_denied op (f.host page))
+
+setting_closed : (line : Line) (id : ℕ) (slot : Slot) (refusal : Option Refusal) → Closed line (setting line id slot refusal)
+setting_closed line id slot None = record { within = by line (SlotChanged id slot) ∷ []; answer = Done; are_within = (refl, tt, tt); events_are = refl }
+setting_closed line id slot (Some refusal) = record { within = []; answer = Refused refusal; are_within = tt; events_are = refl }
+
+doing_closed : (z : Sizes) (line : Line) (command : Command) (f : Facts) → Closed line (looks line command f ++ doing z line command f)
+doing_closed z line (Access gfn word op) f = accessing_closed line gfn word op f (page_behind f.slots gfn op)
+doing_closed z line (SetSlot id slot) f = setting_closed line id slot (slot_refusal z.pages f.slots id slot)
+
+alone_first : (z : Sizes) (line : Line) (f : Facts) (rest : List Event) → StandsFirst line (alone z line f ++ rest) rest
+alone_first z line f rest =
+    let closed = doing_closed z line line.command f in
+    record {
+      within = closed.within;
+      answer = closed.answer;
+      are_within = closed.are_within;
+      history_is = ap (λ (es : List Event). by line (Begun line) ∷ es) (ap (λ (es : List Event). es ++ rest) closed.events_are ∙ append_assoc closed.within (answers line closed.answer) rest);
+    }
+
+pub one_by_one_stands : (z : Sizes) (lines : List Line) (f : Facts) → StandsAlone (one_by_one z lines f) lines
+one_by_one_stands z [] f = refl
+one_by_one_stands z (line ∷ lines) f =
+    let then_ : Facts = facts_after_all (alone z line f) f in
+    (one_by_one z lines then_, alone_first z line f (one_by_one z lines then_), one_by_one_stands z lines then_)

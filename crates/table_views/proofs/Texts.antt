@@ -1,0 +1,28 @@
+-- The answers and the text of two histories, one behind the other.
+use Rattle.std.proofs.Common.{◌≡◌, ℕ, List, [], ◌∷◌, ◌++◌, refl, sym, ap, ◌∙◌, append_assoc}
+use Rattle.table_views.specs.declared.actor.Actor.{Actor}
+use Rattle.table_views.specs.declared.answer.AnsweredLine.{AnsweredLine}
+use Rattle.table_views.specs.declared.event.Event.{Event}
+use Rattle.table_views.specs.declared.event.EventKind.{EventKind}
+use Rattle.table_views.specs.declared.event.EventKind.TheVariants.{Begun, LookedAtSlots, LookedAtHost, Accessed, Exited, SlotChanged, Answered}
+use Rattle.table_views.specs.Text.{answers_of, or_answered, line_text, lines_text, text}
+
+or_answered_append : (actor : Actor) (kind : EventKind) (xs ys : List AnsweredLine) → or_answered actor kind (xs ++ ys) ≡ or_answered actor kind xs ++ ys
+or_answered_append actor (Begun line) xs ys = refl
+or_answered_append actor LookedAtSlots xs ys = refl
+or_answered_append actor (LookedAtHost page) xs ys = refl
+or_answered_append actor (Accessed gfn word op frame before) xs ys = refl
+or_answered_append actor (Exited answer) xs ys = refl
+or_answered_append actor (SlotChanged id slot) xs ys = refl
+or_answered_append actor (Answered line answer) xs ys = refl
+
+pub answers_append : (xs ys : List Event) → answers_of (xs ++ ys) ≡ answers_of xs ++ answers_of ys
+answers_append [] ys = refl
+answers_append (x ∷ xs) ys = ap (or_answered x.actor x.kind) (answers_append xs ys) ∙ or_answered_append x.actor x.kind (answers_of xs) (answers_of ys)
+
+pub lines_text_append : (xs ys : List AnsweredLine) → lines_text (xs ++ ys) ≡ lines_text xs ++ lines_text ys
+lines_text_append [] ys = refl
+lines_text_append (x ∷ xs) ys = ap (λ (t : List ℕ). line_text x.number x.actor x.answer ++ t) (lines_text_append xs ys) ∙ sym (append_assoc (line_text x.number x.actor x.answer) (lines_text xs) (lines_text ys))
+
+pub text_append : (xs ys : List Event) → text (xs ++ ys) ≡ text xs ++ text ys
+text_append xs ys = ap lines_text (answers_append xs ys) ∙ lines_text_append (answers_of xs) (answers_of ys)

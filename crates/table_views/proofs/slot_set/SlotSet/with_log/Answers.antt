@@ -1,0 +1,28 @@
+use Rattle.std.proofs.Common.{◌≡◌, ◌<◌, ◌≤◌, length, get_or, arith, refl, sym, ap, ◌∙◌}
+use Rattle.std.specs.Prelude.{Option, Some, None}
+use Rattle.table_views.specs.SlotSets.{flat_slots, slot_at, with_slot_at}
+use Rattle.table_views.specs.Places.{found, slots_from}
+use Rattle.table_views.specs.declared.slot_set.MemorySlot.{MemorySlot}
+use Rattle.table_views.specs.Refusals.{with_log_of}
+use Rattle.table_views.proofs.Places.{put}
+use Rattle.table_views.proofs.Sound.{log_sound}
+use Rattle.table_views.proofs.FlatSlots.{flat_same}
+use Rattle.table_views.proofs.slot_set.SlotSet.with_log.Goals as goal
+
+pub invariant_of-self : goal.invariant_of-self
+invariant_of-self c =
+    let at : slot_at c.args.id (slots_from 0 c.self.inside.places) ≡ Some c.in-Some.slot = ap (slot_at c.args.id) c.self.view_is ∙ sym c.in-Some.ensures.is in
+    log_sound c.args.id c.in-Some.slot c.args.on c.self.inside.places c.self.invariant at
+
+pub returns-clause-set : goal.returns-clause-set
+returns-clause-set c =
+    let low : c.args.id ≤ 31 = c.get.ensures.sound.ids c.args.id c.in-Some.slot (sym c.in-Some.ensures.is) in
+    let lt : c.args.id < length c.self.inside.places = omega (arith, c.self.invariant.0) in
+    let after : MemorySlot = record { slot = c.in-Some.slot.slot; logged = c.args.on } in
+    put c.args.id after c.self.inside.places lt ∙ ap (with_slot_at c.args.id after) c.self.view_is
+    ∙ ap (λ (was : Option MemorySlot). with_log_of c.args.on c.args.id was c.args.self.now) c.in-Some.ensures.is
+
+pub returns-clause-flat : goal.returns-clause-flat
+returns-clause-flat c =
+    let at : get_or c.self.inside.places c.args.id None ≡ Some c.in-Some.slot = sym (found c.args.id c.self.inside.places) ∙ ap (slot_at c.args.id) c.self.view_is ∙ sym c.in-Some.ensures.is in
+    flat_same c.args.id 0 c.in-Some.slot (record { slot = c.in-Some.slot.slot; logged = c.args.on }) c.self.inside.places at refl ∙ ap flat_slots c.self.view_is

@@ -1,0 +1,56 @@
+-- Histories in which each line stands alone: between its begin and its answer there is nothing of another line. And what such a history shows, beside what its lines looked at.
+use Rattle.std.specs.Prelude.{◌≡◌, ◌≢◌, List, [], ◌∷◌, ◌++◌, Bool, true, false, if◌then◌else◌}
+use Rattle.table_views.specs.declared.answer.Answer.{Answer}
+use Rattle.table_views.specs.declared.answer.Answer.TheVariants.{Starved}
+use Rattle.table_views.specs.declared.event.Event.{Event}
+use Rattle.table_views.specs.declared.event.EventKind.{EventKind}
+use Rattle.table_views.specs.declared.event.EventKind.TheVariants.{Begun, LookedAtSlots, LookedAtHost, Accessed, Exited, SlotChanged, Answered}
+use Rattle.table_views.specs.declared.trace.Line.{Line}
+use Rattle.table_views.specs.FlatHistory.{by}
+
+-- The event only notes what is true: it changes no fact and is nobody's answer.
+abbrev pub is_look : EventKind → Bool
+is_look (Begun line) = false
+is_look LookedAtSlots = true
+is_look (LookedAtHost page) = true
+is_look (Accessed gfn word op frame before) = false
+is_look (Exited answer) = false
+is_look (SlotChanged id slot) = false
+is_look (Answered line answer) = false
+
+-- the history, but for what its lines looked at
+abbrev pub without_looks : List Event → List Event
+without_looks [] = []
+without_looks (e ∷ es) = if is_look e.kind then without_looks es else e ∷ without_looks es
+
+-- The event stands within a line: it neither begins nor answers one.
+abbrev pub IsWithin : EventKind → Type 0
+IsWithin (Begun line) = ⊥
+IsWithin LookedAtSlots = Unit {0}
+IsWithin (LookedAtHost page) = Unit {0}
+IsWithin (Accessed gfn word op frame before) = Unit {0}
+IsWithin (Exited answer) = Unit {0}
+IsWithin (SlotChanged id slot) = Unit {0}
+IsWithin (Answered line answer) = ⊥
+
+-- Each of the events is of the line's actor, and stands within a line.
+abbrev pub AreWithin : Line → List Event → Type 0
+AreWithin line [] = Unit {0}
+AreWithin line (e ∷ es) = (e.actor ≡ line.actor) × IsWithin e.kind × AreWithin line es
+
+-- The history starts with the whole of this line: its begin, events of its own, its answer; the rest comes behind.
+pub record StandsFirst (line : Line) (history rest : List Event) : Type 0 where
+  pub within : List Event
+  pub answer : Answer
+  pub are_within : AreWithin line within
+  pub history_is : history ≡ by line (Begun line) ∷ (within ++ (by line (Answered line.number answer) ∷ rest))
+
+-- The history is these lines, one after another, each alone.
+abbrev pub StandsAlone : List Event → List Line → Type 0
+StandsAlone history [] = history ≡ []
+StandsAlone history (line ∷ lines) = (rest : List Event) × StandsFirst line history rest × StandsAlone rest lines
+
+-- No access of the history leaves the guest for want of a pool page.
+abbrev pub NoneStarved : List Event → Type 0
+NoneStarved [] = Unit {0}
+NoneStarved (e ∷ es) = (e.kind ≢ Exited Starved) × NoneStarved es

@@ -1,0 +1,43 @@
+-- What an event does to the flat state: to the facts, and to the line under way of its actor.
+use Rattle.std.specs.Prelude.{ℕ, List, [], ◌∷◌, Option, Some, None}
+use Rattle.table_views.specs.declared.event.Event.{Event}
+use Rattle.table_views.specs.declared.event.EventKind.{EventKind}
+use Rattle.table_views.specs.declared.event.EventKind.TheVariants.{Begun, LookedAtSlots, LookedAtHost, Accessed, Exited, SlotChanged, Answered}
+use Rattle.table_views.specs.declared.trace.Op.{Op}
+use Rattle.table_views.specs.Actors.{changed_at}
+use Rattle.table_views.specs.Slots.{with_slot, page_behind}
+use Rattle.table_views.specs.Memory.{Memory, with_word, stored}
+use Rattle.table_views.specs.Flat.{Facts, LineUnderWay, Flat, no_notes, Idle, Fresh, HasAccessed, HasLeft, HasSetSlot}
+
+-- the memory after an access to a word of this host page
+abbrev pub touched : Option ℕ → ℕ → Op → Memory → Memory
+touched None word op memory = memory
+touched (Some page) word op memory = with_word page word (stored op (memory page word)) memory
+
+-- the facts after the event: only an access changes memory, and only a slot setting the slots
+abbrev pub facts_after : EventKind → Facts → Facts
+facts_after (Accessed gfn word op frame before) f = record f { memory = touched (page_behind f.slots gfn op) word op f.memory }
+facts_after (SlotChanged id slot) f = record f { slots = with_slot id slot f.slots }
+facts_after _ f = f
+
+-- the line under way after an event of its actor
+abbrev pub line_after : EventKind → Facts → LineUnderWay → LineUnderWay
+line_after (Begun line) f u = record { line = line; stage = Fresh; notes = no_notes }
+line_after LookedAtSlots f u = record u { notes = record u.notes { slots = Some f.slots } }
+line_after (LookedAtHost page) f u = record u { notes = record u.notes { host = Some (page, f.host page) } }
+line_after (Accessed gfn word op frame before) f u = record u { stage = HasAccessed frame before }
+line_after (Exited answer) f u = record u { stage = HasLeft answer }
+line_after (SlotChanged id slot) f u = record u { stage = HasSetSlot }
+line_after (Answered line answer) f u = record u { stage = Idle }
+
+abbrev pub after : Event → Flat → Flat
+after e f = record { facts = facts_after e.kind f.facts; under = changed_at e.actor (line_after e.kind f.facts (f.under e.actor)) f.under }
+
+-- the state, and the facts, behind a whole history
+abbrev pub after_all : List Event → Flat → Flat
+after_all [] f = f
+after_all (e ∷ es) f = after_all es (after e f)
+
+abbrev pub facts_after_all : List Event → Facts → Facts
+facts_after_all [] f = f
+facts_after_all (e ∷ es) f = facts_after_all es (facts_after e.kind f)

@@ -1,0 +1,73 @@
+-- What one actor holds, as contracts see it.
+use Rattle.std.specs.Prelude.{ℕ, List, [], false, None}
+use Rattle.circular_buffer.specs.Buffer.{Buffer, buffer}
+use Rattle.table_views.specs.declared.actor.Actor.{Actor}
+use Rattle.table_views.specs.declared.answer.AnsweredLine.{AnsweredLine}
+use Rattle.table_views.specs.declared.cache.Translation.{Translation}
+use Rattle.table_views.specs.declared.hand.State.{State}
+use Rattle.table_views.specs.declared.place.Place.TheVariants.{Between}
+use Rattle.table_views.specs.declared.place.SlotField.TheVariants.{Flags}
+use Rattle.table_views.specs.declared.sizes.Sizes.{Sizes}
+use Rattle.table_views.specs.declared.topics.Checked.TheVariants.{Nothing}
+use Rattle.table_views.specs.declared.topics.Hold.TheVariants.{Loose}
+use Rattle.table_views.specs.declared.topics.Invalidations.{Invalidations}
+use Rattle.table_views.specs.declared.topics.MapClaim.{MapClaim}
+use Rattle.table_views.specs.declared.topics.SlotSearch.{SlotSearch}
+use Rattle.table_views.specs.declared.topics.Stay.TheVariants.{Outside}
+use Rattle.table_views.specs.declared.topics.TableWalk.{TableWalk}
+use Rattle.table_views.specs.declared.topics.Topics.{Topics}
+use Rattle.table_views.specs.declared.trace.Line.{Line}
+use Rattle.table_views.specs.declared.trace.Slot.{Slot}
+use Rattle.table_views.specs.Flat.{no_line}
+use Rattle.table_views.specs.SlotSets.{MemorySlots}
+
+-- what steps read and change: all but the room that was taken
+pub record Held : Type 0 where
+  pub state : State
+  pub topics : Topics
+  pub cached : Buffer Translation  -- the newest first
+  pub slots : MemorySlots  -- the manager's own record of the slots
+  pub lines : List Line
+  pub answers : List AnsweredLine
+
+-- a hand, with the room for answers that was taken for it
+pub record Handful : Type 0 where
+  pub core : Held
+  pub room : ℕ
+
+abbrev pub no_slot : Slot
+no_slot = record { base = 0; pages = 0; host = 0; read_only = false }
+
+-- what an actor holds before its first line
+abbrev pub first_state : Sizes → Actor → State
+first_state z actor = record { sizes = z; actor = actor; place = Between; line = no_line; leaf = 0 }
+
+abbrev pub no_search : SlotSearch
+no_search = record { set = None; id = 0; next = Flags; slot = no_slot; logged = false; whole = false }
+
+abbrev pub no_invalidations : Invalidations
+no_invalidations = record { snapshot = None; count = 0; start = 0; end = 0; seq = 0; checked = Nothing }
+
+abbrev pub no_walk : TableWalk
+no_walk = record { level = 0; prefix = 0; root = 0; third = 0; second = 0; first = 0; index = 512; entry = 0 }
+
+abbrev pub no_claim : MapClaim
+no_claim = record { at = 0; seen = 0 }
+
+-- what an actor holds of each part of the machine before its first step
+abbrev pub first_topics : Topics
+first_topics = record {
+  stay = Outside;
+  hold = Loose;
+  search = no_search;
+  invalidations = no_invalidations;
+  walk = no_walk;
+  claim = no_claim;
+  owned = None;
+  watched = 0;
+  host = None;
+  pause = 0;
+}
+
+abbrev pub first_held : Sizes → Actor → List Line → Held
+first_held z actor lines = record { state = first_state z actor; topics = first_topics; cached = buffer [] z.cache; slots = []; lines = lines; answers = [] }

@@ -1,0 +1,18 @@
+-- The types of what a hand lends.
+use Rattle.std.specs.Borrow.{RattleType}
+use Rattle.table_views.specs.contracts.cache.Cache as cache
+use Rattle.table_views.specs.contracts.hand.State as state
+use Rattle.table_views.specs.contracts.slot_set.SlotSet as slots
+use Rattle.table_views.specs.contracts.topics.Topics as topics
+
+abbrev pub state_row : RattleType
+state_row = state.the_row
+
+abbrev pub topics_row : RattleType
+topics_row = topics.the_row
+
+abbrev pub slots_row : RattleType
+slots_row = slots.the_row
+
+abbrev pub cache_row : RattleType
+cache_row = cache.the_row

@@ -1,0 +1,45 @@
+-- Sets of memory slots (api.rst, KVM_SET_USER_MEMORY_REGION): each slot at its ID, with or without a dirty log.
+use Rattle.std.specs.Prelude.{◌≡◌, ◌≢◌, ◌+◌, ◌^◌, ◌≤◌, ◌==◌, ℕ, false, List, map, Option, Some, find}
+use Rattle.std.specs.Ordering.{nat_cmp}
+use Rattle.std.specs.BTreeMap.{insert_entry}
+use Rattle.std.specs.Map.{keys_of, lookup, remove_entry}
+use Rattle.std.specs.List.Sorted.{IsStrictlyIncreasing}
+use Rattle.table_views.specs.Slots.{Slots, contains, share_guest_frames, share_host_pages}
+use Rattle.table_views.specs.declared.slot_set.MemorySlot.{MemorySlot}
+
+-- the slots, each with its ID, by rising ID
+abbrev pub MemorySlots : Type 0
+MemorySlots = List (ℕ × MemorySlot)
+
+-- the slot with the ID, or none
+abbrev pub slot_at : ℕ → MemorySlots → Option MemorySlot
+slot_at id slots = lookup (λ i. i == id) slots
+
+-- the slots, with this one at the ID
+abbrev pub with_slot_at : ℕ → MemorySlot → MemorySlots → MemorySlots
+with_slot_at id slot slots = insert_entry nat_cmp slots id slot
+
+-- the slots, without the one at the ID
+abbrev pub without_slot_at : ℕ → MemorySlots → MemorySlots
+without_slot_at id slots = remove_entry (λ i. i == id) slots
+
+-- the slot that contains the guest frame, with its ID, or none
+abbrev pub slot_holding : ℕ → MemorySlots → Option (ℕ × MemorySlot)
+slot_holding gfn slots = find (λ entry. contains gfn entry.1.slot) slots
+
+-- the slots alone, as flat memory has them
+abbrev pub flat_slots : MemorySlots → Slots
+flat_slots slots = map (λ entry. (entry.0, entry.1.slot)) slots
+
+-- No slot has a dirty log.
+abbrev pub AreUnlogged : MemorySlots → Type 0
+AreUnlogged slots = (id : ℕ) (m : MemorySlot) → slot_at id slots ≡ Some m → m.logged ≡ false
+
+-- IDs rise and are at most 31; each slot has a page at least and lies below 2 ^ 36; no two have a guest frame or a host page in common.
+pub record IsSlotSet (slots : MemorySlots) : Type 0 where
+  pub rising : IsStrictlyIncreasing (keys_of slots)
+  pub ids : (id : ℕ) (m : MemorySlot) → slot_at id slots ≡ Some m → id ≤ 31
+  pub some : (id : ℕ) (m : MemorySlot) → slot_at id slots ≡ Some m → 1 ≤ m.slot.pages
+  pub below : (id : ℕ) (m : MemorySlot) → slot_at id slots ≡ Some m → m.slot.base + m.slot.pages ≤ 2 ^ 36
+  pub guest_apart : (i j : ℕ) (m n : MemorySlot) → i ≢ j → slot_at i slots ≡ Some m → slot_at j slots ≡ Some n → share_guest_frames m.slot n.slot ≡ false
+  pub host_apart : (i j : ℕ) (m n : MemorySlot) → i ≢ j → slot_at i slots ≡ Some m → slot_at j slots ≡ Some n → share_host_pages m.slot n.slot ≡ false

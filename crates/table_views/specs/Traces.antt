@@ -1,0 +1,76 @@
+-- What a trace may hold: the ranges of its header and of its lines.
+use Rattle.std.specs.Prelude.{◌≡◌, ◌*◌, ◌%◌, ◌^◌, ◌<◌, ◌≤◌, ◌==◌, ◌⊎◌, ℕ, List, [], ◌∷◌, All, Some, length, slice_get}
+use Rattle.std.specs.List.{IsDistinct}
+use Rattle.std.specs.List.Sorted.{IsStrictlyIncreasing}
+use Rattle.table_views.specs.declared.actor.Actor.{Actor}
+use Rattle.table_views.specs.declared.actor.Actor.TheVariants.{Vcpu, Manager}
+use Rattle.table_views.specs.declared.trace.Command.{Command}
+use Rattle.table_views.specs.declared.trace.Command.TheVariants.{Access, SetSlot}
+use Rattle.table_views.specs.declared.trace.Header.{Header}
+use Rattle.table_views.specs.declared.trace.Line.{Line}
+use Rattle.table_views.specs.declared.trace.Slot.{Slot}
+use Rattle.table_views.specs.declared.trace.Trace.{Trace}
+use Rattle.table_views.specs.declared.sizes.Sizes.{Sizes}
+use Rattle.table_views.specs.Sizes.{sizes_of}
+
+-- The slot's numbers are in the ranges of a line.
+pub record IsSlotInRange (slot : Slot) : Type 0 where
+  pub some : 1 ≤ slot.pages
+  pub pages : slot.pages < 2 ^ 36
+  pub base : slot.base < 2 ^ 36
+  pub host : slot.host < 2 ^ 36
+  pub aligned : slot.host % 64 ≡ 0
+
+-- The actor makes such lines, and the machine has it; the line's numbers are in their ranges.
+abbrev pub IsCommandFor : Sizes → Actor → Command → Type 0
+IsCommandFor z (Vcpu n) (Access gfn word op) = (n < z.vcpus) × (gfn < 2 ^ 36) × (word < z.words)
+IsCommandFor z Manager (SetSlot id slot) = IsSlotInRange slot
+IsCommandFor z _ _ = ⊥
+
+-- The same of the machine of a header.
+abbrev pub IsCommandOf : Header → Actor → Command → Type 0
+IsCommandOf h actor command = IsCommandFor (sizes_of h) actor command
+
+abbrev pub IsLineOf : Header → Line → Type 0
+IsLineOf h line = IsCommandOf h line.actor line.command
+
+-- Each line is one that the header allows.
+abbrev pub AreLinesOf : Header → List Line → Type 0
+AreLinesOf h lines = All (IsLineOf h) lines
+
+-- before these IDs the one that the command sets a slot at, if it sets one
+abbrev pub or_slot_id : Command → List ℕ → List ℕ
+or_slot_id (Access gfn word op) ids = ids
+or_slot_id (SetSlot id slot) ids = id ∷ ids
+
+-- the IDs that the lines set slots at, in their order
+abbrev pub slot_ids : List Line → List ℕ
+slot_ids [] = []
+slot_ids (line ∷ lines) = or_slot_id line.command (slot_ids lines)
+
+-- One to four host threads own all pages: the first from page 0 on, and each from a page behind the one before.
+pub record AreHostsOf (pages : ℕ) (hosts : List ℕ) : Type 0 where
+  pub first : slice_get hosts 0 ≡ Some 0
+  pub count : length hosts ≤ 4
+  pub rising : IsStrictlyIncreasing hosts
+  pub below : All (λ page. page < pages) hosts
+
+-- The header's numbers are in their ranges.
+pub record IsHeader (h : Header) : Type 0 where
+  pub version : h.version ≡ 1
+  pub vcpus : (1 ≤ h.vcpus) × (h.vcpus ≤ 16)
+  pub workers : h.workers ≤ 4
+  pub pages : (1 ≤ h.pages) × (h.pages ≤ 1048576)
+  pub frames : (h.pages ≤ h.frames) × (h.frames ≤ 2097152)
+  pub words : (h.words ≡ 1) ⊎ (h.words ≡ 2) ⊎ (h.words ≡ 4) ⊎ (h.words ≡ 8)
+  pub content : h.frames * h.words ≤ 8388608
+  pub pool : (4 ≤ h.pool) × (h.pool ≤ 16384)
+  pub cache : (1 ≤ h.cache) × (h.cache ≤ 64)
+  pub manual : h.manual ≤ 2
+  pub hosts : AreHostsOf h.pages h.hosts
+
+-- All numbers of the trace are in their ranges, and no two lines set a slot at one ID.
+pub record IsTrace (t : Trace) : Type 0 where
+  pub header : IsHeader t.header
+  pub lines : AreLinesOf t.header t.lines
+  pub distinct : IsDistinct (λ i j. i == j) (slot_ids t.lines)

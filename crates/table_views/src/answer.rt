@@ -1,0 +1,97 @@
+ghost use Rattle.std.specs.Prelude.{◌≡◌, Some};
+ghost use Rattle.table_views.specs.Text.{answer_text, refusal_name};
+
+use crate::{Actor, Sequence};
+use std::fmt;
+
+/// What a line of the trace is answered.
+#[derive(Clone, Copy, Debug, PartialEq, Eq, Drop)]
+pub enum Answer {
+    /// An access reached this host frame; `value` is the content word before it.
+    Reached { frame: u64, value: u64 },
+    /// No slot gives the guest frame a host page for this operation: the
+    /// access leaves the guest as an MMIO exit (KVM's api.rst, `KVM_EXIT_MMIO`).
+    Mmio,
+    /// A write or add, and the host doesn't allow writes to the page.
+    HostFault,
+    /// No pool page was free for a table that the access needs.
+    Starved,
+    /// A slot setting took effect.
+    Done,
+    /// The line is refused, and nothing has changed.
+    Refused(Refusal),
+}
+
+/// Why a line is refused when it is run.
+#[derive(Clone, Copy, Debug, PartialEq, Eq, Drop)]
+pub enum Refusal {
+    /// The slot's ID is above 31.
+    BadId,
+    /// The slot's guest frames reach past 2^36, or its host pages past the
+    /// machine's.
+    TooLarge,
+    /// No slot has this ID.
+    Missing,
+    /// The slot has a dirty log: it can't be deleted or moved, or get another.
+    Logged,
+    /// The slot has no dirty log that could be taken away.
+    NoLog,
+    /// The slot that has this ID has another number of pages.
+    Resize,
+    /// The slot that has this ID has other host pages, or is read-only where
+    /// the new one isn't, or the other way round.
+    Fixed,
+    /// Another slot has one of the guest frames.
+    Overlap,
+    /// Another slot has one of the host pages.
+    HostOverlap,
+}
+
+impl Refusal {
+    /// The name that is printed for it.
+    pub fn name(self) -> &'static str
+        ensures { result.now ≡ refusal_name self }
+    {
+        match self {
+            Refusal::BadId => "bad-id",
+            Refusal::TooLarge => "too-large",
+            Refusal::Missing => "missing",
+            Refusal::Logged => "logged",
+            Refusal::NoLog => "no-log",
+            Refusal::Resize => "resize",
+            Refusal::Fixed => "fixed",
+            Refusal::Overlap => "overlap",
+            Refusal::HostOverlap => "host-overlap",
+        }
+    }
+}
+
+/// A line that was answered: its number in the file, its actor, its answer.
+#[derive(Clone, Copy, Debug, PartialEq, Eq, Drop)]
+pub struct AnsweredLine {
+    pub number: u32,
+    pub actor: Actor,
+    pub answer: Answer,
+}
+
+/// Answered lines, in the order of their answers.
+pub type Answered = Sequence<AnsweredLine>;
+
+/// The answer as it is printed behind a line's number and its actor.
+impl fmt::Display for Answer {
+    ghost output = { λ answer. Some (answer_text answer) };
+
+    fn fmt<W: fmt::Write>(&self, f: &mut fmt::Formatter<W>) -> fmt::Result {
+        match self {
+            Answer::Reached { frame, value } => write!(f, "frame {frame} value {value}"),
+            Answer::Mmio => write!(f, "mmio"),
+            Answer::HostFault => write!(f, "hostfault"),
+            Answer::Starved => write!(f, "starved"),
+            Answer::Done => write!(f, "done"),
+            Answer::Refused(refusal) => {
+                let name = refusal.name();
+                write!(f, "refused {name}")
+            }
+        }
+    }
+}

@@ -1,0 +1,42 @@
+use crate::{Actor, Answer, Line, Op, Slot};
+
+/// One event of a history: what an actor did to, or saw of, flat guest memory.
+#[derive(Clone, Copy, Debug, PartialEq, Eq, Drop)]
+pub struct Event {
+    pub actor: Actor,
+    pub kind: EventKind,
+}
+
+/// What happened in an event.
+#[derive(Clone, Copy, Debug, PartialEq, Eq, Drop)]
+pub enum EventKind {
+    /// The actor began this line.
+    Begun(Line),
+    /// The line looked at the memory slots as they are now.
+    LookedAtSlots,
+    /// The line looked at what the host maps this page to now.
+    LookedAtHost {
+        page: u64,
+    },
+    /// The access itself: `word` is the index of the content word in its page,
+    /// `before` its value before the access.
+    Accessed {
+        gfn: u64,
+        word: u8,
+        op: Op,
+        frame: u64,
+        before: u64,
+    },
+    /// The access left the guest without touching memory.
+    Exited(Answer),
+    /// The memory slot with this ID is set.
+    SlotChanged {
+        id: u64,
+        slot: Slot,
+    },
+    /// The line with this number is answered.
+    Answered {
+        line: u32,
+        answer: Answer,
+    },
+}

@@ -1,0 +1,42 @@
+//! The trace, its answers and its events, and the definitions of what flat
+//! guest memory is: `specs/` holds them, one topic a file.
+#![tactic(auto)]
+
+mod actor;
+mod answer;
+mod cache;
+mod event;
+mod hand;
+mod kind;
+mod laws;
+mod no_memory;
+mod place;
+mod sequence;
+mod sizes;
+mod slot_set;
+mod topics;
+mod trace;
+
+pub use actor::Actor;
+pub use answer::{Answer, Answered, AnsweredLine, Refusal};
+pub use cache::{Cache, Translation};
+pub use event::{Event, EventKind};
+pub use hand::{Closing, Hand, Hands, Seen, State};
+pub use kind::{Kind, Operation, StepKind};
+pub use laws::{alone_is_flat, flat_history_is_lawful};
+pub use no_memory::NoMemory;
+pub use place::{
+    AccessPlace, Cause, CheckStage, FaultEnd, FaultNext, FaultPlace, Leaving, Place, SetSlotPlace,
+    SlotField,
+};
+pub use sequence::Sequence;
+pub use sizes::Sizes;
+pub use slot_set::{MemorySlot, SlotSet};
+pub use topics::{
+    Checked, Hold, HostLook, Invalidations, MapClaim, OwnedPage, SlotSearch, Stay, TableWalk,
+    Topics,
+};
+pub use trace::{Command, Header, Line, Lines, Op, Slot, Trace, Words};
+
+#[cfg(test)]
+mod slot_set_tests;

@@ -1,0 +1,152 @@
+/// Where an actor's line stands in the order of its steps: which step is next.
+#[derive(Clone, Copy, Debug, PartialEq, Eq, Drop)]
+pub enum Place {
+    /// No line is under way.
+    Between,
+    Access(AccessPlace),
+    SetSlot(SetSlotPlace),
+}
+
+/// A word of a slot in its slot set.
+#[derive(Clone, Copy, Debug, PartialEq, Eq, Drop)]
+pub enum SlotField {
+    Base,
+    Pages,
+    Host,
+    Flags,
+}
+
+/// What becomes of an access behind its stay in the guest.
+#[derive(Clone, Copy, Debug, PartialEq, Eq, Drop)]
+pub enum Leaving {
+    /// It reached its word, and is answered so.
+    Reached { frame: u64, value: u64 },
+    /// It found no translation, and faults.
+    Faults,
+}
+
+/// The steps of a guest access, in their order: stays in the guest, and between
+/// them faults. `again` says that a fault of this line has installed an entry.
+#[derive(Clone, Copy, Debug, PartialEq, Eq, Drop)]
+pub enum AccessPlace {
+    /// Enters the guest.
+    Enter { again: bool },
+    /// Loads the pause.
+    Pause { again: bool },
+    /// Loads the root, where no cached translation allows the access.
+    Root { again: bool },
+    /// Loads the entry in the table that the walk has come to.
+    Walk { again: bool },
+    /// Reads, writes or adds to the content word.
+    Touch,
+    /// Leaves the guest.
+    Leave(Leaving),
+    /// A step of its fault.
+    Fault(FaultPlace),
+}
+
+/// The steps of a slot setting, in their order.
+#[derive(Clone, Copy, Debug, PartialEq, Eq, Drop)]
+pub enum SetSlotPlace {
+    /// It is refused, which is known before its first step.
+    Refuse(crate::Refusal),
+    /// Stores this word of the slot.
+    Fill(SlotField),
+}
+
+/// Why a fault is to begin anew (locking.rst; tdp_mmu.c, `RET_PF_RETRY`).
+#[derive(Clone, Copy, Debug, PartialEq, Eq, Drop)]
+pub enum Cause {
+    /// So many invalidations are open, over guest frames from `start` up to
+    /// `end`, the fault's among them.
+    Open {
+        count: u64,
+        start: u64,
+        end: u64,
+        gfn: u64,
+    },
+    /// The sequence number of invalidations was `old` before the look-up, and is
+    /// `now`.
+    Moved {
+        old: u64,
+        now: u64,
+    },
+    /// This word held `read`, and holds `seen`, which isn't `read` or is frozen.
+    Entry {
+        word: u32,
+        read: u64,
+        seen: u64,
+    },
+}
+
+/// What a fault ends with.
+#[derive(Clone, Copy, Debug, PartialEq, Eq, Drop)]
+pub enum FaultEnd {
+    /// An entry that allows the access stands.
+    Installed,
+    /// No slot gives the guest frame a page for this access.
+    Mmio,
+    /// The host doesn't allow writes to the page.
+    HostFault,
+    /// No pool page was free for a table.
+    Starved,
+    /// It is to begin anew.
+    Retry(Cause),
+}
+
+/// The word that a check of a look-up loads next.
+#[derive(Clone, Copy, Debug, PartialEq, Eq, Drop)]
+pub enum CheckStage {
+    /// How many invalidations are open.
+    Count,
+    /// The first guest frame of their range, where some are open.
+    Start,
+    /// The guest frame behind it.
+    End,
+    /// The sequence number, where none is open over the guest frame.
+    Seq,
+}
+
+/// The steps of a fault, in their order (tdp_mmu.c, `kvm_tdp_mmu_map`).
+#[derive(Clone, Copy, Debug, PartialEq, Eq, Drop)]
+pub enum FaultPlace {
+    /// Begins a section.
+    Begin,
+    /// Takes the sequence number of invalidations.
+    Snapshot,
+    /// Loads which slot set is published, or, once begun, the next word of its
+    /// search.
+    Find { begun: bool },
+    /// Loads the host word of the page behind the guest frame.
+    Host,
+    /// Tries to share the lock, or takes itself out of its readers again.
+    Share,
+    /// Loads the next word of the check.
+    Check(CheckStage),
+    /// Loads the root, or, once rooted, the entry in the table that the walk has
+    /// come to.
+    Walk { rooted: bool },
+    /// Loads a word of the pool's map, or tries a page that it saw there.
+    Claim { begun: bool },
+    /// Stores the next word of the page that it owns, or its role.
+    Fill,
+    /// Links the page as a table.
+    Link,
+    /// Gives the page back, where another actor's entry stands.
+    Give(FaultEnd),
+    /// Puts the leaf.
+    Leaf,
+    /// Gives the lock back.
+    Unshare(FaultEnd),
+    /// Ends the section.
+    End(FaultEnd),
+}
+
+/// Where a fault stands behind a step.
+#[derive(Clone, Copy, Debug, PartialEq, Eq, Drop)]
+pub enum FaultNext {
+    /// It goes on with the step of this place.
+    Goes(FaultPlace),
+    /// It is over.
+    Ends(FaultEnd),
+}

@@ -1,0 +1,83 @@
+ghost use Rattle.std.specs.Prelude.{◌≡◌, ◌<◌};
+ghost use Rattle.table_views.specs.Sizes.{AreFewActors, actor_at, actors_of, index_of, sizes_of};
+
+use crate::{Actor, Header};
+
+/// The sizes of a machine, from a trace's header.
+#[derive(Clone, Copy, Debug, PartialEq, Eq, Drop)]
+pub struct Sizes {
+    /// Host pages.
+    pub pages: u64,
+    /// Host frames.
+    pub frames: u64,
+    /// Content words of a page.
+    pub words: u64,
+    /// Pool pages.
+    pub pool: u64,
+    /// Translations that a virtual processor caches at most.
+    pub cache: u64,
+    /// Virtual processors.
+    pub vcpus: u64,
+    /// Host threads.
+    pub hosts: u64,
+    /// Workers.
+    pub workers: u64,
+}
+
+impl Sizes {
+    /// The sizes that the header gives.
+    pub fn of(header: &Header) -> Self
+        ensures { result ≡ sizes_of header.now }
+    {
+        Sizes {
+            pages: header.pages,
+            frames: header.frames,
+            words: header.words as u64,
+            pool: header.pool as u64,
+            cache: header.cache as u64,
+            vcpus: header.vcpus as u64,
+            hosts: header.hosts.as_slice().len() as u64,
+            workers: header.workers as u64,
+        }
+    }
+
+    /// How many actors the machine has: virtual processors, host threads, the
+    /// manager and the workers.
+    pub fn actors(&self) -> u64
+        requires { AreFewActors self.now }
+        ensures { result ≡ actors_of self.now }
+    {
+        self.vcpus + self.hosts + 1 + self.workers
+    }
+
+    /// The place of an actor among all of them, in the order `v0`.., `h0`..,
+    /// `vm`, `w0`...
+    pub fn index_of(&self, actor: Actor) -> u64
+        requires { AreFewActors self.now }
+        ensures { result ≡ index_of self.now actor }
+    {
+        match actor {
+            Actor::Vcpu(n) => n as u64,
+            Actor::Host(n) => self.vcpus + n as u64,
+            Actor::Manager => self.vcpus + self.hosts,
+            Actor::Worker(n) => self.vcpus + self.hosts + 1 + n as u64,
+        }
+    }
+
+    /// The actor at this place.
+    pub fn actor_at(&self, index: u64) -> Actor
+        requires few { AreFewActors self.now }
+        requires there { index < actors_of self.now }
+        ensures { result ≡ actor_at self.now index }
+    {
+        if index < self.vcpus {
+            Actor::Vcpu(index as u8)
+        } else if index - self.vcpus < self.hosts {
+            Actor::Host((index - self.vcpus) as u8)
+        } else if index == self.vcpus + self.hosts {
+            Actor::Manager
+        } else {
+            Actor::Worker((index - self.vcpus - self.hosts - 1) as u8)
+        }
+    }
+}

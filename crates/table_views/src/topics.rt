@@ -1,0 +1,204 @@
+use crate::{Slot, SlotField};
+
+/// Where an actor is, as its own state word tells the others (KVM's
+/// vcpu-requests.rst, "VCPU Mode").
+#[derive(Clone, Copy, Debug, PartialEq, Eq, Drop)]
+pub enum Stay {
+    /// In no section, and not in the guest.
+    Outside,
+    /// In the guest.
+    Guest,
+    /// In a section, from whose loads nothing is given back until it ends.
+    Section,
+}
+
+/// How an actor holds the MMU lock (KVM's locking.rst, `mmu_lock`).
+#[derive(Clone, Copy, Debug, PartialEq, Eq, Drop)]
+pub enum Hold {
+    /// Not at all.
+    Loose,
+    /// As one of its readers.
+    Shared,
+    /// It counts as a reader, but saw this word, with a writer in it: it has yet
+    /// to take itself out again.
+    Owing(u64),
+    /// As its writer, alone.
+    Exclusive,
+}
+
+/// What an actor loaded of a slot set, slot after slot, in this section or under
+/// the lock: of each slot the flags first, and where it is live its base, pages
+/// and host page.
+#[derive(Clone, Copy, Debug, PartialEq, Eq, Drop)]
+pub struct SlotSearch {
+    /// The pool page of the slot set, where one is held.
+    pub set: Option<u64>,
+    /// The slot whose word is next; 32 behind the last one.
+    pub id: u64,
+    /// The word that is next.
+    pub next: SlotField,
+    /// The slot whose words are loaded; behind it, the one that was loaded last.
+    pub slot: Slot,
+    /// Whether the flags that were loaded last have a dirty log in them.
+    pub logged: bool,
+    /// Whether each word of the slot was loaded, its host page last.
+    pub whole: bool,
+}
+
+/// A host word, and the page that it is of.
+#[derive(Clone, Copy, Debug, PartialEq, Eq, Drop)]
+pub struct HostLook {
+    pub page: u64,
+    pub word: u64,
+}
+
+/// Which words of the invalidations were loaded under the lock, in the order of
+/// the check.
+#[derive(Clone, Copy, Debug, PartialEq, Eq, Drop)]
+pub enum Checked {
+    /// None, or not in this order.
+    Nothing,
+    /// How many are open.
+    Count,
+    /// And the first guest frame of their range.
+    Start,
+    /// And the guest frame behind it.
+    Range,
+    /// And, behind the count where it was 0, or behind the range, the sequence
+    /// number.
+    All,
+}
+
+/// What an actor loaded of the invalidations: their sequence number before it
+/// looked up and since, how many are open, and the range of guest frames of these.
+#[derive(Clone, Copy, Debug, PartialEq, Eq, Drop)]
+pub struct Invalidations {
+    /// The sequence number before the look-up of this section, where it was taken.
+    pub snapshot: Option<u64>,
+    /// How many are open.
+    pub count: u64,
+    /// The first guest frame of their range.
+    pub start: u64,
+    /// The guest frame behind their range.
+    pub end: u64,
+    /// The sequence number under the lock.
+    pub seq: u64,
+    /// Which of them were loaded since the actor has the lock.
+    pub checked: Checked,
+}
+
+/// A walk from the root down to an entry: the tables that it has come through
+/// in this section or stay, or under the lock.
+#[derive(Clone, Copy, Debug, PartialEq, Eq, Drop)]
+pub struct TableWalk {
+    /// The level of the table that it has come to, 4 at the root; 0 where none
+    /// is held.
+    pub level: u8,
+    /// The run of guest frames that this table is for: its number among the runs
+    /// of 512 entries of the level, 0 at the root.
+    pub prefix: u64,
+    /// The pool pages of its tables of levels 4, 3, 2 and 1, down to its level.
+    pub root: u64,
+    pub third: u64,
+    pub second: u64,
+    pub first: u64,
+    /// The place of the entry that was loaded last in this table; 512 where none
+    /// was.
+    pub index: u64,
+    /// The entry that was loaded last.
+    pub entry: u64,
+}
+
+/// A claim of a free page of the pool's map.
+#[derive(Clone, Copy, Debug, PartialEq, Eq, Drop)]
+pub struct MapClaim {
+    /// The word of the map that the claim has come to: each before it was seen 0.
+    pub at: u64,
+    /// The free pages that were seen in this word, a bit for each; 0 where it is
+    /// yet to be loaded.
+    pub seen: u64,
+}
+
+/// A pool page that an actor owns alone: claimed, and not linked or given back.
+#[derive(Clone, Copy, Debug, PartialEq, Eq, Drop)]
+pub struct OwnedPage {
+    pub page: u64,
+    /// How many of its words are filled, 512 and then its role: 0 to 513.
+    pub filled: u64,
+    /// Whether each of the 512 that is filled holds 0.
+    pub absent: bool,
+    /// The role that was stored, once all is filled.
+    pub role: u64,
+}
+
+/// What an actor holds of each part of the machine. Each field is a topic of its
+/// own, which few kinds of step write.
+#[derive(Clone, Copy, Debug, PartialEq, Eq, Drop)]
+pub struct Topics {
+    pub stay: Stay,
+    pub hold: Hold,
+    pub search: SlotSearch,
+    pub invalidations: Invalidations,
+    pub walk: TableWalk,
+    pub claim: MapClaim,
+    pub owned: Option<OwnedPage>,
+    /// The place of the actor whose state word is looked at next; each before it
+    /// was seen outside.
+    pub watched: u64,
+    /// The host word that was loaded last in this look-up.
+    pub host: Option<HostLook>,
+    /// The pause word that was loaded last.
+    pub pause: u64,
+}
+
+impl Topics {
+    ghost use Rattle.std.specs.Prelude.{◌≡◌};
+    ghost use Rattle.table_views.specs.Held.{first_topics};
+
+    /// What an actor holds before its first step: nothing.
+    pub fn first() -> Self
+        ensures { result ≡ first_topics }
+    {
+        let slot = Slot {
+            base: 0,
+            pages: 0,
+            host: 0,
+            read_only: false,
+        };
+        Topics {
+            stay: Stay::Outside,
+            hold: Hold::Loose,
+            search: SlotSearch {
+                set: None,
+                id: 0,
+                next: SlotField::Flags,
+                slot,
+                logged: false,
+                whole: false,
+            },
+            invalidations: Invalidations {
+                snapshot: None,
+                count: 0,
+                start: 0,
+                end: 0,
+                seq: 0,
+                checked: Checked::Nothing,
+            },
+            walk: TableWalk {
+                level: 0,
+                prefix: 0,
+                root: 0,
+                third: 0,
+                second: 0,
+                first: 0,
+                index: 512,
+                entry: 0,
+            },
+            claim: MapClaim { at: 0, seen: 0 },
+            owned: None,
+            watched: 0,
+            host: None,
+            pause: 0,
+        }
+    }
+}

@@ -1,0 +1,119 @@
+ghost use Rattle.std.specs.Prelude.{◌≡◌};
+ghost use Rattle.table_views.specs.Memory.{stored};
+ghost use Rattle.table_views.specs.Slots.{contains, is_write};
+
+use crate::{Actor, Sequence};
+
+/// Numbers that a header lists.
+pub type Words = Sequence<u64>;
+
+/// The lines of a trace, in file order.
+pub type Lines = Sequence<Line>;
+
+/// What a guest access does to its content word.
+#[derive(Clone, Copy, Debug, PartialEq, Eq, Drop)]
+pub enum Op {
+    Read,
+    /// Stores this number.
+    Write(u64),
+    /// Adds this number, modulo 2^64.
+    Add(u64),
+}
+
+impl Op {
+    /// Whether it may change the word.
+    pub fn is_write(self) -> bool
+        ensures { result ≡ is_write self }
+    {
+        match self {
+            Op::Read => false,
+            Op::Write(_) | Op::Add(_) => true,
+        }
+    }
+
+    /// What the word holds after it, where it held `before`.
+    pub fn stored(self, before: u64) -> u64
+        ensures { result ≡ stored self before }
+    {
+        match self {
+            Op::Read => before,
+            Op::Write(number) => number,
+            Op::Add(number) => before.wrapping_add(number),
+        }
+    }
+}
+
+/// A memory slot (KVM's api.rst, `KVM_SET_USER_MEMORY_REGION`): guest frames
+/// `base` up to `base + pages` are the host pages from `host` on.
+#[derive(Clone, Copy, Debug, PartialEq, Eq, Drop)]
+pub struct Slot {
+    /// The first guest frame number.
+    pub base: u64,
+    /// The number of 4 KiB pages.
+    pub pages: u64,
+    /// The first host page, a multiple of 64.
+    pub host: u64,
+    /// Guest writes leave the guest (`KVM_MEM_READONLY`).
+    pub read_only: bool,
+}
+
+impl Slot {
+    /// Whether the guest frame is one of its own.
+    pub fn contains(&self, gfn: u64) -> bool
+        ensures { result ≡ contains gfn self.now }
+    {
+        self.base <= gfn && gfn - self.base < self.pages
+    }
+}
+
+/// What a line asks for: one variant for each form of line.
+#[derive(Clone, Copy, Debug, PartialEq, Eq, Drop)]
+pub enum Command {
+    /// A guest access to content word `word` of guest frame `gfn`: one aligned
+    /// 8-byte read, write or add at byte address `4096 * gfn + 8 * word`.
+    Access { gfn: u64, word: u8, op: Op },
+    /// Sets the memory slot with this ID, which may be any number.
+    SetSlot { id: u64, slot: Slot },
+}
+
+/// A line of the trace: its number in the file (the header is line 1), its
+/// actor, and what it asks for.
+#[derive(Clone, Copy, Debug, PartialEq, Eq, Drop)]
+pub struct Line {
+    pub number: u32,
+    pub actor: Actor,
+    pub command: Command,
+}
+
+/// The first line of a trace: the sizes of the machine.
+#[derive(Debug, Drop)]
+pub struct Header {
+    /// The trace's version, 1.
+    pub version: u8,
+    /// Virtual processors, 1 to 16.
+    pub vcpus: u8,
+    /// Workers, 0 to 4.
+    pub workers: u8,
+    /// Host pages, 1 to 1,048,576.
+    pub pages: u64,
+    /// Host frames, `pages` to 2,097,152; times `words` at most 8,388,608.
+    pub frames: u64,
+    /// Content words of a page, at byte offsets 0, 8, ..: 1, 2, 4 or 8.
+    pub words: u8,
+    /// Pool pages for tables and slot sets, 4 to 16,384.
+    pub pool: u32,
+    /// Cached translations of a virtual processor, 1 to 64.
+    pub cache: u8,
+    /// The dirty log's mode: 0 automatic, 1 manual, 2 manual with all bits
+    /// initially set.
+    pub manual: u8,
+    /// The first host page of each host thread, from 0 and strictly rising.
+    pub hosts: Words,
+}
+
+/// A trace: its header, and its lines in file order.
+#[derive(Debug, Drop)]
+pub struct Trace {
+    pub header: Header,
+    pub lines: Lines,
+}

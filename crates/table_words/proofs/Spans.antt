@@ -1,0 +1,39 @@
+-- The runs of the levels: their numbers, and how far a child lies from its leaf's first frame.
+use Rattle.std.proofs.Common.{◌≡◌, ◌+◌, ◌*◌, ◌-◌, ◌^◌, ◌<◌, ◌≤◌, ℕ, refl, arith}
+use Rattle.std.proofs.lemmas.Nat.{pow-add}
+use Rattle.table_words.specs.Entries.{level_span}
+
+-- the four levels
+pub span_1 : level_span 1 ≡ 1
+unfolding level_span
+span_1 = refl
+
+pub span_2 : level_span 2 ≡ 512
+unfolding level_span
+span_2 = refl
+
+pub span_3 : level_span 3 ≡ 262144
+unfolding level_span
+span_3 = refl
+
+pub span_4 : level_span 4 ≡ 134217728
+unfolding level_span
+span_4 = refl
+
+pub ruleset spans = (span_1, span_2, span_3, span_4)
+
+one_more : (k : ℕ) → 512 ^ (k + 1) ≡ 512 * 512 ^ k
+one_more k = omega (arith, pow-add 512 k 1)
+
+-- A run is 512 of the level below.
+pub span_above : (level : ℕ) → 1 ≤ level → level_span (level + 1) ≡ 512 * level_span level
+unfolding level_span
+span_above level from = let up : level + 1 - 1 ≡ level - 1 + 1 = omega arith in rw up (one_more (level - 1))
+
+-- A child's place lies in the run of level 3.
+pub child_within : (level i : ℕ) → 2 ≤ level → level ≤ 3 → i < 512 → i * level_span (level - 1) < 2 ^ 18
+child_within level i from to small = grind (arith, spans)
+
+-- Each run has a page.
+pub span_positive : (level : ℕ) → 1 ≤ level → level ≤ 4 → 0 < level_span level
+span_positive level from to = grind (arith, spans)

@@ -1,0 +1,36 @@
+/// A run of words of one use. The areas follow one another in this order.
+#[derive(Clone, Copy, Debug, PartialEq, Eq, Drop)]
+pub enum Area {
+    /// The pool page of the root table.
+    Root,
+    /// The pool page of the published memory slots.
+    Slots,
+    /// The sequence number of invalidations.
+    Seq,
+    /// How many invalidations are open.
+    Count,
+    /// The first gfn of the open invalidations' range.
+    RangeStart,
+    /// The gfn behind the last of that range.
+    RangeEnd,
+    /// The MMU lock.
+    Lock,
+    /// 1 where virtual processors stay outside the guest, else 0.
+    Pause,
+    /// A word for each actor.
+    State,
+    /// A bit for each pool page, set where the page is free.
+    PoolMap,
+    /// A bit for each frame, set where the frame is free.
+    FrameMap,
+    /// The dirty log: a bit for each host page.
+    Log,
+    /// A host word for each host page.
+    Host,
+    /// The role of each pool page.
+    Role,
+    /// The pool pages, 512 words each: tables and sets of memory slots.
+    Pool,
+    /// The words of the frames.
+    Content,
+}

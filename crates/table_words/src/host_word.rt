@@ -1,0 +1,85 @@
+ghost use Rattle.std.specs.Prelude.{◌≡◌, ℕ, ◌<◌, ◌^◌};
+ghost use Rattle.table_words.specs.HostWords.{host_word, host_present, host_allows_write, host_level, host_frame};
+
+use crate::bit::bit_if;
+use std::marker::Model;
+
+const PRESENT: u64 = 1;
+
+const WRITABLE: u64 = 1 << 1;
+
+const LEVEL: u64 = 1 << 2;
+
+const FRAME: u64 = 1 << 12;
+
+/// What the host maps one of its pages to, as a word of 64 bits.
+#[derive(Clone, Copy, Debug, PartialEq, Eq, Drop)]
+pub struct HostWord {
+    word: u64,
+}
+
+impl Model for HostWord {
+    ghost Value = { ℕ };
+
+    ghost view = { λ h. h.word };
+
+    ghost inverse = { λ word. record { word = word } };
+}
+
+#[tactic(auto, unfolding(crate::specs::HostWords::host_word, crate::specs::HostWords::host_present, crate::specs::HostWords::host_allows_write, crate::specs::HostWords::host_level, crate::specs::HostWords::host_frame))]
+impl HostWord {
+    /// The page is at `frame` (below 2^52), by a mapping of this level (1 to
+    /// 3), where it is present.
+    pub fn new(frame: u64, present: bool, writable: bool, level: u8) -> HostWord
+        requires frame_in { frame < 2 ^ 52 }
+        requires level_in { level < 4 }
+        ensures { result ≡ host_word frame present writable level }
+    {
+        let low = bit_if(PRESENT, present) + bit_if(WRITABLE, writable);
+        HostWord {
+            word: low + LEVEL * level as u64 + FRAME * frame,
+        }
+    }
+
+    /// The host word that this word is.
+    pub fn from_word(word: u64) -> HostWord
+        ensures { result ≡ word }
+    {
+        HostWord { word }
+    }
+
+    /// Its word.
+    pub fn word(self) -> u64
+        ensures { result ≡ self }
+    {
+        self.word
+    }
+
+    /// The frame that holds the page.
+    pub fn frame(self) -> u64
+        ensures { result ≡ host_frame self }
+    {
+        self.word / FRAME
+    }
+
+    /// Whether the host has the page in memory.
+    pub fn is_present(self) -> bool
+        ensures { result ≡ host_present self }
+    {
+        self.word / PRESENT % 2 == 1
+    }
+
+    /// Whether the host allows writes to it.
+    pub fn is_writable(self) -> bool
+        ensures { result ≡ host_allows_write self }
+    {
+        self.word / WRITABLE % 2 == 1
+    }
+
+    /// The level of the host's mapping, 1 to 3.
+    pub fn level(self) -> u8
+        ensures { result ≡ host_level self }
+    {
+        (self.word / LEVEL % 4) as u8
+    }
+}
