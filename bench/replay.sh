@@ -2,52 +2,126 @@
 # Times `tdpmmu replay`, the machine that makes one atomic step at a time, and
 # `tdpmmu check`, which reads a trace and runs nothing.
 #
-# First `replay` on traces of 10,000, 100,000 and 1,000,000 lines, or as many of
-# these as 16 MiB hold: lines and steps a second, beside the time of
-# `plain_replay`, which runs the same trace over maps, and whether a line costs
-# more in the longest trace than in the shortest. What both print has to be the
-# same.
+#   bench/replay.sh             all of it, five to eight minutes
+#   bench/replay.sh --short     shorter traces and fewer measurements, half a minute
+#   bench/replay.sh --steps     writes how many steps the trace on standard input takes, and runs nothing
+#
+# First `replay` on traces of 10,000, 100,000 and 1,000,000 lines: accesses by 4
+# virtual processors over 4,096 pages, of which each keeps 64 translations. Three
+# of four are near, in 16 pages of this processor, and one is far, in any page.
+# The pages are those of 1 slot and of 32; the pool has as many pages as the trace
+# needs, 4,096, and 16,384. Printed are steps a line, nanoseconds a line and
+# nanoseconds a step, and whether a line costs more in the longest traces where
+# pool or slots are larger, or than in shorter ones. Then the same for near
+# accesses alone, which nearly all make 4 steps. What is printed has to be what
+# `plain_replay` prints, which runs the same trace over maps.
+#
+# The steps are counted from the trace by the order of steps (`steps`).
 #
 # Then both commands on two traces of nearly 16 MiB: reads and writes spread over
 # 1,048,576 pages of 8 words, and comments, empty lines, lines of 65,536 bytes
 # and numbers of every spelling. Reading them should take no more than six times
 # what awk takes to count their words.
 #
-# All times are seconds of a processor (user and system), the least of five
-# measurements. Needs `rt`, awk and bash.
+# All times are of a processor (user and system), the least of five measurements.
+# What the program takes to start is taken off; where the trace is short and the
+# pool large it is most of the time, so these rows are rough.
+# Needs `rt`, awk and bash.
 set -euo pipefail
 top=$(cd "$(dirname "$0")/.." && pwd)
 folder=$(mktemp -d)
 trap 'rm -rf "$folder"' EXIT
-growth=1.3   # a line's cost in the longest trace, over that in the shortest
+growth=1.3   # the most that a line may cost, over what it costs in a smaller case
 bound=6      # times of awk, for reading
-small='tdp 1 vcpus 4 workers 0 pages 4096 frames 4096 words 1 pool 64 cache 64 manual 0 hosts 0'
+cache=64
+need=14      # the root, the slot set, two more, and tables: 1, 1 and 8
 header='tdp 1 vcpus 16 workers 4 pages 1048576 frames 1048576 words 8 pool 16384 cache 64 manual 0 hosts 0'
+lengths='10000 100000 1000000'
+pools="$need 4096 16384"
+rounds=5
+if [ "${1:-}" = --short ]; then
+  lengths='10000 100000'
+  pools="$need 16384"
+  rounds=2
+fi
 
-# A trace of so many lines. Each run of 4,096 accesses reaches every page once.
-spread() {
-  awk -v header="$small" -v most="$1" 'BEGIN {
-    print header; print "vm slot 0 0 4096 0"
-    size = length(header) + 20
-    for (lines = 2; lines < most; lines++) {
-      turn = (lines + int(lines / 4096)) % 4
-      line = "v" int(lines / 3) % 4 " " (turn < 2 ? "read " : turn == 2 ? "write " : "add ") lines * 1103 % 4096 * 4096
-      if (turn >= 2) line = line " " lines % 10
-      size += length(line) + 1
-      if (size > 16777216) break
-      print line
+# The header and the slots of a trace over 4,096 pages: the pool's pages, the slots.
+slots() {
+  echo "tdp 1 vcpus 4 workers 0 pages 4096 frames 4096 words 1 pool $1 cache $cache manual 0 hosts 0"
+  for ((id = 0; id < $2; id++)); do
+    echo "vm slot $id $((id * 4096 / $2)) $((4096 / $2)) $((id * 4096 / $2))"
+  done
+}
+
+# Accesses of those pages, so many lines: three of four, or all of them, are near.
+accesses_of() {
+  awk -v most="$1" -v far="$2" 'BEGIN {
+    for (k = 0; k < most; k++) {
+      four = int(k / 4); vcpu = (four + int(four / 4096)) % 4
+      page = far && k % 4 == 3 ? four * 1103 % 4096 : vcpu * 16 + (four * 3 + k) % 16
+      turn = (k + four) % 4
+      print "v" vcpu (turn < 2 ? " read " : turn == 2 ? " write " : " add ") page * 4096 (turn < 2 ? "" : " " k % 10)
     }
   }'
 }
 
-# The steps that a trace of slot 0 and accesses inside it takes: 4 words of the
-# slot; and for an access which slots are published, the slot's 4 words, the
-# entry and the content word, and where the page is reached for the first time
-# the host word and the exchange of the entry.
-steps() {
-  awk '$1 == "vm" { steps += 4 } $1 ~ /^v[0-9]/ { steps += reached[$3]++ ? 7 : 9 } END { print steps }'
+# A trace of so many lines, of that pool and those slots.
+trace() {
+  slots "$2" "$3"
+  accesses_of $(($1 - 1 - $3)) "$4"
 }
 
+# The steps of a trace with a pool that is large enough, whose numbers are decimal,
+# whose slots are all taken and writable, and whose accesses lie in them. A slot
+# line stores 4 words. An access enters, loads the pause, touches and leaves, and
+# where no translation is cached it loads the root and four entries before it
+# touches. Where the page has no leaf yet, a first stay enters, loads the pause,
+# the root, and an entry of each table that is there, and leaves; then a fault
+# begins a section, loads the sequence number, the slot set, the slots words up to
+# the slot, and the host word, shares the lock, loads count, sequence number, root
+# and four entries, and puts the leaf, gives the lock back and ends; for each table
+# that is missing it loads words of the map up to a free page, claims it, fills
+# its 512 words and its role, and links it.
+steps() {
+  awk '
+    function is_cached(vcpu, page) { return (vcpu, page) in filled && filled[vcpu, page] > fills[vcpu] - cache }
+    function slot_words(page,   id, words) {
+      for (id = 0; id < 32; id++) {
+        words++
+        if (!(id in pages)) continue
+        words += 3
+        if (base[id] <= page && page < base[id] + pages[id]) break
+      }
+      return words
+    }
+    function fault(page,   level, span, tables, made) {
+      span = 134217728; tables = 1
+      for (level = 3; level >= 1; level--) {
+        if ((level, int(page / span)) in table) tables++
+        else { table[level, int(page / span)]; made += int(next_page / 64) + 516; next_page++ }
+        span /= 512
+      }
+      has_leaf[page]
+      return 4 + tables + 15 + slot_words(page) + made
+    }
+    NR == 1 { for (i = 1; i < NF; i++) if ($i == "cache") cache = $(i + 1); next_page = 2 }
+    $1 == "vm" { base[$3 + 0] = $4; pages[$3 + 0] = $5; steps += 4 }
+    $1 ~ /^v[0-9]/ {
+      page = int($3 / 4096)
+      if (is_cached($1, page)) { steps += 4; next }
+      if (!(page in has_leaf)) steps += fault(page)
+      steps += 9
+      filled[$1, page] = ++fills[$1]
+    }
+    END { printf "%.0f\n", steps }'
+}
+
+if [ "${1:-}" = --steps ]; then
+  steps
+  exit
+fi
+
+# Reads and writes spread over all pages of the largest machine.
 accesses() {
   awk -v header="$header" 'BEGIN {
     srand(1)
@@ -64,6 +138,7 @@ accesses() {
   }'
 }
 
+# Comments, long lines, and numbers of every spelling.
 spellings() {
   awk -v header="$header" 'BEGIN {
     srand(2)
@@ -98,10 +173,10 @@ again() {
   done
 }
 
-# the least seconds of a processor that so many runs of a command take, of five measurements
+# the least seconds of a processor that so many runs of a command take, of all measurements
 best() {
   local TIMEFORMAT='%U %S'
-  for _ in 1 2 3 4 5; do
+  for ((round = 0; round < rounds; round++)); do
     { time again "$@"; } 2>&1
   done | awk '{ t = $1 + $2; if (NR == 1 || t < m) m = t } END { print m }'
 }
@@ -111,41 +186,73 @@ best() {
 program=$top/crates/tdpmmu/out/tdpmmu
 plain=$top/crates/plain_replay/out/plain_replay
 
-printf '%s\n' "$small" > "$folder/trace"
-start=$(best 100 "$program" replay)
-plain_start=$(best 100 "$plain")
-awk -v m="$start" -v p="$plain_start" 'BEGIN {
-  printf "start, a trace with no line: machine %.2f ms, flat interpreter %.2f ms; taken off below\n", m * 10, p * 10
-}'
-for count in 10000 100000 1000000; do
-  spread "$count" > "$folder/trace"
-  "$program" replay < "$folder/trace" > "$folder/machine"   # stops here where the trace is refused
+# The machine and the flat interpreter print the same; it stops here where they
+# don't, and where the trace is refused.
+compare() {
+  "$program" replay < "$folder/trace" > "$folder/machine"
   "$plain" < "$folder/trace" > "$folder/plain"
   cmp "$folder/machine" "$folder/plain"
-  times=$((1000000 / count))
+}
+
+# One row: the trace's lines, its pool, its slots, and 1 where it has far accesses.
+# What the program takes to start with this pool and these slots is taken off.
+row() {
+  trace "$1" "$2" "$3" "$4" > "$folder/trace"
+  compare
+  local times=$((longest / $1 < 20 ? longest / $1 : 20)) count machine
+  count=$(steps < "$folder/trace")
   machine=$(best "$times" "$program" replay)
-  flat=$(best "$times" "$plain")
-  awk -v times="$times" -v lines="$(wc -l < "$folder/trace")" -v steps="$(steps < "$folder/trace")" \
-    -v m="$machine" -v f="$flat" -v start="$start" -v plain="$plain_start" \
-    -v costs="$folder/costs" 'BEGIN {
-    m = m / times - start / 100; f = f / times - plain / 100
-    printf "%d lines, %d steps: machine %.4f s, %.0f lines a second, %.0f steps a second; ", lines, steps, m, lines / m, steps / m
-    printf "flat interpreter %.4f s, ratio %.2f\n", f, m / f
-    printf "%.12f %.12f\n", m / lines, m / steps >> costs
+  awk -v times="$times" -v lines="$1" -v pool="$2" -v slots="$3" -v far="$4" -v steps="$count" \
+    -v m="$machine" -v start="$(cat "$folder/start.$2.$3")" -v rows="$folder/rows" 'BEGIN {
+    m = m / times - start
+    printf "%9d %6d %6d %9.3f %9.1f %9.2f\n", lines, pool, slots, steps / lines, m * 1e9 / lines, m * 1e9 / steps
+    printf "%d %d %d %d %.12f %.12f\n", lines, pool, slots, far, m / lines, m / steps >> rows
   }'
+}
+
+for pool in $pools; do
+  for slots in 1 32; do
+    slots "$pool" "$slots" > "$folder/trace"
+    awk -v m="$(best 20 "$program" replay)" 'BEGIN { printf "%.12f\n", m / 20 }' > "$folder/start.$pool.$slots"
+    awk -v pool="$pool" -v slots="$slots" -v m="$(cat "$folder/start.$pool.$slots")" 'BEGIN {
+      printf "start with a pool of %d pages and %d slots: %.2f ms, taken off below\n", pool, slots, m * 1e3
+    }'
+  done
 done
-awk -v growth="$growth" 'NR == 1 { first = $1; step = $2 } { last = $1; last_step = $2 } END {
-  printf "in the longest trace a step costs %.2f times as much as in the shortest, a line %.2f times: ", last_step / step, last / first
-  print (last > growth * first ? "more than " : "not more than ") growth
-}' "$folder/costs"
+longest=${lengths##* }
+for far in 1 0; do
+  if [ $far = 1 ]; then echo 'one access of four in any page:'; else echo 'near accesses alone:'; fi
+  printf '%9s %6s %6s %9s %9s %9s\n' lines pool slots steps/line ns/line ns/step
+  for lines in $lengths; do
+    for pool in $pools; do
+      for slots in 1 32; do
+        row "$lines" "$pool" "$slots" "$far"
+      done
+    done
+  done
+done
+awk -v growth="$growth" -v longest="$longest" -v least="$need" '
+  function say(what, ratio) {
+    printf "%s a line costs %.2f times as much: %s %.1f\n", what, ratio, (ratio > growth ? "more than" : "not more than"), growth
+  }
+  $4 == 1 { cost[$1, $2, $3] = $5; pool = $2; if ($1 != longest) shorter = $1 }
+  END {
+    say("in the largest pool, not the one that is needed, with 1 slot:", cost[longest, pool, 1] / cost[longest, least, 1])
+    say("with 32 slots, not 1, in the pool that is needed:", cost[longest, least, 32] / cost[longest, least, 1])
+    say("in " longest " lines, not " shorter ", with 1 slot:", cost[longest, least, 1] / cost[shorter, least, 1])
+  }' "$folder/rows"
+
+trace "$longest" "$need" 1 1 > "$folder/trace"
+awk -v m="$(best 1 "$program" replay)" -v f="$(best 1 "$plain")" -v lines="$longest" 'BEGIN {
+  printf "%d lines: replay %.3f s, flat interpreter %.3f s, ratio %.2f (starts included)\n", lines, m, f, m / f
+}'
+[ "${1:-}" = --short ] && exit
 
 printf '%s\n' "$header" > "$folder/trace"
 awk -v m="$(best 5 "$program" replay)" 'BEGIN { printf "start with 1,048,576 pages of 8 words: machine %.3f s, not taken off below\n", m / 5 }'
 for kind in accesses spellings; do
   "$kind" > "$folder/trace"
-  "$program" replay < "$folder/trace" > "$folder/machine"   # stops here where the trace is refused
-  "$plain" < "$folder/trace" > "$folder/plain"
-  cmp "$folder/machine" "$folder/plain"
+  compare
   reading=$(best 1 "$program" check)
   replay=$(best 1 "$program" replay)
   flat=$(best 1 "$plain")

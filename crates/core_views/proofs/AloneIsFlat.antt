@@ -1,25 +1,23 @@
--- A lawful history in which each line stands alone is the flat history, but for what the lines looked at.
-use Rattle.std.proofs.Common.{◌≡◌, List, [], ◌∷◌, ◌++◌, false, refl, sym, ap, ◌∙◌, subst, map, filter}
+-- A lawful history in which each line stands alone, and none is starved, is the flat history, but for what the lines looked at.
+use Rattle.std.proofs.Common.{◌≡◌, ℕ, List, [], ◌∷◌, ◌++◌, false, refl, sym, ap, ◌∙◌, subst}
 use Rattle.std.specs.Prelude.{Some}
 use Rattle.core_views.specs.declared.actor.Actor.{Actor}
 use Rattle.core_views.specs.declared.answer.Answer.{Answer}
-use Rattle.core_views.specs.declared.answer.AnsweredLine.{AnsweredLine}
 use Rattle.core_views.specs.declared.event.Event.{Event}
 use Rattle.core_views.specs.declared.event.EventKind.{EventKind}
-use Rattle.core_views.specs.declared.event.EventKind.TheVariants.{Begun, LookedAtSlots, Accessed, Exited, SlotChanged, Answered}
+use Rattle.core_views.specs.declared.event.EventKind.TheVariants.{Begun, LookedAtSlots, LookedAtHost, Accessed, Exited, SlotChanged, Answered}
 use Rattle.core_views.specs.declared.trace.Line.{Line}
 use Rattle.core_views.specs.declared.sizes.Sizes.{Sizes}
 use Rattle.core_views.specs.Actors.{is_same}
+use Rattle.core_views.specs.Host.{HostEntry}
 use Rattle.core_views.specs.Flat.{Facts, Notes, LineUnderWay, Flat, Stage, Fresh, HasAccessed, HasLeft, HasSetSlot, no_notes}
 use Rattle.core_views.specs.Events.{after, after_all, facts_after, facts_after_all, line_after}
 use Rattle.core_views.specs.Lawful.{IsLawful, IsAllowed}
 use Rattle.core_views.specs.FlatHistory.{by, answers, rest_of, one_by_one}
 use Rattle.core_views.specs.Text.{answers_of, lines_text, text}
-use Rattle.core_views.specs.Whole.{IsWhole, lines_begun, lines_of}
-use Rattle.core_views.specs.Alone.{is_look, without_looks, IsWithin, AreWithin, StandsAlone, StandsFirst}
+use Rattle.core_views.specs.Alone.{is_look, without_looks, IsWithin, AreWithin, NoneStarved, StandsAlone, StandsFirst}
 use Rattle.core_views.proofs.AloneIsLawful.{AllIdle, IsAt, step, at_end}
-use Rattle.core_views.proofs.AloneIsWhole.{one_by_one_whole}
-use Rattle.core_views.proofs.Looks.{facts_without_looks, answers_without_looks, begun_without_looks, facts_behind}
+use Rattle.core_views.proofs.Looks.{facts_without_looks, answers_without_looks, facts_behind}
 use Rattle.core_views.proofs.FlatShows.{flat_shows}
 use Rattle.core_views.proofs.NextAlone.{AreExact, IsNext, access_is_next, exit_is_next, slot_change_is_next, told}
 
@@ -39,10 +37,11 @@ record Ends (z : Sizes) (line : Line) (rest : List Event) (stage : Stage) (f : F
   facts_are : behind.facts ≡ facts_after_all (rest_of z line stage f.facts) f.facts
   idle : AllIdle behind
   lawful : IsLawful z behind rest
+  fed : NoneStarved rest
 
 -- So they do from each stage in which they are lawful.
 abbrev Leads : Sizes → Line → List Event → List Event → Type 0
-Leads z line rest es = (stage : Stage) (notes : Notes) (f : Flat) → IsAlone line stage notes f → IsLawful z f es → Ends z line rest stage f es
+Leads z line rest es = (stage : Stage) (notes : Notes) (f : Flat) → IsAlone line stage notes f → IsLawful z f es → NoneStarved es → Ends z line rest stage f es
 
 allowed : (z : Sizes) (line : Line) (stage : Stage) (notes : Notes) (f : Flat) (kind : EventKind) → IsAlone line stage notes f → IsAllowed z f.facts line.actor (f.under line.actor) kind → IsAllowed z f.facts line.actor (under_way line stage notes) kind
 allowed z line stage notes f kind is may = subst (λ (u : LineUnderWay). IsAllowed z f.facts line.actor u kind) is.at.line_is may
@@ -60,31 +59,42 @@ shown_event z line rest es stage notes f kind is_shown is ends = record {
   facts_are = ends.facts_are ∙ sym (ap (λ (xs : List Event). facts_after_all xs f.facts) is);
   idle = ends.idle;
   lawful = ends.lawful;
+  fed = ends.fed;
 }
+
+-- the host page that was looked at, with its entry
+noted_host : (f : Facts) (held noted : ℕ × HostEntry) → held.1 ≡ f.host held.0 → Some held ≡ Some noted → noted.1 ≡ f.host noted.0
+noted_host f held noted is e =
+    let same : held ≡ noted = cc e in
+    subst (λ (p : ℕ × HostEntry). p.1 ≡ f.host p.0) same is
 
 -- one event within the line: a clause for each kind
 one_event : (z : Sizes) (line : Line) (rest es : List Event) (kind : EventKind) → IsWithin kind → Leads z line rest es → Leads z line rest (by line kind ∷ es)
-one_event z line rest es (Begun other) within leads stage notes f is lawful = absurd within
-one_event z line rest es LookedAtSlots within leads stage notes f is lawful =
-    let ends = leads stage (record notes { slots = Some f.facts.slots }) (after (by line LookedAtSlots) f) (record { at = next_at line stage notes f LookedAtSlots is; exact = λ fresh. record { slots = λ slots noted. cc noted } }) lawful.1 in
-    record { behind = ends.behind; reaches = ends.reaches; shown = ends.shown; facts_are = ends.facts_are; idle = ends.idle; lawful = ends.lawful }
-one_event z line rest es (Accessed gfn word op frame before) within leads stage notes f is lawful =
+one_event z line rest es (Begun other) within leads stage notes f is lawful fed = absurd within
+one_event z line rest es LookedAtSlots within leads stage notes f is lawful fed =
+    let ends = leads stage (record notes { slots = Some f.facts.slots }) (after (by line LookedAtSlots) f) (record { at = next_at line stage notes f LookedAtSlots is; exact = λ fresh. record { slots = λ slots noted. cc noted; host = (is.exact fresh).host } }) lawful.1 fed.1 in
+    record { behind = ends.behind; reaches = ends.reaches; shown = ends.shown; facts_are = ends.facts_are; idle = ends.idle; lawful = ends.lawful; fed = ends.fed }
+one_event z line rest es (LookedAtHost page) within leads stage notes f is lawful fed =
+    let kind : EventKind = LookedAtHost page in
+    let ends = leads stage (record notes { host = Some (page, f.facts.host page) }) (after (by line kind) f) (record { at = next_at line stage notes f kind is; exact = λ fresh. record { slots = (is.exact fresh).slots; host = λ other entry noted. noted_host f.facts (page, f.facts.host page) (other, entry) refl noted } }) lawful.1 fed.1 in
+    record { behind = ends.behind; reaches = ends.reaches; shown = ends.shown; facts_are = ends.facts_are; idle = ends.idle; lawful = ends.lawful; fed = ends.fed }
+one_event z line rest es (Accessed gfn word op frame before) within leads stage notes f is lawful fed =
     let kind : EventKind = Accessed gfn word op frame before in
     shown_event z line rest es stage notes f kind refl (access_is_next z f.facts (under_way line stage notes) gfn word op frame before (allowed z line stage notes f kind is lawful.0))
-    (leads (HasAccessed frame before) notes (after (by line kind) f) (record { at = next_at line stage notes f kind is; exact = λ fresh. absurd (cc fresh) }) lawful.1)
-one_event z line rest es (Exited answer) within leads stage notes f is lawful =
+    (leads (HasAccessed frame before) notes (after (by line kind) f) (record { at = next_at line stage notes f kind is; exact = λ fresh. absurd (cc fresh) }) lawful.1 fed.1)
+one_event z line rest es (Exited answer) within leads stage notes f is lawful fed =
     let kind : EventKind = Exited answer in
-    shown_event z line rest es stage notes f kind refl (exit_is_next z f.facts (under_way line stage notes) answer is.exact (allowed z line stage notes f kind is lawful.0))
-    (leads (HasLeft answer) notes (after (by line kind) f) (record { at = next_at line stage notes f kind is; exact = λ fresh. absurd (cc fresh) }) lawful.1)
-one_event z line rest es (SlotChanged id slot) within leads stage notes f is lawful =
+    shown_event z line rest es stage notes f kind refl (exit_is_next z f.facts (under_way line stage notes) answer is.exact fed.0 (allowed z line stage notes f kind is lawful.0))
+    (leads (HasLeft answer) notes (after (by line kind) f) (record { at = next_at line stage notes f kind is; exact = λ fresh. absurd (cc fresh) }) lawful.1 fed.1)
+one_event z line rest es (SlotChanged id slot) within leads stage notes f is lawful fed =
     let kind : EventKind = SlotChanged id slot in
     shown_event z line rest es stage notes f kind refl (slot_change_is_next z f.facts (under_way line stage notes) id slot (allowed z line stage notes f kind is lawful.0))
-    (leads HasSetSlot notes (after (by line kind) f) (record { at = next_at line stage notes f kind is; exact = λ fresh. absurd (cc fresh) }) lawful.1)
-one_event z line rest es (Answered number answer) within leads stage notes f is lawful = absurd within
+    (leads HasSetSlot notes (after (by line kind) f) (record { at = next_at line stage notes f kind is; exact = λ fresh. absurd (cc fresh) }) lawful.1 fed.1)
+one_event z line rest es (Answered number answer) within leads stage notes f is lawful fed = absurd within
 
 -- the answer, behind which no line is under way
 at_answer : (z : Sizes) (line : Line) (rest : List Event) (answer : Answer) → Leads z line rest (by line (Answered line.number answer) ∷ rest)
-at_answer z line rest answer stage notes f is lawful =
+at_answer z line rest answer stage notes f is lawful fed =
     let kind : EventKind = Answered line.number answer in
     let tells : rest_of z line stage f.facts ≡ answers line answer = told z line stage f.facts answer (allowed z line stage notes f kind is lawful.0).1 in
     record {
@@ -94,6 +104,7 @@ at_answer z line rest answer stage notes f is lawful =
       facts_are = sym (ap (λ (xs : List Event). facts_after_all xs f.facts) tells);
       idle = λ i. at_end (is_same line.actor i) (line_after kind f.facts (f.under line.actor)) (f.under i) refl (is.at.others i);
       lawful = lawful.1;
+      fed = fed.1;
     }
 
 whole_line : (z : Sizes) (line : Line) (within rest : List Event) (answer : Answer) → AreWithin line within → Leads z line rest (within ++ (by line (Answered line.number answer) ∷ rest))
@@ -108,25 +119,26 @@ record Shows (z : Sizes) (lines : List Line) (f : Flat) (h : List Event) : Type 
   idle : AllIdle (after_all h f)
 
 line_shows : (z : Sizes) (line : Line) (lines : List Line) (within rest : List Event) (answer : Answer) (f : Flat) → AllIdle f → AreWithin line within
-    → ((g : Flat) → AllIdle g → IsLawful z g rest → Shows z lines g rest)
+    → ((g : Flat) → AllIdle g → IsLawful z g rest → NoneStarved rest → Shows z lines g rest)
     → IsLawful z f (by line (Begun line) ∷ (within ++ (by line (Answered line.number answer) ∷ rest)))
+    → NoneStarved (by line (Begun line) ∷ (within ++ (by line (Answered line.number answer) ∷ rest)))
     → Shows z (line ∷ lines) f (by line (Begun line) ∷ (within ++ (by line (Answered line.number answer) ∷ rest)))
-line_shows z line lines within rest answer f idle are further lawful =
+line_shows z line lines within rest answer f idle are further lawful fed =
     let start : IsAt line.actor f.facts (f.under line.actor) f = record { facts_are = refl; line_is = refl; others = λ i apart. idle i } in
-    let begun : IsAlone line Fresh no_notes (after (by line (Begun line)) f) = record { at = step line.actor (Begun line) f.facts (f.under line.actor) f start; exact = λ fresh. record { slots = λ slots noted. absurd (cc noted) } } in
-    let ends = whole_line z line within rest answer are Fresh no_notes (after (by line (Begun line)) f) begun lawful.1 in
-    let behind = further ends.behind ends.idle ends.lawful in
+    let begun : IsAlone line Fresh no_notes (after (by line (Begun line)) f) = record { at = step line.actor (Begun line) f.facts (f.under line.actor) f start; exact = λ fresh. record { slots = λ slots noted. absurd (cc noted); host = λ page entry noted. absurd (cc noted) } } in
+    let ends = whole_line z line within rest answer are Fresh no_notes (after (by line (Begun line)) f) begun lawful.1 fed.1 in
+    let behind = further ends.behind ends.idle ends.lawful ends.fed in
     record {
       shown = ap (λ (es : List Event). by line (Begun line) ∷ es) (ends.shown ∙ ap (λ (es : List Event). rest_of z line Fresh f.facts ++ es) (behind.shown ∙ ap (λ (g : Facts). without_looks (one_by_one z lines g)) ends.facts_are)) ∙ sym (flat_shows z line lines f.facts);
       idle = subst (λ (g : Flat). AllIdle g) (sym ends.reaches) behind.idle;
     }
 
-shows : (z : Sizes) (lines : List Line) (h : List Event) (f : Flat) → AllIdle f → IsLawful z f h → StandsAlone h lines → Shows z lines f h
-shows z [] h f idle lawful stands = record { shown = ap without_looks stands; idle = subst (λ (es : List Event). AllIdle (after_all es f)) (sym stands) idle }
-shows z (line ∷ lines) h f idle lawful stands =
+shows : (z : Sizes) (lines : List Line) (h : List Event) (f : Flat) → AllIdle f → IsLawful z f h → StandsAlone h lines → NoneStarved h → Shows z lines f h
+shows z [] h f idle lawful stands fed = record { shown = ap without_looks stands; idle = subst (λ (es : List Event). AllIdle (after_all es f)) (sym stands) idle }
+shows z (line ∷ lines) h f idle lawful stands fed =
     let first : StandsFirst line h stands.0 = stands.1 in
-    subst (λ (es : List Event). IsLawful z f es → Shows z (line ∷ lines) f es) (sym first.history_is)
-    (line_shows z line lines first.within stands.0 first.answer f idle first.are_within (λ g idle_then lawful_then. shows z lines stands.0 g idle_then lawful_then stands.2)) lawful
+    subst (λ (es : List Event). IsLawful z f es → NoneStarved es → Shows z (line ∷ lines) f es) (sym first.history_is)
+    (line_shows z line lines first.within stands.0 first.answer f idle first.are_within (λ g idle_then lawful_then fed_then. shows z lines stands.0 g idle_then lawful_then stands.2 fed_then)) lawful fed
 
 -- From this state on, the history is the flat one of these lines: in what it shows, answers and prints, in the facts behind it, and in that no line is under way then.
 pub record GoesAsFlat (z : Sizes) (lines : List Line) (f : Flat) (h : List Event) : Type 0 where
@@ -135,26 +147,17 @@ pub record GoesAsFlat (z : Sizes) (lines : List Line) (f : Flat) (h : List Event
   pub idle : AllIdle (after_all h f)
   pub answers : answers_of h ≡ answers_of (one_by_one z lines f.facts)
   pub prints : text h ≡ text (one_by_one z lines f.facts)
-  pub whole : IsWhole h lines
-
-same_whole : (h flat : List Event) (lines : List Line) → lines_begun h ≡ lines_begun flat → answers_of h ≡ answers_of flat → IsWhole flat lines → IsWhole h lines
-same_whole h flat lines begins answered whole = record {
-  begun = λ actor. ap (lines_of actor) begins ∙ whole.begun actor;
-  answered = λ actor. ap (λ (xs : List AnsweredLine). map (λ x. x.number) (filter (λ x. is_same actor x.actor) xs)) answered ∙ whole.answered actor;
-}
 
 -- The law, from any state in which no line is under way.
-pub goes_as_flat : (z : Sizes) (lines : List Line) (h : List Event) (f : Flat) → AllIdle f → IsLawful z f h → StandsAlone h lines → GoesAsFlat z lines f h
-goes_as_flat z lines h f idle lawful stands =
+pub goes_as_flat : (z : Sizes) (lines : List Line) (h : List Event) (f : Flat) → AllIdle f → IsLawful z f h → StandsAlone h lines → NoneStarved h → GoesAsFlat z lines f h
+goes_as_flat z lines h f idle lawful stands fed =
     let flat : List Event = one_by_one z lines f.facts in
-    let is = shows z lines h f idle lawful stands in
+    let is = shows z lines h f idle lawful stands fed in
     let answered : answers_of h ≡ answers_of flat = answers_without_looks h ∙ (ap answers_of is.shown ∙ sym (answers_without_looks flat)) in
-    let begins : lines_begun h ≡ lines_begun flat = begun_without_looks h ∙ (ap lines_begun is.shown ∙ sym (begun_without_looks flat)) in
     record {
       shown = is.shown;
       facts_are = facts_behind h f ∙ (facts_without_looks h f.facts ∙ (ap (λ (es : List Event). facts_after_all es f.facts) is.shown ∙ sym (facts_without_looks flat f.facts)));
       idle = is.idle;
       answers = answered;
       prints = ap lines_text answered;
-      whole = same_whole h flat lines begins answered (one_by_one_whole z lines f.facts);
     }

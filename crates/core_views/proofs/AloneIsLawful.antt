@@ -3,10 +3,10 @@ use Rattle.std.proofs.Common.{◌≡◌, ℕ, List, [], ◌∷◌, ◌++◌, Boo
 use Rattle.std.specs.Prelude.{Option, Some, None}
 use Rattle.core_views.specs.declared.actor.Actor.{Actor}
 use Rattle.core_views.specs.declared.answer.Answer.{Answer}
-use Rattle.core_views.specs.declared.answer.Answer.TheVariants.{Reached, Mmio, Done, Refused}
+use Rattle.core_views.specs.declared.answer.Answer.TheVariants.{Reached, Mmio, HostFault, Done, Refused}
 use Rattle.core_views.specs.declared.event.Event.{Event}
 use Rattle.core_views.specs.declared.event.EventKind.{EventKind}
-use Rattle.core_views.specs.declared.event.EventKind.TheVariants.{Begun, LookedAtSlots, Accessed, Exited, SlotChanged, Answered}
+use Rattle.core_views.specs.declared.event.EventKind.TheVariants.{Begun, LookedAtSlots, LookedAtHost, Accessed, Exited, SlotChanged, Answered}
 use Rattle.core_views.specs.declared.trace.Command.{Command}
 use Rattle.core_views.specs.declared.trace.Command.TheVariants.{Access, SetSlot}
 use Rattle.core_views.specs.declared.answer.Refusal.{Refusal}
@@ -15,12 +15,13 @@ use Rattle.core_views.specs.declared.trace.Line.{Line}
 use Rattle.core_views.specs.declared.trace.Op.{Op}
 use Rattle.core_views.specs.declared.trace.Slot.{Slot}
 use Rattle.core_views.specs.Actors.{is_same}
+use Rattle.core_views.specs.Host.{is_denied}
 use Rattle.core_views.specs.Slots.{page_behind, slot_refusal}
 use Rattle.core_views.specs.Names.{frame_at}
 use Rattle.core_views.specs.Flat.{Facts, LineUnderWay, Flat, Idle, Fresh, no_notes}
 use Rattle.core_views.specs.Events.{after, after_all, facts_after, facts_after_all, line_after}
 use Rattle.core_views.specs.Lawful.{IsLawful, IsAllowed, Tells}
-use Rattle.core_views.specs.FlatHistory.{by, answers, accessing, doing, rest_of, looks, alone, one_by_one, setting}
+use Rattle.core_views.specs.FlatHistory.{by, answers, accessing, reaching, doing, rest_of, looks, looks_behind, alone, one_by_one, setting}
 use Rattle.core_views.proofs.SameActor.{changed_here}
 
 -- No line of another actor is under way.
@@ -72,17 +73,29 @@ answered z line answer facts u f at is tells = record {
 more : (z : Sizes) (e : Event) (es : List Event) (f : Flat) → IsAllowed z f.facts e.actor (f.under e.actor) e.kind → Closes z es (after e f) → Closes z (e ∷ es) f
 more z e es f may rest = record { lawful = (may, rest.lawful); idle = rest.idle; facts_are = rest.facts_are }
 
+reaching_closes : (z : Sizes) (line : Line) (gfn word : ℕ) (op : Op) (facts : Facts) (page : ℕ) (denied : Bool) (f : Flat) → page_behind facts.slots gfn op ≡ Some page → is_denied op (facts.host page) ≡ denied → line.command ≡ Access gfn word op
+    → IsAt line.actor facts (record { line = line; stage = Fresh; notes = record { slots = Some facts.slots; host = Some (page, facts.host page) } }) f → Closes z (reaching line gfn word op facts page denied) f
+reaching_closes z line gfn word op facts page true f behind denies is at =
+    more z (by line (Exited HostFault)) (answers line HostFault) f
+    (allowed z line.actor (Exited HostFault) facts _ f at (refl, rw is (record { slots = facts.slots; noted = refl; page = page; behind = behind; entry = facts.host page; looked = refl; forbids = denies })))
+    (answered z line HostFault facts _ _ (step line.actor (Exited HostFault) facts _ f at) refl refl)
+reaching_closes z line gfn word op facts page false f behind denies is at =
+    let access : EventKind = Accessed gfn word op (facts.host page).frame (facts.memory page word) in
+    let named : frame_at facts.host op (Some page) ≡ Some (facts.host page).frame = ap (λ (b : Bool). cond b None (Some (facts.host page).frame)) denies in
+    more z (by line access) (answers line (Reached (facts.host page).frame (facts.memory page word))) f
+    (allowed z line.actor access facts _ f at (refl, is, record { named = ap (frame_at facts.host op) behind ∙ named; page = page; behind = behind; value_is = refl }))
+    (answered z line (Reached (facts.host page).frame (facts.memory page word)) (facts_after access facts) _ _ (step line.actor access facts _ f at) refl refl)
+
 access_closes : (z : Sizes) (line : Line) (gfn word : ℕ) (op : Op) (facts : Facts) (page : Option ℕ) (f : Flat) → page_behind facts.slots gfn op ≡ page → line.command ≡ Access gfn word op
-    → IsAt line.actor facts (record { line = line; stage = Fresh; notes = record { slots = Some facts.slots } }) f → Closes z (accessing line gfn word op facts page) f
+    → IsAt line.actor facts (record { line = line; stage = Fresh; notes = record { slots = Some facts.slots; host = None } }) f → Closes z (looks_behind line page ++ accessing line gfn word op facts page) f
 access_closes z line gfn word op facts None f none is at =
     more z (by line (Exited Mmio)) (answers line Mmio) f
     (allowed z line.actor (Exited Mmio) facts _ f at (refl, rw is (record { slots = facts.slots; noted = refl; none = none })))
     (answered z line Mmio facts _ _ (step line.actor (Exited Mmio) facts _ f at) refl refl)
 access_closes z line gfn word op facts (Some page) f behind is at =
-    let access : EventKind = Accessed gfn word op (facts.host page).frame (facts.memory page word) in
-    more z (by line access) (answers line (Reached (facts.host page).frame (facts.memory page word))) f
-    (allowed z line.actor access facts _ f at (refl, is, record { named = ap (frame_at facts.host) behind; page = page; behind = behind; value_is = refl }))
-    (answered z line (Reached (facts.host page).frame (facts.memory page word)) (facts_after access facts) _ _ (step line.actor access facts _ f at) refl refl)
+    more z (by line (LookedAtHost page)) (reaching line gfn word op facts page (is_denied op (facts.host page))) f
+    (allowed z line.actor (LookedAtHost page) facts _ f at refl)
+    (reaching_closes z line gfn word op facts page (is_denied op (facts.host page)) _ behind refl is (step line.actor (LookedAtHost page) facts _ f at))
 
 setting_closes : (z : Sizes) (line : Line) (id : ℕ) (slot : Slot) (refusal : Option Refusal) (facts : Facts) (f : Flat) → slot_refusal z.pages facts.slots id slot ≡ refusal → line.command ≡ SetSlot id slot
     → IsAt line.actor facts (record { line = line; stage = Fresh; notes = no_notes }) f → Closes z (setting line id slot refusal) f
@@ -93,9 +106,9 @@ setting_closes z line id slot None facts f may is at =
 setting_closes z line id slot (Some refusal) facts f why is at = answered z line (Refused refusal) facts _ f at refl (rw is why)
 
 doing_closes : (z : Sizes) (line : Line) (command : Command) (facts : Facts) (f : Flat) → line.command ≡ command
-    → IsAt line.actor facts (record { line = line; stage = Fresh; notes = no_notes }) f → Closes z (looks line command ++ doing z line command facts) f
+    → IsAt line.actor facts (record { line = line; stage = Fresh; notes = no_notes }) f → Closes z (looks line command facts ++ doing z line command facts) f
 doing_closes z line (Access gfn word op) facts f is at =
-    more z (by line LookedAtSlots) (accessing line gfn word op facts (page_behind facts.slots gfn op)) f
+    more z (by line LookedAtSlots) (looks_behind line (page_behind facts.slots gfn op) ++ accessing line gfn word op facts (page_behind facts.slots gfn op)) f
     (allowed z line.actor LookedAtSlots facts _ f at refl)
     (access_closes z line gfn word op facts (page_behind facts.slots gfn op) _ refl is (step line.actor LookedAtSlots facts _ f at))
 doing_closes z line (SetSlot id slot) facts f is at = setting_closes z line id slot (slot_refusal z.pages facts.slots id slot) facts f refl is at
@@ -103,7 +116,7 @@ doing_closes z line (SetSlot id slot) facts f is at = setting_closes z line id s
 alone_closes : (z : Sizes) (line : Line) (f : Flat) → AllIdle f → Closes z (alone z line f.facts) f
 alone_closes z line f idle =
     let start : IsAt line.actor f.facts (f.under line.actor) f = record { facts_are = refl; line_is = refl; others = λ i apart. idle i } in
-    more z (by line (Begun line)) (looks line line.command ++ rest_of z line Fresh f.facts) f (idle line.actor, refl)
+    more z (by line (Begun line)) (looks line line.command f.facts ++ rest_of z line Fresh f.facts) f (idle line.actor, refl)
     (doing_closes z line line.command f.facts (after (by line (Begun line)) f) refl (step line.actor (Begun line) f.facts (f.under line.actor) f start))
 
 pub lawful_append : (z : Sizes) (xs ys : List Event) (f : Flat) → IsLawful z f xs → IsLawful z (after_all xs f) ys → IsLawful z f (xs ++ ys)

@@ -1,5 +1,5 @@
 -- The flat history, but for what its lines look at. A clause for each form of line.
-use Rattle.std.proofs.Common.{◌≡◌, ℕ, List, ◌∷◌, ◌++◌, refl, ap, ◌∙◌}
+use Rattle.std.proofs.Common.{◌≡◌, ℕ, List, ◌∷◌, ◌++◌, Bool, true, false, refl, ap, ◌∙◌}
 use Rattle.std.specs.Prelude.{Option, Some, None}
 use Rattle.core_views.specs.declared.event.Event.{Event}
 use Rattle.core_views.specs.declared.event.EventKind.TheVariants.{Begun}
@@ -10,22 +10,27 @@ use Rattle.core_views.specs.declared.trace.Line.{Line}
 use Rattle.core_views.specs.declared.trace.Op.{Op}
 use Rattle.core_views.specs.declared.trace.Slot.{Slot}
 use Rattle.core_views.specs.declared.sizes.Sizes.{Sizes}
+use Rattle.core_views.specs.Host.{is_denied}
 use Rattle.core_views.specs.Slots.{page_behind, slot_refusal}
 use Rattle.core_views.specs.Flat.{Facts, Fresh}
 use Rattle.core_views.specs.Events.{facts_after_all}
-use Rattle.core_views.specs.FlatHistory.{by, accessing, setting, doing, rest_of, looks, alone, one_by_one}
+use Rattle.core_views.specs.FlatHistory.{by, accessing, reaching, setting, doing, rest_of, looks, looks_behind, alone, one_by_one}
 use Rattle.core_views.specs.Alone.{without_looks}
 use Rattle.core_views.proofs.Looks.{without_looks_append, facts_without_looks}
 
-accessing_shows : (line : Line) (gfn word : ℕ) (op : Op) (f : Facts) (page : Option ℕ) → without_looks (accessing line gfn word op f page) ≡ accessing line gfn word op f page
+reaching_shows : (line : Line) (gfn word : ℕ) (op : Op) (f : Facts) (page : ℕ) (denied : Bool) → without_looks (reaching line gfn word op f page denied) ≡ reaching line gfn word op f page denied
+reaching_shows line gfn word op f page true = refl
+reaching_shows line gfn word op f page false = refl
+
+accessing_shows : (line : Line) (gfn word : ℕ) (op : Op) (f : Facts) (page : Option ℕ) → without_looks (looks_behind line page ++ accessing line gfn word op f page) ≡ accessing line gfn word op f page
 accessing_shows line gfn word op f None = refl
-accessing_shows line gfn word op f (Some page) = refl
+accessing_shows line gfn word op f (Some page) = reaching_shows line gfn word op f page (is_denied op (f.host page))
 
 setting_shows : (line : Line) (id : ℕ) (slot : Slot) (refusal : Option Refusal) → without_looks (setting line id slot refusal) ≡ setting line id slot refusal
 setting_shows line id slot None = refl
 setting_shows line id slot (Some refusal) = refl
 
-doing_shows : (z : Sizes) (line : Line) (command : Command) (f : Facts) → without_looks (looks line command ++ doing z line command f) ≡ doing z line command f
+doing_shows : (z : Sizes) (line : Line) (command : Command) (f : Facts) → without_looks (looks line command f ++ doing z line command f) ≡ doing z line command f
 doing_shows z line (Access gfn word op) f = accessing_shows line gfn word op f (page_behind f.slots gfn op)
 doing_shows z line (SetSlot id slot) f = setting_shows line id slot (slot_refusal z.pages f.slots id slot)
 

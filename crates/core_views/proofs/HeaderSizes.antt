@@ -19,4 +19,5 @@ header_sizes h is = record {
   words = one_to_eight h.words is.words;
   content = is.content;
   pool = is.pool;
+  cache = is.cache;
 }

@@ -13,4 +13,3 @@ pub mod Sound
 pub mod Holding
 pub mod FlatSlots
 pub mod Unlogged
-pub mod SlotIds

@@ -1,26 +1,24 @@
--- What a line looks at changes no fact, begins no line and answers none.
+-- What a line looks at changes no fact and answers no line.
 use Rattle.std.proofs.Common.{◌≡◌, List, [], ◌∷◌, ◌++◌, Bool, true, false, cond, refl, ap, ◌∙◌}
 use Rattle.core_views.specs.declared.actor.Actor.{Actor}
 use Rattle.core_views.specs.declared.answer.AnsweredLine.{AnsweredLine}
 use Rattle.core_views.specs.declared.event.Event.{Event}
 use Rattle.core_views.specs.declared.event.EventKind.{EventKind}
-use Rattle.core_views.specs.declared.event.EventKind.TheVariants.{Begun, LookedAtSlots, Accessed, Exited, SlotChanged, Answered}
-use Rattle.core_views.specs.declared.trace.Line.{Line}
+use Rattle.core_views.specs.declared.event.EventKind.TheVariants.{Begun, LookedAtSlots, LookedAtHost, Accessed, Exited, SlotChanged, Answered}
 use Rattle.core_views.specs.Flat.{Facts, Flat}
 use Rattle.core_views.specs.Events.{after, after_all, facts_after, facts_after_all}
 use Rattle.core_views.specs.Text.{answers_of, or_answered}
-use Rattle.core_views.specs.Whole.{lines_begun, or_begun}
 use Rattle.core_views.specs.Alone.{is_look, without_looks}
 
 record IsSilent (kind : EventKind) : Type 0 where
   facts : (f : Facts) → facts_after kind f ≡ f
   answers : (actor : Actor) (xs : List AnsweredLine) → or_answered actor kind xs ≡ xs
-  begins : (lines : List Line) → or_begun kind lines ≡ lines
 
 -- a clause for each look
 looks_are_silent : (kind : EventKind) → is_look kind ≡ true → IsSilent kind
 looks_are_silent (Begun line) is = absurd (cc is)
-looks_are_silent LookedAtSlots is = record { facts = λ f. refl; answers = λ actor xs. refl; begins = λ lines. refl }
+looks_are_silent LookedAtSlots is = record { facts = λ f. refl; answers = λ actor xs. refl }
+looks_are_silent (LookedAtHost page) is = record { facts = λ f. refl; answers = λ actor xs. refl }
 looks_are_silent (Accessed gfn word op frame before) is = absurd (cc is)
 looks_are_silent (Exited answer) is = absurd (cc is)
 looks_are_silent (SlotChanged id slot) is = absurd (cc is)
@@ -51,15 +49,6 @@ pub answers_without_looks : (es : List Event) → answers_of es ≡ answers_of (
 answers_without_looks [] = refl
 answers_without_looks (e ∷ es) =
     same_answers (is_look e.kind) e (without_looks es) (answers_of es) (λ is. (looks_are_silent e.kind is).answers e.actor (answers_of es)) (answers_without_looks es)
-
-same_begun : (b : Bool) (e : Event) (es : List Event) (lines : List Line) → (b ≡ true → or_begun e.kind lines ≡ lines) → lines ≡ lines_begun es → or_begun e.kind lines ≡ lines_begun (cond b es (e ∷ es))
-same_begun true e es lines silent is = silent refl ∙ is
-same_begun false e es lines silent is = ap (or_begun e.kind) is
-
-pub begun_without_looks : (es : List Event) → lines_begun es ≡ lines_begun (without_looks es)
-begun_without_looks [] = refl
-begun_without_looks (e ∷ es) =
-    same_begun (is_look e.kind) e (without_looks es) (lines_begun es) (λ is. (looks_are_silent e.kind is).begins (lines_begun es)) (begun_without_looks es)
 
 -- The facts behind a history hang on facts alone.
 pub facts_behind : (es : List Event) (f : Flat) → (after_all es f).facts ≡ facts_after_all es f.facts

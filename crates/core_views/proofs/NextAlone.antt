@@ -1,8 +1,8 @@
 -- What a line does next, alone: each event of its own that is allowed, and is no look, is the next one of the flat history. One lemma a form of line, and one of its answer.
-use Rattle.std.proofs.Common.{◌≡◌, ℕ, ◌∷◌, refl, sym, ap, ◌∙◌, subst}
-use Rattle.std.specs.Prelude.{Option, Some, None}
+use Rattle.std.proofs.Common.{◌≡◌, ℕ, ◌∷◌, Bool, true, false, cond, refl, sym, ap, ◌∙◌, subst}
+use Rattle.std.specs.Prelude.{◌≢◌, Option, Some, None}
 use Rattle.core_views.specs.declared.answer.Answer.{Answer}
-use Rattle.core_views.specs.declared.answer.Answer.TheVariants.{Reached, Mmio, Done, Refused}
+use Rattle.core_views.specs.declared.answer.Answer.TheVariants.{Reached, Mmio, HostFault, Starved, Done, Refused}
 use Rattle.core_views.specs.declared.event.EventKind.{EventKind}
 use Rattle.core_views.specs.declared.event.EventKind.TheVariants.{Accessed, Exited, SlotChanged}
 use Rattle.core_views.specs.declared.trace.Command.{Command}
@@ -11,16 +11,18 @@ use Rattle.core_views.specs.declared.trace.Line.{Line}
 use Rattle.core_views.specs.declared.trace.Op.{Op}
 use Rattle.core_views.specs.declared.trace.Slot.{Slot}
 use Rattle.core_views.specs.declared.sizes.Sizes.{Sizes}
+use Rattle.core_views.specs.Host.{HostEntry, is_denied}
 use Rattle.core_views.specs.Slots.{Slots, page_behind}
 use Rattle.core_views.specs.Names.{frame_at}
 use Rattle.core_views.specs.Flat.{Facts, Notes, LineUnderWay, Stage, Idle, Fresh, HasAccessed, HasLeft, HasSetSlot}
 use Rattle.core_views.specs.Events.{facts_after, line_after}
-use Rattle.core_views.specs.Lawful.{IsAllowed, MayLeave, IsRefused, Tells}
-use Rattle.core_views.specs.FlatHistory.{by, answers, accessing, setting, doing, rest_of}
+use Rattle.core_views.specs.Lawful.{IsAllowed, MayLeave, SawForbidden, IsRefused, Tells}
+use Rattle.core_views.specs.FlatHistory.{by, answers, accessing, reaching, setting, doing, rest_of}
 
 -- What the line noted is so now.
 pub record AreExact (f : Facts) (notes : Notes) : Type 0 where
   pub slots : (slots : Slots) → notes.slots ≡ Some slots → slots ≡ f.slots
+  pub host : (page : ℕ) (entry : HostEntry) → notes.host ≡ Some (page, entry) → entry ≡ f.host page
 
 -- What is left of the line begins with this event.
 abbrev pub IsNext : Sizes → Facts → LineUnderWay → EventKind → Type 0
@@ -31,27 +33,41 @@ IsNext z f u kind = rest_of z u.line u.stage f ≡ by u.line kind ∷ rest_of z 
 some_is : (m n : ℕ) → Some m ≡ Some n → m ≡ n
 some_is m n e = cc e
 
-reached : (line : Line) (gfn word : ℕ) (op : Op) (f : Facts) (behind : Option ℕ) (page frame before : ℕ) → behind ≡ Some page → frame_at f.host behind ≡ Some frame → f.memory page word ≡ before
+reached_at : (line : Line) (gfn word : ℕ) (op : Op) (f : Facts) (page : ℕ) (denied : Bool) (frame before : ℕ) → cond denied None (Some (f.host page).frame) ≡ Some frame → f.memory page word ≡ before
+    → reaching line gfn word op f page denied ≡ by line (Accessed gfn word op frame before) ∷ answers line (Reached frame before)
+reached_at line gfn word op f page true frame before named value_is = absurd (cc named)
+reached_at line gfn word op f page false frame before named value_is = rw (some_is (f.host page).frame frame named, value_is) refl
+
+reached : (line : Line) (gfn word : ℕ) (op : Op) (f : Facts) (behind : Option ℕ) (page frame before : ℕ) → behind ≡ Some page → frame_at f.host op behind ≡ Some frame → f.memory page word ≡ before
     → accessing line gfn word op f behind ≡ by line (Accessed gfn word op frame before) ∷ answers line (Reached frame before)
 reached line gfn word op f None page frame before is named value_is = absurd (cc is)
 reached line gfn word op f (Some at) page frame before is named value_is =
-    rw (some_is (f.host at).frame frame named, ap (λ (p : ℕ). f.memory p word) (some_is at page is) ∙ value_is) refl
+    reached_at line gfn word op f at (is_denied op (f.host at)) frame before named (ap (λ (p : ℕ). f.memory p word) (some_is at page is) ∙ value_is)
 
 pub access_is_next : (z : Sizes) (f : Facts) (u : LineUnderWay) (gfn word : ℕ) (op : Op) (frame before : ℕ) → IsAllowed z f u.line.actor u (Accessed gfn word op frame before) → IsNext z f u (Accessed gfn word op frame before)
 access_is_next z f u gfn word op frame before may =
     rw (may.0) (rw (may.1) (reached u.line gfn word op f (page_behind f.slots gfn op) may.2.page frame before may.2.behind may.2.named may.2.value_is))
 
--- a clause for each command and answer with which it may leave
-left : (z : Sizes) (line : Line) (command : Command) (f : Facts) (notes : Notes) (answer : Answer) → AreExact f notes → MayLeave command notes answer → doing z line command f ≡ by line (Exited answer) ∷ answers line answer
-left z line (Access gfn word op) f notes Mmio exact may =
-    ap (accessing line gfn word op f) (subst (λ (slots : Slots). page_behind slots gfn op ≡ None) (exact.slots may.slots may.noted) may.none)
-left z line (Access gfn word op) f notes (Reached frame value) exact may = absurd may
-left z line (Access gfn word op) f notes Done exact may = absurd may
-left z line (Access gfn word op) f notes (Refused refusal) exact may = absurd may
-left z line (SetSlot id slot) f notes answer exact may = absurd may
+-- the host page that the noted slots give is as it was noted, so the host forbids the access now
+forbidden : (line : Line) (gfn word : ℕ) (op : Op) (f : Facts) (notes : Notes) → AreExact f notes → SawForbidden notes gfn op → accessing line gfn word op f (page_behind f.slots gfn op) ≡ by line (Exited HostFault) ∷ answers line HostFault
+forbidden line gfn word op f notes exact saw =
+    let behind : page_behind f.slots gfn op ≡ Some saw.page = subst (λ (slots : Slots). page_behind slots gfn op ≡ Some saw.page) (exact.slots saw.slots saw.noted) saw.behind in
+    let denies : is_denied op (f.host saw.page) ≡ true = subst (λ (entry : HostEntry). is_denied op entry ≡ true) (exact.host saw.page saw.entry saw.looked) saw.forbids in
+    ap (accessing line gfn word op f) behind ∙ ap (reaching line gfn word op f saw.page) denies
 
-pub exit_is_next : (z : Sizes) (f : Facts) (u : LineUnderWay) (answer : Answer) → (u.stage ≡ Fresh → AreExact f u.notes) → IsAllowed z f u.line.actor u (Exited answer) → IsNext z f u (Exited answer)
-exit_is_next z f u answer exact may = rw (may.0) (left z u.line u.line.command f u.notes answer (exact may.0) may.1)
+-- a clause for each command and answer with which it may leave
+left : (z : Sizes) (line : Line) (command : Command) (f : Facts) (notes : Notes) (answer : Answer) → AreExact f notes → Exited answer ≢ Exited Starved → MayLeave command notes answer → doing z line command f ≡ by line (Exited answer) ∷ answers line answer
+left z line (Access gfn word op) f notes Mmio exact fed may =
+    ap (accessing line gfn word op f) (subst (λ (slots : Slots). page_behind slots gfn op ≡ None) (exact.slots may.slots may.noted) may.none)
+left z line (Access gfn word op) f notes HostFault exact fed may = forbidden line gfn word op f notes exact may
+left z line (Access gfn word op) f notes Starved exact fed may = absurd (fed refl)
+left z line (Access gfn word op) f notes (Reached frame value) exact fed may = absurd may
+left z line (Access gfn word op) f notes Done exact fed may = absurd may
+left z line (Access gfn word op) f notes (Refused refusal) exact fed may = absurd may
+left z line (SetSlot id slot) f notes answer exact fed may = absurd may
+
+pub exit_is_next : (z : Sizes) (f : Facts) (u : LineUnderWay) (answer : Answer) → (u.stage ≡ Fresh → AreExact f u.notes) → Exited answer ≢ Exited Starved → IsAllowed z f u.line.actor u (Exited answer) → IsNext z f u (Exited answer)
+exit_is_next z f u answer exact fed may = rw (may.0) (left z u.line u.line.command f u.notes answer (exact may.0) fed may.1)
 
 -- A slot line: the slot that it sets.
 
@@ -65,6 +81,8 @@ refused : (z : Sizes) (line : Line) (command : Command) (f : Facts) (answer : An
 refused z line (SetSlot id slot) f (Refused refusal) why = ap (setting line id slot) why
 refused z line (SetSlot id slot) f (Reached frame value) why = absurd why
 refused z line (SetSlot id slot) f Mmio why = absurd why
+refused z line (SetSlot id slot) f HostFault why = absurd why
+refused z line (SetSlot id slot) f Starved why = absurd why
 refused z line (SetSlot id slot) f Done why = absurd why
 refused z line (Access gfn word op) f answer why = absurd why
 

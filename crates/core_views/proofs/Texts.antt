@@ -4,12 +4,13 @@ use Rattle.core_views.specs.declared.actor.Actor.{Actor}
 use Rattle.core_views.specs.declared.answer.AnsweredLine.{AnsweredLine}
 use Rattle.core_views.specs.declared.event.Event.{Event}
 use Rattle.core_views.specs.declared.event.EventKind.{EventKind}
-use Rattle.core_views.specs.declared.event.EventKind.TheVariants.{Begun, LookedAtSlots, Accessed, Exited, SlotChanged, Answered}
+use Rattle.core_views.specs.declared.event.EventKind.TheVariants.{Begun, LookedAtSlots, LookedAtHost, Accessed, Exited, SlotChanged, Answered}
 use Rattle.core_views.specs.Text.{answers_of, or_answered, line_text, lines_text, text}
 
 or_answered_append : (actor : Actor) (kind : EventKind) (xs ys : List AnsweredLine) → or_answered actor kind (xs ++ ys) ≡ or_answered actor kind xs ++ ys
 or_answered_append actor (Begun line) xs ys = refl
 or_answered_append actor LookedAtSlots xs ys = refl
+or_answered_append actor (LookedAtHost page) xs ys = refl
 or_answered_append actor (Accessed gfn word op frame before) xs ys = refl
 or_answered_append actor (Exited answer) xs ys = refl
 or_answered_append actor (SlotChanged id slot) xs ys = refl

@@ -1,9 +1,10 @@
 -- Histories in which each line stands alone: between its begin and its answer there is nothing of another line. And what such a history shows, beside what its lines looked at.
-use Rattle.std.specs.Prelude.{◌≡◌, List, [], ◌∷◌, ◌++◌, Bool, true, false, if◌then◌else◌}
+use Rattle.std.specs.Prelude.{◌≡◌, ◌≢◌, List, [], ◌∷◌, ◌++◌, Bool, true, false, if◌then◌else◌}
 use Rattle.core_views.specs.declared.answer.Answer.{Answer}
+use Rattle.core_views.specs.declared.answer.Answer.TheVariants.{Starved}
 use Rattle.core_views.specs.declared.event.Event.{Event}
 use Rattle.core_views.specs.declared.event.EventKind.{EventKind}
-use Rattle.core_views.specs.declared.event.EventKind.TheVariants.{Begun, LookedAtSlots, Accessed, Exited, SlotChanged, Answered}
+use Rattle.core_views.specs.declared.event.EventKind.TheVariants.{Begun, LookedAtSlots, LookedAtHost, Accessed, Exited, SlotChanged, Answered}
 use Rattle.core_views.specs.declared.trace.Line.{Line}
 use Rattle.core_views.specs.FlatHistory.{by}
 
@@ -11,6 +12,7 @@ use Rattle.core_views.specs.FlatHistory.{by}
 abbrev pub is_look : EventKind → Bool
 is_look (Begun line) = false
 is_look LookedAtSlots = true
+is_look (LookedAtHost page) = true
 is_look (Accessed gfn word op frame before) = false
 is_look (Exited answer) = false
 is_look (SlotChanged id slot) = false
@@ -25,6 +27,7 @@ without_looks (e ∷ es) = if is_look e.kind then without_looks es else e ∷ wi
 abbrev pub IsWithin : EventKind → Type 0
 IsWithin (Begun line) = ⊥
 IsWithin LookedAtSlots = Unit {0}
+IsWithin (LookedAtHost page) = Unit {0}
 IsWithin (Accessed gfn word op frame before) = Unit {0}
 IsWithin (Exited answer) = Unit {0}
 IsWithin (SlotChanged id slot) = Unit {0}
@@ -46,3 +49,8 @@ pub record StandsFirst (line : Line) (history rest : List Event) : Type 0 where
 abbrev pub StandsAlone : List Event → List Line → Type 0
 StandsAlone history [] = history ≡ []
 StandsAlone history (line ∷ lines) = (rest : List Event) × StandsFirst line history rest × StandsAlone rest lines
+
+-- No access of the history leaves the guest for want of a pool page.
+abbrev pub NoneStarved : List Event → Type 0
+NoneStarved [] = Unit {0}
+NoneStarved (e ∷ es) = (e.kind ≢ Exited Starved) × NoneStarved es

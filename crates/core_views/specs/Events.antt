@@ -2,7 +2,7 @@
 use Rattle.std.specs.Prelude.{ℕ, List, [], ◌∷◌, Option, Some, None}
 use Rattle.core_views.specs.declared.event.Event.{Event}
 use Rattle.core_views.specs.declared.event.EventKind.{EventKind}
-use Rattle.core_views.specs.declared.event.EventKind.TheVariants.{Begun, LookedAtSlots, Accessed, Exited, SlotChanged, Answered}
+use Rattle.core_views.specs.declared.event.EventKind.TheVariants.{Begun, LookedAtSlots, LookedAtHost, Accessed, Exited, SlotChanged, Answered}
 use Rattle.core_views.specs.declared.trace.Op.{Op}
 use Rattle.core_views.specs.Actors.{changed_at}
 use Rattle.core_views.specs.Slots.{with_slot, page_behind}
@@ -24,6 +24,7 @@ facts_after _ f = f
 abbrev pub line_after : EventKind → Facts → LineUnderWay → LineUnderWay
 line_after (Begun line) f u = record { line = line; stage = Fresh; notes = no_notes }
 line_after LookedAtSlots f u = record u { notes = record u.notes { slots = Some f.slots } }
+line_after (LookedAtHost page) f u = record u { notes = record u.notes { host = Some (page, f.host page) } }
 line_after (Accessed gfn word op frame before) f u = record u { stage = HasAccessed frame before }
 line_after (Exited answer) f u = record u { stage = HasLeft answer }
 line_after (SlotChanged id slot) f u = record u { stage = HasSetSlot }

@@ -7,7 +7,7 @@ use Rattle.core_views.specs.declared.trace.Command.TheVariants.{Access}
 use Rattle.core_views.specs.declared.trace.Op.TheVariants.{Read}
 use Rattle.core_views.specs.declared.trace.Line.{Line}
 use Rattle.core_views.specs.Slots.{Slots}
-use Rattle.core_views.specs.Host.{HostMap, own_frames}
+use Rattle.core_views.specs.Host.{HostEntry, HostMap, own_frames}
 use Rattle.core_views.specs.Memory.{Memory, all_zero}
 
 -- what is true of guest memory now, one field a topic
@@ -24,9 +24,10 @@ pub data Stage : Type 0 where
   HasLeft : (answer : Answer) → Stage  -- its access left the guest
   HasSetSlot : Stage  -- its change took effect
 
--- what the line last looked at
+-- what the line last looked at: the slots, and a host page with its entry
 pub record Notes : Type 0 where
   pub slots : Option Slots
+  pub host : Option (ℕ × HostEntry)
 
 -- the line under way, or the last one
 pub record LineUnderWay : Type 0 where
@@ -43,7 +44,7 @@ abbrev pub first_facts : Facts
 first_facts = record { slots = []; host = own_frames; memory = all_zero }
 
 abbrev pub no_notes : Notes
-no_notes = record { slots = None }
+no_notes = record { slots = None; host = None }
 
 -- stands where there is no line
 abbrev pub no_line : Line

@@ -1,10 +1,10 @@
 -- The flat history of a trace: each line runs alone, in file order.
-use Rattle.std.specs.Prelude.{ℕ, List, [], ◌∷◌, ◌++◌, Option, Some, None}
+use Rattle.std.specs.Prelude.{ℕ, List, [], ◌∷◌, ◌++◌, Bool, true, false, Option, Some, None}
 use Rattle.core_views.specs.declared.answer.Answer.{Answer}
-use Rattle.core_views.specs.declared.answer.Answer.TheVariants.{Reached, Mmio, Done, Refused}
+use Rattle.core_views.specs.declared.answer.Answer.TheVariants.{Reached, Mmio, HostFault, Done, Refused}
 use Rattle.core_views.specs.declared.event.Event.{Event}
 use Rattle.core_views.specs.declared.event.EventKind.{EventKind}
-use Rattle.core_views.specs.declared.event.EventKind.TheVariants.{Begun, LookedAtSlots, Accessed, Exited, SlotChanged, Answered}
+use Rattle.core_views.specs.declared.event.EventKind.TheVariants.{Begun, LookedAtSlots, LookedAtHost, Accessed, Exited, SlotChanged, Answered}
 use Rattle.core_views.specs.declared.trace.Command.{Command}
 use Rattle.core_views.specs.declared.trace.Command.TheVariants.{Access, SetSlot}
 use Rattle.core_views.specs.declared.answer.Refusal.{Refusal}
@@ -14,6 +14,7 @@ use Rattle.core_views.specs.declared.trace.Line.{Line}
 use Rattle.core_views.specs.declared.trace.Op.{Op}
 use Rattle.core_views.specs.declared.trace.Slot.{Slot}
 use Rattle.core_views.specs.declared.trace.Trace.{Trace}
+use Rattle.core_views.specs.Host.{is_denied}
 use Rattle.core_views.specs.Slots.{page_behind, slot_refusal}
 use Rattle.core_views.specs.Flat.{Facts, Stage, Idle, Fresh, HasAccessed, HasLeft, HasSetSlot, first_facts}
 use Rattle.core_views.specs.Events.{facts_after_all}
@@ -24,10 +25,15 @@ by line kind = record { actor = line.actor; kind = kind }
 abbrev pub answers : Line → Answer → List Event
 answers line answer = by line (Answered line.number answer) ∷ []
 
--- An access leaves the guest where no page is behind its frame, and reaches that page's word where one is.
+-- An access of a page leaves the guest where the host forbids it, and else reaches the page's word.
+abbrev pub reaching : Line → ℕ → ℕ → Op → Facts → ℕ → Bool → List Event
+reaching line gfn word op f page true = by line (Exited HostFault) ∷ answers line HostFault
+reaching line gfn word op f page false = by line (Accessed gfn word op (f.host page).frame (f.memory page word)) ∷ answers line (Reached (f.host page).frame (f.memory page word))
+
+-- An access leaves the guest where no page is behind its frame.
 abbrev pub accessing : Line → ℕ → ℕ → Op → Facts → Option ℕ → List Event
 accessing line gfn word op f None = by line (Exited Mmio) ∷ answers line Mmio
-accessing line gfn word op f (Some page) = by line (Accessed gfn word op (f.host page).frame (f.memory page word)) ∷ answers line (Reached (f.host page).frame (f.memory page word))
+accessing line gfn word op f (Some page) = reaching line gfn word op f page (is_denied op (f.host page))
 
 -- A slot that the machine refuses changes nothing.
 abbrev pub setting : Line → ℕ → Slot → Option Refusal → List Event
@@ -46,14 +52,18 @@ rest_of z line (HasAccessed frame value) f = answers line (Reached frame value)
 rest_of z line (HasLeft answer) f = answers line answer
 rest_of z line HasSetSlot f = answers line Done
 
--- what a line looks at before it does anything
-abbrev pub looks : Line → Command → List Event
-looks line (Access gfn word op) = by line LookedAtSlots ∷ []
-looks line (SetSlot id slot) = []
+-- what a line looks at before it does anything: an access at the slots, and at the host page that they give it
+abbrev pub looks_behind : Line → Option ℕ → List Event
+looks_behind line None = []
+looks_behind line (Some page) = by line (LookedAtHost page) ∷ []
+
+abbrev pub looks : Line → Command → Facts → List Event
+looks line (Access gfn word op) f = by line LookedAtSlots ∷ looks_behind line (page_behind f.slots gfn op)
+looks line (SetSlot id slot) f = []
 
 -- the whole line, alone
 abbrev pub alone : Sizes → Line → Facts → List Event
-alone z line f = by line (Begun line) ∷ (looks line line.command ++ rest_of z line Fresh f)
+alone z line f = by line (Begun line) ∷ (looks line line.command f ++ rest_of z line Fresh f)
 
 -- the lines one after another, each alone
 abbrev pub one_by_one : Sizes → List Line → Facts → List Event

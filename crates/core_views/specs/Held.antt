@@ -1,8 +1,9 @@
 -- What one actor holds, as contracts see it.
 use Rattle.std.specs.Prelude.{ℕ, List, [], false, None}
+use Rattle.circular_buffer.specs.Buffer.{Buffer, buffer}
 use Rattle.core_views.specs.declared.actor.Actor.{Actor}
 use Rattle.core_views.specs.declared.answer.AnsweredLine.{AnsweredLine}
-use Rattle.core_views.specs.declared.hand.SlotLook.{SlotLook}
+use Rattle.core_views.specs.declared.cache.Translation.{Translation}
 use Rattle.core_views.specs.declared.hand.State.{State}
 use Rattle.core_views.specs.declared.place.Place.TheVariants.{Between}
 use Rattle.core_views.specs.declared.place.SlotField.TheVariants.{Flags}
@@ -24,6 +25,7 @@ use Rattle.core_views.specs.SlotSets.{MemorySlots}
 pub record Held : Type 0 where
   pub state : State
   pub topics : Topics
+  pub cached : Buffer Translation  -- the newest first
   pub slots : MemorySlots  -- the manager's own record of the slots
   pub lines : List Line
   pub answers : List AnsweredLine
@@ -36,12 +38,9 @@ pub record Handful : Type 0 where
 abbrev pub no_slot : Slot
 no_slot = record { base = 0; pages = 0; host = 0; read_only = false }
 
-abbrev pub no_look : SlotLook
-no_look = record { set = 0; slot = no_slot }
-
 -- what an actor holds before its first line
 abbrev pub first_state : Sizes → Actor → State
-first_state z actor = record { sizes = z; actor = actor; place = Between; line = no_line; look = no_look; host = 0; spte = 0 }
+first_state z actor = record { sizes = z; actor = actor; place = Between; line = no_line; leaf = 0 }
 
 abbrev pub no_search : SlotSearch
 no_search = record { set = None; id = 0; next = Flags; slot = no_slot; logged = false; whole = false }
@@ -71,4 +70,4 @@ first_topics = record {
 }
 
 abbrev pub first_held : Sizes → Actor → List Line → Held
-first_held z actor lines = record { state = first_state z actor; topics = first_topics; slots = []; lines = lines; answers = [] }
+first_held z actor lines = record { state = first_state z actor; topics = first_topics; cached = buffer [] z.cache; slots = []; lines = lines; answers = [] }

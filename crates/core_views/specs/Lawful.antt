@@ -1,16 +1,17 @@
 -- Which histories flat guest memory allows.
-use Rattle.std.specs.Prelude.{◌≡◌, ℕ, List, [], ◌∷◌, Some, None}
+use Rattle.std.specs.Prelude.{◌≡◌, ℕ, List, [], ◌∷◌, Some, None, true}
 use Rattle.core_views.specs.declared.actor.Actor.{Actor}
 use Rattle.core_views.specs.declared.answer.Answer.{Answer}
-use Rattle.core_views.specs.declared.answer.Answer.TheVariants.{Reached, Mmio, Done, Refused}
+use Rattle.core_views.specs.declared.answer.Answer.TheVariants.{Reached, Mmio, HostFault, Starved, Done, Refused}
 use Rattle.core_views.specs.declared.event.Event.{Event}
 use Rattle.core_views.specs.declared.event.EventKind.{EventKind}
-use Rattle.core_views.specs.declared.event.EventKind.TheVariants.{Begun, LookedAtSlots, Accessed, Exited, SlotChanged, Answered}
+use Rattle.core_views.specs.declared.event.EventKind.TheVariants.{Begun, LookedAtSlots, LookedAtHost, Accessed, Exited, SlotChanged, Answered}
 use Rattle.core_views.specs.declared.trace.Command.{Command}
 use Rattle.core_views.specs.declared.trace.Command.TheVariants.{Access, SetSlot}
 use Rattle.core_views.specs.declared.sizes.Sizes.{Sizes}
 use Rattle.core_views.specs.declared.trace.Op.{Op}
 use Rattle.core_views.specs.Slots.{Slots, page_behind, slot_refusal}
+use Rattle.core_views.specs.Host.{HostEntry, is_denied}
 use Rattle.core_views.specs.Names.{names}
 use Rattle.core_views.specs.Flat.{Facts, Notes, LineUnderWay, Flat, Stage, Idle, Fresh, HasAccessed, HasLeft, HasSetSlot}
 use Rattle.core_views.specs.Events.{after}
@@ -28,9 +29,21 @@ pub record SawNoPage (notes : Notes) (gfn : ℕ) (op : Op) : Type 0 where
   pub noted : notes.slots ≡ Some slots
   pub none : page_behind slots gfn op ≡ None
 
--- The line under way may leave the guest with this answer.
+-- They give it a page, and the host's entry of this page, as the line looked at it, forbids the operation (api.rst, KVM_EXIT_MEMORY_FAULT).
+pub record SawForbidden (notes : Notes) (gfn : ℕ) (op : Op) : Type 0 where
+  pub slots : Slots
+  pub noted : notes.slots ≡ Some slots
+  pub page : ℕ
+  pub behind : page_behind slots gfn op ≡ Some page
+  pub entry : HostEntry
+  pub looked : notes.host ≡ Some (page, entry)
+  pub forbids : is_denied op entry ≡ true
+
+-- The line under way may leave the guest with this answer. That no pool page was free is no fact of flat memory.
 abbrev pub MayLeave : Command → Notes → Answer → Type 0
 MayLeave (Access gfn word op) notes Mmio = SawNoPage notes gfn op
+MayLeave (Access gfn word op) notes HostFault = SawForbidden notes gfn op
+MayLeave (Access gfn word op) notes Starved = Unit {0}
 MayLeave _ _ _ = ⊥
 
 -- A machine with these slots refuses the command with this answer.
@@ -50,6 +63,7 @@ Tells z slots command Fresh answer = IsRefused z slots command answer
 abbrev pub IsAllowed : Sizes → Facts → Actor → LineUnderWay → EventKind → Type 0
 IsAllowed z f actor u (Begun line) = (u.stage ≡ Idle) × (line.actor ≡ actor)
 IsAllowed z f actor u LookedAtSlots = u.stage ≡ Fresh
+IsAllowed z f actor u (LookedAtHost page) = u.stage ≡ Fresh
 IsAllowed z f actor u (Accessed gfn word op frame before) = (u.stage ≡ Fresh) × (u.line.command ≡ Access gfn word op) × Reaches f gfn word op frame before
 IsAllowed z f actor u (Exited answer) = (u.stage ≡ Fresh) × MayLeave u.line.command u.notes answer
 IsAllowed z f actor u (SlotChanged id slot) = (u.stage ≡ Fresh) × (u.line.command ≡ SetSlot id slot) × (slot_refusal z.pages f.slots id slot ≡ None)

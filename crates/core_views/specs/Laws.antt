@@ -12,7 +12,7 @@ use Rattle.core_views.specs.Flat.{first_facts, first_flat}
 use Rattle.core_views.specs.Lawful.{IsLawful}
 use Rattle.core_views.specs.Whole.{IsWhole}
 use Rattle.core_views.specs.FlatHistory.{one_by_one}
-use Rattle.core_views.specs.Alone.{StandsAlone, without_looks}
+use Rattle.core_views.specs.Alone.{NoneStarved, StandsAlone, without_looks}
 use Rattle.core_views.specs.Text.{text, answers_of}
 
 -- Lines that run alone, one after another, are lawful.
@@ -27,21 +27,21 @@ FlatIsWhole = (z : Sizes) (lines : List Line) → IsWhole (one_by_one z lines fi
 abbrev pub FlatStandsAlone : Type 0
 FlatStandsAlone = (z : Sizes) (lines : List Line) → StandsAlone (one_by_one z lines first_facts) lines
 
--- A lawful history in which each line stands alone is the flat history, but for what the lines looked at.
+-- A lawful history in which each line stands alone, and none is starved, is the flat history, but for what the lines looked at.
 abbrev pub AloneIsFlat : Type 0
-AloneIsFlat = (z : Sizes) (lines : List Line) (h : List Event) → IsLawful z first_flat h → StandsAlone h lines → without_looks h ≡ without_looks (one_by_one z lines first_facts)
+AloneIsFlat = (z : Sizes) (lines : List Line) (h : List Event) → IsLawful z first_flat h → StandsAlone h lines → NoneStarved h → without_looks h ≡ without_looks (one_by_one z lines first_facts)
 
 -- So it answers and prints the same.
 abbrev pub AloneAnswersAsFlat : Type 0
-AloneAnswersAsFlat = (z : Sizes) (lines : List Line) (h : List Event) → IsLawful z first_flat h → StandsAlone h lines
+AloneAnswersAsFlat = (z : Sizes) (lines : List Line) (h : List Event) → IsLawful z first_flat h → StandsAlone h lines → NoneStarved h
     → (answers_of h ≡ answers_of (one_by_one z lines first_facts)) × (text h ≡ text (one_by_one z lines first_facts))
 
--- And each line is begun and answered in it, once, in the order of its actor.
+-- Where each line stands alone, each is begun and answered, once, in the order of its actor, whether some are starved or not.
 abbrev pub AloneIsWhole : Type 0
-AloneIsWhole = (z : Sizes) (lines : List Line) (h : List Event) → IsLawful z first_flat h → StandsAlone h lines → IsWhole h lines
+AloneIsWhole = (lines : List Line) (h : List Event) → StandsAlone h lines → IsWhole h lines
 
 abbrev pub example_sizes : Sizes
-example_sizes = record { pages = 128; frames = 128; words = 2; pool = 4; vcpus = 2; hosts = 1; workers = 0 }
+example_sizes = record { pages = 128; frames = 128; words = 2; pool = 4; cache = 64; vcpus = 2; hosts = 1; workers = 0 }
 
 abbrev pub example_slot : ℕ → ℕ → Bool → Slot
 example_slot base host read_only = record { base = base; pages = 3; host = host; read_only = read_only }

@@ -1,13 +1,17 @@
 -- What the slots and the host together name (mmu.rst: the second-stage table caches the composition of the two).
-use Rattle.std.specs.Prelude.{ℕ, Option, Some, None}
+use Rattle.std.specs.Prelude.{ℕ, Option, Some, None, if◌then◌else◌}
 use Rattle.core_views.specs.declared.trace.Op.{Op}
 use Rattle.core_views.specs.Slots.{Slots, page_behind}
-use Rattle.core_views.specs.Host.{HostMap}
+use Rattle.core_views.specs.Host.{HostEntry, HostMap, is_denied}
 
-abbrev pub frame_at : HostMap → Option ℕ → Option ℕ
-frame_at host None = None
-frame_at host (Some page) = Some (host page).frame
+-- the frame of the page that is behind, where the host allows the operation
+abbrev pub frame_for : Op → HostEntry → Option ℕ
+frame_for op entry = if is_denied op entry then None else Some entry.frame
+
+abbrev pub frame_at : HostMap → Op → Option ℕ → Option ℕ
+frame_at host op None = None
+frame_at host op (Some page) = frame_for op (host page)
 
 -- the frame that an operation on the guest frame reaches
 abbrev pub names : Slots → HostMap → ℕ → Op → Option ℕ
-names slots host gfn op = frame_at host (page_behind slots gfn op)
+names slots host gfn op = frame_at host op (page_behind slots gfn op)

@@ -6,7 +6,7 @@ use Rattle.core_views.specs.declared.sizes.Sizes.{Sizes}
 use Rattle.core_views.specs.declared.trace.Header.{Header}
 
 abbrev pub sizes_of : Header → Sizes
-sizes_of h = record { pages = h.pages; frames = h.frames; words = h.words; pool = h.pool; vcpus = h.vcpus; hosts = length h.hosts; workers = h.workers }
+sizes_of h = record { pages = h.pages; frames = h.frames; words = h.words; pool = h.pool; cache = h.cache; vcpus = h.vcpus; hosts = length h.hosts; workers = h.workers }
 
 -- how many actors there are: virtual processors, host threads, the manager, workers
 abbrev pub actors_of : Sizes → ℕ
@@ -42,3 +42,4 @@ pub record AreSizes (z : Sizes) : Type 0 where
   pub words : (1 ≤ z.words) × (z.words ≤ 8)
   pub content : z.frames * z.words ≤ 8388608
   pub pool : (4 ≤ z.pool) × (z.pool ≤ 16384)
+  pub cache : (1 ≤ z.cache) × (z.cache ≤ 64)

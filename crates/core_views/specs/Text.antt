@@ -5,7 +5,7 @@ use Rattle.core_views.specs.declared.actor.Actor.{Actor}
 use Rattle.core_views.specs.declared.actor.Actor.TheVariants.{Vcpu, Host, Manager, Worker}
 use Rattle.core_views.specs.declared.answer.Answer.{Answer}
 use Rattle.core_views.specs.declared.answer.AnsweredLine.{AnsweredLine}
-use Rattle.core_views.specs.declared.answer.Answer.TheVariants.{Reached, Mmio, Done, Refused}
+use Rattle.core_views.specs.declared.answer.Answer.TheVariants.{Reached, Mmio, HostFault, Starved, Done, Refused}
 use Rattle.core_views.specs.declared.answer.Refusal.{Refusal}
 use Rattle.core_views.specs.declared.answer.Refusal.TheVariants.{BadId, TooLarge, Missing, Logged, NoLog, Resize, Fixed, Overlap, HostOverlap}
 use Rattle.core_views.specs.declared.event.Event.{Event}
@@ -32,6 +32,8 @@ refusal_name HostOverlap = codes "host-overlap"
 abbrev pub answer_text : Answer → List ℕ
 answer_text (Reached frame value) = codes "frame " ++ (decimal frame ++ (codes " value " ++ decimal value))
 answer_text Mmio = codes "mmio"
+answer_text HostFault = codes "hostfault"
+answer_text Starved = codes "starved"
 answer_text Done = codes "done"
 answer_text (Refused refusal) = codes "refused " ++ refusal_name refusal
 

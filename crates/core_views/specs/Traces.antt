@@ -1,6 +1,6 @@
 -- What a trace may hold: the ranges of its header and of its lines.
-use Rattle.std.specs.Prelude.{◌≡◌, ◌*◌, ◌%◌, ◌^◌, ◌<◌, ◌≤◌, ◌==◌, ◌⊎◌, ℕ, List, [], ◌∷◌, false, All, Some, length, slice_get}
-use Rattle.std.specs.List.{AllByRecursion}
+use Rattle.std.specs.Prelude.{◌≡◌, ◌*◌, ◌%◌, ◌^◌, ◌<◌, ◌≤◌, ◌==◌, ◌⊎◌, ℕ, List, [], ◌∷◌, All, Some, length, slice_get}
+use Rattle.std.specs.List.{IsDistinct}
 use Rattle.std.specs.List.Sorted.{IsStrictlyIncreasing}
 use Rattle.core_views.specs.declared.actor.Actor.{Actor}
 use Rattle.core_views.specs.declared.actor.Actor.TheVariants.{Vcpu, Manager}
@@ -48,11 +48,6 @@ abbrev pub slot_ids : List Line → List ℕ
 slot_ids [] = []
 slot_ids (line ∷ lines) = or_slot_id line.command (slot_ids lines)
 
--- No ID is there twice.
-abbrev pub AreDistinct : List ℕ → Type 0
-AreDistinct [] = Unit {0}
-AreDistinct (id ∷ ids) = AllByRecursion (λ j. (id == j) ≡ false) ids × AreDistinct ids
-
 -- One to four host threads own all pages: the first from page 0 on, and each from a page behind the one before.
 pub record AreHostsOf (pages : ℕ) (hosts : List ℕ) : Type 0 where
   pub first : slice_get hosts 0 ≡ Some 0
@@ -78,4 +73,4 @@ pub record IsHeader (h : Header) : Type 0 where
 pub record IsTrace (t : Trace) : Type 0 where
   pub header : IsHeader t.header
   pub lines : AreLinesOf t.header t.lines
-  pub distinct : AreDistinct (slot_ids t.lines)
+  pub distinct : IsDistinct (λ i j. i == j) (slot_ids t.lines)

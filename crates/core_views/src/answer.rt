@@ -12,6 +12,10 @@ pub enum Answer {
     /// No slot gives the guest frame a host page for this operation: the
     /// access leaves the guest as an MMIO exit (KVM's api.rst, `KVM_EXIT_MMIO`).
     Mmio,
+    /// A write or add, and the host doesn't allow writes to the page.
+    HostFault,
+    /// No pool page was free for a table that the access needs.
+    Starved,
     /// A slot setting took effect.
     Done,
     /// The line is refused, and nothing has changed.
@@ -81,6 +85,8 @@ impl fmt::Display for Answer {
         match self {
             Answer::Reached { frame, value } => write!(f, "frame {frame} value {value}"),
             Answer::Mmio => write!(f, "mmio"),
+            Answer::HostFault => write!(f, "hostfault"),
+            Answer::Starved => write!(f, "starved"),
             Answer::Done => write!(f, "done"),
             Answer::Refused(refusal) => {
                 let name = refusal.name();

@@ -14,6 +14,10 @@ pub enum EventKind {
     Begun(Line),
     /// The line looked at the memory slots as they are now.
     LookedAtSlots,
+    /// The line looked at what the host maps this page to now.
+    LookedAtHost {
+        page: u64,
+    },
     /// The access itself: `word` is the index of the content word in its page,
     /// `before` its value before the access.
     Accessed {

@@ -1,8 +1,9 @@
-ghost use Rattle.std.specs.Prelude.{◌≡◌, ◌+◌, ◌-◌, ◌<◌, ◌++◌, ◌∷◌, [], OnErr, OnOk, length, slice_get};
+ghost use Rattle.std.specs.Prelude.{◌≤◌, IfOk, ◌≡◌, ◌+◌, ◌-◌, ◌<◌, ◌++◌, ◌∷◌, [], OnErr, OnOk, length, slice_get};
 ghost use Rattle.core_views.specs.Held.{first_held, first_state};
 
 use crate::{
-    Actor, AnsweredLine, Command, Line, NoMemory, Op, Place, Sequence, Sizes, Slot, SlotSet, Topics,
+    Actor, AnsweredLine, Cache, Command, Line, NoMemory, Op, Place, Sequence, Sizes, SlotSet,
+    Topics,
 };
 use std::alloc::Global;
 use std::marker::Model;
@@ -12,14 +13,6 @@ use std::marker::Model;
 pub struct Seen {
     pub word: u32,
     pub value: u64,
-}
-
-/// What a line loaded of the memory slots: the page of the slot set, and the
-/// slot under look, or found.
-#[derive(Clone, Copy, Debug, PartialEq, Eq, Drop)]
-pub struct SlotLook {
-    pub set: u64,
-    pub slot: Slot,
 }
 
 /// What an actor holds besides its lines and their answers. Each field is a
@@ -34,12 +27,8 @@ pub struct State {
     pub place: Place,
     /// The line under way, or the last one.
     pub line: Line,
-    /// What was loaded of the slots.
-    pub look: SlotLook,
-    /// The host word that was loaded.
-    pub host: u64,
-    /// The leaf that was seen or installed.
-    pub spte: u64,
+    /// The leaf of the translation that the access uses.
+    pub leaf: u64,
 }
 
 impl State {
@@ -47,12 +36,6 @@ impl State {
     pub fn first(sizes: Sizes, actor: Actor) -> Self
         ensures { result ≡ first_state sizes actor }
     {
-        let slot = Slot {
-            base: 0,
-            pages: 0,
-            host: 0,
-            read_only: false,
-        };
         let command = Command::Access {
             gfn: 0,
             word: 0,
@@ -67,9 +50,7 @@ impl State {
                 actor: Actor::Vcpu(0),
                 command,
             },
-            look: SlotLook { set: 0, slot },
-            host: 0,
-            spte: 0,
+            leaf: 0,
         }
     }
 }
@@ -81,6 +62,7 @@ impl State {
 pub struct Hand {
     state: State,
     topics: Topics,
+    cache: Cache,
     slots: SlotSet,
     lines: Vec<Line>,
     answers: Vec<AnsweredLine>,
@@ -93,7 +75,7 @@ impl Model for Hand {
 
     ghost Value = { Handful };
 
-    ghost view = { λ h. record { core = record { state = h.state; topics = h.topics; slots = h.slots; lines = h.lines.items; answers = h.answers.items }; room = h.room } };
+    ghost view = { λ h. record { core = record { state = h.state; topics = h.topics; cached = h.cache; slots = h.slots; lines = h.lines.items; answers = h.answers.items }; room = h.room } };
 
     ghost invariant = { λ h. vec_len h.answers + h.room ≤ vec_capacity h.answers };
 }
@@ -101,20 +83,27 @@ impl Model for Hand {
 impl Hand {
     ghost use Rattle.std.specs.Borrow.{Lends, sem};
     ghost use Rattle.core_views.specs.contracts.hand.Hand.{the_row};
-    ghost use Rattle.core_views.specs.Rows.{slots_row, state_row, topics_row};
+    ghost use Rattle.core_views.specs.Rows.{cache_row, slots_row, state_row, topics_row};
 
     /// The hand of an actor before its first line.
-    pub fn new(alloc: Global, sizes: Sizes, actor: Actor, lines: Vec<Line>) -> Self
-        ensures { result.core ≡ first_held sizes actor lines.items }
+    pub fn new(
+        alloc: Global,
+        sizes: Sizes,
+        actor: Actor,
+        lines: Vec<Line>,
+    ) -> Result<Self, NoMemory>
+        requires cache { (1 ≤ sizes.cache) × (sizes.cache ≤ 64) }
+        ensures { IfOk result (λ h. h.core ≡ first_held sizes actor lines.items) }
     {
-        Hand {
+        Ok(Hand {
             state: State::first(sizes, actor),
             topics: Topics::first(),
+            cache: Cache::new(alloc, sizes.cache as u8)?,
             slots: SlotSet::empty(),
             lines,
             answers: Vec::new(alloc),
             room: 0,
-        }
+        })
     }
 
     /// Where the line stands, and what it loaded.
@@ -159,7 +148,7 @@ impl Hand {
     /// Where the line stands and what it loaded, to be changed in place.
     pub fn state_mut(&mut self) -> &mut State
         ensures value { result.now ≡ self.old.core.state }
-        ensures* lends { sem 𝓛 (Lends the_row state_row self.entry result (λ s. record { core = record { state = s; topics = self.old.core.topics; slots = self.old.core.slots; lines = self.old.core.lines; answers = self.old.core.answers }; room = self.old.room })) }
+        ensures* lends { sem 𝓛 (Lends the_row state_row self.entry result (λ s. record { core = record { state = s; topics = self.old.core.topics; cached = self.old.core.cached; slots = self.old.core.slots; lines = self.old.core.lines; answers = self.old.core.answers }; room = self.old.room })) }
     {
         &mut self.state
     }
@@ -167,15 +156,30 @@ impl Hand {
     /// What is held of each part of the machine, to be changed in place.
     pub fn topics_mut(&mut self) -> &mut Topics
         ensures value { result.now ≡ self.old.core.topics }
-        ensures* lends { sem 𝓛 (Lends the_row topics_row self.entry result (λ t. record { core = record { state = self.old.core.state; topics = t; slots = self.old.core.slots; lines = self.old.core.lines; answers = self.old.core.answers }; room = self.old.room })) }
+        ensures* lends { sem 𝓛 (Lends the_row topics_row self.entry result (λ t. record { core = record { state = self.old.core.state; topics = t; cached = self.old.core.cached; slots = self.old.core.slots; lines = self.old.core.lines; answers = self.old.core.answers }; room = self.old.room })) }
     {
         &mut self.topics
+    }
+
+    /// The cached translations.
+    pub fn cache(&self) -> &Cache
+        ensures { result.now ≡ self.now.core.cached }
+    {
+        &self.cache
+    }
+
+    /// The cached translations, to be changed in place.
+    pub fn cache_mut(&mut self) -> &mut Cache
+        ensures value { result.now ≡ self.old.core.cached }
+        ensures* lends { sem 𝓛 (Lends the_row cache_row self.entry result (λ c. record { core = record { state = self.old.core.state; topics = self.old.core.topics; cached = c; slots = self.old.core.slots; lines = self.old.core.lines; answers = self.old.core.answers }; room = self.old.room })) }
+    {
+        &mut self.cache
     }
 
     /// The manager's own record of the slots, to be changed in place.
     pub fn slots_mut(&mut self) -> &mut SlotSet
         ensures value { result.now ≡ self.old.core.slots }
-        ensures* lends { sem 𝓛 (Lends the_row slots_row self.entry result (λ s. record { core = record { state = self.old.core.state; topics = self.old.core.topics; slots = s; lines = self.old.core.lines; answers = self.old.core.answers }; room = self.old.room })) }
+        ensures* lends { sem 𝓛 (Lends the_row slots_row self.entry result (λ s. record { core = record { state = self.old.core.state; topics = self.old.core.topics; cached = self.old.core.cached; slots = s; lines = self.old.core.lines; answers = self.old.core.answers }; room = self.old.room })) }
     {
         &mut self.slots
     }
@@ -194,7 +198,7 @@ impl Hand {
     /// Adds an answer, for which there is room.
     pub fn answer(&mut self, answer: AnsweredLine)
         requires { 0 < self.old.room }
-        ensures { self.new ≡ record { core = record { state = self.old.core.state; topics = self.old.core.topics; slots = self.old.core.slots; lines = self.old.core.lines; answers = self.old.core.answers ++ answer ∷ [] }; room = self.old.room - 1 } }
+        ensures { self.new ≡ record { core = record { state = self.old.core.state; topics = self.old.core.topics; cached = self.old.core.cached; slots = self.old.core.slots; lines = self.old.core.lines; answers = self.old.core.answers ++ answer ∷ [] }; room = self.old.room - 1 } }
     {
         self.room -= 1;
         match self.answers.push(answer) {

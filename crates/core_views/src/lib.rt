@@ -4,6 +4,7 @@
 
 mod actor;
 mod answer;
+mod cache;
 mod event;
 mod hand;
 mod kind;
@@ -18,13 +19,15 @@ mod trace;
 
 pub use actor::Actor;
 pub use answer::{Answer, Answered, AnsweredLine, Refusal};
+pub use cache::{Cache, Translation};
 pub use event::{Event, EventKind};
-pub use hand::{Closing, Hand, Hands, Seen, SlotLook, State};
+pub use hand::{Closing, Hand, Hands, Seen, State};
 pub use kind::{Kind, Operation, StepKind};
 pub use laws::{alone_is_flat, flat_history_is_lawful};
 pub use no_memory::NoMemory;
 pub use place::{
-    AccessPlace, Cause, CheckStage, FaultEnd, FaultNext, FaultPlace, Place, SetSlotPlace, SlotField,
+    AccessPlace, Cause, CheckStage, FaultEnd, FaultNext, FaultPlace, Leaving, Place, SetSlotPlace,
+    SlotField,
 };
 pub use sequence::Sequence;
 pub use sizes::Sizes;

@@ -16,21 +16,33 @@ pub enum SlotField {
     Flags,
 }
 
-/// The steps of a guest access, in their order.
+/// What becomes of an access behind its stay in the guest.
+#[derive(Clone, Copy, Debug, PartialEq, Eq, Drop)]
+pub enum Leaving {
+    /// It reached its word, and is answered so.
+    Reached { frame: u64, value: u64 },
+    /// It found no translation, and faults.
+    Faults,
+}
+
+/// The steps of a guest access, in their order: stays in the guest, and between
+/// them faults. `again` says that a fault of this line has installed an entry.
 #[derive(Clone, Copy, Debug, PartialEq, Eq, Drop)]
 pub enum AccessPlace {
-    /// Loads which slot set is published.
-    Slots,
-    /// Loads this word of the slot with this ID.
-    Slot { id: u64, field: SlotField },
-    /// Loads the table's entry of the guest frame.
-    Walk,
-    /// Loads the host word of the page behind it.
-    Host,
-    /// Puts a leaf where no entry is.
-    Install,
+    /// Enters the guest.
+    Enter { again: bool },
+    /// Loads the pause.
+    Pause { again: bool },
+    /// Loads the root, where no cached translation allows the access.
+    Root { again: bool },
+    /// Loads the entry in the table that the walk has come to.
+    Walk { again: bool },
     /// Reads, writes or adds to the content word.
     Touch,
+    /// Leaves the guest.
+    Leave(Leaving),
+    /// A step of its fault.
+    Fault(FaultPlace),
 }
 
 /// The steps of a slot setting, in their order.

@@ -14,6 +14,8 @@ pub struct Sizes {
     pub words: u64,
     /// Pool pages.
     pub pool: u64,
+    /// Translations that a virtual processor caches at most.
+    pub cache: u64,
     /// Virtual processors.
     pub vcpus: u64,
     /// Host threads.
@@ -32,6 +34,7 @@ impl Sizes {
             frames: header.frames,
             words: header.words as u64,
             pool: header.pool as u64,
+            cache: header.cache as u64,
             vcpus: header.vcpus as u64,
             hosts: header.hosts.as_slice().len() as u64,
             workers: header.workers as u64,

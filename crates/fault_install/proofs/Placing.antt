@@ -18,7 +18,8 @@ use Rattle.core_views.specs.declared.topics.SlotSearch.{SlotSearch}
 use Rattle.core_views.specs.declared.topics.Topics.{Topics}
 use Rattle.core_views.specs.Held.{Held}
 use Rattle.core_views.specs.Slots.{contains}
-use Rattle.spte_words.specs.Areas.{words_of_bits}
+use Rattle.spte_words.specs.declared.area.Area.TheVariants as area
+use Rattle.spte_words.specs.Areas.{place, words_of_bits}
 use Rattle.invalidate_seq.specs.Checks.{AnswersBy, step_of}
 use Rattle.invalidate_seq.specs.declared.check.Checked.{Checked}
 use Rattle.invalidate_seq.specs.declared.check.Checked.TheVariants.{Fresh, Open, Moved}
@@ -28,8 +29,10 @@ use Rattle.mmu_core.specs.declared.part_step.PartStep.{PartStep}
 use Rattle.mmu_core.specs.declared.part_step.PartStep.TheVariants as part
 use Rattle.mmu_core.specs.FaultKnows.{CheckKnows}
 use Rattle.mmu_core.specs.FaultLaws.{CanAnswer}
-use Rattle.mmu_core.specs.FaultSteps.{at_map_word, check_next, check_part, claim_next, find_next, found_next, is_last_word, is_owing, map_word, share_next, share_part, snapshot_taken, tries_page}
+use Rattle.mmu_core.specs.FaultSteps.{at_map_word, check_next, check_part, claim_next, find_next, found_next, is_last_word, is_owing, map_word, share_next, share_part, snapshot_taken, tries_page, waits, word_owed}
 use Rattle.mmu_core.specs.PartTopics.{part_topics, sequenced}
+use Rattle.mmu_core.specs.PartSteps.{own_index, part_task}
+use Rattle.mmu_core.specs.Tasks.{kind_of_task, map_of}
 use Rattle.mmu_core.specs.TopicSteps.{has_writer, is_loose, is_won, searched}
 use Rattle.mmu_lock.specs.declared.lock.Lock.{Lock}
 use Rattle.mmu_lock.specs.declared.lock.Lock.TheVariants.{Got, Held as HeldBy}
@@ -111,8 +114,18 @@ can_share Shared v = tt
 can_share (Owing word) v = tt
 can_share Exclusive v = tt
 
+same_owing : {m n : ℕ} → Owing m ≡ Owing n → m ≡ n
+same_owing e = cc e
+
+-- the word that the tries are on
+on_lock : (k : Hold) (own : ℕ) (t : Topics) (z : Sizes) (note : ℕ) → place (map_of z) area.Lock 0 ≡ (kind_of_task z (part_task (share_part k) own t note)).word
+on_lock Loose own t z note = refl
+on_lock Shared own t z note = refl
+on_lock (Owing word) own t z note = refl
+on_lock Exclusive own t z note = refl
+
 try_turn : (k : Hold) (answer : Turn Lock) (t u : Topics) (v word : ℕ) → t.hold ≡ k → u ≡ part_topics (share_part k) t v → TriedShared answer t u
-    → Turned (Goes (share_next k v)) (lock_turn word answer) (after_try answer) × WaitsBy (lock_turn word answer) (is_owing k)
+    → Turned (Goes (share_next k v)) (lock_turn word answer) (after_try answer) × WaitsBy (lock_turn word answer) (is_owing k) (record { word = word; value = word_owed k })
 try_turn Loose More t u v word is made tried = (by (has_writer v) (ap (λ (x : Topics). x.hold) (sym made ∙ tried.3)), not_true)
   where
     by : (b : Bool) → (if b then Owing v else Shared) ≡ Owing tried.0 → at.Share ≡ (if b then at.Share else at.Check stage.Count)
@@ -123,7 +136,7 @@ try_turn Loose (Done Got) t u v word is made tried = (by (has_writer v) (ap (λ 
     by : (b : Bool) → (if b then Owing v else Shared) ≡ Shared → at.Check stage.Count ≡ (if b then at.Share else at.Check stage.Count)
     by true e = absurd (cc e)
     by false e = refl
-try_turn (Owing saw) (Done (HeldBy value)) t u v word is made tried = (refl, refl)
+try_turn (Owing saw) (Done (HeldBy value)) t u v word is made tried = (refl, (refl, ap (λ n. record { word = word; value = n }) (same_owing (sym tried.0 ∙ is))))
 try_turn Loose (Done (HeldBy value)) t u v word is made tried = absurd (cc (is, tried.0))
 try_turn Shared More t u v word is made tried = absurd (cc (is, tried.2))
 try_turn Shared (Done Got) t u v word is made tried = absurd (cc (is, tried.0))
@@ -136,12 +149,14 @@ try_turn Exclusive (Done (HeldBy value)) t u v word is made tried = absurd (cc (
 try_turn k (Wait seen) t u v word is made tried = absurd tried
 try_turn k (Retry why) t u v word is made tried = absurd tried
 
-pub share_makes : (job : FaultJob) (answer : Turn Lock) (word note a : ℕ) (h g : Held) (told tells : Told) → IsAt at.Share job note h → MakesPart (shared_step h.topics.hold) note a h g told tells → TriedShared answer h.topics g.topics
+pub share_makes : (job : FaultJob) (answer : Turn Lock) (word note a : ℕ) (h g : Held) (told tells : Told) → word ≡ place (map_of h.state.sizes) area.Lock 0 → IsAt at.Share job note h → MakesPart (shared_step h.topics.hold) note a h g told tells → TriedShared answer h.topics g.topics
     → MakesStep job (record job { place = after_try answer }) (lock_turn word answer) note a h g told tells
-share_makes job answer word note a h g told tells is M tried =
+share_makes job answer word note a h g told tells at_lock is M tried =
     let made : MadePart (share_part h.topics.hold) note M.found a h g told tells = subst (λ (s : PartStep). MadePart s note M.found a h g told tells) (same_try h.topics.hold) M.made in
     let turn = try_turn h.topics.hold answer h.topics g.topics M.found word refl made.topics tried in
-    makes at.Share (after_try answer) job (lock_turn word answer) note M.found a h g told tells is.place made (can_share h.topics.hold M.found) turn.0 turn.1
+    let there = at_lock ∙ on_lock h.topics.hold (own_index h) h.topics h.state.sizes note in
+    let waits_by = subst (λ n. WaitsBy (lock_turn word answer) (is_owing h.topics.hold) (record { word = n; value = word_owed h.topics.hold })) there turn.1 in
+    makes at.Share (after_try answer) job (lock_turn word answer) note M.found a h g told tells is.place made (can_share h.topics.hold M.found) turn.0 waits_by
 
 -- the check
 same_check : (s : CheckStage) → step_of s ≡ check_part s
@@ -223,16 +238,26 @@ won_turn : (won : Bool) (o p : OwnedPage) → (if won then Some o else None) ≡
 won_turn true o p is = (refl, not_true)
 won_turn false o p is = absurd (cc is)
 
-lost_turn : (won : Bool) (o : OwnedPage) → (if won then Some o else None) ≡ None → (at.Claim true ≡ (if won then at.Fill else at.Claim true)) × ((true && not won) ≡ true)
-lost_turn true o is = absurd (cc is)
-lost_turn false o is = (refl, refl)
+lost_turn : (won : Bool) (o : OwnedPage) (v value : ℕ) → (if won then Some o else None) ≡ None → (if won then 0 else v) ≡ value → (at.Claim true ≡ (if won then at.Fill else at.Claim true)) × ((true && not won) ≡ true) × (value ≡ v)
+lost_turn true o v value is sees = absurd (cc is)
+lost_turn false o v value is sees = (refl, refl, sym sees)
+
+-- the word that a claim's step is on
+abbrev claim_word : Bool → Bool → Sizes → Topics → ℕ
+claim_word b begun z t = place (map_of z) area.PoolMap (if b then t.claim.at else map_word begun t.claim)
+
+on_map : (b begun : Bool) (own : ℕ) (t : Topics) (z : Sizes) (note : ℕ) → claim_word b begun z t ≡ (kind_of_task z (part_task (if b then part.Claim else part.Map (map_word begun t.claim)) own t note)).word
+on_map true begun own t z note = refl
+on_map false begun own t z note = refl
 
 claim_turned : (b begun : Bool) (answer : Turn Claimed) (z : Sizes) (t u : Topics) (v : ℕ) → tries_page begun t.claim ≡ b → u ≡ part_topics (if b then part.Claim else part.Map (map_word begun t.claim)) t v → ClaimTurn z (record { begun = begun }) answer t u
-    → Turned (Goes (claim_next b z (at_map_word begun t.claim) v)) (claim_turn answer) (after_claim answer) × WaitsBy (claim_turn answer) (b && not (is_won t.claim v))
+    → Turned (Goes (claim_next b z (at_map_word begun t.claim) v)) (claim_turn answer) (after_claim answer) × WaitsBy (claim_turn answer) (b && not (is_won t.claim v)) (record { word = claim_word b begun z t; value = v })
 claim_turned true begun More z t u v is made looks = absurd (cc (is, looks.loads))
 claim_turned true begun (Done Empty) z t u v is made none = absurd (cc (is, none.loads))
 claim_turned true begun (Done (Page page)) z t u v is made takes = won_turn (is_won t.claim v) _ _ (ap (λ (x : Topics). x.owned) (sym made ∙ takes.behind))
-claim_turned true begun (Wait seen) z t u v is made loses = lost_turn (is_won t.claim v) _ (ap (λ (x : Topics). x.owned) (sym made) ∙ loses.owns_none)
+claim_turned true begun (Wait seen) z t u v is made loses =
+    let lost = lost_turn (is_won t.claim v) _ v seen.value (ap (λ (x : Topics). x.owned) (sym made) ∙ loses.owns_none) (ap (λ (x : Topics). x.claim.seen) (sym made ∙ loses.behind)) in
+    (lost.0, (lost.1, ap (λ n. record { word = n; value = seen.value }) loses.word ∙ ap (λ n. record { word = place (map_of z) area.PoolMap t.claim.at; value = n }) lost.2))
 claim_turned false begun More z t u v is made looks =
     let within : map_word begun t.claim + (if v == 0 then 1 else 0) < words_of_bits z.pool = subst (λ (x : Topics). x.claim.at < words_of_bits z.pool) made looks.within in
     let less : nat_lt (map_word begun t.claim + (if v == 0 then 1 else 0)) (words_of_bits z.pool) ≡ true = is_less _ _ within in
@@ -256,4 +281,5 @@ pub claim_makes : (job : FaultJob) (begun : Bool) (answer : Turn Claimed) (note 
     → MakesStep job (record job { place = after_claim answer }) (claim_turn answer) note a h g told tells
 claim_makes job begun answer note a h g told tells is M turned =
     let turn = claim_turned (tries_page begun h.topics.claim) begun answer h.state.sizes h.topics g.topics M.found refl M.made.topics turned in
-    makes (at.Claim begun) (after_claim answer) job (claim_turn answer) note M.found a h g told tells is.place M.made (can_claim (tries_page begun h.topics.claim) (map_word begun h.topics.claim) M.found) turn.0 turn.1
+    makes (at.Claim begun) (after_claim answer) job (claim_turn answer) note M.found a h g told tells is.place M.made (can_claim (tries_page begun h.topics.claim) (map_word begun h.topics.claim) M.found) turn.0
+    (subst (λ n. WaitsBy (claim_turn answer) (waits (at.Claim begun) h.topics M.found) (record { word = n; value = M.found })) (on_map (tries_page begun h.topics.claim) begun (own_index h) h.topics h.state.sizes note) turn.1)

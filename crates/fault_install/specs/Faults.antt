@@ -4,11 +4,12 @@ use Rattle.core_views.specs.declared.place.FaultEnd.{FaultEnd}
 use Rattle.core_views.specs.declared.place.FaultEnd.TheVariants as end_of
 use Rattle.core_views.specs.declared.place.FaultNext.{FaultNext}
 use Rattle.core_views.specs.declared.place.FaultNext.TheVariants.{Goes, Ends}
+use Rattle.core_views.specs.declared.hand.Seen.{Seen}
 use Rattle.core_views.specs.declared.place.FaultPlace.{FaultPlace}
 use Rattle.core_views.specs.Held.{Held}
 use Rattle.mmu_core.specs.FaultKnows.{EndKnows, FaultKnows, KnowsNext}
 use Rattle.mmu_core.specs.FaultLaws.{CanAnswer}
-use Rattle.mmu_core.specs.FaultSteps.{fault_next, fault_part, waits}
+use Rattle.mmu_core.specs.FaultSteps.{fault_next, fault_part, wait_seen, waits}
 use Rattle.mmu_core.specs.PartRests.{MayMake}
 use Rattle.step_seats.specs.PartTurns.{MadePart, Told}
 use Rattle.step_seats.specs.declared.turn.Turn.{Turn}
@@ -24,7 +25,7 @@ end_with Mmio = end_of.Mmio
 end_with HostFault = end_of.HostFault
 end_with Starved = end_of.Starved
 
--- The fault stands at this place now, or it is over, and the turn answers so. A wait has the value that the step's word was seen with.
+-- The fault stands at this place now, or it is over, and the turn answers so.
 abbrev pub Turned : FaultNext → Turn Faulted → FaultPlace → Type 0
 Turned (Goes p) More place = place ≡ p
 Turned (Goes p) (Wait seen) place = place ≡ p
@@ -33,10 +34,10 @@ Turned (Ends e) (Done answer) place = e ≡ end_with answer
 Turned (Ends e) (Retry cause) place = e ≡ end_of.Retry cause
 Turned (Ends e) _ place = ⊥
 
--- The turn waits exactly where its step is one that waits for another actor.
-abbrev pub WaitsBy : Turn Faulted → Bool → Type 0
-WaitsBy (Wait seen) b = b ≡ true
-WaitsBy _ b = b ≢ true
+-- The turn waits exactly where its step is one that waits for another actor, and then it has seen what is in its way.
+abbrev pub WaitsBy : Turn Faulted → Bool → Seen → Type 0
+WaitsBy (Wait seen) b way = (b ≡ true) × (seen ≡ way)
+WaitsBy _ b way = b ≢ true
 
 -- The fault isn't over: the turn has more to do, or is to be made again.
 abbrev pub IsToGoOn : Turn Faulted → Type 0
@@ -66,7 +67,7 @@ pub record MakesStep (before after : FaultJob) (turn : Turn Faulted) (note actor
   pub can : CanAnswer (fault_part before.place before.gfn h.topics) found
   pub work : (after.gfn ≡ before.gfn) × (after.write ≡ before.write)
   pub turned : Turned (fault_next before.place h.state.sizes before.gfn before.write h.topics found) turn after.place
-  pub waits_by : WaitsBy turn (waits before.place h.topics found)
+  pub waits_by : WaitsBy turn (waits before.place h.topics found) (wait_seen before.place h before.gfn note found)
 
 -- One turn of the fault: its place's step was made, of which this was found; the fault stands where the order of steps leads from there,
 -- and knows what its next place asks; where it is over, its answer has its cause in what was loaded, and the actor holds nothing.
@@ -75,6 +76,6 @@ pub record TurnsFault (before after : FaultJob) (turn : Turn Faulted) (note acto
   pub made : MadePart (fault_part before.place before.gfn h.topics) note found actor h g told tells
   pub work : (after.gfn ≡ before.gfn) × (after.write ≡ before.write)
   pub turned : Turned (fault_next before.place h.state.sizes before.gfn before.write h.topics found) turn after.place
-  pub waits_by : WaitsBy turn (waits before.place h.topics found)
+  pub waits_by : WaitsBy turn (waits before.place h.topics found) (wait_seen before.place h before.gfn note found)
   pub knows : KnowsNext (fault_next before.place h.state.sizes before.gfn before.write h.topics found) h.state.sizes before.gfn before.write g.topics
   pub ends_by : EndsBy turn (λ e. EndKnows e h.state.sizes before.gfn before.write h.topics)

@@ -90,7 +90,8 @@ impl FaultJob {
         }
     }
 
-    /// Makes the next step. `Wait` where a writer has the lock or a page was
+    /// Makes the next step, which is one of the line whose fault it is, or of an
+    /// actor with no line left. `Wait` where a writer has the lock or a page was
     /// claimed by another actor meanwhile, and `Retry` where the look-up holds no
     /// more or another actor's entry stood in the way: the section is over then,
     /// and the fault is to begin anew.

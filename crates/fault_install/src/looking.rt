@@ -7,24 +7,15 @@ ghost use Rattle.step_seats.specs.Moves.{KeepsRoom};
 
 use crate::places::{after_check, after_search, after_try, lock_turn};
 use crate::{FaultJob, Faulted};
-use core_views::{CheckStage, FaultEnd, FaultPlace, Slot};
+use core_views::{CheckStage, FaultEnd, FaultPlace};
 use grace_period::begin;
 use host_map::look;
 use invalidate_seq::{Check, Snapshot};
 use memslots::Find;
-use mmu_core::{map_of, part_rests};
+use mmu_core::{map_of, page_of, part_rests};
 use mmu_lock::try_shared;
 use spte_words::{Area, HostWord};
 use step_seats::{Stepper, Turn};
-
-// The host page behind a guest frame of the slot.
-fn page_of(slot: &Slot, gfn: u64) -> u64
-    requires contains { contains gfn slot.now ≡ true }
-    requires small { slot.now.host + slot.now.pages < 2 ^ 64 }
-    ensures { result ≡ page_of slot.now gfn }
-{
-    slot.host + (gfn - slot.base)
-}
 
 impl FaultJob {
     // Begins the section.

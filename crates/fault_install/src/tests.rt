@@ -1,7 +1,8 @@
 //! Faults of processors with no line, beside a manager that sets slot 0: of guest
 //! frames 0 to 5, which are host pages 64 to 69, at frames 64 to 69.
-ghost use Rattle.std.specs.Prelude.{◌≡◌, ◌<◌, ◌^◌, true, false, [], ◌∷◌, IfOk, OnOk, length};
+ghost use Rattle.std.specs.Prelude.{◌≡◌, ◌<◌, ◌≤◌, ◌^◌, true, false, [], ◌∷◌, IfOk, OnOk, length};
 ghost use Rattle.core_views.specs.Sizes.{index_of};
+ghost use Rattle.core_views.specs.Traces.{IsTrace};
 ghost use Rattle.core_views.specs.declared.actor.Actor.TheVariants.{Manager};
 ghost use Rattle.core_views.specs.declared.trace.Command.TheVariants.{SetSlot};
 ghost use Rattle.fault_install.specs.Faults.{IsToGoOn};
@@ -44,9 +45,8 @@ const LINE: Line = Line {
     },
 };
 
-// Eight pool pages, and four.
-fn header(alloc: Global) -> Result<Header, NoMemory>
-    ensures { IfOk result (λ h. h ≡ record { version = 1; vcpus = 2; workers = 0; pages = 70; frames = 130; words = 2; pool = 8; cache = 64; manual = 0; hosts = 0 ∷ [] }) }
+fn header(alloc: Global, pool: u32) -> Result<Header, NoMemory>
+    ensures { IfOk result (λ h. h ≡ record { version = 1; vcpus = 2; workers = 0; pages = 70; frames = 130; words = 2; pool = pool; cache = 64; manual = 0; hosts = 0 ∷ [] }) }
 {
     Ok(Header {
         version: 1,
@@ -55,24 +55,7 @@ fn header(alloc: Global) -> Result<Header, NoMemory>
         pages: 70,
         frames: 130,
         words: 2,
-        pool: 8,
-        cache: 64,
-        manual: 0,
-        hosts: Words::from_vec(vec![in alloc; 0]?),
-    })
-}
-
-fn small_header(alloc: Global) -> Result<Header, NoMemory>
-    ensures { IfOk result (λ h. h ≡ record { version = 1; vcpus = 2; workers = 0; pages = 70; frames = 130; words = 2; pool = 4; cache = 64; manual = 0; hosts = 0 ∷ [] }) }
-{
-    Ok(Header {
-        version: 1,
-        vcpus: 2,
-        workers: 0,
-        pages: 70,
-        frames: 130,
-        words: 2,
-        pool: 4,
+        pool,
         cache: 64,
         manual: 0,
         hosts: Words::from_vec(vec![in alloc; 0]?),
@@ -122,32 +105,28 @@ fn setting() -> Line
     }
 }
 
-// Makes the four steps of the manager's line.
-fn set_slot(machine: &mut PlainMachine) -> Result<(), Fail> {
-    expect_actor(machine, Actor::Manager)?;
+// The trace of the manager's line.
+#[tactic(auto, using(step_seats::proofs::Starts::one_is_distinct))]
+fn trace(alloc: Global, pool: u32) -> Result<Trace, NoMemory>
+    requires from { 4 ≤ pool }
+    requires to { pool ≤ 8 }
+    ensures { IfOk result IsTrace }
+{
+    Ok(Trace {
+        header: header(alloc, pool)?,
+        lines: Lines::from_vec(vec![in alloc; setting()]?),
+    })
+}
+
+// The machine of the trace, whose manager has made the four steps of its line.
+fn start(alloc: Global, trace: &Trace) -> Result<PlainMachine, Fail>
+    requires { IsTrace trace.now }
+{
+    let mut machine = PlainMachine::new(alloc, trace)?;
+    expect_actor(&machine, Actor::Manager)?;
     let mut seat = machine.as_actor(Actor::Manager);
     run_lines(&mut seat, 4)?;
-    Ok(())
-}
-
-// The machine whose manager has set the slot.
-fn start(alloc: Global) -> Result<PlainMachine, Fail> {
-    let trace = Trace {
-        header: header(alloc)?,
-        lines: Lines::from_vec(vec![in alloc; setting()]?),
-    };
-    let mut machine = PlainMachine::new(alloc, &trace)?;
-    set_slot(&mut machine)?;
-    Ok(machine)
-}
-
-fn start_small(alloc: Global) -> Result<PlainMachine, Fail> {
-    let trace = Trace {
-        header: small_header(alloc)?,
-        lines: Lines::from_vec(vec![in alloc; setting()]?),
-    };
-    let mut machine = PlainMachine::new(alloc, &trace)?;
-    set_slot(&mut machine)?;
+    drop(seat);
     Ok(machine)
 }
 
@@ -226,7 +205,7 @@ fn fault(
 // leaf and two turns to the end. The second one finds the three tables.
 #[test]
 fn puts_tables_and_leaves(rt: HostRuntime) -> Result<(), Fail> {
-    let mut machine = start(rt.alloc())?;
+    let mut machine = start(rt.alloc(), &trace(rt.alloc(), 8)?)?;
     let mut first = FaultJob::new(5, false);
     assert_eq!(rt;
         fault(&mut machine, 0, &mut first, false)?,
@@ -244,7 +223,7 @@ fn puts_tables_and_leaves(rt: HostRuntime) -> Result<(), Fail> {
     );
     let closing = machine.into_closing();
     let words = closing.words.as_slice();
-    assert_eq!(rt; words.len(), 4522);
+    assert_eq!(rt; words.len(), 4452);
     assert_eq!(rt; words[MAP], 0xe0);
     assert_eq!(rt; words[ROOT], 0x2807);
     assert_eq!(rt; words[PAGE_2], 0x3807);
@@ -257,7 +236,7 @@ fn puts_tables_and_leaves(rt: HostRuntime) -> Result<(), Fail> {
 // Outside the slot: the four words of slot 0, and the flags of the 31 others.
 #[test]
 fn leaves_outside_the_slot(rt: HostRuntime) -> Result<(), Fail> {
-    let mut machine = start_small(rt.alloc())?;
+    let mut machine = start(rt.alloc(), &trace(rt.alloc(), 4)?)?;
     let mut job = FaultJob::new(6, false);
     assert_eq!(rt;
         fault(&mut machine, 0, &mut job, false)?,
@@ -269,7 +248,7 @@ fn leaves_outside_the_slot(rt: HostRuntime) -> Result<(), Fail> {
 // With four pool pages two tables are linked, and there is none for level 1.
 #[test]
 fn starves_where_no_page_is_free(rt: HostRuntime) -> Result<(), Fail> {
-    let mut machine = start_small(rt.alloc())?;
+    let mut machine = start(rt.alloc(), &trace(rt.alloc(), 4)?)?;
     let mut job = FaultJob::new(5, false);
     assert_eq!(rt;
         fault(&mut machine, 0, &mut job, false)?,
@@ -277,7 +256,7 @@ fn starves_where_no_page_is_free(rt: HostRuntime) -> Result<(), Fail> {
     );
     let closing = machine.into_closing();
     let words = closing.words.as_slice();
-    assert_eq!(rt; words.len(), 2470);
+    assert_eq!(rt; words.len(), 2400);
     assert_eq!(rt; words[MAP], 0);
     assert_eq!(rt; words[92], 0x2807);
     assert_eq!(rt; words[1116], 0x3807);
@@ -289,7 +268,7 @@ fn starves_where_no_page_is_free(rt: HostRuntime) -> Result<(), Fail> {
 // root first: page 2 is given back, and the first one is to begin anew.
 #[test]
 fn loses_its_link(rt: HostRuntime) -> Result<(), Fail> {
-    let mut machine = start(rt.alloc())?;
+    let mut machine = start(rt.alloc(), &trace(rt.alloc(), 8)?)?;
     let mut slow = FaultJob::new(5, false);
     assert_eq!(rt;
         fault(&mut machine, 0, &mut slow, true)?,
@@ -313,7 +292,7 @@ fn loses_its_link(rt: HostRuntime) -> Result<(), Fail> {
     );
     let closing = machine.into_closing();
     let words = closing.words.as_slice();
-    assert_eq!(rt; words.len(), 4522);
+    assert_eq!(rt; words.len(), 4452);
     assert_eq!(rt; words[MAP], 0xc4);
     assert_eq!(rt; words[ROOT], 0x3807);
     assert_eq!(rt; words[PAGE_3], 0x4807);

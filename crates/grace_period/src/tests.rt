@@ -107,8 +107,9 @@ fn header(alloc: Global) -> Result<Header, NoMemory>
 }
 
 // A machine at its start, with no line.
+#[tactic(auto, using(step_seats::proofs::Starts::one_is_distinct))]
 fn machine(alloc: Global) -> Result<PlainMachine, NoMemory>
-    ensures sizes { IfOk result (λ m. m.sizes ≡ record { pages = 70; frames = 130; words = 2; pool = 4; vcpus = 2; hosts = 1; workers = 0 }) }
+    ensures sizes { IfOk result (λ m. m.sizes ≡ record { pages = 70; frames = 130; words = 2; pool = 4; cache = 64; vcpus = 2; hosts = 1; workers = 0 }) }
     ensures count { IfOk result (λ m. length m.hands ≡ 4) }
 {
     let trace = Trace {

@@ -1,7 +1,9 @@
 //! Host words and content words, at a machine.
-ghost use Rattle.std.specs.Prelude.{◌≡◌, [], ◌∷◌, IfOk, false};
+ghost use Rattle.std.specs.Prelude.{◌≡◌, ◌-◌, ◌^◌, [], ◌∷◌, IfOk, false};
 ghost use Rattle.core_views.specs.declared.actor.Actor.TheVariants.{Manager, Vcpu};
 ghost use Rattle.core_views.specs.declared.trace.Command.TheVariants.{Access, SetSlot};
+ghost use Rattle.core_views.specs.declared.trace.Op.TheVariants.{Add, Read, Write};
+ghost use Rattle.core_views.specs.Traces.{IsTrace};
 
 use crate::content::touch_kind;
 use crate::{load, look, touch};
@@ -12,7 +14,7 @@ use std::test::Fail;
 use step_seats::{PlainMachine, Stepper};
 
 fn header(alloc: Global) -> Result<Header, NoMemory>
-    ensures { IfOk result (λ h. h ≡ record { version = 1; vcpus = 2; workers = 0; pages = 70; frames = 130; words = 2; pool = 4; cache = 64; manual = 0; hosts = 0 ∷ [] }) }
+    ensures { IfOk result (λ h. h ≡ record { version = 1; vcpus = 2; workers = 0; pages = 70; frames = 130; words = 2; pool = 8; cache = 64; manual = 0; hosts = 0 ∷ [] }) }
 {
     Ok(Header {
         version: 1,
@@ -21,7 +23,7 @@ fn header(alloc: Global) -> Result<Header, NoMemory>
         pages: 70,
         frames: 130,
         words: 2,
-        pool: 4,
+        pool: 8,
         cache: 64,
         manual: 0,
         hosts: Words::from_vec(vec![in alloc; 0]?),
@@ -86,7 +88,7 @@ fn touch_next<S: Stepper>(
     word: u8,
     op: Op,
 ) -> Result<Option<u64>, NoMemory> {
-    for _ in 0..64 {
+    for _ in 0..2000 {
         seat.reserve(line)?;
         let hand = seat.hand();
         if hand.next_line().is_none() {
@@ -99,10 +101,10 @@ fn touch_next<S: Stepper>(
             break;
         }
         let kind = next_kind(hand);
-        if kind == touch_kind(&sizes, frame, word, op, 1) {
+        if kind == touch_kind(&sizes, frame, word, op, 0) {
             return Ok(Some(match op {
-                Op::Read => load(seat, frame, word, 1),
-                Op::Write(_) | Op::Add(_) => touch(seat, frame, word, op, 1),
+                Op::Read => load(seat, frame, word, 0),
+                Op::Write(_) | Op::Add(_) => touch(seat, frame, word, op, 0),
             }));
         }
         let _ = seat.act(kind);
@@ -110,15 +112,39 @@ fn touch_next<S: Stepper>(
     Ok(None)
 }
 
+// A trace with no line.
+#[tactic(auto, using(step_seats::proofs::Starts::one_is_distinct))]
+fn trace(alloc: Global) -> Result<Trace, NoMemory>
+    ensures trace { IfOk result IsTrace }
+    ensures vcpus { IfOk result (λ t. t.header.vcpus ≡ 2) }
+{
+    Ok(Trace {
+        header: header(alloc)?,
+        lines: Lines::from_vec(Vec::new(alloc)),
+    })
+}
+
+// A trace of the manager's line, and three of v0.
+#[tactic(auto, using(step_seats::proofs::Starts::one_is_distinct))]
+fn lines_trace(alloc: Global, write: Line, add: Line, read: Line) -> Result<Trace, NoMemory>
+    requires write { write ≡ record { number = 3; actor = Vcpu 0; command = Access 18 1 (Write 77) } }
+    requires add { add ≡ record { number = 4; actor = Vcpu 0; command = Access 18 1 (Add (2 ^ 64 - 2)) } }
+    requires read { read ≡ record { number = 5; actor = Vcpu 0; command = Access 18 1 Read } }
+    ensures trace { IfOk result IsTrace }
+    ensures vcpus { IfOk result (λ t. t.header.vcpus ≡ 2) }
+{
+    Ok(Trace {
+        header: header(alloc)?,
+        lines: Lines::from_vec(vec![in alloc; slot_line(), write, add, read]?),
+    })
+}
+
 // Each page is at the frame of its own number at first, present, writable and
 // small.
 #[test]
 fn looks_at_a_page(rt: HostRuntime) -> Result<(), Fail> {
     let alloc = rt.alloc();
-    let trace = Trace {
-        header: header(alloc)?,
-        lines: Lines::from_vec(Vec::new(alloc)),
-    };
+    let trace = trace(alloc)?;
     let mut machine = PlainMachine::new(alloc, &trace)?;
     let _sizes = machine.sizes();
     let mut seat = machine.as_actor(Actor::Vcpu(1));
@@ -132,8 +158,8 @@ fn looks_at_a_page(rt: HostRuntime) -> Result<(), Fail> {
     Ok(())
 }
 
-// A write, an add and a read of one word, each the last step of a line, as its
-// word of all 2,470 holds them.
+// A write, an add and a read of one word, each the touch of a line, as its word of
+// all 4,452 holds them. The write's line puts three tables and the leaf before.
 #[test]
 fn touches_a_word(rt: HostRuntime) -> Result<(), Fail> {
     let alloc = rt.alloc();
@@ -142,10 +168,7 @@ fn touches_a_word(rt: HostRuntime) -> Result<(), Fail> {
         access_line(4, Op::Add(u64::MAX - 1)),
         access_line(5, Op::Read),
     ];
-    let trace = Trace {
-        header: header(alloc)?,
-        lines: Lines::from_vec(vec![in alloc; slot_line(), write, add, read]?),
-    };
+    let trace = lines_trace(alloc, write, add, read)?;
     let mut machine = PlainMachine::new(alloc, &trace)?;
     let _sizes = machine.sizes();
     let mut manager = machine.as_actor(Actor::Manager);
@@ -166,9 +189,9 @@ fn touches_a_word(rt: HostRuntime) -> Result<(), Fail> {
     drop(vcpu);
     let closing = machine.into_closing();
     let words = closing.words.as_slice();
-    assert_eq!(rt; words.len(), 2470);
-    // the contents begin at word 2,210, with two words a frame
-    for (i, word) in words.iter().skip(2210).enumerate() {
+    assert_eq!(rt; words.len(), 4452);
+    // the contents begin at word 4,192, with two words a frame
+    for (i, word) in words.iter().skip(4192).enumerate() {
         assert_eq!(rt;
             *word,
             if i == 2 * 66 + 1 { 75 } else { 0 },

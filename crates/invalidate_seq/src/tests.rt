@@ -1,5 +1,6 @@
 //! Snapshots and checks at a machine that is at its start, and at numbers.
 ghost use Rattle.std.specs.Prelude.{◌≡◌, [], ◌∷◌, IfOk};
+ghost use Rattle.core_views.specs.Traces.{IsTrace};
 
 use crate::{Check, Checked, Snapshot};
 use core_views::{
@@ -28,16 +29,26 @@ fn header(alloc: Global) -> Result<Header, NoMemory>
     })
 }
 
+// A trace with no line.
+#[tactic(auto, using(step_seats::proofs::Starts::one_is_distinct))]
+fn trace(alloc: Global) -> Result<Trace, NoMemory>
+    ensures trace { IfOk result IsTrace }
+    ensures vcpus { IfOk result (λ t. t.header.vcpus ≡ 2) }
+{
+    Ok(Trace {
+        header: header(alloc)?,
+        lines: Lines::from_vec(Vec::new(alloc)),
+    })
+}
+
 // No invalidation is open at the start, and the sequence number is 0: a check
 // loads these two words, and finds nothing.
 #[test]
 fn finds_nothing_at_the_start(rt: HostRuntime) -> Result<(), Fail> {
     let alloc = rt.alloc();
-    let trace = Trace {
-        header: header(alloc)?,
-        lines: Lines::from_vec(Vec::new(alloc)),
-    };
+    let trace = trace(alloc)?;
     let mut machine = PlainMachine::new(alloc, &trace)?;
+    let _sizes = machine.sizes();
     let mut seat = machine.as_actor(Actor::Vcpu(0));
     let line = Line {
         number: 2,

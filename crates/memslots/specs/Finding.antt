@@ -1,7 +1,6 @@
 -- The search of a slot set for the slot that contains a guest frame (api.rst, KVM_SET_USER_MEMORY_REGION).
-use Rattle.std.specs.Prelude.{◌≡◌, ◌<◌, ◌≤◌, ◌+◌, ◌-◌, ◌*◌, ℕ, true, false, if◌then◌else◌, Option, Some, None, is_some}
-use Rattle.core_views.specs.declared.place.SlotField.{SlotField}
-use Rattle.core_views.specs.declared.place.SlotField.TheVariants.{Base, Pages, Host, Flags}
+use Rattle.std.specs.Prelude.{◌≡◌, ◌≤◌, ◌+◌, ◌-◌, ◌*◌, ℕ, true, false, if◌then◌else◌, Option, Some, None, is_some}
+use Rattle.core_views.specs.declared.place.SlotField.TheVariants.{Host, Flags}
 use Rattle.core_views.specs.declared.topics.SlotSearch.{SlotSearch}
 use Rattle.core_views.specs.Slots.{contains, slot_of}
 use Rattle.spte_words.specs.Flags.{flags_logged}
@@ -11,6 +10,7 @@ use Rattle.mmu_core.specs.Bounds.{look_left}
 use Rattle.mmu_core.specs.PartSteps.{set_held}
 pub use Rattle.mmu_core.specs.SearchPart.{HasFlags, HasLoaded}
 use Rattle.mmu_core.specs.SlotWords.{live_at, slot_at, slot_index, slots_below}
+pub use Rattle.mmu_core.specs.SlotWords.{NoneBelow}
 use Rattle.step_seats.specs.declared.turn.Turn.{Turn}
 use Rattle.step_seats.specs.declared.turn.Turn.TheVariants.{More, Wait, Retry, Done}
 use Rattle.memslots.specs.declared.find.Find.{Find}
@@ -39,10 +39,6 @@ Searches gfn (Done (Some found)) before after = Hits gfn before after × (found 
 Searches gfn (Done None) before after = (Hits gfn before after → ⊥) × (after.id ≡ 32)
 Searches gfn (Wait seen) before after = ⊥
 Searches gfn (Retry cause) before after = ⊥
-
--- No live slot with an ID below this one contains the guest frame.
-abbrev pub NoneBelow : ℕ → (ℕ → ℕ) → ℕ → ℕ → Type 0
-NoneBelow gfn pool set id = (i : ℕ) → i < id → live_at pool set i ≡ true → contains gfn (slot_at pool set i) ≡ false
 
 -- The search agrees with the words of the pool: what was loaded of the slot under search, and that none before it contains the
 -- guest frame.

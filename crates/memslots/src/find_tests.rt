@@ -1,6 +1,9 @@
 //! Searches at machines with no slot, and with one.
-ghost use Rattle.std.specs.Prelude.{◌≡◌, ◌<◌, [], ◌∷◌, IfOk, length};
+ghost use Rattle.std.specs.Prelude.{◌≡◌, ◌<◌, [], ◌∷◌, true, IfOk, length};
 ghost use Rattle.core_views.specs.Sizes.{index_of};
+ghost use Rattle.core_views.specs.Traces.{IsTrace};
+ghost use Rattle.core_views.specs.declared.actor.Actor.TheVariants.{Manager};
+ghost use Rattle.core_views.specs.declared.trace.Command.TheVariants.{SetSlot};
 
 use crate::{Find, FoundSlot};
 use core_views::{Actor, Command, Header, Line, Lines, NoMemory, Op, Slot, Stay, Trace, Words};
@@ -92,15 +95,38 @@ fn turn<S: Stepper>(
     })
 }
 
+// A trace with no line.
+#[tactic(auto, using(step_seats::proofs::Starts::one_is_distinct))]
+fn trace(alloc: Global) -> Result<Trace, NoMemory>
+    ensures trace { IfOk result IsTrace }
+    ensures vcpus { IfOk result (λ t. t.header.vcpus ≡ 2) }
+{
+    Ok(Trace {
+        header: header(alloc)?,
+        lines: Lines::from_vec(Vec::new(alloc)),
+    })
+}
+
+// A trace of the manager's line.
+#[tactic(auto, using(step_seats::proofs::Starts::one_is_distinct))]
+fn slot_trace(alloc: Global, line: Line) -> Result<Trace, NoMemory>
+    requires { line ≡ record { number = 2; actor = Manager; command = SetSlot 3 (record { base = 5; pages = 3; host = 64; read_only = true }) } }
+    ensures trace { IfOk result IsTrace }
+    ensures vcpus { IfOk result (λ t. t.header.vcpus ≡ 2) }
+{
+    Ok(Trace {
+        header: header(alloc)?,
+        lines: Lines::from_vec(vec![in alloc; line]?),
+    })
+}
+
 // No slot is live at the start: the search ends with the flags of ID 31.
 #[test]
 fn finds_none_at_the_start(rt: HostRuntime) -> Result<(), Fail> {
     let alloc = rt.alloc();
-    let trace = Trace {
-        header: header(alloc)?,
-        lines: Lines::from_vec(Vec::new(alloc)),
-    };
+    let trace = trace(alloc)?;
     let mut machine = PlainMachine::new(alloc, &trace)?;
+    let _sizes = machine.sizes();
     let mut seat = machine.as_actor(Actor::Vcpu(0));
     assert!(rt; begin(&mut seat)?);
     let mut find = Find::new(5);
@@ -128,11 +154,9 @@ fn finds_the_slot_of_a_frame(rt: HostRuntime) -> Result<(), Fail> {
         actor: Actor::Manager,
         command: Command::SetSlot { id: 3, slot },
     };
-    let trace = Trace {
-        header: header(alloc)?,
-        lines: Lines::from_vec(vec![in alloc; line]?),
-    };
+    let trace = slot_trace(alloc, line)?;
     let mut machine = PlainMachine::new(alloc, &trace)?;
+    let _sizes = machine.sizes();
     assert!(rt; step_of(&mut machine, &line)?);
     assert!(rt; step_of(&mut machine, &line)?);
     assert!(rt; step_of(&mut machine, &line)?);

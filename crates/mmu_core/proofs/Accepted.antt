@@ -8,7 +8,7 @@ use Rattle.std.proofs.lemmas.List.Elements.{All-contains, Contains-append_left, 
 use Rattle.std.proofs.lemmas.List.Folds.{list_any-append}
 use Rattle.std.proofs.lemmas.Map.Keys.{apart_from_distinct}
 use Rattle.std.specs.Prelude.{Bool, true, false, not, nat_le, nat_lt, if◌then◌else◌, None, slice_get, unwrap_or}
-use Rattle.std.specs.List.{Contains, list_any}
+use Rattle.std.specs.List.{Contains, IsDistinct, list_any}
 use Rattle.std.specs.Map.{keys_of}
 use Rattle.core_views.specs.declared.actor.Actor.{Actor}
 use Rattle.core_views.specs.declared.actor.Actor.TheVariants.{Vcpu, Host, Manager, Worker}
@@ -28,8 +28,7 @@ use Rattle.core_views.specs.Held.{Held}
 use Rattle.core_views.specs.Refusals.{set_refusal}
 use Rattle.core_views.specs.SlotSets.{MemorySlots, flat_slots}
 use Rattle.core_views.specs.Slots.{Slots, contains, has_host_page, share_guest_frames, share_host_pages, slot_refusal}
-use Rattle.core_views.specs.Traces.{AreDistinct, IsCommandFor, or_slot_id, slot_ids}
-use Rattle.core_views.proofs.SlotIds.{as_distinct}
+use Rattle.core_views.specs.Traces.{IsCommandFor, or_slot_id, slot_ids}
 use Rattle.core_views.proofs.Sound.{Passes, passes, refuses_as_flat}
 use Rattle.spte_words.specs.declared.area.Area.TheVariants as area
 use Rattle.mmu_core.specs.Invariant.{Holds, Invariant, OwnLines, RecordPart}
@@ -59,13 +58,13 @@ ids_here (suc n) (line ∷ lines) id slot lt is = let rest = ids_here n lines id
     by (SetSlot i s) ids rest = ap (λ (xs : List ℕ). i ∷ xs) rest
 
 -- No line before this one has set a slot at its ID.
-not_set_before : (n : ℕ) (lines : List Line) (id : ℕ) (slot : Slot) → n < length lines → (unwrap_or (slice_get lines n) no_line).command ≡ SetSlot id slot → AreDistinct (slot_ids lines) → Contains (slot_ids (take n lines)) id → ⊥
+not_set_before : (n : ℕ) (lines : List Line) (id : ℕ) (slot : Slot) → n < length lines → (unwrap_or (slice_get lines n) no_line).command ≡ SetSlot id slot → IsDistinct (λ i j. i == j) (slot_ids lines) → Contains (slot_ids (take n lines)) id → ⊥
 not_set_before n lines id slot lt is distinct has =
     let at = ids_here n lines id slot lt is in
     let before : List ℕ = slot_ids (take n lines) in
     let ids : List ℕ = before ++ id ∷ at.0 in
     let apart : (get_or ids has.0 id == get_or ids (length before) id) ≡ false =
-    apart_from_distinct (λ i j. i == j) ids has.0 (length before) id (as_distinct ids (subst AreDistinct at.1 distinct)) has.1 (omega (arith, length-append before (id ∷ at.0))) in
+    apart_from_distinct (λ i j. i == j) ids has.0 (length before) id (subst (IsDistinct (λ i j. i == j)) at.1 distinct) has.1 (omega (arith, length-append before (id ∷ at.0))) in
     let first : get_or ids has.0 id ≡ id = get_or_append_left before (id ∷ at.0) id has.0 has.1 ∙ has.2 in
     let second : get_or ids (length before) id ≡ id = get_or-append_seam before id at.0 id in
     let same : (get_or ids has.0 id == get_or ids (length before) id) ≡ true = (Decides-eqb (get_or ids has.0 id) (get_or ids (length before) id)).1 (first ∙ sym second) in

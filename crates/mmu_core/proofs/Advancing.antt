@@ -1,13 +1,10 @@
 -- What a hand must have for a step, and what its fields are behind it.
 use Rattle.std.proofs.Math.Nat.{div-le_self}
 use Rattle.std.proofs.Common.{◌≡◌, ◌<◌, ◌≤◌, ◌^◌, ◌⊎◌, inl, inr, ℕ, zero, suc, List, [], ◌∷◌, length, refl, sym, subst, ap, ◌∙◌, arith}
-use Rattle.std.specs.Prelude.{Bool, true, false, ◌==◌, Some, None, is_some, slice_get, if◌then◌else◌}
+use Rattle.std.specs.Prelude.{Bool, true, false, ◌==◌, Some, None, Option, is_some, slice_get, if◌then◌else◌}
 use Rattle.core_views.specs.declared.kind.Kind.{Kind}
 use Rattle.core_views.specs.declared.kind.StepKind.{StepKind}
 use Rattle.core_views.specs.declared.kind.StepKind.TheVariants as kind
-use Rattle.core_views.specs.declared.hand.State.{State}
-use Rattle.core_views.specs.declared.place.AccessPlace.{AccessPlace}
-use Rattle.core_views.specs.declared.place.AccessPlace.TheVariants.{Slots, Slot, Walk, Host, Install, Touch}
 use Rattle.core_views.specs.declared.place.Place.{Place}
 use Rattle.core_views.specs.declared.place.Place.TheVariants as place
 use Rattle.core_views.specs.declared.place.SetSlotPlace.{SetSlotPlace}
@@ -23,7 +20,7 @@ use Rattle.core_views.specs.declared.trace.Op.{Op}
 use Rattle.core_views.specs.declared.trace.Op.TheVariants.{Read, Write, Add}
 use Rattle.core_views.specs.declared.trace.Slot.{Slot as SlotOf}
 use Rattle.mmu_core.specs.declared.outcome.Task.{Task}
-use Rattle.mmu_core.specs.AccessSteps.{access_task}
+use Rattle.mmu_core.specs.AccessSteps.{access_note, access_part, task_by, touch_of}
 use Rattle.mmu_core.specs.SetSlotSteps.{set_slot_task}
 use Rattle.std.proofs.lemmas.Bool.Decides.{nat_tests}
 use Rattle.core_views.specs.Held.{Held}
@@ -35,40 +32,27 @@ use Rattle.mmu_core.specs.declared.part_step.PartStep.TheVariants as part
 use Rattle.mmu_core.specs.Enabled.{Enabled, IsNext, IsPartStep}
 use Rattle.spte_words.specs.Entries.{level_span}
 use Rattle.mmu_core.specs.PartSteps.{IsAtRest, IsOver, HasToFill, PartNeeds, own_index, part_task, words_filled}
-use Rattle.mmu_core.specs.Rests.{AcceptsAt, RestsAt}
-use Rattle.mmu_core.specs.Steps.{has_line, idle_after, line_after, line_at, next, place_at, standing, task_at, task_of}
+use Rattle.mmu_core.specs.Rests.{AcceptsAt, Rests, RestsAt, RestsOn, SetSlotRests}
+use Rattle.mmu_core.specs.Cached.{flushed}
+use Rattle.mmu_core.specs.PartBounds.{PartRests}
+use Rattle.core_views.specs.declared.sizes.Sizes.{Sizes}
+use Rattle.mmu_core.proofs.Sized.{loads_keep_sizes}
+use Rattle.mmu_core.specs.Steps.{has_line, held_after, idle_after, line_after, line_at, next, place_at, standing, task_at, task_of}
 use Rattle.mmu_core.specs.TopicSteps.{HasRoom, topics_after}
-use Rattle.mmu_core.proofs.PartKept.{with_topics}
-use Rattle.mmu_core.proofs.Which.{has_line_is, is_next, next_of_line, next_of_part}
+use Rattle.mmu_core.proofs.Which.{has_line_is, next_of_line, next_of_part}
 
 pub enabled_sizes : (h : Held) (k : Kind) → Enabled h k → AreSizes h.state.sizes
 unfolding Enabled
-enabled_sizes h k (inl e) = e.rests.sizes
+enabled_sizes h k (inl e) = e.rests.part.sizes
 enabled_sizes h k (inr e) = e.sizes
 
 -- a hand at rest has nothing that a line's step would count
-no_set_room : (t : Topics) → t.search.set ≡ None → HasRoom kind.Slot t
-no_set_room t none = λ some. let e : is_some t.search.set ≡ false = ap is_some none in absurd (cc (e, some))
-
 no_page_room : (t : Topics) → t.owned ≡ None → HasRoom kind.Fill t
 no_page_room t none = λ o is. let e : None ≡ Some o = sym none ∙ is in absurd (cc e)
-
-no_run_room : (t : Topics) → t.walk.level ≡ 0 → 1 ≤ t.walk.level → t.walk.prefix < 2 ^ 36
-no_run_room t none from = absurd (omega (arith, none, from))
 
 -- the run of a guest frame is a small number
 pub run_small : (gfn : ℕ) (walk : TableWalk) → IsOver gfn walk → walk.prefix < 2 ^ 36
 run_small gfn walk O = let le = div-le_self gfn (level_span walk.level) in omega (arith, O.small, O.run, le)
-
-access_room : (p : AccessPlace) (s : State) (gfn word : ℕ) (op : Op) (t : Topics) → IsAtRest t → HasRoom (access_task p s gfn word op).kind t
-access_room Slots s gfn word op t R = tt
-access_room (Slot id f) s gfn word op t R = no_set_room t R.no_set
-access_room Walk s gfn word op t R = no_run_room t R.no_table
-access_room Host s gfn word op t R = tt
-access_room Install s gfn word op t R = no_run_room t R.no_table
-access_room Touch s gfn word Read t R = tt
-access_room Touch s gfn word (Write x) t R = tt
-access_room Touch s gfn word (Add x) t R = tt
 
 set_slot_room : (p : SetSlotPlace) (id : ℕ) (slot : SlotOf) (t : Topics) → IsAtRest t → HasRoom (set_slot_task p id slot).kind t
 set_slot_room (Refuse refusal) id slot t R = tt
@@ -76,14 +60,6 @@ set_slot_room (Fill field.Base) id slot t R = no_page_room t R.owns_none
 set_slot_room (Fill field.Pages) id slot t R = no_page_room t R.owns_none
 set_slot_room (Fill field.Host) id slot t R = no_page_room t R.owns_none
 set_slot_room (Fill field.Flags) id slot t R = no_page_room t R.owns_none
-
-task_room : (p : Place) (command : Command) (s : State) (t : Topics) → IsAtRest t → HasRoom (task_at p command s).kind t
-task_room place.Between (Access gfn word op) s t R = tt
-task_room place.Between (SetSlot id slot) s t R = tt
-task_room (place.Access p) (Access gfn word op) s t R = access_room p s gfn word op t R
-task_room (place.Access p) (SetSlot id slot) s t R = tt
-task_room (place.SetSlot p) (Access gfn word op) s t R = tt
-task_room (place.SetSlot p) (SetSlot id slot) s t R = set_slot_room p id slot t R
 
 -- the kind that a kind's number names
 pub named_is : (k : StepKind) → kind_named (code_of k) ≡ k
@@ -145,8 +121,29 @@ part_room (part.Leaf gfn) h note z N = λ from. run_small gfn h.topics.walk N.0.
 part_room (part.Host page) h note z N = tt
 part_room (part.Watch index) h note z N = tt
 
+touch_room : (op : Op) (index : ℕ) (t : Topics) → HasRoom (touch_of op index).kind t
+touch_room Read index t = tt
+touch_room (Write x) index t = tt
+touch_room (Add x) index t = tt
+
+access_room : (s : Option PartStep) (h : Held) (note : ℕ) (op : Op) (index : ℕ) → AreSizes h.state.sizes → RestsOn s h → HasRoom (task_by s h note (touch_of op index)).kind h.topics
+access_room None h note op index z N = touch_room op index h.topics
+access_room (Some step) h note op index z N = part_room step h note z N
+
+setting_room : (p : SetSlotPlace) (id : ℕ) (slot : SlotOf) (t : Topics) → SetSlotRests p id t → HasRoom (set_slot_task p id slot).kind t
+setting_room (Refuse refusal) id slot t R = tt
+setting_room (Fill f) id slot t R = set_slot_room (Fill f) id slot t R.1
+
+task_room : (p : Place) (command : Command) (h : Held) → AreSizes h.state.sizes → RestsAt p command h → HasRoom (task_at p command h).kind h.topics
+task_room place.Between (Access gfn word op) h z R = tt
+task_room place.Between (SetSlot id slot) h z R = tt
+task_room (place.Access p) (Access gfn word op) h z R = access_room (access_part p gfn h.topics) h (access_note p) op _ z R
+task_room (place.Access p) (SetSlot id slot) h z R = absurd R
+task_room (place.SetSlot p) (Access gfn word op) h z R = absurd R
+task_room (place.SetSlot p) (SetSlot id slot) h z R = setting_room p id slot h.topics R
+
 room_of : (h : Held) (k : Kind) → IsNext h k ⊎ IsPartStep h k → HasRoom (kind_named k.code) h.topics
-room_of h k (inl e) = subst (λ (x : Kind). HasRoom (kind_named x.code) h.topics) (sym e.is) (subst (λ x. HasRoom x h.topics) (sym (named_is (task_of h).kind)) (task_room (place_at h.state.place h) (line_at h.state.place h).command h.state h.topics e.rests.topics))
+room_of h k (inl e) = subst (λ (x : Kind). HasRoom (kind_named x.code) h.topics) (sym e.is) (subst (λ x. HasRoom x h.topics) (sym (named_is (task_of h).kind)) (task_room (place_at h.state.place h) (line_at h.state.place h).command h e.rests.part.sizes e.rests.at))
 room_of h k (inr e) =
     subst (λ (x : Kind). HasRoom (kind_named x.code) h.topics) (sym e.is)
     (subst (λ x. HasRoom x h.topics) (sym (named_is (part_task e.step (own_index h) h.topics e.note).kind)) (part_room e.step h e.note e.sizes e.needs))
@@ -166,67 +163,67 @@ none_below [] n is = omega arith
 none_below (x ∷ xs) zero is = absurd (cc is)
 none_below (x ∷ xs) (suc n) is = omega (arith, none_below xs n is)
 
--- the line and the place of a hand don't hang on its topics
-pub line_same : (h g : Held) (t : Topics) → g ≡ with_topics h t → line_at g.state.place g ≡ line_at h.state.place h
-line_same h g t is = ap (λ (x : Held). line_at x.state.place x) is ∙ by h.state.place
-  where
-    by : (p : Place) → line_at p (with_topics h t) ≡ line_at p h
-    by place.Between = refl
-    by (place.Access p) = refl
-    by (place.SetSlot p) = refl
+-- A hand with a line left takes its next step.
+module _ (h : Held) (rests : has_line h ≡ true → Rests h) (some : is_some (slice_get h.lines (length h.answers)) ≡ true) where
+  pub left_here : length h.answers < length h.lines
+  left_here = some_below h.lines (length h.answers) some
 
-pub advanced : (h g x : Held) (k : Kind) (v : ℕ) (line : Line) (p : Place) → length h.answers < length h.lines → g ≡ with_topics h (topics_after h.state.sizes k h.topics v)
-    → line ≡ line_at h.state.place h → p ≡ place_at h.state.place h → x ≡ line_after line p g v → x ≡ next h k v
-advanced h g x k v line p left is line_is place_is made =
-    made ∙ ap (λ (y : Held). line_after line p y v) is
-    ∙ ap (λ (l : Line). line_after l p (with_topics h (topics_after h.state.sizes k h.topics v)) v) line_is
-    ∙ ap (λ (q : Place). line_after (line_at h.state.place h) q (with_topics h (topics_after h.state.sizes k h.topics v)) v) place_is
-    ∙ sym (next_of_line h k v (has_line_is h left))
+  pub has_here : has_line h ≡ true
+  has_here = has_line_is h left_here
 
-pub idled : (h g : Held) (k : Kind) (v : ℕ) → has_line h ≡ false → g ≡ with_topics h (topics_after h.state.sizes k h.topics v) → g ≡ next h k v
-idled h g k v none is = is ∙ sym (next_of_part h k v none)
+  pub rests_here : Rests h
+  rests_here = rests has_here
 
-pub no_line_is : (h : Held) → length h.lines ≤ length h.answers → has_line h ≡ false
-no_line_is h few = grind (arith, nat_tests)
+  pub part_here : PartRests h
+  part_here = rests_here.part
 
--- What holds of a hand with a line left holds of it behind the step's topics.
-module _ (h g : Held) (k : Kind) (v : ℕ) (enabled : Enabled h k) (is : g ≡ idle_after h k v) where
-  pub left_too : is_some (slice_get g.lines (length g.answers)) ≡ true → length h.answers < length h.lines
-  left_too some = subst (λ (x : Held). length x.answers < length x.lines) is (some_below g.lines (length g.answers) some)
+  pub command_here : (line : Line) → line ≡ line_at h.state.place h → IsCommandFor h.state.sizes line.actor line.command
+  command_here line line_is = subst (λ (l : Line). IsCommandFor h.state.sizes l.actor l.command) (sym line_is) rests_here.line
 
-  next_one : is_some (slice_get g.lines (length g.answers)) ≡ true → IsNext h k
-  next_one some = is_next h k enabled (has_line_is h (left_too some))
+  place_here : (line : Line) (p : Place) → line ≡ line_at h.state.place h → p ≡ standing h.state.place h.state.sizes h.slots line.command → p ≡ place_at h.state.place h
+  place_here line p line_is place_is = place_is ∙ ap (λ (l : Line). standing h.state.place h.state.sizes h.slots l.command) line_is
 
-  pub line_at_too : line_at g.state.place g ≡ line_at h.state.place h
-  line_at_too = line_same h g (topics_after h.state.sizes k h.topics v) is
+  pub rests_at_here : (line : Line) (p : Place) → line ≡ line_at h.state.place h → p ≡ standing h.state.place h.state.sizes h.slots line.command → RestsAt p line.command h
+  rests_at_here line p line_is place_is =
+      subst (λ q. RestsAt q line.command h) (sym (place_here line p line_is place_is)) (subst (λ (l : Line). RestsAt (place_at h.state.place h) l.command h) (sym line_is) rests_here.at)
 
-  pub command_for : (line : Line) → is_some (slice_get g.lines (length g.answers)) ≡ true → line ≡ line_at g.state.place g → IsCommandFor g.state.sizes line.actor line.command
-  command_for line some line_is =
-      subst (λ (x : Held). IsCommandFor x.state.sizes line.actor line.command) (sym is)
-      (subst (λ (l : Line). IsCommandFor h.state.sizes l.actor l.command) (sym (line_is ∙ line_at_too)) (next_one some).rests.line)
+  pub accepts_here : (line : Line) (p : Place) → line ≡ line_at h.state.place h → p ≡ standing h.state.place h.state.sizes h.slots line.command → AcceptsAt p line.command h.state.sizes h.slots
+  accepts_here line p line_is place_is =
+      subst (λ q. AcceptsAt q line.command h.state.sizes h.slots) (sym (place_here line p line_is place_is))
+      (subst (λ (l : Line). AcceptsAt (place_at h.state.place h) l.command h.state.sizes h.slots) (sym line_is) rests_here.accepts)
 
-  pub place_too : (line : Line) (p : Place) → line ≡ line_at g.state.place g → p ≡ standing g.state.place g.state.sizes g.slots line.command → p ≡ place_at h.state.place h
-  place_too line p line_is place_is =
-      place_is ∙ ap (λ (x : Held). standing x.state.place x.state.sizes x.slots line.command) is ∙ ap (λ (l : Line). standing h.state.place h.state.sizes h.slots l.command) (line_is ∙ line_at_too)
+  pub made_here : (x : Held) (line : Line) (p : Place) (v : ℕ) → line ≡ line_at h.state.place h → p ≡ standing h.state.place h.state.sizes h.slots line.command → x ≡ line_after line p h v
+      → x ≡ line_after (line_at h.state.place h) (place_at h.state.place h) h v
+  made_here x line p v line_is place_is made =
+      made ∙ ap (λ (q : Place). line_after line q h v) (place_here line p line_is place_is) ∙ ap (λ (l : Line). line_after l (place_at h.state.place h) h v) line_is
 
-  pub sizes_too : AreSizes g.state.sizes
-  sizes_too = subst (λ (x : Held). AreSizes x.state.sizes) (sym is) (enabled_sizes h k enabled)
+pub none_here : (h : Held) → is_some (slice_get h.lines (length h.answers)) ≡ false → has_line h ≡ false
+none_here h none = let few = none_below h.lines (length h.answers) none in grind (arith, nat_tests)
 
-  pub rests_too : (line : Line) (p : Place) → is_some (slice_get g.lines (length g.answers)) ≡ true → line ≡ line_at g.state.place g → p ≡ standing g.state.place g.state.sizes g.slots line.command → RestsAt p line.command g.state
-  rests_too line p some line_is place_is =
-      subst (λ (x : Held). RestsAt p line.command x.state) (sym is)
-      (subst (λ q. RestsAt q line.command h.state) (sym (place_too line p line_is place_is))
-      (subst (λ (l : Line). RestsAt (place_at h.state.place h) l.command h.state) (sym (line_is ∙ line_at_too)) (next_one some).rests.at))
+-- Behind the line's step, where a line is left, come the flush and the topics, and make the hand that the step leads to.
+module _ (h g : Held) (k : Kind) (v : ℕ) (enabled : Enabled h k) (line : has_line h ≡ true → g ≡ line_after (line_at h.state.place h) (place_at h.state.place h) h v) (none : has_line h ≡ false → g ≡ h) where
+  still : (g.state.sizes ≡ h.state.sizes) × (g.topics ≡ h.topics)
+  still = by (has_line h) refl
+    where
+      by : (b : Bool) → has_line h ≡ b → (g.state.sizes ≡ h.state.sizes) × (g.topics ≡ h.topics)
+      by true has = (ap (λ (y : Held). y.state.sizes) (line has) ∙ loads_keep_sizes (place_at h.state.place h) (line_at h.state.place h).command h v, ap (λ (y : Held). y.topics) (line has))
+      by false no_ = (ap (λ (y : Held). y.state.sizes) (none no_), ap (λ (y : Held). y.topics) (none no_))
 
-  pub accepts_too : (line : Line) (p : Place) → is_some (slice_get g.lines (length g.answers)) ≡ true → line ≡ line_at g.state.place g → p ≡ standing g.state.place g.state.sizes g.slots line.command → AcceptsAt p line.command g.state.sizes g.slots
-  accepts_too line p some line_is place_is =
-      subst (λ (x : Held). AcceptsAt p line.command x.state.sizes x.slots) (sym is)
-      (subst (λ q. AcceptsAt q line.command h.state.sizes h.slots) (sym (place_too line p line_is place_is))
-      (subst (λ (l : Line). AcceptsAt (place_at h.state.place h) l.command h.state.sizes h.slots) (sym (line_is ∙ line_at_too)) (next_one some).rests.accepts))
+  pub sizes_still : (x : Held) → x ≡ record g { cached = flushed k g.cached v } → AreSizes x.state.sizes
+  sizes_still x is = subst AreSizes (sym (ap (λ (y : Held). y.state.sizes) is ∙ still.0)) (enabled_sizes h k enabled)
 
-  pub advanced_too : (x : Held) (line : Line) (p : Place) → is_some (slice_get g.lines (length g.answers)) ≡ true → line ≡ line_at g.state.place g → p ≡ standing g.state.place g.state.sizes g.slots line.command
-      → x ≡ line_after line p g v → x ≡ next h k v
-  advanced_too x line p some line_is place_is made = advanced h g x k v line p (left_too some) is (line_is ∙ line_at_too) (place_too line p line_is place_is) made
+  pub room_still : (x : Held) → x ≡ record g { cached = flushed k g.cached v } → HasRoom (kind_named k.code) x.topics
+  room_still x is = subst (HasRoom (kind_named k.code)) (sym (ap (λ (y : Held). y.topics) is ∙ still.1)) (enabled_room h k enabled)
 
-  pub idled_too : is_some (slice_get g.lines (length g.answers)) ≡ false → g ≡ next h k v
-  idled_too none = idled h g k v (no_line_is h (subst (λ (x : Held). length x.lines ≤ length x.answers) is (none_below g.lines (length g.answers) none))) is
+  finished : idle_after g k v ≡ next h k v
+  finished = by (has_line h) refl
+    where
+      by : (b : Bool) → has_line h ≡ b → idle_after g k v ≡ next h k v
+      by true has =
+          ap (λ (y : Held). idle_after y k v) (line has)
+          ∙ ap (λ (z : Sizes). record (held_after (line_at h.state.place h) (place_at h.state.place h) h k v) { topics = topics_after z k h.topics v }) (loads_keep_sizes (place_at h.state.place h) (line_at h.state.place h).command h v)
+          ∙ sym (next_of_line h k v has)
+      by false no_ = ap (λ (y : Held). idle_after y k v) (none no_) ∙ sym (next_of_part h k v no_)
+
+  pub advanced : (x y : Held) → x ≡ record g { cached = flushed k g.cached v } → y ≡ record x { topics = topics_after x.state.sizes k x.topics v } → y ≡ next h k v
+  advanced x y flush_is is = is ∙ ap (λ (q : Held). record q { topics = topics_after q.state.sizes k q.topics v }) flush_is ∙ finished

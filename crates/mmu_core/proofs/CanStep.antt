@@ -1,10 +1,8 @@
 -- An actor that has a line left may make a step.
+use Rattle.std.specs.Prelude.{Option, Some, None}
 use Rattle.std.proofs.Common.{true, false, ◌≡◌, ◌^◌, ◌<◌, ℕ, sym, subst, ap, arith}
 use Rattle.core_views.specs.declared.actor.Actor.{Actor}
 use Rattle.core_views.specs.declared.actor.Actor.TheVariants.{Vcpu, Host, Manager, Worker}
-use Rattle.core_views.specs.declared.hand.State.{State}
-use Rattle.core_views.specs.declared.place.AccessPlace.{AccessPlace}
-use Rattle.core_views.specs.declared.place.AccessPlace.TheVariants as access
 use Rattle.core_views.specs.declared.place.Place.{Place}
 use Rattle.core_views.specs.declared.place.Place.TheVariants as place
 use Rattle.core_views.specs.declared.place.SetSlotPlace.{SetSlotPlace}
@@ -18,21 +16,21 @@ use Rattle.core_views.specs.declared.trace.Op.{Op}
 use Rattle.core_views.specs.declared.trace.Op.TheVariants.{Add, Read, Write}
 use Rattle.core_views.specs.declared.trace.Slot.{Slot}
 use Rattle.core_views.specs.Held.{Held}
-use Rattle.core_views.specs.Sizes.{AreSizes, actors_of}
+use Rattle.core_views.specs.Sizes.{actors_of}
 use Rattle.core_views.specs.Traces.{IsCommandFor, IsSlotInRange}
 use Rattle.spte_words.specs.Areas.{place as word_place, size_of, total}
-use Rattle.spte_words.specs.HostWords.{host_allows_write, host_frame}
 use Rattle.spte_words.proofs.Places.{place_below}
-use Rattle.spte_words.proofs.ReadsEntries.{leaf_fits}
 use Rattle.spte_words.proofs.ReadsFlags.{flags_fit}
-use Rattle.mmu_core.specs.AccessSteps.{access_task, touch_of}
+use Rattle.mmu_core.specs.AccessSteps.{access_note, access_part, task_by, touch_of}
 use Rattle.mmu_core.specs.Enabled.{mmu}
 use Rattle.mmu_core.specs.Example.{HasLine, WritesOneWord, next_step}
 use Rattle.mmu_core.specs.Laws.{IsSound}
+use Rattle.mmu_core.specs.declared.part_step.PartStep.{PartStep}
+use Rattle.mmu_core.specs.PartBounds.{PartRests}
+use Rattle.mmu_core.proofs.PartFits.{part_small}
 use Rattle.mmu_core.specs.Machine.{May, World, hand_in}
-use Rattle.mmu_core.specs.Rests.{AccessRests, Rests, RestsAt}
+use Rattle.mmu_core.specs.Rests.{Rests, RestsAt, RestsOn}
 use Rattle.mmu_core.specs.SetSlotSteps.{set_slot_task}
-use Rattle.mmu_core.specs.SlotWords.{leaf_of, may_write}
 use Rattle.mmu_core.specs.Steps.{line_at, place_at, task_at, task_of}
 use Rattle.mmu_core.specs.Tasks.{kind_of_task, map_of}
 use Rattle.mmu_core.specs.View.{view}
@@ -46,16 +44,9 @@ touch_small Read gfn word index fits = omega arith
 touch_small (Write x) gfn word index fits = fits
 touch_small (Add x) gfn word index fits = fits
 
-leaf_small : (slot : Slot) (host : ℕ) → host_frame host < 2 ^ 40 → leaf_of slot host < 2 ^ 64
-leaf_small slot host small = leaf_fits 1 (host_frame host) (may_write slot host) (host_allows_write host) (may_write slot host) small
-
-access_small : (p : AccessPlace) (s : State) (gfn word : ℕ) (op : Op) → AreSizes s.sizes → AccessRests p s gfn → WritesOneWord (Access gfn word op) → (access_task p s gfn word op).written < 2 ^ 64
-access_small access.Slots s gfn word op sizes rests fits = omega arith
-access_small (access.Slot id f) s gfn word op sizes rests fits = omega arith
-access_small access.Walk s gfn word op sizes rests fits = omega arith
-access_small access.Host s gfn word op sizes rests fits = omega arith
-access_small access.Install s gfn word op sizes rests fits = leaf_small s.look.slot s.host (omega (arith, rests.1, sizes.frames))
-access_small access.Touch s gfn word op sizes rests fits = touch_small op gfn word _ fits
+access_small : (s : Option PartStep) (h : Held) (note gfn word : ℕ) (op : Op) (index : ℕ) → PartRests h → RestsOn s h → WritesOneWord (Access gfn word op) → (task_by s h note (touch_of op index)).written < 2 ^ 64
+access_small None h note gfn word op index R N fits = touch_small op gfn word index fits
+access_small (Some step) h note gfn word op index R N fits = part_small step h note N R
 
 slot_in_range : (z : Sizes) (actor : Actor) (id : ℕ) (slot : Slot) → IsCommandFor z actor (SetSlot id slot) → IsSlotInRange slot
 slot_in_range z (Vcpu n) id slot may = absurd may
@@ -70,13 +61,13 @@ set_slot_small (Fill field.Pages) id slot range = omega (arith, range.pages)
 set_slot_small (Fill field.Host) id slot range = omega (arith, range.host)
 set_slot_small (Fill field.Flags) id slot range = flags_fit true slot.read_only false
 
-written_small : (p : Place) (actor : Actor) (command : Command) (s : State) → AreSizes s.sizes → IsCommandFor s.sizes actor command → RestsAt p command s → WritesOneWord command → (task_at p command s).written < 2 ^ 64
-written_small place.Between actor (Access gfn word op) s sizes may rests fits = omega arith
-written_small place.Between actor (SetSlot id slot) s sizes may rests fits = omega arith
-written_small (place.Access p) actor (Access gfn word op) s sizes may rests fits = access_small p s gfn word op sizes rests fits
-written_small (place.Access p) actor (SetSlot id slot) s sizes may rests fits = absurd rests
-written_small (place.SetSlot p) actor (Access gfn word op) s sizes may rests fits = absurd rests
-written_small (place.SetSlot p) actor (SetSlot id slot) s sizes may rests fits = set_slot_small p id slot (slot_in_range s.sizes actor id slot may)
+written_small : (p : Place) (actor : Actor) (command : Command) (h : Held) → PartRests h → IsCommandFor h.state.sizes actor command → RestsAt p command h → WritesOneWord command → (task_at p command h).written < 2 ^ 64
+written_small place.Between actor (Access gfn word op) h R may rests fits = omega arith
+written_small place.Between actor (SetSlot id slot) h R may rests fits = omega arith
+written_small (place.Access p) actor (Access gfn word op) h R may rests fits = access_small (access_part p gfn h.topics) h (access_note p) gfn word op _ R rests fits
+written_small (place.Access p) actor (SetSlot id slot) h R may rests fits = absurd rests
+written_small (place.SetSlot p) actor (Access gfn word op) h R may rests fits = absurd rests
+written_small (place.SetSlot p) actor (SetSlot id slot) h R may rests fits = set_slot_small p id slot (slot_in_range h.state.sizes actor id slot may)
 
 pub may_step : (z : Sizes) (w : World Held) (a : ℕ) → IsSound z w → a < actors_of z → HasLine (hand_in mmu w a) → May mmu w (next_step z w a)
 may_step z w a G there has = record {
@@ -86,7 +77,7 @@ may_step z w a G there has = record {
     rests = R;
     is = ap (λ y. kind_of_task y (task_of h)) (sym same);
     inside = subst (λ y. word_place (map_of z) (task_of h).area (task_of h).index < total (map_of y)) (sym same) below;
-    small = written_small (place_at h.state.place h) (line_at h.state.place h).actor (line_at h.state.place h).command h.state R.sizes R.line R.at
+    small = written_small (place_at h.state.place h) (line_at h.state.place h).actor (line_at h.state.place h).command h R.part R.line R.at
         (subst (λ (l : Line). WritesOneWord l.command) (sym S.next) has.fits);
   });
   inside = omega (arith, below, G.words);

@@ -1,35 +1,47 @@
 -- The words that no step stores in yet.
-use Rattle.std.proofs.Common.{ℕ}
-use Rattle.core_views.specs.declared.hand.State.{State}
-use Rattle.core_views.specs.declared.place.AccessPlace.TheVariants as access
+use Rattle.std.proofs.Common.{ℕ, refl, ap, ◌∙◌}
+use Rattle.std.specs.Prelude.{Option, Some, None}
 use Rattle.core_views.specs.declared.place.Place.{Place}
 use Rattle.core_views.specs.declared.place.Place.TheVariants as place
 use Rattle.core_views.specs.declared.place.SetSlotPlace.TheVariants.{Refuse, Fill}
 use Rattle.core_views.specs.declared.place.SlotField.TheVariants as field
 use Rattle.core_views.specs.declared.trace.Command.{Command}
 use Rattle.core_views.specs.declared.trace.Command.TheVariants.{Access, SetSlot}
+use Rattle.core_views.specs.declared.trace.Op.{Op}
 use Rattle.core_views.specs.declared.trace.Op.TheVariants.{Read, Write, Add}
+use Rattle.core_views.specs.Held.{Held}
 use Rattle.spte_words.specs.declared.area.Area.{Area}
+use Rattle.spte_words.specs.declared.area.Area.TheVariants as area
+use Rattle.mmu_core.specs.declared.part_step.PartStep.{PartStep}
+use Rattle.mmu_core.specs.AccessSteps.{access_note, access_part, task_by, touch_of}
 use Rattle.mmu_core.specs.Laws.{NoneOpened}
 use Rattle.mmu_core.specs.Steps.{task_at}
-use Rattle.mmu_core.specs.View.{words_after}
+use Rattle.mmu_core.specs.View.{View, words_after}
+use Rattle.mmu_core.proofs.PartWords.{areas_stay}
+
+by_touch : (op : Op) (index : ℕ) (words : Area → ℕ → ℕ) → NoneOpened words → NoneOpened (words_after (touch_of op index) words)
+by_touch Read index words none = record { seq = none.seq; count = none.count }
+by_touch (Write x) index words none = record { seq = none.seq; count = none.count }
+by_touch (Add x) index words none = record { seq = none.seq; count = none.count }
+
+-- a part's step by the actor of this hand
+by_part : (step : PartStep) (note : ℕ) (h : Held) (words : Area → ℕ → ℕ) → NoneOpened words → NoneOpened (words_after (task_by (Some step) h note (touch_of Read 0)) words)
+by_part step note h words none =
+    let v : View = record { words = words; hand = λ i. h } in
+    record { seq = ap (λ (f : ℕ → ℕ). f 0) (areas_stay v 0 step note area.Seq refl) ∙ none.seq; count = ap (λ (f : ℕ → ℕ). f 0) (areas_stay v 0 step note area.Count refl) ∙ none.count }
+
+by_access : (s : Option PartStep) (note : ℕ) (h : Held) (op : Op) (index : ℕ) (words : Area → ℕ → ℕ) → NoneOpened words → NoneOpened (words_after (task_by s h note (touch_of op index)) words)
+by_access None note h op index words none = by_touch op index words none
+by_access (Some step) note h op index words none = by_part step note h words none
 
 -- Each step leaves sequence and count: it stores in other areas, or nothing.
-pub none_opened_kept : (p : Place) (command : Command) (s : State) (words : Area → ℕ → ℕ) → NoneOpened words → NoneOpened (words_after (task_at p command s) words)
-none_opened_kept place.Between (Access gfn word op) s words none = record { seq = none.seq; count = none.count }
-none_opened_kept place.Between (SetSlot id slot) s words none = record { seq = none.seq; count = none.count }
-none_opened_kept (place.Access access.Slots) (Access gfn word op) s words none = record { seq = none.seq; count = none.count }
-none_opened_kept (place.Access (access.Slot id f)) (Access gfn word op) s words none = record { seq = none.seq; count = none.count }
-none_opened_kept (place.Access access.Walk) (Access gfn word op) s words none = record { seq = none.seq; count = none.count }
-none_opened_kept (place.Access access.Host) (Access gfn word op) s words none = record { seq = none.seq; count = none.count }
-none_opened_kept (place.Access access.Install) (Access gfn word op) s words none = record { seq = none.seq; count = none.count }
-none_opened_kept (place.Access access.Touch) (Access gfn word Read) s words none = record { seq = none.seq; count = none.count }
-none_opened_kept (place.Access access.Touch) (Access gfn word (Write x)) s words none = record { seq = none.seq; count = none.count }
-none_opened_kept (place.Access access.Touch) (Access gfn word (Add x)) s words none = record { seq = none.seq; count = none.count }
-none_opened_kept (place.Access p) (SetSlot id slot) s words none = record { seq = none.seq; count = none.count }
-none_opened_kept (place.SetSlot p) (Access gfn word op) s words none = record { seq = none.seq; count = none.count }
-none_opened_kept (place.SetSlot (Refuse refusal)) (SetSlot id slot) s words none = record { seq = none.seq; count = none.count }
-none_opened_kept (place.SetSlot (Fill field.Base)) (SetSlot id slot) s words none = record { seq = none.seq; count = none.count }
-none_opened_kept (place.SetSlot (Fill field.Pages)) (SetSlot id slot) s words none = record { seq = none.seq; count = none.count }
-none_opened_kept (place.SetSlot (Fill field.Host)) (SetSlot id slot) s words none = record { seq = none.seq; count = none.count }
-none_opened_kept (place.SetSlot (Fill field.Flags)) (SetSlot id slot) s words none = record { seq = none.seq; count = none.count }
+pub none_opened_kept : (p : Place) (command : Command) (h : Held) (words : Area → ℕ → ℕ) → NoneOpened words → NoneOpened (words_after (task_at p command h) words)
+none_opened_kept place.Between command h words none = record { seq = none.seq; count = none.count }
+none_opened_kept (place.Access p) (Access gfn word op) h words none = by_access (access_part p gfn h.topics) (access_note p) h op _ words none
+none_opened_kept (place.Access p) (SetSlot id slot) h words none = record { seq = none.seq; count = none.count }
+none_opened_kept (place.SetSlot p) (Access gfn word op) h words none = record { seq = none.seq; count = none.count }
+none_opened_kept (place.SetSlot (Refuse refusal)) (SetSlot id slot) h words none = record { seq = none.seq; count = none.count }
+none_opened_kept (place.SetSlot (Fill field.Base)) (SetSlot id slot) h words none = record { seq = none.seq; count = none.count }
+none_opened_kept (place.SetSlot (Fill field.Pages)) (SetSlot id slot) h words none = record { seq = none.seq; count = none.count }
+none_opened_kept (place.SetSlot (Fill field.Host)) (SetSlot id slot) h words none = record { seq = none.seq; count = none.count }
+none_opened_kept (place.SetSlot (Fill field.Flags)) (SetSlot id slot) h words none = record { seq = none.seq; count = none.count }

@@ -12,7 +12,7 @@ use Rattle.core_views.specs.Need.{count_below, need}
 use Rattle.core_views.specs.Sizes.{actors_of, sizes_of}
 use Rattle.spte_words.specs.declared.area.Area.TheVariants as area
 use Rattle.mmu_core.specs.Enabled.{mmu}
-use Rattle.mmu_core.specs.Enough.{EachTableIsWanted, EnoughPages, IsWantedTable, some_line_wants}
+use Rattle.mmu_core.specs.Enough.{EachTableIsWanted, EnoughPages, IsWantedTable, TablesAreForTheirRuns, some_line_wants}
 use Rattle.mmu_core.specs.Laws.{IsSound}
 use Rattle.mmu_core.specs.Machine.{Legal, Step, World, hand_in, run}
 use Rattle.mmu_core.specs.PoolPart.{PoolPart, is_free, is_owned, owners}
@@ -154,6 +154,17 @@ wanted_behind h lines w ss start legal G k p is = by (G.topics.tree.wanted k p i
     by (inr W) =
         let there = G.topics.tree.there k p is in
         inr (wanted_by_line h lines w ss p start legal there.1 there.2 (subst (λ s. IsWanted (word_in z (run mmu w ss) area.Pool) s p) G.holds.set.published W))
+
+-- A table below the root's level isn't the root.
+below_root : (root k level prefix : ℕ) (stands : ℕ → Option Position) → stands root ≡ Some (at 4 0) → stands k ≡ Some (at level prefix) → level < 4 → k ≡ root → ⊥
+below_root root k level prefix stands top is low e = let same : 4 ≡ level = ap level_of (sym top ∙ sym (ap stands e) ∙ is) in omega (arith, same, low)
+
+pub tables_are_for_their_runs : TablesAreForTheirRuns
+tables_are_for_their_runs h lines w ss start legal G k level prefix is low = (by (wanted_behind h lines w ss start legal G k (at level prefix) is), G.topics.tree.roles k (at level prefix) is)
+  where
+    by : (k ≡ word_in (sizes_of h) (run mmu w ss) area.Root 0) ⊎ IsWantedRun h lines (at level prefix) → some_line_wants h lines level prefix ≡ true
+    by (inl e) = absurd (below_root (word_in (sizes_of h) (run mmu w ss) area.Root 0) k level prefix G.topics.stands G.topics.tree.root_stands is low e)
+    by (inr R) = R.wanted
 
 pub enough_pages : EnoughPages
 enough_pages h lines w ss start legal most none =

@@ -20,27 +20,22 @@ use Rattle.core_views.specs.Held.{Held, first_held}
 use Rattle.core_views.specs.Sizes.{actor_at, actors_of, index_of}
 use Rattle.core_views.specs.Traces.{IsCommandFor}
 use Rattle.core_views.specs.Whole.{lines_of}
-use Rattle.mmu_core.specs.Bounds.{steps_left}
 use Rattle.mmu_core.specs.Enabled.{mmu}
 use Rattle.mmu_core.specs.Histories.{AnswersAreTold, EndsWhole, answers_by}
 use Rattle.mmu_core.specs.Laws.{IsSound}
 use Rattle.mmu_core.specs.Machine.{Legal, May, Step, World, answered, effect, hand_in, run}
-use Rattle.mmu_core.specs.Rests.{Rests}
-use Rattle.mmu_core.specs.Steps.{events_of, idle_after, line_at, place_at, task_of}
+use Rattle.mmu_core.specs.declared.outcome.Task.{Task}
+use Rattle.mmu_core.specs.Steps.{events_of, idle_after, line_at, place_at}
 use Rattle.mmu_core.specs.View.{View, answer_in, view, word_in}
 use Rattle.mmu_core.specs.Worlds.{IsStart, history}
-use Rattle.mmu_core.proofs.Bounded.{step_falls}
 use Rattle.mmu_core.proofs.FlatKept.{same_index, told_events, told_is_events}
 use Rattle.mmu_core.proofs.Followed.{Follows, begun_count, begun_lines, follows_more, follows_still, silent_answers, silent_begins, view_follows}
-use Rattle.mmu_core.proofs.RestsKept.{hand_rests}
 use Rattle.mmu_core.proofs.Starts.{hand_is, place_of_actor, same_actor, start_good}
 use Rattle.mmu_core.proofs.ToldOf.{answers_by_more, begun_by, begun_by_append}
 use Rattle.mmu_core.proofs.Worlds.{Takes, TakesPart, good_step, takes}
 use Rattle.mmu_core.proofs.Which.{events_of_part}
-use Rattle.mmu_core.proofs.PartKept.{with_topics}
 use Rattle.mmu_core.proofs.Columns.{at_upd}
 use Rattle.mmu_core.specs.PartSteps.{own_index, part_task}
-use Rattle.core_views.specs.declared.topics.Topics.{Topics}
 use Rattle.mmu_core.specs.Tasks.{kind_of_task}
 
 -- what a step of a world tells, as its view has it
@@ -51,15 +46,15 @@ step_events z w s T =
     let h : Held = hand_in mmu w s.actor in
     ap (events_of h) T.answers ∙ sym (told_is_events z (view z w) s.actor (line_at h.state.place h) (place_at h.state.place h) T.is_step)
 
--- a hand with other topics has answered and begun the same
-part_follows : (h g : Held) (t : Topics) → g ≡ with_topics h t → Follows h g []
-part_follows h g t is = subst (λ (x : Held). Follows h x []) (sym is) (record {
+-- a hand behind a step of a part has answered and begun the same
+part_follows : (h : Held) (k : Kind) (x : ℕ) → Follows h (idle_after h k x) []
+part_follows h k x = record {
   actor = refl;
   lines = refl;
   answers = sym (append-nil h.answers);
   begun = sym (append-nil (take (begun_lines h) h.lines));
   numbers = λ n. n;
-})
+}
 
 step_follows : (z : Sizes) (w : World Held) (s : Step Kind) (i : ℕ) → IsSound z w → May mmu w s → i < actors_of z
     → Follows (hand_in mmu w i) (hand_in mmu (effect mmu w s) i) (events_of (hand_in mmu w s.actor) (answered mmu w s.kind))
@@ -70,15 +65,14 @@ step_follows z w s i G may i_in = by (takes z w s G may)
 
     by : Takes z w s h ⊎ TakesPart z w s h → Follows (hand_in mmu w i) (hand_in mmu (effect mmu w s) i) (events_of h (answered mmu w s.kind))
     by (inl T) =
-        let there : s.actor < actors_of z = T.is_step.there in
-        let R : Rests h = hand_rests z (view z w) s.actor G.holds G.topics there T.is_step.left in
-        let falls = step_falls h.state.place h.state.sizes h.slots (line_at h.state.place h).command h.state (answer_in (task_of h) (word_in z w)) R.at in
-        let F = view_follows z (view z w) s.actor (line_at h.state.place h) (place_at h.state.place h) (steps_left h.state.place) i T.is_step falls G.holds i_in in
+        let F = view_follows z (view z w) s.actor (line_at h.state.place h) (place_at h.state.place h) i T.is_step G.holds i_in in
         subst (λ (g : Held). Follows (hand_in mmu w i) g (events_of h (answered mmu w s.kind))) (sym (ap (λ (v : View). v.hand i) T.leads))
         (subst (Follows (hand_in mmu w i) _) (sym (step_events z w s T)) F)
     by (inr T) =
-        let t : Topics = (idle_after h (kind_of_task h.state.sizes (part_task T.step (own_index h) h.topics T.note)) (answer_in (part_task T.step (own_index h) h.topics T.note) (word_in z w))).topics in
-        let F = at_upd (λ j (g : Held). Follows (hand_in mmu w j) g []) (hand_in mmu w) s.actor (with_topics h t) (part_follows h (with_topics h t) t refl) (λ j ne. follows_still (hand_in mmu w j) [] refl refl) i in
+        let task : Task = part_task T.step (own_index h) h.topics T.note in
+        let k : Kind = kind_of_task h.state.sizes task in
+        let x : ℕ = answer_in task (word_in z w) in
+        let F = at_upd (λ j (g : Held). Follows (hand_in mmu w j) g []) (hand_in mmu w) s.actor (idle_after h k x) (part_follows h k x) (λ j ne. follows_still (hand_in mmu w j) [] refl refl) i in
         subst (λ (g : Held). Follows (hand_in mmu w i) g (events_of h (answered mmu w s.kind))) (sym (ap (λ (v : View). v.hand i) T.leads))
         (subst (Follows (hand_in mmu w i) _) (sym (events_of_part h (answered mmu w s.kind) T.none_left)) F)
 

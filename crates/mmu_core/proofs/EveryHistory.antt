@@ -1,58 +1,101 @@
 -- What every list of steps tells is lawful.
-use Rattle.std.proofs.Common.{◌≡◌, ◌⊎◌, inl, inr, ◌<◌, ℕ, arith, List, [], ◌∷◌, ◌++◌, refl, sym, subst, ap, ◌∙◌}
+use Rattle.std.proofs.Common.{◌≡◌, ◌⊎◌, inl, inr, ◌<◌, ℕ, List, [], ◌∷◌, ◌++◌, refl, sym, subst, ap, ◌∙◌}
+use Rattle.std.specs.Prelude.{false, Option, Some, None}
 use Rattle.core_views.specs.declared.event.Event.{Event}
 use Rattle.core_views.specs.declared.kind.Kind.{Kind}
+use Rattle.core_views.specs.declared.place.Place.{Place}
+use Rattle.core_views.specs.declared.place.Place.TheVariants as place
 use Rattle.core_views.specs.declared.sizes.Sizes.{Sizes}
+use Rattle.core_views.specs.declared.trace.Command.{Command}
+use Rattle.core_views.specs.declared.trace.Command.TheVariants.{Access, SetSlot}
 use Rattle.core_views.specs.declared.trace.Line.{Line}
 use Rattle.core_views.specs.Events.{after_all}
 use Rattle.core_views.specs.Flat.{Flat, first_flat}
 use Rattle.core_views.specs.Held.{Held}
 use Rattle.core_views.specs.Lawful.{IsLawful}
+use Rattle.core_views.specs.Sizes.{actors_of}
 use Rattle.core_views.proofs.AloneIsLawful.{lawful_append}
+use Rattle.spte_words.specs.declared.area.Area.{Area}
 use Rattle.spte_words.specs.declared.area.Area.TheVariants as area
+use Rattle.mmu_core.specs.declared.outcome.Task.{Task}
+use Rattle.mmu_core.specs.declared.part_step.PartStep.{PartStep}
+use Rattle.mmu_core.specs.AccessSteps.{access_part}
 use Rattle.mmu_core.specs.Enabled.{mmu}
 use Rattle.mmu_core.specs.FlatInvariant.{FlatInvariant, UnderIs}
-use Rattle.core_views.specs.Sizes.{actors_of}
-use Rattle.spte_words.specs.Areas.{content_index}
-use Rattle.mmu_core.specs.declared.part_step.PartStep.{PartStep}
-use Rattle.mmu_core.specs.Invariant.{Invariant}
+use Rattle.mmu_core.specs.Invariant.{Invariant, UnderWay}
 use Rattle.mmu_core.specs.Laws.{IsSound}
-use Rattle.mmu_core.specs.Tasks.{map_of}
-use Rattle.mmu_core.specs.TopicsInvariant.{TopicsInvariant}
 use Rattle.mmu_core.specs.Machine.{Legal, Step, World, answered, effect, hand_in}
-use Rattle.mmu_core.specs.Steps.{events_of, line_at, place_at}
+use Rattle.mmu_core.specs.PartSteps.{own_index, part_task}
 use Rattle.mmu_core.specs.SetSlotSteps.{published_set}
-use Rattle.mmu_core.specs.View.{View, part_stepped, view, word_in}
-use Rattle.mmu_core.proofs.Columns.{at_upd}
-use Rattle.mmu_core.proofs.PartKept.{with_topics}
-use Rattle.mmu_core.proofs.PartStepping.{IsPart}
-use Rattle.mmu_core.proofs.PartWords.{areas_stay}
-use Rattle.mmu_core.proofs.SlotsStay.{below_stay, is_live_stays}
-use Rattle.mmu_core.proofs.TopicsKept.{published_stays}
-use Rattle.mmu_core.proofs.Which.{events_of_part}
+use Rattle.mmu_core.specs.Steps.{events_of, has_line, idle_after, line_at, place_at}
+use Rattle.mmu_core.specs.Tasks.{kind_of_task}
+use Rattle.mmu_core.specs.TopicsInvariant.{TopicsInvariant}
+use Rattle.mmu_core.specs.View.{View, answer_in, part_stepped, view, word_in, words_after}
 use Rattle.mmu_core.specs.Worlds.{IsStart, history}
-use Rattle.mmu_core.proofs.FlatKept.{flat_kept, told_events, told_is_events, under_still}
+use Rattle.mmu_core.proofs.AccessFlat.{IsPartOr}
+use Rattle.mmu_core.proofs.AccessParts.{AreSmall, makes_parts}
+use Rattle.mmu_core.proofs.Columns.{at_upd}
+use Rattle.mmu_core.proofs.FlatKept.{PartOf, flat_kept, told_events, told_is_events, under_still}
+use Rattle.mmu_core.proofs.FlatSteps.{Leaves, part_leaves, refines_stay}
+use Rattle.mmu_core.proofs.KnowsKept.{step_knows}
+use Rattle.mmu_core.proofs.LiveStay.{StayLive}
+use Rattle.mmu_core.proofs.PartStepping.{IsPart}
 use Rattle.mmu_core.proofs.SlotLists.{none_below}
+use Rattle.mmu_core.proofs.SlotsStay.{is_live_stays}
+use Rattle.mmu_core.proofs.Stepping.{IsStep}
 use Rattle.mmu_core.proofs.Starts.{hand_is, none_live, start_good, word_at_start}
-use Rattle.mmu_core.proofs.Worlds.{Takes, TakesPart, good_step, takes}
+use Rattle.mmu_core.proofs.Which.{events_of_part, has_line_is}
+use Rattle.mmu_core.proofs.Worlds.{Takes, TakesPart, good_step, takes, view_small}
+
+-- A hand with no line left has none under way.
+none_under : (p : Place) (h : Held) → UnderWay p h → has_line h ≡ false → p ≡ place.Between
+none_under place.Between h under none = refl
+none_under (place.Access p) h under none = let has = has_line_is h under.1 in absurd (cc (none, has))
+none_under (place.SetSlot p) h under none = let has = has_line_is h under.1 in absurd (cc (none, has))
+
+-- A step of a line is one of a part that its actor may make, or none.
+part_or : (z : Sizes) (v : View) (a : ℕ) (o : Option PartStep) → ((step : PartStep) → o ≡ Some step → IsPart z v a step) → IsPartOr z v a o
+part_or z v a None makes = tt
+part_or z v a (Some step) makes = makes step refl
+
+part_of : (z : Sizes) (v : View) (a : ℕ) (line : Line) (command : Command) (p : Place) → AreSmall v → IsStep z v a line command p → Invariant z v → TopicsInvariant z v → PartOf z v a command p
+part_of z v a line command place.Between small S I P = absurd S.begun
+part_of z v a line (Access gfn word op) (place.Access p) small S I P = part_or z v a (access_part p gfn (v.hand a).topics) (makes_parts z v a line p gfn word op small S I P)
+part_of z v a line (SetSlot id slot) (place.Access p) small S I P = tt
+part_of z v a line (Access gfn word op) (place.SetSlot p) small S I P = tt
+part_of z v a line (SetSlot id slot) (place.SetSlot p) small S I P = tt
 
 -- A step of a part tells nothing, and the words still stand for the same facts.
-part_keeps_flat : (z : Sizes) (v : View) (f : Flat) (a : ℕ) (step : PartStep) (note : ℕ) → IsPart z v a step → Invariant z v → TopicsInvariant z v → FlatInvariant z v f → FlatInvariant z (part_stepped a step note v) f
-part_keeps_flat z v f a step note S I P F =
-    let h : Held = v.hand a in
-    let stays = published_stays z v a step note S P I.set.published in
-    let pool_ : ℕ → ℕ = (part_stepped a step note v).words area.Pool in
-    let live = is_live_stays (v.words area.Pool) pool_ stays in
-    record {
-      refines = record {
-        slots = F.refines.slots ∙ sym (below_stay (v.words area.Pool) pool_ stays 32 (omega arith));
-        host = F.refines.host;
-        memory = λ p j lt below. F.refines.memory p j lt below ∙ sym (ap (λ (g : ℕ → ℕ). g (content_index (map_of z) p j)) (areas_stay v a step note area.Content refl));
-      };
-      under = at_upd (λ i (g : Held). i < actors_of z → UnderIs pool_ g.state.place g.state (f.under g.state.actor)) v.hand a (with_topics h _)
-          (λ lt. under_still (v.words area.Pool) pool_ h.state.place h.state (f.under h.state.actor) live (F.under a lt))
-          (λ i ne lt. under_still (v.words area.Pool) pool_ (v.hand i).state.place (v.hand i).state (f.under (v.hand i).state.actor) live (F.under i lt));
-    }
+part_keeps_flat : (z : Sizes) (v : View) (f : Flat) (a : ℕ) (step : PartStep) (note : ℕ) → IsPart z v a step → has_line (v.hand a) ≡ false → Invariant z v → TopicsInvariant z v → FlatInvariant z v f
+    → FlatInvariant z (part_stepped a step note v) f
+part_keeps_flat z v f a step note S none I P F = record {
+  refines = refines_stay z v.words words f.facts L F.refines;
+  under = at_upd (λ i (g : Held). i < actors_of z → UnderIs (words area.Pool) g.state.place g.state.line.command g (f.under g.state.actor)) v.hand a behind
+      (λ lt. subst (λ q. UnderIs (words area.Pool) q h.state.line.command behind (f.under h.state.actor)) (sym (idle lt))
+      (subst (λ q. UnderIs (v.words area.Pool) q h.state.line.command h (f.under h.state.actor)) (idle lt) (F.under a lt)))
+      (λ i ne lt. under_still (v.words area.Pool) (words area.Pool) (v.hand i).state.place (v.hand i).state.line.command (v.hand i) (f.under (v.hand i).state.actor) live (F.under i lt));
+}
+  where
+    h : Held
+    h = v.hand a
+
+    task : Task
+    task = part_task step (own_index h) h.topics note
+
+    words : Area → ℕ → ℕ
+    words = words_after task v.words
+
+    behind : Held
+    behind = idle_after h (kind_of_task h.state.sizes task) (answer_in task v.words)
+
+    L : Leaves v.words words
+    L = part_leaves z v a step note S I P
+
+    live : StayLive (v.words area.Pool) (words area.Pool)
+    live = is_live_stays (v.words area.Pool) (words area.Pool) L.pool
+
+    idle : a < actors_of z → h.state.place ≡ place.Between
+    idle lt = none_under h.state.place h (I.lines a lt).under none
 
 -- Any list of steps from a sound world that stands for a flat state tells what is lawful from there.
 pub run_lawful : (z : Sizes) (w : World Held) (f : Flat) (ss : List (Step Kind)) → IsSound z w → FlatInvariant z (view z w) f → Legal mmu w ss → IsLawful z f (history w ss)
@@ -66,11 +109,12 @@ run_lawful z w f (s ∷ ss) G F legal = by (takes z w s G legal.0) (λ es F. run
     by (inl T) more =
         let es : List Event = told_events (view z w) s.actor (line_at h.state.place h) (line_at h.state.place h).command (place_at h.state.place h) in
         let is : events_of h (answered mmu w s.kind) ≡ es = ap (events_of h) T.answers ∙ sym (told_is_events z (view z w) s.actor (line_at h.state.place h) (place_at h.state.place h) T.is_step) in
-        let K = flat_kept z (view z w) f s.actor (line_at h.state.place h) (line_at h.state.place h).command (place_at h.state.place h) T.is_step G.holds F in
+        let K = flat_kept z (view z w) f s.actor (line_at h.state.place h) (line_at h.state.place h).command (place_at h.state.place h) T.is_step G.holds G.topics (part_of z (view z w) s.actor (line_at h.state.place h) (line_at h.state.place h).command (place_at h.state.place h) (view_small z w G.small) T.is_step G.holds G.topics)
+        (step_knows z (view z w) s.actor (line_at h.state.place h) (line_at h.state.place h).command (place_at h.state.place h) T.is_step G.holds) F in
         let then_ = more es (subst (λ (v : View). FlatInvariant z v (after_all es f)) (sym T.leads) K.1) in
         subst (λ (xs : List Event). IsLawful z f (xs ++ history (effect mmu w s) ss)) (sym is) (lawful_append z es (history (effect mmu w s) ss) f K.0 then_)
     by (inr T) more =
-        let then_ = more [] (subst (λ (v : View). FlatInvariant z v f) (sym T.leads) (part_keeps_flat z (view z w) f s.actor T.step T.note T.is_part G.holds G.topics F)) in
+        let then_ = more [] (subst (λ (v : View). FlatInvariant z v f) (sym T.leads) (part_keeps_flat z (view z w) f s.actor T.step T.note T.is_part T.none_left G.holds G.topics F)) in
         subst (λ (xs : List Event). IsLawful z f (xs ++ history (effect mmu w s) ss)) (sym (events_of_part h (answered mmu w s.kind) T.none_left)) then_
 
 -- The start stands for the first flat state.
@@ -81,7 +125,7 @@ start_flat z lines w start = record {
     host = refl;
     memory = λ p j lt below. sym (word_at_start z w area.Content _ 0 start.words (λ l. refl) (λ e. refl));
   };
-  under = λ i lt. subst (λ (h : Held). UnderIs (word_in z w area.Pool) h.state.place h.state (first_flat.under h.state.actor)) (sym (hand_is z lines w i start lt)) refl;
+  under = λ i lt. subst (λ (h : Held). UnderIs (word_in z w area.Pool) h.state.place h.state.line.command h (first_flat.under h.state.actor)) (sym (hand_is z lines w i start lt)) refl;
 }
 
 pub every_history : (z : Sizes) (lines : List Line) (w : World Held) (ss : List (Step Kind)) → IsStart z lines w → Legal mmu w ss → IsLawful z first_flat (history w ss)

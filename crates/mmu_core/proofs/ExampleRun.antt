@@ -1,45 +1,51 @@
--- The example's steps, by computation.
-use Rattle.std.proofs.Common.{◌≡◌, ◌+◌, ◌/◌, ◌%◌, ◌<◌, ◌≤◌, ℕ, [], ◌∷◌, refl, sym, subst, ap, ◌∙◌, arith, lit<, lit≤}
-use Rattle.std.specs.Fmt.{decimal}
+-- The steps of the examples, by computation.
+use lib.Count.{count_trailing_zeros}
+use Rattle.std.proofs.Common.{ℕ, List, ◌<◌, ◌≤◌, ◌+◌, ◌/◌, ◌%◌, lit≤, ◌≡◌, [], ◌∷◌, refl, sym, subst, ap, ◌∙◌, arith, lit<}
 use Rattle.std.proofs.lemmas.Fmt.{decimal_digit, decimal_step}
-use Rattle.std.specs.Prelude.{All, true}
+use Rattle.std.specs.Fmt.{decimal}
+use Rattle.std.specs.List.{IsDistinct}
+use Rattle.std.specs.Prelude.{◌==◌, All, codes, true}
 use Rattle.std.proofs.lemmas.List.Elements.{All-cons, All-nil}
 use Rattle.core_views.specs.declared.trace.Line.{Line}
-use Rattle.core_views.specs.Held.{Held}
 use Rattle.core_views.specs.Sizes.{AreSizes}
-use Rattle.core_views.specs.Traces.{AreDistinct, IsCommandFor, slot_ids}
-use Rattle.mmu_core.specs.Enabled.{mmu}
-use Rattle.mmu_core.specs.Machine.{Legal, World}
-use Rattle.mmu_core.specs.Worlds.{IsStart, history}
-use Rattle.core_views.specs.Laws.{example_sizes}
-use Rattle.core_views.specs.Text.{line_text}
-use Rattle.spte_words.specs.Areas.{content_index, pool_index}
-use Rattle.spte_words.specs.Entries.{absent_word, frame_in, leaf_word}
-use Rattle.spte_words.specs.Flags.{flags_live, flags_read_only, flags_word}
+use Rattle.core_views.specs.Traces.{IsCommandFor, slot_ids}
+use Rattle.core_views.specs.declared.event.Event.{Event}
+use Rattle.core_views.specs.declared.sizes.Sizes.{Sizes}
+use Rattle.core_views.specs.Text.{line_text, text}
+use Rattle.spte_words.specs.Areas.{content_index, place, pool_index}
+use Rattle.spte_words.specs.Entries.{absent_word, can_write, frame_in, frozen_word, is_leaf_at, kind_of, leaf_word, level_span, table_word}
+use Rattle.spte_words.specs.Flags.{flags_live, flags_logged, flags_read_only, flags_word}
 use Rattle.spte_words.specs.HostWords.{host_allows_write, host_frame, host_word}
-use Rattle.mmu_core.specs.Example.{ExamplePrints, ExampleRuns, add_line, other_set_line, read_line, run_events, run_lines, run_order, set_line, turns, write_line}
+use Rattle.mmu_core.specs.Example.{ExamplePrints, ExampleRuns, ExampleRaces, ExampleStarves, RunTells, add_line, first_line, forbidden_line, other_slot_line, outside_line, race_events, race_lines, race_order, read_line, run_events, run_lines, run_order, run_sizes, second_line, set_line, set_read_only_line, small_events, small_lines, small_order, small_sizes, starved_line, sum_line, write_line}
+use Rattle.mmu_core.specs.Cached.{flushed}
+use Rattle.mmu_core.specs.TopicSteps.{topics_after}
 use Rattle.mmu_core.specs.View.{View, view}
 use Rattle.mmu_core.proofs.StartViews.{a_start, start_view, start_view_is}
 use Rattle.mmu_core.proofs.Starts.{start_good}
 use Rattle.mmu_core.proofs.ViewRuns.{HaveLines, have_lines, have_lines_by, tale, turns_are}
 
-example_tale : tale (start_view example_sizes run_lines) run_order ≡ run_events
-unfolding content_index pool_index absent_word frame_in leaf_word flags_live flags_read_only flags_word host_allows_write host_frame host_word
-example_tale = refl
+-- What a run over words and hands as columns tells, a run of worlds tells.
+run_tells : (z : Sizes) (lines : List Line) (order : List ℕ) (events : List Event) → AreSizes z → All (λ line. IsCommandFor z line.actor line.command) lines → IsDistinct (λ i j. i == j) (slot_ids lines)
+    → have_lines z (start_view z lines) order ≡ true → tale (start_view z lines) order ≡ events → RunTells z lines order events
+run_tells z lines order events sizes allowed distinct has told =
+    let s = a_start z lines sizes allowed distinct in
+    let is : ◌≡◌ {A = View} (view z s.0) (start_view z lines) = start_view_is z lines s.0 s.1 in
+    let have = subst (λ (v : View). HaveLines z v order) (sym is) (have_lines_by z (start_view z lines) order has) in
+    let runs = turns_are z s.0 order (start_good z lines s.0 s.1) have in
+    record { start = s.0; is_start = s.1; legal = runs.0; tells = runs.1 ∙ (ap (λ (v : View). tale v order) is ∙ told) }
 
-example_has_lines : have_lines example_sizes (start_view example_sizes run_lines) run_order ≡ true
-unfolding content_index pool_index absent_word frame_in leaf_word flags_live flags_read_only flags_word host_allows_write host_frame host_word
-example_has_lines = refl
+-- ---- a pool that is large enough
 
-from_start : (w : World Held) → IsStart example_sizes run_lines w → Legal mmu w (turns example_sizes w run_order) × (history w (turns example_sizes w run_order) ≡ run_events)
-from_start w start =
-    let is : ◌≡◌ {A = View} (view example_sizes w) (start_view example_sizes run_lines) = start_view_is example_sizes run_lines w start in
-    let have = subst (λ (v : View). HaveLines example_sizes v run_order) (sym is) (have_lines_by example_sizes (start_view example_sizes run_lines) run_order example_has_lines) in
-    let runs = turns_are example_sizes w run_order (start_good example_sizes run_lines w start) have in
-    (runs.0, runs.1 ∙ (ap (λ (v : View). tale v run_order) is ∙ example_tale))
+run_tale : tale (start_view run_sizes run_lines) run_order ≡ run_events
+unfolding flushed topics_after place kind_of level_span table_word frozen_word content_index pool_index absent_word frame_in leaf_word flags_live flags_read_only flags_word host_allows_write host_frame host_word can_write is_leaf_at flags_logged count_trailing_zeros
+run_tale = refl
 
-example_in_range : AreSizes example_sizes
-example_in_range = record {
+run_has_lines : have_lines run_sizes (start_view run_sizes run_lines) run_order ≡ true
+unfolding flushed topics_after place kind_of level_span table_word frozen_word content_index pool_index absent_word frame_in leaf_word flags_live flags_read_only flags_word host_allows_write host_frame host_word can_write is_leaf_at flags_logged count_trailing_zeros
+run_has_lines = refl
+
+run_in_range : AreSizes run_sizes
+run_in_range = record {
   actors = record { vcpus = omega arith; hosts = omega arith; workers = omega arith };
   some = omega arith;
   pages = (omega arith, omega arith);
@@ -47,32 +53,107 @@ example_in_range = record {
   words = (omega arith, omega arith);
   content = omega arith;
   pool = (omega arith, omega arith);
+  cache = (omega arith, omega arith);
 }
 
-abbrev May : Line → Type 0
-May line = IsCommandFor example_sizes line.actor line.command
+abbrev May : Sizes → Line → Type 0
+May z line = IsCommandFor z line.actor line.command
 
-example_allowed : All May run_lines
-example_allowed =
-    All-cons May set_line (write_line ∷ read_line ∷ other_set_line ∷ add_line ∷ []) (record { some = omega arith; pages = omega arith; base = omega arith; host = omega arith; aligned = omega arith })
-    (All-cons May write_line (read_line ∷ other_set_line ∷ add_line ∷ []) (omega arith, omega arith, omega arith)
-    (All-cons May read_line (other_set_line ∷ add_line ∷ []) (omega arith, omega arith, omega arith)
-    (All-cons May other_set_line (add_line ∷ []) (record { some = omega arith; pages = omega arith; base = omega arith; host = omega arith; aligned = omega arith })
-    (All-cons May add_line [] (omega arith, omega arith, omega arith) (All-nil May)))))
+may_set : May run_sizes set_line
+may_set = record { some = omega arith; pages = omega arith; base = omega arith; host = omega arith; aligned = omega arith }
 
-example_distinct : AreDistinct (slot_ids run_lines)
-example_distinct = ((refl, tt), (tt, tt))
+may_set_read_only : May run_sizes set_read_only_line
+may_set_read_only = record { some = omega arith; pages = omega arith; base = omega arith; host = omega arith; aligned = omega arith }
+
+run_allowed : All (May run_sizes) run_lines
+run_allowed =
+    All-cons (May run_sizes) set_line (set_read_only_line ∷ outside_line ∷ write_line ∷ read_line ∷ add_line ∷ sum_line ∷ other_slot_line ∷ forbidden_line ∷ []) may_set
+    (All-cons (May run_sizes) set_read_only_line (outside_line ∷ write_line ∷ read_line ∷ add_line ∷ sum_line ∷ other_slot_line ∷ forbidden_line ∷ []) may_set_read_only
+    (All-cons (May run_sizes) outside_line (write_line ∷ read_line ∷ add_line ∷ sum_line ∷ other_slot_line ∷ forbidden_line ∷ []) (omega arith, omega arith, omega arith)
+    (All-cons (May run_sizes) write_line (read_line ∷ add_line ∷ sum_line ∷ other_slot_line ∷ forbidden_line ∷ []) (omega arith, omega arith, omega arith)
+    (All-cons (May run_sizes) read_line (add_line ∷ sum_line ∷ other_slot_line ∷ forbidden_line ∷ []) (omega arith, omega arith, omega arith)
+    (All-cons (May run_sizes) add_line (sum_line ∷ other_slot_line ∷ forbidden_line ∷ []) (omega arith, omega arith, omega arith)
+    (All-cons (May run_sizes) sum_line (other_slot_line ∷ forbidden_line ∷ []) (omega arith, omega arith, omega arith)
+    (All-cons (May run_sizes) other_slot_line (forbidden_line ∷ []) (omega arith, omega arith, omega arith)
+    (All-cons (May run_sizes) forbidden_line [] (omega arith, omega arith, omega arith) (All-nil (May run_sizes))))))))))
+
+run_distinct : IsDistinct (λ i j. i == j) (slot_ids run_lines)
+unfolding IsDistinct
+run_distinct = ((refl, tt), (tt, tt))
 
 pub example_runs : ExampleRuns
-example_runs =
-    let s = a_start example_sizes run_lines example_in_range example_allowed example_distinct in
-    let runs = from_start s.0 s.1 in
-    record { start = s.0; is_start = s.1; legal = runs.0; tells = runs.1 }
+example_runs = run_tells run_sizes run_lines run_order run_events run_in_range run_allowed run_distinct run_has_lines run_tale
 
--- the numbers that the example prints, in digits
 two_digits : (n : ℕ) → 10 ≤ n → n < 100 → decimal n ≡ (48 + n / 10) ∷ (48 + n % 10) ∷ []
 two_digits n low high = rw (decimal_step n low (omega arith), decimal_digit (n / 10) (omega arith)) refl
 
+-- what it prints
 pub example_prints : ExamplePrints
 unfolding line_text
-example_prints = simp (decimal_digit 0 (lit< tt), decimal_digit 1 (lit< tt), decimal_digit 2 (lit< tt), decimal_digit 3 (lit< tt), decimal_digit 4 (lit< tt), decimal_digit 5 (lit< tt), decimal_digit 6 (lit< tt), decimal_digit 7 (lit< tt), two_digits 65 (lit≤ tt) (lit< tt))
+example_prints =
+    simp (decimal_digit 0 (lit< tt), decimal_digit 1 (lit< tt), decimal_digit 2 (lit< tt), decimal_digit 3 (lit< tt), decimal_digit 4 (lit< tt), decimal_digit 5 (lit< tt), decimal_digit 6 (lit< tt), decimal_digit 7 (lit< tt), decimal_digit 8 (lit< tt), decimal_digit 9 (lit< tt), two_digits 10 (lit≤ tt) (lit< tt), two_digits 65 (lit≤ tt) (lit< tt))
+
+-- ---- a pool that is too small
+
+small_tale : tale (start_view small_sizes small_lines) small_order ≡ small_events
+unfolding flushed topics_after place kind_of level_span table_word frozen_word content_index pool_index absent_word frame_in leaf_word flags_live flags_read_only flags_word host_allows_write host_frame host_word can_write is_leaf_at flags_logged count_trailing_zeros
+small_tale = refl
+
+small_has_lines : have_lines small_sizes (start_view small_sizes small_lines) small_order ≡ true
+unfolding flushed topics_after place kind_of level_span table_word frozen_word content_index pool_index absent_word frame_in leaf_word flags_live flags_read_only flags_word host_allows_write host_frame host_word can_write is_leaf_at flags_logged count_trailing_zeros
+small_has_lines = refl
+
+small_in_range : AreSizes small_sizes
+small_in_range = record {
+  actors = record { vcpus = omega arith; hosts = omega arith; workers = omega arith };
+  some = omega arith;
+  pages = (omega arith, omega arith);
+  frames = (omega arith, omega arith);
+  words = (omega arith, omega arith);
+  content = omega arith;
+  pool = (omega arith, omega arith);
+  cache = (omega arith, omega arith);
+}
+
+small_allowed : All (May small_sizes) small_lines
+small_allowed =
+    All-cons (May small_sizes) set_line (starved_line ∷ []) may_set
+    (All-cons (May small_sizes) starved_line [] (omega arith, omega arith, omega arith) (All-nil (May small_sizes)))
+
+small_distinct : IsDistinct (λ i j. i == j) (slot_ids small_lines)
+unfolding IsDistinct
+small_distinct = (tt, tt)
+
+small_prints : text small_events ≡ codes "2 vm done\n3 v0 starved\n"
+unfolding line_text
+small_prints = simp (decimal_digit 0 (lit< tt), decimal_digit 2 (lit< tt), decimal_digit 3 (lit< tt))
+
+pub example_starves : ExampleStarves
+example_starves = (run_tells small_sizes small_lines small_order small_events small_in_range small_allowed small_distinct small_has_lines small_tale, small_prints)
+
+-- ---- two processors at one guest frame
+
+race_tale : tale (start_view run_sizes race_lines) race_order ≡ race_events
+unfolding flushed topics_after place kind_of level_span table_word frozen_word content_index pool_index absent_word frame_in leaf_word flags_live flags_read_only flags_word host_allows_write host_frame host_word can_write is_leaf_at flags_logged count_trailing_zeros
+race_tale = refl
+
+race_has_lines : have_lines run_sizes (start_view run_sizes race_lines) race_order ≡ true
+unfolding flushed topics_after place kind_of level_span table_word frozen_word content_index pool_index absent_word frame_in leaf_word flags_live flags_read_only flags_word host_allows_write host_frame host_word can_write is_leaf_at flags_logged count_trailing_zeros
+race_has_lines = refl
+
+race_allowed : All (May run_sizes) race_lines
+race_allowed =
+    All-cons (May run_sizes) set_line (first_line ∷ second_line ∷ []) may_set
+    (All-cons (May run_sizes) first_line (second_line ∷ []) (omega arith, omega arith, omega arith)
+    (All-cons (May run_sizes) second_line [] (omega arith, omega arith, omega arith) (All-nil (May run_sizes))))
+
+race_distinct : IsDistinct (λ i j. i == j) (slot_ids race_lines)
+unfolding IsDistinct
+race_distinct = (tt, tt)
+
+race_prints : text race_events ≡ codes "2 vm done\n3 v0 frame 65 value 0\n4 v1 frame 65 value 7\n"
+unfolding line_text
+race_prints = simp (decimal_digit 0 (lit< tt), decimal_digit 1 (lit< tt), decimal_digit 2 (lit< tt), decimal_digit 3 (lit< tt), decimal_digit 4 (lit< tt), decimal_digit 7 (lit< tt), two_digits 65 (lit≤ tt) (lit< tt))
+
+pub example_races : ExampleRaces
+example_races = (run_tells run_sizes race_lines race_order race_events run_in_range race_allowed race_distinct race_has_lines race_tale, race_prints)

@@ -5,7 +5,7 @@ use Rattle.std.proofs.lemmas.Bool.Decides.{nat_tests}
 use Rattle.std.proofs.lemmas.Nat.Bits.{bit_at-trailing_zeros}
 use Rattle.core_views.specs.declared.place.Cause.TheVariants.{Entry, Moved}
 use Rattle.core_views.specs.declared.place.CheckStage.TheVariants as stage
-use Rattle.core_views.specs.declared.place.FaultEnd.TheVariants.{Installed, Mmio, HostFault, Starved, Retry}
+use Rattle.core_views.specs.declared.place.FaultEnd.TheVariants.{Installed, HostFault, Starved, Retry}
 use Rattle.core_views.specs.declared.place.FaultPlace.{FaultPlace}
 use Rattle.core_views.specs.declared.place.FaultPlace.TheVariants.{Begin, Snapshot, Find, Host, Share, Check, Walk, Claim, Fill, Link, Give, Leaf, Unshare, End}
 use Rattle.core_views.specs.declared.sizes.Sizes.{Sizes}
@@ -14,7 +14,6 @@ use Rattle.core_views.specs.declared.topics.Hold.TheVariants.{Loose, Shared, Owi
 use Rattle.core_views.specs.declared.topics.HostLook.{HostLook}
 use Rattle.core_views.specs.declared.topics.MapClaim.{MapClaim}
 use Rattle.core_views.specs.declared.topics.OwnedPage.{OwnedPage}
-use Rattle.core_views.specs.declared.topics.SlotSearch.{SlotSearch}
 use Rattle.core_views.specs.declared.topics.Topics.{Topics}
 use Rattle.core_views.specs.Held.{Held}
 use Rattle.core_views.specs.Slots.{contains}
@@ -32,21 +31,23 @@ use Rattle.mmu_core.specs.declared.part_step.PartStep.TheVariants as part
 use Rattle.mmu_core.specs.Enabled.{mmu}
 use Rattle.mmu_core.specs.FaultAlone.{EntryStands, FaultAlone, GoesThrough, LeadsTo, LeadsToLeaf, NoneFreeBefore, RunsAlone, SeenStands}
 use Rattle.mmu_core.specs.FaultKnows.{Entering}
-use Rattle.mmu_core.specs.FaultSteps.{allows_access, at_map_word, claim_next, entry_word, found_next, is_last_word, is_owing, map_word, share_next, share_part, snapshot_taken, table_value, tries_page, walk_next}
+use Rattle.mmu_core.specs.FaultSteps.{allows_access, at_map_word, claim_next, entry_word, is_owing, map_word, share_next, share_part, snapshot_taken, table_value, tries_page, walk_next}
 use Rattle.mmu_core.specs.Machine.{World, hand_in}
 use Rattle.mmu_core.specs.PartSteps.{IsOver, LookedUp, SawEntry, entry_index, leaf_written, page_owned, part_task, table_page, word_looked, words_filled}
 use Rattle.mmu_core.specs.PartTopics.{part_topics}
 use Rattle.mmu_core.specs.SlotWords.{field_number, leaf_of, may_write, page_of}
-use Rattle.mmu_core.specs.TopicSteps.{gone_down, has_writer, is_won, linked_page, searched}
+use Rattle.mmu_core.specs.TopicSteps.{gone_down, has_writer, is_won, linked_page}
 use Rattle.mmu_core.specs.TreePart.{EntryPart, IsLeafAt, IsLiveIn, TreePart, at}
 use Rattle.mmu_core.specs.View.{answer_in, upd, view, word_in, words_after}
 use Rattle.mmu_core.proofs.AloneLaws.{lock_free}
 use Rattle.mmu_core.proofs.Columns.{upd_same}
 use Rattle.mmu_core.proofs.FaultKnown.{allowed_leaf}
 use Rattle.mmu_core.proofs.FaultSame.{both}
+use Rattle.mmu_core.proofs.FindAlone.{find_goes}
 use Rattle.mmu_core.proofs.LeadsDown.{leads_same}
-use Rattle.mmu_core.proofs.LiveStays.{LiveStays, field_small, live_in_stays}
+use Rattle.mmu_core.proofs.LiveStays.{LiveStays, live_in_stays}
 use Rattle.mmu_core.proofs.PartWords.{entry_leaves, fill_leaves, is_word, walks_elsewhere, walks_unowned}
+use Rattle.mmu_core.proofs.SlotFields.{is_number}
 use Rattle.mmu_core.proofs.TreeKept.{found_live, looked_word, run_lowest}
 use Rattle.mmu_core.proofs.TreeStored.{entry_stored}
 
@@ -63,19 +64,7 @@ saw_bit : (claim : MapClaim) → 0 < claim.seen → claim.seen < 2 ^ 64 → is_w
 saw_bit claim some small = ap (λ b. b == 1) (bit_at-trailing_zeros w64 claim.seen some small).1
 
 module _ (root : ℕ) (map pool : ℕ → ℕ) (gfn : ℕ) (write : Bool) where
-  -- ---- the look-up, the lock and the check
-
-  find_alone : (last : Bool) (found : SlotSearch) (t : Topics) → FaultAlone (if last then found_next write found else if found.id == 32 then End Mmio else Find true) root map pool gfn write t
-  find_alone true found t = by (write && found.slot.read_only)
-    where
-      by : (b : Bool) → FaultAlone (if b then End Mmio else Host) root map pool gfn write t
-      by true = tt
-      by false = tt
-  find_alone false found t = by (found.id == 32)
-    where
-      by : (b : Bool) → FaultAlone (if b then End Mmio else Find true) root map pool gfn write t
-      by true = tt
-      by false = tt
+  -- ---- the host word, the lock and the check
 
   host_alone : (b : Bool) (t : Topics) → t.hold ≡ Loose → FaultAlone (if b then End HostFault else Share) root map pool gfn write t
   host_alone true t loose = tt
@@ -260,7 +249,7 @@ module _ (z : Sizes) (w : World Held) (a gfn note : ℕ) (write : Bool) (p : Fau
 
     slots_stay : LiveStays (words area.Slots 0) (words area.Pool) leafed
     slots_stay = record {
-      each = λ id f small live. let low_field = field_small f in entry_leaves gfn (leaf_written t) note t.walk words (words area.Slots 0) (4 * id + field_number f) (omega (arith, small, low_field)) (walks_elsewhere z (view z w) a R.there R.sound.topics saw.over.there);
+      each = λ id f small live. let low_field = is_number f in entry_leaves gfn (leaf_written t) note t.walk words (words area.Slots 0) (4 * id + field_number f) (omega (arith, small, low_field)) (walks_elsewhere z (view z w) a R.there R.sound.topics saw.over.there);
     }
 
     is_leaf : IsLeafAt (upd (words area.Pool) (pool_index page index) (leaf_written t)) (words area.Host) (words area.Slots 0) (at t.walk.level t.walk.prefix) index (leaf_written t)
@@ -298,15 +287,9 @@ module _ (z : Sizes) (w : World Held) (a gfn note : ℕ) (write : Bool) (p : Fau
 
 pub goes_through : (z : Sizes) (w : World Held) (a gfn note : ℕ) (write : Bool) (p : FaultPlace) → RunsAlone z w a p gfn write → GoesThrough z (word_in z w) a (hand_in mmu w a).topics note p gfn write
 goes_through z w a gfn note write Begin R = record { goes = refl; next = tt }
-goes_through z w a gfn note write Snapshot R = record { goes = refl; next = tt }
-goes_through z w a gfn note write (Find true) R =
-    let t : Topics = (hand_in mmu w a).topics in
-    let v : ℕ = answer_in (part_task part.Slot a t note) (word_in z w) in
-    record {
-      goes = refl;
-      next = find_alone (word_in z w area.Root 0) (word_in z w area.PoolMap) (word_in z w area.Pool) gfn write (is_last_word t.search.next && contains gfn (searched t.search v).slot) (searched t.search v) (part_topics part.Slot t v);
-    }
-goes_through z w a gfn note write (Find false) R = record { goes = refl; next = tt }
+goes_through z w a gfn note write Snapshot R = record { goes = refl; next = λ b. absurd (cc b) }
+goes_through z w a gfn note write (Find true) R = record { goes = refl; next = find_goes z w a gfn note write R }
+goes_through z w a gfn note write (Find false) R = record { goes = refl; next = λ b i lt. absurd (omega (arith, lt)) }
 goes_through z w a gfn note write Host R =
     let t : Topics = (hand_in mmu w a).topics in
     let step : PartStep = part.Host (page_of t.search.slot gfn) in

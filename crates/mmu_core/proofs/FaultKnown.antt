@@ -213,14 +213,14 @@ above_lowest level w page from e = by (level == 1) refl
     by true is = let one : level ≡ 1 = grind (arith, nat_tests) in absurd (no_link w page (subst (λ l. kind_of l w ≡ entry_kind.Table page) one e))
     by false is = grind (arith, nat_tests)
 
-gone_over : (gfn page v : ℕ) (walk : TableWalk) → 2 ≤ walk.level → walk.level ≤ 4 → IsOver gfn walk → IsOver gfn (gone_down (Some page) walk (entry_index gfn walk.level) v)
+pub gone_over : (gfn page v : ℕ) (walk : TableWalk) → 2 ≤ walk.level → walk.level ≤ 4 → IsOver gfn walk → IsOver gfn (gone_down (Some page) walk (entry_index gfn walk.level) v)
 gone_over gfn page v walk from to O = record {
   small = O.small;
   there = omega arith;
   run = down_run gfn walk.level from to ∙ ap (λ n. n * 512 + gfn / level_span walk.level % 512) O.run;
 }
 
-root_over : (gfn v : ℕ) (walk : TableWalk) → gfn < 2 ^ 36 → IsOver gfn (at_root true walk v)
+pub root_over : (gfn v : ℕ) (walk : TableWalk) → gfn < 2 ^ 36 → IsOver gfn (at_root true walk v)
 root_over gfn v walk small = record { small = small; there = omega arith; run = rw span_4 (omega arith) }
 
 root_known : (b : Bool) (z : Sizes) (gfn : ℕ) (write : Bool) (t : Topics) (v : ℕ) → b ≡ true → gfn < 2 ^ 36 → Entering gfn write t → t.owned ≡ None
@@ -241,7 +241,8 @@ leaf_seen true true z gfn write t v low may is E none O =
 leaf_seen true false z gfn write t v low may is E none O =
     (same_entering gfn write t _ refl refl refl refl refl E, none, saw_it gfn v t.walk O, grind (arith, nat_tests))
 leaf_seen false allows z gfn write t v low may is E none O =
-    (record { section = E.sharing.section; owns_none = none }, E.sharing.shares, inr refl)
+    let from : 1 ≤ t.walk.level = O.there in
+    (record { section = E.sharing.section; owns_none = none }, E.sharing.shares, record { saw = saw_it gfn v t.walk O; is_entry = refl; holds = refl; why = inr (inr (is, grind (arith, nat_tests))) })
 
 none_seen : (lowest : Bool) (z : Sizes) (gfn : ℕ) (write : Bool) (t : Topics) (v : ℕ) → (t.walk.level == 1) ≡ lowest → kind_of t.walk.level v ≡ entry_kind.Absent → Entering gfn write t → t.owned ≡ None → IsOver gfn t.walk
     → FaultKnows (if lowest then Leaf else Claim false) z gfn write (record t { walk = gone_down None t.walk (entry_index gfn t.walk.level) v })
@@ -256,7 +257,7 @@ walk_known (entry_kind.Table page) z gfn write t v is most E none O =
     (same_entering gfn write t _ refl refl refl refl refl E, none, λ _. gone_over gfn page v t.walk (above_lowest t.walk.level v page O.there is) most O)
 walk_known entry_kind.Leaf z gfn write t v is most E none O = leaf_seen (t.walk.level == 1) (allows_access write v) z gfn write t v refl refl is E none O
 walk_known entry_kind.Absent z gfn write t v is most E none O = none_seen (t.walk.level == 1) z gfn write t v refl is E none O
-walk_known entry_kind.Frozen z gfn write t v is most E none O = (record { section = E.sharing.section; owns_none = none }, E.sharing.shares, inr refl)
+walk_known entry_kind.Frozen z gfn write t v is most E none O = (record { section = E.sharing.section; owns_none = none }, E.sharing.shares, record { saw = saw_it gfn v t.walk O; is_entry = refl; holds = refl; why = inr (inl is) })
 
 -- the claim
 tried_known : (won : Bool) (z : Sizes) (gfn : ℕ) (write : Bool) (t : Topics) (page v : ℕ) → Entering gfn write t → t.owned ≡ None → SawNone gfn t → t.claim.at < words_of_bits z.pool
@@ -331,7 +332,7 @@ link_known : (b : Bool) (z : Sizes) (gfn : ℕ) (write : Bool) (t : Topics) (v :
     → FaultKnows (if b then Walk true else Give (Retry (Entry (entry_word z gfn t.walk) t.walk.entry v))) z gfn write (exchanged b (entry_index gfn t.walk.level) (link_written t) t v)
 link_known true z gfn write t v is most E S o owned small = link_won z gfn write t v most E S o owned small
 link_known false z gfn write t v is most E S o owned small =
-    (E.sharing.section, E.sharing.shares, ap (λ (x : Option OwnedPage). is_some x) owned, inl (grind (arith, nat_tests)))
+    (E.sharing.section, E.sharing.shares, ap (λ (x : Option OwnedPage). is_some x) owned, record { saw = saw_it gfn v t.walk S.saw.over; is_entry = refl; holds = refl; why = inl (grind (arith, nat_tests)) })
 
 -- the leaf
 pub allowed_leaf : (write : Bool) (slot : Slot) (word : ℕ) → (write ≡ true → (slot.read_only ≡ false) × (host_allows_write word ≡ true)) → allows_access write (leaf_of slot word) ≡ true
@@ -362,7 +363,8 @@ leaf_won z gfn write t v E none S low =
 leaf_known : (b : Bool) (z : Sizes) (gfn : ℕ) (write : Bool) (t : Topics) (v : ℕ) → (v == t.walk.entry) ≡ b → Entering gfn write t → t.owned ≡ None → SawEntry gfn t.walk → t.walk.level ≡ 1
     → FaultKnows (if b then Unshare Installed else Unshare (Retry (Entry (entry_word z gfn t.walk) t.walk.entry v))) z gfn write (exchanged b (entry_index gfn t.walk.level) (leaf_written t) t v)
 leaf_known true z gfn write t v is E none S low = leaf_won z gfn write t v E none S low
-leaf_known false z gfn write t v is E none S low = (record { section = E.sharing.section; owns_none = none }, E.sharing.shares, inl (grind (arith, nat_tests)))
+leaf_known false z gfn write t v is E none S low =
+    (record { section = E.sharing.section; owns_none = none }, E.sharing.shares, record { saw = saw_it gfn v t.walk S.over; is_entry = refl; holds = refl; why = inl (grind (arith, nat_tests)) })
 
 -- the lock given back, and the section's end
 unshare_known : (e : FaultEnd) (z : Sizes) (gfn : ℕ) (write : Bool) (t : Topics) → InSection t → EndKnows e z gfn write t → FaultKnows (End e) z gfn write (let_go t)

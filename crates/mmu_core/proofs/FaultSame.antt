@@ -1,5 +1,5 @@
 -- What a fault knows of topics it knows of other topics that are the same in what this speaks of.
-use Rattle.std.proofs.Common.{◌≡◌, ◌≢◌, ◌⊎◌, inl, inr, ◌<◌, ◌≤◌, ℕ, refl, sym, subst, ap, ◌∙◌, arith}
+use Rattle.std.proofs.Common.{◌≡◌, inl, inr, ◌<◌, ◌≤◌, ℕ, refl, sym, subst, ap, ◌∙◌, arith}
 use Rattle.std.specs.Prelude.{Bool, true, false, ◌&&◌, nat_le, nat_lt, not, Option, Some, is_some}
 use Rattle.std.proofs.lemmas.Bool.Decides.{nat_tests}
 use Rattle.core_views.specs.declared.place.Cause.TheVariants.{Open, Moved, Entry}
@@ -15,7 +15,7 @@ use Rattle.core_views.specs.declared.topics.Topics.{Topics}
 use Rattle.core_views.specs.Slots.{contains}
 use Rattle.spte_words.specs.Areas.{words_of_bits}
 use Rattle.spte_words.specs.Entries.{kind_of}
-use Rattle.mmu_core.specs.FaultKnows.{EndKnows, Entering, FoundNoPage, LookedFor, SawNone, Sharing, WithoutLock}
+use Rattle.mmu_core.specs.FaultKnows.{EndKnows, Entering, FoundNoPage, IsInTheWay, LookedFor, SawNone, Sharing, WithoutLock}
 use Rattle.mmu_core.specs.FaultSteps.{allows_access}
 use Rattle.mmu_core.specs.PartSteps.{FoundSlot, IsFresh, LookedUp, SawEntry}
 use Rattle.mmu_core.specs.SlotWords.{page_of}
@@ -85,10 +85,6 @@ pub same_page : (gfn : ℕ) (write : Bool) (t u : Topics) → u.search ≡ t.sea
 same_page gfn write t u search (inl n) = inl (n.0, same_found gfn t u search n.1, ap (λ (s : SlotSearch). s.slot.read_only) search ∙ n.2)
 same_page gfn write t u search (inr e) = inr (ap (λ (s : SlotSearch). s.id) search ∙ e)
 
-pub same_entry : (read seen : ℕ) (walk other : TableWalk) → other ≡ walk → (read ≢ seen) ⊎ (walk.entry ≡ seen) → (read ≢ seen) ⊎ (other.entry ≡ seen)
-same_entry read seen walk other same (inl ne) = inl ne
-same_entry read seen walk other same (inr e) = inr (ap (λ (w : TableWalk). w.entry) same ∙ e)
-
 pub ends_same : (e : FaultEnd) (z : Sizes) (gfn : ℕ) (write : Bool) (t u : Topics) → u.walk ≡ t.walk → u.search ≡ t.search → u.host ≡ t.host → u.claim ≡ t.claim → unchecked u.invalidations ≡ unchecked t.invalidations
     → EndKnows e z gfn write t → EndKnows e z gfn write u
 ends_same Installed z gfn write t u walk search host claim n K = record {
@@ -103,7 +99,7 @@ ends_same Starved z gfn write t u walk search host claim n K = subst (λ (c : Ma
 ends_same (Retry (Open count start end_ at)) z gfn write t u walk search host claim n K =
     (K.0, K.1, K.2, K.3, ap (λ (x : Invalidations). x.count) n ∙ K.4, ap (λ (x : Invalidations). x.start) n ∙ K.5, ap (λ (x : Invalidations). x.end) n ∙ K.6)
 ends_same (Retry (Moved old_ now_)) z gfn write t u walk search host claim n K = (ap (λ (x : Invalidations). x.snapshot) n ∙ K.0, ap (λ (x : Invalidations). x.seq) n ∙ K.1, K.2)
-ends_same (Retry (Entry word read seen)) z gfn write t u walk search host claim n K = same_entry read seen t.walk u.walk walk K
+ends_same (Retry (Entry word read seen)) z gfn write t u walk search host claim n K = subst (IsInTheWay word read seen z gfn) (sym walk) K
 
 pub same_without : (t u : Topics) → u.stay ≡ t.stay → u.owned ≡ t.owned → u.hold ≡ t.hold → u.invalidations ≡ t.invalidations → WithoutLock t → WithoutLock u
 same_without t u stay owned hold n W = record {

@@ -10,17 +10,20 @@ use Rattle.core_views.specs.declared.event.EventKind.TheVariants.{Begun}
 use Rattle.core_views.specs.declared.hand.State.{State}
 use Rattle.core_views.specs.declared.place.AccessPlace.{AccessPlace}
 use Rattle.core_views.specs.declared.place.AccessPlace.TheVariants as access
+use Rattle.core_views.specs.declared.place.FaultPlace.{FaultPlace}
+use Rattle.core_views.specs.declared.place.FaultPlace.TheVariants as fault
+use Rattle.core_views.specs.declared.place.Leaving.TheVariants as leaving
 use Rattle.core_views.specs.declared.place.Place.{Place}
 use Rattle.core_views.specs.declared.place.Place.TheVariants as place
-use Rattle.core_views.specs.declared.place.SetSlotPlace.{SetSlotPlace}
-use Rattle.core_views.specs.declared.place.SlotField.TheVariants as field
 use Rattle.core_views.specs.declared.sizes.Sizes.{Sizes}
+use Rattle.core_views.specs.declared.topics.Topics.{Topics}
 use Rattle.core_views.specs.declared.trace.Command.{Command}
 use Rattle.core_views.specs.declared.trace.Command.TheVariants.{Access, SetSlot}
 use Rattle.core_views.specs.declared.trace.Line.{Line}
+use Rattle.core_views.specs.declared.trace.Op.{Op}
 use Rattle.core_views.specs.Actors.{changed_at, is_same}
 use Rattle.core_views.specs.Events.{after, after_all, line_after}
-use Rattle.core_views.specs.Flat.{Flat, LineUnderWay, Notes, Idle, no_notes}
+use Rattle.core_views.specs.Flat.{Flat, LineUnderWay, Notes, Fresh, Idle}
 use Rattle.core_views.specs.Held.{Held}
 use Rattle.core_views.specs.Lawful.{IsLawful}
 use Rattle.core_views.specs.SlotSets.{MemorySlots}
@@ -28,15 +31,18 @@ use Rattle.core_views.specs.Sizes.{actors_of, index_of}
 use Rattle.core_views.proofs.SameActor.{changed_here}
 use Rattle.spte_words.specs.declared.area.Area.{Area}
 use Rattle.spte_words.specs.declared.area.Area.TheVariants as area
-use Rattle.mmu_core.specs.AccessSteps.{access_loads}
-use Rattle.mmu_core.specs.FlatInvariant.{FlatInvariant, NotedAt, NotedSlots, Refines, UnderIs}
+use Rattle.mmu_core.specs.AccessSteps.{access_loads, access_part}
+use Rattle.mmu_core.specs.FlatInvariant.{AccessUnder, FlatInvariant, NotedAt, NotedSlots, Refines, UnderIs}
 use Rattle.mmu_core.specs.Invariant.{Invariant}
+use Rattle.mmu_core.specs.KnowsPart.{KnowsPart}
+use Rattle.mmu_core.specs.Rests.{IsUnderWay}
 use Rattle.mmu_core.specs.Steps.{beginning, event_kinds, events_of, first_place, line_at, next_line, outcome_at, standing, task_at, tells_at, loads_at}
 use Rattle.mmu_core.specs.Tasks.{answering}
+use Rattle.mmu_core.specs.TopicsInvariant.{TopicsInvariant}
 use Rattle.mmu_core.specs.View.{View, answer_in, hand_after, stepped, words_after}
-use Rattle.mmu_core.proofs.AccessFlat.{access_goes}
+use Rattle.mmu_core.proofs.AccessFlat.{IsPartOr, access_goes}
 use Rattle.mmu_core.proofs.Columns.{at_upd}
-use Rattle.mmu_core.proofs.FlatSteps.{Ready, StepGoes, under_is}
+use Rattle.mmu_core.proofs.FlatSteps.{Ready, StepGoes, UnderAt, under_at, under_is}
 use Rattle.mmu_core.proofs.LiveStay.{StayLive}
 use Rattle.mmu_core.proofs.SetSlotFlat.{set_slot_goes}
 use Rattle.mmu_core.proofs.Which.{events_of_line, has_line_is}
@@ -46,9 +52,9 @@ use Rattle.mmu_core.proofs.Told.{line_behind, told, told_facts, told_lawful, tol
 -- what a step tells besides that its line begins
 abbrev pub told_kinds : View → ℕ → Line → Command → Place → List EventKind
 told_kinds v a line command p =
-    let s : State = (v.hand a).state in
-    let x : ℕ = answer_in (task_at p command s) v.words in
-    tells_at p command s x ++ answering (outcome_at p command s x) line
+    let h : Held = v.hand a in
+    let x : ℕ = answer_in (task_at p command h) v.words in
+    tells_at p command h x ++ answering (outcome_at p command h x) line
 
 -- what a step tells
 abbrev pub told_events : View → ℕ → Line → Command → Place → List Event
@@ -58,14 +64,19 @@ told_events v a line command p = told (v.hand a).state.actor (beginning (v.hand 
 abbrev Meets : Sizes → View → Flat → ℕ → Line → Command → Place → List Event → Type 0
 Meets z v f a line command p es = IsLawful z f es × FlatInvariant z (stepped a line command p v) (after_all es f)
 
+-- The actor's step is one of a part, if its line is an access that isn't at its touch.
+abbrev pub PartOf : Sizes → View → ℕ → Command → Place → Type 0
+PartOf z v a (Access gfn word op) (place.Access p) = IsPartOr z v a (access_part p gfn (v.hand a).topics)
+PartOf z v a _ _ = Unit {0}
+
 -- The step of each place, once its line has begun.
 step_goes : (z : Sizes) (v : View) (a : ℕ) (line : Line) (command : Command) (p : Place) (f : Flat) (u : LineUnderWay)
-    → IsStep z v a line command p → Invariant z v → Ready z v line command p f.facts u → StepGoes z v a line command p f.facts u
-step_goes z v a line command place.Between f u S I R = absurd S.begun
-step_goes z v a line (Access gfn word op) (place.Access p) f u S I R = access_goes z v a line gfn word op p f.facts u S I R
-step_goes z v a line (SetSlot id slot) (place.Access p) f u S I R = absurd S.holds
-step_goes z v a line (Access gfn word op) (place.SetSlot p) f u S I R = absurd S.holds
-step_goes z v a line (SetSlot id slot) (place.SetSlot p) f u S I R = set_slot_goes z v a line id slot p f.facts u S I R
+    → IsStep z v a line command p → Invariant z v → TopicsInvariant z v → PartOf z v a command p → KnowsPart p command (v.hand a) → Ready z v line command p (v.hand a).topics f.facts u → StepGoes z v a line command p f.facts u
+step_goes z v a line command place.Between f u S I P part K R = absurd S.begun
+step_goes z v a line (Access gfn word op) (place.Access p) f u S I P part K R = access_goes z v a line gfn word f.facts u op p S I P part K R
+step_goes z v a line (SetSlot id slot) (place.Access p) f u S I P part K R = absurd S.holds
+step_goes z v a line (Access gfn word op) (place.SetSlot p) f u S I P part K R = absurd S.holds
+step_goes z v a line (SetSlot id slot) (place.SetSlot p) f u S I P part K R = set_slot_goes z v a line id slot p f.facts u S I R
 
 -- One actor has one place.
 pub same_index : (z : Sizes) (a b : Actor) → is_same a b ≡ true → index_of z a ≡ index_of z b
@@ -86,55 +97,54 @@ apart_actors z a b apart = case (is_same a b) refl
 noted_still : (pool other : ℕ → ℕ) (notes : Notes) (id gfn : ℕ) → StayLive pool other → NotedSlots pool notes id gfn → NotedSlots other notes id gfn
 noted_still pool other notes id gfn still N = record { slots = N.slots; noted = N.noted; live = λ k d lt. still _ (N.live k d lt); passed = N.passed }
 
-noted_at_still : (pool other : ℕ → ℕ) (p : AccessPlace) (command : Command) (notes : Notes) → StayLive pool other → NotedAt pool (place.Access p) command notes → NotedAt other (place.Access p) command notes
-noted_at_still pool other (access.Slot id field) (Access gfn word op) notes still N = noted_still pool other notes id gfn still N
-noted_at_still pool other (access.Slot id field) (SetSlot id_ slot) notes still N = tt
-noted_at_still pool other access.Slots command notes still N = tt
-noted_at_still pool other access.Walk command notes still N = tt
-noted_at_still pool other access.Host command notes still N = tt
-noted_at_still pool other access.Install command notes still N = tt
-noted_at_still pool other access.Touch command notes still N = tt
+noted_at_still : (pool other : ℕ → ℕ) (p : FaultPlace) (gfn : ℕ) (op : Op) (t : Topics) (notes : Notes) → StayLive pool other → NotedAt pool p gfn op t notes → NotedAt other p gfn op t notes
+noted_at_still pool other (fault.Find true) gfn op t notes still N = noted_still pool other notes t.search.id gfn still N
+noted_at_still pool other (fault.Give e) gfn op t notes still N = N
+noted_at_still pool other (fault.Unshare e) gfn op t notes still N = N
+noted_at_still pool other (fault.End e) gfn op t notes still N = N
+noted_at_still pool other _ gfn op t notes still N = tt
+
+access_still : (pool other : ℕ → ℕ) (p : AccessPlace) (gfn : ℕ) (op : Op) (t : Topics) (u : LineUnderWay) → StayLive pool other → AccessUnder pool p gfn op t u → AccessUnder other p gfn op t u
+access_still pool other (access.Fault p) gfn op t u still under = (under.0, noted_at_still pool other p gfn op t u.notes still under.1)
+access_still pool other (access.Leave (leaving.Reached frame value)) gfn op t u still under = under
+access_still pool other _ gfn op t u still under = under
 
 -- A line under way is flat's still where live slots stay live.
-pub under_still : (pool other : ℕ → ℕ) (p : Place) (s : State) (u : LineUnderWay) → StayLive pool other → UnderIs pool p s u → UnderIs other p s u
-under_still pool other place.Between s u still under = under
-under_still pool other (place.Access p) s u still under = (under.0, under.1, noted_at_still pool other p s.line.command u.notes still under.2)
-under_still pool other (place.SetSlot p) s u still under = under
+pub under_still : (pool other : ℕ → ℕ) (p : Place) (command : Command) (h : Held) (u : LineUnderWay) → StayLive pool other → UnderIs pool p command h u → UnderIs other p command h u
+under_still pool other place.Between command h u still under = under
+under_still pool other (place.Access p) (Access gfn word op) h u still under = (under.0, access_still pool other p gfn op h.topics u still under.1)
+under_still pool other (place.SetSlot p) (SetSlot id slot) h u still under = under
+under_still pool other (place.Access p) (SetSlot id slot) h u still under = absurd under
+under_still pool other (place.SetSlot p) (Access gfn word op) h u still under = absurd under
 
 -- the lines of the other hands are flat's
 abbrev Others : Sizes → View → ℕ → Flat → Type 0
-Others z v a f = (i : ℕ) → i < actors_of z → i ≢ a → UnderIs (v.words area.Pool) (v.hand i).state.place (v.hand i).state (f.under (v.hand i).state.actor)
+Others z v a f = (i : ℕ) → i < actors_of z → i ≢ a → UnderIs (v.words area.Pool) (v.hand i).state.place (v.hand i).state.line.command (v.hand i) (f.under (v.hand i).state.actor)
 
 pub other_actor : (z : Sizes) (v : View) (a i : ℕ) → Invariant z v → a < actors_of z → i < actors_of z → i ≢ a → is_same (v.hand a).state.actor (v.hand i).state.actor ≡ false
 other_actor z v a i I a_in i_in apart = apart_actors z (v.hand a).state.actor (v.hand i).state.actor (λ e. apart (sym (sym (I.lines a a_in).index ∙ e ∙ (I.lines i i_in).index)))
 
 -- The step's actor is its hand's, whatever it loads.
-pub same_actor : (p : Place) (command : Command) (s : State) (x : ℕ) → (loads_at p command s x).actor ≡ s.actor
-same_actor place.Between command s x = refl
-same_actor (place.Access p) (Access gfn word op) s x = accessing p s x
-  where
-    accessing : (p : AccessPlace) (s : State) (x : ℕ) → (access_loads p s x).actor ≡ s.actor
-    accessing access.Slots s x = refl
-    accessing (access.Slot id field.Flags) s x = refl
-    accessing (access.Slot id field.Base) s x = refl
-    accessing (access.Slot id field.Pages) s x = refl
-    accessing (access.Slot id field.Host) s x = refl
-    accessing access.Walk s x = refl
-    accessing access.Host s x = refl
-    accessing access.Install s x = refl
-    accessing access.Touch s x = refl
-same_actor (place.Access p) (SetSlot id slot) s x = refl
-same_actor (place.SetSlot p) (Access gfn word op) s x = refl
-same_actor (place.SetSlot p) (SetSlot id slot) s x = refl
+access_actor : (p : AccessPlace) (h : Held) (gfn : ℕ) (op : Op) (x : ℕ) → (access_loads p h gfn op x).actor ≡ h.state.actor
+access_actor (access.Pause again) h gfn op x = refl
+access_actor (access.Walk again) h gfn op x = refl
+access_actor _ h gfn op x = refl
+
+pub same_actor : (p : Place) (command : Command) (h : Held) (x : ℕ) → (loads_at p command h x).actor ≡ h.state.actor
+same_actor place.Between command h x = refl
+same_actor (place.Access p) (Access gfn word op) h x = access_actor p h gfn op x
+same_actor (place.Access p) (SetSlot id slot) h x = refl
+same_actor (place.SetSlot p) (Access gfn word op) h x = refl
+same_actor (place.SetSlot p) (SetSlot id slot) h x = refl
 
 -- Behind the begin of its line a step meets flat memory.
-meets_begun : (z : Sizes) (v : View) (f : Flat) (a : ℕ) (line : Line) (command : Command) (p : Place) → IsStep z v a line command p → Invariant z v
-    → Ready z v line command p f.facts (f.under (v.hand a).state.actor) → Others z v a f → Meets z v f a line command p (told (v.hand a).state.actor (told_kinds v a line command p))
-meets_begun z v f a line command p S I R others = (
+meets_begun : (z : Sizes) (v : View) (f : Flat) (a : ℕ) (line : Line) (command : Command) (p : Place) → IsStep z v a line command p → Invariant z v → TopicsInvariant z v → PartOf z v a command p → KnowsPart p command (v.hand a)
+    → Ready z v line command p (v.hand a).topics f.facts (f.under (v.hand a).state.actor) → Others z v a f → Meets z v f a line command p (told (v.hand a).state.actor (told_kinds v a line command p))
+meets_begun z v f a line command p S I P part K R others = (
   told_lawful z s.actor kinds f G.allowed,
   record {
     refines = subst (Refines z (words area.Pool) (words area.Content)) (sym (told_facts s.actor kinds f)) G.refines;
-    under = at_upd (λ i (h : Held). i < actors_of z → UnderIs (words area.Pool) h.state.place h.state (behind.under h.state.actor)) v.hand a (hand_after line command p (v.hand a) x)
+    under = at_upd (λ i (h : Held). i < actors_of z → UnderIs (words area.Pool) h.state.place h.state.line.command h (behind.under h.state.actor)) v.hand a then_
         (λ a_in. here) (λ i apart i_in. there i i_in apart);
   },
 )
@@ -143,10 +153,10 @@ meets_begun z v f a line command p S I R others = (
     s = (v.hand a).state
 
     x : ℕ
-    x = answer_in (task_at p command s) v.words
+    x = answer_in (task_at p command (v.hand a)) v.words
 
     words : Area → ℕ → ℕ
-    words = words_after (task_at p command s) v.words
+    words = words_after (task_at p command (v.hand a)) v.words
 
     kinds : List EventKind
     kinds = told_kinds v a line command p
@@ -154,42 +164,45 @@ meets_begun z v f a line command p S I R others = (
     behind : Flat
     behind = after_all (told s.actor kinds) f
 
-    then_ : State
-    then_ = (hand_after line command p (v.hand a) x).state
+    then_ : Held
+    then_ = hand_after line command p (v.hand a) x
 
     G : StepGoes z v a line command p f.facts (f.under s.actor)
-    G = step_goes z v a line command p f (f.under s.actor) S I R
+    G = step_goes z v a line command p f (f.under s.actor) S I P part K R
 
-    here : UnderIs (words area.Pool) then_.place then_ (behind.under then_.actor)
+    here : UnderIs (words area.Pool) then_.state.place then_.state.line.command then_ (behind.under then_.state.actor)
     here =
-        subst (λ k. UnderIs (words area.Pool) then_.place then_ (behind.under k)) (sym (same_actor p command s x))
-        (subst (UnderIs (words area.Pool) then_.place then_) (sym (told_line s.actor kinds f))
-        (under_is (words area.Pool) then_.place then_ command (line_behind kinds f.facts (f.under s.actor)) S.command_is G.under))
+        subst (λ k. UnderIs (words area.Pool) then_.state.place line.command then_ (behind.under k)) (sym (same_actor p command (v.hand a) x))
+        (subst (λ c. UnderIs (words area.Pool) then_.state.place c then_ (behind.under s.actor)) (sym S.command_is)
+        (subst (UnderIs (words area.Pool) then_.state.place command then_) (sym (told_line s.actor kinds f))
+        (under_is (words area.Pool) then_.state.place command then_ (line_behind kinds f.facts (f.under s.actor)) G.under)))
 
-    there : (i : ℕ) → i < actors_of z → i ≢ a → UnderIs (words area.Pool) (v.hand i).state.place (v.hand i).state (behind.under (v.hand i).state.actor)
+    there : (i : ℕ) → i < actors_of z → i ≢ a → UnderIs (words area.Pool) (v.hand i).state.place (v.hand i).state.line.command (v.hand i) (behind.under (v.hand i).state.actor)
     there i i_in apart =
-        subst (UnderIs (words area.Pool) (v.hand i).state.place (v.hand i).state)
+        subst (UnderIs (words area.Pool) (v.hand i).state.place (v.hand i).state.line.command (v.hand i))
         (sym (told_others s.actor (v.hand i).state.actor kinds f (other_actor z v a i I S.there i_in apart)))
-        (under_still (v.words area.Pool) (words area.Pool) (v.hand i).state.place (v.hand i).state (f.under (v.hand i).state.actor) G.live (others i i_in apart))
-
-noted_first : (pool : ℕ → ℕ) (z : Sizes) (slots : MemorySlots) (command : Command) (notes : Notes) → NotedAt pool (first_place z slots command) command notes
-noted_first pool z slots (Access gfn word op) notes = tt
-noted_first pool z slots (SetSlot id slot) notes = tt
+        (under_still (v.words area.Pool) (words area.Pool) (v.hand i).state.place (v.hand i).state.line.command (v.hand i) (f.under (v.hand i).state.actor) G.live (others i i_in apart))
 
 -- A line that begins is under way, and has done nothing.
+first_at : (pool : ℕ → ℕ) (z : Sizes) (slots : MemorySlots) (line : Line) (command : Command) (t : Topics) (u : LineUnderWay) → u.stage ≡ Fresh → u.line ≡ line → UnderAt pool (first_place z slots command) line command t u
+first_at pool z slots line (Access gfn word op) t u fresh is = (is, fresh)
+first_at pool z slots line (SetSlot id slot) t u fresh is = (fresh, is)
+
 ready_first : (z : Sizes) (v : View) (f : Flat) (a : ℕ) (line : Line) (command : Command) (p : Place) → IsStep z v a line command p → FlatInvariant z v f → (v.hand a).state.place ≡ place.Between
-    → let begun : Flat = after (record { actor = (v.hand a).state.actor; kind = Begun line }) f in Ready z v line command p begun.facts (begun.under (v.hand a).state.actor)
+    → let begun : Flat = after (record { actor = (v.hand a).state.actor; kind = Begun line }) f in Ready z v line command p (v.hand a).topics begun.facts (begun.under (v.hand a).state.actor)
 ready_first z v f a line command p S F e = record {
   refines = F.refines;
-  stage = ap (λ (u : LineUnderWay). u.stage) begun;
-  line_is = ap (λ (u : LineUnderWay). u.line) begun;
-  noted = subst (λ (u : LineUnderWay). NotedAt (v.words area.Pool) p command u.notes) (sym begun) (subst (λ q. NotedAt (v.words area.Pool) q command no_notes) first_is (noted_first (v.words area.Pool) h.state.sizes h.slots command no_notes));
+  under = subst (λ q. UnderAt (v.words area.Pool) q line command h.topics now_) first_is
+      (first_at (v.words area.Pool) h.state.sizes h.slots line command h.topics now_ (ap (λ (u : LineUnderWay). u.stage) begun) (ap (λ (u : LineUnderWay). u.line) begun));
 }
   where
     h : Held
     h = v.hand a
 
-    begun : changed_at h.state.actor (line_after (Begun line) f.facts (f.under h.state.actor)) f.under h.state.actor ≡ line_after (Begun line) f.facts (f.under h.state.actor)
+    now_ : LineUnderWay
+    now_ = changed_at h.state.actor (line_after (Begun line) f.facts (f.under h.state.actor)) f.under h.state.actor
+
+    begun : now_ ≡ line_after (Begun line) f.facts (f.under h.state.actor)
     begun = changed_here h.state.actor (line_after (Begun line) f.facts (f.under h.state.actor)) f.under
 
     command_is : (next_line h).command ≡ command
@@ -199,14 +212,24 @@ ready_first z v f a line command p S F e = record {
     first_is = ap (first_place h.state.sizes h.slots) (sym command_is) ∙ subst (λ q. standing q h.state.sizes h.slots (line_at q h).command ≡ p) e S.place_is
 
 -- A line goes on as it stood.
-ready_access : (z : Sizes) (v : View) (f : Flat) (a : ℕ) (line : Line) (command : Command) (p : Place) (q : AccessPlace) → IsStep z v a line command p → FlatInvariant z v f → (v.hand a).state.place ≡ place.Access q
-    → Ready z v line command p f.facts (f.under (v.hand a).state.actor)
-ready_access z v f a line command p q S F e = record {
+stands_under : (q : Place) (z : Sizes) (slots : MemorySlots) (command : Command) → IsUnderWay q → standing q z slots command ≡ q
+stands_under place.Between z slots command under = absurd under
+stands_under (place.Access p) z slots command under = refl
+stands_under (place.SetSlot p) z slots command under = refl
+
+line_under : (q : Place) (h : Held) → IsUnderWay q → line_at q h ≡ h.state.line
+line_under place.Between h under = absurd under
+line_under (place.Access p) h under = refl
+line_under (place.SetSlot p) h under = refl
+
+ready_on : (z : Sizes) (v : View) (f : Flat) (a : ℕ) (line : Line) (command : Command) (p : Place) → IsStep z v a line command p → FlatInvariant z v f → IsUnderWay (v.hand a).state.place
+    → Ready z v line command p (v.hand a).topics f.facts (f.under (v.hand a).state.actor)
+ready_on z v f a line command p S F stands = record {
   refines = F.refines;
-  stage = under.0;
-  line_is = under.1 ∙ sym line_is;
-  noted = subst (λ r. NotedAt (v.words area.Pool) r command u.notes) (subst (λ r. standing r h.state.sizes h.slots (line_at r h).command ≡ p) e S.place_is)
-      (subst (λ c. NotedAt (v.words area.Pool) (place.Access q) c u.notes) (ap (λ (l : Line). l.command) (sym line_is) ∙ S.command_is) under.2);
+  under = subst (λ q. UnderAt (v.words area.Pool) q line command h.topics u) place_is
+      (subst (λ c. UnderAt (v.words area.Pool) h.state.place line c h.topics u) (ap (λ (l : Line). l.command) (sym line_is) ∙ S.command_is)
+      (subst (λ (l : Line). UnderAt (v.words area.Pool) h.state.place l h.state.line.command h.topics u) (sym line_is)
+      (under_at (v.words area.Pool) h.state.place h.state.line.command h u (F.under a S.there))));
 }
   where
     h : Held
@@ -216,33 +239,15 @@ ready_access z v f a line command p q S F e = record {
     u = f.under h.state.actor
 
     line_is : line ≡ h.state.line
-    line_is = subst (λ r. line ≡ line_at r h) e S.line_is
+    line_is = S.line_is ∙ line_under h.state.place h stands
 
-    under : UnderIs (v.words area.Pool) (place.Access q) h.state u
-    under = subst (λ r. UnderIs (v.words area.Pool) r h.state u) e (F.under a S.there)
-
-ready_setting : (z : Sizes) (v : View) (f : Flat) (a : ℕ) (line : Line) (command : Command) (p : Place) (q : SetSlotPlace) → IsStep z v a line command p → FlatInvariant z v f → (v.hand a).state.place ≡ place.SetSlot q
-    → Ready z v line command p f.facts (f.under (v.hand a).state.actor)
-ready_setting z v f a line command p q S F e = record {
-  refines = F.refines;
-  stage = under.0;
-  line_is = under.1 ∙ sym (subst (λ r. line ≡ line_at r h) e S.line_is);
-  noted = subst (λ r. NotedAt (v.words area.Pool) r command u.notes) (subst (λ r. standing r h.state.sizes h.slots (line_at r h).command ≡ p) e S.place_is) tt;
-}
-  where
-    h : Held
-    h = v.hand a
-
-    u : LineUnderWay
-    u = f.under h.state.actor
-
-    under : UnderIs (v.words area.Pool) (place.SetSlot q) h.state u
-    under = subst (λ r. UnderIs (v.words area.Pool) r h.state u) e (F.under a S.there)
+    place_is : h.state.place ≡ p
+    place_is = sym (stands_under h.state.place h.state.sizes h.slots (line_at h.state.place h).command stands) ∙ S.place_is
 
 pub flat_kept : (z : Sizes) (v : View) (f : Flat) (a : ℕ) (line : Line) (command : Command) (p : Place)
-    → IsStep z v a line command p → Invariant z v → FlatInvariant z v f
+    → IsStep z v a line command p → Invariant z v → TopicsInvariant z v → PartOf z v a command p → KnowsPart p command (v.hand a) → FlatInvariant z v f
     → IsLawful z f (told_events v a line command p) × FlatInvariant z (stepped a line command p v) (after_all (told_events v a line command p) f)
-flat_kept z v f a line command p S I F = case (v.hand a).state.place refl
+flat_kept z v f a line command p S I P part K F = case (v.hand a).state.place refl
   where
     actor : Actor
     actor = (v.hand a).state.actor
@@ -250,27 +255,30 @@ flat_kept z v f a line command p S I F = case (v.hand a).state.place refl
     begun : Flat
     begun = after (record { actor = actor; kind = Begun line }) f
 
-    others : (i : ℕ) → i < actors_of z → i ≢ a → UnderIs (v.words area.Pool) (v.hand i).state.place (v.hand i).state (begun.under (v.hand i).state.actor)
+    others : Others z v a begun
     others i i_in apart =
-        subst (UnderIs (v.words area.Pool) (v.hand i).state.place (v.hand i).state)
+        subst (UnderIs (v.words area.Pool) (v.hand i).state.place (v.hand i).state.line.command (v.hand i))
         (sym (told_others actor (v.hand i).state.actor (Begun line ∷ []) f (other_actor z v a i I S.there i_in apart))) (F.under i i_in)
+
+    on : IsUnderWay (v.hand a).state.place → Meets z v f a line command p (told actor (told_kinds v a line command p))
+    on stands = meets_begun z v f a line command p S I P part K (ready_on z v f a line command p S F stands) (λ i i_in apart. F.under i i_in)
 
     case : (q : Place) → (v.hand a).state.place ≡ q → Meets z v f a line command p (told (v.hand a).state.actor (beginning q line ++ told_kinds v a line command p))
     case place.Between e =
-        let idle : (f.under actor).stage ≡ Idle = subst (λ q. UnderIs (v.words area.Pool) q (v.hand a).state (f.under actor)) e (F.under a S.there) in
-        let rest = meets_begun z v begun a line command p S I (ready_first z v f a line command p S F e) others in
+        let idle : (f.under actor).stage ≡ Idle = subst (λ q. UnderIs (v.words area.Pool) q (v.hand a).state.line.command (v.hand a) (f.under actor)) e (F.under a S.there) in
+        let rest = meets_begun z v begun a line command p S I P part K (ready_first z v f a line command p S F e) others in
         (((idle, S.own), rest.0), rest.1)
-    case (place.Access q) e = meets_begun z v f a line command p S I (ready_access z v f a line command p q S F e) (λ i i_in apart. F.under i i_in)
-    case (place.SetSlot q) e = meets_begun z v f a line command p S I (ready_setting z v f a line command p q S F e) (λ i i_in apart. F.under i i_in)
+    case (place.Access q) e = on (subst IsUnderWay (sym e) tt)
+    case (place.SetSlot q) e = on (subst IsUnderWay (sym e) tt)
 
 -- A step tells what its hand's next step tells.
 pub told_is_events : (z : Sizes) (v : View) (a : ℕ) (line : Line) (p : Place) → IsStep z v a line line.command p
-    → told_events v a line line.command p ≡ events_of (v.hand a) (answer_in (task_at p line.command (v.hand a).state) v.words)
+    → told_events v a line line.command p ≡ events_of (v.hand a) (answer_in (task_at p line.command (v.hand a)) v.words)
 told_is_events z v a line p S =
     ap (λ l. of_line l p) S.line_is ∙ ap (of_line (line_at (v.hand a).state.place (v.hand a))) (sym S.place_is) ∙ sym (events_of_line (v.hand a) x (has_line_is (v.hand a) S.left))
   where
     x : ℕ
-    x = answer_in (task_at p line.command (v.hand a).state) v.words
+    x = answer_in (task_at p line.command (v.hand a)) v.words
 
     of_line : Line → Place → List Event
     of_line l r = told (v.hand a).state.actor (event_kinds (v.hand a).state.place l r (v.hand a) x)

@@ -5,24 +5,40 @@ use Rattle.std.proofs.lemmas.List.{map-append}
 use Rattle.core_views.specs.declared.actor.Actor.{Actor}
 use Rattle.core_views.specs.declared.answer.AnsweredLine.{AnsweredLine}
 use Rattle.core_views.specs.declared.event.Event.{Event}
+use Rattle.core_views.specs.declared.place.AccessPlace.{AccessPlace}
+use Rattle.core_views.specs.declared.place.AccessPlace.TheVariants as access
+use Rattle.core_views.specs.declared.place.FaultEnd.TheVariants as end_of
+use Rattle.core_views.specs.declared.place.FaultNext.{FaultNext}
+use Rattle.core_views.specs.declared.place.FaultNext.TheVariants as next_of
+use Rattle.core_views.specs.declared.place.Leaving.TheVariants as leaving
 use Rattle.core_views.specs.declared.place.Place.{Place}
 use Rattle.core_views.specs.declared.place.Place.TheVariants as place
+use Rattle.core_views.specs.declared.place.SetSlotPlace.{SetSlotPlace}
+use Rattle.core_views.specs.declared.place.SetSlotPlace.TheVariants.{Refuse, Fill}
+use Rattle.core_views.specs.declared.place.SlotField.TheVariants as field
 use Rattle.core_views.specs.declared.sizes.Sizes.{Sizes}
+use Rattle.core_views.specs.declared.trace.Command.{Command}
+use Rattle.core_views.specs.declared.trace.Command.TheVariants.{Access, SetSlot}
 use Rattle.core_views.specs.declared.trace.Line.{Line}
+use Rattle.core_views.specs.declared.trace.Op.{Op}
 use Rattle.core_views.specs.Actors.{is_same}
 use Rattle.core_views.specs.Flat.{no_line}
 use Rattle.core_views.specs.Held.{Held}
 use Rattle.core_views.specs.Sizes.{actors_of}
+use Rattle.core_views.specs.Slots.{is_write}
 use Rattle.core_views.specs.Text.{answers_of}
 use Rattle.core_views.specs.Whole.{lines_begun, lines_of}
 use Rattle.mmu_core.specs.declared.outcome.Outcome.{Outcome}
 use Rattle.mmu_core.specs.declared.outcome.Outcome.TheVariants.{Goes, Ends}
+use Rattle.mmu_core.specs.AccessSteps.{access_outcome, behind_fault}
+use Rattle.mmu_core.specs.FaultSteps.{fault_next}
 use Rattle.mmu_core.specs.Histories.{answers_by}
 use Rattle.mmu_core.specs.Invariant.{Invariant}
+use Rattle.mmu_core.specs.Rests.{IsUnderWay}
+use Rattle.mmu_core.specs.SetSlotSteps.{set_slot_outcome}
 use Rattle.mmu_core.specs.Steps.{outcome_at, task_at, tells_at}
 use Rattle.mmu_core.specs.Tasks.{answers_after, place_after}
 use Rattle.mmu_core.specs.View.{View, answer_in, hand_after, upd}
-use Rattle.mmu_core.proofs.Bounded.{Falls}
 use Rattle.mmu_core.proofs.Columns.{at_upd}
 use Rattle.mmu_core.proofs.FlatKept.{other_actor, same_actor, told_events}
 use Rattle.mmu_core.proofs.LineEvents.{tells_within}
@@ -84,11 +100,43 @@ answers_behind : (o : Outcome) (line : Line) (actor : Actor) (answers : List Ans
 answers_behind (Goes p) line actor answers own = sym (append-nil answers)
 answers_behind (Ends answer) line actor answers own = rw own refl
 
-begun_behind : (o : Outcome) (line : Line) (n : ℕ) (answers : List AnsweredLine) → Falls n o → begun_count (place_after o) (length (answers_after o line answers)) ≡ suc (length answers)
-begun_behind (Goes place.Between) line n answers falls = absurd falls.0
-begun_behind (Goes (place.Access p)) line n answers falls = refl
-begun_behind (Goes (place.SetSlot p)) line n answers falls = refl
-begun_behind (Ends answer) line n answers falls = count_push answers (record { number = line.number; actor = line.actor; answer = answer })
+-- The line ends, or is under way still.
+abbrev pub StaysUnder : Outcome → Type 0
+StaysUnder (Goes p) = IsUnderWay p
+StaysUnder (Ends answer) = Unit {0}
+
+fault_stays : (next : FaultNext) → StaysUnder (behind_fault next)
+fault_stays (next_of.Goes p) = tt
+fault_stays (next_of.Ends end_of.Installed) = tt
+fault_stays (next_of.Ends end_of.Mmio) = tt
+fault_stays (next_of.Ends end_of.HostFault) = tt
+fault_stays (next_of.Ends end_of.Starved) = tt
+fault_stays (next_of.Ends (end_of.Retry cause)) = tt
+
+access_stays : (p : AccessPlace) (h : Held) (gfn : ℕ) (op : Op) (v : ℕ) → StaysUnder (access_outcome p h gfn op v)
+access_stays (access.Leave (leaving.Reached frame value)) h gfn op v = tt
+access_stays (access.Fault p) h gfn op v = fault_stays (fault_next p h.state.sizes gfn (is_write op) h.topics v)
+access_stays _ h gfn op v = tt
+
+setting_stays : (p : SetSlotPlace) → StaysUnder (set_slot_outcome p)
+setting_stays (Refuse refusal) = tt
+setting_stays (Fill field.Base) = tt
+setting_stays (Fill field.Pages) = tt
+setting_stays (Fill field.Host) = tt
+setting_stays (Fill field.Flags) = tt
+
+pub stays_under : (p : Place) (command : Command) (h : Held) (v : ℕ) → IsUnderWay p → StaysUnder (outcome_at p command h v)
+stays_under (place.Access p) (Access gfn word op) h v under = access_stays p h gfn op v
+stays_under (place.SetSlot p) (SetSlot id slot) h v under = setting_stays p
+stays_under (place.Access p) (SetSlot id slot) h v under = tt
+stays_under (place.SetSlot p) (Access gfn word op) h v under = tt
+stays_under place.Between command h v under = absurd under
+
+begun_behind : (o : Outcome) (line : Line) (answers : List AnsweredLine) → StaysUnder o → begun_count (place_after o) (length (answers_after o line answers)) ≡ suc (length answers)
+begun_behind (Goes place.Between) line answers under = absurd under
+begun_behind (Goes (place.Access p)) line answers under = refl
+begun_behind (Goes (place.SetSlot p)) line answers under = refl
+begun_behind (Ends answer) line answers under = count_push answers (record { number = line.number; actor = line.actor; answer = answer })
 
 take_next : (lines : List Line) (n : ℕ) → n < length lines → take (suc n) lines ≡ take n lines ++ unwrap_or (slice_get lines n) no_line ∷ []
 take_next [] n lt = absurd (omega arith)
@@ -112,24 +160,24 @@ numbers_behind (Ends answer) line lines answers lt is numbers =
 -- each hand behind a step of an actor
 module _ (z : Sizes) (v : View) (a : ℕ) (line : Line) (p : Place) where
   abbrev found : ℕ
-  found = answer_in (task_at p line.command (v.hand a).state) v.words
+  found = answer_in (task_at p line.command (v.hand a)) v.words
 
   abbrev outcome : Outcome
-  outcome = outcome_at p line.command (v.hand a).state found
+  outcome = outcome_at p line.command (v.hand a) found
 
   step_answers : answers_of (told_events v a line line.command p) ≡ answered_with (v.hand a).state.actor line outcome
-  step_answers = answers_told (v.hand a).state.actor (v.hand a).state.place line (tells_at p line.command (v.hand a).state found) outcome (tells_within p line.command (v.hand a).state found)
+  step_answers = answers_told (v.hand a).state.actor (v.hand a).state.place line (tells_at p line.command (v.hand a) found) outcome (tells_within p line.command (v.hand a) found)
 
   step_begins : lines_begun (told_events v a line line.command p) ≡ begun_from (v.hand a).state.place line
-  step_begins = begins_told (v.hand a).state.actor (v.hand a).state.place line (tells_at p line.command (v.hand a).state found) outcome (tells_within p line.command (v.hand a).state found)
+  step_begins = begins_told (v.hand a).state.actor (v.hand a).state.place line (tells_at p line.command (v.hand a) found) outcome (tells_within p line.command (v.hand a) found)
 
-  own_follows : (n : ℕ) → IsStep z v a line line.command p → Falls n outcome → Follows (v.hand a) (hand_after line line.command p (v.hand a) found) (told_events v a line line.command p)
-  own_follows n S falls = record {
-    actor = same_actor p line.command (v.hand a).state found;
+  own_follows : IsStep z v a line line.command p → Follows (v.hand a) (hand_after line line.command p (v.hand a) found) (told_events v a line line.command p)
+  own_follows S = record {
+    actor = same_actor p line.command (v.hand a) found;
     lines = refl;
     answers = answers_behind outcome line (v.hand a).state.actor (v.hand a).answers S.own
         ∙ ap (λ (xs : List AnsweredLine). (v.hand a).answers ++ xs) (sym (ap (filter (λ (x : AnsweredLine). is_same (v.hand a).state.actor x.actor)) step_answers ∙ own_answers (v.hand a).state.actor line outcome));
-    begun = ap (λ m. take m (v.hand a).lines) (begun_behind outcome line n (v.hand a).answers falls)
+    begun = ap (λ m. take m (v.hand a).lines) (begun_behind outcome line (v.hand a).answers (stays_under p line.command (v.hand a) found S.begun))
         ∙ take_begun (v.hand a).state.place line (v.hand a).lines (length (v.hand a).answers) S.left S.next
         ∙ ap (λ (xs : List Line). take (begun_lines (v.hand a)) (v.hand a).lines ++ xs) (sym (ap (lines_of (v.hand a).state.actor) step_begins ∙ own_begins (v.hand a).state.actor (v.hand a).state.place line S.own));
     numbers = numbers_behind outcome line (v.hand a).lines (v.hand a).answers S.left S.next;
@@ -141,11 +189,11 @@ module _ (z : Sizes) (v : View) (a : ℕ) (line : Line) (p : Place) where
   pub silent_begins : (other : Actor) → line.actor ≡ (v.hand a).state.actor → is_same other (v.hand a).state.actor ≡ false → begun_by other (told_events v a line line.command p) ≡ []
   silent_begins other own apart = ap (lines_of other) step_begins ∙ other_begins other (v.hand a).state.place line (ap (is_same other) own ∙ apart)
 
-  pub view_follows : (n i : ℕ) → IsStep z v a line line.command p → Falls n outcome → Invariant z v → i < actors_of z
+  pub view_follows : (i : ℕ) → IsStep z v a line line.command p → Invariant z v → i < actors_of z
       → Follows (v.hand i) (upd v.hand a (hand_after line line.command p (v.hand a) found) i) (told_events v a line line.command p)
-  view_follows n i S falls I i_in =
+  view_follows i S I i_in =
       at_upd (λ i (g : Held). i < actors_of z → Follows (v.hand i) g (told_events v a line line.command p)) v.hand a (hand_after line line.command p (v.hand a) found)
-      (λ _. own_follows n S falls)
+      (λ _. own_follows S)
       (λ i apart i_in. let other : is_same (v.hand i).state.actor (v.hand a).state.actor ≡ false = other_actor z v i a I i_in S.there (λ e. apart (sym e)) in
       follows_still (v.hand i) (told_events v a line line.command p) (silent_answers (v.hand i).state.actor other) (silent_begins (v.hand i).state.actor S.own other))
       i i_in

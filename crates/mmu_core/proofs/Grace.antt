@@ -1,26 +1,15 @@
 -- Whom a watch has behind it was seen outside, and who comes from outside holds nothing that was loaded before.
 use Rattle.std.proofs.Common.{◌≡◌, ◌≢◌, ◌⊎◌, inl, inr, ◌+◌, ◌<◌, ℕ, List, [], ◌∷◌, length, refl, sym, subst, ap, ◌∙◌, arith}
 use Rattle.std.specs.Prelude.{Bool, true, false, ◌==◌, not, if◌then◌else◌, None}
-use Rattle.std.proofs.Math.Logic.{∥∥₁_elim, ∥∥₁_map}
-use Rattle.std.proofs.Props.{props}
+use Rattle.std.proofs.Math.Logic.{∥∥₁_map}
 use Rattle.std.proofs.lemmas.Bool.Decides.{nat_tests}
 use Rattle.std.proofs.lemmas.List.{get_or-set_other, get_or-set_same}
 use Rattle.core_views.specs.declared.kind.Kind.{Kind}
 use Rattle.core_views.specs.declared.kind.StepKind.TheVariants as kind
-use Rattle.core_views.specs.declared.hand.State.{State}
-use Rattle.core_views.specs.declared.place.AccessPlace.TheVariants as access
-use Rattle.core_views.specs.declared.place.Place.{Place}
-use Rattle.core_views.specs.declared.place.Place.TheVariants as place_of
-use Rattle.core_views.specs.declared.place.SetSlotPlace.TheVariants.{Refuse, Fill}
-use Rattle.core_views.specs.declared.place.SlotField.TheVariants as field
 use Rattle.core_views.specs.declared.sizes.Sizes.{Sizes}
 use Rattle.core_views.specs.declared.topics.Stay.{Stay}
 use Rattle.core_views.specs.declared.topics.Stay.TheVariants.{Outside, Guest, Section}
 use Rattle.core_views.specs.declared.topics.Topics.{Topics}
-use Rattle.core_views.specs.declared.trace.Command.{Command}
-use Rattle.core_views.specs.declared.trace.Command.TheVariants.{Access, SetSlot}
-use Rattle.core_views.specs.declared.trace.Line.{Line}
-use Rattle.core_views.specs.declared.trace.Op.TheVariants.{Read, Write, Add}
 use Rattle.core_views.specs.Held.{Held}
 use Rattle.core_views.specs.Kinds.{code_of}
 use Rattle.core_views.specs.Sizes.{actors_of, index_of}
@@ -29,25 +18,24 @@ use Rattle.spte_words.specs.declared.word_map.WordMap.{WordMap}
 use Rattle.spte_words.specs.Areas.{place, pool_index}
 use Rattle.mmu_core.specs.declared.part_step.PartStep.{PartStep}
 use Rattle.mmu_core.specs.declared.part_step.PartStep.TheVariants as part
-use Rattle.mmu_core.specs.Enabled.{IsNext, IsPartStep, mmu}
+use Rattle.mmu_core.specs.Enabled.{mmu}
 use Rattle.mmu_core.specs.Grace.{BeganEmpty, BeginNoWatch, IsLook, SawOutside, SectionsBeginEmpty, WatchedWasOutside, topics_in}
 use Rattle.mmu_core.specs.Laws.{IsSound}
 use Rattle.mmu_core.specs.Machine.{Legal, May, Step, World, answered, effect, hand_in, run}
-use Rattle.mmu_core.specs.PartSteps.{IsAtRest, PartNeeds, fill_task, next_watched, own_index, part_kind, part_task, works}
+use Rattle.mmu_core.specs.PartSteps.{PartNeeds, fill_task, next_watched, own_index, part_kind, part_task, works}
 use Rattle.mmu_core.specs.PartTopics.{part_topics}
-use Rattle.mmu_core.specs.Steps.{has_line, line_at, next, nobody, place_at, task_at}
+use Rattle.mmu_core.specs.Steps.{next, nobody}
 use Rattle.mmu_core.specs.Tasks.{map_of}
-use Rattle.mmu_core.specs.TopicSteps.{in_section, is_outside, topics_after}
+use Rattle.mmu_core.specs.TopicSteps.{in_section, is_outside}
 use Rattle.mmu_core.specs.View.{word_in}
 use Rattle.mmu_core.specs.Worlds.{Reachable}
 use Rattle.mmu_core.proofs.AloneLaws.{part_found}
 use Rattle.mmu_core.proofs.Columns.{same_or}
 use Rattle.mmu_core.proofs.Extend.{goes_on, hands_of_effect}
-use Rattle.mmu_core.proofs.LineTopicsKept.{RestsStill, rests_after}
+use Rattle.mmu_core.proofs.LineParts.{IsPartKind, IsQuiet, step_kind}
 use Rattle.mmu_core.proofs.NextTopics.{next_topics, topics_behind}
-use Rattle.mmu_core.proofs.Starts.{hand_is, reached_good, start_good}
+use Rattle.mmu_core.proofs.Starts.{hand_is, start_good}
 use Rattle.mmu_core.proofs.StateTells.{word_tells}
-use Rattle.mmu_core.proofs.Which.{is_next, is_part}
 use Rattle.mmu_core.proofs.Worlds.{good_step}
 
 -- the hands behind a step
@@ -58,32 +46,6 @@ hand_here w s there = get_or-set_same w.hands s.actor _ nobody there
 hand_there : (w : World Held) (s : Step Kind) (i : ℕ) → i ≢ s.actor → hand_in mmu (effect mmu w s) i ≡ hand_in mmu w i
 unfolding effect
 hand_there w s i ne = get_or-set_other w.hands s.actor i _ nobody ne
-
--- A step of a line leaves its hand at rest.
-line_keeps : (h : Held) (k : Kind) (v : ℕ) → IsNext h k → IsAtRest h.topics → RestsStill h.topics (next h k v).topics
-line_keeps h k v N R =
-    let line : Line = line_at h.state.place h in
-    subst (RestsStill h.topics) (sym (next_topics h k v ∙ ap (λ y. topics_after h.state.sizes y h.topics v) N.is)) (rests_after line line.command (place_at h.state.place h) h v R)
-
--- A step of a line is no look at a state word.
-line_code : (p : Place) (command : Command) (s : State) → code_of (task_at p command s).kind ≢ code_of kind.Watch
-line_code place_of.Between (Access gfn word op) s = λ e. absurd (omega (arith, e))
-line_code place_of.Between (SetSlot id slot) s = λ e. absurd (omega (arith, e))
-line_code (place_of.Access access.Slots) (Access gfn word op) s = λ e. absurd (omega (arith, e))
-line_code (place_of.Access (access.Slot id f)) (Access gfn word op) s = λ e. absurd (omega (arith, e))
-line_code (place_of.Access access.Walk) (Access gfn word op) s = λ e. absurd (omega (arith, e))
-line_code (place_of.Access access.Host) (Access gfn word op) s = λ e. absurd (omega (arith, e))
-line_code (place_of.Access access.Install) (Access gfn word op) s = λ e. absurd (omega (arith, e))
-line_code (place_of.Access access.Touch) (Access gfn word Read) s = λ e. absurd (omega (arith, e))
-line_code (place_of.Access access.Touch) (Access gfn word (Write x)) s = λ e. absurd (omega (arith, e))
-line_code (place_of.Access access.Touch) (Access gfn word (Add x)) s = λ e. absurd (omega (arith, e))
-line_code (place_of.Access p) (SetSlot id slot) s = λ e. absurd (omega (arith, e))
-line_code (place_of.SetSlot p) (Access gfn word op) s = λ e. absurd (omega (arith, e))
-line_code (place_of.SetSlot (Refuse refusal)) (SetSlot id slot) s = λ e. absurd (omega (arith, e))
-line_code (place_of.SetSlot (Fill field.Base)) (SetSlot id slot) s = λ e. absurd (omega (arith, e))
-line_code (place_of.SetSlot (Fill field.Pages)) (SetSlot id slot) s = λ e. absurd (omega (arith, e))
-line_code (place_of.SetSlot (Fill field.Host)) (SetSlot id slot) s = λ e. absurd (omega (arith, e))
-line_code (place_of.SetSlot (Fill field.Flags)) (SetSlot id slot) s = λ e. absurd (omega (arith, e))
 
 -- A step of a part that is no look leaves the place of the watch.
 record IsNoLook (step : PartStep) : Type 0 where
@@ -179,7 +141,7 @@ watch_look z w s i j note G may is N ne lt = by (in_section found) refl (same_or
     by false clear (inr other) = let u = watched ∙ ap (λ b. j + (if b then 0 else 1)) clear in let less : i < j = omega (arith, u, lt, other) in inr (below less, no_first less)
 
 own_look : (z : Sizes) (w : World Held) (s : Step Kind) (i : ℕ) → IsSound z w → May mmu w s → OneLook z w s s.actor i
-own_look z w s i G may ne lt = by (has_line h) refl
+own_look z w s i G may ne lt = by (step_kind h s.kind may.enabled)
   where
     h : Held
     h = hand_in mmu w s.actor
@@ -187,7 +149,7 @@ own_look z w s i G may ne lt = by (has_line h) refl
     behind : hand_in mmu (effect mmu w s) s.actor ≡ next h s.kind (answered mmu w s.kind)
     behind = hand_here w s may.there
 
-    part_look : (N : IsPartStep h s.kind) → (((index : ℕ) × (N.step ≡ part.Watch index)) ⊎ IsNoLook N.step)
+    part_look : (N : IsPartKind h s.kind) → (((index : ℕ) × (N.step ≡ part.Watch index)) ⊎ IsNoLook N.step)
         → (IsLook z s.actor i s × ((topics_in w i).stay ≡ Outside)) ⊎ ((i < h.topics.watched) × (IsLook z s.actor (next_watched s.actor 0) s → ⊥))
     part_look N (inl (j, e)) = watch_look z w s i j N.note G may (N.is ∙ ap (λ x. part_kind h x N.note) e) (subst (λ x. PartNeeds x h) e N.needs) ne lt
     part_look N (inr no_look) =
@@ -198,16 +160,11 @@ own_look z w s i G may ne lt = by (has_line h) refl
           λ L. no_look.code (own_index h) N.note h.topics (sym (ap (λ (k : Kind). k.code) N.is) ∙ L.watch),
         )
 
-    by : (b : Bool) → has_line h ≡ b → (IsLook z s.actor i s × ((topics_in w i).stay ≡ Outside)) ⊎ ((i < h.topics.watched) × (IsLook z s.actor (next_watched s.actor 0) s → ⊥))
-    by true has =
-        let N = is_next h s.kind may.enabled has in
-        let rests = G.topics.resting s.actor (subst (λ n. s.actor < n) G.hands may.there) has in
-        let kept = line_keeps h s.kind (answered mmu w s.kind) N rests in
-        inr (
-          subst (λ n. i < n) (ap (λ (x : Held). x.topics.watched) behind ∙ kept.watched) lt,
-          λ L. line_code (place_at h.state.place h) (line_at h.state.place h).command h.state (sym (ap (λ (k : Kind). k.code) N.is) ∙ L.watch),
-        )
-    by false none = let N = is_part h s.kind may.enabled none in part_look N (look_or_not N.step)
+    by : IsPartKind h s.kind ⊎ IsQuiet h.state.sizes h.topics s.kind → (IsLook z s.actor i s × ((topics_in w i).stay ≡ Outside)) ⊎ ((i < h.topics.watched) × (IsLook z s.actor (next_watched s.actor 0) s → ⊥))
+    by (inl N) = part_look N (look_or_not N.step)
+    by (inr Q) =
+        let v = answered mmu w s.kind in
+        inr (subst (λ n. i < n) (ap (λ (x : Held). x.topics.watched) behind ∙ ap (λ (t : Topics). t.watched) (next_topics h s.kind v) ∙ Q.watched v) lt, λ L. Q.code L.watch)
 
 one_look : (z : Sizes) (w : World Held) (s : Step Kind) (a i : ℕ) → IsSound z w → May mmu w s → OneLook z w s a i
 one_look z w s a i G may = by (same_or a s.actor)
@@ -251,39 +208,31 @@ part_comes part.Leave t v out = inl refl
 part_comes part.End t v out = inl refl
 part_comes _ t v out = inl out
 
--- A step of a line leaves its actor outside.
-line_stays : (w : World Held) (s : Step Kind) → ∥ Reachable w ∥₁ → May mmu w s → has_line (hand_in mmu w s.actor) ≡ true → (topics_in w s.actor).stay ≡ Outside → (topics_in (effect mmu w s) s.actor).stay ≡ Outside
-line_stays w s reached may has out = ∥∥₁_elim reached (hlevel props) (λ r.
-    let h = hand_in mmu w s.actor in
-    let G = reached_good w r in
-    let rests = G.topics.resting s.actor (subst (λ n. s.actor < n) G.hands may.there) has in
-    let kept = line_keeps h s.kind (answered mmu w s.kind) (is_next h s.kind may.enabled has) rests in
-    ap (λ (x : Held). x.topics.stay) (hand_here w s may.there) ∙ kept.stay ∙ out)
-
-own_comes : (w : World Held) (s : Step Kind) → ∥ Reachable w ∥₁ → May mmu w s → (topics_in w s.actor).stay ≡ Outside
+own_comes : (w : World Held) (s : Step Kind) → May mmu w s → (topics_in w s.actor).stay ≡ Outside
     → ((topics_in (effect mmu w s) s.actor).stay ≡ Outside) ⊎ IsEmptyInside (topics_in (effect mmu w s) s.actor)
-own_comes w s reached may out = by (has_line h) refl
+own_comes w s may out = by (step_kind h s.kind may.enabled)
   where
     h : Held
     h = hand_in mmu w s.actor
 
-    by : (b : Bool) → has_line h ≡ b → ((topics_in (effect mmu w s) s.actor).stay ≡ Outside) ⊎ IsEmptyInside (topics_in (effect mmu w s) s.actor)
-    by true has = inl (line_stays w s reached may has out)
-    by false none =
-        let N = is_part h s.kind may.enabled none in
-        let v = answered mmu w s.kind in
+    v : ℕ
+    v = answered mmu w s.kind
+
+    by : IsPartKind h s.kind ⊎ IsQuiet h.state.sizes h.topics s.kind → ((topics_in (effect mmu w s) s.actor).stay ≡ Outside) ⊎ IsEmptyInside (topics_in (effect mmu w s) s.actor)
+    by (inl N) =
         let topics : (topics_in (effect mmu w s) s.actor) ≡ part_topics N.step h.topics v = ap (λ (x : Held). x.topics) (hand_here w s may.there) ∙ ap (λ (k : Kind). (next h k v).topics) N.is ∙ topics_behind h N.step N.note v N.needs in
         subst (λ t. (t.stay ≡ Outside) ⊎ IsEmptyInside t) (sym topics) (part_comes N.step h.topics v out)
+    by (inr Q) = inl (ap (λ (x : Held). x.topics.stay) (hand_here w s may.there) ∙ ap (λ (t : Topics). t.stay) (next_topics h s.kind v) ∙ Q.stay v ∙ out)
 
 -- An actor that was outside is so behind a step, or this step is its own, and it holds nothing inside.
 abbrev Comes : World Held → Step Kind → ℕ → Type 0
 Comes w s i = (topics_in w i).stay ≡ Outside → ((topics_in (effect mmu w s) i).stay ≡ Outside) ⊎ ((s.actor ≡ i) × IsEmptyInside (topics_in (effect mmu w s) i))
 
-comes : (w : World Held) (s : Step Kind) (i : ℕ) → ∥ Reachable w ∥₁ → May mmu w s → Comes w s i
-comes w s i reached may = by (same_or i s.actor)
+comes : (w : World Held) (s : Step Kind) (i : ℕ) → May mmu w s → Comes w s i
+comes w s i may = by (same_or i s.actor)
   where
     own : Comes w s s.actor
-    own out = or (own_comes w s reached may out)
+    own out = or (own_comes w s may out)
       where
         or : ((topics_in (effect mmu w s) s.actor).stay ≡ Outside) ⊎ IsEmptyInside (topics_in (effect mmu w s) s.actor) → ((topics_in (effect mmu w s) s.actor).stay ≡ Outside) ⊎ ((s.actor ≡ s.actor) × IsEmptyInside (topics_in (effect mmu w s) s.actor))
         or (inl still) = inl still
@@ -299,7 +248,7 @@ reached_behind w s may reached = ∥∥₁_map reached (λ r. record { sizes = r
 pub sections_begin_empty : SectionsBeginEmpty
 sections_begin_empty w [] i reached legal there out inside = absurd (inside out)
 sections_begin_empty w (s ∷ ss) i reached legal there out inside =
-    by (λ still. sections_begin_empty (effect mmu w s) ss i (reached_behind w s legal.0 reached) legal.1 (subst (λ n. i < n) (sym (hands_of_effect mmu w s)) there) still inside) (comes w s i reached legal.0 out)
+    by (λ still. sections_begin_empty (effect mmu w s) ss i (reached_behind w s legal.0 reached) legal.1 (subst (λ n. i < n) (sym (hands_of_effect mmu w s)) there) still inside) (comes w s i legal.0 out)
   where
     by : ((topics_in (effect mmu w s) i).stay ≡ Outside → BeganEmpty (effect mmu w s) i ss) → ((topics_in (effect mmu w s) i).stay ≡ Outside) ⊎ ((s.actor ≡ i) × IsEmptyInside (topics_in (effect mmu w s) i)) → BeganEmpty w i (s ∷ ss)
     by later (inl still) =

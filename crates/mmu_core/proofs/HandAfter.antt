@@ -4,68 +4,111 @@ use Rattle.std.specs.Prelude.{Bool, true, false}
 use Rattle.core_views.specs.declared.hand.State.{State}
 use Rattle.core_views.specs.declared.kind.Kind.{Kind}
 use Rattle.core_views.specs.declared.place.AccessPlace.{AccessPlace}
-use Rattle.core_views.specs.declared.place.AccessPlace.TheVariants.{Slots, Slot, Walk, Host, Install, Touch}
+use Rattle.core_views.specs.declared.place.AccessPlace.TheVariants.{Enter, Pause, Root, Walk, Touch, Leave, Fault}
+use Rattle.core_views.specs.declared.place.FaultEnd.{FaultEnd}
+use Rattle.core_views.specs.declared.place.FaultEnd.TheVariants as end_of
+use Rattle.core_views.specs.declared.place.FaultNext.{FaultNext}
+use Rattle.core_views.specs.declared.place.FaultNext.TheVariants as next_of
+use Rattle.core_views.specs.declared.place.Leaving.TheVariants as leaving
 use Rattle.core_views.specs.declared.place.Place.{Place}
 use Rattle.core_views.specs.declared.place.Place.TheVariants as place
+use Rattle.core_views.specs.declared.place.SetSlotPlace.{SetSlotPlace}
+use Rattle.core_views.specs.declared.place.SetSlotPlace.TheVariants.{Refuse, Fill}
 use Rattle.core_views.specs.declared.place.SlotField.TheVariants as field
 use Rattle.core_views.specs.declared.trace.Command.{Command}
 use Rattle.core_views.specs.declared.trace.Command.TheVariants.{Access, SetSlot}
 use Rattle.core_views.specs.declared.trace.Line.{Line}
+use Rattle.core_views.specs.declared.trace.Op.{Op}
 use Rattle.core_views.specs.Held.{Held}
+use Rattle.core_views.specs.Slots.{is_write}
 use Rattle.mmu_core.specs.declared.outcome.Outcome.{Outcome}
 use Rattle.mmu_core.specs.declared.outcome.Outcome.TheVariants.{Goes, Ends}
-use Rattle.mmu_core.specs.AccessSteps.{access_loads}
-use Rattle.mmu_core.specs.Bounds.{steps_left}
-use Rattle.mmu_core.specs.Enabled.{Enabled}
-use Rattle.mmu_core.specs.Steps.{has_line, held_after, line_at, loads_at, next, next_by, place_at}
-use Rattle.mmu_core.proofs.Which.{has_line_is, is_next, next_of_line}
+use Rattle.mmu_core.specs.AccessSteps.{access_loads, access_outcome, behind_fault, fault_over}
+use Rattle.mmu_core.specs.FaultSteps.{fault_next}
+use Rattle.mmu_core.specs.Rests.{IsUnderWay}
+use Rattle.mmu_core.specs.SetSlotSteps.{set_slot_outcome}
+use Rattle.mmu_core.specs.Steps.{has_line, held_after, line_at, loads_at, next, next_by, outcome_at, place_at}
+use Rattle.mmu_core.proofs.Stepping.{is_begun}
+use Rattle.mmu_core.proofs.Which.{has_line_is, next_of_line}
 use Rattle.mmu_core.specs.Tasks.{answers_after, place_after}
 use Rattle.mmu_core.specs.Turns.{Comes, IsSameHand, line_of, outcome_of}
-use Rattle.mmu_core.proofs.Bounded.{Falls, step_falls}
 
 -- What a step loads is of no other actor and of no other machine.
-record IsSameState (before after : State) : Type 0 where
-  actor : after.actor ≡ before.actor
-  sizes : after.sizes ≡ before.sizes
+pub record IsSameState (before after : State) : Type 0 where
+  pub actor : after.actor ≡ before.actor
+  pub sizes : after.sizes ≡ before.sizes
 
-access_same : (p : AccessPlace) (s : State) (v : ℕ) → IsSameState s (access_loads p s v)
-access_same Slots s v = record { actor = refl; sizes = refl }
-access_same (Slot id field.Flags) s v = record { actor = refl; sizes = refl }
-access_same (Slot id field.Base) s v = record { actor = refl; sizes = refl }
-access_same (Slot id field.Pages) s v = record { actor = refl; sizes = refl }
-access_same (Slot id field.Host) s v = record { actor = refl; sizes = refl }
-access_same Walk s v = record { actor = refl; sizes = refl }
-access_same Host s v = record { actor = refl; sizes = refl }
-access_same Install s v = record { actor = refl; sizes = refl }
-access_same Touch s v = record { actor = refl; sizes = refl }
+access_same : (p : AccessPlace) (h : Held) (gfn : ℕ) (op : Op) (v : ℕ) → IsSameState h.state (access_loads p h gfn op v)
+access_same (Enter again) h gfn op v = record { actor = refl; sizes = refl }
+access_same (Pause again) h gfn op v = record { actor = refl; sizes = refl }
+access_same (Root again) h gfn op v = record { actor = refl; sizes = refl }
+access_same (Walk again) h gfn op v = record { actor = refl; sizes = refl }
+access_same Touch h gfn op v = record { actor = refl; sizes = refl }
+access_same (Leave how) h gfn op v = record { actor = refl; sizes = refl }
+access_same (Fault p) h gfn op v = record { actor = refl; sizes = refl }
 
-loads_same : (p : Place) (command : Command) (s : State) (v : ℕ) → IsSameState s (loads_at p command s v)
-loads_same (place.Access p) (Access gfn word op) s v = access_same p s v
-loads_same (place.SetSlot p) (SetSlot id slot) s v = record { actor = refl; sizes = refl }
-loads_same (place.Access p) (SetSlot id slot) s v = record { actor = refl; sizes = refl }
-loads_same (place.SetSlot p) (Access gfn word op) s v = record { actor = refl; sizes = refl }
-loads_same place.Between command s v = record { actor = refl; sizes = refl }
+pub loads_same : (p : Place) (command : Command) (h : Held) (v : ℕ) → IsSameState h.state (loads_at p command h v)
+loads_same (place.Access p) (Access gfn word op) h v = access_same p h gfn op v
+loads_same (place.SetSlot p) (SetSlot id slot) h v = record { actor = refl; sizes = refl }
+loads_same (place.Access p) (SetSlot id slot) h v = record { actor = refl; sizes = refl }
+loads_same (place.SetSlot p) (Access gfn word op) h v = record { actor = refl; sizes = refl }
+loads_same place.Between command h v = record { actor = refl; sizes = refl }
 
 pub next_same : (h : Held) (k : Kind) (v : ℕ) → IsSameHand h (next h k v)
 unfolding next
 next_same h k v = by (has_line h)
   where
     by : (b : Bool) → IsSameHand h (next_by b h k v)
-    by true = let same = loads_same (place_at h.state.place h) (line_of h).command h.state v in record { actor = same.actor; sizes = same.sizes; lines = refl }
+    by true = let same = loads_same (place_at h.state.place h) (line_of h).command h v in record { actor = same.actor; sizes = same.sizes; lines = refl }
     by false = record { actor = refl; sizes = refl; lines = refl }
 
-comes : (o : Outcome) (line : Line) (h g : Held) → Falls (steps_left h.state.place) o → g.state.place ≡ place_after o → g.state.line ≡ line → g.answers ≡ answers_after o line h.answers → Comes o line h g
-comes (Goes p) line h g falls stands line_is answers = record {
-  under_way = rw stands falls.0;
-  line_is = line_is;
-  answers = answers;
-  nearer = rw stands falls.1;
-}
-comes (Ends answer) line h g falls stands line_is answers = record { between = stands; answers = answers }
+-- A line that has begun goes on to a place where it is under way, or is answered.
+abbrev GoesUnderWay : Outcome → Type 0
+GoesUnderWay (Goes p) = IsUnderWay p
+GoesUnderWay (Ends answer) = Unit {0}
 
-pub next_comes : (h : Held) (k : Kind) (v : ℕ) → length h.answers < length h.lines → Enabled h k → Comes (outcome_of h v) (line_of h) h (next h k v)
-next_comes h k v left enabled =
+fault_over_goes : (e : FaultEnd) → GoesUnderWay (fault_over e)
+fault_over_goes end_of.Installed = tt
+fault_over_goes end_of.Mmio = tt
+fault_over_goes end_of.HostFault = tt
+fault_over_goes end_of.Starved = tt
+fault_over_goes (end_of.Retry cause) = tt
+
+fault_goes : (n : FaultNext) → GoesUnderWay (behind_fault n)
+fault_goes (next_of.Goes p) = tt
+fault_goes (next_of.Ends e) = fault_over_goes e
+
+access_goes : (p : AccessPlace) (h : Held) (gfn : ℕ) (op : Op) (v : ℕ) → GoesUnderWay (access_outcome p h gfn op v)
+access_goes (Enter again) h gfn op v = tt
+access_goes (Pause again) h gfn op v = tt
+access_goes (Root again) h gfn op v = tt
+access_goes (Walk again) h gfn op v = tt
+access_goes Touch h gfn op v = tt
+access_goes (Leave (leaving.Reached frame value)) h gfn op v = tt
+access_goes (Leave leaving.Faults) h gfn op v = tt
+access_goes (Fault p) h gfn op v = fault_goes (fault_next p h.state.sizes gfn (is_write op) h.topics v)
+
+set_slot_goes : (p : SetSlotPlace) → GoesUnderWay (set_slot_outcome p)
+set_slot_goes (Refuse refusal) = tt
+set_slot_goes (Fill field.Base) = tt
+set_slot_goes (Fill field.Pages) = tt
+set_slot_goes (Fill field.Host) = tt
+set_slot_goes (Fill field.Flags) = tt
+
+outcome_goes : (p : Place) (command : Command) (h : Held) (v : ℕ) → IsUnderWay p → GoesUnderWay (outcome_at p command h v)
+outcome_goes place.Between command h v begun = absurd begun
+outcome_goes (place.Access p) (Access gfn word op) h v begun = access_goes p h gfn op v
+outcome_goes (place.Access p) (SetSlot id slot) h v begun = tt
+outcome_goes (place.SetSlot p) (Access gfn word op) h v begun = tt
+outcome_goes (place.SetSlot p) (SetSlot id slot) h v begun = set_slot_goes p
+
+comes : (o : Outcome) (line : Line) (h g : Held) → GoesUnderWay o → g.state.place ≡ place_after o → g.state.line ≡ line → g.answers ≡ answers_after o line h.answers → Comes o line h g
+comes (Goes p) line h g goes stands line_is answers = record { under_way = rw stands goes; line_is = line_is; answers = answers }
+comes (Ends answer) line h g goes stands line_is answers = record { between = stands; answers = answers }
+
+pub next_comes : (h : Held) (k : Kind) (v : ℕ) → length h.answers < length h.lines → Comes (outcome_of h v) (line_of h) h (next h k v)
+next_comes h k v left =
     let has = has_line_is h left in
-    let N = is_next h k enabled has in
     subst (Comes (outcome_of h v) (line_of h) h) (sym (next_of_line h k v has))
-    (comes (outcome_of h v) (line_of h) h (held_after (line_at h.state.place h) (place_at h.state.place h) h k v) (step_falls h.state.place h.state.sizes h.slots (line_of h).command h.state v N.rests.at) refl refl refl)
+    (comes (outcome_of h v) (line_of h) h (held_after (line_at h.state.place h) (place_at h.state.place h) h k v)
+    (outcome_goes (place_at h.state.place h) (line_of h).command h v (is_begun h.state.place h.state.sizes h.slots (line_of h).command)) refl refl refl)

@@ -25,9 +25,8 @@ use Rattle.spte_words.specs.Flags.{flags_live}
 use Rattle.mmu_core.specs.declared.part_step.PartStep.{PartStep}
 use Rattle.mmu_core.specs.declared.part_step.PartStep.TheVariants as part
 use Rattle.mmu_core.specs.HeldPart.{CountersPart, HeldPart}
-use Rattle.mmu_core.specs.PartSteps.{IsAtRest, IsOver, entry_index, leaf_written, link_written, page_owned, table_page, words_filled}
+use Rattle.mmu_core.specs.PartSteps.{IsOver, entry_index, leaf_written, link_written, page_owned, table_page, words_filled}
 use Rattle.mmu_core.specs.PartTopics.{exchanged}
-use Rattle.mmu_core.specs.Steps.{has_line}
 use Rattle.mmu_core.specs.TopicsInvariant.{TopicsInvariant}
 use Rattle.mmu_core.specs.TopicSteps.{at_root, at_set, gone_down, has_writer, in_section, is_loose, is_won, begun, kept_search, let_go, linked_page, may_search, may_walk, searched, searched_at, swapped, unchecked}
 use Rattle.mmu_core.specs.TreePart.{EntryPart, Position, at}
@@ -44,9 +43,6 @@ HeldAt z stands v = (i : ℕ) → i < actors_of z → HeldPart (v.words area.Slo
 
 abbrev pub CountersAt : Sizes → View → Type 0
 CountersAt z v = (i : ℕ) → i < actors_of z → CountersPart z (v.hand i).topics
-
-abbrev pub RestingAt : Sizes → View → Type 0
-RestingAt z v = (i : ℕ) → i < actors_of z → has_line (v.hand i) ≡ true → IsAtRest (v.hand i).topics
 
 -- ---- A table that stands somewhere stands there behind each step.
 
@@ -457,11 +453,3 @@ counters_behind z v a note _ = λ S I. all_count z v a _ I (same_counts z (v.han
 
 pub counters_kept : (z : Sizes) (v : View) (a : ℕ) (step : PartStep) (note : ℕ) → IsPart z v a step → TopicsInvariant z v → CountersAt z (part_stepped a step note v)
 counters_kept z v a step note S I = behind_step (CountersAt z) z v a step note S (counters_behind z v a note step S I)
-
--- Who has a line is at rest: the actor of the step has none.
-pub resting_kept : (z : Sizes) (v : View) (a : ℕ) (step : PartStep) (note : ℕ) → IsPart z v a step → TopicsInvariant z v → RestingAt z (part_stepped a step note v)
-resting_kept z v a step note S I =
-    at_upd (λ i (k : Held). i < actors_of z → has_line k ≡ true → IsAtRest k.topics) v.hand a _ (λ lt has. absurd (idle S.idle has)) (λ i ne. I.resting i)
-  where
-    idle : has_line (v.hand a) ≡ false → has_line (v.hand a) ≡ true → ⊥
-    idle none has = cc

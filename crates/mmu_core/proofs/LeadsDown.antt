@@ -19,11 +19,11 @@ use Rattle.mmu_core.specs.TreePart.{IsLinked, Position, TreePart, at}
 use Rattle.mmu_core.specs.View.{word_in}
 use Rattle.mmu_core.proofs.TreeStored.{one_position}
 
-same_page : {k l : ℕ} → Some k ≡ Some l → k ≡ l
+pub same_page : {k l : ℕ} → Some k ≡ Some l → k ≡ l
 same_page e = cc e
 
 -- the run of a guest frame, one level up
-run_above : (gfn level : ℕ) → 1 ≤ level → gfn / level_span level / 512 ≡ gfn / level_span (level + 1)
+pub run_above : (gfn level : ℕ) → 1 ≤ level → gfn / level_span level / 512 ≡ gfn / level_span (level + 1)
 run_above gfn level from = div-div-eq-div-mul gfn (level_span level) 512 ∙ ap (λ n. gfn / n) (let up = span_above level from in omega (arith, up))
 
 module _ (pages root set : ℕ) (role pool host : ℕ → ℕ) (stands : ℕ → Option Position) (T : TreePart pages root set role pool host stands) (few : pages ≤ 2 ^ 32) (gfn entry : ℕ) where

@@ -1,16 +1,16 @@
 -- What the steps of one line tell, one behind the other: its begin, events of its own, its answer.
 use Rattle.std.proofs.Common.{◌≡◌, ℕ, List, [], ◌∷◌, ◌++◌, map, refl, sym, ap, ◌∙◌, subst, append_assoc}
-use Rattle.std.specs.Prelude.{true}
+use Rattle.std.specs.Prelude.{Bool, true, false, if◌then◌else◌}
 use Rattle.std.proofs.lemmas.List.{append-nil, map-append}
 use Rattle.core_views.specs.declared.actor.Actor.{Actor}
 use Rattle.core_views.specs.declared.answer.Answer.{Answer}
 use Rattle.core_views.specs.declared.answer.AnsweredLine.{AnsweredLine}
 use Rattle.core_views.specs.declared.event.Event.{Event}
 use Rattle.core_views.specs.declared.event.EventKind.{EventKind}
-use Rattle.core_views.specs.declared.event.EventKind.TheVariants.{Begun, LookedAtSlots, Accessed, Exited, SlotChanged, Answered}
-use Rattle.core_views.specs.declared.hand.State.{State}
+use Rattle.core_views.specs.declared.event.EventKind.TheVariants.{Begun, LookedAtSlots, LookedAtHost, Accessed, Exited, SlotChanged, Answered}
 use Rattle.core_views.specs.declared.place.AccessPlace.{AccessPlace}
-use Rattle.core_views.specs.declared.place.AccessPlace.TheVariants.{Slots, Slot, Walk, Host, Install, Touch}
+use Rattle.core_views.specs.declared.place.AccessPlace.TheVariants.{Touch, Fault}
+use Rattle.core_views.specs.declared.place.FaultPlace.TheVariants as fault
 use Rattle.core_views.specs.declared.place.Place.{Place}
 use Rattle.core_views.specs.declared.place.Place.TheVariants as place
 use Rattle.core_views.specs.declared.place.SetSlotPlace.{SetSlotPlace}
@@ -30,7 +30,7 @@ use Rattle.core_views.proofs.StandsAlone.{one_stands, within_append}
 use Rattle.core_views.proofs.Texts.{answers_append}
 use Rattle.mmu_core.specs.declared.outcome.Outcome.{Outcome}
 use Rattle.mmu_core.specs.declared.outcome.Outcome.TheVariants.{Goes, Ends}
-use Rattle.mmu_core.specs.AccessSteps.{access_outcome, access_tells, exiting}
+use Rattle.mmu_core.specs.AccessSteps.{access_tells, exiting, fault_over}
 use Rattle.mmu_core.specs.SetSlotSteps.{set_slot_tells}
 use Rattle.mmu_core.proofs.Which.{events_of_line}
 use Rattle.mmu_core.specs.Steps.{beginning, event_kinds, events_of, has_line, line_at, outcome_at, place_at, tells_at}
@@ -45,13 +45,16 @@ exit_within : (o : Outcome) → AllWithin (exiting o)
 exit_within (Goes p) = tt
 exit_within (Ends answer) = (tt, tt)
 
-access_within : (p : AccessPlace) (s : State) (gfn word : ℕ) (op : Op) (v : ℕ) → AllWithin (access_tells p s gfn word op v)
-access_within Slots s gfn word op v = (tt, tt)
-access_within (Slot id field) s gfn word op v = exit_within (access_outcome (Slot id field) s gfn op v)
-access_within Walk s gfn word op v = tt
-access_within Host s gfn word op v = tt
-access_within Install s gfn word op v = tt
-access_within Touch s gfn word op v = (tt, tt)
+look_within : (begun : Bool) → AllWithin (if begun then [] else LookedAtSlots ∷ [])
+look_within true = tt
+look_within false = (tt, tt)
+
+access_within : (p : AccessPlace) (h : Held) (gfn word : ℕ) (op : Op) (v : ℕ) → AllWithin (access_tells p h gfn word op v)
+access_within Touch h gfn word op v = (tt, tt)
+access_within (Fault (fault.Find begun)) h gfn word op v = look_within begun
+access_within (Fault fault.Host) h gfn word op v = (tt, tt)
+access_within (Fault (fault.End e)) h gfn word op v = exit_within (fault_over e)
+access_within _ h gfn word op v = tt
 
 set_slot_within : (p : SetSlotPlace) (id : ℕ) (slot : slots.Slot) → AllWithin (set_slot_tells p id slot)
 set_slot_within (Refuse refusal) id slot = tt
@@ -61,12 +64,12 @@ set_slot_within (Fill field.Host) id slot = tt
 set_slot_within (Fill Flags) id slot = (tt, tt)
 
 -- Besides its begin and its answer, a line tells only events that stand within it: a clause for each form of line.
-pub tells_within : (p : Place) (command : Command) (s : State) (v : ℕ) → AllWithin (tells_at p command s v)
-tells_within (place.Access p) (Access gfn word op) s v = access_within p s gfn word op v
-tells_within (place.SetSlot p) (SetSlot id slot) s v = set_slot_within p id slot
-tells_within (place.Access p) (SetSlot id slot) s v = tt
-tells_within (place.SetSlot p) (Access gfn word op) s v = tt
-tells_within place.Between command s v = tt
+pub tells_within : (p : Place) (command : Command) (h : Held) (v : ℕ) → AllWithin (tells_at p command h v)
+tells_within (place.Access p) (Access gfn word op) h v = access_within p h gfn word op v
+tells_within (place.SetSlot p) (SetSlot id slot) h v = set_slot_within p id slot
+tells_within (place.Access p) (SetSlot id slot) h v = tt
+tells_within (place.SetSlot p) (Access gfn word op) h v = tt
+tells_within place.Between command h v = tt
 
 abbrev told_by : Line → List EventKind → List Event
 told_by line kinds = map (λ kind. by line kind) kinds
@@ -112,6 +115,7 @@ tells_more (place.SetSlot p) line h kinds all so_far = opens line h kinds all so
 kind_answers : (actor : Actor) (kind : EventKind) (rest : List AnsweredLine) → IsWithin kind → or_answered actor kind rest ≡ rest
 kind_answers actor (Begun other) rest within = absurd within
 kind_answers actor LookedAtSlots rest within = refl
+kind_answers actor (LookedAtHost page) rest within = refl
 kind_answers actor (Accessed gfn word op frame before) rest within = refl
 kind_answers actor (Exited answer) rest within = refl
 kind_answers actor (SlotChanged id slot) rest within = refl
@@ -159,15 +163,15 @@ abbrev told_as : Actor → Place → Line → Place → Held → ℕ → List Ev
 told_as actor stood line p hand v = map (λ kind. record { actor = actor; kind = kind }) (event_kinds stood line p hand v)
 
 step_tells_at : (stood : Place) (line other : Line) (actor : Actor) (p : Place) (hand : Held) (v : ℕ) (told : List Event) → other ≡ line → actor ≡ line.actor → SoFar stood line told
-    → Tells (outcome_at p other.command hand.state v) line (told ++ told_as actor stood other p hand v)
+    → Tells (outcome_at p other.command hand v) line (told ++ told_as actor stood other p hand v)
 step_tells_at stood line other actor p hand v told is own so_far =
-    subst (λ (l : Line). Tells (outcome_at p l.command hand.state v) line (told ++ told_as actor stood l p hand v)) (sym is)
-    (subst (λ (a : Actor). Tells (outcome_at p line.command hand.state v) line (told ++ told_as a stood line p hand v)) (sym own)
-    (tells_by (outcome_at p line.command hand.state v) stood line told (tells_at p line.command hand.state v) (tells_within p line.command hand.state v) so_far))
+    subst (λ (l : Line). Tells (outcome_at p l.command hand v) line (told ++ told_as actor stood l p hand v)) (sym is)
+    (subst (λ (a : Actor). Tells (outcome_at p line.command hand v) line (told ++ told_as a stood line p hand v)) (sym own)
+    (tells_by (outcome_at p line.command hand v) stood line told (tells_at p line.command hand v) (tells_within p line.command hand v) so_far))
 
 -- A step of a hand's line: from its begin on the line tells events of its own, and with the step that ends it, its answer.
 pub step_tells : (hand : Held) (line : Line) (v : ℕ) (told : List Event) → has_line hand ≡ true → line_at hand.state.place hand ≡ line → hand.state.actor ≡ line.actor → SoFar hand.state.place line told
-    → Tells (outcome_at (place_at hand.state.place hand) (line_at hand.state.place hand).command hand.state v) line (told ++ events_of hand v)
+    → Tells (outcome_at (place_at hand.state.place hand) (line_at hand.state.place hand).command hand v) line (told ++ events_of hand v)
 step_tells hand line v told has is own so_far =
-    subst (λ (es : List Event). Tells (outcome_at (place_at hand.state.place hand) (line_at hand.state.place hand).command hand.state v) line (told ++ es)) (sym (events_of_line hand v has))
+    subst (λ (es : List Event). Tells (outcome_at (place_at hand.state.place hand) (line_at hand.state.place hand).command hand v) line (told ++ es)) (sym (events_of_line hand v has))
     (step_tells_at hand.state.place line (line_at hand.state.place hand) hand.state.actor (place_at hand.state.place hand) hand v told is own so_far)

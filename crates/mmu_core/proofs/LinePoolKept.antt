@@ -1,49 +1,43 @@
--- The steps of lines keep what each pool page is, what owners have filled, and what the tables are.
-use Rattle.std.proofs.Common.{◌≡◌, ◌≢◌, inl, ◌+◌, ◌*◌, ◌<◌, ◌≤◌, ℕ, length, refl, sym, subst, ap, ◌∙◌, arith}
-use Rattle.std.specs.Prelude.{Bool, true, false, nat_lt, if◌then◌else◌, Option, Some, None}
-use Rattle.std.proofs.lemmas.Bool.Decides.{nat_tests}
-use Rattle.core_views.specs.declared.hand.State.{State}
-use Rattle.core_views.specs.declared.place.AccessPlace.TheVariants as access
-use Rattle.core_views.specs.declared.place.Place.{Place}
+-- The steps of slot settings keep what each pool page is, what owners have filled, and what the tables are.
+use Rattle.std.proofs.Common.{◌≡◌, ◌≢◌, inl, ◌+◌, ◌*◌, ◌<◌, ◌≤◌, ℕ, refl, sym, subst, ap, ◌∙◌, arith}
+use Rattle.std.specs.Prelude.{Option, Some, None}
 use Rattle.core_views.specs.declared.place.Place.TheVariants as place
+use Rattle.core_views.specs.declared.place.SetSlotPlace.{SetSlotPlace}
 use Rattle.core_views.specs.declared.place.SetSlotPlace.TheVariants.{Refuse, Fill}
 use Rattle.core_views.specs.declared.place.SlotField.{SlotField}
 use Rattle.core_views.specs.declared.place.SlotField.TheVariants as field
 use Rattle.core_views.specs.declared.sizes.Sizes.{Sizes}
 use Rattle.core_views.specs.declared.topics.OwnedPage.{OwnedPage}
-use Rattle.core_views.specs.declared.topics.TableWalk.{TableWalk}
 use Rattle.core_views.specs.declared.topics.Topics.{Topics}
-use Rattle.core_views.specs.declared.trace.Command.{Command}
-use Rattle.core_views.specs.declared.trace.Command.TheVariants.{Access, SetSlot}
+use Rattle.core_views.specs.declared.trace.Command.TheVariants.{SetSlot}
 use Rattle.core_views.specs.declared.trace.Line.{Line}
-use Rattle.core_views.specs.declared.trace.Op.TheVariants.{Read, Write, Add}
+use Rattle.core_views.specs.declared.trace.Slot.{Slot}
 use Rattle.core_views.specs.Sizes.{actors_of}
 use Rattle.spte_words.specs.declared.area.Area.{Area}
 use Rattle.spte_words.specs.declared.area.Area.TheVariants as area
 use Rattle.spte_words.specs.Areas.{pool_index}
-use Rattle.spte_words.specs.Entries.{kind_of}
 use Rattle.spte_words.proofs.Indices.{same_pool_word}
-use Rattle.mmu_core.specs.Invariant.{Holds, Invariant}
+use Rattle.mmu_core.specs.Invariant.{Invariant, SetSlotHolds}
 use Rattle.mmu_core.specs.PoolPart.{FilledPart, PoolPart}
-use Rattle.mmu_core.specs.SetSlotSteps.{published_set}
+use Rattle.mmu_core.specs.SetSlotSteps.{published_set, set_slot_task}
 use Rattle.mmu_core.specs.SlotWords.{field_number, slot_index}
-use Rattle.mmu_core.specs.Steps.{has_line, task_at}
 use Rattle.mmu_core.specs.Tasks.{kind_of_task}
-use Rattle.mmu_core.specs.TopicSteps.{filled_more, is_in_table, linked_page, still_owned, topics_after, unless_linked}
+use Rattle.mmu_core.specs.TopicSteps.{filled_more, topics_after}
 use Rattle.mmu_core.specs.TopicsInvariant.{TopicsInvariant}
 use Rattle.mmu_core.specs.TreePart.{Position, TreePart}
 use Rattle.mmu_core.specs.View.{View, stepped, upd, words_after}
 use Rattle.mmu_core.proofs.Columns.{upd_other}
-use Rattle.mmu_core.proofs.LiveStays.{line_live_stays}
+use Rattle.mmu_core.proofs.KnowsKept.{step_knows}
+use Rattle.mmu_core.proofs.LiveStays.{set_slot_live_stays}
 use Rattle.mmu_core.proofs.OwnedBehind.{owned_same}
 use Rattle.mmu_core.proofs.PoolPages.{owned_not_slots, table_not_slots}
-use Rattle.mmu_core.proofs.SetSlotKept.{is_number}
+use Rattle.mmu_core.proofs.SlotFields.{is_number}
 use Rattle.mmu_core.proofs.Accepted.{accepted_id}
 use Rattle.core_views.specs.SlotSets.{MemorySlots}
 use Rattle.mmu_core.proofs.Stepping.{IsStep}
 use Rattle.mmu_core.proofs.TreeStored.{tree_moved}
 
--- What the words behind a line's step share with those before it: root, published set, map, roles and host words, and of the pool all pages but the manager's.
+-- What the words behind a step of a setting share with those before it: root, published set, map, roles and host words, and of the pool all pages but the manager's.
 pub record SamePool (words behind : Area → ℕ → ℕ) : Type 0 where
   pub root : behind area.Root ≡ words area.Root
   pub slots : behind area.Slots ≡ words area.Slots
@@ -64,86 +58,47 @@ slot_words : (words behind : Area → ℕ → ℕ) (id x : ℕ) (f : SlotField) 
     → behind area.Pool ≡ upd (words area.Pool) (slot_index published_set id f) x → SamePool words behind
 slot_words words behind id x f low root slots map role host pool = record { root = root; slots = slots; map = map; role = role; host = host; pages = λ k j apart in_page. ap (λ (p : ℕ → ℕ). p (pool_index k j)) pool ∙ field_apart (words area.Pool) id x k j f low apart in_page }
 
--- Each step of a line leaves these.
-pub same_pool : (z : Sizes) (p : Place) (command : Command) (slots : MemorySlots) (s : State) (words : Area → ℕ → ℕ) → Holds z (words area.Pool) (words area.Host) p command slots s → SamePool words (words_after (task_at p command s) words)
-same_pool z place.Between (Access gfn word op) slots s words holds = same_words words _ refl refl refl refl refl refl
-same_pool z place.Between (SetSlot id slot) slots s words holds = same_words words _ refl refl refl refl refl refl
-same_pool z (place.Access access.Slots) (Access gfn word op) slots s words holds = same_words words _ refl refl refl refl refl refl
-same_pool z (place.Access (access.Slot id f)) (Access gfn word op) slots s words holds = same_words words _ refl refl refl refl refl refl
-same_pool z (place.Access access.Walk) (Access gfn word op) slots s words holds = same_words words _ refl refl refl refl refl refl
-same_pool z (place.Access access.Host) (Access gfn word op) slots s words holds = same_words words _ refl refl refl refl refl refl
-same_pool z (place.Access access.Install) (Access gfn word op) slots s words holds = same_words words _ refl refl refl refl refl refl
-same_pool z (place.Access access.Touch) (Access gfn word Read) slots s words holds = same_words words _ refl refl refl refl refl refl
-same_pool z (place.Access access.Touch) (Access gfn word (Write x)) slots s words holds = same_words words _ refl refl refl refl refl refl
-same_pool z (place.Access access.Touch) (Access gfn word (Add x)) slots s words holds = same_words words _ refl refl refl refl refl refl
-same_pool z (place.Access p) (SetSlot id slot) slots s words holds = absurd holds
-same_pool z (place.SetSlot p) (Access gfn word op) slots s words holds = absurd holds
-same_pool z (place.SetSlot (Refuse refusal)) (SetSlot id slot) slots s words holds = same_words words _ refl refl refl refl refl refl
-same_pool z (place.SetSlot (Fill field.Base)) (SetSlot id slot) slots s words holds = slot_words words _ id _ field.Base (accepted_id z.pages id slot slots holds) refl refl refl refl refl refl
-same_pool z (place.SetSlot (Fill field.Pages)) (SetSlot id slot) slots s words holds = slot_words words _ id _ field.Pages (accepted_id z.pages id slot slots holds.0) refl refl refl refl refl refl
-same_pool z (place.SetSlot (Fill field.Host)) (SetSlot id slot) slots s words holds = slot_words words _ id _ field.Host (accepted_id z.pages id slot slots holds.0) refl refl refl refl refl refl
-same_pool z (place.SetSlot (Fill field.Flags)) (SetSlot id slot) slots s words holds = slot_words words _ id _ field.Flags (accepted_id z.pages id slot slots holds.0) refl refl refl refl refl refl
+-- Each step of a slot setting leaves these.
+pub same_pool : (z : Sizes) (p : SetSlotPlace) (id : ℕ) (slot : Slot) (slots : MemorySlots) (words : Area → ℕ → ℕ) → SetSlotHolds z (words area.Pool) p id slot slots → SamePool words (words_after (set_slot_task p id slot) words)
+same_pool z (Refuse refusal) id slot slots words holds = same_words words _ refl refl refl refl refl refl
+same_pool z (Fill field.Base) id slot slots words holds = slot_words words _ id _ field.Base (accepted_id z.pages id slot slots holds) refl refl refl refl refl refl
+same_pool z (Fill field.Pages) id slot slots words holds = slot_words words _ id _ field.Pages (accepted_id z.pages id slot slots holds.0) refl refl refl refl refl refl
+same_pool z (Fill field.Host) id slot slots words holds = slot_words words _ id _ field.Host (accepted_id z.pages id slot slots holds.0) refl refl refl refl refl refl
+same_pool z (Fill field.Flags) id slot slots words holds = slot_words words _ id _ field.Flags (accepted_id z.pages id slot slots holds.0) refl refl refl refl refl refl
 
--- Who owned no page owns none behind an exchange.
-swaps_none : (in_table won : Bool) (walk : TableWalk) (new_ : ℕ) (owned : Option OwnedPage) → owned ≡ None → (if in_table then still_owned won walk new_ owned else owned) ≡ None
-swaps_none false won walk new_ owned none = none
-swaps_none true false walk new_ owned none = none
-swaps_none true true walk new_ owned none = by (linked_page (kind_of walk.level new_))
-  where
-    by : (page : Option ℕ) → unless_linked page owned ≡ None
-    by None = none
-    by (Some page) = refl
-
--- Nor behind any step of a line.
-pub owns_none : (z : Sizes) (p : Place) (command : Command) (s : State) (t : Topics) (v : ℕ) → t.owned ≡ None → (topics_after z (kind_of_task z (task_at p command s)) t v).owned ≡ None
+-- Who owned no page owns none behind a step of a setting.
+pub owns_none : (z : Sizes) (p : SetSlotPlace) (id : ℕ) (slot : Slot) (t : Topics) (v : ℕ) → t.owned ≡ None → (topics_after z (kind_of_task z (set_slot_task p id slot)) t v).owned ≡ None
 unfolding topics_after
-owns_none z place.Between command s t v none = none
-owns_none z (place.Access access.Slots) (Access gfn word op) s t v none = none
-owns_none z (place.Access (access.Slot id f)) (Access gfn word op) s t v none = none
-owns_none z (place.Access access.Walk) (Access gfn word op) s t v none = none
-owns_none z (place.Access access.Host) (Access gfn word op) s t v none = none
-owns_none z (place.Access access.Install) (Access gfn word op) s t v none = swaps_none (is_in_table t.walk) _ t.walk _ t.owned none
-owns_none z (place.Access access.Touch) (Access gfn word Read) s t v none = none
-owns_none z (place.Access access.Touch) (Access gfn word (Write x)) s t v none = none
-owns_none z (place.Access access.Touch) (Access gfn word (Add x)) s t v none = none
-owns_none z (place.Access p) (SetSlot id slot) s t v none = none
-owns_none z (place.SetSlot p) (Access gfn word op) s t v none = none
-owns_none z (place.SetSlot (Refuse refusal)) (SetSlot id slot) s t v none = none
-owns_none z (place.SetSlot (Fill field.Base)) (SetSlot id slot) s t v none = ap (λ o. filled_more o v) none
-owns_none z (place.SetSlot (Fill field.Pages)) (SetSlot id slot) s t v none = ap (λ o. filled_more o v) none
-owns_none z (place.SetSlot (Fill field.Host)) (SetSlot id slot) s t v none = ap (λ o. filled_more o v) none
-owns_none z (place.SetSlot (Fill field.Flags)) (SetSlot id slot) s t v none = ap (λ o. filled_more o v) none
+owns_none z (Refuse refusal) id slot t v none = none
+owns_none z (Fill field.Base) id slot t v none = ap (λ o. filled_more o v) none
+owns_none z (Fill field.Pages) id slot t v none = ap (λ o. filled_more o v) none
+owns_none z (Fill field.Host) id slot t v none = ap (λ o. filled_more o v) none
+owns_none z (Fill field.Flags) id slot t v none = ap (λ o. filled_more o v) none
 
-module _ (z : Sizes) (v : View) (a : ℕ) (line : Line) (command : Command) (p : Place) (S : IsStep z v a line command p) (J : Invariant z v) (I : TopicsInvariant z v) where
+module _ (z : Sizes) (v : View) (a : ℕ) (line : Line) (p : SetSlotPlace) (id : ℕ) (slot : Slot) (S : IsStep z v a line (SetSlot id slot) (place.SetSlot p)) (J : Invariant z v) (I : TopicsInvariant z v) where
   abbrev behind : View
-  behind = stepped a line command p v
+  behind = stepped a line (SetSlot id slot) (place.SetSlot p) v
 
-  -- The actor has a line left, so it owns no page.
-  has_left : has_line (v.hand a) ≡ true
-  has_left = is_left (length (v.hand a).answers) (length (v.hand a).lines) S.left
-    where
-      is_left : (n m : ℕ) → n < m → nat_lt n m ≡ true
-      is_left n m lt = grind (arith, nat_tests, lt)
-
+  -- While a slot is set its actor is at rest, so it owns no page.
   none_owned : (v.hand a).topics.owned ≡ None
-  none_owned = (I.resting a S.there has_left).owns_none
+  none_owned = let R = step_knows z v a line (SetSlot id slot) (place.SetSlot p) S J in R.owns_none
 
   same_owned : ◌≡◌ {A = ℕ → Option OwnedPage} (λ i. (behind.hand i).topics.owned) (λ i. (v.hand i).topics.owned)
-  same_owned = owned_same v.hand a _ (owns_none (v.hand a).state.sizes p command (v.hand a).state (v.hand a).topics _ none_owned ∙ sym none_owned)
+  same_owned = owned_same v.hand a _ (owns_none (v.hand a).state.sizes p id slot (v.hand a).topics _ none_owned ∙ sym none_owned)
 
   same : SamePool v.words behind.words
-  same = same_pool z p command (v.hand a).slots (v.hand a).state v.words S.holds
+  same = same_pool z p id slot (v.hand a).slots v.words S.holds
 
-  -- Each step of a line keeps what the pool pages are.
-  pub line_pool_kept : PoolPart (actors_of z) z.pool (behind.words area.Slots 0) (behind.words area.PoolMap) (λ i. (behind.hand i).topics.owned) I.stands
-  line_pool_kept =
+  -- Each step of a setting keeps what the pool pages are.
+  pub setting_pool_kept : PoolPart (actors_of z) z.pool (behind.words area.Slots 0) (behind.words area.PoolMap) (λ i. (behind.hand i).topics.owned) I.stands
+  setting_pool_kept =
       subst (λ (s : ℕ → ℕ). PoolPart (actors_of z) z.pool (s 0) (behind.words area.PoolMap) (λ i. (behind.hand i).topics.owned) I.stands) (sym same.slots)
       (subst (λ (map : ℕ → ℕ). PoolPart (actors_of z) z.pool (v.words area.Slots 0) map (λ i. (behind.hand i).topics.owned) I.stands) (sym same.map)
       (subst (λ (owned : ℕ → Option OwnedPage). PoolPart (actors_of z) z.pool (v.words area.Slots 0) (v.words area.PoolMap) owned I.stands) (sym same_owned) I.pool_part))
 
   -- The owners' pages are none of the manager's, so what they have filled stays.
-  pub line_filled_kept : FilledPart (actors_of z) (behind.words area.Role) (behind.words area.Pool) (λ i. (behind.hand i).topics.owned)
-  line_filled_kept = subst (FilledPart (actors_of z) (behind.words area.Role) (behind.words area.Pool)) (sym same_owned) (λ i o lt is.
+  pub setting_filled_kept : FilledPart (actors_of z) (behind.words area.Role) (behind.words area.Pool) (λ i. (behind.hand i).topics.owned)
+  setting_filled_kept = subst (FilledPart (actors_of z) (behind.words area.Role) (behind.words area.Pool)) (sym same_owned) (λ i o lt is.
       let F = I.filled i o lt is in
       record {
         most = F.most;
@@ -152,14 +107,14 @@ module _ (z : Sizes) (v : View) (a : ℕ) (line : Line) (command : Command) (p :
       })
 
   -- Nor are the tables, so these stay too.
-  pub line_tree_kept : TreePart z.pool (behind.words area.Root 0) (behind.words area.Slots 0) (behind.words area.Role) (behind.words area.Pool) (behind.words area.Host) I.stands
-  line_tree_kept =
+  pub setting_tree_kept : TreePart z.pool (behind.words area.Root 0) (behind.words area.Slots 0) (behind.words area.Role) (behind.words area.Pool) (behind.words area.Host) I.stands
+  setting_tree_kept =
       subst (λ (r : ℕ → ℕ). TreePart z.pool (r 0) (behind.words area.Slots 0) (behind.words area.Role) (behind.words area.Pool) (behind.words area.Host) I.stands) (sym same.root)
       (subst (λ (s : ℕ → ℕ). TreePart z.pool (v.words area.Root 0) (s 0) (behind.words area.Role) (behind.words area.Pool) (behind.words area.Host) I.stands) (sym same.slots)
       (subst (λ (host : ℕ → ℕ). TreePart z.pool (v.words area.Root 0) (v.words area.Slots 0) (behind.words area.Role) (behind.words area.Pool) host I.stands) (sym same.host)
       (tree_moved z.pool (v.words area.Root 0) (v.words area.Slots 0) (v.words area.Role) (behind.words area.Role) (v.words area.Pool) (behind.words area.Pool) (v.words area.Host) I.stands I.stands I.tree
       (λ k p is. is) (λ k p is. inl is) (λ k p is. ap (λ (role : ℕ → ℕ). role k) same.role) (λ k p is j low. inl (same.pages k j (not_published k p is) low))
-      (line_live_stays z v a line command p S J))))
+      (set_slot_live_stays z v a line id slot p S J))))
     where
       not_published : (k : ℕ) (p : Position) → I.stands k ≡ Some p → k ≢ published_set
       not_published k p is e = table_not_slots (actors_of z) z.pool (v.words area.Slots 0) (v.words area.PoolMap) (λ l. (v.hand l).topics.owned) I.stands I.pool_part k p (I.tree.there k p is).0 is (e ∙ sym J.set.published)

@@ -8,9 +8,11 @@ use Rattle.std.specs.declared.cmp.Ordering.TheVariants.{Less, Equal, Greater}
 use Rattle.std.proofs.lemmas.Bool.Decides.{nat_tests}
 use Rattle.std.specs.List.{Contains}
 use Rattle.std.specs.Map.{keys_of}
+use Rattle.circular_buffer.specs.Buffer.{Buffer}
 use Rattle.std.proofs.lemmas.List.Elements.{All-cons, All-head, All-tail, All-weaker, Contains-append_left, Contains-append_right}
 use Rattle.core_views.specs.declared.slot_set.MemorySlot.{MemorySlot}
 use Rattle.core_views.specs.declared.answer.AnsweredLine.{AnsweredLine}
+use Rattle.core_views.specs.declared.cache.Translation.{Translation}
 use Rattle.core_views.specs.declared.hand.State.{State}
 use Rattle.core_views.specs.declared.place.Place.{Place}
 use Rattle.core_views.specs.declared.place.Place.TheVariants as place
@@ -86,27 +88,27 @@ answered_kept (Ends answer) line lines answers ids lt set =
     more = ap (λ n. slot_ids (take n lines)) (answers_length answers (record { number = line.number; actor = line.actor; answer = answer })) ∙ ids_more (length answers) lines lt
 
 -- the hand behind a step that went so
-abbrev pub behind : Held → Line → State → Outcome → Topics → MemorySlots → Held
-behind h line s o t slots = record { state = record s { line = line; place = place_after o }; topics = t; slots = slots; lines = h.lines; answers = answers_after o line h.answers }
+abbrev pub behind : Held → Line → State → Outcome → Topics → Buffer Translation → MemorySlots → Held
+behind h line s o t c slots = record { state = record s { line = line; place = place_after o }; topics = t; cached = c; slots = slots; lines = h.lines; answers = answers_after o line h.answers }
 
-under_behind : (h : Held) (line : Line) (s : State) (p : Place) (t : Topics) (slots : MemorySlots) → line ≡ next_line h → length h.answers < length h.lines → UnderWay p (behind h line s (Goes p) t slots)
-under_behind h line s place.Between t slots is left = tt
-under_behind h line s (place.Access p) t slots is left = (is, left)
-under_behind h line s (place.SetSlot p) t slots is left = (is, left)
+under_behind : (h : Held) (line : Line) (s : State) (p : Place) (t : Topics) (c : Buffer Translation) (slots : MemorySlots) → line ≡ next_line h → length h.answers < length h.lines → UnderWay p (behind h line s (Goes p) t c slots)
+under_behind h line s place.Between t c slots is left = tt
+under_behind h line s (place.Access p) t c slots is left = (is, left)
+under_behind h line s (place.SetSlot p) t c slots is left = (is, left)
 
-pub lines_behind : (z : Sizes) (a : ℕ) (h : Held) (line : Line) (s : State) (o : Outcome) (t : Topics) (slots : MemorySlots) → OwnLines z a h → line ≡ next_line h → length h.answers < length h.lines
-    → s.sizes ≡ z → s.actor ≡ h.state.actor → AreSetBy h.lines (answers_after o line h.answers) (keys_of slots) → All (IsSetBy h.lines) slots → OwnLines z a (behind h line s o t slots)
-lines_behind z a h line s (Goes p) t slots O is left same actor answered set = record {
+pub lines_behind : (z : Sizes) (a : ℕ) (h : Held) (line : Line) (s : State) (o : Outcome) (t : Topics) (c : Buffer Translation) (slots : MemorySlots) → OwnLines z a h → line ≡ next_line h → length h.answers < length h.lines
+    → s.sizes ≡ z → s.actor ≡ h.state.actor → AreSetBy h.lines (answers_after o line h.answers) (keys_of slots) → All (IsSetBy h.lines) slots → OwnLines z a (behind h line s o t c slots)
+lines_behind z a h line s (Goes p) t c slots O is left same actor answered set = record {
   sizes = same;
   index = ap (index_of z) actor ∙ O.index;
   allowed = O.allowed;
   own = subst (λ x. All (λ (l : Line). l.actor ≡ x) h.lines) (sym actor) O.own;
   distinct = O.distinct;
-  under = under_behind h line s p t slots is left;
+  under = under_behind h line s p t c slots is left;
   answered = answered;
   set = set;
 }
-lines_behind z a h line s (Ends answer) t slots O is left same actor answered set = record {
+lines_behind z a h line s (Ends answer) t c slots O is left same actor answered set = record {
   sizes = same;
   index = ap (index_of z) actor ∙ O.index;
   allowed = O.allowed;

@@ -13,6 +13,7 @@ use Rattle.spte_words.specs.declared.area.Area.TheVariants as area
 use Rattle.spte_words.specs.Areas.{number_of, place, pool_index, words_of_bits}
 use Rattle.spte_words.proofs.Places.{next_place, place_at}
 use Rattle.mmu_core.specs.declared.outcome.Task.{Task}
+use Rattle.mmu_core.specs.Cached.{flushed}
 use Rattle.mmu_core.specs.declared.part_step.PartStep.{PartStep}
 use Rattle.mmu_core.specs.declared.part_step.PartStep.TheVariants as part
 use Rattle.mmu_core.specs.PartSteps.{PartNeeds, entry_index, entry_task, fill_task, leaf_written, link_written, page_owned, part_task, table_page, words_filled, works}
@@ -179,15 +180,22 @@ part_topics_is z (part.Leaf gfn) own t note v there = swap_topics z gfn (leaf_wr
 part_topics_is z (part.Host page) own t note v there = ap (λ p. record t { host = Some (record { page = p; word = v }) }) (behind_host z page)
 part_topics_is z (part.Watch index) own t note v there = ap (λ i. record t { watched = i + (if in_section v then 0 else 1) }) (state_place z index)
 
--- the hand behind the step
-abbrev pub part_hand : PartStep → Held → ℕ → Held
-part_hand step h v = record { state = h.state; topics = part_topics step h.topics v; slots = h.slots; lines = h.lines; answers = h.answers }
+-- the hand behind the step, by the actor at this place
+abbrev pub part_hand : PartStep → ℕ → ℕ → Held → ℕ → Held
+part_hand step own note h v = record {
+  state = h.state;
+  topics = part_topics step h.topics v;
+  cached = flushed (kind_of_task h.state.sizes (part_task step own h.topics note)) h.cached v;
+  slots = h.slots;
+  lines = h.lines;
+  answers = h.answers;
+}
 
 -- what the step of the actor at place a makes of the words and hands
 abbrev pub part_behind : ℕ → PartStep → ℕ → View → View
 part_behind a step note v =
     let t : Task = part_task step a (v.hand a).topics note in
-    record { words = words_after t v.words; hand = upd v.hand a (part_hand step (v.hand a) (answer_in t v.words)) }
+    record { words = words_after t v.words; hand = upd v.hand a (part_hand step a note (v.hand a) (answer_in t v.words)) }
 
 -- The step makes of the words and hands what is written out above.
 pub is_there : (step : PartStep) (h : Held) → PartNeeds step h → IsThere h.state.sizes h.topics step
@@ -225,7 +233,14 @@ part_stepped_is z v a step note S =
     }) S.own_place
     ∙ ap (λ (t : Topics). record {
       words = words_after (part_task step a (v.hand a).topics note) v.words;
-      hand = upd v.hand a (record { state = (v.hand a).state; topics = t; slots = (v.hand a).slots; lines = (v.hand a).lines; answers = (v.hand a).answers });
+      hand = upd v.hand a (record {
+        state = (v.hand a).state;
+        topics = t;
+        cached = flushed (kind_of_task (v.hand a).state.sizes (part_task step a (v.hand a).topics note)) (v.hand a).cached (answer_in (part_task step a (v.hand a).topics note) v.words);
+        slots = (v.hand a).slots;
+        lines = (v.hand a).lines;
+        answers = (v.hand a).answers;
+      });
     }) (part_topics_is (v.hand a).state.sizes step a (v.hand a).topics note (answer_in (part_task step a (v.hand a).topics note) v.words) (is_there step (v.hand a) S.needs))
 
 -- what holds behind the step as it is written out holds behind it

@@ -1,12 +1,14 @@
 -- What a line rests on, from the invariant; and that the word of its next step is one of the words.
-use Rattle.std.proofs.Common.{◌≡◌, ◌<◌, ◌≤◌, ◌+◌, ◌*◌, ℕ, length, sym, subst, ap, arith}
+use Rattle.std.proofs.Common.{◌≡◌, ◌⊎◌, inl, inr, ◌<◌, ◌≤◌, ◌+◌, ◌*◌, ◌-◌, ℕ, length, refl, sym, subst, ap, ◌∙◌, arith}
+use Rattle.std.specs.Prelude.{true, ◌&&◌, nat_le, nat_lt, Option, Some, None}
+use Rattle.std.proofs.Math.Logic.{∥∥₁_elim, ∥∥₁_map}
 use Rattle.std.proofs.Props.{props}
-use Rattle.std.specs.Prelude.{true}
+use Rattle.std.proofs.lemmas.Bool.{cases_lt}
+use Rattle.std.proofs.lemmas.Bool.Decides.{nat_tests}
 use Rattle.core_views.specs.declared.actor.Actor.{Actor}
 use Rattle.core_views.specs.declared.actor.Actor.TheVariants.{Vcpu, Host, Manager, Worker}
-use Rattle.core_views.specs.declared.hand.State.{State}
 use Rattle.core_views.specs.declared.place.AccessPlace.{AccessPlace}
-use Rattle.core_views.specs.declared.place.AccessPlace.TheVariants as access
+use Rattle.core_views.specs.declared.place.AccessPlace.TheVariants.{Enter, Pause, Root, Walk, Touch, Leave, Fault}
 use Rattle.core_views.specs.declared.place.Place.{Place}
 use Rattle.core_views.specs.declared.place.Place.TheVariants as place
 use Rattle.core_views.specs.declared.place.SetSlotPlace.{SetSlotPlace}
@@ -14,15 +16,20 @@ use Rattle.core_views.specs.declared.place.SetSlotPlace.TheVariants.{Refuse, Fil
 use Rattle.core_views.specs.declared.place.SlotField.{SlotField}
 use Rattle.core_views.specs.declared.place.SlotField.TheVariants as field
 use Rattle.core_views.specs.declared.sizes.Sizes.{Sizes}
+use Rattle.core_views.specs.declared.topics.HostLook.{HostLook}
+use Rattle.core_views.specs.declared.topics.Invalidations.{Invalidations}
+use Rattle.core_views.specs.declared.topics.OwnedPage.{OwnedPage}
+use Rattle.core_views.specs.declared.topics.Topics.{Topics}
 use Rattle.core_views.specs.declared.trace.Command.{Command}
 use Rattle.core_views.specs.declared.trace.Command.TheVariants.{Access, SetSlot}
 use Rattle.core_views.specs.declared.trace.Line.{Line}
 use Rattle.core_views.specs.declared.trace.Op.{Op}
 use Rattle.core_views.specs.declared.trace.Op.TheVariants.{Read, Write, Add}
-use Rattle.core_views.specs.declared.trace.Slot.{Slot}
+use Rattle.core_views.specs.declared.trace.Slot.{Slot as SlotOf}
 use Rattle.core_views.specs.Held.{Held}
-use Rattle.core_views.specs.SlotSets.{MemorySlots}
 use Rattle.core_views.specs.Sizes.{AreSizes, actors_of}
+use Rattle.core_views.specs.SlotSets.{MemorySlots}
+use Rattle.core_views.specs.Slots.{is_write}
 use Rattle.core_views.specs.Traces.{IsCommandFor}
 use Rattle.spte_words.specs.declared.area.Area.TheVariants as area
 use Rattle.spte_words.specs.Areas.{content_index, size_of}
@@ -30,107 +37,219 @@ use Rattle.spte_words.specs.Entries.{frame_in}
 use Rattle.spte_words.specs.HostWords.{host_allows_write, host_frame}
 use Rattle.spte_words.proofs.Indices.{content_within, pool_within}
 use Rattle.spte_words.proofs.ReadsEntries.{leaf_frame}
-use Rattle.spte_words.proofs.ReadsHost.{host_has_frame}
-use Rattle.mmu_core.specs.AccessSteps.{access_task, touch_of}
-use Rattle.mmu_core.specs.Invariant.{AccessHolds, Found, Holds, HostWordsPart, Invariant, SlotSetPart}
-use Rattle.mmu_core.specs.Rests.{AcceptsAt, AccessRests, InSlot, RecordAccepts, Rests, RestsAt, SetSlotRests}
+use Rattle.mmu_core.specs.declared.part_step.PartStep.{PartStep}
+use Rattle.mmu_core.specs.declared.part_step.PartStep.TheVariants as part
+use Rattle.mmu_core.specs.AccessSteps.{access_note, access_part, task_by, touch_of}
+use Rattle.mmu_core.specs.Invariant.{Holds, HostWordsPart, Invariant, IsLeafFor, KnowsPart, SlotSetPart}
+use Rattle.mmu_core.specs.KnowsPart.{AccessKnows}
+use Rattle.mmu_core.specs.PartBounds.{PartRests}
+use Rattle.mmu_core.specs.PartSteps.{FoundSlot, GoesOnToWord, HasToFill, IsFresh, IsVcpu, LookedUp, MayEnter, OwnsTable, PartNeeds, next_watched, own_index}
+use Rattle.mmu_core.specs.Rests.{AcceptsAt, RecordAccepts, Rests, RestsAt, RestsOn, SetSlotRests}
 use Rattle.mmu_core.specs.SetSlotSteps.{published_set, set_slot_task}
 use Rattle.mmu_core.specs.SlotWords.{field_number, may_write, page_of, slot_index}
 use Rattle.mmu_core.specs.Steps.{line_at, place_at, task_at, task_of}
 use Rattle.mmu_core.specs.Tasks.{map_of}
 use Rattle.mmu_core.specs.TopicsInvariant.{TopicsInvariant}
-use Rattle.mmu_core.proofs.Which.{has_line_is}
 use Rattle.mmu_core.specs.View.{View}
-use Rattle.mmu_core.proofs.AccessKept.{in_slot}
-use Rattle.mmu_core.proofs.SetSlotKept.{is_number}
 use Rattle.mmu_core.proofs.Accepted.{accepted, accepted_id}
+use Rattle.mmu_core.proofs.Columns.{same_or}
+use Rattle.mmu_core.proofs.EntryTopics.{looked_at}
+use Rattle.mmu_core.proofs.KnowsKept.{access_needs, access_vcpu, step_knows}
+use Rattle.mmu_core.proofs.PartBounded.{part_rests_at}
+pub use Rattle.mmu_core.proofs.PartBounded.{host_at}
+use Rattle.mmu_core.proofs.PartFits.{is_number, part_within_by}
 use Rattle.mmu_core.proofs.Stepping.{is_step}
 
--- the host word of a page that the machine has
-pub host_at : (z : Sizes) (host : ℕ → ℕ) (p : ℕ) → AreSizes z → HostWordsPart z host → p < z.pages → host_frame (host p) < z.frames
-host_at z host p sizes hosts lt = rw (hosts p lt, host_has_frame p true true 1 (omega arith)) (omega (arith, sizes.frames.0))
-
-found_rests : (z : Sizes) (slots pool : ℕ → ℕ) (s : State) (gfn : ℕ) (op : Op) → s.sizes ≡ z → SlotSetPart z slots pool → Found pool s gfn op → InSlot s gfn
-found_rests z slots pool s gfn op same part found =
-    let i = in_slot z slots pool s gfn op part found in
-    let pages : s.sizes.pages ≡ z.pages = ap (λ (y : Sizes). y.pages) same in
-    record { above = i.0; page = omega (arith, i.1, i.2, pages) }
-
-access_rests : (z : Sizes) (slots pool host : ℕ → ℕ) (p : AccessPlace) (s : State) (gfn : ℕ) (op : Op) → AreSizes z → s.sizes ≡ z → SlotSetPart z slots pool → HostWordsPart z host
-    → AccessHolds pool host p s gfn op → AccessRests p s gfn
-access_rests z slots pool host access.Slots s gfn op sizes same part hosts e = tt
-access_rests z slots pool host (access.Slot id f) s gfn op sizes same part hosts e = by f e
+-- The leaf that an access uses is at a frame of the machine.
+leaf_there : (z : Sizes) (slots pool host : ℕ → ℕ) (gfn leaf : ℕ) → AreSizes z → SlotSetPart z slots pool → HostWordsPart z host → IsLeafFor pool host gfn leaf → frame_in leaf < z.frames
+leaf_there z slots pool host gfn leaf sizes set hosts L =
+    let w : ℕ = host (page_of L.slot gfn) in
+    let h : host_frame w < z.frames = host_at z host (page_of L.slot gfn) sizes hosts page in
+    rw (L.is, leaf_frame 1 (host_frame w) (may_write L.slot w) (host_allows_write w) (may_write L.slot w) (omega (arith, h, sizes.frames.1))) h
   where
-    by : (g : SlotField) → AccessHolds pool host (access.Slot id g) s gfn op → (id ≤ 31) × (s.look.set < s.sizes.pool)
-    by field.Flags h = (h.0, pool_has h.1)
-      where
-        pool_has : s.look.set ≡ published_set → s.look.set < s.sizes.pool
-        pool_has e = let q : s.sizes.pool ≡ z.pool = ap (λ (y : Sizes). y.pool) same in omega (arith, e, q, sizes.pool.0)
-    by field.Base h = let q : s.sizes.pool ≡ z.pool = ap (λ (y : Sizes). y.pool) same in let r = h.1 in (h.0, omega (arith, r, q, sizes.pool.0))
-    by field.Pages h = let q : s.sizes.pool ≡ z.pool = ap (λ (y : Sizes). y.pool) same in let r = h.1 in (h.0, omega (arith, r, q, sizes.pool.0))
-    by field.Host h = let q : s.sizes.pool ≡ z.pool = ap (λ (y : Sizes). y.pool) same in let r = h.1 in (h.0, omega (arith, r, q, sizes.pool.0))
-access_rests z slots pool host access.Walk s gfn op sizes same part hosts e = found_rests z slots pool s gfn op same part e
-access_rests z slots pool host access.Host s gfn op sizes same part hosts e = found_rests z slots pool s gfn op same part e
-access_rests z slots pool host access.Install s gfn op sizes same part hosts e =
-    let i = in_slot z slots pool s gfn op part e.0 in
-    let frames : s.sizes.frames ≡ z.frames = ap (λ (y : Sizes). y.frames) same in
-    (found_rests z slots pool s gfn op same part e.0, rw (e.1, frames) (host_at z host (page_of s.look.slot gfn) sizes hosts (omega (arith, i.1, i.2))))
-access_rests z slots pool host access.Touch s gfn op sizes same part hosts e =
-    let i = in_slot z slots pool s gfn op part e.0 in
-    let frames : s.sizes.frames ≡ z.frames = ap (λ (y : Sizes). y.frames) same in
-    let h = host_at z host (page_of s.look.slot gfn) sizes hosts (omega (arith, i.1, i.2)) in
-    let w : ℕ = host (page_of s.look.slot gfn) in
-    rw (e.1, frames, leaf_frame 1 (host_frame w) (may_write s.look.slot w) (host_allows_write w) (may_write s.look.slot w) (omega (arith, h, sizes.frames.1))) h
+    bounds : (low high : ℕ) → (nat_le low gfn && nat_lt gfn high) ≡ true → (low ≤ gfn) × (gfn < high)
+    bounds low high test = (grind (arith, nat_tests), grind (arith, nat_tests))
 
-rests_at : (z : Sizes) (v : View) (p : Place) (command : Command) (slots : MemorySlots) (s : State) → Invariant z v → s.sizes ≡ z → Holds z (v.words area.Pool) (v.words area.Host) p command slots s → RestsAt p command s
-rests_at z v place.Between command slots s I same e = tt
-rests_at z v (place.Access p) (Access gfn word op) slots s I same e = access_rests z (v.words area.Slots) (v.words area.Pool) (v.words area.Host) p s gfn op I.sizes same I.set I.hosts e
-rests_at z v (place.Access p) (SetSlot id slot) slots s I same e = absurd e
-rests_at z v (place.SetSlot p) (Access gfn word op) slots s I same e = absurd e
-rests_at z v (place.SetSlot (Refuse refusal)) (SetSlot id slot) slots s I same e = tt
-rests_at z v (place.SetSlot (Fill f)) (SetSlot id slot) slots s I same e = accepted_id z.pages id slot slots (accepted z (v.words area.Pool) (v.words area.Host) f id slot slots s e)
+    page : page_of L.slot gfn < z.pages
+    page =
+        let fits : L.slot.host + L.slot.pages ≤ z.pages = subst (λ (s : SlotOf). s.host + s.pages ≤ z.pages) L.live.is (set.fits L.id L.live.low L.live.live).pages in
+        let inside = bounds L.slot.base (L.slot.base + L.slot.pages) L.holds in
+        omega (arith, fits, inside.0, inside.1)
 
-accepts_at : (z : Sizes) (v : View) (p : Place) (command : Command) (slots : MemorySlots) (s : State) → Holds z (v.words area.Pool) (v.words area.Host) p command slots s → AcceptsAt p command z slots
-accepts_at z v place.Between command slots s e = tt
-accepts_at z v (place.Access p) command slots s e = tt
-accepts_at z v (place.SetSlot p) (Access gfn word op) slots s e = tt
-accepts_at z v (place.SetSlot (Refuse refusal)) (SetSlot id slot) slots s e = tt
-accepts_at z v (place.SetSlot (Fill f)) (SetSlot id slot) slots s e = accepted z (v.words area.Pool) (v.words area.Host) f id slot slots s e
+-- The next step of a line finds what it needs.
+access_rests : (p : AccessPlace) (z : Sizes) (v : View) (h : Held) (gfn word : ℕ) (op : Op) → Invariant z v → h.state.sizes ≡ z → IsCommandFor z h.state.actor (Access gfn word op) → PartRests h → AccessKnows p gfn (is_write op) h
+    → Holds z (v.words area.Pool) (v.words area.Host) (place.Access p) (Access gfn word op) h.slots h.state → RestsOn (access_part p gfn h.topics) h
+access_rests Touch z v h gfn word op I same may R K e =
+    (subst (λ (y : Sizes). frame_in h.state.leaf < y.frames) (sym same) (leaf_there z (v.words area.Slots) (v.words area.Pool) (v.words area.Host) gfn h.state.leaf I.sizes I.set I.hosts e), K.0.guest)
+access_rests (Enter again) z v h gfn word op I same may R K e = let V = access_vcpu z h.state.actor gfn word op may in access_needs (Enter again) h gfn (is_write op) V.0 V.1 R K
+access_rests (Pause again) z v h gfn word op I same may R K e = tt
+access_rests (Root again) z v h gfn word op I same may R K e = tt
+access_rests (Walk again) z v h gfn word op I same may R K e = K.1
+access_rests (Leave how) z v h gfn word op I same may R K e = K.guest
+access_rests (Fault p) z v h gfn word op I same may R K e = let V = access_vcpu z h.state.actor gfn word op may in access_needs (Fault p) h gfn (is_write op) V.0 V.1 R K
+
+rests_at : (p : Place) (command : Command) (z : Sizes) (v : View) (h : Held) → Invariant z v → h.state.sizes ≡ z → IsCommandFor z h.state.actor command → PartRests h → KnowsPart p command h
+    → Holds z (v.words area.Pool) (v.words area.Host) p command h.slots h.state → RestsAt p command h
+rests_at place.Between command z v h I same may R K e = tt
+rests_at (place.Access p) (Access gfn word op) z v h I same may R K e = access_rests p z v h gfn word op I same may R K e
+rests_at (place.Access p) (SetSlot id slot) z v h I same may R K e = absurd K
+rests_at (place.SetSlot p) (Access gfn word op) z v h I same may R K e = absurd K
+rests_at (place.SetSlot (Refuse refusal)) (SetSlot id slot) z v h I same may R K e = K
+rests_at (place.SetSlot (Fill f)) (SetSlot id slot) z v h I same may R K e = (accepted_id z.pages id slot h.slots (accepted z (v.words area.Pool) (v.words area.Host) f id slot h.slots h.state e), K)
+
+accepts_at : (p : Place) (command : Command) (z : Sizes) (v : View) (h : Held) → Holds z (v.words area.Pool) (v.words area.Host) p command h.slots h.state → AcceptsAt p command z h.slots
+accepts_at place.Between command z v h e = tt
+accepts_at (place.Access p) command z v h e = tt
+accepts_at (place.SetSlot p) (Access gfn word op) z v h e = tt
+accepts_at (place.SetSlot (Refuse refusal)) (SetSlot id slot) z v h e = tt
+accepts_at (place.SetSlot (Fill f)) (SetSlot id slot) z v h e = accepted z (v.words area.Pool) (v.words area.Host) f id slot h.slots h.state e
 
 pub hand_rests : (z : Sizes) (v : View) (a : ℕ) → Invariant z v → TopicsInvariant z v → a < actors_of z → length (v.hand a).answers < length (v.hand a).lines → Rests (v.hand a)
 hand_rests z v a I P there left =
+    let h : Held = v.hand a in
+    let line : Line = line_at h.state.place h in
+    let p : Place = place_at h.state.place h in
     let S = is_step z v a I there left in
-    let same = (I.lines a there).sizes in
+    let same : h.state.sizes ≡ z = (I.lines a there).sizes in
+    let R = part_rests_at z v a I P there in
     record {
-      sizes = subst AreSizes (sym same) I.sizes;
-      line = subst (λ y. IsCommandFor y (line_at (v.hand a).state.place (v.hand a)).actor (line_at (v.hand a).state.place (v.hand a)).command) (sym same) S.allowed;
-      at = rests_at z v (place_at (v.hand a).state.place (v.hand a)) (line_at (v.hand a).state.place (v.hand a)).command (v.hand a).slots (v.hand a).state I same S.holds;
-      accepts = subst (λ y. AcceptsAt (place_at (v.hand a).state.place (v.hand a)) (line_at (v.hand a).state.place (v.hand a)).command y (v.hand a).slots) (sym same)
-          (accepts_at z v (place_at (v.hand a).state.place (v.hand a)) (line_at (v.hand a).state.place (v.hand a)).command (v.hand a).slots (v.hand a).state S.holds);
-      topics = P.resting a there (has_line_is (v.hand a) left);
+      part = R;
+      line = subst (λ (y : Sizes). IsCommandFor y line.actor line.command) (sym same) S.allowed;
+      at = rests_at p line.command z v h I same (subst (λ (x : Actor). IsCommandFor z x line.command) S.own S.allowed) R (step_knows z v a line line.command p S I) S.holds;
+      accepts = subst (λ (y : Sizes). AcceptsAt p line.command y h.slots) (sym same) (accepts_at p line.command z v h S.holds);
     }
 
--- There is at most one proof of what a line rests on.
-access_prop : (p : AccessPlace) (s : State) (gfn : ℕ) → IsProp (AccessRests p s gfn)
-access_prop access.Slots s gfn = hlevel props
-access_prop (access.Slot id f) s gfn = hlevel props
-access_prop access.Walk s gfn = hlevel props
-access_prop access.Host s gfn = hlevel props
-access_prop access.Install s gfn = hlevel props
-access_prop access.Touch s gfn = hlevel props
+-- What a line rests on holds where there merely is a world that shows it: each part of it has at most one proof, or can be decided.
+pub prop_stays : {A : Type 0} → IsProp A → ∥ A ∥₁ → A
+prop_stays prop x = ∥∥₁_elim x prop (λ a. a)
 
-set_slot_prop : (p : SetSlotPlace) (id : ℕ) → IsProp (SetSlotRests p id)
-set_slot_prop (Refuse refusal) id = hlevel props
-set_slot_prop (Fill f) id = hlevel props
+pub either_stays : {A B : Type 0} → A ⊎ (A → ⊥) → (∥ B ∥₁ → B) → ∥ A ⊎ B ∥₁ → A ⊎ B
+either_stays (inl a) stays x = inl a
+either_stays {A} {B} (inr never) stays x = inr (stays (∥∥₁_map x other))
+  where
+    other : A ⊎ B → B
+    other (inl a) = absurd (never a)
+    other (inr b) = b
 
-rests_at_prop : (p : Place) (command : Command) (s : State) → IsProp (RestsAt p command s)
-rests_at_prop place.Between command s = hlevel props
-rests_at_prop (place.Access p) (Access gfn word op) s = access_prop p s gfn
-rests_at_prop (place.Access p) (SetSlot id slot) s = hlevel props
-rests_at_prop (place.SetSlot p) (Access gfn word op) s = hlevel props
-rests_at_prop (place.SetSlot p) (SetSlot id slot) s = set_slot_prop p id
+pub or_not : (a b : ℕ) → (a < b) ⊎ (b ≤ a) → (a < b) ⊎ ((a < b) → ⊥)
+or_not a b (inl lt) = inl lt
+or_not a b (inr le) = inr (λ lt. absurd (omega (arith, le, lt)))
 
-accepts_prop : (p : SetSlotPlace) (total id : ℕ) (slot : Slot) (slots : MemorySlots) → IsProp (RecordAccepts p total id slot slots)
+none_over_stays : (gfn : ℕ) (n : Invalidations) → ∥ (n.count ≡ 0) ⊎ (gfn < n.start) ⊎ (n.end ≤ gfn) ∥₁ → (n.count ≡ 0) ⊎ (gfn < n.start) ⊎ (n.end ≤ gfn)
+none_over_stays gfn n x = either_stays (same_or n.count 0) (λ y. either_stays (or_not gfn n.start (cases_lt gfn n.start)) (λ b. prop_stays (hlevel props) b) y) x
+
+pub fresh_stays : (gfn : ℕ) (n : Invalidations) → ∥ IsFresh gfn n ∥₁ → IsFresh gfn n
+fresh_stays gfn n x = record {
+  checked_all = ∥∥₁_elim x (hlevel props) (λ F. F.checked_all);
+  still = ∥∥₁_elim x (hlevel props) (λ F. F.still);
+  none_over = none_over_stays gfn n (∥∥₁_map x (λ F. F.none_over));
+}
+
+pub same_look : {a b : HostLook} → Some a ≡ Some b → a ≡ b
+same_look e = cc e
+
+pub same_owned : {a b : OwnedPage} → Some a ≡ Some b → a ≡ b
+same_owned e = cc e
+
+pub looked_stays : (gfn : ℕ) (t : Topics) → ∥ LookedUp gfn t ∥₁ → LookedUp gfn t
+looked_stays gfn t x =
+    let look = by t.host refl in
+    record { found = ∥∥₁_elim x (found_prop t) (λ L. L.found); word = look.0; host = look.1 }
+  where
+    found_prop : (u : Topics) → IsProp (FoundSlot gfn u)
+    found_prop u = hlevel props
+
+    by : (o : Option HostLook) → t.host ≡ o → (word : ℕ) × (t.host ≡ Some (record { page = page_of t.search.slot gfn; word = word }))
+    by None is = absurd (∥∥₁_elim x (hlevel props) (λ L. let e = L.host in cc (e, is)))
+    by (Some look) is = looked_at t.host look (page_of t.search.slot gfn) is (∥∥₁_elim x (hlevel props) (λ L. ap (λ (l : HostLook). l.page) (same_look (sym is ∙ L.host))))
+
+enter_stays : (gfn : ℕ) (t : Topics) → ∥ MayEnter gfn t ∥₁ → MayEnter gfn t
+enter_stays gfn t x = record {
+  shares = ∥∥₁_elim x (hlevel props) (λ M. M.shares);
+  section = ∥∥₁_elim x (hlevel props) (λ M. M.section);
+  fresh = fresh_stays gfn t.invalidations (∥∥₁_map x (λ M. M.fresh));
+  looked_up = looked_stays gfn t (∥∥₁_map x (λ M. M.looked_up));
+  saw = ∥∥₁_elim x (hlevel props) (λ M. M.saw);
+}
+
+pub table_stays : (level : ℕ) (t : Topics) → ∥ OwnsTable level t ∥₁ → OwnsTable level t
+table_stays level t x = by t.owned refl
+  where
+    by : (o : Option OwnedPage) → t.owned ≡ o → OwnsTable level t
+    by None is = absurd (∥∥₁_elim x (hlevel props) (λ O. let e = O.is in cc (e, is)))
+    by (Some o) is = record {
+      owned = o;
+      is = is;
+      whole = ∥∥₁_elim x (hlevel props) (λ O. ap (λ (p : OwnedPage). p.filled) (same_owned (sym is ∙ O.is)) ∙ O.whole);
+      absent = ∥∥₁_elim x (hlevel props) (λ O. ap (λ (p : OwnedPage). p.absent) (same_owned (sym is ∙ O.is)) ∙ O.absent);
+      role = ∥∥₁_elim x (hlevel props) (λ O. ap (λ (p : OwnedPage). p.role) (same_owned (sym is ∙ O.is)) ∙ O.role);
+    }
+
+pub fill_stays : (t : Topics) → ∥ HasToFill t ∥₁ → HasToFill t
+fill_stays t x = by t.owned refl
+  where
+    by : (o : Option OwnedPage) → t.owned ≡ o → HasToFill t
+    by None is = absurd (∥∥₁_elim x (hlevel props) (λ O. let e = O.is in cc (e, is)))
+    by (Some o) is = record { owned = o; is = is; left = ∥∥₁_elim x (hlevel props) (λ O. subst (λ (p : OwnedPage). p.filled < 513) (sym (same_owned (sym is ∙ O.is))) O.left) }
+
+word_stays : (word : ℕ) (t : Topics) → ∥ GoesOnToWord word t ∥₁ → GoesOnToWord word t
+word_stays word t x = either_stays (same_or word 0) (λ y. prop_stays (hlevel props) y) x
+
+vcpu_prop : (actor : Actor) → IsProp (IsVcpu actor)
+vcpu_prop (Vcpu n) = hlevel props
+vcpu_prop (Host n) = hlevel props
+vcpu_prop Manager = hlevel props
+vcpu_prop (Worker n) = hlevel props
+
+needs_stay : (step : PartStep) (h : Held) → ∥ PartNeeds step h ∥₁ → PartNeeds step h
+needs_stay part.Enter h x = (∥∥₁_elim x (vcpu_prop h.state.actor) (λ N. N.0), ∥∥₁_elim x (hlevel props) (λ N. N.1))
+needs_stay part.Leave h x = prop_stays (hlevel props) x
+needs_stay part.Pause h x = tt
+needs_stay part.Begin h x = prop_stays (hlevel props) x
+needs_stay part.End h x = prop_stays (hlevel props) x
+needs_stay part.Share h x = prop_stays (hlevel props) x
+needs_stay part.Unshare h x = prop_stays (hlevel props) x
+needs_stay part.Exclude h x = prop_stays (hlevel props) x
+needs_stay part.Release h x = prop_stays (hlevel props) x
+needs_stay (part.Map word) h x = (∥∥₁_elim x (hlevel props) (λ N. N.0), ∥∥₁_elim x (hlevel props) (λ N. N.1), word_stays word h.topics (∥∥₁_map x (λ N. N.2)))
+needs_stay part.Claim h x = prop_stays (hlevel props) x
+needs_stay (part.Fill value) h x = (fill_stays h.topics (∥∥₁_map x (λ N. N.0)), ∥∥₁_elim x (hlevel props) (λ N. N.1))
+needs_stay part.Give h x = prop_stays (hlevel props) x
+needs_stay part.Slots h x = tt
+needs_stay part.Slot h x = prop_stays (hlevel props) x
+needs_stay part.Seq h x = tt
+needs_stay part.Count h x = tt
+needs_stay part.RangeStart h x = tt
+needs_stay part.RangeEnd h x = tt
+needs_stay part.Root h x = tt
+needs_stay (part.Walk gfn) h x = prop_stays (hlevel props) x
+needs_stay (part.Link gfn) h x = (
+  enter_stays gfn h.topics (∥∥₁_map x (λ N. N.0)),
+  ∥∥₁_elim x (hlevel props) (λ N. N.1),
+  ∥∥₁_elim x (hlevel props) (λ N. N.2),
+  table_stays (h.topics.walk.level - 1) h.topics (∥∥₁_map x (λ N. N.3)),
+)
+needs_stay (part.Leaf gfn) h x = (enter_stays gfn h.topics (∥∥₁_map x (λ N. N.0)), ∥∥₁_elim x (hlevel props) (λ N. N.1))
+needs_stay (part.Host page) h x = prop_stays (hlevel props) x
+needs_stay (part.Watch index) h x = (
+  ∥∥₁_elim x (hlevel props) (λ N. N.0),
+  ∥∥₁_elim x (hlevel props) (λ N. N.1),
+  either_stays (same_or index (next_watched (own_index h) 0)) (λ y. prop_stays (hlevel props) y) (∥∥₁_map x (λ N. N.2)),
+)
+
+on_stays : (s : Option PartStep) (h : Held) → ∥ RestsOn s h ∥₁ → RestsOn s h
+on_stays None h x = prop_stays (hlevel props) x
+on_stays (Some step) h x = needs_stay step h x
+
+at_stays : (p : Place) (command : Command) (h : Held) → ∥ RestsAt p command h ∥₁ → RestsAt p command h
+at_stays place.Between command h x = tt
+at_stays (place.Access p) (Access gfn word op) h x = on_stays (access_part p gfn h.topics) h x
+at_stays (place.Access p) (SetSlot id slot) h x = prop_stays (hlevel props) x
+at_stays (place.SetSlot p) (Access gfn word op) h x = prop_stays (hlevel props) x
+at_stays (place.SetSlot (Refuse refusal)) (SetSlot id slot) h x = prop_stays (hlevel props) x
+at_stays (place.SetSlot (Fill f)) (SetSlot id slot) h x = prop_stays (hlevel props) x
+
+accepts_prop : (p : SetSlotPlace) (total id : ℕ) (slot : SlotOf) (slots : MemorySlots) → IsProp (RecordAccepts p total id slot slots)
 accepts_prop (Refuse refusal) total id slot slots = hlevel props
 accepts_prop (Fill f) total id slot slots = hlevel props
 
@@ -150,14 +269,31 @@ command_prop z Manager (SetSlot id slot) = hlevel props
 command_prop z (Worker n) (Access gfn word op) = hlevel props
 command_prop z (Worker n) (SetSlot id slot) = hlevel props
 
-pub rests_prop : (h : Held) → IsProp (Rests h)
-rests_prop h = hlevel (props, rests_at_prop, accepts_at_prop, command_prop)
+pub part_rests_prop : (h : Held) → IsProp (PartRests h)
+part_rests_prop h = hlevel props
+
+pub rests_stay : (h : Held) → ∥ Rests h ∥₁ → Rests h
+rests_stay h x =
+    let line : Line = line_at h.state.place h in
+    let p : Place = place_at h.state.place h in
+    record {
+      part = ∥∥₁_elim x (part_rests_prop h) (λ R. R.part);
+      line = ∥∥₁_elim x (command_prop h.state.sizes line.actor line.command) (λ R. R.line);
+      at = at_stays p line.command h (∥∥₁_map x (λ R. R.at));
+      accepts = ∥∥₁_elim x (accepts_at_prop p line.command h.state.sizes h.slots) (λ R. R.accepts);
+    }
 
 -- The word of the next step is one of its area.
 touch_within : (z : Sizes) (op : Op) (frame word : ℕ) → frame < z.frames → word < z.words → (touch_of op (content_index (map_of z) frame word)).index < size_of (map_of z) (touch_of op (content_index (map_of z) frame word)).area
 touch_within z Read frame word a b = content_within (map_of z) frame word a b
 touch_within z (Write x) frame word a b = content_within (map_of z) frame word a b
 touch_within z (Add x) frame word a b = content_within (map_of z) frame word a b
+
+task_is_within : (s : Option PartStep) (h : Held) (note word : ℕ) (op : Op) → word < h.state.sizes.words → PartRests h → RestsOn s h
+    → (task_by s h note (touch_of op (content_index (map_of h.state.sizes) (frame_in h.state.leaf) word))).index
+    < size_of (map_of h.state.sizes) (task_by s h note (touch_of op (content_index (map_of h.state.sizes) (frame_in h.state.leaf) word))).area
+task_is_within None h note word op w R N = touch_within h.state.sizes op (frame_in h.state.leaf) word N.0 w
+task_is_within (Some step) h note word op w R N = part_within_by step h note N R
 
 slot_within : (z : Sizes) (set id : ℕ) (f : SlotField) → set < z.pool → id ≤ 31 → slot_index set id f < size_of (map_of z) area.Pool
 slot_within z set id f a b = let n = is_number f in pool_within (map_of z) set (4 * id + field_number f) a (omega arith)
@@ -168,28 +304,20 @@ command_word z (Host n) gfn word op e = absurd e
 command_word z Manager gfn word op e = absurd e
 command_word z (Worker n) gfn word op e = absurd e
 
-access_within : (p : AccessPlace) (s : State) (gfn word : ℕ) (op : Op) → word < s.sizes.words → AccessRests p s gfn → (access_task p s gfn word op).index < size_of (map_of s.sizes) (access_task p s gfn word op).area
-access_within access.Slots s gfn word op w e = omega arith
-access_within (access.Slot id f) s gfn word op w e = slot_within s.sizes s.look.set id f e.1 e.0
-access_within access.Walk s gfn word op w e = e.page
-access_within access.Host s gfn word op w e = e.page
-access_within access.Install s gfn word op w e = e.0.page
-access_within access.Touch s gfn word op w e = touch_within s.sizes op (frame_in s.spte) word e w
+set_slot_within : (z : Sizes) (p : SetSlotPlace) (id : ℕ) (slot : SlotOf) (t : Topics) → AreSizes z → SetSlotRests p id t → (set_slot_task p id slot).index < size_of (map_of z) (set_slot_task p id slot).area
+set_slot_within z (Refuse refusal) id slot t sizes e = omega arith
+set_slot_within z (Fill field.Base) id slot t sizes e = slot_within z published_set id field.Base (omega (arith, sizes.pool.0)) e.0
+set_slot_within z (Fill field.Pages) id slot t sizes e = slot_within z published_set id field.Pages (omega (arith, sizes.pool.0)) e.0
+set_slot_within z (Fill field.Host) id slot t sizes e = slot_within z published_set id field.Host (omega (arith, sizes.pool.0)) e.0
+set_slot_within z (Fill field.Flags) id slot t sizes e = slot_within z published_set id field.Flags (omega (arith, sizes.pool.0)) e.0
 
-set_slot_within : (z : Sizes) (p : SetSlotPlace) (id : ℕ) (slot : Slot) → AreSizes z → SetSlotRests p id → (set_slot_task p id slot).index < size_of (map_of z) (set_slot_task p id slot).area
-set_slot_within z (Refuse refusal) id slot sizes e = omega arith
-set_slot_within z (Fill field.Base) id slot sizes e = slot_within z published_set id field.Base (omega (arith, sizes.pool.0)) e
-set_slot_within z (Fill field.Pages) id slot sizes e = slot_within z published_set id field.Pages (omega (arith, sizes.pool.0)) e
-set_slot_within z (Fill field.Host) id slot sizes e = slot_within z published_set id field.Host (omega (arith, sizes.pool.0)) e
-set_slot_within z (Fill field.Flags) id slot sizes e = slot_within z published_set id field.Flags (omega (arith, sizes.pool.0)) e
-
-within_at : (p : Place) (line : Line) (command : Command) (s : State) → AreSizes s.sizes → IsCommandFor s.sizes line.actor command → RestsAt p command s → (task_at p command s).index < size_of (map_of s.sizes) (task_at p command s).area
-within_at place.Between line (Access gfn word op) s sizes may e = omega arith
-within_at place.Between line (SetSlot id slot) s sizes may e = omega arith
-within_at (place.Access p) line (Access gfn word op) s sizes may e = access_within p s gfn word op (command_word s.sizes line.actor gfn word op may) e
-within_at (place.Access p) line (SetSlot id slot) s sizes may e = absurd e
-within_at (place.SetSlot p) line (Access gfn word op) s sizes may e = absurd e
-within_at (place.SetSlot p) line (SetSlot id slot) s sizes may e = set_slot_within s.sizes p id slot sizes e
+within_at : (p : Place) (actor : Actor) (command : Command) (h : Held) → IsCommandFor h.state.sizes actor command → PartRests h → RestsAt p command h → (task_at p command h).index < size_of (map_of h.state.sizes) (task_at p command h).area
+within_at place.Between actor (Access gfn word op) h may R e = omega arith
+within_at place.Between actor (SetSlot id slot) h may R e = omega arith
+within_at (place.Access p) actor (Access gfn word op) h may R e = task_is_within (access_part p gfn h.topics) h (access_note p) word op (command_word h.state.sizes actor gfn word op may) R e
+within_at (place.Access p) actor (SetSlot id slot) h may R e = absurd e
+within_at (place.SetSlot p) actor (Access gfn word op) h may R e = absurd e
+within_at (place.SetSlot p) actor (SetSlot id slot) h may R e = set_slot_within h.state.sizes p id slot h.topics R.sizes e
 
 pub task_within : (h : Held) → Rests h → (task_of h).index < size_of (map_of h.state.sizes) (task_of h).area
-task_within h R = within_at (place_at h.state.place h) (line_at h.state.place h) (line_at h.state.place h).command h.state R.sizes R.line R.at
+task_within h R = within_at (place_at h.state.place h) (line_at h.state.place h).actor (line_at h.state.place h).command h R.line R.part R.at

@@ -1,23 +1,26 @@
 -- Who has yet to take itself out of the readers saw a writer: each step keeps it.
 use Rattle.std.proofs.Common.{◌≡◌, ◌<◌, ℕ, refl, sym, subst}
 use Rattle.std.specs.Prelude.{Bool, true, false, ◌==◌, if◌then◌else◌}
-use Rattle.core_views.specs.declared.place.Place.{Place}
+use Rattle.core_views.specs.declared.place.Place.TheVariants as place
+use Rattle.core_views.specs.declared.place.SetSlotPlace.{SetSlotPlace}
 use Rattle.core_views.specs.declared.sizes.Sizes.{Sizes}
 use Rattle.core_views.specs.declared.topics.Hold.TheVariants.{Shared, Owing, Exclusive}
 use Rattle.core_views.specs.declared.topics.Topics.{Topics}
-use Rattle.core_views.specs.declared.trace.Command.{Command}
+use Rattle.core_views.specs.declared.trace.Command.TheVariants.{SetSlot}
 use Rattle.core_views.specs.declared.trace.Line.{Line}
+use Rattle.core_views.specs.declared.trace.Slot.{Slot}
 use Rattle.core_views.specs.Held.{Held}
 use Rattle.core_views.specs.Sizes.{actors_of}
 use Rattle.mmu_core.specs.declared.part_step.PartStep.{PartStep}
 use Rattle.mmu_core.specs.declared.part_step.PartStep.TheVariants as part
+use Rattle.mmu_core.specs.Invariant.{Invariant}
 use Rattle.mmu_core.specs.LockPart.{SawWriter}
 use Rattle.mmu_core.specs.PartTopics.{part_topics}
 use Rattle.mmu_core.specs.TopicsInvariant.{TopicsInvariant}
 use Rattle.mmu_core.specs.TopicSteps.{has_writer}
 use Rattle.mmu_core.specs.View.{View, part_stepped, stepped}
 use Rattle.mmu_core.proofs.Columns.{at_upd}
-use Rattle.mmu_core.proofs.LineTopicsKept.{is_at_rest, rests_after}
+use Rattle.mmu_core.proofs.LineTopicsKept.{still_rests}
 use Rattle.mmu_core.proofs.PartStepping.{IsPart}
 use Rattle.mmu_core.proofs.PartTopics.{behind_step}
 use Rattle.mmu_core.proofs.Stepping.{IsStep}
@@ -65,8 +68,7 @@ saw_kept z v a step note S I =
     behind_step (SawAt z) z v a step note S
     (at_upd (λ i (h : Held). i < actors_of z → SawWriter h.topics.hold) v.hand a _ (λ lt. saw_behind step (v.hand a).topics _ (I.saw_writer a lt)) (λ i ne lt. I.saw_writer i lt))
 
-pub line_saw_kept : (z : Sizes) (v : View) (a : ℕ) (line : Line) (command : Command) (p : Place) → IsStep z v a line command p → TopicsInvariant z v → SawAt z (stepped a line command p v)
-line_saw_kept z v a line command p S I =
-    at_upd (λ i (h : Held). i < actors_of z → SawWriter h.topics.hold) v.hand a _
-    (λ lt. let R = rests_after line command p (v.hand a) _ (is_at_rest z v a line command p S I) in subst SawWriter (sym R.hold) (I.saw_writer a lt))
-    (λ i ne lt. I.saw_writer i lt)
+pub setting_saw_kept : (z : Sizes) (v : View) (a : ℕ) (line : Line) (p : SetSlotPlace) (id : ℕ) (slot : Slot) → IsStep z v a line (SetSlot id slot) (place.SetSlot p) → Invariant z v → TopicsInvariant z v
+    → SawAt z (stepped a line (SetSlot id slot) (place.SetSlot p) v)
+setting_saw_kept z v a line p id slot S J I =
+    at_upd (λ i (h : Held). i < actors_of z → SawWriter h.topics.hold) v.hand a _ (λ lt. subst SawWriter (sym (still_rests z v a line p id slot S J I).hold) (I.saw_writer a lt)) (λ i ne lt. I.saw_writer i lt)

@@ -23,7 +23,7 @@ use Rattle.mmu_core.specs.TopicsInvariant.{TopicsInvariant}
 use Rattle.mmu_core.specs.TopicSteps.{at_set, begun, is_loose, is_section, kept_search, may_search, searched, searched_at}
 use Rattle.mmu_core.specs.TreePart.{IsLiveIn}
 use Rattle.mmu_core.specs.View.{View, part_stepped, upd}
-use Rattle.mmu_core.proofs.AccessKept.{same_slot}
+use Rattle.mmu_core.proofs.SlotFields.{same_slot}
 use Rattle.mmu_core.proofs.Columns.{at_upd}
 use Rattle.mmu_core.proofs.HeldKept.{held_kept}
 use Rattle.mmu_core.proofs.LiveStays.{LiveStays, live_in_stays, part_live_stays, slot_stays, still_live}

@@ -1,9 +1,12 @@
 -- The steps of a slot setting keep the invariant.
-use Rattle.std.proofs.Common.{◌≡◌, ◌≢◌, ◌⊎◌, inl, inr, ◌<◌, ◌≤◌, ◌+◌, ◌*◌, ℕ, List, [], ◌∷◌, ◌++◌, length, take, refl, sym, subst, ap, ◌∙◌, arith}
+use Rattle.std.proofs.Common.{◌≡◌, ◌≢◌, ◌⊎◌, inl, inr, ◌<◌, ◌≤◌, ℕ, List, [], ◌∷◌, ◌++◌, length, take, refl, sym, subst, ap, ◌∙◌, arith}
 use Rattle.std.specs.Prelude.{Bool, true, false}
+use Rattle.circular_buffer.specs.Buffer.{Buffer}
 use Rattle.core_views.specs.declared.actor.Actor.TheVariants.{Manager}
 use Rattle.core_views.specs.declared.answer.Answer.TheVariants.{Done}
+use Rattle.core_views.specs.declared.cache.Translation.{Translation}
 use Rattle.core_views.specs.declared.hand.State.{State}
+use Rattle.core_views.specs.declared.kind.Kind.{Kind}
 use Rattle.core_views.specs.declared.place.Place.{Place}
 use Rattle.core_views.specs.declared.place.Place.TheVariants as place
 use Rattle.core_views.specs.declared.place.SetSlotPlace.{SetSlotPlace}
@@ -21,22 +24,25 @@ use Rattle.core_views.specs.Sizes.{actors_of, index_of}
 use Rattle.core_views.specs.Traces.{IsCommandFor, slot_ids}
 use Rattle.spte_words.specs.declared.area.Area.TheVariants as area
 use Rattle.spte_words.specs.Flags.{flags_live, flags_read_only, flags_word}
-use Rattle.spte_words.proofs.Indices.{same_pool_word}
 use Rattle.spte_words.proofs.ReadsFlags.{flags_are_live, flags_are_read_only}
 use Rattle.mmu_core.specs.declared.outcome.Outcome.{Outcome}
-use Rattle.mmu_core.specs.Invariant.{Holds, Invariant, InvariantOf, OwnLines, RecordPart, SlotSetPart, UnderWay}
-use Rattle.mmu_core.specs.SetSlotSteps.{published_set, set_slot_outcome}
+use Rattle.mmu_core.specs.Cached.{flushed}
+use Rattle.mmu_core.specs.Invariant.{CachedPart, Holds, Invariant, InvariantOf, IsLeafFor, OwnLines, RecordPart, SlotSetPart, UnderWay}
+use Rattle.mmu_core.specs.SetSlotSteps.{published_set, set_slot_outcome, set_slot_task}
 use Rattle.mmu_core.specs.SlotWords.{field_number, live_at, slot_at, slot_index, slots_below}
 use Rattle.mmu_core.specs.Steps.{next_line}
-use Rattle.mmu_core.specs.Tasks.{place_after}
+use Rattle.mmu_core.specs.Tasks.{kind_of_task, place_after}
 use Rattle.mmu_core.specs.View.{View, hand_after, stepped, upd}
-use Rattle.mmu_core.proofs.AccessKept.{quiet, same_slot}
 use Rattle.mmu_core.proofs.Columns.{at_upd, same_or, upd_other, upd_same}
 use Rattle.mmu_core.proofs.LinesKept.{answered_kept, answers_length, behind, line_sets, lines_behind, set_by_with, set_here}
 use Rattle.mmu_core.proofs.Stepping.{IsStep, next_has}
 use Rattle.mmu_core.proofs.Accepted.{MayBeSet, may_be_set, record_of, setting_is_managers}
 use Rattle.mmu_core.proofs.SlotLists.{one_more_live, same_below}
-use Rattle.mmu_core.proofs.LiveStay.{StayLive, access_stays, leaves_stay, set_stays}
+use Rattle.mmu_core.proofs.LiveStay.{StayLive, access_stays, set_stays, translations_stay}
+use Rattle.mmu_core.proofs.CachedKept.{flushed_kept}
+pub use Rattle.mmu_core.proofs.SlotFields.{is_number}
+use Rattle.mmu_core.proofs.SlotFields.{not_it, other_slot, other_word, same_field, same_slot}
+use Rattle.mmu_core.proofs.SlotsStay.{AllKnow, hand_moved}
 use Rattle.mmu_core.specs.SlotSetPart.{Fits}
 use Rattle.core_views.specs.declared.answer.AnsweredLine.{AnsweredLine}
 use Rattle.core_views.specs.declared.slot_set.MemorySlot.{MemorySlot}
@@ -51,20 +57,6 @@ use Rattle.std.specs.Map.{keys_of}
 use Rattle.std.specs.Ordering.{nat_cmp}
 use Rattle.mmu_core.specs.declared.outcome.Outcome.TheVariants.{Ends}
 
-pub is_number : (f : SlotField) → field_number f ≤ 3
-is_number field.Base = omega arith
-is_number field.Pages = omega arith
-is_number field.Host = omega arith
-is_number field.Flags = omega arith
-
--- Fields of two slots, or two fields of one, are two words.
-same_field : (i j : ℕ) (f g : SlotField) → i ≤ 31 → j ≤ 31 → slot_index published_set i f ≡ slot_index published_set j g → (i ≡ j) × (field_number f ≡ field_number g)
-same_field i j f g low below e =
-    let a = is_number f in
-    let b = is_number g in
-    let s = same_pool_word published_set published_set (4 * i + field_number f) (4 * j + field_number g) (omega arith) (omega arith) e in
-    (omega (arith, s.1, a, b), omega (arith, s.1, a, b))
-
 -- A hand that stands in a slot setting is the manager's.
 setting_hand : (z : Sizes) (i : ℕ) (h : Held) (p : SetSlotPlace) (id : ℕ) (slot : Slot) → OwnLines z i h → h.state.place ≡ place.SetSlot p → h.state.line.command ≡ SetSlot id slot → h.state.actor ≡ Manager
 setting_hand z i h p id slot O is command =
@@ -75,20 +67,6 @@ setting_hand z i h p id slot O is command =
 
 one_manager : (z : Sizes) (i a : ℕ) (h g : Held) → OwnLines z i h → OwnLines z a g → h.state.actor ≡ Manager → g.state.actor ≡ Manager → i ≡ a
 one_manager z i a h g O P is be = sym O.index ∙ (ap (index_of z) (is ∙ sym be) ∙ P.index)
-
--- A slot's word is stored: those of slots with other IDs stay.
-pub other_word : (pool : ℕ → ℕ) (id x : ℕ) (f : SlotField) (j : ℕ) (g : SlotField) → id ≤ 31 → j ≤ 31 → j ≢ id → upd pool (slot_index published_set id f) x (slot_index published_set j g) ≡ pool (slot_index published_set j g)
-other_word pool id x f j g low below apart = upd_other pool (slot_index published_set id f) (slot_index published_set j g) x (λ e. apart (same_field j id g f below low e).0)
-
-other_slot : (pool : ℕ → ℕ) (id x : ℕ) (f : SlotField) (j : ℕ) → id ≤ 31 → j ≤ 31 → j ≢ id → slot_at (upd pool (slot_index published_set id f) x) published_set j ≡ slot_at pool published_set j
-other_slot pool id x f j low below apart =
-    same_slot (slot_at (upd pool (slot_index published_set id f) x) published_set j) (slot_at pool published_set j)
-    (other_word pool id x f j field.Base low below apart) (other_word pool id x f j field.Pages low below apart) (other_word pool id x f j field.Host low below apart)
-    (ap flags_read_only (other_word pool id x f j field.Flags low below apart))
-
--- A live slot has another ID than one that isn't live.
-pub not_it : (pool : ℕ → ℕ) (id j : ℕ) → live_at pool published_set id ≡ false → live_at pool published_set j ≡ true → j ≢ id
-not_it pool id j not_live live same = let is : live_at pool published_set j ≡ live_at pool published_set id = ap (live_at pool published_set) same in absurd (cc (is, not_live, live))
 
 -- Any word of a slot that isn't live is stored: each live slot stays.
 pub still_live : (pool : ℕ → ℕ) (id x : ℕ) (f : SlotField) → id ≤ 31 → live_at pool published_set id ≡ false → StayLive pool (upd pool (slot_index published_set id f) x)
@@ -113,7 +91,7 @@ was_live pool id x f low not_flags not_live e l =
 holds_other : (z : Sizes) (pool other host : ℕ → ℕ) (p : Place) (c : Command) (slots : MemorySlots) (s : State) → StayLive pool other → ((q : SetSlotPlace) (id : ℕ) (slot : Slot) → p ≡ place.SetSlot q → c ≡ SetSlot id slot → ⊥)
     → Holds z pool host p c slots s → Holds z other host p c slots s
 holds_other z pool other host place.Between c slots s stay apart e = tt
-holds_other z pool other host (place.Access p) (Access gfn word op) slots s stay apart e = access_stays pool other stay host p s gfn op e
+holds_other z pool other host (place.Access p) (Access gfn word op) slots s stay apart e = access_stays pool other stay host p s gfn e
 holds_other z pool other host (place.Access p) (SetSlot id slot) slots s stay apart e = absurd e
 holds_other z pool other host (place.SetSlot p) (Access gfn word op) slots s stay apart e = absurd e
 holds_other z pool other host (place.SetSlot p) (SetSlot id slot) slots s stay apart e = absurd (apart p id slot refl refl)
@@ -121,19 +99,29 @@ holds_other z pool other host (place.SetSlot p) (SetSlot id slot) slots s stay a
 -- A word of the pool is stored by the manager, where live slots stay.
 stored : (z : Sizes) (v : View) (a : ℕ) (other : ℕ → ℕ) (h : Held) → a < actors_of z → StayLive (v.words area.Pool) other → Invariant z v → (v.hand a).state.actor ≡ Manager
     → SlotSetPart z (v.words area.Slots) other → OwnLines z a h → Holds z other (v.words area.Host) h.state.place h.state.line.command h.slots h.state → RecordPart other h.slots
-    → InvariantOf z (v.words area.Slots) other (v.words area.Host) (v.words area.Linear) (upd v.hand a h)
-stored z v a other h there stay I manager set own holds recorded = record {
+    → CachedPart other (v.words area.Host) h.cached.items → AllKnow z (upd v.hand a h)
+    → InvariantOf z (v.words area.Slots) other (v.words area.Host) (upd v.hand a h)
+stored z v a other h there stay I manager set own holds recorded cached knows = record {
   sizes = I.sizes;
   hosts = I.hosts;
   set = set;
-  leaves = leaves_stay (v.words area.Pool) other stay z (v.words area.Host) (v.words area.Linear) I.leaves;
   lines = at_upd (λ i x. i < actors_of z → OwnLines z i x) v.hand a h (λ lt. own) (λ i ne. I.lines i);
   loads = at_upd (λ i x. i < actors_of z → Holds z other (v.words area.Host) x.state.place x.state.line.command x.slots x.state) v.hand a h (λ lt. holds)
       (λ i ne lt. holds_other z (v.words area.Pool) other (v.words area.Host) (v.hand i).state.place (v.hand i).state.line.command (v.hand i).slots (v.hand i).state stay
       (λ q id slot is command. ne (one_manager z i a (v.hand i) (v.hand a) (I.lines i lt) (I.lines a there) (setting_hand z i (v.hand i) q id slot (I.lines i lt) is command) manager)) (I.loads i lt));
+  knows = knows;
+  cached = at_upd (λ i (x : Held). i < actors_of z → CachedPart other (v.words area.Host) x.cached.items) v.hand a h (λ lt. cached)
+      (λ i ne lt. translations_stay (v.words area.Pool) other stay (v.words area.Host) (v.hand i).cached.items (I.cached i lt));
   recorded = at_upd (λ i (x : Held). i < actors_of z → x.state.actor ≡ Manager → RecordPart other x.slots) v.hand a h (λ lt is. recorded)
       (λ i ne lt is. absurd (ne (one_manager z i a (v.hand i) (v.hand a) (I.lines i lt) (I.lines a there) is manager)));
 }
+
+-- What the manager has cached stays, or is flushed.
+still_cached : (v : View) (a : ℕ) (other : ℕ → ℕ) (k : Kind) (x : ℕ) → StayLive (v.words area.Pool) other → CachedPart (v.words area.Pool) (v.words area.Host) (v.hand a).cached.items
+    → CachedPart other (v.words area.Host) (flushed k (v.hand a).cached x).items
+still_cached v a other k x stay each =
+    flushed_kept (λ (t : Translation). (t.level ≡ 1) × IsLeafFor other (v.words area.Host) t.gfn t.leaf) k (v.hand a).cached x
+    (translations_stay (v.words area.Pool) other stay (v.words area.Host) (v.hand a).cached.items each)
 
 -- A word that isn't the flags is stored: the list of live slots stays.
 pub filled_below : (pool : ℕ → ℕ) (id x : ℕ) (f : SlotField) → id ≤ 31 → field_number f < 3 → live_at pool published_set id ≡ false → slots_below pool published_set 32 ≡ slots_below (upd pool (slot_index published_set id f) x) published_set 32
@@ -142,21 +130,24 @@ filled_below pool id x f low not_flags not_live =
     (λ i lt live. sym (other_slot pool id x f i low (omega arith) (not_it pool id i not_live live)))
 
 -- The stores before the flags: no other slot is live behind them.
-filled : (z : Sizes) (v : View) (a : ℕ) (line : Line) (id : ℕ) (slot : Slot) (f : SlotField) (x : ℕ) (o : Outcome) (t : Topics) → IsStep z v a line (SetSlot id slot) (place.SetSlot (Fill f)) → Invariant z v → field_number f < 3
-    → Holds z (upd (v.words area.Pool) (slot_index published_set id f) x) (v.words area.Host) (place_after o) (SetSlot id slot) (v.hand a).slots (behind (v.hand a) line (v.hand a).state o t (v.hand a).slots).state
-    → InvariantOf z (v.words area.Slots) (upd (v.words area.Pool) (slot_index published_set id f) x) (v.words area.Host) (v.words area.Linear) (upd v.hand a (behind (v.hand a) line (v.hand a).state o t (v.hand a).slots))
-filled z v a line id slot f x o t S I not_flags holds =
+filled : (z : Sizes) (v : View) (a : ℕ) (line : Line) (id : ℕ) (slot : Slot) (f : SlotField) (x : ℕ) (o : Outcome) (t : Topics) (k : Kind) → IsStep z v a line (SetSlot id slot) (place.SetSlot (Fill f)) → Invariant z v → field_number f < 3
+    → Holds z (upd (v.words area.Pool) (slot_index published_set id f) x) (v.words area.Host) (place_after o) (SetSlot id slot) (v.hand a).slots (behind (v.hand a) line (v.hand a).state o t (flushed k (v.hand a).cached x) (v.hand a).slots).state
+    → AllKnow z (upd v.hand a (behind (v.hand a) line (v.hand a).state o t (flushed k (v.hand a).cached x) (v.hand a).slots))
+    → InvariantOf z (v.words area.Slots) (upd (v.words area.Pool) (slot_index published_set id f) x) (v.words area.Host) (upd v.hand a (behind (v.hand a) line (v.hand a).state o t (flushed k (v.hand a).cached x) (v.hand a).slots))
+filled z v a line id slot f x o t k S I not_flags holds knows =
     let h : Held = v.hand a in
     let O = I.lines a S.there in
     let pool : ℕ → ℕ = v.words area.Pool in
     let other : ℕ → ℕ = upd pool (slot_index published_set id f) x in
+    let c : Buffer Translation = flushed k h.cached x in
     let may = may_be_set z v a line id slot f S I in
     let R = record_of z v a line id slot (Fill f) S I in
-    stored z v a other (behind h line h.state o t h.slots) S.there (still_live pool id x f may.low may.not_live) I (sym S.own ∙ setting_is_managers z line.actor id slot S.allowed)
+    stored z v a other (behind h line h.state o t c h.slots) S.there (still_live pool id x f may.low may.not_live) I (sym S.own ∙ setting_is_managers z line.actor id slot S.allowed)
     (set_stays z (v.words area.Slots) pool other (was_live pool id x f may.low not_flags may.not_live) I.set)
-    (lines_behind z a h line h.state o t h.slots O S.next S.left O.sizes refl (answered_kept o line h.lines h.answers (keys_of h.slots) S.left O.answered) O.set)
-    (subst (λ c. Holds z other (v.words area.Host) (place_after o) c h.slots (behind h line h.state o t h.slots).state) (sym S.command_is) holds)
+    (lines_behind z a h line h.state o t c h.slots O S.next S.left O.sizes refl (answered_kept o line h.lines h.answers (keys_of h.slots) S.left O.answered) O.set)
+    (subst (λ c. Holds z other (v.words area.Host) (place_after o) c h.slots (behind h line h.state o t (flushed k h.cached x) h.slots).state) (sym S.command_is) holds)
     (record { same = R.same ∙ filled_below pool id x f may.low not_flags may.not_live; unlogged = R.unlogged })
+    (still_cached v a other k x (still_live pool id x f may.low may.not_live) (I.cached a S.there)) knows
 
 -- The flags of a slot that may be set are stored, behind its other words: it is live, and this one.
 module _ (z : Sizes) (pool : ℕ → ℕ) (id : ℕ) (slot : Slot) (may : MayBeSet z pool id slot) (base : pool (slot_index published_set id field.Base) ≡ slot.base)
@@ -218,23 +209,27 @@ module _ (z : Sizes) (pool : ℕ → ℕ) (id : ℕ) (slot : Slot) (may : MayBeS
   }
 
 -- The flags are stored: the slot is live, and the record has it.
-flags_stored : (z : Sizes) (v : View) (a : ℕ) (line : Line) (id : ℕ) (slot : Slot) (t : Topics) → IsStep z v a line (SetSlot id slot) (place.SetSlot (Fill field.Flags)) → Invariant z v
-    → InvariantOf z (v.words area.Slots) (upd (v.words area.Pool) (slot_index published_set id field.Flags) (flags_word true slot.read_only false)) (v.words area.Host) (v.words area.Linear)
-    (upd v.hand a (behind (v.hand a) line (v.hand a).state (Ends Done) t (after_set id slot (v.hand a).slots)))
-flags_stored z v a line id slot t S I =
+flags_stored : (z : Sizes) (v : View) (a : ℕ) (line : Line) (id : ℕ) (slot : Slot) (t : Topics) (k : Kind) → IsStep z v a line (SetSlot id slot) (place.SetSlot (Fill field.Flags)) → Invariant z v
+    → AllKnow z (upd v.hand a (behind (v.hand a) line (v.hand a).state (Ends Done) t (flushed k (v.hand a).cached (flags_word true slot.read_only false)) (after_set id slot (v.hand a).slots)))
+    → InvariantOf z (v.words area.Slots) (upd (v.words area.Pool) (slot_index published_set id field.Flags) (flags_word true slot.read_only false)) (v.words area.Host)
+    (upd v.hand a (behind (v.hand a) line (v.hand a).state (Ends Done) t (flushed k (v.hand a).cached (flags_word true slot.read_only false)) (after_set id slot (v.hand a).slots)))
+flags_stored z v a line id slot t k S I knows =
     let h : Held = v.hand a in
     let O = I.lines a S.there in
     let pool : ℕ → ℕ = v.words area.Pool in
-    let other : ℕ → ℕ = upd pool (slot_index published_set id field.Flags) (flags_word true slot.read_only false) in
+    let word : ℕ = flags_word true slot.read_only false in
+    let other : ℕ → ℕ = upd pool (slot_index published_set id field.Flags) word in
+    let c : Buffer Translation = flushed k h.cached word in
     let may = may_be_set z v a line id slot field.Flags S I in
+    let live = still_live pool id word field.Flags may.low may.not_live in
     let R = record_of z v a line id slot (Fill field.Flags) S I in
     let set : MemorySlot = record { slot = slot; logged = is_logged id h.slots } in
     let is_set : (next_line h).command ≡ SetSlot id slot = ap (λ (l : Line). l.command) (sym S.next) ∙ S.command_is in
     let x : AnsweredLine = record { number = line.number; actor = line.actor; answer = Done } in
     let lines : List Line = take (length (h.answers ++ x ∷ [])) h.lines in
-    stored z v a other (behind h line h.state (Ends Done) t (after_set id slot h.slots)) S.there (still_live pool id (flags_word true slot.read_only false) field.Flags may.low may.not_live) I (sym S.own ∙ setting_is_managers z line.actor id slot S.allowed)
+    stored z v a other (behind h line h.state (Ends Done) t c (after_set id slot h.slots)) S.there live I (sym S.own ∙ setting_is_managers z line.actor id slot S.allowed)
     (set_with z pool id slot may S.holds.1 S.holds.2 S.holds.3 (v.words area.Slots) I.set)
-    (lines_behind z a h line h.state (Ends Done) t (after_set id slot h.slots) O S.next S.left O.sizes refl
+    (lines_behind z a h line h.state (Ends Done) t c (after_set id slot h.slots) O S.next S.left O.sizes refl
     (All-keys-insert_entry nat_cmp id set (Contains (slot_ids lines)) h.slots (answered_kept (Ends Done) line h.lines h.answers (keys_of h.slots) S.left O.answered)
     (subst (λ n. Contains (slot_ids (take n h.lines)) id) (sym (answers_length h.answers x)) (set_here (length h.answers) h.lines id slot S.left is_set)))
     (set_by_with h.lines id set h.slots (line_sets (length h.answers) h.lines id slot S.left is_set) O.set))
@@ -243,32 +238,44 @@ flags_stored z v a line id slot t S I =
       same = flat_with id set h.slots ∙ ap (with_slot id slot) R.same ∙ sym (now_below z pool id slot may S.holds.1 S.holds.2 S.holds.3);
       unlogged = unlogged_behind id slot h.slots R.unlogged;
     })
+    (still_cached v a other k word live (I.cached a S.there)) knows
 
+-- the hand behind a step of a setting that answered x
+abbrev hand_behind : View → ℕ → Line → SetSlotPlace → ℕ → Slot → ℕ → Held
+hand_behind v a line p id slot x = hand_after line (SetSlot id slot) (place.SetSlot p) (v.hand a) x
+
+abbrev kind_at : View → ℕ → SetSlotPlace → ℕ → Slot → Kind
+kind_at v a p id slot = kind_of_task (v.hand a).state.sizes (set_slot_task p id slot)
+
+-- The invariant behind each step of a slot setting, where each actor knows behind it what its place asks.
 pub set_slot_kept : (z : Sizes) (v : View) (a : ℕ) (line : Line) (p : SetSlotPlace) (id : ℕ) (slot : Slot) → IsStep z v a line (SetSlot id slot) (place.SetSlot p) → Invariant z v
+    → AllKnow z (stepped a line (SetSlot id slot) (place.SetSlot p) v).hand
     → Invariant z (stepped a line (SetSlot id slot) (place.SetSlot p) v)
-set_slot_kept z v a line (Refuse refusal) id slot S I =
+set_slot_kept z v a line (Refuse refusal) id slot S I knows =
     let h : Held = v.hand a in
     let O = I.lines a S.there in
     let o : Outcome = set_slot_outcome (Refuse refusal) in
-    let t : Topics = (hand_after line (SetSlot id slot) (place.SetSlot (Refuse refusal)) h (v.words area.Seq 0)).topics in
-    quiet z (v.words area.Slots) (v.words area.Pool) (v.words area.Host) (v.words area.Linear) v.hand a (behind h line h.state o t h.slots)
-    (lines_behind z a h line h.state o t h.slots O S.next S.left O.sizes refl (answered_kept o line h.lines h.answers (keys_of h.slots) S.left O.answered) O.set)
-    tt (I.recorded a S.there) I
-set_slot_kept z v a line (Fill field.Base) id slot S I =
-    filled z v a line id slot field.Base slot.base (set_slot_outcome (Fill field.Base)) (hand_after line (SetSlot id slot) (place.SetSlot (Fill field.Base)) (v.hand a) slot.base).topics S I (omega arith) (S.holds, upd_same (v.words area.Pool) (slot_index published_set id field.Base) slot.base)
-set_slot_kept z v a line (Fill field.Pages) id slot S I =
+    let after : Held = hand_behind v a line (Refuse refusal) id slot (v.words area.Seq 0) in
+    hand_moved z (v.words area.Slots) (v.words area.Pool) (v.words area.Pool) (v.words area.Host) v.hand a after (λ j low. refl)
+    (lines_behind z a h line h.state o after.topics after.cached h.slots O S.next S.left O.sizes refl (answered_kept o line h.lines h.answers (keys_of h.slots) S.left O.answered) O.set)
+    tt (still_cached v a (v.words area.Pool) (kind_at v a (Refuse refusal) id slot) (v.words area.Seq 0) (λ e l. l) (I.cached a S.there)) (I.recorded a S.there) knows I
+set_slot_kept z v a line (Fill field.Base) id slot S I knows =
+    filled z v a line id slot field.Base slot.base (set_slot_outcome (Fill field.Base)) (hand_behind v a line (Fill field.Base) id slot slot.base).topics (kind_at v a (Fill field.Base) id slot) S I (omega arith)
+    (S.holds, upd_same (v.words area.Pool) (slot_index published_set id field.Base) slot.base) knows
+set_slot_kept z v a line (Fill field.Pages) id slot S I knows =
     let low = (may_be_set z v a line id slot field.Pages S I).low in
-    filled z v a line id slot field.Pages slot.pages (set_slot_outcome (Fill field.Pages)) (hand_after line (SetSlot id slot) (place.SetSlot (Fill field.Pages)) (v.hand a) slot.pages).topics S I (omega arith) (
+    filled z v a line id slot field.Pages slot.pages (set_slot_outcome (Fill field.Pages)) (hand_behind v a line (Fill field.Pages) id slot slot.pages).topics (kind_at v a (Fill field.Pages) id slot) S I (omega arith) (
       S.holds.0,
       upd_other (v.words area.Pool) (slot_index published_set id field.Pages) (slot_index published_set id field.Base) slot.pages (λ e. let t = same_field id id field.Base field.Pages low low e in omega (arith, t.1)) ∙ S.holds.1,
       upd_same (v.words area.Pool) (slot_index published_set id field.Pages) slot.pages,
-    )
-set_slot_kept z v a line (Fill field.Host) id slot S I =
+    ) knows
+set_slot_kept z v a line (Fill field.Host) id slot S I knows =
     let low = (may_be_set z v a line id slot field.Host S I).low in
-    filled z v a line id slot field.Host slot.host (set_slot_outcome (Fill field.Host)) (hand_after line (SetSlot id slot) (place.SetSlot (Fill field.Host)) (v.hand a) slot.host).topics S I (omega arith) (
+    filled z v a line id slot field.Host slot.host (set_slot_outcome (Fill field.Host)) (hand_behind v a line (Fill field.Host) id slot slot.host).topics (kind_at v a (Fill field.Host) id slot) S I (omega arith) (
       S.holds.0,
       upd_other (v.words area.Pool) (slot_index published_set id field.Host) (slot_index published_set id field.Base) slot.host (λ e. let t = same_field id id field.Base field.Host low low e in omega (arith, t.1)) ∙ S.holds.1,
       upd_other (v.words area.Pool) (slot_index published_set id field.Host) (slot_index published_set id field.Pages) slot.host (λ e. let t = same_field id id field.Pages field.Host low low e in omega (arith, t.1)) ∙ S.holds.2,
       upd_same (v.words area.Pool) (slot_index published_set id field.Host) slot.host,
-    )
-set_slot_kept z v a line (Fill field.Flags) id slot S I = flags_stored z v a line id slot (hand_after line (SetSlot id slot) (place.SetSlot (Fill field.Flags)) (v.hand a) (flags_word true slot.read_only false)).topics S I
+    ) knows
+set_slot_kept z v a line (Fill field.Flags) id slot S I knows =
+    flags_stored z v a line id slot (hand_behind v a line (Fill field.Flags) id slot (flags_word true slot.read_only false)).topics (kind_at v a (Fill field.Flags) id slot) S I knows

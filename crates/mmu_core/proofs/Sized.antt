@@ -1,17 +1,16 @@
 -- The sizes of a machine stay as they are in each hand, and the words and hands are as many as the sizes say.
 use Rattle.std.proofs.Common.{◌≡◌, ◌<◌, ◌⊎◌, inl, inr, ℕ, zero, suc, List, [], ◌∷◌, All, length, length-append, refl, ◌∙◌, ap, subst, sym, arith}
 use Rattle.std.proofs.lemmas.List.Elements.{All-append, All-cons, All-get_or, All-nil, All-set}
-use Rattle.core_views.specs.declared.hand.State.{State}
 use Rattle.core_views.specs.declared.kind.Kind.{Kind}
 use Rattle.core_views.specs.declared.place.AccessPlace.{AccessPlace}
-use Rattle.core_views.specs.declared.place.AccessPlace.TheVariants.{Slots, Slot, Walk, Host, Install, Touch}
+use Rattle.core_views.specs.declared.place.AccessPlace.TheVariants.{Enter, Pause, Root, Walk, Touch, Leave, Fault}
 use Rattle.core_views.specs.declared.place.Place.{Place}
 use Rattle.core_views.specs.declared.place.Place.TheVariants as place
-use Rattle.core_views.specs.declared.place.SlotField.TheVariants as field
 use Rattle.core_views.specs.declared.sizes.Sizes.{Sizes}
 use Rattle.core_views.specs.declared.trace.Command.{Command}
 use Rattle.core_views.specs.declared.trace.Command.TheVariants.{Access, SetSlot}
 use Rattle.core_views.specs.declared.trace.Line.{Line}
+use Rattle.core_views.specs.declared.trace.Op.{Op}
 use Rattle.core_views.specs.Held.{Held, first_held}
 use Rattle.core_views.specs.Sizes.{actor_at, actors_of}
 use Rattle.core_views.specs.Whole.{lines_of}
@@ -30,23 +29,21 @@ use Rattle.mmu_core.specs.Tasks.{map_of}
 use Rattle.mmu_core.specs.Worlds.{IsStart, Reachable, start_hands}
 use Rattle.mmu_core.proofs.Extend.{as_many_hands, as_many_words}
 
-access_keeps_sizes : (p : AccessPlace) (s : State) (v : ℕ) → (access_loads p s v).sizes ≡ s.sizes
-access_keeps_sizes Slots s v = refl
-access_keeps_sizes (Slot id field.Flags) s v = refl
-access_keeps_sizes (Slot id field.Base) s v = refl
-access_keeps_sizes (Slot id field.Pages) s v = refl
-access_keeps_sizes (Slot id field.Host) s v = refl
-access_keeps_sizes Walk s v = refl
-access_keeps_sizes Host s v = refl
-access_keeps_sizes Install s v = refl
-access_keeps_sizes Touch s v = refl
+access_keeps_sizes : (p : AccessPlace) (h : Held) (gfn : ℕ) (op : Op) (v : ℕ) → (access_loads p h gfn op v).sizes ≡ h.state.sizes
+access_keeps_sizes (Enter again) h gfn op v = refl
+access_keeps_sizes (Pause again) h gfn op v = refl
+access_keeps_sizes (Root again) h gfn op v = refl
+access_keeps_sizes (Walk again) h gfn op v = refl
+access_keeps_sizes Touch h gfn op v = refl
+access_keeps_sizes (Leave how) h gfn op v = refl
+access_keeps_sizes (Fault p) h gfn op v = refl
 
-loads_keep_sizes : (p : Place) (command : Command) (s : State) (v : ℕ) → (loads_at p command s v).sizes ≡ s.sizes
-loads_keep_sizes place.Between command s v = refl
-loads_keep_sizes (place.Access p) (Access gfn word op) s v = access_keeps_sizes p s v
-loads_keep_sizes (place.Access p) (SetSlot id slot) s v = refl
-loads_keep_sizes (place.SetSlot p) (Access gfn word op) s v = refl
-loads_keep_sizes (place.SetSlot p) (SetSlot id slot) s v = refl
+pub loads_keep_sizes : (p : Place) (command : Command) (h : Held) (v : ℕ) → (loads_at p command h v).sizes ≡ h.state.sizes
+loads_keep_sizes place.Between command h v = refl
+loads_keep_sizes (place.Access p) (Access gfn word op) h v = access_keeps_sizes p h gfn op v
+loads_keep_sizes (place.Access p) (SetSlot id slot) h v = refl
+loads_keep_sizes (place.SetSlot p) (Access gfn word op) h v = refl
+loads_keep_sizes (place.SetSlot p) (SetSlot id slot) h v = refl
 
 -- A step leaves the sizes in its hand.
 pub next_keeps_sizes : (h : Held) (k : Kind) (v : ℕ) → (next h k v).state.sizes ≡ h.state.sizes
@@ -54,7 +51,7 @@ unfolding next
 next_keeps_sizes h k v = by (has_line h)
   where
     by : (b : Bool) → (next_by b h k v).state.sizes ≡ h.state.sizes
-    by true = loads_keep_sizes (place_at h.state.place h) (line_at h.state.place h).command h.state v
+    by true = loads_keep_sizes (place_at h.state.place h) (line_at h.state.place h).command h v
     by false = refl
 
 -- The hand is of a machine of these sizes.

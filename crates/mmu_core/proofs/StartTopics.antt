@@ -145,7 +145,7 @@ look_first z seq host = record { there = λ look e. absurd (cc e); is = λ look 
 counters_first : (z : Sizes) → CountersPart z first_topics
 counters_first z = record { slots = omega arith; claim = omega arith; seen = omega arith; watched = omega arith; run = λ from. absurd (omega (arith, from)) }
 
-rest_first : IsAtRest first_topics
+pub rest_first : IsAtRest first_topics
 rest_first = record { outside = refl; loose = refl; owns_none = refl; no_table = refl; no_set = refl }
 
 pub start_topics : (z : Sizes) (lines : List Line) (w : World Held) → IsStart z lines w → TopicsInvariant z (view z w)
@@ -161,5 +161,4 @@ start_topics z lines w start = record {
   searches = λ i lt. subst (λ (t : Topics). SearchPart (word_in z w area.Pool) t.search) (sym (topics_are z lines w i start lt)) (search_first (word_in z w area.Pool));
   looks = λ i lt. subst (LookPart z (word_in z w area.Seq 0) (word_in z w area.Host)) (sym (topics_are z lines w i start lt)) (look_first z (word_in z w area.Seq 0) (word_in z w area.Host));
   counters = λ i lt. subst (CountersPart z) (sym (topics_are z lines w i start lt)) (counters_first z);
-  resting = λ i lt has. subst IsAtRest (sym (topics_are z lines w i start lt)) rest_first;
 }

@@ -1,15 +1,16 @@
 -- The invariant holds of every start, and so of every world that is reached.
-use Rattle.std.proofs.Common.{◌≡◌, ◌≢◌, inl, ◌<◌, ◌≤◌, ◌+◌, ◌-◌, ◌*◌, ◌^◌, ℕ, zero, suc, List, [], ◌∷◌, length, take, get_or, refl, sym, subst, ap, ◌∙◌, arith}
-use Rattle.std.proofs.Math.Logic.{∥∥₁_elim}
+use Rattle.std.proofs.Common.{◌≡◌, ◌≢◌, ◌<◌, ◌≤◌, ◌+◌, ◌-◌, ◌*◌, ◌^◌, ℕ, zero, suc, List, [], ◌∷◌, length, take, get_or, refl, sym, subst, ap, ◌∙◌, arith}
+use Rattle.std.proofs.Math.Logic.{∥∥₁_map}
 use Rattle.std.proofs.Math.Pow.{pow_mono}
 use Rattle.std.proofs.lemmas.Bool.Decides.{nat_tests, Decides-eqb}
 use Rattle.std.proofs.lemmas.Nat.{pow_pos}
 use Rattle.std.proofs.lemmas.List.Elements.{All-nil}
-use Rattle.std.specs.List.{AllByRecursion, Contains}
+use Rattle.std.specs.List.{AllByRecursion, Contains, IsDistinct}
 use Rattle.mmu_core.proofs.SlotLists.{none_below}
 use Rattle.std.specs.Prelude.{All, Bool, true, false, ◌==◌, nat_lt, if◌then◌else◌, slice_index}
 use Rattle.core_views.specs.declared.actor.Actor.{Actor}
 use Rattle.core_views.specs.declared.actor.Actor.TheVariants.{Vcpu, Host, Manager, Worker}
+use Rattle.core_views.specs.declared.cache.Translation.{Translation}
 use Rattle.core_views.specs.declared.sizes.Sizes.{Sizes}
 use Rattle.core_views.specs.declared.trace.Command.{Command}
 use Rattle.core_views.specs.declared.trace.Command.TheVariants.{Access, SetSlot}
@@ -17,7 +18,7 @@ use Rattle.core_views.specs.declared.trace.Line.{Line}
 use Rattle.core_views.specs.Actors.{is_same}
 use Rattle.core_views.specs.Held.{Held, first_held}
 use Rattle.core_views.specs.Sizes.{AreSizes, actor_at, actors_of, index_of}
-use Rattle.core_views.specs.Traces.{AreDistinct, IsCommandFor, or_slot_id, slot_ids}
+use Rattle.core_views.specs.Traces.{IsCommandFor, or_slot_id, slot_ids}
 use Rattle.core_views.specs.Whole.{lines_of}
 use Rattle.spte_words.specs.declared.area.Area.{Area}
 use Rattle.spte_words.specs.declared.area.Area.TheVariants as area
@@ -28,7 +29,7 @@ use Rattle.spte_words.specs.HostWords.{host_word}
 use Rattle.spte_words.specs.Areas.{StandsSomewhere}
 use Rattle.spte_words.proofs.Places.{word_stands}
 use Rattle.spte_words.proofs.ReadsHost.{host_fits}
-use Rattle.mmu_core.specs.Invariant.{Holds, IsSetBy, OwnLines, RecordPart}
+use Rattle.mmu_core.specs.Invariant.{CachedPart, Holds, IsLeafFor, IsSetBy, KnowsPart, OwnLines, RecordPart}
 use Rattle.mmu_core.specs.Machine.{World}
 use Rattle.mmu_core.specs.Rests.{Rests}
 use Rattle.mmu_core.specs.SetSlotSteps.{published_set}
@@ -38,8 +39,8 @@ use Rattle.mmu_core.specs.View.{view, word_in}
 use Rattle.mmu_core.specs.Worlds.{AreStartWords, HandReached, IsStart, Reachable, free_bits, least, start_word}
 pub use Rattle.mmu_core.proofs.StartWords.{hand_is, word_at_start}
 use Rattle.mmu_core.proofs.StartWords.{hands_count, least_low, pool_word}
-use Rattle.mmu_core.proofs.StartTopics.{start_topics}
-use Rattle.mmu_core.proofs.RestsKept.{hand_rests, rests_prop}
+use Rattle.mmu_core.proofs.StartTopics.{rest_first, start_topics}
+use Rattle.mmu_core.proofs.RestsKept.{hand_rests, rests_stay}
 use Rattle.mmu_core.specs.Laws.{IsSound}
 use Rattle.mmu_core.proofs.Worlds.{good_run}
 
@@ -138,19 +139,24 @@ chosen_ids P actor (line ∷ lines) e = by (is_same actor line.actor) (chosen_id
     by false rest = rest (all_behind P line.command (slot_ids lines) e)
 
 -- No two of an actor's lines set a slot at one ID, where no two of all do.
-differ_behind : (c : Command) (ids : List ℕ) → AreDistinct (or_slot_id c ids) → AreDistinct ids
+abbrev Differ : List ℕ → Type 0
+Differ ids = IsDistinct (λ i j. i == j) ids
+
+differ_behind : (c : Command) (ids : List ℕ) → Differ (or_slot_id c ids) → Differ ids
+unfolding IsDistinct
 differ_behind (Access gfn word op) ids e = e
 differ_behind (SetSlot id slot) ids e = e.1
 
-differ_with : (c : Command) (ids own : List ℕ) → ((P : ℕ → Type 0) → AllByRecursion P ids → AllByRecursion P own) → (AreDistinct ids → AreDistinct own) → AreDistinct (or_slot_id c ids) → AreDistinct (or_slot_id c own)
+differ_with : (c : Command) (ids own : List ℕ) → ((P : ℕ → Type 0) → AllByRecursion P ids → AllByRecursion P own) → (Differ ids → Differ own) → Differ (or_slot_id c ids) → Differ (or_slot_id c own)
+unfolding IsDistinct
 differ_with (Access gfn word op) ids own each rest e = rest e
 differ_with (SetSlot id slot) ids own each rest e = (each (λ j. (id == j) ≡ false) e.0, rest e.1)
 
-chosen_distinct : (actor : Actor) (lines : List Line) → AreDistinct (slot_ids lines) → AreDistinct (slot_ids (lines_of actor lines))
+chosen_distinct : (actor : Actor) (lines : List Line) → Differ (slot_ids lines) → Differ (slot_ids (lines_of actor lines))
 chosen_distinct actor [] e = e
 chosen_distinct actor (line ∷ lines) e = by (is_same actor line.actor) (chosen_distinct actor lines)
   where
-    by : (b : Bool) → (AreDistinct (slot_ids lines) → AreDistinct (slot_ids (lines_of actor lines))) → AreDistinct (slot_ids (if b then line ∷ lines_of actor lines else lines_of actor lines))
+    by : (b : Bool) → (Differ (slot_ids lines) → Differ (slot_ids (lines_of actor lines))) → Differ (slot_ids (if b then line ∷ lines_of actor lines else lines_of actor lines))
     by true rest = differ_with line.command (slot_ids lines) (slot_ids (lines_of actor lines)) (λ P. chosen_ids P actor lines) rest e
     by false rest = rest (differ_behind line.command (slot_ids lines) e)
 
@@ -203,7 +209,6 @@ start_small z area.Log i sizes lt = omega arith
 start_small z area.Host i sizes lt = host_fits i true true 1 (omega (arith, lt, sizes.pages.1)) (omega arith)
 start_small z area.Role i sizes lt = role_small i
 start_small z area.Pool i sizes lt = omega arith
-start_small z area.Linear i sizes lt = omega arith
 start_small z area.Content i sizes lt = omega arith
 
 get_or_past : (words : List ℕ) (i d : ℕ) → length words ≤ i → get_or words i d ≡ d
@@ -236,9 +241,10 @@ start_good z lines w start = record {
       guest_apart = λ gfn i j low under live more holds too. let e = none_live z w i start.words in absurd (cc (e, live));
       host_apart = λ page i j low under live more has too. let e = none_live z w i start.words in absurd (cc (e, live));
     };
-    leaves = λ i lt. inl (word_at_start z w area.Linear i 0 start.words (λ l. refl) (λ e. refl) ∙ sym absent_is_0);
     lines = λ i lt. subst (OwnLines z i) (sym (hand_is z lines w i start lt)) (first_lines z lines w i start lt);
     loads = λ i lt. subst (λ (h : Held). Holds z (word_in z w area.Pool) (word_in z w area.Host) h.state.place h.state.line.command h.slots h.state) (sym (hand_is z lines w i start lt)) tt;
+    knows = λ i lt. subst (λ (h : Held). KnowsPart h.state.place h.state.line.command h) (sym (hand_is z lines w i start lt)) (λ has. rest_first);
+    cached = λ i lt. subst (λ (h : Held). CachedPart (word_in z w area.Pool) (word_in z w area.Host) h.cached.items) (sym (hand_is z lines w i start lt)) (All-nil (λ (t : Translation). (t.level ≡ 1) × IsLeafFor (word_in z w area.Pool) (word_in z w area.Host) t.gfn t.leaf));
     recorded = λ i lt is. subst (λ (h : Held). RecordPart (word_in z w area.Pool) h.slots) (sym (hand_is z lines w i start lt))
         (record { same = sym (none_below (word_in z w area.Pool) published_set 32 (λ id low. none_live z w id start.words)); unlogged = λ id m at. absurd (cc at) });
   };
@@ -249,7 +255,7 @@ pub reached_good : (w : World Held) (r : Reachable w) → IsSound r.sizes w
 reached_good w r = subst (IsSound r.sizes) r.leads.ends (good_run r.sizes r.start r.leads.steps (start_good r.sizes r.lines r.start r.is_start) r.leads.legal)
 
 pub reached_rests : (h : Held) → ∥ HandReached h ∥₁ → length h.answers < length h.lines → Rests h
-reached_rests h reached left = ∥∥₁_elim reached (rests_prop h) (λ x. rests_of x)
+reached_rests h reached left = rests_stay h (∥∥₁_map reached rests_of)
   where
     rests_of : HandReached h → Rests h
     rests_of x =

@@ -45,7 +45,7 @@ first_is_begun : (z : Sizes) (slots : MemorySlots) (command : Command) → IsUnd
 first_is_begun z slots (Access gfn word op) = tt
 first_is_begun z slots (SetSlot id slot) = tt
 
-is_begun : (p : Place) (z : Sizes) (slots : MemorySlots) (command : Command) → IsUnderWay (standing p z slots command)
+pub is_begun : (p : Place) (z : Sizes) (slots : MemorySlots) (command : Command) → IsUnderWay (standing p z slots command)
 is_begun place.Between z slots command = first_is_begun z slots command
 is_begun (place.Access p) z slots command = tt
 is_begun (place.SetSlot p) z slots command = tt

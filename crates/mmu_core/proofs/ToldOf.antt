@@ -6,7 +6,7 @@ use Rattle.core_views.specs.declared.actor.Actor.{Actor}
 use Rattle.core_views.specs.declared.answer.AnsweredLine.{AnsweredLine}
 use Rattle.core_views.specs.declared.event.Event.{Event}
 use Rattle.core_views.specs.declared.event.EventKind.{EventKind}
-use Rattle.core_views.specs.declared.event.EventKind.TheVariants.{Begun, LookedAtSlots, Accessed, Exited, SlotChanged, Answered}
+use Rattle.core_views.specs.declared.event.EventKind.TheVariants.{Begun, LookedAtSlots, LookedAtHost, Accessed, Exited, SlotChanged, Answered}
 use Rattle.core_views.specs.declared.place.Place.{Place}
 use Rattle.core_views.specs.declared.place.Place.TheVariants as place
 use Rattle.core_views.specs.declared.trace.Line.{Line}
@@ -27,6 +27,7 @@ use Rattle.mmu_core.proofs.Told.{told}
 begun_by_more : (kind : EventKind) (xs ys : List Line) → or_begun kind (xs ++ ys) ≡ or_begun kind xs ++ ys
 begun_by_more (Begun line) xs ys = refl
 begun_by_more LookedAtSlots xs ys = refl
+begun_by_more (LookedAtHost page) xs ys = refl
 begun_by_more (Accessed gfn word op frame before) xs ys = refl
 begun_by_more (Exited answer) xs ys = refl
 begun_by_more (SlotChanged id slot) xs ys = refl
@@ -50,6 +51,7 @@ begun_by_append actor xs ys = ap (lines_of actor) (begun_more xs ys) ∙ filter-
 answers_none : (actor : Actor) (kind : EventKind) (rest : List AnsweredLine) → IsWithin kind → or_answered actor kind rest ≡ rest
 answers_none actor (Begun line) rest within = absurd within
 answers_none actor LookedAtSlots rest within = refl
+answers_none actor (LookedAtHost page) rest within = refl
 answers_none actor (Accessed gfn word op frame before) rest within = refl
 answers_none actor (Exited answer) rest within = refl
 answers_none actor (SlotChanged id slot) rest within = refl
@@ -58,6 +60,7 @@ answers_none actor (Answered line answer) rest within = absurd within
 begins_none : (kind : EventKind) (rest : List Line) → IsWithin kind → or_begun kind rest ≡ rest
 begins_none (Begun line) rest within = absurd within
 begins_none LookedAtSlots rest within = refl
+begins_none (LookedAtHost page) rest within = refl
 begins_none (Accessed gfn word op frame before) rest within = refl
 begins_none (Exited answer) rest within = refl
 begins_none (SlotChanged id slot) rest within = refl

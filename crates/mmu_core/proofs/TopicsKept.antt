@@ -1,32 +1,48 @@
 -- Each step keeps what holds of the machine's parts.
-use Rattle.std.proofs.Common.{◌≡◌, ◌<◌, ℕ, subst}
+use Rattle.std.proofs.Common.{◌≡◌, ℕ, refl}
+use Rattle.std.specs.Prelude.{Bool, true, false, ◌==◌, if◌then◌else◌, Option, Some, None}
+use Rattle.core_views.specs.declared.place.AccessPlace.{AccessPlace}
 use Rattle.core_views.specs.declared.place.Place.{Place}
+use Rattle.core_views.specs.declared.place.Place.TheVariants as place
+use Rattle.core_views.specs.declared.place.SetSlotPlace.{SetSlotPlace}
 use Rattle.core_views.specs.declared.sizes.Sizes.{Sizes}
 use Rattle.core_views.specs.declared.trace.Command.{Command}
+use Rattle.core_views.specs.declared.trace.Command.TheVariants.{Access, SetSlot}
 use Rattle.core_views.specs.declared.trace.Line.{Line}
-use Rattle.spte_words.specs.declared.area.Area.TheVariants as area
+use Rattle.core_views.specs.declared.trace.Op.{Op}
+use Rattle.core_views.specs.declared.trace.Op.TheVariants.{Read, Write, Add}
+use Rattle.core_views.specs.declared.trace.Slot.{Slot}
+use Rattle.core_views.specs.Held.{Held}
+use Rattle.spte_words.specs.Areas.{content_index}
+use Rattle.spte_words.specs.Entries.{frame_in}
+use Rattle.mmu_core.specs.declared.outcome.Task.{Task}
 use Rattle.mmu_core.specs.declared.part_step.PartStep.{PartStep}
+use Rattle.mmu_core.specs.AccessSteps.{access_note, access_part, access_task, task_by, touch_of}
 use Rattle.mmu_core.specs.Invariant.{Invariant}
-use Rattle.mmu_core.specs.SetSlotSteps.{published_set}
+use Rattle.mmu_core.specs.Steps.{idle_after}
+use Rattle.mmu_core.specs.Tasks.{kind_of_task, map_of}
+use Rattle.mmu_core.specs.TopicSteps.{topics_after}
 use Rattle.mmu_core.specs.TopicsInvariant.{TopicsInvariant}
-use Rattle.mmu_core.specs.View.{View, part_stepped, stepped}
-use Rattle.spte_words.specs.Areas.{pool_index}
-use Rattle.mmu_core.proofs.PartWords.{fill_elsewhere}
+use Rattle.mmu_core.specs.View.{View, answer_in, hand_after, part_stepped, stepped, upd, words_after}
+use Rattle.mmu_core.proofs.AccessParts.{AreSmall, makes_parts}
 use Rattle.mmu_core.proofs.FilledKept.{filled_kept}
-use Rattle.mmu_core.proofs.HeldKept.{counters_kept, held_kept, resting_kept}
-use Rattle.mmu_core.proofs.LinePoolKept.{line_filled_kept, line_pool_kept, line_tree_kept}
-use Rattle.mmu_core.proofs.LineTopicsKept.{line_counters_kept, line_held_kept, line_lock_kept, line_looks_kept, line_resting_kept, line_searches_kept, line_states_kept}
+use Rattle.mmu_core.proofs.HeldKept.{counters_kept, held_kept}
+use Rattle.mmu_core.proofs.LinePoolKept.{setting_filled_kept, setting_pool_kept, setting_tree_kept}
+use Rattle.mmu_core.proofs.LineTopicsKept.{setting_counters_kept, setting_held_kept, setting_lock_kept, setting_looks_kept, setting_searches_kept, setting_states_kept}
+use Rattle.mmu_core.proofs.LiveStays.{MakesParts}
 use Rattle.mmu_core.proofs.LockKept.{lock_kept}
 use Rattle.mmu_core.proofs.PoolKept.{pool_kept}
-use Rattle.mmu_core.proofs.SawWriterKept.{line_saw_kept, saw_kept}
+use Rattle.mmu_core.proofs.SameTopics.{same_topics}
+use Rattle.mmu_core.proofs.SawWriterKept.{saw_kept, setting_saw_kept}
 use Rattle.mmu_core.proofs.SearchKept.{looks_kept, searches_kept}
 use Rattle.mmu_core.proofs.Standing.{stands_after}
 use Rattle.mmu_core.proofs.StatesKept.{states_kept}
+use Rattle.mmu_core.proofs.SumsBelow.{column}
 use Rattle.mmu_core.proofs.TreeKept.{tree_kept}
 use Rattle.mmu_core.proofs.PartStepping.{IsPart}
-use Rattle.mmu_core.proofs.SlotsStay.{SetStays}
 use Rattle.mmu_core.proofs.Stepping.{IsStep}
 
+-- Each step of a part does.
 pub topics_part_kept : (z : Sizes) (v : View) (a : ℕ) (step : PartStep) (note : ℕ) → IsPart z v a step → TopicsInvariant z v → TopicsInvariant z (part_stepped a step note v)
 topics_part_kept z v a step note S I = record {
   stands = stands_after step (v.hand a).topics v I.stands;
@@ -40,26 +56,74 @@ topics_part_kept z v a step note S I = record {
   searches = searches_kept z v a step note S I;
   looks = looks_kept z v a step note S I;
   counters = counters_kept z v a step note S I;
-  resting = resting_kept z v a step note S I;
 }
 
-pub topics_line_kept : (z : Sizes) (v : View) (a : ℕ) (line : Line) (command : Command) (p : Place) → IsStep z v a line command p → Invariant z v → TopicsInvariant z v → TopicsInvariant z (stepped a line command p v)
-topics_line_kept z v a line command p S I P = record {
+-- Each step of a slot setting does.
+pub topics_setting_kept : (z : Sizes) (v : View) (a : ℕ) (line : Line) (p : SetSlotPlace) (id : ℕ) (slot : Slot) → IsStep z v a line (SetSlot id slot) (place.SetSlot p) → Invariant z v → TopicsInvariant z v
+    → TopicsInvariant z (stepped a line (SetSlot id slot) (place.SetSlot p) v)
+topics_setting_kept z v a line p id slot S I P = record {
   stands = P.stands;
-  lock_part = line_lock_kept z v a line command p S P;
-  saw_writer = line_saw_kept z v a line command p S P;
-  states_part = line_states_kept z v a line command p S P;
-  pool_part = line_pool_kept z v a line command p S I P;
-  filled = line_filled_kept z v a line command p S I P;
-  tree = line_tree_kept z v a line command p S I P;
-  held = line_held_kept z v a line command p S P;
-  searches = line_searches_kept z v a line command p S I P;
-  looks = line_looks_kept z v a line command p S I P;
-  counters = line_counters_kept z v a line command p S P;
-  resting = line_resting_kept z v a line command p S P;
+  lock_part = setting_lock_kept z v a line p id slot S I P;
+  saw_writer = setting_saw_kept z v a line p id slot S I P;
+  states_part = setting_states_kept z v a line p id slot S I P;
+  pool_part = setting_pool_kept z v a line p id slot S I P;
+  filled = setting_filled_kept z v a line p id slot S I P;
+  tree = setting_tree_kept z v a line p id slot S I P;
+  held = setting_held_kept z v a line p id slot S I P;
+  searches = setting_searches_kept z v a line p id slot S I P;
+  looks = setting_looks_kept z v a line p id slot S I P;
+  counters = setting_counters_kept z v a line p id slot S I P;
 }
 
--- The published slot set is no actor's page, so that no step of a part stores in it.
-pub published_stays : (z : Sizes) (v : View) (a : ℕ) (step : PartStep) (note : ℕ) → IsPart z v a step → TopicsInvariant z v → v.words area.Slots 0 ≡ published_set → SetStays (v.words area.Pool) ((part_stepped a step note v).words area.Pool)
-published_stays z v a step note S I is =
-    subst (λ k. (j : ℕ) → j < 512 → (part_stepped a step note v).words area.Pool (pool_index k j) ≡ v.words area.Pool (pool_index k j)) is (fill_elsewhere z v a step note S I)
+-- The words behind a task of an access, and the hands with what its actor holds then.
+abbrev topics_behind : View → ℕ → Task → View
+topics_behind v a task = record {
+  words = words_after task v.words;
+  hand = upd v.hand a (idle_after (v.hand a) (kind_of_task (v.hand a).state.sizes task) (answer_in task v.words));
+}
+
+-- A touch stores in content alone, and leaves what actors hold.
+touch_kept : (z : Sizes) (v : View) (a : ℕ) (op : Op) (index : ℕ) → TopicsInvariant z v → TopicsInvariant z (topics_behind v a (touch_of op index))
+unfolding topics_after
+touch_kept z v a Read index P = same_topics z _ _ _ _ _ _ _ _ _ v.hand _ (column (λ (h : Held). h.topics) v.hand a _ refl) P
+touch_kept z v a (Write x) index P = same_topics z _ _ _ _ _ _ _ _ _ v.hand _ (column (λ (h : Held). h.topics) v.hand a _ refl) P
+touch_kept z v a (Add x) index P = same_topics z _ _ _ _ _ _ _ _ _ v.hand _ (column (λ (h : Held). h.topics) v.hand a _ refl) P
+
+-- Each step of an access is a step of a part, or a touch.
+pub topics_access_kept : (z : Sizes) (v : View) (a : ℕ) (line : Line) (p : AccessPlace) (gfn word : ℕ) (op : Op) → MakesParts z v a p gfn → TopicsInvariant z v → TopicsInvariant z (stepped a line (Access gfn word op) (place.Access p) v)
+topics_access_kept z v a line p gfn word op makes P =
+    same_topics z _ _ _ _ _ _ _ _ _ behind.hand (upd v.hand a after) (λ t i. same i t) (by (access_part p gfn h.topics) makes)
+  where
+    h : Held
+    h = v.hand a
+
+    index : ℕ
+    index = content_index (map_of h.state.sizes) (frame_in h.state.leaf) word
+
+    behind : View
+    behind = topics_behind v a (access_task p h gfn word op)
+
+    after : Held
+    after = hand_after line (Access gfn word op) (place.Access p) h (answer_in (access_task p h gfn word op) v.words)
+
+    idle : Held
+    idle = idle_after h (kind_of_task h.state.sizes (access_task p h gfn word op)) (answer_in (access_task p h gfn word op) v.words)
+
+    same : (i : ℕ) → (upd v.hand a after i).topics ≡ (upd v.hand a idle i).topics
+    same i = either (i == a)
+      where
+        either : (b : Bool) → (if b then after else v.hand i).topics ≡ (if b then idle else v.hand i).topics
+        either true = refl
+        either false = refl
+
+    by : (o : Option PartStep) → ((step : PartStep) → o ≡ Some step → IsPart z v a step) → TopicsInvariant z (topics_behind v a (task_by o h (access_note p) (touch_of op index)))
+    by None each = touch_kept z v a op index P
+    by (Some step) each = topics_part_kept z v a step (access_note p) (each step refl) P
+
+-- Each step of a line keeps it.
+pub topics_line_kept : (z : Sizes) (v : View) (a : ℕ) (line : Line) (command : Command) (p : Place) → AreSmall v → IsStep z v a line command p → Invariant z v → TopicsInvariant z v → TopicsInvariant z (stepped a line command p v)
+topics_line_kept z v a line command place.Between small S I P = absurd S.begun
+topics_line_kept z v a line (Access gfn word op) (place.Access p) small S I P = topics_access_kept z v a line p gfn word op (makes_parts z v a line p gfn word op small S I P) P
+topics_line_kept z v a line (SetSlot id slot) (place.Access p) small S I P = absurd S.holds
+topics_line_kept z v a line (Access gfn word op) (place.SetSlot p) small S I P = absurd S.holds
+topics_line_kept z v a line (SetSlot id slot) (place.SetSlot p) small S I P = topics_setting_kept z v a line p id slot S I P

@@ -13,29 +13,29 @@ use Rattle.core_views.specs.declared.kind.Kind.{Kind}
 use Rattle.core_views.specs.declared.sizes.Sizes.{Sizes}
 use Rattle.core_views.specs.Held.{Held}
 use Rattle.core_views.specs.Sizes.{actors_of, index_of}
-use Rattle.core_views.specs.declared.topics.Topics.{Topics}
 use Rattle.spte_words.specs.declared.area.Area.{Area}
 use Rattle.spte_words.specs.declared.area.Area.TheVariants as area
 use Rattle.mmu_core.specs.declared.outcome.Task.{Task}
 use Rattle.mmu_core.specs.declared.part_step.PartStep.{PartStep}
 use Rattle.spte_words.specs.Areas.{place, size_of}
 use Rattle.mmu_core.specs.Enabled.{IsNext, IsPartStep, mmu}
-use Rattle.mmu_core.specs.Invariant.{Invariant, InvariantOf}
+use Rattle.mmu_core.specs.Invariant.{Invariant}
 use Rattle.mmu_core.specs.Machine.{Legal, May, Step, World, answered, effect, hand_in, run}
 use Rattle.mmu_core.specs.PartSteps.{own_index, part_task}
 use Rattle.mmu_core.specs.Steps.{has_line, held_after, idle_after, line_at, next, place_at, task_of}
 use Rattle.mmu_core.specs.Tasks.{kind_of_task, map_of}
 use Rattle.mmu_core.specs.TopicsInvariant.{TopicsInvariant}
 use Rattle.mmu_core.specs.View.{View, answer_in, part_stepped, stepped, upd, view, word_in, words_after}
+use Rattle.mmu_core.proofs.KnowsKept.{part_knows_behind}
 use Rattle.mmu_core.proofs.Kept.{step_kept}
 use Rattle.mmu_core.proofs.Extend.{hands_of_effect, words_of_effect}
-use Rattle.mmu_core.proofs.PartKept.{lines_stay, with_topics}
+use Rattle.mmu_core.proofs.PartKept.{part_keeps_lines}
 use Rattle.mmu_core.proofs.PartStepping.{IsPart}
 use Rattle.mmu_core.proofs.PartIndex.{index_same}
 use Rattle.mmu_core.proofs.PartWords.{areas_stay}
 use Rattle.mmu_core.proofs.RestsKept.{task_within}
 use Rattle.mmu_core.proofs.Which.{has_line_is, is_next, is_part, next_of_line, next_of_part}
-use Rattle.mmu_core.proofs.TopicsKept.{published_stays, topics_line_kept, topics_part_kept}
+use Rattle.mmu_core.proofs.TopicsKept.{topics_line_kept, topics_part_kept}
 use Rattle.mmu_core.proofs.Stepping.{IsStep, is_step as step_of_hand}
 use Rattle.mmu_core.proofs.Views.{answered_is, view_behind}
 
@@ -112,7 +112,7 @@ pub record TakesPart (z : Sizes) (w : World Held) (s : Step Kind) (h : Held) : T
   pub writes : s.kind.new < 2 ^ 64
 
 -- each word of a view is small
-view_small : (z : Sizes) (w : World Held) → ((i : ℕ) → slice_index w.words i < 2 ^ 64) → (b : Area) (i : ℕ) → word_in z w b i < 2 ^ 64
+pub view_small : (z : Sizes) (w : World Held) → ((i : ℕ) → slice_index w.words i < 2 ^ 64) → (b : Area) (i : ℕ) → word_in z w b i < 2 ^ 64
 view_small z w small b i = by (nat_lt i (size_of (map_of z) b))
   where
     by : (c : Bool) → (if c then slice_index w.words (place (map_of z) b i) else 0) < 2 ^ 64
@@ -148,7 +148,6 @@ takes_part z w s G may N =
         there = there;
         sizes = same;
         own_place = ap (λ y. index_of y h.state.actor) same ∙ O.index;
-        idle = N.none_left;
         needs = N.needs;
         within = N.within;
         small = view_small z w G.small;
@@ -166,18 +165,6 @@ takes z w s G may = by (has_line (hand_in mmu w s.actor)) refl
     by : (b : Bool) → has_line (hand_in mmu w s.actor) ≡ b → Takes z w s (hand_in mmu w s.actor) ⊎ TakesPart z w s (hand_in mmu w s.actor)
     by true has = inl (takes_line z w s G may (is_next (hand_in mmu w s.actor) s.kind may.enabled has))
     by false none = inr (takes_part z w s G may (is_part (hand_in mmu w s.actor) s.kind may.enabled none))
-
--- a step of a part keeps what lines rest on
-pub part_keeps_lines : (z : Sizes) (v : View) (a : ℕ) (step : PartStep) (note : ℕ) → IsPart z v a step → Invariant z v → TopicsInvariant z v → Invariant z (part_stepped a step note v)
-part_keeps_lines z v a step note S I P =
-    let h : Held = v.hand a in
-    let t : Task = part_task step (own_index h) h.topics note in
-    let after_ : Area → ℕ → ℕ = words_after t v.words in
-    let topics : Topics = (idle_after h (kind_of_task h.state.sizes t) (answer_in t v.words)).topics in
-    let kept = lines_stay z (v.words area.Slots) (v.words area.Pool) (after_ area.Pool) (v.words area.Host) (v.words area.Linear) v.hand a topics (published_stays z v a step note S P I.set.published) I in
-    subst (λ (f : ℕ → ℕ). InvariantOf z f (after_ area.Pool) (after_ area.Host) (after_ area.Linear) (upd v.hand a (with_topics h topics))) (sym (areas_stay v a step note area.Slots refl))
-    (subst (λ (f : ℕ → ℕ). InvariantOf z (v.words area.Slots) (after_ area.Pool) f (after_ area.Linear) (upd v.hand a (with_topics h topics))) (sym (areas_stay v a step note area.Host refl))
-    (subst (λ (f : ℕ → ℕ). InvariantOf z (v.words area.Slots) (after_ area.Pool) (v.words area.Host) f (upd v.hand a (with_topics h topics))) (sym (areas_stay v a step note area.Linear refl)) kept))
 
 part_opens_none : (z : Sizes) (v : View) (a : ℕ) (step : PartStep) (note : ℕ) → NoneOpened v.words → NoneOpened (part_stepped a step note v).words
 part_opens_none z v a step note none =
@@ -198,16 +185,16 @@ good_step z w s G may = by (takes z w s G may)
       words = words_of_effect mmu w s ∙ G.words;
       hands = hands_of_effect mmu w s ∙ G.hands;
       small = small T.writes;
-      none_opened = subst (λ (v : View). NoneOpened v.words) (sym T.leads) (none_opened_kept (place_at h.state.place h) (line_at h.state.place h).command h.state (word_in z w) G.none_opened);
-      holds = subst (Invariant z) (sym T.leads) (step_kept z (view z w) s.actor (line_at h.state.place h) (line_at h.state.place h).command (place_at h.state.place h) T.is_step G.holds);
-      topics = subst (TopicsInvariant z) (sym T.leads) (topics_line_kept z (view z w) s.actor (line_at h.state.place h) (line_at h.state.place h).command (place_at h.state.place h) T.is_step G.holds G.topics);
+      none_opened = subst (λ (v : View). NoneOpened v.words) (sym T.leads) (none_opened_kept (place_at h.state.place h) (line_at h.state.place h).command h (word_in z w) G.none_opened);
+      holds = subst (Invariant z) (sym T.leads) (step_kept z (view z w) s.actor (line_at h.state.place h) (line_at h.state.place h).command (place_at h.state.place h) (view_small z w G.small) T.is_step G.holds G.topics);
+      topics = subst (TopicsInvariant z) (sym T.leads) (topics_line_kept z (view z w) s.actor (line_at h.state.place h) (line_at h.state.place h).command (place_at h.state.place h) (view_small z w G.small) T.is_step G.holds G.topics);
     }
     by (inr T) = record {
       words = words_of_effect mmu w s ∙ G.words;
       hands = hands_of_effect mmu w s ∙ G.hands;
       small = small T.writes;
       none_opened = subst (λ (v : View). NoneOpened v.words) (sym T.leads) (part_opens_none z (view z w) s.actor T.step T.note G.none_opened);
-      holds = subst (Invariant z) (sym T.leads) (part_keeps_lines z (view z w) s.actor T.step T.note T.is_part G.holds G.topics);
+      holds = subst (Invariant z) (sym T.leads) (part_keeps_lines z (view z w) s.actor T.step T.note T.is_part G.holds G.topics (part_knows_behind z (view z w) s.actor T.step T.note T.none_left G.holds));
       topics = subst (TopicsInvariant z) (sym T.leads) (topics_part_kept z (view z w) s.actor T.step T.note T.is_part G.topics);
     }
 

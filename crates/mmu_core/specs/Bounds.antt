@@ -1,13 +1,18 @@
 -- How many steps a line makes at most.
-use Rattle.std.specs.Prelude.{◌+◌, ◌-◌, ◌*◌, ℕ}
+use Rattle.std.specs.Prelude.{◌+◌, ℕ, Bool, if◌then◌else◌}
 use Rattle.core_views.specs.declared.place.AccessPlace.{AccessPlace}
-use Rattle.core_views.specs.declared.place.AccessPlace.TheVariants.{Slots, Slot, Walk, Host, Install, Touch}
+use Rattle.core_views.specs.declared.place.AccessPlace.TheVariants.{Enter, Pause, Root, Walk, Touch, Leave, Fault}
+use Rattle.core_views.specs.declared.place.FaultPlace.TheVariants as fault
+use Rattle.core_views.specs.declared.place.Leaving.TheVariants as leaving
 use Rattle.core_views.specs.declared.place.Place.{Place}
 use Rattle.core_views.specs.declared.place.Place.TheVariants as place
 use Rattle.core_views.specs.declared.place.SetSlotPlace.{SetSlotPlace}
 use Rattle.core_views.specs.declared.place.SetSlotPlace.TheVariants.{Refuse, Fill}
 use Rattle.core_views.specs.declared.place.SlotField.{SlotField}
 use Rattle.core_views.specs.declared.place.SlotField.TheVariants as field
+use Rattle.core_views.specs.declared.sizes.Sizes.{Sizes}
+use Rattle.core_views.specs.declared.topics.Topics.{Topics}
+use Rattle.mmu_core.specs.FaultSteps.{fault_left}
 pub use Rattle.mmu_core.specs.SearchLeft.{look_left}
 
 -- the words of a slot that a setting has yet to store, from this one on
@@ -17,26 +22,31 @@ fill_left field.Pages = 3
 fill_left field.Host = 2
 fill_left field.Flags = 1
 
--- The entry, the host word, the exchange and the touch are the last four steps of an access; before them stand the words of the slot
--- under look and of each slot behind it, and before those the load of the slot set.
-abbrev pub access_left : AccessPlace → ℕ
-access_left Slots = 133
-access_left (Slot id field) = 4 + (4 * (31 - id) + look_left field)
-access_left Walk = 4
-access_left Host = 3
-access_left Install = 2
-access_left Touch = 1
+-- An access that finds no translation faults once, and then finds the leaf in another stay: what is left of it from each place on. A
+-- walk goes through four tables at most.
+abbrev pub stay_left : Bool → Sizes → Topics → ℕ
+stay_left again z t = if again then 2 else 1 + (fault_left fault.Begin z t + 9)
+
+abbrev pub access_left : AccessPlace → Sizes → Topics → ℕ
+access_left (Enter again) z t = 7 + stay_left again z t
+access_left (Pause again) z t = 6 + stay_left again z t
+access_left (Root again) z t = 5 + stay_left again z t
+access_left (Walk again) z t = t.walk.level + stay_left again z t
+access_left Touch z t = 2
+access_left (Leave (leaving.Reached frame value)) z t = 1
+access_left (Leave leaving.Faults) z t = 1 + (fault_left fault.Begin z t + 9)
+access_left (Fault p) z t = fault_left p z t + 9
 
 abbrev pub set_slot_left : SetSlotPlace → ℕ
 set_slot_left (Refuse refusal) = 1
 set_slot_left (Fill field) = fill_left field
 
--- the most steps of a line, of any form
-abbrev pub most_steps : ℕ
-most_steps = 133
+-- the most steps of a line alone, of any form
+abbrev pub most_steps : Sizes → ℕ
+most_steps z = 8192 + z.pool + z.frames
 
--- the most steps that a line has left where it stands
-abbrev pub steps_left : Place → ℕ
-steps_left place.Between = most_steps
-steps_left (place.Access p) = access_left p
-steps_left (place.SetSlot p) = set_slot_left p
+-- the most steps that a line has left where it stands, where nobody is in its way
+abbrev pub steps_left : Place → Sizes → Topics → ℕ
+steps_left place.Between z t = most_steps z
+steps_left (place.Access p) z t = access_left p z t
+steps_left (place.SetSlot p) z t = set_slot_left p

@@ -1,5 +1,5 @@
 -- That a pool of as many pages as a trace needs at most is enough, and what tables are for.
-use Rattle.std.specs.Prelude.{◌≡◌, ◌≢◌, ◌⊎◌, ◌^◌, ◌<◌, ◌≤◌, ℕ, Bool, true, false, List, None}
+use Rattle.std.specs.Prelude.{◌≡◌, ◌≢◌, ◌⊎◌, ◌^◌, ◌<◌, ◌≤◌, ℕ, Bool, true, false, List, Some, None}
 use Rattle.std.specs.List.{list_any}
 use Rattle.core_views.specs.declared.kind.Kind.{Kind}
 use Rattle.core_views.specs.declared.trace.Header.{Header}
@@ -9,8 +9,10 @@ use Rattle.core_views.specs.Need.{need, wants}
 use Rattle.core_views.specs.Sizes.{actors_of, sizes_of}
 use Rattle.spte_words.specs.declared.area.Area.TheVariants as area
 use Rattle.mmu_core.specs.Enabled.{mmu}
+use Rattle.mmu_core.specs.Laws.{IsSound}
 use Rattle.mmu_core.specs.Machine.{Legal, Step, World, hand_in, run}
 use Rattle.mmu_core.specs.PoolPart.{is_free, is_owned}
+use Rattle.mmu_core.specs.TreePart.{at}
 use Rattle.mmu_core.specs.View.{word_in}
 use Rattle.mmu_core.specs.Worlds.{IsStart}
 
@@ -39,6 +41,14 @@ EachTableIsWanted =
     → ((i : ℕ) → i < actors_of (sizes_of h) → is_owned (hand_in mmu (run mmu w ss) i).topics.owned k ≡ false)
     → k ≢ word_in (sizes_of h) (run mmu w ss) area.Slots 0
     → (k ≡ word_in (sizes_of h) (run mmu w ss) area.Root 0) ⊎ IsWantedTable h lines (word_in (sizes_of h) (run mmu w ss) area.Role k)
+
+-- And wherever a table of a level below the root's stands, it is for its own run of guest frames: a slot line wants this very run, and the
+-- page's role is the level.
+abbrev pub TablesAreForTheirRuns : Type 0
+TablesAreForTheirRuns =
+    (h : Header) (lines : List Line) (w : World Held) (ss : List (Step Kind)) → IsStart (sizes_of h) lines w → Legal mmu w ss
+    → (sound : IsSound (sizes_of h) (run mmu w ss)) (k level prefix : ℕ) → sound.topics.stands k ≡ Some (at level prefix) → level < 4
+    → (some_line_wants h lines level prefix ≡ true) × (word_in (sizes_of h) (run mmu w ss) area.Role k ≡ level)
 
 -- Where the pool has as many pages as the trace needs at most, and no actor owns one, some page is free behind every list of steps.
 abbrev pub EnoughPages : Type 0

@@ -1,8 +1,9 @@
--- That the machine goes on: every machine has a start, each actor with a line left can make a step, and a small run to its answers.
-use Rattle.std.specs.Prelude.{◌≡◌, ◌^◌, ◌<◌, ℕ, List, [], ◌∷◌, All, codes, false, length}
-use Rattle.core_views.specs.declared.answer.Answer.TheVariants.{Done, Reached}
+-- That the machine goes on: every machine has a start, each actor with a line left can make a step, and three small runs.
+use Rattle.std.specs.Prelude.{◌≡◌, ◌^◌, ◌<◌, ◌==◌, ℕ, zero, suc, List, [], ◌∷◌, ◌++◌, All, replicate, codes, true, false, length}
+use Rattle.std.specs.List.{IsDistinct}
+use Rattle.core_views.specs.declared.answer.Answer.TheVariants.{Done, Mmio, Reached, Starved}
 use Rattle.core_views.specs.declared.event.Event.{Event}
-use Rattle.core_views.specs.declared.event.EventKind.TheVariants.{Accessed, Answered, Begun, LookedAtSlots, SlotChanged}
+use Rattle.core_views.specs.declared.event.EventKind.TheVariants.{Accessed, Answered, Begun, Exited, LookedAtHost, LookedAtSlots, SlotChanged}
 use Rattle.core_views.specs.declared.kind.Kind.{Kind}
 use Rattle.core_views.specs.declared.sizes.Sizes.{Sizes}
 use Rattle.core_views.specs.declared.trace.Command.{Command}
@@ -11,10 +12,10 @@ use Rattle.core_views.specs.declared.trace.Line.{Line}
 use Rattle.core_views.specs.declared.trace.Op.TheVariants.{Add, Read, Write}
 use Rattle.core_views.specs.FlatHistory.{by}
 use Rattle.core_views.specs.Held.{Held}
-use Rattle.core_views.specs.Laws.{access_line, example_sizes, example_slot, manager_line}
+use Rattle.core_views.specs.Laws.{access_line, example_slot, manager_line}
 use Rattle.core_views.specs.Sizes.{AreSizes, actors_of}
 use Rattle.core_views.specs.Text.{text}
-use Rattle.core_views.specs.Traces.{AreDistinct, IsCommandFor, slot_ids}
+use Rattle.core_views.specs.Traces.{IsCommandFor, slot_ids}
 use Rattle.mmu_core.specs.Enabled.{mmu}
 use Rattle.mmu_core.specs.Machine.{Legal, May, Step, World, effect, hand_in, run}
 use Rattle.mmu_core.specs.Steps.{next_line, task_of}
@@ -23,7 +24,7 @@ use Rattle.mmu_core.specs.Worlds.{IsStart, history}
 
 -- Every machine has a start, with all lines that a trace may have.
 abbrev pub EveryMachineStarts : Type 0
-EveryMachineStarts = (z : Sizes) (lines : List Line) → AreSizes z → All (λ line. IsCommandFor z line.actor line.command) lines → AreDistinct (slot_ids lines) → (w : World Held) × IsStart z lines w
+EveryMachineStarts = (z : Sizes) (lines : List Line) → AreSizes z → All (λ line. IsCommandFor z line.actor line.command) lines → IsDistinct (λ i j. i == j) (slot_ids lines) → (w : World Held) × IsStart z lines w
 
 -- the step that an actor's hand is to make next
 abbrev pub next_step : Sizes → World Held → ℕ → Step Kind
@@ -52,31 +53,60 @@ abbrev pub turns : Sizes → World Held → List ℕ → List (Step Kind)
 turns z w [] = []
 turns z w (actor ∷ actors) = next_step z w actor ∷ turns z (effect mmu w (next_step z w actor)) actors
 
--- The manager sets a slot, and two processors access one guest frame of it. While they do, it sets another, which one of them accesses then.
+-- From a start with these lines the next steps of actors in this order can be made, and they tell this.
+pub record RunTells (z : Sizes) (lines : List Line) (order : List ℕ) (events : List Event) : Type 0 where
+  pub start : World Held
+  pub is_start : IsStart z lines start
+  pub legal : Legal mmu start (turns z start order)
+  pub tells : history start (turns z start order) ≡ events
+
+-- A machine whose pool has as many pages as the lines below need: four, and one for a table of each level below the root.
+abbrev pub run_sizes : Sizes
+run_sizes = record { pages = 128; frames = 128; words = 2; pool = 7; cache = 64; vcpus = 2; hosts = 1; workers = 0 }
+
+-- The manager sets a slot, of guest frames 5 to 7, and a read-only one, of guest frames 16 to 18.
 abbrev pub set_line : Line
 set_line = manager_line 2 0 (example_slot 5 64 false)
 
+abbrev pub set_read_only_line : Line
+set_read_only_line = manager_line 3 1 (example_slot 16 0 true)
+
+-- One processor accesses a guest frame that no slot has, and another one writes to a frame of the first slot.
+abbrev pub outside_line : Line
+outside_line = access_line 4 0 9 0 (Write 7)
+
 abbrev pub write_line : Line
-write_line = access_line 3 0 6 0 (Write 7)
+write_line = access_line 5 1 6 0 (Write 7)
 
+-- The first one reads what was written, and adds to it, and the other one reads the sum.
 abbrev pub read_line : Line
-read_line = access_line 4 1 6 0 Read
-
-abbrev pub other_set_line : Line
-other_set_line = manager_line 5 1 (example_slot 20 0 false)
+read_line = access_line 6 0 6 0 Read
 
 abbrev pub add_line : Line
-add_line = access_line 6 0 21 1 (Add 5)
+add_line = access_line 7 0 6 0 (Add 2)
+
+abbrev pub sum_line : Line
+sum_line = access_line 8 1 6 0 Read
+
+-- The first one reads a frame of the read-only slot, and then writes to it.
+abbrev pub other_slot_line : Line
+other_slot_line = access_line 9 0 17 0 Read
+
+abbrev pub forbidden_line : Line
+forbidden_line = access_line 10 0 17 0 (Write 7)
 
 abbrev pub run_lines : List Line
-run_lines = set_line ∷ write_line ∷ read_line ∷ other_set_line ∷ add_line ∷ []
+run_lines = set_line ∷ set_read_only_line ∷ outside_line ∷ write_line ∷ read_line ∷ add_line ∷ sum_line ∷ other_slot_line ∷ forbidden_line ∷ []
 
--- First the manager sets the slot. Then the two processors take turns, with the manager between them as long as it sets the other slot:
--- both find no entry, both try to store the leaf, and only the first does. Then the first processor accesses the other slot.
+-- The manager stores the words of both slots: 4 steps each.
+-- Then an access finds no entry, leaves, and its fault loads the words of all slots, up to its answer.
+-- The write finds no entry either. Its fault claims a page for a table of each level below the root, fills its 512 entries and its role,
+-- and links it; it puts the leaf; and in another stay in the guest the processor walks to this leaf, touches, and leaves.
+-- The read walks to the same leaf: 9 steps. The addition and the second read go by what is cached: 4 steps each.
+-- The read of the other slot finds the tables, and its fault puts a leaf alone. It is cached, but doesn't allow the write behind it, which
+-- walks, leaves, and finds in its fault that the slot is read-only.
 abbrev pub run_order : List ℕ
-run_order =
-    3 ∷ 3 ∷ 3 ∷ 3 ∷ 0 ∷ 1 ∷ 3 ∷ 0 ∷ 1 ∷ 3 ∷ 0 ∷ 1 ∷ 3 ∷ 0 ∷ 1 ∷ 3 ∷ 0 ∷ 1 ∷ 0 ∷ 1 ∷ 0 ∷ 1 ∷ 0 ∷ 1 ∷ 0 ∷ 1
-    ∷ 0 ∷ 0 ∷ 0 ∷ 0 ∷ 0 ∷ 0 ∷ 0 ∷ 0 ∷ 0 ∷ 0 ∷ 0 ∷ 0 ∷ 0 ∷ []
+run_order = replicate 8 3 ++ (replicate 47 0 ++ (replicate 1581 1 ++ (replicate 13 0 ++ (replicate 4 1 ++ (replicate 40 0 ++ replicate 20 0)))))
 
 -- what they tell
 abbrev pub run_events : List Event
@@ -84,30 +114,115 @@ run_events =
     by set_line (Begun set_line)
     ∷ by set_line (SlotChanged 0 (example_slot 5 64 false))
     ∷ by set_line (Answered 2 Done)
+    ∷ by set_read_only_line (Begun set_read_only_line)
+    ∷ by set_read_only_line (SlotChanged 1 (example_slot 16 0 true))
+    ∷ by set_read_only_line (Answered 3 Done)
+    ∷ by outside_line (Begun outside_line)
+    ∷ by outside_line LookedAtSlots
+    ∷ by outside_line (Exited Mmio)
+    ∷ by outside_line (Answered 4 Mmio)
     ∷ by write_line (Begun write_line)
     ∷ by write_line LookedAtSlots
-    ∷ by read_line (Begun read_line)
-    ∷ by read_line LookedAtSlots
-    ∷ by other_set_line (Begun other_set_line)
-    ∷ by other_set_line (SlotChanged 1 (example_slot 20 0 false))
-    ∷ by other_set_line (Answered 5 Done)
+    ∷ by write_line (LookedAtHost 65)
     ∷ by write_line (Accessed 6 0 (Write 7) 65 0)
-    ∷ by write_line (Answered 3 (Reached 65 0))
+    ∷ by write_line (Answered 5 (Reached 65 0))
+    ∷ by read_line (Begun read_line)
     ∷ by read_line (Accessed 6 0 Read 65 7)
-    ∷ by read_line (Answered 4 (Reached 65 7))
+    ∷ by read_line (Answered 6 (Reached 65 7))
     ∷ by add_line (Begun add_line)
-    ∷ by add_line LookedAtSlots
-    ∷ by add_line (Accessed 21 1 (Add 5) 1 0)
-    ∷ by add_line (Answered 6 (Reached 1 0))
+    ∷ by add_line (Accessed 6 0 (Add 2) 65 7)
+    ∷ by add_line (Answered 7 (Reached 65 7))
+    ∷ by sum_line (Begun sum_line)
+    ∷ by sum_line (Accessed 6 0 Read 65 9)
+    ∷ by sum_line (Answered 8 (Reached 65 9))
+    ∷ by other_slot_line (Begun other_slot_line)
+    ∷ by other_slot_line LookedAtSlots
+    ∷ by other_slot_line (LookedAtHost 1)
+    ∷ by other_slot_line (Accessed 17 0 Read 1 0)
+    ∷ by other_slot_line (Answered 9 (Reached 1 0))
+    ∷ by forbidden_line (Begun forbidden_line)
+    ∷ by forbidden_line LookedAtSlots
+    ∷ by forbidden_line (Exited Mmio)
+    ∷ by forbidden_line (Answered 10 Mmio)
     ∷ []
 
--- From a start with these lines these steps can be made, and they tell this.
-pub record ExampleRuns : Type 0 where
-  pub start : World Held
-  pub is_start : IsStart example_sizes run_lines start
-  pub legal : Legal mmu start (turns example_sizes start run_order)
-  pub tells : history start (turns example_sizes start run_order) ≡ run_events
+abbrev pub ExampleRuns : Type 0
+ExampleRuns = RunTells run_sizes run_lines run_order run_events
 
 -- So it prints this.
 abbrev pub ExamplePrints : Type 0
-ExamplePrints = text run_events ≡ codes "2 vm done\n5 vm done\n3 v0 frame 65 value 0\n4 v1 frame 65 value 7\n6 v0 frame 1 value 0\n"
+ExamplePrints = text run_events
+    ≡ codes "2 vm done\n3 vm done\n4 v0 mmio\n5 v1 frame 65 value 0\n6 v0 frame 65 value 7\n7 v0 frame 65 value 7\n8 v1 frame 65 value 9\n9 v0 frame 1 value 0\n10 v0 mmio\n"
+
+-- The same machine with a pool of four pages: the root, the slot set, and two more. A write's fault fills and links two tables, and finds no
+-- page for the third one.
+abbrev pub small_sizes : Sizes
+small_sizes = record { pages = 128; frames = 128; words = 2; pool = 4; cache = 64; vcpus = 2; hosts = 1; workers = 0 }
+
+abbrev pub starved_line : Line
+starved_line = access_line 3 0 6 0 (Write 7)
+
+abbrev pub small_lines : List Line
+small_lines = set_line ∷ starved_line ∷ []
+
+abbrev pub small_order : List ℕ
+small_order = replicate 4 3 ++ replicate 1055 0
+
+abbrev pub small_events : List Event
+small_events =
+    by set_line (Begun set_line)
+    ∷ by set_line (SlotChanged 0 (example_slot 5 64 false))
+    ∷ by set_line (Answered 2 Done)
+    ∷ by starved_line (Begun starved_line)
+    ∷ by starved_line LookedAtSlots
+    ∷ by starved_line (LookedAtHost 65)
+    ∷ by starved_line (Exited Starved)
+    ∷ by starved_line (Answered 3 Starved)
+    ∷ []
+
+abbrev pub ExampleStarves : Type 0
+ExampleStarves = RunTells small_sizes small_lines small_order small_events × (text small_events ≡ codes "2 vm done\n3 v0 starved\n")
+
+-- Two processors write to one guest frame, a step each in turn. Both see the same free pages: the second one loses its first try to the first
+-- one, waits, and takes the next page. It then loses the link of each level to the first one, gives its page back, and begins anew behind it:
+-- three times, until it walks to the leaf that the first one has put, in its fourth stay in the guest.
+abbrev pub first_line : Line
+first_line = access_line 3 0 6 0 (Write 7)
+
+abbrev pub second_line : Line
+second_line = access_line 4 1 6 0 (Write 8)
+
+abbrev pub race_lines : List Line
+race_lines = set_line ∷ first_line ∷ second_line ∷ []
+
+-- these actors in turn, so many times
+abbrev pub in_turn : ℕ → List ℕ → List ℕ
+in_turn zero actors = []
+in_turn (suc n) actors = actors ++ in_turn n actors
+
+abbrev pub race_order : List ℕ
+race_order = replicate 4 3 ++ (in_turn 1581 (0 ∷ 1 ∷ []) ++ replicate 46 1)
+
+abbrev pub race_events : List Event
+race_events =
+    by set_line (Begun set_line)
+    ∷ by set_line (SlotChanged 0 (example_slot 5 64 false))
+    ∷ by set_line (Answered 2 Done)
+    ∷ by first_line (Begun first_line)
+    ∷ by second_line (Begun second_line)
+    ∷ by first_line LookedAtSlots
+    ∷ by second_line LookedAtSlots
+    ∷ by first_line (LookedAtHost 65)
+    ∷ by second_line (LookedAtHost 65)
+    ∷ by second_line LookedAtSlots
+    ∷ by second_line (LookedAtHost 65)
+    ∷ by second_line LookedAtSlots
+    ∷ by second_line (LookedAtHost 65)
+    ∷ by first_line (Accessed 6 0 (Write 7) 65 0)
+    ∷ by first_line (Answered 3 (Reached 65 0))
+    ∷ by second_line (Accessed 6 0 (Write 8) 65 7)
+    ∷ by second_line (Answered 4 (Reached 65 7))
+    ∷ []
+
+abbrev pub ExampleRaces : Type 0
+ExampleRaces = RunTells run_sizes race_lines race_order race_events × (text race_events ≡ codes "2 vm done\n3 v0 frame 65 value 0\n4 v1 frame 65 value 7\n")

@@ -3,11 +3,11 @@
 use Rattle.std.specs.Prelude.{◌≡◌, ◌/◌, ◌^◌, ◌<◌, ℕ, zero, suc, Bool, true, false, Some}
 use Rattle.core_views.specs.declared.place.CheckStage.TheVariants as stage
 use Rattle.core_views.specs.declared.place.FaultEnd.{FaultEnd}
-use Rattle.core_views.specs.declared.place.FaultEnd.TheVariants.{Installed, Starved, Retry}
+use Rattle.core_views.specs.declared.place.FaultEnd.TheVariants.{Installed, Mmio, Starved, Retry}
 use Rattle.core_views.specs.declared.place.FaultNext.{FaultNext}
 use Rattle.core_views.specs.declared.place.FaultNext.TheVariants.{Goes, Ends}
 use Rattle.core_views.specs.declared.place.FaultPlace.{FaultPlace}
-use Rattle.core_views.specs.declared.place.FaultPlace.TheVariants.{Share, Check, Claim, Fill, Link, Give, Leaf, Unshare, End}
+use Rattle.core_views.specs.declared.place.FaultPlace.TheVariants.{Find, Share, Check, Claim, Fill, Link, Give, Leaf, Unshare, End}
 use Rattle.core_views.specs.declared.sizes.Sizes.{Sizes}
 use Rattle.core_views.specs.declared.topics.Hold.TheVariants.{Loose}
 use Rattle.core_views.specs.declared.topics.Topics.{Topics}
@@ -28,6 +28,8 @@ use Rattle.mmu_core.specs.Machine.{World, hand_in}
 use Rattle.mmu_core.specs.OthersRest.{OthersRest}
 use Rattle.mmu_core.specs.PartSteps.{entry_index, part_task, table_page}
 use Rattle.mmu_core.specs.PartTopics.{part_topics}
+use Rattle.mmu_core.specs.SetSlotSteps.{published_set}
+use Rattle.mmu_core.specs.SlotWords.{NoneBelow, NoneHasPage}
 use Rattle.mmu_core.specs.TopicSteps.{linked_page}
 use Rattle.mmu_core.specs.TreePart.{at}
 use Rattle.mmu_core.specs.View.{answer_in, word_in, words_after}
@@ -58,17 +60,21 @@ SeenStands begun map t = begun ≡ true → 0 < t.claim.seen → map t.claim.at 
 abbrev pub NoneFreeBefore : (ℕ → ℕ) → ℕ → Type 0
 NoneFreeBefore map word = (i : ℕ) → i < word → map i ≡ 0
 
--- Behind a fault that has installed an entry, links lead to a leaf that allows the access; one that is starved saw each word of the map
--- 0, up to where its claim came, and each is; no fault begins anew.
+-- Behind a fault that has installed an entry, links lead to a leaf that allows the access; one that ends with MMIO leaves no live slot of
+-- the published set that has a page for the access; one that is starved saw each word of the map 0, up to where its claim came, and each
+-- is; no fault begins anew.
 abbrev pub EndAlone : FaultEnd → ℕ → (ℕ → ℕ) → (ℕ → ℕ) → ℕ → Bool → ℕ → Type 0
 EndAlone Installed root map pool gfn write came = LeadsToLeaf pool 4 root gfn write
+EndAlone Mmio root map pool gfn write came = NoneHasPage gfn write pool published_set
 EndAlone Starved root map pool gfn write came = NoneFreeBefore map came
 EndAlone (Retry cause) root map pool gfn write came = ⊥
 EndAlone _ root map pool gfn write came = Unit {0}
 
--- What a fault knows of the words at each place, where no other actor is in its way. It never comes to a range of guest frames, since
+-- What a fault knows of the words at each place, where no other actor is in its way: the slots behind its search don't have the guest
+-- frame; the entry and the pages that it saw are as it saw them. It never comes to a range of guest frames, since
 -- no invalidation is open, and never gives a page back.
 abbrev pub FaultAlone : FaultPlace → ℕ → (ℕ → ℕ) → (ℕ → ℕ) → ℕ → Bool → Topics → Type 0
+FaultAlone (Find begun) root map pool gfn write t = begun ≡ true → NoneBelow gfn pool published_set t.search.id
 FaultAlone Share root map pool gfn write t = t.hold ≡ Loose
 FaultAlone (Check stage.Start) root map pool gfn write t = ⊥
 FaultAlone (Check stage.End) root map pool gfn write t = ⊥
@@ -105,8 +111,8 @@ pub record GoesThrough (z : Sizes) (words : Area → ℕ → ℕ) (a : ℕ) (t :
       let behind : Area → ℕ → ℕ = words_after task words in
       AloneNext (fault_next p z gfn write t found) (behind area.Root 0) (behind area.PoolMap) (behind area.Pool) gfn write (part_topics step t found)
 
--- A fault alone goes through: no step of it waits, it never begins anew, and where it ends with an entry installed, links lead from the
--- root to a leaf that allows the access.
+-- A fault alone goes through: no step of it waits, it never begins anew, where it ends with an entry installed, links lead from the root to
+-- a leaf that allows the access, and where it ends with MMIO, no slot has a page for the access.
 abbrev pub FaultGoesThrough : Type 0
 FaultGoesThrough =
     (z : Sizes) (w : World Held) (a gfn note : ℕ) (write : Bool) (p : FaultPlace) → RunsAlone z w a p gfn write

@@ -17,12 +17,13 @@ use Rattle.core_views.specs.declared.topics.Hold.TheVariants.{Loose, Shared, Owi
 use Rattle.core_views.specs.declared.topics.Invalidations.{Invalidations}
 use Rattle.core_views.specs.declared.topics.OwnedPage.{OwnedPage}
 use Rattle.core_views.specs.declared.topics.Stay.TheVariants.{Section}
+use Rattle.core_views.specs.declared.topics.TableWalk.{TableWalk}
 use Rattle.core_views.specs.declared.topics.Topics.{Topics}
 use Rattle.spte_words.specs.declared.spte_kind.SpteKind.TheVariants as entry_kind
 use Rattle.spte_words.specs.Areas.{words_of_bits}
 use Rattle.spte_words.specs.Entries.{kind_of}
 use Rattle.spte_words.specs.HostWords.{host_allows_write}
-use Rattle.mmu_core.specs.FaultSteps.{allows_access}
+use Rattle.mmu_core.specs.FaultSteps.{allows_access, entry_word}
 use Rattle.mmu_core.specs.PartSteps.{FoundSlot, HoldsSet, IsAtRest, IsFresh, IsOver, LookedUp, OwnsPage, OwnsTable, SawEntry}
 
 -- In a section, with no page; without the lock, or sharing it.
@@ -96,11 +97,19 @@ pub record HostForbids (gfn : ℕ) (write : Bool) (t : Topics) : Type 0 where
 abbrev pub FoundNoPage : ℕ → Bool → Topics → Type 0
 FoundNoPage gfn write t = ((write ≡ true) × FoundSlot gfn t × (t.search.slot.read_only ≡ true)) ⊎ (t.search.id ≡ 32)
 
+-- This word is the guest frame's entry in the walk's table, and was seen so. It isn't what was read of it before, or it is frozen, or a
+-- leaf above the lowest level.
+pub record IsInTheWay (word read seen : ℕ) (z : Sizes) (gfn : ℕ) (walk : TableWalk) : Type 0 where
+  pub saw : SawEntry gfn walk
+  pub is_entry : word ≡ entry_word z gfn walk
+  pub holds : walk.entry ≡ seen
+  pub why : (read ≢ seen) ⊎ (kind_of walk.level seen ≡ entry_kind.Frozen) ⊎ ((kind_of walk.level seen ≡ entry_kind.Leaf) × (2 ≤ walk.level))
+
 -- Why it is to begin anew: by the words that it loaded.
-abbrev pub HasCause : Cause → ℕ → Topics → Type 0
-HasCause (Open count start end_ at) gfn t = (at ≡ gfn) × (0 < count) × (start ≤ gfn) × (gfn < end_) × (t.invalidations.count ≡ count) × (t.invalidations.start ≡ start) × (t.invalidations.end ≡ end_)
-HasCause (Moved old_ now_) gfn t = (t.invalidations.snapshot ≡ Some old_) × (t.invalidations.seq ≡ now_) × (now_ ≢ old_)
-HasCause (Entry word read seen) gfn t = (read ≢ seen) ⊎ (t.walk.entry ≡ seen)
+abbrev pub HasCause : Cause → Sizes → ℕ → Topics → Type 0
+HasCause (Open count start end_ at) z gfn t = (at ≡ gfn) × (0 < count) × (start ≤ gfn) × (gfn < end_) × (t.invalidations.count ≡ count) × (t.invalidations.start ≡ start) × (t.invalidations.end ≡ end_)
+HasCause (Moved old_ now_) z gfn t = (t.invalidations.snapshot ≡ Some old_) × (t.invalidations.seq ≡ now_) × (now_ ≢ old_)
+HasCause (Entry word read seen) z gfn t = IsInTheWay word read seen z gfn t.walk
 
 -- what the end of a fault rests on
 abbrev pub EndKnows : FaultEnd → Sizes → ℕ → Bool → Topics → Type 0
@@ -108,7 +117,7 @@ EndKnows Installed z gfn write t = HasEntry gfn write t
 EndKnows Mmio z gfn write t = FoundNoPage gfn write t
 EndKnows HostFault z gfn write t = HostForbids gfn write t
 EndKnows Starved z gfn write t = words_of_bits z.pool ≤ t.claim.at
-EndKnows (Retry cause) z gfn write t = HasCause cause gfn t
+EndKnows (Retry cause) z gfn write t = HasCause cause z gfn t
 
 -- what a fault knows at each place
 abbrev pub FaultKnows : FaultPlace → Sizes → ℕ → Bool → Topics → Type 0

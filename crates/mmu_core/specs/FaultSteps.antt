@@ -2,6 +2,7 @@
 -- host word of its page; then, sharing the lock, the check of the snapshot, and from the root down each level's entry: a link leads
 -- down, an absent entry gets a table of its own, and at the lowest level the leaf.
 use Rattle.std.specs.Prelude.{◌+◌, ◌-◌, ◌*◌, ℕ, Bool, true, false, ◌==◌, ◌&&◌, ◌||◌, nat_le, nat_lt, not, if◌then◌else◌, Option, Some, None}
+use Rattle.core_views.specs.declared.hand.Seen.{Seen}
 use Rattle.core_views.specs.declared.place.Cause.TheVariants.{Open, Moved, Entry}
 use Rattle.core_views.specs.declared.place.CheckStage.{CheckStage}
 use Rattle.core_views.specs.declared.place.CheckStage.TheVariants as stage
@@ -19,6 +20,7 @@ use Rattle.core_views.specs.declared.topics.MapClaim.{MapClaim}
 use Rattle.core_views.specs.declared.topics.SlotSearch.{SlotSearch}
 use Rattle.core_views.specs.declared.topics.TableWalk.{TableWalk}
 use Rattle.core_views.specs.declared.topics.Topics.{Topics}
+use Rattle.core_views.specs.Held.{Held}
 use Rattle.core_views.specs.Slots.{contains}
 use Rattle.spte_words.specs.declared.area.Area.TheVariants as area
 use Rattle.spte_words.specs.declared.spte_kind.SpteKind.{SpteKind}
@@ -28,7 +30,7 @@ use Rattle.spte_words.specs.Entries.{can_write, kind_of}
 use Rattle.spte_words.specs.HostWords.{host_allows_write}
 use Rattle.mmu_core.specs.declared.part_step.PartStep.{PartStep}
 use Rattle.mmu_core.specs.declared.part_step.PartStep.TheVariants as part
-use Rattle.mmu_core.specs.PartSteps.{entry_index, table_page, words_filled}
+use Rattle.mmu_core.specs.PartSteps.{entry_index, part_kind, table_page, words_filled}
 use Rattle.mmu_core.specs.SearchLeft.{look_left}
 use Rattle.mmu_core.specs.SlotWords.{page_of}
 use Rattle.mmu_core.specs.Tasks.{map_of}
@@ -159,6 +161,19 @@ abbrev pub waits : FaultPlace → Topics → ℕ → Bool
 waits Share t v = is_owing t.hold
 waits (Claim begun) t v = tries_page begun t.claim && not (is_won t.claim v)
 waits _ t v = false
+
+-- What a step that waits has seen: of the lock the word that it found with the try which it takes back, and of the map what is there now.
+abbrev pub word_owed : Hold → ℕ
+word_owed (Owing word) = word
+word_owed _ = 0
+
+abbrev pub wait_value : FaultPlace → Topics → ℕ → ℕ
+wait_value Share t v = word_owed t.hold
+wait_value _ t v = v
+
+-- and which word this is: the one that the step of the place is on
+abbrev pub wait_seen : FaultPlace → Held → ℕ → ℕ → ℕ → Seen
+wait_seen p h gfn note v = record { word = (part_kind h (fault_part p gfn h.topics) note).word; value = wait_value p h.topics v }
 
 -- the most steps from a table of the level on, whose entry comes next: for each table below it the entry, all words of the map and a
 -- page seen there, the page's words and its role, and the link; and then an entry, the leaf, the lock and the section

@@ -8,20 +8,22 @@ use Rattle.spte_words.specs.declared.area.Area.TheVariants as area
 use Rattle.mmu_core.specs.View.{View}
 pub use Rattle.mmu_core.specs.HostWordsPart.{HostWordsPart}
 pub use Rattle.mmu_core.specs.SlotSetPart.{SlotSetPart, IsLive}
-pub use Rattle.mmu_core.specs.LeavesPart.{IsLeaf, LeavesPart}
+pub use Rattle.mmu_core.specs.CachedPart.{CachedPart, IsLeafFor}
+pub use Rattle.mmu_core.specs.KnowsPart.{KnowsPart}
 pub use Rattle.mmu_core.specs.LinesPart.{IsSetBy, UnderWay, OwnLines}
-pub use Rattle.mmu_core.specs.LoadsPart.{Found, AccessHolds, SetSlotHolds, Holds}
+pub use Rattle.mmu_core.specs.LoadsPart.{AccessHolds, SetSlotHolds, Holds}
 pub use Rattle.mmu_core.specs.RecordPart.{RecordPart}
 
 -- All parts, of the columns of words and the column of hands.
-pub record InvariantOf (z : Sizes) (slots pool host linear : ℕ → ℕ) (hand : ℕ → Held) : Type 0 where
+pub record InvariantOf (z : Sizes) (slots pool host : ℕ → ℕ) (hand : ℕ → Held) : Type 0 where
   pub sizes : AreSizes z
   pub hosts : HostWordsPart z host
   pub set : SlotSetPart z slots pool
-  pub leaves : LeavesPart z pool host linear
   pub lines : (i : ℕ) → i < actors_of z → OwnLines z i (hand i)
   pub loads : (i : ℕ) → i < actors_of z → Holds z pool host (hand i).state.place (hand i).state.line.command (hand i).slots (hand i).state
+  pub knows : (i : ℕ) → i < actors_of z → KnowsPart (hand i).state.place (hand i).state.line.command (hand i)
+  pub cached : (i : ℕ) → i < actors_of z → CachedPart pool host (hand i).cached.items
   pub recorded : (i : ℕ) → i < actors_of z → (hand i).state.actor ≡ Manager → RecordPart pool (hand i).slots
 
 abbrev pub Invariant : Sizes → View → Type 0
-Invariant z v = InvariantOf z (v.words area.Slots) (v.words area.Pool) (v.words area.Host) (v.words area.Linear) v.hand
+Invariant z v = InvariantOf z (v.words area.Slots) (v.words area.Pool) (v.words area.Host) v.hand

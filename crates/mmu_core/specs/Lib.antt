@@ -1,6 +1,7 @@
 pub mod Machine
 pub mod Tasks
 pub mod SlotWords
+pub mod Cached
 pub mod AccessSteps
 pub mod SetSlotSteps
 pub mod TopicSteps
@@ -17,12 +18,14 @@ pub mod Laws
 pub mod Example
 pub mod SearchLeft
 pub mod Bounds
+pub mod AloneKnows
 pub mod Turns
 pub mod LineRuns
 pub mod Histories
 pub mod HostWordsPart
 pub mod SlotSetPart
-pub mod LeavesPart
+pub mod CachedPart
+pub mod KnowsPart
 pub mod LinesPart
 pub mod LoadsPart
 pub mod RecordPart
@@ -36,6 +39,7 @@ pub mod HeldPart
 pub mod TopicsInvariant
 pub mod FaultSteps
 pub mod FaultKnows
+pub mod PartBounds
 pub mod PartRests
 pub mod FaultLaws
 pub mod OthersRest
@@ -43,4 +47,6 @@ pub mod Grace
 pub mod Scans
 pub mod Enough
 pub mod FaultAlone
-pub mod FaultRuns
+pub mod LineAlone
+pub mod LeafLaws
+pub mod StepLaws

@@ -1,6 +1,6 @@
 -- Lines: whose a hand is, and which of its lines is under way.
-use Rattle.std.specs.Prelude.{◌≡◌, ◌<◌, ℕ, List, All, length, map, take}
-use Rattle.std.specs.List.{Contains}
+use Rattle.std.specs.Prelude.{◌≡◌, ◌<◌, ◌==◌, ℕ, List, All, length, map, take}
+use Rattle.std.specs.List.{Contains, IsDistinct}
 use Rattle.std.specs.Map.{keys_of}
 use Rattle.core_views.specs.declared.place.Place.{Place}
 use Rattle.core_views.specs.declared.place.Place.TheVariants as place
@@ -10,7 +10,7 @@ use Rattle.core_views.specs.declared.trace.Command.TheVariants.{SetSlot}
 use Rattle.core_views.specs.declared.trace.Line.{Line}
 use Rattle.core_views.specs.Held.{Held}
 use Rattle.core_views.specs.Sizes.{index_of}
-use Rattle.core_views.specs.Traces.{AreDistinct, IsCommandFor, slot_ids}
+use Rattle.core_views.specs.Traces.{IsCommandFor, slot_ids}
 use Rattle.mmu_core.specs.Steps.{next_line}
 
 -- A line is under way: it is the hand's next line, which has no answer yet.
@@ -29,7 +29,7 @@ pub record OwnLines (z : Sizes) (i : ℕ) (h : Held) : Type 0 where
   pub index : index_of z h.state.actor ≡ i
   pub allowed : All (λ line. IsCommandFor z line.actor line.command) h.lines
   pub own : All (λ line. line.actor ≡ h.state.actor) h.lines
-  pub distinct : AreDistinct (slot_ids h.lines)
+  pub distinct : IsDistinct (λ i j. i == j) (slot_ids h.lines)
   pub under : UnderWay h.state.place h
   pub answered : All (Contains (slot_ids (take (length h.answers) h.lines))) (keys_of h.slots)
   pub set : All (IsSetBy h.lines) h.slots

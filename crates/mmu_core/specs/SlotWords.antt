@@ -1,9 +1,9 @@
 -- The words of a slot in a slot set, and the leaf of a host page in a slot.
-use Rattle.std.specs.Prelude.{◌+◌, ◌-◌, ◌*◌, ℕ, [], ◌∷◌, ◌++◌, zero, suc, Bool, true, false, ◌&&◌, not, if◌then◌else◌}
+use Rattle.std.specs.Prelude.{◌≡◌, ◌<◌, ◌≤◌, ◌+◌, ◌-◌, ◌*◌, ℕ, [], ◌∷◌, ◌++◌, zero, suc, Bool, true, false, ◌&&◌, not, if◌then◌else◌}
 use Rattle.core_views.specs.declared.place.SlotField.{SlotField}
 use Rattle.core_views.specs.declared.place.SlotField.TheVariants.{Base, Pages, Host, Flags}
 use Rattle.core_views.specs.declared.trace.Slot.{Slot}
-use Rattle.core_views.specs.Slots.{Slots}
+use Rattle.core_views.specs.Slots.{Slots, contains}
 use Rattle.spte_words.specs.Areas.{pool_index}
 use Rattle.spte_words.specs.Entries.{leaf_word}
 use Rattle.spte_words.specs.Flags.{flags_word, flags_live, flags_read_only}
@@ -43,6 +43,14 @@ slot_at pool set id = record {
 abbrev pub slots_below : (ℕ → ℕ) → ℕ → ℕ → Slots
 slots_below pool set zero = []
 slots_below pool set (suc n) = slots_below pool set n ++ (if live_at pool set n then (n, slot_at pool set n) ∷ [] else [])
+
+-- No live slot of the set with an ID below this one has the guest frame.
+abbrev pub NoneBelow : ℕ → (ℕ → ℕ) → ℕ → ℕ → Type 0
+NoneBelow gfn pool set id = (i : ℕ) → i < id → live_at pool set i ≡ true → contains gfn (slot_at pool set i) ≡ false
+
+-- No live slot of the set has a page for the access: each that has the guest frame is read-only, and the access is a write.
+abbrev pub NoneHasPage : ℕ → Bool → (ℕ → ℕ) → ℕ → Type 0
+NoneHasPage gfn write pool set = (i : ℕ) → i ≤ 31 → live_at pool set i ≡ true → contains gfn (slot_at pool set i) ≡ true → (write && (slot_at pool set i).read_only) ≡ true
 
 -- the host page behind a guest frame of the slot
 abbrev pub page_of : Slot → ℕ → ℕ

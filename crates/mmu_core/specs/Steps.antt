@@ -1,6 +1,8 @@
 -- What each form of line does, put together: the step that a hand allows, and the hand after it.
 use Rattle.std.specs.Prelude.{ℕ, Bool, true, false, List, [], ◌∷◌, ◌++◌, length, map, nat_lt, slice_get, unwrap_or}
+use Rattle.circular_buffer.specs.Buffer.{Buffer}
 use Rattle.core_views.specs.declared.actor.Actor.TheVariants.{Manager}
+use Rattle.core_views.specs.declared.cache.Translation.{Translation}
 use Rattle.core_views.specs.declared.event.Event.{Event}
 use Rattle.core_views.specs.declared.event.EventKind.{EventKind}
 use Rattle.core_views.specs.declared.event.EventKind.TheVariants.{Begun}
@@ -8,7 +10,7 @@ use Rattle.core_views.specs.declared.hand.State.{State}
 use Rattle.core_views.specs.declared.kind.Kind.{Kind}
 use Rattle.core_views.specs.declared.place.Place.{Place}
 use Rattle.core_views.specs.declared.place.Place.TheVariants as place
-use Rattle.core_views.specs.declared.place.AccessPlace.TheVariants.{Slots}
+use Rattle.core_views.specs.declared.place.AccessPlace.TheVariants.{Enter}
 use Rattle.core_views.specs.declared.sizes.Sizes.{Sizes}
 use Rattle.core_views.specs.declared.trace.Command.{Command}
 use Rattle.core_views.specs.declared.trace.Command.TheVariants.{Access, SetSlot}
@@ -20,7 +22,8 @@ use Rattle.core_views.specs.SlotSets.{MemorySlots}
 use Rattle.mmu_core.specs.declared.outcome.Outcome.{Outcome}
 use Rattle.mmu_core.specs.declared.outcome.Outcome.TheVariants.{Goes}
 use Rattle.mmu_core.specs.declared.outcome.Task.{Task}
-use Rattle.mmu_core.specs.AccessSteps.{access_loads, access_outcome, access_task, access_tells}
+use Rattle.mmu_core.specs.AccessSteps.{access_caches, access_loads, access_outcome, access_task, access_tells}
+use Rattle.mmu_core.specs.Cached.{flushed}
 use Rattle.mmu_core.specs.SetSlotSteps.{set_slot_first, set_slot_outcome, set_slot_records, set_slot_task, set_slot_tells}
 use Rattle.mmu_core.specs.Tasks.{answering, answers_after, no_task, place_after}
 use Rattle.mmu_core.specs.TopicSteps.{topics_after}
@@ -37,7 +40,7 @@ line_at (place.SetSlot p) h = h.state.line
 
 -- where a line begins
 abbrev pub first_place : Sizes → MemorySlots → Command → Place
-first_place z slots (Access gfn word op) = place.Access Slots
+first_place z slots (Access gfn word op) = place.Access (Enter false)
 first_place z slots (SetSlot id slot) = place.SetSlot (set_slot_first (set_refusal z.pages id slot slots))
 
 -- where a line with this command stands, which is at its first place where it hasn't begun
@@ -51,15 +54,20 @@ abbrev pub place_at : Place → Held → Place
 place_at p h = standing p h.state.sizes h.slots (line_at p h).command
 
 -- what the step of a place is to do for the command
-abbrev pub task_at : Place → Command → State → Task
-task_at (place.Access p) (Access gfn word op) s = access_task p s gfn word op
-task_at (place.SetSlot p) (SetSlot id slot) s = set_slot_task p id slot
-task_at _ _ s = no_task
+abbrev pub task_at : Place → Command → Held → Task
+task_at (place.Access p) (Access gfn word op) h = access_task p h gfn word op
+task_at (place.SetSlot p) (SetSlot id slot) h = set_slot_task p id slot
+task_at _ _ h = no_task
 
 -- what the state has loaded after it
-abbrev pub loads_at : Place → Command → State → ℕ → State
-loads_at (place.Access p) (Access gfn word op) s v = access_loads p s v
-loads_at _ _ s v = s
+abbrev pub loads_at : Place → Command → Held → ℕ → State
+loads_at (place.Access p) (Access gfn word op) h v = access_loads p h gfn op v
+loads_at _ _ h v = h.state
+
+-- what is cached after it
+abbrev pub caches_at : Place → Command → Held → ℕ → Buffer Translation
+caches_at (place.Access p) (Access gfn word op) h v = access_caches p h gfn op v
+caches_at _ _ h v = h.cached
 
 -- the manager's own record of the slots after it
 abbrev pub records_at : Place → Command → MemorySlots → MemorySlots
@@ -67,39 +75,41 @@ records_at (place.SetSlot p) (SetSlot id slot) slots = set_slot_records p id slo
 records_at _ _ slots = slots
 
 -- where the line stands after it
-abbrev pub outcome_at : Place → Command → State → ℕ → Outcome
-outcome_at (place.Access p) (Access gfn word op) s v = access_outcome p s gfn op v
-outcome_at (place.SetSlot p) (SetSlot id slot) s v = set_slot_outcome p
-outcome_at p _ s v = Goes p
+abbrev pub outcome_at : Place → Command → Held → ℕ → Outcome
+outcome_at (place.Access p) (Access gfn word op) h v = access_outcome p h gfn op v
+outcome_at (place.SetSlot p) (SetSlot id slot) h v = set_slot_outcome p
+outcome_at p _ h v = Goes p
 
 -- what it tells of the line, besides its begin and its answer
-abbrev pub tells_at : Place → Command → State → ℕ → List EventKind
-tells_at (place.Access p) (Access gfn word op) s v = access_tells p s gfn word op v
-tells_at (place.SetSlot p) (SetSlot id slot) s v = set_slot_tells p id slot
-tells_at _ _ s v = []
+abbrev pub tells_at : Place → Command → Held → ℕ → List EventKind
+tells_at (place.Access p) (Access gfn word op) h v = access_tells p h gfn word op v
+tells_at (place.SetSlot p) (SetSlot id slot) h v = set_slot_tells p id slot
+tells_at _ _ h v = []
 
 -- what the hand's next step is to do
 abbrev pub task_of : Held → Task
-task_of h = task_at (place_at h.state.place h) (line_at h.state.place h).command h.state
+task_of h = task_at (place_at h.state.place h) (line_at h.state.place h).command h
 
--- the hand after a step of this line, at this place, that found v, but for its topics
+-- the hand after a step of this line, at this place, that found v, but for its topics and for a flush
 abbrev pub line_after : Line → Place → Held → ℕ → Held
 line_after line p h v = record {
-  state = record (loads_at p line.command h.state v) { line = line; place = place_after (outcome_at p line.command h.state v) };
+  state = record (loads_at p line.command h v) { line = line; place = place_after (outcome_at p line.command h v) };
   topics = h.topics;
+  cached = caches_at p line.command h v;
   slots = records_at p line.command h.slots;
   lines = h.lines;
-  answers = answers_after (outcome_at p line.command h.state v) line h.answers;
+  answers = answers_after (outcome_at p line.command h v) line h.answers;
 }
 
 -- the hand after a step of this line
 abbrev pub held_after : Line → Place → Held → Kind → ℕ → Held
 held_after line p h k v = record {
-  state = record (loads_at p line.command h.state v) { line = line; place = place_after (outcome_at p line.command h.state v) };
+  state = record (loads_at p line.command h v) { line = line; place = place_after (outcome_at p line.command h v) };
   topics = topics_after h.state.sizes k h.topics v;
+  cached = flushed k (caches_at p line.command h v) v;
   slots = records_at p line.command h.slots;
   lines = h.lines;
-  answers = answers_after (outcome_at p line.command h.state v) line h.answers;
+  answers = answers_after (outcome_at p line.command h v) line h.answers;
 }
 
 -- The hand has a line that has no answer.
@@ -108,7 +118,7 @@ has_line h = nat_lt (length h.answers) (length h.lines)
 
 -- the hand after a step of a part, which is no line's
 abbrev pub idle_after : Held → Kind → ℕ → Held
-idle_after h k v = record { state = h.state; topics = topics_after h.state.sizes k h.topics v; slots = h.slots; lines = h.lines; answers = h.answers }
+idle_after h k v = record { state = h.state; topics = topics_after h.state.sizes k h.topics v; cached = flushed k h.cached v; slots = h.slots; lines = h.lines; answers = h.answers }
 
 -- the hand after this step, which answered v: its line's next step where it has a line left, else a step of a part
 abbrev pub next_by : Bool → Held → Kind → ℕ → Held
@@ -125,7 +135,7 @@ beginning (place.Access p) line = []
 beginning (place.SetSlot p) line = []
 
 abbrev pub event_kinds : Place → Line → Place → Held → ℕ → List EventKind
-event_kinds stood line p h v = beginning stood line ++ (tells_at p line.command h.state v ++ answering (outcome_at p line.command h.state v) line)
+event_kinds stood line p h v = beginning stood line ++ (tells_at p line.command h v ++ answering (outcome_at p line.command h v) line)
 
 -- what the hand's next step tells, where it answered v; a step of a part tells nothing
 abbrev pub events_by : Bool → Held → ℕ → List Event
@@ -137,4 +147,4 @@ events_of h v = events_by (has_line h) h v
 
 -- the hand of an actor that is none
 abbrev pub nobody : Held
-nobody = first_held (record { pages = 0; frames = 0; words = 0; pool = 0; vcpus = 0; hosts = 0; workers = 0 }) Manager []
+nobody = first_held (record { pages = 0; frames = 0; words = 0; pool = 0; cache = 0; vcpus = 0; hosts = 0; workers = 0 }) Manager []

@@ -1,11 +1,9 @@
 -- What holds at every moment of the words of the machine's parts and of what actors hold of them.
-use Rattle.std.specs.Prelude.{◌≡◌, ◌<◌, ℕ, true, Option}
+use Rattle.std.specs.Prelude.{◌<◌, ℕ, Option}
 use Rattle.core_views.specs.declared.sizes.Sizes.{Sizes}
 use Rattle.core_views.specs.Held.{Held}
 use Rattle.core_views.specs.Sizes.{actors_of}
 use Rattle.spte_words.specs.declared.area.Area.TheVariants as area
-use Rattle.mmu_core.specs.PartSteps.{IsAtRest}
-use Rattle.mmu_core.specs.Steps.{has_line}
 use Rattle.mmu_core.specs.View.{View}
 pub use Rattle.mmu_core.specs.HeldPart.{CountersPart, HeldPart}
 pub use Rattle.mmu_core.specs.LockPart.{LockPart, SawWriter}
@@ -27,7 +25,6 @@ pub record TopicsInvariantOf (z : Sizes) (lock root slots seq : ℕ) (states map
   pub searches : (i : ℕ) → i < actors_of z → SearchPart pool (hand i).topics.search
   pub looks : (i : ℕ) → i < actors_of z → LookPart z seq host (hand i).topics
   pub counters : (i : ℕ) → i < actors_of z → CountersPart z (hand i).topics
-  pub resting : (i : ℕ) → i < actors_of z → has_line (hand i) ≡ true → IsAtRest (hand i).topics
 
 abbrev pub TopicsInvariant : Sizes → View → Type 0
 TopicsInvariant z v = TopicsInvariantOf z (v.words area.Lock 0) (v.words area.Root 0) (v.words area.Slots 0) (v.words area.Seq 0) (v.words area.State) (v.words area.PoolMap) (v.words area.Host) (v.words area.Role) (v.words area.Pool) v.hand

@@ -1,5 +1,5 @@
 -- What one step makes of its actor's hand: the line goes on, or it is answered.
-use Rattle.std.specs.Prelude.{◌≡◌, ◌<◌, ℕ, [], ◌∷◌, ◌++◌}
+use Rattle.std.specs.Prelude.{◌≡◌, ℕ, [], ◌∷◌, ◌++◌}
 use Rattle.core_views.specs.declared.answer.Answer.{Answer}
 use Rattle.core_views.specs.declared.answer.AnsweredLine.{AnsweredLine}
 use Rattle.core_views.specs.declared.place.Place.TheVariants.{Between}
@@ -7,7 +7,6 @@ use Rattle.core_views.specs.declared.trace.Line.{Line}
 use Rattle.core_views.specs.Held.{Held}
 use Rattle.mmu_core.specs.declared.outcome.Outcome.{Outcome}
 use Rattle.mmu_core.specs.declared.outcome.Outcome.TheVariants.{Goes, Ends}
-use Rattle.mmu_core.specs.Bounds.{steps_left}
 use Rattle.mmu_core.specs.Rests.{IsUnderWay}
 use Rattle.mmu_core.specs.Steps.{line_at, outcome_at, place_at}
 
@@ -17,7 +16,7 @@ line_of h = line_at h.state.place h
 
 -- where this line stands after the hand's next step, which answered v
 abbrev pub outcome_of : Held → ℕ → Outcome
-outcome_of h v = outcome_at (place_at h.state.place h) (line_of h).command h.state v
+outcome_of h v = outcome_at (place_at h.state.place h) (line_of h).command h v
 
 -- the line, answered so
 abbrev pub with_answer : Line → Answer → AnsweredLine
@@ -29,12 +28,11 @@ pub record IsSameHand (before after : Held) : Type 0 where
   pub sizes : after.state.sizes ≡ before.state.sizes
   pub lines : after.lines ≡ before.lines
 
--- The line is under way, nearer to its end, and has no answer yet.
+-- The line is under way, and has no answer yet.
 pub record GoesOn (line : Line) (before after : Held) : Type 0 where
   pub under_way : IsUnderWay after.state.place
   pub line_is : after.state.line ≡ line
   pub answers : after.answers ≡ before.answers
-  pub nearer : steps_left after.state.place < steps_left before.state.place
 
 -- The line is answered so, behind the answers before it, and no line is under way.
 pub record IsAnswered (line : Line) (answer : Answer) (before after : Held) : Type 0 where

@@ -11,9 +11,10 @@ use Rattle.core_views.specs.Kinds.{operation_of, word_after, word_answered}
 use Rattle.spte_words.specs.declared.area.Area.{Area}
 use Rattle.spte_words.specs.Areas.{number_of, place, size_of}
 use Rattle.mmu_core.specs.declared.outcome.Task.{Task}
+use Rattle.mmu_core.specs.Cached.{flushed}
 use Rattle.mmu_core.specs.Enabled.{mmu}
 use Rattle.mmu_core.specs.Machine.{World, hand_in}
-use Rattle.mmu_core.specs.Steps.{idle_after, loads_at, outcome_at, records_at, task_at}
+use Rattle.mmu_core.specs.Steps.{caches_at, idle_after, loads_at, outcome_at, records_at, task_at}
 use Rattle.mmu_core.specs.PartSteps.{own_index, part_task}
 use Rattle.mmu_core.specs.declared.part_step.PartStep.{PartStep}
 use Rattle.mmu_core.specs.Tasks.{answers_after, kind_of_task, map_of, place_after}
@@ -59,18 +60,19 @@ answer_in t words = word_answered (operation_of t.kind) t.written (words t.area 
 -- the hand after a step of this line, with this command, at this place
 abbrev pub hand_after : Line → Command → Place → Held → ℕ → Held
 hand_after line command p h v = record {
-  state = record (loads_at p command h.state v) { line = line; place = place_after (outcome_at p command h.state v) };
-  topics = topics_after h.state.sizes (kind_of_task h.state.sizes (task_at p command h.state)) h.topics v;
+  state = record (loads_at p command h v) { line = line; place = place_after (outcome_at p command h v) };
+  topics = topics_after h.state.sizes (kind_of_task h.state.sizes (task_at p command h)) h.topics v;
+  cached = flushed (kind_of_task h.state.sizes (task_at p command h)) (caches_at p command h v) v;
   slots = records_at p command h.slots;
   lines = h.lines;
-  answers = answers_after (outcome_at p command h.state v) line h.answers;
+  answers = answers_after (outcome_at p command h v) line h.answers;
 }
 
 -- what the actor's step makes of the words and hands
 abbrev pub stepped : ℕ → Line → Command → Place → View → View
 stepped a line command p v = record {
-  words = words_after (task_at p command (v.hand a).state) v.words;
-  hand = upd v.hand a (hand_after line command p (v.hand a) (answer_in (task_at p command (v.hand a).state) v.words));
+  words = words_after (task_at p command (v.hand a)) v.words;
+  hand = upd v.hand a (hand_after line command p (v.hand a) (answer_in (task_at p command (v.hand a)) v.words));
 }
 
 -- what a step of a part makes of them

@@ -1,20 +1,74 @@
 //! The steps of a guest access.
-ghost use Rattle.std.specs.Prelude.{◌≡◌, ◌≤◌, ◌<◌};
-ghost use Rattle.core_views.specs.Sizes.{AreSizes};
-ghost use Rattle.mmu_core.specs.AccessSteps.{access_loads, access_outcome, access_task, behind_slot, touch_of};
-ghost use Rattle.mmu_core.specs.Rests.{AccessRests, HasHost, IsSlotOnList};
-ghost use Rattle.core_views.specs.declared.place.AccessPlace.TheVariants.{Slot};
-ghost use Rattle.mmu_core.specs.Tasks.{loads, map_of};
+ghost use Rattle.std.specs.Prelude.{◌≡◌, ◌≤◌, ◌<◌, All};
+ghost use Rattle.core_views.specs.Slots.{is_write};
+ghost use Rattle.mmu_core.specs.FaultSteps.{allows_access};
+ghost use Rattle.spte_words.specs.Entries.{kind_of};
+ghost use Rattle.mmu_core.specs.AccessSteps.{access_caches, access_loads, access_note, access_outcome, access_part, access_task, behind_fault, touch_of, walk_next};
+ghost use Rattle.mmu_core.specs.Cached.{IsAtLeafLevel, allows, covers, first_usable, is_usable};
+ghost use Rattle.mmu_core.specs.PartBounds.{PartRests};
+ghost use Rattle.mmu_core.specs.Rests.{RestsOn};
+ghost use Rattle.mmu_core.specs.Tasks.{map_of};
 ghost use Rattle.spte_words.specs.Areas.{size_of};
 ghost use Rattle.spte_words.specs.declared.area.Area.TheVariants.{Content};
-ghost use Rattle.spte_words.specs.Entries.{absent_word};
 
-use crate::map_of;
 use crate::outcome::{Outcome, Task};
-use crate::slot_words::{leaf_of, page_of, slot_word};
-use core_views::{AccessPlace, Answer, Op, Place, SlotField, State, StepKind};
-use spte_words::{Area, HostWord, SlotFlags, Spte};
+use crate::part_step::PartStep;
+use crate::{fault, map_of, part_step};
+use core_views::{
+    AccessPlace, Answer, Cache, FaultEnd, FaultNext, FaultPlace, Hand, Leaving, Op, Place,
+    StepKind, Translation,
+};
+use spte_words::{Area, Spte, SpteKind};
 
+// Whether the operation writes.
+fn is_write(op: Op) -> bool
+    ensures { result ≡ is_write op }
+{
+    !matches!(op, Op::Read)
+}
+
+// Whether the translation's leaf covers the guest frame.
+#[tactic(auto, using(spte_words::proofs::Spans::span_positive))]
+fn covers(gfn: u64, translation: &Translation) -> bool
+    requires { IsAtLeafLevel translation.now }
+    ensures { result ≡ covers gfn translation.now }
+{
+    let span = Spte::level_span(translation.level);
+    gfn / span == translation.gfn / span
+}
+
+// Whether it allows a read, or a write.
+fn allows(write: bool, translation: &Translation) -> bool
+    ensures { result ≡ allows write translation.now }
+{
+    !write || Spte::from_word(translation.leaf).is_writable()
+}
+
+// Whether an access of the guest frame may use it.
+fn is_usable(gfn: u64, write: bool, translation: &Translation) -> bool
+    requires { IsAtLeafLevel translation.now }
+    ensures { result ≡ is_usable gfn write translation.now }
+{
+    covers(gfn, translation) && allows(write, translation)
+}
+
+/// The newest translation that covers the guest frame and allows the access;
+/// `None` where there is none.
+pub fn lookup(cache: &Cache, gfn: u64, write: bool) -> Option<Translation>
+    requires { All IsAtLeafLevel cache.now.items }
+    ensures { result ≡ first_usable gfn write cache.now.items }
+{
+    for i in 0..cache.len() {
+        if let Some(translation) = cache.get(i) {
+            if is_usable(gfn, write, &translation) {
+                return Some(translation);
+            }
+        }
+    }
+    None
+}
+
+// The touch of a content word.
 fn touch(op: Op, index: u64) -> Task
     ensures task { result ≡ touch_of op index }
     ensures word { (result.area ≡ Content) × (result.index ≡ index) }
@@ -30,143 +84,148 @@ fn touch(op: Op, index: u64) -> Task
         index,
         expected: 0,
         written,
-        may_end: 1,
+        may_end: 0,
+    }
+}
+
+// The step of this place, but for the touch.
+fn part(place: AccessPlace, gfn: u64, hand: &Hand) -> Option<PartStep>
+    requires rests { RestsOn (access_part place gfn hand.now.core.topics) hand.now.core }
+    requires part { PartRests hand.now.core }
+    ensures { result ≡ access_part place gfn hand.now.core.topics }
+{
+    Some(match place {
+        AccessPlace::Enter { .. } => PartStep::Enter,
+        AccessPlace::Pause { .. } => PartStep::Pause,
+        AccessPlace::Root { .. } => PartStep::Root,
+        AccessPlace::Walk { .. } => PartStep::Walk(gfn),
+        AccessPlace::Touch => return None,
+        AccessPlace::Leave(_) => PartStep::Leave,
+        AccessPlace::Fault(place) => fault::part(place, gfn, hand.topics()),
+    })
+}
+
+/// The note of the step of this place: 1 where the line ends with it, whatever it
+/// finds, and 0 where the line goes on.
+pub fn access_note(place: AccessPlace) -> u64
+    ensures { result ≡ access_note place }
+{
+    match place {
+        AccessPlace::Leave(Leaving::Reached { .. }) => 1,
+        AccessPlace::Fault(FaultPlace::End(end)) => match end {
+            FaultEnd::Installed | FaultEnd::Retry(_) => 0,
+            FaultEnd::Mmio | FaultEnd::HostFault | FaultEnd::Starved => 1,
+        },
+        _ => 0,
     }
 }
 
 /// What the step of this place is to do.
-pub(crate) fn task(place: AccessPlace, state: &State, gfn: u64, word: u8, op: Op) -> Task
-    requires sizes { AreSizes state.now.sizes }
-    requires rests { AccessRests place state.now gfn }
-    requires word { word < state.now.sizes.words }
-    ensures task { result ≡ access_task place state.now gfn word op }
-    ensures within { result.index < size_of (map_of state.now.sizes) result.area }
+pub(crate) fn task(place: AccessPlace, hand: &Hand, gfn: u64, word: u8, op: Op) -> Task
+    requires rests { RestsOn (access_part place gfn hand.now.core.topics) hand.now.core }
+    requires part { PartRests hand.now.core }
+    requires word { word < hand.now.core.state.sizes.words }
+    ensures task { result ≡ access_task place hand.now.core gfn word op }
+    ensures within { result.index < size_of (map_of hand.now.core.state.sizes) result.area }
 {
-    let map = map_of(&state.sizes);
-    let slot = &state.look.slot;
+    if let Some(step) = part(place, gfn, hand) {
+        return part_step::task(hand, step, access_note(place));
+    }
+    let frame = Spte::from_word(hand.state().leaf).frame();
+    touch(op, map_of(&hand.state().sizes).content_index(frame, word))
+}
+
+/// The leaf that the access uses behind the step of this place.
+pub(crate) fn leaf_behind(place: AccessPlace, hand: &Hand, gfn: u64, op: Op, found: u64) -> u64
+    requires part { PartRests hand.now.core }
+    ensures { result ≡ (access_loads place hand.now.core gfn op found).leaf }
+{
     match place {
-        AccessPlace::Slots => Task::load(StepKind::Control, Area::Slots, 0, 0),
-        AccessPlace::Slot { id, field } => {
-            Task::load(
-                StepKind::Slot,
-                Area::Pool,
-                slot_word(&map, state.look.set, id, field),
-                1,
-            )
-        }
-        AccessPlace::Walk => Task::load(StepKind::Walk, Area::Linear, page_of(slot, gfn), 0),
-        AccessPlace::Host => Task::load(StepKind::Host, Area::Host, page_of(slot, gfn), 0),
-        AccessPlace::Install => Task {
-            kind: StepKind::Swap,
-            area: Area::Linear,
-            index: page_of(slot, gfn),
-            expected: Spte::absent().word(),
-            written: leaf_of(slot, state.host),
-            may_end: 0,
+        AccessPlace::Pause { .. } => match lookup(hand.cache(), gfn, is_write(op)) {
+            Some(translation) => translation.leaf,
+            None => hand.state().leaf,
         },
-        AccessPlace::Touch => {
-            let frame = Spte::from_word(state.spte).frame();
-            touch(op, map.content_index(frame, word))
+        AccessPlace::Walk { .. } => found,
+        _ => hand.state().leaf,
+    }
+}
+
+/// Caches the leaf that the step of this place found, where it allows the access.
+pub(crate) fn fill_cache(place: AccessPlace, hand: &mut Hand, gfn: u64, op: Op, found: u64)
+    ensures core { hand.new.core ≡ record hand.old.core { cached = access_caches place hand.old.core gfn op found } }
+    ensures room { hand.new.room ≡ hand.old.room }
+{
+    if let AccessPlace::Walk { .. } = place {
+        let level = hand.topics().walk.level;
+        let entry = Spte::from_word(found);
+        if entry.kind(level) == SpteKind::Leaf && (!is_write(op) || entry.is_writable()) {
+            hand.cache_mut().fill(Translation {
+                gfn,
+                level,
+                leaf: found,
+            });
         }
     }
 }
 
-/// Keeps what the step of this place found.
-pub(crate) fn load(place: AccessPlace, state: &mut State, found: u64)
-    requires { HasHost place state.old }
-    ensures { state.new ≡ access_loads place state.old found }
+// Behind an entry of the walk's table.
+fn walk_next(again: bool, level: u8, op: Op, found: u64) -> AccessPlace
+    ensures { result ≡ walk_next again (kind_of level found) (allows_access (is_write op) found) }
 {
-    match place {
-        AccessPlace::Slots => state.look.set = found,
-        AccessPlace::Slot { field, .. } => match field {
-            SlotField::Base => state.look.slot.base = found,
-            SlotField::Pages => state.look.slot.pages = found,
-            SlotField::Host => state.look.slot.host = found,
-            SlotField::Flags => {
-                state.look.slot.read_only = SlotFlags::from_word(found).is_read_only()
-            }
-        },
-        AccessPlace::Walk => state.spte = found,
-        AccessPlace::Host => state.host = found,
-        AccessPlace::Install => {
-            state.spte = if found == Spte::absent().word() {
-                leaf_of(&state.look.slot, state.host)
-            } else {
-                found
-            }
-        }
-        AccessPlace::Touch => {}
+    let entry = Spte::from_word(found);
+    match entry.kind(level) {
+        SpteKind::Table(_) => AccessPlace::Walk { again },
+        SpteKind::Leaf if !is_write(op) || entry.is_writable() => AccessPlace::Touch,
+        _ => AccessPlace::Leave(Leaving::Faults),
     }
 }
 
-// Behind a slot that doesn't hold the guest frame: the next one, or an exit
-// behind the last.
-fn behind_slot(id: u64) -> Outcome
-    requires { id ≤ 31 }
-    ensures { result ≡ behind_slot id }
+// Behind a step of the fault.
+fn behind_fault(next: FaultNext) -> Outcome
+    ensures { result ≡ behind_fault next }
 {
-    if id == 31 {
-        Outcome::Ends(Answer::Mmio)
-    } else {
-        Outcome::Goes(Place::Access(AccessPlace::Slot {
-            id: id + 1,
-            field: SlotField::Flags,
-        }))
-    }
+    let end = match next {
+        FaultNext::Goes(place) => return Outcome::Goes(Place::Access(AccessPlace::Fault(place))),
+        FaultNext::Ends(end) => end,
+    };
+    let again = match end {
+        FaultEnd::Installed => true,
+        FaultEnd::Retry(_) => false,
+        FaultEnd::Mmio => return Outcome::Ends(Answer::Mmio),
+        FaultEnd::HostFault => return Outcome::Ends(Answer::HostFault),
+        FaultEnd::Starved => return Outcome::Ends(Answer::Starved),
+    };
+    Outcome::Goes(Place::Access(AccessPlace::Enter { again }))
 }
 
 /// Where the line stands after the step of this place.
-pub(crate) fn outcome(place: AccessPlace, state: &State, gfn: u64, op: Op, found: u64) -> Outcome
-    requires { IsSlotOnList place }
-    ensures { result ≡ access_outcome place state.now gfn op found }
+pub(crate) fn outcome(place: AccessPlace, hand: &Hand, gfn: u64, op: Op, found: u64) -> Outcome
+    requires rests { RestsOn (access_part place gfn hand.now.core.topics) hand.now.core }
+    requires part { PartRests hand.now.core }
+    ensures { result ≡ access_outcome place hand.now.core gfn op found }
 {
     let next = match place {
-        AccessPlace::Slots => AccessPlace::Slot {
-            id: 0,
-            field: SlotField::Flags,
+        AccessPlace::Enter { again } => AccessPlace::Pause { again },
+        AccessPlace::Pause { again } => match lookup(hand.cache(), gfn, is_write(op)) {
+            Some(_) => AccessPlace::Touch,
+            None => AccessPlace::Root { again },
         },
-        AccessPlace::Slot { id, field } => return slot_outcome(id, field, state, gfn, op, found),
-        AccessPlace::Walk => {
-            if found == Spte::absent().word() {
-                AccessPlace::Host
-            } else {
-                AccessPlace::Touch
-            }
-        }
-        AccessPlace::Host => AccessPlace::Install,
-        AccessPlace::Install => AccessPlace::Touch,
+        AccessPlace::Root { again } => AccessPlace::Walk { again },
+        AccessPlace::Walk { again } => walk_next(again, hand.topics().walk.level, op, found),
         AccessPlace::Touch => {
-            let frame = Spte::from_word(state.spte).frame();
-            let value = found;
+            let frame = Spte::from_word(hand.state().leaf).frame();
+            AccessPlace::Leave(Leaving::Reached {
+                frame,
+                value: found,
+            })
+        }
+        AccessPlace::Leave(Leaving::Reached { frame, value }) => {
             return Outcome::Ends(Answer::Reached { frame, value });
+        }
+        AccessPlace::Leave(Leaving::Faults) => AccessPlace::Fault(FaultPlace::Begin),
+        AccessPlace::Fault(place) => {
+            return behind_fault(fault::next(place, hand, gfn, is_write(op), found));
         }
     };
     Outcome::Goes(Place::Access(next))
-}
-
-// The same of the places in the look-up of the slot.
-fn slot_outcome(id: u64, field: SlotField, state: &State, gfn: u64, op: Op, found: u64) -> Outcome
-    requires { id ≤ 31 }
-    ensures { result ≡ access_outcome (Slot id field) state.now gfn op found }
-{
-    let field = match field {
-        SlotField::Flags => {
-            if !SlotFlags::from_word(found).is_live() {
-                return behind_slot(id);
-            }
-            SlotField::Base
-        }
-        SlotField::Base => SlotField::Pages,
-        SlotField::Pages => SlotField::Host,
-        SlotField::Host => {
-            if !state.look.slot.contains(gfn) {
-                return behind_slot(id);
-            }
-            if op.is_write() && state.look.slot.read_only {
-                return Outcome::Ends(Answer::Mmio);
-            }
-            return Outcome::Goes(Place::Access(AccessPlace::Walk));
-        }
-    };
-    Outcome::Goes(Place::Access(AccessPlace::Slot { id, field }))
 }

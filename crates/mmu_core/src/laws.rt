@@ -1,12 +1,17 @@
 ghost use Rattle.std.specs.Prelude.{◌<◌, length};
-ghost use Rattle.mmu_core.specs.Enough.{EachTableIsWanted, EnoughPages};
-ghost use Rattle.mmu_core.specs.Example.{EachMayStep, EveryMachineStarts, ExamplePrints, ExampleRuns};
+ghost use Rattle.mmu_core.specs.Enough.{EachTableIsWanted, EnoughPages, TablesAreForTheirRuns};
+ghost use Rattle.mmu_core.specs.Example.{EachMayStep, EveryMachineStarts, ExamplePrints, ExampleRaces, ExampleRuns, ExampleStarves};
 ghost use Rattle.mmu_core.specs.FaultAlone.{FaultGoesThrough, LeadsDown};
-ghost use Rattle.mmu_core.specs.FaultRuns.{ExampleFault, FaultAloneEnds, FaultAloneIsServed};
-ghost use Rattle.mmu_core.specs.FaultLaws.{FaultIsBounded, FaultMeetsNeeds, FaultStaysKnown, FaultStepsFall, PartsAnswer};
+ghost use Rattle.mmu_core.specs.FaultLaws.{FaultIsBounded, FaultMeetsNeeds, FaultStaysKnown, FaultStepsFall, PartsAnswer, WaitsSeeAnother};
 ghost use Rattle.mmu_core.specs.Histories.{AnswersAreTold, EndsWhole};
+ghost use Rattle.mmu_core.specs.KnowsPart.{KnowsPart};
 ghost use Rattle.mmu_core.specs.Laws.{StaysSound, TellsLawfully};
+ghost use Rattle.mmu_core.specs.LeafLaws.{CachedLeavesAgree, HeldLeavesAgree, LeavesAgree, UsedLeavesAgree};
+ghost use Rattle.mmu_core.specs.LineAlone.{LineBeginsAlone, LineEndsAlone, LineGoesThrough, NoneStarvedAlone};
 ghost use Rattle.mmu_core.specs.Rests.{Rests};
+ghost use Rattle.mmu_core.specs.Scans.{StarvedLinesScan};
+ghost use Rattle.mmu_core.specs.Steps.{line_at, place_at};
+ghost use Rattle.mmu_core.specs.StepLaws.{EnteringFlushes, NotesTellEnds, OthersCacheOneAtMost, StepsAreOnTheirAreas};
 ghost use Rattle.mmu_core.specs.Worlds.{HandReached};
 
 use core_views::Hand;
@@ -20,21 +25,52 @@ pub fn rests(hand: &Hand)
     ensures { Rests hand.now.core }
 {}
 
+/// A line that some reachable world has under way, or that is its actor's next
+/// one, knows what the place of its next step asks (`KnowsPart`): what its actor
+/// holds there, and at each end of a fault what this end rests on.
+pub fn knows(hand: &Hand)
+    requires reached { ∥ HandReached hand.now.core ∥₁ }
+    requires left { length hand.now.core.answers < length hand.now.core.lines }
+    ensures { KnowsPart (place_at hand.now.core.state.place hand.now.core) (line_at hand.now.core.state.place hand.now.core).command hand.now.core }
+{}
+
 /// What holds of every list of steps that is enabled step by step, of all
-/// actors in any order, from the start of every machine.
+/// actors in any order, from the start of every machine. Where one of them answers
+/// a line starved, its actor has gone through the whole map of the pool since the
+/// line began, word by word, owned no page at these loads, and found each word 0
+/// (tdp_mmu.c, `kvm_tdp_mmu_map`).
 pub fn every_list_of_steps()
     ensures sound { StaysSound }
     ensures lawful { TellsLawfully }
+    ensures starved { StarvedLinesScan }
 {}
 
-/// That the steps can be made: every machine has a start, at every moment each
-/// actor that has a line left has a step to make, and a small run goes from
-/// its start to its answers.
+/// That the steps can be made: every machine has a start, and at every moment
+/// each actor that has a line left has a step to make. A small run from its start
+/// sets two slots, answers an access of a guest frame that no slot has, and one
+/// whose fault fills and links three tables and puts the leaf; then accesses that
+/// walk to this leaf or go by what is cached, and a write that a read-only slot
+/// refuses. In a pool that is too small an access is starved; and where two
+/// processors write to one guest frame at a time, one waits and begins anew.
 pub fn the_steps_can_be_made()
     ensures starts { EveryMachineStarts }
     ensures goes_on { EachMayStep }
     ensures example { ExampleRuns }
     ensures prints { ExamplePrints }
+    ensures starves { ExampleStarves }
+    ensures races { ExampleRaces }
+{}
+
+/// What a step's numbers tell of it: each step that a hand allows is on a word of
+/// the area that its kind is for, and the note of a line's step says whether the
+/// line is answered with it, whatever the step finds. Who enters the guest with a
+/// flush asked for has nothing cached behind that step; each other step leaves at
+/// most one more translation (vcpu-requests.rst, KVM_REQ_TLB_FLUSH).
+pub fn steps_tell_what_they_are()
+    ensures areas { StepsAreOnTheirAreas }
+    ensures notes { NotesTellEnds }
+    ensures flushes { EnteringFlushes }
+    ensures caches { OthersCacheOneAtMost }
 {}
 
 /// What each hand has answered behind a list of steps is what the history tells
@@ -48,41 +84,67 @@ pub fn every_answer_is_told()
 /// The order of a fault's steps can be kept, and comes to an end: what it knows
 /// at a place, with what every reachable hand rests on, is what the step of this
 /// place needs; whatever that step answers, the fault knows what its next place
-/// asks; and each step that doesn't wait for another actor leaves it fewer steps,
-/// of which it has at most 8,192 and one for each pool page (tdp_mmu.c,
-/// `kvm_tdp_mmu_map`; locking.rst).
+/// asks; each step that doesn't wait for another actor leaves it fewer steps, of
+/// which it has at most 8,192 and one for each pool page; and one that waits has
+/// seen another actor, in the word that it is on (tdp_mmu.c, `kvm_tdp_mmu_map`;
+/// locking.rst).
 pub fn a_fault_goes_on()
     ensures needs { FaultMeetsNeeds }
     ensures answers { PartsAnswer }
     ensures known { FaultStaysKnown }
     ensures falls { FaultStepsFall }
+    ensures waits { WaitsSeeAnother }
     ensures bounded { FaultIsBounded }
 {}
 
 /// A pool of `need` pages is enough, in every list of steps: each table below
 /// the root is for a run of guest frames that a slot line of the trace wants
 /// (one that sets a slot of at least one page, and no more than the machine has,
-/// below guest frame 2^36); and where the pool has as many pages as `need` says,
-/// and no actor owns one, some page of it is free, so that who claims one then is
-/// not starved (tdp_mmu.c, `kvm_tdp_mmu_map`; mmu.rst, "Translation").
+/// below guest frame 2^36), and this run is the one that it stands at; and where
+/// the pool has as many pages as `need` says, and no actor owns one, some page of
+/// it is free, so that who claims one then is not starved (tdp_mmu.c,
+/// `kvm_tdp_mmu_map`; mmu.rst, "Translation").
 pub fn the_pool_is_enough()
     ensures wanted { EachTableIsWanted }
+    ensures own_runs { TablesAreForTheirRuns }
     ensures enough { EnoughPages }
+{}
+
+/// Leaves agree with slots and host, in every sound world: each one to which links
+/// lead a guest frame from the root, or from the table over it that an actor's walk
+/// has come to, each one that is cached, and the one by which an access is about to
+/// touch is of the page that the slots give the guest frame, at the frame that the
+/// host gives this page, and allows writes exactly where the slots give a write
+/// this page and the host allows it (tdp_mmu.c, `tdp_mmu_map_handle_target_level`;
+/// mmu.rst, "Shadow pages").
+pub fn leaves_agree()
+    ensures standing { LeavesAgree }
+    ensures held { HeldLeavesAgree }
+    ensures cached { CachedLeavesAgree }
+    ensures used { UsedLeavesAgree }
 {}
 
 /// What a fault comes to that runs while all other actors rest: no step of it
 /// waits, it never begins anew, where it ends with an entry installed, links lead
-/// from the root to a leaf that allows the access, and where it is starved, each
-/// word of the pool's map is 0, up to where its claim came (tdp_mmu.c,
-/// `kvm_tdp_mmu_map`; locking.rst). So the fault of an actor with no line left is
-/// over after at most 8,192 steps and one for each pool page, and isn't starved
-/// where the pool has as many pages as `need` says; and one from a start links a
-/// table of each level below the root, and installs the leaf. From each table over
-/// a guest frame links lead to the same entries as from the root.
+/// from the root to a leaf that allows the access, where it ends with MMIO, no slot
+/// has a page for the access, and where it is starved, each word of the pool's map
+/// is 0, up to where its claim came (tdp_mmu.c, `kvm_tdp_mmu_map`; locking.rst). And from each table over a guest frame links
+/// lead to the same entries as from the root.
 pub fn a_fault_alone_goes_through()
     ensures through { FaultGoesThrough }
     ensures leads { LeadsDown }
-    ensures ends { FaultAloneEnds }
-    ensures served { FaultAloneIsServed }
-    ensures example { ExampleFault }
+{}
+
+/// What a line comes to that runs while all other actors rest: no step of it
+/// waits, none of its faults begins anew, and each step leaves it fewer steps, of
+/// which it has at most 8,192, one for each pool page and one for each frame;
+/// where it is answered, all actors rest again, and it is starved only where no
+/// page of the pool is free, so never where the pool has as many pages as the
+/// trace needs at most. And its steps can be made, up to its answer (tdp_mmu.c,
+/// `kvm_tdp_mmu_map`; locking.rst).
+pub fn a_line_alone_goes_through()
+    ensures through { LineGoesThrough }
+    ensures begins { LineBeginsAlone }
+    ensures ends { LineEndsAlone }
+    ensures enough { NoneStarvedAlone }
 {}

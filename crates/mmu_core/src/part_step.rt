@@ -99,7 +99,7 @@ fn work(kind: StepKind, area: Area, index: u64, written: u64, note: u64) -> Task
 }
 
 // The page of the table that a walk has come to.
-fn table_page(walk: &TableWalk) -> u64
+pub(crate) fn table_page(walk: &TableWalk) -> u64
     ensures { result ≡ table_page walk.now }
 {
     match walk.level {
@@ -165,7 +165,7 @@ fn slot(map: &WordMap, search: &SlotSearch, note: u64) -> Task
 }
 
 // The run of entries of the level that the guest frame is in.
-fn run_of(gfn: u64, level: u8) -> u64
+pub(crate) fn run_of(gfn: u64, level: u8) -> u64
     requires from { 1 ≤ level }
     requires to { level ≤ 4 }
     ensures { result ≡ gfn / level_span level }
@@ -256,7 +256,7 @@ fn own_task(step: PartStep, own: u64, note: u64) -> Task
 }
 
 // What the step does.
-fn task(hand: &Hand, step: PartStep, note: u64) -> Task
+pub(crate) fn task(hand: &Hand, step: PartStep, note: u64) -> Task
     requires rests { PartRests hand.now.core }
     requires needs { PartNeeds step hand.now.core }
     ensures task { result ≡ part_task step (own_index hand.now.core) hand.now.core.topics note }

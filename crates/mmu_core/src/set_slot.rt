@@ -2,7 +2,9 @@
 ghost use Rattle.std.specs.Prelude.{◌≡◌, ◌≤◌, ◌<◌};
 ghost use Rattle.core_views.specs.Sizes.{AreSizes};
 ghost use Rattle.core_views.specs.Refusals.{set_refusal};
-ghost use Rattle.mmu_core.specs.Rests.{RecordAccepts, SetSlotRests};
+ghost use Rattle.core_views.specs.declared.place.SetSlotPlace.TheVariants.{Fill};
+ghost use Rattle.core_views.specs.declared.place.SlotField.{SlotField};
+ghost use Rattle.mmu_core.specs.Rests.{RecordAccepts};
 ghost use Rattle.mmu_core.specs.SetSlotSteps.{set_slot_first, set_slot_outcome, set_slot_records, set_slot_task};
 ghost use Rattle.mmu_core.specs.Tasks.{map_of};
 ghost use Rattle.spte_words.specs.Areas.{size_of};
@@ -29,7 +31,7 @@ pub(crate) fn first(sizes: &Sizes, slots: &SlotSet, id: u64, slot: &Slot) -> Set
 /// What the step of this place is to do.
 pub(crate) fn task(place: SetSlotPlace, sizes: &Sizes, id: u64, slot: &Slot) -> Task
     requires sizes { AreSizes sizes.now }
-    requires rests { SetSlotRests place id }
+    requires low { (f : SlotField) → place ≡ Fill f → id ≤ 31 }
     ensures task { result ≡ set_slot_task place id slot.now }
     ensures within { result.index < size_of (map_of sizes.now) result.area }
 {

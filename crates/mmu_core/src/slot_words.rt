@@ -44,7 +44,7 @@ pub(crate) fn field_word(field: SlotField, slot: &Slot) -> u64
 }
 
 /// The host page behind a guest frame of the slot.
-pub(crate) fn page_of(slot: &Slot, gfn: u64) -> u64
+pub fn page_of(slot: &Slot, gfn: u64) -> u64
     requires above { slot.now.base ≤ gfn }
     requires small { page_of slot.now gfn < 2 ^ 64 }
     ensures { result ≡ page_of slot.now gfn }

@@ -1,21 +1,26 @@
 //! The step that a hand allows, and the hand after it.
-ghost use Rattle.std.specs.Prelude.{◌≡◌, ◌≤◌, ◌<◌, ◌+◌, length};
+ghost use Rattle.std.specs.Prelude.{◌≡◌, ◌≤◌, ◌<◌, ◌+◌, length, true, false};
 ghost use Rattle.core_views.specs.Sizes.{AreSizes};
 ghost use Rattle.core_views.specs.Traces.{IsCommandFor};
 ghost use Rattle.mmu_core.specs.Rests.{AcceptsAt, IsUnderWay, Rests, RestsAt};
 ghost use Rattle.mmu_core.specs.Enabled.{Enabled};
-ghost use Rattle.mmu_core.specs.Steps.{first_place, idle_after, line_after, line_at, loads_at, next, outcome_at, place_at, records_at, standing, task_at};
+ghost use Rattle.mmu_core.specs.Steps.{caches_at, first_place, has_line, line_after, line_at, loads_at, next, outcome_at, place_at, records_at, standing, task_at};
+ghost use Rattle.mmu_core.specs.Cached.{flushed};
+ghost use Rattle.mmu_core.specs.PartBounds.{PartRests};
 ghost use Rattle.core_views.specs.Kinds.{kind_named};
 ghost use Rattle.mmu_core.specs.Tasks.{kind_of_task, map_of};
-ghost use Rattle.mmu_core.specs.TopicSteps.{HasRoom};
+ghost use Rattle.mmu_core.specs.TopicSteps.{HasRoom, topics_after};
 ghost use Rattle.spte_words.specs.Areas.{size_of, total};
 
 use crate::outcome::{Outcome, Task};
 use crate::topics::step_topics;
 use crate::{access, map_of, set_slot};
 use core_views::{
-    AccessPlace, AnsweredLine, Command, Hand, Kind, Line, Place, Sizes, SlotSet, State,
+    AccessPlace, AnsweredLine, Command, Hand, Kind, Line, Place, Sizes, SlotSet, StepKind,
 };
+
+/// Bit 2 of a state word: a flush is asked for.
+const FLUSH: u64 = 1 << 2;
 
 // The line that the hand's next step is of: the one under way, or the next one.
 fn line_of(hand: &Hand) -> Line
@@ -36,7 +41,7 @@ fn first(hand: &Hand, line: &Line) -> Place
     ensures { result ≡ first_place hand.now.core.state.sizes hand.now.core.slots line.now.command }
 {
     match &line.command {
-        Command::Access { .. } => Place::Access(AccessPlace::Slots),
+        Command::Access { .. } => Place::Access(AccessPlace::Enter { again: false }),
         Command::SetSlot { id, slot } => {
             let sizes = &hand.state().sizes;
             Place::SetSlot(set_slot::first(sizes, hand.slots(), *id, slot))
@@ -56,20 +61,20 @@ fn place_of(hand: &Hand, line: &Line) -> Place
 }
 
 // What the step of a place is to do.
-fn task(place: Place, state: &State, line: &Line) -> Task
-    requires sizes { AreSizes state.now.sizes }
-    requires line { IsCommandFor state.now.sizes line.now.actor line.now.command }
-    requires rests { RestsAt place line.now.command state.now }
+fn task(place: Place, hand: &Hand, line: &Line) -> Task
+    requires part { PartRests hand.now.core }
+    requires line { IsCommandFor hand.now.core.state.sizes line.now.actor line.now.command }
+    requires rests { RestsAt place line.now.command hand.now.core }
     requires begun { IsUnderWay place }
-    ensures task { result ≡ task_at place line.now.command state.now }
-    ensures within { result.index < size_of (map_of state.now.sizes) result.area }
+    ensures task { result ≡ task_at place line.now.command hand.now.core }
+    ensures within { result.index < size_of (map_of hand.now.core.state.sizes) result.area }
 {
     match (place, &line.command) {
         (Place::Access(place), Command::Access { gfn, word, op }) => {
-            access::task(place, state, *gfn, *word, *op)
+            access::task(place, hand, *gfn, *word, *op)
         }
         (Place::SetSlot(place), Command::SetSlot { id, slot }) => {
-            set_slot::task(place, &state.sizes, *id, slot)
+            set_slot::task(place, &hand.state().sizes, *id, slot)
         }
         _ => unreachable!(),
     }
@@ -99,21 +104,31 @@ pub fn next_kind(hand: &Hand) -> Kind
     requires rests { Rests hand.now.core }
     ensures { Enabled hand.now.core result }
 {
-    let state = hand.state();
     let line = line_of(hand);
-    let task = task(place_of(hand, &line), state, &line);
-    kind_of(&state.sizes, &task)
+    let task = task(place_of(hand, &line), hand, &line);
+    kind_of(&hand.state().sizes, &task)
 }
 
-// Keeps what the step of a place found.
-fn load(place: Place, command: &Command, state: &mut State, found: u64)
-    requires sizes { AreSizes state.old.sizes }
-    requires rests { RestsAt place command.now state.old }
-    ensures { state.new ≡ loads_at place command.now state.old found }
+// The leaf that the line uses behind the step of a place.
+fn leaf_behind(place: Place, command: &Command, hand: &Hand, found: u64) -> u64
+    requires part { PartRests hand.now.core }
+    ensures { result ≡ (loads_at place command.now hand.now.core found).leaf }
 {
     match (place, command) {
-        (Place::Access(place), Command::Access { .. }) => access::load(place, state, found),
-        _ => {}
+        (Place::Access(place), Command::Access { gfn, op, .. }) => {
+            access::leaf_behind(place, hand, *gfn, *op, found)
+        }
+        _ => hand.state().leaf,
+    }
+}
+
+// What is cached behind the step of a place.
+fn fill_cache(place: Place, command: &Command, hand: &mut Hand, found: u64)
+    ensures core { hand.new.core ≡ record hand.old.core { cached = caches_at place command.now hand.old.core found } }
+    ensures room { hand.new.room ≡ hand.old.room }
+{
+    if let (Place::Access(place), Command::Access { gfn, op, .. }) = (place, command) {
+        access::fill_cache(place, hand, *gfn, *op, found);
     }
 }
 
@@ -129,35 +144,37 @@ fn record_step(place: Place, line: &Line, sizes: &Sizes, slots: &mut SlotSet)
 }
 
 // Where the line stands after the step of a place.
-fn outcome(place: Place, command: &Command, state: &State, found: u64) -> Outcome
-    requires sizes { AreSizes state.now.sizes }
-    requires rests { RestsAt place command.now state.now }
-    ensures { result ≡ outcome_at place command.now state.now found }
+fn outcome(place: Place, command: &Command, hand: &Hand, found: u64) -> Outcome
+    requires part { PartRests hand.now.core }
+    requires rests { RestsAt place command.now hand.now.core }
+    ensures { result ≡ outcome_at place command.now hand.now.core found }
 {
     match (place, command) {
         (Place::Access(place), Command::Access { gfn, op, .. }) => {
-            access::outcome(place, state, *gfn, *op, found)
+            access::outcome(place, hand, *gfn, *op, found)
         }
         (Place::SetSlot(place), Command::SetSlot { .. }) => set_slot::outcome(place),
         _ => Outcome::Goes(place),
     }
 }
 
-// The effect of a line's step on the hand, whose topics are those behind it.
+// The effect of a line's step on the hand, but for its topics and for a flush.
 fn advance_line(hand: &mut Hand, line: &Line, place: Place, found: u64)
-    requires sizes { AreSizes hand.old.core.state.sizes }
+    requires part { PartRests hand.old.core }
     requires line { IsCommandFor hand.old.core.state.sizes line.now.actor line.now.command }
-    requires rests { RestsAt place line.now.command hand.old.core.state }
+    requires rests { RestsAt place line.now.command hand.old.core }
     requires accepts { AcceptsAt place line.now.command hand.old.core.state.sizes hand.old.core.slots }
     requires room { 0 < hand.old.room }
     ensures core { hand.new.core ≡ line_after line.now place hand.old.core found }
     ensures room { length hand.new.core.answers + hand.new.room ≡ length hand.old.core.answers + hand.old.room }
 {
-    let outcome = outcome(place, &line.command, hand.state(), found);
+    let outcome = outcome(place, &line.command, hand, found);
+    let leaf = leaf_behind(place, &line.command, hand, found);
     let sizes = hand.state().sizes;
     record_step(place, line, &sizes, hand.slots_mut());
+    fill_cache(place, &line.command, hand, found);
     let state = hand.state_mut();
-    load(place, &line.command, state, found);
+    state.leaf = leaf;
     state.line = *line;
     match outcome {
         Outcome::Goes(place) => state.place = place,
@@ -172,15 +189,41 @@ fn advance_line(hand: &mut Hand, line: &Line, place: Place, found: u64)
     }
 }
 
+// The step of the hand's line, where it has one left.
+fn step_line(hand: &mut Hand, found: u64)
+    requires rests { has_line hand.old.core ≡ true → Rests hand.old.core }
+    requires room { 0 < hand.old.room }
+    ensures line { has_line hand.old.core ≡ true → hand.new.core ≡ line_after (line_at hand.old.core.state.place hand.old.core) (place_at hand.old.core.state.place hand.old.core) hand.old.core found }
+    ensures none { has_line hand.old.core ≡ false → hand.new.core ≡ hand.old.core }
+    ensures room { length hand.new.core.answers + hand.new.room ≡ length hand.old.core.answers + hand.old.room }
+{
+    if hand.next_line().is_some() {
+        let line = line_of(hand);
+        let place = place_of(hand, &line);
+        advance_line(hand, &line, place, found);
+    }
+}
+
 // The effect of a step on the topics of the hand.
 fn advance_topics(hand: &mut Hand, kind: Kind, found: u64)
     requires sizes { AreSizes hand.old.core.state.sizes }
     requires room { HasRoom (kind_named kind.code) hand.old.core.topics }
-    ensures core { hand.new.core ≡ idle_after hand.old.core kind found }
+    ensures core { hand.new.core ≡ record hand.old.core { topics = topics_after hand.old.core.state.sizes kind hand.old.core.topics found } }
     ensures room { hand.new.room ≡ hand.old.room }
 {
     let sizes = hand.state().sizes;
     step_topics(&sizes, kind, hand.topics_mut(), found);
+}
+
+// The effect of a step on what is cached, where a flush was asked for.
+#[tactic(auto, unfolding(crate::specs::Cached::flushed))]
+fn flush(hand: &mut Hand, kind: Kind, found: u64)
+    ensures core { hand.new.core ≡ record hand.old.core { cached = flushed kind hand.old.core.cached found } }
+    ensures room { hand.new.room ≡ hand.old.room }
+{
+    if kind.named() == StepKind::Enter && found / FLUSH % 2 == 1 {
+        hand.cache_mut().clear();
+    }
 }
 
 /// Makes the effect of a step on the hand, where the step answered `found`.
@@ -191,10 +234,7 @@ pub fn advance(hand: &mut Hand, kind: Kind, found: u64)
     ensures core { hand.new.core ≡ next hand.old.core kind found }
     ensures room { length hand.new.core.answers + hand.new.room ≡ length hand.old.core.answers + hand.old.room }
 {
+    step_line(hand, found);
+    flush(hand, kind, found);
     advance_topics(hand, kind, found);
-    if hand.next_line().is_some() {
-        let line = line_of(hand);
-        let place = place_of(hand, &line);
-        advance_line(hand, &line, place, found);
-    }
 }

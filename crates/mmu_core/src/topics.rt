@@ -151,7 +151,7 @@ fn exchange_entry(sizes: &Sizes, kind: Kind, topics: &mut Topics, found: u64)
 }
 
 // A search goes on to its next word.
-fn search(search: &mut SlotSearch, found: u64)
+pub(crate) fn search(search: &mut SlotSearch, found: u64)
     requires { search.old.id ≤ 31 }
     ensures { search.new ≡ searched search.old found }
 {

@@ -26,6 +26,7 @@ fn header(alloc: Global) -> Result<Header, NoMemory>
     })
 }
 
+#[tactic(auto, using(step_seats::proofs::Starts::one_is_distinct))]
 fn machine(alloc: Global) -> Result<PlainMachine, NoMemory> {
     let trace = Trace {
         header: header(alloc)?,

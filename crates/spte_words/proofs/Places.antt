@@ -5,7 +5,7 @@ use Rattle.std.proofs.lemmas.Bool.{cases_lt, cases_order}
 use Rattle.std.proofs.lemmas.List.Sums.{sum_by-cons, sum_by_more}
 use Rattle.std.proofs.lemmas.Option.{slice_get_within, get_or_from_slice_get}
 use Rattle.spte_words.specs.declared.area.Area.{Area}
-use Rattle.spte_words.specs.declared.area.Area.TheVariants.{Root, Slots, Seq, Count, RangeStart, RangeEnd, Lock, Pause, State, PoolMap, FrameMap, Log, Host, Role, Pool, Linear, Content}
+use Rattle.spte_words.specs.declared.area.Area.TheVariants.{Root, Slots, Seq, Count, RangeStart, RangeEnd, Lock, Pause, State, PoolMap, FrameMap, Log, Host, Role, Pool, Content}
 use Rattle.spte_words.specs.declared.word_map.WordMap.{WordMap}
 use Rattle.spte_words.specs.Areas.{IsWordMap, areas, number_of, size_of, place, total, StandsSomewhere}
 
@@ -47,7 +47,6 @@ at_number Log = refl
 at_number Host = refl
 at_number Role = refl
 at_number Pool = refl
-at_number Linear = refl
 at_number Content = refl
 
 -- Two areas of one number are one.
@@ -107,7 +106,7 @@ last_place m = omega arith
 
 -- Each word below the total stands in some area.
 pub word_stands : (m : WordMap) (word : ℕ) → word < total m → StandsSomewhere m word
-word_stands m word below = last (on Linear Content refl (on Pool Linear refl (on Role Pool refl (on Host Role refl (on Log Host refl (on FrameMap Log refl (on PoolMap FrameMap refl (on State PoolMap refl (on Pause State refl (on Lock Pause refl (on RangeEnd Lock refl (on RangeStart RangeEnd refl (on Count RangeStart refl (on Seq Count refl (on Slots Seq refl (on Root Slots refl (inr (omega (arith, first_place m)))))))))))))))))))
+word_stands m word below = last (on Pool Content refl (on Role Pool refl (on Host Role refl (on Log Host refl (on FrameMap Log refl (on PoolMap FrameMap refl (on State PoolMap refl (on Pause State refl (on Lock Pause refl (on RangeEnd Lock refl (on RangeStart RangeEnd refl (on Count RangeStart refl (on Seq Count refl (on Slots Seq refl (on Root Slots refl (inr (omega (arith, first_place m))))))))))))))))))
   where
     here : (a : Area) → place m a 0 ≤ word → word < place m a (size_of m a) → StandsSomewhere m word
     here a from to = record { area = a; i = word - place m a 0; within = omega (arith, place_at m a (size_of m a)); at = omega (arith, place_at m a (word - place m a 0)) }

@@ -2,7 +2,7 @@
 use Rattle.std.specs.Prelude.{◌+◌, ◌*◌, ◌/◌, ◌<◌, ◌≤◌, ◌≡◌, ℕ, List, [], ◌∷◌, take}
 use Rattle.std.specs.List.{sum_by}
 use Rattle.spte_words.specs.declared.area.Area.{Area}
-use Rattle.spte_words.specs.declared.area.Area.TheVariants.{Root, Slots, Seq, Count, RangeStart, RangeEnd, Lock, Pause, State, PoolMap, FrameMap, Log, Host, Role, Pool, Linear, Content}
+use Rattle.spte_words.specs.declared.area.Area.TheVariants.{Root, Slots, Seq, Count, RangeStart, RangeEnd, Lock, Pause, State, PoolMap, FrameMap, Log, Host, Role, Pool, Content}
 use Rattle.spte_words.specs.declared.word_map.WordMap.{WordMap}
 
 -- the bounds of a machine; with them it has fewer than 2 ^ 32 words
@@ -21,7 +21,7 @@ words_of_bits bits = (bits + 63) / 64
 
 -- the areas, in their order
 abbrev pub areas : List Area
-areas = Root ∷ Slots ∷ Seq ∷ Count ∷ RangeStart ∷ RangeEnd ∷ Lock ∷ Pause ∷ State ∷ PoolMap ∷ FrameMap ∷ Log ∷ Host ∷ Role ∷ Pool ∷ Linear ∷ Content ∷ []
+areas = Root ∷ Slots ∷ Seq ∷ Count ∷ RangeStart ∷ RangeEnd ∷ Lock ∷ Pause ∷ State ∷ PoolMap ∷ FrameMap ∷ Log ∷ Host ∷ Role ∷ Pool ∷ Content ∷ []
 
 -- an area's number in that order, the first being 0
 abbrev pub number_of : Area → ℕ
@@ -40,8 +40,7 @@ number_of Log = 11
 number_of Host = 12
 number_of Role = 13
 number_of Pool = 14
-number_of Linear = 15
-number_of Content = 16
+number_of Content = 15
 
 -- how many words an area has
 abbrev pub size_of : WordMap → Area → ℕ
@@ -60,7 +59,6 @@ size_of m Log = words_of_bits m.pages
 size_of m Host = m.pages
 size_of m Role = m.pool
 size_of m Pool = 512 * m.pool
-size_of m Linear = m.pages
 size_of m Content = m.words * m.frames
 
 -- word i of an area stands behind all words of the areas before it

@@ -136,6 +136,6 @@ PoolIndicesDiffer =
 abbrev pub example_map : WordMap
 example_map = record { pages = 1024; frames = 1040; words = 1; pool = 64; actors = 5 }
 
--- 8 lone words, 5 of state, 1, 17 and 16 of bits; then 1,024 host words, 64 roles, 32,768 words of the pool, 1,024 leaves and 1,040 words of content
+-- 8 lone words, 5 of state, 1, 17 and 16 of bits; then 1,024 host words, 64 roles, 32,768 words of the pool and 1,040 words of content
 abbrev pub ExamplePlaces : Type 0
-ExamplePlaces = (place example_map Host 0 ≡ 47) × (place example_map Content 0 ≡ 34927) × (total example_map ≡ 35967)
+ExamplePlaces = (place example_map Host 0 ≡ 47) × (place example_map Content 0 ≡ 33903) × (total example_map ≡ 34943)

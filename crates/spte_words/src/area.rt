@@ -31,9 +31,6 @@ pub enum Area {
     Role,
     /// The pool pages, 512 words each: tables and sets of memory slots.
     Pool,
-    /// The leaf of each page of a lone memory slot, by its gfn less the
-    /// slot's first.
-    Linear,
     /// The words of the frames.
     Content,
 }

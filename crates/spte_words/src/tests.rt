@@ -63,10 +63,10 @@ fn places_of_a_map(rt: HostRuntime) -> Result<(), Fail> {
     assert_eq!(rt; map.word_of_lock(0), 6);
     assert_eq!(rt; map.word_of_state(4), 12);
     assert_eq!(rt; map.word_of_host(0), 47);
-    assert_eq!(rt; map.word_of_content(0), 34927);
-    assert_eq!(rt; map.total(), 35967);
+    assert_eq!(rt; map.word_of_content(0), 33903);
+    assert_eq!(rt; map.total(), 34943);
     assert_eq!(rt; map.area_of(12), (Area::State, 4));
-    assert_eq!(rt; map.area_of(34926), (Area::Linear, 1023));
+    assert_eq!(rt; map.area_of(33902), (Area::Pool, 32767));
     assert_eq!(rt; map.pool_index(2, 3), 1027);
     assert_eq!(rt; map.content_index(7, 0), 7);
     Ok(())

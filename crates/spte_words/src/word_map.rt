@@ -53,7 +53,7 @@ impl WordMap {
             Area::PoolMap => words_of_bits(self.pool),
             Area::FrameMap => words_of_bits(self.frames),
             Area::Log => words_of_bits(self.pages),
-            Area::Host | Area::Linear => self.pages,
+            Area::Host => self.pages,
             Area::Role => self.pool,
             Area::Pool => 512 * self.pool,
             Area::Content => self.words * self.frames,
@@ -113,18 +113,11 @@ impl WordMap {
         self.role() + self.pool
     }
 
-    fn linear(&self) -> u64
-        requires { IsWordMap self.now }
-        ensures { result ≡ place self.now Area.Linear 0 }
-    {
-        self.pool_pages() + 512 * self.pool
-    }
-
     fn content(&self) -> u64
         requires { IsWordMap self.now }
         ensures { result ≡ place self.now Area.Content 0 }
     {
-        self.linear() + self.pages
+        self.pool_pages() + 512 * self.pool
     }
 
     // Where the area begins.
@@ -148,7 +141,6 @@ impl WordMap {
             Area::Host => self.host(),
             Area::Role => self.role(),
             Area::Pool => self.pool_pages(),
-            Area::Linear => self.linear(),
             Area::Content => self.content(),
         }
     }
@@ -298,15 +290,6 @@ impl WordMap {
         self.word_of(Area::Pool, i)
     }
 
-    /// Where leaf `i` of the lone memory slot is.
-    pub fn word_of_linear(&self, i: u64) -> u32
-        requires map { IsWordMap self.now }
-        requires within { i < size_of self.now Area.Linear }
-        ensures { result ≡ place self.now Area.Linear i }
-    {
-        self.word_of(Area::Linear, i)
-    }
-
     /// Where word `i` of the frames is (`content_index` gives it).
     pub fn word_of_content(&self, i: u64) -> u32
         requires map { IsWordMap self.now }
@@ -397,11 +380,8 @@ impl WordMap {
         if word < self.pool_pages() {
             return (Area::Role, word - self.role());
         }
-        if word < self.linear() {
-            return (Area::Pool, word - self.pool_pages());
-        }
         if word < self.content() {
-            return (Area::Linear, word - self.linear());
+            return (Area::Pool, word - self.pool_pages());
         }
         (Area::Content, word - self.content())
     }

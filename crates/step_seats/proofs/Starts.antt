@@ -1,5 +1,7 @@
 -- The words of the start, made one after another; and the machine that they are with the hands of the start.
 use Rattle.std.proofs.Common.{refl, zero, suc, slice_index_or, All, ◌≡◌, ◌<◌, ◌≤◌, ◌+◌, ◌++◌, ◌⊎◌, inl, inr, ℕ, List, [], ◌∷◌, length, length-append, slice_index, ◌∙◌, ap, sym, subst, arith}
+use Rattle.std.specs.Prelude.{◌==◌}
+use Rattle.std.specs.List.{IsDistinct}
 use Rattle.std.proofs.Math.ListN.{get_or-append}
 use Rattle.std.proofs.Math.Seq.{get_or-append_seam}
 use Rattle.std.proofs.lemmas.Bool.{cases_lt}
@@ -84,6 +86,13 @@ hand_among z lines (suc n) i d lt = order (λ below. hand_among z lines n i d be
 -- At the start each actor holds its lines, and nothing else.
 pub hand_at_start : (z : Sizes) (lines : List Line) (words : List ℕ) (hands : List Handful) (i : ℕ) → IsStart z lines (world_of words hands) → i < actors_of z → core_of (handful_in hands i) ≡ first_held z (actor_at z i) (lines_of (actor_at z i) lines)
 hand_at_start z lines words hands i start there = core_at words hands i ∙ (ap (λ (x : List Held). slice_index_or x i nobody) start.hands ∙ hand_among z lines (actors_of z) i nobody there)
+
+-- Of one ID at most none is there twice.
+pub one_is_distinct : (ids : List ℕ) → length ids ≤ 1 → IsDistinct (λ i j. i == j) ids
+unfolding IsDistinct
+one_is_distinct [] few = tt
+one_is_distinct (i ∷ []) few = (tt, tt)
+one_is_distinct (i ∷ j ∷ ids) few = absurd (omega (arith, few))
 
 -- The words and hands of a trace's start are a machine.
 pub machine_at_start : (t : Trace) (z : Sizes) (words : List ℕ) (hands : List Handful) → IsTrace t → z ≡ sizes_of t.header → AreStartWords z words → cores_of hands ≡ start_hands z t.lines (actors_of z) → IsMachine z words hands

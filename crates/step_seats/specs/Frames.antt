@@ -22,4 +22,4 @@ frame_of name m own_place = record { borrowed = name; sizes = m.sizes; rooms = o
 
 -- the frame of no machine
 abbrev pub no_frame : Frame
-no_frame = record { borrowed = 0; sizes = record { pages = 0; frames = 0; words = 0; pool = 0; vcpus = 0; hosts = 0; workers = 0 }; rooms = [] }
+no_frame = record { borrowed = 0; sizes = record { pages = 0; frames = 0; words = 0; pool = 0; cache = 0; vcpus = 0; hosts = 0; workers = 0 }; rooms = [] }

@@ -114,7 +114,7 @@ pub fn start_hands(alloc: Global, sizes: &Sizes, lines: &[Line]) -> Result<Vec<H
     for index in 0..sizes.actors() {
         let actor = sizes.actor_at(index);
         let own = lines_of(alloc, actor, lines)?;
-        hands.push(Hand::new(alloc, *sizes, actor, own))?;
+        hands.push(Hand::new(alloc, *sizes, actor, own)?)?;
     }
     Ok(hands)
 }

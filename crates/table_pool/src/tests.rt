@@ -16,7 +16,7 @@ use step_seats::{PlainMachine, Stepper, Turn};
 
 // How many words there are; where the pool's map stands, the role of page 2,
 // and its words.
-const WORDS: usize = 2470;
+const WORDS: usize = 2400;
 
 const MAP: usize = 12;
 
@@ -53,6 +53,7 @@ fn header(alloc: Global) -> Result<Header, NoMemory>
 }
 
 // The machine, whose actors have no line.
+#[tactic(auto, using(step_seats::proofs::Starts::one_is_distinct))]
 fn start(alloc: Global) -> Result<PlainMachine, NoMemory> {
     let trace = Trace {
         header: header(alloc)?,

@@ -1,5 +1,6 @@
 //! Walks at a machine that is at its start.
 ghost use Rattle.std.specs.Prelude.{◌≡◌, [], ◌∷◌, IfOk};
+ghost use Rattle.core_views.specs.Traces.{IsTrace};
 
 use crate::{Walk, Walked};
 use core_views::{Actor, Command, Header, Line, Lines, NoMemory, Op, Stay, Trace, Words};
@@ -25,16 +26,26 @@ fn header(alloc: Global) -> Result<Header, NoMemory>
     })
 }
 
+// A trace with no line.
+#[tactic(auto, using(step_seats::proofs::Starts::one_is_distinct))]
+fn trace(alloc: Global) -> Result<Trace, NoMemory>
+    ensures trace { IfOk result IsTrace }
+    ensures vcpus { IfOk result (λ t. t.header.vcpus ≡ 2) }
+{
+    Ok(Trace {
+        header: header(alloc)?,
+        lines: Lines::from_vec(Vec::new(alloc)),
+    })
+}
+
 // The root of a machine at its start is pool page 0, and none of its entries is
 // present: a walk ends in its second turn, at level 4.
 #[test]
 fn ends_at_the_empty_root(rt: HostRuntime) -> Result<(), Fail> {
     let alloc = rt.alloc();
-    let trace = Trace {
-        header: header(alloc)?,
-        lines: Lines::from_vec(Vec::new(alloc)),
-    };
+    let trace = trace(alloc)?;
     let mut machine = PlainMachine::new(alloc, &trace)?;
+    let _sizes = machine.sizes();
     let mut seat = machine.as_actor(Actor::Vcpu(0));
     let line = Line {
         number: 2,

@@ -1,6 +1,8 @@
 pub mod Writes
 pub mod Runs
-pub mod Turning
+pub mod Fed
+pub mod Settings
 pub mod PartRuns
 pub mod FileOrder
 pub mod Replaying
+pub mod Outputs

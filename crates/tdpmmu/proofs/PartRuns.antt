@@ -1,56 +1,73 @@
 -- A line that runs alone, as far as it has come.
-use Rattle.std.proofs.Common.{◌≡◌, ◌≤◌, ◌<◌, ◌+◌, ℕ, List, [], ◌∷◌, ◌++◌, All, Option, Some, None, IfSome, length, slice_get, refl, sym, ap, ◌∙◌, subst, append_assoc, arith, length-append}
+use Rattle.std.proofs.Common.{◌≡◌, ◌≢◌, ◌⊎◌, inl, inr, ◌≤◌, ◌<◌, ◌+◌, ℕ, List, [], ◌∷◌, ◌++◌, All, Option, Some, None, IfSome, length, slice_get, refl, sym, ap, ◌∙◌, subst, append_assoc, arith, length-append}
+use Rattle.std.specs.Prelude.{true, false}
 use Rattle.std.proofs.lemmas.List.{append-nil}
 use Rattle.std.proofs.lemmas.List.Elements.{All-append, All-cons, All-nil}
 use Rattle.core_views.specs.declared.answer.Answer.{Answer}
+use Rattle.core_views.specs.declared.answer.Answer.TheVariants.{Starved}
 use Rattle.core_views.specs.declared.event.Event.{Event}
+use Rattle.core_views.specs.declared.hand.Seen.{Seen}
 use Rattle.core_views.specs.declared.kind.Kind.{Kind}
-use Rattle.core_views.specs.declared.place.AccessPlace.{AccessPlace}
-use Rattle.core_views.specs.declared.place.AccessPlace.TheVariants.{Slots, Slot, Walk, Host, Install, Touch}
+use Rattle.core_views.specs.declared.place.Cause.{Cause}
 use Rattle.core_views.specs.declared.place.Place.{Place}
 use Rattle.core_views.specs.declared.place.Place.TheVariants as place
-use Rattle.core_views.specs.declared.place.SetSlotPlace.{SetSlotPlace}
-use Rattle.core_views.specs.declared.place.SetSlotPlace.TheVariants.{Refuse, Fill}
-use Rattle.core_views.specs.declared.place.SlotField.TheVariants as field
+use Rattle.core_views.specs.declared.sizes.Sizes.{Sizes}
+use Rattle.core_views.specs.declared.topics.Topics.{Topics}
 use Rattle.core_views.specs.declared.trace.Line.{Line}
+use Rattle.core_views.specs.Alone.{NoneStarved}
 use Rattle.core_views.specs.Held.{Held}
+use Rattle.core_views.specs.Sizes.{index_of}
+use Rattle.spte_words.specs.declared.area.Area.TheVariants as area
+use Rattle.spte_words.specs.Areas.{words_of_bits}
 use Rattle.mmu_core.specs.declared.outcome.Outcome.{Outcome}
 use Rattle.mmu_core.specs.declared.outcome.Outcome.TheVariants.{Goes, Ends}
-use Rattle.mmu_core.specs.Bounds.{access_left, most_steps, set_slot_left, steps_left}
+use Rattle.mmu_core.specs.Bounds.{most_steps, steps_left}
 use Rattle.mmu_core.specs.Enabled.{mmu}
-use Rattle.mmu_core.specs.LineRuns.{RunsLine}
+use Rattle.mmu_core.specs.Laws.{IsSound}
+use Rattle.mmu_core.specs.LineAlone.{AllRest, LineAlone, StarvedOnlyWithout, StepsAlone, hand_left, line_waits}
 use Rattle.mmu_core.specs.Machine.{Legal, May, Step, World, answered, effect, hand_in, run}
 use Rattle.mmu_core.specs.Rests.{IsUnderWay}
-use Rattle.mmu_core.specs.Steps.{events_of, line_at, next}
-use Rattle.mmu_core.specs.Steps.{has_line}
+use Rattle.mmu_core.specs.Scans.{EndsWithScan}
+use Rattle.mmu_core.specs.Steps.{events_of, has_line, line_at, next, place_at}
+use Rattle.mmu_core.specs.View.{word_in}
 use Rattle.mmu_core.specs.Turns.{GoesOn, IsSameHand, line_of, outcome_of}
-use Rattle.std.specs.Prelude.{true}
-use Rattle.mmu_core.proofs.Which.{has_line_is}
 use Rattle.mmu_core.specs.Worlds.{history}
+use Rattle.mmu_core.proofs.AloneRuns.{ToldAlone, some_left, steps_alone, told_alone}
 use Rattle.mmu_core.proofs.LineEvents as events
 use Rattle.mmu_core.proofs.LineEvents.{IsClosed, IsOpen, SoFar, step_tells}
 use Rattle.mmu_core.proofs.LineRuns.{history_one_more, legal_one_more, own_hand, run_one_more}
+use Rattle.mmu_core.proofs.StarvedScan.{starved_lines_scan}
+use Rattle.mmu_core.proofs.Which.{has_line_is}
 use Rattle.step_seats.specs.Moves.{Adds, Tells, step_by}
-use Rattle.step_seats.specs.declared.turn.Turn.TheVariants.{More, Done}
-use Rattle.step_seats.specs.PartTurns.{HasHand, Told}
-use Rattle.tdpmmu.specs.Turns.{OneStep, RanAlone, turn_of}
+use Rattle.step_seats.specs.declared.turn.Turn.{Turn}
+use Rattle.step_seats.specs.declared.turn.Turn.TheVariants.{More, Wait, Retry, Done}
+use Rattle.step_seats.specs.PartTurns.{Told}
+use Rattle.tdpmmu.specs.Replays.{EachStepsAlone, RunsAlone}
+use Rattle.tdpmmu.specs.Turns.{IsAlone, RanAlone}
+use Rattle.vcpu_run.specs.Accesses.{MakesLine, TurnsLine}
+use Rattle.vcpu_run.proofs.Accessing.{done_ends, more_goes, retry_goes, retry_has_more}
+use Rattle.tdpmmu.proofs.Fed.{fed_append, step_fed}
 
--- From this world the steps lead to the one that is told, where the hand stands, and tell what the line has told so far.
-pub record PartTold (line : Line) (actor : ℕ) (here : Held) (steps : List (Step Kind)) (before : World Held) (behind : Option (World Held)) : Type 0 where
-  pub legal : Legal mmu before steps
-  pub ends : behind ≡ Some (run mmu before steps)
-  pub has : hand_in mmu (run mmu before steps) actor ≡ here
-  pub so_far : SoFar here.state.place line (history before steps)
-
--- From its start on, the line has come to this hand, by steps of this actor alone.
+-- From its start on, the line has come to this hand, by steps of this actor alone, and all other actors rest. The steps lead to the world
+-- that is told, and tell what the line has told so far.
 pub record PartRun (line : Line) (actor : ℕ) (start here : Held) (told tells : Told) : Type 0 where
+  pub before : World Held
+  pub is : told.world ≡ Some before
+  pub sound : IsSound start.state.sizes before
+  pub idle : (hand_in mmu before actor).state.place ≡ place.Between
   pub line_is : line_of here ≡ line
   pub same : IsSameHand start here
   pub answers : here.answers ≡ start.answers
   pub steps : List (Step Kind)
   pub own : All (λ s. s.actor ≡ actor) steps
-  pub few : length steps + steps_left here.state.place ≤ most_steps
-  pub world : IfSome told.world (λ w. PartTold line actor here steps w tells.world)
+  pub legal : Legal mmu before steps
+  pub ends : tells.world ≡ Some (run mmu before steps)
+  pub has : hand_in mmu (run mmu before steps) actor ≡ here
+  pub so_far : SoFar here.state.place line (history before steps)
+  pub fed : NoneStarved (history before steps)
+  pub nearer : EachStepsAlone start.state.sizes before steps
+  pub alone : LineAlone start.state.sizes (run mmu before steps) actor
+  pub few : length steps + hand_left here ≤ most_steps start.state.sizes
   pub added : IfSome told.steps (λ ss. tells.steps ≡ Some (ss ++ steps))
 
 -- The start.
@@ -61,65 +78,36 @@ next_is p h line idle first = rw (idle, first) refl
 none_told : (p : Place) (line : Line) → p ≡ place.Between → SoFar p line []
 none_told p line idle = rw idle refl
 
-all_left : (p : Place) → p ≡ place.Between → 0 + steps_left p ≤ most_steps
-all_left p idle = rw idle (omega arith)
-
-world_starts : (told : Option (World Held)) (line : Line) (actor : ℕ) (h : Held) → h.state.place ≡ place.Between → IfSome told (HasHand actor h) → IfSome told (λ w. PartTold line actor h [] w told)
-world_starts None line actor h idle has = tt
-world_starts (Some w) line actor h idle has = record { legal = tt; ends = refl; has = has.is; so_far = none_told h.state.place line idle }
+all_left : (p : Place) (z : Sizes) (t : Topics) → p ≡ place.Between → 0 + steps_left p z t ≤ most_steps z
+all_left p z t idle = rw idle (omega arith)
 
 adds_none : (told : Option (List (Step Kind))) → IfSome told (λ ss. told ≡ Some (ss ++ []))
 adds_none None = tt
 adds_none (Some ss) = ap (λ (xs : List (Step Kind)). Some xs) (sym (append-nil ss))
 
-pub part_starts : (line : Line) (actor : ℕ) (h : Held) (told : Told) → h.state.place ≡ place.Between → slice_get h.lines (length h.answers) ≡ Some line → IfSome told.world (HasHand actor h) → PartRun line actor h h told told
-part_starts line actor h told idle first has = record {
+pub part_starts : (line : Line) (actor : ℕ) (h : Held) (told : Told) → h.state.place ≡ place.Between → slice_get h.lines (length h.answers) ≡ Some line → IsAlone actor h told.world → PartRun line actor h h told told
+part_starts line actor h told idle first L = record {
+  before = L.world;
+  is = L.is;
+  sound = L.alone.sound;
+  idle = ap (λ (g : Held). g.state.place) L.has ∙ idle;
   line_is = next_is h.state.place h line idle first;
   same = record { actor = refl; sizes = refl; lines = refl };
   answers = refl;
   steps = [];
   own = All-nil (λ s. s.actor ≡ actor);
-  few = all_left h.state.place idle;
-  world = world_starts told.world line actor h idle has;
+  legal = tt;
+  ends = L.is;
+  has = L.has;
+  so_far = none_told h.state.place line idle;
+  fed = tt;
+  nearer = tt;
+  alone = L.alone;
+  few = all_left h.state.place h.state.sizes h.topics idle;
   added = adds_none told.steps;
 }
 
 -- One step more.
-
--- What is told with it, wherever the line stands then.
-record ToldStep (line : Line) (actor : ℕ) (o : Outcome) (here : Held) (steps : List (Step Kind)) (before : World Held) (behind : Option (World Held)) : Type 0 where
-  legal : Legal mmu before steps
-  ends : behind ≡ Some (run mmu before steps)
-  has : hand_in mmu (run mmu before steps) actor ≡ here
-  tells : events.Tells o line (history before steps)
-
--- at the world that is told before the step
-told_step : (line : Line) (actor : ℕ) (a b : Held) (steps : List (Step Kind)) (before : World Held) (k : Kind) (v : ℕ) (behind : Option (World Held))
-    → has_line a ≡ true → line_of a ≡ line → a.state.actor ≡ line.actor → Legal mmu before steps → hand_in mmu (run mmu before steps) actor ≡ a → SoFar a.state.place line (history before steps)
-    → b ≡ next a k v → May mmu (run mmu before steps) (step_by actor k) → answered mmu (run mmu before steps) k ≡ v → behind ≡ Some (effect mmu (run mmu before steps) (step_by actor k))
-    → ToldStep line actor (outcome_of a v) b (steps ++ step_by actor k ∷ []) before behind
-told_step line actor a b steps before k v behind has_line_ is own legal has so_far hand may found ends =
-    let here : World Held = run mmu before steps in
-    let step : Step Kind = step_by actor k in
-    let further : run mmu before (steps ++ step ∷ []) ≡ effect mmu here step = run_one_more before steps step in
-    let tells : events_of (hand_in mmu here actor) (answered mmu here k) ≡ events_of a v = ap (λ (h : Held). events_of h (answered mmu here k)) has ∙ ap (λ (n : ℕ). events_of a n) found in
-    record {
-      legal = legal_one_more before steps step legal may;
-      ends = ends ∙ ap (λ (w : World Held). Some w) (sym further);
-      has = ap (λ (w : World Held). hand_in mmu w actor) further ∙ (own_hand here step may.there
-          ∙ (ap (λ (h : Held). next h k (answered mmu here k)) has ∙ (ap (λ (n : ℕ). next a k n) found ∙ sym hand)));
-      tells = subst (λ (es : List Event). events.Tells (outcome_of a v) line es) (sym (history_one_more before steps step ∙ ap (λ (es : List Event). history before steps ++ es) tells))
-          (step_tells a line v (history before steps) has_line_ is own so_far);
-    }
-
--- the same, where the world may not be told
-told_on : (told mid tells : Option (World Held)) (line : Line) (actor : ℕ) (a b : Held) (steps : List (Step Kind)) (k : Kind) (v : ℕ)
-    → has_line a ≡ true → line_of a ≡ line → a.state.actor ≡ line.actor → b ≡ next a k v → IfSome told (λ w. PartTold line actor a steps w mid) → Tells mid actor k v tells
-    → IfSome told (λ w. ToldStep line actor (outcome_of a v) b (steps ++ step_by actor k ∷ []) w tells)
-told_on None mid tells line actor a b steps k v has_line_ is own hand part moves = tt
-told_on (Some w) mid tells line actor a b steps k v has_line_ is own hand part moves =
-    let moved = subst (λ (m : Option (World Held)). Tells m actor k v tells) part.ends moves in
-    told_step line actor a b steps w k v tells has_line_ is own part.legal part.has part.so_far hand moved.0 moved.1 moved.2
 
 adds_on : (told mid tells : Option (List (Step Kind))) (actor : ℕ) (steps : List (Step Kind)) (k : Kind) → IfSome told (λ ss. mid ≡ Some (ss ++ steps)) → Adds mid actor k tells
     → IfSome told (λ ss. tells ≡ Some (ss ++ (steps ++ step_by actor k ∷ [])))
@@ -138,77 +126,166 @@ under_told place.Between line h under is = absurd under
 under_told (place.Access p) line h under is = is
 under_told (place.SetSlot p) line h under is = is
 
--- A turn that says More leaves the history open, and one that says Done closes it.
-opened : (o : Outcome) (line : Line) (h : List Event) → More ≡ turn_of o → events.Tells o line h → IsOpen line h
-opened (Goes p) line h is tells = tells
-opened (Ends answer) line h is tells = absurd (cc is)
+one_nearer : (z : Sizes) (w : World Held) (ss : List (Step Kind)) (s : Step Kind) → EachStepsAlone z w ss → StepsAlone z (run mmu w ss) s → EachStepsAlone z w (ss ++ s ∷ [])
+one_nearer z w [] s each last = (last, tt)
+one_nearer z w (x ∷ ss) s each last = (each.0, one_nearer z (effect mmu w x) ss s each.1 last)
 
-closed : (o : Outcome) (line : Line) (answer : Answer) (h : List Event) → Done answer ≡ turn_of o → events.Tells o line h → IsClosed line answer h
-closed (Goes p) line answer h is tells = absurd (cc is)
-closed (Ends given) line answer h is tells = let same : given ≡ answer = cc is in subst (λ (x : Answer). IsClosed line x h) same tells
+module _ (turn : Turn Answer) (line : Line) (actor : ℕ) (start a b : Held) (told mid tells : Told) (left : length a.answers < length a.lines) (mine : line.actor ≡ start.state.actor) (part : PartRun line actor start a told mid) (T : TurnsLine turn actor a b mid tells) where
+  abbrev S : MakesLine actor a b mid tells
+  S = T.makes
 
-world_on : (told tells : Option (World Held)) (line : Line) (actor : ℕ) (o : Outcome) (b : Held) (steps : List (Step Kind)) → More ≡ turn_of o → IsUnderWay b.state.place
-    → IfSome told (λ w. ToldStep line actor o b steps w tells) → IfSome told (λ w. PartTold line actor b steps w tells)
-world_on None tells line actor o b steps is under step = tt
-world_on (Some w) tells line actor o b steps is under step =
-    record { legal = step.legal; ends = step.ends; has = step.has; so_far = under_told b.state.place line (history w steps) under (opened o line (history w steps) is step.tells) }
+  abbrev z : Sizes
+  z = start.state.sizes
+
+  abbrev here : World Held
+  here = run mmu part.before part.steps
+
+  abbrev step : Step Kind
+  step = step_by actor S.kind
+
+  abbrev behind : World Held
+  behind = effect mmu here step
+
+  abbrev steps : List (Step Kind)
+  steps = part.steps ++ step ∷ []
+
+  abbrev o : Outcome
+  o = outcome_of a S.found
+
+  moved : May mmu here step × (answered mmu here S.kind ≡ S.found) × (tells.world ≡ Some behind)
+  moved = subst (λ (m : Option (World Held)). Tells m actor S.kind S.found tells.world) part.ends S.world
+
+  further : run mmu part.before steps ≡ behind
+  further = run_one_more part.before part.steps step
+
+  legal_on : Legal mmu part.before steps
+  legal_on = legal_one_more part.before part.steps step part.legal moved.0
+
+  ends_on : tells.world ≡ Some (run mmu part.before steps)
+  ends_on = moved.2 ∙ ap (λ (w : World Held). Some w) (sym further)
+
+  hand_is : hand_in mmu behind actor ≡ b
+  hand_is = own_hand here step moved.0.there ∙ (ap (λ (h : Held). next h S.kind (answered mmu here S.kind)) part.has ∙ (ap (λ (n : ℕ). next a S.kind n) moved.1 ∙ sym S.hand))
+
+  own_on : All (λ s. s.actor ≡ actor) steps
+  own_on = All-append (λ s. s.actor ≡ actor) part.steps (step ∷ []) part.own (All-cons (λ s. s.actor ≡ actor) step [] refl (All-nil (λ s. s.actor ≡ actor)))
+
+  history_is : history part.before steps ≡ history part.before part.steps ++ events_of a S.found
+  history_is =
+      history_one_more part.before part.steps step
+      ∙ ap (λ (es : List Event). history part.before part.steps ++ es) (ap (λ (h : Held). events_of h (answered mmu here S.kind)) part.has ∙ ap (λ (n : ℕ). events_of a n) moved.1)
+
+  tells_line : events.Tells o line (history part.before steps)
+  tells_line = subst (λ (es : List Event). events.Tells o line es) (sym history_is) (step_tells a line S.found (history part.before part.steps) (has_line_is a left) part.line_is (part.same.actor ∙ sym mine) part.so_far)
+
+  fed_on : o ≢ Ends Starved → NoneStarved (history part.before steps)
+  fed_on other = subst (λ (es : List Event). NoneStarved es) (sym history_is) (fed_append (history part.before part.steps) (events_of a S.found) part.fed (step_fed a S.found (has_line_is a left) other))
+
+  nearer_on : EachStepsAlone z part.before steps
+  nearer_on = one_nearer z part.before part.steps step part.nearer (steps_alone z here step part.alone moved.0)
+
+  comes : ToldAlone o z actor a b behind
+  comes = (told_alone z here behind actor S.found S.kind a b part.alone part.has hand_is moved.0 moved.1 refl).1
+
+  scans : o ≡ Ends Starved → EndsWithScan z actor (words_of_bits z.pool) part.before steps
+  scans is =
+      starved_lines_scan z part.before part.steps step part.sound legal_on part.idle
+      (subst (λ n. outcome_of (hand_in mmu here actor) n ≡ Ends Starved) (sym moved.1) (subst (λ (h : Held). outcome_of h S.found ≡ Ends Starved) (sym part.has) is))
+
+  -- A turn that says More leaves the line under way, alone and nearer to its end.
+  goes_by : (q : Place) → o ≡ Goes q → GoesOn (line_of a) a b → IsSameHand a b → PartRun line actor start b told tells × (hand_left b < hand_left a)
+  goes_by q is says same =
+      let near : ToldAlone (Goes q) z actor a b behind = subst (λ (p : Outcome). ToldAlone p z actor a b behind) is comes in
+      let opened : IsOpen line (history part.before steps) = subst (λ (p : Outcome). events.Tells p line (history part.before steps)) is tells_line in (
+        record {
+          before = part.before;
+          is = part.is;
+          sound = part.sound;
+          idle = part.idle;
+          line_is = under_line b.state.place b says.under_way ∙ says.line_is ∙ part.line_is;
+          same = record { actor = same.actor ∙ part.same.actor; sizes = same.sizes ∙ part.same.sizes; lines = same.lines ∙ part.same.lines };
+          answers = says.answers ∙ part.answers;
+          steps = steps;
+          own = own_on;
+          legal = legal_on;
+          ends = ends_on;
+          has = ap (λ (w : World Held). hand_in mmu w actor) further ∙ hand_is;
+          so_far = under_told b.state.place line (history part.before steps) says.under_way opened;
+          fed = fed_on (λ e. absurd (cc (is, e)));
+          nearer = nearer_on;
+          alone = subst (λ (w : World Held). LineAlone z w actor) (sym further) near.0;
+          few = let n = length-append part.steps (step ∷ []) in let less = near.1 in let few = part.few in omega (arith, n, less, few);
+          added = adds_on told.steps mid.steps tells.steps actor part.steps S.kind part.added S.steps;
+        },
+        near.1,
+      )
+
+  -- One that is done has its answer, and all actors rest.
+  ends_by : (answer : Answer) → o ≡ Ends answer → RunsAlone z actor line answer steps part.before
+  ends_by answer is =
+      let near : ToldAlone (Ends answer) z actor a b behind = subst (λ (p : Outcome). ToldAlone p z actor a b behind) is comes in
+      let closed : IsClosed line answer (history part.before steps) = subst (λ (p : Outcome). events.Tells p line (history part.before steps)) is tells_line in
+      record {
+        own = own_on;
+        few = let n = length-append part.steps (step ∷ []) in let some = some_left a.state.place a.state.sizes a.topics in let few = part.few in omega (arith, n, some, few);
+        runs = record { legal = legal_on; ends = refl; alone = closed.alone; answers = closed.answers };
+        rest = subst (λ (w : World Held). AllRest w) (sym further) near.1;
+        nearer = nearer_on;
+        no_page_free = subst (λ (w : World Held). StarvedOnlyWithout answer z (word_in z w area.PoolMap)) (sym further) near.2;
+        none_starved = λ other. fed_on (λ e. other (cc (is, e)));
+        saw_each_word = λ starved. scans (is ∙ ap (λ (x : Answer). Ends x) starved);
+      }
+
+  -- It never waits, and never begins anew.
+  goes_through : line_waits (place_at a.state.place a) a.topics S.found ≡ false
+  goes_through = (told_alone z here behind actor S.found S.kind a b part.alone part.has hand_is moved.0 moved.1 refl).0
 
 pub part_goes_on : (line : Line) (actor by : ℕ) (start a b : Held) (told mid tells : Told) → by ≡ actor → length a.answers < length a.lines → line.actor ≡ start.state.actor
-    → PartRun line actor start a told mid → OneStep More by a b mid tells → GoesOn (line_of a) a b → IsSameHand a b → PartRun line actor start b told tells
-part_goes_on line actor by start a b told mid tells mine left own part one says same =
-    let step : OneStep More actor a b mid tells = subst (λ (n : ℕ). OneStep More n a b mid tells) mine one in
-    let more : List (Step Kind) = step_by actor step.kind ∷ [] in
-    record {
-      line_is = under_line b.state.place b says.under_way ∙ says.line_is ∙ part.line_is;
-      same = record { actor = same.actor ∙ part.same.actor; sizes = same.sizes ∙ part.same.sizes; lines = same.lines ∙ part.same.lines };
-      answers = says.answers ∙ part.answers;
-      steps = part.steps ++ more;
-      own = All-append (λ s. s.actor ≡ actor) part.steps more part.own (All-cons (λ s. s.actor ≡ actor) (step_by actor step.kind) [] refl (All-nil (λ s. s.actor ≡ actor)));
-      few = omega (arith, length-append part.steps more, part.few, says.nearer);
-      world = world_on told.world tells.world line actor (outcome_of a step.found) b (part.steps ++ more) step.gives says.under_way
-          (told_on told.world mid.world tells.world line actor a b part.steps step.kind step.found (has_line_is a left) part.line_is (part.same.actor ∙ sym own) step.hand part.world step.world);
-      added = adds_on told.steps mid.steps tells.steps actor part.steps step.kind part.added step.steps;
-    }
+    → PartRun line actor start a told mid → TurnsLine More by a b mid tells → GoesOn (line_of a) a b → IsSameHand a b → PartRun line actor start b told tells × (hand_left b < hand_left a)
+part_goes_on line actor by start a b told mid tells same_actor left mine part one says same =
+    let T : TurnsLine More actor a b mid tells = subst (λ (n : ℕ). TurnsLine More n a b mid tells) same_actor one in
+    let goes = more_goes actor a b mid tells T in
+    goes_by More line actor start a b told mid tells left mine part T goes.0 goes.1 says same
 
--- The end.
+part_never_waits : (line : Line) (actor by : ℕ) (start a b : Held) (told mid tells : Told) (seen : Seen) → by ≡ actor → length a.answers < length a.lines → line.actor ≡ start.state.actor
+    → PartRun line actor start a told mid → TurnsLine (Wait seen) by a b mid tells → ⊥
+part_never_waits line actor by start a b told mid tells seen same_actor left mine part one =
+    let T : TurnsLine (Wait seen) actor a b mid tells = subst (λ (n : ℕ). TurnsLine (Wait seen) n a b mid tells) same_actor one in
+    let free = goes_through (Wait seen) line actor start a b told mid tells left mine part T in
+    let waits = T.gives.0 in
+    absurd (cc (free, waits))
 
-some_access_left : (p : AccessPlace) → 0 < access_left p
-some_access_left Slots = omega arith
-some_access_left (Slot id field) = omega arith
-some_access_left Walk = omega arith
-some_access_left Host = omega arith
-some_access_left Install = omega arith
-some_access_left Touch = omega arith
+part_never_begins_anew : (line : Line) (actor by : ℕ) (start a b : Held) (told mid tells : Told) (cause : Cause) → by ≡ actor → length a.answers < length a.lines → line.actor ≡ start.state.actor
+    → PartRun line actor start a told mid → TurnsLine (Retry cause) by a b mid tells → ⊥
+part_never_begins_anew line actor by start a b told mid tells cause same_actor left mine part one =
+    let T : TurnsLine (Retry cause) actor a b mid tells = subst (λ (n : ℕ). TurnsLine (Retry cause) n a b mid tells) same_actor one in
+    let goes = retry_goes cause actor a b mid tells T in
+    let more = retry_has_more cause actor a b mid tells left T in
+    let after : World Held = effect mmu (run mmu part.before part.steps) (step_by actor T.makes.kind) in
+    let near : ToldAlone (Goes goes.0) start.state.sizes actor a b after = subst (λ (p : Outcome). ToldAlone p start.state.sizes actor a b after) goes.1 (comes (Retry cause) line actor start a b told mid tells left mine part T) in
+    let less = near.1 in
+    absurd (omega (arith, more, less))
 
-some_fill_left : (p : SetSlotPlace) → 0 < set_slot_left p
-some_fill_left (Refuse refusal) = omega arith
-some_fill_left (Fill field.Base) = omega arith
-some_fill_left (Fill field.Pages) = omega arith
-some_fill_left (Fill field.Host) = omega arith
-some_fill_left (Fill field.Flags) = omega arith
+-- So a turn of it is none of these.
+pub part_goes_through : (line : Line) (actor by : ℕ) (start a b : Held) (told mid tells : Told) (turn : Turn Answer) → by ≡ actor → length a.answers < length a.lines → line.actor ≡ start.state.actor
+    → PartRun line actor start a told mid → TurnsLine turn by a b mid tells → ((seen : Seen) × (turn ≡ Wait seen)) ⊎ ((cause : Cause) × (turn ≡ Retry cause)) → ⊥
+part_goes_through line actor by start a b told mid tells turn same_actor left mine part one (inl (seen, is)) =
+    part_never_waits line actor by start a b told mid tells seen same_actor left mine part (subst (λ (t : Turn Answer). TurnsLine t by a b mid tells) is one)
+part_goes_through line actor by start a b told mid tells turn same_actor left mine part one (inr (cause, is)) =
+    part_never_begins_anew line actor by start a b told mid tells cause same_actor left mine part (subst (λ (t : Turn Answer). TurnsLine t by a b mid tells) is one)
 
-some_left : (p : Place) → 0 < steps_left p
-some_left place.Between = omega arith
-some_left (place.Access p) = some_access_left p
-some_left (place.SetSlot p) = some_fill_left p
-
-world_ends : (told tells : Option (World Held)) (line : Line) (answer : Answer) (actor : ℕ) (o : Outcome) (b : Held) (steps : List (Step Kind)) → Done answer ≡ turn_of o
-    → IfSome told (λ w. ToldStep line actor o b steps w tells) → IfSome told (λ w. RunsLine line answer steps w tells)
-world_ends None tells line answer actor o b steps is step = tt
-world_ends (Some w) tells line answer actor o b steps is step =
-    let whole = closed o line answer (history w steps) is step.tells in
-    record { legal = step.legal; ends = step.ends; alone = whole.alone; answers = whole.answers }
+ran_by : (told : Told) (z : Sizes) (line : Line) (answer : Answer) (actor : ℕ) (tells : Told) (steps : List (Step Kind)) (before : World Held) → told.world ≡ Some before → RunsAlone z actor line answer steps before → tells.world ≡ Some (run mmu before steps)
+    → IfSome told.world (λ w. RunsAlone z actor line answer steps w × (tells.world ≡ Some (run mmu w steps)))
+ran_by told z line answer actor tells steps before is ran ends = rw is (ran, ends)
 
 pub part_ends : (line : Line) (answer : Answer) (actor by : ℕ) (start a b : Held) (told mid tells : Told) → by ≡ actor → length a.answers < length a.lines → line.actor ≡ start.state.actor
-    → PartRun line actor start a told mid → OneStep (Done answer) by a b mid tells → RanAlone line answer actor told tells
-part_ends line answer actor by start a b told mid tells mine left own part one =
-    let step : OneStep (Done answer) actor a b mid tells = subst (λ (n : ℕ). OneStep (Done answer) n a b mid tells) mine one in
-    let more : List (Step Kind) = step_by actor step.kind ∷ [] in
+    → PartRun line actor start a told mid → TurnsLine (Done answer) by a b mid tells → RanAlone start.state.sizes line answer actor told tells
+part_ends line answer actor by start a b told mid tells same_actor left mine part one =
+    let T : TurnsLine (Done answer) actor a b mid tells = subst (λ (n : ℕ). TurnsLine (Done answer) n a b mid tells) same_actor one in
+    let longer : List (Step Kind) = part.steps ++ step_by actor T.makes.kind ∷ [] in
+    let ran : RunsAlone start.state.sizes actor line answer longer part.before = ends_by (Done answer) line actor start a b told mid tells left mine part T answer (done_ends answer actor a b mid tells T) in
     record {
-      steps = part.steps ++ more;
-      own = All-append (λ s. s.actor ≡ actor) part.steps more part.own (All-cons (λ s. s.actor ≡ actor) (step_by actor step.kind) [] refl (All-nil (λ s. s.actor ≡ actor)));
-      few = omega (arith, length-append part.steps more, part.few, some_left a.state.place);
-      world = world_ends told.world tells.world line answer actor (outcome_of a step.found) b (part.steps ++ more) step.gives
-          (told_on told.world mid.world tells.world line actor a b part.steps step.kind step.found (has_line_is a left) part.line_is (part.same.actor ∙ sym own) step.hand part.world step.world);
-      added = adds_on told.steps mid.steps tells.steps actor part.steps step.kind part.added step.steps;
+      steps = longer;
+      world = ran_by told start.state.sizes line answer actor tells longer part.before part.is ran (ends_on (Done answer) line actor start a b told mid tells left mine part T);
+      added = adds_on told.steps mid.steps tells.steps actor part.steps T.makes.kind part.added T.makes.steps;
     }

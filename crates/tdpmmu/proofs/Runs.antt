@@ -1,6 +1,6 @@
 -- What the run of a trace wrote is what the whole program owes, at each status.
-use Rattle.std.proofs.Common.{◌≡◌, inr, ℕ, List, take, ap, arith, sym, subst}
-use Rattle.std.specs.Prelude.{IfSome, Ok}
+use Rattle.std.proofs.Common.{◌≡◌, inr, ℕ, List, Result, Ok, Err, take, refl, arith, sym, subst}
+use Rattle.std.specs.Prelude.{IfSome}
 use Rattle.std.specs.declared.option.Option.{Option}
 use Rattle.std.specs.declared.option.Option.TheVariants.{Some, None}
 use Rattle.std.specs.Io.KnownBytes.{Appends}
@@ -9,7 +9,7 @@ use Rattle.tdp_io.specs.Ends.{AppendsPrefix}
 use Rattle.trace_reader.specs.Reading.{reading, IsTraceOf, IsRefusalOf}
 use Rattle.trace_reader.specs.declared.reason.Reason.{Reason}
 use Rattle.tdpmmu.specs.Output.{refusal_text}
-use Rattle.tdpmmu.specs.Run.{Around, IsInputOf, Prints, RunsTo, WasRead, output, output_of, trace_output}
+use Rattle.tdpmmu.specs.Run.{Around, IsInputOf, IsOutputOf, Prints, RunsTo, WasRead, WritesPart}
 use Rattle.tdpmmu.specs.Steps.{WritesOutput, WritesRefusal}
 use Rattle.tdpmmu.specs.declared.command.Command.{Command}
 use Rattle.tdpmmu.specs.declared.status.Status.{Status}
@@ -24,17 +24,18 @@ whole_refusal a input line reason read = record { taken = read.taken; small = re
 was_read : (asked : Option Command) (command : Command) (a : Around) (input : List ℕ) → asked ≡ Some command → IsInputOf a input → WasRead asked a input
 was_read asked command a input is whole = rw is whole
 
-prefix_of : (asked : Option Command) (command : Command) (input whole : List ℕ) (before after : Option (List ℕ)) → asked ≡ Some command → output_of command (reading input) ≡ whole
-    → AppendsPrefix before after whole → AppendsPrefix before after (output asked input)
-prefix_of asked command input whole before after is says prefix = rw (is, says) prefix
+-- what a command wrote of the output that it owes an input
+part_of : (asked : Option Command) (command : Command) (input bytes : List ℕ) (says : Result Trace (ℕ × Reason)) (before after : Option (List ℕ)) → asked ≡ Some command → reading input ≡ says → IsOutputOf command says bytes
+    → AppendsPrefix before after bytes → WritesPart asked input before after
+part_of asked command input bytes says before after is reads output prefix = (bytes, rw (is, reads) output, prefix)
 
 pub trace_runs : (asked : Option Command) (command : Command) (a : Around) (input : List ℕ) (trace : Trace) (status : Status) → asked ≡ Some command
-    → IsTraceOf a.left a.left_after a.ended input trace → WritesOutput (trace_output command trace) a.written a.written_after status → RunsTo asked a status
-trace_runs asked command a input trace Done is read writes = (command, is, input, trace, read, writes)
-trace_runs asked command a input trace WriteFault is read writes =
-    (input, was_read asked command a input is (whole_trace a input trace read), prefix_of asked command input (trace_output command trace) a.written a.written_after is (ap (output_of command) read.says) writes)
-trace_runs asked command a input trace NoMemory is read writes =
-    inr (input, was_read asked command a input is (whole_trace a input trace read), prefix_of asked command input (trace_output command trace) a.written a.written_after is (ap (output_of command) read.says) writes)
+    → IsTraceOf a.left a.left_after a.ended input trace → WritesOutput command trace a.written a.written_after status → RunsTo asked a status
+trace_runs asked command a input trace Done is read (bytes, output, writes) = (command, is, input, trace, read, bytes, output, writes)
+trace_runs asked command a input trace WriteFault is read (bytes, output, writes) =
+    (input, was_read asked command a input is (whole_trace a input trace read), part_of asked command input bytes (Ok trace) a.written a.written_after is read.says output writes)
+trace_runs asked command a input trace NoMemory is read (bytes, output, writes) =
+    inr (input, was_read asked command a input is (whole_trace a input trace read), part_of asked command input bytes (Ok trace) a.written a.written_after is read.says output writes)
 trace_runs asked command a input trace Usage is read writes = absurd writes
 trace_runs asked command a input trace (Refused line reason) is read writes = absurd writes
 trace_runs asked command a input trace ReadFault is read writes = absurd writes
@@ -50,25 +51,25 @@ refused_runs asked command a input line reason (Refused l r) is read writes = (
   subst (λ (n : ℕ). Appends a.written a.written_after (refusal_text n r)) (sym writes.0) (subst (λ (x : Reason). Appends a.written a.written_after (refusal_text line x)) (sym writes.1) writes.2),
 )
 refused_runs asked command a input line reason WriteFault is read writes =
-    (input, was_read asked command a input is (whole_refusal a input line reason read), prefix_of asked command input (refusal_text line reason) a.written a.written_after is (ap (output_of command) read.says) writes)
+    (input, was_read asked command a input is (whole_refusal a input line reason read), part_of asked command input (refusal_text line reason) (Err (line, reason)) a.written a.written_after is read.says refl writes)
 refused_runs asked command a input line reason NoMemory is read writes =
-    inr (input, was_read asked command a input is (whole_refusal a input line reason read), prefix_of asked command input (refusal_text line reason) a.written a.written_after is (ap (output_of command) read.says) writes)
+    inr (input, was_read asked command a input is (whole_refusal a input line reason read), part_of asked command input (refusal_text line reason) (Err (line, reason)) a.written a.written_after is read.says refl writes)
 refused_runs asked command a input line reason Done is read writes = absurd writes
 refused_runs asked command a input line reason Usage is read writes = absurd writes
 refused_runs asked command a input line reason ReadFault is read writes = absurd writes
 refused_runs asked command a input line reason (Unfinished actor l) is read writes = absurd writes
 
 prints : (asked : Option Command) (command : Command) (input : List ℕ) (trace : Trace) (before after : Option (List ℕ)) (status : Status) → asked ≡ Some command
-    → reading input ≡ Ok trace → WritesOutput (trace_output command trace) before after status → Prints asked input before after status
-prints asked command input trace before after Done is says writes = (command, is, trace, says, writes)
-prints asked command input trace before after WriteFault is says writes = prefix_of asked command input (trace_output command trace) before after is (ap (output_of command) says) writes
-prints asked command input trace before after NoMemory is says writes = prefix_of asked command input (trace_output command trace) before after is (ap (output_of command) says) writes
+    → reading input ≡ Ok trace → WritesOutput command trace before after status → Prints asked input before after status
+prints asked command input trace before after Done is says (bytes, output, writes) = (command, is, trace, says, bytes, output, writes)
+prints asked command input trace before after WriteFault is says (bytes, output, writes) = part_of asked command input bytes (Ok trace) before after is says output writes
+prints asked command input trace before after NoMemory is says (bytes, output, writes) = inr (part_of asked command input bytes (Ok trace) before after is says output writes)
 prints asked command input trace before after Usage is says writes = absurd writes
 prints asked command input trace before after (Refused line reason) is says writes = absurd writes
 prints asked command input trace before after ReadFault is says writes = absurd writes
 prints asked command input trace before after (Unfinished actor line) is says writes = absurd writes
 
 pub trace_prints : (asked : Option Command) (command : Command) (left : Option (List ℕ)) (trace : Trace) (before after : Option (List ℕ)) (status : Status) → asked ≡ Some command
-    → IfSome left (λ input. reading (take 16777217 input) ≡ Ok trace) → WritesOutput (trace_output command trace) before after status → IfSome left (λ input. Prints asked (take 16777217 input) before after status)
+    → IfSome left (λ input. reading (take 16777217 input) ≡ Ok trace) → WritesOutput command trace before after status → IfSome left (λ input. Prints asked (take 16777217 input) before after status)
 trace_prints asked command None trace before after status is says writes = tt
 trace_prints asked command (Some input) trace before after status is says writes = prints asked command (take 16777217 input) trace before after status is says writes

@@ -1,61 +1,94 @@
 -- What a replay over the machine's words is: a list of steps in which each line runs alone, in file order.
-use Rattle.std.specs.Prelude.{◌≡◌, ◌<◌, ◌≤◌, ◌*◌, ℕ, List, All, length, take, Some}
+use Rattle.std.specs.Prelude.{◌≡◌, ◌≢◌, ◌≤◌, ◌*◌, ℕ, List, [], ◌∷◌, ◌++◌, All, length, take, Some}
 use Rattle.core_views.specs.declared.answer.Answer.{Answer}
+use Rattle.core_views.specs.declared.answer.Answer.TheVariants.{Starved}
+use Rattle.core_views.specs.declared.event.Event.{Event}
 use Rattle.core_views.specs.declared.kind.Kind.{Kind}
-use Rattle.core_views.specs.declared.place.Place.TheVariants.{Between}
 use Rattle.core_views.specs.declared.sizes.Sizes.{Sizes}
 use Rattle.core_views.specs.declared.trace.Line.{Line}
 use Rattle.core_views.specs.declared.trace.Trace.{Trace}
-use Rattle.core_views.specs.Alone.{StandsAlone}
-use Rattle.core_views.specs.Flat.{first_flat}
-use Rattle.core_views.specs.FlatHistory.{flat_history}
+use Rattle.core_views.specs.Alone.{NoneStarved, StandsAlone, without_looks}
+use Rattle.core_views.specs.Flat.{first_facts, first_flat}
+use Rattle.core_views.specs.FlatHistory.{one_by_one}
 use Rattle.core_views.specs.Held.{Held}
 use Rattle.core_views.specs.Lawful.{IsLawful}
-use Rattle.core_views.specs.Sizes.{actor_at, actors_of, sizes_of}
+use Rattle.core_views.specs.Need.{need}
+use Rattle.core_views.specs.Sizes.{index_of, sizes_of}
 use Rattle.core_views.specs.Text.{text}
-use Rattle.core_views.specs.Whole.{IsWhole, lines_of}
+use Rattle.core_views.specs.Whole.{IsWhole}
+use Rattle.spte_words.specs.declared.area.Area.TheVariants as area
+use Rattle.spte_words.specs.Areas.{words_of_bits}
 use Rattle.mmu_core.specs.Bounds.{most_steps}
 use Rattle.mmu_core.specs.Enabled.{mmu}
+use Rattle.mmu_core.specs.LineAlone.{AllRest, StarvedOnlyWithout, StepsAlone}
 use Rattle.mmu_core.specs.LineRuns.{RunsLine}
-use Rattle.mmu_core.specs.Machine.{Legal, Step, World, hand_in, run}
+use Rattle.mmu_core.specs.Machine.{Legal, Step, World, effect, hand_in, run}
+use Rattle.mmu_core.specs.Scans.{EndsWithScan}
 use Rattle.mmu_core.specs.Turns.{IsAnswered, IsSameHand}
+use Rattle.mmu_core.specs.View.{word_in}
 use Rattle.mmu_core.specs.Worlds.{IsStart, history}
 
--- Steps that may be made one after another lead from the start to this world; they tell these lines, each alone, in this order, and
--- are no more than so many lines make.
-pub record RunsLines (start : World Held) (lines : List Line) (end_ : World Held) : Type 0 where
+-- None of these steps, made from this world on, waits for another actor, and each leaves its line nearer to its answer.
+abbrev pub EachStepsAlone : Sizes → World Held → List (Step Kind) → Type 0
+EachStepsAlone z before [] = Unit {0}
+EachStepsAlone z before (s ∷ steps) = StepsAlone z before s × EachStepsAlone z (effect mmu before s) steps
+
+-- The steps run the line alone: they are of its actor alone, at most `most_steps`, none of them waits or leads away from the line's
+-- answer, and they tell the line from its begin to this answer. Behind them all actors rest. Where the line is starved no page of the
+-- pool is free then, and its claim found each word of the pool's map 0; where it is answered otherwise, no access of it left for want of
+-- a page.
+pub record RunsAlone (z : Sizes) (actor : ℕ) (line : Line) (answer : Answer) (steps : List (Step Kind)) (before : World Held) : Type 0 where
+  pub own : All (λ s. s.actor ≡ actor) steps
+  pub few : length steps ≤ most_steps z
+  pub nearer : EachStepsAlone z before steps
+  pub runs : RunsLine line answer steps before (Some (run mmu before steps))
+  pub rest : AllRest (run mmu before steps)
+  pub no_page_free : StarvedOnlyWithout answer z (word_in z (run mmu before steps) area.PoolMap)
+  pub saw_each_word : answer ≡ Starved → EndsWithScan z actor (words_of_bits z.pool) before steps
+  pub none_starved : answer ≢ Starved → NoneStarved (history before steps)
+
+-- From this world on the steps run these lines one after another, each alone.
+abbrev pub EachRunsAlone : Sizes → World Held → List Line → List (Step Kind) → Type 0
+EachRunsAlone z before [] steps = steps ≡ []
+EachRunsAlone z before (line ∷ lines) steps =
+    (own : List (Step Kind)) × (rest : List (Step Kind)) × (answer : Answer) × (steps ≡ own ++ rest) × RunsAlone z (index_of z line.actor) line answer own before × EachRunsAlone z (run mmu before own) lines rest
+
+-- Steps that may be made one after another lead from the start to this world; they run these lines, each alone, in this order, and
+-- tell nothing else.
+pub record RunsLines (z : Sizes) (start : World Held) (lines : List Line) (end_ : World Held) : Type 0 where
   pub steps : List (Step Kind)
   pub legal : Legal mmu start steps
   pub ends : run mmu start steps ≡ end_
+  pub each : EachRunsAlone z start lines steps
   pub alone : StandsAlone (history start steps) lines
-  pub few : length steps ≤ most_steps * length lines
+  pub few : length steps ≤ most_steps z * length lines
 
--- No line of this hand is under way, and it has answered its actor's lines among the first of all.
-pub record IsBehind (z : Sizes) (lines : List Line) (done actor : ℕ) (h : Held) : Type 0 where
-  pub between : h.state.place ≡ Between
-  pub whose : h.state.actor ≡ actor_at z actor
-  pub lines_are : h.lines ≡ lines_of (actor_at z actor) lines
-  pub answered : length h.answers ≡ length (lines_of (actor_at z actor) (take done lines))
-
--- So each hand is.
-abbrev pub AreBehind : Sizes → List Line → ℕ → World Held → Type 0
-AreBehind z lines done w = (actor : ℕ) → actor < actors_of z → IsBehind z lines done actor (hand_in mmu w actor)
-
--- The line ran alone on the machine: steps of its actor alone, and its hand has the answer.
-pub record RanOn (line : Line) (answer : Answer) (actor : ℕ) (before after : World Held) : Type 0 where
+-- The line ran alone on the machine, and the actor's hand has the answer.
+pub record RanOn (z : Sizes) (line : Line) (answer : Answer) (actor : ℕ) (before after : World Held) : Type 0 where
   pub steps : List (Step Kind)
-  pub own : All (λ s. s.actor ≡ actor) steps
-  pub few : length steps ≤ most_steps
-  pub runs : RunsLine line answer steps before (Some after)
+  pub alone : RunsAlone z actor line answer steps before
+  pub ends : run mmu before steps ≡ after
   pub answered : IsAnswered line answer (hand_in mmu before actor) (hand_in mmu after actor)
   pub same : IsSameHand (hand_in mmu before actor) (hand_in mmu after actor)
 
--- The replay of a trace: a list of steps from the trace's start to the closing words and hands, each line alone in file order; what
--- it tells is lawful, answers each line once, and prints the text of the trace's flat history.
-pub record Replays (trace : Trace) (closing : World Held) : Type 0 where
+-- Where no line is starved, the lines tell what they tell in flat guest memory, beside what they look at.
+pub record RunsAsFlat (z : Sizes) (lines : List Line) (bytes : List ℕ) (told : List Event) : Type 0 where
+  pub none_starved : NoneStarved told
+  pub same : without_looks told ≡ without_looks (one_by_one z lines first_facts)
+  pub prints : bytes ≡ text (one_by_one z lines first_facts)
+
+-- These bytes are what a replay of the first lines of the trace prints: steps lead from the trace's start to this world, each of the
+-- lines alone, in file order; what they tell is lawful, answers each of the lines once, and its text is the bytes. Where the pool has as
+-- many pages as the trace needs, that is what flat guest memory gives.
+pub record Replays (trace : Trace) (lines : List Line) (bytes : List ℕ) (closing : World Held) : Type 0 where
   pub start : World Held
   pub is_start : IsStart (sizes_of trace.header) trace.lines start
-  pub runs : RunsLines start trace.lines closing
+  pub runs : RunsLines (sizes_of trace.header) start lines closing
   pub lawful : IsLawful (sizes_of trace.header) first_flat (history start runs.steps)
-  pub whole : IsWhole (history start runs.steps) trace.lines
-  pub prints : text (history start runs.steps) ≡ text (flat_history trace)
+  pub whole : IsWhole (history start runs.steps) lines
+  pub prints : bytes ≡ text (history start runs.steps)
+  pub flat : need trace.header trace.lines ≤ trace.header.pool → RunsAsFlat (sizes_of trace.header) lines bytes (history start runs.steps)
+
+-- So far the replay of a trace came, and printed this.
+abbrev pub ReplaysFirst : Trace → List ℕ → Type 0
+ReplaysFirst trace bytes = (count : ℕ) × (closing : World Held) × Replays trace (take count trace.lines) bytes closing

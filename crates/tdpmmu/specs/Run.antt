@@ -3,13 +3,14 @@ use Rattle.std.specs.Prelude.{◌≡◌, ◌≤◌, ◌⊎◌, ℕ, List, [], �
 use Rattle.std.specs.Str.{bytes_eq}
 use Rattle.std.specs.Io.KnownBytes.{Appends, Consumes, IsAtEnd}
 use Rattle.core_views.specs.declared.trace.Trace.{Trace}
-use Rattle.core_views.specs.FlatHistory.{flat_history}
+use Rattle.core_views.specs.Held.{Held}
 use Rattle.core_views.specs.Need.{need}
-use Rattle.core_views.specs.Text.{text}
+use Rattle.mmu_core.specs.Machine.{World}
 use Rattle.tdp_io.specs.Ends.{AppendsPrefix, Rose}
 use Rattle.trace_reader.specs.declared.reason.Reason.{Reason}
 use Rattle.trace_reader.specs.Reading.{reading, IsTraceOf, IsRefusalOf}
 use Rattle.tdpmmu.specs.Output.{check_text, refusal_text, usage_text}
+use Rattle.tdpmmu.specs.Replays.{Replays, ReplaysFirst}
 use Rattle.tdpmmu.specs.declared.command.Command.{Command}
 use Rattle.tdpmmu.specs.declared.command.Command.TheVariants.{Check, Replay}
 use Rattle.tdpmmu.specs.declared.status.Status.{Status}
@@ -26,20 +27,30 @@ abbrev pub command_of : List (List ℕ) → Option Command
 command_of (name ∷ word ∷ []) = command_named word
 command_of _ = None
 
--- what a command writes of a trace: how long it is and what it needs, or the text of its flat history
-abbrev pub trace_output : Command → Trace → List ℕ
-trace_output Check trace = check_text (length trace.lines) (need trace.header trace.lines)
-trace_output Replay trace = text (flat_history trace)
+-- The whole output of a command on a trace: how long it is and what it needs, or what a replay of all its lines prints, which is the
+-- text of its flat history where the pool has as many pages as it needs.
+abbrev pub IsOutput : Command → Trace → List ℕ → Type 0
+IsOutput Check trace bytes = bytes ≡ check_text (length trace.lines) (need trace.header trace.lines)
+IsOutput Replay trace bytes = (closing : World Held) × Replays trace trace.lines bytes closing
 
--- the whole output of a command for what an input says
-abbrev pub output_of : Command → Result Trace (ℕ × Reason) → List ℕ
-output_of command (Ok trace) = trace_output command trace
-output_of command (Err e) = refusal_text e.0 e.1
+-- The output of a command that may have come to only some of the trace's lines.
+abbrev pub IsOutputSoFar : Command → Trace → List ℕ → Type 0
+IsOutputSoFar Check trace bytes = IsOutput Check trace bytes
+IsOutputSoFar Replay trace bytes = ReplaysFirst trace bytes
 
--- the whole output of the command that the words name, if they name one, on an input
-abbrev pub output : Option Command → List ℕ → List ℕ
-output (Some command) input = output_of command (reading input)
-output None input = usage_text
+-- the output, so far, of a command for what an input says
+abbrev pub IsOutputOf : Command → Result Trace (ℕ × Reason) → List ℕ → Type 0
+IsOutputOf command (Ok trace) bytes = IsOutputSoFar command trace bytes
+IsOutputOf command (Err e) bytes = bytes ≡ refusal_text e.0 e.1
+
+-- the output, so far, of the command that the words name, if they name one, on an input
+abbrev pub IsOutputOn : Option Command → List ℕ → List ℕ → Type 0
+IsOutputOn (Some command) input bytes = IsOutputOf command (reading input) bytes
+IsOutputOn None input bytes = bytes ≡ usage_text
+
+-- A prefix of such an output was written.
+abbrev pub WritesPart : Option Command → List ℕ → Option (List ℕ) → Option (List ℕ) → Type 0
+WritesPart asked input before after = (bytes : List ℕ) × IsOutputOn asked input bytes × AppendsPrefix before after bytes
 
 -- What the source had left, and whether it has ended; what the sink was given: before a run and after it.
 pub record Around : Type 0 where
@@ -66,22 +77,22 @@ StopsReading a = (taken : List ℕ) × Consumes a.left a.left_after taken × (le
 
 -- What the run did, by its status. Where the source tells what it has left, the input is what was taken of it; where it tells nothing, some input explains the run.
 abbrev pub RunsTo : Option Command → Around → Status → Type 0
-RunsTo asked a Done = (command : Command) × (asked ≡ Some command) × (input : List ℕ) × (trace : Trace) × IsTraceOf a.left a.left_after a.ended input trace × Appends a.written a.written_after (trace_output command trace)
+RunsTo asked a Done = (command : Command) × (asked ≡ Some command) × (input : List ℕ) × (trace : Trace) × IsTraceOf a.left a.left_after a.ended input trace × (bytes : List ℕ) × IsOutput command trace bytes × Appends a.written a.written_after bytes
 RunsTo asked a Usage = (asked ≡ None) × Consumes a.left a.left_after [] × Appends a.written a.written_after usage_text
 RunsTo asked a (Refused line reason) = (command : Command) × (asked ≡ Some command) × (input : List ℕ) × IsRefusalOf a.left a.left_after a.ended input line reason × Appends a.written a.written_after (refusal_text line reason)
 RunsTo asked a ReadFault = (command : Command) × (asked ≡ Some command) × (input : List ℕ) × Consumes a.left a.left_after input × (length input ≤ 16777216) × (a.written_after ≡ a.written)
-RunsTo asked a WriteFault = (input : List ℕ) × WasRead asked a input × AppendsPrefix a.written a.written_after (output asked input)
-RunsTo asked a NoMemory = StopsReading a ⊎ ((input : List ℕ) × WasRead asked a input × AppendsPrefix a.written a.written_after (output asked input))
+RunsTo asked a WriteFault = (input : List ℕ) × WasRead asked a input × WritesPart asked input a.written a.written_after
+RunsTo asked a NoMemory = StopsReading a ⊎ ((input : List ℕ) × WasRead asked a input × WritesPart asked input a.written a.written_after)
 RunsTo asked a (Unfinished actor line) = ⊥
 
 -- The same where the source tells that it had this input left, of which no more than 16777217 bytes are looked at.
 abbrev pub Prints : Option Command → List ℕ → Option (List ℕ) → Option (List ℕ) → Status → Type 0
-Prints asked input before after Done = (command : Command) × (asked ≡ Some command) × (trace : Trace) × (reading input ≡ Ok trace) × Appends before after (trace_output command trace)
+Prints asked input before after Done = (command : Command) × (asked ≡ Some command) × (trace : Trace) × (reading input ≡ Ok trace) × (bytes : List ℕ) × IsOutput command trace bytes × Appends before after bytes
 Prints asked input before after Usage = (asked ≡ None) × Appends before after usage_text
 Prints asked input before after (Refused line reason) = (command : Command) × (asked ≡ Some command) × (reading input ≡ Err (line, reason)) × Appends before after (refusal_text line reason)
 Prints asked input before after ReadFault = (command : Command) × (asked ≡ Some command) × (after ≡ before)
-Prints asked input before after WriteFault = AppendsPrefix before after (output asked input)
-Prints asked input before after NoMemory = AppendsPrefix before after (output asked input)
+Prints asked input before after WriteFault = WritesPart asked input before after
+Prints asked input before after NoMemory = (after ≡ before) ⊎ WritesPart asked input before after
 Prints asked input before after (Unfinished actor line) = ⊥
 
 -- The count of failed reads rose where the status says that reading failed, and stayed at any other status.

@@ -1,48 +1,33 @@
--- What a turn of a job makes of the seat that it has: one enabled step, and what it says of it.
-use Rattle.std.specs.Prelude.{◌≡◌, ◌≤◌, ◌++◌, ℕ, List, All, Some, IfSome, length}
+-- What a job is for, and what the line that it runs alone makes of the seat that it has.
+use Rattle.std.specs.Prelude.{◌≡◌, ◌++◌, ℕ, List, Option, Some, IfSome}
 use Rattle.core_views.specs.declared.answer.Answer.{Answer}
 use Rattle.core_views.specs.declared.kind.Kind.{Kind}
+use Rattle.core_views.specs.declared.sizes.Sizes.{Sizes}
+use Rattle.core_views.specs.declared.trace.Command.TheVariants as command
 use Rattle.core_views.specs.declared.trace.Line.{Line}
 use Rattle.core_views.specs.Held.{Held}
-use Rattle.mmu_core.specs.declared.outcome.Outcome.{Outcome}
-use Rattle.mmu_core.specs.declared.outcome.Outcome.TheVariants.{Goes, Ends}
-use Rattle.mmu_core.specs.Bounds.{most_steps}
-use Rattle.mmu_core.specs.Enabled.{Enabled}
-use Rattle.mmu_core.specs.LineRuns.{RunsLine}
-use Rattle.mmu_core.specs.Machine.{Step}
-use Rattle.mmu_core.specs.Steps.{next}
-use Rattle.mmu_core.specs.Turns.{GoesOn, IsAnswered, outcome_of}
-use Rattle.step_seats.specs.Moves.{Adds, Tells}
-use Rattle.step_seats.specs.declared.turn.Turn.{Turn}
-use Rattle.step_seats.specs.declared.turn.Turn.TheVariants.{More, Wait, Retry, Done}
+use Rattle.mmu_core.specs.Enabled.{mmu}
+use Rattle.mmu_core.specs.LineAlone.{LineAlone}
+use Rattle.mmu_core.specs.Machine.{Step, World, hand_in, run}
 use Rattle.step_seats.specs.PartTurns.{Told}
+use Rattle.tdpmmu.specs.Replays.{RunsAlone}
+use Rattle.tdpmmu.specs.declared.job.LineJob.{LineJob}
+use Rattle.tdpmmu.specs.declared.job.LineJob.TheVariants.{Access, Setting}
 
--- what a turn answers, by where the line stands after its step
-abbrev pub turn_of : Outcome → Turn Answer
-turn_of (Goes place) = More
-turn_of (Ends answer) = Done answer
+-- The job is for this line, which so many lines of its actor come before.
+abbrev pub IsJobOf : LineJob → Line → ℕ → Type 0
+IsJobOf (Access job) line before = (job.index ≡ before) × (line.command ≡ command.Access job.gfn job.word job.op)
+IsJobOf (Setting job) line before = (job.index ≡ before) × (line.command ≡ command.SetSlot job.id job.slot)
 
--- One step that the hand allows takes the actor's hand, and what its seat tells, to the next; the turn answers what its line is answered.
-pub record OneStep (turn : Turn Answer) (actor : ℕ) (before after : Held) (told tells : Told) : Type 0 where
-  pub kind : Kind
-  pub found : ℕ
-  pub enabled : Enabled before kind
-  pub hand : after ≡ next before kind found
-  pub world : Tells told.world actor kind found tells.world
-  pub steps : Adds told.steps actor kind tells.steps
-  pub gives : turn ≡ turn_of (outcome_of before found)
+-- The seat tells a world, whose hand this is, and in it the actor's line is alone.
+pub record IsAlone (actor : ℕ) (hand : Held) (told : Option (World Held)) : Type 0 where
+  pub world : World Held
+  pub is : told ≡ Some world
+  pub has : hand_in mmu world actor ≡ hand
+  pub alone : LineAlone hand.state.sizes world actor
 
--- what a turn says of its line, and of the hand before and after it
-abbrev pub Says : Turn Answer → Line → Held → Held → Type 0
-Says More line before after = GoesOn line before after
-Says (Done answer) line before after = IsAnswered line answer before after
-Says (Wait seen) line before after = ⊥
-Says (Retry cause) line before after = ⊥
-
--- The line ran alone: some steps of its actor alone, no more than a line makes, lead from what was told to what is told now.
-pub record RanAlone (line : Line) (answer : Answer) (actor : ℕ) (told tells : Told) : Type 0 where
+-- The line ran alone: some steps of its actor alone lead from what was told to what is told now.
+pub record RanAlone (z : Sizes) (line : Line) (answer : Answer) (actor : ℕ) (told tells : Told) : Type 0 where
   pub steps : List (Step Kind)
-  pub own : All (λ s. s.actor ≡ actor) steps
-  pub few : length steps ≤ most_steps
-  pub world : IfSome told.world (λ w. RunsLine line answer steps w tells.world)
+  pub world : IfSome told.world (λ w. RunsAlone z actor line answer steps w × (tells.world ≡ Some (run mmu w steps)))
   pub added : IfSome told.steps (λ ss. tells.steps ≡ Some (ss ++ steps))

@@ -39,6 +39,10 @@ fn main(rt: HostRuntime) -> ExitCode {
 }
 
 #[cfg(test)]
+mod plain_tests;
+#[cfg(test)]
+mod small_pools;
+#[cfg(test)]
 mod tests;
 #[cfg(test)]
 mod traces;

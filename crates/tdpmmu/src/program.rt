@@ -3,7 +3,7 @@ ghost use Rattle.core_views.specs.Need.{need as need_of};
 ghost use Rattle.core_views.specs.Traces.{IsTrace};
 ghost use Rattle.tdpmmu.specs.Output.{check_text, refusal_text};
 ghost use Rattle.tdp_io.specs.Ends.{Wrote, WroteFaults};
-ghost use Rattle.tdpmmu.specs.Run.{command_named as named, command_of, trace_output, Prints, ReadCause, RunsTo, WriteCause};
+ghost use Rattle.tdpmmu.specs.Run.{command_named as named, command_of, Prints, ReadCause, RunsTo, WriteCause};
 ghost use Rattle.tdpmmu.specs.Steps.{WritesOutput, WritesRefusal, WritesUsage};
 
 use crate::command::Command;
@@ -99,7 +99,7 @@ fn refuse<K: Sink>(alloc: Global, line: u32, reason: Reason, out: &mut K) -> Sta
 // The input is this trace.
 fn run_trace<K: Sink>(alloc: Global, command: Command, trace: &Trace, out: &mut K) -> Status
     requires { IsTrace trace.now }
-    ensures written { WritesOutput (trace_output command trace.now) (K.written out.old) (K.written out.new) result }
+    ensures written { WritesOutput command trace.now (K.written out.old) (K.written out.new) result }
     ensures write { WriteCause (K.faults out.old) (K.faults out.new) result }
 {
     let written = match command {

@@ -1,15 +1,11 @@
 //! The command `replay`: each line of the trace alone, in file order.
-ghost use Rattle.std.specs.Prelude.{◌≡◌, ◌≤◌, IfOk, OnOk, string_bytes};
-ghost use Rattle.core_views.specs.Flat.{first_facts};
-ghost use Rattle.core_views.specs.FlatHistory.{flat_history, one_by_one};
-ghost use Rattle.core_views.specs.Text.{line_text, text};
+ghost use Rattle.std.specs.Prelude.{string_bytes};
+ghost use Rattle.core_views.specs.Text.{line_text};
 ghost use Rattle.core_views.specs.Traces.{IsTrace};
 ghost use Rattle.mmu_core.specs.Worlds.{IsStart};
 ghost use Rattle.step_seats.specs.Machines.{world_in};
-ghost use Rattle.step_seats.specs.Moves.{world_of};
-ghost use Rattle.tdp_io.specs.Ends.{Wrote, WroteFaults};
-ghost use Rattle.tdpmmu.specs.Replays.{Replays, RunsLines};
-ghost use Rattle.tdpmmu.specs.Steps.{Buffers};
+ghost use Rattle.tdp_io.specs.Ends.{WroteFaults};
+ghost use Rattle.tdpmmu.specs.Steps.{Buffers, RunsAndPuts, WritesReplay};
 
 use crate::run_on::run_on;
 use core_views::{Answer, Closing, Line, Trace};
@@ -63,8 +59,7 @@ fn run_lines<K: Sink>(
     waiting: &mut String,
 ) -> Result<(), Stop>
     requires start { IsStart machine.old.sizes lines.now (world_in machine.old) }
-    ensures ran { OnOk result (RunsLines (world_in machine.old) lines.now (world_in machine.new)) }
-    ensures bytes { Buffers (K.written out.old) (K.written out.new) (string_bytes waiting.old) (string_bytes waiting.new) result (text (one_by_one machine.old.sizes lines.now first_facts)) }
+    ensures puts { RunsAndPuts machine.old.sizes (world_in machine.old) lines.now (world_in machine.new) (K.written out.old) (K.written out.new) (string_bytes waiting.old) (string_bytes waiting.new) result }
     ensures faults { WroteFaults (K.faults out.old) (K.faults out.new) result }
 {
     for line in lines {
@@ -81,8 +76,7 @@ fn run_lines<K: Sink>(
 /// the last words and hands.
 pub fn replay<K: Sink>(alloc: Global, trace: &Trace, out: &mut K) -> Result<Closing, Stop>
     requires trace { IsTrace trace.now }
-    ensures ran { IfOk result (λ closing. Replays trace.now (world_of closing.words closing.hands)) }
-    ensures bytes { Wrote (K.written out.old) (K.written out.new) result (text (flat_history trace.now)) }
+    ensures writes { WritesReplay trace.now (K.written out.old) (K.written out.new) result }
     ensures faults { WroteFaults (K.faults out.old) (K.faults out.new) result }
 {
     let Ok(mut machine) = PlainMachine::new(alloc, trace) else {

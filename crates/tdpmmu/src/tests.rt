@@ -1,27 +1,21 @@
 //! Whole runs of the program, over sources and sinks in memory.
-ghost use Rattle.core_views.specs.Traces.{AreLinesOf};
-
 use crate::program::run;
 use crate::status::Status;
-use crate::traces::{COUNT, TRACES};
-use core_views::Trace;
-use flat_model::Plain;
 use std::alloc::Global;
 use std::sync::Wait;
 use std::test::Fail;
 use std::thread::Threads;
 use tdp_io::{MemSink, MemSource, NoGate};
-use trace_reader::{Read, Reason, read_trace};
-use trace_text::answer_line;
+use trace_reader::Reason;
 
 const H: &str =
     "tdp 1 vcpus 2 workers 1 pages 1024 frames 1040 words 1 pool 64 cache 64 manual 0 hosts 0\n";
 
-const TWO_WORDS: &str =
-    "tdp 1 vcpus 2 workers 1 pages 1024 frames 1040 words 2 pool 64 cache 64 manual 0 hosts 0\n";
-
 const LARGE: &str =
     "tdp 1 vcpus 2 workers 1 pages 262144 frames 262160 words 1 pool 6 cache 64 manual 0 hosts 0\n";
+
+const GENERATED: &str =
+    "tdp 1 vcpus 4 workers 1 pages 4096 frames 4160 words 1 pool 64 cache 16 manual 0 hosts 0\n";
 
 const ONE_WRITE: &str = "vm slot 0 0 16 0\nv0 write 0x1000 7\nv1 read 0x1000\n";
 
@@ -35,9 +29,9 @@ fn words(alloc: Global, words: &[&str]) -> Result<Vec<String>, Fail> {
     Ok(all)
 }
 
-// Runs the program on a header and the lines behind it. The reads and the
-// writes with these numbers fail.
-fn run_on<R: Threads + Wait + Sync>(
+/// Runs the program on a header and the lines behind it. The reads and the
+/// writes with these numbers fail.
+pub fn run_on<R: Threads + Wait + Sync>(
     rt: &R,
     alloc: Global,
     command: &[&str],
@@ -56,68 +50,92 @@ fn run_on<R: Threads + Wait + Sync>(
     Ok((status, out))
 }
 
+// The content words of a page, the pool's pages, the lines, and what `replay` prints.
+const ANSWERS: [(u8, u64, &str, &str); 12] = [
+    (1, 64, "", ""),
+    (
+        1,
+        64,
+        ONE_WRITE,
+        "2 vm done\n3 v0 frame 1 value 0\n4 v1 frame 1 value 7\n",
+    ),
+    (
+        2,
+        64,
+        "vm slot 0 0 16 0\nv0 write 0xf008 3\nv0 add 0xf000 1\nv0 read 0xf008\n",
+        "2 vm done\n3 v0 frame 15 value 0\n4 v0 frame 15 value 0\n5 v0 frame 15 value 3\n",
+    ),
+    (
+        1,
+        64,
+        "vm slot 0 0 16 0\nv0 read 0x10000\n",
+        "2 vm done\n3 v0 mmio\n",
+    ),
+    (
+        1,
+        64,
+        "vm slot 0 68719476720 16 0\nv0 read 0xfffffffff000\n",
+        "2 vm done\n3 v0 frame 15 value 0\n",
+    ),
+    (
+        1,
+        64,
+        "vm slot 0 0 16 0 ro\nv0 write 0x1000 1\nv0 read 0x1000\n",
+        "2 vm done\n3 v0 mmio\n4 v0 frame 1 value 0\n",
+    ),
+    (
+        1,
+        4,
+        "vm slot 0 0 16 0\nv0 read 0x0\n",
+        "2 vm done\n3 v0 starved\n",
+    ),
+    (
+        1,
+        64,
+        "vm slot 0 0 16 0\nv0 write 0x0 0xffffffffffffffff\nv0 add 0x0 2\nv0 read 0x0\n",
+        "2 vm done\n3 v0 frame 0 value 0\n4 v0 frame 0 value 18446744073709551615\n5 v0 frame 0 value 1\n",
+    ),
+    (
+        1,
+        64,
+        "# comment\n\nv0 read 0x0\nvm slot 32 0 16 0\nv1 read 0x0\n",
+        "4 v0 mmio\n5 vm refused bad-id\n6 v1 mmio\n",
+    ),
+    (1, 64, "vm slot 31 0 16 1024\n", "2 vm refused too-large\n"),
+    (
+        1,
+        64,
+        "vm slot 0 0 16 0\nvm slot 1 8 16 64\nvm slot 2 100 16 0\nvm slot 3 100 2000 0\nvm slot 40 100 16 64\n",
+        "2 vm done\n3 vm refused overlap\n4 vm refused host-overlap\n5 vm refused too-large\n6 vm refused bad-id\n",
+    ),
+    (
+        1,
+        64,
+        "vm slot 0 0 16 0\nvm slot 5 100 16 64\nv0 write 0x64000 7\nv1 read 0x64000\nv0 read 0x0\n",
+        "2 vm done\n3 vm done\n4 v0 frame 64 value 0\n5 v1 frame 64 value 7\n6 v0 frame 0 value 0\n",
+    ),
+];
+
 #[test]
 fn prints_each_answer(rt: HostRuntime) -> Result<(), Fail> {
-    for (header, lines, text) in [
-        (H, "", ""),
-        (
-            H,
-            ONE_WRITE,
-            "2 vm done\n3 v0 frame 1 value 0\n4 v1 frame 1 value 7\n",
-        ),
-        (
-            TWO_WORDS,
-            "vm slot 0 0 16 0\nv0 write 0xf008 3\nv0 add 0xf000 1\nv0 read 0xf008\n",
-            "2 vm done\n3 v0 frame 15 value 0\n4 v0 frame 15 value 0\n5 v0 frame 15 value 3\n",
-        ),
-        (
-            H,
-            "vm slot 0 0 16 0\nv0 read 0x10000\n",
-            "2 vm done\n3 v0 mmio\n",
-        ),
-        (
-            H,
-            "vm slot 0 68719476720 16 0\nv0 read 0xfffffffff000\n",
-            "2 vm done\n3 v0 frame 15 value 0\n",
-        ),
-        (
-            H,
-            "vm slot 0 0 16 0 ro\nv0 write 0x1000 1\nv0 read 0x1000\n",
-            "2 vm done\n3 v0 mmio\n4 v0 frame 1 value 0\n",
-        ),
-        (
-            H,
-            "vm slot 0 0 16 0\nv0 write 0x0 0xffffffffffffffff\nv0 add 0x0 2\nv0 read 0x0\n",
-            "2 vm done\n3 v0 frame 0 value 0\n4 v0 frame 0 value 18446744073709551615\n5 v0 frame 0 value 1\n",
-        ),
-        (
-            H,
-            "# comment\n\nv0 read 0x0\nvm slot 32 0 16 0\nv1 read 0x0\n",
-            "4 v0 mmio\n5 vm refused bad-id\n6 v1 mmio\n",
-        ),
-        (H, "vm slot 31 0 16 1024\n", "2 vm refused too-large\n"),
-        (
-            H,
-            "vm slot 0 0 16 0\nvm slot 1 8 16 64\nvm slot 2 100 16 0\nvm slot 3 100 2000 0\nvm slot 40 100 16 64\n",
-            "2 vm done\n3 vm refused overlap\n4 vm refused host-overlap\n5 vm refused too-large\n6 vm refused bad-id\n",
-        ),
-        (
-            H,
-            "vm slot 0 0 16 0\nvm slot 5 100 16 64\nv0 write 0x64000 7\nv1 read 0x64000\nv0 read 0x0\n",
-            "2 vm done\n3 vm done\n4 v0 frame 64 value 0\n5 v1 frame 64 value 7\n6 v0 frame 0 value 0\n",
-        ),
-    ] {
-        let (status, out) = run_on(
-            &rt,
-            rt.alloc(),
-            &["tdpmmu", "replay"],
-            header,
-            lines,
-            &[],
-            &[],
-        )?;
-        assert_eq!(rt; status, Status::Done, "on {lines}");
-        assert_eq!(rt; out.bytes(), text.as_bytes(), "on {lines}");
+    for (words, pool, lines, text) in ANSWERS {
+        for cache in [64, 1] {
+            let alloc = rt.alloc();
+            let header = format!(in alloc;
+                "tdp 1 vcpus 2 workers 1 pages 1024 frames 1040 words {words} pool {pool} cache {cache} manual 0 hosts 0\n"
+            )?;
+            let (status, out) = run_on(
+                &rt,
+                alloc,
+                &["tdpmmu", "replay"],
+                &header,
+                lines,
+                &[],
+                &[],
+            )?;
+            assert_eq!(rt; status, Status::Done, "on {lines}");
+            assert_eq!(rt; out.bytes(), text.as_bytes(), "on {lines}");
+        }
     }
     Ok(())
 }
@@ -132,6 +150,8 @@ fn checks_a_trace(rt: HostRuntime) -> Result<(), Fail> {
             "vm slot 0 0 262144 0\nv0 read 0x0\n",
             "ok 2 need 518\n",
         ),
+        (GENERATED, "vm slot 0 0 4096 0\n", "ok 1 need 14\n"),
+        (H, "vm slot 0 0 16 0\nv0 read 0x0\n", "ok 2 need 7\n"),
     ] {
         let (status, out) = run_on(
             &rt,
@@ -148,53 +168,56 @@ fn checks_a_trace(rt: HostRuntime) -> Result<(), Fail> {
     Ok(())
 }
 
+// The header, the lines, the first refused line and why, and what `replay` prints.
+const REFUSED: [(&str, &str, u32, Reason, &str); 7] = [
+    ("", "", 1, Reason::Header, "refused 1 header\n"),
+    (
+        H,
+        "vm slot 0 0 16 0\nv0 write 0x1000 7\nv1 read 0x1000",
+        4,
+        Reason::Cut,
+        "refused 4 cut\n",
+    ),
+    (
+        H,
+        "vm slot 0 0 16 0\nv2 read 0x0\n",
+        3,
+        Reason::Actor,
+        "refused 3 actor\n",
+    ),
+    (
+        H,
+        "vm slot 0 0 16 0\nv0 read 0x1004\n",
+        3,
+        Reason::Number,
+        "refused 3 number\n",
+    ),
+    (
+        H,
+        "vm slot 0 0 16 0\nv0 get 0\n",
+        3,
+        Reason::Word,
+        "refused 3 word\n",
+    ),
+    (
+        H,
+        "vm slot 3 0 16 0\nvm slot 4 16 16 64\nvm slot 0x3 32 16 128\n",
+        4,
+        Reason::Number,
+        "refused 4 number\n",
+    ),
+    (
+        H,
+        "vm slot 40 0 16 0\nv0 read 0x0\nvm slot 40 0 16 0\n",
+        4,
+        Reason::Number,
+        "refused 4 number\n",
+    ),
+];
+
 #[test]
 fn refuses_each_reason(rt: HostRuntime) -> Result<(), Fail> {
-    for (header, lines, line, reason, text) in [
-        ("", "", 1, Reason::Header, "refused 1 header\n"),
-        (
-            H,
-            "vm slot 0 0 16 0\nv0 write 0x1000 7\nv1 read 0x1000",
-            4,
-            Reason::Cut,
-            "refused 4 cut\n",
-        ),
-        (
-            H,
-            "vm slot 0 0 16 0\nv2 read 0x0\n",
-            3,
-            Reason::Actor,
-            "refused 3 actor\n",
-        ),
-        (
-            H,
-            "vm slot 0 0 16 0\nv0 read 0x1004\n",
-            3,
-            Reason::Number,
-            "refused 3 number\n",
-        ),
-        (
-            H,
-            "vm slot 0 0 16 0\nv0 get 0\n",
-            3,
-            Reason::Word,
-            "refused 3 word\n",
-        ),
-        (
-            H,
-            "vm slot 3 0 16 0\nvm slot 4 16 16 64\nvm slot 0x3 32 16 128\n",
-            4,
-            Reason::Number,
-            "refused 4 number\n",
-        ),
-        (
-            H,
-            "vm slot 40 0 16 0\nv0 read 0x0\nvm slot 40 0 16 0\n",
-            4,
-            Reason::Number,
-            "refused 4 number\n",
-        ),
-    ] {
+    for (header, lines, line, reason, text) in REFUSED {
         let (status, out) = run_on(
             &rt,
             rt.alloc(),
@@ -238,62 +261,5 @@ fn says_which_end_failed(rt: HostRuntime) -> Result<(), Fail> {
     let (status, out) = run_on(&rt, rt.alloc(), &replay, H, ONE_WRITE, &[], &[0])?;
     assert_eq!(rt; status, Status::WriteFault);
     assert_eq!(rt; out.bytes().len(), 0);
-    Ok(())
-}
-
-// A whole trace of a text of the table, which begins with the header's sizes.
-fn whole_trace(alloc: Global, text: &str) -> Result<String, Fail> {
-    let mut whole = String::from_str(alloc, "tdp 1 ")?;
-    if let Some((sizes, lines)) = text.split_once("\n") {
-        whole.push_str(sizes)?;
-        whole.push_str(" pool 64 cache 64 manual 0 hosts 0\n")?;
-        whole.push_str(lines)?;
-    }
-    Ok(whole)
-}
-
-// What flat guest memory answers the trace, as text.
-fn plain_answers(alloc: Global, trace: &Trace) -> Result<String, Fail>
-    requires { AreLinesOf trace.now.header trace.now.lines }
-{
-    let mut plain = Plain::new(alloc, trace)?;
-    let mut text = String::new(alloc);
-    for line in trace.lines.as_slice() {
-        let answer = plain.line(alloc, line)?;
-        text.push_str(&answer_line(alloc, line.number, line.actor, &answer)?)?;
-    }
-    Ok(text)
-}
-
-// What flat guest memory answers the trace that the text is, if it is one.
-fn flat_answers(alloc: Global, whole: &str) -> Result<Option<String>, Fail> {
-    let mut input = Vec::new(alloc);
-    input.extend_from_slice(whole.as_bytes())?;
-    let mut src = MemSource::new(input, Vec::new(alloc));
-    match read_trace(alloc, &mut src)? {
-        Read::Trace(trace) => Ok(Some(plain_answers(alloc, &trace)?)),
-        _ => Ok(None),
-    }
-}
-
-// The machine answers each trace of the table as flat guest memory does.
-#[test]
-fn answers_as_flat_memory(rt: HostRuntime) -> Result<(), Fail> {
-    let mut rest = TRACES;
-    for _ in 0..COUNT {
-        let Some((text, more)) = rest.split_once("--\n") else {
-            break;
-        };
-        let whole = whole_trace(rt.alloc(), text)?;
-        let answers = flat_answers(rt.alloc(), &whole)?;
-        let (status, out) = run_on(&rt, rt.alloc(), &["tdpmmu", "replay"], "", &whole, &[], &[])?;
-        assert_eq!(rt; status, Status::Done, "on {whole}");
-        assert!(rt; answers.is_some(), "on {whole}");
-        if let Some(answers) = answers {
-            assert_eq!(rt; out.bytes(), answers.as_bytes(), "on {whole}");
-        }
-        rest = more;
-    }
-    assert_eq!(rt; rest, "");
     Ok(())
 }

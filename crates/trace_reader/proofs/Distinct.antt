@@ -1,7 +1,7 @@
 -- The lines that are read set slots at IDs that differ.
 use Rattle.std.proofs.Common.{◌≡◌, ◌+◌, ◌==◌, ℕ, List, [], ◌∷◌, length, refl, subst}
 use Rattle.std.proofs.lemmas.Bool.{eq-eqb, ne_eqb}
-use Rattle.std.specs.List.{AllByRecursion}
+use Rattle.std.specs.List.{AllByRecursion, IsDistinct}
 use Rattle.std.specs.Prelude.{Bool, true, false, ◌||◌, if◌then◌else◌, Result, Ok, Err}
 use Rattle.std.specs.declared.option.Option.{Option}
 use Rattle.std.specs.declared.option.Option.TheVariants.{Some, None}
@@ -11,7 +11,7 @@ use Rattle.core_views.specs.declared.trace.Command.{Command}
 use Rattle.core_views.specs.declared.trace.Command.TheVariants.{Access, SetSlot}
 use Rattle.core_views.specs.declared.trace.Header.{Header}
 use Rattle.core_views.specs.declared.trace.Line.{Line}
-use Rattle.core_views.specs.Traces.{AreDistinct, or_slot_id, slot_ids}
+use Rattle.core_views.specs.Traces.{or_slot_id, slot_ids}
 use Rattle.trace_reader.specs.declared.reason.Reason.{Reason}
 use Rattle.trace_reader.specs.Forms.{◌>>=◌, Said, is_empty, said}
 use Rattle.trace_reader.specs.Grammar.{SaysLine}
@@ -57,6 +57,10 @@ line_first h seen line = by (fault_of line)
 abbrev pub HasNone : ℕ → List ℕ → Type 0
 HasNone id ids = AllByRecursion (λ j. (id == j) ≡ false) ids
 
+-- No ID is there twice.
+abbrev AreDistinct : List ℕ → Type 0
+AreDistinct = IsDistinct (λ i j. i == j)
+
 -- The lines set slots at IDs that differ, and none of them was seen.
 pub record AreApart (seen : ℕ → Bool) (ids : List ℕ) : Type 0 where
   pub distinct : AreDistinct ids
@@ -78,6 +82,7 @@ apart seen i j e f = ne_eqb i j (λ same. let g : seen j ≡ true = subst (λ k.
 
 -- One more line, in front.
 in_front : (seen : ℕ → Bool) (command : Command) (ids : List ℕ) → IsNew seen command → AreApart (seen_with seen command) ids → AreApart seen (or_slot_id command ids)
+unfolding IsDistinct
 in_front seen (Access gfn word op) ids new rest = record { distinct = rest.distinct; unseen = λ id e. rest.unseen id (or_first (seen id) false e) }
 in_front seen (SetSlot i slot) ids new rest = record {
   distinct = (rest.unseen i (or_second (seen i) (i == i) (eq-eqb i i refl)), rest.distinct);
@@ -94,6 +99,7 @@ onto_new n seen (Ok (Some line)) rest first all = by (rest (seen_with seen line.
     by (Ok lines) more = in_front seen line.command (slot_ids lines) first more
 
 none : (seen : ℕ → Bool) → AreApart seen []
+unfolding IsDistinct
 none seen = record { distinct = tt; unseen = λ id e. tt }
 
 lines_new : (h : Header) (n at : ℕ) (seen : ℕ → Bool) (parts : List (List ℕ)) → AreNew seen (lines_of h n at seen parts)

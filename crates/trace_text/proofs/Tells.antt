@@ -9,7 +9,7 @@ use Rattle.core_views.specs.Text.{actor_name, answer_text, line_text}
 use Rattle.core_views.specs.declared.actor.Actor.{Actor}
 use Rattle.core_views.specs.declared.actor.Actor.TheVariants.{Vcpu, Host, Manager, Worker}
 use Rattle.core_views.specs.declared.answer.Answer.{Answer}
-use Rattle.core_views.specs.declared.answer.Answer.TheVariants.{Reached, Mmio, Done, Refused}
+use Rattle.core_views.specs.declared.answer.Answer.TheVariants.{Reached, Mmio, HostFault, Starved, Done, Refused}
 use Rattle.core_views.specs.declared.answer.Refusal.{Refusal}
 use Rattle.core_views.specs.declared.answer.Refusal.TheVariants.{BadId, TooLarge, Missing, Logged, NoLog, Resize, Fixed, Overlap, HostOverlap}
 use Rattle.trace_text.specs.Laws.{IsPrintable, AreNumbers, LinesTell}
@@ -119,19 +119,39 @@ answer (Reached f v) (Reached g w) xb yb e =
     let q = number v w 10 10 [] [] xb.1 yb.1 (omega arith) (omega arith) (ap (drop 6) p.1) in
     rw (p.0, q.0) refl
 answer Mmio Mmio xb yb e = refl
+answer HostFault HostFault xb yb e = refl
+answer Starved Starved xb yb e = refl
 answer Done Done xb yb e = refl
 answer (Refused r) (Refused s) xb yb e = ap Refused (sym (letter_tells r) ∙ ap (λ (l : List ℕ). by_letter (get_or l 8 0)) e ∙ letter_tells s)
 answer (Reached f v) Mmio xb yb e = absurd (differ 102 109 (omega arith) (ap (λ (l : List ℕ). get_or l 0 0) e))
+answer (Reached f v) HostFault xb yb e = absurd (differ 102 104 (omega arith) (ap (λ (l : List ℕ). get_or l 0 0) e))
+answer (Reached f v) Starved xb yb e = absurd (differ 102 115 (omega arith) (ap (λ (l : List ℕ). get_or l 0 0) e))
 answer (Reached f v) Done xb yb e = absurd (differ 102 100 (omega arith) (ap (λ (l : List ℕ). get_or l 0 0) e))
 answer (Reached f v) (Refused r) xb yb e = absurd (differ 102 114 (omega arith) (ap (λ (l : List ℕ). get_or l 0 0) e))
 answer Mmio (Reached f v) xb yb e = absurd (differ 109 102 (omega arith) (ap (λ (l : List ℕ). get_or l 0 0) e))
+answer Mmio HostFault xb yb e = absurd (differ 109 104 (omega arith) (ap (λ (l : List ℕ). get_or l 0 0) e))
+answer Mmio Starved xb yb e = absurd (differ 109 115 (omega arith) (ap (λ (l : List ℕ). get_or l 0 0) e))
 answer Mmio Done xb yb e = absurd (differ 109 100 (omega arith) (ap (λ (l : List ℕ). get_or l 0 0) e))
 answer Mmio (Refused r) xb yb e = absurd (differ 109 114 (omega arith) (ap (λ (l : List ℕ). get_or l 0 0) e))
+answer HostFault (Reached f v) xb yb e = absurd (differ 104 102 (omega arith) (ap (λ (l : List ℕ). get_or l 0 0) e))
+answer HostFault Mmio xb yb e = absurd (differ 104 109 (omega arith) (ap (λ (l : List ℕ). get_or l 0 0) e))
+answer HostFault Starved xb yb e = absurd (differ 104 115 (omega arith) (ap (λ (l : List ℕ). get_or l 0 0) e))
+answer HostFault Done xb yb e = absurd (differ 104 100 (omega arith) (ap (λ (l : List ℕ). get_or l 0 0) e))
+answer HostFault (Refused r) xb yb e = absurd (differ 104 114 (omega arith) (ap (λ (l : List ℕ). get_or l 0 0) e))
+answer Starved (Reached f v) xb yb e = absurd (differ 115 102 (omega arith) (ap (λ (l : List ℕ). get_or l 0 0) e))
+answer Starved Mmio xb yb e = absurd (differ 115 109 (omega arith) (ap (λ (l : List ℕ). get_or l 0 0) e))
+answer Starved HostFault xb yb e = absurd (differ 115 104 (omega arith) (ap (λ (l : List ℕ). get_or l 0 0) e))
+answer Starved Done xb yb e = absurd (differ 115 100 (omega arith) (ap (λ (l : List ℕ). get_or l 0 0) e))
+answer Starved (Refused r) xb yb e = absurd (differ 115 114 (omega arith) (ap (λ (l : List ℕ). get_or l 0 0) e))
 answer Done (Reached f v) xb yb e = absurd (differ 100 102 (omega arith) (ap (λ (l : List ℕ). get_or l 0 0) e))
 answer Done Mmio xb yb e = absurd (differ 100 109 (omega arith) (ap (λ (l : List ℕ). get_or l 0 0) e))
+answer Done HostFault xb yb e = absurd (differ 100 104 (omega arith) (ap (λ (l : List ℕ). get_or l 0 0) e))
+answer Done Starved xb yb e = absurd (differ 100 115 (omega arith) (ap (λ (l : List ℕ). get_or l 0 0) e))
 answer Done (Refused r) xb yb e = absurd (differ 100 114 (omega arith) (ap (λ (l : List ℕ). get_or l 0 0) e))
 answer (Refused r) (Reached f v) xb yb e = absurd (differ 114 102 (omega arith) (ap (λ (l : List ℕ). get_or l 0 0) e))
 answer (Refused r) Mmio xb yb e = absurd (differ 114 109 (omega arith) (ap (λ (l : List ℕ). get_or l 0 0) e))
+answer (Refused r) HostFault xb yb e = absurd (differ 114 104 (omega arith) (ap (λ (l : List ℕ). get_or l 0 0) e))
+answer (Refused r) Starved xb yb e = absurd (differ 114 115 (omega arith) (ap (λ (l : List ℕ). get_or l 0 0) e))
 answer (Refused r) Done xb yb e = absurd (differ 114 100 (omega arith) (ap (λ (l : List ℕ). get_or l 0 0) e))
 
 pub tells : LinesTell

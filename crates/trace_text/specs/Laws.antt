@@ -4,7 +4,7 @@ use Rattle.core_views.specs.Text.{line_text}
 use Rattle.core_views.specs.declared.actor.Actor.{Actor}
 use Rattle.core_views.specs.declared.actor.Actor.TheVariants.{Vcpu, Host, Manager, Worker}
 use Rattle.core_views.specs.declared.answer.Answer.{Answer}
-use Rattle.core_views.specs.declared.answer.Answer.TheVariants.{Reached, Mmio, Done, Refused}
+use Rattle.core_views.specs.declared.answer.Answer.TheVariants.{Reached, Mmio, HostFault, Starved, Done, Refused}
 
 -- The actor's index is a number of 8 bits.
 abbrev pub IsPrintable : Actor → Type 0
@@ -17,6 +17,8 @@ IsPrintable (Worker n) = n < 2 ^ 8
 abbrev pub AreNumbers : Answer → Type 0
 AreNumbers (Reached frame value) = (frame < 2 ^ 64) × (value < 2 ^ 64)
 AreNumbers Mmio = Unit {0}
+AreNumbers HostFault = Unit {0}
+AreNumbers Starved = Unit {0}
 AreNumbers Done = Unit {0}
 AreNumbers (Refused refusal) = Unit {0}
 

@@ -14,6 +14,19 @@ fn prints_one_line(rt: HostRuntime) -> Result<(), Fail> {
 }
 
 #[test]
+fn prints_each_exit(rt: HostRuntime) -> Result<(), Fail> {
+    for (answer, printed) in [
+        (Answer::Mmio, "3 v0 mmio\n"),
+        (Answer::HostFault, "3 v0 hostfault\n"),
+        (Answer::Starved, "3 v0 starved\n"),
+    ] {
+        let line = answer_line(rt.alloc(), 3, Actor::Vcpu(0), &answer)?;
+        assert_eq!(rt; line.as_str(), printed);
+    }
+    Ok(())
+}
+
+#[test]
 fn prints_line_after_line(rt: HostRuntime) -> Result<(), Fail> {
     let alloc = rt.alloc();
     let mut lines = Vec::new(alloc);

@@ -20,11 +20,11 @@ use Rattle.mmu_core.specs.declared.part_step.PartStep.{PartStep}
 use Rattle.mmu_core.specs.declared.part_step.PartStep.TheVariants as part
 use Rattle.mmu_core.specs.Enabled.{mmu}
 use Rattle.mmu_core.specs.Laws.{IsSound}
-use Rattle.mmu_core.specs.Machine.{World, answered, effect, hand_in}
-use Rattle.mmu_core.specs.PartSteps.{PartNeeds, all_but, own_index, part_kind, part_task, works}
+use Rattle.mmu_core.specs.Machine.{World, effect, hand_in}
+use Rattle.mmu_core.specs.PartSteps.{all_but, own_index, part_kind, part_task, works}
 use Rattle.mmu_core.specs.StatesPart.{stay_bits}
 use Rattle.mmu_core.specs.Tasks.{kind_of_task}
-use Rattle.mmu_core.specs.View.{View, answer_in, upd, word_in, words_after}
+use Rattle.mmu_core.specs.View.{View, upd, word_in, words_after}
 use Rattle.mmu_core.specs.Worlds.{Reachable}
 use Rattle.mmu_core.proofs.Columns.{upd_same}
 use Rattle.mmu_core.proofs.Starts.{reached_good}
@@ -33,7 +33,8 @@ use Rattle.mmu_core.proofs.Worlds.{good_step}
 use Rattle.step_seats.specs.Moves.{Tells, step_by}
 use Rattle.step_seats.specs.PartTurns.{HasHand}
 use Rattle.vcpu_tlb.specs.declared.guest.Entered.TheVariants.{In, Flushed}
-use Rattle.vcpu_tlb.specs.Entering.{answer_to, asks_flush, state_in}
+use Rattle.mmu_core.specs.Cached.{asks_flush}
+use Rattle.vcpu_tlb.specs.Entering.{answer_to, state_in}
 
 -- The state word of an actor's hand is the one at its place.
 state_is : (z : Sizes) (w : World Held) (a : ℕ) (h : Held) → IsSound z w → a < length w.hands → hand_in mmu w a ≡ h → state_in h w ≡ word_in z w area.State a

@@ -1,21 +1,17 @@
--- What a virtual processor finds as it enters the guest, and what becomes of its cache (vcpu-requests.rst, KVM_REQ_TLB_FLUSH).
-use Rattle.std.specs.Prelude.{◌≡◌, ℕ, Bool, [], if◌then◌else◌}
+-- What a virtual processor finds as it enters the guest, and what becomes of its cached translations (vcpu-requests.rst, KVM_REQ_TLB_FLUSH).
+use Rattle.std.specs.Prelude.{◌≡◌, ℕ, [], if◌then◌else◌}
 use Rattle.circular_buffer.specs.Buffer.{Buffer, buffer}
 use Rattle.core_views.specs.Held.{Held}
 use Rattle.spte_words.specs.declared.area.Area.TheVariants as area
-use Rattle.spte_words.specs.Bits.{has_bit}
 use Rattle.mmu_core.specs.declared.part_step.PartStep.TheVariants as part
+use Rattle.mmu_core.specs.Cached.{asks_flush}
 use Rattle.mmu_core.specs.Machine.{World}
 use Rattle.mmu_core.specs.PartSteps.{own_index}
 use Rattle.mmu_core.specs.View.{word_in}
 use Rattle.step_seats.specs.PartTurns.{MadePart, Told}
-use Rattle.vcpu_tlb.specs.declared.cache.Translation.{Translation}
+use Rattle.core_views.specs.declared.cache.Translation.{Translation}
 use Rattle.vcpu_tlb.specs.declared.guest.Entered.{Entered}
 use Rattle.vcpu_tlb.specs.declared.guest.Entered.TheVariants.{In, Flushed}
-
--- Bit 2 of a state word: a flush is asked for.
-abbrev pub asks_flush : ℕ → Bool
-asks_flush state = has_bit 2 state
 
 -- the answer of who found this in its state word
 abbrev pub answer_to : ℕ → Entered
@@ -27,10 +23,10 @@ pub record Enters (note actor : ℕ) (answer : Entered) (before after : Held) (t
   pub made : MadePart part.Enter note found actor before after told tells
   pub answers : answer ≡ answer_to found
 
--- the cache behind the answer: as it was, or with nothing in it
-abbrev pub cache_behind : Entered → Buffer Translation → Buffer Translation
-cache_behind In cache = cache
-cache_behind Flushed cache = buffer [] cache.capacity
+-- what is cached behind the answer: what was, or nothing
+abbrev pub cached_behind : Entered → Buffer Translation → Buffer Translation
+cached_behind In cached = cached
+cached_behind Flushed cached = buffer [] cached.capacity
 
 -- the state word of the hand's actor
 abbrev pub state_in : Held → World Held → ℕ

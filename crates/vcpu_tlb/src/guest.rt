@@ -1,13 +1,13 @@
 ghost use Rattle.std.specs.Prelude.{◌≡◌, ◌+◌, ◌%◌, ◌<◌, ◌==◌, not, IfSome};
 ghost use Rattle.core_views.specs.declared.topics.Stay.TheVariants as Stay;
+ghost use Rattle.mmu_core.specs.Cached.{asks_flush};
 ghost use Rattle.mmu_core.specs.PartRests.{MayMake};
 ghost use Rattle.mmu_core.specs.TopicSteps.{begun};
 ghost use Rattle.mmu_core.specs.declared.part_step.PartStep.TheVariants.{Enter, Leave, Pause};
 ghost use Rattle.step_seats.specs.Moves.{KeepsRoom};
 ghost use Rattle.step_seats.specs.PartTurns.{MadePart, MakesPart};
-ghost use Rattle.vcpu_tlb.specs.Entering.{Enters, answer_to, asks_flush, cache_behind, pause_in, state_in};
+ghost use Rattle.vcpu_tlb.specs.Entering.{Enters, answer_to, cached_behind, pause_in, state_in};
 
-use crate::Cache;
 use mmu_core::PartStep;
 use step_seats::{Stepper, make_part};
 
@@ -23,29 +23,26 @@ pub enum Entered {
     Flushed,
 }
 
-impl Cache {
-    /// Enters the guest, by one swap of the own state word for 3 (bit 0 in the
-    /// guest, bit 1 in a section), and empties the cache where bit 2 was found
-    /// there: a flush was asked for (KVM's vcpu-requests.rst,
-    /// `KVM_REQ_TLB_FLUSH`). It never waits and takes no memory.
-    pub fn enter<S: Stepper>(&mut self, s: &mut S, note: u64) -> Entered
-        requires may { MayMake Enter note (S.handful s.old).core }
-        requires reserved { 0 < (S.handful s.old).room }
-        ensures step { Enters note (S.actor s.old) result (S.handful s.old).core (S.handful s.new).core (record { world = S.told s.old; steps = S.steps s.old }) (record { world = S.told s.new; steps = S.steps s.new }) }
-        ensures cache { self.new ≡ cache_behind result self.old }
-        ensures stay { (S.handful s.new).core.topics ≡ begun Stay.Guest (S.handful s.old).core.topics }
-        ensures asked { IfSome (S.told s.old) (λ w. result ≡ answer_to (state_in (S.handful s.old).core w)) }
-        ensures state { IfSome (S.told s.old) (λ w. IfSome (S.told s.new) (λ v. state_in (S.handful s.new).core v ≡ 3)) }
-        ensures room { KeepsRoom (S.handful s.old) (S.handful s.new) }
-        ensures same { (S.actor s.new ≡ S.actor s.old) × (S.frame s.new ≡ S.frame s.old) }
-    {
-        let state = make_part(s, PartStep::Enter, note);
-        if state / FLUSH % 2 == 1 {
-            self.clear();
-            Entered::Flushed
-        } else {
-            Entered::In
-        }
+/// Enters the guest, by one swap of the own state word for 3 (bit 0 in the
+/// guest, bit 1 in a section). Where bit 2 was found there a flush was asked for,
+/// and nothing is cached any more (KVM's vcpu-requests.rst,
+/// `KVM_REQ_TLB_FLUSH`). It never waits and takes no memory.
+pub fn enter<S: Stepper>(s: &mut S, note: u64) -> Entered
+    requires may { MayMake Enter note (S.handful s.old).core }
+    requires reserved { 0 < (S.handful s.old).room }
+    ensures step { Enters note (S.actor s.old) result (S.handful s.old).core (S.handful s.new).core (record { world = S.told s.old; steps = S.steps s.old }) (record { world = S.told s.new; steps = S.steps s.new }) }
+    ensures cached { (S.handful s.new).core.cached ≡ cached_behind result (S.handful s.old).core.cached }
+    ensures stay { (S.handful s.new).core.topics ≡ begun Stay.Guest (S.handful s.old).core.topics }
+    ensures asked { IfSome (S.told s.old) (λ w. result ≡ answer_to (state_in (S.handful s.old).core w)) }
+    ensures state { IfSome (S.told s.old) (λ w. IfSome (S.told s.new) (λ v. state_in (S.handful s.new).core v ≡ 3)) }
+    ensures room { KeepsRoom (S.handful s.old) (S.handful s.new) }
+    ensures same { (S.actor s.new ≡ S.actor s.old) × (S.frame s.new ≡ S.frame s.old) }
+{
+    let state = make_part(s, PartStep::Enter, note);
+    if state / FLUSH % 2 == 1 {
+        Entered::Flushed
+    } else {
+        Entered::In
     }
 }
 
@@ -55,6 +52,7 @@ pub fn paused<S: Stepper>(s: &mut S, note: u64) -> bool
     requires may { MayMake Pause note (S.handful s.old).core }
     requires reserved { 0 < (S.handful s.old).room }
     ensures step { MadePart Pause note (S.handful s.new).core.topics.pause (S.actor s.old) (S.handful s.old).core (S.handful s.new).core (record { world = S.told s.old; steps = S.steps s.old }) (record { world = S.told s.new; steps = S.steps s.new }) }
+    ensures cached { (S.handful s.new).core.cached ≡ (S.handful s.old).core.cached }
     ensures pause { (S.handful s.new).core.topics ≡ record (S.handful s.old).core.topics { pause = (S.handful s.new).core.topics.pause } }
     ensures answer { result ≡ not ((S.handful s.new).core.topics.pause == 0) }
     ensures told { IfSome (S.told s.old) (λ w. result ≡ not (pause_in (S.handful s.old).core w == 0)) }
@@ -71,6 +69,7 @@ pub fn leave<S: Stepper>(s: &mut S, note: u64)
     requires may { MayMake Leave note (S.handful s.old).core }
     requires reserved { 0 < (S.handful s.old).room }
     ensures step { MakesPart Leave note (S.actor s.old) (S.handful s.old).core (S.handful s.new).core (record { world = S.told s.old; steps = S.steps s.old }) (record { world = S.told s.new; steps = S.steps s.new }) }
+    ensures cached { (S.handful s.new).core.cached ≡ (S.handful s.old).core.cached }
     ensures stay { (S.handful s.new).core.topics ≡ begun Stay.Outside (S.handful s.old).core.topics }
     ensures clear { IfSome (S.told s.new) (λ v. state_in (S.handful s.new).core v % 4 ≡ 0) }
     ensures asked { IfSome (S.told s.old) (λ w. IfSome (S.told s.new) (λ v. asks_flush (state_in (S.handful s.new).core v) ≡ asks_flush (state_in (S.handful s.old).core w))) }

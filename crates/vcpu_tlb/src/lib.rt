@@ -1,12 +1,10 @@
-//! What a virtual processor caches of the second-stage table: the leaves that
-//! its walks met, the newest first.
+//! How a virtual processor goes into the guest and out of it, and what becomes of
+//! its cached translations.
 #![tactic(auto)]
 
-mod cache;
 mod guest;
 
-pub use cache::{Cache, Translation};
-pub use guest::{Entered, leave, paused};
+pub use guest::{Entered, enter, leave, paused};
 
 #[cfg(test)]
 mod tests;

@@ -1,13 +1,14 @@
 use Rattle.std.proofs.Common.{refl}
 use Rattle.core_views.specs.Flat.{first_flat}
 use Rattle.core_views.proofs.AloneIsFlat.{goes_as_flat}
+use Rattle.core_views.proofs.AloneIsWhole.{stands_whole}
 use Rattle.core_views.proofs.laws.alone_is_flat.Goals as goal
 
 pub returns-clause-flat : goal.returns-clause-flat
-returns-clause-flat c z lines h lawful stands = (goes_as_flat z lines h first_flat (λ i. refl) lawful stands).shown
+returns-clause-flat c z lines h lawful stands fed = (goes_as_flat z lines h first_flat (λ i. refl) lawful stands fed).shown
 
 pub returns-clause-answers : goal.returns-clause-answers
-returns-clause-answers c z lines h lawful stands = let is = goes_as_flat z lines h first_flat (λ i. refl) lawful stands in (is.answers, is.prints)
+returns-clause-answers c z lines h lawful stands fed = let is = goes_as_flat z lines h first_flat (λ i. refl) lawful stands fed in (is.answers, is.prints)
 
 pub returns-clause-whole : goal.returns-clause-whole
-returns-clause-whole c z lines h lawful stands = (goes_as_flat z lines h first_flat (λ i. refl) lawful stands).whole
+returns-clause-whole c lines h stands = stands_whole lines h stands

@@ -14,7 +14,7 @@ use Rattle.core_views.specs.Laws.{example, example_sizes}
 use Rattle.core_views.specs.Text.{answers_of, line_text, lines_text}
 use Rattle.core_views.proofs.Texts.{lines_text_append}
 use Rattle.core_views.proofs.AloneIsLawful.{one_by_one_lawful}
-use Rattle.core_views.proofs.AloneIsWhole.{one_by_one_whole}
+use Rattle.core_views.proofs.AloneIsWhole.{stands_whole}
 use Rattle.core_views.proofs.StandsAlone.{one_by_one_stands}
 use Rattle.core_views.proofs.laws.flat_history_is_lawful.Goals as goal
 
@@ -22,7 +22,7 @@ pub returns-clause-lawful : goal.returns-clause-lawful
 returns-clause-lawful c h lines = one_by_one_lawful h lines first_flat (λ i. refl)
 
 pub returns-clause-whole : goal.returns-clause-whole
-returns-clause-whole c h lines = one_by_one_whole h lines first_facts
+returns-clause-whole c h lines = stands_whole lines (one_by_one h lines first_facts) (one_by_one_stands h lines first_facts)
 
 pub returns-clause-alone : goal.returns-clause-alone
 returns-clause-alone c h lines = one_by_one_stands h lines first_facts

@@ -1,6 +1,7 @@
 use Rattle.mmu_core.proofs.FaultFalls.{fault_falls, fault_is_bounded}
 use Rattle.mmu_core.proofs.FaultKnown.{fault_known, parts_answer}
 use Rattle.mmu_core.proofs.FaultNeeds.{fault_needs}
+use Rattle.mmu_core.proofs.FaultWaits.{waits_see_another}
 use Rattle.mmu_core.proofs.laws.a_fault_goes_on.Goals as goal
 
 pub returns-clause-needs : goal.returns-clause-needs
@@ -17,3 +18,6 @@ returns-clause-falls c = fault_falls
 
 pub returns-clause-bounded : goal.returns-clause-bounded
 returns-clause-bounded c = fault_is_bounded
+
+pub returns-clause-waits : goal.returns-clause-waits
+returns-clause-waits c = waits_see_another

@@ -1,4 +1,5 @@
 use Rattle.mmu_core.proofs.EveryHistory.{every_history}
+use Rattle.mmu_core.proofs.StarvedScan.{starved_lines_scan}
 use Rattle.mmu_core.proofs.Starts.{start_good}
 use Rattle.mmu_core.proofs.Worlds.{good_run}
 use Rattle.mmu_core.proofs.laws.every_list_of_steps.Goals as goal
@@ -8,3 +9,6 @@ returns-clause-sound c z lines w ss start legal = good_run z w ss (start_good z 
 
 pub returns-clause-lawful : goal.returns-clause-lawful
 returns-clause-lawful c = every_history
+
+pub returns-clause-starved : goal.returns-clause-starved
+returns-clause-starved c = starved_lines_scan

@@ -1,7 +1,7 @@
 use Rattle.mmu_core.specs.Enabled.{mmu}
 use Rattle.mmu_core.specs.Machine.{run}
 use Rattle.mmu_core.proofs.CanStep.{may_step}
-use Rattle.mmu_core.proofs.ExampleRun.{example_prints, example_runs}
+use Rattle.mmu_core.proofs.ExampleRun.{example_prints, example_races, example_runs, example_starves}
 use Rattle.mmu_core.proofs.StartViews.{a_start}
 use Rattle.mmu_core.proofs.Starts.{start_good}
 use Rattle.mmu_core.proofs.Worlds.{good_run}
@@ -18,3 +18,9 @@ returns-clause-example c = example_runs
 
 pub returns-clause-prints : goal.returns-clause-prints
 returns-clause-prints c = example_prints
+
+pub returns-clause-starves : goal.returns-clause-starves
+returns-clause-starves c = example_starves
+
+pub returns-clause-races : goal.returns-clause-races
+returns-clause-races c = example_races

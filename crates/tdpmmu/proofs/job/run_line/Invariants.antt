@@ -1,5 +1,6 @@
 use Rattle.std.proofs.Common.{◌≡◌, ◌<◌, length}
-use Rattle.mmu_core.specs.Bounds.{steps_left}
+use Rattle.mmu_core.specs.LineAlone.{hand_left}
+use Rattle.tdpmmu.specs.Turns.{IsJobOf}
 use Rattle.tdpmmu.proofs.PartRuns.{PartRun}
 use Rattle.tdpmmu.proofs.job.run_line.Given as goal
 
@@ -7,11 +8,11 @@ abbrev pub invariant-loop-answer : goal.invariant-loop-answer
 invariant-loop-answer g l = record {
   part : PartRun l.line (g.S.Stepper.actor l.fn.s) (g.S.Stepper.handful l.fn.s).core (g.S.Stepper.handful l.s).core (record { world = g.S.Stepper.told l.fn.s; steps = g.S.Stepper.steps l.fn.s }) (record { world = g.S.Stepper.told l.s; steps = g.S.Stepper.steps l.s });
   reserved : 0 < (g.S.Stepper.handful l.s).room;
-  index : l.job.index ≡ length (g.S.Stepper.handful l.s).core.answers;
+  job : IsJobOf l.job l.line (length (g.S.Stepper.handful l.s).core.answers);
   left : length (g.S.Stepper.handful l.s).core.answers < length (g.S.Stepper.handful l.s).core.lines;
   actor : g.S.Stepper.actor l.s ≡ g.S.Stepper.actor l.fn.s;
   frame : g.S.Stepper.frame l.s ≡ g.S.Stepper.frame l.fn.s;
 }
 
 abbrev pub decreases-loop-answer : goal.decreases-loop-answer
-decreases-loop-answer g l = steps_left (g.S.Stepper.handful l.s).core.state.place
+decreases-loop-answer g l = hand_left (g.S.Stepper.handful l.s).core

@@ -1,26 +1,29 @@
-use Rattle.std.proofs.Common.{◌≡◌, ◌∙◌, ap, Err, List, string_bytes, subst}
+use Rattle.std.proofs.Common.{Err, Ok, string_bytes}
 use Rattle.std.proofs.lemmas.Result.{err_from_is_err_and}
-use Rattle.core_views.specs.declared.sizes.Sizes.{Sizes}
-use Rattle.core_views.specs.declared.trace.Line.{Line}
-use Rattle.core_views.specs.Flat.{first_facts}
-use Rattle.core_views.specs.FlatHistory.{flat_history, one_by_one}
-use Rattle.core_views.specs.Sizes.{sizes_of}
-use Rattle.core_views.specs.Text.{text}
 use Rattle.step_seats.specs.Machines.{world_in}
-use Rattle.tdpmmu.specs.Replays.{RunsLines}
-use Rattle.tdpmmu.proofs.Replaying.{replays, writes_rest}
+use Rattle.tdp_io.specs.declared.sink.Stop.TheVariants.{NoMemory}
+use Rattle.tdpmmu.specs.Replays.{Replays}
+use Rattle.tdpmmu.proofs.Outputs.{stopped_behind_all, writes_all, writes_first, writes_none}
 use Rattle.tdpmmu.proofs.replay.replay.Goals as goal
 
-pub returns-in_err-write_all-clause-bytes : goal.returns-in_err-write_all-clause-bytes
-returns-in_err-write_all-clause-bytes g c =
-    let p = err_from_is_err_and c.from_residual-in_err-write_all.result c.from_residual-in_err-write_all.ensures.1 in
-    let whole : text (one_by_one c.in-Ok.machine.sizes c.as_slice.result.now first_facts) ≡ text (flat_history c.args.trace.now) =
-    ap (λ (z : Sizes). text (one_by_one z c.as_slice.result.now first_facts)) c.in-Ok.ensures.sizes ∙ ap (λ (ls : List Line). text (one_by_one (sizes_of c.args.trace.now.header) ls first_facts)) c.as_slice.ensures in
-    rw p.1 (writes_rest (g.K.Sink.written c.args.out.now) (g.K.Sink.written c.run_lines.new.out) (g.K.Sink.written c.write_all.new.out) (string_bytes c.new-waiting.result) (string_bytes c.run_lines.new.waiting) c.as_bytes.result.now
-    (text (one_by_one c.in-Ok.machine.sizes c.as_slice.result.now first_facts)) (text (flat_history c.args.trace.now)) (Err c.in_err-write_all.field-0.0) c.new-waiting.ensures.bytes whole c.in_ok-run_lines.ensures.bytes c.as_bytes.ensures.value c.in_err-write_all.ensures.bytes)
+pub returns-in_default-clause-writes : goal.returns-in_default-clause-writes
+returns-in_default-clause-writes g c = writes_none c.args.trace.now (g.K.Sink.written c.args.out.now) NoMemory c.requires.trace
 
-pub returns-clause-ran : goal.returns-clause-ran
-returns-clause-ran g c =
-    let ran = subst (λ (ls : List Line). RunsLines (world_in c.in-Ok.machine) ls (world_in c.run_lines.new.machine)) c.as_slice.ensures c.in_ok-run_lines.ensures.ran in
-    let replay = replays c.args.trace.now (world_in c.in-Ok.machine) (world_in c.run_lines.new.machine) c.in-Ok.ensures.start ran in
-    rw (c.into_closing.ensures.words, c.into_closing.ensures.hands) replay
+pub returns-in_err-run_lines-clause-writes : goal.returns-in_err-run_lines-clause-writes
+returns-in_err-run_lines-clause-writes g c =
+    let p = err_from_is_err_and c.from_residual.result c.from_residual.ensures.1 in
+    rw p.1 (writes_first c.args.trace.now c.in-Ok.machine.sizes c.as_slice.result.now (world_in c.in-Ok.machine) (world_in c.run_lines.new.machine) (g.K.Sink.written c.args.out.now) (g.K.Sink.written c.run_lines.new.out) (string_bytes c.new-waiting.result) (string_bytes c.run_lines.new.waiting)
+    c.in_err-run_lines.field-0.0 c.in-Ok.ensures.sizes c.as_slice.ensures c.new-waiting.ensures.bytes c.in-Ok.ensures.start c.in_err-run_lines.ensures.puts)
+
+pub returns-in_err-write_all-clause-writes : goal.returns-in_err-write_all-clause-writes
+returns-in_err-write_all-clause-writes g c =
+    let p = err_from_is_err_and c.from_residual-in_err-write_all.result c.from_residual-in_err-write_all.ensures.1 in
+    let all = writes_all c.args.trace.now c.in-Ok.machine.sizes c.as_slice.result.now (world_in c.in-Ok.machine) (world_in c.run_lines.new.machine) (g.K.Sink.written c.args.out.now) (g.K.Sink.written c.run_lines.new.out) (g.K.Sink.written c.write_all.new.out) (string_bytes c.new-waiting.result)
+    (string_bytes c.run_lines.new.waiting) c.as_bytes.result.now (Err c.in_err-write_all.field-0.0) c.in-Ok.ensures.sizes c.as_slice.ensures c.new-waiting.ensures.bytes c.in-Ok.ensures.start c.in_ok-run_lines.ensures.puts c.as_bytes.ensures.value c.in_err-write_all.ensures.bytes in
+    rw p.1 (stopped_behind_all c.args.trace.now (g.K.Sink.written c.args.out.now) (g.K.Sink.written c.write_all.new.out) all.0 (world_in c.run_lines.new.machine) c.in_err-write_all.field-0.0 all.1 all.2)
+
+pub returns-clause-writes : goal.returns-clause-writes
+returns-clause-writes g c =
+    let all = writes_all c.args.trace.now c.in-Ok.machine.sizes c.as_slice.result.now (world_in c.in-Ok.machine) (world_in c.run_lines.new.machine) (g.K.Sink.written c.args.out.now) (g.K.Sink.written c.run_lines.new.out) (g.K.Sink.written c.write_all.new.out) (string_bytes c.new-waiting.result)
+    (string_bytes c.run_lines.new.waiting) c.as_bytes.result.now (Ok (tt {0})) c.in-Ok.ensures.sizes c.as_slice.ensures c.new-waiting.ensures.bytes c.in-Ok.ensures.start c.in_ok-run_lines.ensures.puts c.as_bytes.ensures.value c.in_ok-write_all.ensures.bytes in
+    (all.0, rw (c.into_closing.ensures.words, c.into_closing.ensures.hands) all.1, all.2)

@@ -1,23 +1,19 @@
-use Rattle.std.proofs.Common.{◌∙◌, ◌++◌, get_or, ◌+◌, List, [], ℕ, Ok, refl, rules, string_bytes, subst, take}
-use Rattle.std.proofs.KnownBytes.{Appends-nil}
+use Rattle.std.proofs.Common.{◌≡◌, ◌∙◌, ◌++◌, ◌+◌, List, [], ℕ, append_assoc, ap, get_or, refl, rules, string_bytes, subst, take}
 use Rattle.std.proofs.lemmas.Result.{err_from_is_err_and}
-use Rattle.core_views.specs.Flat.{first_facts, no_line}
-use Rattle.core_views.specs.FlatHistory.{one_by_one}
+use Rattle.core_views.specs.declared.sizes.Sizes.{Sizes}
+use Rattle.core_views.specs.Flat.{no_line}
 use Rattle.core_views.specs.Sizes.{index_of}
-use Rattle.core_views.specs.Text.{text}
+use Rattle.core_views.specs.Text.{line_text}
 use Rattle.step_seats.specs.Machines.{world_in}
 use Rattle.tdp_io.specs.Ends.{AppendsPrefix}
 use Rattle.tdpmmu.specs.Replays.{RanOn}
-use Rattle.tdpmmu.specs.Steps.{Buffers}
-use Rattle.tdpmmu.proofs.Replaying.{behind_none, facts_at, facts_next, hands_at_start, hands_more, line_prints, ready_on, runs_none, so_far_prefix, steps_more}
-use Rattle.tdpmmu.proofs.Writes.{advances, stops_at}
+use Rattle.tdpmmu.proofs.Replaying.{between_at_start, between_more, hands_at_start, ran_all, ran_first, ready_on, sound_between}
+use Rattle.tdpmmu.proofs.Writes.{goes_on, none_put, so_far_prefix, stops}
 use Rattle.tdpmmu.proofs.replay.run_lines.Goals as goal
 
 pub loop-line-init : goal.loop-line-init
 loop-line-init g c = record {
-  ran = runs_none (world_in c.args.machine.now);
-  behind = behind_none c.args.machine.now.sizes c.args.lines.now (world_in c.args.machine.now) c.requires.start;
-  so_far = ([], Appends-nil (g.K.Sink.written c.args.out.now), refl);
+  so_far = ([], between_at_start c.args.machine.now.sizes c.args.lines.now (world_in c.args.machine.now) c.requires.start, none_put (g.K.Sink.written c.args.out.now) (string_bytes c.args.waiting.now));
   sizes = refl;
   count = refl;
   faults = refl;
@@ -26,62 +22,110 @@ loop-line-init g c = record {
 pub run_on-requires-clause-there : goal.run_on-requires-clause-there
 run_on-requires-clause-there g c =
     let z = c.args.machine.now.sizes in
+    let lines = c.args.lines.now in
     let i = c.loop-line.invariant in
-    (ready_on z c.args.lines.now c.loop-line.line-index c.loop-line.machine i.sizes (i.count ∙ hands_at_start z c.args.lines.now c.args.machine.now c.requires.start) c.loop-line-test.true
-    (c.requires.start.allowed c.loop-line.line-index no_line c.loop-line-test.true) i.behind).there
+    let B = i.so_far.1 in
+    (ready_on z lines c.loop-line.line-index c.loop-line.machine i.sizes (i.count ∙ hands_at_start z lines c.args.machine.now c.requires.start) c.loop-line-test.true (c.requires.start.allowed c.loop-line.line-index no_line c.loop-line-test.true) B.behind
+    (sound_between z lines c.loop-line.line-index (world_in c.args.machine.now) (world_in c.loop-line.machine) i.so_far.0 c.requires.start B) B.rest).there
 
 pub run_on-requires-clause-idle : goal.run_on-requires-clause-idle
 run_on-requires-clause-idle g c =
     let z = c.args.machine.now.sizes in
+    let lines = c.args.lines.now in
     let i = c.loop-line.invariant in
-    (ready_on z c.args.lines.now c.loop-line.line-index c.loop-line.machine i.sizes (i.count ∙ hands_at_start z c.args.lines.now c.args.machine.now c.requires.start) c.loop-line-test.true
-    (c.requires.start.allowed c.loop-line.line-index no_line c.loop-line-test.true) i.behind).idle
+    let B = i.so_far.1 in
+    (ready_on z lines c.loop-line.line-index c.loop-line.machine i.sizes (i.count ∙ hands_at_start z lines c.args.machine.now c.requires.start) c.loop-line-test.true (c.requires.start.allowed c.loop-line.line-index no_line c.loop-line-test.true) B.behind
+    (sound_between z lines c.loop-line.line-index (world_in c.args.machine.now) (world_in c.loop-line.machine) i.so_far.0 c.requires.start B) B.rest).idle
 
 pub run_on-requires-clause-next : goal.run_on-requires-clause-next
 run_on-requires-clause-next g c =
     let z = c.args.machine.now.sizes in
+    let lines = c.args.lines.now in
     let i = c.loop-line.invariant in
-    (ready_on z c.args.lines.now c.loop-line.line-index c.loop-line.machine i.sizes (i.count ∙ hands_at_start z c.args.lines.now c.args.machine.now c.requires.start) c.loop-line-test.true
-    (c.requires.start.allowed c.loop-line.line-index no_line c.loop-line-test.true) i.behind).next
+    let B = i.so_far.1 in
+    (ready_on z lines c.loop-line.line-index c.loop-line.machine i.sizes (i.count ∙ hands_at_start z lines c.args.machine.now c.requires.start) c.loop-line-test.true (c.requires.start.allowed c.loop-line.line-index no_line c.loop-line-test.true) B.behind
+    (sound_between z lines c.loop-line.line-index (world_in c.args.machine.now) (world_in c.loop-line.machine) i.so_far.0 c.requires.start B) B.rest).next
 
 pub run_on-requires-clause-own : goal.run_on-requires-clause-own
 run_on-requires-clause-own g c =
     let z = c.args.machine.now.sizes in
+    let lines = c.args.lines.now in
     let i = c.loop-line.invariant in
-    (ready_on z c.args.lines.now c.loop-line.line-index c.loop-line.machine i.sizes (i.count ∙ hands_at_start z c.args.lines.now c.args.machine.now c.requires.start) c.loop-line-test.true
-    (c.requires.start.allowed c.loop-line.line-index no_line c.loop-line-test.true) i.behind).own
+    let B = i.so_far.1 in
+    (ready_on z lines c.loop-line.line-index c.loop-line.machine i.sizes (i.count ∙ hands_at_start z lines c.args.machine.now c.requires.start) c.loop-line-test.true (c.requires.start.allowed c.loop-line.line-index no_line c.loop-line-test.true) B.behind
+    (sound_between z lines c.loop-line.line-index (world_in c.args.machine.now) (world_in c.loop-line.machine) i.so_far.0 c.requires.start B) B.rest).own
 
-pub returns-in_default-clause-bytes : goal.returns-in_default-clause-bytes
-returns-in_default-clause-bytes g c = so_far_prefix _ _ _ _ c.loop-line.invariant.so_far
-
-pub returns-in_err-put_answer-clause-bytes : goal.returns-in_err-put_answer-clause-bytes
-returns-in_err-put_answer-clause-bytes g c =
-    let p = err_from_is_err_and c.from_residual.result c.from_residual.ensures.1 in
+pub run_on-requires-clause-alone : goal.run_on-requires-clause-alone
+run_on-requires-clause-alone g c =
     let z = c.args.machine.now.sizes in
+    let lines = c.args.lines.now in
     let i = c.loop-line.invariant in
-    let prints = line_prints z c.args.lines.now c.loop-line.line-index (world_in c.args.machine.now) (world_in c.loop-line.machine) (world_in c.run_on.new.machine) c.in-Ok.answer (index_of c.loop-line.machine.sizes (get_or c.args.lines.now c.loop-line.line-index no_line).actor) c.requires.start i.ran c.in-Ok.ensures.ran in
-    rw p.1 (stops_at (g.K.Sink.written c.args.out.now) (g.K.Sink.written c.loop-line.out) (g.K.Sink.written c.put_answer.new.out) (string_bytes c.loop-line.waiting) z c.args.lines.now c.loop-line.line-index no_line (facts_at z (take c.loop-line.line-index c.args.lines.now) first_facts)
-    (string_bytes c.args.waiting.now ++ text (one_by_one z c.args.lines.now first_facts)) c.loop-line-test.true i.so_far
-    (subst (λ (t : List ℕ). AppendsPrefix (g.K.Sink.written c.loop-line.out) (g.K.Sink.written c.put_answer.new.out) (string_bytes c.loop-line.waiting ++ t)) prints c.in_err-put_answer.ensures.bytes))
+    let B = i.so_far.1 in
+    (ready_on z lines c.loop-line.line-index c.loop-line.machine i.sizes (i.count ∙ hands_at_start z lines c.args.machine.now c.requires.start) c.loop-line-test.true (c.requires.start.allowed c.loop-line.line-index no_line c.loop-line-test.true) B.behind
+    (sound_between z lines c.loop-line.line-index (world_in c.args.machine.now) (world_in c.loop-line.machine) i.so_far.0 c.requires.start B) B.rest).alone
+
+pub returns-in_default-clause-puts : goal.returns-in_default-clause-puts
+returns-in_default-clause-puts g c =
+    let z = c.args.machine.now.sizes in
+    let lines = c.args.lines.now in
+    let i = c.loop-line.invariant in
+    let r = ran_first z lines c.loop-line.line-index (world_in c.args.machine.now) (world_in c.loop-line.machine) i.so_far.0 i.so_far.1 in (
+      c.loop-line.line-index,
+      world_in c.loop-line.machine,
+      r.0,
+      subst (λ (t : List ℕ). AppendsPrefix (g.K.Sink.written c.args.out.now) (g.K.Sink.written c.loop-line.out) (string_bytes c.args.waiting.now ++ t)) r.1
+          (so_far_prefix (g.K.Sink.written c.args.out.now) (g.K.Sink.written c.loop-line.out) (string_bytes c.loop-line.waiting) (string_bytes c.args.waiting.now ++ i.so_far.0) i.so_far.2),
+    )
+
+pub returns-in_err-put_answer-clause-puts : goal.returns-in_err-put_answer-clause-puts
+returns-in_err-put_answer-clause-puts g c =
+    let z = c.args.machine.now.sizes in
+    let lines = c.args.lines.now in
+    let n = c.loop-line.line-index in
+    let line = get_or lines n no_line in
+    let start = world_in c.args.machine.now in
+    let here = world_in c.loop-line.machine in
+    let behind = world_in c.run_on.new.machine in
+    let i = c.loop-line.invariant in
+    let put = i.so_far.0 in
+    let ran : RanOn z line c.in-Ok.answer (index_of z line.actor) here behind = subst (λ (y : Sizes). RanOn y line c.in-Ok.answer (index_of y line.actor) here behind) i.sizes c.in-Ok.ensures.ran in
+    let more = between_more z lines n start here behind put c.in-Ok.answer c.loop-line-test.true (c.requires.start.allowed n no_line c.loop-line-test.true) ran i.so_far.1 in
+    let text_ = line_text line.number line.actor c.in-Ok.answer in
+    let r = ran_first z lines (n + 1) start behind (put ++ text_) more in
+    let p = err_from_is_err_and c.from_residual.result c.from_residual.ensures.1 in
+    let stopped : AppendsPrefix (g.K.Sink.written c.args.out.now) (g.K.Sink.written c.put_answer.new.out) ((string_bytes c.args.waiting.now ++ put) ++ text_) =
+    stops (g.K.Sink.written c.args.out.now) (g.K.Sink.written c.loop-line.out) (g.K.Sink.written c.put_answer.new.out) (string_bytes c.loop-line.waiting) text_ (string_bytes c.args.waiting.now ++ put) i.so_far.2 c.in_err-put_answer.ensures.bytes in
+    rw p.1 (n + 1, behind, r.0, subst (AppendsPrefix (g.K.Sink.written c.args.out.now) (g.K.Sink.written c.put_answer.new.out)) (append_assoc (string_bytes c.args.waiting.now) put text_ ∙ ap (λ (t : List ℕ). string_bytes c.args.waiting.now ++ t) r.1) stopped)
 
 pub loop-line-preserved : goal.loop-line-preserved
 loop-line-preserved g c =
     let z = c.args.machine.now.sizes in
     let lines = c.args.lines.now in
     let n = c.loop-line.line-index in
+    let line = get_or lines n no_line in
+    let start = world_in c.args.machine.now in
+    let here = world_in c.loop-line.machine in
+    let behind = world_in c.run_on.new.machine in
     let i = c.loop-line.invariant in
-    let may = c.requires.start.allowed n no_line c.loop-line-test.true in
-    let ran : RanOn (get_or lines n no_line) c.in-Ok.answer (index_of z (get_or lines n no_line).actor) (world_in c.loop-line.machine) (world_in c.run_on.new.machine) =
-    subst (λ y. RanOn (get_or lines n no_line) c.in-Ok.answer (index_of y (get_or lines n no_line).actor) (world_in c.loop-line.machine) (world_in c.run_on.new.machine)) i.sizes c.in-Ok.ensures.ran in
-    let prints = line_prints z lines n (world_in c.args.machine.now) (world_in c.loop-line.machine) (world_in c.run_on.new.machine) c.in-Ok.answer (index_of z (get_or lines n no_line).actor) c.requires.start i.ran ran in
+    let put = i.so_far.0 in
+    let ran : RanOn z line c.in-Ok.answer (index_of z line.actor) here behind = subst (λ (y : Sizes). RanOn y line c.in-Ok.answer (index_of y line.actor) here behind) i.sizes c.in-Ok.ensures.ran in
+    let more = between_more z lines n start here behind put c.in-Ok.answer c.loop-line-test.true (c.requires.start.allowed n no_line c.loop-line-test.true) ran i.so_far.1 in
+    let text_ = line_text line.number line.actor c.in-Ok.answer in
     record {
-      ran = steps_more z lines n (world_in c.args.machine.now) (world_in c.loop-line.machine) (world_in c.run_on.new.machine) c.in-Ok.answer (index_of z (get_or lines n no_line).actor) c.loop-line-test.true i.ran ran;
-      behind = hands_more z lines n (world_in c.loop-line.machine) (world_in c.run_on.new.machine) c.in-Ok.answer c.loop-line-test.true may ran i.behind;
-      so_far = advances (g.K.Sink.written c.args.out.now) (g.K.Sink.written c.loop-line.out) (g.K.Sink.written c.put_answer.new.out) (string_bytes c.loop-line.waiting) (string_bytes c.put_answer.new.waiting) z z lines n no_line
-          (facts_at z (take n lines) first_facts) (facts_at z (take (n + 1) lines) first_facts) (string_bytes c.args.waiting.now ++ text (one_by_one z lines first_facts)) c.loop-line-test.true refl i.so_far
-          (subst (λ (t : List ℕ). Buffers (g.K.Sink.written c.loop-line.out) (g.K.Sink.written c.put_answer.new.out) (string_bytes c.loop-line.waiting) (string_bytes c.put_answer.new.waiting) (Ok tt) t) prints c.in_ok-put_answer.ensures.bytes)
-          (facts_next z lines n no_line c.loop-line-test.true);
+      so_far = (
+        put ++ text_,
+        more,
+        goes_on (g.K.Sink.written c.args.out.now) (g.K.Sink.written c.loop-line.out) (g.K.Sink.written c.put_answer.new.out) (string_bytes c.loop-line.waiting) (string_bytes c.put_answer.new.waiting) text_ (string_bytes c.args.waiting.now) put i.so_far.2 c.in_ok-put_answer.ensures.bytes,
+      );
       sizes = c.in-Ok.ensures.same.0 ∙ i.sizes;
       count = c.in-Ok.ensures.same.1 ∙ i.count;
       faults = search rules;
     }
+
+pub returns-clause-puts : goal.returns-clause-puts
+returns-clause-puts g c =
+    let z = c.args.machine.now.sizes in
+    let lines = c.args.lines.now in
+    let i = c.loop-line.invariant in
+    let r = ran_all z lines c.loop-line.line-index (world_in c.args.machine.now) (world_in c.loop-line.machine) i.so_far.0 c.loop-line-test.false i.so_far.1 in
+    (r.0, (i.so_far.2.0, i.so_far.2.1, i.so_far.2.2 ∙ ap (λ (t : List ℕ). string_bytes c.args.waiting.now ++ t) r.1))

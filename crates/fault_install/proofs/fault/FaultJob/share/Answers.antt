@@ -1,4 +1,4 @@
-use Rattle.std.proofs.Common.{sym, subst}
+use Rattle.std.proofs.Common.{rules, sym, subst}
 use Rattle.core_views.specs.declared.place.FaultPlace.{FaultPlace}
 use Rattle.fault_install.specs.declared.fault.Faulted.{Faulted}
 use Rattle.fault_install.specs.Faults.{MakesStep}
@@ -15,4 +15,4 @@ returns-clause-makes g c =
     (record { world = g.S.Stepper.told c.args.s.now; steps = g.S.Stepper.steps c.args.s.now }) (record { world = g.S.Stepper.told c.try_shared-answer.new.s; steps = g.S.Stepper.steps c.try_shared-answer.new.s })) (sym c.lock_turn.ensures)
     (share_makes c.args.self.now c.try_shared-answer.result c.word_of-word.result c.args.note (g.S.Stepper.actor c.args.s.now) (g.S.Stepper.handful c.args.s.now).core (g.S.Stepper.handful c.try_shared-answer.new.s).core
     (record { world = g.S.Stepper.told c.args.s.now; steps = g.S.Stepper.steps c.args.s.now }) (record { world = g.S.Stepper.told c.try_shared-answer.new.s; steps = g.S.Stepper.steps c.try_shared-answer.new.s })
-    c.requires.is_at c.try_shared-answer.ensures.step c.try_shared-answer.ensures.tried))
+    (search rules) c.requires.is_at c.try_shared-answer.ensures.step c.try_shared-answer.ensures.tried))

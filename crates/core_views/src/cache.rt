@@ -1,0 +1,73 @@
+ghost use Rattle.std.specs.Prelude.{◌≡◌, ◌≤◌, [], ◌∷◌, take, IfOk, length, slice_get};
+ghost use Rattle.circular_buffer.specs.Buffer.{buffer};
+
+use crate::NoMemory;
+use circular_buffer::HeapCircularBuffer;
+use std::alloc::Global;
+use std::marker::Model;
+
+/// A cached translation: the guest frame that a walk was for, and the leaf that
+/// it met, at its level, 1 to 3.
+#[derive(Clone, Copy, Debug, PartialEq, Eq, Drop)]
+pub struct Translation {
+    pub gfn: u64,
+    pub level: u8,
+    pub leaf: u64,
+}
+
+/// What one virtual processor has cached (its TLB): at most a fixed number of
+/// translations, the newest first.
+#[derive(Debug, Drop)]
+pub struct Cache {
+    translations: HeapCircularBuffer<Translation>,
+}
+
+impl Model for Cache {
+    ghost use Rattle.circular_buffer.specs.Buffer.{Buffer};
+    ghost use Rattle.core_views.specs.declared.cache.Translation.{Translation};
+
+    ghost Value = { Buffer Translation };
+
+    ghost view = { λ c. c.translations };
+}
+
+impl Cache {
+    /// An empty cache that holds at most `capacity` translations, 1 to 64.
+    pub fn new(alloc: Global, capacity: u8) -> Result<Cache, NoMemory>
+        requires least { 1 ≤ capacity }
+        requires most { capacity ≤ 64 }
+        ensures { IfOk result (λ c. c ≡ buffer [] capacity) }
+    {
+        let translations = HeapCircularBuffer::with_capacity(alloc, capacity as usize)?;
+        Ok(Cache { translations })
+    }
+
+    /// The translation at this place, the newest at 0.
+    pub fn get(&self, i: usize) -> Option<Translation>
+        ensures { result ≡ slice_get self.now.items i }
+    {
+        self.translations.get(i).copied()
+    }
+
+    /// How many translations are cached.
+    pub fn len(&self) -> usize
+        ensures { result ≡ length self.now.items }
+    {
+        self.translations.len()
+    }
+
+    /// Empties the cache.
+    pub fn clear(&mut self)
+        ensures { self.new ≡ buffer [] self.old.capacity }
+    {
+        self.translations.clear();
+    }
+
+    /// Caches a translation, before all others. Where the cache is full its oldest
+    /// one goes.
+    pub fn fill(&mut self, translation: Translation)
+        ensures { self.new ≡ buffer (take self.old.capacity (translation ∷ self.old.items)) self.old.capacity }
+    {
+        self.translations.push_front(translation);
+    }
+}

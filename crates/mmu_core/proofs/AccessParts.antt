@@ -1,0 +1,53 @@
+-- The step of a part that an access makes at its place is one that its actor may make.
+use Rattle.std.proofs.Common.{◌^◌, ◌<◌, ℕ, subst, ap, ◌∙◌}
+use Rattle.std.specs.Prelude.{Option}
+use Rattle.core_views.specs.declared.place.AccessPlace.{AccessPlace}
+use Rattle.core_views.specs.declared.place.Place.TheVariants as place
+use Rattle.core_views.specs.declared.sizes.Sizes.{Sizes}
+use Rattle.core_views.specs.declared.trace.Command.TheVariants.{Access}
+use Rattle.core_views.specs.declared.trace.Line.{Line}
+use Rattle.core_views.specs.declared.trace.Op.{Op}
+use Rattle.core_views.specs.Sizes.{actors_of, index_of}
+use Rattle.core_views.specs.Slots.{is_write}
+use Rattle.core_views.specs.Traces.{IsCommandFor}
+use Rattle.spte_words.specs.declared.area.Area.{Area}
+use Rattle.mmu_core.specs.declared.part_step.PartStep.{PartStep}
+use Rattle.mmu_core.specs.AccessSteps.{access_part}
+use Rattle.mmu_core.specs.Invariant.{Invariant, OwnLines}
+use Rattle.mmu_core.specs.PartSteps.{IsVcpu, PartNeeds}
+use Rattle.mmu_core.specs.TopicsInvariant.{TopicsInvariant}
+use Rattle.mmu_core.specs.View.{View}
+use Rattle.mmu_core.proofs.KnowsKept.{NeedsOf, access_needs, access_vcpu, step_knows}
+use Rattle.mmu_core.proofs.LiveStays.{MakesParts}
+use Rattle.mmu_core.proofs.PartBounded.{part_rests_at}
+use Rattle.mmu_core.proofs.PartFits.{part_within}
+use Rattle.mmu_core.proofs.PartStepping.{IsPart}
+use Rattle.mmu_core.proofs.Stepping.{IsStep}
+
+-- Each word has 64 bits.
+abbrev pub AreSmall : View → Type 0
+AreSmall v = (b : Area) (i : ℕ) → v.words b i < 2 ^ 64
+
+-- What an actor holds the needs of, in a view where the invariant holds, it may make.
+pub may_make : (z : Sizes) (v : View) (a : ℕ) (step : PartStep) → AreSmall v → Invariant z v → TopicsInvariant z v → a < actors_of z → PartNeeds step (v.hand a) → IsPart z v a step
+may_make z v a step small I P there needs = record {
+  is_sizes = I.sizes;
+  there = there;
+  sizes = O.sizes;
+  own_place = ap (λ y. index_of y (v.hand a).state.actor) O.sizes ∙ O.index;
+  needs = needs;
+  within = part_within step (v.hand a) needs (part_rests_at z v a I P there);
+  small = small;
+}
+  where
+    O : OwnLines z a (v.hand a)
+    O = I.lines a there
+
+pub makes_parts : (z : Sizes) (v : View) (a : ℕ) (line : Line) (p : AccessPlace) (gfn word : ℕ) (op : Op) → AreSmall v → IsStep z v a line (Access gfn word op) (place.Access p) → Invariant z v → TopicsInvariant z v → MakesParts z v a p gfn
+makes_parts z v a line p gfn word op small S I P step is = may_make z v a step small I P S.there (subst (λ (o : Option PartStep). NeedsOf o (v.hand a)) is needs)
+  where
+    may : IsVcpu (v.hand a).state.actor × (gfn < 2 ^ 36)
+    may = access_vcpu z (v.hand a).state.actor gfn word op (subst (λ x. IsCommandFor z x (Access gfn word op)) S.own S.allowed)
+
+    needs : NeedsOf (access_part p gfn (v.hand a).topics) (v.hand a)
+    needs = access_needs p (v.hand a) gfn (is_write op) may.0 may.1 (part_rests_at z v a I P S.there) (step_knows z v a line (Access gfn word op) (place.Access p) S I)

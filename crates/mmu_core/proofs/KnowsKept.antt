@@ -1,0 +1,285 @@
+-- Each actor knows what its place asks, behind each step: of its own line, of a part, and of another actor.
+use Rattle.std.proofs.Common.{◌≡◌, ◌^◌, ◌<◌, ◌≤◌, ℕ, List, [], ◌∷◌, length, refl, sym, subst, ap, ◌∙◌}
+use Rattle.std.specs.Prelude.{Bool, true, false, ◌&&◌, if◌then◌else◌, Option, Some, None}
+use Rattle.circular_buffer.specs.Buffer.{Buffer}
+use Rattle.core_views.specs.declared.actor.Actor.{Actor}
+use Rattle.core_views.specs.declared.actor.Actor.TheVariants.{Vcpu, Host, Manager, Worker}
+use Rattle.core_views.specs.declared.cache.Translation.{Translation}
+use Rattle.core_views.specs.declared.place.AccessPlace.{AccessPlace}
+use Rattle.core_views.specs.declared.place.AccessPlace.TheVariants.{Enter, Pause, Root, Walk, Touch, Leave, Fault}
+use Rattle.core_views.specs.declared.place.FaultEnd.TheVariants as end_of
+use Rattle.core_views.specs.declared.place.FaultNext.{FaultNext}
+use Rattle.core_views.specs.declared.place.FaultNext.TheVariants as next_of
+use Rattle.core_views.specs.declared.place.Leaving.TheVariants as leaving
+use Rattle.core_views.specs.declared.place.Place.{Place}
+use Rattle.core_views.specs.declared.place.Place.TheVariants as place
+use Rattle.core_views.specs.declared.place.SetSlotPlace.{SetSlotPlace}
+use Rattle.core_views.specs.declared.place.SetSlotPlace.TheVariants.{Refuse, Fill}
+use Rattle.core_views.specs.declared.place.SlotField.TheVariants as field
+use Rattle.core_views.specs.declared.sizes.Sizes.{Sizes}
+use Rattle.core_views.specs.declared.topics.OwnedPage.{OwnedPage}
+use Rattle.core_views.specs.declared.topics.Stay.{Stay}
+use Rattle.core_views.specs.declared.topics.Stay.TheVariants.{Guest}
+use Rattle.core_views.specs.declared.topics.Topics.{Topics}
+use Rattle.core_views.specs.declared.trace.Command.{Command}
+use Rattle.core_views.specs.declared.trace.Command.TheVariants.{Access, SetSlot}
+use Rattle.core_views.specs.declared.trace.Line.{Line}
+use Rattle.core_views.specs.declared.trace.Op.{Op}
+use Rattle.core_views.specs.declared.trace.Op.TheVariants.{Read, Write, Add}
+use Rattle.core_views.specs.declared.trace.Slot.{Slot}
+use Rattle.core_views.specs.Held.{Held}
+use Rattle.core_views.specs.Sizes.{actors_of}
+use Rattle.core_views.specs.Slots.{is_write}
+use Rattle.core_views.specs.Traces.{IsCommandFor}
+use Rattle.spte_words.specs.declared.area.Area.{Area}
+use Rattle.spte_words.specs.declared.spte_kind.SpteKind.{SpteKind}
+use Rattle.spte_words.specs.declared.spte_kind.SpteKind.TheVariants as entry_kind
+use Rattle.spte_words.specs.Entries.{kind_of}
+use Rattle.mmu_core.specs.declared.outcome.Outcome.{Outcome}
+use Rattle.mmu_core.specs.declared.outcome.Outcome.TheVariants.{Goes, Ends}
+use Rattle.mmu_core.specs.declared.outcome.Task.{Task}
+use Rattle.mmu_core.specs.declared.part_step.PartStep.{PartStep}
+use Rattle.mmu_core.specs.declared.part_step.PartStep.TheVariants as part
+use Rattle.mmu_core.specs.AccessSteps.{access_note, access_outcome, access_part, access_task, behind_fault, leaf_used, pause_next, task_by, touch_of, walk_next}
+use Rattle.mmu_core.specs.Cached.{allows, covers, first_usable, flushed, is_usable}
+use Rattle.mmu_core.specs.FaultKnows.{KnowsNext}
+use Rattle.mmu_core.specs.FaultLaws.{CanAnswer}
+use Rattle.mmu_core.specs.FaultSteps.{allows_access, fault_next}
+use Rattle.mmu_core.specs.Invariant.{Invariant, KnowsPart, UnderWay}
+use Rattle.mmu_core.specs.KnowsPart.{AccessKnows, InGuest}
+use Rattle.mmu_core.specs.PartBounds.{PartRests}
+use Rattle.mmu_core.specs.PartSteps.{IsAtRest, IsOver, IsVcpu, PartNeeds, entry_index, own_index}
+use Rattle.mmu_core.specs.PartTopics.{part_topics, sequenced}
+use Rattle.mmu_core.specs.SetSlotSteps.{set_slot_outcome, set_slot_task}
+use Rattle.mmu_core.specs.Rests.{IsUnderWay}
+use Rattle.mmu_core.specs.Steps.{caches_at, first_place, has_line, line_at, loads_at, outcome_at, place_at, records_at, standing, task_at}
+use Rattle.mmu_core.specs.Tasks.{answers_after, kind_of_task, place_after}
+use Rattle.mmu_core.specs.TopicsInvariant.{TopicsInvariant}
+use Rattle.mmu_core.specs.TopicSteps.{at_root, filled_more, gone_down, is_loose, linked_page, may_walk, topics_after}
+use Rattle.mmu_core.specs.View.{View, answer_in, hand_after, part_stepped, stepped}
+use Rattle.mmu_core.proofs.Columns.{at_upd}
+use Rattle.mmu_core.proofs.FaultKnown.{above_lowest, fault_known, gone_over, parts_answer, root_over}
+use Rattle.mmu_core.proofs.FaultNeeds.{fault_needs}
+use Rattle.mmu_core.proofs.PartBounded.{part_rests_at}
+use Rattle.mmu_core.proofs.PartTopics.{is_there, part_topics_is}
+use Rattle.mmu_core.proofs.Stepping.{IsStep}
+use Rattle.mmu_core.proofs.Which.{has_line_is}
+
+-- what is held behind the step of a part, or behind the touch
+abbrev pub behind_part : Option PartStep → Topics → ℕ → Topics
+behind_part None t v = t
+behind_part (Some step) t v = part_topics step t v
+
+abbrev pub CanAnswerBy : Option PartStep → ℕ → Type 0
+CanAnswerBy None v = Unit {0}
+CanAnswerBy (Some step) v = CanAnswer step v
+
+-- the hand behind a step of this line, that holds these topics and has this cached
+abbrev pub hand_with : Line → Command → Place → Held → Topics → Buffer Translation → ℕ → Held
+hand_with line command p h t cached v = record {
+  state = record (loads_at p command h v) { line = line; place = place_after (outcome_at p command h v) };
+  topics = t;
+  cached = cached;
+  slots = records_at p command h.slots;
+  lines = h.lines;
+  answers = answers_after (outcome_at p command h v) line h.answers;
+}
+
+-- what it knows behind a step: at rest, where the line is answered
+abbrev pub KnowsBehind : Outcome → Command → Held → Type 0
+KnowsBehind (Goes p) command h = KnowsPart p command h
+KnowsBehind (Ends answer) command h = IsAtRest h.topics
+
+pub knows_after : (o : Outcome) (command : Command) (h : Held) → KnowsBehind o command h → KnowsPart (place_after o) command h
+knows_after (Goes p) command h K = K
+knows_after (Ends answer) command h K = λ has. K
+
+-- A processor makes accesses.
+pub access_vcpu : (z : Sizes) (actor : Actor) (gfn word : ℕ) (op : Op) → IsCommandFor z actor (Access gfn word op) → IsVcpu actor × (gfn < 2 ^ 36)
+access_vcpu z (Vcpu n) gfn word op may = (tt, may.1)
+access_vcpu z (Host n) gfn word op may = absurd may
+access_vcpu z Manager gfn word op may = absurd may
+access_vcpu z (Worker n) gfn word op may = absurd may
+
+-- What an access knows at a place meets the needs of its step.
+abbrev pub NeedsOf : Option PartStep → Held → Type 0
+NeedsOf None h = h.topics.stay ≡ Guest
+NeedsOf (Some step) h = PartNeeds step h
+
+pub access_needs : (p : AccessPlace) (h : Held) (gfn : ℕ) (write : Bool) → IsVcpu h.state.actor → gfn < 2 ^ 36 → PartRests h → AccessKnows p gfn write h → NeedsOf (access_part p gfn h.topics) h
+access_needs (Enter again) h gfn write vcpu small R K = (vcpu, K.outside)
+access_needs (Pause again) h gfn write vcpu small R K = tt
+access_needs (Root again) h gfn write vcpu small R K = tt
+access_needs (Walk again) h gfn write vcpu small R K = K.1
+access_needs Touch h gfn write vcpu small R K = K.0.guest
+access_needs (Leave how) h gfn write vcpu small R K = K.guest
+access_needs (Fault p) h gfn write vcpu small R K = fault_needs p h gfn write small R K
+
+-- The translation that is used allows the access.
+found_usable : (gfn : ℕ) (write : Bool) (ts : List Translation) (t : Translation) → first_usable gfn write ts ≡ Some t → allows_access write t.leaf ≡ true
+found_usable gfn write [] t is = absurd (cc is)
+found_usable gfn write (x ∷ xs) t is = by (is_usable gfn write x) (found_usable gfn write xs t) refl is
+  where
+    one : {a b : Translation} → Some a ≡ Some b → a ≡ b
+    one e = cc e
+
+    last : (a b : Bool) → (a && b) ≡ true → b ≡ true
+    last true b e = e
+    last false b e = absurd (cc e)
+
+    by : (b : Bool) → (first_usable gfn write xs ≡ Some t → allows_access write t.leaf ≡ true) → is_usable gfn write x ≡ b → (if b then Some x else first_usable gfn write xs) ≡ Some t → allows_access write t.leaf ≡ true
+    by true rest usable e = ap (λ (y : Translation). allows_access write y.leaf) (sym (one e)) ∙ last (covers gfn x) (allows write x) usable
+    by false rest usable e = rest e
+
+pause_known : (f : Option Translation) (again : Bool) (gfn : ℕ) (write : Bool) (h g : Held) → first_usable gfn write h.cached.items ≡ f → InGuest g.topics → g.state.leaf ≡ leaf_used f h.state.leaf → AccessKnows (pause_next again f) gfn write g
+pause_known None again gfn write h g is I leaf = I
+pause_known (Some t) again gfn write h g is I leaf = (I, ap (λ w. allows_access write w) leaf ∙ found_usable gfn write h.cached.items t is)
+
+-- The walk of a stay goes down by a link, and ends at every other entry.
+walk_known : (k : SpteKind) (allowed again : Bool) (gfn : ℕ) (write : Bool) (v : ℕ) (t : Topics) (g : Held) → kind_of t.walk.level v ≡ k → allows_access write v ≡ allowed → t.walk.level ≤ 4 → IsOver gfn t.walk
+    → InGuest g.topics → g.topics.walk ≡ gone_down (linked_page k) t.walk (entry_index gfn t.walk.level) v → g.state.leaf ≡ v → AccessKnows (walk_next again k allowed) gfn write g
+walk_known (entry_kind.Table page) allowed again gfn write v t g is may most O I walk leaf = (I, subst (IsOver gfn) (sym walk) (gone_over gfn page v t.walk (above_lowest t.walk.level v page O.there is) most O))
+walk_known entry_kind.Leaf true again gfn write v t g is may most O I walk leaf = (I, ap (λ w. allows_access write w) leaf ∙ may)
+walk_known entry_kind.Leaf false again gfn write v t g is may most O I walk leaf = I
+walk_known entry_kind.Absent allowed again gfn write v t g is may most O I walk leaf = I
+walk_known entry_kind.Frozen allowed again gfn write v t g is may most O I walk leaf = I
+
+-- A fault goes on, or the access is at rest again.
+fault_over_known : (n : FaultNext) (gfn word : ℕ) (op : Op) (g : Held) → KnowsNext n g.state.sizes gfn (is_write op) g.topics → KnowsBehind (behind_fault n) (Access gfn word op) g
+fault_over_known (next_of.Goes p) gfn word op g K = K
+fault_over_known (next_of.Ends end_of.Installed) gfn word op g K = K
+fault_over_known (next_of.Ends end_of.Mmio) gfn word op g K = K
+fault_over_known (next_of.Ends end_of.HostFault) gfn word op g K = K
+fault_over_known (next_of.Ends end_of.Starved) gfn word op g K = K
+fault_over_known (next_of.Ends (end_of.Retry cause)) gfn word op g K = K
+
+-- behind each step of an access
+pub access_known : (p : AccessPlace) (line : Line) (h : Held) (gfn word : ℕ) (op : Op) (cached : Buffer Translation) (v : ℕ) → gfn < 2 ^ 36 → PartRests h → AccessKnows p gfn (is_write op) h → CanAnswerBy (access_part p gfn h.topics) v
+    → KnowsBehind (access_outcome p h gfn op v) (Access gfn word op) (hand_with line (Access gfn word op) (place.Access p) h (behind_part (access_part p gfn h.topics) h.topics v) cached v)
+access_known (Enter again) line h gfn word op cached v small R K A = record { guest = refl; loose = K.loose; owns_none = K.owns_none; no_set = refl }
+access_known (Pause again) line h gfn word op cached v small R K A =
+    pause_known (first_usable gfn (is_write op) h.cached.items) again gfn (is_write op) h
+    (hand_with line (Access gfn word op) (place.Access (Pause again)) h (part_topics part.Pause h.topics v) cached v) refl
+    (record { guest = K.guest; loose = K.loose; owns_none = K.owns_none; no_set = K.no_set }) refl
+access_known (Root again) line h gfn word op cached v small R K A = (
+  record { guest = K.guest; loose = K.loose; owns_none = K.owns_none; no_set = K.no_set },
+  subst (λ (b : Bool). IsOver gfn (at_root b h.topics.walk v)) (sym (ap (λ (s : Stay). may_walk s h.topics.hold) K.guest)) (root_over gfn v h.topics.walk small),
+)
+access_known (Walk again) line h gfn word op cached v small R K A =
+    walk_known (kind_of h.topics.walk.level v) (allows_access (is_write op) v) again gfn (is_write op) v h.topics
+    (hand_with line (Access gfn word op) (place.Access (Walk again)) h (part_topics (part.Walk gfn) h.topics v) cached v) refl refl R.level K.1
+    (record { guest = K.0.guest; loose = K.0.loose; owns_none = K.0.owns_none; no_set = K.0.no_set }) refl refl
+access_known Touch line h gfn word op cached v small R K A = K.0
+access_known (Leave (leaving.Reached frame value)) line h gfn word op cached v small R K A = record { outside = refl; loose = K.loose; owns_none = K.owns_none; no_table = refl; no_set = refl }
+access_known (Leave leaving.Faults) line h gfn word op cached v small R K A = record { outside = refl; loose = K.loose; owns_none = K.owns_none; no_table = refl; no_set = refl }
+access_known (Fault p) line h gfn word op cached v small R K A =
+    fault_over_known (fault_next p h.state.sizes gfn (is_write op) h.topics v) gfn word op
+    (hand_with line (Access gfn word op) (place.Access (Fault p)) h (behind_part (access_part (Fault p) gfn h.topics) h.topics v) cached v)
+    (fault_known p h gfn v (is_write op) small R K A)
+
+-- The touch leaves the topics, and a step of a part changes them as the part says.
+touch_topics : (z : Sizes) (op : Op) (index : ℕ) (t : Topics) (v : ℕ) → topics_after z (kind_of_task z (touch_of op index)) t v ≡ t
+unfolding topics_after
+touch_topics z Read index t v = refl
+touch_topics z (Write x) index t v = refl
+touch_topics z (Add x) index t v = refl
+
+pub task_topics : (s : Option PartStep) (h : Held) (note : ℕ) (op : Op) (index v : ℕ) → NeedsOf s h → topics_after h.state.sizes (kind_of_task h.state.sizes (task_by s h note (touch_of op index))) h.topics v ≡ behind_part s h.topics v
+task_topics None h note op index v N = touch_topics h.state.sizes op index h.topics v
+task_topics (Some step) h note op index v N = part_topics_is h.state.sizes step (own_index h) h.topics note v (is_there step h N)
+
+pub task_answers : (s : Option PartStep) (h : Held) (note : ℕ) (touch : Task) (words : Area → ℕ → ℕ) → CanAnswerBy s (answer_in (task_by s h note touch) words)
+task_answers None h note touch words = tt
+task_answers (Some step) h note touch words = parts_answer step (own_index h) h.topics note words
+
+-- A slot setting leaves its actor at rest.
+sequenced_rests : (without_lock : Bool) (t : Topics) (v : ℕ) → IsAtRest t → IsAtRest (sequenced without_lock t v)
+sequenced_rests true t v R = record { outside = R.outside; loose = R.loose; owns_none = R.owns_none; no_table = R.no_table; no_set = refl }
+sequenced_rests false t v R = record { outside = R.outside; loose = R.loose; owns_none = R.owns_none; no_table = R.no_table; no_set = R.no_set }
+
+filled_rests : (t : Topics) (v : ℕ) → IsAtRest t → IsAtRest (record t { owned = filled_more t.owned v })
+filled_rests t v R = record { outside = R.outside; loose = R.loose; owns_none = ap (λ (o : Option OwnedPage). filled_more o v) R.owns_none; no_table = R.no_table; no_set = R.no_set }
+
+pub set_slot_rests : (p : SetSlotPlace) (z : Sizes) (id : ℕ) (slot : Slot) (t : Topics) (v : ℕ) → IsAtRest t → IsAtRest (topics_after z (kind_of_task z (set_slot_task p id slot)) t v)
+unfolding topics_after
+set_slot_rests (Refuse refusal) z id slot t v R = subst IsAtRest (sym (part_topics_is z part.Seq 0 t 1 v tt)) (sequenced_rests (is_loose t.hold) t v R)
+set_slot_rests (Fill field.Base) z id slot t v R = filled_rests t v R
+set_slot_rests (Fill field.Pages) z id slot t v R = filled_rests t v R
+set_slot_rests (Fill field.Host) z id slot t v R = filled_rests t v R
+set_slot_rests (Fill field.Flags) z id slot t v R = filled_rests t v R
+
+set_slot_known : (p : SetSlotPlace) (id : ℕ) (slot : Slot) (g : Held) → IsAtRest g.topics → KnowsBehind (set_slot_outcome p) (SetSlot id slot) g
+set_slot_known (Refuse refusal) id slot g R = R
+set_slot_known (Fill field.Base) id slot g R = R
+set_slot_known (Fill field.Pages) id slot g R = R
+set_slot_known (Fill field.Host) id slot g R = R
+set_slot_known (Fill field.Flags) id slot g R = R
+
+-- behind each step of a line, of the actor itself
+abbrev KnowsAfter : Line → Command → Place → Held → ℕ → Type 0
+KnowsAfter line command p h v = KnowsPart (place_after (outcome_at p command h v)) command (hand_after line command p h v)
+
+own_access : (p : AccessPlace) (line : Line) (h : Held) (gfn word : ℕ) (op : Op) (words : Area → ℕ → ℕ) → IsVcpu h.state.actor → gfn < 2 ^ 36 → PartRests h → AccessKnows p gfn (is_write op) h
+    → KnowsAfter line (Access gfn word op) (place.Access p) h (answer_in (access_task p h gfn word op) words)
+own_access p line h gfn word op words vcpu small R K =
+    let v : ℕ = answer_in (access_task p h gfn word op) words in
+    let s : Option PartStep = access_part p gfn h.topics in
+    let cached : Buffer Translation = flushed (kind_of_task h.state.sizes (access_task p h gfn word op)) (caches_at (place.Access p) (Access gfn word op) h v) v in
+    subst (λ (t : Topics). KnowsPart (place_after (access_outcome p h gfn op v)) (Access gfn word op) (hand_with line (Access gfn word op) (place.Access p) h t cached v))
+    (sym (task_topics s h (access_note p) op _ v (access_needs p h gfn (is_write op) vcpu small R K)))
+    (knows_after (access_outcome p h gfn op v) (Access gfn word op) (hand_with line (Access gfn word op) (place.Access p) h (behind_part s h.topics v) cached v)
+    (access_known p line h gfn word op cached v small R K (task_answers s h (access_note p) _ words)))
+
+own_set_slot : (p : SetSlotPlace) (line : Line) (h : Held) (id : ℕ) (slot : Slot) (v : ℕ) → IsAtRest h.topics → KnowsAfter line (SetSlot id slot) (place.SetSlot p) h v
+own_set_slot p line h id slot v R =
+    knows_after (set_slot_outcome p) (SetSlot id slot) (hand_after line (SetSlot id slot) (place.SetSlot p) h v)
+    (set_slot_known p id slot (hand_after line (SetSlot id slot) (place.SetSlot p) h v) (set_slot_rests p h.state.sizes id slot h.topics v R))
+
+own_known : (p : Place) (line : Line) (command : Command) (z : Sizes) (h : Held) (words : Area → ℕ → ℕ) → IsUnderWay p → IsCommandFor z h.state.actor command → PartRests h → KnowsPart p command h
+    → KnowsAfter line command p h (answer_in (task_at p command h) words)
+own_known place.Between line command z h words begun may R K = absurd begun
+own_known (place.Access p) line (Access gfn word op) z h words begun may R K = let V = access_vcpu z h.state.actor gfn word op may in own_access p line h gfn word op words V.0 V.1 R K
+own_known (place.Access p) line (SetSlot id slot) z h words begun may R K = absurd K
+own_known (place.SetSlot p) line (Access gfn word op) z h words begun may R K = absurd K
+own_known (place.SetSlot p) line (SetSlot id slot) z h words begun may R K = own_set_slot p line h id slot _ K
+
+-- what a hand knows where its line stands, also where this is about to begin
+first_known : (z : Sizes) (command : Command) (h : Held) → IsAtRest h.topics → KnowsPart (first_place z h.slots command) command h
+first_known z (Access gfn word op) h R = R
+first_known z (SetSlot id slot) h R = R
+
+standing_known : (q : Place) (z : Sizes) (h : Held) → length h.answers < length h.lines → KnowsPart q h.state.line.command h → KnowsPart (standing q z h.slots (line_at q h).command) (line_at q h).command h
+standing_known place.Between z h left K = first_known z (line_at place.Between h).command h (K (has_line_is h left))
+standing_known (place.Access p) z h left K = K
+standing_known (place.SetSlot p) z h left K = K
+
+pub knows_at : (z : Sizes) (v : View) (a : ℕ) → Invariant z v → a < actors_of z → length (v.hand a).answers < length (v.hand a).lines
+    → KnowsPart (place_at (v.hand a).state.place (v.hand a)) (line_at (v.hand a).state.place (v.hand a)).command (v.hand a)
+knows_at z v a I there left = standing_known (v.hand a).state.place (v.hand a).state.sizes (v.hand a) left (I.knows a there)
+
+pub step_knows : (z : Sizes) (v : View) (a : ℕ) (line : Line) (command : Command) (p : Place) → IsStep z v a line command p → Invariant z v → KnowsPart p command (v.hand a)
+step_knows z v a line command p S I =
+    subst (λ q. KnowsPart q command (v.hand a)) S.place_is
+    (subst (λ c. KnowsPart (place_at (v.hand a).state.place (v.hand a)) c (v.hand a)) (ap (λ (l : Line). l.command) (sym S.line_is) ∙ S.command_is) (knows_at z v a I S.there S.left))
+
+-- Each step of a line leaves each actor with what its place asks.
+pub knows_behind : (z : Sizes) (v : View) (a : ℕ) (line : Line) (command : Command) (p : Place) → IsStep z v a line command p → Invariant z v → TopicsInvariant z v → (i : ℕ) → i < actors_of z
+    → KnowsPart ((stepped a line command p v).hand i).state.place ((stepped a line command p v).hand i).state.line.command ((stepped a line command p v).hand i)
+knows_behind z v a line command p S I P =
+    at_upd (λ i (h : Held). i < actors_of z → KnowsPart h.state.place h.state.line.command h) v.hand a (hand_after line command p (v.hand a) (answer_in (task_at p command (v.hand a)) v.words))
+    (λ there. subst (λ c. KnowsPart (place_after (outcome_at p command (v.hand a) (answer_in (task_at p command (v.hand a)) v.words))) c (hand_after line command p (v.hand a) (answer_in (task_at p command (v.hand a)) v.words))) (sym S.command_is)
+    (own_known p line command z (v.hand a) v.words S.begun (subst (λ x. IsCommandFor z x command) S.own S.allowed) (part_rests_at z v a I P there) (step_knows z v a line command p S I)))
+    (λ i ne. I.knows i)
+
+-- And so does each step of a part, by an actor with no line left.
+idle_knows : (q : Place) (command : Command) (h g : Held) → has_line h ≡ false → UnderWay q h → has_line g ≡ has_line h → KnowsPart q command g
+idle_knows place.Between command h g none under same = λ has. absurd (cc (none, same, has))
+idle_knows (place.Access p) command h g none under same = let has = has_line_is h under.1 in absurd (cc (none, has))
+idle_knows (place.SetSlot p) command h g none under same = let has = has_line_is h under.1 in absurd (cc (none, has))
+
+pub part_knows_behind : (z : Sizes) (v : View) (a : ℕ) (step : PartStep) (note : ℕ) → has_line (v.hand a) ≡ false → Invariant z v → (i : ℕ) → i < actors_of z
+    → KnowsPart ((part_stepped a step note v).hand i).state.place ((part_stepped a step note v).hand i).state.line.command ((part_stepped a step note v).hand i)
+part_knows_behind z v a step note none I =
+    at_upd (λ i (h : Held). i < actors_of z → KnowsPart h.state.place h.state.line.command h) v.hand a _
+    (λ there. idle_knows (v.hand a).state.place (v.hand a).state.line.command (v.hand a) _ none (I.lines a there).under refl)
+    (λ i ne. I.knows i)

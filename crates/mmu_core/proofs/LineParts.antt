@@ -1,0 +1,78 @@
+-- A step of a hand is a step of a part, or leaves claim, watch and stay as they were.
+use Rattle.std.proofs.Common.{◌≡◌, ◌≢◌, ◌⊎◌, inl, inr, ℕ, refl, sym, subst, arith}
+use Rattle.std.specs.Prelude.{Option, Some, None}
+use Rattle.core_views.specs.declared.kind.Kind.{Kind}
+use Rattle.core_views.specs.declared.kind.StepKind.TheVariants as kind
+use Rattle.core_views.specs.declared.place.Place.{Place}
+use Rattle.core_views.specs.declared.place.Place.TheVariants as place
+use Rattle.core_views.specs.declared.place.SetSlotPlace.{SetSlotPlace}
+use Rattle.core_views.specs.declared.place.SetSlotPlace.TheVariants.{Refuse, Fill}
+use Rattle.core_views.specs.declared.place.SlotField.TheVariants as field
+use Rattle.core_views.specs.declared.sizes.Sizes.{Sizes}
+use Rattle.core_views.specs.declared.topics.Topics.{Topics}
+use Rattle.core_views.specs.declared.trace.Command.{Command}
+use Rattle.core_views.specs.declared.trace.Command.TheVariants.{Access, SetSlot}
+use Rattle.core_views.specs.declared.trace.Op.{Op}
+use Rattle.core_views.specs.declared.trace.Op.TheVariants.{Read, Write, Add}
+use Rattle.core_views.specs.declared.trace.Slot.{Slot}
+use Rattle.core_views.specs.Held.{Held}
+use Rattle.core_views.specs.Kinds.{code_of}
+use Rattle.mmu_core.specs.declared.outcome.Task.{Task}
+use Rattle.mmu_core.specs.declared.part_step.PartStep.{PartStep}
+use Rattle.mmu_core.specs.declared.part_step.PartStep.TheVariants as part
+use Rattle.mmu_core.specs.AccessSteps.{access_note, access_part, task_by, touch_of}
+use Rattle.mmu_core.specs.Enabled.{Enabled}
+use Rattle.mmu_core.specs.PartSteps.{PartNeeds, part_kind}
+use Rattle.mmu_core.specs.Rests.{RestsAt, RestsOn}
+use Rattle.mmu_core.specs.SetSlotSteps.{set_slot_task}
+use Rattle.mmu_core.specs.Steps.{line_at, place_at, task_at}
+use Rattle.mmu_core.specs.Tasks.{kind_of_task}
+use Rattle.mmu_core.specs.TopicSteps.{topics_after}
+
+-- the step of a part, whose needs the hand holds
+pub record IsPartKind (h : Held) (k : Kind) : Type 0 where
+  pub step : PartStep
+  pub note : ℕ
+  pub is : k ≡ part_kind h step note
+  pub needs : PartNeeds step h
+
+-- It is no look at a state word, and leaves claim, watch and stay.
+pub record IsQuiet (z : Sizes) (t : Topics) (k : Kind) : Type 0 where
+  pub code : k.code ≢ code_of kind.Watch
+  pub claim : (v : ℕ) → (topics_after z k t v).claim ≡ t.claim
+  pub watched : (v : ℕ) → (topics_after z k t v).watched ≡ t.watched
+  pub stay : (v : ℕ) → (topics_after z k t v).stay ≡ t.stay
+
+abbrev PartOrQuiet : Held → Task → Type 0
+PartOrQuiet h t = IsPartKind h (kind_of_task h.state.sizes t) ⊎ IsQuiet h.state.sizes h.topics (kind_of_task h.state.sizes t)
+
+touch_quiet : (op : Op) (z : Sizes) (t : Topics) (index : ℕ) → IsQuiet z t (kind_of_task z (touch_of op index))
+unfolding topics_after
+touch_quiet Read z t index = record { code = λ e. absurd (omega (arith, e)); claim = λ v. refl; watched = λ v. refl; stay = λ v. refl }
+touch_quiet (Write x) z t index = record { code = λ e. absurd (omega (arith, e)); claim = λ v. refl; watched = λ v. refl; stay = λ v. refl }
+touch_quiet (Add x) z t index = record { code = λ e. absurd (omega (arith, e)); claim = λ v. refl; watched = λ v. refl; stay = λ v. refl }
+
+access_kind : (s : Option PartStep) (h : Held) (note : ℕ) (op : Op) (index : ℕ) → RestsOn s h → PartOrQuiet h (task_by s h note (touch_of op index))
+access_kind None h note op index N = inr (touch_quiet op h.state.sizes h.topics index)
+access_kind (Some step) h note op index N = inl (record { step = step; note = note; is = refl; needs = N })
+
+setting_kind : (p : SetSlotPlace) (h : Held) (id : ℕ) (slot : Slot) → PartOrQuiet h (set_slot_task p id slot)
+unfolding topics_after
+setting_kind (Refuse refusal) h id slot = inl (record { step = part.Seq; note = 1; is = refl; needs = tt })
+setting_kind (Fill field.Base) h id slot = inr (record { code = λ e. absurd (omega (arith, e)); claim = λ v. refl; watched = λ v. refl; stay = λ v. refl })
+setting_kind (Fill field.Pages) h id slot = inr (record { code = λ e. absurd (omega (arith, e)); claim = λ v. refl; watched = λ v. refl; stay = λ v. refl })
+setting_kind (Fill field.Host) h id slot = inr (record { code = λ e. absurd (omega (arith, e)); claim = λ v. refl; watched = λ v. refl; stay = λ v. refl })
+setting_kind (Fill field.Flags) h id slot = inr (record { code = λ e. absurd (omega (arith, e)); claim = λ v. refl; watched = λ v. refl; stay = λ v. refl })
+
+line_kind : (p : Place) (command : Command) (h : Held) → RestsAt p command h → PartOrQuiet h (task_at p command h)
+line_kind place.Between (Access gfn word op) h R = inl (record { step = part.Seq; note = 0; is = refl; needs = tt })
+line_kind place.Between (SetSlot id slot) h R = inl (record { step = part.Seq; note = 0; is = refl; needs = tt })
+line_kind (place.Access p) (Access gfn word op) h R = access_kind (access_part p gfn h.topics) h (access_note p) op _ R
+line_kind (place.Access p) (SetSlot id slot) h R = absurd R
+line_kind (place.SetSlot p) (Access gfn word op) h R = absurd R
+line_kind (place.SetSlot p) (SetSlot id slot) h R = setting_kind p h id slot
+
+pub step_kind : (h : Held) (k : Kind) → Enabled h k → IsPartKind h k ⊎ IsQuiet h.state.sizes h.topics k
+unfolding Enabled
+step_kind h k (inl e) = subst (λ (x : Kind). IsPartKind h x ⊎ IsQuiet h.state.sizes h.topics x) (sym e.is) (line_kind (place_at h.state.place h) (line_at h.state.place h).command h e.rests.at)
+step_kind h k (inr e) = inl (record { step = e.step; note = e.note; is = e.is; needs = e.needs })

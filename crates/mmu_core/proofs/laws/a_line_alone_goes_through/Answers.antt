@@ -1,0 +1,16 @@
+use Rattle.mmu_core.proofs.AloneEnds.{ends_alone}
+use Rattle.mmu_core.proofs.AloneEnough.{none_starved}
+use Rattle.mmu_core.proofs.AloneRuns.{begins_alone, steps_alone}
+use Rattle.mmu_core.proofs.laws.a_line_alone_goes_through.Goals as goal
+
+pub returns-clause-through : goal.returns-clause-through
+returns-clause-through c = steps_alone
+
+pub returns-clause-begins : goal.returns-clause-begins
+returns-clause-begins c = begins_alone
+
+pub returns-clause-ends : goal.returns-clause-ends
+returns-clause-ends c = ends_alone
+
+pub returns-clause-enough : goal.returns-clause-enough
+returns-clause-enough c = none_starved

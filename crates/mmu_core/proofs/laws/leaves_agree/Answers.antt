@@ -1,0 +1,14 @@
+use Rattle.mmu_core.proofs.LeafLaws.{cached_leaves_agree, held_leaves_agree, leaves_agree, used_leaves_agree}
+use Rattle.mmu_core.proofs.laws.leaves_agree.Goals as goal
+
+pub returns-clause-standing : goal.returns-clause-standing
+returns-clause-standing c = leaves_agree
+
+pub returns-clause-held : goal.returns-clause-held
+returns-clause-held c = held_leaves_agree
+
+pub returns-clause-cached : goal.returns-clause-cached
+returns-clause-cached c = cached_leaves_agree
+
+pub returns-clause-used : goal.returns-clause-used
+returns-clause-used c = used_leaves_agree

@@ -1,0 +1,14 @@
+use Rattle.mmu_core.proofs.StepLaws.{entering_flushes, notes_tell_ends, others_cache_one, steps_are_on_their_areas}
+use Rattle.mmu_core.proofs.laws.steps_tell_what_they_are.Goals as goal
+
+pub returns-clause-areas : goal.returns-clause-areas
+returns-clause-areas c = steps_are_on_their_areas
+
+pub returns-clause-notes : goal.returns-clause-notes
+returns-clause-notes c = notes_tell_ends
+
+pub returns-clause-flushes : goal.returns-clause-flushes
+returns-clause-flushes c = entering_flushes
+
+pub returns-clause-caches : goal.returns-clause-caches
+returns-clause-caches c = others_cache_one

@@ -1,0 +1,28 @@
+-- What the steps of the parts may rest on, from the hand alone: bounds.
+use Rattle.std.specs.Prelude.{◌≡◌, ◌+◌, ◌<◌, ◌≤◌, ℕ, All, Some, true}
+use Rattle.core_views.specs.declared.topics.Hold.TheVariants.{Owing}
+use Rattle.core_views.specs.declared.topics.HostLook.{HostLook}
+use Rattle.core_views.specs.declared.topics.OwnedPage.{OwnedPage}
+use Rattle.core_views.specs.Held.{Held}
+use Rattle.core_views.specs.Sizes.{AreSizes, actors_of}
+use Rattle.spte_words.specs.HostWords.{host_frame}
+use Rattle.mmu_core.specs.Cached.{IsAtLeafLevel}
+use Rattle.mmu_core.specs.HeldPart.{CountersPart}
+use Rattle.mmu_core.specs.PartSteps.{own_index, table_page}
+use Rattle.mmu_core.specs.TopicSteps.{has_writer}
+
+-- What holds of every hand that some world has: its actor is one of the machine's, its pages are pages of the pool, its counters
+-- stay within what they count, and where it has yet to take itself out of the lock's readers it saw a writer.
+pub record PartRests (h : Held) : Type 0 where
+  pub sizes : AreSizes h.state.sizes
+  pub own_place : own_index h < actors_of h.state.sizes
+  pub level : h.topics.walk.level ≤ 4
+  pub table : 1 ≤ h.topics.walk.level → table_page h.topics.walk < h.state.sizes.pool
+  pub set : (k : ℕ) → h.topics.search.set ≡ Some k → k < h.state.sizes.pool
+  pub page : (o : OwnedPage) → h.topics.owned ≡ Some o → o.page < h.state.sizes.pool
+  pub filled : (o : OwnedPage) → h.topics.owned ≡ Some o → o.filled ≤ 513
+  pub counters : CountersPart h.state.sizes h.topics
+  pub found : h.topics.search.whole ≡ true → h.topics.search.slot.host + h.topics.search.slot.pages ≤ h.state.sizes.pages
+  pub levels : All IsAtLeafLevel h.cached.items
+  pub looked : (look : HostLook) → h.topics.host ≡ Some look → (look.page < h.state.sizes.pages) × (host_frame look.word < h.state.sizes.frames)
+  pub saw_writer : (word : ℕ) → h.topics.hold ≡ Owing word → has_writer word ≡ true

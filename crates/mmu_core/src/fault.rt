@@ -1,0 +1,316 @@
+//! The steps of a fault.
+ghost use Rattle.std.specs.Prelude.{◌≡◌, ◌≢◌, ◌≤◌, ◌<◌, ◌^◌, ◌&&◌, Bool, true, not, if◌then◌else◌};
+ghost use Rattle.core_views.specs.declared.place.Cause.TheVariants.{Entry};
+ghost use Rattle.core_views.specs.declared.place.FaultEnd.TheVariants.{HostFault, Retry};
+ghost use Rattle.core_views.specs.declared.place.FaultPlace.TheVariants.{End, Find, Give, Host, Share, Unshare};
+ghost use Rattle.core_views.specs.Sizes.{AreSizes};
+ghost use Rattle.mmu_core.specs.FaultSteps.{at_map_word, check_next, check_part, claim_next, claim_part, entry_word, fault_next, fault_part, find_next, map_word, share_next, table_value, tries_page, walk_next};
+ghost use Rattle.mmu_core.specs.PartBounds.{PartRests};
+ghost use Rattle.mmu_core.specs.PartSteps.{PartNeeds, table_page, words_filled};
+ghost use Rattle.mmu_core.specs.SlotWords.{page_of};
+ghost use Rattle.mmu_core.specs.TopicSteps.{searched};
+ghost use Rattle.spte_words.specs.Entries.{kind_of};
+ghost use Rattle.spte_words.specs.HostWords.{host_allows_write};
+
+use crate::map_of;
+use crate::part_step::{PartStep, run_of, table_page};
+use crate::topics::{WRITER, search};
+use core_views::{
+    Cause, CheckStage, FaultEnd, FaultNext, FaultPlace, Hand, Hold, MapClaim, OwnedPage, Sizes,
+    Slot, SlotField, SlotSearch, TableWalk, Topics,
+};
+use spte_words::{Area, HostWord, Spte, SpteKind};
+
+/// How many words of a table's page are entries.
+const ENTRIES: u64 = 512;
+
+// The host page behind a guest frame of the slot.
+fn page_of(slot: &Slot, gfn: u64) -> u64
+    requires { page_of slot.now gfn < 2 ^ 64 }
+    ensures { result ≡ page_of slot.now gfn }
+{
+    slot.host + gfn.saturating_sub(slot.base)
+}
+
+fn tries_page(begun: bool, claim: &MapClaim) -> bool
+    ensures { result ≡ tries_page begun claim.now }
+{
+    begun && claim.seen > 0
+}
+
+fn map_word(begun: bool, claim: &MapClaim) -> u64
+    ensures { result ≡ map_word begun claim.now }
+{
+    if begun { claim.at } else { 0 }
+}
+
+// How many words of the owned page are filled.
+fn filled(owned: &Option<OwnedPage>) -> u64
+    ensures { result ≡ words_filled owned.now }
+{
+    match owned {
+        Some(page) => page.filled,
+        None => 0,
+    }
+}
+
+// What the next word of the page is: an absent entry, or the role.
+fn table_value(topics: &Topics) -> u64
+    ensures { result ≡ table_value topics.now }
+{
+    if filled(&topics.owned) < ENTRIES {
+        0
+    } else {
+        topics.walk.level.saturating_sub(1) as u64
+    }
+}
+
+fn check_part(stage: CheckStage) -> PartStep
+    ensures { result ≡ check_part stage }
+{
+    match stage {
+        CheckStage::Count => PartStep::Count,
+        CheckStage::Start => PartStep::RangeStart,
+        CheckStage::End => PartStep::RangeEnd,
+        CheckStage::Seq => PartStep::Seq,
+    }
+}
+
+fn claim_part(begun: bool, claim: &MapClaim) -> PartStep
+    ensures { result ≡ claim_part begun claim.now }
+{
+    if tries_page(begun, claim) {
+        PartStep::Claim
+    } else {
+        PartStep::Map(map_word(begun, claim))
+    }
+}
+
+/// The step of this place.
+pub(crate) fn part(place: FaultPlace, gfn: u64, topics: &Topics) -> PartStep
+    requires page { place ≡ Host → page_of topics.now.search.slot gfn < 2 ^ 64 }
+    ensures { result ≡ fault_part place gfn topics.now }
+{
+    match place {
+        FaultPlace::Begin => PartStep::Begin,
+        FaultPlace::Snapshot => PartStep::Seq,
+        FaultPlace::Find { begun: true } => PartStep::Slot,
+        FaultPlace::Find { begun: false } => PartStep::Slots,
+        FaultPlace::Host => PartStep::Host(page_of(&topics.search.slot, gfn)),
+        FaultPlace::Share => match topics.hold {
+            Hold::Owing(_) => PartStep::Unshare,
+            _ => PartStep::Share,
+        },
+        FaultPlace::Check(stage) => check_part(stage),
+        FaultPlace::Walk { rooted: true } => PartStep::Walk(gfn),
+        FaultPlace::Walk { rooted: false } => PartStep::Root,
+        FaultPlace::Claim { begun } => claim_part(begun, &topics.claim),
+        FaultPlace::Fill => PartStep::Fill(table_value(topics)),
+        FaultPlace::Link => PartStep::Link(gfn),
+        FaultPlace::Give(_) => PartStep::Give,
+        FaultPlace::Leaf => PartStep::Leaf(gfn),
+        FaultPlace::Unshare(_) => PartStep::Unshare,
+        FaultPlace::End(_) => PartStep::End,
+    }
+}
+
+// Behind a word of the slots.
+fn find_next(gfn: u64, write: bool, loaded: SlotField, found: &SlotSearch) -> FaultPlace
+    ensures { result ≡ find_next gfn write loaded found.now }
+{
+    if loaded == SlotField::Host && found.slot.contains(gfn) {
+        if write && found.slot.read_only {
+            FaultPlace::End(FaultEnd::Mmio)
+        } else {
+            FaultPlace::Host
+        }
+    } else if found.id == 32 {
+        FaultPlace::End(FaultEnd::Mmio)
+    } else {
+        FaultPlace::Find { begun: true }
+    }
+}
+
+// Behind a try for the lock.
+fn share_next(hold: Hold, found: u64) -> FaultPlace
+    ensures { result ≡ share_next hold found }
+{
+    match hold {
+        Hold::Owing(_) => FaultPlace::Share,
+        _ if found >= WRITER => FaultPlace::Share,
+        _ => FaultPlace::Check(CheckStage::Count),
+    }
+}
+
+// Behind a word of the check.
+fn check_next(stage: CheckStage, gfn: u64, topics: &Topics, found: u64) -> FaultPlace
+    ensures { result ≡ check_next stage gfn topics.now found }
+{
+    let kept = &topics.invalidations;
+    match stage {
+        CheckStage::Count if found == 0 => FaultPlace::Check(CheckStage::Seq),
+        CheckStage::Count => FaultPlace::Check(CheckStage::Start),
+        CheckStage::Start => FaultPlace::Check(CheckStage::End),
+        CheckStage::End if kept.start <= gfn && gfn < found => {
+            FaultPlace::Unshare(FaultEnd::Retry(Cause::Open {
+                count: kept.count,
+                start: kept.start,
+                end: found,
+                gfn,
+            }))
+        }
+        CheckStage::End => FaultPlace::Check(CheckStage::Seq),
+        CheckStage::Seq => {
+            let old = kept.snapshot.unwrap_or(0);
+            if found == old {
+                FaultPlace::Walk { rooted: false }
+            } else {
+                FaultPlace::Unshare(FaultEnd::Retry(Cause::Moved { old, now: found }))
+            }
+        }
+    }
+}
+
+// Where the guest frame's entry of the walk's table stands among all words.
+fn entry_word(sizes: &Sizes, gfn: u64, walk: &TableWalk) -> u32
+    requires sizes { AreSizes sizes.now }
+    requires from { 1 ≤ walk.now.level }
+    requires to { walk.now.level ≤ 4 }
+    requires page { table_page walk.now < sizes.now.pool }
+    ensures { result ≡ entry_word sizes.now gfn walk.now }
+{
+    let map = map_of(sizes);
+    let index = map.pool_index(table_page(walk), run_of(gfn, walk.level) % ENTRIES);
+    map.word_of(Area::Pool, index)
+}
+
+// The entry isn't as it was read.
+fn changed(word: u32, read: u64, seen: u64) -> FaultEnd
+    ensures { result ≡ Retry (Entry word read seen) }
+{
+    FaultEnd::Retry(Cause::Entry { word, read, seen })
+}
+
+// Behind an entry of the walk's table.
+fn walk_next(sizes: &Sizes, gfn: u64, write: bool, walk: &TableWalk, found: u64) -> FaultPlace
+    requires sizes { AreSizes sizes.now }
+    requires from { 1 ≤ walk.now.level }
+    requires to { walk.now.level ≤ 4 }
+    requires page { table_page walk.now < sizes.now.pool }
+    ensures { result ≡ walk_next (kind_of walk.now.level found) sizes.now gfn write walk.now found }
+{
+    let entry = Spte::from_word(found);
+    match entry.kind(walk.level) {
+        SpteKind::Table(_) => FaultPlace::Walk { rooted: true },
+        SpteKind::Leaf if walk.level == 1 => {
+            if !write || entry.is_writable() {
+                FaultPlace::Unshare(FaultEnd::Installed)
+            } else {
+                FaultPlace::Leaf
+            }
+        }
+        SpteKind::Absent if walk.level == 1 => FaultPlace::Leaf,
+        SpteKind::Absent => FaultPlace::Claim { begun: false },
+        SpteKind::Leaf | SpteKind::Frozen => {
+            FaultPlace::Unshare(changed(entry_word(sizes, gfn, walk), found, found))
+        }
+    }
+}
+
+// Behind a step of a claim.
+fn claim_next(begun: bool, sizes: &Sizes, claim: &MapClaim, found: u64) -> FaultPlace
+    requires sizes { AreSizes sizes.now }
+    requires at { claim.now.at < 2 ^ 32 }
+    requires seen { tries_page begun claim.now ≡ true → 0 < claim.now.seen }
+    ensures { result ≡ claim_next (tries_page begun claim.now) sizes.now (at_map_word begun claim.now) found }
+{
+    if tries_page(begun, claim) {
+        let bit = claim.seen.trailing_zeros();
+        return if (found >> bit) % 2 == 1 {
+            FaultPlace::Fill
+        } else {
+            FaultPlace::Claim { begun: true }
+        };
+    }
+    let at = map_word(begun, claim) + if found == 0 { 1 } else { 0 };
+    if at < map_of(sizes).size_of(Area::PoolMap) as u64 {
+        FaultPlace::Claim { begun: true }
+    } else {
+        FaultPlace::Unshare(FaultEnd::Starved)
+    }
+}
+
+// Behind an exchange of an entry: where it was won, this place.
+fn exchange_next(hand: &Hand, gfn: u64, found: u64, won: FaultPlace, link: bool) -> FaultPlace
+    requires rests { PartRests hand.now.core }
+    requires from { 1 ≤ hand.now.core.topics.walk.level }
+    ensures won { found ≡ hand.now.core.topics.walk.entry → result ≡ won }
+    ensures lost { found ≢ hand.now.core.topics.walk.entry → result ≡ (if link then Give (Retry (Entry (entry_word hand.now.core.state.sizes gfn hand.now.core.topics.walk) hand.now.core.topics.walk.entry found)) else Unshare (Retry (Entry (entry_word hand.now.core.state.sizes gfn hand.now.core.topics.walk) hand.now.core.topics.walk.entry found))) }
+{
+    let walk = &hand.topics().walk;
+    if found == walk.entry {
+        return won;
+    }
+    let word = entry_word(&hand.state().sizes, gfn, walk);
+    let end = changed(word, walk.entry, found);
+    if link {
+        FaultPlace::Give(end)
+    } else {
+        FaultPlace::Unshare(end)
+    }
+}
+
+// The place behind a step of the look-up or of the lock.
+fn looked_next(place: FaultPlace, gfn: u64, write: bool, topics: &Topics, found: u64) -> FaultPlace
+    requires begun { place ≡ Find true → topics.now.search.id ≤ 31 }
+    ensures find { (begun : Bool) → place ≡ Find begun → result ≡ (if begun then find_next gfn write topics.now.search.next (searched topics.now.search found) else Find true) }
+    ensures host { place ≡ Host → result ≡ (if write && not (host_allows_write found) then End HostFault else Share) }
+    ensures share { place ≡ Share → result ≡ share_next topics.now.hold found }
+{
+    match place {
+        FaultPlace::Find { begun: true } => {
+            let mut after = topics.search;
+            search(&mut after, found);
+            find_next(gfn, write, topics.search.next, &after)
+        }
+        FaultPlace::Find { begun: false } => FaultPlace::Find { begun: true },
+        FaultPlace::Host if write && !HostWord::from_word(found).is_writable() => {
+            FaultPlace::End(FaultEnd::HostFault)
+        }
+        FaultPlace::Host => FaultPlace::Share,
+        _ => share_next(topics.hold, found),
+    }
+}
+
+/// Where the fault stands behind the step of this place, which answered `found`.
+pub(crate) fn next(place: FaultPlace, hand: &Hand, gfn: u64, write: bool, found: u64) -> FaultNext
+    requires rests { PartRests hand.now.core }
+    requires needs { PartNeeds (fault_part place gfn hand.now.core.topics) hand.now.core }
+    ensures { result ≡ fault_next place hand.now.core.state.sizes gfn write hand.now.core.topics found }
+{
+    let sizes = &hand.state().sizes;
+    let topics = hand.topics();
+    FaultNext::Goes(match place {
+        FaultPlace::Begin => FaultPlace::Snapshot,
+        FaultPlace::Snapshot => FaultPlace::Find { begun: false },
+        FaultPlace::Find { .. } | FaultPlace::Host | FaultPlace::Share => {
+            looked_next(place, gfn, write, topics, found)
+        }
+        FaultPlace::Check(stage) => check_next(stage, gfn, topics, found),
+        FaultPlace::Walk { rooted: true } => walk_next(sizes, gfn, write, &topics.walk, found),
+        FaultPlace::Walk { rooted: false } => FaultPlace::Walk { rooted: true },
+        FaultPlace::Claim { begun } => claim_next(begun, sizes, &topics.claim, found),
+        FaultPlace::Fill if filled(&topics.owned) < ENTRIES => FaultPlace::Fill,
+        FaultPlace::Fill => FaultPlace::Link,
+        FaultPlace::Link => {
+            exchange_next(hand, gfn, found, FaultPlace::Walk { rooted: true }, true)
+        }
+        FaultPlace::Give(end) => FaultPlace::Unshare(end),
+        FaultPlace::Leaf => {
+            let installed = FaultPlace::Unshare(FaultEnd::Installed);
+            exchange_next(hand, gfn, found, installed, false)
+        }
+        FaultPlace::Unshare(end) => FaultPlace::End(end),
+        FaultPlace::End(end) => return FaultNext::Ends(end),
+    })
+}

@@ -1,7 +1,0 @@
--- None of the translations so far is usable.
-use Rattle.std.proofs.Common.{◌≡◌, drop}
-use Rattle.table_core.specs.Cached.{first_usable}
-use Rattle.table_core.proofs.access.lookup.Given as goal
-
-abbrev pub invariant-loop-i : goal.invariant-loop-i
-invariant-loop-i l = first_usable l.gfn l.write l.cache.items ≡ first_usable l.gfn l.write (drop l.i l.cache.items)

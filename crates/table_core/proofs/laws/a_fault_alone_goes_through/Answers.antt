@@ -1,9 +1,0 @@
-use Rattle.table_core.proofs.FaultAlone.{goes_through}
-use Rattle.table_core.proofs.LeadsDown.{leads_down}
-use Rattle.table_core.proofs.laws.a_fault_alone_goes_through.Goals as goal
-
-pub returns-clause-through : goal.returns-clause-through
-returns-clause-through c = goes_through
-
-pub returns-clause-leads : goal.returns-clause-leads
-returns-clause-leads c = leads_down

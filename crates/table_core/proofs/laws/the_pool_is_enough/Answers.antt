@@ -1,8 +1,0 @@
-use Rattle.table_core.proofs.Enough.{each_table_is_wanted, enough_pages}
-use Rattle.table_core.proofs.laws.the_pool_is_enough.Goals as goal
-
-pub returns-clause-wanted : goal.returns-clause-wanted
-returns-clause-wanted c = each_table_is_wanted
-
-pub returns-clause-enough : goal.returns-clause-enough
-returns-clause-enough c = enough_pages

@@ -1,8 +1,0 @@
--- Host words: the host map, which no step changes yet.
-use Rattle.std.specs.Prelude.{◌≡◌, ◌<◌, ℕ, true}
-use Rattle.table_views.specs.declared.sizes.Sizes.{Sizes}
-use Rattle.table_words.specs.HostWords.{host_word}
-
--- Host words: each page is present, writable and small, at the frame of its own number.
-abbrev pub HostWordsPart : Sizes → (ℕ → ℕ) → Type 0
-HostWordsPart z host = (p : ℕ) → p < z.pages → host p ≡ host_word p true true 1

@@ -1,0 +1,84 @@
+//! The machine beside flat guest memory: on each trace of a table both answer
+//! the same, with the pool that the trace needs and with a larger one, and with
+//! one cached translation and with 64.
+ghost use Rattle.core_views.specs.Traces.{AreLinesOf};
+
+use crate::status::Status;
+use crate::tests::run_on;
+use crate::traces::{COUNT, TRACES};
+use core_views::Trace;
+use flat_model::Plain;
+use std::alloc::Global;
+use std::sync::Wait;
+use std::test::Fail;
+use std::thread::Threads;
+use tdp_io::MemSource;
+use trace_reader::{Read, need, read_trace};
+use trace_text::answer_line;
+
+// A whole trace of a text of the table, for a pool of so many pages and caches
+// of so many translations.
+fn whole_trace(alloc: Global, text: &str, pool: u64, cache: u8) -> Result<String, Fail> {
+    let (sizes, lines) = text.split_once("\n").unwrap_or((text, ""));
+    Ok(format!(in alloc; "tdp 1 {sizes} pool {pool} cache {cache} manual 0 hosts 0\n{lines}")?)
+}
+
+// What flat guest memory answers the trace, as text.
+fn plain_answers(alloc: Global, trace: &Trace) -> Result<String, Fail>
+    requires { AreLinesOf trace.now.header trace.now.lines }
+{
+    let mut plain = Plain::new(alloc, trace)?;
+    let mut text = String::new(alloc);
+    for line in trace.lines.as_slice() {
+        let answer = plain.line(alloc, line)?;
+        text.push_str(&answer_line(alloc, line.number, line.actor, &answer)?)?;
+    }
+    Ok(text)
+}
+
+// How many pool pages the trace needs that the text is, and what flat guest
+// memory answers it, if the text is a trace.
+fn flat_answers(alloc: Global, whole: &str) -> Result<Option<(u64, String)>, Fail> {
+    let input = whole.as_bytes().to_vec(alloc)?;
+    let mut src = MemSource::new(input, Vec::new(alloc));
+    match read_trace(alloc, &mut src)? {
+        Read::Trace(trace) => Ok(Some((need(alloc, &trace)?, plain_answers(alloc, &trace)?))),
+        _ => Ok(None),
+    }
+}
+
+// The trace of the text that the machine answers otherwise than flat guest
+// memory, if there is one.
+fn differing<R: Threads + Wait + Sync>(
+    rt: &R,
+    alloc: Global,
+    text: &str,
+) -> Result<Option<String>, Fail> {
+    let whole = whole_trace(alloc, text, 64, 64)?;
+    let Some((need, answers)) = flat_answers(alloc, &whole)? else {
+        return Ok(Some(whole));
+    };
+    for (more, cache) in [(0, 1), (0, 64), (1, 1), (60, 64)] {
+        let whole = whole_trace(alloc, text, need.saturating_add(more), cache)?;
+        let (status, out) = run_on(rt, alloc, &["tdpmmu", "replay"], "", &whole, &[], &[])?;
+        if status != Status::Done || out.bytes() != answers.as_bytes() {
+            return Ok(Some(whole));
+        }
+    }
+    Ok(None)
+}
+
+#[test]
+fn answers_as_flat_memory(rt: HostRuntime) -> Result<(), Fail> {
+    let mut rest = TRACES;
+    for _ in 0..COUNT {
+        let Some((text, more)) = rest.split_once("--\n") else {
+            break;
+        };
+        let found = differing(&rt, rt.alloc(), text)?;
+        assert!(rt; found.is_none(), "on {found:?}");
+        rest = more;
+    }
+    assert_eq!(rt; rest, "");
+    Ok(())
+}

@@ -1,0 +1,177 @@
+ghost use Rattle.std.specs.Prelude.{◌≡◌, ◌<◌, length};
+ghost use Rattle.core_views.specs.declared.place.AccessPlace.TheVariants as at;
+ghost use Rattle.core_views.specs.declared.place.Place.TheVariants as place;
+ghost use Rattle.core_views.specs.declared.trace.Command.TheVariants.{Access};
+ghost use Rattle.host_map.specs.Touching.{touch_kind};
+ghost use Rattle.mmu_core.specs.AccessSteps.{touch_of};
+ghost use Rattle.mmu_core.specs.Enabled.{Enabled};
+ghost use Rattle.mmu_core.specs.Rests.{Rests};
+ghost use Rattle.mmu_core.specs.Steps.{place_at};
+ghost use Rattle.mmu_core.specs.Turns.{IsSameHand, line_of};
+ghost use Rattle.step_seats.specs.Moves.{KeepsRoom};
+ghost use Rattle.vcpu_run.specs.Accesses.{HasItsCause, IsStay, MakesLine, Says, StandsAt, TurnsLine, WalksAt, answer_of};
+
+use core_views::{AccessPlace, Answer, FaultPlace, Hand, Op, Place};
+use fault_install::{FaultJob, Faulted};
+use host_map::touch;
+use mmu_core::{access_note, knows, rests};
+use spte_words::Spte;
+use step_seats::{Stepper, Turn};
+use tdp_walk::Walk;
+use vcpu_tlb::{enter, leave, paused};
+
+/// The access of one line, a step a turn. Where it stands is kept in the hand of
+/// its virtual processor, which drives the job.
+#[derive(Clone, Copy, Debug, PartialEq, Eq, Drop)]
+pub struct AccessJob {
+    /// The place of the line among the lines of its actor, from 0.
+    pub index: usize,
+    /// The guest frame, below 2^36.
+    pub gfn: u64,
+    /// The word of the frame.
+    pub word: u8,
+    pub op: Op,
+}
+
+// Where the access of the hand stands.
+fn place_of(hand: &Hand, job: &AccessJob) -> AccessPlace
+    requires rests { Rests hand.now.core }
+    requires access { (line_of hand.now.core).command ≡ Access job.now.gfn job.now.word job.now.op }
+    ensures { place_at hand.now.core.state.place hand.now.core ≡ place.Access result }
+{
+    match hand.state().place {
+        Place::Between => AccessPlace::Enter { again: false },
+        Place::Access(place) => place,
+        Place::SetSlot(_) => unreachable!(),
+    }
+}
+
+// The number that the operation stores or adds.
+fn operand(op: Op) -> u64
+    ensures { result ≡ (touch_of op 0).written }
+{
+    match op {
+        Op::Read => 0,
+        Op::Write(number) | Op::Add(number) => number,
+    }
+}
+
+impl AccessJob {
+    // The frame of the leaf that the access uses. Its operation may be made
+    // there, since the operation's number has 64 bits.
+    fn frame(&self, hand: &Hand) -> u64
+        requires stands { StandsAt at.Touch self.now hand.now.core }
+        ensures there { result < hand.now.core.state.sizes.frames }
+        ensures word { self.now.word < hand.now.core.state.sizes.words }
+        ensures enabled { Enabled hand.now.core (touch_kind hand.now.core.state.sizes result self.now.word self.now.op 0) }
+    {
+        let _ = operand(self.op);
+        Spte::from_word(hand.state().leaf).frame()
+    }
+
+    // Makes the step of a stay in the guest.
+    fn stay<S: Stepper>(&self, s: &mut S, place: AccessPlace)
+        requires stands { StandsAt place self.now (S.handful s.old).core }
+        requires stay { IsStay place }
+        requires reserved { 0 < (S.handful s.old).room }
+        ensures makes { MakesLine (S.actor s.old) (S.handful s.old).core (S.handful s.new).core (record { world = S.told s.old; steps = S.steps s.old }) (record { world = S.told s.new; steps = S.steps s.new }) }
+        ensures room { KeepsRoom (S.handful s.old) (S.handful s.new) }
+        ensures same { (S.actor s.new ≡ S.actor s.old) × (S.frame s.new ≡ S.frame s.old) }
+    {
+        match place {
+            AccessPlace::Enter { .. } => {
+                let _ = enter(s, 0);
+            }
+            AccessPlace::Pause { .. } => {
+                let _ = paused(s, 0);
+            }
+            AccessPlace::Root { .. } => self.walk(s, false),
+            AccessPlace::Walk { .. } => self.walk(s, true),
+            AccessPlace::Touch => {
+                let frame = self.frame(s.hand());
+                let _ = touch(s, frame, self.word, self.op, 0);
+            }
+            AccessPlace::Leave(_) => leave(s, access_note(place)),
+            AccessPlace::Fault(_) => unreachable!(),
+        }
+    }
+
+    // Loads the root, or the next entry of the walk.
+    fn walk<S: Stepper>(&self, s: &mut S, rooted: bool)
+        requires stands { WalksAt rooted self.now (S.handful s.old).core }
+        requires reserved { 0 < (S.handful s.old).room }
+        ensures makes { MakesLine (S.actor s.old) (S.handful s.old).core (S.handful s.new).core (record { world = S.told s.old; steps = S.steps s.old }) (record { world = S.told s.new; steps = S.steps s.new }) }
+        ensures room { KeepsRoom (S.handful s.old) (S.handful s.new) }
+        ensures same { (S.actor s.new ≡ S.actor s.old) × (S.frame s.new ≡ S.frame s.old) }
+    {
+        let mut walk = Walk {
+            gfn: self.gfn,
+            rooted,
+        };
+        let _ = walk.turn(s, 0);
+    }
+
+    // Makes the step of a fault.
+    fn fault<S: Stepper>(&self, s: &mut S, place: FaultPlace) -> Turn<Answer>
+        requires stands { StandsAt (at.Fault place) self.now (S.handful s.old).core }
+        requires reserved { 0 < (S.handful s.old).room }
+        ensures turns { TurnsLine result (S.actor s.old) (S.handful s.old).core (S.handful s.new).core (record { world = S.told s.old; steps = S.steps s.old }) (record { world = S.told s.new; steps = S.steps s.new }) }
+        ensures cause { HasItsCause result self.now (S.handful s.old).core }
+        ensures room { KeepsRoom (S.handful s.old) (S.handful s.new) }
+        ensures same { (S.actor s.new ≡ S.actor s.old) × (S.frame s.new ≡ S.frame s.old) }
+    {
+        let mut job = FaultJob {
+            gfn: self.gfn,
+            write: self.op.is_write(),
+            place,
+        };
+        let turn = job.turn(s, access_note(AccessPlace::Fault(place)));
+        answer_of(turn)
+    }
+
+    /// Makes the next step of the line, and says whether it is answered. `Wait`
+    /// where a writer has the lock, or a page was claimed by another actor
+    /// meanwhile; `Retry` where the fault's look-up holds no more, or another
+    /// actor's entry stood in its way: the access begins anew then, from outside
+    /// the guest.
+    pub fn turn<S: Stepper>(&mut self, s: &mut S) -> Turn<Answer>
+        requires left { length (S.handful s.old).core.answers < length (S.handful s.old).core.lines }
+        requires next { self.old.index ≡ length (S.handful s.old).core.answers }
+        requires access { (line_of (S.handful s.old).core).command ≡ Access self.old.gfn self.old.word self.old.op }
+        requires reserved { 0 < (S.handful s.old).room }
+        ensures turns { TurnsLine result (S.actor s.old) (S.handful s.old).core (S.handful s.new).core (record { world = S.told s.old; steps = S.steps s.old }) (record { world = S.told s.new; steps = S.steps s.new }) }
+        ensures cause { HasItsCause result self.old (S.handful s.old).core }
+        ensures says { Says result (line_of (S.handful s.old).core) (S.handful s.old).core (S.handful s.new).core }
+        ensures hand { IsSameHand (S.handful s.old).core (S.handful s.new).core }
+        ensures room { KeepsRoom (S.handful s.old) (S.handful s.new) }
+        ensures job { self.new ≡ self.old }
+        ensures same { (S.actor s.new ≡ S.actor s.old) × (S.frame s.new ≡ S.frame s.old) }
+    {
+        let hand = s.hand();
+        rests(hand);
+        knows(hand);
+        let place = place_of(hand, self);
+        if let AccessPlace::Fault(place) = place {
+            return self.fault(s, place);
+        }
+        self.stay(s, place);
+        match s.hand().answers().get(self.index) {
+            Some(answered) => Turn::Done(answered.answer),
+            None => Turn::More,
+        }
+    }
+}
+
+// What a turn of the access answers, by the answer of its fault's turn.
+fn answer_of(turn: Turn<Faulted>) -> Turn<Answer>
+    ensures { result ≡ answer_of turn }
+{
+    match turn {
+        Turn::More | Turn::Done(Faulted::Installed) => Turn::More,
+        Turn::Wait(seen) => Turn::Wait(seen),
+        Turn::Retry(cause) => Turn::Retry(cause),
+        Turn::Done(Faulted::Mmio) => Turn::Done(Answer::Mmio),
+        Turn::Done(Faulted::HostFault) => Turn::Done(Answer::HostFault),
+        Turn::Done(Faulted::Starved) => Turn::Done(Answer::Starved),
+    }
+}
