@@ -15,7 +15,7 @@ use Rattle.core_views.specs.Flat.{first_flat}
 use Rattle.core_views.specs.Held.{Held}
 use Rattle.core_views.specs.Lawful.{IsLawful}
 use Rattle.core_views.specs.Need.{need}
-use Rattle.core_views.specs.Sizes.{actors_of, index_of, sizes_of}
+use Rattle.core_views.specs.Sizes.{index_of, sizes_of}
 use Rattle.core_views.specs.Text.{text}
 use Rattle.core_views.specs.Traces.{IsTrace}
 use Rattle.core_views.proofs.AloneIsFlat.{goes_as_flat}
@@ -24,7 +24,6 @@ use Rattle.core_views.proofs.HeaderSizes.{header_sizes}
 use Rattle.spte_words.specs.declared.area.Area.TheVariants as area
 use Rattle.mmu_core.specs.Enabled.{mmu}
 use Rattle.mmu_core.specs.Enough.{HasFreePage}
-use Rattle.mmu_core.specs.LineAlone.{AllRest}
 use Rattle.mmu_core.specs.Machine.{Legal, Step, World, hand_in, run}
 use Rattle.mmu_core.specs.View.{word_in}
 use Rattle.mmu_core.specs.Worlds.{IsStart, history}

@@ -1,6 +1,6 @@
 -- A line that runs alone, as far as it has come.
 use Rattle.std.proofs.Common.{◌≡◌, ◌≢◌, ◌⊎◌, inl, inr, ◌≤◌, ◌<◌, ◌+◌, ℕ, List, [], ◌∷◌, ◌++◌, All, Option, Some, None, IfSome, length, slice_get, refl, sym, ap, ◌∙◌, subst, append_assoc, arith, length-append}
-use Rattle.std.specs.Prelude.{true, false}
+use Rattle.std.specs.Prelude.{false}
 use Rattle.std.proofs.lemmas.List.{append-nil}
 use Rattle.std.proofs.lemmas.List.Elements.{All-append, All-cons, All-nil}
 use Rattle.core_views.specs.declared.answer.Answer.{Answer}
@@ -16,7 +16,6 @@ use Rattle.core_views.specs.declared.topics.Topics.{Topics}
 use Rattle.core_views.specs.declared.trace.Line.{Line}
 use Rattle.core_views.specs.Alone.{NoneStarved}
 use Rattle.core_views.specs.Held.{Held}
-use Rattle.core_views.specs.Sizes.{index_of}
 use Rattle.spte_words.specs.declared.area.Area.TheVariants as area
 use Rattle.spte_words.specs.Areas.{words_of_bits}
 use Rattle.mmu_core.specs.declared.outcome.Outcome.{Outcome}
@@ -28,7 +27,7 @@ use Rattle.mmu_core.specs.LineAlone.{AllRest, LineAlone, StarvedOnlyWithout, Ste
 use Rattle.mmu_core.specs.Machine.{Legal, May, Step, World, answered, effect, hand_in, run}
 use Rattle.mmu_core.specs.Rests.{IsUnderWay}
 use Rattle.mmu_core.specs.Scans.{EndsWithScan}
-use Rattle.mmu_core.specs.Steps.{events_of, has_line, line_at, next, place_at}
+use Rattle.mmu_core.specs.Steps.{events_of, line_at, next, place_at}
 use Rattle.mmu_core.specs.View.{word_in}
 use Rattle.mmu_core.specs.Turns.{GoesOn, IsSameHand, line_of, outcome_of}
 use Rattle.mmu_core.specs.Worlds.{history}

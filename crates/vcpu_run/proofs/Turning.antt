@@ -1,20 +1,16 @@
 -- What a turn answers, by the answers in the hand before and after its step.
 use Rattle.std.proofs.Common.{◌≡◌, ◌≤◌, ◌<◌, ℕ, List, [], ◌∷◌, length, get_or, refl, ap, ◌∙◌, arith, length-append}
 use Rattle.std.proofs.Math.Seq.{get_or-append_seam}
-use Rattle.core_views.specs.declared.answer.Answer.{Answer}
 use Rattle.core_views.specs.declared.answer.AnsweredLine.{AnsweredLine}
 use Rattle.core_views.specs.declared.kind.Kind.{Kind}
 use Rattle.core_views.specs.declared.trace.Line.{Line}
 use Rattle.core_views.specs.Held.{Held}
 use Rattle.mmu_core.specs.declared.outcome.Outcome.{Outcome}
 use Rattle.mmu_core.specs.declared.outcome.Outcome.TheVariants.{Goes, Ends}
-use Rattle.mmu_core.specs.Enabled.{Enabled}
 use Rattle.mmu_core.specs.Steps.{next}
 use Rattle.mmu_core.specs.Tasks.{answers_after}
-use Rattle.mmu_core.specs.Turns.{Comes, IsSameHand, line_of, outcome_of, with_answer}
-use Rattle.mmu_core.proofs.HandAfter.{next_comes, next_same}
+use Rattle.mmu_core.specs.Turns.{line_of, outcome_of, with_answer}
 use Rattle.mmu_core.proofs.Which.{has_line_is, next_of_line}
-use Rattle.step_seats.specs.declared.turn.Turn.{Turn}
 use Rattle.step_seats.specs.declared.turn.Turn.TheVariants.{More, Done}
 use Rattle.vcpu_run.specs.Accesses.{turn_of}
 

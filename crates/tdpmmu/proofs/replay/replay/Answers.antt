@@ -2,7 +2,6 @@ use Rattle.std.proofs.Common.{Err, Ok, string_bytes}
 use Rattle.std.proofs.lemmas.Result.{err_from_is_err_and}
 use Rattle.step_seats.specs.Machines.{world_in}
 use Rattle.tdp_io.specs.declared.sink.Stop.TheVariants.{NoMemory}
-use Rattle.tdpmmu.specs.Replays.{Replays}
 use Rattle.tdpmmu.proofs.Outputs.{stopped_behind_all, writes_all, writes_first, writes_none}
 use Rattle.tdpmmu.proofs.replay.replay.Goals as goal
 

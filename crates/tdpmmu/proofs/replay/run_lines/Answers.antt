@@ -1,4 +1,4 @@
-use Rattle.std.proofs.Common.{◌≡◌, ◌∙◌, ◌++◌, ◌+◌, List, [], ℕ, append_assoc, ap, get_or, refl, rules, string_bytes, subst, take}
+use Rattle.std.proofs.Common.{◌∙◌, ◌++◌, ◌+◌, List, [], ℕ, append_assoc, ap, get_or, refl, rules, string_bytes, subst}
 use Rattle.std.proofs.lemmas.Result.{err_from_is_err_and}
 use Rattle.core_views.specs.declared.sizes.Sizes.{Sizes}
 use Rattle.core_views.specs.Flat.{no_line}
