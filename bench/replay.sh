@@ -73,7 +73,9 @@ trace() {
 
 # The steps of a trace with a pool that is large enough, whose numbers are decimal,
 # whose slots are all taken and writable, and whose accesses lie in them. A slot
-# line stores 4 words. An access enters, loads the pause, touches and leaves, and
+# line claims a page, fills its 512 words and its role, takes the lock, loads the
+# count, publishes the page, gives the lock back, looks at each other actor, clears
+# the old page's role and gives it back. An access enters, loads the pause, touches and leaves, and
 # where no translation is cached it loads the root and four entries before it
 # touches. Where the page has no leaf yet, a first stay enters, loads the pause,
 # the root, and an entry of each table that is there, and leaves; then a fault
@@ -104,8 +106,15 @@ steps() {
       has_leaf[page]
       return 4 + tables + 15 + slot_words(page) + made
     }
-    NR == 1 { for (i = 1; i < NF; i++) if ($i == "cache") cache = $(i + 1); next_page = 2 }
-    $1 == "vm" { base[$3 + 0] = $4; pages[$3 + 0] = $5; steps += 4 }
+    NR == 1 {
+      for (i = 1; i < NF; i++) {
+        if ($i == "cache") cache = $(i + 1)
+        if ($i == "vcpus" || $i == "workers") others += $(i + 1)
+        if ($i == "hosts") others += NF - i
+      }
+      next_page = 2
+    }
+    $1 == "vm" { base[$3 + 0] = $4; pages[$3 + 0] = $5; steps += 521 + others }
     $1 ~ /^v[0-9]/ {
       page = int($3 / 4096)
       if (is_cached($1, page)) { steps += 4; next }

@@ -64,7 +64,12 @@ left z line (Access gfn word op) f notes Starved exact fed may = absurd (fed ref
 left z line (Access gfn word op) f notes (Reached frame value) exact fed may = absurd may
 left z line (Access gfn word op) f notes Done exact fed may = absurd may
 left z line (Access gfn word op) f notes (Refused refusal) exact fed may = absurd may
-left z line (SetSlot id slot) f notes answer exact fed may = absurd may
+left z line (SetSlot id slot) f notes Mmio exact fed may = absurd may
+left z line (SetSlot id slot) f notes HostFault exact fed may = absurd may
+left z line (SetSlot id slot) f notes Starved exact fed may = absurd (fed refl)
+left z line (SetSlot id slot) f notes (Reached frame value) exact fed may = absurd may
+left z line (SetSlot id slot) f notes Done exact fed may = absurd may
+left z line (SetSlot id slot) f notes (Refused refusal) exact fed may = absurd may
 
 pub exit_is_next : (z : Sizes) (f : Facts) (u : LineUnderWay) (answer : Answer) → (u.stage ≡ Fresh → AreExact f u.notes) → Exited answer ≢ Exited Starved → IsAllowed z f u.line.actor u (Exited answer) → IsNext z f u (Exited answer)
 exit_is_next z f u answer exact fed may = rw (may.0) (left z u.line u.line.command f u.notes answer (exact may.0) fed may.1)

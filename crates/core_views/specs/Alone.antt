@@ -50,7 +50,7 @@ abbrev pub StandsAlone : List Event → List Line → Type 0
 StandsAlone history [] = history ≡ []
 StandsAlone history (line ∷ lines) = (rest : List Event) × StandsFirst line history rest × StandsAlone rest lines
 
--- No access of the history leaves the guest for want of a pool page.
+-- No line of the history is given up for want of a pool page.
 abbrev pub NoneStarved : List Event → Type 0
 NoneStarved [] = Unit {0}
 NoneStarved (e ∷ es) = (e.kind ≢ Exited Starved) × NoneStarved es

@@ -21,7 +21,7 @@ pub data Stage : Type 0 where
   Idle : Stage  -- no line is under way
   Fresh : Stage  -- begun, and nothing done yet
   HasAccessed : (frame value : ℕ) → Stage  -- its access was made
-  HasLeft : (answer : Answer) → Stage  -- its access left the guest
+  HasLeft : (answer : Answer) → Stage  -- it was given up: its access left the guest, or no page was free
   HasSetSlot : Stage  -- its change took effect
 
 -- what the line last looked at: the slots, and a host page with its entry

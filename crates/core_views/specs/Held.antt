@@ -40,7 +40,7 @@ no_slot = record { base = 0; pages = 0; host = 0; read_only = false }
 
 -- what an actor holds before its first line
 abbrev pub first_state : Sizes → Actor → State
-first_state z actor = record { sizes = z; actor = actor; place = Between; line = no_line; leaf = 0 }
+first_state z actor = record { sizes = z; actor = actor; place = Between; line = no_line; leaf = 0; steps = 0; delays = 0 }
 
 abbrev pub no_search : SlotSearch
 no_search = record { set = None; id = 0; next = Flags; slot = no_slot; logged = false; whole = false }
@@ -64,6 +64,7 @@ first_topics = record {
   walk = no_walk;
   claim = no_claim;
   owned = None;
+  leaving = None;
   watched = 0;
   host = None;
   pause = 0;

@@ -5,7 +5,7 @@ use Rattle.core_views.specs.declared.kind.Kind.{Kind}
 use Rattle.core_views.specs.declared.kind.Operation.{Operation}
 use Rattle.core_views.specs.declared.kind.Operation.TheVariants as operation
 use Rattle.core_views.specs.declared.kind.StepKind.{StepKind}
-use Rattle.core_views.specs.declared.kind.StepKind.TheVariants.{Enter, Leave, Walk, Read, Write, Add, Begin, End, Control, Slot, Host, Swap, Share, Unshare, Exclude, Release, Claim, Fill, Give, Watch}
+use Rattle.core_views.specs.declared.kind.StepKind.TheVariants.{Enter, Leave, Walk, Read, Write, Add, Begin, End, Control, Slot, Host, Swap, Share, Unshare, Exclude, Release, Claim, Fill, Give, Publish, Watch}
 
 -- the number of a kind
 abbrev pub code_of : StepKind → ℕ
@@ -28,6 +28,7 @@ code_of Release = 18
 code_of Claim = 19
 code_of Fill = 20
 code_of Give = 21
+code_of Publish = 30
 code_of Watch = 31
 
 -- the kind with this number, a load where it is of none
@@ -51,6 +52,7 @@ kind_named code =
     if code == code_of Claim then Claim else
     if code == code_of Fill then Fill else
     if code == code_of Give then Give else
+    if code == code_of Publish then Publish else
     if code == code_of Watch then Watch else
     Control
 
@@ -74,6 +76,7 @@ operation_of Release = operation.FetchAnd
 operation_of Claim = operation.FetchAnd
 operation_of Fill = operation.Store
 operation_of Give = operation.FetchOr
+operation_of Publish = operation.Swap
 operation_of Watch = operation.Load
 
 -- the operation of the kind with this number

@@ -39,11 +39,12 @@ pub record SawForbidden (notes : Notes) (gfn : ℕ) (op : Op) : Type 0 where
   pub looked : notes.host ≡ Some (page, entry)
   pub forbids : is_denied op entry ≡ true
 
--- The line under way may leave the guest with this answer. That no pool page was free is no fact of flat memory.
+-- The line under way may be given up with this answer. That no pool page was free is no fact of flat memory.
 abbrev pub MayLeave : Command → Notes → Answer → Type 0
 MayLeave (Access gfn word op) notes Mmio = SawNoPage notes gfn op
 MayLeave (Access gfn word op) notes HostFault = SawForbidden notes gfn op
 MayLeave (Access gfn word op) notes Starved = Unit {0}
+MayLeave (SetSlot id slot) notes Starved = Unit {0}
 MayLeave _ _ _ = ⊥
 
 -- A machine with these slots refuses the command with this answer.

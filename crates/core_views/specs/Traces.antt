@@ -1,15 +1,18 @@
 -- What a trace may hold: the ranges of its header and of its lines.
-use Rattle.std.specs.Prelude.{◌≡◌, ◌*◌, ◌%◌, ◌^◌, ◌<◌, ◌≤◌, ◌==◌, ◌⊎◌, ℕ, List, [], ◌∷◌, All, Some, length, slice_get}
+use Rattle.std.specs.Prelude.{◌≡◌, ◌*◌, ◌%◌, ◌^◌, ◌<◌, ◌≤◌, ◌==◌, ◌⊎◌, ℕ, List, [], ◌∷◌, All, Some, IfSome, length, slice_get}
 use Rattle.std.specs.List.{IsDistinct}
 use Rattle.std.specs.List.Sorted.{IsStrictlyIncreasing}
 use Rattle.core_views.specs.declared.actor.Actor.{Actor}
-use Rattle.core_views.specs.declared.actor.Actor.TheVariants.{Vcpu, Manager}
+use Rattle.core_views.specs.declared.actor.Actor.TheVariants.{Vcpu, Host, Manager, Worker}
 use Rattle.core_views.specs.declared.trace.Command.{Command}
 use Rattle.core_views.specs.declared.trace.Command.TheVariants.{Access, SetSlot}
 use Rattle.core_views.specs.declared.trace.Header.{Header}
+use Rattle.core_views.specs.declared.trace.Item.{Item}
 use Rattle.core_views.specs.declared.trace.Line.{Line}
 use Rattle.core_views.specs.declared.trace.Slot.{Slot}
 use Rattle.core_views.specs.declared.trace.Trace.{Trace}
+use Rattle.core_views.specs.declared.trace.Until.{Until}
+use Rattle.core_views.specs.declared.trace.Until.TheVariants.{Turns, Answered, Made}
 use Rattle.core_views.specs.declared.sizes.Sizes.{Sizes}
 use Rattle.core_views.specs.Sizes.{sizes_of}
 
@@ -69,8 +72,28 @@ pub record IsHeader (h : Header) : Type 0 where
   pub manual : h.manual ≤ 2
   pub hosts : AreHostsOf h.pages h.hosts
 
+-- The machine has the actor.
+abbrev pub HasActor : Sizes → Actor → Type 0
+HasActor z (Vcpu n) = n < z.vcpus
+HasActor z (Host n) = n < z.hosts
+HasActor z Manager = Unit {0}
+HasActor z (Worker n) = n < z.workers
+
+-- A schedule item names so many turns, or one of the 41 kinds of step.
+abbrev pub IsUntilInRange : Until → Type 0
+IsUntilInRange (Turns count) = (1 ≤ count) × (count ≤ 10000000)
+IsUntilInRange Answered = Unit {0}
+IsUntilInRange (Made code) = (1 ≤ code) × (code ≤ 41)
+
+-- The item is of an actor of the machine, and its number is in its range.
+pub record IsItemOf (h : Header) (item : Item) : Type 0 where
+  pub actor : HasActor (sizes_of h) item.actor
+  pub until : IsUntilInRange item.until
+
 -- All numbers of the trace are in their ranges, and no two lines set a slot at one ID.
 pub record IsTrace (t : Trace) : Type 0 where
   pub header : IsHeader t.header
   pub lines : AreLinesOf t.header t.lines
   pub distinct : IsDistinct (λ i j. i == j) (slot_ids t.lines)
+  pub go : IfSome t.go (λ above. above ≤ length t.lines)
+  pub items : All (IsItemOf t.header) t.items

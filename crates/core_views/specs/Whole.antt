@@ -1,5 +1,5 @@
 -- Which histories answer a trace: each actor's lines, in its order, each once.
-use Rattle.std.specs.Prelude.{◌≡◌, List, [], ◌∷◌, map, filter}
+use Rattle.std.specs.Prelude.{◌≡◌, ◌+◌, ◌≤◌, ℕ, List, [], ◌∷◌, map, filter, take}
 use Rattle.core_views.specs.declared.actor.Actor.{Actor}
 use Rattle.core_views.specs.declared.event.Event.{Event}
 use Rattle.core_views.specs.declared.event.EventKind.{EventKind}
@@ -24,3 +24,12 @@ lines_of actor lines = filter (λ line. is_same actor line.actor) lines
 pub record IsWhole (history : List Event) (lines : List Line) : Type 0 where
   pub begun : (actor : Actor) → lines_of actor (lines_begun history) ≡ lines_of actor lines
   pub answered : (actor : Actor) → map (λ x. x.number) (filter (λ x. is_same actor x.actor) (answers_of history)) ≡ map (λ line. line.number) (lines_of actor lines)
+
+-- Each actor begins the first ones of its lines of the trace, in their order, and answers them, each once, but for perhaps the last.
+pub record IsWholeSoFar (history : List Event) (lines : List Line) : Type 0 where
+  pub begun_count : Actor → ℕ
+  pub answered_count : Actor → ℕ
+  pub begun : (actor : Actor) → lines_of actor (lines_begun history) ≡ take (begun_count actor) (lines_of actor lines)
+  pub answered : (actor : Actor) → map (λ x. x.number) (filter (λ x. is_same actor x.actor) (answers_of history)) ≡ map (λ line. line.number) (take (answered_count actor) (lines_of actor lines))
+  pub before : (actor : Actor) → answered_count actor ≤ begun_count actor
+  pub but_one : (actor : Actor) → begun_count actor ≤ answered_count actor + 1

@@ -27,7 +27,8 @@ pub enum EventKind {
         frame: u64,
         before: u64,
     },
-    /// The access left the guest without touching memory.
+    /// The line is given up with no effect: an access leaves the guest without
+    /// touching memory, or a slot setting finds no free page for the new slot set.
     Exited(Answer),
     /// The memory slot with this ID is set.
     SlotChanged {

@@ -29,6 +29,10 @@ pub struct State {
     pub line: Line,
     /// The leaf of the translation that the access uses.
     pub leaf: u64,
+    /// The steps of this line since it began, or since its last delay.
+    pub steps: u64,
+    /// The delays of this line: at 2^64 - 1 it counts no more.
+    pub delays: u64,
 }
 
 impl State {
@@ -51,6 +55,8 @@ impl State {
                 command,
             },
             leaf: 0,
+            steps: 0,
+            delays: 0,
         }
     }
 }

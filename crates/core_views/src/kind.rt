@@ -38,11 +38,13 @@ pub enum StepKind {
     Release,
     /// Takes the bit of a free page out of the pool's map.
     Claim,
-    /// Stores a word of a page that the actor owns, or of the slot set that the
-    /// manager fills in place.
+    /// Stores a word of a page that the actor owns, or the role of a page that it
+    /// takes out of use.
     Fill,
     /// Puts the bit of a free page into the pool's map.
     Give,
+    /// Swaps the published slot set for a page that the actor owns.
+    Publish,
     /// Loads the state word of another actor.
     Watch,
 }
@@ -90,6 +92,7 @@ impl StepKind {
             StepKind::Claim => 19,
             StepKind::Fill => 20,
             StepKind::Give => 21,
+            StepKind::Publish => 30,
             StepKind::Watch => 31,
         }
     }
@@ -104,7 +107,7 @@ impl StepKind {
             }
             StepKind::Host | StepKind::Watch => Operation::Load,
             StepKind::Fill => Operation::Store,
-            StepKind::Enter | StepKind::Write => Operation::Swap,
+            StepKind::Enter | StepKind::Write | StepKind::Publish => Operation::Swap,
             StepKind::Add | StepKind::Share => Operation::FetchAdd,
             StepKind::Unshare => Operation::FetchSub,
             StepKind::Leave | StepKind::End | StepKind::Release | StepKind::Claim => {
@@ -153,6 +156,7 @@ impl Kind {
             19 => StepKind::Claim,
             20 => StepKind::Fill,
             21 => StepKind::Give,
+            30 => StepKind::Publish,
             31 => StepKind::Watch,
             _ => StepKind::Control,
         }

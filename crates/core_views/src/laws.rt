@@ -12,7 +12,7 @@ pub fn flat_history_is_lawful()
 {}
 
 /// A law about histories alone: a lawful history in which each line stands
-/// alone, in file order, and no access leaves for want of a pool page, is the
+/// alone, in file order, and no line is given up for want of a pool page, is the
 /// flat history but for what its lines looked at. So it answers and prints the
 /// same. Starved or not, it begins and answers each line once.
 pub fn alone_is_flat()

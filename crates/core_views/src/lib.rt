@@ -36,7 +36,7 @@ pub use topics::{
     Checked, Hold, HostLook, Invalidations, MapClaim, OwnedPage, SlotSearch, Stay, TableWalk,
     Topics,
 };
-pub use trace::{Command, Header, Line, Lines, Op, Slot, Trace, Words};
+pub use trace::{Command, Header, Item, Items, Line, Lines, Op, Slot, Trace, Until, Words};
 
 #[cfg(test)]
 mod slot_set_tests;

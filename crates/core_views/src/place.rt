@@ -45,13 +45,33 @@ pub enum AccessPlace {
     Fault(FaultPlace),
 }
 
-/// The steps of a slot setting, in their order.
+/// The steps of a slot setting, in their order: a page of its own is filled with
+/// the new slot set, published by one exchange under the lock, and the old page
+/// given back behind a grace period (kvm_main.c, `kvm_swap_active_memslots`).
 #[derive(Clone, Copy, Debug, PartialEq, Eq, Drop)]
 pub enum SetSlotPlace {
     /// It is refused, which is known before its first step.
     Refuse(crate::Refusal),
-    /// Stores this word of the slot.
-    Fill(SlotField),
+    /// Loads a word of the pool's map, or tries a page that it saw there.
+    Claim { begun: bool },
+    /// Stores the next word of the new slot set, or the role of its page.
+    Fill,
+    /// Tries to take the lock alone.
+    Exclude,
+    /// Loads how many invalidations are open.
+    Count,
+    /// Gives the lock back, since some are open, and tries again.
+    Close,
+    /// Swaps the published slot set for the new one.
+    Publish,
+    /// Gives the lock back.
+    Release,
+    /// Looks at the next other actor, until it is seen in no section.
+    Watch,
+    /// Takes the role from the page of the old slot set.
+    Clear,
+    /// Gives this page back.
+    Give,
 }
 
 /// Why a fault is to begin anew (locking.rst; tdp_mmu.c, `RET_PF_RETRY`).

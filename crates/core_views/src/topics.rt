@@ -142,6 +142,8 @@ pub struct Topics {
     pub walk: TableWalk,
     pub claim: MapClaim,
     pub owned: Option<OwnedPage>,
+    /// The page of the old slot set, from its replacement until it is given back.
+    pub leaving: Option<u64>,
     /// The place of the actor whose state word is looked at next; each before it
     /// was seen outside.
     pub watched: u64,
@@ -196,6 +198,7 @@ impl Topics {
             },
             claim: MapClaim { at: 0, seen: 0 },
             owned: None,
+            leaving: None,
             watched: 0,
             host: None,
             pause: 0,

@@ -1,8 +1,9 @@
-ghost use Rattle.std.specs.Prelude.{◌≡◌};
+ghost use Rattle.std.specs.Prelude.{◌≡◌, [], None};
 ghost use Rattle.core_views.specs.Memory.{stored};
 ghost use Rattle.core_views.specs.Slots.{contains, is_write};
 
 use crate::{Actor, Sequence};
+use std::alloc::Global;
 
 /// Numbers that a header lists.
 pub type Words = Sequence<u64>;
@@ -111,9 +112,49 @@ pub struct Header {
     pub hosts: Words,
 }
 
-/// A trace: its header, and its lines in file order.
+/// How long the turns of a schedule item go on. They end before where the actor
+/// has no line left.
+#[derive(Clone, Copy, Debug, PartialEq, Eq, Drop)]
+pub enum Until {
+    /// So many turns, 1 to 10,000,000.
+    Turns(u32),
+    /// Until a turn answers a line, waits or begins anew.
+    Answered,
+    /// The same, or until a turn makes a step of the kind with this number, 1 to 41.
+    Made(u8),
+}
+
+/// An item of the schedule: whose turns are next, and until when.
+#[derive(Clone, Copy, Debug, PartialEq, Eq, Drop)]
+pub struct Item {
+    pub actor: Actor,
+    pub until: Until,
+}
+
+/// The items of a schedule, in file order.
+pub type Items = Sequence<Item>;
+
+/// A trace: its header, its lines in file order, and in which order their actors
+/// take their turns.
 #[derive(Debug, Drop)]
 pub struct Trace {
     pub header: Header,
     pub lines: Lines,
+    /// How many of the lines stand above `go`, if it is there: these run alone.
+    pub go: Option<u32>,
+    pub items: Items,
+}
+
+impl Trace {
+    /// A trace in which `go` doesn't stand, and nothing is scheduled.
+    pub fn unscheduled(alloc: Global, header: Header, lines: Lines) -> Self
+        ensures { result ≡ record { header = header; lines = lines; go = None; items = [] } }
+    {
+        Trace {
+            header,
+            lines,
+            go: None,
+            items: Items::from_vec(Vec::new(alloc)),
+        }
+    }
 }

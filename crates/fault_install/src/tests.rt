@@ -21,18 +21,23 @@ use std::test::Fail;
 use step_seats::{PlainMachine, Stepper, Turn};
 
 // Where the pool's map stands, and with 8 pool pages the entries of the root and
-// of pages 2 to 5.
+// of pages 1, 3, 4 and 5.
 const MAP: usize = 12;
 
 const ROOT: usize = 96;
 
-const PAGE_2: usize = 1120;
+const PAGE_1: usize = 608;
 
 const PAGE_3: usize = 1632;
 
 const PAGE_4: usize = 2144;
 
 const PAGE_5: usize = 2656;
+
+// Steps of the manager's line: the map, the page, 512 words and the role of the set,
+// the lock, the count, the set, the lock, the three other actors, and the role and
+// the page of the set before. The set stands in page 2 then, and page 1 is free.
+const SETTING: u64 = 524;
 
 // Any line: each takes the same room.
 const LINE: Line = Line {
@@ -112,20 +117,21 @@ fn trace(alloc: Global, pool: u32) -> Result<Trace, NoMemory>
     requires to { pool ≤ 8 }
     ensures { IfOk result IsTrace }
 {
-    Ok(Trace {
-        header: header(alloc, pool)?,
-        lines: Lines::from_vec(vec![in alloc; setting()]?),
-    })
+    Ok(Trace::unscheduled(
+        alloc,
+        header(alloc, pool)?,
+        Lines::from_vec(vec![in alloc; setting()]?),
+    ))
 }
 
-// The machine of the trace, whose manager has made the four steps of its line.
+// The machine of the trace, whose manager has made the steps of its line.
 fn start(alloc: Global, trace: &Trace) -> Result<PlainMachine, Fail>
     requires { IsTrace trace.now }
 {
     let mut machine = PlainMachine::new(alloc, trace)?;
     expect_actor(&machine, Actor::Manager)?;
     let mut seat = machine.as_actor(Actor::Manager);
-    run_lines(&mut seat, 4)?;
+    run_lines(&mut seat, SETTING)?;
     drop(seat);
     Ok(machine)
 }
@@ -225,8 +231,8 @@ fn puts_tables_and_leaves(rt: HostRuntime) -> Result<(), Fail> {
     let words = closing.words.as_slice();
     assert_eq!(rt; words.len(), 4452);
     assert_eq!(rt; words[MAP], 0xe0);
-    assert_eq!(rt; words[ROOT], 0x2807);
-    assert_eq!(rt; words[PAGE_2], 0x3807);
+    assert_eq!(rt; words[ROOT], 0x1807);
+    assert_eq!(rt; words[PAGE_1], 0x3807);
     assert_eq!(rt; words[PAGE_3], 0x4807);
     assert_eq!(rt; words[PAGE_4 + 4], 0x0600_0000_0004_4807);
     assert_eq!(rt; words[PAGE_4 + 5], 0x0600_0000_0004_5807);
@@ -258,14 +264,14 @@ fn starves_where_no_page_is_free(rt: HostRuntime) -> Result<(), Fail> {
     let words = closing.words.as_slice();
     assert_eq!(rt; words.len(), 2400);
     assert_eq!(rt; words[MAP], 0);
-    assert_eq!(rt; words[92], 0x2807);
-    assert_eq!(rt; words[1116], 0x3807);
+    assert_eq!(rt; words[92], 0x1807);
+    assert_eq!(rt; words[604], 0x3807);
     assert_eq!(rt; words[1628], 0);
     Ok(())
 }
 
-// The first processor has page 2 ready, and the second one links page 3 at the
-// root first: page 2 is given back, and the first one is to begin anew.
+// The first processor has page 1 ready, and the second one links page 3 at the
+// root first: page 1 is given back, and the first one is to begin anew.
 #[test]
 fn loses_its_link(rt: HostRuntime) -> Result<(), Fail> {
     let mut machine = start(rt.alloc(), &trace(rt.alloc(), 8)?)?;
@@ -293,7 +299,7 @@ fn loses_its_link(rt: HostRuntime) -> Result<(), Fail> {
     let closing = machine.into_closing();
     let words = closing.words.as_slice();
     assert_eq!(rt; words.len(), 4452);
-    assert_eq!(rt; words[MAP], 0xc4);
+    assert_eq!(rt; words[MAP], 0xc2);
     assert_eq!(rt; words[ROOT], 0x3807);
     assert_eq!(rt; words[PAGE_3], 0x4807);
     assert_eq!(rt; words[PAGE_4], 0x5807);

@@ -29,10 +29,7 @@ mod tests {
             manual: 0,
             hosts: Words::from_vec(vec![in alloc; 0]?),
         };
-        let trace = Trace {
-            header,
-            lines: Lines::from_vec(Vec::new(alloc)),
-        };
+        let trace = Trace::unscheduled(alloc, header, Lines::from_vec(Vec::new(alloc)));
         let mut plain = Plain::new(alloc, &trace)?;
         for (id, base, host, read_only, answer) in [
             (32, 0, 0, false, Answer::Refused(Refusal::BadId)),

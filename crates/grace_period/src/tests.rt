@@ -112,10 +112,7 @@ fn machine(alloc: Global) -> Result<PlainMachine, NoMemory>
     ensures sizes { IfOk result (λ m. m.sizes ≡ record { pages = 70; frames = 130; words = 2; pool = 4; cache = 64; vcpus = 2; hosts = 1; workers = 0 }) }
     ensures count { IfOk result (λ m. length m.hands ≡ 4) }
 {
-    let trace = Trace {
-        header: header(alloc)?,
-        lines: Lines::from_vec(Vec::new(alloc)),
-    };
+    let trace = Trace::unscheduled(alloc, header(alloc)?, Lines::from_vec(Vec::new(alloc)));
     let machine = PlainMachine::new(alloc, &trace)?;
     let _ = machine.sizes();
     Ok(machine)

@@ -66,7 +66,7 @@ fn access_line(number: u32, op: Op) -> Line
 
 // Makes the steps of the seat's lines until none is left.
 fn run<S: Stepper>(seat: &mut S, line: &Line) -> Result<(), NoMemory> {
-    for _ in 0..64 {
+    for _ in 0..600 {
         seat.reserve(line)?;
         let hand = seat.hand();
         if hand.next_line().is_none() {
@@ -118,10 +118,7 @@ fn trace(alloc: Global) -> Result<Trace, NoMemory>
     ensures trace { IfOk result IsTrace }
     ensures vcpus { IfOk result (λ t. t.header.vcpus ≡ 2) }
 {
-    Ok(Trace {
-        header: header(alloc)?,
-        lines: Lines::from_vec(Vec::new(alloc)),
-    })
+    Ok(Trace::unscheduled(alloc, header(alloc)?, Lines::from_vec(Vec::new(alloc))))
 }
 
 // A trace of the manager's line, and three of v0.
@@ -133,10 +130,11 @@ fn lines_trace(alloc: Global, write: Line, add: Line, read: Line) -> Result<Trac
     ensures trace { IfOk result IsTrace }
     ensures vcpus { IfOk result (λ t. t.header.vcpus ≡ 2) }
 {
-    Ok(Trace {
-        header: header(alloc)?,
-        lines: Lines::from_vec(vec![in alloc; slot_line(), write, add, read]?),
-    })
+    Ok(Trace::unscheduled(
+        alloc,
+        header(alloc)?,
+        Lines::from_vec(vec![in alloc; slot_line(), write, add, read]?),
+    ))
 }
 
 // Each page is at the frame of its own number at first, present, writable and

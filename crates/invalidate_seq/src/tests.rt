@@ -35,10 +35,7 @@ fn trace(alloc: Global) -> Result<Trace, NoMemory>
     ensures trace { IfOk result IsTrace }
     ensures vcpus { IfOk result (λ t. t.header.vcpus ≡ 2) }
 {
-    Ok(Trace {
-        header: header(alloc)?,
-        lines: Lines::from_vec(Vec::new(alloc)),
-    })
+    Ok(Trace::unscheduled(alloc, header(alloc)?, Lines::from_vec(Vec::new(alloc))))
 }
 
 // No invalidation is open at the start, and the sequence number is 0: a check

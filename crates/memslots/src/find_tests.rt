@@ -1,6 +1,5 @@
 //! Searches at machines with no slot, and with one.
-ghost use Rattle.std.specs.Prelude.{◌≡◌, ◌<◌, [], ◌∷◌, true, IfOk, length};
-ghost use Rattle.core_views.specs.Sizes.{index_of};
+ghost use Rattle.std.specs.Prelude.{◌≡◌, [], ◌∷◌, true, IfOk};
 ghost use Rattle.core_views.specs.Traces.{IsTrace};
 ghost use Rattle.core_views.specs.declared.actor.Actor.TheVariants.{Manager};
 ghost use Rattle.core_views.specs.declared.trace.Command.TheVariants.{SetSlot};
@@ -29,6 +28,11 @@ fn header(alloc: Global) -> Result<Header, NoMemory>
     })
 }
 
+// Steps of the manager's line: the map, the page, 512 words and the role of the set,
+// the lock, the count, the set, the lock, the three other actors, and the role and
+// the page of the set before.
+const SETTING: u64 = 524;
+
 // An access, for whose answer room is taken.
 fn access() -> Line {
     Line {
@@ -56,14 +60,14 @@ fn step<S: Stepper>(seat: &mut S, line: &Line) -> Result<bool, NoMemory>
     Ok(true)
 }
 
-// The same of an actor of the machine.
-fn step_of(machine: &mut PlainMachine, line: &Line) -> Result<bool, NoMemory>
-    requires there { index_of machine.old.sizes line.now.actor < length machine.old.hands }
-    ensures sizes { machine.new.sizes ≡ machine.old.sizes }
-    ensures count { length machine.new.hands ≡ length machine.old.hands }
-{
-    let mut seat = machine.as_actor(line.actor);
-    step(&mut seat, line)
+// The steps of the seat's lines until none is left: how many they were.
+fn run<S: Stepper>(seat: &mut S, line: &Line) -> Result<u64, NoMemory> {
+    for made in 0..600 {
+        if !step(seat, line)? {
+            return Ok(made);
+        }
+    }
+    Ok(600)
 }
 
 // Begins a section, where the hand allows it.
@@ -101,10 +105,7 @@ fn trace(alloc: Global) -> Result<Trace, NoMemory>
     ensures trace { IfOk result IsTrace }
     ensures vcpus { IfOk result (λ t. t.header.vcpus ≡ 2) }
 {
-    Ok(Trace {
-        header: header(alloc)?,
-        lines: Lines::from_vec(Vec::new(alloc)),
-    })
+    Ok(Trace::unscheduled(alloc, header(alloc)?, Lines::from_vec(Vec::new(alloc))))
 }
 
 // A trace of the manager's line.
@@ -114,10 +115,11 @@ fn slot_trace(alloc: Global, line: Line) -> Result<Trace, NoMemory>
     ensures trace { IfOk result IsTrace }
     ensures vcpus { IfOk result (λ t. t.header.vcpus ≡ 2) }
 {
-    Ok(Trace {
-        header: header(alloc)?,
-        lines: Lines::from_vec(vec![in alloc; line]?),
-    })
+    Ok(Trace::unscheduled(
+        alloc,
+        header(alloc)?,
+        Lines::from_vec(vec![in alloc; line]?),
+    ))
 }
 
 // No slot is live at the start: the search ends with the flags of ID 31.
@@ -157,11 +159,10 @@ fn finds_the_slot_of_a_frame(rt: HostRuntime) -> Result<(), Fail> {
     let trace = slot_trace(alloc, line)?;
     let mut machine = PlainMachine::new(alloc, &trace)?;
     let _sizes = machine.sizes();
-    assert!(rt; step_of(&mut machine, &line)?);
-    assert!(rt; step_of(&mut machine, &line)?);
-    assert!(rt; step_of(&mut machine, &line)?);
-    assert!(rt; step_of(&mut machine, &line)?);
-    assert!(rt; !step_of(&mut machine, &line)?);
+    let mut manager = machine.as_actor(Actor::Manager);
+    assert_eq!(rt; run(&mut manager, &line)?, SETTING);
+    drop(manager);
+    let _sizes = machine.sizes();
     let found = FoundSlot {
         id: 3,
         slot,

@@ -7,17 +7,13 @@ use Rattle.std.proofs.lemmas.List.{get_or_append_left, map-append}
 use Rattle.std.proofs.lemmas.List.Elements.{All-contains, Contains-append_left, Contains-append_right}
 use Rattle.std.proofs.lemmas.List.Folds.{list_any-append}
 use Rattle.std.proofs.lemmas.Map.Keys.{apart_from_distinct}
-use Rattle.std.specs.Prelude.{Bool, true, false, not, nat_le, nat_lt, if◌then◌else◌, None, slice_get, unwrap_or}
+use Rattle.std.specs.Prelude.{Bool, true, false, not, nat_le, nat_lt, if◌then◌else◌, None, slice_get, unwrap_or, All}
 use Rattle.std.specs.List.{Contains, IsDistinct, list_any}
 use Rattle.std.specs.Map.{keys_of}
 use Rattle.core_views.specs.declared.actor.Actor.{Actor}
 use Rattle.core_views.specs.declared.actor.Actor.TheVariants.{Vcpu, Host, Manager, Worker}
-use Rattle.core_views.specs.declared.hand.State.{State}
 use Rattle.core_views.specs.declared.place.Place.TheVariants as place
 use Rattle.core_views.specs.declared.place.SetSlotPlace.{SetSlotPlace}
-use Rattle.core_views.specs.declared.place.SetSlotPlace.TheVariants.{Fill}
-use Rattle.core_views.specs.declared.place.SlotField.{SlotField}
-use Rattle.core_views.specs.declared.place.SlotField.TheVariants as field
 use Rattle.core_views.specs.declared.sizes.Sizes.{Sizes}
 use Rattle.core_views.specs.declared.trace.Command.{Command}
 use Rattle.core_views.specs.declared.trace.Command.TheVariants.{Access, SetSlot}
@@ -31,14 +27,15 @@ use Rattle.core_views.specs.Slots.{Slots, contains, has_host_page, share_guest_f
 use Rattle.core_views.specs.Traces.{IsCommandFor, or_slot_id, slot_ids}
 use Rattle.core_views.proofs.Sound.{Passes, passes, refuses_as_flat}
 use Rattle.spte_words.specs.declared.area.Area.TheVariants as area
-use Rattle.mmu_core.specs.Invariant.{Holds, Invariant, OwnLines, RecordPart}
-use Rattle.mmu_core.specs.SetSlotSteps.{published_set}
+use Rattle.mmu_core.specs.Invariant.{Invariant, OwnLines, RecordPart}
 use Rattle.mmu_core.specs.SlotSetPart.{Fits}
 use Rattle.mmu_core.specs.SlotWords.{live_at, slot_at, slots_below}
 use Rattle.mmu_core.specs.Steps.{next_line}
 use Rattle.mmu_core.specs.View.{View}
 use Rattle.mmu_core.proofs.Columns.{same_or}
-use Rattle.mmu_core.proofs.Stepping.{IsStep}
+use Rattle.mmu_core.proofs.Stepping.{IsStep, none_done}
+use Rattle.mmu_core.specs.LinesPart.{lines_done}
+use Rattle.mmu_core.specs.KnowsPart.{may_leave}
 
 -- The manager alone sets slots.
 pub setting_is_managers : (z : Sizes) (actor : Actor) (id : ℕ) (slot : Slot) → IsCommandFor z actor (SetSlot id slot) → actor ≡ Manager
@@ -115,64 +112,59 @@ other : (i j : ℕ) (s : Bool) → i ≢ j → (not (i == j) && s) ≡ false →
 other i j s apart none = grind (arith, nat_tests)
 
 -- The slot may be set: its ID isn't live, it fits the machine, and no guest frame and no host page is in it and in a live one.
-pub record MayBeSet (z : Sizes) (pool : ℕ → ℕ) (id : ℕ) (slot : Slot) : Type 0 where
+pub record MayBeSet (z : Sizes) (pool : ℕ → ℕ) (set id : ℕ) (slot : Slot) : Type 0 where
   pub low : id ≤ 31
-  pub not_live : live_at pool published_set id ≡ false
+  pub not_live : live_at pool set id ≡ false
   pub fits : Fits z slot
-  pub guest_apart : (gfn j : ℕ) → j ≤ 31 → live_at pool published_set j ≡ true → contains gfn (slot_at pool published_set j) ≡ true → contains gfn slot ≡ true → ⊥
-  pub host_apart : (page j : ℕ) → j ≤ 31 → live_at pool published_set j ≡ true → has_host_page page (slot_at pool published_set j) ≡ true → has_host_page page slot ≡ true → ⊥
+  pub guest_apart : (gfn j : ℕ) → j ≤ 31 → live_at pool set j ≡ true → contains gfn (slot_at pool set j) ≡ true → contains gfn slot ≡ true → ⊥
+  pub host_apart : (page j : ℕ) → j ≤ 31 → live_at pool set j ≡ true → has_host_page page (slot_at pool set j) ≡ true → has_host_page page slot ≡ true → ⊥
 
-may_be : (z : Sizes) (pool : ℕ → ℕ) (id : ℕ) (slot : Slot) → Passes z.pages id slot (slots_below pool published_set 32) → live_at pool published_set id ≡ false → MayBeSet z pool id slot
-may_be z pool id slot P not_live = record {
+may_be : (z : Sizes) (pool : ℕ → ℕ) (set id : ℕ) (slot : Slot) → Passes z.pages id slot (slots_below pool set 32) → live_at pool set id ≡ false → MayBeSet z pool set id slot
+may_be z pool set id slot P not_live = record {
   low = P.low;
   not_live = not_live;
   fits = record { pages = P.fits; frames = P.below };
   guest_apart = λ gfn j low live holds too.
-      let s : Slot = slot_at pool published_set j in
+      let s : Slot = slot_at pool set j in
       in_both slot.base (slot.base + slot.pages) s.base (s.base + s.pages) gfn too holds
-      (other j id (share_guest_frames slot s) (apart j live) (none_listed (λ e. not (e.0 == id) && share_guest_frames slot e.1) pool published_set 32 j (omega (arith, low)) live P.guest));
+      (other j id (share_guest_frames slot s) (apart j live) (none_listed (λ e. not (e.0 == id) && share_guest_frames slot e.1) pool set 32 j (omega (arith, low)) live P.guest));
   host_apart = λ page j low live has too.
-      let s : Slot = slot_at pool published_set j in
+      let s : Slot = slot_at pool set j in
       in_both slot.host (slot.host + slot.pages) s.host (s.host + s.pages) page too has
-      (other j id (share_host_pages slot s) (apart j live) (none_listed (λ e. not (e.0 == id) && share_host_pages slot e.1) pool published_set 32 j (omega (arith, low)) live P.host));
+      (other j id (share_host_pages slot s) (apart j live) (none_listed (λ e. not (e.0 == id) && share_host_pages slot e.1) pool set 32 j (omega (arith, low)) live P.host));
 }
   where
-    apart : (j : ℕ) → live_at pool published_set j ≡ true → j ≢ id
-    apart j live same = let is : live_at pool published_set j ≡ live_at pool published_set id = ap (live_at pool published_set) same in absurd (cc (is, not_live, live))
-
-pub accepted : (z : Sizes) (pool host : ℕ → ℕ) (f : SlotField) (id : ℕ) (slot : Slot) (slots : MemorySlots) (s : State) → Holds z pool host (place.SetSlot (Fill f)) (SetSlot id slot) slots s → set_refusal z.pages id slot slots ≡ None
-accepted z pool host field.Base id slot slots s e = e
-accepted z pool host field.Pages id slot slots s e = e.0
-accepted z pool host field.Host id slot slots s e = e.0
-accepted z pool host field.Flags id slot slots s e = e.0
+    apart : (j : ℕ) → live_at pool set j ≡ true → j ≢ id
+    apart j live same = let is : live_at pool set j ≡ live_at pool set id = ap (live_at pool set) same in absurd (cc (is, not_live, live))
 
 pub accepted_id : (total id : ℕ) (slot : Slot) (slots : MemorySlots) → set_refusal total id slot slots ≡ None → id ≤ 31
 accepted_id total id slot slots e = (passes total id slot slots e).low
 
 -- the manager's record, where its hand makes a step of a setting
-pub record_of : (z : Sizes) (v : View) (a : ℕ) (line : Line) (id : ℕ) (slot : Slot) (p : SetSlotPlace) → IsStep z v a line (SetSlot id slot) (place.SetSlot p) → Invariant z v → RecordPart (v.words area.Pool) (v.hand a).slots
+pub record_of : (z : Sizes) (v : View) (a : ℕ) (line : Line) (id : ℕ) (slot : Slot) (p : SetSlotPlace) → IsStep z v a line (SetSlot id slot) (place.SetSlot p) → Invariant z v → RecordPart (v.words area.Pool) (v.words area.Slots 0) (v.hand a).slots
 record_of z v a line id slot p S I = I.recorded a S.there (sym S.own ∙ setting_is_managers z line.actor id slot S.allowed)
 
 -- The record refuses as flat memory does.
 pub refused_alike : (z : Sizes) (v : View) (a : ℕ) (line : Line) (id : ℕ) (slot : Slot) (p : SetSlotPlace) → IsStep z v a line (SetSlot id slot) (place.SetSlot p) → Invariant z v
-    → slot_refusal z.pages (slots_below (v.words area.Pool) published_set 32) id slot ≡ set_refusal z.pages id slot (v.hand a).slots
+    → slot_refusal z.pages (slots_below (v.words area.Pool) (v.words area.Slots 0) 32) id slot ≡ set_refusal z.pages id slot (v.hand a).slots
 refused_alike z v a line id slot p S I =
     let R = record_of z v a line id slot p S I in
     ap (λ (slots : Slots). slot_refusal z.pages slots id slot) (sym R.same) ∙ sym (refuses_as_flat z.pages id slot (v.hand a).slots R.unlogged)
 
-not_live_yet : (z : Sizes) (pool : ℕ → ℕ) (i : ℕ) (h : Held) (id : ℕ) (slot : Slot) → OwnLines z i h → length h.answers < length h.lines → (next_line h).command ≡ SetSlot id slot → RecordPart pool h.slots → id ≤ 31 → live_at pool published_set id ≡ false
-not_live_yet z pool i h id slot O left is R low = case (live_at pool published_set id) refl
+not_live_yet : (z : Sizes) (pool : ℕ → ℕ) (set i : ℕ) (h : Held) (id : ℕ) (slot : Slot) → OwnLines z i h → length h.answers < length h.lines → (next_line h).command ≡ SetSlot id slot → RecordPart pool set h.slots → id ≤ 31 → lines_done h ≡ length h.answers → live_at pool set id ≡ false
+not_live_yet z pool set i h id slot O left is R low done = case (live_at pool set id) refl
   where
-    case : (b : Bool) → live_at pool published_set id ≡ b → live_at pool published_set id ≡ false
+    case : (b : Bool) → live_at pool set id ≡ b → live_at pool set id ≡ false
     case true live =
-        let listed : Contains (keys_of h.slots) id = subst (λ (ids : List ℕ). Contains ids id) (ap keys_of (sym R.same) ∙ same_keys h.slots) (live_is_listed pool published_set 32 id (omega (arith, low)) live) in
-        absurd (not_set_before (length h.answers) h.lines id slot left is O.distinct (All-contains (Contains (slot_ids (take (length h.answers) h.lines))) (keys_of h.slots) id O.answered listed))
+        let listed : Contains (keys_of h.slots) id = subst (λ (ids : List ℕ). Contains ids id) (ap keys_of (sym R.same) ∙ same_keys h.slots) (live_is_listed pool set 32 id (omega (arith, low)) live) in
+        absurd (not_set_before (length h.answers) h.lines id slot left is O.distinct (All-contains (Contains (slot_ids (take (length h.answers) h.lines))) (keys_of h.slots) id (subst (λ n. All (Contains (slot_ids (take n h.lines))) (keys_of h.slots)) done O.answered) listed))
     case false e = e
 
-pub may_be_set : (z : Sizes) (v : View) (a : ℕ) (line : Line) (id : ℕ) (slot : Slot) (f : SlotField) → IsStep z v a line (SetSlot id slot) (place.SetSlot (Fill f)) → Invariant z v → MayBeSet z (v.words area.Pool) id slot
-may_be_set z v a line id slot f S I =
+pub may_be_set : (z : Sizes) (v : View) (a : ℕ) (line : Line) (id : ℕ) (slot : Slot) (p : SetSlotPlace) → IsStep z v a line (SetSlot id slot) (place.SetSlot p) → Invariant z v → may_leave (place.SetSlot p) ≡ false → set_refusal z.pages id slot (v.hand a).slots ≡ None
+    → MayBeSet z (v.words area.Pool) (v.words area.Slots 0) id slot
+may_be_set z v a line id slot p S I not_yet accepts =
     let h : Held = v.hand a in
-    let R = record_of z v a line id slot (Fill f) S I in
-    let P = passes z.pages id slot h.slots (accepted z (v.words area.Pool) (v.words area.Host) f id slot h.slots h.state S.holds) in
-    may_be z (v.words area.Pool) id slot (subst (Passes z.pages id slot) R.same P)
-    (not_live_yet z (v.words area.Pool) a h id slot (I.lines a S.there) S.left (ap (λ (l : Line). l.command) (sym S.next) ∙ S.command_is) R P.low)
+    let R = record_of z v a line id slot p S I in
+    let P = passes z.pages id slot h.slots accepts in
+    may_be z (v.words area.Pool) (v.words area.Slots 0) id slot (subst (Passes z.pages id slot) R.same P)
+    (not_live_yet z (v.words area.Pool) (v.words area.Slots 0) a h id slot (I.lines a S.there) S.left (ap (λ (l : Line). l.command) (sym S.next) ∙ S.command_is) R P.low (none_done z v a line (SetSlot id slot) (place.SetSlot p) S not_yet))

@@ -37,7 +37,7 @@ use Rattle.mmu_core.specs.AccessSteps.{access_note, access_part, access_task, pa
 use Rattle.mmu_core.specs.Cached.{first_usable}
 use Rattle.mmu_core.specs.FaultSteps.{allows_access}
 use Rattle.mmu_core.specs.FlatInvariant.{AccessUnder}
-use Rattle.mmu_core.specs.Invariant.{Invariant, IsLeafFor, IsLive}
+use Rattle.mmu_core.specs.Invariant.{Invariant, IsLeafFor}
 use Rattle.mmu_core.specs.KnowsPart.{AccessKnows}
 use Rattle.mmu_core.specs.SlotWords.{page_of}
 use Rattle.mmu_core.specs.Tasks.{kind_of_task, map_of}
@@ -49,8 +49,8 @@ use Rattle.mmu_core.proofs.FaultFlat.{fault_goes}
 use Rattle.mmu_core.proofs.FlatSteps.{Goes, Leaves, Ready, StepGoes, part_leaves, refines_stay}
 use Rattle.mmu_core.proofs.PageFound.{frame_of_leaf, leaf_allows, page_in_machine, page_is_behind, word_in_page}
 use Rattle.mmu_core.proofs.PartStepping.{IsPart}
-use Rattle.mmu_core.proofs.SlotsStay.{is_live_stays}
 use Rattle.mmu_core.proofs.Stepping.{IsStep}
+use Rattle.mmu_core.proofs.LiveStays.{access_never}
 
 -- The step is one of a part, if it isn't the touch.
 abbrev pub IsPartOr : Sizes → View → ℕ → Option PartStep → Type 0
@@ -120,9 +120,9 @@ touches : (z : Sizes) (v : View) (a : ℕ) (line : Line) (gfn word : ℕ) (op : 
     → Touches z (v.hand a).state gfn word op facts
 touches z v a line gfn word op facts u S I K R =
     let s : State = (v.hand a).state in
-    let F : IsLeafFor (v.words area.Pool) (v.words area.Host) gfn s.leaf = S.holds in
+    let F : IsLeafFor (v.words area.Pool) (v.words area.Host) (v.words area.Slots 0) gfn s.leaf = S.holds in
     let page : ℕ = page_of F.slot gfn in
-    let page_in : page < z.pages = page_in_machine z (v.words area.Slots) (v.words area.Pool) F.id gfn F.slot I.set F.live F.holds in
+    let page_in : page < z.pages = page_in_machine z (v.words area.Slots 0) (v.words area.Role) (v.words area.Pool) F.id gfn F.slot I.set_part F.live F.holds in
     let frame : frame_in s.leaf ≡ page = ap frame_in F.is ∙ frame_of_leaf z (v.words area.Host) F.slot page I.sizes I.hosts page_in in
     let allowed : (is_write op && F.slot.read_only) ≡ false = leaf_allows op F.slot (v.words area.Host page) s.leaf F.is K.1 in
     record {
@@ -130,18 +130,18 @@ touches z v a line gfn word op facts u S I K R =
       page_in = page_in;
       word_in = word_in_page z line.actor gfn word op S.allowed;
       frame = frame;
-      behind_is = page_is_behind z (v.words area.Slots) (v.words area.Pool) F.id gfn F.slot op facts.slots I.set F.live F.holds allowed R.refines.slots;
+      behind_is = page_is_behind z (v.words area.Slots 0) (v.words area.Role) (v.words area.Pool) F.id gfn F.slot op facts.slots I.set_part F.live F.holds allowed R.refines.slots;
       index = rw ((I.lines a S.there).sizes, frame) refl;
     }
 
 touch_goes : (z : Sizes) (v : View) (a : ℕ) (line : Line) (gfn word : ℕ) (op : Op) (facts : Facts) (u : LineUnderWay) (after : Area → ℕ → ℕ) (t : Topics)
     → IsStep z v a line (Access gfn word op) (place.Access Touch) → Ready z v line (Access gfn word op) (place.Access Touch) (v.hand a).topics facts u → (T : Touches z (v.hand a).state gfn word op facts)
-    → after area.Pool ≡ v.words area.Pool
+    → after area.Slots ≡ v.words area.Slots → after area.Pool ≡ v.words area.Pool
     → after area.Content (content_index (map_of (v.hand a).state.sizes) (frame_in (v.hand a).state.leaf) word) ≡ stored op (v.words area.Content (content_index (map_of (v.hand a).state.sizes) (frame_in (v.hand a).state.leaf) word))
     → ((i : ℕ) → i ≢ content_index (map_of (v.hand a).state.sizes) (frame_in (v.hand a).state.leaf) word → after area.Content i ≡ v.words area.Content i)
     → let x : ℕ = v.words area.Content (content_index (map_of (v.hand a).state.sizes) (frame_in (v.hand a).state.leaf) word) in
-    Goes z (v.hand a).state.actor line (Access gfn word op) v.words after (place.Access (Leave (leaving.Reached (frame_in (v.hand a).state.leaf) x))) t (Accessed gfn word op (frame_in (v.hand a).state.leaf) x ∷ []) facts u
-touch_goes z v a line gfn word op facts u after t S R T pool_is here there = record {
+    Goes z (v.hand a).state.actor line (Access gfn word op) after (place.Access (Leave (leaving.Reached (frame_in (v.hand a).state.leaf) x))) t (Accessed gfn word op (frame_in (v.hand a).state.leaf) x ∷ []) facts u
+touch_goes z v a line gfn word op facts u after t S R T slots_is pool_is here there = record {
   allowed = (
     (
       R.under.1,
@@ -156,13 +156,12 @@ touch_goes z v a line gfn word op facts u after t S R T pool_is here there = rec
     tt,
   );
   refines = record {
-    slots = R.refines.slots ∙ rw pool_is refl;
+    slots = R.refines.slots ∙ rw (slots_is, pool_is) refl;
     host = R.refines.host;
     memory = subst (λ page. (p j : ℕ) → p < z.pages → j < z.words → touched page word op facts.memory p j ≡ after area.Content (content_index (map_of z) p j)) (sym T.behind_is)
         (memory_behind z T.page word op facts.memory (v.words area.Content) (after area.Content) T.page_in T.word_in R.refines.memory (rw T.index at here) (rw T.index at there));
   };
   under = (R.under.0, refl);
-  live = λ e l. subst (λ (pool : ℕ → ℕ). IsLive pool e.0 e.1) (sym pool_is) l;
 }
 
 -- the index of the word that the access touches
@@ -186,23 +185,23 @@ module _ (z : Sizes) (v : View) (a : ℕ) (line : Line) (gfn word : ℕ) (facts 
   held_behind op p = topics_after (v.hand a).state.sizes (kind_of_task (v.hand a).state.sizes (access_task p (v.hand a) gfn word op)) (v.hand a).topics (answered op p)
 
   touch_owes : (op : Op) → Owes op Touch
-  touch_owes Read S I P part_ K R = touch_goes z v a line gfn word Read facts u v.words (held_behind Read Touch) S R (touches z v a line gfn word Read facts u S I K R) refl refl (λ i apart. refl)
+  touch_owes Read S I P part_ K R = touch_goes z v a line gfn word Read facts u v.words (held_behind Read Touch) S R (touches z v a line gfn word Read facts u S I K R) refl refl refl (λ i apart. refl)
   touch_owes (Write x) S I P part_ K R =
-      touch_goes z v a line gfn word (Write x) facts u (put v.words area.Content (touched_index (v.hand a).state word) x) (held_behind (Write x) Touch) S R (touches z v a line gfn word (Write x) facts u S I K R) refl
+      touch_goes z v a line gfn word (Write x) facts u (put v.words area.Content (touched_index (v.hand a).state word) x) (held_behind (Write x) Touch) S R (touches z v a line gfn word (Write x) facts u S I K R) refl refl
       (upd_same (v.words area.Content) (touched_index (v.hand a).state word) x) (λ i apart. upd_other (v.words area.Content) (touched_index (v.hand a).state word) i x apart)
   touch_owes (Add x) S I P part_ K R =
       let sum : ℕ = stored (Add x) (v.words area.Content (touched_index (v.hand a).state word)) in
-      touch_goes z v a line gfn word (Add x) facts u (put v.words area.Content (touched_index (v.hand a).state word) sum) (held_behind (Add x) Touch) S R (touches z v a line gfn word (Add x) facts u S I K R) refl
+      touch_goes z v a line gfn word (Add x) facts u (put v.words area.Content (touched_index (v.hand a).state word) sum) (held_behind (Add x) Touch) S R (touches z v a line gfn word (Add x) facts u S I K R) refl refl
       (upd_same (v.words area.Content) (touched_index (v.hand a).state word) sum) (λ i apart. upd_other (v.words area.Content) (touched_index (v.hand a).state word) i sum apart)
 
   -- A step of a stay that tells nothing.
   quiet : (op : Op) (p next : AccessPlace) (step : PartStep) → access_part p gfn (v.hand a).topics ≡ Some step → IsPart z v a step → Invariant z v → TopicsInvariant z v
       → Ready z v line (Access gfn word op) (place.Access p) (v.hand a).topics facts u → (u.line ≡ line) × AccessUnder (words_behind op p area.Pool) next gfn op (held_behind op p) u
-      → Goes z (v.hand a).state.actor line (Access gfn word op) v.words (words_behind op p) (place.Access next) (held_behind op p) [] facts u
-  quiet op p next step is S I P R under = record { allowed = tt; refines = refines_stay z v.words (words_behind op p) facts L R.refines; under = under; live = is_live_stays (v.words area.Pool) (words_behind op p area.Pool) L.pool }
+      → Goes z (v.hand a).state.actor line (Access gfn word op) (words_behind op p) (place.Access next) (held_behind op p) [] facts u
+  quiet op p next step is S I P R under = record { allowed = tt; refines = refines_stay z v.words (words_behind op p) facts L R.refines; under = under }
     where
       L : Leaves v.words (words_behind op p)
-      L = subst (λ o. Leaves v.words (words_after (task_by o (v.hand a) (access_note p) (touch_of op (touched_index (v.hand a).state word))) v.words)) (sym is) (part_leaves z v a step (access_note p) S I P)
+      L = subst (λ o. Leaves v.words (words_after (task_by o (v.hand a) (access_note p) (touch_of op (touched_index (v.hand a).state word))) v.words)) (sym is) (part_leaves z v a step (access_note p) S P (access_never p gfn (v.hand a).topics step is))
 
   -- The access is answered.
   reached_owes : (op : Op) (frame value : ℕ) → Owes op (Leave (leaving.Reached frame value))
@@ -210,11 +209,10 @@ module _ (z : Sizes) (v : View) (a : ℕ) (line : Line) (gfn word : ℕ) (facts 
     allowed = ((ap (λ (l : Line). l.number) (sym R.under.0), subst (λ (stage : Stage). Tells z facts.slots u.line.command stage (Reached frame value)) (sym R.under.1) refl), tt);
     refines = refines_stay z v.words (words_behind op (Leave (leaving.Reached frame value))) facts L R.refines;
     under = refl;
-    live = is_live_stays (v.words area.Pool) (words_behind op (Leave (leaving.Reached frame value)) area.Pool) L.pool;
   }
     where
       L : Leaves v.words (words_behind op (Leave (leaving.Reached frame value)))
-      L = part_leaves z v a part.Leave 1 part_ I P
+      L = part_leaves z v a part.Leave 1 part_ P refl
 
   pub access_goes : (op : Op) (p : AccessPlace) → Owes op p
   access_goes op (Enter again) S I P part_ K R = quiet op (Enter again) (Pause again) part.Enter refl part_ I P R R.under

@@ -8,8 +8,6 @@ use Rattle.core_views.specs.declared.kind.StepKind.TheVariants as kind
 use Rattle.core_views.specs.declared.place.Place.{Place}
 use Rattle.core_views.specs.declared.place.Place.TheVariants as place
 use Rattle.core_views.specs.declared.place.SetSlotPlace.{SetSlotPlace}
-use Rattle.core_views.specs.declared.place.SetSlotPlace.TheVariants.{Refuse, Fill}
-use Rattle.core_views.specs.declared.place.SlotField.TheVariants as field
 use Rattle.core_views.specs.declared.topics.OwnedPage.{OwnedPage}
 use Rattle.core_views.specs.declared.topics.TableWalk.{TableWalk}
 use Rattle.core_views.specs.declared.topics.Topics.{Topics}
@@ -21,7 +19,7 @@ use Rattle.core_views.specs.declared.trace.Op.TheVariants.{Read, Write, Add}
 use Rattle.core_views.specs.declared.trace.Slot.{Slot as SlotOf}
 use Rattle.mmu_core.specs.declared.outcome.Task.{Task}
 use Rattle.mmu_core.specs.AccessSteps.{access_note, access_part, task_by, touch_of}
-use Rattle.mmu_core.specs.SetSlotSteps.{set_slot_task}
+use Rattle.mmu_core.specs.SetSlotSteps.{set_slot_task, set_slot_note, set_slot_part}
 use Rattle.std.proofs.lemmas.Bool.Decides.{nat_tests}
 use Rattle.core_views.specs.Held.{Held}
 use Rattle.core_views.specs.Kinds.{code_of, kind_named}
@@ -31,8 +29,8 @@ use Rattle.mmu_core.specs.declared.part_step.PartStep.{PartStep}
 use Rattle.mmu_core.specs.declared.part_step.PartStep.TheVariants as part
 use Rattle.mmu_core.specs.Enabled.{Enabled, IsNext, IsPartStep}
 use Rattle.spte_words.specs.Entries.{level_span}
-use Rattle.mmu_core.specs.PartSteps.{IsAtRest, IsOver, HasToFill, PartNeeds, own_index, part_task, words_filled}
-use Rattle.mmu_core.specs.Rests.{AcceptsAt, Rests, RestsAt, RestsOn, SetSlotRests}
+use Rattle.mmu_core.specs.PartSteps.{IsOver, HasToFill, PartNeeds, own_index, part_task, words_filled}
+use Rattle.mmu_core.specs.Rests.{AcceptsAt, Rests, RestsAt, RestsOn}
 use Rattle.mmu_core.specs.Cached.{flushed}
 use Rattle.mmu_core.specs.PartBounds.{PartRests}
 use Rattle.core_views.specs.declared.sizes.Sizes.{Sizes}
@@ -53,13 +51,6 @@ no_page_room t none = λ o is. let e : None ≡ Some o = sym none ∙ is in absu
 -- the run of a guest frame is a small number
 pub run_small : (gfn : ℕ) (walk : TableWalk) → IsOver gfn walk → walk.prefix < 2 ^ 36
 run_small gfn walk O = let le = div-le_self gfn (level_span walk.level) in omega (arith, O.small, O.run, le)
-
-set_slot_room : (p : SetSlotPlace) (id : ℕ) (slot : SlotOf) (t : Topics) → IsAtRest t → HasRoom (set_slot_task p id slot).kind t
-set_slot_room (Refuse refusal) id slot t R = tt
-set_slot_room (Fill field.Base) id slot t R = no_page_room t R.owns_none
-set_slot_room (Fill field.Pages) id slot t R = no_page_room t R.owns_none
-set_slot_room (Fill field.Host) id slot t R = no_page_room t R.owns_none
-set_slot_room (Fill field.Flags) id slot t R = no_page_room t R.owns_none
 
 -- the kind that a kind's number names
 pub named_is : (k : StepKind) → kind_named (code_of k) ≡ k
@@ -83,6 +74,7 @@ named_is kind.Claim = refl
 named_is kind.Fill = refl
 named_is kind.Give = refl
 named_is kind.Watch = refl
+named_is kind.Publish = refl
 
 fill_room : (t : Topics) → HasToFill t → (b : Bool) (x y : Task) → x.kind ≡ kind.Fill → y.kind ≡ kind.Fill → HasRoom (if b then x else y).kind t
 fill_room t N true x y is other = subst (λ k. HasRoom k t) (sym is) (λ o e. let q : Some N.owned ≡ Some o = sym N.is ∙ e in subst (λ (o : OwnedPage). o.filled < 513) (some_is q) N.left)
@@ -120,6 +112,9 @@ part_room (part.Link gfn) h note z N = λ from. run_small gfn h.topics.walk N.0.
 part_room (part.Leaf gfn) h note z N = λ from. run_small gfn h.topics.walk N.0.saw.over
 part_room (part.Host page) h note z N = tt
 part_room (part.Watch index) h note z N = tt
+part_room part.Publish h note z N = tt
+part_room part.Clear h note z N = λ o is. let e : None ≡ Some o = sym N.owns_none ∙ is in absurd (cc e)
+part_room part.GiveOld h note z N = tt
 
 touch_room : (op : Op) (index : ℕ) (t : Topics) → HasRoom (touch_of op index).kind t
 touch_room Read index t = tt
@@ -130,9 +125,8 @@ access_room : (s : Option PartStep) (h : Held) (note : ℕ) (op : Op) (index : �
 access_room None h note op index z N = touch_room op index h.topics
 access_room (Some step) h note op index z N = part_room step h note z N
 
-setting_room : (p : SetSlotPlace) (id : ℕ) (slot : SlotOf) (t : Topics) → SetSlotRests p id t → HasRoom (set_slot_task p id slot).kind t
-setting_room (Refuse refusal) id slot t R = tt
-setting_room (Fill f) id slot t R = set_slot_room (Fill f) id slot t R.1
+setting_room : (p : SetSlotPlace) (h : Held) (id : ℕ) (slot : SlotOf) → AreSizes h.state.sizes → PartNeeds (set_slot_part p h id slot) h → HasRoom (set_slot_task p h id slot).kind h.topics
+setting_room p h id slot z N = part_room (set_slot_part p h id slot) h (set_slot_note p h) z N
 
 task_room : (p : Place) (command : Command) (h : Held) → AreSizes h.state.sizes → RestsAt p command h → HasRoom (task_at p command h).kind h.topics
 task_room place.Between (Access gfn word op) h z R = tt
@@ -140,7 +134,7 @@ task_room place.Between (SetSlot id slot) h z R = tt
 task_room (place.Access p) (Access gfn word op) h z R = access_room (access_part p gfn h.topics) h (access_note p) op _ z R
 task_room (place.Access p) (SetSlot id slot) h z R = absurd R
 task_room (place.SetSlot p) (Access gfn word op) h z R = absurd R
-task_room (place.SetSlot p) (SetSlot id slot) h z R = setting_room p id slot h.topics R
+task_room (place.SetSlot p) (SetSlot id slot) h z R = setting_room p h id slot z R
 
 room_of : (h : Held) (k : Kind) → IsNext h k ⊎ IsPartStep h k → HasRoom (kind_named k.code) h.topics
 room_of h k (inl e) = subst (λ (x : Kind). HasRoom (kind_named x.code) h.topics) (sym e.is) (subst (λ x. HasRoom x h.topics) (sym (named_is (task_of h).kind)) (task_room (place_at h.state.place h) (line_at h.state.place h).command h e.rests.part.sizes e.rests.at))

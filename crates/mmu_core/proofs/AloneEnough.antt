@@ -45,5 +45,5 @@ none_starved h lines w ss s answer start legal enough L may is starved =
     let further : run mmu w (ss ++ s ∷ []) ≡ effect mmu (run mmu w ss) s = run_one_more w ss s in
     let F : HasFreePage h.pool (word_in z (run mmu w (ss ++ s ∷ [])) area.PoolMap) =
     enough_pages h lines w (ss ++ s ∷ []) start (legal_one_more w ss s legal may) enough
-    (λ i lt. subst (λ (u : World Held). (hand_in mmu u i).topics.owned ≡ None) (sym further) (N.1 i (subst (λ n. i < n) (sym N.0.hands) lt)).owns_none) in
+    (λ i lt. subst (λ (u : World Held). (hand_in mmu u i).topics.owned ≡ None) (sym further) (N.1 i (subst (λ n. i < n) (sym N.0.hands) lt)).rests.owns_none) in
     none_free h.pool (word_in z (effect mmu (run mmu w ss) s) area.PoolMap) (N.2 starved) (subst (λ (u : World Held). HasFreePage h.pool (word_in z u area.PoolMap)) further F)

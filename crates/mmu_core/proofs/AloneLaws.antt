@@ -57,7 +57,7 @@ lock_free z w a G there others loose =
       where
         by : (i ≡ a) ⊎ (i ≢ a) → (hand_in mmu w i).topics.hold ≡ Loose
         by (inl e) = ap (λ j. (hand_in mmu w j).topics.hold) e ∙ loose
-        by (inr ne) = (others i (subst (λ n. i < n) (sym G.hands) lt) ne).loose
+        by (inr ne) = (others i (subst (λ n. i < n) (sym G.hands) lt) ne).rests.loose
 
 share_in : (w : World Held) (a note : ℕ) → Reachable w → a < length w.hands → OthersRest a w → (hand_in mmu w a).topics.hold ≡ Loose → answered mmu w (part_kind (hand_in mmu w a) part.Share note) ≡ 0
 share_in w a note r there others loose =
@@ -81,14 +81,18 @@ exclude_alone w a note reached there others loose = ∥∥₁_elim reached (hlev
 outside_bit : (w : ℕ) → w < 8 → w % 4 ≡ 0 → in_section w ≡ false
 outside_bit w lt is = grind (arith, nat_tests)
 
+pub outside_word : (z : Sizes) (w : World Held) (a index : ℕ) → IsSound z w → OthersRest a w → index < actors_of z → index ≢ a → in_section (word_in z w area.State index) ≡ false
+outside_word z w a index G others index_in ne =
+    let S = G.topics.states_part index index_in in
+    let outside = (others index (subst (λ n. index < n) (sym G.hands) index_in) ne).rests.outside in
+    outside_bit (word_in z w area.State index) S.0 (S.1 ∙ ap stay_bits outside)
+
 watch_in : (w : World Held) (a index note : ℕ) → Reachable w → a < length w.hands → OthersRest a w → index ≢ a → PartNeeds (part.Watch index) (hand_in mmu w a) → in_section (answered mmu w (part_kind (hand_in mmu w a) (part.Watch index) note)) ≡ false
 watch_in w a index note r there others ne N =
     let G = reached_good w r in
     let lt = subst (λ n. a < n) G.hands there in
     let index_in : index < actors_of r.sizes = subst (λ (y : Sizes). index < actors_of y) (G.holds.lines a lt).sizes N.0 in
-    let S = G.topics.states_part index index_in in
-    let outside = (others index (subst (λ n. index < n) (sym G.hands) index_in) ne).outside in
-    ap in_section (part_found r.sizes w a (part.Watch index) note G lt N) ∙ outside_bit (word_in r.sizes w area.State index) S.0 (S.1 ∙ ap stay_bits outside)
+    ap in_section (part_found r.sizes w a (part.Watch index) note G lt N) ∙ outside_word r.sizes w a index G others index_in ne
 
 pub watch_alone : (w : World Held) (a index note : ℕ) → ∥ Reachable w ∥₁ → a < length w.hands → OthersRest a w → index ≢ a → PartNeeds (part.Watch index) (hand_in mmu w a)
     → in_section (answered mmu w (part_kind (hand_in mmu w a) (part.Watch index) note)) ≡ false

@@ -12,7 +12,6 @@ use Rattle.core_views.specs.declared.place.Place.{Place}
 use Rattle.core_views.specs.declared.place.Place.TheVariants as place
 use Rattle.core_views.specs.declared.place.SetSlotPlace.{SetSlotPlace}
 use Rattle.core_views.specs.declared.place.SetSlotPlace.TheVariants as set_slot
-use Rattle.core_views.specs.declared.place.SlotField.TheVariants as field
 use Rattle.core_views.specs.declared.sizes.Sizes.{Sizes}
 use Rattle.core_views.specs.declared.topics.Topics.{Topics}
 use Rattle.core_views.specs.declared.trace.Command.{Command}
@@ -27,14 +26,15 @@ use Rattle.spte_words.specs.declared.area.Area.{Area}
 use Rattle.spte_words.specs.declared.area.Area.TheVariants as area
 use Rattle.mmu_core.specs.declared.outcome.Outcome.{Outcome}
 use Rattle.mmu_core.specs.declared.outcome.Outcome.TheVariants.{Goes, Ends}
-use Rattle.mmu_core.specs.AloneKnows.{AloneKnows}
+use Rattle.mmu_core.specs.AloneKnows.{AloneKnows, SetSlotAlone}
+use Rattle.mmu_core.specs.KnowsPart.{may_leave}
 use Rattle.mmu_core.specs.Bounds.{access_left, most_steps, set_slot_left, steps_left}
 use Rattle.mmu_core.specs.Enabled.{mmu}
 use Rattle.mmu_core.specs.FaultSteps.{fault_left}
 use Rattle.mmu_core.specs.Laws.{IsSound}
 use Rattle.mmu_core.specs.LineAlone.{AllRest, ComesNearer, LineAlone, StarvedOnlyWithout, StepsAlone, hand_left, line_waits}
 use Rattle.mmu_core.specs.Machine.{May, Step, World, answered, effect, hand_in}
-use Rattle.mmu_core.specs.OthersRest.{OthersRest}
+use Rattle.mmu_core.specs.OthersRest.{HoldsNothing, OthersRest}
 use Rattle.mmu_core.specs.PartSteps.{IsAtRest}
 use Rattle.mmu_core.specs.Rests.{IsUnderWay}
 use Rattle.mmu_core.specs.SetSlotSteps.{set_slot_first}
@@ -42,22 +42,23 @@ use Rattle.mmu_core.specs.Steps.{first_place, line_at, outcome_at, place_at, sta
 use Rattle.mmu_core.specs.Tasks.{answers_after, place_after}
 use Rattle.mmu_core.specs.Turns.{line_of, outcome_of}
 use Rattle.mmu_core.specs.View.{View, answer_in, hand_after, view, word_in, words_after}
-use Rattle.mmu_core.proofs.AloneStep.{AloneStep, GoesAlone, RestsBehind, alone_step, two_left}
+use Rattle.mmu_core.proofs.AloneStep.{AloneStep, RestsBehind, alone_step, two_left}
+use Rattle.mmu_core.proofs.GoesAlone.{GoesAlone}
 use Rattle.mmu_core.proofs.Columns.{same_or, upd_other, upd_same}
 use Rattle.mmu_core.proofs.Extend.{hands_of_effect}
-use Rattle.mmu_core.proofs.KnowsKept.{knows_at}
+use Rattle.mmu_core.proofs.KnowsKept.{knows_at, needs_at, step_leaves}
 use Rattle.mmu_core.proofs.PartBounded.{part_rests_at}
 use Rattle.mmu_core.proofs.Which.{has_line_is, is_next}
 use Rattle.mmu_core.proofs.Worlds.{Takes, good_step, takes_line}
 
 -- A line that begins has no more steps left than any line.
-first_setting : (r : Option Refusal) → set_slot_left (set_slot_first r) ≤ 4
-first_setting None = omega arith
-first_setting (Some refusal) = omega arith
+first_setting : (r : Option Refusal) (y : Sizes) (t : Topics) → AreSizes y → steps_left (place.SetSlot (set_slot_first r)) y t ≤ most_steps y
+first_setting None y t S = omega (arith, S.actors.vcpus, S.actors.hosts, S.actors.workers)
+first_setting (Some refusal) y t S = omega arith
 
 first_left : (y : Sizes) (slots : MemorySlots) (command : Command) (t : Topics) → AreSizes y → steps_left (first_place y slots command) y t ≤ most_steps y
 first_left y slots (Access gfn word op) t S = let most = S.pool.1 in omega (arith, most)
-first_left y slots (SetSlot id slot) t S = let few = first_setting (set_refusal y.pages id slot slots) in omega (arith, few)
+first_left y slots (SetSlot id slot) t S = first_setting (set_refusal y.pages id slot slots) y t S
 
 pub standing_left : (q : Place) (y : Sizes) (slots : MemorySlots) (command : Command) (t : Topics) → AreSizes y → steps_left (standing q y slots command) y t ≤ steps_left q y t
 standing_left place.Between y slots command t S = first_left y slots command t S
@@ -92,22 +93,32 @@ some_access_left (access.Leave (leaving.Reached frame value)) y t = omega arith
 some_access_left (access.Leave leaving.Faults) y t = omega arith
 some_access_left (access.Fault p) y t = let some = some_fault_left p y t in omega (arith, some)
 
-some_setting_left : (p : SetSlotPlace) → 0 < set_slot_left p
-some_setting_left (set_slot.Refuse refusal) = omega arith
-some_setting_left (set_slot.Fill field.Base) = omega arith
-some_setting_left (set_slot.Fill field.Pages) = omega arith
-some_setting_left (set_slot.Fill field.Host) = omega arith
-some_setting_left (set_slot.Fill field.Flags) = omega arith
+some_setting_left : (p : SetSlotPlace) (y : Sizes) (t : Topics) → 0 < set_slot_left p y t
+some_setting_left (set_slot.Refuse refusal) y t = omega arith
+some_setting_left (set_slot.Claim begun) y t = omega arith
+some_setting_left set_slot.Fill y t = omega arith
+some_setting_left set_slot.Exclude y t = omega arith
+some_setting_left set_slot.Count y t = omega arith
+some_setting_left set_slot.Close y t = omega arith
+some_setting_left set_slot.Publish y t = omega arith
+some_setting_left set_slot.Release y t = omega arith
+some_setting_left set_slot.Watch y t = omega arith
+some_setting_left set_slot.Clear y t = omega arith
+some_setting_left set_slot.Give y t = omega arith
 
 pub some_left : (p : Place) (y : Sizes) (t : Topics) → 0 < steps_left p y t
 some_left place.Between y t = omega arith
 some_left (place.Access p) y t = some_access_left p y t
-some_left (place.SetSlot p) y t = some_setting_left p
+some_left (place.SetSlot p) y t = some_setting_left p y t
 
 -- and it knows what its first place asks
+first_setting_alone : (r : Option Refusal) (map : ℕ → ℕ) (t : Topics) → SetSlotAlone (set_slot_first r) map t
+first_setting_alone None map t = (λ e. absurd (cc e), λ e. absurd (cc e))
+first_setting_alone (Some refusal) map t = tt
+
 first_alone : (y : Sizes) (slots : MemorySlots) (command : Command) (words : Area → ℕ → ℕ) (t : Topics) → AloneKnows (first_place y slots command) command words t
 first_alone y slots (Access gfn word op) words t = λ e. absurd (cc e)
-first_alone y slots (SetSlot id slot) words t = tt
+first_alone y slots (SetSlot id slot) words t = first_setting_alone (set_refusal y.pages id slot slots) (words area.PoolMap) t
 
 standing_alone : (q : Place) (y : Sizes) (slots : MemorySlots) (command : Command) (words : Area → ℕ → ℕ) (t : Topics) → AloneKnows q command words t → AloneKnows (standing q y slots command) command words t
 standing_alone place.Between y slots command words t K = first_alone y slots command words t
@@ -167,11 +178,18 @@ comes_nearer : (o : Outcome) (z : Sizes) (w after : World Held) (a : ℕ) (line 
 comes_nearer (Goes q) z w after a line g words sizes B H G rests = goes_on q z w after a line g words sizes B H G
 comes_nearer (Ends answer) z w after a line g words sizes B H G rests = (B.sound, all, subst (λ (ws : Area → ℕ → ℕ). StarvedOnlyWithout answer z (ws area.PoolMap)) (sym B.words_are) (subst (λ y. StarvedOnlyWithout answer y (words area.PoolMap)) sizes G))
   where
+    -- no page leaves where no line is under way
+    own : HoldsNothing (hand_in mmu after a).topics
+    own = record {
+      rests = subst (λ (x : Held). IsAtRest x.topics) (sym B.hand) rests;
+      leaves_none = B.sound.holds.leaves a B.there (ap may_leave (ap (λ (x : Held). x.state.place) B.hand ∙ H.stands));
+    }
+
     all : AllRest after
     all i lt = by (same_or i a)
       where
-        by : (i ≡ a) ⊎ (i ≢ a) → IsAtRest (hand_in mmu after i).topics
-        by (inl e) = subst (λ j. IsAtRest (hand_in mmu after j).topics) (sym e) (subst (λ (x : Held). IsAtRest x.topics) (sym B.hand) rests)
+        by : (i ≡ a) ⊎ (i ≢ a) → HoldsNothing (hand_in mmu after i).topics
+        by (inl e) = subst (λ j. HoldsNothing (hand_in mmu after j).topics) (sym e) own
         by (inr ne) = B.others i lt ne
 
 module _ (z : Sizes) (w : World Held) (s : Step Kind) (L : LineAlone z w s.actor) (may : May mmu w s) where
@@ -203,12 +221,13 @@ module _ (z : Sizes) (w : World Held) (s : Step Kind) (L : LineAlone z w s.actor
   stepped_alone =
       let S = taken.is_step in
       alone_step z w a L.sound L.others L.there (part_rests_at z (view z w) a L.sound.holds L.sound.topics L.there) (ap (λ y. index_of y h.state.actor) sizes ∙ (L.sound.holds.lines a L.there).index) sizes
-      stood line line.command S.begun (subst (λ c. IsCommandFor z c line.command) S.own S.allowed) (knows_at z (view z w) a L.sound.holds L.there L.left) (standing_alone h.state.place h.state.sizes h.slots line.command words h.topics L.knows)
+      stood line line.command S.begun (subst (λ c. IsCommandFor z c line.command) S.own S.allowed) (knows_at z (view z w) a L.sound.holds L.there L.left)
+      (step_leaves z (view z w) a line line.command stood S L.sound.holds) (needs_at z (view z w) a line line.command stood S L.sound.holds L.sound.topics) (standing_alone h.state.place h.state.sizes h.slots line.command words h.topics L.knows)
 
   behind : Behind z a (effect mmu w s) (hand_after line line.command stood h x) (words_after (task_at stood line.command h) words)
   behind = record {
     sound = good_step z w s L.sound may;
-    others = λ i lt ne. subst (λ (g : Held). IsAtRest g.topics) (sym (ap (λ (v : View). v.hand i) taken.leads ∙ upd_other (hand_in mmu w) a i (hand_after line line.command stood h x) ne)) (L.others i (subst (λ n. i < n) (hands_of_effect mmu w s) lt) ne);
+    others = λ i lt ne. subst (λ (g : Held). HoldsNothing g.topics) (sym (ap (λ (v : View). v.hand i) taken.leads ∙ upd_other (hand_in mmu w) a i (hand_after line line.command stood h x) ne)) (L.others i (subst (λ n. i < n) (hands_of_effect mmu w s) lt) ne);
     there = L.there;
     hand = ap (λ (v : View). v.hand a) taken.leads ∙ upd_same (hand_in mmu w) a (hand_after line line.command stood h x);
     words_are = ap (λ (v : View). v.words) taken.leads;

@@ -16,8 +16,6 @@ use Rattle.core_views.specs.declared.place.Leaving.TheVariants as leaving
 use Rattle.core_views.specs.declared.place.Place.{Place}
 use Rattle.core_views.specs.declared.place.Place.TheVariants as place
 use Rattle.core_views.specs.declared.place.SetSlotPlace.{SetSlotPlace}
-use Rattle.core_views.specs.declared.place.SetSlotPlace.TheVariants.{Refuse, Fill}
-use Rattle.core_views.specs.declared.place.SlotField.TheVariants as field
 use Rattle.core_views.specs.declared.sizes.Sizes.{Sizes}
 use Rattle.core_views.specs.declared.topics.Stay.{Stay}
 use Rattle.core_views.specs.declared.topics.TableWalk.{TableWalk}
@@ -41,36 +39,36 @@ use Rattle.mmu_core.specs.declared.outcome.Outcome.{Outcome}
 use Rattle.mmu_core.specs.declared.outcome.Outcome.TheVariants.{Goes, Ends}
 use Rattle.mmu_core.specs.declared.part_step.PartStep.{PartStep}
 use Rattle.mmu_core.specs.AccessSteps.{access_note, access_outcome, access_part, access_task, behind_fault, pause_next, walk_next}
-use Rattle.mmu_core.specs.AloneKnows.{AccessAlone, AloneKnows, StayAlone}
-use Rattle.mmu_core.specs.Bounds.{set_slot_left, stay_left, steps_left}
+use Rattle.mmu_core.specs.AloneKnows.{AccessAlone, AloneKnows, SetSlotAlone, StayAlone}
+use Rattle.mmu_core.specs.Bounds.{stay_left}
 use Rattle.mmu_core.specs.Cached.{first_usable}
 use Rattle.mmu_core.specs.Enabled.{mmu}
 use Rattle.mmu_core.specs.FaultAlone.{AloneNext, GoesThrough, LeadsTo, LeadsToLeaf, RunsAlone}
 use Rattle.mmu_core.specs.FaultKnows.{EndKnows, FaultKnows}
 use Rattle.mmu_core.specs.FaultSteps.{allows_access, fault_left, fault_next, fault_part, next_left}
-use Rattle.mmu_core.specs.KnowsPart.{AccessKnows, KnowsPart}
+use Rattle.mmu_core.specs.KnowsPart.{AccessKnows, KnowsPart, LeavesPart}
 use Rattle.mmu_core.specs.Laws.{IsSound}
-use Rattle.mmu_core.specs.LineAlone.{StarvedOnlyWithout, line_waits}
 use Rattle.mmu_core.specs.Machine.{World, hand_in}
 use Rattle.mmu_core.specs.OthersRest.{OthersRest}
 use Rattle.mmu_core.specs.PartBounds.{PartRests}
-use Rattle.mmu_core.specs.PartSteps.{IsAtRest, entry_index, own_index, table_page}
+use Rattle.mmu_core.specs.PartSteps.{IsAtRest, PartNeeds, entry_index, own_index, table_page}
 use Rattle.mmu_core.specs.PartTopics.{part_topics}
 use Rattle.mmu_core.specs.Rests.{IsUnderWay}
-use Rattle.mmu_core.specs.SetSlotSteps.{set_slot_outcome, set_slot_task}
+use Rattle.mmu_core.specs.SetSlotSteps.{set_slot_note, set_slot_outcome, set_slot_part, set_slot_task}
 use Rattle.mmu_core.specs.Steps.{outcome_at, task_at}
 use Rattle.mmu_core.specs.Tasks.{kind_of_task}
 use Rattle.mmu_core.specs.TopicSteps.{at_root, gone_down, linked_page, may_walk, topics_after}
 use Rattle.mmu_core.specs.View.{answer_in, word_in, words_after}
 use Rattle.mmu_core.proofs.FaultAlone.{goes_through}
 use Rattle.mmu_core.proofs.FaultFalls.{fault_falls}
-use Rattle.mmu_core.proofs.FaultKnown.{above_lowest}
-use Rattle.mmu_core.proofs.KnowsKept.{KnowsBehind, access_known, access_needs, access_vcpu, behind_part, hand_with, set_slot_rests, task_answers, task_topics}
-
--- Behind a step the line goes on, with what its next place asks and fewer than n steps left; or it is answered.
-abbrev pub GoesAlone : Outcome → Command → Sizes → (Area → ℕ → ℕ) → Topics → ℕ → Type 0
-GoesAlone (Goes p) command y words t n = IsUnderWay p × AloneKnows p command words t × (steps_left p y t < n)
-GoesAlone (Ends answer) command y words t n = StarvedOnlyWithout answer y (words area.PoolMap)
+use Rattle.mmu_core.proofs.FaultKnown.{above_lowest, parts_answer}
+use Rattle.mmu_core.proofs.GoesAlone.{GoesAlone, GoesOnAlone}
+use Rattle.mmu_core.proofs.HandWith.{hand_with}
+use Rattle.mmu_core.proofs.PartTopics.{is_there, part_topics_is}
+use Rattle.mmu_core.proofs.SetSlotAlone.{setting_through}
+use Rattle.mmu_core.proofs.SetSlotKnown.{SettingKnows, set_slot_known}
+use Rattle.mmu_core.specs.SetSlotKnows.{SetSlotKnows}
+use Rattle.mmu_core.proofs.KnowsKept.{KnowsBehind, NeedsAt, access_known, access_needs, access_vcpu, behind_part, task_answers, task_topics}
 
 -- ---- where links lead
 
@@ -98,7 +96,7 @@ leads_here pool (suc (suc level)) page gfn e v here none leads =
     let some : Some leads.0 ≡ None = sym leads.1 ∙ ap (λ n. linked_page (kind_of (suc (suc level)) n)) here ∙ none in
     absurd (cc some)
 
-is_leaf_here : (pool : ℕ → ℕ) (level page gfn v : ℕ) (write : Bool) (k : SpteKind) → pool (pool_index page (entry_index gfn level)) ≡ v → kind_of level v ≡ k → linked_page k ≡ None
+pub is_leaf_here : (pool : ℕ → ℕ) (level page gfn v : ℕ) (write : Bool) (k : SpteKind) → pool (pool_index page (entry_index gfn level)) ≡ v → kind_of level v ≡ k → linked_page k ≡ None
     → LeadsToLeaf pool level page gfn write → (k ≡ entry_kind.Leaf) × (allows_access write v ≡ true)
 is_leaf_here pool level page gfn v write k here is none L =
     let E = leads_here pool level page gfn L.entry v here (ap (λ (x : SpteKind). linked_page x) is ∙ none) L.leads in
@@ -178,7 +176,7 @@ came_to_end : (p : FaultPlace) (y : Sizes) (gfn : ℕ) (write : Bool) (t : Topic
 came_to_end (fault.End e) y gfn write t v K = came_by e y gfn write t (part_topics (fault_part (fault.End e) gfn t) t v) refl K.2
 came_to_end _ y gfn write t v K = tt
 
-fault_goes : (n : FaultNext) (gfn word : ℕ) (op : Op) (y : Sizes) (words : Area → ℕ → ℕ) (u : Topics) (left : ℕ) → AloneNext n (words area.Root 0) (words area.PoolMap) (words area.Pool) gfn (is_write op) u → CameToEnd n y u → next_left n y u < left
+fault_goes : (n : FaultNext) (gfn word : ℕ) (op : Op) (y : Sizes) (words : Area → ℕ → ℕ) (u : Topics) (left : ℕ) → AloneNext n (words area.Root 0) (words area.Slots 0) (words area.PoolMap) (words area.Pool) gfn (is_write op) u → CameToEnd n y u → next_left n y u < left
     → GoesAlone (behind_fault n) (Access gfn word op) y words u (left + 9)
 fault_goes (next_of.Goes p) gfn word op y words u left alone came less = (tt, alone, omega (arith, less))
 fault_goes (next_of.Ends end_of.Installed) gfn word op y words u left alone came less = (tt, λ yes. alone, omega (arith, less))
@@ -186,13 +184,6 @@ fault_goes (next_of.Ends end_of.Mmio) gfn word op y words u left alone came less
 fault_goes (next_of.Ends end_of.HostFault) gfn word op y words u left alone came less = λ e. absurd (cc e)
 fault_goes (next_of.Ends end_of.Starved) gfn word op y words u left alone came less = λ e i lt. alone i (omega (arith, lt, came))
 fault_goes (next_of.Ends (end_of.Retry cause)) gfn word op y words u left alone came less = absurd alone
-
--- ---- a step
-
--- The step of a place goes through.
-pub record GoesOnAlone (p : Place) (command : Command) (h : Held) (words : Area → ℕ → ℕ) (u : Topics) : Type 0 where
-  pub goes : line_waits p h.topics (answer_in (task_at p command h) words) ≡ false
-  pub next : GoesAlone (outcome_at p command h (answer_in (task_at p command h) words)) command h.state.sizes (words_after (task_at p command h) words) u (steps_left p h.state.sizes h.topics)
 
 -- ---- in a sound world
 
@@ -203,7 +194,7 @@ module _ (z : Sizes) (w : World Held) (a : ℕ) (sound : IsSound z w) (others : 
   abbrev words : Area → ℕ → ℕ
   words = word_in z w
 
-  fault_alone : (p : FaultPlace) (gfn word : ℕ) (op : Op) → gfn < 2 ^ 36 → FaultKnows p h.state.sizes gfn (is_write op) h.topics → AccessAlone (Fault p) (words area.Root 0) (words area.PoolMap) (words area.Pool) gfn (is_write op) h.topics
+  fault_alone : (p : FaultPlace) (gfn word : ℕ) (op : Op) → gfn < 2 ^ 36 → FaultKnows p h.state.sizes gfn (is_write op) h.topics → AccessAlone (Fault p) (words area.Root 0) (words area.Slots 0) (words area.PoolMap) (words area.Pool) gfn (is_write op) h.topics
       → GoesOnAlone (place.Access (Fault p)) (Access gfn word op) h words (part_topics (fault_part p gfn h.topics) h.topics (answer_in (access_task (Fault p) h gfn word op) words))
   fault_alone p gfn word op small K alone =
       let note : ℕ = access_note (Fault p) in
@@ -218,7 +209,7 @@ module _ (z : Sizes) (w : World Held) (a : ℕ) (sound : IsSound z w) (others : 
             (fault_falls p h gfn v (is_write op) small R K G.goes);
       }
 
-  access_goes : (p : AccessPlace) (gfn word : ℕ) (op : Op) → gfn < 2 ^ 36 → AccessKnows p gfn (is_write op) h → AccessAlone p (words area.Root 0) (words area.PoolMap) (words area.Pool) gfn (is_write op) h.topics
+  access_goes : (p : AccessPlace) (gfn word : ℕ) (op : Op) → gfn < 2 ^ 36 → AccessKnows p gfn (is_write op) h → AccessAlone p (words area.Root 0) (words area.Slots 0) (words area.PoolMap) (words area.Pool) gfn (is_write op) h.topics
       → GoesOnAlone (place.Access p) (Access gfn word op) h words (behind_part (access_part p gfn h.topics) h.topics (answer_in (access_task p h gfn word op) words))
   access_goes (Enter again) gfn word op small K alone =
       let same : stay_left again h.state.sizes (behind_part (access_part (Enter again) gfn h.topics) h.topics (answer_in (access_task (Enter again) h gfn word op) words)) ≡ stay_left again h.state.sizes h.topics = refl in
@@ -238,13 +229,6 @@ module _ (z : Sizes) (w : World Held) (a : ℕ) (sound : IsSound z w) (others : 
       record { goes = refl; next = (tt, tt, omega (arith, same)) }
   access_goes (Fault p) gfn word op small K alone = fault_alone p gfn word op small K alone
 
-set_slot_goes : (p : SetSlotPlace) (id : ℕ) (slot : Slot) (y : Sizes) (words : Area → ℕ → ℕ) (u : Topics) → GoesAlone (set_slot_outcome p) (SetSlot id slot) y words u (set_slot_left p)
-set_slot_goes (Refuse refusal) id slot y words u = λ e. absurd (cc e)
-set_slot_goes (Fill field.Base) id slot y words u = (tt, tt, omega arith)
-set_slot_goes (Fill field.Pages) id slot y words u = (tt, tt, omega arith)
-set_slot_goes (Fill field.Host) id slot y words u = (tt, tt, omega arith)
-set_slot_goes (Fill field.Flags) id slot y words u = λ e. absurd (cc e)
-
 -- Behind the step that answers the line its actor rests.
 abbrev pub RestsBehind : Outcome → Topics → Type 0
 RestsBehind (Goes p) t = Unit {0}
@@ -254,9 +238,9 @@ rests_by : (o : Outcome) (command : Command) (g : Held) → KnowsBehind o comman
 rests_by (Goes p) command g K = tt
 rests_by (Ends answer) command g K = K
 
-rests_any : (o : Outcome) (t : Topics) → IsAtRest t → RestsBehind o t
-rests_any (Goes p) t R = tt
-rests_any (Ends answer) t R = R
+setting_rests : (o : Outcome) (g : Held) → SettingKnows o g → RestsBehind o g.topics
+setting_rests (Goes p) g K = tt
+setting_rests (Ends answer) g K = K
 
 -- what is held behind the step of a place
 abbrev pub topics_at : Place → Command → Held → (Area → ℕ → ℕ) → Topics
@@ -284,16 +268,27 @@ access_step z w a sound others there R own sizes p line gfn word op may K alone 
           (rests_by (access_outcome p h gfn op v) (Access gfn word op) (hand_with line (Access gfn word op) (place.Access p) h t h.cached v) (access_known p line h gfn word op h.cached v V.1 R K (task_answers s h (access_note p) _ words)));
     }
 
-pub alone_step : (z : Sizes) (w : World Held) (a : ℕ) → IsSound z w → OthersRest a w → a < actors_of z → PartRests (hand_in mmu w a) → own_index (hand_in mmu w a) ≡ a → (hand_in mmu w a).state.sizes ≡ z
-    → (p : Place) (line : Line) (command : Command) → IsUnderWay p → IsCommandFor z (hand_in mmu w a).state.actor command → KnowsPart p command (hand_in mmu w a) → AloneKnows p command (word_in z w) (hand_in mmu w a).topics
-    → AloneStep p command (hand_in mmu w a) (word_in z w)
-alone_step z w a sound others there R own sizes place.Between line command begun may K alone = absurd begun
-alone_step z w a sound others there R own sizes (place.Access p) line (Access gfn word op) begun may K alone = access_step z w a sound others there R own sizes p line gfn word op may K alone
-alone_step z w a sound others there R own sizes (place.Access p) line (SetSlot id slot) begun may K alone = absurd K
-alone_step z w a sound others there R own sizes (place.SetSlot p) line (Access gfn word op) begun may K alone = absurd K
-alone_step z w a sound others there R own sizes (place.SetSlot p) line (SetSlot id slot) begun may K alone =
+setting_step : (z : Sizes) (w : World Held) (a : ℕ) → IsSound z w → OthersRest a w → a < actors_of z → PartRests (hand_in mmu w a) → own_index (hand_in mmu w a) ≡ a → (hand_in mmu w a).state.sizes ≡ z
+    → (p : SetSlotPlace) (line : Line) (id : ℕ) (slot : Slot) → SetSlotKnows p (hand_in mmu w a) → LeavesPart (place.SetSlot p) (hand_in mmu w a).topics → PartNeeds (set_slot_part p (hand_in mmu w a) id slot) (hand_in mmu w a)
+    → SetSlotAlone p (word_in z w area.PoolMap) (hand_in mmu w a).topics → AloneStep (place.SetSlot p) (SetSlot id slot) (hand_in mmu w a) (word_in z w)
+setting_step z w a sound others there R own sizes p line id slot K leaves needs alone =
     let h : Held = hand_in mmu w a in
+    let words : Area → ℕ → ℕ = word_in z w in
+    let step : PartStep = set_slot_part p h id slot in
+    let v : ℕ = answer_in (set_slot_task p h id slot) words in
+    let is : topics_at (place.SetSlot p) (SetSlot id slot) h words ≡ part_topics step h.topics v = part_topics_is h.state.sizes step (own_index h) h.topics (set_slot_note p h) v (is_there step h needs) in
     record {
-      on = record { goes = refl; next = set_slot_goes p id slot h.state.sizes (words_after (set_slot_task p id slot) (word_in z w)) (topics_at (place.SetSlot p) (SetSlot id slot) h (word_in z w)) };
-      rests = rests_any (set_slot_outcome p) (topics_at (place.SetSlot p) (SetSlot id slot) h (word_in z w)) (set_slot_rests p h.state.sizes id slot h.topics _ K);
+      on = subst (GoesOnAlone (place.SetSlot p) (SetSlot id slot) h words) (sym is) (setting_through z w a sound others there own sizes id slot p K alone needs);
+      rests = subst (RestsBehind (set_slot_outcome p h v)) (sym is)
+          (setting_rests (set_slot_outcome p h v) (hand_with line (SetSlot id slot) (place.SetSlot p) h (part_topics step h.topics v) h.cached v)
+          (set_slot_known line h id slot h.cached v R p K leaves (parts_answer step (own_index h) h.topics (set_slot_note p h) words)));
     }
+
+pub alone_step : (z : Sizes) (w : World Held) (a : ℕ) → IsSound z w → OthersRest a w → a < actors_of z → PartRests (hand_in mmu w a) → own_index (hand_in mmu w a) ≡ a → (hand_in mmu w a).state.sizes ≡ z
+    → (p : Place) (line : Line) (command : Command) → IsUnderWay p → IsCommandFor z (hand_in mmu w a).state.actor command → KnowsPart p command (hand_in mmu w a) → LeavesPart p (hand_in mmu w a).topics → NeedsAt p command (hand_in mmu w a) → AloneKnows p command (word_in z w) (hand_in mmu w a).topics
+    → AloneStep p command (hand_in mmu w a) (word_in z w)
+alone_step z w a sound others there R own sizes place.Between line command begun may K leaves needs alone = absurd begun
+alone_step z w a sound others there R own sizes (place.Access p) line (Access gfn word op) begun may K leaves needs alone = access_step z w a sound others there R own sizes p line gfn word op may K alone
+alone_step z w a sound others there R own sizes (place.Access p) line (SetSlot id slot) begun may K leaves needs alone = absurd K
+alone_step z w a sound others there R own sizes (place.SetSlot p) line (Access gfn word op) begun may K leaves needs alone = absurd K
+alone_step z w a sound others there R own sizes (place.SetSlot p) line (SetSlot id slot) begun may K leaves needs alone = setting_step z w a sound others there R own sizes p line id slot K leaves needs alone

@@ -34,11 +34,10 @@ use Rattle.mmu_core.specs.FaultSteps.{allows_access}
 use Rattle.mmu_core.specs.Invariant.{CachedPart, Invariant, IsLeafFor}
 use Rattle.mmu_core.specs.KnowsPart.{AccessKnows}
 use Rattle.mmu_core.specs.PartSteps.{IsOver, entry_index, table_page}
-use Rattle.mmu_core.specs.SetSlotSteps.{published_set}
 use Rattle.mmu_core.specs.SlotWords.{leaf_of, page_of}
 use Rattle.mmu_core.specs.Tasks.{kind_of_task}
 use Rattle.mmu_core.specs.TopicsInvariant.{TopicsInvariant}
-use Rattle.mmu_core.specs.TreePart.{EntryPart, IsLeafAt, IsLiveIn, at}
+use Rattle.mmu_core.specs.TreePart.{EntryPart, IsLeafAt, at}
 use Rattle.mmu_core.specs.View.{View, answer_in, hand_after, stepped}
 pub use Rattle.mmu_core.proofs.LiveStay.{leaf_stays, translations_stay}
 use Rattle.mmu_core.proofs.LiveStays.{MakesParts, access_set_stays}
@@ -61,15 +60,14 @@ flushed_kept P k c v all = by (kind_named k.code)
 -- ---- a leaf that a walk finds
 
 -- A leaf of the lowest level is of the guest frame whose entry it is.
-pub leaf_at : (pool host : ℕ → ℕ) (set gfn level prefix w : ℕ) → set ≡ published_set → gfn / level_span level / 512 ≡ prefix → IsLeafAt pool host set (at level prefix) (entry_index gfn level) w → (level ≡ 1) × IsLeafFor pool host gfn w
-leaf_at pool host set gfn level prefix w published run L =
-    let own : prefix * 512 + entry_index gfn level ≡ gfn = run_lowest gfn level prefix L.lowest run in
-    let live : IsLiveIn pool published_set L.id L.slot = subst (λ k. IsLiveIn pool k L.id L.slot) published L.live in (
+pub leaf_at : (pool host : ℕ → ℕ) (set gfn level prefix w : ℕ) → gfn / level_span level / 512 ≡ prefix → IsLeafAt pool host set (at level prefix) (entry_index gfn level) w → (level ≡ 1) × IsLeafFor pool host set gfn w
+leaf_at pool host set gfn level prefix w run L =
+    let own : prefix * 512 + entry_index gfn level ≡ gfn = run_lowest gfn level prefix L.lowest run in (
       L.lowest,
       record {
         id = L.id;
         slot = L.slot;
-        live = record { low = live.low; live = live.live; is = live.is };
+        live = L.live;
         holds = subst (λ n. contains n L.slot ≡ true) own L.holds;
         is = L.is ∙ ap (λ n. leaf_of L.slot (host (page_of L.slot n))) own;
       },
@@ -78,7 +76,7 @@ leaf_at pool host set gfn level prefix w published run L =
 -- A leaf in the walk's table, at the guest frame's entry, is of the lowest level, and is the guest frame's.
 pub leaf_found : (z : Sizes) (v : View) (a gfn : ℕ) → a < actors_of z → Invariant z v → TopicsInvariant z v → IsOver gfn (v.hand a).topics.walk
     → kind_of (v.hand a).topics.walk.level (v.words area.Pool (pool_index (table_page (v.hand a).topics.walk) (entry_index gfn (v.hand a).topics.walk.level))) ≡ entry_kind.Leaf
-    → ((v.hand a).topics.walk.level ≡ 1) × IsLeafFor (v.words area.Pool) (v.words area.Host) gfn (v.words area.Pool (pool_index (table_page (v.hand a).topics.walk) (entry_index gfn (v.hand a).topics.walk.level)))
+    → ((v.hand a).topics.walk.level ≡ 1) × IsLeafFor (v.words area.Pool) (v.words area.Host) (v.words area.Slots 0) gfn (v.words area.Pool (pool_index (table_page (v.hand a).topics.walk) (entry_index gfn (v.hand a).topics.walk.level)))
 leaf_found z v a gfn lt I P over leaf = by (P.tree.entries page (at walk.level walk.prefix) ((P.held a lt).table over.there) j (omega arith))
   where
     walk : TableWalk
@@ -93,13 +91,13 @@ leaf_found z v a gfn lt I P over leaf = by (P.tree.entries page (at walk.level w
     w : ℕ
     w = v.words area.Pool (pool_index page j)
 
-    by : EntryPart (v.words area.Pool) (v.words area.Host) (v.words area.Slots 0) P.stands (at walk.level walk.prefix) j w → (walk.level ≡ 1) × IsLeafFor (v.words area.Pool) (v.words area.Host) gfn w
+    by : EntryPart (v.words area.Pool) (v.words area.Host) (v.words area.Slots 0) P.stands (at walk.level walk.prefix) j w → (walk.level ≡ 1) × IsLeafFor (v.words area.Pool) (v.words area.Host) (v.words area.Slots 0) gfn w
     by (inl e) = let none : kind_of walk.level w ≡ entry_kind.Absent = ap (kind_of walk.level) e ∙ kind_of_absent walk.level in absurd (cc (none, leaf))
     by (inr (inl L)) =
         let below = (P.tree.there L.page _ L.below).0 in
         let links : kind_of walk.level w ≡ entry_kind.Table L.page = ap (kind_of walk.level) L.is ∙ kind_of_table walk.level L.page L.upper (omega (arith, below, I.sizes.pool.1)) in
         absurd (cc (links, leaf))
-    by (inr (inr L)) = leaf_at (v.words area.Pool) (v.words area.Host) (v.words area.Slots 0) gfn walk.level walk.prefix w I.set.published over.run L
+    by (inr (inr L)) = leaf_at (v.words area.Pool) (v.words area.Host) (v.words area.Slots 0) gfn walk.level walk.prefix w over.run L
 
 -- What a stay caches is a leaf.
 pub found_is_leaf : (k : SpteKind) (allowed : Bool) → is_found k allowed ≡ true → k ≡ entry_kind.Leaf
@@ -109,10 +107,10 @@ found_is_leaf entry_kind.Frozen allowed is = absurd (cc is)
 found_is_leaf (entry_kind.Table page) allowed is = absurd (cc is)
 
 -- A leaf that agrees is cached before all others.
-with_leaf_kept : (pool host : ℕ → ℕ) (gfn level leaf : ℕ) (c : Buffer Translation) → level ≡ 1 → IsLeafFor pool host gfn leaf → CachedPart pool host c.items → CachedPart pool host (with_leaf gfn level leaf c).items
-with_leaf_kept pool host gfn level leaf c lowest agrees each =
-    All-take (λ (t : Translation). (t.level ≡ 1) × IsLeafFor pool host t.gfn t.leaf) c.capacity (record { gfn = gfn; level = level; leaf = leaf } ∷ c.items)
-    (All-cons (λ (t : Translation). (t.level ≡ 1) × IsLeafFor pool host t.gfn t.leaf) (record { gfn = gfn; level = level; leaf = leaf }) c.items (lowest, agrees) each)
+with_leaf_kept : (pool host : ℕ → ℕ) (set gfn level leaf : ℕ) (c : Buffer Translation) → level ≡ 1 → IsLeafFor pool host set gfn leaf → CachedPart pool host set c.items → CachedPart pool host set (with_leaf gfn level leaf c).items
+with_leaf_kept pool host set gfn level leaf c lowest agrees each =
+    All-take (λ (t : Translation). (t.level ≡ 1) × IsLeafFor pool host set t.gfn t.leaf) c.capacity (record { gfn = gfn; level = level; leaf = leaf } ∷ c.items)
+    (All-cons (λ (t : Translation). (t.level ≡ 1) × IsLeafFor pool host set t.gfn t.leaf) (record { gfn = gfn; level = level; leaf = leaf }) c.items (lowest, agrees) each)
 
 -- ---- a translation that is used
 
@@ -139,16 +137,16 @@ first_of true b e = refl
 first_of false b e = absurd (cc e)
 
 -- The cached translation that an access uses is the leaf of its guest frame.
-pub used_leaf : (pool host : ℕ → ℕ) (gfn : ℕ) (write : Bool) (ts : List Translation) (t : Translation) → CachedPart pool host ts → first_usable gfn write ts ≡ Some t → IsLeafFor pool host gfn t.leaf
-used_leaf pool host gfn write ts t each is =
-    let F = found_has (λ (t : Translation). (t.level ≡ 1) × IsLeafFor pool host t.gfn t.leaf) (is_usable gfn write) ts t each is in
-    subst (λ n. IsLeafFor pool host n t.leaf) (covers_one gfn t.gfn t.level F.0.0 (first_of (covers gfn t) (allows write t) F.1)) F.0.1
+pub used_leaf : (pool host : ℕ → ℕ) (set gfn : ℕ) (write : Bool) (ts : List Translation) (t : Translation) → CachedPart pool host set ts → first_usable gfn write ts ≡ Some t → IsLeafFor pool host set gfn t.leaf
+used_leaf pool host set gfn write ts t each is =
+    let F = found_has (λ (t : Translation). (t.level ≡ 1) × IsLeafFor pool host set t.gfn t.leaf) (is_usable gfn write) ts t each is in
+    subst (λ n. IsLeafFor pool host set n t.leaf) (covers_one gfn t.gfn t.level F.0.0 (first_of (covers gfn t) (allows write t) F.1)) F.0.1
 
 -- ---- behind a step of an access
 
 -- What an access caches, where it stands so: a leaf that its walk found, before what was cached.
 pub caches_kept : (z : Sizes) (v : View) (a : ℕ) (p : AccessPlace) (gfn word : ℕ) (op : Op) → a < actors_of z → Invariant z v → TopicsInvariant z v → AccessKnows p gfn (is_write op) (v.hand a)
-    → CachedPart (v.words area.Pool) (v.words area.Host) (access_caches p (v.hand a) gfn op (answer_in (access_task p (v.hand a) gfn word op) v.words)).items
+    → CachedPart (v.words area.Pool) (v.words area.Host) (v.words area.Slots 0) (access_caches p (v.hand a) gfn op (answer_in (access_task p (v.hand a) gfn word op) v.words)).items
 caches_kept z v a (Walk again) gfn word op lt I P K = by (is_found (kind_of level w) (allows_access (is_write op) w)) (λ e. found_is_leaf (kind_of level w) (allows_access (is_write op) w) e)
   where
     h : Held
@@ -160,19 +158,20 @@ caches_kept z v a (Walk again) gfn word op lt I P K = by (is_found (kind_of leve
     w : ℕ
     w = v.words area.Pool (pool_index (table_page h.topics.walk) (entry_index gfn level))
 
-    by : (b : Bool) → (b ≡ true → kind_of level w ≡ entry_kind.Leaf) → CachedPart (v.words area.Pool) (v.words area.Host) (if b then with_leaf gfn level w h.cached else h.cached).items
-    by true leaf = let found = leaf_found z v a gfn lt I P K.1 (leaf refl) in with_leaf_kept (v.words area.Pool) (v.words area.Host) gfn level w h.cached found.0 found.1 (I.cached a lt)
+    by : (b : Bool) → (b ≡ true → kind_of level w ≡ entry_kind.Leaf) → CachedPart (v.words area.Pool) (v.words area.Host) (v.words area.Slots 0) (if b then with_leaf gfn level w h.cached else h.cached).items
+    by true leaf = let found = leaf_found z v a gfn lt I P K.1 (leaf refl) in with_leaf_kept (v.words area.Pool) (v.words area.Host) (v.words area.Slots 0) gfn level w h.cached found.0 found.1 (I.cached a lt)
     by false leaf = I.cached a lt
 caches_kept z v a _ gfn word op lt I P K = I.cached a lt
 
 -- All that the actor has cached behind its step agrees.
 pub cached_kept : (z : Sizes) (v : View) (a : ℕ) (line : Line) (p : AccessPlace) (gfn word : ℕ) (op : Op) → a < actors_of z → Invariant z v → TopicsInvariant z v → AccessKnows p gfn (is_write op) (v.hand a) → MakesParts z v a p gfn
-    → CachedPart ((stepped a line (Access gfn word op) (place.Access p) v).words area.Pool) (v.words area.Host) (hand_after line (Access gfn word op) (place.Access p) (v.hand a) (answer_in (access_task p (v.hand a) gfn word op) v.words)).cached.items
+    → CachedPart ((stepped a line (Access gfn word op) (place.Access p) v).words area.Pool) (v.words area.Host) (v.words area.Slots 0) (hand_after line (Access gfn word op) (place.Access p) (v.hand a) (answer_in (access_task p (v.hand a) gfn word op) v.words)).cached.items
 cached_kept z v a line p gfn word op lt I P K makes =
     let h : Held = v.hand a in
     let t : Task = access_task p h gfn word op in
     let x : ℕ = answer_in t v.words in
     let after : ℕ → ℕ = (stepped a line (Access gfn word op) (place.Access p) v).words area.Pool in
-    let stays = is_live_stays (v.words area.Pool) after (access_set_stays z v a line p gfn word op makes P I.set.published) in
-    flushed_kept (λ (y : Translation). (y.level ≡ 1) × IsLeafFor after (v.words area.Host) y.gfn y.leaf) (kind_of_task h.state.sizes t) (access_caches p h gfn op x) x
-    (translations_stay (v.words area.Pool) after stays (v.words area.Host) (access_caches p h gfn op x).items (caches_kept z v a p gfn word op lt I P K))
+    let set : ℕ = v.words area.Slots 0 in
+    let stays = is_live_stays set (v.words area.Pool) after (access_set_stays z v a line p gfn word op makes P) in
+    flushed_kept (λ (y : Translation). (y.level ≡ 1) × IsLeafFor after (v.words area.Host) set y.gfn y.leaf) (kind_of_task h.state.sizes t) (access_caches p h gfn op x) x
+    (translations_stay (v.words area.Pool) set after set stays (v.words area.Host) (access_caches p h gfn op x).items (caches_kept z v a p gfn word op lt I P K))

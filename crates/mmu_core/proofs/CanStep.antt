@@ -1,26 +1,20 @@
 -- An actor that has a line left may make a step.
 use Rattle.std.specs.Prelude.{Option, Some, None}
-use Rattle.std.proofs.Common.{true, false, ◌≡◌, ◌^◌, ◌<◌, ℕ, sym, subst, ap, arith}
+use Rattle.std.proofs.Common.{◌≡◌, ◌^◌, ◌<◌, ℕ, sym, subst, ap, arith}
 use Rattle.core_views.specs.declared.actor.Actor.{Actor}
-use Rattle.core_views.specs.declared.actor.Actor.TheVariants.{Vcpu, Host, Manager, Worker}
 use Rattle.core_views.specs.declared.place.Place.{Place}
 use Rattle.core_views.specs.declared.place.Place.TheVariants as place
-use Rattle.core_views.specs.declared.place.SetSlotPlace.{SetSlotPlace}
-use Rattle.core_views.specs.declared.place.SetSlotPlace.TheVariants.{Refuse, Fill}
-use Rattle.core_views.specs.declared.place.SlotField.TheVariants as field
 use Rattle.core_views.specs.declared.sizes.Sizes.{Sizes}
 use Rattle.core_views.specs.declared.trace.Command.{Command}
 use Rattle.core_views.specs.declared.trace.Command.TheVariants.{Access, SetSlot}
 use Rattle.core_views.specs.declared.trace.Line.{Line}
 use Rattle.core_views.specs.declared.trace.Op.{Op}
 use Rattle.core_views.specs.declared.trace.Op.TheVariants.{Add, Read, Write}
-use Rattle.core_views.specs.declared.trace.Slot.{Slot}
 use Rattle.core_views.specs.Held.{Held}
 use Rattle.core_views.specs.Sizes.{actors_of}
-use Rattle.core_views.specs.Traces.{IsCommandFor, IsSlotInRange}
+use Rattle.core_views.specs.Traces.{IsCommandFor}
 use Rattle.spte_words.specs.Areas.{place as word_place, size_of, total}
 use Rattle.spte_words.proofs.Places.{place_below}
-use Rattle.spte_words.proofs.ReadsFlags.{flags_fit}
 use Rattle.mmu_core.specs.AccessSteps.{access_note, access_part, task_by, touch_of}
 use Rattle.mmu_core.specs.Enabled.{mmu}
 use Rattle.mmu_core.specs.Example.{HasLine, WritesOneWord, next_step}
@@ -30,7 +24,7 @@ use Rattle.mmu_core.specs.PartBounds.{PartRests}
 use Rattle.mmu_core.proofs.PartFits.{part_small}
 use Rattle.mmu_core.specs.Machine.{May, World, hand_in}
 use Rattle.mmu_core.specs.Rests.{Rests, RestsAt, RestsOn}
-use Rattle.mmu_core.specs.SetSlotSteps.{set_slot_task}
+use Rattle.mmu_core.specs.SetSlotSteps.{set_slot_note, set_slot_part}
 use Rattle.mmu_core.specs.Steps.{line_at, place_at, task_at, task_of}
 use Rattle.mmu_core.specs.Tasks.{kind_of_task, map_of}
 use Rattle.mmu_core.specs.View.{view}
@@ -48,26 +42,13 @@ access_small : (s : Option PartStep) (h : Held) (note gfn word : ℕ) (op : Op) 
 access_small None h note gfn word op index R N fits = touch_small op gfn word index fits
 access_small (Some step) h note gfn word op index R N fits = part_small step h note N R
 
-slot_in_range : (z : Sizes) (actor : Actor) (id : ℕ) (slot : Slot) → IsCommandFor z actor (SetSlot id slot) → IsSlotInRange slot
-slot_in_range z (Vcpu n) id slot may = absurd may
-slot_in_range z (Host n) id slot may = absurd may
-slot_in_range z Manager id slot may = may
-slot_in_range z (Worker n) id slot may = absurd may
-
-set_slot_small : (p : SetSlotPlace) (id : ℕ) (slot : Slot) → IsSlotInRange slot → (set_slot_task p id slot).written < 2 ^ 64
-set_slot_small (Refuse refusal) id slot range = omega arith
-set_slot_small (Fill field.Base) id slot range = omega (arith, range.base)
-set_slot_small (Fill field.Pages) id slot range = omega (arith, range.pages)
-set_slot_small (Fill field.Host) id slot range = omega (arith, range.host)
-set_slot_small (Fill field.Flags) id slot range = flags_fit true slot.read_only false
-
 written_small : (p : Place) (actor : Actor) (command : Command) (h : Held) → PartRests h → IsCommandFor h.state.sizes actor command → RestsAt p command h → WritesOneWord command → (task_at p command h).written < 2 ^ 64
 written_small place.Between actor (Access gfn word op) h R may rests fits = omega arith
 written_small place.Between actor (SetSlot id slot) h R may rests fits = omega arith
 written_small (place.Access p) actor (Access gfn word op) h R may rests fits = access_small (access_part p gfn h.topics) h (access_note p) gfn word op _ R rests fits
 written_small (place.Access p) actor (SetSlot id slot) h R may rests fits = absurd rests
 written_small (place.SetSlot p) actor (Access gfn word op) h R may rests fits = absurd rests
-written_small (place.SetSlot p) actor (SetSlot id slot) h R may rests fits = set_slot_small p id slot (slot_in_range h.state.sizes actor id slot may)
+written_small (place.SetSlot p) actor (SetSlot id slot) h R may rests fits = part_small (set_slot_part p h id slot) h (set_slot_note p h) rests R
 
 pub may_step : (z : Sizes) (w : World Held) (a : ℕ) → IsSound z w → a < actors_of z → HasLine (hand_in mmu w a) → May mmu w (next_step z w a)
 may_step z w a G there has = record {

@@ -3,8 +3,6 @@ use Rattle.std.proofs.Common.{ℕ, refl, ap, ◌∙◌}
 use Rattle.std.specs.Prelude.{Option, Some, None}
 use Rattle.core_views.specs.declared.place.Place.{Place}
 use Rattle.core_views.specs.declared.place.Place.TheVariants as place
-use Rattle.core_views.specs.declared.place.SetSlotPlace.TheVariants.{Refuse, Fill}
-use Rattle.core_views.specs.declared.place.SlotField.TheVariants as field
 use Rattle.core_views.specs.declared.trace.Command.{Command}
 use Rattle.core_views.specs.declared.trace.Command.TheVariants.{Access, SetSlot}
 use Rattle.core_views.specs.declared.trace.Op.{Op}
@@ -18,6 +16,7 @@ use Rattle.mmu_core.specs.Laws.{NoneOpened}
 use Rattle.mmu_core.specs.Steps.{task_at}
 use Rattle.mmu_core.specs.View.{View, words_after}
 use Rattle.mmu_core.proofs.PartWords.{areas_stay}
+use Rattle.mmu_core.specs.SetSlotSteps.{set_slot_note, set_slot_part}
 
 by_touch : (op : Op) (index : ℕ) (words : Area → ℕ → ℕ) → NoneOpened words → NoneOpened (words_after (touch_of op index) words)
 by_touch Read index words none = record { seq = none.seq; count = none.count }
@@ -40,8 +39,4 @@ none_opened_kept place.Between command h words none = record { seq = none.seq; c
 none_opened_kept (place.Access p) (Access gfn word op) h words none = by_access (access_part p gfn h.topics) (access_note p) h op _ words none
 none_opened_kept (place.Access p) (SetSlot id slot) h words none = record { seq = none.seq; count = none.count }
 none_opened_kept (place.SetSlot p) (Access gfn word op) h words none = record { seq = none.seq; count = none.count }
-none_opened_kept (place.SetSlot (Refuse refusal)) (SetSlot id slot) h words none = record { seq = none.seq; count = none.count }
-none_opened_kept (place.SetSlot (Fill field.Base)) (SetSlot id slot) h words none = record { seq = none.seq; count = none.count }
-none_opened_kept (place.SetSlot (Fill field.Pages)) (SetSlot id slot) h words none = record { seq = none.seq; count = none.count }
-none_opened_kept (place.SetSlot (Fill field.Host)) (SetSlot id slot) h words none = record { seq = none.seq; count = none.count }
-none_opened_kept (place.SetSlot (Fill field.Flags)) (SetSlot id slot) h words none = record { seq = none.seq; count = none.count }
+none_opened_kept (place.SetSlot p) (SetSlot id slot) h words none = by_part (set_slot_part p h id slot) (set_slot_note p h) h words none

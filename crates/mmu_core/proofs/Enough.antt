@@ -26,6 +26,8 @@ use Rattle.mmu_core.proofs.Pigeonhole.{count_le, pigeonhole, sum_each, sum_plus,
 use Rattle.mmu_core.proofs.Starts.{start_good}
 use Rattle.mmu_core.proofs.SumsBelow.{sum_mono, sum_none}
 use Rattle.mmu_core.proofs.Worlds.{good_run}
+use Rattle.mmu_core.proofs.Leavers.{one_left, one_place}
+use Rattle.mmu_core.specs.TopicsInvariant.{is_leaving, leavers}
 
 -- A table of this level stands there; and at which run of guest frames.
 abbrev stands_at : ℕ → Option Position → Bool
@@ -116,30 +118,27 @@ module _ (h : Header) (lines : List Line) (root set : ℕ) (role pool host : ℕ
       let c = sum_plus h.pool (λ k. one_if (stands_at 2 (stands k))) (λ k. one_if (stands_at 1 (stands k))) in
       omega (arith, each, a, b, c)
 
--- Four pages more than there are tables below the root: enough for the root, the slot set, and a free page.
-room : (pool need_ upper middle lower free tables sets roots third second first : ℕ) → 4 + upper + middle + lower ≡ need_ → need_ ≤ pool → pool ≤ free + (tables + sets) → sets ≤ 1
+-- Four pages more than there are tables below the root: enough for the root, the slot set, one that leaves, and a free page.
+room : (pool need_ upper middle lower free tables sets left roots third second first : ℕ) → 4 + upper + middle + lower ≡ need_ → need_ ≤ pool → pool ≤ free + (tables + (sets + left)) → sets ≤ 1 → left ≤ 1
     → tables ≤ roots + (third + (second + first)) → roots ≤ 1 → third ≤ upper → second ≤ middle → first ≤ lower → 1 ≤ free
-room pool need_ upper middle lower free tables sets roots third second first is most all one levels a b c d = omega arith
+room pool need_ upper middle lower free tables sets left roots third second first is most all one gone levels a b c d = omega arith
 
 need_is : (h : Header) (lines : List Line) → 4 + count_below (2 ^ 36 / 512 ^ 3) (some_line_wants h lines 3) + count_below (2 ^ 36 / 512 ^ 2) (some_line_wants h lines 2) + count_below (2 ^ 36 / 512 ^ 1) (some_line_wants h lines 1) ≡ need h lines
 unfolding need
 need_is h lines = refl
 
-one_set : (n slots : ℕ) → sum_below n (λ k. one_if (slots == k)) ≤ 1
-one_set n slots =
-    omega (arith, pigeonhole n 1 (λ k. slots == k) (λ k. 0) (λ index. true) (λ k lt is. (omega arith, refl)) (λ k l is be same. sym ((Decides-eqb slots k).0 is) ∙ (Decides-eqb slots l).0 be), count_le 1 (λ index. true))
-
 owns_none : (n : ℕ) (owned : ℕ → Option OwnedPage) (k : ℕ) → ((i : ℕ) → i < n → owned i ≡ None) → owners n owned k ≡ 0
 owns_none n owned k none = sum_none n (λ i. one_if (is_owned (owned i) k)) (λ i lt. ap (λ (o : Option OwnedPage). one_if (is_owned o k)) (none i lt))
 
--- Where no actor owns a page, each page is free, a table, or the published slot set.
-free_or_not : (n pages slots : ℕ) (map : ℕ → ℕ) (owned : ℕ → Option OwnedPage) (stands : ℕ → Option Position) → PoolPart n pages slots map owned stands → ((i : ℕ) → i < n → owned i ≡ None)
-    → pages ≤ sum_below pages (λ k. one_if (is_free map k)) + (sum_below pages (λ k. one_if (is_some (stands k))) + sum_below pages (λ k. one_if (slots == k)))
-free_or_not n pages slots map owned stands P none =
-    let each = sum_each pages (λ k. one_if (is_free map k) + (one_if (is_some (stands k)) + one_if (slots == k))) (λ k lt. let e = P.each k lt in let o = owns_none n owned k none in omega (arith, e, o)) in
-    let a = sum_plus pages (λ k. one_if (is_free map k)) (λ k. one_if (is_some (stands k)) + one_if (slots == k)) in
-    let b = sum_plus pages (λ k. one_if (is_some (stands k))) (λ k. one_if (slots == k)) in
-    omega (arith, each, a, b)
+-- Where no actor owns a page, each page is free, a table, the published slot set, or leaves.
+free_or_not : (n pages slots : ℕ) (map : ℕ → ℕ) (owned : ℕ → Option OwnedPage) (leaving : ℕ → Option ℕ) (stands : ℕ → Option Position) → PoolPart n pages slots map owned leaving stands → ((i : ℕ) → i < n → owned i ≡ None)
+    → pages ≤ sum_below pages (λ k. one_if (is_free map k)) + (sum_below pages (λ k. one_if (is_some (stands k))) + (sum_below pages (λ k. one_if (slots == k)) + sum_below pages (leavers n leaving)))
+free_or_not n pages slots map owned leaving stands P none =
+    let each = sum_each pages (λ k. one_if (is_free map k) + (one_if (is_some (stands k)) + (one_if (slots == k) + leavers n leaving k))) (λ k lt. let e = P.each k lt in let o = owns_none n owned k none in omega (arith, e, o)) in
+    let a = sum_plus pages (λ k. one_if (is_free map k)) (λ k. one_if (is_some (stands k)) + (one_if (slots == k) + leavers n leaving k)) in
+    let b = sum_plus pages (λ k. one_if (is_some (stands k))) (λ k. one_if (slots == k) + leavers n leaving k) in
+    let c = sum_plus pages (λ k. one_if (slots == k)) (leavers n leaving) in
+    omega (arith, each, a, b, c)
 
 -- what is known of each table behind a list of steps
 wanted_behind : (h : Header) (lines : List Line) (w : World Held) (ss : List (Step Kind)) → IsStart (sizes_of h) lines w → Legal mmu w ss → (G : IsSound (sizes_of h) (run mmu w ss))
@@ -153,7 +152,7 @@ wanted_behind h lines w ss start legal G k p is = by (G.topics.tree.wanted k p i
     by (inl e) = inl e
     by (inr W) =
         let there = G.topics.tree.there k p is in
-        inr (wanted_by_line h lines w ss p start legal there.1 there.2 (subst (λ s. IsWanted (word_in z (run mmu w ss) area.Pool) s p) G.holds.set.published W))
+        inr (wanted_by_line h lines w ss p start legal there.1 there.2 W)
 
 -- A table below the root's level isn't the root.
 below_root : (root k level prefix : ℕ) (stands : ℕ → Option Position) → stands root ≡ Some (at 4 0) → stands k ≡ Some (at level prefix) → level < 4 → k ≡ root → ⊥
@@ -179,23 +178,26 @@ enough_pages h lines w ss start legal most none =
     let pool : ℕ → ℕ = word_in z u area.Pool in
     let host : ℕ → ℕ = word_in z u area.Host in
     let few = few_of_level h lines root set role pool host G.topics.stands T A in
-    let some = room h.pool (need h lines) _ _ _ _ _ _ _ _ _ _ (need_is h lines) most
-    (free_or_not (actors_of z) h.pool set (word_in z u area.PoolMap) (λ i. (hand_in mmu u i).topics.owned) G.topics.stands G.topics.pool_part none) (one_set h.pool set)
+    let some = room h.pool (need h lines) _ _ _ _ _ _ _ _ _ _ _ (need_is h lines) most
+    (free_or_not (actors_of z) h.pool set (word_in z u area.PoolMap) (λ i. (hand_in mmu u i).topics.owned) (λ i. (hand_in mmu u i).topics.leaving) G.topics.stands G.topics.pool_part none) (one_place h.pool set) (one_left z u G)
     (by_level h lines root set role pool host G.topics.stands T A) (few_roots h lines root set role pool host G.topics.stands T A)
     (few 3 (omega arith)) (few 2 (omega arith)) (few 1 (omega arith)) in
     let found = sum_some h.pool (λ k. is_free (word_in z u area.PoolMap) k) some in
     record { page = found.0; there = found.1; free = found.2 }
 
--- a page that isn't free, owned or the slot set is a table
+-- A page that isn't free, owned, leaving or the slot set is a table.
 no_owner : (n : ℕ) (owned : ℕ → Option OwnedPage) (k : ℕ) → ((i : ℕ) → i < n → is_owned (owned i) k ≡ false) → owners n owned k ≡ 0
 no_owner n owned k none = sum_none n (λ i. one_if (is_owned (owned i) k)) (λ i lt. ap one_if (none i lt))
 
-is_table : (free : Bool) (owners_ slots k : ℕ) (o : Option Position) → one_if free + owners_ + one_if (is_some o) + one_if (slots == k) ≡ 1 → free ≡ false → owners_ ≡ 0 → k ≢ slots → (p : Position) × (o ≡ Some p)
-is_table free owners_ slots k None all is none ne = absurd (not_one free owners_ slots k all is none ne)
+no_leaver : (n : ℕ) (leaving : ℕ → Option ℕ) (k : ℕ) → ((i : ℕ) → i < n → is_leaving (leaving i) k ≡ false) → leavers n leaving k ≡ 0
+no_leaver n leaving k none = sum_none n (λ i. one_if (is_leaving (leaving i) k)) (λ i lt. ap one_if (none i lt))
+
+is_table : (free : Bool) (owners_ slots leavers_ k : ℕ) (o : Option Position) → one_if free + owners_ + one_if (is_some o) + one_if (slots == k) + leavers_ ≡ 1 → free ≡ false → owners_ ≡ 0 → leavers_ ≡ 0 → k ≢ slots → (p : Position) × (o ≡ Some p)
+is_table free owners_ slots leavers_ k None all is none stays ne = absurd (not_one free owners_ slots leavers_ k all is none stays ne)
   where
-    not_one : (free : Bool) (owners_ slots k : ℕ) → one_if free + owners_ + 0 + one_if (slots == k) ≡ 1 → free ≡ false → owners_ ≡ 0 → k ≢ slots → ⊥
-    not_one free owners_ slots k all is none ne = grind (arith, nat_tests)
-is_table free owners_ slots k (Some p) all is none ne = (p, refl)
+    not_one : (free : Bool) (owners_ slots leavers_ k : ℕ) → one_if free + owners_ + 0 + one_if (slots == k) + leavers_ ≡ 1 → free ≡ false → owners_ ≡ 0 → leavers_ ≡ 0 → k ≢ slots → ⊥
+    not_one free owners_ slots leavers_ k all is none stays ne = grind (arith, nat_tests)
+is_table free owners_ slots leavers_ k (Some p) all is none stays ne = (p, refl)
 
 -- A table for a run that is wanted is the root, or stands below it, where its role says.
 wanted_below : (h : Header) (lines : List Line) (root set : ℕ) (role pool host : ℕ → ℕ) (stands : ℕ → Option Position) → TreePart h.pool root set role pool host stands → (k : ℕ) (p : Position) → stands k ≡ Some p
@@ -208,7 +210,7 @@ wanted_below h lines root set role pool host stands T k p is R (inr ne) =
     inr (subst (IsWantedTable h lines) (sym (T.roles k p is)) (record { below_root = (there.1, omega (arith, there.2, ne)); index = p.prefix; wanted = R.wanted }))
 
 pub each_table_is_wanted : EachTableIsWanted
-each_table_is_wanted h lines w ss k start legal there taken none ne = by (wanted_behind h lines w ss start legal G k table.0 table.1)
+each_table_is_wanted h lines w ss k start legal there taken none stays ne = by (wanted_behind h lines w ss start legal G k table.0 table.1)
   where
     z : Sizes
     z = sizes_of h
@@ -220,8 +222,8 @@ each_table_is_wanted h lines w ss k start legal there taken none ne = by (wanted
     G = good_run z w ss (start_good z lines w start) legal
 
     table : (p : Position) × (G.topics.stands k ≡ Some p)
-    table = is_table (is_free (word_in z u area.PoolMap) k) (owners (actors_of z) (λ i. (hand_in mmu u i).topics.owned) k) (word_in z u area.Slots 0) k (G.topics.stands k)
-        (G.topics.pool_part.each k there) taken (no_owner (actors_of z) (λ i. (hand_in mmu u i).topics.owned) k none) ne
+    table = is_table (is_free (word_in z u area.PoolMap) k) (owners (actors_of z) (λ i. (hand_in mmu u i).topics.owned) k) (word_in z u area.Slots 0) (leavers (actors_of z) (λ i. (hand_in mmu u i).topics.leaving) k) k (G.topics.stands k)
+        (G.topics.pool_part.each k there) taken (no_owner (actors_of z) (λ i. (hand_in mmu u i).topics.owned) k none) (no_leaver (actors_of z) (λ i. (hand_in mmu u i).topics.leaving) k stays) ne
 
     by : (k ≡ word_in z u area.Root 0) ⊎ IsWantedRun h lines table.0 → (k ≡ word_in z u area.Root 0) ⊎ IsWantedTable h lines (word_in z u area.Role k)
     by (inl e) = inl e

@@ -128,11 +128,11 @@ pub answers_are_told : AnswersAreTold
 answers_are_told z lines w ss i start legal i_in = (start_follows z lines w ss i start legal i_in).answers
 
 -- the history of an actor that has answered all its lines
-record Whole (actor : Actor) (h : List Event) (lines : List Line) : Type 0 where
-  begun : begun_by actor h ≡ lines_of actor lines
-  answered_ : map (λ (x : AnsweredLine). x.number) (answers_by actor h) ≡ map (λ (l : Line). l.number) (lines_of actor lines)
+pub record Whole (actor : Actor) (h : List Event) (lines : List Line) : Type 0 where
+  pub begun : begun_by actor h ≡ lines_of actor lines
+  pub answered_ : map (λ (x : AnsweredLine). x.number) (answers_by actor h) ≡ map (λ (l : Line). l.number) (lines_of actor lines)
 
-begun_all : (h : Held) → length h.answers ≤ begun_lines h
+pub begun_all : (h : Held) → length h.answers ≤ begun_lines h
 begun_all h = at (length h.answers) h.state.place
   where
     at : (n : ℕ) (p : Place) → n ≤ begun_count p n
@@ -154,7 +154,7 @@ whole_of z lines w ss i start legal i_in all =
     }
 
 -- The actor has a hand.
-abbrev Present : Sizes → Actor → Type 0
+abbrev pub Present : Sizes → Actor → Type 0
 Present z actor = (i : ℕ) × (i < actors_of z) × (actor_at z i ≡ actor)
 
 less : (a b : ℕ) → a < b → nat_lt a b ≡ true
@@ -179,7 +179,7 @@ present z (Worker n) (Access gfn word op) may = absurd may
 present z (Worker n) (SetSlot id slot) may = absurd may
 
 -- An actor has a hand, or is none of those that have one.
-present_or : (z : Sizes) (actor : Actor) → Present z actor ⊎ ((j : ℕ) → j < actors_of z → is_same actor (actor_at z j) ≡ false)
+pub present_or : (z : Sizes) (actor : Actor) → Present z actor ⊎ ((j : ℕ) → j < actors_of z → is_same actor (actor_at z j) ≡ false)
 present_or z actor = case (nat_lt (index_of z actor) (actors_of z)) (is_same actor (actor_at z (index_of z actor))) refl refl
   where
     is_index : (j : ℕ) → j < actors_of z → is_same actor (actor_at z j) ≡ true → index_of z actor ≡ j
@@ -208,18 +208,22 @@ none_chosen actor (line ∷ lines) each =
     ap (λ b. if b then line ∷ lines_of actor lines else lines_of actor lines) (All-head (λ (l : Line). is_same actor l.actor ≡ false) line lines each)
     ∙ none_chosen actor lines (All-tail (λ (l : Line). is_same actor l.actor ≡ false) line lines each)
 
-absent_whole : (z : Sizes) (lines : List Line) (w : World Held) (ss : List (Step Kind)) (actor : Actor) → IsStart z lines w → Legal mmu w ss
+-- Who is no actor of the machine has no line in its trace.
+pub absent_lines : (z : Sizes) (lines : List Line) (w : World Held) (actor : Actor) → IsStart z lines w → ((j : ℕ) → j < actors_of z → is_same actor (actor_at z j) ≡ false) → lines_of actor lines ≡ []
+absent_lines z lines w actor start absent = none_chosen actor lines (All-weaker (λ (l : Line). IsCommandFor z l.actor l.command) (λ (l : Line). is_same actor l.actor ≡ false) not_its lines start.allowed)
+  where
+    not_its : (line : Line) → IsCommandFor z line.actor line.command → is_same actor line.actor ≡ false
+    not_its line may = let P = present z line.actor line.command may in ap (is_same actor) (sym P.2) ∙ absent P.0 P.1
+
+pub absent_whole : (z : Sizes) (lines : List Line) (w : World Held) (ss : List (Step Kind)) (actor : Actor) → IsStart z lines w → Legal mmu w ss
     → ((j : ℕ) → j < actors_of z → is_same actor (actor_at z j) ≡ false) → Whole actor (history w ss) lines
 absent_whole z lines w ss actor start legal absent =
     let quiet = run_silent z w ss actor (start_good z lines w start) legal (λ i i_in. ap (λ (h : Held). is_same actor h.state.actor) (hand_is z lines w i start i_in) ∙ absent i i_in) in
-    let none : lines_of actor lines ≡ [] = none_chosen actor lines (All-weaker (λ (l : Line). IsCommandFor z l.actor l.command) (λ (l : Line). is_same actor l.actor ≡ false) not_its lines start.allowed) in
+    let none : lines_of actor lines ≡ [] = absent_lines z lines w actor start absent in
     record {
       begun = quiet.begun ∙ sym none;
       answered_ = ap (map (λ (x : AnsweredLine). x.number)) quiet.answers ∙ ap (map (λ (l : Line). l.number)) (sym none);
     }
-  where
-    not_its : (line : Line) → IsCommandFor z line.actor line.command → is_same actor line.actor ≡ false
-    not_its line may = let P = present z line.actor line.command may in ap (is_same actor) (sym P.2) ∙ absent P.0 P.1
 
 pub ends_whole : EndsWhole
 ends_whole z lines w ss start legal all = record { begun = λ actor. (one actor).begun; answered = λ actor. (one actor).answered_ }

@@ -26,26 +26,24 @@ use Rattle.mmu_core.specs.Invariant.{Invariant, UnderWay}
 use Rattle.mmu_core.specs.Laws.{IsSound}
 use Rattle.mmu_core.specs.Machine.{Legal, Step, World, answered, effect, hand_in}
 use Rattle.mmu_core.specs.PartSteps.{own_index, part_task}
-use Rattle.mmu_core.specs.SetSlotSteps.{published_set}
 use Rattle.mmu_core.specs.Steps.{events_of, has_line, idle_after, line_at, place_at}
 use Rattle.mmu_core.specs.Tasks.{kind_of_task}
 use Rattle.mmu_core.specs.TopicsInvariant.{TopicsInvariant}
 use Rattle.mmu_core.specs.View.{View, answer_in, part_stepped, view, word_in, words_after}
 use Rattle.mmu_core.specs.Worlds.{IsStart, history}
 use Rattle.mmu_core.proofs.AccessFlat.{IsPartOr}
-use Rattle.mmu_core.proofs.AccessParts.{AreSmall, makes_parts}
 use Rattle.mmu_core.proofs.Columns.{at_upd}
-use Rattle.mmu_core.proofs.FlatKept.{PartOf, flat_kept, told_events, told_is_events, under_still}
 use Rattle.mmu_core.proofs.FlatSteps.{Leaves, part_leaves, refines_stay}
 use Rattle.mmu_core.proofs.KnowsKept.{step_knows}
-use Rattle.mmu_core.proofs.LiveStay.{StayLive}
-use Rattle.mmu_core.proofs.PartStepping.{IsPart}
 use Rattle.mmu_core.proofs.SlotLists.{none_below}
-use Rattle.mmu_core.proofs.SlotsStay.{is_live_stays}
 use Rattle.mmu_core.proofs.Stepping.{IsStep}
 use Rattle.mmu_core.proofs.Starts.{hand_is, none_live, start_good, word_at_start}
 use Rattle.mmu_core.proofs.Which.{events_of_part, has_line_is}
 use Rattle.mmu_core.proofs.Worlds.{Takes, TakesPart, good_step, takes, view_small}
+use Rattle.mmu_core.proofs.AccessParts.{AreSmall, makes_parts, makes_setting}
+use Rattle.mmu_core.proofs.FlatKept.{flat_kept, told_events, told_is_events}
+use Rattle.mmu_core.proofs.FlatStill.{PartOf, others_held, under_still}
+use Rattle.mmu_core.proofs.PartStepping.{IsPart, idle_never}
 
 -- A hand with no line left has none under way.
 none_under : (p : Place) (h : Held) → UnderWay p h → has_line h ≡ false → p ≡ place.Between
@@ -63,7 +61,7 @@ part_of z v a line command place.Between small S I P = absurd S.begun
 part_of z v a line (Access gfn word op) (place.Access p) small S I P = part_or z v a (access_part p gfn (v.hand a).topics) (makes_parts z v a line p gfn word op small S I P)
 part_of z v a line (SetSlot id slot) (place.Access p) small S I P = tt
 part_of z v a line (Access gfn word op) (place.SetSlot p) small S I P = tt
-part_of z v a line (SetSlot id slot) (place.SetSlot p) small S I P = tt
+part_of z v a line (SetSlot id slot) (place.SetSlot p) small S I P = makes_setting z v a line p id slot small S I P
 
 -- A step of a part tells nothing, and the words still stand for the same facts.
 part_keeps_flat : (z : Sizes) (v : View) (f : Flat) (a : ℕ) (step : PartStep) (note : ℕ) → IsPart z v a step → has_line (v.hand a) ≡ false → Invariant z v → TopicsInvariant z v → FlatInvariant z v f
@@ -73,7 +71,7 @@ part_keeps_flat z v f a step note S none I P F = record {
   under = at_upd (λ i (g : Held). i < actors_of z → UnderIs (words area.Pool) g.state.place g.state.line.command g (f.under g.state.actor)) v.hand a behind
       (λ lt. subst (λ q. UnderIs (words area.Pool) q h.state.line.command behind (f.under h.state.actor)) (sym (idle lt))
       (subst (λ q. UnderIs (v.words area.Pool) q h.state.line.command h (f.under h.state.actor)) (idle lt) (F.under a lt)))
-      (λ i ne lt. under_still (v.words area.Pool) (words area.Pool) (v.hand i).state.place (v.hand i).state.line.command (v.hand i) (f.under (v.hand i).state.actor) live (F.under i lt));
+      (λ i ne lt. under_still (v.words area.Pool) (words area.Pool) (v.hand i).state.place (v.hand i).state.line.command (v.hand i) (f.under (v.hand i).state.actor) (λ k held. others_held z v a step note S P i k lt ne held) (F.under i lt));
 }
   where
     h : Held
@@ -89,10 +87,7 @@ part_keeps_flat z v f a step note S none I P F = record {
     behind = idle_after h (kind_of_task h.state.sizes task) (answer_in task v.words)
 
     L : Leaves v.words words
-    L = part_leaves z v a step note S I P
-
-    live : StayLive (v.words area.Pool) (words area.Pool)
-    live = is_live_stays (v.words area.Pool) (words area.Pool) L.pool
+    L = part_leaves z v a step note S P (idle_never step h S.needs none)
 
     idle : a < actors_of z → h.state.place ≡ place.Between
     idle lt = none_under h.state.place h (I.lines a lt).under none
@@ -121,7 +116,7 @@ run_lawful z w f (s ∷ ss) G F legal = by (takes z w s G legal.0) (λ es F. run
 start_flat : (z : Sizes) (lines : List Line) (w : World Held) → IsStart z lines w → FlatInvariant z (view z w) first_flat
 start_flat z lines w start = record {
   refines = record {
-    slots = sym (none_below (word_in z w area.Pool) published_set 32 (λ id low. none_live z w id start.words));
+    slots = sym (none_below (word_in z w area.Pool) (word_in z w area.Slots 0) 32 (λ id low. none_live z w (word_in z w area.Slots 0) id start.words));
     host = refl;
     memory = λ p j lt below. sym (word_at_start z w area.Content _ 0 start.words (λ l. refl) (λ e. refl));
   };

@@ -16,7 +16,7 @@ use Rattle.spte_words.specs.Areas.{content_index, place, pool_index}
 use Rattle.spte_words.specs.Entries.{absent_word, can_write, frame_in, frozen_word, is_leaf_at, kind_of, leaf_word, level_span, table_word}
 use Rattle.spte_words.specs.Flags.{flags_live, flags_logged, flags_read_only, flags_word}
 use Rattle.spte_words.specs.HostWords.{host_allows_write, host_frame, host_word}
-use Rattle.mmu_core.specs.Example.{ExamplePrints, ExampleRuns, ExampleRaces, ExampleStarves, RunTells, add_line, first_line, forbidden_line, other_slot_line, outside_line, race_events, race_lines, race_order, read_line, run_events, run_lines, run_order, run_sizes, second_line, set_line, set_read_only_line, small_events, small_lines, small_order, small_sizes, starved_line, sum_line, write_line}
+use Rattle.mmu_core.specs.Example.{ExamplePrints, ExampleRuns, ExampleRaces, ExampleStarves, RunTells, add_line, first_line, forbidden_line, other_slot_line, outside_line, race_events, race_lines, race_order, read_line, run_events, run_lines, run_order, run_sizes, second_line, set_line, set_read_only_line, small_events, small_lines, small_order, small_sizes, starved_line, starved_set_line, sum_line, write_line}
 use Rattle.mmu_core.specs.Cached.{flushed}
 use Rattle.mmu_core.specs.TopicSteps.{topics_after}
 use Rattle.mmu_core.specs.View.{View, view}
@@ -117,16 +117,17 @@ small_in_range = record {
 
 small_allowed : All (May small_sizes) small_lines
 small_allowed =
-    All-cons (May small_sizes) set_line (starved_line ∷ []) may_set
-    (All-cons (May small_sizes) starved_line [] (omega arith, omega arith, omega arith) (All-nil (May small_sizes)))
+    All-cons (May small_sizes) set_line (starved_line ∷ starved_set_line ∷ []) may_set
+    (All-cons (May small_sizes) starved_line (starved_set_line ∷ []) (omega arith, omega arith, omega arith)
+    (All-cons (May small_sizes) starved_set_line [] may_set_read_only (All-nil (May small_sizes))))
 
 small_distinct : IsDistinct (λ i j. i == j) (slot_ids small_lines)
 unfolding IsDistinct
-small_distinct = (tt, tt)
+small_distinct = ((refl, tt), (tt, tt))
 
-small_prints : text small_events ≡ codes "2 vm done\n3 v0 starved\n"
+small_prints : text small_events ≡ codes "2 vm done\n3 v0 starved\n4 vm starved\n"
 unfolding line_text
-small_prints = simp (decimal_digit 0 (lit< tt), decimal_digit 2 (lit< tt), decimal_digit 3 (lit< tt))
+small_prints = simp (decimal_digit 0 (lit< tt), decimal_digit 2 (lit< tt), decimal_digit 3 (lit< tt), decimal_digit 4 (lit< tt))
 
 pub example_starves : ExampleStarves
 example_starves = (run_tells small_sizes small_lines small_order small_events small_in_range small_allowed small_distinct small_has_lines small_tale, small_prints)

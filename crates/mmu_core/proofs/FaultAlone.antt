@@ -36,7 +36,7 @@ use Rattle.mmu_core.specs.Machine.{World, hand_in}
 use Rattle.mmu_core.specs.PartSteps.{IsOver, LookedUp, SawEntry, entry_index, leaf_written, page_owned, part_task, table_page, word_looked, words_filled}
 use Rattle.mmu_core.specs.PartTopics.{part_topics}
 use Rattle.mmu_core.specs.SlotWords.{field_number, leaf_of, may_write, page_of}
-use Rattle.mmu_core.specs.TopicSteps.{gone_down, has_writer, is_won, linked_page}
+use Rattle.mmu_core.specs.TopicSteps.{gone_down, has_writer, is_won, linked_page, may_search}
 use Rattle.mmu_core.specs.TreePart.{EntryPart, IsLeafAt, IsLiveIn, TreePart, at}
 use Rattle.mmu_core.specs.View.{answer_in, upd, view, word_in, words_after}
 use Rattle.mmu_core.proofs.AloneLaws.{lock_free}
@@ -50,6 +50,7 @@ use Rattle.mmu_core.proofs.PartWords.{entry_leaves, fill_leaves, is_word, walks_
 use Rattle.mmu_core.proofs.SlotFields.{is_number}
 use Rattle.mmu_core.proofs.TreeKept.{found_live, looked_word, run_lowest}
 use Rattle.mmu_core.proofs.TreeStored.{entry_stored}
+use Rattle.core_views.specs.declared.topics.Stay.{Stay}
 
 -- ---- tests
 
@@ -63,26 +64,46 @@ no_writer v e = grind (arith, nat_tests)
 saw_bit : (claim : MapClaim) → 0 < claim.seen → claim.seen < 2 ^ 64 → is_won claim claim.seen ≡ true
 saw_bit claim some small = ap (λ b. b == 1) (bit_at-trailing_zeros w64 claim.seen some small).1
 
-module _ (root : ℕ) (map pool : ℕ → ℕ) (gfn : ℕ) (write : Bool) where
+-- ---- a load of a word of the map
+
+module _ (map : ℕ → ℕ) where
+  -- the words up to the next one, behind a load of this one
+  pub past_word : (zero_ : Bool) (word v : ℕ) → (v == 0) ≡ zero_ → map word ≡ v → NoneFreeBefore map word → NoneFreeBefore map (word + (if zero_ then 1 else 0))
+  past_word false word v none is before i lt = before i (omega (arith, lt))
+  past_word true word v none is before i lt = by (nat_lt i word) refl
+    where
+      by : (b : Bool) → nat_lt i word ≡ b → map i ≡ 0
+      by true low = before i (grind (arith, nat_tests))
+      by false low = let here : i ≡ word = grind (arith, nat_tests) in let empty : v ≡ 0 = grind (arith, nat_tests) in ap map here ∙ is ∙ empty
+
+  -- the claim stays at this one, where it saw a page free in it
+  pub seen_stands : (word v : ℕ) → map word ≡ v → 0 < v → map (word + (if v == 0 then 1 else 0)) ≡ v
+  seen_stands word v is some = ap map (at_word (v == 0) refl some) ∙ is
+    where
+      at_word : (zero_ : Bool) → (v == 0) ≡ zero_ → 0 < v → word + (if zero_ then 1 else 0) ≡ word
+      at_word true is some = absurd (grind (arith, nat_tests))
+      at_word false is some = omega arith
+
+module _ (root set : ℕ) (map pool : ℕ → ℕ) (gfn : ℕ) (write : Bool) where
   -- ---- the host word, the lock and the check
 
-  host_alone : (b : Bool) (t : Topics) → t.hold ≡ Loose → FaultAlone (if b then End HostFault else Share) root map pool gfn write t
+  host_alone : (b : Bool) (t : Topics) → t.hold ≡ Loose → FaultAlone (if b then End HostFault else Share) root set map pool gfn write t
   host_alone true t loose = tt
   host_alone false t loose = loose
 
-  share_alone : (k : Hold) (words : Area → ℕ → ℕ) (a note : ℕ) (t u : Topics) → k ≡ Loose → words area.Lock 0 ≡ 0 → FaultAlone (share_next k (answer_in (part_task (share_part k) a t note) words)) root map pool gfn write u
-  share_alone Loose words a note t u loose free = subst (λ b. FaultAlone (if b then Share else Check stage.Count) root map pool gfn write u) (sym (no_writer (words area.Lock 0) free)) tt
+  share_alone : (k : Hold) (words : Area → ℕ → ℕ) (a note : ℕ) (t u : Topics) → k ≡ Loose → words area.Lock 0 ≡ 0 → FaultAlone (share_next k (answer_in (part_task (share_part k) a t note) words)) root set map pool gfn write u
+  share_alone Loose words a note t u loose free = subst (λ b. FaultAlone (if b then Share else Check stage.Count) root set map pool gfn write u) (sym (no_writer (words area.Lock 0) free)) tt
   share_alone Shared words a note t u loose free = absurd (cc loose)
   share_alone (Owing word) words a note t u loose free = absurd (cc loose)
   share_alone Exclusive words a note t u loose free = absurd (cc loose)
 
-  count_alone : (v : ℕ) (u : Topics) → v ≡ 0 → FaultAlone (if v == 0 then Check stage.Seq else Check stage.Start) root map pool gfn write u
-  count_alone v u none = subst (λ b. FaultAlone (if b then Check stage.Seq else Check stage.Start) root map pool gfn write u) (sym (is_it v 0 none)) tt
+  count_alone : (v : ℕ) (u : Topics) → v ≡ 0 → FaultAlone (if v == 0 then Check stage.Seq else Check stage.Start) root set map pool gfn write u
+  count_alone v u none = subst (λ b. FaultAlone (if b then Check stage.Seq else Check stage.Start) root set map pool gfn write u) (sym (is_it v 0 none)) tt
 
-  seq_alone : (snapshot : Option ℕ) (v : ℕ) (end_ : FaultPlace) (u : Topics) → v ≡ 0 → ((s : ℕ) → snapshot ≡ Some s → s ≤ v) → FaultAlone (if v == snapshot_taken snapshot then Walk false else end_) root map pool gfn write u
-  seq_alone None v end_ u none most = subst (λ b. FaultAlone (if b then Walk false else end_) root map pool gfn write u) (sym (is_it v 0 none)) tt
+  seq_alone : (snapshot : Option ℕ) (v : ℕ) (end_ : FaultPlace) (u : Topics) → v ≡ 0 → ((s : ℕ) → snapshot ≡ Some s → s ≤ v) → FaultAlone (if v == snapshot_taken snapshot then Walk false else end_) root set map pool gfn write u
+  seq_alone None v end_ u none most = subst (λ b. FaultAlone (if b then Walk false else end_) root set map pool gfn write u) (sym (is_it v 0 none)) tt
   seq_alone (Some s) v end_ u none most =
-      subst (λ b. FaultAlone (if b then Walk false else end_) root map pool gfn write u) (sym (is_it v s (let le = most s refl in omega (arith, le, none)))) tt
+      subst (λ b. FaultAlone (if b then Walk false else end_) root set map pool gfn write u) (sym (is_it v s (let le = most s refl in omega (arith, le, none)))) tt
 
   -- ---- the walk
 
@@ -93,7 +114,7 @@ module _ (root : ℕ) (map pool : ℕ → ℕ) (gfn : ℕ) (write : Bool) where
 
   walk_leaf : (lowest allows : Bool) (z : Sizes) (t : Topics) (v : ℕ) (end_ : FaultPlace) → (t.walk.level == 1) ≡ lowest → allows_access write v ≡ allows → kind_of t.walk.level v ≡ entry_kind.Leaf → pool (pool_index (table_page t.walk) (entry_index gfn t.walk.level)) ≡ v
       → (t.walk.level ≡ 1 → LeadsTo pool 1 (table_page t.walk) gfn v → LeadsTo pool 4 root gfn v) → (kind_of t.walk.level v ≡ entry_kind.Leaf → t.walk.level ≡ 1)
-      → FaultAlone (if lowest then (if allows then Unshare Installed else Leaf) else end_) root map pool gfn write (record t { walk = gone_down None t.walk (entry_index gfn t.walk.level) v })
+      → FaultAlone (if lowest then (if allows then Unshare Installed else Leaf) else end_) root set map pool gfn write (record t { walk = gone_down None t.walk (entry_index gfn t.walk.level) v })
   walk_leaf true true z t v end_ low may leaf is above only =
       let one : t.walk.level ≡ 1 = grind (arith, nat_tests) in
       installed (table_page t.walk) t.walk.level v one (above one) is (subst (λ l. kind_of l v ≡ entry_kind.Leaf) one leaf) may
@@ -101,14 +122,14 @@ module _ (root : ℕ) (map pool : ℕ → ℕ) (gfn : ℕ) (write : Bool) where
   walk_leaf false allows z t v end_ low may leaf is above only = let one = only leaf in absurd (grind (arith, nat_tests))
 
   walk_none : (lowest : Bool) (t : Topics) (v : ℕ) → pool (pool_index (table_page t.walk) (entry_index gfn t.walk.level)) ≡ v
-      → FaultAlone (if lowest then Leaf else Claim false) root map pool gfn write (record t { walk = gone_down None t.walk (entry_index gfn t.walk.level) v })
+      → FaultAlone (if lowest then Leaf else Claim false) root set map pool gfn write (record t { walk = gone_down None t.walk (entry_index gfn t.walk.level) v })
   walk_none true t v is = is
   walk_none false t v is = (is, λ b. absurd (cc b), λ b. absurd (cc b))
 
   walk_alone : (k : SpteKind) (z : Sizes) (t : Topics) (v : ℕ) → kind_of t.walk.level v ≡ k → pool (pool_index (table_page t.walk) (entry_index gfn t.walk.level)) ≡ v
       → (t.walk.level ≡ 1 → LeadsTo pool 1 (table_page t.walk) gfn v → LeadsTo pool 4 root gfn v)
       → (kind_of t.walk.level v ≡ entry_kind.Leaf → t.walk.level ≡ 1) → (kind_of t.walk.level v ≢ entry_kind.Frozen)
-      → FaultAlone (walk_next k z gfn write t.walk v) root map pool gfn write (record t { walk = gone_down (linked_page k) t.walk (entry_index gfn t.walk.level) v })
+      → FaultAlone (walk_next k z gfn write t.walk v) root set map pool gfn write (record t { walk = gone_down (linked_page k) t.walk (entry_index gfn t.walk.level) v })
   walk_alone (entry_kind.Table page) z t v is here above only never = tt
   walk_alone entry_kind.Leaf z t v is here above only never = walk_leaf (t.walk.level == 1) (allows_access write v) z t v _ refl refl is here above only
   walk_alone entry_kind.Absent z t v is here above only never = walk_none (t.walk.level == 1) t v here
@@ -116,66 +137,54 @@ module _ (root : ℕ) (map pool : ℕ → ℕ) (gfn : ℕ) (write : Bool) where
 
   -- ---- the claim
 
-  -- the words up to the next one, behind a load of this one
-  past_word : (zero_ : Bool) (word v : ℕ) → (v == 0) ≡ zero_ → map word ≡ v → NoneFreeBefore map word → NoneFreeBefore map (word + (if zero_ then 1 else 0))
-  past_word false word v none is before i lt = before i (omega (arith, lt))
-  past_word true word v none is before i lt = by (nat_lt i word) refl
-    where
-      by : (b : Bool) → nat_lt i word ≡ b → map i ≡ 0
-      by true low = before i (grind (arith, nat_tests))
-      by false low = let here : i ≡ word = grind (arith, nat_tests) in let empty : v ≡ 0 = grind (arith, nat_tests) in ap map here ∙ is ∙ empty
-
   mapped_alone : (more : Bool) (t : Topics) (word v : ℕ) → EntryStands pool gfn t → map word ≡ v → NoneFreeBefore map word
-      → FaultAlone (if more then Claim true else Unshare Starved) root map pool gfn write (record t { claim = record { at = word + (if v == 0 then 1 else 0); seen = v } })
-  mapped_alone true t word v stands is before = (stands, λ b some. let still : word + (if v == 0 then 1 else 0) ≡ word = at_word (v == 0) refl some in ap map still ∙ is, λ b. past_word (v == 0) word v refl is before)
-    where
-      at_word : (zero_ : Bool) → (v == 0) ≡ zero_ → 0 < v → word + (if zero_ then 1 else 0) ≡ word
-      at_word true is some = absurd (grind (arith, nat_tests))
-      at_word false is some = omega arith
-  mapped_alone false t word v stands is before = past_word (v == 0) word v refl is before
+      → FaultAlone (if more then Claim true else Unshare Starved) root set map pool gfn write (record t { claim = record { at = word + (if v == 0 then 1 else 0); seen = v } })
+  mapped_alone true t word v stands is before = (stands, λ b some. seen_stands map word v is some, λ b. past_word map (v == 0) word v refl is before)
+  mapped_alone false t word v stands is before = past_word map (v == 0) word v refl is before
 
-  tried_alone : (won : Bool) (u : Topics) → won ≡ true → EntryStands pool gfn u → FaultAlone (if won then Fill else Claim true) root map pool gfn write u
+  tried_alone : (won : Bool) (u : Topics) → won ≡ true → EntryStands pool gfn u → FaultAlone (if won then Fill else Claim true) root set map pool gfn write u
   tried_alone true u is stands = stands
   tried_alone false u is stands = absurd (cc is)
 
   -- ---- the stores
 
-  fill_alone : (few : Bool) (u : Topics) → EntryStands pool gfn u → FaultAlone (if few then Fill else Link) root map pool gfn write u
+  fill_alone : (few : Bool) (u : Topics) → EntryStands pool gfn u → FaultAlone (if few then Fill else Link) root set map pool gfn write u
   fill_alone true u stands = stands
   fill_alone false u stands = stands
 
-  link_alone : (won : Bool) (end_ : FaultPlace) (u : Topics) → won ≡ true → FaultAlone (if won then Walk true else end_) root map pool gfn write u
+  link_alone : (won : Bool) (end_ : FaultPlace) (u : Topics) → won ≡ true → FaultAlone (if won then Walk true else end_) root set map pool gfn write u
   link_alone true end_ u is = tt
   link_alone false end_ u is = absurd (cc is)
 
-  leaf_alone : (won : Bool) (end_ : FaultPlace) (u : Topics) → won ≡ true → LeadsToLeaf pool 4 root gfn write → FaultAlone (if won then Unshare Installed else end_) root map pool gfn write u
+  leaf_alone : (won : Bool) (end_ : FaultPlace) (u : Topics) → won ≡ true → LeadsToLeaf pool 4 root gfn write → FaultAlone (if won then Unshare Installed else end_) root set map pool gfn write u
   leaf_alone true end_ u is leads = leads
   leaf_alone false end_ u is leads = absurd (cc is)
 
 -- what a claim finds
 module _ (t : Topics) (words : Area → ℕ → ℕ) (a note : ℕ) (small : t.claim.seen < 2 ^ 64) (b : Bool) (seen : SeenStands b (words area.PoolMap) t) where
-  tries_seen : tries_page b t.claim ≡ true → is_won t.claim (words area.PoolMap t.claim.at) ≡ true
+  pub tries_seen : tries_page b t.claim ≡ true → is_won t.claim (words area.PoolMap t.claim.at) ≡ true
   tries_seen is =
       let B = both b (nat_lt 0 t.claim.seen) is in
       let some : 0 < t.claim.seen = let more = B.1 in grind (arith, nat_tests) in
       ap (is_won t.claim) (seen B.0 some) ∙ saw_bit t.claim some small
 
-  claim_goes : (tries : Bool) → tries_page b t.claim ≡ tries → (tries && not (is_won t.claim (answer_in (part_task (if tries then part.Claim else part.Map (map_word b t.claim)) a t note) words))) ≡ false
+  pub claim_goes : (tries : Bool) → tries_page b t.claim ≡ tries → (tries && not (is_won t.claim (answer_in (part_task (if tries then part.Claim else part.Map (map_word b t.claim)) a t note) words))) ≡ false
   claim_goes true is = ap not (tries_seen is)
   claim_goes false is = refl
 
-  before_word : (c : Bool) → (c ≡ true → NoneFreeBefore (words area.PoolMap) t.claim.at) → NoneFreeBefore (words area.PoolMap) (map_word c t.claim)
+  pub before_word : (c : Bool) → (c ≡ true → NoneFreeBefore (words area.PoolMap) t.claim.at) → NoneFreeBefore (words area.PoolMap) (map_word c t.claim)
   before_word true before = before refl
   before_word false before = λ i lt. absurd (omega (arith, lt))
 
   claim_alone : (tries : Bool) (z : Sizes) (gfn : ℕ) (write : Bool) → tries_page b t.claim ≡ tries → EntryStands (words area.Pool) gfn t → (b ≡ true → NoneFreeBefore (words area.PoolMap) t.claim.at)
       → FaultAlone (claim_next tries z (at_map_word b t.claim) (answer_in (part_task (if tries then part.Claim else part.Map (map_word b t.claim)) a t note) words))
       (words_after (part_task (if tries then part.Claim else part.Map (map_word b t.claim)) a t note) words area.Root 0)
+      (words_after (part_task (if tries then part.Claim else part.Map (map_word b t.claim)) a t note) words area.Slots 0)
       (words_after (part_task (if tries then part.Claim else part.Map (map_word b t.claim)) a t note) words area.PoolMap)
       (words_after (part_task (if tries then part.Claim else part.Map (map_word b t.claim)) a t note) words area.Pool) gfn write
       (part_topics (if tries then part.Claim else part.Map (map_word b t.claim)) t (answer_in (part_task (if tries then part.Claim else part.Map (map_word b t.claim)) a t note) words))
-  claim_alone true z gfn write is stands before = tried_alone (words area.Root 0) _ (words area.Pool) gfn write (is_won t.claim (words area.PoolMap t.claim.at)) _ (tries_seen is) stands
-  claim_alone false z gfn write is stands before = mapped_alone (words area.Root 0) (words area.PoolMap) (words area.Pool) gfn write _ t (map_word b t.claim) (words area.PoolMap (map_word b t.claim)) stands refl (before_word b before)
+  claim_alone true z gfn write is stands before = tried_alone (words area.Root 0) (words area.Slots 0) _ (words area.Pool) gfn write (is_won t.claim (words area.PoolMap t.claim.at)) _ (tries_seen is) stands
+  claim_alone false z gfn write is stands before = mapped_alone (words area.Root 0) (words area.Slots 0) (words area.PoolMap) (words area.Pool) gfn write _ t (map_word b t.claim) (words area.PoolMap (map_word b t.claim)) stands refl (before_word b before)
 
 -- ---- in a sound world
 
@@ -274,7 +283,7 @@ module _ (z : Sizes) (w : World Held) (a gfn note : ℕ) (write : Bool) (p : Fau
 
     leaf_leads : LeadsToLeaf leafed 4 (words area.Root 0) gfn write
     leaf_leads =
-        installed (words area.Root 0) (words area.PoolMap) leafed gfn write page t.walk.level (leaf_written t) low
+        installed (words area.Root 0) (words area.Slots 0) (words area.PoolMap) leafed gfn write page t.walk.level (leaf_written t) low
         (leads_same z.pool (words area.Root 0) (words area.Slots 0) (words area.Role) leafed (words area.Host) R.sound.topics.stands tree_leafed few gfn (leaf_written t) 1 page (lowest_over saw.over low)).above
         (ap (λ (pool : ℕ → ℕ). pool (pool_index page index)) stored ∙ upd_same (words area.Pool) (pool_index page index) (leaf_written t))
         (kind_of_leaf 1 (host_frame (word_looked t.host)) (may_write t.search.slot (word_looked t.host)) (host_allows_write (word_looked t.host)) (may_write t.search.slot (word_looked t.host)) (omega arith) (omega arith))
@@ -289,12 +298,14 @@ pub goes_through : (z : Sizes) (w : World Held) (a gfn note : ℕ) (write : Bool
 goes_through z w a gfn note write Begin R = record { goes = refl; next = tt }
 goes_through z w a gfn note write Snapshot R = record { goes = refl; next = λ b. absurd (cc b) }
 goes_through z w a gfn note write (Find true) R = record { goes = refl; next = find_goes z w a gfn note write R }
-goes_through z w a gfn note write (Find false) R = record { goes = refl; next = λ b i lt. absurd (omega (arith, lt)) }
+goes_through z w a gfn note write (Find false) R =
+    let hold : Hold = (hand_in mmu w a).topics.hold in
+    record { goes = refl; next = λ b. (ap (λ (x : Stay). if may_search x hold then Some (word_in z w area.Slots 0) else None) R.knows.0.inside.section, λ i lt. absurd (omega (arith, lt))) }
 goes_through z w a gfn note write Host R =
     let t : Topics = (hand_in mmu w a).topics in
     let step : PartStep = part.Host (page_of t.search.slot gfn) in
     let v : ℕ = answer_in (part_task step a t note) (word_in z w) in
-    record { goes = refl; next = host_alone (word_in z w area.Root 0) (word_in z w area.PoolMap) (word_in z w area.Pool) gfn write (write && not (host_allows_write v)) (part_topics step t v) R.knows.0.loose }
+    record { goes = refl; next = host_alone (word_in z w area.Root 0) (word_in z w area.Slots 0) (word_in z w area.PoolMap) (word_in z w area.Pool) gfn write (write && not (host_allows_write v)) (part_topics step t v) R.knows.0.loose }
 goes_through z w a gfn note write Share R =
     let t : Topics = (hand_in mmu w a).topics in
     let task : Task = part_task (share_part t.hold) a t note in
@@ -302,12 +313,12 @@ goes_through z w a gfn note write Share R =
     let behind : Area → ℕ → ℕ = words_after task (word_in z w) in
     record {
       goes = ap (λ (x : Hold). is_owing x) R.alone;
-      next = share_alone (behind area.Root 0) (behind area.PoolMap) (behind area.Pool) gfn write t.hold (word_in z w) a note t (part_topics (share_part t.hold) t v) R.alone (lock_free z w a R.sound R.there R.others R.alone);
+      next = share_alone (behind area.Root 0) (behind area.Slots 0) (behind area.PoolMap) (behind area.Pool) gfn write t.hold (word_in z w) a note t (part_topics (share_part t.hold) t v) R.alone (lock_free z w a R.sound R.there R.others R.alone);
     }
 goes_through z w a gfn note write (Check stage.Count) R =
     let t : Topics = (hand_in mmu w a).topics in
     let v : ℕ = word_in z w area.Count 0 in
-    record { goes = refl; next = count_alone (word_in z w area.Root 0) (word_in z w area.PoolMap) (word_in z w area.Pool) gfn write v (part_topics part.Count t v) R.sound.none_opened.count }
+    record { goes = refl; next = count_alone (word_in z w area.Root 0) (word_in z w area.Slots 0) (word_in z w area.PoolMap) (word_in z w area.Pool) gfn write v (part_topics part.Count t v) R.sound.none_opened.count }
 goes_through z w a gfn note write (Check stage.Start) R = absurd R.alone
 goes_through z w a gfn note write (Check stage.End) R = absurd R.alone
 goes_through z w a gfn note write (Check stage.Seq) R =
@@ -317,7 +328,7 @@ goes_through z w a gfn note write (Check stage.Seq) R =
     record {
       goes = refl;
       next =
-          seq_alone (word_in z w area.Root 0) (word_in z w area.PoolMap) (word_in z w area.Pool) gfn write snapshot v (Unshare (Retry (Moved (snapshot_taken snapshot) v))) (part_topics part.Seq t v) R.sound.none_opened.seq
+          seq_alone (word_in z w area.Root 0) (word_in z w area.Slots 0) (word_in z w area.PoolMap) (word_in z w area.Pool) gfn write snapshot v (Unshare (Retry (Moved (snapshot_taken snapshot) v))) (part_topics part.Seq t v) R.sound.none_opened.seq
           (R.sound.topics.looks a R.there).snapshot;
     }
 goes_through z w a gfn note write (Walk false) R = record { goes = refl; next = tt }
@@ -328,7 +339,7 @@ goes_through z w a gfn note write (Walk true) R =
     let k = kinds z w a gfn note write (Walk true) R (entry_is z w a gfn note write (Walk true) R over.there) in
     record {
       goes = refl;
-      next = walk_alone (word_in z w area.Root 0) (word_in z w area.PoolMap) (word_in z w area.Pool) gfn write (kind_of t.walk.level v) z t v refl refl (above_now z w a gfn note write (Walk true) R over v) k.0 k.1;
+      next = walk_alone (word_in z w area.Root 0) (word_in z w area.Slots 0) (word_in z w area.PoolMap) (word_in z w area.Pool) gfn write (kind_of t.walk.level v) z t v refl refl (above_now z w a gfn note write (Walk true) R over v) k.0 k.1;
     }
 goes_through z w a gfn note write (Claim begun) R =
     let t : Topics = (hand_in mmu w a).topics in
@@ -345,7 +356,7 @@ goes_through z w a gfn note write Fill R =
     record {
       goes = refl;
       next =
-          fill_alone (behind area.Root 0) (behind area.PoolMap) (behind area.Pool) gfn write (nat_lt (words_filled t.owned) 512) (part_topics step t (answer_in task (word_in z w)))
+          fill_alone (behind area.Root 0) (behind area.Slots 0) (behind area.PoolMap) (behind area.Pool) gfn write (nat_lt (words_filled t.owned) 512) (part_topics step t (answer_in task (word_in z w)))
           (fill_leaves_entry z w a gfn note write Fill R (table_value t) R.knows.1.saw.over.there R.knows.2.owned R.knows.2.is R.knows.2.left ∙ R.alone);
     }
 goes_through z w a gfn note write Link R =
@@ -354,7 +365,7 @@ goes_through z w a gfn note write Link R =
     let behind : Area → ℕ → ℕ = words_after (part_task (part.Link gfn) a t note) (word_in z w) in
     record {
       goes = refl;
-      next = link_alone (behind area.Root 0) (behind area.PoolMap) (behind area.Pool) gfn write (v == t.walk.entry) (Give (Retry (Entry (entry_word z gfn t.walk) t.walk.entry v))) (part_topics (part.Link gfn) t v) (is_it v t.walk.entry R.alone);
+      next = link_alone (behind area.Root 0) (behind area.Slots 0) (behind area.PoolMap) (behind area.Pool) gfn write (v == t.walk.entry) (Give (Retry (Entry (entry_word z gfn t.walk) t.walk.entry v))) (part_topics (part.Link gfn) t v) (is_it v t.walk.entry R.alone);
     }
 goes_through z w a gfn note write (Give e) R = absurd R.alone
 goes_through z w a gfn note write Leaf R =
@@ -364,7 +375,7 @@ goes_through z w a gfn note write Leaf R =
     record {
       goes = refl;
       next =
-          leaf_alone (behind area.Root 0) (behind area.PoolMap) (behind area.Pool) gfn write (v == t.walk.entry) (Unshare (Retry (Entry (entry_word z gfn t.walk) t.walk.entry v))) (part_topics (part.Leaf gfn) t v) (is_it v t.walk.entry R.alone)
+          leaf_alone (behind area.Root 0) (behind area.Slots 0) (behind area.PoolMap) (behind area.Pool) gfn write (v == t.walk.entry) (Unshare (Retry (Entry (entry_word z gfn t.walk) t.walk.entry v))) (part_topics (part.Leaf gfn) t v) (is_it v t.walk.entry R.alone)
           (leaf_leads z w a gfn note write Leaf R R.knows.0 R.knows.2 R.knows.3 R.alone);
     }
 goes_through z w a gfn note write (Unshare e) R = record { goes = refl; next = R.alone }

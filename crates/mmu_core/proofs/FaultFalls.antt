@@ -145,7 +145,7 @@ tried_falls : (won : Bool) (z : Sizes) (t : Topics) (page v : ℕ) → won ≡ t
 tried_falls true z t page v is = omega arith
 tried_falls false z t page v is = absurd (cc is)
 
-seen_falls : (zero_ : Bool) (words word v : ℕ) → (v == 0) ≡ zero_ → word < words
+pub seen_falls : (zero_ : Bool) (words word v : ℕ) → (v == 0) ≡ zero_ → word < words
     → (if nat_lt 0 v then 1 else words - (word + (if zero_ then 1 else 0)) + 1) < words - word + 1
 seen_falls true words word v is low = let none : nat_lt 0 v ≡ false = grind (arith, nat_tests) in rw none (omega arith)
 seen_falls false words word v is low = let some : nat_lt 0 v ≡ true = grind (arith, nat_tests) in rw some (omega arith)
@@ -161,7 +161,7 @@ claim_falls : (tries b : Bool) (z : Sizes) (t : Topics) (v : ℕ) → (tries && 
 claim_falls true b z t v goes low = tried_falls (is_won t.claim v) z t _ v (not_not (is_won t.claim v) goes)
 claim_falls false b z t v goes low = mapped_falls (nat_lt (map_word b t.claim + (if v == 0 then 1 else 0)) (words_of_bits z.pool)) z t (map_word b t.claim) v low
 
-word_there : (b : Bool) (z : Sizes) (claim : MapClaim) → AreSizes z → (b ≡ true → claim.at < words_of_bits z.pool) → map_word b claim < words_of_bits z.pool
+pub word_there : (b : Bool) (z : Sizes) (claim : MapClaim) → AreSizes z → (b ≡ true → claim.at < words_of_bits z.pool) → map_word b claim < words_of_bits z.pool
 word_there true z claim S low = low refl
 word_there false z claim S low = first_word z S
 

@@ -1,6 +1,6 @@
 -- What the steps of a fault owe flat memory.
 use Rattle.std.proofs.Common.{◌≡◌, ◌+◌, ◌<◌, ℕ, [], ◌∷◌, refl, sym, subst, ap, ◌∙◌, arith}
-use Rattle.std.specs.Prelude.{All, Bool, true, false, ◌==◌, ◌&&◌, nat_le, nat_lt, not, if◌then◌else◌, Option, Some, None, is_some}
+use Rattle.std.specs.Prelude.{Bool, true, false, ◌==◌, ◌&&◌, nat_le, nat_lt, not, if◌then◌else◌, Some}
 use Rattle.core_views.specs.declared.answer.Answer.{Answer}
 use Rattle.core_views.specs.declared.answer.Answer.TheVariants as answer
 use Rattle.core_views.specs.declared.event.EventKind.TheVariants.{Answered, Exited}
@@ -21,7 +21,6 @@ use Rattle.core_views.specs.declared.topics.Topics.{Topics}
 use Rattle.core_views.specs.declared.trace.Command.TheVariants.{Access}
 use Rattle.core_views.specs.declared.trace.Line.{Line}
 use Rattle.core_views.specs.declared.trace.Op.{Op}
-use Rattle.core_views.specs.declared.trace.Slot.{Slot as SlotOf}
 use Rattle.core_views.specs.Flat.{Facts, LineUnderWay, Notes}
 use Rattle.core_views.specs.Lawful.{MayLeave}
 use Rattle.core_views.specs.Slots.{is_write}
@@ -36,24 +35,24 @@ use Rattle.mmu_core.specs.declared.part_step.PartStep.TheVariants as part
 use Rattle.mmu_core.specs.AccessSteps.{access_note, access_task}
 use Rattle.mmu_core.specs.FaultKnows.{FaultKnows}
 use Rattle.mmu_core.specs.FaultSteps.{allows_access, at_map_word, check_next, claim_next, entry_word, fault_part, find_next, map_word, share_next, snapshot_taken, tries_page, walk_next}
-use Rattle.mmu_core.specs.FlatInvariant.{NotedAt, NotedSlots}
-use Rattle.mmu_core.specs.Invariant.{Invariant, IsLive}
-use Rattle.mmu_core.specs.PartSteps.{own_index, set_held, words_filled}
-use Rattle.mmu_core.specs.SearchPart.{HasLoaded}
-use Rattle.mmu_core.specs.SetSlotSteps.{published_set}
-use Rattle.mmu_core.specs.SlotWords.{page_of, slot_index}
+use Rattle.mmu_core.specs.FlatInvariant.{NotedAt}
+use Rattle.mmu_core.specs.Invariant.{Invariant}
+use Rattle.mmu_core.specs.PartSteps.{own_index, words_filled}
 use Rattle.mmu_core.specs.Tasks.{kind_of_task}
 use Rattle.mmu_core.specs.TopicsInvariant.{TopicsInvariant}
-use Rattle.mmu_core.specs.TopicSteps.{has_writer, is_won, searched, topics_after}
 use Rattle.mmu_core.specs.View.{View, answer_in, words_after}
 use Rattle.mmu_core.proofs.FindFlat.{find_noted}
 use Rattle.mmu_core.proofs.FlatSteps.{Goes, Ready, StepGoes, part_leaves, refines_stay}
 use Rattle.mmu_core.proofs.PageFound.{host_writable}
 use Rattle.mmu_core.proofs.PartStepping.{IsPart}
 use Rattle.mmu_core.proofs.PartTopics.{part_topics_is}
-use Rattle.mmu_core.proofs.SlotLists.{each_is_live}
-use Rattle.mmu_core.proofs.SlotsStay.{is_live_stays}
 use Rattle.mmu_core.proofs.Stepping.{IsStep}
+use Rattle.mmu_core.specs.SlotWords.{page_of}
+use Rattle.mmu_core.specs.TopicSteps.{at_set, has_writer, is_won, may_search, searched, topics_after}
+use Rattle.core_views.specs.declared.topics.SlotSearch.{SlotSearch}
+use Rattle.core_views.specs.declared.topics.Stay.{Stay}
+use Rattle.mmu_core.proofs.LiveStays.{access_never}
+use Rattle.mmu_core.proofs.OldSets.{set_live}
 
 -- Where a fault stands behind most of its steps, the line has noted nothing.
 module _ (pool : ℕ → ℕ) (gfn : ℕ) (op : Op) (t : Topics) (notes : Notes) where
@@ -95,11 +94,6 @@ module _ (pool : ℕ → ℕ) (gfn : ℕ) (op : Op) (t : Topics) (notes : Notes)
   host_noted true x allows = rw allows tt
   host_noted false x allows = tt
 
--- the set that a search holds
-some_set : (set : Option ℕ) → is_some set ≡ true → (k : ℕ) × (set ≡ Some k)
-some_set (Some k) is = (k, refl)
-some_set None is = absurd (cc is)
-
 module _ (z : Sizes) (v : View) (a : ℕ) (line : Line) (gfn word : ℕ) (op : Op) (facts : Facts) (u : LineUnderWay) where
   abbrev held : Topics
   held = (v.hand a).topics
@@ -117,55 +111,43 @@ module _ (z : Sizes) (v : View) (a : ℕ) (line : Line) (gfn word : ℕ) (op : O
   -- A step that tells nothing, behind which the line has noted what its next place asks.
   quiet : (p next : FaultPlace) → IsPart z v a (fault_part p gfn held) → Invariant z v → TopicsInvariant z v → Ready z v line (Access gfn word op) (place.Access (Fault p)) held facts u
       → NotedAt (words_behind p area.Pool) next gfn op (held_behind p) u.notes
-      → Goes z (v.hand a).state.actor line (Access gfn word op) v.words (words_behind p) (place.Access (Fault next)) (held_behind p) [] facts u
+      → Goes z (v.hand a).state.actor line (Access gfn word op) (words_behind p) (place.Access (Fault next)) (held_behind p) [] facts u
   quiet p next S I P R noted =
-      let L = part_leaves z v a (fault_part p gfn held) (access_note (Fault p)) S I P in
+      let L = part_leaves z v a (fault_part p gfn held) (access_note (Fault p)) S P (access_never (Fault p) gfn held (fault_part p gfn held) refl) in
       record {
         allowed = tt;
         refines = refines_stay z v.words (words_behind p) facts L R.refines;
         under = (R.under.0, (R.under.1.0, noted));
-        live = is_live_stays (v.words area.Pool) (words_behind p area.Pool) L.pool;
       }
 
-  -- The line looks at the slots: all live ones, none of which is passed yet.
-  looks : Ready z v line (Access gfn word op) (place.Access (Fault (Find false))) held facts u → StepGoes z v a line (Access gfn word op) (place.Access (Fault (Find false))) facts u
-  looks R = record {
+  -- The line looks at the slots: those of the published set, which its search holds now, and none of them is passed yet.
+  looks : FaultKnows (Find false) (v.hand a).state.sizes gfn (is_write op) held → Ready z v line (Access gfn word op) (place.Access (Fault (Find false))) held facts u → StepGoes z v a line (Access gfn word op) (place.Access (Fault (Find false))) facts u
+  looks K R = record {
     allowed = (R.under.1.0, tt);
     refines = R.refines;
-    under = (
-      R.under.0,
-      (
-        R.under.1.0,
-        subst (λ i. NotedSlots (v.words area.Pool) (record u.notes { slots = Some facts.slots }) i gfn) (sym first) (record {
-          slots = facts.slots;
-          noted = refl;
-          live = subst (All (λ (e : ℕ × SlotOf). IsLive (v.words area.Pool) e.0 e.1)) (sym R.refines.slots) (each_is_live (v.words area.Pool) 32 (omega arith));
-          passed = λ k d lt low. absurd (omega arith);
-        }),
-      ),
-    );
-    live = λ e l. l;
+    under = (R.under.0, (R.under.1.0, record { set = v.words area.Slots 0; held = set_is; noted = ap Some R.refines.slots; passed = λ k d lt low. absurd (omega (arith, first, low)) }));
   }
     where
+      behind : (held_behind (Find false)).search ≡ at_set (may_search held.stay held.hold) held.search (v.words area.Slots 0)
+      behind = ap (λ (t : Topics). t.search) (part_topics_is (v.hand a).state.sizes part.Slots (own_index (v.hand a)) held 0 (answered (Find false)) tt)
+
       first : (held_behind (Find false)).search.id ≡ 0
-      first = ap (λ (t : Topics). t.search.id) (part_topics_is (v.hand a).state.sizes part.Slots (own_index (v.hand a)) held 0 (answered (Find false)) tt)
+      first = ap (λ (s : SlotSearch). s.id) behind
+
+      may : may_search held.stay held.hold ≡ true
+      may = ap (λ (stay : Stay). may_search stay held.hold) K.0.inside.section
+
+      set_is : (held_behind (Find false)).search.set ≡ Some (v.words area.Slots 0)
+      set_is = ap (λ (s : SlotSearch). s.set) behind ∙ ap (λ b. (at_set b held.search (v.words area.Slots 0)).set) may
 
   -- The search loads the next word of a slot.
   searches : IsStep z v a line (Access gfn word op) (place.Access (Fault (Find true))) → IsPart z v a part.Slot → Invariant z v → TopicsInvariant z v → FaultKnows (Find true) (v.hand a).state.sizes gfn (is_write op) held
       → Ready z v line (Access gfn word op) (place.Access (Fault (Find true))) held facts u → StepGoes z v a line (Access gfn word op) (place.Access (Fault (Find true))) facts u
   searches S part_ I P K R =
       quiet (Find true) (find_next gfn (is_write op) held.search.next (searched held.search (answered (Find true)))) part_ I P R
-      (find_noted z (v.words area.Slots) (v.words area.Pool) gfn (answered (Find true)) op held.search.next held.search (held_behind (Find true)) u.notes I.set loaded (K.1 refl).1 found search R.under.1.1)
+      (find_noted z (v.words area.Slots 0) (v.words area.Role) (v.words area.Pool) gfn (answered (Find true)) op held.search.next held.search (held_behind (Find true)) u.notes I.set_part
+      (λ k is. set_live z v a k S.there P is) (P.searches a S.there).loaded (K.1 refl).1 refl search R.under.1.1)
     where
-      set_is : held.search.set ≡ Some published_set
-      set_is = let some = some_set held.search.set (K.1 refl).0 in some.1 ∙ ap Some ((P.held a S.there).set some.0 some.1 ∙ I.set.published)
-
-      loaded : HasLoaded held.search.next (v.words area.Pool) published_set held.search
-      loaded = (P.searches a S.there).loaded published_set set_is
-
-      found : answered (Find true) ≡ v.words area.Pool (slot_index published_set held.search.id held.search.next)
-      found = ap (λ (set : Option ℕ). v.words area.Pool (slot_index (set_held set) held.search.id held.search.next)) set_is
-
       search : (held_behind (Find true)).search ≡ searched held.search (answered (Find true))
       search =
           ap (λ (t : Topics). t.search) (part_topics_is (v.hand a).state.sizes part.Slot (own_index (v.hand a)) held 0 (answered (Find true)) tt)
@@ -185,32 +167,29 @@ module _ (z : Sizes) (v : View) (a : ℕ) (line : Line) (gfn word : ℕ) (op : O
             (host_writable z (v.words area.Host) (page_of held.search.slot gfn) I.hosts (subst (λ (y : Sizes). page_of held.search.slot gfn < y.pages) S.sizes S.needs)),
       ),
     );
-    live = λ e l. l;
   }
 
   -- The line leaves the guest with what its fault ends with.
   leaves_with : (how : Answer) → line.command ≡ Access gfn word op → IsPart z v a part.End → Invariant z v → TopicsInvariant z v → (e : FaultEnd) → Ready z v line (Access gfn word op) (place.Access (Fault (End e))) held facts u
       → MayLeave (Access gfn word op) u.notes how
-      → Goes z (v.hand a).state.actor line (Access gfn word op) v.words (words_behind (End e)) place.Between (held_behind (End e)) (Exited how ∷ Answered line.number how ∷ []) facts u
+      → Goes z (v.hand a).state.actor line (Access gfn word op) (words_behind (End e)) place.Between (held_behind (End e)) (Exited how ∷ Answered line.number how ∷ []) facts u
   leaves_with how is S I P e R may =
-      let L = part_leaves z v a part.End (access_note (Fault (End e))) S I P in
+      let L = part_leaves z v a part.End (access_note (Fault (End e))) S P refl in
       record {
         allowed = ((R.under.1.0, subst (λ c. MayLeave c u.notes how) (sym (ap (λ (l : Line). l.command) R.under.0 ∙ is)) may), ((ap (λ (l : Line). l.number) (sym R.under.0), refl), tt));
         refines = refines_stay z v.words (words_behind (End e)) facts L R.refines;
         under = refl;
-        live = is_live_stays (v.words area.Pool) (words_behind (End e) area.Pool) L.pool;
       }
 
   -- Or it enters the guest again.
   goes_back : (again : Bool) (e : FaultEnd) → IsPart z v a part.End → Invariant z v → TopicsInvariant z v → Ready z v line (Access gfn word op) (place.Access (Fault (End e))) held facts u
-      → Goes z (v.hand a).state.actor line (Access gfn word op) v.words (words_behind (End e)) (place.Access (Enter again)) (held_behind (End e)) [] facts u
+      → Goes z (v.hand a).state.actor line (Access gfn word op) (words_behind (End e)) (place.Access (Enter again)) (held_behind (End e)) [] facts u
   goes_back again e S I P R =
-      let L = part_leaves z v a part.End (access_note (Fault (End e))) S I P in
+      let L = part_leaves z v a part.End (access_note (Fault (End e))) S P refl in
       record {
         allowed = tt;
         refines = refines_stay z v.words (words_behind (End e)) facts L R.refines;
         under = (R.under.0, R.under.1.0);
-        live = is_live_stays (v.words area.Pool) (words_behind (End e) area.Pool) L.pool;
       }
 
   ends : (e : FaultEnd) → line.command ≡ Access gfn word op → IsPart z v a part.End → Invariant z v → TopicsInvariant z v → Ready z v line (Access gfn word op) (place.Access (Fault (End e))) held facts u
@@ -225,7 +204,7 @@ module _ (z : Sizes) (v : View) (a : ℕ) (line : Line) (gfn word : ℕ) (op : O
       → FaultKnows p (v.hand a).state.sizes gfn (is_write op) held → Ready z v line (Access gfn word op) (place.Access (Fault p)) held facts u → StepGoes z v a line (Access gfn word op) (place.Access (Fault p)) facts u
   fault_goes Begin S part_ I P K R = quiet Begin Snapshot part_ I P R tt
   fault_goes Snapshot S part_ I P K R = quiet Snapshot (Find false) part_ I P R tt
-  fault_goes (Find false) S part_ I P K R = looks R
+  fault_goes (Find false) S part_ I P K R = looks K R
   fault_goes (Find true) S part_ I P K R = searches S part_ I P K R
   fault_goes Host S part_ I P K R = looks_at_host part_ I R
   fault_goes Share S part_ I P K R =

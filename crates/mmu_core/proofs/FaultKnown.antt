@@ -421,3 +421,6 @@ parts_answer (part.Link gfn) own t note words = tt
 parts_answer (part.Leaf gfn) own t note words = tt
 parts_answer (part.Host page) own t note words = tt
 parts_answer (part.Watch index) own t note words = tt
+parts_answer part.Publish own t note words = tt
+parts_answer part.Clear own t note words = tt
+parts_answer part.GiveOld own t note words = tt

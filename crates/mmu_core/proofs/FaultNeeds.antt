@@ -46,7 +46,7 @@ map_needs : (begun : Bool) (h : Held) → tries_page begun h.topics.claim ≡ fa
 map_needs true h is S none low = (none, low refl, inr (refl, grind (arith, nat_tests)))
 map_needs false h is S none low = (none, first_word h.state.sizes S, inl refl)
 
-claim_needs : (tries begun : Bool) (h : Held) → tries_page begun h.topics.claim ≡ tries → AreSizes h.state.sizes → h.topics.owned ≡ None → (begun ≡ true → h.topics.claim.at < words_of_bits h.state.sizes.pool)
+pub claim_needs : (tries begun : Bool) (h : Held) → tries_page begun h.topics.claim ≡ tries → AreSizes h.state.sizes → h.topics.owned ≡ None → (begun ≡ true → h.topics.claim.at < words_of_bits h.state.sizes.pool)
     → PartNeeds (if tries then part.Claim else part.Map (map_word begun h.topics.claim)) h
 claim_needs true begun h is S none low = let B = both begun (nat_lt 0 h.topics.claim.seen) is in (none, grind (arith, nat_tests), low B.0)
 claim_needs false begun h is S none low = map_needs begun h is S none low

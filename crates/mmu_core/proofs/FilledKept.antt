@@ -21,8 +21,8 @@ use Rattle.mmu_core.specs.View.{View, answer_in, part_stepped, words_after}
 use Rattle.mmu_core.proofs.Columns.{at_upd, same_or}
 use Rattle.mmu_core.proofs.OwnedBehind.{fill_by, leaf_owned, link_owned, owned_behind, owned_is}
 use Rattle.mmu_core.proofs.PartStepping.{IsPart}
-use Rattle.mmu_core.proofs.PartWords.{IsElsewhere, fill_answers, fill_leaves, fill_stores, is_word, no_role, page_stays, role_stays, role_stored, walks_unowned}
-use Rattle.mmu_core.proofs.PoolPages.{one_owner}
+use Rattle.mmu_core.proofs.PartWords.{IsElsewhere, fill_answers, fill_leaves, fill_stores, is_word, no_role, page_stays, role_stays, role_stored, walks_unowned, left_elsewhere}
+use Rattle.mmu_core.proofs.PoolPages.{one_owner, left_not_owned}
 use Rattle.mmu_core.proofs.Standing.{entry_now}
 
 -- Of a page that was claimed nothing is filled.
@@ -87,6 +87,9 @@ own_filled : (z : Sizes) (v : View) (a : ℕ) (step : PartStep) (note : ℕ) →
     → (o : OwnedPage) → owned_behind step (v.hand a).topics (answer_in (part_task step (own_index (v.hand a)) (v.hand a).topics note) v.words) ≡ Some o → IsFilled ((part_stepped a step note v).words area.Role) ((part_stepped a step note v).words area.Pool) o
 own_filled z v a part.Claim note S I o is = claim_filled (v.words area.Role) (v.words area.Pool) (v.hand a).topics.claim (v.words area.PoolMap (v.hand a).topics.claim.at) o is
 own_filled z v a part.Give note S I o is = absurd (cc is)
+own_filled z v a part.GiveOld note S I o is = absurd (cc is)
+own_filled z v a part.Publish note S I o is = absurd (cc is)
+own_filled z v a part.Clear note S I o is = absurd (let none : filled_more (v.hand a).topics.owned 0 ≡ None = ap (λ x. filled_more x 0) S.needs.owns_none in cc (is, none))
 own_filled z v a (part.Fill value) note S I o is =
     let t : Topics = (v.hand a).topics in
     let to_fill : HasToFill t = S.needs.0 in
@@ -109,10 +112,12 @@ own_filled z v a (part.Leaf gfn) note S I o is =
 own_filled z v a _ note S I o is = I.filled a o S.there is
 
 -- Another owner's page is none that the step stores in.
-others_elsewhere : (z : Sizes) (v : View) (a : ℕ) (step : PartStep) → IsPart z v a step → TopicsInvariant z v → (i : ℕ) (o : OwnedPage) → i < actors_of z → i ≢ a → (v.hand i).topics.owned ≡ Some o → IsElsewhere step (v.hand a).topics o.page
-others_elsewhere z v a (part.Fill value) S I i o lt apart is = λ p mine same. apart (one_owner (actors_of z) z.pool (v.words area.Slots 0) (v.words area.PoolMap) (λ l. (v.hand l).topics.owned) I.stands I.pool_part i a o p lt S.there is mine same)
+pub others_elsewhere : (z : Sizes) (v : View) (a : ℕ) (step : PartStep) → IsPart z v a step → TopicsInvariant z v → (i : ℕ) (o : OwnedPage) → i < actors_of z → i ≢ a → (v.hand i).topics.owned ≡ Some o → IsElsewhere step (v.hand a).topics o.page
+others_elsewhere z v a (part.Fill value) S I i o lt apart is = λ p mine same. apart (one_owner (actors_of z) z.pool (v.words area.Slots 0) (v.words area.PoolMap) (λ l. (v.hand l).topics.owned) (λ l. (v.hand l).topics.leaving) I.stands I.pool_part i a o p lt S.there is mine same)
 others_elsewhere z v a (part.Link gfn) S I i o lt apart is = λ e. walks_unowned z v a S.there I S.needs.0.saw.over.there i o lt is (sym e)
 others_elsewhere z v a (part.Leaf gfn) S I i o lt apart is = λ e. walks_unowned z v a S.there I S.needs.0.saw.over.there i o lt is (sym e)
+others_elsewhere z v a part.Clear S I i o lt apart is = left_elsewhere (v.hand a).topics S.needs.leaves o.page
+    (λ k left e. left_not_owned (actors_of z) z.pool (v.words area.Slots 0) (v.words area.PoolMap) (λ l. (v.hand l).topics.owned) (λ l. (v.hand l).topics.leaving) I.stands I.pool_part a k S.there left i o lt is (sym e))
 others_elsewhere z v a _ S I i o lt apart is = tt
 
 -- Each step of a part keeps what the owners have filled.

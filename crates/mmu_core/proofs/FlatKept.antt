@@ -1,6 +1,6 @@
 -- Each step tells lawful events, and the words and hands are flat guest memory behind it.
 use Rattle.std.proofs.Common.{◌≡◌, ◌≢◌, ◌+◌, ◌<◌, ℕ, List, [], ◌∷◌, ◌++◌, refl, sym, subst, ap, ◌∙◌}
-use Rattle.std.specs.Prelude.{Bool, true, false}
+use Rattle.std.specs.Prelude.{Bool, true, false, Option, Some, None}
 use Rattle.std.proofs.lemmas.Bool.Decides.{Decides-eqb}
 use Rattle.core_views.specs.declared.actor.Actor.{Actor}
 use Rattle.core_views.specs.declared.actor.Actor.TheVariants as actor
@@ -10,9 +10,6 @@ use Rattle.core_views.specs.declared.event.EventKind.TheVariants.{Begun}
 use Rattle.core_views.specs.declared.hand.State.{State}
 use Rattle.core_views.specs.declared.place.AccessPlace.{AccessPlace}
 use Rattle.core_views.specs.declared.place.AccessPlace.TheVariants as access
-use Rattle.core_views.specs.declared.place.FaultPlace.{FaultPlace}
-use Rattle.core_views.specs.declared.place.FaultPlace.TheVariants as fault
-use Rattle.core_views.specs.declared.place.Leaving.TheVariants as leaving
 use Rattle.core_views.specs.declared.place.Place.{Place}
 use Rattle.core_views.specs.declared.place.Place.TheVariants as place
 use Rattle.core_views.specs.declared.sizes.Sizes.{Sizes}
@@ -23,7 +20,7 @@ use Rattle.core_views.specs.declared.trace.Line.{Line}
 use Rattle.core_views.specs.declared.trace.Op.{Op}
 use Rattle.core_views.specs.Actors.{changed_at, is_same}
 use Rattle.core_views.specs.Events.{after, after_all, line_after}
-use Rattle.core_views.specs.Flat.{Flat, LineUnderWay, Notes, Fresh, Idle}
+use Rattle.core_views.specs.Flat.{Flat, LineUnderWay, Fresh, Idle}
 use Rattle.core_views.specs.Held.{Held}
 use Rattle.core_views.specs.Lawful.{IsLawful}
 use Rattle.core_views.specs.SlotSets.{MemorySlots}
@@ -31,8 +28,8 @@ use Rattle.core_views.specs.Sizes.{actors_of, index_of}
 use Rattle.core_views.proofs.SameActor.{changed_here}
 use Rattle.spte_words.specs.declared.area.Area.{Area}
 use Rattle.spte_words.specs.declared.area.Area.TheVariants as area
-use Rattle.mmu_core.specs.AccessSteps.{access_loads, access_part}
-use Rattle.mmu_core.specs.FlatInvariant.{AccessUnder, FlatInvariant, NotedAt, NotedSlots, Refines, UnderIs}
+use Rattle.mmu_core.specs.AccessSteps.{access_loads}
+use Rattle.mmu_core.specs.FlatInvariant.{FlatInvariant, Refines, UnderIs, SettingUnder}
 use Rattle.mmu_core.specs.Invariant.{Invariant}
 use Rattle.mmu_core.specs.KnowsPart.{KnowsPart}
 use Rattle.mmu_core.specs.Rests.{IsUnderWay}
@@ -40,14 +37,17 @@ use Rattle.mmu_core.specs.Steps.{beginning, event_kinds, events_of, first_place,
 use Rattle.mmu_core.specs.Tasks.{answering}
 use Rattle.mmu_core.specs.TopicsInvariant.{TopicsInvariant}
 use Rattle.mmu_core.specs.View.{View, answer_in, hand_after, stepped, words_after}
-use Rattle.mmu_core.proofs.AccessFlat.{IsPartOr, access_goes}
 use Rattle.mmu_core.proofs.Columns.{at_upd}
 use Rattle.mmu_core.proofs.FlatSteps.{Ready, StepGoes, UnderAt, under_at, under_is}
-use Rattle.mmu_core.proofs.LiveStay.{StayLive}
 use Rattle.mmu_core.proofs.SetSlotFlat.{set_slot_goes}
 use Rattle.mmu_core.proofs.Which.{events_of_line, has_line_is}
 use Rattle.mmu_core.proofs.Stepping.{IsStep}
 use Rattle.mmu_core.proofs.Told.{line_behind, told, told_facts, told_lawful, told_line, told_others}
+use Rattle.mmu_core.proofs.FlatStill.{PartOf, line_held, under_still}
+use Rattle.core_views.specs.declared.answer.Refusal.{Refusal}
+use Rattle.core_views.specs.Refusals.{set_refusal}
+use Rattle.mmu_core.specs.SetSlotSteps.{set_slot_first}
+use Rattle.mmu_core.proofs.AccessFlat.{access_goes}
 
 -- what a step tells besides that its line begins
 abbrev pub told_kinds : View → ℕ → Line → Command → Place → List EventKind
@@ -64,11 +64,6 @@ told_events v a line command p = told (v.hand a).state.actor (beginning (v.hand 
 abbrev Meets : Sizes → View → Flat → ℕ → Line → Command → Place → List Event → Type 0
 Meets z v f a line command p es = IsLawful z f es × FlatInvariant z (stepped a line command p v) (after_all es f)
 
--- The actor's step is one of a part, if its line is an access that isn't at its touch.
-abbrev pub PartOf : Sizes → View → ℕ → Command → Place → Type 0
-PartOf z v a (Access gfn word op) (place.Access p) = IsPartOr z v a (access_part p gfn (v.hand a).topics)
-PartOf z v a _ _ = Unit {0}
-
 -- The step of each place, once its line has begun.
 step_goes : (z : Sizes) (v : View) (a : ℕ) (line : Line) (command : Command) (p : Place) (f : Flat) (u : LineUnderWay)
     → IsStep z v a line command p → Invariant z v → TopicsInvariant z v → PartOf z v a command p → KnowsPart p command (v.hand a) → Ready z v line command p (v.hand a).topics f.facts u → StepGoes z v a line command p f.facts u
@@ -76,7 +71,7 @@ step_goes z v a line command place.Between f u S I P part K R = absurd S.begun
 step_goes z v a line (Access gfn word op) (place.Access p) f u S I P part K R = access_goes z v a line gfn word f.facts u op p S I P part K R
 step_goes z v a line (SetSlot id slot) (place.Access p) f u S I P part K R = absurd S.holds
 step_goes z v a line (Access gfn word op) (place.SetSlot p) f u S I P part K R = absurd S.holds
-step_goes z v a line (SetSlot id slot) (place.SetSlot p) f u S I P part K R = set_slot_goes z v a line id slot p f.facts u S I R
+step_goes z v a line (SetSlot id slot) (place.SetSlot p) f u S I P part K R = set_slot_goes z v a line id slot f.facts u p S I P part R
 
 -- One actor has one place.
 pub same_index : (z : Sizes) (a b : Actor) → is_same a b ≡ true → index_of z a ≡ index_of z b
@@ -93,29 +88,6 @@ apart_actors z a b apart = case (is_same a b) refl
     case : (same : Bool) → is_same a b ≡ same → is_same a b ≡ false
     case true e = absurd (apart (same_index z a b e))
     case false e = e
-
-noted_still : (pool other : ℕ → ℕ) (notes : Notes) (id gfn : ℕ) → StayLive pool other → NotedSlots pool notes id gfn → NotedSlots other notes id gfn
-noted_still pool other notes id gfn still N = record { slots = N.slots; noted = N.noted; live = λ k d lt. still _ (N.live k d lt); passed = N.passed }
-
-noted_at_still : (pool other : ℕ → ℕ) (p : FaultPlace) (gfn : ℕ) (op : Op) (t : Topics) (notes : Notes) → StayLive pool other → NotedAt pool p gfn op t notes → NotedAt other p gfn op t notes
-noted_at_still pool other (fault.Find true) gfn op t notes still N = noted_still pool other notes t.search.id gfn still N
-noted_at_still pool other (fault.Give e) gfn op t notes still N = N
-noted_at_still pool other (fault.Unshare e) gfn op t notes still N = N
-noted_at_still pool other (fault.End e) gfn op t notes still N = N
-noted_at_still pool other _ gfn op t notes still N = tt
-
-access_still : (pool other : ℕ → ℕ) (p : AccessPlace) (gfn : ℕ) (op : Op) (t : Topics) (u : LineUnderWay) → StayLive pool other → AccessUnder pool p gfn op t u → AccessUnder other p gfn op t u
-access_still pool other (access.Fault p) gfn op t u still under = (under.0, noted_at_still pool other p gfn op t u.notes still under.1)
-access_still pool other (access.Leave (leaving.Reached frame value)) gfn op t u still under = under
-access_still pool other _ gfn op t u still under = under
-
--- A line under way is flat's still where live slots stay live.
-pub under_still : (pool other : ℕ → ℕ) (p : Place) (command : Command) (h : Held) (u : LineUnderWay) → StayLive pool other → UnderIs pool p command h u → UnderIs other p command h u
-under_still pool other place.Between command h u still under = under
-under_still pool other (place.Access p) (Access gfn word op) h u still under = (under.0, access_still pool other p gfn op h.topics u still under.1)
-under_still pool other (place.SetSlot p) (SetSlot id slot) h u still under = under
-under_still pool other (place.Access p) (SetSlot id slot) h u still under = absurd under
-under_still pool other (place.SetSlot p) (Access gfn word op) h u still under = absurd under
 
 -- the lines of the other hands are flat's
 abbrev Others : Sizes → View → ℕ → Flat → Type 0
@@ -143,7 +115,7 @@ meets_begun : (z : Sizes) (v : View) (f : Flat) (a : ℕ) (line : Line) (command
 meets_begun z v f a line command p S I P part K R others = (
   told_lawful z s.actor kinds f G.allowed,
   record {
-    refines = subst (Refines z (words area.Pool) (words area.Content)) (sym (told_facts s.actor kinds f)) G.refines;
+    refines = subst (Refines z (words area.Slots 0) (words area.Pool) (words area.Content)) (sym (told_facts s.actor kinds f)) G.refines;
     under = at_upd (λ i (h : Held). i < actors_of z → UnderIs (words area.Pool) h.state.place h.state.line.command h (behind.under h.state.actor)) v.hand a then_
         (λ a_in. here) (λ i apart i_in. there i i_in apart);
   },
@@ -181,12 +153,16 @@ meets_begun z v f a line command p S I P part K R others = (
     there i i_in apart =
         subst (UnderIs (words area.Pool) (v.hand i).state.place (v.hand i).state.line.command (v.hand i))
         (sym (told_others s.actor (v.hand i).state.actor kinds f (other_actor z v a i I S.there i_in apart)))
-        (under_still (v.words area.Pool) (words area.Pool) (v.hand i).state.place (v.hand i).state.line.command (v.hand i) (f.under (v.hand i).state.actor) G.live (others i i_in apart))
+        (under_still (v.words area.Pool) (words area.Pool) (v.hand i).state.place (v.hand i).state.line.command (v.hand i) (f.under (v.hand i).state.actor) (λ k held. line_held z v a command p P part i k i_in apart held) (others i i_in apart))
 
 -- A line that begins is under way, and has done nothing.
 first_at : (pool : ℕ → ℕ) (z : Sizes) (slots : MemorySlots) (line : Line) (command : Command) (t : Topics) (u : LineUnderWay) → u.stage ≡ Fresh → u.line ≡ line → UnderAt pool (first_place z slots command) line command t u
 first_at pool z slots line (Access gfn word op) t u fresh is = (is, fresh)
-first_at pool z slots line (SetSlot id slot) t u fresh is = (fresh, is)
+first_at pool z slots line (SetSlot id slot) t u fresh is = (is, first_set (set_refusal z.pages id slot slots))
+  where
+    first_set : (r : Option Refusal) → SettingUnder (set_slot_first r) u
+    first_set None = fresh
+    first_set (Some refusal) = fresh
 
 ready_first : (z : Sizes) (v : View) (f : Flat) (a : ℕ) (line : Line) (command : Command) (p : Place) → IsStep z v a line command p → FlatInvariant z v f → (v.hand a).state.place ≡ place.Between
     → let begun : Flat = after (record { actor = (v.hand a).state.actor; kind = Begun line }) f in Ready z v line command p (v.hand a).topics begun.facts (begun.under (v.hand a).state.actor)

@@ -9,32 +9,32 @@ use Rattle.core_views.specs.declared.topics.Topics.{Topics}
 use Rattle.core_views.specs.declared.trace.Command.{Command}
 use Rattle.core_views.specs.declared.trace.Command.TheVariants.{Access, SetSlot}
 use Rattle.core_views.specs.declared.trace.Line.{Line}
-use Rattle.core_views.specs.Flat.{Facts, LineUnderWay, Fresh, Idle}
 use Rattle.core_views.specs.Held.{Held}
 use Rattle.spte_words.specs.declared.area.Area.{Area}
 use Rattle.spte_words.specs.declared.area.Area.TheVariants as area
 use Rattle.spte_words.specs.Areas.{content_index}
 use Rattle.mmu_core.specs.declared.outcome.Task.{Task}
 use Rattle.mmu_core.specs.declared.part_step.PartStep.{PartStep}
-use Rattle.mmu_core.specs.FlatInvariant.{AccessUnder, Refines, UnderIs}
-use Rattle.mmu_core.specs.Invariant.{Invariant}
 use Rattle.mmu_core.specs.Steps.{outcome_at, task_at, tells_at}
 use Rattle.mmu_core.specs.Tasks.{answering, kind_of_task, map_of, place_after}
 use Rattle.mmu_core.specs.TopicsInvariant.{TopicsInvariant}
 use Rattle.mmu_core.specs.TopicSteps.{topics_after}
 use Rattle.mmu_core.specs.View.{View, answer_in, part_stepped, words_after}
-use Rattle.mmu_core.proofs.LiveStay.{StayLive}
-use Rattle.mmu_core.proofs.PartStepping.{IsPart}
-use Rattle.mmu_core.proofs.PartWords.{areas_stay}
-use Rattle.mmu_core.proofs.SlotsStay.{SetStays, below_stay}
 use Rattle.mmu_core.proofs.Told.{AreAllowed, facts_behind, line_behind}
-use Rattle.mmu_core.proofs.LiveStays.{published_stays}
+use Rattle.mmu_core.specs.FlatInvariant.{AccessUnder, Refines, SettingUnder, UnderIs}
+use Rattle.mmu_core.specs.SlotWords.{slots_below}
+use Rattle.std.specs.Prelude.{false}
+use Rattle.mmu_core.proofs.LiveStays.{SetStays, published_stays}
+use Rattle.mmu_core.proofs.PartStepping.{IsPart, is_publish}
+use Rattle.mmu_core.proofs.PartWords.{areas_stay, slots_are, slots_same}
+use Rattle.mmu_core.proofs.SlotsStay.{below_stay}
+use Rattle.core_views.specs.Flat.{Facts, LineUnderWay, Idle}
 
 -- The line under way is this one, with this command, at this place, and its actor holds these topics.
 abbrev pub UnderAt : (ℕ → ℕ) → Place → Line → Command → Topics → LineUnderWay → Type 0
 UnderAt pool place.Between line command t u = u.stage ≡ Idle
 UnderAt pool (place.Access p) line (Access gfn word op) t u = (u.line ≡ line) × AccessUnder pool p gfn op t u
-UnderAt pool (place.SetSlot p) line (SetSlot id slot) t u = (u.stage ≡ Fresh) × (u.line ≡ line)
+UnderAt pool (place.SetSlot p) line (SetSlot id slot) t u = (u.line ≡ line) × SettingUnder p u
 UnderAt pool _ line command t u = ⊥
 
 pub under_is : (pool : ℕ → ℕ) (p : Place) (command : Command) (h : Held) (u : LineUnderWay) → UnderAt pool p h.state.line command h.topics u → UnderIs pool p command h u
@@ -53,15 +53,14 @@ under_at pool (place.SetSlot p) (Access gfn word op) h u under = absurd under
 
 -- The line has begun and stands at this place; the facts are what the words say.
 pub record Ready (z : Sizes) (v : View) (line : Line) (command : Command) (p : Place) (t : Topics) (facts : Facts) (u : LineUnderWay) : Type 0 where
-  pub refines : Refines z (v.words area.Pool) (v.words area.Content) facts
+  pub refines : Refines z (v.words area.Slots 0) (v.words area.Pool) (v.words area.Content) facts
   pub under : UnderAt (v.words area.Pool) p line command t u
 
 -- What the step tells is allowed; behind it the facts are what the words say, and the line stands at this place.
-pub record Goes (z : Sizes) (actor : Actor) (line : Line) (command : Command) (words after : Area → ℕ → ℕ) (p : Place) (t : Topics) (kinds : List EventKind) (facts : Facts) (u : LineUnderWay) : Type 0 where
+pub record Goes (z : Sizes) (actor : Actor) (line : Line) (command : Command) (after : Area → ℕ → ℕ) (p : Place) (t : Topics) (kinds : List EventKind) (facts : Facts) (u : LineUnderWay) : Type 0 where
   pub allowed : AreAllowed z actor kinds facts u
-  pub refines : Refines z (after area.Pool) (after area.Content) (facts_behind kinds facts)
+  pub refines : Refines z (after area.Slots 0) (after area.Pool) (after area.Content) (facts_behind kinds facts)
   pub under : UnderAt (after area.Pool) p line command t (line_behind kinds facts u)
-  pub live : StayLive (words area.Pool) (after area.Pool)
 
 -- the same of the actor's step, once its line has begun
 abbrev pub StepGoes : Sizes → View → ℕ → Line → Command → Place → Facts → LineUnderWay → Type 0
@@ -69,22 +68,28 @@ StepGoes z v a line command p facts u =
     let h : Held = v.hand a in
     let task : Task = task_at p command h in
     let x : ℕ = answer_in task v.words in
-    Goes z h.state.actor line command v.words (words_after task v.words) (place_after (outcome_at p command h x)) (topics_after h.state.sizes (kind_of_task h.state.sizes task) h.topics x)
+    Goes z h.state.actor line command (words_after task v.words) (place_after (outcome_at p command h x)) (topics_after h.state.sizes (kind_of_task h.state.sizes task) h.topics x)
     (tells_at p command h x ++ answering (outcome_at p command h x) line) facts u
 
--- A step leaves the published slot set's page, and all content.
+-- A step leaves which slot set is published, the words of its page, and all content.
 pub record Leaves (before after : Area → ℕ → ℕ) : Type 0 where
-  pub pool : SetStays (before area.Pool) (after area.Pool)
+  pub slots : after area.Slots 0 ≡ before area.Slots 0
+  pub pool : SetStays (before area.Slots 0) (before area.Pool) (after area.Pool)
   pub content : after area.Content ≡ before area.Content
 
--- So does each step of a part.
-pub part_leaves : (z : Sizes) (v : View) (a : ℕ) (step : PartStep) (note : ℕ) → IsPart z v a step → Invariant z v → TopicsInvariant z v → Leaves v.words ((part_stepped a step note v).words)
-part_leaves z v a step note S I P = record { pool = published_stays z v a step note S P I.set.published; content = areas_stay v a step note area.Content refl }
+-- So does each step of a part but a publication.
+pub part_leaves : (z : Sizes) (v : View) (a : ℕ) (step : PartStep) (note : ℕ) → IsPart z v a step → TopicsInvariant z v → is_publish step ≡ false → Leaves v.words ((part_stepped a step note v).words)
+part_leaves z v a step note S P never = record {
+  slots = slots_are v a step note ∙ slots_same step (v.hand a).topics (v.words area.Slots 0) never;
+  pool = published_stays z v a step note S P;
+  content = areas_stay v a step note area.Content refl;
+}
 
 -- The words behind it still stand for the same facts.
-pub refines_stay : (z : Sizes) (before after : Area → ℕ → ℕ) (facts : Facts) → Leaves before after → Refines z (before area.Pool) (before area.Content) facts → Refines z (after area.Pool) (after area.Content) facts
+pub refines_stay : (z : Sizes) (before after : Area → ℕ → ℕ) (facts : Facts) → Leaves before after → Refines z (before area.Slots 0) (before area.Pool) (before area.Content) facts
+    → Refines z (after area.Slots 0) (after area.Pool) (after area.Content) facts
 refines_stay z before after facts L R = record {
-  slots = R.slots ∙ sym (below_stay (before area.Pool) (after area.Pool) L.pool 32 (omega arith));
+  slots = R.slots ∙ sym (below_stay (before area.Slots 0) (before area.Pool) (after area.Pool) L.pool 32 (omega arith)) ∙ ap (λ k. slots_below (after area.Pool) k 32) (sym L.slots);
   host = R.host;
   memory = λ p j lt below. R.memory p j lt below ∙ sym (ap (λ (g : ℕ → ℕ). g (content_index (map_of z) p j)) L.content);
 }

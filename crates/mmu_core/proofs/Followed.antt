@@ -5,42 +5,26 @@ use Rattle.std.proofs.lemmas.List.{map-append}
 use Rattle.core_views.specs.declared.actor.Actor.{Actor}
 use Rattle.core_views.specs.declared.answer.AnsweredLine.{AnsweredLine}
 use Rattle.core_views.specs.declared.event.Event.{Event}
-use Rattle.core_views.specs.declared.place.AccessPlace.{AccessPlace}
-use Rattle.core_views.specs.declared.place.AccessPlace.TheVariants as access
-use Rattle.core_views.specs.declared.place.FaultEnd.TheVariants as end_of
-use Rattle.core_views.specs.declared.place.FaultNext.{FaultNext}
-use Rattle.core_views.specs.declared.place.FaultNext.TheVariants as next_of
-use Rattle.core_views.specs.declared.place.Leaving.TheVariants as leaving
 use Rattle.core_views.specs.declared.place.Place.{Place}
 use Rattle.core_views.specs.declared.place.Place.TheVariants as place
-use Rattle.core_views.specs.declared.place.SetSlotPlace.{SetSlotPlace}
-use Rattle.core_views.specs.declared.place.SetSlotPlace.TheVariants.{Refuse, Fill}
-use Rattle.core_views.specs.declared.place.SlotField.TheVariants as field
 use Rattle.core_views.specs.declared.sizes.Sizes.{Sizes}
-use Rattle.core_views.specs.declared.trace.Command.{Command}
-use Rattle.core_views.specs.declared.trace.Command.TheVariants.{Access, SetSlot}
 use Rattle.core_views.specs.declared.trace.Line.{Line}
-use Rattle.core_views.specs.declared.trace.Op.{Op}
 use Rattle.core_views.specs.Actors.{is_same}
 use Rattle.core_views.specs.Flat.{no_line}
 use Rattle.core_views.specs.Held.{Held}
 use Rattle.core_views.specs.Sizes.{actors_of}
-use Rattle.core_views.specs.Slots.{is_write}
 use Rattle.core_views.specs.Text.{answers_of}
 use Rattle.core_views.specs.Whole.{lines_begun, lines_of}
 use Rattle.mmu_core.specs.declared.outcome.Outcome.{Outcome}
 use Rattle.mmu_core.specs.declared.outcome.Outcome.TheVariants.{Goes, Ends}
-use Rattle.mmu_core.specs.AccessSteps.{access_outcome, behind_fault}
-use Rattle.mmu_core.specs.FaultSteps.{fault_next}
 use Rattle.mmu_core.specs.Histories.{answers_by}
 use Rattle.mmu_core.specs.Invariant.{Invariant}
-use Rattle.mmu_core.specs.Rests.{IsUnderWay}
-use Rattle.mmu_core.specs.SetSlotSteps.{set_slot_outcome}
 use Rattle.mmu_core.specs.Steps.{outcome_at, task_at, tells_at}
 use Rattle.mmu_core.specs.Tasks.{answers_after, place_after}
 use Rattle.mmu_core.specs.View.{View, answer_in, hand_after, upd}
 use Rattle.mmu_core.proofs.Columns.{at_upd}
 use Rattle.mmu_core.proofs.FlatKept.{other_actor, same_actor, told_events}
+use Rattle.mmu_core.proofs.HandAfter.{GoesUnderWay, outcome_goes}
 use Rattle.mmu_core.proofs.LineEvents.{tells_within}
 use Rattle.mmu_core.proofs.Stepping.{IsStep}
 use Rattle.mmu_core.proofs.ToldOf.{answered_with, answers_by_more, answers_told, begins_told, begun_by, begun_by_append, begun_from, other_answers, other_begins, own_answers, own_begins}
@@ -100,39 +84,7 @@ answers_behind : (o : Outcome) (line : Line) (actor : Actor) (answers : List Ans
 answers_behind (Goes p) line actor answers own = sym (append-nil answers)
 answers_behind (Ends answer) line actor answers own = rw own refl
 
--- The line ends, or is under way still.
-abbrev pub StaysUnder : Outcome → Type 0
-StaysUnder (Goes p) = IsUnderWay p
-StaysUnder (Ends answer) = Unit {0}
-
-fault_stays : (next : FaultNext) → StaysUnder (behind_fault next)
-fault_stays (next_of.Goes p) = tt
-fault_stays (next_of.Ends end_of.Installed) = tt
-fault_stays (next_of.Ends end_of.Mmio) = tt
-fault_stays (next_of.Ends end_of.HostFault) = tt
-fault_stays (next_of.Ends end_of.Starved) = tt
-fault_stays (next_of.Ends (end_of.Retry cause)) = tt
-
-access_stays : (p : AccessPlace) (h : Held) (gfn : ℕ) (op : Op) (v : ℕ) → StaysUnder (access_outcome p h gfn op v)
-access_stays (access.Leave (leaving.Reached frame value)) h gfn op v = tt
-access_stays (access.Fault p) h gfn op v = fault_stays (fault_next p h.state.sizes gfn (is_write op) h.topics v)
-access_stays _ h gfn op v = tt
-
-setting_stays : (p : SetSlotPlace) → StaysUnder (set_slot_outcome p)
-setting_stays (Refuse refusal) = tt
-setting_stays (Fill field.Base) = tt
-setting_stays (Fill field.Pages) = tt
-setting_stays (Fill field.Host) = tt
-setting_stays (Fill field.Flags) = tt
-
-pub stays_under : (p : Place) (command : Command) (h : Held) (v : ℕ) → IsUnderWay p → StaysUnder (outcome_at p command h v)
-stays_under (place.Access p) (Access gfn word op) h v under = access_stays p h gfn op v
-stays_under (place.SetSlot p) (SetSlot id slot) h v under = setting_stays p
-stays_under (place.Access p) (SetSlot id slot) h v under = tt
-stays_under (place.SetSlot p) (Access gfn word op) h v under = tt
-stays_under place.Between command h v under = absurd under
-
-begun_behind : (o : Outcome) (line : Line) (answers : List AnsweredLine) → StaysUnder o → begun_count (place_after o) (length (answers_after o line answers)) ≡ suc (length answers)
+begun_behind : (o : Outcome) (line : Line) (answers : List AnsweredLine) → GoesUnderWay o → begun_count (place_after o) (length (answers_after o line answers)) ≡ suc (length answers)
 begun_behind (Goes place.Between) line answers under = absurd under
 begun_behind (Goes (place.Access p)) line answers under = refl
 begun_behind (Goes (place.SetSlot p)) line answers under = refl
@@ -177,7 +129,7 @@ module _ (z : Sizes) (v : View) (a : ℕ) (line : Line) (p : Place) where
     lines = refl;
     answers = answers_behind outcome line (v.hand a).state.actor (v.hand a).answers S.own
         ∙ ap (λ (xs : List AnsweredLine). (v.hand a).answers ++ xs) (sym (ap (filter (λ (x : AnsweredLine). is_same (v.hand a).state.actor x.actor)) step_answers ∙ own_answers (v.hand a).state.actor line outcome));
-    begun = ap (λ m. take m (v.hand a).lines) (begun_behind outcome line (v.hand a).answers (stays_under p line.command (v.hand a) found S.begun))
+    begun = ap (λ m. take m (v.hand a).lines) (begun_behind outcome line (v.hand a).answers (outcome_goes p line.command (v.hand a) found S.begun))
         ∙ take_begun (v.hand a).state.place line (v.hand a).lines (length (v.hand a).answers) S.left S.next
         ∙ ap (λ (xs : List Line). take (begun_lines (v.hand a)) (v.hand a).lines ++ xs) (sym (ap (lines_of (v.hand a).state.actor) step_begins ∙ own_begins (v.hand a).state.actor (v.hand a).state.place line S.own));
     numbers = numbers_behind outcome line (v.hand a).lines (v.hand a).answers S.left S.next;

@@ -1,5 +1,5 @@
 -- Whom a watch has behind it was seen outside, and who comes from outside holds nothing that was loaded before.
-use Rattle.std.proofs.Common.{◌≡◌, ◌≢◌, ◌⊎◌, inl, inr, ◌+◌, ◌<◌, ℕ, List, [], ◌∷◌, length, refl, sym, subst, ap, ◌∙◌, arith}
+use Rattle.std.proofs.Common.{◌≡◌, ◌≢◌, ◌⊎◌, inl, inr, ◌+◌, ◌<◌, ◌≤◌, ℕ, List, [], ◌∷◌, length, refl, sym, subst, ap, ◌∙◌, arith}
 use Rattle.std.specs.Prelude.{Bool, true, false, ◌==◌, not, if◌then◌else◌, None}
 use Rattle.std.proofs.Math.Logic.{∥∥₁_map}
 use Rattle.std.proofs.lemmas.Bool.Decides.{nat_tests}
@@ -47,10 +47,10 @@ hand_there : (w : World Held) (s : Step Kind) (i : ℕ) → i ≢ s.actor → ha
 unfolding effect
 hand_there w s i ne = get_or-set_other w.hands s.actor i _ nobody ne
 
--- A step of a part that is no look leaves the place of the watch.
+-- A step of a part that is no look leaves the place of the watch, or lets the watch begin anew.
 record IsNoLook (step : PartStep) : Type 0 where
   code : (own note : ℕ) (t : Topics) → code_of (part_task step own t note).kind ≢ code_of kind.Watch
-  watched : (t : Topics) (v : ℕ) → (part_topics step t v).watched ≡ t.watched
+  watched : (t : Topics) (v : ℕ) → (part_topics step t v).watched ≤ t.watched
 
 fill_code : (page filled value note : ℕ) → code_of (fill_task page filled value note).kind ≢ code_of kind.Watch
 fill_code page filled value note = by (filled == 512)
@@ -61,8 +61,8 @@ fill_code page filled value note = by (filled == 512)
 
 look_or_not : (step : PartStep) → ((index : ℕ) × (step ≡ part.Watch index)) ⊎ IsNoLook step
 look_or_not (part.Watch index) = inl (index, refl)
-look_or_not (part.Fill value) = inr (record { code = λ own note t. fill_code _ _ value note; watched = λ t v. refl })
-look_or_not _ = inr (record { code = λ own note t e. absurd (omega (arith, e)); watched = λ t v. refl })
+look_or_not (part.Fill value) = inr (record { code = λ own note t. fill_code _ _ value note; watched = λ t v. omega arith })
+look_or_not _ = inr (record { code = λ own note t e. absurd (omega (arith, e)); watched = λ t v. omega arith })
 
 -- who stands before the next one to be watched was watched, or is the own actor
 below_next : (own_ seen i : ℕ) → i < next_watched own_ seen → i ≢ own_ → i < seen
@@ -149,6 +149,9 @@ own_look z w s i G may ne lt = by (step_kind h s.kind may.enabled)
     behind : hand_in mmu (effect mmu w s) s.actor ≡ next h s.kind (answered mmu w s.kind)
     behind = hand_here w s may.there
 
+    below : {m n : ℕ} → i < m → m ≤ n → i < n
+    below lt le = omega (arith, lt, le)
+
     part_look : (N : IsPartKind h s.kind) → (((index : ℕ) × (N.step ≡ part.Watch index)) ⊎ IsNoLook N.step)
         → (IsLook z s.actor i s × ((topics_in w i).stay ≡ Outside)) ⊎ ((i < h.topics.watched) × (IsLook z s.actor (next_watched s.actor 0) s → ⊥))
     part_look N (inl (j, e)) = watch_look z w s i j N.note G may (N.is ∙ ap (λ x. part_kind h x N.note) e) (subst (λ x. PartNeeds x h) e N.needs) ne lt
@@ -156,7 +159,7 @@ own_look z w s i G may ne lt = by (step_kind h s.kind may.enabled)
         let v = answered mmu w s.kind in
         let topics : (topics_in (effect mmu w s) s.actor) ≡ part_topics N.step h.topics v = ap (λ (x : Held). x.topics) behind ∙ ap (λ (k : Kind). (next h k v).topics) N.is ∙ topics_behind h N.step N.note v N.needs in
         inr (
-          subst (λ n. i < n) (ap (λ (t : Topics). t.watched) topics ∙ no_look.watched h.topics v) lt,
+          below (subst (λ (t : Topics). i < t.watched) topics lt) (no_look.watched h.topics v),
           λ L. no_look.code (own_index h) N.note h.topics (sym (ap (λ (k : Kind). k.code) N.is) ∙ L.watch),
         )
 

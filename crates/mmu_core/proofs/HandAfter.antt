@@ -1,6 +1,6 @@
 -- What one step makes of its actor's hand.
 use Rattle.std.proofs.Common.{◌≡◌, ◌<◌, ℕ, length, refl, sym, subst}
-use Rattle.std.specs.Prelude.{Bool, true, false}
+use Rattle.std.specs.Prelude.{Bool, true, false, ◌+◌, ◌==◌, if◌then◌else◌, nat_lt}
 use Rattle.core_views.specs.declared.hand.State.{State}
 use Rattle.core_views.specs.declared.kind.Kind.{Kind}
 use Rattle.core_views.specs.declared.place.AccessPlace.{AccessPlace}
@@ -13,8 +13,10 @@ use Rattle.core_views.specs.declared.place.Leaving.TheVariants as leaving
 use Rattle.core_views.specs.declared.place.Place.{Place}
 use Rattle.core_views.specs.declared.place.Place.TheVariants as place
 use Rattle.core_views.specs.declared.place.SetSlotPlace.{SetSlotPlace}
-use Rattle.core_views.specs.declared.place.SetSlotPlace.TheVariants.{Refuse, Fill}
-use Rattle.core_views.specs.declared.place.SlotField.TheVariants as field
+use Rattle.core_views.specs.declared.place.SetSlotPlace.TheVariants.{Claim}
+use Rattle.core_views.specs.declared.sizes.Sizes.{Sizes}
+use Rattle.core_views.specs.declared.topics.MapClaim.{MapClaim}
+use Rattle.core_views.specs.declared.answer.Answer.TheVariants.{Starved}
 use Rattle.core_views.specs.declared.trace.Command.{Command}
 use Rattle.core_views.specs.declared.trace.Command.TheVariants.{Access, SetSlot}
 use Rattle.core_views.specs.declared.trace.Line.{Line}
@@ -24,9 +26,10 @@ use Rattle.core_views.specs.Slots.{is_write}
 use Rattle.mmu_core.specs.declared.outcome.Outcome.{Outcome}
 use Rattle.mmu_core.specs.declared.outcome.Outcome.TheVariants.{Goes, Ends}
 use Rattle.mmu_core.specs.AccessSteps.{access_loads, access_outcome, behind_fault, fault_over}
-use Rattle.mmu_core.specs.FaultSteps.{fault_next}
+use Rattle.mmu_core.specs.FaultSteps.{at_map_word, fault_next, tries_page}
 use Rattle.mmu_core.specs.Rests.{IsUnderWay}
-use Rattle.mmu_core.specs.SetSlotSteps.{set_slot_outcome}
+use Rattle.mmu_core.specs.SetSlotSteps.{claim_outcome, set_slot_outcome}
+use Rattle.spte_words.specs.Areas.{words_of_bits}
 use Rattle.mmu_core.specs.Steps.{has_line, held_after, line_at, loads_at, next, next_by, outcome_at, place_at}
 use Rattle.mmu_core.proofs.Stepping.{is_begun}
 use Rattle.mmu_core.proofs.Which.{has_line_is, next_of_line}
@@ -63,7 +66,7 @@ next_same h k v = by (has_line h)
     by false = record { actor = refl; sizes = refl; lines = refl }
 
 -- A line that has begun goes on to a place where it is under way, or is answered.
-abbrev GoesUnderWay : Outcome → Type 0
+abbrev pub GoesUnderWay : Outcome → Type 0
 GoesUnderWay (Goes p) = IsUnderWay p
 GoesUnderWay (Ends answer) = Unit {0}
 
@@ -88,19 +91,24 @@ access_goes (Leave (leaving.Reached frame value)) h gfn op v = tt
 access_goes (Leave leaving.Faults) h gfn op v = tt
 access_goes (Fault p) h gfn op v = fault_goes (fault_next p h.state.sizes gfn (is_write op) h.topics v)
 
-set_slot_goes : (p : SetSlotPlace) → GoesUnderWay (set_slot_outcome p)
-set_slot_goes (Refuse refusal) = tt
-set_slot_goes (Fill field.Base) = tt
-set_slot_goes (Fill field.Pages) = tt
-set_slot_goes (Fill field.Host) = tt
-set_slot_goes (Fill field.Flags) = tt
+claim_goes : (tries : Bool) (z : Sizes) (claim : MapClaim) (v : ℕ) → GoesUnderWay (claim_outcome tries z claim v)
+claim_goes true z claim v = tt
+claim_goes false z claim v = by (nat_lt (claim.at + (if v == 0 then 1 else 0)) (words_of_bits z.pool))
+  where
+    by : (b : Bool) → GoesUnderWay (if b then Goes (place.SetSlot (Claim true)) else Ends Starved)
+    by true = tt
+    by false = tt
 
-outcome_goes : (p : Place) (command : Command) (h : Held) (v : ℕ) → IsUnderWay p → GoesUnderWay (outcome_at p command h v)
+set_slot_goes : (p : SetSlotPlace) (h : Held) (v : ℕ) → GoesUnderWay (set_slot_outcome p h v)
+set_slot_goes (Claim begun) h v = claim_goes (tries_page begun h.topics.claim) h.state.sizes (at_map_word begun h.topics.claim) v
+set_slot_goes _ h v = tt
+
+pub outcome_goes : (p : Place) (command : Command) (h : Held) (v : ℕ) → IsUnderWay p → GoesUnderWay (outcome_at p command h v)
 outcome_goes place.Between command h v begun = absurd begun
 outcome_goes (place.Access p) (Access gfn word op) h v begun = access_goes p h gfn op v
 outcome_goes (place.Access p) (SetSlot id slot) h v begun = tt
 outcome_goes (place.SetSlot p) (Access gfn word op) h v begun = tt
-outcome_goes (place.SetSlot p) (SetSlot id slot) h v begun = set_slot_goes p
+outcome_goes (place.SetSlot p) (SetSlot id slot) h v begun = set_slot_goes p h v
 
 comes : (o : Outcome) (line : Line) (h g : Held) → GoesUnderWay o → g.state.place ≡ place_after o → g.state.line ≡ line → g.answers ≡ answers_after o line h.answers → Comes o line h g
 comes (Goes p) line h g goes stands line_is answers = record { under_way = rw stands goes; line_is = line_is; answers = answers }

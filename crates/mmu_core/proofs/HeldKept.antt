@@ -39,7 +39,7 @@ use Rattle.mmu_core.proofs.Standing.{entry_now, position_below, stands_after, wi
 
 -- what is said of what each hand holds, and of its counters, of a view
 abbrev pub HeldAt : Sizes → (ℕ → Option Position) → View → Type 0
-HeldAt z stands v = (i : ℕ) → i < actors_of z → HeldPart (v.words area.Slots 0) stands (v.hand i).topics
+HeldAt z stands v = (i : ℕ) → i < actors_of z → HeldPart stands (v.hand i).topics
 
 abbrev pub CountersAt : Sizes → View → Type 0
 CountersAt z v = (i : ℕ) → i < actors_of z → CountersPart z (v.hand i).topics
@@ -69,7 +69,7 @@ added_stands page q stands = let same : (page == page) ≡ true = grind (arith, 
 pub stays_standing : (z : Sizes) (v : View) (a : ℕ) (step : PartStep) → IsPart z v a step → (I : TopicsInvariant z v) → StaysStanding I.stands (stands_after step (v.hand a).topics v I.stands)
 stays_standing z v a (part.Link gfn) S I =
     added_stays _ (page_owned (v.hand a).topics.owned) _ I.stands (λ p is. let O = S.needs.3 in
-    owned_no_table (actors_of z) z.pool (v.words area.Slots 0) (v.words area.PoolMap) (λ i. (v.hand i).topics.owned) I.stands I.pool_part a O.owned p S.there O.is (sym (ap (λ o. I.stands (page_owned o)) O.is) ∙ is))
+    owned_no_table (actors_of z) z.pool (v.words area.Slots 0) (v.words area.PoolMap) (λ i. (v.hand i).topics.owned) (λ i. (v.hand i).topics.leaving) I.stands I.pool_part a O.owned p S.there O.is (sym (ap (λ o. I.stands (page_owned o)) O.is) ∙ is))
 stays_standing z v a _ S I = λ k p is. is
 
 -- ---- Where the entries of tables lead to.
@@ -109,45 +109,39 @@ never_or : (b : Bool) → (b || true) ≡ false → ⊥
 never_or true e = cc
 never_or false e = cc
 
-begun_held : (slots : ℕ) (stands : ℕ → Option Position) (stay : Stay) (t : Topics) → HeldPart slots stands (begun stay t)
-begun_held slots stands stay t = record { table = λ from. absurd (omega (arith, from)); set = λ k e. absurd (cc e); no_table = λ f. refl; no_set = λ f. refl }
+begun_held : (stands : ℕ → Option Position) (stay : Stay) (t : Topics) → HeldPart stands (begun stay t)
+begun_held stands stay t = record { table = λ from. absurd (omega (arith, from)); no_table = λ f. refl; no_set = λ f. refl }
 
-shared_held : (slots : ℕ) (stands : ℕ → Option Position) (t : Topics) (b : Bool) (w : ℕ) → t.hold ≡ Loose → HeldPart slots stands t → HeldPart slots stands (record t { hold = if b then Owing w else Shared; invalidations = unchecked t.invalidations })
-shared_held slots stands t true w is H = record {
+shared_held : (stands : ℕ → Option Position) (t : Topics) (b : Bool) (w : ℕ) → t.hold ≡ Loose → HeldPart stands t → HeldPart stands (record t { hold = if b then Owing w else Shared; invalidations = unchecked t.invalidations })
+shared_held stands t true w is H = record {
   table = H.table;
-  set = H.set;
   no_table = λ f. H.no_table (ap (λ (h : Hold). may_walk t.stay h) is ∙ f);
   no_set = λ f. H.no_set (ap (λ (h : Hold). may_search t.stay h) is ∙ f);
 }
-shared_held slots stands t false w is H = record {
+shared_held stands t false w is H = record {
   table = H.table;
-  set = H.set;
   no_table = λ f. absurd (never_or _ f);
   no_set = λ f. H.no_set (ap (λ (h : Hold). may_search t.stay h) is ∙ f);
 }
 
-excluded_held : (slots : ℕ) (stands : ℕ → Option Position) (t : Topics) (b : Bool) → HeldPart slots stands t → HeldPart slots stands (record t { hold = if b then Exclusive else t.hold; invalidations = unchecked t.invalidations })
-excluded_held slots stands t true H = record { table = H.table; set = H.set; no_table = λ f. absurd (never_or _ f); no_set = λ f. absurd (never_or _ f) }
-excluded_held slots stands t false H = record { table = H.table; set = H.set; no_table = H.no_table; no_set = H.no_set }
+excluded_held : (stands : ℕ → Option Position) (t : Topics) (b : Bool) → HeldPart stands t → HeldPart stands (record t { hold = if b then Exclusive else t.hold; invalidations = unchecked t.invalidations })
+excluded_held stands t true H = record { table = H.table; no_table = λ f. absurd (never_or _ f); no_set = λ f. absurd (never_or _ f) }
+excluded_held stands t false H = record { table = H.table; no_table = H.no_table; no_set = H.no_set }
 
-let_go_held : (slots : ℕ) (stands : ℕ → Option Position) (t : Topics) (stay : Stay) → HeldPart slots stands t → HeldPart slots stands (let_go (record t { stay = stay }))
-let_go_held slots stands t Outside H = record { table = λ from. absurd (omega (arith, from)); set = λ k e. absurd (cc e); no_table = λ f. refl; no_set = λ f. refl }
-let_go_held slots stands t Guest H = record { table = H.table; set = λ k e. absurd (cc e); no_table = λ f. absurd (cc f); no_set = λ f. refl }
-let_go_held slots stands t Section H = record { table = H.table; set = H.set; no_table = λ f. absurd (cc f); no_set = λ f. absurd (cc f) }
+let_go_held : (stands : ℕ → Option Position) (t : Topics) (stay : Stay) → HeldPart stands t → HeldPart stands (let_go (record t { stay = stay }))
+let_go_held stands t Outside H = record { table = λ from. absurd (omega (arith, from)); no_table = λ f. refl; no_set = λ f. refl }
+let_go_held stands t Guest H = record { table = H.table; no_table = λ f. absurd (cc f); no_set = λ f. refl }
+let_go_held stands t Section H = record { table = H.table; no_table = λ f. absurd (cc f); no_set = λ f. absurd (cc f) }
 
-root_held : (slots root : ℕ) (stands : ℕ → Option Position) (t : Topics) → stands root ≡ Some (at 4 0) → HeldPart slots stands t → HeldPart slots stands (record t { walk = at_root (may_walk t.stay t.hold) t.walk root })
-root_held slots root stands t is H = record { table = by (may_walk t.stay t.hold); set = H.set; no_table = λ f. ap (λ (b : Bool). (at_root b t.walk root).level) f; no_set = H.no_set }
+root_held : (root : ℕ) (stands : ℕ → Option Position) (t : Topics) → stands root ≡ Some (at 4 0) → HeldPart stands t → HeldPart stands (record t { walk = at_root (may_walk t.stay t.hold) t.walk root })
+root_held root stands t is H = record { table = by (may_walk t.stay t.hold); no_table = λ f. ap (λ (b : Bool). (at_root b t.walk root).level) f; no_set = H.no_set }
   where
     by : (b : Bool) → 1 ≤ (at_root b t.walk root).level → stands (table_page (at_root b t.walk root)) ≡ Some (at (at_root b t.walk root).level (at_root b t.walk root).prefix)
     by true from = is
     by false from = absurd (omega (arith, from))
 
-slots_held : (slots : ℕ) (stands : ℕ → Option Position) (t : Topics) → HeldPart slots stands t → HeldPart slots stands (record t { search = at_set (may_search t.stay t.hold) t.search slots })
-slots_held slots stands t H = record { table = H.table; set = by (may_search t.stay t.hold); no_table = H.no_table; no_set = λ f. ap (λ (b : Bool). (at_set b t.search slots).set) f }
-  where
-    by : (b : Bool) (k : ℕ) → (at_set b t.search slots).set ≡ Some k → k ≡ slots
-    by true k e = cc
-    by false k e = absurd (cc e)
+slots_held : (slots : ℕ) (stands : ℕ → Option Position) (t : Topics) → HeldPart stands t → HeldPart stands (record t { search = at_set (may_search t.stay t.hold) t.search slots })
+slots_held slots stands t H = record { table = H.table; no_table = H.no_table; no_set = λ f. ap (λ (b : Bool). (at_set b t.search slots).set) f }
 
 -- a search goes on in the same slot set
 searched_set : (f : SlotField) (s : SlotSearch) (v : ℕ) → (searched_at f s v).set ≡ s.set
@@ -156,40 +150,37 @@ searched_set field.Base s v = refl
 searched_set field.Pages s v = refl
 searched_set field.Host s v = refl
 
-set_kept : (b : Bool) (s : SlotSearch) (v : ℕ) → (if b then searched s v else s).set ≡ s.set
+pub set_kept : (b : Bool) (s : SlotSearch) (v : ℕ) → (if b then searched s v else s).set ≡ s.set
 set_kept true s v = searched_set s.next s v
 set_kept false s v = refl
 
-slot_held : (slots : ℕ) (stands : ℕ → Option Position) (t : Topics) (b : Bool) (v : ℕ) → HeldPart slots stands t → HeldPart slots stands (record t { search = if b then searched t.search v else t.search })
-slot_held slots stands t b v H = record {
+slot_held : (stands : ℕ → Option Position) (t : Topics) (b : Bool) (v : ℕ) → HeldPart stands t → HeldPart stands (record t { search = if b then searched t.search v else t.search })
+slot_held stands t b v H = record {
   table = H.table;
-  set = λ k e. H.set k (sym (set_kept b t.search v) ∙ e);
   no_table = H.no_table;
   no_set = λ f. set_kept b t.search v ∙ H.no_set f;
 }
 
 -- a snapshot lets the search go, or leaves it
-snapshot_held : (slots : ℕ) (stands : ℕ → Option Position) (t s : Topics) (b : Bool) → s.stay ≡ t.stay → s.hold ≡ t.hold → s.walk ≡ t.walk → s.search ≡ (if b then kept_search false t.search else t.search) → HeldPart slots stands t → HeldPart slots stands s
-snapshot_held slots stands t s true stay hold walk search H = record {
+snapshot_held : (stands : ℕ → Option Position) (t s : Topics) (b : Bool) → s.stay ≡ t.stay → s.hold ≡ t.hold → s.walk ≡ t.walk → s.search ≡ (if b then kept_search false t.search else t.search) → HeldPart stands t → HeldPart stands s
+snapshot_held stands t s true stay hold walk search H = record {
   table = subst (λ (y : TableWalk). 1 ≤ y.level → stands (table_page y) ≡ Some (at y.level y.prefix)) (sym walk) H.table;
-  set = λ k e. absurd (let none : s.search.set ≡ None = ap (λ (y : SlotSearch). y.set) search in cc (e, none));
   no_table = λ f. ap (λ (y : TableWalk). y.level) walk ∙ H.no_table (sym (ap (λ (y : Stay). may_walk y s.hold) stay ∙ ap (λ (y : Hold). may_walk t.stay y) hold) ∙ f);
   no_set = λ f. ap (λ (y : SlotSearch). y.set) search;
 }
-snapshot_held slots stands t s false stay hold walk search H = record {
+snapshot_held stands t s false stay hold walk search H = record {
   table = subst (λ (y : TableWalk). 1 ≤ y.level → stands (table_page y) ≡ Some (at y.level y.prefix)) (sym walk) H.table;
-  set = λ k e. H.set k (sym (ap (λ (y : SlotSearch). y.set) search) ∙ e);
   no_table = λ f. ap (λ (y : TableWalk). y.level) walk ∙ H.no_table (sym (ap (λ (y : Stay). may_walk y s.hold) stay ∙ ap (λ (y : Hold). may_walk t.stay y) hold) ∙ f);
   no_set = λ f. ap (λ (y : SlotSearch). y.set) search ∙ H.no_set (sym (ap (λ (y : Stay). may_search y s.hold) stay ∙ ap (λ (y : Hold). may_search t.stay y) hold) ∙ f);
 }
 
 -- a hand that keeps what it holds
-same_held : (slots : ℕ) (stands : ℕ → Option Position) (t s : Topics) → s.stay ≡ t.stay → s.hold ≡ t.hold → s.walk ≡ t.walk → s.search ≡ t.search → HeldPart slots stands t → HeldPart slots stands s
-same_held slots stands t s stay hold walk search H = snapshot_held slots stands t s false stay hold walk search H
+same_held : (stands : ℕ → Option Position) (t s : Topics) → s.stay ≡ t.stay → s.hold ≡ t.hold → s.walk ≡ t.walk → s.search ≡ t.search → HeldPart stands t → HeldPart stands s
+same_held stands t s stay hold walk search H = snapshot_held stands t s false stay hold walk search H
 
 -- the tables stand where they stood
-pub held_stays : (slots : ℕ) (before after : ℕ → Option Position) (t : Topics) → StaysStanding before after → HeldPart slots before t → HeldPart slots after t
-held_stays slots before after t stays H = record { table = λ from. stays _ _ (H.table from); set = H.set; no_table = H.no_table; no_set = H.no_set }
+pub held_stays : (before after : ℕ → Option Position) (t : Topics) → StaysStanding before after → HeldPart before t → HeldPart after t
+held_stays before after t stays H = record { table = λ from. stays _ _ (H.table from); no_table = H.no_table; no_set = H.no_set }
 
 -- The page that a walk goes down to is its table there.
 pub page_below : (level root third second first page : ℕ) → 2 ≤ level → level ≤ 4
@@ -202,17 +193,15 @@ page_below (suc (suc (suc (suc zero)))) root third second first page from to = r
 page_below (suc (suc (suc (suc (suc level))))) root third second first page from to = absurd (omega arith)
 
 -- An entry was loaded, or exchanged: the walk goes down where it is a link, and else stays.
-gone_held : (slots : ℕ) (stands : ℕ → Option Position) (t s : Topics) (j v : ℕ) (o : Option ℕ) → s.stay ≡ t.stay → s.hold ≡ t.hold → s.search ≡ t.search → s.walk ≡ gone_down o t.walk j v → t.walk.level ≤ 4 → LeadsDown stands (at t.walk.level t.walk.prefix) j o
-    → HeldPart slots stands t → HeldPart slots stands s
-gone_held slots stands t s j v None stay hold search walk to leads H = record {
+gone_held : (stands : ℕ → Option Position) (t s : Topics) (j v : ℕ) (o : Option ℕ) → s.stay ≡ t.stay → s.hold ≡ t.hold → s.search ≡ t.search → s.walk ≡ gone_down o t.walk j v → t.walk.level ≤ 4 → LeadsDown stands (at t.walk.level t.walk.prefix) j o
+    → HeldPart stands t → HeldPart stands s
+gone_held stands t s j v None stay hold search walk to leads H = record {
   table = subst (λ (y : TableWalk). 1 ≤ y.level → stands (table_page y) ≡ Some (at y.level y.prefix)) (sym walk) H.table;
-  set = λ k e. H.set k (sym (ap (λ (y : SlotSearch). y.set) search) ∙ e);
   no_table = λ f. ap (λ (y : TableWalk). y.level) walk ∙ H.no_table (sym (ap (λ (y : Stay). may_walk y s.hold) stay ∙ ap (λ (y : Hold). may_walk t.stay y) hold) ∙ f);
   no_set = λ f. ap (λ (y : SlotSearch). y.set) search ∙ H.no_set (sym (ap (λ (y : Stay). may_search y s.hold) stay ∙ ap (λ (y : Hold). may_search t.stay y) hold) ∙ f);
 }
-gone_held slots stands t s j v (Some page) stay hold search walk to leads H = record {
+gone_held stands t s j v (Some page) stay hold search walk to leads H = record {
   table = subst (λ (y : TableWalk). 1 ≤ y.level → stands (table_page y) ≡ Some (at y.level y.prefix)) (sym walk) (λ from. ap stands (page_below t.walk.level t.walk.root t.walk.third t.walk.second t.walk.first page leads.0 to) ∙ leads.1);
-  set = λ k e. H.set k (sym (ap (λ (y : SlotSearch). y.set) search) ∙ e);
   no_table = λ f. ap (λ (y : TableWalk). y.level) walk ∙ (let none = H.no_table (sym (ap (λ (y : Stay). may_walk y s.hold) stay ∙ ap (λ (y : Hold). may_walk t.stay y) hold) ∙ f) in omega (arith, none));
   no_set = λ f. ap (λ (y : SlotSearch). y.set) search ∙ H.no_set (sym (ap (λ (y : Stay). may_search y s.hold) stay ∙ ap (λ (y : Hold). may_search t.stay y) hold) ∙ f);
 }
@@ -220,22 +209,22 @@ gone_held slots stands t s j v (Some page) stay hold search walk to leads H = re
 -- ---- Each step.
 
 -- what all hands hold, where the actor's holds so
-pub all_held : (z : Sizes) (v : View) (a : ℕ) (h : Held) (stands : ℕ → Option Position) (I : TopicsInvariant z v) → StaysStanding I.stands stands → HeldPart (v.words area.Slots 0) stands h.topics
-    → (i : ℕ) → i < actors_of z → HeldPart (v.words area.Slots 0) stands (upd v.hand a h i).topics
-all_held z v a h stands I stays here = at_upd (λ i (k : Held). i < actors_of z → HeldPart (v.words area.Slots 0) stands k.topics) v.hand a h (λ lt. here) (λ i ne lt. held_stays (v.words area.Slots 0) I.stands stands (v.hand i).topics stays (I.held i lt))
+pub all_held : (z : Sizes) (v : View) (a : ℕ) (h : Held) (stands : ℕ → Option Position) (I : TopicsInvariant z v) → StaysStanding I.stands stands → HeldPart stands h.topics
+    → (i : ℕ) → i < actors_of z → HeldPart stands (upd v.hand a h i).topics
+all_held z v a h stands I stays here = at_upd (λ i (k : Held). i < actors_of z → HeldPart stands k.topics) v.hand a h (λ lt. here) (λ i ne lt. held_stays I.stands stands (v.hand i).topics stays (I.held i lt))
 
 abbrev HeldBehind : Sizes → View → ℕ → ℕ → PartStep → Type 0
 HeldBehind z v a note step = IsPart z v a step → (I : TopicsInvariant z v) → HeldAt z (stands_after step (v.hand a).topics v I.stands) (part_behind a step note v)
 
 -- the step leaves where tables stand
-still_held : (z : Sizes) (v : View) (a : ℕ) (h : Held) (I : TopicsInvariant z v) → HeldPart (v.words area.Slots 0) I.stands h.topics → (i : ℕ) → i < actors_of z → HeldPart (v.words area.Slots 0) I.stands (upd v.hand a h i).topics
+still_held : (z : Sizes) (v : View) (a : ℕ) (h : Held) (I : TopicsInvariant z v) → HeldPart I.stands h.topics → (i : ℕ) → i < actors_of z → HeldPart I.stands (upd v.hand a h i).topics
 still_held z v a h I here = all_held z v a h I.stands I (λ k p is. is) here
 
 fill_held : (z : Sizes) (v : View) (a note value : ℕ) → HeldBehind z v a note (part.Fill value)
 fill_held z v a note value S I =
-    let kept : (i : ℕ) → i < actors_of z → HeldPart (v.words area.Slots 0) I.stands ((part_behind a (part.Fill value) note v).hand i).topics =
-    still_held z v a _ I (same_held (v.words area.Slots 0) I.stands (v.hand a).topics _ refl refl refl refl (I.held a S.there)) in
-    fill_keeps (λ words. (i : ℕ) → i < actors_of z → HeldPart (words area.Slots 0) I.stands ((part_behind a (part.Fill value) note v).hand i).topics)
+    let kept : (i : ℕ) → i < actors_of z → HeldPart I.stands ((part_behind a (part.Fill value) note v).hand i).topics =
+    still_held z v a _ I (same_held I.stands (v.hand a).topics _ refl refl refl refl (I.held a S.there)) in
+    fill_keeps (λ words. (i : ℕ) → i < actors_of z → HeldPart I.stands ((part_behind a (part.Fill value) note v).hand i).topics)
     (page_owned (v.hand a).topics.owned) (words_filled (v.hand a).topics.owned) value note v.words kept kept
 
 -- Each table is a page of the pool, so its number fits a link.
@@ -252,20 +241,20 @@ walk_held z v a note gfn S I =
     let from = S.needs.there in
     let j : ℕ = entry_index gfn t.walk.level in
     let H = I.held a S.there in
-    still_held z v a _ I (gone_held (v.words area.Slots 0) I.stands t _ j _ _ refl refl refl refl (walk_level z v a S.there I from)
+    still_held z v a _ I (gone_held I.stands t _ j _ _ refl refl refl refl (walk_level z v a S.there I from)
     (entry_leads_down (v.words area.Pool) (v.words area.Host) (v.words area.Slots 0) I.stands (at t.walk.level t.walk.prefix) j _ (table_small z v a (part.Walk gfn) S I) (I.tree.entries (table_page t.walk) _ (H.table from) j (omega arith))) H)
 
 -- an exchange, won or lost
-exchanged_held : (slots : ℕ) (stands : ℕ → Option Position) (t : Topics) (won : Bool) (j new_ v : ℕ) → t.walk.level ≤ 4 → (won ≡ true → LeadsDown stands (at t.walk.level t.walk.prefix) j (linked_page (kind_of t.walk.level new_)))
-    → HeldPart slots stands t → HeldPart slots stands (exchanged won j new_ t v)
-exchanged_held slots stands t true j new_ v to leads H = gone_held slots stands t _ j new_ (linked_page (kind_of t.walk.level new_)) refl refl refl refl to (leads refl) H
-exchanged_held slots stands t false j new_ v to leads H = gone_held slots stands t _ j v None refl refl refl refl to tt H
+exchanged_held : (stands : ℕ → Option Position) (t : Topics) (won : Bool) (j new_ v : ℕ) → t.walk.level ≤ 4 → (won ≡ true → LeadsDown stands (at t.walk.level t.walk.prefix) j (linked_page (kind_of t.walk.level new_)))
+    → HeldPart stands t → HeldPart stands (exchanged won j new_ t v)
+exchanged_held stands t true j new_ v to leads H = gone_held stands t _ j new_ (linked_page (kind_of t.walk.level new_)) refl refl refl refl to (leads refl) H
+exchanged_held stands t false j new_ v to leads H = gone_held stands t _ j v None refl refl refl refl to tt H
 
 link_held : (z : Sizes) (v : View) (a note gfn : ℕ) → HeldBehind z v a note (part.Link gfn)
 link_held z v a note gfn S I =
-    all_held z v a _ _ I stays (exchanged_held (v.words area.Slots 0) (with_table won page below I.stands) t won (entry_index gfn t.walk.level) (link_written t) _ (walk_level z v a S.there I S.needs.0.saw.over.there)
+    all_held z v a _ _ I stays (exchanged_held (with_table won page below I.stands) t won (entry_index gfn t.walk.level) (link_written t) _ (walk_level z v a S.there I S.needs.0.saw.over.there)
     (λ is. link_leads_down (with_table won page below I.stands) (at t.walk.level t.walk.prefix) (entry_index gfn t.walk.level) page S.needs.1 small (subst (λ b. with_table b page below I.stands page ≡ Some below) (sym is) (added_stands page below I.stands)))
-    (held_stays (v.words area.Slots 0) I.stands (with_table won page below I.stands) t stays (I.held a S.there)))
+    (held_stays I.stands (with_table won page below I.stands) t stays (I.held a S.there)))
   where
     t : Topics
     t = (v.hand a).topics
@@ -288,27 +277,28 @@ link_held z v a note gfn S I =
 leaf_held : (z : Sizes) (v : View) (a note gfn : ℕ) → HeldBehind z v a note (part.Leaf gfn)
 leaf_held z v a note gfn S I =
     let t : Topics = (v.hand a).topics in
-    still_held z v a _ I (exchanged_held (v.words area.Slots 0) I.stands t (entry_now gfn t v == t.walk.entry) (entry_index gfn t.walk.level) (leaf_written t) _ (walk_level z v a S.there I S.needs.0.saw.over.there)
+    still_held z v a _ I (exchanged_held I.stands t (entry_now gfn t v == t.walk.entry) (entry_index gfn t.walk.level) (leaf_written t) _ (walk_level z v a S.there I S.needs.0.saw.over.there)
     (λ is. lowest_leads_down I.stands (at t.walk.level t.walk.prefix) (entry_index gfn t.walk.level) (leaf_written t) S.needs.1) (I.held a S.there))
 
 held_behind : (z : Sizes) (v : View) (a note : ℕ) (step : PartStep) → HeldBehind z v a note step
-held_behind z v a note part.Enter = λ S I. still_held z v a _ I (begun_held (v.words area.Slots 0) I.stands Guest (v.hand a).topics)
-held_behind z v a note part.Leave = λ S I. still_held z v a _ I (begun_held (v.words area.Slots 0) I.stands Outside (v.hand a).topics)
-held_behind z v a note part.Begin = λ S I. still_held z v a _ I (begun_held (v.words area.Slots 0) I.stands Section (v.hand a).topics)
-held_behind z v a note part.End = λ S I. still_held z v a _ I (begun_held (v.words area.Slots 0) I.stands Outside (v.hand a).topics)
-held_behind z v a note part.Share = λ S I. still_held z v a _ I (shared_held (v.words area.Slots 0) I.stands (v.hand a).topics (has_writer (v.words area.Lock 0)) (v.words area.Lock 0) S.needs (I.held a S.there))
-held_behind z v a note part.Unshare = λ S I. still_held z v a _ I (let_go_held (v.words area.Slots 0) I.stands (v.hand a).topics (v.hand a).topics.stay (I.held a S.there))
-held_behind z v a note part.Exclude = λ S I. still_held z v a _ I (excluded_held (v.words area.Slots 0) I.stands (v.hand a).topics (v.words area.Lock 0 == 0) (I.held a S.there))
-held_behind z v a note part.Release = λ S I. still_held z v a _ I (let_go_held (v.words area.Slots 0) I.stands (v.hand a).topics (v.hand a).topics.stay (I.held a S.there))
+held_behind z v a note part.Enter = λ S I. still_held z v a _ I (begun_held I.stands Guest (v.hand a).topics)
+held_behind z v a note part.Leave = λ S I. still_held z v a _ I (begun_held I.stands Outside (v.hand a).topics)
+held_behind z v a note part.Begin = λ S I. still_held z v a _ I (begun_held I.stands Section (v.hand a).topics)
+held_behind z v a note part.End = λ S I. still_held z v a _ I (begun_held I.stands Outside (v.hand a).topics)
+held_behind z v a note part.Share = λ S I. still_held z v a _ I (shared_held I.stands (v.hand a).topics (has_writer (v.words area.Lock 0)) (v.words area.Lock 0) S.needs (I.held a S.there))
+held_behind z v a note part.Unshare = λ S I. still_held z v a _ I (let_go_held I.stands (v.hand a).topics (v.hand a).topics.stay (I.held a S.there))
+held_behind z v a note part.Exclude = λ S I. still_held z v a _ I (excluded_held I.stands (v.hand a).topics (v.words area.Lock 0 == 0) (I.held a S.there))
+held_behind z v a note part.Release = λ S I. still_held z v a _ I (let_go_held I.stands (v.hand a).topics (v.hand a).topics.stay (I.held a S.there))
 held_behind z v a note (part.Fill value) = fill_held z v a note value
 held_behind z v a note part.Slots = λ S I. still_held z v a _ I (slots_held (v.words area.Slots 0) I.stands (v.hand a).topics (I.held a S.there))
-held_behind z v a note part.Slot = λ S I. still_held z v a _ I (slot_held (v.words area.Slots 0) I.stands (v.hand a).topics (is_some (v.hand a).topics.search.set) _ (I.held a S.there))
-held_behind z v a note part.Seq = λ S I. still_held z v a _ I (snapshot_held (v.words area.Slots 0) I.stands (v.hand a).topics _ (is_loose (v.hand a).topics.hold) refl refl refl refl (I.held a S.there))
-held_behind z v a note part.Root = λ S I. still_held z v a _ I (root_held (v.words area.Slots 0) (v.words area.Root 0) I.stands (v.hand a).topics I.tree.root_stands (I.held a S.there))
+held_behind z v a note part.Slot = λ S I. still_held z v a _ I (slot_held I.stands (v.hand a).topics (is_some (v.hand a).topics.search.set) _ (I.held a S.there))
+held_behind z v a note part.Seq = λ S I. still_held z v a _ I (snapshot_held I.stands (v.hand a).topics _ (is_loose (v.hand a).topics.hold) refl refl refl refl (I.held a S.there))
+held_behind z v a note part.Publish = λ S I. still_held z v a _ I (snapshot_held I.stands (v.hand a).topics _ true refl refl refl refl (I.held a S.there))
+held_behind z v a note part.Root = λ S I. still_held z v a _ I (root_held (v.words area.Root 0) I.stands (v.hand a).topics I.tree.root_stands (I.held a S.there))
 held_behind z v a note (part.Walk gfn) = walk_held z v a note gfn
 held_behind z v a note (part.Link gfn) = link_held z v a note gfn
 held_behind z v a note (part.Leaf gfn) = leaf_held z v a note gfn
-held_behind z v a note _ = λ S I. still_held z v a _ I (same_held (v.words area.Slots 0) I.stands (v.hand a).topics _ refl refl refl refl (I.held a S.there))
+held_behind z v a note _ = λ S I. still_held z v a _ I (same_held I.stands (v.hand a).topics _ refl refl refl refl (I.held a S.there))
 
 pub held_kept : (z : Sizes) (v : View) (a : ℕ) (step : PartStep) (note : ℕ) → IsPart z v a step → (I : TopicsInvariant z v) → HeldAt z (stands_after step (v.hand a).topics v I.stands) (part_stepped a step note v)
 held_kept z v a step note S I = behind_step (HeldAt z (stands_after step (v.hand a).topics v I.stands)) z v a step note S (held_behind z v a note step S I)
@@ -442,6 +432,7 @@ counters_behind z v a note part.End = λ S I. all_count z v a _ I (walked_counts
 counters_behind z v a note part.Unshare = λ S I. all_count z v a _ I (walked_counts z (v.hand a).topics _ refl refl refl (let_go_run (v.hand a).topics.stay (v.hand a).topics (I.counters a S.there).run) (I.counters a S.there))
 counters_behind z v a note part.Release = λ S I. all_count z v a _ I (walked_counts z (v.hand a).topics _ refl refl refl (let_go_run (v.hand a).topics.stay (v.hand a).topics (I.counters a S.there).run) (I.counters a S.there))
 counters_behind z v a note part.Seq = λ S I. all_count z v a _ I (same_counts z (v.hand a).topics _ (snapshot_id (is_loose (v.hand a).topics.hold) (v.hand a).topics.search) refl refl refl (I.counters a S.there))
+counters_behind z v a note part.Publish = λ S I. let C = I.counters a S.there in all_count z v a _ I (record { slots = C.slots; claim = C.claim; seen = C.seen; watched = omega arith; run = C.run })
 counters_behind z v a note part.Root = λ S I. all_count z v a _ I (walked_counts z (v.hand a).topics _ refl refl refl (root_run (may_walk (v.hand a).topics.stay (v.hand a).topics.hold) (v.hand a).topics.walk (v.words area.Root 0)) (I.counters a S.there))
 counters_behind z v a note (part.Walk gfn) = λ S I.
     let walk : TableWalk = (v.hand a).topics.walk in

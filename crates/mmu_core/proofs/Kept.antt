@@ -10,10 +10,10 @@ use Rattle.mmu_core.specs.Invariant.{Invariant}
 use Rattle.mmu_core.specs.TopicsInvariant.{TopicsInvariant}
 use Rattle.mmu_core.specs.View.{View, stepped}
 use Rattle.mmu_core.proofs.AccessKept.{access_kept}
-use Rattle.mmu_core.proofs.AccessParts.{AreSmall, makes_parts}
 use Rattle.mmu_core.proofs.KnowsKept.{knows_behind, step_knows}
 use Rattle.mmu_core.proofs.SetSlotKept.{set_slot_kept}
 use Rattle.mmu_core.proofs.Stepping.{IsStep}
+use Rattle.mmu_core.proofs.AccessParts.{AreSmall, makes_parts, makes_setting}
 
 pub step_kept : (z : Sizes) (v : View) (a : ℕ) (line : Line) (command : Command) (p : Place) → AreSmall v → IsStep z v a line command p → Invariant z v → TopicsInvariant z v → Invariant z (stepped a line command p v)
 step_kept z v a line command place.Between small S I P = absurd S.begun
@@ -21,4 +21,4 @@ step_kept z v a line (Access gfn word op) (place.Access p) small S I P =
     access_kept z v a line p gfn word op S I P (step_knows z v a line (Access gfn word op) (place.Access p) S I) (makes_parts z v a line p gfn word op small S I P) (knows_behind z v a line (Access gfn word op) (place.Access p) S I P)
 step_kept z v a line (SetSlot id slot) (place.Access p) small S I P = absurd S.holds
 step_kept z v a line (Access gfn word op) (place.SetSlot p) small S I P = absurd S.holds
-step_kept z v a line (SetSlot id slot) (place.SetSlot p) small S I P = set_slot_kept z v a line p id slot S I (knows_behind z v a line (SetSlot id slot) (place.SetSlot p) S I P)
+step_kept z v a line (SetSlot id slot) (place.SetSlot p) small S I P = set_slot_kept z v a line p id slot S I P (makes_setting z v a line p id slot small S I P) (knows_behind z v a line (SetSlot id slot) (place.SetSlot p) S I P)

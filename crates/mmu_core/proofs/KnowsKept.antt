@@ -14,10 +14,7 @@ use Rattle.core_views.specs.declared.place.Leaving.TheVariants as leaving
 use Rattle.core_views.specs.declared.place.Place.{Place}
 use Rattle.core_views.specs.declared.place.Place.TheVariants as place
 use Rattle.core_views.specs.declared.place.SetSlotPlace.{SetSlotPlace}
-use Rattle.core_views.specs.declared.place.SetSlotPlace.TheVariants.{Refuse, Fill}
-use Rattle.core_views.specs.declared.place.SlotField.TheVariants as field
 use Rattle.core_views.specs.declared.sizes.Sizes.{Sizes}
-use Rattle.core_views.specs.declared.topics.OwnedPage.{OwnedPage}
 use Rattle.core_views.specs.declared.topics.Stay.{Stay}
 use Rattle.core_views.specs.declared.topics.Stay.TheVariants.{Guest}
 use Rattle.core_views.specs.declared.topics.Topics.{Topics}
@@ -45,17 +42,17 @@ use Rattle.mmu_core.specs.Cached.{allows, covers, first_usable, flushed, is_usab
 use Rattle.mmu_core.specs.FaultKnows.{KnowsNext}
 use Rattle.mmu_core.specs.FaultLaws.{CanAnswer}
 use Rattle.mmu_core.specs.FaultSteps.{allows_access, fault_next}
-use Rattle.mmu_core.specs.Invariant.{Invariant, KnowsPart, UnderWay}
-use Rattle.mmu_core.specs.KnowsPart.{AccessKnows, InGuest}
+use Rattle.mmu_core.specs.Invariant.{Invariant, KnowsPart, UnderWay, LeavesPart}
+use Rattle.mmu_core.specs.KnowsPart.{AccessKnows, InGuest, LeavesPart, may_leave}
 use Rattle.mmu_core.specs.PartBounds.{PartRests}
-use Rattle.mmu_core.specs.PartSteps.{IsAtRest, IsOver, IsVcpu, PartNeeds, entry_index, own_index}
-use Rattle.mmu_core.specs.PartTopics.{part_topics, sequenced}
-use Rattle.mmu_core.specs.SetSlotSteps.{set_slot_outcome, set_slot_task}
+use Rattle.mmu_core.specs.PartSteps.{IsAtRest, IsOver, IsVcpu, PartNeeds, entry_index, own_index, words_filled}
+use Rattle.mmu_core.specs.PartTopics.{part_topics}
+use Rattle.mmu_core.specs.SetSlotSteps.{set_slot_outcome, set_slot_task, set_slot_part, set_slot_first, set_slot_note}
 use Rattle.mmu_core.specs.Rests.{IsUnderWay}
-use Rattle.mmu_core.specs.Steps.{caches_at, first_place, has_line, line_at, loads_at, outcome_at, place_at, records_at, standing, task_at}
-use Rattle.mmu_core.specs.Tasks.{answers_after, kind_of_task, place_after}
+use Rattle.mmu_core.specs.Steps.{caches_at, first_place, has_line, line_at, outcome_at, place_at, standing, task_at}
+use Rattle.mmu_core.specs.Tasks.{kind_of_task, place_after}
 use Rattle.mmu_core.specs.TopicsInvariant.{TopicsInvariant}
-use Rattle.mmu_core.specs.TopicSteps.{at_root, filled_more, gone_down, is_loose, linked_page, may_walk, topics_after}
+use Rattle.mmu_core.specs.TopicSteps.{at_root, gone_down, linked_page, may_walk, topics_after}
 use Rattle.mmu_core.specs.View.{View, answer_in, hand_after, part_stepped, stepped}
 use Rattle.mmu_core.proofs.Columns.{at_upd}
 use Rattle.mmu_core.proofs.FaultKnown.{above_lowest, fault_known, gone_over, parts_answer, root_over}
@@ -64,6 +61,14 @@ use Rattle.mmu_core.proofs.PartBounded.{part_rests_at}
 use Rattle.mmu_core.proofs.PartTopics.{is_there, part_topics_is}
 use Rattle.mmu_core.proofs.Stepping.{IsStep}
 use Rattle.mmu_core.proofs.Which.{has_line_is}
+use Rattle.mmu_core.proofs.HandWith.{hand_with}
+use Rattle.mmu_core.proofs.SetSlotKnown.{SettingKnows, set_slot_known, set_slot_needs}
+use Rattle.mmu_core.specs.SetSlotKnows.{SetSlotKnows}
+use Rattle.mmu_core.proofs.SetWords.{value_small}
+use Rattle.mmu_core.proofs.SmallSlots.{in_range, record_small}
+use Rattle.core_views.specs.declared.answer.Refusal.{Refusal}
+use Rattle.core_views.specs.Refusals.{set_refusal}
+use Rattle.core_views.specs.SlotSets.{MemorySlots}
 
 -- what is held behind the step of a part, or behind the touch
 abbrev pub behind_part : Option PartStep → Topics → ℕ → Topics
@@ -73,17 +78,6 @@ behind_part (Some step) t v = part_topics step t v
 abbrev pub CanAnswerBy : Option PartStep → ℕ → Type 0
 CanAnswerBy None v = Unit {0}
 CanAnswerBy (Some step) v = CanAnswer step v
-
--- the hand behind a step of this line, that holds these topics and has this cached
-abbrev pub hand_with : Line → Command → Place → Held → Topics → Buffer Translation → ℕ → Held
-hand_with line command p h t cached v = record {
-  state = record (loads_at p command h v) { line = line; place = place_after (outcome_at p command h v) };
-  topics = t;
-  cached = cached;
-  slots = records_at p command h.slots;
-  lines = h.lines;
-  answers = answers_after (outcome_at p command h v) line h.answers;
-}
 
 -- what it knows behind a step: at rest, where the line is answered
 abbrev pub KnowsBehind : Outcome → Command → Held → Type 0
@@ -178,7 +172,7 @@ access_known (Fault p) line h gfn word op cached v small R K A =
     (fault_known p h gfn v (is_write op) small R K A)
 
 -- The touch leaves the topics, and a step of a part changes them as the part says.
-touch_topics : (z : Sizes) (op : Op) (index : ℕ) (t : Topics) (v : ℕ) → topics_after z (kind_of_task z (touch_of op index)) t v ≡ t
+pub touch_topics : (z : Sizes) (op : Op) (index : ℕ) (t : Topics) (v : ℕ) → topics_after z (kind_of_task z (touch_of op index)) t v ≡ t
 unfolding topics_after
 touch_topics z Read index t v = refl
 touch_topics z (Write x) index t v = refl
@@ -191,29 +185,6 @@ task_topics (Some step) h note op index v N = part_topics_is h.state.sizes step 
 pub task_answers : (s : Option PartStep) (h : Held) (note : ℕ) (touch : Task) (words : Area → ℕ → ℕ) → CanAnswerBy s (answer_in (task_by s h note touch) words)
 task_answers None h note touch words = tt
 task_answers (Some step) h note touch words = parts_answer step (own_index h) h.topics note words
-
--- A slot setting leaves its actor at rest.
-sequenced_rests : (without_lock : Bool) (t : Topics) (v : ℕ) → IsAtRest t → IsAtRest (sequenced without_lock t v)
-sequenced_rests true t v R = record { outside = R.outside; loose = R.loose; owns_none = R.owns_none; no_table = R.no_table; no_set = refl }
-sequenced_rests false t v R = record { outside = R.outside; loose = R.loose; owns_none = R.owns_none; no_table = R.no_table; no_set = R.no_set }
-
-filled_rests : (t : Topics) (v : ℕ) → IsAtRest t → IsAtRest (record t { owned = filled_more t.owned v })
-filled_rests t v R = record { outside = R.outside; loose = R.loose; owns_none = ap (λ (o : Option OwnedPage). filled_more o v) R.owns_none; no_table = R.no_table; no_set = R.no_set }
-
-pub set_slot_rests : (p : SetSlotPlace) (z : Sizes) (id : ℕ) (slot : Slot) (t : Topics) (v : ℕ) → IsAtRest t → IsAtRest (topics_after z (kind_of_task z (set_slot_task p id slot)) t v)
-unfolding topics_after
-set_slot_rests (Refuse refusal) z id slot t v R = subst IsAtRest (sym (part_topics_is z part.Seq 0 t 1 v tt)) (sequenced_rests (is_loose t.hold) t v R)
-set_slot_rests (Fill field.Base) z id slot t v R = filled_rests t v R
-set_slot_rests (Fill field.Pages) z id slot t v R = filled_rests t v R
-set_slot_rests (Fill field.Host) z id slot t v R = filled_rests t v R
-set_slot_rests (Fill field.Flags) z id slot t v R = filled_rests t v R
-
-set_slot_known : (p : SetSlotPlace) (id : ℕ) (slot : Slot) (g : Held) → IsAtRest g.topics → KnowsBehind (set_slot_outcome p) (SetSlot id slot) g
-set_slot_known (Refuse refusal) id slot g R = R
-set_slot_known (Fill field.Base) id slot g R = R
-set_slot_known (Fill field.Pages) id slot g R = R
-set_slot_known (Fill field.Host) id slot g R = R
-set_slot_known (Fill field.Flags) id slot g R = R
 
 -- behind each step of a line, of the actor itself
 abbrev KnowsAfter : Line → Command → Place → Held → ℕ → Type 0
@@ -230,23 +201,45 @@ own_access p line h gfn word op words vcpu small R K =
     (knows_after (access_outcome p h gfn op v) (Access gfn word op) (hand_with line (Access gfn word op) (place.Access p) h (behind_part s h.topics v) cached v)
     (access_known p line h gfn word op cached v small R K (task_answers s h (access_note p) _ words)))
 
-own_set_slot : (p : SetSlotPlace) (line : Line) (h : Held) (id : ℕ) (slot : Slot) (v : ℕ) → IsAtRest h.topics → KnowsAfter line (SetSlot id slot) (place.SetSlot p) h v
-own_set_slot p line h id slot v R =
-    knows_after (set_slot_outcome p) (SetSlot id slot) (hand_after line (SetSlot id slot) (place.SetSlot p) h v)
-    (set_slot_known p id slot (hand_after line (SetSlot id slot) (place.SetSlot p) h v) (set_slot_rests p h.state.sizes id slot h.topics v R))
+-- what a slot setting knows behind a step is what its next place asks
+setting_behind : (o : Outcome) (id : ℕ) (slot : Slot) (g : Held) → SettingKnows o g → KnowsBehind o (SetSlot id slot) g
+setting_behind (Goes (place.SetSlot p)) id slot g K = K
+setting_behind (Goes (place.Access p)) id slot g K = absurd K
+setting_behind (Goes place.Between) id slot g K = absurd K
+setting_behind (Ends answer) id slot g K = K
 
-own_known : (p : Place) (line : Line) (command : Command) (z : Sizes) (h : Held) (words : Area → ℕ → ℕ) → IsUnderWay p → IsCommandFor z h.state.actor command → PartRests h → KnowsPart p command h
+own_set_slot : (p : SetSlotPlace) (line : Line) (h : Held) (id : ℕ) (slot : Slot) (words : Area → ℕ → ℕ) → PartRests h → SetSlotKnows p h → (may_leave (place.SetSlot p) ≡ false → h.topics.leaving ≡ None) → PartNeeds (set_slot_part p h id slot) h
+    → KnowsAfter line (SetSlot id slot) (place.SetSlot p) h (answer_in (set_slot_task p h id slot) words)
+own_set_slot p line h id slot words R K left N =
+    let v : ℕ = answer_in (set_slot_task p h id slot) words in
+    let step : PartStep = set_slot_part p h id slot in
+    let cached : Buffer Translation = flushed (kind_of_task h.state.sizes (set_slot_task p h id slot)) h.cached v in
+    subst (λ (t : Topics). KnowsPart (place_after (set_slot_outcome p h v)) (SetSlot id slot) (hand_with line (SetSlot id slot) (place.SetSlot p) h t cached v))
+    (sym (part_topics_is h.state.sizes step (own_index h) h.topics (set_slot_note p h) v (is_there step h N)))
+    (knows_after (set_slot_outcome p h v) (SetSlot id slot) (hand_with line (SetSlot id slot) (place.SetSlot p) h (part_topics step h.topics v) cached v)
+    (setting_behind (set_slot_outcome p h v) id slot _ (set_slot_known line h id slot cached v R p K left (parts_answer step (own_index h) h.topics (set_slot_note p h) words))))
+
+-- what the step of a slot setting needs, at its places
+abbrev pub NeedsAt : Place → Command → Held → Type 0
+NeedsAt (place.SetSlot p) (SetSlot id slot) h = PartNeeds (set_slot_part p h id slot) h
+NeedsAt _ command h = Unit {0}
+
+own_known : (p : Place) (line : Line) (command : Command) (z : Sizes) (h : Held) (words : Area → ℕ → ℕ) → IsUnderWay p → IsCommandFor z h.state.actor command → PartRests h → KnowsPart p command h → LeavesPart p h.topics → NeedsAt p command h
     → KnowsAfter line command p h (answer_in (task_at p command h) words)
-own_known place.Between line command z h words begun may R K = absurd begun
-own_known (place.Access p) line (Access gfn word op) z h words begun may R K = let V = access_vcpu z h.state.actor gfn word op may in own_access p line h gfn word op words V.0 V.1 R K
-own_known (place.Access p) line (SetSlot id slot) z h words begun may R K = absurd K
-own_known (place.SetSlot p) line (Access gfn word op) z h words begun may R K = absurd K
-own_known (place.SetSlot p) line (SetSlot id slot) z h words begun may R K = own_set_slot p line h id slot _ K
+own_known place.Between line command z h words begun may R K left N = absurd begun
+own_known (place.Access p) line (Access gfn word op) z h words begun may R K left N = let V = access_vcpu z h.state.actor gfn word op may in own_access p line h gfn word op words V.0 V.1 R K
+own_known (place.Access p) line (SetSlot id slot) z h words begun may R K left N = absurd K
+own_known (place.SetSlot p) line (Access gfn word op) z h words begun may R K left N = absurd K
+own_known (place.SetSlot p) line (SetSlot id slot) z h words begun may R K left N = own_set_slot p line h id slot words R K left N
 
 -- what a hand knows where its line stands, also where this is about to begin
 first_known : (z : Sizes) (command : Command) (h : Held) → IsAtRest h.topics → KnowsPart (first_place z h.slots command) command h
 first_known z (Access gfn word op) h R = R
-first_known z (SetSlot id slot) h R = R
+first_known z (SetSlot id slot) h R = by (set_refusal z.pages id slot h.slots)
+  where
+    by : (r : Option Refusal) → SetSlotKnows (set_slot_first r) h
+    by None = (R, λ e. absurd (cc e))
+    by (Some refusal) = R
 
 standing_known : (q : Place) (z : Sizes) (h : Held) → length h.answers < length h.lines → KnowsPart q h.state.line.command h → KnowsPart (standing q z h.slots (line_at q h).command) (line_at q h).command h
 standing_known place.Between z h left K = first_known z (line_at place.Between h).command h (K (has_line_is h left))
@@ -262,13 +255,42 @@ step_knows z v a line command p S I =
     subst (λ q. KnowsPart q command (v.hand a)) S.place_is
     (subst (λ c. KnowsPart (place_at (v.hand a).state.place (v.hand a)) c (v.hand a)) (ap (λ (l : Line). l.command) (sym S.line_is) ∙ S.command_is) (knows_at z v a I S.there S.left))
 
+-- Where a line begins, and up to a publication, no page leaves.
+first_leaves : (z : Sizes) (command : Command) (slots : MemorySlots) (t : Topics) → t.leaving ≡ None → LeavesPart (first_place z slots command) t
+first_leaves z command slots t none = λ may. none
+
+standing_leaves : (q : Place) (z : Sizes) (slots : MemorySlots) (command : Command) (t : Topics) → LeavesPart q t → LeavesPart (standing q z slots command) t
+standing_leaves place.Between z slots command t L = first_leaves z command slots t (L refl)
+standing_leaves (place.Access p) z slots command t L = L
+standing_leaves (place.SetSlot p) z slots command t L = L
+
+pub step_leaves : (z : Sizes) (v : View) (a : ℕ) (line : Line) (command : Command) (p : Place) → IsStep z v a line command p → Invariant z v → LeavesPart p (v.hand a).topics
+step_leaves z v a line command p S I =
+    subst (λ q. LeavesPart q (v.hand a).topics) S.place_is
+    (standing_leaves (v.hand a).state.place (v.hand a).state.sizes (v.hand a).slots (line_at (v.hand a).state.place (v.hand a)).command (v.hand a).topics (I.leaves a S.there))
+
+-- The step of a slot setting has what it needs.
+setting_needs : (z : Sizes) (v : View) (a : ℕ) (line : Line) (p : SetSlotPlace) (id : ℕ) (slot : Slot) → IsStep z v a line (SetSlot id slot) (place.SetSlot p) → Invariant z v → TopicsInvariant z v
+    → PartNeeds (set_slot_part p (v.hand a) id slot) (v.hand a)
+setting_needs z v a line p id slot S I P =
+    let h : Held = v.hand a in
+    set_slot_needs p h id slot (has_line_is h S.left)
+    (value_small id slot h.slots (words_filled h.topics.owned) (in_range z line.actor id slot S.allowed) (record_small z h.lines h.slots (I.lines a S.there).allowed (I.lines a S.there).set))
+    (part_rests_at z v a I P S.there) (step_knows z v a line (SetSlot id slot) (place.SetSlot p) S I)
+
+pub needs_at : (z : Sizes) (v : View) (a : ℕ) (line : Line) (command : Command) (p : Place) → IsStep z v a line command p → Invariant z v → TopicsInvariant z v → NeedsAt p command (v.hand a)
+needs_at z v a line command place.Between S I P = tt
+needs_at z v a line command (place.Access p) S I P = tt
+needs_at z v a line (Access gfn word op) (place.SetSlot p) S I P = tt
+needs_at z v a line (SetSlot id slot) (place.SetSlot p) S I P = setting_needs z v a line p id slot S I P
+
 -- Each step of a line leaves each actor with what its place asks.
 pub knows_behind : (z : Sizes) (v : View) (a : ℕ) (line : Line) (command : Command) (p : Place) → IsStep z v a line command p → Invariant z v → TopicsInvariant z v → (i : ℕ) → i < actors_of z
     → KnowsPart ((stepped a line command p v).hand i).state.place ((stepped a line command p v).hand i).state.line.command ((stepped a line command p v).hand i)
 knows_behind z v a line command p S I P =
     at_upd (λ i (h : Held). i < actors_of z → KnowsPart h.state.place h.state.line.command h) v.hand a (hand_after line command p (v.hand a) (answer_in (task_at p command (v.hand a)) v.words))
     (λ there. subst (λ c. KnowsPart (place_after (outcome_at p command (v.hand a) (answer_in (task_at p command (v.hand a)) v.words))) c (hand_after line command p (v.hand a) (answer_in (task_at p command (v.hand a)) v.words))) (sym S.command_is)
-    (own_known p line command z (v.hand a) v.words S.begun (subst (λ x. IsCommandFor z x command) S.own S.allowed) (part_rests_at z v a I P there) (step_knows z v a line command p S I)))
+    (own_known p line command z (v.hand a) v.words S.begun (subst (λ x. IsCommandFor z x command) S.own S.allowed) (part_rests_at z v a I P there) (step_knows z v a line command p S I) (step_leaves z v a line command p S I) (needs_at z v a line command p S I P)))
     (λ i ne. I.knows i)
 
 -- And so does each step of a part, by an actor with no line left.

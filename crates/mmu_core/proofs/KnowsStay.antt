@@ -41,8 +41,11 @@ use Rattle.mmu_core.specs.View.{view}
 use Rattle.mmu_core.specs.Worlds.{HandReached}
 use Rattle.mmu_core.proofs.Columns.{same_or}
 use Rattle.mmu_core.proofs.KnowsKept.{knows_at}
-use Rattle.mmu_core.proofs.RestsKept.{either_stays, fill_stays, fresh_stays, looked_stays, or_not, prop_stays, same_look, same_owned, table_stays}
+use Rattle.mmu_core.proofs.RestsKept.{either_stays, fill_stays, fresh_stays, looked_stays, or_not, owns_set_stays, prop_stays, publish_stays, same_look, same_owned, table_stays}
 use Rattle.mmu_core.proofs.Starts.{reached_good}
+use Rattle.core_views.specs.declared.place.SetSlotPlace.{SetSlotPlace}
+use Rattle.core_views.specs.declared.place.SetSlotPlace.TheVariants as set_slot
+use Rattle.mmu_core.specs.SetSlotKnows.{SetSlotKnows}
 
 -- what can be decided of two facts, of how far a check has come, and of an entry
 both_or : {A B : Type 0} → A ⊎ (A → ⊥) → B ⊎ (B → ⊥) → (A × B) ⊎ (A × B → ⊥)
@@ -191,12 +194,25 @@ access_stays Touch gfn write h x = prop_stays (hlevel props) x
 access_stays (Leave how) gfn write h x = prop_stays (hlevel props) x
 access_stays (Fault p) gfn write h x = fault_stays p h.state.sizes gfn write h.topics x
 
+setting_stays : (p : SetSlotPlace) (h : Held) → ∥ SetSlotKnows p h ∥₁ → SetSlotKnows p h
+setting_stays set_slot.Fill h x = (∥∥₁_elim x (hlevel props) (λ K. K.0), fill_stays h.topics (∥∥₁_map x (λ K. K.1)))
+setting_stays set_slot.Exclude h x = (∥∥₁_elim x (hlevel props) (λ K. K.0), owns_set_stays h.topics (∥∥₁_map x (λ K. K.1)))
+setting_stays set_slot.Count h x = (∥∥₁_elim x (hlevel props) (λ K. K.0), owns_set_stays h.topics (∥∥₁_map x (λ K. K.1)))
+setting_stays set_slot.Close h x = (∥∥₁_elim x (hlevel props) (λ K. K.0), owns_set_stays h.topics (∥∥₁_map x (λ K. K.1)))
+setting_stays set_slot.Publish h x = (∥∥₁_elim x (hlevel props) (λ K. K.0), publish_stays h.topics (∥∥₁_map x (λ K. K.1)))
+setting_stays (set_slot.Refuse refusal) h x = prop_stays (hlevel props) x
+setting_stays (set_slot.Claim begun) h x = prop_stays (hlevel props) x
+setting_stays set_slot.Release h x = prop_stays (hlevel props) x
+setting_stays set_slot.Watch h x = prop_stays (hlevel props) x
+setting_stays set_slot.Clear h x = prop_stays (hlevel props) x
+setting_stays set_slot.Give h x = prop_stays (hlevel props) x
+
 part_stays : (p : Place) (command : Command) (h : Held) → ∥ KnowsPart p command h ∥₁ → KnowsPart p command h
 part_stays place.Between command h x = prop_stays (hlevel props) x
 part_stays (place.Access p) (Access gfn word op) h x = access_stays p gfn (is_write op) h x
 part_stays (place.Access p) (SetSlot id slot) h x = prop_stays (hlevel props) x
 part_stays (place.SetSlot p) (Access gfn word op) h x = prop_stays (hlevel props) x
-part_stays (place.SetSlot p) (SetSlot id slot) h x = prop_stays (hlevel props) x
+part_stays (place.SetSlot p) (SetSlot id slot) h x = setting_stays p h x
 
 -- what the place of the hand's next step asks
 abbrev pub KnowsNow : Held → Type 0

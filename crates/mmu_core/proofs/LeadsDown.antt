@@ -1,21 +1,21 @@
 -- Links lead from the root to an entry exactly where they do so from a table that stands over the guest frame.
 use Rattle.std.proofs.Math.Nat.{div-div-eq-div-mul}
-use Rattle.std.proofs.Common.{◌≡◌, ◌⊎◌, inl, inr, ◌+◌, ◌-◌, ◌/◌, ◌%◌, ◌^◌, ◌<◌, ◌≤◌, ℕ, zero, suc, sym, subst, ap, ◌∙◌, arith}
-use Rattle.std.specs.Prelude.{Option, Some}
+use Rattle.std.proofs.Common.{◌≡◌, ◌⊎◌, inl, inr, ◌+◌, ◌-◌, ◌*◌, ◌/◌, ◌%◌, ◌^◌, ◌<◌, ◌≤◌, ℕ, zero, suc, sym, subst, ap, ◌∙◌, arith}
+use Rattle.std.specs.Prelude.{Option, Some, None}
 use Rattle.core_views.specs.declared.sizes.Sizes.{Sizes}
 use Rattle.core_views.specs.Held.{Held}
 use Rattle.spte_words.specs.declared.area.Area.TheVariants as area
 use Rattle.spte_words.specs.declared.spte_kind.SpteKind.{SpteKind}
 use Rattle.spte_words.specs.Areas.{pool_index}
 use Rattle.spte_words.specs.Entries.{kind_of, level_span}
-use Rattle.spte_words.proofs.ReadsEntries.{kind_of_table}
+use Rattle.spte_words.proofs.ReadsEntries.{kind_of_absent, kind_of_table}
 use Rattle.spte_words.proofs.Spans.{span_above}
 use Rattle.mmu_core.specs.FaultAlone.{LeadSame, LeadsTo}
 use Rattle.mmu_core.specs.Laws.{IsSound}
 use Rattle.mmu_core.specs.Machine.{World}
 use Rattle.mmu_core.specs.PartSteps.{entry_index}
 use Rattle.mmu_core.specs.TopicSteps.{linked_page}
-use Rattle.mmu_core.specs.TreePart.{IsLinked, Position, TreePart, at}
+use Rattle.mmu_core.specs.TreePart.{EntryPart, IsLinked, Position, TreePart, at}
 use Rattle.mmu_core.specs.View.{word_in}
 use Rattle.mmu_core.proofs.TreeStored.{one_position}
 
@@ -27,6 +27,26 @@ pub run_above : (gfn level : ℕ) → 1 ≤ level → gfn / level_span level / 5
 run_above gfn level from = div-div-eq-div-mul gfn (level_span level) 512 ∙ ap (λ n. gfn / n) (let up = span_above level from in omega (arith, up))
 
 module _ (pages root set : ℕ) (role pool host : ℕ → ℕ) (stands : ℕ → Option Position) (T : TreePart pages root set role pool host stands) (few : pages ≤ 2 ^ 32) (gfn entry : ℕ) where
+  -- Behind a link of a table stands a table, one level below, at the run of this entry.
+  pub below_stands : (level prefix page below : ℕ) → stands page ≡ Some (at (suc (suc level)) prefix) → linked_page (kind_of (suc (suc level)) (pool (pool_index page (entry_index gfn (suc (suc level)))))) ≡ Some below
+      → stands below ≡ Some (at (suc level) (prefix * 512 + entry_index gfn (suc (suc level))))
+  below_stands level prefix page below at_page link = by (T.entries page (at (suc (suc level)) prefix) at_page j (omega arith))
+    where
+      j : ℕ
+      j = entry_index gfn (suc (suc level))
+
+      word : ℕ
+      word = pool (pool_index page j)
+
+      by : EntryPart pool host set stands (at (suc (suc level)) prefix) j word → stands below ≡ Some (at (suc level) (prefix * 512 + j))
+      by (inl e) = let none : linked_page (kind_of (suc (suc level)) word) ≡ None = ap (λ n. linked_page (kind_of (suc (suc level)) n)) e ∙ ap (λ (k : SpteKind). linked_page k) (kind_of_absent (suc (suc level))) in absurd (cc (none, link))
+      by (inr (inl L)) =
+          let low = (T.there L.page _ L.below).0 in
+          let links : linked_page (kind_of (suc (suc level)) word) ≡ Some L.page =
+          ap (λ n. linked_page (kind_of (suc (suc level)) n)) L.is ∙ ap (λ (k : SpteKind). linked_page k) (kind_of_table (suc (suc level)) L.page L.upper (omega (arith, low, few))) in
+          ap stands (same_page (sym link ∙ links)) ∙ L.below ∙ ap (λ n. Some (at n (prefix * 512 + j))) (omega arith)
+      by (inr (inr L)) = let lowest : suc (suc level) ≡ 1 = L.lowest in absurd (omega (arith, lowest))
+
   -- the table that is linked by an entry leads on where it is the guest frame's
   one_down : (level page below : ℕ) → linked_page (kind_of (suc (suc level)) (pool (pool_index page (entry_index gfn (suc (suc level)))))) ≡ Some below
       → LeadSame pool root (suc (suc level)) page gfn entry → LeadSame pool root (suc level) below gfn entry

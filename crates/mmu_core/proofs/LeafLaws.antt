@@ -15,12 +15,11 @@ use Rattle.core_views.specs.Held.{Held}
 use Rattle.core_views.specs.Sizes.{AreSizes, actors_of}
 use Rattle.core_views.specs.Slots.{contains, is_write, page_in, slot_of}
 use Rattle.spte_words.specs.declared.area.Area.TheVariants as area
-use Rattle.spte_words.specs.declared.spte_kind.SpteKind.{SpteKind}
 use Rattle.spte_words.specs.declared.spte_kind.SpteKind.TheVariants as entry_kind
 use Rattle.spte_words.specs.Areas.{pool_index}
 use Rattle.spte_words.specs.Entries.{can_write, frame_in, host_writable, kind_of, level_span, mmu_writable}
 use Rattle.spte_words.specs.HostWords.{host_allows_write, host_frame}
-use Rattle.spte_words.proofs.ReadsEntries.{kind_of_absent, kind_of_table, leaf_can_write, leaf_frame, leaf_host_writable, leaf_mmu_writable}
+use Rattle.spte_words.proofs.ReadsEntries.{kind_of_absent, leaf_can_write, leaf_frame, leaf_host_writable, leaf_mmu_writable}
 use Rattle.spte_words.proofs.Spans.{span_4}
 use Rattle.mmu_core.specs.Enabled.{mmu}
 use Rattle.mmu_core.specs.FaultAlone.{LeadsTo}
@@ -30,13 +29,12 @@ use Rattle.mmu_core.specs.Laws.{IsSound}
 use Rattle.mmu_core.specs.LeafLaws.{LeafAgrees}
 use Rattle.mmu_core.specs.Machine.{World, hand_in}
 use Rattle.mmu_core.specs.PartSteps.{IsOver, entry_index, table_page}
-use Rattle.mmu_core.specs.SetSlotSteps.{published_set}
 use Rattle.mmu_core.specs.SlotWords.{may_write, page_of, slot_at, slots_below}
 use Rattle.mmu_core.specs.TopicSteps.{linked_page}
 use Rattle.mmu_core.specs.TreePart.{EntryPart, Position, TreePart, at}
 use Rattle.mmu_core.specs.View.{word_in}
 use Rattle.mmu_core.proofs.CachedKept.{leaf_at}
-use Rattle.mmu_core.proofs.LeadsDown.{leads_down, run_above, same_page}
+use Rattle.mmu_core.proofs.LeadsDown.{below_stands, leads_down, run_above}
 use Rattle.mmu_core.proofs.PageFound.{frame_of_host, page_in_machine}
 use Rattle.mmu_core.proofs.SlotLists.{only_one_holds}
 
@@ -47,8 +45,8 @@ gets_page true false page is = refl
 gets_page false read_only page is = absurd (cc is)
 
 -- The leaf of a page in its slot agrees.
-leaf_agrees : (z : Sizes) (slots pool host : ℕ → ℕ) (gfn leaf : ℕ) → AreSizes z → HostWordsPart z host → SlotSetPart z slots pool → IsLeafFor pool host gfn leaf → LeafAgrees pool host gfn leaf
-leaf_agrees z slots pool host gfn leaf sizes hosts P L = record {
+leaf_agrees : (z : Sizes) (set : ℕ) (role pool host : ℕ → ℕ) (gfn leaf : ℕ) → AreSizes z → HostWordsPart z host → SlotSetPart z set role pool → IsLeafFor pool host set gfn leaf → LeafAgrees set pool host gfn leaf
+leaf_agrees z set role pool host gfn leaf sizes hosts P L = record {
   page = page_of slot gfn;
   behind = ap (page_in gfn Read) found;
   frame = ap frame_in L.is ∙ leaf_frame 1 (host_frame word) (may_write slot word) (host_allows_write word) (may_write slot word) small;
@@ -65,7 +63,7 @@ leaf_agrees z slots pool host gfn leaf sizes hosts P L = record {
     word = host (page_of slot gfn)
 
     there : page_of slot gfn < z.pages
-    there = page_in_machine z slots pool L.id gfn slot P L.live L.holds
+    there = page_in_machine z set role pool L.id gfn slot P L.live L.holds
 
     small : host_frame word < 2 ^ 40
     small = let own = frame_of_host z host (page_of slot gfn) hosts there in omega (arith, own, there, sizes.pages)
@@ -73,12 +71,12 @@ leaf_agrees z slots pool host gfn leaf sizes hosts P L = record {
     writes_are : can_write leaf ≡ may_write slot word
     writes_are = ap can_write L.is ∙ leaf_can_write 1 (host_frame word) (may_write slot word) (host_allows_write word) (may_write slot word)
 
-    holds : contains gfn (slot_at pool published_set L.id) ≡ true
+    holds : contains gfn (slot_at pool set L.id) ≡ true
     holds = ap (contains gfn) L.live.is ∙ L.holds
 
-    found : slot_of (slots_below pool published_set 32) gfn ≡ Some slot
+    found : slot_of (slots_below pool set 32) gfn ≡ Some slot
     found =
-        only_one_holds gfn pool published_set L.id 32 (omega (arith, L.live.low)) L.live.live holds (λ i lt live too. P.guest_apart gfn i L.id (omega arith) L.live.low live L.live.live too holds)
+        only_one_holds gfn pool set L.id 32 (omega (arith, L.live.low)) L.live.live holds (λ i lt live too. P.guest_apart gfn i L.id (omega arith) L.live.low live L.live.live too holds)
         ∙ ap Some L.live.is
 
 -- ---- where links lead
@@ -87,30 +85,12 @@ module _ (pages root set : ℕ) (role pool host : ℕ → ℕ) (stands : ℕ →
   -- Behind a link of a table over the guest frame stands a table over it, one level below.
   one_below : (level page below : ℕ) → stands page ≡ Some (at (suc (suc level)) (gfn / level_span (suc (suc level)) / 512))
       → linked_page (kind_of (suc (suc level)) (pool (pool_index page (entry_index gfn (suc (suc level)))))) ≡ Some below → stands below ≡ Some (at (suc level) (gfn / level_span (suc level) / 512))
-  one_below level page below at_page link = by (T.entries page (at (suc (suc level)) prefix) at_page j (omega arith))
+  one_below level page below at_page link = below_stands pages root set role pool host stands T few gfn entry level (gfn / level_span (suc (suc level)) / 512) page below at_page link ∙ ap (λ n. Some (at (suc level) n)) run
     where
-      prefix : ℕ
-      prefix = gfn / level_span (suc (suc level)) / 512
-
-      j : ℕ
-      j = entry_index gfn (suc (suc level))
-
-      word : ℕ
-      word = pool (pool_index page j)
-
-      run : prefix * 512 + j ≡ gfn / level_span (suc level) / 512
+      run : gfn / level_span (suc (suc level)) / 512 * 512 + entry_index gfn (suc (suc level)) ≡ gfn / level_span (suc level) / 512
       run =
           let up : gfn / level_span (suc level) / 512 ≡ gfn / level_span (suc (suc level)) = run_above gfn (suc level) (omega arith) ∙ ap (λ n. gfn / level_span n) (omega arith) in
           omega (arith, up)
-
-      by : EntryPart pool host set stands (at (suc (suc level)) prefix) j word → stands below ≡ Some (at (suc level) (gfn / level_span (suc level) / 512))
-      by (inl e) = let none : linked_page (kind_of (suc (suc level)) word) ≡ None = ap (λ n. linked_page (kind_of (suc (suc level)) n)) e ∙ ap (λ (k : SpteKind). linked_page k) (kind_of_absent (suc (suc level))) in absurd (cc (none, link))
-      by (inr (inl L)) =
-          let low = (T.there L.page _ L.below).0 in
-          let links : linked_page (kind_of (suc (suc level)) word) ≡ Some L.page =
-          ap (λ n. linked_page (kind_of (suc (suc level)) n)) L.is ∙ ap (λ (k : SpteKind). linked_page k) (kind_of_table (suc (suc level)) L.page L.upper (omega (arith, low, few))) in
-          ap stands (same_page (sym link ∙ links)) ∙ L.below ∙ ap (λ n. Some (at n (prefix * 512 + j))) (omega arith) ∙ ap (λ n. Some (at (suc level) n)) run
-      by (inr (inr L)) = let lowest : suc (suc level) ≡ 1 = L.lowest in absurd (omega (arith, lowest))
 
   -- So the entry to which they lead is one of a table of the lowest level over the guest frame.
   lowest_table : (level page : ℕ) → stands page ≡ Some (at (suc level) (gfn / level_span (suc level) / 512)) → LeadsTo pool (suc level) page gfn entry
@@ -125,31 +105,31 @@ module _ (pages root set : ℕ) (role pool host : ℕ → ℕ) (stands : ℕ →
 
 -- A leaf of such a table is the guest frame's.
 standing_leaf : (z : Sizes) (w : World Held) (gfn entry low : ℕ) (sound : IsSound z w) → sound.topics.stands low ≡ Some (at 1 (gfn / level_span 1 / 512)) → word_in z w area.Pool (pool_index low (entry_index gfn 1)) ≡ entry
-    → kind_of 1 entry ≡ entry_kind.Leaf → IsLeafFor (word_in z w area.Pool) (word_in z w area.Host) gfn entry
+    → kind_of 1 entry ≡ entry_kind.Leaf → IsLeafFor (word_in z w area.Pool) (word_in z w area.Host) (word_in z w area.Slots 0) gfn entry
 standing_leaf z w gfn entry low sound at_low is leaf = by (sound.topics.tree.entries low (at 1 (gfn / level_span 1 / 512)) at_low (entry_index gfn 1) (omega arith))
   where
     pool : ℕ → ℕ
     pool = word_in z w area.Pool
 
-    by : EntryPart pool (word_in z w area.Host) (word_in z w area.Slots 0) sound.topics.stands (at 1 (gfn / level_span 1 / 512)) (entry_index gfn 1) (pool (pool_index low (entry_index gfn 1))) → IsLeafFor pool (word_in z w area.Host) gfn entry
+    by : EntryPart pool (word_in z w area.Host) (word_in z w area.Slots 0) sound.topics.stands (at 1 (gfn / level_span 1 / 512)) (entry_index gfn 1) (pool (pool_index low (entry_index gfn 1))) → IsLeafFor pool (word_in z w area.Host) (word_in z w area.Slots 0) gfn entry
     by (inl e) = let none : kind_of 1 entry ≡ entry_kind.Absent = ap (kind_of 1) (sym is ∙ e) ∙ kind_of_absent 1 in absurd (cc (none, leaf))
     by (inr (inl L)) = absurd (let upper : 2 ≤ 1 = L.upper in omega (arith, upper))
     by (inr (inr L)) =
-        subst (IsLeafFor pool (word_in z w area.Host) gfn) is
-        (leaf_at pool (word_in z w area.Host) (word_in z w area.Slots 0) gfn 1 (gfn / level_span 1 / 512) (pool (pool_index low (entry_index gfn 1))) sound.holds.set.published refl L).1
+        subst (IsLeafFor pool (word_in z w area.Host) (word_in z w area.Slots 0) gfn) is
+        (leaf_at pool (word_in z w area.Host) (word_in z w area.Slots 0) gfn 1 (gfn / level_span 1 / 512) (pool (pool_index low (entry_index gfn 1))) refl L).1
 
 pub leaves_agree : (z : Sizes) (w : World Held) (gfn entry : ℕ) → IsSound z w → gfn < 2 ^ 36 → LeadsTo (word_in z w area.Pool) 4 (word_in z w area.Root 0) gfn entry → kind_of 1 entry ≡ entry_kind.Leaf
-    → LeafAgrees (word_in z w area.Pool) (word_in z w area.Host) gfn entry
+    → LeafAgrees (word_in z w area.Slots 0) (word_in z w area.Pool) (word_in z w area.Host) gfn entry
 leaves_agree z w gfn entry sound small leads leaf =
     let I = sound.holds in
     let P = sound.topics in
     let low = from_root z.pool (word_in z w area.Root 0) (word_in z w area.Slots 0) (word_in z w area.Role) (word_in z w area.Pool) (word_in z w area.Host) P.stands P.tree (let most = I.sizes.pool.1 in omega (arith, most)) gfn entry small leads in
-    leaf_agrees z (word_in z w area.Slots) (word_in z w area.Pool) (word_in z w area.Host) gfn entry I.sizes I.hosts I.set (standing_leaf z w gfn entry low.0 sound low.1 low.2 leaf)
+    leaf_agrees z (word_in z w area.Slots 0) (word_in z w area.Role) (word_in z w area.Pool) (word_in z w area.Host) gfn entry I.sizes I.hosts I.set_part (standing_leaf z w gfn entry low.0 sound low.1 low.2 leaf)
 
 -- From a table that is held links lead where they lead from the root.
 pub held_leaves_agree : (z : Sizes) (w : World Held) (actor gfn entry : ℕ) → IsSound z w → actor < actors_of z → IsOver gfn (hand_in mmu w actor).topics.walk
     → LeadsTo (word_in z w area.Pool) (hand_in mmu w actor).topics.walk.level (table_page (hand_in mmu w actor).topics.walk) gfn entry → kind_of 1 entry ≡ entry_kind.Leaf
-    → LeafAgrees (word_in z w area.Pool) (word_in z w area.Host) gfn entry
+    → LeafAgrees (word_in z w area.Slots 0) (word_in z w area.Pool) (word_in z w area.Host) gfn entry
 held_leaves_agree z w actor gfn entry sound lt over leads leaf =
     let walk : TableWalk = (hand_in mmu w actor).topics.walk in
     let at_page : sound.topics.stands (table_page walk) ≡ Some (at walk.level (gfn / level_span walk.level / 512)) = (sound.topics.held actor lt).table over.there ∙ ap (λ n. Some (at walk.level n)) (sym over.run) in
@@ -158,24 +138,24 @@ held_leaves_agree z w actor gfn entry sound lt over leads leaf =
 -- ---- what is cached and used
 
 pub cached_leaves_agree : (z : Sizes) (w : World Held) (actor : ℕ) → IsSound z w → actor < actors_of z
-    → All (λ t. (t.level ≡ 1) × LeafAgrees (word_in z w area.Pool) (word_in z w area.Host) t.gfn t.leaf) (hand_in mmu w actor).cached.items
+    → All (λ t. (t.level ≡ 1) × LeafAgrees (word_in z w area.Slots 0) (word_in z w area.Pool) (word_in z w area.Host) t.gfn t.leaf) (hand_in mmu w actor).cached.items
 cached_leaves_agree z w actor sound lt =
     let I = sound.holds in
-    λ k d there. ((I.cached actor lt k d there).0, leaf_agrees z (word_in z w area.Slots) (word_in z w area.Pool) (word_in z w area.Host) _ _ I.sizes I.hosts I.set (I.cached actor lt k d there).1)
+    λ k d there. ((I.cached actor lt k d there).0, leaf_agrees z (word_in z w area.Slots 0) (word_in z w area.Role) (word_in z w area.Pool) (word_in z w area.Host) _ _ I.sizes I.hosts I.set_part (I.cached actor lt k d there).1)
 
 -- at the touch
-at_touch : (z : Sizes) (pool host : ℕ → ℕ) (h : Held) (p : Place) (c : Command) (gfn word : ℕ) (op : Op) → p ≡ place.Access Touch → c ≡ Access gfn word op → Holds z pool host p c h.slots h.state → KnowsPart p c h
-    → IsLeafFor pool host gfn h.state.leaf × (allows_access (is_write op) h.state.leaf ≡ true)
-at_touch z pool host h p c gfn word op at is holds knows =
-    let here : Holds z pool host (place.Access Touch) (Access gfn word op) h.slots h.state = subst (λ (d : Command). Holds z pool host (place.Access Touch) d h.slots h.state) is (subst (λ (q : Place). Holds z pool host q c h.slots h.state) at holds) in
+at_touch : (z : Sizes) (pool host : ℕ → ℕ) (set : ℕ) (h : Held) (p : Place) (c : Command) (gfn word : ℕ) (op : Op) → p ≡ place.Access Touch → c ≡ Access gfn word op → Holds z pool host set p c h → KnowsPart p c h
+    → IsLeafFor pool host set gfn h.state.leaf × (allows_access (is_write op) h.state.leaf ≡ true)
+at_touch z pool host set h p c gfn word op at is holds knows =
+    let here : Holds z pool host set (place.Access Touch) (Access gfn word op) h = subst (λ (d : Command). Holds z pool host set (place.Access Touch) d h) is (subst (λ (q : Place). Holds z pool host set q c h) at holds) in
     let knows_here : KnowsPart (place.Access Touch) (Access gfn word op) h = subst (λ (d : Command). KnowsPart (place.Access Touch) d h) is (subst (λ (q : Place). KnowsPart q c h) at knows) in
     (here, knows_here.1)
 
 pub used_leaves_agree : (z : Sizes) (w : World Held) (actor gfn word : ℕ) (op : Op) → IsSound z w → actor < actors_of z → (hand_in mmu w actor).state.place ≡ place.Access Touch
     → (hand_in mmu w actor).state.line.command ≡ Access gfn word op
-    → LeafAgrees (word_in z w area.Pool) (word_in z w area.Host) gfn (hand_in mmu w actor).state.leaf × (allows_access (is_write op) (hand_in mmu w actor).state.leaf ≡ true)
+    → LeafAgrees (word_in z w area.Slots 0) (word_in z w area.Pool) (word_in z w area.Host) gfn (hand_in mmu w actor).state.leaf × (allows_access (is_write op) (hand_in mmu w actor).state.leaf ≡ true)
 used_leaves_agree z w actor gfn word op sound lt at is =
     let I = sound.holds in
     let h : Held = hand_in mmu w actor in
-    let T = at_touch z (word_in z w area.Pool) (word_in z w area.Host) h h.state.place h.state.line.command gfn word op at is (I.loads actor lt) (I.knows actor lt) in
-    (leaf_agrees z (word_in z w area.Slots) (word_in z w area.Pool) (word_in z w area.Host) gfn h.state.leaf I.sizes I.hosts I.set T.0, T.1)
+    let T = at_touch z (word_in z w area.Pool) (word_in z w area.Host) (word_in z w area.Slots 0) h h.state.place h.state.line.command gfn word op at is (I.loads actor lt) (I.knows actor lt) in
+    (leaf_agrees z (word_in z w area.Slots 0) (word_in z w area.Role) (word_in z w area.Pool) (word_in z w area.Host) gfn h.state.leaf I.sizes I.hosts I.set_part T.0, T.1)

@@ -14,9 +14,7 @@ use Rattle.core_views.specs.declared.place.FaultPlace.TheVariants as fault
 use Rattle.core_views.specs.declared.place.Place.{Place}
 use Rattle.core_views.specs.declared.place.Place.TheVariants as place
 use Rattle.core_views.specs.declared.place.SetSlotPlace.{SetSlotPlace}
-use Rattle.core_views.specs.declared.place.SetSlotPlace.TheVariants.{Refuse, Fill}
-use Rattle.core_views.specs.declared.place.SlotField.TheVariants.{Base, Pages, Flags}
-use Rattle.core_views.specs.declared.place.SlotField.TheVariants as field
+use Rattle.core_views.specs.declared.place.SetSlotPlace.TheVariants.{Claim, Publish}
 use Rattle.core_views.specs.declared.trace.Command.{Command}
 use Rattle.core_views.specs.declared.trace.Command.TheVariants.{Access, SetSlot}
 use Rattle.core_views.specs.declared.trace.Line.{Line}
@@ -31,7 +29,7 @@ use Rattle.core_views.proofs.Texts.{answers_append}
 use Rattle.mmu_core.specs.declared.outcome.Outcome.{Outcome}
 use Rattle.mmu_core.specs.declared.outcome.Outcome.TheVariants.{Goes, Ends}
 use Rattle.mmu_core.specs.AccessSteps.{access_tells, exiting, fault_over}
-use Rattle.mmu_core.specs.SetSlotSteps.{set_slot_tells}
+use Rattle.mmu_core.specs.SetSlotSteps.{set_slot_outcome, set_slot_tells}
 use Rattle.mmu_core.proofs.Which.{events_of_line}
 use Rattle.mmu_core.specs.Steps.{beginning, event_kinds, events_of, has_line, line_at, outcome_at, place_at, tells_at}
 use Rattle.mmu_core.specs.Tasks.{answering}
@@ -56,17 +54,15 @@ access_within (Fault fault.Host) h gfn word op v = (tt, tt)
 access_within (Fault (fault.End e)) h gfn word op v = exit_within (fault_over e)
 access_within _ h gfn word op v = tt
 
-set_slot_within : (p : SetSlotPlace) (id : ℕ) (slot : slots.Slot) → AllWithin (set_slot_tells p id slot)
-set_slot_within (Refuse refusal) id slot = tt
-set_slot_within (Fill Base) id slot = tt
-set_slot_within (Fill Pages) id slot = tt
-set_slot_within (Fill field.Host) id slot = tt
-set_slot_within (Fill Flags) id slot = (tt, tt)
+set_slot_within : (p : SetSlotPlace) (h : Held) (id : ℕ) (slot : slots.Slot) (v : ℕ) → AllWithin (set_slot_tells p h id slot v)
+set_slot_within (Claim begun) h id slot v = exit_within (set_slot_outcome (Claim begun) h v)
+set_slot_within Publish h id slot v = (tt, tt)
+set_slot_within _ h id slot v = tt
 
 -- Besides its begin and its answer, a line tells only events that stand within it: a clause for each form of line.
 pub tells_within : (p : Place) (command : Command) (h : Held) (v : ℕ) → AllWithin (tells_at p command h v)
 tells_within (place.Access p) (Access gfn word op) h v = access_within p h gfn word op v
-tells_within (place.SetSlot p) (SetSlot id slot) h v = set_slot_within p id slot
+tells_within (place.SetSlot p) (SetSlot id slot) h v = set_slot_within p h id slot v
 tells_within (place.Access p) (SetSlot id slot) h v = tt
 tells_within (place.SetSlot p) (Access gfn word op) h v = tt
 tells_within place.Between command h v = tt

@@ -1,4 +1,5 @@
 -- The hand that a line's step makes, field by field.
+use Rattle.std.specs.Prelude.{Bool}
 use Rattle.std.proofs.Common.{◌≡◌, ℕ, List, refl, sym, ap, ◌∙◌}
 use Rattle.circular_buffer.specs.Buffer.{Buffer}
 use Rattle.core_views.specs.declared.actor.Actor.{Actor}
@@ -18,7 +19,8 @@ use Rattle.core_views.specs.Held.{Held}
 use Rattle.core_views.specs.SlotSets.{MemorySlots}
 use Rattle.mmu_core.specs.declared.outcome.Outcome.{Outcome}
 use Rattle.mmu_core.specs.AccessSteps.{access_caches}
-use Rattle.mmu_core.specs.Steps.{caches_at, line_after, loads_at, outcome_at, records_at}
+use Rattle.mmu_core.specs.Delays.{counted, delays_counted, is_delay, steps_counted}
+use Rattle.mmu_core.specs.Steps.{delays_at, caches_at, line_after, loads_at, outcome_at, records_at}
 use Rattle.mmu_core.specs.Tasks.{answers_after, place_after}
 use Rattle.mmu_core.proofs.HandAfter.{IsSameState, loads_same}
 
@@ -42,9 +44,9 @@ caches_same (place.Access p) (SetSlot id slot) h slots v = refl
 caches_same (place.SetSlot p) (Access gfn word op) h slots v = refl
 caches_same (place.SetSlot p) (SetSlot id slot) h slots v = refl
 
-abbrev placed : State → Place → Line → ℕ → Held → List AnsweredLine → Held
-placed s q line leaf f answers = record {
-  state = record { sizes = s.sizes; actor = s.actor; place = q; line = line; leaf = leaf };
+abbrev placed : State → Place → Line → ℕ → ℕ → ℕ → Held → List AnsweredLine → Held
+placed s q line leaf steps delays f answers = record {
+  state = record { sizes = s.sizes; actor = s.actor; place = q; line = line; leaf = leaf; steps = steps; delays = delays };
   topics = f.topics;
   cached = f.cached;
   slots = f.slots;
@@ -55,18 +57,37 @@ placed s q line leaf f answers = record {
 abbrev with_cached : Held → Buffer Translation → MemorySlots → Held
 with_cached h c slots = record { state = h.state; topics = h.topics; cached = c; slots = slots; lines = h.lines; answers = h.answers }
 
-pub line_made : (h f : Held) (s : State) (line : Line) (p q : Place) (v leaf : ℕ) (slots : MemorySlots) (o : Outcome) (answers : List AnsweredLine) → o ≡ outcome_at p line.command h v → leaf ≡ (loads_at p line.command h v).leaf
-    → slots ≡ records_at p line.command h.slots → f ≡ with_cached h (caches_at p line.command (with_slots h slots) v) slots → s ≡ f.state → q ≡ place_after o → answers ≡ answers_after o line h.answers
-    → placed s q line leaf f answers ≡ line_after line p h v
-line_made h f s line p q v leaf slots o answers o_is leaf_is slots_is f_is s_is q_is answers_is =
+-- what was counted behind a step that is a delay, or none
+abbrev steps_behind : Held → Bool → ℕ
+steps_behind h delay = steps_counted delay (counted h.state.place h.state.steps)
+
+abbrev delays_behind : Held → Bool → ℕ
+delays_behind h delay = delays_counted delay (counted h.state.place h.state.delays)
+
+pub line_made : (h f : Held) (s : State) (line : Line) (p q : Place) (v leaf : ℕ) (slots : MemorySlots) (o : Outcome) (delay : Bool) (steps delays : ℕ) (answers : List AnsweredLine) → o ≡ outcome_at p line.command h v → leaf ≡ (loads_at p line.command h v).leaf
+    → delay ≡ is_delay p h.topics o v → steps ≡ steps_behind h delay → delays ≡ delays_behind h delay → slots ≡ records_at p line.command h.slots → f ≡ with_cached h (caches_at p line.command (with_slots h slots) v) slots → s ≡ f.state → q ≡ place_after o → answers ≡ answers_after o line h.answers
+    → placed s q line leaf steps delays f answers ≡ line_after line p h v
+line_made h f s line p q v leaf slots o delay steps delays answers o_is leaf_is delay_is steps_is delays_is slots_is f_is s_is q_is answers_is =
     let same : IsSameState h.state (loads_at p line.command h v) = loads_same p line.command h v in
-    ap (λ (x : State). placed x q line leaf f answers) s_is
-    ∙ ap (λ (x : Held). placed x.state q line leaf x answers) f_is
-    ∙ ap (λ (c : Buffer Translation). placed h.state q line leaf (with_cached h c slots) answers) (caches_same p line.command h slots v)
-    ∙ ap (λ (x : MemorySlots). placed h.state q line leaf (with_cached h (caches_at p line.command h v) x) answers) slots_is
-    ∙ ap (λ x. placed h.state q line x (with_cached h (caches_at p line.command h v) (records_at p line.command h.slots)) answers) leaf_is
-    ∙ ap (λ (x : Sizes). placed (record h.state { sizes = x }) q line (loads_at p line.command h v).leaf (with_cached h (caches_at p line.command h v) (records_at p line.command h.slots)) answers) (sym same.sizes)
-    ∙ ap (λ (x : Actor). placed (record (loads_at p line.command h v) { actor = x }) q line (loads_at p line.command h v).leaf (with_cached h (caches_at p line.command h v) (records_at p line.command h.slots)) answers) (sym same.actor)
-    ∙ ap (λ (x : Place). placed (loads_at p line.command h v) x line (loads_at p line.command h v).leaf (with_cached h (caches_at p line.command h v) (records_at p line.command h.slots)) answers) (q_is ∙ ap place_after o_is)
-    ∙ ap (λ (x : List AnsweredLine). placed (loads_at p line.command h v) (place_after (outcome_at p line.command h v)) line (loads_at p line.command h v).leaf (with_cached h (caches_at p line.command h v) (records_at p line.command h.slots)) x)
+    let same_delay : delay ≡ delays_at p line.command h v = delay_is ∙ ap (λ (x : Outcome). is_delay p h.topics x v) o_is in
+    ap (λ (x : State). placed x q line leaf steps delays f answers) s_is
+    ∙ ap (λ x. placed f.state q line leaf x delays f answers) (steps_is ∙ ap (steps_behind h) same_delay)
+    ∙ ap (λ x. placed f.state q line leaf made x f answers) (delays_is ∙ ap (delays_behind h) same_delay)
+    ∙ ap (λ (x : Held). placed x.state q line leaf made waits x answers) f_is
+    ∙ ap (λ (c : Buffer Translation). placed h.state q line leaf made waits (with_cached h c slots) answers) (caches_same p line.command h slots v)
+    ∙ ap (λ (x : MemorySlots). placed h.state q line leaf made waits (with_cached h (caches_at p line.command h v) x) answers) slots_is
+    ∙ ap (λ x. placed h.state q line x made waits cached answers) leaf_is
+    ∙ ap (λ (x : Sizes). placed (record h.state { sizes = x }) q line (loads_at p line.command h v).leaf made waits cached answers) (sym same.sizes)
+    ∙ ap (λ (x : Actor). placed (record (loads_at p line.command h v) { actor = x }) q line (loads_at p line.command h v).leaf made waits cached answers) (sym same.actor)
+    ∙ ap (λ (x : Place). placed (loads_at p line.command h v) x line (loads_at p line.command h v).leaf made waits cached answers) (q_is ∙ ap place_after o_is)
+    ∙ ap (λ (x : List AnsweredLine). placed (loads_at p line.command h v) (place_after (outcome_at p line.command h v)) line (loads_at p line.command h v).leaf made waits cached x)
     (answers_is ∙ ap (λ (x : Outcome). answers_after x line h.answers) o_is)
+  where
+    made : ℕ
+    made = steps_behind h (delays_at p line.command h v)
+
+    waits : ℕ
+    waits = delays_behind h (delays_at p line.command h v)
+
+    cached : Held
+    cached = with_cached h (caches_at p line.command h v) (records_at p line.command h.slots)

@@ -6,8 +6,6 @@ use Rattle.core_views.specs.declared.kind.StepKind.TheVariants as kind
 use Rattle.core_views.specs.declared.place.Place.{Place}
 use Rattle.core_views.specs.declared.place.Place.TheVariants as place
 use Rattle.core_views.specs.declared.place.SetSlotPlace.{SetSlotPlace}
-use Rattle.core_views.specs.declared.place.SetSlotPlace.TheVariants.{Refuse, Fill}
-use Rattle.core_views.specs.declared.place.SlotField.TheVariants as field
 use Rattle.core_views.specs.declared.sizes.Sizes.{Sizes}
 use Rattle.core_views.specs.declared.topics.Topics.{Topics}
 use Rattle.core_views.specs.declared.trace.Command.{Command}
@@ -24,7 +22,7 @@ use Rattle.mmu_core.specs.AccessSteps.{access_note, access_part, task_by, touch_
 use Rattle.mmu_core.specs.Enabled.{Enabled}
 use Rattle.mmu_core.specs.PartSteps.{PartNeeds, part_kind}
 use Rattle.mmu_core.specs.Rests.{RestsAt, RestsOn}
-use Rattle.mmu_core.specs.SetSlotSteps.{set_slot_task}
+use Rattle.mmu_core.specs.SetSlotSteps.{set_slot_task, set_slot_note, set_slot_part}
 use Rattle.mmu_core.specs.Steps.{line_at, place_at, task_at}
 use Rattle.mmu_core.specs.Tasks.{kind_of_task}
 use Rattle.mmu_core.specs.TopicSteps.{topics_after}
@@ -56,13 +54,8 @@ access_kind : (s : Option PartStep) (h : Held) (note : ℕ) (op : Op) (index : �
 access_kind None h note op index N = inr (touch_quiet op h.state.sizes h.topics index)
 access_kind (Some step) h note op index N = inl (record { step = step; note = note; is = refl; needs = N })
 
-setting_kind : (p : SetSlotPlace) (h : Held) (id : ℕ) (slot : Slot) → PartOrQuiet h (set_slot_task p id slot)
-unfolding topics_after
-setting_kind (Refuse refusal) h id slot = inl (record { step = part.Seq; note = 1; is = refl; needs = tt })
-setting_kind (Fill field.Base) h id slot = inr (record { code = λ e. absurd (omega (arith, e)); claim = λ v. refl; watched = λ v. refl; stay = λ v. refl })
-setting_kind (Fill field.Pages) h id slot = inr (record { code = λ e. absurd (omega (arith, e)); claim = λ v. refl; watched = λ v. refl; stay = λ v. refl })
-setting_kind (Fill field.Host) h id slot = inr (record { code = λ e. absurd (omega (arith, e)); claim = λ v. refl; watched = λ v. refl; stay = λ v. refl })
-setting_kind (Fill field.Flags) h id slot = inr (record { code = λ e. absurd (omega (arith, e)); claim = λ v. refl; watched = λ v. refl; stay = λ v. refl })
+setting_kind : (p : SetSlotPlace) (h : Held) (id : ℕ) (slot : Slot) → PartNeeds (set_slot_part p h id slot) h → PartOrQuiet h (set_slot_task p h id slot)
+setting_kind p h id slot N = inl (record { step = set_slot_part p h id slot; note = set_slot_note p h; is = refl; needs = N })
 
 line_kind : (p : Place) (command : Command) (h : Held) → RestsAt p command h → PartOrQuiet h (task_at p command h)
 line_kind place.Between (Access gfn word op) h R = inl (record { step = part.Seq; note = 0; is = refl; needs = tt })
@@ -70,7 +63,7 @@ line_kind place.Between (SetSlot id slot) h R = inl (record { step = part.Seq; n
 line_kind (place.Access p) (Access gfn word op) h R = access_kind (access_part p gfn h.topics) h (access_note p) op _ R
 line_kind (place.Access p) (SetSlot id slot) h R = absurd R
 line_kind (place.SetSlot p) (Access gfn word op) h R = absurd R
-line_kind (place.SetSlot p) (SetSlot id slot) h R = setting_kind p h id slot
+line_kind (place.SetSlot p) (SetSlot id slot) h R = setting_kind p h id slot R
 
 pub step_kind : (h : Held) (k : Kind) → Enabled h k → IsPartKind h k ⊎ IsQuiet h.state.sizes h.topics k
 unfolding Enabled

@@ -1,5 +1,5 @@
 -- A hand's lines are its own behind each of its steps.
-use Rattle.std.proofs.Common.{◌≡◌, ◌<◌, ℕ, zero, suc, List, [], ◌∷◌, ◌++◌, length, take, refl, sym, subst, ap, ◌∙◌, arith, length-append}
+use Rattle.std.proofs.Common.{◌≡◌, ◌<◌, ℕ, zero, suc, List, [], ◌∷◌, ◌++◌, length, take, refl, sym, subst, ap, ◌∙◌, arith, length-append, ◌≤◌, get_or}
 use Rattle.std.specs.Prelude.{All, map, slice_get, unwrap_or}
 use Rattle.std.specs.BTreeMap.{insert_entry}
 use Rattle.std.specs.Ordering.{match_ordering, nat_cmp}
@@ -9,7 +9,7 @@ use Rattle.std.proofs.lemmas.Bool.Decides.{nat_tests}
 use Rattle.std.specs.List.{Contains}
 use Rattle.std.specs.Map.{keys_of}
 use Rattle.circular_buffer.specs.Buffer.{Buffer}
-use Rattle.std.proofs.lemmas.List.Elements.{All-cons, All-head, All-tail, All-weaker, Contains-append_left, Contains-append_right}
+use Rattle.std.proofs.lemmas.List.Elements.{All-cons, All-head, All-tail, All-weaker, Contains-append_right}
 use Rattle.core_views.specs.declared.slot_set.MemorySlot.{MemorySlot}
 use Rattle.core_views.specs.declared.answer.AnsweredLine.{AnsweredLine}
 use Rattle.core_views.specs.declared.cache.Translation.{Translation}
@@ -29,7 +29,7 @@ use Rattle.core_views.specs.SlotSets.{MemorySlots}
 use Rattle.core_views.specs.Traces.{or_slot_id, slot_ids}
 use Rattle.mmu_core.specs.declared.outcome.Outcome.{Outcome}
 use Rattle.mmu_core.specs.declared.outcome.Outcome.TheVariants.{Goes, Ends}
-use Rattle.mmu_core.specs.Invariant.{IsSetBy, OwnLines, UnderWay}
+use Rattle.mmu_core.specs.Invariant.{IsSetBy, OwnLines, UnderWay, lines_done}
 use Rattle.mmu_core.specs.Steps.{next_line}
 use Rattle.mmu_core.specs.Tasks.{answers_after, place_after}
 
@@ -74,18 +74,35 @@ set_by_with lines id slot (e ∷ es) is all = by (nat_cmp id e.0) refl (set_by_w
 pub answers_length : (answers : List AnsweredLine) (x : AnsweredLine) → length (answers ++ x ∷ []) ≡ suc (length answers)
 answers_length answers x = length-append answers (x ∷ []) ∙ omega arith
 
--- the slots that lines have set, of which these are answered
-abbrev pub AreSetBy : List Line → List AnsweredLine → List ℕ → Type 0
-AreSetBy lines answers ids = All (Contains (slot_ids (take (length answers) lines))) ids
+-- The slots at these IDs were set by the first n lines.
+abbrev pub AreSetBy : List Line → ℕ → List ℕ → Type 0
+AreSetBy lines n ids = All (Contains (slot_ids (take n lines))) ids
 
-pub answered_kept : (o : Outcome) (line : Line) (lines : List Line) (answers : List AnsweredLine) (ids : List ℕ) → length answers < length lines → AreSetBy lines answers ids → AreSetBy lines (answers_after o line answers) ids
-answered_kept (Goes p) line lines answers ids lt set = set
-answered_kept (Ends answer) line lines answers ids lt set =
-    All-weaker (Contains (slot_ids (take (length answers) lines))) (Contains (slot_ids (take (length (answers_after (Ends answer) line answers)) lines)))
-    (λ id has. subst (λ (xs : List ℕ). Contains xs id) (sym more) (Contains-append_left (slot_ids (take (length answers) lines)) (or_slot_id (unwrap_or (slice_get lines (length answers)) no_line).command []) id has)) ids set
+-- More lines have set what fewer have.
+more_set : (m n : ℕ) (lines : List Line) (id : ℕ) → m ≤ n → Contains (slot_ids (take m lines)) id → Contains (slot_ids (take n lines)) id
+more_set zero n lines id le has = absurd (omega (arith, has.1))
+more_set (suc m) zero lines id le has = absurd (omega arith)
+more_set (suc m) (suc n) [] id le has = has
+more_set (suc m) (suc n) (line ∷ lines) id le has = by line.command (more_set m n lines id (omega arith)) has
   where
-    more : slot_ids (take (length (answers_after (Ends answer) line answers)) lines) ≡ slot_ids (take (length answers) lines) ++ or_slot_id (unwrap_or (slice_get lines (length answers)) no_line).command []
-    more = ap (λ n. slot_ids (take n lines)) (answers_length answers (record { number = line.number; actor = line.actor; answer = answer })) ∙ ids_more (length answers) lines lt
+    shifted : (first : ℕ) (ids : List ℕ) → Contains ids id → Contains (first ∷ ids) id
+    shifted first ids has = (suc has.0, omega (arith, has.1), has.2)
+
+    behind_first : (first : ℕ) (before after : List ℕ) → (Contains before id → Contains after id) → (k : ℕ) → k < suc (length before) → get_or (first ∷ before) k id ≡ id → Contains (first ∷ after) id
+    behind_first first before after rest zero lt is = (0, omega arith, is)
+    behind_first first before after rest (suc k) lt is = shifted first after (rest (k, omega arith, is))
+
+    by : (c : Command) → (Contains (slot_ids (take m lines)) id → Contains (slot_ids (take n lines)) id) → Contains (or_slot_id c (slot_ids (take m lines))) id → Contains (or_slot_id c (slot_ids (take n lines))) id
+    by (Access gfn word op) rest has = rest has
+    by (SetSlot i slot) rest has = behind_first i (slot_ids (take m lines)) (slot_ids (take n lines)) rest has.0 has.1 has.2
+
+pub answered_kept : (m n : ℕ) (lines : List Line) (ids : List ℕ) → m ≤ n → AreSetBy lines m ids → AreSetBy lines n ids
+answered_kept m n lines ids le set = All-weaker (Contains (slot_ids (take m lines))) (Contains (slot_ids (take n lines))) (λ id has. more_set m n lines id le has) ids set
+
+-- No answer is taken back.
+pub answers_more : (o : Outcome) (line : Line) (answers : List AnsweredLine) → length answers ≤ length (answers_after o line answers)
+answers_more (Goes p) line answers = omega arith
+answers_more (Ends answer) line answers = let n = answers_length answers (record { number = line.number; actor = line.actor; answer = answer }) in omega (arith, n)
 
 -- the hand behind a step that went so
 abbrev pub behind : Held → Line → State → Outcome → Topics → Buffer Translation → MemorySlots → Held
@@ -97,7 +114,7 @@ under_behind h line s (place.Access p) t c slots is left = (is, left)
 under_behind h line s (place.SetSlot p) t c slots is left = (is, left)
 
 pub lines_behind : (z : Sizes) (a : ℕ) (h : Held) (line : Line) (s : State) (o : Outcome) (t : Topics) (c : Buffer Translation) (slots : MemorySlots) → OwnLines z a h → line ≡ next_line h → length h.answers < length h.lines
-    → s.sizes ≡ z → s.actor ≡ h.state.actor → AreSetBy h.lines (answers_after o line h.answers) (keys_of slots) → All (IsSetBy h.lines) slots → OwnLines z a (behind h line s o t c slots)
+    → s.sizes ≡ z → s.actor ≡ h.state.actor → AreSetBy h.lines (lines_done (behind h line s o t c slots)) (keys_of slots) → All (IsSetBy h.lines) slots → OwnLines z a (behind h line s o t c slots)
 lines_behind z a h line s (Goes p) t c slots O is left same actor answered set = record {
   sizes = same;
   index = ap (index_of z) actor ∙ O.index;

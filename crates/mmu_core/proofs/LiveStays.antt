@@ -1,14 +1,20 @@
 -- The words of live slots, which no step changes.
-use Rattle.std.proofs.Common.{◌≡◌, ◌+◌, ◌*◌, ◌<◌, ◌≤◌, ℕ, refl, sym, subst, ap, ◌∙◌, arith}
-use Rattle.std.specs.Prelude.{true, Option, Some, None}
+use Rattle.std.proofs.Common.{◌≡◌, ◌+◌, ◌*◌, ◌<◌, ◌≤◌, ℕ, refl, sym, ap, ◌∙◌, arith, false, Bool}
+use Rattle.std.specs.Prelude.{true, Option, Some, None, Bool, false, if◌then◌else◌}
 use Rattle.core_views.specs.declared.place.AccessPlace.{AccessPlace}
+use Rattle.core_views.specs.declared.place.AccessPlace.TheVariants as access
+use Rattle.core_views.specs.declared.place.CheckStage.TheVariants as stage
+use Rattle.core_views.specs.declared.place.FaultPlace.{FaultPlace}
+use Rattle.core_views.specs.declared.place.FaultPlace.TheVariants as fault
+use Rattle.core_views.specs.declared.topics.Hold.{Hold}
+use Rattle.core_views.specs.declared.topics.Topics.{Topics}
+use Rattle.core_views.specs.declared.topics.Hold.TheVariants.{Loose, Shared, Owing, Exclusive}
+use Rattle.mmu_core.specs.declared.part_step.PartStep.TheVariants as part
 use Rattle.core_views.specs.declared.place.Place.TheVariants as place
-use Rattle.core_views.specs.declared.place.SetSlotPlace.{SetSlotPlace}
-use Rattle.core_views.specs.declared.place.SetSlotPlace.TheVariants.{Refuse, Fill}
 use Rattle.core_views.specs.declared.place.SlotField.{SlotField}
 use Rattle.core_views.specs.declared.place.SlotField.TheVariants.{Base, Pages, Host, Flags}
 use Rattle.core_views.specs.declared.sizes.Sizes.{Sizes}
-use Rattle.core_views.specs.declared.trace.Command.TheVariants.{Access, SetSlot}
+use Rattle.core_views.specs.declared.trace.Command.TheVariants.{Access}
 use Rattle.core_views.specs.declared.trace.Line.{Line}
 use Rattle.core_views.specs.declared.trace.Op.{Op}
 use Rattle.core_views.specs.declared.trace.Op.TheVariants.{Read, Write, Add}
@@ -21,19 +27,15 @@ use Rattle.spte_words.specs.Entries.{frame_in}
 use Rattle.spte_words.specs.Flags.{flags_live, flags_read_only}
 use Rattle.mmu_core.specs.declared.part_step.PartStep.{PartStep}
 use Rattle.mmu_core.specs.AccessSteps.{access_note, access_part, task_by, touch_of}
-use Rattle.mmu_core.specs.Invariant.{Invariant}
-use Rattle.mmu_core.specs.SetSlotSteps.{published_set}
+use Rattle.mmu_core.specs.FaultSteps.{fault_part, map_word, share_part, tries_page}
 use Rattle.mmu_core.specs.SlotWords.{field_number, live_at, slot_at, slot_index}
 use Rattle.mmu_core.specs.Tasks.{map_of}
 use Rattle.mmu_core.specs.TopicsInvariant.{TopicsInvariant}
 use Rattle.mmu_core.specs.TreePart.{IsLiveIn}
-use Rattle.mmu_core.specs.View.{View, part_stepped, stepped, upd, words_after}
-use Rattle.mmu_core.proofs.Accepted.{may_be_set}
-use Rattle.mmu_core.proofs.LiveStay.{StayLive}
-use Rattle.mmu_core.proofs.PartStepping.{IsPart}
-use Rattle.mmu_core.proofs.PartWords.{areas_stay, fill_elsewhere}
-use Rattle.mmu_core.proofs.SlotFields.{is_number, not_it, other_word, same_slot}
-use Rattle.mmu_core.proofs.Stepping.{IsStep}
+use Rattle.mmu_core.specs.View.{View, part_stepped, stepped, words_after}
+use Rattle.mmu_core.proofs.PartStepping.{IsPart, is_publish}
+use Rattle.mmu_core.proofs.PartWords.{areas_stay, fill_elsewhere, role_stays, slots_are, slots_elsewhere, slots_same}
+use Rattle.mmu_core.proofs.SlotFields.{is_number, same_slot}
 
 -- Each word of a slot that is live in the slot set of a page stays as it is.
 pub record LiveStays (set : ℕ) (before after : ℕ → ℕ) : Type 0 where
@@ -50,33 +52,19 @@ module _ (set : ℕ) (before after : ℕ → ℕ) (id : ℕ) (stays : LiveStays 
 pub live_in_stays : (set : ℕ) (before after : ℕ → ℕ) (id : ℕ) (slot : SlotOf) → LiveStays set before after → IsLiveIn before set id slot → IsLiveIn after set id slot
 live_in_stays set before after id slot stays L = record { low = L.low; live = still_live set before after id stays L.low L.live; is = slot_stays set before after id stays L.low L.live ∙ L.is }
 
--- What is live in the published set is live there still.
-pub stays_live : (before after : ℕ → ℕ) → LiveStays published_set before after → StayLive before after
-stays_live before after stays e l = record {
-  low = l.low;
-  live = still_live published_set before after e.0 stays l.low l.live;
-  is = slot_stays published_set before after e.0 stays l.low l.live ∙ l.is;
-}
+-- Each word of a page is as it was.
+abbrev pub SetStays : ℕ → (ℕ → ℕ) → (ℕ → ℕ) → Type 0
+SetStays set before after = (j : ℕ) → j < 512 → after (pool_index set j) ≡ before (pool_index set j)
+
+pub words_live : (set : ℕ) (before after : ℕ → ℕ) → SetStays set before after → LiveStays set before after
+words_live set before after stays = record { each = λ id f low live. let small = is_number f in stays (4 * id + field_number f) (omega (arith, low, small)) }
 
 -- No step of a part stores in the published slot set.
+pub published_stays : (z : Sizes) (v : View) (a : ℕ) (step : PartStep) (note : ℕ) → IsPart z v a step → TopicsInvariant z v → SetStays (v.words area.Slots 0) (v.words area.Pool) ((part_stepped a step note v).words area.Pool)
+published_stays z v a step note S I = fill_elsewhere z v a step note S I
+
 pub part_live_stays : (z : Sizes) (v : View) (a : ℕ) (step : PartStep) (note : ℕ) → IsPart z v a step → TopicsInvariant z v → LiveStays (v.words area.Slots 0) (v.words area.Pool) ((part_stepped a step note v).words area.Pool)
-part_live_stays z v a step note S I = record { each = λ id f low live. let small = is_number f in fill_elsewhere z v a step note S I (4 * id + field_number f) (omega (arith, low, small)) }
-
--- A slot setting stores where no slot is live.
-word_stored : (z : Sizes) (v : View) (a : ℕ) (line : Line) (id : ℕ) (slot : SlotOf) (g : SlotField) (x : ℕ) → IsStep z v a line (SetSlot id slot) (place.SetSlot (Fill g)) → Invariant z v
-    → LiveStays (v.words area.Slots 0) (v.words area.Pool) (upd (v.words area.Pool) (slot_index published_set id g) x)
-word_stored z v a line id slot g x S I =
-    let may = may_be_set z v a line id slot g S I in
-    subst (λ k. LiveStays k (v.words area.Pool) (upd (v.words area.Pool) (slot_index published_set id g) x)) (sym I.set.published)
-    (record { each = λ j f low live. other_word (v.words area.Pool) id x g j f may.low low (not_it (v.words area.Pool) id j may.not_live live) })
-
-pub set_slot_live_stays : (z : Sizes) (v : View) (a : ℕ) (line : Line) (id : ℕ) (slot : SlotOf) (p : SetSlotPlace) → IsStep z v a line (SetSlot id slot) (place.SetSlot p) → Invariant z v
-    → LiveStays (v.words area.Slots 0) (v.words area.Pool) ((stepped a line (SetSlot id slot) (place.SetSlot p) v).words area.Pool)
-set_slot_live_stays z v a line id slot (Refuse refusal) S I = record { each = λ j f low live. refl }
-set_slot_live_stays z v a line id slot (Fill Base) S I = word_stored z v a line id slot Base _ S I
-set_slot_live_stays z v a line id slot (Fill Pages) S I = word_stored z v a line id slot Pages _ S I
-set_slot_live_stays z v a line id slot (Fill Host) S I = word_stored z v a line id slot Host _ S I
-set_slot_live_stays z v a line id slot (Fill Flags) S I = word_stored z v a line id slot Flags _ S I
+part_live_stays z v a step note S I = words_live (v.words area.Slots 0) (v.words area.Pool) ((part_stepped a step note v).words area.Pool) (published_stays z v a step note S I)
 
 -- The step of a part that an access makes at a place, if it makes one, is one that its actor may make.
 abbrev pub MakesParts : Sizes → View → ℕ → AccessPlace → ℕ → Type 0
@@ -100,7 +88,7 @@ behind_access P v a line p gfn word op part touch = by (access_part p gfn h.topi
     by (Some step) each = each step refl
 
 -- A touch stores in the content alone.
-touch_leaves_pool : (words : Area → ℕ → ℕ) (op : Op) (index : ℕ) → words_after (touch_of op index) words area.Pool ≡ words area.Pool
+pub touch_leaves_pool : (words : Area → ℕ → ℕ) (op : Op) (index : ℕ) → words_after (touch_of op index) words area.Pool ≡ words area.Pool
 touch_leaves_pool words Read index = refl
 touch_leaves_pool words (Write x) index = refl
 touch_leaves_pool words (Add x) index = refl
@@ -110,36 +98,98 @@ touch_leaves_slots words Read index = refl
 touch_leaves_slots words (Write x) index = refl
 touch_leaves_slots words (Add x) index = refl
 
+touch_leaves_role : (words : Area → ℕ → ℕ) (op : Op) (index : ℕ) → words_after (touch_of op index) words area.Role ≡ words area.Role
+touch_leaves_role words Read index = refl
+touch_leaves_role words (Write x) index = refl
+touch_leaves_role words (Add x) index = refl
+
 touch_leaves_host : (words : Area → ℕ → ℕ) (op : Op) (index : ℕ) → words_after (touch_of op index) words area.Host ≡ words area.Host
 touch_leaves_host words Read index = refl
 touch_leaves_host words (Write x) index = refl
 touch_leaves_host words (Add x) index = refl
 
--- Each word of the published set's page is as it was.
-abbrev pub SetStays : (ℕ → ℕ) → (ℕ → ℕ) → Type 0
-SetStays before after = (j : ℕ) → j < 512 → after (pool_index published_set j) ≡ before (pool_index published_set j)
+-- No step of an access is a publication.
+never_by_fault : (p : FaultPlace) (gfn : ℕ) (t : Topics) → is_publish (fault_part p gfn t) ≡ false
+never_by_fault fault.Begin gfn t = refl
+never_by_fault fault.Snapshot gfn t = refl
+never_by_fault (fault.Find begun) gfn t = by begun
+  where
+    by : (b : Bool) → is_publish (if b then part.Slot else part.Slots) ≡ false
+    by true = refl
+    by false = refl
+never_by_fault fault.Host gfn t = refl
+never_by_fault fault.Share gfn t = by t.hold
+  where
+    by : (hold : Hold) → is_publish (share_part hold) ≡ false
+    by (Owing word) = refl
+    by Loose = refl
+    by Shared = refl
+    by Exclusive = refl
+never_by_fault (fault.Check stage.Count) gfn t = refl
+never_by_fault (fault.Check stage.Start) gfn t = refl
+never_by_fault (fault.Check stage.End) gfn t = refl
+never_by_fault (fault.Check stage.Seq) gfn t = refl
+never_by_fault (fault.Walk rooted) gfn t = by rooted
+  where
+    by : (b : Bool) → is_publish (if b then part.Walk gfn else part.Root) ≡ false
+    by true = refl
+    by false = refl
+never_by_fault (fault.Claim begun) gfn t = by (tries_page begun t.claim)
+  where
+    by : (b : Bool) → is_publish (if b then part.Claim else part.Map (map_word begun t.claim)) ≡ false
+    by true = refl
+    by false = refl
+never_by_fault fault.Fill gfn t = refl
+never_by_fault fault.Link gfn t = refl
+never_by_fault (fault.Give e) gfn t = refl
+never_by_fault fault.Leaf gfn t = refl
+never_by_fault (fault.Unshare e) gfn t = refl
+never_by_fault (fault.End e) gfn t = refl
 
--- No step of a part stores there, and so no step of an access.
-pub published_stays : (z : Sizes) (v : View) (a : ℕ) (step : PartStep) (note : ℕ) → IsPart z v a step → TopicsInvariant z v → v.words area.Slots 0 ≡ published_set → SetStays (v.words area.Pool) ((part_stepped a step note v).words area.Pool)
-published_stays z v a step note S I is =
-    subst (λ k. (j : ℕ) → j < 512 → (part_stepped a step note v).words area.Pool (pool_index k j) ≡ v.words area.Pool (pool_index k j)) is (fill_elsewhere z v a step note S I)
+pub access_never : (p : AccessPlace) (gfn : ℕ) (t : Topics) (step : PartStep) → access_part p gfn t ≡ Some step → is_publish step ≡ false
+access_never p gfn t step is = by (access_part p gfn t) step is (none p)
+  where
+    never : Option PartStep → Bool
+    never None = false
+    never (Some step) = is_publish step
+
+    by : (o : Option PartStep) (step : PartStep) → o ≡ Some step → never o ≡ false → is_publish step ≡ false
+    by o step is e = sym (ap never is) ∙ e
+
+    none : (p : AccessPlace) → never (access_part p gfn t) ≡ false
+    none (access.Enter again) = refl
+    none (access.Pause again) = refl
+    none (access.Root again) = refl
+    none (access.Walk again) = refl
+    none access.Touch = refl
+    none (access.Leave how) = refl
+    none (access.Fault p) = never_by_fault p gfn t
 
 module _ (z : Sizes) (v : View) (a : ℕ) (line : Line) (p : AccessPlace) (gfn word : ℕ) (op : Op) (makes : MakesParts z v a p gfn) (I : TopicsInvariant z v) where
   abbrev behind : Area → ℕ → ℕ
   behind = (stepped a line (Access gfn word op) (place.Access p) v).words
 
-  pub access_set_stays : v.words area.Slots 0 ≡ published_set → SetStays (v.words area.Pool) (behind area.Pool)
-  access_set_stays is =
-      behind_access (λ words. SetStays (v.words area.Pool) (words area.Pool)) v a line p gfn word op (λ step note at. published_stays z v a step note (makes step at) I is)
-      (λ index j low. ap (λ (pool : ℕ → ℕ). pool (pool_index published_set j)) (touch_leaves_pool v.words op index))
+  pub access_set_stays : SetStays (v.words area.Slots 0) (v.words area.Pool) (behind area.Pool)
+  access_set_stays =
+      behind_access (λ words. SetStays (v.words area.Slots 0) (v.words area.Pool) (words area.Pool)) v a line p gfn word op (λ step note at. published_stays z v a step note (makes step at) I)
+      (λ index j low. ap (λ (pool : ℕ → ℕ). pool (pool_index (v.words area.Slots 0) j)) (touch_leaves_pool v.words op index))
 
   pub access_live_stays : LiveStays (v.words area.Slots 0) (v.words area.Pool) (behind area.Pool)
   access_live_stays =
       behind_access (λ words. LiveStays (v.words area.Slots 0) (v.words area.Pool) (words area.Pool)) v a line p gfn word op (λ step note at. part_live_stays z v a step note (makes step at) I)
       (λ index. record { each = λ id f low live. ap (λ (pool : ℕ → ℕ). pool (slot_index (v.words area.Slots 0) id f)) (touch_leaves_pool v.words op index) })
 
-  pub access_slots_stay : ◌≡◌ {A = ℕ → ℕ} (behind area.Slots) (v.words area.Slots)
-  access_slots_stay = behind_access (λ words. ◌≡◌ {A = ℕ → ℕ} (words area.Slots) (v.words area.Slots)) v a line p gfn word op (λ step note at. areas_stay v a step note area.Slots refl) (touch_leaves_slots v.words op)
+  pub access_slots_stay : behind area.Slots 0 ≡ v.words area.Slots 0
+  access_slots_stay =
+      behind_access (λ words. words area.Slots 0 ≡ v.words area.Slots 0) v a line p gfn word op
+      (λ step note at. slots_are v a step note ∙ slots_same step (v.hand a).topics (v.words area.Slots 0) (access_never p gfn (v.hand a).topics step at))
+      (λ index. ap (λ (slots : ℕ → ℕ). slots 0) (touch_leaves_slots v.words op index))
+
+  pub access_role_stays : behind area.Role (v.words area.Slots 0) ≡ v.words area.Role (v.words area.Slots 0)
+  access_role_stays =
+      behind_access (λ words. words area.Role (v.words area.Slots 0) ≡ v.words area.Role (v.words area.Slots 0)) v a line p gfn word op
+      (λ step note at. role_stays z v a step note (makes step at) (v.words area.Slots 0) (slots_elsewhere z v a step (makes step at) I))
+      (λ index. ap (λ (role : ℕ → ℕ). role (v.words area.Slots 0)) (touch_leaves_role v.words op index))
 
   pub access_host_stays : ◌≡◌ {A = ℕ → ℕ} (behind area.Host) (v.words area.Host)
   access_host_stays = behind_access (λ words. ◌≡◌ {A = ℕ → ℕ} (words area.Host) (v.words area.Host)) v a line p gfn word op (λ step note at. areas_stay v a step note area.Host refl) (touch_leaves_host v.words op)

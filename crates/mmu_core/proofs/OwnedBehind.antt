@@ -21,7 +21,7 @@ use Rattle.mmu_core.specs.declared.part_step.PartStep.{PartStep}
 use Rattle.mmu_core.specs.declared.part_step.PartStep.TheVariants as part
 use Rattle.mmu_core.specs.PartSteps.{leaf_written, link_written, own_index, page_owned, part_task, works}
 use Rattle.mmu_core.specs.Tasks.{kind_of_task}
-use Rattle.mmu_core.specs.TopicSteps.{claimed, filled_more, is_in_table, linked_page, still_owned, topics_after, topics_by, unless_linked}
+use Rattle.mmu_core.specs.TopicSteps.{claimed, filled_more, is_in_table, linked_page, still_owned, topics_after, topics_by, unless_linked, still_leaving}
 use Rattle.mmu_core.specs.View.{View, answer_in, part_stepped, upd}
 use Rattle.mmu_core.proofs.Columns.{upd_same}
 use Rattle.mmu_core.proofs.SumsBelow.{column}
@@ -39,6 +39,9 @@ abbrev pub owned_behind : PartStep → Topics → ℕ → Option OwnedPage
 owned_behind part.Claim t v = claimed t.claim v
 owned_behind (part.Fill value) t v = filled_more t.owned v
 owned_behind part.Give t v = None
+owned_behind part.GiveOld t v = None
+owned_behind part.Publish t v = None
+owned_behind part.Clear t v = filled_more t.owned v
 owned_behind (part.Link gfn) t v = if is_in_table t.walk then still_owned (v == t.walk.entry) t.walk (link_written t) t.owned else t.owned
 owned_behind (part.Leaf gfn) t v = if is_in_table t.walk then still_owned (v == t.walk.entry) t.walk (leaf_written t) t.owned else t.owned
 owned_behind _ t v = t.owned
@@ -50,6 +53,24 @@ pub owned_is : (step : PartStep) (z : Sizes) (own : ℕ) (t : Topics) (note v : 
 unfolding topics_after
 owned_is (part.Fill value) z own t note v = filled_behind z (kind_of_task z (part_task (part.Fill value) own t note)) t v (part_task (part.Fill value) own t note).kind (fills _ _ _ value note)
 owned_is _ z own t note v = refl
+
+-- what leaves behind a step that answered v
+abbrev pub left_behind : PartStep → Topics → ℕ → Option ℕ
+left_behind part.Publish t v = Some v
+left_behind part.Give t v = still_leaving t.owned t.leaving
+left_behind part.GiveOld t v = still_leaving t.owned t.leaving
+left_behind _ t v = t.leaving
+
+left_by_fill : (z : Sizes) (k : Kind) (t : Topics) (v : ℕ) (name : StepKind) → name ≡ kind.Fill → (topics_by (kind_named (code_of name)) z k t v).leaving ≡ t.leaving
+left_by_fill z k t v name is = ap (λ n. (topics_by (kind_named (code_of n)) z k t v).leaving) is
+
+pub left_is : (step : PartStep) (z : Sizes) (own : ℕ) (t : Topics) (note v : ℕ) → (topics_after z (kind_of_task z (part_task step own t note)) t v).leaving ≡ left_behind step t v
+unfolding topics_after
+left_is (part.Fill value) z own t note v = left_by_fill z (kind_of_task z (part_task (part.Fill value) own t note)) t v (part_task (part.Fill value) own t note).kind (fills _ _ _ value note)
+left_is _ z own t note v = refl
+
+pub left_same : (hand : ℕ → Held) (a : ℕ) (h : Held) → h.topics.leaving ≡ (hand a).topics.leaving → ◌≡◌ {A = ℕ → Option ℕ} (λ i. (upd hand a h i).topics.leaving) (λ i. (hand i).topics.leaving)
+left_same = column (λ (h : Held). h.topics.leaving)
 
 -- A hand that owns what it owned before leaves the column.
 pub owned_same : (hand : ℕ → Held) (a : ℕ) (h : Held) → h.topics.owned ≡ (hand a).topics.owned → ◌≡◌ {A = ℕ → Option OwnedPage} (λ i. (upd hand a h i).topics.owned) (λ i. (hand i).topics.owned)

@@ -16,8 +16,7 @@ use Rattle.spte_words.specs.HostWords.{host_allows_write, host_frame}
 use Rattle.spte_words.proofs.ReadsEntries.{leaf_can_write, leaf_frame}
 use Rattle.spte_words.proofs.ReadsHost.{host_has_frame, host_is_writable}
 use Rattle.mmu_core.specs.FaultSteps.{allows_access}
-use Rattle.mmu_core.specs.Invariant.{HostWordsPart, IsLive, SlotSetPart}
-use Rattle.mmu_core.specs.SetSlotSteps.{published_set}
+use Rattle.mmu_core.specs.Invariant.{HostWordsPart, IsLiveIn, SlotSetPart}
 use Rattle.mmu_core.specs.SlotWords.{leaf_of, may_write, page_of, slot_at, slots_below}
 use Rattle.mmu_core.proofs.SlotLists.{only_one_holds, page_allowed}
 
@@ -35,8 +34,8 @@ word_in_page z Manager gfn word op may = absurd may
 word_in_page z (Worker n) gfn word op may = absurd may
 
 -- The page found is one of the machine's.
-pub page_in_machine : (z : Sizes) (slots pool : ℕ → ℕ) (id gfn : ℕ) (slot : Slot) → SlotSetPart z slots pool → IsLive pool id slot → contains gfn slot ≡ true → page_of slot gfn < z.pages
-page_in_machine z slots pool id gfn slot P L holds =
+pub page_in_machine : (z : Sizes) (set : ℕ) (role pool : ℕ → ℕ) (id gfn : ℕ) (slot : Slot) → SlotSetPart z set role pool → IsLiveIn pool set id slot → contains gfn slot ≡ true → page_of slot gfn < z.pages
+page_in_machine z set role pool id gfn slot P L holds =
     let fits : slot.host + slot.pages ≤ z.pages = subst (λ (t : Slot). t.host + t.pages ≤ z.pages) L.is ((P.fits id L.low L.live).pages) in
     let bounds : (slot.base ≤ gfn) × (gfn < slot.base + slot.pages) = contains_bounds gfn slot holds in
     omega arith
@@ -67,13 +66,13 @@ leaf_allows op slot host leaf is allows =
     (subst (λ b. (not (is_write op) || b) ≡ true) (ap can_write is ∙ leaf_can_write 1 (host_frame host) (may_write slot host) (host_allows_write host) (may_write slot host)) allows)
 
 -- The slots give the guest frame the page that was found.
-pub page_is_behind : (z : Sizes) (slots pool : ℕ → ℕ) (id gfn : ℕ) (slot : Slot) (op : Op) (now_ : Slots) → SlotSetPart z slots pool → IsLive pool id slot → contains gfn slot ≡ true → (is_write op && slot.read_only) ≡ false
-    → now_ ≡ slots_below pool published_set 32 → page_behind now_ gfn op ≡ Some (page_of slot gfn)
-page_is_behind z slots pool id gfn slot op now_ P L in_slot allows is =
-    let holds : contains gfn (slot_at pool published_set id) ≡ true = ap (contains gfn) L.is ∙ in_slot in
+pub page_is_behind : (z : Sizes) (set : ℕ) (role pool : ℕ → ℕ) (id gfn : ℕ) (slot : Slot) (op : Op) (now_ : Slots) → SlotSetPart z set role pool → IsLiveIn pool set id slot → contains gfn slot ≡ true → (is_write op && slot.read_only) ≡ false
+    → now_ ≡ slots_below pool set 32 → page_behind now_ gfn op ≡ Some (page_of slot gfn)
+page_is_behind z set role pool id gfn slot op now_ P L in_slot allows is =
+    let holds : contains gfn (slot_at pool set id) ≡ true = ap (contains gfn) L.is ∙ in_slot in
     ap (page_in gfn op)
     (ap (λ (xs : Slots). slot_of xs gfn) is
-    ∙ only_one_holds gfn pool published_set id 32 (omega (arith, L.low)) L.live holds
+    ∙ only_one_holds gfn pool set id 32 (omega (arith, L.low)) L.live holds
     (λ i lt live too. P.guest_apart gfn i id (omega arith) L.low live L.live too holds)
     ∙ ap Some L.is)
     ∙ page_allowed slot gfn op allows

@@ -13,15 +13,15 @@ use Rattle.spte_words.specs.declared.area.Area.TheVariants as area
 use Rattle.spte_words.specs.HostWords.{host_frame}
 use Rattle.spte_words.proofs.ReadsHost.{host_has_frame}
 use Rattle.mmu_core.specs.Cached.{IsAtLeafLevel}
-use Rattle.mmu_core.specs.HeldPart.{CountersPart, HeldPart}
+use Rattle.mmu_core.specs.HeldPart.{CountersPart, HeldPart, HoldsOld}
 use Rattle.mmu_core.specs.Invariant.{HostWordsPart, Invariant, IsLeafFor, OwnLines}
 use Rattle.mmu_core.specs.LockPart.{SawWriter}
 use Rattle.mmu_core.specs.PartBounds.{PartRests}
 use Rattle.mmu_core.specs.PartSteps.{table_page}
-use Rattle.mmu_core.specs.SetSlotSteps.{published_set}
 use Rattle.mmu_core.specs.TopicsInvariant.{TopicsInvariant}
 use Rattle.mmu_core.specs.TreePart.{IsLiveIn}
 use Rattle.mmu_core.specs.View.{View}
+use Rattle.mmu_core.proofs.OldSets.{set_live}
 
 -- the host word of a page that the machine has
 pub host_at : (z : Sizes) (host : ℕ → ℕ) (p : ℕ) → AreSizes z → HostWordsPart z host → p < z.pages → host_frame (host p) < z.frames
@@ -33,12 +33,13 @@ part_rests_at z v i I P there = record {
   own_place = subst (λ n. n < actors_of h.state.sizes) (sym (ap (λ y. index_of y h.state.actor) same ∙ O.index)) (subst (λ (y : Sizes). i < actors_of y) (sym same) there);
   level = level (cases_lt 0 h.topics.walk.level);
   table = λ from. subst (λ (y : Sizes). table_page h.topics.walk < y.pool) (sym same) (P.tree.there _ _ (H.table from)).0;
-  set = λ k is. subst (λ (y : Sizes). k < y.pool) (sym same) (subst (λ n. n < z.pool) (sym (H.set k is)) P.pool_part.slots_there);
+  set = λ k is. subst (λ (y : Sizes). k < y.pool) (sym same) (set_there k is);
   page = λ o is. subst (λ (y : Sizes). o.page < y.pool) (sym same) (P.pool_part.there i o there is);
+  left = λ k is. subst (λ (y : Sizes). k < y.pool) (sym same) (P.pool_part.left_there i k there is);
   filled = λ o is. (P.filled i o there is).most;
   counters = subst (λ y. CountersPart y h.topics) (sym same) (P.counters i there);
   found = λ whole. subst (λ (y : Sizes). h.topics.search.slot.host + h.topics.search.slot.pages ≤ y.pages) (sym same) (found whole);
-  levels = All-weaker (λ (t : Translation). (t.level ≡ 1) × IsLeafFor (v.words area.Pool) (v.words area.Host) t.gfn t.leaf) IsAtLeafLevel lowest h.cached.items (I.cached i there);
+  levels = All-weaker (λ (t : Translation). (t.level ≡ 1) × IsLeafFor (v.words area.Pool) (v.words area.Host) (v.words area.Slots 0) t.gfn t.leaf) IsAtLeafLevel lowest h.cached.items (I.cached i there);
   looked = λ look is. subst (λ (y : Sizes). (look.page < y.pages) × (host_frame look.word < y.frames)) (sym same) (looked look is);
   saw_writer = λ word is. subst SawWriter is (P.saw_writer i there);
 }
@@ -52,24 +53,32 @@ part_rests_at z v i I P there = record {
     same : h.state.sizes ≡ z
     same = O.sizes
 
-    H : HeldPart (v.words area.Slots 0) P.stands h.topics
+    H : HeldPart P.stands h.topics
     H = P.held i there
 
-    lowest : (t : Translation) → (t.level ≡ 1) × IsLeafFor (v.words area.Pool) (v.words area.Host) t.gfn t.leaf → IsAtLeafLevel t
+    lowest : (t : Translation) → (t.level ≡ 1) × IsLeafFor (v.words area.Pool) (v.words area.Host) (v.words area.Slots 0) t.gfn t.leaf → IsAtLeafLevel t
     lowest t is = let one = is.0 in (omega (arith, one), omega (arith, one))
 
     level : (0 < h.topics.walk.level) ⊎ (h.topics.walk.level ≤ 0) → h.topics.walk.level ≤ 4
     level (inl from) = (P.tree.there _ _ (H.table from)).2
     level (inr none) = omega (arith, none)
 
+    -- The slot set that is held is a page of the pool.
+    set_there : (k : ℕ) → h.topics.search.set ≡ Some k → k < z.pool
+    set_there k is = by (P.sets i k there is)
+      where
+        by : (k ≡ v.words area.Slots 0) ⊎ HoldsOld (actors_of z) (λ j. (v.hand j).topics) i k → k < z.pool
+        by (inl e) = subst (λ n. n < z.pool) (sym e) P.pool_part.slots_there
+        by (inr O) = P.pool_part.left_there O.by k O.there O.leaves
+
     -- The slot that was loaded whole is live in the published set.
     found : h.topics.search.whole ≡ true → h.topics.search.slot.host + h.topics.search.slot.pages ≤ z.pages
     found whole =
         let S = P.searches i there in
         let own = S.held whole in
-        let live : IsLiveIn (v.words area.Pool) published_set (h.topics.search.id - 1) h.topics.search.slot =
-        subst (λ n. IsLiveIn (v.words area.Pool) n (h.topics.search.id - 1) h.topics.search.slot) (H.set own.0 own.1 ∙ I.set.published) (S.whole own.0 own.1 whole).1 in
-        subst (λ (s : SlotOf). s.host + s.pages ≤ z.pages) live.is (I.set.fits (h.topics.search.id - 1) live.low live.live).pages
+        let live : IsLiveIn (v.words area.Pool) (v.words area.Slots 0) (h.topics.search.id - 1) h.topics.search.slot =
+        set_live z v i own.0 there P own.1 (h.topics.search.id - 1) h.topics.search.slot (S.whole own.0 own.1 whole).1 in
+        subst (λ (s : SlotOf). s.host + s.pages ≤ z.pages) live.is (I.set_part.fits (h.topics.search.id - 1) live.low live.live).pages
 
     looked : (look : HostLook) → h.topics.host ≡ Some look → (look.page < z.pages) × (host_frame look.word < z.frames)
     looked look is =

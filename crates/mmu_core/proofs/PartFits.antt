@@ -18,7 +18,7 @@ use Rattle.spte_words.proofs.ReadsEntries.{leaf_fits, table_fits}
 use Rattle.mmu_core.specs.declared.part_step.PartStep.{PartStep}
 use Rattle.mmu_core.specs.declared.part_step.PartStep.TheVariants as part
 use Rattle.mmu_core.specs.PartBounds.{PartRests}
-use Rattle.mmu_core.specs.PartSteps.{HasToFill, IsWithin, LookedUp, OwnsTable, PartNeeds, all_but, leaf_written, link_written, own_index, page_owned, part_kind, part_task, set_held, table_page, word_looked, words_filled, works}
+use Rattle.mmu_core.specs.PartSteps.{HasToFill, IsWithin, LookedUp, OwnsTable, PartNeeds, all_but, leaf_written, link_written, own_index, page_owned, part_kind, part_task, set_held, table_page, word_looked, words_filled, works, MayPublish, MayGiveOld, page_left}
 use Rattle.mmu_core.specs.SlotWords.{field_number, leaf_of, may_write, slot_index}
 use Rattle.mmu_core.specs.Tasks.{map_of}
 use Rattle.mmu_core.specs.TopicSteps.{tried_bit}
@@ -68,6 +68,14 @@ slot_within h note some low R = by h.topics.search.set refl some
         let n = is_number h.topics.search.next in
         rw (ap set_held is) (pool_within (map_of h.state.sizes) k (4 * h.topics.search.id + field_number h.topics.search.next) (R.set k is) (omega arith))
 
+-- the page that is leaving is one of the pool
+left_there : (h : Held) → MayGiveOld h → PartRests h → page_left h.topics.leaving < h.state.sizes.pool
+left_there h M R = by h.topics.leaving refl M.leaves
+  where
+    by : (x : Option ℕ) → h.topics.leaving ≡ x → is_some x ≡ true → page_left h.topics.leaving < h.state.sizes.pool
+    by None is some = absurd (cc some)
+    by (Some k) is some = rw (ap page_left is) (R.left k is)
+
 pub part_within_by : (step : PartStep) (h : Held) (note : ℕ) → PartNeeds step h → PartRests h → IsWithinBy h step note
 part_within_by part.Enter h note N R = R.own_place
 part_within_by part.Leave h note N R = R.own_place
@@ -94,6 +102,9 @@ part_within_by (part.Link gfn) h note N R = pool_within (map_of h.state.sizes) (
 part_within_by (part.Leaf gfn) h note N R = pool_within (map_of h.state.sizes) (table_page h.topics.walk) _ (R.table N.0.saw.over.there) (omega arith)
 part_within_by (part.Host page) h note N R = N
 part_within_by (part.Watch index) h note N R = N.0
+part_within_by part.Publish h note N R = omega arith
+part_within_by part.Clear h note N R = left_there h N R
+part_within_by part.GiveOld h note N R = let at = left_there h N R in omega (arith, at)
 
 pub part_within : (step : PartStep) (h : Held) → PartNeeds step h → PartRests h → IsWithin h step
 part_within step h N R = part_within_by step h 0 N R
@@ -124,6 +135,12 @@ leaf_small h U R =
     subst (λ o. leaf_of h.topics.search.slot (word_looked o) < 2 ^ 64) (sym U.host)
     (leaf_fits 1 (host_frame U.word) (may_write h.topics.search.slot U.word) (host_allows_write U.word) (may_write h.topics.search.slot U.word) (omega (arith, looked.1, R.sizes.frames.1)))
 
+-- A page that is published is one of the pool.
+publish_small : (h : Held) → MayPublish h.topics → PartRests h → page_owned h.topics.owned < 2 ^ 64
+publish_small h M R =
+    let page = R.page M.owns.owned M.owns.is in
+    rw (ap page_owned M.owns.is) (omega (arith, page, R.sizes.pool.1))
+
 pub part_small : (step : PartStep) (h : Held) (note : ℕ) → PartNeeds step h → PartRests h → (part_kind h step note).new < 2 ^ 64
 part_small part.Enter h note N R = omega arith
 part_small part.Leave h note N R = not_small 3
@@ -150,3 +167,6 @@ part_small (part.Link gfn) h note N R = link_small h N.3 R
 part_small (part.Leaf gfn) h note N R = leaf_small h N.0.looked_up R
 part_small (part.Host page) h note N R = omega arith
 part_small (part.Watch index) h note N R = omega arith
+part_small part.Publish h note N R = publish_small h N.1 R
+part_small part.Clear h note N R = omega arith
+part_small part.GiveOld h note N R = power_small (page_left h.topics.leaving % 64) (omega arith)

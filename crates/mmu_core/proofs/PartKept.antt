@@ -1,30 +1,33 @@
 -- The steps of the parts keep what the lines rest on.
-use Rattle.std.proofs.Common.{◌≡◌, ◌<◌, ℕ, sym, subst, refl}
 use Rattle.circular_buffer.specs.Buffer.{Buffer}
 use Rattle.core_views.specs.declared.cache.Translation.{Translation}
-use Rattle.core_views.specs.declared.kind.Kind.{Kind}
 use Rattle.core_views.specs.declared.place.Place.{Place}
 use Rattle.core_views.specs.declared.place.Place.TheVariants as place
 use Rattle.core_views.specs.declared.sizes.Sizes.{Sizes}
 use Rattle.core_views.specs.declared.topics.Topics.{Topics}
 use Rattle.core_views.specs.Held.{Held}
-use Rattle.core_views.specs.Sizes.{actors_of}
 use Rattle.spte_words.specs.declared.area.Area.{Area}
 use Rattle.spte_words.specs.declared.area.Area.TheVariants as area
 use Rattle.mmu_core.specs.declared.outcome.Task.{Task}
 use Rattle.mmu_core.specs.declared.part_step.PartStep.{PartStep}
-use Rattle.mmu_core.specs.Invariant.{CachedPart, Invariant, InvariantOf, IsLeafFor, OwnLines, UnderWay}
-use Rattle.mmu_core.specs.PartSteps.{own_index, part_task}
 use Rattle.mmu_core.specs.Steps.{idle_after}
 use Rattle.mmu_core.specs.Tasks.{kind_of_task}
 use Rattle.mmu_core.specs.TopicsInvariant.{TopicsInvariant}
-use Rattle.mmu_core.specs.View.{View, answer_in, part_stepped, upd, words_after}
+use Rattle.mmu_core.specs.View.{View, answer_in, part_stepped, upd}
 use Rattle.mmu_core.proofs.CachedKept.{flushed_kept}
-use Rattle.mmu_core.proofs.LiveStay.{translations_stay}
-use Rattle.mmu_core.proofs.LiveStays.{published_stays}
-use Rattle.mmu_core.proofs.PartStepping.{IsPart}
-use Rattle.mmu_core.proofs.PartWords.{areas_stay}
-use Rattle.mmu_core.proofs.SlotsStay.{AllKnow, SetStays, hand_moved, is_live_stays, loads_stay, record_stays}
+use Rattle.std.proofs.Common.{◌≡◌, ℕ, sym, subst, refl, ◌∙◌}
+use Rattle.std.specs.Prelude.{false}
+use Rattle.core_views.specs.declared.trace.Command.{Command}
+use Rattle.core_views.specs.SlotSets.{MemorySlots}
+use Rattle.mmu_core.specs.Invariant.{CachedPart, Holds, Invariant, InvariantOf, IsLeafFor, OwnLines, RecordPart, UnderWay}
+use Rattle.mmu_core.specs.PartSteps.{has_line, own_index, part_task}
+use Rattle.mmu_core.proofs.LiveStay.{StayLive, set_stays, translations_stay}
+use Rattle.mmu_core.proofs.LiveStays.{SetStays, published_stays}
+use Rattle.mmu_core.proofs.OthersStay.{leaves_none, owned_stays}
+use Rattle.mmu_core.proofs.PartStepping.{IsPart, idle_never, is_publish}
+use Rattle.mmu_core.proofs.PartWords.{areas_stay, role_stays, slots_are, slots_elsewhere, slots_same}
+use Rattle.mmu_core.proofs.SlotsStay.{AllKnow, hand_moved, is_live_stays, is_live_was, record_stays}
+use Rattle.mmu_core.proofs.Which.{has_line_is}
 
 -- a hand with other topics, and with other translations in its cache
 abbrev pub with_topics : Held → Topics → Buffer Translation → Held
@@ -38,27 +41,55 @@ own_lines z i h t c O = record { sizes = O.sizes; index = O.index; allowed = O.a
     under (place.Access p) e = e
     under (place.SetSlot p) e = e
 
--- Another actor's topics and cache change, and of the pool's words none of the published set.
-pub lines_stay : (z : Sizes) (slots before after host : ℕ → ℕ) (hand : ℕ → Held) (a : ℕ) (t : Topics) (c : Buffer Translation) → a < actors_of z → SetStays before after
-    → CachedPart after host c.items → AllKnow z (upd hand a (with_topics (hand a) t c)) → InvariantOf z slots before host hand → InvariantOf z slots after host (upd hand a (with_topics (hand a) t c))
-lines_stay z slots before after host hand a t c lt stays cached knows I =
-    hand_moved z slots before after host hand a (with_topics (hand a) t c) stays (own_lines z a (hand a) t c (I.lines a lt))
-    (loads_stay before after stays z host (hand a).state.place (hand a).state.line.command (hand a).slots (hand a).state (I.loads a lt))
-    cached (λ is. record_stays before after stays (hand a).slots (I.recorded a lt is)) knows I
+-- An actor that has no line left has none under way: nothing is loaded for it.
+idle_holds : (z : Sizes) (pool host : ℕ → ℕ) (set : ℕ) (q : Place) (command : Command) (h g : Held) → has_line h ≡ false → UnderWay q h → Holds z pool host set q command g
+idle_holds z pool host set place.Between command h g none under = tt
+idle_holds z pool host set (place.Access p) command h g none under = let has = has_line_is h under.1 in absurd (cc (none, has))
+idle_holds z pool host set (place.SetSlot p) command h g none under = let has = has_line_is h under.1 in absurd (cc (none, has))
 
 -- A step of a part by an actor that has no line left.
-pub part_keeps_lines : (z : Sizes) (v : View) (a : ℕ) (step : PartStep) (note : ℕ) → IsPart z v a step → Invariant z v → TopicsInvariant z v → AllKnow z (part_stepped a step note v).hand → Invariant z (part_stepped a step note v)
-part_keeps_lines z v a step note S I P knows =
-    let h : Held = v.hand a in
-    let t : Task = part_task step (own_index h) h.topics note in
-    let k : Kind = kind_of_task h.state.sizes t in
-    let behind : Area → ℕ → ℕ = words_after t v.words in
-    let after : Held = idle_after h k (answer_in t v.words) in
-    let stays : SetStays (v.words area.Pool) (behind area.Pool) = published_stays z v a step note S P I.set.published in
-    let live = is_live_stays (v.words area.Pool) (behind area.Pool) stays in
-    let cached : CachedPart (behind area.Pool) (v.words area.Host) after.cached.items =
-    flushed_kept (λ (x : Translation). (x.level ≡ 1) × IsLeafFor (behind area.Pool) (v.words area.Host) x.gfn x.leaf) k h.cached (answer_in t v.words)
-    (translations_stay (v.words area.Pool) (behind area.Pool) live (v.words area.Host) h.cached.items (I.cached a S.there)) in
-    let kept = lines_stay z (v.words area.Slots) (v.words area.Pool) (behind area.Pool) (v.words area.Host) v.hand a after.topics after.cached S.there stays cached knows I in
-    subst (λ (f : ℕ → ℕ). InvariantOf z f (behind area.Pool) (behind area.Host) (upd v.hand a after)) (sym (areas_stay v a step note area.Slots refl))
-    (subst (λ (f : ℕ → ℕ). InvariantOf z (v.words area.Slots) (behind area.Pool) f (upd v.hand a after)) (sym (areas_stay v a step note area.Host refl)) kept)
+pub part_keeps_lines : (z : Sizes) (v : View) (a : ℕ) (step : PartStep) (note : ℕ) → IsPart z v a step → has_line (v.hand a) ≡ false → Invariant z v → TopicsInvariant z v → AllKnow z (part_stepped a step note v).hand → Invariant z (part_stepped a step note v)
+part_keeps_lines z v a step note S none I P knows =
+    subst (λ n. InvariantOf z n (words area.Role) (words area.Pool) (words area.Host) (upd v.hand a after)) (sym (slots_are v a step note ∙ slots_same step h.topics set never))
+    (subst (λ (f : ℕ → ℕ). InvariantOf z set (words area.Role) (words area.Pool) f (upd v.hand a after)) (sym (areas_stay v a step note area.Host refl))
+    (hand_moved z set set (v.words area.Role) (words area.Role) (v.words area.Pool) (words area.Pool) (v.words area.Host) v.hand a after live
+    (set_stays z (v.words area.Role) (words area.Role) (v.words area.Pool) set (words area.Pool) set (is_live_was set (v.words area.Pool) (words area.Pool) stays)
+    (role_stays z v a step note S set (slots_elsewhere z v a step S P) ∙ I.set_part.role_is) I.set_part)
+    (owned_stays z v a step note S P) (λ i lt ne is. recorded (v.hand i).slots (I.recorded i lt is)) (own_lines z a h after.topics after.cached (I.lines a S.there))
+    (idle_holds z (words area.Pool) (v.words area.Host) set h.state.place h.state.line.command h after none (I.lines a S.there).under)
+    (λ may. leaves_none step h.state.sizes (own_index h) h.topics note x never (I.leaves a S.there may)) cached (λ is. recorded h.slots (I.recorded a S.there is)) knows I))
+  where
+    h : Held
+    h = v.hand a
+
+    set : ℕ
+    set = v.words area.Slots 0
+
+    t : Task
+    t = part_task step (own_index h) h.topics note
+
+    x : ℕ
+    x = answer_in t v.words
+
+    words : Area → ℕ → ℕ
+    words = (part_stepped a step note v).words
+
+    after : Held
+    after = idle_after h (kind_of_task h.state.sizes t) x
+
+    never : is_publish step ≡ false
+    never = idle_never step h S.needs none
+
+    stays : SetStays set (v.words area.Pool) (words area.Pool)
+    stays = published_stays z v a step note S P
+
+    live : StayLive (v.words area.Pool) set (words area.Pool) set
+    live = is_live_stays set (v.words area.Pool) (words area.Pool) stays
+
+    recorded : (slots : MemorySlots) → RecordPart (v.words area.Pool) set slots → RecordPart (words area.Pool) set slots
+    recorded slots R = record_stays set (v.words area.Pool) (words area.Pool) stays slots R
+
+    cached : CachedPart (words area.Pool) (v.words area.Host) set after.cached.items
+    cached =
+        flushed_kept (λ (y : Translation). (y.level ≡ 1) × IsLeafFor (words area.Pool) (v.words area.Host) set y.gfn y.leaf) (kind_of_task h.state.sizes t) h.cached x
+        (translations_stay (v.words area.Pool) set (words area.Pool) set live (v.words area.Host) h.cached.items (I.cached a S.there))

@@ -1,11 +1,22 @@
 -- A step of a part, with what the invariant says of its hand.
-use Rattle.std.proofs.Common.{◌≡◌, ◌<◌, ◌^◌, ℕ}
+use Rattle.std.proofs.Common.{◌≡◌, ◌<◌, ◌^◌, ℕ, false, Bool, true, refl}
 use Rattle.core_views.specs.declared.sizes.Sizes.{Sizes}
+use Rattle.core_views.specs.Held.{Held}
 use Rattle.core_views.specs.Sizes.{AreSizes, actors_of}
+use Rattle.core_views.specs.declared.topics.Topics.{Topics}
+use Rattle.core_views.specs.declared.trace.Slot.{Slot as SlotOf}
 use Rattle.spte_words.specs.declared.area.Area.{Area}
+use Rattle.spte_words.specs.declared.area.Area.TheVariants as area
+use Rattle.mmu_core.specs.declared.part_step.PartStep.TheVariants as part
 use Rattle.mmu_core.specs.declared.part_step.PartStep.{PartStep}
-use Rattle.mmu_core.specs.PartSteps.{IsWithin, PartNeeds, own_index}
+use Rattle.mmu_core.specs.PartSteps.{IsWithin, PartNeeds, own_index, page_owned, has_line}
+use Rattle.mmu_core.specs.SlotSetPart.{IsLiveIn}
 use Rattle.mmu_core.specs.View.{View}
+
+-- A slot set that is published has each slot of the one before it.
+abbrev pub Replaces : PartStep → (ℕ → ℕ) → ℕ → Topics → Type 0
+Replaces part.Publish pool slots t = (id : ℕ) (slot : SlotOf) → IsLiveIn pool slots id slot → IsLiveIn pool (page_owned t.owned) id slot
+Replaces _ pool slots t = Unit {0}
 
 -- The actor makes this step of a part, for its line or with no line left.
 pub record IsPart (z : Sizes) (v : View) (a : ℕ) (step : PartStep) : Type 0 where
@@ -14,5 +25,20 @@ pub record IsPart (z : Sizes) (v : View) (a : ℕ) (step : PartStep) : Type 0 wh
   pub sizes : (v.hand a).state.sizes ≡ z
   pub own_place : own_index (v.hand a) ≡ a
   pub needs : PartNeeds step (v.hand a)
+  pub replaces : Replaces step (v.words area.Pool) (v.words area.Slots 0) (v.hand a).topics
   pub within : IsWithin (v.hand a) step
   pub small : (b : Area) (i : ℕ) → v.words b i < 2 ^ 64
+
+-- The step is a publication.
+abbrev pub is_publish : PartStep → Bool
+is_publish part.Publish = true
+is_publish _ = false
+
+-- An actor that has no line left publishes nothing.
+pub idle_never : (step : PartStep) (h : Held) → PartNeeds step h → has_line h ≡ false → is_publish step ≡ false
+idle_never part.Publish h needs none = let has = needs.0 in absurd (cc (has, none))
+idle_never _ h needs none = refl
+
+pub replaces_none : (step : PartStep) (pool : ℕ → ℕ) (slots : ℕ) (t : Topics) → is_publish step ≡ false → Replaces step pool slots t
+replaces_none part.Publish pool slots t never = absurd (cc never)
+replaces_none _ pool slots t never = tt

@@ -52,10 +52,10 @@ lone_is : (z : Sizes) (word : ℕ) (t : Topics) (v : ℕ) → word < 8 → contr
 lone_is z word t v lt = ap (λ (c : MapClaim). record (controlled z word t v) { claim = c }) (at_lone z word t.claim v lt)
 
 -- the place of the map's words
-map_word : (z : Sizes) (i : ℕ) → place (map_of z) area.PoolMap i ≡ map_begins z + i
-map_word z i = place_at (map_of z) area.PoolMap i
+pub map_word_at : (z : Sizes) (i : ℕ) → place (map_of z) area.PoolMap i ≡ map_begins z + i
+map_word_at z i = place_at (map_of z) area.PoolMap i
 
-map_end : (z : Sizes) → map_ends z ≡ map_begins z + words_of_bits z.pool
+pub map_end : (z : Sizes) → map_ends z ≡ map_begins z + words_of_bits z.pool
 map_end z = next_place (map_of z) area.PoolMap area.FrameMap refl ∙ place_at (map_of z) area.PoolMap (words_of_bits z.pool)
 
 state_place : (z : Sizes) (i : ℕ) → place (map_of z) area.State i - number_of area.State ≡ i
@@ -112,7 +112,7 @@ mapped z word claim t v le is =
 map_topics : (z : Sizes) (own i : ℕ) (t : Topics) (note v : ℕ) → i < words_of_bits z.pool → topics_after z (kind_of_task z (part_task (part.Map i) own t note)) t v ≡ part_topics (part.Map i) t v
 unfolding topics_after
 map_topics z own i t note v lt =
-    ap (λ word. controlled z word t v) (map_word z i) ∙ mapped z (map_begins z + i) _ t v (omega (arith, lone_begin z)) (at_map z i t.claim v lt)
+    ap (λ word. controlled z word t v) (map_word_at z i) ∙ mapped z (map_begins z + i) _ t v (omega (arith, lone_begin z)) (at_map z i t.claim v lt)
 
 -- a fill is a fill wherever it stores
 fill_topics : (z : Sizes) (own value : ℕ) (t : Topics) (note v : ℕ) → topics_after z (kind_of_task z (part_task (part.Fill value) own t note)) t v ≡ part_topics (part.Fill value) t v
@@ -179,6 +179,9 @@ part_topics_is z (part.Link gfn) own t note v there = swap_topics z gfn (link_wr
 part_topics_is z (part.Leaf gfn) own t note v there = swap_topics z gfn (leaf_written t) note t v there
 part_topics_is z (part.Host page) own t note v there = ap (λ p. record t { host = Some (record { page = p; word = v }) }) (behind_host z page)
 part_topics_is z (part.Watch index) own t note v there = ap (λ i. record t { watched = i + (if in_section v then 0 else 1) }) (state_place z index)
+part_topics_is z part.Publish own t note v there = refl
+part_topics_is z part.Clear own t note v there = refl
+part_topics_is z part.GiveOld own t note v there = refl
 
 -- the hand behind the step, by the actor at this place
 abbrev pub part_hand : PartStep → ℕ → ℕ → Held → ℕ → Held
@@ -224,6 +227,9 @@ is_there part.RangeEnd h N = tt
 is_there part.Root h N = tt
 is_there (part.Host page) h N = tt
 is_there (part.Watch index) h N = tt
+is_there part.Publish h N = tt
+is_there part.Clear h N = tt
+is_there part.GiveOld h N = tt
 
 pub part_stepped_is : (z : Sizes) (v : View) (a : ℕ) (step : PartStep) (note : ℕ) → IsPart z v a step → part_stepped a step note v ≡ part_behind a step note v
 part_stepped_is z v a step note S =

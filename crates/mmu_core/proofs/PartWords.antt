@@ -1,6 +1,6 @@
 -- The words that a step of a part leaves: whole areas, and of the pool all pages but the actor's own.
-use Rattle.std.proofs.Common.{◌≡◌, ◌≢◌, ◌<◌, ◌≤◌, ℕ, refl, sym, ap, ◌∙◌, arith}
-use Rattle.std.specs.Prelude.{Bool, true, false, ◌==◌, if◌then◌else◌, Some}
+use Rattle.std.proofs.Common.{◌≡◌, ◌≢◌, ◌<◌, ◌≤◌, ℕ, refl, sym, ap, ◌∙◌, arith, is_some, Option}
+use Rattle.std.specs.Prelude.{Bool, true, false, ◌==◌, if◌then◌else◌, Some, Option, None, is_some}
 use Rattle.std.proofs.lemmas.Bool.Decides.{nat_tests}
 use Rattle.core_views.specs.declared.sizes.Sizes.{Sizes}
 use Rattle.core_views.specs.declared.topics.OwnedPage.{OwnedPage}
@@ -13,13 +13,13 @@ use Rattle.spte_words.specs.Areas.{number_of, pool_index}
 use Rattle.spte_words.proofs.Indices.{same_pool_word}
 use Rattle.mmu_core.specs.declared.part_step.PartStep.{PartStep}
 use Rattle.mmu_core.specs.declared.part_step.PartStep.TheVariants as part
-use Rattle.mmu_core.specs.PartSteps.{HasToFill, entry_index, entry_task, leaf_written, link_written, own_index, page_owned, part_task, table_page, words_filled}
+use Rattle.mmu_core.specs.PartSteps.{HasToFill, entry_index, entry_task, leaf_written, link_written, own_index, page_owned, part_task, table_page, words_filled, page_left}
 use Rattle.mmu_core.specs.TopicsInvariant.{TopicsInvariant}
 use Rattle.mmu_core.specs.View.{View, answer_in, part_stepped, put, upd, words_after}
 use Rattle.mmu_core.proofs.Columns.{upd_other, upd_same}
 use Rattle.mmu_core.proofs.OwnedBehind.{fill_by}
-use Rattle.mmu_core.proofs.PartStepping.{IsPart}
-use Rattle.mmu_core.proofs.PoolPages.{owned_not_slots, table_not_owned, table_not_slots}
+use Rattle.mmu_core.proofs.PartStepping.{IsPart, is_publish}
+use Rattle.mmu_core.proofs.PoolPages.{owned_not_slots, table_not_owned, table_not_slots, left_not_slots}
 
 -- No step of a part stores in the area.
 abbrev pub stays : Area → Bool
@@ -27,6 +27,7 @@ stays area.Lock = false
 stays area.State = false
 stays area.PoolMap = false
 stays area.Role = false
+stays area.Slots = false
 stays area.Pool = false
 stays _ = true
 
@@ -36,6 +37,7 @@ record IsApart (b : Area) : Type 0 where
   state : (number_of b == number_of area.State) ≡ false
   map : (number_of b == number_of area.PoolMap) ≡ false
   role : (number_of b == number_of area.Role) ≡ false
+  slots : (number_of b == number_of area.Slots) ≡ false
   pool : (number_of b == number_of area.Pool) ≡ false
 
 apart : (b : Area) → stays b ≡ true → IsApart b
@@ -43,8 +45,9 @@ apart area.Lock is = absurd (cc is)
 apart area.State is = absurd (cc is)
 apart area.PoolMap is = absurd (cc is)
 apart area.Role is = absurd (cc is)
+apart area.Slots is = absurd (cc is)
 apart area.Pool is = absurd (cc is)
-apart _ is = record { lock = refl; state = refl; map = refl; role = refl; pool = refl }
+apart _ is = record { lock = refl; state = refl; map = refl; role = refl; slots = refl; pool = refl }
 
 put_elsewhere : (words : Area → ℕ → ℕ) (stored b : Area) (i x : ℕ) → (number_of b == number_of stored) ≡ false → put words stored i x b ≡ words b
 put_elsewhere words stored b i x is = ap (λ (t : Bool). if t then upd (words b) i x else words b) is
@@ -64,14 +67,38 @@ words_stay part.Exclude own t note words b A = put_elsewhere words area.Lock b 0
 words_stay part.Release own t note words b A = put_elsewhere words area.Lock b 0 _ A.lock
 words_stay part.Claim own t note words b A = put_elsewhere words area.PoolMap b t.claim.at _ A.map
 words_stay part.Give own t note words b A = put_elsewhere words area.PoolMap b _ _ A.map
+words_stay part.GiveOld own t note words b A = put_elsewhere words area.PoolMap b _ _ A.map
+words_stay part.Publish own t note words b A = put_elsewhere words area.Slots b 0 _ A.slots
+words_stay part.Clear own t note words b A = put_elsewhere words area.Role b _ _ A.role
 words_stay (part.Link gfn) own t note words b A = put_elsewhere words area.Pool b _ _ A.pool
 words_stay (part.Leaf gfn) own t note words b A = put_elsewhere words area.Pool b _ _ A.pool
 words_stay (part.Fill value) own t note words b A = fill_elsewhere_by (words_filled t.owned == 512) (page_owned t.owned) (words_filled t.owned) value note words b A
 words_stay _ own t note words b A = refl
 
--- Whole areas stay: those of the machine's control but the lock, host words, linear entries, content, the frame map and the log.
+-- Whole areas stay: those of the machine's control but the lock and the published slot set, host words, linear entries, content, the frame map and the log.
 pub areas_stay : (v : View) (a : ℕ) (step : PartStep) (note : ℕ) (b : Area) → stays b ≡ true → (part_stepped a step note v).words b ≡ v.words b
 areas_stay v a step note b is = words_stay step (own_index (v.hand a)) (v.hand a).topics note v.words b (apart b is)
+
+-- the page of the published slot set behind a step
+abbrev pub slots_behind : PartStep → Topics → ℕ → ℕ
+slots_behind part.Publish t slots = page_owned t.owned
+slots_behind _ t slots = slots
+
+slots_after : (step : PartStep) (own : ℕ) (t : Topics) (note : ℕ) (words : Area → ℕ → ℕ) → words_after (part_task step own t note) words area.Slots 0 ≡ slots_behind step t (words area.Slots 0)
+slots_after part.Publish own t note words = refl
+slots_after (part.Fill value) own t note words = by (words_filled t.owned == 512)
+  where
+    by : (role : Bool) → words_after (fill_by role (page_owned t.owned) (words_filled t.owned) value note) words area.Slots 0 ≡ words area.Slots 0
+    by true = refl
+    by false = refl
+slots_after _ own t note words = refl
+
+pub slots_same : (step : PartStep) (t : Topics) (slots : ℕ) → is_publish step ≡ false → slots_behind step t slots ≡ slots
+slots_same part.Publish t slots never = absurd (cc never)
+slots_same _ t slots never = refl
+
+pub slots_are : (v : View) (a : ℕ) (step : PartStep) (note : ℕ) → (part_stepped a step note v).words area.Slots 0 ≡ slots_behind step (v.hand a).topics (v.words area.Slots 0)
+slots_are v a step note = slots_after step (own_index (v.hand a)) (v.hand a).topics note v.words
 
 -- ---- a fill, of a word or of the role
 
@@ -109,11 +136,12 @@ role_leaves true page filled value note words k apart = upd_other (words area.Ro
 role_leaves false page filled value note words k apart = refl
 
 -- The step stores in no word of the page: in none of the page that the actor owns, where it fills that, and in none of the table that
--- its walk has come to, where it exchanges an entry.
+-- its walk has come to, where it exchanges an entry; and it isn't the page whose role is taken.
 abbrev pub IsElsewhere : PartStep → Topics → ℕ → Type 0
 IsElsewhere (part.Fill value) t k = (o : OwnedPage) → t.owned ≡ Some o → o.page ≢ k
 IsElsewhere (part.Link gfn) t k = table_page t.walk ≢ k
 IsElsewhere (part.Leaf gfn) t k = table_page t.walk ≢ k
+IsElsewhere part.Clear t k = page_left t.leaving ≢ k
 IsElsewhere _ t k = Unit {0}
 
 -- An exchange of an entry leaves each other page.
@@ -140,23 +168,34 @@ role_stays z v a (part.Fill value) note S k differs =
     let to_fill : HasToFill t = S.needs.0 in
     let page : page_owned t.owned ≡ to_fill.owned.page = ap page_owned to_fill.is in
     role_leaves (words_filled t.owned == 512) (page_owned t.owned) (words_filled t.owned) value note v.words k (λ e. differs to_fill.owned to_fill.is (sym page ∙ e))
+role_stays z v a part.Clear note S k differs = upd_other (v.words area.Role) (page_left (v.hand a).topics.leaving) k 0 (λ e. differs (sym e))
 role_stays z v a _ note S k differs = refl
 
 -- The table that an entry is exchanged in is no page of the published slot set, and nobody owns it.
 pub walks_elsewhere : (z : Sizes) (v : View) (a : ℕ) → a < actors_of z → TopicsInvariant z v → 1 ≤ (v.hand a).topics.walk.level → table_page (v.hand a).topics.walk ≢ v.words area.Slots 0
 walks_elsewhere z v a lt I from =
     let at = (I.held a lt).table from in
-    table_not_slots (actors_of z) z.pool (v.words area.Slots 0) (v.words area.PoolMap) (λ i. (v.hand i).topics.owned) I.stands I.pool_part (table_page (v.hand a).topics.walk) _ (I.tree.there _ _ at).0 at
+    table_not_slots (actors_of z) z.pool (v.words area.Slots 0) (v.words area.PoolMap) (λ i. (v.hand i).topics.owned) (λ i. (v.hand i).topics.leaving) I.stands I.pool_part (table_page (v.hand a).topics.walk) _ (I.tree.there _ _ at).0 at
 
 pub walks_unowned : (z : Sizes) (v : View) (a : ℕ) → a < actors_of z → TopicsInvariant z v → 1 ≤ (v.hand a).topics.walk.level → (i : ℕ) (o : OwnedPage) → i < actors_of z → (v.hand i).topics.owned ≡ Some o → o.page ≢ table_page (v.hand a).topics.walk
 walks_unowned z v a lt I from =
-    table_not_owned (actors_of z) z.pool (v.words area.Slots 0) (v.words area.PoolMap) (λ i. (v.hand i).topics.owned) I.stands I.pool_part (table_page (v.hand a).topics.walk) _ ((I.held a lt).table from)
+    table_not_owned (actors_of z) z.pool (v.words area.Slots 0) (v.words area.PoolMap) (λ i. (v.hand i).topics.owned) (λ i. (v.hand i).topics.leaving) I.stands I.pool_part (table_page (v.hand a).topics.walk) _ ((I.held a lt).table from)
+
+-- the page that is leaving is another one
+pub left_elsewhere : (t : Topics) → is_some t.leaving ≡ true → (k : ℕ) → ((l : ℕ) → t.leaving ≡ Some l → l ≢ k) → page_left t.leaving ≢ k
+left_elsewhere t some k each = by t.leaving refl some
+  where
+    by : (x : Option ℕ) → t.leaving ≡ x → is_some x ≡ true → page_left t.leaving ≢ k
+    by None is some e = absurd (cc some)
+    by (Some l) is some e = each l is (sym (ap page_left is) ∙ e)
 
 -- A step leaves the page of the published slot set.
 pub slots_elsewhere : (z : Sizes) (v : View) (a : ℕ) (step : PartStep) → IsPart z v a step → TopicsInvariant z v → IsElsewhere step (v.hand a).topics (v.words area.Slots 0)
-slots_elsewhere z v a (part.Fill value) S I = λ o is. owned_not_slots (actors_of z) z.pool (v.words area.Slots 0) (v.words area.PoolMap) (λ i. (v.hand i).topics.owned) I.stands I.pool_part a o S.there is
+slots_elsewhere z v a (part.Fill value) S I = λ o is. owned_not_slots (actors_of z) z.pool (v.words area.Slots 0) (v.words area.PoolMap) (λ i. (v.hand i).topics.owned) (λ i. (v.hand i).topics.leaving) I.stands I.pool_part a o S.there is
 slots_elsewhere z v a (part.Link gfn) S I = walks_elsewhere z v a S.there I S.needs.0.saw.over.there
 slots_elsewhere z v a (part.Leaf gfn) S I = walks_elsewhere z v a S.there I S.needs.0.saw.over.there
+slots_elsewhere z v a part.Clear S I = left_elsewhere (v.hand a).topics S.needs.leaves (v.words area.Slots 0)
+    (λ k is. left_not_slots (actors_of z) z.pool (v.words area.Slots 0) (v.words area.PoolMap) (λ i. (v.hand i).topics.owned) (λ i. (v.hand i).topics.leaving) I.stands I.pool_part a k S.there is)
 slots_elsewhere z v a _ S I = tt
 
 pub fill_elsewhere : (z : Sizes) (v : View) (a : ℕ) (step : PartStep) (note : ℕ) → IsPart z v a step → TopicsInvariant z v → (j : ℕ) → j < 512

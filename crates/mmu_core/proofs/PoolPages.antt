@@ -1,10 +1,10 @@
--- What a page of the pool is, it is alone: free, owned by one actor, a table, or the published slot set.
-use Rattle.std.proofs.Common.{◌≡◌, ◌≢◌, ◌⊎◌, inl, inr, ◌<◌, ◌≤◌, ℕ, refl, sym, ap, ◌∙◌, arith}
+-- What a page of the pool is, it is alone: free, owned by one actor, a table, the published slot set, or leaving.
+use Rattle.std.proofs.Common.{◌≡◌, ◌≢◌, ◌⊎◌, inl, inr, ◌<◌, ◌≤◌, ℕ, refl, sym, subst, ap, ◌∙◌, arith}
 use Rattle.std.specs.Prelude.{Bool, true, false, ◌==◌, Option, Some, is_some}
 use Rattle.std.proofs.lemmas.Bool.{cases_lt}
 use Rattle.std.proofs.lemmas.Bool.Decides.{nat_tests}
 use Rattle.core_views.specs.declared.topics.OwnedPage.{OwnedPage}
-use Rattle.mmu_core.specs.PoolPart.{PoolPart, is_free, is_owned, owners}
+use Rattle.mmu_core.specs.PoolPart.{PoolPart, is_free, is_leaving, is_owned, leavers, owners}
 use Rattle.mmu_core.specs.Sums.{one_if}
 use Rattle.mmu_core.specs.TreePart.{Position}
 use Rattle.mmu_core.proofs.Columns.{same_or}
@@ -30,7 +30,14 @@ has_two_owners n owned i j o p lt more apart is be same =
     let second : one_if (is_owned (owned j) o.page) ≡ 1 = ap (λ k. one_if (is_owned (owned j) k)) (sym same) ∙ owned_counts (owned j) p be in
     omega (arith, sum_two n (λ l. one_if (is_owned (owned l) o.page)) i j lt more apart, owned_counts (owned i) o is, second)
 
-module _ (n pages slots : ℕ) (map : ℕ → ℕ) (owned : ℕ → Option OwnedPage) (stands : ℕ → Option Position) (P : PoolPart n pages slots map owned stands) where
+-- What leaves counts, too.
+pub leaving_counts : (leaving : Option ℕ) (k : ℕ) → leaving ≡ Some k → one_if (is_leaving leaving k) ≡ 1
+leaving_counts leaving k is = ap (λ x. one_if (is_leaving x k)) is ∙ itself k
+
+pub has_leaver : (n : ℕ) (leaving : ℕ → Option ℕ) (i k : ℕ) → i < n → leaving i ≡ Some k → 1 ≤ leavers n leaving k
+has_leaver n leaving i k lt is = omega (arith, sum_ge n (λ j. one_if (is_leaving (leaving j) k)) i lt, leaving_counts (leaving i) k is)
+
+module _ (n pages slots : ℕ) (map : ℕ → ℕ) (owned : ℕ → Option OwnedPage) (leaving : ℕ → Option ℕ) (stands : ℕ → Option Position) (P : PoolPart n pages slots map owned leaving stands) where
   -- An owned page isn't free, is no table and isn't the published slot set.
   pub owned_not_free : (i : ℕ) (o : OwnedPage) → i < n → owned i ≡ Some o → is_free map o.page ≡ false
   owned_not_free i o lt is = by (is_free map o.page) (omega (arith, P.each o.page (P.there i o lt is), has_owner n owned i o lt is))
@@ -66,6 +73,38 @@ module _ (n pages slots : ℕ) (map : ℕ → ℕ) (owned : ℕ → Option Owned
 
   pub table_not_owned : (k : ℕ) (p : Position) → stands k ≡ Some p → (i : ℕ) (o : OwnedPage) → i < n → owned i ≡ Some o → o.page ≢ k
   table_not_owned k p at i o lt is e = owned_no_table i o p lt is (ap stands e ∙ at)
+
+  -- A page that is leaving isn't free, has no owner, is no table, and isn't the published slot set; and it leaves for one actor.
+  pub left_not_free : (i k : ℕ) → i < n → leaving i ≡ Some k → is_free map k ≡ false
+  left_not_free i k lt is = by (is_free map k) (omega (arith, P.each k (P.left_there i k lt is), has_leaver n leaving i k lt is))
+    where
+      by : (b : Bool) → one_if b ≤ 0 → b ≡ false
+      by true le = absurd (omega (arith, le))
+      by false le = refl
+
+  pub left_not_owned : (i k : ℕ) → i < n → leaving i ≡ Some k → (j : ℕ) (o : OwnedPage) → j < n → owned j ≡ Some o → o.page ≢ k
+  left_not_owned i k lt is j o more be e =
+      let owner : 1 ≤ owners n owned k = subst (λ p. 1 ≤ owners n owned p) e (has_owner n owned j o more be) in
+      omega (arith, P.each k (P.left_there i k lt is), has_leaver n leaving i k lt is, owner)
+
+  pub left_no_table : (i k : ℕ) (p : Position) → i < n → leaving i ≡ Some k → stands k ≡ Some p → ⊥
+  left_no_table i k p lt is at =
+      let table : one_if (is_some (stands k)) ≡ 1 = ap (λ (x : Option Position). one_if (is_some x)) at in
+      omega (arith, P.each k (P.left_there i k lt is), has_leaver n leaving i k lt is, table)
+
+  pub left_not_slots : (i k : ℕ) → i < n → leaving i ≡ Some k → k ≢ slots
+  left_not_slots i k lt is e =
+      let at : one_if (slots == k) ≡ 1 = ap (λ l. one_if (slots == l)) e ∙ itself slots in
+      omega (arith, P.each k (P.left_there i k lt is), has_leaver n leaving i k lt is, at)
+
+  pub one_leaver : (i j k : ℕ) → i < n → j < n → leaving i ≡ Some k → leaving j ≡ Some k → i ≡ j
+  one_leaver i j k lt more is be = by (same_or i j)
+    where
+      by : (i ≡ j) ⊎ (i ≢ j) → i ≡ j
+      by (inl e) = e
+      by (inr apart) =
+          let two : 2 ≤ leavers n leaving k = omega (arith, sum_two n (λ l. one_if (is_leaving (leaving l) k)) i j lt more apart, leaving_counts (leaving i) k is, leaving_counts (leaving j) k be) in
+          absurd (omega (arith, P.each k (P.left_there i k lt is), two))
 
   -- A free page is one of the pool.
   pub free_there : (k : ℕ) → is_free map k ≡ true → k < pages

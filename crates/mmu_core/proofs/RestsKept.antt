@@ -1,5 +1,5 @@
 -- What a line rests on, from the invariant; and that the word of its next step is one of the words.
-use Rattle.std.proofs.Common.{◌≡◌, ◌⊎◌, inl, inr, ◌<◌, ◌≤◌, ◌+◌, ◌*◌, ◌-◌, ℕ, length, refl, sym, subst, ap, ◌∙◌, arith}
+use Rattle.std.proofs.Common.{◌≡◌, ◌⊎◌, inl, inr, ◌<◌, ◌≤◌, ◌+◌, ◌-◌, ℕ, length, refl, sym, subst, ap, ◌∙◌, arith}
 use Rattle.std.specs.Prelude.{true, ◌&&◌, nat_le, nat_lt, Option, Some, None}
 use Rattle.std.proofs.Math.Logic.{∥∥₁_elim, ∥∥₁_map}
 use Rattle.std.proofs.Props.{props}
@@ -12,9 +12,7 @@ use Rattle.core_views.specs.declared.place.AccessPlace.TheVariants.{Enter, Pause
 use Rattle.core_views.specs.declared.place.Place.{Place}
 use Rattle.core_views.specs.declared.place.Place.TheVariants as place
 use Rattle.core_views.specs.declared.place.SetSlotPlace.{SetSlotPlace}
-use Rattle.core_views.specs.declared.place.SetSlotPlace.TheVariants.{Refuse, Fill}
-use Rattle.core_views.specs.declared.place.SlotField.{SlotField}
-use Rattle.core_views.specs.declared.place.SlotField.TheVariants as field
+use Rattle.core_views.specs.declared.place.SetSlotPlace.TheVariants.{Publish}
 use Rattle.core_views.specs.declared.sizes.Sizes.{Sizes}
 use Rattle.core_views.specs.declared.topics.HostLook.{HostLook}
 use Rattle.core_views.specs.declared.topics.Invalidations.{Invalidations}
@@ -35,34 +33,33 @@ use Rattle.spte_words.specs.declared.area.Area.TheVariants as area
 use Rattle.spte_words.specs.Areas.{content_index, size_of}
 use Rattle.spte_words.specs.Entries.{frame_in}
 use Rattle.spte_words.specs.HostWords.{host_allows_write, host_frame}
-use Rattle.spte_words.proofs.Indices.{content_within, pool_within}
+use Rattle.spte_words.proofs.Indices.{content_within}
 use Rattle.spte_words.proofs.ReadsEntries.{leaf_frame}
 use Rattle.mmu_core.specs.declared.part_step.PartStep.{PartStep}
 use Rattle.mmu_core.specs.declared.part_step.PartStep.TheVariants as part
 use Rattle.mmu_core.specs.AccessSteps.{access_note, access_part, task_by, touch_of}
-use Rattle.mmu_core.specs.Invariant.{Holds, HostWordsPart, Invariant, IsLeafFor, KnowsPart, SlotSetPart}
 use Rattle.mmu_core.specs.KnowsPart.{AccessKnows}
 use Rattle.mmu_core.specs.PartBounds.{PartRests}
-use Rattle.mmu_core.specs.PartSteps.{FoundSlot, GoesOnToWord, HasToFill, IsFresh, IsVcpu, LookedUp, MayEnter, OwnsTable, PartNeeds, next_watched, own_index}
-use Rattle.mmu_core.specs.Rests.{AcceptsAt, RecordAccepts, Rests, RestsAt, RestsOn, SetSlotRests}
-use Rattle.mmu_core.specs.SetSlotSteps.{published_set, set_slot_task}
-use Rattle.mmu_core.specs.SlotWords.{field_number, may_write, page_of, slot_index}
+use Rattle.mmu_core.specs.PartSteps.{FoundSlot, GoesOnToWord, HasToFill, IsFresh, IsVcpu, LookedUp, MayEnter, OwnsTable, PartNeeds, next_watched, own_index, OwnsSet, MayPublish}
+use Rattle.mmu_core.specs.Rests.{AcceptsAt, RecordAccepts, Rests, RestsAt, RestsOn}
+use Rattle.mmu_core.specs.SetSlotSteps.{set_slot_note, set_slot_part}
+use Rattle.mmu_core.specs.SlotWords.{may_write, page_of}
 use Rattle.mmu_core.specs.Steps.{line_at, place_at, task_at, task_of}
 use Rattle.mmu_core.specs.Tasks.{map_of}
 use Rattle.mmu_core.specs.TopicsInvariant.{TopicsInvariant}
 use Rattle.mmu_core.specs.View.{View}
-use Rattle.mmu_core.proofs.Accepted.{accepted, accepted_id}
 use Rattle.mmu_core.proofs.Columns.{same_or}
 use Rattle.mmu_core.proofs.EntryTopics.{looked_at}
-use Rattle.mmu_core.proofs.KnowsKept.{access_needs, access_vcpu, step_knows}
+use Rattle.mmu_core.proofs.KnowsKept.{access_needs, access_vcpu, step_knows, NeedsAt, needs_at}
 use Rattle.mmu_core.proofs.PartBounded.{part_rests_at}
 pub use Rattle.mmu_core.proofs.PartBounded.{host_at}
-use Rattle.mmu_core.proofs.PartFits.{is_number, part_within_by}
+use Rattle.mmu_core.proofs.PartFits.{part_within_by}
 use Rattle.mmu_core.proofs.Stepping.{is_step}
+use Rattle.mmu_core.specs.Invariant.{Holds, HostWordsPart, Invariant, IsLeafFor, KnowsPart, SetSlotHolds, SlotSetPart}
 
 -- The leaf that an access uses is at a frame of the machine.
-leaf_there : (z : Sizes) (slots pool host : ℕ → ℕ) (gfn leaf : ℕ) → AreSizes z → SlotSetPart z slots pool → HostWordsPart z host → IsLeafFor pool host gfn leaf → frame_in leaf < z.frames
-leaf_there z slots pool host gfn leaf sizes set hosts L =
+leaf_there : (z : Sizes) (set : ℕ) (role pool host : ℕ → ℕ) (gfn leaf : ℕ) → AreSizes z → SlotSetPart z set role pool → HostWordsPart z host → IsLeafFor pool host set gfn leaf → frame_in leaf < z.frames
+leaf_there z set role pool host gfn leaf sizes part hosts L =
     let w : ℕ = host (page_of L.slot gfn) in
     let h : host_frame w < z.frames = host_at z host (page_of L.slot gfn) sizes hosts page in
     rw (L.is, leaf_frame 1 (host_frame w) (may_write L.slot w) (host_allows_write w) (may_write L.slot w) (omega (arith, h, sizes.frames.1))) h
@@ -72,15 +69,15 @@ leaf_there z slots pool host gfn leaf sizes set hosts L =
 
     page : page_of L.slot gfn < z.pages
     page =
-        let fits : L.slot.host + L.slot.pages ≤ z.pages = subst (λ (s : SlotOf). s.host + s.pages ≤ z.pages) L.live.is (set.fits L.id L.live.low L.live.live).pages in
+        let fits : L.slot.host + L.slot.pages ≤ z.pages = subst (λ (s : SlotOf). s.host + s.pages ≤ z.pages) L.live.is (part.fits L.id L.live.low L.live.live).pages in
         let inside = bounds L.slot.base (L.slot.base + L.slot.pages) L.holds in
         omega (arith, fits, inside.0, inside.1)
 
 -- The next step of a line finds what it needs.
 access_rests : (p : AccessPlace) (z : Sizes) (v : View) (h : Held) (gfn word : ℕ) (op : Op) → Invariant z v → h.state.sizes ≡ z → IsCommandFor z h.state.actor (Access gfn word op) → PartRests h → AccessKnows p gfn (is_write op) h
-    → Holds z (v.words area.Pool) (v.words area.Host) (place.Access p) (Access gfn word op) h.slots h.state → RestsOn (access_part p gfn h.topics) h
+    → Holds z (v.words area.Pool) (v.words area.Host) (v.words area.Slots 0) (place.Access p) (Access gfn word op) h → RestsOn (access_part p gfn h.topics) h
 access_rests Touch z v h gfn word op I same may R K e =
-    (subst (λ (y : Sizes). frame_in h.state.leaf < y.frames) (sym same) (leaf_there z (v.words area.Slots) (v.words area.Pool) (v.words area.Host) gfn h.state.leaf I.sizes I.set I.hosts e), K.0.guest)
+    (subst (λ (y : Sizes). frame_in h.state.leaf < y.frames) (sym same) (leaf_there z (v.words area.Slots 0) (v.words area.Role) (v.words area.Pool) (v.words area.Host) gfn h.state.leaf I.sizes I.set_part I.hosts e), K.0.guest)
 access_rests (Enter again) z v h gfn word op I same may R K e = let V = access_vcpu z h.state.actor gfn word op may in access_needs (Enter again) h gfn (is_write op) V.0 V.1 R K
 access_rests (Pause again) z v h gfn word op I same may R K e = tt
 access_rests (Root again) z v h gfn word op I same may R K e = tt
@@ -89,20 +86,22 @@ access_rests (Leave how) z v h gfn word op I same may R K e = K.guest
 access_rests (Fault p) z v h gfn word op I same may R K e = let V = access_vcpu z h.state.actor gfn word op may in access_needs (Fault p) h gfn (is_write op) V.0 V.1 R K
 
 rests_at : (p : Place) (command : Command) (z : Sizes) (v : View) (h : Held) → Invariant z v → h.state.sizes ≡ z → IsCommandFor z h.state.actor command → PartRests h → KnowsPart p command h
-    → Holds z (v.words area.Pool) (v.words area.Host) p command h.slots h.state → RestsAt p command h
-rests_at place.Between command z v h I same may R K e = tt
-rests_at (place.Access p) (Access gfn word op) z v h I same may R K e = access_rests p z v h gfn word op I same may R K e
-rests_at (place.Access p) (SetSlot id slot) z v h I same may R K e = absurd K
-rests_at (place.SetSlot p) (Access gfn word op) z v h I same may R K e = absurd K
-rests_at (place.SetSlot (Refuse refusal)) (SetSlot id slot) z v h I same may R K e = K
-rests_at (place.SetSlot (Fill f)) (SetSlot id slot) z v h I same may R K e = (accepted_id z.pages id slot h.slots (accepted z (v.words area.Pool) (v.words area.Host) f id slot h.slots h.state e), K)
+    → Holds z (v.words area.Pool) (v.words area.Host) (v.words area.Slots 0) p command h → NeedsAt p command h → RestsAt p command h
+rests_at place.Between command z v h I same may R K e N = tt
+rests_at (place.Access p) (Access gfn word op) z v h I same may R K e N = access_rests p z v h gfn word op I same may R K e
+rests_at (place.Access p) (SetSlot id slot) z v h I same may R K e N = absurd K
+rests_at (place.SetSlot p) (Access gfn word op) z v h I same may R K e N = absurd K
+rests_at (place.SetSlot p) (SetSlot id slot) z v h I same may R K e N = N
 
-accepts_at : (p : Place) (command : Command) (z : Sizes) (v : View) (h : Held) → Holds z (v.words area.Pool) (v.words area.Host) p command h.slots h.state → AcceptsAt p command z h.slots
+setting_accepts : (p : SetSlotPlace) (id : ℕ) (slot : SlotOf) (z : Sizes) (pool : ℕ → ℕ) (h : Held) → SetSlotHolds z pool p id slot h → RecordAccepts p z.pages id slot h.slots
+setting_accepts Publish id slot z pool h e = e.accepted
+setting_accepts _ id slot z pool h e = tt
+
+accepts_at : (p : Place) (command : Command) (z : Sizes) (v : View) (h : Held) → Holds z (v.words area.Pool) (v.words area.Host) (v.words area.Slots 0) p command h → AcceptsAt p command z h.slots
 accepts_at place.Between command z v h e = tt
 accepts_at (place.Access p) command z v h e = tt
 accepts_at (place.SetSlot p) (Access gfn word op) z v h e = tt
-accepts_at (place.SetSlot (Refuse refusal)) (SetSlot id slot) z v h e = tt
-accepts_at (place.SetSlot (Fill f)) (SetSlot id slot) z v h e = accepted z (v.words area.Pool) (v.words area.Host) f id slot h.slots h.state e
+accepts_at (place.SetSlot p) (SetSlot id slot) z v h e = setting_accepts p id slot z (v.words area.Pool) h e
 
 pub hand_rests : (z : Sizes) (v : View) (a : ℕ) → Invariant z v → TopicsInvariant z v → a < actors_of z → length (v.hand a).answers < length (v.hand a).lines → Rests (v.hand a)
 hand_rests z v a I P there left =
@@ -115,7 +114,7 @@ hand_rests z v a I P there left =
     record {
       part = R;
       line = subst (λ (y : Sizes). IsCommandFor y line.actor line.command) (sym same) S.allowed;
-      at = rests_at p line.command z v h I same (subst (λ (x : Actor). IsCommandFor z x line.command) S.own S.allowed) R (step_knows z v a line line.command p S I) S.holds;
+      at = rests_at p line.command z v h I same (subst (λ (x : Actor). IsCommandFor z x line.command) S.own S.allowed) R (step_knows z v a line line.command p S I) S.holds (needs_at z v a line line.command p S I P);
       accepts = subst (λ (y : Sizes). AcceptsAt p line.command y h.slots) (sym same) (accepts_at p line.command z v h S.holds);
     }
 
@@ -192,6 +191,27 @@ fill_stays t x = by t.owned refl
     by None is = absurd (∥∥₁_elim x (hlevel props) (λ O. let e = O.is in cc (e, is)))
     by (Some o) is = record { owned = o; is = is; left = ∥∥₁_elim x (hlevel props) (λ O. subst (λ (p : OwnedPage). p.filled < 513) (sym (same_owned (sym is ∙ O.is))) O.left) }
 
+pub owns_set_stays : (t : Topics) → ∥ OwnsSet t ∥₁ → OwnsSet t
+owns_set_stays t x = by t.owned refl
+  where
+    by : (o : Option OwnedPage) → t.owned ≡ o → OwnsSet t
+    by None is = absurd (∥∥₁_elim x (hlevel props) (λ O. let e = O.is in cc (e, is)))
+    by (Some o) is = record {
+      owned = o;
+      is = is;
+      whole = ∥∥₁_elim x (hlevel props) (λ O. ap (λ (p : OwnedPage). p.filled) (same_owned (sym is ∙ O.is)) ∙ O.whole);
+      role = ∥∥₁_elim x (hlevel props) (λ O. ap (λ (p : OwnedPage). p.role) (same_owned (sym is ∙ O.is)) ∙ O.role);
+    }
+
+pub publish_stays : (t : Topics) → ∥ MayPublish t ∥₁ → MayPublish t
+publish_stays t x = record {
+  owns = owns_set_stays t (∥∥₁_map x (λ M. M.owns));
+  alone = ∥∥₁_elim x (hlevel props) (λ M. M.alone);
+  looked = ∥∥₁_elim x (hlevel props) (λ M. M.looked);
+  none_open = ∥∥₁_elim x (hlevel props) (λ M. M.none_open);
+  none_leaves = ∥∥₁_elim x (hlevel props) (λ M. M.none_leaves);
+}
+
 word_stays : (word : ℕ) (t : Topics) → ∥ GoesOnToWord word t ∥₁ → GoesOnToWord word t
 word_stays word t x = either_stays (same_or word 0) (λ y. prop_stays (hlevel props) y) x
 
@@ -236,6 +256,9 @@ needs_stay (part.Watch index) h x = (
   ∥∥₁_elim x (hlevel props) (λ N. N.1),
   either_stays (same_or index (next_watched (own_index h) 0)) (λ y. prop_stays (hlevel props) y) (∥∥₁_map x (λ N. N.2)),
 )
+needs_stay part.Publish h x = (∥∥₁_elim x (hlevel props) (λ N. N.0), publish_stays h.topics (∥∥₁_map x (λ N. N.1)))
+needs_stay part.Clear h x = prop_stays (hlevel props) x
+needs_stay part.GiveOld h x = prop_stays (hlevel props) x
 
 on_stays : (s : Option PartStep) (h : Held) → ∥ RestsOn s h ∥₁ → RestsOn s h
 on_stays None h x = prop_stays (hlevel props) x
@@ -246,12 +269,11 @@ at_stays place.Between command h x = tt
 at_stays (place.Access p) (Access gfn word op) h x = on_stays (access_part p gfn h.topics) h x
 at_stays (place.Access p) (SetSlot id slot) h x = prop_stays (hlevel props) x
 at_stays (place.SetSlot p) (Access gfn word op) h x = prop_stays (hlevel props) x
-at_stays (place.SetSlot (Refuse refusal)) (SetSlot id slot) h x = prop_stays (hlevel props) x
-at_stays (place.SetSlot (Fill f)) (SetSlot id slot) h x = prop_stays (hlevel props) x
+at_stays (place.SetSlot p) (SetSlot id slot) h x = needs_stay (set_slot_part p h id slot) h x
 
 accepts_prop : (p : SetSlotPlace) (total id : ℕ) (slot : SlotOf) (slots : MemorySlots) → IsProp (RecordAccepts p total id slot slots)
-accepts_prop (Refuse refusal) total id slot slots = hlevel props
-accepts_prop (Fill f) total id slot slots = hlevel props
+accepts_prop Publish total id slot slots = hlevel props
+accepts_prop _ total id slot slots = hlevel props
 
 accepts_at_prop : (p : Place) (command : Command) (z : Sizes) (slots : MemorySlots) → IsProp (AcceptsAt p command z slots)
 accepts_at_prop place.Between command z slots = hlevel props
@@ -295,21 +317,11 @@ task_is_within : (s : Option PartStep) (h : Held) (note word : ℕ) (op : Op) �
 task_is_within None h note word op w R N = touch_within h.state.sizes op (frame_in h.state.leaf) word N.0 w
 task_is_within (Some step) h note word op w R N = part_within_by step h note N R
 
-slot_within : (z : Sizes) (set id : ℕ) (f : SlotField) → set < z.pool → id ≤ 31 → slot_index set id f < size_of (map_of z) area.Pool
-slot_within z set id f a b = let n = is_number f in pool_within (map_of z) set (4 * id + field_number f) a (omega arith)
-
 command_word : (z : Sizes) (actor : Actor) (gfn word : ℕ) (op : Op) → IsCommandFor z actor (Access gfn word op) → word < z.words
 command_word z (Vcpu n) gfn word op e = e.2
 command_word z (Host n) gfn word op e = absurd e
 command_word z Manager gfn word op e = absurd e
 command_word z (Worker n) gfn word op e = absurd e
-
-set_slot_within : (z : Sizes) (p : SetSlotPlace) (id : ℕ) (slot : SlotOf) (t : Topics) → AreSizes z → SetSlotRests p id t → (set_slot_task p id slot).index < size_of (map_of z) (set_slot_task p id slot).area
-set_slot_within z (Refuse refusal) id slot t sizes e = omega arith
-set_slot_within z (Fill field.Base) id slot t sizes e = slot_within z published_set id field.Base (omega (arith, sizes.pool.0)) e.0
-set_slot_within z (Fill field.Pages) id slot t sizes e = slot_within z published_set id field.Pages (omega (arith, sizes.pool.0)) e.0
-set_slot_within z (Fill field.Host) id slot t sizes e = slot_within z published_set id field.Host (omega (arith, sizes.pool.0)) e.0
-set_slot_within z (Fill field.Flags) id slot t sizes e = slot_within z published_set id field.Flags (omega (arith, sizes.pool.0)) e.0
 
 within_at : (p : Place) (actor : Actor) (command : Command) (h : Held) → IsCommandFor h.state.sizes actor command → PartRests h → RestsAt p command h → (task_at p command h).index < size_of (map_of h.state.sizes) (task_at p command h).area
 within_at place.Between actor (Access gfn word op) h may R e = omega arith
@@ -317,7 +329,7 @@ within_at place.Between actor (SetSlot id slot) h may R e = omega arith
 within_at (place.Access p) actor (Access gfn word op) h may R e = task_is_within (access_part p gfn h.topics) h (access_note p) word op (command_word h.state.sizes actor gfn word op may) R e
 within_at (place.Access p) actor (SetSlot id slot) h may R e = absurd e
 within_at (place.SetSlot p) actor (Access gfn word op) h may R e = absurd e
-within_at (place.SetSlot p) actor (SetSlot id slot) h may R e = set_slot_within h.state.sizes p id slot h.topics R.sizes e
+within_at (place.SetSlot p) actor (SetSlot id slot) h may R e = part_within_by (set_slot_part p h id slot) h (set_slot_note p h) e R
 
 pub task_within : (h : Held) → Rests h → (task_of h).index < size_of (map_of h.state.sizes) (task_of h).area
 task_within h R = within_at (place_at h.state.place h) (line_at h.state.place h).actor (line_at h.state.place h).command h R.line R.part R.at

@@ -1,29 +1,21 @@
 -- Who has yet to take itself out of the readers saw a writer: each step keeps it.
-use Rattle.std.proofs.Common.{◌≡◌, ◌<◌, ℕ, refl, sym, subst}
+use Rattle.std.proofs.Common.{◌≡◌, ◌<◌, ℕ, refl}
 use Rattle.std.specs.Prelude.{Bool, true, false, ◌==◌, if◌then◌else◌}
-use Rattle.core_views.specs.declared.place.Place.TheVariants as place
-use Rattle.core_views.specs.declared.place.SetSlotPlace.{SetSlotPlace}
 use Rattle.core_views.specs.declared.sizes.Sizes.{Sizes}
 use Rattle.core_views.specs.declared.topics.Hold.TheVariants.{Shared, Owing, Exclusive}
 use Rattle.core_views.specs.declared.topics.Topics.{Topics}
-use Rattle.core_views.specs.declared.trace.Command.TheVariants.{SetSlot}
-use Rattle.core_views.specs.declared.trace.Line.{Line}
-use Rattle.core_views.specs.declared.trace.Slot.{Slot}
 use Rattle.core_views.specs.Held.{Held}
 use Rattle.core_views.specs.Sizes.{actors_of}
 use Rattle.mmu_core.specs.declared.part_step.PartStep.{PartStep}
 use Rattle.mmu_core.specs.declared.part_step.PartStep.TheVariants as part
-use Rattle.mmu_core.specs.Invariant.{Invariant}
 use Rattle.mmu_core.specs.LockPart.{SawWriter}
 use Rattle.mmu_core.specs.PartTopics.{part_topics}
 use Rattle.mmu_core.specs.TopicsInvariant.{TopicsInvariant}
 use Rattle.mmu_core.specs.TopicSteps.{has_writer}
-use Rattle.mmu_core.specs.View.{View, part_stepped, stepped}
+use Rattle.mmu_core.specs.View.{View, part_stepped}
 use Rattle.mmu_core.proofs.Columns.{at_upd}
-use Rattle.mmu_core.proofs.LineTopicsKept.{still_rests}
 use Rattle.mmu_core.proofs.PartStepping.{IsPart}
 use Rattle.mmu_core.proofs.PartTopics.{behind_step}
-use Rattle.mmu_core.proofs.Stepping.{IsStep}
 
 saw_behind : (step : PartStep) (t : Topics) (v : ℕ) → SawWriter t.hold → SawWriter (part_topics step t v).hold
 saw_behind part.Share t v saw = by (has_writer v) refl
@@ -59,6 +51,9 @@ saw_behind (part.Link gfn) t v saw = saw
 saw_behind (part.Leaf gfn) t v saw = saw
 saw_behind (part.Host page) t v saw = saw
 saw_behind (part.Watch index) t v saw = saw
+saw_behind part.Publish t v saw = saw
+saw_behind part.Clear t v saw = saw
+saw_behind part.GiveOld t v saw = saw
 
 abbrev pub SawAt : Sizes → View → Type 0
 SawAt z v = (i : ℕ) → i < actors_of z → SawWriter (v.hand i).topics.hold
@@ -67,8 +62,3 @@ pub saw_kept : (z : Sizes) (v : View) (a : ℕ) (step : PartStep) (note : ℕ) �
 saw_kept z v a step note S I =
     behind_step (SawAt z) z v a step note S
     (at_upd (λ i (h : Held). i < actors_of z → SawWriter h.topics.hold) v.hand a _ (λ lt. saw_behind step (v.hand a).topics _ (I.saw_writer a lt)) (λ i ne lt. I.saw_writer i lt))
-
-pub setting_saw_kept : (z : Sizes) (v : View) (a : ℕ) (line : Line) (p : SetSlotPlace) (id : ℕ) (slot : Slot) → IsStep z v a line (SetSlot id slot) (place.SetSlot p) → Invariant z v → TopicsInvariant z v
-    → SawAt z (stepped a line (SetSlot id slot) (place.SetSlot p) v)
-setting_saw_kept z v a line p id slot S J I =
-    at_upd (λ i (h : Held). i < actors_of z → SawWriter h.topics.hold) v.hand a _ (λ lt. subst SawWriter (sym (still_rests z v a line p id slot S J I).hold) (I.saw_writer a lt)) (λ i ne lt. I.saw_writer i lt)

@@ -1,5 +1,5 @@
 -- A claim has seen each word of the pool's map that it has gone past, since it began.
-use Rattle.std.proofs.Common.{◌≡◌, ◌≢◌, ◌⊎◌, inl, inr, ◌+◌, ◌<◌, ℕ, zero, suc, List, [], ◌∷◌, ◌++◌, refl, sym, subst, ap, ◌∙◌, arith}
+use Rattle.std.proofs.Common.{◌≡◌, ◌≢◌, ◌⊎◌, inl, inr, ◌+◌, ◌<◌, ℕ, zero, suc, List, [], ◌∷◌, ◌++◌, refl, sym, subst, ap, ◌∙◌, arith, length, ◌≤◌}
 use Rattle.std.specs.Prelude.{All, Bool, true, false, ◌==◌, if◌then◌else◌, None}
 use Rattle.std.proofs.lemmas.Bool.Decides.{nat_tests}
 use Rattle.std.proofs.lemmas.List.{append-nil, append_assoc, get_or-set_other}
@@ -72,6 +72,11 @@ others_hand w s actor apart = get_or-set_other w.hands s.actor actor (next (hand
 abbrev pub at_in : ℕ → World Held → ℕ
 at_in actor w = (hand_in mmu w actor).topics.claim.at
 
+-- its own step as it sees it
+pub at_behind : (w : World Held) (s : Step Kind) → s.actor < length w.hands
+    → at_in s.actor (effect mmu w s) ≡ (topics_after (hand_in mmu w s.actor).state.sizes s.kind (hand_in mmu w s.actor).topics (answered mmu w s.kind)).claim.at
+at_behind w s there = ap (λ (x : Held). x.topics.claim.at) (own_hand w s there) ∙ ap (λ (t : Topics). t.claim.at) (next_topics (hand_in mmu w s.actor) s.kind (answered mmu w s.kind))
+
 -- A claim has come as far as before, or is over, or is behind a word that the step found 0.
 abbrev GoesTo : Sizes → ℕ → World Held → Step Kind → ℕ → ℕ → Type 0
 GoesTo z actor w s at behind = (behind ≡ at) ⊎ ((behind ≡ 0) ⊎ ((behind ≡ at + 1) × FindsNoneFree z actor at w s))
@@ -114,16 +119,13 @@ goes z actor w s G may no_ = by (same_or actor s.actor)
     there : s.actor < actors_of z
     there = subst (λ n. s.actor < n) G.hands may.there
 
-    behind : at_in s.actor (effect mmu w s) ≡ (topics_after h.state.sizes s.kind h.topics v).claim.at
-    behind = ap (λ (x : Held). x.topics.claim.at) (own_hand w s may.there) ∙ ap (λ (t : Topics). t.claim.at) (next_topics h s.kind v)
-
     of_own : s.actor ≡ actor → IsPartKind h s.kind ⊎ IsQuiet h.state.sizes h.topics s.kind → GoesTo z actor w s h.topics.claim.at (at_in s.actor (effect mmu w s))
     of_own own (inl N) =
         let at_is : at_in s.actor (effect mmu w s) ≡ (claim_behind N.step h.topics.claim v).at =
         ap (λ (x : Held). x.topics.claim.at) (own_hand w s may.there) ∙ ap (λ (k : Kind). (next h k v).topics.claim.at) N.is
         ∙ ap (λ (t : Topics). t.claim.at) (topics_behind h N.step N.note v N.needs) ∙ ap (λ (c : MapClaim). c.at) (claim_is N.step h.topics v) in
         subst (GoesTo z actor w s h.topics.claim.at) (sym at_is) (part_goes z actor w s h N.step N.note own (ap (λ i. (hand_in mmu w i).topics.owned) own) (G.holds.lines s.actor there).sizes N.is N.needs no_)
-    of_own own (inr Q) = inl (behind ∙ ap (λ (c : MapClaim). c.at) (Q.claim v))
+    of_own own (inr Q) = inl (at_behind w s may.there ∙ ap (λ (c : MapClaim). c.at) (Q.claim v))
 
     mine : s.actor ≡ actor → GoesTo z actor w s h.topics.claim.at (at_in s.actor (effect mmu w s))
     mine own = of_own own (step_kind h s.kind may.enabled)
@@ -171,7 +173,7 @@ module _ (z : Sizes) (actor : ℕ) where
   saw_last word w (x ∷ ss) s finds = inr (saw_last word (effect mmu w x) ss s finds)
 
   -- no load of word 0
-  abbrev pub IsOther : Step Kind → Type 0
+  abbrev IsOther : Step Kind → Type 0
   IsOther s = LoadsMap z actor 0 s → ⊥
 
   one_other : (s : Step Kind) → IsOther s → All IsOther (s ∷ [])
@@ -181,7 +183,7 @@ module _ (z : Sizes) (actor : ℕ) where
   no_others : All IsOther []
   no_others k d lt = absurd (omega (arith, lt))
 
-  pub longer : (at behind : ℕ) (w : World Held) (ss : List (Step Kind)) (s : Step Kind) → EndsWithScan z actor at w ss → IsOther s
+  longer : (at behind : ℕ) (w : World Held) (ss : List (Step Kind)) (s : Step Kind) → EndsWithScan z actor at w ss → IsOther s
       → ((word : ℕ) → word < behind → (word < at) ⊎ FindsNoneFree z actor word (run mmu w ss) s) → EndsWithScan z actor behind w (ss ++ s ∷ [])
   longer at behind w ss s S other seen = record {
     earlier = S.earlier;
@@ -202,6 +204,10 @@ module _ (z : Sizes) (actor : ℕ) where
       by : (word : ℕ) → (word < at) ⊎ FindsNoneFree z actor word (run mmu w ss) s → SawNoneFree z actor word u (S.first ∷ (S.later ++ s ∷ []))
       by word (inl below) = saw_longer word u (S.first ∷ S.later) (s ∷ []) (S.each word below)
       by word (inr last) = saw_last word u (S.first ∷ S.later) s (subst (λ (x : World Held). FindsNoneFree z actor word x s) here last)
+
+  -- Up to an earlier word too.
+  pub shorter : (at before : ℕ) (w : World Held) (ss : List (Step Kind)) → before ≤ at → EndsWithScan z actor at w ss → EndsWithScan z actor before w ss
+  shorter at before w ss le S = record { earlier = S.earlier; first = S.first; later = S.later; are = S.are; begins = S.begins; latest = S.latest; each = λ word lt. S.each word (omega (arith, lt, le)) }
 
   -- the actor's load of word 0, or another step
   is_first : (s : Step Kind) → LoadsMap z actor 0 s ⊎ IsOther s

@@ -25,11 +25,11 @@ use Rattle.mmu_core.specs.TreePart.{IsLiveIn}
 use Rattle.mmu_core.specs.View.{View, part_stepped, upd}
 use Rattle.mmu_core.proofs.SlotFields.{same_slot}
 use Rattle.mmu_core.proofs.Columns.{at_upd}
-use Rattle.mmu_core.proofs.HeldKept.{held_kept}
-use Rattle.mmu_core.proofs.LiveStays.{LiveStays, live_in_stays, part_live_stays, slot_stays, still_live}
+use Rattle.mmu_core.proofs.LiveStays.{LiveStays, live_in_stays, slot_stays, still_live, words_live}
 use Rattle.mmu_core.proofs.PartStepping.{IsPart}
 use Rattle.mmu_core.proofs.PartTopics.{behind_step, part_behind}
 use Rattle.mmu_core.proofs.PartWords.{areas_stay}
+use Rattle.mmu_core.proofs.OldSets.{held_words_stay}
 
 -- what is said of each hand's search and look-up, of a view
 abbrev pub SearchesAt : Sizes → View → Type 0
@@ -58,15 +58,15 @@ module _ (set : ℕ) (before after : ℕ → ℕ) (stays : LiveStays set before 
     e.2 ∙ ap (λ (x : SlotOf). x.pages) (sym (slot_stays set before after s.id stays low e.0.0)),
   )
 
-  pub search_stays : (s : SlotSearch) → ((k : ℕ) → s.set ≡ Some k → k ≡ set) → SearchPart before s → SearchPart after s
-  search_stays s own P = record {
-    listed = P.listed;
-    loaded = λ k is. subst (λ n. HasLoaded s.next after n s) (sym (own k is)) (loaded_stays s.next s P.listed (subst (λ n. HasLoaded s.next before n s) (own k is) (P.loaded k is)));
-    whole = λ k is whole. let W = P.whole k is whole in
-        (W.0, subst (λ n. IsLiveIn after n (s.id - 1) s.slot) (sym (own k is)) (live_in_stays set before after (s.id - 1) s.slot stays (subst (λ n. IsLiveIn before n (s.id - 1) s.slot) (own k is) W.1)));
-    held = P.held;
-    before_flags = P.before_flags;
-  }
+-- What was loaded of the slot set that is held stays, where its live slots do.
+pub search_stays : (before after : ℕ → ℕ) (s : SlotSearch) → ((k : ℕ) → s.set ≡ Some k → LiveStays k before after) → SearchPart before s → SearchPart after s
+search_stays before after s stays P = record {
+  listed = P.listed;
+  loaded = λ k is. loaded_stays k before after (stays k is) s.next s P.listed (P.loaded k is);
+  whole = λ k is whole. let W = P.whole k is whole in (W.0, live_in_stays k before after (s.id - 1) s.slot (stays k is) W.1);
+  held = P.held;
+  before_flags = P.before_flags;
+}
 
 -- ---- The search behind each step.
 
@@ -156,6 +156,7 @@ searches_behind z v a note part.Begin S I = all_search z v a _ I (let_go_search 
 searches_behind z v a note part.End S I = all_search z v a _ I (let_go_search (v.words area.Pool) false (v.hand a).topics.search (I.searches a S.there))
 searches_behind z v a note part.Unshare S I = all_search z v a _ I (let_go_search (v.words area.Pool) (is_section (v.hand a).topics.stay) (v.hand a).topics.search (I.searches a S.there))
 searches_behind z v a note part.Release S I = all_search z v a _ I (let_go_search (v.words area.Pool) (is_section (v.hand a).topics.stay) (v.hand a).topics.search (I.searches a S.there))
+searches_behind z v a note part.Publish S I = all_search z v a _ I (let_go_search (v.words area.Pool) false (v.hand a).topics.search (I.searches a S.there))
 searches_behind z v a note part.Slots S I = all_search z v a _ I (at_set_search (v.words area.Pool) (may_search (v.hand a).topics.stay (v.hand a).topics.hold) (v.hand a).topics.search _)
 searches_behind z v a note part.Slot S I = all_search z v a _ I (slot_search (v.words area.Pool) (v.hand a).topics.search S.needs.0 S.needs.1 (I.searches a S.there))
 searches_behind z v a note part.Seq S I = all_search z v a _ I (snapshot_search (v.words area.Pool) (is_loose (v.hand a).topics.hold) (v.hand a).topics.search (I.searches a S.there))
@@ -164,9 +165,8 @@ searches_behind z v a note _ S I = all_search z v a _ I (I.searches a S.there)
 pub searches_kept : (z : Sizes) (v : View) (a : ℕ) (step : PartStep) (note : ℕ) → IsPart z v a step → TopicsInvariant z v → SearchesAt z (part_stepped a step note v)
 searches_kept z v a step note S I i lt =
     let in_old : SearchesIn z (v.words area.Pool) (part_stepped a step note v) = behind_step (SearchesIn z (v.words area.Pool)) z v a step note S (searches_behind z v a note step S I) in
-    let same : (part_stepped a step note v).words area.Slots 0 ≡ v.words area.Slots 0 = ap (λ (c : ℕ → ℕ). c 0) (areas_stay v a step note area.Slots refl) in
-    search_stays (v.words area.Slots 0) (v.words area.Pool) ((part_stepped a step note v).words area.Pool) (part_live_stays z v a step note S I) ((part_stepped a step note v).hand i).topics.search
-    (λ k is. (held_kept z v a step note S I i lt).set k is ∙ same) (in_old i lt)
+    search_stays (v.words area.Pool) ((part_stepped a step note v).words area.Pool) ((part_stepped a step note v).hand i).topics.search
+    (λ k is. words_live k (v.words area.Pool) ((part_stepped a step note v).words area.Pool) (held_words_stay z v a step note S I i k lt is)) (in_old i lt)
 
 -- ---- The look-up behind each step.
 

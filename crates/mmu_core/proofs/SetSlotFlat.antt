@@ -1,100 +1,163 @@
 -- What the steps of a slot setting owe flat memory.
-use Rattle.std.proofs.Common.{◌≡◌, ◌<◌, ℕ, [], refl, sym, subst, ap, ◌∙◌, arith}
-use Rattle.core_views.specs.declared.answer.Answer.TheVariants.{Refused}
+use Rattle.std.proofs.Common.{◌≡◌, ◌+◌, ℕ, [], ◌++◌, refl, sym, subst, ap, ◌∙◌, ◌⊎◌, inl, inr}
+use Rattle.std.specs.Prelude.{Bool, true, false, ◌==◌, nat_lt, if◌then◌else◌}
+use Rattle.core_views.specs.declared.answer.Answer.TheVariants.{Refused, Starved, Done}
 use Rattle.core_views.specs.declared.answer.Refusal.{Refusal}
 use Rattle.core_views.specs.declared.place.Place.TheVariants as place
 use Rattle.core_views.specs.declared.place.SetSlotPlace.{SetSlotPlace}
-use Rattle.core_views.specs.declared.place.SetSlotPlace.TheVariants.{Refuse, Fill}
-use Rattle.core_views.specs.declared.place.SlotField.{SlotField}
-use Rattle.core_views.specs.declared.place.SlotField.TheVariants.{Base, Pages, Host, Flags}
+use Rattle.core_views.specs.declared.place.SetSlotPlace.TheVariants.{Refuse, Claim, Fill, Exclude, Count, Close, Publish, Release, Watch, Clear, Give}
 use Rattle.core_views.specs.declared.sizes.Sizes.{Sizes}
+use Rattle.core_views.specs.declared.topics.MapClaim.{MapClaim}
 use Rattle.core_views.specs.declared.topics.Topics.{Topics}
 use Rattle.core_views.specs.declared.trace.Command.TheVariants.{SetSlot}
 use Rattle.core_views.specs.declared.trace.Line.{Line}
 use Rattle.core_views.specs.declared.trace.Slot.{Slot}
-use Rattle.core_views.specs.Flat.{Facts, LineUnderWay}
-use Rattle.core_views.specs.Lawful.{IsRefused, Tells}
-use Rattle.core_views.specs.Slots.{Slots, slot_refusal, with_slot}
+use Rattle.core_views.specs.Flat.{Facts, LineUnderWay, Stage}
+use Rattle.core_views.specs.Lawful.{IsRefused, MayLeave, Tells}
 use Rattle.core_views.specs.Refusals.{set_refusal}
+use Rattle.core_views.specs.Sizes.{actors_of}
+use Rattle.core_views.specs.Slots.{Slots, slot_refusal, with_slot}
+use Rattle.spte_words.specs.declared.area.Area.{Area}
 use Rattle.spte_words.specs.declared.area.Area.TheVariants as area
+use Rattle.spte_words.specs.Areas.{words_of_bits}
+use Rattle.mmu_core.specs.declared.outcome.Outcome.{Outcome}
+use Rattle.mmu_core.specs.declared.outcome.Outcome.TheVariants.{Goes as GoesTo, Ends}
+use Rattle.mmu_core.specs.AccessSteps.{exiting}
+use Rattle.mmu_core.specs.FaultSteps.{at_map_word, tries_page}
 use Rattle.mmu_core.specs.Invariant.{Invariant}
-use Rattle.mmu_core.specs.SetSlotSteps.{published_set}
-use Rattle.mmu_core.specs.SlotWords.{field_number, field_word, slot_index}
-use Rattle.mmu_core.specs.View.{View, put}
-use Rattle.mmu_core.proofs.FlatSteps.{Goes, Ready, StepGoes}
+use Rattle.mmu_core.specs.PartSteps.{next_watched, own_index, page_owned, words_filled}
+use Rattle.mmu_core.specs.SetSlotSteps.{claim_outcome, looked_at, set_slot_note, set_slot_outcome, set_slot_part, set_slot_task}
+use Rattle.mmu_core.specs.Tasks.{answering, kind_of_task, place_after}
+use Rattle.mmu_core.specs.TopicsInvariant.{TopicsInvariant}
+use Rattle.mmu_core.specs.TopicSteps.{in_section, is_won, topics_after}
+use Rattle.mmu_core.specs.View.{View, answer_in, words_after}
+use Rattle.mmu_core.proofs.Accepted.{MayBeSet, may_be_set, record_of, refused_alike}
+use Rattle.mmu_core.proofs.FlatSteps.{Goes, Leaves, Ready, StepGoes, UnderAt, part_leaves, refines_stay}
+use Rattle.mmu_core.proofs.PartStepping.{IsPart}
+use Rattle.mmu_core.proofs.SetFilled.{is_publication, list_with, setting_filled, setting_never}
+use Rattle.mmu_core.proofs.SettingHolds.{either_place}
 use Rattle.mmu_core.proofs.Stepping.{IsStep}
-use Rattle.mmu_core.proofs.Accepted.{MayBeSet, may_be_set, refused_alike}
-use Rattle.mmu_core.proofs.SetSlotKept.{filled_below, now_below, still_live}
-
--- what the step of this place owes
-abbrev pub SetSlotGoes : Sizes → View → ℕ → Line → ℕ → Slot → SetSlotPlace → Type 0
-SetSlotGoes z v a line id slot p =
-    (facts : Facts) (u : LineUnderWay)
-    → IsStep z v a line (SetSlot id slot) (place.SetSlot p) → Invariant z v → Ready z v line (SetSlot id slot) (place.SetSlot p) (v.hand a).topics facts u
-    → StepGoes z v a line (SetSlot id slot) (place.SetSlot p) facts u
-
--- A word of a slot that isn't live is stored, which isn't its flags.
-word_goes : (z : Sizes) (v : View) (a : ℕ) (line : Line) (id : ℕ) (slot : Slot) (f : SlotField) (x : ℕ) (p next : SetSlotPlace) (t : Topics) (facts : Facts) (u : LineUnderWay) → field_number f < 3
-    → MayBeSet z (v.words area.Pool) id slot → Ready z v line (SetSlot id slot) (place.SetSlot p) (v.hand a).topics facts u
-    → Goes z (v.hand a).state.actor line (SetSlot id slot) v.words (put v.words area.Pool (slot_index published_set id f) x) (place.SetSlot next) t [] facts u
-word_goes z v a line id slot f x p next t facts u not_flags may R =
-    let pool : ℕ → ℕ = v.words area.Pool in
-    record {
-      allowed = tt;
-      refines = record {
-        slots = R.refines.slots ∙ filled_below pool id x f may.low not_flags may.not_live;
-        host = R.refines.host;
-        memory = R.refines.memory;
-      };
-      under = R.under;
-      live = still_live pool id x f may.low may.not_live;
-    }
 
 -- Flat memory refuses the slot as the manager's record does.
 flat_refusal : (z : Sizes) (v : View) (a : ℕ) (line : Line) (id : ℕ) (slot : Slot) (p : SetSlotPlace) (facts : Facts) (u : LineUnderWay) → IsStep z v a line (SetSlot id slot) (place.SetSlot p) → Invariant z v
     → Ready z v line (SetSlot id slot) (place.SetSlot p) (v.hand a).topics facts u → slot_refusal z.pages facts.slots id slot ≡ set_refusal z.pages id slot (v.hand a).slots
 flat_refusal z v a line id slot p facts u S I R = ap (λ (slots : Slots). slot_refusal z.pages slots id slot) R.refines.slots ∙ refused_alike z v a line id slot p S I
 
--- The flags are stored: flat memory has the slot too.
-flags_goes : (z : Sizes) (v : View) (a : ℕ) (line : Line) (id : ℕ) (slot : Slot) → SetSlotGoes z v a line id slot (Fill Flags)
-flags_goes z v a line id slot facts u S I R = record {
-  allowed = (
-    (R.under.0, ap (λ (l : Line). l.command) R.under.1 ∙ S.command_is, flat_refusal z v a line id slot (Fill Flags) facts u S I R ∙ S.holds.0),
-    ((ap (λ (l : Line). l.number) (sym R.under.1), refl), tt),
-  );
-  refines = record {
-    slots = ap (with_slot id slot) R.refines.slots ∙ sym (now_below z pool id slot may S.holds.1 S.holds.2 S.holds.3);
-    host = R.refines.host;
-    memory = R.refines.memory;
-  };
-  under = refl;
-  live = still_live pool id (field_word Flags slot) Flags may.low may.not_live;
-}
-  where
-    pool : ℕ → ℕ
-    pool = v.words area.Pool
+module _ (z : Sizes) (v : View) (a : ℕ) (line : Line) (id : ℕ) (slot : Slot) (facts : Facts) (u : LineUnderWay) where
+  abbrev answered : SetSlotPlace → ℕ
+  answered p = answer_in (set_slot_task p (v.hand a) id slot) v.words
 
-    may : MayBeSet z pool id slot
-    may = may_be_set z v a line id slot Flags S I
+  abbrev words_behind : SetSlotPlace → Area → ℕ → ℕ
+  words_behind p = words_after (set_slot_task p (v.hand a) id slot) v.words
 
-refuse_goes : (z : Sizes) (v : View) (a : ℕ) (line : Line) (id : ℕ) (slot : Slot) (refusal : Refusal) → SetSlotGoes z v a line id slot (Refuse refusal)
-refuse_goes z v a line id slot refusal facts u S I R = record {
-  allowed = (
-    (
-      ap (λ (l : Line). l.number) (sym R.under.1),
-      subst (λ stage. Tells z facts.slots u.line.command stage (Refused refusal)) (sym R.under.0)
-          (subst (λ c. IsRefused z facts.slots c (Refused refusal)) (sym (ap (λ (l : Line). l.command) R.under.1 ∙ S.command_is)) (flat_refusal z v a line id slot (Refuse refusal) facts u S I R ∙ S.holds)),
-    ),
-    tt,
-  );
-  refines = R.refines;
-  under = refl;
-  live = λ e l. l;
-}
+  abbrev held_behind : SetSlotPlace → Topics
+  held_behind p = topics_after (v.hand a).state.sizes (kind_of_task (v.hand a).state.sizes (set_slot_task p (v.hand a) id slot)) (v.hand a).topics (answered p)
 
-pub set_slot_goes : (z : Sizes) (v : View) (a : ℕ) (line : Line) (id : ℕ) (slot : Slot) (p : SetSlotPlace) → SetSlotGoes z v a line id slot p
-set_slot_goes z v a line id slot (Refuse refusal) facts u S I R = refuse_goes z v a line id slot refusal facts u S I R
-set_slot_goes z v a line id slot (Fill Base) facts u S I R = word_goes z v a line id slot Base slot.base (Fill Base) (Fill Pages) _ facts u (omega arith) (may_be_set z v a line id slot Base S I) R
-set_slot_goes z v a line id slot (Fill Pages) facts u S I R = word_goes z v a line id slot Pages slot.pages (Fill Pages) (Fill Host) _ facts u (omega arith) (may_be_set z v a line id slot Pages S I) R
-set_slot_goes z v a line id slot (Fill Host) facts u S I R = word_goes z v a line id slot Host slot.host (Fill Host) (Fill Flags) _ facts u (omega arith) (may_be_set z v a line id slot Host S I) R
-set_slot_goes z v a line id slot (Fill Flags) facts u S I R = flags_goes z v a line id slot facts u S I R
+  abbrev ReadyAt : SetSlotPlace → Type 0
+  ReadyAt p = Ready z v line (SetSlot id slot) (place.SetSlot p) (v.hand a).topics facts u
+
+  abbrev GoesAt : SetSlotPlace → Type 0
+  GoesAt p = StepGoes z v a line (SetSlot id slot) (place.SetSlot p) facts u
+
+  abbrev UnderBehind : SetSlotPlace → SetSlotPlace → Type 0
+  UnderBehind p next = UnderAt (words_behind p area.Pool) (place.SetSlot next) line (SetSlot id slot) (held_behind p) u
+
+  -- the words behind a step that publishes nothing stand for the same facts
+  stays : (p : SetSlotPlace) → is_publication p ≡ false → IsPart z v a (set_slot_part p (v.hand a) id slot) → TopicsInvariant z v → Leaves v.words (words_behind p)
+  stays p never S P = part_leaves z v a (set_slot_part p (v.hand a) id slot) (set_slot_note p (v.hand a)) S P (setting_never p (v.hand a) id slot never)
+
+  -- A step that tells nothing, and goes on at this place.
+  quiet : (p next : SetSlotPlace) → is_publication p ≡ false → IsPart z v a (set_slot_part p (v.hand a) id slot) → TopicsInvariant z v → ReadyAt p → UnderBehind p next
+      → Goes z (v.hand a).state.actor line (SetSlot id slot) (words_behind p) (place.SetSlot next) (held_behind p) [] facts u
+  quiet p next never S P R under = record { allowed = tt; refines = refines_stay z v.words (words_behind p) facts (stays p never S P) R.refines; under = under }
+
+  -- A claim goes on, or there is no page free.
+  claim_goes : (begun : Bool) (o : Outcome) → line.command ≡ SetSlot id slot → IsPart z v a (set_slot_part (Claim begun) (v.hand a) id slot) → TopicsInvariant z v → ReadyAt (Claim begun)
+      → (o ≡ GoesTo (place.SetSlot Fill)) ⊎ (o ≡ GoesTo (place.SetSlot (Claim true))) ⊎ (o ≡ Ends Starved)
+      → Goes z (v.hand a).state.actor line (SetSlot id slot) (words_behind (Claim begun)) (place_after o) (held_behind (Claim begun)) (exiting o ++ answering o line) facts u
+  claim_goes begun o is S P R (inl e) = subst (λ x. Goes z (v.hand a).state.actor line (SetSlot id slot) (words_behind (Claim begun)) (place_after x) (held_behind (Claim begun)) (exiting x ++ answering x line) facts u) (sym e) (quiet (Claim begun) Fill refl S P R R.under)
+  claim_goes begun o is S P R (inr (inl e)) = subst (λ x. Goes z (v.hand a).state.actor line (SetSlot id slot) (words_behind (Claim begun)) (place_after x) (held_behind (Claim begun)) (exiting x ++ answering x line) facts u) (sym e) (quiet (Claim begun) (Claim true) refl S P R R.under)
+  claim_goes begun o is S P R (inr (inr e)) = subst (λ x. Goes z (v.hand a).state.actor line (SetSlot id slot) (words_behind (Claim begun)) (place_after x) (held_behind (Claim begun)) (exiting x ++ answering x line) facts u) (sym e) (record {
+    allowed = ((R.under.1, subst (λ c. MayLeave c u.notes Starved) (sym (ap (λ (l : Line). l.command) R.under.0 ∙ is)) tt), ((ap (λ (l : Line). l.number) (sym R.under.0), refl), tt));
+    refines = refines_stay z v.words (words_behind (Claim begun)) facts (stays (Claim begun) refl S P) R.refines;
+    under = refl;
+  })
+
+  -- what comes of a claim
+  claim_ends : (tries : Bool) (y : Sizes) (claim : MapClaim) (x : ℕ) → (claim_outcome tries y claim x ≡ GoesTo (place.SetSlot Fill)) ⊎ (claim_outcome tries y claim x ≡ GoesTo (place.SetSlot (Claim true))) ⊎ (claim_outcome tries y claim x ≡ Ends Starved)
+  claim_ends true y claim x = by (is_won claim x)
+    where
+      by : (b : Bool) → (GoesTo (place.SetSlot (if b then Fill else Claim true)) ≡ GoesTo (place.SetSlot Fill)) ⊎ (GoesTo (place.SetSlot (if b then Fill else Claim true)) ≡ GoesTo (place.SetSlot (Claim true))) ⊎ (GoesTo (place.SetSlot (if b then Fill else Claim true)) ≡ Ends Starved)
+      by true = inl refl
+      by false = inr (inl refl)
+  claim_ends false y claim x = by (nat_lt (claim.at + (if x == 0 then 1 else 0)) (words_of_bits y.pool))
+    where
+      by : (b : Bool) → ((if b then GoesTo (place.SetSlot (Claim true)) else Ends Starved) ≡ GoesTo (place.SetSlot Fill)) ⊎ ((if b then GoesTo (place.SetSlot (Claim true)) else Ends Starved) ≡ GoesTo (place.SetSlot (Claim true))) ⊎ ((if b then GoesTo (place.SetSlot (Claim true)) else Ends Starved) ≡ Ends Starved)
+      by true = inr (inl refl)
+      by false = inr (inr refl)
+
+  refuse_goes : (refusal : Refusal) → IsStep z v a line (SetSlot id slot) (place.SetSlot (Refuse refusal)) → Invariant z v → ReadyAt (Refuse refusal) → GoesAt (Refuse refusal)
+  refuse_goes refusal S I R = record {
+    allowed = (
+      (
+        ap (λ (l : Line). l.number) (sym R.under.0),
+        subst (λ stage. Tells z facts.slots u.line.command stage (Refused refusal)) (sym R.under.1)
+            (subst (λ c. IsRefused z facts.slots c (Refused refusal)) (sym (ap (λ (l : Line). l.command) R.under.0 ∙ S.command_is)) (flat_refusal z v a line id slot (Refuse refusal) facts u S I R ∙ S.holds)),
+      ),
+      tt,
+    );
+    refines = R.refines;
+    under = refl;
+  }
+
+  -- The set is published: flat memory has the slot too.
+  publish_goes : IsStep z v a line (SetSlot id slot) (place.SetSlot Publish) → Invariant z v → ReadyAt Publish → GoesAt Publish
+  publish_goes S I R = record {
+    allowed = ((R.under.1, ap (λ (l : Line). l.command) R.under.0 ∙ S.command_is, flat_refusal z v a line id slot Publish facts u S I R ∙ S.holds.accepted), tt);
+    refines = record {
+      slots = ap (with_slot id slot) R.refines.slots
+          ∙ sym (list_with (v.words area.Pool) (v.words area.Slots 0) (page_owned (v.hand a).topics.owned) id slot (v.hand a).slots (record_of z v a line id slot Publish S I) may.low may.not_live (setting_filled z v a line id slot S I));
+      host = R.refines.host;
+      memory = R.refines.memory;
+    };
+    under = (R.under.0, refl);
+  }
+    where
+      may : MayBeSet z (v.words area.Pool) (v.words area.Slots 0) id slot
+      may = may_be_set z v a line id slot Publish S I refl S.holds.accepted
+
+  -- The old page is given back: the line is answered.
+  give_goes : IsPart z v a (set_slot_part Give (v.hand a) id slot) → TopicsInvariant z v → ReadyAt Give → GoesAt Give
+  give_goes S P R = record {
+    allowed = ((ap (λ (l : Line). l.number) (sym R.under.0), subst (λ (stage : Stage). Tells z facts.slots u.line.command stage Done) (sym R.under.1) refl), tt);
+    refines = refines_stay z v.words (words_behind Give) facts (stays Give refl S P) R.refines;
+    under = refl;
+  }
+
+  -- one of two next places
+  either_goes : (p : SetSlotPlace) (b : Bool) (q r : SetSlotPlace) → UnderBehind p q → UnderBehind p r → UnderBehind p (if b then q else r)
+  either_goes p b q r first second = either_place (UnderBehind p) b q r first second
+
+  pub set_slot_goes : (p : SetSlotPlace) → IsStep z v a line (SetSlot id slot) (place.SetSlot p) → Invariant z v → TopicsInvariant z v → IsPart z v a (set_slot_part p (v.hand a) id slot) → ReadyAt p → GoesAt p
+  set_slot_goes (Refuse refusal) S I P part_ R = refuse_goes refusal S I R
+  set_slot_goes (Claim begun) S I P part_ R =
+      claim_goes begun (set_slot_outcome (Claim begun) (v.hand a) (answered (Claim begun))) S.command_is part_ P R
+      (claim_ends (tries_page begun (v.hand a).topics.claim) (v.hand a).state.sizes (at_map_word begun (v.hand a).topics.claim) (answered (Claim begun)))
+  set_slot_goes Fill S I P part_ R =
+      let more : Bool = nat_lt (words_filled (v.hand a).topics.owned) 512 in
+      quiet Fill (if more then Fill else Exclude) refl part_ P R (either_goes Fill more Fill Exclude R.under R.under)
+  set_slot_goes Exclude S I P part_ R =
+      let won : Bool = answered Exclude == 0 in
+      quiet Exclude (if won then Count else Exclude) refl part_ P R (either_goes Exclude won Count Exclude R.under R.under)
+  set_slot_goes Count S I P part_ R =
+      let none : Bool = answered Count == 0 in
+      quiet Count (if none then Publish else Close) refl part_ P R (either_goes Count none Publish Close R.under R.under)
+  set_slot_goes Close S I P part_ R = quiet Close Exclude refl part_ P R R.under
+  set_slot_goes Publish S I P part_ R = publish_goes S I R
+  set_slot_goes Release S I P part_ R = quiet Release Watch refl part_ P R R.under
+  set_slot_goes Watch S I P part_ R =
+      let sees : Bool = in_section (answered Watch) in
+      let more : Bool = nat_lt (next_watched (own_index (v.hand a)) (looked_at (v.hand a) + 1)) (actors_of (v.hand a).state.sizes) in
+      quiet Watch (if sees then Watch else if more then Watch else Clear) refl part_ P R (either_goes Watch sees Watch (if more then Watch else Clear) R.under (either_goes Watch more Watch Clear R.under R.under))
+  set_slot_goes Clear S I P part_ R = quiet Clear Give refl part_ P R R.under
+  set_slot_goes Give S I P part_ R = give_goes part_ P R

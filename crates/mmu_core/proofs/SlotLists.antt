@@ -9,8 +9,7 @@ use Rattle.std.proofs.lemmas.List.Elements.{All-nil, All-cons, All-head, All-tai
 use Rattle.core_views.specs.declared.trace.Op.{Op}
 use Rattle.core_views.specs.declared.trace.Slot.{Slot}
 use Rattle.core_views.specs.Slots.{Slots, contains, is_write, page_behind, page_in, slot_of, with_slot}
-use Rattle.mmu_core.specs.Invariant.{IsLive}
-use Rattle.mmu_core.specs.SetSlotSteps.{published_set}
+use Rattle.mmu_core.specs.Invariant.{IsLiveIn}
 use Rattle.mmu_core.specs.SlotWords.{live_at, page_of, slot_at, slots_below}
 use Rattle.mmu_core.proofs.Columns.{same_or}
 
@@ -62,16 +61,16 @@ only_one_holds gfn pool set id (suc n) lt live holds only = case (same_or n id) 
     case (inr apart) before = slot_before gfn (slots_below pool set n) (if live_at pool set n then (n, slot_at pool set n) ∷ [] else []) (slot_at pool set id) (before (omega arith))
 
 -- Each slot of the list is live.
-pub each_is_live : (pool : ℕ → ℕ) (n : ℕ) → n ≤ 32 → All (λ e. IsLive pool e.0 e.1) (slots_below pool published_set n)
-each_is_live pool zero few = All-nil (λ (e : ℕ × Slot). IsLive pool e.0 e.1)
-each_is_live pool (suc n) few =
-    All-append (λ (e : ℕ × Slot). IsLive pool e.0 e.1) (slots_below pool published_set n)
-    (if live_at pool published_set n then (n, slot_at pool published_set n) ∷ [] else [])
-    (each_is_live pool n (omega arith)) (last (live_at pool published_set n) refl)
+pub each_is_live : (pool : ℕ → ℕ) (set n : ℕ) → n ≤ 32 → All (λ e. IsLiveIn pool set e.0 e.1) (slots_below pool set n)
+each_is_live pool set zero few = All-nil (λ (e : ℕ × Slot). IsLiveIn pool set e.0 e.1)
+each_is_live pool set (suc n) few =
+    All-append (λ (e : ℕ × Slot). IsLiveIn pool set e.0 e.1) (slots_below pool set n)
+    (if live_at pool set n then (n, slot_at pool set n) ∷ [] else [])
+    (each_is_live pool set n (omega arith)) (last (live_at pool set n) refl)
   where
-    last : (b : Bool) → live_at pool published_set n ≡ b → All (λ (e : ℕ × Slot). IsLive pool e.0 e.1) (if b then (n, slot_at pool published_set n) ∷ [] else [])
-    last true live = All-cons (λ (e : ℕ × Slot). IsLive pool e.0 e.1) (n, slot_at pool published_set n) [] (record { low = omega arith; live = live; is = refl }) (All-nil (λ (e : ℕ × Slot). IsLive pool e.0 e.1))
-    last false live = All-nil (λ (e : ℕ × Slot). IsLive pool e.0 e.1)
+    last : (b : Bool) → live_at pool set n ≡ b → All (λ (e : ℕ × Slot). IsLiveIn pool set e.0 e.1) (if b then (n, slot_at pool set n) ∷ [] else [])
+    last true live = All-cons (λ (e : ℕ × Slot). IsLiveIn pool set e.0 e.1) (n, slot_at pool set n) [] (record { low = omega arith; live = live; is = refl }) (All-nil (λ (e : ℕ × Slot). IsLiveIn pool set e.0 e.1))
+    last false live = All-nil (λ (e : ℕ × Slot). IsLiveIn pool set e.0 e.1)
 
 same_last : (b c : Bool) (n : ℕ) (s t : Slot) → b ≡ c → (b ≡ true → s ≡ t) → ◌≡◌ {A = Slots} (if b then (n, s) ∷ [] else []) (if c then (n, t) ∷ [] else [])
 same_last true true n s t e is = rw (is refl) refl
@@ -79,13 +78,13 @@ same_last true false n s t e is = absurd (cc)
 same_last false true n s t e is = absurd (cc)
 same_last false false n s t e is = refl
 
--- The same slots are live, with the same words: the list is the same.
-pub same_below : (pool other : ℕ → ℕ) (set n : ℕ) → ((i : ℕ) → i < n → live_at pool set i ≡ live_at other set i) → ((i : ℕ) → i < n → live_at pool set i ≡ true → slot_at pool set i ≡ slot_at other set i)
-    → slots_below pool set n ≡ slots_below other set n
-same_below pool other set zero live is = refl
-same_below pool other set (suc n) live is =
-    ap (λ (xs : Slots). xs ++ (if live_at pool set n then (n, slot_at pool set n) ∷ [] else [])) (same_below pool other set n (λ i lt. live i (omega arith)) (λ i lt. is i (omega arith)))
-    ∙ ap (λ (xs : Slots). slots_below other set n ++ xs) (same_last (live_at pool set n) (live_at other set n) n (slot_at pool set n) (slot_at other set n) (live n (omega arith)) (is n (omega arith)))
+-- The same slots are live in two sets, with the same words: the list is the same.
+pub same_below : (pool other : ℕ → ℕ) (set new_ n : ℕ) → ((i : ℕ) → i < n → live_at pool set i ≡ live_at other new_ i) → ((i : ℕ) → i < n → live_at pool set i ≡ true → slot_at pool set i ≡ slot_at other new_ i)
+    → slots_below pool set n ≡ slots_below other new_ n
+same_below pool other set new_ zero live is = refl
+same_below pool other set new_ (suc n) live is =
+    ap (λ (xs : Slots). xs ++ (if live_at pool set n then (n, slot_at pool set n) ∷ [] else [])) (same_below pool other set new_ n (λ i lt. live i (omega arith)) (λ i lt. is i (omega arith)))
+    ∙ ap (λ (xs : Slots). slots_below other new_ n ++ xs) (same_last (live_at pool set n) (live_at other new_ n) n (slot_at pool set n) (slot_at other new_ n) (live n (omega arith)) (is n (omega arith)))
 
 -- How two IDs compare.
 cmp_less : (j k : ℕ) → j < k → nat_cmp j k ≡ Less
@@ -123,38 +122,38 @@ ids_below pool set (suc n) m le =
     last true = All-cons (λ (e : ℕ × Slot). e.0 < m) (n, slot_at pool set n) [] (omega arith) (All-nil (λ (e : ℕ × Slot). e.0 < m))
     last false = All-nil (λ (e : ℕ × Slot). e.0 < m)
 
--- One slot more is live, and the others as they were: the list has it at its ID.
-pub one_more_live : (pool other : ℕ → ℕ) (set id n : ℕ) → id < n → live_at pool set id ≡ false → live_at other set id ≡ true
-    → ((i : ℕ) → i < n → i ≢ id → live_at other set i ≡ live_at pool set i) → ((i : ℕ) → i < n → i ≢ id → live_at pool set i ≡ true → slot_at other set i ≡ slot_at pool set i)
-    → slots_below other set n ≡ with_slot id (slot_at other set id) (slots_below pool set n)
-one_more_live pool other set id zero lt not_yet live same is = absurd (omega arith)
-one_more_live pool other set id (suc n) lt not_yet live same is =
-    case (same_or n id) (λ less. one_more_live pool other set id n less not_yet live (λ i below. same i (omega arith)) (λ i below. is i (omega arith)))
+-- One slot more is live in another set, and the others as they were: the list has it at its ID.
+pub one_more_live : (pool other : ℕ → ℕ) (set new_ id n : ℕ) → id < n → live_at pool set id ≡ false → live_at other new_ id ≡ true
+    → ((i : ℕ) → i < n → i ≢ id → live_at other new_ i ≡ live_at pool set i) → ((i : ℕ) → i < n → i ≢ id → live_at pool set i ≡ true → slot_at other new_ i ≡ slot_at pool set i)
+    → slots_below other new_ n ≡ with_slot id (slot_at other new_ id) (slots_below pool set n)
+one_more_live pool other set new_ id zero lt not_yet live same is = absurd (omega arith)
+one_more_live pool other set new_ id (suc n) lt not_yet live same is =
+    case (same_or n id) (λ less. one_more_live pool other set new_ id n less not_yet live (λ i below. same i (omega arith)) (λ i below. is i (omega arith)))
   where
     last : Bool → Slot → Slots
     last b s = if b then (n, s) ∷ [] else []
 
     slot : Slot
-    slot = slot_at other set id
+    slot = slot_at other new_ id
 
-    before_same : n ≡ id → slots_below other set n ≡ slots_below pool set n
-    before_same e = same_below other pool set n (λ i below. same i (omega arith) (λ q. absurd (omega arith))) (λ i below on. is i (omega arith) (λ q. absurd (omega arith)) (sym (same i (omega arith) (λ q. absurd (omega arith))) ∙ on))
+    before_same : n ≡ id → slots_below other new_ n ≡ slots_below pool set n
+    before_same e = same_below other pool new_ set n (λ i below. same i (omega arith) (λ q. absurd (omega arith))) (λ i below on. is i (omega arith) (λ q. absurd (omega arith)) (sym (same i (omega arith) (λ q. absurd (omega arith))) ∙ on))
 
     behind : id < n → (b : Bool) (s : Slot) → with_slot id slot (last b s) ≡ (id, slot) ∷ last b s
     behind less true s = ap (λ (o : Ordering). match_ordering o ((id, slot) ∷ (n, s) ∷ []) ((n, slot) ∷ []) ((n, s) ∷ (id, slot) ∷ [])) (cmp_less id n less)
     behind less false s = refl
 
-    case : (n ≡ id) ⊎ (n ≢ id) → (id < n → slots_below other set n ≡ with_slot id slot (slots_below pool set n)) → slots_below other set (suc n) ≡ with_slot id slot (slots_below pool set (suc n))
+    case : (n ≡ id) ⊎ (n ≢ id) → (id < n → slots_below other new_ n ≡ with_slot id slot (slots_below pool set n)) → slots_below other new_ (suc n) ≡ with_slot id slot (slots_below pool set (suc n))
     case (inl e) before =
-        ap (λ (xs : Slots). xs ++ last (live_at other set n) (slot_at other set n)) (before_same e)
-        ∙ ap (λ k. slots_below pool set n ++ (if live_at other set k then (k, slot_at other set k) ∷ [] else [])) e
+        ap (λ (xs : Slots). xs ++ last (live_at other new_ n) (slot_at other new_ n)) (before_same e)
+        ∙ ap (λ k. slots_below pool set n ++ (if live_at other new_ k then (k, slot_at other new_ k) ∷ [] else [])) e
         ∙ ap (λ b. slots_below pool set n ++ (if b then (id, slot) ∷ [] else [])) live
         ∙ sym (insert_last id slot (slots_below pool set n) (ids_below pool set n id (omega arith)))
         ∙ ap (with_slot id slot) (sym (append-nil (slots_below pool set n)) ∙ sym (ap (λ b. slots_below pool set n ++ last b (slot_at pool set n)) (ap (live_at pool set) e ∙ not_yet)))
     case (inr apart) before =
         let less : id < n = omega arith in
-        ap (λ (xs : Slots). xs ++ last (live_at other set n) (slot_at other set n)) (before less)
-        ∙ ap (λ (xs : Slots). with_slot id slot (slots_below pool set n) ++ xs) (same_last (live_at other set n) (live_at pool set n) n (slot_at other set n) (slot_at pool set n) (same n (omega arith) apart) (λ on. is n (omega arith) apart (sym (same n (omega arith) apart) ∙ on)))
+        ap (λ (xs : Slots). xs ++ last (live_at other new_ n) (slot_at other new_ n)) (before less)
+        ∙ ap (λ (xs : Slots). with_slot id slot (slots_below pool set n) ++ xs) (same_last (live_at other new_ n) (live_at pool set n) n (slot_at other new_ n) (slot_at pool set n) (same n (omega arith) apart) (λ on. is n (omega arith) apart (sym (same n (omega arith) apart) ∙ on)))
         ∙ sym (insert_then id slot (slots_below pool set n) (last (live_at pool set n) (slot_at pool set n)) (behind less (live_at pool set n) (slot_at pool set n)))
 
 -- Slots none of which holds the guest frame, or only read-only ones for a write, give it no page.

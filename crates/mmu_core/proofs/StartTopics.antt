@@ -17,7 +17,7 @@ use Rattle.mmu_core.specs.HeldPart.{CountersPart, HeldPart}
 use Rattle.mmu_core.specs.LockPart.{LockPart, is_shared, readers, sharers, writers}
 use Rattle.mmu_core.specs.Machine.{World, hand_in}
 use Rattle.mmu_core.specs.PartSteps.{IsAtRest, counts}
-use Rattle.mmu_core.specs.PoolPart.{PoolPart, is_free, is_owned, owners}
+use Rattle.mmu_core.specs.PoolPart.{PoolPart, is_free, is_owned, owners, is_leaving, leavers}
 use Rattle.mmu_core.specs.SearchPart.{LookPart, SearchPart}
 use Rattle.mmu_core.specs.StatesPart.{stay_bits}
 use Rattle.mmu_core.specs.Sums.{one_if, sum_below}
@@ -40,6 +40,12 @@ none_counted z lines w f start none = sum_none (actors_of z) (λ i. one_if (f (h
 
 owns_none : (z : Sizes) (lines : List Line) (w : World Held) (i : ℕ) (o : OwnedPage) → IsStart z lines w → i < actors_of z → (hand_in mmu w i).topics.owned ≡ Some o → ⊥
 owns_none z lines w i o start lt is = let e : (hand_in mmu w i).topics.owned ≡ None = ap (λ (t : Topics). t.owned) (topics_are z lines w i start lt) in absurd (cc (e, is))
+
+leaves_none : (z : Sizes) (lines : List Line) (w : World Held) (i k : ℕ) → IsStart z lines w → i < actors_of z → (hand_in mmu w i).topics.leaving ≡ Some k → ⊥
+leaves_none z lines w i k start lt is = let e : (hand_in mmu w i).topics.leaving ≡ None = ap (λ (t : Topics). t.leaving) (topics_are z lines w i start lt) in absurd (cc (e, is))
+
+holds_none : (z : Sizes) (lines : List Line) (w : World Held) (i k : ℕ) → IsStart z lines w → i < actors_of z → (hand_in mmu w i).topics.search.set ≡ Some k → ⊥
+holds_none z lines w i k start lt is = let e : (hand_in mmu w i).topics.search.set ≡ None = ap (λ (t : Topics). t.search.set) (topics_are z lines w i start lt) in absurd (cc (e, is))
 
 lock_start : (z : Sizes) (lines : List Line) (w : World Held) → IsStart z lines w → LockPart (actors_of z) (word_in z w area.Lock 0) (λ i. (hand_in mmu w i).topics.hold)
 lock_start z lines w start =
@@ -87,7 +93,7 @@ page_is_one (suc (suc k)) free low high =
     let not_slots : (1 == suc (suc k)) ≡ false = grind (arith, nat_tests) in
     ap (λ b. one_if b + 0 + one_if (0 == suc (suc k)) + one_if (1 == suc (suc k))) (high (omega arith)) ∙ ap (λ b. 1 + 0 + one_if b + one_if (1 == suc (suc k))) not_root ∙ ap (λ b. 1 + 0 + 0 + one_if b) not_slots
 
-pool_start : (z : Sizes) (lines : List Line) (w : World Held) → IsStart z lines w → PoolPart (actors_of z) z.pool (word_in z w area.Slots 0) (word_in z w area.PoolMap) (λ i. (hand_in mmu w i).topics.owned) only_root
+pool_start : (z : Sizes) (lines : List Line) (w : World Held) → IsStart z lines w → PoolPart (actors_of z) z.pool (word_in z w area.Slots 0) (word_in z w area.PoolMap) (λ i. (hand_in mmu w i).topics.owned) (λ i. (hand_in mmu w i).topics.leaving) only_root
 pool_start z lines w start =
     let slots = slots_start z lines w start in
     record {
@@ -95,6 +101,7 @@ pool_start z lines w start =
       behind = λ k le. none_behind z w k start.sizes start.words le;
       there = λ i o lt is. absurd (owns_none z lines w i o start lt is);
       slots_there = omega (arith, slots, start.sizes.pool.0);
+      left_there = λ i k lt is. absurd (leaves_none z lines w i k start lt is);
     }
   where
     map : ℕ → ℕ
@@ -103,12 +110,18 @@ pool_start z lines w start =
     owned : ℕ → Option OwnedPage
     owned i = (hand_in mmu w i).topics.owned
 
-    each : (k : ℕ) → k < z.pool → one_if (is_free map k) + owners (actors_of z) owned k + one_if (is_some (only_root k)) + one_if (word_in z w area.Slots 0 == k) ≡ 1
+    leaving : ℕ → Option ℕ
+    leaving i = (hand_in mmu w i).topics.leaving
+
+    each : (k : ℕ) → k < z.pool → one_if (is_free map k) + owners (actors_of z) owned k + one_if (is_some (only_root k)) + one_if (word_in z w area.Slots 0 == k) + leavers (actors_of z) leaving k ≡ 1
     each k lt =
         let none : owners (actors_of z) owned k ≡ 0 = none_counted z lines w (λ t. is_owned t.owned k) start refl in
-        ap (λ n. one_if (is_free map k) + n + one_if (is_some (only_root k)) + one_if (word_in z w area.Slots 0 == k)) none
-        ∙ ap (λ n. one_if (is_free map k) + 0 + n + one_if (word_in z w area.Slots 0 == k)) (stands_counted (0 == k))
-        ∙ ap (λ n. one_if (is_free map k) + 0 + one_if (0 == k) + one_if (n == k)) (slots_start z lines w start)
+        let left : leavers (actors_of z) leaving k ≡ 0 = none_counted z lines w (λ t. is_leaving t.leaving k) start refl in
+        ap (λ n. one_if (is_free map k) + n + one_if (is_some (only_root k)) + one_if (word_in z w area.Slots 0 == k) + leavers (actors_of z) leaving k) none
+        ∙ ap (λ n. one_if (is_free map k) + 0 + one_if (is_some (only_root k)) + one_if (word_in z w area.Slots 0 == k) + n) left
+        ∙ ap (λ n. one_if (is_free map k) + 0 + n + one_if (word_in z w area.Slots 0 == k) + 0) (stands_counted (0 == k))
+        ∙ ap (λ n. one_if (is_free map k) + 0 + one_if (0 == k) + one_if (n == k) + 0) (slots_start z lines w start)
+        ∙ omega arith
         ∙ page_is_one k (is_free map k) (λ low. used_below_2 z w k start.sizes start.words low) (λ high. free_from_2 z w k start.sizes start.words high lt)
 
 absent_is : 0 ≡ absent_word
@@ -133,8 +146,8 @@ tree_start z lines w start = subst (λ r. TreePart z.pool r (word_in z w area.Sl
         none : nat_lt 0 z.pool ≡ false → ⊥
         none e = let is : nat_lt 0 z.pool ≡ true = grind (arith, nat_tests, start.sizes.pool.0) in absurd (cc (e, is))
 
-held_first : (slots : ℕ) (stands : ℕ → Option Position) → HeldPart slots stands first_topics
-held_first slots stands = record { table = λ from. absurd (omega (arith, from)); set = λ k e. absurd (cc e); no_table = λ e. refl; no_set = λ e. refl }
+held_first : (stands : ℕ → Option Position) → HeldPart stands first_topics
+held_first stands = record { table = λ from. absurd (omega (arith, from)); no_table = λ e. refl; no_set = λ e. refl }
 
 search_first : (pool : ℕ → ℕ) → SearchPart pool first_topics.search
 search_first pool = record { listed = tt; loaded = λ k e. tt; whole = λ k e whole. absurd (cc whole); held = λ whole. absurd (cc whole); before_flags = λ whole. refl }
@@ -157,7 +170,9 @@ start_topics z lines w start = record {
   pool_part = pool_start z lines w start;
   filled = λ i o lt is. absurd (owns_none z lines w i o start lt is);
   tree = tree_start z lines w start;
-  held = λ i lt. subst (HeldPart (word_in z w area.Slots 0) only_root) (sym (topics_are z lines w i start lt)) (held_first (word_in z w area.Slots 0) only_root);
+  held = λ i lt. subst (HeldPart only_root) (sym (topics_are z lines w i start lt)) (held_first only_root);
+  sets = λ i k lt is. absurd (holds_none z lines w i k start lt is);
+  old_sets = λ i k lt is. absurd (leaves_none z lines w i k start lt is);
   searches = λ i lt. subst (λ (t : Topics). SearchPart (word_in z w area.Pool) t.search) (sym (topics_are z lines w i start lt)) (search_first (word_in z w area.Pool));
   looks = λ i lt. subst (LookPart z (word_in z w area.Seq 0) (word_in z w area.Host)) (sym (topics_are z lines w i start lt)) (look_first z (word_in z w area.Seq 0) (word_in z w area.Host));
   counters = λ i lt. subst (CountersPart z) (sym (topics_are z lines w i start lt)) (counters_first z);

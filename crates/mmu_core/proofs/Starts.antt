@@ -29,10 +29,9 @@ use Rattle.spte_words.specs.HostWords.{host_word}
 use Rattle.spte_words.specs.Areas.{StandsSomewhere}
 use Rattle.spte_words.proofs.Places.{word_stands}
 use Rattle.spte_words.proofs.ReadsHost.{host_fits}
-use Rattle.mmu_core.specs.Invariant.{CachedPart, Holds, IsLeafFor, IsSetBy, KnowsPart, OwnLines, RecordPart}
+use Rattle.mmu_core.specs.Invariant.{CachedPart, Holds, IsLeafFor, IsSetBy, KnowsPart, OwnLines, RecordPart, LeavesPart}
 use Rattle.mmu_core.specs.Machine.{World}
 use Rattle.mmu_core.specs.Rests.{Rests}
-use Rattle.mmu_core.specs.SetSlotSteps.{published_set}
 use Rattle.mmu_core.specs.SlotWords.{live_at}
 use Rattle.mmu_core.specs.Tasks.{map_of}
 use Rattle.mmu_core.specs.View.{view, word_in}
@@ -43,6 +42,7 @@ use Rattle.mmu_core.proofs.StartTopics.{rest_first, start_topics}
 use Rattle.mmu_core.proofs.RestsKept.{hand_rests, rests_stay}
 use Rattle.mmu_core.specs.Laws.{IsSound}
 use Rattle.mmu_core.proofs.Worlds.{good_run}
+use Rattle.mmu_core.specs.SetWords.{set_role}
 
 below : (a b : ℕ) → a < b → nat_lt a b ≡ true
 below a b lt = grind (arith, nat_tests)
@@ -55,8 +55,17 @@ absent_is_0 : absent_word ≡ 0
 unfolding absent_word
 absent_is_0 = refl
 
-pub none_live : (z : Sizes) (w : World Held) (id : ℕ) → AreStartWords z w.words → live_at (word_in z w area.Pool) published_set id ≡ false
-none_live z w id start = ap flags_live (pool_word z w _ start) ∙ no_flags
+pub none_live : (z : Sizes) (w : World Held) (set id : ℕ) → AreStartWords z w.words → live_at (word_in z w area.Pool) set id ≡ false
+none_live z w set id start = ap flags_live (pool_word z w _ start) ∙ no_flags
+
+-- The published slot set is page 1, with its role.
+slots_at_start : (z : Sizes) (w : World Held) → AreStartWords z w.words → word_in z w area.Slots 0 ≡ 1
+slots_at_start z w start = word_at_start z w area.Slots 0 1 start (λ l. refl) (λ e. absurd (cc e))
+
+role_at_start : (z : Sizes) (w : World Held) → AreSizes z → AreStartWords z w.words → word_in z w area.Role (word_in z w area.Slots 0) ≡ set_role
+role_at_start z w sizes start =
+    ap (word_in z w area.Role) (slots_at_start z w start)
+    ∙ word_at_start z w area.Role 1 5 start (λ l. refl) (λ e. let t = below 1 z.pool (omega (arith, sizes.pool.0)) in absurd (cc (e, t)))
 
 -- The place of the actor at a place is that place.
 pub place_of_actor : (z : Sizes) (i : ℕ) → i < actors_of z → index_of z (actor_at z i) ≡ i
@@ -235,18 +244,20 @@ start_good z lines w start = record {
   holds = record {
     sizes = start.sizes;
     hosts = λ p lt. word_at_start z w area.Host p (host_word p true true 1) start.words (λ l. refl) (λ e. let t = below p z.pages lt in absurd (cc (e, t)));
-    set = record {
-      published = word_at_start z w area.Slots 0 1 start.words (λ l. refl) (λ e. absurd (cc e));
-      fits = λ id low live. let e = none_live z w id start.words in absurd (cc (e, live));
-      guest_apart = λ gfn i j low under live more holds too. let e = none_live z w i start.words in absurd (cc (e, live));
-      host_apart = λ page i j low under live more has too. let e = none_live z w i start.words in absurd (cc (e, live));
+    set_part = record {
+      role_is = role_at_start z w start.sizes start.words;
+      fits = λ id low live. let e = none_live z w (word_in z w area.Slots 0) id start.words in absurd (cc (e, live));
+      guest_apart = λ gfn i j low under live more holds too. let e = none_live z w (word_in z w area.Slots 0) i start.words in absurd (cc (e, live));
+      host_apart = λ page i j low under live more has too. let e = none_live z w (word_in z w area.Slots 0) i start.words in absurd (cc (e, live));
     };
     lines = λ i lt. subst (OwnLines z i) (sym (hand_is z lines w i start lt)) (first_lines z lines w i start lt);
-    loads = λ i lt. subst (λ (h : Held). Holds z (word_in z w area.Pool) (word_in z w area.Host) h.state.place h.state.line.command h.slots h.state) (sym (hand_is z lines w i start lt)) tt;
+    loads = λ i lt. subst (λ (h : Held). Holds z (word_in z w area.Pool) (word_in z w area.Host) (word_in z w area.Slots 0) h.state.place h.state.line.command h) (sym (hand_is z lines w i start lt)) tt;
     knows = λ i lt. subst (λ (h : Held). KnowsPart h.state.place h.state.line.command h) (sym (hand_is z lines w i start lt)) (λ has. rest_first);
-    cached = λ i lt. subst (λ (h : Held). CachedPart (word_in z w area.Pool) (word_in z w area.Host) h.cached.items) (sym (hand_is z lines w i start lt)) (All-nil (λ (t : Translation). (t.level ≡ 1) × IsLeafFor (word_in z w area.Pool) (word_in z w area.Host) t.gfn t.leaf));
-    recorded = λ i lt is. subst (λ (h : Held). RecordPart (word_in z w area.Pool) h.slots) (sym (hand_is z lines w i start lt))
-        (record { same = sym (none_below (word_in z w area.Pool) published_set 32 (λ id low. none_live z w id start.words)); unlogged = λ id m at. absurd (cc at) });
+    leaves = λ i lt. subst (λ (h : Held). LeavesPart h.state.place h.topics) (sym (hand_is z lines w i start lt)) (λ may. refl);
+    cached = λ i lt. subst (λ (h : Held). CachedPart (word_in z w area.Pool) (word_in z w area.Host) (word_in z w area.Slots 0) h.cached.items) (sym (hand_is z lines w i start lt))
+        (All-nil (λ (t : Translation). (t.level ≡ 1) × IsLeafFor (word_in z w area.Pool) (word_in z w area.Host) (word_in z w area.Slots 0) t.gfn t.leaf));
+    recorded = λ i lt is. subst (λ (h : Held). RecordPart (word_in z w area.Pool) (word_in z w area.Slots 0) h.slots) (sym (hand_is z lines w i start lt))
+        (record { same = sym (none_below (word_in z w area.Pool) (word_in z w area.Slots 0) 32 (λ id low. none_live z w (word_in z w area.Slots 0) id start.words)); unlogged = λ id m at. absurd (cc at) });
   };
   topics = start_topics z lines w start;
 }

@@ -1,252 +1,59 @@
 -- A line is answered starved only where its own claim saw each word of the pool's map with no free page.
-use Rattle.std.proofs.Common.{◌≡◌, ◌≢◌, ◌⊎◌, inl, inr, ◌<◌, ◌≤◌, ℕ, List, [], ◌∷◌, ◌++◌, length, refl, sym, subst, ap, ◌∙◌, append_assoc, arith}
-use Rattle.std.specs.Prelude.{Bool, true, false, ◌==◌, ◌&&◌, nat_le, nat_lt, not, if◌then◌else◌, Option, Some, None}
+use Rattle.std.proofs.Common.{◌≡◌, ◌≢◌, ◌⊎◌, inl, inr, ◌<◌, ◌≤◌, ℕ, List, [], ◌∷◌, ◌++◌, length, refl, sym, subst, ap, append_assoc, arith}
+use Rattle.std.specs.Prelude.{Bool, true, false, ◌==◌, nat_lt, if◌then◌else◌, Option, Some, None, slice_get, unwrap_or, is_some, ◌+◌}
 use Rattle.std.proofs.lemmas.List.{append-nil}
 use Rattle.core_views.specs.declared.answer.Answer.TheVariants as answer
-use Rattle.core_views.specs.declared.cache.Translation.{Translation}
 use Rattle.core_views.specs.declared.kind.Kind.{Kind}
-use Rattle.core_views.specs.declared.kind.StepKind.TheVariants as kind
 use Rattle.core_views.specs.declared.place.AccessPlace.{AccessPlace}
 use Rattle.core_views.specs.declared.place.AccessPlace.TheVariants as access
-use Rattle.core_views.specs.declared.place.CheckStage.{CheckStage}
-use Rattle.core_views.specs.declared.place.CheckStage.TheVariants as stage
-use Rattle.core_views.specs.declared.place.FaultEnd.{FaultEnd}
 use Rattle.core_views.specs.declared.place.FaultEnd.TheVariants.{Installed, Mmio, HostFault, Starved, Retry}
-use Rattle.core_views.specs.declared.place.FaultNext.{FaultNext}
-use Rattle.core_views.specs.declared.place.FaultNext.TheVariants as next_of
 use Rattle.core_views.specs.declared.place.FaultPlace.{FaultPlace}
-use Rattle.core_views.specs.declared.place.FaultPlace.TheVariants.{Begin, Snapshot, Find, Host, Share, Check, Walk, Claim, Fill, Link, Give, Leaf, Unshare, End}
+use Rattle.core_views.specs.declared.place.FaultPlace.TheVariants.{End}
 use Rattle.core_views.specs.declared.place.Leaving.TheVariants as leaving
 use Rattle.core_views.specs.declared.place.Place.{Place}
 use Rattle.core_views.specs.declared.place.Place.TheVariants as place
 use Rattle.core_views.specs.declared.place.SetSlotPlace.{SetSlotPlace}
 use Rattle.core_views.specs.declared.place.SetSlotPlace.TheVariants as set_slot
-use Rattle.core_views.specs.declared.place.SlotField.{SlotField}
-use Rattle.core_views.specs.declared.place.SlotField.TheVariants as field
 use Rattle.core_views.specs.declared.sizes.Sizes.{Sizes}
-use Rattle.core_views.specs.declared.topics.Hold.{Hold}
-use Rattle.core_views.specs.declared.topics.Hold.TheVariants.{Loose, Shared, Owing, Exclusive}
-use Rattle.core_views.specs.declared.topics.SlotSearch.{SlotSearch}
-use Rattle.core_views.specs.declared.topics.TableWalk.{TableWalk}
 use Rattle.core_views.specs.declared.topics.Topics.{Topics}
 use Rattle.core_views.specs.declared.trace.Command.{Command}
 use Rattle.core_views.specs.declared.trace.Command.TheVariants.{Access, SetSlot}
 use Rattle.core_views.specs.declared.trace.Op.{Op}
 use Rattle.core_views.specs.Held.{Held}
-use Rattle.core_views.specs.Kinds.{code_of}
 use Rattle.core_views.specs.Refusals.{set_refusal}
 use Rattle.core_views.specs.Sizes.{actors_of}
 use Rattle.core_views.specs.SlotSets.{MemorySlots}
-use Rattle.core_views.specs.Slots.{contains, is_write}
-use Rattle.spte_words.specs.declared.area.Area.TheVariants as area
-use Rattle.spte_words.specs.declared.spte_kind.SpteKind.{SpteKind}
-use Rattle.spte_words.specs.declared.spte_kind.SpteKind.TheVariants as entry_kind
-use Rattle.spte_words.specs.Areas.{place as place_of, words_of_bits}
-use Rattle.spte_words.specs.Entries.{kind_of}
-use Rattle.spte_words.specs.HostWords.{host_allows_write}
-use Rattle.mmu_core.specs.declared.outcome.Outcome.TheVariants.{Ends}
+use Rattle.spte_words.specs.Areas.{words_of_bits}
+use Rattle.mmu_core.specs.declared.outcome.Outcome.TheVariants.{Ends, Goes}
 use Rattle.mmu_core.specs.declared.outcome.Task.{Task}
-use Rattle.mmu_core.specs.AccessSteps.{access_outcome, access_task, behind_fault, pause_next, walk_next as stay_next}
-use Rattle.mmu_core.specs.Cached.{first_usable}
+use Rattle.mmu_core.specs.AccessSteps.{access_outcome, access_task}
 use Rattle.mmu_core.specs.Enabled.{IsNext, mmu}
-use Rattle.mmu_core.specs.FaultSteps.{allows_access, check_next, fault_next, find_next, found_next, is_last_word, share_next, snapshot_taken, walk_next}
+use Rattle.mmu_core.specs.FaultSteps.{at_map_word, claim_part, map_word, tries_page}
 use Rattle.mmu_core.specs.KnowsPart.{KnowsPart}
 use Rattle.mmu_core.specs.Laws.{IsSound}
 use Rattle.mmu_core.specs.LinesPart.{UnderWay}
 use Rattle.mmu_core.specs.Machine.{Legal, May, Step, World, answered, effect, hand_in, run}
-use Rattle.mmu_core.specs.PartSteps.{words_filled}
+use Rattle.mmu_core.specs.PartSteps.{PartNeeds, own_index, part_kind}
 use Rattle.mmu_core.specs.Rests.{RestsAt}
 use Rattle.mmu_core.specs.Scans.{EndsWithScan, LoadsMap, StarvedLinesScan}
-use Rattle.mmu_core.specs.SetSlotSteps.{set_slot_first, set_slot_outcome}
-use Rattle.mmu_core.specs.Steps.{first_place, has_line, line_at, next, outcome_at, place_at, standing, task_at, task_of}
-use Rattle.mmu_core.specs.Tasks.{map_of, place_after}
-use Rattle.mmu_core.specs.TopicSteps.{has_writer, searched}
+use Rattle.mmu_core.specs.SetSlotSteps.{set_slot_first, set_slot_outcome, claim_outcome, set_slot_note, set_slot_part, set_slot_task}
+use Rattle.mmu_core.specs.Steps.{first_place, line_at, outcome_at, place_at, task_at, task_of}
+use Rattle.mmu_core.specs.Tasks.{kind_of_task}
+use Rattle.mmu_core.specs.TopicSteps.{topics_after}
 use Rattle.mmu_core.specs.Turns.{outcome_of}
 use Rattle.mmu_core.proofs.Columns.{same_or}
-use Rattle.mmu_core.proofs.LineRuns.{own_hand, run_one_more}
-use Rattle.mmu_core.proofs.Scanned.{IsOther, at_in, begins_scan, longer, others_hand, scan_kept}
-use Rattle.mmu_core.proofs.Which.{has_line_is, is_next, next_of_line, next_of_part}
+use Rattle.mmu_core.proofs.LineRuns.{run_one_more}
+use Rattle.mmu_core.proofs.Advancing.{some_below}
+use Rattle.mmu_core.proofs.PartTopics.{part_topics_is}
+use Rattle.mmu_core.proofs.Scanned.{at_behind, at_in, begins_scan, others_hand, scan_kept, shorter}
+use Rattle.mmu_core.proofs.Which.{has_line_is, is_next}
 use Rattle.mmu_core.proofs.Worlds.{good_run, good_step}
-
--- ---- the places at which a line has a scan behind it
-
-abbrev IsStarvedEnd : FaultEnd → Type 0
-IsStarvedEnd Starved = Unit {0}
-IsStarvedEnd _ = ⊥
-
--- The fault has loaded the first word of the map, and goes on with its claim, or is to be starved.
-abbrev HasBegun : FaultPlace → Type 0
-HasBegun (Claim begun) = begun ≡ true
-HasBegun (Give e) = IsStarvedEnd e
-HasBegun (Unshare e) = IsStarvedEnd e
-HasBegun (End e) = IsStarvedEnd e
-HasBegun _ = ⊥
-
-abbrev HasScan : Place → Type 0
-HasScan (place.Access (access.Fault p)) = HasBegun p
-HasScan _ = ⊥
-
--- The fault is at a step of its claim, or is to be starved.
-abbrev Claims : FaultPlace → Type 0
-Claims (Claim begun) = Unit {0}
-Claims p = HasBegun p
-
--- It has begun so behind a step.
-abbrev BegunNext : FaultNext → Type 0
-BegunNext (next_of.Goes p) = HasBegun p
-BegunNext (next_of.Ends e) = ⊥
-
--- ---- which places lead to one of them
-
-abbrev NotBegun : FaultPlace → Type 0
-NotBegun p = HasBegun p → ⊥
-
-neither : (b : Bool) (p q : FaultPlace) → NotBegun p → NotBegun q → NotBegun (if b then p else q)
-neither true p q one other = one
-neither false p q one other = other
-
--- No other place leads to one of them.
-not_found : (write : Bool) (found : SlotSearch) → NotBegun (found_next write found)
-not_found write found = neither (write && found.slot.read_only) (End Mmio) Host (λ e. e) (λ e. e)
-
-not_by_find : (gfn : ℕ) (write : Bool) (loaded : SlotField) (found : SlotSearch) → NotBegun (find_next gfn write loaded found)
-not_by_find gfn write loaded found =
-    neither (is_last_word loaded && contains gfn found.slot) (found_next write found) (if found.id == 32 then End Mmio else Find true) (not_found write found)
-    (neither (found.id == 32) (End Mmio) (Find true) (λ e. e) (λ e. e))
-
-not_by_share : (hold : Hold) (v : ℕ) → NotBegun (share_next hold v)
-not_by_share (Owing word) v = λ e. e
-not_by_share Loose v = neither (has_writer v) Share (Check stage.Count) (λ e. e) (λ e. e)
-not_by_share Shared v = neither (has_writer v) Share (Check stage.Count) (λ e. e) (λ e. e)
-not_by_share Exclusive v = neither (has_writer v) Share (Check stage.Count) (λ e. e) (λ e. e)
-
-not_by_check : (at : CheckStage) (gfn : ℕ) (t : Topics) (v : ℕ) → NotBegun (check_next at gfn t v)
-not_by_check stage.Count gfn t v = neither (v == 0) (Check stage.Seq) (Check stage.Start) (λ e. e) (λ e. e)
-not_by_check stage.Start gfn t v = λ e. e
-not_by_check stage.End gfn t v = neither (nat_le t.invalidations.start gfn && nat_lt gfn v) (Unshare (Retry _)) (Check stage.Seq) (λ e. e) (λ e. e)
-not_by_check stage.Seq gfn t v = neither (v == snapshot_taken t.invalidations.snapshot) (Walk false) (Unshare (Retry _)) (λ e. e) (λ e. e)
-
-not_by_walk : (k : SpteKind) (z : Sizes) (gfn : ℕ) (write : Bool) (walk : TableWalk) (v : ℕ) → NotBegun (walk_next k z gfn write walk v)
-not_by_walk (entry_kind.Table page) z gfn write walk v = λ e. e
-not_by_walk entry_kind.Leaf z gfn write walk v =
-    neither (walk.level == 1) (if allows_access write v then Unshare Installed else Leaf) (Unshare (Retry _)) (neither (allows_access write v) (Unshare Installed) Leaf (λ e. e) (λ e. e)) (λ e. e)
-not_by_walk entry_kind.Absent z gfn write walk v = neither (walk.level == 1) Leaf (Claim false) (λ e. e) (λ e. absurd (cc e))
-not_by_walk entry_kind.Frozen z gfn write walk v = λ e. e
-
-fault_claims : (p : FaultPlace) (z : Sizes) (gfn : ℕ) (write : Bool) (t : Topics) (v : ℕ) → BegunNext (fault_next p z gfn write t v) → Claims p
-fault_claims Begin z gfn write t v e = e
-fault_claims Snapshot z gfn write t v e = absurd e
-fault_claims (Find begun) z gfn write t v e = neither begun (find_next gfn write t.search.next (searched t.search v)) (Find true) (not_by_find gfn write t.search.next (searched t.search v)) (λ x. x) e
-fault_claims Host z gfn write t v e = neither (write && not (host_allows_write v)) (End HostFault) Share (λ x. x) (λ x. x) e
-fault_claims Share z gfn write t v e = not_by_share t.hold v e
-fault_claims (Check at) z gfn write t v e = not_by_check at gfn t v e
-fault_claims (Walk rooted) z gfn write t v e =
-    neither rooted (walk_next (kind_of t.walk.level v) z gfn write t.walk v) (Walk true) (not_by_walk (kind_of t.walk.level v) z gfn write t.walk v) (λ x. x) e
-fault_claims (Claim begun) z gfn write t v e = tt
-fault_claims Fill z gfn write t v e = neither (nat_lt (words_filled t.owned) 512) Fill Link (λ x. x) (λ x. x) e
-fault_claims Link z gfn write t v e = neither (v == t.walk.entry) (Walk true) (Give (Retry _)) (λ x. x) (λ x. x) e
-fault_claims (Give end) z gfn write t v e = e
-fault_claims Leaf z gfn write t v e = neither (v == t.walk.entry) (Unshare Installed) (Unshare (Retry _)) (λ x. x) (λ x. x) e
-fault_claims (Unshare end) z gfn write t v e = e
-fault_claims (End end) z gfn write t v e = absurd e
-
-over_begun : (n : FaultNext) → HasScan (place_after (behind_fault n)) → BegunNext n
-over_begun (next_of.Goes p) S = S
-over_begun (next_of.Ends Installed) S = S
-over_begun (next_of.Ends Mmio) S = S
-over_begun (next_of.Ends HostFault) S = S
-over_begun (next_of.Ends Starved) S = S
-over_begun (next_of.Ends (Retry cause)) S = S
-
--- The step loads the first word of the map.
-record LoadsFirst (t : Task) : Type 0 where
-  loads : t.kind ≡ kind.Control
-  of_map : t.area ≡ area.PoolMap
-  first : t.index ≡ 0
-
--- A claim begins with the first word of the map.
-begins_first : (p : FaultPlace) (h : Held) (gfn word : ℕ) (op : Op) → Claims p → HasBegun p ⊎ LoadsFirst (access_task (access.Fault p) h gfn word op)
-begins_first (Claim true) h gfn word op c = inl refl
-begins_first (Claim false) h gfn word op c = inr (record { loads = refl; of_map = refl; first = refl })
-begins_first p h gfn word op c = inl c
-
-not_by_pause : (again : Bool) (f : Option Translation) → HasScan (place.Access (pause_next again f)) → ⊥
-not_by_pause again None S = S
-not_by_pause again (Some t) S = S
-
-not_by_stay : (again : Bool) (k : SpteKind) (allowed : Bool) → HasScan (place.Access (stay_next again k allowed)) → ⊥
-not_by_stay again (entry_kind.Table page) allowed S = S
-not_by_stay again entry_kind.Leaf true S = S
-not_by_stay again entry_kind.Leaf false S = S
-not_by_stay again entry_kind.Absent allowed S = S
-not_by_stay again entry_kind.Frozen allowed S = S
-
-access_scans : (p : AccessPlace) (h : Held) (gfn word : ℕ) (op : Op) (v : ℕ) → HasScan (place_after (access_outcome p h gfn op v)) → HasScan (place.Access p) ⊎ LoadsFirst (access_task p h gfn word op)
-access_scans (access.Enter again) h gfn word op v S = absurd S
-access_scans (access.Pause again) h gfn word op v S = absurd (not_by_pause again (first_usable gfn (is_write op) h.cached.items) S)
-access_scans (access.Root again) h gfn word op v S = absurd S
-access_scans (access.Walk again) h gfn word op v S = absurd (not_by_stay again (kind_of h.topics.walk.level v) (allows_access (is_write op) v) S)
-access_scans access.Touch h gfn word op v S = absurd S
-access_scans (access.Leave (leaving.Reached frame value)) h gfn word op v S = absurd S
-access_scans (access.Leave leaving.Faults) h gfn word op v S = absurd S
-access_scans (access.Fault p) h gfn word op v S =
-    begins_first p h gfn word op (fault_claims p h.state.sizes gfn (is_write op) h.topics v (over_begun (fault_next p h.state.sizes gfn (is_write op) h.topics v) S))
-
-not_by_setting : (p : SetSlotPlace) → HasScan (place_after (set_slot_outcome p)) → ⊥
-not_by_setting (set_slot.Refuse refusal) S = S
-not_by_setting (set_slot.Fill field.Base) S = S
-not_by_setting (set_slot.Fill field.Pages) S = S
-not_by_setting (set_slot.Fill field.Host) S = S
-not_by_setting (set_slot.Fill field.Flags) S = S
-
--- A line comes to such a place from another one, or with the first load of the map.
-line_scans : (p : Place) (command : Command) (h : Held) (v : ℕ) → RestsAt p command h → HasScan (place_after (outcome_at p command h v)) → HasScan p ⊎ LoadsFirst (task_at p command h)
-line_scans place.Between (Access gfn word op) h v R S = absurd S
-line_scans place.Between (SetSlot id slot) h v R S = absurd S
-line_scans (place.Access p) (Access gfn word op) h v R S = access_scans p h gfn word op v S
-line_scans (place.Access p) (SetSlot id slot) h v R S = absurd R
-line_scans (place.SetSlot p) (Access gfn word op) h v R S = absurd R
-line_scans (place.SetSlot p) (SetSlot id slot) h v R S = absurd (not_by_setting p S)
-
-first_not : (z : Sizes) (slots : MemorySlots) (command : Command) → HasScan (first_place z slots command) → ⊥
-first_not z slots (Access gfn word op) S = S
-first_not z slots (SetSlot id slot) S = S
-
-standing_scans : (p : Place) (z : Sizes) (slots : MemorySlots) (command : Command) → HasScan (standing p z slots command) → HasScan p
-standing_scans place.Between z slots command S = first_not z slots command S
-standing_scans (place.Access p) z slots command S = S
-standing_scans (place.SetSlot p) z slots command S = S
-
--- Where the actor's line stands at such a place behind its step, it did so before, or the step is the first load of the map.
-own_scans : (z : Sizes) (u : World Held) (s : Step Kind) → IsSound z u → May mmu u s → HasScan (hand_in mmu (effect mmu u s) s.actor).state.place → HasScan (hand_in mmu u s.actor).state.place ⊎ LoadsMap z s.actor 0 s
-own_scans z u s G may scan = by (has_line h) refl
-  where
-    h : Held
-    h = hand_in mmu u s.actor
-
-    v : ℕ
-    v = answered mmu u s.kind
-
-    same : h.state.sizes ≡ z
-    same = (G.holds.lines s.actor (subst (λ n. s.actor < n) G.hands may.there)).sizes
-
-    behind : HasScan (next h s.kind v).state.place
-    behind = subst (λ (x : Held). HasScan x.state.place) (own_hand u s may.there) scan
-
-    task : IsNext h s.kind → HasScan (place_at h.state.place h) ⊎ LoadsFirst (task_of h) → HasScan h.state.place ⊎ LoadsMap z s.actor 0 s
-    task N (inl here) = inl (standing_scans h.state.place h.state.sizes h.slots (line_at h.state.place h).command here)
-    task N (inr L) = inr (record {
-      by_actor = refl;
-      loads = ap (λ (k : Kind). k.code) N.is ∙ ap code_of L.loads;
-      at = ap (λ (k : Kind). k.word) N.is ∙ ap (λ (y : Sizes). place_of (map_of y) (task_of h).area (task_of h).index) same ∙ ap (λ a. place_of (map_of z) a (task_of h).index) L.of_map ∙ ap (place_of (map_of z) area.PoolMap) L.first;
-    })
-
-    of_line : has_line h ≡ true → IsNext h s.kind → HasScan h.state.place ⊎ LoadsMap z s.actor 0 s
-    of_line has N = task N (line_scans (place_at h.state.place h) (line_at h.state.place h).command h v N.rests.at (subst (λ (x : Held). HasScan x.state.place) (next_of_line h s.kind v has) behind))
-
-    by : (b : Bool) → has_line h ≡ b → HasScan h.state.place ⊎ LoadsMap z s.actor 0 s
-    by true has = of_line has (is_next h s.kind may.enabled has)
-    by false none = inl (subst (λ (x : Held). HasScan x.state.place) (next_of_part h s.kind v none) behind)
+use Rattle.mmu_core.specs.declared.part_step.PartStep.TheVariants as part
+use Rattle.core_views.specs.declared.trace.Line.{Line}
+use Rattle.core_views.specs.Flat.{no_line}
+use Rattle.std.proofs.lemmas.Bool.Decides.{nat_tests}
+use Rattle.core_views.specs.declared.trace.Slot.{Slot}
+use Rattle.mmu_core.proofs.ScanPlaces.{HasScan, LoadsFirst, claim_begins, own_scans, stands_or_loads}
 
 -- ---- what is shown of each list of steps
 
@@ -279,85 +86,123 @@ module _ (z : Sizes) (actor : ℕ) where
 
 -- ---- where a line is starved
 
--- The line stands at such a place, its step ends a section, and its claim has come behind the last word.
-record IsStarved (p : Place) (t : Task) (h : Held) : Type 0 where
-  scans : HasScan p
-  ends : t.kind ≡ kind.End
-  past : words_of_bits h.state.sizes.pool ≤ h.topics.claim.at
+-- The line stands at such a place, or its step loads the first word; and behind the step the claim has come behind the last word.
+record IsStarved (p : Place) (t : Task) (h : Held) (v : ℕ) : Type 0 where
+  scans : HasScan p ⊎ LoadsFirst t
+  past : words_of_bits h.state.sizes.pool ≤ (topics_after h.state.sizes (kind_of_task h.state.sizes t) h.topics v).claim.at
 
 starved_at : (p : FaultPlace) (h : Held) (gfn word : ℕ) (op : Op) (v : ℕ) → access_outcome (access.Fault p) h gfn op v ≡ Ends answer.Starved → KnowsPart (place.Access (access.Fault p)) (Access gfn word op) h
-    → IsStarved (place.Access (access.Fault p)) (access_task (access.Fault p) h gfn word op) h
-starved_at (End Starved) h gfn word op v e K = record { scans = tt; ends = refl; past = K.2 }
+    → IsStarved (place.Access (access.Fault p)) (access_task (access.Fault p) h gfn word op) h v
+unfolding topics_after
+starved_at (End Starved) h gfn word op v e K = record { scans = inl tt; past = K.2 }
 starved_at (End Installed) h gfn word op v e K = absurd (cc e)
 starved_at (End Mmio) h gfn word op v e K = absurd (cc e)
 starved_at (End HostFault) h gfn word op v e K = absurd (cc e)
 starved_at (End (Retry cause)) h gfn word op v e K = absurd (cc e)
 starved_at p h gfn word op v e K = absurd (cc e)
 
-starved_access : (p : AccessPlace) (h : Held) (gfn word : ℕ) (op : Op) (v : ℕ) → access_outcome p h gfn op v ≡ Ends answer.Starved → KnowsPart (place.Access p) (Access gfn word op) h → IsStarved (place.Access p) (access_task p h gfn word op) h
+starved_access : (p : AccessPlace) (h : Held) (gfn word : ℕ) (op : Op) (v : ℕ) → access_outcome p h gfn op v ≡ Ends answer.Starved → KnowsPart (place.Access p) (Access gfn word op) h → IsStarved (place.Access p) (access_task p h gfn word op) h v
 starved_access (access.Fault p) h gfn word op v e K = starved_at p h gfn word op v e K
 starved_access (access.Leave (leaving.Reached frame value)) h gfn word op v e K = absurd (cc e)
 starved_access (access.Leave leaving.Faults) h gfn word op v e K = absurd (cc e)
 starved_access p h gfn word op v e K = absurd (cc e)
 
-setting_not_starved : (p : SetSlotPlace) → set_slot_outcome p ≡ Ends answer.Starved → ⊥
-setting_not_starved (set_slot.Refuse refusal) e = absurd (cc e)
-setting_not_starved (set_slot.Fill field.Base) e = absurd (cc e)
-setting_not_starved (set_slot.Fill field.Pages) e = absurd (cc e)
-setting_not_starved (set_slot.Fill field.Host) e = absurd (cc e)
-setting_not_starved (set_slot.Fill field.Flags) e = absurd (cc e)
+-- A claim is answered starved with a load that leaves no word of the map to be loaded.
+starved_load : (h : Held) (word note v : ℕ) → word < words_of_bits h.state.sizes.pool → (if nat_lt (word + (if v == 0 then 1 else 0)) (words_of_bits h.state.sizes.pool) then Goes (place.SetSlot (set_slot.Claim true)) else Ends answer.Starved) ≡ Ends answer.Starved
+    → words_of_bits h.state.sizes.pool ≤ (topics_after h.state.sizes (part_kind h (part.Map word) note) h.topics v).claim.at
+starved_load h word note v there e =
+    subst (λ n. words_of_bits h.state.sizes.pool ≤ n) (sym (ap (λ (t : Topics). t.claim.at) (part_topics_is h.state.sizes (part.Map word) (own_index h) h.topics note v there)))
+    (by (nat_lt (word + (if v == 0 then 1 else 0)) (words_of_bits h.state.sizes.pool)) refl e)
+  where
+    by : (b : Bool) → nat_lt (word + (if v == 0 then 1 else 0)) (words_of_bits h.state.sizes.pool) ≡ b → (if b then Goes (place.SetSlot (set_slot.Claim true)) else Ends answer.Starved) ≡ Ends answer.Starved
+        → words_of_bits h.state.sizes.pool ≤ word + (if v == 0 then 1 else 0)
+    by true is e = absurd (cc e)
+    by false is e = grind (arith, nat_tests)
 
-starved_by : (p : Place) (command : Command) (h : Held) (v : ℕ) → outcome_at p command h v ≡ Ends answer.Starved → KnowsPart p command h → IsStarved p (task_at p command h) h
-starved_by place.Between (Access gfn word op) h v e K = absurd (cc e)
-starved_by place.Between (SetSlot id slot) h v e K = absurd (cc e)
-starved_by (place.Access p) (Access gfn word op) h v e K = starved_access p h gfn word op v e K
-starved_by (place.Access p) (SetSlot id slot) h v e K = absurd K
-starved_by (place.SetSlot p) (Access gfn word op) h v e K = absurd K
-starved_by (place.SetSlot p) (SetSlot id slot) h v e K = absurd (setting_not_starved p e)
+starved_claim : (begun : Bool) (h : Held) (id : ℕ) (slot : Slot) (v : ℕ) → set_slot_outcome (set_slot.Claim begun) h v ≡ Ends answer.Starved → PartNeeds (claim_part begun h.topics.claim) h
+    → IsStarved (place.SetSlot (set_slot.Claim begun)) (set_slot_task (set_slot.Claim begun) h id slot) h v
+starved_claim begun h id slot v e N = record { scans = claim_begins begun h id slot; past = by (tries_page begun h.topics.claim) e N }
+  where
+    note : ℕ
+    note = set_slot_note (set_slot.Claim begun) h
 
-first_not_starved : (z : Sizes) (slots : MemorySlots) (command : Command) (h : Held) (v : ℕ) → outcome_at (first_place z slots command) command h v ≡ Ends answer.Starved → ⊥
-first_not_starved z slots (Access gfn word op) h v e = absurd (cc e)
-first_not_starved z slots (SetSlot id slot) h v e = setting_not_starved (set_slot_first (set_refusal z.pages id slot slots)) e
+    by : (tries : Bool) → claim_outcome tries h.state.sizes (at_map_word begun h.topics.claim) v ≡ Ends answer.Starved → PartNeeds (if tries then part.Claim else part.Map (map_word begun h.topics.claim)) h
+        → words_of_bits h.state.sizes.pool ≤ (topics_after h.state.sizes (part_kind h (if tries then part.Claim else part.Map (map_word begun h.topics.claim)) note) h.topics v).claim.at
+    by true e N = absurd (cc e)
+    by false e N = starved_load h (map_word begun h.topics.claim) note v N.1 e
 
-starved_line : (p : Place) (h : Held) (v : ℕ) → outcome_at (place_at p h) (line_at p h).command h v ≡ Ends answer.Starved → KnowsPart p h.state.line.command h → IsStarved p (task_at (place_at p h) (line_at p h).command h) h
-starved_line place.Between h v e K = absurd (first_not_starved h.state.sizes h.slots (line_at place.Between h).command h v e)
-starved_line (place.Access p) h v e K = starved_by (place.Access p) h.state.line.command h v e K
-starved_line (place.SetSlot p) h v e K = starved_by (place.SetSlot p) h.state.line.command h v e K
+starved_setting : (p : SetSlotPlace) (h : Held) (id : ℕ) (slot : Slot) (v : ℕ) → set_slot_outcome p h v ≡ Ends answer.Starved → PartNeeds (set_slot_part p h id slot) h → IsStarved (place.SetSlot p) (set_slot_task p h id slot) h v
+starved_setting (set_slot.Claim begun) h id slot v e N = starved_claim begun h id slot v e N
+starved_setting p h id slot v e N = absurd (cc e)
 
-has_left : (p : Place) (h : Held) → HasScan p → UnderWay p h → length h.answers < length h.lines
-has_left place.Between h S U = absurd S
-has_left (place.Access p) h S U = U.1
-has_left (place.SetSlot p) h S U = absurd S
+starved_by : (p : Place) (command : Command) (h : Held) (v : ℕ) → outcome_at p command h v ≡ Ends answer.Starved → KnowsPart p command h → RestsAt p command h → IsStarved p (task_at p command h) h v
+starved_by place.Between (Access gfn word op) h v e K R = absurd (cc e)
+starved_by place.Between (SetSlot id slot) h v e K R = absurd (cc e)
+starved_by (place.Access p) (Access gfn word op) h v e K R = starved_access p h gfn word op v e K
+starved_by (place.Access p) (SetSlot id slot) h v e K R = absurd R
+starved_by (place.SetSlot p) (Access gfn word op) h v e K R = absurd R
+starved_by (place.SetSlot p) (SetSlot id slot) h v e K R = starved_setting p h id slot v e R
 
-legal_parts : (w : World Held) (ss ts : List (Step Kind)) → Legal mmu w (ss ++ ts) → Legal mmu w ss × Legal mmu (run mmu w ss) ts
+starved_first : (z : Sizes) (slots : MemorySlots) (command : Command) (h : Held) (v : ℕ) → outcome_at (first_place z slots command) command h v ≡ Ends answer.Starved → RestsAt (first_place z slots command) command h
+    → IsStarved (first_place z slots command) (task_at (first_place z slots command) command h) h v
+starved_first z slots (Access gfn word op) h v e R = absurd (cc e)
+starved_first z slots (SetSlot id slot) h v e R = starved_setting (set_slot_first (set_refusal z.pages id slot slots)) h id slot v e R
+
+starved_line : (p : Place) (h : Held) (v : ℕ) → outcome_at (place_at p h) (line_at p h).command h v ≡ Ends answer.Starved → KnowsPart p h.state.line.command h → RestsAt (place_at p h) (line_at p h).command h
+    → IsStarved (place_at p h) (task_at (place_at p h) (line_at p h).command h) h v
+starved_line place.Between h v e K R = starved_first h.state.sizes h.slots (line_at place.Between h).command h v e R
+starved_line (place.Access p) h v e K R = starved_by (place.Access p) h.state.line.command h v e K R
+starved_line (place.SetSlot p) h v e K R = starved_by (place.SetSlot p) h.state.line.command h v e K R
+
+-- A hand whose step answers a line starved has a line left.
+has_left : (p : Place) (h : Held) (v : ℕ) → UnderWay p h → outcome_at (place_at p h) (line_at p h).command h v ≡ Ends answer.Starved → length h.answers < length h.lines
+has_left (place.Access p) h v U e = U.1
+has_left (place.SetSlot p) h v U e = U.1
+has_left place.Between h v U e = by (slice_get h.lines (length h.answers)) refl e
+  where
+    by : (o : Option Line) → slice_get h.lines (length h.answers) ≡ o → outcome_at (first_place h.state.sizes h.slots (unwrap_or o no_line).command) (unwrap_or o no_line).command h v ≡ Ends answer.Starved → length h.answers < length h.lines
+    by None is e = absurd (cc e)
+    by (Some line) is e = some_below h.lines (length h.answers) (ap is_some is)
+
+pub legal_parts : (w : World Held) (ss ts : List (Step Kind)) → Legal mmu w (ss ++ ts) → Legal mmu w ss × Legal mmu (run mmu w ss) ts
 legal_parts w [] ts legal = (tt, legal)
 legal_parts w (s ∷ ss) ts legal = let more = legal_parts (effect mmu w s) ss ts legal.1 in ((legal.0, more.0), more.1)
 
 -- The step that answers a line starved ends the scan of its claim.
 last_scan : (z : Sizes) (w : World Held) (ss : List (Step Kind)) (s : Step Kind) → IsSound z (run mmu w ss) → May mmu (run mmu w ss) s → outcome_of (hand_in mmu (run mmu w ss) s.actor) (answered mmu (run mmu w ss) s.kind) ≡ Ends answer.Starved
     → ScanAtPlace z s.actor w ss (run mmu w ss) → EndsWithScan z s.actor (words_of_bits z.pool) w (ss ++ s ∷ [])
-last_scan z w ss s G may starved S = longer z s.actor h.topics.claim.at (words_of_bits z.pool) w ss s (S is.scans) other (λ word lt. inl (omega (arith, lt, past)))
+last_scan z w ss s G may starved S = shorter z s.actor (at_in s.actor (effect mmu u s)) (words_of_bits z.pool) w (ss ++ s ∷ []) past (scan (stands_or_loads z s h same N is.scans))
   where
+    u : World Held
+    u = run mmu w ss
+
     h : Held
-    h = hand_in mmu (run mmu w ss) s.actor
+    h = hand_in mmu u s.actor
+
+    v : ℕ
+    v = answered mmu u s.kind
 
     there : s.actor < actors_of z
     there = subst (λ n. s.actor < n) G.hands may.there
 
-    is : IsStarved h.state.place (task_of h) h
-    is = starved_line h.state.place h (answered mmu (run mmu w ss) s.kind) starved (G.holds.knows s.actor there)
+    same : h.state.sizes ≡ z
+    same = (G.holds.lines s.actor there).sizes
 
-    past : words_of_bits z.pool ≤ h.topics.claim.at
-    past = subst (λ (y : Sizes). words_of_bits y.pool ≤ h.topics.claim.at) (G.holds.lines s.actor there).sizes is.past
+    N : IsNext h s.kind
+    N = is_next h s.kind may.enabled (has_line_is h (has_left h.state.place h v (G.holds.lines s.actor there).under starved))
 
-    next_step : IsNext h s.kind
-    next_step = is_next h s.kind may.enabled (has_line_is h (has_left h.state.place h is.scans (G.holds.lines s.actor there).under))
+    is : IsStarved (place_at h.state.place h) (task_of h) h v
+    is = starved_line h.state.place h v starved (G.holds.knows s.actor there) N.rests.at
 
-    ends : s.kind.code ≡ code_of kind.End
-    ends = ap (λ (k : Kind). k.code) next_step.is ∙ ap code_of is.ends
+    past : words_of_bits z.pool ≤ at_in s.actor (effect mmu u s)
+    past =
+        subst (λ n. words_of_bits z.pool ≤ n) (sym (at_behind u s may.there))
+        (subst (λ (k : Kind). words_of_bits z.pool ≤ (topics_after h.state.sizes k h.topics v).claim.at) (sym N.is)
+        (subst (λ (y : Sizes). words_of_bits y.pool ≤ (topics_after h.state.sizes (kind_of_task h.state.sizes (task_of h)) h.topics v).claim.at) same is.past))
 
-    other : IsOther z s.actor s
-    other L = let loads = L.loads in omega (arith, ends, loads)
+    scan : HasScan h.state.place ⊎ LoadsMap z s.actor 0 s → EndsWithScan z s.actor (at_in s.actor (effect mmu u s)) w (ss ++ s ∷ [])
+    scan (inl before) = scan_kept z s.actor w ss s G may (S before)
+    scan (inr L) = begins_scan z s.actor w ss s G may L
 
 pub starved_lines_scan : StarvedLinesScan
 starved_lines_scan z w ss s G legal idle starved =

@@ -14,8 +14,7 @@ use Rattle.core_views.specs.declared.place.Leaving.TheVariants as leaving
 use Rattle.core_views.specs.declared.place.Place.{Place}
 use Rattle.core_views.specs.declared.place.Place.TheVariants as place
 use Rattle.core_views.specs.declared.place.SetSlotPlace.{SetSlotPlace}
-use Rattle.core_views.specs.declared.place.SetSlotPlace.TheVariants.{Refuse, Fill}
-use Rattle.core_views.specs.declared.place.SlotField.TheVariants as field
+use Rattle.core_views.specs.declared.place.SetSlotPlace.TheVariants.{Claim, Fill}
 use Rattle.core_views.specs.declared.sizes.Sizes.{Sizes}
 use Rattle.core_views.specs.declared.topics.Topics.{Topics}
 use Rattle.core_views.specs.declared.trace.Command.{Command}
@@ -38,13 +37,15 @@ use Rattle.mmu_core.specs.AccessSteps.{access_caches, access_note, access_outcom
 use Rattle.mmu_core.specs.Cached.{asks_flush, flushed, flushed_by, with_leaf}
 use Rattle.mmu_core.specs.Enabled.{Enabled}
 use Rattle.mmu_core.specs.FaultSteps.{allows_access, fault_next}
-use Rattle.mmu_core.specs.PartSteps.{own_index, page_owned, part_task, words_filled, works}
-use Rattle.mmu_core.specs.SetSlotSteps.{set_slot_outcome, set_slot_task}
-use Rattle.mmu_core.specs.StepLaws.{CachesOneAtMost, IsOn, IsOnItsArea}
+use Rattle.mmu_core.specs.PartSteps.{PartNeeds, own_index, page_owned, part_task, words_filled, works}
+use Rattle.mmu_core.specs.SetSlotSteps.{set_slot_note, set_slot_outcome, set_slot_part, set_slot_task}
+use Rattle.mmu_core.specs.StepLaws.{CachesOneAtMost, IsOn, IsOnItsArea, NoteTells}
 use Rattle.mmu_core.specs.Steps.{caches_at, has_line, next, next_by, outcome_at, place_at, task_at, task_of}
 use Rattle.mmu_core.specs.Tasks.{kind_of_task, map_of}
 use Rattle.mmu_core.specs.Turns.{line_of, outcome_of}
+use Rattle.mmu_core.specs.Rests.{RestsAt}
 use Rattle.mmu_core.proofs.Advancing.{named_is}
+use Rattle.mmu_core.proofs.ClaimNote.{claim_tells}
 use Rattle.mmu_core.proofs.PartIndex.{index_same}
 use Rattle.mmu_core.proofs.RestsKept.{task_within}
 use Rattle.mmu_core.proofs.Which.{is_next}
@@ -84,6 +85,9 @@ tells_part (part.Link gfn) own t note = record { on = refl; note_is = refl }
 tells_part (part.Leaf gfn) own t note = record { on = refl; note_is = refl }
 tells_part (part.Host page) own t note = record { on = refl; note_is = refl }
 tells_part (part.Watch index) own t note = record { on = refl; note_is = refl }
+tells_part part.Publish own t note = record { on = refl; note_is = refl }
+tells_part part.Clear own t note = record { on = inr refl; note_is = refl }
+tells_part part.GiveOld own t note = record { on = refl; note_is = refl }
 
 tells_touch : (op : Op) (index : ℕ) → TellsPart 0 (touch_of op index)
 tells_touch Read index = record { on = refl; note_is = refl }
@@ -114,26 +118,32 @@ access_ends (Leave (leaving.Reached frame value)) h gfn op v = refl
 access_ends (Leave leaving.Faults) h gfn op v = refl
 access_ends (Fault p) h gfn op v = fault_ends p h.state.sizes gfn (is_write op) h.topics v
 
--- What a line's step is on, and its note.
-record TellsLine (t : Task) (o : Outcome) : Type 0 where
-  on : IsOn t.kind t.area
-  note_is : t.may_end ≡ ends_with o
+-- The step of another place than a slot setting's claim.
+tells_exactly : (p : Place) (z : Sizes) (t : Task) (o : Outcome) (v : ℕ) → t.may_end ≡ ends_with o → ((begun : Bool) → p ≡ place.SetSlot (Claim begun) → ⊥) → NoteTells p z (kind_of_task z t) o v
+tells_exactly p z t o v is other = record { tells = inl is; last = λ L. absurd (other L.begun L.place_is) }
 
-setting_tells : (p : SetSlotPlace) (id : ℕ) (slot : Slot) → TellsLine (set_slot_task p id slot) (set_slot_outcome p)
-setting_tells (Refuse refusal) id slot = record { on = tt; note_is = refl }
-setting_tells (Fill field.Base) id slot = record { on = inl refl; note_is = refl }
-setting_tells (Fill field.Pages) id slot = record { on = inl refl; note_is = refl }
-setting_tells (Fill field.Host) id slot = record { on = inl refl; note_is = refl }
-setting_tells (Fill field.Flags) id slot = record { on = inl refl; note_is = refl }
+setting_tells : (p : SetSlotPlace) (h : Held) (id : ℕ) (slot : Slot) (v : ℕ) → PartNeeds (set_slot_part p h id slot) h → NoteTells (place.SetSlot p) h.state.sizes (kind_of_task h.state.sizes (set_slot_task p h id slot)) (set_slot_outcome p h v) v
+setting_tells (Claim begun) h id slot v N = claim_tells begun h id slot v N
+setting_tells Fill h id slot v N = tells_exactly (place.SetSlot Fill) h.state.sizes (set_slot_task Fill h id slot) (set_slot_outcome Fill h v) v (tells_part (set_slot_part Fill h id slot) (own_index h) h.topics 0).note_is (λ begun e. cc e)
+setting_tells p h id slot v N = record { tells = inl refl; last = λ L. absurd (cc L.place_is) }
 
-line_tells : (p : Place) (command : Command) (h : Held) (v : ℕ) → TellsLine (task_at p command h) (outcome_at p command h v)
-line_tells (place.Access p) (Access gfn word op) h v =
-    let T = tells_by (access_part p gfn h.topics) h (access_note p) _ op in record { on = T.on; note_is = T.note_is ∙ access_ends p h gfn op v }
-line_tells (place.SetSlot p) (SetSlot id slot) h v = setting_tells p id slot
-line_tells place.Between (Access gfn word op) h v = record { on = tt; note_is = refl }
-line_tells place.Between (SetSlot id slot) h v = record { on = tt; note_is = refl }
-line_tells (place.Access p) (SetSlot id slot) h v = record { on = tt; note_is = refl }
-line_tells (place.SetSlot p) (Access gfn word op) h v = record { on = tt; note_is = refl }
+line_tells : (p : Place) (command : Command) (h : Held) (v : ℕ) → RestsAt p command h → NoteTells p h.state.sizes (kind_of_task h.state.sizes (task_at p command h)) (outcome_at p command h v) v
+line_tells (place.Access p) (Access gfn word op) h v R =
+    tells_exactly (place.Access p) h.state.sizes (task_at (place.Access p) (Access gfn word op) h) (access_outcome p h gfn op v) v ((tells_by (access_part p gfn h.topics) h (access_note p) _ op).note_is ∙ access_ends p h gfn op v) (λ begun e. cc e)
+line_tells (place.SetSlot p) (SetSlot id slot) h v R = setting_tells p h id slot v R
+line_tells place.Between (Access gfn word op) h v R = record { tells = inl refl; last = λ L. absurd (cc L.place_is) }
+line_tells place.Between (SetSlot id slot) h v R = record { tells = inl refl; last = λ L. absurd (cc L.place_is) }
+line_tells (place.Access p) (SetSlot id slot) h v R = absurd R
+line_tells (place.SetSlot p) (Access gfn word op) h v R = absurd R
+
+-- What a line's step is on.
+line_on : (p : Place) (command : Command) (h : Held) → IsOn (task_at p command h).kind (task_at p command h).area
+line_on (place.Access p) (Access gfn word op) h = (tells_by (access_part p gfn h.topics) h (access_note p) _ op).on
+line_on (place.SetSlot p) (SetSlot id slot) h = (tells_part (set_slot_part p h id slot) (own_index h) h.topics (set_slot_note p h)).on
+line_on place.Between (Access gfn word op) h = tt
+line_on place.Between (SetSlot id slot) h = tt
+line_on (place.Access p) (SetSlot id slot) h = tt
+line_on (place.SetSlot p) (Access gfn word op) h = tt
 
 -- a task's numbers
 on_its_area : (z : Sizes) (t : Task) → t.index < size_of (map_of z) t.area → IsOn t.kind t.area → IsOnItsArea z (kind_of_task z t)
@@ -142,7 +152,7 @@ on_its_area z t within on = record { area = t.area; index = t.index; there = wit
 pub steps_are_on_their_areas : (h : Held) (k : Kind) → Enabled h k → IsOnItsArea h.state.sizes k
 unfolding Enabled
 steps_are_on_their_areas h k (inl N) =
-    subst (IsOnItsArea h.state.sizes) (sym N.is) (on_its_area h.state.sizes (task_of h) (task_within h N.rests) (line_tells (place_at h.state.place h) (line_of h).command h 0).on)
+    subst (IsOnItsArea h.state.sizes) (sym N.is) (on_its_area h.state.sizes (task_of h) (task_within h N.rests) (line_on (place_at h.state.place h) (line_of h).command h))
 steps_are_on_their_areas h k (inr N) =
     let t : Task = part_task N.step (own_index h) h.topics N.note in
     let same = index_same N.step (own_index h) h.topics N.note in
@@ -150,8 +160,10 @@ steps_are_on_their_areas h k (inr N) =
     subst (λ (b : Area). t.index < size_of (map_of h.state.sizes) b) (sym same.1) (subst (λ i. i < size_of (map_of h.state.sizes) (part_task N.step (own_index h) h.topics 0).area) (sym same.0) N.within) in
     subst (IsOnItsArea h.state.sizes) (sym N.is) (on_its_area h.state.sizes t within (tells_part N.step (own_index h) h.topics N.note).on)
 
-pub notes_tell_ends : (h : Held) (k : Kind) (v : ℕ) → Enabled h k → has_line h ≡ true → k.note ≡ ends_with (outcome_of h v)
-notes_tell_ends h k v enabled has = ap (λ (x : Kind). x.note) (is_next h k enabled has).is ∙ (line_tells (place_at h.state.place h) (line_of h).command h v).note_is
+pub notes_tell_ends : (h : Held) (k : Kind) (v : ℕ) → Enabled h k → has_line h ≡ true → NoteTells (place_at h.state.place h) h.state.sizes k (outcome_of h v) v
+notes_tell_ends h k v enabled has =
+    let N = is_next h k enabled has in
+    subst (λ (x : Kind). NoteTells (place_at h.state.place h) h.state.sizes x (outcome_of h v) v) (sym N.is) (line_tells (place_at h.state.place h) (line_of h).command h v N.rests.at)
 
 -- ---- what a step leaves of what is cached
 

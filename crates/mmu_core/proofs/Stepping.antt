@@ -1,7 +1,6 @@
 -- A step of an actor, with what the invariant says of its hand.
-use Rattle.std.proofs.Common.{◌≡◌, ◌<◌, ℕ, zero, suc, List, [], ◌∷◌, length, refl, sym, subst, arith}
-use Rattle.std.specs.Prelude.{All, Option, Some, None, slice_get, unwrap_or}
-use Rattle.core_views.specs.declared.hand.State.{State}
+use Rattle.std.proofs.Common.{◌≡◌, ◌<◌, ℕ, zero, suc, List, [], ◌∷◌, length, refl, sym, subst, arith, ◌+◌, ◌∙◌, ap}
+use Rattle.std.specs.Prelude.{All, Option, Some, None, slice_get, unwrap_or, false, if◌then◌else◌}
 use Rattle.core_views.specs.declared.place.Place.{Place}
 use Rattle.core_views.specs.declared.place.Place.TheVariants as place
 use Rattle.core_views.specs.declared.sizes.Sizes.{Sizes}
@@ -22,6 +21,8 @@ use Rattle.mmu_core.specs.Rests.{IsUnderWay}
 use Rattle.mmu_core.specs.SetSlotSteps.{set_slot_first}
 use Rattle.mmu_core.specs.Steps.{first_place, line_at, next_line, place_at, standing}
 use Rattle.mmu_core.specs.View.{View}
+use Rattle.mmu_core.specs.KnowsPart.{may_leave}
+use Rattle.mmu_core.specs.LinesPart.{lines_done}
 
 -- The actor makes the step of this place for this line, whose command it is.
 pub record IsStep (z : Sizes) (v : View) (a : ℕ) (line : Line) (command : Command) (p : Place) : Type 0 where
@@ -34,7 +35,7 @@ pub record IsStep (z : Sizes) (v : View) (a : ℕ) (line : Line) (command : Comm
   pub begun : IsUnderWay p
   pub allowed : IsCommandFor z line.actor command
   pub own : line.actor ≡ (v.hand a).state.actor
-  pub holds : Holds z (v.words area.Pool) (v.words area.Host) p command (v.hand a).slots (v.hand a).state
+  pub holds : Holds z (v.words area.Pool) (v.words area.Host) (v.words area.Slots 0) p command (v.hand a)
 
 line_is_next : (p : Place) (h : Held) → UnderWay p h → h.state.place ≡ p → line_at p h ≡ next_line h
 line_is_next place.Between h under is = refl
@@ -51,18 +52,18 @@ is_begun (place.Access p) z slots command = tt
 is_begun (place.SetSlot p) z slots command = tt
 
 -- the loads of a line that begins: none
-set_slot_begins : (z : Sizes) (pool host : ℕ → ℕ) (id : ℕ) (slot : Slot) (slots : MemorySlots) (s : State) (r : Option Refusal) → set_refusal z.pages id slot slots ≡ r → Holds z pool host (place.SetSlot (set_slot_first r)) (SetSlot id slot) slots s
-set_slot_begins z pool host id slot slots s None is = is
-set_slot_begins z pool host id slot slots s (Some refusal) is = is
+set_slot_begins : (z : Sizes) (pool host : ℕ → ℕ) (set id : ℕ) (slot : Slot) (h : Held) (r : Option Refusal) → set_refusal z.pages id slot h.slots ≡ r → Holds z pool host set (place.SetSlot (set_slot_first r)) (SetSlot id slot) h
+set_slot_begins z pool host set id slot h None is = is
+set_slot_begins z pool host set id slot h (Some refusal) is = is
 
-first_holds : (z : Sizes) (pool host : ℕ → ℕ) (command : Command) (slots : MemorySlots) (s : State) → Holds z pool host (first_place z slots command) command slots s
-first_holds z pool host (Access gfn word op) slots s = tt
-first_holds z pool host (SetSlot id slot) slots s = set_slot_begins z pool host id slot slots s (set_refusal z.pages id slot slots) refl
+first_holds : (z : Sizes) (pool host : ℕ → ℕ) (set : ℕ) (command : Command) (h : Held) → Holds z pool host set (first_place z h.slots command) command h
+first_holds z pool host set (Access gfn word op) h = tt
+first_holds z pool host set (SetSlot id slot) h = set_slot_begins z pool host set id slot h (set_refusal z.pages id slot h.slots) refl
 
-standing_holds : (z : Sizes) (pool host : ℕ → ℕ) (q : Place) (h : Held) → h.state.place ≡ q → Holds z pool host q h.state.line.command h.slots h.state → Holds z pool host (standing q z h.slots (line_at q h).command) (line_at q h).command h.slots h.state
-standing_holds z pool host place.Between h is holds = first_holds z pool host (next_line h).command h.slots h.state
-standing_holds z pool host (place.Access p) h is holds = holds
-standing_holds z pool host (place.SetSlot p) h is holds = holds
+standing_holds : (z : Sizes) (pool host : ℕ → ℕ) (set : ℕ) (q : Place) (h : Held) → h.state.place ≡ q → Holds z pool host set q h.state.line.command h → Holds z pool host set (standing q z h.slots (line_at q h).command) (line_at q h).command h
+standing_holds z pool host set place.Between h is holds = first_holds z pool host set (next_line h).command h
+standing_holds z pool host set (place.Access p) h is holds = holds
+standing_holds z pool host set (place.SetSlot p) h is holds = holds
 
 -- what holds of all lines of a hand holds of its next one
 pub next_has : (P : Line → Type 0) (h : Held) → All P h.lines → length h.answers < length h.lines → P (next_line h)
@@ -90,6 +91,17 @@ is_step z v a I there left =
       begun = is_begun h.state.place h.state.sizes h.slots (line_at h.state.place h).command;
       allowed = subst (λ l. IsCommandFor z l.actor l.command) (sym next) (next_has (λ l. IsCommandFor z l.actor l.command) h O.allowed left);
       own = subst (λ (l : Line). l.actor ≡ h.state.actor) (sym next) (next_has (λ l. l.actor ≡ h.state.actor) h O.own left);
-      holds = subst (λ y. Holds z (v.words area.Pool) (v.words area.Host) (standing h.state.place y h.slots (line_at h.state.place h).command) (line_at h.state.place h).command h.slots h.state) (sym O.sizes)
-          (standing_holds z (v.words area.Pool) (v.words area.Host) h.state.place h refl (I.loads a there));
+      holds = subst (λ y. Holds z (v.words area.Pool) (v.words area.Host) (v.words area.Slots 0) (standing h.state.place y h.slots (line_at h.state.place h).command) (line_at h.state.place h).command h) (sym O.sizes)
+          (standing_holds z (v.words area.Pool) (v.words area.Host) (v.words area.Slots 0) h.state.place h refl (I.loads a there));
     }
+
+-- Where the step's place isn't behind a publication, the hand's isn't either.
+before_published : (q : Place) (z : Sizes) (slots : MemorySlots) (command : Command) (p : Place) → standing q z slots command ≡ p → may_leave p ≡ false → may_leave q ≡ false
+before_published place.Between z slots command p is not_yet = refl
+before_published (place.Access q) z slots command p is not_yet = refl
+before_published (place.SetSlot q) z slots command p is not_yet = ap may_leave is ∙ not_yet
+
+pub none_done : (z : Sizes) (v : View) (a : ℕ) (line : Line) (command : Command) (p : Place) → IsStep z v a line command p → may_leave p ≡ false → lines_done (v.hand a) ≡ length (v.hand a).answers
+none_done z v a line command p S not_yet =
+    let h : Held = v.hand a in
+    ap (λ b. length h.answers + (if b then 1 else 0)) (before_published h.state.place h.state.sizes h.slots (line_at h.state.place h).command p S.place_is not_yet) ∙ omega arith

@@ -59,6 +59,15 @@ pub sum_none : (n : ℕ) (f : ℕ → ℕ) → ((i : ℕ) → i < n → f i ≡ 
 sum_none zero f each = refl
 sum_none (suc n) f each = omega (arith, sum_none n f (λ i lt. each i (omega arith)), each n (omega arith))
 
+-- where one place alone contributes, the sum is what it contributes at most
+pub sum_only : (n : ℕ) (f : ℕ → ℕ) (m : ℕ) → ((i : ℕ) → i < n → i ≢ m → f i ≡ 0) → sum_below n f ≤ f m
+sum_only zero f m none = omega arith
+sum_only (suc n) f m none = here (same_or n m) (λ fewer. sum_only n f m (λ i lt ne. none i (omega arith) ne))
+  where
+    here : (n ≡ m) ⊎ (n ≢ m) → (Unit {0} → sum_below n f ≤ f m) → sum_below (suc n) f ≤ f m
+    here (inl e) ih = let before = sum_none n f (λ i lt. none i (omega arith) (λ is. omega (arith, lt, is, e))) in let d : f n ≡ f m = ap f e in omega (arith, before, d)
+    here (inr ne) ih = let last = none n (omega arith) ne in omega (arith, last, ih tt)
+
 pub one_small : (b : Bool) → one_if b ≤ 1
 one_small true = omega arith
 one_small false = omega arith

@@ -24,16 +24,14 @@ use Rattle.mmu_core.specs.Tasks.{kind_of_task, map_of}
 use Rattle.mmu_core.specs.TopicSteps.{topics_after}
 use Rattle.mmu_core.specs.TopicsInvariant.{TopicsInvariant}
 use Rattle.mmu_core.specs.View.{View, answer_in, hand_after, part_stepped, stepped, upd, words_after}
-use Rattle.mmu_core.proofs.AccessParts.{AreSmall, makes_parts}
+use Rattle.mmu_core.proofs.AccessParts.{AreSmall, makes_parts, makes_setting}
 use Rattle.mmu_core.proofs.FilledKept.{filled_kept}
 use Rattle.mmu_core.proofs.HeldKept.{counters_kept, held_kept}
-use Rattle.mmu_core.proofs.LinePoolKept.{setting_filled_kept, setting_pool_kept, setting_tree_kept}
-use Rattle.mmu_core.proofs.LineTopicsKept.{setting_counters_kept, setting_held_kept, setting_lock_kept, setting_looks_kept, setting_searches_kept, setting_states_kept}
 use Rattle.mmu_core.proofs.LiveStays.{MakesParts}
 use Rattle.mmu_core.proofs.LockKept.{lock_kept}
 use Rattle.mmu_core.proofs.PoolKept.{pool_kept}
 use Rattle.mmu_core.proofs.SameTopics.{same_topics}
-use Rattle.mmu_core.proofs.SawWriterKept.{saw_kept, setting_saw_kept}
+use Rattle.mmu_core.proofs.SawWriterKept.{saw_kept}
 use Rattle.mmu_core.proofs.SearchKept.{looks_kept, searches_kept}
 use Rattle.mmu_core.proofs.Standing.{stands_after}
 use Rattle.mmu_core.proofs.StatesKept.{states_kept}
@@ -41,6 +39,9 @@ use Rattle.mmu_core.proofs.SumsBelow.{column}
 use Rattle.mmu_core.proofs.TreeKept.{tree_kept}
 use Rattle.mmu_core.proofs.PartStepping.{IsPart}
 use Rattle.mmu_core.proofs.Stepping.{IsStep}
+use Rattle.mmu_core.specs.SetSlotSteps.{set_slot_note, set_slot_part, set_slot_task}
+use Rattle.mmu_core.proofs.OldSets.{old_sets_kept}
+use Rattle.mmu_core.proofs.SetsKept.{sets_kept}
 
 -- Each step of a part does.
 pub topics_part_kept : (z : Sizes) (v : View) (a : ℕ) (step : PartStep) (note : ℕ) → IsPart z v a step → TopicsInvariant z v → TopicsInvariant z (part_stepped a step note v)
@@ -53,26 +54,11 @@ topics_part_kept z v a step note S I = record {
   filled = filled_kept z v a step note S I;
   tree = tree_kept z v a step note S I;
   held = held_kept z v a step note S I;
+  sets = sets_kept z v a step note S I;
+  old_sets = old_sets_kept z v a step note S I;
   searches = searches_kept z v a step note S I;
   looks = looks_kept z v a step note S I;
   counters = counters_kept z v a step note S I;
-}
-
--- Each step of a slot setting does.
-pub topics_setting_kept : (z : Sizes) (v : View) (a : ℕ) (line : Line) (p : SetSlotPlace) (id : ℕ) (slot : Slot) → IsStep z v a line (SetSlot id slot) (place.SetSlot p) → Invariant z v → TopicsInvariant z v
-    → TopicsInvariant z (stepped a line (SetSlot id slot) (place.SetSlot p) v)
-topics_setting_kept z v a line p id slot S I P = record {
-  stands = P.stands;
-  lock_part = setting_lock_kept z v a line p id slot S I P;
-  saw_writer = setting_saw_kept z v a line p id slot S I P;
-  states_part = setting_states_kept z v a line p id slot S I P;
-  pool_part = setting_pool_kept z v a line p id slot S I P;
-  filled = setting_filled_kept z v a line p id slot S I P;
-  tree = setting_tree_kept z v a line p id slot S I P;
-  held = setting_held_kept z v a line p id slot S I P;
-  searches = setting_searches_kept z v a line p id slot S I P;
-  looks = setting_looks_kept z v a line p id slot S I P;
-  counters = setting_counters_kept z v a line p id slot S I P;
 }
 
 -- The words behind a task of an access, and the hands with what its actor holds then.
@@ -120,10 +106,34 @@ topics_access_kept z v a line p gfn word op makes P =
     by None each = touch_kept z v a op index P
     by (Some step) each = topics_part_kept z v a step (access_note p) (each step refl) P
 
+-- Each step of a slot setting is a step of a part.
+pub topics_setting_kept : (z : Sizes) (v : View) (a : ℕ) (line : Line) (p : SetSlotPlace) (id : ℕ) (slot : Slot) → IsPart z v a (set_slot_part p (v.hand a) id slot) → TopicsInvariant z v → TopicsInvariant z (stepped a line (SetSlot id slot) (place.SetSlot p) v)
+topics_setting_kept z v a line p id slot S P =
+    same_topics z _ _ _ _ _ _ _ _ _ behind.hand (upd v.hand a after) (λ t i. same i t) (topics_part_kept z v a (set_slot_part p h id slot) (set_slot_note p h) S P)
+  where
+    h : Held
+    h = v.hand a
+
+    behind : View
+    behind = topics_behind v a (set_slot_task p h id slot)
+
+    after : Held
+    after = hand_after line (SetSlot id slot) (place.SetSlot p) h (answer_in (set_slot_task p h id slot) v.words)
+
+    idle : Held
+    idle = idle_after h (kind_of_task h.state.sizes (set_slot_task p h id slot)) (answer_in (set_slot_task p h id slot) v.words)
+
+    same : (i : ℕ) → (upd v.hand a after i).topics ≡ (upd v.hand a idle i).topics
+    same i = either (i == a)
+      where
+        either : (b : Bool) → (if b then after else v.hand i).topics ≡ (if b then idle else v.hand i).topics
+        either true = refl
+        either false = refl
+
 -- Each step of a line keeps it.
 pub topics_line_kept : (z : Sizes) (v : View) (a : ℕ) (line : Line) (command : Command) (p : Place) → AreSmall v → IsStep z v a line command p → Invariant z v → TopicsInvariant z v → TopicsInvariant z (stepped a line command p v)
 topics_line_kept z v a line command place.Between small S I P = absurd S.begun
 topics_line_kept z v a line (Access gfn word op) (place.Access p) small S I P = topics_access_kept z v a line p gfn word op (makes_parts z v a line p gfn word op small S I P) P
 topics_line_kept z v a line (SetSlot id slot) (place.Access p) small S I P = absurd S.holds
 topics_line_kept z v a line (Access gfn word op) (place.SetSlot p) small S I P = absurd S.holds
-topics_line_kept z v a line (SetSlot id slot) (place.SetSlot p) small S I P = topics_setting_kept z v a line p id slot S I P
+topics_line_kept z v a line (SetSlot id slot) (place.SetSlot p) small S I P = topics_setting_kept z v a line p id slot (makes_setting z v a line p id slot small S I P) P

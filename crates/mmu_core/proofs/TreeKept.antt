@@ -19,15 +19,17 @@ use Rattle.mmu_core.specs.PartSteps.{FoundSlot, LookedUp, MayEnter, OwnsTable, e
 use Rattle.mmu_core.specs.PoolPart.{IsFilled}
 use Rattle.mmu_core.specs.SlotWords.{leaf_of, page_of}
 use Rattle.mmu_core.specs.TopicsInvariant.{TopicsInvariant}
-use Rattle.mmu_core.specs.TreePart.{EntryPart, IsLeafAt, IsLinked, IsLiveIn, LinksTo, Position, TreePart, at}
+use Rattle.mmu_core.specs.TreePart.{EntryPart, IsLeafAt, IsLinked, IsLiveIn, LinksTo, Position, TreePart, at, IsWanted}
 use Rattle.mmu_core.specs.View.{View, part_stepped, upd}
 use Rattle.mmu_core.proofs.LiveStays.{LiveStays, live_in_stays, part_live_stays}
 use Rattle.mmu_core.proofs.PartStepping.{IsPart}
-use Rattle.mmu_core.proofs.PartWords.{IsElsewhere, areas_stay, page_stays, role_stays}
-use Rattle.mmu_core.proofs.PoolPages.{owned_no_table, table_not_owned}
+use Rattle.mmu_core.proofs.PartWords.{IsElsewhere, areas_stay, page_stays, role_stays, left_elsewhere, slots_are, slots_behind}
+use Rattle.mmu_core.proofs.PoolPages.{owned_no_table, table_not_owned, left_no_table}
 use Rattle.mmu_core.proofs.Standing.{entry_now, position_below, stands_after, with_table}
 use Rattle.mmu_core.proofs.SumsBelow.{upd_id}
 use Rattle.mmu_core.proofs.TreeStored.{entry_stored, one_position, table_linked, tree_moved}
+use Rattle.mmu_core.proofs.OldSets.{set_live}
+use Rattle.mmu_core.proofs.LiveStay.{StayLive}
 
 absent_is : 0 ≡ absent_word
 unfolding absent_word
@@ -53,14 +55,14 @@ pub found_live : (z : Sizes) (v : View) (a gfn : ℕ) → a < actors_of z → To
 found_live z v a gfn lt I found =
     let t : Topics = (v.hand a).topics in
     let held = (I.searches a lt).held found.whole in
-    subst (λ k. IsLiveIn (v.words area.Pool) k (t.search.id - 1) t.search.slot) ((I.held a lt).set held.0 held.1) ((I.searches a lt).whole held.0 held.1 found.whole).1
+    set_live z v a held.0 lt I held.1 (t.search.id - 1) t.search.slot ((I.searches a lt).whole held.0 held.1 found.whole).1
 
 -- The word that was looked up is the host word of the page behind the guest frame.
 pub looked_word : (z : Sizes) (v : View) (a gfn : ℕ) → a < actors_of z → TopicsInvariant z v → LookedUp gfn (v.hand a).topics → word_looked (v.hand a).topics.host ≡ v.words area.Host (page_of (v.hand a).topics.search.slot gfn)
 looked_word z v a gfn lt I L = ap word_looked L.host ∙ (I.looks a lt).is (record { page = page_of (v.hand a).topics.search.slot gfn; word = L.word }) L.host
 
 -- An entry above the lowest level whose kind is absent is the absent word.
-absent_entry : (pages root set : ℕ) (role pool host : ℕ → ℕ) (stands : ℕ → Option Position) (k level prefix j : ℕ) → TreePart pages root set role pool host stands → stands k ≡ Some (at level prefix) → j < 512 → 2 ≤ level → pages < 2 ^ 32
+pub absent_entry : (pages root set : ℕ) (role pool host : ℕ → ℕ) (stands : ℕ → Option Position) (k level prefix j : ℕ) → TreePart pages root set role pool host stands → stands k ≡ Some (at level prefix) → j < 512 → 2 ≤ level → pages < 2 ^ 32
     → kind_of level (pool (pool_index k j)) ≡ entry_kind.Absent → pool (pool_index k j) ≡ absent_word
 absent_entry pages root set role pool host stands k level prefix j T at_k low upper few kind = by (T.entries k (at level prefix) at_k j low)
   where
@@ -104,7 +106,7 @@ module _ (z : Sizes) (v : View) (a gfn note : ℕ) (I : TopicsInvariant z v) whe
   linked S false is live = lost z.pool (v.words area.Root 0) (v.words area.Slots 0) (v.words area.Role) (v.words area.Pool) (v.words area.Host) I.stands here I.tree
   linked S true is live =
       table_linked z.pool (v.words area.Root 0) (v.words area.Slots 0) (v.words area.Role) (v.words area.Pool) (v.words area.Host) I.stands (table_page t.walk) t.walk.level t.walk.prefix index (page_owned t.owned) I.tree
-      ((I.held a S.there).table may.saw.over.there) S.needs.1 (omega arith) absent (λ p at_p. owned_no_table (actors_of z) z.pool (v.words area.Slots 0) (v.words area.PoolMap) (λ i. (v.hand i).topics.owned) I.stands I.pool_part a owns.owned p S.there owns.is (ap I.stands (sym page) ∙ at_p))
+      ((I.held a S.there).table may.saw.over.there) S.needs.1 (omega arith) absent (λ p at_p. owned_no_table (actors_of z) z.pool (v.words area.Slots 0) (v.words area.PoolMap) (λ i. (v.hand i).topics.owned) (λ i. (v.hand i).topics.leaving) I.stands I.pool_part a owns.owned p S.there owns.is (ap I.stands (sym page) ∙ at_p))
       (omega (arith, page, I.pool_part.there a owns.owned S.there owns.is))
       (ap (v.words area.Role) page ∙ filled.role_is owns.whole ∙ owns.role)
       (λ i low. ap (λ k. v.words area.Pool (pool_index k i)) page ∙ filled.absent owns.absent i (omega (arith, low, owns.whole)) low ∙ absent_is)
@@ -159,8 +161,38 @@ tree_behind : (z : Sizes) (v : View) (a : ℕ) (step : PartStep) (note : ℕ) �
 tree_behind z v a (part.Link gfn) note S I = linked z v a gfn note I S (entry_now gfn (v.hand a).topics v == (v.hand a).topics.walk.entry) refl (part_live_stays z v a (part.Link gfn) note S I)
 tree_behind z v a (part.Leaf gfn) note S I = leafed z v a gfn note I S (entry_now gfn (v.hand a).topics v == (v.hand a).topics.walk.entry) (part_live_stays z v a (part.Leaf gfn) note S I)
 tree_behind z v a (part.Fill value) note S I =
-    stays z v a (part.Fill value) note S I (λ k p is o owns. table_not_owned (actors_of z) z.pool (v.words area.Slots 0) (v.words area.PoolMap) (λ i. (v.hand i).topics.owned) I.stands I.pool_part k p is a o S.there owns)
+    stays z v a (part.Fill value) note S I (λ k p is o owns. table_not_owned (actors_of z) z.pool (v.words area.Slots 0) (v.words area.PoolMap) (λ i. (v.hand i).topics.owned) (λ i. (v.hand i).topics.leaving) I.stands I.pool_part k p is a o S.there owns)
+tree_behind z v a part.Clear note S I =
+    stays z v a part.Clear note S I (λ k p is. left_elsewhere (v.hand a).topics S.needs.leaves k
+    (λ l left e. left_no_table (actors_of z) z.pool (v.words area.Slots 0) (v.words area.PoolMap) (λ i. (v.hand i).topics.owned) (λ i. (v.hand i).topics.leaving) I.stands I.pool_part a l p S.there left (ap I.stands e ∙ is)))
 tree_behind z v a step note S I = stays z v a step note S I (λ k p is. tt)
+
+-- A slot set is published that has each slot of the one before it.
+tree_republished : (pages root set other : ℕ) (role pool host : ℕ → ℕ) (stands : ℕ → Option Position) → StayLive pool set pool other → TreePart pages root set role pool host stands → TreePart pages root other role pool host stands
+tree_republished pages root set other role pool host stands stay T = record {
+  root_stands = T.root_stands;
+  there = T.there;
+  roles = T.roles;
+  apart = T.apart;
+  entries = λ k p is j low. entry p j (pool (pool_index k j)) (T.entries k p is j low);
+  linked = T.linked;
+  wanted = λ k p is. want k p (T.wanted k p is);
+}
+  where
+    entry : (p : Position) (j w : ℕ) → EntryPart pool host set stands p j w → EntryPart pool host other stands p j w
+    entry p j w (inl e) = inl e
+    entry p j w (inr (inl L)) = inr (inl L)
+    entry p j w (inr (inr L)) = inr (inr (record { lowest = L.lowest; id = L.id; slot = L.slot; live = stay L.id L.slot L.live; holds = L.holds; is = L.is }))
+
+    want : (k : ℕ) (p : Position) → (k ≡ root) ⊎ IsWanted pool set p → (k ≡ root) ⊎ IsWanted pool other p
+    want k p (inl e) = inl e
+    want k p (inr W) = inr (record { gfn = W.gfn; id = W.id; slot = W.slot; live = stay W.id W.slot W.live; holds = W.holds; run = W.run })
+
+-- What the tables are of the set that is published behind each step.
+tree_set : (z : Sizes) (v : View) (a : ℕ) (step : PartStep) (note : ℕ) → IsPart z v a step → (I : TopicsInvariant z v)
+    → TreePart z.pool (v.words area.Root 0) (slots_behind step (v.hand a).topics (v.words area.Slots 0)) ((part_stepped a step note v).words area.Role) ((part_stepped a step note v).words area.Pool) (v.words area.Host) (stands_after step (v.hand a).topics v I.stands)
+tree_set z v a part.Publish note S I = tree_republished z.pool (v.words area.Root 0) (v.words area.Slots 0) (page_owned (v.hand a).topics.owned) (v.words area.Role) (v.words area.Pool) (v.words area.Host) I.stands S.replaces I.tree
+tree_set z v a step note S I = tree_behind z v a step note S I
 
 -- Each step of a part keeps what the tables are.
 pub tree_kept : (z : Sizes) (v : View) (a : ℕ) (step : PartStep) (note : ℕ) → IsPart z v a step → (I : TopicsInvariant z v)
@@ -170,9 +202,9 @@ tree_kept z v a step note S I =
     let w : View = part_stepped a step note v in
     let after : ℕ → Option Position = stands_after step (v.hand a).topics v I.stands in
     subst (λ (r : ℕ → ℕ). TreePart z.pool (r 0) (w.words area.Slots 0) (w.words area.Role) (w.words area.Pool) (w.words area.Host) after) (sym (areas_stay v a step note area.Root refl))
-    (subst (λ (s : ℕ → ℕ). TreePart z.pool (v.words area.Root 0) (s 0) (w.words area.Role) (w.words area.Pool) (w.words area.Host) after) (sym (areas_stay v a step note area.Slots refl))
-    (subst (λ (host : ℕ → ℕ). TreePart z.pool (v.words area.Root 0) (v.words area.Slots 0) (w.words area.Role) (w.words area.Pool) host after) (sym (areas_stay v a step note area.Host refl))
-    (tree_behind z v a step note S I)))
+    (subst (λ s. TreePart z.pool (v.words area.Root 0) s (w.words area.Role) (w.words area.Pool) (w.words area.Host) after) (sym (slots_are v a step note))
+    (subst (λ (host : ℕ → ℕ). TreePart z.pool (v.words area.Root 0) (slots_behind step (v.hand a).topics (v.words area.Slots 0)) (w.words area.Role) (w.words area.Pool) host after) (sym (areas_stay v a step note area.Host refl))
+    (tree_set z v a step note S I)))
 
 module _ (pages root set : ℕ) (role pool host : ℕ → ℕ) (stands : ℕ → Option Position) (T : TreePart pages root set role pool host stands) where
   -- A table below the top level is linked.

@@ -81,6 +81,7 @@ operation_is kind.Release = refl
 operation_is kind.Claim = refl
 operation_is kind.Give = refl
 operation_is kind.Watch = refl
+operation_is kind.Publish = refl
 operation_is kind.Walk = refl
 operation_is kind.Read = refl
 operation_is kind.Write = refl

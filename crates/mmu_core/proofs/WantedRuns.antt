@@ -28,7 +28,6 @@ use Rattle.spte_words.specs.Entries.{level_span}
 use Rattle.mmu_core.specs.Enabled.{mmu}
 use Rattle.mmu_core.specs.Enough.{some_line_wants}
 use Rattle.mmu_core.specs.Machine.{Legal, Step, World, hand_in, run}
-use Rattle.mmu_core.specs.SetSlotSteps.{published_set}
 use Rattle.mmu_core.specs.SlotSetPart.{Fits}
 use Rattle.mmu_core.specs.SlotWords.{live_at, slot_at, slots_below}
 use Rattle.mmu_core.specs.TreePart.{IsLiveIn, IsWanted, Position}
@@ -89,19 +88,20 @@ manager_at z = grind (arith, nat_tests)
 
 -- A slot that is live behind a list of steps is one that a slot line of the trace sets.
 live_is_set : (z : Sizes) (lines : List Line) (w : World Held) (ss : List (Step Kind)) (id : ℕ) (slot : Slot) → IsStart z lines w → Legal mmu w ss
-    → IsLiveIn (word_in z (run mmu w ss) area.Pool) published_set id slot → Contains (map (λ (l : Line). l.command) (lines_of Manager lines)) (SetSlot id slot)
+    → IsLiveIn (word_in z (run mmu w ss) area.Pool) (word_in z (run mmu w ss) area.Slots 0) id slot → Contains (map (λ (l : Line). l.command) (lines_of Manager lines)) (SetSlot id slot)
 live_is_set z lines w ss id slot start legal L =
     let manager : ℕ = z.vcpus + z.hosts in
     let g : Held = hand_in mmu (run mmu w ss) manager in
     let pool : ℕ → ℕ = word_in z (run mmu w ss) area.Pool in
+    let set : ℕ = word_in z (run mmu w ss) area.Slots 0 in
     let F = start_follows z lines w ss manager start legal (manager_place z) in
     let G = good_run z w ss (start_good z lines w start) legal in
     let R = G.holds.recorded manager (manager_place z) (F.actor ∙ manager_at z) in
     let own : g.lines ≡ lines_of Manager lines = F.lines ∙ ap (λ (a : Actor). lines_of a lines) (manager_at z) in
     let IsSet : ℕ × Slot → Type 0 = λ e. Contains (map (λ (l : Line). l.command) g.lines) (SetSlot e.0 e.1) in
     let each : All IsSet (flat_slots g.slots) = All-map IsSet (λ (e : ℕ × MemorySlot). (e.0, e.1.slot)) g.slots (G.holds.lines manager (manager_place z)).set in
-    let listed = slot_is_listed pool published_set 32 id (omega (arith, L.low)) L.live in
-    let here : IsSet (id, slot_at pool published_set id) = All-contains IsSet (slots_below pool published_set 32) (id, slot_at pool published_set id) (subst (λ (xs : Slots). All IsSet xs) R.same each) listed in
+    let listed = slot_is_listed pool set 32 id (omega (arith, L.low)) L.live in
+    let here : IsSet (id, slot_at pool set id) = All-contains IsSet (slots_below pool set 32) (id, slot_at pool set id) (subst (λ (xs : Slots). All IsSet xs) R.same each) listed in
     subst (λ (xs : List Line). Contains (map (λ (l : Line). l.command) xs) (SetSlot id slot)) own (subst (λ (s : Slot). IsSet (id, s)) L.is here)
 
 -- A slot that fits and holds a guest frame counts, and has a guest frame in the run that this one is in.
@@ -152,16 +152,16 @@ below_all z gfn slot fits holds = under slot.base (slot.base + slot.pages) gfn f
 
 -- A table that is wanted by a live slot, behind a list of steps, is for a run that is wanted.
 pub wanted_by_line : (h : Header) (lines : List Line) (w : World Held) (ss : List (Step Kind)) (p : Position) → IsStart (sizes_of h) lines w → Legal mmu w ss → 1 ≤ p.level → p.level ≤ 4
-    → IsWanted (word_in (sizes_of h) (run mmu w ss) area.Pool) published_set p → IsWantedRun h lines p
+    → IsWanted (word_in (sizes_of h) (run mmu w ss) area.Pool) (word_in (sizes_of h) (run mmu w ss) area.Slots 0) p → IsWantedRun h lines p
 wanted_by_line h lines w ss p start legal some most W =
     let z : Sizes = sizes_of h in
     let pool : ℕ → ℕ = word_in z (run mmu w ss) area.Pool in
     let G = good_run z w ss (start_good z lines w start) legal in
-    let fits : Fits z W.slot = subst (Fits z) W.live.is (G.holds.set.fits W.id W.live.low W.live.live) in
+    let fits : Fits z W.slot = subst (Fits z) W.live.is (G.holds.set_part.fits W.id W.live.low W.live.live) in
     let run_is : W.gfn / 512 ^ p.level ≡ p.prefix = sym (run_at p.level W.gfn some) ∙ W.run in
-    let set = live_is_set z lines w ss W.id W.slot start legal W.live in
+    let is_set = live_is_set z lines w ss W.id W.slot start legal W.live in
     let wanted : wants z.pages (512 ^ p.level) p.prefix (SetSlot W.id W.slot) ≡ true = ap (λ b. b && meets (512 ^ p.level) p.prefix W.slot) (counts z W.gfn W.slot fits W.holds) ∙ meets_run (512 ^ p.level) W.gfn p.prefix W.slot (span_some p.level) run_is W.holds in
     record {
       below = subst (λ i. i < 2 ^ 36 / 512 ^ p.level) run_is (run_below p.level W.gfn some most (below_all z W.gfn W.slot fits W.holds));
-      wanted = any_of_all (λ (l : Line). wants z.pages (512 ^ p.level) p.prefix l.command) Manager lines (any_of (wants z.pages (512 ^ p.level) p.prefix) (lines_of Manager lines) (SetSlot W.id W.slot) set wanted);
+      wanted = any_of_all (λ (l : Line). wants z.pages (512 ^ p.level) p.prefix l.command) Manager lines (any_of (wants z.pages (512 ^ p.level) p.prefix) (lines_of Manager lines) (SetSlot W.id W.slot) is_set wanted);
     }

@@ -30,7 +30,6 @@ use Rattle.mmu_core.proofs.KnowsKept.{part_knows_behind}
 use Rattle.mmu_core.proofs.Kept.{step_kept}
 use Rattle.mmu_core.proofs.Extend.{hands_of_effect, words_of_effect}
 use Rattle.mmu_core.proofs.PartKept.{part_keeps_lines}
-use Rattle.mmu_core.proofs.PartStepping.{IsPart}
 use Rattle.mmu_core.proofs.PartIndex.{index_same}
 use Rattle.mmu_core.proofs.PartWords.{areas_stay}
 use Rattle.mmu_core.proofs.RestsKept.{task_within}
@@ -38,6 +37,7 @@ use Rattle.mmu_core.proofs.Which.{has_line_is, is_next, is_part, next_of_line, n
 use Rattle.mmu_core.proofs.TopicsKept.{topics_line_kept, topics_part_kept}
 use Rattle.mmu_core.proofs.Stepping.{IsStep, is_step as step_of_hand}
 use Rattle.mmu_core.proofs.Views.{answered_is, view_behind}
+use Rattle.mmu_core.proofs.PartStepping.{IsPart, idle_never, replaces_none}
 
 -- A step writes a number below 2 ^ 64 where it found one.
 word_small : (o : Operation) (old_ new_ n : ℕ) → new_ < 2 ^ 64 → n < 2 ^ 64 → word_after o old_ new_ n < 2 ^ 64
@@ -149,6 +149,7 @@ takes_part z w s G may N =
         sizes = same;
         own_place = ap (λ y. index_of y h.state.actor) same ∙ O.index;
         needs = N.needs;
+        replaces = replaces_none N.step (word_in z w area.Pool) (word_in z w area.Slots 0) h.topics (idle_never N.step h N.needs N.none_left);
         within = N.within;
         small = view_small z w G.small;
       };
@@ -194,7 +195,7 @@ good_step z w s G may = by (takes z w s G may)
       hands = hands_of_effect mmu w s ∙ G.hands;
       small = small T.writes;
       none_opened = subst (λ (v : View). NoneOpened v.words) (sym T.leads) (part_opens_none z (view z w) s.actor T.step T.note G.none_opened);
-      holds = subst (Invariant z) (sym T.leads) (part_keeps_lines z (view z w) s.actor T.step T.note T.is_part G.holds G.topics (part_knows_behind z (view z w) s.actor T.step T.note T.none_left G.holds));
+      holds = subst (Invariant z) (sym T.leads) (part_keeps_lines z (view z w) s.actor T.step T.note T.is_part T.none_left G.holds G.topics (part_knows_behind z (view z w) s.actor T.step T.note T.none_left G.holds));
       topics = subst (TopicsInvariant z) (sym T.leads) (topics_part_kept z (view z w) s.actor T.step T.note T.is_part G.topics);
     }
 

@@ -11,7 +11,7 @@ use Rattle.spte_words.specs.declared.area.Area.TheVariants as area
 use Rattle.mmu_core.specs.Enabled.{mmu}
 use Rattle.mmu_core.specs.Laws.{IsSound}
 use Rattle.mmu_core.specs.Machine.{Legal, Step, World, hand_in, run}
-use Rattle.mmu_core.specs.PoolPart.{is_free, is_owned}
+use Rattle.mmu_core.specs.PoolPart.{is_free, is_leaving, is_owned}
 use Rattle.mmu_core.specs.TreePart.{at}
 use Rattle.mmu_core.specs.View.{word_in}
 use Rattle.mmu_core.specs.Worlds.{IsStart}
@@ -32,13 +32,14 @@ pub record IsWantedTable (h : Header) (lines : List Line) (role : ℕ) : Type 0 
   pub index : ℕ
   pub wanted : some_line_wants h lines role index ≡ true
 
--- Behind every list of steps a pool page that isn't free, that no actor owns and that isn't the published slot set is the root, or a
+-- Behind every list of steps a pool page that isn't free, that no actor owns or has leave, and that isn't the published slot set is the root, or a
 -- table for a run of guest frames that a slot line of the trace wants.
 abbrev pub EachTableIsWanted : Type 0
 EachTableIsWanted =
     (h : Header) (lines : List Line) (w : World Held) (ss : List (Step Kind)) (k : ℕ) → IsStart (sizes_of h) lines w → Legal mmu w ss → k < h.pool
     → is_free (word_in (sizes_of h) (run mmu w ss) area.PoolMap) k ≡ false
     → ((i : ℕ) → i < actors_of (sizes_of h) → is_owned (hand_in mmu (run mmu w ss) i).topics.owned k ≡ false)
+    → ((i : ℕ) → i < actors_of (sizes_of h) → is_leaving (hand_in mmu (run mmu w ss) i).topics.leaving k ≡ false)
     → k ≢ word_in (sizes_of h) (run mmu w ss) area.Slots 0
     → (k ≡ word_in (sizes_of h) (run mmu w ss) area.Root 0) ⊎ IsWantedTable h lines (word_in (sizes_of h) (run mmu w ss) area.Role k)
 

@@ -98,7 +98,9 @@ forbidden_line = access_line 10 0 17 0 (Write 7)
 abbrev pub run_lines : List Line
 run_lines = set_line ∷ set_read_only_line ∷ outside_line ∷ write_line ∷ read_line ∷ add_line ∷ sum_line ∷ other_slot_line ∷ forbidden_line ∷ []
 
--- The manager stores the words of both slots: 4 steps each.
+-- A slot setting loads the word of the pool's map and claims a page, fills its 512 words and its role, takes the lock, finds no invalidation
+-- open, publishes the page, gives the lock back, looks at each of the three other actors, and takes the role from the old page and gives
+-- it back: 524 steps, for each of both slots.
 -- Then an access finds no entry, leaves, and its fault loads the words of all slots, up to its answer.
 -- The write finds no entry either. Its fault claims a page for a table of each level below the root, fills its 512 entries and its role,
 -- and links it; it puts the leaf; and in another stay in the guest the processor walks to this leaf, touches, and leaves.
@@ -106,7 +108,7 @@ run_lines = set_line ∷ set_read_only_line ∷ outside_line ∷ write_line ∷ 
 -- The read of the other slot finds the tables, and its fault puts a leaf alone. It is cached, but doesn't allow the write behind it, which
 -- walks, leaves, and finds in its fault that the slot is read-only.
 abbrev pub run_order : List ℕ
-run_order = replicate 8 3 ++ (replicate 47 0 ++ (replicate 1581 1 ++ (replicate 13 0 ++ (replicate 4 1 ++ (replicate 40 0 ++ replicate 20 0)))))
+run_order = replicate 1048 3 ++ (replicate 47 0 ++ (replicate 1581 1 ++ (replicate 13 0 ++ (replicate 4 1 ++ (replicate 40 0 ++ replicate 20 0)))))
 
 -- what they tell
 abbrev pub run_events : List Event
@@ -155,18 +157,21 @@ ExamplePrints = text run_events
     ≡ codes "2 vm done\n3 vm done\n4 v0 mmio\n5 v1 frame 65 value 0\n6 v0 frame 65 value 7\n7 v0 frame 65 value 7\n8 v1 frame 65 value 9\n9 v0 frame 1 value 0\n10 v0 mmio\n"
 
 -- The same machine with a pool of four pages: the root, the slot set, and two more. A write's fault fills and links two tables, and finds no
--- page for the third one.
+-- page for the third one; nor does a slot setting behind it find one for its set.
 abbrev pub small_sizes : Sizes
 small_sizes = record { pages = 128; frames = 128; words = 2; pool = 4; cache = 64; vcpus = 2; hosts = 1; workers = 0 }
 
 abbrev pub starved_line : Line
 starved_line = access_line 3 0 6 0 (Write 7)
 
+abbrev pub starved_set_line : Line
+starved_set_line = manager_line 4 1 (example_slot 16 0 true)
+
 abbrev pub small_lines : List Line
-small_lines = set_line ∷ starved_line ∷ []
+small_lines = set_line ∷ starved_line ∷ starved_set_line ∷ []
 
 abbrev pub small_order : List ℕ
-small_order = replicate 4 3 ++ replicate 1055 0
+small_order = replicate 524 3 ++ (replicate 1055 0 ++ replicate 1 3)
 
 abbrev pub small_events : List Event
 small_events =
@@ -178,10 +183,13 @@ small_events =
     ∷ by starved_line (LookedAtHost 65)
     ∷ by starved_line (Exited Starved)
     ∷ by starved_line (Answered 3 Starved)
+    ∷ by starved_set_line (Begun starved_set_line)
+    ∷ by starved_set_line (Exited Starved)
+    ∷ by starved_set_line (Answered 4 Starved)
     ∷ []
 
 abbrev pub ExampleStarves : Type 0
-ExampleStarves = RunTells small_sizes small_lines small_order small_events × (text small_events ≡ codes "2 vm done\n3 v0 starved\n")
+ExampleStarves = RunTells small_sizes small_lines small_order small_events × (text small_events ≡ codes "2 vm done\n3 v0 starved\n4 vm starved\n")
 
 -- Two processors write to one guest frame, a step each in turn. Both see the same free pages: the second one loses its first try to the first
 -- one, waits, and takes the next page. It then loses the link of each level to the first one, gives its page back, and begins anew behind it:
@@ -201,7 +209,7 @@ in_turn zero actors = []
 in_turn (suc n) actors = actors ++ in_turn n actors
 
 abbrev pub race_order : List ℕ
-race_order = replicate 4 3 ++ (in_turn 1581 (0 ∷ 1 ∷ []) ++ replicate 46 1)
+race_order = replicate 524 3 ++ (in_turn 1581 (0 ∷ 1 ∷ []) ++ replicate 46 1)
 
 abbrev pub race_events : List Event
 race_events =

@@ -28,7 +28,6 @@ use Rattle.mmu_core.specs.Machine.{World, hand_in}
 use Rattle.mmu_core.specs.OthersRest.{OthersRest}
 use Rattle.mmu_core.specs.PartSteps.{entry_index, part_task, table_page}
 use Rattle.mmu_core.specs.PartTopics.{part_topics}
-use Rattle.mmu_core.specs.SetSlotSteps.{published_set}
 use Rattle.mmu_core.specs.SlotWords.{NoneBelow, NoneHasPage}
 use Rattle.mmu_core.specs.TopicSteps.{linked_page}
 use Rattle.mmu_core.specs.TreePart.{at}
@@ -63,34 +62,34 @@ NoneFreeBefore map word = (i : ℕ) → i < word → map i ≡ 0
 -- Behind a fault that has installed an entry, links lead to a leaf that allows the access; one that ends with MMIO leaves no live slot of
 -- the published set that has a page for the access; one that is starved saw each word of the map 0, up to where its claim came, and each
 -- is; no fault begins anew.
-abbrev pub EndAlone : FaultEnd → ℕ → (ℕ → ℕ) → (ℕ → ℕ) → ℕ → Bool → ℕ → Type 0
-EndAlone Installed root map pool gfn write came = LeadsToLeaf pool 4 root gfn write
-EndAlone Mmio root map pool gfn write came = NoneHasPage gfn write pool published_set
-EndAlone Starved root map pool gfn write came = NoneFreeBefore map came
-EndAlone (Retry cause) root map pool gfn write came = ⊥
-EndAlone _ root map pool gfn write came = Unit {0}
+abbrev pub EndAlone : FaultEnd → ℕ → ℕ → (ℕ → ℕ) → (ℕ → ℕ) → ℕ → Bool → ℕ → Type 0
+EndAlone Installed root set map pool gfn write came = LeadsToLeaf pool 4 root gfn write
+EndAlone Mmio root set map pool gfn write came = NoneHasPage gfn write pool set
+EndAlone Starved root set map pool gfn write came = NoneFreeBefore map came
+EndAlone (Retry cause) root set map pool gfn write came = ⊥
+EndAlone _ root set map pool gfn write came = Unit {0}
 
 -- What a fault knows of the words at each place, where no other actor is in its way: the slots behind its search don't have the guest
 -- frame; the entry and the pages that it saw are as it saw them. It never comes to a range of guest frames, since
 -- no invalidation is open, and never gives a page back.
-abbrev pub FaultAlone : FaultPlace → ℕ → (ℕ → ℕ) → (ℕ → ℕ) → ℕ → Bool → Topics → Type 0
-FaultAlone (Find begun) root map pool gfn write t = begun ≡ true → NoneBelow gfn pool published_set t.search.id
-FaultAlone Share root map pool gfn write t = t.hold ≡ Loose
-FaultAlone (Check stage.Start) root map pool gfn write t = ⊥
-FaultAlone (Check stage.End) root map pool gfn write t = ⊥
-FaultAlone (Claim begun) root map pool gfn write t = EntryStands pool gfn t × SeenStands begun map t × (begun ≡ true → NoneFreeBefore map t.claim.at)
-FaultAlone Fill root map pool gfn write t = EntryStands pool gfn t
-FaultAlone Link root map pool gfn write t = EntryStands pool gfn t
-FaultAlone Leaf root map pool gfn write t = EntryStands pool gfn t
-FaultAlone (Give e) root map pool gfn write t = ⊥
-FaultAlone (Unshare e) root map pool gfn write t = EndAlone e root map pool gfn write t.claim.at
-FaultAlone (End e) root map pool gfn write t = EndAlone e root map pool gfn write t.claim.at
-FaultAlone _ root map pool gfn write t = Unit {0}
+abbrev pub FaultAlone : FaultPlace → ℕ → ℕ → (ℕ → ℕ) → (ℕ → ℕ) → ℕ → Bool → Topics → Type 0
+FaultAlone (Find begun) root set map pool gfn write t = begun ≡ true → (t.search.set ≡ Some set) × NoneBelow gfn pool set t.search.id
+FaultAlone Share root set map pool gfn write t = t.hold ≡ Loose
+FaultAlone (Check stage.Start) root set map pool gfn write t = ⊥
+FaultAlone (Check stage.End) root set map pool gfn write t = ⊥
+FaultAlone (Claim begun) root set map pool gfn write t = EntryStands pool gfn t × SeenStands begun map t × (begun ≡ true → NoneFreeBefore map t.claim.at)
+FaultAlone Fill root set map pool gfn write t = EntryStands pool gfn t
+FaultAlone Link root set map pool gfn write t = EntryStands pool gfn t
+FaultAlone Leaf root set map pool gfn write t = EntryStands pool gfn t
+FaultAlone (Give e) root set map pool gfn write t = ⊥
+FaultAlone (Unshare e) root set map pool gfn write t = EndAlone e root set map pool gfn write t.claim.at
+FaultAlone (End e) root set map pool gfn write t = EndAlone e root set map pool gfn write t.claim.at
+FaultAlone _ root set map pool gfn write t = Unit {0}
 
 -- what it knows of the words behind a step
-abbrev pub AloneNext : FaultNext → ℕ → (ℕ → ℕ) → (ℕ → ℕ) → ℕ → Bool → Topics → Type 0
-AloneNext (Goes p) root map pool gfn write t = FaultAlone p root map pool gfn write t
-AloneNext (Ends e) root map pool gfn write t = EndAlone e root map pool gfn write t.claim.at
+abbrev pub AloneNext : FaultNext → ℕ → ℕ → (ℕ → ℕ) → (ℕ → ℕ) → ℕ → Bool → Topics → Type 0
+AloneNext (Goes p) root set map pool gfn write t = FaultAlone p root set map pool gfn write t
+AloneNext (Ends e) root set map pool gfn write t = EndAlone e root set map pool gfn write t.claim.at
 
 -- A fault of the actor at place a stands at this place of its order, while all other actors rest.
 pub record RunsAlone (z : Sizes) (w : World Held) (a : ℕ) (p : FaultPlace) (gfn : ℕ) (write : Bool) : Type 0 where
@@ -99,7 +98,7 @@ pub record RunsAlone (z : Sizes) (w : World Held) (a : ℕ) (p : FaultPlace) (gf
   pub there : a < actors_of z
   pub small : gfn < 2 ^ 36
   pub knows : FaultKnows p z gfn write (hand_in mmu w a).topics
-  pub alone : FaultAlone p (word_in z w area.Root 0) (word_in z w area.PoolMap) (word_in z w area.Pool) gfn write (hand_in mmu w a).topics
+  pub alone : FaultAlone p (word_in z w area.Root 0) (word_in z w area.Slots 0) (word_in z w area.PoolMap) (word_in z w area.Pool) gfn write (hand_in mmu w a).topics
 
 -- The step of its place doesn't wait for another actor, and behind it the fault knows of the words what its next place asks.
 pub record GoesThrough (z : Sizes) (words : Area → ℕ → ℕ) (a : ℕ) (t : Topics) (note : ℕ) (p : FaultPlace) (gfn : ℕ) (write : Bool) : Type 0 where
@@ -109,7 +108,7 @@ pub record GoesThrough (z : Sizes) (words : Area → ℕ → ℕ) (a : ℕ) (t :
       let task : Task = part_task step a t note in
       let found : ℕ = answer_in task words in
       let behind : Area → ℕ → ℕ = words_after task words in
-      AloneNext (fault_next p z gfn write t found) (behind area.Root 0) (behind area.PoolMap) (behind area.Pool) gfn write (part_topics step t found)
+      AloneNext (fault_next p z gfn write t found) (behind area.Root 0) (behind area.Slots 0) (behind area.PoolMap) (behind area.Pool) gfn write (part_topics step t found)
 
 -- A fault alone goes through: no step of it waits, it never begins anew, where it ends with an entry installed, links lead from the root to
 -- a leaf that allows the access, and where it ends with MMIO, no slot has a page for the access.

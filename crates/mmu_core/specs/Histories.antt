@@ -10,7 +10,7 @@ use Rattle.core_views.specs.Actors.{is_same}
 use Rattle.core_views.specs.Held.{Held}
 use Rattle.core_views.specs.Sizes.{actor_at, actors_of}
 use Rattle.core_views.specs.Text.{answers_of}
-use Rattle.core_views.specs.Whole.{IsWhole}
+use Rattle.core_views.specs.Whole.{IsWhole, IsWholeSoFar}
 use Rattle.mmu_core.specs.Enabled.{mmu}
 use Rattle.mmu_core.specs.Machine.{Legal, Step, World, hand_in, run}
 use Rattle.mmu_core.specs.Worlds.{IsStart, history}
@@ -31,3 +31,7 @@ EndsWhole =
     (z : Sizes) (lines : List Line) (w : World Held) (ss : List (Step Kind)) → IsStart z lines w → Legal mmu w ss
     → ((i : ℕ) → i < actors_of z → length (hand_in mmu (run mmu w ss) i).answers ≡ length (hand_in mmu (run mmu w ss) i).lines)
     → IsWhole (history w ss) lines
+
+-- Wherever the steps have come, the history answers the trace so far.
+abbrev pub StaysWhole : Type 0
+StaysWhole = (z : Sizes) (lines : List Line) (w : World Held) (ss : List (Step Kind)) → IsStart z lines w → Legal mmu w ss → IsWholeSoFar (history w ss) lines

@@ -19,17 +19,16 @@ use Rattle.mmu_core.specs.FaultSteps.{allows_access}
 use Rattle.mmu_core.specs.Laws.{IsSound}
 use Rattle.mmu_core.specs.Machine.{World, hand_in}
 use Rattle.mmu_core.specs.PartSteps.{IsOver, table_page}
-use Rattle.mmu_core.specs.SetSlotSteps.{published_set}
 use Rattle.mmu_core.specs.SlotWords.{slots_below}
 use Rattle.mmu_core.specs.View.{word_in}
 
 -- The leaf is of the page that the live slots of the published set give the guest frame, and names the frame that this page's host word
 -- names. It allows writes exactly where the slots give a write its page too and the host allows writes to this page.
-pub record LeafAgrees (pool host : ℕ → ℕ) (gfn leaf : ℕ) : Type 0 where
+pub record LeafAgrees (set : ℕ) (pool host : ℕ → ℕ) (gfn leaf : ℕ) : Type 0 where
   pub page : ℕ
-  pub behind : page_behind (slots_below pool published_set 32) gfn Read ≡ Some page
+  pub behind : page_behind (slots_below pool set 32) gfn Read ≡ Some page
   pub frame : frame_in leaf ≡ host_frame (host page)
-  pub writes : (op : Op) → is_write op ≡ true → can_write leaf ≡ (host_allows_write (host page) && is_some (page_behind (slots_below pool published_set 32) gfn op))
+  pub writes : (op : Op) → is_write op ≡ true → can_write leaf ≡ (host_allows_write (host page) && is_some (page_behind (slots_below pool set 32) gfn op))
   pub host_bit : host_writable leaf ≡ host_allows_write (host page)
   pub mmu_bit : mmu_writable leaf ≡ can_write leaf
 
@@ -38,24 +37,24 @@ abbrev pub LeavesAgree : Type 0
 LeavesAgree =
     (z : Sizes) (w : World Held) (gfn entry : ℕ) → IsSound z w → gfn < 2 ^ 36
     → LeadsTo (word_in z w area.Pool) 4 (word_in z w area.Root 0) gfn entry → kind_of 1 entry ≡ entry_kind.Leaf
-    → LeafAgrees (word_in z w area.Pool) (word_in z w area.Host) gfn entry
+    → LeafAgrees (word_in z w area.Slots 0) (word_in z w area.Pool) (word_in z w area.Host) gfn entry
 
 -- So does each leaf to which links lead a guest frame from the table that an actor's walk has come to, where this table is over it.
 abbrev pub HeldLeavesAgree : Type 0
 HeldLeavesAgree =
     (z : Sizes) (w : World Held) (actor gfn entry : ℕ) → IsSound z w → actor < actors_of z → IsOver gfn (hand_in mmu w actor).topics.walk
     → LeadsTo (word_in z w area.Pool) (hand_in mmu w actor).topics.walk.level (table_page (hand_in mmu w actor).topics.walk) gfn entry → kind_of 1 entry ≡ entry_kind.Leaf
-    → LeafAgrees (word_in z w area.Pool) (word_in z w area.Host) gfn entry
+    → LeafAgrees (word_in z w area.Slots 0) (word_in z w area.Pool) (word_in z w area.Host) gfn entry
 
 -- Each translation that an actor has cached agrees.
 abbrev pub CachedLeavesAgree : Type 0
 CachedLeavesAgree =
     (z : Sizes) (w : World Held) (actor : ℕ) → IsSound z w → actor < actors_of z
-    → All (λ t. (t.level ≡ 1) × LeafAgrees (word_in z w area.Pool) (word_in z w area.Host) t.gfn t.leaf) (hand_in mmu w actor).cached.items
+    → All (λ t. (t.level ≡ 1) × LeafAgrees (word_in z w area.Slots 0) (word_in z w area.Pool) (word_in z w area.Host) t.gfn t.leaf) (hand_in mmu w actor).cached.items
 
 -- The leaf by which an access is about to touch agrees, and allows the access.
 abbrev pub UsedLeavesAgree : Type 0
 UsedLeavesAgree =
     (z : Sizes) (w : World Held) (actor gfn word : ℕ) (op : Op) → IsSound z w → actor < actors_of z
     → (hand_in mmu w actor).state.place ≡ place.Access Touch → (hand_in mmu w actor).state.line.command ≡ Access gfn word op
-    → LeafAgrees (word_in z w area.Pool) (word_in z w area.Host) gfn (hand_in mmu w actor).state.leaf × (allows_access (is_write op) (hand_in mmu w actor).state.leaf ≡ true)
+    → LeafAgrees (word_in z w area.Slots 0) (word_in z w area.Pool) (word_in z w area.Host) gfn (hand_in mmu w actor).state.leaf × (allows_access (is_write op) (hand_in mmu w actor).state.leaf ≡ true)

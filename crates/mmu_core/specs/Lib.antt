@@ -1,6 +1,7 @@
 pub mod Machine
 pub mod Tasks
 pub mod SlotWords
+pub mod SetWords
 pub mod Cached
 pub mod AccessSteps
 pub mod SetSlotSteps
@@ -25,6 +26,7 @@ pub mod Histories
 pub mod HostWordsPart
 pub mod SlotSetPart
 pub mod CachedPart
+pub mod SetSlotKnows
 pub mod KnowsPart
 pub mod LinesPart
 pub mod LoadsPart
@@ -45,8 +47,11 @@ pub mod FaultLaws
 pub mod OthersRest
 pub mod Grace
 pub mod Scans
+pub mod Causes
 pub mod Enough
 pub mod FaultAlone
 pub mod LineAlone
 pub mod LeafLaws
 pub mod StepLaws
+pub mod Delays
+pub mod TurnLaws

@@ -1,13 +1,10 @@
 -- A line that runs while all other actors rest: each step of it leads nearer to its answer.
-use Rattle.std.specs.Prelude.{◌≡◌, ◌≢◌, ◌+◌, ◌<◌, ◌≤◌, ℕ, Bool, false, List, All, length}
+use Rattle.std.specs.Prelude.{◌≡◌, ◌≢◌, ◌+◌, ◌<◌, ◌≤◌, ℕ, false, List, All, length}
 use Rattle.core_views.specs.declared.answer.Answer.{Answer}
 use Rattle.core_views.specs.declared.answer.Answer.TheVariants.{Starved}
 use Rattle.core_views.specs.declared.kind.Kind.{Kind}
-use Rattle.core_views.specs.declared.place.AccessPlace.TheVariants.{Fault}
-use Rattle.core_views.specs.declared.place.Place.{Place}
-use Rattle.core_views.specs.declared.place.Place.TheVariants.{Access, Between}
+use Rattle.core_views.specs.declared.place.Place.TheVariants.{Between}
 use Rattle.core_views.specs.declared.sizes.Sizes.{Sizes}
-use Rattle.core_views.specs.declared.topics.Topics.{Topics}
 use Rattle.core_views.specs.declared.trace.Header.{Header}
 use Rattle.core_views.specs.declared.trace.Line.{Line}
 use Rattle.core_views.specs.Held.{Held}
@@ -19,23 +16,17 @@ use Rattle.mmu_core.specs.declared.outcome.Outcome.{Outcome}
 use Rattle.mmu_core.specs.declared.outcome.Outcome.TheVariants.{Goes, Ends}
 use Rattle.mmu_core.specs.AloneKnows.{AloneKnows}
 use Rattle.mmu_core.specs.Bounds.{most_steps, steps_left}
+pub use Rattle.mmu_core.specs.Delays.{line_waits}
 use Rattle.mmu_core.specs.Enabled.{mmu}
 use Rattle.mmu_core.specs.Example.{HasLine}
 use Rattle.mmu_core.specs.FaultAlone.{NoneFreeBefore}
-use Rattle.mmu_core.specs.FaultSteps.{waits}
 use Rattle.mmu_core.specs.Laws.{IsSound}
 use Rattle.mmu_core.specs.Machine.{Legal, May, Step, World, answered, effect, hand_in, run}
-use Rattle.mmu_core.specs.OthersRest.{OthersRest}
-use Rattle.mmu_core.specs.PartSteps.{IsAtRest}
+use Rattle.mmu_core.specs.OthersRest.{OthersRest, HoldsNothing}
 use Rattle.mmu_core.specs.Steps.{place_at}
 use Rattle.mmu_core.specs.Turns.{line_of, outcome_of}
 use Rattle.mmu_core.specs.View.{word_in}
 use Rattle.mmu_core.specs.Worlds.{IsStart}
-
--- The step of a line's place leaves the line where it was, since another actor is in the way.
-abbrev pub line_waits : Place → Topics → ℕ → Bool
-line_waits (Access (Fault p)) t v = waits p t v
-line_waits _ t v = false
 
 -- the most steps that the hand's line has left, where nobody is in its way
 abbrev pub hand_left : Held → ℕ
@@ -51,7 +42,7 @@ pub record LineAlone (z : Sizes) (w : World Held) (a : ℕ) : Type 0 where
 
 -- All actors rest.
 abbrev pub AllRest : World Held → Type 0
-AllRest w = (i : ℕ) → i < length w.hands → IsAtRest (hand_in mmu w i).topics
+AllRest w = (i : ℕ) → i < length w.hands → HoldsNothing (hand_in mmu w i).topics
 
 -- A line is starved only where no page of the pool is free.
 abbrev pub StarvedOnlyWithout : Answer → Sizes → (ℕ → ℕ) → Type 0

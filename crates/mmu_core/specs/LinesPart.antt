@@ -1,5 +1,5 @@
 -- Lines: whose a hand is, and which of its lines is under way.
-use Rattle.std.specs.Prelude.{◌≡◌, ◌<◌, ◌==◌, ℕ, List, All, length, map, take}
+use Rattle.std.specs.Prelude.{◌≡◌, ◌<◌, ◌+◌, ◌==◌, ℕ, List, All, length, map, take, if◌then◌else◌}
 use Rattle.std.specs.List.{Contains, IsDistinct}
 use Rattle.std.specs.Map.{keys_of}
 use Rattle.core_views.specs.declared.place.Place.{Place}
@@ -11,6 +11,7 @@ use Rattle.core_views.specs.declared.trace.Line.{Line}
 use Rattle.core_views.specs.Held.{Held}
 use Rattle.core_views.specs.Sizes.{index_of}
 use Rattle.core_views.specs.Traces.{IsCommandFor, slot_ids}
+use Rattle.mmu_core.specs.KnowsPart.{may_leave}
 use Rattle.mmu_core.specs.Steps.{next_line}
 
 -- A line is under way: it is the hand's next line, which has no answer yet.
@@ -23,7 +24,11 @@ UnderWay (place.SetSlot p) h = (h.state.line ≡ next_line h) × (length h.answe
 abbrev pub IsSetBy : List Line → ℕ × MemorySlot → Type 0
 IsSetBy lines entry = Contains (map (λ line. line.command) lines) (SetSlot entry.0 entry.1.slot)
 
--- Lines: whose the hand is, and that its lines are its actor's; no two of them set a slot at one ID, and each slot of its record was set, as it is, by one of them, which is answered.
+-- how many of the hand's lines have done what they do: those that are answered, and behind its publication the one under way
+abbrev pub lines_done : Held → ℕ
+lines_done h = length h.answers + (if may_leave h.state.place then 1 else 0)
+
+-- Lines: whose the hand is, and that its lines are its actor's; no two of them set a slot at one ID, and each slot of its record was set, as it is, by one of them, which has done so.
 pub record OwnLines (z : Sizes) (i : ℕ) (h : Held) : Type 0 where
   pub sizes : h.state.sizes ≡ z
   pub index : index_of z h.state.actor ≡ i
@@ -31,5 +36,5 @@ pub record OwnLines (z : Sizes) (i : ℕ) (h : Held) : Type 0 where
   pub own : All (λ line. line.actor ≡ h.state.actor) h.lines
   pub distinct : IsDistinct (λ i j. i == j) (slot_ids h.lines)
   pub under : UnderWay h.state.place h
-  pub answered : All (Contains (slot_ids (take (length h.answers) h.lines))) (keys_of h.slots)
+  pub answered : All (Contains (slot_ids (take (lines_done h) h.lines))) (keys_of h.slots)
   pub set : All (IsSetBy h.lines) h.slots

@@ -20,6 +20,7 @@ pub record PartRests (h : Held) : Type 0 where
   pub table : 1 ≤ h.topics.walk.level → table_page h.topics.walk < h.state.sizes.pool
   pub set : (k : ℕ) → h.topics.search.set ≡ Some k → k < h.state.sizes.pool
   pub page : (o : OwnedPage) → h.topics.owned ≡ Some o → o.page < h.state.sizes.pool
+  pub left : (k : ℕ) → h.topics.leaving ≡ Some k → k < h.state.sizes.pool
   pub filled : (o : OwnedPage) → h.topics.owned ≡ Some o → o.filled ≤ 513
   pub counters : CountersPart h.state.sizes h.topics
   pub found : h.topics.search.whole ≡ true → h.topics.search.slot.host + h.topics.search.slot.pages ≤ h.state.sizes.pages

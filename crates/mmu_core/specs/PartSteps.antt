@@ -1,5 +1,5 @@
 -- The steps of the machine's parts: what each needs of the hand, and which word it is on.
-use Rattle.std.specs.Prelude.{◌≡◌, ◌≢◌, ◌+◌, ◌-◌, ◌/◌, ◌%◌, ◌^◌, ◌<◌, ◌≤◌, ◌⊎◌, ℕ, Bool, true, false, ◌==◌, if◌then◌else◌, Option, Some, None, is_some}
+use Rattle.std.specs.Prelude.{◌≡◌, ◌≢◌, ◌+◌, ◌-◌, ◌/◌, ◌%◌, ◌^◌, ◌<◌, ◌≤◌, ◌⊎◌, ℕ, Bool, true, false, ◌==◌, if◌then◌else◌, Option, Some, None, is_some, length, nat_lt}
 use Rattle.std.specs.Int.{bit_not}
 use mir.Syntax.{w64}
 use Rattle.core_views.specs.declared.actor.Actor.{Actor}
@@ -27,6 +27,7 @@ use Rattle.spte_words.specs.Entries.{kind_of, level_span, table_word}
 use Rattle.mmu_core.specs.declared.outcome.Task.{Task}
 use Rattle.mmu_core.specs.declared.part_step.PartStep.{PartStep}
 use Rattle.mmu_core.specs.declared.part_step.PartStep.TheVariants as part
+use Rattle.mmu_core.specs.SetWords.{set_role}
 use Rattle.mmu_core.specs.SlotWords.{leaf_of, page_of, slot_index}
 use Rattle.mmu_core.specs.Tasks.{kind_of_task, loads, map_of}
 use Rattle.mmu_core.specs.TopicSteps.{tried_bit}
@@ -59,6 +60,11 @@ page_owned (Some o) = o.page
 abbrev pub words_filled : Option OwnedPage → ℕ
 words_filled None = 0
 words_filled (Some o) = o.filled
+
+-- the page that is leaving
+abbrev pub page_left : Option ℕ → ℕ
+page_left None = 0
+page_left (Some page) = page
 
 -- the pool page of the slot set that is held
 abbrev pub set_held : Option ℕ → ℕ
@@ -116,6 +122,9 @@ part_task (part.Link gfn) own t note = entry_task gfn (link_written t) t.walk no
 part_task (part.Leaf gfn) own t note = entry_task gfn (leaf_written t) t.walk note
 part_task (part.Host page) own t note = loads kind.Host area.Host page note
 part_task (part.Watch index) own t note = loads kind.Watch area.State index note
+part_task part.Publish own t note = works kind.Publish area.Slots 0 (page_owned t.owned) note
+part_task part.Clear own t note = works kind.Fill area.Role (page_left t.leaving) 0 note
+part_task part.GiveOld own t note = works kind.Give area.PoolMap (page_left t.leaving / 64) (2 ^ (page_left t.leaving % 64)) note
 
 -- the place of the hand's actor
 abbrev pub own_index : Held → ℕ
@@ -205,7 +214,33 @@ pub record MayEnter (gfn : ℕ) (t : Topics) : Type 0 where
   pub looked_up : LookedUp gfn t
   pub saw : SawEntry gfn t.walk
 
--- what a step needs of the hand
+-- The page that is owned is filled whole, as a slot set.
+pub record OwnsSet (t : Topics) : Type 0 where
+  pub owned : OwnedPage
+  pub is : t.owned ≡ Some owned
+  pub whole : owned.filled ≡ 513
+  pub role : owned.role ≡ set_role
+
+-- A slot set may be published: it is owned and filled whole, the actor has the lock alone, under which it has seen that no invalidation is
+-- open, and no page is leaving yet.
+pub record MayPublish (t : Topics) : Type 0 where
+  pub owns : OwnsSet t
+  pub alone : t.hold ≡ Exclusive
+  pub looked : t.invalidations.checked ≡ checked.Count
+  pub none_open : t.invalidations.count ≡ 0
+  pub none_leaves : t.leaving ≡ None
+
+-- A page is leaving, and each other actor was watched since; the actor owns no page.
+pub record MayGiveOld (h : Held) : Type 0 where
+  pub leaves : is_some h.topics.leaving ≡ true
+  pub owns_none : h.topics.owned ≡ None
+  pub watched : actors_of h.state.sizes ≤ next_watched (own_index h) h.topics.watched
+
+-- The hand has a line that has no answer.
+abbrev pub has_line : Held → Bool
+has_line h = nat_lt (length h.answers) (length h.lines)
+
+-- what a step needs of the hand; a slot set is published for a line alone
 abbrev pub PartNeeds : PartStep → Held → Type 0
 PartNeeds part.Enter h = IsVcpu h.state.actor × (h.topics.stay ≡ Outside)
 PartNeeds part.Leave h = h.topics.stay ≡ Guest
@@ -232,6 +267,9 @@ PartNeeds (part.Link gfn) h = MayEnter gfn h.topics × (2 ≤ h.topics.walk.leve
 PartNeeds (part.Leaf gfn) h = MayEnter gfn h.topics × (h.topics.walk.level ≡ 1)
 PartNeeds (part.Host page) h = page < h.state.sizes.pages
 PartNeeds (part.Watch index) h = (index < actors_of h.state.sizes) × (index ≢ own_index h) × ((index ≡ next_watched (own_index h) 0) ⊎ (index ≡ next_watched (own_index h) h.topics.watched))
+PartNeeds part.Publish h = (has_line h ≡ true) × MayPublish h.topics
+PartNeeds part.Clear h = MayGiveOld h
+PartNeeds part.GiveOld h = MayGiveOld h
 
 -- The actor holds nothing: it is outside, and has no lock, no page, no table and no slot set.
 pub record IsAtRest (t : Topics) : Type 0 where

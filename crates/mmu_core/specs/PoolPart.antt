@@ -18,13 +18,23 @@ is_owned (Some o) k = o.page == k
 abbrev pub owners : ℕ → (ℕ → Option OwnedPage) → ℕ → ℕ
 owners n owned k = sum_below n (λ i. one_if (is_owned (owned i) k))
 
--- Each page is exactly one of these: free, owned by one actor, a table (the root, or linked below it), the published slot set. Bits
--- behind the last page are clear.
-pub record PoolPart (n pages slots : ℕ) (map : ℕ → ℕ) (owned : ℕ → Option OwnedPage) (stands : ℕ → Option Position) : Type 0 where
-  pub each : (k : ℕ) → k < pages → one_if (is_free map k) + owners n owned k + one_if (is_some (stands k)) + one_if (slots == k) ≡ 1
+-- The page is the one that leaves.
+abbrev pub is_leaving : Option ℕ → ℕ → Bool
+is_leaving None k = false
+is_leaving (Some page) k = page == k
+
+-- how many actors have this page leave
+abbrev pub leavers : ℕ → (ℕ → Option ℕ) → ℕ → ℕ
+leavers n leaving k = sum_below n (λ i. one_if (is_leaving (leaving i) k))
+
+-- Each page is exactly one of these: free, owned by one actor, a table (the root, or linked below it), the published slot set, leaving
+-- for one actor. Bits behind the last page are clear.
+pub record PoolPart (n pages slots : ℕ) (map : ℕ → ℕ) (owned : ℕ → Option OwnedPage) (leaving : ℕ → Option ℕ) (stands : ℕ → Option Position) : Type 0 where
+  pub each : (k : ℕ) → k < pages → one_if (is_free map k) + owners n owned k + one_if (is_some (stands k)) + one_if (slots == k) + leavers n leaving k ≡ 1
   pub behind : (k : ℕ) → pages ≤ k → is_free map k ≡ false
   pub there : (i : ℕ) (o : OwnedPage) → i < n → owned i ≡ Some o → o.page < pages
   pub slots_there : slots < pages
+  pub left_there : (i k : ℕ) → i < n → leaving i ≡ Some k → k < pages
 
 -- What an owner has filled: 512 words and the role at most; where it says that all are 0 they are; and the role is what it says.
 pub record IsFilled (role pool : ℕ → ℕ) (o : OwnedPage) : Type 0 where

@@ -1,11 +1,10 @@
 -- What a job may rest on, from its hand alone: what its line's next step needs.
-use Rattle.std.specs.Prelude.{◌≡◌, ◌≤◌, ◌<◌, ℕ, Option, Some, None}
+use Rattle.std.specs.Prelude.{◌≡◌, ◌<◌, ℕ, Option, Some, None}
 use Rattle.core_views.specs.declared.place.Place.{Place}
 use Rattle.core_views.specs.declared.place.Place.TheVariants as place
 use Rattle.core_views.specs.declared.place.SetSlotPlace.{SetSlotPlace}
-use Rattle.core_views.specs.declared.place.SetSlotPlace.TheVariants.{Refuse, Fill}
+use Rattle.core_views.specs.declared.place.SetSlotPlace.TheVariants.{Publish}
 use Rattle.core_views.specs.declared.topics.Stay.TheVariants.{Guest}
-use Rattle.core_views.specs.declared.topics.Topics.{Topics}
 use Rattle.core_views.specs.declared.trace.Command.{Command}
 use Rattle.core_views.specs.declared.trace.Command.TheVariants.{Access, SetSlot}
 use Rattle.core_views.specs.declared.trace.Slot.{Slot as SlotOf}
@@ -18,7 +17,8 @@ use Rattle.spte_words.specs.Entries.{frame_in}
 use Rattle.mmu_core.specs.declared.part_step.PartStep.{PartStep}
 use Rattle.mmu_core.specs.AccessSteps.{access_part}
 use Rattle.mmu_core.specs.PartBounds.{PartRests}
-use Rattle.mmu_core.specs.PartSteps.{IsAtRest, PartNeeds}
+use Rattle.mmu_core.specs.PartSteps.{PartNeeds}
+use Rattle.mmu_core.specs.SetSlotSteps.{set_slot_part}
 use Rattle.mmu_core.specs.Steps.{line_at, place_at}
 
 -- what the next step of a line needs: a step of a part its needs, and the touch a frame of the machine, from a stay in the guest
@@ -26,13 +26,9 @@ abbrev pub RestsOn : Option PartStep → Held → Type 0
 RestsOn (Some step) h = PartNeeds step h
 RestsOn None h = (frame_in h.state.leaf < h.state.sizes.frames) × (h.topics.stay ≡ Guest)
 
-abbrev pub SetSlotRests : SetSlotPlace → ℕ → Topics → Type 0
-SetSlotRests (Refuse refusal) id t = IsAtRest t
-SetSlotRests (Fill field) id t = (id ≤ 31) × IsAtRest t
-
 abbrev pub RestsAt : Place → Command → Held → Type 0
 RestsAt (place.Access p) (Access gfn word op) h = RestsOn (access_part p gfn h.topics) h
-RestsAt (place.SetSlot p) (SetSlot id slot) h = SetSlotRests p id h.topics
+RestsAt (place.SetSlot p) (SetSlot id slot) h = RestsOn (Some (set_slot_part p h id slot)) h
 RestsAt place.Between command h = Unit {0}
 RestsAt _ _ h = ⊥
 
@@ -42,10 +38,10 @@ IsUnderWay place.Between = ⊥
 IsUnderWay (place.Access p) = Unit {0}
 IsUnderWay (place.SetSlot p) = Unit {0}
 
--- The manager's own record accepts the slot whose words are stored.
+-- The manager's own record accepts the slot whose set is published.
 abbrev pub RecordAccepts : SetSlotPlace → ℕ → ℕ → SlotOf → MemorySlots → Type 0
-RecordAccepts (Refuse refusal) total id slot slots = Unit {0}
-RecordAccepts (Fill field) total id slot slots = set_refusal total id slot slots ≡ None
+RecordAccepts Publish total id slot slots = set_refusal total id slot slots ≡ None
+RecordAccepts _ total id slot slots = Unit {0}
 
 abbrev pub AcceptsAt : Place → Command → Sizes → MemorySlots → Type 0
 AcceptsAt (place.SetSlot p) (SetSlot id slot) z slots = RecordAccepts p z.pages id slot slots

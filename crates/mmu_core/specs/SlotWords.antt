@@ -6,7 +6,7 @@ use Rattle.core_views.specs.declared.trace.Slot.{Slot}
 use Rattle.core_views.specs.Slots.{Slots, contains}
 use Rattle.spte_words.specs.Areas.{pool_index}
 use Rattle.spte_words.specs.Entries.{leaf_word}
-use Rattle.spte_words.specs.Flags.{flags_word, flags_live, flags_read_only}
+use Rattle.spte_words.specs.Flags.{flags_live, flags_read_only}
 use Rattle.spte_words.specs.HostWords.{host_frame, host_allows_write}
 
 -- A slot's four words in its set, in their order.
@@ -19,13 +19,6 @@ field_number Flags = 3
 -- the pool's word that holds a field of the slot with this ID, in the slot set of a pool page
 abbrev pub slot_index : ℕ → ℕ → SlotField → ℕ
 slot_index set id field = pool_index set (4 * id + field_number field)
-
--- what that word holds of a live slot
-abbrev pub field_word : SlotField → Slot → ℕ
-field_word Base slot = slot.base
-field_word Pages slot = slot.pages
-field_word Host slot = slot.host
-field_word Flags slot = flags_word true slot.read_only false
 
 -- the slot with this ID as the pool's words have it, and whether it is live
 abbrev pub live_at : (ℕ → ℕ) → ℕ → ℕ → Bool

@@ -1,5 +1,5 @@
 -- What each form of line does, put together: the step that a hand allows, and the hand after it.
-use Rattle.std.specs.Prelude.{ℕ, Bool, true, false, List, [], ◌∷◌, ◌++◌, length, map, nat_lt, slice_get, unwrap_or}
+use Rattle.std.specs.Prelude.{ℕ, Bool, true, false, List, [], ◌∷◌, ◌++◌, length, map, slice_get, unwrap_or}
 use Rattle.circular_buffer.specs.Buffer.{Buffer}
 use Rattle.core_views.specs.declared.actor.Actor.TheVariants.{Manager}
 use Rattle.core_views.specs.declared.cache.Translation.{Translation}
@@ -24,6 +24,8 @@ use Rattle.mmu_core.specs.declared.outcome.Outcome.TheVariants.{Goes}
 use Rattle.mmu_core.specs.declared.outcome.Task.{Task}
 use Rattle.mmu_core.specs.AccessSteps.{access_caches, access_loads, access_outcome, access_task, access_tells}
 use Rattle.mmu_core.specs.Cached.{flushed}
+pub use Rattle.mmu_core.specs.PartSteps.{has_line}
+use Rattle.mmu_core.specs.Delays.{counted, delays_counted, is_delay, steps_counted}
 use Rattle.mmu_core.specs.SetSlotSteps.{set_slot_first, set_slot_outcome, set_slot_records, set_slot_task, set_slot_tells}
 use Rattle.mmu_core.specs.Tasks.{answering, answers_after, no_task, place_after}
 use Rattle.mmu_core.specs.TopicSteps.{topics_after}
@@ -56,7 +58,7 @@ place_at p h = standing p h.state.sizes h.slots (line_at p h).command
 -- what the step of a place is to do for the command
 abbrev pub task_at : Place → Command → Held → Task
 task_at (place.Access p) (Access gfn word op) h = access_task p h gfn word op
-task_at (place.SetSlot p) (SetSlot id slot) h = set_slot_task p id slot
+task_at (place.SetSlot p) (SetSlot id slot) h = set_slot_task p h id slot
 task_at _ _ h = no_task
 
 -- what the state has loaded after it
@@ -77,23 +79,34 @@ records_at _ _ slots = slots
 -- where the line stands after it
 abbrev pub outcome_at : Place → Command → Held → ℕ → Outcome
 outcome_at (place.Access p) (Access gfn word op) h v = access_outcome p h gfn op v
-outcome_at (place.SetSlot p) (SetSlot id slot) h v = set_slot_outcome p
+outcome_at (place.SetSlot p) (SetSlot id slot) h v = set_slot_outcome p h v
 outcome_at p _ h v = Goes p
 
 -- what it tells of the line, besides its begin and its answer
 abbrev pub tells_at : Place → Command → Held → ℕ → List EventKind
 tells_at (place.Access p) (Access gfn word op) h v = access_tells p h gfn word op v
-tells_at (place.SetSlot p) (SetSlot id slot) h v = set_slot_tells p id slot
+tells_at (place.SetSlot p) (SetSlot id slot) h v = set_slot_tells p h id slot v
 tells_at _ _ h v = []
 
 -- what the hand's next step is to do
 abbrev pub task_of : Held → Task
 task_of h = task_at (place_at h.state.place h) (line_at h.state.place h).command h
 
+-- The step is a delay of its line.
+abbrev pub delays_at : Place → Command → Held → ℕ → Bool
+delays_at p command h v = is_delay p h.topics (outcome_at p command h v) v
+
+-- what the state has loaded and counted after it
+abbrev pub state_at : Place → Command → Held → ℕ → State
+state_at p command h v = record (loads_at p command h v) {
+  steps = steps_counted (delays_at p command h v) (counted h.state.place h.state.steps);
+  delays = delays_counted (delays_at p command h v) (counted h.state.place h.state.delays);
+}
+
 -- the hand after a step of this line, at this place, that found v, but for its topics and for a flush
 abbrev pub line_after : Line → Place → Held → ℕ → Held
 line_after line p h v = record {
-  state = record (loads_at p line.command h v) { line = line; place = place_after (outcome_at p line.command h v) };
+  state = record (state_at p line.command h v) { line = line; place = place_after (outcome_at p line.command h v) };
   topics = h.topics;
   cached = caches_at p line.command h v;
   slots = records_at p line.command h.slots;
@@ -104,17 +117,13 @@ line_after line p h v = record {
 -- the hand after a step of this line
 abbrev pub held_after : Line → Place → Held → Kind → ℕ → Held
 held_after line p h k v = record {
-  state = record (loads_at p line.command h v) { line = line; place = place_after (outcome_at p line.command h v) };
+  state = record (state_at p line.command h v) { line = line; place = place_after (outcome_at p line.command h v) };
   topics = topics_after h.state.sizes k h.topics v;
   cached = flushed k (caches_at p line.command h v) v;
   slots = records_at p line.command h.slots;
   lines = h.lines;
   answers = answers_after (outcome_at p line.command h v) line h.answers;
 }
-
--- The hand has a line that has no answer.
-abbrev pub has_line : Held → Bool
-has_line h = nat_lt (length h.answers) (length h.lines)
 
 -- the hand after a step of a part, which is no line's
 abbrev pub idle_after : Held → Kind → ℕ → Held

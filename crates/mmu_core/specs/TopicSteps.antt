@@ -168,6 +168,15 @@ filled_more (Some o) v = Some (record {
   role = if o.filled == 512 then v else o.role;
 })
 
+-- What is given back is the page that is owned, and where there is none the one that is leaving.
+abbrev pub still_leaving : Option OwnedPage → Option ℕ → Option ℕ
+still_leaving None leaving = None
+still_leaving (Some o) leaving = leaving
+
+-- A slot set was published in place of the one in page v, which is leaving now: nobody was watched yet, and it is held no more.
+abbrev pub published : Topics → ℕ → Topics
+published t v = record t { search = kept_search false t.search; owned = None; leaving = Some v; watched = 0 }
+
 -- Bit 63 of a lock word: a writer has it.
 abbrev pub has_writer : ℕ → Bool
 has_writer v = nat_le (2 ^ 63) v
@@ -285,7 +294,8 @@ topics_by kind.Exclude z k t v = record t { hold = if v == 0 then Exclusive else
 topics_by kind.Release z k t v = let_go t
 topics_by kind.Claim z k t v = record t { owned = claimed t.claim v; claim = tried t.claim v }
 topics_by kind.Fill z k t v = record t { owned = filled_more t.owned v }
-topics_by kind.Give z k t v = record t { owned = None }
+topics_by kind.Give z k t v = record t { owned = None; leaving = still_leaving t.owned t.leaving }
+topics_by kind.Publish z k t v = published t v
 topics_by kind.Watch z k t v = record t { watched = (k.word - number_of area.State) + (if in_section v then 0 else 1) }
 topics_by kind.Read z k t v = t
 topics_by kind.Write z k t v = t

@@ -5,9 +5,9 @@ use Rattle.core_views.specs.Held.{Held}
 use Rattle.core_views.specs.Sizes.{actors_of}
 use Rattle.spte_words.specs.declared.area.Area.TheVariants as area
 use Rattle.mmu_core.specs.View.{View}
-pub use Rattle.mmu_core.specs.HeldPart.{CountersPart, HeldPart}
+pub use Rattle.mmu_core.specs.HeldPart.{CountersPart, HeldPart, HoldsOld, OldSetsPart, SetsPart}
 pub use Rattle.mmu_core.specs.LockPart.{LockPart, SawWriter}
-pub use Rattle.mmu_core.specs.PoolPart.{FilledPart, IsFilled, PoolPart}
+pub use Rattle.mmu_core.specs.PoolPart.{FilledPart, IsFilled, PoolPart, is_leaving, leavers}
 pub use Rattle.mmu_core.specs.SearchPart.{LookPart, SearchPart}
 pub use Rattle.mmu_core.specs.StatesPart.{StatesPart}
 pub use Rattle.mmu_core.specs.TreePart.{Position, TreePart}
@@ -18,10 +18,12 @@ pub record TopicsInvariantOf (z : Sizes) (lock root slots seq : ℕ) (states map
   pub lock_part : LockPart (actors_of z) lock (λ i. (hand i).topics.hold)
   pub saw_writer : (i : ℕ) → i < actors_of z → SawWriter (hand i).topics.hold
   pub states_part : StatesPart (actors_of z) states (λ i. (hand i).topics.stay)
-  pub pool_part : PoolPart (actors_of z) z.pool slots map (λ i. (hand i).topics.owned) stands
+  pub pool_part : PoolPart (actors_of z) z.pool slots map (λ i. (hand i).topics.owned) (λ i. (hand i).topics.leaving) stands
   pub tree : TreePart z.pool root slots role pool host stands
   pub filled : FilledPart (actors_of z) role pool (λ i. (hand i).topics.owned)
-  pub held : (i : ℕ) → i < actors_of z → HeldPart slots stands (hand i).topics
+  pub held : (i : ℕ) → i < actors_of z → HeldPart stands (hand i).topics
+  pub sets : SetsPart (actors_of z) slots (λ i. (hand i).topics)
+  pub old_sets : OldSetsPart (actors_of z) slots pool (λ i. (hand i).topics.leaving)
   pub searches : (i : ℕ) → i < actors_of z → SearchPart pool (hand i).topics.search
   pub looks : (i : ℕ) → i < actors_of z → LookPart z seq host (hand i).topics
   pub counters : (i : ℕ) → i < actors_of z → CountersPart z (hand i).topics

@@ -4,7 +4,8 @@ use Rattle.core_views.specs.declared.trace.Slot.{Slot as SlotOf}
 use Rattle.core_views.specs.Slots.{contains}
 use Rattle.spte_words.specs.Areas.{pool_index}
 use Rattle.spte_words.specs.Entries.{absent_word, level_span, table_word}
-use Rattle.mmu_core.specs.SlotWords.{leaf_of, live_at, page_of, slot_at}
+pub use Rattle.mmu_core.specs.SlotSetPart.{IsLiveIn}
+use Rattle.mmu_core.specs.SlotWords.{leaf_of, page_of}
 
 -- where a table stands: its level, and which of the runs of guest frames that tables of this level are for is its own
 pub record Position : Type 0 where
@@ -13,12 +14,6 @@ pub record Position : Type 0 where
 
 abbrev pub at : ℕ → ℕ → Position
 at level prefix = record { level = level; prefix = prefix }
-
--- The slot with this ID is live in the slot set of a pool page, and is this one.
-pub record IsLiveIn (pool : ℕ → ℕ) (set id : ℕ) (slot : SlotOf) : Type 0 where
-  pub low : id ≤ 31
-  pub live : live_at pool set id ≡ true
-  pub is : slot_at pool set id ≡ slot
 
 -- Entry j of the table that stands here links to a table, which stands one level below, at the run of this entry.
 pub record LinksTo (stands : ℕ → Option Position) (p : Position) (j w : ℕ) : Type 0 where

@@ -14,7 +14,7 @@ use Rattle.mmu_core.specs.declared.outcome.Task.{Task}
 use Rattle.mmu_core.specs.Cached.{flushed}
 use Rattle.mmu_core.specs.Enabled.{mmu}
 use Rattle.mmu_core.specs.Machine.{World, hand_in}
-use Rattle.mmu_core.specs.Steps.{caches_at, idle_after, loads_at, outcome_at, records_at, task_at}
+use Rattle.mmu_core.specs.Steps.{caches_at, idle_after, outcome_at, records_at, state_at, task_at}
 use Rattle.mmu_core.specs.PartSteps.{own_index, part_task}
 use Rattle.mmu_core.specs.declared.part_step.PartStep.{PartStep}
 use Rattle.mmu_core.specs.Tasks.{answers_after, kind_of_task, map_of, place_after}
@@ -60,7 +60,7 @@ answer_in t words = word_answered (operation_of t.kind) t.written (words t.area 
 -- the hand after a step of this line, with this command, at this place
 abbrev pub hand_after : Line → Command → Place → Held → ℕ → Held
 hand_after line command p h v = record {
-  state = record (loads_at p command h v) { line = line; place = place_after (outcome_at p command h v) };
+  state = record (state_at p command h v) { line = line; place = place_after (outcome_at p command h v) };
   topics = topics_after h.state.sizes (kind_of_task h.state.sizes (task_at p command h)) h.topics v;
   cached = flushed (kind_of_task h.state.sizes (task_at p command h)) (caches_at p command h v) v;
   slots = records_at p command h.slots;

@@ -4,7 +4,7 @@ ghost use Rattle.core_views.specs.declared.place.Cause.TheVariants.{Entry};
 ghost use Rattle.core_views.specs.declared.place.FaultEnd.TheVariants.{HostFault, Retry};
 ghost use Rattle.core_views.specs.declared.place.FaultPlace.TheVariants.{End, Find, Give, Host, Share, Unshare};
 ghost use Rattle.core_views.specs.Sizes.{AreSizes};
-ghost use Rattle.mmu_core.specs.FaultSteps.{at_map_word, check_next, check_part, claim_next, claim_part, entry_word, fault_next, fault_part, find_next, map_word, share_next, table_value, tries_page, walk_next};
+ghost use Rattle.mmu_core.specs.FaultSteps.{at_map_word, check_next, check_part, claim_next, claim_part, entry_word, fault_next, fault_part, find_next, is_owing, map_word, share_next, table_value, tries_page, waits, walk_next};
 ghost use Rattle.mmu_core.specs.PartBounds.{PartRests};
 ghost use Rattle.mmu_core.specs.PartSteps.{PartNeeds, table_page, words_filled};
 ghost use Rattle.mmu_core.specs.SlotWords.{page_of};
@@ -32,20 +32,20 @@ fn page_of(slot: &Slot, gfn: u64) -> u64
     slot.host + gfn.saturating_sub(slot.base)
 }
 
-fn tries_page(begun: bool, claim: &MapClaim) -> bool
+pub(crate) fn tries_page(begun: bool, claim: &MapClaim) -> bool
     ensures { result ≡ tries_page begun claim.now }
 {
     begun && claim.seen > 0
 }
 
-fn map_word(begun: bool, claim: &MapClaim) -> u64
+pub(crate) fn map_word(begun: bool, claim: &MapClaim) -> u64
     ensures { result ≡ map_word begun claim.now }
 {
     if begun { claim.at } else { 0 }
 }
 
 // How many words of the owned page are filled.
-fn filled(owned: &Option<OwnedPage>) -> u64
+pub(crate) fn filled(owned: &Option<OwnedPage>) -> u64
     ensures { result ≡ words_filled owned.now }
 {
     match owned {
@@ -76,7 +76,7 @@ fn check_part(stage: CheckStage) -> PartStep
     }
 }
 
-fn claim_part(begun: bool, claim: &MapClaim) -> PartStep
+pub(crate) fn claim_part(begun: bool, claim: &MapClaim) -> PartStep
     ensures { result ≡ claim_part begun claim.now }
 {
     if tries_page(begun, claim) {
@@ -313,4 +313,24 @@ pub(crate) fn next(place: FaultPlace, hand: &Hand, gfn: u64, write: bool, found:
         FaultPlace::Unshare(end) => FaultPlace::End(end),
         FaultPlace::End(end) => return FaultNext::Ends(end),
     })
+}
+
+fn is_owing(hold: Hold) -> bool
+    ensures { result ≡ is_owing hold }
+{
+    matches!(hold, Hold::Owing(_))
+}
+
+/// The step leaves the fault where it was, since another actor is in the way.
+pub(crate) fn waits(place: FaultPlace, topics: &Topics, found: u64) -> bool
+    ensures { result ≡ waits place topics.now found }
+{
+    match place {
+        FaultPlace::Share => is_owing(topics.hold),
+        FaultPlace::Claim { begun } => {
+            tries_page(begun, &topics.claim)
+                && (found >> topics.claim.seen.trailing_zeros()) % 2 == 0
+        }
+        _ => false,
+    }
 }

@@ -1,9 +1,10 @@
 ghost use Rattle.std.specs.Prelude.{◌<◌, length};
+ghost use Rattle.mmu_core.specs.Causes.{FaultsBeginAnewByCause, WaitsAreByCause};
 ghost use Rattle.mmu_core.specs.Enough.{EachTableIsWanted, EnoughPages, TablesAreForTheirRuns};
 ghost use Rattle.mmu_core.specs.Example.{EachMayStep, EveryMachineStarts, ExamplePrints, ExampleRaces, ExampleRuns, ExampleStarves};
 ghost use Rattle.mmu_core.specs.FaultAlone.{FaultGoesThrough, LeadsDown};
 ghost use Rattle.mmu_core.specs.FaultLaws.{FaultIsBounded, FaultMeetsNeeds, FaultStaysKnown, FaultStepsFall, PartsAnswer, WaitsSeeAnother};
-ghost use Rattle.mmu_core.specs.Histories.{AnswersAreTold, EndsWhole};
+ghost use Rattle.mmu_core.specs.Histories.{AnswersAreTold, EndsWhole, StaysWhole};
 ghost use Rattle.mmu_core.specs.KnowsPart.{KnowsPart};
 ghost use Rattle.mmu_core.specs.Laws.{StaysSound, TellsLawfully};
 ghost use Rattle.mmu_core.specs.LeafLaws.{CachedLeavesAgree, HeldLeavesAgree, LeavesAgree, UsedLeavesAgree};
@@ -12,6 +13,7 @@ ghost use Rattle.mmu_core.specs.Rests.{Rests};
 ghost use Rattle.mmu_core.specs.Scans.{StarvedLinesScan};
 ghost use Rattle.mmu_core.specs.Steps.{line_at, place_at};
 ghost use Rattle.mmu_core.specs.StepLaws.{EnteringFlushes, NotesTellEnds, OthersCacheOneAtMost, StepsAreOnTheirAreas};
+ghost use Rattle.mmu_core.specs.TurnLaws.{InstalledEntriesServe, LeavesStay, StepsAreBounded, StepsAreCounted, TurnsAreBounded, TurnsComeNearer};
 ghost use Rattle.mmu_core.specs.Worlds.{HandReached};
 
 use core_views::Hand;
@@ -45,13 +47,27 @@ pub fn every_list_of_steps()
     ensures starved { StarvedLinesScan }
 {}
 
+/// What stands in a line's way is another actor's, in every list of steps. A fault
+/// begins anew only where in this section it found an invalidation open over its
+/// guest frame, or found another number in a word of which it knew the number, since
+/// another actor's step changed it: in the sequence number behind its snapshot, or in
+/// an entry behind its load. A step waits only where the step of its line before it
+/// found a writer in the lock's word, or where the page that it tries was free at its
+/// line's step before it, and another actor's step changed this word of the map since
+/// (tdp_mmu.c, `kvm_tdp_mmu_map`; locking.rst).
+pub fn each_delay_has_its_cause()
+    ensures begins_anew { FaultsBeginAnewByCause }
+    ensures waits { WaitsAreByCause }
+{}
+
 /// That the steps can be made: every machine has a start, and at every moment
 /// each actor that has a line left has a step to make. A small run from its start
 /// sets two slots, answers an access of a guest frame that no slot has, and one
 /// whose fault fills and links three tables and puts the leaf; then accesses that
 /// walk to this leaf or go by what is cached, and a write that a read-only slot
-/// refuses. In a pool that is too small an access is starved; and where two
-/// processors write to one guest frame at a time, one waits and begins anew.
+/// refuses. In a pool that is too small an access is starved, and a slot setting
+/// behind it; and where two processors write to one guest frame at a time, one
+/// waits and begins anew.
 pub fn the_steps_can_be_made()
     ensures starts { EveryMachineStarts }
     ensures goes_on { EachMayStep }
@@ -63,9 +79,11 @@ pub fn the_steps_can_be_made()
 
 /// What a step's numbers tell of it: each step that a hand allows is on a word of
 /// the area that its kind is for, and the note of a line's step says whether the
-/// line is answered with it, whatever the step finds. Who enters the guest with a
-/// flush asked for has nothing cached behind that step; each other step leaves at
-/// most one more translation (vcpu-requests.rst, KVM_REQ_TLB_FLUSH).
+/// line is answered with it, whatever the step finds; but a slot setting's load of
+/// the last word of the pool's map has note 1, and is its answer exactly where it
+/// finds 0. Who enters the guest with a flush asked for has nothing cached behind
+/// that step; each other step leaves at most one more translation
+/// (vcpu-requests.rst, KVM_REQ_TLB_FLUSH).
 pub fn steps_tell_what_they_are()
     ensures areas { StepsAreOnTheirAreas }
     ensures notes { NotesTellEnds }
@@ -74,10 +92,12 @@ pub fn steps_tell_what_they_are()
 {}
 
 /// What each hand has answered behind a list of steps is what the history tells
-/// of its actor; and where each has answered all its lines, the history answers
-/// the whole trace.
+/// of its actor; the history begins the first lines of each actor, in their order,
+/// and answers them, each once, but for perhaps the last one; and where each hand has
+/// answered all its lines, the history answers the whole trace.
 pub fn every_answer_is_told()
     ensures answers { AnswersAreTold }
+    ensures so_far { StaysWhole }
     ensures whole { EndsWhole }
 {}
 
@@ -147,4 +167,30 @@ pub fn a_line_alone_goes_through()
     ensures begins { LineBeginsAlone }
     ensures ends { LineEndsAlone }
     ensures enough { NoneStarvedAlone }
+{}
+
+/// A line's turns come to an end between its waits and its new beginnings, beside
+/// other actors that stand anywhere in their lines: each step of it that neither
+/// waits nor begins a fault anew leaves it fewer steps, or answers it, and it never
+/// has more left than 8,192, one for each pool page and one for each frame. For
+/// behind a fault that ended with an entry installed, whatever the other actors do,
+/// links lead from the root, and from the table that the line's walk has come to, to
+/// a leaf that allows the access; and where links lead to such a leaf once, they do
+/// so behind every list of steps (tdp_mmu.c, `kvm_tdp_mmu_map`; locking.rst).
+pub fn turns_come_to_an_end()
+    ensures nearer { TurnsComeNearer }
+    ensures bounded { TurnsAreBounded }
+    ensures installed { InstalledEntriesServe }
+    ensures stay { LeavesStay }
+{}
+
+/// A hand counts the steps of its line since it began, or since the end of its last
+/// delay (a step with which it waits or begins a fault anew, or a stay behind an
+/// installed entry that finds no translation which allows the access), and its
+/// delays, of which it counts no more than 2^64 - 1. Behind every list of steps
+/// these steps are at most 8,192, one for each pool page and one for each frame,
+/// and while the line is under way, so they are together with those that it has left.
+pub fn steps_are_bounded()
+    ensures bounded { StepsAreBounded }
+    ensures counted { StepsAreCounted }
 {}

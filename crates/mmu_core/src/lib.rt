@@ -8,6 +8,7 @@ ghost use Rattle.mmu_core.specs.Tasks.{map_of};
 ghost use Rattle.spte_words.specs.Areas.{IsWordMap};
 
 mod access;
+mod delays;
 mod fault;
 mod laws;
 mod outcome;
@@ -19,9 +20,13 @@ mod topics;
 
 pub use access::{access_note, lookup};
 use core_views::Sizes;
-pub use laws::{every_answer_is_told, every_list_of_steps, knows, rests, the_steps_can_be_made};
+pub use laws::{
+    each_delay_has_its_cause, every_answer_is_told, every_list_of_steps, knows, rests,
+    the_steps_can_be_made,
+};
 pub use outcome::{Outcome, Task};
 pub use part_step::{PartStep, allows, may_make, next_watched, part_kind, part_rests};
+pub use set_slot::{setting_place, waits as setting_waits};
 pub use slot_words::page_of;
 use spte_words::WordMap;
 pub use step::{advance, next_kind};

@@ -7,19 +7,19 @@ ghost use Rattle.spte_words.specs.declared.area.Area.TheVariants as Area;
 ghost use Rattle.spte_words.specs.Areas.{IsWordMap, pool_index, size_of};
 ghost use Rattle.mmu_core.specs.PartRests.{MayMake, PartRests};
 ghost use Rattle.core_views.specs.Slots.{contains};
-ghost use Rattle.mmu_core.specs.PartSteps.{IsFresh, IsOver, MayEnter, OwnsTable, PartNeeds, SawEntry, all_but, entry_index, entry_task, fill_task, leaf_written, next_watched, own_index, page_owned, part_kind, part_task, set_held, table_page, word_looked, words_filled, works};
+ghost use Rattle.mmu_core.specs.PartSteps.{IsFresh, IsOver, MayEnter, MayGiveOld, MayPublish, OwnsTable, PartNeeds, SawEntry, all_but, entry_index, entry_task, fill_task, has_line, leaf_written, next_watched, own_index, page_left, page_owned, part_kind, part_task, set_held, table_page, word_looked, words_filled, works};
+ghost use Rattle.mmu_core.specs.SetWords.{set_role};
 ghost use Rattle.mmu_core.specs.SlotWords.{page_of, slot_index};
 ghost use Rattle.spte_words.specs.Entries.{level_span, table_word};
 ghost use Rattle.spte_words.specs.HostWords.{host_frame};
-ghost use Rattle.mmu_core.specs.Steps.{has_line};
 ghost use Rattle.mmu_core.specs.Tasks.{loads, map_of};
 ghost use Rattle.mmu_core.specs.TopicSteps.{tried_bit};
 ghost use Rattle.mmu_core.specs.Worlds.{HandReached};
-ghost use Rattle.mmu_core.specs.declared.part_step.PartStep.TheVariants.{Enter, Leave, Begin, End};
+ghost use Rattle.mmu_core.specs.declared.part_step.PartStep.TheVariants.{Enter, Leave, Begin, End, Clear};
 
 use crate::map_of;
 use crate::outcome::Task;
-use crate::slot_words::{leaf_of, slot_word};
+use crate::slot_words::{SET_ROLE, leaf_of, slot_word};
 use crate::step::kind_of;
 use crate::topics::WRITER;
 use core_views::{
@@ -82,6 +82,12 @@ pub enum PartStep {
     Host(u64),
     /// Loads the state word of the actor at this place.
     Watch(u64),
+    /// Publishes the slot set in the page that it owns.
+    Publish,
+    /// Takes the role from the page of the old slot set.
+    Clear,
+    /// Gives this page back.
+    GiveOld,
 }
 
 // An operation that writes, or works with, this number.
@@ -140,6 +146,33 @@ fn give(map: &WordMap, owned: Option<OwnedPage>, note: u64) -> Task
     let Some(OwnedPage { page, .. }) = owned else {
         unreachable!()
     };
+    let bit = 1 << (page % 64);
+    work(StepKind::Give, Area::PoolMap, page / 64, bit, note)
+}
+
+// Publishes the slot set in the page.
+fn publish(owned: Option<OwnedPage>, note: u64) -> Task
+    requires { is_some owned ≡ true }
+    ensures { result ≡ works StepKind.Publish Area.Slots 0 (page_owned owned) note }
+{
+    let Some(OwnedPage { page, .. }) = owned else {
+        unreachable!()
+    };
+    work(StepKind::Publish, Area::Slots, 0, page, note)
+}
+
+// Takes the role from the page that is leaving, or gives it back.
+fn drop_old(step: PartStep, map: &WordMap, leaving: Option<u64>, note: u64) -> Task
+    requires page { (k : ℕ) → leaving ≡ Some k → k < map.now.pool }
+    requires leaving { is_some leaving ≡ true }
+    ensures clear { step ≡ Clear → result ≡ works StepKind.Fill Area.Role (page_left leaving) 0 note }
+    ensures give { step ≢ Clear → result ≡ works StepKind.Give Area.PoolMap (page_left leaving / 64) (2 ^ (page_left leaving % 64)) note }
+    ensures within { result.index < size_of map.now result.area }
+{
+    let Some(page) = leaving else { unreachable!() };
+    if step == PartStep::Clear {
+        return work(StepKind::Fill, Area::Role, page, 0, note);
+    }
     let bit = 1 << (page % 64);
     work(StepKind::Give, Area::PoolMap, page / 64, bit, note)
 }
@@ -291,6 +324,8 @@ pub(crate) fn task(hand: &Hand, step: PartStep, note: u64) -> Task
         PartStep::Leaf(gfn) => enter(map, &topics.walk, gfn, leaf(topics), note),
         PartStep::Host(page) => Task::load(StepKind::Host, Area::Host, page, note),
         PartStep::Watch(index) => Task::load(StepKind::Watch, Area::State, index, note),
+        PartStep::Publish => publish(topics.owned, note),
+        PartStep::Clear | PartStep::GiveOld => drop_old(step, map, topics.leaving, note),
     }
 }
 
@@ -396,6 +431,40 @@ fn owns_table(topics: &Topics) -> bool
     }
 }
 
+// Whether the page that is owned is filled as a slot set.
+fn owns_set(owned: Option<OwnedPage>) -> bool
+    ensures { result ≡ true → (o : OwnedPage) × (owned ≡ Some o) × (o.filled ≡ 513) × (o.role ≡ set_role) }
+{
+    match owned {
+        Some(owned) => owned.filled == 513 && owned.role == SET_ROLE,
+        None => false,
+    }
+}
+
+// Whether the slot set that is owned may be published.
+fn may_publish(topics: &Topics) -> bool
+    ensures { result ≡ true → MayPublish topics.now }
+{
+    owns_set(topics.owned)
+        && topics.hold == Hold::Exclusive
+        && topics.invalidations.checked == Checked::Count
+        && topics.invalidations.count == 0
+        && topics.leaving.is_none()
+}
+
+// Whether the page of the old slot set may be given back.
+fn may_give_old(hand: &Hand) -> bool
+    requires { PartRests hand.now.core }
+    ensures { result ≡ true → MayGiveOld hand.now.core }
+{
+    let sizes = &hand.state().sizes;
+    let topics = hand.topics();
+    let own = sizes.index_of(hand.state().actor);
+    topics.leaving.is_some()
+        && topics.owned.is_none()
+        && sizes.actors() <= next_watched(own, topics.watched)
+}
+
 // Whether the hand holds what the step needs.
 fn has_needs(hand: &Hand, step: PartStep) -> bool
     requires { PartRests hand.now.core }
@@ -444,6 +513,8 @@ fn has_needs(hand: &Hand, step: PartStep) -> bool
                 && index != own
                 && (index == next_watched(own, 0) || index == next_watched(own, topics.watched))
         }
+        PartStep::Publish => hand.next_line().is_some() && may_publish(topics),
+        PartStep::Clear | PartStep::GiveOld => may_give_old(hand),
         PartStep::Pause | PartStep::Slots | PartStep::Root => true,
         PartStep::Seq | PartStep::Count | PartStep::RangeStart | PartStep::RangeEnd => true,
     }

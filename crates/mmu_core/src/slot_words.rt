@@ -1,11 +1,14 @@
 ghost use Rattle.std.specs.Prelude.{◌≡◌, ◌≤◌, ◌<◌, ◌^◌};
-ghost use Rattle.mmu_core.specs.SlotWords.{field_number, field_word, leaf_of, may_write, page_of, slot_index};
+ghost use Rattle.mmu_core.specs.SlotWords.{field_number, leaf_of, may_write, page_of, slot_index};
+ghost use Rattle.mmu_core.specs.SetWords.{set_value, word_of_slot};
+ghost use Rattle.core_views.specs.Refusals.{after_set};
+ghost use Rattle.core_views.specs.SlotSets.{slot_at};
 ghost use Rattle.core_views.specs.Traces.{IsSlotInRange};
 ghost use Rattle.spte_words.specs.HostWords.{host_frame};
 ghost use Rattle.spte_words.specs.Areas.{IsWordMap, size_of};
 ghost use Rattle.spte_words.specs.declared.area.Area.TheVariants as Area;
 
-use core_views::{Slot, SlotField};
+use core_views::{MemorySlot, Slot, SlotField, SlotSet};
 use spte_words::{HostWord, SlotFlags, Spte, WordMap};
 
 fn field_number(field: SlotField) -> u64
@@ -31,16 +34,50 @@ pub(crate) fn slot_word(map: &WordMap, set: u64, id: u64, field: SlotField) -> u
     map.pool_index(set, 4 * id + field_number(field))
 }
 
-/// What a field's word holds of a live slot.
-pub(crate) fn field_word(field: SlotField, slot: &Slot) -> u64
-    ensures { result ≡ field_word field slot.now }
+/// The role of a slot set's page.
+pub(crate) const SET_ROLE: u64 = 5;
+
+// Word i of a slot in its slot set; 0 where there is none.
+fn word_of_slot(slot: &Option<MemorySlot>, i: u64) -> u64
+    ensures { result ≡ word_of_slot slot.now i }
 {
-    match field {
-        SlotField::Base => slot.base,
-        SlotField::Pages => slot.pages,
-        SlotField::Host => slot.host,
-        SlotField::Flags => SlotFlags::new(true, slot.read_only, false).word(),
+    let Some(MemorySlot { slot, logged }) = slot else {
+        return 0;
+    };
+    match i {
+        0 => slot.base,
+        1 => slot.pages,
+        2 => slot.host,
+        _ => SlotFlags::new(true, slot.read_only, *logged).word(),
     }
+}
+
+// The slot with this ID, behind the setting of a slot.
+#[tactic(auto, using(crate::proofs::SetWords::set_at))]
+fn slot_after(slots: &SlotSet, id: u64, slot: &Slot, here: u64) -> Option<MemorySlot>
+    ensures { result ≡ slot_at here (after_set id slot.now slots.now) }
+{
+    let was = slots.get(here);
+    if here != id {
+        return was;
+    }
+    let logged = was.is_some_and(|was| was.logged);
+    Some(MemorySlot {
+        slot: *slot,
+        logged,
+    })
+}
+
+/// What the page of a slot set is filled with next, where the set has these slots
+/// and this one at the ID: the next of its words, or its role.
+pub(crate) fn set_value(slots: &SlotSet, id: u64, slot: &Slot, filled: u64) -> u64
+    ensures { result ≡ set_value (after_set id slot.now slots.now) filled }
+{
+    if filled == 512 {
+        return SET_ROLE;
+    }
+    let slot = slot_after(slots, id, slot, filled / 4);
+    word_of_slot(&slot, filled % 4)
 }
 
 /// The host page behind a guest frame of the slot.

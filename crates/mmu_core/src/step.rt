@@ -12,6 +12,7 @@ ghost use Rattle.mmu_core.specs.Tasks.{kind_of_task, map_of};
 ghost use Rattle.mmu_core.specs.TopicSteps.{HasRoom, topics_after};
 ghost use Rattle.spte_words.specs.Areas.{size_of, total};
 
+use crate::delays::{delays_behind, is_delay, steps_behind};
 use crate::outcome::{Outcome, Task};
 use crate::topics::step_topics;
 use crate::{access, map_of, set_slot};
@@ -74,7 +75,7 @@ fn task(place: Place, hand: &Hand, line: &Line) -> Task
             access::task(place, hand, *gfn, *word, *op)
         }
         (Place::SetSlot(place), Command::SetSlot { id, slot }) => {
-            set_slot::task(place, &hand.state().sizes, *id, slot)
+            set_slot::task(place, hand, *id, slot)
         }
         _ => unreachable!(),
     }
@@ -153,7 +154,9 @@ fn outcome(place: Place, command: &Command, hand: &Hand, found: u64) -> Outcome
         (Place::Access(place), Command::Access { gfn, op, .. }) => {
             access::outcome(place, hand, *gfn, *op, found)
         }
-        (Place::SetSlot(place), Command::SetSlot { .. }) => set_slot::outcome(place),
+        (Place::SetSlot(place), Command::SetSlot { .. }) => {
+            set_slot::outcome(place, hand, found)
+        }
         _ => Outcome::Goes(place),
     }
 }
@@ -170,12 +173,17 @@ fn advance_line(hand: &mut Hand, line: &Line, place: Place, found: u64)
 {
     let outcome = outcome(place, &line.command, hand, found);
     let leaf = leaf_behind(place, &line.command, hand, found);
+    let delay = is_delay(place, hand.topics(), &outcome, found);
+    let steps = steps_behind(delay, hand);
+    let delays = delays_behind(delay, hand);
     let sizes = hand.state().sizes;
     record_step(place, line, &sizes, hand.slots_mut());
     fill_cache(place, &line.command, hand, found);
     let state = hand.state_mut();
     state.leaf = leaf;
     state.line = *line;
+    state.steps = steps;
+    state.delays = delays;
     match outcome {
         Outcome::Goes(place) => state.place = place,
         Outcome::Ends(answer) => {

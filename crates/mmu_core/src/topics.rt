@@ -5,7 +5,7 @@ ghost use Rattle.core_views.specs.Kinds.{kind_named};
 ghost use Rattle.core_views.specs.Sizes.{AreSizes};
 ghost use Rattle.core_views.specs.declared.place.SlotField.TheVariants.{Flags};
 ghost use Rattle.core_views.specs.declared.kind.StepKind.TheVariants.{Walk, Swap};
-ghost use Rattle.mmu_core.specs.TopicSteps.{HasRoom, at_word, begun, checked_after, claimed, controlled, filled_more, gone_down, index_in_page, let_go, may_search, may_walk, noted, searched, still_owned, swapped, takes_snapshot, topics_after, tried, walked};
+ghost use Rattle.mmu_core.specs.TopicSteps.{HasRoom, at_word, begun, checked_after, claimed, controlled, filled_more, gone_down, index_in_page, let_go, may_search, may_walk, noted, published, searched, still_owned, swapped, takes_snapshot, topics_after, tried, walked};
 
 use crate::map_of;
 use core_views::{
@@ -221,6 +221,17 @@ fn fill(owned: &mut Option<OwnedPage>, found: u64)
     }
 }
 
+// A slot set was published in place of the one in this page.
+fn publish(topics: &mut Topics, page: u64)
+    ensures { topics.new ≡ published topics.old page }
+{
+    topics.search.set = None;
+    topics.search.whole = false;
+    topics.owned = None;
+    topics.leaving = Some(page);
+    topics.watched = 0;
+}
+
 // How far the check has come behind the load of a word of the invalidations.
 fn checked_after(word: u32, hold: Hold, invalidations: &Invalidations) -> Checked
     ensures { result ≡ checked_after word hold invalidations.now }
@@ -354,7 +365,13 @@ pub(crate) fn step_topics(sizes: &Sizes, kind: Kind, topics: &mut Topics, found:
         }
         StepKind::Claim => topics.owned = claim(&mut topics.claim, found),
         StepKind::Fill => fill(&mut topics.owned, found),
-        StepKind::Give => topics.owned = None,
+        StepKind::Give => {
+            if topics.owned.is_none() {
+                topics.leaving = None;
+            }
+            topics.owned = None;
+        }
+        StepKind::Publish => publish(topics, found),
         StepKind::Watch => {
             let inside = found / 2 % 2 == 1;
             topics.watched = kind.word.saturating_sub(8) as u64 + if inside { 0 } else { 1 };

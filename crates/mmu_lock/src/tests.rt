@@ -28,10 +28,7 @@ fn header(alloc: Global) -> Result<Header, NoMemory>
 
 #[tactic(auto, using(step_seats::proofs::Starts::one_is_distinct))]
 fn machine(alloc: Global) -> Result<PlainMachine, NoMemory> {
-    let trace = Trace {
-        header: header(alloc)?,
-        lines: Lines::from_vec(Vec::new(alloc)),
-    };
+    let trace = Trace::unscheduled(alloc, header(alloc)?, Lines::from_vec(Vec::new(alloc)));
     PlainMachine::new(alloc, &trace)
 }
 

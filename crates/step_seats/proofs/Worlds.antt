@@ -161,3 +161,7 @@ other_rooms_same hands behind i h is = ap (λ (hs : List Handful). other_rooms h
 
 pub frame_same : (name : ℕ) (before behind : Machine) (i : ℕ) (h : Handful) → behind.sizes ≡ before.sizes → behind.hands ≡ slice_set before.hands i h → frame_of name behind i ≡ frame_of name before i
 frame_same name before behind i h sizes hands = λ t. record { borrowed = name; sizes = sizes t; rooms = other_rooms_same before.hands behind.hands i h hands t }
+
+-- the invariant, of the machine as it is seen
+pub machine_reached : (z : Sizes) (words : List ℕ) (hands : List Handful) (m : Machine) → IsMachine z words hands → machine_of z words hands ≡ m → IsMachine m.sizes m.words m.hands
+machine_reached z words hands m machine view = subst (λ (x : Machine). IsMachine x.sizes x.words x.hands) view machine

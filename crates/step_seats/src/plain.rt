@@ -6,7 +6,7 @@ ghost use Rattle.mmu_core.specs.Enabled.{Enabled, mmu};
 ghost use Rattle.mmu_core.specs.Machine.{May, answered, effect};
 ghost use Rattle.mmu_core.specs.Steps.{next};
 ghost use Rattle.mmu_core.specs.Worlds.{HandReached, IsStart, Possible};
-ghost use Rattle.step_seats.specs.Machines.{world_in};
+ghost use Rattle.step_seats.specs.Machines.{IsMachine, world_in};
 ghost use Rattle.step_seats.specs.Moves.{KeepsRoom, handful_in, step_by};
 ghost use Rattle.step_seats.specs.PartTurns.{HasHand};
 
@@ -77,8 +77,8 @@ impl PlainMachine {
         answer
     }
 
-    // The hand of the actor at this place.
-    pub(crate) fn hand(&self, index: usize) -> &Hand
+    /// The hand of the actor at this place.
+    pub fn hand(&self, index: usize) -> &Hand
         requires there { index < length self.now.hands }
         ensures hand { result.now ≡ handful_in self.now.hands index }
         ensures reached { ∥ HandReached (handful_in self.now.hands index).core ∥₁ }
@@ -115,9 +115,11 @@ impl PlainMachine {
         }
     }
 
-    /// The sizes of the machine.
+    /// The sizes of the machine. Some list of steps leads from a start of these
+    /// sizes to its words and hands.
     pub fn sizes(&self) -> Sizes
         ensures is { result ≡ self.now.sizes }
+        ensures reached { IsMachine self.now.sizes self.now.words self.now.hands }
         ensures sizes { AreSizes self.now.sizes }
         ensures count { length self.now.hands ≡ actors_of self.now.sizes }
     {

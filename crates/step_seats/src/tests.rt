@@ -81,10 +81,11 @@ fn trace(alloc: Global, line: Line) -> Result<Trace, NoMemory>
     ensures trace { IfOk result (λ t. IsTrace t) }
     ensures vcpus { IfOk result (λ t. 0 < t.header.vcpus) }
 {
-    Ok(Trace {
-        header: header(alloc)?,
-        lines: Lines::from_vec(vec![in alloc; line]?),
-    })
+    Ok(Trace::unscheduled(
+        alloc,
+        header(alloc)?,
+        Lines::from_vec(vec![in alloc; line]?),
+    ))
 }
 
 // An access of a guest frame that no slot has: it enters the guest, finds no entry

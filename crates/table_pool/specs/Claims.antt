@@ -13,7 +13,7 @@ use Rattle.mmu_core.specs.declared.part_step.PartStep.TheVariants as part
 use Rattle.mmu_core.specs.Enabled.{mmu}
 use Rattle.mmu_core.specs.Machine.{World, hand_in}
 use Rattle.mmu_core.specs.PartTopics.{part_topics}
-use Rattle.mmu_core.specs.PoolPart.{is_free, is_owned}
+use Rattle.mmu_core.specs.PoolPart.{is_free, is_leaving, is_owned}
 use Rattle.mmu_core.specs.Tasks.{map_of}
 use Rattle.mmu_core.specs.TopicSteps.{tried_bit}
 use Rattle.mmu_core.specs.View.{word_in}
@@ -92,7 +92,7 @@ abbrev pub IsFreePage : Sizes → ℕ → World Held → Type 0
 IsFreePage z page w = is_free (word_in z w area.PoolMap) page ≡ true
 
 -- The page is the claimer's alone: it is a page of the pool, no other actor owns it, its bit in the map is clear, and it is neither the
--- root nor the published slot set.
+-- root nor the published slot set, nor an old slot set that is leaving.
 pub record IsClaimersAlone (z : Sizes) (actor page : ℕ) (w : World Held) : Type 0 where
   pub there : page < z.pool
   pub owned : is_owned (hand_in mmu w actor).topics.owned page ≡ true
@@ -100,6 +100,7 @@ pub record IsClaimersAlone (z : Sizes) (actor page : ℕ) (w : World Held) : Typ
   pub not_free : is_free (word_in z w area.PoolMap) page ≡ false
   pub not_root : word_in z w area.Root 0 ≢ page
   pub not_slots : word_in z w area.Slots 0 ≢ page
+  pub not_leaving : (i : ℕ) → i < length w.hands → is_leaving (hand_in mmu w i).topics.leaving page ≡ false
 
 -- Where the claim saw free pages, what it saw is what stands in the map.
 abbrev pub SawStands : Sizes → MapClaim → World Held → Type 0

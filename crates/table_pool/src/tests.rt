@@ -55,10 +55,7 @@ fn header(alloc: Global) -> Result<Header, NoMemory>
 // The machine, whose actors have no line.
 #[tactic(auto, using(step_seats::proofs::Starts::one_is_distinct))]
 fn start(alloc: Global) -> Result<PlainMachine, NoMemory> {
-    let trace = Trace {
-        header: header(alloc)?,
-        lines: Lines::from_vec(Vec::new(alloc)),
-    };
+    let trace = Trace::unscheduled(alloc, header(alloc)?, Lines::from_vec(Vec::new(alloc)));
     PlainMachine::new(alloc, &trace)
 }
 

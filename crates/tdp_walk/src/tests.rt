@@ -32,10 +32,7 @@ fn trace(alloc: Global) -> Result<Trace, NoMemory>
     ensures trace { IfOk result IsTrace }
     ensures vcpus { IfOk result (λ t. t.header.vcpus ≡ 2) }
 {
-    Ok(Trace {
-        header: header(alloc)?,
-        lines: Lines::from_vec(Vec::new(alloc)),
-    })
+    Ok(Trace::unscheduled(alloc, header(alloc)?, Lines::from_vec(Vec::new(alloc))))
 }
 
 // The root of a machine at its start is pool page 0, and none of its entries is

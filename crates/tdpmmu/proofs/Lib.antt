@@ -1,8 +1,2 @@
-pub mod Writes
 pub mod Runs
-pub mod Fed
-pub mod Settings
-pub mod PartRuns
-pub mod FileOrder
-pub mod Replaying
-pub mod Outputs
+pub mod Woven

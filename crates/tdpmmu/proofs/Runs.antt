@@ -39,7 +39,7 @@ trace_runs asked command a input trace NoMemory is read (bytes, output, writes) 
 trace_runs asked command a input trace Usage is read writes = absurd writes
 trace_runs asked command a input trace (Refused line reason) is read writes = absurd writes
 trace_runs asked command a input trace ReadFault is read writes = absurd writes
-trace_runs asked command a input trace (Unfinished actor line) is read writes = absurd writes
+trace_runs asked command a input trace (Unfinished actor line) is read (bytes, output, writes) = (command, is, input, trace, read, bytes, output, writes)
 
 pub refused_runs : (asked : Option Command) (command : Command) (a : Around) (input : List ℕ) (line : ℕ) (reason : Reason) (status : Status) → asked ≡ Some command
     → IsRefusalOf a.left a.left_after a.ended input line reason → WritesRefusal line reason a.written a.written_after status → RunsTo asked a status
@@ -67,7 +67,7 @@ prints asked command input trace before after NoMemory is says (bytes, output, w
 prints asked command input trace before after Usage is says writes = absurd writes
 prints asked command input trace before after (Refused line reason) is says writes = absurd writes
 prints asked command input trace before after ReadFault is says writes = absurd writes
-prints asked command input trace before after (Unfinished actor line) is says writes = absurd writes
+prints asked command input trace before after (Unfinished actor line) is says (bytes, output, writes) = (command, is, trace, says, bytes, output, writes)
 
 pub trace_prints : (asked : Option Command) (command : Command) (left : Option (List ℕ)) (trace : Trace) (before after : Option (List ℕ)) (status : Status) → asked ≡ Some command
     → IfSome left (λ input. reading (take 16777217 input) ≡ Ok trace) → WritesOutput command trace before after status → IfSome left (λ input. Prints asked (take 16777217 input) before after status)

@@ -1,7 +1,9 @@
 -- What a run of the program does, by its status.
-use Rattle.std.specs.Prelude.{◌≡◌, ◌≤◌, ◌⊎◌, ℕ, List, [], ◌∷◌, length, codes, Bool, true, if◌then◌else◌, Option, Some, None, Result, Ok, Err}
+use Rattle.std.specs.Prelude.{◌≡◌, ◌≤◌, ◌⊎◌, ℕ, List, [], ◌∷◌, ◌++◌, length, codes, Bool, true, if◌then◌else◌, Option, Some, None, Result, Ok, Err}
 use Rattle.std.specs.Str.{bytes_eq}
 use Rattle.std.specs.Io.KnownBytes.{Appends, Consumes, IsAtEnd}
+use Rattle.core_views.specs.declared.actor.Actor.{Actor}
+use Rattle.core_views.specs.declared.trace.Line.{Line}
 use Rattle.core_views.specs.declared.trace.Trace.{Trace}
 use Rattle.core_views.specs.Held.{Held}
 use Rattle.core_views.specs.Need.{need}
@@ -10,9 +12,11 @@ use Rattle.tdp_io.specs.Ends.{AppendsPrefix, Rose}
 use Rattle.trace_reader.specs.declared.reason.Reason.{Reason}
 use Rattle.trace_reader.specs.Reading.{reading, IsTraceOf, IsRefusalOf}
 use Rattle.tdpmmu.specs.Output.{check_text, refusal_text, usage_text}
-use Rattle.tdpmmu.specs.Replays.{Replays, ReplaysFirst}
+use Rattle.weave_engine.specs.Replays.{Replays, ReplaysFirst}
+use Rattle.weave_engine.specs.Weaves.{WeavesAll, WeavesPart, unfinished_text}
+use Rattle.weave_engine.specs.Woven.{IsTextSoFar}
 use Rattle.tdpmmu.specs.declared.command.Command.{Command}
-use Rattle.tdpmmu.specs.declared.command.Command.TheVariants.{Check, Replay}
+use Rattle.tdpmmu.specs.declared.command.Command.TheVariants.{Check, Replay, Weave}
 use Rattle.tdpmmu.specs.declared.status.Status.{Status}
 use Rattle.tdpmmu.specs.declared.status.Status.TheVariants.{Done, Usage, Refused, ReadFault, WriteFault, Unfinished, NoMemory}
 
@@ -21,22 +25,35 @@ abbrev pub command_named : List ℕ → Option Command
 command_named word =
     if bytes_eq word (codes "check") then Some Check else
     if bytes_eq word (codes "replay") then Some Replay else
+    if bytes_eq word (codes "weave") then Some Weave else
     None
 
 abbrev pub command_of : List (List ℕ) → Option Command
 command_of (name ∷ word ∷ []) = command_named word
 command_of _ = None
 
--- The whole output of a command on a trace: how long it is and what it needs, or what a replay of all its lines prints, which is the
--- text of its flat history where the pool has as many pages as it needs.
+-- the most turns in rounds that a weave makes
+abbrev pub rounds_limit : ℕ
+rounds_limit = 10000000
+
+-- The whole output of a command on a trace: how long it is and what it needs; what a replay of all its lines prints, which is the
+-- text of its flat history where the pool has as many pages as it needs; or what a weave prints that answers all of them.
 abbrev pub IsOutput : Command → Trace → List ℕ → Type 0
 IsOutput Check trace bytes = bytes ≡ check_text (length trace.lines) (need trace.header trace.lines)
 IsOutput Replay trace bytes = (closing : World Held) × Replays trace trace.lines bytes closing
+IsOutput Weave trace bytes = (closing : World Held) × WeavesAll trace rounds_limit bytes closing
+
+-- The output of a weave that ran out of turns in rounds: what it printed, and the first line of the file that has no answer.
+abbrev pub IsUnfinished : Command → Trace → Actor → ℕ → List ℕ → Type 0
+IsUnfinished Weave trace actor number text =
+    (closing : World Held) × (bytes : List ℕ) × (line : Line) × WeavesPart trace rounds_limit bytes closing line × (line.actor ≡ actor) × (line.number ≡ number) × (text ≡ bytes ++ unfinished_text line)
+IsUnfinished _ trace actor number text = ⊥
 
 -- The output of a command that may have come to only some of the trace's lines.
 abbrev pub IsOutputSoFar : Command → Trace → List ℕ → Type 0
 IsOutputSoFar Check trace bytes = IsOutput Check trace bytes
 IsOutputSoFar Replay trace bytes = ReplaysFirst trace bytes
+IsOutputSoFar Weave trace bytes = (closing : World Held) × IsTextSoFar trace rounds_limit closing bytes
 
 -- the output, so far, of a command for what an input says
 abbrev pub IsOutputOf : Command → Result Trace (ℕ × Reason) → List ℕ → Type 0
@@ -83,7 +100,7 @@ RunsTo asked a (Refused line reason) = (command : Command) × (asked ≡ Some co
 RunsTo asked a ReadFault = (command : Command) × (asked ≡ Some command) × (input : List ℕ) × Consumes a.left a.left_after input × (length input ≤ 16777216) × (a.written_after ≡ a.written)
 RunsTo asked a WriteFault = (input : List ℕ) × WasRead asked a input × WritesPart asked input a.written a.written_after
 RunsTo asked a NoMemory = StopsReading a ⊎ ((input : List ℕ) × WasRead asked a input × WritesPart asked input a.written a.written_after)
-RunsTo asked a (Unfinished actor line) = ⊥
+RunsTo asked a (Unfinished actor line) = (command : Command) × (asked ≡ Some command) × (input : List ℕ) × (trace : Trace) × IsTraceOf a.left a.left_after a.ended input trace × (bytes : List ℕ) × IsUnfinished command trace actor line bytes × Appends a.written a.written_after bytes
 
 -- The same where the source tells that it had this input left, of which no more than 16777217 bytes are looked at.
 abbrev pub Prints : Option Command → List ℕ → Option (List ℕ) → Option (List ℕ) → Status → Type 0
@@ -93,7 +110,7 @@ Prints asked input before after (Refused line reason) = (command : Command) × (
 Prints asked input before after ReadFault = (command : Command) × (asked ≡ Some command) × (after ≡ before)
 Prints asked input before after WriteFault = WritesPart asked input before after
 Prints asked input before after NoMemory = (after ≡ before) ⊎ WritesPart asked input before after
-Prints asked input before after (Unfinished actor line) = ⊥
+Prints asked input before after (Unfinished actor line) = (command : Command) × (asked ≡ Some command) × (trace : Trace) × (reading input ≡ Ok trace) × (bytes : List ℕ) × IsUnfinished command trace actor line bytes × Appends before after bytes
 
 -- The count of failed reads rose where the status says that reading failed, and stayed at any other status.
 abbrev pub ReadCause : ℕ → ℕ → Status → Type 0

@@ -1,29 +1,18 @@
 -- What the program's own steps promise each other.
-use Rattle.std.specs.Prelude.{◌≡◌, ℕ, List, ◌++◌, Option, Result, Ok, Err, take}
+use Rattle.std.specs.Prelude.{◌≡◌, ℕ, List, Option, Result, Ok, Err}
 use Rattle.std.specs.Io.KnownBytes.{Appends}
-use Rattle.core_views.specs.declared.hand.Closing.{Closing}
-use Rattle.core_views.specs.declared.sizes.Sizes.{Sizes}
-use Rattle.core_views.specs.declared.trace.Line.{Line}
 use Rattle.core_views.specs.declared.trace.Trace.{Trace}
-use Rattle.core_views.specs.Held.{Held}
-use Rattle.core_views.specs.Text.{text}
-use Rattle.mmu_core.specs.Machine.{World}
-use Rattle.mmu_core.specs.Worlds.{history}
-use Rattle.step_seats.specs.Moves.{world_of}
 use Rattle.tdp_io.specs.Ends.{AppendsPrefix}
 use Rattle.tdp_io.specs.declared.sink.Stop.{Stop}
+use Rattle.tdp_io.specs.declared.sink.Stop.TheVariants.{Failed, NoMemory as Full}
 use Rattle.trace_reader.specs.declared.reason.Reason.{Reason}
 use Rattle.tdpmmu.specs.Output.{refusal_text, usage_text}
-use Rattle.tdpmmu.specs.Replays.{Replays, ReplaysFirst, RunsLines}
-use Rattle.tdpmmu.specs.Run.{IsOutput, IsOutputSoFar}
+use Rattle.tdpmmu.specs.Run.{IsOutput, IsOutputSoFar, IsUnfinished}
 use Rattle.tdpmmu.specs.declared.command.Command.{Command}
 use Rattle.tdpmmu.specs.declared.status.Status.{Status}
-use Rattle.tdpmmu.specs.declared.status.Status.TheVariants.{Done, Usage, Refused, WriteFault, NoMemory}
-
--- A text was put: what was written by it, and what waits behind it, are what waited before and the text. Where the writing stopped, a prefix of these was written.
-abbrev pub Buffers : Option (List ℕ) → Option (List ℕ) → List ℕ → List ℕ → Result (Unit {0}) Stop → List ℕ → Type 0
-Buffers before after waited waits (Ok u) text = (written : List ℕ) × Appends before after written × (written ++ waits ≡ waited ++ text)
-Buffers before after waited waits (Err e) text = AppendsPrefix before after (waited ++ text)
+use Rattle.tdpmmu.specs.declared.status.Status.TheVariants.{Done, Usage, Refused, WriteFault, Unfinished, NoMemory}
+use Rattle.weave_engine.specs.declared.weaving.How.{How}
+use Rattle.weave_engine.specs.declared.weaving.How.TheVariants as how
 
 -- The writing of a text stopped: a prefix of it was written, and the status says why.
 abbrev pub StopsAt : List ℕ → Option (List ℕ) → Option (List ℕ) → Status → Type 0
@@ -44,16 +33,17 @@ abbrev pub WritesOutput : Command → Trace → Option (List ℕ) → Option (Li
 WritesOutput command trace before after Done = (bytes : List ℕ) × IsOutput command trace bytes × Appends before after bytes
 WritesOutput command trace before after WriteFault = (bytes : List ℕ) × IsOutputSoFar command trace bytes × AppendsPrefix before after bytes
 WritesOutput command trace before after NoMemory = (bytes : List ℕ) × IsOutputSoFar command trace bytes × AppendsPrefix before after bytes
+WritesOutput command trace before after (Unfinished actor line) = (bytes : List ℕ) × IsUnfinished command trace actor line bytes × Appends before after bytes
 WritesOutput command trace before after _ = ⊥
 
--- What a replay of all lines prints was written; or, where it stopped, a prefix of what a replay of the first of them prints.
-abbrev pub WritesReplay : Trace → Option (List ℕ) → Option (List ℕ) → Result Closing Stop → Type 0
-WritesReplay trace before after (Ok closing) = (bytes : List ℕ) × Replays trace trace.lines bytes (world_of closing.words closing.hands) × Appends before after bytes
-WritesReplay trace before after (Err stop) = (bytes : List ℕ) × ReplaysFirst trace bytes × AppendsPrefix before after bytes
+-- the status of a command that does all its work or stops
+abbrev pub status_ended : {A : Type 0} → Result A Stop → Status
+status_ended {A} (Ok x) = Done
+status_ended {A} (Err Failed) = WriteFault
+status_ended {A} (Err Full) = NoMemory
 
--- The lines ran one after another, each alone, from this world to that one, and what they are answered was put behind what waited to be
--- written; or the first of them ran so, and a prefix of these bytes was written.
-abbrev pub RunsAndPuts : Sizes → World Held → List Line → World Held → Option (List ℕ) → Option (List ℕ) → List ℕ → List ℕ → Result (Unit {0}) Stop → Type 0
-RunsAndPuts z start lines end_ before after waited waits (Ok u) = (r : RunsLines z start lines end_) × Buffers before after waited waits (Ok u) (text (history start r.steps))
-RunsAndPuts z start lines end_ before after waited waits (Err stop) =
-    (count : ℕ) × (closing : World Held) × (r : RunsLines z start (take count lines) closing) × AppendsPrefix before after (waited ++ text (history start r.steps))
+-- the status of a weave, by how it ended
+abbrev pub status_by : How → Status
+status_by how.Done = Done
+status_by how.WriteFault = WriteFault
+status_by (how.Unfinished actor line) = Unfinished actor line

@@ -6,4 +6,8 @@ pub enum Command {
     Check,
     /// Run each line alone, in file order, and print what it is answered.
     Replay,
+    /// Run the lines above `go` alone, in file order, then all others a step a turn,
+    /// in the order of the schedule and then in rounds, and print what they are
+    /// answered, in the order of the answers.
+    Weave,
 }

@@ -3,10 +3,7 @@
 #![tactic(auto)]
 
 mod command;
-mod job;
 mod program;
-mod replay;
-mod run_on;
 mod status;
 
 use core_views::NoMemory;
@@ -39,7 +36,11 @@ fn main(rt: HostRuntime) -> ExitCode {
 }
 
 #[cfg(test)]
+mod limits;
+#[cfg(test)]
 mod plain_tests;
+#[cfg(test)]
+mod schedules;
 #[cfg(test)]
 mod small_pools;
 #[cfg(test)]

@@ -4,10 +4,10 @@ ghost use Rattle.core_views.specs.Traces.{IsTrace};
 ghost use Rattle.tdpmmu.specs.Output.{check_text, refusal_text};
 ghost use Rattle.tdp_io.specs.Ends.{Wrote, WroteFaults};
 ghost use Rattle.tdpmmu.specs.Run.{command_named as named, command_of, Prints, ReadCause, RunsTo, WriteCause};
-ghost use Rattle.tdpmmu.specs.Steps.{WritesOutput, WritesRefusal, WritesUsage};
+ghost use Rattle.tdpmmu.specs.declared.command.Command.TheVariants.{Weave};
+ghost use Rattle.tdpmmu.specs.Steps.{WritesOutput, WritesRefusal, WritesUsage, status_by, status_ended};
 
 use crate::command::Command;
-use crate::replay::replay;
 use crate::status::Status;
 use core_views::{NoMemory, Trace};
 use std::alloc::{AllocError, Global};
@@ -15,6 +15,10 @@ use std::sync::Wait;
 use std::thread::Threads;
 use tdp_io::{Gate, Sink, Source, Stop, write_all};
 use trace_reader::{Read, Reason, need, read_trace};
+use weave_engine::{How, replay, weave};
+
+/// The most turns in rounds that a weave makes.
+const ROUNDS: u64 = 10_000_000;
 
 const USAGE: &str = "usage: tdpmmu check | replay | weave | live | gen N\n";
 
@@ -64,6 +68,8 @@ fn command_named(word: &str) -> Option<Command>
         Some(Command::Check)
     } else if word == "replay" {
         Some(Command::Replay)
+    } else if word == "weave" {
+        Some(Command::Weave)
     } else {
         None
     }
@@ -96,23 +102,50 @@ fn refuse<K: Sink>(alloc: Global, line: u32, reason: Reason, out: &mut K) -> Sta
     }
 }
 
+// How a weave ended, as a status.
+fn status_of(how: How) -> Status
+    ensures { result ≡ status_by how }
+{
+    match how {
+        How::Done => Status::Done,
+        How::WriteFault => Status::WriteFault,
+        How::Unfinished { actor, line } => Status::Unfinished { actor, line },
+    }
+}
+
+// Runs the trace in the order of its schedule, and then in rounds.
+fn weave_trace<K: Sink>(alloc: Global, trace: &Trace, out: &mut K) -> Status
+    requires { IsTrace trace.now }
+    ensures written { WritesOutput Weave trace.now (K.written out.old) (K.written out.new) result }
+    ensures write { WriteCause (K.faults out.old) (K.faults out.new) result }
+{
+    match weave(alloc, trace, ROUNDS, out) {
+        Ok(ran) => status_of(ran.how),
+        Err(NoMemory) => Status::NoMemory,
+    }
+}
+
+// How a command ended that does all its work or stops.
+fn ended<T: Drop>(written: Result<T, Stop>) -> Status
+    ensures { result ≡ status_ended written }
+{
+    match written {
+        Ok(_) => Status::Done,
+        Err(Stop::Failed) => Status::WriteFault,
+        Err(Stop::NoMemory) => Status::NoMemory,
+    }
+}
+
 // The input is this trace.
 fn run_trace<K: Sink>(alloc: Global, command: Command, trace: &Trace, out: &mut K) -> Status
     requires { IsTrace trace.now }
     ensures written { WritesOutput command trace.now (K.written out.old) (K.written out.new) result }
     ensures write { WriteCause (K.faults out.old) (K.faults out.new) result }
 {
-    let written = match command {
-        Command::Check => check(alloc, trace, out),
-        Command::Replay => match replay(alloc, trace, out) {
-            Ok(_closing) => Ok(()),
-            Err(stop) => Err(stop),
-        },
-    };
-    match written {
-        Ok(()) => Status::Done,
-        Err(Stop::Failed) => Status::WriteFault,
-        Err(Stop::NoMemory) => Status::NoMemory,
+    match command {
+        Command::Check => ended(check(alloc, trace, out)),
+        Command::Replay => ended(replay(alloc, trace, out)),
+        Command::Weave => weave_trace(alloc, trace, out),
     }
 }
 
@@ -141,8 +174,8 @@ fn run_command<S: Source, K: Sink>(
 
 /// The whole program: runs the command that `words` name, the program's name
 /// first, on the trace that `src` has left, and writes to `out` all that there
-/// is to say. Today the commands are `check` and `replay`; any other words are
-/// answered by the usage line. `rt` and `gate` are for commands that start threads.
+/// is to say. Today the commands are `check`, `replay` and `weave`; any other words
+/// are answered by the usage line. `rt` and `gate` are for commands that start threads.
 ///
 /// The status says how it went, and each has its cause: `ReadFault` and
 /// `WriteFault` come only where the count of faults of `src` or `out` rose.

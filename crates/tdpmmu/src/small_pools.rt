@@ -121,12 +121,13 @@ const CASES: [(u64, &str, &str, &str, &str); 15] = [
         "2 vm done\n3 vm done\n4 v0 mmio\n5 v0 mmio\n6 v0 mmio\n7 v1 frame 512 value 0\n8 v0 starved\n9 v0 mmio\n10 v1 frame 512 value 5\n11 v0 frame 512 value 6\n",
         "ok 10 need 8\n",
     ),
-    // A slot line takes no page.
+    // A slot line fills a page with the new set: where none is free it is starved, and
+    // the slots are as they were. A refusal needs no page.
     (
         4,
         SMALL,
-        "v0 read 0x0\nvm slot 1 16 1 64\nvm slot 2 16 1 128\nvm slot 40 17 1 128\nv0 read 0x10000\nv1 read 0x11000\n",
-        "2 vm done\n3 v0 starved\n4 vm done\n5 vm refused overlap\n6 vm refused bad-id\n7 v0 starved\n8 v1 mmio\n",
+        "v0 read 0x0\nvm slot 1 16 1 64\nvm slot 2 15 2 128\nvm slot 40 17 1 128\nv0 read 0x10000\nv1 read 0x11000\n",
+        "2 vm done\n3 v0 starved\n4 vm starved\n5 vm refused overlap\n6 vm refused bad-id\n7 v0 mmio\n8 v1 mmio\n",
         "ok 7 need 7\n",
     ),
     // A starved write stores nothing.

@@ -241,7 +241,7 @@ fn tells_its_usage(rt: HostRuntime) -> Result<(), Fail> {
         &["tdpmmu"],
         &["replay"],
         &["tdpmmu", "replay", "replay"],
-        &["tdpmmu", "weave"],
+        &["tdpmmu", "live"],
         &["tdpmmu", "gen", "1"],
     ] {
         let (status, out) = run_on(&rt, rt.alloc(), command, H, ONE_WRITE, &[], &[])?;

@@ -1,15 +1,14 @@
 -- The first line of an input, and what was read of a source.
-use Rattle.std.proofs.Common.{◌≡◌, ◌≤◌, ◌+◌, ℕ, List, [], ◌∷◌, Result, Ok, Err, Bool, true, false, length, cond, refl, ap, ◌++◌, ◌⊎◌, inl, inr, take, arith}
+use Rattle.std.proofs.Common.{◌≡◌, ◌≤◌, ◌+◌, ℕ, List, [], ◌∷◌, Result, Ok, Err, Bool, true, false, length, cond, refl, ◌++◌, ◌⊎◌, inl, inr, take, arith}
 use Rattle.std.proofs.lemmas.List.{take_at, take_all, append-nil}
 use Rattle.std.specs.Prelude.{IfSome}
 use Rattle.std.specs.Io.KnownBytes.{Consumes, IsAtEnd}
 use Rattle.std.specs.declared.option.Option.{Option}
 use Rattle.std.specs.declared.option.Option.TheVariants.{Some, None}
 use Rattle.core_views.specs.declared.trace.Header.{Header}
-use Rattle.core_views.specs.declared.trace.Line.{Line}
 use Rattle.core_views.specs.declared.trace.Trace.{Trace}
 use Rattle.trace_reader.specs.declared.reason.Reason.{Reason}
-use Rattle.trace_reader.specs.Lines.{lines_of, none_seen, parts_of}
+use Rattle.trace_reader.specs.Lines.{Told, lines_of, none_seen, parts_of}
 use Rattle.trace_reader.specs.Reading.{under, with_header, head_of, reading, reading_of}
 use Rattle.trace_reader.specs.Steps.{Fails, Tells}
 use Rattle.trace_reader.specs.declared.refusal.ReadError.{ReadError}
@@ -28,16 +27,16 @@ begun size bytes text after false e last is =
     let all : size ≡ length text = omega arith in
     rw (e, z, all) refl
 
-pub bad_head : (e : ReadError) (total : Result Trace (ℕ × Reason)) (head : Result Header Reason) (rest : Header → Result (List Line) (ℕ × Reason)) → total ≡ under head rest → Fails 1 e head → Tells {X = Trace} (λ t. t) (Err e) total
+pub bad_head : (e : ReadError) (total : Result Trace (ℕ × Reason)) (head : Result Header Reason) (rest : Header → Result (List Told) (ℕ × Reason)) → total ≡ under head rest → Fails 1 e head → Tells {X = Trace} (λ t. t) (Err e) total
 bad_head errors.NoMemory total head rest u fails = tt
 bad_head (errors.Refused line r) total head rest u fails = rw (u, fails.1, fails.0) refl
 
-pub bad_line : (e : ReadError) (total : Result Trace (ℕ × Reason)) (head : Result Header Reason) (h : Header) (rest : Header → Result (List Line) (ℕ × Reason)) → total ≡ under head rest → head ≡ Ok h → Tells {X = List Line} (λ v. v) (Err e) (rest h) → Tells {X = Trace} (λ t. t) (Err e) total
+pub bad_line : (e : ReadError) (total : Result Trace (ℕ × Reason)) (head : Result Header Reason) (h : Header) (rest : Header → Result (List Told) (ℕ × Reason)) → total ≡ under head rest → head ≡ Ok h → Tells {X = Trace} (λ t. t) (Err e) (with_header h (rest h)) → Tells {X = Trace} (λ t. t) (Err e) total
 bad_line errors.NoMemory total head h rest u is fails = tt
-bad_line (errors.Refused line r) total head h rest u is fails = rw (u, is) (ap (with_header h) fails)
+bad_line (errors.Refused line r) total head h rest u is fails = rw (u, is) fails
 
-pub all_read : (ls : List Line) (total : Result Trace (ℕ × Reason)) (head : Result Header Reason) (h : Header) (rest : Header → Result (List Line) (ℕ × Reason)) → total ≡ under head rest → head ≡ Ok h → rest h ≡ Ok ls → total ≡ Ok (record { header = h; lines = ls })
-all_read ls total head h rest u is more = rw (u, is) (ap (with_header h) more)
+pub all_read : (t : Trace) (total : Result Trace (ℕ × Reason)) (head : Result Header Reason) (h : Header) (rest : Header → Result (List Told) (ℕ × Reason)) → total ≡ under head rest → head ≡ Ok h → with_header h (rest h) ≡ Ok t → total ≡ Ok t
+all_read t total head h rest u is more = rw (u, is) more
 
 -- What was read is what is looked at of the input.
 front : (xs ys bytes : List ℕ) → xs ≡ bytes ++ ys → length bytes ≤ 16777217 → (length bytes ≡ 16777217) ⊎ (ys ≡ []) → take 16777217 xs ≡ bytes

@@ -1,5 +1,5 @@
 -- The words of a line, and its bytes.
-use Rattle.std.proofs.Common.{◌≡◌, ◌≤◌, ◌<◌, ◌^◌, inl, inr, ℕ, List, [], ◌∷◌, Bool, true, false, All, length, refl, sym, ap, ◌∙◌, arith, ◌==◌, not, Ok}
+use Rattle.std.proofs.Common.{◌≡◌, ◌≤◌, ◌<◌, ◌^◌, inl, inr, ℕ, List, [], ◌∷◌, Bool, true, false, All, length, refl, sym, ap, subst, ◌∙◌, arith, ◌==◌, ◌&&◌, nat_lt, not, Ok}
 use Rattle.std.specs.Prelude.{codes}
 use Rattle.std.specs.List.{list_all, list_any}
 use Rattle.std.specs.Fmt.{decimal}
@@ -7,6 +7,7 @@ use Rattle.std.proofs.lemmas.Bool.Decides.{nat_tests}
 use Rattle.std.proofs.lemmas.Fmt.{digits_decimal, decimal_nonempty}
 use Rattle.std.proofs.lemmas.List.Elements.{All-nil, All-cons}
 use Rattle.std.proofs.lemmas.List.Splits.{slice_split_none, slice_split_at, join_with_byte-slice_split}
+use Rattle.core_views.specs.Text.{actor_name}
 use Rattle.core_views.specs.Traces.{IsHeader, IsCommandOf}
 use Rattle.core_views.specs.declared.actor.Actor.{Actor}
 use Rattle.core_views.specs.declared.actor.Actor.TheVariants.{Vcpu, Host, Manager, Worker}
@@ -14,12 +15,18 @@ use Rattle.core_views.specs.declared.trace.Command.{Command}
 use Rattle.core_views.specs.declared.trace.Command.TheVariants.{Access, SetSlot}
 use Rattle.core_views.specs.declared.trace.Op.TheVariants.{Read, Write, Add}
 use Rattle.core_views.specs.declared.trace.Header.{Header}
+use Rattle.core_views.specs.declared.trace.Until.{Until}
+use Rattle.core_views.specs.declared.trace.Until.TheVariants.{Turns, Answered, Made}
+use Rattle.trace_reader.specs.declared.saying.Saying.{Saying}
+use Rattle.trace_reader.specs.declared.saying.Saying.TheVariants.{Does, Go, Schedules}
 use Rattle.trace_reader.specs.Numbers.{is_digit, is_hex_digit}
-use Rattle.trace_reader.specs.Forms.{is_empty, words_of, by_form, by_words, said}
-use Rattle.trace_reader.specs.Grammar.{Spells, spaced, ending, AreWordsOf, SaysLine, IsWord, AreWords, HasForm, IsActor, IsDeclared}
+use Rattle.trace_reader.specs.Forms.{is_empty, words_of}
+use Rattle.trace_reader.specs.Sayings.{IsSayingOf, Seen, by_first, by_words, said}
+use Rattle.trace_reader.specs.Grammar.{Spells, spaced, ending, AreCommandWords, AreWordsOf, SaysLine, SaysUntil, IsWord, AreWords, HasForm, IsActor, IsDeclared}
+use Rattle.trace_reader.proofs.Items.{has_declared, kind_passes, kind_read}
 use Rattle.trace_reader.proofs.Results.{branch, both}
 use Rattle.trace_reader.proofs.Spelled.{own}
-use Rattle.trace_reader.proofs.Said.{reads, only, small_words}
+use Rattle.trace_reader.proofs.Words.{WordsJudged, command_first, command_form, words_judged, words_read}
 
 no_space : (b : ℕ) → not (b == 32) ≡ true → (b == 32) ≡ false
 no_space b e = grind (arith, nat_tests)
@@ -66,42 +73,38 @@ pub spelled_word : (w : List ℕ) (n : ℕ) → Spells w n → IsWord w
 spelled_word w n (lt, inl e) = rw e (decimal_word n lt)
 spelled_word w n (lt, inr (ds, e, low, high, all, v)) = rw e (hex_word ds all)
 
-name_word : (i : ℕ) → i < 16 → IsWord (118 ∷ decimal i)
-name_word i lt =
+letter_word : (letter i : ℕ) → not (letter == 32) ≡ true → i < 16 → IsWord (letter ∷ decimal i)
+letter_word letter i other lt =
     let d : 0 < length (decimal i) = decimal_nonempty i (omega arith) in
-    record { filled = omega arith; plain = decimals_plain (decimal i) (digits_decimal own i (omega arith)) }
+    record { filled = omega arith; plain = rw (other, decimals_plain (decimal i) (digits_decimal own i (omega arith))) refl }
 
 pub text_word : (w : List ℕ) → 1 ≤ length w → list_all (λ b. not (b == 32)) w ≡ true → IsWord w
 text_word w a b = record { filled = a; plain = b }
+
+pub actor_word : (a : Actor) → IsActor a → IsWord (actor_name a)
+actor_word (Vcpu i) le = letter_word 118 i refl (omega arith)
+actor_word (Host i) le = letter_word 104 i refl (omega arith)
+actor_word Manager le = text_word (codes "vm") (omega arith) refl
+actor_word (Worker i) le = letter_word 119 i refl (omega arith)
 
 last_word : (read_only : Bool) → AreWords (ending read_only)
 last_word true = (text_word (codes "ro") (omega arith) refl, tt)
 last_word false = tt
 
--- Words that say a command are words, of a form of its actor.
-pub form_words : (seen : ℕ → Bool) (words : List (List ℕ)) (a : Actor) (c : Command) → IsActor a → AreWordsOf seen words a c → AreWords words
-form_words seen words (Vcpu i) (Access gfn word Read) le (x, is, s) =
-    rw is (name_word i (omega arith), (text_word (codes "read") (omega arith) refl, (spelled_word x _ s, tt)))
-form_words seen words (Vcpu i) (Access gfn word (Write v)) le (x, y, is, s, t) =
-    rw is (name_word i (omega arith), (text_word (codes "write") (omega arith) refl, (spelled_word x _ s, (spelled_word y _ t, tt))))
-form_words seen words (Vcpu i) (Access gfn word (Add v)) le (x, y, is, s, t) =
-    rw is (name_word i (omega arith), (text_word (codes "add") (omega arith) refl, (spelled_word x _ s, (spelled_word y _ t, tt))))
-form_words seen words (Vcpu i) (SetSlot id slot) le form = absurd form
-form_words seen words (Host i) c le form = absurd form
-form_words seen words Manager (Access gfn word op) le form = absurd form
-form_words seen words Manager (SetSlot id s) le (i, x, y, z, first, is, n, a, b, c) =
+-- Words that say something are words.
+command_words : (ids : ℕ → Bool) (words : List (List ℕ)) (a : Actor) (c : Command) → IsActor a → AreCommandWords ids words a c → AreWords words
+command_words ids words (Vcpu i) (Access gfn word Read) le (x, is, s) =
+    rw is (actor_word (Vcpu i) le, (text_word (codes "read") (omega arith) refl, (spelled_word x _ s, tt)))
+command_words ids words (Vcpu i) (Access gfn word (Write v)) le (x, y, is, s, t) =
+    rw is (actor_word (Vcpu i) le, (text_word (codes "write") (omega arith) refl, (spelled_word x _ s, (spelled_word y _ t, tt))))
+command_words ids words (Vcpu i) (Access gfn word (Add v)) le (x, y, is, s, t) =
+    rw is (actor_word (Vcpu i) le, (text_word (codes "add") (omega arith) refl, (spelled_word x _ s, (spelled_word y _ t, tt))))
+command_words ids words (Vcpu i) (SetSlot id slot) le form = absurd form
+command_words ids words (Host i) c le form = absurd form
+command_words ids words Manager (Access gfn word op) le form = absurd form
+command_words ids words Manager (SetSlot id s) le (i, x, y, z, first, is, n, a, b, c) =
     rw is (text_word (codes "vm") (omega arith) refl, (text_word (codes "slot") (omega arith) refl, (spelled_word i _ n, (spelled_word x _ a, (spelled_word y _ b, (spelled_word z _ c, last_word s.read_only))))))
-form_words seen words (Worker i) c le form = absurd form
-
-pub has_form : (seen : ℕ → Bool) (words : List (List ℕ)) (a : Actor) (c : Command) → AreWordsOf seen words a c → HasForm words a
-has_form seen words (Vcpu i) (Access gfn word Read) (x, is, s) = inl (x, is)
-has_form seen words (Vcpu i) (Access gfn word (Write v)) (x, y, is, s, t) = inr (inl (x, y, is))
-has_form seen words (Vcpu i) (Access gfn word (Add v)) (x, y, is, s, t) = inr (inr (x, y, is))
-has_form seen words (Vcpu i) (SetSlot id slot) form = absurd form
-has_form seen words (Host i) c form = absurd form
-has_form seen words Manager (Access gfn word op) form = absurd form
-has_form seen words Manager (SetSlot id s) (i, x, y, z, first, is, n, a, b, c) = (i, x, y, z, s.read_only, is)
-has_form seen words (Worker i) c form = absurd form
+command_words ids words (Worker i) c le form = absurd form
 
 -- An actor that makes a command is declared.
 pub commanding : (h : Header) (a : Actor) (c : Command) → h.vcpus ≤ 16 → IsCommandOf h a c → IsActor a × IsDeclared h a
@@ -112,37 +115,55 @@ commanding h Manager (Access gfn word op) few range = absurd range
 commanding h Manager (SetSlot id s) few range = (tt, tt)
 commanding h (Worker i) c few range = absurd range
 
+until_word : (w : List ℕ) (u : Until) → SaysUntil w u → IsWord w
+until_word w (Turns n) s = spelled_word w n s
+until_word w Answered e = rw e (text_word (codes "end") (omega arith) refl)
+until_word w (Made code) (never, named) =
+    let t = both (nat_lt 0 (length w)) (list_all (λ b. not (b == 32)) w) (kind_passes (λ v. nat_lt 0 (length v) && list_all (λ b. not (b == 32)) v) w code refl (kind_read w code named)) in
+    record { filled = grind (arith, nat_tests, t.0); plain = t.1 }
+
+pub say_words : (h : Header) (seen : Seen) (words : List (List ℕ)) (s : Saying) → IsHeader h → IsSayingOf h s → AreWordsOf seen words s → AreWords words
+say_words h seen words (Does a c) header range are = command_words seen.ids words a c (commanding h a c header.vcpus.1 range).0 are
+say_words h seen words Go header range (first, e) = rw e (text_word (codes "go") (omega arith) refl, tt)
+say_words h seen words (Schedules item) header range (last, e, says) =
+    rw e (text_word (codes ">") (omega arith) refl, (actor_word item.actor (has_declared h item.actor header range.actor).0, (until_word last item.until says, tt)))
+
 no_words : (a : Actor) → HasForm [] a → ⊥
-no_words (Vcpu i) (inl (x, e)) = cc
-no_words (Vcpu i) (inr (inl (x, y, e))) = cc
-no_words (Vcpu i) (inr (inr (x, y, e))) = cc
-no_words (Host i) form = form
-no_words Manager (i, x, y, z, ro, e) = cc
-no_words (Worker i) form = form
+no_words a (inl form) = let (rest, e) = command_first [] a form in cc
+no_words a (inr (last, e, form)) = cc
+
+cut : (bytes : List ℕ) (words : List (List ℕ)) → bytes ≡ spaced words → AreWords words → (words ≡ [] → ⊥) → words_of bytes ≡ words
+cut bytes [] e are some = absurd (some refl)
+cut bytes (w ∷ ws) e are some = rw e (words_spaced w ws are)
 
 -- The words of a form are what stands between the spaces of its line.
 pub cut_words : (bytes : List ℕ) (words : List (List ℕ)) (a : Actor) → bytes ≡ spaced words → AreWords words → HasForm words a → words_of bytes ≡ words
-cut_words bytes [] a e are form = absurd (no_words a form)
-cut_words bytes (w ∷ ws) a e are form = rw e (words_spaced w ws are)
+cut_words bytes words a e are form = cut bytes words e are (λ none. no_words a (rw none at form))
+
+-- What a line says has words.
+say_some : (seen : Seen) (words : List (List ℕ)) (s : Saying) → AreWordsOf seen words s → words ≡ [] → ⊥
+say_some seen words (Does a c) are none = let (rest, e) = command_first words a (command_form seen.ids words a c are) in cc
+say_some seen words Go (first, e) none = cc
+say_some seen words (Schedules item) (last, e, says) none = cc
 
 -- What a line says is read.
-pub says : (h : Header) (seen : ℕ → Bool) (bytes : List ℕ) (a : Actor) (c : Command) → IsHeader h → SaysLine h seen bytes a c → said h seen bytes ≡ Ok (a, c)
+pub says : (h : Header) (seen : Seen) (bytes : List ℕ) (s : Saying) → IsHeader h → SaysLine h seen bytes s → said h seen bytes ≡ Ok s
 unfolding said by_words
-says h seen bytes a c header (range, (words, e, form)) =
-    let are = form_words seen words a c (commanding h a c header.vcpus.1 range).0 form in
-    let cut = cut_words bytes words a e are (has_form seen words a c form) in
-    rw (cut, none_empty words are) (reads h seen words a c header.vcpus.1 (small_words h header) range form)
+says h seen bytes s header (range, (words, e, are)) =
+    let each = say_words h seen words s header range are in
+    let same = cut bytes words e each (say_some seen words s are) in
+    rw (same, none_empty words each) (words_read h seen words s header range are)
 
 -- Only what a line says is read.
-by_words_ok : (h : Header) (seen : ℕ → Bool) (words : List (List ℕ)) (p : Actor × Command) → by_words h seen words ≡ Ok p → by_form h seen words ≡ Ok p
+by_words_ok : (h : Header) (seen : Seen) (words : List (List ℕ)) (s : Saying) → by_words h seen words ≡ Ok s → by_first h seen words ≡ Ok s
 unfolding by_words
-by_words_ok h seen words p e = elim (branch (list_any is_empty words) _ _ (Ok p) e) [
+by_words_ok h seen words s e = elim (branch (list_any is_empty words) _ _ (Ok s) e) [
   | inl q ↦ absurd (let no : ⊥ = cc in no)
   | inr q ↦ q.1
 ]
 
-pub only_said : (h : Header) (seen : ℕ → Bool) (bytes : List ℕ) (a : Actor) (c : Command) → said h seen bytes ≡ Ok (a, c) → SaysLine h seen bytes a c
+pub only_said : (h : Header) (seen : Seen) (bytes : List ℕ) (s : Saying) → said h seen bytes ≡ Ok s → SaysLine h seen bytes s
 unfolding said
-only_said h seen bytes a c e =
-    let f = only h seen (words_of bytes) (a, c) (by_words_ok h seen (words_of bytes) (a, c) e) in
+only_said h seen bytes s e =
+    let f = subst (WordsJudged h seen (words_of bytes)) (by_words_ok h seen (words_of bytes) s e) (words_judged h seen (words_of bytes)) in
     (f.0, (words_of bytes, sym (join_with_byte-slice_split 32 bytes), f.1))

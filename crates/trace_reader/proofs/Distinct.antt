@@ -10,48 +10,64 @@ use Rattle.core_views.specs.declared.actor.Actor.TheVariants.{Vcpu, Host, Manage
 use Rattle.core_views.specs.declared.trace.Command.{Command}
 use Rattle.core_views.specs.declared.trace.Command.TheVariants.{Access, SetSlot}
 use Rattle.core_views.specs.declared.trace.Header.{Header}
-use Rattle.core_views.specs.declared.trace.Line.{Line}
-use Rattle.core_views.specs.Traces.{or_slot_id, slot_ids}
+use Rattle.core_views.specs.declared.trace.Trace.{Trace}
+use Rattle.core_views.specs.Traces.{IsCommandOf, or_slot_id, slot_ids}
 use Rattle.trace_reader.specs.declared.reason.Reason.{Reason}
-use Rattle.trace_reader.specs.Forms.{◌>>=◌, Said, is_empty, said}
-use Rattle.trace_reader.specs.Grammar.{SaysLine}
-use Rattle.trace_reader.specs.Lines.{Raw, after_checks, content, fault_of, is_skipped, line_of, lines_of, numbered, onto, none_seen, raw, seen_with, with_line}
+use Rattle.trace_reader.specs.declared.saying.Saying.{Saying}
+use Rattle.trace_reader.specs.declared.saying.Saying.TheVariants.{Does, Go, Schedules}
+use Rattle.trace_reader.specs.Forms.{◌>>=◌, is_empty}
+use Rattle.trace_reader.specs.Sayings.{Seen, said}
+use Rattle.trace_reader.specs.Gathered.{lines_in}
+use Rattle.trace_reader.specs.Grammar.{AreCommandWords, SaysLine}
+use Rattle.trace_reader.specs.Lines.{Raw, Told, after_checks, content, fault_of, is_skipped, line_of, lines_of, onto, none_seen, raw, seen_with, sets_at, with_line}
+use Rattle.trace_reader.specs.Reading.{with_header}
 use Rattle.trace_reader.proofs.Bytes.{only_said}
 
 -- The command sets no slot, or one at an ID that wasn't seen.
 abbrev pub IsNew : (ℕ → Bool) → Command → Type 0
-IsNew seen (Access gfn word op) = Unit {0}
-IsNew seen (SetSlot id slot) = seen id ≡ false
+IsNew ids (Access gfn word op) = Unit {0}
+IsNew ids (SetSlot id slot) = ids id ≡ false
 
-first_said : (h : Header) (seen : ℕ → Bool) (bytes : List ℕ) (actor : Actor) (command : Command) → SaysLine h seen bytes actor command → IsNew seen command
-first_said h seen bytes actor (Access gfn word op) says = tt
-first_said h seen bytes (Vcpu n) (SetSlot id slot) says = absurd says.0
-first_said h seen bytes (Host n) (SetSlot id slot) says = absurd says.0
-first_said h seen bytes Manager (SetSlot id slot) says = says.1.2.4
-first_said h seen bytes (Worker n) (SetSlot id slot) says = absurd says.0
+-- So does the line; and if it is `go`, that wasn't there.
+abbrev pub IsNewLine : Seen → Saying → Type 0
+IsNewLine seen (Does actor command) = IsNew seen.ids command
+IsNewLine seen Go = seen.go ≡ false
+IsNewLine seen (Schedules item) = Unit {0}
+
+first_done : (h : Header) (ids : ℕ → Bool) (words : List (List ℕ)) (actor : Actor) (command : Command) → IsCommandOf h actor command → AreCommandWords ids words actor command → IsNew ids command
+first_done h ids words actor (Access gfn word op) range are = tt
+first_done h ids words (Vcpu n) (SetSlot id slot) range are = absurd range
+first_done h ids words (Host n) (SetSlot id slot) range are = absurd range
+first_done h ids words Manager (SetSlot id slot) range are = are.4
+first_done h ids words (Worker n) (SetSlot id slot) range are = absurd range
+
+first_said : (h : Header) (seen : Seen) (bytes : List ℕ) (s : Saying) → SaysLine h seen bytes s → IsNewLine seen s
+first_said h seen bytes (Does actor command) (range, (words, e, are)) = first_done h seen.ids words actor command range are
+first_said h seen bytes Go (range, (words, e, (first, is))) = first
+first_said h seen bytes (Schedules item) says = tt
 
 -- So does the line that is found.
-abbrev IsFirst : (ℕ → Bool) → Result (Option Line) Reason → Type 0
-IsFirst seen (Ok (Some line)) = IsNew seen line.command
+abbrev pub IsFirst : Seen → Result (Option Saying) Reason → Type 0
+IsFirst seen (Ok (Some s)) = IsNewLine seen s
 IsFirst seen (Ok None) = Unit {0}
 IsFirst seen (Err r) = Unit {0}
 
-content_first : (h : Header) (seen : ℕ → Bool) (n : ℕ) (bytes : List ℕ) → IsFirst seen (content h seen n bytes)
+content_first : (h : Header) (seen : Seen) (bytes : List ℕ) → IsFirst seen (content h seen bytes)
 unfolding content
-content_first h seen n bytes = by (is_skipped bytes) (said h seen bytes) refl
+content_first h seen bytes = by (is_skipped bytes) (said h seen bytes) refl
   where
-    by : (b : Bool) (x : Said) → said h seen bytes ≡ x → IsFirst seen (if b then Ok None else (x >>= λ y. Ok (Some (numbered n y))))
+    by : (b : Bool) (x : Result Saying Reason) → said h seen bytes ≡ x → IsFirst seen (if b then Ok None else (x >>= λ s. Ok (Some s)))
     by true x is = tt
     by false (Err r) is = tt
-    by false (Ok (actor, command)) is = first_said h seen bytes actor command (only_said h seen bytes actor command is)
+    by false (Ok s) is = first_said h seen bytes s (only_said h seen bytes s is)
 
-line_first : (h : Header) (seen : ℕ → Bool) (line : Raw) → IsFirst seen (line_of h seen line)
+pub line_first : (h : Header) (seen : Seen) (line : Raw) → IsFirst seen (line_of h seen line)
 unfolding line_of
 line_first h seen line = by (fault_of line)
   where
-    by : (fault : Option Reason) → IsFirst seen (after_checks fault (content h seen line.number line.bytes))
+    by : (fault : Option Reason) → IsFirst seen (after_checks fault (content h seen line.bytes))
     by (Some r) = tt
-    by None = content_first h seen line.number line.bytes
+    by None = content_first h seen line.bytes
 
 -- None of these IDs is this one.
 abbrev pub HasNone : ℕ → List ℕ → Type 0
@@ -66,8 +82,8 @@ pub record AreApart (seen : ℕ → Bool) (ids : List ℕ) : Type 0 where
   pub distinct : AreDistinct ids
   pub unseen : (id : ℕ) → seen id ≡ true → HasNone id ids
 
-abbrev AreNew : (ℕ → Bool) → Result (List Line) (ℕ × Reason) → Type 0
-AreNew seen (Ok lines) = AreApart seen (slot_ids lines)
+abbrev AreNew : Seen → Result (List Told) (ℕ × Reason) → Type 0
+AreNew seen (Ok told) = AreApart seen.ids (slot_ids (lines_in told))
 AreNew seen (Err e) = Unit {0}
 
 or_first : (a b : Bool) → a ≡ true → (a || b) ≡ true
@@ -81,7 +97,7 @@ apart : (seen : ℕ → Bool) (i j : ℕ) → seen i ≡ true → seen j ≡ fal
 apart seen i j e f = ne_eqb i j (λ same. let g : seen j ≡ true = subst (λ k. seen k ≡ true) same e in cc)
 
 -- One more line, in front.
-in_front : (seen : ℕ → Bool) (command : Command) (ids : List ℕ) → IsNew seen command → AreApart (seen_with seen command) ids → AreApart seen (or_slot_id command ids)
+in_front : (seen : ℕ → Bool) (command : Command) (ids : List ℕ) → IsNew seen command → AreApart (λ id. seen id || sets_at id command) ids → AreApart seen (or_slot_id command ids)
 unfolding IsDistinct
 in_front seen (Access gfn word op) ids new rest = record { distinct = rest.distinct; unseen = λ id e. rest.unseen id (or_first (seen id) false e) }
 in_front seen (SetSlot i slot) ids new rest = record {
@@ -89,20 +105,25 @@ in_front seen (SetSlot i slot) ids new rest = record {
   unseen = λ id e. (apart seen id i e new, rest.unseen id (or_first (seen id) (i == id) e));
 }
 
-onto_new : (n : ℕ) (seen : ℕ → Bool) (read : Result (Option Line) Reason) (rest : (ℕ → Bool) → Result (List Line) (ℕ × Reason)) → IsFirst seen read → ((now : ℕ → Bool) → AreNew now (rest now)) → AreNew seen (onto n seen read rest)
+in_front_of : (seen : Seen) (n : ℕ) (s : Saying) (told : List Told) → IsNewLine seen s → AreApart (seen_with seen s).ids (slot_ids (lines_in told)) → AreApart seen.ids (slot_ids (lines_in ((n, s) ∷ told)))
+in_front_of seen n (Does actor command) told new rest = in_front seen.ids command (slot_ids (lines_in told)) new rest
+in_front_of seen n Go told new rest = rest
+in_front_of seen n (Schedules item) told new rest = rest
+
+onto_new : (n : ℕ) (seen : Seen) (read : Result (Option Saying) Reason) (rest : Seen → Result (List Told) (ℕ × Reason)) → IsFirst seen read → ((now : Seen) → AreNew now (rest now)) → AreNew seen (onto n seen read rest)
 onto_new n seen (Err r) rest first all = tt
 onto_new n seen (Ok None) rest first all = all seen
-onto_new n seen (Ok (Some line)) rest first all = by (rest (seen_with seen line.command)) (all (seen_with seen line.command))
+onto_new n seen (Ok (Some s)) rest first all = by (rest (seen_with seen s)) (all (seen_with seen s))
   where
-    by : (x : Result (List Line) (ℕ × Reason)) → AreNew (seen_with seen line.command) x → AreNew seen (with_line (Some line) x)
+    by : (x : Result (List Told) (ℕ × Reason)) → AreNew (seen_with seen s) x → AreNew seen (with_line n (Some s) x)
     by (Err e) more = tt
-    by (Ok lines) more = in_front seen line.command (slot_ids lines) first more
+    by (Ok told) more = in_front_of seen n s told first more
 
-none : (seen : ℕ → Bool) → AreApart seen []
+none : (seen : Seen) → AreApart seen.ids []
 unfolding IsDistinct
 none seen = record { distinct = tt; unseen = λ id e. tt }
 
-lines_new : (h : Header) (n at : ℕ) (seen : ℕ → Bool) (parts : List (List ℕ)) → AreNew seen (lines_of h n at seen parts)
+lines_new : (h : Header) (n at : ℕ) (seen : Seen) (parts : List (List ℕ)) → AreNew seen (lines_of h n at seen parts)
 unfolding lines_of
 lines_new h n at seen [] = none seen
 lines_new h n at seen (last ∷ []) = by (is_empty last)
@@ -113,5 +134,13 @@ lines_new h n at seen (last ∷ []) = by (is_empty last)
 lines_new h n at seen (x ∷ y ∷ more) =
     onto_new n seen (line_of h seen (raw n at true x)) (λ now. lines_of h (n + 1) (at + (length x + 1)) now (y ∷ more)) (line_first h seen (raw n at true x)) (λ now. lines_new h (n + 1) (at + (length x + 1)) now (y ∷ more))
 
-pub read_distinct : (h : Header) (n at : ℕ) (parts : List (List ℕ)) (lines : List Line) → lines_of h n at none_seen parts ≡ Ok lines → AreDistinct (slot_ids lines)
-read_distinct h n at parts lines is = (subst (AreNew none_seen) is (lines_new h n at none_seen parts)).distinct
+abbrev HasApart : Result Trace (ℕ × Reason) → Type 0
+HasApart (Ok t) = AreDistinct (slot_ids t.lines)
+HasApart (Err e) = Unit {0}
+
+under_header : (h : Header) (x : Result (List Told) (ℕ × Reason)) → AreNew none_seen x → HasApart (with_header h x)
+under_header h (Ok told) new = new.distinct
+under_header h (Err e) new = tt
+
+pub read_distinct : (h : Header) (n at : ℕ) (parts : List (List ℕ)) (t : Trace) → with_header h (lines_of h n at none_seen parts) ≡ Ok t → AreDistinct (slot_ids t.lines)
+read_distinct h n at parts t is = subst HasApart is (under_header h (lines_of h n at none_seen parts) (lines_new h n at none_seen parts))

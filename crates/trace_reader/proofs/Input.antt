@@ -10,24 +10,25 @@ use Rattle.std.specs.declared.option.Option.{Option}
 use Rattle.std.specs.declared.option.Option.TheVariants.{Some, None}
 use Rattle.core_views.specs.Traces.{IsHeader}
 use Rattle.core_views.specs.declared.trace.Header.{Header}
-use Rattle.core_views.specs.declared.trace.Line.{Line}
 use Rattle.core_views.specs.declared.trace.Trace.{Trace}
 use Rattle.trace_reader.specs.declared.reason.Reason.{Reason}
 use Rattle.trace_reader.specs.declared.reason.Reason.TheVariants as reason
 use Rattle.trace_reader.specs.Forms.{words_of}
 use Rattle.trace_reader.specs.Headers.{header_of}
-use Rattle.trace_reader.specs.Lines.{Raw, parts_of, fault_of, after_checks, raw, lines_of, none_seen}
-use Rattle.trace_reader.specs.Reading.{head_of, with_header, under, reading_of, reading}
+use Rattle.trace_reader.specs.Sayings.{Seen}
+use Rattle.trace_reader.specs.Gathered.{Gathers}
+use Rattle.trace_reader.specs.Lines.{Raw, Told, parts_of, fault_of, after_checks, raw, lines_of, none_seen}
+use Rattle.trace_reader.specs.Reading.{head_of, trace_of, with_header, under, reading_of, reading}
 use Rattle.trace_reader.specs.Grammar.{Spells, spaced, AreWords}
 use Rattle.trace_reader.specs.HeaderGrammar.{HeaderWords, labelled, SpellsHeader}
-use Rattle.trace_reader.specs.InputGrammar.{with_ends, ArePlain, IsText, SaysHeader, SayLines, SayTrace, SaysTrace, PassesAll, HeaderFails, LineFails, line_behind, set_by, HasLine, FailsAt}
+use Rattle.trace_reader.specs.InputGrammar.{with_ends, ArePlain, IsText, SaysHeader, SayLines, SayTrace, SaysTrace, PassesAll, HeaderFails, LineFails, line_behind, seen_in, HasLine, FailsAt}
 use Rattle.trace_reader.proofs.Prefix.{with_prefix}
 use Rattle.trace_reader.proofs.Loop.{part, not_empty}
 use Rattle.trace_reader.proofs.Bytes.{words_spaced, text_word, spelled_word}
 use Rattle.trace_reader.proofs.HeaderSaid.{header_reads, header_only}
 use Rattle.trace_reader.proofs.HeaderRefused.{header_refuses}
 use Rattle.trace_reader.proofs.Checks.{Judged, judged, faultless, faulty}
-use Rattle.trace_reader.proofs.InputLines.{line_fails, more_of, IsCut, cuts, consed, said_lines, long}
+use Rattle.trace_reader.proofs.InputLines.{line_fails, more_of, seen_behind, IsCut, cuts, consed, said_lines, long}
 
 -- The header's line.
 all_words : (ws : List (List ℕ)) (ns : List ℕ) → AllZip Spells ws ns → AreWords ws
@@ -172,14 +173,14 @@ abbrev AreTexts : List (List ℕ) → Type 0
 AreTexts [] = Unit {0}
 AreTexts (x ∷ xs) = IsText x × AreTexts xs
 
-lines_texts : (h : Header) (n : ℕ) (seen : ℕ → Bool) (texts : List (List ℕ)) (lines : List Line) → SayLines h n seen texts lines → AreTexts texts
-lines_texts h n seen [] lines say = tt
-lines_texts h n seen (x ∷ xs) lines (is, inl (s, say)) = (is, lines_texts h (n + 1) seen xs lines say)
-lines_texts h n seen (x ∷ xs) lines (is, inr (never, (a, c, more, e, s, say))) = (is, lines_texts h (n + 1) _ xs more say)
+lines_texts : (h : Header) (n : ℕ) (seen : Seen) (texts : List (List ℕ)) (told : List Told) → SayLines h n seen texts told → AreTexts texts
+lines_texts h n seen [] told say = tt
+lines_texts h n seen (x ∷ xs) told (is, inl (s, say)) = (is, lines_texts h (n + 1) seen xs told say)
+lines_texts h n seen (x ∷ xs) told (is, inr (never, (s, more, e, says, say))) = (is, lines_texts h (n + 1) _ xs more say)
 
 trace_texts : (texts : List (List ℕ)) (t : Trace) → SayTrace texts t → AreTexts texts
 trace_texts [] t say = absurd say
-trace_texts (first ∷ texts) t (size, count, is, head, say) = (is, lines_texts t.header 2 none_seen texts t.lines say)
+trace_texts (first ∷ texts) t (size, count, is, head, (told, say, all)) = (is, lines_texts t.header 2 none_seen texts told say)
 
 parts_behind : (texts : List (List ℕ)) (tail : List ℕ) → AreTexts texts → parts_of (with_ends texts ++ tail) ≡ texts ++ parts_of tail
 parts_behind [] tail are = refl
@@ -208,7 +209,7 @@ InputJudged input (Err e) = FailsAt input e.0 e.1
 head_moved : (n m a b : ℕ) (is : Bool) (text : List ℕ) (r : Reason) → n ≡ m → a ≡ b → HeaderFails (record { number = n; end = a; ended_by_lf = is; bytes = text }) r → HeaderFails (record { number = m; end = b; ended_by_lf = is; bytes = text }) r
 head_moved n m a b is text r e e1 fails = rw (← e, ← e1) fails
 
-line_moved : (h : Header) (seen : ℕ → Bool) (n m a b : ℕ) (is : Bool) (text : List ℕ) (r : Reason) → n ≡ m → a ≡ b → LineFails h seen (record { number = n; end = a; ended_by_lf = is; bytes = text }) r → LineFails h seen (record { number = m; end = b; ended_by_lf = is; bytes = text }) r
+line_moved : (h : Header) (seen : Seen) (n m a b : ℕ) (is : Bool) (text : List ℕ) (r : Reason) → n ≡ m → a ≡ b → LineFails h seen (record { number = n; end = a; ended_by_lf = is; bytes = text }) r → LineFails h seen (record { number = m; end = b; ended_by_lf = is; bytes = text }) r
 line_moved h seen n m a b is text r e e1 fails = rw (← e, ← e1) fails
 
 first_fails : (input text : List ℕ) (is : Bool) (size : ℕ) (r : Reason) → HasLine input [] text is → size ≡ length text + cond is 1 0 → HeaderFails (record { number = 1; end = size; ended_by_lf = is; bytes = text }) r → FailsAt input 1 r
@@ -222,14 +223,17 @@ alone : (input text : List ℕ) (z : Result Header Reason) → NoLf text → inp
 alone input text (Ok h) are e (all, s) = elim (all.2) [ inl t ↦ cc | inr t ↦ absurd (empty_head text h t s) ]
 alone input text (Err r) are e fails = first_fails input text false (length text) r (are, e) (omega arith) fails
 
-behind : (input text : List ℕ) (parts : List (List ℕ)) (h : Header) (x : Result (List Line) (ℕ × Reason)) → parts_of input ≡ text ∷ parts → PassesAll (record { number = 1; end = length text + 1; ended_by_lf = true; bytes = text }) → SaysHeader text h → IsCut h 2 (length text + 1) none_seen parts x → InputJudged input (with_header h x)
+gathered : (h : Header) (out told : List Told) → out ≡ told → Gathers (trace_of h out) told
+gathered h out told e = rw e (record { lines = refl; go = refl; items = refl })
+
+behind : (input text : List ℕ) (parts : List (List ℕ)) (h : Header) (x : Result (List Told) (ℕ × Reason)) → parts_of input ≡ text ∷ parts → PassesAll (record { number = 1; end = length text + 1; ended_by_lf = true; bytes = text }) → SaysHeader text h → IsCut h 2 (length text + 1) none_seen parts x → InputJudged input (with_header h x)
 behind input text parts h (Ok out) e all s k =
     let ends = k.ends in
     let join : input ≡ join_with_byte 10 (parts_of input) = sym (join_with_byte-slice_split 10 input) in
     let whole : parts_of input ≡ (text ∷ k.texts) ++ [] ∷ [] = rw (e, k.cut, ends.1, ends.2) refl in
     let far : length (with_ends (text ∷ k.texts)) ≡ length text + 1 + length (with_ends k.texts) = long text k.texts in
     let cut : input ≡ with_ends (text ∷ k.texts) ++ [] = join ∙ ap (join_with_byte 10) whole ∙ join_ends (text ∷ k.texts) [] [] in
-    (text ∷ k.texts, cut ∙ append-nil (with_ends (text ∷ k.texts)), (omega (arith, far, k.size), omega (arith, k.count), (all.3, all.4), s, rw ends.0 k.say))
+    (text ∷ k.texts, cut ∙ append-nil (with_ends (text ∷ k.texts)), (omega (arith, far, k.size), omega (arith, k.count), (all.3, all.4), s, (k.told, k.say, gathered h out k.told ends.0)))
 behind input text parts h (Err (m, r)) e all s k =
     let (is, some, fails) = k.ends in
     let join : input ≡ join_with_byte 10 (parts_of input) = sym (join_with_byte-slice_split 10 input) in
@@ -239,15 +243,15 @@ behind input text parts h (Err (m, r)) e all s k =
     let clean : NoLf k.text = middle (text ∷ k.texts) k.text k.rest (subst NoLfs whole (parts_no_lf input)) in
     inr (
       text ∷ k.texts,
-      record { header = h; lines = k.lines },
-      (omega (arith, far, k.size), omega (arith, k.count), (all.3, all.4), s, k.say),
+      trace_of h k.told,
+      (omega (arith, far, k.size), omega (arith, k.count), (all.3, all.4), s, (k.told, k.say, gathered h k.told k.told refl)),
       omega (arith, is),
       (
         k.text,
         more_of k.rest,
         has_line input (text ∷ k.texts) k.text k.rest cut clean,
         (λ last empty. some (none_more k.rest last) empty),
-        line_moved h (set_by k.lines) _ _ _ _ (more_of k.rest) k.text r (omega arith) (omega (arith, far)) fails,
+        line_moved h (seen_in (trace_of h k.told)) _ _ _ _ (more_of k.rest) k.text r (omega arith) (omega (arith, far)) fails,
       ),
     )
 
@@ -282,21 +286,30 @@ first_line : (x y : List ℕ) (zs ys : List (List ℕ)) → zs ≡ y ∷ ys → 
 unfolding reading_of
 first_line x y zs ys e = rw e refl
 
-same_rest : (h : Header) (n m a b : ℕ) (seen : ℕ → Bool) (parts : List (List ℕ)) → n ≡ m → a ≡ b → lines_of h n a seen parts ≡ lines_of h m b seen parts
-same_rest h n m a b seen parts e e1 = rw (e, e1) refl
+same_rest : (h : Header) (n m a b : ℕ) (seen now : Seen) (parts : List (List ℕ)) → n ≡ m → a ≡ b → seen ≡ now → lines_of h n a seen parts ≡ lines_of h m b now parts
+same_rest h n m a b seen now parts e e1 e2 = rw (e, e1, e2) refl
 
-trace_then : (before : List (List ℕ)) (t : Trace) (p : List ℕ) (ps : List (List ℕ)) → SayTrace before t
-    → reading_of (before ++ p ∷ ps) ≡ with_header t.header (with_prefix t.lines (lines_of t.header (length before + 1) (length (with_ends before)) (set_by t.lines) (p ∷ ps)))
+-- what the texts say is read, and then what stands behind them
+abbrev IsThen : List (List ℕ) → Trace → List Told → List ℕ → List (List ℕ) → Type 0
+IsThen before t told p ps = reading_of (before ++ p ∷ ps) ≡ with_header t.header (with_prefix told (lines_of t.header (length before + 1) (length (with_ends before)) (seen_in t) (p ∷ ps)))
+
+seen_same : (t : Trace) (told : List Told) → Gathers t told → seen_behind none_seen told ≡ seen_in t
+seen_same t told all = rw (all.lines, all.go) refl
+
+trace_then : (before : List (List ℕ)) (t : Trace) (p : List ℕ) (ps : List (List ℕ)) → SayTrace before t → (told : List Told) × Gathers t told × IsThen before t told p ps
 trace_then [] t p ps say = absurd say
-trace_then (x ∷ xs) t p ps (size, count, is, s, say) =
+trace_then (x ∷ xs) t p ps (size, count, is, s, (told, say, gathers)) =
     let far : length (with_ends (x ∷ xs)) ≡ length x + 1 + length (with_ends xs) = long x xs in
     let (y, ys, e) = consed xs p ps in
     let all : PassesAll (record { number = 1; end = length x + 1; ended_by_lf = true; bytes = x }) = (omega (arith, far, size), omega arith, inl refl, is.0, is.1) in
-    first_line x y (xs ++ p ∷ ps) ys e ∙ rw (head_said (record { number = 1; end = length x + 1; ended_by_lf = true; bytes = x }) t.header all s) (ap (with_header t.header)
-    (said_lines t.header 2 (length x + 1) none_seen xs t.lines p ps s.2.0 say (omega (arith, far, size)) (omega (arith, count))
-    ∙ ap (with_prefix t.lines) (same_rest t.header (2 + length xs) (length (x ∷ xs) + 1) (length x + 1 + length (with_ends xs)) (length (with_ends (x ∷ xs))) (set_by t.lines) (p ∷ ps) (omega arith) (omega (arith, far)))))
+    let lines = said_lines t.header 2 (length x + 1) none_seen xs told p ps s.2.0 say (omega (arith, far, size)) (omega (arith, count))
+    ∙ ap (with_prefix told) (same_rest t.header (2 + length xs) (length (x ∷ xs) + 1) (length x + 1 + length (with_ends xs)) (length (with_ends (x ∷ xs))) (seen_behind none_seen told) (seen_in t) (p ∷ ps) (omega arith) (omega (arith, far)) (seen_same t told gathers)) in
+    (told, gathers, first_line x y (xs ++ p ∷ ps) ys e ∙ rw (head_said (record { number = 1; end = length x + 1; ended_by_lf = true; bytes = x }) t.header all s) (ap (with_header t.header) lines))
 
-no_more : (h : Header) (n at : ℕ) (seen : ℕ → Bool) → lines_of h n at seen ([] ∷ []) ≡ Ok []
+the_same : (t : Trace) (told : List Told) → Gathers t told → trace_of t.header told ≡ t
+the_same t told all = rw (← all.lines, ← all.go, ← all.items) refl
+
+no_more : (h : Header) (n at : ℕ) (seen : Seen) → lines_of h n at seen ([] ∷ []) ≡ Ok []
 unfolding lines_of
 no_more h n at seen = refl
 
@@ -304,13 +317,14 @@ pub the_trace : (input : List ℕ) (t : Trace) → SaysTrace input t → reading
 unfolding reading
 the_trace input t (texts, e, say) =
     let whole : parts_of input ≡ texts ++ [] ∷ [] = ap parts_of (e ∙ sym (append-nil (with_ends texts))) ∙ parts_behind texts [] (trace_texts texts t say) in
-    ap reading_of whole ∙ trace_then texts t [] [] say ∙ rw (no_more t.header (length texts + 1) (length (with_ends texts)) (set_by t.lines), append-nil t.lines) refl
+    let (told, gathers, then) = trace_then texts t [] [] say in
+    ap reading_of whole ∙ then ∙ rw (no_more t.header (length texts + 1) (length (with_ends texts)) (seen_in t), append-nil told) (ap (λ (x : Trace). Ok x) (the_same t told gathers))
 
-fails_more : (h : Header) (n at : ℕ) (seen : ℕ → Bool) (text y : List ℕ) (ys : List (List ℕ)) (r : Reason) → IsHeader h → LineFails h seen (raw n at true text) r → lines_of h n at seen (text ∷ y ∷ ys) ≡ Err (n, r)
+fails_more : (h : Header) (n at : ℕ) (seen : Seen) (text y : List ℕ) (ys : List (List ℕ)) (r : Reason) → IsHeader h → LineFails h seen (raw n at true text) r → lines_of h n at seen (text ∷ y ∷ ys) ≡ Err (n, r)
 unfolding lines_of
 fails_more h n at seen text y ys r header fails = rw (line_fails h seen (raw n at true text) r header fails) refl
 
-fails_last : (h : Header) (n at : ℕ) (seen : ℕ → Bool) (text : List ℕ) (r : Reason) → IsHeader h → (text ≡ [] → ⊥) → LineFails h seen (raw n at false text) r → lines_of h n at seen (text ∷ []) ≡ Err (n, r)
+fails_last : (h : Header) (n at : ℕ) (seen : Seen) (text : List ℕ) (r : Reason) → IsHeader h → (text ≡ [] → ⊥) → LineFails h seen (raw n at false text) r → lines_of h n at seen (text ∷ []) ≡ Err (n, r)
 unfolding lines_of
 fails_last h n at seen [] r header some fails = absurd (some refl)
 fails_last h n at seen (c ∷ cs) r header some fails = rw (not_empty c cs, line_fails h seen (raw n at false (c ∷ cs)) r header fails) refl
@@ -319,15 +333,15 @@ header_in : (before : List (List ℕ)) (t : Trace) → SayTrace before t → IsH
 header_in [] t say = absurd say
 header_in (x ∷ xs) t (size, count, is, s, say) = s.2.0
 
-later : (input : List ℕ) (before : List (List ℕ)) (t : Trace) (text : List ℕ) (ended : Bool) (r : Reason) → SayTrace before t → HasLine input before text ended → (ended ≡ false → text ≡ [] → ⊥) → LineFails t.header (set_by t.lines) (line_behind before text ended) r → reading input ≡ Err (length before + 1, r)
+later : (input : List ℕ) (before : List (List ℕ)) (t : Trace) (text : List ℕ) (ended : Bool) (r : Reason) → SayTrace before t → HasLine input before text ended → (ended ≡ false → text ≡ [] → ⊥) → LineFails t.header (seen_in t) (line_behind before text ended) r → reading input ≡ Err (length before + 1, r)
 unfolding reading
 later input before t text true r say (are, (rest, e)) some fails =
     let (y, ys, f) = part rest in
     let whole : parts_of input ≡ before ++ text ∷ y ∷ ys = ap parts_of e ∙ parts_behind before (text ++ 10 ∷ rest) (trace_texts before t say) ∙ ap (λ (v : List (List ℕ)). before ++ v) (ended_part text rest are ∙ ap (λ (v : List (List ℕ)). text ∷ v) f) in
-    ap reading_of whole ∙ trace_then before t text (y ∷ ys) say ∙ rw (fails_more t.header (length before + 1) (length (with_ends before)) (set_by t.lines) text y ys r (header_in before t say) fails) refl
+    ap reading_of whole ∙ (trace_then before t text (y ∷ ys) say).2 ∙ rw (fails_more t.header (length before + 1) (length (with_ends before)) (seen_in t) text y ys r (header_in before t say) fails) refl
 later input before t text false r say (are, e) some fails =
     let whole : parts_of input ≡ before ++ text ∷ [] = ap parts_of e ∙ parts_behind before text (trace_texts before t say) ∙ ap (λ (v : List (List ℕ)). before ++ v) (last_part text are) in
-    ap reading_of whole ∙ trace_then before t text [] say ∙ rw (fails_last t.header (length before + 1) (length (with_ends before)) (set_by t.lines) text r (header_in before t say) (some refl) fails) refl
+    ap reading_of whole ∙ (trace_then before t text [] say).2 ∙ rw (fails_last t.header (length before + 1) (length (with_ends before)) (seen_in t) text r (header_in before t say) (some refl) fails) refl
 
 fails_first : (input text : List ℕ) (ended : Bool) (r : Reason) → HasLine input [] text ended → HeaderFails (line_behind [] text ended) r → reading input ≡ Err (1, r)
 unfolding reading reading_of

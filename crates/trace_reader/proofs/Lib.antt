@@ -2,11 +2,15 @@ pub mod Values
 pub mod Prefix
 pub mod Results
 pub mod Spelled
+pub mod Names
+pub mod Items
 pub mod Said
-pub mod Bytes
 pub mod Refused
+pub mod Words
+pub mod Bytes
 pub mod Reasons
 pub mod Ranges
+pub mod Distinct
 pub mod Loop
 pub mod Begin
 pub mod NeedCounts
@@ -17,4 +21,3 @@ pub mod HeaderRefused
 pub mod Checks
 pub mod InputLines
 pub mod Input
-pub mod Distinct

@@ -1,21 +1,21 @@
--- Why words say nothing: of which form they are, and which step of the reader refuses them.
-use Rattle.std.proofs.Common.{◌≡◌, ◌≤◌, ◌<◌, inl, inr, ℕ, List, [], ◌∷◌, Bool, true, false, cond, Result, Ok, Err, refl, length, ◌⊎◌, ap, arith, nat_lt, nat_le, ◌==◌, ◌&&◌}
+-- Why the words of an actor's line say nothing: of which form they are, and which step of the reader refuses them.
+use Rattle.std.proofs.Common.{◌≡◌, ◌≤◌, inl, inr, ℕ, List, [], ◌∷◌, Bool, true, false, cond, Result, Ok, Err, refl, length, ◌⊎◌, arith, ◌&&◌}
 use Rattle.std.specs.Prelude.{codes}
 use Rattle.std.specs.Fmt.{decimal}
 use Rattle.std.specs.Str.{bytes_eq}
 use Rattle.std.specs.declared.option.Option.{Option}
 use Rattle.std.specs.declared.option.Option.TheVariants.{Some, None}
-use Rattle.std.proofs.lemmas.Bool.Decides.{nat_tests}
 use Rattle.core_views.specs.declared.actor.Actor.{Actor}
 use Rattle.core_views.specs.declared.actor.Actor.TheVariants.{Vcpu, Host, Manager, Worker}
 use Rattle.core_views.specs.declared.trace.Header.{Header}
 use Rattle.trace_reader.specs.declared.reason.Reason.{Reason}
 use Rattle.trace_reader.specs.declared.reason.Reason.TheVariants as reason
-use Rattle.trace_reader.specs.Numbers.{number_of, decimal_number}
-use Rattle.trace_reader.specs.Forms.{◌>>=◌, Said, number, or_number, is_address, access_at, address, declared, indexed, vcpu, read_form, store_form, is_slot, slot, new_number, setting, slot_form, read_only_slot_form, by_form}
-use Rattle.trace_reader.specs.Grammar.{HasForm, IsActor, IsDeclared}
+use Rattle.trace_reader.specs.Numbers.{number_of}
+use Rattle.trace_reader.specs.Forms.{◌>>=◌, Said, number, or_number, is_address, access_at, address, vcpu, read_form, store_form, is_slot, slot, new_number, setting, slot_form, read_only_slot_form, by_form}
+use Rattle.trace_reader.specs.Grammar.{IsCommandForm, IsActor, IsDeclared}
 use Rattle.trace_reader.proofs.Results.{both, word_is, is_word}
-use Rattle.trace_reader.proofs.Spelled.{decimal_found, decimal_only}
+use Rattle.trace_reader.proofs.Names.{Names}
+use Rattle.trace_reader.proofs.Said.{vcpu_names}
 
 -- An error of it is `number`.
 abbrev IsNumber : {A : Type 0} → Result A Reason → Type 0
@@ -50,42 +50,11 @@ slot_number : (x y z : List ℕ) (ro : Bool) → IsNumber (slot x y z ro)
 unfolding slot
 slot_number x y z ro = bound (number x) _ (number_number x) (λ b. bound (number y) _ (number_number y) (λ p. bound (number z) _ (number_number z) (λ k. fits (is_slot b p k) _)))
 
--- What a first word names: a virtual processor that is declared, or one that is not, or none.
-abbrev Names : ℕ → List ℕ → Result ℕ Reason → Type 0
-Names count w (Ok i) = (i ≤ 15) × (i < count) × (w ≡ 118 ∷ decimal i)
-Names count w (Err reason.Word) = (i : ℕ) → i ≤ 15 → w ≡ 118 ∷ decimal i → ⊥
-Names count w (Err reason.Actor) = (i : ℕ) × (i ≤ 15) × (i < count → ⊥) × (w ≡ 118 ∷ decimal i)
-Names count w (Err _) = ⊥
-
-in_decimal : (ds : List ℕ) (i : ℕ) → i ≤ 15 → 118 ∷ ds ≡ 118 ∷ decimal i → decimal_number ds ≡ Some i
-in_decimal ds i le e = let same : ds ≡ decimal i = cc in rw same (decimal_only i (omega arith))
-
-index_in : (count : ℕ) (ds : List ℕ) (n : ℕ) (small known : Bool) → decimal_number ds ≡ Some n → nat_le n 15 ≡ small → nat_lt n count ≡ known → Names count (118 ∷ ds) (cond small (cond known (Ok n) (Err reason.Actor)) (Err reason.Word))
-index_in count ds n true true e s k = (grind (arith, nat_tests), grind (arith, nat_tests), ap (λ (l : List ℕ). 118 ∷ l) (decimal_found ds n e).1)
-index_in count ds n true false e s k = (n, grind (arith, nat_tests), (λ lt. grind (arith, nat_tests)), ap (λ (l : List ℕ). 118 ∷ l) (decimal_found ds n e).1)
-index_in count ds n false known e s k = λ i le is.
-    let d : decimal_number ds ≡ Some i = in_decimal ds i le is in
-    let same : n ≡ i = cc in
-    grind (arith, nat_tests)
-
-index : (count : ℕ) (ds : List ℕ) (o : Option ℕ) → decimal_number ds ≡ o → Names count (118 ∷ ds) (declared count o)
-index count ds None e = λ i le is. let d : decimal_number ds ≡ Some i = in_decimal ds i le is in cc
-index count ds (Some n) e = index_in count ds n (nat_le n 15) (nat_lt n count) e refl refl
-
-letter : (count c : ℕ) (ds : List ℕ) (b : Bool) → (c == 118) ≡ b → Names count (c ∷ ds) (cond b (declared count (decimal_number ds)) (Err reason.Word))
-letter count c ds true e = let v : c ≡ 118 = grind (arith, nat_tests) in rw v (index count ds (decimal_number ds) refl)
-letter count c ds false e = λ i le is. let v : c ≡ 118 = cc in grind (arith, nat_tests)
-
-named : (h : Header) (w : List ℕ) → Names h.vcpus w (vcpu h w)
-unfolding vcpu indexed
-named h [] = λ i le is. cc
-named h (c ∷ ds) = letter h.vcpus c ds (c == 118) refl
-
 -- Why words say nothing.
 abbrev pub Why : Header → List (List ℕ) → Reason → Type 0
-Why h words reason.Word = (a : Actor) → HasForm words a → IsActor a → ⊥
-Why h words reason.Actor = (a : Actor) × HasForm words a × IsActor a × (IsDeclared h a → ⊥)
-Why h words reason.Number = (a : Actor) × HasForm words a × IsActor a × IsDeclared h a
+Why h words reason.Word = (a : Actor) → IsCommandForm words a → IsActor a → ⊥
+Why h words reason.Actor = (a : Actor) × IsCommandForm words a × IsActor a × (IsDeclared h a → ⊥)
+Why h words reason.Number = (a : Actor) × IsCommandForm words a × IsActor a × IsDeclared h a
 Why h words _ = ⊥
 
 -- An error of it tells why the words say nothing.
@@ -95,13 +64,13 @@ Tells h words (Err r) = Why h words r
 
 -- The words are of no form.
 abbrev Formless : List (List ℕ) → Type 0
-Formless words = (a : Actor) → HasForm words a → ⊥
+Formless words = (a : Actor) → IsCommandForm words a → ⊥
 
 none : (h : Header) (words : List (List ℕ)) → Formless words → Tells h words (Err reason.Word)
 none h words never = λ a form is. never a form
 
 -- A declared actor's words of a form are refused for a number only.
-numbers : (h : Header) (words : List (List ℕ)) (a : Actor) (r : Said) → HasForm words a → IsActor a → IsDeclared h a → IsNumber r → Tells h words r
+numbers : (h : Header) (words : List (List ℕ)) (a : Actor) (r : Said) → IsCommandForm words a → IsActor a → IsDeclared h a → IsNumber r → Tells h words r
 numbers h words a (Ok p) form is known number = tt
 numbers h words a (Err r) form is known number = rw number (a, form, is, known)
 
@@ -117,8 +86,8 @@ unnamed w Manager never is le = is
 unnamed w (Worker i) never is le = is
 
 -- An access's words: the first names the actor, then the numbers are looked at.
-access_why : (h : Header) (words : List (List ℕ)) (who : List ℕ) (r : Result ℕ Reason) (f : ℕ → Said) → Names h.vcpus who r
-    → ((i : ℕ) → who ≡ 118 ∷ decimal i → HasForm words (Vcpu i)) → ((a : Actor) → HasForm words a → IsNamedBy who a) → ((i : ℕ) → IsNumber (f i)) → Tells h words (r >>= f)
+access_why : (h : Header) (words : List (List ℕ)) (who : List ℕ) (r : Result ℕ Reason) (f : ℕ → Said) → Names 118 15 h.vcpus who r
+    → ((i : ℕ) → who ≡ 118 ∷ decimal i → IsCommandForm words (Vcpu i)) → ((a : Actor) → IsCommandForm words a → IsNamedBy who a) → ((i : ℕ) → IsNumber (f i)) → Tells h words (r >>= f)
 access_why h words who (Ok i) f (le, lt, is) form only number = numbers h words (Vcpu i) (f i) (form i is) le lt (number i)
 access_why h words who (Err reason.Word) f never form only number = λ a has le. unnamed who a never (only a has) le
 access_why h words who (Err reason.Actor) f (i, le, never, is) form only number = (Vcpu i, form i is, le, never)
@@ -134,7 +103,7 @@ access_why h words who (Err reason.Number) f never form only number = absurd nev
 abbrev Three : List ℕ → List ℕ → Actor → Type 0
 Three who verb a = IsNamedBy who a × (verb ≡ codes "read")
 
-three : (who verb x : List ℕ) (a : Actor) → HasForm (who ∷ verb ∷ x ∷ []) a → Three who verb a
+three : (who verb x : List ℕ) (a : Actor) → IsCommandForm (who ∷ verb ∷ x ∷ []) a → Three who verb a
 three who verb x (Vcpu i) (inl (y, e)) = (cc, cc)
 three who verb x (Vcpu i) (inr (inl (y, z, e))) = absurd (let no : ⊥ = cc in no)
 three who verb x (Vcpu i) (inr (inr (y, z, e))) = absurd (let no : ⊥ = cc in no)
@@ -145,7 +114,7 @@ three who verb x (Worker i) form = absurd form
 abbrev Four : List ℕ → List ℕ → Actor → Type 0
 Four who verb a = IsNamedBy who a × ((verb ≡ codes "write") ⊎ (verb ≡ codes "add"))
 
-four : (who verb x y : List ℕ) (a : Actor) → HasForm (who ∷ verb ∷ x ∷ y ∷ []) a → Four who verb a
+four : (who verb x y : List ℕ) (a : Actor) → IsCommandForm (who ∷ verb ∷ x ∷ y ∷ []) a → Four who verb a
 four who verb x y (Vcpu i) (inl (z, e)) = absurd (let no : ⊥ = cc in no)
 four who verb x y (Vcpu i) (inr (inl (z, u, e))) = (cc, inl cc)
 four who verb x y (Vcpu i) (inr (inr (z, u, e))) = (cc, inr cc)
@@ -156,7 +125,7 @@ four who verb x y (Worker i) form = absurd form
 abbrev Six : List ℕ → List ℕ → Type 0
 Six who verb = (who ≡ codes "vm") × (verb ≡ codes "slot")
 
-six : (who verb i b p k : List ℕ) (a : Actor) → HasForm (who ∷ verb ∷ i ∷ b ∷ p ∷ k ∷ []) a → Six who verb
+six : (who verb i b p k : List ℕ) (a : Actor) → IsCommandForm (who ∷ verb ∷ i ∷ b ∷ p ∷ k ∷ []) a → Six who verb
 six who verb i b p k (Vcpu n) (inl (z, e)) = absurd (let no : ⊥ = cc in no)
 six who verb i b p k (Vcpu n) (inr (inl (z, u, e))) = absurd (let no : ⊥ = cc in no)
 six who verb i b p k (Vcpu n) (inr (inr (z, u, e))) = absurd (let no : ⊥ = cc in no)
@@ -167,7 +136,7 @@ six who verb i b p k (Worker n) form = absurd form
 abbrev Seven : List ℕ → List ℕ → List ℕ → Type 0
 Seven who verb last = (who ≡ codes "vm") × (verb ≡ codes "slot") × (last ≡ codes "ro")
 
-seven : (who verb i b p k last : List ℕ) (a : Actor) → HasForm (who ∷ verb ∷ i ∷ b ∷ p ∷ k ∷ last ∷ []) a → Seven who verb last
+seven : (who verb i b p k last : List ℕ) (a : Actor) → IsCommandForm (who ∷ verb ∷ i ∷ b ∷ p ∷ k ∷ last ∷ []) a → Seven who verb last
 seven who verb i b p k last (Vcpu n) (inl (z, e)) = absurd (let no : ⊥ = cc in no)
 seven who verb i b p k last (Vcpu n) (inr (inl (z, u, e))) = absurd (let no : ⊥ = cc in no)
 seven who verb i b p k last (Vcpu n) (inr (inr (z, u, e))) = absurd (let no : ⊥ = cc in no)
@@ -186,7 +155,7 @@ read_test h who verb x false y e is = none h (who ∷ verb ∷ x ∷ []) (λ a f
 read_why : (h : Header) (who verb x : List ℕ) → Tells h (who ∷ verb ∷ x ∷ []) (read_form h who verb x)
 unfolding read_form
 read_why h who verb x = read_test h who verb x (bytes_eq verb (codes "read")) _ refl (λ is.
-    access_why h (who ∷ verb ∷ x ∷ []) who (vcpu h who) _ (named h who) (λ i name. inl (x, rw (name, is) refl)) (λ a form. (three who verb x a form).0)
+    access_why h (who ∷ verb ∷ x ∷ []) who (vcpu h who) _ (vcpu_names h who) (λ i name. inl (x, rw (name, is) refl)) (λ a form. (three who verb x a form).0)
     (λ n. bound (address h x) _ (address_number h x) (λ a. tt)))
 
 store_test : (h : Header) (who verb x y : List ℕ) (b c : Bool) (p q : Said) → bytes_eq verb (codes "write") ≡ b → bytes_eq verb (codes "add") ≡ c
@@ -202,9 +171,9 @@ store_test h who verb x y false false p q e f is also = none h (who ∷ verb ∷
 store_why : (h : Header) (who verb x y : List ℕ) → Tells h (who ∷ verb ∷ x ∷ y ∷ []) (store_form h who verb x y)
 unfolding store_form
 store_why h who verb x y = store_test h who verb x y (bytes_eq verb (codes "write")) (bytes_eq verb (codes "add")) _ _ refl refl
-    (λ is. access_why h (who ∷ verb ∷ x ∷ y ∷ []) who (vcpu h who) _ (named h who) (λ i name. inr (inl (x, y, rw (name, is) refl))) (λ a form. (four who verb x y a form).0)
+    (λ is. access_why h (who ∷ verb ∷ x ∷ y ∷ []) who (vcpu h who) _ (vcpu_names h who) (λ i name. inr (inl (x, y, rw (name, is) refl))) (λ a form. (four who verb x y a form).0)
     (λ n. bound (address h x) _ (address_number h x) (λ a. bound (number y) _ (number_number y) (λ v. tt))))
-    (λ is. access_why h (who ∷ verb ∷ x ∷ y ∷ []) who (vcpu h who) _ (named h who) (λ i name. inr (inr (x, y, rw (name, is) refl))) (λ a form. (four who verb x y a form).0)
+    (λ is. access_why h (who ∷ verb ∷ x ∷ y ∷ []) who (vcpu h who) _ (vcpu_names h who) (λ i name. inr (inr (x, y, rw (name, is) refl))) (λ a form. (four who verb x y a form).0)
     (λ n. bound (address h x) _ (address_number h x) (λ a. bound (number y) _ (number_number y) (λ v. tt))))
 
 new_or_number : (b : Bool) (n : ℕ) → IsNumber (new_number b n)
@@ -212,7 +181,7 @@ new_or_number true n = refl
 new_or_number false n = tt
 
 -- A slot line's words: its numbers are looked at.
-setting_why : (h : Header) (seen : ℕ → Bool) (words : List (List ℕ)) (i x y z : List ℕ) (ro : Bool) → HasForm words Manager → Tells h words (setting seen i x y z ro)
+setting_why : (h : Header) (seen : ℕ → Bool) (words : List (List ℕ)) (i x y z : List ℕ) (ro : Bool) → IsCommandForm words Manager → Tells h words (setting seen i x y z ro)
 unfolding setting
 setting_why h seen words i x y z ro form =
     numbers h words Manager _ form tt tt
@@ -242,7 +211,7 @@ read_only_why h seen who verb i x y z last =
     (i, x, y, z, true, rw (word_is who (codes "vm") t.0, word_is verb (codes "slot") t.1, word_is last (codes "ro") u.1) refl))
 
 -- No other count of words has a form.
-counted : (words : List (List ℕ)) (a : Actor) → HasForm words a → (length words ≡ 3) ⊎ (length words ≡ 4) ⊎ (length words ≡ 6) ⊎ (length words ≡ 7)
+counted : (words : List (List ℕ)) (a : Actor) → IsCommandForm words a → (length words ≡ 3) ⊎ (length words ≡ 4) ⊎ (length words ≡ 6) ⊎ (length words ≡ 7)
 counted words (Vcpu i) (inl (x, e)) = inl (rw e refl)
 counted words (Vcpu i) (inr (inl (x, y, e))) = inr (inl (rw e refl))
 counted words (Vcpu i) (inr (inr (x, y, e))) = inr (inl (rw e refl))

@@ -1,6 +1,7 @@
 -- What follows where a test or a step of a reading gave this value.
-use Rattle.std.proofs.Common.{◌≡◌, ◌⊎◌, ◌&&◌, inl, inr, ℕ, List, Bool, true, false, Result, Ok, Err, cond, refl}
+use Rattle.std.proofs.Common.{◌≡◌, ◌⊎◌, ◌&&◌, ◌==◌, inl, inr, ℕ, List, ◌∷◌, Bool, true, false, Result, Ok, Err, cond, refl}
 use Rattle.std.specs.Str.{bytes_eq}
+use Rattle.std.proofs.lemmas.Bool.{eq-eqb}
 use Rattle.std.proofs.lemmas.Slice.Eq.{bytes_eq-Decides}
 use Rattle.trace_reader.specs.declared.reason.Reason.{Reason}
 use Rattle.trace_reader.specs.Forms.{◌>>=◌}
@@ -27,3 +28,17 @@ word_is w v e = (bytes_eq-Decides w v).0 e
 
 pub is_word : (w v : List ℕ) → w ≡ v → bytes_eq w v ≡ true
 is_word w v e = (bytes_eq-Decides w v).1 e
+
+-- Lists with two first elements differ.
+pub heads_differ : (a b : ℕ) (xs ys : List ℕ) → (a == b) ≡ false → a ∷ xs ≡ b ∷ ys → ⊥
+heads_differ a b xs ys e is =
+    let same : a ≡ b = cc in
+    let t : (a == b) ≡ true = eq-eqb a b same in
+    cc
+
+pub other_word : (w v : List ℕ) → (w ≡ v → ⊥) → bytes_eq w v ≡ false
+other_word w v never = by (bytes_eq w v) refl
+  where
+    by : (b : Bool) → bytes_eq w v ≡ b → b ≡ false
+    by true e = absurd (never (word_is w v e))
+    by false e = refl

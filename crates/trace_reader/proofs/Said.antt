@@ -1,5 +1,5 @@
--- What the words of a line say is read, and only that.
-use Rattle.std.proofs.Common.{◌≡◌, ◌≤◌, ◌<◌, ◌+◌, ◌*◌, ◌/◌, ◌%◌, ◌^◌, inl, inr, ℕ, List, [], ◌∷◌, Bool, true, false, Ok, refl, ap, arith, subst, ◌==◌, ◌&&◌, nat_lt, nat_le}
+-- What the words of an actor's line say is read, and only that.
+use Rattle.std.proofs.Common.{◌≡◌, ◌≤◌, ◌<◌, ◌+◌, ◌*◌, ◌/◌, ◌%◌, ◌^◌, inl, inr, ℕ, List, [], ◌∷◌, Bool, true, false, Ok, refl, ap, arith, subst, ◌&&◌}
 use Rattle.std.specs.Prelude.{codes}
 use Rattle.std.specs.Fmt.{decimal}
 use Rattle.std.specs.Str.{bytes_eq}
@@ -14,19 +14,17 @@ use Rattle.core_views.specs.declared.trace.Command.TheVariants.{Access, SetSlot}
 use Rattle.core_views.specs.declared.trace.Op.TheVariants.{Read, Write, Add}
 use Rattle.core_views.specs.declared.trace.Slot.{Slot}
 use Rattle.core_views.specs.declared.trace.Header.{Header}
-use Rattle.trace_reader.specs.Numbers.{number_of, decimal_number}
-use Rattle.trace_reader.specs.Forms.{number, or_number, is_address, access_at, address, declared, indexed, vcpu, read_form, store_form, is_slot, slot, new_number, setting, slot_form, read_only_slot_form, by_form}
-use Rattle.trace_reader.specs.Grammar.{Spells, ending, AreWordsOf}
+use Rattle.trace_reader.specs.Numbers.{number_of}
+use Rattle.trace_reader.specs.Forms.{number, or_number, is_address, access_at, address, vcpu, read_form, store_form, is_slot, slot, new_number, setting, slot_form, read_only_slot_form, by_form}
+use Rattle.trace_reader.specs.Grammar.{Spells, ending, AreCommandWords}
 use Rattle.trace_reader.proofs.Results.{branch, then_ok, both, word_is}
-use Rattle.trace_reader.proofs.Spelled.{spelled, spelling, decimal_found, decimal_only}
+use Rattle.trace_reader.proofs.Spelled.{spelled, spelling}
+use Rattle.trace_reader.proofs.Names.{Names, index_named, index_judged}
 
 -- the words of the forms
-declared_vcpu : (n count : ℕ) → n < count → count ≤ 16 → declared count (Some n) ≡ Ok n
-declared_vcpu n count a b = grind (arith, nat_tests)
-
 vcpu_named : (h : Header) (n : ℕ) → n < h.vcpus → h.vcpus ≤ 16 → vcpu h (118 ∷ decimal n) ≡ Ok n
-unfolding vcpu indexed
-vcpu_named h n known few = rw (decimal_only n (omega arith), declared_vcpu n h.vcpus known few) refl
+unfolding vcpu
+vcpu_named h n known few = index_named 118 15 h.vcpus n (omega arith) (omega arith) known
 
 number_spelled : (w : List ℕ) (n : ℕ) → Spells w n → number w ≡ Ok n
 unfolding number
@@ -71,7 +69,7 @@ either_form h seen true i x y z = refl
 either_form h seen false i x y z = refl
 
 -- What the words of a form say is read.
-pub reads : (h : Header) (seen : ℕ → Bool) (words : List (List ℕ)) (a : Actor) (c : Command) → h.vcpus ≤ 16 → h.words ≤ 8 → IsCommandOf h a c → AreWordsOf seen words a c → by_form h seen words ≡ Ok (a, c)
+pub reads : (h : Header) (seen : ℕ → Bool) (words : List (List ℕ)) (a : Actor) (c : Command) → h.vcpus ≤ 16 → h.words ≤ 8 → IsCommandOf h a c → AreCommandWords seen words a c → by_form h seen words ≡ Ok (a, c)
 unfolding by_form read_form store_form slot_form read_only_slot_form
 reads h seen words (Vcpu i) (Access gfn word Read) vcpus few (known, low, small) (x, e, s) =
     rw (e, vcpu_named h i known vcpus, address_spelled h x gfn word s low small few) refl
@@ -87,26 +85,12 @@ reads h seen words Manager (SetSlot id s) vcpus few in_range (i, x, y, z, first,
 reads h seen words (Worker i) c vcpus few in_range form = absurd form
 
 -- What is read is said.
-declared_found : (count : ℕ) (o : Option ℕ) (n : ℕ) → declared count o ≡ Ok n → (o ≡ Some n) × (n < count)
-declared_found count None n e = cc
-declared_found count (Some m) n e = elim (branch (nat_le m 15) _ _ (Ok n) e) [
-  | inl p ↦ elim (branch (nat_lt m count) _ _ (Ok n) p.1) [
-    | inl q ↦ let same : m ≡ n = cc in let low : m < count = grind (arith, nat_tests, q.0) in (ap (λ (k : ℕ). Some k) same, omega arith)
-    | inr q ↦ cc
-  ]
-  | inr p ↦ cc
-]
+pub vcpu_names : (h : Header) (w : List ℕ) → Names 118 15 h.vcpus w (vcpu h w)
+unfolding vcpu
+vcpu_names h w = index_judged 118 15 h.vcpus w (omega arith)
 
 vcpu_found : (h : Header) (w : List ℕ) (n : ℕ) → vcpu h w ≡ Ok n → (w ≡ 118 ∷ decimal n) × (n < h.vcpus)
-unfolding vcpu indexed
-vcpu_found h [] n e = cc
-vcpu_found h (c ∷ ds) n e = elim (branch (c == 118) (declared h.vcpus (decimal_number ds)) _ (Ok n) e) [
-  | inl p ↦ let v : c ≡ 118 = grind (arith, nat_tests, p.0) in
-      let d = declared_found h.vcpus (decimal_number ds) n p.1 in
-      let w = decimal_found ds n d.0 in
-      (rw (v, ← w.1) refl, d.1)
-  | inr p ↦ cc
-]
+vcpu_found h w n e = let (low, known, is) = subst (Names 118 15 h.vcpus w) e (vcpu_names h w) in (is, known)
 
 some_number : (o : Option ℕ) (n : ℕ) → or_number o ≡ Ok n → o ≡ Some n
 some_number None n e = cc
@@ -156,7 +140,7 @@ slot_found x y z ro s e =
 
 -- The words say this actor and command.
 abbrev IsPairSaid : Header → (ℕ → Bool) → List (List ℕ) → Actor × Command → Type 0
-IsPairSaid h seen words p = IsCommandOf h p.0 p.1 × AreWordsOf seen words p.0 p.1
+IsPairSaid h seen words p = IsCommandOf h p.0 p.1 × AreCommandWords seen words p.0 p.1
 
 read_said : (h : Header) (seen : ℕ → Bool) (who verb x : List ℕ) (i gfn word : ℕ) → who ≡ 118 ∷ decimal i → verb ≡ codes "read" → i < h.vcpus → Spells x (4096 * gfn + 8 * word) → gfn < 2 ^ 36 → word < h.words → IsPairSaid h seen (who ∷ verb ∷ x ∷ []) (Vcpu i, Access gfn word Read)
 read_said h seen who verb x i gfn word name is known s low small = ((known, low, small), (x, rw (name, is) refl, s))

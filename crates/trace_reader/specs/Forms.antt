@@ -1,6 +1,6 @@
--- What the words of a line behind the header say: one function for each count of words, one case in it for each form.
+-- What the words of an actor's line say: one function for each count of words, one case in it for each form.
 use Rattle.std.specs.Prelude.{◌*◌, ◌/◌, ◌%◌, ◌^◌, ℕ, List, [], ◌∷◌, Bool, true, false, ◌&&◌, nat_lt, nat_le, ◌==◌, if◌then◌else◌, codes, length, Result, Ok, Err}
-use Rattle.std.specs.List.{list_any, slice_split}
+use Rattle.std.specs.List.{slice_split}
 use Rattle.std.specs.Str.{bytes_eq}
 use Rattle.std.specs.declared.option.Option.{Option}
 use Rattle.std.specs.declared.option.Option.TheVariants.{Some, None}
@@ -44,18 +44,18 @@ unfoldable pub address : Header → List ℕ → Result (ℕ × ℕ) Reason
 address h w = access_at h.words (number_of w)
 
 -- an index that an actor's name may have, below the count of those that are declared
-abbrev pub declared : ℕ → Option ℕ → Result ℕ Reason
-declared count None = Err reason.Word
-declared count (Some n) = if nat_le n 15 then (if nat_lt n count then Ok n else Err reason.Actor) else Err reason.Word
+abbrev pub declared : ℕ → ℕ → Option ℕ → Result ℕ Reason
+declared most count None = Err reason.Word
+declared most count (Some n) = if nat_le n most then (if nat_lt n count then Ok n else Err reason.Actor) else Err reason.Word
 
 -- the index in a name: the letter, and an index in decimal
-unfoldable pub indexed : ℕ → ℕ → List ℕ → Result ℕ Reason
-indexed letter count [] = Err reason.Word
-indexed letter count (c ∷ ds) = if c == letter then declared count (decimal_number ds) else Err reason.Word
+unfoldable pub indexed : ℕ → ℕ → ℕ → List ℕ → Result ℕ Reason
+indexed letter most count [] = Err reason.Word
+indexed letter most count (c ∷ ds) = if c == letter then declared most count (decimal_number ds) else Err reason.Word
 
 -- the virtual processor that the word names: `v` and its index
 unfoldable pub vcpu : Header → List ℕ → Result ℕ Reason
-vcpu h w = indexed 118 h.vcpus w
+vcpu h w = indexed 118 15 h.vcpus w
 
 -- an actor and its command, or why there is none
 abbrev pub Said : Type 0
@@ -107,7 +107,7 @@ read_only_slot_form seen who verb id base pages host last =
     if bytes_eq who (codes "vm") && bytes_eq verb (codes "slot") && bytes_eq last (codes "ro") then setting seen id base pages host true else
     Err reason.Word
 
--- what these words say, by their count; `seen`: the IDs that slot lines before name
+-- what the words of an actor's command say, by their count; `seen`: the IDs that slot lines before name
 unfoldable pub by_form : Header → (ℕ → Bool) → List (List ℕ) → Said
 by_form h seen (who ∷ verb ∷ x ∷ []) = read_form h who verb x
 by_form h seen (who ∷ verb ∷ x ∷ y ∷ []) = store_form h who verb x y
@@ -119,14 +119,6 @@ by_form h seen _ = Err reason.Word
 abbrev pub is_empty : List ℕ → Bool
 is_empty w = length w == 0
 
--- what the words say, none of which may be empty
-unfoldable pub by_words : Header → (ℕ → Bool) → List (List ℕ) → Said
-by_words h seen words = if list_any is_empty words then Err reason.Word else by_form h seen words
-
 -- the words of a line: what stands between its spaces
 abbrev pub words_of : List ℕ → List (List ℕ)
 words_of bytes = slice_split (λ b. b == 32) bytes
-
--- what the bytes of a line say
-unfoldable pub said : Header → (ℕ → Bool) → List ℕ → Said
-said h seen bytes = by_words h seen (words_of bytes)

@@ -3,17 +3,22 @@ use Rattle.std.specs.Prelude.{◌≡◌, ◌≤◌, ◌<◌, ◌+◌, ◌*◌, �
 use Rattle.std.specs.List.{list_all, join_with_byte}
 use Rattle.std.specs.Fmt.{decimal}
 use Rattle.core_views.specs.Text.{actor_name}
-use Rattle.core_views.specs.Traces.{IsCommandOf, IsHeader}
+use Rattle.core_views.specs.Traces.{IsHeader}
 use Rattle.core_views.specs.declared.actor.Actor.{Actor}
 use Rattle.core_views.specs.declared.actor.Actor.TheVariants.{Vcpu, Host, Manager, Worker}
 use Rattle.core_views.specs.declared.trace.Command.{Command}
 use Rattle.core_views.specs.declared.trace.Command.TheVariants.{Access, SetSlot}
 use Rattle.core_views.specs.declared.trace.Op.TheVariants.{Read, Write, Add}
 use Rattle.core_views.specs.declared.trace.Header.{Header}
+use Rattle.core_views.specs.declared.trace.Until.{Until}
+use Rattle.core_views.specs.declared.trace.Until.TheVariants.{Turns, Answered, Made}
 use Rattle.trace_reader.specs.declared.reason.Reason.{Reason}
 use Rattle.trace_reader.specs.declared.reason.Reason.TheVariants as reason
-use Rattle.trace_reader.specs.Numbers.{is_hex_digit, value}
-use Rattle.trace_reader.specs.Forms.{said}
+use Rattle.trace_reader.specs.declared.saying.Saying.{Saying}
+use Rattle.trace_reader.specs.declared.saying.Saying.TheVariants.{Does, Go, Schedules}
+use Rattle.trace_reader.specs.Numbers.{is_digit, is_hex_digit, value}
+use Rattle.trace_reader.specs.Items.{begins, kind_names}
+use Rattle.trace_reader.specs.Sayings.{Seen, IsSayingOf, said}
 
 -- The word is `0x` and 1 to 16 of the digits `0` to `9` and `a` to `f`, whose value is the number.
 abbrev pub IsHexOf : List ℕ → ℕ → Type 0
@@ -48,25 +53,45 @@ abbrev pub slot_words : List ℕ → List ℕ → List ℕ → List ℕ → Bool
 slot_words i b p k read_only = actor_name Manager ∷ codes "slot" ∷ i ∷ b ∷ p ∷ k ∷ ending read_only
 
 -- The words are of the command's form, and spell its numbers; an ID of a slot that was seen is none.
-abbrev pub AreWordsOf : (ℕ → Bool) → List (List ℕ) → Actor → Command → Type 0
-AreWordsOf seen words (Vcpu i) (Access gfn word Read) = (a : List ℕ) × (words ≡ read_words i a) × Spells a (4096 * gfn + 8 * word)
-AreWordsOf seen words (Vcpu i) (Access gfn word (Write v)) = (a x : List ℕ) × (words ≡ write_words i a x) × Spells a (4096 * gfn + 8 * word) × Spells x v
-AreWordsOf seen words (Vcpu i) (Access gfn word (Add v)) = (a x : List ℕ) × (words ≡ add_words i a x) × Spells a (4096 * gfn + 8 * word) × Spells x v
-AreWordsOf seen words Manager (SetSlot id slot) = (i b p k : List ℕ) × (seen id ≡ false) × (words ≡ slot_words i b p k slot.read_only) × Spells i id × Spells b slot.base × Spells p slot.pages × Spells k slot.host
-AreWordsOf seen words _ _ = ⊥
+abbrev pub AreCommandWords : (ℕ → Bool) → List (List ℕ) → Actor → Command → Type 0
+AreCommandWords ids words (Vcpu i) (Access gfn word Read) = (a : List ℕ) × (words ≡ read_words i a) × Spells a (4096 * gfn + 8 * word)
+AreCommandWords ids words (Vcpu i) (Access gfn word (Write v)) = (a x : List ℕ) × (words ≡ write_words i a x) × Spells a (4096 * gfn + 8 * word) × Spells x v
+AreCommandWords ids words (Vcpu i) (Access gfn word (Add v)) = (a x : List ℕ) × (words ≡ add_words i a x) × Spells a (4096 * gfn + 8 * word) × Spells x v
+AreCommandWords ids words Manager (SetSlot id slot) = (i b p k : List ℕ) × (ids id ≡ false) × (words ≡ slot_words i b p k slot.read_only) × Spells i id × Spells b slot.base × Spells p slot.pages × Spells k slot.host
+AreCommandWords ids words _ _ = ⊥
 
--- The bytes of a line say that the actor makes the command: they are words of its form, and its numbers are in their
--- ranges. `seen`: the IDs that slot lines before name.
-abbrev pub SaysLine : Header → (ℕ → Bool) → List ℕ → Actor → Command → Type 0
-SaysLine h seen bytes actor command = IsCommandOf h actor command × ((words : List (List ℕ)) × (bytes ≡ spaced words) × AreWordsOf seen words actor command)
+-- the words of `> ACTOR N`, `> ACTOR end` and `> ACTOR KIND`
+abbrev pub item_words : Actor → List ℕ → List (List ℕ)
+item_words actor last = codes ">" ∷ actor_name actor ∷ last ∷ []
+
+-- The word is the name of the kind of step with this number, from 1: the list of their names has it there.
+abbrev pub IsKindNamed : List ℕ → ℕ → Type 0
+IsKindNamed w code = (before after : List (List ℕ)) × (kind_names ≡ before ++ w ∷ after) × (code ≡ length before + 1)
+
+-- The last word of an item says until when the turns go on. The kind of step that is named `end` can't be meant.
+abbrev pub SaysUntil : List ℕ → Until → Type 0
+SaysUntil w (Turns count) = Spells w count
+SaysUntil w Answered = w ≡ codes "end"
+SaysUntil w (Made code) = (w ≡ codes "end" → ⊥) × IsKindNamed w code
+
+-- The words are those of this saying. A second `go` is none.
+abbrev pub AreWordsOf : Seen → List (List ℕ) → Saying → Type 0
+AreWordsOf seen words (Does actor command) = AreCommandWords seen.ids words actor command
+AreWordsOf seen words Go = (seen.go ≡ false) × (words ≡ codes "go" ∷ [])
+AreWordsOf seen words (Schedules item) = (last : List ℕ) × (words ≡ item_words item.actor last) × SaysUntil last item.until
+
+-- The bytes of a line say this: they are words of its form, its actor is declared, and its numbers are in their ranges.
+-- `seen`: what the lines before it say.
+abbrev pub SaysLine : Header → Seen → List ℕ → Saying → Type 0
+SaysLine h seen bytes s = IsSayingOf h s × ((words : List (List ℕ)) × (bytes ≡ spaced words) × AreWordsOf seen words s)
 
 -- What a line says is read.
 abbrev pub ReadsWhatIsSaid : Type 0
-ReadsWhatIsSaid = (h : Header) (seen : ℕ → Bool) (bytes : List ℕ) (actor : Actor) (command : Command) → IsHeader h → SaysLine h seen bytes actor command → said h seen bytes ≡ Ok (actor, command)
+ReadsWhatIsSaid = (h : Header) (seen : Seen) (bytes : List ℕ) (s : Saying) → IsHeader h → SaysLine h seen bytes s → said h seen bytes ≡ Ok s
 
 -- Only what a line says is read.
 abbrev pub ReadsNothingElse : Type 0
-ReadsNothingElse = (h : Header) (seen : ℕ → Bool) (bytes : List ℕ) (actor : Actor) (command : Command) → said h seen bytes ≡ Ok (actor, command) → SaysLine h seen bytes actor command
+ReadsNothingElse = (h : Header) (seen : Seen) (bytes : List ℕ) (s : Saying) → said h seen bytes ≡ Ok s → SaysLine h seen bytes s
 
 -- The word has bytes, and no space.
 pub record IsWord (w : List ℕ) : Type 0 where
@@ -86,11 +111,23 @@ IsAccessForm i words = ((a : List ℕ) × (words ≡ read_words i a)) ⊎ ((a x 
 abbrev pub IsSlotForm : List (List ℕ) → Type 0
 IsSlotForm words = (i b p k : List ℕ) × (read_only : Bool) × (words ≡ slot_words i b p k read_only)
 
--- The words are of a form that the actor's lines have.
+-- The words are of a form that the actor's own lines have.
+abbrev pub IsCommandForm : List (List ℕ) → Actor → Type 0
+IsCommandForm words (Vcpu i) = IsAccessForm i words
+IsCommandForm words Manager = IsSlotForm words
+IsCommandForm words _ = ⊥
+
+-- The last word of an item is of a form: it begins with a digit, is `end`, or names a kind of step.
+abbrev pub IsUntilForm : List ℕ → Type 0
+IsUntilForm w = (begins is_digit w ≡ true) ⊎ (w ≡ codes "end") ⊎ ((code : ℕ) × IsKindNamed w code)
+
+-- The words are those of an item of this actor, whatever number stands in it.
+abbrev pub IsItemForm : List (List ℕ) → Actor → Type 0
+IsItemForm words actor = (last : List ℕ) × (words ≡ item_words actor last) × IsUntilForm last
+
+-- The words are of a form that names the actor.
 abbrev pub HasForm : List (List ℕ) → Actor → Type 0
-HasForm words (Vcpu i) = IsAccessForm i words
-HasForm words Manager = IsSlotForm words
-HasForm words _ = ⊥
+HasForm words actor = IsCommandForm words actor ⊎ IsItemForm words actor
 
 -- Some header declares the actor.
 abbrev pub IsActor : Actor → Type 0
@@ -106,25 +143,29 @@ IsDeclared h (Host i) = i < length h.hosts
 IsDeclared h Manager = Unit {0}
 IsDeclared h (Worker i) = i < h.workers
 
--- The bytes of a line are words of a form of this actor's lines; neither its being declared nor the numbers are judged.
+-- The bytes of a line are words of a form that names this actor; neither its being declared nor the numbers are judged.
 abbrev pub IsOfForm : List ℕ → Actor → Type 0
 IsOfForm bytes actor = IsActor actor × ((words : List (List ℕ)) × (bytes ≡ spaced words) × AreWords words × HasForm words actor)
 
--- Why a line says nothing: it is of no form; or of a form of an actor that the header doesn't declare; or of a form of
--- one that it does, and says none of this actor's commands.
-abbrev pub SaysNothingFor : Header → (ℕ → Bool) → List ℕ → Reason → Type 0
-SaysNothingFor h seen bytes reason.Word = (actor : Actor) → IsOfForm bytes actor → ⊥
+-- The line is `go`, which wasn't there before.
+abbrev pub IsFirstGo : Seen → List ℕ → Type 0
+IsFirstGo seen bytes = (seen.go ≡ false) × (bytes ≡ codes "go")
+
+-- Why a line says nothing: it is of no form of any actor, and no first `go`; or of a form of an actor that the header
+-- doesn't declare; or of a form of one that it does, and yet says nothing.
+abbrev pub SaysNothingFor : Header → Seen → List ℕ → Reason → Type 0
+SaysNothingFor h seen bytes reason.Word = ((actor : Actor) → IsOfForm bytes actor → ⊥) × (IsFirstGo seen bytes → ⊥)
 SaysNothingFor h seen bytes reason.Actor = (actor : Actor) × IsOfForm bytes actor × (IsDeclared h actor → ⊥)
-SaysNothingFor h seen bytes reason.Number = (actor : Actor) × IsOfForm bytes actor × IsDeclared h actor × ((command : Command) → SaysLine h seen bytes actor command → ⊥)
+SaysNothingFor h seen bytes reason.Number = (actor : Actor) × IsOfForm bytes actor × IsDeclared h actor × ((s : Saying) → SaysLine h seen bytes s → ⊥)
 SaysNothingFor h seen bytes _ = ⊥
 
 -- A line that says nothing for a reason is refused for this one.
 abbrev pub RefusesForTheReason : Type 0
-RefusesForTheReason = (h : Header) (seen : ℕ → Bool) (bytes : List ℕ) (r : Reason) → IsHeader h → SaysNothingFor h seen bytes r → said h seen bytes ≡ Err r
+RefusesForTheReason = (h : Header) (seen : Seen) (bytes : List ℕ) (r : Reason) → IsHeader h → SaysNothingFor h seen bytes r → said h seen bytes ≡ Err r
 
 -- A line is refused only for the reason for which it says nothing.
 abbrev pub RefusesForNoOther : Type 0
-RefusesForNoOther = (h : Header) (seen : ℕ → Bool) (bytes : List ℕ) (r : Reason) → IsHeader h → said h seen bytes ≡ Err r → SaysNothingFor h seen bytes r
+RefusesForNoOther = (h : Header) (seen : Seen) (bytes : List ℕ) (r : Reason) → IsHeader h → said h seen bytes ≡ Err r → SaysNothingFor h seen bytes r
 
 -- The reason is one of a line that says nothing.
 abbrev pub IsLineReason : Reason → Type 0
@@ -132,4 +173,4 @@ IsLineReason r = (r ≡ reason.Word) ⊎ (r ≡ reason.Actor) ⊎ (r ≡ reason.
 
 -- A line that says nothing is refused.
 abbrev pub RefusesTheRest : Type 0
-RefusesTheRest = (h : Header) (seen : ℕ → Bool) (bytes : List ℕ) → ((actor : Actor) (command : Command) → SaysLine h seen bytes actor command → ⊥) → (r : Reason) × (said h seen bytes ≡ Err r) × IsLineReason r
+RefusesTheRest = (h : Header) (seen : Seen) (bytes : List ℕ) → ((s : Saying) → SaysLine h seen bytes s → ⊥) → (r : Reason) × (said h seen bytes ≡ Err r) × IsLineReason r

@@ -1,14 +1,15 @@
 -- What an input says, over its bytes, or at which line and why it says nothing; and that the reader takes just this.
 use Rattle.std.specs.Prelude.{◌≡◌, ◌≤◌, ◌+◌, ◌⊎◌, ◌++◌, ℕ, List, [], ◌∷◌, codes, Bool, true, false, length, if◌then◌else◌, All, Ok, Err}
 use Rattle.std.specs.List.{list_any}
-use Rattle.core_views.specs.declared.actor.Actor.{Actor}
-use Rattle.core_views.specs.declared.trace.Command.{Command}
 use Rattle.core_views.specs.declared.trace.Header.{Header}
 use Rattle.core_views.specs.declared.trace.Line.{Line}
 use Rattle.core_views.specs.declared.trace.Trace.{Trace}
 use Rattle.trace_reader.specs.declared.reason.Reason.{Reason}
 use Rattle.trace_reader.specs.declared.reason.Reason.TheVariants as reason
-use Rattle.trace_reader.specs.Lines.{Raw, none_seen, seen_with, sets_at}
+use Rattle.trace_reader.specs.declared.saying.Saying.{Saying}
+use Rattle.trace_reader.specs.Sayings.{Seen, is_there}
+use Rattle.trace_reader.specs.Lines.{Raw, Told, none_seen, seen_with, sets_at}
+use Rattle.trace_reader.specs.Gathered.{Gathers}
 use Rattle.trace_reader.specs.Reading.{reading}
 use Rattle.trace_reader.specs.Grammar.{spaced, SaysLine, SaysNothingFor}
 use Rattle.trace_reader.specs.HeaderGrammar.{IsHeaderSaid}
@@ -34,16 +35,16 @@ IsSkipped text = (text ≡ []) ⊎ ((comment : List ℕ) × (text ≡ codes "#" 
 abbrev pub SaysHeader : List ℕ → Header → Type 0
 SaysHeader text h = (words : List (List ℕ)) × (text ≡ spaced words) × IsHeaderSaid words h
 
--- The texts of the lines from line n on say these lines: a skipped one says nothing, and each other one says an actor
--- and its command. `seen`: the IDs that slot lines before them name.
-abbrev pub SayLines : Header → ℕ → (ℕ → Bool) → List (List ℕ) → List Line → Type 0
-SayLines h n seen [] lines = lines ≡ []
-SayLines h n seen (text ∷ texts) lines = IsText text × ((IsSkipped text × SayLines h (n + 1) seen texts lines) ⊎ ((IsSkipped text → ⊥) × ((actor : Actor) × (command : Command) × (more : List Line) × (lines ≡ record { number = n; actor = actor; command = command } ∷ more) × SaysLine h seen text actor command × SayLines h (n + 1) (seen_with seen command) texts more)))
+-- The texts of the lines from line n on say this: a skipped one says nothing, and each other one says something.
+-- `seen`: what the lines before them say.
+abbrev pub SayLines : Header → ℕ → Seen → List (List ℕ) → List Told → Type 0
+SayLines h n seen [] told = told ≡ []
+SayLines h n seen (text ∷ texts) told = IsText text × ((IsSkipped text × SayLines h (n + 1) seen texts told) ⊎ ((IsSkipped text → ⊥) × ((s : Saying) × (more : List Told) × (told ≡ (n, s) ∷ more) × SaysLine h seen text s × SayLines h (n + 1) (seen_with seen s) texts more)))
 
--- The texts of an input's lines say the trace: the first its header, the others its lines.
+-- The texts of an input's lines say the trace: the first its header, the others its lines, `go` and its items.
 abbrev pub SayTrace : List (List ℕ) → Trace → Type 0
 SayTrace [] t = ⊥
-SayTrace (first ∷ texts) t = (length (with_ends (first ∷ texts)) ≤ 16777216) × (length (first ∷ texts) ≤ 1000000) × IsText first × SaysHeader first t.header × SayLines t.header 2 none_seen texts t.lines
+SayTrace (first ∷ texts) t = (length (with_ends (first ∷ texts)) ≤ 16777216) × (length (first ∷ texts) ≤ 1000000) × IsText first × SaysHeader first t.header × ((told : List Told) × SayLines t.header 2 none_seen texts told × Gathers t told)
 
 -- The bytes of an input say the trace.
 abbrev pub SaysTrace : List ℕ → Trace → Type 0
@@ -75,8 +76,8 @@ FailsFirst line _ = ⊥
 abbrev pub HeaderFails : Raw → Reason → Type 0
 HeaderFails line r = FailsFirst line r ⊎ (PassesAll line × (r ≡ reason.Header) × ((h : Header) → SaysHeader line.bytes h → ⊥))
 
--- A line behind the header fails for this reason; `seen`: the IDs that slot lines before name.
-abbrev pub LineFails : Header → (ℕ → Bool) → Raw → Reason → Type 0
+-- A line behind the header fails for this reason; `seen`: what the lines before it say.
+abbrev pub LineFails : Header → Seen → Raw → Reason → Type 0
 LineFails h seen line r = FailsFirst line r ⊎ (PassesAll line × (IsSkipped line.bytes → ⊥) × SaysNothingFor h seen line.bytes r)
 
 -- the line with this text that stands behind lines with these texts
@@ -86,6 +87,10 @@ line_behind before text ended = record { number = length before + 1; end = lengt
 -- the IDs that the lines set slots at
 abbrev pub set_by : List Line → ℕ → Bool
 set_by lines id = list_any (λ l. sets_at id l.command) lines
+
+-- what the lines of a trace say that a line behind them is judged by
+abbrev pub seen_in : Trace → Seen
+seen_in t = record { ids = set_by t.lines; go = is_there t.go }
 
 -- Behind lines with these texts a line with this text stands in the input: LF ends it, or nothing stands behind it.
 abbrev pub HasLine : List ℕ → List (List ℕ) → List ℕ → Bool → Type 0
@@ -98,7 +103,7 @@ FirstLineFails input r = (text : List ℕ) × (ended : Bool) × HasLine input []
 
 -- Line n of the input is a later one, and fails for this reason; the lines before it say a trace by themselves.
 abbrev pub LaterLineFails : List ℕ → ℕ → Reason → Type 0
-LaterLineFails input n r = (before : List (List ℕ)) × (t : Trace) × SayTrace before t × (n ≡ length before + 1) × ((text : List ℕ) × (ended : Bool) × HasLine input before text ended × (ended ≡ false → text ≡ [] → ⊥) × LineFails t.header (set_by t.lines) (line_behind before text ended) r)
+LaterLineFails input n r = (before : List (List ℕ)) × (t : Trace) × SayTrace before t × (n ≡ length before + 1) × ((text : List ℕ) × (ended : Bool) × HasLine input before text ended × (ended ≡ false → text ≡ [] → ⊥) × LineFails t.header (seen_in t) (line_behind before text ended) r)
 
 -- Line n is the first of the input that fails, and fails for this reason.
 abbrev pub FailsAt : List ℕ → ℕ → Reason → Type 0

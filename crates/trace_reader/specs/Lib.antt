@@ -1,9 +1,12 @@
 pub mod Reasons
 pub mod Numbers
 pub mod Forms
+pub mod Items
+pub mod Sayings
 pub mod Headers
 pub mod Steps
 pub mod Lines
+pub mod Gathered
 pub mod Reading
 pub mod Runs
 pub mod Grammar

@@ -3,14 +3,15 @@ use Rattle.std.specs.Prelude.{◌+◌, ℕ, List, [], ◌∷◌, Bool, true, fal
 use Rattle.std.specs.List.{slice_split, list_all}
 use Rattle.std.specs.declared.option.Option.{Option}
 use Rattle.std.specs.declared.option.Option.TheVariants.{Some, None}
-use Rattle.core_views.specs.declared.actor.Actor.{Actor}
 use Rattle.core_views.specs.declared.trace.Command.{Command}
 use Rattle.core_views.specs.declared.trace.Command.TheVariants.{Access, SetSlot}
 use Rattle.core_views.specs.declared.trace.Header.{Header}
-use Rattle.core_views.specs.declared.trace.Line.{Line}
 use Rattle.trace_reader.specs.declared.reason.Reason.{Reason}
 use Rattle.trace_reader.specs.declared.reason.Reason.TheVariants as reason
-use Rattle.trace_reader.specs.Forms.{◌>>=◌, is_empty, said}
+use Rattle.trace_reader.specs.declared.saying.Saying.{Saying}
+use Rattle.trace_reader.specs.declared.saying.Saying.TheVariants.{Does, Go, Schedules}
+use Rattle.trace_reader.specs.Forms.{◌>>=◌, is_empty}
+use Rattle.trace_reader.specs.Sayings.{Seen, said}
 
 -- the parts of an input: LF ends each but the last
 abbrev pub parts_of : List ℕ → List (List ℕ)
@@ -51,58 +52,60 @@ abbrev pub after_checks : {A : Type 0} → Option Reason → Result A Reason →
 after_checks (Some r) read = Err r
 after_checks None read = read
 
--- the line with this number, actor and command
-abbrev pub numbered : ℕ → (Actor × Command) → Line
-numbered n x = record { number = n; actor = x.0; command = x.1 }
-
 -- The line has no bytes, or is a comment: its first byte is `#`.
 abbrev pub is_skipped : List ℕ → Bool
 is_skipped [] = true
 is_skipped (b ∷ bs) = b == 35
 
 -- what the bytes of a line say: nothing where it is skipped
-unfoldable pub content : Header → (ℕ → Bool) → ℕ → List ℕ → Result (Option Line) Reason
-content h seen n bytes = if is_skipped bytes then Ok None else (said h seen bytes >>= λ x. Ok (Some (numbered n x)))
+unfoldable pub content : Header → Seen → List ℕ → Result (Option Saying) Reason
+content h seen bytes = if is_skipped bytes then Ok None else (said h seen bytes >>= λ s. Ok (Some s))
 
--- what a line behind the header says; `seen`: the IDs that slot lines before name
-unfoldable pub line_of : Header → (ℕ → Bool) → Raw → Result (Option Line) Reason
-line_of h seen raw = after_checks (fault_of raw) (content h seen raw.number raw.bytes)
+-- what a line behind the header says
+unfoldable pub line_of : Header → Seen → Raw → Result (Option Saying) Reason
+line_of h seen raw = after_checks (fault_of raw) (content h seen raw.bytes)
 
 -- The command sets a slot at this ID.
 abbrev pub sets_at : ℕ → Command → Bool
 sets_at id (Access gfn word op) = false
 sets_at id (SetSlot i slot) = i == id
 
--- the IDs that were seen, and the one that the command sets a slot at
-abbrev pub seen_with : (ℕ → Bool) → Command → ℕ → Bool
-seen_with seen command id = seen id || sets_at id command
+-- what was seen, with what a line says
+abbrev pub seen_with : Seen → Saying → Seen
+seen_with seen (Does actor command) = record { ids = λ id. seen.ids id || sets_at id command; go = seen.go }
+seen_with seen Go = record { ids = seen.ids; go = true }
+seen_with seen (Schedules item) = seen
 
 -- before the first line
-abbrev pub none_seen : ℕ → Bool
-none_seen id = false
+abbrev pub none_seen : Seen
+none_seen = record { ids = λ id. false; go = false }
 
--- the IDs that slot lines before what follows name
-abbrev pub seen_after : (ℕ → Bool) → Option Line → ℕ → Bool
+-- what was seen, with what a line says that may be skipped
+abbrev pub seen_after : Seen → Option Saying → Seen
 seen_after seen None = seen
-seen_after seen (Some line) = seen_with seen line.command
+seen_after seen (Some s) = seen_with seen s
 
--- the line in front of those that follow, or a refusal of those
-abbrev pub with_line : Option Line → Result (List Line) (ℕ × Reason) → Result (List Line) (ℕ × Reason)
-with_line None rest = rest
-with_line (Some line) (Ok lines) = Ok (line ∷ lines)
-with_line (Some line) (Err e) = Err e
+-- a line's number, and what it says
+abbrev pub Told : Type 0
+Told = ℕ × Saying
+
+-- what line n says in front of what those that follow say, or a refusal of those
+abbrev pub with_line : ℕ → Option Saying → Result (List Told) (ℕ × Reason) → Result (List Told) (ℕ × Reason)
+with_line n None rest = rest
+with_line n (Some s) (Ok told) = Ok ((n, s) ∷ told)
+with_line n (Some s) (Err e) = Err e
 
 -- what line n gives and what the lines behind it say, or the first refusal: its line and the reason
-abbrev pub onto : ℕ → (ℕ → Bool) → Result (Option Line) Reason → ((ℕ → Bool) → Result (List Line) (ℕ × Reason)) → Result (List Line) (ℕ × Reason)
+abbrev pub onto : ℕ → Seen → Result (Option Saying) Reason → (Seen → Result (List Told) (ℕ × Reason)) → Result (List Told) (ℕ × Reason)
 onto n seen (Err r) rest = Err (n, r)
-onto n seen (Ok found) rest = with_line found (rest (seen_after seen found))
+onto n seen (Ok found) rest = with_line n found (rest (seen_after seen found))
 
 -- line n with these bytes, behind `at` bytes of the input
 abbrev pub raw : ℕ → ℕ → Bool → List ℕ → Raw
 raw n at ended bytes = record { number = n; end = at + (length bytes + (if ended then 1 else 0)); ended_by_lf = ended; bytes = bytes }
 
--- the lines of these parts, of which the first has number n and stands behind `at` bytes; `seen`: the IDs that slot lines before name
-unfoldable pub lines_of : Header → ℕ → ℕ → (ℕ → Bool) → List (List ℕ) → Result (List Line) (ℕ × Reason)
+-- what these parts say, of which the first has number n and stands behind `at` bytes; `seen`: what the lines before them say
+unfoldable pub lines_of : Header → ℕ → ℕ → Seen → List (List ℕ) → Result (List Told) (ℕ × Reason)
 lines_of h n at seen [] = Ok []
 lines_of h n at seen (last ∷ []) = if is_empty last then Ok [] else onto n seen (line_of h seen (raw n at false last)) (λ now. Ok [])
 lines_of h n at seen (x ∷ y ∷ more) = onto n seen (line_of h seen (raw n at true x)) (λ now. lines_of h (n + 1) (at + (length x + 1)) now (y ∷ more))

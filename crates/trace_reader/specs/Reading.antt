@@ -5,7 +5,6 @@ use Rattle.std.specs.Io.KnownBytes.{Consumes, IsAtEnd}
 use Rattle.core_views.specs.Traces.{IsTrace}
 use Rattle.core_views.specs.declared.no_memory.NoMemory.{NoMemory}
 use Rattle.core_views.specs.declared.trace.Header.{Header}
-use Rattle.core_views.specs.declared.trace.Line.{Line}
 use Rattle.core_views.specs.declared.trace.Trace.{Trace}
 use Rattle.tdp_io.specs.Ends.{Rose}
 use Rattle.trace_reader.specs.declared.reason.Reason.{Reason}
@@ -14,19 +13,24 @@ use Rattle.trace_reader.specs.declared.outcome.Read.{Read}
 use Rattle.trace_reader.specs.declared.outcome.Read.TheVariants as outcome
 use Rattle.trace_reader.specs.Headers.{header_of}
 use Rattle.trace_reader.specs.Forms.{words_of}
-use Rattle.trace_reader.specs.Lines.{Raw, parts_of, fault_of, after_checks, lines_of, none_seen}
+use Rattle.trace_reader.specs.Lines.{Raw, Told, parts_of, fault_of, after_checks, lines_of, none_seen}
+use Rattle.trace_reader.specs.Gathered.{lines_in, go_in, items_in}
 
 -- what line 1 says
 unfoldable pub head_of : Raw → Result Header Reason
 head_of line = after_checks (fault_of line) (header_of (words_of line.bytes))
 
--- the trace of this header and these lines, or their first refusal
-abbrev pub with_header : Header → Result (List Line) (ℕ × Reason) → Result Trace (ℕ × Reason)
-with_header h (Ok ls) = Ok (record { header = h; lines = ls })
+-- the trace of this header and what the lines behind it say
+abbrev pub trace_of : Header → List Told → Trace
+trace_of h told = record { header = h; lines = lines_in told; go = go_in told; items = items_in told }
+
+-- the same, or the first refusal of these lines
+abbrev pub with_header : Header → Result (List Told) (ℕ × Reason) → Result Trace (ℕ × Reason)
+with_header h (Ok told) = Ok (trace_of h told)
 with_header h (Err e) = Err e
 
 -- the header and what stands behind it, or the refusal of line 1
-abbrev pub under : Result Header Reason → (Header → Result (List Line) (ℕ × Reason)) → Result Trace (ℕ × Reason)
+abbrev pub under : Result Header Reason → (Header → Result (List Told) (ℕ × Reason)) → Result Trace (ℕ × Reason)
 under (Err r) rest = Err (1, r)
 under (Ok h) rest = with_header h (rest h)
 

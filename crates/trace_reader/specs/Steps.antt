@@ -1,12 +1,22 @@
 -- What a function returns that reads a line or an input, where memory may run out.
-use Rattle.std.specs.Prelude.{◌≡◌, ◌++◌, ℕ, List, [], ◌∷◌, Bool, Result, Ok, Err}
+use Rattle.std.specs.Prelude.{◌≡◌, ◌≤◌, ◌++◌, ℕ, List, [], ◌∷◌, All, IfSome, length, Result, Ok, Err}
+use Rattle.std.specs.BTreeSet.{contains}
+use Rattle.std.specs.Ordering.{nat_cmp}
 use Rattle.std.specs.declared.option.Option.{Option}
-use Rattle.std.specs.declared.option.Option.TheVariants.{Some, None}
+use Rattle.std.specs.declared.option.Option.TheVariants.{Some}
+use Rattle.core_views.specs.Traces.{AreLinesOf, IsItemOf}
+use Rattle.core_views.specs.declared.trace.Header.{Header}
+use Rattle.core_views.specs.declared.trace.Item.{Item}
 use Rattle.core_views.specs.declared.trace.Line.{Line}
+use Rattle.core_views.specs.declared.trace.Trace.{Trace}
+use Rattle.trace_reader.specs.declared.before.Body.{Body}
 use Rattle.trace_reader.specs.declared.reason.Reason.{Reason}
 use Rattle.trace_reader.specs.declared.refusal.ReadError.{ReadError}
 use Rattle.trace_reader.specs.declared.refusal.ReadError.TheVariants as errors
+use Rattle.trace_reader.specs.declared.saying.Saying.{Saying}
+use Rattle.trace_reader.specs.declared.saying.Saying.TheVariants.{Does, Go, Schedules}
 use Rattle.trace_reader.specs.Lines.{seen_after}
+use Rattle.trace_reader.specs.Sayings.{seen_of}
 
 -- Want of memory is free; another error is the one that reading gives.
 abbrev pub Fails : {Y : Type 0} → ℕ → ReadError → Result Y Reason → Type 0
@@ -24,17 +34,39 @@ Tells view (Ok x) read = read ≡ Ok (view x)
 Tells view (Err errors.NoMemory) read = Unit {0}
 Tells view (Err (errors.Refused line r)) read = read ≡ Err (line, r)
 
--- the lines, with the one that was found behind them
-abbrev pub with_found : List Line → Option Line → List Line
-with_found lines None = lines
-with_found lines (Some line) = lines ++ line ∷ []
+-- the lines, with that of line n behind them, if it is an actor's
+abbrev pub with_found : List Line → ℕ → Option Saying → List Line
+with_found lines n (Some (Does actor command)) = lines ++ record { number = n; actor = actor; command = command } ∷ []
+with_found lines n _ = lines
 
--- What was found stands behind the lines, unless memory ran out.
-abbrev pub Keeps : List Line → List Line → Option Line → Result (Unit {0}) ReadError → Type 0
-Keeps before after found (Ok u) = after ≡ with_found before found
-Keeps before after found (Err e) = e ≡ errors.NoMemory
+-- the items, with the one that was found behind them
+abbrev pub with_item : List Item → Option Saying → List Item
+with_item items (Some (Schedules item)) = items ++ item ∷ []
+with_item items _ = items
 
--- Of the IDs, those that slot lines before what follows name are noted, unless memory ran out.
-abbrev pub Notes : (ℕ → Bool) → (ℕ → Bool) → Option Line → Result (Unit {0}) ReadError → Type 0
-Notes before after found (Ok u) = (id : ℕ) → after id ≡ seen_after before found id
-Notes before after found (Err e) = e ≡ errors.NoMemory
+-- how many lines stand above `go`, where so many stand above what was found
+abbrev pub with_go : ℕ → Option ℕ → Option Saying → Option ℕ
+with_go count go (Some Go) = Some count
+with_go count go _ = go
+
+-- What line n says was put behind what those before it say.
+pub record IsPut (before after : Body) (n : ℕ) (found : Option Saying) : Type 0 where
+  pub lines : after.lines.items ≡ with_found before.lines.items n found
+  pub items : after.items.items ≡ with_item before.items.items found
+  pub go : after.before.go ≡ with_go (length before.lines.items) before.before.go found
+  pub ids : (id : ℕ) → contains nat_cmp after.before.ids id ≡ (seen_after (seen_of before.before) found).ids id
+
+-- The same, unless memory ran out.
+abbrev pub Puts : Body → Body → ℕ → Option Saying → Result (Unit {0}) ReadError → Type 0
+Puts before after n found (Ok u) = IsPut before after n found
+Puts before after n found (Err e) = e ≡ errors.NoMemory
+
+-- the trace of this header and what was read behind it
+abbrev pub trace_with : Header → Body → Trace
+trace_with h b = record { header = h; lines = b.lines.items; go = b.before.go; items = b.items.items }
+
+-- What was read is in its ranges.
+pub record IsBodyOf (h : Header) (b : Body) : Type 0 where
+  pub lines : AreLinesOf h b.lines.items
+  pub items : All (IsItemOf h) b.items.items
+  pub go : IfSome b.before.go (λ above. above ≤ length b.lines.items)

@@ -1,10 +1,9 @@
 ghost use Rattle.std.specs.Prelude.{◌≡◌, ◌≤◌, ◌<◌, ◌^◌, map, IfOk};
-ghost use Rattle.std.specs.List.{list_any};
 ghost use Rattle.std.specs.BTreeSet.{contains};
 ghost use Rattle.std.specs.Ordering.{nat_cmp};
 ghost use Rattle.std.specs.Str.{bytes_eq};
 ghost use Rattle.core_views.specs.Traces.{IsCommandOf, IsSlotInRange};
-ghost use Rattle.trace_reader.specs.Forms.{indexed, vcpu, address, new_number, number as number_word, slot, setting, read_form, store_form, slot_form, read_only_slot_form, by_form, by_words, is_empty};
+ghost use Rattle.trace_reader.specs.Forms.{indexed, vcpu, address, new_number, number as number_word, slot, setting, read_form, store_form, slot_form, read_only_slot_form, by_form};
 
 use crate::Reason;
 use crate::number::{decimal, number};
@@ -40,9 +39,12 @@ fn address_of(header: &Header, word: &[u8]) -> Result<(u64, u8), Reason>
     }
 }
 
+/// The index in an actor's name: at most `most`, and below the count of those
+/// that are declared.
 #[tactic(auto, unfolding(crate::specs::Forms::indexed))]
-fn index_of(letter: u8, count: u8, word: &[u8]) -> Result<u8, Reason>
-    ensures value { result ≡ indexed letter count word.now }
+pub fn index_of(letter: u8, most: u64, count: u64, word: &[u8]) -> Result<u8, Reason>
+    requires { most ≤ 15 }
+    ensures value { result ≡ indexed letter most count word.now }
     ensures small { IfOk result (λ n. n < count) }
 {
     let [first, digits @ ..] = word else {
@@ -52,8 +54,8 @@ fn index_of(letter: u8, count: u8, word: &[u8]) -> Result<u8, Reason>
         return Err(Reason::Word);
     }
     match decimal(digits) {
-        Some(index) if index <= 15 => {
-            if index < count as u64 {
+        Some(index) if index <= most => {
+            if index < count {
                 Ok(index as u8)
             } else {
                 Err(Reason::Actor)
@@ -68,7 +70,7 @@ fn vcpu_of(header: &Header, word: &[u8]) -> Result<u8, Reason>
     ensures value { result ≡ vcpu header.now word.now }
     ensures small { IfOk result (λ n. n < header.now.vcpus) }
 {
-    index_of(b'v', header.vcpus, word)
+    index_of(b'v', 15, header.vcpus as u64, word)
 }
 
 #[tactic(auto, unfolding(crate::specs::Forms::read_form))]
@@ -209,8 +211,9 @@ fn read_only_slot_said(
     Err(Reason::Word)
 }
 
+/// What the words of an actor's line say: the actor and its command.
 #[tactic(auto, unfolding(crate::specs::Forms::by_form))]
-fn form_said(
+pub fn form_said(
     header: &Header,
     seen: &BTreeSet<u64>,
     words: &[&[u8]],
@@ -229,36 +232,5 @@ fn form_said(
             read_only_slot_said(header, seen, who, verb, id, base, pages, host, last)
         }
         _ => Err(Reason::Word),
-    }
-}
-
-fn has_empty(words: &[&[u8]]) -> bool
-    ensures { result ≡ list_any is_empty (map (λ w. w.now) words.now) }
-{
-    let mut rest = words;
-    while let [word, after @ ..] = rest {
-        if word.is_empty() {
-            return true;
-        }
-        rest = after;
-    }
-    false
-}
-
-/// What a line says, by its words: its actor and its command.
-#[tactic(auto, unfolding(crate::specs::Forms::by_words))]
-pub fn words_said(
-    header: &Header,
-    seen: &BTreeSet<u64>,
-    words: &[&[u8]],
-) -> Result<(Actor, Command), Reason>
-    requires { header.now.words ≤ 8 }
-    ensures value { result ≡ by_words header.now (contains nat_cmp seen.now) (map (λ w. w.now) words.now) }
-    ensures allowed { IfOk result (λ x. IsCommandOf header.now x.0 x.1) }
-{
-    if has_empty(words) {
-        Err(Reason::Word)
-    } else {
-        form_said(header, seen, words)
     }
 }

@@ -3,9 +3,10 @@ ghost use Rattle.trace_reader.specs.InputGrammar.{ReadsTheTrace, ReadsNoOtherTra
 ghost use Rattle.trace_reader.specs.HeaderGrammar.{ReadsTheHeader, ReadsNoOtherHeader, RefusesOtherFirstLines};
 
 /// The laws of the lines behind the header: the reader takes the bytes that say
-/// an actor and its command, gives just these, and refuses the rest: as `word`
-/// exactly where they are of no form, else as `actor` exactly where the header
-/// doesn't declare the form's actor, and else as `number`.
+/// an actor's command, `go` or an item of the schedule, gives just these, and
+/// refuses the rest: as `word` exactly where they are of no form or a second
+/// `go`, else as `actor` exactly where the header doesn't declare the form's
+/// actor, and else as `number`.
 pub fn grammar_is_exact()
     ensures forward { ReadsWhatIsSaid }
     ensures backward { ReadsNothingElse }

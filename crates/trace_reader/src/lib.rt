@@ -2,9 +2,13 @@
 //! is refused and the reason.
 #![tactic(auto)]
 
+mod before;
 mod form;
 mod grammar;
 mod header;
+mod item;
+#[cfg(test)]
+mod item_tests;
 mod line;
 mod lines;
 mod number;
@@ -13,6 +17,7 @@ mod pool;
 mod reading;
 mod reason;
 mod refusal;
+mod saying;
 #[cfg(test)]
 mod tests;
 

@@ -1,18 +1,16 @@
 ghost use Rattle.std.specs.Prelude.{◌≡◌, ◌≤◌, ◌==◌, ℕ, map, IfOk, IfSome, OnOk, IfNone};
-ghost use Rattle.std.specs.BTreeSet.{contains};
 ghost use Rattle.std.specs.List.{list_all};
-ghost use Rattle.std.specs.Ordering.{nat_cmp};
-ghost use Rattle.core_views.specs.Traces.{IsLineOf};
-ghost use Rattle.trace_reader.specs.Forms.{words_of, said as said_of};
+ghost use Rattle.trace_reader.specs.Forms.{words_of};
+ghost use Rattle.trace_reader.specs.Sayings.{IsSayingOf, seen_of, said as said_of};
 ghost use Rattle.trace_reader.specs.Lines.{is_plain, is_skipped as is_skipped_line, fault_of, content, line_of};
 ghost use Rattle.trace_reader.specs.Steps.{Gives};
 
 use crate::Reason;
-use crate::form::words_said;
+use crate::before::Before;
 use crate::refusal::ReadError;
-use core_views::{Header, Line};
+use crate::saying::{Saying, words_said};
+use core_views::Header;
 use std::alloc::{AllocError, Global};
-use std::collections::BTreeSet;
 
 /// The longest input that is read.
 const SIZE: usize = 16_777_216;
@@ -72,26 +70,21 @@ fn is_skipped(bytes: &[u8]) -> bool
     }
 }
 
-#[tactic(auto, unfolding(crate::specs::Forms::said))]
+#[tactic(auto, unfolding(crate::specs::Sayings::said))]
 fn said(
     alloc: Global,
     header: &Header,
-    seen: &BTreeSet<u64>,
+    before: &Before,
     number: u32,
     bytes: &[u8],
-) -> Result<Line, ReadError>
+) -> Result<Saying, ReadError>
     requires { header.now.words ≤ 8 }
-    ensures read { Gives number (λ l. (l.actor, l.command)) result (said_of header.now (contains nat_cmp seen.now) bytes.now) }
-    ensures number { IfOk result (λ l. l.number ≡ number) }
-    ensures allowed { IfOk result (λ l. IsLineOf header.now l) }
+    ensures read { Gives number (λ s. s) result (said_of header.now (seen_of before.now) bytes.now) }
+    ensures allowed { IfOk result (λ s. IsSayingOf header.now s) }
 {
     let words = words(alloc, bytes)?;
-    match words_said(header, seen, &words) {
-        Ok((actor, command)) => Ok(Line {
-            number,
-            actor,
-            command,
-        }),
+    match words_said(header, before, &words) {
+        Ok(says) => Ok(says),
         Err(reason) => Err(ReadError::Refused {
             line: number,
             reason,
@@ -103,39 +96,38 @@ fn said(
 fn content_of(
     alloc: Global,
     header: &Header,
-    seen: &BTreeSet<u64>,
+    before: &Before,
     number: u32,
     bytes: &[u8],
-) -> Result<Option<Line>, ReadError>
+) -> Result<Option<Saying>, ReadError>
     requires { header.now.words ≤ 8 }
-    ensures read { Gives number (λ x. x) result (content header.now (contains nat_cmp seen.now) number bytes.now) }
-    ensures allowed { IfOk result (λ found. IfSome found (λ l. IsLineOf header.now l)) }
+    ensures read { Gives number (λ x. x) result (content header.now (seen_of before.now) bytes.now) }
+    ensures allowed { IfOk result (λ found. IfSome found (λ s. IsSayingOf header.now s)) }
 {
     if is_skipped(bytes) {
         return Ok(None);
     }
-    match said(alloc, header, seen, number, bytes) {
-        Ok(line) => Ok(Some(line)),
+    match said(alloc, header, before, number, bytes) {
+        Ok(says) => Ok(Some(says)),
         Err(error) => Err(error),
     }
 }
 
-/// What a line behind the header says; `seen`: the IDs that slot
-/// lines before name.
+/// What a line behind the header says, if it is not skipped.
 #[tactic(auto, unfolding(crate::specs::Lines::line_of))]
 pub fn line(
     alloc: Global,
     header: &Header,
-    seen: &BTreeSet<u64>,
+    before: &Before,
     number: u32,
     end: usize,
     ended: bool,
     bytes: &[u8],
-) -> Result<Option<Line>, ReadError>
+) -> Result<Option<Saying>, ReadError>
     requires { header.now.words ≤ 8 }
     ensures small { OnOk result (end ≤ 16777216) }
-    ensures read { Gives number (λ x. x) result (line_of header.now (contains nat_cmp seen.now) (record { number = number; end = end; ended_by_lf = ended; bytes = bytes.now })) }
-    ensures allowed { IfOk result (λ found. IfSome found (λ l. IsLineOf header.now l)) }
+    ensures read { Gives number (λ x. x) result (line_of header.now (seen_of before.now) (record { number = number; end = end; ended_by_lf = ended; bytes = bytes.now })) }
+    ensures allowed { IfOk result (λ found. IfSome found (λ s. IsSayingOf header.now s)) }
 {
     if let Some(reason) = fault(number, end, ended, bytes) {
         return Err(ReadError::Refused {
@@ -143,5 +135,5 @@ pub fn line(
             reason,
         });
     }
-    content_of(alloc, header, seen, number, bytes)
+    content_of(alloc, header, before, number, bytes)
 }

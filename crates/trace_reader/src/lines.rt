@@ -1,16 +1,14 @@
-ghost use Rattle.std.specs.Prelude.{◌≡◌, ◌≤◌, ◌<◌, ◌+◌, ◌==◌, ◌^◌, [], ◌∷◌, length, false, if◌then◌else◌, OnOk, IfOk, IfSome};
-ghost use Rattle.std.specs.BTreeSet.{contains};
+ghost use Rattle.std.specs.Prelude.{◌≡◌, ◌≤◌, ◌<◌, ◌+◌, ◌==◌, ◌^◌, [], ◌∷◌, length, false, if◌then◌else◌, OnOk, IfOk};
 ghost use Rattle.std.specs.List.{position};
-ghost use Rattle.std.specs.Ordering.{nat_cmp};
-ghost use Rattle.core_views.specs.Traces.{AreLinesOf, IsLineOf};
 ghost use Rattle.trace_reader.specs.Lines.{parts_of, lines_of, none_seen};
-ghost use Rattle.trace_reader.specs.Steps.{Tells, Keeps, Notes};
+ghost use Rattle.trace_reader.specs.Reading.{with_header};
+ghost use Rattle.trace_reader.specs.Steps.{Tells, IsBodyOf, trace_with};
 
+use crate::before::Body;
 use crate::line::line;
 use crate::refusal::ReadError;
-use core_views::{Command, Header, Line};
+use core_views::Header;
 use std::alloc::Global;
-use std::collections::BTreeSet;
 
 fn line_end(bytes: &[u8]) -> Option<usize>
     ensures { result ≡ position (λ b. b == 10) bytes.now }
@@ -38,62 +36,34 @@ pub fn first_line(bytes: &[u8]) -> (&[u8], bool, &[u8])
     }
 }
 
-/// Notes the ID of the slot line that was found, if it is one.
-fn note(seen: &mut BTreeSet<u64>, found: Option<Line>) -> Result<(), ReadError>
-    ensures { Notes (contains nat_cmp seen.old) (contains nat_cmp seen.new) found result }
-{
-    let Some(line) = found else {
-        return Ok(());
-    };
-    match line.command {
-        Command::Access { .. } => {}
-        Command::SetSlot { id, .. } => {
-            seen.insert(id)?;
-        }
-    }
-    Ok(())
-}
-
-/// Puts the line that was found behind the others.
-fn keep(lines: &mut Vec<Line>, found: Option<Line>) -> Result<(), ReadError>
-    ensures { Keeps lines.old.items lines.new.items found result }
-{
-    if let Some(line) = found {
-        lines.push(line)?;
-    }
-    Ok(())
-}
-
 /// The lines of an input from line `number` on, in front of which `at` bytes
-/// stand, and no slot line.
+/// stand, the header among them.
 pub fn lines(
     alloc: Global,
     header: &Header,
     number: u32,
     at: usize,
     bytes: &[u8],
-) -> Result<Vec<Line>, ReadError>
+) -> Result<Body, ReadError>
     requires words { header.now.words ≤ 8 }
     requires room { at + length bytes.now ≤ 16777217 }
     requires begun { at ≤ 16777216 }
     requires number { number ≤ at + 2 }
     ensures small { OnOk result (at + length bytes.now ≤ 16777216) }
-    ensures read { Tells (λ v. v.items) result (lines_of header.now number at none_seen (parts_of bytes.now)) }
-    ensures allowed { IfOk result (λ v. AreLinesOf header.now v.items) }
+    ensures read { Tells (trace_with header.now) result (with_header header.now (lines_of header.now number at none_seen (parts_of bytes.now))) }
+    ensures allowed { IfOk result (λ body. IsBodyOf header.now body) }
 {
-    let mut lines = Vec::new(alloc);
+    let mut body = Body::new(alloc);
     let mut number = number;
     let mut at = at;
-    let mut seen = BTreeSet::new(alloc);
     let mut rest = bytes;
     while !rest.is_empty() {
         let (text, ended, after) = first_line(rest);
         at += taken(text, ended);
-        let found = line(alloc, header, &seen, number, at, ended, text)?;
-        keep(&mut lines, found)?;
-        note(&mut seen, found)?;
+        let found = line(alloc, header, &body.before, number, at, ended, text)?;
+        body.put(number, found)?;
         number += 1;
         rest = after;
     }
-    Ok(lines)
+    Ok(body)
 }

@@ -8,7 +8,7 @@ use crate::header::header;
 use crate::line::{fault, words};
 use crate::lines::{first_line, lines, taken};
 use crate::refusal::ReadError;
-use core_views::{Header, Lines, NoMemory, Trace};
+use core_views::{Header, NoMemory, Trace};
 use std::alloc::Global;
 use tdp_io::{Input, Source, read_all};
 
@@ -34,11 +34,8 @@ fn parse(alloc: Global, bytes: &[u8]) -> Result<Trace, ReadError>
     let (text, ended, after) = first_line(bytes);
     let size = taken(text, ended);
     let header = head(alloc, size, ended, text)?;
-    let lines = lines(alloc, &header, 2, size, after)?;
-    Ok(Trace {
-        header,
-        lines: Lines::from_vec(lines),
-    })
+    let body = lines(alloc, &header, 2, size, after)?;
+    Ok(body.under(header))
 }
 
 /// Reads what the source has left, and answers the trace, or the first line

@@ -113,7 +113,6 @@ const TABLE: &str = "\
 2 word|&v16 read z;\n\
 2 word|&v2 look z;\n\
 2 word|&h0 move 1;\n\
-2 word|&go;\n\
 2 word|&vm slot;\n\
 2 word|&vm slot 0 0 1;\n\
 2 word|&vm slot 0 0 1 0 rw;\n\
@@ -304,7 +303,7 @@ fn answers_the_table(rt: HostRuntime) -> Result<(), Fail> {
             cases = cases.saturating_add(1);
         }
     }
-    assert_eq!(rt; cases, 221);
+    assert_eq!(rt; cases, 220);
     Ok(())
 }
 

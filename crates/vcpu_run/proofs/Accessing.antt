@@ -1,6 +1,6 @@
 -- That an access may make the step of its place, and what this step makes of its hand.
 use Rattle.std.proofs.Common.{◌≡◌, ◌≢◌, ◌⊎◌, inl, inr, ◌<◌, ◌^◌, ℕ, length, refl, sym, subst, ap, ◌∙◌, arith}
-use Rattle.std.specs.Prelude.{Bool, true, false, Option, Some}
+use Rattle.std.specs.Prelude.{Bool, true, false, Option, Some, ◌&&◌, not}
 use Rattle.core_views.specs.declared.actor.Actor.{Actor}
 use Rattle.core_views.specs.declared.actor.Actor.TheVariants.{Vcpu, Host, Manager, Worker}
 use Rattle.core_views.specs.declared.place.AccessPlace.{AccessPlace}
@@ -26,7 +26,7 @@ use Rattle.fault_install.specs.Faults.{EndsBy, Turned, TurnsFault, WaitsBy}
 use Rattle.mmu_core.specs.declared.outcome.Outcome.{Outcome}
 use Rattle.mmu_core.specs.declared.outcome.Outcome.TheVariants as outcome
 use Rattle.mmu_core.specs.FaultKnows.{EndKnows}
-use Rattle.mmu_core.specs.FaultSteps.{fault_next, fault_part, wait_seen, waits}
+use Rattle.mmu_core.specs.FaultSteps.{fault_next, fault_part, wait_seen, waits, at_map_word, tries_page}
 use Rattle.mmu_core.specs.Bounds.{steps_left}
 use Rattle.mmu_core.specs.LineAlone.{hand_left, line_waits}
 use Rattle.step_seats.specs.declared.turn.Turn.{Turn}
@@ -52,7 +52,7 @@ use Rattle.mmu_core.specs.declared.outcome.Task.{Task}
 use Rattle.core_views.specs.declared.topics.Stay.{Stay}
 use Rattle.mmu_core.specs.declared.part_step.PartStep.{PartStep}
 use Rattle.mmu_core.specs.declared.part_step.PartStep.TheVariants as part
-use Rattle.mmu_core.specs.TopicSteps.{may_walk}
+use Rattle.mmu_core.specs.TopicSteps.{may_walk, is_won}
 use Rattle.tdp_walk.specs.Walks.{walk_step}
 use Rattle.mmu_core.specs.AccessSteps.{access_note, access_part, behind_fault, task_by, touch_of}
 use Rattle.mmu_core.specs.Enabled.{Enabled}
@@ -70,6 +70,10 @@ use Rattle.mmu_core.proofs.Which.{enabled_is, has_line_is, next_of_line}
 use Rattle.step_seats.specs.PartTurns.{MadePart, Told}
 use Rattle.vcpu_run.specs.declared.access.AccessJob.{AccessJob}
 use Rattle.vcpu_run.specs.Accesses.{Gives, HasItsCause, IsStay, MakesLine, Says, StandsAt, TurnsLine, WalksAt, answer_of, fault_turn, line_seen, line_turn, turn_of, walk_place}
+use Rattle.mmu_core.specs.SetSlotSteps.{claim_outcome, set_slot_outcome, set_slot_waits}
+use Rattle.core_views.specs.declared.place.SetSlotPlace.{SetSlotPlace}
+use Rattle.core_views.specs.declared.place.SetSlotPlace.TheVariants as set_slot
+use Rattle.core_views.specs.declared.topics.MapClaim.{MapClaim}
 
 word_of : (z : Sizes) (actor : Actor) (gfn word : ℕ) (op : Op) → IsCommandFor z actor (Access gfn word op) → word < z.words
 word_of z (Vcpu n) gfn word op may = may.2
@@ -271,9 +275,20 @@ pub record GoesSo (turn : Turn Answer) (o : Outcome) : Type 0 where
   pub more : (answer : Answer) → turn ≢ Done answer
   pub is : o ≡ outcome.Goes place
 
-plain_case : (o : Outcome) (waits : Bool) → waits ≡ false → EndsSo (turn_of o) waits o ⊎ GoesSo (turn_of o) o
+plain_case : (o : Outcome) (waits : Bool) → ((answer : Answer) → o ≡ outcome.Ends answer → waits ≡ false) → EndsSo (turn_of o) waits o ⊎ GoesSo (turn_of o) o
 plain_case (outcome.Goes q) waits free = inr (record { place = q; more = λ answer e. absurd (cc e); is = refl })
-plain_case (outcome.Ends answer) waits free = inl (record { answer = answer; done = refl; free = free; is = refl })
+plain_case (outcome.Ends answer) waits free = inl (record { answer = answer; done = refl; free = free answer refl; is = refl })
+
+-- A slot setting that is answered doesn't wait.
+claim_free : (tries won : Bool) (z : Sizes) (claim : MapClaim) (v : ℕ) (answer : Answer) → claim_outcome tries z claim v ≡ outcome.Ends answer → (tries && not won) ≡ false
+claim_free true won z claim v answer e = absurd (cc e)
+claim_free false won z claim v answer e = refl
+
+pub setting_free : (p : SetSlotPlace) (h : Held) (v : ℕ) (answer : Answer) → set_slot_outcome p h v ≡ outcome.Ends answer → set_slot_waits p h.topics v ≡ false
+setting_free (set_slot.Claim begun) h v answer e = claim_free (tries_page begun h.topics.claim) (is_won h.topics.claim v) h.state.sizes (at_map_word begun h.topics.claim) v answer e
+setting_free (set_slot.Refuse refusal) h v answer e = refl
+setting_free set_slot.Give h v answer e = refl
+setting_free p h v answer e = absurd (cc e)
 
 over_case : (e : FaultEnd) → EndsSo (fault_turn (Ends e)) false (behind_fault (Ends e)) ⊎ GoesSo (fault_turn (Ends e)) (behind_fault (Ends e))
 over_case end_of.Installed = inr (record { place = place.Access (Enter true); more = λ answer e. absurd (cc e); is = refl })
@@ -304,17 +319,17 @@ fault_case fault.Leaf gfn word op h v = inr (going _ _ refl)
 fault_case (fault.Unshare e) gfn word op h v = inr (going _ _ refl)
 
 pub line_case : (p : Place) (c : Command) (h : Held) (v : ℕ) → EndsSo (line_turn p c h v) (line_waits p h.topics v) (outcome_at p c h v) ⊎ GoesSo (line_turn p c h v) (outcome_at p c h v)
-line_case place.Between c h v = plain_case _ false refl
-line_case (place.SetSlot p) (Access gfn word op) h v = plain_case _ false refl
-line_case (place.SetSlot p) (SetSlot id slot) h v = plain_case _ false refl
+line_case place.Between c h v = plain_case _ false (λ answer e. refl)
+line_case (place.SetSlot p) (Access gfn word op) h v = plain_case (outcome.Goes (place.SetSlot p)) (set_slot_waits p h.topics v) (λ answer e. absurd (cc e))
+line_case (place.SetSlot p) (SetSlot id slot) h v = plain_case (set_slot_outcome p h v) (set_slot_waits p h.topics v) (setting_free p h v)
 line_case (place.Access (Fault p)) (Access gfn word op) h v = fault_case p gfn word op h v
 line_case (place.Access (Fault p)) (SetSlot id slot) h v = inr (record { place = place.Access (Fault p); more = λ answer e. absurd (cc e); is = refl })
-line_case (place.Access (Enter again)) c h v = plain_case _ false refl
-line_case (place.Access (Pause again)) c h v = plain_case _ false refl
-line_case (place.Access (Root again)) c h v = plain_case _ false refl
-line_case (place.Access (Walk again)) c h v = plain_case _ false refl
-line_case (place.Access Touch) c h v = plain_case _ false refl
-line_case (place.Access (Leave how)) c h v = plain_case _ false refl
+line_case (place.Access (Enter again)) c h v = plain_case _ false (λ answer e. refl)
+line_case (place.Access (Pause again)) c h v = plain_case _ false (λ answer e. refl)
+line_case (place.Access (Root again)) c h v = plain_case _ false (λ answer e. refl)
+line_case (place.Access (Walk again)) c h v = plain_case _ false (λ answer e. refl)
+line_case (place.Access Touch) c h v = plain_case _ false (λ answer e. refl)
+line_case (place.Access (Leave how)) c h v = plain_case _ false (λ answer e. refl)
 
 -- What is said of the line follows from its turn.
 pub says_line : (turn : Turn Answer) (waits : Bool) (way : Seen) (t : Turn Answer) (o : Outcome) (line : Line) (h g : Held) → Gives turn waits way t → EndsSo t waits o ⊎ GoesSo t o → Comes o line h g → Says turn line h g

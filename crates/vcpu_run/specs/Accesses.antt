@@ -12,7 +12,7 @@ use Rattle.core_views.specs.declared.place.FaultNext.TheVariants as next_of
 use Rattle.core_views.specs.declared.place.Place.{Place}
 use Rattle.core_views.specs.declared.place.Place.TheVariants as place
 use Rattle.core_views.specs.declared.trace.Command.{Command}
-use Rattle.core_views.specs.declared.trace.Command.TheVariants.{Access}
+use Rattle.core_views.specs.declared.trace.Command.TheVariants.{Access, SetSlot}
 use Rattle.core_views.specs.declared.trace.Line.{Line}
 use Rattle.core_views.specs.Held.{Held}
 use Rattle.core_views.specs.Slots.{is_write}
@@ -27,6 +27,7 @@ use Rattle.mmu_core.specs.FaultSteps.{fault_next, wait_seen}
 use Rattle.mmu_core.specs.KnowsPart.{KnowsPart}
 use Rattle.mmu_core.specs.LineAlone.{line_waits}
 use Rattle.mmu_core.specs.Rests.{Rests}
+use Rattle.mmu_core.specs.SetSlotSteps.{set_slot_seen}
 use Rattle.mmu_core.specs.Steps.{next, outcome_at, place_at}
 use Rattle.mmu_core.specs.Turns.{GoesOn, IsAnswered, line_of}
 use Rattle.step_seats.specs.Moves.{Adds, Tells}
@@ -54,9 +55,10 @@ abbrev pub line_turn : Place → Command → Held → ℕ → Turn Answer
 line_turn (place.Access (Fault p)) (Access gfn word op) h v = fault_turn (fault_next p h.state.sizes gfn (is_write op) h.topics v)
 line_turn p command h v = turn_of (outcome_at p command h v)
 
--- what it has seen where one is: the word that its fault's step is on, with what is in the way
+-- what it has seen where one is: the word that its step is on, with what is in the way
 abbrev pub line_seen : Place → Command → Held → ℕ → Seen
 line_seen (place.Access (Fault p)) (Access gfn word op) h v = wait_seen p h gfn (access_note (Fault p)) v
+line_seen (place.SetSlot p) (SetSlot id slot) h v = set_slot_seen p h id slot v
 line_seen p command h v = record { word = 0; value = 0 }
 
 -- The turn waits exactly where its step waits for another actor, and says what it has seen; where it doesn't wait it answers so.

@@ -38,6 +38,11 @@ const TABLE: u64 = 517;
 
 const END: u64 = 4;
 
+// Steps of the manager's line: the map, the page, 512 words and the role of the set,
+// the lock, the count, the set, the lock, the three other actors, and the role and
+// the page of the set before. The set stands in page 2 then, and page 1 is free.
+const SETTING: u64 = 524;
+
 // Where the lock stands, and with 8 pool pages the entries of the root, and word 1
 // of frame 69.
 const LOCK: u32 = 6;
@@ -121,15 +126,16 @@ fn trace(alloc: Global, pool: u32, gfn: u64) -> Result<Trace, NoMemory>
     requires gfn { gfn < 2 ^ 36 }
     ensures { IfOk result IsTrace }
 {
-    Ok(Trace {
-        header: header(alloc, pool)?,
-        lines: Lines::from_vec(vec![in alloc;
+    Ok(Trace::unscheduled(
+        alloc,
+        header(alloc, pool)?,
+        Lines::from_vec(vec![in alloc;
             setting(),
             writing(gfn),
             reading(4, 0, gfn),
             reading(5, 1, gfn),
         ]?),
-    })
+    ))
 }
 
 // Looks whether the machine has this actor.
@@ -143,9 +149,9 @@ fn expect_actor(machine: &PlainMachine, actor: Actor) -> Result<(), Fail>
     Ok(())
 }
 
-// Makes the four steps of the manager's line.
+// Makes the steps of the manager's line.
 fn set_slot<S: Stepper>(s: &mut S) -> Result<(), NoMemory> {
-    for _ in 0..4 {
+    for _ in 0..SETTING {
         s.reserve(&setting())?;
         if s.hand().next_line().is_some() {
             rests(s.hand());
@@ -272,8 +278,8 @@ fn leaves_without_a_page(rt: HostRuntime) -> Result<(), Fail> {
     Ok(())
 }
 
-// The first processor has page 2 ready, and the second one links page 3 at the
-// root first: page 2 is given back, and the access begins anew, at the leaf that
+// The first processor has page 1 ready, and the second one links page 3 at the
+// root first: page 1 is given back, and the access begins anew, at the leaf that
 // stands by then.
 #[test]
 fn begins_anew_behind_a_lost_link(rt: HostRuntime) -> Result<(), Fail> {

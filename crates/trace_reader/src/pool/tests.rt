@@ -44,10 +44,7 @@ fn needs(alloc: Global, pages: u64, slots: &[(u64, u64)]) -> Result<u64, Fail> {
             command: Command::SetSlot { id: 0, slot },
         })?;
     }
-    let trace = Trace {
-        header: header(alloc, pages)?,
-        lines: Lines::from_vec(lines),
-    };
+    let trace = Trace::unscheduled(alloc, header(alloc, pages)?, Lines::from_vec(lines));
     Ok(need(alloc, &trace)?)
 }
 

@@ -1,4 +1,5 @@
 use Rattle.mmu_core.proofs.EveryAnswer.{answers_are_told, ends_whole}
+use Rattle.mmu_core.proofs.WholeSoFar.{stays_whole}
 use Rattle.mmu_core.proofs.laws.every_answer_is_told.Goals as goal
 
 pub returns-clause-answers : goal.returns-clause-answers
@@ -6,3 +7,6 @@ returns-clause-answers c = answers_are_told
 
 pub returns-clause-whole : goal.returns-clause-whole
 returns-clause-whole c = ends_whole
+
+pub returns-clause-so_far : goal.returns-clause-so_far
+returns-clause-so_far c = stays_whole

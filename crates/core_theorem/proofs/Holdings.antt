@@ -1,0 +1,171 @@
+-- What actors hold is not free, and what one of them owns no other one holds.
+use Rattle.std.proofs.Common.{[], ◌∷◌, ◌++◌, ◌≡◌, ◌⊎◌, inl, inr, ◌≢◌, ◌<◌, ℕ, refl, sym, subst, ap, ◌∙◌, arith, ◌≤◌, ◌+◌}
+use Rattle.std.specs.Prelude.{Bool, true, false, Option, Some, ◌==◌, if◌then◌else◌}
+use Rattle.core_views.specs.declared.sizes.Sizes.{Sizes}
+use Rattle.core_views.specs.declared.topics.OwnedPage.{OwnedPage}
+use Rattle.core_views.specs.Held.{Held}
+use Rattle.core_views.specs.Sizes.{actors_of, index_of}
+use Rattle.spte_words.specs.declared.area.Area.TheVariants as area
+use Rattle.mmu_core.specs.Enabled.{mmu}
+use Rattle.mmu_core.specs.Laws.{IsSound}
+use Rattle.mmu_core.specs.Machine.{May, World, effect, hand_in, run, Step}
+use Rattle.mmu_core.specs.PoolPart.{is_free}
+use Rattle.mmu_core.specs.Sums.{one_if}
+use Rattle.mmu_core.specs.View.{word_in}
+use Rattle.mmu_core.proofs.LineRuns.{run_one_more}
+use Rattle.mmu_core.specs.TopicsInvariant.{HoldsOld}
+use Rattle.mmu_core.proofs.PoolPages.{left_not_free, left_not_owned, itself, one_owner, owned_not_free, owned_not_slots, left_not_slots, one_leaver}
+use Rattle.mmu_core.proofs.Scanned.{others_hand}
+use Rattle.mmu_core.proofs.Worlds.{good_step}
+use Rattle.core_theorem.specs.Holdings.{NoneHoldsFreePages, NoOtherHolds, OfEachHeld, PagesAreReusedAlone}
+use Rattle.core_theorem.specs.Pages.{Owns}
+use Rattle.core_theorem.specs.Runs.{IsRun}
+use Rattle.core_theorem.proofs.Runs.{before, last_actor, may_last, sound}
+use Rattle.core_theorem.proofs.WalksKept.{HasPath, paths_are_tables}
+use Rattle.std.proofs.lemmas.Bool.Decides.{nat_tests}
+use Rattle.mmu_core.specs.PartSteps.{MayGiveOld, next_watched, own_index}
+use Rattle.mmu_core.specs.SetSlotKnows.{SetSlotKnows}
+use Rattle.mmu_core.specs.SetSlotSteps.{set_slot_task}
+use Rattle.mmu_core.specs.Invariant.{KnowsPart, LeavesPart, UnderWay}
+use Rattle.mmu_core.specs.Steps.{line_at, place_at, task_at, task_of}
+use Rattle.mmu_core.proofs.Which.{has_line_is, is_next}
+use Rattle.mmu_core.specs.declared.outcome.Task.{Task}
+use Rattle.core_views.specs.Kinds.{code_of}
+use Rattle.core_views.specs.declared.place.Place.{Place}
+use Rattle.core_views.specs.declared.place.Place.TheVariants as place
+use Rattle.core_views.specs.declared.place.SetSlotPlace.{SetSlotPlace}
+use Rattle.core_views.specs.declared.place.SetSlotPlace.TheVariants as set_slot
+use Rattle.core_views.specs.declared.kind.StepKind.TheVariants as kind
+use Rattle.core_views.specs.declared.trace.Command.{Command}
+use Rattle.core_views.specs.declared.trace.Command.TheVariants.{Access, SetSlot}
+use Rattle.core_views.specs.declared.trace.Slot.{Slot}
+use Rattle.core_views.specs.declared.kind.Kind.{Kind}
+
+module _ (z : Sizes) (u : World Held) (G : IsSound z u) where
+  abbrev map : ℕ → ℕ
+  map = word_in z u area.PoolMap
+
+  abbrev slots : ℕ
+  slots = word_in z u area.Slots 0
+
+  abbrev owned : ℕ → Option OwnedPage
+  owned i = (hand_in mmu u i).topics.owned
+
+  abbrev leaving : ℕ → Option ℕ
+  leaving i = (hand_in mmu u i).topics.leaving
+
+  -- The published slot set isn't free.
+  set_not_free : is_free map slots ≡ false
+  set_not_free = by (is_free map slots) refl
+    where
+      by : (b : Bool) → is_free map slots ≡ b → b ≡ false
+      by true free = let counts : one_if (is_free map slots) ≡ 1 = ap one_if free in absurd (omega (arith, G.topics.pool_part.each slots G.topics.pool_part.slots_there, itself slots, counts))
+      by false free = refl
+
+  -- Nor is an older one that is leaving.
+  set_held : {actor : ℕ} (page : ℕ) → (page ≡ slots) ⊎ HoldsOld (actors_of z) (λ i. (hand_in mmu u i).topics) actor page → is_free map page ≡ false
+  set_held page (inl e) = subst (λ k. is_free map k ≡ false) (sym e) set_not_free
+  set_held page (inr H) = left_not_free (actors_of z) z.pool slots map owned leaving G.topics.stands G.topics.pool_part H.by page H.there H.leaves
+
+  none_free : (actor : ℕ) → actor < actors_of z → HasPath z u (hand_in mmu u actor).topics.walk → OfEachHeld (λ page. is_free map page ≡ false) (hand_in mmu u actor).topics
+  none_free actor there P = record {
+    tables = λ level from down most. (P level from down most).not_free;
+    set = λ page is. set_held page (G.topics.sets actor page there is);
+    owned = λ o is. owned_not_free (actors_of z) z.pool slots map owned leaving G.topics.stands G.topics.pool_part actor o there is;
+  }
+
+  -- A page that an actor owns no other actor holds.
+  no_other : (actor page : ℕ) → actor < actors_of z → Owns page (hand_in mmu u actor) → ((other : ℕ) → other < actors_of z → HasPath z u (hand_in mmu u other).topics.walk) → NoOtherHolds z actor page u
+  no_other actor page there O paths other among apart = record {
+    tables = λ level from down most e. (paths other among level from down most).not_owned actor O.owned there O.is (O.of_page ∙ sym e);
+    set = λ k is e. not_set k (G.topics.sets other k among is) (O.of_page ∙ sym e);
+    owned = λ o is e. apart (one_owner (actors_of z) z.pool slots map owned leaving G.topics.stands G.topics.pool_part other actor o O.owned among there is O.is (O.of_page ∙ sym e));
+  }
+    where
+      not_set : {i : ℕ} (k : ℕ) → (k ≡ slots) ⊎ HoldsOld (actors_of z) (λ j. (hand_in mmu u j).topics) i k → O.owned.page ≢ k
+      not_set k (inl e) same = owned_not_slots (actors_of z) z.pool slots map owned leaving G.topics.stands G.topics.pool_part actor O.owned there O.is (same ∙ e)
+      not_set k (inr H) same = left_not_owned (actors_of z) z.pool slots map owned leaving G.topics.stands G.topics.pool_part H.by k H.there H.leaves actor O.owned there O.is same
+
+  -- An old slot set that is leaving for an actor which has watched all others since, no other actor holds.
+  none_holds_old : (actor page : ℕ) → actor < actors_of z → MayGiveOld (hand_in mmu u actor) → leaving actor ≡ Some page → ((other : ℕ) → other < actors_of z → HasPath z u (hand_in mmu u other).topics.walk) → NoOtherHolds z actor page u
+  none_holds_old actor page there M left paths other among apart = record {
+    tables = λ level from down most e. (paths other among level from down most).not_left actor page there left (sym e);
+    set = λ k is e. not_set k (G.topics.sets other k among is) e;
+    owned = λ o is e. left_not_owned (actors_of z) z.pool slots map owned leaving G.topics.stands G.topics.pool_part actor page there left other o among is e;
+  }
+    where
+      watched_all : (own n w i : ℕ) → n ≤ next_watched own w → w ≤ i → i < n → i ≢ own → ⊥
+      watched_all own n w i over not_yet lt ne = by (w == own) (λ e. grind (arith, nat_tests)) over
+        where
+          by : (b : Bool) → (b ≡ true → w ≡ own) → n ≤ (if b then w + 1 else w) → ⊥
+          by true same over = let e = same refl in omega (arith, e, over, not_yet, lt, ne)
+          by false same over = omega (arith, over, not_yet, lt)
+
+      own : own_index (hand_in mmu u actor) ≡ actor
+      own = ap (λ (y : Sizes). index_of y (hand_in mmu u actor).state.actor) (G.holds.lines actor there).sizes ∙ (G.holds.lines actor there).index
+
+      over : actors_of z ≤ next_watched actor (hand_in mmu u actor).topics.watched
+      over = subst (λ i. actors_of z ≤ next_watched i (hand_in mmu u actor).topics.watched) own (subst (λ (y : Sizes). actors_of y ≤ next_watched (own_index (hand_in mmu u actor)) (hand_in mmu u actor).topics.watched) (G.holds.lines actor there).sizes M.watched)
+
+      not_set : (k : ℕ) → (k ≡ slots) ⊎ HoldsOld (actors_of z) (λ j. (hand_in mmu u j).topics) other k → k ≢ page
+      not_set k (inl e) same = left_not_slots (actors_of z) z.pool slots map owned leaving G.topics.stands G.topics.pool_part actor page there left (sym same ∙ e)
+      not_set k (inr H) same =
+          let by_is : H.by ≡ actor = one_leaver (actors_of z) z.pool slots map owned leaving G.topics.stands G.topics.pool_part H.by actor page H.there there (H.leaves ∙ ap Some same) left in
+          watched_all actor (actors_of z) (hand_in mmu u actor).topics.watched other over (subst (λ i. (hand_in mmu u i).topics.watched ≤ other) by_is H.unwatched) among apart
+
+  -- A page is given back while one is leaving: this one, behind the watch.
+  gives_old : (s : Step Kind) (page : ℕ) → s.actor < actors_of z → May mmu u s → s.kind.code ≡ code_of kind.Give → leaving s.actor ≡ Some page → MayGiveOld (hand_in mmu u s.actor)
+  gives_old s page there may gives left = by h.state.place h.state.line.command refl refl (G.holds.knows s.actor there) (G.holds.leaves s.actor there) (G.holds.lines s.actor there).under
+    where
+      h : Held
+      h = hand_in mmu u s.actor
+
+      old : (p : SetSlotPlace) (id : ℕ) (slot : Slot) → SetSlotKnows p h → LeavesPart (place.SetSlot p) h.topics → code_of (set_slot_task p h id slot).kind ≡ code_of kind.Give → MayGiveOld h
+      old set_slot.Give id slot K L e = K.1
+      old set_slot.Release id slot K L e = absurd (omega (arith, e))
+      old set_slot.Watch id slot K L e = absurd (omega (arith, e))
+      old set_slot.Clear id slot K L e = absurd (omega (arith, e))
+      old _ id slot K L e = let none = L refl in absurd (cc (none, left))
+
+      by : (p : Place) (c : Command) → h.state.place ≡ p → h.state.line.command ≡ c → KnowsPart p c h → LeavesPart p h.topics → UnderWay p h → MayGiveOld h
+      by place.Between c at is K L U = let none = L refl in absurd (cc (none, left))
+      by (place.Access p) c at is K L U = let none = L refl in absurd (cc (none, left))
+      by (place.SetSlot p) (Access gfn word op) at is K L U = absurd K
+      by (place.SetSlot p) (SetSlot id slot) at is K L U =
+          let N = is_next h s.kind may.enabled (has_line_is h U.1) in
+          let task : task_of h ≡ set_slot_task p h id slot = ap (λ q. task_at (place_at q h) (line_at q h).command h) at ∙ ap (λ c. task_at (place.SetSlot p) c h) is in
+          old p id slot K L (ap (λ (t : Task). code_of t.kind) (sym task) ∙ (sym (ap (λ (k : Kind). k.code) N.is) ∙ gives))
+
+pub none_holds_free_pages : NoneHoldsFreePages
+none_holds_free_pages z lines w ss R actor there = none_free z (run mmu w ss) (sound z lines w ss R) actor there (paths_are_tables z lines w ss actor R there)
+
+pub pages_are_reused_alone : PagesAreReusedAlone
+pages_are_reused_alone z lines w ss s R page = (
+  λ W other among apart. subst (λ (h : Held). OfEachHeld (λ held. held ≢ page) h.topics) (others_hand u s other apart) (no_other z (effect mmu u s) (good_step z u s G may) s.actor page there W.owns paths_behind other among apart),
+  λ W. given W.gives W.had,
+)
+  where
+    u : World Held
+    u = run mmu w ss
+
+    R_before : IsRun z lines w ss
+    R_before = before z lines w ss s R
+
+    G : IsSound z u
+    G = sound z lines w ss R_before
+
+    may : May mmu u s
+    may = may_last z lines w ss s R
+
+    there : s.actor < actors_of z
+    there = last_actor z lines w ss s R
+
+    paths : (other : ℕ) → other < actors_of z → HasPath z u (hand_in mmu u other).topics.walk
+    paths other among = paths_are_tables z lines w ss other R_before among
+
+    given : s.kind.code ≡ code_of kind.Give → Owns page (hand_in mmu u s.actor) ⊎ ((hand_in mmu u s.actor).topics.leaving ≡ Some page) → NoOtherHolds z s.actor page u
+    given gives (inl O) = no_other z u G s.actor page there O paths
+    given gives (inr left) = none_holds_old z u G s.actor page there (gives_old z u G s page there may gives left) left paths
+
+    paths_behind : (other : ℕ) → other < actors_of z → HasPath z (effect mmu u s) (hand_in mmu (effect mmu u s) other).topics.walk
+    paths_behind other among = subst (λ x. HasPath z x (hand_in mmu x other).topics.walk) (run_one_more w ss s) (paths_are_tables z lines w (ss ++ s ∷ []) other R among)

@@ -1,0 +1,67 @@
+-- Each table that a walk has gone through is a table, down to the one that it has come to.
+use Rattle.std.proofs.Common.{◌≡◌, ◌<◌, ◌≤◌, ℕ, refl, ap, arith}
+use Rattle.std.specs.Prelude.{Bool, true, false, ◌==◌, not, if◌then◌else◌, Option, Some, None}
+use Rattle.std.proofs.lemmas.Bool.Decides.{nat_tests}
+use Rattle.core_views.specs.declared.topics.TableWalk.{TableWalk}
+use Rattle.core_views.specs.declared.topics.Topics.{Topics}
+use Rattle.spte_words.specs.Entries.{kind_of}
+use Rattle.mmu_core.specs.declared.part_step.PartStep.{PartStep}
+use Rattle.mmu_core.specs.declared.part_step.PartStep.TheVariants as part
+use Rattle.mmu_core.specs.PartSteps.{leaf_written, link_written}
+use Rattle.mmu_core.specs.PartTopics.{part_topics}
+use Rattle.mmu_core.specs.TopicSteps.{gone_down, is_outside, linked_page, may_walk, swapped}
+use Rattle.core_theorem.specs.Holdings.{table_at}
+
+-- Above the table that a walk has come to, it has gone through the tables that it had gone through or come to before.
+abbrev pub GoesOn : TableWalk → TableWalk → Type 0
+GoesOn before after = (level : ℕ) → 1 ≤ after.level → after.level < level → level ≤ 4 → (1 ≤ before.level) × (before.level ≤ level) × (table_at level after ≡ table_at level before)
+
+stays : (walk : TableWalk) → GoesOn walk walk
+stays walk level from above most = (from, omega (arith, above), refl)
+
+kept_goes : (b : Bool) (walk : TableWalk) → GoesOn walk (record walk { level = if b then walk.level else 0 })
+kept_goes true walk level from above most = (from, omega (arith, above), refl)
+kept_goes false walk level from above most = absurd (omega (arith, from))
+
+rooted_goes : (b : Bool) (walk : TableWalk) (v : ℕ) → GoesOn walk (record walk { level = if b then 4 else 0; prefix = 0; root = v; index = 512 })
+rooted_goes true walk v level from above most = absurd (omega (arith, above, most))
+rooted_goes false walk v level from above most = absurd (omega (arith, from))
+
+down_goes : (to : Option ℕ) (walk : TableWalk) (index v : ℕ) → GoesOn walk (gone_down to walk index v)
+down_goes None walk index v level from above most = (from, omega (arith, above), refl)
+down_goes (Some page) walk index v level from above most = (omega (arith, from), omega (arith, from, above), same)
+  where
+    third : level ≡ 3 → (walk.level == 4) ≡ false
+    third e = grind (arith, nat_tests)
+
+    second : level ≡ 2 → (walk.level == 3) ≡ false
+    second e = grind (arith, nat_tests)
+
+    same : table_at level (gone_down (Some page) walk index v) ≡ table_at level walk
+    same = by (level == 4) (level == 3) (level == 2) (λ e. third (grind (arith, nat_tests))) (λ e. second (grind (arith, nat_tests))) (λ e. grind (arith, nat_tests))
+      where
+        by : (four three two : Bool) → (three ≡ true → (walk.level == 4) ≡ false) → (two ≡ true → (walk.level == 3) ≡ false) → ((four ≡ false) × (three ≡ false) × (two ≡ false) → ⊥)
+            → (if four then walk.root else if three then (if walk.level == 4 then page else walk.third) else if two then (if walk.level == 3 then page else walk.second) else if walk.level == 2 then page else walk.first)
+            ≡ (if four then walk.root else if three then walk.third else if two then walk.second else walk.first)
+        by true three two a b c = refl
+        by false true two a b c = ap (λ (x : Bool). if x then page else walk.third) (a refl)
+        by false false true a b c = ap (λ (x : Bool). if x then page else walk.second) (b refl)
+        by false false false a b c = absurd (c (refl, refl, refl))
+
+swap_goes : (won : Bool) (walk : TableWalk) (index new_ v : ℕ) → GoesOn walk (swapped won walk index new_ v)
+swap_goes true walk index new_ v = down_goes (linked_page (kind_of walk.level new_)) walk index new_
+swap_goes false walk index new_ v = down_goes None walk index v
+
+-- So it is behind each step of a part.
+pub part_goes : (step : PartStep) (t : Topics) (v : ℕ) → GoesOn t.walk (part_topics step t v).walk
+part_goes part.Enter t v = kept_goes false t.walk
+part_goes part.Leave t v = kept_goes false t.walk
+part_goes part.Begin t v = kept_goes false t.walk
+part_goes part.End t v = kept_goes false t.walk
+part_goes part.Unshare t v = kept_goes (not (is_outside t.stay)) t.walk
+part_goes part.Release t v = kept_goes (not (is_outside t.stay)) t.walk
+part_goes part.Root t v = rooted_goes (may_walk t.stay t.hold) t.walk v
+part_goes (part.Walk gfn) t v = down_goes (linked_page (kind_of t.walk.level v)) t.walk _ v
+part_goes (part.Link gfn) t v = swap_goes (v == t.walk.entry) t.walk _ (link_written t) v
+part_goes (part.Leaf gfn) t v = swap_goes (v == t.walk.entry) t.walk _ (leaf_written t) v
+part_goes _ t v = stays t.walk

@@ -1,0 +1,125 @@
+-- Behind every run the tables that a walk has gone through are tables.
+use Rattle.std.proofs.Common.{◌≡◌, ◌≢◌, ◌⊎◌, inl, inr, ◌<◌, ◌≤◌, ℕ, List, refl, sym, subst, ap, ◌∙◌, arith}
+use Rattle.std.specs.Prelude.{Option, Some, None}
+use Rattle.std.proofs.lemmas.Bool.{cases_lt}
+use Rattle.core_views.specs.declared.kind.Kind.{Kind}
+use Rattle.core_views.specs.declared.place.Place.{Place}
+use Rattle.core_views.specs.declared.place.Place.TheVariants as place
+use Rattle.core_views.specs.declared.sizes.Sizes.{Sizes}
+use Rattle.core_views.specs.declared.topics.TableWalk.{TableWalk}
+use Rattle.core_views.specs.declared.topics.Topics.{Topics}
+use Rattle.core_views.specs.declared.trace.Command.{Command}
+use Rattle.core_views.specs.declared.trace.Command.TheVariants.{Access, SetSlot}
+use Rattle.core_views.specs.declared.trace.Line.{Line}
+use Rattle.core_views.specs.declared.trace.Op.{Op}
+use Rattle.core_views.specs.declared.trace.Op.TheVariants.{Read, Write, Add}
+use Rattle.core_views.specs.Held.{Held}
+use Rattle.core_views.specs.Sizes.{actors_of}
+use Rattle.mmu_core.specs.declared.part_step.PartStep.{PartStep}
+use Rattle.mmu_core.specs.declared.part_step.PartStep.TheVariants as part
+use Rattle.mmu_core.specs.AccessSteps.{access_note, access_part, task_by, touch_of}
+use Rattle.mmu_core.specs.Enabled.{Enabled, mmu}
+use Rattle.mmu_core.specs.Laws.{IsSound}
+use Rattle.mmu_core.specs.Machine.{May, Step, World, answered, effect, hand_in, run}
+use Rattle.mmu_core.specs.PartSteps.{PartNeeds, own_index, part_kind, table_page}
+use Rattle.mmu_core.specs.Rests.{RestsAt, RestsOn}
+use Rattle.mmu_core.specs.SetSlotSteps.{set_slot_note, set_slot_part}
+use Rattle.mmu_core.specs.Steps.{line_at, place_at, task_at}
+use Rattle.mmu_core.specs.Tasks.{kind_of_task}
+use Rattle.mmu_core.specs.TopicSteps.{topics_after}
+use Rattle.mmu_core.specs.View.{view}
+use Rattle.mmu_core.proofs.Changes.{of_each_list}
+use Rattle.mmu_core.proofs.Columns.{same_or}
+use Rattle.mmu_core.proofs.LineRuns.{own_hand}
+use Rattle.mmu_core.proofs.NextTopics.{next_topics}
+use Rattle.mmu_core.proofs.PartTopics.{is_there, part_topics_is}
+use Rattle.mmu_core.proofs.Scanned.{others_hand}
+use Rattle.mmu_core.proofs.Starts.{hand_is, start_good}
+use Rattle.mmu_core.proofs.Worlds.{good_step}
+use Rattle.core_theorem.specs.Holdings.{table_at}
+use Rattle.core_theorem.specs.Runs.{IsRun}
+use Rattle.core_theorem.proofs.Paths.{GoesOn, part_goes}
+use Rattle.core_theorem.proofs.Tables.{IsTable, stands_is_table, tables_stay}
+
+-- ---- what a step of a hand makes of its walk
+
+-- how the walk goes on behind a step of this kind that answered v
+abbrev Goes : Held → Kind → ℕ → Type 0
+Goes h k v = GoesOn h.topics.walk (topics_after h.state.sizes k h.topics v).walk
+
+made_goes : (h : Held) (step : PartStep) (note v : ℕ) → PartNeeds step h → Goes h (part_kind h step note) v
+made_goes h step note v N = subst (λ (t : Topics). GoesOn h.topics.walk t.walk) (sym (part_topics_is h.state.sizes step (own_index h) h.topics note v (is_there step h N))) (part_goes step h.topics v)
+
+touch_goes : (op : Op) (h : Held) (index v : ℕ) → Goes h (kind_of_task h.state.sizes (touch_of op index)) v
+unfolding topics_after
+touch_goes Read h index v = λ level from above most. (from, omega (arith, above), refl)
+touch_goes (Write x) h index v = λ level from above most. (from, omega (arith, above), refl)
+touch_goes (Add x) h index v = λ level from above most. (from, omega (arith, above), refl)
+
+access_goes : (s : Option PartStep) (h : Held) (note : ℕ) (op : Op) (index v : ℕ) → RestsOn s h → Goes h (kind_of_task h.state.sizes (task_by s h note (touch_of op index))) v
+access_goes None h note op index v N = touch_goes op h index v
+access_goes (Some step) h note op index v N = made_goes h step note v N
+
+line_goes : (p : Place) (command : Command) (h : Held) (v : ℕ) → RestsAt p command h → Goes h (kind_of_task h.state.sizes (task_at p command h)) v
+line_goes place.Between (Access gfn word op) h v R = made_goes h part.Seq 0 v tt
+line_goes place.Between (SetSlot id slot) h v R = made_goes h part.Seq 0 v tt
+line_goes (place.Access p) (Access gfn word op) h v R = access_goes (access_part p gfn h.topics) h (access_note p) op _ v R
+line_goes (place.Access p) (SetSlot id slot) h v R = absurd R
+line_goes (place.SetSlot p) (Access gfn word op) h v R = absurd R
+line_goes (place.SetSlot p) (SetSlot id slot) h v R = made_goes h (set_slot_part p h id slot) (set_slot_note p h) v R
+
+step_goes : (h : Held) (k : Kind) (v : ℕ) → Enabled h k → Goes h k v
+unfolding Enabled
+step_goes h k v (inl e) = subst (λ (x : Kind). Goes h x v) (sym e.is) (line_goes (place_at h.state.place h) (line_at h.state.place h).command h v e.rests.at)
+step_goes h k v (inr e) = subst (λ (x : Kind). Goes h x v) (sym e.is) (made_goes h e.step e.note v e.needs)
+
+-- ---- every run
+
+-- The tables that the walk has gone through are tables, down to the one that it has come to.
+abbrev pub HasPath : Sizes → World Held → TableWalk → Type 0
+HasPath z u walk = (level : ℕ) → 1 ≤ walk.level → walk.level ≤ level → level ≤ 4 → IsTable z (view z u) (table_at level walk)
+
+path_kept : (z : Sizes) (u : World Held) (s : Step Kind) → IsSound z u → May mmu u s → (walk : TableWalk) → HasPath z u walk → HasPath z (effect mmu u s) walk
+path_kept z u s G may walk P level from down most = tables_stay z u s (table_at level walk) G may (P level from down most)
+
+own_path : (z : Sizes) (u : World Held) (s : Step Kind) → IsSound z u → May mmu u s → HasPath z u (hand_in mmu u s.actor).topics.walk → HasPath z (effect mmu u s) (hand_in mmu (effect mmu u s) s.actor).topics.walk
+own_path z u s G may P level from down most = by (cases_lt after.level level)
+  where
+    before : TableWalk
+    before = (hand_in mmu u s.actor).topics.walk
+
+    after : TableWalk
+    after = (hand_in mmu (effect mmu u s) s.actor).topics.walk
+
+    there : s.actor < actors_of z
+    there = subst (λ n. s.actor < n) G.hands may.there
+
+    sound : IsSound z (effect mmu u s)
+    sound = good_step z u s G may
+
+    goes : GoesOn before after
+    goes =
+        let h : Held = hand_in mmu u s.actor in
+        let v : ℕ = answered mmu u s.kind in
+        subst (λ (t : Topics). GoesOn before t.walk) (sym (ap (λ (x : Held). x.topics) (own_hand u s may.there) ∙ next_topics h s.kind v)) (step_goes h s.kind v may.enabled)
+
+    by : (after.level < level) ⊎ (level ≤ after.level) → IsTable z (view z (effect mmu u s)) (table_at level after)
+    by (inl above) =
+        let on = goes level from above most in
+        subst (IsTable z (view z (effect mmu u s))) (sym on.2) (path_kept z u s G may before P level on.0 on.1 most)
+    by (inr not_above) =
+        let here : after.level ≡ level = omega (arith, down, not_above) in
+        let stands = (sound.topics.held s.actor there).table from in
+        subst (λ l. IsTable z (view z (effect mmu u s)) (table_at l after)) here (stands_is_table z (view z (effect mmu u s)) sound.topics.stands (table_page after) _ sound.topics.pool_part (sound.topics.tree.there _ _ stands).0 stands)
+
+each_path : (z : Sizes) (u : World Held) (s : Step Kind) (actor : ℕ) → IsSound z u → May mmu u s → HasPath z u (hand_in mmu u actor).topics.walk → HasPath z (effect mmu u s) (hand_in mmu (effect mmu u s) actor).topics.walk
+each_path z u s actor G may P = by (same_or actor s.actor)
+  where
+    by : (actor ≡ s.actor) ⊎ (actor ≢ s.actor) → HasPath z (effect mmu u s) (hand_in mmu (effect mmu u s) actor).topics.walk
+    by (inl own) = subst (λ i. HasPath z (effect mmu u s) (hand_in mmu (effect mmu u s) i).topics.walk) (sym own) (own_path z u s G may (subst (λ i. HasPath z u (hand_in mmu u i).topics.walk) own P))
+    by (inr apart) = subst (λ (h : Held). HasPath z (effect mmu u s) h.topics.walk) (sym (others_hand u s actor apart)) (path_kept z u s G may (hand_in mmu u actor).topics.walk P)
+
+pub paths_are_tables : (z : Sizes) (lines : List Line) (w : World Held) (ss : List (Step Kind)) (actor : ℕ) → IsRun z lines w ss → actor < actors_of z → HasPath z (run mmu w ss) (hand_in mmu (run mmu w ss) actor).topics.walk
+paths_are_tables z lines w ss actor R there =
+    of_each_list z w (λ ts u. HasPath z u (hand_in mmu u actor).topics.walk) (λ ts s G may P. each_path z (run mmu w ts) s actor G may P) ss (start_good z lines w R.start) R.legal
+    (subst (λ (h : Held). HasPath z w h.topics.walk) (sym (hand_is z lines w actor R.start there)) (λ level from down most. absurd (omega (arith, from))))

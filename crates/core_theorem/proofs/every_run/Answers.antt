@@ -1,0 +1,44 @@
+use Rattle.mmu_core.proofs.Causes.{faults_begin_anew_by_cause}
+use Rattle.mmu_core.proofs.EveryHistory.{every_history}
+use Rattle.mmu_core.proofs.LeafLaws.{cached_leaves_agree, leaves_agree, used_leaves_agree}
+use Rattle.mmu_core.proofs.StarvedScan.{starved_lines_scan}
+use Rattle.mmu_core.proofs.Starts.{start_good}
+use Rattle.mmu_core.proofs.WaitCauses.{waits_are_by_cause}
+use Rattle.core_theorem.proofs.Holdings.{none_holds_free_pages, pages_are_reused_alone}
+use Rattle.core_theorem.proofs.Pages.{pages_are_used}
+use Rattle.core_theorem.proofs.Runs.{before, sound, starts_between}
+use Rattle.core_theorem.proofs.every_run.Goals as goal
+
+pub returns-clause-pages : goal.returns-clause-pages
+returns-clause-pages c z lines w ss R = pages_are_used z _ (sound z lines w ss R)
+
+pub returns-clause-leaves : goal.returns-clause-leaves
+returns-clause-leaves c z lines w ss R gfn entry low leads leaf = leaves_agree z _ gfn entry (sound z lines w ss R) low leads leaf
+
+pub returns-clause-translations : goal.returns-clause-translations
+returns-clause-translations c z lines w ss R actor there = cached_leaves_agree z _ actor (sound z lines w ss R) there
+
+pub returns-clause-used : goal.returns-clause-used
+returns-clause-used c z lines w ss R actor gfn word op there stands command = used_leaves_agree z _ actor gfn word op (sound z lines w ss R) there stands command
+
+pub returns-clause-lock : goal.returns-clause-lock
+returns-clause-lock c z lines w ss R = (sound z lines w ss R).topics.lock_part
+
+pub returns-clause-grace : goal.returns-clause-grace
+returns-clause-grace c = none_holds_free_pages
+
+pub returns-clause-reuse : goal.returns-clause-reuse
+returns-clause-reuse c = pages_are_reused_alone
+
+pub returns-clause-lawful : goal.returns-clause-lawful
+returns-clause-lawful c z lines w ss R = every_history z lines w ss R.start R.legal
+
+pub returns-clause-begins_anew : goal.returns-clause-begins_anew
+returns-clause-begins_anew c z lines w ss s cause gfn word op R stands command =
+    faults_begin_anew_by_cause z w ss s.actor gfn word op cause (start_good z lines w R.start) (before z lines w ss s R).legal (starts_between z lines w ss s R) stands command
+
+pub returns-clause-waits : goal.returns-clause-waits
+returns-clause-waits c z lines w ss s p R stands waits = waits_are_by_cause z w ss s p (start_good z lines w R.start) R.legal (starts_between z lines w ss s R) stands waits
+
+pub returns-clause-starved : goal.returns-clause-starved
+returns-clause-starved c z lines w ss s R starved = starved_lines_scan z w ss s (start_good z lines w R.start) R.legal (starts_between z lines w ss s R) starved

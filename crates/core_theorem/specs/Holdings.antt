@@ -1,0 +1,58 @@
+-- What actors hold of pool pages behind a run: nothing that is free, and nothing that another actor takes or gives back.
+use Rattle.std.specs.Prelude.{◌≡◌, ◌≢◌, ◌⊎◌, ◌<◌, ◌≤◌, ℕ, List, [], ◌∷◌, ◌++◌, false, Some}
+use Rattle.core_views.specs.declared.kind.Kind.{Kind}
+use Rattle.core_views.specs.declared.kind.StepKind.TheVariants as kind
+use Rattle.core_views.specs.declared.sizes.Sizes.{Sizes}
+use Rattle.core_views.specs.declared.topics.OwnedPage.{OwnedPage}
+use Rattle.core_views.specs.declared.topics.TableWalk.{TableWalk}
+use Rattle.core_views.specs.declared.topics.Topics.{Topics}
+use Rattle.core_views.specs.declared.trace.Line.{Line}
+use Rattle.core_views.specs.Held.{Held}
+use Rattle.core_views.specs.Kinds.{code_of}
+use Rattle.core_views.specs.Sizes.{actors_of}
+use Rattle.spte_words.specs.declared.area.Area.TheVariants as area
+use Rattle.mmu_core.specs.Enabled.{mmu}
+use Rattle.mmu_core.specs.Machine.{Step, World, effect, hand_in, run}
+use Rattle.mmu_core.specs.PartSteps.{table_page}
+use Rattle.mmu_core.specs.PoolPart.{is_free}
+use Rattle.mmu_core.specs.View.{word_in}
+use Rattle.core_theorem.specs.Pages.{Owns}
+use Rattle.core_theorem.specs.Runs.{IsRun}
+
+-- the table at a level that a walk has gone through or come to
+abbrev pub table_at : ℕ → TableWalk → ℕ
+table_at level walk = table_page (record walk { level = level })
+
+-- What is so of each page that an actor holds: of the tables that its walk has gone through, from the root's level down to the one that it
+-- has come to, of the slot set that it searches, and of the page that it owns.
+pub record OfEachHeld (IsSo : ℕ → Type 0) (t : Topics) : Type 0 where
+  pub tables : (level : ℕ) → 1 ≤ t.walk.level → t.walk.level ≤ level → level ≤ 4 → IsSo (table_at level t.walk)
+  pub set : (page : ℕ) → t.search.set ≡ Some page → IsSo page
+  pub owned : (o : OwnedPage) → t.owned ≡ Some o → IsSo o.page
+
+-- No page that an actor holds is free.
+abbrev pub NoneHoldsFreePages : Type 0
+NoneHoldsFreePages =
+    (z : Sizes) (lines : List Line) (w : World Held) (ss : List (Step Kind)) → IsRun z lines w ss → (actor : ℕ) → actor < actors_of z
+    → OfEachHeld (λ page. is_free (word_in z (run mmu w ss) area.PoolMap) page ≡ false) (hand_in mmu (run mmu w ss) actor).topics
+
+-- The step, made in this world, is a claim that wins this page.
+pub record Wins (page : ℕ) (w : World Held) (s : Step Kind) : Type 0 where
+  pub claims : s.kind.code ≡ code_of kind.Claim
+  pub owns : Owns page (hand_in mmu (effect mmu w s) s.actor)
+
+-- It gives this page back to the pool: one that its actor owns, or the old slot set that is leaving for it.
+pub record GivesBack (page : ℕ) (w : World Held) (s : Step Kind) : Type 0 where
+  pub gives : s.kind.code ≡ code_of kind.Give
+  pub had : Owns page (hand_in mmu w s.actor) ⊎ ((hand_in mmu w s.actor).topics.leaving ≡ Some page)
+
+-- No other actor holds this page.
+abbrev pub NoOtherHolds : Sizes → ℕ → ℕ → World Held → Type 0
+NoOtherHolds z actor page w = (other : ℕ) → other < actors_of z → other ≢ actor → OfEachHeld (λ held. held ≢ page) (hand_in mmu w other).topics
+
+-- Where a page is claimed from the pool, and where it is given back, no other actor holds it.
+abbrev pub PagesAreReusedAlone : Type 0
+PagesAreReusedAlone =
+    (z : Sizes) (lines : List Line) (w : World Held) (ss : List (Step Kind)) (s : Step Kind) → IsRun z lines w (ss ++ s ∷ []) → (page : ℕ)
+    → (Wins page (run mmu w ss) s → NoOtherHolds z s.actor page (run mmu w ss))
+    × (GivesBack page (run mmu w ss) s → NoOtherHolds z s.actor page (run mmu w ss))

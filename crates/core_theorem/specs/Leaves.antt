@@ -1,0 +1,46 @@
+-- Leaves behind a run: what is linked, what is cached and what an access uses agrees with slots and host.
+use Rattle.std.specs.Prelude.{◌≡◌, ◌^◌, ◌<◌, ℕ, List, All, true}
+use Rattle.core_views.specs.declared.kind.Kind.{Kind}
+use Rattle.core_views.specs.declared.place.AccessPlace.TheVariants.{Touch}
+use Rattle.core_views.specs.declared.place.Place.TheVariants as place
+use Rattle.core_views.specs.declared.sizes.Sizes.{Sizes}
+use Rattle.core_views.specs.declared.trace.Command.TheVariants.{Access}
+use Rattle.core_views.specs.declared.trace.Line.{Line}
+use Rattle.core_views.specs.declared.trace.Op.{Op}
+use Rattle.core_views.specs.Held.{Held}
+use Rattle.core_views.specs.Sizes.{actors_of}
+use Rattle.core_views.specs.Slots.{is_write}
+use Rattle.spte_words.specs.declared.area.Area.TheVariants as area
+use Rattle.spte_words.specs.declared.spte_kind.SpteKind.TheVariants as entry_kind
+use Rattle.spte_words.specs.Entries.{kind_of}
+use Rattle.mmu_core.specs.Enabled.{mmu}
+use Rattle.mmu_core.specs.FaultAlone.{LeadsTo}
+use Rattle.mmu_core.specs.FaultSteps.{allows_access}
+use Rattle.mmu_core.specs.LeafLaws.{LeafAgrees}
+use Rattle.mmu_core.specs.Machine.{Step, World, hand_in, run}
+use Rattle.mmu_core.specs.View.{word_in}
+use Rattle.core_theorem.specs.Runs.{IsRun}
+
+-- In this world the leaf is of the page that the slots give the guest frame, at the frame that the host gives the page.
+abbrev pub Agrees : Sizes → World Held → ℕ → ℕ → Type 0
+Agrees z w gfn leaf = LeafAgrees (word_in z w area.Slots 0) (word_in z w area.Pool) (word_in z w area.Host) gfn leaf
+
+-- Each leaf to which links lead a guest frame from the root agrees.
+abbrev pub LinkedLeavesAgree : Type 0
+LinkedLeavesAgree =
+    (z : Sizes) (lines : List Line) (w : World Held) (ss : List (Step Kind)) → IsRun z lines w ss → (gfn entry : ℕ) → gfn < 2 ^ 36
+    → LeadsTo (word_in z (run mmu w ss) area.Pool) 4 (word_in z (run mmu w ss) area.Root 0) gfn entry → kind_of 1 entry ≡ entry_kind.Leaf
+    → Agrees z (run mmu w ss) gfn entry
+
+-- Each translation that an actor has cached agrees.
+abbrev pub TranslationsAgree : Type 0
+TranslationsAgree =
+    (z : Sizes) (lines : List Line) (w : World Held) (ss : List (Step Kind)) → IsRun z lines w ss → (actor : ℕ) → actor < actors_of z
+    → All (λ t. (t.level ≡ 1) × Agrees z (run mmu w ss) t.gfn t.leaf) (hand_in mmu (run mmu w ss) actor).cached.items
+
+-- The leaf by which an access is about to touch agrees, and allows the access.
+abbrev pub UsedLeavesAgree : Type 0
+UsedLeavesAgree =
+    (z : Sizes) (lines : List Line) (w : World Held) (ss : List (Step Kind)) → IsRun z lines w ss → (actor gfn word : ℕ) (op : Op) → actor < actors_of z
+    → (hand_in mmu (run mmu w ss) actor).state.place ≡ place.Access Touch → (hand_in mmu (run mmu w ss) actor).state.line.command ≡ Access gfn word op
+    → Agrees z (run mmu w ss) gfn (hand_in mmu (run mmu w ss) actor).state.leaf × (allows_access (is_write op) (hand_in mmu (run mmu w ss) actor).state.leaf ≡ true)

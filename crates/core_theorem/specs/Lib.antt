@@ -1,0 +1,6 @@
+pub mod Runs
+pub mod Pages
+pub mod Leaves
+pub mod Locks
+pub mod Holdings
+pub mod Delays

@@ -1,0 +1,9 @@
+use Rattle.mmu_core.proofs.Causes.{faults_begin_anew_by_cause}
+use Rattle.mmu_core.proofs.WaitCauses.{waits_are_by_cause}
+use Rattle.mmu_core.proofs.laws.each_delay_has_its_cause.Goals as goal
+
+pub returns-clause-begins_anew : goal.returns-clause-begins_anew
+returns-clause-begins_anew c = faults_begin_anew_by_cause
+
+pub returns-clause-waits : goal.returns-clause-waits
+returns-clause-waits c = waits_are_by_cause

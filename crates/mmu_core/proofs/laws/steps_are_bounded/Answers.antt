@@ -1,0 +1,8 @@
+use Rattle.mmu_core.proofs.StepsCounted.{counts_fit, steps_counted_on}
+use Rattle.mmu_core.proofs.laws.steps_are_bounded.Goals as goal
+
+pub returns-clause-bounded : goal.returns-clause-bounded
+returns-clause-bounded c = counts_fit
+
+pub returns-clause-counted : goal.returns-clause-counted
+returns-clause-counted c = steps_counted_on

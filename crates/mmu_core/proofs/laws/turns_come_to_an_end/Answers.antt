@@ -1,0 +1,17 @@
+use Rattle.mmu_core.proofs.InstalledEntries.{installed_serve}
+use Rattle.mmu_core.proofs.LeavesStay.{leaves_stay}
+use Rattle.mmu_core.proofs.StepsBounded.{turns_bounded}
+use Rattle.mmu_core.proofs.TurnsNearer.{turns_nearer}
+use Rattle.mmu_core.proofs.laws.turns_come_to_an_end.Goals as goal
+
+pub returns-clause-nearer : goal.returns-clause-nearer
+returns-clause-nearer c = turns_nearer
+
+pub returns-clause-bounded : goal.returns-clause-bounded
+returns-clause-bounded c = turns_bounded
+
+pub returns-clause-installed : goal.returns-clause-installed
+returns-clause-installed c = installed_serve
+
+pub returns-clause-stay : goal.returns-clause-stay
+returns-clause-stay c = leaves_stay

@@ -1,0 +1,174 @@
+-- What the words of a line say is read, and only that; and why they say nothing.
+use Rattle.std.proofs.Common.{◌≡◌, inl, inr, ℕ, List, [], ◌∷◌, Bool, true, false, cond, Result, Ok, Err, refl, subst, ◌∙◌}
+use Rattle.std.specs.Prelude.{codes}
+use Rattle.std.specs.Str.{bytes_eq}
+use Rattle.core_views.specs.Text.{actor_name}
+use Rattle.core_views.specs.Traces.{IsCommandOf, IsHeader}
+use Rattle.core_views.specs.declared.actor.Actor.{Actor}
+use Rattle.core_views.specs.declared.actor.Actor.TheVariants.{Vcpu, Host, Manager, Worker}
+use Rattle.core_views.specs.declared.trace.Command.{Command}
+use Rattle.core_views.specs.declared.trace.Command.TheVariants.{Access, SetSlot}
+use Rattle.core_views.specs.declared.trace.Header.{Header}
+use Rattle.core_views.specs.declared.trace.Item.{Item}
+use Rattle.core_views.specs.declared.trace.Op.TheVariants.{Read, Write, Add}
+use Rattle.trace_reader.specs.declared.reason.Reason.{Reason}
+use Rattle.trace_reader.specs.declared.reason.Reason.TheVariants as reason
+use Rattle.trace_reader.specs.declared.saying.Saying.{Saying}
+use Rattle.trace_reader.specs.declared.saying.Saying.TheVariants.{Does, Go, Schedules}
+use Rattle.trace_reader.specs.Forms.{◌>>=◌, Said, by_form}
+use Rattle.trace_reader.specs.Items.{item_said}
+use Rattle.trace_reader.specs.Sayings.{IsSayingOf, Seen, by_first, command_said, go_said, schedule_said}
+use Rattle.trace_reader.specs.Grammar.{AreCommandWords, AreWordsOf, HasForm, IsActor, IsCommandForm, IsDeclared, IsUntilForm, item_words}
+use Rattle.trace_reader.proofs.Items.{ItemJudged, item_judged, item_read}
+use Rattle.trace_reader.proofs.Refused as commands
+use Rattle.trace_reader.proofs.Results.{heads_differ, is_word, other_word, word_is}
+use Rattle.trace_reader.proofs.Said.{only, reads, small_words}
+
+-- The first word of an actor's line is its name.
+pub command_first : (words : List (List ℕ)) (a : Actor) → IsCommandForm words a → (rest : List (List ℕ)) × (words ≡ actor_name a ∷ rest)
+command_first words (Vcpu i) (inl (x, e)) = (_, e)
+command_first words (Vcpu i) (inr (inl (x, y, e))) = (_, e)
+command_first words (Vcpu i) (inr (inr (x, y, e))) = (_, e)
+command_first words (Host i) form = absurd form
+command_first words Manager (i, b, p, k, read_only, e) = (_, e)
+command_first words (Worker i) form = absurd form
+
+-- No actor is named `go` or `>`.
+not_go : (a : Actor) → actor_name a ≡ codes "go" → ⊥
+not_go (Vcpu i) e = heads_differ 118 103 _ _ refl e
+not_go (Host i) e = heads_differ 104 103 _ _ refl e
+not_go Manager e = heads_differ 118 103 _ _ refl e
+not_go (Worker i) e = heads_differ 119 103 _ _ refl e
+
+pub not_mark : (a : Actor) → actor_name a ≡ codes ">" → ⊥
+not_mark (Vcpu i) e = heads_differ 118 62 _ _ refl e
+not_mark (Host i) e = heads_differ 104 62 _ _ refl e
+not_mark Manager e = heads_differ 118 62 _ _ refl e
+not_mark (Worker i) e = heads_differ 119 62 _ _ refl e
+
+same_first : (a b : List ℕ) (xs ys : List (List ℕ)) → a ∷ xs ≡ b ∷ ys → a ≡ b
+same_first a b xs ys e = cc
+
+mark_not_go : codes ">" ≡ codes "go" → ⊥
+mark_not_go e = heads_differ 62 103 _ _ refl e
+
+-- A line of a form begins with its actor's name, or with `>`.
+go_no_form : (first : List ℕ) (rest : List (List ℕ)) (a : Actor) → first ≡ codes "go" → HasForm (first ∷ rest) a → ⊥
+go_no_form first rest a go (inl form) = let (more, e) = command_first (first ∷ rest) a form in not_go a (let f : first ≡ actor_name a = same_first first (actor_name a) rest more e in cc)
+go_no_form first rest a go (inr (last, e, form)) = mark_not_go (let f : first ≡ codes ">" = same_first first (codes ">") rest _ e in cc)
+
+pub no_go_form : (a : Actor) → HasForm (codes "go" ∷ []) a → ⊥
+no_go_form a form = go_no_form (codes "go") [] a refl form
+
+mark_no_command : (first : List ℕ) (rest : List (List ℕ)) (a : Actor) → first ≡ codes ">" → IsCommandForm (first ∷ rest) a → ⊥
+mark_no_command first rest a mark form = let (more, e) = command_first (first ∷ rest) a form in not_mark a (let f : first ≡ actor_name a = same_first first (actor_name a) rest more e in cc)
+
+-- What the words of a form say is read.
+pub command_form : (ids : ℕ → Bool) (words : List (List ℕ)) (a : Actor) (c : Command) → AreCommandWords ids words a c → IsCommandForm words a
+command_form ids words (Vcpu i) (Access gfn word Read) (x, is, s) = inl (x, is)
+command_form ids words (Vcpu i) (Access gfn word (Write v)) (x, y, is, s, t) = inr (inl (x, y, is))
+command_form ids words (Vcpu i) (Access gfn word (Add v)) (x, y, is, s, t) = inr (inr (x, y, is))
+command_form ids words (Vcpu i) (SetSlot id slot) form = absurd form
+command_form ids words (Host i) c form = absurd form
+command_form ids words Manager (Access gfn word op) form = absurd form
+command_form ids words Manager (SetSlot id s) (i, x, y, z, first, is, n, a, b, c) = (i, x, y, z, s.read_only, is)
+command_form ids words (Worker i) c form = absurd form
+
+by_command : (h : Header) (seen : Seen) (first : List ℕ) (rest : List (List ℕ)) → (first ≡ codes "go" → ⊥) → (first ≡ codes ">" → ⊥) → by_first h seen (first ∷ rest) ≡ command_said h seen.ids (first ∷ rest)
+unfolding by_first
+by_command h seen first rest go mark = rw (other_word first (codes "go") go, other_word first (codes ">") mark) refl
+
+command_read : (h : Header) (seen : Seen) (words : List (List ℕ)) (a : Actor) (c : Command) → IsHeader h → IsCommandOf h a c → AreCommandWords seen.ids words a c → by_first h seen words ≡ Ok (Does a c)
+unfolding command_said
+command_read h seen words a c header range are =
+    let (rest, e) = command_first words a (command_form seen.ids words a c are) in
+    let said : by_form h seen.ids words ≡ Ok (a, c) = reads h seen.ids words a c header.vcpus.1 (small_words h header) range are in
+    let first = by_command h seen (actor_name a) rest (not_go a) (not_mark a) in
+    rw e (first ∙ rw (← e, said) refl)
+
+pub words_read : (h : Header) (seen : Seen) (words : List (List ℕ)) (s : Saying) → IsHeader h → IsSayingOf h s → AreWordsOf seen words s → by_first h seen words ≡ Ok s
+unfolding by_first schedule_said
+words_read h seen words (Does a c) header range are = command_read h seen words a c header range are
+words_read h seen words Go header range (first, e) = rw (e, first) refl
+words_read h seen words (Schedules item) header range (last, e, says) = rw (e, item_read h (actor_name item.actor) last item header range refl says) refl
+
+-- What the words say, or why they say nothing.
+abbrev pub WhyNot : Header → Seen → List (List ℕ) → Reason → Type 0
+WhyNot h seen words reason.Word = ((a : Actor) → HasForm words a → IsActor a → ⊥) × (seen.go ≡ false → words ≡ codes "go" ∷ [] → ⊥)
+WhyNot h seen words reason.Actor = (a : Actor) × HasForm words a × IsActor a × (IsDeclared h a → ⊥)
+WhyNot h seen words reason.Number = (a : Actor) × HasForm words a × IsActor a × IsDeclared h a
+WhyNot h seen words _ = ⊥
+
+abbrev pub WordsJudged : Header → Seen → List (List ℕ) → Result Saying Reason → Type 0
+WordsJudged h seen words (Ok s) = IsSayingOf h s × AreWordsOf seen words s
+WordsJudged h seen words (Err r) = WhyNot h seen words r
+
+one_word : (first : List ℕ) (rest : List (List ℕ)) → first ∷ rest ≡ codes "go" ∷ [] → (first ≡ codes "go") × (rest ≡ [])
+one_word first rest e = (cc, cc)
+
+go_judged : (h : Header) (seen : Seen) (first : List ℕ) (rest : List (List ℕ)) (was : Bool) → first ≡ codes "go" → seen.go ≡ was → WordsJudged h seen (first ∷ rest) (go_said was rest)
+go_judged h seen first [] true go was = ((λ a form is. go_no_form first [] a go form), λ never e. cc)
+go_judged h seen first [] false go was = (tt, (was, rw go refl))
+go_judged h seen first (w ∷ ws) was go e = ((λ a form is. go_no_form first (w ∷ ws) a go form), λ never is. let n = (one_word first (w ∷ ws) is).1 in cc)
+
+-- The words behind `>`.
+not_item : (h : Header) (seen : Seen) (first : List ℕ) (rest : List (List ℕ)) → first ≡ codes ">" → ((a : Actor) (last : List ℕ) → first ∷ rest ≡ item_words a last → ⊥) → WordsJudged h seen (first ∷ rest) (Err reason.Word)
+not_item h seen first rest mark never = (
+  (λ a form is. elim form [ inl f ↦ mark_no_command first rest a mark f | inr f ↦ never a f.0 f.1 ]),
+  λ was is. let go = (one_word first rest is).0 in mark_not_go cc,
+)
+
+item_parts : (first who last : List ℕ) (a : Actor) (other : List ℕ) → first ∷ who ∷ last ∷ [] ≡ item_words a other → (who ≡ actor_name a) × (other ≡ last)
+item_parts first who last a other e = (cc, cc)
+
+item_why : (h : Header) (seen : Seen) (first who last : List ℕ) (r : Result Item Reason) → first ≡ codes ">" → ItemJudged h who last r → WordsJudged h seen (first ∷ who ∷ last ∷ []) (r >>= λ item. Ok (Schedules item))
+item_why h seen first who last (Ok item) mark (range, name, says) = (range, (last, rw (mark, name) refl, says))
+item_why h seen first who last (Err reason.Word) mark never = (
+  (λ a form is. elim form [ inl f ↦ mark_no_command first (who ∷ last ∷ []) a mark f | inr f ↦ let same = item_parts first who last a f.0 f.1 in never a is same.0 (subst IsUntilForm same.1 f.2) ]),
+  λ was is. let go = (one_word first (who ∷ last ∷ []) is).0 in mark_not_go cc,
+)
+item_why h seen first who last (Err reason.Actor) mark (a, is, name, form, never) = (a, inr (last, rw (mark, name) refl, form), is, never)
+item_why h seen first who last (Err reason.Number) mark (a, is, name, form, known) = (a, inr (last, rw (mark, name) refl, form), is, known)
+item_why h seen first who last (Err _) mark never = absurd never
+
+schedule_judged : (h : Header) (seen : Seen) (first : List ℕ) (rest : List (List ℕ)) → first ≡ codes ">" → WordsJudged h seen (first ∷ rest) (schedule_said h rest)
+unfolding schedule_said
+schedule_judged h seen first [] mark = not_item h seen first [] mark (λ a last e. cc)
+schedule_judged h seen first (w ∷ []) mark = not_item h seen first (w ∷ []) mark (λ a last e. cc)
+schedule_judged h seen first (who ∷ last ∷ []) mark = item_why h seen first who last (item_said h who last) mark (item_judged h who last)
+schedule_judged h seen first (w ∷ x ∷ y ∷ more) mark = not_item h seen first (w ∷ x ∷ y ∷ more) mark (λ a last e. cc)
+
+-- An actor's words.
+lifted : (h : Header) (seen : Seen) (first : List ℕ) (rest : List (List ℕ)) (r : Reason) → (first ≡ codes "go" → ⊥) → (first ≡ codes ">" → ⊥) → commands.Why h (first ∷ rest) r → WhyNot h seen (first ∷ rest) r
+lifted h seen first rest reason.Word go mark never = (
+  (λ a form is. elim form [ inl f ↦ never a f is | inr f ↦ mark (same_first first (codes ">") rest _ f.1) ]),
+  λ was is. go (one_word first rest is).0,
+)
+lifted h seen first rest reason.Actor go mark (a, form, is, never) = (a, inl form, is, never)
+lifted h seen first rest reason.Number go mark (a, form, is, known) = (a, inl form, is, known)
+lifted h seen first rest _ go mark never = absurd never
+
+command_why : (h : Header) (seen : Seen) (first : List ℕ) (rest : List (List ℕ)) (x : Said) → by_form h seen.ids (first ∷ rest) ≡ x → (first ≡ codes "go" → ⊥) → (first ≡ codes ">" → ⊥) → commands.Tells h (first ∷ rest) x → WordsJudged h seen (first ∷ rest) (x >>= λ p. Ok (Does p.0 p.1))
+command_why h seen first rest (Ok p) e go mark tells = only h seen.ids (first ∷ rest) p e
+command_why h seen first rest (Err r) e go mark tells = lifted h seen first rest r go mark tells
+
+command_judged : (h : Header) (seen : Seen) (first : List ℕ) (rest : List (List ℕ)) → (first ≡ codes "go" → ⊥) → (first ≡ codes ">" → ⊥) → WordsJudged h seen (first ∷ rest) (command_said h seen.ids (first ∷ rest))
+unfolding command_said
+command_judged h seen first rest go mark = command_why h seen first rest (by_form h seen.ids (first ∷ rest)) refl go mark (commands.why h seen.ids (first ∷ rest))
+
+differs : (w v : List ℕ) → bytes_eq w v ≡ false → w ≡ v → ⊥
+differs w v e same = let t : bytes_eq w v ≡ true = is_word w v same in cc
+
+by_word : (h : Header) (seen : Seen) (first : List ℕ) (rest : List (List ℕ)) (b c : Bool) → bytes_eq first (codes "go") ≡ b → bytes_eq first (codes ">") ≡ c
+    → WordsJudged h seen (first ∷ rest) (cond b (go_said seen.go rest) (cond c (schedule_said h rest) (command_said h seen.ids (first ∷ rest))))
+by_word h seen first rest true c go mark = go_judged h seen first rest seen.go (word_is first (codes "go") go) refl
+by_word h seen first rest false true go mark = schedule_judged h seen first rest (word_is first (codes ">") mark)
+by_word h seen first rest false false go mark = command_judged h seen first rest (differs first (codes "go") go) (differs first (codes ">") mark)
+
+pub words_judged : (h : Header) (seen : Seen) (words : List (List ℕ)) → WordsJudged h seen words (by_first h seen words)
+unfolding by_first
+words_judged h seen [] = (
+  (λ a form is. elim form [ inl f ↦ let (rest, e) = command_first [] a f in cc | inr f ↦ let e = f.1 in cc ]),
+  λ was is. cc,
+)
+words_judged h seen (first ∷ rest) = by_word h seen first rest (bytes_eq first (codes "go")) (bytes_eq first (codes ">")) refl refl

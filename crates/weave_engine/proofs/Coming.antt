@@ -1,0 +1,78 @@
+-- Steps that were made, with what they print put behind what waited: one turn more, or more steps.
+use Rattle.std.proofs.Common.{◌≡◌, ℕ, List, [], ◌++◌, Ok, Err, append_assoc, refl, sym, ap, subst, ◌∙◌}
+use Rattle.std.proofs.lemmas.List.{append-nil}
+use Rattle.std.specs.Prelude.{Bool}
+use Rattle.std.specs.declared.option.Option.{Option}
+use Rattle.core_views.specs.declared.kind.Kind.{Kind}
+use Rattle.core_views.specs.Held.{Held}
+use Rattle.core_views.specs.Text.{text}
+use Rattle.core_views.proofs.Texts.{text_append}
+use Rattle.mmu_core.specs.Enabled.{mmu}
+use Rattle.mmu_core.specs.Machine.{Legal, Step, World, run}
+use Rattle.mmu_core.specs.Worlds.{history}
+use Rattle.mmu_core.proofs.Extend.{legal-append, run-append}
+use Rattle.mmu_core.proofs.LineRuns.{history_append}
+use Rattle.tdp_io.specs.Ends.{AppendsPrefix}
+use Rattle.tdp_io.specs.declared.sink.Stop.{Stop}
+use Rattle.weave_engine.specs.Turned.{Comes, MakesTurn, PutsRun}
+use Rattle.weave_engine.specs.Turning.{IsTurn, stops as stops_with}
+use Rattle.weave_engine.specs.Writes.{Buffers}
+use Rattle.weave_engine.proofs.Writes.{Follows, goes_on, none_put, stops}
+
+pub comes_none : (w : World Held) → Comes w [] w []
+comes_none w = record { legal = tt; ends = refl; prints = refl }
+
+pub comes_then : (w t u : World Held) (ss ts : List (Step Kind)) (xs ys : List ℕ) → Comes w ss t xs → Comes t ts u ys → Comes w (ss ++ ts) u (xs ++ ys)
+comes_then w t u ss ts xs ys C D =
+    let legal : Legal mmu (run mmu w ss) ts = subst (λ (x : World Held). Legal mmu x ts) (sym C.ends) D.legal in
+    record {
+      legal = legal-append mmu w ss ts C.legal legal;
+      ends = run-append mmu w ss ts ∙ ap (λ (x : World Held). run mmu x ts) C.ends ∙ D.ends;
+      prints = ap (λ (x : List ℕ). x ++ ys) C.prints ∙ ap (λ (y : List ℕ). text (history w ss) ++ y) (D.prints ∙ ap (λ (x : World Held). text (history x ts)) (sym C.ends))
+          ∙ sym (ap text (history_append w ss ts) ∙ text_append (history w ss) (history (run mmu w ss) ts));
+    }
+
+-- Steps of which this holds lead from one world to the other, and what they print was put behind what waited.
+pub record SoFar (P : World Held → List (Step Kind) → Type 0) (w t : World Held) (before here : Option (List ℕ)) (waited waits : List ℕ) : Type 0 where
+  pub steps : List (Step Kind)
+  pub bytes : List ℕ
+  pub holds : P w steps
+  pub comes : Comes w steps t bytes
+  pub put : Follows before here waits (waited ++ bytes)
+
+pub so_far_none : (P : World Held → List (Step Kind) → Type 0) (w : World Held) (before : Option (List ℕ)) (waited : List ℕ) → P w [] → SoFar P w w before before waited waited
+so_far_none P w before waited holds = record { steps = []; bytes = []; holds = holds; comes = comes_none w; put = none_put before waited }
+
+-- Steps more, of which the same or another thing holds with those before.
+pub so_far_then : (P Q : World Held → List (Step Kind) → Type 0) (w t u : World Held) (before here after : Option (List ℕ)) (waited waits more : List ℕ) (ts : List (Step Kind)) (bytes : List ℕ) (F : SoFar P w t before here waited waits)
+    → Comes t ts u bytes → Buffers here after waits more (Ok tt) bytes → Q w (F.steps ++ ts) → SoFar Q w u before after waited more
+so_far_then P Q w t u before here after waited waits more ts bytes F comes put holds = record {
+  steps = F.steps ++ ts;
+  bytes = F.bytes ++ bytes;
+  holds = holds;
+  comes = comes_then w t u F.steps ts F.bytes bytes F.comes comes;
+  put = goes_on before here after waits more bytes waited F.bytes F.put put;
+}
+
+-- One turn more: what it is in the world that the steps before led to.
+pub turn_there : (P : World Held → List (Step Kind) → Type 0) (w t u : World Held) (before here : Option (List ℕ)) (waited waits : List ℕ) (actor : ℕ) (stop : Bool) (bytes : List ℕ) (F : SoFar P w t before here waited waits) (M : MakesTurn actor t u stop bytes)
+    → IsTurn actor (run mmu w F.steps) M.step × (stops_with (run mmu w F.steps) M.step ≡ stop)
+turn_there P w t u before here waited waits actor stop bytes F M =
+    subst (λ (x : World Held). IsTurn actor x M.step × (stops_with x M.step ≡ stop)) (sym F.comes.ends) (M.turn, M.stops_)
+
+-- All of it was put.
+pub puts_all : (P Q R : World Held → List (Step Kind) → Type 0) (w t : World Held) (before here : Option (List ℕ)) (waited waits : List ℕ) (F : SoFar P w t before here waited waits) → Q w F.steps → PutsRun Q R w t before here waited waits (Ok tt)
+puts_all P Q R w t before here waited waits F holds = (F.steps, F.bytes, holds, F.comes, F.put)
+
+-- It stopped with no step more.
+pub puts_stopped : (P Q R : World Held → List (Step Kind) → Type 0) (w t u : World Held) (before here after : Option (List ℕ)) (waited waits more : List ℕ) (stop : Stop) (F : SoFar P w t before here waited waits) → u ≡ t → AppendsPrefix here after waits → R w F.steps
+    → PutsRun Q R w u before after waited more (Err stop)
+puts_stopped P Q R w t u before here after waited waits more stop F same prefix holds =
+    subst (λ (x : World Held). PutsRun Q R w x before after waited more (Err stop)) (sym same)
+    (F.steps, F.bytes, holds, F.comes, subst (AppendsPrefix before after) (append-nil (waited ++ F.bytes)) (stops before here after waits [] (waited ++ F.bytes) F.put (subst (AppendsPrefix here after) (sym (append-nil waits)) prefix)))
+
+-- It stopped behind steps more.
+pub puts_stopped_behind : (P Q R : World Held → List (Step Kind) → Type 0) (w t u : World Held) (before here after : Option (List ℕ)) (waited waits more : List ℕ) (stop : Stop) (ts : List (Step Kind)) (bytes : List ℕ) (F : SoFar P w t before here waited waits) → Comes t ts u bytes
+    → AppendsPrefix here after (waits ++ bytes) → R w (F.steps ++ ts) → PutsRun Q R w u before after waited more (Err stop)
+puts_stopped_behind P Q R w t u before here after waited waits more stop ts bytes F comes prefix holds =
+    (F.steps ++ ts, F.bytes ++ bytes, holds, comes_then w t u F.steps ts F.bytes bytes F.comes comes, subst (AppendsPrefix before after) (append_assoc waited F.bytes bytes) (stops before here after waits bytes (waited ++ F.bytes) F.put prefix))

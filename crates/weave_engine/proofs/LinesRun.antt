@@ -1,0 +1,235 @@
+-- A replay, line by line: the list of steps goes on, the hands come behind the lines, and all actors rest between them.
+use Rattle.std.proofs.Common.{◌≡◌, ◌≢◌, ◌⊎◌, inl, inr, ◌<◌, ◌≤◌, ◌+◌, ◌*◌, ℕ, suc, List, [], ◌∷◌, ◌++◌, length, length-append, take, get_or, refl, sym, ap, subst, ◌∙◌, append_assoc, arith}
+use Rattle.std.proofs.Math.ListN.{length-map}
+use Rattle.std.proofs.lemmas.List.{append-nil, get_or-set_other, take_all}
+use Rattle.std.proofs.lemmas.Option.{slice_get_within}
+use Rattle.std.specs.Prelude.{All, Some, slice_get}
+use Rattle.core_views.specs.declared.answer.Answer.{Answer}
+use Rattle.core_views.specs.declared.answer.AnsweredLine.{AnsweredLine}
+use Rattle.core_views.specs.declared.event.Event.{Event}
+use Rattle.core_views.specs.declared.kind.Kind.{Kind}
+use Rattle.core_views.specs.declared.place.Place.TheVariants.{Between}
+use Rattle.core_views.specs.declared.sizes.Sizes.{Sizes}
+use Rattle.core_views.specs.declared.trace.Line.{Line}
+use Rattle.core_views.specs.Alone.{StandsAlone}
+use Rattle.core_views.specs.Flat.{no_line}
+use Rattle.core_views.specs.Held.{Held}
+use Rattle.core_views.specs.Sizes.{actor_at, actors_of, index_of}
+use Rattle.core_views.specs.Text.{line_text, lines_text, text}
+use Rattle.core_views.specs.Traces.{IsCommandFor}
+use Rattle.core_views.specs.Whole.{lines_of}
+use Rattle.core_views.proofs.StandsAlone.{stands_append}
+use Rattle.core_views.proofs.Texts.{text_append}
+use Rattle.mmu_core.specs.Bounds.{most_steps}
+use Rattle.mmu_core.specs.Enabled.{mmu}
+use Rattle.mmu_core.specs.Laws.{IsSound}
+use Rattle.mmu_core.specs.LineAlone.{AllRest, LineAlone}
+use Rattle.mmu_core.specs.Machine.{Legal, Step, World, effect, hand_in, run}
+use Rattle.mmu_core.specs.OthersRest.{HoldsNothing}
+use Rattle.mmu_core.specs.Steps.{nobody}
+use Rattle.mmu_core.specs.Worlds.{IsStart, history}
+use Rattle.mmu_core.proofs.AloneRuns.{begins_alone}
+use Rattle.mmu_core.proofs.Columns.{same_or}
+use Rattle.mmu_core.proofs.Extend.{legal-append, run-append}
+use Rattle.mmu_core.proofs.LineRuns.{history_append}
+use Rattle.mmu_core.proofs.Starts.{hand_is, start_good}
+use Rattle.mmu_core.proofs.Worlds.{good_run}
+use Rattle.step_seats.specs.Machines.{Machine, world_in}
+use Rattle.step_seats.specs.Moves.{core_of, handful_in}
+use Rattle.step_seats.proofs.Worlds.{core_at}
+use Rattle.weave_engine.specs.Replays.{EachRunsAlone, RanOn, RunsAlone, RunsLines}
+use Rattle.weave_engine.proofs.FileOrder.{maker_is, maker_there, next_is, one_more_line, other_line, other_place, own_line}
+
+-- No line of this hand is under way, and it has answered its actor's lines among the first of all.
+pub record IsBehind (z : Sizes) (lines : List Line) (done actor : ℕ) (h : Held) : Type 0 where
+  pub between : h.state.place ≡ Between
+  pub whose : h.state.actor ≡ actor_at z actor
+  pub lines_are : h.lines ≡ lines_of (actor_at z actor) lines
+  pub answered : length h.answers ≡ length (lines_of (actor_at z actor) (take done lines))
+
+-- So each hand is.
+abbrev pub AreBehind : Sizes → List Line → ℕ → World Held → Type 0
+AreBehind z lines done w = (actor : ℕ) → actor < actors_of z → IsBehind z lines done actor (hand_in mmu w actor)
+
+-- One line more has run.
+each_more : (z : Sizes) (start : World Held) (done : List Line) (ss : List (Step Kind)) (line : Line) (answer : Answer) (own : List (Step Kind)) → EachRunsAlone z start done ss → RunsAlone z (index_of z line.actor) line answer own (run mmu start ss)
+    → EachRunsAlone z start (done ++ line ∷ []) (ss ++ own)
+each_more z start [] ss line answer own none ran =
+    (own, [], answer, ap (λ (l : List (Step Kind)). l ++ own) none ∙ sym (append-nil own), subst (λ (l : List (Step Kind)). RunsAlone z (index_of z line.actor) line answer own (run mmu start l)) none ran, refl)
+each_more z start (first ∷ done) ss line answer own (front, rest, given, are, one, each) ran = (
+  front,
+  rest ++ own,
+  given,
+  ap (λ (l : List (Step Kind)). l ++ own) are ∙ append_assoc front rest own,
+  one,
+  each_more z (run mmu start front) done rest line answer own each (subst (λ (w : World Held). RunsAlone z (index_of z line.actor) line answer own w) (ap (run mmu start) are ∙ run-append mmu start front rest) ran),
+)
+
+runs_more : (z : Sizes) (start w t : World Held) (done more : List Line) (line : Line) (answer : Answer) → more ≡ done ++ line ∷ [] → RunsLines z start done w → RanOn z line answer (index_of z line.actor) w t → RunsLines z start more t
+runs_more z start w t done more line answer are r ran = record {
+  steps = r.steps ++ ran.steps;
+  legal = legal-append mmu start r.steps ran.steps r.legal (subst (λ x. Legal mmu x ran.steps) (sym r.ends) ran.alone.runs.legal);
+  ends = run-append mmu start r.steps ran.steps ∙ ap (λ x. run mmu x ran.steps) r.ends ∙ ran.ends;
+  each = subst (λ ls. EachRunsAlone z start ls (r.steps ++ ran.steps)) (sym are) (each_more z start done r.steps line answer ran.steps r.each (subst (λ (x : World Held). RunsAlone z (index_of z line.actor) line answer ran.steps x) (sym r.ends) ran.alone));
+  alone = subst (λ ls. StandsAlone (history start (r.steps ++ ran.steps)) ls) (sym are)
+      (subst (λ es. StandsAlone es (done ++ line ∷ [])) (sym (history_append start r.steps ran.steps ∙ ap (λ x. history start r.steps ++ history x ran.steps) r.ends))
+      (stands_append done (line ∷ []) (history start r.steps) (history w ran.steps) r.alone ran.alone.runs.alone));
+  few = let a = length-append r.steps ran.steps in let b = length-append done (line ∷ []) in let c = r.few in let d = ran.alone.few in let n = ap (λ (ls : List Line). length ls) are in few_more (length r.steps) (length ran.steps) (length (r.steps ++ ran.steps)) (most_steps z) (length done) (length more) c d a (n ∙ b);
+}
+  where
+    few_more : (a b both most lines more : ℕ) → a ≤ most * lines → b ≤ most → both ≡ a + b → more ≡ lines + 1 → both ≤ most * more
+    few_more a b both most lines more few one sum count = rw (sum, count) (nlinear a b most lines few one)
+      where
+        nlinear : (a b most lines : ℕ) → a ≤ most * lines → b ≤ most → a + b ≤ most * (lines + 1)
+        nlinear a b most lines few one = let e : most * (lines + 1) ≡ most * lines + most = omega arith in omega (arith, few, one, e)
+
+-- What it tells is printed behind what was printed before.
+prints_more : (z : Sizes) (start w t : World Held) (done : List Line) (line : Line) (answer : Answer) (r : RunsLines z start done w) (ran : RanOn z line answer (index_of z line.actor) w t)
+    → text (history start (r.steps ++ ran.steps)) ≡ text (history start r.steps) ++ line_text line.number line.actor answer
+prints_more z start w t done line answer r ran =
+    let own : text (history w ran.steps) ≡ line_text line.number line.actor answer = ap lines_text ran.alone.runs.answers ∙ append-nil (line_text line.number line.actor answer) in
+    ap text (history_append start r.steps ran.steps) ∙ text_append (history start r.steps) (history (run mmu start r.steps) ran.steps)
+    ∙ ap (λ (es : List Event). text (history start r.steps) ++ text es) (ap (λ x. history x ran.steps) r.ends) ∙ ap (λ (t : List ℕ). text (history start r.steps) ++ t) own
+
+-- Nothing has run at the start.
+runs_none : (z : Sizes) (start : World Held) → RunsLines z start [] start
+runs_none z start = record { steps = []; legal = tt; ends = refl; each = refl; alone = refl; few = omega arith }
+
+pub behind_none : (z : Sizes) (lines : List Line) (w : World Held) → IsStart z lines w → AreBehind z lines 0 w
+behind_none z lines w start = λ i lt. subst (IsBehind z lines 0 i) (sym (hand_is z lines w i start lt)) (record { between = refl; whose = refl; lines_are = refl; answered = refl })
+
+-- Steps of one actor leave the hands of the others.
+other_hand : (w : World Held) (s : Step Kind) (b : ℕ) → b ≢ s.actor → hand_in mmu (effect mmu w s) b ≡ hand_in mmu w b
+unfolding effect
+other_hand w s b apart = get_or-set_other w.hands s.actor b _ nobody apart
+
+other_hands : (w : World Held) (ss : List (Step Kind)) (a b : ℕ) → b ≢ a → All (λ s. s.actor ≡ a) ss → hand_in mmu (run mmu w ss) b ≡ hand_in mmu w b
+other_hands w [] a b ne all = refl
+other_hands w (s ∷ ss) a b ne all =
+    let here : s.actor ≡ a = all 0 s (omega arith) in
+    other_hands (effect mmu w s) ss a b ne (λ k d lt. all (suc k) d (omega arith)) ∙ other_hand w s b (λ e. ne (e ∙ here))
+
+pub hands_more : (z : Sizes) (lines : List Line) (i : ℕ) (w t : World Held) (answer : Answer) → i < length lines → IsCommandFor z (get_or lines i no_line).actor (get_or lines i no_line).command
+    → RanOn z (get_or lines i no_line) answer (index_of z (get_or lines i no_line).actor) w t → AreBehind z lines i w → AreBehind z lines (i + 1) t
+hands_more z lines i w t answer lt may ran behind b below = by (same_or b a)
+  where
+    line : Line
+    line = get_or lines i no_line
+
+    a : ℕ
+    a = index_of z line.actor
+
+    own : b ≡ a → IsBehind z lines (i + 1) b (hand_in mmu t b)
+    own e = subst (λ k. IsBehind z lines (i + 1) k (hand_in mmu t k)) (sym e) (record {
+      between = ran.answered.between;
+      whose = ran.same.actor ∙ B.whose;
+      lines_are = ran.same.lines ∙ B.lines_are;
+      answered = ap (λ (xs : List AnsweredLine). length xs) ran.answered.answers ∙ (length-append (hand_in mmu w a).answers _ ∙ (ap (λ n. n + 1) B.answered ∙ sym (ap (λ (xs : List Line). length xs) (own_line (actor_at z a) lines i no_line lt (maker_is z line.actor line.command may)) ∙ length-append (lines_of (actor_at z a) (take i lines)) (line ∷ []))));
+    })
+      where
+        B : IsBehind z lines i a (hand_in mmu w a)
+        B = behind a (maker_there z line.actor line.command may)
+
+    other : b ≢ a → IsBehind z lines (i + 1) b (hand_in mmu t b)
+    other ne =
+        let B = behind b below in
+        let same : hand_in mmu t b ≡ hand_in mmu w b = ap (λ x. hand_in mmu x b) (sym ran.ends) ∙ other_hands w ran.steps a b ne ran.alone.own in
+        subst (IsBehind z lines (i + 1) b) (sym same) (record {
+          between = B.between;
+          whose = B.whose;
+          lines_are = B.lines_are;
+          answered = B.answered ∙ sym (ap (λ (xs : List Line). length xs) (other_line (actor_at z b) lines i no_line lt (other_place z b line.actor below ne)));
+        })
+
+    by : (b ≡ a) ⊎ (b ≢ a) → IsBehind z lines (i + 1) b (hand_in mmu t b)
+    by (inl e) = own e
+    by (inr ne) = other ne
+
+-- The next line's hand: it is the machine's, nothing is under way in it, and the line is its next one.
+pub record IsReady (z : Sizes) (line : Line) (w : World Held) : Type 0 where
+  pub there : index_of z line.actor < actors_of z
+  pub idle : (hand_in mmu w (index_of z line.actor)).state.place ≡ Between
+  pub next : slice_get (hand_in mmu w (index_of z line.actor)).lines (length (hand_in mmu w (index_of z line.actor)).answers) ≡ Some line
+  pub own : line.actor ≡ (hand_in mmu w (index_of z line.actor)).state.actor
+
+pub is_ready : (z : Sizes) (lines : List Line) (i : ℕ) (w : World Held) → i < length lines → IsCommandFor z (get_or lines i no_line).actor (get_or lines i no_line).command → AreBehind z lines i w → IsReady z (get_or lines i no_line) w
+is_ready z lines i w lt may behind =
+    let line : Line = get_or lines i no_line in
+    let there = maker_there z line.actor line.command may in
+    let is = maker_is z line.actor line.command may in
+    let B = behind (index_of z line.actor) there in
+    record {
+      there = there;
+      idle = B.between;
+      next = subst (λ xs. slice_get xs (length (hand_in mmu w (index_of z line.actor)).answers) ≡ Some line) (sym B.lines_are)
+          (subst (λ n. slice_get (lines_of (actor_at z (index_of z line.actor)) lines) n ≡ Some line) (sym B.answered) (next_is (actor_at z (index_of z line.actor)) lines i no_line lt is));
+      own = sym is ∙ sym B.whose;
+    }
+
+-- the same of the machine's own lists; and the line is alone in it
+pub record IsReadyOn (m : Machine) (line : Line) : Type 0 where
+  pub there : index_of m.sizes line.actor < length m.hands
+  pub idle : (handful_in m.hands (index_of m.sizes line.actor)).core.state.place ≡ Between
+  pub next : slice_get (handful_in m.hands (index_of m.sizes line.actor)).core.lines (length (handful_in m.hands (index_of m.sizes line.actor)).core.answers) ≡ Some line
+  pub own : line.actor ≡ (handful_in m.hands (index_of m.sizes line.actor)).core.state.actor
+  pub alone : LineAlone m.sizes (world_in m) (index_of m.sizes line.actor)
+
+pub hands_at_start : (z : Sizes) (lines : List Line) (m : Machine) → IsStart z lines (world_in m) → length m.hands ≡ actors_of z
+hands_at_start z lines m start = sym (length-map m.hands core_of) ∙ (start_good z lines (world_in m) start).hands
+
+pub ready_on : (z : Sizes) (lines : List Line) (i : ℕ) (m : Machine) → m.sizes ≡ z → length m.hands ≡ actors_of z → i < length lines
+    → IsCommandFor z (get_or lines i no_line).actor (get_or lines i no_line).command → AreBehind z lines i (world_in m) → IsSound z (world_in m) → AllRest (world_in m) → IsReadyOn m (get_or lines i no_line)
+ready_on z lines i m same count lt may behind sound rest =
+    let line : Line = get_or lines i no_line in
+    let R = is_ready z lines i (world_in m) lt may behind in
+    let place : index_of z line.actor ≡ index_of m.sizes line.actor = ap (λ (y : Sizes). index_of y line.actor) (sym same) in
+    let core : hand_in mmu (world_in m) (index_of z line.actor) ≡ (handful_in m.hands (index_of m.sizes line.actor)).core =
+    sym (core_at m.words m.hands (index_of z line.actor)) ∙ ap (λ (n : ℕ). (handful_in m.hands n).core) place in
+    record {
+      there = subst (λ n. n < length m.hands) place (subst (λ n. index_of z line.actor < n) (sym count) R.there);
+      idle = subst (λ (h : Held). h.state.place ≡ Between) core R.idle;
+      next = subst (λ (h : Held). slice_get h.lines (length h.answers) ≡ Some line) core R.next;
+      own = subst (λ (h : Held). line.actor ≡ h.state.actor) core R.own;
+      alone = subst (λ y. LineAlone y (world_in m) (index_of y line.actor)) (sym same) (begins_alone z (world_in m) (index_of z line.actor) sound (λ j there apart. rest j there) R.there
+          (slice_get_within (hand_in mmu (world_in m) (index_of z line.actor)).lines (length (hand_in mmu (world_in m) (index_of z line.actor)).answers) line R.next) R.idle).0;
+    }
+
+-- All actors rest at the start, and behind each line.
+pub rest_at_start : (z : Sizes) (lines : List Line) (w : World Held) → IsStart z lines w → AllRest w
+rest_at_start z lines w start = λ i lt. subst (λ (h : Held). HoldsNothing h.topics) (sym (hand_is z lines w i start (subst (λ n. i < n) (start_good z lines w start).hands lt)))
+    (record { rests = record { outside = refl; loose = refl; owns_none = refl; no_table = refl; no_set = refl }; leaves_none = refl })
+
+-- Between lines: the first lines of a trace have run, and print this; the hands are behind them, and all actors rest.
+pub record IsBetween (z : Sizes) (lines : List Line) (i : ℕ) (start w : World Held) (printed : List ℕ) : Type 0 where
+  pub ran : RunsLines z start (take i lines) w
+  pub prints : printed ≡ text (history start ran.steps)
+  pub behind : AreBehind z lines i w
+  pub rest : AllRest w
+
+pub between_at_start : (z : Sizes) (lines : List Line) (w : World Held) → IsStart z lines w → IsBetween z lines 0 w w []
+unfolding runs_none
+between_at_start z lines w start = record { ran = runs_none z w; prints = refl; behind = behind_none z lines w start; rest = rest_at_start z lines w start }
+
+pub sound_between : (z : Sizes) (lines : List Line) (i : ℕ) (start w : World Held) (printed : List ℕ) → IsStart z lines start → IsBetween z lines i start w printed → IsSound z w
+sound_between z lines i start w printed is_start B = subst (IsSound z) B.ran.ends (good_run z start B.ran.steps (start_good z lines start is_start) B.ran.legal)
+
+-- One line more.
+pub between_more : (z : Sizes) (lines : List Line) (i : ℕ) (start w t : World Held) (printed : List ℕ) (answer : Answer) → i < length lines → IsCommandFor z (get_or lines i no_line).actor (get_or lines i no_line).command
+    → RanOn z (get_or lines i no_line) answer (index_of z (get_or lines i no_line).actor) w t → IsBetween z lines i start w printed
+    → IsBetween z lines (i + 1) start t (printed ++ line_text (get_or lines i no_line).number (get_or lines i no_line).actor answer)
+unfolding runs_more
+between_more z lines i start w t printed answer lt may ran B =
+    let line : Line = get_or lines i no_line in
+    record {
+      ran = runs_more z start w t (take i lines) (take (i + 1) lines) line answer (one_more_line lines i no_line lt) B.ran ran;
+      prints = ap (λ (x : List ℕ). x ++ line_text line.number line.actor answer) B.prints ∙ sym (prints_more z start w t (take i lines) line answer B.ran ran);
+      behind = hands_more z lines i w t answer lt may ran B.behind;
+      rest = subst (λ (x : World Held). AllRest x) ran.ends ran.alone.rest;
+    }
+
+-- so many lines as were looked at, with what they print
+pub ran_first : (z : Sizes) (lines : List Line) (i : ℕ) (start w : World Held) (printed : List ℕ) → IsBetween z lines i start w printed → (r : RunsLines z start (take i lines) w) × (printed ≡ text (history start r.steps))
+ran_first z lines i start w printed B = (B.ran, B.prints)
+
+pub ran_all : (z : Sizes) (lines : List Line) (i : ℕ) (start w : World Held) (printed : List ℕ) → length lines ≤ i → IsBetween z lines i start w printed → (r : RunsLines z start lines w) × (printed ≡ text (history start r.steps))
+ran_all z lines i start w printed le B = subst (λ ls. (r : RunsLines z start ls w) × (printed ≡ text (history start r.steps))) (take_all i lines le) (B.ran, B.prints)

@@ -1,0 +1,38 @@
+-- A turn with which the line goes on leaves it fewer steps.
+use Rattle.std.proofs.Common.{◌≡◌, ◌<◌, ℕ, List, refl, sym, subst}
+use Rattle.std.specs.Prelude.{Bool, true, false, ◌||◌}
+use Rattle.core_views.specs.declared.place.Place.{Place}
+use Rattle.core_views.specs.Held.{Held}
+use Rattle.mmu_core.specs.declared.outcome.Outcome.{Outcome}
+use Rattle.mmu_core.specs.declared.outcome.Outcome.TheVariants.{Goes, Ends}
+use Rattle.mmu_core.specs.Enabled.{mmu}
+use Rattle.mmu_core.specs.LineAlone.{hand_left, line_waits}
+use Rattle.mmu_core.specs.Machine.{World, answered, effect, hand_in}
+use Rattle.mmu_core.specs.Steps.{has_line, place_at}
+use Rattle.mmu_core.specs.TurnLaws.{begins_anew}
+use Rattle.mmu_core.specs.Turns.{outcome_of}
+use Rattle.mmu_core.specs.Worlds.{Reachable}
+use Rattle.mmu_core.proofs.TurnsNearer.{turns_nearer}
+use Rattle.weave_engine.specs.Turned.{MakesTurn}
+use Rattle.weave_engine.specs.Turning.{is_ended}
+
+either_false : (a b : Bool) → (a || b) ≡ false → (a ≡ false) × (b ≡ false)
+either_false false false e = (refl, refl)
+either_false false true e = absurd (cc e)
+either_false true b e = absurd (cc e)
+
+not_ended : (o : Outcome) → is_ended o ≡ false → (p : Place) × (o ≡ Goes p)
+not_ended (Goes p) e = (p, refl)
+not_ended (Ends answer) e = absurd (cc e)
+
+pub goes_nearer : (actor : ℕ) (w t : World Held) (bytes : List ℕ) → Reachable w → MakesTurn actor w t false bytes → hand_left (hand_in mmu t actor) < hand_left (hand_in mmu w actor)
+goes_nearer actor w t bytes reached M =
+    let s = M.step in
+    let h : Held = hand_in mmu w s.actor in
+    let v : ℕ = answered mmu w s.kind in
+    let one = either_false (line_waits (place_at h.state.place h) h.topics v) (begins_anew (place_at h.state.place h) || is_ended (outcome_of h v)) M.stops_ in
+    let two = either_false (begins_anew (place_at h.state.place h)) (is_ended (outcome_of h v)) one.1 in
+    let going = not_ended (outcome_of h v) two.1 in
+    let left : has_line h ≡ true = subst (λ (a : ℕ). has_line (hand_in mmu w a) ≡ true) (sym M.turn.own) M.turn.left in
+    let less = turns_nearer w s reached M.comes.legal.0 left one.0 two.0 going.0 going.1 in
+    subst (λ (x : World Held). hand_left (hand_in mmu x actor) < hand_left (hand_in mmu w actor)) M.comes.ends (subst (λ (a : ℕ). hand_left (hand_in mmu (effect mmu w s) a) < hand_left (hand_in mmu w a)) M.turn.own less)

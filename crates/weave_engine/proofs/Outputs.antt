@@ -1,0 +1,137 @@
+-- What the replay of a trace prints, from the lines that ran: lawful, whole, and flat where the pool is large enough.
+use Rattle.std.proofs.Common.{◌≡◌, ◌≢◌, ◌<◌, ◌≤◌, ℕ, List, [], ◌∷◌, ◌++◌, Result, Ok, Err, length, take, refl, sym, ap, subst, ◌∙◌}
+use Rattle.std.proofs.Math.Seq.{take-length}
+use Rattle.std.specs.declared.option.Option.{Option}
+use Rattle.std.specs.Prelude.{None}
+use Rattle.core_views.specs.declared.answer.Answer.{Answer}
+use Rattle.core_views.specs.declared.answer.Answer.TheVariants.{Starved}
+use Rattle.core_views.specs.declared.event.Event.{Event}
+use Rattle.core_views.specs.declared.kind.Kind.{Kind}
+use Rattle.core_views.specs.declared.sizes.Sizes.{Sizes}
+use Rattle.core_views.specs.declared.trace.Line.{Line}
+use Rattle.core_views.specs.declared.trace.Trace.{Trace}
+use Rattle.core_views.specs.Alone.{NoneStarved}
+use Rattle.core_views.specs.Flat.{first_flat}
+use Rattle.core_views.specs.Held.{Held}
+use Rattle.core_views.specs.Lawful.{IsLawful}
+use Rattle.core_views.specs.Need.{need}
+use Rattle.core_views.specs.Sizes.{index_of, sizes_of}
+use Rattle.core_views.specs.Text.{text}
+use Rattle.core_views.specs.Traces.{IsTrace}
+use Rattle.core_views.proofs.AloneIsFlat.{goes_as_flat}
+use Rattle.core_views.proofs.AloneIsWhole.{stands_whole}
+use Rattle.core_views.proofs.HeaderSizes.{header_sizes}
+use Rattle.spte_words.specs.declared.area.Area.TheVariants as area
+use Rattle.mmu_core.specs.Enabled.{mmu}
+use Rattle.mmu_core.specs.Enough.{HasFreePage}
+use Rattle.mmu_core.specs.Machine.{Legal, Step, World, hand_in, run}
+use Rattle.mmu_core.specs.View.{word_in}
+use Rattle.mmu_core.specs.Worlds.{IsStart, history}
+use Rattle.mmu_core.proofs.AloneEnough.{none_free}
+use Rattle.mmu_core.proofs.Enough.{enough_pages}
+use Rattle.mmu_core.proofs.EveryHistory.{every_history}
+use Rattle.mmu_core.proofs.Extend.{legal-append, run-append}
+use Rattle.mmu_core.proofs.LineRuns.{history_append}
+use Rattle.mmu_core.proofs.Starts.{start_good}
+use Rattle.mmu_core.proofs.StartViews.{a_start}
+use Rattle.mmu_core.proofs.Worlds.{good_run}
+use Rattle.tdp_io.specs.Ends.{AppendsPrefix, Wrote}
+use Rattle.tdp_io.specs.declared.sink.Stop.{Stop}
+use Rattle.weave_engine.specs.Replays.{EachRunsAlone, Replays, ReplaysFirst, RunsAlone, RunsAsFlat, RunsLines}
+use Rattle.weave_engine.specs.Writes.{Buffers, RunsAndPuts, WritesReplay}
+use Rattle.weave_engine.proofs.Fed.{fed_append}
+use Rattle.weave_engine.proofs.LinesRun.{between_at_start, ran_first}
+use Rattle.weave_engine.proofs.Writes.{ends, none_put, so_far_prefix}
+
+-- Lines that run alone, behind steps from a trace's start, aren't starved where the pool has as many pages as the trace needs.
+module _ (trace : Trace) (start : World Held) (is_start : IsStart (sizes_of trace.header) trace.lines start) (enough : need trace.header trace.lines ≤ trace.header.pool) where
+  abbrev z : Sizes
+  z = sizes_of trace.header
+
+  not_starved : (ss own : List (Step Kind)) (line : Line) (answer : Answer) → Legal mmu start ss → RunsAlone z (index_of z line.actor) line answer own (run mmu start ss) → answer ≢ Starved
+  not_starved ss own line answer legal ran starved =
+      let both : run mmu start (ss ++ own) ≡ run mmu (run mmu start ss) own = run-append mmu start ss own in
+      let all : Legal mmu start (ss ++ own) = legal-append mmu start ss own legal ran.runs.legal in
+      let sound = good_run z start (ss ++ own) (start_good z trace.lines start is_start) all in
+      let F : HasFreePage trace.header.pool (word_in z (run mmu start (ss ++ own)) area.PoolMap) =
+      enough_pages trace.header trace.lines start (ss ++ own) is_start all enough
+      (λ i lt. subst (λ (w : World Held). (hand_in mmu w i).topics.owned ≡ None) (sym both) (ran.rest i (subst (λ (w : World Held). i < length w.hands) both (subst (λ n. i < n) (sym sound.hands) lt))).rests.owns_none) in
+      none_free trace.header.pool (word_in z (run mmu (run mmu start ss) own) area.PoolMap) (ran.no_page_free starved) (subst (λ (w : World Held). HasFreePage trace.header.pool (word_in z w area.PoolMap)) both F)
+
+  each_fed : (done : List (Step Kind)) (lines : List Line) (ss : List (Step Kind)) → Legal mmu start done → EachRunsAlone z (run mmu start done) lines ss → NoneStarved (history (run mmu start done) ss)
+  each_fed done [] ss legal none = subst (λ (l : List (Step Kind)). NoneStarved (history (run mmu start done) l)) (sym none) tt
+  each_fed done (line ∷ lines) ss legal (own, rest, answer, are, ran, each) =
+      let w : World Held = run mmu start done in
+      let both : run mmu start (done ++ own) ≡ run mmu w own = run-append mmu start done own in
+      let later : NoneStarved (history (run mmu w own) rest) =
+      subst (λ (x : World Held). NoneStarved (history x rest)) both
+      (each_fed (done ++ own) lines rest (legal-append mmu start done own legal ran.runs.legal) (subst (λ (x : World Held). EachRunsAlone z x lines rest) (sym both) each)) in
+      subst (λ (es : List Event). NoneStarved es) (sym (ap (history w) are ∙ history_append w own rest)) (fed_append (history w own) (history (run mmu w own) rest) (ran.none_starved (not_starved done own line answer legal ran)) later)
+
+-- Lines that ran alone from a trace's start are a replay of them.
+pub replays : (trace : Trace) (lines : List Line) (start end_ : World Held) (printed : List ℕ) → IsStart (sizes_of trace.header) trace.lines start → (r : RunsLines (sizes_of trace.header) start lines end_) → printed ≡ text (history start r.steps)
+    → Replays trace lines printed end_
+replays trace lines start end_ printed is_start r prints =
+    let z : Sizes = sizes_of trace.header in
+    let lawful = every_history z trace.lines start r.steps is_start r.legal in
+    record {
+      start = start;
+      is_start = is_start;
+      runs = r;
+      lawful = lawful;
+      whole = stands_whole lines (history start r.steps) r.alone;
+      prints = prints;
+      flat = λ enough. as_flat lawful (each_fed trace start is_start enough [] lines r.steps tt r.each);
+    }
+  where
+    as_flat : IsLawful (sizes_of trace.header) first_flat (history start r.steps) → NoneStarved (history start r.steps) → RunsAsFlat (sizes_of trace.header) lines printed (history start r.steps)
+    as_flat lawful fed =
+        let G = goes_as_flat (sizes_of trace.header) lines (history start r.steps) first_flat (λ i. refl) lawful r.alone fed in
+        record { none_starved = fed; same = G.shown; prints = prints ∙ G.prints }
+
+-- The machine of a trace wasn't made: nothing ran, and nothing is printed.
+pub none_ran : (trace : Trace) → IsTrace trace → ReplaysFirst trace []
+none_ran trace good =
+    let z : Sizes = sizes_of trace.header in
+    let made = a_start z trace.lines (header_sizes trace.header good.header) good.lines good.distinct in
+    let none = ran_first z trace.lines 0 made.0 made.0 [] (between_at_start z trace.lines made.0 made.1) in
+    (0, made.0, replays trace (take 0 trace.lines) made.0 made.0 [] made.1 none.0 none.1)
+
+-- Nothing was written where nothing is printed.
+pub writes_none : (trace : Trace) (before : Option (List ℕ)) (stop : Stop) → IsTrace trace → WritesReplay trace before before (Err stop)
+writes_none trace before stop good = ([], none_ran trace good, so_far_prefix before before [] [] (none_put before []))
+
+-- The writing stopped at a line.
+pub writes_first : (trace : Trace) (z : Sizes) (lines : List Line) (count : ℕ) (start end_ : World Held) (before after : Option (List ℕ)) (waited waits : List ℕ) (stop : Stop) → z ≡ sizes_of trace.header → lines ≡ trace.lines → waited ≡ []
+    → IsStart (sizes_of trace.header) trace.lines start → RunsAndPuts z start lines count end_ before after waited waits (Err stop) → WritesReplay trace before after (Err stop)
+writes_first trace z lines count start end_ before after waited waits stop sizes are none is_start puts =
+    let of_trace : RunsAndPuts (sizes_of trace.header) start trace.lines count end_ before after [] waits (Err stop) =
+    subst (λ (w : List ℕ). RunsAndPuts (sizes_of trace.header) start trace.lines count end_ before after w waits (Err stop)) none
+    (subst (λ (ls : List Line). RunsAndPuts (sizes_of trace.header) start ls count end_ before after waited waits (Err stop)) are
+    (subst (λ (y : Sizes). RunsAndPuts y start lines count end_ before after waited waits (Err stop)) sizes puts)) in
+    first of_trace
+  where
+    first : RunsAndPuts (sizes_of trace.header) start trace.lines count end_ before after [] waits (Err stop) → WritesReplay trace before after (Err stop)
+    first (ran, few, r, prefix) = (text (history start r.steps), (ran, end_, replays trace (take ran trace.lines) start end_ (text (history start r.steps)) is_start r refl), prefix)
+
+-- All lines ran, and what waits is written, or a prefix of it.
+pub writes_all : (trace : Trace) (z : Sizes) (lines : List Line) (count : ℕ) (start end_ : World Held) (before here after : Option (List ℕ)) (waited waits piece : List ℕ) (r : Result (Unit {0}) Stop) → z ≡ sizes_of trace.header → lines ≡ trace.lines → count ≡ length lines → waited ≡ []
+    → IsStart (sizes_of trace.header) trace.lines start → RunsAndPuts z start lines count end_ before here waited waits (Ok tt) → piece ≡ waits → Wrote here after r piece → (bytes : List ℕ) × Replays trace trace.lines bytes end_ × Wrote before after r bytes
+writes_all trace z lines count start end_ before here after waited waits piece r sizes are whole none is_start puts same wrote =
+    let of_trace : RunsAndPuts (sizes_of trace.header) start trace.lines count end_ before here [] waits (Ok tt) =
+    subst (λ (w : List ℕ). RunsAndPuts (sizes_of trace.header) start trace.lines count end_ before here w waits (Ok tt)) none
+    (subst (λ (ls : List Line). RunsAndPuts (sizes_of trace.header) start ls count end_ before here waited waits (Ok tt)) are
+    (subst (λ (y : Sizes). RunsAndPuts y start lines count end_ before here waited waits (Ok tt)) sizes puts)) in
+    all (subst Put (ap (λ (n : ℕ). take n trace.lines) (whole ∙ ap (λ (ls : List Line). length ls) are) ∙ take-length trace.lines) of_trace)
+  where
+    -- these lines ran, and what they print was put
+    Put : List Line → Type 0
+    Put ls = (ran : RunsLines (sizes_of trace.header) start ls end_) × Buffers before here [] waits (Ok tt) (text (history start ran.steps))
+
+    all : Put trace.lines → (bytes : List ℕ) × Replays trace trace.lines bytes end_ × Wrote before after r bytes
+    all (ran, put) = (text (history start ran.steps), replays trace trace.lines start end_ (text (history start ran.steps)) is_start ran refl, ends before here after waits (text (history start ran.steps)) r put (subst (Wrote here after r) same wrote))
+
+-- a replay of all lines is one of so many as there are
+pub stopped_behind_all : (trace : Trace) (before after : Option (List ℕ)) (bytes : List ℕ) (end_ : World Held) (stop : Stop) → Replays trace trace.lines bytes end_ → AppendsPrefix before after bytes → WritesReplay trace before after (Err stop)
+stopped_behind_all trace before after bytes end_ stop R prefix =
+    (bytes, (length trace.lines, end_, subst (λ (ls : List Line). Replays trace ls bytes end_) (sym (take-length trace.lines)) R), prefix)

@@ -1,0 +1,76 @@
+-- What the turn of a slot's setting answers: it waits exactly where its step does.
+use Rattle.std.proofs.Common.{◌≡◌, ℕ, refl, sym, subst, ap, ◌∙◌}
+use Rattle.std.specs.Prelude.{true, false}
+use Rattle.core_views.specs.declared.answer.Answer.{Answer}
+use Rattle.core_views.specs.declared.hand.Seen.{Seen}
+use Rattle.core_views.specs.declared.kind.Kind.{Kind}
+use Rattle.core_views.specs.declared.place.Place.{Place}
+use Rattle.core_views.specs.declared.place.Place.TheVariants as place
+use Rattle.core_views.specs.declared.place.SetSlotPlace.{SetSlotPlace}
+use Rattle.core_views.specs.declared.place.SetSlotPlace.TheVariants as set_slot
+use Rattle.core_views.specs.declared.trace.Command.{Command}
+use Rattle.core_views.specs.declared.trace.Command.TheVariants.{SetSlot}
+use Rattle.core_views.specs.declared.trace.Slot.{Slot}
+use Rattle.core_views.specs.Held.{Held}
+use Rattle.mmu_core.specs.declared.outcome.Outcome.{Outcome}
+use Rattle.mmu_core.specs.declared.outcome.Outcome.TheVariants.{Goes, Ends}
+use Rattle.mmu_core.specs.LineAlone.{line_waits}
+use Rattle.mmu_core.specs.SetSlotSteps.{set_slot_outcome, set_slot_seen, set_slot_task, set_slot_waits}
+use Rattle.mmu_core.specs.Steps.{has_line, outcome_at, place_at, task_at}
+use Rattle.mmu_core.specs.Tasks.{kind_of_task}
+use Rattle.mmu_core.specs.Turns.{line_of, outcome_of}
+use Rattle.mmu_core.proofs.Which.{is_next}
+use Rattle.step_seats.specs.PartTurns.{Told}
+use Rattle.step_seats.specs.declared.turn.Turn.{Turn}
+use Rattle.step_seats.specs.declared.turn.Turn.TheVariants.{More, Wait, Done}
+use Rattle.vcpu_run.specs.Accesses.{Gives, MakesLine, TurnsLine, line_seen, line_turn, turn_of}
+use Rattle.vcpu_run.proofs.Accessing.{setting_free}
+use Rattle.weave_engine.specs.Turns.{seen_at}
+
+done_ends : (o : Outcome) (answer : Answer) → Done answer ≡ turn_of o → o ≡ Ends answer
+done_ends (Goes q) answer is = absurd (cc is)
+done_ends (Ends other) answer is = let e : other ≡ answer = cc is in ap Ends e
+
+-- The setting stands at this place.
+module _ (actor : ℕ) (h g : Held) (told tells : Told) (p : SetSlotPlace) (id : ℕ) (slot : Slot) (stands : place_at h.state.place h ≡ place.SetSlot p) (setting : (line_of h).command ≡ SetSlot id slot) (M : MakesLine actor h g told tells) where
+  outcome_is : outcome_of h M.found ≡ set_slot_outcome p h M.found
+  outcome_is = ap (λ (q : Place). outcome_at q (line_of h).command h M.found) stands ∙ ap (λ (c : Command). outcome_at (place.SetSlot p) c h M.found) setting
+
+  turns : (turn : Turn Answer) → Gives turn (set_slot_waits p h.topics M.found) (set_slot_seen p h id slot M.found) (turn_of (set_slot_outcome p h M.found)) → TurnsLine turn actor h g told tells
+  turns turn gives = record {
+    makes = M;
+    gives = subst (λ (q : Place). Gives turn (line_waits q h.topics M.found) (line_seen q (line_of h).command h M.found) (line_turn q (line_of h).command h M.found)) (sym stands)
+        (subst (λ (c : Command). Gives turn (line_waits (place.SetSlot p) h.topics M.found) (line_seen (place.SetSlot p) c h M.found) (line_turn (place.SetSlot p) c h M.found)) (sym setting) gives);
+  }
+
+  pub setting_done : (answer : Answer) → Done answer ≡ turn_of (outcome_of h M.found) → TurnsLine (Done answer) actor h g told tells
+  setting_done answer is =
+      let same : Done answer ≡ turn_of (set_slot_outcome p h M.found) = is ∙ ap turn_of outcome_is in
+      turns (Done answer) (setting_free p h M.found answer (done_ends (set_slot_outcome p h M.found) answer same), same)
+
+  pub setting_more : More ≡ turn_of (outcome_of h M.found) → set_slot_waits p h.topics M.found ≡ false → TurnsLine More actor h g told tells
+  setting_more is goes = turns More (goes, is ∙ ap turn_of outcome_is)
+
+  pub setting_waits : (seen : Seen) → seen ≡ seen_at p h.state.sizes h.topics M.kind.word M.found → set_slot_waits p h.topics M.found ≡ true → has_line h ≡ true → TurnsLine (Wait seen) actor h g told tells
+  setting_waits seen is waits left = turns (Wait seen) (waits, is ∙ same_seen p refl)
+    where
+      kind_is : M.kind ≡ kind_of_task h.state.sizes (set_slot_task p h id slot)
+      kind_is =
+          (is_next h M.kind M.enabled left).is ∙ ap (λ (q : Place). kind_of_task h.state.sizes (task_at q (line_of h).command h)) stands
+          ∙ ap (λ (c : Command). kind_of_task h.state.sizes (task_at (place.SetSlot p) c h)) setting
+
+      word_of : M.kind.word ≡ (kind_of_task h.state.sizes (set_slot_task p h id slot)).word
+      word_of = ap (λ (k : Kind). k.word) kind_is
+
+      same_seen : (q : SetSlotPlace) → p ≡ q → seen_at p h.state.sizes h.topics M.kind.word M.found ≡ set_slot_seen p h id slot M.found
+      same_seen set_slot.Close e = rw e refl
+      same_seen (set_slot.Refuse refusal) e = rw (word_of, e) refl
+      same_seen (set_slot.Claim begun) e = rw (word_of, e) refl
+      same_seen set_slot.Fill e = rw (word_of, e) refl
+      same_seen set_slot.Exclude e = rw (word_of, e) refl
+      same_seen set_slot.Count e = rw (word_of, e) refl
+      same_seen set_slot.Publish e = rw (word_of, e) refl
+      same_seen set_slot.Release e = rw (word_of, e) refl
+      same_seen set_slot.Watch e = rw (word_of, e) refl
+      same_seen set_slot.Clear e = rw (word_of, e) refl
+      same_seen set_slot.Give e = rw (word_of, e) refl

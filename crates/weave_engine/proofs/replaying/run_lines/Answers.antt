@@ -1,0 +1,127 @@
+use Rattle.std.proofs.Common.{◌∙◌, ◌++◌, ◌+◌, [], append_assoc, arith, get_or, refl, rules, string_bytes, subst}
+use Rattle.std.proofs.lemmas.Result.{err_from_is_err_and}
+use Rattle.core_views.specs.declared.sizes.Sizes.{Sizes}
+use Rattle.core_views.specs.Flat.{no_line}
+use Rattle.core_views.specs.Sizes.{index_of}
+use Rattle.core_views.specs.Text.{line_text}
+use Rattle.step_seats.specs.Machines.{world_in}
+use Rattle.tdp_io.specs.Ends.{AppendsPrefix}
+use Rattle.tdp_io.specs.declared.sink.Stop.TheVariants.{NoMemory}
+use Rattle.weave_engine.specs.Replays.{RanOn}
+use Rattle.weave_engine.proofs.LinesPut.{lines_end, lines_stop}
+use Rattle.weave_engine.proofs.LinesRun.{between_at_start, between_more, hands_at_start, ready_on, sound_between}
+use Rattle.weave_engine.proofs.Writes.{goes_on, none_put, so_far_prefix, stops}
+use Rattle.weave_engine.proofs.replaying.run_lines.Goals as goal
+
+pub loop-index-init : goal.loop-index-init
+loop-index-init g c = record {
+  so_far = ([], between_at_start c.args.machine.now.sizes c.args.lines.now (world_in c.args.machine.now) c.requires.start, none_put (g.K.Sink.written c.args.out.now) (string_bytes c.args.waiting.now));
+  within = omega arith;
+  sizes = refl;
+  count = refl;
+  faults = refl;
+}
+
+pub run_on-requires-clause-there : goal.run_on-requires-clause-there
+run_on-requires-clause-there g c =
+    let z = c.args.machine.now.sizes in
+    let lines = c.args.lines.now in
+    let i = c.loop-index.invariant in
+    let B = i.so_far.1 in
+    (ready_on z lines c.loop-index.index c.loop-index.machine i.sizes (i.count ∙ hands_at_start z lines c.args.machine.now c.requires.start) (omega (arith, c.loop-index-test.true, c.requires.count)) (c.requires.start.allowed c.loop-index.index no_line (omega (arith, c.loop-index-test.true, c.requires.count))) B.behind
+    (sound_between z lines c.loop-index.index (world_in c.args.machine.now) (world_in c.loop-index.machine) i.so_far.0 c.requires.start B) B.rest).there
+
+pub run_on-requires-clause-idle : goal.run_on-requires-clause-idle
+run_on-requires-clause-idle g c =
+    let z = c.args.machine.now.sizes in
+    let lines = c.args.lines.now in
+    let i = c.loop-index.invariant in
+    let B = i.so_far.1 in
+    (ready_on z lines c.loop-index.index c.loop-index.machine i.sizes (i.count ∙ hands_at_start z lines c.args.machine.now c.requires.start) (omega (arith, c.loop-index-test.true, c.requires.count)) (c.requires.start.allowed c.loop-index.index no_line (omega (arith, c.loop-index-test.true, c.requires.count))) B.behind
+    (sound_between z lines c.loop-index.index (world_in c.args.machine.now) (world_in c.loop-index.machine) i.so_far.0 c.requires.start B) B.rest).idle
+
+pub run_on-requires-clause-next : goal.run_on-requires-clause-next
+run_on-requires-clause-next g c =
+    let z = c.args.machine.now.sizes in
+    let lines = c.args.lines.now in
+    let i = c.loop-index.invariant in
+    let B = i.so_far.1 in
+    (ready_on z lines c.loop-index.index c.loop-index.machine i.sizes (i.count ∙ hands_at_start z lines c.args.machine.now c.requires.start) (omega (arith, c.loop-index-test.true, c.requires.count)) (c.requires.start.allowed c.loop-index.index no_line (omega (arith, c.loop-index-test.true, c.requires.count))) B.behind
+    (sound_between z lines c.loop-index.index (world_in c.args.machine.now) (world_in c.loop-index.machine) i.so_far.0 c.requires.start B) B.rest).next
+
+pub run_on-requires-clause-own : goal.run_on-requires-clause-own
+run_on-requires-clause-own g c =
+    let z = c.args.machine.now.sizes in
+    let lines = c.args.lines.now in
+    let i = c.loop-index.invariant in
+    let B = i.so_far.1 in
+    (ready_on z lines c.loop-index.index c.loop-index.machine i.sizes (i.count ∙ hands_at_start z lines c.args.machine.now c.requires.start) (omega (arith, c.loop-index-test.true, c.requires.count)) (c.requires.start.allowed c.loop-index.index no_line (omega (arith, c.loop-index-test.true, c.requires.count))) B.behind
+    (sound_between z lines c.loop-index.index (world_in c.args.machine.now) (world_in c.loop-index.machine) i.so_far.0 c.requires.start B) B.rest).own
+
+pub run_on-requires-clause-alone : goal.run_on-requires-clause-alone
+run_on-requires-clause-alone g c =
+    let z = c.args.machine.now.sizes in
+    let lines = c.args.lines.now in
+    let i = c.loop-index.invariant in
+    let B = i.so_far.1 in
+    (ready_on z lines c.loop-index.index c.loop-index.machine i.sizes (i.count ∙ hands_at_start z lines c.args.machine.now c.requires.start) (omega (arith, c.loop-index-test.true, c.requires.count)) (c.requires.start.allowed c.loop-index.index no_line (omega (arith, c.loop-index-test.true, c.requires.count))) B.behind
+    (sound_between z lines c.loop-index.index (world_in c.args.machine.now) (world_in c.loop-index.machine) i.so_far.0 c.requires.start B) B.rest).alone
+
+pub returns-in_default-clause-puts : goal.returns-in_default-clause-puts
+returns-in_default-clause-puts g c =
+    let i = c.loop-index.invariant in
+    lines_stop c.args.machine.now.sizes (world_in c.args.machine.now) c.args.lines.now (g.K.Sink.written c.args.out.now) (g.K.Sink.written c.loop-index.out) (string_bytes c.args.waiting.now) (string_bytes c.loop-index.waiting)
+    c.loop-index.index c.args.count (world_in c.loop-index.machine) (world_in c.run_on.new.machine) i.so_far.0 NoMemory c.in_default.ensures.refused i.within i.so_far.1
+    (so_far_prefix (g.K.Sink.written c.args.out.now) (g.K.Sink.written c.loop-index.out) (string_bytes c.loop-index.waiting) (string_bytes c.args.waiting.now ++ i.so_far.0) i.so_far.2)
+
+pub returns-in_err-put_answer-clause-puts : goal.returns-in_err-put_answer-clause-puts
+returns-in_err-put_answer-clause-puts g c =
+    let z = c.args.machine.now.sizes in
+    let lines = c.args.lines.now in
+    let n = c.loop-index.index in
+    let line = get_or lines n no_line in
+    let start = world_in c.args.machine.now in
+    let here = world_in c.loop-index.machine in
+    let behind = world_in c.run_on.new.machine in
+    let i = c.loop-index.invariant in
+    let put = i.so_far.0 in
+    let ran : RanOn z line c.in-Ok.answer (index_of z line.actor) here behind = subst (λ (y : Sizes). RanOn y line c.in-Ok.answer (index_of y line.actor) here behind) i.sizes c.in-Ok.ensures.ran in
+    let more = between_more z lines n start here behind put c.in-Ok.answer (omega (arith, c.loop-index-test.true, c.requires.count)) (c.requires.start.allowed n no_line (omega (arith, c.loop-index-test.true, c.requires.count))) ran i.so_far.1 in
+    let text_ = line_text line.number line.actor c.in-Ok.answer in
+    let p = err_from_is_err_and c.from_residual.result c.from_residual.ensures.1 in
+    let stopped : AppendsPrefix (g.K.Sink.written c.args.out.now) (g.K.Sink.written c.put_answer.new.out) ((string_bytes c.args.waiting.now ++ put) ++ text_) =
+    stops (g.K.Sink.written c.args.out.now) (g.K.Sink.written c.loop-index.out) (g.K.Sink.written c.put_answer.new.out) (string_bytes c.loop-index.waiting) text_ (string_bytes c.args.waiting.now ++ put) i.so_far.2 c.in_err-put_answer.ensures.bytes in
+    rw p.1 (lines_stop z start lines (g.K.Sink.written c.args.out.now) (g.K.Sink.written c.put_answer.new.out) (string_bytes c.args.waiting.now) (string_bytes c.put_answer.new.waiting) (n + 1) c.args.count behind behind (put ++ text_) c.in_err-put_answer.field-0.0 refl
+    (omega (arith, c.loop-index-test.true)) more (subst (AppendsPrefix (g.K.Sink.written c.args.out.now) (g.K.Sink.written c.put_answer.new.out)) (append_assoc (string_bytes c.args.waiting.now) put text_) stopped))
+
+pub loop-index-preserved : goal.loop-index-preserved
+loop-index-preserved g c =
+    let z = c.args.machine.now.sizes in
+    let lines = c.args.lines.now in
+    let n = c.loop-index.index in
+    let line = get_or lines n no_line in
+    let start = world_in c.args.machine.now in
+    let here = world_in c.loop-index.machine in
+    let behind = world_in c.run_on.new.machine in
+    let i = c.loop-index.invariant in
+    let put = i.so_far.0 in
+    let ran : RanOn z line c.in-Ok.answer (index_of z line.actor) here behind = subst (λ (y : Sizes). RanOn y line c.in-Ok.answer (index_of y line.actor) here behind) i.sizes c.in-Ok.ensures.ran in
+    let more = between_more z lines n start here behind put c.in-Ok.answer (omega (arith, c.loop-index-test.true, c.requires.count)) (c.requires.start.allowed n no_line (omega (arith, c.loop-index-test.true, c.requires.count))) ran i.so_far.1 in
+    let text_ = line_text line.number line.actor c.in-Ok.answer in
+    record {
+      so_far = (
+        put ++ text_,
+        more,
+        goes_on (g.K.Sink.written c.args.out.now) (g.K.Sink.written c.loop-index.out) (g.K.Sink.written c.put_answer.new.out) (string_bytes c.loop-index.waiting) (string_bytes c.put_answer.new.waiting) text_ (string_bytes c.args.waiting.now) put i.so_far.2 c.in_ok-put_answer.ensures.bytes,
+      );
+      within = omega (arith, c.loop-index-test.true);
+      sizes = c.in-Ok.ensures.same.0 ∙ i.sizes;
+      count = c.in-Ok.ensures.same.1 ∙ i.count;
+      faults = search rules;
+    }
+
+pub returns-clause-puts : goal.returns-clause-puts
+returns-clause-puts g c =
+    let i = c.loop-index.invariant in
+    lines_end c.args.machine.now.sizes (world_in c.args.machine.now) c.args.lines.now (g.K.Sink.written c.args.out.now) (g.K.Sink.written c.loop-index.out) (string_bytes c.args.waiting.now) (string_bytes c.loop-index.waiting)
+    c.loop-index.index c.args.count (world_in c.loop-index.machine) i.so_far.0 (omega (arith, i.within, c.loop-index-test.false)) i.so_far.1 i.so_far.2

@@ -1,0 +1,20 @@
+use Rattle.std.proofs.Common.{◌≡◌, ◌∙◌, ◌+◌, ap, arith, subst, sym}
+use Rattle.core_views.specs.Held.{Handful, Held}
+use Rattle.core_views.specs.Sizes.{actors_of}
+use Rattle.mmu_core.specs.Enabled.{mmu}
+use Rattle.mmu_core.specs.Machine.{hand_in}
+use Rattle.step_seats.specs.Machines.{world_in}
+use Rattle.weave_engine.specs.Weaves.{earlier_of}
+use Rattle.weave_engine.proofs.FirstLines.{FirstBefore, looks_at, open_next}
+use Rattle.weave_engine.proofs.rounds.first_open.Goals as goal
+
+pub loop-index-preserved : goal.loop-index-preserved
+loop-index-preserved c =
+    let w = world_in c.args.machine.now in
+    let i = c.loop-index.index in
+    let count : c.actors-index-end.result ≡ actors_of c.args.machine.now.sizes = rw c.sizes.ensures.is at c.actors-index-end.ensures in
+    let next : c.next_line.result ≡ open_next (hand_in mmu w i) = c.next_line.ensures ∙ ap (λ (x : Handful). open_next x.core) c.hand.ensures.hand ∙ ap (λ (x : Held). open_next x) (sym c.hand.ensures.has.is) in
+    record {
+      first = subst (FirstBefore w (i + 1)) (sym (c.earlier-first.ensures ∙ ap (earlier_of c.loop-index.first) next)) (looks_at w i c.loop-index.first c.loop-index.invariant.first);
+      within = omega (arith, count, c.loop-index-test.true);
+    }

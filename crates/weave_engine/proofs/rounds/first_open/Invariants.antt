@@ -1,0 +1,11 @@
+use Rattle.std.proofs.Common.{◌≤◌}
+use Rattle.core_views.specs.Sizes.{actors_of}
+use Rattle.step_seats.specs.Machines.{world_in}
+use Rattle.weave_engine.proofs.FirstLines.{FirstBefore}
+use Rattle.weave_engine.proofs.rounds.first_open.Given as goal
+
+abbrev pub invariant-loop-index : goal.invariant-loop-index
+invariant-loop-index l = record {
+  first : FirstBefore (world_in l.fn.machine) l.index l.first;
+  within : l.index ≤ actors_of l.fn.machine.sizes;
+}

@@ -1,0 +1,7 @@
+pub mod Replays
+pub mod Turns
+pub mod Writes
+pub mod Turning
+pub mod Turned
+pub mod Weaves
+pub mod Woven

@@ -1,0 +1,136 @@
+-- Turns of the actors: each is one step, and may be the last one of a schedule's item.
+use Rattle.std.specs.Prelude.{◌≡◌, ◌+◌, ◌-◌, ◌<◌, ◌≤◌, ◌⊎◌, ℕ, suc, List, [], ◌∷◌, ◌++◌, length, Bool, true, false, ◌==◌, ◌||◌, nat_lt, if◌then◌else◌}
+use Rattle.core_views.specs.declared.kind.Kind.{Kind}
+use Rattle.core_views.specs.declared.sizes.Sizes.{Sizes}
+use Rattle.core_views.specs.declared.trace.Item.{Item}
+use Rattle.core_views.specs.declared.trace.Until.{Until}
+use Rattle.core_views.specs.declared.trace.Until.TheVariants.{Turns, Made}
+use Rattle.core_views.specs.Held.{Held}
+use Rattle.core_views.specs.Sizes.{actors_of, index_of}
+use Rattle.mmu_core.specs.declared.outcome.Outcome.{Outcome}
+use Rattle.mmu_core.specs.declared.outcome.Outcome.TheVariants.{Goes, Ends}
+pub use Rattle.mmu_core.specs.TurnLaws.{begins_anew}
+use Rattle.mmu_core.specs.Enabled.{mmu}
+use Rattle.mmu_core.specs.LineAlone.{line_waits}
+use Rattle.mmu_core.specs.Machine.{Step, World, answered, effect, hand_in, run}
+use Rattle.mmu_core.specs.Steps.{has_line, place_at}
+use Rattle.mmu_core.specs.Turns.{outcome_of}
+
+-- The actor has a line that has no answer.
+abbrev pub HasLine : ℕ → World Held → Type 0
+HasLine actor w = has_line (hand_in mmu w actor) ≡ true
+
+abbrev pub HasNoLine : ℕ → World Held → Type 0
+HasNoLine actor w = has_line (hand_in mmu w actor) ≡ false
+
+abbrev pub is_ended : Outcome → Bool
+is_ended (Goes p) = false
+is_ended (Ends answer) = true
+
+-- The turn answers its line, waits for another actor, or begins anew.
+abbrev pub hand_stops : Held → ℕ → Bool
+hand_stops h v = line_waits (place_at h.state.place h) h.topics v || (begins_anew (place_at h.state.place h) || is_ended (outcome_of h v))
+
+abbrev pub stops : World Held → Step Kind → Bool
+stops w s = hand_stops (hand_in mmu w s.actor) (answered mmu w s.kind)
+
+-- The item names no count of turns.
+abbrev pub IsOpenEnded : Until → Type 0
+IsOpenEnded (Turns count) = ⊥
+IsOpenEnded _ = Unit {0}
+
+-- The item names this kind of step.
+abbrev pub names_kind : Until → ℕ → Bool
+names_kind (Made code) made = made == code
+names_kind _ made = false
+
+-- The turn is the last one of an item that goes on until so.
+abbrev pub ends_item : Until → World Held → Step Kind → Bool
+ends_item (Turns count) w s = false
+ends_item until w s = names_kind until s.kind.code || stops w s
+
+-- The step is a turn of this actor, which has a line left.
+pub record IsTurn (actor : ℕ) (w : World Held) (s : Step Kind) : Type 0 where
+  pub own : s.actor ≡ actor
+  pub left : HasLine actor w
+
+-- All steps are turns of this actor.
+abbrev pub AreTurns : ℕ → World Held → List (Step Kind) → Type 0
+AreTurns actor w [] = Unit {0}
+AreTurns actor w (s ∷ ss) = IsTurn actor w s × AreTurns actor (effect mmu w s) ss
+
+-- The item ends with none of the turns but perhaps the last one.
+abbrev pub NoneEndsBefore : Until → World Held → List (Step Kind) → Type 0
+NoneEndsBefore until w [] = Unit {0}
+NoneEndsBefore until w (s ∷ ss) = (ends_item until w s ≡ true → ss ≡ []) × NoneEndsBefore until (effect mmu w s) ss
+
+-- The item ends with the last one.
+abbrev pub LastEnds : Until → World Held → List (Step Kind) → Type 0
+LastEnds until w [] = ⊥
+LastEnds until w (s ∷ []) = ends_item until w s ≡ true
+LastEnds until w (s ∷ t ∷ ss) = LastEnds until (effect mmu w s) (t ∷ ss)
+
+-- As many turns were made as the item says, or one that ends it; or the actor has no line left.
+abbrev pub IsOver : Until → ℕ → World Held → List (Step Kind) → Type 0
+IsOver (Turns count) actor w ss = (length ss ≡ count) ⊎ HasNoLine actor (run mmu w ss)
+IsOver until actor w ss = LastEnds until w ss ⊎ HasNoLine actor (run mmu w ss)
+
+-- The item doesn't allow more turns than these.
+abbrev pub IsWithin : Until → List (Step Kind) → Type 0
+IsWithin (Turns count) ss = length ss ≤ count
+IsWithin _ ss = Unit {0}
+
+-- These are turns of an actor that go on until so, as far as they have come.
+pub record RunsBySoFar (until : Until) (actor : ℕ) (w : World Held) (ss : List (Step Kind)) : Type 0 where
+  pub turns : AreTurns actor w ss
+  pub none_ends : NoneEndsBefore until w ss
+  pub within : IsWithin until ss
+
+-- These are all of them.
+pub record RunsBy (until : Until) (actor : ℕ) (w : World Held) (ss : List (Step Kind)) : Type 0 where
+  pub so_far : RunsBySoFar until actor w ss
+  pub over : IsOver until actor w ss
+
+-- an item's turns, and those of one that may have more to come
+abbrev pub RunsItem : Sizes → Item → World Held → List (Step Kind) → Type 0
+RunsItem z item w ss = RunsBy item.until (index_of z item.actor) w ss
+
+abbrev pub RunsItemSoFar : Sizes → Item → World Held → List (Step Kind) → Type 0
+RunsItemSoFar z item w ss = RunsBySoFar item.until (index_of z item.actor) w ss
+
+-- The items of a schedule have their turns one after another.
+abbrev pub RunsItems : Sizes → List Item → World Held → List (Step Kind) → Type 0
+RunsItems z [] w ss = ss ≡ []
+RunsItems z (item ∷ items) w ss =
+    (own : List (Step Kind)) × (rest : List (Step Kind)) × (ss ≡ own ++ rest) × RunsItem z item w own × RunsItems z items (run mmu w own) rest
+
+-- So they have had, up to some turn of one of them.
+abbrev pub RunsItemsSoFar : Sizes → List Item → World Held → List (Step Kind) → Type 0
+RunsItemsSoFar z [] w ss = ss ≡ []
+RunsItemsSoFar z (item ∷ items) w ss =
+    RunsItemSoFar z item w ss ⊎ ((own : List (Step Kind)) × (rest : List (Step Kind)) × (ss ≡ own ++ rest) × RunsItem z item w own × RunsItemsSoFar z items (run mmu w own) rest)
+
+-- the place so far behind one among `count`, round the order
+abbrev pub place_behind : ℕ → ℕ → ℕ → ℕ
+place_behind count first far = if nat_lt (first + far) count then first + far else first + far - count
+
+-- The next place behind one among `count` is the one after it, or 0 behind the last.
+abbrev pub IsNextPlace : ℕ → ℕ → ℕ → Type 0
+IsNextPlace count index next = ((index + 1 ≡ count) × (next ≡ 0)) ⊎ ((index + 1 < count) × (next ≡ index + 1))
+
+-- The step is a turn of the first actor, from this place on and round the order of all actors, that has a line left.
+pub record IsNextInRound (z : Sizes) (first : ℕ) (w : World Held) (s : Step Kind) : Type 0 where
+  pub far : ℕ
+  pub within : far < actors_of z
+  pub is : s.actor ≡ place_behind (actors_of z) first far
+  pub left : HasLine s.actor w
+  pub passed : (i : ℕ) → i < far → HasNoLine (place_behind (actors_of z) first i) w
+
+-- Turns in rounds from one place among the actors on, up to another.
+abbrev pub RunsRounds : Sizes → ℕ → ℕ → World Held → List (Step Kind) → Type 0
+RunsRounds z first next w [] = next ≡ first
+RunsRounds z first next w (s ∷ ss) = IsNextInRound z first w s × RunsRounds z (suc s.actor) next (effect mmu w s) ss
+
+-- No actor has a line left.
+abbrev pub AllAnswered : Sizes → World Held → Type 0
+AllAnswered z w = (i : ℕ) → i < actors_of z → HasNoLine i w

@@ -1,0 +1,63 @@
+-- What a weave writes, by how it ends.
+use Rattle.std.specs.Prelude.{◌≡◌, ◌⊎◌, ℕ, List, ◌++◌, Option, Some, None, Result, Ok, Err}
+use Rattle.std.specs.Io.KnownBytes.{Appends}
+use Rattle.core_views.specs.declared.no_memory.NoMemory.{NoMemory}
+use Rattle.core_views.specs.declared.trace.Line.{Line}
+use Rattle.core_views.specs.declared.trace.Trace.{Trace}
+use Rattle.core_views.specs.Held.{Held}
+use Rattle.mmu_core.specs.Machine.{World}
+use Rattle.step_seats.specs.Moves.{world_of}
+use Rattle.tdp_io.specs.Ends.{AppendsPrefix, Rose}
+use Rattle.tdp_io.specs.declared.sink.Stop.{Stop}
+use Rattle.tdp_io.specs.declared.sink.Stop.TheVariants.{Failed, NoMemory as Full}
+use Rattle.weave_engine.specs.Weaves.{WeavesAll, WeavesPart, WeavesSoFar, unfinished_text}
+use Rattle.weave_engine.specs.declared.weaving.How.{How}
+use Rattle.weave_engine.specs.declared.weaving.How.TheVariants.{Done, WriteFault, Unfinished}
+use Rattle.weave_engine.specs.declared.weaving.Ran.{Ran}
+
+-- The text of a weave that has come to this world, and may go on; or that is over there, with the line that is the first without an answer.
+abbrev pub IsTextSoFar : Trace → ℕ → World Held → List ℕ → Type 0
+IsTextSoFar trace limit closing text = WeavesSoFar trace limit text closing ⊎ ((bytes : List ℕ) × (line : Line) × WeavesPart trace limit bytes closing line × (text ≡ bytes ++ unfinished_text line))
+
+-- All of it was written; or, where the writing stopped, a prefix of the text so far.
+abbrev pub WritesPrefix : Trace → ℕ → World Held → Option (List ℕ) → Option (List ℕ) → Type 0
+WritesPrefix trace limit closing before after = (text : List ℕ) × IsTextSoFar trace limit closing text × AppendsPrefix before after text
+
+abbrev pub WritesAll : Trace → ℕ → World Held → Option (List ℕ) → Option (List ℕ) → Type 0
+WritesAll trace limit closing before after = (bytes : List ℕ) × WeavesAll trace limit bytes closing × Appends before after bytes
+
+-- The rounds ended before this line was answered, the first one in the file.
+abbrev pub WritesPart : Trace → ℕ → World Held → Option (List ℕ) → Option (List ℕ) → Line → Type 0
+WritesPart trace limit closing before after line = (bytes : List ℕ) × WeavesPart trace limit bytes closing line × Appends before after (bytes ++ unfinished_text line)
+
+abbrev pub WritesWoven : Trace → ℕ → World Held → Option (List ℕ) → Option (List ℕ) → Result (Option Line) Stop → Type 0
+WritesWoven trace limit closing before after (Ok None) = WritesAll trace limit closing before after
+WritesWoven trace limit closing before after (Ok (Some line)) = WritesPart trace limit closing before after line
+WritesWoven trace limit closing before after (Err stop) = WritesPrefix trace limit closing before after
+
+-- how a run ended that came to this, where no memory was refused
+abbrev pub how_ended : Result (Option Line) Stop → Option How
+how_ended (Ok None) = Some Done
+how_ended (Ok (Some line)) = Some (Unfinished line.actor line.number)
+how_ended (Err Failed) = Some WriteFault
+how_ended (Err Full) = None
+
+-- how a run of the engine ended, with this world
+abbrev pub WritesBy : Trace → ℕ → World Held → Option (List ℕ) → Option (List ℕ) → How → Type 0
+WritesBy trace limit closing before after Done = WritesAll trace limit closing before after
+WritesBy trace limit closing before after (Unfinished actor number) = (line : Line) × (line.actor ≡ actor) × (line.number ≡ number) × WritesPart trace limit closing before after line
+WritesBy trace limit closing before after WriteFault = WritesPrefix trace limit closing before after
+
+abbrev pub WritesWeave : Trace → ℕ → Option (List ℕ) → Option (List ℕ) → Result Ran NoMemory → Type 0
+WritesWeave trace limit before after (Ok ran) = WritesBy trace limit (world_of ran.closing.words ran.closing.hands) before after ran.how
+WritesWeave trace limit before after (Err e) = (closing : World Held) × WritesPrefix trace limit closing before after
+
+-- The count of failed writes rose where the run ended with a fault of writing, and stayed at any other end.
+abbrev pub RoseBy : ℕ → ℕ → How → Type 0
+RoseBy before now WriteFault = Rose before now
+RoseBy before now Done = now ≡ before
+RoseBy before now (Unfinished actor line) = now ≡ before
+
+abbrev pub RanFaults : ℕ → ℕ → Result Ran NoMemory → Type 0
+RanFaults before now (Ok ran) = RoseBy before now ran.how
+RanFaults before now (Err e) = now ≡ before

@@ -1,0 +1,144 @@
+ghost use Rattle.std.specs.Prelude.{◌≡◌, ◌<◌, IfOk, OnErr, OnOk, Some, length, slice_get};
+ghost use Rattle.core_views.specs.declared.place.Place.TheVariants.{Between};
+ghost use Rattle.core_views.specs.declared.trace.Command.TheVariants.{SetSlot};
+ghost use Rattle.mmu_core.specs.Turns.{IsAnswered, IsSameHand, line_of};
+ghost use Rattle.step_seats.specs.Moves.{KeepsRoom};
+ghost use Rattle.core_views.specs.Sizes.{AreSizes};
+ghost use Rattle.weave_engine.specs.Turns.{IsAlone, IsJobOf, RanAlone, seen_at};
+ghost use Rattle.vcpu_run.specs.Accesses.{Says, TurnsLine};
+
+use core_views::{Answer, Command, Line, NoMemory, Seen, SetSlotPlace, Sizes, Slot, Topics};
+use mmu_core::{map_of, next_kind, rests, setting_place, setting_waits};
+use step_seats::{Stepper, Turn};
+use vcpu_run::AccessJob;
+
+/// The setting of a slot, a step a turn. Where it stands is kept in the
+/// manager's hand, which drives the job.
+#[derive(Clone, Copy, Debug, PartialEq, Eq, Drop)]
+pub struct SettingJob {
+    /// The place of the line among the lines of its actor, from 0.
+    pub index: usize,
+    pub id: u64,
+    pub slot: Slot,
+}
+
+/// The work on one line of an actor, a step a turn.
+#[derive(Clone, Copy, Debug, PartialEq, Eq, Drop)]
+pub enum LineJob {
+    Access(AccessJob),
+    Setting(SettingJob),
+}
+
+impl SettingJob {
+    /// Makes the next step of the line, and says whether it is answered. `Wait` where
+    /// a page was claimed by another actor meanwhile, the lock is held, an invalidation
+    /// is open, or another actor that the watch looks at is in a section or in the guest.
+    pub fn turn<S: Stepper>(&mut self, s: &mut S) -> Turn<Answer>
+        requires left { length (S.handful s.old).core.answers < length (S.handful s.old).core.lines }
+        requires next { self.old.index ≡ length (S.handful s.old).core.answers }
+        requires setting { (line_of (S.handful s.old).core).command ≡ SetSlot self.old.id self.old.slot }
+        requires reserved { 0 < (S.handful s.old).room }
+        ensures turns { TurnsLine result (S.actor s.old) (S.handful s.old).core (S.handful s.new).core (record { world = S.told s.old; steps = S.steps s.old }) (record { world = S.told s.new; steps = S.steps s.new }) }
+        ensures says { Says result (line_of (S.handful s.old).core) (S.handful s.old).core (S.handful s.new).core }
+        ensures hand { IsSameHand (S.handful s.old).core (S.handful s.new).core }
+        ensures room { KeepsRoom (S.handful s.old) (S.handful s.new) }
+        ensures job { self.new ≡ self.old }
+        ensures same { (S.actor s.new ≡ S.actor s.old) × (S.frame s.new ≡ S.frame s.old) }
+    {
+        let hand = s.hand();
+        rests(hand);
+        let kind = next_kind(hand);
+        let place = setting_place(hand, self.id, &self.slot);
+        let topics = *hand.topics();
+        let sizes = hand.state().sizes;
+        let found = s.act(kind);
+        if let Some(answered) = s.hand().answers().get(self.index) {
+            return Turn::Done(answered.answer);
+        }
+        if setting_waits(place, &topics, found) {
+            return Turn::Wait(seen(place, &sizes, &topics, kind.word, found));
+        }
+        Turn::More
+    }
+}
+
+// What a step that waits has seen: where it gives the lock back, how many
+// invalidations are open; else what it found in its word.
+fn seen(place: SetSlotPlace, sizes: &Sizes, topics: &Topics, word: u32, found: u64) -> Seen
+    requires sizes { AreSizes sizes.now }
+    ensures { result ≡ seen_at place sizes.now topics.now word found }
+{
+    match place {
+        SetSlotPlace::Close => Seen {
+            word: map_of(sizes).word_of_count(0),
+            value: topics.invalidations.count,
+        },
+        _ => Seen { word, value: found },
+    }
+}
+
+impl LineJob {
+    /// Makes the next step of the line, and says whether it is answered.
+    pub fn turn<S: Stepper>(&mut self, s: &mut S) -> Turn<Answer>
+        requires left { length (S.handful s.old).core.answers < length (S.handful s.old).core.lines }
+        requires line { IsJobOf self.old (line_of (S.handful s.old).core) (length (S.handful s.old).core.answers) }
+        requires reserved { 0 < (S.handful s.old).room }
+        ensures turns { TurnsLine result (S.actor s.old) (S.handful s.old).core (S.handful s.new).core (record { world = S.told s.old; steps = S.steps s.old }) (record { world = S.told s.new; steps = S.steps s.new }) }
+        ensures says { Says result (line_of (S.handful s.old).core) (S.handful s.old).core (S.handful s.new).core }
+        ensures hand { IsSameHand (S.handful s.old).core (S.handful s.new).core }
+        ensures room { KeepsRoom (S.handful s.old) (S.handful s.new) }
+        ensures job { self.new ≡ self.old }
+        ensures same { (S.actor s.new ≡ S.actor s.old) × (S.frame s.new ≡ S.frame s.old) }
+    {
+        match self {
+            LineJob::Access(job) => job.turn(s),
+            LineJob::Setting(job) => job.turn(s),
+        }
+    }
+}
+
+/// The job of the actor's next line. It takes room for the line's answer, and
+/// changes no word and nothing that the hand holds, whatever it answers.
+pub fn start_line<S: Stepper>(s: &mut S, line: &Line) -> Result<LineJob, NoMemory>
+    ensures job { IfOk result (λ job. IsJobOf job line.now (length (S.handful s.old).core.answers)) }
+    ensures reserved { OnOk result (0 < (S.handful s.new).room) }
+    ensures refused { OnErr result (S.handful s.new ≡ S.handful s.old) }
+    ensures hand { (S.handful s.new).core ≡ (S.handful s.old).core }
+    ensures told { (S.told s.new ≡ S.told s.old) × (S.steps s.new ≡ S.steps s.old) }
+    ensures same { (S.actor s.new ≡ S.actor s.old) × (S.frame s.new ≡ S.frame s.old) }
+{
+    s.reserve(line)?;
+    let index = s.hand().answers().len();
+    Ok(match line.command {
+        Command::Access { gfn, word, op } => LineJob::Access(AccessJob {
+            index,
+            gfn,
+            word,
+            op,
+        }),
+        Command::SetSlot { id, slot } => LineJob::Setting(SettingJob { index, id, slot }),
+    })
+}
+
+/// Runs the actor's next line to its answer, while all other actors rest. Where
+/// the memory that it needs is refused, nothing has changed.
+pub fn run_line<S: Stepper>(s: &mut S, line: &Line) -> Result<Answer, NoMemory>
+    requires idle { (S.handful s.old).core.state.place ≡ Between }
+    requires next { slice_get (S.handful s.old).core.lines (length (S.handful s.old).core.answers) ≡ Some line.now }
+    requires own { line.now.actor ≡ (S.handful s.old).core.state.actor }
+    requires alone { IsAlone (S.actor s.old) (S.handful s.old).core (S.told s.old) }
+    ensures answered { IfOk result (λ answer. IsAnswered line.now answer (S.handful s.old).core (S.handful s.new).core) }
+    ensures alone { IfOk result (λ answer. RanAlone (S.handful s.old).core.state.sizes line.now answer (S.actor s.old) (record { world = S.told s.old; steps = S.steps s.old }) (record { world = S.told s.new; steps = S.steps s.new })) }
+    ensures hand { IsSameHand (S.handful s.old).core (S.handful s.new).core }
+    ensures refused { OnErr result (((S.handful s.new).core ≡ (S.handful s.old).core) × (S.told s.new ≡ S.told s.old) × (S.steps s.new ≡ S.steps s.old)) }
+    ensures same { (S.actor s.new ≡ S.actor s.old) × (S.frame s.new ≡ S.frame s.old) }
+{
+    let mut job = start_line(s, line)?;
+    loop {
+        match job.turn(s) {
+            Turn::More => {}
+            Turn::Wait(_) | Turn::Retry(_) => unreachable!(),
+            Turn::Done(answer) => return Ok(answer),
+        }
+    }
+}

@@ -1,0 +1,58 @@
+//! The command `replay`: each line of the trace alone, in file order.
+ghost use Rattle.std.specs.Prelude.{◌≡◌, ◌≤◌, length, string_bytes};
+ghost use Rattle.core_views.specs.Traces.{IsTrace};
+ghost use Rattle.mmu_core.specs.Worlds.{IsStart};
+ghost use Rattle.step_seats.specs.Machines.{world_in};
+ghost use Rattle.tdp_io.specs.Ends.{WroteFaults};
+ghost use Rattle.weave_engine.specs.Writes.{RunsAndPuts, WritesReplay};
+
+use crate::run_on::run_on;
+use crate::writing::put_answer;
+use core_views::{Closing, Line, Trace};
+use std::alloc::Global;
+use step_seats::PlainMachine;
+use tdp_io::{Sink, Stop, write_all};
+
+/// Runs the first lines one after another, each alone, and puts what they are
+/// answered.
+pub fn run_lines<K: Sink>(
+    alloc: Global,
+    machine: &mut PlainMachine,
+    lines: &[Line],
+    count: usize,
+    out: &mut K,
+    waiting: &mut String,
+) -> Result<(), Stop>
+    requires start { IsStart machine.old.sizes lines.now (world_in machine.old) }
+    requires count { count ≤ length lines.now }
+    ensures puts { RunsAndPuts machine.old.sizes (world_in machine.old) lines.now count (world_in machine.new) (K.written out.old) (K.written out.new) (string_bytes waiting.old) (string_bytes waiting.new) result }
+    ensures faults { WroteFaults (K.faults out.old) (K.faults out.new) result }
+    ensures same { (machine.new.sizes ≡ machine.old.sizes) × (length machine.new.hands ≡ length machine.old.hands) }
+{
+    for index in 0..count {
+        let line = &lines[index];
+        let Ok(answer) = run_on(machine, line) else {
+            return Err(Stop::NoMemory);
+        };
+        put_answer(alloc, line.number, line.actor, &answer, out, waiting)?;
+    }
+    Ok(())
+}
+
+/// Runs the lines of the trace one after another, each alone, a step at a time
+/// over the words of the machine, and writes what they are answered. It gives
+/// the last words and hands.
+pub fn replay<K: Sink>(alloc: Global, trace: &Trace, out: &mut K) -> Result<Closing, Stop>
+    requires trace { IsTrace trace.now }
+    ensures writes { WritesReplay trace.now (K.written out.old) (K.written out.new) result }
+    ensures faults { WroteFaults (K.faults out.old) (K.faults out.new) result }
+{
+    let Ok(mut machine) = PlainMachine::new(alloc, trace) else {
+        return Err(Stop::NoMemory);
+    };
+    let mut waiting = String::new(alloc);
+    let lines = trace.lines.as_slice();
+    run_lines(alloc, &mut machine, lines, lines.len(), out, &mut waiting)?;
+    write_all(out, waiting.as_bytes())?;
+    Ok(machine.into_closing())
+}

@@ -1,0 +1,74 @@
+//! Turns in rounds, once the schedule is over, and the line that they come to.
+ghost use Rattle.std.specs.Prelude.{◌≡◌, ◌<◌, length, string_bytes};
+ghost use Rattle.step_seats.specs.Machines.{world_in};
+ghost use Rattle.tdp_io.specs.Ends.{WroteFaults};
+ghost use Rattle.weave_engine.specs.Turned.{PutsRun};
+ghost use Rattle.weave_engine.specs.Turning.{IsNextPlace};
+ghost use Rattle.weave_engine.specs.Weaves.{FirstOpen, RunsAllRounds, RunsSomeRounds, earlier_of};
+
+use crate::turning::{Turned, turn_and_put};
+use core_views::Line;
+use std::alloc::Global;
+use step_seats::PlainMachine;
+use tdp_io::{Sink, Stop};
+
+// The place behind this one, of so many, round the order.
+fn next_place(index: usize, count: usize) -> usize
+    requires { index < count }
+    ensures { IsNextPlace count index result }
+{
+    if index + 1 == count { 0 } else { index + 1 }
+}
+
+/// Turns of all actors in their order, one each, round and round, those without a
+/// line left out, until no line is left or `limit` turns were made.
+pub fn run_rounds<K: Sink>(
+    alloc: Global,
+    machine: &mut PlainMachine,
+    limit: u64,
+    out: &mut K,
+    waiting: &mut String,
+) -> Result<(), Stop>
+    ensures puts { PutsRun (RunsAllRounds machine.old.sizes limit) (RunsSomeRounds machine.old.sizes limit) (world_in machine.old) (world_in machine.new) (K.written out.old) (K.written out.new) (string_bytes waiting.old) (string_bytes waiting.new) result }
+    ensures faults { WroteFaults (K.faults out.old) (K.faults out.new) result }
+    ensures same { (machine.new.sizes ≡ machine.old.sizes) × (length machine.new.hands ≡ length machine.old.hands) }
+{
+    let count = machine.sizes().actors() as usize;
+    let mut index = 0;
+    let mut passed = 0;
+    let mut made = 0;
+    while passed < count && made < limit {
+        let actor = index;
+        index = next_place(index, count);
+        match turn_and_put(alloc, machine, actor, out, waiting)? {
+            Turned::NoLine => passed += 1,
+            Turned::Went | Turned::Stopped => {
+                passed = 0;
+                made += 1;
+            }
+        }
+    }
+    Ok(())
+}
+
+/// The first line of the file that has no answer.
+pub fn first_open(machine: &PlainMachine) -> Option<Line>
+    ensures { FirstOpen machine.now.sizes (world_in machine.now) result }
+{
+    let mut first: Option<Line> = None;
+    for index in 0..machine.sizes().actors() as usize {
+        first = earlier(first, machine.hand(index).next_line());
+    }
+    first
+}
+
+// The line that stands first in the file, of those that there are.
+fn earlier(first: Option<Line>, next: Option<Line>) -> Option<Line>
+    ensures { result ≡ earlier_of first next }
+{
+    match (first, next) {
+        (Some(line), Some(other)) if other.number < line.number => Some(other),
+        (None, other) => other,
+        (line, _) => line,
+    }
+}

@@ -1,0 +1,140 @@
+//! One turn of an actor of the machine: the next step of its line.
+ghost use Rattle.std.specs.Prelude.{◌≡◌, ◌<◌, IfOk, OnErr, length, string_bytes, true};
+ghost use Rattle.mmu_core.specs.Enabled.{mmu};
+ghost use Rattle.mmu_core.specs.Machine.{hand_in};
+ghost use Rattle.mmu_core.specs.Steps.{has_line};
+ghost use Rattle.mmu_core.specs.Turns.{IsSameHand, line_of};
+ghost use Rattle.step_seats.specs.Machines.{world_in};
+ghost use Rattle.tdp_io.specs.Ends.{WroteFaults};
+ghost use Rattle.vcpu_run.specs.Accesses.{Says, TurnsLine};
+ghost use Rattle.weave_engine.specs.Turned.{PutsTurn, TurnedOn, TurnedTold, next_code_in, open_line};
+
+use crate::job::start_line;
+use crate::writing::put_answer;
+use core_views::{Actor, Answer, Hand, Line, NoMemory, Place};
+use mmu_core::{next_kind, rests};
+use std::alloc::Global;
+use step_seats::{ActorSeat, PlainMachine, Stepper, Turn};
+use tdp_io::{Sink, Stop};
+
+/// A turn that an actor has made: of which line, and how it ended.
+#[derive(Clone, Copy, Debug, PartialEq, Eq, Drop)]
+pub struct TurnMade {
+    pub number: u32,
+    pub actor: Actor,
+    pub turn: Turn<Answer>,
+}
+
+/// What became of an actor's turn.
+#[derive(Clone, Copy, Debug, PartialEq, Eq, Drop)]
+pub enum Turned {
+    /// The actor has no line left, so it made no step.
+    NoLine,
+    /// It made a step, and its line goes on.
+    Went,
+    /// It made a step, with which its line is answered, waits or begins anew.
+    Stopped,
+}
+
+// The line that the hand's next step is of: the one under way, or the first one
+// that has no answer.
+fn line_of_hand(hand: &Hand) -> Option<Line>
+    ensures { result ≡ open_line hand.now.core }
+{
+    let next = hand.next_line()?;
+    match hand.state().place {
+        Place::Between => Some(next),
+        Place::Access(_) | Place::SetSlot(_) => Some(hand.state().line),
+    }
+}
+
+/// Makes the actor's next turn, which is one of this line. Where memory is
+/// refused no step is made.
+pub fn take_turn<S: Stepper>(s: &mut S, line: &Line) -> Result<Turn<Answer>, NoMemory>
+    requires left { length (S.handful s.old).core.answers < length (S.handful s.old).core.lines }
+    requires line { line.now ≡ line_of (S.handful s.old).core }
+    ensures turns { IfOk result (λ turn. TurnsLine turn (S.actor s.old) (S.handful s.old).core (S.handful s.new).core (record { world = S.told s.old; steps = S.steps s.old }) (record { world = S.told s.new; steps = S.steps s.new })) }
+    ensures says { IfOk result (λ turn. Says turn line.now (S.handful s.old).core (S.handful s.new).core) }
+    ensures hand { IsSameHand (S.handful s.old).core (S.handful s.new).core }
+    ensures refused { OnErr result (((S.handful s.new).core ≡ (S.handful s.old).core) × (S.told s.new ≡ S.told s.old) × (S.steps s.new ≡ S.steps s.old)) }
+    ensures same { (S.actor s.new ≡ S.actor s.old) × (S.frame s.new ≡ S.frame s.old) }
+{
+    let mut job = start_line(s, line)?;
+    Ok(job.turn(s))
+}
+
+// Makes the actor's next turn, where it has a line left. Where memory is refused
+// no step is made.
+fn next_turn<S: Stepper>(s: &mut S) -> Result<Option<TurnMade>, NoMemory>
+    ensures turned { IfOk result (λ made. TurnedTold made (S.actor s.old) (S.told s.old) (S.told s.new)) }
+    ensures refused { OnErr result (S.told s.new ≡ S.told s.old) }
+    ensures same { (S.actor s.new ≡ S.actor s.old) × (S.frame s.new ≡ S.frame s.old) }
+{
+    let hand = s.hand();
+    let actor = hand.state().actor;
+    let Some(line) = line_of_hand(hand) else {
+        return Ok(None);
+    };
+    let turn = take_turn(s, &line)?;
+    Ok(Some(TurnMade {
+        number: line.number,
+        actor,
+        turn,
+    }))
+}
+
+/// Makes the next turn of the actor at this place, where it has a line left.
+/// Where memory is refused nothing has changed.
+pub fn turn_on(machine: &mut PlainMachine, index: usize) -> Result<Option<TurnMade>, NoMemory>
+    requires there { index < length machine.old.hands }
+    ensures turned { IfOk result (λ made. TurnedOn made index (world_in machine.old) (world_in machine.new)) }
+    ensures refused { OnErr result (world_in machine.new ≡ world_in machine.old) }
+    ensures same { (machine.new.sizes ≡ machine.old.sizes) × (length machine.new.hands ≡ length machine.old.hands) }
+{
+    let mut seat = ActorSeat { machine, index };
+    next_turn(&mut seat)
+}
+
+/// Makes the next turn of the actor at this place, where it has a line left, and
+/// puts what the line is answered.
+pub fn turn_and_put<K: Sink>(
+    alloc: Global,
+    machine: &mut PlainMachine,
+    index: usize,
+    out: &mut K,
+    waiting: &mut String,
+) -> Result<Turned, Stop>
+    requires there { index < length machine.old.hands }
+    ensures puts { PutsTurn index (world_in machine.old) (world_in machine.new) (K.written out.old) (K.written out.new) (string_bytes waiting.old) (string_bytes waiting.new) result }
+    ensures faults { WroteFaults (K.faults out.old) (K.faults out.new) result }
+    ensures same { (machine.new.sizes ≡ machine.old.sizes) × (length machine.new.hands ≡ length machine.old.hands) }
+{
+    let Ok(made) = turn_on(machine, index) else {
+        return Err(Stop::NoMemory);
+    };
+    let Some(made) = made else {
+        return Ok(Turned::NoLine);
+    };
+    match made.turn {
+        Turn::More => Ok(Turned::Went),
+        Turn::Wait(_) | Turn::Retry(_) => Ok(Turned::Stopped),
+        Turn::Done(answer) => {
+            put_answer(alloc, made.number, made.actor, &answer, out, waiting)?;
+            Ok(Turned::Stopped)
+        }
+    }
+}
+
+/// The number of the kind of step that the actor at this place makes next, where
+/// it has a line left.
+pub fn next_code(machine: &PlainMachine, index: usize) -> u8
+    requires there { index < length machine.now.hands }
+    ensures { has_line (hand_in mmu (world_in machine.now) index) ≡ true → result ≡ next_code_in (hand_in mmu (world_in machine.now) index) }
+{
+    let hand = machine.hand(index);
+    if hand.next_line().is_none() {
+        return 0;
+    }
+    rests(hand);
+    next_kind(hand).code
+}

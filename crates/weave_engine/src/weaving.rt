@@ -1,0 +1,140 @@
+//! The command `weave`: the lines above `go` alone, then the turns of the
+//! schedule, then rounds.
+ghost use Rattle.std.specs.Prelude.{◌≡◌, ◌++◌, IfOk, OnErr, Some, None, string_bytes};
+ghost use Rattle.core_views.specs.Sizes.{sizes_of};
+ghost use Rattle.core_views.specs.Traces.{IsTrace};
+ghost use Rattle.mmu_core.specs.Worlds.{IsStart};
+ghost use Rattle.step_seats.specs.Machines.{world_in};
+ghost use Rattle.tdp_io.specs.Ends.{Wrote, WroteFaults};
+ghost use Rattle.weave_engine.specs.Weaves.{open_text, unfinished_text};
+ghost use Rattle.weave_engine.specs.Woven.{RanFaults, WritesWeave, WritesWoven, how_ended};
+
+use crate::replaying::run_lines;
+use crate::rounds::{first_open, run_rounds};
+use crate::schedule::run_items;
+use crate::writing::put;
+use core_views::{Actor, Closing, Line, NoMemory, Trace};
+use std::alloc::Global;
+use step_seats::PlainMachine;
+use tdp_io::{Sink, Stop, write_all};
+
+/// How a run of the engine ended.
+#[derive(Clone, Copy, Debug, PartialEq, Eq, Drop)]
+pub enum How {
+    /// Each line is answered, and all answers were written.
+    Done,
+    /// Writing failed: a prefix of the text was written.
+    WriteFault,
+    /// The turns in rounds were used up: the first line of the file that has no
+    /// answer, and its actor.
+    Unfinished { actor: Actor, line: u32 },
+}
+
+/// A run of the engine: how it ended, and the last words and hands.
+#[derive(Debug, Drop)]
+pub struct Ran {
+    pub how: How,
+    pub closing: Closing,
+}
+
+// How a run ended that came to this.
+fn how_of(came: Result<Option<Line>, Stop>) -> Result<How, NoMemory>
+    ensures ran { IfOk result (λ how. how_ended came ≡ Some how) }
+    ensures refused { OnErr result (how_ended came ≡ None) }
+{
+    match came {
+        Ok(None) => Ok(How::Done),
+        Ok(Some(line)) => Ok(How::Unfinished {
+            actor: line.actor,
+            line: line.number,
+        }),
+        Err(Stop::Failed) => Ok(How::WriteFault),
+        Err(Stop::NoMemory) => Err(NoMemory),
+    }
+}
+
+#[tactic(auto, unfolding(crate::specs::Weaves::unfinished_text))]
+fn unfinished(alloc: Global, line: &Line) -> Result<String, NoMemory>
+    ensures { IfOk result (λ t. string_bytes t ≡ unfinished_text line.now) }
+{
+    let number = line.number;
+    let actor = line.actor;
+    Ok(format!(in alloc; "unfinished {number} {actor}\n")?)
+}
+
+// Writes what waits, and which line is the first without an answer.
+fn tell<K: Sink>(alloc: Global, line: &Line, out: &mut K, waiting: &mut String) -> Result<(), Stop>
+    ensures bytes { Wrote (K.written out.old) (K.written out.new) result (string_bytes waiting.old ++ unfinished_text line.now) }
+    ensures faults { WroteFaults (K.faults out.old) (K.faults out.new) result }
+{
+    let Ok(text) = unfinished(alloc, line) else {
+        return Err(Stop::NoMemory);
+    };
+    put(out, waiting, &text)?;
+    write_all(out, waiting.as_bytes())
+}
+
+// Writes what waits, and where a line has no answer, which is the first one.
+fn finish<K: Sink>(
+    alloc: Global,
+    first: Option<Line>,
+    out: &mut K,
+    waiting: &mut String,
+) -> Result<(), Stop>
+    ensures bytes { Wrote (K.written out.old) (K.written out.new) result (string_bytes waiting.old ++ open_text first) }
+    ensures faults { WroteFaults (K.faults out.old) (K.faults out.new) result }
+{
+    match first {
+        Some(line) => tell(alloc, &line, out, waiting),
+        None => write_all(out, waiting.as_bytes()),
+    }
+}
+
+// Runs the trace on its machine, and writes what is to be printed. It gives the
+// first line that has no answer, if there is one.
+fn weave_on<K: Sink>(
+    alloc: Global,
+    machine: &mut PlainMachine,
+    trace: &Trace,
+    limit: u64,
+    out: &mut K,
+) -> Result<Option<Line>, Stop>
+    requires trace { IsTrace trace.now }
+    requires sizes { machine.old.sizes ≡ sizes_of trace.now.header }
+    requires start { IsStart (sizes_of trace.now.header) trace.now.lines (world_in machine.old) }
+    ensures writes { WritesWoven trace.now limit (world_in machine.new) (K.written out.old) (K.written out.new) result }
+    ensures faults { WroteFaults (K.faults out.old) (K.faults out.new) result }
+{
+    let mut waiting = String::new(alloc);
+    let lines = trace.lines.as_slice();
+    let above = trace.go.unwrap_or(0) as usize;
+    run_lines(alloc, machine, lines, above, out, &mut waiting)?;
+    run_items(alloc, machine, trace.items.as_slice(), out, &mut waiting)?;
+    run_rounds(alloc, machine, limit, out, &mut waiting)?;
+    let first = first_open(machine);
+    finish(alloc, first, out, &mut waiting)?;
+    Ok(first)
+}
+
+/// Runs the trace a step a turn: the lines above `go` one after another, each
+/// alone; then the turns that the schedule's items name; then turns in rounds, at most
+/// `limit`, until each line is answered. It writes each answer when its line is
+/// answered, and where the rounds end before that, which line is the first without
+/// an answer. It gives how it ended, and the last words and hands.
+pub fn weave<K: Sink>(
+    alloc: Global,
+    trace: &Trace,
+    limit: u64,
+    out: &mut K,
+) -> Result<Ran, NoMemory>
+    requires trace { IsTrace trace.now }
+    ensures writes { WritesWeave trace.now limit (K.written out.old) (K.written out.new) result }
+    ensures faults { RanFaults (K.faults out.old) (K.faults out.new) result }
+{
+    let mut machine = PlainMachine::new(alloc, trace)?;
+    let how = how_of(weave_on(alloc, &mut machine, trace, limit, out))?;
+    Ok(Ran {
+        how,
+        closing: machine.into_closing(),
+    })
+}
