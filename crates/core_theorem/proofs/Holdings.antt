@@ -23,13 +23,13 @@ use Rattle.core_theorem.specs.Runs.{IsRun}
 use Rattle.core_theorem.proofs.Runs.{before, last_actor, may_last, sound}
 use Rattle.core_theorem.proofs.WalksKept.{HasPath, paths_are_tables}
 use Rattle.std.proofs.lemmas.Bool.Decides.{nat_tests}
-use Rattle.mmu_core.specs.PartSteps.{MayGiveOld, next_watched, own_index}
+use Rattle.part_steps.specs.PartSteps.{MayGiveOld, next_watched, own_index}
 use Rattle.mmu_core.specs.SetSlotKnows.{SetSlotKnows}
 use Rattle.mmu_core.specs.SetSlotSteps.{set_slot_task}
 use Rattle.mmu_core.specs.Invariant.{KnowsPart, LeavesPart, UnderWay}
 use Rattle.mmu_core.specs.Steps.{line_at, place_at, task_at, task_of}
 use Rattle.mmu_core.proofs.Which.{has_line_is, is_next}
-use Rattle.mmu_core.specs.declared.outcome.Task.{Task}
+use Rattle.part_steps.specs.declared.task.Task.{Task}
 use Rattle.core_views.specs.Kinds.{code_of}
 use Rattle.core_views.specs.declared.place.Place.{Place}
 use Rattle.core_views.specs.declared.place.Place.TheVariants as place

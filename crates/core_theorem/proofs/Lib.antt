@@ -4,3 +4,7 @@ pub mod Tables
 pub mod Pages
 pub mod Holdings
 pub mod Runs
+pub mod Turns
+pub mod LineTurns
+pub mod Begins
+pub mod DelayCauses

@@ -1,5 +1,5 @@
 -- The world behind a run is sound, and no line is under way at its start.
-use Rattle.std.proofs.Common.{◌≡◌, ◌<◌, List, [], ◌∷◌, ◌++◌, subst, ap}
+use Rattle.std.proofs.Common.{◌≡◌, ◌<◌, List, [], ◌∷◌, ◌++◌, refl, subst, ap}
 use Rattle.core_views.specs.declared.kind.Kind.{Kind}
 use Rattle.core_views.specs.declared.place.Place.TheVariants.{Between}
 use Rattle.core_views.specs.declared.sizes.Sizes.{Sizes}
@@ -9,6 +9,7 @@ use Rattle.core_views.specs.Sizes.{actors_of}
 use Rattle.mmu_core.specs.Enabled.{mmu}
 use Rattle.mmu_core.specs.Laws.{IsSound}
 use Rattle.mmu_core.specs.Machine.{May, Step, World, hand_in, run}
+use Rattle.mmu_core.specs.Worlds.{Reachable}
 use Rattle.mmu_core.proofs.Starts.{hand_is, start_good}
 use Rattle.mmu_core.proofs.StarvedScan.{legal_parts}
 use Rattle.mmu_core.proofs.Worlds.{good_run}
@@ -16,6 +17,9 @@ use Rattle.core_theorem.specs.Runs.{IsRun}
 
 pub sound : (z : Sizes) (lines : List Line) (w : World Held) (ss : List (Step Kind)) → IsRun z lines w ss → IsSound z (run mmu w ss)
 sound z lines w ss R = good_run z w ss (start_good z lines w R.start) R.legal
+
+pub reached : (z : Sizes) (lines : List Line) (w : World Held) (ss : List (Step Kind)) → IsRun z lines w ss → Reachable (run mmu w ss)
+reached z lines w ss R = record { sizes = z; lines = lines; start = w; is_start = R.start; leads = record { steps = ss; legal = R.legal; ends = refl } }
 
 -- A run of some steps and one more is a run of these steps, behind which the other may be made.
 module _ (z : Sizes) (lines : List Line) (w : World Held) (ss : List (Step Kind)) (s : Step Kind) (R : IsRun z lines w (ss ++ s ∷ [])) where

@@ -15,18 +15,18 @@ use Rattle.core_views.specs.declared.trace.Op.{Op}
 use Rattle.core_views.specs.declared.trace.Op.TheVariants.{Read, Write, Add}
 use Rattle.core_views.specs.Held.{Held}
 use Rattle.core_views.specs.Sizes.{actors_of}
-use Rattle.mmu_core.specs.declared.part_step.PartStep.{PartStep}
-use Rattle.mmu_core.specs.declared.part_step.PartStep.TheVariants as part
+use Rattle.part_steps.specs.declared.part_step.PartStep.{PartStep}
+use Rattle.part_steps.specs.declared.part_step.PartStep.TheVariants as part
 use Rattle.mmu_core.specs.AccessSteps.{access_note, access_part, task_by, touch_of}
 use Rattle.mmu_core.specs.Enabled.{Enabled, mmu}
 use Rattle.mmu_core.specs.Laws.{IsSound}
 use Rattle.mmu_core.specs.Machine.{May, Step, World, answered, effect, hand_in, run}
-use Rattle.mmu_core.specs.PartSteps.{PartNeeds, own_index, part_kind, table_page}
+use Rattle.part_steps.specs.PartSteps.{PartNeeds, own_index, part_kind, table_page}
 use Rattle.mmu_core.specs.Rests.{RestsAt, RestsOn}
 use Rattle.mmu_core.specs.SetSlotSteps.{set_slot_note, set_slot_part}
 use Rattle.mmu_core.specs.Steps.{line_at, place_at, task_at}
-use Rattle.mmu_core.specs.Tasks.{kind_of_task}
-use Rattle.mmu_core.specs.TopicSteps.{topics_after}
+use Rattle.part_steps.specs.Tasks.{kind_of_task}
+use Rattle.part_steps.specs.TopicSteps.{topics_after}
 use Rattle.mmu_core.specs.View.{view}
 use Rattle.mmu_core.proofs.Changes.{of_each_list}
 use Rattle.mmu_core.proofs.Columns.{same_or}

@@ -1,5 +1,5 @@
 -- Why a fault begins anew, why a step waits and why a line is starved, in every run.
-use Rattle.std.specs.Prelude.{◌≡◌, ℕ, List, [], ◌∷◌, ◌++◌, true}
+use Rattle.std.specs.Prelude.{◌≡◌, ◌⊎◌, ℕ, List, [], ◌∷◌, ◌++◌, true}
 use Rattle.core_views.specs.declared.answer.Answer.TheVariants.{Starved}
 use Rattle.core_views.specs.declared.kind.Kind.{Kind}
 use Rattle.core_views.specs.declared.place.AccessPlace.TheVariants as access
@@ -8,6 +8,7 @@ use Rattle.core_views.specs.declared.place.FaultEnd.TheVariants.{Retry}
 use Rattle.core_views.specs.declared.place.FaultPlace.{FaultPlace}
 use Rattle.core_views.specs.declared.place.FaultPlace.TheVariants.{End}
 use Rattle.core_views.specs.declared.place.Place.TheVariants as place
+use Rattle.core_views.specs.declared.place.SetSlotPlace.{SetSlotPlace}
 use Rattle.core_views.specs.declared.sizes.Sizes.{Sizes}
 use Rattle.core_views.specs.declared.trace.Command.TheVariants.{Access}
 use Rattle.core_views.specs.declared.trace.Line.{Line}
@@ -15,12 +16,14 @@ use Rattle.core_views.specs.declared.trace.Op.{Op}
 use Rattle.core_views.specs.Held.{Held}
 use Rattle.spte_words.specs.Areas.{words_of_bits}
 use Rattle.mmu_core.specs.declared.outcome.Outcome.TheVariants.{Ends}
-use Rattle.mmu_core.specs.Causes.{IsCaused, WaitIsCaused}
+use Rattle.mmu_core.specs.Causes.{IsCaused, SettingWaitIsCaused, WaitIsCaused}
 use Rattle.mmu_core.specs.Enabled.{mmu}
 use Rattle.mmu_core.specs.FaultSteps.{waits}
 use Rattle.mmu_core.specs.Machine.{Step, World, answered, hand_in, run}
 use Rattle.mmu_core.specs.Scans.{EndsWithScan}
-use Rattle.mmu_core.specs.Turns.{outcome_of}
+use Rattle.mmu_core.specs.SetSlotSteps.{set_slot_waits}
+use Rattle.mmu_core.specs.Steps.{delays_at, has_line, place_at}
+use Rattle.mmu_core.specs.Turns.{line_of, outcome_of}
 use Rattle.core_theorem.specs.Runs.{IsRun}
 
 -- the hand that makes a step behind a run, and what the step answers
@@ -43,6 +46,44 @@ WaitsHaveCauses =
     (z : Sizes) (lines : List Line) (w : World Held) (ss : List (Step Kind)) (s : Step Kind) (p : FaultPlace) → IsRun z lines w (ss ++ s ∷ [])
     → (hand_of w ss s).state.place ≡ place.Access (access.Fault p) → waits p (hand_of w ss s).topics (answer_of w ss s) ≡ true
     → WaitIsCaused p z s.actor (hand_of w ss s).topics (answer_of w ss s) w ss
+
+-- Each step of a slot setting that waits has its cause in the steps before it, or in what another actor holds as it is made.
+abbrev pub SettingWaitsHaveCauses : Type 0
+SettingWaitsHaveCauses =
+    (z : Sizes) (lines : List Line) (w : World Held) (ss : List (Step Kind)) (s : Step Kind) (p : SetSlotPlace) → IsRun z lines w (ss ++ s ∷ [])
+    → (hand_of w ss s).state.place ≡ place.SetSlot p → set_slot_waits p (hand_of w ss s).topics (answer_of w ss s) ≡ true
+    → SettingWaitIsCaused p z w ss s
+
+-- With the step the fault of the line ends its section, to begin anew, for this cause in the steps before it, in this section.
+pub record BeginsAnew (z : Sizes) (w : World Held) (ss : List (Step Kind)) (s : Step Kind) : Type 0 where
+  pub cause : Cause
+  pub gfn : ℕ
+  pub word : ℕ
+  pub op : Op
+  pub at : (hand_of w ss s).state.place ≡ place.Access (access.Fault (End (Retry cause)))
+  pub access_is : (hand_of w ss s).state.line.command ≡ Access gfn word op
+  pub caused : IsCaused cause z s.actor gfn w ss
+
+-- It is a step of a fault that waits, for its cause.
+pub record FaultWaits (z : Sizes) (w : World Held) (ss : List (Step Kind)) (s : Step Kind) : Type 0 where
+  pub where_ : FaultPlace
+  pub at : (hand_of w ss s).state.place ≡ place.Access (access.Fault where_)
+  pub waits_ : waits where_ (hand_of w ss s).topics (answer_of w ss s) ≡ true
+  pub caused : WaitIsCaused where_ z s.actor (hand_of w ss s).topics (answer_of w ss s) w ss
+
+-- It is a step of a slot setting that waits, for its cause.
+pub record SettingWaits (z : Sizes) (w : World Held) (ss : List (Step Kind)) (s : Step Kind) : Type 0 where
+  pub where_ : SetSlotPlace
+  pub at : (hand_of w ss s).state.place ≡ place.SetSlot where_
+  pub waits_ : set_slot_waits where_ (hand_of w ss s).topics (answer_of w ss s) ≡ true
+  pub caused : SettingWaitIsCaused where_ z w ss s
+
+-- Each step that its hand counts as a delay of its line is one of these.
+abbrev pub DelaysHaveCauses : Type 0
+DelaysHaveCauses =
+    (z : Sizes) (lines : List Line) (w : World Held) (ss : List (Step Kind)) (s : Step Kind) → IsRun z lines w (ss ++ s ∷ []) → has_line (hand_of w ss s) ≡ true
+    → delays_at (place_at (hand_of w ss s).state.place (hand_of w ss s)) (line_of (hand_of w ss s)).command (hand_of w ss s) (answer_of w ss s) ≡ true
+    → BeginsAnew z w ss s ⊎ FaultWaits z w ss s ⊎ SettingWaits z w ss s
 
 -- A step that answers a line starved ends a scan of the whole map by the line's actor, which found no page free in any of its words.
 abbrev pub StarvedLinesScanned : Type 0

@@ -13,7 +13,7 @@ use Rattle.core_views.specs.Sizes.{actors_of}
 use Rattle.spte_words.specs.declared.area.Area.TheVariants as area
 use Rattle.mmu_core.specs.Enabled.{mmu}
 use Rattle.mmu_core.specs.Machine.{Step, World, effect, hand_in, run}
-use Rattle.mmu_core.specs.PartSteps.{table_page}
+use Rattle.part_steps.specs.PartSteps.{table_page}
 use Rattle.mmu_core.specs.PoolPart.{is_free}
 use Rattle.mmu_core.specs.View.{word_in}
 use Rattle.core_theorem.specs.Pages.{Owns}

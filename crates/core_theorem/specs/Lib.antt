@@ -4,3 +4,4 @@ pub mod Leaves
 pub mod Locks
 pub mod Holdings
 pub mod Delays
+pub mod Turns

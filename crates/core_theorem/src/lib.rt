@@ -2,12 +2,13 @@
 //! actors in any order, each enabled in its turn, from the start of every machine.
 #![tactic(auto)]
 
-ghost use Rattle.core_theorem.specs.Delays.{FaultsHaveCauses, StarvedLinesScanned, WaitsHaveCauses};
+ghost use Rattle.core_theorem.specs.Delays.{DelaysHaveCauses, FaultsHaveCauses, SettingWaitsHaveCauses, StarvedLinesScanned, WaitsHaveCauses};
 ghost use Rattle.core_theorem.specs.Holdings.{NoneHoldsFreePages, PagesAreReusedAlone};
 ghost use Rattle.core_theorem.specs.Leaves.{LinkedLeavesAgree, TranslationsAgree, UsedLeavesAgree};
 ghost use Rattle.core_theorem.specs.Locks.{LockIsKept};
 ghost use Rattle.core_theorem.specs.Pages.{EachPageHasOneUse};
 ghost use Rattle.core_theorem.specs.Runs.{TellsLawfully};
+ghost use Rattle.core_theorem.specs.Turns.{CountsAreFew, LinesAreOpen, LinesMakeFewSteps, StepsAreFew};
 
 /// Every run of the machine. `pages`: each pool page is exactly one of free, owned by
 /// one actor, a table, the published slot set, an old slot set that is leaving; and
@@ -20,8 +21,16 @@ ghost use Rattle.core_theorem.specs.Runs.{TellsLawfully};
 /// actor holds of tables and slot sets isn't free. `reuse`: a page that is taken from
 /// the pool or given back to it nobody else holds. `lawful`: each access, each exit
 /// and each answer is one that flat guest memory allows. `begins_anew`, `waits`,
-/// `starved`: what stood in the way was another actor's, or no page was free
+/// `slot_waits`, `starved`: what stood in the way of a fault or of a slot setting was
+/// another actor's, an open invalidation, or that no page was free; `delays`: so it is
+/// with each step that is counted as a delay of its line
 /// (tdp_mmu.c; locking.rst; mmu.rst).
+///
+/// `counts`, `line_turns`: a line makes at most 8,192 steps, one for each pool page
+/// and one for each frame up to the end of its first delay, as many from there to the
+/// end of the next, and as many behind its last. `turns`, `open_lines`: so all lines
+/// together make at most as many for each of their delays and for each line, of
+/// which there are no more than have no answer yet.
 pub fn every_run()
     ensures pages { EachPageHasOneUse }
     ensures leaves { LinkedLeavesAgree }
@@ -31,7 +40,13 @@ pub fn every_run()
     ensures grace { NoneHoldsFreePages }
     ensures reuse { PagesAreReusedAlone }
     ensures lawful { TellsLawfully }
+    ensures counts { CountsAreFew }
+    ensures line_turns { LinesMakeFewSteps }
+    ensures turns { StepsAreFew }
+    ensures open_lines { LinesAreOpen }
     ensures begins_anew { FaultsHaveCauses }
     ensures waits { WaitsHaveCauses }
+    ensures slot_waits { SettingWaitsHaveCauses }
+    ensures delays { DelaysHaveCauses }
     ensures starved { StarvedLinesScanned }
 {}

@@ -1,5 +1,5 @@
 -- What a trace may hold: the ranges of its header and of its lines.
-use Rattle.std.specs.Prelude.{◌≡◌, ◌*◌, ◌%◌, ◌^◌, ◌<◌, ◌≤◌, ◌==◌, ◌⊎◌, ℕ, List, [], ◌∷◌, All, Some, IfSome, length, slice_get}
+use Rattle.std.specs.Prelude.{◌≡◌, ◌*◌, ◌%◌, ◌^◌, ◌<◌, ◌≤◌, ◌==◌, ◌⊎◌, ℕ, List, [], ◌∷◌, All, Some, IfSome, length, map, slice_get}
 use Rattle.std.specs.List.{IsDistinct}
 use Rattle.std.specs.List.Sorted.{IsStrictlyIncreasing}
 use Rattle.core_views.specs.declared.actor.Actor.{Actor}
@@ -90,10 +90,11 @@ pub record IsItemOf (h : Header) (item : Item) : Type 0 where
   pub actor : HasActor (sizes_of h) item.actor
   pub until : IsUntilInRange item.until
 
--- All numbers of the trace are in their ranges, and no two lines set a slot at one ID.
+-- All numbers of the trace are in their ranges, its lines stand in the order of their numbers, which differ, and no two of them set a slot at one ID.
 pub record IsTrace (t : Trace) : Type 0 where
   pub header : IsHeader t.header
   pub lines : AreLinesOf t.header t.lines
+  pub rising : IsStrictlyIncreasing (map (λ line. line.number) t.lines)
   pub distinct : IsDistinct (λ i j. i == j) (slot_ids t.lines)
   pub go : IfSome t.go (λ above. above ≤ length t.lines)
   pub items : All (IsItemOf t.header) t.items

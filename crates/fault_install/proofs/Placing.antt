@@ -25,15 +25,15 @@ use Rattle.invalidate_seq.specs.declared.check.Checked.{Checked}
 use Rattle.invalidate_seq.specs.declared.check.Checked.TheVariants.{Fresh, Open, Moved}
 use Rattle.memslots.specs.declared.find.FoundSlot.{FoundSlot}
 use Rattle.memslots.specs.Finding.{Begins, Searches, find_step}
-use Rattle.mmu_core.specs.declared.part_step.PartStep.{PartStep}
-use Rattle.mmu_core.specs.declared.part_step.PartStep.TheVariants as part
+use Rattle.part_steps.specs.declared.part_step.PartStep.{PartStep}
+use Rattle.part_steps.specs.declared.part_step.PartStep.TheVariants as part
 use Rattle.mmu_core.specs.FaultKnows.{CheckKnows}
 use Rattle.mmu_core.specs.FaultLaws.{CanAnswer}
 use Rattle.mmu_core.specs.FaultSteps.{at_map_word, check_next, check_part, claim_next, find_next, found_next, is_last_word, is_owing, map_word, share_next, share_part, snapshot_taken, tries_page, waits, word_owed}
-use Rattle.mmu_core.specs.PartTopics.{part_topics, sequenced}
-use Rattle.mmu_core.specs.PartSteps.{own_index, part_task}
-use Rattle.mmu_core.specs.Tasks.{kind_of_task, map_of}
-use Rattle.mmu_core.specs.TopicSteps.{has_writer, is_loose, is_won, searched}
+use Rattle.part_steps.specs.PartTopics.{part_topics, sequenced}
+use Rattle.part_steps.specs.PartSteps.{own_index, part_task}
+use Rattle.part_steps.specs.Tasks.{kind_of_task, map_of}
+use Rattle.part_steps.specs.TopicSteps.{has_writer, is_loose, is_won, searched}
 use Rattle.mmu_lock.specs.declared.lock.Lock.{Lock}
 use Rattle.mmu_lock.specs.declared.lock.Lock.TheVariants.{Got, Held as HeldBy}
 use Rattle.mmu_lock.specs.Locking.{TriedShared, shared_step}

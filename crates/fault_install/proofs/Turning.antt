@@ -13,8 +13,9 @@ use Rattle.core_views.specs.Held.{Held}
 use Rattle.mmu_core.specs.FaultKnows.{EndKnows, FaultKnows, KnowsNext}
 use Rattle.mmu_core.specs.FaultLaws.{CanAnswer}
 use Rattle.mmu_core.specs.FaultSteps.{fault_left, fault_next, fault_part, next_left, wait_seen, waits}
-use Rattle.mmu_core.specs.PartRests.{MayMake, PartRests}
-use Rattle.mmu_core.specs.PartSteps.{part_kind}
+use Rattle.mmu_core.specs.MayMake.{MayMake}
+use Rattle.part_steps.specs.PartBounds.{PartRests}
+use Rattle.part_steps.specs.PartSteps.{part_kind}
 use Rattle.mmu_core.specs.Steps.{has_line}
 use Rattle.mmu_core.specs.Worlds.{HandReached}
 use Rattle.mmu_core.proofs.FaultFalls.{fault_falls}

@@ -10,7 +10,7 @@ use Rattle.core_views.specs.Held.{Held}
 use Rattle.mmu_core.specs.FaultKnows.{EndKnows, FaultKnows, KnowsNext}
 use Rattle.mmu_core.specs.FaultLaws.{CanAnswer}
 use Rattle.mmu_core.specs.FaultSteps.{fault_next, fault_part, wait_seen, waits}
-use Rattle.mmu_core.specs.PartRests.{MayMake}
+use Rattle.mmu_core.specs.MayMake.{MayMake}
 use Rattle.step_seats.specs.PartTurns.{MadePart, Told}
 use Rattle.step_seats.specs.declared.turn.Turn.{Turn}
 use Rattle.step_seats.specs.declared.turn.Turn.TheVariants.{More, Wait, Retry, Done}

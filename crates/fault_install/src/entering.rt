@@ -1,17 +1,18 @@
 ghost use Rattle.std.specs.Prelude.{◌≡◌, ◌<◌, true, false};
 ghost use Rattle.core_views.specs.declared.place.FaultPlace.TheVariants as at;
 ghost use Rattle.fault_install.specs.Faults.{IsAt, MakesStep};
-ghost use Rattle.mmu_core.specs.FaultSteps.{entry_word, table_value};
-ghost use Rattle.mmu_core.specs.PartRests.{PartRests};
-ghost use Rattle.mmu_core.specs.PartSteps.{HasToFill, IsOver, page_owned};
+ghost use Rattle.mmu_core.specs.FaultSteps.{entry_word};
+ghost use Rattle.part_steps.specs.PartBounds.{PartRests};
+ghost use Rattle.part_steps.specs.PartSteps.{IsOver, page_owned};
 ghost use Rattle.step_seats.specs.Moves.{KeepsRoom};
 
 use crate::places::{after_claim, after_end, after_fill, after_walk, claim_turn};
 use crate::{FaultJob, Faulted};
 use core_views::{Cause, FaultEnd, FaultPlace, Hand, OwnedPage, Topics};
 use grace_period::end;
-use mmu_core::{PartStep, part_kind, part_rests};
+use mmu_core::{part_rests, table_value};
 use mmu_lock::unlock;
+use part_steps::{PartStep, part_kind};
 use step_seats::{Stepper, Turn, make_part};
 use table_pool::{Claim, Fill, Give};
 use tdp_walk::Walk;
@@ -32,19 +33,6 @@ fn page_of(topics: &Topics) -> u64
     match topics.owned {
         Some(OwnedPage { page, .. }) => page,
         None => 0,
-    }
-}
-
-// What the next word of the page that is filled is to hold: its 512 entries are
-// absent, and its role is the level below the walk's.
-fn table_value(topics: &Topics) -> u64
-    requires fill { HasToFill topics.now }
-    requires level { 0 < topics.now.walk.level }
-    ensures { result ≡ table_value topics.now }
-{
-    match topics.owned {
-        Some(OwnedPage { filled: 512, .. }) => topics.walk.level as u64 - 1,
-        _ => 0,
     }
 }
 

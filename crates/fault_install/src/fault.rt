@@ -3,7 +3,7 @@ ghost use Rattle.core_views.specs.declared.place.FaultPlace.TheVariants.{Begin};
 ghost use Rattle.fault_install.specs.Faults.{MakesStep, TurnsFault};
 ghost use Rattle.mmu_core.specs.FaultKnows.{FaultKnows};
 ghost use Rattle.mmu_core.specs.FaultSteps.{fault_left, fault_part};
-ghost use Rattle.mmu_core.specs.PartRests.{MayMake};
+ghost use Rattle.mmu_core.specs.MayMake.{MayMake};
 ghost use Rattle.mmu_core.specs.Steps.{has_line};
 ghost use Rattle.mmu_core.specs.Worlds.{HandReached};
 ghost use Rattle.step_seats.specs.Moves.{KeepsRoom};

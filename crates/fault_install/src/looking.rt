@@ -2,7 +2,7 @@ ghost use Rattle.std.specs.Prelude.{◌≡◌, ◌<◌, ◌+◌, ◌≤◌, ◌^
 ghost use Rattle.core_views.specs.Slots.{contains};
 ghost use Rattle.core_views.specs.declared.place.FaultPlace.TheVariants as at;
 ghost use Rattle.fault_install.specs.Faults.{IsAt, MakesStep};
-ghost use Rattle.mmu_core.specs.SlotWords.{page_of};
+ghost use Rattle.part_steps.specs.SlotWords.{page_of};
 ghost use Rattle.step_seats.specs.Moves.{KeepsRoom};
 
 use crate::places::{after_check, after_search, after_try, lock_turn};
@@ -12,8 +12,9 @@ use grace_period::begin;
 use host_map::look;
 use invalidate_seq::{Check, Snapshot};
 use memslots::Find;
-use mmu_core::{map_of, page_of, part_rests};
+use mmu_core::part_rests;
 use mmu_lock::try_shared;
+use part_steps::{map_of, page_of};
 use spte_words::{Area, HostWord};
 use step_seats::{Stepper, Turn};
 

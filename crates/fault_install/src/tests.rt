@@ -7,7 +7,7 @@ ghost use Rattle.core_views.specs.declared.actor.Actor.TheVariants.{Manager};
 ghost use Rattle.core_views.specs.declared.trace.Command.TheVariants.{SetSlot};
 ghost use Rattle.fault_install.specs.Faults.{IsToGoOn};
 ghost use Rattle.mmu_core.specs.FaultKnows.{FaultKnows};
-ghost use Rattle.mmu_core.specs.PartSteps.{IsAtRest};
+ghost use Rattle.part_steps.specs.PartSteps.{IsAtRest};
 ghost use Rattle.mmu_core.specs.Worlds.{HandReached};
 
 use crate::{FaultJob, Faulted};
@@ -15,7 +15,8 @@ use core_views::{
     Actor, Cause, Command, FaultPlace, Hand, Header, Hold, Line, Lines, NoMemory, Op, Slot, Stay,
     Topics, Trace, Words,
 };
-use mmu_core::{PartStep, allows, next_kind, rests};
+use mmu_core::{allows, next_kind, rests};
+use part_steps::PartStep;
 use std::alloc::Global;
 use std::test::Fail;
 use step_seats::{PlainMachine, Stepper, Turn};

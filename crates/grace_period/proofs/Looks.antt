@@ -10,13 +10,13 @@ use Rattle.core_views.specs.declared.topics.Stay.TheVariants.{Outside, Section}
 use Rattle.core_views.specs.Held.{Held}
 use Rattle.core_views.specs.Sizes.{actors_of, index_of}
 use Rattle.spte_words.specs.declared.area.Area.TheVariants.{State}
-use Rattle.mmu_core.specs.declared.part_step.PartStep.TheVariants as part
+use Rattle.part_steps.specs.declared.part_step.PartStep.TheVariants as part
 use Rattle.mmu_core.specs.Machine.{World}
 use Rattle.mmu_core.specs.OthersRest.{OthersRest}
-use Rattle.mmu_core.specs.PartRests.{PartRests}
-use Rattle.mmu_core.specs.PartSteps.{PartNeeds, next_watched, own_index, part_kind}
+use Rattle.part_steps.specs.PartBounds.{PartRests}
+use Rattle.part_steps.specs.PartSteps.{PartNeeds, next_watched, own_index, part_kind}
 use Rattle.mmu_core.specs.Steps.{next}
-use Rattle.mmu_core.specs.TopicSteps.{in_section, is_outside}
+use Rattle.part_steps.specs.TopicSteps.{in_section, is_outside}
 use Rattle.mmu_core.specs.View.{word_in}
 use Rattle.mmu_core.proofs.HandAfter.{next_same}
 use Rattle.mmu_core.proofs.StateTells.{own_place, state_tells}

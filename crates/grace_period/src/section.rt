@@ -1,13 +1,13 @@
 ghost use Rattle.std.specs.Prelude.{◌≡◌, ◌<◌, IfSome};
 ghost use Rattle.core_views.specs.declared.topics.Stay.TheVariants.{Outside, Section};
 ghost use Rattle.grace_period.specs.Sections.{IsTold, IsUntold};
-ghost use Rattle.mmu_core.specs.PartRests.{MayMake};
-ghost use Rattle.mmu_core.specs.TopicSteps.{begun};
-ghost use Rattle.mmu_core.specs.declared.part_step.PartStep.TheVariants.{Begin, End};
+ghost use Rattle.mmu_core.specs.MayMake.{MayMake};
+ghost use Rattle.part_steps.specs.TopicSteps.{begun};
+ghost use Rattle.part_steps.specs.declared.part_step.PartStep.TheVariants.{Begin, End};
 ghost use Rattle.step_seats.specs.Moves.{KeepsRoom};
 ghost use Rattle.step_seats.specs.PartTurns.{MakesPart};
 
-use mmu_core::PartStep;
+use part_steps::PartStep;
 use step_seats::{Stepper, make_part};
 
 /// Begins a section: from now on no page is given back that the actor loads of

@@ -5,7 +5,8 @@ ghost use Rattle.core_views.specs.Sizes.{index_of, sizes_of};
 
 use crate::{Watch, begin, end};
 use core_views::{Actor, Command, Header, Line, Lines, NoMemory, Op, Seen, Trace, Words};
-use mmu_core::{PartStep, allows, part_rests};
+use mmu_core::{allows, part_rests};
+use part_steps::PartStep;
 use std::alloc::Global;
 use std::test::Fail;
 use step_seats::{PlainMachine, Stepper, Turn, make_part};

@@ -1,16 +1,18 @@
 ghost use Rattle.std.specs.Prelude.{◌≡◌, ◌<◌, true, false, IfSome};
 ghost use Rattle.grace_period.specs.Watches.{IsFoundBy, Watched, actors_left, is_done, looked_at, waits};
 ghost use Rattle.mmu_core.specs.OthersRest.{OthersRest};
-ghost use Rattle.mmu_core.specs.PartRests.{MayMake, PartRests};
-ghost use Rattle.mmu_core.specs.PartSteps.{PartNeeds};
-ghost use Rattle.mmu_core.specs.TopicSteps.{in_section};
-ghost use Rattle.mmu_core.specs.declared.part_step.PartStep.TheVariants as part;
+ghost use Rattle.mmu_core.specs.MayMake.{MayMake};
+ghost use Rattle.part_steps.specs.PartBounds.{PartRests};
+ghost use Rattle.part_steps.specs.PartSteps.{PartNeeds};
+ghost use Rattle.part_steps.specs.TopicSteps.{in_section};
+ghost use Rattle.part_steps.specs.declared.part_step.PartStep.TheVariants as part;
 ghost use Rattle.step_seats.specs.Moves.{KeepsRoom};
 ghost use Rattle.step_seats.specs.PartTurns.{MakesPart};
 ghost use Rattle.step_seats.specs.declared.turn.Turn.TheVariants.{More};
 
 use core_views::{Hand, Seen};
-use mmu_core::{PartStep, map_of, next_watched, part_rests};
+use mmu_core::part_rests;
+use part_steps::{PartStep, map_of, next_watched};
 use std::marker::Model;
 use step_seats::{Stepper, Turn, make_part};
 

@@ -9,7 +9,7 @@ use Rattle.spte_words.specs.declared.area.Area.TheVariants as area
 use Rattle.spte_words.specs.Areas.{content_index, place}
 use Rattle.mmu_core.specs.AccessSteps.{touch_of}
 use Rattle.mmu_core.specs.Machine.{World}
-use Rattle.mmu_core.specs.Tasks.{kind_of_task, map_of}
+use Rattle.part_steps.specs.Tasks.{kind_of_task, map_of}
 use Rattle.mmu_core.specs.View.{word_in}
 
 -- the host word of a page

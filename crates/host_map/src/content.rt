@@ -9,7 +9,8 @@ ghost use Rattle.step_seats.specs.Moves.{Adds, KeepsRoom, Tells};
 ghost use Rattle.step_seats.specs.PartTurns.{HasHand};
 
 use core_views::{Kind, Op, Sizes, StepKind};
-use mmu_core::{map_of, part_rests};
+use mmu_core::part_rests;
+use part_steps::map_of;
 use step_seats::Stepper;
 
 /// The operation on a word of a frame, as the words of the machine see it.

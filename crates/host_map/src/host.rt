@@ -1,11 +1,11 @@
 ghost use Rattle.std.specs.Prelude.{◌≡◌, ◌<◌, Some, IfSome};
 ghost use Rattle.host_map.specs.Touching.{host_in};
-ghost use Rattle.mmu_core.specs.PartRests.{MayMake};
-ghost use Rattle.mmu_core.specs.declared.part_step.PartStep.TheVariants.{Host};
+ghost use Rattle.mmu_core.specs.MayMake.{MayMake};
+ghost use Rattle.part_steps.specs.declared.part_step.PartStep.TheVariants.{Host};
 ghost use Rattle.step_seats.specs.Moves.{KeepsRoom};
 ghost use Rattle.step_seats.specs.PartTurns.{MadePart};
 
-use mmu_core::PartStep;
+use part_steps::PartStep;
 use step_seats::{Stepper, make_part};
 
 /// Loads the host word of a host page (below the pages of the machine), keeps it

@@ -1,6 +1,6 @@
 ghost use Rattle.std.specs.Prelude.{◌≡◌, ◌<◌, true, IfSome, is_some};
-ghost use Rattle.mmu_core.specs.PartRests.{MayMake};
-ghost use Rattle.mmu_core.specs.TopicSteps.{has_lock};
+ghost use Rattle.mmu_core.specs.MayMake.{MayMake};
+ghost use Rattle.part_steps.specs.TopicSteps.{has_lock};
 ghost use Rattle.mmu_core.specs.View.{word_in};
 ghost use Rattle.step_seats.specs.Moves.{KeepsRoom};
 ghost use Rattle.step_seats.specs.PartTurns.{MakesPart};
@@ -8,7 +8,7 @@ ghost use Rattle.step_seats.specs.declared.turn.Turn.TheVariants.{More};
 ghost use Rattle.invalidate_seq.specs.Checks.{AnswersBy, LoadsOnly, Stands, StandsBehind, area_of, loaded, step_of, turns_left};
 
 use core_views::{CheckStage, Invalidations};
-use mmu_core::PartStep;
+use part_steps::PartStep;
 use step_seats::{Stepper, Turn, make_part};
 
 /// What a check found of the invalidations.

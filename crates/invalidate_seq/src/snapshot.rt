@@ -1,14 +1,14 @@
 ghost use Rattle.std.specs.Prelude.{◌≡◌, ◌<◌, Some, IfSome};
 ghost use Rattle.core_views.specs.declared.topics.Hold.TheVariants.{Loose};
-ghost use Rattle.mmu_core.specs.PartRests.{MayMake};
+ghost use Rattle.mmu_core.specs.MayMake.{MayMake};
 ghost use Rattle.mmu_core.specs.View.{word_in};
-ghost use Rattle.mmu_core.specs.declared.part_step.PartStep.TheVariants as PartStep;
+ghost use Rattle.part_steps.specs.declared.part_step.PartStep.TheVariants as PartStep;
 ghost use Rattle.spte_words.specs.declared.area.Area.TheVariants as Area;
 ghost use Rattle.step_seats.specs.Moves.{KeepsRoom};
 ghost use Rattle.step_seats.specs.PartTurns.{MakesPart};
 ghost use Rattle.invalidate_seq.specs.Checks.{TakesSnapshot};
 
-use mmu_core::PartStep;
+use part_steps::PartStep;
 use step_seats::{Stepper, Turn, make_part};
 
 /// Takes the sequence number before a look-up, without the lock.

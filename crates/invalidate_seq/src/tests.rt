@@ -7,7 +7,8 @@ use core_views::{
     Actor, CheckStage, Command, Header, Hold, Invalidations, Line, Lines, NoMemory, Op, Trace,
     Words,
 };
-use mmu_core::{PartStep, allows};
+use mmu_core::allows;
+use part_steps::PartStep;
 use std::alloc::Global;
 use std::test::Fail;
 use step_seats::{PlainMachine, Stepper, Turn, make_part};

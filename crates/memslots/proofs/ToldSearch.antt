@@ -8,14 +8,14 @@ use Rattle.core_views.specs.declared.topics.Topics.{Topics}
 use Rattle.core_views.specs.Held.{Held}
 use Rattle.spte_words.specs.declared.area.Area.TheVariants as area
 use Rattle.spte_words.specs.Areas.{size_of}
-use Rattle.mmu_core.specs.declared.outcome.Task.{Task}
-use Rattle.mmu_core.specs.declared.part_step.PartStep.TheVariants as part
+use Rattle.part_steps.specs.declared.task.Task.{Task}
+use Rattle.part_steps.specs.declared.part_step.PartStep.TheVariants as part
 use Rattle.mmu_core.specs.Enabled.{mmu}
 use Rattle.mmu_core.specs.Machine.{World, effect, hand_in}
-use Rattle.mmu_core.specs.PartSteps.{PartNeeds, own_index, part_kind, part_task}
-use Rattle.mmu_core.specs.PartTopics.{part_topics}
-use Rattle.mmu_core.specs.Tasks.{kind_of_task, map_of}
-use Rattle.mmu_core.specs.TopicSteps.{may_search, searched}
+use Rattle.part_steps.specs.PartSteps.{PartNeeds, own_index, part_kind, part_task}
+use Rattle.part_steps.specs.PartTopics.{part_topics}
+use Rattle.part_steps.specs.Tasks.{kind_of_task, map_of}
+use Rattle.part_steps.specs.TopicSteps.{may_search, searched}
 use Rattle.mmu_core.specs.View.{View, word_in}
 use Rattle.mmu_core.specs.Worlds.{Reachable}
 use Rattle.mmu_core.proofs.PartRested.{part_within, rests_in}

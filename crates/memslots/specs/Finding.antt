@@ -4,13 +4,13 @@ use Rattle.core_views.specs.declared.place.SlotField.TheVariants.{Host, Flags}
 use Rattle.core_views.specs.declared.topics.SlotSearch.{SlotSearch}
 use Rattle.core_views.specs.Slots.{contains, slot_of}
 use Rattle.spte_words.specs.Flags.{flags_logged}
-use Rattle.mmu_core.specs.declared.part_step.PartStep.{PartStep}
-use Rattle.mmu_core.specs.declared.part_step.PartStep.TheVariants as part
+use Rattle.part_steps.specs.declared.part_step.PartStep.{PartStep}
+use Rattle.part_steps.specs.declared.part_step.PartStep.TheVariants as part
 use Rattle.mmu_core.specs.Bounds.{look_left}
-use Rattle.mmu_core.specs.PartSteps.{set_held}
+use Rattle.part_steps.specs.PartSteps.{set_held}
 pub use Rattle.mmu_core.specs.SearchPart.{HasFlags, HasLoaded}
-use Rattle.mmu_core.specs.SlotWords.{live_at, slot_at, slot_index, slots_below}
-pub use Rattle.mmu_core.specs.SlotWords.{NoneBelow}
+use Rattle.part_steps.specs.SlotWords.{live_at, slot_at, slot_index, slots_below}
+pub use Rattle.part_steps.specs.SlotWords.{NoneBelow}
 use Rattle.step_seats.specs.declared.turn.Turn.{Turn}
 use Rattle.step_seats.specs.declared.turn.Turn.TheVariants.{More, Wait, Retry, Done}
 use Rattle.memslots.specs.declared.find.Find.{Find}

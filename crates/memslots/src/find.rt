@@ -1,7 +1,7 @@
 ghost use Rattle.std.specs.Prelude.{◌≡◌, ◌<◌, ◌≤◌, true, false, Some, IfSome};
 ghost use Rattle.core_views.specs.declared.place.SlotField.TheVariants.{Host};
-ghost use Rattle.mmu_core.specs.PartRests.{MayMake};
-ghost use Rattle.mmu_core.specs.TopicSteps.{may_search};
+ghost use Rattle.mmu_core.specs.MayMake.{MayMake};
+ghost use Rattle.part_steps.specs.TopicSteps.{may_search};
 ghost use Rattle.mmu_core.specs.View.{word_in};
 ghost use Rattle.spte_words.specs.declared.area.Area.TheVariants as Area;
 ghost use Rattle.step_seats.specs.Moves.{KeepsRoom};
@@ -10,7 +10,8 @@ ghost use Rattle.step_seats.specs.declared.turn.Turn.TheVariants.{More};
 ghost use Rattle.memslots.specs.Finding.{Begins, FindsIn, IsSearchFor, Searches, find_step, turns_left};
 
 use core_views::{Slot, SlotField, SlotSearch};
-use mmu_core::{PartStep, part_rests};
+use mmu_core::part_rests;
+use part_steps::PartStep;
 use step_seats::{Stepper, Turn, make_part};
 
 /// How many IDs there are.

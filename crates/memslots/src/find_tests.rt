@@ -6,7 +6,8 @@ ghost use Rattle.core_views.specs.declared.trace.Command.TheVariants.{SetSlot};
 
 use crate::{Find, FoundSlot};
 use core_views::{Actor, Command, Header, Line, Lines, NoMemory, Op, Slot, Stay, Trace, Words};
-use mmu_core::{PartStep, allows, next_kind, rests};
+use mmu_core::{allows, next_kind, rests};
+use part_steps::PartStep;
 use std::alloc::Global;
 use std::test::Fail;
 use step_seats::{PlainMachine, Stepper, Turn, make_part};

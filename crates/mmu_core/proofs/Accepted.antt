@@ -29,7 +29,7 @@ use Rattle.core_views.proofs.Sound.{Passes, passes, refuses_as_flat}
 use Rattle.spte_words.specs.declared.area.Area.TheVariants as area
 use Rattle.mmu_core.specs.Invariant.{Invariant, OwnLines, RecordPart}
 use Rattle.mmu_core.specs.SlotSetPart.{Fits}
-use Rattle.mmu_core.specs.SlotWords.{live_at, slot_at, slots_below}
+use Rattle.part_steps.specs.SlotWords.{live_at, slot_at, slots_below}
 use Rattle.mmu_core.specs.Steps.{next_line}
 use Rattle.mmu_core.specs.View.{View}
 use Rattle.mmu_core.proofs.Columns.{same_or}

@@ -31,18 +31,18 @@ use Rattle.spte_words.specs.declared.spte_kind.SpteKind.TheVariants as entry_kin
 use Rattle.spte_words.specs.Areas.{content_index}
 use Rattle.spte_words.specs.Entries.{frame_in, kind_of}
 use Rattle.spte_words.proofs.Indices.{same_content}
-use Rattle.mmu_core.specs.declared.part_step.PartStep.{PartStep}
-use Rattle.mmu_core.specs.declared.part_step.PartStep.TheVariants as part
+use Rattle.part_steps.specs.declared.part_step.PartStep.{PartStep}
+use Rattle.part_steps.specs.declared.part_step.PartStep.TheVariants as part
 use Rattle.mmu_core.specs.AccessSteps.{access_note, access_part, access_task, pause_next, task_by, touch_of, walk_next}
 use Rattle.mmu_core.specs.Cached.{first_usable}
 use Rattle.mmu_core.specs.FaultSteps.{allows_access}
 use Rattle.mmu_core.specs.FlatInvariant.{AccessUnder}
 use Rattle.mmu_core.specs.Invariant.{Invariant, IsLeafFor}
 use Rattle.mmu_core.specs.KnowsPart.{AccessKnows}
-use Rattle.mmu_core.specs.SlotWords.{page_of}
-use Rattle.mmu_core.specs.Tasks.{kind_of_task, map_of}
+use Rattle.part_steps.specs.SlotWords.{page_of}
+use Rattle.part_steps.specs.Tasks.{kind_of_task, map_of}
 use Rattle.mmu_core.specs.TopicsInvariant.{TopicsInvariant}
-use Rattle.mmu_core.specs.TopicSteps.{topics_after}
+use Rattle.part_steps.specs.TopicSteps.{topics_after}
 use Rattle.mmu_core.specs.View.{View, answer_in, put, words_after}
 use Rattle.mmu_core.proofs.Columns.{same_or, upd_same, upd_other}
 use Rattle.mmu_core.proofs.FaultFlat.{fault_goes}

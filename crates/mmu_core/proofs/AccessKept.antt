@@ -31,8 +31,8 @@ use Rattle.mmu_core.specs.AccessSteps.{access_loads, access_outcome, access_task
 use Rattle.mmu_core.specs.Cached.{first_usable}
 use Rattle.mmu_core.specs.FaultSteps.{allows_access, fault_next}
 use Rattle.mmu_core.specs.KnowsPart.{AccessKnows}
-use Rattle.mmu_core.specs.PartSteps.{entry_index, table_page}
-use Rattle.mmu_core.specs.Tasks.{place_after}
+use Rattle.part_steps.specs.PartSteps.{entry_index, table_page}
+use Rattle.mmu_core.specs.Outcomes.{place_after}
 use Rattle.mmu_core.specs.TopicsInvariant.{TopicsInvariant}
 use Rattle.mmu_core.specs.Steps.{state_at}
 use Rattle.mmu_core.specs.View.{View, answer_in, hand_after, stepped, upd}

@@ -12,10 +12,10 @@ use Rattle.core_views.specs.Slots.{is_write}
 use Rattle.core_views.specs.Traces.{IsCommandFor}
 use Rattle.spte_words.specs.declared.area.Area.{Area}
 use Rattle.spte_words.specs.declared.area.Area.TheVariants as area
-use Rattle.mmu_core.specs.declared.part_step.PartStep.{PartStep}
+use Rattle.part_steps.specs.declared.part_step.PartStep.{PartStep}
 use Rattle.mmu_core.specs.AccessSteps.{access_part}
 use Rattle.mmu_core.specs.Invariant.{Invariant, OwnLines}
-use Rattle.mmu_core.specs.PartSteps.{IsVcpu, PartNeeds}
+use Rattle.part_steps.specs.PartSteps.{IsVcpu, PartNeeds}
 use Rattle.mmu_core.specs.TopicsInvariant.{TopicsInvariant}
 use Rattle.mmu_core.specs.View.{View}
 use Rattle.mmu_core.proofs.KnowsKept.{NeedsOf, access_needs, access_vcpu, step_knows, needs_at}

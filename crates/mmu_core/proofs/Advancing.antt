@@ -17,7 +17,7 @@ use Rattle.core_views.specs.declared.trace.Line.{Line}
 use Rattle.core_views.specs.declared.trace.Op.{Op}
 use Rattle.core_views.specs.declared.trace.Op.TheVariants.{Read, Write, Add}
 use Rattle.core_views.specs.declared.trace.Slot.{Slot as SlotOf}
-use Rattle.mmu_core.specs.declared.outcome.Task.{Task}
+use Rattle.part_steps.specs.declared.task.Task.{Task}
 use Rattle.mmu_core.specs.AccessSteps.{access_note, access_part, task_by, touch_of}
 use Rattle.mmu_core.specs.SetSlotSteps.{set_slot_task, set_slot_note, set_slot_part}
 use Rattle.std.proofs.lemmas.Bool.Decides.{nat_tests}
@@ -25,18 +25,18 @@ use Rattle.core_views.specs.Held.{Held}
 use Rattle.core_views.specs.Kinds.{code_of, kind_named}
 use Rattle.core_views.specs.Sizes.{AreSizes}
 use Rattle.core_views.specs.Traces.{IsCommandFor}
-use Rattle.mmu_core.specs.declared.part_step.PartStep.{PartStep}
-use Rattle.mmu_core.specs.declared.part_step.PartStep.TheVariants as part
+use Rattle.part_steps.specs.declared.part_step.PartStep.{PartStep}
+use Rattle.part_steps.specs.declared.part_step.PartStep.TheVariants as part
 use Rattle.mmu_core.specs.Enabled.{Enabled, IsNext, IsPartStep}
 use Rattle.spte_words.specs.Entries.{level_span}
-use Rattle.mmu_core.specs.PartSteps.{IsOver, HasToFill, PartNeeds, own_index, part_task, words_filled}
+use Rattle.part_steps.specs.PartSteps.{IsOver, HasToFill, PartNeeds, own_index, part_task, words_filled}
 use Rattle.mmu_core.specs.Rests.{AcceptsAt, Rests, RestsAt, RestsOn}
 use Rattle.mmu_core.specs.Cached.{flushed}
-use Rattle.mmu_core.specs.PartBounds.{PartRests}
+use Rattle.part_steps.specs.PartBounds.{PartRests}
 use Rattle.core_views.specs.declared.sizes.Sizes.{Sizes}
 use Rattle.mmu_core.proofs.Sized.{loads_keep_sizes}
 use Rattle.mmu_core.specs.Steps.{has_line, held_after, idle_after, line_after, line_at, next, place_at, standing, task_at, task_of}
-use Rattle.mmu_core.specs.TopicSteps.{HasRoom, topics_after}
+use Rattle.part_steps.specs.TopicSteps.{HasRoom, topics_after}
 use Rattle.mmu_core.proofs.Which.{has_line_is, next_of_line, next_of_part}
 
 pub enabled_sizes : (h : Held) (k : Kind) → Enabled h k → AreSizes h.state.sizes

@@ -12,7 +12,7 @@ use Rattle.mmu_core.specs.Example.{HasLine, WritesOneWord, next_step}
 use Rattle.mmu_core.specs.LineAlone.{ComesNearer, EndsAlone, LineAlone, hand_left}
 use Rattle.mmu_core.specs.Machine.{May, Step, World, answered, effect, hand_in}
 use Rattle.mmu_core.specs.Steps.{held_after, line_at, next_line, place_at}
-use Rattle.mmu_core.specs.Tasks.{answers_after}
+use Rattle.mmu_core.specs.Outcomes.{answers_after}
 use Rattle.mmu_core.specs.Turns.{line_of, outcome_of, with_answer}
 use Rattle.mmu_core.proofs.AloneRuns.{some_left, steps_alone}
 use Rattle.mmu_core.proofs.CanStep.{may_step}

@@ -11,19 +11,19 @@ use Rattle.core_views.specs.Held.{Held}
 use Rattle.core_views.specs.Sizes.{actors_of}
 use Rattle.spte_words.specs.declared.area.Area.TheVariants as area
 use Rattle.spte_words.specs.Areas.{size_of}
-use Rattle.mmu_core.specs.declared.outcome.Task.{Task}
-use Rattle.mmu_core.specs.declared.part_step.PartStep.{PartStep}
-use Rattle.mmu_core.specs.declared.part_step.PartStep.TheVariants as part
+use Rattle.part_steps.specs.declared.task.Task.{Task}
+use Rattle.part_steps.specs.declared.part_step.PartStep.{PartStep}
+use Rattle.part_steps.specs.declared.part_step.PartStep.TheVariants as part
 use Rattle.mmu_core.specs.Enabled.{mmu}
 use Rattle.mmu_core.specs.Laws.{IsSound}
 use Rattle.mmu_core.specs.LockPart.{is_shared}
 use Rattle.mmu_core.specs.Machine.{World, answered, hand_in}
 use Rattle.mmu_core.specs.OthersRest.{NoOtherHasLock, NoneHasLockAlone, OthersRest}
-use Rattle.mmu_core.specs.PartSteps.{PartNeeds, counts, own_index, part_kind, part_task}
+use Rattle.part_steps.specs.PartSteps.{PartNeeds, counts, own_index, part_kind, part_task}
 use Rattle.mmu_core.specs.StatesPart.{stay_bits}
 use Rattle.mmu_core.specs.Sums.{one_if, sum_below}
-use Rattle.mmu_core.specs.Tasks.{kind_of_task, map_of}
-use Rattle.mmu_core.specs.TopicSteps.{has_lock, in_section, is_alone}
+use Rattle.part_steps.specs.Tasks.{kind_of_task, map_of}
+use Rattle.part_steps.specs.TopicSteps.{has_lock, in_section, is_alone}
 use Rattle.mmu_core.specs.View.{answer_in, word_in}
 use Rattle.mmu_core.specs.Worlds.{Reachable}
 use Rattle.mmu_core.proofs.Columns.{same_or}

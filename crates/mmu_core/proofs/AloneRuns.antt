@@ -35,11 +35,11 @@ use Rattle.mmu_core.specs.Laws.{IsSound}
 use Rattle.mmu_core.specs.LineAlone.{AllRest, ComesNearer, LineAlone, StarvedOnlyWithout, StepsAlone, hand_left, line_waits}
 use Rattle.mmu_core.specs.Machine.{May, Step, World, answered, effect, hand_in}
 use Rattle.mmu_core.specs.OthersRest.{HoldsNothing, OthersRest}
-use Rattle.mmu_core.specs.PartSteps.{IsAtRest}
+use Rattle.part_steps.specs.PartSteps.{IsAtRest}
 use Rattle.mmu_core.specs.Rests.{IsUnderWay}
 use Rattle.mmu_core.specs.SetSlotSteps.{set_slot_first}
 use Rattle.mmu_core.specs.Steps.{first_place, line_at, outcome_at, place_at, standing, task_at}
-use Rattle.mmu_core.specs.Tasks.{answers_after, place_after}
+use Rattle.mmu_core.specs.Outcomes.{answers_after, place_after}
 use Rattle.mmu_core.specs.Turns.{line_of, outcome_of}
 use Rattle.mmu_core.specs.View.{View, answer_in, hand_after, view, word_in, words_after}
 use Rattle.mmu_core.proofs.AloneStep.{AloneStep, RestsBehind, alone_step, two_left}

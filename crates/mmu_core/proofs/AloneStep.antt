@@ -37,7 +37,7 @@ use Rattle.spte_words.specs.Areas.{pool_index, words_of_bits}
 use Rattle.spte_words.specs.Entries.{kind_of}
 use Rattle.mmu_core.specs.declared.outcome.Outcome.{Outcome}
 use Rattle.mmu_core.specs.declared.outcome.Outcome.TheVariants.{Goes, Ends}
-use Rattle.mmu_core.specs.declared.part_step.PartStep.{PartStep}
+use Rattle.part_steps.specs.declared.part_step.PartStep.{PartStep}
 use Rattle.mmu_core.specs.AccessSteps.{access_note, access_outcome, access_part, access_task, behind_fault, pause_next, walk_next}
 use Rattle.mmu_core.specs.AloneKnows.{AccessAlone, AloneKnows, SetSlotAlone, StayAlone}
 use Rattle.mmu_core.specs.Bounds.{stay_left}
@@ -50,14 +50,14 @@ use Rattle.mmu_core.specs.KnowsPart.{AccessKnows, KnowsPart, LeavesPart}
 use Rattle.mmu_core.specs.Laws.{IsSound}
 use Rattle.mmu_core.specs.Machine.{World, hand_in}
 use Rattle.mmu_core.specs.OthersRest.{OthersRest}
-use Rattle.mmu_core.specs.PartBounds.{PartRests}
-use Rattle.mmu_core.specs.PartSteps.{IsAtRest, PartNeeds, entry_index, own_index, table_page}
-use Rattle.mmu_core.specs.PartTopics.{part_topics}
+use Rattle.part_steps.specs.PartBounds.{PartRests}
+use Rattle.part_steps.specs.PartSteps.{IsAtRest, PartNeeds, entry_index, own_index, table_page}
+use Rattle.part_steps.specs.PartTopics.{part_topics}
 use Rattle.mmu_core.specs.Rests.{IsUnderWay}
 use Rattle.mmu_core.specs.SetSlotSteps.{set_slot_note, set_slot_outcome, set_slot_part, set_slot_task}
 use Rattle.mmu_core.specs.Steps.{outcome_at, task_at}
-use Rattle.mmu_core.specs.Tasks.{kind_of_task}
-use Rattle.mmu_core.specs.TopicSteps.{at_root, gone_down, linked_page, may_walk, topics_after}
+use Rattle.part_steps.specs.Tasks.{kind_of_task}
+use Rattle.part_steps.specs.TopicSteps.{at_root, gone_down, linked_page, may_walk, topics_after}
 use Rattle.mmu_core.specs.View.{answer_in, word_in, words_after}
 use Rattle.mmu_core.proofs.FaultAlone.{goes_through}
 use Rattle.mmu_core.proofs.FaultFalls.{fault_falls}

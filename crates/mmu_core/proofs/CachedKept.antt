@@ -27,15 +27,15 @@ use Rattle.spte_words.specs.Areas.{pool_index}
 use Rattle.spte_words.specs.Entries.{kind_of, level_span}
 use Rattle.spte_words.proofs.ReadsEntries.{kind_of_absent, kind_of_table}
 use Rattle.spte_words.proofs.Spans.{span_1}
-use Rattle.mmu_core.specs.declared.outcome.Task.{Task}
+use Rattle.part_steps.specs.declared.task.Task.{Task}
 use Rattle.mmu_core.specs.AccessSteps.{access_caches, access_task, is_found}
 use Rattle.mmu_core.specs.Cached.{allows, asks_flush, covers, first_usable, flushed, flushed_by, is_usable, with_leaf}
 use Rattle.mmu_core.specs.FaultSteps.{allows_access}
 use Rattle.mmu_core.specs.Invariant.{CachedPart, Invariant, IsLeafFor}
 use Rattle.mmu_core.specs.KnowsPart.{AccessKnows}
-use Rattle.mmu_core.specs.PartSteps.{IsOver, entry_index, table_page}
-use Rattle.mmu_core.specs.SlotWords.{leaf_of, page_of}
-use Rattle.mmu_core.specs.Tasks.{kind_of_task}
+use Rattle.part_steps.specs.PartSteps.{IsOver, entry_index, table_page}
+use Rattle.part_steps.specs.SlotWords.{leaf_of, page_of}
+use Rattle.part_steps.specs.Tasks.{kind_of_task}
 use Rattle.mmu_core.specs.TopicsInvariant.{TopicsInvariant}
 use Rattle.mmu_core.specs.TreePart.{EntryPart, IsLeafAt, at}
 use Rattle.mmu_core.specs.View.{View, answer_in, hand_after, stepped}

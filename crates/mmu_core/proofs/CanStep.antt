@@ -19,14 +19,14 @@ use Rattle.mmu_core.specs.AccessSteps.{access_note, access_part, task_by, touch_
 use Rattle.mmu_core.specs.Enabled.{mmu}
 use Rattle.mmu_core.specs.Example.{HasLine, WritesOneWord, next_step}
 use Rattle.mmu_core.specs.Laws.{IsSound}
-use Rattle.mmu_core.specs.declared.part_step.PartStep.{PartStep}
-use Rattle.mmu_core.specs.PartBounds.{PartRests}
+use Rattle.part_steps.specs.declared.part_step.PartStep.{PartStep}
+use Rattle.part_steps.specs.PartBounds.{PartRests}
 use Rattle.mmu_core.proofs.PartFits.{part_small}
 use Rattle.mmu_core.specs.Machine.{May, World, hand_in}
 use Rattle.mmu_core.specs.Rests.{Rests, RestsAt, RestsOn}
 use Rattle.mmu_core.specs.SetSlotSteps.{set_slot_note, set_slot_part}
 use Rattle.mmu_core.specs.Steps.{line_at, place_at, task_at, task_of}
-use Rattle.mmu_core.specs.Tasks.{kind_of_task, map_of}
+use Rattle.part_steps.specs.Tasks.{kind_of_task, map_of}
 use Rattle.mmu_core.specs.View.{view}
 use Rattle.mmu_core.proofs.RestsKept.{hand_rests, task_within}
 use Rattle.mmu_core.proofs.Stepping.{IsStep, is_step}

@@ -29,19 +29,19 @@ use Rattle.spte_words.specs.Areas.{place as place_of, pool_index, size_of, words
 use Rattle.spte_words.specs.Entries.{kind_of}
 use Rattle.spte_words.specs.HostWords.{host_allows_write}
 use Rattle.spte_words.proofs.Indices.{pool_within, same_pool_word}
-use Rattle.mmu_core.specs.declared.part_step.PartStep.{PartStep}
-use Rattle.mmu_core.specs.declared.part_step.PartStep.TheVariants as part
+use Rattle.part_steps.specs.declared.part_step.PartStep.{PartStep}
+use Rattle.part_steps.specs.declared.part_step.PartStep.TheVariants as part
 use Rattle.mmu_core.specs.Causes.{Finds, HasMade, IsCaused, SawChange, StaysInSection}
 use Rattle.mmu_core.specs.Enabled.{mmu}
 use Rattle.mmu_core.specs.FaultKnows.{CheckKnows, FaultKnows, is_trying}
 use Rattle.mmu_core.specs.FaultSteps.{allows_access, at_map_word, check_next, check_part, entry_word, fault_next, fault_part, find_next, found_next, is_last_word, map_word, share_next, share_part, snapshot_taken, tries_page, walk_next}
 use Rattle.mmu_core.specs.Laws.{IsSound}
 use Rattle.mmu_core.specs.Machine.{May, Step, World, answered, effect, found, hand_in, run}
-use Rattle.mmu_core.specs.PartBounds.{PartRests}
-use Rattle.mmu_core.specs.PartSteps.{entry_index, page_owned, table_page, words_filled, works}
-use Rattle.mmu_core.specs.PartTopics.{part_topics, sequenced}
-use Rattle.mmu_core.specs.Tasks.{map_of}
-use Rattle.mmu_core.specs.TopicSteps.{gone_down, has_writer, is_loose, is_won, linked_page, searched}
+use Rattle.part_steps.specs.PartBounds.{PartRests}
+use Rattle.part_steps.specs.PartSteps.{entry_index, page_owned, table_page, words_filled, works}
+use Rattle.part_steps.specs.PartTopics.{part_topics, sequenced}
+use Rattle.part_steps.specs.Tasks.{map_of}
+use Rattle.part_steps.specs.TopicSteps.{gone_down, has_writer, is_loose, is_won, linked_page, searched}
 use Rattle.mmu_core.specs.TreePart.{EntryPart, Position, at}
 use Rattle.mmu_core.specs.View.{view, word_in}
 use Rattle.mmu_core.proofs.AloneLaws.{part_found}

@@ -21,7 +21,7 @@ use Rattle.mmu_core.specs.Causes.{Finds, HasMade, IsCaused, StaysInSection}
 use Rattle.mmu_core.specs.Enabled.{mmu}
 use Rattle.mmu_core.specs.FaultSteps.{entry_word, snapshot_taken}
 use Rattle.mmu_core.specs.Machine.{May, Step, World, effect, run}
-use Rattle.mmu_core.specs.Tasks.{map_of}
+use Rattle.part_steps.specs.Tasks.{map_of}
 use Rattle.mmu_core.proofs.Changes.{Knows, made_longer, knows_longer, saw_longer}
 
 module _ (z : Sizes) (actor : ℕ) (w : World Held) where

@@ -14,12 +14,12 @@ use Rattle.spte_words.specs.Entries.{kind_of}
 use Rattle.spte_words.specs.HostWords.{host_allows_write, host_frame}
 use Rattle.spte_words.proofs.Places.{places_apart}
 use Rattle.spte_words.proofs.ReadsEntries.{kind_of_absent, kind_of_leaf, kind_of_table}
-use Rattle.mmu_core.specs.declared.part_step.PartStep.{PartStep}
-use Rattle.mmu_core.specs.declared.part_step.PartStep.TheVariants as part
-use Rattle.mmu_core.specs.PartSteps.{PartNeeds, fill_task, own_index, part_kind, part_task, works}
-use Rattle.mmu_core.specs.PartBounds.{PartRests}
-use Rattle.mmu_core.specs.SlotWords.{leaf_of, may_write, page_of}
-use Rattle.mmu_core.specs.Tasks.{map_of}
+use Rattle.part_steps.specs.declared.part_step.PartStep.{PartStep}
+use Rattle.part_steps.specs.declared.part_step.PartStep.TheVariants as part
+use Rattle.part_steps.specs.PartSteps.{PartNeeds, fill_task, own_index, part_kind, part_task, works}
+use Rattle.part_steps.specs.PartBounds.{PartRests}
+use Rattle.part_steps.specs.SlotWords.{leaf_of, may_write, page_of}
+use Rattle.part_steps.specs.Tasks.{map_of}
 use Rattle.mmu_core.specs.TreePart.{EntryPart, Position}
 use Rattle.mmu_core.proofs.PartFits.{part_within_by}
 
@@ -77,9 +77,10 @@ load_leaves (part.Host page) h note n is = (refl, refl)
 load_leaves (part.Watch index) h note n is = (refl, refl)
 load_leaves _ h note n is = absurd is
 
--- An exchange of an entry, a share of the lock and a try for a page answer what they find.
+-- An exchange of an entry, a try to share the lock or to have it alone, and a try for a page answer what they find.
 abbrev pub IsExchange : PartStep → Type 0
 IsExchange part.Share = Unit {0}
+IsExchange part.Exclude = Unit {0}
 IsExchange part.Claim = Unit {0}
 IsExchange (part.Link gfn) = Unit {0}
 IsExchange (part.Leaf gfn) = Unit {0}
@@ -88,6 +89,7 @@ IsExchange _ = ⊥
 pub exchange_answers : (step : PartStep) (h : Held) (note n : ℕ) → IsExchange step → answer (part_kind h step note) n ≡ n
 unfolding answer
 exchange_answers part.Share h note n is = refl
+exchange_answers part.Exclude h note n is = refl
 exchange_answers part.Claim h note n is = refl
 exchange_answers (part.Link gfn) h note n is = refl
 exchange_answers (part.Leaf gfn) h note n is = refl

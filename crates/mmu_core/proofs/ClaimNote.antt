@@ -10,14 +10,14 @@ use Rattle.core_views.specs.declared.trace.Slot.{Slot}
 use Rattle.core_views.specs.Held.{Held}
 use Rattle.spte_words.specs.Areas.{words_of_bits}
 use Rattle.mmu_core.specs.declared.outcome.Outcome.TheVariants.{Goes, Ends}
-use Rattle.mmu_core.specs.declared.outcome.Task.{Task}
-use Rattle.mmu_core.specs.declared.part_step.PartStep.TheVariants as part
+use Rattle.part_steps.specs.declared.task.Task.{Task}
+use Rattle.part_steps.specs.declared.part_step.PartStep.TheVariants as part
 use Rattle.mmu_core.specs.AccessSteps.{ends_with}
 use Rattle.mmu_core.specs.FaultSteps.{at_map_word, claim_part, map_word, tries_page}
-use Rattle.mmu_core.specs.PartSteps.{PartNeeds, own_index, part_task}
+use Rattle.part_steps.specs.PartSteps.{PartNeeds, own_index, part_task}
 use Rattle.mmu_core.specs.SetSlotSteps.{claim_outcome, set_slot_outcome, set_slot_task}
 use Rattle.mmu_core.specs.StepLaws.{LoadsLastWord, NoteTells}
-use Rattle.mmu_core.specs.Tasks.{kind_of_task}
+use Rattle.part_steps.specs.Tasks.{kind_of_task}
 use Rattle.mmu_core.proofs.PartTopics.{map_end, map_word_at}
 
 -- Whether the claim goes on behind a load of the map's last word, and of another one.

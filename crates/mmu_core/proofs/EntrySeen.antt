@@ -26,14 +26,14 @@ use Rattle.spte_words.specs.Areas.{pool_index, words_of_bits}
 use Rattle.spte_words.specs.Entries.{kind_of}
 use Rattle.spte_words.specs.HostWords.{host_allows_write, host_frame}
 use Rattle.spte_words.proofs.ReadsEntries.{kind_of_leaf}
-use Rattle.mmu_core.specs.declared.part_step.PartStep.TheVariants as part
+use Rattle.part_steps.specs.declared.part_step.PartStep.TheVariants as part
 use Rattle.mmu_core.specs.FaultAlone.{EntryStands}
 use Rattle.mmu_core.specs.FaultKnows.{FaultKnows}
 use Rattle.mmu_core.specs.FaultSteps.{at_map_word, check_next, check_part, claim_next, claim_part, entry_word, fault_next, fault_part, find_next, is_last_word, share_next, share_part, snapshot_taken, tries_page, walk_next}
-use Rattle.mmu_core.specs.PartSteps.{entry_index, leaf_written, part_task, table_page, word_looked, words_filled}
-use Rattle.mmu_core.specs.PartTopics.{exchanged, part_topics}
-use Rattle.mmu_core.specs.SlotWords.{may_write, page_of}
-use Rattle.mmu_core.specs.TopicSteps.{gone_down, has_writer, is_won, linked_page, searched, unless_linked}
+use Rattle.part_steps.specs.PartSteps.{entry_index, leaf_written, part_task, table_page, word_looked, words_filled}
+use Rattle.part_steps.specs.PartTopics.{exchanged, part_topics}
+use Rattle.part_steps.specs.SlotWords.{may_write, page_of}
+use Rattle.part_steps.specs.TopicSteps.{gone_down, has_writer, is_won, linked_page, searched, unless_linked}
 use Rattle.mmu_core.specs.TurnLaws.{ends_installed, has_installed}
 use Rattle.mmu_core.specs.View.{answer_in, upd, words_after}
 use Rattle.mmu_core.proofs.Columns.{upd_same}

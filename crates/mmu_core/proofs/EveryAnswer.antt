@@ -24,7 +24,7 @@ use Rattle.mmu_core.specs.Enabled.{mmu}
 use Rattle.mmu_core.specs.Histories.{AnswersAreTold, EndsWhole, answers_by}
 use Rattle.mmu_core.specs.Laws.{IsSound}
 use Rattle.mmu_core.specs.Machine.{Legal, May, Step, World, answered, effect, hand_in, run}
-use Rattle.mmu_core.specs.declared.outcome.Task.{Task}
+use Rattle.part_steps.specs.declared.task.Task.{Task}
 use Rattle.mmu_core.specs.Steps.{events_of, idle_after, line_at, place_at}
 use Rattle.mmu_core.specs.View.{View, answer_in, view, word_in}
 use Rattle.mmu_core.specs.Worlds.{IsStart, history}
@@ -35,8 +35,8 @@ use Rattle.mmu_core.proofs.ToldOf.{answers_by_more, begun_by, begun_by_append}
 use Rattle.mmu_core.proofs.Worlds.{Takes, TakesPart, good_step, takes}
 use Rattle.mmu_core.proofs.Which.{events_of_part}
 use Rattle.mmu_core.proofs.Columns.{at_upd}
-use Rattle.mmu_core.specs.PartSteps.{own_index, part_task}
-use Rattle.mmu_core.specs.Tasks.{kind_of_task}
+use Rattle.part_steps.specs.PartSteps.{own_index, part_task}
+use Rattle.part_steps.specs.Tasks.{kind_of_task}
 
 -- what a step of a world tells, as its view has it
 step_events : (z : Sizes) (w : World Held) (s : Step Kind) → Takes z w s (hand_in mmu w s.actor)

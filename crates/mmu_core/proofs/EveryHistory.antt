@@ -17,17 +17,17 @@ use Rattle.core_views.specs.Sizes.{actors_of}
 use Rattle.core_views.proofs.AloneIsLawful.{lawful_append}
 use Rattle.spte_words.specs.declared.area.Area.{Area}
 use Rattle.spte_words.specs.declared.area.Area.TheVariants as area
-use Rattle.mmu_core.specs.declared.outcome.Task.{Task}
-use Rattle.mmu_core.specs.declared.part_step.PartStep.{PartStep}
+use Rattle.part_steps.specs.declared.task.Task.{Task}
+use Rattle.part_steps.specs.declared.part_step.PartStep.{PartStep}
 use Rattle.mmu_core.specs.AccessSteps.{access_part}
 use Rattle.mmu_core.specs.Enabled.{mmu}
 use Rattle.mmu_core.specs.FlatInvariant.{FlatInvariant, UnderIs}
 use Rattle.mmu_core.specs.Invariant.{Invariant, UnderWay}
 use Rattle.mmu_core.specs.Laws.{IsSound}
 use Rattle.mmu_core.specs.Machine.{Legal, Step, World, answered, effect, hand_in}
-use Rattle.mmu_core.specs.PartSteps.{own_index, part_task}
+use Rattle.part_steps.specs.PartSteps.{own_index, part_task}
 use Rattle.mmu_core.specs.Steps.{events_of, has_line, idle_after, line_at, place_at}
-use Rattle.mmu_core.specs.Tasks.{kind_of_task}
+use Rattle.part_steps.specs.Tasks.{kind_of_task}
 use Rattle.mmu_core.specs.TopicsInvariant.{TopicsInvariant}
 use Rattle.mmu_core.specs.View.{View, answer_in, part_stepped, view, word_in, words_after}
 use Rattle.mmu_core.specs.Worlds.{IsStart, history}

@@ -16,13 +16,15 @@ use Rattle.spte_words.specs.Areas.{content_index, place, pool_index}
 use Rattle.spte_words.specs.Entries.{absent_word, can_write, frame_in, frozen_word, is_leaf_at, kind_of, leaf_word, level_span, table_word}
 use Rattle.spte_words.specs.Flags.{flags_live, flags_logged, flags_read_only, flags_word}
 use Rattle.spte_words.specs.HostWords.{host_allows_write, host_frame, host_word}
-use Rattle.mmu_core.specs.Example.{ExamplePrints, ExampleRuns, ExampleRaces, ExampleStarves, RunTells, add_line, first_line, forbidden_line, other_slot_line, outside_line, race_events, race_lines, race_order, read_line, run_events, run_lines, run_order, run_sizes, second_line, set_line, set_read_only_line, small_events, small_lines, small_order, small_sizes, starved_line, starved_set_line, sum_line, write_line}
+use Rattle.mmu_core.specs.Example.{ExamplePrints, ExampleRuns, ExampleRaces, ExampleStarves, ExampleWaits, RunDelays, RunTells, add_line, beside_line, first_line, forbidden_line, other_slot_line, outside_line, race_events, race_lines, race_order, read_line, run_events, run_lines, run_order, run_sizes, second_line, set_line, set_read_only_line, small_events, small_lines, small_order, small_sizes, starved_line, starved_set_line, sum_line, turns, wait_events, wait_lines, wait_order, write_line}
 use Rattle.mmu_core.specs.Cached.{flushed}
-use Rattle.mmu_core.specs.TopicSteps.{topics_after}
+use Rattle.mmu_core.specs.Enabled.{mmu}
+use Rattle.mmu_core.specs.Machine.{run}
+use Rattle.part_steps.specs.TopicSteps.{topics_after}
 use Rattle.mmu_core.specs.View.{View, view}
 use Rattle.mmu_core.proofs.StartViews.{a_start, start_view, start_view_is}
 use Rattle.mmu_core.proofs.Starts.{start_good}
-use Rattle.mmu_core.proofs.ViewRuns.{HaveLines, have_lines, have_lines_by, tale, turns_are}
+use Rattle.mmu_core.proofs.ViewRuns.{HaveLines, have_lines, have_lines_by, tale, turned_all, turns_are, turns_lead}
 
 -- What a run over words and hands as columns tells, a run of worlds tells.
 run_tells : (z : Sizes) (lines : List Line) (order : List ℕ) (events : List Event) → AreSizes z → All (λ line. IsCommandFor z line.actor line.command) lines → IsDistinct (λ i j. i == j) (slot_ids lines)
@@ -33,6 +35,20 @@ run_tells z lines order events sizes allowed distinct has told =
     let have = subst (λ (v : View). HaveLines z v order) (sym is) (have_lines_by z (start_view z lines) order has) in
     let runs = turns_are z s.0 order (start_good z lines s.0 s.1) have in
     record { start = s.0; is_start = s.1; legal = runs.0; tells = runs.1 ∙ (ap (λ (v : View). tale v order) is ∙ told) }
+
+-- What an actor counts in such a run, it counts in a run of worlds.
+run_delays : (z : Sizes) (lines : List Line) (order : List ℕ) (events : List Event) (actor delays : ℕ) → AreSizes z → All (λ line. IsCommandFor z line.actor line.command) lines → IsDistinct (λ i j. i == j) (slot_ids lines)
+    → have_lines z (start_view z lines) order ≡ true → tale (start_view z lines) order ≡ events → ((turned_all (start_view z lines) order).hand actor).state.delays ≡ delays → RunDelays z lines order events actor delays
+run_delays z lines order events actor delays sizes allowed distinct has told counts = record { tells = T; counts = ap (λ (v : View). (v.hand actor).state.delays) leads ∙ counts }
+  where
+    T : RunTells z lines order events
+    T = run_tells z lines order events sizes allowed distinct has told
+
+    is : ◌≡◌ {A = View} (view z T.start) (start_view z lines)
+    is = start_view_is z lines T.start T.is_start
+
+    leads : ◌≡◌ {A = View} (view z (run mmu T.start (turns z T.start order))) (turned_all (start_view z lines) order)
+    leads = turns_lead z T.start order (start_good z lines T.start T.is_start) (subst (λ (v : View). HaveLines z v order) (sym is) (have_lines_by z (start_view z lines) order has)) ∙ ap (λ (v : View). turned_all v order) is
 
 -- ---- a pool that is large enough
 
@@ -158,3 +174,30 @@ race_prints = simp (decimal_digit 0 (lit< tt), decimal_digit 1 (lit< tt), decima
 
 pub example_races : ExampleRaces
 example_races = (run_tells run_sizes race_lines race_order race_events run_in_range race_allowed race_distinct race_has_lines race_tale, race_prints)
+
+-- ---- a slot setting beside a processor
+
+wait_tale : tale (start_view run_sizes wait_lines) wait_order ≡ wait_events
+unfolding flushed topics_after place kind_of level_span table_word frozen_word content_index pool_index absent_word frame_in leaf_word flags_live flags_read_only flags_word host_allows_write host_frame host_word can_write is_leaf_at flags_logged count_trailing_zeros
+wait_tale = refl
+
+wait_has_lines : have_lines run_sizes (start_view run_sizes wait_lines) wait_order ≡ true
+unfolding flushed topics_after place kind_of level_span table_word frozen_word content_index pool_index absent_word frame_in leaf_word flags_live flags_read_only flags_word host_allows_write host_frame host_word can_write is_leaf_at flags_logged count_trailing_zeros
+wait_has_lines = refl
+
+wait_counts : ((turned_all (start_view run_sizes wait_lines) wait_order).hand 3).state.delays ≡ 3
+unfolding flushed topics_after place kind_of level_span table_word frozen_word content_index pool_index absent_word frame_in leaf_word flags_live flags_read_only flags_word host_allows_write host_frame host_word can_write is_leaf_at flags_logged count_trailing_zeros
+wait_counts = refl
+
+wait_allowed : All (May run_sizes) wait_lines
+wait_allowed =
+    All-cons (May run_sizes) set_line (set_read_only_line ∷ beside_line ∷ []) may_set
+    (All-cons (May run_sizes) set_read_only_line (beside_line ∷ []) may_set_read_only
+    (All-cons (May run_sizes) beside_line [] (omega arith, omega arith, omega arith) (All-nil (May run_sizes))))
+
+wait_distinct : IsDistinct (λ i j. i == j) (slot_ids wait_lines)
+unfolding IsDistinct
+wait_distinct = ((refl, tt), (tt, tt))
+
+pub example_waits : ExampleWaits
+example_waits = run_delays run_sizes wait_lines wait_order wait_events 3 3 run_in_range wait_allowed wait_distinct wait_has_lines wait_tale wait_counts

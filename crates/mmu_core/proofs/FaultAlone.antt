@@ -25,18 +25,18 @@ use Rattle.spte_words.specs.Areas.{pool_index}
 use Rattle.spte_words.specs.Entries.{kind_of, level_span}
 use Rattle.spte_words.specs.HostWords.{host_allows_write, host_frame}
 use Rattle.spte_words.proofs.ReadsEntries.{kind_of_absent, kind_of_leaf, kind_of_table}
-use Rattle.mmu_core.specs.declared.outcome.Task.{Task}
-use Rattle.mmu_core.specs.declared.part_step.PartStep.{PartStep}
-use Rattle.mmu_core.specs.declared.part_step.PartStep.TheVariants as part
+use Rattle.part_steps.specs.declared.task.Task.{Task}
+use Rattle.part_steps.specs.declared.part_step.PartStep.{PartStep}
+use Rattle.part_steps.specs.declared.part_step.PartStep.TheVariants as part
 use Rattle.mmu_core.specs.Enabled.{mmu}
 use Rattle.mmu_core.specs.FaultAlone.{EntryStands, FaultAlone, GoesThrough, LeadsTo, LeadsToLeaf, NoneFreeBefore, RunsAlone, SeenStands}
 use Rattle.mmu_core.specs.FaultKnows.{Entering}
 use Rattle.mmu_core.specs.FaultSteps.{allows_access, at_map_word, claim_next, entry_word, is_owing, map_word, share_next, share_part, snapshot_taken, table_value, tries_page, walk_next}
 use Rattle.mmu_core.specs.Machine.{World, hand_in}
-use Rattle.mmu_core.specs.PartSteps.{IsOver, LookedUp, SawEntry, entry_index, leaf_written, page_owned, part_task, table_page, word_looked, words_filled}
-use Rattle.mmu_core.specs.PartTopics.{part_topics}
-use Rattle.mmu_core.specs.SlotWords.{field_number, leaf_of, may_write, page_of}
-use Rattle.mmu_core.specs.TopicSteps.{gone_down, has_writer, is_won, linked_page, may_search}
+use Rattle.part_steps.specs.PartSteps.{IsOver, LookedUp, SawEntry, entry_index, leaf_written, page_owned, part_task, table_page, word_looked, words_filled}
+use Rattle.part_steps.specs.PartTopics.{part_topics}
+use Rattle.part_steps.specs.SlotWords.{field_number, leaf_of, may_write, page_of}
+use Rattle.part_steps.specs.TopicSteps.{gone_down, has_writer, is_won, linked_page, may_search}
 use Rattle.mmu_core.specs.TreePart.{EntryPart, IsLeafAt, IsLiveIn, TreePart, at}
 use Rattle.mmu_core.specs.View.{answer_in, upd, view, word_in, words_after}
 use Rattle.mmu_core.proofs.AloneLaws.{lock_free}

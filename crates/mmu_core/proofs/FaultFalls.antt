@@ -26,14 +26,14 @@ use Rattle.spte_words.specs.Entries.{kind_of, table_word}
 use Rattle.spte_words.specs.Flags.{flags_live}
 use Rattle.spte_words.specs.HostWords.{host_allows_write}
 use Rattle.spte_words.proofs.ReadsEntries.{kind_of_table}
-use Rattle.mmu_core.specs.declared.part_step.PartStep.TheVariants as part
+use Rattle.part_steps.specs.declared.part_step.PartStep.TheVariants as part
 use Rattle.mmu_core.specs.FaultKnows.{FaultKnows, is_trying}
 use Rattle.mmu_core.specs.FaultSteps.{allows_access, at_map_word, check_left, check_next, claim_next, entering_left, entry_word, fault_left, fault_next, fault_part, find_next, is_owing, lock_left, map_word, next_left, share_next, share_part, snapshot_taken, table_left, tries_page, waits, walk_left, walk_next}
-use Rattle.mmu_core.specs.PartRests.{PartRests}
-use Rattle.mmu_core.specs.PartSteps.{entry_index, link_written, page_owned, words_filled}
-use Rattle.mmu_core.specs.PartTopics.{exchanged, part_topics}
+use Rattle.part_steps.specs.PartBounds.{PartRests}
+use Rattle.part_steps.specs.PartSteps.{entry_index, link_written, page_owned, words_filled}
+use Rattle.part_steps.specs.PartTopics.{exchanged, part_topics}
 use Rattle.mmu_core.specs.SearchLeft.{look_left}
-use Rattle.mmu_core.specs.TopicSteps.{filled_more, gone_down, has_writer, is_won, linked_page, may_walk, searched, searched_at}
+use Rattle.part_steps.specs.TopicSteps.{filled_more, gone_down, has_writer, is_won, linked_page, may_walk, searched, searched_at}
 use Rattle.mmu_core.proofs.FaultKnown.{above_lowest}
 use Rattle.mmu_core.proofs.FaultNeeds.{first_word}
 use Rattle.mmu_core.proofs.FaultSame.{not_not}

@@ -31,14 +31,14 @@ use Rattle.spte_words.specs.declared.spte_kind.SpteKind.TheVariants as entry_kin
 use Rattle.spte_words.specs.Areas.{words_of_bits}
 use Rattle.spte_words.specs.Entries.{kind_of}
 use Rattle.spte_words.specs.HostWords.{host_allows_write}
-use Rattle.mmu_core.specs.declared.part_step.PartStep.TheVariants as part
+use Rattle.part_steps.specs.declared.part_step.PartStep.TheVariants as part
 use Rattle.mmu_core.specs.AccessSteps.{access_note, access_task}
 use Rattle.mmu_core.specs.FaultKnows.{FaultKnows}
 use Rattle.mmu_core.specs.FaultSteps.{allows_access, at_map_word, check_next, claim_next, entry_word, fault_part, find_next, map_word, share_next, snapshot_taken, tries_page, walk_next}
 use Rattle.mmu_core.specs.FlatInvariant.{NotedAt}
 use Rattle.mmu_core.specs.Invariant.{Invariant}
-use Rattle.mmu_core.specs.PartSteps.{own_index, words_filled}
-use Rattle.mmu_core.specs.Tasks.{kind_of_task}
+use Rattle.part_steps.specs.PartSteps.{own_index, words_filled}
+use Rattle.part_steps.specs.Tasks.{kind_of_task}
 use Rattle.mmu_core.specs.TopicsInvariant.{TopicsInvariant}
 use Rattle.mmu_core.specs.View.{View, answer_in, words_after}
 use Rattle.mmu_core.proofs.FindFlat.{find_noted}
@@ -47,8 +47,8 @@ use Rattle.mmu_core.proofs.PageFound.{host_writable}
 use Rattle.mmu_core.proofs.PartStepping.{IsPart}
 use Rattle.mmu_core.proofs.PartTopics.{part_topics_is}
 use Rattle.mmu_core.proofs.Stepping.{IsStep}
-use Rattle.mmu_core.specs.SlotWords.{page_of}
-use Rattle.mmu_core.specs.TopicSteps.{at_set, has_writer, is_won, may_search, searched, topics_after}
+use Rattle.part_steps.specs.SlotWords.{page_of}
+use Rattle.part_steps.specs.TopicSteps.{at_set, has_writer, is_won, may_search, searched, topics_after}
 use Rattle.core_views.specs.declared.topics.SlotSearch.{SlotSearch}
 use Rattle.core_views.specs.declared.topics.Stay.{Stay}
 use Rattle.mmu_core.proofs.LiveStays.{access_never}

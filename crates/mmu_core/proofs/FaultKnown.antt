@@ -35,16 +35,16 @@ use Rattle.spte_words.specs.Entries.{frozen_word, is_leaf_at, kind_of, level_spa
 use Rattle.spte_words.specs.HostWords.{host_allows_write, host_frame}
 use Rattle.spte_words.proofs.ReadsEntries.{kind_of_leaf, kind_of_table, leaf_can_write}
 use Rattle.spte_words.proofs.Spans.{span_1, span_2, span_3, span_4}
-use Rattle.mmu_core.specs.declared.part_step.PartStep.{PartStep}
-use Rattle.mmu_core.specs.declared.part_step.PartStep.TheVariants as part
+use Rattle.part_steps.specs.declared.part_step.PartStep.{PartStep}
+use Rattle.part_steps.specs.declared.part_step.PartStep.TheVariants as part
 use Rattle.mmu_core.specs.FaultKnows.{CheckKnows, EndKnows, Entering, FaultKnows, Filling, InSection, KnowsNext, LookedFor, SawNone, Sharing, WithoutLock, is_trying}
 use Rattle.mmu_core.specs.FaultLaws.{CanAnswer}
 use Rattle.mmu_core.specs.FaultSteps.{allows_access, at_map_word, check_next, check_part, claim_next, entry_word, fault_next, fault_part, find_next, map_word, share_next, share_part, snapshot_taken, table_value, tries_page, walk_next}
-use Rattle.mmu_core.specs.PartRests.{PartRests}
-use Rattle.mmu_core.specs.PartSteps.{FoundSlot, HoldsSet, IsOver, LookedUp, SawEntry, entry_index, leaf_written, link_written, page_owned, part_task, word_looked, words_filled}
-use Rattle.mmu_core.specs.PartTopics.{exchanged, part_topics, sequenced}
-use Rattle.mmu_core.specs.SlotWords.{leaf_of, may_write, page_of}
-use Rattle.mmu_core.specs.TopicSteps.{at_root, at_set, count_checked, filled_more, gone_down, has_writer, is_loose, is_outside, is_section, is_won, kept_search, kept_walk, let_go, linked_page, may_search, may_walk, range_checked, searched, searched_at, seq_checked, start_checked, unchecked, unless_linked}
+use Rattle.part_steps.specs.PartBounds.{PartRests}
+use Rattle.part_steps.specs.PartSteps.{FoundSlot, HoldsSet, IsOver, LookedUp, SawEntry, entry_index, leaf_written, link_written, page_owned, part_task, word_looked, words_filled}
+use Rattle.part_steps.specs.PartTopics.{exchanged, part_topics, sequenced}
+use Rattle.part_steps.specs.SlotWords.{leaf_of, may_write, page_of}
+use Rattle.part_steps.specs.TopicSteps.{at_root, at_set, count_checked, filled_more, gone_down, has_writer, is_loose, is_outside, is_section, is_won, kept_search, kept_walk, let_go, linked_page, may_search, may_walk, range_checked, searched, searched_at, seq_checked, start_checked, unchecked, unless_linked}
 use Rattle.mmu_core.specs.View.{answer_in}
 use Rattle.mmu_core.proofs.PartWords.{fill_answers}
 use Rattle.mmu_core.proofs.FaultSame.{both, ends_same, is_not, not_not, not_then, over_it, same_entering, same_looked, same_none, same_sharing, same_without}

@@ -13,12 +13,12 @@ use Rattle.core_views.specs.declared.topics.Topics.{Topics}
 use Rattle.core_views.specs.Held.{Held}
 use Rattle.core_views.specs.Sizes.{AreSizes}
 use Rattle.spte_words.specs.Areas.{words_of_bits}
-use Rattle.mmu_core.specs.declared.part_step.PartStep.TheVariants as part
+use Rattle.part_steps.specs.declared.part_step.PartStep.TheVariants as part
 use Rattle.mmu_core.specs.FaultKnows.{Entering, FaultKnows, is_trying}
 use Rattle.mmu_core.specs.FaultSteps.{check_part, fault_part, map_word, share_part, tries_page}
-use Rattle.mmu_core.specs.PartRests.{PartRests}
-use Rattle.mmu_core.specs.PartSteps.{FoundSlot, MayEnter, PartNeeds, SawEntry, counts, words_filled}
-use Rattle.mmu_core.specs.SlotWords.{page_of}
+use Rattle.part_steps.specs.PartBounds.{PartRests}
+use Rattle.part_steps.specs.PartSteps.{FoundSlot, MayEnter, PartNeeds, SawEntry, counts, words_filled}
+use Rattle.part_steps.specs.SlotWords.{page_of}
 use Rattle.mmu_core.proofs.FaultSame.{both, over_it}
 
 page_within : (gfn : ℕ) (h : Held) → PartRests h → FoundSlot gfn h.topics → page_of h.topics.search.slot gfn < h.state.sizes.pages

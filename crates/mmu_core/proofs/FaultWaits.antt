@@ -10,13 +10,13 @@ use Rattle.core_views.specs.Held.{Held}
 use Rattle.spte_words.specs.declared.area.Area.TheVariants as area
 use Rattle.spte_words.specs.Areas.{place}
 use Rattle.spte_words.specs.Bits.{has_bit}
-use Rattle.mmu_core.specs.declared.part_step.PartStep.TheVariants as part
+use Rattle.part_steps.specs.declared.part_step.PartStep.TheVariants as part
 use Rattle.mmu_core.specs.FaultLaws.{SawAnother}
 use Rattle.mmu_core.specs.FaultSteps.{is_owing, map_word, share_part, tries_page, wait_seen, waits, word_owed}
-use Rattle.mmu_core.specs.PartRests.{PartRests}
-use Rattle.mmu_core.specs.PartSteps.{part_kind}
-use Rattle.mmu_core.specs.Tasks.{map_of}
-use Rattle.mmu_core.specs.TopicSteps.{has_writer, is_won, tried_bit}
+use Rattle.part_steps.specs.PartBounds.{PartRests}
+use Rattle.part_steps.specs.PartSteps.{part_kind}
+use Rattle.part_steps.specs.Tasks.{map_of}
+use Rattle.part_steps.specs.TopicSteps.{has_writer, is_won, tried_bit}
 use Rattle.mmu_core.proofs.FaultSame.{both, is_not}
 
 -- It takes itself out of the lock's readers.

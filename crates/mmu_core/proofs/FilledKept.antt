@@ -11,11 +11,11 @@ use Rattle.core_views.specs.Sizes.{actors_of}
 use Rattle.spte_words.specs.declared.area.Area.{Area}
 use Rattle.spte_words.specs.declared.area.Area.TheVariants as area
 use Rattle.spte_words.specs.Areas.{pool_index}
-use Rattle.mmu_core.specs.declared.part_step.PartStep.{PartStep}
-use Rattle.mmu_core.specs.declared.part_step.PartStep.TheVariants as part
-use Rattle.mmu_core.specs.PartSteps.{HasToFill, OwnsTable, own_index, page_owned, part_task, words_filled}
+use Rattle.part_steps.specs.declared.part_step.PartStep.{PartStep}
+use Rattle.part_steps.specs.declared.part_step.PartStep.TheVariants as part
+use Rattle.part_steps.specs.PartSteps.{HasToFill, OwnsTable, own_index, page_owned, part_task, words_filled}
 use Rattle.mmu_core.specs.PoolPart.{FilledPart, IsFilled}
-use Rattle.mmu_core.specs.TopicSteps.{claimed, filled_more, is_won, tried_bit}
+use Rattle.part_steps.specs.TopicSteps.{claimed, filled_more, is_won, tried_bit}
 use Rattle.mmu_core.specs.TopicsInvariant.{TopicsInvariant}
 use Rattle.mmu_core.specs.View.{View, answer_in, part_stepped, words_after}
 use Rattle.mmu_core.proofs.Columns.{at_upd, same_or}

@@ -16,17 +16,17 @@ use Rattle.core_views.specs.Slots.{contains}
 use Rattle.spte_words.specs.declared.area.Area.{Area}
 use Rattle.spte_words.specs.declared.area.Area.TheVariants as area
 use Rattle.spte_words.specs.Flags.{flags_live}
-use Rattle.mmu_core.specs.declared.part_step.PartStep.TheVariants as part
+use Rattle.part_steps.specs.declared.part_step.PartStep.TheVariants as part
 use Rattle.mmu_core.specs.Enabled.{mmu}
 use Rattle.mmu_core.specs.FaultAlone.{FaultAlone, RunsAlone}
 use Rattle.mmu_core.specs.FaultSteps.{find_next}
 use Rattle.mmu_core.specs.Machine.{World, hand_in}
-use Rattle.mmu_core.specs.PartSteps.{part_task, set_held}
-use Rattle.mmu_core.specs.PartTopics.{part_topics}
+use Rattle.part_steps.specs.PartSteps.{part_task, set_held}
+use Rattle.part_steps.specs.PartTopics.{part_topics}
 use Rattle.mmu_core.specs.SearchPart.{HasLoaded}
 use Rattle.mmu_core.specs.SlotSetPart.{SlotSetPart}
-use Rattle.mmu_core.specs.SlotWords.{NoneBelow, NoneHasPage, live_at, slot_at, slot_index}
-use Rattle.mmu_core.specs.TopicSteps.{searched, searched_at}
+use Rattle.part_steps.specs.SlotWords.{NoneBelow, NoneHasPage, live_at, slot_at, slot_index}
+use Rattle.part_steps.specs.TopicSteps.{searched, searched_at}
 use Rattle.mmu_core.specs.View.{answer_in, word_in}
 use Rattle.mmu_core.proofs.Columns.{same_or}
 

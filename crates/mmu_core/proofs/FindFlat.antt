@@ -17,14 +17,14 @@ use Rattle.mmu_core.specs.FaultSteps.{find_next}
 use Rattle.mmu_core.specs.FlatInvariant.{NotedAt, NotedSlots}
 use Rattle.mmu_core.specs.Invariant.{IsLiveIn, SlotSetPart}
 use Rattle.mmu_core.specs.SearchPart.{HasLoaded}
-use Rattle.mmu_core.specs.TopicSteps.{searched_at}
+use Rattle.part_steps.specs.TopicSteps.{searched_at}
 use Rattle.mmu_core.proofs.Columns.{same_or}
 use Rattle.std.proofs.Common.{◌⊎◌, inl, inr, ◌≢◌}
 use Rattle.std.specs.Prelude.{All, Bool, true, false, ◌==◌, ◌&&◌, if◌then◌else◌, Some}
-use Rattle.mmu_core.specs.SlotWords.{slot_at, slot_index, slots_below}
+use Rattle.part_steps.specs.SlotWords.{slot_at, slot_index, slots_below}
 use Rattle.mmu_core.proofs.SlotLists.{each_is_live, no_page_behind}
 use Rattle.mmu_core.proofs.LiveStay.{StayLive}
-use Rattle.mmu_core.specs.PartSteps.{set_held}
+use Rattle.part_steps.specs.PartSteps.{set_held}
 
 -- What is noted are the slots of the slot set in this page, and those with IDs below this one don't hold the guest frame.
 record NotedTo (pool : ℕ → ℕ) (notes : Notes) (k id gfn : ℕ) : Type 0 where

@@ -34,7 +34,7 @@ use Rattle.mmu_core.specs.Invariant.{Invariant}
 use Rattle.mmu_core.specs.KnowsPart.{KnowsPart}
 use Rattle.mmu_core.specs.Rests.{IsUnderWay}
 use Rattle.mmu_core.specs.Steps.{beginning, event_kinds, events_of, first_place, line_at, next_line, outcome_at, standing, task_at, tells_at, loads_at}
-use Rattle.mmu_core.specs.Tasks.{answering}
+use Rattle.mmu_core.specs.Outcomes.{answering}
 use Rattle.mmu_core.specs.TopicsInvariant.{TopicsInvariant}
 use Rattle.mmu_core.specs.View.{View, answer_in, hand_after, stepped, words_after}
 use Rattle.mmu_core.proofs.Columns.{at_upd}

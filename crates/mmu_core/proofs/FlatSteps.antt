@@ -13,16 +13,17 @@ use Rattle.core_views.specs.Held.{Held}
 use Rattle.spte_words.specs.declared.area.Area.{Area}
 use Rattle.spte_words.specs.declared.area.Area.TheVariants as area
 use Rattle.spte_words.specs.Areas.{content_index}
-use Rattle.mmu_core.specs.declared.outcome.Task.{Task}
-use Rattle.mmu_core.specs.declared.part_step.PartStep.{PartStep}
+use Rattle.part_steps.specs.declared.task.Task.{Task}
+use Rattle.part_steps.specs.declared.part_step.PartStep.{PartStep}
 use Rattle.mmu_core.specs.Steps.{outcome_at, task_at, tells_at}
-use Rattle.mmu_core.specs.Tasks.{answering, kind_of_task, map_of, place_after}
+use Rattle.mmu_core.specs.Outcomes.{answering, place_after}
+use Rattle.part_steps.specs.Tasks.{kind_of_task, map_of}
 use Rattle.mmu_core.specs.TopicsInvariant.{TopicsInvariant}
-use Rattle.mmu_core.specs.TopicSteps.{topics_after}
+use Rattle.part_steps.specs.TopicSteps.{topics_after}
 use Rattle.mmu_core.specs.View.{View, answer_in, part_stepped, words_after}
 use Rattle.mmu_core.proofs.Told.{AreAllowed, facts_behind, line_behind}
 use Rattle.mmu_core.specs.FlatInvariant.{AccessUnder, Refines, SettingUnder, UnderIs}
-use Rattle.mmu_core.specs.SlotWords.{slots_below}
+use Rattle.part_steps.specs.SlotWords.{slots_below}
 use Rattle.std.specs.Prelude.{false}
 use Rattle.mmu_core.proofs.LiveStays.{SetStays, published_stays}
 use Rattle.mmu_core.proofs.PartStepping.{IsPart, is_publish}

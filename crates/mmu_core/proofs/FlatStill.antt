@@ -22,13 +22,13 @@ use Rattle.core_views.specs.Slots.{Slots, contains}
 use Rattle.spte_words.specs.declared.area.Area.TheVariants as area
 use Rattle.spte_words.specs.Areas.{content_index, pool_index}
 use Rattle.spte_words.specs.Entries.{frame_in}
-use Rattle.mmu_core.specs.declared.part_step.PartStep.{PartStep}
+use Rattle.part_steps.specs.declared.part_step.PartStep.{PartStep}
 use Rattle.mmu_core.specs.AccessSteps.{access_note, access_part, task_by, touch_of}
 use Rattle.mmu_core.specs.FlatInvariant.{AccessUnder, NotedAt, NotedSlots, UnderIs}
 use Rattle.mmu_core.specs.SetSlotSteps.{set_slot_note, set_slot_part}
-use Rattle.mmu_core.specs.SlotWords.{slots_below}
+use Rattle.part_steps.specs.SlotWords.{slots_below}
 use Rattle.mmu_core.specs.Steps.{task_at}
-use Rattle.mmu_core.specs.Tasks.{map_of}
+use Rattle.part_steps.specs.Tasks.{map_of}
 use Rattle.mmu_core.specs.TopicsInvariant.{TopicsInvariant}
 use Rattle.mmu_core.specs.View.{View, part_stepped, words_after}
 use Rattle.mmu_core.proofs.AccessFlat.{IsPartOr}

@@ -33,7 +33,7 @@ use Rattle.spte_words.specs.Areas.{words_of_bits}
 use Rattle.mmu_core.specs.Steps.{has_line, held_after, line_at, loads_at, next, next_by, outcome_at, place_at}
 use Rattle.mmu_core.proofs.Stepping.{is_begun}
 use Rattle.mmu_core.proofs.Which.{has_line_is, next_of_line}
-use Rattle.mmu_core.specs.Tasks.{answers_after, place_after}
+use Rattle.mmu_core.specs.Outcomes.{answers_after, place_after}
 use Rattle.mmu_core.specs.Turns.{Comes, IsSameHand, line_of, outcome_of}
 
 -- What a step loads is of no other actor and of no other machine.

@@ -8,7 +8,7 @@ use Rattle.core_views.specs.declared.trace.Command.{Command}
 use Rattle.core_views.specs.declared.trace.Line.{Line}
 use Rattle.core_views.specs.Held.{Held}
 use Rattle.mmu_core.specs.Steps.{outcome_at, records_at, state_at}
-use Rattle.mmu_core.specs.Tasks.{answers_after, place_after}
+use Rattle.mmu_core.specs.Outcomes.{answers_after, place_after}
 
 -- the hand behind a step of this line, that holds these topics and has this cached
 abbrev pub hand_with : Line → Command → Place → Held → Topics → Buffer Translation → ℕ → Held

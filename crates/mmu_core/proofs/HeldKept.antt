@@ -22,13 +22,14 @@ use Rattle.spte_words.specs.Bits.{has_bit}
 use Rattle.spte_words.specs.Entries.{frozen_word, is_leaf_at, kind_of, level_span, table_word}
 use Rattle.spte_words.proofs.ReadsEntries.{kind_of_absent, kind_of_table}
 use Rattle.spte_words.specs.Flags.{flags_live}
-use Rattle.mmu_core.specs.declared.part_step.PartStep.{PartStep}
-use Rattle.mmu_core.specs.declared.part_step.PartStep.TheVariants as part
-use Rattle.mmu_core.specs.HeldPart.{CountersPart, HeldPart}
-use Rattle.mmu_core.specs.PartSteps.{IsOver, entry_index, leaf_written, link_written, page_owned, table_page, words_filled}
-use Rattle.mmu_core.specs.PartTopics.{exchanged}
+use Rattle.part_steps.specs.declared.part_step.PartStep.{PartStep}
+use Rattle.part_steps.specs.declared.part_step.PartStep.TheVariants as part
+use Rattle.part_steps.specs.PartBounds.{CountersPart}
+use Rattle.mmu_core.specs.HeldPart.{HeldPart}
+use Rattle.part_steps.specs.PartSteps.{IsOver, entry_index, leaf_written, link_written, page_owned, table_page, words_filled}
+use Rattle.part_steps.specs.PartTopics.{exchanged}
 use Rattle.mmu_core.specs.TopicsInvariant.{TopicsInvariant}
-use Rattle.mmu_core.specs.TopicSteps.{at_root, at_set, gone_down, has_writer, in_section, is_loose, is_won, begun, kept_search, let_go, linked_page, may_search, may_walk, searched, searched_at, swapped, unchecked}
+use Rattle.part_steps.specs.TopicSteps.{at_root, at_set, gone_down, has_writer, in_section, is_loose, is_won, begun, kept_search, let_go, linked_page, may_search, may_walk, searched, searched_at, swapped, unchecked}
 use Rattle.mmu_core.specs.TreePart.{EntryPart, Position, at}
 use Rattle.mmu_core.specs.View.{View, part_stepped, upd}
 use Rattle.mmu_core.proofs.Columns.{at_upd, same_or}

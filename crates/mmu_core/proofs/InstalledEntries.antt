@@ -44,13 +44,14 @@ use Rattle.mmu_core.specs.FaultSteps.{allows_access, fault_next, fault_part}
 use Rattle.mmu_core.specs.KnowsPart.{AccessKnows, KnowsPart}
 use Rattle.mmu_core.specs.Laws.{IsSound}
 use Rattle.mmu_core.specs.Machine.{Legal, May, Step, World, effect, hand_in, run}
-use Rattle.mmu_core.specs.PartBounds.{PartRests}
-use Rattle.mmu_core.specs.PartSteps.{IsOver, IsVcpu, entry_index, own_index, table_page}
-use Rattle.mmu_core.specs.PartTopics.{part_topics}
+use Rattle.part_steps.specs.PartBounds.{PartRests}
+use Rattle.part_steps.specs.PartSteps.{IsOver, IsVcpu, entry_index, own_index, table_page}
+use Rattle.part_steps.specs.PartTopics.{part_topics}
 use Rattle.mmu_core.specs.Rests.{IsUnderWay}
 use Rattle.mmu_core.specs.SetSlotSteps.{set_slot_outcome, set_slot_task}
 use Rattle.mmu_core.specs.Steps.{first_place, line_at, next_line, outcome_at, place_at, standing, task_at}
-use Rattle.mmu_core.specs.Tasks.{map_of, place_after}
+use Rattle.part_steps.specs.Tasks.{map_of}
+use Rattle.mmu_core.specs.Outcomes.{place_after}
 use Rattle.mmu_core.specs.TreePart.{at}
 use Rattle.mmu_core.specs.TurnLaws.{StaysInstalled, WalksInstalled, ends_installed, has_installed, is_installed}
 use Rattle.mmu_core.specs.View.{View, answer_in, hand_after, part_stepped, view, word_in, words_after}

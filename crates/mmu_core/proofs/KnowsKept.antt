@@ -34,9 +34,9 @@ use Rattle.spte_words.specs.declared.spte_kind.SpteKind.TheVariants as entry_kin
 use Rattle.spte_words.specs.Entries.{kind_of}
 use Rattle.mmu_core.specs.declared.outcome.Outcome.{Outcome}
 use Rattle.mmu_core.specs.declared.outcome.Outcome.TheVariants.{Goes, Ends}
-use Rattle.mmu_core.specs.declared.outcome.Task.{Task}
-use Rattle.mmu_core.specs.declared.part_step.PartStep.{PartStep}
-use Rattle.mmu_core.specs.declared.part_step.PartStep.TheVariants as part
+use Rattle.part_steps.specs.declared.task.Task.{Task}
+use Rattle.part_steps.specs.declared.part_step.PartStep.{PartStep}
+use Rattle.part_steps.specs.declared.part_step.PartStep.TheVariants as part
 use Rattle.mmu_core.specs.AccessSteps.{access_note, access_outcome, access_part, access_task, behind_fault, leaf_used, pause_next, task_by, touch_of, walk_next}
 use Rattle.mmu_core.specs.Cached.{allows, covers, first_usable, flushed, is_usable}
 use Rattle.mmu_core.specs.FaultKnows.{KnowsNext}
@@ -44,15 +44,16 @@ use Rattle.mmu_core.specs.FaultLaws.{CanAnswer}
 use Rattle.mmu_core.specs.FaultSteps.{allows_access, fault_next}
 use Rattle.mmu_core.specs.Invariant.{Invariant, KnowsPart, UnderWay, LeavesPart}
 use Rattle.mmu_core.specs.KnowsPart.{AccessKnows, InGuest, LeavesPart, may_leave}
-use Rattle.mmu_core.specs.PartBounds.{PartRests}
-use Rattle.mmu_core.specs.PartSteps.{IsAtRest, IsOver, IsVcpu, PartNeeds, entry_index, own_index, words_filled}
-use Rattle.mmu_core.specs.PartTopics.{part_topics}
+use Rattle.part_steps.specs.PartBounds.{PartRests}
+use Rattle.part_steps.specs.PartSteps.{IsAtRest, IsOver, IsVcpu, PartNeeds, entry_index, own_index, words_filled}
+use Rattle.part_steps.specs.PartTopics.{part_topics}
 use Rattle.mmu_core.specs.SetSlotSteps.{set_slot_outcome, set_slot_task, set_slot_part, set_slot_first, set_slot_note}
 use Rattle.mmu_core.specs.Rests.{IsUnderWay}
 use Rattle.mmu_core.specs.Steps.{caches_at, first_place, has_line, line_at, outcome_at, place_at, standing, task_at}
-use Rattle.mmu_core.specs.Tasks.{kind_of_task, place_after}
+use Rattle.part_steps.specs.Tasks.{kind_of_task}
+use Rattle.mmu_core.specs.Outcomes.{place_after}
 use Rattle.mmu_core.specs.TopicsInvariant.{TopicsInvariant}
-use Rattle.mmu_core.specs.TopicSteps.{at_root, gone_down, linked_page, may_walk, topics_after}
+use Rattle.part_steps.specs.TopicSteps.{at_root, gone_down, linked_page, may_walk, topics_after}
 use Rattle.mmu_core.specs.View.{View, answer_in, hand_after, part_stepped, stepped}
 use Rattle.mmu_core.proofs.Columns.{at_upd}
 use Rattle.mmu_core.proofs.FaultKnown.{above_lowest, fault_known, gone_over, parts_answer, root_over}
@@ -64,7 +65,7 @@ use Rattle.mmu_core.proofs.Which.{has_line_is}
 use Rattle.mmu_core.proofs.HandWith.{hand_with}
 use Rattle.mmu_core.proofs.SetSlotKnown.{SettingKnows, set_slot_known, set_slot_needs}
 use Rattle.mmu_core.specs.SetSlotKnows.{SetSlotKnows}
-use Rattle.mmu_core.proofs.SetWords.{value_small}
+use Rattle.part_steps.proofs.SetWords.{value_small}
 use Rattle.mmu_core.proofs.SmallSlots.{in_range, record_small}
 use Rattle.core_views.specs.declared.answer.Refusal.{Refusal}
 use Rattle.core_views.specs.Refusals.{set_refusal}

@@ -35,7 +35,7 @@ use Rattle.spte_words.specs.Entries.{kind_of}
 use Rattle.spte_words.specs.HostWords.{host_allows_write}
 use Rattle.mmu_core.specs.FaultKnows.{CheckKnows, EndKnows, Entering, FaultKnows, Filling, FoundNoPage, HasCause, HostForbids, IsInTheWay, LookedFor, Sharing}
 use Rattle.mmu_core.specs.KnowsPart.{AccessKnows, KnowsPart}
-use Rattle.mmu_core.specs.PartSteps.{LookedUp}
+use Rattle.part_steps.specs.PartSteps.{LookedUp}
 use Rattle.mmu_core.specs.Steps.{line_at, place_at}
 use Rattle.mmu_core.specs.View.{view}
 use Rattle.mmu_core.specs.Worlds.{HandReached}

@@ -13,8 +13,8 @@ use Rattle.spte_words.proofs.Spans.{span_above}
 use Rattle.mmu_core.specs.FaultAlone.{LeadSame, LeadsTo}
 use Rattle.mmu_core.specs.Laws.{IsSound}
 use Rattle.mmu_core.specs.Machine.{World}
-use Rattle.mmu_core.specs.PartSteps.{entry_index}
-use Rattle.mmu_core.specs.TopicSteps.{linked_page}
+use Rattle.part_steps.specs.PartSteps.{entry_index}
+use Rattle.part_steps.specs.TopicSteps.{linked_page}
 use Rattle.mmu_core.specs.TreePart.{EntryPart, IsLinked, Position, TreePart, at}
 use Rattle.mmu_core.specs.View.{word_in}
 use Rattle.mmu_core.proofs.TreeStored.{one_position}

@@ -28,9 +28,9 @@ use Rattle.mmu_core.specs.Invariant.{Holds, HostWordsPart, IsLeafFor, KnowsPart,
 use Rattle.mmu_core.specs.Laws.{IsSound}
 use Rattle.mmu_core.specs.LeafLaws.{LeafAgrees}
 use Rattle.mmu_core.specs.Machine.{World, hand_in}
-use Rattle.mmu_core.specs.PartSteps.{IsOver, entry_index, table_page}
-use Rattle.mmu_core.specs.SlotWords.{may_write, page_of, slot_at, slots_below}
-use Rattle.mmu_core.specs.TopicSteps.{linked_page}
+use Rattle.part_steps.specs.PartSteps.{IsOver, entry_index, table_page}
+use Rattle.part_steps.specs.SlotWords.{may_write, page_of, slot_at, slots_below}
+use Rattle.part_steps.specs.TopicSteps.{linked_page}
 use Rattle.mmu_core.specs.TreePart.{EntryPart, Position, TreePart, at}
 use Rattle.mmu_core.specs.View.{word_in}
 use Rattle.mmu_core.proofs.CachedKept.{leaf_at}

@@ -23,20 +23,20 @@ use Rattle.spte_words.specs.declared.spte_kind.SpteKind.TheVariants as entry_kin
 use Rattle.spte_words.specs.Areas.{pool_index}
 use Rattle.spte_words.specs.Entries.{absent_word, kind_of}
 use Rattle.spte_words.proofs.ReadsEntries.{kind_of_absent}
-use Rattle.mmu_core.specs.declared.part_step.PartStep.{PartStep}
-use Rattle.mmu_core.specs.declared.part_step.PartStep.TheVariants as part
+use Rattle.part_steps.specs.declared.part_step.PartStep.{PartStep}
+use Rattle.part_steps.specs.declared.part_step.PartStep.TheVariants as part
 use Rattle.mmu_core.specs.AccessSteps.{touch_of}
 use Rattle.mmu_core.specs.Enabled.{mmu}
 use Rattle.mmu_core.specs.FaultAlone.{LeadsTo, LeadsToLeaf}
 use Rattle.mmu_core.specs.Invariant.{Invariant, IsLeafFor}
 use Rattle.mmu_core.specs.Laws.{IsSound}
 use Rattle.mmu_core.specs.Machine.{Legal, May, Step, World, effect, hand_in, run}
-use Rattle.mmu_core.specs.PartSteps.{MayEnter, entry_index, leaf_written, link_written, table_page}
+use Rattle.part_steps.specs.PartSteps.{MayEnter, entry_index, leaf_written, link_written, table_page}
 use Rattle.mmu_core.specs.SetSlotSteps.{set_slot_note, set_slot_part}
-use Rattle.mmu_core.specs.SlotWords.{leaf_of, page_of, slot_at}
+use Rattle.part_steps.specs.SlotWords.{leaf_of, page_of, slot_at}
 use Rattle.mmu_core.specs.Steps.{line_at, place_at}
 use Rattle.mmu_core.specs.TopicsInvariant.{TopicsInvariant}
-use Rattle.mmu_core.specs.TopicSteps.{linked_page}
+use Rattle.part_steps.specs.TopicSteps.{linked_page}
 use Rattle.mmu_core.specs.TreePart.{EntryPart, IsLiveIn, Position, TreePart, at}
 use Rattle.mmu_core.specs.View.{View, part_stepped, stepped, upd, view, word_in, words_after}
 use Rattle.mmu_core.proofs.AccessParts.{AreSmall, makes_parts, makes_setting}

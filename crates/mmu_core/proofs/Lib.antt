@@ -1,6 +1,10 @@
 pub mod WaitCauses
 pub mod MadeSteps
 pub mod EachFault
+pub mod EachLine
+pub mod ClaimSeen
+pub mod FindsOthers
+pub mod SettingCauses
 pub mod Causes
 pub mod CauseOwn
 pub mod CausePlaces
@@ -16,7 +20,6 @@ pub mod AccessKept
 pub mod SetSlotKept
 pub mod SetsKept
 pub mod OldSets
-pub mod SetWords
 pub mod SetFilled
 pub mod SetSlotNearer
 pub mod SetPublished
@@ -106,7 +109,6 @@ pub mod FaultKnown
 pub mod PartBounded
 pub mod PartFits
 pub mod KnowsKept
-pub mod EntryTopics
 pub mod FaultFalls
 pub mod FaultWaits
 pub mod Pigeonhole

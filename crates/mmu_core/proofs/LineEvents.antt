@@ -32,7 +32,7 @@ use Rattle.mmu_core.specs.AccessSteps.{access_tells, exiting, fault_over}
 use Rattle.mmu_core.specs.SetSlotSteps.{set_slot_outcome, set_slot_tells}
 use Rattle.mmu_core.proofs.Which.{events_of_line}
 use Rattle.mmu_core.specs.Steps.{beginning, event_kinds, events_of, has_line, line_at, outcome_at, place_at, tells_at}
-use Rattle.mmu_core.specs.Tasks.{answering}
+use Rattle.mmu_core.specs.Outcomes.{answering}
 
 -- Each of the events stands within a line.
 abbrev pub AllWithin : List EventKind → Type 0

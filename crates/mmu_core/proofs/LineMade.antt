@@ -21,7 +21,7 @@ use Rattle.mmu_core.specs.declared.outcome.Outcome.{Outcome}
 use Rattle.mmu_core.specs.AccessSteps.{access_caches}
 use Rattle.mmu_core.specs.Delays.{counted, delays_counted, is_delay, steps_counted}
 use Rattle.mmu_core.specs.Steps.{delays_at, caches_at, line_after, loads_at, outcome_at, records_at}
-use Rattle.mmu_core.specs.Tasks.{answers_after, place_after}
+use Rattle.mmu_core.specs.Outcomes.{answers_after, place_after}
 use Rattle.mmu_core.proofs.HandAfter.{IsSameState, loads_same}
 
 -- What is cached doesn't hang on the record of slots.

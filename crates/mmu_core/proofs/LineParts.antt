@@ -15,17 +15,17 @@ use Rattle.core_views.specs.declared.trace.Op.TheVariants.{Read, Write, Add}
 use Rattle.core_views.specs.declared.trace.Slot.{Slot}
 use Rattle.core_views.specs.Held.{Held}
 use Rattle.core_views.specs.Kinds.{code_of}
-use Rattle.mmu_core.specs.declared.outcome.Task.{Task}
-use Rattle.mmu_core.specs.declared.part_step.PartStep.{PartStep}
-use Rattle.mmu_core.specs.declared.part_step.PartStep.TheVariants as part
+use Rattle.part_steps.specs.declared.task.Task.{Task}
+use Rattle.part_steps.specs.declared.part_step.PartStep.{PartStep}
+use Rattle.part_steps.specs.declared.part_step.PartStep.TheVariants as part
 use Rattle.mmu_core.specs.AccessSteps.{access_note, access_part, task_by, touch_of}
 use Rattle.mmu_core.specs.Enabled.{Enabled}
-use Rattle.mmu_core.specs.PartSteps.{PartNeeds, part_kind}
+use Rattle.part_steps.specs.PartSteps.{PartNeeds, part_kind}
 use Rattle.mmu_core.specs.Rests.{RestsAt, RestsOn}
 use Rattle.mmu_core.specs.SetSlotSteps.{set_slot_task, set_slot_note, set_slot_part}
 use Rattle.mmu_core.specs.Steps.{line_at, place_at, task_at}
-use Rattle.mmu_core.specs.Tasks.{kind_of_task}
-use Rattle.mmu_core.specs.TopicSteps.{topics_after}
+use Rattle.part_steps.specs.Tasks.{kind_of_task}
+use Rattle.part_steps.specs.TopicSteps.{topics_after}
 
 -- the step of a part, whose needs the hand holds
 pub record IsPartKind (h : Held) (k : Kind) : Type 0 where

@@ -31,7 +31,7 @@ use Rattle.mmu_core.specs.declared.outcome.Outcome.{Outcome}
 use Rattle.mmu_core.specs.declared.outcome.Outcome.TheVariants.{Goes, Ends}
 use Rattle.mmu_core.specs.Invariant.{IsSetBy, OwnLines, UnderWay, lines_done}
 use Rattle.mmu_core.specs.Steps.{next_line}
-use Rattle.mmu_core.specs.Tasks.{answers_after, place_after}
+use Rattle.mmu_core.specs.Outcomes.{answers_after, place_after}
 
 same_id : (i j : ℕ) → nat_cmp i j ≡ Equal → i ≡ j
 same_id i j e = grind (arith, nat_tests)

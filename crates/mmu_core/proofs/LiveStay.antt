@@ -10,9 +10,9 @@ use Rattle.core_views.specs.declared.trace.Slot.{Slot as SlotOf}
 use Rattle.core_views.specs.Held.{Held}
 use Rattle.core_views.specs.Slots.{contains, has_host_page}
 use Rattle.mmu_core.specs.Invariant.{AccessHolds, CachedPart, IsLeafFor, IsLiveIn, SlotSetPart}
-use Rattle.mmu_core.specs.SetWords.{set_role}
+use Rattle.part_steps.specs.SetWords.{set_role}
 use Rattle.mmu_core.specs.SlotSetPart.{Fits}
-use Rattle.mmu_core.specs.SlotWords.{live_at, slot_at}
+use Rattle.part_steps.specs.SlotWords.{live_at, slot_at}
 
 -- Each slot that is live in one slot set is live in another one, and the same.
 abbrev pub StayLive : (ℕ → ℕ) → ℕ → (ℕ → ℕ) → ℕ → Type 0

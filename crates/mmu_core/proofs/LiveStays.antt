@@ -9,7 +9,7 @@ use Rattle.core_views.specs.declared.place.FaultPlace.TheVariants as fault
 use Rattle.core_views.specs.declared.topics.Hold.{Hold}
 use Rattle.core_views.specs.declared.topics.Topics.{Topics}
 use Rattle.core_views.specs.declared.topics.Hold.TheVariants.{Loose, Shared, Owing, Exclusive}
-use Rattle.mmu_core.specs.declared.part_step.PartStep.TheVariants as part
+use Rattle.part_steps.specs.declared.part_step.PartStep.TheVariants as part
 use Rattle.core_views.specs.declared.place.Place.TheVariants as place
 use Rattle.core_views.specs.declared.place.SlotField.{SlotField}
 use Rattle.core_views.specs.declared.place.SlotField.TheVariants.{Base, Pages, Host, Flags}
@@ -25,11 +25,11 @@ use Rattle.spte_words.specs.declared.area.Area.TheVariants as area
 use Rattle.spte_words.specs.Areas.{content_index, pool_index}
 use Rattle.spte_words.specs.Entries.{frame_in}
 use Rattle.spte_words.specs.Flags.{flags_live, flags_read_only}
-use Rattle.mmu_core.specs.declared.part_step.PartStep.{PartStep}
+use Rattle.part_steps.specs.declared.part_step.PartStep.{PartStep}
 use Rattle.mmu_core.specs.AccessSteps.{access_note, access_part, task_by, touch_of}
 use Rattle.mmu_core.specs.FaultSteps.{fault_part, map_word, share_part, tries_page}
-use Rattle.mmu_core.specs.SlotWords.{field_number, live_at, slot_at, slot_index}
-use Rattle.mmu_core.specs.Tasks.{map_of}
+use Rattle.part_steps.specs.SlotWords.{field_number, live_at, slot_at, slot_index}
+use Rattle.part_steps.specs.Tasks.{map_of}
 use Rattle.mmu_core.specs.TopicsInvariant.{TopicsInvariant}
 use Rattle.mmu_core.specs.TreePart.{IsLiveIn}
 use Rattle.mmu_core.specs.View.{View, part_stepped, stepped, words_after}

@@ -9,13 +9,13 @@ use Rattle.core_views.specs.declared.topics.Hold.TheVariants.{Loose, Shared, Owi
 use Rattle.core_views.specs.Held.{Held}
 use Rattle.core_views.specs.Sizes.{AreSizes, actors_of}
 use Rattle.spte_words.specs.declared.area.Area.TheVariants as area
-use Rattle.mmu_core.specs.declared.part_step.PartStep.{PartStep}
-use Rattle.mmu_core.specs.declared.part_step.PartStep.TheVariants as part
+use Rattle.part_steps.specs.declared.part_step.PartStep.{PartStep}
+use Rattle.part_steps.specs.declared.part_step.PartStep.TheVariants as part
 use Rattle.mmu_core.specs.LockPart.{LockPart, is_shared, readers, sharers, writers}
-use Rattle.mmu_core.specs.PartSteps.{counts, page_owned, words_filled}
+use Rattle.part_steps.specs.PartSteps.{counts, page_owned, words_filled}
 use Rattle.mmu_core.specs.Sums.{one_if, sum_below}
 use Rattle.mmu_core.specs.TopicsInvariant.{TopicsInvariant}
-use Rattle.mmu_core.specs.TopicSteps.{is_alone}
+use Rattle.part_steps.specs.TopicSteps.{is_alone}
 use Rattle.mmu_core.specs.View.{View, part_stepped, upd}
 use Rattle.mmu_core.proofs.PartStepping.{IsPart}
 use Rattle.mmu_core.proofs.PartTopics.{behind_step, fill_keeps, part_behind}

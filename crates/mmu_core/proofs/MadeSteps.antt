@@ -6,22 +6,29 @@ use Rattle.core_views.specs.Kinds.{after, answer}
 use Rattle.core_views.specs.Sizes.{actors_of}
 use Rattle.core_views.specs.declared.sizes.Sizes.{Sizes}
 use Rattle.spte_words.specs.Areas.{place as place_of}
-use Rattle.mmu_core.specs.declared.part_step.PartStep.{PartStep}
+use Rattle.part_steps.specs.declared.part_step.PartStep.{PartStep}
 use Rattle.mmu_core.specs.Causes.{StaysInSection}
 use Rattle.mmu_core.specs.Enabled.{mmu}
 use Rattle.mmu_core.specs.Laws.{IsSound}
 use Rattle.mmu_core.specs.Machine.{May, Step, World, answered, found, hand_in}
-use Rattle.mmu_core.specs.PartBounds.{PartRests}
-use Rattle.mmu_core.specs.PartSteps.{PartNeeds, own_index, part_kind, part_task}
-use Rattle.mmu_core.specs.Tasks.{map_of}
+use Rattle.part_steps.specs.PartBounds.{PartRests}
+use Rattle.part_steps.specs.PartSteps.{PartNeeds, own_index, part_kind, part_task}
+use Rattle.part_steps.specs.PartTopics.{part_topics}
+use Rattle.part_steps.specs.Tasks.{map_of}
+use Rattle.part_steps.specs.TopicSteps.{topics_after}
 use Rattle.mmu_core.proofs.CauseSteps.{IsAmid, IsExchange, IsLoad, amid, exchange_answers, load_leaves}
 use Rattle.mmu_core.proofs.PartRested.{rests_in}
+use Rattle.mmu_core.proofs.PartTopics.{is_there, part_topics_is}
 
 -- The step is this one of a part, whose needs the hand holds.
 pub record Makes (h : Held) (s : Step Kind) (step : PartStep) : Type 0 where
   pub note : ℕ
   pub is : s.kind ≡ part_kind h step note
   pub needs : PartNeeds step h
+
+-- what is held behind it
+pub made_topics : (h : Held) (s : Step Kind) (v : ℕ) (step : PartStep) → Makes h s step → topics_after h.state.sizes s.kind h.topics v ≡ part_topics step h.topics v
+made_topics h s v step M = ap (λ k. topics_after h.state.sizes k h.topics v) M.is ∙ part_topics_is h.state.sizes step (own_index h) h.topics M.note v (is_there step h M.needs)
 
 module _ (z : Sizes) (u : World Held) (s : Step Kind) (G : IsSound z u) (may : May mmu u s) where
   abbrev h : Held

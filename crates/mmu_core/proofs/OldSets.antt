@@ -7,13 +7,13 @@ use Rattle.core_views.specs.declared.topics.Topics.{Topics}
 use Rattle.core_views.specs.Held.{Held}
 use Rattle.core_views.specs.Sizes.{actors_of}
 use Rattle.spte_words.specs.declared.area.Area.TheVariants as area
-use Rattle.mmu_core.specs.declared.part_step.PartStep.{PartStep}
-use Rattle.mmu_core.specs.declared.part_step.PartStep.TheVariants as part
+use Rattle.part_steps.specs.declared.part_step.PartStep.{PartStep}
+use Rattle.part_steps.specs.declared.part_step.PartStep.TheVariants as part
 use Rattle.mmu_core.specs.HeldPart.{HoldsOld, OldSetsPart}
-use Rattle.mmu_core.specs.PartSteps.{own_index, page_owned, part_task, table_page}
+use Rattle.part_steps.specs.PartSteps.{own_index, page_owned, part_task, table_page}
 use Rattle.mmu_core.specs.SlotSetPart.{IsLiveIn}
 use Rattle.mmu_core.specs.TopicsInvariant.{TopicsInvariant}
-use Rattle.mmu_core.specs.TopicSteps.{still_leaving}
+use Rattle.part_steps.specs.TopicSteps.{still_leaving}
 use Rattle.mmu_core.specs.View.{View, part_stepped, upd, answer_in}
 use Rattle.mmu_core.proofs.Columns.{same_or, upd_other, upd_same}
 use Rattle.mmu_core.proofs.PartStepping.{IsPart, is_publish}
@@ -23,7 +23,7 @@ use Rattle.mmu_core.proofs.PartWords.{page_stays, slots_are, slots_same}
 use Rattle.mmu_core.proofs.PoolPages.{left_no_table, left_not_owned}
 use Rattle.mmu_core.proofs.OwnedBehind.{left_behind, left_is}
 use Rattle.mmu_core.specs.Steps.{idle_after}
-use Rattle.mmu_core.specs.Tasks.{kind_of_task}
+use Rattle.part_steps.specs.Tasks.{kind_of_task}
 use Rattle.mmu_core.proofs.SetsKept.{sets_kept}
 
 -- ---- The page of a slot set that is held, or leaving, keeps its words.

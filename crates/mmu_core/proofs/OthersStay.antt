@@ -13,12 +13,12 @@ use Rattle.core_views.specs.Sizes.{actors_of}
 use Rattle.spte_words.specs.declared.area.Area.TheVariants as area
 use Rattle.spte_words.specs.Areas.{content_index, pool_index}
 use Rattle.spte_words.specs.Entries.{frame_in}
-use Rattle.mmu_core.specs.declared.part_step.PartStep.{PartStep}
+use Rattle.part_steps.specs.declared.part_step.PartStep.{PartStep}
 use Rattle.mmu_core.specs.AccessSteps.{access_note, access_part, access_task, task_by, touch_of}
-use Rattle.mmu_core.specs.PartSteps.{own_index, part_task}
-use Rattle.mmu_core.specs.Tasks.{kind_of_task, map_of}
+use Rattle.part_steps.specs.PartSteps.{own_index, part_task}
+use Rattle.part_steps.specs.Tasks.{kind_of_task, map_of}
 use Rattle.mmu_core.specs.TopicsInvariant.{TopicsInvariant}
-use Rattle.mmu_core.specs.TopicSteps.{topics_after}
+use Rattle.part_steps.specs.TopicSteps.{topics_after}
 use Rattle.mmu_core.specs.View.{View, part_stepped, stepped}
 use Rattle.mmu_core.proofs.FilledKept.{others_elsewhere}
 use Rattle.mmu_core.proofs.KnowsKept.{touch_topics}

@@ -16,12 +16,12 @@ use Rattle.spte_words.specs.Areas.{pool_index}
 use Rattle.spte_words.specs.Bits.{has_bit}
 use Rattle.spte_words.specs.Entries.{frozen_word, is_leaf_at, kind_of}
 use Rattle.spte_words.proofs.ReadsEntries.{kind_of_table}
-use Rattle.mmu_core.specs.declared.outcome.Task.{Task}
-use Rattle.mmu_core.specs.declared.part_step.PartStep.{PartStep}
-use Rattle.mmu_core.specs.declared.part_step.PartStep.TheVariants as part
-use Rattle.mmu_core.specs.PartSteps.{leaf_written, link_written, own_index, page_owned, part_task, works}
-use Rattle.mmu_core.specs.Tasks.{kind_of_task}
-use Rattle.mmu_core.specs.TopicSteps.{claimed, filled_more, is_in_table, linked_page, still_owned, topics_after, topics_by, unless_linked, still_leaving}
+use Rattle.part_steps.specs.declared.task.Task.{Task}
+use Rattle.part_steps.specs.declared.part_step.PartStep.{PartStep}
+use Rattle.part_steps.specs.declared.part_step.PartStep.TheVariants as part
+use Rattle.part_steps.specs.PartSteps.{leaf_written, link_written, own_index, page_owned, part_task, works}
+use Rattle.part_steps.specs.Tasks.{kind_of_task}
+use Rattle.part_steps.specs.TopicSteps.{claimed, filled_more, is_in_table, linked_page, still_owned, topics_after, topics_by, unless_linked, still_leaving}
 use Rattle.mmu_core.specs.View.{View, answer_in, part_stepped, upd}
 use Rattle.mmu_core.proofs.Columns.{upd_same}
 use Rattle.mmu_core.proofs.SumsBelow.{column}

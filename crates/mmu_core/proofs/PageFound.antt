@@ -17,7 +17,7 @@ use Rattle.spte_words.proofs.ReadsEntries.{leaf_can_write, leaf_frame}
 use Rattle.spte_words.proofs.ReadsHost.{host_has_frame, host_is_writable}
 use Rattle.mmu_core.specs.FaultSteps.{allows_access}
 use Rattle.mmu_core.specs.Invariant.{HostWordsPart, IsLiveIn, SlotSetPart}
-use Rattle.mmu_core.specs.SlotWords.{leaf_of, may_write, page_of, slot_at, slots_below}
+use Rattle.part_steps.specs.SlotWords.{leaf_of, may_write, page_of, slot_at, slots_below}
 use Rattle.mmu_core.proofs.SlotLists.{only_one_holds, page_allowed}
 
 pub contains_bounds : (gfn : ℕ) (slot : Slot) → contains gfn slot ≡ true → (slot.base ≤ gfn) × (gfn < slot.base + slot.pages)

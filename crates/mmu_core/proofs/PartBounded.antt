@@ -12,12 +12,13 @@ use Rattle.core_views.specs.Sizes.{AreSizes, actors_of, index_of}
 use Rattle.spte_words.specs.declared.area.Area.TheVariants as area
 use Rattle.spte_words.specs.HostWords.{host_frame}
 use Rattle.spte_words.proofs.ReadsHost.{host_has_frame}
-use Rattle.mmu_core.specs.Cached.{IsAtLeafLevel}
-use Rattle.mmu_core.specs.HeldPart.{CountersPart, HeldPart, HoldsOld}
+use Rattle.part_steps.specs.PartBounds.{IsAtLeafLevel}
+use Rattle.part_steps.specs.PartBounds.{CountersPart}
+use Rattle.mmu_core.specs.HeldPart.{HeldPart, HoldsOld}
 use Rattle.mmu_core.specs.Invariant.{HostWordsPart, Invariant, IsLeafFor, OwnLines}
 use Rattle.mmu_core.specs.LockPart.{SawWriter}
-use Rattle.mmu_core.specs.PartBounds.{PartRests}
-use Rattle.mmu_core.specs.PartSteps.{table_page}
+use Rattle.part_steps.specs.PartBounds.{PartRests}
+use Rattle.part_steps.specs.PartSteps.{table_page}
 use Rattle.mmu_core.specs.TopicsInvariant.{TopicsInvariant}
 use Rattle.mmu_core.specs.TreePart.{IsLiveIn}
 use Rattle.mmu_core.specs.View.{View}

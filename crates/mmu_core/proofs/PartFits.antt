@@ -15,13 +15,13 @@ use Rattle.spte_words.specs.Entries.{table_word}
 use Rattle.spte_words.specs.HostWords.{host_allows_write, host_frame}
 use Rattle.spte_words.proofs.Indices.{pool_within}
 use Rattle.spte_words.proofs.ReadsEntries.{leaf_fits, table_fits}
-use Rattle.mmu_core.specs.declared.part_step.PartStep.{PartStep}
-use Rattle.mmu_core.specs.declared.part_step.PartStep.TheVariants as part
-use Rattle.mmu_core.specs.PartBounds.{PartRests}
-use Rattle.mmu_core.specs.PartSteps.{HasToFill, IsWithin, LookedUp, OwnsTable, PartNeeds, all_but, leaf_written, link_written, own_index, page_owned, part_kind, part_task, set_held, table_page, word_looked, words_filled, works, MayPublish, MayGiveOld, page_left}
-use Rattle.mmu_core.specs.SlotWords.{field_number, leaf_of, may_write, slot_index}
-use Rattle.mmu_core.specs.Tasks.{map_of}
-use Rattle.mmu_core.specs.TopicSteps.{tried_bit}
+use Rattle.part_steps.specs.declared.part_step.PartStep.{PartStep}
+use Rattle.part_steps.specs.declared.part_step.PartStep.TheVariants as part
+use Rattle.part_steps.specs.PartBounds.{PartRests}
+use Rattle.part_steps.specs.PartSteps.{HasToFill, IsWithin, LookedUp, OwnsTable, PartNeeds, all_but, leaf_written, link_written, own_index, page_owned, part_kind, part_task, set_held, table_page, word_looked, words_filled, works, MayPublish, MayGiveOld, page_left}
+use Rattle.part_steps.specs.SlotWords.{field_number, leaf_of, may_write, slot_index}
+use Rattle.part_steps.specs.Tasks.{map_of}
+use Rattle.part_steps.specs.TopicSteps.{tried_bit}
 
 pub is_number : (f : SlotField) → field_number f ≤ 3
 is_number field.Base = omega arith

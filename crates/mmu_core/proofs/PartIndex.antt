@@ -5,9 +5,9 @@ use Rattle.core_views.specs.declared.kind.StepKind.TheVariants as kind
 use Rattle.core_views.specs.declared.topics.Topics.{Topics}
 use Rattle.spte_words.specs.declared.area.Area.TheVariants as area
 use Rattle.spte_words.specs.Areas.{pool_index}
-use Rattle.mmu_core.specs.declared.part_step.PartStep.{PartStep}
-use Rattle.mmu_core.specs.declared.part_step.PartStep.TheVariants as part
-use Rattle.mmu_core.specs.PartSteps.{part_task, page_owned, words_filled, works}
+use Rattle.part_steps.specs.declared.part_step.PartStep.{PartStep}
+use Rattle.part_steps.specs.declared.part_step.PartStep.TheVariants as part
+use Rattle.part_steps.specs.PartSteps.{part_task, page_owned, words_filled, works}
 
 -- the index doesn't hang on the note
 pub index_same : (step : PartStep) (own_place : ℕ) (t : Topics) (note : ℕ) → ((part_task step own_place t note).index ≡ (part_task step own_place t 0).index) × ((part_task step own_place t note).area ≡ (part_task step own_place t 0).area)

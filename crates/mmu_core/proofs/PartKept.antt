@@ -8,10 +8,10 @@ use Rattle.core_views.specs.declared.topics.Topics.{Topics}
 use Rattle.core_views.specs.Held.{Held}
 use Rattle.spte_words.specs.declared.area.Area.{Area}
 use Rattle.spte_words.specs.declared.area.Area.TheVariants as area
-use Rattle.mmu_core.specs.declared.outcome.Task.{Task}
-use Rattle.mmu_core.specs.declared.part_step.PartStep.{PartStep}
+use Rattle.part_steps.specs.declared.task.Task.{Task}
+use Rattle.part_steps.specs.declared.part_step.PartStep.{PartStep}
 use Rattle.mmu_core.specs.Steps.{idle_after}
-use Rattle.mmu_core.specs.Tasks.{kind_of_task}
+use Rattle.part_steps.specs.Tasks.{kind_of_task}
 use Rattle.mmu_core.specs.TopicsInvariant.{TopicsInvariant}
 use Rattle.mmu_core.specs.View.{View, answer_in, part_stepped, upd}
 use Rattle.mmu_core.proofs.CachedKept.{flushed_kept}
@@ -20,7 +20,7 @@ use Rattle.std.specs.Prelude.{false}
 use Rattle.core_views.specs.declared.trace.Command.{Command}
 use Rattle.core_views.specs.SlotSets.{MemorySlots}
 use Rattle.mmu_core.specs.Invariant.{CachedPart, Holds, Invariant, InvariantOf, IsLeafFor, OwnLines, RecordPart, UnderWay}
-use Rattle.mmu_core.specs.PartSteps.{has_line, own_index, part_task}
+use Rattle.part_steps.specs.PartSteps.{has_line, own_index, part_task}
 use Rattle.mmu_core.proofs.LiveStay.{StayLive, set_stays, translations_stay}
 use Rattle.mmu_core.proofs.LiveStays.{SetStays, published_stays}
 use Rattle.mmu_core.proofs.OthersStay.{leaves_none, owned_stays}

@@ -5,12 +5,13 @@ use Rattle.std.proofs.Math.Logic.{∥∥₁_elim}
 use Rattle.core_views.specs.declared.sizes.Sizes.{Sizes}
 use Rattle.core_views.specs.Held.{Held}
 use Rattle.core_views.specs.Sizes.{actors_of}
-use Rattle.mmu_core.specs.declared.part_step.PartStep.{PartStep}
+use Rattle.part_steps.specs.declared.part_step.PartStep.{PartStep}
 use Rattle.mmu_core.specs.Enabled.{Enabled, IsPartStep, mmu}
 use Rattle.mmu_core.specs.Laws.{IsSound}
 use Rattle.mmu_core.specs.Machine.{World, hand_in}
-use Rattle.mmu_core.specs.PartRests.{MayMake, PartRests}
-use Rattle.mmu_core.specs.PartSteps.{PartNeeds, part_kind}
+use Rattle.mmu_core.specs.MayMake.{MayMake}
+use Rattle.part_steps.specs.PartBounds.{PartRests}
+use Rattle.part_steps.specs.PartSteps.{PartNeeds, part_kind}
 use Rattle.mmu_core.specs.Steps.{has_line}
 use Rattle.mmu_core.specs.View.{view}
 use Rattle.mmu_core.specs.Worlds.{HandReached}

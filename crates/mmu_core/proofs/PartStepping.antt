@@ -7,9 +7,9 @@ use Rattle.core_views.specs.declared.topics.Topics.{Topics}
 use Rattle.core_views.specs.declared.trace.Slot.{Slot as SlotOf}
 use Rattle.spte_words.specs.declared.area.Area.{Area}
 use Rattle.spte_words.specs.declared.area.Area.TheVariants as area
-use Rattle.mmu_core.specs.declared.part_step.PartStep.TheVariants as part
-use Rattle.mmu_core.specs.declared.part_step.PartStep.{PartStep}
-use Rattle.mmu_core.specs.PartSteps.{IsWithin, PartNeeds, own_index, page_owned, has_line}
+use Rattle.part_steps.specs.declared.part_step.PartStep.TheVariants as part
+use Rattle.part_steps.specs.declared.part_step.PartStep.{PartStep}
+use Rattle.part_steps.specs.PartSteps.{IsWithin, PartNeeds, own_index, page_owned, has_line}
 use Rattle.mmu_core.specs.SlotSetPart.{IsLiveIn}
 use Rattle.mmu_core.specs.View.{View}
 

@@ -12,15 +12,15 @@ use Rattle.spte_words.specs.declared.area.Area.{Area}
 use Rattle.spte_words.specs.declared.area.Area.TheVariants as area
 use Rattle.spte_words.specs.Areas.{number_of, place, pool_index, words_of_bits}
 use Rattle.spte_words.proofs.Places.{next_place, place_at}
-use Rattle.mmu_core.specs.declared.outcome.Task.{Task}
+use Rattle.part_steps.specs.declared.task.Task.{Task}
 use Rattle.mmu_core.specs.Cached.{flushed}
-use Rattle.mmu_core.specs.declared.part_step.PartStep.{PartStep}
-use Rattle.mmu_core.specs.declared.part_step.PartStep.TheVariants as part
-use Rattle.mmu_core.specs.PartSteps.{PartNeeds, entry_index, entry_task, fill_task, leaf_written, link_written, page_owned, part_task, table_page, words_filled, works}
-use Rattle.mmu_core.specs.PartTopics.{exchanged, part_topics}
+use Rattle.part_steps.specs.declared.part_step.PartStep.{PartStep}
+use Rattle.part_steps.specs.declared.part_step.PartStep.TheVariants as part
+use Rattle.part_steps.specs.PartSteps.{PartNeeds, entry_index, entry_task, fill_task, leaf_written, link_written, page_owned, part_task, table_page, words_filled, works}
+use Rattle.part_steps.specs.PartTopics.{exchanged, part_topics}
 use Rattle.mmu_core.specs.Steps.{idle_after}
-use Rattle.mmu_core.specs.Tasks.{kind_of_task, map_of}
-use Rattle.mmu_core.specs.TopicSteps.{at_root, at_set, at_word, controlled, count_checked, host_begins, in_section, index_in_page, is_in_table, is_loose, kept_search, map_begins, map_ends, may_search, may_walk, range_checked, seq_checked, start_checked, still_owned, swapped, topics_after, walked}
+use Rattle.part_steps.specs.Tasks.{kind_of_task, map_of}
+use Rattle.part_steps.specs.TopicSteps.{at_root, at_set, at_word, controlled, count_checked, host_begins, in_section, index_in_page, is_in_table, is_loose, kept_search, map_begins, map_ends, may_search, may_walk, range_checked, seq_checked, start_checked, still_owned, swapped, topics_after, walked}
 use Rattle.mmu_core.specs.View.{View, answer_in, part_stepped, upd, words_after}
 use Rattle.mmu_core.proofs.PartStepping.{IsPart}
 

@@ -11,9 +11,9 @@ use Rattle.spte_words.specs.declared.area.Area.{Area}
 use Rattle.spte_words.specs.declared.area.Area.TheVariants as area
 use Rattle.spte_words.specs.Areas.{number_of, pool_index}
 use Rattle.spte_words.proofs.Indices.{same_pool_word}
-use Rattle.mmu_core.specs.declared.part_step.PartStep.{PartStep}
-use Rattle.mmu_core.specs.declared.part_step.PartStep.TheVariants as part
-use Rattle.mmu_core.specs.PartSteps.{HasToFill, entry_index, entry_task, leaf_written, link_written, own_index, page_owned, part_task, table_page, words_filled, page_left}
+use Rattle.part_steps.specs.declared.part_step.PartStep.{PartStep}
+use Rattle.part_steps.specs.declared.part_step.PartStep.TheVariants as part
+use Rattle.part_steps.specs.PartSteps.{HasToFill, entry_index, entry_task, leaf_written, link_written, own_index, page_owned, part_task, table_page, words_filled, page_left}
 use Rattle.mmu_core.specs.TopicsInvariant.{TopicsInvariant}
 use Rattle.mmu_core.specs.View.{View, answer_in, part_stepped, put, upd, words_after}
 use Rattle.mmu_core.proofs.Columns.{upd_other, upd_same}
@@ -75,7 +75,7 @@ words_stay (part.Leaf gfn) own t note words b A = put_elsewhere words area.Pool 
 words_stay (part.Fill value) own t note words b A = fill_elsewhere_by (words_filled t.owned == 512) (page_owned t.owned) (words_filled t.owned) value note words b A
 words_stay _ own t note words b A = refl
 
--- Whole areas stay: those of the machine's control but the lock and the published slot set, host words, linear entries, content, the frame map and the log.
+-- Whole areas stay: those of the machine's control but the lock and the published slot set, host words, content, the frame map and the log.
 pub areas_stay : (v : View) (a : ℕ) (step : PartStep) (note : ℕ) (b : Area) → stays b ≡ true → (part_stepped a step note v).words b ≡ v.words b
 areas_stay v a step note b is = words_stay step (own_index (v.hand a)) (v.hand a).topics note v.words b (apart b is)
 

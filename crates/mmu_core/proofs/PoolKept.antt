@@ -10,15 +10,15 @@ use Rattle.core_views.specs.Held.{Held}
 use Rattle.core_views.specs.Sizes.{actors_of}
 use Rattle.spte_words.specs.declared.area.Area.TheVariants as area
 use Rattle.spte_words.specs.Bits.{has_bit}
-use Rattle.mmu_core.specs.declared.outcome.Task.{Task}
-use Rattle.mmu_core.specs.declared.part_step.PartStep.{PartStep}
-use Rattle.mmu_core.specs.declared.part_step.PartStep.TheVariants as part
-use Rattle.mmu_core.specs.PartSteps.{OwnsTable, own_index, page_owned, part_task, words_filled, page_left, OwnsSet}
+use Rattle.part_steps.specs.declared.task.Task.{Task}
+use Rattle.part_steps.specs.declared.part_step.PartStep.{PartStep}
+use Rattle.part_steps.specs.declared.part_step.PartStep.TheVariants as part
+use Rattle.part_steps.specs.PartSteps.{OwnsTable, own_index, page_owned, part_task, words_filled, page_left, OwnsSet}
 use Rattle.mmu_core.specs.PoolPart.{PoolPart, is_free, is_owned, is_leaving}
 use Rattle.mmu_core.specs.Steps.{idle_after}
 use Rattle.mmu_core.specs.Sums.{one_if}
-use Rattle.mmu_core.specs.Tasks.{kind_of_task}
-use Rattle.mmu_core.specs.TopicSteps.{filled_more, is_won, tried_bit, still_leaving}
+use Rattle.part_steps.specs.Tasks.{kind_of_task}
+use Rattle.part_steps.specs.TopicSteps.{filled_more, is_won, tried_bit, still_leaving}
 use Rattle.mmu_core.specs.TopicsInvariant.{TopicsInvariant}
 use Rattle.mmu_core.specs.TreePart.{Position}
 use Rattle.mmu_core.specs.View.{View, answer_in, part_stepped, upd}

@@ -35,21 +35,21 @@ use Rattle.spte_words.specs.Entries.{frame_in}
 use Rattle.spte_words.specs.HostWords.{host_allows_write, host_frame}
 use Rattle.spte_words.proofs.Indices.{content_within}
 use Rattle.spte_words.proofs.ReadsEntries.{leaf_frame}
-use Rattle.mmu_core.specs.declared.part_step.PartStep.{PartStep}
-use Rattle.mmu_core.specs.declared.part_step.PartStep.TheVariants as part
+use Rattle.part_steps.specs.declared.part_step.PartStep.{PartStep}
+use Rattle.part_steps.specs.declared.part_step.PartStep.TheVariants as part
 use Rattle.mmu_core.specs.AccessSteps.{access_note, access_part, task_by, touch_of}
 use Rattle.mmu_core.specs.KnowsPart.{AccessKnows}
-use Rattle.mmu_core.specs.PartBounds.{PartRests}
-use Rattle.mmu_core.specs.PartSteps.{FoundSlot, GoesOnToWord, HasToFill, IsFresh, IsVcpu, LookedUp, MayEnter, OwnsTable, PartNeeds, next_watched, own_index, OwnsSet, MayPublish}
+use Rattle.part_steps.specs.PartBounds.{PartRests}
+use Rattle.part_steps.specs.PartSteps.{FoundSlot, GoesOnToWord, HasToFill, IsFresh, IsVcpu, LookedUp, MayEnter, OwnsTable, PartNeeds, next_watched, own_index, OwnsSet, MayPublish}
 use Rattle.mmu_core.specs.Rests.{AcceptsAt, RecordAccepts, Rests, RestsAt, RestsOn}
 use Rattle.mmu_core.specs.SetSlotSteps.{set_slot_note, set_slot_part}
-use Rattle.mmu_core.specs.SlotWords.{may_write, page_of}
+use Rattle.part_steps.specs.SlotWords.{may_write, page_of}
 use Rattle.mmu_core.specs.Steps.{line_at, place_at, task_at, task_of}
-use Rattle.mmu_core.specs.Tasks.{map_of}
+use Rattle.part_steps.specs.Tasks.{map_of}
 use Rattle.mmu_core.specs.TopicsInvariant.{TopicsInvariant}
 use Rattle.mmu_core.specs.View.{View}
 use Rattle.mmu_core.proofs.Columns.{same_or}
-use Rattle.mmu_core.proofs.EntryTopics.{looked_at}
+use Rattle.part_steps.proofs.EntryTopics.{looked_at}
 use Rattle.mmu_core.proofs.KnowsKept.{access_needs, access_vcpu, step_knows, NeedsAt, needs_at}
 use Rattle.mmu_core.proofs.PartBounded.{part_rests_at}
 pub use Rattle.mmu_core.proofs.PartBounded.{host_at}

@@ -6,12 +6,12 @@ use Rattle.core_views.specs.declared.topics.Hold.TheVariants.{Shared, Owing, Exc
 use Rattle.core_views.specs.declared.topics.Topics.{Topics}
 use Rattle.core_views.specs.Held.{Held}
 use Rattle.core_views.specs.Sizes.{actors_of}
-use Rattle.mmu_core.specs.declared.part_step.PartStep.{PartStep}
-use Rattle.mmu_core.specs.declared.part_step.PartStep.TheVariants as part
+use Rattle.part_steps.specs.declared.part_step.PartStep.{PartStep}
+use Rattle.part_steps.specs.declared.part_step.PartStep.TheVariants as part
 use Rattle.mmu_core.specs.LockPart.{SawWriter}
-use Rattle.mmu_core.specs.PartTopics.{part_topics}
+use Rattle.part_steps.specs.PartTopics.{part_topics}
 use Rattle.mmu_core.specs.TopicsInvariant.{TopicsInvariant}
-use Rattle.mmu_core.specs.TopicSteps.{has_writer}
+use Rattle.part_steps.specs.TopicSteps.{has_writer}
 use Rattle.mmu_core.specs.View.{View, part_stepped}
 use Rattle.mmu_core.proofs.Columns.{at_upd}
 use Rattle.mmu_core.proofs.PartStepping.{IsPart}

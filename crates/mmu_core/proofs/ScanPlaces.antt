@@ -41,20 +41,21 @@ use Rattle.spte_words.specs.declared.spte_kind.SpteKind.TheVariants as entry_kin
 use Rattle.spte_words.specs.Areas.{place as place_of}
 use Rattle.spte_words.specs.Entries.{kind_of}
 use Rattle.spte_words.specs.HostWords.{host_allows_write}
-use Rattle.mmu_core.specs.declared.outcome.Task.{Task}
+use Rattle.part_steps.specs.declared.task.Task.{Task}
 use Rattle.mmu_core.specs.AccessSteps.{access_outcome, access_task, behind_fault, pause_next, walk_next as stay_next}
 use Rattle.mmu_core.specs.Cached.{first_usable}
 use Rattle.mmu_core.specs.Enabled.{IsNext, mmu}
 use Rattle.mmu_core.specs.FaultSteps.{allows_access, check_next, fault_next, find_next, found_next, is_last_word, share_next, snapshot_taken, walk_next}
 use Rattle.mmu_core.specs.Laws.{IsSound}
 use Rattle.mmu_core.specs.Machine.{May, Step, World, answered, effect, hand_in}
-use Rattle.mmu_core.specs.PartSteps.{words_filled, next_watched, own_index}
+use Rattle.part_steps.specs.PartSteps.{words_filled, next_watched, own_index}
 use Rattle.mmu_core.specs.Rests.{RestsAt}
 use Rattle.mmu_core.specs.Scans.{LoadsMap}
 use Rattle.mmu_core.specs.SetSlotSteps.{set_slot_first, set_slot_outcome, looked_at, set_slot_task}
 use Rattle.mmu_core.specs.Steps.{first_place, has_line, line_at, next, outcome_at, place_at, standing, task_at, task_of}
-use Rattle.mmu_core.specs.Tasks.{map_of, place_after}
-use Rattle.mmu_core.specs.TopicSteps.{has_writer, searched, in_section}
+use Rattle.part_steps.specs.Tasks.{map_of}
+use Rattle.mmu_core.specs.Outcomes.{place_after}
+use Rattle.part_steps.specs.TopicSteps.{has_writer, searched, in_section}
 use Rattle.mmu_core.proofs.LineRuns.{own_hand}
 use Rattle.mmu_core.proofs.Which.{is_next, next_of_line, next_of_part}
 use Rattle.core_views.specs.declared.answer.Refusal.{Refusal}

@@ -14,17 +14,17 @@ use Rattle.core_views.specs.Kinds.{code_of, kind_named}
 use Rattle.core_views.specs.Sizes.{actors_of}
 use Rattle.spte_words.specs.declared.area.Area.TheVariants as area
 use Rattle.spte_words.specs.Areas.{place, words_of_bits}
-use Rattle.mmu_core.specs.declared.part_step.PartStep.{PartStep}
-use Rattle.mmu_core.specs.declared.part_step.PartStep.TheVariants as part
+use Rattle.part_steps.specs.declared.part_step.PartStep.{PartStep}
+use Rattle.part_steps.specs.declared.part_step.PartStep.TheVariants as part
 use Rattle.mmu_core.specs.Enabled.{Enabled, mmu}
 use Rattle.mmu_core.specs.Laws.{IsSound}
 use Rattle.mmu_core.specs.Machine.{Legal, May, Step, World, answered, effect, hand_in, run}
-use Rattle.mmu_core.specs.PartSteps.{PartNeeds, part_kind}
-use Rattle.mmu_core.specs.PartTopics.{part_topics}
+use Rattle.part_steps.specs.PartSteps.{PartNeeds, part_kind}
+use Rattle.part_steps.specs.PartTopics.{part_topics}
 use Rattle.mmu_core.specs.Scans.{ClaimsScanOnce, ClaimsSeeEachWord, EndsWithScan, FindsNoneFree, LoadsMap, SawNoneFree}
 use Rattle.mmu_core.specs.Steps.{has_line, next, next_by, nobody}
-use Rattle.mmu_core.specs.Tasks.{map_of}
-use Rattle.mmu_core.specs.TopicSteps.{controlled, is_won, topics_after, topics_by, tried}
+use Rattle.part_steps.specs.Tasks.{map_of}
+use Rattle.part_steps.specs.TopicSteps.{controlled, is_won, topics_after, topics_by, tried}
 use Rattle.mmu_core.proofs.Columns.{same_or}
 use Rattle.mmu_core.proofs.Extend.{run-append}
 use Rattle.mmu_core.proofs.LineRuns.{own_hand}

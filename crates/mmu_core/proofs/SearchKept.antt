@@ -13,14 +13,14 @@ use Rattle.core_views.specs.Held.{Held}
 use Rattle.core_views.specs.Sizes.{actors_of}
 use Rattle.spte_words.specs.declared.area.Area.TheVariants as area
 use Rattle.spte_words.specs.Flags.{flags_live, flags_logged, flags_read_only}
-use Rattle.mmu_core.specs.declared.part_step.PartStep.{PartStep}
-use Rattle.mmu_core.specs.declared.part_step.PartStep.TheVariants as part
-use Rattle.mmu_core.specs.PartSteps.{set_held}
-use Rattle.mmu_core.specs.PartTopics.{sequenced}
+use Rattle.part_steps.specs.declared.part_step.PartStep.{PartStep}
+use Rattle.part_steps.specs.declared.part_step.PartStep.TheVariants as part
+use Rattle.part_steps.specs.PartSteps.{set_held}
+use Rattle.part_steps.specs.PartTopics.{sequenced}
 use Rattle.mmu_core.specs.SearchPart.{HasFlags, HasLoaded, IsOnList, LookPart, SearchPart}
-use Rattle.mmu_core.specs.SlotWords.{slot_at, slot_index}
+use Rattle.part_steps.specs.SlotWords.{slot_at, slot_index}
 use Rattle.mmu_core.specs.TopicsInvariant.{TopicsInvariant}
-use Rattle.mmu_core.specs.TopicSteps.{at_set, begun, is_loose, is_section, kept_search, may_search, searched, searched_at}
+use Rattle.part_steps.specs.TopicSteps.{at_set, begun, is_loose, is_section, kept_search, may_search, searched, searched_at}
 use Rattle.mmu_core.specs.TreePart.{IsLiveIn}
 use Rattle.mmu_core.specs.View.{View, part_stepped, upd}
 use Rattle.mmu_core.proofs.SlotFields.{same_slot}

@@ -23,19 +23,19 @@ use Rattle.spte_words.specs.declared.area.Area.TheVariants as area
 use Rattle.spte_words.specs.Areas.{pool_index}
 use Rattle.spte_words.specs.Flags.{flags_live, flags_read_only}
 use Rattle.spte_words.proofs.ReadsFlags.{flags_are_live, flags_are_read_only}
-use Rattle.mmu_core.specs.declared.part_step.PartStep.TheVariants as part
+use Rattle.part_steps.specs.declared.part_step.PartStep.TheVariants as part
 use Rattle.mmu_core.specs.FaultSteps.{claim_part, map_word, tries_page}
 use Rattle.mmu_core.specs.Invariant.{Invariant, IsLiveIn, RecordPart}
-use Rattle.mmu_core.specs.PartSteps.{OwnsSet, page_owned}
+use Rattle.part_steps.specs.PartSteps.{OwnsSet, page_owned}
 use Rattle.mmu_core.specs.SetSlotSteps.{set_slot_part}
-use Rattle.mmu_core.specs.SetWords.{IsFilledWith, set_word, word_of_slot}
-use Rattle.mmu_core.specs.SlotWords.{field_number, live_at, slot_at, slot_index, slots_below}
+use Rattle.part_steps.specs.SetWords.{IsFilledWith, set_word, word_of_slot}
+use Rattle.part_steps.specs.SlotWords.{field_number, live_at, slot_at, slot_index, slots_below}
 use Rattle.mmu_core.specs.View.{View}
 use Rattle.mmu_core.proofs.Accepted.{may_be_set, record_of}
 use Rattle.mmu_core.proofs.Columns.{same_or}
 use Rattle.mmu_core.proofs.KnowsKept.{step_knows}
 use Rattle.mmu_core.proofs.PartStepping.{Replaces, is_publish, replaces_none}
-use Rattle.mmu_core.proofs.SetWords.{set_at}
+use Rattle.part_steps.proofs.SetWords.{set_at}
 use Rattle.mmu_core.proofs.SlotFields.{is_number, same_slot}
 use Rattle.mmu_core.proofs.SlotLists.{one_more_live}
 use Rattle.mmu_core.proofs.Stepping.{IsStep}

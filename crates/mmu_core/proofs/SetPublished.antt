@@ -5,9 +5,9 @@ use Rattle.core_views.specs.declared.sizes.Sizes.{Sizes}
 use Rattle.core_views.specs.declared.trace.Slot.{Slot}
 use Rattle.core_views.specs.Slots.{contains, has_host_page}
 use Rattle.mmu_core.specs.Invariant.{SlotSetPart}
-use Rattle.mmu_core.specs.SetWords.{set_role}
+use Rattle.part_steps.specs.SetWords.{set_role}
 use Rattle.mmu_core.specs.SlotSetPart.{Fits}
-use Rattle.mmu_core.specs.SlotWords.{live_at, slot_at}
+use Rattle.part_steps.specs.SlotWords.{live_at, slot_at}
 use Rattle.mmu_core.proofs.Accepted.{MayBeSet}
 use Rattle.mmu_core.proofs.Columns.{same_or}
 

@@ -17,7 +17,7 @@ use Rattle.spte_words.specs.declared.area.Area.{Area}
 use Rattle.spte_words.specs.declared.area.Area.TheVariants as area
 use Rattle.spte_words.specs.Areas.{words_of_bits}
 use Rattle.mmu_core.specs.declared.outcome.Outcome.TheVariants.{Goes, Ends}
-use Rattle.mmu_core.specs.declared.part_step.PartStep.TheVariants as part
+use Rattle.part_steps.specs.declared.part_step.PartStep.TheVariants as part
 use Rattle.mmu_core.specs.AloneKnows.{SetSlotAlone}
 use Rattle.mmu_core.specs.Enabled.{mmu}
 use Rattle.mmu_core.specs.FaultAlone.{NoneFreeBefore}
@@ -25,11 +25,11 @@ use Rattle.mmu_core.specs.FaultSteps.{at_map_word, claim_part, map_word, tries_p
 use Rattle.mmu_core.specs.Laws.{IsSound}
 use Rattle.mmu_core.specs.Machine.{World, hand_in}
 use Rattle.mmu_core.specs.OthersRest.{OthersRest}
-use Rattle.mmu_core.specs.PartSteps.{HasToFill, PartNeeds, next_watched, own_index, part_task, words_filled}
-use Rattle.mmu_core.specs.PartTopics.{part_topics}
+use Rattle.part_steps.specs.PartSteps.{HasToFill, PartNeeds, next_watched, own_index, part_task, words_filled}
+use Rattle.part_steps.specs.PartTopics.{part_topics}
 use Rattle.mmu_core.specs.SetSlotKnows.{SetSlotKnows}
 use Rattle.mmu_core.specs.SetSlotSteps.{claim_outcome, looked_at, set_slot_note, set_slot_part, set_slot_task}
-use Rattle.mmu_core.specs.TopicSteps.{filled_more, in_section, is_won, tried_bit}
+use Rattle.part_steps.specs.TopicSteps.{filled_more, in_section, is_won, tried_bit}
 use Rattle.mmu_core.specs.View.{answer_in, word_in, words_after}
 use Rattle.mmu_core.proofs.AloneLaws.{lock_free, outside_word}
 use Rattle.mmu_core.proofs.FaultAlone.{before_word, claim_goes, past_word, seen_stands, tries_seen}

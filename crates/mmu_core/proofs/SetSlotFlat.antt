@@ -25,11 +25,12 @@ use Rattle.mmu_core.specs.declared.outcome.Outcome.TheVariants.{Goes as GoesTo, 
 use Rattle.mmu_core.specs.AccessSteps.{exiting}
 use Rattle.mmu_core.specs.FaultSteps.{at_map_word, tries_page}
 use Rattle.mmu_core.specs.Invariant.{Invariant}
-use Rattle.mmu_core.specs.PartSteps.{next_watched, own_index, page_owned, words_filled}
+use Rattle.part_steps.specs.PartSteps.{next_watched, own_index, page_owned, words_filled}
 use Rattle.mmu_core.specs.SetSlotSteps.{claim_outcome, looked_at, set_slot_note, set_slot_outcome, set_slot_part, set_slot_task}
-use Rattle.mmu_core.specs.Tasks.{answering, kind_of_task, place_after}
+use Rattle.mmu_core.specs.Outcomes.{answering, place_after}
+use Rattle.part_steps.specs.Tasks.{kind_of_task}
 use Rattle.mmu_core.specs.TopicsInvariant.{TopicsInvariant}
-use Rattle.mmu_core.specs.TopicSteps.{in_section, is_won, topics_after}
+use Rattle.part_steps.specs.TopicSteps.{in_section, is_won, topics_after}
 use Rattle.mmu_core.specs.View.{View, answer_in, words_after}
 use Rattle.mmu_core.proofs.Accepted.{MayBeSet, may_be_set, record_of, refused_alike}
 use Rattle.mmu_core.proofs.FlatSteps.{Goes, Leaves, Ready, StepGoes, UnderAt, part_leaves, refines_stay}

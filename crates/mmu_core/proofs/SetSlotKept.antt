@@ -28,17 +28,18 @@ use Rattle.core_views.proofs.Unlogged.{unlogged_behind}
 use Rattle.spte_words.specs.declared.area.Area.{Area}
 use Rattle.spte_words.specs.declared.area.Area.TheVariants as area
 use Rattle.mmu_core.specs.declared.outcome.Outcome.{Outcome}
-use Rattle.mmu_core.specs.declared.part_step.PartStep.{PartStep}
+use Rattle.part_steps.specs.declared.part_step.PartStep.{PartStep}
 use Rattle.mmu_core.specs.Cached.{flushed}
 use Rattle.mmu_core.specs.Invariant.{CachedPart, Holds, Invariant, InvariantOf, IsLeafFor, OwnLines, RecordPart, UnderWay, lines_done, IsSetBy}
 use Rattle.mmu_core.specs.KnowsPart.{may_leave}
-use Rattle.mmu_core.specs.PartSteps.{own_index, page_owned, next_watched, OwnsSet}
+use Rattle.part_steps.specs.PartSteps.{own_index, page_owned, next_watched, OwnsSet}
 use Rattle.mmu_core.specs.SetSlotSteps.{looked_at, set_slot_note, set_slot_outcome, set_slot_part, set_slot_records, set_slot_task}
-use Rattle.mmu_core.specs.SetWords.{set_role, set_word}
+use Rattle.part_steps.specs.SetWords.{set_role, set_word}
 use Rattle.mmu_core.specs.Steps.{next_line, state_at}
-use Rattle.mmu_core.specs.Tasks.{answers_after, kind_of_task, place_after}
+use Rattle.mmu_core.specs.Outcomes.{answers_after, place_after}
+use Rattle.part_steps.specs.Tasks.{kind_of_task}
 use Rattle.mmu_core.specs.TopicsInvariant.{TopicsInvariant}
-use Rattle.mmu_core.specs.TopicSteps.{in_section}
+use Rattle.part_steps.specs.TopicSteps.{in_section}
 use Rattle.mmu_core.specs.View.{View, answer_in, hand_after, stepped, upd}
 use Rattle.mmu_core.proofs.Accepted.{MayBeSet, may_be_set, record_of, setting_is_managers}
 use Rattle.mmu_core.proofs.CachedKept.{flushed_kept}

@@ -19,16 +19,16 @@ use Rattle.core_views.specs.Held.{Held}
 use Rattle.core_views.specs.Refusals.{after_set}
 use Rattle.core_views.specs.Sizes.{actors_of}
 use Rattle.spte_words.specs.Areas.{words_of_bits}
-use Rattle.mmu_core.specs.declared.part_step.PartStep.TheVariants as part
+use Rattle.part_steps.specs.declared.part_step.PartStep.TheVariants as part
 use Rattle.mmu_core.specs.FaultLaws.{CanAnswer}
 use Rattle.mmu_core.specs.FaultSteps.{at_map_word, map_word, tries_page}
-use Rattle.mmu_core.specs.PartBounds.{PartRests}
-use Rattle.mmu_core.specs.PartSteps.{HasToFill, IsAtRest, OwnsSet, PartNeeds, has_line, next_watched, own_index, words_filled}
-use Rattle.mmu_core.specs.PartTopics.{part_topics, sequenced}
+use Rattle.part_steps.specs.PartBounds.{PartRests}
+use Rattle.part_steps.specs.PartSteps.{HasToFill, IsAtRest, OwnsSet, PartNeeds, has_line, next_watched, own_index, words_filled}
+use Rattle.part_steps.specs.PartTopics.{part_topics, sequenced}
 use Rattle.mmu_core.specs.SetSlotKnows.{HasPublished, HoldsLock, SetSlotKnows}
 use Rattle.mmu_core.specs.SetSlotSteps.{claim_outcome, looked_at, set_slot_outcome, set_slot_part}
-use Rattle.mmu_core.specs.SetWords.{set_value}
-use Rattle.mmu_core.specs.TopicSteps.{count_checked, filled_more, in_section, is_loose, is_outside, is_section, is_won, kept_search, kept_walk, let_go, unchecked}
+use Rattle.part_steps.specs.SetWords.{set_value}
+use Rattle.part_steps.specs.TopicSteps.{count_checked, filled_more, in_section, is_loose, is_outside, is_section, is_won, kept_search, kept_walk, let_go, unchecked}
 use Rattle.mmu_core.proofs.FaultNeeds.{claim_needs}
 use Rattle.mmu_core.proofs.HandWith.{hand_with}
 use Rattle.core_views.specs.declared.answer.Answer.TheVariants.{Starved}

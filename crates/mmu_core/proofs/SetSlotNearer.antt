@@ -14,15 +14,15 @@ use Rattle.core_views.specs.Sizes.{actors_of}
 use Rattle.spte_words.specs.Areas.{words_of_bits}
 use Rattle.mmu_core.specs.declared.outcome.Outcome.{Outcome}
 use Rattle.mmu_core.specs.declared.outcome.Outcome.TheVariants.{Goes, Ends}
-use Rattle.mmu_core.specs.declared.part_step.PartStep.TheVariants as part
+use Rattle.part_steps.specs.declared.part_step.PartStep.TheVariants as part
 use Rattle.mmu_core.specs.Bounds.{set_slot_left, steps_left}
 use Rattle.mmu_core.specs.FaultSteps.{at_map_word, map_word, tries_page}
-use Rattle.mmu_core.specs.PartBounds.{PartRests}
-use Rattle.mmu_core.specs.PartSteps.{HasToFill, next_watched, own_index, words_filled}
-use Rattle.mmu_core.specs.PartTopics.{part_topics}
+use Rattle.part_steps.specs.PartBounds.{PartRests}
+use Rattle.part_steps.specs.PartSteps.{HasToFill, next_watched, own_index, words_filled}
+use Rattle.part_steps.specs.PartTopics.{part_topics}
 use Rattle.mmu_core.specs.SetSlotKnows.{SetSlotKnows}
 use Rattle.mmu_core.specs.SetSlotSteps.{claim_outcome, looked_at, set_slot_outcome, set_slot_part, set_slot_waits}
-use Rattle.mmu_core.specs.TopicSteps.{filled_more, in_section, is_won}
+use Rattle.part_steps.specs.TopicSteps.{filled_more, in_section, is_won}
 use Rattle.mmu_core.proofs.FaultFalls.{seen_falls, word_there}
 
 -- Where the line goes on it has fewer than n steps left.

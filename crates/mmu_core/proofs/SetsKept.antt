@@ -13,12 +13,12 @@ use Rattle.core_views.specs.declared.topics.Topics.{Topics}
 use Rattle.core_views.specs.Held.{Held}
 use Rattle.core_views.specs.Sizes.{actors_of}
 use Rattle.spte_words.specs.declared.area.Area.TheVariants as area
-use Rattle.mmu_core.specs.declared.part_step.PartStep.{PartStep}
-use Rattle.mmu_core.specs.declared.part_step.PartStep.TheVariants as part
+use Rattle.part_steps.specs.declared.part_step.PartStep.{PartStep}
+use Rattle.part_steps.specs.declared.part_step.PartStep.TheVariants as part
 use Rattle.mmu_core.specs.HeldPart.{HoldsOld, SetsPart}
-use Rattle.mmu_core.specs.PartSteps.{next_watched, own_index, page_owned}
+use Rattle.part_steps.specs.PartSteps.{next_watched, own_index, page_owned}
 use Rattle.mmu_core.specs.TopicsInvariant.{TopicsInvariant}
-use Rattle.mmu_core.specs.TopicSteps.{in_section, may_search, at_set, is_alone, is_loose, is_section, kept_search, still_leaving}
+use Rattle.part_steps.specs.TopicSteps.{in_section, may_search, at_set, is_alone, is_loose, is_section, kept_search, still_leaving}
 use Rattle.mmu_core.specs.View.{View, part_stepped, upd}
 use Rattle.mmu_core.proofs.Columns.{same_or, upd_other, upd_same}
 use Rattle.mmu_core.proofs.PartStepping.{IsPart}

@@ -17,14 +17,14 @@ use Rattle.core_views.specs.SlotSets.{MemorySlots}
 use Rattle.spte_words.specs.declared.area.Area.{Area}
 use Rattle.spte_words.specs.declared.area.Area.TheVariants as area
 use Rattle.spte_words.specs.Areas.{pool_index, words_of_bits}
-use Rattle.mmu_core.specs.declared.part_step.PartStep.TheVariants as part
+use Rattle.part_steps.specs.declared.part_step.PartStep.TheVariants as part
 use Rattle.mmu_core.specs.FaultSteps.{at_map_word, map_word, tries_page}
 use Rattle.mmu_core.specs.Invariant.{FillsSet, Holds, LeavesPart, SetSlotHolds}
-use Rattle.mmu_core.specs.PartSteps.{HasToFill, next_watched, own_index, page_owned, words_filled}
+use Rattle.part_steps.specs.PartSteps.{HasToFill, next_watched, own_index, page_owned, words_filled}
 use Rattle.mmu_core.specs.SetSlotKnows.{SetSlotKnows}
 use Rattle.mmu_core.specs.SetSlotSteps.{claim_outcome, looked_at, set_slot_outcome, set_slot_part, set_slot_task}
-use Rattle.mmu_core.specs.SetWords.{IsFilledWith, set_role, set_value, set_word}
-use Rattle.mmu_core.specs.Tasks.{place_after}
+use Rattle.part_steps.specs.SetWords.{IsFilledWith, set_role, set_value, set_word}
+use Rattle.mmu_core.specs.Outcomes.{place_after}
 use Rattle.mmu_core.specs.View.{words_after}
 use Rattle.mmu_core.proofs.Columns.{same_or}
 use Rattle.mmu_core.proofs.FilledKept.{filled_words}
@@ -33,7 +33,7 @@ use Rattle.mmu_core.proofs.PartWords.{fill_leaves, fill_stores, is_word, no_role
 use Rattle.mmu_core.proofs.SetFilled.{is_publication}
 use Rattle.mmu_core.specs.declared.outcome.Outcome.TheVariants.{Goes, Ends}
 use Rattle.core_views.specs.declared.answer.Answer.TheVariants.{Starved}
-use Rattle.mmu_core.specs.TopicSteps.{claimed, filled_more, in_section, is_won, still_leaving, tried_bit}
+use Rattle.part_steps.specs.TopicSteps.{claimed, filled_more, in_section, is_won, still_leaving, tried_bit}
 
 -- What is filled stays filled, where the page that is owned and the record stay.
 fills_still : (pages : ℕ) (pool : ℕ → ℕ) (id : ℕ) (slot : Slot) (h g : Held) → g.slots ≡ h.slots → g.topics.owned ≡ h.topics.owned → FillsSet pages pool id slot h → FillsSet pages pool id slot g

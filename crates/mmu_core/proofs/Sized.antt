@@ -18,14 +18,14 @@ use Rattle.std.specs.Prelude.{Bool, true, false}
 use Rattle.spte_words.specs.declared.area.Area.{Area}
 use Rattle.spte_words.specs.Areas.{size_of, total}
 use Rattle.spte_words.proofs.Places.{place_below}
-use Rattle.mmu_core.specs.declared.outcome.Task.{Task}
-use Rattle.mmu_core.specs.PartSteps.{own_index, part_task}
+use Rattle.part_steps.specs.declared.task.Task.{Task}
+use Rattle.part_steps.specs.PartSteps.{own_index, part_task}
 use Rattle.mmu_core.proofs.PartIndex.{index_same}
 use Rattle.mmu_core.specs.AccessSteps.{access_loads}
 use Rattle.mmu_core.specs.Enabled.{Enabled, IsNext, IsPartStep, mmu}
 use Rattle.mmu_core.specs.Machine.{World, Step, effect, run, hand_in, May, Legal, Leads}
 use Rattle.mmu_core.specs.Steps.{has_line, line_at, loads_at, next, next_by, place_at}
-use Rattle.mmu_core.specs.Tasks.{map_of}
+use Rattle.part_steps.specs.Tasks.{map_of}
 use Rattle.mmu_core.specs.Worlds.{IsStart, Reachable, start_hands}
 use Rattle.mmu_core.proofs.Extend.{as_many_hands, as_many_words}
 

@@ -3,7 +3,7 @@ use Rattle.std.proofs.Common.{◌≡◌, ◌≤◌, arith}
 use Rattle.core_views.specs.declared.place.SlotField.{SlotField}
 use Rattle.core_views.specs.declared.place.SlotField.TheVariants as field
 use Rattle.core_views.specs.declared.trace.Slot.{Slot}
-use Rattle.mmu_core.specs.SlotWords.{field_number}
+use Rattle.part_steps.specs.SlotWords.{field_number}
 
 -- the fields of a slot tell it
 pub same_slot : (x y : Slot) → x.base ≡ y.base → x.pages ≡ y.pages → x.host ≡ y.host → x.read_only ≡ y.read_only → x ≡ y

@@ -10,7 +10,7 @@ use Rattle.core_views.specs.declared.trace.Op.{Op}
 use Rattle.core_views.specs.declared.trace.Slot.{Slot}
 use Rattle.core_views.specs.Slots.{Slots, contains, is_write, page_behind, page_in, slot_of, with_slot}
 use Rattle.mmu_core.specs.Invariant.{IsLiveIn}
-use Rattle.mmu_core.specs.SlotWords.{live_at, page_of, slot_at, slots_below}
+use Rattle.part_steps.specs.SlotWords.{live_at, page_of, slot_at, slots_below}
 use Rattle.mmu_core.proofs.Columns.{same_or}
 
 -- Where no slot is live the list is empty.

@@ -18,7 +18,7 @@ use Rattle.core_views.specs.Sizes.{actors_of}
 use Rattle.core_views.specs.SlotSets.{MemorySlots}
 use Rattle.spte_words.specs.Flags.{flags_live, flags_read_only}
 use Rattle.mmu_core.specs.Invariant.{CachedPart, FillsSet, Holds, InvariantOf, KnowsPart, LeavesPart, OwnLines, RecordPart, SetSlotHolds, SlotSetPart}
-use Rattle.mmu_core.specs.SlotWords.{field_number, live_at, slot_at, slot_index, slots_below}
+use Rattle.part_steps.specs.SlotWords.{field_number, live_at, slot_at, slot_index, slots_below}
 use Rattle.mmu_core.specs.View.{upd}
 use Rattle.mmu_core.proofs.Columns.{at_upd}
 use Rattle.mmu_core.proofs.LiveStay.{StayLive, access_stays, translations_stay}

@@ -13,7 +13,7 @@ use Rattle.core_views.specs.declared.trace.Slot.{Slot}
 use Rattle.core_views.specs.SlotSets.{MemorySlots, slot_at}
 use Rattle.core_views.specs.Traces.{IsCommandFor}
 use Rattle.mmu_core.specs.Invariant.{IsSetBy}
-use Rattle.mmu_core.proofs.SetWords.{IsSmall}
+use Rattle.part_steps.proofs.SetWords.{IsSmall}
 
 -- A slot that a line may set has small numbers.
 pub in_range : (z : Sizes) (actor : Actor) (id : ℕ) (slot : Slot) → IsCommandFor z actor (SetSlot id slot) → IsSmall slot

@@ -4,9 +4,9 @@ use Rattle.std.specs.Prelude.{Bool, ◌+◌, ◌-◌, ◌*◌, ◌==◌, ◌&&�
 use Rattle.core_views.specs.declared.topics.Topics.{Topics}
 use Rattle.spte_words.specs.declared.area.Area.TheVariants as area
 use Rattle.spte_words.specs.Areas.{pool_index}
-use Rattle.mmu_core.specs.declared.part_step.PartStep.{PartStep}
-use Rattle.mmu_core.specs.declared.part_step.PartStep.TheVariants as part
-use Rattle.mmu_core.specs.PartSteps.{entry_index, page_owned, table_page}
+use Rattle.part_steps.specs.declared.part_step.PartStep.{PartStep}
+use Rattle.part_steps.specs.declared.part_step.PartStep.TheVariants as part
+use Rattle.part_steps.specs.PartSteps.{entry_index, page_owned, table_page}
 use Rattle.mmu_core.specs.TreePart.{Position, at}
 use Rattle.mmu_core.specs.View.{View}
 

@@ -13,16 +13,17 @@ use Rattle.spte_words.specs.Areas.{pool_index}
 use Rattle.spte_words.specs.Entries.{absent_word}
 use Rattle.mmu_core.specs.LockPart.{SawWriter}
 use Rattle.mmu_core.specs.Enabled.{mmu}
-use Rattle.mmu_core.specs.HeldPart.{CountersPart, HeldPart}
+use Rattle.part_steps.specs.PartBounds.{CountersPart}
+use Rattle.mmu_core.specs.HeldPart.{HeldPart}
 use Rattle.mmu_core.specs.LockPart.{LockPart, is_shared, readers, sharers, writers}
 use Rattle.mmu_core.specs.Machine.{World, hand_in}
-use Rattle.mmu_core.specs.PartSteps.{IsAtRest, counts}
+use Rattle.part_steps.specs.PartSteps.{IsAtRest, counts}
 use Rattle.mmu_core.specs.PoolPart.{PoolPart, is_free, is_owned, owners, is_leaving, leavers}
 use Rattle.mmu_core.specs.SearchPart.{LookPart, SearchPart}
 use Rattle.mmu_core.specs.StatesPart.{stay_bits}
 use Rattle.mmu_core.specs.Sums.{one_if, sum_below}
 use Rattle.mmu_core.specs.TopicsInvariant.{TopicsInvariant}
-use Rattle.mmu_core.specs.TopicSteps.{is_alone}
+use Rattle.part_steps.specs.TopicSteps.{is_alone}
 use Rattle.mmu_core.specs.TreePart.{Position, TreePart, at}
 use Rattle.mmu_core.specs.View.{view, word_in}
 use Rattle.mmu_core.specs.Worlds.{IsStart}

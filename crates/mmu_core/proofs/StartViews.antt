@@ -15,7 +15,7 @@ use Rattle.spte_words.specs.Areas.{StandsSomewhere, place, size_of, total}
 use Rattle.spte_words.proofs.Places.{place_below, places_apart, word_stands}
 use Rattle.mmu_core.specs.Machine.{World}
 use Rattle.mmu_core.specs.Steps.{nobody}
-use Rattle.mmu_core.specs.Tasks.{map_of}
+use Rattle.part_steps.specs.Tasks.{map_of}
 use Rattle.mmu_core.specs.View.{View, view, word_in}
 use Rattle.mmu_core.specs.Worlds.{AreStartWords, IsStart, start_hands, start_word}
 

@@ -17,7 +17,7 @@ use Rattle.mmu_core.specs.Enabled.{mmu}
 use Rattle.mmu_core.specs.Machine.{World, hand_in}
 use Rattle.mmu_core.specs.PoolPart.{is_free}
 use Rattle.mmu_core.specs.Steps.{nobody}
-use Rattle.mmu_core.specs.Tasks.{map_of}
+use Rattle.part_steps.specs.Tasks.{map_of}
 use Rattle.mmu_core.specs.View.{word_in}
 use Rattle.mmu_core.specs.Worlds.{AreStartWords, IsStart, free_bits, least, start_hands, start_word}
 

@@ -32,8 +32,8 @@ use Rattle.spte_words.proofs.ReadsHost.{host_fits}
 use Rattle.mmu_core.specs.Invariant.{CachedPart, Holds, IsLeafFor, IsSetBy, KnowsPart, OwnLines, RecordPart, LeavesPart}
 use Rattle.mmu_core.specs.Machine.{World}
 use Rattle.mmu_core.specs.Rests.{Rests}
-use Rattle.mmu_core.specs.SlotWords.{live_at}
-use Rattle.mmu_core.specs.Tasks.{map_of}
+use Rattle.part_steps.specs.SlotWords.{live_at}
+use Rattle.part_steps.specs.Tasks.{map_of}
 use Rattle.mmu_core.specs.View.{view, word_in}
 use Rattle.mmu_core.specs.Worlds.{AreStartWords, HandReached, IsStart, Reachable, free_bits, least, start_word}
 pub use Rattle.mmu_core.proofs.StartWords.{hand_is, word_at_start}
@@ -42,7 +42,7 @@ use Rattle.mmu_core.proofs.StartTopics.{rest_first, start_topics}
 use Rattle.mmu_core.proofs.RestsKept.{hand_rests, rests_stay}
 use Rattle.mmu_core.specs.Laws.{IsSound}
 use Rattle.mmu_core.proofs.Worlds.{good_run}
-use Rattle.mmu_core.specs.SetWords.{set_role}
+use Rattle.part_steps.specs.SetWords.{set_role}
 
 below : (a b : ℕ) → a < b → nat_lt a b ≡ true
 below a b lt = grind (arith, nat_tests)

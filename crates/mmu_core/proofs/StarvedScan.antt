@@ -25,7 +25,7 @@ use Rattle.core_views.specs.Sizes.{actors_of}
 use Rattle.core_views.specs.SlotSets.{MemorySlots}
 use Rattle.spte_words.specs.Areas.{words_of_bits}
 use Rattle.mmu_core.specs.declared.outcome.Outcome.TheVariants.{Ends, Goes}
-use Rattle.mmu_core.specs.declared.outcome.Task.{Task}
+use Rattle.part_steps.specs.declared.task.Task.{Task}
 use Rattle.mmu_core.specs.AccessSteps.{access_outcome, access_task}
 use Rattle.mmu_core.specs.Enabled.{IsNext, mmu}
 use Rattle.mmu_core.specs.FaultSteps.{at_map_word, claim_part, map_word, tries_page}
@@ -33,13 +33,13 @@ use Rattle.mmu_core.specs.KnowsPart.{KnowsPart}
 use Rattle.mmu_core.specs.Laws.{IsSound}
 use Rattle.mmu_core.specs.LinesPart.{UnderWay}
 use Rattle.mmu_core.specs.Machine.{Legal, May, Step, World, answered, effect, hand_in, run}
-use Rattle.mmu_core.specs.PartSteps.{PartNeeds, own_index, part_kind}
+use Rattle.part_steps.specs.PartSteps.{PartNeeds, own_index, part_kind}
 use Rattle.mmu_core.specs.Rests.{RestsAt}
 use Rattle.mmu_core.specs.Scans.{EndsWithScan, LoadsMap, StarvedLinesScan}
 use Rattle.mmu_core.specs.SetSlotSteps.{set_slot_first, set_slot_outcome, claim_outcome, set_slot_note, set_slot_part, set_slot_task}
 use Rattle.mmu_core.specs.Steps.{first_place, line_at, outcome_at, place_at, task_at, task_of}
-use Rattle.mmu_core.specs.Tasks.{kind_of_task}
-use Rattle.mmu_core.specs.TopicSteps.{topics_after}
+use Rattle.part_steps.specs.Tasks.{kind_of_task}
+use Rattle.part_steps.specs.TopicSteps.{topics_after}
 use Rattle.mmu_core.specs.Turns.{outcome_of}
 use Rattle.mmu_core.proofs.Columns.{same_or}
 use Rattle.mmu_core.proofs.LineRuns.{run_one_more}
@@ -48,7 +48,7 @@ use Rattle.mmu_core.proofs.PartTopics.{part_topics_is}
 use Rattle.mmu_core.proofs.Scanned.{at_behind, at_in, begins_scan, others_hand, scan_kept, shorter}
 use Rattle.mmu_core.proofs.Which.{has_line_is, is_next}
 use Rattle.mmu_core.proofs.Worlds.{good_run, good_step}
-use Rattle.mmu_core.specs.declared.part_step.PartStep.TheVariants as part
+use Rattle.part_steps.specs.declared.part_step.PartStep.TheVariants as part
 use Rattle.core_views.specs.declared.trace.Line.{Line}
 use Rattle.core_views.specs.Flat.{no_line}
 use Rattle.std.proofs.lemmas.Bool.Decides.{nat_tests}

@@ -13,9 +13,9 @@ use Rattle.spte_words.specs.declared.area.Area.TheVariants as area
 use Rattle.mmu_core.specs.Enabled.{mmu}
 use Rattle.mmu_core.specs.Laws.{IsSound}
 use Rattle.mmu_core.specs.Machine.{World, hand_in}
-use Rattle.mmu_core.specs.PartSteps.{own_index}
+use Rattle.part_steps.specs.PartSteps.{own_index}
 use Rattle.mmu_core.specs.StatesPart.{stay_bits}
-use Rattle.mmu_core.specs.TopicSteps.{in_section, is_outside}
+use Rattle.part_steps.specs.TopicSteps.{in_section, is_outside}
 use Rattle.mmu_core.specs.View.{word_in}
 use Rattle.mmu_core.specs.Worlds.{Reachable}
 use Rattle.mmu_core.proofs.Starts.{reached_good}

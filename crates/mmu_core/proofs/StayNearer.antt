@@ -35,21 +35,21 @@ use Rattle.mmu_core.specs.Cached.{first_usable}
 use Rattle.mmu_core.specs.Delays.{begins_anew, is_delay, leaves_to_fault, line_waits, walks_again}
 use Rattle.mmu_core.specs.FaultSteps.{allows_access, fault_left, fault_next, fault_part, next_left}
 use Rattle.mmu_core.specs.KnowsPart.{AccessKnows, KnowsPart}
-use Rattle.mmu_core.specs.PartBounds.{PartRests}
-use Rattle.mmu_core.specs.PartSteps.{entry_index, own_index}
-use Rattle.mmu_core.specs.PartTopics.{part_topics}
+use Rattle.part_steps.specs.PartBounds.{PartRests}
+use Rattle.part_steps.specs.PartSteps.{entry_index, own_index}
+use Rattle.part_steps.specs.PartTopics.{part_topics}
 use Rattle.mmu_core.specs.Rests.{IsUnderWay}
 use Rattle.mmu_core.specs.SetSlotSteps.{set_slot_note, set_slot_outcome, set_slot_part, set_slot_task, set_slot_waits}
 use Rattle.mmu_core.specs.Steps.{delays_at, outcome_at, task_at}
-use Rattle.mmu_core.specs.Tasks.{map_of}
-use Rattle.mmu_core.specs.TopicSteps.{at_root, gone_down, linked_page, may_walk}
+use Rattle.part_steps.specs.Tasks.{map_of}
+use Rattle.part_steps.specs.TopicSteps.{at_root, gone_down, linked_page, may_walk}
 use Rattle.mmu_core.specs.View.{answer_in}
 use Rattle.mmu_core.proofs.AloneStep.{topics_at, two_left}
 use Rattle.mmu_core.proofs.FaultFalls.{fault_falls}
 pub use Rattle.mmu_core.proofs.SetSlotNearer.{Nearer}
 use Rattle.mmu_core.proofs.SetSlotNearer.{set_slot_nearer}
 use Rattle.mmu_core.proofs.PartTopics.{is_there, part_topics_is}
-use Rattle.mmu_core.specs.declared.part_step.PartStep.{PartStep}
+use Rattle.part_steps.specs.declared.part_step.PartStep.{PartStep}
 use Rattle.mmu_core.proofs.FaultKnown.{above_lowest}
 use Rattle.mmu_core.proofs.KnowsKept.{NeedsAt, access_needs, access_vcpu, behind_part, task_topics}
 

@@ -30,18 +30,18 @@ use Rattle.spte_words.specs.declared.area.Area.TheVariants as area
 use Rattle.spte_words.specs.Areas.{pool_index, size_of}
 use Rattle.spte_words.specs.Entries.{kind_of}
 use Rattle.mmu_core.specs.declared.outcome.Outcome.{Outcome}
-use Rattle.mmu_core.specs.declared.outcome.Task.{Task}
-use Rattle.mmu_core.specs.declared.part_step.PartStep.{PartStep}
-use Rattle.mmu_core.specs.declared.part_step.PartStep.TheVariants as part
+use Rattle.part_steps.specs.declared.task.Task.{Task}
+use Rattle.part_steps.specs.declared.part_step.PartStep.{PartStep}
+use Rattle.part_steps.specs.declared.part_step.PartStep.TheVariants as part
 use Rattle.mmu_core.specs.AccessSteps.{access_caches, access_note, access_outcome, access_part, behind_fault, ends_with, is_found, task_by, touch_of}
 use Rattle.mmu_core.specs.Cached.{asks_flush, flushed, flushed_by, with_leaf}
 use Rattle.mmu_core.specs.Enabled.{Enabled}
 use Rattle.mmu_core.specs.FaultSteps.{allows_access, fault_next}
-use Rattle.mmu_core.specs.PartSteps.{PartNeeds, own_index, page_owned, part_task, words_filled, works}
+use Rattle.part_steps.specs.PartSteps.{PartNeeds, own_index, page_owned, part_task, words_filled, works}
 use Rattle.mmu_core.specs.SetSlotSteps.{set_slot_note, set_slot_outcome, set_slot_part, set_slot_task}
 use Rattle.mmu_core.specs.StepLaws.{CachesOneAtMost, IsOn, IsOnItsArea, NoteTells}
 use Rattle.mmu_core.specs.Steps.{caches_at, has_line, next, next_by, outcome_at, place_at, task_at, task_of}
-use Rattle.mmu_core.specs.Tasks.{kind_of_task, map_of}
+use Rattle.part_steps.specs.Tasks.{kind_of_task, map_of}
 use Rattle.mmu_core.specs.Turns.{line_of, outcome_of}
 use Rattle.mmu_core.specs.Rests.{RestsAt}
 use Rattle.mmu_core.proofs.Advancing.{named_is}

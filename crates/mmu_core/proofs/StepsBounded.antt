@@ -28,7 +28,7 @@ use Rattle.mmu_core.specs.Enabled.{mmu}
 use Rattle.mmu_core.specs.FaultSteps.{check_left, claim_left, fault_left, find_left, lock_left, map_word, table_left, tries_page}
 use Rattle.mmu_core.specs.LineAlone.{hand_left}
 use Rattle.mmu_core.specs.Machine.{World, hand_in}
-use Rattle.mmu_core.specs.PartBounds.{PartRests}
+use Rattle.part_steps.specs.PartBounds.{PartRests}
 use Rattle.mmu_core.specs.SearchLeft.{look_left}
 use Rattle.mmu_core.specs.Steps.{has_line}
 use Rattle.mmu_core.specs.View.{view}

@@ -19,10 +19,10 @@ use Rattle.mmu_core.specs.Invariant.{UnderWay}
 use Rattle.mmu_core.specs.Laws.{IsSound}
 use Rattle.mmu_core.specs.LineAlone.{hand_left}
 use Rattle.mmu_core.specs.Machine.{answered, Legal, May, Step, World, effect, hand_in, run}
-use Rattle.mmu_core.specs.PartBounds.{PartRests}
+use Rattle.part_steps.specs.PartBounds.{PartRests}
 use Rattle.mmu_core.specs.Rests.{IsUnderWay}
 use Rattle.mmu_core.specs.Steps.{delays_at, has_line, line_at, outcome_at, place_at, task_at}
-use Rattle.mmu_core.specs.Tasks.{place_after}
+use Rattle.mmu_core.specs.Outcomes.{place_after}
 use Rattle.mmu_core.specs.TurnLaws.{CountFits, CountsOn}
 use Rattle.mmu_core.specs.Turns.{line_of}
 use Rattle.mmu_core.specs.View.{View, answer_in, hand_after, view, word_in}

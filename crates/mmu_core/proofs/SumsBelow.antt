@@ -59,6 +59,20 @@ pub sum_none : (n : ℕ) (f : ℕ → ℕ) → ((i : ℕ) → i < n → f i ≡ 
 sum_none zero f each = refl
 sum_none (suc n) f each = omega (arith, sum_none n f (λ i lt. each i (omega arith)), each n (omega arith))
 
+-- where the sum isn't 0, some place contributes
+pub record Contributes (n : ℕ) (f : ℕ → ℕ) : Type 0 where
+  pub at : ℕ
+  pub below : at < n
+  pub more : f at ≢ 0
+
+pub sum_some : (n : ℕ) (f : ℕ → ℕ) → sum_below n f ≢ 0 → Contributes n f
+sum_some zero f some = absurd (some refl)
+sum_some (suc n) f some = here (λ more. sum_some n f more) (same_or (f n) 0)
+  where
+    here : (sum_below n f ≢ 0 → Contributes n f) → (f n ≡ 0) ⊎ (f n ≢ 0) → Contributes (suc n) f
+    here ih (inl none) = let C = ih (λ e. some (omega (arith, e, none))) in let lt = C.below in record { at = C.at; below = omega (arith, lt); more = C.more }
+    here ih (inr more) = record { at = n; below = omega arith; more = more }
+
 -- where one place alone contributes, the sum is what it contributes at most
 pub sum_only : (n : ℕ) (f : ℕ → ℕ) (m : ℕ) → ((i : ℕ) → i < n → i ≢ m → f i ≡ 0) → sum_below n f ≤ f m
 sum_only zero f m none = omega arith

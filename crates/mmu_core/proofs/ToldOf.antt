@@ -20,7 +20,7 @@ use Rattle.mmu_core.specs.declared.outcome.Outcome.{Outcome}
 use Rattle.mmu_core.specs.declared.outcome.Outcome.TheVariants.{Goes, Ends}
 use Rattle.mmu_core.specs.Histories.{answers_by}
 use Rattle.mmu_core.specs.Steps.{beginning}
-use Rattle.mmu_core.specs.Tasks.{answering}
+use Rattle.mmu_core.specs.Outcomes.{answering}
 use Rattle.mmu_core.proofs.LineEvents.{AllWithin}
 use Rattle.mmu_core.proofs.Told.{told}
 

@@ -15,13 +15,13 @@ use Rattle.core_views.specs.declared.trace.Slot.{Slot}
 use Rattle.core_views.specs.Held.{Held}
 use Rattle.spte_words.specs.Areas.{content_index}
 use Rattle.spte_words.specs.Entries.{frame_in}
-use Rattle.mmu_core.specs.declared.outcome.Task.{Task}
-use Rattle.mmu_core.specs.declared.part_step.PartStep.{PartStep}
+use Rattle.part_steps.specs.declared.task.Task.{Task}
+use Rattle.part_steps.specs.declared.part_step.PartStep.{PartStep}
 use Rattle.mmu_core.specs.AccessSteps.{access_note, access_part, access_task, task_by, touch_of}
 use Rattle.mmu_core.specs.Invariant.{Invariant}
 use Rattle.mmu_core.specs.Steps.{idle_after}
-use Rattle.mmu_core.specs.Tasks.{kind_of_task, map_of}
-use Rattle.mmu_core.specs.TopicSteps.{topics_after}
+use Rattle.part_steps.specs.Tasks.{kind_of_task, map_of}
+use Rattle.part_steps.specs.TopicSteps.{topics_after}
 use Rattle.mmu_core.specs.TopicsInvariant.{TopicsInvariant}
 use Rattle.mmu_core.specs.View.{View, answer_in, hand_after, part_stepped, stepped, upd, words_after}
 use Rattle.mmu_core.proofs.AccessParts.{AreSmall, makes_parts, makes_setting}

@@ -13,11 +13,11 @@ use Rattle.spte_words.specs.Areas.{pool_index}
 use Rattle.spte_words.specs.Entries.{absent_word, kind_of, level_span}
 use Rattle.spte_words.proofs.ReadsEntries.{kind_of_table}
 use Rattle.spte_words.proofs.Spans.{span_1, span_above}
-use Rattle.mmu_core.specs.declared.part_step.PartStep.{PartStep}
-use Rattle.mmu_core.specs.declared.part_step.PartStep.TheVariants as part
-use Rattle.mmu_core.specs.PartSteps.{FoundSlot, LookedUp, MayEnter, OwnsTable, entry_index, leaf_written, link_written, page_owned, table_page, word_looked}
+use Rattle.part_steps.specs.declared.part_step.PartStep.{PartStep}
+use Rattle.part_steps.specs.declared.part_step.PartStep.TheVariants as part
+use Rattle.part_steps.specs.PartSteps.{FoundSlot, LookedUp, MayEnter, OwnsTable, entry_index, leaf_written, link_written, page_owned, table_page, word_looked}
 use Rattle.mmu_core.specs.PoolPart.{IsFilled}
-use Rattle.mmu_core.specs.SlotWords.{leaf_of, page_of}
+use Rattle.part_steps.specs.SlotWords.{leaf_of, page_of}
 use Rattle.mmu_core.specs.TopicsInvariant.{TopicsInvariant}
 use Rattle.mmu_core.specs.TreePart.{EntryPart, IsLeafAt, IsLinked, IsLiveIn, LinksTo, Position, TreePart, at, IsWanted}
 use Rattle.mmu_core.specs.View.{View, part_stepped, upd}

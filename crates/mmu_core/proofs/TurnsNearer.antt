@@ -1,17 +1,21 @@
 -- Each step of a line that neither waits nor begins anew leaves it fewer steps, beside other actors too.
-use Rattle.std.proofs.Common.{◌≡◌, ◌<◌, ◌≤◌, ℕ, length, refl, sym, subst, ap, ◌∙◌, arith}
-use Rattle.std.specs.Prelude.{Bool, true, false, ◌&&◌, ◌||◌}
+use Rattle.std.proofs.Common.{◌≡◌, ◌⊎◌, inl, inr, ◌<◌, ◌≤◌, ℕ, length, refl, sym, subst, ap, ◌∙◌, arith}
+use Rattle.std.specs.Prelude.{Bool, true, false, ◌&&◌, ◌||◌, Option, Some, None}
 use Rattle.std.proofs.lemmas.Bool.Decides.{nat_tests}
+use Rattle.core_views.specs.declared.answer.Refusal.{Refusal}
 use Rattle.core_views.specs.declared.kind.Kind.{Kind}
 use Rattle.core_views.specs.declared.place.AccessPlace.TheVariants.{Enter, Pause, Root, Walk, Touch, Leave, Fault}
 use Rattle.core_views.specs.declared.place.Place.{Place}
 use Rattle.core_views.specs.declared.place.Place.TheVariants as place
 use Rattle.core_views.specs.declared.sizes.Sizes.{Sizes}
+use Rattle.core_views.specs.declared.topics.Topics.{Topics}
 use Rattle.core_views.specs.declared.trace.Command.{Command}
 use Rattle.core_views.specs.declared.trace.Command.TheVariants.{Access, SetSlot}
 use Rattle.core_views.specs.declared.trace.Line.{Line}
 use Rattle.core_views.specs.Held.{Held}
+use Rattle.core_views.specs.Refusals.{set_refusal}
 use Rattle.core_views.specs.Sizes.{AreSizes, actors_of}
+use Rattle.core_views.specs.SlotSets.{MemorySlots}
 use Rattle.core_views.specs.Slots.{is_write}
 use Rattle.core_views.specs.Traces.{IsCommandFor}
 use Rattle.spte_words.specs.declared.area.Area.{Area}
@@ -31,10 +35,11 @@ use Rattle.mmu_core.specs.FaultSteps.{allows_access}
 use Rattle.mmu_core.specs.Laws.{IsSound}
 use Rattle.mmu_core.specs.LineAlone.{hand_left, line_waits}
 use Rattle.mmu_core.specs.Machine.{May, Step, World, answered, effect, hand_in}
-use Rattle.mmu_core.specs.PartSteps.{entry_index, table_page}
-use Rattle.mmu_core.specs.Steps.{delays_at, has_line, line_at, outcome_at, place_at, task_at}
-use Rattle.mmu_core.specs.Tasks.{place_after}
-use Rattle.mmu_core.specs.TurnLaws.{StaysInstalled, WalksInstalled, begins_anew}
+use Rattle.part_steps.specs.PartSteps.{entry_index, table_page}
+use Rattle.mmu_core.specs.SetSlotSteps.{set_slot_first}
+use Rattle.mmu_core.specs.Steps.{delays_at, first_place, has_line, line_at, outcome_at, place_at, standing, task_at}
+use Rattle.mmu_core.specs.Outcomes.{place_after}
+use Rattle.mmu_core.specs.TurnLaws.{DelaysWaitOrBeginAnew, StaysInstalled, WalksInstalled, begins_anew}
 use Rattle.mmu_core.specs.Turns.{outcome_of}
 use Rattle.mmu_core.specs.View.{View, answer_in, hand_after, view, word_in}
 use Rattle.mmu_core.specs.Worlds.{Reachable}
@@ -80,6 +85,33 @@ none_of : (a b c : Bool) → a ≡ false → b ≡ false → c ≡ false → (a 
 none_of true b c first second third = absurd (cc first)
 none_of false true c first second third = absurd (cc second)
 none_of false false c first second third = third
+
+one_of : (a b c : Bool) → (a || (b || c)) ≡ true → c ≡ false → (a ≡ true) ⊎ (b ≡ true)
+one_of true b c is none = inl refl
+one_of false true c is none = inr refl
+one_of false false c is none = absurd (cc (is, none))
+
+-- No line begins with a delay: what is so of the place of its first step is so of the one at which it stands.
+begins_at_once : (o : Option Refusal) (t : Topics) (v : ℕ) → line_waits (place.SetSlot (set_slot_first o)) t v ≡ true → ⊥
+begins_at_once (Some refusal) t v is = cc is
+begins_at_once None t v is = cc is
+
+first_goes : (y : Sizes) (slots : MemorySlots) (c : Command) (t : Topics) (v : ℕ) → line_waits (first_place y slots c) t v ≡ true → ⊥
+first_goes y slots (Access gfn word op) t v is = cc is
+first_goes y slots (SetSlot id slot) t v is = begins_at_once (set_refusal y.pages id slot slots) t v is
+
+first_no_end : (y : Sizes) (slots : MemorySlots) (c : Command) → begins_anew (first_place y slots c) ≡ true → ⊥
+first_no_end y slots (Access gfn word op) is = cc is
+first_no_end y slots (SetSlot id slot) is = cc is
+
+abbrev WaitsOrBegins : Place → Topics → ℕ → Type 0
+WaitsOrBegins p t v = (line_waits p t v ≡ true) ⊎ (begins_anew p ≡ true)
+
+where_it_stands : (q : Place) (y : Sizes) (slots : MemorySlots) (c : Command) (t : Topics) (v : ℕ) → WaitsOrBegins (standing q y slots c) t v → WaitsOrBegins q t v
+where_it_stands place.Between y slots c t v (inl waits) = absurd (first_goes y slots c t v waits)
+where_it_stands place.Between y slots c t v (inr anew) = absurd (first_no_end y slots c anew)
+where_it_stands (place.Access p) y slots c t v is = is
+where_it_stands (place.SetSlot p) y slots c t v is = is
 
 -- ---- from world to world
 
@@ -142,12 +174,22 @@ module _ (z : Sizes) (w : World Held) (s : Step Kind) (G : IsSound z w) (may : M
       place_nearer stood line.command z h words S.begun (subst (λ y. IsCommandFor z y line.command) S.own S.allowed) (part_rests_at z (view z w) a G.holds G.topics there) (knows_at z (view z w) a G.holds there S.left)
       (needs_at z (view z w) a line line.command stood S G.holds G.topics) on
 
+  -- The stay behind an installed entry finds it.
+  stay_finds : AllInstalled z (view z w) → (walks_again stood && leaves_to_fault (outcome_at stood line.command h x)) ≡ false
+  stay_finds A =
+      let stays : StaysInstalled stood line.command words = standing_installed h.state.place h.state.sizes h.slots h words (A a there) in
+      no_miss stood line.command h words (walks_installed stood line.command z w a G there (knows_at z (view z w) a G.holds there taken.is_step.left) stays)
+
+  delay_is : AllInstalled z (view z w) → delays_at stood line.command h (answered mmu w s.kind) ≡ true → WaitsOrBegins h.state.place h.topics (answered mmu w s.kind)
+  delay_is A delays =
+      where_it_stands h.state.place h.state.sizes h.slots line.command h.topics (answered mmu w s.kind)
+      (one_of (line_waits stood h.topics (answered mmu w s.kind)) (begins_anew stood) (walks_again stood && leaves_to_fault (outcome_at stood line.command h (answered mmu w s.kind))) delays
+      (ap (λ v. walks_again stood && leaves_to_fault (outcome_at stood line.command h v)) taken.answers ∙ stay_finds A))
+
   turn_nearer : AllInstalled z (view z w) → line_waits stood h.topics (answered mmu w s.kind) ≡ false → begins_anew stood ≡ false → (p : Place) → outcome_of h (answered mmu w s.kind) ≡ Goes p
       → hand_left (hand_in mmu (effect mmu w s) a) < hand_left h
   turn_nearer A goes on p out =
-      let stays : StaysInstalled stood line.command words = standing_installed h.state.place h.state.sizes h.slots h words (A a there) in
-      let walks : WalksInstalled stood line.command words h.topics = walks_installed stood line.command z w a G there (knows_at z (view z w) a G.holds there taken.is_step.left) stays in
-      let none : delays_at stood line.command h x ≡ false = none_of (line_waits stood h.topics x) (begins_anew stood) (walks_again stood && leaves_to_fault (outcome_at stood line.command h x)) (ap (line_waits stood h.topics) (sym taken.answers) ∙ goes) on (no_miss stood line.command h words walks) in
+      let none : delays_at stood line.command h x ≡ false = none_of (line_waits stood h.topics x) (begins_anew stood) (walks_again stood && leaves_to_fault (outcome_at stood line.command h x)) (ap (line_waits stood h.topics) (sym taken.answers) ∙ goes) on (stay_finds A) in
       subst (λ (g : Held). hand_left g < hand_left h) (sym hand_behind)
       (nearer_hand after (outcome_at stood line.command h x) p h.state.sizes (steps_left stood h.state.sizes h.topics) (hand_left h) (ap (outcome_at stood line.command h) (sym taken.answers) ∙ out) refl same_sizes stood_left (nearer_here none))
 
@@ -160,3 +202,6 @@ pub turns_nearer : (w : World Held) (s : Step Kind) → Reachable w → May mmu 
     → (p : Place) → outcome_of (hand_in mmu w s.actor) (answered mmu w s.kind) ≡ Goes p
     → hand_left (hand_in mmu (effect mmu w s) s.actor) < hand_left (hand_in mmu w s.actor)
 turns_nearer w s r may has goes on p out = turn_nearer r.sizes w s (reached_good w r) may has (reached_installed w r) goes on p out
+
+pub delays_wait_or_begin_anew : DelaysWaitOrBeginAnew
+delays_wait_or_begin_anew w s r may has delays = delay_is r.sizes w s (reached_good w r) may has (reached_installed w r) delays

@@ -12,7 +12,7 @@ use Rattle.core_views.specs.Sizes.{actors_of}
 use Rattle.mmu_core.specs.Enabled.{mmu}
 use Rattle.mmu_core.specs.Example.{HasLine, WritesOneWord, next_step, turns}
 use Rattle.mmu_core.specs.Laws.{IsSound}
-use Rattle.mmu_core.specs.Machine.{Legal, World, answered, effect, hand_in}
+use Rattle.mmu_core.specs.Machine.{Legal, World, answered, effect, hand_in, run}
 use Rattle.mmu_core.specs.Steps.{events_of, line_at, next_line, place_at}
 use Rattle.mmu_core.specs.View.{View, stepped, view}
 use Rattle.mmu_core.specs.Worlds.{history}
@@ -85,3 +85,16 @@ turns_are z w (a ∷ actors) G have =
       ap (λ (es : List Event). es ++ history (effect mmu w (next_step z w a)) (turns z (effect mmu w (next_step z w a)) actors)) here
           ∙ ap (λ (es : List Event). tells (view z w) a ++ es) (rest.1 ∙ ap (λ (v : View). tale v actors) T.leads),
     )
+
+-- the words and hands behind them
+abbrev pub turned_all : View → List ℕ → View
+turned_all v [] = v
+turned_all v (a ∷ actors) = turned_all (turned v a) actors
+
+pub turns_lead : (z : Sizes) (w : World Held) (actors : List ℕ) → IsSound z w → HaveLines z (view z w) actors → ◌≡◌ {A = View} (view z (run mmu w (turns z w actors))) (turned_all (view z w) actors)
+turns_lead z w [] G have = refl
+turns_lead z w (a ∷ actors) G have =
+    let may = may_step z w a G have.0 have.1 in
+    let T = takes_line z w (next_step z w a) G may (is_next (hand_in mmu w a) (next_step z w a).kind may.enabled (has_line_is (hand_in mmu w a) have.1.left)) in
+    turns_lead z (effect mmu w (next_step z w a)) actors (good_step z w (next_step z w a) G may) (subst (λ (v : View). HaveLines z v actors) (sym T.leads) have.2)
+    ∙ ap (λ (v : View). turned_all v actors) T.leads

@@ -14,11 +14,11 @@ use Rattle.spte_words.specs.declared.area.Area.{Area}
 use Rattle.spte_words.specs.declared.word_map.WordMap.{WordMap}
 use Rattle.spte_words.specs.Areas.{number_of, place, size_of, total}
 use Rattle.spte_words.proofs.Places.{place_below, places_apart, same_number}
-use Rattle.mmu_core.specs.declared.outcome.Task.{Task}
+use Rattle.part_steps.specs.declared.task.Task.{Task}
 use Rattle.mmu_core.specs.Enabled.{mmu}
 use Rattle.mmu_core.specs.Machine.{World, answered, effect, hand_in}
 use Rattle.mmu_core.specs.Steps.{nobody}
-use Rattle.mmu_core.specs.Tasks.{kind_of_task, map_of}
+use Rattle.part_steps.specs.Tasks.{kind_of_task, map_of}
 use Rattle.mmu_core.specs.View.{answer_in, put, stores, upd, view, word_in, words_after}
 use Rattle.mmu_core.proofs.Columns.{same_or, upd_other, upd_same}
 

@@ -1,11 +1,6 @@
 -- Each step of a fault that waits has its cause in the steps before it.
-use Rattle.std.proofs.Common.{◌≡◌, ◌≢◌, ◌<◌, ◌+◌, ◌-◌, ◌*◌, ◌^◌, ℕ, List, [], ◌∷◌, ◌++◌, length, refl, sym, subst, ap, ◌∙◌, arith, bit_and, w64}
-use Rattle.std.specs.Prelude.{Bool, true, false, ◌==◌, ◌&&◌, nat_le, nat_lt, not, if◌then◌else◌, slice_index}
-use Rattle.std.specs.Int.{bit_at}
-use Rattle.std.proofs.Math.Pow.{pow-lt}
-use Rattle.std.proofs.lemmas.Bool.Decides.{nat_tests}
-use Rattle.std.proofs.lemmas.Nat.{and-not, and_comm}
-use Rattle.std.proofs.lemmas.Nat.Bits.{and_pow, bit_at-lt, bit_at-trailing_zeros}
+use Rattle.std.proofs.Common.{◌≡◌, ◌≢◌, ◌<◌, ◌+◌, ℕ, List, [], ◌∷◌, ◌++◌, length, refl, sym, subst, ap, ◌∙◌}
+use Rattle.std.specs.Prelude.{Bool, true, false, ◌==◌, ◌&&◌, nat_le, nat_lt, not, if◌then◌else◌}
 use Rattle.core_views.specs.declared.kind.Kind.{Kind}
 use Rattle.core_views.specs.declared.place.AccessPlace.TheVariants as access
 use Rattle.core_views.specs.declared.place.CheckStage.{CheckStage}
@@ -22,63 +17,36 @@ use Rattle.core_views.specs.declared.topics.MapClaim.{MapClaim}
 use Rattle.core_views.specs.declared.topics.SlotSearch.{SlotSearch}
 use Rattle.core_views.specs.declared.topics.Topics.{Topics}
 use Rattle.core_views.specs.Held.{Held}
-use Rattle.core_views.specs.Kinds.{after}
 use Rattle.core_views.specs.Slots.{contains}
-use Rattle.spte_words.specs.declared.area.Area.TheVariants as area
 use Rattle.spte_words.specs.declared.spte_kind.SpteKind.{SpteKind}
 use Rattle.spte_words.specs.declared.spte_kind.SpteKind.TheVariants as entry_kind
-use Rattle.spte_words.specs.Areas.{place as place_of, words_of_bits}
-use Rattle.spte_words.specs.Bits.{has_bit}
+use Rattle.spte_words.specs.Areas.{words_of_bits}
 use Rattle.spte_words.specs.Entries.{kind_of}
 use Rattle.spte_words.specs.HostWords.{host_allows_write}
-use Rattle.mmu_core.specs.declared.part_step.PartStep.{PartStep}
-use Rattle.mmu_core.specs.declared.part_step.PartStep.TheVariants as part
+use Rattle.part_steps.specs.declared.part_step.PartStep.{PartStep}
+use Rattle.part_steps.specs.declared.part_step.PartStep.TheVariants as part
 use Rattle.mmu_core.specs.Causes.{HasMade, IsOthers, TriesLock, WaitIsCaused, WaitsAreByCause}
 use Rattle.mmu_core.specs.Enabled.{mmu}
 use Rattle.mmu_core.specs.FaultKnows.{FaultKnows, is_trying}
-use Rattle.mmu_core.specs.FaultSteps.{allows_access, check_next, fault_next, fault_part, find_next, found_next, is_last_word, is_owing, map_word, share_next, share_part, snapshot_taken, tries_page, waits, walk_next, word_owed}
+use Rattle.mmu_core.specs.FaultSteps.{allows_access, at_map_word, check_next, claim_next, claim_part, fault_next, fault_part, find_next, found_next, is_last_word, is_owing, share_next, share_part, snapshot_taken, tries_page, waits, walk_next, word_owed}
 use Rattle.mmu_core.specs.Laws.{IsSound}
 use Rattle.mmu_core.specs.LinesPart.{UnderWay}
 use Rattle.mmu_core.specs.Machine.{Legal, May, Step, World, answered, effect, found, hand_in, run}
-use Rattle.mmu_core.specs.PartSteps.{all_but, part_kind, words_filled}
-use Rattle.mmu_core.specs.PartTopics.{part_topics}
-use Rattle.mmu_core.specs.Tasks.{map_of}
-use Rattle.mmu_core.specs.TopicSteps.{has_writer, is_won, searched, tried_bit}
-use Rattle.mmu_core.proofs.Changes.{Knows, knows_longer, knows_now, made_longer, made_now, was_changed}
+use Rattle.part_steps.specs.PartSteps.{words_filled}
+use Rattle.part_steps.specs.PartTopics.{part_topics}
+use Rattle.part_steps.specs.TopicSteps.{has_writer, is_won, searched}
+use Rattle.mmu_core.proofs.Changes.{made_longer, made_now}
+use Rattle.mmu_core.proofs.ClaimSeen.{ClaimSaw, claim_saw, others_claim, page_taken}
 use Rattle.mmu_core.proofs.EachFault.{AreSeen, IsAccess, NextIs, each_fault, fault_makes, is_access}
-use Rattle.mmu_core.proofs.FaultSame.{both, is_not}
-use Rattle.mmu_core.proofs.MadeSteps.{Makes, exchange_finds, in_machine, load_keeps, own_rests, word_on}
+use Rattle.mmu_core.proofs.MadeSteps.{Makes, exchange_finds, in_machine, own_rests, word_on}
 use Rattle.mmu_core.proofs.StarvedScan.{legal_parts}
 use Rattle.mmu_core.proofs.Which.{has_line_is, is_next}
 use Rattle.mmu_core.proofs.Worlds.{good_run}
 
--- A bit that is clear is cleared: the word stays.
-left_alone : (n j : ℕ) → j < 64 → n < 2 ^ 64 → has_bit j n ≡ false → bit_and n (all_but (2 ^ j)) ≡ n
-left_alone n j low small clear =
-    let few = bit_at-lt n j in
-    let none : bit_at n j ≡ 0 = clear_bit (bit_at n j) few clear in
-    let nothing : bit_and n (2 ^ j) ≡ 0 = and_pow n j ∙ ap (λ b. b * 2 ^ j) none ∙ nil (2 ^ j) in
-    let whole : bit_and (2 ^ 64 - 1 - 2 ^ j) n + bit_and (2 ^ j) n ≡ n = and-not 64 (2 ^ j) n (pow-lt low) small in
-    and_comm n (all_but (2 ^ j)) ∙ omega (arith, whole, nothing, and_comm n (2 ^ j))
-  where
-    clear_bit : (b : ℕ) → b < 2 → (b == 1) ≡ false → b ≡ 0
-    clear_bit b few is = grind (arith, nat_tests)
-
-    nil : (x : ℕ) → 0 * x ≡ 0
-    nil x = omega arith
-
--- The bit that a claim tries is one of those that it saw.
-saw_bit : (claim : MapClaim) → 0 < claim.seen → claim.seen < 2 ^ 64 → has_bit (tried_bit claim) claim.seen ≡ true
-saw_bit claim some small = ap (λ b. b == 1) (bit_at-trailing_zeros w64 claim.seen some small).1
-
-try_leaves : (h : Held) (note n : ℕ) → after (part_kind h part.Claim note) n ≡ bit_and n (all_but (2 ^ tried_bit h.topics.claim))
-unfolding after
-try_leaves h note n = refl
-
--- With its last step a fault that owes the lock found this word of the lock; and one that is to try a page loaded this word of the map.
+-- With its last step a fault that owes the lock found this word of the lock; and a claim that goes on has seen its word of the map.
 abbrev WaitSaw : Sizes → World Held → ℕ → FaultPlace → ℕ → Topics → List (Step Kind) → World Held → Type 0
 WaitSaw z w actor Share gfn t ss u = (word : ℕ) → t.hold ≡ Owing word → HasMade (TriesLock z actor word) (IsOthers actor) w ss
-WaitSaw z w actor (Claim true) gfn t ss u = 0 < t.claim.seen → Knows (IsOthers actor) actor (place_of (map_of z) area.PoolMap t.claim.at) t.claim.seen w ss u
+WaitSaw z w actor (Claim begun) gfn t ss u = begun ≡ true → ClaimSaw z w actor t.claim ss u
 WaitSaw z w actor _ gfn t ss u = Unit {0}
 
 module _ (z : Sizes) (w : World Held) (ss : List (Step Kind)) (s : Step Kind) (G : IsSound z (run mmu w ss)) (may : May mmu (run mmu w ss) s) where
@@ -124,32 +92,9 @@ module _ (z : Sizes) (w : World Held) (ss : List (Step Kind)) (s : Step Kind) (G
 
   -- ---- the claim
 
-  tried_saw : (b : Bool) (gfn : ℕ) (t_ : Topics) → is_won t.claim v ≡ b → t_.claim ≡ record { at = if b then 0 else t.claim.at; seen = if b then 0 else v } → Made part.Claim → Saw (if b then Fill else Claim true) gfn t_
-  tried_saw true gfn t_ lost is M = tt
-  tried_saw false gfn t_ lost is M = λ some.
-      subst (λ (c : MapClaim). Knows (IsOthers a) a (place_of (map_of z) area.PoolMap c.at) c.seen w (ss ++ s ∷ []) (effect mmu u s)) (sym is)
-      (knows_now (IsOthers a) a (place_of (map_of z) area.PoolMap t.claim.at) v w ss s may (record { by_actor = refl; on = word_on z u s G may part.Claim M; leaves = leaves }))
-    where
-      bit : tried_bit t.claim < 64
-      bit = (bit_at-trailing_zeros w64 t.claim.seen M.needs.1 (own_rests z u s G may).counters.seen).0
-
-      leaves : after s.kind n ≡ v
-      leaves =
-          let finds : n ≡ v = exchange_finds z u s G may part.Claim M tt in
-          ap (λ k. after k n) M.is ∙ try_leaves (hand_in mmu u s.actor) M.note n ∙ left_alone n (tried_bit t.claim) bit (G.small s.kind.word) (ap (has_bit (tried_bit t.claim)) finds ∙ lost) ∙ finds
-
-  mapped_saw : (b : Bool) (word gfn : ℕ) (t_ : Topics) → (v == 0) ≡ b → t_.claim ≡ record { at = word + (if b then 1 else 0); seen = v } → Made (part.Map word) → Saw (Claim true) gfn t_
-  mapped_saw true word gfn t_ none is M some = absurd (let zero_ : v ≡ 0 = grind (arith, nat_tests) in let same = ap (λ (c : MapClaim). c.seen) is in omega (arith, some, same, zero_))
-  mapped_saw false word gfn t_ none is M some =
-      subst (λ (c : MapClaim). Knows (IsOthers a) a (place_of (map_of z) area.PoolMap c.at) c.seen w (ss ++ s ∷ []) (effect mmu u s)) (sym is)
-      (subst (λ i. Knows (IsOthers a) a (place_of (map_of z) area.PoolMap i) v w (ss ++ s ∷ []) (effect mmu u s)) (omega arith)
-      (knows_now (IsOthers a) a (place_of (map_of z) area.PoolMap word) v w ss s may (record { by_actor = refl; on = word_on z u s G may (part.Map word) M; leaves = load_keeps z u s G may (part.Map word) M tt })))
-
-  claim_saw : (gfn : ℕ) (write begun tries : Bool) → tries_page begun t.claim ≡ tries → Made (if tries then part.Claim else part.Map (map_word begun t.claim))
-      → NextIs (WaitSaw z w) a (fault_next (Claim begun) z gfn write t v) gfn (part_topics (if tries then part.Claim else part.Map (map_word begun t.claim)) t v) (ss ++ s ∷ []) (effect mmu u s)
-  claim_saw gfn write begun true is M = rw is (tried_saw (is_won t.claim v) gfn (part_topics part.Claim t v) refl refl M)
-  claim_saw gfn write begun false is M =
-      rw is (either (nat_lt _ (words_of_bits z.pool)) (Claim true) (Unshare Starved) gfn (part_topics (part.Map (map_word begun t.claim)) t v) (mapped_saw (v == 0) (map_word begun t.claim) gfn (part_topics (part.Map (map_word begun t.claim)) t v) refl refl M) tt)
+  claim_goes : (tries : Bool) (claim : MapClaim) (gfn : ℕ) (t_ : Topics) → ClaimSaw z w a t_.claim (ss ++ s ∷ []) (effect mmu u s) → Saw (claim_next tries z claim v) gfn t_
+  claim_goes true claim gfn t_ S = either (is_won claim v) Fill (Claim true) gfn t_ tt (λ is. S)
+  claim_goes false claim gfn t_ S = either (nat_lt (claim.at + (if v == 0 then 1 else 0)) (words_of_bits z.pool)) (Claim true) (Unshare Starved) gfn t_ (λ is. S) tt
 
   -- ---- the others
 
@@ -168,7 +113,7 @@ module _ (z : Sizes) (w : World Held) (ss : List (Step Kind)) (s : Step Kind) (G
   walk_saw (entry_kind.Table page) gfn write t_ = tt
   walk_saw entry_kind.Leaf gfn write t_ =
       either (t.walk.level == 1) (if allows_access write v then Unshare Installed else Leaf) (Unshare (Retry _)) gfn t_ (either (allows_access write v) (Unshare Installed) Leaf gfn t_ tt tt) tt
-  walk_saw entry_kind.Absent gfn write t_ = either (t.walk.level == 1) Leaf (Claim false) gfn t_ tt tt
+  walk_saw entry_kind.Absent gfn write t_ = either (t.walk.level == 1) Leaf (Claim false) gfn t_ tt (λ is. absurd (cc is))
   walk_saw entry_kind.Frozen gfn write t_ = tt
 
   own_wait : (p : FaultPlace) (gfn : ℕ) (write : Bool) → Made (fault_part p gfn t) → FaultKnows p z gfn write t
@@ -182,7 +127,7 @@ module _ (z : Sizes) (w : World Held) (ss : List (Step Kind)) (s : Step Kind) (G
   own_wait (Check stage_) gfn write M K = check_saw stage_ gfn _
   own_wait (Walk true) gfn write M K = walk_saw (kind_of t.walk.level v) gfn write _
   own_wait (Walk false) gfn write M K = tt
-  own_wait (Claim begun) gfn write M K = claim_saw gfn write begun (tries_page begun t.claim) refl M
+  own_wait (Claim begun) gfn write M K = claim_goes (tries_page begun t.claim) (at_map_word begun t.claim) gfn (part_topics (claim_part begun t.claim) t v) (claim_saw z w ss s G may begun M)
   own_wait Fill gfn write M K = either (nat_lt (words_filled t.owned) 512) Fill Link gfn _ tt tt
   own_wait Link gfn write M K = either (v == t.walk.entry) (Walk true) (Give (Retry _)) gfn _ tt tt
   own_wait (Give e) gfn write M K = tt
@@ -193,7 +138,7 @@ module _ (z : Sizes) (w : World Held) (ss : List (Step Kind)) (s : Step Kind) (G
 others_wait : (z : Sizes) (w : World Held) (actor : ℕ) (p : FaultPlace) (gfn : ℕ) (t : Topics) (ss : List (Step Kind)) (s : Step Kind) → May mmu (run mmu w ss) s → s.actor ≢ actor
     → WaitSaw z w actor p gfn t ss (run mmu w ss) → WaitSaw z w actor p gfn t (ss ++ s ∷ []) (effect mmu (run mmu w ss) s)
 others_wait z w actor Share gfn t ss s may other S = λ word e. made_longer (TriesLock z actor word) (IsOthers actor) w ss s other (S word e)
-others_wait z w actor (Claim true) gfn t ss s may other S = λ some. knows_longer (IsOthers actor) actor _ t.claim.seen w ss s may other (λ mine. absurd (other mine)) (S some)
+others_wait z w actor (Claim begun) gfn t ss s may other S = λ is. others_claim z w actor t.claim ss s may other (S is)
 others_wait z w actor _ gfn t ss s may other S = tt
 
 waits_seen : (z : Sizes) (w : World Held) → AreSeen z w (WaitSaw z w)
@@ -222,26 +167,9 @@ module _ (z : Sizes) (w : World Held) (ss : List (Step Kind)) (s : Step Kind) (G
   share_caused Shared gfn is owes S = absurd (cc owes)
   share_caused Exclusive gfn is owes S = absurd (cc owes)
 
-  claim_caused : (begun tries : Bool) (gfn : ℕ) → tries_page begun h.topics.claim ≡ tries → (tries && not (is_won h.topics.claim found_there)) ≡ true → Makes h s (if tries then part.Claim else part.Map (map_word begun h.topics.claim))
-      → WaitSaw z w s.actor (Claim begun) gfn h.topics ss (run mmu w ss) → WaitIsCaused (Claim begun) z s.actor h.topics found_there w ss
-  claim_caused true true gfn is lost M S =
-      let B = both true (nat_lt 0 h.topics.claim.seen) is in
-      let some : 0 < h.topics.claim.seen = (let b = B.1 in grind (arith, nat_tests)) in
-      let gone : has_bit (tried_bit h.topics.claim) found_there ≡ false = is_not (is_won h.topics.claim found_there) lost in
-      let saw : has_bit (tried_bit h.topics.claim) h.topics.claim.seen ≡ true = saw_bit h.topics.claim some (own_rests z (run mmu w ss) s G may).counters.seen in
-      let here : slice_index (run mmu w ss).words (place_of (map_of z) area.PoolMap h.topics.claim.at) ≡ found_there =
-      ap (slice_index (run mmu w ss).words) (sym (word_on z (run mmu w ss) s G may part.Claim M)) ∙ exchange_finds z (run mmu w ss) s G may part.Claim M tt in (
-        was_changed (IsOthers s.actor) s.actor (place_of (map_of z) area.PoolMap h.topics.claim.at) h.topics.claim.seen w ss (run mmu w ss) (S some)
-            (λ same. let apart : has_bit (tried_bit h.topics.claim) h.topics.claim.seen ≡ false = ap (has_bit (tried_bit h.topics.claim)) (sym same ∙ here) ∙ gone in cc (saw, apart)),
-        saw,
-        gone,
-      )
-  claim_caused false true gfn is lost M S = absurd (cc is)
-  claim_caused begun false gfn is lost M S = absurd (cc lost)
-
   caused : (p : FaultPlace) (gfn : ℕ) → Makes h s (fault_part p gfn h.topics) → waits p h.topics found_there ≡ true → WaitSaw z w s.actor p gfn h.topics ss (run mmu w ss) → WaitIsCaused p z s.actor h.topics found_there w ss
   caused Share gfn M is S = share_caused h.topics.hold gfn refl is S
-  caused (Claim begun) gfn M is S = claim_caused begun (tries_page begun h.topics.claim) gfn refl is M S
+  caused (Claim begun) gfn M is S = page_taken z w ss s G may begun is M S
   caused _ gfn M is S = absurd (cc is)
 
   pub wait_caused : (p : FaultPlace) → IsSound z w → Legal mmu w ss → (hand_in mmu w s.actor).state.place ≡ place.Between → h.state.place ≡ place.Access (access.Fault p) → waits p h.topics found_there ≡ true → WaitIsCaused p z s.actor h.topics found_there w ss

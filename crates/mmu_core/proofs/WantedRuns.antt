@@ -29,7 +29,7 @@ use Rattle.mmu_core.specs.Enabled.{mmu}
 use Rattle.mmu_core.specs.Enough.{some_line_wants}
 use Rattle.mmu_core.specs.Machine.{Legal, Step, World, hand_in, run}
 use Rattle.mmu_core.specs.SlotSetPart.{Fits}
-use Rattle.mmu_core.specs.SlotWords.{live_at, slot_at, slots_below}
+use Rattle.part_steps.specs.SlotWords.{live_at, slot_at, slots_below}
 use Rattle.mmu_core.specs.TreePart.{IsLiveIn, IsWanted, Position}
 use Rattle.mmu_core.specs.View.{word_in}
 use Rattle.mmu_core.specs.Worlds.{IsStart}

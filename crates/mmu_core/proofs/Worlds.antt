@@ -15,15 +15,15 @@ use Rattle.core_views.specs.Held.{Held}
 use Rattle.core_views.specs.Sizes.{actors_of, index_of}
 use Rattle.spte_words.specs.declared.area.Area.{Area}
 use Rattle.spte_words.specs.declared.area.Area.TheVariants as area
-use Rattle.mmu_core.specs.declared.outcome.Task.{Task}
-use Rattle.mmu_core.specs.declared.part_step.PartStep.{PartStep}
+use Rattle.part_steps.specs.declared.task.Task.{Task}
+use Rattle.part_steps.specs.declared.part_step.PartStep.{PartStep}
 use Rattle.spte_words.specs.Areas.{place, size_of}
 use Rattle.mmu_core.specs.Enabled.{IsNext, IsPartStep, mmu}
 use Rattle.mmu_core.specs.Invariant.{Invariant}
 use Rattle.mmu_core.specs.Machine.{Legal, May, Step, World, answered, effect, hand_in, run}
-use Rattle.mmu_core.specs.PartSteps.{own_index, part_task}
+use Rattle.part_steps.specs.PartSteps.{own_index, part_task}
 use Rattle.mmu_core.specs.Steps.{has_line, held_after, idle_after, line_at, next, place_at, task_of}
-use Rattle.mmu_core.specs.Tasks.{kind_of_task, map_of}
+use Rattle.part_steps.specs.Tasks.{kind_of_task, map_of}
 use Rattle.mmu_core.specs.TopicsInvariant.{TopicsInvariant}
 use Rattle.mmu_core.specs.View.{View, answer_in, part_stepped, stepped, upd, view, word_in, words_after}
 use Rattle.mmu_core.proofs.KnowsKept.{part_knows_behind}

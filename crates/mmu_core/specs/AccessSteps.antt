@@ -29,14 +29,14 @@ use Rattle.spte_words.specs.Areas.{content_index}
 use Rattle.spte_words.specs.Entries.{frame_in, kind_of}
 use Rattle.mmu_core.specs.declared.outcome.Outcome.{Outcome}
 use Rattle.mmu_core.specs.declared.outcome.Outcome.TheVariants.{Goes, Ends}
-use Rattle.mmu_core.specs.declared.outcome.Task.{Task}
-use Rattle.mmu_core.specs.declared.part_step.PartStep.{PartStep}
-use Rattle.mmu_core.specs.declared.part_step.PartStep.TheVariants as part
+use Rattle.part_steps.specs.declared.task.Task.{Task}
+use Rattle.part_steps.specs.declared.part_step.PartStep.{PartStep}
+use Rattle.part_steps.specs.declared.part_step.PartStep.TheVariants as part
 use Rattle.mmu_core.specs.Cached.{first_usable, with_leaf}
 use Rattle.mmu_core.specs.FaultSteps.{allows_access, fault_next, fault_part}
-use Rattle.mmu_core.specs.PartSteps.{own_index, part_task}
-use Rattle.mmu_core.specs.SlotWords.{page_of}
-use Rattle.mmu_core.specs.Tasks.{loads, map_of}
+use Rattle.part_steps.specs.PartSteps.{own_index, part_task}
+use Rattle.part_steps.specs.SlotWords.{page_of}
+use Rattle.part_steps.specs.Tasks.{loads, map_of}
 
 -- the step of each place, but for the touch, which is the guest's own
 abbrev pub access_part : AccessPlace → ℕ → Topics → Option PartStep

@@ -12,7 +12,7 @@ use Rattle.core_views.specs.declared.sizes.Sizes.{Sizes}
 use Rattle.core_views.specs.declared.topics.Topics.{Topics}
 use Rattle.core_views.specs.Sizes.{actors_of}
 use Rattle.mmu_core.specs.FaultSteps.{claim_left, fault_left}
-use Rattle.mmu_core.specs.PartSteps.{words_filled}
+use Rattle.part_steps.specs.PartSteps.{words_filled}
 pub use Rattle.mmu_core.specs.SearchLeft.{look_left}
 
 -- An access that finds no translation faults once, and then finds the leaf in another stay: what is left of it from each place on. A

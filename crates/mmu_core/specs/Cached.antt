@@ -1,5 +1,5 @@
 -- Cached translations: which guest frames one covers, what it allows, and which of a list is used.
-use Rattle.std.specs.Prelude.{◌≤◌, ◌/◌, ◌==◌, ◌&&◌, ◌||◌, ℕ, Bool, List, [], ◌∷◌, find, not, take, Option, if◌then◌else◌}
+use Rattle.std.specs.Prelude.{◌/◌, ◌==◌, ◌&&◌, ◌||◌, ℕ, Bool, List, [], ◌∷◌, find, not, take, Option, if◌then◌else◌}
 use Rattle.circular_buffer.specs.Buffer.{Buffer, buffer}
 use Rattle.core_views.specs.declared.cache.Translation.{Translation}
 use Rattle.core_views.specs.declared.kind.Kind.{Kind}
@@ -8,10 +8,6 @@ use Rattle.core_views.specs.declared.kind.StepKind.TheVariants as kind
 use Rattle.core_views.specs.Kinds.{kind_named}
 use Rattle.spte_words.specs.Bits.{has_bit}
 use Rattle.spte_words.specs.Entries.{can_write, level_span}
-
--- Its leaf is one of a level that has leaves, 1 to 3.
-abbrev pub IsAtLeafLevel : Translation → Type 0
-IsAtLeafLevel t = (1 ≤ t.level) × (t.level ≤ 3)
 
 -- The leaf's run holds the guest frame, as it holds the one that the walk was for.
 abbrev pub covers : ℕ → Translation → Bool

@@ -4,7 +4,7 @@ use Rattle.core_views.specs.declared.cache.Translation.{Translation}
 use Rattle.core_views.specs.declared.trace.Slot.{Slot as SlotOf}
 use Rattle.core_views.specs.Slots.{contains}
 use Rattle.mmu_core.specs.SlotSetPart.{IsLiveIn}
-use Rattle.mmu_core.specs.SlotWords.{leaf_of, page_of}
+use Rattle.part_steps.specs.SlotWords.{leaf_of, page_of}
 
 -- The word is the leaf of the page that the published slots, in this page, and the host give the guest frame.
 pub record IsLeafFor (pool host : ℕ → ℕ) (set gfn leaf : ℕ) : Type 0 where

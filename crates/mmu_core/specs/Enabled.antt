@@ -5,12 +5,12 @@ use Rattle.core_views.specs.Held.{Held}
 use Rattle.core_views.specs.Kinds.{after, answer}
 use Rattle.core_views.specs.Sizes.{AreSizes}
 use Rattle.spte_words.specs.Areas.{total}
-use Rattle.mmu_core.specs.declared.part_step.PartStep.{PartStep}
+use Rattle.part_steps.specs.declared.part_step.PartStep.{PartStep}
 use Rattle.mmu_core.specs.Machine.{Core}
-use Rattle.mmu_core.specs.PartSteps.{IsWithin, PartNeeds, part_kind}
+use Rattle.part_steps.specs.PartSteps.{IsWithin, PartNeeds, part_kind}
 use Rattle.mmu_core.specs.Rests.{Rests}
 use Rattle.mmu_core.specs.Steps.{has_line, next, nobody, task_of}
-use Rattle.mmu_core.specs.Tasks.{kind_of_task, map_of}
+use Rattle.part_steps.specs.Tasks.{kind_of_task, map_of}
 
 -- The hand has a line without an answer, it holds what the line rests on, and the step is the next one of this line, in the order
 -- of the line's steps, at one of the words.

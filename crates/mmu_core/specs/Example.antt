@@ -1,4 +1,4 @@
--- That the machine goes on: every machine has a start, each actor with a line left can make a step, and three small runs.
+-- That the machine goes on: every machine has a start, each actor with a line left can make a step, and four small runs.
 use Rattle.std.specs.Prelude.{◌≡◌, ◌^◌, ◌<◌, ◌==◌, ℕ, zero, suc, List, [], ◌∷◌, ◌++◌, All, replicate, codes, true, false, length}
 use Rattle.std.specs.List.{IsDistinct}
 use Rattle.core_views.specs.declared.answer.Answer.TheVariants.{Done, Mmio, Reached, Starved}
@@ -19,7 +19,7 @@ use Rattle.core_views.specs.Traces.{IsCommandFor, slot_ids}
 use Rattle.mmu_core.specs.Enabled.{mmu}
 use Rattle.mmu_core.specs.Machine.{Legal, May, Step, World, effect, hand_in, run}
 use Rattle.mmu_core.specs.Steps.{next_line, task_of}
-use Rattle.mmu_core.specs.Tasks.{kind_of_task}
+use Rattle.part_steps.specs.Tasks.{kind_of_task}
 use Rattle.mmu_core.specs.Worlds.{IsStart, history}
 
 -- Every machine has a start, with all lines that a trace may have.
@@ -234,3 +234,39 @@ race_events =
 
 abbrev pub ExampleRaces : Type 0
 ExampleRaces = RunTells run_sizes race_lines race_order race_events × (text race_events ≡ codes "2 vm done\n3 v0 frame 65 value 0\n4 v1 frame 65 value 7\n")
+
+-- A slot setting beside a write, which both claim a page from the same word of the map. The processor takes the page that the setting is about to
+-- try: it waits, and takes the next one. With its page filled it finds the lock shared by the processor's fault, and waits. Behind its publication
+-- its watch finds the processor in the guest, where it touches, and waits. So it makes three steps more than the setting before it, which nobody was
+-- beside: 527.
+abbrev pub beside_line : Line
+beside_line = access_line 4 1 6 0 (Write 7)
+
+abbrev pub wait_lines : List Line
+wait_lines = set_line ∷ set_read_only_line ∷ beside_line ∷ []
+
+abbrev pub wait_order : List ℕ
+wait_order = replicate 524 3 ++ (replicate 19 1 ++ (3 ∷ 1 ∷ replicate 516 3 ++ (replicate 1553 1 ++ (replicate 6 3 ++ (replicate 8 1 ++ replicate 4 3)))))
+
+abbrev pub wait_events : List Event
+wait_events =
+    by set_line (Begun set_line)
+    ∷ by set_line (SlotChanged 0 (example_slot 5 64 false))
+    ∷ by set_line (Answered 2 Done)
+    ∷ by beside_line (Begun beside_line)
+    ∷ by beside_line LookedAtSlots
+    ∷ by beside_line (LookedAtHost 65)
+    ∷ by set_read_only_line (Begun set_read_only_line)
+    ∷ by set_read_only_line (SlotChanged 1 (example_slot 16 0 true))
+    ∷ by beside_line (Accessed 6 0 (Write 7) 65 0)
+    ∷ by beside_line (Answered 4 (Reached 65 0))
+    ∷ by set_read_only_line (Answered 3 Done)
+    ∷ []
+
+-- Such a run tells this, and behind it the actor at this place has counted so many delays of its last line.
+pub record RunDelays (z : Sizes) (lines : List Line) (order : List ℕ) (events : List Event) (actor delays : ℕ) : Type 0 where
+  pub tells : RunTells z lines order events
+  pub counts : (hand_in mmu (run mmu tells.start (turns z tells.start order)) actor).state.delays ≡ delays
+
+abbrev pub ExampleWaits : Type 0
+ExampleWaits = RunDelays run_sizes wait_lines wait_order wait_events 3 3

@@ -18,18 +18,18 @@ use Rattle.spte_words.specs.declared.area.Area.TheVariants as area
 use Rattle.spte_words.specs.declared.spte_kind.SpteKind.TheVariants as entry_kind
 use Rattle.spte_words.specs.Areas.{pool_index}
 use Rattle.spte_words.specs.Entries.{kind_of, level_span}
-use Rattle.mmu_core.specs.declared.outcome.Task.{Task}
-use Rattle.mmu_core.specs.declared.part_step.PartStep.{PartStep}
+use Rattle.part_steps.specs.declared.task.Task.{Task}
+use Rattle.part_steps.specs.declared.part_step.PartStep.{PartStep}
 use Rattle.mmu_core.specs.Enabled.{mmu}
 use Rattle.mmu_core.specs.FaultKnows.{FaultKnows}
 use Rattle.mmu_core.specs.FaultSteps.{allows_access, fault_next, fault_part, waits}
 use Rattle.mmu_core.specs.Laws.{IsSound}
 use Rattle.mmu_core.specs.Machine.{World, hand_in}
 use Rattle.mmu_core.specs.OthersRest.{OthersRest}
-use Rattle.mmu_core.specs.PartSteps.{entry_index, part_task, table_page}
-use Rattle.mmu_core.specs.PartTopics.{part_topics}
-use Rattle.mmu_core.specs.SlotWords.{NoneBelow, NoneHasPage}
-use Rattle.mmu_core.specs.TopicSteps.{linked_page}
+use Rattle.part_steps.specs.PartSteps.{entry_index, part_task, table_page}
+use Rattle.part_steps.specs.PartTopics.{part_topics}
+use Rattle.part_steps.specs.SlotWords.{NoneBelow, NoneHasPage}
+use Rattle.part_steps.specs.TopicSteps.{linked_page}
 use Rattle.mmu_core.specs.TreePart.{at}
 use Rattle.mmu_core.specs.View.{answer_in, word_in, words_after}
 

@@ -24,7 +24,7 @@ use Rattle.spte_words.specs.Areas.{words_of_bits}
 use Rattle.spte_words.specs.Entries.{kind_of}
 use Rattle.spte_words.specs.HostWords.{host_allows_write}
 use Rattle.mmu_core.specs.FaultSteps.{allows_access, entry_word}
-use Rattle.mmu_core.specs.PartSteps.{FoundSlot, HoldsSet, IsAtRest, IsFresh, IsOver, LookedUp, OwnsPage, OwnsTable, SawEntry}
+use Rattle.part_steps.specs.PartSteps.{FoundSlot, HoldsSet, IsAtRest, IsFresh, IsOver, LookedUp, OwnsPage, OwnsTable, SawEntry}
 
 -- In a section, with no page; without the lock, or sharing it.
 pub record InSection (t : Topics) : Type 0 where

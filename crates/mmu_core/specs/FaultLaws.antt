@@ -11,15 +11,15 @@ use Rattle.spte_words.specs.declared.area.Area.{Area}
 use Rattle.spte_words.specs.declared.area.Area.TheVariants as area
 use Rattle.spte_words.specs.Areas.{place}
 use Rattle.spte_words.specs.Bits.{has_bit}
-use Rattle.mmu_core.specs.declared.part_step.PartStep.{PartStep}
-use Rattle.mmu_core.specs.declared.part_step.PartStep.TheVariants as part
+use Rattle.part_steps.specs.declared.part_step.PartStep.{PartStep}
+use Rattle.part_steps.specs.declared.part_step.PartStep.TheVariants as part
 use Rattle.mmu_core.specs.FaultKnows.{FaultKnows, KnowsNext}
 use Rattle.mmu_core.specs.FaultSteps.{fault_left, fault_next, fault_part, next_left, wait_seen, waits}
-use Rattle.mmu_core.specs.PartRests.{PartRests}
-use Rattle.mmu_core.specs.PartSteps.{PartNeeds, part_task}
-use Rattle.mmu_core.specs.PartTopics.{part_topics}
-use Rattle.mmu_core.specs.Tasks.{map_of}
-use Rattle.mmu_core.specs.TopicSteps.{has_writer, tried_bit}
+use Rattle.part_steps.specs.PartBounds.{PartRests}
+use Rattle.part_steps.specs.PartSteps.{PartNeeds, part_task}
+use Rattle.part_steps.specs.PartTopics.{part_topics}
+use Rattle.part_steps.specs.Tasks.{map_of}
+use Rattle.part_steps.specs.TopicSteps.{has_writer, tried_bit}
 use Rattle.mmu_core.specs.View.{answer_in}
 
 -- what a step of a part can answer: a fill what it stored, and every other step any word

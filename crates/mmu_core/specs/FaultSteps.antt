@@ -28,13 +28,13 @@ use Rattle.spte_words.specs.declared.spte_kind.SpteKind.TheVariants as entry_kin
 use Rattle.spte_words.specs.Areas.{place, pool_index, words_of_bits}
 use Rattle.spte_words.specs.Entries.{can_write, kind_of}
 use Rattle.spte_words.specs.HostWords.{host_allows_write}
-use Rattle.mmu_core.specs.declared.part_step.PartStep.{PartStep}
-use Rattle.mmu_core.specs.declared.part_step.PartStep.TheVariants as part
-use Rattle.mmu_core.specs.PartSteps.{entry_index, part_kind, table_page, words_filled}
+use Rattle.part_steps.specs.declared.part_step.PartStep.{PartStep}
+use Rattle.part_steps.specs.declared.part_step.PartStep.TheVariants as part
+use Rattle.part_steps.specs.PartSteps.{entry_index, part_kind, table_page, words_filled}
 use Rattle.mmu_core.specs.SearchLeft.{look_left}
-use Rattle.mmu_core.specs.SlotWords.{page_of}
-use Rattle.mmu_core.specs.Tasks.{map_of}
-use Rattle.mmu_core.specs.TopicSteps.{has_writer, is_won, searched}
+use Rattle.part_steps.specs.SlotWords.{page_of}
+use Rattle.part_steps.specs.Tasks.{map_of}
+use Rattle.part_steps.specs.TopicSteps.{has_writer, is_won, searched}
 
 -- A claim tries the lowest page of those seen, and else loads the word of the map that it has come to, the first one where it begins.
 abbrev pub map_word : Bool → MapClaim → ℕ

@@ -25,8 +25,8 @@ use Rattle.core_views.specs.Sizes.{actors_of}
 use Rattle.core_views.specs.Slots.{contains}
 use Rattle.spte_words.specs.Areas.{content_index}
 use Rattle.spte_words.specs.declared.area.Area.TheVariants as area
-use Rattle.mmu_core.specs.SlotWords.{slots_below}
-use Rattle.mmu_core.specs.Tasks.{map_of}
+use Rattle.part_steps.specs.SlotWords.{slots_below}
+use Rattle.part_steps.specs.Tasks.{map_of}
 use Rattle.mmu_core.specs.View.{View}
 
 -- The slots are the live ones of the published set, in this page; each host page is at its own frame; the content words are memory.

@@ -1,14 +1,11 @@
--- What an actor holds of tables and slot sets, and its counters.
-use Rattle.std.specs.Prelude.{◌≡◌, ◌≢◌, ◌^◌, ◌<◌, ◌≤◌, ◌⊎◌, ℕ, false, Option, Some, None}
-use Rattle.core_views.specs.declared.sizes.Sizes.{Sizes}
+-- What an actor holds of tables and slot sets.
+use Rattle.std.specs.Prelude.{◌≡◌, ◌≢◌, ◌<◌, ◌≤◌, ◌⊎◌, ℕ, false, Option, Some, None}
 use Rattle.core_views.specs.declared.topics.Stay.TheVariants.{Section}
 use Rattle.core_views.specs.declared.topics.Topics.{Topics}
-use Rattle.core_views.specs.Sizes.{actors_of}
-use Rattle.spte_words.specs.Areas.{words_of_bits}
-use Rattle.mmu_core.specs.PartSteps.{table_page}
+use Rattle.part_steps.specs.PartSteps.{table_page}
 use Rattle.mmu_core.specs.SlotSetPart.{IsLiveIn}
 use Rattle.core_views.specs.declared.trace.Slot.{Slot as SlotOf}
-use Rattle.mmu_core.specs.TopicSteps.{may_search, may_walk}
+use Rattle.part_steps.specs.TopicSteps.{may_search, may_walk}
 use Rattle.mmu_core.specs.TreePart.{Position, at}
 
 -- The table that a walk has come to is one, at the walk's level and run; and neither a table nor a slot set is held outside of the
@@ -34,11 +31,3 @@ SetsPart n slots topics = (i k : ℕ) → i < n → (topics i).search.set ≡ So
 -- Each slot of a slot set that is leaving is live, as it is, in the published one.
 abbrev pub OldSetsPart : ℕ → ℕ → (ℕ → ℕ) → (ℕ → Option ℕ) → Type 0
 OldSetsPart n slots pool leaving = (i k : ℕ) → i < n → leaving i ≡ Some k → (id : ℕ) (slot : SlotOf) → IsLiveIn pool k id slot → IsLiveIn pool slots id slot
-
--- The counters of an actor stay within what they count.
-pub record CountersPart (z : Sizes) (t : Topics) : Type 0 where
-  pub slots : t.search.id ≤ 32
-  pub claim : t.claim.at ≤ words_of_bits z.pool
-  pub seen : t.claim.seen < 2 ^ 64
-  pub watched : t.watched ≤ actors_of z
-  pub run : 1 ≤ t.walk.level → t.walk.prefix < 2 ^ 36

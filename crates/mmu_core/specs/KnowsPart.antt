@@ -14,7 +14,7 @@ use Rattle.core_views.specs.Held.{Held}
 use Rattle.core_views.specs.Slots.{is_write}
 use Rattle.mmu_core.specs.FaultKnows.{FaultKnows}
 use Rattle.mmu_core.specs.FaultSteps.{allows_access}
-use Rattle.mmu_core.specs.PartSteps.{IsAtRest, IsOver}
+use Rattle.part_steps.specs.PartSteps.{IsAtRest, IsOver}
 use Rattle.mmu_core.specs.SetSlotKnows.{SetSlotKnows}
 use Rattle.mmu_core.specs.Steps.{has_line}
 

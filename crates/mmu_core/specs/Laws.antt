@@ -13,7 +13,7 @@ use Rattle.spte_words.specs.Areas.{total}
 use Rattle.mmu_core.specs.Enabled.{mmu}
 use Rattle.mmu_core.specs.Invariant.{Invariant}
 use Rattle.mmu_core.specs.Machine.{Legal, Step, World, run}
-use Rattle.mmu_core.specs.Tasks.{map_of}
+use Rattle.part_steps.specs.Tasks.{map_of}
 use Rattle.mmu_core.specs.TopicsInvariant.{TopicsInvariant}
 use Rattle.mmu_core.specs.View.{view, word_in}
 use Rattle.mmu_core.specs.Worlds.{IsStart, history}

@@ -18,8 +18,8 @@ use Rattle.mmu_core.specs.FaultAlone.{LeadsTo}
 use Rattle.mmu_core.specs.FaultSteps.{allows_access}
 use Rattle.mmu_core.specs.Laws.{IsSound}
 use Rattle.mmu_core.specs.Machine.{World, hand_in}
-use Rattle.mmu_core.specs.PartSteps.{IsOver, table_page}
-use Rattle.mmu_core.specs.SlotWords.{slots_below}
+use Rattle.part_steps.specs.PartSteps.{IsOver, table_page}
+use Rattle.part_steps.specs.SlotWords.{slots_below}
 use Rattle.mmu_core.specs.View.{word_in}
 
 -- The leaf is of the page that the live slots of the published set give the guest frame, and names the frame that this page's host word

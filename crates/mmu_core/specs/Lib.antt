@@ -1,13 +1,7 @@
 pub mod Machine
-pub mod Tasks
-pub mod SlotWords
-pub mod SetWords
 pub mod Cached
 pub mod AccessSteps
 pub mod SetSlotSteps
-pub mod TopicSteps
-pub mod PartSteps
-pub mod PartTopics
 pub mod Steps
 pub mod Rests
 pub mod Enabled
@@ -41,8 +35,6 @@ pub mod HeldPart
 pub mod TopicsInvariant
 pub mod FaultSteps
 pub mod FaultKnows
-pub mod PartBounds
-pub mod PartRests
 pub mod FaultLaws
 pub mod OthersRest
 pub mod Grace
@@ -55,3 +47,5 @@ pub mod LeafLaws
 pub mod StepLaws
 pub mod Delays
 pub mod TurnLaws
+pub mod Outcomes
+pub mod MayMake

@@ -13,7 +13,7 @@ use Rattle.core_views.specs.declared.trace.Slot.{Slot as SlotOf}
 use Rattle.core_views.specs.Held.{Held}
 use Rattle.core_views.specs.Refusals.{after_set, set_refusal}
 use Rattle.mmu_core.specs.CachedPart.{IsLeafFor}
-use Rattle.mmu_core.specs.SetWords.{IsFilledWith}
+use Rattle.part_steps.specs.SetWords.{IsFilledWith}
 
 -- The leaf that an access uses agrees with slots and host, at its touch.
 abbrev pub AccessHolds : (ℕ → ℕ) → (ℕ → ℕ) → ℕ → AccessPlace → ℕ → Held → Type 0

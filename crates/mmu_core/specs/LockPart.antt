@@ -2,9 +2,9 @@
 use Rattle.std.specs.Prelude.{◌≡◌, ◌+◌, ◌*◌, ◌^◌, ◌≤◌, ℕ, Bool, true, false}
 use Rattle.core_views.specs.declared.topics.Hold.{Hold}
 use Rattle.core_views.specs.declared.topics.Hold.TheVariants.{Shared, Owing}
-use Rattle.mmu_core.specs.PartSteps.{counts}
+use Rattle.part_steps.specs.PartSteps.{counts}
 use Rattle.mmu_core.specs.Sums.{one_if, sum_below}
-use Rattle.mmu_core.specs.TopicSteps.{has_writer, is_alone}
+use Rattle.part_steps.specs.TopicSteps.{has_writer, is_alone}
 
 -- how many actors count as readers; how many have the lock as readers; how many have it alone
 abbrev pub readers : ℕ → (ℕ → Hold) → ℕ

@@ -3,8 +3,8 @@ use Rattle.std.specs.Prelude.{◌≡◌, ◌≢◌, ◌<◌, ℕ, false, length,
 use Rattle.core_views.specs.Held.{Held}
 use Rattle.mmu_core.specs.Enabled.{mmu}
 use Rattle.mmu_core.specs.Machine.{World, hand_in}
-use Rattle.mmu_core.specs.PartSteps.{IsAtRest}
-use Rattle.mmu_core.specs.TopicSteps.{has_lock, is_alone}
+use Rattle.part_steps.specs.PartSteps.{IsAtRest}
+use Rattle.part_steps.specs.TopicSteps.{has_lock, is_alone}
 use Rattle.core_views.specs.declared.topics.Topics.{Topics}
 
 -- The actor holds nothing, and no page leaves for it.

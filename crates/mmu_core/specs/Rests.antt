@@ -14,10 +14,10 @@ use Rattle.core_views.specs.Refusals.{set_refusal}
 use Rattle.core_views.specs.SlotSets.{MemorySlots}
 use Rattle.core_views.specs.Traces.{IsCommandFor}
 use Rattle.spte_words.specs.Entries.{frame_in}
-use Rattle.mmu_core.specs.declared.part_step.PartStep.{PartStep}
+use Rattle.part_steps.specs.declared.part_step.PartStep.{PartStep}
 use Rattle.mmu_core.specs.AccessSteps.{access_part}
-use Rattle.mmu_core.specs.PartBounds.{PartRests}
-use Rattle.mmu_core.specs.PartSteps.{PartNeeds}
+use Rattle.part_steps.specs.PartBounds.{PartRests}
+use Rattle.part_steps.specs.PartSteps.{PartNeeds}
 use Rattle.mmu_core.specs.SetSlotSteps.{set_slot_part}
 use Rattle.mmu_core.specs.Steps.{line_at, place_at}
 

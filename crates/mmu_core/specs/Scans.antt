@@ -15,7 +15,7 @@ use Rattle.mmu_core.specs.declared.outcome.Outcome.TheVariants.{Ends}
 use Rattle.mmu_core.specs.Enabled.{mmu}
 use Rattle.mmu_core.specs.Laws.{IsSound}
 use Rattle.mmu_core.specs.Machine.{Legal, Step, World, answered, effect, hand_in, run}
-use Rattle.mmu_core.specs.Tasks.{map_of}
+use Rattle.part_steps.specs.Tasks.{map_of}
 use Rattle.mmu_core.specs.Turns.{outcome_of}
 use Rattle.mmu_core.specs.Worlds.{IsStart}
 

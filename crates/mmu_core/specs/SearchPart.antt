@@ -7,7 +7,7 @@ use Rattle.core_views.specs.declared.topics.HostLook.{HostLook}
 use Rattle.core_views.specs.declared.topics.SlotSearch.{SlotSearch}
 use Rattle.core_views.specs.declared.topics.Topics.{Topics}
 use Rattle.spte_words.specs.Flags.{flags_logged}
-use Rattle.mmu_core.specs.SlotWords.{live_at, slot_at, slot_index}
+use Rattle.part_steps.specs.SlotWords.{live_at, slot_at, slot_index}
 use Rattle.mmu_core.specs.TreePart.{IsLiveIn}
 
 -- The slot under search is live, and its flags were loaded as the words of its slot set hold them.

@@ -9,7 +9,7 @@ use Rattle.core_views.specs.declared.topics.Topics.{Topics}
 use Rattle.core_views.specs.Held.{Held}
 use Rattle.core_views.specs.Sizes.{actors_of}
 use Rattle.spte_words.specs.Areas.{words_of_bits}
-use Rattle.mmu_core.specs.PartSteps.{HasToFill, IsAtRest, MayGiveOld, MayPublish, OwnsSet}
+use Rattle.part_steps.specs.PartSteps.{HasToFill, IsAtRest, MayGiveOld, MayPublish, OwnsSet}
 use Rattle.mmu_core.specs.SetSlotSteps.{looked_at}
 
 -- Outside, with no table and no slot set, holding the lock so.

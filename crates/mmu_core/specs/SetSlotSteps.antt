@@ -22,15 +22,15 @@ use Rattle.spte_words.specs.declared.area.Area.TheVariants as area
 use Rattle.spte_words.specs.Areas.{place, words_of_bits}
 use Rattle.mmu_core.specs.declared.outcome.Outcome.{Outcome}
 use Rattle.mmu_core.specs.declared.outcome.Outcome.TheVariants.{Goes, Ends}
-use Rattle.mmu_core.specs.declared.outcome.Task.{Task}
-use Rattle.mmu_core.specs.declared.part_step.PartStep.{PartStep}
-use Rattle.mmu_core.specs.declared.part_step.PartStep.TheVariants as part
+use Rattle.part_steps.specs.declared.task.Task.{Task}
+use Rattle.part_steps.specs.declared.part_step.PartStep.{PartStep}
+use Rattle.part_steps.specs.declared.part_step.PartStep.TheVariants as part
 use Rattle.mmu_core.specs.AccessSteps.{exiting}
 use Rattle.mmu_core.specs.FaultSteps.{at_map_word, claim_part, map_word, tries_page}
-use Rattle.mmu_core.specs.PartSteps.{next_watched, own_index, part_kind, part_task, words_filled}
-use Rattle.mmu_core.specs.SetWords.{set_value}
-use Rattle.mmu_core.specs.Tasks.{map_of}
-use Rattle.mmu_core.specs.TopicSteps.{in_section, is_won}
+use Rattle.part_steps.specs.PartSteps.{next_watched, own_index, part_kind, part_task, words_filled}
+use Rattle.part_steps.specs.SetWords.{set_value}
+use Rattle.part_steps.specs.Tasks.{map_of}
+use Rattle.part_steps.specs.TopicSteps.{in_section, is_won}
 
 -- where a setting begins
 abbrev pub set_slot_first : Option Refusal → SetSlotPlace

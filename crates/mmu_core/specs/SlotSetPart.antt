@@ -3,8 +3,8 @@ use Rattle.std.specs.Prelude.{◌≡◌, ◌+◌, ◌^◌, ◌≤◌, ℕ, true}
 use Rattle.core_views.specs.declared.sizes.Sizes.{Sizes}
 use Rattle.core_views.specs.declared.trace.Slot.{Slot as SlotOf}
 use Rattle.core_views.specs.Slots.{contains, has_host_page}
-use Rattle.mmu_core.specs.SetWords.{set_role}
-use Rattle.mmu_core.specs.SlotWords.{live_at, slot_at}
+use Rattle.part_steps.specs.SetWords.{set_role}
+use Rattle.part_steps.specs.SlotWords.{live_at, slot_at}
 
 -- The slot's host pages are the machine's, and its guest frames lie below 2 ^ 36.
 pub record Fits (z : Sizes) (slot : SlotOf) : Type 0 where

@@ -19,8 +19,8 @@ use Rattle.mmu_core.specs.AccessSteps.{ends_with}
 use Rattle.mmu_core.specs.Cached.{asks_flush, with_leaf}
 use Rattle.mmu_core.specs.Enabled.{Enabled}
 use Rattle.mmu_core.specs.Steps.{has_line, next, place_at}
-use Rattle.mmu_core.specs.Tasks.{map_of}
-use Rattle.mmu_core.specs.TopicSteps.{map_ends}
+use Rattle.part_steps.specs.Tasks.{map_of}
+use Rattle.part_steps.specs.TopicSteps.{map_ends}
 use Rattle.mmu_core.specs.Turns.{outcome_of}
 
 -- The words that are loaded as control words: those of the machine's control, and those of the pool's map.

@@ -21,14 +21,15 @@ use Rattle.core_views.specs.Refusals.{set_refusal}
 use Rattle.core_views.specs.SlotSets.{MemorySlots}
 use Rattle.mmu_core.specs.declared.outcome.Outcome.{Outcome}
 use Rattle.mmu_core.specs.declared.outcome.Outcome.TheVariants.{Goes}
-use Rattle.mmu_core.specs.declared.outcome.Task.{Task}
+use Rattle.part_steps.specs.declared.task.Task.{Task}
 use Rattle.mmu_core.specs.AccessSteps.{access_caches, access_loads, access_outcome, access_task, access_tells}
 use Rattle.mmu_core.specs.Cached.{flushed}
-pub use Rattle.mmu_core.specs.PartSteps.{has_line}
+pub use Rattle.part_steps.specs.PartSteps.{has_line}
 use Rattle.mmu_core.specs.Delays.{counted, delays_counted, is_delay, steps_counted}
 use Rattle.mmu_core.specs.SetSlotSteps.{set_slot_first, set_slot_outcome, set_slot_records, set_slot_task, set_slot_tells}
-use Rattle.mmu_core.specs.Tasks.{answering, answers_after, no_task, place_after}
-use Rattle.mmu_core.specs.TopicSteps.{topics_after}
+use Rattle.mmu_core.specs.Outcomes.{answering, answers_after, place_after}
+use Rattle.part_steps.specs.Tasks.{no_task}
+use Rattle.part_steps.specs.TopicSteps.{topics_after}
 
 -- the first of a hand's lines that has no answer
 abbrev pub next_line : Held → Line

@@ -5,7 +5,8 @@ use Rattle.core_views.specs.Held.{Held}
 use Rattle.core_views.specs.Sizes.{actors_of}
 use Rattle.spte_words.specs.declared.area.Area.TheVariants as area
 use Rattle.mmu_core.specs.View.{View}
-pub use Rattle.mmu_core.specs.HeldPart.{CountersPart, HeldPart, HoldsOld, OldSetsPart, SetsPart}
+pub use Rattle.part_steps.specs.PartBounds.{CountersPart}
+pub use Rattle.mmu_core.specs.HeldPart.{HeldPart, HoldsOld, OldSetsPart, SetsPart}
 pub use Rattle.mmu_core.specs.LockPart.{LockPart, SawWriter}
 pub use Rattle.mmu_core.specs.PoolPart.{FilledPart, IsFilled, PoolPart, is_leaving, leavers}
 pub use Rattle.mmu_core.specs.SearchPart.{LookPart, SearchPart}

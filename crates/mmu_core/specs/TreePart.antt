@@ -5,7 +5,7 @@ use Rattle.core_views.specs.Slots.{contains}
 use Rattle.spte_words.specs.Areas.{pool_index}
 use Rattle.spte_words.specs.Entries.{absent_word, level_span, table_word}
 pub use Rattle.mmu_core.specs.SlotSetPart.{IsLiveIn}
-use Rattle.mmu_core.specs.SlotWords.{leaf_of, page_of}
+use Rattle.part_steps.specs.SlotWords.{leaf_of, page_of}
 
 -- where a table stands: its level, and which of the runs of guest frames that tables of this level are for is its own
 pub record Position : Type 0 where

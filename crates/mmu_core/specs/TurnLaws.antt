@@ -1,5 +1,5 @@
 -- A line beside other actors, which stand anywhere in their lines: its turns come to an end between its waits and its new beginnings.
-use Rattle.std.specs.Prelude.{◌≡◌, ◌+◌, ◌<◌, ◌≤◌, ℕ, Bool, true, false, List, length}
+use Rattle.std.specs.Prelude.{◌≡◌, ◌⊎◌, ◌+◌, ◌<◌, ◌≤◌, ℕ, Bool, true, false, List, length}
 use Rattle.core_views.specs.declared.kind.Kind.{Kind}
 use Rattle.core_views.specs.declared.place.AccessPlace.{AccessPlace}
 use Rattle.core_views.specs.declared.place.AccessPlace.TheVariants.{Enter, Pause, Root, Walk, Fault}
@@ -27,7 +27,7 @@ use Rattle.mmu_core.specs.FaultAlone.{LeadsToLeaf}
 use Rattle.mmu_core.specs.Laws.{IsSound}
 use Rattle.mmu_core.specs.LineAlone.{hand_left, line_waits}
 use Rattle.mmu_core.specs.Machine.{Legal, May, Step, World, answered, effect, hand_in, run}
-use Rattle.mmu_core.specs.PartSteps.{table_page}
+use Rattle.part_steps.specs.PartSteps.{table_page}
 use Rattle.mmu_core.specs.Rests.{IsUnderWay}
 use Rattle.mmu_core.specs.Steps.{delays_at, has_line, place_at}
 use Rattle.mmu_core.specs.Turns.{line_of, outcome_of}
@@ -112,3 +112,11 @@ abbrev pub StepsAreCounted : Type 0
 StepsAreCounted =
     (w : World Held) (s : Step Kind) → Reachable w → May mmu w s → has_line (hand_in mmu w s.actor) ≡ true
     → CountsOn (delays_at (place_at (hand_in mmu w s.actor).state.place (hand_in mmu w s.actor)) (line_of (hand_in mmu w s.actor)).command (hand_in mmu w s.actor) (answered mmu w s.kind)) (hand_in mmu w s.actor) (hand_in mmu (effect mmu w s) s.actor)
+
+-- A step that is counted as a delay waits, or begins its fault anew, at the place where its line stands. So the step with which a line begins is
+-- none, and the stay behind an installed entry always finds a translation that allows the access.
+abbrev pub DelaysWaitOrBeginAnew : Type 0
+DelaysWaitOrBeginAnew =
+    (w : World Held) (s : Step Kind) → Reachable w → May mmu w s → has_line (hand_in mmu w s.actor) ≡ true
+    → delays_at (place_at (hand_in mmu w s.actor).state.place (hand_in mmu w s.actor)) (line_of (hand_in mmu w s.actor)).command (hand_in mmu w s.actor) (answered mmu w s.kind) ≡ true
+    → (line_waits (hand_in mmu w s.actor).state.place (hand_in mmu w s.actor).topics (answered mmu w s.kind) ≡ true) ⊎ (begins_anew (hand_in mmu w s.actor).state.place ≡ true)

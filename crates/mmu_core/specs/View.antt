@@ -10,15 +10,16 @@ use Rattle.core_views.specs.Held.{Held}
 use Rattle.core_views.specs.Kinds.{operation_of, word_after, word_answered}
 use Rattle.spte_words.specs.declared.area.Area.{Area}
 use Rattle.spte_words.specs.Areas.{number_of, place, size_of}
-use Rattle.mmu_core.specs.declared.outcome.Task.{Task}
+use Rattle.part_steps.specs.declared.task.Task.{Task}
 use Rattle.mmu_core.specs.Cached.{flushed}
 use Rattle.mmu_core.specs.Enabled.{mmu}
 use Rattle.mmu_core.specs.Machine.{World, hand_in}
 use Rattle.mmu_core.specs.Steps.{caches_at, idle_after, outcome_at, records_at, state_at, task_at}
-use Rattle.mmu_core.specs.PartSteps.{own_index, part_task}
-use Rattle.mmu_core.specs.declared.part_step.PartStep.{PartStep}
-use Rattle.mmu_core.specs.Tasks.{answers_after, kind_of_task, map_of, place_after}
-use Rattle.mmu_core.specs.TopicSteps.{topics_after}
+use Rattle.part_steps.specs.PartSteps.{own_index, part_task}
+use Rattle.part_steps.specs.declared.part_step.PartStep.{PartStep}
+use Rattle.mmu_core.specs.Outcomes.{answers_after, place_after}
+use Rattle.part_steps.specs.Tasks.{kind_of_task, map_of}
+use Rattle.part_steps.specs.TopicSteps.{topics_after}
 
 pub record View : Type 0 where
   pub words : Area → ℕ → ℕ

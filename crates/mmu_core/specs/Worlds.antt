@@ -16,7 +16,7 @@ use Rattle.spte_words.specs.HostWords.{host_word}
 use Rattle.mmu_core.specs.Machine.{World, Step, Leads, effect, answered, hand_in}
 use Rattle.mmu_core.specs.Enabled.{mmu}
 use Rattle.mmu_core.specs.Steps.{events_of}
-use Rattle.mmu_core.specs.Tasks.{map_of}
+use Rattle.part_steps.specs.Tasks.{map_of}
 
 -- the lesser of two numbers
 abbrev pub least : ℕ → ℕ → ℕ

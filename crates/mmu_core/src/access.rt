@@ -1,23 +1,24 @@
 //! The steps of a guest access.
-ghost use Rattle.std.specs.Prelude.{◌≡◌, ◌≤◌, ◌<◌, All};
+ghost use Rattle.std.specs.Prelude.{◌≡◌, ◌<◌, All};
 ghost use Rattle.core_views.specs.Slots.{is_write};
 ghost use Rattle.mmu_core.specs.FaultSteps.{allows_access};
 ghost use Rattle.spte_words.specs.Entries.{kind_of};
 ghost use Rattle.mmu_core.specs.AccessSteps.{access_caches, access_loads, access_note, access_outcome, access_part, access_task, behind_fault, touch_of, walk_next};
-ghost use Rattle.mmu_core.specs.Cached.{IsAtLeafLevel, allows, covers, first_usable, is_usable};
-ghost use Rattle.mmu_core.specs.PartBounds.{PartRests};
+ghost use Rattle.part_steps.specs.PartBounds.{IsAtLeafLevel};
+ghost use Rattle.mmu_core.specs.Cached.{allows, covers, first_usable, is_usable};
+ghost use Rattle.part_steps.specs.PartBounds.{PartRests};
 ghost use Rattle.mmu_core.specs.Rests.{RestsOn};
-ghost use Rattle.mmu_core.specs.Tasks.{map_of};
+ghost use Rattle.part_steps.specs.Tasks.{map_of};
 ghost use Rattle.spte_words.specs.Areas.{size_of};
 ghost use Rattle.spte_words.specs.declared.area.Area.TheVariants.{Content};
 
-use crate::outcome::{Outcome, Task};
-use crate::part_step::PartStep;
-use crate::{fault, map_of, part_step};
+use crate::fault;
+use crate::outcome::Outcome;
 use core_views::{
     AccessPlace, Answer, Cache, FaultEnd, FaultNext, FaultPlace, Hand, Leaving, Op, Place,
     StepKind, Translation,
 };
+use part_steps::{PartStep, Task, map_of, part_task};
 use spte_words::{Area, Spte, SpteKind};
 
 // Whether the operation writes.
@@ -129,7 +130,7 @@ pub(crate) fn task(place: AccessPlace, hand: &Hand, gfn: u64, word: u8, op: Op) 
     ensures within { result.index < size_of (map_of hand.now.core.state.sizes) result.area }
 {
     if let Some(step) = part(place, gfn, hand) {
-        return part_step::task(hand, step, access_note(place));
+        return part_task(hand, step, access_note(place));
     }
     let frame = Spte::from_word(hand.state().leaf).frame();
     touch(op, map_of(&hand.state().sizes).content_index(frame, word))

@@ -5,32 +5,22 @@ ghost use Rattle.core_views.specs.declared.place.FaultEnd.TheVariants.{HostFault
 ghost use Rattle.core_views.specs.declared.place.FaultPlace.TheVariants.{End, Find, Give, Host, Share, Unshare};
 ghost use Rattle.core_views.specs.Sizes.{AreSizes};
 ghost use Rattle.mmu_core.specs.FaultSteps.{at_map_word, check_next, check_part, claim_next, claim_part, entry_word, fault_next, fault_part, find_next, is_owing, map_word, share_next, table_value, tries_page, waits, walk_next};
-ghost use Rattle.mmu_core.specs.PartBounds.{PartRests};
-ghost use Rattle.mmu_core.specs.PartSteps.{PartNeeds, table_page, words_filled};
-ghost use Rattle.mmu_core.specs.SlotWords.{page_of};
-ghost use Rattle.mmu_core.specs.TopicSteps.{searched};
+ghost use Rattle.part_steps.specs.PartBounds.{PartRests};
+ghost use Rattle.part_steps.specs.PartSteps.{PartNeeds, table_page, words_filled};
+ghost use Rattle.part_steps.specs.SlotWords.{page_of};
+ghost use Rattle.part_steps.specs.TopicSteps.{searched};
 ghost use Rattle.spte_words.specs.Entries.{kind_of};
 ghost use Rattle.spte_words.specs.HostWords.{host_allows_write};
 
-use crate::map_of;
-use crate::part_step::{PartStep, run_of, table_page};
-use crate::topics::{WRITER, search};
 use core_views::{
     Cause, CheckStage, FaultEnd, FaultNext, FaultPlace, Hand, Hold, MapClaim, OwnedPage, Sizes,
-    Slot, SlotField, SlotSearch, TableWalk, Topics,
+    SlotField, SlotSearch, TableWalk, Topics,
 };
+use part_steps::{PartStep, WRITER, map_of, page_of, run_of, search, table_page};
 use spte_words::{Area, HostWord, Spte, SpteKind};
 
 /// How many words of a table's page are entries.
 const ENTRIES: u64 = 512;
-
-// The host page behind a guest frame of the slot.
-fn page_of(slot: &Slot, gfn: u64) -> u64
-    requires { page_of slot.now gfn < 2 ^ 64 }
-    ensures { result ≡ page_of slot.now gfn }
-{
-    slot.host + gfn.saturating_sub(slot.base)
-}
 
 pub(crate) fn tries_page(begun: bool, claim: &MapClaim) -> bool
     ensures { result ≡ tries_page begun claim.now }
@@ -54,8 +44,9 @@ pub(crate) fn filled(owned: &Option<OwnedPage>) -> u64
     }
 }
 
-// What the next word of the page is: an absent entry, or the role.
-fn table_value(topics: &Topics) -> u64
+/// What the next word of a table's page that is filled is to hold: its 512 entries
+/// are absent, and its role is the level below the walk's.
+pub fn table_value(topics: &Topics) -> u64
     ensures { result ≡ table_value topics.now }
 {
     if filled(&topics.owned) < ENTRIES {

@@ -1,7 +1,7 @@
 ghost use Rattle.std.specs.Prelude.{◌<◌, length};
-ghost use Rattle.mmu_core.specs.Causes.{FaultsBeginAnewByCause, WaitsAreByCause};
+ghost use Rattle.mmu_core.specs.Causes.{FaultsBeginAnewByCause, SettingWaitsAreByCause, WaitsAreByCause};
 ghost use Rattle.mmu_core.specs.Enough.{EachTableIsWanted, EnoughPages, TablesAreForTheirRuns};
-ghost use Rattle.mmu_core.specs.Example.{EachMayStep, EveryMachineStarts, ExamplePrints, ExampleRaces, ExampleRuns, ExampleStarves};
+ghost use Rattle.mmu_core.specs.Example.{EachMayStep, EveryMachineStarts, ExamplePrints, ExampleRaces, ExampleRuns, ExampleStarves, ExampleWaits};
 ghost use Rattle.mmu_core.specs.FaultAlone.{FaultGoesThrough, LeadsDown};
 ghost use Rattle.mmu_core.specs.FaultLaws.{FaultIsBounded, FaultMeetsNeeds, FaultStaysKnown, FaultStepsFall, PartsAnswer, WaitsSeeAnother};
 ghost use Rattle.mmu_core.specs.Histories.{AnswersAreTold, EndsWhole, StaysWhole};
@@ -13,7 +13,7 @@ ghost use Rattle.mmu_core.specs.Rests.{Rests};
 ghost use Rattle.mmu_core.specs.Scans.{StarvedLinesScan};
 ghost use Rattle.mmu_core.specs.Steps.{line_at, place_at};
 ghost use Rattle.mmu_core.specs.StepLaws.{EnteringFlushes, NotesTellEnds, OthersCacheOneAtMost, StepsAreOnTheirAreas};
-ghost use Rattle.mmu_core.specs.TurnLaws.{InstalledEntriesServe, LeavesStay, StepsAreBounded, StepsAreCounted, TurnsAreBounded, TurnsComeNearer};
+ghost use Rattle.mmu_core.specs.TurnLaws.{DelaysWaitOrBeginAnew, InstalledEntriesServe, LeavesStay, StepsAreBounded, StepsAreCounted, TurnsAreBounded, TurnsComeNearer};
 ghost use Rattle.mmu_core.specs.Worlds.{HandReached};
 
 use core_views::Hand;
@@ -54,10 +54,17 @@ pub fn every_list_of_steps()
 /// an entry behind its load. A step waits only where the step of its line before it
 /// found a writer in the lock's word, or where the page that it tries was free at its
 /// line's step before it, and another actor's step changed this word of the map since
-/// (tdp_mmu.c, `kvm_tdp_mmu_map`; locking.rst).
+/// (tdp_mmu.c, `kvm_tdp_mmu_map`; locking.rst). A slot line waits where such a page was
+/// taken from its claim, where it finds the lock held by another actor, where it found
+/// invalidations open and gives the lock back, and where its watch finds another actor
+/// in the guest or in a section (kvm_main.c, `kvm_swap_active_memslots`). And a line
+/// counts no other step as a delay than one with which it waits or begins its fault
+/// anew.
 pub fn each_delay_has_its_cause()
     ensures begins_anew { FaultsBeginAnewByCause }
     ensures waits { WaitsAreByCause }
+    ensures slot_waits { SettingWaitsAreByCause }
+    ensures delays { DelaysWaitOrBeginAnew }
 {}
 
 /// That the steps can be made: every machine has a start, and at every moment
@@ -66,8 +73,9 @@ pub fn each_delay_has_its_cause()
 /// whose fault fills and links three tables and puts the leaf; then accesses that
 /// walk to this leaf or go by what is cached, and a write that a read-only slot
 /// refuses. In a pool that is too small an access is starved, and a slot setting
-/// behind it; and where two processors write to one guest frame at a time, one
-/// waits and begins anew.
+/// behind it; where two processors write to one guest frame at a time, one
+/// waits and begins anew; and a slot setting beside a write waits for the page that the
+/// processor takes, for the lock that it shares, and until it has left the guest.
 pub fn the_steps_can_be_made()
     ensures starts { EveryMachineStarts }
     ensures goes_on { EachMayStep }
@@ -75,6 +83,7 @@ pub fn the_steps_can_be_made()
     ensures prints { ExamplePrints }
     ensures starves { ExampleStarves }
     ensures races { ExampleRaces }
+    ensures slot_waits { ExampleWaits }
 {}
 
 /// What a step's numbers tell of it: each step that a hand allows is on a word of

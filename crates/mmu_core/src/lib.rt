@@ -2,46 +2,24 @@
 //! word and to the hand.
 #![tactic(auto)]
 
-ghost use Rattle.std.specs.Prelude.{◌≡◌};
-ghost use Rattle.core_views.specs.Sizes.{AreSizes};
-ghost use Rattle.mmu_core.specs.Tasks.{map_of};
-ghost use Rattle.spte_words.specs.Areas.{IsWordMap};
-
 mod access;
 mod delays;
 mod fault;
 mod laws;
 mod outcome;
-mod part_step;
+mod parts;
 mod set_slot;
-mod slot_words;
 mod step;
-mod topics;
 
 pub use access::{access_note, lookup};
-use core_views::Sizes;
+pub use fault::table_value;
 pub use laws::{
-    each_delay_has_its_cause, every_answer_is_told, every_list_of_steps, knows, rests,
-    the_steps_can_be_made,
+    a_fault_alone_goes_through, a_fault_goes_on, a_line_alone_goes_through,
+    each_delay_has_its_cause, every_answer_is_told, every_list_of_steps, knows, leaves_agree,
+    rests, steps_are_bounded, steps_tell_what_they_are, the_pool_is_enough, the_steps_can_be_made,
+    turns_come_to_an_end,
 };
-pub use outcome::{Outcome, Task};
-pub use part_step::{PartStep, allows, may_make, next_watched, part_kind, part_rests};
+pub use outcome::Outcome;
+pub use parts::{allows, may_make, part_rests};
 pub use set_slot::{setting_place, waits as setting_waits};
-pub use slot_words::page_of;
-use spte_words::WordMap;
 pub use step::{advance, next_kind};
-
-/// Where the words of a machine of these sizes stand.
-pub fn map_of(sizes: &Sizes) -> WordMap
-    requires { AreSizes sizes.now }
-    ensures is { result ≡ map_of sizes.now }
-    ensures bounds { IsWordMap result }
-{
-    WordMap::new(
-        sizes.pages,
-        sizes.frames,
-        sizes.words,
-        sizes.pool,
-        sizes.actors(),
-    )
-}

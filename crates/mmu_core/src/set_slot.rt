@@ -1,25 +1,23 @@
 //! The steps of a slot setting.
-ghost use Rattle.std.specs.Prelude.{◌≡◌, ◌≤◌, ◌<◌, ◌^◌, true, Some};
+ghost use Rattle.std.specs.Prelude.{◌≡◌, ◌≤◌, ◌<◌, ◌^◌, true};
 ghost use Rattle.core_views.specs.declared.place.Place.TheVariants as place;
 ghost use Rattle.core_views.specs.declared.trace.Command.TheVariants.{SetSlot};
 ghost use Rattle.core_views.specs.Sizes.{AreSizes};
 ghost use Rattle.core_views.specs.Refusals.{set_refusal};
 ghost use Rattle.mmu_core.specs.FaultSteps.{at_map_word, tries_page};
-ghost use Rattle.mmu_core.specs.PartBounds.{PartRests};
-ghost use Rattle.mmu_core.specs.PartSteps.{PartNeeds};
+ghost use Rattle.part_steps.specs.PartBounds.{PartRests};
+ghost use Rattle.part_steps.specs.PartSteps.{PartNeeds};
 ghost use Rattle.mmu_core.specs.Rests.{RecordAccepts, Rests};
 ghost use Rattle.mmu_core.specs.SetSlotSteps.{claim_outcome, looked_at, set_slot_first, set_slot_note, set_slot_outcome, set_slot_part, set_slot_records, set_slot_task, set_slot_waits, watch_next};
 ghost use Rattle.mmu_core.specs.Steps.{place_at};
-ghost use Rattle.mmu_core.specs.Tasks.{map_of};
+ghost use Rattle.part_steps.specs.Tasks.{map_of};
 ghost use Rattle.mmu_core.specs.Turns.{line_of};
 ghost use Rattle.spte_words.specs.Areas.{size_of};
 
 use crate::fault::{claim_part, filled, map_word, tries_page};
-use crate::outcome::{Outcome, Task};
-use crate::part_step::{PartStep, next_watched};
-use crate::slot_words::set_value;
-use crate::{map_of, part_step};
+use crate::outcome::Outcome;
 use core_views::{Answer, Hand, MapClaim, Place, SetSlotPlace, Sizes, Slot, SlotSet, Topics};
+use part_steps::{PartStep, Task, map_of, next_watched, part_task, set_value};
 use spte_words::Area;
 
 /// How many words of a slot set's page are filled before its role.
@@ -93,7 +91,7 @@ pub(crate) fn task(place: SetSlotPlace, hand: &Hand, id: u64, slot: &Slot) -> Ta
     ensures task { result ≡ set_slot_task place hand.now.core id slot.now }
     ensures within { result.index < size_of (map_of hand.now.core.state.sizes) result.area }
 {
-    part_step::task(hand, part(place, hand, id, slot), note(place, hand))
+    part_task(hand, part(place, hand, id, slot), note(place, hand))
 }
 
 /// The manager's own record of the slots after the step of this place.

@@ -1,24 +1,24 @@
 //! The step that a hand allows, and the hand after it.
-ghost use Rattle.std.specs.Prelude.{◌≡◌, ◌≤◌, ◌<◌, ◌+◌, length, true, false};
+ghost use Rattle.std.specs.Prelude.{◌≡◌, ◌<◌, ◌+◌, length, true, false};
 ghost use Rattle.core_views.specs.Sizes.{AreSizes};
 ghost use Rattle.core_views.specs.Traces.{IsCommandFor};
 ghost use Rattle.mmu_core.specs.Rests.{AcceptsAt, IsUnderWay, Rests, RestsAt};
 ghost use Rattle.mmu_core.specs.Enabled.{Enabled};
 ghost use Rattle.mmu_core.specs.Steps.{caches_at, first_place, has_line, line_after, line_at, loads_at, next, outcome_at, place_at, records_at, standing, task_at};
 ghost use Rattle.mmu_core.specs.Cached.{flushed};
-ghost use Rattle.mmu_core.specs.PartBounds.{PartRests};
+ghost use Rattle.part_steps.specs.PartBounds.{PartRests};
 ghost use Rattle.core_views.specs.Kinds.{kind_named};
-ghost use Rattle.mmu_core.specs.Tasks.{kind_of_task, map_of};
-ghost use Rattle.mmu_core.specs.TopicSteps.{HasRoom, topics_after};
-ghost use Rattle.spte_words.specs.Areas.{size_of, total};
+ghost use Rattle.part_steps.specs.Tasks.{map_of};
+ghost use Rattle.part_steps.specs.TopicSteps.{HasRoom, topics_after};
+ghost use Rattle.spte_words.specs.Areas.{size_of};
 
 use crate::delays::{delays_behind, is_delay, steps_behind};
-use crate::outcome::{Outcome, Task};
-use crate::topics::step_topics;
-use crate::{access, map_of, set_slot};
+use crate::outcome::Outcome;
+use crate::{access, set_slot};
 use core_views::{
     AccessPlace, AnsweredLine, Command, Hand, Kind, Line, Place, Sizes, SlotSet, StepKind,
 };
+use part_steps::{Task, kind_of, step_topics};
 
 /// Bit 2 of a state word: a flush is asked for.
 const FLUSH: u64 = 1 << 2;
@@ -78,22 +78,6 @@ fn task(place: Place, hand: &Hand, line: &Line) -> Task
             set_slot::task(place, hand, *id, slot)
         }
         _ => unreachable!(),
-    }
-}
-
-// The step as the words of the machine see it.
-pub(crate) fn kind_of(sizes: &Sizes, task: &Task) -> Kind
-    requires sizes { AreSizes sizes.now }
-    requires within { task.now.index < size_of (map_of sizes.now) task.now.area }
-    ensures is { result ≡ kind_of_task sizes.now task.now }
-    ensures inside { result.word < total (map_of sizes.now) }
-{
-    Kind {
-        code: task.kind.code(),
-        word: map_of(sizes).word_of(task.area, task.index),
-        old: task.expected,
-        new: task.written,
-        note: task.may_end,
     }
 }
 

@@ -6,10 +6,10 @@ use Rattle.core_views.specs.declared.topics.Hold.{Hold}
 use Rattle.core_views.specs.declared.topics.Hold.TheVariants.{Loose, Shared, Owing, Exclusive}
 use Rattle.core_views.specs.declared.topics.Topics.{Topics}
 use Rattle.core_views.specs.Held.{Held}
-use Rattle.mmu_core.specs.declared.part_step.PartStep.TheVariants.{Share}
-use Rattle.mmu_core.specs.PartRests.{MayMake}
-use Rattle.mmu_core.specs.PartSteps.{PartNeeds}
-use Rattle.mmu_core.specs.TopicSteps.{has_writer}
+use Rattle.part_steps.specs.declared.part_step.PartStep.TheVariants.{Share}
+use Rattle.mmu_core.specs.MayMake.{MayMake}
+use Rattle.part_steps.specs.PartSteps.{PartNeeds}
+use Rattle.part_steps.specs.TopicSteps.{has_writer}
 use Rattle.mmu_lock.specs.Locking.{holding, shared_step, tries_left}
 
 -- Who isn't owing wants to share, and holds nothing of the lock.

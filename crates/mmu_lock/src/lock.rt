@@ -1,8 +1,8 @@
 ghost use Rattle.std.specs.Prelude.{◌≡◌, ◌<◌, ◌≤◌, ◌^◌, true, IfSome};
 ghost use Rattle.core_views.specs.declared.topics.Hold.TheVariants.{Loose, Shared, Exclusive};
 ghost use Rattle.mmu_core.specs.OthersRest.{NoOtherHasLock, NoneHasLockAlone, OthersRest};
-ghost use Rattle.mmu_core.specs.PartRests.{MayMake};
-ghost use Rattle.mmu_core.specs.declared.part_step.PartStep.TheVariants.{Exclude};
+ghost use Rattle.mmu_core.specs.MayMake.{MayMake};
+ghost use Rattle.part_steps.specs.declared.part_step.PartStep.TheVariants.{Exclude};
 ghost use Rattle.mmu_lock.specs.Locking.{GaveBack, TriedExclusive, TriedShared, lock_found, shared_step, tries_left, unlock_step};
 ghost use Rattle.mmu_lock.specs.declared.lock.Lock.TheVariants.{Got, Held};
 ghost use Rattle.step_seats.specs.Moves.{KeepsRoom};
@@ -10,7 +10,8 @@ ghost use Rattle.step_seats.specs.PartTurns.{MadePart, MakesPart};
 ghost use Rattle.step_seats.specs.declared.turn.Turn.TheVariants.{More, Done};
 
 use core_views::Hold;
-use mmu_core::{PartStep, part_rests};
+use mmu_core::part_rests;
+use part_steps::PartStep;
 use step_seats::{Stepper, Turn, make_part};
 
 /// Bit 63 of the lock's word: a writer holds it.

@@ -4,7 +4,8 @@ ghost use Rattle.core_views.specs.Sizes.{index_of};
 
 use crate::{Lock, try_exclusive, try_shared, unlock};
 use core_views::{Actor, Command, Header, Hold, Line, Lines, NoMemory, Op, Trace, Words};
-use mmu_core::{PartStep, allows};
+use mmu_core::allows;
+use part_steps::PartStep;
 use std::alloc::Global;
 use std::test::Fail;
 use step_seats::{PlainMachine, Stepper, Turn};

@@ -5,3 +5,5 @@ pub mod PartMade
 pub mod AloneTold
 pub mod Found
 pub mod ToldWords
+pub mod LineTurns
+pub mod Answering

@@ -3,9 +3,9 @@ use Rattle.std.proofs.Common.{◌≡◌, ℕ, subst, ap, ◌∙◌}
 use Rattle.std.specs.Prelude.{IfSome}
 use Rattle.core_views.specs.declared.kind.Kind.{Kind}
 use Rattle.core_views.specs.Held.{Held}
-use Rattle.mmu_core.specs.declared.part_step.PartStep.{PartStep}
-use Rattle.mmu_core.specs.PartRests.{MayMake}
-use Rattle.mmu_core.specs.PartSteps.{part_kind}
+use Rattle.part_steps.specs.declared.part_step.PartStep.{PartStep}
+use Rattle.mmu_core.specs.MayMake.{MayMake}
+use Rattle.part_steps.specs.PartSteps.{part_kind}
 use Rattle.mmu_core.specs.Steps.{next}
 use Rattle.mmu_core.proofs.NextTopics.{topics_behind}
 use Rattle.step_seats.specs.Moves.{Adds, Tells}

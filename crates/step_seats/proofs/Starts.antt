@@ -15,7 +15,7 @@ use Rattle.core_views.specs.Traces.{IsCommandFor, IsTrace}
 use Rattle.core_views.specs.Whole.{lines_of}
 use Rattle.core_views.proofs.HeaderSizes.{header_sizes}
 use Rattle.mmu_core.specs.Enabled.{mmu}
-use Rattle.mmu_core.specs.Tasks.{map_of}
+use Rattle.part_steps.specs.Tasks.{map_of}
 use Rattle.mmu_core.specs.Worlds.{AreStartWords, IsStart, least, start_hands, start_word}
 use Rattle.mmu_core.proofs.Extend.{stays}
 use Rattle.mmu_core.proofs.Sized.{count_at_start}

@@ -7,12 +7,12 @@ use Rattle.core_views.specs.declared.sizes.Sizes.{Sizes}
 use Rattle.core_views.specs.Held.{Held}
 use Rattle.spte_words.specs.declared.area.Area.{Area}
 use Rattle.spte_words.specs.Areas.{size_of}
-use Rattle.mmu_core.specs.declared.outcome.Task.{Task}
-use Rattle.mmu_core.specs.declared.part_step.PartStep.{PartStep}
+use Rattle.part_steps.specs.declared.task.Task.{Task}
+use Rattle.part_steps.specs.declared.part_step.PartStep.{PartStep}
 use Rattle.mmu_core.specs.Enabled.{mmu}
 use Rattle.mmu_core.specs.Machine.{World, answered, effect, hand_in}
-use Rattle.mmu_core.specs.PartSteps.{PartNeeds, own_index, part_kind, part_task}
-use Rattle.mmu_core.specs.Tasks.{kind_of_task, map_of}
+use Rattle.part_steps.specs.PartSteps.{PartNeeds, own_index, part_kind, part_task}
+use Rattle.part_steps.specs.Tasks.{kind_of_task, map_of}
 use Rattle.mmu_core.specs.View.{View, answer_in, word_in, words_after}
 use Rattle.mmu_core.specs.Worlds.{Reachable}
 use Rattle.mmu_core.proofs.PartIndex.{index_same}

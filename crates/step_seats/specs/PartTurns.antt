@@ -2,11 +2,11 @@
 use Rattle.std.specs.Prelude.{◌≡◌, ◌<◌, ℕ, List, Option, IfSome, length}
 use Rattle.core_views.specs.declared.kind.Kind.{Kind}
 use Rattle.core_views.specs.Held.{Held}
-use Rattle.mmu_core.specs.declared.part_step.PartStep.{PartStep}
+use Rattle.part_steps.specs.declared.part_step.PartStep.{PartStep}
 use Rattle.mmu_core.specs.Enabled.{mmu}
 use Rattle.mmu_core.specs.Machine.{Step, World, hand_in}
-use Rattle.mmu_core.specs.PartSteps.{part_kind}
-use Rattle.mmu_core.specs.PartTopics.{part_topics}
+use Rattle.part_steps.specs.PartSteps.{part_kind}
+use Rattle.part_steps.specs.PartTopics.{part_topics}
 use Rattle.mmu_core.specs.Steps.{next}
 use Rattle.mmu_core.specs.Worlds.{Reachable}
 use Rattle.step_seats.specs.Moves.{Adds, Tells}

@@ -1,10 +1,11 @@
 ghost use Rattle.std.specs.Prelude.{◌≡◌, ◌<◌, IfSome};
-ghost use Rattle.mmu_core.specs.PartRests.{MayMake};
+ghost use Rattle.mmu_core.specs.MayMake.{MayMake};
 ghost use Rattle.step_seats.specs.Moves.{KeepsRoom};
 ghost use Rattle.step_seats.specs.PartTurns.{HasHand, MadePart};
 
 use crate::Stepper;
-use mmu_core::{PartStep, part_kind, part_rests};
+use mmu_core::part_rests;
+use part_steps::{PartStep, part_kind};
 
 /// Makes this step of a part of the machine, and answers what it found in its
 /// word (a store: what it wrote).

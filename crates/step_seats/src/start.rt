@@ -4,13 +4,13 @@ ghost use Rattle.core_views.specs.Actors.{is_same};
 ghost use Rattle.core_views.specs.Sizes.{AreSizes, actors_of, sizes_of};
 ghost use Rattle.core_views.specs.Traces.{IsTrace};
 ghost use Rattle.core_views.specs.Whole.{lines_of};
-ghost use Rattle.mmu_core.specs.Tasks.{map_of};
+ghost use Rattle.part_steps.specs.Tasks.{map_of};
 ghost use Rattle.mmu_core.specs.Worlds.{AreStartWords, free_bits, least, start_hands, start_word};
 ghost use Rattle.spte_words.specs.Areas.{size_of};
 ghost use Rattle.step_seats.specs.Moves.{cores_of};
 
 use core_views::{Actor, Hand, Line, NoMemory, Sizes};
-use mmu_core::map_of;
+use part_steps::map_of;
 use spte_words::{Area, HostWord};
 use std::alloc::Global;
 

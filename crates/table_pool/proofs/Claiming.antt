@@ -17,15 +17,16 @@ use Rattle.core_views.specs.Sizes.{actors_of}
 use Rattle.spte_words.specs.declared.area.Area.TheVariants as area
 use Rattle.spte_words.specs.Areas.{words_of_bits}
 use Rattle.spte_words.specs.Bits.{has_bit}
-use Rattle.mmu_core.specs.declared.part_step.PartStep.TheVariants as part
+use Rattle.part_steps.specs.declared.part_step.PartStep.TheVariants as part
 use Rattle.mmu_core.specs.Enabled.{mmu}
 use Rattle.mmu_core.specs.Laws.{IsSound}
 use Rattle.mmu_core.specs.Machine.{World, hand_in}
-use Rattle.mmu_core.specs.PartRests.{MayMake, PartRests}
-use Rattle.mmu_core.specs.PartSteps.{PartNeeds, own_index, page_owned, part_kind, part_task}
+use Rattle.mmu_core.specs.MayMake.{MayMake}
+use Rattle.part_steps.specs.PartBounds.{PartRests}
+use Rattle.part_steps.specs.PartSteps.{PartNeeds, own_index, page_owned, part_kind, part_task}
 use Rattle.mmu_core.specs.PoolPart.{PoolPart, is_free, is_leaving, is_owned}
 use Rattle.mmu_core.specs.Steps.{has_line}
-use Rattle.mmu_core.specs.TopicSteps.{claimed, is_won, tried, tried_bit}
+use Rattle.part_steps.specs.TopicSteps.{claimed, is_won, tried, tried_bit}
 use Rattle.mmu_core.specs.TreePart.{at}
 use Rattle.mmu_core.specs.View.{word_in}
 use Rattle.mmu_core.specs.Worlds.{HandReached, Reachable}

@@ -7,12 +7,12 @@ use Rattle.spte_words.specs.declared.area.Area.{Area}
 use Rattle.spte_words.specs.declared.area.Area.TheVariants as area
 use Rattle.spte_words.specs.Areas.{number_of, pool_index}
 use Rattle.spte_words.proofs.Places.{same_number}
-use Rattle.mmu_core.specs.declared.part_step.PartStep.TheVariants as part
+use Rattle.part_steps.specs.declared.part_step.PartStep.TheVariants as part
 use Rattle.mmu_core.specs.Machine.{World}
-use Rattle.mmu_core.specs.PartSteps.{HasToFill, PartNeeds, own_index, page_owned, part_kind, part_task, words_filled}
-use Rattle.mmu_core.specs.PartTopics.{part_topics}
+use Rattle.part_steps.specs.PartSteps.{HasToFill, PartNeeds, own_index, page_owned, part_kind, part_task, words_filled}
+use Rattle.part_steps.specs.PartTopics.{part_topics}
 use Rattle.mmu_core.specs.PoolPart.{is_free}
-use Rattle.mmu_core.specs.TopicSteps.{filled_more}
+use Rattle.part_steps.specs.TopicSteps.{filled_more}
 use Rattle.mmu_core.specs.Worlds.{Possible}
 use Rattle.mmu_core.proofs.PartWords.{fill_answers}
 use Rattle.core_views.specs.declared.topics.OwnedPage.{OwnedPage}

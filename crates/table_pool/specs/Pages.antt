@@ -8,7 +8,7 @@ use Rattle.spte_words.specs.declared.area.Area.{Area}
 use Rattle.spte_words.specs.declared.area.Area.TheVariants as area
 use Rattle.spte_words.specs.Areas.{pool_index}
 use Rattle.mmu_core.specs.Machine.{World}
-use Rattle.mmu_core.specs.PartSteps.{words_filled}
+use Rattle.part_steps.specs.PartSteps.{words_filled}
 use Rattle.mmu_core.specs.PoolPart.{is_free}
 use Rattle.mmu_core.specs.View.{word_in}
 use Rattle.step_seats.specs.declared.turn.Turn.{Turn}

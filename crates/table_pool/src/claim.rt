@@ -1,6 +1,6 @@
 ghost use Rattle.std.specs.Prelude.{◌≡◌, ◌≢◌, ◌<◌, ℕ, true, false, None, IfSome};
 ghost use Rattle.core_views.specs.declared.hand.Seen.{Seen};
-ghost use Rattle.mmu_core.specs.PartRests.{MayMake};
+ghost use Rattle.mmu_core.specs.MayMake.{MayMake};
 ghost use Rattle.mmu_core.specs.Steps.{has_line};
 ghost use Rattle.mmu_core.specs.Worlds.{HandReached};
 ghost use Rattle.spte_words.specs.Areas.{words_of_bits};
@@ -11,7 +11,8 @@ ghost use Rattle.table_pool.specs.Claims.{ClaimTurn, IsClaimersAlone, IsFreePage
 ghost use Rattle.table_pool.specs.declared.claim.Claimed.TheVariants.{Page};
 
 use core_views::{Hand, Seen};
-use mmu_core::{PartStep, map_of, part_rests};
+use mmu_core::part_rests;
+use part_steps::{PartStep, map_of};
 use spte_words::Area;
 use step_seats::{Stepper, Turn, make_part};
 

@@ -1,13 +1,14 @@
 ghost use Rattle.std.specs.Prelude.{◌≡◌, ◌<◌, None, IfSome};
-ghost use Rattle.mmu_core.specs.PartRests.{MayMake};
-ghost use Rattle.mmu_core.specs.PartSteps.{page_owned, words_filled};
-ghost use Rattle.mmu_core.specs.declared.part_step.PartStep.TheVariants as part;
+ghost use Rattle.mmu_core.specs.MayMake.{MayMake};
+ghost use Rattle.part_steps.specs.PartSteps.{page_owned, words_filled};
+ghost use Rattle.part_steps.specs.declared.part_step.PartStep.TheVariants as part;
 ghost use Rattle.step_seats.specs.Moves.{KeepsRoom};
 ghost use Rattle.step_seats.specs.PartTurns.{MadePart, MakesPart, ToldBoth};
 ghost use Rattle.step_seats.specs.declared.turn.Turn.TheVariants.{More, Done};
 ghost use Rattle.table_pool.specs.Pages.{FillTurn, FreesPage, GivesPage, StoresNext, words_left};
 
-use mmu_core::{PartStep, part_kind, part_rests};
+use mmu_core::part_rests;
+use part_steps::{PartStep, part_kind};
 use step_seats::{Stepper, Turn, make_part};
 
 // Writes this value in the word of the owned page that is next, or in its role:

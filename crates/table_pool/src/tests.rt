@@ -2,13 +2,14 @@
 //! and 3 are free.
 ghost use Rattle.std.specs.Prelude.{◌≡◌, ◌<◌, [], ◌∷◌, IfOk, OnOk, length};
 ghost use Rattle.core_views.specs.Sizes.{index_of};
-ghost use Rattle.mmu_core.specs.PartRests.{MayMake};
-ghost use Rattle.mmu_core.specs.PartSteps.{page_owned};
+ghost use Rattle.mmu_core.specs.MayMake.{MayMake};
+ghost use Rattle.part_steps.specs.PartSteps.{page_owned};
 ghost use Rattle.table_pool.specs.Claims.{claim_step};
 
 use crate::{Claim, Claimed, Fill, Give};
 use core_views::{Actor, Command, Header, Line, Lines, NoMemory, Op, Seen, Trace, Words};
-use mmu_core::{PartStep, allows, map_of, part_rests};
+use mmu_core::{allows, part_rests};
+use part_steps::{PartStep, map_of};
 use spte_words::Area;
 use std::alloc::Global;
 use std::test::Fail;

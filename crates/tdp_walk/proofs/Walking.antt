@@ -10,11 +10,10 @@ use Rattle.spte_words.specs.declared.spte_kind.SpteKind.TheVariants as entry_kin
 use Rattle.spte_words.specs.Bits.{has_bit}
 use Rattle.spte_words.specs.Entries.{frame_in, frozen_word, is_leaf_at, kind_of, level_span}
 use Rattle.spte_words.proofs.Spans.{span_1, span_2, span_3, span_4}
-use Rattle.mmu_core.specs.declared.part_step.PartStep.TheVariants as part
-use Rattle.mmu_core.specs.Machine.{World}
-use Rattle.mmu_core.specs.PartSteps.{IsOver, PartNeeds, SawEntry, entry_index, table_page}
-use Rattle.mmu_core.specs.PartTopics.{part_topics}
-use Rattle.mmu_core.specs.TopicSteps.{at_root, gone_down, linked_page, may_walk}
+use Rattle.part_steps.specs.declared.part_step.PartStep.TheVariants as part
+use Rattle.part_steps.specs.PartSteps.{IsOver, PartNeeds, SawEntry, entry_index, table_page}
+use Rattle.part_steps.specs.PartTopics.{part_topics}
+use Rattle.part_steps.specs.TopicSteps.{at_root, gone_down, linked_page, may_walk}
 use Rattle.mmu_core.specs.View.{word_in}
 use Rattle.step_seats.specs.PartTurns.{MadePart, Told}
 use Rattle.tdp_walk.specs.declared.walk.Walk.{Walk}

@@ -1,13 +1,14 @@
 ghost use Rattle.std.specs.Prelude.{◌≡◌, ◌<◌, ◌^◌, true, false, IfSome};
-ghost use Rattle.mmu_core.specs.PartRests.{MayMake};
-ghost use Rattle.mmu_core.specs.TopicSteps.{may_walk};
+ghost use Rattle.mmu_core.specs.MayMake.{MayMake};
+ghost use Rattle.part_steps.specs.TopicSteps.{may_walk};
 ghost use Rattle.mmu_core.specs.View.{word_in};
 ghost use Rattle.step_seats.specs.Moves.{KeepsRoom};
 ghost use Rattle.step_seats.specs.PartTurns.{MakesPart};
 ghost use Rattle.step_seats.specs.declared.turn.Turn.TheVariants.{More};
 ghost use Rattle.tdp_walk.specs.Walks.{FindsRoot, Looks, found_last, turns_left, walk_step, word_next};
 
-use mmu_core::{PartStep, part_rests};
+use mmu_core::part_rests;
+use part_steps::PartStep;
 use spte_words::{Spte, SpteKind};
 use step_seats::{Stepper, Turn, make_part};
 

@@ -6,6 +6,8 @@ use Rattle.std.specs.declared.option.Option.TheVariants.{Some, None}
 use Rattle.std.specs.Io.KnownBytes.{Appends}
 use Rattle.core_views.specs.declared.trace.Trace.{Trace}
 use Rattle.tdp_io.specs.Ends.{AppendsPrefix}
+use Rattle.tdp_io.specs.declared.sink.Stop.{Stop}
+use Rattle.tdp_io.specs.declared.sink.Stop.TheVariants.{Failed, NoMemory as Full}
 use Rattle.trace_reader.specs.Reading.{reading, IsTraceOf, IsRefusalOf}
 use Rattle.trace_reader.specs.declared.reason.Reason.{Reason}
 use Rattle.tdpmmu.specs.Output.{refusal_text}
@@ -25,17 +27,17 @@ was_read : (asked : Option Command) (command : Command) (a : Around) (input : Li
 was_read asked command a input is whole = rw is whole
 
 -- what a command wrote of the output that it owes an input
-part_of : (asked : Option Command) (command : Command) (input bytes : List ℕ) (says : Result Trace (ℕ × Reason)) (before after : Option (List ℕ)) → asked ≡ Some command → reading input ≡ says → IsOutputOf command says bytes
-    → AppendsPrefix before after bytes → WritesPart asked input before after
-part_of asked command input bytes says before after is reads output prefix = (bytes, rw (is, reads) output, prefix)
+part_of : (stop : Stop) (asked : Option Command) (command : Command) (input bytes : List ℕ) (says : Result Trace (ℕ × Reason)) (before after : Option (List ℕ)) → asked ≡ Some command → reading input ≡ says → IsOutputOf stop command says bytes
+    → AppendsPrefix before after bytes → WritesPart stop asked input before after
+part_of stop asked command input bytes says before after is reads output prefix = (bytes, rw (is, reads) output, prefix)
 
 pub trace_runs : (asked : Option Command) (command : Command) (a : Around) (input : List ℕ) (trace : Trace) (status : Status) → asked ≡ Some command
     → IsTraceOf a.left a.left_after a.ended input trace → WritesOutput command trace a.written a.written_after status → RunsTo asked a status
 trace_runs asked command a input trace Done is read (bytes, output, writes) = (command, is, input, trace, read, bytes, output, writes)
 trace_runs asked command a input trace WriteFault is read (bytes, output, writes) =
-    (input, was_read asked command a input is (whole_trace a input trace read), part_of asked command input bytes (Ok trace) a.written a.written_after is read.says output writes)
+    (input, was_read asked command a input is (whole_trace a input trace read), part_of Failed asked command input bytes (Ok trace) a.written a.written_after is read.says output writes)
 trace_runs asked command a input trace NoMemory is read (bytes, output, writes) =
-    inr (input, was_read asked command a input is (whole_trace a input trace read), part_of asked command input bytes (Ok trace) a.written a.written_after is read.says output writes)
+    inr (input, was_read asked command a input is (whole_trace a input trace read), part_of Full asked command input bytes (Ok trace) a.written a.written_after is read.says output writes)
 trace_runs asked command a input trace Usage is read writes = absurd writes
 trace_runs asked command a input trace (Refused line reason) is read writes = absurd writes
 trace_runs asked command a input trace ReadFault is read writes = absurd writes
@@ -51,9 +53,9 @@ refused_runs asked command a input line reason (Refused l r) is read writes = (
   subst (λ (n : ℕ). Appends a.written a.written_after (refusal_text n r)) (sym writes.0) (subst (λ (x : Reason). Appends a.written a.written_after (refusal_text line x)) (sym writes.1) writes.2),
 )
 refused_runs asked command a input line reason WriteFault is read writes =
-    (input, was_read asked command a input is (whole_refusal a input line reason read), part_of asked command input (refusal_text line reason) (Err (line, reason)) a.written a.written_after is read.says refl writes)
+    (input, was_read asked command a input is (whole_refusal a input line reason read), part_of Failed asked command input (refusal_text line reason) (Err (line, reason)) a.written a.written_after is read.says refl writes)
 refused_runs asked command a input line reason NoMemory is read writes =
-    inr (input, was_read asked command a input is (whole_refusal a input line reason read), part_of asked command input (refusal_text line reason) (Err (line, reason)) a.written a.written_after is read.says refl writes)
+    inr (input, was_read asked command a input is (whole_refusal a input line reason read), part_of Full asked command input (refusal_text line reason) (Err (line, reason)) a.written a.written_after is read.says refl writes)
 refused_runs asked command a input line reason Done is read writes = absurd writes
 refused_runs asked command a input line reason Usage is read writes = absurd writes
 refused_runs asked command a input line reason ReadFault is read writes = absurd writes
@@ -62,8 +64,8 @@ refused_runs asked command a input line reason (Unfinished actor l) is read writ
 prints : (asked : Option Command) (command : Command) (input : List ℕ) (trace : Trace) (before after : Option (List ℕ)) (status : Status) → asked ≡ Some command
     → reading input ≡ Ok trace → WritesOutput command trace before after status → Prints asked input before after status
 prints asked command input trace before after Done is says (bytes, output, writes) = (command, is, trace, says, bytes, output, writes)
-prints asked command input trace before after WriteFault is says (bytes, output, writes) = part_of asked command input bytes (Ok trace) before after is says output writes
-prints asked command input trace before after NoMemory is says (bytes, output, writes) = inr (part_of asked command input bytes (Ok trace) before after is says output writes)
+prints asked command input trace before after WriteFault is says (bytes, output, writes) = part_of Failed asked command input bytes (Ok trace) before after is says output writes
+prints asked command input trace before after NoMemory is says (bytes, output, writes) = inr (part_of Full asked command input bytes (Ok trace) before after is says output writes)
 prints asked command input trace before after Usage is says writes = absurd writes
 prints asked command input trace before after (Refused line reason) is says writes = absurd writes
 prints asked command input trace before after ReadFault is says writes = absurd writes

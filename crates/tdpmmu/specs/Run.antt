@@ -9,12 +9,14 @@ use Rattle.core_views.specs.Held.{Held}
 use Rattle.core_views.specs.Need.{need}
 use Rattle.mmu_core.specs.Machine.{World}
 use Rattle.tdp_io.specs.Ends.{AppendsPrefix, Rose}
+use Rattle.tdp_io.specs.declared.sink.Stop.{Stop}
+use Rattle.tdp_io.specs.declared.sink.Stop.TheVariants.{Failed, NoMemory as Full}
 use Rattle.trace_reader.specs.declared.reason.Reason.{Reason}
 use Rattle.trace_reader.specs.Reading.{reading, IsTraceOf, IsRefusalOf}
 use Rattle.tdpmmu.specs.Output.{check_text, refusal_text, usage_text}
-use Rattle.weave_engine.specs.Replays.{Replays, ReplaysFirst}
+use Rattle.weave_engine.specs.Replays.{Replays, ReplaysUntil}
 use Rattle.weave_engine.specs.Weaves.{WeavesAll, WeavesPart, unfinished_text}
-use Rattle.weave_engine.specs.Woven.{IsTextSoFar}
+use Rattle.weave_engine.specs.Woven.{WeavesUntil}
 use Rattle.tdpmmu.specs.declared.command.Command.{Command}
 use Rattle.tdpmmu.specs.declared.command.Command.TheVariants.{Check, Replay, Weave}
 use Rattle.tdpmmu.specs.declared.status.Status.{Status}
@@ -49,25 +51,26 @@ IsUnfinished Weave trace actor number text =
     (closing : World Held) × (bytes : List ℕ) × (line : Line) × WeavesPart trace rounds_limit bytes closing line × (line.actor ≡ actor) × (line.number ≡ number) × (text ≡ bytes ++ unfinished_text line)
 IsUnfinished _ trace actor number text = ⊥
 
--- The output of a command that may have come to only some of the trace's lines.
-abbrev pub IsOutputSoFar : Command → Trace → List ℕ → Type 0
-IsOutputSoFar Check trace bytes = IsOutput Check trace bytes
-IsOutputSoFar Replay trace bytes = ReplaysFirst trace bytes
-IsOutputSoFar Weave trace bytes = (closing : World Held) × IsTextSoFar trace rounds_limit closing bytes
+-- The output of a command that stopped for this, which may have come to only some of the trace's lines: where a write failed, to a line's
+-- answer or to the end.
+abbrev pub IsOutputUntil : Stop → Command → Trace → List ℕ → Type 0
+IsOutputUntil stop Check trace bytes = IsOutput Check trace bytes
+IsOutputUntil stop Replay trace bytes = (closing : World Held) × ReplaysUntil stop trace closing bytes
+IsOutputUntil stop Weave trace bytes = (closing : World Held) × WeavesUntil stop trace rounds_limit closing bytes
 
 -- the output, so far, of a command for what an input says
-abbrev pub IsOutputOf : Command → Result Trace (ℕ × Reason) → List ℕ → Type 0
-IsOutputOf command (Ok trace) bytes = IsOutputSoFar command trace bytes
-IsOutputOf command (Err e) bytes = bytes ≡ refusal_text e.0 e.1
+abbrev pub IsOutputOf : Stop → Command → Result Trace (ℕ × Reason) → List ℕ → Type 0
+IsOutputOf stop command (Ok trace) bytes = IsOutputUntil stop command trace bytes
+IsOutputOf stop command (Err e) bytes = bytes ≡ refusal_text e.0 e.1
 
 -- the output, so far, of the command that the words name, if they name one, on an input
-abbrev pub IsOutputOn : Option Command → List ℕ → List ℕ → Type 0
-IsOutputOn (Some command) input bytes = IsOutputOf command (reading input) bytes
-IsOutputOn None input bytes = bytes ≡ usage_text
+abbrev pub IsOutputOn : Stop → Option Command → List ℕ → List ℕ → Type 0
+IsOutputOn stop (Some command) input bytes = IsOutputOf stop command (reading input) bytes
+IsOutputOn stop None input bytes = bytes ≡ usage_text
 
 -- A prefix of such an output was written.
-abbrev pub WritesPart : Option Command → List ℕ → Option (List ℕ) → Option (List ℕ) → Type 0
-WritesPart asked input before after = (bytes : List ℕ) × IsOutputOn asked input bytes × AppendsPrefix before after bytes
+abbrev pub WritesPart : Stop → Option Command → List ℕ → Option (List ℕ) → Option (List ℕ) → Type 0
+WritesPart stop asked input before after = (bytes : List ℕ) × IsOutputOn stop asked input bytes × AppendsPrefix before after bytes
 
 -- What the source had left, and whether it has ended; what the sink was given: before a run and after it.
 pub record Around : Type 0 where
@@ -98,8 +101,8 @@ RunsTo asked a Done = (command : Command) × (asked ≡ Some command) × (input 
 RunsTo asked a Usage = (asked ≡ None) × Consumes a.left a.left_after [] × Appends a.written a.written_after usage_text
 RunsTo asked a (Refused line reason) = (command : Command) × (asked ≡ Some command) × (input : List ℕ) × IsRefusalOf a.left a.left_after a.ended input line reason × Appends a.written a.written_after (refusal_text line reason)
 RunsTo asked a ReadFault = (command : Command) × (asked ≡ Some command) × (input : List ℕ) × Consumes a.left a.left_after input × (length input ≤ 16777216) × (a.written_after ≡ a.written)
-RunsTo asked a WriteFault = (input : List ℕ) × WasRead asked a input × WritesPart asked input a.written a.written_after
-RunsTo asked a NoMemory = StopsReading a ⊎ ((input : List ℕ) × WasRead asked a input × WritesPart asked input a.written a.written_after)
+RunsTo asked a WriteFault = (input : List ℕ) × WasRead asked a input × WritesPart Failed asked input a.written a.written_after
+RunsTo asked a NoMemory = StopsReading a ⊎ ((input : List ℕ) × WasRead asked a input × WritesPart Full asked input a.written a.written_after)
 RunsTo asked a (Unfinished actor line) = (command : Command) × (asked ≡ Some command) × (input : List ℕ) × (trace : Trace) × IsTraceOf a.left a.left_after a.ended input trace × (bytes : List ℕ) × IsUnfinished command trace actor line bytes × Appends a.written a.written_after bytes
 
 -- The same where the source tells that it had this input left, of which no more than 16777217 bytes are looked at.
@@ -108,8 +111,8 @@ Prints asked input before after Done = (command : Command) × (asked ≡ Some co
 Prints asked input before after Usage = (asked ≡ None) × Appends before after usage_text
 Prints asked input before after (Refused line reason) = (command : Command) × (asked ≡ Some command) × (reading input ≡ Err (line, reason)) × Appends before after (refusal_text line reason)
 Prints asked input before after ReadFault = (command : Command) × (asked ≡ Some command) × (after ≡ before)
-Prints asked input before after WriteFault = WritesPart asked input before after
-Prints asked input before after NoMemory = (after ≡ before) ⊎ WritesPart asked input before after
+Prints asked input before after WriteFault = WritesPart Failed asked input before after
+Prints asked input before after NoMemory = (after ≡ before) ⊎ WritesPart Full asked input before after
 Prints asked input before after (Unfinished actor line) = (command : Command) × (asked ≡ Some command) × (trace : Trace) × (reading input ≡ Ok trace) × (bytes : List ℕ) × IsUnfinished command trace actor line bytes × Appends before after bytes
 
 -- The count of failed reads rose where the status says that reading failed, and stayed at any other status.

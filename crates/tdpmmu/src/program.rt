@@ -4,7 +4,6 @@ ghost use Rattle.core_views.specs.Traces.{IsTrace};
 ghost use Rattle.tdpmmu.specs.Output.{check_text, refusal_text};
 ghost use Rattle.tdp_io.specs.Ends.{Wrote, WroteFaults};
 ghost use Rattle.tdpmmu.specs.Run.{command_named as named, command_of, Prints, ReadCause, RunsTo, WriteCause};
-ghost use Rattle.tdpmmu.specs.declared.command.Command.TheVariants.{Weave};
 ghost use Rattle.tdpmmu.specs.Steps.{WritesOutput, WritesRefusal, WritesUsage, status_by, status_ended};
 
 use crate::command::Command;
@@ -15,7 +14,7 @@ use std::sync::Wait;
 use std::thread::Threads;
 use tdp_io::{Gate, Sink, Source, Stop, write_all};
 use trace_reader::{Read, Reason, need, read_trace};
-use weave_engine::{How, replay, weave};
+use weave_engine::{How, Ran, replay, weave};
 
 /// The most turns in rounds that a weave makes.
 const ROUNDS: u64 = 10_000_000;
@@ -102,35 +101,34 @@ fn refuse<K: Sink>(alloc: Global, line: u32, reason: Reason, out: &mut K) -> Sta
     }
 }
 
-// How a weave ended, as a status.
-fn status_of(how: How) -> Status
-    ensures { result ≡ status_by how }
+// How a run of the engine ended, as a status.
+fn status_of(ran: Result<Ran, NoMemory>) -> Status
+    ensures { result ≡ status_by ran }
 {
-    match how {
-        How::Done => Status::Done,
-        How::WriteFault => Status::WriteFault,
-        How::Unfinished { actor, line } => Status::Unfinished { actor, line },
-    }
-}
-
-// Runs the trace in the order of its schedule, and then in rounds.
-fn weave_trace<K: Sink>(alloc: Global, trace: &Trace, out: &mut K) -> Status
-    requires { IsTrace trace.now }
-    ensures written { WritesOutput Weave trace.now (K.written out.old) (K.written out.new) result }
-    ensures write { WriteCause (K.faults out.old) (K.faults out.new) result }
-{
-    match weave(alloc, trace, ROUNDS, out) {
-        Ok(ran) => status_of(ran.how),
+    match ran {
+        Ok(Ran { how: How::Done, .. }) => Status::Done,
+        Ok(
+            Ran {
+                how: How::WriteFault,
+                ..
+            },
+        ) => Status::WriteFault,
+        Ok(
+            Ran {
+                how: How::Unfinished { actor, line },
+                ..
+            },
+        ) => Status::Unfinished { actor, line },
         Err(NoMemory) => Status::NoMemory,
     }
 }
 
 // How a command ended that does all its work or stops.
-fn ended<T: Drop>(written: Result<T, Stop>) -> Status
+fn ended(written: Result<(), Stop>) -> Status
     ensures { result ≡ status_ended written }
 {
     match written {
-        Ok(_) => Status::Done,
+        Ok(()) => Status::Done,
         Err(Stop::Failed) => Status::WriteFault,
         Err(Stop::NoMemory) => Status::NoMemory,
     }
@@ -144,8 +142,8 @@ fn run_trace<K: Sink>(alloc: Global, command: Command, trace: &Trace, out: &mut 
 {
     match command {
         Command::Check => ended(check(alloc, trace, out)),
-        Command::Replay => ended(replay(alloc, trace, out)),
-        Command::Weave => weave_trace(alloc, trace, out),
+        Command::Replay => status_of(replay(alloc, trace, out)),
+        Command::Weave => status_of(weave(alloc, trace, ROUNDS, out)),
     }
 }
 

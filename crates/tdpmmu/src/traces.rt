@@ -1082,7 +1082,6 @@ vm slot 0 0 2 0
 #v0 write 0x0 9
 v0 read 0x0
 
-
 v1 add 0x1000 1
 # the end
 

@@ -11,6 +11,7 @@ pub mod Bytes
 pub mod Reasons
 pub mod Ranges
 pub mod Distinct
+pub mod Rising
 pub mod Loop
 pub mod Begin
 pub mod NeedCounts

@@ -120,7 +120,7 @@ record Rises (low high words : ℕ) (ns : List ℕ) : Type 0 where
   count : length ns ≡ words
   rising : IsStrictlyIncreasing ns
 
-more_rises : (n : ℕ) (ns : List ℕ) → (0 < length ns → n + 1 ≤ get_or ns 0 0) → IsStrictlyIncreasing ns → IsStrictlyIncreasing (n ∷ ns)
+pub more_rises : (n : ℕ) (ns : List ℕ) → (0 < length ns → n + 1 ≤ get_or ns 0 0) → IsStrictlyIncreasing ns → IsStrictlyIncreasing (n ∷ ns)
 more_rises n ns first up zero lt = let f : 0 < length ns = omega arith in let g : n + 1 ≤ get_or ns 0 0 = first f in omega arith
 more_rises n ns first up (suc k) lt = let u : get_or ns k 0 < get_or ns (k + 1) 0 = up k (omega arith) in simp unary_clauses (simp unary_clauses at u)
 

@@ -9,7 +9,8 @@ ghost use Rattle.mmu_core.specs.Rests.{Rests};
 ghost use Rattle.mmu_core.specs.Steps.{place_at};
 ghost use Rattle.mmu_core.specs.Turns.{IsSameHand, line_of};
 ghost use Rattle.step_seats.specs.Moves.{KeepsRoom};
-ghost use Rattle.vcpu_run.specs.Accesses.{HasItsCause, IsStay, MakesLine, Says, StandsAt, TurnsLine, WalksAt, answer_of};
+ghost use Rattle.step_seats.specs.LineTurns.{MakesLine, Says, TurnsLine};
+ghost use Rattle.vcpu_run.specs.Accesses.{HasItsCause, IsStay, StandsAt, WalksAt, answer_of};
 
 use core_views::{AccessPlace, Answer, FaultPlace, Hand, Op, Place};
 use fault_install::{FaultJob, Faulted};

@@ -13,7 +13,8 @@ use core_views::{
     Actor, Answer, Cause, Command, Hand, Header, Line, Lines, NoMemory, Op, Place, Seen, Slot,
     Trace, Words,
 };
-use mmu_core::{PartStep, allows, next_kind, rests};
+use mmu_core::{allows, next_kind, rests};
+use part_steps::PartStep;
 use std::alloc::Global;
 use std::test::Fail;
 use step_seats::{PlainMachine, Stepper, Turn, make_part};

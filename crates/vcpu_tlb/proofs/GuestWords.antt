@@ -15,15 +15,15 @@ use Rattle.core_views.specs.Held.{Held}
 use Rattle.core_views.specs.Sizes.{index_of}
 use Rattle.spte_words.specs.declared.area.Area.{Area}
 use Rattle.spte_words.specs.declared.area.Area.TheVariants as area
-use Rattle.mmu_core.specs.declared.outcome.Task.{Task}
-use Rattle.mmu_core.specs.declared.part_step.PartStep.{PartStep}
-use Rattle.mmu_core.specs.declared.part_step.PartStep.TheVariants as part
+use Rattle.part_steps.specs.declared.task.Task.{Task}
+use Rattle.part_steps.specs.declared.part_step.PartStep.{PartStep}
+use Rattle.part_steps.specs.declared.part_step.PartStep.TheVariants as part
 use Rattle.mmu_core.specs.Enabled.{mmu}
 use Rattle.mmu_core.specs.Laws.{IsSound}
 use Rattle.mmu_core.specs.Machine.{World, effect, hand_in}
-use Rattle.mmu_core.specs.PartSteps.{all_but, own_index, part_kind, part_task, works}
+use Rattle.part_steps.specs.PartSteps.{all_but, own_index, part_kind, part_task, works}
 use Rattle.mmu_core.specs.StatesPart.{stay_bits}
-use Rattle.mmu_core.specs.Tasks.{kind_of_task}
+use Rattle.part_steps.specs.Tasks.{kind_of_task}
 use Rattle.mmu_core.specs.View.{View, upd, word_in, words_after}
 use Rattle.mmu_core.specs.Worlds.{Reachable}
 use Rattle.mmu_core.proofs.Columns.{upd_same}

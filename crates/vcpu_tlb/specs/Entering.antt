@@ -3,10 +3,10 @@ use Rattle.std.specs.Prelude.{◌≡◌, ℕ, [], if◌then◌else◌}
 use Rattle.circular_buffer.specs.Buffer.{Buffer, buffer}
 use Rattle.core_views.specs.Held.{Held}
 use Rattle.spte_words.specs.declared.area.Area.TheVariants as area
-use Rattle.mmu_core.specs.declared.part_step.PartStep.TheVariants as part
+use Rattle.part_steps.specs.declared.part_step.PartStep.TheVariants as part
 use Rattle.mmu_core.specs.Cached.{asks_flush}
 use Rattle.mmu_core.specs.Machine.{World}
-use Rattle.mmu_core.specs.PartSteps.{own_index}
+use Rattle.part_steps.specs.PartSteps.{own_index}
 use Rattle.mmu_core.specs.View.{word_in}
 use Rattle.step_seats.specs.PartTurns.{MadePart, Told}
 use Rattle.core_views.specs.declared.cache.Translation.{Translation}

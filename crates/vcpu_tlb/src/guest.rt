@@ -1,14 +1,14 @@
 ghost use Rattle.std.specs.Prelude.{◌≡◌, ◌+◌, ◌%◌, ◌<◌, ◌==◌, not, IfSome};
 ghost use Rattle.core_views.specs.declared.topics.Stay.TheVariants as Stay;
 ghost use Rattle.mmu_core.specs.Cached.{asks_flush};
-ghost use Rattle.mmu_core.specs.PartRests.{MayMake};
-ghost use Rattle.mmu_core.specs.TopicSteps.{begun};
-ghost use Rattle.mmu_core.specs.declared.part_step.PartStep.TheVariants.{Enter, Leave, Pause};
+ghost use Rattle.mmu_core.specs.MayMake.{MayMake};
+ghost use Rattle.part_steps.specs.TopicSteps.{begun};
+ghost use Rattle.part_steps.specs.declared.part_step.PartStep.TheVariants.{Enter, Leave, Pause};
 ghost use Rattle.step_seats.specs.Moves.{KeepsRoom};
 ghost use Rattle.step_seats.specs.PartTurns.{MadePart, MakesPart};
 ghost use Rattle.vcpu_tlb.specs.Entering.{Enters, answer_to, cached_behind, pause_in, state_in};
 
-use mmu_core::PartStep;
+use part_steps::PartStep;
 use step_seats::{Stepper, make_part};
 
 /// Bit 2 of a state word: a flush is asked for.

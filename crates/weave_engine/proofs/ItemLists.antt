@@ -66,6 +66,6 @@ module _ (z : Sizes) (items : List Item) (i : ℕ) (lt : i < length items) (w t 
       (one_item_more z items i no_item lt w F.steps own F.holds (subst (λ (x : World Held). RunsItem z (get_or items i no_item) x own) (sym F.comes.ends) ran))
 
   pub item_stops : (stop : Stop) → PutsRun (RunsItem z (get_or items i no_item)) (RunsItemSoFar z (get_or items i no_item)) t u here after waits more (Err stop) → PutsRun (RunsItems z items) (RunsItemsSoFar z items) w u before after waited more (Err stop)
-  item_stops stop (own, bytes, ran, comes, prefix) =
-      puts_stopped_behind (RunsItems z (take i items)) (RunsItems z items) (RunsItemsSoFar z items) w t u before here after waited waits more stop own bytes F comes prefix
+  item_stops stop (own, bytes, ran, comes, may, prefix) =
+      puts_stopped_behind (RunsItems z (take i items)) (RunsItems z items) (RunsItemsSoFar z items) w t u before here after waited waits more stop own bytes F comes may prefix
       (stops_in_item z items i no_item lt w F.steps own F.holds (subst (λ (x : World Held). RunsItemSoFar z (get_or items i no_item) x own) (sym F.comes.ends) ran))

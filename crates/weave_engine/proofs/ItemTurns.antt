@@ -17,7 +17,7 @@ use Rattle.weave_engine.specs.Turning.{HasNoLine, IsOpenEnded, RunsBy, RunsBySoF
 use Rattle.weave_engine.specs.Writes.{Buffers}
 use Rattle.weave_engine.specs.declared.turning.Turned.{Turned}
 use Rattle.weave_engine.specs.declared.turning.Turned.TheVariants.{NoLine, Went, Stopped}
-use Rattle.weave_engine.proofs.Coming.{SoFar, comes_none, puts_all, puts_stopped, puts_stopped_behind, so_far_then, turn_there}
+use Rattle.weave_engine.proofs.Coming.{SoFar, comes_none, puts_all, puts_stopped, puts_stopped_at, so_far_then, turn_there}
 use Rattle.weave_engine.proofs.TurnLists.{TurnsGoOn, TurnsMade, counted, counted_so_far, goes_on_so_far, last_ends, last_so_far, one_more_goes_on, one_more_made, over_open}
 
 -- A turn was made, whether its line stopped with it or not.
@@ -54,10 +54,10 @@ module _ (count actor made : ℕ) (w t u : World Held) (before here after : Opti
       (one_more_made actor made w F.steps M.makes.step F.holds (turn_there (TurnsMade actor made) w t u before here waited waits actor M.stop M.bytes F M.makes).0)
 
   pub count_stops : (stop : Stop) → made < count → PutsTurn actor t u here after waits more (Err stop) → PutsRun (RunsBy (Turns count) actor) (RunsBySoFar (Turns count) actor) w u before after waited more (Err stop)
-  count_stops stop lt (inl (same, prefix)) =
-      puts_stopped (TurnsMade actor made) (RunsBy (Turns count) actor) (RunsBySoFar (Turns count) actor) w t u before here after waited waits more stop F same prefix (counted_so_far count actor made w F.steps (omega (arith, lt)) F.holds)
-  count_stops stop lt (inr (bytes, M, prefix)) =
-      puts_stopped_behind (TurnsMade actor made) (RunsBy (Turns count) actor) (RunsBySoFar (Turns count) actor) w t u before here after waited waits more stop (M.step ∷ []) bytes F M.comes prefix
+  count_stops stop lt (inl (full, same, prefix)) =
+      puts_stopped (TurnsMade actor made) (RunsBy (Turns count) actor) (RunsBySoFar (Turns count) actor) w t u before here after waited waits more stop F full same prefix (counted_so_far count actor made w F.steps (omega (arith, lt)) F.holds)
+  count_stops stop lt (inr (bytes, M, answers, prefix)) =
+      puts_stopped_at (TurnsMade actor made) (RunsBy (Turns count) actor) (RunsBySoFar (Turns count) actor) w t u before here after waited waits more stop actor bytes F M answers prefix
       (counted_so_far count actor (made + 1) w (F.steps ++ M.step ∷ []) (omega (arith, lt)) (one_more_made actor made w F.steps M.step F.holds (turn_there (TurnsMade actor made) w t u before here waited waits actor true bytes F M).0))
 
   pub count_ends : made ≤ count → (made ≡ count) ⊎ HasNoLine actor t → PutsRun (RunsBy (Turns count) actor) (RunsBySoFar (Turns count) actor) w t before here waited waits (Ok tt)
@@ -125,9 +125,9 @@ module _ (until : Until) (actor : ℕ) (w t u : World Held) (before here after :
       })
 
   pub until_stops : (stop : Stop) → PutsTurn actor t u here after waits more (Err stop) → PutsRun (RunsBy until actor) (RunsBySoFar until actor) w u before after waited more (Err stop)
-  until_stops stop (inl (same, prefix)) = puts_stopped (TurnsGoOn until actor) (RunsBy until actor) (RunsBySoFar until actor) w t u before here after waited waits more stop F same prefix (goes_on_so_far until actor w F.steps open_ F.holds)
-  until_stops stop (inr (bytes, M, prefix)) =
-      puts_stopped_behind (TurnsGoOn until actor) (RunsBy until actor) (RunsBySoFar until actor) w t u before here after waited waits more stop (M.step ∷ []) bytes F M.comes prefix
+  until_stops stop (inl (full, same, prefix)) = puts_stopped (TurnsGoOn until actor) (RunsBy until actor) (RunsBySoFar until actor) w t u before here after waited waits more stop F full same prefix (goes_on_so_far until actor w F.steps open_ F.holds)
+  until_stops stop (inr (bytes, M, answers, prefix)) =
+      puts_stopped_at (TurnsGoOn until actor) (RunsBy until actor) (RunsBySoFar until actor) w t u before here after waited waits more stop actor bytes F M answers prefix
       (last_so_far until actor w F.steps M.step open_ F.holds (turn_there (TurnsGoOn until actor) w t u before here waited waits actor true bytes F M).0)
 
   -- no line is left, or the line stops

@@ -1,6 +1,6 @@
 pub mod Writes
+pub mod Stopping
 pub mod Fed
-pub mod Settings
 pub mod PartRuns
 pub mod FileOrder
 pub mod LinesRun
@@ -13,6 +13,9 @@ pub mod ItemTurns
 pub mod ItemLists
 pub mod RoundLists
 pub mod FirstLines
+pub mod DelaysBelow
+pub mod Beside
+pub mod FirstInFile
 pub mod WovenLaws
 pub mod WeaveEnds
 pub mod Nearer

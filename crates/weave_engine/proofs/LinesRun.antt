@@ -3,11 +3,12 @@ use Rattle.std.proofs.Common.{◌≡◌, ◌≢◌, ◌⊎◌, inl, inr, ◌<◌
 use Rattle.std.proofs.Math.ListN.{length-map}
 use Rattle.std.proofs.lemmas.List.{append-nil, get_or-set_other, take_all}
 use Rattle.std.proofs.lemmas.Option.{slice_get_within}
-use Rattle.std.specs.Prelude.{All, Some, slice_get}
+use Rattle.std.specs.Prelude.{All, IfOk, Some, None, Result, Ok, Err, slice_get}
 use Rattle.core_views.specs.declared.answer.Answer.{Answer}
 use Rattle.core_views.specs.declared.answer.AnsweredLine.{AnsweredLine}
 use Rattle.core_views.specs.declared.event.Event.{Event}
 use Rattle.core_views.specs.declared.kind.Kind.{Kind}
+use Rattle.core_views.specs.declared.no_memory.NoMemory.{NoMemory}
 use Rattle.core_views.specs.declared.place.Place.TheVariants.{Between}
 use Rattle.core_views.specs.declared.sizes.Sizes.{Sizes}
 use Rattle.core_views.specs.declared.trace.Line.{Line}
@@ -27,6 +28,7 @@ use Rattle.mmu_core.specs.LineAlone.{AllRest, LineAlone}
 use Rattle.mmu_core.specs.Machine.{Legal, Step, World, effect, hand_in, run}
 use Rattle.mmu_core.specs.OthersRest.{HoldsNothing}
 use Rattle.mmu_core.specs.Steps.{nobody}
+use Rattle.mmu_core.specs.Turns.{IsAnswered, IsSameHand}
 use Rattle.mmu_core.specs.Worlds.{IsStart, history}
 use Rattle.mmu_core.proofs.AloneRuns.{begins_alone}
 use Rattle.mmu_core.proofs.Columns.{same_or}
@@ -38,6 +40,9 @@ use Rattle.step_seats.specs.Machines.{Machine, world_in}
 use Rattle.step_seats.specs.Moves.{core_of, handful_in}
 use Rattle.step_seats.proofs.Worlds.{core_at}
 use Rattle.weave_engine.specs.Replays.{EachRunsAlone, RanOn, RunsAlone, RunsLines}
+use Rattle.weave_engine.specs.Turning.{EndsWithAnswer}
+use Rattle.weave_engine.specs.Turns.{RanAlone}
+use Rattle.weave_engine.proofs.Stopping.{answer_behind}
 use Rattle.weave_engine.proofs.FileOrder.{maker_is, maker_there, next_is, one_more_line, other_line, other_place, own_line}
 
 -- No line of this hand is under way, and it has answered its actor's lines among the first of all.
@@ -213,19 +218,21 @@ between_at_start z lines w start = record { ran = runs_none z w; prints = refl; 
 pub sound_between : (z : Sizes) (lines : List Line) (i : ℕ) (start w : World Held) (printed : List ℕ) → IsStart z lines start → IsBetween z lines i start w printed → IsSound z w
 sound_between z lines i start w printed is_start B = subst (IsSound z) B.ran.ends (good_run z start B.ran.steps (start_good z lines start is_start) B.ran.legal)
 
--- One line more.
+-- One line more, which the last step answers.
 pub between_more : (z : Sizes) (lines : List Line) (i : ℕ) (start w t : World Held) (printed : List ℕ) (answer : Answer) → i < length lines → IsCommandFor z (get_or lines i no_line).actor (get_or lines i no_line).command
     → RanOn z (get_or lines i no_line) answer (index_of z (get_or lines i no_line).actor) w t → IsBetween z lines i start w printed
-    → IsBetween z lines (i + 1) start t (printed ++ line_text (get_or lines i no_line).number (get_or lines i no_line).actor answer)
+    → (more : IsBetween z lines (i + 1) start t (printed ++ line_text (get_or lines i no_line).number (get_or lines i no_line).actor answer)) × EndsWithAnswer start more.ran.steps
 unfolding runs_more
 between_more z lines i start w t printed answer lt may ran B =
-    let line : Line = get_or lines i no_line in
-    record {
-      ran = runs_more z start w t (take i lines) (take (i + 1) lines) line answer (one_more_line lines i no_line lt) B.ran ran;
-      prints = ap (λ (x : List ℕ). x ++ line_text line.number line.actor answer) B.prints ∙ sym (prints_more z start w t (take i lines) line answer B.ran ran);
-      behind = hands_more z lines i w t answer lt may ran B.behind;
-      rest = subst (λ (x : World Held). AllRest x) ran.ends ran.alone.rest;
-    }
+    let line : Line = get_or lines i no_line in (
+      record {
+        ran = runs_more z start w t (take i lines) (take (i + 1) lines) line answer (one_more_line lines i no_line lt) B.ran ran;
+        prints = ap (λ (x : List ℕ). x ++ line_text line.number line.actor answer) B.prints ∙ sym (prints_more z start w t (take i lines) line answer B.ran ran);
+        behind = hands_more z lines i w t answer lt may ran B.behind;
+        rest = subst (λ (x : World Held). AllRest x) ran.ends ran.alone.rest;
+      },
+      answer_behind start B.ran.steps ran.steps (subst (λ (x : World Held). EndsWithAnswer x ran.steps) (sym B.ran.ends) ran.alone.last),
+    )
 
 -- so many lines as were looked at, with what they print
 pub ran_first : (z : Sizes) (lines : List Line) (i : ℕ) (start w : World Held) (printed : List ℕ) → IsBetween z lines i start w printed → (r : RunsLines z start (take i lines) w) × (printed ≡ text (history start r.steps))
@@ -233,3 +240,18 @@ ran_first z lines i start w printed B = (B.ran, B.prints)
 
 pub ran_all : (z : Sizes) (lines : List Line) (i : ℕ) (start w : World Held) (printed : List ℕ) → length lines ≤ i → IsBetween z lines i start w printed → (r : RunsLines z start lines w) × (printed ≡ text (history start r.steps))
 ran_all z lines i start w printed le B = subst (λ ls. (r : RunsLines z start ls w) × (printed ≡ text (history start r.steps))) (take_all i lines le) (B.ran, B.prints)
+
+-- A line that ran from a seat of the machine ran on the machine.
+pub ran_on : (r : Result Answer NoMemory) (line : Line) (z : Sizes) (actor by : ℕ) (h g : Held) (w t : World Held) → LineAlone z w actor → by ≡ actor → h ≡ hand_in mmu w actor → g ≡ hand_in mmu t actor
+    → IfOk r (λ answer. IsAnswered line answer h g) → IfOk r (λ answer. RanAlone h.state.sizes line answer by (record { world = Some w; steps = None }) (record { world = Some t; steps = None })) → IsSameHand h g
+    → IfOk r (λ answer. RanOn z line answer actor w t)
+ran_on (Err e) line z actor by h g w t alone same before after answered ran kept = tt
+ran_on (Ok answer) line z actor by h g w t alone same before after answered ran kept =
+    let sizes : h.state.sizes ≡ z = ap (λ (x : Held). x.state.sizes) before ∙ (alone.sound.holds.lines actor alone.there).sizes in
+    record {
+      steps = ran.steps;
+      alone = subst (λ (y : Sizes). RunsAlone y actor line answer ran.steps w) sizes (subst (λ (a : ℕ). RunsAlone h.state.sizes a line answer ran.steps w) same ran.world.0);
+      ends = let e : Some t ≡ Some (run mmu w ran.steps) = ran.world.1 in sym (cc e);
+      answered = subst (λ (x : Held). IsAnswered line answer x (hand_in mmu t actor)) before (subst (λ (x : Held). IsAnswered line answer h x) after answered);
+      same = subst (λ (x : Held). IsSameHand x (hand_in mmu t actor)) before (subst (λ (x : Held). IsSameHand h x) after kept);
+    }

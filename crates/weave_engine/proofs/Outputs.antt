@@ -1,8 +1,8 @@
 -- What the replay of a trace prints, from the lines that ran: lawful, whole, and flat where the pool is large enough.
-use Rattle.std.proofs.Common.{◌≡◌, ◌≢◌, ◌<◌, ◌≤◌, ℕ, List, [], ◌∷◌, ◌++◌, Result, Ok, Err, length, take, refl, sym, ap, subst, ◌∙◌}
+use Rattle.std.proofs.Common.{◌≡◌, ◌≢◌, ◌<◌, ◌≤◌, inl, ℕ, List, [], ◌∷◌, ◌++◌, Result, Ok, Err, length, take, refl, sym, ap, subst, ◌∙◌}
 use Rattle.std.proofs.Math.Seq.{take-length}
 use Rattle.std.specs.declared.option.Option.{Option}
-use Rattle.std.specs.Prelude.{None}
+use Rattle.std.specs.Prelude.{Some, None}
 use Rattle.core_views.specs.declared.answer.Answer.{Answer}
 use Rattle.core_views.specs.declared.answer.Answer.TheVariants.{Starved}
 use Rattle.core_views.specs.declared.event.Event.{Event}
@@ -35,10 +35,15 @@ use Rattle.mmu_core.proofs.LineRuns.{history_append}
 use Rattle.mmu_core.proofs.Starts.{start_good}
 use Rattle.mmu_core.proofs.StartViews.{a_start}
 use Rattle.mmu_core.proofs.Worlds.{good_run}
-use Rattle.tdp_io.specs.Ends.{AppendsPrefix, Wrote}
+use Rattle.tdp_io.specs.Ends.{Wrote}
 use Rattle.tdp_io.specs.declared.sink.Stop.{Stop}
-use Rattle.weave_engine.specs.Replays.{EachRunsAlone, Replays, ReplaysFirst, RunsAlone, RunsAsFlat, RunsLines}
-use Rattle.weave_engine.specs.Writes.{Buffers, RunsAndPuts, WritesReplay}
+use Rattle.tdp_io.specs.declared.sink.Stop.TheVariants.{Failed, NoMemory}
+use Rattle.weave_engine.specs.Replays.{EachRunsAlone, Replays, ReplaysUntil, RunsAlone, RunsAsFlat, RunsLines}
+use Rattle.weave_engine.specs.Turning.{MayStop}
+use Rattle.weave_engine.specs.Writes.{Buffers, ReplaysBy, RunsAndPuts, WritesLines}
+use Rattle.weave_engine.specs.Woven.{how_ended}
+use Rattle.weave_engine.specs.declared.ran.How.{How}
+use Rattle.weave_engine.specs.declared.ran.How.TheVariants.{Done, WriteFault}
 use Rattle.weave_engine.proofs.Fed.{fed_append}
 use Rattle.weave_engine.proofs.LinesRun.{between_at_start, ran_first}
 use Rattle.weave_engine.proofs.Writes.{ends, none_put, so_far_prefix}
@@ -89,21 +94,23 @@ replays trace lines start end_ printed is_start r prints =
         let G = goes_as_flat (sizes_of trace.header) lines (history start r.steps) first_flat (λ i. refl) lawful r.alone fed in
         record { none_starved = fed; same = G.shown; prints = prints ∙ G.prints }
 
--- The machine of a trace wasn't made: nothing ran, and nothing is printed.
-pub none_ran : (trace : Trace) → IsTrace trace → ReplaysFirst trace []
-none_ran trace good =
+-- The machine of a trace wasn't made: nothing ran, and nothing was written.
+pub writes_none : (trace : Trace) (before : Option (List ℕ)) → IsTrace trace → (closing : World Held) × WritesLines trace closing before before (Err NoMemory)
+writes_none trace before good =
     let z : Sizes = sizes_of trace.header in
     let made = a_start z trace.lines (header_sizes trace.header good.header) good.lines good.distinct in
     let none = ran_first z trace.lines 0 made.0 made.0 [] (between_at_start z trace.lines made.0 made.1) in
-    (0, made.0, replays trace (take 0 trace.lines) made.0 made.0 [] made.1 none.0 none.1)
+    (made.0, ([], inl (0, replays trace (take 0 trace.lines) made.0 made.0 [] made.1 none.0 none.1, tt), so_far_prefix before before [] [] (none_put before [])))
 
--- Nothing was written where nothing is printed.
-pub writes_none : (trace : Trace) (before : Option (List ℕ)) (stop : Stop) → IsTrace trace → WritesReplay trace before before (Err stop)
-writes_none trace before stop good = ([], none_ran trace good, so_far_prefix before before [] [] (none_put before []))
+-- It stopped behind some of the lines.
+stopped_replay : (trace : Trace) (count : ℕ) (start end_ : World Held) (stop : Stop) → IsStart (sizes_of trace.header) trace.lines start → (r : RunsLines (sizes_of trace.header) start (take count trace.lines) end_) → MayStop stop start r.steps
+    → ReplaysUntil stop trace end_ (text (history start r.steps))
+unfolding replays
+stopped_replay trace count start end_ stop is_start r may = inl (count, replays trace (take count trace.lines) start end_ (text (history start r.steps)) is_start r refl, may)
 
 -- The writing stopped at a line.
 pub writes_first : (trace : Trace) (z : Sizes) (lines : List Line) (count : ℕ) (start end_ : World Held) (before after : Option (List ℕ)) (waited waits : List ℕ) (stop : Stop) → z ≡ sizes_of trace.header → lines ≡ trace.lines → waited ≡ []
-    → IsStart (sizes_of trace.header) trace.lines start → RunsAndPuts z start lines count end_ before after waited waits (Err stop) → WritesReplay trace before after (Err stop)
+    → IsStart (sizes_of trace.header) trace.lines start → RunsAndPuts z start lines count end_ before after waited waits (Err stop) → WritesLines trace end_ before after (Err stop)
 writes_first trace z lines count start end_ before after waited waits stop sizes are none is_start puts =
     let of_trace : RunsAndPuts (sizes_of trace.header) start trace.lines count end_ before after [] waits (Err stop) =
     subst (λ (w : List ℕ). RunsAndPuts (sizes_of trace.header) start trace.lines count end_ before after w waits (Err stop)) none
@@ -111,8 +118,8 @@ writes_first trace z lines count start end_ before after waited waits stop sizes
     (subst (λ (y : Sizes). RunsAndPuts y start lines count end_ before after waited waits (Err stop)) sizes puts)) in
     first of_trace
   where
-    first : RunsAndPuts (sizes_of trace.header) start trace.lines count end_ before after [] waits (Err stop) → WritesReplay trace before after (Err stop)
-    first (ran, few, r, prefix) = (text (history start r.steps), (ran, end_, replays trace (take ran trace.lines) start end_ (text (history start r.steps)) is_start r refl), prefix)
+    first : RunsAndPuts (sizes_of trace.header) start trace.lines count end_ before after [] waits (Err stop) → WritesLines trace end_ before after (Err stop)
+    first (ran, few, r, may, prefix) = (text (history start r.steps), stopped_replay trace ran start end_ stop is_start r may, prefix)
 
 -- All lines ran, and what waits is written, or a prefix of it.
 pub writes_all : (trace : Trace) (z : Sizes) (lines : List Line) (count : ℕ) (start end_ : World Held) (before here after : Option (List ℕ)) (waited waits piece : List ℕ) (r : Result (Unit {0}) Stop) → z ≡ sizes_of trace.header → lines ≡ trace.lines → count ≡ length lines → waited ≡ []
@@ -131,7 +138,16 @@ writes_all trace z lines count start end_ before here after waited waits piece r
     all : Put trace.lines → (bytes : List ℕ) × Replays trace trace.lines bytes end_ × Wrote before after r bytes
     all (ran, put) = (text (history start ran.steps), replays trace trace.lines start end_ (text (history start ran.steps)) is_start ran refl, ends before here after waits (text (history start ran.steps)) r put (subst (Wrote here after r) same wrote))
 
--- a replay of all lines is one of so many as there are
-pub stopped_behind_all : (trace : Trace) (before after : Option (List ℕ)) (bytes : List ℕ) (end_ : World Held) (stop : Stop) → Replays trace trace.lines bytes end_ → AppendsPrefix before after bytes → WritesReplay trace before after (Err stop)
-stopped_behind_all trace before after bytes end_ stop R prefix =
-    (bytes, (length trace.lines, end_, subst (λ (ls : List Line). Replays trace ls bytes end_) (sym (take-length trace.lines)) R), prefix)
+-- How a replay ended says what it wrote.
+module _ (trace : Trace) (closing : World Held) (before after : Option (List ℕ)) where
+  pub replays_by : (came : Result (Option Line) Stop) (how : How) → how_ended came ≡ Some how → WritesLines trace closing before after came → ReplaysBy trace closing before after how
+  replays_by (Ok None) how is writes = let e : Done ≡ how = cc is in subst (ReplaysBy trace closing before after) e writes
+  replays_by (Ok (Some line)) how is writes = absurd writes
+  replays_by (Err Failed) how is writes = let e : WriteFault ≡ how = cc is in subst (ReplaysBy trace closing before after) e writes
+  replays_by (Err NoMemory) how is writes = absurd (cc is)
+
+  pub replay_refused : (came : Result (Option Line) Stop) → how_ended came ≡ None → WritesLines trace closing before after came → WritesLines trace closing before after (Err NoMemory)
+  replay_refused (Ok None) is writes = absurd (cc is)
+  replay_refused (Ok (Some line)) is writes = absurd writes
+  replay_refused (Err Failed) is writes = absurd (cc is)
+  replay_refused (Err NoMemory) is writes = writes

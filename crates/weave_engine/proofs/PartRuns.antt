@@ -27,7 +27,7 @@ use Rattle.mmu_core.specs.LineAlone.{AllRest, LineAlone, StarvedOnlyWithout, Ste
 use Rattle.mmu_core.specs.Machine.{Legal, May, Step, World, answered, effect, hand_in, run}
 use Rattle.mmu_core.specs.Rests.{IsUnderWay}
 use Rattle.mmu_core.specs.Scans.{EndsWithScan}
-use Rattle.mmu_core.specs.Steps.{events_of, line_at, next, place_at}
+use Rattle.mmu_core.specs.Steps.{events_of, has_line, line_at, next, place_at}
 use Rattle.mmu_core.specs.View.{word_in}
 use Rattle.mmu_core.specs.Turns.{GoesOn, IsSameHand, line_of, outcome_of}
 use Rattle.mmu_core.specs.Worlds.{history}
@@ -42,10 +42,12 @@ use Rattle.step_seats.specs.declared.turn.Turn.{Turn}
 use Rattle.step_seats.specs.declared.turn.Turn.TheVariants.{More, Wait, Retry, Done}
 use Rattle.step_seats.specs.PartTurns.{Told}
 use Rattle.weave_engine.specs.Replays.{EachStepsAlone, RunsAlone}
+use Rattle.weave_engine.specs.Turning.{is_ended}
 use Rattle.weave_engine.specs.Turns.{IsAlone, RanAlone}
-use Rattle.vcpu_run.specs.Accesses.{MakesLine, TurnsLine}
-use Rattle.vcpu_run.proofs.Accessing.{done_ends, more_goes, retry_goes, retry_has_more}
+use Rattle.step_seats.specs.LineTurns.{MakesLine, TurnsLine}
+use Rattle.step_seats.proofs.LineTurns.{done_ends, more_goes, retry_goes, retry_has_more}
 use Rattle.weave_engine.proofs.Fed.{fed_append, step_fed}
+use Rattle.weave_engine.proofs.Stopping.{answers_last}
 
 -- From its start on, the line has come to this hand, by steps of this actor alone, and all other actors rest. The steps lead to the world
 -- that is told, and tell what the line has told so far.
@@ -230,6 +232,10 @@ module _ (turn : Turn Answer) (line : Line) (actor : ℕ) (start a b : Held) (to
         runs = record { legal = legal_on; ends = refl; alone = closed.alone; answers = closed.answers };
         rest = subst (λ (w : World Held). AllRest w) (sym further) near.1;
         nearer = nearer_on;
+        last = answers_last part.before part.steps step (record {
+          left = ap (λ (h : Held). has_line h) part.has ∙ has_line_is a left;
+          ends = ap is_ended (ap (λ (n : ℕ). outcome_of (hand_in mmu here actor) n) moved.1 ∙ ap (λ (h : Held). outcome_of h S.found) part.has ∙ is);
+        });
         no_page_free = subst (λ (w : World Held). StarvedOnlyWithout answer z (word_in z w area.PoolMap)) (sym further) near.2;
         none_starved = λ other. fed_on (λ e. other (cc (is, e)));
         saw_each_word = λ starved. scans (is ∙ ap (λ (x : Answer). Ends x) starved);

@@ -14,7 +14,7 @@ use Rattle.weave_engine.specs.Turned.{MakesTurn, PutsRun, PutsTurn}
 use Rattle.weave_engine.specs.Turning.{AllAnswered, HasLine, HasNoLine, IsNextInRound, IsNextPlace, RunsRounds, place_behind}
 use Rattle.weave_engine.specs.Weaves.{RunsAllRounds, RunsSomeRounds}
 use Rattle.weave_engine.specs.Writes.{Buffers}
-use Rattle.weave_engine.proofs.Coming.{SoFar, puts_all, puts_stopped, puts_stopped_behind, so_far_then, turn_there}
+use Rattle.weave_engine.proofs.Coming.{SoFar, puts_all, puts_stopped, puts_stopped_at, so_far_then, turn_there}
 use Rattle.weave_engine.proofs.ItemTurns.{MadeTurn, nothing_more}
 use Rattle.weave_engine.proofs.TurnLists.{rounds_more}
 
@@ -145,11 +145,11 @@ module _ (z : Sizes) (index passed made next : ℕ) (w t u : World Held) (before
       })
 
   pub rounds_stop : (limit : ℕ) (stop : Stop) → made < limit → PutsTurn index t u here after waits more (Err stop) → PutsRun (RunsAllRounds z limit) (RunsSomeRounds z limit) w u before after waited more (Err stop)
-  rounds_stop limit stop lt (inl (same, prefix)) =
-      puts_stopped (InRounds z index passed made) (RunsAllRounds z limit) (RunsSomeRounds z limit) w t u before here after waited waits more stop F same prefix
+  rounds_stop limit stop lt (inl (full, same, prefix)) =
+      puts_stopped (InRounds z index passed made) (RunsAllRounds z limit) (RunsSomeRounds z limit) w t u before here after waited waits more stop F full same prefix
       (record { next = F.holds.first; rounds = F.holds.rounds; few = let c = F.holds.count in omega (arith, c, lt) })
-  rounds_stop limit stop lt (inr (bytes, M, prefix)) =
-      puts_stopped_behind (InRounds z index passed made) (RunsAllRounds z limit) (RunsSomeRounds z limit) w t u before here after waited waits more stop (M.step ∷ []) bytes F M.comes prefix
+  rounds_stop limit stop lt (inr (bytes, M, answers, prefix)) =
+      puts_stopped_at (InRounds z index passed made) (RunsAllRounds z limit) (RunsSomeRounds z limit) w t u before here after waited waits more stop index bytes F M answers prefix
       (record {
         next = suc M.step.actor;
         rounds = rounds_more z 0 F.holds.first w F.steps M.step F.holds.rounds (in_round true bytes M);

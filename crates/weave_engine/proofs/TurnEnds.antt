@@ -31,11 +31,11 @@ use Rattle.mmu_core.proofs.ToldOf.{answered_with, answers_told}
 use Rattle.mmu_core.proofs.Which.{events_of_line}
 use Rattle.step_seats.specs.declared.turn.Turn.{Turn}
 use Rattle.step_seats.specs.declared.turn.Turn.TheVariants.{More, Wait, Retry, Done}
-use Rattle.vcpu_run.specs.Accesses.{Gives, line_seen, line_turn, turn_of}
+use Rattle.step_seats.specs.LineTurns.{Gives, line_seen, line_turn, turn_of}
 use Rattle.weave_engine.specs.Turned.{is_stop, turn_text}
 use Rattle.weave_engine.specs.Turning.{begins_anew, hand_stops, is_ended}
 use Rattle.mmu_core.specs.SetSlotSteps.{set_slot_outcome, set_slot_waits}
-use Rattle.vcpu_run.proofs.Accessing.{setting_free}
+use Rattle.step_seats.proofs.LineTurns.{setting_free}
 
 -- what is printed of a step, by where its line stands after it
 abbrev pub outcome_text : ℕ → Actor → Outcome → List ℕ

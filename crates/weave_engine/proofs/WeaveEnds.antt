@@ -9,9 +9,9 @@ use Rattle.mmu_core.specs.Machine.{World}
 use Rattle.tdp_io.specs.Ends.{WroteFaults}
 use Rattle.tdp_io.specs.declared.sink.Stop.{Stop}
 use Rattle.tdp_io.specs.declared.sink.Stop.TheVariants.{Failed, NoMemory}
-use Rattle.weave_engine.specs.Woven.{RoseBy, WritesBy, WritesPrefix, WritesWoven, how_ended}
-use Rattle.weave_engine.specs.declared.weaving.How.{How}
-use Rattle.weave_engine.specs.declared.weaving.How.TheVariants.{Done, Unfinished, WriteFault}
+use Rattle.weave_engine.specs.Woven.{RoseBy, WritesBy, WritesUntil, WritesWoven, how_ended}
+use Rattle.weave_engine.specs.declared.ran.How.{How}
+use Rattle.weave_engine.specs.declared.ran.How.TheVariants.{Done, Unfinished, WriteFault}
 
 module _ (trace : Trace) (limit : ℕ) (closing : World Held) (before after : Option (List ℕ)) where
   pub ends_by : (came : Result (Option Line) Stop) (how : How) → how_ended came ≡ Some how → WritesWoven trace limit closing before after came → WritesBy trace limit closing before after how
@@ -20,7 +20,7 @@ module _ (trace : Trace) (limit : ℕ) (closing : World Held) (before after : Op
   ends_by (Err Failed) how is writes = let e : WriteFault ≡ how = cc is in subst (WritesBy trace limit closing before after) e writes
   ends_by (Err NoMemory) how is writes = absurd (cc is)
 
-  pub ends_refused : (came : Result (Option Line) Stop) → how_ended came ≡ None → WritesWoven trace limit closing before after came → WritesPrefix trace limit closing before after
+  pub ends_refused : (came : Result (Option Line) Stop) → how_ended came ≡ None → WritesWoven trace limit closing before after came → WritesUntil NoMemory trace limit closing before after
   ends_refused (Ok None) is writes = absurd (cc is)
   ends_refused (Ok (Some line)) is writes = absurd (cc is)
   ends_refused (Err Failed) is writes = absurd (cc is)

@@ -3,8 +3,9 @@ use Rattle.std.proofs.Common.{◌≡◌, ◌⊎◌, inl, inr, ◌<◌, ◌≤◌
 use Rattle.std.proofs.Math.ListN.{length-map}
 use Rattle.std.proofs.lemmas.Bool.Decides.{nat_tests}
 use Rattle.std.proofs.lemmas.List.{append-nil, length-take}
-use Rattle.std.specs.Prelude.{false, Some, None, take}
+use Rattle.std.specs.Prelude.{false, Some, None, map, take}
 use Rattle.std.specs.declared.option.Option.{Option}
+use Rattle.std.specs.List.Sorted.{IsStrictlyIncreasing}
 use Rattle.core_views.specs.declared.answer.AnsweredLine.{AnsweredLine}
 use Rattle.core_views.specs.declared.kind.Kind.{Kind}
 use Rattle.core_views.specs.declared.sizes.Sizes.{Sizes}
@@ -18,32 +19,33 @@ use Rattle.core_views.specs.Sizes.{actors_of, sizes_of}
 use Rattle.core_views.specs.Text.{text}
 use Rattle.core_views.specs.Traces.{IsTrace}
 use Rattle.core_views.proofs.HeaderSizes.{header_sizes}
-use Rattle.core_views.proofs.Texts.{text_append}
 use Rattle.mmu_core.specs.Enabled.{mmu}
 use Rattle.mmu_core.specs.Machine.{Legal, Step, World, hand_in, run}
 use Rattle.mmu_core.specs.Steps.{has_line}
 use Rattle.mmu_core.specs.Worlds.{IsStart, history}
 use Rattle.mmu_core.proofs.EveryAnswer.{ends_whole, start_follows}
 use Rattle.mmu_core.proofs.EveryHistory.{every_history}
-use Rattle.mmu_core.proofs.Extend.{legal-append, run-append}
-use Rattle.mmu_core.proofs.LineRuns.{history_append}
 use Rattle.mmu_core.proofs.StartViews.{a_start}
 use Rattle.mmu_core.proofs.WholeSoFar.{stays_whole}
 use Rattle.std.specs.Io.KnownBytes.{Appends}
 use Rattle.std.proofs.KnownBytes.{Appends-trans}
 use Rattle.tdp_io.specs.Ends.{AppendsPrefix}
 use Rattle.tdp_io.specs.declared.sink.Stop.{Stop}
+use Rattle.tdp_io.specs.declared.sink.Stop.TheVariants.{NoMemory as Full}
 use Rattle.weave_engine.specs.Replays.{RunsLines}
 use Rattle.weave_engine.specs.Turned.{Comes, PutsRun}
-use Rattle.weave_engine.specs.Turning.{AllAnswered, HasNoLine, IsWithin, RunsItems, RunsItemsSoFar}
-use Rattle.weave_engine.specs.Weaves.{FirstOpen, IsFirstOpen, RunsAllRounds, RunsSomeRounds, Weaves, WeavesAll, WeavesPart, WeavesSoFar, lines_above, open_text, unfinished_text}
+use Rattle.weave_engine.specs.Turning.{AllAnswered, HasNoLine, IsWithin, MayStop, RunsItems, RunsItemsSoFar}
+use Rattle.weave_engine.specs.Weaves.{FirstOpen, Follows, FollowsSoFar, IsFirstOpen, RunsAllRounds, RunsSomeRounds, Weaves, WeavesAll, WeavesPart, WeavesSoFar, lines_above, open_text, unfinished_text}
 use Rattle.weave_engine.specs.Writes.{RunsAndPuts}
-use Rattle.weave_engine.specs.Woven.{WritesPrefix, WritesWoven}
-use Rattle.weave_engine.proofs.Coming.{comes_none, comes_then}
+use Rattle.weave_engine.specs.Woven.{WeavesUntil, WritesUntil, WritesWoven}
+use Rattle.weave_engine.proofs.Beside.{turns_delayed}
+use Rattle.weave_engine.proofs.Coming.{comes_then}
+use Rattle.weave_engine.proofs.FirstInFile.{first_in_file}
 use Rattle.weave_engine.proofs.FirstLines.{absurd_line}
 use Rattle.weave_engine.proofs.ItemLists.{all_so_far}
 use Rattle.weave_engine.proofs.LinesRun.{between_at_start}
-use Rattle.weave_engine.proofs.Writes.{Follows, ends, goes_on, none_put, so_far_prefix, stops}
+use Rattle.weave_engine.proofs.Stopping.{stops_behind}
+use Rattle.weave_engine.proofs.Writes.{IsPut, ends, goes_on, none_put, so_far_prefix, stops}
 
 none_within : (until : Until) → IsWithin until []
 none_within (Turns count) = omega arith
@@ -73,142 +75,189 @@ module _ (trace : Trace) (limit : ℕ) (start : World Held) (is_start : IsStart 
   abbrev z : Sizes
   z = sizes_of trace.header
 
-  -- What was made so far weaves the trace so far.
-  so_far : (above : ℕ) → above ≤ lines_above trace.go → (w t : World Held) (r : RunsLines z start (take above trace.lines) w) (scheduled rounds : List (Step Kind)) (bytes : List ℕ) → Comes w (scheduled ++ rounds) t bytes → RunsItemsSoFar z trace.items w scheduled
-      → (scheduled ++ rounds ≡ []) ⊎ (above ≡ lines_above trace.go) → RunsSomeRounds z limit (run mmu w scheduled) rounds → (rounds ≡ []) ⊎ RunsItems z trace.items w scheduled → WeavesSoFar trace limit (text (history start r.steps) ++ bytes) t
-  so_far above few w t r scheduled rounds bytes C items go turns behind =
-      let more : List (Step Kind) = scheduled ++ rounds in
-      let legal : Legal mmu start (r.steps ++ more) = legal-append mmu start r.steps more r.legal (subst (λ (x : World Held). Legal mmu x more) (sym r.ends) C.legal) in
-      record {
-        start = start;
-        is_start = is_start;
-        above = above;
-        few_above = few;
-        behind = w;
-        alone = r;
-        scheduled = scheduled;
-        rounds = rounds;
-        legal = C.legal;
-        ends = C.ends;
-        items = items;
-        after_go = go;
-        in_rounds = turns;
-        after_items = behind;
-        lawful = every_history z trace.lines start (r.steps ++ more) is_start legal;
-        whole = stays_whole z trace.lines start (r.steps ++ more) is_start legal;
-        prints = ap (λ (x : List ℕ). text (history start r.steps) ++ x) (C.prints ∙ ap (λ (x : World Held). text (history x more)) (sym r.ends))
-            ∙ sym (ap text (history_append start r.steps more) ∙ text_append (history start r.steps) (history (run mmu start r.steps) more));
-      }
+  -- Steps that follow the trace so far weave it so far.
+  weaves_so_far : (ss : List (Step Kind)) (t : World Held) (bytes : List ℕ) → Comes start ss t bytes → FollowsSoFar trace limit start ss → WeavesSoFar trace limit bytes t
+  weaves_so_far ss t bytes C F = record {
+    start = start;
+    is_start = is_start;
+    steps = ss;
+    legal = C.legal;
+    ends = C.ends;
+    follows = F;
+    lawful = every_history z trace.lines start ss is_start C.legal;
+    whole = stays_whole z trace.lines start ss is_start C.legal;
+    prints = C.prints;
+  }
+
+  -- One list of steps weaves the trace so far, and may stop here for this.
+  stops_weaving : (stop : Stop) (ss : List (Step Kind)) (t : World Held) (bytes : List ℕ) → Comes start ss t bytes → FollowsSoFar trace limit start ss → MayStop stop start ss → WeavesUntil stop trace limit t bytes
+  unfolding weaves_so_far
+  stops_weaving stop ss t bytes C F may = inl (weaves_so_far ss t bytes C F, may)
+
+  -- Some lines above `go` ran, and nothing more.
+  lines_follow : (above : ℕ) → above ≤ lines_above trace.go → (w : World Held) (r : RunsLines z start (take above trace.lines) w) → FollowsSoFar trace limit start r.steps
+  lines_follow above few w r = record {
+    above = above;
+    few_above = few;
+    behind = w;
+    alone = r;
+    scheduled = [];
+    rounds = [];
+    are = sym (append-nil r.steps);
+    items = none_so_far z trace.items w;
+    after_go = inl refl;
+    in_rounds = no_rounds z limit w;
+    after_items = inl refl;
+  }
 
   -- Nothing has run.
-  pub nothing_ran : WeavesSoFar trace limit [] start
+  pub nothing_ran : WeavesUntil Full trace limit start []
   nothing_ran =
-      let r : RunsLines z start (take 0 trace.lines) start = (between_at_start z trace.lines start is_start).ran in
-      let S : WeavesSoFar trace limit (text (history start r.steps) ++ []) start = so_far 0 (omega arith) start start r [] [] [] (comes_none start) (none_so_far z trace.items start) (inl refl) (no_rounds z limit start) (inl refl) in
-      subst (λ (b : List ℕ). WeavesSoFar trace limit b start) (append-nil (text (history start r.steps)) ∙ sym (between_at_start z trace.lines start is_start).prints) S
+      let B = between_at_start z trace.lines start is_start in
+      stops_weaving Full B.ran.steps start [] (record { legal = B.ran.legal; ends = B.ran.ends; prints = B.prints }) (lines_follow 0 (omega arith) start B.ran) tt
 
   -- It stopped among the lines above `go`.
-  pub stopped_in_lines : (t : World Held) (before after : Option (List ℕ)) (waits : List ℕ) (stop : Stop) → RunsAndPuts z start trace.lines (lines_above trace.go) t before after [] waits (Err stop) → WritesPrefix trace limit t before after
-  stopped_in_lines t before after waits stop (above, few, r, prefix) =
-      let printed : List ℕ = text (history start r.steps) in
-      let S : WeavesSoFar trace limit (printed ++ []) t = so_far above few t t r [] [] [] (comes_none t) (none_so_far z trace.items t) (inl refl) (no_rounds z limit t) (inl refl) in
-      (printed ++ [], inl S, subst (AppendsPrefix before after) (sym (append-nil printed)) prefix)
+  pub stopped_in_lines : (t : World Held) (before after : Option (List ℕ)) (waits : List ℕ) (stop : Stop) → RunsAndPuts z start trace.lines (lines_above trace.go) t before after [] waits (Err stop) → WritesUntil stop trace limit t before after
+  stopped_in_lines t before after waits stop (above, few, r, may, prefix) =
+      (text (history start r.steps), stops_weaving stop r.steps t (text (history start r.steps)) (record { legal = r.legal; ends = r.ends; prints = refl }) (lines_follow above few t r) may, prefix)
 
   -- The lines above `go` are answered, and what they print was put.
   module _ (w : World Held) (before here : Option (List ℕ)) (waits : List ℕ) (L : RunsAndPuts z start trace.lines (lines_above trace.go) w before here [] waits (Ok tt)) where
     abbrev printed : List ℕ
     printed = text (history start L.0.steps)
 
-    lines_put : Follows before here waits printed
+    lines_put : IsPut before here waits printed
     lines_put = L.1
 
     few_above : lines_above trace.go ≤ lines_above trace.go
     few_above = omega arith
 
+    -- the steps of these lines, and more
+    from_start : (t : World Held) (ss : List (Step Kind)) (bytes : List ℕ) → Comes w ss t bytes → Comes start (L.0.steps ++ ss) t (printed ++ bytes)
+    from_start t ss bytes C = comes_then start w t L.0.steps ss printed bytes (record { legal = L.0.legal; ends = L.0.ends; prints = refl }) C
+
+    may_stop : (stop : Stop) (ss : List (Step Kind)) → MayStop stop w ss → MayStop stop start (L.0.steps ++ ss)
+    may_stop stop ss may = stops_behind stop start L.0.steps ss (subst (λ (x : World Held). MayStop stop x ss) (sym L.0.ends) may)
+
+    items_follow : (ss : List (Step Kind)) → RunsItemsSoFar z trace.items w ss → FollowsSoFar trace limit start (L.0.steps ++ ss)
+    items_follow ss some = record {
+      above = lines_above trace.go;
+      few_above = few_above;
+      behind = w;
+      alone = L.0;
+      scheduled = ss;
+      rounds = [];
+      are = ap (λ (l : List (Step Kind)). L.0.steps ++ l) (sym (append-nil ss));
+      items = some;
+      after_go = inr refl;
+      in_rounds = no_rounds z limit (run mmu w ss);
+      after_items = inl refl;
+    }
+
     -- It stopped among the items.
-    pub stopped_in_items : (t : World Held) (after : Option (List ℕ)) (more : List ℕ) (stop : Stop) → PutsRun (RunsItems z trace.items) (RunsItemsSoFar z trace.items) w t here after waits more (Err stop) → WritesPrefix trace limit t before after
-    stopped_in_items t after more stop (ss, bytes, some, C, prefix) =
-        let whole : Comes w (ss ++ []) t bytes = subst (λ (l : List (Step Kind)). Comes w l t bytes) (sym (append-nil ss)) C in (
-          printed ++ bytes,
-          inl (so_far (lines_above trace.go) few_above w t L.0 ss [] bytes whole some (inr refl) (no_rounds z limit (run mmu w ss)) (inl refl)),
-          stops before here after waits bytes printed lines_put prefix,
-        )
+    pub stopped_in_items : (t : World Held) (after : Option (List ℕ)) (more : List ℕ) (stop : Stop) → PutsRun (RunsItems z trace.items) (RunsItemsSoFar z trace.items) w t here after waits more (Err stop) → WritesUntil stop trace limit t before after
+    stopped_in_items t after more stop (ss, bytes, some, C, may, prefix) =
+        (printed ++ bytes, stops_weaving stop (L.0.steps ++ ss) t (printed ++ bytes) (from_start t ss bytes C) (items_follow ss some) (may_stop stop ss may), stops before here after waits bytes printed lines_put prefix)
 
     -- The items are over too.
     module _ (u : World Held) (there : Option (List ℕ)) (waits_there : List ℕ) (I : PutsRun (RunsItems z trace.items) (RunsItemsSoFar z trace.items) w u here there waits waits_there (Ok tt)) where
-      items_put : Follows before there waits_there (printed ++ I.1)
+      items_put : IsPut before there waits_there (printed ++ I.1)
       items_put = goes_on before here there waits waits_there I.1 [] printed lines_put I.4
 
-      comes_both : (t : World Held) (ss : List (Step Kind)) (bytes : List ℕ) → Comes u ss t bytes → Comes w (I.0 ++ ss) t (I.1 ++ bytes)
-      comes_both t ss bytes C = comes_then w u t I.0 ss I.1 bytes I.3 C
+      comes_both : (t : World Held) (ss : List (Step Kind)) (bytes : List ℕ) → Comes u ss t bytes → Comes start (L.0.steps ++ (I.0 ++ ss)) t (printed ++ (I.1 ++ bytes))
+      comes_both t ss bytes C = from_start t (I.0 ++ ss) (I.1 ++ bytes) (comes_then w u t I.0 ss I.1 bytes I.3 C)
 
-      behind_items : (ss : List (Step Kind)) → RunsSomeRounds z limit u ss → RunsSomeRounds z limit (run mmu w I.0) ss
-      behind_items ss R = subst (λ (x : World Held). RunsSomeRounds z limit x ss) (sym I.3.ends) R
-
-      rounds_so_far : (t : World Held) (ss : List (Step Kind)) (bytes : List ℕ) → Comes u ss t bytes → RunsSomeRounds z limit u ss → WeavesSoFar trace limit (printed ++ (I.1 ++ bytes)) t
-      rounds_so_far t ss bytes C R = so_far (lines_above trace.go) few_above w t L.0 I.0 ss (I.1 ++ bytes) (comes_both t ss bytes C) (all_so_far z trace.items w I.0 I.2) (inr refl) (behind_items ss R) (inr I.2)
+      -- Turns in rounds follow all lines above `go` and all items.
+      follows : (ss : List (Step Kind)) → RunsSomeRounds z limit u ss → Follows trace limit start (L.0.steps ++ (I.0 ++ ss))
+      follows ss R = record {
+        so_far = record {
+          above = lines_above trace.go;
+          few_above = few_above;
+          behind = w;
+          alone = L.0;
+          scheduled = I.0;
+          rounds = ss;
+          are = refl;
+          items = all_so_far z trace.items w I.0 I.2;
+          after_go = inr refl;
+          in_rounds = subst (λ (x : World Held). RunsSomeRounds z limit x ss) (sym I.3.ends) R;
+          after_items = inr I.2;
+        };
+        all_above = refl;
+        all_items = I.2;
+      }
 
       -- It stopped in the rounds.
-      pub stopped_in_rounds : (t : World Held) (after : Option (List ℕ)) (more : List ℕ) (stop : Stop) → PutsRun (RunsAllRounds z limit) (RunsSomeRounds z limit) u t there after waits_there more (Err stop) → WritesPrefix trace limit t before after
-      stopped_in_rounds t after more stop (ss, bytes, some, C, prefix) =
-          (printed ++ (I.1 ++ bytes), inl (rounds_so_far t ss bytes C some), subst (AppendsPrefix before after) (append_assoc printed I.1 bytes) (stops before there after waits_there bytes (printed ++ I.1) items_put prefix))
+      pub stopped_in_rounds : (t : World Held) (after : Option (List ℕ)) (more : List ℕ) (stop : Stop) → PutsRun (RunsAllRounds z limit) (RunsSomeRounds z limit) u t there after waits_there more (Err stop) → WritesUntil stop trace limit t before after
+      stopped_in_rounds t after more stop (ss, bytes, some, C, may, prefix) = (
+        printed ++ (I.1 ++ bytes),
+        stops_weaving stop (L.0.steps ++ (I.0 ++ ss)) t (printed ++ (I.1 ++ bytes)) (comes_both t ss bytes C) (follows ss some).so_far
+            (may_stop stop (I.0 ++ ss) (stops_behind stop w I.0 ss (subst (λ (x : World Held). MayStop stop x ss) (sym I.3.ends) may))),
+        subst (AppendsPrefix before after) (append_assoc printed I.1 bytes) (stops before there after waits_there bytes (printed ++ I.1) items_put prefix),
+      )
 
       -- The rounds are over.
       module _ (t : World Held) (at : Option (List ℕ)) (waits_at : List ℕ) (R : PutsRun (RunsAllRounds z limit) (RunsSomeRounds z limit) u t there at waits_there waits_at (Ok tt)) where
         abbrev all_text : List ℕ
         all_text = printed ++ (I.1 ++ R.1)
 
-        all_put : Follows before at waits_at all_text
+        abbrev all_steps : List (Step Kind)
+        all_steps = L.0.steps ++ (I.0 ++ R.0)
+
+        all_put : IsPut before at waits_at all_text
         all_put = goes_on before there at waits_there waits_at R.1 printed I.1 items_put R.4
 
+        all_come : Comes start all_steps t all_text
+        all_come = comes_both t R.0 R.1 R.3
+
         woven : Weaves trace limit all_text t
-        unfolding rounds_so_far so_far
-        woven = record { so_far = rounds_so_far t R.0 R.1 R.3 R.2.some; all_above = refl; all_items = I.2 }
+        unfolding weaves_so_far
+        woven = record { so_far = weaves_so_far all_steps t all_text all_come (follows R.0 R.2.some).so_far; follows = follows R.0 R.2.some }
 
         -- Each line is answered, and what waits is written, or a prefix of it.
         all_answered : AllAnswered z t → WeavesAll trace limit all_text t
-        unfolding woven rounds_so_far so_far
+        unfolding woven weaves_so_far
         all_answered all = record {
           weaves = woven;
           all = all;
-          whole = ends_whole z trace.lines start (L.0.steps ++ (I.0 ++ R.0)) is_start woven_legal answered_;
+          whole = ends_whole z trace.lines start all_steps is_start all_come.legal answered_;
         }
           where
-            woven_legal : Legal mmu start (L.0.steps ++ (I.0 ++ R.0))
-            woven_legal = legal-append mmu start L.0.steps (I.0 ++ R.0) L.0.legal (subst (λ (x : World Held). Legal mmu x (I.0 ++ R.0)) (sym L.0.ends) (comes_both t R.0 R.1 R.3).legal)
-
-            at_end : run mmu start (L.0.steps ++ (I.0 ++ R.0)) ≡ t
-            at_end = run-append mmu start L.0.steps (I.0 ++ R.0) ∙ ap (λ (x : World Held). run mmu x (I.0 ++ R.0)) L.0.ends ∙ (comes_both t R.0 R.1 R.3).ends
-
-            answered_ : (i : ℕ) → i < actors_of z → length (hand_in mmu (run mmu start (L.0.steps ++ (I.0 ++ R.0))) i).answers ≡ length (hand_in mmu (run mmu start (L.0.steps ++ (I.0 ++ R.0))) i).lines
+            answered_ : (i : ℕ) → i < actors_of z → length (hand_in mmu (run mmu start all_steps) i).answers ≡ length (hand_in mmu (run mmu start all_steps) i).lines
             answered_ i lt =
-                let few = few_answers z trace.lines start (L.0.steps ++ (I.0 ++ R.0)) i is_start woven_legal lt in
-                let none : HasNoLine i (run mmu start (L.0.steps ++ (I.0 ++ R.0))) = subst (λ (x : World Held). HasNoLine i x) (sym at_end) (all i lt) in
-                no_line_all (hand_in mmu (run mmu start (L.0.steps ++ (I.0 ++ R.0))) i) few none
+                let few = few_answers z trace.lines start all_steps i is_start all_come.legal lt in
+                let none : HasNoLine i (run mmu start all_steps) = subst (λ (x : World Held). HasNoLine i x) (sym all_come.ends) (all i lt) in
+                no_line_all (hand_in mmu (run mmu start all_steps) i) few none
 
-        used_up : (line : Line) → IsFirstOpen z t line → WeavesPart trace limit all_text t line
-        unfolding woven rounds_so_far so_far
-        used_up line open_ = record { weaves = woven; used_up = by R.2.over; open_ = open_ }
+        used_up : IsStrictlyIncreasing (map (λ (l : Line). l.number) trace.lines) → (line : Line) → IsFirstOpen z t line → WeavesPart trace limit all_text t line
+        unfolding woven follows weaves_so_far
+        used_up up line open_ = record {
+          weaves = woven;
+          used_up = by R.2.over;
+          open_ = open_;
+          delayed = turns_delayed trace limit woven.so_far.start woven.so_far.steps woven.so_far.is_start woven.so_far.legal woven.follows (by R.2.over);
+          first_in_file = first_in_file z trace.lines start all_steps is_start all_come.legal up line (subst (λ (x : World Held). IsFirstOpen z x line) (sym all_come.ends) open_);
+        }
           where
             by : (length R.0 ≡ limit) ⊎ AllAnswered z (run mmu u R.0) → length R.0 ≡ limit
             by (inl e) = e
             by (inr all) = absurd (absurd_line t open_.actor open_.left (subst (λ (x : World Held). HasNoLine open_.actor x) R.3.ends (all open_.actor open_.there)))
 
         -- All is written: each line is answered, or this is the first that isn't.
-        pub ends_open : (open_ : Option Line) (after : Option (List ℕ)) → FirstOpen z t open_ → Appends at after (waits_at ++ open_text open_) → WritesWoven trace limit t before after (Ok open_)
-        ends_open None after none wrote = (all_text, all_answered none, ends before at after waits_at all_text (Ok (tt {0})) all_put (subst (Appends at after) (append-nil waits_at) wrote))
-        ends_open (Some line) after open_ wrote =
+        pub ends_open : IsStrictlyIncreasing (map (λ (l : Line). l.number) trace.lines) → (open_ : Option Line) (after : Option (List ℕ)) → FirstOpen z t open_ → Appends at after (waits_at ++ open_text open_) → WritesWoven trace limit t before after (Ok open_)
+        ends_open up None after none wrote = (all_text, all_answered none, ends before at after waits_at all_text (Ok (tt {0})) all_put (subst (Appends at after) (append-nil waits_at) wrote))
+        ends_open up (Some line) after open_ wrote =
             let u : List ℕ = unfinished_text line in
             let whole : all_put.0 ++ (waits_at ++ u) ≡ all_text ++ u = sym (append_assoc all_put.0 waits_at u) ∙ ap (λ (x : List ℕ). x ++ u) all_put.2 in
-            (all_text, used_up line open_, subst (Appends before after) whole (Appends-trans before at after all_put.0 (waits_at ++ u) all_put.1 wrote))
+            (all_text, used_up up line open_, subst (Appends before after) whole (Appends-trans before at after all_put.0 (waits_at ++ u) all_put.1 wrote))
 
         -- The writing stopped behind all turns.
-        pub stops_open : (open_ : Option Line) (after : Option (List ℕ)) → FirstOpen z t open_ → AppendsPrefix at after (waits_at ++ open_text open_) → WritesPrefix trace limit t before after
-        stops_open None after none wrote = (all_text ++ [], inl (subst (λ (b : List ℕ). WeavesSoFar trace limit b t) (sym (append-nil all_text)) (rounds_so_far t R.0 R.1 R.3 R.2.some)), stops before at after waits_at [] all_text all_put wrote)
-        stops_open (Some line) after open_ wrote = (all_text ++ unfinished_text line, inr (all_text, line, used_up line open_, refl), stops before at after waits_at (unfinished_text line) all_text all_put wrote)
+        pub stops_open : IsStrictlyIncreasing (map (λ (l : Line). l.number) trace.lines) → (stop : Stop) (open_ : Option Line) (after : Option (List ℕ)) → FirstOpen z t open_ → AppendsPrefix at after (waits_at ++ open_text open_) → WritesUntil stop trace limit t before after
+        stops_open up stop None after none wrote = (all_text, inr (inl (all_answered none)), subst (AppendsPrefix before after) (append-nil all_text) (stops before at after waits_at [] all_text all_put wrote))
+        stops_open up stop (Some line) after open_ wrote = (all_text ++ unfinished_text line, inr (inr (all_text, line, used_up up line open_, refl)), stops before at after waits_at (unfinished_text line) all_text all_put wrote)
 
 -- No machine was made: nothing ran.
-pub no_machine : (trace : Trace) (limit : ℕ) (before : Option (List ℕ)) → IsTrace trace → (closing : World Held) × WritesPrefix trace limit closing before before
+pub no_machine : (trace : Trace) (limit : ℕ) (before : Option (List ℕ)) → IsTrace trace → (closing : World Held) × WritesUntil Full trace limit closing before before
 no_machine trace limit before good =
     let made = a_start (sizes_of trace.header) trace.lines (header_sizes trace.header good.header) good.lines good.distinct in
-    (made.0, ([], inl (nothing_ran trace limit made.0 made.1), so_far_prefix before before [] [] (none_put before [])))
+    (made.0, ([], nothing_ran trace limit made.0 made.1, so_far_prefix before before [] [] (none_put before [])))

@@ -1,5 +1,5 @@
 -- What a replay over the machine's words is: a list of steps in which each line runs alone, in file order.
-use Rattle.std.specs.Prelude.{◌≡◌, ◌≢◌, ◌≤◌, ◌*◌, ℕ, List, [], ◌∷◌, ◌++◌, All, length, take, Some}
+use Rattle.std.specs.Prelude.{◌≡◌, ◌≢◌, ◌≤◌, ◌⊎◌, ◌*◌, ℕ, List, [], ◌∷◌, ◌++◌, All, length, take, Some}
 use Rattle.core_views.specs.declared.answer.Answer.{Answer}
 use Rattle.core_views.specs.declared.answer.Answer.TheVariants.{Starved}
 use Rattle.core_views.specs.declared.event.Event.{Event}
@@ -27,6 +27,8 @@ use Rattle.mmu_core.specs.Scans.{EndsWithScan}
 use Rattle.mmu_core.specs.Turns.{IsAnswered, IsSameHand}
 use Rattle.mmu_core.specs.View.{word_in}
 use Rattle.mmu_core.specs.Worlds.{IsStart, history}
+use Rattle.tdp_io.specs.declared.sink.Stop.{Stop}
+use Rattle.weave_engine.specs.Turning.{EndsWithAnswer, MayStop}
 
 -- None of these steps, made from this world on, waits for another actor, and each leaves its line nearer to its answer.
 abbrev pub EachStepsAlone : Sizes → World Held → List (Step Kind) → Type 0
@@ -34,13 +36,14 @@ EachStepsAlone z before [] = Unit {0}
 EachStepsAlone z before (s ∷ steps) = StepsAlone z before s × EachStepsAlone z (effect mmu before s) steps
 
 -- The steps run the line alone: they are of its actor alone, at most `most_steps`, none of them waits or leads away from the line's
--- answer, and they tell the line from its begin to this answer. Behind them all actors rest. Where the line is starved no page of the
+-- answer; the last one answers it, and they tell the line from its begin to this answer. Behind them all actors rest. Where the line is starved no page of the
 -- pool is free then, and its claim found each word of the pool's map 0; where it is answered otherwise, no access of it left for want of
 -- a page.
 pub record RunsAlone (z : Sizes) (actor : ℕ) (line : Line) (answer : Answer) (steps : List (Step Kind)) (before : World Held) : Type 0 where
   pub own : All (λ s. s.actor ≡ actor) steps
   pub few : length steps ≤ most_steps z
   pub nearer : EachStepsAlone z before steps
+  pub last : EndsWithAnswer before steps
   pub runs : RunsLine line answer steps before (Some (run mmu before steps))
   pub rest : AllRest (run mmu before steps)
   pub no_page_free : StarvedOnlyWithout answer z (word_in z (run mmu before steps) area.PoolMap)
@@ -89,6 +92,7 @@ pub record Replays (trace : Trace) (lines : List Line) (bytes : List ℕ) (closi
   pub prints : bytes ≡ text (history start runs.steps)
   pub flat : need trace.header trace.lines ≤ trace.header.pool → RunsAsFlat (sizes_of trace.header) lines bytes (history start runs.steps)
 
--- So far the replay of a trace came, and printed this.
-abbrev pub ReplaysFirst : Trace → List ℕ → Type 0
-ReplaysFirst trace bytes = (count : ℕ) × (closing : World Held) × Replays trace (take count trace.lines) bytes closing
+-- A replay of the trace came to this world, where it printed this, and stopped for this: behind some of the lines, or at the end, when all had run.
+abbrev pub ReplaysUntil : Stop → Trace → World Held → List ℕ → Type 0
+ReplaysUntil stop trace closing bytes =
+    ((count : ℕ) × (R : Replays trace (take count trace.lines) bytes closing) × MayStop stop R.start R.runs.steps) ⊎ Replays trace trace.lines bytes closing

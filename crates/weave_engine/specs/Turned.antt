@@ -7,16 +7,19 @@ use Rattle.core_views.specs.declared.trace.Line.{Line}
 use Rattle.core_views.specs.Held.{Held}
 use Rattle.core_views.specs.Text.{line_text, text}
 use Rattle.mmu_core.specs.Enabled.{mmu}
-use Rattle.mmu_core.specs.Machine.{Legal, Step, World, run}
-use Rattle.mmu_core.specs.Steps.{has_line, task_of}
-use Rattle.mmu_core.specs.Tasks.{kind_of_task}
+use Rattle.mmu_core.specs.LineAlone.{line_waits}
+use Rattle.mmu_core.specs.Machine.{Legal, Step, World, answered, hand_in, run}
+use Rattle.mmu_core.specs.Steps.{has_line, place_at, task_of}
+use Rattle.part_steps.specs.Tasks.{kind_of_task}
 use Rattle.mmu_core.specs.Turns.{line_of}
 use Rattle.mmu_core.specs.Worlds.{history}
 use Rattle.step_seats.specs.declared.turn.Turn.{Turn}
 use Rattle.step_seats.specs.declared.turn.Turn.TheVariants.{More, Wait, Retry, Done}
 use Rattle.tdp_io.specs.Ends.{AppendsPrefix}
 use Rattle.tdp_io.specs.declared.sink.Stop.{Stop}
-use Rattle.weave_engine.specs.Turning.{HasNoLine, IsTurn, stops}
+use Rattle.tdp_io.specs.declared.sink.Stop.TheVariants.{NoMemory as Full}
+use Rattle.step_seats.specs.LineTurns.{Gives, line_seen, line_turn}
+use Rattle.weave_engine.specs.Turning.{AnswersLine, HasNoLine, IsTurn, MayStop, stops}
 use Rattle.weave_engine.specs.Writes.{Buffers}
 use Rattle.weave_engine.specs.declared.turning.TurnMade.{TurnMade}
 use Rattle.weave_engine.specs.declared.turning.Turned.{Turned}
@@ -55,28 +58,43 @@ pub record MakesTurn (actor : ℕ) (before after : World Held) (stop : Bool) (by
   pub stops_ : stops before step ≡ stop
   pub comes : Comes before (step ∷ []) after bytes
 
+-- What a turn of the hand's line answers, by what its step found: a wait names the word that it has seen, a beginning anew its cause, and an
+-- end the answer.
+abbrev pub AnswersBy : Turn Answer → Held → ℕ → Type 0
+AnswersBy turn h v = Gives turn (line_waits (place_at h.state.place h) h.topics v) (line_seen (place_at h.state.place h) (line_of h).command h v) (line_turn (place_at h.state.place h) (line_of h).command h v)
+
+-- The turn was one of the line that the actor's hand had under way, or else of its next one. That line's next step was made, and the turn
+-- answers by it.
+pub record IsTurnOf (made : TurnMade) (actor : ℕ) (before after : World Held) : Type 0 where
+  pub number : made.number ≡ (line_of (hand_in mmu before actor)).number
+  pub whose : made.actor ≡ (line_of (hand_in mmu before actor)).actor
+  pub makes : MakesTurn actor before after (is_stop made.turn) (turn_text made.number made.actor made.turn)
+  pub answers : AnswersBy made.turn (hand_in mmu before actor) (answered mmu before makes.step.kind)
+
 abbrev pub TurnedOn : Option TurnMade → ℕ → World Held → World Held → Type 0
 TurnedOn None actor before after = HasNoLine actor before × (after ≡ before)
-TurnedOn (Some made) actor before after = MakesTurn actor before after (is_stop made.turn) (turn_text made.number made.actor made.turn)
+TurnedOn (Some made) actor before after = IsTurnOf made actor before after
 
 -- the same of the worlds that a seat tells, before the turn and behind it
 abbrev pub TurnedTold : Option TurnMade → ℕ → Option (World Held) → Option (World Held) → Type 0
 TurnedTold made actor told tells = IfSome told (λ w. (t : World Held) × (tells ≡ Some t) × TurnedOn made actor w t)
 
--- The actor's turn was made, and what it prints was put behind what waited to be written. Where that stopped, either no step was made, or
--- a prefix of what waited and of what the turn prints was written.
+-- The actor's turn was made, and what it prints was put behind what waited to be written. Where that stopped, either memory was refused
+-- and no step was made; or the turn answered its line, and a prefix of what waited and of what the turn prints was written.
 abbrev pub PutsTurn : ℕ → World Held → World Held → Option (List ℕ) → Option (List ℕ) → List ℕ → List ℕ → Result Turned Stop → Type 0
 PutsTurn actor before after written writes waited waits (Ok NoLine) = HasNoLine actor before × (after ≡ before) × Buffers written writes waited waits (Ok tt) []
 PutsTurn actor before after written writes waited waits (Ok Went) = (bytes : List ℕ) × MakesTurn actor before after false bytes × Buffers written writes waited waits (Ok tt) bytes
 PutsTurn actor before after written writes waited waits (Ok Stopped) = (bytes : List ℕ) × MakesTurn actor before after true bytes × Buffers written writes waited waits (Ok tt) bytes
 PutsTurn actor before after written writes waited waits (Err stop) =
-    ((after ≡ before) × AppendsPrefix written writes waited) ⊎ ((bytes : List ℕ) × MakesTurn actor before after true bytes × AppendsPrefix written writes (waited ++ bytes))
+    ((stop ≡ Full) × (after ≡ before) × AppendsPrefix written writes waited)
+    ⊎ ((bytes : List ℕ) × (M : MakesTurn actor before after true bytes) × AnswersLine before M.step × AppendsPrefix written writes (waited ++ bytes))
 
 -- Steps of which this holds lead from one world to the other, and what they print was put behind what waited to be written; or, where that
--- stopped, steps of which that holds were made, and a prefix of what waited and of what they print was written.
+-- stopped, steps of which that holds were made, behind which it may stop for this, and a prefix of what waited and of what they print was
+-- written.
 abbrev pub PutsRun :
     (World Held → List (Step Kind) → Type 0) → (World Held → List (Step Kind) → Type 0) → World Held → World Held → Option (List ℕ) → Option (List ℕ) → List ℕ → List ℕ → Result (Unit {0}) Stop → Type 0
 PutsRun whole part before after written writes waited waits (Ok u) =
     (ss : List (Step Kind)) × (bytes : List ℕ) × whole before ss × Comes before ss after bytes × Buffers written writes waited waits (Ok u) bytes
 PutsRun whole part before after written writes waited waits (Err stop) =
-    (ss : List (Step Kind)) × (bytes : List ℕ) × part before ss × Comes before ss after bytes × AppendsPrefix written writes (waited ++ bytes)
+    (ss : List (Step Kind)) × (bytes : List ℕ) × part before ss × Comes before ss after bytes × MayStop stop before ss × AppendsPrefix written writes (waited ++ bytes)

@@ -15,6 +15,8 @@ use Rattle.mmu_core.specs.LineAlone.{line_waits}
 use Rattle.mmu_core.specs.Machine.{Step, World, answered, effect, hand_in, run}
 use Rattle.mmu_core.specs.Steps.{has_line, place_at}
 use Rattle.mmu_core.specs.Turns.{outcome_of}
+use Rattle.tdp_io.specs.declared.sink.Stop.{Stop}
+use Rattle.tdp_io.specs.declared.sink.Stop.TheVariants.{Failed, NoMemory}
 
 -- The actor has a line that has no answer.
 abbrev pub HasLine : ℕ → World Held → Type 0
@@ -33,6 +35,23 @@ hand_stops h v = line_waits (place_at h.state.place h) h.topics v || (begins_ane
 
 abbrev pub stops : World Held → Step Kind → Bool
 stops w s = hand_stops (hand_in mmu w s.actor) (answered mmu w s.kind)
+
+-- The step answers its actor's line.
+pub record AnswersLine (w : World Held) (s : Step Kind) : Type 0 where
+  pub left : HasLine s.actor w
+  pub ends : is_ended (outcome_of (hand_in mmu w s.actor) (answered mmu w s.kind)) ≡ true
+
+-- The last of these steps answers its actor's line.
+pub record EndsWithAnswer (w : World Held) (ss : List (Step Kind)) : Type 0 where
+  pub before : List (Step Kind)
+  pub last : Step Kind
+  pub are : ss ≡ before ++ last ∷ []
+  pub answers : AnswersLine (run mmu w before) last
+
+-- Why a run stops behind these steps: a write fails only where one is tried, behind an answer; memory may be refused anywhere.
+abbrev pub MayStop : Stop → World Held → List (Step Kind) → Type 0
+MayStop Failed w ss = EndsWithAnswer w ss
+MayStop NoMemory w ss = Unit {0}
 
 -- The item names no count of turns.
 abbrev pub IsOpenEnded : Until → Type 0

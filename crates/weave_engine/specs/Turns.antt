@@ -5,14 +5,7 @@ use Rattle.core_views.specs.declared.kind.Kind.{Kind}
 use Rattle.core_views.specs.declared.sizes.Sizes.{Sizes}
 use Rattle.core_views.specs.declared.trace.Command.TheVariants as command
 use Rattle.core_views.specs.declared.trace.Line.{Line}
-use Rattle.core_views.specs.declared.hand.Seen.{Seen}
-use Rattle.core_views.specs.declared.place.SetSlotPlace.{SetSlotPlace}
-use Rattle.core_views.specs.declared.place.SetSlotPlace.TheVariants.{Close}
-use Rattle.core_views.specs.declared.topics.Topics.{Topics}
 use Rattle.core_views.specs.Held.{Held}
-use Rattle.spte_words.specs.declared.area.Area.TheVariants as area
-use Rattle.spte_words.specs.Areas.{place}
-use Rattle.mmu_core.specs.Tasks.{map_of}
 use Rattle.mmu_core.specs.Enabled.{mmu}
 use Rattle.mmu_core.specs.LineAlone.{LineAlone}
 use Rattle.mmu_core.specs.Machine.{Step, World, hand_in, run}
@@ -38,8 +31,3 @@ pub record RanAlone (z : Sizes) (line : Line) (answer : Answer) (actor : ℕ) (t
   pub steps : List (Step Kind)
   pub world : IfSome told.world (λ w. RunsAlone z actor line answer steps w × (tells.world ≡ Some (run mmu w steps)))
   pub added : IfSome told.steps (λ ss. tells.steps ≡ Some (ss ++ steps))
-
--- what a step of a slot setting on this word has seen that waits
-abbrev pub seen_at : SetSlotPlace → Sizes → Topics → ℕ → ℕ → Seen
-seen_at Close z t word v = record { word = place (map_of z) area.Count 0; value = t.invalidations.count }
-seen_at _ z t word v = record { word = word; value = v }

@@ -1,6 +1,8 @@
 -- What a weave of a trace is: the lines above `go`, each alone, then the turns of its schedule, then turns in rounds.
-use Rattle.std.specs.Prelude.{◌≡◌, ◌<◌, ◌≤◌, ◌⊎◌, ℕ, List, [], ◌∷◌, ◌++◌, length, take, codes, nat_lt, if◌then◌else◌, Option, Some, None, unwrap_or}
+use Rattle.std.specs.Prelude.{◌≡◌, ◌+◌, ◌<◌, ◌≤◌, ◌⊎◌, ℕ, List, [], ◌∷◌, ◌++◌, All, drop, length, map, take, codes, nat_lt, if◌then◌else◌, slice_get, Option, Some, None, unwrap_or}
 use Rattle.std.specs.Fmt.{decimal}
+use Rattle.std.specs.List.{Contains}
+use Rattle.core_views.specs.declared.event.Event.{Event}
 use Rattle.core_views.specs.declared.kind.Kind.{Kind}
 use Rattle.core_views.specs.declared.sizes.Sizes.{Sizes}
 use Rattle.core_views.specs.declared.trace.Line.{Line}
@@ -9,18 +11,23 @@ use Rattle.core_views.specs.Flat.{first_flat}
 use Rattle.core_views.specs.Held.{Held}
 use Rattle.core_views.specs.Lawful.{IsLawful}
 use Rattle.core_views.specs.Sizes.{actors_of, sizes_of}
-use Rattle.core_views.specs.Text.{actor_name, text}
+use Rattle.core_views.specs.Text.{actor_name, answers_of, text}
 use Rattle.core_views.specs.Whole.{IsWhole, IsWholeSoFar}
 use Rattle.mmu_core.specs.Enabled.{mmu}
 use Rattle.mmu_core.specs.Machine.{Legal, Step, World, hand_in, run}
 use Rattle.mmu_core.specs.Steps.{next_line}
 use Rattle.mmu_core.specs.Worlds.{IsStart, history}
+use Rattle.weave_engine.specs.Beside.{AreForDelays}
 use Rattle.weave_engine.specs.Replays.{RunsLines}
 use Rattle.weave_engine.specs.Turning.{AllAnswered, HasLine, RunsItems, RunsItemsSoFar, RunsRounds}
 
 -- how many of the trace's lines run alone: those above `go`
 abbrev pub lines_above : Option ℕ → ℕ
 lines_above go = unwrap_or go 0
+
+-- the lines below `go`
+abbrev pub lines_below : Trace → List Line
+lines_below trace = drop (lines_above trace.go) trace.lines
 
 -- This is the first line of the file that has no answer: its actor's next one, and no other actor's next one stands before it.
 pub record IsFirstOpen (z : Sizes) (w : World Held) (line : Line) : Type 0 where
@@ -29,6 +36,17 @@ pub record IsFirstOpen (z : Sizes) (w : World Held) (line : Line) : Type 0 where
   pub left : HasLine actor w
   pub is : next_line (hand_in mmu w actor) ≡ line
   pub first : (i : ℕ) → i < actors_of z → HasLine i w → line.number ≤ (next_line (hand_in mmu w i)).number
+
+-- the numbers of the lines that a history answers
+abbrev pub numbers_answered : List Event → List ℕ
+numbers_answered history = map (λ x. x.number) (answers_of history)
+
+-- The history answers each line that stands before this one in the file, and not this one.
+pub record IsFirstInFile (history : List Event) (lines : List Line) (line : Line) : Type 0 where
+  pub before : ℕ
+  pub is : slice_get lines before ≡ Some line
+  pub answered : All (λ other. Contains (numbers_answered history) other.number) (take before lines)
+  pub open_ : Contains (numbers_answered history) line.number → ⊥
 
 -- the one of two lines that stands first in the file, if they are there
 abbrev pub earlier_of : Option Line → Option Line → Option Line
@@ -51,45 +69,60 @@ pub record RunsAllRounds (z : Sizes) (limit : ℕ) (w : World Held) (ss : List (
   pub some : RunsSomeRounds z limit w ss
   pub over : (length ss ≡ limit) ⊎ AllAnswered z (run mmu w ss)
 
--- Steps that may be made one after another lead from the trace's start to this world: some lines above `go`, each alone, in file
--- order; once all of these are answered the turns of the schedule's items; and once these are over turns in rounds, from the first actor
--- on, at most `limit`. What they tell is lawful, and its text is the bytes.
-pub record WeavesSoFar (trace : Trace) (limit : ℕ) (bytes : List ℕ) (closing : World Held) : Type 0 where
-  pub start : World Held
-  pub is_start : IsStart (sizes_of trace.header) trace.lines start
+-- The steps follow the trace as far as they come: first some lines above `go`, each alone, in file order; once all of these are answered
+-- the turns of the schedule's items; and once these are over turns in rounds, from the first actor on, at most `limit`.
+pub record FollowsSoFar (trace : Trace) (limit : ℕ) (start : World Held) (steps : List (Step Kind)) : Type 0 where
   pub above : ℕ
   pub few_above : above ≤ lines_above trace.go
   pub behind : World Held
   pub alone : RunsLines (sizes_of trace.header) start (take above trace.lines) behind
   pub scheduled : List (Step Kind)
   pub rounds : List (Step Kind)
-  pub legal : Legal mmu behind (scheduled ++ rounds)
-  pub ends : run mmu behind (scheduled ++ rounds) ≡ closing
+  pub are : steps ≡ alone.steps ++ (scheduled ++ rounds)
   pub items : RunsItemsSoFar (sizes_of trace.header) trace.items behind scheduled
   pub after_go : (scheduled ++ rounds ≡ []) ⊎ (above ≡ lines_above trace.go)
   pub in_rounds : RunsSomeRounds (sizes_of trace.header) limit (run mmu behind scheduled) rounds
   pub after_items : (rounds ≡ []) ⊎ RunsItems (sizes_of trace.header) trace.items behind scheduled
-  pub lawful : IsLawful (sizes_of trace.header) first_flat (history start (alone.steps ++ (scheduled ++ rounds)))
-  pub whole : IsWholeSoFar (history start (alone.steps ++ (scheduled ++ rounds))) trace.lines
-  pub prints : bytes ≡ text (history start (alone.steps ++ (scheduled ++ rounds)))
 
 -- All lines above `go` and all items of the schedule had their turns.
-pub record Weaves (trace : Trace) (limit : ℕ) (bytes : List ℕ) (closing : World Held) : Type 0 where
-  pub so_far : WeavesSoFar trace limit bytes closing
+pub record Follows (trace : Trace) (limit : ℕ) (start : World Held) (steps : List (Step Kind)) : Type 0 where
+  pub so_far : FollowsSoFar trace limit start steps
   pub all_above : so_far.above ≡ lines_above trace.go
   pub all_items : RunsItems (sizes_of trace.header) trace.items so_far.behind so_far.scheduled
+
+-- One list of steps, that may be made one after another, leads from the trace's start to this world, and follows the trace so far. What it
+-- tells is lawful, begins and answers the first lines of each actor, and its text is the bytes.
+pub record WeavesSoFar (trace : Trace) (limit : ℕ) (bytes : List ℕ) (closing : World Held) : Type 0 where
+  pub start : World Held
+  pub is_start : IsStart (sizes_of trace.header) trace.lines start
+  pub steps : List (Step Kind)
+  pub legal : Legal mmu start steps
+  pub ends : run mmu start steps ≡ closing
+  pub follows : FollowsSoFar trace limit start steps
+  pub lawful : IsLawful (sizes_of trace.header) first_flat (history start steps)
+  pub whole : IsWholeSoFar (history start steps) trace.lines
+  pub prints : bytes ≡ text (history start steps)
+
+-- It follows all of the trace but perhaps for rounds.
+pub record Weaves (trace : Trace) (limit : ℕ) (bytes : List ℕ) (closing : World Held) : Type 0 where
+  pub so_far : WeavesSoFar trace limit bytes closing
+  pub follows : Follows trace limit so_far.start so_far.steps
 
 -- Each line of the trace is answered.
 pub record WeavesAll (trace : Trace) (limit : ℕ) (bytes : List ℕ) (closing : World Held) : Type 0 where
   pub weaves : Weaves trace limit bytes closing
   pub all : AllAnswered (sizes_of trace.header) closing
-  pub whole : IsWhole (history weaves.so_far.start (weaves.so_far.alone.steps ++ (weaves.so_far.scheduled ++ weaves.so_far.rounds))) trace.lines
+  pub whole : IsWhole (history weaves.so_far.start weaves.so_far.steps) trace.lines
 
--- The turns in rounds are used up, and this is the first line that has no answer.
+-- The turns in rounds are used up, and this is the first line that has no answer. The delays of the lines below `go` account for all turns
+-- of the schedule and in rounds.
 pub record WeavesPart (trace : Trace) (limit : ℕ) (bytes : List ℕ) (closing : World Held) (line : Line) : Type 0 where
   pub weaves : Weaves trace limit bytes closing
-  pub used_up : length weaves.so_far.rounds ≡ limit
+  pub used_up : length weaves.follows.so_far.rounds ≡ limit
   pub open_ : IsFirstOpen (sizes_of trace.header) closing line
+  pub first_in_file : IsFirstInFile (history weaves.so_far.start weaves.so_far.steps) trace.lines line
+  pub delayed :
+      AreForDelays (sizes_of trace.header) (lines_below trace) (length weaves.follows.so_far.scheduled + limit) weaves.follows.so_far.behind (weaves.follows.so_far.scheduled ++ weaves.follows.so_far.rounds)
 
 -- the first line that has no answer, and its actor
 unfoldable pub unfinished_text : Line → List ℕ

@@ -10,19 +10,26 @@ use Rattle.step_seats.specs.Moves.{world_of}
 use Rattle.tdp_io.specs.Ends.{AppendsPrefix, Rose}
 use Rattle.tdp_io.specs.declared.sink.Stop.{Stop}
 use Rattle.tdp_io.specs.declared.sink.Stop.TheVariants.{Failed, NoMemory as Full}
+use Rattle.weave_engine.specs.Turning.{MayStop}
 use Rattle.weave_engine.specs.Weaves.{WeavesAll, WeavesPart, WeavesSoFar, unfinished_text}
-use Rattle.weave_engine.specs.declared.weaving.How.{How}
-use Rattle.weave_engine.specs.declared.weaving.How.TheVariants.{Done, WriteFault, Unfinished}
-use Rattle.weave_engine.specs.declared.weaving.Ran.{Ran}
+use Rattle.weave_engine.specs.declared.ran.How.{How}
+use Rattle.weave_engine.specs.declared.ran.How.TheVariants.{Done, WriteFault, Unfinished}
+use Rattle.weave_engine.specs.declared.ran.Ran.{Ran}
 
--- The text of a weave that has come to this world, and may go on; or that is over there, with the line that is the first without an answer.
-abbrev pub IsTextSoFar : Trace → ℕ → World Held → List ℕ → Type 0
-IsTextSoFar trace limit closing text = WeavesSoFar trace limit text closing ⊎ ((bytes : List ℕ) × (line : Line) × WeavesPart trace limit bytes closing line × (text ≡ bytes ++ unfinished_text line))
+-- The whole text of a weave that is over in this world: each line is answered, or its last line names the first one without an answer.
+abbrev pub IsWholeText : Trace → ℕ → World Held → List ℕ → Type 0
+IsWholeText trace limit closing text =
+    WeavesAll trace limit text closing ⊎ ((bytes : List ℕ) × (line : Line) × WeavesPart trace limit bytes closing line × (text ≡ bytes ++ unfinished_text line))
 
--- All of it was written; or, where the writing stopped, a prefix of the text so far.
-abbrev pub WritesPrefix : Trace → ℕ → World Held → Option (List ℕ) → Option (List ℕ) → Type 0
-WritesPrefix trace limit closing before after = (text : List ℕ) × IsTextSoFar trace limit closing text × AppendsPrefix before after text
+-- A weave came to this world, where it printed this text, and stopped for this: behind some of its steps, or at the end, when it was over.
+abbrev pub WeavesUntil : Stop → Trace → ℕ → World Held → List ℕ → Type 0
+WeavesUntil stop trace limit closing text = ((W : WeavesSoFar trace limit text closing) × MayStop stop W.start W.steps) ⊎ IsWholeText trace limit closing text
 
+-- A prefix of that text was written.
+abbrev pub WritesUntil : Stop → Trace → ℕ → World Held → Option (List ℕ) → Option (List ℕ) → Type 0
+WritesUntil stop trace limit closing before after = (text : List ℕ) × WeavesUntil stop trace limit closing text × AppendsPrefix before after text
+
+-- All of it was written.
 abbrev pub WritesAll : Trace → ℕ → World Held → Option (List ℕ) → Option (List ℕ) → Type 0
 WritesAll trace limit closing before after = (bytes : List ℕ) × WeavesAll trace limit bytes closing × Appends before after bytes
 
@@ -33,7 +40,7 @@ WritesPart trace limit closing before after line = (bytes : List ℕ) × WeavesP
 abbrev pub WritesWoven : Trace → ℕ → World Held → Option (List ℕ) → Option (List ℕ) → Result (Option Line) Stop → Type 0
 WritesWoven trace limit closing before after (Ok None) = WritesAll trace limit closing before after
 WritesWoven trace limit closing before after (Ok (Some line)) = WritesPart trace limit closing before after line
-WritesWoven trace limit closing before after (Err stop) = WritesPrefix trace limit closing before after
+WritesWoven trace limit closing before after (Err stop) = WritesUntil stop trace limit closing before after
 
 -- how a run ended that came to this, where no memory was refused
 abbrev pub how_ended : Result (Option Line) Stop → Option How
@@ -46,11 +53,11 @@ how_ended (Err Full) = None
 abbrev pub WritesBy : Trace → ℕ → World Held → Option (List ℕ) → Option (List ℕ) → How → Type 0
 WritesBy trace limit closing before after Done = WritesAll trace limit closing before after
 WritesBy trace limit closing before after (Unfinished actor number) = (line : Line) × (line.actor ≡ actor) × (line.number ≡ number) × WritesPart trace limit closing before after line
-WritesBy trace limit closing before after WriteFault = WritesPrefix trace limit closing before after
+WritesBy trace limit closing before after WriteFault = WritesUntil Failed trace limit closing before after
 
 abbrev pub WritesWeave : Trace → ℕ → Option (List ℕ) → Option (List ℕ) → Result Ran NoMemory → Type 0
 WritesWeave trace limit before after (Ok ran) = WritesBy trace limit (world_of ran.closing.words ran.closing.hands) before after ran.how
-WritesWeave trace limit before after (Err e) = (closing : World Held) × WritesPrefix trace limit closing before after
+WritesWeave trace limit before after (Err e) = (closing : World Held) × WritesUntil Full trace limit closing before after
 
 -- The count of failed writes rose where the run ended with a fault of writing, and stayed at any other end.
 abbrev pub RoseBy : ℕ → ℕ → How → Type 0

@@ -1,80 +1,20 @@
 ghost use Rattle.std.specs.Prelude.{◌≡◌, ◌<◌, IfOk, OnErr, OnOk, Some, length, slice_get};
 ghost use Rattle.core_views.specs.declared.place.Place.TheVariants.{Between};
-ghost use Rattle.core_views.specs.declared.trace.Command.TheVariants.{SetSlot};
 ghost use Rattle.mmu_core.specs.Turns.{IsAnswered, IsSameHand, line_of};
 ghost use Rattle.step_seats.specs.Moves.{KeepsRoom};
-ghost use Rattle.core_views.specs.Sizes.{AreSizes};
-ghost use Rattle.weave_engine.specs.Turns.{IsAlone, IsJobOf, RanAlone, seen_at};
-ghost use Rattle.vcpu_run.specs.Accesses.{Says, TurnsLine};
+ghost use Rattle.weave_engine.specs.Turns.{IsAlone, IsJobOf, RanAlone};
+ghost use Rattle.step_seats.specs.LineTurns.{Says, TurnsLine};
 
-use core_views::{Answer, Command, Line, NoMemory, Seen, SetSlotPlace, Sizes, Slot, Topics};
-use mmu_core::{map_of, next_kind, rests, setting_place, setting_waits};
+use core_views::{Answer, Command, Line, NoMemory};
+use slot_change::SlotJob;
 use step_seats::{Stepper, Turn};
 use vcpu_run::AccessJob;
-
-/// The setting of a slot, a step a turn. Where it stands is kept in the
-/// manager's hand, which drives the job.
-#[derive(Clone, Copy, Debug, PartialEq, Eq, Drop)]
-pub struct SettingJob {
-    /// The place of the line among the lines of its actor, from 0.
-    pub index: usize,
-    pub id: u64,
-    pub slot: Slot,
-}
 
 /// The work on one line of an actor, a step a turn.
 #[derive(Clone, Copy, Debug, PartialEq, Eq, Drop)]
 pub enum LineJob {
     Access(AccessJob),
-    Setting(SettingJob),
-}
-
-impl SettingJob {
-    /// Makes the next step of the line, and says whether it is answered. `Wait` where
-    /// a page was claimed by another actor meanwhile, the lock is held, an invalidation
-    /// is open, or another actor that the watch looks at is in a section or in the guest.
-    pub fn turn<S: Stepper>(&mut self, s: &mut S) -> Turn<Answer>
-        requires left { length (S.handful s.old).core.answers < length (S.handful s.old).core.lines }
-        requires next { self.old.index ≡ length (S.handful s.old).core.answers }
-        requires setting { (line_of (S.handful s.old).core).command ≡ SetSlot self.old.id self.old.slot }
-        requires reserved { 0 < (S.handful s.old).room }
-        ensures turns { TurnsLine result (S.actor s.old) (S.handful s.old).core (S.handful s.new).core (record { world = S.told s.old; steps = S.steps s.old }) (record { world = S.told s.new; steps = S.steps s.new }) }
-        ensures says { Says result (line_of (S.handful s.old).core) (S.handful s.old).core (S.handful s.new).core }
-        ensures hand { IsSameHand (S.handful s.old).core (S.handful s.new).core }
-        ensures room { KeepsRoom (S.handful s.old) (S.handful s.new) }
-        ensures job { self.new ≡ self.old }
-        ensures same { (S.actor s.new ≡ S.actor s.old) × (S.frame s.new ≡ S.frame s.old) }
-    {
-        let hand = s.hand();
-        rests(hand);
-        let kind = next_kind(hand);
-        let place = setting_place(hand, self.id, &self.slot);
-        let topics = *hand.topics();
-        let sizes = hand.state().sizes;
-        let found = s.act(kind);
-        if let Some(answered) = s.hand().answers().get(self.index) {
-            return Turn::Done(answered.answer);
-        }
-        if setting_waits(place, &topics, found) {
-            return Turn::Wait(seen(place, &sizes, &topics, kind.word, found));
-        }
-        Turn::More
-    }
-}
-
-// What a step that waits has seen: where it gives the lock back, how many
-// invalidations are open; else what it found in its word.
-fn seen(place: SetSlotPlace, sizes: &Sizes, topics: &Topics, word: u32, found: u64) -> Seen
-    requires sizes { AreSizes sizes.now }
-    ensures { result ≡ seen_at place sizes.now topics.now word found }
-{
-    match place {
-        SetSlotPlace::Close => Seen {
-            word: map_of(sizes).word_of_count(0),
-            value: topics.invalidations.count,
-        },
-        _ => Seen { word, value: found },
-    }
+    Setting(SlotJob),
 }
 
 impl LineJob {
@@ -116,7 +56,7 @@ pub fn start_line<S: Stepper>(s: &mut S, line: &Line) -> Result<LineJob, NoMemor
             word,
             op,
         }),
-        Command::SetSlot { id, slot } => LineJob::Setting(SettingJob { index, id, slot }),
+        Command::SetSlot { id, slot } => LineJob::Setting(SlotJob { index, id, slot }),
     })
 }
 

@@ -5,6 +5,7 @@
 #![tactic(auto)]
 
 mod job;
+mod ran;
 mod replaying;
 mod rounds;
 mod run_on;
@@ -13,5 +14,6 @@ mod turning;
 mod weaving;
 mod writing;
 
+pub use ran::{How, Ran};
 pub use replaying::replay;
-pub use weaving::{How, Ran, weave};
+pub use weaving::weave;

@@ -1,14 +1,17 @@
 //! The command `replay`: each line of the trace alone, in file order.
 ghost use Rattle.std.specs.Prelude.{◌≡◌, ◌≤◌, length, string_bytes};
+ghost use Rattle.core_views.specs.Sizes.{sizes_of};
 ghost use Rattle.core_views.specs.Traces.{IsTrace};
 ghost use Rattle.mmu_core.specs.Worlds.{IsStart};
 ghost use Rattle.step_seats.specs.Machines.{world_in};
 ghost use Rattle.tdp_io.specs.Ends.{WroteFaults};
-ghost use Rattle.weave_engine.specs.Writes.{RunsAndPuts, WritesReplay};
+ghost use Rattle.weave_engine.specs.Writes.{RunsAndPuts, WritesLines, WritesReplay};
+ghost use Rattle.weave_engine.specs.Woven.{RanFaults};
 
+use crate::ran::{Ran, how_of};
 use crate::run_on::run_on;
 use crate::writing::put_answer;
-use core_views::{Closing, Line, Trace};
+use core_views::{Line, NoMemory, Trace};
 use std::alloc::Global;
 use step_seats::PlainMachine;
 use tdp_io::{Sink, Stop, write_all};
@@ -39,20 +42,39 @@ pub fn run_lines<K: Sink>(
     Ok(())
 }
 
-/// Runs the lines of the trace one after another, each alone, a step at a time
-/// over the words of the machine, and writes what they are answered. It gives
-/// the last words and hands.
-pub fn replay<K: Sink>(alloc: Global, trace: &Trace, out: &mut K) -> Result<Closing, Stop>
-    requires trace { IsTrace trace.now }
-    ensures writes { WritesReplay trace.now (K.written out.old) (K.written out.new) result }
+// Runs all lines of the trace on its machine, and writes what they are answered. It
+// leaves no line open.
+fn replay_on<K: Sink>(
+    alloc: Global,
+    machine: &mut PlainMachine,
+    trace: &Trace,
+    out: &mut K,
+) -> Result<Option<Line>, Stop>
+    requires sizes { machine.old.sizes ≡ sizes_of trace.now.header }
+    requires start { IsStart (sizes_of trace.now.header) trace.now.lines (world_in machine.old) }
+    ensures writes { WritesLines trace.now (world_in machine.new) (K.written out.old) (K.written out.new) result }
     ensures faults { WroteFaults (K.faults out.old) (K.faults out.new) result }
 {
-    let Ok(mut machine) = PlainMachine::new(alloc, trace) else {
-        return Err(Stop::NoMemory);
-    };
     let mut waiting = String::new(alloc);
     let lines = trace.lines.as_slice();
-    run_lines(alloc, &mut machine, lines, lines.len(), out, &mut waiting)?;
+    run_lines(alloc, machine, lines, lines.len(), out, &mut waiting)?;
     write_all(out, waiting.as_bytes())?;
-    Ok(machine.into_closing())
+    Ok(None)
+}
+
+/// Runs the lines of the trace one after another, each alone, a step at a time
+/// over the words of the machine, and writes what they are answered. It gives how it
+/// ended, which is never unfinished, and the words and hands at that moment: behind
+/// the last line, or behind the line with whose answer a write failed.
+pub fn replay<K: Sink>(alloc: Global, trace: &Trace, out: &mut K) -> Result<Ran, NoMemory>
+    requires trace { IsTrace trace.now }
+    ensures writes { WritesReplay trace.now (K.written out.old) (K.written out.new) result }
+    ensures faults { RanFaults (K.faults out.old) (K.faults out.new) result }
+{
+    let mut machine = PlainMachine::new(alloc, trace)?;
+    let how = how_of(replay_on(alloc, &mut machine, trace, out))?;
+    Ok(Ran {
+        how,
+        closing: machine.into_closing(),
+    })
 }

@@ -6,7 +6,7 @@ ghost use Rattle.mmu_core.specs.Steps.{has_line};
 ghost use Rattle.mmu_core.specs.Turns.{IsSameHand, line_of};
 ghost use Rattle.step_seats.specs.Machines.{world_in};
 ghost use Rattle.tdp_io.specs.Ends.{WroteFaults};
-ghost use Rattle.vcpu_run.specs.Accesses.{Says, TurnsLine};
+ghost use Rattle.step_seats.specs.LineTurns.{Says, TurnsLine};
 ghost use Rattle.weave_engine.specs.Turned.{PutsTurn, TurnedOn, TurnedTold, next_code_in, open_line};
 
 use crate::job::start_line;

@@ -1,57 +1,23 @@
 //! The command `weave`: the lines above `go` alone, then the turns of the
 //! schedule, then rounds.
-ghost use Rattle.std.specs.Prelude.{◌≡◌, ◌++◌, IfOk, OnErr, Some, None, string_bytes};
+ghost use Rattle.std.specs.Prelude.{◌≡◌, ◌++◌, IfOk, string_bytes};
 ghost use Rattle.core_views.specs.Sizes.{sizes_of};
 ghost use Rattle.core_views.specs.Traces.{IsTrace};
 ghost use Rattle.mmu_core.specs.Worlds.{IsStart};
 ghost use Rattle.step_seats.specs.Machines.{world_in};
 ghost use Rattle.tdp_io.specs.Ends.{Wrote, WroteFaults};
 ghost use Rattle.weave_engine.specs.Weaves.{open_text, unfinished_text};
-ghost use Rattle.weave_engine.specs.Woven.{RanFaults, WritesWeave, WritesWoven, how_ended};
+ghost use Rattle.weave_engine.specs.Woven.{RanFaults, WritesWeave, WritesWoven};
 
+use crate::ran::{Ran, how_of};
 use crate::replaying::run_lines;
 use crate::rounds::{first_open, run_rounds};
 use crate::schedule::run_items;
 use crate::writing::put;
-use core_views::{Actor, Closing, Line, NoMemory, Trace};
+use core_views::{Line, NoMemory, Trace};
 use std::alloc::Global;
 use step_seats::PlainMachine;
 use tdp_io::{Sink, Stop, write_all};
-
-/// How a run of the engine ended.
-#[derive(Clone, Copy, Debug, PartialEq, Eq, Drop)]
-pub enum How {
-    /// Each line is answered, and all answers were written.
-    Done,
-    /// Writing failed: a prefix of the text was written.
-    WriteFault,
-    /// The turns in rounds were used up: the first line of the file that has no
-    /// answer, and its actor.
-    Unfinished { actor: Actor, line: u32 },
-}
-
-/// A run of the engine: how it ended, and the last words and hands.
-#[derive(Debug, Drop)]
-pub struct Ran {
-    pub how: How,
-    pub closing: Closing,
-}
-
-// How a run ended that came to this.
-fn how_of(came: Result<Option<Line>, Stop>) -> Result<How, NoMemory>
-    ensures ran { IfOk result (λ how. how_ended came ≡ Some how) }
-    ensures refused { OnErr result (how_ended came ≡ None) }
-{
-    match came {
-        Ok(None) => Ok(How::Done),
-        Ok(Some(line)) => Ok(How::Unfinished {
-            actor: line.actor,
-            line: line.number,
-        }),
-        Err(Stop::Failed) => Ok(How::WriteFault),
-        Err(Stop::NoMemory) => Err(NoMemory),
-    }
-}
 
 #[tactic(auto, unfolding(crate::specs::Weaves::unfinished_text))]
 fn unfinished(alloc: Global, line: &Line) -> Result<String, NoMemory>
@@ -120,7 +86,8 @@ fn weave_on<K: Sink>(
 /// alone; then the turns that the schedule's items name; then turns in rounds, at most
 /// `limit`, until each line is answered. It writes each answer when its line is
 /// answered, and where the rounds end before that, which line is the first without
-/// an answer. It gives how it ended, and the last words and hands.
+/// an answer. It gives how it ended, and the words and hands at that moment: where a
+/// write failed, those behind the turn with whose answer it was tried.
 pub fn weave<K: Sink>(
     alloc: Global,
     trace: &Trace,

@@ -1,10 +1,15 @@
 use Rattle.mmu_core.proofs.Causes.{faults_begin_anew_by_cause}
 use Rattle.mmu_core.proofs.EveryHistory.{every_history}
 use Rattle.mmu_core.proofs.LeafLaws.{cached_leaves_agree, leaves_agree, used_leaves_agree}
+use Rattle.mmu_core.proofs.SettingCauses.{setting_waits_are_by_cause}
 use Rattle.mmu_core.proofs.StarvedScan.{starved_lines_scan}
 use Rattle.mmu_core.proofs.Starts.{start_good}
 use Rattle.mmu_core.proofs.WaitCauses.{waits_are_by_cause}
+use Rattle.core_theorem.proofs.Begins.{lines_are_open}
+use Rattle.core_theorem.proofs.DelayCauses.{delays_have_causes}
 use Rattle.core_theorem.proofs.Holdings.{none_holds_free_pages, pages_are_reused_alone}
+use Rattle.core_theorem.proofs.LineTurns.{lines_make_few_steps}
+use Rattle.core_theorem.proofs.Turns.{counts_are_few, steps_are_few}
 use Rattle.core_theorem.proofs.Pages.{pages_are_used}
 use Rattle.core_theorem.proofs.Runs.{before, sound, starts_between}
 use Rattle.core_theorem.proofs.every_run.Goals as goal
@@ -33,12 +38,30 @@ returns-clause-reuse c = pages_are_reused_alone
 pub returns-clause-lawful : goal.returns-clause-lawful
 returns-clause-lawful c z lines w ss R = every_history z lines w ss R.start R.legal
 
+pub returns-clause-counts : goal.returns-clause-counts
+returns-clause-counts c = counts_are_few
+
+pub returns-clause-line_turns : goal.returns-clause-line_turns
+returns-clause-line_turns c = lines_make_few_steps
+
+pub returns-clause-turns : goal.returns-clause-turns
+returns-clause-turns c = steps_are_few
+
+pub returns-clause-open_lines : goal.returns-clause-open_lines
+returns-clause-open_lines c = lines_are_open
+
 pub returns-clause-begins_anew : goal.returns-clause-begins_anew
 returns-clause-begins_anew c z lines w ss s cause gfn word op R stands command =
     faults_begin_anew_by_cause z w ss s.actor gfn word op cause (start_good z lines w R.start) (before z lines w ss s R).legal (starts_between z lines w ss s R) stands command
 
 pub returns-clause-waits : goal.returns-clause-waits
 returns-clause-waits c z lines w ss s p R stands waits = waits_are_by_cause z w ss s p (start_good z lines w R.start) R.legal (starts_between z lines w ss s R) stands waits
+
+pub returns-clause-slot_waits : goal.returns-clause-slot_waits
+returns-clause-slot_waits c z lines w ss s p R stands waits = setting_waits_are_by_cause z w ss s p (start_good z lines w R.start) R.legal (starts_between z lines w ss s R) stands waits
+
+pub returns-clause-delays : goal.returns-clause-delays
+returns-clause-delays c = delays_have_causes
 
 pub returns-clause-starved : goal.returns-clause-starved
 returns-clause-starved c z lines w ss s R starved = starved_lines_scan z w ss s (start_good z lines w R.start) R.legal (starts_between z lines w ss s R) starved

@@ -1,7 +1,7 @@
 use Rattle.mmu_core.specs.Enabled.{mmu}
 use Rattle.mmu_core.specs.Machine.{run}
 use Rattle.mmu_core.proofs.CanStep.{may_step}
-use Rattle.mmu_core.proofs.ExampleRun.{example_prints, example_races, example_runs, example_starves}
+use Rattle.mmu_core.proofs.ExampleRun.{example_prints, example_races, example_runs, example_starves, example_waits}
 use Rattle.mmu_core.proofs.StartViews.{a_start}
 use Rattle.mmu_core.proofs.Starts.{start_good}
 use Rattle.mmu_core.proofs.Worlds.{good_run}
@@ -24,3 +24,6 @@ returns-clause-starves c = example_starves
 
 pub returns-clause-races : goal.returns-clause-races
 returns-clause-races c = example_races
+
+pub returns-clause-slot_waits : goal.returns-clause-slot_waits
+returns-clause-slot_waits c = example_waits

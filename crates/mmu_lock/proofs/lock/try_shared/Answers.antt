@@ -2,7 +2,7 @@ use Rattle.std.proofs.Common.{◌≡◌, ℕ, refl, sym, subst, ap, ◌∙◌}
 use Rattle.core_views.specs.declared.topics.Hold.TheVariants.{Owing}
 use Rattle.core_views.specs.declared.topics.Topics.{Topics}
 use Rattle.core_views.specs.Held.{Handful}
-use Rattle.mmu_core.specs.declared.part_step.PartStep.{PartStep}
+use Rattle.part_steps.specs.declared.part_step.PartStep.{PartStep}
 use Rattle.step_seats.specs.PartTurns.{MadePart}
 use Rattle.step_seats.proofs.AloneTold.{if_some, share_free, shared_told}
 use Rattle.mmu_lock.proofs.Locked.{fewer_left, not_free, owes_behind, shares_behind, wants_share, writer_seen}

@@ -1,8 +1,8 @@
 use Rattle.std.proofs.Common.{◌≡◌, subst}
 use Rattle.core_views.specs.declared.kind.Kind.{Kind}
-use Rattle.mmu_core.specs.PartSteps.{part_kind}
+use Rattle.part_steps.specs.PartSteps.{part_kind}
 use Rattle.mmu_core.specs.Worlds.{Possible}
-use Rattle.mmu_core.specs.declared.part_step.PartStep.TheVariants as part
+use Rattle.part_steps.specs.declared.part_step.PartStep.TheVariants as part
 use Rattle.step_seats.specs.PartTurns.{MadePart}
 use Rattle.step_seats.proofs.PartMade.{made_part}
 use Rattle.table_pool.proofs.Paging.{fill_answers_value}

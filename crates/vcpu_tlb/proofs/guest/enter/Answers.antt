@@ -1,5 +1,5 @@
 use Rattle.std.proofs.Common.{ap, sym, ◌∙◌}
-use Rattle.mmu_core.specs.declared.part_step.PartStep.TheVariants.{Enter}
+use Rattle.part_steps.specs.declared.part_step.PartStep.TheVariants.{Enter}
 use Rattle.step_seats.proofs.AloneTold.{if_some}
 use Rattle.step_seats.proofs.Found.{found_told}
 use Rattle.vcpu_tlb.specs.Entering.{answer_to}

@@ -1,6 +1,6 @@
 use Rattle.std.proofs.Common.{ap}
 use Rattle.std.specs.Prelude.{not, ◌==◌}
-use Rattle.mmu_core.specs.declared.part_step.PartStep.TheVariants.{Pause}
+use Rattle.part_steps.specs.declared.part_step.PartStep.TheVariants.{Pause}
 use Rattle.step_seats.proofs.AloneTold.{if_some}
 use Rattle.step_seats.proofs.Found.{found_told}
 use Rattle.vcpu_tlb.proofs.CachedBehind.{paused_cached}

@@ -1,28 +1,20 @@
-use Rattle.std.proofs.Common.{Err, Ok, length, refl, string_bytes}
 use Rattle.std.proofs.lemmas.Result.{err_from_is_err_and}
 use Rattle.step_seats.specs.Machines.{world_in}
-use Rattle.tdp_io.specs.declared.sink.Stop.TheVariants.{NoMemory}
-use Rattle.weave_engine.proofs.Outputs.{stopped_behind_all, writes_all, writes_first, writes_none}
+use Rattle.weave_engine.proofs.Outputs.{replay_refused, replays_by, writes_none}
 use Rattle.weave_engine.proofs.replaying.replay.Goals as goal
 
-pub returns-in_default-clause-writes : goal.returns-in_default-clause-writes
-returns-in_default-clause-writes g c = writes_none c.args.trace.now (g.K.Sink.written c.args.out.now) NoMemory c.requires.trace
-
-pub returns-in_err-run_lines-clause-writes : goal.returns-in_err-run_lines-clause-writes
-returns-in_err-run_lines-clause-writes g c =
+pub returns-in_err-machine-clause-writes : goal.returns-in_err-machine-clause-writes
+returns-in_err-machine-clause-writes g c =
     let p = err_from_is_err_and c.from_residual.result c.from_residual.ensures.1 in
-    rw p.1 (writes_first c.args.trace.now c.in-Ok.machine.sizes c.as_slice-lines.result.now (length c.as_slice-lines.result.now) (world_in c.in-Ok.machine) (world_in c.run_lines.new.machine) (g.K.Sink.written c.args.out.now) (g.K.Sink.written c.run_lines.new.out) (string_bytes c.new-waiting.result) (string_bytes c.run_lines.new.waiting)
-    c.in_err-run_lines.field-0.0 c.in-Ok.ensures.sizes c.as_slice-lines.ensures c.new-waiting.ensures.bytes c.in-Ok.ensures.start c.in_err-run_lines.ensures.puts)
+    rw p.1 (writes_none c.args.trace.now (g.K.Sink.written c.args.out.now) c.requires.trace)
 
-pub returns-in_err-write_all-clause-writes : goal.returns-in_err-write_all-clause-writes
-returns-in_err-write_all-clause-writes g c =
-    let p = err_from_is_err_and c.from_residual-in_err-write_all.result c.from_residual-in_err-write_all.ensures.1 in
-    let all = writes_all c.args.trace.now c.in-Ok.machine.sizes c.as_slice-lines.result.now (length c.as_slice-lines.result.now) (world_in c.in-Ok.machine) (world_in c.run_lines.new.machine) (g.K.Sink.written c.args.out.now) (g.K.Sink.written c.run_lines.new.out) (g.K.Sink.written c.write_all.new.out) (string_bytes c.new-waiting.result)
-    (string_bytes c.run_lines.new.waiting) c.as_bytes.result.now (Err c.in_err-write_all.field-0.0) c.in-Ok.ensures.sizes c.as_slice-lines.ensures refl c.new-waiting.ensures.bytes c.in-Ok.ensures.start c.in_ok-run_lines.ensures.puts c.as_bytes.ensures.value c.in_err-write_all.ensures.bytes in
-    rw p.1 (stopped_behind_all c.args.trace.now (g.K.Sink.written c.args.out.now) (g.K.Sink.written c.write_all.new.out) all.0 (world_in c.run_lines.new.machine) c.in_err-write_all.field-0.0 all.1 all.2)
+pub returns-in_err-how-clause-writes : goal.returns-in_err-how-clause-writes
+returns-in_err-how-clause-writes g c =
+    let p = err_from_is_err_and c.from_residual-in_err-how.result c.from_residual-in_err-how.ensures.1 in
+    let w = world_in c.replay_on.new.machine in
+    rw p.1 (w, replay_refused c.args.trace.now w (g.K.Sink.written c.args.out.now) (g.K.Sink.written c.replay_on.new.out) c.replay_on.result c.in_err-how.ensures.refused c.replay_on.ensures.writes)
 
 pub returns-clause-writes : goal.returns-clause-writes
 returns-clause-writes g c =
-    let all = writes_all c.args.trace.now c.in-Ok.machine.sizes c.as_slice-lines.result.now (length c.as_slice-lines.result.now) (world_in c.in-Ok.machine) (world_in c.run_lines.new.machine) (g.K.Sink.written c.args.out.now) (g.K.Sink.written c.run_lines.new.out) (g.K.Sink.written c.write_all.new.out) (string_bytes c.new-waiting.result)
-    (string_bytes c.run_lines.new.waiting) c.as_bytes.result.now (Ok (tt {0})) c.in-Ok.ensures.sizes c.as_slice-lines.ensures refl c.new-waiting.ensures.bytes c.in-Ok.ensures.start c.in_ok-run_lines.ensures.puts c.as_bytes.ensures.value c.in_ok-write_all.ensures.bytes in
-    (all.0, rw (c.into_closing.ensures.words, c.into_closing.ensures.hands) all.1, all.2)
+    rw (c.into_closing.ensures.words, c.into_closing.ensures.hands)
+    (replays_by c.args.trace.now (world_in c.replay_on.new.machine) (g.K.Sink.written c.args.out.now) (g.K.Sink.written c.replay_on.new.out) c.replay_on.result c.in_ok-how.how c.in_ok-how.ensures.ran c.replay_on.ensures.writes)

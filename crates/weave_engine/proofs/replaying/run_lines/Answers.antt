@@ -10,6 +10,7 @@ use Rattle.tdp_io.specs.declared.sink.Stop.TheVariants.{NoMemory}
 use Rattle.weave_engine.specs.Replays.{RanOn}
 use Rattle.weave_engine.proofs.LinesPut.{lines_end, lines_stop}
 use Rattle.weave_engine.proofs.LinesRun.{between_at_start, between_more, hands_at_start, ready_on, sound_between}
+use Rattle.weave_engine.proofs.Stopping.{stops_at_answer}
 use Rattle.weave_engine.proofs.Writes.{goes_on, none_put, so_far_prefix, stops}
 use Rattle.weave_engine.proofs.replaying.run_lines.Goals as goal
 
@@ -71,7 +72,7 @@ pub returns-in_default-clause-puts : goal.returns-in_default-clause-puts
 returns-in_default-clause-puts g c =
     let i = c.loop-index.invariant in
     lines_stop c.args.machine.now.sizes (world_in c.args.machine.now) c.args.lines.now (g.K.Sink.written c.args.out.now) (g.K.Sink.written c.loop-index.out) (string_bytes c.args.waiting.now) (string_bytes c.loop-index.waiting)
-    c.loop-index.index c.args.count (world_in c.loop-index.machine) (world_in c.run_on.new.machine) i.so_far.0 NoMemory c.in_default.ensures.refused i.within i.so_far.1
+    c.loop-index.index c.args.count (world_in c.loop-index.machine) (world_in c.run_on.new.machine) i.so_far.0 NoMemory c.in_default.ensures.refused i.within i.so_far.1 tt
     (so_far_prefix (g.K.Sink.written c.args.out.now) (g.K.Sink.written c.loop-index.out) (string_bytes c.loop-index.waiting) (string_bytes c.args.waiting.now ++ i.so_far.0) i.so_far.2)
 
 pub returns-in_err-put_answer-clause-puts : goal.returns-in_err-put_answer-clause-puts
@@ -91,8 +92,8 @@ returns-in_err-put_answer-clause-puts g c =
     let p = err_from_is_err_and c.from_residual.result c.from_residual.ensures.1 in
     let stopped : AppendsPrefix (g.K.Sink.written c.args.out.now) (g.K.Sink.written c.put_answer.new.out) ((string_bytes c.args.waiting.now ++ put) ++ text_) =
     stops (g.K.Sink.written c.args.out.now) (g.K.Sink.written c.loop-index.out) (g.K.Sink.written c.put_answer.new.out) (string_bytes c.loop-index.waiting) text_ (string_bytes c.args.waiting.now ++ put) i.so_far.2 c.in_err-put_answer.ensures.bytes in
-    rw p.1 (lines_stop z start lines (g.K.Sink.written c.args.out.now) (g.K.Sink.written c.put_answer.new.out) (string_bytes c.args.waiting.now) (string_bytes c.put_answer.new.waiting) (n + 1) c.args.count behind behind (put ++ text_) c.in_err-put_answer.field-0.0 refl
-    (omega (arith, c.loop-index-test.true)) more (subst (AppendsPrefix (g.K.Sink.written c.args.out.now) (g.K.Sink.written c.put_answer.new.out)) (append_assoc (string_bytes c.args.waiting.now) put text_) stopped))
+    rw (p.1, p.2) (lines_stop z start lines (g.K.Sink.written c.args.out.now) (g.K.Sink.written c.put_answer.new.out) (string_bytes c.args.waiting.now) (string_bytes c.put_answer.new.waiting) (n + 1) c.args.count behind behind (put ++ text_) c.in_err-put_answer.field-0.0 refl
+    (omega (arith, c.loop-index-test.true)) more.0 (stops_at_answer c.in_err-put_answer.field-0.0 start more.0.ran.steps more.1) (subst (AppendsPrefix (g.K.Sink.written c.args.out.now) (g.K.Sink.written c.put_answer.new.out)) (append_assoc (string_bytes c.args.waiting.now) put text_) stopped))
 
 pub loop-index-preserved : goal.loop-index-preserved
 loop-index-preserved g c =
@@ -111,7 +112,7 @@ loop-index-preserved g c =
     record {
       so_far = (
         put ++ text_,
-        more,
+        more.0,
         goes_on (g.K.Sink.written c.args.out.now) (g.K.Sink.written c.loop-index.out) (g.K.Sink.written c.put_answer.new.out) (string_bytes c.loop-index.waiting) (string_bytes c.put_answer.new.waiting) text_ (string_bytes c.args.waiting.now) put i.so_far.2 c.in_ok-put_answer.ensures.bytes,
       );
       within = omega (arith, c.loop-index-test.true);

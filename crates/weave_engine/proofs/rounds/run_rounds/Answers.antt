@@ -23,7 +23,7 @@ returns-in_err-turn_and_put-clause-puts g c =
     let i = c.loop-passed.invariant in
     let some : c.loop-passed.passed < actors_of c.args.machine.now.sizes = rw (c.actors-count.ensures, c.sizes.ensures.is) at c.loop-passed-test.true in
     let p = err_from_is_err_and c.from_residual.result c.from_residual.ensures.1 in
-    rw p.1 (rounds_stop c.args.machine.now.sizes c.loop-passed.index c.loop-passed.passed c.loop-passed.made c.next_place-index.result (world_in c.args.machine.now) (world_in c.loop-passed.machine) (world_in c.turn_and_put.new.machine) (g.K.Sink.written c.args.out.now) (g.K.Sink.written c.loop-passed.out) (g.K.Sink.written c.turn_and_put.new.out)
+    rw (p.1, p.2) (rounds_stop c.args.machine.now.sizes c.loop-passed.index c.loop-passed.passed c.loop-passed.made c.next_place-index.result (world_in c.args.machine.now) (world_in c.loop-passed.machine) (world_in c.turn_and_put.new.machine) (g.K.Sink.written c.args.out.now) (g.K.Sink.written c.loop-passed.out) (g.K.Sink.written c.turn_and_put.new.out)
     (string_bytes c.args.waiting.now) (string_bytes c.loop-passed.waiting) (string_bytes c.turn_and_put.new.waiting) i.so_far some c.args.limit c.in_err-turn_and_put.field-0.0 c.if-made-limit.true c.in_err-turn_and_put.ensures.puts)
 
 pub loop-passed-preserved-in-NoLine : goal.loop-passed-preserved-in-NoLine

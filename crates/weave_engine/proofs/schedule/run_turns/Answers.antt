@@ -21,7 +21,7 @@ loop-made-init g c = record {
 pub returns-in_err-turn_and_put-clause-puts : goal.returns-in_err-turn_and_put-clause-puts
 returns-in_err-turn_and_put-clause-puts g c =
     let p = err_from_is_err_and c.from_residual.result c.from_residual.ensures.1 in
-    rw p.1 (count_stops c.args.count c.args.index c.loop-made._made (world_in c.args.machine.now) (world_in c.loop-made.machine) (world_in c.turn_and_put.new.machine) (g.K.Sink.written c.args.out.now) (g.K.Sink.written c.loop-made.out) (g.K.Sink.written c.turn_and_put.new.out)
+    rw (p.1, p.2) (count_stops c.args.count c.args.index c.loop-made._made (world_in c.args.machine.now) (world_in c.loop-made.machine) (world_in c.turn_and_put.new.machine) (g.K.Sink.written c.args.out.now) (g.K.Sink.written c.loop-made.out) (g.K.Sink.written c.turn_and_put.new.out)
     (string_bytes c.args.waiting.now) (string_bytes c.loop-made.waiting) (string_bytes c.turn_and_put.new.waiting) c.loop-made.invariant.so_far c.in_err-turn_and_put.field-0.0 c.loop-made-test.true c.in_err-turn_and_put.ensures.puts)
 
 pub returns-in-NoLine-clause-puts : goal.returns-in-NoLine-clause-puts

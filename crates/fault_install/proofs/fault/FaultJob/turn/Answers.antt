@@ -1,6 +1,6 @@
 use Rattle.std.proofs.Common.{subst}
 use Rattle.core_views.specs.Held.{Handful}
-use Rattle.mmu_core.specs.PartRests.{PartRests}
+use Rattle.part_steps.specs.PartBounds.{PartRests}
 use Rattle.fault_install.proofs.Turning.{nearer, turns}
 use Rattle.fault_install.proofs.fault.FaultJob.turn.Goals as goal
 

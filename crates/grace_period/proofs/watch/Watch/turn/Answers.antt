@@ -3,10 +3,10 @@ use Rattle.std.specs.Prelude.{true, false, if◌then◌else◌}
 use Rattle.core_views.specs.declared.hand.State.{State}
 use Rattle.core_views.specs.declared.topics.Topics.{Topics}
 use Rattle.core_views.specs.Held.{Handful}
-use Rattle.mmu_core.specs.declared.part_step.PartStep.TheVariants as part
+use Rattle.part_steps.specs.declared.part_step.PartStep.TheVariants as part
 use Rattle.core_views.specs.Sizes.{actors_of, index_of}
-use Rattle.mmu_core.specs.PartSteps.{PartNeeds, next_watched, own_index, part_kind}
-use Rattle.mmu_core.specs.TopicSteps.{in_section}
+use Rattle.part_steps.specs.PartSteps.{PartNeeds, next_watched, own_index, part_kind}
+use Rattle.part_steps.specs.TopicSteps.{in_section}
 use Rattle.step_seats.proofs.AloneTold.{if_some}
 use Rattle.grace_period.specs.Watches.{looked_at}
 use Rattle.grace_period.proofs.Looks.{fewer_left, look_free, more_needs, not_done, wait_needs}

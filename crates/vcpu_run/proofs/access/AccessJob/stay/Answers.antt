@@ -2,11 +2,12 @@ use Rattle.std.proofs.Common.{refl, subst, sym, ap, ◌∙◌}
 use Rattle.core_views.specs.declared.place.AccessPlace.{AccessPlace}
 use Rattle.core_views.specs.declared.place.AccessPlace.TheVariants as at
 use Rattle.host_map.specs.Touching.{touch_kind}
-use Rattle.mmu_core.specs.declared.part_step.PartStep.TheVariants as part
+use Rattle.part_steps.specs.declared.part_step.PartStep.TheVariants as part
 use Rattle.mmu_core.specs.AccessSteps.{access_note}
-use Rattle.mmu_core.specs.PartRests.{MayMake}
+use Rattle.mmu_core.specs.MayMake.{MayMake}
 use Rattle.vcpu_run.specs.Accesses.{StandsAt}
-use Rattle.vcpu_run.proofs.Accessing.{made_line, may_make}
+use Rattle.step_seats.proofs.LineTurns.{made_line}
+use Rattle.vcpu_run.proofs.Accessing.{may_make}
 use Rattle.vcpu_run.proofs.access.AccessJob.stay.Goals as goal
 
 pub enter-requires-clause-may : goal.enter-requires-clause-may

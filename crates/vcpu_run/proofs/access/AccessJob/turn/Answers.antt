@@ -1,6 +1,7 @@
 use Rattle.step_seats.specs.declared.turn.Turn.TheVariants.{Done, More}
-use Rattle.vcpu_run.proofs.Accessing.{is_stay, stands, stay_cause, turns_same, turns_say, turns_stay}
-use Rattle.vcpu_run.proofs.Turning.{turn_is_done, turn_is_more}
+use Rattle.step_seats.proofs.LineTurns.{turns_same, turns_say}
+use Rattle.vcpu_run.proofs.Accessing.{is_stay, stands, stay_cause, turns_stay}
+use Rattle.step_seats.proofs.Answering.{turn_is_done, turn_is_more}
 use Rattle.vcpu_run.proofs.access.AccessJob.turn.Goals as goal
 
 pub returns-in-Fault-clause-says : goal.returns-in-Fault-clause-says

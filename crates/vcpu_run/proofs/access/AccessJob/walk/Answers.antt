@@ -1,5 +1,6 @@
 use Rattle.tdp_walk.specs.Walks.{walk_step}
-use Rattle.vcpu_run.proofs.Accessing.{made_line, walk_held, walk_may, walk_small}
+use Rattle.step_seats.proofs.LineTurns.{made_line}
+use Rattle.vcpu_run.proofs.Accessing.{walk_held, walk_may, walk_small}
 use Rattle.vcpu_run.proofs.access.AccessJob.walk.Goals as goal
 
 pub turn-requires-clause-may : goal.turn-requires-clause-may

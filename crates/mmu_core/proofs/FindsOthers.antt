@@ -1,0 +1,96 @@
+-- Whom a step of an actor finds in its way: who has the lock where its word isn't 0, and who is inside where its state word says so.
+use Rattle.std.proofs.Common.{◌≡◌, ◌≢◌, ◌⊎◌, inl, inr, ◌<◌, ◌+◌, ◌*◌, ◌^◌, ℕ, sym, subst, ap, ◌∙◌, arith}
+use Rattle.std.specs.Prelude.{true, false, ◌==◌, not}
+use Rattle.std.proofs.lemmas.Bool.Decides.{nat_tests}
+use Rattle.core_views.specs.declared.kind.Kind.{Kind}
+use Rattle.core_views.specs.declared.sizes.Sizes.{Sizes}
+use Rattle.core_views.specs.declared.topics.Hold.{Hold}
+use Rattle.core_views.specs.declared.topics.Hold.TheVariants.{Loose}
+use Rattle.core_views.specs.declared.topics.Stay.{Stay}
+use Rattle.core_views.specs.Held.{Held}
+use Rattle.core_views.specs.Sizes.{actors_of, index_of}
+use Rattle.spte_words.specs.declared.area.Area.TheVariants as area
+use Rattle.part_steps.specs.declared.part_step.PartStep.TheVariants as part
+use Rattle.mmu_core.specs.Causes.{FindsLockTaken, FindsOtherInside}
+use Rattle.mmu_core.specs.Enabled.{mmu}
+use Rattle.mmu_core.specs.Laws.{IsSound}
+use Rattle.mmu_core.specs.LockPart.{readers, writers}
+use Rattle.mmu_core.specs.Machine.{May, Step, World, answered, hand_in}
+use Rattle.part_steps.specs.PartSteps.{counts, own_index}
+use Rattle.mmu_core.specs.Sums.{one_if}
+use Rattle.part_steps.specs.TopicSteps.{in_section, is_alone, is_outside}
+use Rattle.mmu_core.specs.View.{word_in}
+use Rattle.mmu_core.proofs.AloneLaws.{part_found}
+use Rattle.mmu_core.proofs.Columns.{same_or}
+use Rattle.mmu_core.proofs.MadeSteps.{Makes, exchange_finds, in_machine, load_finds, own_sizes, word_on}
+use Rattle.mmu_core.proofs.StateTells.{word_tells}
+use Rattle.mmu_core.proofs.SumsBelow.{Contributes, sum_some}
+
+module _ (z : Sizes) (u : World Held) (s : Step Kind) (G : IsSound z u) (may : May mmu u s) where
+  abbrev h : Held
+  h = hand_in mmu u s.actor
+
+  abbrev v : ℕ
+  v = answered mmu u s.kind
+
+  abbrev hold : ℕ → Hold
+  hold i = (hand_in mmu u i).topics.hold
+
+  there : s.actor < actors_of z
+  there = in_machine z u s G may
+
+  -- Where the lock's word isn't 0, some actor counts among its readers or is its writer.
+  lock_held : word_in z u area.Lock 0 ≢ 0 → Contributes (actors_of z) (λ i. one_if (counts (hold i))) ⊎ Contributes (actors_of z) (λ i. one_if (is_alone (hold i)))
+  lock_held some = by (same_or (readers (actors_of z) hold) 0) (same_or (writers (actors_of z) hold) 0)
+    where
+      by : (readers (actors_of z) hold ≡ 0) ⊎ (readers (actors_of z) hold ≢ 0) → (writers (actors_of z) hold ≡ 0) ⊎ (writers (actors_of z) hold ≢ 0)
+          → Contributes (actors_of z) (λ i. one_if (counts (hold i))) ⊎ Contributes (actors_of z) (λ i. one_if (is_alone (hold i)))
+      by (inr read) _ = inl (sum_some (actors_of z) (λ i. one_if (counts (hold i))) read)
+      by (inl none) (inr wrote) = inr (sum_some (actors_of z) (λ i. one_if (is_alone (hold i))) wrote)
+      by (inl none) (inl free) = absurd (some (G.topics.lock_part.word ∙ ap (λ m. m + 2 ^ 63 * writers (actors_of z) hold) none ∙ ap (λ m. 0 + 2 ^ 63 * m) free))
+
+  pub lock_taken : Makes h s part.Exclude → not (v == 0) ≡ true → FindsLockTaken z u s
+  lock_taken M is = by (lock_held (λ e. some (stands ∙ e)))
+    where
+      some : v ≢ 0
+      some = grind (arith, nat_tests)
+
+      stands : v ≡ word_in z u area.Lock 0
+      stands = ap (answered mmu u) M.is ∙ part_found z u s.actor part.Exclude M.note G there M.needs
+
+      by_holder : (other : ℕ) → other < actors_of z → hold other ≢ Loose → FindsLockTaken z u s
+      by_holder other in_ holds = record {
+        on = word_on z u s G may part.Exclude M;
+        taken = λ e. some (sym (exchange_finds z u s G may part.Exclude M tt) ∙ e);
+        other = other;
+        there = in_;
+        is_other = λ e. holds (ap hold e ∙ M.needs);
+        holds = holds;
+      }
+
+      by : Contributes (actors_of z) (λ i. one_if (counts (hold i))) ⊎ Contributes (actors_of z) (λ i. one_if (is_alone (hold i))) → FindsLockTaken z u s
+      by (inl C) = by_holder C.at C.below (λ loose. C.more (ap (λ (x : Hold). one_if (counts x)) loose))
+      by (inr C) = by_holder C.at C.below (λ loose. C.more (ap (λ (x : Hold). one_if (is_alone x)) loose))
+
+  pub other_inside : (index : ℕ) → Makes h s (part.Watch index) → in_section v ≡ true → FindsOtherInside z u s
+  other_inside index M is = record {
+    other = index;
+    there = in_;
+    is_other = λ e. M.needs.1 (e ∙ sym own_);
+    on = word_on z u s G may (part.Watch index) M;
+    tells = ap in_section (load_finds z u s G may (part.Watch index) M tt) ∙ is;
+    inside = λ outside. let says : in_section (word_in z u area.State index) ≡ false = word_tells z u index G in_ ∙ ap (λ (x : Stay). not (is_outside x)) outside in
+        let inside : in_section (word_in z u area.State index) ≡ true = ap in_section (sym stands) ∙ is in cc (says, inside);
+  }
+    where
+      same : h.state.sizes ≡ z
+      same = own_sizes z u s G may
+
+      in_ : index < actors_of z
+      in_ = subst (λ (y : Sizes). index < actors_of y) same M.needs.0
+
+      own_ : own_index h ≡ s.actor
+      own_ = ap (λ (y : Sizes). index_of y h.state.actor) same ∙ (G.holds.lines s.actor there).index
+
+      stands : v ≡ word_in z u area.State index
+      stands = ap (answered mmu u) M.is ∙ part_found z u s.actor (part.Watch index) M.note G there M.needs

@@ -1,9 +1,0 @@
-use Rattle.std.proofs.Common.{subst}
-use Rattle.mmu_core.specs.PartSteps.{PartNeeds}
-use Rattle.mmu_core.proofs.EntryTopics.{looked_frame}
-use Rattle.mmu_core.proofs.part_step.task.Goals as goal
-
--- The host word that was looked up is at a frame of the machine.
-pub leaf-requires-clause-frame : goal.leaf-requires-clause-frame
-leaf-requires-clause-frame c =
-    looked_frame c.args.hand.now.core c.topics-topics.result.now c.topics-topics.ensures (subst (λ s. PartNeeds s c.args.hand.now.core) c.in-Leaf.is c.requires.needs).0.looked_up c.requires.rests

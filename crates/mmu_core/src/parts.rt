@@ -1,0 +1,38 @@
+//! Which steps of parts a hand may make.
+ghost use Rattle.std.specs.Prelude.{◌≡◌, ◌-◌, true, false, is_some};
+ghost use Rattle.mmu_core.specs.MayMake.{MayMake};
+ghost use Rattle.part_steps.specs.PartBounds.{PartRests};
+ghost use Rattle.part_steps.specs.PartSteps.{PartNeeds, has_line};
+ghost use Rattle.mmu_core.specs.Worlds.{HandReached};
+
+use core_views::Hand;
+use part_steps::{PartStep, has_needs};
+
+/// A hand with no line left may make each step of a part that it holds the needs
+/// of.
+pub fn may_make(hand: &Hand, step: PartStep, note: u64)
+    requires rests { PartRests hand.now.core }
+    requires idle { has_line hand.now.core ≡ false }
+    requires needs { PartNeeds step hand.now.core }
+    ensures { MayMake step note hand.now.core }
+{}
+
+/// What the steps of the parts rest on: it holds of every hand that some world
+/// has.
+pub fn part_rests(hand: &Hand)
+    requires reached { ∥ HandReached hand.now.core ∥₁ }
+    ensures { PartRests hand.now.core }
+{}
+
+/// Whether the hand has no line left and holds what this step of a part needs.
+pub fn allows(hand: &Hand, step: PartStep, note: u64) -> bool
+    requires reached { ∥ HandReached hand.now.core ∥₁ }
+    ensures { result ≡ true → MayMake step note hand.now.core }
+{
+    part_rests(hand);
+    if hand.next_line().is_some() || !has_needs(hand, step) {
+        return false;
+    }
+    may_make(hand, step, note);
+    true
+}

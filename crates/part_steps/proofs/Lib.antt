@@ -1,0 +1,2 @@
+pub mod EntryTopics
+pub mod SetWords

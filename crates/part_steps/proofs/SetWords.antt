@@ -1,0 +1,80 @@
+-- The words of a slot set that is filled.
+use Rattle.std.proofs.Common.{◌≡◌, ◌<◌, ◌^◌, ◌/◌, ◌%◌, ◌==◌, ℕ, [], ◌∷◌, refl, sym, subst, ap, ◌∙◌, arith}
+use Rattle.std.specs.Prelude.{Bool, true, false, if◌then◌else◌, Option, Some, None}
+use Rattle.std.specs.Ordering.{match_ordering, nat_cmp}
+use Rattle.std.specs.declared.cmp.Ordering.{Ordering}
+use Rattle.std.specs.declared.cmp.Ordering.TheVariants.{Less, Equal, Greater}
+use Rattle.std.proofs.lemmas.Bool.Decides.{nat_tests}
+use Rattle.core_views.specs.declared.slot_set.MemorySlot.{MemorySlot}
+use Rattle.core_views.specs.declared.trace.Slot.{Slot}
+use Rattle.core_views.specs.Refusals.{after_set, is_logged}
+use Rattle.core_views.specs.SlotSets.{MemorySlots, slot_at, with_slot_at}
+use Rattle.spte_words.specs.Flags.{flags_word}
+use Rattle.part_steps.specs.SetWords.{set_role, set_value, set_word, word_of_slot}
+
+-- A set with one more slot has this one at its ID, and else what it had.
+pub put_at : (i id : ℕ) (m : MemorySlot) (slots : MemorySlots) → slot_at i (with_slot_at id m slots) ≡ (if id == i then Some m else slot_at i slots)
+put_at i id m [] = refl
+put_at i id m ((k, n) ∷ es) = by (nat_cmp id k) refl (put_at i id m es)
+  where
+    equal : (b : Bool) → (if b then Some m else slot_at i es) ≡ (if b then Some m else if b then Some n else slot_at i es)
+    equal true = refl
+    equal false = refl
+
+    greater : (here it : Bool) → (here ≡ true → it ≡ false) → slot_at i (with_slot_at id m es) ≡ (if it then Some m else slot_at i es)
+        → (if here then Some n else slot_at i (with_slot_at id m es)) ≡ (if it then Some m else if here then Some n else slot_at i es)
+    greater true true apart rest = let no = apart refl in absurd (cc no)
+    greater true false apart rest = refl
+    greater false it apart rest = rest
+
+    by : (o : Ordering) → nat_cmp id k ≡ o → slot_at i (with_slot_at id m es) ≡ (if id == i then Some m else slot_at i es)
+        → slot_at i (match_ordering o ((id, m) ∷ (k, n) ∷ es) ((k, m) ∷ es) ((k, n) ∷ with_slot_at id m es)) ≡ (if id == i then Some m else if k == i then Some n else slot_at i es)
+    by Less e rest = refl
+    by Equal e rest = let same : id ≡ k = grind (arith, nat_tests) in equal (k == i) ∙ ap (λ j. if j == i then Some m else if k == i then Some n else slot_at i es) (sym same)
+    by Greater e rest = greater (k == i) (id == i) (λ here. grind (arith, nat_tests)) rest
+
+pub set_at : (i id : ℕ) (slot : Slot) (slots : MemorySlots) → slot_at i (after_set id slot slots) ≡ (if id == i then Some (record { slot = slot; logged = is_logged id slots }) else slot_at i slots)
+set_at i id slot slots = put_at i id (record { slot = slot; logged = is_logged id slots }) slots
+
+-- The word of a slot has 64 bits, where the slot's numbers have.
+pub record IsSmall (slot : Slot) : Type 0 where
+  pub base : slot.base < 2 ^ 64
+  pub pages : slot.pages < 2 ^ 64
+  pub host : slot.host < 2 ^ 64
+
+flags_small : (read_only logged : Bool) → flags_word true read_only logged < 2 ^ 64
+unfolding flags_word
+flags_small true true = omega arith
+flags_small true false = omega arith
+flags_small false true = omega arith
+flags_small false false = omega arith
+
+word_small : (m : Option MemorySlot) (i : ℕ) → ((s : MemorySlot) → m ≡ Some s → IsSmall s.slot) → word_of_slot m i < 2 ^ 64
+word_small None i small = omega arith
+word_small (Some m) i small = by (i == 0) (i == 1) (i == 2)
+  where
+    S : IsSmall m.slot
+    S = small m refl
+
+    by : (a b c : Bool) → (if a then m.slot.base else if b then m.slot.pages else if c then m.slot.host else flags_word true m.slot.read_only m.logged) < 2 ^ 64
+    by true b c = S.base
+    by false true c = S.pages
+    by false false true = S.host
+    by false false false = flags_small m.slot.read_only m.logged
+
+pub value_small : (id : ℕ) (slot : Slot) (slots : MemorySlots) (filled : ℕ) → IsSmall slot → ((i : ℕ) (m : MemorySlot) → slot_at i slots ≡ Some m → IsSmall m.slot) → set_value (after_set id slot slots) filled < 2 ^ 64
+value_small id slot slots filled new_ old_ = by (filled == 512)
+  where
+    at : ℕ
+    at = filled / 4
+
+    each : (here : Bool) (m : MemorySlot) → (if here then Some (record { slot = slot; logged = is_logged id slots }) else slot_at at slots) ≡ Some m → IsSmall m.slot
+    each true m e = subst (λ (s : MemorySlot). IsSmall s.slot) (some_slot e) new_
+      where
+        some_slot : {x y : MemorySlot} → Some x ≡ Some y → x ≡ y
+        some_slot e = cc e
+    each false m e = old_ at m e
+
+    by : (role : Bool) → (if role then set_role else set_word (after_set id slot slots) filled) < 2 ^ 64
+    by true = omega arith
+    by false = word_small (slot_at at (after_set id slot slots)) (filled % 4) (λ m e. each (id == at) m (sym (put_at at id (record { slot = slot; logged = is_logged id slots }) slots) ∙ e))

@@ -1,0 +1,43 @@
+-- What the steps of the parts may rest on, from the hand alone: bounds.
+use Rattle.std.specs.Prelude.{◌≡◌, ◌+◌, ◌^◌, ◌<◌, ◌≤◌, ℕ, All, Some, true}
+use Rattle.core_views.specs.declared.topics.Hold.TheVariants.{Owing}
+use Rattle.core_views.specs.declared.topics.HostLook.{HostLook}
+use Rattle.core_views.specs.declared.topics.OwnedPage.{OwnedPage}
+use Rattle.core_views.specs.Held.{Held}
+use Rattle.core_views.specs.declared.cache.Translation.{Translation}
+use Rattle.core_views.specs.declared.sizes.Sizes.{Sizes}
+use Rattle.core_views.specs.declared.topics.Topics.{Topics}
+use Rattle.spte_words.specs.Areas.{words_of_bits}
+use Rattle.core_views.specs.Sizes.{AreSizes, actors_of}
+use Rattle.spte_words.specs.HostWords.{host_frame}
+use Rattle.part_steps.specs.PartSteps.{own_index, table_page}
+use Rattle.part_steps.specs.TopicSteps.{has_writer}
+
+-- Its leaf is one of a level that has leaves, 1 to 3.
+abbrev pub IsAtLeafLevel : Translation → Type 0
+IsAtLeafLevel t = (1 ≤ t.level) × (t.level ≤ 3)
+
+-- The counters of an actor stay within what they count.
+pub record CountersPart (z : Sizes) (t : Topics) : Type 0 where
+  pub slots : t.search.id ≤ 32
+  pub claim : t.claim.at ≤ words_of_bits z.pool
+  pub seen : t.claim.seen < 2 ^ 64
+  pub watched : t.watched ≤ actors_of z
+  pub run : 1 ≤ t.walk.level → t.walk.prefix < 2 ^ 36
+
+-- What holds of every hand that some world has: its actor is one of the machine's, its pages are pages of the pool, its counters
+-- stay within what they count, and where it has yet to take itself out of the lock's readers it saw a writer.
+pub record PartRests (h : Held) : Type 0 where
+  pub sizes : AreSizes h.state.sizes
+  pub own_place : own_index h < actors_of h.state.sizes
+  pub level : h.topics.walk.level ≤ 4
+  pub table : 1 ≤ h.topics.walk.level → table_page h.topics.walk < h.state.sizes.pool
+  pub set : (k : ℕ) → h.topics.search.set ≡ Some k → k < h.state.sizes.pool
+  pub page : (o : OwnedPage) → h.topics.owned ≡ Some o → o.page < h.state.sizes.pool
+  pub left : (k : ℕ) → h.topics.leaving ≡ Some k → k < h.state.sizes.pool
+  pub filled : (o : OwnedPage) → h.topics.owned ≡ Some o → o.filled ≤ 513
+  pub counters : CountersPart h.state.sizes h.topics
+  pub found : h.topics.search.whole ≡ true → h.topics.search.slot.host + h.topics.search.slot.pages ≤ h.state.sizes.pages
+  pub levels : All IsAtLeafLevel h.cached.items
+  pub looked : (look : HostLook) → h.topics.host ≡ Some look → (look.page < h.state.sizes.pages) × (host_frame look.word < h.state.sizes.frames)
+  pub saw_writer : (word : ℕ) → h.topics.hold ≡ Owing word → has_writer word ≡ true

@@ -1,0 +1,56 @@
+-- What an actor holds behind each step of a part.
+use Rattle.std.specs.Prelude.{◌+◌, ℕ, Bool, false, ◌==◌, not, if◌then◌else◌, Some, None, is_some}
+use Rattle.core_views.specs.declared.topics.Hold.TheVariants.{Owing, Shared, Exclusive}
+use Rattle.core_views.specs.declared.topics.Stay.TheVariants.{Outside, Guest, Section}
+use Rattle.core_views.specs.declared.topics.Topics.{Topics}
+use Rattle.part_steps.specs.declared.part_step.PartStep.{PartStep}
+use Rattle.part_steps.specs.declared.part_step.PartStep.TheVariants as part
+use Rattle.part_steps.specs.PartSteps.{entry_index, leaf_written, link_written}
+use Rattle.part_steps.specs.TopicSteps.{at_root, at_set, begun, claimed, count_checked, filled_more, has_writer, in_section, is_loose, kept_search, let_go, may_search, may_walk, published, range_checked, searched, seq_checked, start_checked, still_leaving, still_owned, swapped, tried, unchecked, walked}
+
+-- The sequence number was loaded: without the lock it is the snapshot, with which a look-up begins; else the check's last word.
+abbrev pub sequenced : Bool → Topics → ℕ → Topics
+sequenced without_lock t v = record t {
+  search = if without_lock then kept_search false t.search else t.search;
+  host = if without_lock then None else t.host;
+  invalidations = record t.invalidations {
+    snapshot = if without_lock then Some v else t.invalidations.snapshot;
+    seq = if not without_lock then v else t.invalidations.seq;
+    checked = seq_checked t.invalidations.count t.invalidations.checked;
+  };
+}
+
+-- The entry at an index was to be exchanged for a new one, and v was found there.
+abbrev pub exchanged : Bool → ℕ → ℕ → Topics → ℕ → Topics
+exchanged won index new_ t v = record t { walk = swapped won t.walk index new_ v; owned = still_owned won t.walk new_ t.owned }
+
+-- what is held behind the step, which answered v
+abbrev pub part_topics : PartStep → Topics → ℕ → Topics
+part_topics part.Enter t v = begun Guest t
+part_topics part.Leave t v = begun Outside t
+part_topics part.Pause t v = record t { pause = v }
+part_topics part.Begin t v = begun Section t
+part_topics part.End t v = begun Outside t
+part_topics part.Share t v = record t { hold = if has_writer v then Owing v else Shared; invalidations = unchecked t.invalidations }
+part_topics part.Unshare t v = let_go t
+part_topics part.Exclude t v = record t { hold = if v == 0 then Exclusive else t.hold; invalidations = unchecked t.invalidations }
+part_topics part.Release t v = let_go t
+part_topics (part.Map word) t v = record t { claim = record { at = word + (if v == 0 then 1 else 0); seen = v } }
+part_topics part.Claim t v = record t { owned = claimed t.claim v; claim = tried t.claim v }
+part_topics (part.Fill value) t v = record t { owned = filled_more t.owned v }
+part_topics part.Give t v = record t { owned = None; leaving = still_leaving t.owned t.leaving }
+part_topics part.Slots t v = record t { search = at_set (may_search t.stay t.hold) t.search v }
+part_topics part.Slot t v = record t { search = if is_some t.search.set then searched t.search v else t.search }
+part_topics part.Seq t v = sequenced (is_loose t.hold) t v
+part_topics part.Count t v = record t { invalidations = record t.invalidations { count = v; checked = count_checked t.hold } }
+part_topics part.RangeStart t v = record t { invalidations = record t.invalidations { start = v; checked = start_checked t.invalidations.checked } }
+part_topics part.RangeEnd t v = record t { invalidations = record t.invalidations { end = v; checked = range_checked t.invalidations.checked } }
+part_topics part.Root t v = record t { walk = at_root (may_walk t.stay t.hold) t.walk v }
+part_topics (part.Walk gfn) t v = record t { walk = walked t.walk (entry_index gfn t.walk.level) v }
+part_topics (part.Link gfn) t v = exchanged (v == t.walk.entry) (entry_index gfn t.walk.level) (link_written t) t v
+part_topics (part.Leaf gfn) t v = exchanged (v == t.walk.entry) (entry_index gfn t.walk.level) (leaf_written t) t v
+part_topics (part.Host page) t v = record t { host = Some (record { page = page; word = v }) }
+part_topics (part.Watch index) t v = record t { watched = index + (if in_section v then 0 else 1) }
+part_topics part.Publish t v = published t v
+part_topics part.Clear t v = record t { owned = filled_more t.owned v }
+part_topics part.GiveOld t v = record t { owned = None; leaving = still_leaving t.owned t.leaving }

@@ -1,0 +1,333 @@
+//! The steps of the machine's parts: which word each is on, and what is done
+//! with it.
+ghost use Rattle.std.specs.Prelude.{◌≡◌, ◌≢◌, ◌≤◌, ◌<◌, ◌-◌, ◌^◌, ◌/◌, ◌%◌, ℕ, true, Some, is_some};
+ghost use Rattle.core_views.specs.declared.kind.StepKind.TheVariants as StepKind;
+ghost use Rattle.core_views.specs.declared.topics.OwnedPage.{OwnedPage};
+ghost use Rattle.spte_words.specs.declared.area.Area.TheVariants as Area;
+ghost use Rattle.spte_words.specs.Areas.{IsWordMap, pool_index, size_of};
+ghost use Rattle.part_steps.specs.PartBounds.{PartRests};
+ghost use Rattle.part_steps.specs.PartSteps.{PartNeeds, all_but, entry_index, entry_task, fill_task, leaf_written, own_index, page_left, page_owned, part_kind, part_task, set_held, table_page, word_looked, words_filled, works};
+ghost use Rattle.part_steps.specs.SlotWords.{slot_index};
+ghost use Rattle.spte_words.specs.Entries.{level_span, table_word};
+ghost use Rattle.spte_words.specs.HostWords.{host_frame};
+ghost use Rattle.part_steps.specs.Tasks.{loads, map_of};
+ghost use Rattle.part_steps.specs.TopicSteps.{tried_bit};
+ghost use Rattle.part_steps.specs.declared.part_step.PartStep.TheVariants.{Enter, Leave, Begin, End, Clear};
+
+use crate::slot_words::{leaf_of, slot_word};
+use crate::task::{Task, kind_of, map_of};
+use crate::topics::WRITER;
+use core_views::{
+    Hand, HostLook, Kind, MapClaim, OwnedPage, SlotSearch, StepKind, TableWalk, Topics,
+};
+use spte_words::{Area, Spte, WordMap};
+
+/// One step of a part of the machine, with the number that its caller gives.
+/// Which word it is on follows from this, and from what the hand holds.
+#[derive(Clone, Copy, Debug, PartialEq, Eq, Drop)]
+pub enum PartStep {
+    /// Enters the guest.
+    Enter,
+    /// Leaves the guest.
+    Leave,
+    /// Loads the pause.
+    Pause,
+    /// Begins a section.
+    Begin,
+    /// Ends a section.
+    End,
+    /// Adds itself to the readers of the lock.
+    Share,
+    /// Takes itself out of them.
+    Unshare,
+    /// Takes the lock alone.
+    Exclude,
+    /// Gives it back.
+    Release,
+    /// Loads this word of the pool's map.
+    Map(u64),
+    /// Tries to take the lowest free page of those seen there.
+    Claim,
+    /// Stores this number in the next word of its page, or in its role.
+    Fill(u64),
+    /// Gives its page back, which was never linked.
+    Give,
+    /// Loads which slot set is published.
+    Slots,
+    /// Loads the next word of the search.
+    Slot,
+    /// Loads the sequence number of invalidations.
+    Seq,
+    /// Loads how many are open.
+    Count,
+    /// Loads the first guest frame of their range.
+    RangeStart,
+    /// Loads the guest frame behind it.
+    RangeEnd,
+    /// Loads the root.
+    Root,
+    /// Loads the entry of this guest frame in the table that the walk has come to.
+    Walk(u64),
+    /// Links the page that it owns as a table, at the entry of this guest frame.
+    Link(u64),
+    /// Puts the leaf of this guest frame's page at its entry.
+    Leaf(u64),
+    /// Loads the host word of this page.
+    Host(u64),
+    /// Loads the state word of the actor at this place.
+    Watch(u64),
+    /// Publishes the slot set in the page that it owns.
+    Publish,
+    /// Takes the role from the page of the old slot set.
+    Clear,
+    /// Gives this page back.
+    GiveOld,
+}
+
+// An operation that writes, or works with, this number.
+fn work(kind: StepKind, area: Area, index: u64, written: u64, note: u64) -> Task
+    ensures { result ≡ works kind area index written note }
+{
+    Task {
+        kind,
+        area,
+        index,
+        expected: 0,
+        written,
+        may_end: note,
+    }
+}
+
+/// The page of the table that a walk has come to.
+pub fn table_page(walk: &TableWalk) -> u64
+    ensures { result ≡ table_page walk.now }
+{
+    match walk.level {
+        4 => walk.root,
+        3 => walk.third,
+        2 => walk.second,
+        _ => walk.first,
+    }
+}
+
+// Fills the next word of the page, or its role.
+fn fill(map: &WordMap, owned: Option<OwnedPage>, value: u64, note: u64) -> Task
+    requires map { IsWordMap map.now }
+    requires left { (o : OwnedPage) → owned ≡ Some o → o.filled < 513 }
+    requires page { (o : OwnedPage) → owned ≡ Some o → o.page < map.now.pool }
+    requires owned { is_some owned ≡ true }
+    ensures task { result ≡ fill_task (page_owned owned) (words_filled owned) value note }
+    ensures within { result.index < size_of map.now result.area }
+{
+    let Some(OwnedPage { page, filled, .. }) = owned else {
+        unreachable!()
+    };
+    if filled == 512 {
+        work(StepKind::Fill, Area::Role, page, value, note)
+    } else {
+        let index = map.pool_index(page, filled);
+        work(StepKind::Fill, Area::Pool, index, value, note)
+    }
+}
+
+// Gives the page back.
+fn give(map: &WordMap, owned: Option<OwnedPage>, note: u64) -> Task
+    requires page { (o : OwnedPage) → owned ≡ Some o → o.page < map.now.pool }
+    requires owned { is_some owned ≡ true }
+    ensures task { result ≡ works StepKind.Give Area.PoolMap (page_owned owned / 64) (2 ^ (page_owned owned % 64)) note }
+    ensures within { result.index < size_of map.now result.area }
+{
+    let Some(OwnedPage { page, .. }) = owned else {
+        unreachable!()
+    };
+    let bit = 1 << (page % 64);
+    work(StepKind::Give, Area::PoolMap, page / 64, bit, note)
+}
+
+// Publishes the slot set in the page.
+fn publish(owned: Option<OwnedPage>, note: u64) -> Task
+    requires { is_some owned ≡ true }
+    ensures { result ≡ works StepKind.Publish Area.Slots 0 (page_owned owned) note }
+{
+    let Some(OwnedPage { page, .. }) = owned else {
+        unreachable!()
+    };
+    work(StepKind::Publish, Area::Slots, 0, page, note)
+}
+
+// Takes the role from the page that is leaving, or gives it back.
+fn drop_old(step: PartStep, map: &WordMap, leaving: Option<u64>, note: u64) -> Task
+    requires page { (k : ℕ) → leaving ≡ Some k → k < map.now.pool }
+    requires leaving { is_some leaving ≡ true }
+    ensures clear { step ≡ Clear → result ≡ works StepKind.Fill Area.Role (page_left leaving) 0 note }
+    ensures give { step ≢ Clear → result ≡ works StepKind.Give Area.PoolMap (page_left leaving / 64) (2 ^ (page_left leaving % 64)) note }
+    ensures within { result.index < size_of map.now result.area }
+{
+    let Some(page) = leaving else { unreachable!() };
+    if step == PartStep::Clear {
+        return work(StepKind::Fill, Area::Role, page, 0, note);
+    }
+    let bit = 1 << (page % 64);
+    work(StepKind::Give, Area::PoolMap, page / 64, bit, note)
+}
+
+// Loads the next word of the search.
+fn slot(map: &WordMap, search: &SlotSearch, note: u64) -> Task
+    requires map { IsWordMap map.now }
+    requires page { (k : ℕ) → search.now.set ≡ Some k → k < map.now.pool }
+    requires set { is_some search.now.set ≡ true }
+    requires id { search.now.id ≤ 31 }
+    ensures task { result ≡ loads StepKind.Slot Area.Pool (slot_index (set_held search.now.set) search.now.id search.now.next) note }
+    ensures within { result.index < size_of map.now result.area }
+{
+    let Some(set) = search.set else {
+        unreachable!()
+    };
+    Task::load(
+        StepKind::Slot,
+        Area::Pool,
+        slot_word(map, set, search.id, search.next),
+        note,
+    )
+}
+
+/// The run of entries of the level that the guest frame is in.
+pub fn run_of(gfn: u64, level: u8) -> u64
+    requires from { 1 ≤ level }
+    requires to { level ≤ 4 }
+    ensures { result ≡ gfn / level_span level }
+{
+    gfn / Spte::level_span(level)
+}
+
+// Loads the guest frame's entry in the table that the walk has come to.
+fn walk(map: &WordMap, walk: &TableWalk, gfn: u64, note: u64) -> Task
+    requires map { IsWordMap map.now }
+    requires from { 1 ≤ walk.now.level }
+    requires to { walk.now.level ≤ 4 }
+    requires page { table_page walk.now < map.now.pool }
+    ensures task { result ≡ loads StepKind.Walk Area.Pool (pool_index (table_page walk.now) (entry_index gfn walk.now.level)) note }
+    ensures within { result.index < size_of map.now result.area }
+{
+    let index = map.pool_index(table_page(walk), run_of(gfn, walk.level) % 512);
+    Task::load(StepKind::Walk, Area::Pool, index, note)
+}
+
+// Exchanges the guest frame's entry in the table that the walk has come to.
+fn enter(map: &WordMap, walk: &TableWalk, gfn: u64, new: u64, note: u64) -> Task
+    requires map { IsWordMap map.now }
+    requires from { 1 ≤ walk.now.level }
+    requires to { walk.now.level ≤ 4 }
+    requires page { table_page walk.now < map.now.pool }
+    ensures task { result ≡ entry_task gfn new walk.now note }
+    ensures within { result.index < size_of map.now result.area }
+{
+    Task {
+        kind: StepKind::Swap,
+        area: Area::Pool,
+        index: map.pool_index(table_page(walk), run_of(gfn, walk.level) % 512),
+        expected: walk.entry,
+        written: new,
+        may_end: note,
+    }
+}
+
+// A link to the owned page.
+fn link(owned: Option<OwnedPage>) -> u64
+    requires page { (o : OwnedPage) → owned ≡ Some o → o.page < 2 ^ 32 }
+    requires owned { is_some owned ≡ true }
+    ensures { result ≡ table_word (page_owned owned) }
+{
+    let Some(OwnedPage { page, .. }) = owned else {
+        unreachable!()
+    };
+    Spte::table(page as u32).word()
+}
+
+// The leaf of the page that was looked up.
+fn leaf(topics: &Topics) -> u64
+    requires frame { host_frame (word_looked topics.now.host) < 2 ^ 40 }
+    requires looked { is_some topics.now.host ≡ true }
+    ensures { result ≡ leaf_written topics.now }
+{
+    let Some(HostLook { word, .. }) = topics.host else {
+        unreachable!()
+    };
+    leaf_of(&topics.search.slot, word)
+}
+
+// Tries to take the lowest free page of those seen.
+fn claim(claim: &MapClaim, note: u64) -> Task
+    requires { 0 < claim.now.seen }
+    ensures { result ≡ works StepKind.Claim Area.PoolMap claim.now.at (all_but (2 ^ tried_bit claim.now)) note }
+{
+    let bit = 1 << claim.seen.trailing_zeros();
+    work(StepKind::Claim, Area::PoolMap, claim.at, !bit, note)
+}
+
+// What the step does with the actor's own state word.
+fn own_task(step: PartStep, own: u64, note: u64) -> Task
+    ensures area { result.area ≡ Area.State }
+    ensures index { result.index ≡ own }
+    ensures enter { step ≡ Enter → result ≡ works StepKind.Enter Area.State own 3 note }
+    ensures leave { step ≡ Leave → result ≡ works StepKind.Leave Area.State own (all_but 3) note }
+    ensures begin { step ≡ Begin → result ≡ works StepKind.Begin Area.State own 2 note }
+    ensures end { step ≡ End → result ≡ works StepKind.End Area.State own (all_but 2) note }
+{
+    match step {
+        PartStep::Enter => work(StepKind::Enter, Area::State, own, 3, note),
+        PartStep::Leave => work(StepKind::Leave, Area::State, own, !3, note),
+        PartStep::Begin => work(StepKind::Begin, Area::State, own, 2, note),
+        _ => work(StepKind::End, Area::State, own, !2, note),
+    }
+}
+
+/// What the step does.
+pub fn part_task(hand: &Hand, step: PartStep, note: u64) -> Task
+    requires rests { PartRests hand.now.core }
+    requires needs { PartNeeds step hand.now.core }
+    ensures task { result ≡ part_task step (own_index hand.now.core) hand.now.core.topics note }
+    ensures within { result.index < size_of (map_of hand.now.core.state.sizes) result.area }
+{
+    let sizes = &hand.state().sizes;
+    let map = &map_of(sizes);
+    let topics = hand.topics();
+    let own = sizes.index_of(hand.state().actor);
+    match step {
+        PartStep::Enter | PartStep::Leave | PartStep::Begin | PartStep::End => {
+            own_task(step, own, note)
+        }
+        PartStep::Pause => Task::load(StepKind::Control, Area::Pause, 0, note),
+        PartStep::Share => work(StepKind::Share, Area::Lock, 0, 1, note),
+        PartStep::Unshare => work(StepKind::Unshare, Area::Lock, 0, 1, note),
+        PartStep::Exclude => work(StepKind::Exclude, Area::Lock, 0, WRITER, note),
+        PartStep::Release => work(StepKind::Release, Area::Lock, 0, !WRITER, note),
+        PartStep::Map(word) => Task::load(StepKind::Control, Area::PoolMap, word, note),
+        PartStep::Claim => claim(&topics.claim, note),
+        PartStep::Fill(value) => fill(map, topics.owned, value, note),
+        PartStep::Give => give(map, topics.owned, note),
+        PartStep::Slots => Task::load(StepKind::Control, Area::Slots, 0, note),
+        PartStep::Slot => slot(map, &topics.search, note),
+        PartStep::Seq => Task::load(StepKind::Control, Area::Seq, 0, note),
+        PartStep::Count => Task::load(StepKind::Control, Area::Count, 0, note),
+        PartStep::RangeStart => Task::load(StepKind::Control, Area::RangeStart, 0, note),
+        PartStep::RangeEnd => Task::load(StepKind::Control, Area::RangeEnd, 0, note),
+        PartStep::Root => Task::load(StepKind::Control, Area::Root, 0, note),
+        PartStep::Walk(gfn) => walk(map, &topics.walk, gfn, note),
+        PartStep::Link(gfn) => enter(map, &topics.walk, gfn, link(topics.owned), note),
+        PartStep::Leaf(gfn) => enter(map, &topics.walk, gfn, leaf(topics), note),
+        PartStep::Host(page) => Task::load(StepKind::Host, Area::Host, page, note),
+        PartStep::Watch(index) => Task::load(StepKind::Watch, Area::State, index, note),
+        PartStep::Publish => publish(topics.owned, note),
+        PartStep::Clear | PartStep::GiveOld => drop_old(step, map, topics.leaving, note),
+    }
+}
+
+/// The step of the part that this hand makes, as the words of the machine see it.
+pub fn part_kind(hand: &Hand, step: PartStep, note: u64) -> Kind
+    requires rests { PartRests hand.now.core }
+    requires needs { PartNeeds step hand.now.core }
+    ensures { result ≡ part_kind hand.now.core step note }
+{
+    kind_of(&hand.state().sizes, &part_task(hand, step, note))
+}

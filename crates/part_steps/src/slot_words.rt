@@ -1,0 +1,100 @@
+ghost use Rattle.std.specs.Prelude.{◌≡◌, ◌≤◌, ◌<◌, ◌^◌};
+ghost use Rattle.part_steps.specs.SlotWords.{field_number, leaf_of, may_write, page_of, slot_index};
+ghost use Rattle.part_steps.specs.SetWords.{set_value, word_of_slot};
+ghost use Rattle.core_views.specs.Refusals.{after_set};
+ghost use Rattle.core_views.specs.SlotSets.{slot_at};
+ghost use Rattle.core_views.specs.Traces.{IsSlotInRange};
+ghost use Rattle.spte_words.specs.HostWords.{host_frame};
+ghost use Rattle.spte_words.specs.Areas.{IsWordMap, size_of};
+ghost use Rattle.spte_words.specs.declared.area.Area.TheVariants as Area;
+
+use core_views::{MemorySlot, Slot, SlotField, SlotSet};
+use spte_words::{HostWord, SlotFlags, Spte, WordMap};
+
+fn field_number(field: SlotField) -> u64
+    ensures { result ≡ field_number field }
+{
+    match field {
+        SlotField::Base => 0,
+        SlotField::Pages => 1,
+        SlotField::Host => 2,
+        SlotField::Flags => 3,
+    }
+}
+
+/// The pool's word that holds a field of the slot with this ID, in the slot
+/// set of a pool page.
+pub(crate) fn slot_word(map: &WordMap, set: u64, id: u64, field: SlotField) -> u64
+    requires map { IsWordMap map.now }
+    requires set { set < map.now.pool }
+    requires id { id ≤ 31 }
+    ensures index { result ≡ slot_index set id field }
+    ensures within { result < size_of map.now Area.Pool }
+{
+    map.pool_index(set, 4 * id + field_number(field))
+}
+
+/// The role of a slot set's page.
+pub(crate) const SET_ROLE: u64 = 5;
+
+// Word i of a slot in its slot set; 0 where there is none.
+fn word_of_slot(slot: &Option<MemorySlot>, i: u64) -> u64
+    ensures { result ≡ word_of_slot slot.now i }
+{
+    let Some(MemorySlot { slot, logged }) = slot else {
+        return 0;
+    };
+    match i {
+        0 => slot.base,
+        1 => slot.pages,
+        2 => slot.host,
+        _ => SlotFlags::new(true, slot.read_only, *logged).word(),
+    }
+}
+
+// The slot with this ID, behind the setting of a slot.
+#[tactic(auto, using(crate::proofs::SetWords::set_at))]
+fn slot_after(slots: &SlotSet, id: u64, slot: &Slot, here: u64) -> Option<MemorySlot>
+    ensures { result ≡ slot_at here (after_set id slot.now slots.now) }
+{
+    let was = slots.get(here);
+    if here != id {
+        return was;
+    }
+    let logged = was.is_some_and(|was| was.logged);
+    Some(MemorySlot {
+        slot: *slot,
+        logged,
+    })
+}
+
+/// What the page of a slot set is filled with next, where the set has these slots
+/// and this one at the ID: the next of its words, or its role.
+pub fn set_value(slots: &SlotSet, id: u64, slot: &Slot, filled: u64) -> u64
+    ensures { result ≡ set_value (after_set id slot.now slots.now) filled }
+{
+    if filled == 512 {
+        return SET_ROLE;
+    }
+    let slot = slot_after(slots, id, slot, filled / 4);
+    word_of_slot(&slot, filled % 4)
+}
+
+/// The host page behind a guest frame of the slot.
+pub fn page_of(slot: &Slot, gfn: u64) -> u64
+    requires { page_of slot.now gfn < 2 ^ 64 }
+    ensures { result ≡ page_of slot.now gfn }
+{
+    slot.host + gfn.saturating_sub(slot.base)
+}
+
+/// The leaf of a page in the slot, from its host word: with write permission
+/// where host and slot allow it.
+pub(crate) fn leaf_of(slot: &Slot, host: u64) -> u64
+    requires { host_frame host < 2 ^ 40 }
+    ensures { result ≡ leaf_of slot.now host }
+{
+    let host = HostWord::from_word(host);
+    let writable = host.is_writable() && !slot.read_only;
+    Spte::leaf(1, host.frame(), writable, host.is_writable(), writable).word()
+}

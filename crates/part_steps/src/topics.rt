@@ -1,0 +1,381 @@
+//! What a step changes of what an actor holds of each part of the machine.
+ghost use Rattle.std.specs.Prelude.{◌≡◌, ◌≤◌, ◌<◌, ◌^◌, true, Some, is_some};
+ghost use Rattle.core_views.specs.declared.topics.OwnedPage.{OwnedPage};
+ghost use Rattle.core_views.specs.Kinds.{kind_named};
+ghost use Rattle.core_views.specs.Sizes.{AreSizes};
+ghost use Rattle.core_views.specs.declared.place.SlotField.TheVariants.{Flags};
+ghost use Rattle.core_views.specs.declared.kind.StepKind.TheVariants.{Walk, Swap};
+ghost use Rattle.part_steps.specs.TopicSteps.{HasRoom, at_word, begun, checked_after, claimed, controlled, filled_more, gone_down, index_in_page, let_go, may_search, may_walk, noted, published, searched, still_owned, swapped, takes_snapshot, topics_after, tried, walked};
+
+use crate::task::map_of;
+use core_views::{
+    Checked, Hold, HostLook, Invalidations, Kind, MapClaim, OwnedPage, Sizes, SlotField,
+    SlotSearch, Stay, StepKind, TableWalk, Topics,
+};
+use spte_words::{Area, SlotFlags, Spte, SpteKind};
+
+/// The lock's bit of its writer.
+pub const WRITER: u64 = 1 << 63;
+
+fn may_walk(stay: Stay, hold: Hold) -> bool
+    ensures { result ≡ may_walk stay hold }
+{
+    stay != Stay::Outside || hold == Hold::Shared || hold == Hold::Exclusive
+}
+
+fn may_search(stay: Stay, hold: Hold) -> bool
+    ensures { result ≡ may_search stay hold }
+{
+    stay == Stay::Section || hold == Hold::Exclusive
+}
+
+// The actor is there from now on, and has nothing of tables, slots and look-ups.
+fn go(topics: &mut Topics, stay: Stay)
+    ensures { topics.new ≡ begun stay topics.old }
+{
+    topics.stay = stay;
+    topics.walk.level = 0;
+    topics.search.set = None;
+    topics.search.whole = false;
+    topics.host = None;
+    topics.invalidations.snapshot = None;
+    topics.invalidations.checked = Checked::Nothing;
+}
+
+// What is held without the lock.
+fn let_go(topics: &mut Topics)
+    ensures { topics.new ≡ let_go topics.old }
+{
+    topics.hold = Hold::Loose;
+    topics.invalidations.checked = Checked::Nothing;
+    if topics.stay == Stay::Outside {
+        topics.walk.level = 0;
+    }
+    if topics.stay != Stay::Section {
+        topics.search.set = None;
+        topics.search.whole = false;
+    }
+}
+
+// The walk goes down to the table in this page, by the entry at an index.
+fn go_down(walk: &mut TableWalk, page: u64, index: u64, entry: u64)
+    requires room { walk.old.prefix < 2 ^ 36 }
+    requires index { index < 512 }
+    ensures { walk.new ≡ gone_down (Some page) walk.old index entry }
+{
+    match walk.level {
+        4 => walk.third = page,
+        3 => walk.second = page,
+        2 => walk.first = page,
+        _ => {}
+    }
+    walk.level = walk.level.saturating_sub(1);
+    walk.prefix = walk.prefix * 512 + index;
+    walk.index = 512;
+    walk.entry = entry;
+}
+
+// The entry at an index was loaded: the walk goes down where it is a link.
+fn walk(walk: &mut TableWalk, index: u64, found: u64)
+    requires room { walk.old.prefix < 2 ^ 36 }
+    requires index { index < 512 }
+    ensures { walk.new ≡ walked walk.old index found }
+{
+    match Spte::from_word(found).kind(walk.level) {
+        SpteKind::Table(page) => go_down(walk, page as u64, index, found),
+        _ => {
+            walk.index = index;
+            walk.entry = found;
+        }
+    }
+}
+
+// The entry at an index was to be exchanged: where that was won, the walk goes
+// down if the new one is a link.
+fn swap_entry(at: &mut TableWalk, won: bool, index: u64, new: u64, found: u64)
+    requires room { at.old.prefix < 2 ^ 36 }
+    requires index { index < 512 }
+    ensures { at.new ≡ swapped won at.old index new found }
+{
+    if won {
+        walk(at, index, new);
+    } else {
+        at.index = index;
+        at.entry = found;
+    }
+}
+
+// Who owns a page that it has linked owns it no more.
+fn keep_owned(owned: &mut Option<OwnedPage>, at: &TableWalk, won: bool, new: u64)
+    ensures { owned.new ≡ still_owned won at.now new owned.old }
+{
+    if won && let SpteKind::Table(_) = Spte::from_word(new).kind(at.level) {
+        *owned = None;
+    }
+}
+
+// Where in its page a word of the pool stands.
+fn index_in_page(sizes: &Sizes, word: u32) -> u64
+    requires { AreSizes sizes.now }
+    ensures is { result ≡ index_in_page sizes.now word }
+    ensures below { result < 512 }
+{
+    word.saturating_sub(map_of(sizes).word_of(Area::Pool, 0)) as u64 % 512
+}
+
+// An entry was loaded, where the walk has come to a table.
+fn load_entry(sizes: &Sizes, kind: Kind, topics: &mut Topics, found: u64)
+    requires sizes { AreSizes sizes.now }
+    requires named { kind_named kind.code ≡ Walk }
+    requires room { HasRoom Walk topics.old }
+    ensures { topics.new ≡ topics_after sizes.now kind topics.old found }
+{
+    if topics.walk.level >= 1 {
+        walk(&mut topics.walk, index_in_page(sizes, kind.word), found);
+    }
+}
+
+// An entry was exchanged, where the walk has come to a table.
+fn exchange_entry(sizes: &Sizes, kind: Kind, topics: &mut Topics, found: u64)
+    requires sizes { AreSizes sizes.now }
+    requires named { kind_named kind.code ≡ Swap }
+    requires room { HasRoom Swap topics.old }
+    ensures { topics.new ≡ topics_after sizes.now kind topics.old found }
+{
+    if topics.walk.level >= 1 {
+        let won = found == kind.old;
+        keep_owned(&mut topics.owned, &topics.walk, won, kind.new);
+        let index = index_in_page(sizes, kind.word);
+        swap_entry(&mut topics.walk, won, index, kind.new, found);
+    }
+}
+
+/// A search goes on to its next word.
+pub fn search(search: &mut SlotSearch, found: u64)
+    requires { search.old.id ≤ 31 }
+    ensures { search.new ≡ searched search.old found }
+{
+    match search.next {
+        SlotField::Flags => {
+            let flags = SlotFlags::from_word(found);
+            search.slot.read_only = flags.is_read_only();
+            search.logged = flags.is_logged();
+            search.whole = false;
+            if flags.is_live() {
+                search.next = SlotField::Base;
+            } else {
+                search.id += 1;
+            }
+        }
+        SlotField::Base => {
+            search.slot.base = found;
+            search.next = SlotField::Pages;
+        }
+        SlotField::Pages => {
+            search.slot.pages = found;
+            search.next = SlotField::Host;
+        }
+        SlotField::Host => {
+            search.slot.host = found;
+            search.next = SlotField::Flags;
+            search.id += 1;
+            search.whole = true;
+        }
+    }
+}
+
+// The claim is won where the bit that it tried was still there.
+fn claim(claim: &mut MapClaim, found: u64) -> Option<OwnedPage>
+    requires seen { 0 < claim.old.seen }
+    requires at { claim.old.at < 2 ^ 32 }
+    ensures owned { result ≡ claimed claim.old found }
+    ensures claim { claim.new ≡ tried claim.old found }
+{
+    let bit = claim.seen.trailing_zeros();
+    if (found >> bit) % 2 == 1 {
+        let page = 64 * claim.at + bit as u64;
+        *claim = MapClaim { at: 0, seen: 0 };
+        Some(OwnedPage {
+            page,
+            filled: 0,
+            absent: true,
+            role: 0,
+        })
+    } else {
+        claim.seen = found;
+        None
+    }
+}
+
+// One more word of an owned page is filled.
+fn fill(owned: &mut Option<OwnedPage>, found: u64)
+    requires { (o : OwnedPage) → owned.old ≡ Some o → o.filled < 513 }
+    ensures { owned.new ≡ filled_more owned.old found }
+{
+    if let Some(page) = owned {
+        page.absent = page.absent && (page.filled >= 512 || found == 0);
+        if page.filled == 512 {
+            page.role = found;
+        }
+        page.filled += 1;
+    }
+}
+
+// A slot set was published in place of the one in this page.
+fn publish(topics: &mut Topics, page: u64)
+    ensures { topics.new ≡ published topics.old page }
+{
+    topics.search.set = None;
+    topics.search.whole = false;
+    topics.owned = None;
+    topics.leaving = Some(page);
+    topics.watched = 0;
+}
+
+// How far the check has come behind the load of a word of the invalidations.
+fn checked_after(word: u32, hold: Hold, invalidations: &Invalidations) -> Checked
+    ensures { result ≡ checked_after word hold invalidations.now }
+{
+    match (word, invalidations.checked) {
+        (3, _) if hold == Hold::Shared || hold == Hold::Exclusive => Checked::Count,
+        (4, Checked::Count) => Checked::Start,
+        (5, Checked::Start) => Checked::Range,
+        (2, Checked::Count) if invalidations.count == 0 => Checked::All,
+        (2, Checked::Range) => Checked::All,
+        (2..=5, _) => Checked::Nothing,
+        _ => invalidations.checked,
+    }
+}
+
+// A word of the invalidations was loaded.
+fn note(word: u32, hold: Hold, invalidations: &mut Invalidations, found: u64)
+    ensures { invalidations.new ≡ noted word hold invalidations.old found }
+{
+    invalidations.checked = checked_after(word, hold, invalidations);
+    match word {
+        2 => {
+            if hold == Hold::Loose {
+                invalidations.snapshot = Some(found);
+            } else {
+                invalidations.seq = found;
+            }
+        }
+        3 => invalidations.count = found,
+        4 => invalidations.start = found,
+        5 => invalidations.end = found,
+        _ => {}
+    }
+}
+
+// A word of the pool's map was loaded.
+fn look_at_map(sizes: &Sizes, word: u32, claim: &mut MapClaim, found: u64)
+    requires { AreSizes sizes.now }
+    ensures { claim.new ≡ at_word sizes.now word claim.old found }
+{
+    let map = map_of(sizes);
+    let begins = map.word_of(Area::PoolMap, 0);
+    let ends = map.word_of(Area::FrameMap, 0);
+    if word >= begins && word < ends {
+        claim.at = (word - begins) as u64 + if found == 0 { 1 } else { 0 };
+        claim.seen = found;
+    }
+}
+
+// The load takes the snapshot of a look-up.
+fn takes_snapshot(word: u32, hold: Hold) -> bool
+    ensures { result ≡ takes_snapshot word hold }
+{
+    word == 2 && hold == Hold::Loose
+}
+
+// A word of the machine's control was loaded.
+fn control(sizes: &Sizes, word: u32, topics: &mut Topics, found: u64)
+    requires { AreSizes sizes.now }
+    ensures { topics.new ≡ controlled sizes.now word topics.old found }
+{
+    if takes_snapshot(word, topics.hold) {
+        topics.search.set = None;
+        topics.search.whole = false;
+        topics.host = None;
+    }
+    if word == 0 {
+        topics.walk.level = if may_walk(topics.stay, topics.hold) {
+            4
+        } else {
+            0
+        };
+        topics.walk.prefix = 0;
+        topics.walk.root = found;
+        topics.walk.index = 512;
+    }
+    if word == 1 {
+        let held = may_search(topics.stay, topics.hold);
+        topics.search.set = if held { Some(found) } else { None };
+        topics.search.id = 0;
+        topics.search.next = SlotField::Flags;
+        topics.search.whole = false;
+    }
+    if word == 7 {
+        topics.pause = found;
+    }
+    note(word, topics.hold, &mut topics.invalidations, found);
+    look_at_map(sizes, word, &mut topics.claim, found);
+}
+
+/// What the actor holds after a step, which answered `found`.
+#[tactic(auto, unfolding(crate::specs::TopicSteps::topics_after))]
+pub fn step_topics(sizes: &Sizes, kind: Kind, topics: &mut Topics, found: u64)
+    requires sizes { AreSizes sizes.now }
+    requires room { HasRoom (kind_named kind.code) topics.old }
+    ensures { topics.new ≡ topics_after sizes.now kind topics.old found }
+{
+    match kind.named() {
+        StepKind::Enter => go(topics, Stay::Guest),
+        StepKind::Leave | StepKind::End => go(topics, Stay::Outside),
+        StepKind::Begin => go(topics, Stay::Section),
+        StepKind::Walk => load_entry(sizes, kind, topics, found),
+        StepKind::Swap => exchange_entry(sizes, kind, topics, found),
+        StepKind::Control => control(sizes, kind.word, topics, found),
+        StepKind::Slot => {
+            if topics.search.set.is_some() {
+                search(&mut topics.search, found);
+            }
+        }
+        StepKind::Host => {
+            let begins = map_of(sizes).word_of(Area::Host, 0);
+            topics.host = Some(HostLook {
+                page: kind.word.saturating_sub(begins) as u64,
+                word: found,
+            });
+        }
+        StepKind::Share => {
+            topics.invalidations.checked = Checked::Nothing;
+            topics.hold = if found >= WRITER {
+                Hold::Owing(found)
+            } else {
+                Hold::Shared
+            };
+        }
+        StepKind::Unshare | StepKind::Release => let_go(topics),
+        StepKind::Exclude => {
+            topics.invalidations.checked = Checked::Nothing;
+            if found == 0 {
+                topics.hold = Hold::Exclusive;
+            }
+        }
+        StepKind::Claim => topics.owned = claim(&mut topics.claim, found),
+        StepKind::Fill => fill(&mut topics.owned, found),
+        StepKind::Give => {
+            if topics.owned.is_none() {
+                topics.leaving = None;
+            }
+            topics.owned = None;
+        }
+        StepKind::Publish => publish(topics, found),
+        StepKind::Watch => {
+            let inside = found / 2 % 2 == 1;
+            topics.watched = kind.word.saturating_sub(8) as u64 + if inside { 0 } else { 1 };
+        }
+        StepKind::Read | StepKind::Write | StepKind::Add => {}
+    }
+}

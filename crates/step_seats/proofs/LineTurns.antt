@@ -1,0 +1,220 @@
+-- What a turn of a line answers is how its step goes: it is done where the line is answered, and has more to do where the line begins anew.
+use Rattle.std.proofs.Common.{◌≡◌, ◌≢◌, ◌⊎◌, inl, inr, ◌<◌, ℕ, length, refl, sym, subst, ap, ◌∙◌, arith}
+use Rattle.std.specs.Prelude.{Bool, true, false, ◌&&◌, not}
+use Rattle.core_views.specs.declared.place.AccessPlace.TheVariants.{Enter, Pause, Root, Walk, Touch, Leave, Fault}
+use Rattle.core_views.specs.declared.answer.Answer.{Answer}
+use Rattle.core_views.specs.declared.answer.Answer.TheVariants as answers
+use Rattle.core_views.specs.declared.hand.Seen.{Seen}
+use Rattle.core_views.specs.declared.place.Cause.{Cause}
+use Rattle.core_views.specs.declared.place.FaultEnd.{FaultEnd}
+use Rattle.core_views.specs.SlotSets.{MemorySlots}
+use Rattle.core_views.specs.declared.place.FaultEnd.TheVariants as end_of
+use Rattle.core_views.specs.declared.place.FaultNext.{FaultNext}
+use Rattle.core_views.specs.declared.place.FaultNext.TheVariants.{Goes, Ends}
+use Rattle.core_views.specs.declared.place.FaultPlace.{FaultPlace}
+use Rattle.core_views.specs.declared.place.FaultPlace.TheVariants as fault
+use Rattle.core_views.specs.declared.topics.Topics.{Topics}
+use Rattle.mmu_core.specs.declared.outcome.Outcome.{Outcome}
+use Rattle.mmu_core.specs.declared.outcome.Outcome.TheVariants as outcome
+use Rattle.mmu_core.specs.FaultSteps.{at_map_word, tries_page}
+use Rattle.mmu_core.specs.Bounds.{steps_left}
+use Rattle.mmu_core.specs.LineAlone.{hand_left, line_waits}
+use Rattle.step_seats.specs.declared.turn.Turn.{Turn}
+use Rattle.step_seats.specs.declared.turn.Turn.TheVariants.{More, Wait, Retry, Done}
+use Rattle.core_views.specs.declared.place.Place.{Place}
+use Rattle.core_views.specs.declared.place.Place.TheVariants as place
+use Rattle.core_views.specs.declared.sizes.Sizes.{Sizes}
+use Rattle.core_views.specs.declared.trace.Command.{Command}
+use Rattle.core_views.specs.declared.trace.Command.TheVariants.{Access, SetSlot}
+use Rattle.core_views.specs.declared.trace.Line.{Line}
+use Rattle.core_views.specs.declared.trace.Op.{Op}
+use Rattle.core_views.specs.Held.{Held}
+use Rattle.part_steps.specs.declared.part_step.PartStep.{PartStep}
+use Rattle.part_steps.specs.TopicSteps.{is_won}
+use Rattle.mmu_core.specs.AccessSteps.{behind_fault}
+use Rattle.mmu_core.specs.MayMake.{MayMake}
+use Rattle.part_steps.specs.PartSteps.{part_kind}
+use Rattle.mmu_core.specs.Steps.{outcome_at, place_at, standing}
+use Rattle.mmu_core.specs.Outcomes.{place_after}
+use Rattle.mmu_core.specs.Turns.{Comes, IsAnswered, IsSameHand, line_of, outcome_of}
+use Rattle.mmu_core.proofs.HandAfter.{next_comes, next_same}
+use Rattle.mmu_core.proofs.Which.{has_line_is, next_of_line}
+use Rattle.step_seats.specs.PartTurns.{MadePart, Told}
+use Rattle.step_seats.specs.LineTurns.{Gives, MakesLine, Says, TurnsLine, fault_turn, line_seen, line_turn, turn_of}
+use Rattle.mmu_core.specs.SetSlotSteps.{claim_outcome, set_slot_outcome, set_slot_waits}
+use Rattle.core_views.specs.declared.place.SetSlotPlace.{SetSlotPlace}
+use Rattle.core_views.specs.declared.place.SetSlotPlace.TheVariants as set_slot
+use Rattle.core_views.specs.declared.topics.MapClaim.{MapClaim}
+
+-- A part's step is the line's.
+unfoldable pub made_line : (step : PartStep) (note found actor : ℕ) (h g : Held) (told tells : Told) → MayMake step note h → MadePart step note found actor h g told tells → MakesLine actor h g told tells
+made_line step note found actor h g told tells may made = record { kind = part_kind h step note; found = found; enabled = may.enabled; hand = made.hand; world = made.world; steps = made.steps }
+
+-- A line's turn is done where its line is answered, and goes on where it isn't.
+pub record EndsSo (turn : Turn Answer) (waits : Bool) (o : Outcome) : Type 0 where
+  pub answer : Answer
+  pub done : turn ≡ Done answer
+  pub free : waits ≡ false
+  pub is : o ≡ outcome.Ends answer
+
+pub record GoesSo (turn : Turn Answer) (o : Outcome) : Type 0 where
+  pub place : Place
+  pub more : (answer : Answer) → turn ≢ Done answer
+  pub is : o ≡ outcome.Goes place
+
+plain_case : (o : Outcome) (waits : Bool) → ((answer : Answer) → o ≡ outcome.Ends answer → waits ≡ false) → EndsSo (turn_of o) waits o ⊎ GoesSo (turn_of o) o
+plain_case (outcome.Goes q) waits free = inr (record { place = q; more = λ answer e. absurd (cc e); is = refl })
+plain_case (outcome.Ends answer) waits free = inl (record { answer = answer; done = refl; free = free answer refl; is = refl })
+
+-- A slot setting that is answered doesn't wait.
+claim_free : (tries won : Bool) (z : Sizes) (claim : MapClaim) (v : ℕ) (answer : Answer) → claim_outcome tries z claim v ≡ outcome.Ends answer → (tries && not won) ≡ false
+claim_free true won z claim v answer e = absurd (cc e)
+claim_free false won z claim v answer e = refl
+
+pub setting_free : (p : SetSlotPlace) (h : Held) (v : ℕ) (answer : Answer) → set_slot_outcome p h v ≡ outcome.Ends answer → set_slot_waits p h.topics v ≡ false
+setting_free (set_slot.Claim begun) h v answer e = claim_free (tries_page begun h.topics.claim) (is_won h.topics.claim v) h.state.sizes (at_map_word begun h.topics.claim) v answer e
+setting_free (set_slot.Refuse refusal) h v answer e = refl
+setting_free set_slot.Give h v answer e = refl
+setting_free p h v answer e = absurd (cc e)
+
+over_case : (e : FaultEnd) → EndsSo (fault_turn (Ends e)) false (behind_fault (Ends e)) ⊎ GoesSo (fault_turn (Ends e)) (behind_fault (Ends e))
+over_case end_of.Installed = inr (record { place = place.Access (Enter true); more = λ answer e. absurd (cc e); is = refl })
+over_case end_of.Mmio = inl (record { answer = answers.Mmio; done = refl; free = refl; is = refl })
+over_case end_of.HostFault = inl (record { answer = answers.HostFault; done = refl; free = refl; is = refl })
+over_case end_of.Starved = inl (record { answer = answers.Starved; done = refl; free = refl; is = refl })
+over_case (end_of.Retry cause) = inr (record { place = place.Access (Enter false); more = λ answer e. absurd (cc e); is = refl })
+
+going : (n : FaultNext) (q : FaultPlace) → n ≡ Goes q → GoesSo (fault_turn n) (behind_fault n)
+going n q is = record { place = place.Access (Fault q); more = λ answer e. absurd (cc (ap fault_turn is, e)); is = ap behind_fault is }
+
+fault_case : (p : FaultPlace) (gfn word : ℕ) (op : Op) (h : Held) (v : ℕ)
+    → EndsSo (line_turn (place.Access (Fault p)) (Access gfn word op) h v) (line_waits (place.Access (Fault p)) h.topics v) (outcome_at (place.Access (Fault p)) (Access gfn word op) h v)
+    ⊎ GoesSo (line_turn (place.Access (Fault p)) (Access gfn word op) h v) (outcome_at (place.Access (Fault p)) (Access gfn word op) h v)
+fault_case (fault.End e) gfn word op h v = over_case e
+fault_case fault.Begin gfn word op h v = inr (going _ _ refl)
+fault_case fault.Snapshot gfn word op h v = inr (going _ _ refl)
+fault_case (fault.Find begun) gfn word op h v = inr (going _ _ refl)
+fault_case fault.Host gfn word op h v = inr (going _ _ refl)
+fault_case fault.Share gfn word op h v = inr (going _ _ refl)
+fault_case (fault.Check at) gfn word op h v = inr (going _ _ refl)
+fault_case (fault.Walk rooted) gfn word op h v = inr (going _ _ refl)
+fault_case (fault.Claim begun) gfn word op h v = inr (going _ _ refl)
+fault_case fault.Fill gfn word op h v = inr (going _ _ refl)
+fault_case fault.Link gfn word op h v = inr (going _ _ refl)
+fault_case (fault.Give e) gfn word op h v = inr (going _ _ refl)
+fault_case fault.Leaf gfn word op h v = inr (going _ _ refl)
+fault_case (fault.Unshare e) gfn word op h v = inr (going _ _ refl)
+
+pub line_case : (p : Place) (c : Command) (h : Held) (v : ℕ) → EndsSo (line_turn p c h v) (line_waits p h.topics v) (outcome_at p c h v) ⊎ GoesSo (line_turn p c h v) (outcome_at p c h v)
+line_case place.Between c h v = plain_case _ false (λ answer e. refl)
+line_case (place.SetSlot p) (Access gfn word op) h v = plain_case (outcome.Goes (place.SetSlot p)) (set_slot_waits p h.topics v) (λ answer e. absurd (cc e))
+line_case (place.SetSlot p) (SetSlot id slot) h v = plain_case (set_slot_outcome p h v) (set_slot_waits p h.topics v) (setting_free p h v)
+line_case (place.Access (Fault p)) (Access gfn word op) h v = fault_case p gfn word op h v
+line_case (place.Access (Fault p)) (SetSlot id slot) h v = inr (record { place = place.Access (Fault p); more = λ answer e. absurd (cc e); is = refl })
+line_case (place.Access (Enter again)) c h v = plain_case _ false (λ answer e. refl)
+line_case (place.Access (Pause again)) c h v = plain_case _ false (λ answer e. refl)
+line_case (place.Access (Root again)) c h v = plain_case _ false (λ answer e. refl)
+line_case (place.Access (Walk again)) c h v = plain_case _ false (λ answer e. refl)
+line_case (place.Access Touch) c h v = plain_case _ false (λ answer e. refl)
+line_case (place.Access (Leave how)) c h v = plain_case _ false (λ answer e. refl)
+
+-- What is said of the line follows from its turn.
+pub says_line : (turn : Turn Answer) (waits : Bool) (way : Seen) (t : Turn Answer) (o : Outcome) (line : Line) (h g : Held) → Gives turn waits way t → EndsSo t waits o ⊎ GoesSo t o → Comes o line h g → Says turn line h g
+says_line (Wait seen) waits way t o line h g gives (inl E) comes = let free = E.free in let waited = gives.0 in absurd (cc (waited, free))
+says_line (Wait seen) waits way t o line h g gives (inr G) comes = subst (λ (x : Outcome). Comes x line h g) G.is comes
+says_line More waits way t o line h g gives (inl E) comes = let done = E.done in let same = gives.1 in absurd (cc (same, done))
+says_line More waits way t o line h g gives (inr G) comes = subst (λ (x : Outcome). Comes x line h g) G.is comes
+says_line (Retry cause) waits way t o line h g gives (inl E) comes = let done = E.done in let same = gives.1 in absurd (cc (same, done))
+says_line (Retry cause) waits way t o line h g gives (inr G) comes = subst (λ (x : Outcome). Comes x line h g) G.is comes
+says_line (Done answer) waits way t o line h g gives (inl E) comes = let done = E.done in let same = gives.1 in let is : E.answer ≡ answer = cc (same, done) in subst (λ (x : Answer). IsAnswered line x h g) is (subst (λ (x : Outcome). Comes x line h g) E.is comes)
+says_line (Done answer) waits way t o line h g gives (inr G) comes = absurd (G.more answer (sym gives.1))
+
+pub turns_say : (turn : Turn Answer) (actor : ℕ) (h g : Held) (told tells : Told) → length h.answers < length h.lines → TurnsLine turn actor h g told tells → Says turn (line_of h) h g
+turns_say turn actor h g told tells left T =
+    let v : ℕ = T.makes.found in
+    says_line turn (line_waits (place_at h.state.place h) h.topics v) (line_seen (place_at h.state.place h) (line_of h).command h v) (line_turn (place_at h.state.place h) (line_of h).command h v) (outcome_of h v) (line_of h) h g T.gives (line_case (place_at h.state.place h) (line_of h).command h v)
+    (subst (λ (x : Held). Comes (outcome_of h v) (line_of h) h x) (sym T.makes.hand) (next_comes h T.makes.kind v left))
+
+pub turns_same : (turn : Turn Answer) (actor : ℕ) (h g : Held) (told tells : Told) → TurnsLine turn actor h g told tells → IsSameHand h g
+turns_same turn actor h g told tells T = subst (λ (x : Held). IsSameHand h x) (sym T.makes.hand) (next_same h T.makes.kind T.makes.found)
+
+-- A turn that says More leaves its line under way, and one that is done ends it with this answer.
+pub more_goes : (actor : ℕ) (h g : Held) (told tells : Told) (T : TurnsLine More actor h g told tells) → (q : Place) × (outcome_of h T.makes.found ≡ outcome.Goes q)
+more_goes actor h g told tells T = by (line_case (place_at h.state.place h) (line_of h).command h T.makes.found)
+  where
+    by : EndsSo (line_turn (place_at h.state.place h) (line_of h).command h T.makes.found) (line_waits (place_at h.state.place h) h.topics T.makes.found) (outcome_of h T.makes.found)
+        ⊎ GoesSo (line_turn (place_at h.state.place h) (line_of h).command h T.makes.found) (outcome_of h T.makes.found) → (q : Place) × (outcome_of h T.makes.found ≡ outcome.Goes q)
+    by (inl E) = let done = E.done in let same = T.gives.1 in absurd (cc (same, done))
+    by (inr G) = (G.place, G.is)
+
+pub done_ends : (answer : Answer) (actor : ℕ) (h g : Held) (told tells : Told) (T : TurnsLine (Done answer) actor h g told tells) → outcome_of h T.makes.found ≡ outcome.Ends answer
+done_ends answer actor h g told tells T = by (line_case (place_at h.state.place h) (line_of h).command h T.makes.found)
+  where
+    by : EndsSo (line_turn (place_at h.state.place h) (line_of h).command h T.makes.found) (line_waits (place_at h.state.place h) h.topics T.makes.found) (outcome_of h T.makes.found)
+        ⊎ GoesSo (line_turn (place_at h.state.place h) (line_of h).command h T.makes.found) (outcome_of h T.makes.found) → outcome_of h T.makes.found ≡ outcome.Ends answer
+    by (inl E) = let done = E.done in let same = T.gives.1 in let is : E.answer ≡ answer = cc (same, done) in E.is ∙ ap (λ (x : Answer). outcome.Ends x) is
+    by (inr G) = absurd (G.more answer (sym T.gives.1))
+
+-- Only the end of a fault's section begins an access anew, outside the guest.
+record BeginsAnew (p : Place) (o : Outcome) : Type 0 where
+  end : FaultEnd
+  at : p ≡ place.Access (Fault (fault.End end))
+  is : o ≡ outcome.Goes (place.Access (Enter false))
+
+over_anew : (e : FaultEnd) (cause : Cause) → fault_turn (Ends e) ≡ Retry cause → BeginsAnew (place.Access (Fault (fault.End e))) (behind_fault (Ends e))
+over_anew end_of.Installed cause is = absurd (cc is)
+over_anew end_of.Mmio cause is = absurd (cc is)
+over_anew end_of.HostFault cause is = absurd (cc is)
+over_anew end_of.Starved cause is = absurd (cc is)
+over_anew (end_of.Retry why) cause is = record { end = end_of.Retry why; at = refl; is = refl }
+
+plain_anew : (p : Place) (o : Outcome) (cause : Cause) → turn_of o ≡ Retry cause → BeginsAnew p o
+plain_anew p (outcome.Goes q) cause is = absurd (cc is)
+plain_anew p (outcome.Ends answer) cause is = absurd (cc is)
+
+fault_anew : (p : FaultPlace) (gfn word : ℕ) (op : Op) (h : Held) (v : ℕ) (cause : Cause) → line_turn (place.Access (Fault p)) (Access gfn word op) h v ≡ Retry cause → BeginsAnew (place.Access (Fault p)) (outcome_at (place.Access (Fault p)) (Access gfn word op) h v)
+fault_anew (fault.End e) gfn word op h v cause is = over_anew e cause is
+fault_anew fault.Begin gfn word op h v cause is = absurd (cc is)
+fault_anew fault.Snapshot gfn word op h v cause is = absurd (cc is)
+fault_anew (fault.Find begun) gfn word op h v cause is = absurd (cc is)
+fault_anew fault.Host gfn word op h v cause is = absurd (cc is)
+fault_anew fault.Share gfn word op h v cause is = absurd (cc is)
+fault_anew (fault.Check at) gfn word op h v cause is = absurd (cc is)
+fault_anew (fault.Walk rooted) gfn word op h v cause is = absurd (cc is)
+fault_anew (fault.Claim begun) gfn word op h v cause is = absurd (cc is)
+fault_anew fault.Fill gfn word op h v cause is = absurd (cc is)
+fault_anew fault.Link gfn word op h v cause is = absurd (cc is)
+fault_anew (fault.Give e) gfn word op h v cause is = absurd (cc is)
+fault_anew fault.Leaf gfn word op h v cause is = absurd (cc is)
+fault_anew (fault.Unshare e) gfn word op h v cause is = absurd (cc is)
+
+anew : (p : Place) (c : Command) (h : Held) (v : ℕ) (cause : Cause) → line_turn p c h v ≡ Retry cause → BeginsAnew p (outcome_at p c h v)
+anew place.Between c h v cause is = plain_anew _ _ cause is
+anew (place.SetSlot p) c h v cause is = plain_anew _ _ cause is
+anew (place.Access (Fault p)) (Access gfn word op) h v cause is = fault_anew p gfn word op h v cause is
+anew (place.Access (Fault p)) (SetSlot id slot) h v cause is = absurd (cc is)
+anew (place.Access (Enter again)) c h v cause is = plain_anew _ _ cause is
+anew (place.Access (Pause again)) c h v cause is = plain_anew _ _ cause is
+anew (place.Access (Root again)) c h v cause is = plain_anew _ _ cause is
+anew (place.Access (Walk again)) c h v cause is = plain_anew _ _ cause is
+anew (place.Access Touch) c h v cause is = plain_anew _ _ cause is
+anew (place.Access (Leave how)) c h v cause is = plain_anew _ _ cause is
+
+pub retry_goes : (cause : Cause) (actor : ℕ) (h g : Held) (told tells : Told) (T : TurnsLine (Retry cause) actor h g told tells) → (q : Place) × (outcome_of h T.makes.found ≡ outcome.Goes q)
+retry_goes cause actor h g told tells T = (place.Access (Enter false), (anew (place_at h.state.place h) (line_of h).command h T.makes.found cause (sym T.gives.1)).is)
+
+-- Where it begins anew it has more steps left than before.
+at_end : (q : Place) (z : Sizes) (slots : MemorySlots) (c : Command) (e : FaultEnd) (t : Topics) → standing q z slots c ≡ place.Access (Fault (fault.End e)) → steps_left q z t ≡ 10
+at_end place.Between z slots (Access gfn word op) e t is = absurd (cc is)
+at_end place.Between z slots (SetSlot id slot) e t is = absurd (cc is)
+at_end (place.Access p) z slots c e t is = ap (λ (q : Place). steps_left q z t) is
+at_end (place.SetSlot p) z slots c e t is = absurd (cc is)
+
+pub retry_has_more : (cause : Cause) (actor : ℕ) (h g : Held) (told tells : Told) → length h.answers < length h.lines → TurnsLine (Retry cause) actor h g told tells → hand_left h < hand_left g
+retry_has_more cause actor h g told tells left T =
+    let v : ℕ = T.makes.found in
+    let B = anew (place_at h.state.place h) (line_of h).command h v cause (sym T.gives.1) in
+    let few : hand_left h ≡ 10 = at_end h.state.place h.state.sizes h.slots (line_of h).command B.end h.topics B.at in
+    let at : g.state.place ≡ place.Access (Enter false) = ap (λ (x : Held). x.state.place) (T.makes.hand ∙ next_of_line h T.makes.kind v (has_line_is h left)) ∙ ap place_after B.is in
+    let many : hand_left g ≡ steps_left (place.Access (Enter false)) g.state.sizes g.topics = ap (λ (q : Place). steps_left q g.state.sizes g.topics) at in
+    omega (arith, few, many)

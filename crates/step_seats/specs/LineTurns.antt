@@ -1,0 +1,78 @@
+-- What one turn of a line's job is: the line's next step, and what the turn answers of it.
+use Rattle.std.specs.Prelude.{◌≡◌, ℕ, Bool, true, false}
+use Rattle.core_views.specs.declared.answer.Answer.{Answer}
+use Rattle.core_views.specs.declared.hand.Seen.{Seen}
+use Rattle.core_views.specs.declared.kind.Kind.{Kind}
+use Rattle.core_views.specs.declared.place.AccessPlace.TheVariants.{Fault}
+use Rattle.core_views.specs.declared.place.FaultEnd.TheVariants as end_of
+use Rattle.core_views.specs.declared.place.FaultNext.{FaultNext}
+use Rattle.core_views.specs.declared.place.FaultNext.TheVariants as next_of
+use Rattle.core_views.specs.declared.place.Place.{Place}
+use Rattle.core_views.specs.declared.place.Place.TheVariants as place
+use Rattle.core_views.specs.declared.trace.Command.{Command}
+use Rattle.core_views.specs.declared.trace.Command.TheVariants.{Access, SetSlot}
+use Rattle.core_views.specs.declared.trace.Line.{Line}
+use Rattle.core_views.specs.Held.{Held}
+use Rattle.core_views.specs.Slots.{is_write}
+use Rattle.mmu_core.specs.declared.outcome.Outcome.{Outcome}
+use Rattle.mmu_core.specs.declared.outcome.Outcome.TheVariants.{Goes, Ends}
+use Rattle.mmu_core.specs.AccessSteps.{access_note, behind_fault}
+use Rattle.mmu_core.specs.Enabled.{Enabled}
+use Rattle.mmu_core.specs.FaultSteps.{fault_next, wait_seen}
+use Rattle.mmu_core.specs.LineAlone.{line_waits}
+use Rattle.mmu_core.specs.SetSlotSteps.{set_slot_seen}
+use Rattle.mmu_core.specs.Steps.{next, outcome_at, place_at}
+use Rattle.mmu_core.specs.Turns.{GoesOn, IsAnswered, line_of}
+use Rattle.step_seats.specs.Moves.{Adds, Tells}
+use Rattle.step_seats.specs.PartTurns.{Told}
+use Rattle.step_seats.specs.declared.turn.Turn.{Turn}
+use Rattle.step_seats.specs.declared.turn.Turn.TheVariants.{More, Wait, Retry, Done}
+
+-- what a turn answers, by where the line stands behind its step
+abbrev pub turn_of : Outcome → Turn Answer
+turn_of (Goes place) = More
+turn_of (Ends answer) = Done answer
+
+-- a fault that begins anew says why
+abbrev pub or_anew : FaultNext → Turn Answer → Turn Answer
+or_anew (next_of.Ends (end_of.Retry cause)) turn = Retry cause
+or_anew _ turn = turn
+
+-- what the turn of an access's fault answers, by what is next behind its step
+abbrev pub fault_turn : FaultNext → Turn Answer
+fault_turn next = or_anew next (turn_of (behind_fault next))
+
+-- what the turn of a line at this place answers of a step that found v, where no other actor is in its way
+abbrev pub line_turn : Place → Command → Held → ℕ → Turn Answer
+line_turn (place.Access (Fault p)) (Access gfn word op) h v = fault_turn (fault_next p h.state.sizes gfn (is_write op) h.topics v)
+line_turn p command h v = turn_of (outcome_at p command h v)
+
+-- what it has seen where one is: the word that its step is on, with what is in the way
+abbrev pub line_seen : Place → Command → Held → ℕ → Seen
+line_seen (place.Access (Fault p)) (Access gfn word op) h v = wait_seen p h gfn (access_note (Fault p)) v
+line_seen (place.SetSlot p) (SetSlot id slot) h v = set_slot_seen p h id slot v
+line_seen p command h v = record { word = 0; value = 0 }
+
+-- The turn waits exactly where its step waits for another actor, and says what it has seen; where it doesn't wait it answers so.
+abbrev pub Gives : Turn Answer → Bool → Seen → Turn Answer → Type 0
+Gives (Wait seen) waits way t = (waits ≡ true) × (seen ≡ way)
+Gives turn waits way t = (waits ≡ false) × (turn ≡ t)
+
+-- One step that the hand allows takes the actor's hand, and what its seat tells, to the next, and this was found.
+pub record MakesLine (actor : ℕ) (before after : Held) (told tells : Told) : Type 0 where
+  pub kind : Kind
+  pub found : ℕ
+  pub enabled : Enabled before kind
+  pub hand : after ≡ next before kind found
+  pub world : Tells told.world actor kind found tells.world
+  pub steps : Adds told.steps actor kind tells.steps
+
+-- The line's next step was made, and the turn answers by it.
+pub record TurnsLine (turn : Turn Answer) (actor : ℕ) (before after : Held) (told tells : Told) : Type 0 where
+  pub makes : MakesLine actor before after told tells
+  pub gives : Gives turn (line_waits (place_at before.state.place before) before.topics makes.found) (line_seen (place_at before.state.place before) (line_of before).command before makes.found) (line_turn (place_at before.state.place before) (line_of before).command before makes.found)
+
+-- what a turn says of its line, and of the hand before and after it
+abbrev pub Says : Turn Answer → Line → Held → Held → Type 0
+Says (Done answer) line before after = IsAnswered line answer before after
+Says _ line before after = GoesOn line before after

@@ -1,0 +1,137 @@
+-- Each delay below `go` is one of a line that stands there: so all delays are those of these lines together.
+use Rattle.std.proofs.Common.{◌≡◌, ◌⊎◌, inl, inr, ◌+◌, ◌*◌, ◌-◌, ◌<◌, ◌≤◌, ℕ, List, [], ◌∷◌, ◌++◌, get_or, length, length-append, refl, sym, subst, ap, ◌∙◌, arith}
+use Rattle.std.proofs.lemmas.Bool.{cases_Bool}
+use Rattle.std.proofs.lemmas.Bool.Decides.{nat_tests}
+use Rattle.std.proofs.lemmas.List.{get_or-append_right}
+use Rattle.std.proofs.lemmas.List.Elements.{All-contains, All-contains_itself, All-filter, Contains-get_or, filter-append}
+use Rattle.std.proofs.lemmas.List.Sums.{get_or-le-sum_by, sum_by-cons}
+use Rattle.std.proofs.lemmas.Option.{slice_get-get_or}
+use Rattle.std.specs.List.{Contains, sum_by}
+use Rattle.std.specs.Prelude.{Bool, true, false, ◌&&◌, ◌==◌, unwrap_or}
+use Rattle.std.specs.declared.option.Option.{Option}
+use Rattle.core_views.specs.declared.answer.AnsweredLine.{AnsweredLine}
+use Rattle.core_views.specs.declared.kind.Kind.{Kind}
+use Rattle.core_views.specs.declared.place.Place.{Place}
+use Rattle.core_views.specs.declared.place.Place.TheVariants as place
+use Rattle.core_views.specs.declared.sizes.Sizes.{Sizes}
+use Rattle.core_views.specs.declared.trace.Line.{Line}
+use Rattle.core_views.specs.Actors.{is_same}
+use Rattle.core_views.specs.Flat.{no_line}
+use Rattle.core_views.specs.Held.{Held}
+use Rattle.core_views.specs.Sizes.{actor_at, actors_of}
+use Rattle.core_views.specs.Whole.{lines_of}
+use Rattle.mmu_core.specs.Enabled.{mmu}
+use Rattle.mmu_core.specs.Invariant.{UnderWay}
+use Rattle.mmu_core.specs.Laws.{IsSound}
+use Rattle.mmu_core.specs.Machine.{Legal, May, Step, World, answered, effect, hand_in}
+use Rattle.mmu_core.specs.Steps.{has_line, line_at, next_line}
+use Rattle.mmu_core.specs.Sums.{one_if}
+use Rattle.mmu_core.specs.Turns.{line_of}
+use Rattle.mmu_core.proofs.EveryAnswer.{run_follows}
+use Rattle.mmu_core.proofs.Worlds.{good_step}
+use Rattle.core_theorem.specs.Turns.{delays_line, hand_delays, how_many}
+use Rattle.weave_engine.specs.Beside.{delays_of, is_numbered}
+
+-- ---- sums over lines
+
+sum_plus : (f g : Line → ℕ) (xs : List Line) → sum_by (λ x. f x + g x) xs ≡ sum_by f xs + sum_by g xs
+sum_plus f g [] = refl
+sum_plus f g (x ∷ xs) = let a = sum_by-cons (λ y. f y + g y) x xs in let b = sum_by-cons f x xs in let c = sum_by-cons g x xs in omega (arith, a, b, c, sum_plus f g xs)
+
+-- A bound for each line once, and for each of its delays.
+pub sum_bound : (most : ℕ) (f : Line → ℕ) (xs : List Line) → sum_by (λ x. most * (f x + 1)) xs ≡ most * (sum_by f xs + length xs)
+sum_bound most f [] = omega arith
+sum_bound most f (x ∷ xs) =
+    let a = sum_by-cons (λ y. most * (f y + 1)) x xs in
+    let b = sum_by-cons f x xs in
+    let c : most * ((f x + sum_by f xs) + (length xs + 1)) ≡ most * (f x + 1) + most * (sum_by f xs + length xs) = omega arith in
+    a ∙ ap (λ n. most * (f x + 1) + n) (sum_bound most f xs) ∙ sym c ∙ ap (λ n. most * n) (omega (arith, b))
+
+contained_few : (f : Line → ℕ) (xs : List Line) (x : Line) → Contains xs x → f x ≤ sum_by f xs
+contained_few f xs x (k, lt, is) = subst (λ y. f y ≤ sum_by f xs) is (get_or-le-sum_by f xs k x lt)
+
+-- ---- the line of a step
+
+line_is : (p : Place) (h : Held) → UnderWay p h → line_at p h ≡ next_line h
+line_is place.Between h under = refl
+line_is (place.Access p) h under = under.0
+line_is (place.SetSlot p) h under = under.0
+
+module _ (z : Sizes) (ran below : List Line) where
+  -- Each hand has answered its lines among those that ran.
+  pub record AreBelow (u : World Held) : Type 0 where
+    pub lines : (i : ℕ) → i < actors_of z → (hand_in mmu u i).lines ≡ lines_of (actor_at z i) (ran ++ below)
+    pub past : (i : ℕ) → i < actors_of z → length (lines_of (actor_at z i) ran) ≤ length (hand_in mmu u i).answers
+
+  below_more : (u : World Held) (s : Step Kind) → IsSound z u → May mmu u s → AreBelow u → AreBelow (effect mmu u s)
+  below_more u s G may B = record {
+    lines = λ i lt. (run_follows z u (s ∷ []) i G (may, tt) lt).lines ∙ B.lines i lt;
+    past = λ i lt. grown (hand_in mmu (effect mmu u s) i).answers (hand_in mmu u i).answers _ (length (lines_of (actor_at z i) ran)) (run_follows z u (s ∷ []) i G (may, tt) lt).answers (B.past i lt);
+  }
+    where
+      grown : (after before more : List AnsweredLine) (n : ℕ) → after ≡ before ++ more → n ≤ length before → n ≤ length after
+      grown after before more n are few = let a = ap (λ (xs : List AnsweredLine). length xs) are in let b = length-append before more in omega (arith, few, a, b)
+
+  -- The next line of a hand is one of these.
+  next_below : (u : World Held) (i : ℕ) → i < actors_of z → AreBelow u → length (hand_in mmu u i).answers < length (hand_in mmu u i).lines → Contains below (next_line (hand_in mmu u i))
+  next_below u i lt B left = subst (Contains below) (sym next_is) (All-contains (Contains below) own line (All-filter (λ (l : Line). is_same (actor_at z i) l.actor) (Contains below) below (All-contains_itself below)) (Contains-get_or own (n - length front) no_line within))
+    where
+      h : Held
+      h = hand_in mmu u i
+
+      n : ℕ
+      n = length h.answers
+
+      front : List Line
+      front = lines_of (actor_at z i) ran
+
+      own : List Line
+      own = lines_of (actor_at z i) below
+
+      line : Line
+      line = get_or own (n - length front) no_line
+
+      are : h.lines ≡ front ++ own
+      are = B.lines i lt ∙ filter-append (λ (l : Line). is_same (actor_at z i) l.actor) ran below
+
+      within : n - length front < length own
+      within = let a = ap (λ (xs : List Line). length xs) are in let b = length-append front own in let c = B.past i lt in omega (arith, left, a, b, c)
+
+      next_is : next_line h ≡ line
+      next_is =
+          ap (λ (o : Option Line). unwrap_or o no_line) (slice_get-get_or h.lines n no_line left) ∙ ap (λ (xs : List Line). get_or xs n no_line) are
+          ∙ get_or-append_right front own (length front) n no_line refl (B.past i lt)
+
+  one_below : (u : World Held) (s : Step Kind) → IsSound z u → May mmu u s → AreBelow u → one_if (delays_line u s) ≤ sum_by (λ line. one_if (is_numbered line.number u s && delays_line u s)) below
+  one_below u s G may B = by (cases_Bool (has_line h))
+    where
+      h : Held
+      h = hand_in mmu u s.actor
+
+      there : s.actor < actors_of z
+      there = let hands = G.hands in let at = may.there in omega (arith, at, hands)
+
+      none_few : (n m : ℕ) → n ≡ 0 → n ≤ m
+      none_few n m none = omega (arith, none)
+
+      own_number : (n : ℕ) (b : Bool) → one_if ((n == n) && b) ≡ one_if b
+      own_number n b = let e : (n == n) ≡ true = grind (arith, nat_tests) in ap (λ x. one_if (x && b)) e
+
+      of_line : length h.answers < length h.lines → one_if (delays_line u s) ≤ sum_by (λ line. one_if (is_numbered line.number u s && delays_line u s)) below
+      of_line left =
+          let is : line_of h ≡ next_line h = line_is h.state.place h (G.holds.lines s.actor there).under in
+          let few = contained_few (λ line. one_if (is_numbered line.number u s && delays_line u s)) below (line_of h) (subst (Contains below) (sym is) (next_below u s.actor there B left)) in
+          let own = own_number (line_of h).number (delays_line u s) in
+          omega (arith, few, own)
+
+      by : (has_line h ≡ true) ⊎ (has_line h ≡ false) → one_if (delays_line u s) ≤ sum_by (λ line. one_if (is_numbered line.number u s && delays_line u s)) below
+      by (inl has) = of_line (grind (arith, nat_tests))
+      by (inr no_line_) = none_few (one_if (delays_line u s)) _ (ap (λ b. one_if (b && hand_delays h (answered mmu u s.kind))) no_line_)
+
+  pub delays_below : (u : World Held) (ss : List (Step Kind)) → IsSound z u → Legal mmu u ss → AreBelow u → how_many delays_line u ss ≤ sum_by (λ line. delays_of line.number u ss) below
+  delays_below u [] G legal B = omega arith
+  delays_below u (s ∷ ss) G legal B =
+      let here = one_below u s G legal.0 B in
+      let rest = delays_below (effect mmu u s) ss (good_step z u s G legal.0) legal.1 (below_more u s G legal.0 B) in
+      let both = sum_plus (λ line. one_if (is_numbered line.number u s && delays_line u s)) (λ line. delays_of line.number (effect mmu u s) ss) below in
+      omega (arith, here, rest, both)
