@@ -22,6 +22,7 @@ use Rattle.mmu_core.proofs.TurnsNearer.{delays_wait_or_begin_anew}
 use Rattle.mmu_core.proofs.WaitCauses.{waits_are_by_cause}
 use Rattle.core_theorem.specs.Delays.{BeginsAnew, DelaysHaveCauses, FaultWaits, SettingWaits, answer_of, hand_of}
 use Rattle.core_theorem.specs.Runs.{IsRun}
+use Rattle.core_theorem.proofs.Entries.{cause_of_frame}
 use Rattle.core_theorem.proofs.Runs.{before, last_actor, may_last, reached, sound, starts_between}
 
 -- The place is the end of a section that begins anew.
@@ -89,6 +90,7 @@ module _ (z : Sizes) (lines : List Line) (w : World Held) (ss : List (Step Kind)
         access_is = A.command;
         caused =
             faults_begin_anew_by_cause z w ss s.actor A.gfn A.word A.op N.cause (start_good z lines w R.start) (before z lines w ss s R).legal (starts_between z lines w ss s R) N.is A.command;
+        of_frame = cause_of_frame z (run mmu w ss) s.actor A.gfn A.word A.op N.cause (sound z lines w ss (before z lines w ss s R)) (last_actor z lines w ss s R) N.is A.command;
       }
 
   by : (line_waits h.state.place h.topics v ≡ true) ⊎ (begins_anew h.state.place ≡ true) → BeginsAnew z w ss s ⊎ FaultWaits z w ss s ⊎ SettingWaits z w ss s

@@ -17,11 +17,11 @@ use Rattle.mmu_core.specs.TopicsInvariant.{HoldsOld}
 use Rattle.mmu_core.proofs.PoolPages.{left_not_free, left_not_owned, itself, one_owner, owned_not_free, owned_not_slots, left_not_slots, one_leaver}
 use Rattle.mmu_core.proofs.Scanned.{others_hand}
 use Rattle.mmu_core.proofs.Worlds.{good_step}
-use Rattle.core_theorem.specs.Holdings.{NoneHoldsFreePages, NoOtherHolds, OfEachHeld, PagesAreReusedAlone}
+use Rattle.core_theorem.specs.Holdings.{HeldSetsAreKnown, NoneHoldsFreePages, NoOtherHolds, WatchedHoldNoOldSet, OfEachHeld, PagesAreReusedAlone}
 use Rattle.core_theorem.specs.Pages.{Owns}
 use Rattle.core_theorem.specs.Runs.{IsRun}
 use Rattle.core_theorem.proofs.Runs.{before, last_actor, may_last, sound}
-use Rattle.core_theorem.proofs.WalksKept.{HasPath, paths_are_tables}
+use Rattle.core_theorem.proofs.WalksKept.{HasPath, path_is_table, paths_are_tables}
 use Rattle.std.proofs.lemmas.Bool.Decides.{nat_tests}
 use Rattle.part_steps.specs.PartSteps.{MayGiveOld, next_watched, own_index}
 use Rattle.mmu_core.specs.SetSlotKnows.{SetSlotKnows}
@@ -69,7 +69,7 @@ module _ (z : Sizes) (u : World Held) (G : IsSound z u) where
 
   none_free : (actor : ℕ) → actor < actors_of z → HasPath z u (hand_in mmu u actor).topics.walk → OfEachHeld (λ page. is_free map page ≡ false) (hand_in mmu u actor).topics
   none_free actor there P = record {
-    tables = λ level from down most. (P level from down most).not_free;
+    tables = λ level H. (path_is_table z u (hand_in mmu u actor).topics.walk level G P H.some H.down H.up).not_free;
     set = λ page is. set_held page (G.topics.sets actor page there is);
     owned = λ o is. owned_not_free (actors_of z) z.pool slots map owned leaving G.topics.stands G.topics.pool_part actor o there is;
   }
@@ -77,7 +77,7 @@ module _ (z : Sizes) (u : World Held) (G : IsSound z u) where
   -- A page that an actor owns no other actor holds.
   no_other : (actor page : ℕ) → actor < actors_of z → Owns page (hand_in mmu u actor) → ((other : ℕ) → other < actors_of z → HasPath z u (hand_in mmu u other).topics.walk) → NoOtherHolds z actor page u
   no_other actor page there O paths other among apart = record {
-    tables = λ level from down most e. (paths other among level from down most).not_owned actor O.owned there O.is (O.of_page ∙ sym e);
+    tables = λ level H e. (path_is_table z u (hand_in mmu u other).topics.walk level G (paths other among) H.some H.down H.up).not_owned actor O.owned there O.is (O.of_page ∙ sym e);
     set = λ k is e. not_set k (G.topics.sets other k among is) (O.of_page ∙ sym e);
     owned = λ o is e. apart (one_owner (actors_of z) z.pool slots map owned leaving G.topics.stands G.topics.pool_part other actor o O.owned among there is O.is (O.of_page ∙ sym e));
   }
@@ -89,7 +89,7 @@ module _ (z : Sizes) (u : World Held) (G : IsSound z u) where
   -- An old slot set that is leaving for an actor which has watched all others since, no other actor holds.
   none_holds_old : (actor page : ℕ) → actor < actors_of z → MayGiveOld (hand_in mmu u actor) → leaving actor ≡ Some page → ((other : ℕ) → other < actors_of z → HasPath z u (hand_in mmu u other).topics.walk) → NoOtherHolds z actor page u
   none_holds_old actor page there M left paths other among apart = record {
-    tables = λ level from down most e. (paths other among level from down most).not_left actor page there left (sym e);
+    tables = λ level H e. (path_is_table z u (hand_in mmu u other).topics.walk level G (paths other among) H.some H.down H.up).not_left actor page there left (sym e);
     set = λ k is e. not_set k (G.topics.sets other k among is) e;
     owned = λ o is e. left_not_owned (actors_of z) z.pool slots map owned leaving G.topics.stands G.topics.pool_part actor page there left other o among is e;
   }
@@ -112,6 +112,17 @@ module _ (z : Sizes) (u : World Held) (G : IsSound z u) where
       not_set k (inr H) same =
           let by_is : H.by ≡ actor = one_leaver (actors_of z) z.pool slots map owned leaving G.topics.stands G.topics.pool_part H.by actor page H.there there (H.leaves ∙ ap Some same) left in
           watched_all actor (actors_of z) (hand_in mmu u actor).topics.watched other over (subst (λ i. (hand_in mmu u i).topics.watched ≤ other) by_is H.unwatched) among apart
+
+  -- Whom the watch has passed doesn't hold it.
+  watched_hold_none : (watcher other page : ℕ) → watcher < actors_of z → other < actors_of z → leaving watcher ≡ Some page → other < (hand_in mmu u watcher).topics.watched → (hand_in mmu u other).topics.search.set ≢ Some page
+  watched_hold_none watcher other page there among left passed is = by (G.topics.sets other page among is)
+    where
+      by : (page ≡ slots) ⊎ HoldsOld (actors_of z) (λ j. (hand_in mmu u j).topics) other page → ⊥
+      by (inl e) = left_not_slots (actors_of z) z.pool slots map owned leaving G.topics.stands G.topics.pool_part watcher page there left e
+      by (inr H) =
+          let by_is : H.by ≡ watcher = one_leaver (actors_of z) z.pool slots map owned leaving G.topics.stands G.topics.pool_part H.by watcher page H.there there H.leaves left in
+          let not_yet : (hand_in mmu u watcher).topics.watched ≤ other = subst (λ i. (hand_in mmu u i).topics.watched ≤ other) by_is H.unwatched in
+          omega (arith, not_yet, passed)
 
   -- A page is given back while one is leaving: this one, behind the watch.
   gives_old : (s : Step Kind) (page : ℕ) → s.actor < actors_of z → May mmu u s → s.kind.code ≡ code_of kind.Give → leaving s.actor ≡ Some page → MayGiveOld (hand_in mmu u s.actor)
@@ -169,3 +180,9 @@ pages_are_reused_alone z lines w ss s R page = (
 
     paths_behind : (other : ℕ) → other < actors_of z → HasPath z (effect mmu u s) (hand_in mmu (effect mmu u s) other).topics.walk
     paths_behind other among = subst (λ x. HasPath z x (hand_in mmu x other).topics.walk) (run_one_more w ss s) (paths_are_tables z lines w (ss ++ s ∷ []) other R among)
+
+pub held_sets_are_known : HeldSetsAreKnown
+held_sets_are_known z lines w ss R = (sound z lines w ss R).topics.sets
+
+pub watched_hold_no_old_set : WatchedHoldNoOldSet
+watched_hold_no_old_set z lines w ss R watcher other page there among left passed = watched_hold_none z (run mmu w ss) (sound z lines w ss R) watcher other page there among left passed

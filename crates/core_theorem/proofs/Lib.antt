@@ -8,3 +8,4 @@ pub mod Turns
 pub mod LineTurns
 pub mod Begins
 pub mod DelayCauses
+pub mod Entries

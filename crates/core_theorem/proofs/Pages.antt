@@ -1,5 +1,5 @@
 -- Each pool page has one use.
-use Rattle.std.proofs.Common.{◌≡◌, ◌⊎◌, inl, inr, ◌+◌, ◌<◌, ◌≤◌, ℕ, zero, suc, refl, sym, ap, ◌∙◌, arith}
+use Rattle.std.proofs.Common.{◌≡◌, ◌⊎◌, inl, inr, ◌+◌, ◌<◌, ◌≤◌, ℕ, zero, suc, refl, sym, subst, ap, ◌∙◌, arith}
 use Rattle.std.specs.Prelude.{Bool, true, false, ◌==◌, Option, Some, None, is_some}
 use Rattle.std.proofs.lemmas.Bool.{cases_lt}
 use Rattle.std.proofs.lemmas.Bool.Decides.{nat_tests}
@@ -139,5 +139,17 @@ module _ (z : Sizes) (u : World Held) (G : IsSound z u) (page : ℕ) (in_pool : 
           let no_set : one_if (slots == page) ≡ 0 = ap one_if e in
           of_actor (cases_lt (owners (actors_of z) owned page) 1) (λ none. omega (arith, one, no_free, no_table, no_set, none))
 
+-- No page outside of the pool has a use.
+in_pool_only : (z : Sizes) (u : World Held) (G : IsSound z u) (page : ℕ) (use_ : PageUse) → IsUsedFor z u G.topics.stands page use_ → page < z.pool
+in_pool_only z u G page Free is = by (cases_lt page z.pool)
+  where
+    by : (page < z.pool) ⊎ (z.pool ≤ page) → page < z.pool
+    by (inl lt) = lt
+    by (inr behind) = let none = G.topics.pool_part.behind page behind in absurd (cc (is, none))
+in_pool_only z u G page (Owned actor) U = subst (λ k. k < z.pool) U.1.of_page (G.topics.pool_part.there actor U.1.owned U.0 U.1.is)
+in_pool_only z u G page (Table p) is = (G.topics.tree.there page p is).0
+in_pool_only z u G page Published is = subst (λ k. k < z.pool) is G.topics.pool_part.slots_there
+in_pool_only z u G page (Leaving actor) U = G.topics.pool_part.left_there actor page U.0 U.1
+
 pub pages_are_used : (z : Sizes) (u : World Held) → IsSound z u → PagesAreUsed z u
-pages_are_used z u G = record { stands = G.topics.stands; each = λ page in_pool. one_use z u G page in_pool; tables = G.topics.tree }
+pages_are_used z u G = record { stands = G.topics.stands; each = λ page in_pool. one_use z u G page in_pool; no_other = in_pool_only z u G; tables = G.topics.tree }

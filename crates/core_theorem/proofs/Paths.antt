@@ -1,6 +1,6 @@
 -- Each table that a walk has gone through is a table, down to the one that it has come to.
-use Rattle.std.proofs.Common.{◌≡◌, ◌<◌, ◌≤◌, ℕ, refl, ap, arith}
-use Rattle.std.specs.Prelude.{Bool, true, false, ◌==◌, not, if◌then◌else◌, Option, Some, None}
+use Rattle.std.proofs.Common.{◌≡◌, ◌+◌, ◌*◌, ◌/◌, ◌^◌, ◌<◌, ◌≤◌, ℕ, zero, suc, refl, ap, ◌∙◌, arith}
+use Rattle.std.specs.Prelude.{◌-◌, Bool, true, false, ◌==◌, not, if◌then◌else◌, Option, Some, None}
 use Rattle.std.proofs.lemmas.Bool.Decides.{nat_tests}
 use Rattle.core_views.specs.declared.topics.TableWalk.{TableWalk}
 use Rattle.core_views.specs.declared.topics.Topics.{Topics}
@@ -10,27 +10,46 @@ use Rattle.part_steps.specs.declared.part_step.PartStep.TheVariants as part
 use Rattle.part_steps.specs.PartSteps.{leaf_written, link_written}
 use Rattle.part_steps.specs.PartTopics.{part_topics}
 use Rattle.part_steps.specs.TopicSteps.{gone_down, is_outside, linked_page, may_walk, swapped}
-use Rattle.core_theorem.specs.Holdings.{table_at}
+use Rattle.core_theorem.specs.Walks.{run_at, table_at}
 
--- Above the table that a walk has come to, it has gone through the tables that it had gone through or come to before.
+-- Above the table that a walk has come to, it has gone through the tables that it had gone through or come to before, for the same runs.
+pub record GoesOnAt (before after : TableWalk) (level : ℕ) : Type 0 where
+  pub from : 1 ≤ before.level
+  pub down : before.level ≤ level
+  pub table : table_at level after ≡ table_at level before
+  pub run : run_at level after ≡ run_at level before
+
 abbrev pub GoesOn : TableWalk → TableWalk → Type 0
-GoesOn before after = (level : ℕ) → 1 ≤ after.level → after.level < level → level ≤ 4 → (1 ≤ before.level) × (before.level ≤ level) × (table_at level after ≡ table_at level before)
+GoesOn before after = (level : ℕ) → 1 ≤ after.level → after.level < level → level ≤ 4 → GoesOnAt before after level
 
-stays : (walk : TableWalk) → GoesOn walk walk
-stays walk level from above most = (from, omega (arith, above), refl)
+pub stays : (walk : TableWalk) → GoesOn walk walk
+stays walk level from above most = record { from = from; down = omega (arith, above); table = refl; run = refl }
 
 kept_goes : (b : Bool) (walk : TableWalk) → GoesOn walk (record walk { level = if b then walk.level else 0 })
-kept_goes true walk level from above most = (from, omega (arith, above), refl)
+kept_goes true walk level from above most = record { from = from; down = omega (arith, above); table = refl; run = refl }
 kept_goes false walk level from above most = absurd (omega (arith, from))
 
 rooted_goes : (b : Bool) (walk : TableWalk) (v : ℕ) → GoesOn walk (record walk { level = if b then 4 else 0; prefix = 0; root = v; index = 512 })
 rooted_goes true walk v level from above most = absurd (omega (arith, above, most))
 rooted_goes false walk v level from above most = absurd (omega (arith, from))
 
-down_goes : (to : Option ℕ) (walk : TableWalk) (index v : ℕ) → GoesOn walk (gone_down to walk index v)
-down_goes None walk index v level from above most = (from, omega (arith, above), refl)
-down_goes (Some page) walk index v level from above most = (omega (arith, from), omega (arith, from, above), same)
+-- A run of one level lower lies in the same runs above.
+same_run : (n prefix index : ℕ) → n ≤ 3 → index < 512 → (prefix * 512 + index) / 512 ^ (n + 1) ≡ prefix / 512 ^ n
+same_run zero prefix index few low = omega (arith, low)
+same_run (suc zero) prefix index few low = omega (arith, low)
+same_run (suc (suc zero)) prefix index few low = omega (arith, low)
+same_run (suc (suc (suc zero))) prefix index few low = omega (arith, low)
+same_run (suc (suc (suc (suc n)))) prefix index few low = absurd (omega (arith, few))
+
+down_goes : (to : Option ℕ) (walk : TableWalk) (index v : ℕ) → index < 512 → GoesOn walk (gone_down to walk index v)
+down_goes None walk index v low level from above most = record { from = from; down = omega (arith, above); table = refl; run = refl }
+down_goes (Some page) walk index v low level from above most = record { from = omega (arith, from); down = omega (arith, from, above); table = same; run = run }
   where
+    run : run_at level (gone_down (Some page) walk index v) ≡ run_at level walk
+    run =
+        let lower : level - (walk.level - 1) ≡ (level - walk.level) + 1 = omega (arith, from, above) in
+        ap (λ n. (walk.prefix * 512 + index) / 512 ^ n) lower ∙ same_run (level - walk.level) walk.prefix index (omega (arith, from, most)) low
+
     third : level ≡ 3 → (walk.level == 4) ≡ false
     third e = grind (arith, nat_tests)
 
@@ -48,9 +67,9 @@ down_goes (Some page) walk index v level from above most = (omega (arith, from),
         by false false true a b c = ap (λ (x : Bool). if x then page else walk.second) (b refl)
         by false false false a b c = absurd (c (refl, refl, refl))
 
-swap_goes : (won : Bool) (walk : TableWalk) (index new_ v : ℕ) → GoesOn walk (swapped won walk index new_ v)
-swap_goes true walk index new_ v = down_goes (linked_page (kind_of walk.level new_)) walk index new_
-swap_goes false walk index new_ v = down_goes None walk index v
+swap_goes : (won : Bool) (walk : TableWalk) (index new_ v : ℕ) → index < 512 → GoesOn walk (swapped won walk index new_ v)
+swap_goes true walk index new_ v low = down_goes (linked_page (kind_of walk.level new_)) walk index new_ low
+swap_goes false walk index new_ v low = down_goes None walk index v low
 
 -- So it is behind each step of a part.
 pub part_goes : (step : PartStep) (t : Topics) (v : ℕ) → GoesOn t.walk (part_topics step t v).walk
@@ -61,7 +80,7 @@ part_goes part.End t v = kept_goes false t.walk
 part_goes part.Unshare t v = kept_goes (not (is_outside t.stay)) t.walk
 part_goes part.Release t v = kept_goes (not (is_outside t.stay)) t.walk
 part_goes part.Root t v = rooted_goes (may_walk t.stay t.hold) t.walk v
-part_goes (part.Walk gfn) t v = down_goes (linked_page (kind_of t.walk.level v)) t.walk _ v
-part_goes (part.Link gfn) t v = swap_goes (v == t.walk.entry) t.walk _ (link_written t) v
-part_goes (part.Leaf gfn) t v = swap_goes (v == t.walk.entry) t.walk _ (leaf_written t) v
+part_goes (part.Walk gfn) t v = down_goes (linked_page (kind_of t.walk.level v)) t.walk _ v (omega arith)
+part_goes (part.Link gfn) t v = swap_goes (v == t.walk.entry) t.walk _ (link_written t) v (omega arith)
+part_goes (part.Leaf gfn) t v = swap_goes (v == t.walk.entry) t.walk _ (leaf_written t) v (omega arith)
 part_goes _ t v = stays t.walk

@@ -1,12 +1,14 @@
 -- Why a fault begins anew, why a step waits and why a line is starved, in every run.
-use Rattle.std.specs.Prelude.{◌≡◌, ◌⊎◌, ℕ, List, [], ◌∷◌, ◌++◌, true}
+use Rattle.std.specs.Prelude.{◌≡◌, ◌⊎◌, ◌<◌, ◌≤◌, ℕ, List, [], ◌∷◌, ◌++◌, true}
 use Rattle.core_views.specs.declared.answer.Answer.TheVariants.{Starved}
 use Rattle.core_views.specs.declared.kind.Kind.{Kind}
 use Rattle.core_views.specs.declared.place.AccessPlace.TheVariants as access
 use Rattle.core_views.specs.declared.place.Cause.{Cause}
+use Rattle.core_views.specs.declared.place.Cause.TheVariants.{Entry}
 use Rattle.core_views.specs.declared.place.FaultEnd.TheVariants.{Retry}
 use Rattle.core_views.specs.declared.place.FaultPlace.{FaultPlace}
 use Rattle.core_views.specs.declared.place.FaultPlace.TheVariants.{End}
+use Rattle.core_views.specs.declared.place.Place.TheVariants.{Between}
 use Rattle.core_views.specs.declared.place.Place.TheVariants as place
 use Rattle.core_views.specs.declared.place.SetSlotPlace.{SetSlotPlace}
 use Rattle.core_views.specs.declared.sizes.Sizes.{Sizes}
@@ -14,7 +16,10 @@ use Rattle.core_views.specs.declared.trace.Command.TheVariants.{Access}
 use Rattle.core_views.specs.declared.trace.Line.{Line}
 use Rattle.core_views.specs.declared.trace.Op.{Op}
 use Rattle.core_views.specs.Held.{Held}
-use Rattle.spte_words.specs.Areas.{words_of_bits}
+use Rattle.spte_words.specs.declared.area.Area.TheVariants as area
+use Rattle.spte_words.specs.Areas.{place as place_of, pool_index, words_of_bits}
+use Rattle.part_steps.specs.PartSteps.{entry_index}
+use Rattle.part_steps.specs.Tasks.{map_of}
 use Rattle.mmu_core.specs.declared.outcome.Outcome.TheVariants.{Ends}
 use Rattle.mmu_core.specs.Causes.{IsCaused, SettingWaitIsCaused, WaitIsCaused}
 use Rattle.mmu_core.specs.Enabled.{mmu}
@@ -33,12 +38,26 @@ hand_of w ss s = hand_in mmu (run mmu w ss) s.actor
 abbrev pub answer_of : World Held → List (Step Kind) → Step Kind → ℕ
 answer_of w ss s = answered mmu (run mmu w ss) s.kind
 
+-- The word is an entry of the guest frame: in a table of some level, in a page of the pool.
+pub record IsEntryOf (z : Sizes) (gfn word : ℕ) : Type 0 where
+  pub level : ℕ
+  pub from : 1 ≤ level
+  pub to : level ≤ 4
+  pub page : ℕ
+  pub there : page < z.pool
+  pub is : word ≡ place_of (map_of z) area.Pool (pool_index page (entry_index gfn level))
+
+-- Where the cause is an entry, it is one of the guest frame.
+abbrev pub IsOfFrame : Cause → Sizes → ℕ → Type 0
+IsOfFrame (Entry word read seen) z gfn = IsEntryOf z gfn word
+IsOfFrame _ z gfn = Unit {0}
+
 -- Where a step ends the section of a fault that begins anew, this has its cause in the steps before it, in this section.
 abbrev pub FaultsHaveCauses : Type 0
 FaultsHaveCauses =
     (z : Sizes) (lines : List Line) (w : World Held) (ss : List (Step Kind)) (s : Step Kind) (cause : Cause) (gfn word : ℕ) (op : Op) → IsRun z lines w (ss ++ s ∷ [])
     → (hand_of w ss s).state.place ≡ place.Access (access.Fault (End (Retry cause))) → (hand_of w ss s).state.line.command ≡ Access gfn word op
-    → IsCaused cause z s.actor gfn w ss
+    → IsCaused cause z s.actor gfn w ss × IsOfFrame cause z gfn
 
 -- Each step of a fault that waits has its cause in the steps before it.
 abbrev pub WaitsHaveCauses : Type 0
@@ -63,6 +82,7 @@ pub record BeginsAnew (z : Sizes) (w : World Held) (ss : List (Step Kind)) (s : 
   pub at : (hand_of w ss s).state.place ≡ place.Access (access.Fault (End (Retry cause)))
   pub access_is : (hand_of w ss s).state.line.command ≡ Access gfn word op
   pub caused : IsCaused cause z s.actor gfn w ss
+  pub of_frame : IsOfFrame cause z gfn
 
 -- It is a step of a fault that waits, for its cause.
 pub record FaultWaits (z : Sizes) (w : World Held) (ss : List (Step Kind)) (s : Step Kind) : Type 0 where
@@ -85,8 +105,9 @@ DelaysHaveCauses =
     → delays_at (place_at (hand_of w ss s).state.place (hand_of w ss s)) (line_of (hand_of w ss s)).command (hand_of w ss s) (answer_of w ss s) ≡ true
     → BeginsAnew z w ss s ⊎ FaultWaits z w ss s ⊎ SettingWaits z w ss s
 
--- A step that answers a line starved ends a scan of the whole map by the line's actor, which found no page free in any of its words.
+-- From any moment on in which no line of an actor is under way, so from the one at which its line begins: a step that answers the line
+-- starved ends a scan of the whole map by the line's actor since that moment, which found no page free in any of its words.
 abbrev pub StarvedLinesScanned : Type 0
 StarvedLinesScanned =
-    (z : Sizes) (lines : List Line) (w : World Held) (ss : List (Step Kind)) (s : Step Kind) → IsRun z lines w (ss ++ s ∷ [])
-    → outcome_of (hand_of w ss s) (answer_of w ss s) ≡ Ends Starved → EndsWithScan z s.actor (words_of_bits z.pool) w (ss ++ s ∷ [])
+    (z : Sizes) (lines : List Line) (w : World Held) (ss ts : List (Step Kind)) (s : Step Kind) → IsRun z lines w (ss ++ (ts ++ s ∷ [])) → (hand_in mmu (run mmu w ss) s.actor).state.place ≡ Between
+    → outcome_of (hand_of (run mmu w ss) ts s) (answer_of (run mmu w ss) ts s) ≡ Ends Starved → EndsWithScan z s.actor (words_of_bits z.pool) (run mmu w ss) (ts ++ s ∷ [])

@@ -1,10 +1,10 @@
--- What actors hold of pool pages behind a run: nothing that is free, and nothing that another actor takes or gives back.
-use Rattle.std.specs.Prelude.{◌≡◌, ◌≢◌, ◌⊎◌, ◌<◌, ◌≤◌, ℕ, List, [], ◌∷◌, ◌++◌, false, Some}
+-- What actors hold of pool pages behind a run: nothing that is free, no slot set that was taken out of use by an actor whose watch has
+-- passed them since, and nothing that another actor takes or gives back.
+use Rattle.std.specs.Prelude.{◌≡◌, ◌≢◌, ◌⊎◌, ◌<◌, ℕ, List, [], ◌∷◌, ◌++◌, false, Some}
 use Rattle.core_views.specs.declared.kind.Kind.{Kind}
 use Rattle.core_views.specs.declared.kind.StepKind.TheVariants as kind
 use Rattle.core_views.specs.declared.sizes.Sizes.{Sizes}
 use Rattle.core_views.specs.declared.topics.OwnedPage.{OwnedPage}
-use Rattle.core_views.specs.declared.topics.TableWalk.{TableWalk}
 use Rattle.core_views.specs.declared.topics.Topics.{Topics}
 use Rattle.core_views.specs.declared.trace.Line.{Line}
 use Rattle.core_views.specs.Held.{Held}
@@ -13,20 +13,17 @@ use Rattle.core_views.specs.Sizes.{actors_of}
 use Rattle.spte_words.specs.declared.area.Area.TheVariants as area
 use Rattle.mmu_core.specs.Enabled.{mmu}
 use Rattle.mmu_core.specs.Machine.{Step, World, effect, hand_in, run}
-use Rattle.part_steps.specs.PartSteps.{table_page}
 use Rattle.mmu_core.specs.PoolPart.{is_free}
 use Rattle.mmu_core.specs.View.{word_in}
+use Rattle.mmu_core.specs.HeldPart.{SetsPart}
 use Rattle.core_theorem.specs.Pages.{Owns}
 use Rattle.core_theorem.specs.Runs.{IsRun}
+use Rattle.core_theorem.specs.Walks.{HoldsAt, table_at}
 
--- the table at a level that a walk has gone through or come to
-abbrev pub table_at : ℕ → TableWalk → ℕ
-table_at level walk = table_page (record walk { level = level })
-
--- What is so of each page that an actor holds: of the tables that its walk has gone through, from the root's level down to the one that it
--- has come to, of the slot set that it searches, and of the page that it owns.
+-- What is so of each page that an actor holds: of the tables that its walk has gone through and the one that it has come to, of the slot
+-- set that it searches, and of the page that it owns.
 pub record OfEachHeld (IsSo : ℕ → Type 0) (t : Topics) : Type 0 where
-  pub tables : (level : ℕ) → 1 ≤ t.walk.level → t.walk.level ≤ level → level ≤ 4 → IsSo (table_at level t.walk)
+  pub tables : (level : ℕ) → HoldsAt level t.walk → IsSo (table_at level t.walk)
   pub set : (page : ℕ) → t.search.set ≡ Some page → IsSo page
   pub owned : (o : OwnedPage) → t.owned ≡ Some o → IsSo o.page
 
@@ -35,6 +32,19 @@ abbrev pub NoneHoldsFreePages : Type 0
 NoneHoldsFreePages =
     (z : Sizes) (lines : List Line) (w : World Held) (ss : List (Step Kind)) → IsRun z lines w ss → (actor : ℕ) → actor < actors_of z
     → OfEachHeld (λ page. is_free (word_in z (run mmu w ss) area.PoolMap) page ≡ false) (hand_in mmu (run mmu w ss) actor).topics
+
+-- The slot set that an actor holds is the published one; or it is an old one, which the actor holds in a section, and which is leaving for
+-- another actor, whose watch hasn't passed this one since.
+abbrev pub HeldSetsAreKnown : Type 0
+HeldSetsAreKnown =
+    (z : Sizes) (lines : List Line) (w : World Held) (ss : List (Step Kind)) → IsRun z lines w ss
+    → SetsPart (actors_of z) (word_in z (run mmu w ss) area.Slots 0) (λ i. (hand_in mmu (run mmu w ss) i).topics)
+
+-- So whom a watch has passed holds no slot set that the watcher has taken out of use.
+abbrev pub WatchedHoldNoOldSet : Type 0
+WatchedHoldNoOldSet =
+    (z : Sizes) (lines : List Line) (w : World Held) (ss : List (Step Kind)) → IsRun z lines w ss → (watcher other page : ℕ) → watcher < actors_of z → other < actors_of z
+    → (hand_in mmu (run mmu w ss) watcher).topics.leaving ≡ Some page → other < (hand_in mmu (run mmu w ss) watcher).topics.watched → (hand_in mmu (run mmu w ss) other).topics.search.set ≢ Some page
 
 -- The step, made in this world, is a claim that wins this page.
 pub record Wins (page : ℕ) (w : World Held) (s : Step Kind) : Type 0 where

@@ -1,5 +1,5 @@
--- Leaves behind a run: what is linked, what is cached and what an access uses agrees with slots and host.
-use Rattle.std.specs.Prelude.{◌≡◌, ◌^◌, ◌<◌, ℕ, List, All, true}
+-- Leaves behind a run: what is linked, what walks come to, what is cached and what an access uses agrees with slots and host.
+use Rattle.std.specs.Prelude.{◌≡◌, ◌/◌, ◌^◌, ◌<◌, ℕ, List, All, true}
 use Rattle.core_views.specs.declared.kind.Kind.{Kind}
 use Rattle.core_views.specs.declared.place.AccessPlace.TheVariants.{Touch}
 use Rattle.core_views.specs.declared.place.Place.TheVariants as place
@@ -12,7 +12,7 @@ use Rattle.core_views.specs.Sizes.{actors_of}
 use Rattle.core_views.specs.Slots.{is_write}
 use Rattle.spte_words.specs.declared.area.Area.TheVariants as area
 use Rattle.spte_words.specs.declared.spte_kind.SpteKind.TheVariants as entry_kind
-use Rattle.spte_words.specs.Entries.{kind_of}
+use Rattle.spte_words.specs.Entries.{kind_of, level_span}
 use Rattle.mmu_core.specs.Enabled.{mmu}
 use Rattle.mmu_core.specs.FaultAlone.{LeadsTo}
 use Rattle.mmu_core.specs.FaultSteps.{allows_access}
@@ -20,6 +20,7 @@ use Rattle.mmu_core.specs.LeafLaws.{LeafAgrees}
 use Rattle.mmu_core.specs.Machine.{Step, World, hand_in, run}
 use Rattle.mmu_core.specs.View.{word_in}
 use Rattle.core_theorem.specs.Runs.{IsRun}
+use Rattle.core_theorem.specs.Walks.{HoldsAt, run_at, table_at, walk_of}
 
 -- In this world the leaf is of the page that the slots give the guest frame, at the frame that the host gives the page.
 abbrev pub Agrees : Sizes → World Held → ℕ → ℕ → Type 0
@@ -31,6 +32,13 @@ LinkedLeavesAgree =
     (z : Sizes) (lines : List Line) (w : World Held) (ss : List (Step Kind)) → IsRun z lines w ss → (gfn entry : ℕ) → gfn < 2 ^ 36
     → LeadsTo (word_in z (run mmu w ss) area.Pool) 4 (word_in z (run mmu w ss) area.Root 0) gfn entry → kind_of 1 entry ≡ entry_kind.Leaf
     → Agrees z (run mmu w ss) gfn entry
+
+-- So does each leaf to which links lead from a table that a walk holds, for a guest frame of this table's run.
+abbrev pub HeldLeavesAgree : Type 0
+HeldLeavesAgree =
+    (z : Sizes) (lines : List Line) (w : World Held) (ss : List (Step Kind)) → IsRun z lines w ss → (actor level gfn entry : ℕ) → actor < actors_of z
+    → HoldsAt level (walk_of (run mmu w ss) actor) → gfn < 2 ^ 36 → gfn / level_span level / 512 ≡ run_at level (walk_of (run mmu w ss) actor)
+    → LeadsTo (word_in z (run mmu w ss) area.Pool) level (table_at level (walk_of (run mmu w ss) actor)) gfn entry → kind_of 1 entry ≡ entry_kind.Leaf → Agrees z (run mmu w ss) gfn entry
 
 -- Each translation that an actor has cached agrees.
 abbrev pub TranslationsAgree : Type 0

@@ -1,5 +1,6 @@
 pub mod Runs
 pub mod Pages
+pub mod Walks
 pub mod Leaves
 pub mod Locks
 pub mod Holdings

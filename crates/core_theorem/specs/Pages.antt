@@ -43,10 +43,12 @@ pub record HasOneUse (z : Sizes) (w : World Held) (stands : ℕ → Option Posit
   pub is : IsUsedFor z w stands page one
   pub only : (other : PageUse) → IsUsedFor z w stands page other → other ≡ one
 
--- Each page has one use; and the tables are the root and what is linked below it, each at a level and run of guest frames of its own.
+-- Each page of the pool has one use, and no other page has any; and the tables are the root and what is linked below it, each at a level and
+-- run of guest frames of its own.
 pub record PagesAreUsed (z : Sizes) (w : World Held) : Type 0 where
   pub stands : ℕ → Option Position
   pub each : (page : ℕ) → page < z.pool → HasOneUse z w stands page
+  pub no_other : (page : ℕ) (use_ : PageUse) → IsUsedFor z w stands page use_ → page < z.pool
   pub tables : TreePart z.pool (word_in z w area.Root 0) (word_in z w area.Slots 0) (word_in z w area.Role) (word_in z w area.Pool) (word_in z w area.Host) stands
 
 abbrev pub EachPageHasOneUse : Type 0

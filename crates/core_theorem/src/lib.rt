@@ -3,28 +3,35 @@
 #![tactic(auto)]
 
 ghost use Rattle.core_theorem.specs.Delays.{DelaysHaveCauses, FaultsHaveCauses, SettingWaitsHaveCauses, StarvedLinesScanned, WaitsHaveCauses};
-ghost use Rattle.core_theorem.specs.Holdings.{NoneHoldsFreePages, PagesAreReusedAlone};
-ghost use Rattle.core_theorem.specs.Leaves.{LinkedLeavesAgree, TranslationsAgree, UsedLeavesAgree};
+ghost use Rattle.core_theorem.specs.Holdings.{HeldSetsAreKnown, NoneHoldsFreePages, PagesAreReusedAlone, WatchedHoldNoOldSet};
+ghost use Rattle.core_theorem.specs.Leaves.{HeldLeavesAgree, LinkedLeavesAgree, TranslationsAgree, UsedLeavesAgree};
 ghost use Rattle.core_theorem.specs.Locks.{LockIsKept};
 ghost use Rattle.core_theorem.specs.Pages.{EachPageHasOneUse};
 ghost use Rattle.core_theorem.specs.Runs.{TellsLawfully};
 ghost use Rattle.core_theorem.specs.Turns.{CountsAreFew, LinesAreOpen, LinesMakeFewSteps, StepsAreFew};
+ghost use Rattle.core_theorem.specs.Walks.{WalksHoldTables};
 
 /// Every run of the machine. `pages`: each pool page is exactly one of free, owned by
-/// one actor, a table, the published slot set, an old slot set that is leaving; and
-/// each table is the root or linked below it, at a level and run of guest frames of
-/// its own. `leaves`, `translations`,
-/// `used`: each leaf that is linked or cached, and the one by which an access is
-/// about to touch, is of the page that the slots give the guest frame, at the frame
-/// that the host gives this page. `lock`: the lock's word counts its readers and has
-/// the bit of its one writer, beside whom none has it as a reader. `grace`: what an
-/// actor holds of tables and slot sets isn't free. `reuse`: a page that is taken from
+/// one actor, a table, the published slot set, an old slot set that is leaving, and
+/// no page outside of the pool is any of these; and each table is the root or linked
+/// below it, at a level and run of guest frames of its own. `walks`: each table that a
+/// walk has gone through, and the one that it has come to, is one of these, at its
+/// level and for the run of guest frames that the walk is in. `leaves`, `held`,
+/// `translations`, `used`: each leaf that is linked below the root, or below a table
+/// that a walk holds, each one that is cached, and the one by which an access is about
+/// to touch, is of the page that the slots give the guest frame, at the frame that the
+/// host gives this page. `lock`: the lock's word counts its readers and has the bit of
+/// its one writer, beside whom none has it as a reader. `grace`: what an actor holds of
+/// tables and slot sets isn't free. `sets`, `watched`: a slot set that an actor holds
+/// is the published one, or an old one, held in a section and leaving for another
+/// actor, whose watch hasn't passed this one since; so whom a watch has passed holds no
+/// slot set that the watcher has taken out of use. `reuse`: a page that is taken from
 /// the pool or given back to it nobody else holds. `lawful`: each access, each exit
 /// and each answer is one that flat guest memory allows. `begins_anew`, `waits`,
 /// `slot_waits`, `starved`: what stood in the way of a fault or of a slot setting was
-/// another actor's, an open invalidation, or that no page was free; `delays`: so it is
-/// with each step that is counted as a delay of its line
-/// (tdp_mmu.c; locking.rst; mmu.rst).
+/// another actor's, an open invalidation, or that each word of the pool's map was found
+/// with no page free since the line began; `delays`: so it is with each step that is
+/// counted as a delay of its line (tdp_mmu.c; locking.rst; mmu.rst).
 ///
 /// `counts`, `line_turns`: a line makes at most 8,192 steps, one for each pool page
 /// and one for each frame up to the end of its first delay, as many from there to the
@@ -33,11 +40,15 @@ ghost use Rattle.core_theorem.specs.Turns.{CountsAreFew, LinesAreOpen, LinesMake
 /// which there are no more than have no answer yet.
 pub fn every_run()
     ensures pages { EachPageHasOneUse }
+    ensures walks { WalksHoldTables }
     ensures leaves { LinkedLeavesAgree }
+    ensures held { HeldLeavesAgree }
     ensures translations { TranslationsAgree }
     ensures used { UsedLeavesAgree }
     ensures lock { LockIsKept }
     ensures grace { NoneHoldsFreePages }
+    ensures sets { HeldSetsAreKnown }
+    ensures watched { WatchedHoldNoOldSet }
     ensures reuse { PagesAreReusedAlone }
     ensures lawful { TellsLawfully }
     ensures counts { CountsAreFew }

@@ -26,8 +26,8 @@ pub struct SlotJob {
 impl SlotJob {
     /// Makes the next step of the line, and says whether it is answered: `Done`, with
     /// the answer, behind its last step. `Wait` where a page was claimed by another
-    /// actor meanwhile, the lock is held, an invalidation is open, or another actor
-    /// that the watch looks at is in a section or in the guest; never `Retry`.
+    /// actor meanwhile, the lock's word isn't 0, an invalidation is open, or another
+    /// actor that the watch looks at is in a section or in the guest; never `Retry`.
     pub fn turn<S: Stepper>(&mut self, s: &mut S) -> Turn<Answer>
         requires left { length (S.handful s.old).core.answers < length (S.handful s.old).core.lines }
         requires next { self.old.index ≡ length (S.handful s.old).core.answers }

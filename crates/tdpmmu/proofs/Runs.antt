@@ -11,7 +11,7 @@ use Rattle.tdp_io.specs.declared.sink.Stop.TheVariants.{Failed, NoMemory as Full
 use Rattle.trace_reader.specs.Reading.{reading, IsTraceOf, IsRefusalOf}
 use Rattle.trace_reader.specs.declared.reason.Reason.{Reason}
 use Rattle.tdpmmu.specs.Output.{refusal_text}
-use Rattle.tdpmmu.specs.Run.{Around, IsInputOf, IsOutputOf, Prints, RunsTo, WasRead, WritesPart}
+use Rattle.tdpmmu.specs.Run.{Around, IsInputOf, IsOutputOf, Prints, RunsTo, WasRead, WritesPrefix}
 use Rattle.tdpmmu.specs.Steps.{WritesOutput, WritesRefusal}
 use Rattle.tdpmmu.specs.declared.command.Command.{Command}
 use Rattle.tdpmmu.specs.declared.status.Status.{Status}
@@ -28,7 +28,7 @@ was_read asked command a input is whole = rw is whole
 
 -- what a command wrote of the output that it owes an input
 part_of : (stop : Stop) (asked : Option Command) (command : Command) (input bytes : List ℕ) (says : Result Trace (ℕ × Reason)) (before after : Option (List ℕ)) → asked ≡ Some command → reading input ≡ says → IsOutputOf stop command says bytes
-    → AppendsPrefix before after bytes → WritesPart stop asked input before after
+    → AppendsPrefix before after bytes → WritesPrefix stop asked input before after
 part_of stop asked command input bytes says before after is reads output prefix = (bytes, rw (is, reads) output, prefix)
 
 pub trace_runs : (asked : Option Command) (command : Command) (a : Around) (input : List ℕ) (trace : Trace) (status : Status) → asked ≡ Some command

@@ -69,8 +69,8 @@ IsOutputOn stop (Some command) input bytes = IsOutputOf stop command (reading in
 IsOutputOn stop None input bytes = bytes ≡ usage_text
 
 -- A prefix of such an output was written.
-abbrev pub WritesPart : Stop → Option Command → List ℕ → Option (List ℕ) → Option (List ℕ) → Type 0
-WritesPart stop asked input before after = (bytes : List ℕ) × IsOutputOn stop asked input bytes × AppendsPrefix before after bytes
+abbrev pub WritesPrefix : Stop → Option Command → List ℕ → Option (List ℕ) → Option (List ℕ) → Type 0
+WritesPrefix stop asked input before after = (bytes : List ℕ) × IsOutputOn stop asked input bytes × AppendsPrefix before after bytes
 
 -- What the source had left, and whether it has ended; what the sink was given: before a run and after it.
 pub record Around : Type 0 where
@@ -101,8 +101,8 @@ RunsTo asked a Done = (command : Command) × (asked ≡ Some command) × (input 
 RunsTo asked a Usage = (asked ≡ None) × Consumes a.left a.left_after [] × Appends a.written a.written_after usage_text
 RunsTo asked a (Refused line reason) = (command : Command) × (asked ≡ Some command) × (input : List ℕ) × IsRefusalOf a.left a.left_after a.ended input line reason × Appends a.written a.written_after (refusal_text line reason)
 RunsTo asked a ReadFault = (command : Command) × (asked ≡ Some command) × (input : List ℕ) × Consumes a.left a.left_after input × (length input ≤ 16777216) × (a.written_after ≡ a.written)
-RunsTo asked a WriteFault = (input : List ℕ) × WasRead asked a input × WritesPart Failed asked input a.written a.written_after
-RunsTo asked a NoMemory = StopsReading a ⊎ ((input : List ℕ) × WasRead asked a input × WritesPart Full asked input a.written a.written_after)
+RunsTo asked a WriteFault = (input : List ℕ) × WasRead asked a input × WritesPrefix Failed asked input a.written a.written_after
+RunsTo asked a NoMemory = StopsReading a ⊎ ((input : List ℕ) × WasRead asked a input × WritesPrefix Full asked input a.written a.written_after)
 RunsTo asked a (Unfinished actor line) = (command : Command) × (asked ≡ Some command) × (input : List ℕ) × (trace : Trace) × IsTraceOf a.left a.left_after a.ended input trace × (bytes : List ℕ) × IsUnfinished command trace actor line bytes × Appends a.written a.written_after bytes
 
 -- The same where the source tells that it had this input left, of which no more than 16777217 bytes are looked at.
@@ -111,8 +111,8 @@ Prints asked input before after Done = (command : Command) × (asked ≡ Some co
 Prints asked input before after Usage = (asked ≡ None) × Appends before after usage_text
 Prints asked input before after (Refused line reason) = (command : Command) × (asked ≡ Some command) × (reading input ≡ Err (line, reason)) × Appends before after (refusal_text line reason)
 Prints asked input before after ReadFault = (command : Command) × (asked ≡ Some command) × (after ≡ before)
-Prints asked input before after WriteFault = WritesPart Failed asked input before after
-Prints asked input before after NoMemory = (after ≡ before) ⊎ WritesPart Full asked input before after
+Prints asked input before after WriteFault = WritesPrefix Failed asked input before after
+Prints asked input before after NoMemory = (after ≡ before) ⊎ WritesPrefix Full asked input before after
 Prints asked input before after (Unfinished actor line) = (command : Command) × (asked ≡ Some command) × (trace : Trace) × (reading input ≡ Ok trace) × (bytes : List ℕ) × IsUnfinished command trace actor line bytes × Appends before after bytes
 
 -- The count of failed reads rose where the status says that reading failed, and stayed at any other status.

@@ -176,7 +176,8 @@ fn run_command<S: Source, K: Sink>(
 /// are answered by the usage line. `rt` and `gate` are for commands that start threads.
 ///
 /// The status says how it went, and each has its cause: `ReadFault` and
-/// `WriteFault` come only where the count of faults of `src` or `out` rose.
+/// `WriteFault` come only where the count of faults of `src` or `out` rose, or stood
+/// at 2^64 - 1.
 pub fn run<R: Threads + Wait + Sync, S: Source, K: Sink, G: Gate + Sync>(
     _rt: &R,
     alloc: Global,

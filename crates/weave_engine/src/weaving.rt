@@ -84,10 +84,11 @@ fn weave_on<K: Sink>(
 
 /// Runs the trace a step a turn: the lines above `go` one after another, each
 /// alone; then the turns that the schedule's items name; then turns in rounds, at most
-/// `limit`, until each line is answered. It writes each answer when its line is
-/// answered, and where the rounds end before that, which line is the first without
-/// an answer. It gives how it ended, and the words and hands at that moment: where a
-/// write failed, those behind the turn with whose answer it was tried.
+/// `limit`, until each line is answered. It puts out each answer when its line is
+/// answered, and where the rounds end before that, which line is the first without an
+/// answer; what is put out is written in pieces, and at the end. It gives how it ended,
+/// and the words and hands at that moment: where a write failed, those behind the turn
+/// with whose answer it was tried.
 pub fn weave<K: Sink>(
     alloc: Global,
     trace: &Trace,

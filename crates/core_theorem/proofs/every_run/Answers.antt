@@ -1,17 +1,22 @@
+use Rattle.mmu_core.specs.Enabled.{mmu}
+use Rattle.mmu_core.specs.Machine.{run}
+use Rattle.std.proofs.Common.{[], ◌∷◌, ◌++◌}
 use Rattle.mmu_core.proofs.Causes.{faults_begin_anew_by_cause}
 use Rattle.mmu_core.proofs.EveryHistory.{every_history}
 use Rattle.mmu_core.proofs.LeafLaws.{cached_leaves_agree, leaves_agree, used_leaves_agree}
 use Rattle.mmu_core.proofs.SettingCauses.{setting_waits_are_by_cause}
-use Rattle.mmu_core.proofs.StarvedScan.{starved_lines_scan}
+use Rattle.mmu_core.proofs.StarvedScan.{legal_parts, starved_lines_scan}
 use Rattle.mmu_core.proofs.Starts.{start_good}
 use Rattle.mmu_core.proofs.WaitCauses.{waits_are_by_cause}
 use Rattle.core_theorem.proofs.Begins.{lines_are_open}
 use Rattle.core_theorem.proofs.DelayCauses.{delays_have_causes}
-use Rattle.core_theorem.proofs.Holdings.{none_holds_free_pages, pages_are_reused_alone}
+use Rattle.core_theorem.proofs.Holdings.{held_sets_are_known, none_holds_free_pages, pages_are_reused_alone, watched_hold_no_old_set}
 use Rattle.core_theorem.proofs.LineTurns.{lines_make_few_steps}
 use Rattle.core_theorem.proofs.Turns.{counts_are_few, steps_are_few}
 use Rattle.core_theorem.proofs.Pages.{pages_are_used}
-use Rattle.core_theorem.proofs.Runs.{before, sound, starts_between}
+use Rattle.core_theorem.proofs.Entries.{cause_of_frame}
+use Rattle.core_theorem.proofs.Runs.{before, last_actor, sound, starts_between}
+use Rattle.core_theorem.proofs.WalksKept.{held_leaves_are_linked, walks_hold_tables}
 use Rattle.core_theorem.proofs.every_run.Goals as goal
 
 pub returns-clause-pages : goal.returns-clause-pages
@@ -19,6 +24,9 @@ returns-clause-pages c z lines w ss R = pages_are_used z _ (sound z lines w ss R
 
 pub returns-clause-leaves : goal.returns-clause-leaves
 returns-clause-leaves c z lines w ss R gfn entry low leads leaf = leaves_agree z _ gfn entry (sound z lines w ss R) low leads leaf
+
+pub returns-clause-held : goal.returns-clause-held
+returns-clause-held c = held_leaves_are_linked
 
 pub returns-clause-translations : goal.returns-clause-translations
 returns-clause-translations c z lines w ss R actor there = cached_leaves_agree z _ actor (sound z lines w ss R) there
@@ -31,6 +39,15 @@ returns-clause-lock c z lines w ss R = (sound z lines w ss R).topics.lock_part
 
 pub returns-clause-grace : goal.returns-clause-grace
 returns-clause-grace c = none_holds_free_pages
+
+pub returns-clause-walks : goal.returns-clause-walks
+returns-clause-walks c = walks_hold_tables
+
+pub returns-clause-sets : goal.returns-clause-sets
+returns-clause-sets c = held_sets_are_known
+
+pub returns-clause-watched : goal.returns-clause-watched
+returns-clause-watched c = watched_hold_no_old_set
 
 pub returns-clause-reuse : goal.returns-clause-reuse
 returns-clause-reuse c = pages_are_reused_alone
@@ -51,8 +68,10 @@ pub returns-clause-open_lines : goal.returns-clause-open_lines
 returns-clause-open_lines c = lines_are_open
 
 pub returns-clause-begins_anew : goal.returns-clause-begins_anew
-returns-clause-begins_anew c z lines w ss s cause gfn word op R stands command =
-    faults_begin_anew_by_cause z w ss s.actor gfn word op cause (start_good z lines w R.start) (before z lines w ss s R).legal (starts_between z lines w ss s R) stands command
+returns-clause-begins_anew c z lines w ss s cause gfn word op R stands command = (
+  faults_begin_anew_by_cause z w ss s.actor gfn word op cause (start_good z lines w R.start) (before z lines w ss s R).legal (starts_between z lines w ss s R) stands command,
+  cause_of_frame z (run mmu w ss) s.actor gfn word op cause (sound z lines w ss (before z lines w ss s R)) (last_actor z lines w ss s R) stands command,
+)
 
 pub returns-clause-waits : goal.returns-clause-waits
 returns-clause-waits c z lines w ss s p R stands waits = waits_are_by_cause z w ss s p (start_good z lines w R.start) R.legal (starts_between z lines w ss s R) stands waits
@@ -64,4 +83,6 @@ pub returns-clause-delays : goal.returns-clause-delays
 returns-clause-delays c = delays_have_causes
 
 pub returns-clause-starved : goal.returns-clause-starved
-returns-clause-starved c z lines w ss s R starved = starved_lines_scan z w ss s (start_good z lines w R.start) R.legal (starts_between z lines w ss s R) starved
+returns-clause-starved c z lines w ss ts s R idle starved =
+    let parts = legal_parts w ss (ts ++ s ∷ []) R.legal in
+    starved_lines_scan z _ ts s (sound z lines w ss (record { start = R.start; legal = parts.0 })) parts.1 idle starved
