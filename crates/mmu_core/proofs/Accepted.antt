@@ -39,10 +39,8 @@ use Rattle.mmu_core.specs.KnowsPart.{may_leave}
 
 -- The manager alone sets slots.
 pub setting_is_managers : (z : Sizes) (actor : Actor) (id : ℕ) (slot : Slot) → IsCommandFor z actor (SetSlot id slot) → actor ≡ Manager
-setting_is_managers z (Vcpu n) id slot may = absurd may
-setting_is_managers z (Host n) id slot may = absurd may
 setting_is_managers z Manager id slot may = refl
-setting_is_managers z (Worker n) id slot may = absurd may
+setting_is_managers z _ id slot may = absurd may
 
 -- the IDs that the lines set, cut at a line that sets one
 ids_here : (n : ℕ) (lines : List Line) (id : ℕ) (slot : Slot) → n < length lines → (unwrap_or (slice_get lines n) no_line).command ≡ SetSlot id slot → (ids : List ℕ) × (slot_ids lines ≡ slot_ids (take n lines) ++ id ∷ ids)

@@ -67,10 +67,8 @@ leaf_under pool gfn op t u true fresh = fresh
 leaf_under pool gfn op t u false fresh = fresh
 
 walk_under : (pool : ℕ → ℕ) (gfn : ℕ) (op : Op) (t : Topics) (u : LineUnderWay) (again : Bool) (k : SpteKind) (allowed : Bool) → u.stage ≡ Fresh → AccessUnder pool (walk_next again k allowed) gfn op t u
-walk_under pool gfn op t u again (entry_kind.Table page) allowed fresh = fresh
 walk_under pool gfn op t u again entry_kind.Leaf allowed fresh = leaf_under pool gfn op t u allowed fresh
-walk_under pool gfn op t u again entry_kind.Absent allowed fresh = fresh
-walk_under pool gfn op t u again entry_kind.Frozen allowed fresh = fresh
+walk_under pool gfn op t u again _ allowed fresh = fresh
 
 with_word_here : (page word x : ℕ) (memory : Memory) (p w : ℕ) → p ≡ page → w ≡ word → with_word page word x memory p w ≡ x
 with_word_here page word x memory p w e f = grind (arith, nat_tests)

@@ -73,10 +73,7 @@ pause_holds z v a again gfn op g (Some t) lt I is leaf =
 walk_holds : (v : View) (again : Bool) (gfn w : ℕ) (g : Held) (k : SpteKind) (allowed : Bool) → g.state.leaf ≡ w → (k ≡ entry_kind.Leaf → IsLeafFor (v.words area.Pool) (v.words area.Host) (v.words area.Slots 0) gfn w)
     → AccessHolds (v.words area.Pool) (v.words area.Host) (v.words area.Slots 0) (walk_next again k allowed) gfn g
 walk_holds v again gfn w g entry_kind.Leaf true leaf found = subst (IsLeafFor (v.words area.Pool) (v.words area.Host) (v.words area.Slots 0) gfn) (sym leaf) (found refl)
-walk_holds v again gfn w g entry_kind.Leaf false leaf found = tt
-walk_holds v again gfn w g entry_kind.Absent allowed leaf found = tt
-walk_holds v again gfn w g entry_kind.Frozen allowed leaf found = tt
-walk_holds v again gfn w g (entry_kind.Table page) allowed leaf found = tt
+walk_holds v again gfn w g _ _ leaf found = tt
 
 -- behind a fault: nothing
 fault_holds : (z : Sizes) (pool host : ℕ → ℕ) (set : ℕ) (n : FaultNext) (gfn word : ℕ) (op : Op) (g : Held) → Holds z pool host set (place_after (behind_fault n)) (Access gfn word op) g
@@ -90,20 +87,18 @@ fault_holds z pool host set (next_of.Ends (end_of.Retry cause)) gfn word op g = 
 access_holds : (z : Sizes) (v : View) (a : ℕ) (line : Line) (p : AccessPlace) (gfn word : ℕ) (op : Op) (g : Held) → a < actors_of z → Invariant z v → TopicsInvariant z v → AccessKnows p gfn (is_write op) (v.hand a)
     → g.state.leaf ≡ (access_loads p (v.hand a) gfn op (answer_in (access_task p (v.hand a) gfn word op) v.words)).leaf
     → HoldsBehind z v a line (place.Access p) gfn word op (access_outcome p (v.hand a) gfn op (answer_in (access_task p (v.hand a) gfn word op) v.words)) g
-access_holds z v a line (Enter again) gfn word op g lt I P K leaf = tt
 access_holds z v a line (Pause again) gfn word op g lt I P K leaf = pause_holds z v a again gfn op g (first_usable gfn (is_write op) (v.hand a).cached.items) lt I refl leaf
-access_holds z v a line (Root again) gfn word op g lt I P K leaf = tt
 access_holds z v a line (Walk again) gfn word op g lt I P K leaf =
     let h : Held = v.hand a in
     let w : ℕ = v.words area.Pool (pool_index (table_page h.topics.walk) (entry_index gfn h.topics.walk.level)) in
     walk_holds v again gfn w g (kind_of h.topics.walk.level w) (allows_access (is_write op) w) leaf (λ is. (leaf_found z v a gfn lt I P K.1 is).1)
-access_holds z v a line Touch gfn word op g lt I P K leaf = tt
 access_holds z v a line (Leave (leaving.Reached frame value)) gfn word op g lt I P K leaf = tt
 access_holds z v a line (Leave leaving.Faults) gfn word op g lt I P K leaf = tt
 access_holds z v a line (Fault q) gfn word op g lt I P K leaf =
     let h : Held = v.hand a in
     fault_holds z ((stepped a line (Access gfn word op) (place.Access (Fault q)) v).words area.Pool) (v.words area.Host) (v.words area.Slots 0)
     (fault_next q h.state.sizes gfn (is_write op) h.topics (answer_in (access_task (Fault q) h gfn word op) v.words)) gfn word op g
+access_holds z v a line _ gfn word op g lt I P K leaf = tt
 
 -- The invariant behind each step of an access, where each actor knows behind it what its place asks.
 pub access_kept : (z : Sizes) (v : View) (a : ℕ) (line : Line) (p : AccessPlace) (gfn word : ℕ) (op : Op) → IsStep z v a line (Access gfn word op) (place.Access p) → Invariant z v → TopicsInvariant z v

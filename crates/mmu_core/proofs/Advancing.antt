@@ -55,26 +55,7 @@ run_small gfn walk O = let le = div-le_self gfn (level_span walk.level) in omega
 -- the kind that a kind's number names
 pub named_is : (k : StepKind) → kind_named (code_of k) ≡ k
 named_is kind.Enter = refl
-named_is kind.Leave = refl
-named_is kind.Walk = refl
-named_is kind.Read = refl
-named_is kind.Write = refl
-named_is kind.Add = refl
-named_is kind.Begin = refl
-named_is kind.End = refl
-named_is kind.Control = refl
-named_is kind.Slot = refl
-named_is kind.Host = refl
-named_is kind.Swap = refl
-named_is kind.Share = refl
-named_is kind.Unshare = refl
-named_is kind.Exclude = refl
-named_is kind.Release = refl
-named_is kind.Claim = refl
-named_is kind.Fill = refl
-named_is kind.Give = refl
-named_is kind.Watch = refl
-named_is kind.Publish = refl
+named_is _ = refl
 
 fill_room : (t : Topics) → HasToFill t → (b : Bool) (x y : Task) → x.kind ≡ kind.Fill → y.kind ≡ kind.Fill → HasRoom (if b then x else y).kind t
 fill_room t N true x y is other = subst (λ k. HasRoom k t) (sym is) (λ o e. let q : Some N.owned ≡ Some o = sym N.is ∙ e in subst (λ (o : OwnedPage). o.filled < 513) (some_is q) N.left)
@@ -90,36 +71,15 @@ part_room : (step : PartStep) (h : Held) (note : ℕ) → AreSizes h.state.sizes
 part_room (part.Fill value) h note z N = fill_room h.topics N.0 (words_filled h.topics.owned == 512) _ _ refl refl
 part_room part.Slot h note z N = λ some. N.1
 part_room part.Claim h note z N = (N.1, omega (arith, N.2, z.pool.1))
-part_room part.Enter h note z N = tt
-part_room part.Leave h note z N = tt
-part_room part.Pause h note z N = tt
-part_room part.Begin h note z N = tt
-part_room part.End h note z N = tt
-part_room part.Share h note z N = tt
-part_room part.Unshare h note z N = tt
-part_room part.Exclude h note z N = tt
-part_room part.Release h note z N = tt
-part_room (part.Map word) h note z N = tt
-part_room part.Give h note z N = tt
-part_room part.Slots h note z N = tt
-part_room part.Seq h note z N = tt
-part_room part.Count h note z N = tt
-part_room part.RangeStart h note z N = tt
-part_room part.RangeEnd h note z N = tt
-part_room part.Root h note z N = tt
 part_room (part.Walk gfn) h note z N = λ from. run_small gfn h.topics.walk N
 part_room (part.Link gfn) h note z N = λ from. run_small gfn h.topics.walk N.0.saw.over
 part_room (part.Leaf gfn) h note z N = λ from. run_small gfn h.topics.walk N.0.saw.over
-part_room (part.Host page) h note z N = tt
-part_room (part.Watch index) h note z N = tt
-part_room part.Publish h note z N = tt
 part_room part.Clear h note z N = λ o is. let e : None ≡ Some o = sym N.owns_none ∙ is in absurd (cc e)
-part_room part.GiveOld h note z N = tt
+part_room _ h note z N = tt
 
 touch_room : (op : Op) (index : ℕ) (t : Topics) → HasRoom (touch_of op index).kind t
 touch_room Read index t = tt
-touch_room (Write x) index t = tt
-touch_room (Add x) index t = tt
+touch_room _ index t = tt
 
 access_room : (s : Option PartStep) (h : Held) (note : ℕ) (op : Op) (index : ℕ) → AreSizes h.state.sizes → RestsOn s h → HasRoom (task_by s h note (touch_of op index)).kind h.topics
 access_room None h note op index z N = touch_room op index h.topics
@@ -132,9 +92,8 @@ task_room : (p : Place) (command : Command) (h : Held) → AreSizes h.state.size
 task_room place.Between (Access gfn word op) h z R = tt
 task_room place.Between (SetSlot id slot) h z R = tt
 task_room (place.Access p) (Access gfn word op) h z R = access_room (access_part p gfn h.topics) h (access_note p) op _ z R
-task_room (place.Access p) (SetSlot id slot) h z R = absurd R
-task_room (place.SetSlot p) (Access gfn word op) h z R = absurd R
 task_room (place.SetSlot p) (SetSlot id slot) h z R = setting_room p h id slot z R
+task_room _ _ h z R = absurd R
 
 room_of : (h : Held) (k : Kind) → IsNext h k ⊎ IsPartStep h k → HasRoom (kind_named k.code) h.topics
 room_of h k (inl e) = subst (λ (x : Kind). HasRoom (kind_named x.code) h.topics) (sym e.is) (subst (λ x. HasRoom x h.topics) (sym (named_is (task_of h).kind)) (task_room (place_at h.state.place h) (line_at h.state.place h).command h e.rests.part.sizes e.rests.at))

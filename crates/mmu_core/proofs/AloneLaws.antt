@@ -128,10 +128,9 @@ sole_in w a r there mine i i_in ne = by (hand_in mmu w i).topics.hold refl
     none = G.topics.lock_part.alone some
 
     by : (h : Hold) → (hand_in mmu w i).topics.hold ≡ h → has_lock h ≡ false
-    by Loose is = refl
     by Shared is = let ge = sum_ge (actors_of r.sizes) (λ j. one_if (is_shared (hold j))) i i_lt in let x : one_if (is_shared (hold i)) ≡ 1 = ap (λ (h : Hold). one_if (is_shared h)) is in absurd (omega (arith, ge, x, none))
-    by (Owing v) is = refl
     by Exclusive is = absurd (one_and_one hold (actors_of r.sizes) a i a_in i_lt ne G.topics.lock_part.one mine (ap is_alone is))
+    by _ is = refl
 
 sole_prop : (w : World Held) (a : ℕ) → IsProp (NoOtherHasLock a w)
 sole_prop w a = hlevel props
@@ -149,9 +148,6 @@ shared_in w a r there mine i i_in = by (hand_in mmu w i).topics.hold refl
     hold j = (hand_in mmu w j).topics.hold
 
     by : (h : Hold) → (hand_in mmu w i).topics.hold ≡ h → is_alone h ≡ false
-    by Loose is = refl
-    by Shared is = refl
-    by (Owing v) is = refl
     by Exclusive is =
         let a_in : a < actors_of r.sizes = subst (λ n. a < n) G.hands there in
         let i_lt : i < actors_of r.sizes = subst (λ n. i < n) G.hands i_in in
@@ -161,6 +157,7 @@ shared_in w a r there mine i i_in = by (hand_in mmu w i).topics.hold refl
         let more = sum_ge (actors_of r.sizes) (λ j. one_if (is_shared (hold j))) a a_in in
         let y : one_if (is_shared (hold a)) ≡ 1 = ap (λ (h : Hold). one_if (is_shared h)) mine in
         absurd (omega (arith, more, y, none))
+    by _ is = refl
 
 none_prop : (w : World Held) → IsProp (NoneHasLockAlone w)
 none_prop w = hlevel props

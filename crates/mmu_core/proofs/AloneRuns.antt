@@ -62,49 +62,24 @@ first_left y slots (SetSlot id slot) t S = first_setting (set_refusal y.pages id
 
 pub standing_left : (q : Place) (y : Sizes) (slots : MemorySlots) (command : Command) (t : Topics) → AreSizes y → steps_left (standing q y slots command) y t ≤ steps_left q y t
 standing_left place.Between y slots command t S = first_left y slots command t S
-standing_left (place.Access p) y slots command t S = omega arith
-standing_left (place.SetSlot p) y slots command t S = omega arith
+standing_left _ y slots command t S = omega arith
 
 -- Each place of a line has a step left.
 some_fault_left : (p : FaultPlace) (y : Sizes) (t : Topics) → 0 < fault_left p y t
-some_fault_left Begin y t = omega arith
-some_fault_left Snapshot y t = omega arith
-some_fault_left (Find begun) y t = omega arith
-some_fault_left Host y t = omega arith
-some_fault_left Share y t = omega arith
-some_fault_left (Check at) y t = omega arith
 some_fault_left (Walk true) y t = omega arith
 some_fault_left (Walk false) y t = omega arith
-some_fault_left (Claim begun) y t = omega arith
-some_fault_left Fill y t = omega arith
-some_fault_left Link y t = omega arith
-some_fault_left (Give e) y t = omega arith
-some_fault_left Leaf y t = omega arith
-some_fault_left (Unshare e) y t = omega arith
-some_fault_left (End e) y t = omega arith
+some_fault_left _ y t = omega arith
 
 some_access_left : (p : AccessPlace) (y : Sizes) (t : Topics) → 0 < access_left p y t
-some_access_left (access.Enter again) y t = omega arith
-some_access_left (access.Pause again) y t = omega arith
-some_access_left (access.Root again) y t = omega arith
 some_access_left (access.Walk again) y t = let two = two_left again y t in omega (arith, two)
-some_access_left access.Touch y t = omega arith
 some_access_left (access.Leave (leaving.Reached frame value)) y t = omega arith
 some_access_left (access.Leave leaving.Faults) y t = omega arith
 some_access_left (access.Fault p) y t = let some = some_fault_left p y t in omega (arith, some)
+some_access_left _ y t = omega arith
 
 some_setting_left : (p : SetSlotPlace) (y : Sizes) (t : Topics) → 0 < set_slot_left p y t
 some_setting_left (set_slot.Refuse refusal) y t = omega arith
-some_setting_left (set_slot.Claim begun) y t = omega arith
-some_setting_left set_slot.Fill y t = omega arith
-some_setting_left set_slot.Exclude y t = omega arith
-some_setting_left set_slot.Count y t = omega arith
-some_setting_left set_slot.Close y t = omega arith
-some_setting_left set_slot.Publish y t = omega arith
-some_setting_left set_slot.Release y t = omega arith
-some_setting_left set_slot.Watch y t = omega arith
-some_setting_left set_slot.Clear y t = omega arith
-some_setting_left set_slot.Give y t = omega arith
+some_setting_left _ y t = omega arith
 
 pub some_left : (p : Place) (y : Sizes) (t : Topics) → 0 < steps_left p y t
 some_left place.Between y t = omega arith
@@ -122,8 +97,7 @@ first_alone y slots (SetSlot id slot) words t = first_setting_alone (set_refusal
 
 standing_alone : (q : Place) (y : Sizes) (slots : MemorySlots) (command : Command) (words : Area → ℕ → ℕ) (t : Topics) → AloneKnows q command words t → AloneKnows (standing q y slots command) command words t
 standing_alone place.Between y slots command words t K = first_alone y slots command words t
-standing_alone (place.Access p) y slots command words t K = K
-standing_alone (place.SetSlot p) y slots command words t K = K
+standing_alone _ y slots command words t K = K
 
 goes_more : (o : Outcome) (command : Command) (y : Sizes) (words : Area → ℕ → ℕ) (t : Topics) (n m : ℕ) → n ≤ m → GoesAlone o command y words t n → GoesAlone o command y words t m
 goes_more (Goes p) command y words t n m le G = (G.0, G.1, let less = G.2 in omega (arith, less, le))
@@ -131,8 +105,7 @@ goes_more (Ends answer) command y words t n m le G = G
 
 under_line : (q : Place) (g : Held) → IsUnderWay q → line_at q g ≡ g.state.line
 under_line place.Between g under = absurd under
-under_line (place.Access p) g under = refl
-under_line (place.SetSlot p) g under = refl
+under_line _ g under = refl
 
 -- The world behind a step, where the actor's hand is g.
 record Behind (z : Sizes) (a : ℕ) (after : World Held) (g : Held) (words : Area → ℕ → ℕ) : Type 0 where

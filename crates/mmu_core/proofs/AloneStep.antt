@@ -167,10 +167,7 @@ CameToEnd _ y u = Unit {0}
 
 came_by : (e : FaultEnd) (y : Sizes) (gfn : ℕ) (write : Bool) (t u : Topics) → u.claim.at ≡ t.claim.at → EndKnows e y gfn write t → CameToEnd (next_of.Ends e) y u
 came_by end_of.Starved y gfn write t u same K = omega (arith, same, K)
-came_by end_of.Installed y gfn write t u same K = tt
-came_by end_of.Mmio y gfn write t u same K = tt
-came_by end_of.HostFault y gfn write t u same K = tt
-came_by (end_of.Retry cause) y gfn write t u same K = tt
+came_by _ y gfn write t u same K = tt
 
 came_to_end : (p : FaultPlace) (y : Sizes) (gfn : ℕ) (write : Bool) (t : Topics) (v : ℕ) → FaultKnows p y gfn write t → CameToEnd (fault_next p y gfn write t v) y (part_topics (fault_part p gfn t) t v)
 came_to_end (fault.End e) y gfn write t v K = came_by e y gfn write t (part_topics (fault_part (fault.End e) gfn t) t v) refl K.2
@@ -289,6 +286,5 @@ pub alone_step : (z : Sizes) (w : World Held) (a : ℕ) → IsSound z w → Othe
     → AloneStep p command (hand_in mmu w a) (word_in z w)
 alone_step z w a sound others there R own sizes place.Between line command begun may K leaves needs alone = absurd begun
 alone_step z w a sound others there R own sizes (place.Access p) line (Access gfn word op) begun may K leaves needs alone = access_step z w a sound others there R own sizes p line gfn word op may K alone
-alone_step z w a sound others there R own sizes (place.Access p) line (SetSlot id slot) begun may K leaves needs alone = absurd K
-alone_step z w a sound others there R own sizes (place.SetSlot p) line (Access gfn word op) begun may K leaves needs alone = absurd K
 alone_step z w a sound others there R own sizes (place.SetSlot p) line (SetSlot id slot) begun may K leaves needs alone = setting_step z w a sound others there R own sizes p line id slot K leaves needs alone
+alone_step z w a sound others there R own sizes _ line _ begun may K leaves needs alone = absurd K

@@ -102,9 +102,7 @@ leaf_found z v a gfn lt I P over leaf = by (P.tree.entries page (at walk.level w
 -- What a stay caches is a leaf.
 pub found_is_leaf : (k : SpteKind) (allowed : Bool) → is_found k allowed ≡ true → k ≡ entry_kind.Leaf
 found_is_leaf entry_kind.Leaf allowed is = refl
-found_is_leaf entry_kind.Absent allowed is = absurd (cc is)
-found_is_leaf entry_kind.Frozen allowed is = absurd (cc is)
-found_is_leaf (entry_kind.Table page) allowed is = absurd (cc is)
+found_is_leaf _ allowed is = absurd (cc is)
 
 -- A leaf that agrees is cached before all others.
 with_leaf_kept : (pool host : ℕ → ℕ) (set gfn level leaf : ℕ) (c : Buffer Translation) → level ≡ 1 → IsLeafFor pool host set gfn leaf → CachedPart pool host set c.items → CachedPart pool host set (with_leaf gfn level leaf c).items

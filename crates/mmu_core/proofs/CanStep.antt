@@ -35,8 +35,7 @@ use Rattle.mmu_core.proofs.Which.{enabled_is}
 -- What a step writes has 64 bits.
 touch_small : (op : Op) (gfn word index : ℕ) → WritesOneWord (Access gfn word op) → (touch_of op index).written < 2 ^ 64
 touch_small Read gfn word index fits = omega arith
-touch_small (Write x) gfn word index fits = fits
-touch_small (Add x) gfn word index fits = fits
+touch_small _ gfn word index fits = fits
 
 access_small : (s : Option PartStep) (h : Held) (note gfn word : ℕ) (op : Op) (index : ℕ) → PartRests h → RestsOn s h → WritesOneWord (Access gfn word op) → (task_by s h note (touch_of op index)).written < 2 ^ 64
 access_small None h note gfn word op index R N fits = touch_small op gfn word index fits
@@ -46,9 +45,8 @@ written_small : (p : Place) (actor : Actor) (command : Command) (h : Held) → P
 written_small place.Between actor (Access gfn word op) h R may rests fits = omega arith
 written_small place.Between actor (SetSlot id slot) h R may rests fits = omega arith
 written_small (place.Access p) actor (Access gfn word op) h R may rests fits = access_small (access_part p gfn h.topics) h (access_note p) gfn word op _ R rests fits
-written_small (place.Access p) actor (SetSlot id slot) h R may rests fits = absurd rests
-written_small (place.SetSlot p) actor (Access gfn word op) h R may rests fits = absurd rests
 written_small (place.SetSlot p) actor (SetSlot id slot) h R may rests fits = part_small (set_slot_part p h id slot) h (set_slot_note p h) rests R
+written_small _ actor _ h R may rests fits = absurd rests
 
 pub may_step : (z : Sizes) (w : World Held) (a : ℕ) → IsSound z w → a < actors_of z → HasLine (hand_in mmu w a) → May mmu w (next_step z w a)
 may_step z w a G there has = record {

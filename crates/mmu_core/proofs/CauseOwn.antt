@@ -115,9 +115,7 @@ module _ (z : Sizes) (w : World Held) (ss : List (Step Kind)) (s : Step Kind) (G
 
   snapshot_saw : (gfn : ℕ) (hold : Hold) → hold ≡ Loose → Made part.Seq → FaultSaw z a w (Find false) gfn (sequenced (is_loose hold) t v) more behind
   snapshot_saw gfn Loose loose M = knows_now So a (place_of (map_of z) area.Seq 0) v w ss s may (record { by_actor = refl; on = word_on z u s G may part.Seq M; leaves = load_keeps z u s G may part.Seq M tt })
-  snapshot_saw gfn Shared loose M = absurd (cc loose)
-  snapshot_saw gfn (Owing word) loose M = absurd (cc loose)
-  snapshot_saw gfn Exclusive loose M = absurd (cc loose)
+  snapshot_saw gfn _ loose M = absurd (cc loose)
 
   -- ---- the search, the lock and the check
 
@@ -128,9 +126,8 @@ module _ (z : Sizes) (w : World Held) (ss : List (Step Kind)) (s : Step Kind) (G
 
   share_saw : (hold : Hold) (gfn : ℕ) → is_trying hold ≡ true → Made (share_part hold) → SeqIs (snapshot_taken t.invalidations.snapshot) ss u → FaultSaw z a w (share_next hold v) gfn (part_topics (share_part hold) t v) more behind
   share_saw Loose gfn try_ M K = let K_ = seq_longer _ part.Share M tt (inr (λ e. absurd (cc e))) K in either (has_writer v) Share (Check stage.Count) gfn (part_topics part.Share t v) K_ (K_, tt)
-  share_saw Shared gfn try_ M K = absurd (cc try_)
   share_saw (Owing word) gfn try_ M K = seq_longer _ part.Unshare M tt (inr (λ e. absurd (cc e))) K
-  share_saw Exclusive gfn try_ M K = absurd (cc try_)
+  share_saw _ gfn try_ M K = absurd (cc try_)
 
   found_it : (step : PartStep) (b : Area) (M : Made step) → IsLoad step → s.kind.word ≡ place_of (map_of z) b 0 → HasMade (Finds a (place_of (map_of z) b 0) v) So w more
   found_it step b M is here = made_now (Finds a (place_of (map_of z) b 0) v) So w ss s (record { by_actor = refl; on = here; finds = load_finds z u s G may step M is })
@@ -255,7 +252,6 @@ module _ (z : Sizes) (w : World Held) (ss : List (Step Kind)) (s : Step Kind) (G
   -- ---- each place
 
   pub own_saw : (p : FaultPlace) (gfn : ℕ) (write : Bool) → Made (fault_part p gfn t) → FaultKnows p z gfn write t → FaultSaw z a w p gfn t ss u → NextIs (λ actor. FaultSaw z actor w) a (fault_next p z gfn write t v) gfn (part_topics (fault_part p gfn t) t v) more behind
-  own_saw Begin gfn write M K S = tt
   own_saw Snapshot gfn write M K S = snapshot_saw gfn t.hold K.1 M
   own_saw (Find true) gfn write M K S = find_saw gfn write t.search.next (searched t.search v) (part_topics part.Slot t v) (seq_longer _ part.Slot M tt (inl tt) S)
   own_saw (Find false) gfn write M K S = seq_longer _ part.Slots M tt (inl tt) S
@@ -274,4 +270,4 @@ module _ (z : Sizes) (w : World Held) (ss : List (Step Kind)) (s : Step Kind) (G
   own_saw (Give e) gfn write M K S = end_longer z a w ss s (stays_in z u s G may part.Give M tt) e gfn S
   own_saw Leaf gfn write M K S = put_saw gfn (v == t.walk.entry) _ refl M S
   own_saw (Unshare e) gfn write M K S = end_longer z a w ss s (stays_in z u s G may part.Unshare M tt) e gfn S
-  own_saw (End e) gfn write M K S = tt
+  own_saw _ gfn write M K S = tt

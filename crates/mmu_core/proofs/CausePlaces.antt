@@ -36,10 +36,9 @@ module _ (z : Sizes) (actor : ℕ) (w : World Held) where
   FoundWord a number ss = HasMade (Finds actor (place_of (map_of z) a 0) number) (StaysInSection actor) w ss
 
   abbrev CheckSaw : CheckStage → Invalidations → List (Step Kind) → Type 0
-  CheckSaw stage.Count n ss = Unit {0}
   CheckSaw stage.Start n ss = FoundWord area.Count n.count ss
   CheckSaw stage.End n ss = FoundWord area.Count n.count ss × FoundWord area.RangeStart n.start ss
-  CheckSaw stage.Seq n ss = Unit {0}
+  CheckSaw _ n ss = Unit {0}
 
   abbrev EndSaw : FaultEnd → ℕ → List (Step Kind) → Type 0
   EndSaw (Retry cause) gfn ss = IsCaused cause z actor gfn w ss
@@ -63,10 +62,9 @@ module _ (z : Sizes) (actor : ℕ) (w : World Held) where
 
   module _ (ss : List (Step Kind)) (s : Step Kind) (so : StaysInSection actor s) where
     check_longer : (at : CheckStage) (n : Invalidations) → CheckSaw at n ss → CheckSaw at n (ss ++ s ∷ [])
-    check_longer stage.Count n C = tt
     check_longer stage.Start n C = made_longer (Finds actor _ n.count) (StaysInSection actor) w ss s so C
     check_longer stage.End n C = (made_longer (Finds actor _ n.count) (StaysInSection actor) w ss s so C.0, made_longer (Finds actor _ n.start) (StaysInSection actor) w ss s so C.1)
-    check_longer stage.Seq n C = tt
+    check_longer _ n C = tt
 
     caused_longer : (cause : Cause) (gfn : ℕ) → IsCaused cause z actor gfn w ss → IsCaused cause z actor gfn w (ss ++ s ∷ [])
     caused_longer (Open count start end_ at) gfn C = (
@@ -85,10 +83,7 @@ module _ (z : Sizes) (actor : ℕ) (w : World Held) where
 
     pub end_longer : (e : FaultEnd) (gfn : ℕ) → EndSaw e gfn ss → EndSaw e gfn (ss ++ s ∷ [])
     end_longer (Retry cause) gfn C = caused_longer cause gfn C
-    end_longer Installed gfn C = tt
-    end_longer Mmio gfn C = tt
-    end_longer HostFault gfn C = tt
-    end_longer Starved gfn C = tt
+    end_longer _ gfn C = tt
 
   -- Another actor's step takes nothing away.
   pub others_saw : (p : FaultPlace) (gfn : ℕ) (t : Topics) (ss : List (Step Kind)) (s : Step Kind) → May mmu (run mmu w ss) s → s.actor ≢ actor → FaultSaw p gfn t ss (run mmu w ss) → FaultSaw p gfn t (ss ++ s ∷ []) (effect mmu (run mmu w ss) s)
@@ -103,15 +98,9 @@ module _ (z : Sizes) (actor : ℕ) (w : World Held) where
       by : (q : FaultPlace) → FaultSaw q gfn t ss (run mmu w ss) → FaultSaw q gfn t (ss ++ s ∷ []) (effect mmu (run mmu w ss) s)
       by Begin K = tt
       by Snapshot K = tt
-      by (Find begun) K = longer _ _ K
-      by Host K = longer _ _ K
-      by Share K = longer _ _ K
       by (Check at) K = (longer _ _ K.0, check_longer ss s so at t.invalidations K.1)
       by (Walk rooted) K = tt
-      by (Claim begun) K = longer _ _ K
-      by Fill K = longer _ _ K
-      by Link K = longer _ _ K
-      by Leaf K = longer _ _ K
       by (Give e) K = end_longer ss s so e gfn K
       by (Unshare e) K = end_longer ss s so e gfn K
       by (End e) K = end_longer ss s so e gfn K
+      by _ K = longer _ _ K

@@ -20,8 +20,7 @@ use Rattle.mmu_core.specs.SetSlotSteps.{set_slot_note, set_slot_part}
 
 by_touch : (op : Op) (index : ℕ) (words : Area → ℕ → ℕ) → NoneOpened words → NoneOpened (words_after (touch_of op index) words)
 by_touch Read index words none = record { seq = none.seq; count = none.count }
-by_touch (Write x) index words none = record { seq = none.seq; count = none.count }
-by_touch (Add x) index words none = record { seq = none.seq; count = none.count }
+by_touch _ index words none = record { seq = none.seq; count = none.count }
 
 -- a part's step by the actor of this hand
 by_part : (step : PartStep) (note : ℕ) (h : Held) (words : Area → ℕ → ℕ) → NoneOpened words → NoneOpened (words_after (task_by (Some step) h note (touch_of Read 0)) words)
@@ -35,8 +34,6 @@ by_access (Some step) note h op index words none = by_part step note h words non
 
 -- Each step leaves sequence and count: it stores in other areas, or nothing.
 pub none_opened_kept : (p : Place) (command : Command) (h : Held) (words : Area → ℕ → ℕ) → NoneOpened words → NoneOpened (words_after (task_at p command h) words)
-none_opened_kept place.Between command h words none = record { seq = none.seq; count = none.count }
 none_opened_kept (place.Access p) (Access gfn word op) h words none = by_access (access_part p gfn h.topics) (access_note p) h op _ words none
-none_opened_kept (place.Access p) (SetSlot id slot) h words none = record { seq = none.seq; count = none.count }
-none_opened_kept (place.SetSlot p) (Access gfn word op) h words none = record { seq = none.seq; count = none.count }
 none_opened_kept (place.SetSlot p) (SetSlot id slot) h words none = by_part (set_slot_part p h id slot) (set_slot_note p h) h words none
+none_opened_kept _ _ h words none = record { seq = none.seq; count = none.count }

@@ -119,20 +119,16 @@ module _ (z : Sizes) (w : World Held) (Saw : Sights) (A : AreSeen z w Saw) (ss :
   stay_saw : (again : Bool) (k : SpteKind) (allowed : Bool) (gfn word : ℕ) (op : Op) (t : Topics) → SawNow (place.Access (stay_next again k allowed)) (Access gfn word op) t
   stay_saw again (entry_kind.Table page) allowed gfn word op t = tt
   stay_saw again entry_kind.Leaf true gfn word op t = tt
-  stay_saw again entry_kind.Leaf false gfn word op t = tt
-  stay_saw again entry_kind.Absent allowed gfn word op t = tt
-  stay_saw again entry_kind.Frozen allowed gfn word op t = tt
+  stay_saw again _ _ gfn word op t = tt
 
   access_saw : (p : AccessPlace) (gfn word : ℕ) (op : Op) → IsStepAt h s (place.Access p) (Access gfn word op) → LineSaw Saw s.actor (place.Access p) (Access gfn word op) h.topics ss u
       → SawNow (place_after (access_outcome p h gfn op v)) (Access gfn word op) behind
-  access_saw (access.Enter again) gfn word op K S = tt
   access_saw (access.Pause again) gfn word op K S = pause_saw again (first_usable gfn (is_write op) h.cached.items) gfn word op behind
-  access_saw (access.Root again) gfn word op K S = tt
   access_saw (access.Walk again) gfn word op K S = stay_saw again (kind_of h.topics.walk.level v) (allows_access (is_write op) v) gfn word op behind
-  access_saw access.Touch gfn word op K S = tt
   access_saw (access.Leave (leaving.Reached frame value)) gfn word op K S = tt
   access_saw (access.Leave leaving.Faults) gfn word op K S = A.begins s.actor gfn behind (ss ++ s ∷ []) (effect mmu u s)
   access_saw (access.Fault p) gfn word op K S = fault_saw p gfn word op K S
+  access_saw _ gfn word op K S = tt
 
   line_saw : (p : Place) (c : Command) → IsStepAt h s p c → LineSaw Saw s.actor p c h.topics ss u → SawNow (place_after (outcome_at p c h v)) c behind
   line_saw p (SetSlot id slot) K S = tt

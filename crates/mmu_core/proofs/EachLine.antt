@@ -73,14 +73,12 @@ module _ (z : Sizes) (w : World Held) (Saw : LineSights) (L : LinesSee z w Saw) 
   -- where its step is made: at its first place, where it begins
   stood_saw : (q : Place) → Saw s.actor q h.state.line.command h.topics ss u → Saw s.actor (place_at q h) (line_at q h).command h.topics ss u
   stood_saw place.Between S = L.first s.actor h.state.sizes h.slots (line_at place.Between h).command h.topics ss u
-  stood_saw (place.Access p) S = S
-  stood_saw (place.SetSlot p) S = S
+  stood_saw _ S = S
 
   -- Who has no line left has none under way.
   idle_saw : (p : Place) (c : Command) (t : Topics) → has_line h ≡ false → UnderWay p h → SawNow p c t
   idle_saw place.Between c t none U = L.between s.actor c t (ss ++ s ∷ []) (effect mmu u s)
-  idle_saw (place.Access p) c t none U = let has = has_line_is h U.1 in absurd (cc (none, has))
-  idle_saw (place.SetSlot p) c t none U = let has = has_line_is h U.1 in absurd (cc (none, has))
+  idle_saw _ c t none U = let has = has_line_is h U.1 in absurd (cc (none, has))
 
   own_step : HandSaw Saw s.actor ss u → HandSaw Saw s.actor (ss ++ s ∷ []) (effect mmu u s)
   own_step S = by (has_line h) refl
@@ -127,5 +125,4 @@ step_there h s q c N stands command under = subst (IsStepOf h s q) command (by q
   where
     by : (p : Place) → IsUnderWay p → IsStepFrom h s p → IsStepOf h s p h.state.line.command
     by place.Between begun is = absurd begun
-    by (place.Access p) begun is = is
-    by (place.SetSlot p) begun is = is
+    by _ begun is = is

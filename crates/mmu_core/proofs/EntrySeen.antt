@@ -56,9 +56,7 @@ finds_not gfn write f found is = finds_by (is_last_word f && contains gfn found.
 
 shares_not : (k : Hold) (v : ℕ) → ends_installed (share_next k v) ≡ true → ⊥
 shares_not (Owing word) v is = cc is
-shares_not Loose v is = neither (has_writer v) fault.Share (fault.Check stage.Count) refl refl is
-shares_not Shared v is = neither (has_writer v) fault.Share (fault.Check stage.Count) refl refl is
-shares_not Exclusive v is = neither (has_writer v) fault.Share (fault.Check stage.Count) refl refl is
+shares_not _ v is = neither (has_writer v) fault.Share (fault.Check stage.Count) refl refl is
 
 checks_not : (at_ : CheckStage) (gfn : ℕ) (t : Topics) (v : ℕ) → ends_installed (check_next at_ gfn t v) ≡ true → ⊥
 checks_not stage.Count gfn t v is = neither (v == 0) (fault.Check stage.Seq) (fault.Check stage.Start) refl refl is
@@ -75,9 +73,7 @@ claims_not false z claim v is = neither (nat_lt (claim.at + (if v == 0 then 1 el
 walk_sees : (k : SpteKind) (z : Sizes) (gfn : ℕ) (write : Bool) (t : Topics) (pool : ℕ → ℕ) (v : ℕ) → pool (pool_index (table_page t.walk) (entry_index gfn t.walk.level)) ≡ v
     → SeesEntry (next_of.Goes (walk_next k z gfn write t.walk v)) pool gfn (record t { walk = gone_down (linked_page k) t.walk (entry_index gfn t.walk.level) v })
 walk_sees (entry_kind.Table page) z gfn write t pool v here = λ is. absurd (cc is)
-walk_sees entry_kind.Leaf z gfn write t pool v here = λ is. here
-walk_sees entry_kind.Absent z gfn write t pool v here = λ is. here
-walk_sees entry_kind.Frozen z gfn write t pool v here = λ is. here
+walk_sees _ z gfn write t pool v here = λ is. here
 
 leaf_sees : (won : Bool) (z : Sizes) (gfn v : ℕ) (t : Topics) (pool : ℕ → ℕ) (cause : FaultEnd) → has_installed cause ≡ false → t.walk.level ≡ 1 → v ≡ pool (pool_index (table_page t.walk) (entry_index gfn t.walk.level))
     → SeesEntry (next_of.Goes (if won then fault.Unshare end_of.Installed else fault.Unshare cause))
@@ -97,8 +93,6 @@ leaf_sees true z gfn v t pool cause not_ low is =
 pub fault_sees : (p : FaultPlace) (z : Sizes) (own gfn note : ℕ) (write : Bool) (t : Topics) (words : Area → ℕ → ℕ) → ends_installed p ≡ false → FaultKnows p z gfn write t
     → SeesEntry (fault_next p z gfn write t (answer_in (part_task (fault_part p gfn t) own t note) words)) (words_after (part_task (fault_part p gfn t) own t note) words area.Pool) gfn
     (part_topics (fault_part p gfn t) t (answer_in (part_task (fault_part p gfn t) own t note) words))
-fault_sees fault.Begin z own gfn note write t words not_ K = λ is. absurd (cc is)
-fault_sees fault.Snapshot z own gfn note write t words not_ K = λ is. absurd (cc is)
 fault_sees (fault.Find true) z own gfn note write t words not_ K =
     let v : ℕ = answer_in (part_task part.Slot own t note) words in
     λ is. absurd (finds_not gfn write t.search.next (searched t.search v) is)
@@ -125,3 +119,4 @@ fault_sees fault.Leaf z own gfn note write t words not_ K =
     leaf_sees (v == t.walk.entry) z gfn v t (words area.Pool) (end_of.Retry (Entry (entry_word z gfn t.walk) t.walk.entry v)) refl K.3 refl
 fault_sees (fault.Unshare e) z own gfn note write t words not_ K = λ is. absurd (cc (not_, is))
 fault_sees (fault.End e) z own gfn note write t words not_ K = not_
+fault_sees _ z own gfn note write t words not_ K = λ is. absurd (cc is)

@@ -137,8 +137,7 @@ begun_all h = at (length h.answers) h.state.place
   where
     at : (n : ℕ) (p : Place) → n ≤ begun_count p n
     at n place.Between = omega arith
-    at n (place.Access p) = omega arith
-    at n (place.SetSlot p) = omega arith
+    at n _ = omega arith
 
 whole_of : (z : Sizes) (lines : List Line) (w : World Held) (ss : List (Step Kind)) (i : ℕ) → IsStart z lines w → Legal mmu w ss → i < actors_of z
     → length (hand_in mmu (run mmu w ss) i).answers ≡ length (hand_in mmu (run mmu w ss) i).lines → Whole (actor_at z i) (history w ss) lines
@@ -169,14 +168,9 @@ equal n = grind (arith, nat_tests)
 -- Each line's actor has one.
 present : (z : Sizes) (actor : Actor) (command : Command) → IsCommandFor z actor command → Present z actor
 present z (Vcpu n) (Access gfn word op) may = (n, omega (arith, may.0), rw (less n z.vcpus may.0) refl)
-present z (Vcpu n) (SetSlot id slot) may = absurd may
-present z (Host n) (Access gfn word op) may = absurd may
-present z (Host n) (SetSlot id slot) may = absurd may
-present z Manager (Access gfn word op) may = absurd may
 present z Manager (SetSlot id slot) may =
     (z.vcpus + z.hosts, omega arith, rw (not_less (z.vcpus + z.hosts) z.vcpus (omega arith), not_less (z.vcpus + z.hosts - z.vcpus) z.hosts (omega arith), equal (z.vcpus + z.hosts)) refl)
-present z (Worker n) (Access gfn word op) may = absurd may
-present z (Worker n) (SetSlot id slot) may = absurd may
+present z _ _ may = absurd may
 
 -- An actor has a hand, or is none of those that have one.
 pub present_or : (z : Sizes) (actor : Actor) → Present z actor ⊎ ((j : ℕ) → j < actors_of z → is_same actor (actor_at z j) ≡ false)

@@ -48,8 +48,7 @@ use Rattle.mmu_core.proofs.PartStepping.{IsPart, idle_never}
 -- A hand with no line left has none under way.
 none_under : (p : Place) (h : Held) → UnderWay p h → has_line h ≡ false → p ≡ place.Between
 none_under place.Between h under none = refl
-none_under (place.Access p) h under none = let has = has_line_is h under.1 in absurd (cc (none, has))
-none_under (place.SetSlot p) h under none = let has = has_line_is h under.1 in absurd (cc (none, has))
+none_under _ h under none = let has = has_line_is h under.1 in absurd (cc (none, has))
 
 -- A step of a line is one of a part that its actor may make, or none.
 part_or : (z : Sizes) (v : View) (a : ℕ) (o : Option PartStep) → ((step : PartStep) → o ≡ Some step → IsPart z v a step) → IsPartOr z v a o
@@ -59,9 +58,8 @@ part_or z v a (Some step) makes = makes step refl
 part_of : (z : Sizes) (v : View) (a : ℕ) (line : Line) (command : Command) (p : Place) → AreSmall v → IsStep z v a line command p → Invariant z v → TopicsInvariant z v → PartOf z v a command p
 part_of z v a line command place.Between small S I P = absurd S.begun
 part_of z v a line (Access gfn word op) (place.Access p) small S I P = part_or z v a (access_part p gfn (v.hand a).topics) (makes_parts z v a line p gfn word op small S I P)
-part_of z v a line (SetSlot id slot) (place.Access p) small S I P = tt
-part_of z v a line (Access gfn word op) (place.SetSlot p) small S I P = tt
 part_of z v a line (SetSlot id slot) (place.SetSlot p) small S I P = makes_setting z v a line p id slot small S I P
+part_of z v a line _ _ small S I P = tt
 
 -- A step of a part tells nothing, and the words still stand for the same facts.
 part_keeps_flat : (z : Sizes) (v : View) (f : Flat) (a : ℕ) (step : PartStep) (note : ℕ) → IsPart z v a step → has_line (v.hand a) ≡ false → Invariant z v → TopicsInvariant z v → FlatInvariant z v f

@@ -93,9 +93,7 @@ module _ (root set : ℕ) (map pool : ℕ → ℕ) (gfn : ℕ) (write : Bool) wh
 
   share_alone : (k : Hold) (words : Area → ℕ → ℕ) (a note : ℕ) (t u : Topics) → k ≡ Loose → words area.Lock 0 ≡ 0 → FaultAlone (share_next k (answer_in (part_task (share_part k) a t note) words)) root set map pool gfn write u
   share_alone Loose words a note t u loose free = subst (λ b. FaultAlone (if b then Share else Check stage.Count) root set map pool gfn write u) (sym (no_writer (words area.Lock 0) free)) tt
-  share_alone Shared words a note t u loose free = absurd (cc loose)
-  share_alone (Owing word) words a note t u loose free = absurd (cc loose)
-  share_alone Exclusive words a note t u loose free = absurd (cc loose)
+  share_alone _ words a note t u loose free = absurd (cc loose)
 
   count_alone : (v : ℕ) (u : Topics) → v ≡ 0 → FaultAlone (if v == 0 then Check stage.Seq else Check stage.Start) root set map pool gfn write u
   count_alone v u none = subst (λ b. FaultAlone (if b then Check stage.Seq else Check stage.Start) root set map pool gfn write u) (sym (is_it v 0 none)) tt
@@ -378,5 +376,4 @@ goes_through z w a gfn note write Leaf R =
           leaf_alone (behind area.Root 0) (behind area.Slots 0) (behind area.PoolMap) (behind area.Pool) gfn write (v == t.walk.entry) (Unshare (Retry (Entry (entry_word z gfn t.walk) t.walk.entry v))) (part_topics (part.Leaf gfn) t v) (is_it v t.walk.entry R.alone)
           (leaf_leads z w a gfn note write Leaf R R.knows.0 R.knows.2 R.knows.3 R.alone);
     }
-goes_through z w a gfn note write (Unshare e) R = record { goes = refl; next = R.alone }
-goes_through z w a gfn note write (End e) R = record { goes = refl; next = R.alone }
+goes_through z w a gfn note write _ R = record { goes = refl; next = R.alone }

@@ -76,9 +76,8 @@ share_falls Loose z t v try_ goes = by (has_writer v)
     by : (b : Bool) → fault_left (if b then Share else Check stage.Count) z (record t { hold = if b then Owing v else Shared; invalidations = (part_topics part.Share t v).invalidations }) < entering_left z + 4 + 2
     by true = omega arith
     by false = omega arith
-share_falls Shared z t v try_ goes = absurd (cc try_)
 share_falls (Owing word) z t v try_ goes = absurd (cc goes)
-share_falls Exclusive z t v try_ goes = absurd (cc try_)
+share_falls _ z t v try_ goes = absurd (cc try_)
 
 -- the check
 check_falls : (at : CheckStage) (z : Sizes) (gfn : ℕ) (t u : Topics) (v : ℕ) → fault_left (check_next at gfn t v) z u < entering_left z + check_left at
@@ -117,8 +116,7 @@ four_left z level = omega arith
 
 leaf_falls : (lowest allows : Bool) (z : Sizes) (word v level : ℕ) (u : Topics) → fault_left (if lowest then (if allows then Unshare Installed else Leaf) else Unshare (Retry (Entry word v v))) z u < walk_left z level
 leaf_falls true true z word v level u = let four = four_left z level in omega (arith, four)
-leaf_falls true false z word v level u = let four = four_left z level in omega (arith, four)
-leaf_falls false allows z word v level u = let four = four_left z level in omega (arith, four)
+leaf_falls _ _ z word v level u = let four = four_left z level in omega (arith, four)
 
 none_falls : (lowest : Bool) (z : Sizes) (u : Topics) → (u.walk.level == 1) ≡ lowest → 1 ≤ u.walk.level → u.walk.level ≤ 4 → fault_left (if lowest then Leaf else Claim false) z u < walk_left z u.walk.level
 none_falls true z u is from most = let four = four_left z u.walk.level in omega (arith, four)
@@ -193,8 +191,6 @@ leaf_put false z word read v u = omega arith
 
 pub fault_falls : (p : FaultPlace) (h : Held) (gfn v : ℕ) (write : Bool) → gfn < 2 ^ 36 → PartRests h → FaultKnows p h.state.sizes gfn write h.topics → waits p h.topics v ≡ false
     → next_left (fault_next p h.state.sizes gfn write h.topics v) h.state.sizes (part_topics (fault_part p gfn h.topics) h.topics v) < fault_left p h.state.sizes h.topics
-fault_falls Begin h gfn v write small R K goes = omega arith
-fault_falls Snapshot h gfn v write small R K goes = omega arith
 fault_falls (Find true) h gfn v write small R K goes = let set = K.1 refl in slot_falls (is_some h.topics.search.set) h.state.sizes gfn write h.topics v set.0 set.1
 fault_falls (Find false) h gfn v write small R K goes = omega arith
 fault_falls Host h gfn v write small R K goes = host_falls (write && not (host_allows_write v)) h.state.sizes (part_topics (fault_part Host gfn h.topics) h.topics v) K.0.loose
@@ -207,10 +203,8 @@ fault_falls Fill h gfn v write small R K goes = fill_falls h.state.sizes h.topic
 fault_falls Link h gfn v write small R K goes =
     let low : K.2.owned.page < 2 ^ 32 = let page = R.page K.2.owned K.2.is in let most = R.sizes.pool.1 in omega (arith, page, most) in
     link_falls (v == h.topics.walk.entry) h.state.sizes h.topics gfn v K.2.owned K.1.upper K.2.is low
-fault_falls (Give e) h gfn v write small R K goes = omega arith
 fault_falls Leaf h gfn v write small R K goes = leaf_put (v == h.topics.walk.entry) h.state.sizes (entry_word h.state.sizes gfn h.topics.walk) h.topics.walk.entry v _
-fault_falls (Unshare e) h gfn v write small R K goes = omega arith
-fault_falls (End e) h gfn v write small R K goes = omega arith
+fault_falls _ h gfn v write small R K goes = omega arith
 
 pub fault_is_bounded : (z : Sizes) (t : Topics) → AreSizes z → fault_left Begin z t ≤ 8192 + z.pool
 fault_is_bounded z t S = let most = S.pool.1 in omega (arith, most)

@@ -65,9 +65,7 @@ module _ (pool : ℕ → ℕ) (gfn : ℕ) (op : Op) (t : Topics) (notes : Notes)
 
   share_noted : (hold : Hold) (x : ℕ) → Noted (share_next hold x)
   share_noted (Owing word) x = tt
-  share_noted Loose x = either (has_writer x) Share (Check stage.Count) tt tt
-  share_noted Shared x = either (has_writer x) Share (Check stage.Count) tt tt
-  share_noted Exclusive x = either (has_writer x) Share (Check stage.Count) tt tt
+  share_noted _ x = either (has_writer x) Share (Check stage.Count) tt tt
 
   check_noted : (at : CheckStage) (h : Topics) (x : ℕ) → Noted (check_next at gfn h x)
   check_noted stage.Count h x = either (x == 0) (Check stage.Seq) (Check stage.Start) tt tt
@@ -78,12 +76,11 @@ module _ (pool : ℕ → ℕ) (gfn : ℕ) (op : Op) (t : Topics) (notes : Notes)
       either (x == snapshot_taken h.invalidations.snapshot) (Walk false) (Unshare (Retry (Moved (snapshot_taken h.invalidations.snapshot) x))) tt tt
 
   walk_noted : (k : SpteKind) (z : Sizes) (write : Bool) (walk : TableWalk) (x : ℕ) → Noted (walk_next k z gfn write walk x)
-  walk_noted (entry_kind.Table page) z write walk x = tt
   walk_noted entry_kind.Leaf z write walk x =
       either (walk.level == 1) (if allows_access write x then Unshare Installed else Leaf) (Unshare (Retry (Entry (entry_word z gfn walk) x x)))
       (either (allows_access write x) (Unshare Installed) Leaf tt tt) tt
   walk_noted entry_kind.Absent z write walk x = either (walk.level == 1) Leaf (Claim false) tt tt
-  walk_noted entry_kind.Frozen z write walk x = tt
+  walk_noted _ z write walk x = tt
 
   claim_noted : (tries : Bool) (z : Sizes) (h : Topics) (begun : Bool) (x : ℕ) → Noted (claim_next tries z (at_map_word begun h.claim) x)
   claim_noted true z h begun x = either (is_won (at_map_word begun h.claim) x) Fill (Claim true) tt tt

@@ -80,10 +80,9 @@ one_further false id low = omega arith
 find_known : (f : SlotField) (z : Sizes) (gfn : ℕ) (write : Bool) (t : Topics) (v : ℕ) → t.search.id ≤ 31 → WithoutLock t → HoldsSet t
     → FaultKnows (find_next gfn write f (searched_at f t.search v)) z gfn write (record t { search = searched_at f t.search v })
 find_known field.Flags z gfn write t v low W set = find_goes_on ((searched_at field.Flags t.search v).id == 32) z gfn write _ refl (one_further _ t.search.id low) (same_without t _ refl refl refl refl W) set
-find_known field.Base z gfn write t v low W set = find_goes_on (t.search.id == 32) z gfn write _ refl (omega arith) (same_without t _ refl refl refl refl W) set
-find_known field.Pages z gfn write t v low W set = find_goes_on (t.search.id == 32) z gfn write _ refl (omega arith) (same_without t _ refl refl refl refl W) set
 find_known field.Host z gfn write t v low W set =
     slot_found (contains gfn (searched_at field.Host t.search v).slot) (write && t.search.slot.read_only) z gfn write _ refl refl refl (omega arith) (same_without t _ refl refl refl refl W) set
+find_known _ z gfn write t v low W set = find_goes_on (t.search.id == 32) z gfn write _ refl (omega arith) (same_without t _ refl refl refl refl W) set
 
 slot_known : (z : Sizes) (gfn : ℕ) (write b : Bool) (t : Topics) (v : ℕ) → b ≡ true → t.search.id ≤ 31 → WithoutLock t → HoldsSet t
     → FaultKnows (find_next gfn write t.search.next (searched t.search v)) z gfn write (record t { search = if b then searched t.search v else t.search })
@@ -128,9 +127,8 @@ kept_table t section = ap (λ (s : Stay). kept_walk (not (is_outside s)) t.walk)
 share_known : (k : Hold) (z : Sizes) (gfn : ℕ) (write : Bool) (t : Topics) (v : ℕ) → is_trying k ≡ true → InSection t → LookedFor gfn write t
     → FaultKnows (share_next k v) z gfn write (part_topics (share_part k) t v)
 share_known Loose z gfn write t v try_ I L = shared_known (has_writer v) z gfn write t v I L
-share_known Shared z gfn write t v try_ I L = absurd (cc try_)
 share_known (Owing word) z gfn write t v try_ I L = (record { section = I.section; owns_none = I.owns_none }, refl, same_looked gfn write t _ (kept t I.section) refl refl L)
-share_known Exclusive z gfn write t v try_ I L = absurd (cc try_)
+share_known _ z gfn write t v try_ I L = absurd (cc try_)
 
 -- the check
 count_known : (b : Bool) (z : Sizes) (gfn : ℕ) (write : Bool) (t : Topics) (v : ℕ) → (v == 0) ≡ b → Sharing gfn write t → t.owned ≡ None
@@ -397,30 +395,4 @@ fault_known (End e) h gfn v write small R K A = record { outside = refl; loose =
 -- A fill answers what it stored.
 pub parts_answer : (step : PartStep) (own : ℕ) (t : Topics) (note : ℕ) (words : Area → ℕ → ℕ) → CanAnswer step (answer_in (part_task step own t note) words)
 parts_answer (part.Fill value) own t note words = fill_answers (words_filled t.owned == 512) (page_owned t.owned) (words_filled t.owned) value note words
-parts_answer part.Enter own t note words = tt
-parts_answer part.Leave own t note words = tt
-parts_answer part.Pause own t note words = tt
-parts_answer part.Begin own t note words = tt
-parts_answer part.End own t note words = tt
-parts_answer part.Share own t note words = tt
-parts_answer part.Unshare own t note words = tt
-parts_answer part.Exclude own t note words = tt
-parts_answer part.Release own t note words = tt
-parts_answer (part.Map word) own t note words = tt
-parts_answer part.Claim own t note words = tt
-parts_answer part.Give own t note words = tt
-parts_answer part.Slots own t note words = tt
-parts_answer part.Slot own t note words = tt
-parts_answer part.Seq own t note words = tt
-parts_answer part.Count own t note words = tt
-parts_answer part.RangeStart own t note words = tt
-parts_answer part.RangeEnd own t note words = tt
-parts_answer part.Root own t note words = tt
-parts_answer (part.Walk gfn) own t note words = tt
-parts_answer (part.Link gfn) own t note words = tt
-parts_answer (part.Leaf gfn) own t note words = tt
-parts_answer (part.Host page) own t note words = tt
-parts_answer (part.Watch index) own t note words = tt
-parts_answer part.Publish own t note words = tt
-parts_answer part.Clear own t note words = tt
-parts_answer part.GiveOld own t note words = tt
+parts_answer _ own t note words = tt

@@ -29,15 +29,12 @@ page_within gfn h R F =
 
 share_needs : (k : Hold) (h : Held) → h.topics.hold ≡ k → is_trying k ≡ true → PartNeeds (share_part k) h
 share_needs Loose h is try_ = is
-share_needs Shared h is try_ = absurd (cc try_)
 share_needs (Owing word) h is try_ = ap (λ (x : Hold). counts x) is
-share_needs Exclusive h is try_ = absurd (cc try_)
+share_needs _ h is try_ = absurd (cc try_)
 
 check_needs : (at : CheckStage) (h : Held) → PartNeeds (check_part at) h
 check_needs stage.Count h = tt
-check_needs stage.Start h = tt
-check_needs stage.End h = tt
-check_needs stage.Seq h = tt
+check_needs _ h = tt
 
 pub first_word : (z : Sizes) → AreSizes z → 0 < words_of_bits z.pool
 first_word z S = let four = S.pool.0 in omega (arith, four)

@@ -22,10 +22,8 @@ use Rattle.mmu_core.proofs.FaultSame.{both, is_not}
 -- It takes itself out of the lock's readers.
 owes : (k : Hold) (h : Held) (note : ℕ) → is_owing k ≡ true → ((word : ℕ) → k ≡ Owing word → has_writer word ≡ true)
     → ((part_kind h (share_part k) note).word ≡ place (map_of h.state.sizes) area.Lock 0) × (has_writer (word_owed k) ≡ true)
-owes Loose h note is saw = absurd (cc is)
-owes Shared h note is saw = absurd (cc is)
 owes (Owing word) h note is saw = (refl, saw word refl)
-owes Exclusive h note is saw = absurd (cc is)
+owes _ h note is saw = absurd (cc is)
 
 -- It tries a page, which is gone.
 tries : (tried begun : Bool) (h : Held) (note v : ℕ) → tries_page begun h.topics.claim ≡ tried → (tried && not (is_won h.topics.claim v)) ≡ true
@@ -38,15 +36,4 @@ tries false begun h note v is lost = absurd (cc lost)
 pub waits_see_another : (p : FaultPlace) (h : Held) (gfn note v : ℕ) → PartRests h → waits p h.topics v ≡ true → SawAnother p h.state.sizes h.topics (wait_seen p h gfn note v)
 waits_see_another Share h gfn note v R is = owes h.topics.hold h note is R.saw_writer
 waits_see_another (Claim begun) h gfn note v R is = tries (tries_page begun h.topics.claim) begun h note v refl is
-waits_see_another Begin h gfn note v R is = absurd (cc is)
-waits_see_another Snapshot h gfn note v R is = absurd (cc is)
-waits_see_another (Find begun) h gfn note v R is = absurd (cc is)
-waits_see_another Host h gfn note v R is = absurd (cc is)
-waits_see_another (Check at) h gfn note v R is = absurd (cc is)
-waits_see_another (Walk rooted) h gfn note v R is = absurd (cc is)
-waits_see_another Fill h gfn note v R is = absurd (cc is)
-waits_see_another Link h gfn note v R is = absurd (cc is)
-waits_see_another (Give e) h gfn note v R is = absurd (cc is)
-waits_see_another Leaf h gfn note v R is = absurd (cc is)
-waits_see_another (Unshare e) h gfn note v R is = absurd (cc is)
-waits_see_another (End e) h gfn note v R is = absurd (cc is)
+waits_see_another _ h gfn note v R is = absurd (cc is)

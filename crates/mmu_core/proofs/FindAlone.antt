@@ -83,9 +83,8 @@ module _ (root set : ℕ) (map pool : ℕ → ℕ) (gfn : ℕ) (write : Bool) wh
       → s.set ≡ Some set → x ≡ pool (slot_index set s.id f) → t.search ≡ searched_at f s x → NoneBelow gfn pool set s.id → FaultAlone (find_next gfn write f (searched_at f s x)) root set map pool gfn write t
   find_alone field.Flags z role s x t P loaded low held is search none =
       goes_on (if flags_live x then s.id else s.id + 1) t (ap (λ (r : SlotSearch). r.set) search ∙ held) (ap (λ (r : SlotSearch). r.id) search) (flags_passed (flags_live x) s.id (sym (ap flags_live is)) none)
-  find_alone field.Base z role s x t P loaded low held is search none = goes_on s.id t (ap (λ (r : SlotSearch). r.set) search ∙ held) (ap (λ (r : SlotSearch). r.id) search) none
-  find_alone field.Pages z role s x t P loaded low held is search none = goes_on s.id t (ap (λ (r : SlotSearch). r.set) search ∙ held) (ap (λ (r : SlotSearch). r.id) search) none
   find_alone field.Host z role s x t P loaded low held is search none = whole_loaded z role s x t P loaded low (ap (λ (r : SlotSearch). r.set) search ∙ held) (ap (λ (r : SlotSearch). r.id) search) none
+  find_alone _ z role s x t P loaded low held is search none = goes_on s.id t (ap (λ (r : SlotSearch). r.set) search ∙ held) (ap (λ (r : SlotSearch). r.id) search) none
 
 -- the search's step in a sound world
 pub find_goes : (z : Sizes) (w : World Held) (a gfn note : ℕ) (write : Bool) → RunsAlone z w a (Find true) gfn write

@@ -106,10 +106,9 @@ word_noted : (z : Sizes) (set k : ℕ) (role pool : ℕ → ℕ) (gfn x : ℕ) (
     → x ≡ pool (slot_index k s.id f) → t.search ≡ searched_at f s x → NotedTo pool notes k s.id gfn → NotedAt pool (find_next gfn (is_write op) f (searched_at f s x)) gfn op t notes
 word_noted z set k role pool gfn x op field.Flags s t notes P live held loaded low is search N =
     goes_on pool k gfn (if flags_live x then s.id else s.id + 1) op t notes (ap (λ (r : SlotSearch). r.set) search ∙ held) (ap (λ (r : SlotSearch). r.id) search) (flags_noted pool k gfn x s notes is N)
-word_noted z set k role pool gfn x op field.Base s t notes P live held loaded low is search N = goes_on pool k gfn s.id op t notes (ap (λ (r : SlotSearch). r.set) search ∙ held) (ap (λ (r : SlotSearch). r.id) search) N
-word_noted z set k role pool gfn x op field.Pages s t notes P live held loaded low is search N = goes_on pool k gfn s.id op t notes (ap (λ (r : SlotSearch). r.set) search ∙ held) (ap (λ (r : SlotSearch). r.id) search) N
 word_noted z set k role pool gfn x op field.Host s t notes P live held loaded low is search N =
     whole_noted z set k role pool gfn x op s t notes P live loaded low (ap (λ (r : SlotSearch). r.set) search ∙ held) (ap (λ (r : SlotSearch). r.id) search) N
+word_noted z set k role pool gfn x op _ s t notes P live held loaded low is search N = goes_on pool k gfn s.id op t notes (ap (λ (r : SlotSearch). r.set) search ∙ held) (ap (λ (r : SlotSearch). r.id) search) N
 
 pub find_noted : (z : Sizes) (set : ℕ) (role pool : ℕ → ℕ) (gfn x : ℕ) (op : Op) (f : SlotField) (s : SlotSearch) (t : Topics) (notes : Notes) → SlotSetPart z set role pool → ((k : ℕ) → s.set ≡ Some k → StayLive pool k pool set)
     → ((k : ℕ) → s.set ≡ Some k → HasLoaded f pool k s) → s.id ≤ 31 → x ≡ pool (slot_index (set_held s.set) s.id f) → t.search ≡ searched_at f s x → NotedSlots pool notes s gfn

@@ -69,9 +69,8 @@ step_goes : (z : Sizes) (v : View) (a : ℕ) (line : Line) (command : Command) (
     → IsStep z v a line command p → Invariant z v → TopicsInvariant z v → PartOf z v a command p → KnowsPart p command (v.hand a) → Ready z v line command p (v.hand a).topics f.facts u → StepGoes z v a line command p f.facts u
 step_goes z v a line command place.Between f u S I P part K R = absurd S.begun
 step_goes z v a line (Access gfn word op) (place.Access p) f u S I P part K R = access_goes z v a line gfn word f.facts u op p S I P part K R
-step_goes z v a line (SetSlot id slot) (place.Access p) f u S I P part K R = absurd S.holds
-step_goes z v a line (Access gfn word op) (place.SetSlot p) f u S I P part K R = absurd S.holds
 step_goes z v a line (SetSlot id slot) (place.SetSlot p) f u S I P part K R = set_slot_goes z v a line id slot f.facts u p S I P part R
+step_goes z v a line _ _ f u S I P part K R = absurd S.holds
 
 -- One actor has one place.
 pub same_index : (z : Sizes) (a b : Actor) → is_same a b ≡ true → index_of z a ≡ index_of z b
@@ -103,11 +102,8 @@ access_actor (access.Walk again) h gfn op x = refl
 access_actor _ h gfn op x = refl
 
 pub same_actor : (p : Place) (command : Command) (h : Held) (x : ℕ) → (loads_at p command h x).actor ≡ h.state.actor
-same_actor place.Between command h x = refl
 same_actor (place.Access p) (Access gfn word op) h x = access_actor p h gfn op x
-same_actor (place.Access p) (SetSlot id slot) h x = refl
-same_actor (place.SetSlot p) (Access gfn word op) h x = refl
-same_actor (place.SetSlot p) (SetSlot id slot) h x = refl
+same_actor _ _ h x = refl
 
 -- Behind the begin of its line a step meets flat memory.
 meets_begun : (z : Sizes) (v : View) (f : Flat) (a : ℕ) (line : Line) (command : Command) (p : Place) → IsStep z v a line command p → Invariant z v → TopicsInvariant z v → PartOf z v a command p → KnowsPart p command (v.hand a)
@@ -190,13 +186,11 @@ ready_first z v f a line command p S F e = record {
 -- A line goes on as it stood.
 stands_under : (q : Place) (z : Sizes) (slots : MemorySlots) (command : Command) → IsUnderWay q → standing q z slots command ≡ q
 stands_under place.Between z slots command under = absurd under
-stands_under (place.Access p) z slots command under = refl
-stands_under (place.SetSlot p) z slots command under = refl
+stands_under _ z slots command under = refl
 
 line_under : (q : Place) (h : Held) → IsUnderWay q → line_at q h ≡ h.state.line
 line_under place.Between h under = absurd under
-line_under (place.Access p) h under = refl
-line_under (place.SetSlot p) h under = refl
+line_under _ h under = refl
 
 ready_on : (z : Sizes) (v : View) (f : Flat) (a : ℕ) (line : Line) (command : Command) (p : Place) → IsStep z v a line command p → FlatInvariant z v f → IsUnderWay (v.hand a).state.place
     → Ready z v line command p (v.hand a).topics f.facts (f.under (v.hand a).state.actor)
@@ -244,8 +238,7 @@ flat_kept z v f a line command p S I P part K F = case (v.hand a).state.place re
         let idle : (f.under actor).stage ≡ Idle = subst (λ q. UnderIs (v.words area.Pool) q (v.hand a).state.line.command (v.hand a) (f.under actor)) e (F.under a S.there) in
         let rest = meets_begun z v begun a line command p S I P part K (ready_first z v f a line command p S F e) others in
         (((idle, S.own), rest.0), rest.1)
-    case (place.Access q) e = on (subst IsUnderWay (sym e) tt)
-    case (place.SetSlot q) e = on (subst IsUnderWay (sym e) tt)
+    case _ e = on (subst IsUnderWay (sym e) tt)
 
 -- A step tells what its hand's next step tells.
 pub told_is_events : (z : Sizes) (v : View) (a : ℕ) (line : Line) (p : Place) → IsStep z v a line line.command p

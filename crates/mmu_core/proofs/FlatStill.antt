@@ -70,8 +70,7 @@ pub under_still : (pool other : ℕ → ℕ) (p : Place) (command : Command) (h 
 under_still pool other place.Between command h u still under = under
 under_still pool other (place.Access p) (Access gfn word op) h u still under = (under.0, access_still pool other p gfn op h.topics u still under.1)
 under_still pool other (place.SetSlot p) (SetSlot id slot) h u still under = under
-under_still pool other (place.Access p) (SetSlot id slot) h u still under = absurd under
-under_still pool other (place.SetSlot p) (Access gfn word op) h u still under = absurd under
+under_still pool other _ _ h u still under = absurd under
 
 -- ---- Each step leaves the slot sets that other actors hold.
 
@@ -87,7 +86,6 @@ PartOf z v a _ _ = Unit {0}
 
 pub line_held : (z : Sizes) (v : View) (a : ℕ) (command : Command) (p : Place) → TopicsInvariant z v → PartOf z v a command p → (i k : ℕ) → i < actors_of z → i ≢ a → (v.hand i).topics.search.set ≡ Some k
     → SetStays k (v.words area.Pool) (words_after (task_at p command (v.hand a)) v.words area.Pool)
-line_held z v a command place.Between P part i k lt ne held = λ j low. refl
 line_held z v a (Access gfn word op) (place.Access p) P part i k lt ne held = by (access_part p gfn (v.hand a).topics) part
   where
     index : ℕ
@@ -96,6 +94,5 @@ line_held z v a (Access gfn word op) (place.Access p) P part i k lt ne held = by
     by : (o : Option PartStep) → IsPartOr z v a o → SetStays k (v.words area.Pool) (words_after (task_by o (v.hand a) (access_note p) (touch_of op index)) v.words area.Pool)
     by None part_ = λ j low. ap (λ (pool : ℕ → ℕ). pool (pool_index k j)) (touch_leaves_pool v.words op index)
     by (Some step) part_ = others_held z v a step (access_note p) part_ P i k lt ne held
-line_held z v a (SetSlot id slot) (place.Access p) P part i k lt ne held = λ j low. refl
-line_held z v a (Access gfn word op) (place.SetSlot p) P part i k lt ne held = λ j low. refl
 line_held z v a (SetSlot id slot) (place.SetSlot p) P part i k lt ne held = others_held z v a (set_slot_part p (v.hand a) id slot) (set_slot_note p (v.hand a)) part P i k lt ne held
+line_held z v a _ _ P part i k lt ne held = λ j low. refl

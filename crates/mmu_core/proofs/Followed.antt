@@ -32,8 +32,7 @@ use Rattle.mmu_core.proofs.ToldOf.{answered_with, answers_by_more, answers_told,
 -- how many of its lines a hand has begun, that has answered n and stands there
 abbrev pub begun_count : Place → ℕ → ℕ
 begun_count place.Between n = n
-begun_count (place.Access p) n = suc n
-begun_count (place.SetSlot p) n = suc n
+begun_count _ n = suc n
 
 abbrev pub begun_lines : Held → ℕ
 begun_lines h = begun_count h.state.place (length h.answers)
@@ -97,8 +96,7 @@ take_next (line ∷ lines) (suc n) lt = ap (λ (xs : List Line). line ∷ xs) (t
 
 take_begun : (stood : Place) (line : Line) (lines : List Line) (n : ℕ) → n < length lines → line ≡ unwrap_or (slice_get lines n) no_line → take (suc n) lines ≡ take (begun_count stood n) lines ++ begun_from stood line
 take_begun place.Between line lines n lt is = take_next lines n lt ∙ ap (λ (l : Line). take n lines ++ l ∷ []) (sym is)
-take_begun (place.Access p) line lines n lt is = sym (append-nil (take (suc n) lines))
-take_begun (place.SetSlot p) line lines n lt is = sym (append-nil (take (suc n) lines))
+take_begun _ line lines n lt is = sym (append-nil (take (suc n) lines))
 
 numbers_behind : (o : Outcome) (line : Line) (lines : List Line) (answers : List AnsweredLine) → length answers < length lines → line ≡ unwrap_or (slice_get lines (length answers)) no_line → Numbered answers lines → Numbered (answers_after o line answers) lines
 numbers_behind (Goes p) line lines answers lt is numbers = numbers

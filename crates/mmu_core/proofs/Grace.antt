@@ -78,8 +78,7 @@ same_index m i j e = omega (arith, e)
 
 outside_is : (stay : Stay) → not (is_outside stay) ≡ false → stay ≡ Outside
 outside_is Outside e = refl
-outside_is Guest e = absurd (cc e)
-outside_is Section e = absurd (cc e)
+outside_is _ e = absurd (cc e)
 
 -- What one step makes of a watch: it is the look that saw the actor at place i outside, or this actor was watched before, and no watch begins.
 abbrev OneLook : Sizes → World Held → Step Kind → ℕ → ℕ → Type 0

@@ -43,19 +43,11 @@ pub record IsSameState (before after : State) : Type 0 where
 
 access_same : (p : AccessPlace) (h : Held) (gfn : ℕ) (op : Op) (v : ℕ) → IsSameState h.state (access_loads p h gfn op v)
 access_same (Enter again) h gfn op v = record { actor = refl; sizes = refl }
-access_same (Pause again) h gfn op v = record { actor = refl; sizes = refl }
-access_same (Root again) h gfn op v = record { actor = refl; sizes = refl }
-access_same (Walk again) h gfn op v = record { actor = refl; sizes = refl }
-access_same Touch h gfn op v = record { actor = refl; sizes = refl }
-access_same (Leave how) h gfn op v = record { actor = refl; sizes = refl }
-access_same (Fault p) h gfn op v = record { actor = refl; sizes = refl }
+access_same _ h gfn op v = record { actor = refl; sizes = refl }
 
 pub loads_same : (p : Place) (command : Command) (h : Held) (v : ℕ) → IsSameState h.state (loads_at p command h v)
 loads_same (place.Access p) (Access gfn word op) h v = access_same p h gfn op v
-loads_same (place.SetSlot p) (SetSlot id slot) h v = record { actor = refl; sizes = refl }
-loads_same (place.Access p) (SetSlot id slot) h v = record { actor = refl; sizes = refl }
-loads_same (place.SetSlot p) (Access gfn word op) h v = record { actor = refl; sizes = refl }
-loads_same place.Between command h v = record { actor = refl; sizes = refl }
+loads_same _ _ h v = record { actor = refl; sizes = refl }
 
 pub next_same : (h : Held) (k : Kind) (v : ℕ) → IsSameHand h (next h k v)
 unfolding next
@@ -72,24 +64,17 @@ GoesUnderWay (Ends answer) = Unit {0}
 
 fault_over_goes : (e : FaultEnd) → GoesUnderWay (fault_over e)
 fault_over_goes end_of.Installed = tt
-fault_over_goes end_of.Mmio = tt
-fault_over_goes end_of.HostFault = tt
-fault_over_goes end_of.Starved = tt
-fault_over_goes (end_of.Retry cause) = tt
+fault_over_goes _ = tt
 
 fault_goes : (n : FaultNext) → GoesUnderWay (behind_fault n)
 fault_goes (next_of.Goes p) = tt
 fault_goes (next_of.Ends e) = fault_over_goes e
 
 access_goes : (p : AccessPlace) (h : Held) (gfn : ℕ) (op : Op) (v : ℕ) → GoesUnderWay (access_outcome p h gfn op v)
-access_goes (Enter again) h gfn op v = tt
-access_goes (Pause again) h gfn op v = tt
-access_goes (Root again) h gfn op v = tt
-access_goes (Walk again) h gfn op v = tt
-access_goes Touch h gfn op v = tt
 access_goes (Leave (leaving.Reached frame value)) h gfn op v = tt
 access_goes (Leave leaving.Faults) h gfn op v = tt
 access_goes (Fault p) h gfn op v = fault_goes (fault_next p h.state.sizes gfn (is_write op) h.topics v)
+access_goes _ h gfn op v = tt
 
 claim_goes : (tries : Bool) (z : Sizes) (claim : MapClaim) (v : ℕ) → GoesUnderWay (claim_outcome tries z claim v)
 claim_goes true z claim v = tt
@@ -106,9 +91,8 @@ set_slot_goes _ h v = tt
 pub outcome_goes : (p : Place) (command : Command) (h : Held) (v : ℕ) → IsUnderWay p → GoesUnderWay (outcome_at p command h v)
 outcome_goes place.Between command h v begun = absurd begun
 outcome_goes (place.Access p) (Access gfn word op) h v begun = access_goes p h gfn op v
-outcome_goes (place.Access p) (SetSlot id slot) h v begun = tt
-outcome_goes (place.SetSlot p) (Access gfn word op) h v begun = tt
 outcome_goes (place.SetSlot p) (SetSlot id slot) h v begun = set_slot_goes p h v
+outcome_goes _ _ h v begun = tt
 
 comes : (o : Outcome) (line : Line) (h g : Held) → GoesUnderWay o → g.state.place ≡ place_after o → g.state.line ≡ line → g.answers ≡ answers_after o line h.answers → Comes o line h g
 comes (Goes p) line h g goes stands line_is answers = record { under_way = rw stands goes; line_is = line_is; answers = answers }

@@ -147,9 +147,7 @@ slots_held slots stands t H = record { table = H.table; no_table = H.no_table; n
 -- a search goes on in the same slot set
 searched_set : (f : SlotField) (s : SlotSearch) (v : ℕ) → (searched_at f s v).set ≡ s.set
 searched_set field.Flags s v = refl
-searched_set field.Base s v = refl
-searched_set field.Pages s v = refl
-searched_set field.Host s v = refl
+searched_set _ s v = refl
 
 pub set_kept : (b : Bool) (s : SlotSearch) (v : ℕ) → (if b then searched s v else s).set ≡ s.set
 set_kept true s v = searched_set s.next s v
@@ -311,9 +309,7 @@ searched_id field.Flags s v le = by (flags_live v)
     by : (b : Bool) → (if b then s.id else s.id + 1) ≤ 32
     by true = omega (arith, le)
     by false = omega (arith, le)
-searched_id field.Base s v le = omega (arith, le)
-searched_id field.Pages s v le = omega (arith, le)
-searched_id field.Host s v le = omega (arith, le)
+searched_id _ s v le = omega (arith, le)
 
 slot_counts : (b : Bool) (s : SlotSearch) (v : ℕ) → s.id ≤ 31 → (if b then searched s v else s).id ≤ 32
 slot_counts true s v le = searched_id s.next s v le
@@ -400,8 +396,7 @@ snapshot_id false s = refl
 -- A walk that is let go has no run.
 let_go_run : (stay : Stay) (t : Topics) → RunFits t.walk → RunFits (let_go (record t { stay = stay })).walk
 let_go_run Outside t run = λ from. absurd (omega (arith, from))
-let_go_run Guest t run = run
-let_go_run Section t run = run
+let_go_run _ t run = run
 
 root_run : (b : Bool) (walk : TableWalk) (v : ℕ) → RunFits (at_root b walk v)
 root_run true walk v = λ from. omega arith

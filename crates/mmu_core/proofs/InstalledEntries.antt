@@ -100,9 +100,7 @@ pause_installed X (Some t) again still = λ is. absurd (cc is)
 walk_installed : (X : Type 0) (k : SpteKind) (again allowed : Bool) → (again ≡ true → X) → WhereInstalled (Goes (place.Access (stay_walk_next again k allowed))) X
 walk_installed X (entry_kind.Table page) again allowed still = still
 walk_installed X entry_kind.Leaf again true still = λ is. absurd (cc is)
-walk_installed X entry_kind.Leaf again false still = λ is. absurd (cc is)
-walk_installed X entry_kind.Absent again allowed still = λ is. absurd (cc is)
-walk_installed X entry_kind.Frozen again allowed still = λ is. absurd (cc is)
+walk_installed X _ again _ still = λ is. absurd (cc is)
 
 -- a step of an access: from such a place, or one that has just seen the entry
 module _ (X : Type 0) (h : Held) (gfn word : ℕ) (op : Op) (words : Area → ℕ → ℕ) (vcpu : IsVcpu h.state.actor) (small : gfn < 2 ^ 36) (R : PartRests h) where
@@ -119,9 +117,7 @@ module _ (X : Type 0) (h : Held) (gfn word : ℕ) (op : Op) (words : Area → �
   access_installed : (p : AccessPlace) → (is_installed p ≡ true → X) → AccessKnows p gfn (is_write op) h
       → Makes h.state.sizes (words_after (access_task p h gfn word op) words area.Pool) gfn (is_write op) (topics_at (place.Access p) (Access gfn word op) h words) X
       → WhereInstalled (access_outcome p h gfn op (answer_in (access_task p h gfn word op) words)) X
-  access_installed (Enter again) still K make = still
   access_installed (Pause again) still K make = pause_installed X (first_usable gfn (is_write op) h.cached.items) again still
-  access_installed (Root again) still K make = still
   access_installed (Walk again) still K make =
       let v : ℕ = answer_in (access_task (Walk again) h gfn word op) words in
       walk_installed X (kind_of h.topics.walk.level v) again (allows_access (is_write op) v) still
@@ -133,6 +129,7 @@ module _ (X : Type 0) (h : Held) (gfn word : ℕ) (op : Op) (words : Area → �
       let same : topics_at (place.Access (Fault p)) (Access gfn word op) h words ≡ part_topics (fault_part p gfn h.topics) h.topics v =
       task_topics (access_part (Fault p) gfn h.topics) h (access_note (Fault p)) op (content_index (map_of h.state.sizes) (frame_in h.state.leaf) word) v (access_needs (Fault p) h gfn (is_write op) vcpu small R K) in
       fault_installed p (ends_installed p) refl still K (subst (λ (t : Topics). Makes h.state.sizes (words_after (access_task (Fault p) h gfn word op) words area.Pool) gfn (is_write op) t X) same make)
+  access_installed _ still K make = still
 
 -- links lead to a leaf that allows the access
 abbrev pub Leads : (Area → ℕ → ℕ) → ℕ → Bool → Type 0
@@ -146,8 +143,7 @@ where_installed (Ends answer) gfn word op words x = tt
 
 no_access : (q : Place) (id : ℕ) (slot : Slot) (words : Area → ℕ → ℕ) → StaysInstalled q (SetSlot id slot) words
 no_access place.Between id slot words = tt
-no_access (place.Access p) id slot words = tt
-no_access (place.SetSlot p) id slot words = tt
+no_access _ id slot words = tt
 
 own_installed : (p : Place) (c : Command) (z : Sizes) (h : Held) (words : Area → ℕ → ℕ) → IsUnderWay p → IsCommandFor z h.state.actor c → PartRests h → KnowsPart p c h → StaysInstalled p c words
     → ((gfn : ℕ) (write : Bool) → Leads words gfn write → Leads (words_after (task_at p c h) words) gfn write)
@@ -159,16 +155,13 @@ own_installed (place.Access p) (Access gfn word op) z h words begun may R K stay
     let behind : Area → ℕ → ℕ = words_after (access_task p h gfn word op) words in
     where_installed (access_outcome p h gfn op (answer_in (access_task p h gfn word op) words)) gfn word op behind
     (access_installed (Leads behind gfn (is_write op)) h gfn word op words V.0 V.1 R p (λ is. still gfn (is_write op) (stays is)) K (make gfn (is_write op)))
-own_installed (place.Access p) (SetSlot id slot) z h words begun may R K stays still make = absurd K
-own_installed (place.SetSlot p) (Access gfn word op) z h words begun may R K stays still make = absurd K
 own_installed (place.SetSlot p) (SetSlot id slot) z h words begun may R K stays still make = no_access (place_after (set_slot_outcome p h (answer_in (set_slot_task p h id slot) words))) id slot _
+own_installed _ _ z h words begun may R K stays still make = absurd K
 
 -- of each other actor's line
 stays_on : (q : Place) (c : Command) (words behind : Area → ℕ → ℕ) → ((gfn : ℕ) (write : Bool) → Leads words gfn write → Leads behind gfn write) → StaysInstalled q c words → StaysInstalled q c behind
-stays_on place.Between c words behind still x = tt
 stays_on (place.Access p) (Access gfn word op) words behind still x = λ is. still gfn (is_write op) (x is)
-stays_on (place.Access p) (SetSlot id slot) words behind still x = tt
-stays_on (place.SetSlot p) c words behind still x = tt
+stays_on _ _ words behind still x = tt
 
 first_installed : (y : Sizes) (slots : MemorySlots) (c : Command) (words : Area → ℕ → ℕ) → StaysInstalled (first_place y slots c) c words
 first_installed y slots (Access gfn word op) words = λ is. absurd (cc is)
@@ -176,8 +169,7 @@ first_installed y slots (SetSlot id slot) words = tt
 
 pub standing_installed : (q : Place) (y : Sizes) (slots : MemorySlots) (h : Held) (words : Area → ℕ → ℕ) → StaysInstalled q h.state.line.command words → StaysInstalled (standing q y slots (line_at q h).command) (line_at q h).command words
 standing_installed place.Between y slots h words x = first_installed y slots (next_line h).command words
-standing_installed (place.Access p) y slots h words x = x
-standing_installed (place.SetSlot p) y slots h words x = x
+standing_installed _ y slots h words x = x
 
 -- ---- in a sound world
 
@@ -190,10 +182,7 @@ over_stands z w a gfn G there over =
 
 has_entry : (e : FaultEnd) (y : Sizes) (gfn : ℕ) (write : Bool) (t : Topics) → has_installed e ≡ true → EndKnows e y gfn write t → HasEntry gfn write t
 has_entry end_of.Installed y gfn write t is K = K
-has_entry end_of.Mmio y gfn write t is K = absurd (cc is)
-has_entry end_of.HostFault y gfn write t is K = absurd (cc is)
-has_entry end_of.Starved y gfn write t is K = absurd (cc is)
-has_entry (end_of.Retry cause) y gfn write t is K = absurd (cc is)
+has_entry _ y gfn write t is K = absurd (cc is)
 
 entry_known : (q : FaultPlace) (y : Sizes) (gfn : ℕ) (write : Bool) (t : Topics) → ends_installed q ≡ true → FaultKnows q y gfn write t → HasEntry gfn write t
 entry_known (fault.Give e) y gfn write t is K = has_entry e y gfn write t is K.3
@@ -221,14 +210,13 @@ walks_installed (place.Access (Walk again)) (Access gfn word op) z w a G there K
     let walk : TableWalk = (hand_in mmu w a).topics.walk in
     λ is. let L = stays is in record { entry = L.entry; leads = (leads_down z w gfn (table_page walk) walk.level L.entry G (over_stands z w a gfn G there K.1)).below L.leads; leaf = L.leaf; allows = L.allows }
 walks_installed (place.Access (Walk again)) (SetSlot id slot) z w a G there K stays = tt
-walks_installed place.Between c z w a G there K stays = tt
-walks_installed (place.SetSlot p) c z w a G there K stays = tt
 walks_installed (place.Access (Enter again)) c z w a G there K stays = tt
 walks_installed (place.Access (Pause again)) c z w a G there K stays = tt
 walks_installed (place.Access (Root again)) c z w a G there K stays = tt
 walks_installed (place.Access Touch) c z w a G there K stays = tt
 walks_installed (place.Access (Leave how)) c z w a G there K stays = tt
 walks_installed (place.Access (Fault p)) c z w a G there K stays = tt
+walks_installed _ c z w a G there K stays = tt
 
 -- ---- from world to world
 

@@ -19,6 +19,5 @@ pub step_kept : (z : Sizes) (v : View) (a : ℕ) (line : Line) (command : Comman
 step_kept z v a line command place.Between small S I P = absurd S.begun
 step_kept z v a line (Access gfn word op) (place.Access p) small S I P =
     access_kept z v a line p gfn word op S I P (step_knows z v a line (Access gfn word op) (place.Access p) S I) (makes_parts z v a line p gfn word op small S I P) (knows_behind z v a line (Access gfn word op) (place.Access p) S I P)
-step_kept z v a line (SetSlot id slot) (place.Access p) small S I P = absurd S.holds
-step_kept z v a line (Access gfn word op) (place.SetSlot p) small S I P = absurd S.holds
 step_kept z v a line (SetSlot id slot) (place.SetSlot p) small S I P = set_slot_kept z v a line p id slot S I P (makes_setting z v a line p id slot small S I P) (knows_behind z v a line (SetSlot id slot) (place.SetSlot p) S I P)
+step_kept z v a line _ _ small S I P = absurd S.holds

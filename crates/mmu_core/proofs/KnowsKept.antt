@@ -92,9 +92,7 @@ knows_after (Ends answer) command h K = λ has. K
 -- A processor makes accesses.
 pub access_vcpu : (z : Sizes) (actor : Actor) (gfn word : ℕ) (op : Op) → IsCommandFor z actor (Access gfn word op) → IsVcpu actor × (gfn < 2 ^ 36)
 access_vcpu z (Vcpu n) gfn word op may = (tt, may.1)
-access_vcpu z (Host n) gfn word op may = absurd may
-access_vcpu z Manager gfn word op may = absurd may
-access_vcpu z (Worker n) gfn word op may = absurd may
+access_vcpu z _ gfn word op may = absurd may
 
 -- What an access knows at a place meets the needs of its step.
 abbrev pub NeedsOf : Option PartStep → Held → Type 0
@@ -103,12 +101,11 @@ NeedsOf (Some step) h = PartNeeds step h
 
 pub access_needs : (p : AccessPlace) (h : Held) (gfn : ℕ) (write : Bool) → IsVcpu h.state.actor → gfn < 2 ^ 36 → PartRests h → AccessKnows p gfn write h → NeedsOf (access_part p gfn h.topics) h
 access_needs (Enter again) h gfn write vcpu small R K = (vcpu, K.outside)
-access_needs (Pause again) h gfn write vcpu small R K = tt
-access_needs (Root again) h gfn write vcpu small R K = tt
 access_needs (Walk again) h gfn write vcpu small R K = K.1
 access_needs Touch h gfn write vcpu small R K = K.0.guest
 access_needs (Leave how) h gfn write vcpu small R K = K.guest
 access_needs (Fault p) h gfn write vcpu small R K = fault_needs p h gfn write small R K
+access_needs _ h gfn write vcpu small R K = tt
 
 -- The translation that is used allows the access.
 found_usable : (gfn : ℕ) (write : Bool) (ts : List Translation) (t : Translation) → first_usable gfn write ts ≡ Some t → allows_access write t.leaf ≡ true
@@ -135,9 +132,7 @@ walk_known : (k : SpteKind) (allowed again : Bool) (gfn : ℕ) (write : Bool) (v
     → InGuest g.topics → g.topics.walk ≡ gone_down (linked_page k) t.walk (entry_index gfn t.walk.level) v → g.state.leaf ≡ v → AccessKnows (walk_next again k allowed) gfn write g
 walk_known (entry_kind.Table page) allowed again gfn write v t g is may most O I walk leaf = (I, subst (IsOver gfn) (sym walk) (gone_over gfn page v t.walk (above_lowest t.walk.level v page O.there is) most O))
 walk_known entry_kind.Leaf true again gfn write v t g is may most O I walk leaf = (I, ap (λ w. allows_access write w) leaf ∙ may)
-walk_known entry_kind.Leaf false again gfn write v t g is may most O I walk leaf = I
-walk_known entry_kind.Absent allowed again gfn write v t g is may most O I walk leaf = I
-walk_known entry_kind.Frozen allowed again gfn write v t g is may most O I walk leaf = I
+walk_known _ _ again gfn write v t g is may most O I walk leaf = I
 
 -- A fault goes on, or the access is at rest again.
 fault_over_known : (n : FaultNext) (gfn word : ℕ) (op : Op) (g : Held) → KnowsNext n g.state.sizes gfn (is_write op) g.topics → KnowsBehind (behind_fault n) (Access gfn word op) g
@@ -176,8 +171,7 @@ access_known (Fault p) line h gfn word op cached v small R K A =
 pub touch_topics : (z : Sizes) (op : Op) (index : ℕ) (t : Topics) (v : ℕ) → topics_after z (kind_of_task z (touch_of op index)) t v ≡ t
 unfolding topics_after
 touch_topics z Read index t v = refl
-touch_topics z (Write x) index t v = refl
-touch_topics z (Add x) index t v = refl
+touch_topics z _ index t v = refl
 
 pub task_topics : (s : Option PartStep) (h : Held) (note : ℕ) (op : Op) (index v : ℕ) → NeedsOf s h → topics_after h.state.sizes (kind_of_task h.state.sizes (task_by s h note (touch_of op index))) h.topics v ≡ behind_part s h.topics v
 task_topics None h note op index v N = touch_topics h.state.sizes op index h.topics v
@@ -229,9 +223,8 @@ own_known : (p : Place) (line : Line) (command : Command) (z : Sizes) (h : Held)
     → KnowsAfter line command p h (answer_in (task_at p command h) words)
 own_known place.Between line command z h words begun may R K left N = absurd begun
 own_known (place.Access p) line (Access gfn word op) z h words begun may R K left N = let V = access_vcpu z h.state.actor gfn word op may in own_access p line h gfn word op words V.0 V.1 R K
-own_known (place.Access p) line (SetSlot id slot) z h words begun may R K left N = absurd K
-own_known (place.SetSlot p) line (Access gfn word op) z h words begun may R K left N = absurd K
 own_known (place.SetSlot p) line (SetSlot id slot) z h words begun may R K left N = own_set_slot p line h id slot words R K left N
+own_known _ line _ z h words begun may R K left N = absurd K
 
 -- what a hand knows where its line stands, also where this is about to begin
 first_known : (z : Sizes) (command : Command) (h : Held) → IsAtRest h.topics → KnowsPart (first_place z h.slots command) command h
@@ -244,8 +237,7 @@ first_known z (SetSlot id slot) h R = by (set_refusal z.pages id slot h.slots)
 
 standing_known : (q : Place) (z : Sizes) (h : Held) → length h.answers < length h.lines → KnowsPart q h.state.line.command h → KnowsPart (standing q z h.slots (line_at q h).command) (line_at q h).command h
 standing_known place.Between z h left K = first_known z (line_at place.Between h).command h (K (has_line_is h left))
-standing_known (place.Access p) z h left K = K
-standing_known (place.SetSlot p) z h left K = K
+standing_known _ z h left K = K
 
 pub knows_at : (z : Sizes) (v : View) (a : ℕ) → Invariant z v → a < actors_of z → length (v.hand a).answers < length (v.hand a).lines
     → KnowsPart (place_at (v.hand a).state.place (v.hand a)) (line_at (v.hand a).state.place (v.hand a)).command (v.hand a)
@@ -262,8 +254,7 @@ first_leaves z command slots t none = λ may. none
 
 standing_leaves : (q : Place) (z : Sizes) (slots : MemorySlots) (command : Command) (t : Topics) → LeavesPart q t → LeavesPart (standing q z slots command) t
 standing_leaves place.Between z slots command t L = first_leaves z command slots t (L refl)
-standing_leaves (place.Access p) z slots command t L = L
-standing_leaves (place.SetSlot p) z slots command t L = L
+standing_leaves _ z slots command t L = L
 
 pub step_leaves : (z : Sizes) (v : View) (a : ℕ) (line : Line) (command : Command) (p : Place) → IsStep z v a line command p → Invariant z v → LeavesPart p (v.hand a).topics
 step_leaves z v a line command p S I =
@@ -297,8 +288,7 @@ knows_behind z v a line command p S I P =
 -- And so does each step of a part, by an actor with no line left.
 idle_knows : (q : Place) (command : Command) (h g : Held) → has_line h ≡ false → UnderWay q h → has_line g ≡ has_line h → KnowsPart q command g
 idle_knows place.Between command h g none under same = λ has. absurd (cc (none, same, has))
-idle_knows (place.Access p) command h g none under same = let has = has_line_is h under.1 in absurd (cc (none, has))
-idle_knows (place.SetSlot p) command h g none under same = let has = has_line_is h under.1 in absurd (cc (none, has))
+idle_knows _ command h g none under same = let has = has_line_is h under.1 in absurd (cc (none, has))
 
 pub part_knows_behind : (z : Sizes) (v : View) (a : ℕ) (step : PartStep) (note : ℕ) → has_line (v.hand a) ≡ false → Invariant z v → (i : ℕ) → i < actors_of z
     → KnowsPart ((part_stepped a step note v).hand i).state.place ((part_stepped a step note v).hand i).state.line.command ((part_stepped a step note v).hand i)

@@ -54,17 +54,12 @@ both_or (inl a) (inr never) = inr (λ p. never p.1)
 both_or (inr never) b = inr (λ p. never p.0)
 
 is_count : (c : Checked) → (c ≡ checked.Count) ⊎ (c ≢ checked.Count)
-is_count checked.Nothing = inr (λ e. absurd (cc e))
 is_count checked.Count = inl refl
-is_count checked.Start = inr (λ e. absurd (cc e))
-is_count checked.Range = inr (λ e. absurd (cc e))
-is_count checked.All = inr (λ e. absurd (cc e))
+is_count _ = inr (λ e. absurd (cc e))
 
 is_frozen : (k : SpteKind) → (k ≡ entry_kind.Frozen) ⊎ (k ≢ entry_kind.Frozen)
-is_frozen entry_kind.Absent = inr (λ e. absurd (cc e))
 is_frozen entry_kind.Frozen = inl refl
-is_frozen entry_kind.Leaf = inr (λ e. absurd (cc e))
-is_frozen (entry_kind.Table page) = inr (λ e. absurd (cc e))
+is_frozen _ = inr (λ e. absurd (cc e))
 
 -- The topics name the host word that was looked up.
 same_word : (gfn : ℕ) (t : Topics) (a b : LookedUp gfn t) → a.word ≡ b.word
@@ -95,9 +90,8 @@ range_stays gfn n x = (∥∥₁_elim x (hlevel props) (λ R. R.0), either_stays
 
 check_stays : (at : CheckStage) (gfn : ℕ) (n : Invalidations) → ∥ CheckKnows at gfn n ∥₁ → CheckKnows at gfn n
 check_stays stage.Count gfn n x = tt
-check_stays stage.Start gfn n x = prop_stays (hlevel props) x
-check_stays stage.End gfn n x = prop_stays (hlevel props) x
 check_stays stage.Seq gfn n x = either_stays (both_or (is_count n.checked) (same_or n.count 0)) (range_stays gfn n) x
+check_stays _ gfn n x = prop_stays (hlevel props) x
 
 filling_stays : (t : Topics) → ∥ Filling t ∥₁ → Filling t
 filling_stays t x =
@@ -142,23 +136,17 @@ way_stays word read seen z gfn walk x = record {
     why (inr differs) y = inl differs
 
 cause_stays : (cause : Cause) (z : Sizes) (gfn : ℕ) (t : Topics) → ∥ HasCause cause z gfn t ∥₁ → HasCause cause z gfn t
-cause_stays (Open count start end_ at) z gfn t x = prop_stays (hlevel props) x
-cause_stays (Moved old_ now_) z gfn t x = prop_stays (hlevel props) x
 cause_stays (Entry word read seen) z gfn t x = way_stays word read seen z gfn t.walk x
+cause_stays _ z gfn t x = prop_stays (hlevel props) x
 
 end_stays : (e : FaultEnd) (z : Sizes) (gfn : ℕ) (write : Bool) (t : Topics) → ∥ EndKnows e z gfn write t ∥₁ → EndKnows e z gfn write t
-end_stays Installed z gfn write t x = prop_stays (hlevel props) x
 end_stays Mmio z gfn write t x = no_page_stays gfn write t x
 end_stays HostFault z gfn write t x = forbids_stays gfn write t x
-end_stays Starved z gfn write t x = prop_stays (hlevel props) x
 end_stays (Retry cause) z gfn write t x = cause_stays cause z gfn t x
+end_stays _ z gfn write t x = prop_stays (hlevel props) x
 
 -- each place of a fault, of an access, and of a line
 fault_stays : (p : FaultPlace) (z : Sizes) (gfn : ℕ) (write : Bool) (t : Topics) → ∥ FaultKnows p z gfn write t ∥₁ → FaultKnows p z gfn write t
-fault_stays fault.Begin z gfn write t x = prop_stays (hlevel props) x
-fault_stays fault.Snapshot z gfn write t x = prop_stays (hlevel props) x
-fault_stays (fault.Find begun) z gfn write t x = prop_stays (hlevel props) x
-fault_stays fault.Host z gfn write t x = prop_stays (hlevel props) x
 fault_stays fault.Share z gfn write t x = (∥∥₁_elim x (hlevel props) (λ K. K.0), ∥∥₁_elim x (hlevel props) (λ K. K.1), looked_for_stays gfn write t (∥∥₁_map x (λ K. K.2)))
 fault_stays (fault.Check at) z gfn write t x = (sharing_stays gfn write t (∥∥₁_map x (λ K. K.0)), ∥∥₁_elim x (hlevel props) (λ K. K.1), check_stays at gfn t.invalidations (∥∥₁_map x (λ K. K.2)))
 fault_stays (fault.Walk rooted) z gfn write t x = (entering_stays gfn write t (∥∥₁_map x (λ K. K.0)), ∥∥₁_elim x (hlevel props) (λ K. K.1), ∥∥₁_elim x (hlevel props) (λ K. K.2))
@@ -184,15 +172,11 @@ fault_stays (fault.Give e) z gfn write t x = (
 )
 fault_stays (fault.Unshare e) z gfn write t x = (∥∥₁_elim x (hlevel props) (λ K. K.0), ∥∥₁_elim x (hlevel props) (λ K. K.1), end_stays e z gfn write t (∥∥₁_map x (λ K. K.2)))
 fault_stays (fault.End e) z gfn write t x = (∥∥₁_elim x (hlevel props) (λ K. K.0), ∥∥₁_elim x (hlevel props) (λ K. K.1), end_stays e z gfn write t (∥∥₁_map x (λ K. K.2)))
+fault_stays _ z gfn write t x = prop_stays (hlevel props) x
 
 access_stays : (p : AccessPlace) (gfn : ℕ) (write : Bool) (h : Held) → ∥ AccessKnows p gfn write h ∥₁ → AccessKnows p gfn write h
-access_stays (Enter again) gfn write h x = prop_stays (hlevel props) x
-access_stays (Pause again) gfn write h x = prop_stays (hlevel props) x
-access_stays (Root again) gfn write h x = prop_stays (hlevel props) x
-access_stays (Walk again) gfn write h x = prop_stays (hlevel props) x
-access_stays Touch gfn write h x = prop_stays (hlevel props) x
-access_stays (Leave how) gfn write h x = prop_stays (hlevel props) x
 access_stays (Fault p) gfn write h x = fault_stays p h.state.sizes gfn write h.topics x
+access_stays _ gfn write h x = prop_stays (hlevel props) x
 
 setting_stays : (p : SetSlotPlace) (h : Held) → ∥ SetSlotKnows p h ∥₁ → SetSlotKnows p h
 setting_stays set_slot.Fill h x = (∥∥₁_elim x (hlevel props) (λ K. K.0), fill_stays h.topics (∥∥₁_map x (λ K. K.1)))
@@ -200,19 +184,12 @@ setting_stays set_slot.Exclude h x = (∥∥₁_elim x (hlevel props) (λ K. K.0
 setting_stays set_slot.Count h x = (∥∥₁_elim x (hlevel props) (λ K. K.0), owns_set_stays h.topics (∥∥₁_map x (λ K. K.1)))
 setting_stays set_slot.Close h x = (∥∥₁_elim x (hlevel props) (λ K. K.0), owns_set_stays h.topics (∥∥₁_map x (λ K. K.1)))
 setting_stays set_slot.Publish h x = (∥∥₁_elim x (hlevel props) (λ K. K.0), publish_stays h.topics (∥∥₁_map x (λ K. K.1)))
-setting_stays (set_slot.Refuse refusal) h x = prop_stays (hlevel props) x
-setting_stays (set_slot.Claim begun) h x = prop_stays (hlevel props) x
-setting_stays set_slot.Release h x = prop_stays (hlevel props) x
-setting_stays set_slot.Watch h x = prop_stays (hlevel props) x
-setting_stays set_slot.Clear h x = prop_stays (hlevel props) x
-setting_stays set_slot.Give h x = prop_stays (hlevel props) x
+setting_stays _ h x = prop_stays (hlevel props) x
 
 part_stays : (p : Place) (command : Command) (h : Held) → ∥ KnowsPart p command h ∥₁ → KnowsPart p command h
-part_stays place.Between command h x = prop_stays (hlevel props) x
 part_stays (place.Access p) (Access gfn word op) h x = access_stays p gfn (is_write op) h x
-part_stays (place.Access p) (SetSlot id slot) h x = prop_stays (hlevel props) x
-part_stays (place.SetSlot p) (Access gfn word op) h x = prop_stays (hlevel props) x
 part_stays (place.SetSlot p) (SetSlot id slot) h x = setting_stays p h x
+part_stays _ _ h x = prop_stays (hlevel props) x
 
 -- what the place of the hand's next step asks
 abbrev pub KnowsNow : Held → Type 0

@@ -42,10 +42,9 @@ leaver_is_manager : (z : Sizes) (i k : ℕ) (h : Held) → OwnLines z i h → Kn
 leaver_is_manager z i k h O K L leaves = by h.state.place h.state.line.command refl refl K L
   where
     by : (p : Place) (c : Command) → h.state.place ≡ p → h.state.line.command ≡ c → KnowsPart p c h → LeavesPart p h.topics → h.state.actor ≡ Manager
-    by place.Between c at is K L = let none = L refl in absurd (cc (none, leaves))
-    by (place.Access p) c at is K L = let none = L refl in absurd (cc (none, leaves))
     by (place.SetSlot p) (Access gfn word op) at is K L = absurd K
     by (place.SetSlot p) (SetSlot id slot) at is K L = setting_hand z i h p id slot O at is
+    by _ c at is K L = let none = L refl in absurd (cc (none, leaves))
 
 -- One page of the pool leaves at most.
 pub one_left : (z : Sizes) (w : World Held) → IsSound z w → sum_below z.pool (leavers (actors_of z) (λ i. (hand_in mmu w i).topics.leaving)) ≤ 1

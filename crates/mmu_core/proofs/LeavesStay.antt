@@ -162,17 +162,15 @@ part_links_stay z v a step note S J I = record { entries = part_entries_stay z v
 -- a touch
 touch_links_stay : (stands : ℕ → Option Position) (words : Area → ℕ → ℕ) (op : Op) (i : ℕ) → LinksStay stands words (words_after (touch_of op i) words)
 touch_links_stay stands words Read i = record { entries = λ k p is j low. inl refl; root = refl }
-touch_links_stay stands words (Write x) i = record { entries = λ k p is j low. inl refl; root = refl }
-touch_links_stay stands words (Add x) i = record { entries = λ k p is j low. inl refl; root = refl }
+touch_links_stay stands words _ i = record { entries = λ k p is j low. inl refl; root = refl }
 
 -- a step of a line
 line_links_stay : (z : Sizes) (v : View) (a : ℕ) (line : Line) (command : Command) (p : Place) → AreSmall v → IsStep z v a line command p → Invariant z v → (I : TopicsInvariant z v) → LinksStay I.stands v.words (stepped a line command p v).words
 line_links_stay z v a line command place.Between small S J I = absurd S.begun
 line_links_stay z v a line (Access gfn word op) (place.Access p) small S J I =
     behind_access (λ words. LinksStay I.stands v.words words) v a line p gfn word op (λ step note is. part_links_stay z v a step note (makes_parts z v a line p gfn word op small S J I step is) J I) (λ index. touch_links_stay I.stands v.words op index)
-line_links_stay z v a line (SetSlot id slot) (place.Access p) small S J I = absurd S.holds
-line_links_stay z v a line (Access gfn word op) (place.SetSlot p) small S J I = absurd S.holds
 line_links_stay z v a line (SetSlot id slot) (place.SetSlot p) small S J I = part_links_stay z v a (set_slot_part p (v.hand a) id slot) (set_slot_note p (v.hand a)) (makes_setting z v a line p id slot small S J I) J I
+line_links_stay z v a line _ _ small S J I = absurd S.holds
 
 -- ---- from world to world
 

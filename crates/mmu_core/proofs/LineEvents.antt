@@ -63,9 +63,7 @@ set_slot_within _ h id slot v = tt
 pub tells_within : (p : Place) (command : Command) (h : Held) (v : ℕ) → AllWithin (tells_at p command h v)
 tells_within (place.Access p) (Access gfn word op) h v = access_within p h gfn word op v
 tells_within (place.SetSlot p) (SetSlot id slot) h v = set_slot_within p h id slot v
-tells_within (place.Access p) (SetSlot id slot) h v = tt
-tells_within (place.SetSlot p) (Access gfn word op) h v = tt
-tells_within place.Between command h v = tt
+tells_within _ _ h v = tt
 
 abbrev told_by : Line → List EventKind → List Event
 told_by line kinds = map (λ kind. by line kind) kinds
@@ -83,8 +81,7 @@ pub record IsOpen (line : Line) (h : List Event) : Type 0 where
 -- what a line that stands at this place has told: nothing, where it hasn't begun
 abbrev pub SoFar : Place → Line → List Event → Type 0
 SoFar place.Between line h = h ≡ []
-SoFar (place.Access p) line h = IsOpen line h
-SoFar (place.SetSlot p) line h = IsOpen line h
+SoFar _ line h = IsOpen line h
 
 -- further events of its own behind it
 opens : (line : Line) (h : List Event) (kinds : List EventKind) → AllWithin kinds → IsOpen line h → IsOpen line (h ++ told_by line kinds)
@@ -103,19 +100,14 @@ begins line h kinds all none = record {
 
 tells_more : (stood : Place) (line : Line) (h : List Event) (kinds : List EventKind) → AllWithin kinds → SoFar stood line h → IsOpen line (h ++ told_by line (beginning stood line ++ kinds))
 tells_more place.Between line h kinds all so_far = begins line h kinds all so_far
-tells_more (place.Access p) line h kinds all so_far = opens line h kinds all so_far
-tells_more (place.SetSlot p) line h kinds all so_far = opens line h kinds all so_far
+tells_more _ line h kinds all so_far = opens line h kinds all so_far
 
 -- The line tells nothing besides its begin, its own events and its answer.
 
 kind_answers : (actor : Actor) (kind : EventKind) (rest : List AnsweredLine) → IsWithin kind → or_answered actor kind rest ≡ rest
 kind_answers actor (Begun other) rest within = absurd within
-kind_answers actor LookedAtSlots rest within = refl
-kind_answers actor (LookedAtHost page) rest within = refl
-kind_answers actor (Accessed gfn word op frame before) rest within = refl
-kind_answers actor (Exited answer) rest within = refl
-kind_answers actor (SlotChanged id slot) rest within = refl
 kind_answers actor (Answered number answer) rest within = absurd within
+kind_answers actor _ rest within = refl
 
 within_answers : (line : Line) (es : List Event) → AreWithin line es → answers_of es ≡ []
 within_answers line [] are = refl

@@ -30,19 +30,11 @@ with_slots h slots = record { state = h.state; topics = h.topics; cached = h.cac
 
 access_caches_same : (p : AccessPlace) (h : Held) (slots : MemorySlots) (gfn : ℕ) (op : Op) (v : ℕ) → access_caches p (with_slots h slots) gfn op v ≡ access_caches p h gfn op v
 access_caches_same (Enter again) h slots gfn op v = refl
-access_caches_same (Pause again) h slots gfn op v = refl
-access_caches_same (Root again) h slots gfn op v = refl
-access_caches_same (Walk again) h slots gfn op v = refl
-access_caches_same Touch h slots gfn op v = refl
-access_caches_same (Leave how) h slots gfn op v = refl
-access_caches_same (Fault p) h slots gfn op v = refl
+access_caches_same _ h slots gfn op v = refl
 
 caches_same : (p : Place) (command : Command) (h : Held) (slots : MemorySlots) (v : ℕ) → caches_at p command (with_slots h slots) v ≡ caches_at p command h v
-caches_same place.Between command h slots v = refl
 caches_same (place.Access p) (Access gfn word op) h slots v = access_caches_same p h slots gfn op v
-caches_same (place.Access p) (SetSlot id slot) h slots v = refl
-caches_same (place.SetSlot p) (Access gfn word op) h slots v = refl
-caches_same (place.SetSlot p) (SetSlot id slot) h slots v = refl
+caches_same _ _ h slots v = refl
 
 abbrev placed : State → Place → Line → ℕ → ℕ → ℕ → Held → List AnsweredLine → Held
 placed s q line leaf steps delays f answers = record {

@@ -47,8 +47,7 @@ PartOrQuiet h t = IsPartKind h (kind_of_task h.state.sizes t) ⊎ IsQuiet h.stat
 touch_quiet : (op : Op) (z : Sizes) (t : Topics) (index : ℕ) → IsQuiet z t (kind_of_task z (touch_of op index))
 unfolding topics_after
 touch_quiet Read z t index = record { code = λ e. absurd (omega (arith, e)); claim = λ v. refl; watched = λ v. refl; stay = λ v. refl }
-touch_quiet (Write x) z t index = record { code = λ e. absurd (omega (arith, e)); claim = λ v. refl; watched = λ v. refl; stay = λ v. refl }
-touch_quiet (Add x) z t index = record { code = λ e. absurd (omega (arith, e)); claim = λ v. refl; watched = λ v. refl; stay = λ v. refl }
+touch_quiet _ z t index = record { code = λ e. absurd (omega (arith, e)); claim = λ v. refl; watched = λ v. refl; stay = λ v. refl }
 
 access_kind : (s : Option PartStep) (h : Held) (note : ℕ) (op : Op) (index : ℕ) → RestsOn s h → PartOrQuiet h (task_by s h note (touch_of op index))
 access_kind None h note op index N = inr (touch_quiet op h.state.sizes h.topics index)
@@ -61,9 +60,8 @@ line_kind : (p : Place) (command : Command) (h : Held) → RestsAt p command h �
 line_kind place.Between (Access gfn word op) h R = inl (record { step = part.Seq; note = 0; is = refl; needs = tt })
 line_kind place.Between (SetSlot id slot) h R = inl (record { step = part.Seq; note = 0; is = refl; needs = tt })
 line_kind (place.Access p) (Access gfn word op) h R = access_kind (access_part p gfn h.topics) h (access_note p) op _ R
-line_kind (place.Access p) (SetSlot id slot) h R = absurd R
-line_kind (place.SetSlot p) (Access gfn word op) h R = absurd R
 line_kind (place.SetSlot p) (SetSlot id slot) h R = setting_kind p h id slot R
+line_kind _ _ h R = absurd R
 
 pub step_kind : (h : Held) (k : Kind) → Enabled h k → IsPartKind h k ⊎ IsQuiet h.state.sizes h.topics k
 unfolding Enabled

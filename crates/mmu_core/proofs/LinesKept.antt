@@ -110,8 +110,7 @@ behind h line s o t c slots = record { state = record s { line = line; place = p
 
 under_behind : (h : Held) (line : Line) (s : State) (p : Place) (t : Topics) (c : Buffer Translation) (slots : MemorySlots) → line ≡ next_line h → length h.answers < length h.lines → UnderWay p (behind h line s (Goes p) t c slots)
 under_behind h line s place.Between t c slots is left = tt
-under_behind h line s (place.Access p) t c slots is left = (is, left)
-under_behind h line s (place.SetSlot p) t c slots is left = (is, left)
+under_behind h line s _ t c slots is left = (is, left)
 
 pub lines_behind : (z : Sizes) (a : ℕ) (h : Held) (line : Line) (s : State) (o : Outcome) (t : Topics) (c : Buffer Translation) (slots : MemorySlots) → OwnLines z a h → line ≡ next_line h → length h.answers < length h.lines
     → s.sizes ≡ z → s.actor ≡ h.state.actor → AreSetBy h.lines (lines_done (behind h line s o t c slots)) (keys_of slots) → All (IsSetBy h.lines) slots → OwnLines z a (behind h line s o t c slots)

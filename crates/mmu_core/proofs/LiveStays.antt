@@ -90,41 +90,32 @@ behind_access P v a line p gfn word op part touch = by (access_part p gfn h.topi
 -- A touch stores in the content alone.
 pub touch_leaves_pool : (words : Area → ℕ → ℕ) (op : Op) (index : ℕ) → words_after (touch_of op index) words area.Pool ≡ words area.Pool
 touch_leaves_pool words Read index = refl
-touch_leaves_pool words (Write x) index = refl
-touch_leaves_pool words (Add x) index = refl
+touch_leaves_pool words _ index = refl
 
 touch_leaves_slots : (words : Area → ℕ → ℕ) (op : Op) (index : ℕ) → words_after (touch_of op index) words area.Slots ≡ words area.Slots
 touch_leaves_slots words Read index = refl
-touch_leaves_slots words (Write x) index = refl
-touch_leaves_slots words (Add x) index = refl
+touch_leaves_slots words _ index = refl
 
 touch_leaves_role : (words : Area → ℕ → ℕ) (op : Op) (index : ℕ) → words_after (touch_of op index) words area.Role ≡ words area.Role
 touch_leaves_role words Read index = refl
-touch_leaves_role words (Write x) index = refl
-touch_leaves_role words (Add x) index = refl
+touch_leaves_role words _ index = refl
 
 touch_leaves_host : (words : Area → ℕ → ℕ) (op : Op) (index : ℕ) → words_after (touch_of op index) words area.Host ≡ words area.Host
 touch_leaves_host words Read index = refl
-touch_leaves_host words (Write x) index = refl
-touch_leaves_host words (Add x) index = refl
+touch_leaves_host words _ index = refl
 
 -- No step of an access is a publication.
 never_by_fault : (p : FaultPlace) (gfn : ℕ) (t : Topics) → is_publish (fault_part p gfn t) ≡ false
-never_by_fault fault.Begin gfn t = refl
-never_by_fault fault.Snapshot gfn t = refl
 never_by_fault (fault.Find begun) gfn t = by begun
   where
     by : (b : Bool) → is_publish (if b then part.Slot else part.Slots) ≡ false
     by true = refl
     by false = refl
-never_by_fault fault.Host gfn t = refl
 never_by_fault fault.Share gfn t = by t.hold
   where
     by : (hold : Hold) → is_publish (share_part hold) ≡ false
     by (Owing word) = refl
-    by Loose = refl
-    by Shared = refl
-    by Exclusive = refl
+    by _ = refl
 never_by_fault (fault.Check stage.Count) gfn t = refl
 never_by_fault (fault.Check stage.Start) gfn t = refl
 never_by_fault (fault.Check stage.End) gfn t = refl
@@ -139,12 +130,7 @@ never_by_fault (fault.Claim begun) gfn t = by (tries_page begun t.claim)
     by : (b : Bool) → is_publish (if b then part.Claim else part.Map (map_word begun t.claim)) ≡ false
     by true = refl
     by false = refl
-never_by_fault fault.Fill gfn t = refl
-never_by_fault fault.Link gfn t = refl
-never_by_fault (fault.Give e) gfn t = refl
-never_by_fault fault.Leaf gfn t = refl
-never_by_fault (fault.Unshare e) gfn t = refl
-never_by_fault (fault.End e) gfn t = refl
+never_by_fault _ gfn t = refl
 
 pub access_never : (p : AccessPlace) (gfn : ℕ) (t : Topics) (step : PartStep) → access_part p gfn t ≡ Some step → is_publish step ≡ false
 access_never p gfn t step is = by (access_part p gfn t) step is (none p)
@@ -157,13 +143,8 @@ access_never p gfn t step is = by (access_part p gfn t) step is (none p)
     by o step is e = sym (ap never is) ∙ e
 
     none : (p : AccessPlace) → never (access_part p gfn t) ≡ false
-    none (access.Enter again) = refl
-    none (access.Pause again) = refl
-    none (access.Root again) = refl
-    none (access.Walk again) = refl
-    none access.Touch = refl
-    none (access.Leave how) = refl
     none (access.Fault p) = never_by_fault p gfn t
+    none _ = refl
 
 module _ (z : Sizes) (v : View) (a : ℕ) (line : Line) (p : AccessPlace) (gfn word : ℕ) (op : Op) (makes : MakesParts z v a p gfn) (I : TopicsInvariant z v) where
   abbrev behind : Area → ℕ → ℕ

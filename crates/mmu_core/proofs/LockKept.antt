@@ -31,9 +31,7 @@ few_actors z sizes = omega (arith, sizes.actors.vcpus, sizes.actors.hosts, sizes
 
 shared_counts : (h : Hold) → one_if (is_shared h) ≤ one_if (counts h)
 shared_counts Loose = omega arith
-shared_counts Shared = omega arith
-shared_counts (Owing word) = omega arith
-shared_counts Exclusive = omega arith
+shared_counts _ = omega arith
 
 -- the three sums where one hand's hold went from x to y
 record Moved (n : ℕ) (hold next : ℕ → Hold) (x y : Hold) : Type 0 where
@@ -102,10 +100,9 @@ unshare_kept : (z : Sizes) (v : View) (a note : ℕ) → LockBehind z v a note p
 unshare_kept z v a note S I = here (v.hand a).topics.hold refl S.needs
   where
     here : (x : Hold) → (v.hand a).topics.hold ≡ x → counts x ≡ true → LockAt z (part_behind a part.Unshare note v)
-    here Loose is has = absurd (cc)
     here Shared is has = unshare (actors_of z) (v.words area.Lock 0) _ _ I.lock_part (moved z v.hand a _ Shared Loose S.is_sizes S.there is refl)
     here (Owing seen) is has = take_back (actors_of z) (v.words area.Lock 0) seen _ _ I.lock_part (moved z v.hand a _ (Owing seen) Loose S.is_sizes S.there is refl)
-    here Exclusive is has = absurd (cc)
+    here _ is has = absurd (cc)
 
 exclude_kept : (z : Sizes) (v : View) (a note : ℕ) → LockBehind z v a note part.Exclude
 exclude_kept z v a note S I = here (eqb_tells (v.words area.Lock 0) 0)

@@ -98,9 +98,8 @@ leaf_owned gfn t v lowest = by (nat_le 1 t.walk.level) (v == t.walk.entry)
     none = ap (λ l. linked_page (kind_of l (leaf_written t))) lowest ∙ no_link (leaf_written t)
 
     by : (in_table won : Bool) → (if in_table then still_owned won t.walk (leaf_written t) t.owned else t.owned) ≡ t.owned
-    by false won = refl
-    by true false = refl
     by true true = ap (λ page. unless_linked page t.owned) none
+    by _ _ = refl
 
 -- Who links its page owns none, where the link was stored.
 pub link_owned : (gfn : ℕ) (t : Topics) (o : OwnedPage) (v : ℕ) → 2 ≤ t.walk.level → t.owned ≡ Some o → o.page < 2 ^ 32 → owned_behind (part.Link gfn) t v ≡ (if v == t.walk.entry then None else Some o)

@@ -29,9 +29,7 @@ contains_bounds gfn slot holds = bounds slot.base (slot.base + slot.pages) holds
 -- The word of an access is one of a page.
 pub word_in_page : (z : Sizes) (actor : Actor) (gfn word : ℕ) (op : Op) → IsCommandFor z actor (Access gfn word op) → word < z.words
 word_in_page z (Vcpu n) gfn word op may = may.2
-word_in_page z (Host n) gfn word op may = absurd may
-word_in_page z Manager gfn word op may = absurd may
-word_in_page z (Worker n) gfn word op may = absurd may
+word_in_page z _ gfn word op may = absurd may
 
 -- The page found is one of the machine's.
 pub page_in_machine : (z : Sizes) (set : ℕ) (role pool : ℕ → ℕ) (id gfn : ℕ) (slot : Slot) → SlotSetPart z set role pool → IsLiveIn pool set id slot → contains gfn slot ≡ true → page_of slot gfn < z.pages
@@ -55,10 +53,9 @@ host_writable z host page P lt = ap host_allows_write (P page lt) ∙ host_is_wr
 
 -- A leaf that allows the access is of a slot that allows it.
 not_denied : (write host read_only : Bool) → (not write || (host && not read_only)) ≡ true → (write && read_only) ≡ false
-not_denied false host read_only e = refl
-not_denied true host false e = refl
 not_denied true true true e = absurd (cc e)
 not_denied true false true e = absurd (cc e)
+not_denied _ host _ e = refl
 
 pub leaf_allows : (op : Op) (slot : Slot) (host leaf : ℕ) → leaf ≡ leaf_of slot host → allows_access (is_write op) leaf ≡ true → (is_write op && slot.read_only) ≡ false
 leaf_allows op slot host leaf is allows =

@@ -25,9 +25,7 @@ use Rattle.part_steps.specs.TopicSteps.{tried_bit}
 
 pub is_number : (f : SlotField) → field_number f ≤ 3
 is_number field.Base = omega arith
-is_number field.Pages = omega arith
-is_number field.Host = omega arith
-is_number field.Flags = omega arith
+is_number _ = omega arith
 
 -- The step's word, where it may end its line with this note, is one of its area.
 abbrev pub IsWithinBy : Held → PartStep → ℕ → Type 0
@@ -79,32 +77,21 @@ left_there h M R = by h.topics.leaving refl M.leaves
 pub part_within_by : (step : PartStep) (h : Held) (note : ℕ) → PartNeeds step h → PartRests h → IsWithinBy h step note
 part_within_by part.Enter h note N R = R.own_place
 part_within_by part.Leave h note N R = R.own_place
-part_within_by part.Pause h note N R = omega arith
 part_within_by part.Begin h note N R = R.own_place
 part_within_by part.End h note N R = R.own_place
-part_within_by part.Share h note N R = omega arith
-part_within_by part.Unshare h note N R = omega arith
-part_within_by part.Exclude h note N R = omega arith
-part_within_by part.Release h note N R = omega arith
 part_within_by (part.Map word) h note N R = N.1
 part_within_by part.Claim h note N R = N.2
 part_within_by (part.Fill value) h note N R = fill_within h value note N.0 R
 part_within_by part.Give h note N R = give_within h note N R
-part_within_by part.Slots h note N R = omega arith
 part_within_by part.Slot h note N R = slot_within h note N.0 N.1 R
-part_within_by part.Seq h note N R = omega arith
-part_within_by part.Count h note N R = omega arith
-part_within_by part.RangeStart h note N R = omega arith
-part_within_by part.RangeEnd h note N R = omega arith
-part_within_by part.Root h note N R = omega arith
 part_within_by (part.Walk gfn) h note N R = pool_within (map_of h.state.sizes) (table_page h.topics.walk) _ (R.table N.there) (omega arith)
 part_within_by (part.Link gfn) h note N R = pool_within (map_of h.state.sizes) (table_page h.topics.walk) _ (R.table N.0.saw.over.there) (omega arith)
 part_within_by (part.Leaf gfn) h note N R = pool_within (map_of h.state.sizes) (table_page h.topics.walk) _ (R.table N.0.saw.over.there) (omega arith)
 part_within_by (part.Host page) h note N R = N
 part_within_by (part.Watch index) h note N R = N.0
-part_within_by part.Publish h note N R = omega arith
 part_within_by part.Clear h note N R = left_there h N R
 part_within_by part.GiveOld h note N R = let at = left_there h N R in omega (arith, at)
+part_within_by _ h note N R = omega arith
 
 pub part_within : (step : PartStep) (h : Held) → PartNeeds step h → PartRests h → IsWithin h step
 part_within step h N R = part_within_by step h 0 N R
@@ -142,31 +129,14 @@ publish_small h M R =
     rw (ap page_owned M.owns.is) (omega (arith, page, R.sizes.pool.1))
 
 pub part_small : (step : PartStep) (h : Held) (note : ℕ) → PartNeeds step h → PartRests h → (part_kind h step note).new < 2 ^ 64
-part_small part.Enter h note N R = omega arith
 part_small part.Leave h note N R = not_small 3
-part_small part.Begin h note N R = omega arith
 part_small part.End h note N R = not_small 2
-part_small part.Share h note N R = omega arith
-part_small part.Unshare h note N R = omega arith
-part_small part.Exclude h note N R = omega arith
 part_small part.Release h note N R = not_small (2 ^ 63)
 part_small part.Claim h note N R = not_small (2 ^ tried_bit h.topics.claim)
 part_small (part.Fill value) h note N R = fill_small (words_filled h.topics.owned == 512) (page_owned h.topics.owned) _ value note N.1
 part_small part.Give h note N R = power_small (page_owned h.topics.owned % 64) (omega arith)
-part_small part.Pause h note N R = omega arith
-part_small (part.Map word) h note N R = omega arith
-part_small part.Slots h note N R = omega arith
-part_small part.Slot h note N R = omega arith
-part_small part.Seq h note N R = omega arith
-part_small part.Count h note N R = omega arith
-part_small part.RangeStart h note N R = omega arith
-part_small part.RangeEnd h note N R = omega arith
-part_small part.Root h note N R = omega arith
-part_small (part.Walk gfn) h note N R = omega arith
 part_small (part.Link gfn) h note N R = link_small h N.3 R
 part_small (part.Leaf gfn) h note N R = leaf_small h N.0.looked_up R
-part_small (part.Host page) h note N R = omega arith
-part_small (part.Watch index) h note N R = omega arith
 part_small part.Publish h note N R = publish_small h N.1 R
-part_small part.Clear h note N R = omega arith
 part_small part.GiveOld h note N R = power_small (page_left h.topics.leaving % 64) (omega arith)
+part_small _ h note N R = omega arith

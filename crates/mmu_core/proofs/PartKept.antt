@@ -38,14 +38,12 @@ own_lines z i h t c O = record { sizes = O.sizes; index = O.index; allowed = O.a
   where
     under : (p : Place) → UnderWay p h → UnderWay p (with_topics h t c)
     under place.Between e = tt
-    under (place.Access p) e = e
-    under (place.SetSlot p) e = e
+    under _ e = e
 
 -- An actor that has no line left has none under way: nothing is loaded for it.
 idle_holds : (z : Sizes) (pool host : ℕ → ℕ) (set : ℕ) (q : Place) (command : Command) (h g : Held) → has_line h ≡ false → UnderWay q h → Holds z pool host set q command g
 idle_holds z pool host set place.Between command h g none under = tt
-idle_holds z pool host set (place.Access p) command h g none under = let has = has_line_is h under.1 in absurd (cc (none, has))
-idle_holds z pool host set (place.SetSlot p) command h g none under = let has = has_line_is h under.1 in absurd (cc (none, has))
+idle_holds z pool host set _ command h g none under = let has = has_line_is h under.1 in absurd (cc (none, has))
 
 -- A step of a part by an actor that has no line left.
 pub part_keeps_lines : (z : Sizes) (v : View) (a : ℕ) (step : PartStep) (note : ℕ) → IsPart z v a step → has_line (v.hand a) ≡ false → Invariant z v → TopicsInvariant z v → AllKnow z (part_stepped a step note v).hand → Invariant z (part_stepped a step note v)

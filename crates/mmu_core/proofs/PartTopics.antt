@@ -154,21 +154,10 @@ swap_topics z gfn new_ note t v from =
 -- The topics behind a step are those written out above.
 pub part_topics_is : (z : Sizes) (step : PartStep) (own : ℕ) (t : Topics) (note v : ℕ) → IsThere z t step → topics_after z (kind_of_task z (part_task step own t note)) t v ≡ part_topics step t v
 unfolding topics_after place
-part_topics_is z part.Enter own t note v there = refl
-part_topics_is z part.Leave own t note v there = refl
 part_topics_is z part.Pause own t note v there = lone_is z 7 t v (omega arith)
-part_topics_is z part.Begin own t note v there = refl
-part_topics_is z part.End own t note v there = refl
-part_topics_is z part.Share own t note v there = refl
-part_topics_is z part.Unshare own t note v there = refl
-part_topics_is z part.Exclude own t note v there = refl
-part_topics_is z part.Release own t note v there = refl
 part_topics_is z (part.Map word) own t note v there = map_topics z own word t note v there
-part_topics_is z part.Claim own t note v there = refl
 part_topics_is z (part.Fill value) own t note v there = fill_topics z own value t note v
-part_topics_is z part.Give own t note v there = refl
 part_topics_is z part.Slots own t note v there = lone_is z 1 t v (omega arith)
-part_topics_is z part.Slot own t note v there = refl
 part_topics_is z part.Seq own t note v there = lone_is z 2 t v (omega arith)
 part_topics_is z part.Count own t note v there = lone_is z 3 t v (omega arith)
 part_topics_is z part.RangeStart own t note v there = lone_is z 4 t v (omega arith)
@@ -179,9 +168,7 @@ part_topics_is z (part.Link gfn) own t note v there = swap_topics z gfn (link_wr
 part_topics_is z (part.Leaf gfn) own t note v there = swap_topics z gfn (leaf_written t) note t v there
 part_topics_is z (part.Host page) own t note v there = ap (λ p. record t { host = Some (record { page = p; word = v }) }) (behind_host z page)
 part_topics_is z (part.Watch index) own t note v there = ap (λ i. record t { watched = i + (if in_section v then 0 else 1) }) (state_place z index)
-part_topics_is z part.Publish own t note v there = refl
-part_topics_is z part.Clear own t note v there = refl
-part_topics_is z part.GiveOld own t note v there = refl
+part_topics_is z _ own t note v there = refl
 
 -- the hand behind the step, by the actor at this place
 abbrev pub part_hand : PartStep → ℕ → ℕ → Held → ℕ → Held
@@ -206,30 +193,7 @@ is_there (part.Map word) h N = N.1
 is_there (part.Walk gfn) h N = N.there
 is_there (part.Link gfn) h N = N.0.saw.over.there
 is_there (part.Leaf gfn) h N = N.0.saw.over.there
-is_there part.Enter h N = tt
-is_there part.Leave h N = tt
-is_there part.Pause h N = tt
-is_there part.Begin h N = tt
-is_there part.End h N = tt
-is_there part.Share h N = tt
-is_there part.Unshare h N = tt
-is_there part.Exclude h N = tt
-is_there part.Release h N = tt
-is_there part.Claim h N = tt
-is_there (part.Fill value) h N = tt
-is_there part.Give h N = tt
-is_there part.Slots h N = tt
-is_there part.Slot h N = tt
-is_there part.Seq h N = tt
-is_there part.Count h N = tt
-is_there part.RangeStart h N = tt
-is_there part.RangeEnd h N = tt
-is_there part.Root h N = tt
-is_there (part.Host page) h N = tt
-is_there (part.Watch index) h N = tt
-is_there part.Publish h N = tt
-is_there part.Clear h N = tt
-is_there part.GiveOld h N = tt
+is_there _ h N = tt
 
 pub part_stepped_is : (z : Sizes) (v : View) (a : ℕ) (step : PartStep) (note : ℕ) → IsPart z v a step → part_stepped a step note v ≡ part_behind a step note v
 part_stepped_is z v a step note S =

@@ -79,29 +79,25 @@ access_rests : (p : AccessPlace) (z : Sizes) (v : View) (h : Held) (gfn word : �
 access_rests Touch z v h gfn word op I same may R K e =
     (subst (λ (y : Sizes). frame_in h.state.leaf < y.frames) (sym same) (leaf_there z (v.words area.Slots 0) (v.words area.Role) (v.words area.Pool) (v.words area.Host) gfn h.state.leaf I.sizes I.set_part I.hosts e), K.0.guest)
 access_rests (Enter again) z v h gfn word op I same may R K e = let V = access_vcpu z h.state.actor gfn word op may in access_needs (Enter again) h gfn (is_write op) V.0 V.1 R K
-access_rests (Pause again) z v h gfn word op I same may R K e = tt
-access_rests (Root again) z v h gfn word op I same may R K e = tt
 access_rests (Walk again) z v h gfn word op I same may R K e = K.1
 access_rests (Leave how) z v h gfn word op I same may R K e = K.guest
 access_rests (Fault p) z v h gfn word op I same may R K e = let V = access_vcpu z h.state.actor gfn word op may in access_needs (Fault p) h gfn (is_write op) V.0 V.1 R K
+access_rests _ z v h gfn word op I same may R K e = tt
 
 rests_at : (p : Place) (command : Command) (z : Sizes) (v : View) (h : Held) → Invariant z v → h.state.sizes ≡ z → IsCommandFor z h.state.actor command → PartRests h → KnowsPart p command h
     → Holds z (v.words area.Pool) (v.words area.Host) (v.words area.Slots 0) p command h → NeedsAt p command h → RestsAt p command h
 rests_at place.Between command z v h I same may R K e N = tt
 rests_at (place.Access p) (Access gfn word op) z v h I same may R K e N = access_rests p z v h gfn word op I same may R K e
-rests_at (place.Access p) (SetSlot id slot) z v h I same may R K e N = absurd K
-rests_at (place.SetSlot p) (Access gfn word op) z v h I same may R K e N = absurd K
 rests_at (place.SetSlot p) (SetSlot id slot) z v h I same may R K e N = N
+rests_at _ _ z v h I same may R K e N = absurd K
 
 setting_accepts : (p : SetSlotPlace) (id : ℕ) (slot : SlotOf) (z : Sizes) (pool : ℕ → ℕ) (h : Held) → SetSlotHolds z pool p id slot h → RecordAccepts p z.pages id slot h.slots
 setting_accepts Publish id slot z pool h e = e.accepted
 setting_accepts _ id slot z pool h e = tt
 
 accepts_at : (p : Place) (command : Command) (z : Sizes) (v : View) (h : Held) → Holds z (v.words area.Pool) (v.words area.Host) (v.words area.Slots 0) p command h → AcceptsAt p command z h.slots
-accepts_at place.Between command z v h e = tt
-accepts_at (place.Access p) command z v h e = tt
-accepts_at (place.SetSlot p) (Access gfn word op) z v h e = tt
 accepts_at (place.SetSlot p) (SetSlot id slot) z v h e = setting_accepts p id slot z (v.words area.Pool) h e
+accepts_at _ _ z v h e = tt
 
 pub hand_rests : (z : Sizes) (v : View) (a : ℕ) → Invariant z v → TopicsInvariant z v → a < actors_of z → length (v.hand a).answers < length (v.hand a).lines → Rests (v.hand a)
 hand_rests z v a I P there left =
@@ -217,32 +213,19 @@ word_stays word t x = either_stays (same_or word 0) (λ y. prop_stays (hlevel pr
 
 vcpu_prop : (actor : Actor) → IsProp (IsVcpu actor)
 vcpu_prop (Vcpu n) = hlevel props
-vcpu_prop (Host n) = hlevel props
-vcpu_prop Manager = hlevel props
-vcpu_prop (Worker n) = hlevel props
+vcpu_prop _ = hlevel props
 
 needs_stay : (step : PartStep) (h : Held) → ∥ PartNeeds step h ∥₁ → PartNeeds step h
 needs_stay part.Enter h x = (∥∥₁_elim x (vcpu_prop h.state.actor) (λ N. N.0), ∥∥₁_elim x (hlevel props) (λ N. N.1))
-needs_stay part.Leave h x = prop_stays (hlevel props) x
 needs_stay part.Pause h x = tt
-needs_stay part.Begin h x = prop_stays (hlevel props) x
-needs_stay part.End h x = prop_stays (hlevel props) x
-needs_stay part.Share h x = prop_stays (hlevel props) x
-needs_stay part.Unshare h x = prop_stays (hlevel props) x
-needs_stay part.Exclude h x = prop_stays (hlevel props) x
-needs_stay part.Release h x = prop_stays (hlevel props) x
 needs_stay (part.Map word) h x = (∥∥₁_elim x (hlevel props) (λ N. N.0), ∥∥₁_elim x (hlevel props) (λ N. N.1), word_stays word h.topics (∥∥₁_map x (λ N. N.2)))
-needs_stay part.Claim h x = prop_stays (hlevel props) x
 needs_stay (part.Fill value) h x = (fill_stays h.topics (∥∥₁_map x (λ N. N.0)), ∥∥₁_elim x (hlevel props) (λ N. N.1))
-needs_stay part.Give h x = prop_stays (hlevel props) x
 needs_stay part.Slots h x = tt
-needs_stay part.Slot h x = prop_stays (hlevel props) x
 needs_stay part.Seq h x = tt
 needs_stay part.Count h x = tt
 needs_stay part.RangeStart h x = tt
 needs_stay part.RangeEnd h x = tt
 needs_stay part.Root h x = tt
-needs_stay (part.Walk gfn) h x = prop_stays (hlevel props) x
 needs_stay (part.Link gfn) h x = (
   enter_stays gfn h.topics (∥∥₁_map x (λ N. N.0)),
   ∥∥₁_elim x (hlevel props) (λ N. N.1),
@@ -250,15 +233,13 @@ needs_stay (part.Link gfn) h x = (
   table_stays (h.topics.walk.level - 1) h.topics (∥∥₁_map x (λ N. N.3)),
 )
 needs_stay (part.Leaf gfn) h x = (enter_stays gfn h.topics (∥∥₁_map x (λ N. N.0)), ∥∥₁_elim x (hlevel props) (λ N. N.1))
-needs_stay (part.Host page) h x = prop_stays (hlevel props) x
 needs_stay (part.Watch index) h x = (
   ∥∥₁_elim x (hlevel props) (λ N. N.0),
   ∥∥₁_elim x (hlevel props) (λ N. N.1),
   either_stays (same_or index (next_watched (own_index h) 0)) (λ y. prop_stays (hlevel props) y) (∥∥₁_map x (λ N. N.2)),
 )
 needs_stay part.Publish h x = (∥∥₁_elim x (hlevel props) (λ N. N.0), publish_stays h.topics (∥∥₁_map x (λ N. N.1)))
-needs_stay part.Clear h x = prop_stays (hlevel props) x
-needs_stay part.GiveOld h x = prop_stays (hlevel props) x
+needs_stay _ h x = prop_stays (hlevel props) x
 
 on_stays : (s : Option PartStep) (h : Held) → ∥ RestsOn s h ∥₁ → RestsOn s h
 on_stays None h x = prop_stays (hlevel props) x
@@ -267,19 +248,16 @@ on_stays (Some step) h x = needs_stay step h x
 at_stays : (p : Place) (command : Command) (h : Held) → ∥ RestsAt p command h ∥₁ → RestsAt p command h
 at_stays place.Between command h x = tt
 at_stays (place.Access p) (Access gfn word op) h x = on_stays (access_part p gfn h.topics) h x
-at_stays (place.Access p) (SetSlot id slot) h x = prop_stays (hlevel props) x
-at_stays (place.SetSlot p) (Access gfn word op) h x = prop_stays (hlevel props) x
 at_stays (place.SetSlot p) (SetSlot id slot) h x = needs_stay (set_slot_part p h id slot) h x
+at_stays _ _ h x = prop_stays (hlevel props) x
 
 accepts_prop : (p : SetSlotPlace) (total id : ℕ) (slot : SlotOf) (slots : MemorySlots) → IsProp (RecordAccepts p total id slot slots)
 accepts_prop Publish total id slot slots = hlevel props
 accepts_prop _ total id slot slots = hlevel props
 
 accepts_at_prop : (p : Place) (command : Command) (z : Sizes) (slots : MemorySlots) → IsProp (AcceptsAt p command z slots)
-accepts_at_prop place.Between command z slots = hlevel props
-accepts_at_prop (place.Access p) command z slots = hlevel props
-accepts_at_prop (place.SetSlot p) (Access gfn word op) z slots = hlevel props
 accepts_at_prop (place.SetSlot p) (SetSlot id slot) z slots = accepts_prop p z.pages id slot slots
+accepts_at_prop _ _ z slots = hlevel props
 
 command_prop : (z : Sizes) (actor : Actor) (command : Command) → IsProp (IsCommandFor z actor command)
 command_prop z (Vcpu n) (Access gfn word op) = hlevel props
@@ -308,8 +286,7 @@ rests_stay h x =
 -- The word of the next step is one of its area.
 touch_within : (z : Sizes) (op : Op) (frame word : ℕ) → frame < z.frames → word < z.words → (touch_of op (content_index (map_of z) frame word)).index < size_of (map_of z) (touch_of op (content_index (map_of z) frame word)).area
 touch_within z Read frame word a b = content_within (map_of z) frame word a b
-touch_within z (Write x) frame word a b = content_within (map_of z) frame word a b
-touch_within z (Add x) frame word a b = content_within (map_of z) frame word a b
+touch_within z _ frame word a b = content_within (map_of z) frame word a b
 
 task_is_within : (s : Option PartStep) (h : Held) (note word : ℕ) (op : Op) → word < h.state.sizes.words → PartRests h → RestsOn s h
     → (task_by s h note (touch_of op (content_index (map_of h.state.sizes) (frame_in h.state.leaf) word))).index
@@ -319,17 +296,14 @@ task_is_within (Some step) h note word op w R N = part_within_by step h note N R
 
 command_word : (z : Sizes) (actor : Actor) (gfn word : ℕ) (op : Op) → IsCommandFor z actor (Access gfn word op) → word < z.words
 command_word z (Vcpu n) gfn word op e = e.2
-command_word z (Host n) gfn word op e = absurd e
-command_word z Manager gfn word op e = absurd e
-command_word z (Worker n) gfn word op e = absurd e
+command_word z _ gfn word op e = absurd e
 
 within_at : (p : Place) (actor : Actor) (command : Command) (h : Held) → IsCommandFor h.state.sizes actor command → PartRests h → RestsAt p command h → (task_at p command h).index < size_of (map_of h.state.sizes) (task_at p command h).area
 within_at place.Between actor (Access gfn word op) h may R e = omega arith
 within_at place.Between actor (SetSlot id slot) h may R e = omega arith
 within_at (place.Access p) actor (Access gfn word op) h may R e = task_is_within (access_part p gfn h.topics) h (access_note p) word op (command_word h.state.sizes actor gfn word op may) R e
-within_at (place.Access p) actor (SetSlot id slot) h may R e = absurd e
-within_at (place.SetSlot p) actor (Access gfn word op) h may R e = absurd e
 within_at (place.SetSlot p) actor (SetSlot id slot) h may R e = part_within_by (set_slot_part p h id slot) h (set_slot_note p h) e R
+within_at _ actor _ h may R e = absurd e
 
 pub task_within : (h : Held) → Rests h → (task_of h).index < size_of (map_of h.state.sizes) (task_of h).area
 task_within h R = within_at (place_at h.state.place h) (line_at h.state.place h).actor (line_at h.state.place h).command h R.line R.part R.at

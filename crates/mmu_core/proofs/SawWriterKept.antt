@@ -30,30 +30,7 @@ saw_behind part.Exclude t v saw = by (v == 0)
     by false = saw
 saw_behind part.Unshare t v saw = tt
 saw_behind part.Release t v saw = tt
-saw_behind part.Enter t v saw = saw
-saw_behind part.Leave t v saw = saw
-saw_behind part.Pause t v saw = saw
-saw_behind part.Begin t v saw = saw
-saw_behind part.End t v saw = saw
-saw_behind (part.Map word) t v saw = saw
-saw_behind part.Claim t v saw = saw
-saw_behind (part.Fill value) t v saw = saw
-saw_behind part.Give t v saw = saw
-saw_behind part.Slots t v saw = saw
-saw_behind part.Slot t v saw = saw
-saw_behind part.Seq t v saw = saw
-saw_behind part.Count t v saw = saw
-saw_behind part.RangeStart t v saw = saw
-saw_behind part.RangeEnd t v saw = saw
-saw_behind part.Root t v saw = saw
-saw_behind (part.Walk gfn) t v saw = saw
-saw_behind (part.Link gfn) t v saw = saw
-saw_behind (part.Leaf gfn) t v saw = saw
-saw_behind (part.Host page) t v saw = saw
-saw_behind (part.Watch index) t v saw = saw
-saw_behind part.Publish t v saw = saw
-saw_behind part.Clear t v saw = saw
-saw_behind part.GiveOld t v saw = saw
+saw_behind _ t v saw = saw
 
 abbrev pub SawAt : Sizes → View → Type 0
 SawAt z v = (i : ℕ) → i < actors_of z → SawWriter (v.hand i).topics.hold

@@ -113,9 +113,7 @@ not_by_find gfn write loaded found =
 
 not_by_share : (hold : Hold) (v : ℕ) → NotBegun (share_next hold v)
 not_by_share (Owing word) v = λ e. e
-not_by_share Loose v = neither (has_writer v) Share (Check stage.Count) (λ e. e) (λ e. e)
-not_by_share Shared v = neither (has_writer v) Share (Check stage.Count) (λ e. e) (λ e. e)
-not_by_share Exclusive v = neither (has_writer v) Share (Check stage.Count) (λ e. e) (λ e. e)
+not_by_share _ v = neither (has_writer v) Share (Check stage.Count) (λ e. e) (λ e. e)
 
 not_by_check : (at : CheckStage) (gfn : ℕ) (t : Topics) (v : ℕ) → NotBegun (check_next at gfn t v)
 not_by_check stage.Count gfn t v = neither (v == 0) (Check stage.Seq) (Check stage.Start) (λ e. e) (λ e. e)
@@ -124,14 +122,12 @@ not_by_check stage.End gfn t v = neither (nat_le t.invalidations.start gfn && na
 not_by_check stage.Seq gfn t v = neither (v == snapshot_taken t.invalidations.snapshot) (Walk false) (Unshare (Retry _)) (λ e. e) (λ e. e)
 
 not_by_walk : (k : SpteKind) (z : Sizes) (gfn : ℕ) (write : Bool) (walk : TableWalk) (v : ℕ) → NotBegun (walk_next k z gfn write walk v)
-not_by_walk (entry_kind.Table page) z gfn write walk v = λ e. e
 not_by_walk entry_kind.Leaf z gfn write walk v =
     neither (walk.level == 1) (if allows_access write v then Unshare Installed else Leaf) (Unshare (Retry _)) (neither (allows_access write v) (Unshare Installed) Leaf (λ e. e) (λ e. e)) (λ e. e)
 not_by_walk entry_kind.Absent z gfn write walk v = neither (walk.level == 1) Leaf (Claim false) (λ e. e) (λ e. absurd (cc e))
-not_by_walk entry_kind.Frozen z gfn write walk v = λ e. e
+not_by_walk _ z gfn write walk v = λ e. e
 
 fault_claims : (p : FaultPlace) (z : Sizes) (gfn : ℕ) (write : Bool) (t : Topics) (v : ℕ) → BegunNext (fault_next p z gfn write t v) → Claims p
-fault_claims Begin z gfn write t v e = e
 fault_claims Snapshot z gfn write t v e = absurd e
 fault_claims (Find begun) z gfn write t v e = neither begun (find_next gfn write t.search.next (searched t.search v)) (Find true) (not_by_find gfn write t.search.next (searched t.search v)) (λ x. x) e
 fault_claims Host z gfn write t v e = neither (write && not (host_allows_write v)) (End HostFault) Share (λ x. x) (λ x. x) e
@@ -142,10 +138,9 @@ fault_claims (Walk rooted) z gfn write t v e =
 fault_claims (Claim begun) z gfn write t v e = tt
 fault_claims Fill z gfn write t v e = neither (nat_lt (words_filled t.owned) 512) Fill Link (λ x. x) (λ x. x) e
 fault_claims Link z gfn write t v e = neither (v == t.walk.entry) (Walk true) (Give (Retry _)) (λ x. x) (λ x. x) e
-fault_claims (Give end) z gfn write t v e = e
 fault_claims Leaf z gfn write t v e = neither (v == t.walk.entry) (Unshare Installed) (Unshare (Retry _)) (λ x. x) (λ x. x) e
-fault_claims (Unshare end) z gfn write t v e = e
 fault_claims (End end) z gfn write t v e = absurd e
+fault_claims _ z gfn write t v e = e
 
 over_begun : (n : FaultNext) → HasScan (place_after (behind_fault n)) → BegunNext n
 over_begun (next_of.Goes p) S = S
@@ -174,20 +169,16 @@ not_by_pause again (Some t) S = S
 not_by_stay : (again : Bool) (k : SpteKind) (allowed : Bool) → HasScan (place.Access (stay_next again k allowed)) → ⊥
 not_by_stay again (entry_kind.Table page) allowed S = S
 not_by_stay again entry_kind.Leaf true S = S
-not_by_stay again entry_kind.Leaf false S = S
-not_by_stay again entry_kind.Absent allowed S = S
-not_by_stay again entry_kind.Frozen allowed S = S
+not_by_stay again _ _ S = S
 
 access_scans : (p : AccessPlace) (h : Held) (gfn word : ℕ) (op : Op) (v : ℕ) → HasScan (place_after (access_outcome p h gfn op v)) → HasScan (place.Access p) ⊎ LoadsFirst (access_task p h gfn word op)
-access_scans (access.Enter again) h gfn word op v S = absurd S
 access_scans (access.Pause again) h gfn word op v S = absurd (not_by_pause again (first_usable gfn (is_write op) h.cached.items) S)
-access_scans (access.Root again) h gfn word op v S = absurd S
 access_scans (access.Walk again) h gfn word op v S = absurd (not_by_stay again (kind_of h.topics.walk.level v) (allows_access (is_write op) v) S)
-access_scans access.Touch h gfn word op v S = absurd S
 access_scans (access.Leave (leaving.Reached frame value)) h gfn word op v S = absurd S
 access_scans (access.Leave leaving.Faults) h gfn word op v S = absurd S
 access_scans (access.Fault p) h gfn word op v S =
     begins_first p h gfn word op (fault_claims p h.state.sizes gfn (is_write op) h.topics v (over_begun (fault_next p h.state.sizes gfn (is_write op) h.topics v) S))
+access_scans _ h gfn word op v S = absurd S
 
 either : (b : Bool) (p q : SetSlotPlace) → (HasBegunSetting p → ⊥) → (HasBegunSetting q → ⊥) → HasBegunSetting (if b then p else q) → ⊥
 either true p q one other = one
@@ -200,27 +191,21 @@ claim_begins false h id slot = inr (record { loads = refl; of_map = refl; first 
 
 setting_scans : (p : SetSlotPlace) (h : Held) (id : ℕ) (slot : Slot) (v : ℕ) → HasScan (place_after (set_slot_outcome p h v)) → HasScan (place.SetSlot p) ⊎ LoadsFirst (set_slot_task p h id slot)
 setting_scans (set_slot.Claim begun) h id slot v S = claim_begins begun h id slot
-setting_scans (set_slot.Refuse refusal) h id slot v S = absurd S
 setting_scans set_slot.Fill h id slot v S = absurd (either (nat_lt (words_filled h.topics.owned) 512) set_slot.Fill set_slot.Exclude (λ e. e) (λ e. e) S)
 setting_scans set_slot.Exclude h id slot v S = absurd (either (v == 0) set_slot.Count set_slot.Exclude (λ e. e) (λ e. e) S)
 setting_scans set_slot.Count h id slot v S = absurd (either (v == 0) set_slot.Publish set_slot.Close (λ e. e) (λ e. e) S)
-setting_scans set_slot.Close h id slot v S = absurd S
-setting_scans set_slot.Publish h id slot v S = absurd S
-setting_scans set_slot.Release h id slot v S = absurd S
 setting_scans set_slot.Watch h id slot v S =
     let more = nat_lt (next_watched (own_index h) (looked_at h + 1)) (actors_of h.state.sizes) in
     absurd (either (in_section v) set_slot.Watch (if more then set_slot.Watch else set_slot.Clear) (λ e. e) (either more set_slot.Watch set_slot.Clear (λ e. e) (λ e. e)) S)
-setting_scans set_slot.Clear h id slot v S = absurd S
-setting_scans set_slot.Give h id slot v S = absurd S
+setting_scans _ h id slot v S = absurd S
 
 -- A line comes to such a place from another one, or with the first load of the map.
 line_scans : (p : Place) (command : Command) (h : Held) (v : ℕ) → RestsAt p command h → HasScan (place_after (outcome_at p command h v)) → HasScan p ⊎ LoadsFirst (task_at p command h)
-line_scans place.Between (Access gfn word op) h v R S = absurd S
-line_scans place.Between (SetSlot id slot) h v R S = absurd S
 line_scans (place.Access p) (Access gfn word op) h v R S = access_scans p h gfn word op v S
 line_scans (place.Access p) (SetSlot id slot) h v R S = absurd R
 line_scans (place.SetSlot p) (Access gfn word op) h v R S = absurd R
 line_scans (place.SetSlot p) (SetSlot id slot) h v R S = setting_scans p h id slot v S
+line_scans place.Between _ h v R S = absurd S
 
 first_not_begun : (refused : Option Refusal) → HasBegunSetting (set_slot_first refused) → ⊥
 first_not_begun (Some refusal) S = S
@@ -232,8 +217,7 @@ first_not z slots (SetSlot id slot) S = first_not_begun (set_refusal z.pages id 
 
 standing_scans : (p : Place) (z : Sizes) (slots : MemorySlots) (command : Command) → HasScan (standing p z slots command) → HasScan p
 standing_scans place.Between z slots command S = first_not z slots command S
-standing_scans (place.Access p) z slots command S = S
-standing_scans (place.SetSlot p) z slots command S = S
+standing_scans _ z slots command S = S
 
 -- So the hand's line stands at such a place, or its step is the first load of the map.
 pub stands_or_loads : (z : Sizes) (s : Step Kind) (h : Held) → h.state.sizes ≡ z → IsNext h s.kind → HasScan (place_at h.state.place h) ⊎ LoadsFirst (task_of h) → HasScan h.state.place ⊎ LoadsMap z s.actor 0 s

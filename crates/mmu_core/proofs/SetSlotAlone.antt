@@ -175,8 +175,6 @@ module _ (z : Sizes) (w : World Held) (a : ℕ) (sound : IsSound z w) (others : 
   setting_through Exclude K alone N = exclude_through K
   setting_through Count K alone N = count_through
   setting_through Close K alone N = absurd alone
-  setting_through Publish K alone N = record { goes = refl; next = (tt, tt, omega arith) }
-  setting_through Release K alone N = record { goes = refl; next = (tt, tt, omega arith) }
   setting_through Watch K alone N = watch_through K N
-  setting_through Clear K alone N = record { goes = refl; next = (tt, tt, omega arith) }
   setting_through Give K alone N = record { goes = refl; next = λ e. absurd (cc e) }
+  setting_through _ K alone N = record { goes = refl; next = (tt, tt, omega arith) }

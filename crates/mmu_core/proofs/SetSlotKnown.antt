@@ -51,14 +51,12 @@ pub set_slot_needs : (p : SetSlotPlace) (h : Held) (id : ℕ) (slot : Slot) → 
 set_slot_needs (Refuse refusal) h id slot has small R K = tt
 set_slot_needs (Claim begun) h id slot has small R K = claim_needs (tries_page begun h.topics.claim) begun h refl R.sizes K.0.owns_none K.1
 set_slot_needs Fill h id slot has small R K = (K.1, small)
-set_slot_needs Exclude h id slot has small R K = K.0.holds
 set_slot_needs Count h id slot has small R K = tt
-set_slot_needs Close h id slot has small R K = K.0.holds
 set_slot_needs Publish h id slot has small R K = (has, K.1)
-set_slot_needs Release h id slot has small R K = K.0.holds
 set_slot_needs Watch h id slot has small R K = (K.2, never_own (own_index h) h.topics.watched, inr refl)
 set_slot_needs Clear h id slot has small R K = K.1
 set_slot_needs Give h id slot has small R K = K.1
+set_slot_needs _ h id slot has small R K = K.0.holds
 
 -- ---- What is known behind each step: the place that comes next, or rest where the line is answered.
 

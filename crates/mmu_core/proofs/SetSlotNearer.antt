@@ -102,8 +102,6 @@ set_slot_nearer Fill h id slot v R K goes = fill_nearer h.state.sizes h.topics v
 set_slot_nearer Exclude h id slot v R K goes = excluded_nearer (v == 0) h.state.sizes (part_topics part.Exclude h.topics v) goes
 set_slot_nearer Count h id slot v R K goes = either (v == 0) Publish Close h.state.sizes (part_topics part.Count h.topics v) (6 + actors_of h.state.sizes) (omega arith) (omega arith)
 set_slot_nearer Close h id slot v R K goes = absurd (cc goes)
-set_slot_nearer Publish h id slot v R K goes = omega arith
-set_slot_nearer Release h id slot v R K goes = omega arith
 set_slot_nearer Watch h id slot v R K goes = watched_nearer (in_section v) h goes K.2
-set_slot_nearer Clear h id slot v R K goes = omega arith
 set_slot_nearer Give h id slot v R K goes = tt
+set_slot_nearer _ h id slot v R K goes = omega arith

@@ -137,8 +137,7 @@ module _ (n : ℕ) (hand : ℕ → Held) (a : ℕ) (h : Held) where
 
 in_section_by : (stay : Stay) (hold : Hold) → may_search stay hold ≡ true → is_alone hold ≡ false → stay ≡ Section
 in_section_by Section hold may alone = refl
-in_section_by Outside hold may alone = absurd (cc (may, alone))
-in_section_by Guest hold may alone = absurd (cc (may, alone))
+in_section_by _ hold may alone = absurd (cc (may, alone))
 
 one_alone : (n lock : ℕ) (hold : ℕ → Hold) (a i : ℕ) → a < n → i < n → i ≢ a → LockPart n lock hold → hold a ≡ Exclusive → is_alone (hold i) ≡ false
 one_alone n lock hold a i there lt ne L alone = by (is_alone (hold i)) refl

@@ -112,20 +112,15 @@ module _ (z : Sizes) (w : World Held) (ss : List (Step Kind)) (s : Step Kind) (G
       (made_now (Finds a (place_of (map_of z) area.Count 0) v) (IsOthers a) w ss s (record { by_actor = refl; on = word_on z u s G may part.Count M; finds = load_finds z u s G may part.Count M tt }), grind (arith, nat_tests))
 
   own_saw : (p : SetSlotPlace) (id : ℕ) (slot : Slot) → Made (set_slot_part p h id slot) → SawNow (place_after (set_slot_outcome p h v)) (part_topics (set_slot_part p h id slot) t v)
-  own_saw (Refuse refusal) id slot M = tt
   own_saw (Claim begun) id slot M = claim_goes (tries_page begun t.claim) h.state.sizes (at_map_word begun t.claim) (part_topics (claim_part begun t.claim) t v) (claim_saw z w ss s G may begun M)
   own_saw Fill id slot M = either (nat_lt (words_filled t.owned) 512) Fill Exclude (part_topics (set_slot_part Fill h id slot) t v) tt tt
   own_saw Exclude id slot M = either (v == 0) Count Exclude (part_topics part.Exclude t v) tt tt
   own_saw Count id slot M = counted_goes (v == 0) (part_topics part.Count t v) refl refl M
-  own_saw Close id slot M = tt
-  own_saw Publish id slot M = tt
-  own_saw Release id slot M = tt
   own_saw Watch id slot M =
       let t_ : Topics = part_topics (set_slot_part Watch h id slot) t v in
       let next_ : Bool = nat_lt (next_watched (own_index h) (looked_at h + 1)) (actors_of h.state.sizes) in
       either (in_section v) Watch (if next_ then Watch else Clear) t_ tt (either next_ Watch Clear t_ tt tt)
-  own_saw Clear id slot M = tt
-  own_saw Give id slot M = tt
+  own_saw _ id slot M = tt
 
   line_saw : (p : Place) (c : Command) → IsStepAt h s p c → LineSaw z w a p c t ss u → LineSaw z w a (place_after (outcome_at p c h v)) c (topics_after h.state.sizes s.kind t v) (ss ++ s ∷ []) (effect mmu u s)
   line_saw p (Access gfn word op) K S = tt

@@ -118,7 +118,6 @@ either_place P false p q x y = y
 pub setting_holds : (z : Sizes) (words : Area → ℕ → ℕ) (set : ℕ) (h : Held) (p : SetSlotPlace) (id : ℕ) (slot : Slot) (g : Held) (v : ℕ) → SetSlotKnows p h → SetSlotHolds z (words area.Pool) p id slot h
     → (is_publication p ≡ false → g.slots ≡ h.slots) → g.topics.owned ≡ owned_behind (set_slot_part p h id slot) h.topics v
     → Holds z (words_after (set_slot_task p h id slot) words area.Pool) (words area.Host) set (place_after (set_slot_outcome p h v)) (SetSlot id slot) g
-setting_holds z words set h (Refuse refusal) id slot g v K e slots owned = tt
 setting_holds z words set h (Claim begun) id slot g v K e slots owned =
     claim_holds (tries_page begun h.topics.claim) z (words_after (set_slot_task (Claim begun) h id slot) words area.Pool) (words area.Host) set h.topics (at_map_word begun h.topics.claim) (map_word begun h.topics.claim) v id slot g
     (ap (set_refusal z.pages id slot) (slots refl) ∙ e) owned h.state.sizes
@@ -132,13 +131,10 @@ setting_holds z words set h Count id slot g v K e slots owned =
     let F = fills_still z.pages (words area.Pool) id slot h g (slots refl) owned e in
     either_place (λ q. SetSlotHolds z (words area.Pool) q id slot g) (v == 0) Publish Close F F
 setting_holds z words set h Close id slot g v K e slots owned = fills_still z.pages (words area.Pool) id slot h g (slots refl) owned e
-setting_holds z words set h Publish id slot g v K e slots owned = tt
-setting_holds z words set h Release id slot g v K e slots owned = tt
 setting_holds z words set h Watch id slot g v K e slots owned =
     either_place (λ q. SetSlotHolds z (words area.Pool) q id slot g) (in_section v) Watch (if nat_lt (next_watched (own_index h) (looked_at h + 1)) (actors_of h.state.sizes) then Watch else Clear) tt
     (either_place (λ q. SetSlotHolds z (words area.Pool) q id slot g) (nat_lt (next_watched (own_index h) (looked_at h + 1)) (actors_of h.state.sizes)) Watch Clear tt tt)
-setting_holds z words set h Clear id slot g v K e slots owned = tt
-setting_holds z words set h Give id slot g v K e slots owned = tt
+setting_holds z words set h _ id slot g v K e slots owned = tt
 
 -- Behind a step up to the publication no page leaves, and behind the last one none does any more.
 claim_leaves : (tries : Bool) (word : ℕ) (t : Topics) (v : ℕ) → t.leaving ≡ None → left_behind (if tries then part.Claim else part.Map word) t v ≡ None
@@ -147,12 +143,7 @@ claim_leaves false word t v none = none
 
 pub setting_leaves : (p : SetSlotPlace) (h : Held) (id : ℕ) (slot : Slot) (t : Topics) (v : ℕ) → SetSlotKnows p h → LeavesPart (place.SetSlot p) h.topics → t.leaving ≡ left_behind (set_slot_part p h id slot) h.topics v
     → LeavesPart (place_after (set_slot_outcome p h v)) t
-setting_leaves (Refuse refusal) h id slot t v K left is = λ may. is ∙ left refl
 setting_leaves (Claim begun) h id slot t v K left is = λ may. is ∙ claim_leaves (tries_page begun h.topics.claim) (map_word begun h.topics.claim) h.topics v (left refl)
-setting_leaves Fill h id slot t v K left is = λ may. is ∙ left refl
-setting_leaves Exclude h id slot t v K left is = λ may. is ∙ left refl
-setting_leaves Count h id slot t v K left is = λ may. is ∙ left refl
-setting_leaves Close h id slot t v K left is = λ may. is ∙ left refl
 setting_leaves Publish h id slot t v K left is = λ may. absurd (cc may)
 setting_leaves Release h id slot t v K left is = λ may. absurd (cc may)
 setting_leaves Watch h id slot t v K left is =
@@ -160,3 +151,4 @@ setting_leaves Watch h id slot t v K left is =
     (either_place (λ q. LeavesPart (place.SetSlot q) t) (nat_lt (next_watched (own_index h) (looked_at h + 1)) (actors_of h.state.sizes)) Watch Clear (λ may. absurd (cc may)) (λ may. absurd (cc may)))
 setting_leaves Clear h id slot t v K left is = λ may. absurd (cc may)
 setting_leaves Give h id slot t v K left is = λ may. is ∙ ap (λ x. still_leaving x h.topics.leaving) K.1.owns_none
+setting_leaves _ h id slot t v K left is = λ may. is ∙ left refl

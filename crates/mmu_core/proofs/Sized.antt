@@ -31,19 +31,11 @@ use Rattle.mmu_core.proofs.Extend.{as_many_hands, as_many_words}
 
 access_keeps_sizes : (p : AccessPlace) (h : Held) (gfn : ℕ) (op : Op) (v : ℕ) → (access_loads p h gfn op v).sizes ≡ h.state.sizes
 access_keeps_sizes (Enter again) h gfn op v = refl
-access_keeps_sizes (Pause again) h gfn op v = refl
-access_keeps_sizes (Root again) h gfn op v = refl
-access_keeps_sizes (Walk again) h gfn op v = refl
-access_keeps_sizes Touch h gfn op v = refl
-access_keeps_sizes (Leave how) h gfn op v = refl
-access_keeps_sizes (Fault p) h gfn op v = refl
+access_keeps_sizes _ h gfn op v = refl
 
 pub loads_keep_sizes : (p : Place) (command : Command) (h : Held) (v : ℕ) → (loads_at p command h v).sizes ≡ h.state.sizes
-loads_keep_sizes place.Between command h v = refl
 loads_keep_sizes (place.Access p) (Access gfn word op) h v = access_keeps_sizes p h gfn op v
-loads_keep_sizes (place.Access p) (SetSlot id slot) h v = refl
-loads_keep_sizes (place.SetSlot p) (Access gfn word op) h v = refl
-loads_keep_sizes (place.SetSlot p) (SetSlot id slot) h v = refl
+loads_keep_sizes _ _ h v = refl
 
 -- A step leaves the sizes in its hand.
 pub next_keeps_sizes : (h : Held) (k : Kind) (v : ℕ) → (next h k v).state.sizes ≡ h.state.sizes

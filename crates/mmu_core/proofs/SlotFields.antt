@@ -11,6 +11,4 @@ same_slot x y base pages host read_only = λ t. record { base = base t; pages = 
 
 pub is_number : (f : SlotField) → field_number f ≤ 3
 is_number field.Base = omega arith
-is_number field.Pages = omega arith
-is_number field.Host = omega arith
-is_number field.Flags = omega arith
+is_number _ = omega arith

@@ -74,9 +74,8 @@ each_is_live pool set (suc n) few =
 
 same_last : (b c : Bool) (n : ℕ) (s t : Slot) → b ≡ c → (b ≡ true → s ≡ t) → ◌≡◌ {A = Slots} (if b then (n, s) ∷ [] else []) (if c then (n, t) ∷ [] else [])
 same_last true true n s t e is = rw (is refl) refl
-same_last true false n s t e is = absurd (cc)
-same_last false true n s t e is = absurd (cc)
 same_last false false n s t e is = refl
+same_last _ _ n s t e is = absurd (cc)
 
 -- The same slots are live in two sets, with the same words: the list is the same.
 pub same_below : (pool other : ℕ → ℕ) (set new_ n : ℕ) → ((i : ℕ) → i < n → live_at pool set i ≡ live_at other new_ i) → ((i : ℕ) → i < n → live_at pool set i ≡ true → slot_at pool set i ≡ slot_at other new_ i)
@@ -100,9 +99,8 @@ insert_then id slot (x ∷ xs) ys front = by (nat_cmp id x.0) (insert_then id sl
   where
     by : (o : Ordering) → with_slot id slot (xs ++ ys) ≡ with_slot id slot xs ++ ys
         → match_ordering o ((id, slot) ∷ x ∷ (xs ++ ys)) ((x.0, slot) ∷ (xs ++ ys)) (x ∷ with_slot id slot (xs ++ ys)) ≡ match_ordering o ((id, slot) ∷ x ∷ xs) ((x.0, slot) ∷ xs) (x ∷ with_slot id slot xs) ++ ys
-    by Less rest = refl
-    by Equal rest = refl
     by Greater rest = ap (λ (zs : Slots). x ∷ zs) rest
+    by _ rest = refl
 
 insert_last : (id : ℕ) (slot : Slot) (xs : Slots) → All (λ (e : ℕ × Slot). e.0 < id) xs → with_slot id slot xs ≡ xs ++ (id, slot) ∷ []
 insert_last id slot [] below = refl

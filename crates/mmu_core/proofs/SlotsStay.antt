@@ -65,22 +65,17 @@ module _ (z : Sizes) (before : ℕ → ℕ) (set : ℕ) (after : ℕ → ℕ) (o
   set_slot_stays : (p : SetSlotPlace) (id : ℕ) (slot : SlotOf) → SetSlotHolds z before p id slot h → SetSlotHolds z after p id slot h
   set_slot_stays (Refuse refusal) id slot e = e
   set_slot_stays (Claim begun) id slot e = e
-  set_slot_stays Fill id slot e = fills_stay id slot e
-  set_slot_stays Exclude id slot e = fills_stay id slot e
-  set_slot_stays Count id slot e = fills_stay id slot e
-  set_slot_stays Close id slot e = fills_stay id slot e
-  set_slot_stays Publish id slot e = fills_stay id slot e
   set_slot_stays Release id slot e = tt
   set_slot_stays Watch id slot e = tt
   set_slot_stays Clear id slot e = tt
   set_slot_stays Give id slot e = tt
+  set_slot_stays _ id slot e = fills_stay id slot e
 
   pub loads_stay : (p : Place) (command : Command) → Holds z before host set p command h → Holds z after host other p command h
   loads_stay place.Between command e = tt
   loads_stay (place.Access p) (Access gfn word op) e = access_stays before set after other stay host p gfn h e
-  loads_stay (place.Access p) (SetSlot id slot) e = absurd e
-  loads_stay (place.SetSlot p) (Access gfn word op) e = absurd e
   loads_stay (place.SetSlot p) (SetSlot id slot) e = set_slot_stays p id slot e
+  loads_stay _ _ e = absurd e
 
 -- What each hand knows of its place, from itself.
 abbrev pub AllKnow : Sizes → (ℕ → Held) → Type 0

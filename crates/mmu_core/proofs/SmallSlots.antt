@@ -17,10 +17,8 @@ use Rattle.part_steps.proofs.SetWords.{IsSmall}
 
 -- A slot that a line may set has small numbers.
 pub in_range : (z : Sizes) (actor : Actor) (id : ℕ) (slot : Slot) → IsCommandFor z actor (SetSlot id slot) → IsSmall slot
-in_range z (Vcpu n) id slot may = absurd may
-in_range z (Host n) id slot may = absurd may
 in_range z Manager id slot may = record { base = omega (arith, may.base); pages = omega (arith, may.pages); host = omega (arith, may.host) }
-in_range z (Worker n) id slot may = absurd may
+in_range z _ id slot may = absurd may
 
 -- What the lines are allowed, each of their commands is.
 set_is_small : (z : Sizes) (lines : List Line) (id : ℕ) (slot : Slot) → All (λ line. IsCommandFor z line.actor line.command) lines → Contains (map (λ line. line.command) lines) (SetSlot id slot) → IsSmall slot

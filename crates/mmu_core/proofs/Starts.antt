@@ -80,21 +80,10 @@ place_of_actor z i lt = by (nat_lt i z.vcpus) (nat_lt (i - z.vcpus) z.hosts) (i 
 
 pub same_actor : (x y : Actor) → is_same x y ≡ true → y ≡ x
 same_actor (Vcpu m) (Vcpu n) e = ap Vcpu (sym ((Decides-eqb m n).0 e))
-same_actor (Vcpu m) (Host n) e = absurd (cc e)
-same_actor (Vcpu m) Manager e = absurd (cc e)
-same_actor (Vcpu m) (Worker n) e = absurd (cc e)
-same_actor (Host m) (Vcpu n) e = absurd (cc e)
 same_actor (Host m) (Host n) e = ap Host (sym ((Decides-eqb m n).0 e))
-same_actor (Host m) Manager e = absurd (cc e)
-same_actor (Host m) (Worker n) e = absurd (cc e)
-same_actor Manager (Vcpu n) e = absurd (cc e)
-same_actor Manager (Host n) e = absurd (cc e)
 same_actor Manager Manager e = refl
-same_actor Manager (Worker n) e = absurd (cc e)
-same_actor (Worker m) (Vcpu n) e = absurd (cc e)
-same_actor (Worker m) (Host n) e = absurd (cc e)
-same_actor (Worker m) Manager e = absurd (cc e)
 same_actor (Worker m) (Worker n) e = ap Worker (sym ((Decides-eqb m n).0 e))
+same_actor _ _ e = absurd (cc e)
 
 -- What holds of each element by a recursion on the list, and by index.
 abbrev Each : (Line → Type 0) → List Line → Type 0
@@ -203,22 +192,11 @@ role_small i = by (i == 0) (i == 1)
     by false false = omega arith
 
 start_small : (z : Sizes) (a : Area) (i : ℕ) → AreSizes z → i < size_of (map_of z) a → start_word z a i < 2 ^ 64
-start_small z area.Root i sizes lt = omega arith
-start_small z area.Slots i sizes lt = omega arith
-start_small z area.Seq i sizes lt = omega arith
-start_small z area.Count i sizes lt = omega arith
-start_small z area.RangeStart i sizes lt = omega arith
-start_small z area.RangeEnd i sizes lt = omega arith
-start_small z area.Lock i sizes lt = omega arith
-start_small z area.Pause i sizes lt = omega arith
-start_small z area.State i sizes lt = omega arith
 start_small z area.PoolMap i sizes lt = bits_small 2 z.pool i
 start_small z area.FrameMap i sizes lt = bits_small z.pages z.frames i
-start_small z area.Log i sizes lt = omega arith
 start_small z area.Host i sizes lt = host_fits i true true 1 (omega (arith, lt, sizes.pages.1)) (omega arith)
 start_small z area.Role i sizes lt = role_small i
-start_small z area.Pool i sizes lt = omega arith
-start_small z area.Content i sizes lt = omega arith
+start_small z _ i sizes lt = omega arith
 
 get_or_past : (words : List ℕ) (i d : ℕ) → length words ≤ i → get_or words i d ≡ d
 get_or_past [] i d le = refl

@@ -136,12 +136,11 @@ starved_setting (set_slot.Claim begun) h id slot v e N = starved_claim begun h i
 starved_setting p h id slot v e N = absurd (cc e)
 
 starved_by : (p : Place) (command : Command) (h : Held) (v : ℕ) → outcome_at p command h v ≡ Ends answer.Starved → KnowsPart p command h → RestsAt p command h → IsStarved p (task_at p command h) h v
-starved_by place.Between (Access gfn word op) h v e K R = absurd (cc e)
-starved_by place.Between (SetSlot id slot) h v e K R = absurd (cc e)
 starved_by (place.Access p) (Access gfn word op) h v e K R = starved_access p h gfn word op v e K
 starved_by (place.Access p) (SetSlot id slot) h v e K R = absurd R
 starved_by (place.SetSlot p) (Access gfn word op) h v e K R = absurd R
 starved_by (place.SetSlot p) (SetSlot id slot) h v e K R = starved_setting p h id slot v e R
+starved_by place.Between _ h v e K R = absurd (cc e)
 
 starved_first : (z : Sizes) (slots : MemorySlots) (command : Command) (h : Held) (v : ℕ) → outcome_at (first_place z slots command) command h v ≡ Ends answer.Starved → RestsAt (first_place z slots command) command h
     → IsStarved (first_place z slots command) (task_at (first_place z slots command) command h) h v
@@ -156,13 +155,12 @@ starved_line (place.SetSlot p) h v e K R = starved_by (place.SetSlot p) h.state.
 
 -- A hand whose step answers a line starved has a line left.
 has_left : (p : Place) (h : Held) (v : ℕ) → UnderWay p h → outcome_at (place_at p h) (line_at p h).command h v ≡ Ends answer.Starved → length h.answers < length h.lines
-has_left (place.Access p) h v U e = U.1
-has_left (place.SetSlot p) h v U e = U.1
 has_left place.Between h v U e = by (slice_get h.lines (length h.answers)) refl e
   where
     by : (o : Option Line) → slice_get h.lines (length h.answers) ≡ o → outcome_at (first_place h.state.sizes h.slots (unwrap_or o no_line).command) (unwrap_or o no_line).command h v ≡ Ends answer.Starved → length h.answers < length h.lines
     by None is e = absurd (cc e)
     by (Some line) is e = some_below h.lines (length h.answers) (ap is_some is)
+has_left _ h v U e = U.1
 
 pub legal_parts : (w : World Held) (ss ts : List (Step Kind)) → Legal mmu w (ss ++ ts) → Legal mmu w ss × Legal mmu (run mmu w ss) ts
 legal_parts w [] ts legal = (tt, legal)

@@ -22,8 +22,7 @@ use Rattle.mmu_core.proofs.Starts.{reached_good}
 
 bit_tells : (x : ℕ) (stay : Stay) → x < 8 → x % 4 ≡ stay_bits stay → in_section x ≡ not (is_outside stay)
 bit_tells x Outside lt is = grind (arith, nat_tests)
-bit_tells x Guest lt is = grind (arith, nat_tests)
-bit_tells x Section lt is = grind (arith, nat_tests)
+bit_tells x _ lt is = grind (arith, nat_tests)
 
 -- Bit 1 of an actor's state word is clear exactly where the actor is outside.
 pub word_tells : (z : Sizes) (w : World Held) (i : ℕ) → IsSound z w → i < actors_of z → in_section (word_in z w area.State i) ≡ not (is_outside (hand_in mmu w i).topics.stay)

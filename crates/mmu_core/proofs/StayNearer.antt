@@ -84,9 +84,7 @@ walk_nearer (entry_kind.Table page) allowed again gfn y t v is from on =
     let upper : 2 ≤ t.walk.level = above_lowest t.walk.level v page from is in
     omega (arith, same, upper)
 walk_nearer entry_kind.Leaf true again gfn y t v is from on = let two = two_left again y t in omega (arith, from, two)
-walk_nearer entry_kind.Leaf false again gfn y t v is from on = leaves_nearer again t.walk.level y t (record t { walk = gone_down None t.walk (entry_index gfn t.walk.level) v }) on from
-walk_nearer entry_kind.Absent allowed again gfn y t v is from on = leaves_nearer again t.walk.level y t (record t { walk = gone_down None t.walk (entry_index gfn t.walk.level) v }) on from
-walk_nearer entry_kind.Frozen allowed again gfn y t v is from on = leaves_nearer again t.walk.level y t (record t { walk = gone_down None t.walk (entry_index gfn t.walk.level) v }) on from
+walk_nearer _ _ again gfn y t v is from on = leaves_nearer again t.walk.level y t (record t { walk = gone_down None t.walk (entry_index gfn t.walk.level) v }) on from
 
 -- ---- the fault
 
@@ -96,10 +94,7 @@ NotAnew _ = Unit {0}
 
 ends_not_anew : (e : FaultEnd) → begins_anew (place.Access (Fault (fault.End e))) ≡ false → NotAnew (next_of.Ends e)
 ends_not_anew (end_of.Retry cause) is = absurd (cc is)
-ends_not_anew end_of.Installed is = tt
-ends_not_anew end_of.Mmio is = tt
-ends_not_anew end_of.HostFault is = tt
-ends_not_anew end_of.Starved is = tt
+ends_not_anew _ is = tt
 
 not_anew : (p : FaultPlace) (z : Sizes) (gfn : ℕ) (write : Bool) (t : Topics) (v : ℕ) → begins_anew (place.Access (Fault p)) ≡ false → NotAnew (fault_next p z gfn write t v)
 not_anew (fault.End e) z gfn write t v is = ends_not_anew e is
@@ -146,10 +141,9 @@ place_nearer (place.Access p) (Access gfn word op) z h words begun may R K needs
     let same : topics_at (place.Access p) (Access gfn word op) h words ≡ behind_part (access_part p gfn h.topics) h.topics v =
     task_topics (access_part p gfn h.topics) h (access_note p) op (content_index (map_of h.state.sizes) (frame_in h.state.leaf) word) v (access_needs p h gfn (is_write op) V.0 V.1 R K) in
     subst (λ (t : Topics). Nearer (access_outcome p h gfn op v) h.state.sizes t (access_left p h.state.sizes h.topics)) (sym same) (access_nearer h gfn op v V.1 R p K on)
-place_nearer (place.Access p) (SetSlot id slot) z h words begun may R K needs on = absurd K
-place_nearer (place.SetSlot p) (Access gfn word op) z h words begun may R K needs on = absurd K
 place_nearer (place.SetSlot p) (SetSlot id slot) z h words begun may R K needs on =
     let step : PartStep = set_slot_part p h id slot in
     let v : ℕ = answer_in (set_slot_task p h id slot) words in
     subst (λ (t : Topics). Nearer (set_slot_outcome p h v) h.state.sizes t (set_slot_left p h.state.sizes h.topics))
     (sym (part_topics_is h.state.sizes step (own_index h) h.topics (set_slot_note p h) v (is_there step h needs))) (set_slot_nearer p h id slot v R K (first_of_none (set_slot_waits p h.topics v) false on))
+place_nearer _ _ z h words begun may R K needs on = absurd K

@@ -61,38 +61,20 @@ tells_fill false page filled value note = record { on = inl refl; note_is = refl
 
 tells_part : (step : PartStep) (own : ℕ) (t : Topics) (note : ℕ) → TellsPart note (part_task step own t note)
 tells_part (part.Fill value) own t note = tells_fill (words_filled t.owned == 512) (page_owned t.owned) (words_filled t.owned) value note
-tells_part part.Enter own t note = record { on = refl; note_is = refl }
-tells_part part.Leave own t note = record { on = refl; note_is = refl }
 tells_part part.Pause own t note = record { on = tt; note_is = refl }
-tells_part part.Begin own t note = record { on = refl; note_is = refl }
-tells_part part.End own t note = record { on = refl; note_is = refl }
-tells_part part.Share own t note = record { on = refl; note_is = refl }
-tells_part part.Unshare own t note = record { on = refl; note_is = refl }
-tells_part part.Exclude own t note = record { on = refl; note_is = refl }
-tells_part part.Release own t note = record { on = refl; note_is = refl }
 tells_part (part.Map word) own t note = record { on = tt; note_is = refl }
-tells_part part.Claim own t note = record { on = refl; note_is = refl }
-tells_part part.Give own t note = record { on = refl; note_is = refl }
 tells_part part.Slots own t note = record { on = tt; note_is = refl }
-tells_part part.Slot own t note = record { on = refl; note_is = refl }
 tells_part part.Seq own t note = record { on = tt; note_is = refl }
 tells_part part.Count own t note = record { on = tt; note_is = refl }
 tells_part part.RangeStart own t note = record { on = tt; note_is = refl }
 tells_part part.RangeEnd own t note = record { on = tt; note_is = refl }
 tells_part part.Root own t note = record { on = tt; note_is = refl }
-tells_part (part.Walk gfn) own t note = record { on = refl; note_is = refl }
-tells_part (part.Link gfn) own t note = record { on = refl; note_is = refl }
-tells_part (part.Leaf gfn) own t note = record { on = refl; note_is = refl }
-tells_part (part.Host page) own t note = record { on = refl; note_is = refl }
-tells_part (part.Watch index) own t note = record { on = refl; note_is = refl }
-tells_part part.Publish own t note = record { on = refl; note_is = refl }
 tells_part part.Clear own t note = record { on = inr refl; note_is = refl }
-tells_part part.GiveOld own t note = record { on = refl; note_is = refl }
+tells_part _ own t note = record { on = refl; note_is = refl }
 
 tells_touch : (op : Op) (index : ℕ) → TellsPart 0 (touch_of op index)
 tells_touch Read index = record { on = refl; note_is = refl }
-tells_touch (Write x) index = record { on = refl; note_is = refl }
-tells_touch (Add x) index = record { on = refl; note_is = refl }
+tells_touch _ index = record { on = refl; note_is = refl }
 
 -- the note that the step of a place has: the touch has 0
 abbrev note_by : Option PartStep → ℕ → ℕ
@@ -109,14 +91,10 @@ fault_ends (fault.End e) z gfn write t v = refl
 fault_ends _ z gfn write t v = refl
 
 access_ends : (p : AccessPlace) (h : Held) (gfn : ℕ) (op : Op) (v : ℕ) → note_by (access_part p gfn h.topics) (access_note p) ≡ ends_with (access_outcome p h gfn op v)
-access_ends (Enter again) h gfn op v = refl
-access_ends (Pause again) h gfn op v = refl
-access_ends (Root again) h gfn op v = refl
-access_ends (Walk again) h gfn op v = refl
-access_ends Touch h gfn op v = refl
 access_ends (Leave (leaving.Reached frame value)) h gfn op v = refl
 access_ends (Leave leaving.Faults) h gfn op v = refl
 access_ends (Fault p) h gfn op v = fault_ends p h.state.sizes gfn (is_write op) h.topics v
+access_ends _ h gfn op v = refl
 
 -- The step of another place than a slot setting's claim.
 tells_exactly : (p : Place) (z : Sizes) (t : Task) (o : Outcome) (v : ℕ) → t.may_end ≡ ends_with o → ((begun : Bool) → p ≡ place.SetSlot (Claim begun) → ⊥) → NoteTells p z (kind_of_task z t) o v
@@ -133,17 +111,13 @@ line_tells (place.Access p) (Access gfn word op) h v R =
 line_tells (place.SetSlot p) (SetSlot id slot) h v R = setting_tells p h id slot v R
 line_tells place.Between (Access gfn word op) h v R = record { tells = inl refl; last = λ L. absurd (cc L.place_is) }
 line_tells place.Between (SetSlot id slot) h v R = record { tells = inl refl; last = λ L. absurd (cc L.place_is) }
-line_tells (place.Access p) (SetSlot id slot) h v R = absurd R
-line_tells (place.SetSlot p) (Access gfn word op) h v R = absurd R
+line_tells _ _ h v R = absurd R
 
 -- What a line's step is on.
 line_on : (p : Place) (command : Command) (h : Held) → IsOn (task_at p command h).kind (task_at p command h).area
 line_on (place.Access p) (Access gfn word op) h = (tells_by (access_part p gfn h.topics) h (access_note p) _ op).on
 line_on (place.SetSlot p) (SetSlot id slot) h = (tells_part (set_slot_part p h id slot) (own_index h) h.topics (set_slot_note p h)).on
-line_on place.Between (Access gfn word op) h = tt
-line_on place.Between (SetSlot id slot) h = tt
-line_on (place.Access p) (SetSlot id slot) h = tt
-line_on (place.SetSlot p) (Access gfn word op) h = tt
+line_on _ _ h = tt
 
 -- a task's numbers
 on_its_area : (z : Sizes) (t : Task) → t.index < size_of (map_of z) t.area → IsOn t.kind t.area → IsOnItsArea z (kind_of_task z t)
@@ -197,9 +171,7 @@ access_caches_one _ h gfn op v = inl refl
 
 line_caches_one : (p : Place) (command : Command) (h : Held) (v : ℕ) → CachesOneAtMost h.cached (caches_at p command h v)
 line_caches_one (place.Access p) (Access gfn word op) h v = access_caches_one p h gfn op v
-line_caches_one (place.Access p) (SetSlot id slot) h v = inl refl
-line_caches_one (place.SetSlot p) command h v = inl refl
-line_caches_one place.Between command h v = inl refl
+line_caches_one _ _ h v = inl refl
 
 pub others_cache_one : (h : Held) (k : Kind) (v : ℕ) → Enabled h k → (kind_named k.code ≡ kind.Enter → asks_flush v ≡ false) → CachesOneAtMost h.cached (next h k v).cached
 unfolding next

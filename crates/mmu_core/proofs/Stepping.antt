@@ -39,8 +39,7 @@ pub record IsStep (z : Sizes) (v : View) (a : ℕ) (line : Line) (command : Comm
 
 line_is_next : (p : Place) (h : Held) → UnderWay p h → h.state.place ≡ p → line_at p h ≡ next_line h
 line_is_next place.Between h under is = refl
-line_is_next (place.Access p) h under is = under.0
-line_is_next (place.SetSlot p) h under is = under.0
+line_is_next _ h under is = under.0
 
 first_is_begun : (z : Sizes) (slots : MemorySlots) (command : Command) → IsUnderWay (first_place z slots command)
 first_is_begun z slots (Access gfn word op) = tt
@@ -48,8 +47,7 @@ first_is_begun z slots (SetSlot id slot) = tt
 
 pub is_begun : (p : Place) (z : Sizes) (slots : MemorySlots) (command : Command) → IsUnderWay (standing p z slots command)
 is_begun place.Between z slots command = first_is_begun z slots command
-is_begun (place.Access p) z slots command = tt
-is_begun (place.SetSlot p) z slots command = tt
+is_begun _ z slots command = tt
 
 -- the loads of a line that begins: none
 set_slot_begins : (z : Sizes) (pool host : ℕ → ℕ) (set id : ℕ) (slot : Slot) (h : Held) (r : Option Refusal) → set_refusal z.pages id slot h.slots ≡ r → Holds z pool host set (place.SetSlot (set_slot_first r)) (SetSlot id slot) h
@@ -62,8 +60,7 @@ first_holds z pool host set (SetSlot id slot) h = set_slot_begins z pool host se
 
 standing_holds : (z : Sizes) (pool host : ℕ → ℕ) (set : ℕ) (q : Place) (h : Held) → h.state.place ≡ q → Holds z pool host set q h.state.line.command h → Holds z pool host set (standing q z h.slots (line_at q h).command) (line_at q h).command h
 standing_holds z pool host set place.Between h is holds = first_holds z pool host set (next_line h).command h
-standing_holds z pool host set (place.Access p) h is holds = holds
-standing_holds z pool host set (place.SetSlot p) h is holds = holds
+standing_holds z pool host set _ h is holds = holds
 
 -- what holds of all lines of a hand holds of its next one
 pub next_has : (P : Line → Type 0) (h : Held) → All P h.lines → length h.answers < length h.lines → P (next_line h)
@@ -97,9 +94,8 @@ is_step z v a I there left =
 
 -- Where the step's place isn't behind a publication, the hand's isn't either.
 before_published : (q : Place) (z : Sizes) (slots : MemorySlots) (command : Command) (p : Place) → standing q z slots command ≡ p → may_leave p ≡ false → may_leave q ≡ false
-before_published place.Between z slots command p is not_yet = refl
-before_published (place.Access q) z slots command p is not_yet = refl
 before_published (place.SetSlot q) z slots command p is not_yet = ap may_leave is ∙ not_yet
+before_published _ z slots command p is not_yet = refl
 
 pub none_done : (z : Sizes) (v : View) (a : ℕ) (line : Line) (command : Command) (p : Place) → IsStep z v a line command p → may_leave p ≡ false → lines_done (v.hand a) ≡ length (v.hand a).answers
 none_done z v a line command p S not_yet =

@@ -51,9 +51,7 @@ claim_few b z t = by (tries_page b t.claim)
 
 look_few : (f : SlotField) → look_left f ≤ 4
 look_few field.Flags = omega arith
-look_few field.Base = omega arith
-look_few field.Pages = omega arith
-look_few field.Host = omega arith
+look_few _ = omega arith
 
 find_few : (b : Bool) (search : SlotSearch) → find_left b search ≤ 129
 find_few true search = let few = look_few search.next in omega (arith, few)
@@ -61,22 +59,15 @@ find_few false search = omega arith
 
 lock_few : (k : Hold) → lock_left k ≤ 2
 lock_few Loose = omega arith
-lock_few Shared = omega arith
-lock_few (Owing word) = omega arith
-lock_few Exclusive = omega arith
+lock_few _ = omega arith
 
 check_few : (at_ : CheckStage) → check_left at_ ≤ 4
 check_few stage.Count = omega arith
-check_few stage.Start = omega arith
-check_few stage.End = omega arith
-check_few stage.Seq = omega arith
+check_few _ = omega arith
 
 -- A fault has no more left at any place than where it begins.
 fault_few : (p : FaultPlace) (z : Sizes) (t : Topics) → t.walk.level ≤ 4 → fault_left p z t ≤ fault_left fault.Begin z t
-fault_few fault.Begin z t most = omega arith
-fault_few fault.Snapshot z t most = omega arith
 fault_few (fault.Find b) z t most = let few = find_few b t.search in omega (arith, few)
-fault_few fault.Host z t most = omega arith
 fault_few fault.Share z t most = let few = lock_few t.hold in omega (arith, few)
 fault_few (fault.Check at_) z t most = let few = check_few at_ in omega (arith, few)
 fault_few (fault.Walk true) z t most = let few = tables_few z t.walk.level most in omega (arith, few)
@@ -84,10 +75,7 @@ fault_few (fault.Walk false) z t most = omega arith
 fault_few (fault.Claim b) z t most = let tables = more_tables_few z t.walk.level most in let few = claim_few b z t in omega (arith, few, tables)
 fault_few fault.Fill z t most = let tables = more_tables_few z t.walk.level most in omega (arith, tables)
 fault_few fault.Link z t most = let tables = more_tables_few z t.walk.level most in omega (arith, tables)
-fault_few (fault.Give e) z t most = omega arith
-fault_few fault.Leaf z t most = omega arith
-fault_few (fault.Unshare e) z t most = omega arith
-fault_few (fault.End e) z t most = omega arith
+fault_few _ z t most = omega arith
 
 stay_few : (again : Bool) (z : Sizes) (t : Topics) → stay_left again z t ≤ 10 + fault_left fault.Begin z t
 stay_few true z t = omega arith
@@ -105,17 +93,8 @@ access_few (Fault p) z t most = let few = fault_few p z t most in omega (arith, 
 
 -- A slot setting has few steps left beside a claim, of 64 pages a word, and other actors.
 set_slot_few : (p : SetSlotPlace) (z : Sizes) (t : Topics) → set_slot_left p z t ≤ 521 + actors_of z + words_of_bits z.pool
-set_slot_few (set_slot.Refuse refusal) z t = omega arith
 set_slot_few (set_slot.Claim begun) z t = let few = claim_few begun z t in omega (arith, few)
-set_slot_few set_slot.Fill z t = omega arith
-set_slot_few set_slot.Exclude z t = omega arith
-set_slot_few set_slot.Count z t = omega arith
-set_slot_few set_slot.Close z t = omega arith
-set_slot_few set_slot.Publish z t = omega arith
-set_slot_few set_slot.Release z t = omega arith
-set_slot_few set_slot.Watch z t = omega arith
-set_slot_few set_slot.Clear z t = omega arith
-set_slot_few set_slot.Give z t = omega arith
+set_slot_few _ z t = omega arith
 
 pub place_few : (p : Place) (z : Sizes) (t : Topics) → AreSizes z → t.walk.level ≤ 4 → steps_left p z t ≤ most_steps z
 place_few place.Between z t S most = omega arith

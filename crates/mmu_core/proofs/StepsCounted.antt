@@ -50,8 +50,7 @@ one_more_few n = by (nat_lt n (2 ^ 64 - 1))
 -- What was counted where a line's step comes fits with what it has left there.
 stood_fits : (q : Place) (n left most : ℕ) → n ≤ most → left ≤ most → (IsUnderWay q → n + left ≤ most) → counted q n + left ≤ most
 stood_fits place.Between n left most few bounded under = omega (arith, bounded)
-stood_fits (place.Access p) n left most few bounded under = under tt
-stood_fits (place.SetSlot p) n left most few bounded under = under tt
+stood_fits _ n left most few bounded under = under tt
 
 -- Behind a delay nothing is counted, and else one step more, of which there was one left.
 delay_fits : (delay : Bool) (o : Outcome) (y : Sizes) (u : Topics) (n left most : ℕ) → n + left ≤ most → 0 < left → (delay ≡ false → Nearer o y u left) → ((p : Place) → steps_left p y u ≤ most)
@@ -86,8 +85,7 @@ counts_by true h g left S fits some steps delays = (omega (arith, fits, some), s
 -- A hand with no line left has none under way.
 idle_under : (q : Place) (h : Held) → has_line h ≡ false → UnderWay q h → IsUnderWay q → ⊥
 idle_under place.Between h none under is = is
-idle_under (place.Access p) h none under is = let has = has_line_is h under.1 in cc (none, has)
-idle_under (place.SetSlot p) h none under is = let has = has_line_is h under.1 in cc (none, has)
+idle_under _ h none under is = let has = has_line_is h under.1 in cc (none, has)
 
 -- ---- from world to world
 

@@ -26,12 +26,7 @@ use Rattle.mmu_core.proofs.Told.{told}
 
 begun_by_more : (kind : EventKind) (xs ys : List Line) → or_begun kind (xs ++ ys) ≡ or_begun kind xs ++ ys
 begun_by_more (Begun line) xs ys = refl
-begun_by_more LookedAtSlots xs ys = refl
-begun_by_more (LookedAtHost page) xs ys = refl
-begun_by_more (Accessed gfn word op frame before) xs ys = refl
-begun_by_more (Exited answer) xs ys = refl
-begun_by_more (SlotChanged id slot) xs ys = refl
-begun_by_more (Answered line answer) xs ys = refl
+begun_by_more _ xs ys = refl
 
 begun_more : (xs ys : List Event) → lines_begun (xs ++ ys) ≡ lines_begun xs ++ lines_begun ys
 begun_more [] ys = refl
@@ -50,21 +45,13 @@ begun_by_append actor xs ys = ap (lines_of actor) (begun_more xs ys) ∙ filter-
 -- An event that stands within a line neither begins nor answers one.
 answers_none : (actor : Actor) (kind : EventKind) (rest : List AnsweredLine) → IsWithin kind → or_answered actor kind rest ≡ rest
 answers_none actor (Begun line) rest within = absurd within
-answers_none actor LookedAtSlots rest within = refl
-answers_none actor (LookedAtHost page) rest within = refl
-answers_none actor (Accessed gfn word op frame before) rest within = refl
-answers_none actor (Exited answer) rest within = refl
-answers_none actor (SlotChanged id slot) rest within = refl
 answers_none actor (Answered line answer) rest within = absurd within
+answers_none actor _ rest within = refl
 
 begins_none : (kind : EventKind) (rest : List Line) → IsWithin kind → or_begun kind rest ≡ rest
 begins_none (Begun line) rest within = absurd within
-begins_none LookedAtSlots rest within = refl
-begins_none (LookedAtHost page) rest within = refl
-begins_none (Accessed gfn word op frame before) rest within = refl
-begins_none (Exited answer) rest within = refl
-begins_none (SlotChanged id slot) rest within = refl
 begins_none (Answered line answer) rest within = absurd within
+begins_none _ rest within = refl
 
 within_then_answers : (actor : Actor) (kinds more : List EventKind) → AllWithin kinds → answers_of (told actor (kinds ++ more)) ≡ answers_of (told actor more)
 within_then_answers actor [] more all = refl
@@ -81,8 +68,7 @@ answered_with actor line (Ends answer) = record { number = line.number; actor = 
 
 abbrev pub begun_from : Place → Line → List Line
 begun_from place.Between line = line ∷ []
-begun_from (place.Access p) line = []
-begun_from (place.SetSlot p) line = []
+begun_from _ line = []
 
 answer_told : (actor : Actor) (line : Line) (o : Outcome) → answers_of (told actor (answering o line)) ≡ answered_with actor line o
 answer_told actor line (Goes p) = refl
@@ -95,13 +81,11 @@ no_begin_told actor line (Ends answer) = refl
 -- what a step tells, with its begin
 pub answers_told : (actor : Actor) (stood : Place) (line : Line) (kinds : List EventKind) (o : Outcome) → AllWithin kinds → answers_of (told actor (beginning stood line ++ (kinds ++ answering o line))) ≡ answered_with actor line o
 answers_told actor place.Between line kinds o all = within_then_answers actor kinds (answering o line) all ∙ answer_told actor line o
-answers_told actor (place.Access p) line kinds o all = within_then_answers actor kinds (answering o line) all ∙ answer_told actor line o
-answers_told actor (place.SetSlot p) line kinds o all = within_then_answers actor kinds (answering o line) all ∙ answer_told actor line o
+answers_told actor _ line kinds o all = within_then_answers actor kinds (answering o line) all ∙ answer_told actor line o
 
 pub begins_told : (actor : Actor) (stood : Place) (line : Line) (kinds : List EventKind) (o : Outcome) → AllWithin kinds → lines_begun (told actor (beginning stood line ++ (kinds ++ answering o line))) ≡ begun_from stood line
 begins_told actor place.Between line kinds o all = ap (λ (lines : List Line). line ∷ lines) (within_then_begins actor kinds (answering o line) all ∙ no_begin_told actor line o)
-begins_told actor (place.Access p) line kinds o all = within_then_begins actor kinds (answering o line) all ∙ no_begin_told actor line o
-begins_told actor (place.SetSlot p) line kinds o all = within_then_begins actor kinds (answering o line) all ∙ no_begin_told actor line o
+begins_told actor _ line kinds o all = within_then_begins actor kinds (answering o line) all ∙ no_begin_told actor line o
 
 -- Of another actor it answers and begins none, and of its own what it answers and begins.
 pub other_answers : (actor other : Actor) (line : Line) (o : Outcome) → is_same other actor ≡ false → filter (λ x. is_same other x.actor) (answered_with actor line o) ≡ []
@@ -110,8 +94,7 @@ other_answers actor other line (Ends answer) apart = rw apart refl
 
 pub other_begins : (other : Actor) (stood : Place) (line : Line) → is_same other line.actor ≡ false → lines_of other (begun_from stood line) ≡ []
 other_begins other place.Between line apart = rw apart refl
-other_begins other (place.Access p) line apart = refl
-other_begins other (place.SetSlot p) line apart = refl
+other_begins other _ line apart = refl
 
 pub own_answers : (actor : Actor) (line : Line) (o : Outcome) → filter (λ x. is_same actor x.actor) (answered_with actor line o) ≡ answered_with actor line o
 own_answers actor line (Goes p) = refl
@@ -119,5 +102,4 @@ own_answers actor line (Ends answer) = rw (is_same_self actor) refl
 
 pub own_begins : (actor : Actor) (stood : Place) (line : Line) → line.actor ≡ actor → lines_of actor (begun_from stood line) ≡ begun_from stood line
 own_begins actor place.Between line own = rw (own, is_same_self actor) refl
-own_begins actor (place.Access p) line own = refl
-own_begins actor (place.SetSlot p) line own = refl
+own_begins actor _ line own = refl

@@ -72,8 +72,7 @@ topics_behind v a task = record {
 touch_kept : (z : Sizes) (v : View) (a : ℕ) (op : Op) (index : ℕ) → TopicsInvariant z v → TopicsInvariant z (topics_behind v a (touch_of op index))
 unfolding topics_after
 touch_kept z v a Read index P = same_topics z _ _ _ _ _ _ _ _ _ v.hand _ (column (λ (h : Held). h.topics) v.hand a _ refl) P
-touch_kept z v a (Write x) index P = same_topics z _ _ _ _ _ _ _ _ _ v.hand _ (column (λ (h : Held). h.topics) v.hand a _ refl) P
-touch_kept z v a (Add x) index P = same_topics z _ _ _ _ _ _ _ _ _ v.hand _ (column (λ (h : Held). h.topics) v.hand a _ refl) P
+touch_kept z v a _ index P = same_topics z _ _ _ _ _ _ _ _ _ v.hand _ (column (λ (h : Held). h.topics) v.hand a _ refl) P
 
 -- Each step of an access is a step of a part, or a touch.
 pub topics_access_kept : (z : Sizes) (v : View) (a : ℕ) (line : Line) (p : AccessPlace) (gfn word : ℕ) (op : Op) → MakesParts z v a p gfn → TopicsInvariant z v → TopicsInvariant z (stepped a line (Access gfn word op) (place.Access p) v)
@@ -134,6 +133,5 @@ topics_setting_kept z v a line p id slot S P =
 pub topics_line_kept : (z : Sizes) (v : View) (a : ℕ) (line : Line) (command : Command) (p : Place) → AreSmall v → IsStep z v a line command p → Invariant z v → TopicsInvariant z v → TopicsInvariant z (stepped a line command p v)
 topics_line_kept z v a line command place.Between small S I P = absurd S.begun
 topics_line_kept z v a line (Access gfn word op) (place.Access p) small S I P = topics_access_kept z v a line p gfn word op (makes_parts z v a line p gfn word op small S I P) P
-topics_line_kept z v a line (SetSlot id slot) (place.Access p) small S I P = absurd S.holds
-topics_line_kept z v a line (Access gfn word op) (place.SetSlot p) small S I P = absurd S.holds
 topics_line_kept z v a line (SetSlot id slot) (place.SetSlot p) small S I P = topics_setting_kept z v a line p id slot (makes_setting z v a line p id slot small S I P) P
+topics_line_kept z v a line _ _ small S I P = absurd S.holds

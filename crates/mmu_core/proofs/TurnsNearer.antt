@@ -72,14 +72,13 @@ no_miss (place.Access (Walk again)) (Access gfn word op) h words walks =
     misses_never (kind_of h.topics.walk.level v) (allows_access (is_write op) v) again (words area.Pool) h.topics.walk.level (table_page h.topics.walk) gfn (is_write op) v refl refl refl walks
 no_miss (place.Access (Walk true)) (SetSlot id slot) h words walks = refl
 no_miss (place.Access (Walk false)) (SetSlot id slot) h words walks = refl
-no_miss place.Between c h words walks = refl
-no_miss (place.SetSlot p) c h words walks = refl
 no_miss (place.Access (Enter again)) c h words walks = refl
 no_miss (place.Access (Pause again)) c h words walks = refl
 no_miss (place.Access (Root again)) c h words walks = refl
 no_miss (place.Access Touch) c h words walks = refl
 no_miss (place.Access (Leave how)) c h words walks = refl
 no_miss (place.Access (Fault p)) c h words walks = refl
+no_miss _ c h words walks = refl
 
 none_of : (a b c : Bool) → a ≡ false → b ≡ false → c ≡ false → (a || (b || c)) ≡ false
 none_of true b c first second third = absurd (cc first)
@@ -110,8 +109,7 @@ WaitsOrBegins p t v = (line_waits p t v ≡ true) ⊎ (begins_anew p ≡ true)
 where_it_stands : (q : Place) (y : Sizes) (slots : MemorySlots) (c : Command) (t : Topics) (v : ℕ) → WaitsOrBegins (standing q y slots c) t v → WaitsOrBegins q t v
 where_it_stands place.Between y slots c t v (inl waits) = absurd (first_goes y slots c t v waits)
 where_it_stands place.Between y slots c t v (inr anew) = absurd (first_no_end y slots c anew)
-where_it_stands (place.Access p) y slots c t v is = is
-where_it_stands (place.SetSlot p) y slots c t v is = is
+where_it_stands _ y slots c t v is = is
 
 -- ---- from world to world
 

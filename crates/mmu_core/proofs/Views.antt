@@ -71,26 +71,7 @@ read_set m words area other i j x lt count = by (eqb_tells (number_of other) (nu
 -- the operation of a kind, by its number
 operation_is : (k : StepKind) → operation_of_code (code_of k) ≡ operation_of k
 operation_is kind.Enter = refl
-operation_is kind.Leave = refl
-operation_is kind.Begin = refl
-operation_is kind.End = refl
-operation_is kind.Share = refl
-operation_is kind.Unshare = refl
-operation_is kind.Exclude = refl
-operation_is kind.Release = refl
-operation_is kind.Claim = refl
-operation_is kind.Give = refl
-operation_is kind.Watch = refl
-operation_is kind.Publish = refl
-operation_is kind.Walk = refl
-operation_is kind.Read = refl
-operation_is kind.Write = refl
-operation_is kind.Add = refl
-operation_is kind.Control = refl
-operation_is kind.Slot = refl
-operation_is kind.Host = refl
-operation_is kind.Swap = refl
-operation_is kind.Fill = refl
+operation_is _ = refl
 
 -- what stands in a word behind a task's step, and what the step answers
 after_is : (z : Sizes) (t : Task) (n : ℕ) → after (kind_of_task z t) n ≡ word_after (operation_of t.kind) t.expected t.written n
@@ -106,8 +87,6 @@ words_behind : (m : WordMap) (words : List ℕ) (o : Operation) (area other : Ar
     → read m (slice_set words (place m area i) (word_after o expected written (slice_index words (place m area i)))) other j
     ≡ (if stores o then put (read m words) area i (word_after o expected written (read m words area i)) else read m words) other j
 words_behind m words operation.Load area other i j expected written lt count = ap (λ (ws : List ℕ). read m ws other j) (set-get_or words (place m area i) 0)
-words_behind m words operation.Store area other i j expected written lt count = read_set m words area other i j written lt count
-words_behind m words operation.Swap area other i j expected written lt count = read_set m words area other i j written lt count
 words_behind m words operation.FetchAdd area other i j expected written lt count =
     read_set m words area other i j _ lt count ∙ ap (λ n. put (read m words) area i (word_after operation.FetchAdd expected written n) other j) (sym (read_inside m words area i lt))
 words_behind m words operation.FetchSub area other i j expected written lt count =
@@ -118,6 +97,7 @@ words_behind m words operation.FetchOr area other i j expected written lt count 
     read_set m words area other i j _ lt count ∙ ap (λ n. put (read m words) area i (word_after operation.FetchOr expected written n) other j) (sym (read_inside m words area i lt))
 words_behind m words operation.CompareExchange area other i j expected written lt count =
     read_set m words area other i j _ lt count ∙ ap (λ n. put (read m words) area i (word_after operation.CompareExchange expected written n) other j) (sym (read_inside m words area i lt))
+words_behind m words _ area other i j expected written lt count = read_set m words area other i j written lt count
 
 hands_behind : (hands : List Held) (a i : ℕ) (h : Held) → a < length hands → get_or (set hands a h) i nobody ≡ upd (λ j. get_or hands j nobody) a h i
 hands_behind hands a i h lt = case (same_or i a)

@@ -86,9 +86,8 @@ module _ (z : Sizes) (w : World Held) (ss : List (Step Kind)) (s : Step Kind) (G
 
   share_saw : (hold : Hold) (gfn : ℕ) → is_trying hold ≡ true → Made (share_part hold) → Saw (share_next hold v) gfn (part_topics (share_part hold) t v)
   share_saw Loose gfn try_ M = shared_saw (has_writer v) gfn (part_topics part.Share t v) refl M
-  share_saw Shared gfn try_ M = absurd (cc try_)
   share_saw (Owing word) gfn try_ M = λ w_ e. absurd (cc e)
-  share_saw Exclusive gfn try_ M = absurd (cc try_)
+  share_saw _ gfn try_ M = absurd (cc try_)
 
   -- ---- the claim
 
@@ -110,16 +109,13 @@ module _ (z : Sizes) (w : World Held) (ss : List (Step Kind)) (s : Step Kind) (G
   check_saw stage.Seq gfn t_ = either (v == snapshot_taken t.invalidations.snapshot) (Walk false) (Unshare (Retry _)) gfn t_ tt tt
 
   walk_saw : (k : SpteKind) (gfn : ℕ) (write : Bool) (t_ : Topics) → Saw (walk_next k z gfn write t.walk v) gfn t_
-  walk_saw (entry_kind.Table page) gfn write t_ = tt
   walk_saw entry_kind.Leaf gfn write t_ =
       either (t.walk.level == 1) (if allows_access write v then Unshare Installed else Leaf) (Unshare (Retry _)) gfn t_ (either (allows_access write v) (Unshare Installed) Leaf gfn t_ tt tt) tt
   walk_saw entry_kind.Absent gfn write t_ = either (t.walk.level == 1) Leaf (Claim false) gfn t_ tt (λ is. absurd (cc is))
-  walk_saw entry_kind.Frozen gfn write t_ = tt
+  walk_saw _ gfn write t_ = tt
 
   own_wait : (p : FaultPlace) (gfn : ℕ) (write : Bool) → Made (fault_part p gfn t) → FaultKnows p z gfn write t
       → NextIs (WaitSaw z w) a (fault_next p z gfn write t v) gfn (part_topics (fault_part p gfn t) t v) (ss ++ s ∷ []) (effect mmu u s)
-  own_wait Begin gfn write M K = tt
-  own_wait Snapshot gfn write M K = tt
   own_wait (Find true) gfn write M K = find_saw gfn write t.search.next (searched t.search v) (part_topics part.Slot t v)
   own_wait (Find false) gfn write M K = tt
   own_wait Host gfn write M K = either (write && not (host_allows_write v)) (End HostFault) Share gfn _ tt (λ word e. let loose = K.0.loose in absurd (cc (loose, e)))
@@ -130,10 +126,8 @@ module _ (z : Sizes) (w : World Held) (ss : List (Step Kind)) (s : Step Kind) (G
   own_wait (Claim begun) gfn write M K = claim_goes (tries_page begun t.claim) (at_map_word begun t.claim) gfn (part_topics (claim_part begun t.claim) t v) (claim_saw z w ss s G may begun M)
   own_wait Fill gfn write M K = either (nat_lt (words_filled t.owned) 512) Fill Link gfn _ tt tt
   own_wait Link gfn write M K = either (v == t.walk.entry) (Walk true) (Give (Retry _)) gfn _ tt tt
-  own_wait (Give e) gfn write M K = tt
   own_wait Leaf gfn write M K = either (v == t.walk.entry) (Unshare Installed) (Unshare (Retry _)) gfn _ tt tt
-  own_wait (Unshare e) gfn write M K = tt
-  own_wait (End e) gfn write M K = tt
+  own_wait _ gfn write M K = tt
 
 others_wait : (z : Sizes) (w : World Held) (actor : ℕ) (p : FaultPlace) (gfn : ℕ) (t : Topics) (ss : List (Step Kind)) (s : Step Kind) → May mmu (run mmu w ss) s → s.actor ≢ actor
     → WaitSaw z w actor p gfn t ss (run mmu w ss) → WaitSaw z w actor p gfn t (ss ++ s ∷ []) (effect mmu (run mmu w ss) s)
@@ -163,9 +157,7 @@ module _ (z : Sizes) (w : World Held) (ss : List (Step Kind)) (s : Step Kind) (G
         subst (λ m. HasMade (TriesLock z s.actor m) (IsOthers s.actor) w ss) (sym owed) (S word is),
         ap has_writer owed ∙ (own_rests z (run mmu w ss) s G may).saw_writer word is,
       )
-  share_caused Loose gfn is owes S = absurd (cc owes)
-  share_caused Shared gfn is owes S = absurd (cc owes)
-  share_caused Exclusive gfn is owes S = absurd (cc owes)
+  share_caused _ gfn is owes S = absurd (cc owes)
 
   caused : (p : FaultPlace) (gfn : ℕ) → Makes h s (fault_part p gfn h.topics) → waits p h.topics found_there ≡ true → WaitSaw z w s.actor p gfn h.topics ss (run mmu w ss) → WaitIsCaused p z s.actor h.topics found_there w ss
   caused Share gfn M is S = share_caused h.topics.hold gfn refl is S

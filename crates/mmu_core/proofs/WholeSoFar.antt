@@ -30,8 +30,7 @@ but_one h = at (length h.answers) h.state.place
   where
     at : (n : ℕ) (p : Place) → begun_count p n ≤ n + 1
     at n place.Between = omega arith
-    at n (place.Access p) = omega arith
-    at n (place.SetSlot p) = omega arith
+    at n _ = omega arith
 
 take_none : (n : ℕ) → take {A = Line} n [] ≡ []
 take_none zero = refl

@@ -42,8 +42,6 @@ use Rattle.mmu_core.proofs.PartStepping.{IsPart, idle_never, replaces_none}
 -- A step writes a number below 2 ^ 64 where it found one.
 word_small : (o : Operation) (old_ new_ n : ℕ) → new_ < 2 ^ 64 → n < 2 ^ 64 → word_after o old_ new_ n < 2 ^ 64
 word_small operation.Load old_ new_ n small found = found
-word_small operation.Store old_ new_ n small found = small
-word_small operation.Swap old_ new_ n small found = small
 word_small operation.FetchAdd old_ new_ n small found = omega arith
 word_small operation.FetchSub old_ new_ n small found = omega arith
 word_small operation.FetchAnd old_ new_ n small found = omega (arith, and_le_l n new_)
@@ -53,6 +51,7 @@ word_small operation.CompareExchange old_ new_ n small found = by (n == old_)
     by : (b : Bool) → (if b then new_ else n) < 2 ^ 64
     by true = small
     by false = found
+word_small _ old_ new_ n small found = small
 
 after_small : (k : Kind) (n : ℕ) → k.new < 2 ^ 64 → n < 2 ^ 64 → after k n < 2 ^ 64
 unfolding after
