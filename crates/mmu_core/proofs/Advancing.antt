@@ -89,8 +89,7 @@ setting_room : (p : SetSlotPlace) (h : Held) (id : ℕ) (slot : SlotOf) → AreS
 setting_room p h id slot z N = part_room (set_slot_part p h id slot) h (set_slot_note p h) z N
 
 task_room : (p : Place) (command : Command) (h : Held) → AreSizes h.state.sizes → RestsAt p command h → HasRoom (task_at p command h).kind h.topics
-task_room place.Between (Access gfn word op) h z R = tt
-task_room place.Between (SetSlot id slot) h z R = tt
+task_room place.Between _ h z R = tt
 task_room (place.Access p) (Access gfn word op) h z R = access_room (access_part p gfn h.topics) h (access_note p) op _ z R
 task_room (place.SetSlot p) (SetSlot id slot) h z R = setting_room p h id slot z R
 task_room _ _ h z R = absurd R

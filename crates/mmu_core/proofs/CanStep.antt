@@ -42,8 +42,7 @@ access_small None h note gfn word op index R N fits = touch_small op gfn word in
 access_small (Some step) h note gfn word op index R N fits = part_small step h note N R
 
 written_small : (p : Place) (actor : Actor) (command : Command) (h : Held) → PartRests h → IsCommandFor h.state.sizes actor command → RestsAt p command h → WritesOneWord command → (task_at p command h).written < 2 ^ 64
-written_small place.Between actor (Access gfn word op) h R may rests fits = omega arith
-written_small place.Between actor (SetSlot id slot) h R may rests fits = omega arith
+written_small place.Between actor _ h R may rests fits = omega arith
 written_small (place.Access p) actor (Access gfn word op) h R may rests fits = access_small (access_part p gfn h.topics) h (access_note p) gfn word op _ R rests fits
 written_small (place.SetSlot p) actor (SetSlot id slot) h R may rests fits = part_small (set_slot_part p h id slot) h (set_slot_note p h) rests R
 written_small _ actor _ h R may rests fits = absurd rests

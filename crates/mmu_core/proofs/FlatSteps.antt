@@ -39,14 +39,16 @@ UnderAt pool (place.SetSlot p) line (SetSlot id slot) t u = (u.line ≡ line) ×
 UnderAt pool _ line command t u = ⊥
 
 pub under_is : (pool : ℕ → ℕ) (p : Place) (command : Command) (h : Held) (u : LineUnderWay) → UnderAt pool p h.state.line command h.topics u → UnderIs pool p command h u
-under_is pool (place.Access p) (SetSlot id slot) h u under = absurd under
-under_is pool (place.SetSlot p) (Access gfn word op) h u under = absurd under
-under_is pool _ _ h u under = under
+under_is pool place.Between command h u under = under
+under_is pool (place.Access p) (Access gfn word op) h u under = under
+under_is pool (place.SetSlot p) (SetSlot id slot) h u under = under
+under_is pool _ _ h u under = absurd under
 
 pub under_at : (pool : ℕ → ℕ) (p : Place) (command : Command) (h : Held) (u : LineUnderWay) → UnderIs pool p command h u → UnderAt pool p h.state.line command h.topics u
-under_at pool (place.Access p) (SetSlot id slot) h u under = absurd under
-under_at pool (place.SetSlot p) (Access gfn word op) h u under = absurd under
-under_at pool _ _ h u under = under
+under_at pool place.Between command h u under = under
+under_at pool (place.Access p) (Access gfn word op) h u under = under
+under_at pool (place.SetSlot p) (SetSlot id slot) h u under = under
+under_at pool _ _ h u under = absurd under
 
 -- The line has begun and stands at this place; the facts are what the words say.
 pub record Ready (z : Sizes) (v : View) (line : Line) (command : Command) (p : Place) (t : Topics) (facts : Facts) (u : LineUnderWay) : Type 0 where

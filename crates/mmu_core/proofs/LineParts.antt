@@ -57,8 +57,7 @@ setting_kind : (p : SetSlotPlace) (h : Held) (id : ℕ) (slot : Slot) → PartNe
 setting_kind p h id slot N = inl (record { step = set_slot_part p h id slot; note = set_slot_note p h; is = refl; needs = N })
 
 line_kind : (p : Place) (command : Command) (h : Held) → RestsAt p command h → PartOrQuiet h (task_at p command h)
-line_kind place.Between (Access gfn word op) h R = inl (record { step = part.Seq; note = 0; is = refl; needs = tt })
-line_kind place.Between (SetSlot id slot) h R = inl (record { step = part.Seq; note = 0; is = refl; needs = tt })
+line_kind place.Between _ h R = inl (record { step = part.Seq; note = 0; is = refl; needs = tt })
 line_kind (place.Access p) (Access gfn word op) h R = access_kind (access_part p gfn h.topics) h (access_note p) op _ R
 line_kind (place.SetSlot p) (SetSlot id slot) h R = setting_kind p h id slot R
 line_kind _ _ h R = absurd R

@@ -299,8 +299,7 @@ command_word z (Vcpu n) gfn word op e = e.2
 command_word z _ gfn word op e = absurd e
 
 within_at : (p : Place) (actor : Actor) (command : Command) (h : Held) → IsCommandFor h.state.sizes actor command → PartRests h → RestsAt p command h → (task_at p command h).index < size_of (map_of h.state.sizes) (task_at p command h).area
-within_at place.Between actor (Access gfn word op) h may R e = omega arith
-within_at place.Between actor (SetSlot id slot) h may R e = omega arith
+within_at place.Between actor _ h may R e = omega arith
 within_at (place.Access p) actor (Access gfn word op) h may R e = task_is_within (access_part p gfn h.topics) h (access_note p) word op (command_word h.state.sizes actor gfn word op may) R e
 within_at (place.SetSlot p) actor (SetSlot id slot) h may R e = part_within_by (set_slot_part p h id slot) h (set_slot_note p h) e R
 within_at _ actor _ h may R e = absurd e

@@ -202,10 +202,9 @@ setting_scans _ h id slot v S = absurd S
 -- A line comes to such a place from another one, or with the first load of the map.
 line_scans : (p : Place) (command : Command) (h : Held) (v : ℕ) → RestsAt p command h → HasScan (place_after (outcome_at p command h v)) → HasScan p ⊎ LoadsFirst (task_at p command h)
 line_scans (place.Access p) (Access gfn word op) h v R S = access_scans p h gfn word op v S
-line_scans (place.Access p) (SetSlot id slot) h v R S = absurd R
-line_scans (place.SetSlot p) (Access gfn word op) h v R S = absurd R
 line_scans (place.SetSlot p) (SetSlot id slot) h v R S = setting_scans p h id slot v S
-line_scans place.Between _ h v R S = absurd S
+line_scans place.Between command h v R S = absurd S
+line_scans _ _ h v R S = absurd R
 
 first_not_begun : (refused : Option Refusal) → HasBegunSetting (set_slot_first refused) → ⊥
 first_not_begun (Some refusal) S = S

@@ -137,10 +137,9 @@ starved_setting p h id slot v e N = absurd (cc e)
 
 starved_by : (p : Place) (command : Command) (h : Held) (v : ℕ) → outcome_at p command h v ≡ Ends answer.Starved → KnowsPart p command h → RestsAt p command h → IsStarved p (task_at p command h) h v
 starved_by (place.Access p) (Access gfn word op) h v e K R = starved_access p h gfn word op v e K
-starved_by (place.Access p) (SetSlot id slot) h v e K R = absurd R
-starved_by (place.SetSlot p) (Access gfn word op) h v e K R = absurd R
 starved_by (place.SetSlot p) (SetSlot id slot) h v e K R = starved_setting p h id slot v e R
-starved_by place.Between _ h v e K R = absurd (cc e)
+starved_by place.Between command h v e K R = absurd (cc e)
+starved_by _ _ h v e K R = absurd R
 
 starved_first : (z : Sizes) (slots : MemorySlots) (command : Command) (h : Held) (v : ℕ) → outcome_at (first_place z slots command) command h v ≡ Ends answer.Starved → RestsAt (first_place z slots command) command h
     → IsStarved (first_place z slots command) (task_at (first_place z slots command) command h) h v

@@ -109,8 +109,7 @@ line_tells : (p : Place) (command : Command) (h : Held) (v : ℕ) → RestsAt p 
 line_tells (place.Access p) (Access gfn word op) h v R =
     tells_exactly (place.Access p) h.state.sizes (task_at (place.Access p) (Access gfn word op) h) (access_outcome p h gfn op v) v ((tells_by (access_part p gfn h.topics) h (access_note p) _ op).note_is ∙ access_ends p h gfn op v) (λ begun e. cc e)
 line_tells (place.SetSlot p) (SetSlot id slot) h v R = setting_tells p h id slot v R
-line_tells place.Between (Access gfn word op) h v R = record { tells = inl refl; last = λ L. absurd (cc L.place_is) }
-line_tells place.Between (SetSlot id slot) h v R = record { tells = inl refl; last = λ L. absurd (cc L.place_is) }
+line_tells place.Between _ h v R = record { tells = inl refl; last = λ L. absurd (cc L.place_is) }
 line_tells _ _ h v R = absurd R
 
 -- What a line's step is on.

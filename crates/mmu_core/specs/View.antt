@@ -43,13 +43,7 @@ put words area i x b = if number_of b == number_of area then upd (words b) i x e
 -- The operation may leave another number in its word.
 abbrev pub stores : Operation → Bool
 stores operation.Load = false
-stores operation.Store = true
-stores operation.Swap = true
-stores operation.FetchAdd = true
-stores operation.FetchSub = true
-stores operation.FetchAnd = true
-stores operation.FetchOr = true
-stores operation.CompareExchange = true
+stores _ = true
 
 -- the words after a step's task, and what the step answers
 abbrev pub words_after : Task → (Area → ℕ → ℕ) → Area → ℕ → ℕ
