@@ -9,7 +9,7 @@ use Rattle.core_views.specs.declared.trace.Command.{Command}
 use Rattle.core_views.specs.declared.trace.Command.TheVariants.{Access, SetSlot}
 use Rattle.core_views.specs.declared.trace.Line.{Line}
 use Rattle.core_views.specs.declared.trace.Op.{Op}
-use Rattle.core_views.specs.declared.trace.Op.TheVariants.{Add, Read, Write}
+use Rattle.core_views.specs.declared.trace.Op.TheVariants.{Read}
 use Rattle.core_views.specs.Held.{Held}
 use Rattle.core_views.specs.Sizes.{actors_of}
 use Rattle.core_views.specs.Traces.{IsCommandFor}

@@ -13,7 +13,7 @@ use Rattle.core_views.specs.declared.place.FaultPlace.TheVariants as fault
 use Rattle.core_views.specs.declared.place.SlotField.{SlotField}
 use Rattle.core_views.specs.declared.sizes.Sizes.{Sizes}
 use Rattle.core_views.specs.declared.topics.Hold.{Hold}
-use Rattle.core_views.specs.declared.topics.Hold.TheVariants.{Loose, Shared, Owing, Exclusive}
+use Rattle.core_views.specs.declared.topics.Hold.TheVariants.{Owing}
 use Rattle.core_views.specs.declared.topics.MapClaim.{MapClaim}
 use Rattle.core_views.specs.declared.topics.SlotSearch.{SlotSearch}
 use Rattle.core_views.specs.declared.topics.Topics.{Topics}

@@ -15,7 +15,7 @@ use Rattle.core_views.specs.declared.sizes.Sizes.{Sizes}
 use Rattle.core_views.specs.declared.topics.Checked.{Checked}
 use Rattle.core_views.specs.declared.topics.Checked.TheVariants as checked
 use Rattle.core_views.specs.declared.topics.Hold.{Hold}
-use Rattle.core_views.specs.declared.topics.Hold.TheVariants.{Loose, Shared, Owing, Exclusive}
+use Rattle.core_views.specs.declared.topics.Hold.TheVariants.{Loose, Shared, Owing}
 use Rattle.core_views.specs.declared.topics.HostLook.{HostLook}
 use Rattle.core_views.specs.declared.topics.Invalidations.{Invalidations}
 use Rattle.core_views.specs.declared.topics.OwnedPage.{OwnedPage}

@@ -6,13 +6,13 @@ use Rattle.std.proofs.Math.Logic.{∥∥₁_elim, ∥∥₁_map}
 use Rattle.std.proofs.Props.{props}
 use Rattle.std.proofs.lemmas.Bool.{cases_lt}
 use Rattle.core_views.specs.declared.place.AccessPlace.{AccessPlace}
-use Rattle.core_views.specs.declared.place.AccessPlace.TheVariants.{Enter, Pause, Root, Walk, Touch, Leave, Fault}
+use Rattle.core_views.specs.declared.place.AccessPlace.TheVariants.{Fault}
 use Rattle.core_views.specs.declared.place.Cause.{Cause}
-use Rattle.core_views.specs.declared.place.Cause.TheVariants.{Open, Moved, Entry}
+use Rattle.core_views.specs.declared.place.Cause.TheVariants.{Entry}
 use Rattle.core_views.specs.declared.place.CheckStage.{CheckStage}
 use Rattle.core_views.specs.declared.place.CheckStage.TheVariants as stage
 use Rattle.core_views.specs.declared.place.FaultEnd.{FaultEnd}
-use Rattle.core_views.specs.declared.place.FaultEnd.TheVariants.{Installed, Mmio, HostFault, Starved, Retry}
+use Rattle.core_views.specs.declared.place.FaultEnd.TheVariants.{Mmio, HostFault, Retry}
 use Rattle.core_views.specs.declared.place.FaultPlace.{FaultPlace}
 use Rattle.core_views.specs.declared.place.FaultPlace.TheVariants as fault
 use Rattle.core_views.specs.declared.place.Place.{Place}

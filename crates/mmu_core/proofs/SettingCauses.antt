@@ -8,7 +8,7 @@ use Rattle.core_views.specs.declared.kind.Kind.{Kind}
 use Rattle.core_views.specs.declared.place.Place.{Place}
 use Rattle.core_views.specs.declared.place.Place.TheVariants as place
 use Rattle.core_views.specs.declared.place.SetSlotPlace.{SetSlotPlace}
-use Rattle.core_views.specs.declared.place.SetSlotPlace.TheVariants.{Refuse, Claim, Fill, Exclude, Count, Close, Publish, Release, Watch, Clear, Give}
+use Rattle.core_views.specs.declared.place.SetSlotPlace.TheVariants.{Claim, Fill, Exclude, Count, Close, Publish, Watch, Clear}
 use Rattle.core_views.specs.declared.sizes.Sizes.{Sizes}
 use Rattle.core_views.specs.declared.topics.MapClaim.{MapClaim}
 use Rattle.core_views.specs.declared.topics.Topics.{Topics}

@@ -3,7 +3,7 @@ use Rattle.std.proofs.Common.{◌≡◌, ◌≢◌, ◌⊎◌, inl, inr, ◌<◌
 use Rattle.std.specs.Prelude.{Bool, true, false, ◌==◌, nat_lt, if◌then◌else◌, Option, Some, None}
 use Rattle.core_views.specs.declared.place.Place.TheVariants as place
 use Rattle.core_views.specs.declared.place.SetSlotPlace.{SetSlotPlace}
-use Rattle.core_views.specs.declared.place.SetSlotPlace.TheVariants.{Refuse, Claim, Fill, Exclude, Count, Close, Publish, Release, Watch, Clear, Give}
+use Rattle.core_views.specs.declared.place.SetSlotPlace.TheVariants.{Claim, Fill, Exclude, Count, Close, Publish, Release, Watch, Clear, Give}
 use Rattle.core_views.specs.declared.sizes.Sizes.{Sizes}
 use Rattle.core_views.specs.declared.topics.MapClaim.{MapClaim}
 use Rattle.core_views.specs.declared.topics.OwnedPage.{OwnedPage}

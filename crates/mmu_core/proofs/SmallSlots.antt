@@ -3,7 +3,7 @@ use Rattle.std.proofs.Common.{◌≡◌, ◌<◌, ◌==◌, ℕ, zero, suc, List
 use Rattle.std.specs.Prelude.{Bool, true, false, All, Contains, if◌then◌else◌, Some}
 use Rattle.std.proofs.lemmas.List.Elements.{All-head, All-tail}
 use Rattle.core_views.specs.declared.actor.Actor.{Actor}
-use Rattle.core_views.specs.declared.actor.Actor.TheVariants.{Vcpu, Host, Manager, Worker}
+use Rattle.core_views.specs.declared.actor.Actor.TheVariants.{Manager}
 use Rattle.core_views.specs.declared.slot_set.MemorySlot.{MemorySlot}
 use Rattle.core_views.specs.declared.sizes.Sizes.{Sizes}
 use Rattle.core_views.specs.declared.trace.Command.{Command}
