@@ -65,13 +65,13 @@ module _ (z : Sizes) (u : World Held) (G : IsSound z u) where
   -- Nor is an older one that is leaving.
   set_held : {actor : ℕ} (page : ℕ) → (page ≡ slots) ⊎ HoldsOld (actors_of z) (λ i. (hand_in mmu u i).topics) actor page → is_free map page ≡ false
   set_held page (inl e) = subst (λ k. is_free map k ≡ false) (sym e) set_not_free
-  set_held page (inr H) = left_not_free (actors_of z) z.pool slots map owned leaving G.topics.stands G.topics.pool_part H.by page H.there H.leaves
+  set_held page (inr H) = left_not_free G.topics.uses H.by page H.there H.leaves
 
   none_free : (actor : ℕ) → actor < actors_of z → HasPath z u (hand_in mmu u actor).topics.walk → OfEachHeld (λ page. is_free map page ≡ false) (hand_in mmu u actor).topics
   none_free actor there P = record {
     tables = λ level H. (path_is_table z u (hand_in mmu u actor).topics.walk level G P H.some H.down H.up).not_free;
     set = λ page is. set_held page (G.topics.sets actor page there is);
-    owned = λ o is. owned_not_free (actors_of z) z.pool slots map owned leaving G.topics.stands G.topics.pool_part actor o there is;
+    owned = λ o is. owned_not_free G.topics.uses actor o there is;
   }
 
   -- A page that an actor owns no other actor holds.
@@ -79,19 +79,19 @@ module _ (z : Sizes) (u : World Held) (G : IsSound z u) where
   no_other actor page there O paths other among apart = record {
     tables = λ level H e. (path_is_table z u (hand_in mmu u other).topics.walk level G (paths other among) H.some H.down H.up).not_owned actor O.owned there O.is (O.of_page ∙ sym e);
     set = λ k is e. not_set k (G.topics.sets other k among is) (O.of_page ∙ sym e);
-    owned = λ o is e. apart (one_owner (actors_of z) z.pool slots map owned leaving G.topics.stands G.topics.pool_part other actor o O.owned among there is O.is (O.of_page ∙ sym e));
+    owned = λ o is e. apart (one_owner G.topics.uses other actor o O.owned among there is O.is (O.of_page ∙ sym e));
   }
     where
       not_set : {i : ℕ} (k : ℕ) → (k ≡ slots) ⊎ HoldsOld (actors_of z) (λ j. (hand_in mmu u j).topics) i k → O.owned.page ≢ k
-      not_set k (inl e) same = owned_not_slots (actors_of z) z.pool slots map owned leaving G.topics.stands G.topics.pool_part actor O.owned there O.is (same ∙ e)
-      not_set k (inr H) same = left_not_owned (actors_of z) z.pool slots map owned leaving G.topics.stands G.topics.pool_part H.by k H.there H.leaves actor O.owned there O.is same
+      not_set k (inl e) same = owned_not_slots G.topics.uses actor O.owned there O.is (same ∙ e)
+      not_set k (inr H) same = left_not_owned G.topics.uses H.by k H.there H.leaves actor O.owned there O.is same
 
   -- An old slot set that is leaving for an actor which has watched all others since, no other actor holds.
   none_holds_old : (actor page : ℕ) → actor < actors_of z → MayGiveOld (hand_in mmu u actor) → leaving actor ≡ Some page → ((other : ℕ) → other < actors_of z → HasPath z u (hand_in mmu u other).topics.walk) → NoOtherHolds z actor page u
   none_holds_old actor page there M left paths other among apart = record {
     tables = λ level H e. (path_is_table z u (hand_in mmu u other).topics.walk level G (paths other among) H.some H.down H.up).not_left actor page there left (sym e);
     set = λ k is e. not_set k (G.topics.sets other k among is) e;
-    owned = λ o is e. left_not_owned (actors_of z) z.pool slots map owned leaving G.topics.stands G.topics.pool_part actor page there left other o among is e;
+    owned = λ o is e. left_not_owned G.topics.uses actor page there left other o among is e;
   }
     where
       watched_all : (own n w i : ℕ) → n ≤ next_watched own w → w ≤ i → i < n → i ≢ own → ⊥
@@ -108,9 +108,9 @@ module _ (z : Sizes) (u : World Held) (G : IsSound z u) where
       over = subst (λ i. actors_of z ≤ next_watched i (hand_in mmu u actor).topics.watched) own (subst (λ (y : Sizes). actors_of y ≤ next_watched (own_index (hand_in mmu u actor)) (hand_in mmu u actor).topics.watched) (G.holds.lines actor there).sizes M.watched)
 
       not_set : (k : ℕ) → (k ≡ slots) ⊎ HoldsOld (actors_of z) (λ j. (hand_in mmu u j).topics) other k → k ≢ page
-      not_set k (inl e) same = left_not_slots (actors_of z) z.pool slots map owned leaving G.topics.stands G.topics.pool_part actor page there left (sym same ∙ e)
+      not_set k (inl e) same = left_not_slots G.topics.uses actor page there left (sym same ∙ e)
       not_set k (inr H) same =
-          let by_is : H.by ≡ actor = one_leaver (actors_of z) z.pool slots map owned leaving G.topics.stands G.topics.pool_part H.by actor page H.there there (H.leaves ∙ ap Some same) left in
+          let by_is : H.by ≡ actor = one_leaver G.topics.uses H.by actor page H.there there (H.leaves ∙ ap Some same) left in
           watched_all actor (actors_of z) (hand_in mmu u actor).topics.watched other over (subst (λ i. (hand_in mmu u i).topics.watched ≤ other) by_is H.unwatched) among apart
 
   -- Whom the watch has passed doesn't hold it.
@@ -118,9 +118,9 @@ module _ (z : Sizes) (u : World Held) (G : IsSound z u) where
   watched_hold_none watcher other page there among left passed is = by (G.topics.sets other page among is)
     where
       by : (page ≡ slots) ⊎ HoldsOld (actors_of z) (λ j. (hand_in mmu u j).topics) other page → ⊥
-      by (inl e) = left_not_slots (actors_of z) z.pool slots map owned leaving G.topics.stands G.topics.pool_part watcher page there left e
+      by (inl e) = left_not_slots G.topics.uses watcher page there left e
       by (inr H) =
-          let by_is : H.by ≡ watcher = one_leaver (actors_of z) z.pool slots map owned leaving G.topics.stands G.topics.pool_part H.by watcher page H.there there H.leaves left in
+          let by_is : H.by ≡ watcher = one_leaver G.topics.uses H.by watcher page H.there there H.leaves left in
           let not_yet : (hand_in mmu u watcher).topics.watched ≤ other = subst (λ i. (hand_in mmu u i).topics.watched ≤ other) by_is H.unwatched in
           omega (arith, not_yet, passed)
 

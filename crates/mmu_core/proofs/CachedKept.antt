@@ -38,6 +38,7 @@ use Rattle.part_steps.specs.SlotWords.{leaf_of, page_of}
 use Rattle.part_steps.specs.Tasks.{kind_of_task}
 use Rattle.mmu_core.specs.TopicsInvariant.{TopicsInvariant}
 use Rattle.mmu_core.specs.TreePart.{EntryPart, IsLeafAt, at}
+use Rattle.mmu_core.proofs.TreeStored.{link_stands}
 use Rattle.mmu_core.specs.View.{View, answer_in, hand_after, stepped}
 pub use Rattle.mmu_core.proofs.LiveStay.{leaf_stays, translations_stay}
 use Rattle.mmu_core.proofs.LiveStays.{MakesParts, access_set_stays}
@@ -91,10 +92,10 @@ leaf_found z v a gfn lt I P over leaf = by (P.tree.entries page (at walk.level w
     w : ℕ
     w = v.words area.Pool (pool_index page j)
 
-    by : EntryPart (v.words area.Pool) (v.words area.Host) (v.words area.Slots 0) P.stands (at walk.level walk.prefix) j w → (walk.level ≡ 1) × IsLeafFor (v.words area.Pool) (v.words area.Host) (v.words area.Slots 0) gfn w
+    by : EntryPart (v.words area.Pool) (v.words area.Host) (v.words area.Slots 0) P.up page (at walk.level walk.prefix) j w → (walk.level ≡ 1) × IsLeafFor (v.words area.Pool) (v.words area.Host) (v.words area.Slots 0) gfn w
     by (inl e) = let none : kind_of walk.level w ≡ entry_kind.Absent = ap (kind_of walk.level) e ∙ kind_of_absent walk.level in absurd (cc (none, leaf))
     by (inr (inl L)) =
-        let below = (P.tree.there L.page _ L.below).0 in
+        let below = (P.tree.there L.page _ (link_stands P.tree page (at walk.level walk.prefix) j w ((P.held a lt).table over.there) L)).0 in
         let links : kind_of walk.level w ≡ entry_kind.Table L.page = ap (kind_of walk.level) L.is ∙ kind_of_table walk.level L.page L.upper (omega (arith, below, I.sizes.pool.1)) in
         absurd (cc (links, leaf))
     by (inr (inr L)) = leaf_at (v.words area.Pool) (v.words area.Host) (v.words area.Slots 0) gfn walk.level walk.prefix w over.run L

@@ -31,9 +31,10 @@ use Rattle.mmu_core.specs.Machine.{World, hand_in}
 use Rattle.part_steps.specs.PartSteps.{IsOver, entry_index, table_page}
 use Rattle.part_steps.specs.SlotWords.{may_write, page_of, slot_at, slots_below}
 use Rattle.part_steps.specs.TopicSteps.{linked_page}
-use Rattle.mmu_core.specs.TreePart.{EntryPart, Position, TreePart, at}
+use Rattle.mmu_core.specs.TreePart.{EntryPart, Position, TreePart, Use, at, stands}
 use Rattle.mmu_core.specs.View.{word_in}
 use Rattle.mmu_core.proofs.CachedKept.{leaf_at}
+use Rattle.mmu_core.proofs.TreeStored.{root_stands}
 use Rattle.mmu_core.proofs.LeadsDown.{below_stands, leads_down, run_above}
 use Rattle.mmu_core.proofs.PageFound.{frame_of_host, page_in_machine}
 use Rattle.mmu_core.proofs.SlotLists.{only_one_holds}
@@ -81,37 +82,37 @@ leaf_agrees z set role pool host gfn leaf sizes hosts P L = record {
 
 -- ---- where links lead
 
-module _ (pages root set : ℕ) (role pool host : ℕ → ℕ) (stands : ℕ → Option Position) (T : TreePart pages root set role pool host stands) (few : pages ≤ 2 ^ 32) (gfn entry : ℕ) where
+module _ {pages root set : ℕ} {role pool host : ℕ → ℕ} {up : ℕ → Use} {spot : ℕ → Position} (T : TreePart pages root set role pool host up spot) (few : pages ≤ 2 ^ 32) (gfn entry : ℕ) where
   -- Behind a link of a table over the guest frame stands a table over it, one level below.
-  one_below : (level page below : ℕ) → stands page ≡ Some (at (suc (suc level)) (gfn / level_span (suc (suc level)) / 512))
-      → linked_page (kind_of (suc (suc level)) (pool (pool_index page (entry_index gfn (suc (suc level)))))) ≡ Some below → stands below ≡ Some (at (suc level) (gfn / level_span (suc level) / 512))
-  one_below level page below at_page link = below_stands pages root set role pool host stands T few gfn entry level (gfn / level_span (suc (suc level)) / 512) page below at_page link ∙ ap (λ n. Some (at (suc level) n)) run
+  one_below : (level page below : ℕ) → stands up spot page ≡ Some (at (suc (suc level)) (gfn / level_span (suc (suc level)) / 512))
+      → linked_page (kind_of (suc (suc level)) (pool (pool_index page (entry_index gfn (suc (suc level)))))) ≡ Some below → stands up spot below ≡ Some (at (suc level) (gfn / level_span (suc level) / 512))
+  one_below level page below at_page link = below_stands T few gfn entry level (gfn / level_span (suc (suc level)) / 512) page below at_page link ∙ ap (λ n. Some (at (suc level) n)) run
     where
       run : gfn / level_span (suc (suc level)) / 512 * 512 + entry_index gfn (suc (suc level)) ≡ gfn / level_span (suc level) / 512
       run =
-          let up : gfn / level_span (suc level) / 512 ≡ gfn / level_span (suc (suc level)) = run_above gfn (suc level) (omega arith) ∙ ap (λ n. gfn / level_span n) (omega arith) in
-          omega (arith, up)
+          let next : gfn / level_span (suc level) / 512 ≡ gfn / level_span (suc (suc level)) = run_above gfn (suc level) (omega arith) ∙ ap (λ n. gfn / level_span n) (omega arith) in
+          omega (arith, next)
 
   -- So the entry to which they lead is one of a table of the lowest level over the guest frame.
-  lowest_table : (level page : ℕ) → stands page ≡ Some (at (suc level) (gfn / level_span (suc level) / 512)) → LeadsTo pool (suc level) page gfn entry
-      → (low : ℕ) × (stands low ≡ Some (at 1 (gfn / level_span 1 / 512))) × (pool (pool_index low (entry_index gfn 1)) ≡ entry)
+  lowest_table : (level page : ℕ) → stands up spot page ≡ Some (at (suc level) (gfn / level_span (suc level) / 512)) → LeadsTo pool (suc level) page gfn entry
+      → (low : ℕ) × (stands up spot low ≡ Some (at 1 (gfn / level_span 1 / 512))) × (pool (pool_index low (entry_index gfn 1)) ≡ entry)
   lowest_table zero page at_page leads = (page, at_page, leads)
   lowest_table (suc level) page at_page leads = lowest_table level leads.0 (one_below level page leads.0 at_page leads.1) leads.2
 
-  from_root : gfn < 2 ^ 36 → LeadsTo pool 4 root gfn entry → (low : ℕ) × (stands low ≡ Some (at 1 (gfn / level_span 1 / 512))) × (pool (pool_index low (entry_index gfn 1)) ≡ entry)
+  from_root : gfn < 2 ^ 36 → LeadsTo pool 4 root gfn entry → (low : ℕ) × (stands up spot low ≡ Some (at 1 (gfn / level_span 1 / 512))) × (pool (pool_index low (entry_index gfn 1)) ≡ entry)
   from_root small leads =
       let first : 0 ≡ gfn / level_span 4 / 512 = rw span_4 (omega (arith, small)) in
-      lowest_table 3 root (T.root_stands ∙ ap (λ n. Some (at 4 n)) first) leads
+      lowest_table 3 root (root_stands T ∙ ap (λ n. Some (at 4 n)) first) leads
 
 -- A leaf of such a table is the guest frame's.
-standing_leaf : (z : Sizes) (w : World Held) (gfn entry low : ℕ) (sound : IsSound z w) → sound.topics.stands low ≡ Some (at 1 (gfn / level_span 1 / 512)) → word_in z w area.Pool (pool_index low (entry_index gfn 1)) ≡ entry
+standing_leaf : (z : Sizes) (w : World Held) (gfn entry low : ℕ) (sound : IsSound z w) → stands sound.topics.up sound.topics.spot low ≡ Some (at 1 (gfn / level_span 1 / 512)) → word_in z w area.Pool (pool_index low (entry_index gfn 1)) ≡ entry
     → kind_of 1 entry ≡ entry_kind.Leaf → IsLeafFor (word_in z w area.Pool) (word_in z w area.Host) (word_in z w area.Slots 0) gfn entry
 standing_leaf z w gfn entry low sound at_low is leaf = by (sound.topics.tree.entries low (at 1 (gfn / level_span 1 / 512)) at_low (entry_index gfn 1) (omega arith))
   where
     pool : ℕ → ℕ
     pool = word_in z w area.Pool
 
-    by : EntryPart pool (word_in z w area.Host) (word_in z w area.Slots 0) sound.topics.stands (at 1 (gfn / level_span 1 / 512)) (entry_index gfn 1) (pool (pool_index low (entry_index gfn 1))) → IsLeafFor pool (word_in z w area.Host) (word_in z w area.Slots 0) gfn entry
+    by : EntryPart pool (word_in z w area.Host) (word_in z w area.Slots 0) sound.topics.up low (at 1 (gfn / level_span 1 / 512)) (entry_index gfn 1) (pool (pool_index low (entry_index gfn 1))) → IsLeafFor pool (word_in z w area.Host) (word_in z w area.Slots 0) gfn entry
     by (inl e) = let none : kind_of 1 entry ≡ entry_kind.Absent = ap (kind_of 1) (sym is ∙ e) ∙ kind_of_absent 1 in absurd (cc (none, leaf))
     by (inr (inl L)) = absurd (let upper : 2 ≤ 1 = L.upper in omega (arith, upper))
     by (inr (inr L)) =
@@ -123,7 +124,7 @@ pub leaves_agree : (z : Sizes) (w : World Held) (gfn entry : ℕ) → IsSound z 
 leaves_agree z w gfn entry sound small leads leaf =
     let I = sound.holds in
     let P = sound.topics in
-    let low = from_root z.pool (word_in z w area.Root 0) (word_in z w area.Slots 0) (word_in z w area.Role) (word_in z w area.Pool) (word_in z w area.Host) P.stands P.tree (let most = I.sizes.pool.1 in omega (arith, most)) gfn entry small leads in
+    let low = from_root P.tree (let most = I.sizes.pool.1 in omega (arith, most)) gfn entry small leads in
     leaf_agrees z (word_in z w area.Slots 0) (word_in z w area.Role) (word_in z w area.Pool) (word_in z w area.Host) gfn entry I.sizes I.hosts I.set_part (standing_leaf z w gfn entry low.0 sound low.1 low.2 leaf)
 
 -- From a table that is held links lead where they lead from the root.
@@ -132,7 +133,7 @@ pub held_leaves_agree : (z : Sizes) (w : World Held) (actor gfn entry : ℕ) →
     → LeafAgrees (word_in z w area.Slots 0) (word_in z w area.Pool) (word_in z w area.Host) gfn entry
 held_leaves_agree z w actor gfn entry sound lt over leads leaf =
     let walk : TableWalk = (hand_in mmu w actor).topics.walk in
-    let at_page : sound.topics.stands (table_page walk) ≡ Some (at walk.level (gfn / level_span walk.level / 512)) = (sound.topics.held actor lt).table over.there ∙ ap (λ n. Some (at walk.level n)) (sym over.run) in
+    let at_page : stands sound.topics.up sound.topics.spot (table_page walk) ≡ Some (at walk.level (gfn / level_span walk.level / 512)) = (sound.topics.held actor lt).table over.there ∙ ap (λ n. Some (at walk.level n)) (sym over.run) in
     leaves_agree z w gfn entry sound over.small ((leads_down z w gfn (table_page walk) walk.level entry sound at_page).above leads) leaf
 
 -- ---- what is cached and used

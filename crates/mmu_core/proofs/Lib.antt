@@ -101,6 +101,7 @@ pub mod StarvedScan
 pub mod Standing
 pub mod LiveStays
 pub mod TreeStored
+pub mod UsesStay
 pub mod TreeKept
 pub mod SearchKept
 pub mod FaultSame
