@@ -89,6 +89,7 @@ pub mod PartTopics
 pub mod LockKept
 pub mod StatesKept
 pub mod HeldKept
+pub mod Paths
 pub mod FirstUsable
 pub mod NextTopics
 pub mod SawWriterKept

@@ -126,7 +126,14 @@ module _ {n pages slots : ℕ} {map : ℕ → ℕ} {owned : ℕ → Option Owned
   pub one_owner : (i j : ℕ) (o p : OwnedPage) → i < n → j < n → owned i ≡ Some o → owned j ≡ Some p → p.page ≡ o.page → i ≡ j
   one_owner i j o p lt more is be same = let one = sym (owned_use i o lt is) ∙ ap up (sym same) ∙ owned_use j p more be in cc one
 
-  -- A table isn't the published slot set, and has no owner.
+  -- A table isn't free, isn't the published slot set, and has no owner.
+  pub table_not_free : (spot : ℕ → Position) (k : ℕ) (p : Position) → stands up spot k ≡ Some p → is_free map k ≡ false
+  table_not_free spot k p at = by (is_free map k) refl
+    where
+      by : (b : Bool) → is_free map k ≡ b → b ≡ false
+      by true free = absurd (no_table up spot k p Free (free_use k free) refl at)
+      by false free = refl
+
   pub table_not_slots : (spot : ℕ → Position) (k : ℕ) (p : Position) → stands up spot k ≡ Some p → k ≢ slots
   table_not_slots spot k p at e = no_table up spot k p SlotSet (ap up e ∙ set_use) refl at
 

@@ -4,7 +4,7 @@ use Rattle.core_views.specs.declared.sizes.Sizes.{Sizes}
 use Rattle.core_views.specs.declared.topics.Topics.{Topics}
 use Rattle.core_views.specs.Held.{Held}
 use Rattle.core_views.specs.Sizes.{actors_of}
-use Rattle.mmu_core.specs.TopicsInvariant.{CountersPart, FilledPart, HeldPart, LockPart, LookPart, SawWriter, SearchPart, StatesPart, TopicsInvariantOf, SetsPart, OldSetsPart, UsePart, stands}
+use Rattle.mmu_core.specs.TopicsInvariant.{CountersPart, FilledPart, HeldPart, LockPart, LookPart, SawWriter, SearchPart, StatesPart, TopicsInvariantOf, SetsPart, OldSetsPart, PathPart, UsePart, stands}
 
 pub same_topics : (z : Sizes) (lock root slots seq : ℕ) (states map host role pool : ℕ → ℕ) (hand other : ℕ → Held) → ◌≡◌ {A = ℕ → Topics} (λ i. (other i).topics) (λ i. (hand i).topics)
     → TopicsInvariantOf z lock root slots seq states map host role pool hand → TopicsInvariantOf z lock root slots seq states map host role pool other
@@ -18,6 +18,7 @@ same_topics z lock root slots seq states map host role pool hand other same I = 
   tree = I.tree;
   filled = subst (λ (t : ℕ → Topics). FilledPart (actors_of z) role pool (λ i. (t i).owned)) (sym same) I.filled;
   held = subst (λ (t : ℕ → Topics). (i : ℕ) → i < actors_of z → HeldPart (stands I.up I.spot) (t i)) (sym same) I.held;
+  paths = subst (λ (t : ℕ → Topics). (i : ℕ) → i < actors_of z → PathPart (stands I.up I.spot) (t i).walk) (sym same) I.paths;
   sets = subst (λ (t : ℕ → Topics). SetsPart (actors_of z) slots t) (sym same) I.sets;
   old_sets = subst (λ (t : ℕ → Topics). OldSetsPart (actors_of z) slots pool (λ i. (t i).leaving)) (sym same) I.old_sets;
   searches = subst (λ (t : ℕ → Topics). (i : ℕ) → i < actors_of z → SearchPart pool (t i).search) (sym same) I.searches;

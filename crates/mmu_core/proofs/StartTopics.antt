@@ -14,7 +14,7 @@ use Rattle.spte_words.specs.Entries.{absent_word}
 use Rattle.mmu_core.specs.LockPart.{SawWriter}
 use Rattle.mmu_core.specs.Enabled.{mmu}
 use Rattle.part_steps.specs.PartBounds.{CountersPart}
-use Rattle.mmu_core.specs.HeldPart.{HeldPart}
+use Rattle.mmu_core.specs.HeldPart.{HeldPart, PathPart}
 use Rattle.mmu_core.specs.LockPart.{LockPart, is_shared, readers, sharers, writers}
 use Rattle.mmu_core.specs.Machine.{World, hand_in}
 use Rattle.part_steps.specs.PartSteps.{IsAtRest, counts}
@@ -207,6 +207,7 @@ start_topics z lines w start = record {
   filled = λ i o lt is. absurd (owns_none z lines w i o start lt is);
   tree = tree_start z lines w start;
   held = λ i lt. subst (HeldPart (stands (start_up z.pool) start_spot)) (sym (topics_are z lines w i start lt)) (held_first (stands (start_up z.pool) start_spot));
+  paths = λ i lt. subst (λ (t : Topics). PathPart (stands (start_up z.pool) start_spot) t.walk) (sym (topics_are z lines w i start lt)) (λ level from above most. absurd (omega (arith, from)));
   sets = λ i k lt is. absurd (holds_none z lines w i k start lt is);
   old_sets = λ i k lt is. absurd (leaves_none z lines w i k start lt is);
   searches = λ i lt. subst (λ (t : Topics). SearchPart (word_in z w area.Pool) t.search) (sym (topics_are z lines w i start lt)) (search_first (word_in z w area.Pool));

@@ -29,6 +29,7 @@ use Rattle.mmu_core.proofs.FilledKept.{filled_kept}
 use Rattle.mmu_core.proofs.HeldKept.{counters_kept, held_kept}
 use Rattle.mmu_core.proofs.LiveStays.{MakesParts}
 use Rattle.mmu_core.proofs.LockKept.{lock_kept}
+use Rattle.mmu_core.proofs.Paths.{paths_kept}
 use Rattle.mmu_core.proofs.PoolKept.{uses_kept}
 use Rattle.mmu_core.proofs.SameTopics.{same_topics}
 use Rattle.mmu_core.proofs.SawWriterKept.{saw_kept}
@@ -55,6 +56,7 @@ topics_part_kept z v a step note S I = record {
   filled = filled_kept z v a step note S I;
   tree = tree_kept z v a step note S I;
   held = held_kept z v a step note S I;
+  paths = paths_kept z v a step note S I;
   sets = sets_kept z v a step note S I;
   old_sets = old_sets_kept z v a step note S I;
   searches = searches_kept z v a step note S I;

@@ -6,7 +6,7 @@ use Rattle.core_views.specs.Sizes.{actors_of}
 use Rattle.spte_words.specs.declared.area.Area.TheVariants as area
 use Rattle.mmu_core.specs.View.{View}
 pub use Rattle.part_steps.specs.PartBounds.{CountersPart}
-pub use Rattle.mmu_core.specs.HeldPart.{HeldPart, HoldsOld, OldSetsPart, SetsPart}
+pub use Rattle.mmu_core.specs.HeldPart.{HeldPart, HoldsOld, OldSetsPart, PathPart, SetsPart}
 pub use Rattle.mmu_core.specs.LockPart.{LockPart, SawWriter}
 pub use Rattle.mmu_core.specs.PoolPart.{FilledPart, IsFilled, UsePart, is_leaving}
 pub use Rattle.mmu_core.specs.SearchPart.{LookPart, SearchPart}
@@ -24,6 +24,7 @@ pub record TopicsInvariantOf (z : Sizes) (lock root slots seq : ℕ) (states map
   pub tree : TreePart z.pool root slots role pool host up spot
   pub filled : FilledPart (actors_of z) role pool (λ i. (hand i).topics.owned)
   pub held : (i : ℕ) → i < actors_of z → HeldPart (stands up spot) (hand i).topics
+  pub paths : (i : ℕ) → i < actors_of z → PathPart (stands up spot) (hand i).topics.walk
   pub sets : SetsPart (actors_of z) slots (λ i. (hand i).topics)
   pub old_sets : OldSetsPart (actors_of z) slots pool (λ i. (hand i).topics.leaving)
   pub searches : (i : ℕ) → i < actors_of z → SearchPart pool (hand i).topics.search
