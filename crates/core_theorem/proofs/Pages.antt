@@ -15,7 +15,7 @@ use Rattle.mmu_core.specs.TreePart.Use.{Free, OldSet, Outside, Owned, Root, Slot
 use Rattle.mmu_core.specs.View.{word_in}
 use Rattle.mmu_core.proofs.PoolPages.{free_use, has_leaver, has_owner, left_use, owned_use, set_use, tells, use_is}
 use Rattle.mmu_core.proofs.Standing.{at_spot}
-use Rattle.mmu_core.proofs.TreeStored.{one_place}
+use Rattle.mmu_core.proofs.TreePlaces.{one_place}
 use Rattle.core_theorem.specs.Pages.{IsUsedFor, LinksPage, PagesAreUsed}
 
 from_end : (k pages : ℕ) → nat_le pages k ≡ true → pages ≤ k

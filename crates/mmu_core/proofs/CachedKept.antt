@@ -38,7 +38,7 @@ use Rattle.part_steps.specs.SlotWords.{leaf_of, page_of}
 use Rattle.part_steps.specs.Tasks.{kind_of_task}
 use Rattle.mmu_core.specs.TopicsInvariant.{TopicsInvariant}
 use Rattle.mmu_core.specs.TreePart.{EntryPart, IsLeafAt, at}
-use Rattle.mmu_core.proofs.TreeStored.{link_stands}
+use Rattle.mmu_core.proofs.TreePlaces.{link_stands}
 use Rattle.mmu_core.specs.View.{View, answer_in, hand_after, stepped}
 pub use Rattle.mmu_core.proofs.LiveStay.{leaf_stays, translations_stay}
 use Rattle.mmu_core.proofs.LiveStays.{MakesParts, access_set_stays}

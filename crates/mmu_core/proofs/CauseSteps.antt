@@ -21,7 +21,7 @@ use Rattle.part_steps.specs.PartBounds.{PartRests}
 use Rattle.part_steps.specs.SlotWords.{leaf_of, may_write, page_of}
 use Rattle.part_steps.specs.Tasks.{map_of}
 use Rattle.mmu_core.specs.TreePart.{EntryPart, Position, TreePart, Use, at, stands}
-use Rattle.mmu_core.proofs.TreeStored.{link_stands}
+use Rattle.mmu_core.proofs.TreePlaces.{link_stands}
 use Rattle.mmu_core.proofs.PartFits.{part_within_by}
 
 -- The step begins no section and ends none.

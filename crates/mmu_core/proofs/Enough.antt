@@ -30,7 +30,7 @@ use Rattle.mmu_core.proofs.Worlds.{good_run}
 use Rattle.mmu_core.proofs.Leavers.{is_old, one_left, one_number}
 use Rattle.mmu_core.proofs.PoolPages.{has_leaver, has_owner, itself, no_outside, tells}
 use Rattle.mmu_core.proofs.Standing.{at_spot}
-use Rattle.mmu_core.proofs.TreeStored.{one_place, root_stands, same_position}
+use Rattle.mmu_core.proofs.TreePlaces.{one_place, root_stands, same_position}
 
 -- A table of this level stands there; and at which run of guest frames.
 abbrev stands_at : ℕ → Option Position → Bool

@@ -38,7 +38,7 @@ use Rattle.part_steps.specs.PartTopics.{part_topics}
 use Rattle.part_steps.specs.SlotWords.{field_number, leaf_of, may_write, page_of}
 use Rattle.part_steps.specs.TopicSteps.{gone_down, has_writer, is_won, linked_page, may_search}
 use Rattle.mmu_core.specs.TreePart.{EntryPart, IsLeafAt, IsLiveIn, TreePart, at, stands}
-use Rattle.mmu_core.proofs.TreeStored.{link_stands}
+use Rattle.mmu_core.proofs.TreePlaces.{link_stands}
 use Rattle.mmu_core.specs.View.{answer_in, upd, view, word_in, words_after}
 use Rattle.mmu_core.proofs.AloneLaws.{lock_free}
 use Rattle.mmu_core.proofs.Columns.{upd_same}

@@ -38,7 +38,7 @@ use Rattle.mmu_core.proofs.PartStepping.{IsPart}
 use Rattle.mmu_core.proofs.PartTopics.{behind_step, fill_keeps, part_behind}
 use Rattle.mmu_core.proofs.PoolPages.{owned_there}
 use Rattle.mmu_core.proofs.Standing.{at_spot, entry_now, position_below, spot_after, up_after, upd_if}
-use Rattle.mmu_core.proofs.TreeStored.{link_stands, root_stands}
+use Rattle.mmu_core.proofs.TreePlaces.{link_stands, root_stands}
 use Rattle.mmu_core.proofs.UsesStay.{StaysStanding, stays_standing}
 
 -- what is said of what each hand holds, and of its counters, of a view

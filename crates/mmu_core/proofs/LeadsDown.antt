@@ -18,7 +18,7 @@ use Rattle.part_steps.specs.TopicSteps.{linked_page}
 use Rattle.mmu_core.specs.TreePart.{EntryPart, Position, TreePart, Use, at, stands}
 use Rattle.mmu_core.specs.View.{word_in}
 use Rattle.mmu_core.proofs.Standing.{one_position}
-use Rattle.mmu_core.proofs.TreeStored.{IsLinked, link_stands, linked, root_stands}
+use Rattle.mmu_core.proofs.TreePlaces.{IsLinked, link_stands, linked, root_stands}
 
 pub same_page : {k l : ℕ} → Some k ≡ Some l → k ≡ l
 same_page e = cc e

@@ -34,7 +34,7 @@ use Rattle.part_steps.specs.TopicSteps.{linked_page}
 use Rattle.mmu_core.specs.TreePart.{EntryPart, Position, TreePart, Use, at, stands}
 use Rattle.mmu_core.specs.View.{word_in}
 use Rattle.mmu_core.proofs.CachedKept.{leaf_at}
-use Rattle.mmu_core.proofs.TreeStored.{root_stands}
+use Rattle.mmu_core.proofs.TreePlaces.{root_stands}
 use Rattle.mmu_core.proofs.LeadsDown.{below_stands, leads_down, run_above}
 use Rattle.mmu_core.proofs.PageFound.{frame_of_host, page_in_machine}
 use Rattle.mmu_core.proofs.SlotLists.{only_one_holds}

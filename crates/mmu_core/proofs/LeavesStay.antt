@@ -38,7 +38,7 @@ use Rattle.mmu_core.specs.Steps.{line_at, place_at}
 use Rattle.mmu_core.specs.TopicsInvariant.{TopicsInvariant}
 use Rattle.part_steps.specs.TopicSteps.{linked_page}
 use Rattle.mmu_core.specs.TreePart.{EntryPart, IsLiveIn, Position, TreePart, at, Use, stands}
-use Rattle.mmu_core.proofs.TreeStored.{root_stands}
+use Rattle.mmu_core.proofs.TreePlaces.{root_stands}
 use Rattle.mmu_core.specs.View.{View, part_stepped, stepped, upd, view, word_in, words_after}
 use Rattle.mmu_core.proofs.AccessParts.{AreSmall, makes_parts, makes_setting}
 use Rattle.mmu_core.proofs.CachedKept.{leaf_at}

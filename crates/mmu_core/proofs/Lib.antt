@@ -80,6 +80,7 @@ pub mod SumsBelow
 pub mod OwnedBehind
 pub mod PoolBits
 pub mod PoolPages
+pub mod UsesTurn
 pub mod PoolKept
 pub mod FilledKept
 pub mod PartIndex
@@ -101,6 +102,7 @@ pub mod ScanPlaces
 pub mod StarvedScan
 pub mod Standing
 pub mod LiveStays
+pub mod TreePlaces
 pub mod TreeStored
 pub mod UsesStay
 pub mod TreeKept

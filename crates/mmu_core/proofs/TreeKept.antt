@@ -28,7 +28,8 @@ use Rattle.mmu_core.proofs.PartWords.{IsElsewhere, areas_stay, page_stays, role_
 use Rattle.mmu_core.proofs.PoolPages.{left_no_table, owned_there, owned_use, table_not_owned, tells}
 use Rattle.mmu_core.proofs.Standing.{entry_now, position_below, spot_after, up_after, upd_if}
 use Rattle.mmu_core.proofs.SumsBelow.{upd_id}
-use Rattle.mmu_core.proofs.TreeStored.{entry_stored, link_stands, table_linked, tree_moved}
+use Rattle.mmu_core.proofs.TreePlaces.{link_stands}
+use Rattle.mmu_core.proofs.TreeStored.{entry_stored, table_linked, tree_moved}
 use Rattle.mmu_core.proofs.UsesStay.{is_link, same_tables, stay_same, stood_same}
 use Rattle.mmu_core.proofs.OldSets.{set_live}
 use Rattle.mmu_core.proofs.LiveStay.{StayLive}
