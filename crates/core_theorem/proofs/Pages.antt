@@ -15,7 +15,7 @@ use Rattle.mmu_core.specs.TreePart.Use.{Free, OldSet, Outside, Owned, Root, Slot
 use Rattle.mmu_core.specs.View.{word_in}
 use Rattle.mmu_core.proofs.PoolPages.{free_use, has_leaver, has_owner, left_use, owned_use, set_use, tells, use_is}
 use Rattle.mmu_core.proofs.Standing.{at_spot}
-use Rattle.mmu_core.proofs.TreePlaces.{one_place}
+use Rattle.mmu_core.proofs.TreePlaces.{all_reached, one_place}
 use Rattle.core_theorem.specs.Pages.{IsUsedFor, LinksPage, PagesAreUsed}
 
 from_end : (k pages : ℕ) → nat_le pages k ≡ true → pages ≤ k
@@ -72,5 +72,8 @@ each_used z u G page = used z u G page (G.topics.up page) refl
 pub no_other_use : (z : Sizes) (u : World Held) (G : IsSound z u) (page : ℕ) (use_ : Use) → IsUsedFor z u G.topics.up G.topics.spot page use_ → G.topics.up page ≡ use_
 no_other_use z u G page use_ is = only_so z u G page use_ is
 
+pub stand_apart : (z : Sizes) (u : World Held) (G : IsSound z u) (k l : ℕ) (p : Position) → stands G.topics.up G.topics.spot k ≡ Some p → stands G.topics.up G.topics.spot l ≡ Some p → k ≡ l
+stand_apart z u G k l p at_k at_l = let T = G.topics.tree in one_place T k l p (all_reached T k p at_k) (all_reached T l p at_l) at_k at_l
+
 abbrev pub pages_are_used : (z : Sizes) (u : World Held) → IsSound z u → PagesAreUsed z u
-pages_are_used z u G = record { up = G.topics.up; spot = G.topics.spot; each = each_used z u G; only = no_other_use z u G; tables = G.topics.tree; apart = one_place G.topics.tree }
+pages_are_used z u G = record { up = G.topics.up; spot = G.topics.spot; each = each_used z u G; only = no_other_use z u G; tables = G.topics.tree; apart = stand_apart z u G }

@@ -30,7 +30,7 @@ use Rattle.mmu_core.proofs.Worlds.{good_run}
 use Rattle.mmu_core.proofs.Leavers.{is_old, one_left, one_number}
 use Rattle.mmu_core.proofs.PoolPages.{has_leaver, has_owner, itself, no_outside, tells}
 use Rattle.mmu_core.proofs.Standing.{at_spot}
-use Rattle.mmu_core.proofs.TreePlaces.{one_place, root_stands, same_position}
+use Rattle.mmu_core.proofs.TreePlaces.{all_reached, one_place, root_stands, same_position}
 
 -- A table of this level stands there; and at which run of guest frames.
 abbrev stands_at : ℕ → Option Position → Bool
@@ -69,7 +69,7 @@ module _ (h : Header) (lines : List Line) {root set : ℕ} {role pool host : ℕ
       let x = stands_where level (stands up spot k) is in
       let y = stands_where level (stands up spot l) be in
       let run_same : x.0.prefix ≡ y.0.prefix = sym (ap run_of x.1) ∙ same ∙ ap run_of y.1 in
-      one_place T k l x.0 x.1 (y.1 ∙ ap Some (same_position y.0 x.0 (y.2 ∙ sym x.2) (sym run_same)))
+      one_place T k l x.0 (all_reached T k x.0 x.1) (all_reached T l y.0 y.1) x.1 (y.1 ∙ ap Some (same_position y.0 x.0 (y.2 ∙ sym x.2) (sym run_same)))
 
   -- the tables of a level below the root's
   few_of_level : (level : ℕ) → level ≤ 3 → sum_below h.pool (λ k. one_if (stands_at level (stands up spot k))) ≤ count_below (2 ^ 36 / 512 ^ level) (some_line_wants h lines level)
@@ -209,7 +209,7 @@ wanted_below : (h : Header) (lines : List Line) {root set : ℕ} {role pool host
     → IsWantedRun h lines p → (p.level ≡ 4) ⊎ (p.level ≢ 4) → (k ≡ root) ⊎ IsWantedTable h lines (role k)
 wanted_below h lines T k p is R (inl e) =
     let first : p.prefix < 1 = subst (λ n. p.prefix < 2 ^ 36 / 512 ^ n) e R.below in
-    inl (one_place T k _ p is (root_stands T ∙ ap Some (same_position (at 4 0) p (sym e) (omega (arith, first)))))
+    inl (one_place T k _ p (all_reached T k p is) (all_reached T _ _ (root_stands T)) is (root_stands T ∙ ap Some (same_position (at 4 0) p (sym e) (omega (arith, first)))))
 wanted_below h lines T k p is R (inr ne) =
     let there = T.there k p is in
     inr (subst (IsWantedTable h lines) (sym (T.roles k p is)) (record { below_root = (there.1, omega (arith, there.2, ne)); index = p.prefix; wanted = R.wanted }))

@@ -38,7 +38,7 @@ use Rattle.part_steps.specs.PartTopics.{part_topics}
 use Rattle.part_steps.specs.SlotWords.{field_number, leaf_of, may_write, page_of}
 use Rattle.part_steps.specs.TopicSteps.{gone_down, has_writer, is_won, linked_page, may_search}
 use Rattle.mmu_core.specs.TreePart.{EntryPart, IsLeafAt, IsLiveIn, TreePart, at, stands}
-use Rattle.mmu_core.proofs.TreePlaces.{link_stands}
+use Rattle.mmu_core.proofs.TreePlaces.{all_reached, link_stands}
 use Rattle.mmu_core.specs.View.{answer_in, upd, view, word_in, words_after}
 use Rattle.mmu_core.proofs.AloneLaws.{lock_free}
 use Rattle.mmu_core.proofs.Columns.{upd_same}
@@ -233,7 +233,7 @@ module _ (z : Sizes) (w : World Held) (a gfn note : ℕ) (write : Bool) (p : Fau
 
   above_now : IsOver gfn t.walk → (e : ℕ) → t.walk.level ≡ 1 → LeadsTo (words area.Pool) 1 page gfn e → LeadsTo (words area.Pool) 4 (words area.Root 0) gfn e
   above_now over e one leads =
-      (leads_same R.sound.topics.tree few gfn e 1 page (lowest_over over one)).above leads
+      (leads_same R.sound.topics.tree few gfn e 1 page (all_reached R.sound.topics.tree page _ (lowest_over over one)) (lowest_over over one)).above leads
 
   -- a fill leaves the entry
   fill_leaves_entry : (value : ℕ) → 1 ≤ t.walk.level → (o : OwnedPage) → t.owned ≡ Some o → o.filled < 513
@@ -283,7 +283,7 @@ module _ (z : Sizes) (w : World Held) (a gfn note : ℕ) (write : Bool) (p : Fau
     leaf_leads : LeadsToLeaf leafed 4 (words area.Root 0) gfn write
     leaf_leads =
         installed (words area.Root 0) (words area.Slots 0) (words area.PoolMap) leafed gfn write page t.walk.level (leaf_written t) low
-        (leads_same tree_leafed few gfn (leaf_written t) 1 page (lowest_over saw.over low)).above
+        (leads_same tree_leafed few gfn (leaf_written t) 1 page (all_reached R.sound.topics.tree page _ (lowest_over saw.over low)) (lowest_over saw.over low)).above
         (ap (λ (pool : ℕ → ℕ). pool (pool_index page index)) stored ∙ upd_same (words area.Pool) (pool_index page index) (leaf_written t))
         (kind_of_leaf 1 (host_frame (word_looked t.host)) (may_write t.search.slot (word_looked t.host)) (host_allows_write (word_looked t.host)) (may_write t.search.slot (word_looked t.host)) (omega arith) (omega arith))
         (ap (λ (x : Option HostLook). allows_access write (leaf_of t.search.slot (word_looked x))) L.host ∙ allowed_leaf write t.search.slot L.word E.sharing.looked.allowed)

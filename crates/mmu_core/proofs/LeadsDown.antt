@@ -15,10 +15,10 @@ use Rattle.mmu_core.specs.Laws.{IsSound}
 use Rattle.mmu_core.specs.Machine.{World}
 use Rattle.part_steps.specs.PartSteps.{entry_index}
 use Rattle.part_steps.specs.TopicSteps.{linked_page}
-use Rattle.mmu_core.specs.TreePart.{EntryPart, Position, TreePart, Use, at, stands}
+use Rattle.mmu_core.specs.TreePart.{EntryPart, Position, Reaches, TreePart, Use, at, stands}
 use Rattle.mmu_core.specs.View.{word_in}
 use Rattle.mmu_core.proofs.Standing.{one_position}
-use Rattle.mmu_core.proofs.TreePlaces.{IsLinked, link_stands, linked, root_stands}
+use Rattle.mmu_core.proofs.TreePlaces.{IsLinked, all_reached, link_stands, linked, root_stands}
 
 pub same_page : {k l : ℕ} → Some k ≡ Some l → k ≡ l
 same_page e = cc e
@@ -64,15 +64,15 @@ module _ {pages root set : ℕ} {role pool host : ℕ → ℕ} {up : ℕ → Use
       subst (λ l. LeadSame pool root l page gfn entry) (sym top) (subst (λ k. LeadSame pool root 4 k gfn entry) (sym e) (record { below = λ leads. leads; above = λ leads. leads }))
 
   -- the table's parent stands over the guest frame too, and its entry there is the link
-  parent_over : (level page : ℕ) (L : IsLinked pool up spot page (at (suc level) (gfn / level_span (suc level) / 512))) → stands up spot L.parent ≡ Some (at (suc (suc level)) (gfn / level_span (suc (suc level)) / 512))
-  parent_over level page L =
+  parent_over : (level page links : ℕ) (L : IsLinked pool up spot root links page (at (suc level) (gfn / level_span (suc level) / 512))) → stands up spot L.parent ≡ Some (at (suc (suc level)) (gfn / level_span (suc (suc level)) / 512))
+  parent_over level page links L =
       let one : suc level + 1 ≡ suc (suc level) = omega arith in
       let run : gfn / level_span (suc level) / 512 ≡ gfn / level_span (suc (suc level)) = run_above gfn (suc level) (omega arith) ∙ ap (λ n. gfn / level_span n) one in
       L.above ∙ ap (λ n. Some (at n (gfn / level_span (suc level) / 512 / 512))) one ∙ ap (λ n. Some (at (suc (suc level)) (n / 512))) run
 
-  parent_links : (level page : ℕ) → stands up spot page ≡ Some (at (suc level) (gfn / level_span (suc level) / 512)) → (L : IsLinked pool up spot page (at (suc level) (gfn / level_span (suc level) / 512)))
+  parent_links : (level page links : ℕ) → stands up spot page ≡ Some (at (suc level) (gfn / level_span (suc level) / 512)) → (L : IsLinked pool up spot root links page (at (suc level) (gfn / level_span (suc level) / 512)))
       → linked_page (kind_of (suc (suc level)) (pool (pool_index L.parent (entry_index gfn (suc (suc level)))))) ≡ Some page
-  parent_links level page at_page L =
+  parent_links level page links at_page L =
       let one : suc level + 1 ≡ suc (suc level) = omega arith in
       let run : gfn / level_span (suc (suc level)) ≡ gfn / level_span (suc level) / 512 = sym (run_above gfn (suc level) (omega arith) ∙ ap (λ n. gfn / level_span n) one) in
       ap (λ n. linked_page (kind_of (suc (suc level)) (pool (pool_index L.parent (n % 512))))) run
@@ -80,25 +80,25 @@ module _ {pages root set : ℕ} {role pool host : ℕ → ℕ} {up : ℕ → Use
       ∙ ap (λ (k : SpteKind). linked_page k) (kind_of_table (suc (suc level)) page (omega arith) (let lt = (T.there page _ at_page).0 in omega (arith, lt, few)))
 
   -- The table is the root, or linked.
-  leads_from : (level page : ℕ) → stands up spot page ≡ Some (at (suc level) (gfn / level_span (suc level) / 512))
-      → ((k : ℕ) → suc level < 4 → stands up spot k ≡ Some (at (suc (suc level)) (gfn / level_span (suc (suc level)) / 512)) → LeadSame pool root (suc (suc level)) k gfn entry)
+  leads_from : (level page : ℕ) → Reaches up root page → stands up spot page ≡ Some (at (suc level) (gfn / level_span (suc level) / 512))
+      → ((k : ℕ) → suc level < 4 → Reaches up root k → stands up spot k ≡ Some (at (suc (suc level)) (gfn / level_span (suc (suc level)) / 512)) → LeadSame pool root (suc (suc level)) k gfn entry)
       → LeadSame pool root (suc level) page gfn entry
-  leads_from level page at_page over = by (linked T page _ at_page)
+  leads_from level page R at_page over = by (linked T page _ R at_page)
     where
-      by : (page ≡ root) ⊎ IsLinked pool up spot page (at (suc level) (gfn / level_span (suc level) / 512)) → LeadSame pool root (suc level) page gfn entry
+      by : (page ≡ root) ⊎ ((links : ℕ) × IsLinked pool up spot root links page (at (suc level) (gfn / level_span (suc level) / 512))) → LeadSame pool root (suc level) page gfn entry
       by (inl e) = leads_at_root level page at_page e
-      by (inr L) = one_down level L.parent page (parent_links level page at_page L) (over L.parent L.lower (parent_over level page L))
+      by (inr found) = let L = found.1 in one_down level L.parent page (parent_links level page found.0 at_page L) (over L.parent L.lower (found.0, L.chain) (parent_over level page found.0 L))
 
-  leads_by : (above level page : ℕ) → level + above ≡ 3 → stands up spot page ≡ Some (at (suc level) (gfn / level_span (suc level) / 512)) → LeadSame pool root (suc level) page gfn entry
-  leads_by zero level page levels at_page = leads_from level page at_page (λ k lower at_k. absurd (omega (arith, levels, lower)))
-  leads_by (suc n) level page levels at_page = leads_from level page at_page (λ k lower at_k. leads_by n (suc level) k (omega (arith, levels)) at_k)
+  leads_by : (above level page : ℕ) → level + above ≡ 3 → Reaches up root page → stands up spot page ≡ Some (at (suc level) (gfn / level_span (suc level) / 512)) → LeadSame pool root (suc level) page gfn entry
+  leads_by zero level page levels R at_page = leads_from level page R at_page (λ k lower reached at_k. absurd (omega (arith, levels, lower)))
+  leads_by (suc n) level page levels R at_page = leads_from level page R at_page (λ k lower reached at_k. leads_by n (suc level) k (omega (arith, levels)) reached at_k)
 
-  pub leads_same : (level page : ℕ) → stands up spot page ≡ Some (at level (gfn / level_span level / 512)) → LeadSame pool root level page gfn entry
-  leads_same zero page at_page = absurd (let low = (T.there page _ at_page).1 in omega (arith, low))
-  leads_same (suc level) page at_page = leads_by (3 - level) level page (let most = (T.there page _ at_page).2 in omega (arith, most)) at_page
+  pub leads_same : (level page : ℕ) → Reaches up root page → stands up spot page ≡ Some (at level (gfn / level_span level / 512)) → LeadSame pool root level page gfn entry
+  leads_same zero page R at_page = absurd (let low = (T.there page _ at_page).1 in omega (arith, low))
+  leads_same (suc level) page R at_page = leads_by (3 - level) level page (let most = (T.there page _ at_page).2 in omega (arith, most)) R at_page
 
 pub leads_down : (z : Sizes) (w : World Held) (gfn page level entry : ℕ) (sound : IsSound z w) → stands sound.topics.up sound.topics.spot page ≡ Some (at level (gfn / level_span level / 512))
     → LeadSame (word_in z w area.Pool) (word_in z w area.Root 0) level page gfn entry
 leads_down z w gfn page level entry sound at_page =
     let I = sound.topics in
-    leads_same I.tree (let most = sound.holds.sizes.pool.1 in omega (arith, most)) gfn entry level page at_page
+    leads_same I.tree (let most = sound.holds.sizes.pool.1 in omega (arith, most)) gfn entry level page (all_reached I.tree page _ at_page) at_page

@@ -1,5 +1,5 @@
 -- Tables: where each stands in the tree below the root, and what its entries are (tdp_mmu.c; mmu.rst, "Translation").
-use Rattle.std.specs.Prelude.{◌≡◌, ◌+◌, ◌-◌, ◌*◌, ◌/◌, ◌%◌, ◌<◌, ◌≤◌, ◌⊎◌, ℕ, Bool, true, false, if◌then◌else◌, Option, Some, None}
+use Rattle.std.specs.Prelude.{◌≡◌, ◌+◌, ◌-◌, ◌*◌, ◌/◌, ◌%◌, ◌<◌, ◌≤◌, ◌⊎◌, ℕ, zero, suc, Bool, true, false, if◌then◌else◌, Option, Some, None}
 use Rattle.core_views.specs.declared.trace.Slot.{Slot as SlotOf}
 use Rattle.core_views.specs.Slots.{contains}
 use Rattle.spte_words.specs.Areas.{pool_index}
@@ -32,6 +32,19 @@ is_table _ = false
 -- where the page stands, if it is a table
 abbrev pub stands : (ℕ → Use) → (ℕ → Position) → ℕ → Option Position
 stands up spot k = if is_table (up k) then Some (spot k) else None
+
+-- The page is under an entry of a page of which this is so.
+abbrev pub through : Use → (ℕ → Type 0) → Type 0
+through (Under page entry) P = P page
+through _ P = ⊥
+
+-- Table l hangs below table m, by so many links; and by any number of them.
+abbrev pub Below : (ℕ → Use) → ℕ → ℕ → ℕ → Type 0
+Below up m zero l = l ≡ m
+Below up m (suc links) l = through (up l) (Below up m links)
+
+abbrev pub Reaches : (ℕ → Use) → ℕ → ℕ → Type 0
+Reaches up m l = (links : ℕ) × Below up m links l
 
 -- Entry j of the table that is page k and stands here links to a table, which is under this entry.
 pub record LinksTo (up : ℕ → Use) (k : ℕ) (p : Position) (j w : ℕ) : Type 0 where
