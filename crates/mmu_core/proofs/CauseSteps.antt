@@ -1,6 +1,6 @@
 -- What the step of a part leaves of a word that its actor knows, and that it begins and ends no section.
 use Rattle.std.proofs.Common.{◌≡◌, ◌≢◌, ◌⊎◌, inl, inr, ◌<◌, ◌≤◌, ◌+◌, ◌*◌, ◌^◌, ℕ, refl, sym, subst, ap, ◌∙◌, arith}
-use Rattle.std.specs.Prelude.{Bool, true, false, ◌-◌, ◌==◌, if◌then◌else◌, Option, Some}
+use Rattle.std.specs.Prelude.{Bool, true, false, ◌-◌, ◌==◌, if◌then◌else◌, Some}
 use Rattle.core_views.specs.declared.kind.StepKind.TheVariants as kind
 use Rattle.core_views.specs.declared.sizes.Sizes.{Sizes}
 use Rattle.core_views.specs.declared.topics.Topics.{Topics}

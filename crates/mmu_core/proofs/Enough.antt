@@ -9,12 +9,12 @@ use Rattle.core_views.specs.declared.trace.Header.{Header}
 use Rattle.core_views.specs.declared.trace.Line.{Line}
 use Rattle.core_views.specs.Held.{Held}
 use Rattle.core_views.specs.Need.{count_below, need}
-use Rattle.core_views.specs.Sizes.{actors_of, sizes_of}
+use Rattle.core_views.specs.Sizes.{sizes_of}
 use Rattle.spte_words.specs.declared.area.Area.TheVariants as area
 use Rattle.mmu_core.specs.Enabled.{mmu}
 use Rattle.mmu_core.specs.Enough.{EachTableIsWanted, EnoughPages, IsWantedTable, TablesAreForTheirRuns, some_line_wants}
 use Rattle.mmu_core.specs.Laws.{IsSound}
-use Rattle.mmu_core.specs.Machine.{Legal, Step, World, hand_in, run}
+use Rattle.mmu_core.specs.Machine.{Legal, Step, World, run}
 use Rattle.mmu_core.specs.PoolPart.{UsePart, is_free, is_leaving, is_owned, is_use}
 use Rattle.mmu_core.specs.Sums.{one_if, sum_below}
 use Rattle.mmu_core.specs.TreePart.{IsWanted, Position, TreePart, Use, at, stands}
@@ -25,7 +25,7 @@ use Rattle.mmu_core.proofs.WantedRuns.{IsWantedRun, wanted_by_line}
 use Rattle.mmu_core.proofs.Columns.{same_or}
 use Rattle.mmu_core.proofs.Pigeonhole.{count_le, pigeonhole, sum_each, sum_plus, sum_some}
 use Rattle.mmu_core.proofs.Starts.{start_good}
-use Rattle.mmu_core.proofs.SumsBelow.{sum_mono, sum_none}
+use Rattle.mmu_core.proofs.SumsBelow.{sum_mono}
 use Rattle.mmu_core.proofs.Worlds.{good_run}
 use Rattle.mmu_core.proofs.Leavers.{is_old, one_left, one_number}
 use Rattle.mmu_core.proofs.PoolPages.{has_leaver, has_owner, itself, no_outside, tells}

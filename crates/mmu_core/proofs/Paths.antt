@@ -10,7 +10,6 @@ use Rattle.part_steps.specs.declared.part_step.PartStep.TheVariants as part
 use Rattle.part_steps.specs.PartSteps.{leaf_written, link_written}
 use Rattle.part_steps.specs.PartTopics.{part_topics}
 use Rattle.part_steps.specs.TopicSteps.{gone_down, is_outside, linked_page, may_walk, swapped}
-use Rattle.part_steps.specs.PartSteps.{table_page}
 use Rattle.core_views.specs.declared.sizes.Sizes.{Sizes}
 use Rattle.core_views.specs.Held.{Held}
 use Rattle.core_views.specs.Sizes.{actors_of}

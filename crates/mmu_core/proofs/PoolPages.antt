@@ -4,7 +4,7 @@ use Rattle.std.specs.Prelude.{Bool, true, false, ◌==◌, ◌&&◌, nat_le, nat
 use Rattle.std.proofs.lemmas.Bool.Decides.{nat_tests}
 use Rattle.core_views.specs.declared.topics.OwnedPage.{OwnedPage}
 use Rattle.mmu_core.specs.PoolPart.{UsePart, is_free, is_leaving, is_owned, is_use, leaves, owns}
-use Rattle.mmu_core.specs.TreePart.{Position, Use, is_table, stands}
+use Rattle.mmu_core.specs.TreePart.{Position, Use, stands}
 use Rattle.mmu_core.specs.TreePart.Use.{Free, OldSet, Outside, Owned, Root, SlotSet, Under}
 use Rattle.mmu_core.proofs.Standing.{no_table}
 

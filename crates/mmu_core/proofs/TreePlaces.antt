@@ -1,15 +1,11 @@
 -- Where tables stand: the root at the top, each other one below the entry that links it, and no two at one place.
-use Rattle.std.proofs.Common.{◌≡◌, ◌≢◌, ◌⊎◌, inl, inr, ◌+◌, ◌*◌, ◌/◌, ◌%◌, ◌<◌, ◌≤◌, ℕ, zero, suc, refl, sym, subst, ap, ◌∙◌, arith}
-use Rattle.std.specs.Prelude.{Bool, true, false, ◌-◌, if◌then◌else◌, Option, Some, None}
+use Rattle.std.proofs.Common.{◌≡◌, ◌⊎◌, inl, inr, ◌+◌, ◌*◌, ◌/◌, ◌%◌, ◌<◌, ◌≤◌, ℕ, zero, suc, refl, sym, subst, ap, ◌∙◌, arith}
+use Rattle.std.specs.Prelude.{true, ◌-◌, Some}
 use Rattle.spte_words.specs.Areas.{pool_index}
-use Rattle.spte_words.specs.Entries.{absent_word, table_word}
-use Rattle.spte_words.proofs.Indices.{same_pool_word}
-use Rattle.spte_words.proofs.ReadsEntries.{same_table, table_not_absent}
-use Rattle.mmu_core.specs.TreePart.{EntryPart, IsLeafAt, IsUnder, IsWanted, LinksTo, Position, TreePart, Below, Reaches, Use, at, is_table, stands, through}
+use Rattle.spte_words.specs.Entries.{table_word}
+use Rattle.spte_words.proofs.ReadsEntries.{same_table}
+use Rattle.mmu_core.specs.TreePart.{IsUnder, LinksTo, Position, TreePart, Below, Reaches, Use, at, is_table, stands, through}
 use Rattle.mmu_core.specs.TreePart.Use.{Free, OldSet, Outside, Owned, Root, SlotSet, Under}
-use Rattle.mmu_core.specs.View.{upd}
-use Rattle.mmu_core.proofs.Columns.{same_or, upd_other, upd_same}
-use Rattle.mmu_core.proofs.LiveStays.{LiveStays, live_in_stays}
 use Rattle.mmu_core.proofs.Standing.{at_spot, one_position, spot_of}
 
 pub same_position : (p q : Position) → p.level ≡ q.level → p.prefix ≡ q.prefix → p ≡ q

@@ -1,12 +1,12 @@
 -- The tables behind a step that leaves each of their words, or stores one entry, or links one more table.
-use Rattle.std.proofs.Common.{◌≡◌, ◌≢◌, ◌⊎◌, inl, inr, ◌+◌, ◌*◌, ◌/◌, ◌%◌, ◌<◌, ◌≤◌, ℕ, zero, suc, refl, sym, subst, ap, ◌∙◌, arith}
-use Rattle.std.specs.Prelude.{Bool, true, false, ◌-◌, if◌then◌else◌, Option, Some, None}
+use Rattle.std.proofs.Common.{◌≡◌, ◌≢◌, ◌⊎◌, inl, inr, ◌+◌, ◌*◌, ◌/◌, ◌<◌, ◌≤◌, ℕ, refl, sym, subst, ap, ◌∙◌, arith}
+use Rattle.std.specs.Prelude.{true, false, ◌-◌, if◌then◌else◌, Some, None}
 use Rattle.spte_words.specs.Areas.{pool_index}
 use Rattle.spte_words.specs.Entries.{absent_word, table_word}
 use Rattle.spte_words.proofs.Indices.{same_pool_word}
-use Rattle.spte_words.proofs.ReadsEntries.{same_table, table_not_absent}
-use Rattle.mmu_core.specs.TreePart.{EntryPart, IsLeafAt, IsUnder, IsWanted, LinksTo, Position, TreePart, Use, at, is_table, stands}
-use Rattle.mmu_core.specs.TreePart.Use.{Free, OldSet, Outside, Owned, Root, SlotSet, Under}
+use Rattle.spte_words.proofs.ReadsEntries.{table_not_absent}
+use Rattle.mmu_core.specs.TreePart.{EntryPart, IsLeafAt, IsUnder, IsWanted, Position, TreePart, Use, at, is_table, stands}
+use Rattle.mmu_core.specs.TreePart.Use.{Root, Under}
 use Rattle.mmu_core.specs.View.{upd}
 use Rattle.mmu_core.proofs.Columns.{same_or, upd_other, upd_same}
 use Rattle.mmu_core.proofs.LiveStays.{LiveStays, live_in_stays}

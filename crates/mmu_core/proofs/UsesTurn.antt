@@ -1,34 +1,19 @@
 -- What each pool page is, where pages turn from one use to another: by a claim, a link, a publication, or as they are given back.
-use Rattle.std.proofs.Common.{◌≡◌, ◌≢◌, ◌⊎◌, inl, inr, ◌+◌, ◌*◌, ◌/◌, ◌%◌, ◌^◌, ◌<◌, ◌≤◌, ℕ, refl, sym, subst, ap, ◌∙◌, arith, bit_and, bit_or, w64}
-use Rattle.std.specs.Prelude.{Bool, true, false, ◌-◌, ◌==◌, if◌then◌else◌, Option, Some, None, is_some, ◌&&◌, nat_le, nat_lt}
+use Rattle.std.proofs.Common.{◌≡◌, ◌≢◌, ◌+◌, ◌*◌, ◌^◌, ◌<◌, ℕ, refl, sym, subst, ap, ◌∙◌, bit_and, bit_or, w64}
+use Rattle.std.specs.Prelude.{Bool, true, false, ◌==◌, if◌then◌else◌, Option, Some, None, ◌&&◌, nat_lt}
 use Rattle.std.specs.Int.{bit_not}
-use Rattle.std.proofs.lemmas.Nat.Bits.{bit_at-trailing_zeros}
-use Rattle.core_views.specs.declared.sizes.Sizes.{Sizes}
 use Rattle.core_views.specs.declared.topics.OwnedPage.{OwnedPage}
-use Rattle.core_views.specs.declared.topics.Topics.{Topics}
 use Rattle.core_views.specs.Held.{Held}
-use Rattle.core_views.specs.Sizes.{actors_of}
-use Rattle.spte_words.specs.declared.area.Area.TheVariants as area
 use Rattle.spte_words.specs.Bits.{has_bit}
-use Rattle.part_steps.specs.declared.task.Task.{Task}
-use Rattle.part_steps.specs.declared.part_step.PartStep.{PartStep}
-use Rattle.part_steps.specs.declared.part_step.PartStep.TheVariants as part
-use Rattle.part_steps.specs.PartSteps.{OwnsTable, own_index, page_owned, part_task, words_filled, page_left, table_page, entry_index, OwnsSet}
 use Rattle.mmu_core.specs.PoolPart.{UsePart, is_free, is_leaving, is_owned, is_use}
-use Rattle.mmu_core.specs.Steps.{idle_after}
-use Rattle.part_steps.specs.Tasks.{kind_of_task}
-use Rattle.part_steps.specs.TopicSteps.{filled_more, is_won, tried_bit, still_leaving}
-use Rattle.mmu_core.specs.TopicsInvariant.{TopicsInvariant}
+use Rattle.part_steps.specs.TopicSteps.{filled_more}
 use Rattle.mmu_core.specs.TreePart.{Use}
 use Rattle.mmu_core.specs.TreePart.Use.{Free, OldSet, Outside, Owned, SlotSet, Under}
-use Rattle.mmu_core.specs.View.{View, answer_in, part_stepped, upd}
-use Rattle.mmu_core.proofs.Columns.{at_upd, same_or, upd_other, upd_same}
-use Rattle.mmu_core.proofs.OwnedBehind.{leaf_owned, link_owned, owned_is, owned_same, left_same, left_is}
-use Rattle.mmu_core.proofs.PartStepping.{IsPart}
-use Rattle.mmu_core.proofs.PartWords.{fill_map, slots_are, slots_behind}
+use Rattle.mmu_core.specs.View.{upd}
+use Rattle.mmu_core.proofs.Columns.{at_upd, upd_other, upd_same}
 use Rattle.mmu_core.proofs.PoolBits.{free_cleared, free_set, page_free}
-use Rattle.mmu_core.proofs.PoolPages.{among, free_use, itself, left_use, other, owned_there, owned_use, set_use}
-use Rattle.mmu_core.proofs.Standing.{entry_now, up_after, upd_if}
+use Rattle.mmu_core.proofs.PoolPages.{among, free_use, itself, left_use, other, owned_use, set_use}
+use Rattle.mmu_core.proofs.Standing.{upd_if}
 
 -- Of a page that turns from one use to another: what the words and the one hand that changes say of it then, and that nothing else turns.
 record PageTurns (at : ℕ) (behind : ℕ → ℕ) (a : ℕ) (x : Option OwnedPage) (y : Option ℕ) (k : ℕ) (u w : Use) : Type 0 where
