@@ -43,7 +43,7 @@ module _ (z : Sizes) (u : World Held) (G : IsSound z u) (page : ℕ) where
   under_it : (parent entry : ℕ) → LinksPage z u up spot parent entry page → up page ≡ Under parent entry
   under_it parent entry L = by (G.topics.tree.entries parent L.at L.table entry L.low)
     where
-      by : EntryPart (word_in z u area.Pool) (word_in z u area.Host) (word_in z u area.Slots 0) up parent L.at entry (word_in z u area.Pool (pool_index parent entry)) → up page ≡ Under parent entry
+      by : EntryPart up parent L.at entry (word_in z u area.Pool (pool_index parent entry)) → up page ≡ Under parent entry
       by (inl absent) = absurd (table_not_absent page (sym L.link ∙ absent))
       by (inr (inl K)) = ap up (sym (same_table K.page page (sym K.is ∙ L.link))) ∙ K.below
       by (inr (inr F)) = absurd (let lowest = F.lowest in let upper = L.upper in omega (arith, lowest, upper))
@@ -76,4 +76,4 @@ pub stand_apart : (z : Sizes) (u : World Held) (G : IsSound z u) (k l : ℕ) (p 
 stand_apart z u G k l p at_k at_l = let T = G.topics.tree in one_place T k l p (all_reached T k p at_k) (all_reached T l p at_l) at_k at_l
 
 abbrev pub pages_are_used : (z : Sizes) (u : World Held) → IsSound z u → PagesAreUsed z u
-pages_are_used z u G = record { up = G.topics.up; spot = G.topics.spot; each = each_used z u G; only = no_other_use z u G; tables = G.topics.tree; apart = stand_apart z u G }
+pages_are_used z u G = record { up = G.topics.up; spot = G.topics.spot; each = each_used z u G; only = no_other_use z u G; tables = G.topics.tree; leaves = G.topics.leaves; apart = stand_apart z u G }

@@ -191,7 +191,7 @@ module _ (z : Sizes) (w : World Held) (ss : List (Step Kind)) (s : Step Kind) (G
       let most = G.holds.sizes.pool.1 in
       let at_page = (G.topics.held a there).table from in
       entry_kinds G.topics.tree (table_page t.walk) (at t.walk.level t.walk.prefix) (entry_index gfn t.walk.level) v (omega (arith, most)) at_page
-      (subst (EntryPart (word_in z u area.Pool) (word_in z u area.Host) (word_in z u area.Slots 0) G.topics.up (table_page t.walk) (at t.walk.level t.walk.prefix) (entry_index gfn t.walk.level)) (sym is)
+      (subst (EntryPart G.topics.up (table_page t.walk) (at t.walk.level t.walk.prefix) (entry_index gfn t.walk.level)) (sym is)
       (G.topics.tree.entries (table_page t.walk) (at t.walk.level t.walk.prefix) at_page (entry_index gfn t.walk.level) (low gfn)))
 
   entry_now : (gfn : ℕ) → Made (part.Walk gfn) → EntryIs gfn v more behind

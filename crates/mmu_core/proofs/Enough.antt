@@ -62,7 +62,7 @@ one_level (Some p) low = let there = low p refl in of_four p.level there.0 there
 abbrev AreWanted : Header → List Line → ℕ → (ℕ → Option Position) → Type 0
 AreWanted h lines root stands = (k : ℕ) (p : Position) → stands k ≡ Some p → (k ≡ root) ⊎ IsWantedRun h lines p
 
-module _ (h : Header) (lines : List Line) {root set : ℕ} {role pool host : ℕ → ℕ} {up : ℕ → Use} {spot : ℕ → Position} (T : TreePart h.pool root set role pool host up spot) (A : AreWanted h lines root (stands up spot)) where
+module _ (h : Header) (lines : List Line) {root set : ℕ} {role pool : ℕ → ℕ} {up : ℕ → Use} {spot : ℕ → Position} (T : TreePart h.pool root set role pool up spot) (A : AreWanted h lines root (stands up spot)) where
   -- No two tables of a level stand at one run.
   one_run : (level k l : ℕ) → stands_at level (stands up spot k) ≡ true → stands_at level (stands up spot l) ≡ true → run_of (stands up spot k) ≡ run_of (stands up spot l) → k ≡ l
   one_run level k l is be same =
@@ -205,7 +205,7 @@ enough_pages h lines w ss start legal most none =
     record { page = found.0; there = found.1; free = found.2 }
 
 -- A table for a run that is wanted is the root, or stands below it, where its role says.
-wanted_below : (h : Header) (lines : List Line) {root set : ℕ} {role pool host : ℕ → ℕ} {up : ℕ → Use} {spot : ℕ → Position} (T : TreePart h.pool root set role pool host up spot) (k : ℕ) (p : Position) → stands up spot k ≡ Some p
+wanted_below : (h : Header) (lines : List Line) {root set : ℕ} {role pool : ℕ → ℕ} {up : ℕ → Use} {spot : ℕ → Position} (T : TreePart h.pool root set role pool up spot) (k : ℕ) (p : Position) → stands up spot k ≡ Some p
     → IsWantedRun h lines p → (p.level ≡ 4) ⊎ (p.level ≢ 4) → (k ≡ root) ⊎ IsWantedTable h lines (role k)
 wanted_below h lines T k p is R (inl e) =
     let first : p.prefix < 1 = subst (λ n. p.prefix < 2 ^ 36 / 512 ^ n) e R.below in

@@ -49,7 +49,7 @@ use Rattle.mmu_core.proofs.LeadsDown.{leads_same}
 use Rattle.mmu_core.proofs.LiveStays.{LiveStays, live_in_stays}
 use Rattle.mmu_core.proofs.PartWords.{entry_leaves, fill_leaves, is_word, walks_elsewhere, walks_unowned}
 use Rattle.mmu_core.proofs.SlotFields.{is_number}
-use Rattle.mmu_core.proofs.TreeKept.{found_live, looked_word, run_lowest}
+use Rattle.mmu_core.proofs.TreeKept.{leaf_is, found_live, looked_word, run_lowest}
 use Rattle.mmu_core.proofs.TreeStored.{entry_stored}
 use Rattle.core_views.specs.declared.topics.Stay.{Stay}
 
@@ -201,10 +201,10 @@ module _ (z : Sizes) (w : World Held) (a gfn note : ℕ) (write : Bool) (p : Fau
   index = entry_index gfn t.walk.level
 
   -- the entry that is next is absent, a link, or a leaf of the lowest level
-  entry_is : 1 ≤ t.walk.level → EntryPart (words area.Pool) (words area.Host) (words area.Slots 0) R.sound.topics.up page (at t.walk.level t.walk.prefix) index (words area.Pool (pool_index page index))
+  entry_is : 1 ≤ t.walk.level → EntryPart R.sound.topics.up page (at t.walk.level t.walk.prefix) index (words area.Pool (pool_index page index))
   entry_is from = R.sound.topics.tree.entries page (at t.walk.level t.walk.prefix) ((R.sound.topics.held a R.there).table from) index (omega arith)
 
-  kinds : EntryPart (words area.Pool) (words area.Host) (words area.Slots 0) R.sound.topics.up page (at t.walk.level t.walk.prefix) index (words area.Pool (pool_index page index))
+  kinds : EntryPart R.sound.topics.up page (at t.walk.level t.walk.prefix) index (words area.Pool (pool_index page index))
       → ((kind_of t.walk.level (words area.Pool (pool_index page index)) ≡ entry_kind.Leaf) → t.walk.level ≡ 1) × ((kind_of t.walk.level (words area.Pool (pool_index page index))) ≢ entry_kind.Frozen)
   kinds (inl e) =
       let none : kind_of t.walk.level (words area.Pool (pool_index page index)) ≡ entry_kind.Absent = ap (kind_of t.walk.level) e ∙ kind_of_absent t.walk.level in
@@ -214,12 +214,7 @@ module _ (z : Sizes) (w : World Held) (a gfn note : ℕ) (write : Bool) (p : Fau
       let low = (R.sound.topics.tree.there L.page _ (link_stands R.sound.topics.tree page (at t.walk.level t.walk.prefix) index (words area.Pool (pool_index page index)) ((R.sound.topics.held a R.there).table (let upper = L.upper in omega (arith, upper))) L)).0 in
       let links : kind_of t.walk.level (words area.Pool (pool_index page index)) ≡ entry_kind.Table L.page = ap (kind_of t.walk.level) L.is ∙ kind_of_table t.walk.level L.page L.upper (omega (arith, low, most)) in
       (λ leaf. absurd (cc (links, leaf)), λ frozen. cc (links, frozen))
-  kinds (inr (inr L)) =
-      let word : ℕ = words area.Host (page_of L.slot (t.walk.prefix * 512 + index)) in
-      let one : t.walk.level ≡ 1 = L.lowest in
-      let leaf : kind_of t.walk.level (words area.Pool (pool_index page index)) ≡ entry_kind.Leaf =
-      ap (kind_of t.walk.level) L.is ∙ ap (λ l. kind_of l (leaf_of L.slot word)) one ∙ kind_of_leaf 1 (host_frame word) (may_write L.slot word) (host_allows_write word) (may_write L.slot word) (omega arith) (omega arith) in
-      (λ is. one, λ frozen. cc (leaf, frozen))
+  kinds (inr (inr L)) = let leaf = L.leaf in (λ is. L.lowest, λ frozen. cc (leaf, frozen))
 
   -- where the walk's table stands
   stands_over : IsOver gfn t.walk → stands R.sound.topics.up R.sound.topics.spot page ≡ Some (at t.walk.level (gfn / level_span t.walk.level / 512))
@@ -249,9 +244,6 @@ module _ (z : Sizes) (w : World Held) (a gfn note : ℕ) (write : Bool) (p : Fau
   leafed = words_after (part_task (part.Leaf gfn) a t note) words area.Pool
 
   module _ (E : Entering gfn write t) (saw : SawEntry gfn t.walk) (low : t.walk.level ≡ 1) (stands : EntryStands (words area.Pool) gfn t) where
-    found_live_slot : IsLiveIn (words area.Pool) (words area.Slots 0) (t.search.id - 1) t.search.slot
-    found_live_slot = found_live z (view z w) a gfn R.there R.sound.topics E.sharing.looked.looked_up.found
-
     stored : leafed ≡ upd (words area.Pool) (pool_index page index) (leaf_written t)
     stored = ap (λ (b : Bool). upd (words area.Pool) (pool_index page index) (if b then leaf_written t else words area.Pool (pool_index page index))) (is_it (words area.Pool (pool_index page index)) t.walk.entry stands)
 
@@ -260,21 +252,12 @@ module _ (z : Sizes) (w : World Held) (a gfn note : ℕ) (write : Bool) (p : Fau
       each = λ id f small live. let low_field = is_number f in entry_leaves gfn (leaf_written t) note t.walk words (words area.Slots 0) (4 * id + field_number f) (omega (arith, small, low_field)) (walks_elsewhere z (view z w) a R.there R.sound.topics saw.over.there);
     }
 
-    is_leaf : IsLeafAt (upd (words area.Pool) (pool_index page index) (leaf_written t)) (words area.Host) (words area.Slots 0) (at t.walk.level t.walk.prefix) index (leaf_written t)
-    is_leaf =
-        let own : t.walk.prefix * 512 + index ≡ gfn = run_lowest gfn t.walk.level t.walk.prefix low saw.over.run in
-        record {
-          lowest = low;
-          id = t.search.id - 1;
-          slot = t.search.slot;
-          live = live_in_stays (words area.Slots 0) (words area.Pool) (upd (words area.Pool) (pool_index page index) (leaf_written t)) (t.search.id - 1) t.search.slot (subst (LiveStays (words area.Slots 0) (words area.Pool)) stored slots_stay) found_live_slot;
-          holds = ap (λ n. contains n t.search.slot) own ∙ E.sharing.looked.looked_up.found.holds;
-          is = ap (leaf_of t.search.slot) (looked_word z (view z w) a gfn R.there R.sound.topics E.sharing.looked.looked_up ∙ ap (λ n. words area.Host (page_of t.search.slot n)) (sym own));
-        }
+    is_leaf : IsLeafAt (at t.walk.level t.walk.prefix) (leaf_written t)
+    is_leaf = record { lowest = low; leaf = leaf_is t low }
 
-    tree_leafed : TreePart z.pool (words area.Root 0) (words area.Slots 0) (words area.Role) leafed (words area.Host) R.sound.topics.up R.sound.topics.spot
+    tree_leafed : TreePart z.pool (words area.Root 0) (words area.Slots 0) (words area.Role) leafed R.sound.topics.up R.sound.topics.spot
     tree_leafed =
-        subst (λ (pool : ℕ → ℕ). TreePart z.pool (words area.Root 0) (words area.Slots 0) (words area.Role) pool (words area.Host) R.sound.topics.up R.sound.topics.spot) (sym stored)
+        subst (λ (pool : ℕ → ℕ). TreePart z.pool (words area.Root 0) (words area.Slots 0) (words area.Role) pool R.sound.topics.up R.sound.topics.spot) (sym stored)
         (entry_stored R.sound.topics.tree page (at t.walk.level t.walk.prefix) index (leaf_written t)
         ((R.sound.topics.held a R.there).table saw.over.there) (omega arith)
         (record { entry = inr (inr is_leaf); no_link = inl low })

@@ -27,7 +27,7 @@ same_page e = cc e
 pub run_above : (gfn level : ℕ) → 1 ≤ level → gfn / level_span level / 512 ≡ gfn / level_span (level + 1)
 run_above gfn level from = div-div-eq-div-mul gfn (level_span level) 512 ∙ ap (λ n. gfn / n) (let up = span_above level from in omega (arith, up))
 
-module _ {pages root set : ℕ} {role pool host : ℕ → ℕ} {up : ℕ → Use} {spot : ℕ → Position} (T : TreePart pages root set role pool host up spot) (few : pages ≤ 2 ^ 32) (gfn entry : ℕ) where
+module _ {pages root set : ℕ} {role pool : ℕ → ℕ} {up : ℕ → Use} {spot : ℕ → Position} (T : TreePart pages root set role pool up spot) (few : pages ≤ 2 ^ 32) (gfn entry : ℕ) where
   -- Behind a link of a table stands a table, one level below, at the run of this entry.
   pub below_stands : (level prefix page below : ℕ) → stands up spot page ≡ Some (at (suc (suc level)) prefix) → linked_page (kind_of (suc (suc level)) (pool (pool_index page (entry_index gfn (suc (suc level)))))) ≡ Some below
       → stands up spot below ≡ Some (at (suc level) (prefix * 512 + entry_index gfn (suc (suc level))))
@@ -39,7 +39,7 @@ module _ {pages root set : ℕ} {role pool host : ℕ → ℕ} {up : ℕ → Use
       word : ℕ
       word = pool (pool_index page j)
 
-      by : EntryPart pool host set up page (at (suc (suc level)) prefix) j word → stands up spot below ≡ Some (at (suc level) (prefix * 512 + j))
+      by : EntryPart up page (at (suc (suc level)) prefix) j word → stands up spot below ≡ Some (at (suc level) (prefix * 512 + j))
       by (inl e) = let none : linked_page (kind_of (suc (suc level)) word) ≡ None = ap (λ n. linked_page (kind_of (suc (suc level)) n)) e ∙ ap (λ (k : SpteKind). linked_page k) (kind_of_absent (suc (suc level))) in absurd (cc (none, link))
       by (inr (inl L)) =
           let stands_there = link_stands T page (at (suc (suc level)) prefix) j word at_page L in

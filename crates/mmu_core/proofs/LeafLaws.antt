@@ -32,8 +32,8 @@ use Rattle.part_steps.specs.PartSteps.{IsOver, entry_index, table_page}
 use Rattle.part_steps.specs.SlotWords.{may_write, page_of, slot_at, slots_below}
 use Rattle.part_steps.specs.TopicSteps.{linked_page}
 use Rattle.mmu_core.specs.TreePart.{EntryPart, Position, TreePart, Use, at, stands}
-use Rattle.mmu_core.specs.View.{word_in}
-use Rattle.mmu_core.proofs.CachedKept.{leaf_at}
+use Rattle.mmu_core.specs.View.{view, word_in}
+use Rattle.mmu_core.proofs.LeavesOver.{leaf_for}
 use Rattle.mmu_core.proofs.TreePlaces.{root_stands}
 use Rattle.mmu_core.proofs.LeadsDown.{below_stands, leads_down, run_above}
 use Rattle.mmu_core.proofs.PageFound.{frame_of_host, page_in_machine}
@@ -82,7 +82,7 @@ leaf_agrees z set role pool host gfn leaf sizes hosts P L = record {
 
 -- ---- where links lead
 
-module _ {pages root set : ℕ} {role pool host : ℕ → ℕ} {up : ℕ → Use} {spot : ℕ → Position} (T : TreePart pages root set role pool host up spot) (few : pages ≤ 2 ^ 32) (gfn entry : ℕ) where
+module _ {pages root set : ℕ} {role pool : ℕ → ℕ} {up : ℕ → Use} {spot : ℕ → Position} (T : TreePart pages root set role pool up spot) (few : pages ≤ 2 ^ 32) (gfn entry : ℕ) where
   -- Behind a link of a table over the guest frame stands a table over it, one level below.
   one_below : (level page below : ℕ) → stands up spot page ≡ Some (at (suc (suc level)) (gfn / level_span (suc (suc level)) / 512))
       → linked_page (kind_of (suc (suc level)) (pool (pool_index page (entry_index gfn (suc (suc level)))))) ≡ Some below → stands up spot below ≡ Some (at (suc level) (gfn / level_span (suc level) / 512))
@@ -107,17 +107,10 @@ module _ {pages root set : ℕ} {role pool host : ℕ → ℕ} {up : ℕ → Use
 -- A leaf of such a table is the guest frame's.
 standing_leaf : (z : Sizes) (w : World Held) (gfn entry low : ℕ) (sound : IsSound z w) → stands sound.topics.up sound.topics.spot low ≡ Some (at 1 (gfn / level_span 1 / 512)) → word_in z w area.Pool (pool_index low (entry_index gfn 1)) ≡ entry
     → kind_of 1 entry ≡ entry_kind.Leaf → IsLeafFor (word_in z w area.Pool) (word_in z w area.Host) (word_in z w area.Slots 0) gfn entry
-standing_leaf z w gfn entry low sound at_low is leaf = by (sound.topics.tree.entries low (at 1 (gfn / level_span 1 / 512)) at_low (entry_index gfn 1) (omega arith))
-  where
-    pool : ℕ → ℕ
-    pool = word_in z w area.Pool
-
-    by : EntryPart pool (word_in z w area.Host) (word_in z w area.Slots 0) sound.topics.up low (at 1 (gfn / level_span 1 / 512)) (entry_index gfn 1) (pool (pool_index low (entry_index gfn 1))) → IsLeafFor pool (word_in z w area.Host) (word_in z w area.Slots 0) gfn entry
-    by (inl e) = let none : kind_of 1 entry ≡ entry_kind.Absent = ap (kind_of 1) (sym is ∙ e) ∙ kind_of_absent 1 in absurd (cc (none, leaf))
-    by (inr (inl L)) = absurd (let upper : 2 ≤ 1 = L.upper in omega (arith, upper))
-    by (inr (inr L)) =
-        subst (IsLeafFor pool (word_in z w area.Host) (word_in z w area.Slots 0) gfn) is
-        (leaf_at pool (word_in z w area.Host) (word_in z w area.Slots 0) gfn 1 (gfn / level_span 1 / 512) (pool (pool_index low (entry_index gfn 1))) refl L).1
+standing_leaf z w gfn entry low sound at_low is leaf =
+    let P = sound.topics in
+    subst (IsLeafFor (word_in z w area.Pool) (word_in z w area.Host) (word_in z w area.Slots 0) gfn) is
+    (leaf_for z (view z w) P low 1 (gfn / level_span 1 / 512) (entry_index gfn 1) gfn at_low (omega arith) (omega arith) (ap (kind_of 1) is ∙ leaf)).1
 
 pub leaves_agree : (z : Sizes) (w : World Held) (gfn entry : ℕ) → IsSound z w → gfn < 2 ^ 36 → LeadsTo (word_in z w area.Pool) 4 (word_in z w area.Root 0) gfn entry → kind_of 1 entry ≡ entry_kind.Leaf
     → LeafAgrees (word_in z w area.Slots 0) (word_in z w area.Pool) (word_in z w area.Host) gfn entry

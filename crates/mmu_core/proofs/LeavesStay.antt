@@ -40,7 +40,7 @@ use Rattle.mmu_core.specs.TreePart.{EntryPart, IsLiveIn, Position, TreePart, at,
 use Rattle.mmu_core.proofs.TreePlaces.{root_stands}
 use Rattle.mmu_core.specs.View.{View, part_stepped, stepped, upd, view, word_in, words_after}
 use Rattle.mmu_core.proofs.AccessParts.{AreSmall, makes_parts, makes_setting}
-use Rattle.mmu_core.proofs.CachedKept.{leaf_at}
+use Rattle.mmu_core.proofs.LeavesOver.{leaf_for}
 use Rattle.mmu_core.proofs.Columns.{same_or, upd_other, upd_same}
 use Rattle.mmu_core.proofs.LeadsDown.{below_stands}
 use Rattle.mmu_core.proofs.LiveStays.{behind_access}
@@ -63,7 +63,7 @@ pub record LinksStay (stands : ℕ → Option Position) (before after : Area →
 
 -- ---- where links lead
 
-module _ {pages root set : ℕ} {role before host : ℕ → ℕ} {up : ℕ → Use} {spot : ℕ → Position} (T : TreePart pages root set role before host up spot) (after : ℕ → ℕ) (few : pages ≤ 2 ^ 32) (stay : EntriesStay (stands up spot) before after) (gfn entry : ℕ) where
+module _ {pages root set : ℕ} {role before : ℕ → ℕ} {up : ℕ → Use} {spot : ℕ → Position} (T : TreePart pages root set role before up spot) (after : ℕ → ℕ) (few : pages ≤ 2 ^ 32) (stay : EntriesStay (stands up spot) before after) (gfn entry : ℕ) where
   lowest_stays : (prefix page : ℕ) → kind_of 1 entry ≡ entry_kind.Leaf → stands up spot page ≡ Some (at 1 prefix) → LeadsTo before 1 page gfn entry → LeadsTo after 1 page gfn entry
   lowest_stays prefix page leaf at_page leads = by (stay page (at 1 prefix) at_page (entry_index gfn 1) (omega arith))
     where
@@ -139,10 +139,10 @@ module _ (z : Sizes) (v : View) (a gfn : ℕ) (J : Invariant z v) (I : TopicsInv
   leaf_was : (S : IsPart z v a (part.Leaf gfn)) → (leaf_written t ≡ pool here) ⊎ (pool here ≡ absent_word)
   leaf_was S = by (I.tree.entries (table_page t.walk) (at t.walk.level t.walk.prefix) ((I.held a S.there).table S.needs.0.saw.over.there) index (omega arith))
     where
-      by : EntryPart pool (v.words area.Host) (v.words area.Slots 0) I.up (table_page t.walk) (at t.walk.level t.walk.prefix) index (pool here) → (leaf_written t ≡ pool here) ⊎ (pool here ≡ absent_word)
+      by : EntryPart I.up (table_page t.walk) (at t.walk.level t.walk.prefix) index (pool here) → (leaf_written t ≡ pool here) ⊎ (pool here ≡ absent_word)
       by (inl e) = inr e
       by (inr (inl L)) = absurd (let upper : 2 ≤ t.walk.level = L.upper in let lowest : t.walk.level ≡ 1 = S.needs.1 in omega (arith, upper, lowest))
-      by (inr (inr L)) = inl (same_leaf S (pool here) (leaf_at pool (v.words area.Host) (v.words area.Slots 0) gfn t.walk.level t.walk.prefix (pool here) S.needs.0.saw.over.run L).1)
+      by (inr (inr L)) = inl (same_leaf S (pool here) (leaf_for z v I (table_page t.walk) t.walk.level t.walk.prefix index gfn ((I.held a S.there).table S.needs.0.saw.over.there) (omega arith) (let run = S.needs.0.saw.over.run in omega (arith, run)) L.leaf).1)
 
 -- a step of a part
 part_entries_stay : (z : Sizes) (v : View) (a : ℕ) (step : PartStep) (note : ℕ) → IsPart z v a step → Invariant z v → (I : TopicsInvariant z v) → EntriesStay (stands I.up I.spot) (v.words area.Pool) ((part_stepped a step note v).words area.Pool)

@@ -106,6 +106,8 @@ pub mod TreePlaces
 pub mod TreeStored
 pub mod UsesStay
 pub mod TreeKept
+pub mod AllOver
+pub mod LeavesOver
 pub mod SearchKept
 pub mod FaultSame
 pub mod FaultNeeds

@@ -16,6 +16,7 @@ same_topics z lock root slots seq states map host role pool hand other same I = 
   states_part = subst (λ (t : ℕ → Topics). StatesPart (actors_of z) states (λ i. (t i).stay)) (sym same) I.states_part;
   uses = subst (λ (t : ℕ → Topics). UsePart (actors_of z) z.pool slots map (λ i. (t i).owned) (λ i. (t i).leaving) I.up) (sym same) I.uses;
   tree = I.tree;
+  leaves = I.leaves;
   filled = subst (λ (t : ℕ → Topics). FilledPart (actors_of z) role pool (λ i. (t i).owned)) (sym same) I.filled;
   held = subst (λ (t : ℕ → Topics). (i : ℕ) → i < actors_of z → HeldPart (stands I.up I.spot) (t i)) (sym same) I.held;
   paths = subst (λ (t : ℕ → Topics). (i : ℕ) → i < actors_of z → PathPart (stands I.up I.spot) (t i).walk) (sym same) I.paths;

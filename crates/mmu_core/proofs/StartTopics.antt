@@ -10,7 +10,8 @@ use Rattle.core_views.specs.Held.{Held, first_topics}
 use Rattle.core_views.specs.Sizes.{actors_of}
 use Rattle.spte_words.specs.declared.area.Area.TheVariants as area
 use Rattle.spte_words.specs.Areas.{pool_index}
-use Rattle.spte_words.specs.Entries.{absent_word}
+use Rattle.spte_words.specs.Entries.{absent_word, kind_of}
+use Rattle.spte_words.proofs.ReadsEntries.{kind_of_absent}
 use Rattle.mmu_core.specs.LockPart.{SawWriter}
 use Rattle.mmu_core.specs.Enabled.{mmu}
 use Rattle.part_steps.specs.PartBounds.{CountersPart}
@@ -163,8 +164,8 @@ unfolding absent_word
 absent_is = refl
 
 -- The root has the role of level 4, and absent entries.
-tree_start : (z : Sizes) (lines : List Line) (w : World Held) → IsStart z lines w → TreePart z.pool (word_in z w area.Root 0) (word_in z w area.Slots 0) (word_in z w area.Role) (word_in z w area.Pool) (word_in z w area.Host) (start_up z.pool) start_spot
-tree_start z lines w start = subst (λ r. TreePart z.pool r (word_in z w area.Slots 0) (word_in z w area.Role) (word_in z w area.Pool) (word_in z w area.Host) (start_up z.pool) start_spot) (sym (root_start z lines w start)) (record {
+tree_start : (z : Sizes) (lines : List Line) (w : World Held) → IsStart z lines w → TreePart z.pool (word_in z w area.Root 0) (word_in z w area.Slots 0) (word_in z w area.Role) (word_in z w area.Pool) (start_up z.pool) start_spot
+tree_start z lines w start = subst (λ r. TreePart z.pool r (word_in z w area.Slots 0) (word_in z w area.Role) (word_in z w area.Pool) (start_up z.pool) start_spot) (sym (root_start z lines w start)) (record {
   top = refl;
   only = λ k is. only_zero z.pool k is;
   top_at = refl;
@@ -206,6 +207,7 @@ start_topics z lines w start = record {
   uses = uses_start z lines w start;
   filled = λ i o lt is. absurd (owns_none z lines w i o start lt is);
   tree = tree_start z lines w start;
+  leaves = λ table entry gfn R O leaf. absurd (let none = ap (kind_of (start_spot table).level) (pool_word z w (pool_index table entry) start.words ∙ absent_is) ∙ kind_of_absent (start_spot table).level in cc (none, leaf));
   held = λ i lt. subst (HeldPart (stands (start_up z.pool) start_spot)) (sym (topics_are z lines w i start lt)) (held_first (stands (start_up z.pool) start_spot));
   paths = λ i lt. subst (λ (t : Topics). PathPart (stands (start_up z.pool) start_spot) t.walk) (sym (topics_are z lines w i start lt)) (λ level from above most. absurd (omega (arith, from)));
   sets = λ i k lt is. absurd (holds_none z lines w i k start lt is);

@@ -29,6 +29,7 @@ use Rattle.mmu_core.proofs.FilledKept.{filled_kept}
 use Rattle.mmu_core.proofs.HeldKept.{counters_kept, held_kept}
 use Rattle.mmu_core.proofs.LiveStays.{MakesParts}
 use Rattle.mmu_core.proofs.LockKept.{lock_kept}
+use Rattle.mmu_core.proofs.LeavesOver.{leaves_kept}
 use Rattle.mmu_core.proofs.Paths.{paths_kept}
 use Rattle.mmu_core.proofs.PoolKept.{uses_kept}
 use Rattle.mmu_core.proofs.SameTopics.{same_topics}
@@ -53,6 +54,7 @@ topics_part_kept z v a step note S I = record {
   saw_writer = saw_kept z v a step note S I;
   states_part = states_kept z v a step note S I;
   uses = uses_kept z v a step note S I;
+  leaves = leaves_kept z v a step note S I;
   filled = filled_kept z v a step note S I;
   tree = tree_kept z v a step note S I;
   held = held_kept z v a step note S I;

@@ -10,7 +10,9 @@ use Rattle.spte_words.specs.declared.area.Area.TheVariants as area
 use Rattle.spte_words.specs.declared.spte_kind.SpteKind.TheVariants as entry_kind
 use Rattle.spte_words.specs.Areas.{pool_index}
 use Rattle.spte_words.specs.Entries.{absent_word, kind_of, level_span}
-use Rattle.spte_words.proofs.ReadsEntries.{kind_of_table}
+use Rattle.spte_words.proofs.ReadsEntries.{kind_of_leaf, kind_of_table}
+use Rattle.spte_words.specs.HostWords.{host_allows_write, host_frame}
+use Rattle.part_steps.specs.SlotWords.{may_write}
 use Rattle.spte_words.proofs.Spans.{span_1, span_above}
 use Rattle.part_steps.specs.declared.part_step.PartStep.{PartStep}
 use Rattle.part_steps.specs.declared.part_step.PartStep.TheVariants as part
@@ -63,12 +65,18 @@ found_live z v a gfn lt I found =
 pub looked_word : (z : Sizes) (v : View) (a gfn : ℕ) → a < actors_of z → TopicsInvariant z v → LookedUp gfn (v.hand a).topics → word_looked (v.hand a).topics.host ≡ v.words area.Host (page_of (v.hand a).topics.search.slot gfn)
 looked_word z v a gfn lt I L = ap word_looked L.host ∙ (I.looks a lt).is (record { page = page_of (v.hand a).topics.search.slot gfn; word = L.word }) L.host
 
+-- What a fault puts into a table of the lowest level is a leaf.
+pub leaf_is : (t : Topics) → t.walk.level ≡ 1 → kind_of t.walk.level (leaf_written t) ≡ entry_kind.Leaf
+leaf_is t lowest =
+    let word : ℕ = word_looked t.host in
+    ap (λ l. kind_of l (leaf_written t)) lowest ∙ kind_of_leaf 1 (host_frame word) (may_write t.search.slot word) (host_allows_write word) (may_write t.search.slot word) (omega arith) (omega arith)
+
 -- An entry above the lowest level whose kind is absent is the absent word.
-pub absent_entry : {pages root set : ℕ} {role pool host : ℕ → ℕ} {up : ℕ → Use} {spot : ℕ → Position} (T : TreePart pages root set role pool host up spot) (k level prefix j : ℕ) → stands up spot k ≡ Some (at level prefix) → j < 512 → 2 ≤ level → pages < 2 ^ 32
+pub absent_entry : {pages root set : ℕ} {role pool : ℕ → ℕ} {up : ℕ → Use} {spot : ℕ → Position} (T : TreePart pages root set role pool up spot) (k level prefix j : ℕ) → stands up spot k ≡ Some (at level prefix) → j < 512 → 2 ≤ level → pages < 2 ^ 32
     → kind_of level (pool (pool_index k j)) ≡ entry_kind.Absent → pool (pool_index k j) ≡ absent_word
-absent_entry {pages} {root} {set} {role} {pool} {host} {up} {spot} T k level prefix j at_k low upper few kind = by (T.entries k (at level prefix) at_k j low)
+absent_entry {pages} {root} {set} {role} {pool} {up} {spot} T k level prefix j at_k low upper few kind = by (T.entries k (at level prefix) at_k j low)
   where
-    by : EntryPart pool host set up k (at level prefix) j (pool (pool_index k j)) → pool (pool_index k j) ≡ absent_word
+    by : EntryPart up k (at level prefix) j (pool (pool_index k j)) → pool (pool_index k j) ≡ absent_word
     by (inl e) = e
     by (inr (inl L)) =
         let there = T.there L.page (at (level - 1) (prefix * 512 + j)) (link_stands T k (at level prefix) j (pool (pool_index k j)) at_k L) in
@@ -78,7 +86,7 @@ absent_entry {pages} {root} {set} {role} {pool} {host} {up} {spot} T k level pre
 
 -- Where the step stores in no table, all tables stay.
 stay : (z : Sizes) (v : View) (a : ℕ) (step : PartStep) (note : ℕ) → IsPart z v a step → (I : TopicsInvariant z v) → is_link step ≡ false → ((k : ℕ) (p : Position) → stands I.up I.spot k ≡ Some p → IsElsewhere step (v.hand a).topics k)
-    → TreePart z.pool (v.words area.Root 0) (v.words area.Slots 0) ((part_stepped a step note v).words area.Role) ((part_stepped a step note v).words area.Pool) (v.words area.Host) (up_after step a (v.hand a).topics v I.up) I.spot
+    → TreePart z.pool (v.words area.Root 0) (v.words area.Slots 0) ((part_stepped a step note v).words area.Role) ((part_stepped a step note v).words area.Pool) (up_after step a (v.hand a).topics v I.up) I.spot
 stay z v a step note S I never elsewhere =
     let same = same_tables z v a step S I never in
     let after : ℕ → Use = up_after step a (v.hand a).topics v I.up in
@@ -86,8 +94,8 @@ stay z v a step note S I never elsewhere =
     (λ k p is. inl (stood_same I.up after I.spot same k p is)) (λ k p is. role_stays z v a step note S k (elsewhere k p is)) (λ k p is j low. inl (page_stays z v a step note S k (elsewhere k p is) j low)) (part_live_stays z v a step note S I)
 
 -- An exchange that was lost leaves the pool.
-lost : {pages root set : ℕ} {role pool host : ℕ → ℕ} {up : ℕ → Use} {spot : ℕ → Position} (i : ℕ) → TreePart pages root set role pool host up spot → TreePart pages root set role (upd pool i (pool i)) host up spot
-lost {pages} {root} {set} {role} {pool} {host} {up} {spot} i T = subst (λ (words : ℕ → ℕ). TreePart pages root set role words host up spot) (sym (upd_id pool i)) T
+lost : {pages root set : ℕ} {role pool : ℕ → ℕ} {up : ℕ → Use} {spot : ℕ → Position} (i : ℕ) → TreePart pages root set role pool up spot → TreePart pages root set role (upd pool i (pool i)) up spot
+lost {pages} {root} {set} {role} {pool} {up} {spot} i T = subst (λ (words : ℕ → ℕ). TreePart pages root set role words up spot) (sym (upd_id pool i)) T
 
 module _ (z : Sizes) (v : View) (a gfn note : ℕ) (I : TopicsInvariant z v) where
   abbrev t : Topics
@@ -104,7 +112,7 @@ module _ (z : Sizes) (v : View) (a gfn note : ℕ) (I : TopicsInvariant z v) whe
   exchanged won new_ = upd (v.words area.Pool) here (if won then new_ else entry_now gfn t v)
 
   linked : (S : IsPart z v a (part.Link gfn)) (won : Bool) → (entry_now gfn t v == t.walk.entry) ≡ won → LiveStays (v.words area.Slots 0) (v.words area.Pool) (exchanged won (link_written t))
-      → TreePart z.pool (v.words area.Root 0) (v.words area.Slots 0) (v.words area.Role) (exchanged won (link_written t)) (v.words area.Host) (upd_if won I.up (page_owned t.owned) (Under (table_page t.walk) index)) (upd_if won I.spot (page_owned t.owned) (position_below gfn t))
+      → TreePart z.pool (v.words area.Root 0) (v.words area.Slots 0) (v.words area.Role) (exchanged won (link_written t)) (upd_if won I.up (page_owned t.owned) (Under (table_page t.walk) index)) (upd_if won I.spot (page_owned t.owned) (position_below gfn t))
   linked S false is live = lost here I.tree
   linked S true is live =
       table_linked I.tree (table_page t.walk) t.walk.level t.walk.prefix index (page_owned t.owned) ((I.held a S.there).table may.saw.over.there) S.needs.1 (omega arith) absent
@@ -133,7 +141,7 @@ module _ (z : Sizes) (v : View) (a gfn note : ℕ) (I : TopicsInvariant z v) whe
       filled = I.filled a owns.owned S.there owns.is
 
   leafed : (S : IsPart z v a (part.Leaf gfn)) (won : Bool) → LiveStays (v.words area.Slots 0) (v.words area.Pool) (exchanged won (leaf_written t))
-      → TreePart z.pool (v.words area.Root 0) (v.words area.Slots 0) (v.words area.Role) (exchanged won (leaf_written t)) (v.words area.Host) I.up I.spot
+      → TreePart z.pool (v.words area.Root 0) (v.words area.Slots 0) (v.words area.Role) (exchanged won (leaf_written t)) I.up I.spot
   leafed S false live = lost here I.tree
   leafed S true live =
       entry_stored I.tree (table_page t.walk) (at t.walk.level t.walk.prefix) index (leaf_written t)
@@ -144,22 +152,12 @@ module _ (z : Sizes) (v : View) (a gfn note : ℕ) (I : TopicsInvariant z v) whe
       may : MayEnter gfn t
       may = S.needs.0
 
-      own : t.walk.prefix * 512 + index ≡ gfn
-      own = run_lowest gfn t.walk.level t.walk.prefix S.needs.1 may.saw.over.run
-
-      leaf : IsLeafAt (exchanged true (leaf_written t)) (v.words area.Host) (v.words area.Slots 0) (at t.walk.level t.walk.prefix) index (leaf_written t)
-      leaf = record {
-        lowest = S.needs.1;
-        id = t.search.id - 1;
-        slot = t.search.slot;
-        live = live_in_stays (v.words area.Slots 0) (v.words area.Pool) (exchanged true (leaf_written t)) (t.search.id - 1) t.search.slot live (found_live z v a gfn S.there I may.looked_up.found);
-        holds = ap (λ n. contains n t.search.slot) own ∙ may.looked_up.found.holds;
-        is = ap (leaf_of t.search.slot) (looked_word z v a gfn S.there I may.looked_up ∙ ap (λ n. v.words area.Host (page_of t.search.slot n)) (sym own));
-      }
+      leaf : IsLeafAt (at t.walk.level t.walk.prefix) (leaf_written t)
+      leaf = record { lowest = S.needs.1; leaf = leaf_is t S.needs.1 }
 
 -- What the tables are behind each step; the root, the published set and the host's words stay.
 tree_behind : (z : Sizes) (v : View) (a : ℕ) (step : PartStep) (note : ℕ) → IsPart z v a step → (I : TopicsInvariant z v)
-    → TreePart z.pool (v.words area.Root 0) (v.words area.Slots 0) ((part_stepped a step note v).words area.Role) ((part_stepped a step note v).words area.Pool) (v.words area.Host) (up_after step a (v.hand a).topics v I.up) (spot_after step (v.hand a).topics v I.spot)
+    → TreePart z.pool (v.words area.Root 0) (v.words area.Slots 0) ((part_stepped a step note v).words area.Role) ((part_stepped a step note v).words area.Pool) (up_after step a (v.hand a).topics v I.up) (spot_after step (v.hand a).topics v I.spot)
 tree_behind z v a (part.Link gfn) note S I = linked z v a gfn note I S (entry_now gfn (v.hand a).topics v == (v.hand a).topics.walk.entry) refl (part_live_stays z v a (part.Link gfn) note S I)
 tree_behind z v a (part.Leaf gfn) note S I = leafed z v a gfn note I S (entry_now gfn (v.hand a).topics v == (v.hand a).topics.walk.entry) (part_live_stays z v a (part.Leaf gfn) note S I)
 tree_behind z v a (part.Fill value) note S I =
@@ -170,42 +168,36 @@ tree_behind z v a part.Clear note S I =
 tree_behind z v a step note S I = stay z v a step note S I refl (λ k p is. tt)
 
 -- A slot set is published that has each slot of the one before it.
-tree_republished : {pages root set : ℕ} {role pool host : ℕ → ℕ} {up : ℕ → Use} {spot : ℕ → Position} (other : ℕ) → StayLive pool set pool other → TreePart pages root set role pool host up spot → TreePart pages root other role pool host up spot
-tree_republished {pages} {root} {set} {role} {pool} {host} {up} {spot} other stay T = record {
+tree_republished : {pages root set : ℕ} {role pool : ℕ → ℕ} {up : ℕ → Use} {spot : ℕ → Position} (other : ℕ) → StayLive pool set pool other → TreePart pages root set role pool up spot → TreePart pages root other role pool up spot
+tree_republished {pages} {root} {set} {role} {pool} {up} {spot} other stay T = record {
   top = T.top;
   only = T.only;
   top_at = T.top_at;
   under = T.under;
   there = T.there;
   roles = T.roles;
-  entries = λ k p is j low. entry k p j (pool (pool_index k j)) (T.entries k p is j low);
+  entries = T.entries;
   wanted = λ k p is. want k p (T.wanted k p is);
 }
   where
-    entry : (k : ℕ) (p : Position) (j w : ℕ) → EntryPart pool host set up k p j w → EntryPart pool host other up k p j w
-    entry k p j w (inl e) = inl e
-    entry k p j w (inr (inl L)) = inr (inl L)
-    entry k p j w (inr (inr L)) = inr (inr (record { lowest = L.lowest; id = L.id; slot = L.slot; live = stay L.id L.slot L.live; holds = L.holds; is = L.is }))
-
     want : (k : ℕ) (p : Position) → (k ≡ root) ⊎ IsWanted pool set p → (k ≡ root) ⊎ IsWanted pool other p
     want k p (inl e) = inl e
     want k p (inr W) = inr (record { gfn = W.gfn; id = W.id; slot = W.slot; live = stay W.id W.slot W.live; holds = W.holds; run = W.run })
 
 -- What the tables are of the set that is published behind each step.
 tree_set : (z : Sizes) (v : View) (a : ℕ) (step : PartStep) (note : ℕ) → IsPart z v a step → (I : TopicsInvariant z v)
-    → TreePart z.pool (v.words area.Root 0) (slots_behind step (v.hand a).topics (v.words area.Slots 0)) ((part_stepped a step note v).words area.Role) ((part_stepped a step note v).words area.Pool) (v.words area.Host) (up_after step a (v.hand a).topics v I.up) (spot_after step (v.hand a).topics v I.spot)
+    → TreePart z.pool (v.words area.Root 0) (slots_behind step (v.hand a).topics (v.words area.Slots 0)) ((part_stepped a step note v).words area.Role) ((part_stepped a step note v).words area.Pool) (up_after step a (v.hand a).topics v I.up) (spot_after step (v.hand a).topics v I.spot)
 tree_set z v a part.Publish note S I = tree_republished (page_owned (v.hand a).topics.owned) S.replaces (tree_behind z v a part.Publish note S I)
 tree_set z v a step note S I = tree_behind z v a step note S I
 
 -- Each step of a part keeps what the tables are.
 pub tree_kept : (z : Sizes) (v : View) (a : ℕ) (step : PartStep) (note : ℕ) → IsPart z v a step → (I : TopicsInvariant z v)
-    → TreePart z.pool ((part_stepped a step note v).words area.Root 0) ((part_stepped a step note v).words area.Slots 0) ((part_stepped a step note v).words area.Role) ((part_stepped a step note v).words area.Pool) ((part_stepped a step note v).words area.Host)
+    → TreePart z.pool ((part_stepped a step note v).words area.Root 0) ((part_stepped a step note v).words area.Slots 0) ((part_stepped a step note v).words area.Role) ((part_stepped a step note v).words area.Pool)
     (up_after step a (v.hand a).topics v I.up) (spot_after step (v.hand a).topics v I.spot)
 tree_kept z v a step note S I =
     let w : View = part_stepped a step note v in
     let up : ℕ → Use = up_after step a (v.hand a).topics v I.up in
     let spot : ℕ → Position = spot_after step (v.hand a).topics v I.spot in
-    subst (λ (r : ℕ → ℕ). TreePart z.pool (r 0) (w.words area.Slots 0) (w.words area.Role) (w.words area.Pool) (w.words area.Host) up spot) (sym (areas_stay v a step note area.Root refl))
-    (subst (λ s. TreePart z.pool (v.words area.Root 0) s (w.words area.Role) (w.words area.Pool) (w.words area.Host) up spot) (sym (slots_are v a step note))
-    (subst (λ (host : ℕ → ℕ). TreePart z.pool (v.words area.Root 0) (slots_behind step (v.hand a).topics (v.words area.Slots 0)) (w.words area.Role) (w.words area.Pool) host up spot) (sym (areas_stay v a step note area.Host refl))
-    (tree_set z v a step note S I)))
+    subst (λ (r : ℕ → ℕ). TreePart z.pool (r 0) (w.words area.Slots 0) (w.words area.Role) (w.words area.Pool) up spot) (sym (areas_stay v a step note area.Root refl))
+    (subst (λ s. TreePart z.pool (v.words area.Root 0) s (w.words area.Role) (w.words area.Pool) up spot) (sym (slots_are v a step note))
+    (tree_set z v a step note S I))

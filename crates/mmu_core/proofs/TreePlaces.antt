@@ -19,7 +19,7 @@ pub record IsLinked (pool : ℕ → ℕ) (up : ℕ → Use) (spot : ℕ → Posi
   pub above : stands up spot parent ≡ Some (at (p.level + 1) (p.prefix / 512))
   pub link : pool (pool_index parent (p.prefix % 512)) ≡ table_word k
 
-module _ {pages root set : ℕ} {role pool host : ℕ → ℕ} {up : ℕ → Use} {spot : ℕ → Position} (T : TreePart pages root set role pool host up spot) where
+module _ {pages root set : ℕ} {role pool : ℕ → ℕ} {up : ℕ → Use} {spot : ℕ → Position} (T : TreePart pages root set role pool up spot) where
   pub root_stands : stands up spot root ≡ Some (at 4 0)
   root_stands = at_spot up spot root Root T.top refl ∙ ap Some T.top_at
 

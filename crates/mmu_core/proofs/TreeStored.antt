@@ -35,29 +35,25 @@ pub record IsNew (pages set : ℕ) (role pool : ℕ → ℕ) (up : ℕ → Use) 
   pub wanted : IsWanted pool set p
 
 -- What was stored in an entry makes it what it should be, and what was there was no link.
-pub record IsStored (pool host : ℕ → ℕ) (set : ℕ) (up : ℕ → Use) (k : ℕ) (p : Position) (j old new_ : ℕ) : Type 0 where
-  pub entry : EntryPart pool host set up k p j new_
+pub record IsStored (up : ℕ → Use) (k : ℕ) (p : Position) (j old new_ : ℕ) : Type 0 where
+  pub entry : EntryPart up k p j new_
   pub no_link : (p.level ≡ 1) ⊎ (old ≡ absent_word)
 
 -- What is said of an entry, and of a table, holds where the tables and the live slots stay.
 wanted_stays : (set : ℕ) (before after : ℕ → ℕ) (p : Position) → LiveStays set before after → IsWanted before set p → IsWanted after set p
 wanted_stays set before after p stays W = record { gfn = W.gfn; id = W.id; slot = W.slot; live = live_in_stays set before after W.id W.slot stays W.live; holds = W.holds; run = W.run }
 
-leaf_stays : (set : ℕ) (before after host : ℕ → ℕ) (p : Position) (j w : ℕ) → LiveStays set before after → IsLeafAt before host set p j w → IsLeafAt after host set p j w
-leaf_stays set before after host p j w stays L = record { lowest = L.lowest; id = L.id; slot = L.slot; live = live_in_stays set before after L.id L.slot stays L.live; holds = L.holds; is = L.is }
-
-entry_stays : (set : ℕ) (before after host : ℕ → ℕ) (up more : ℕ → Use) (spot place : ℕ → Position) (k : ℕ) (p : Position) (j w : ℕ) → TablesStay up more spot place → LiveStays set before after
-    → EntryPart before host set up k p j w → EntryPart after host set more k p j w
-entry_stays set before after host up more spot place k p j w S stays (inl e) = inl e
-entry_stays set before after host up more spot place k p j w S stays (inr (inl L)) = inr (inl (record { page = L.page; upper = L.upper; is = L.is; below = S.use_ L.page (ap is_table L.below) ∙ L.below }))
-entry_stays set before after host up more spot place k p j w S stays (inr (inr L)) = inr (inr (leaf_stays set before after host p j w stays L))
+entry_stays : (up more : ℕ → Use) (spot place : ℕ → Position) (k : ℕ) (p : Position) (j w : ℕ) → TablesStay up more spot place → EntryPart up k p j w → EntryPart more k p j w
+entry_stays up more spot place k p j w S (inl e) = inl e
+entry_stays up more spot place k p j w S (inr (inl L)) = inr (inl (record { page = L.page; upper = L.upper; is = L.is; below = S.use_ L.page (ap is_table L.below) ∙ L.below }))
+entry_stays up more spot place k p j w S (inr (inr L)) = inr (inr L)
 
 -- Tables are kept where each stays that stands, each other one is new, and each entry stays or is stored as it should be.
-module _ {pages root set : ℕ} {role pool host : ℕ → ℕ} {up : ℕ → Use} {spot : ℕ → Position} (T : TreePart pages root set role pool host up spot) (other after : ℕ → ℕ) (more : ℕ → Use) (place : ℕ → Position)
+module _ {pages root set : ℕ} {role pool : ℕ → ℕ} {up : ℕ → Use} {spot : ℕ → Position} (T : TreePart pages root set role pool up spot) (other after : ℕ → ℕ) (more : ℕ → Use) (place : ℕ → Position)
     (S : TablesStay up more spot place)
     (news : (k : ℕ) (p : Position) → stands more place k ≡ Some p → (stands up spot k ≡ Some p) ⊎ IsNew pages set other after more place k p)
     (roles : (k : ℕ) (p : Position) → stands up spot k ≡ Some p → other k ≡ role k)
-    (words : (k : ℕ) (p : Position) → stands up spot k ≡ Some p → (j : ℕ) → j < 512 → (after (pool_index k j) ≡ pool (pool_index k j)) ⊎ IsStored after host set more k p j (pool (pool_index k j)) (after (pool_index k j)))
+    (words : (k : ℕ) (p : Position) → stands up spot k ≡ Some p → (j : ℕ) → j < 512 → (after (pool_index k j) ≡ pool (pool_index k j)) ⊎ IsStored more k p j (pool (pool_index k j)) (after (pool_index k j)))
     (stays : LiveStays set pool after) where
   abbrev Now : ℕ → Position → Type 0
   Now k p = (stands up spot k ≡ Some p) ⊎ IsNew pages set other after more place k p
@@ -70,12 +66,12 @@ module _ {pages root set : ℕ} {role pool host : ℕ → ℕ} {up : ℕ → Use
   role_is k p (inl is) = roles k p is ∙ T.roles k p is
   role_is k p (inr N) = N.role_is
 
-  entry : (k : ℕ) (p : Position) (j : ℕ) → j < 512 → Now k p → EntryPart after host set more k p j (after (pool_index k j))
+  entry : (k : ℕ) (p : Position) (j : ℕ) → j < 512 → Now k p → EntryPart more k p j (after (pool_index k j))
   entry k p j low (inr N) = inl (N.absent j low)
   entry k p j low (inl is) = by (words k p is j low)
     where
-      by : (after (pool_index k j) ≡ pool (pool_index k j)) ⊎ IsStored after host set more k p j (pool (pool_index k j)) (after (pool_index k j)) → EntryPart after host set more k p j (after (pool_index k j))
-      by (inl same) = subst (EntryPart after host set more k p j) (sym same) (entry_stays set pool after host up more spot place k p j (pool (pool_index k j)) S stays (T.entries k p is j low))
+      by : (after (pool_index k j) ≡ pool (pool_index k j)) ⊎ IsStored more k p j (pool (pool_index k j)) (after (pool_index k j)) → EntryPart more k p j (after (pool_index k j))
+      by (inl same) = subst (EntryPart more k p j) (sym same) (entry_stays up more spot place k p j (pool (pool_index k j)) S (T.entries k p is j low))
       by (inr stored) = stored.entry
 
   still : (c : ℕ) (p : Position) (k j : ℕ) → 1 ≤ p.level → IsUnder pool up spot c p k j → IsUnder after more place c p k j
@@ -84,7 +80,7 @@ module _ {pages root set : ℕ} {role pool host : ℕ → ℕ} {up : ℕ → Use
       low : j < 512
       low = let index = V.index in omega (arith, index)
 
-      by : (after (pool_index k j) ≡ pool (pool_index k j)) ⊎ IsStored after host set more k (at (p.level + 1) (p.prefix / 512)) j (pool (pool_index k j)) (after (pool_index k j)) → after (pool_index k j) ≡ table_word c
+      by : (after (pool_index k j) ≡ pool (pool_index k j)) ⊎ IsStored more k (at (p.level + 1) (p.prefix / 512)) j (pool (pool_index k j)) (after (pool_index k j)) → after (pool_index k j) ≡ table_word c
       by (inl same) = same ∙ V.link
       by (inr stored) = none stored.no_link
         where
@@ -127,7 +123,7 @@ module _ {pages root set : ℕ} {role pool host : ℕ → ℕ} {up : ℕ → Use
       by (inl e) = inl e
       by (inr W) = inr (wanted_stays set pool after p stays W)
 
-  pub tree_moved : TreePart pages root set other after host more place
+  pub tree_moved : TreePart pages root set other after more place
   tree_moved = record {
     top = S.use_ root (ap is_table T.top) ∙ T.top;
     only = only;
@@ -140,36 +136,36 @@ module _ {pages root set : ℕ} {role pool host : ℕ → ℕ} {up : ℕ → Use
   }
 
 -- One entry of a table is stored.
-stored_words : (pool host : ℕ → ℕ) (set : ℕ) (up more : ℕ → Use) (spot : ℕ → Position) (k : ℕ) (p : Position) (j w : ℕ) → stands up spot k ≡ Some p → j < 512 → IsStored (upd pool (pool_index k j) w) host set more k p j (pool (pool_index k j)) w
+stored_words : (pool : ℕ → ℕ) (up more : ℕ → Use) (spot : ℕ → Position) (k : ℕ) (p : Position) (j w : ℕ) → stands up spot k ≡ Some p → j < 512 → IsStored more k p j (pool (pool_index k j)) w
     → (l : ℕ) (q : Position) → stands up spot l ≡ Some q → (i : ℕ) → i < 512
-    → (upd pool (pool_index k j) w (pool_index l i) ≡ pool (pool_index l i)) ⊎ IsStored (upd pool (pool_index k j) w) host set more l q i (pool (pool_index l i)) (upd pool (pool_index k j) w (pool_index l i))
-stored_words pool host set up more spot k p j w at_k low S l q at_l i small = by (same_or (pool_index l i) (pool_index k j))
+    → (upd pool (pool_index k j) w (pool_index l i) ≡ pool (pool_index l i)) ⊎ IsStored more l q i (pool (pool_index l i)) (upd pool (pool_index k j) w (pool_index l i))
+stored_words pool up more spot k p j w at_k low S l q at_l i small = by (same_or (pool_index l i) (pool_index k j))
   where
     after : ℕ → ℕ
     after = upd pool (pool_index k j) w
 
-    by : (pool_index l i ≡ pool_index k j) ⊎ (pool_index l i ≢ pool_index k j) → (after (pool_index l i) ≡ pool (pool_index l i)) ⊎ IsStored after host set more l q i (pool (pool_index l i)) (after (pool_index l i))
+    by : (pool_index l i ≡ pool_index k j) ⊎ (pool_index l i ≢ pool_index k j) → (after (pool_index l i) ≡ pool (pool_index l i)) ⊎ IsStored more l q i (pool (pool_index l i)) (after (pool_index l i))
     by (inr ne) = inl (upd_other pool (pool_index k j) (pool_index l i) w ne)
     by (inl e) =
         let s = same_pool_word l k i j small low e in
         let same : p ≡ q = one_position (sym at_k ∙ ap (stands up spot) (sym s.0) ∙ at_l) in
-        inr (subst (λ m. IsStored after host set more l q i (pool m) (after m)) (sym e)
-        (subst (λ x. IsStored after host set more l q i (pool (pool_index k j)) x) (sym (upd_same pool (pool_index k j) w))
-        (subst (λ m. IsStored after host set more m q i (pool (pool_index k j)) w) (sym s.0)
-        (subst (λ m. IsStored after host set more k q m (pool (pool_index k j)) w) (sym s.1)
-        (subst (λ x. IsStored after host set more k x j (pool (pool_index k j)) w) same S)))))
+        inr (subst (λ m. IsStored more l q i (pool m) (after m)) (sym e)
+        (subst (λ x. IsStored more l q i (pool (pool_index k j)) x) (sym (upd_same pool (pool_index k j) w))
+        (subst (λ m. IsStored more m q i (pool (pool_index k j)) w) (sym s.0)
+        (subst (λ m. IsStored more k q m (pool (pool_index k j)) w) (sym s.1)
+        (subst (λ x. IsStored more k x j (pool (pool_index k j)) w) same S)))))
 
 pub all_stay : (up : ℕ → Use) (spot : ℕ → Position) → TablesStay up up spot spot
 all_stay up spot = record { use_ = λ k table. refl; place_ = λ k table. refl }
 
-pub entry_stored : {pages root set : ℕ} {role pool host : ℕ → ℕ} {up : ℕ → Use} {spot : ℕ → Position} (T : TreePart pages root set role pool host up spot) (k : ℕ) (p : Position) (j w : ℕ) → stands up spot k ≡ Some p → j < 512
-    → IsStored (upd pool (pool_index k j) w) host set up k p j (pool (pool_index k j)) w → LiveStays set pool (upd pool (pool_index k j) w)
-    → TreePart pages root set role (upd pool (pool_index k j) w) host up spot
-entry_stored {pages} {root} {set} {role} {pool} {host} {up} {spot} T k p j w at_k low S stays =
-    tree_moved T role (upd pool (pool_index k j) w) up spot (all_stay up spot) (λ l q is. inl is) (λ l q is. refl) (stored_words pool host set up up spot k p j w at_k low S) stays
+pub entry_stored : {pages root set : ℕ} {role pool : ℕ → ℕ} {up : ℕ → Use} {spot : ℕ → Position} (T : TreePart pages root set role pool up spot) (k : ℕ) (p : Position) (j w : ℕ) → stands up spot k ≡ Some p → j < 512
+    → IsStored up k p j (pool (pool_index k j)) w → LiveStays set pool (upd pool (pool_index k j) w)
+    → TreePart pages root set role (upd pool (pool_index k j) w) up spot
+entry_stored {pages} {root} {set} {role} {pool} {up} {spot} T k p j w at_k low S stays =
+    tree_moved T role (upd pool (pool_index k j) w) up spot (all_stay up spot) (λ l q is. inl is) (λ l q is. refl) (stored_words pool up up spot k p j w at_k low S) stays
 
 -- A table is linked by an absent entry of a table one level above.
-module _ {pages root set : ℕ} {role pool host : ℕ → ℕ} {up : ℕ → Use} {spot : ℕ → Position} (T : TreePart pages root set role pool host up spot) (k level prefix j page : ℕ) (at_k : stands up spot k ≡ Some (at level prefix)) (upper : 2 ≤ level) (low : j < 512)
+module _ {pages root set : ℕ} {role pool : ℕ → ℕ} {up : ℕ → Use} {spot : ℕ → Position} (T : TreePart pages root set role pool up spot) (k level prefix j page : ℕ) (at_k : stands up spot k ≡ Some (at level prefix)) (upper : 2 ≤ level) (low : j < 512)
     (was : pool (pool_index k j) ≡ absent_word) (none : is_table (up page) ≡ false) where
   -- the words, what the pages are and where the tables stand, behind the link
   abbrev linked_words : ℕ → ℕ
@@ -203,9 +199,9 @@ module _ {pages root set : ℕ} {role pool host : ℕ → ℕ} {up : ℕ → Use
   }
 
   pub table_linked : page < pages → role page ≡ level - 1 → ((i : ℕ) → i < 512 → pool (pool_index page i) ≡ absent_word) → IsWanted pool set below → LiveStays set pool linked_words
-      → TreePart pages root set role linked_words host more place
+      → TreePart pages root set role linked_words more place
   table_linked there role_is absent wanted stays =
-      tree_moved T role linked_words more place grow news (λ l p is. refl) (stored_words pool host set up more spot k (at level prefix) j (table_word page) at_k low stored) stays
+      tree_moved T role linked_words more place grow news (λ l p is. refl) (stored_words pool up more spot k (at level prefix) j (table_word page) at_k low stored) stays
     where
       apart : k ≢ page
       apart = differs k (spot_of up spot k (at level prefix) at_k).0
@@ -237,5 +233,5 @@ module _ {pages root set : ℕ} {role pool host : ℕ → ℕ} {up : ℕ → Use
               let same : below ≡ p = one_position (sym at_page ∙ ap (stands more place) (sym e) ∙ is) in
               inr (subst (λ m. IsNew pages set role linked_words more place m p) (sym e) (subst (IsNew pages set role linked_words more place page) same new_one))
 
-      stored : IsStored linked_words host set more k (at level prefix) j (pool (pool_index k j)) (table_word page)
+      stored : IsStored more k (at level prefix) j (pool (pool_index k j)) (table_word page)
       stored = record { entry = inr (inl (record { page = page; upper = upper; is = refl; below = upd_same up page (Under k j) })); no_link = inr was }

@@ -6,6 +6,7 @@ use Rattle.core_views.specs.Sizes.{actors_of}
 use Rattle.spte_words.specs.declared.area.Area.TheVariants as area
 use Rattle.mmu_core.specs.View.{View}
 pub use Rattle.part_steps.specs.PartBounds.{CountersPart}
+pub use Rattle.mmu_core.specs.AllOver.{AllOver, LeafIsFor}
 pub use Rattle.mmu_core.specs.HeldPart.{HeldPart, HoldsOld, OldSetsPart, PathPart, SetsPart}
 pub use Rattle.mmu_core.specs.LockPart.{LockPart, SawWriter}
 pub use Rattle.mmu_core.specs.PoolPart.{FilledPart, IsFilled, UsePart, is_leaving}
@@ -21,7 +22,8 @@ pub record TopicsInvariantOf (z : Sizes) (lock root slots seq : ℕ) (states map
   pub saw_writer : (i : ℕ) → i < actors_of z → SawWriter (hand i).topics.hold
   pub states_part : StatesPart (actors_of z) states (λ i. (hand i).topics.stay)
   pub uses : UsePart (actors_of z) z.pool slots map (λ i. (hand i).topics.owned) (λ i. (hand i).topics.leaving) up
-  pub tree : TreePart z.pool root slots role pool host up spot
+  pub tree : TreePart z.pool root slots role pool up spot
+  pub leaves : AllOver up spot pool root (LeafIsFor pool host slots)
   pub filled : FilledPart (actors_of z) role pool (λ i. (hand i).topics.owned)
   pub held : (i : ℕ) → i < actors_of z → HeldPart (stands up spot) (hand i).topics
   pub paths : (i : ℕ) → i < actors_of z → PathPart (stands up spot) (hand i).topics.walk

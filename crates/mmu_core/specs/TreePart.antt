@@ -3,9 +3,9 @@ use Rattle.std.specs.Prelude.{◌≡◌, ◌+◌, ◌*◌, ◌/◌, ◌%◌, ◌
 use Rattle.core_views.specs.declared.trace.Slot.{Slot as SlotOf}
 use Rattle.core_views.specs.Slots.{contains}
 use Rattle.spte_words.specs.Areas.{pool_index}
-use Rattle.spte_words.specs.Entries.{absent_word, level_span, table_word}
+use Rattle.spte_words.specs.declared.spte_kind.SpteKind.TheVariants.{Leaf}
+use Rattle.spte_words.specs.Entries.{absent_word, kind_of, level_span, table_word}
 pub use Rattle.mmu_core.specs.SlotSetPart.{IsLiveIn}
-use Rattle.part_steps.specs.SlotWords.{leaf_of, page_of}
 
 -- where a table stands: its level, and which of the runs of guest frames that tables of this level are for is its own
 pub record Position : Type 0 where
@@ -53,18 +53,14 @@ pub record LinksTo (up : ℕ → Use) (k : ℕ) (p : Position) (j w : ℕ) : Typ
   pub is : w ≡ table_word page
   pub below : up page ≡ Under k j
 
--- Entry j of a table of the lowest level is the leaf of the page that slots and host give its guest frame.
-pub record IsLeafAt (pool host : ℕ → ℕ) (set : ℕ) (p : Position) (j w : ℕ) : Type 0 where
+-- The entry of a table of the lowest level is a leaf.
+pub record IsLeafAt (p : Position) (w : ℕ) : Type 0 where
   pub lowest : p.level ≡ 1
-  pub id : ℕ
-  pub slot : SlotOf
-  pub live : IsLiveIn pool set id slot
-  pub holds : contains (p.prefix * 512 + j) slot ≡ true
-  pub is : w ≡ leaf_of slot (host (page_of slot (p.prefix * 512 + j)))
+  pub leaf : kind_of p.level w ≡ Leaf
 
 -- An entry is absent, a link, or a leaf.
-abbrev pub EntryPart : (ℕ → ℕ) → (ℕ → ℕ) → ℕ → (ℕ → Use) → ℕ → Position → ℕ → ℕ → Type 0
-EntryPart pool host set up k p j w = (w ≡ absent_word) ⊎ LinksTo up k p j w ⊎ IsLeafAt pool host set p j w
+abbrev pub EntryPart : (ℕ → Use) → ℕ → Position → ℕ → ℕ → Type 0
+EntryPart up k p j w = (w ≡ absent_word) ⊎ LinksTo up k p j w ⊎ IsLeafAt p w
 
 -- The table that is page c and stands here is linked by entry j of page k, a table one level above, over its run.
 pub record IsUnder (pool : ℕ → ℕ) (up : ℕ → Use) (spot : ℕ → Position) (c : ℕ) (p : Position) (k j : ℕ) : Type 0 where
@@ -84,12 +80,12 @@ pub record IsWanted (pool : ℕ → ℕ) (set : ℕ) (p : Position) : Type 0 whe
 
 -- The tables are the root and what is linked below it: each by the one entry that it is under, with the role of its level; each entry is what
 -- it should be; and each table but the root is for some guest frame of a slot.
-pub record TreePart (pages root set : ℕ) (role pool host : ℕ → ℕ) (up : ℕ → Use) (spot : ℕ → Position) : Type 0 where
+pub record TreePart (pages root set : ℕ) (role pool : ℕ → ℕ) (up : ℕ → Use) (spot : ℕ → Position) : Type 0 where
   pub top : up root ≡ Root
   pub only : (k : ℕ) → up k ≡ Root → k ≡ root
   pub top_at : spot root ≡ at 4 0
   pub under : (c k j : ℕ) → up c ≡ Under k j → IsUnder pool up spot c (spot c) k j
   pub there : (k : ℕ) (p : Position) → stands up spot k ≡ Some p → (k < pages) × (1 ≤ p.level) × (p.level ≤ 4)
   pub roles : (k : ℕ) (p : Position) → stands up spot k ≡ Some p → role k ≡ p.level
-  pub entries : (k : ℕ) (p : Position) → stands up spot k ≡ Some p → (j : ℕ) → j < 512 → EntryPart pool host set up k p j (pool (pool_index k j))
+  pub entries : (k : ℕ) (p : Position) → stands up spot k ≡ Some p → (j : ℕ) → j < 512 → EntryPart up k p j (pool (pool_index k j))
   pub wanted : (k : ℕ) (p : Position) → stands up spot k ≡ Some p → (k ≡ root) ⊎ IsWanted pool set p
