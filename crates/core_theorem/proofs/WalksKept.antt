@@ -1,5 +1,5 @@
 -- Behind every run the tables that a walk has gone through are tables, where the walk says.
-use Rattle.std.proofs.Common.{◌≡◌, ◌<◌, ℕ, sym, ap, ◌∙◌}
+use Rattle.std.proofs.Common.{◌≡◌, ◌<◌, ℕ, refl, sym, ap, ◌∙◌}
 use Rattle.std.specs.Prelude.{Some}
 use Rattle.core_views.specs.declared.sizes.Sizes.{Sizes}
 use Rattle.core_views.specs.Held.{Held}
@@ -9,7 +9,8 @@ use Rattle.mmu_core.specs.Laws.{IsSound}
 use Rattle.mmu_core.specs.Machine.{World, hand_in, run}
 use Rattle.mmu_core.specs.TreePart.{at, stands}
 use Rattle.mmu_core.proofs.LeadsDown.{leads_down}
-use Rattle.mmu_core.proofs.LeafLaws.{leaves_agree}
+use Rattle.mmu_core.proofs.LeafLaws.{leaves_agree, leaves_say}
+use Rattle.mmu_core.proofs.TreePlaces.{all_reached}
 use Rattle.mmu_core.proofs.Paths.{whole_path}
 use Rattle.core_theorem.specs.Leaves.{HeldLeavesAgree}
 use Rattle.core_theorem.specs.Walks.{HoldsAt, WalksHoldTables, run_at, table_at, walk_of}
@@ -22,7 +23,12 @@ pub stands_at : (z : Sizes) (u : World Held) (G : IsSound z u) (actor level : �
 stands_at z u G actor level there H = whole_path (stands G.topics.up G.topics.spot) (hand_in mmu u actor).topics (G.topics.held actor there) (G.topics.paths actor there) level H.some H.down H.up
 
 pub walks_hold_tables : WalksHoldTables
-walks_hold_tables z lines w ss R = let G = sound z lines w ss R in record { pages = pages_are_used z (run mmu w ss) G; walks = stands_at z (run mmu w ss) G }
+walks_hold_tables z lines w ss R = let G = sound z lines w ss R in record {
+  pages = pages_are_used z (run mmu w ss) G;
+  walks = stands_at z (run mmu w ss) G;
+  linked = leaves_say z (run mmu w ss) G _ (0, refl);
+  reached = λ actor level there H. leaves_say z (run mmu w ss) G (table_at level (walk_of (run mmu w ss) actor)) (all_reached G.topics.tree _ _ (stands_at z (run mmu w ss) G actor level there H));
+}
 
 -- Links that lead on from them lead from the root through them.
 pub held_leaves_are_linked : HeldLeavesAgree

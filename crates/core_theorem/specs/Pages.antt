@@ -44,7 +44,8 @@ IsUsedFor z w up spot page (OldSet actor) = (actor < actors_of z) × ((hand_in m
 IsUsedFor z w up spot page Outside = z.pool ≤ page
 
 -- Each page has one use and no other one: so a table has one link alone, and no page outside of the pool has any use within it. The tables are
--- the root and what is linked below it, each at a level and run of guest frames of its own.
+-- the root and what is linked below it, each at a level and run of guest frames of its own; and each leaf in them is the one that slots and host
+-- give each guest frame that it is over.
 pub record PagesAreUsed (z : Sizes) (w : World Held) : Type 0 where
   pub up : ℕ → Use
   pub spot : ℕ → Position

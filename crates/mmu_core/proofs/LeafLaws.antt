@@ -1,5 +1,5 @@
 -- Each leaf that stands, is cached, or is used agrees with slots and host.
-use Rattle.std.proofs.Common.{◌≡◌, inl, inr, ◌+◌, ◌*◌, ◌/◌, ◌^◌, ◌<◌, ◌≤◌, ℕ, zero, suc, refl, sym, subst, ap, ◌∙◌, arith}
+use Rattle.std.proofs.Common.{◌≡◌, inl, inr, ◌+◌, ◌*◌, ◌/◌, ◌%◌, ◌^◌, ◌<◌, ◌≤◌, ℕ, zero, suc, refl, sym, subst, ap, ◌∙◌, arith}
 use Rattle.std.specs.Prelude.{All, Bool, true, false, ◌&&◌, not, if◌then◌else◌, Option, Some, None, is_some}
 use Rattle.core_views.specs.declared.place.AccessPlace.TheVariants.{Touch}
 use Rattle.core_views.specs.declared.place.Place.{Place}
@@ -20,7 +20,7 @@ use Rattle.spte_words.specs.Areas.{pool_index}
 use Rattle.spte_words.specs.Entries.{can_write, frame_in, host_writable, kind_of, level_span, mmu_writable}
 use Rattle.spte_words.specs.HostWords.{host_allows_write, host_frame}
 use Rattle.spte_words.proofs.ReadsEntries.{kind_of_absent, leaf_can_write, leaf_frame, leaf_host_writable, leaf_mmu_writable}
-use Rattle.spte_words.proofs.Spans.{span_4}
+use Rattle.spte_words.proofs.Spans.{span_1, span_4}
 use Rattle.mmu_core.specs.Enabled.{mmu}
 use Rattle.mmu_core.specs.FaultAlone.{LeadsTo}
 use Rattle.mmu_core.specs.FaultSteps.{allows_access}
@@ -31,8 +31,10 @@ use Rattle.mmu_core.specs.Machine.{World, hand_in}
 use Rattle.part_steps.specs.PartSteps.{IsOver, entry_index, table_page}
 use Rattle.part_steps.specs.SlotWords.{may_write, page_of, slot_at, slots_below}
 use Rattle.part_steps.specs.TopicSteps.{linked_page}
-use Rattle.mmu_core.specs.TreePart.{EntryPart, Position, TreePart, Use, at, stands}
+use Rattle.mmu_core.specs.TreePart.{Position, Reaches, TreePart, Use, at, stands}
 use Rattle.mmu_core.specs.View.{view, word_in}
+use Rattle.mmu_core.specs.AllOver.{AllOver, LeafSays, LeavesSay}
+use Rattle.mmu_core.proofs.AllOver.{reaches_on}
 use Rattle.mmu_core.proofs.LeavesOver.{leaf_for}
 use Rattle.mmu_core.proofs.TreePlaces.{root_stands}
 use Rattle.mmu_core.proofs.LeadsDown.{below_stands, leads_down, run_above}
@@ -79,6 +81,43 @@ leaf_agrees z set role pool host gfn leaf sizes hosts P L = record {
     found =
         only_one_holds gfn pool set L.id 32 (omega (arith, L.live.low)) L.live.live holds (λ i lt live too. P.guest_apart gfn i L.id (omega arith) L.live.low live L.live.live too holds)
         ∙ ap Some L.live.is
+
+-- So it says of its guest frame what slots and host say.
+leaf_says : (z : Sizes) (set : ℕ) (role pool host : ℕ → ℕ) (level gfn leaf : ℕ) → AreSizes z → HostWordsPart z host → SlotSetPart z set role pool → level ≡ 1 → IsLeafFor pool host set gfn leaf → LeafSays pool host set level gfn leaf
+leaf_says z set role pool host level gfn leaf sizes hosts P lowest L = record {
+  id = L.id;
+  slot = slot;
+  live = L.live;
+  holds = L.holds;
+  frame = let one : level_span level ≡ 1 = ap level_span lowest ∙ span_1 in subst (λ n. host_frame word ≡ frame_in leaf + gfn % n) (sym one) (omega (arith, names));
+  writes = λ is. sym (ap can_write L.is ∙ leaf_can_write 1 (host_frame word) (may_write slot word) (host_allows_write word) (may_write slot word)) ∙ is;
+  host_bit = λ is. sym (ap host_writable L.is ∙ leaf_host_writable 1 (host_frame word) (may_write slot word) (host_allows_write word) (may_write slot word) small) ∙ is;
+  mmu_bit = λ is. sym (ap mmu_writable L.is ∙ leaf_mmu_writable 1 (host_frame word) (may_write slot word) (host_allows_write word) (may_write slot word) small) ∙ is;
+}
+  where
+    slot : Slot
+    slot = L.slot
+
+    word : ℕ
+    word = host (page_of slot gfn)
+
+    there : page_of slot gfn < z.pages
+    there = page_in_machine z set role pool L.id gfn slot P L.live L.holds
+
+    small : host_frame word < 2 ^ 40
+    small = let own = frame_of_host z host (page_of slot gfn) hosts there in omega (arith, own, there, sizes.pages)
+
+    names : frame_in leaf ≡ host_frame word
+    names = ap frame_in L.is ∙ leaf_frame 1 (host_frame word) (may_write slot word) (host_allows_write word) (may_write slot word) small
+
+-- All leaves in the tables below the root do, and so do those below any table that the root reaches.
+pub leaves_say : (z : Sizes) (w : World Held) (sound : IsSound z w) (k : ℕ) → Reaches sound.topics.up (word_in z w area.Root 0) k
+    → AllOver sound.topics.up sound.topics.spot (word_in z w area.Pool) k (LeavesSay (word_in z w area.Pool) (word_in z w area.Host) (word_in z w area.Slots 0))
+leaves_say z w sound k R table entry gfn Q O leaf =
+    let I = sound.holds in
+    let P = sound.topics in
+    let is = P.leaves table entry gfn (reaches_on P.up (word_in z w area.Root 0) k table R Q) O leaf in
+    leaf_says z (word_in z w area.Slots 0) (word_in z w area.Role) (word_in z w area.Pool) (word_in z w area.Host) (P.spot table).level gfn (word_in z w area.Pool (pool_index table entry)) I.sizes I.hosts I.set_part is.0 is.1
 
 -- ---- where links lead
 

@@ -34,3 +34,6 @@ pub record LeafSays (pool host : ℕ → ℕ) (set level gfn leaf : ℕ) : Type 
   pub writes : can_write leaf ≡ true → may_write slot (host (page_of slot gfn)) ≡ true
   pub host_bit : host_writable leaf ≡ true → host_allows_write (host (page_of slot gfn)) ≡ true
   pub mmu_bit : mmu_writable leaf ≡ true → may_write slot (host (page_of slot gfn)) ≡ true
+
+abbrev pub LeavesSay : (ℕ → ℕ) → (ℕ → ℕ) → ℕ → ℕ → ℕ → ℕ → Type 0
+LeavesSay pool host set level gfn w = kind_of level w ≡ Leaf → LeafSays pool host set level gfn w
