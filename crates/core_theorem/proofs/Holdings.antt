@@ -10,18 +10,20 @@ use Rattle.mmu_core.specs.Enabled.{mmu}
 use Rattle.mmu_core.specs.Laws.{IsSound}
 use Rattle.mmu_core.specs.Machine.{May, World, effect, hand_in, run, Step}
 use Rattle.mmu_core.specs.PoolPart.{is_free}
-use Rattle.mmu_core.specs.Sums.{one_if}
 use Rattle.mmu_core.specs.View.{word_in}
 use Rattle.mmu_core.proofs.LineRuns.{run_one_more}
 use Rattle.mmu_core.specs.TopicsInvariant.{HoldsOld}
-use Rattle.mmu_core.proofs.PoolPages.{left_not_free, left_not_owned, itself, one_owner, owned_not_free, owned_not_slots, left_not_slots, one_leaver}
+use Rattle.mmu_core.proofs.PoolPages.{left_no_table, left_not_free, left_not_owned, left_not_slots, not_free, one_leaver, one_owner, owned_not_free, owned_not_slots, set_use, table_not_free, table_not_owned}
 use Rattle.mmu_core.proofs.Scanned.{others_hand}
 use Rattle.mmu_core.proofs.Worlds.{good_step}
 use Rattle.core_theorem.specs.Holdings.{HeldSetsAreKnown, NoneHoldsFreePages, NoOtherHolds, WatchedHoldNoOldSet, OfEachHeld, PagesAreReusedAlone}
 use Rattle.core_theorem.specs.Pages.{Owns}
 use Rattle.core_theorem.specs.Runs.{IsRun}
 use Rattle.core_theorem.proofs.Runs.{before, last_actor, may_last, sound}
-use Rattle.core_theorem.proofs.WalksKept.{HasPath, path_is_table, paths_are_tables}
+use Rattle.core_theorem.proofs.WalksKept.{stands_at}
+use Rattle.core_theorem.specs.Walks.{table_at, walk_of}
+use Rattle.mmu_core.specs.TreePart.{stands}
+use Rattle.mmu_core.specs.TreePart.Use.{SlotSet}
 use Rattle.std.proofs.lemmas.Bool.Decides.{nat_tests}
 use Rattle.part_steps.specs.PartSteps.{MayGiveOld, next_watched, own_index}
 use Rattle.mmu_core.specs.SetSlotKnows.{SetSlotKnows}
@@ -56,42 +58,38 @@ module _ (z : Sizes) (u : World Held) (G : IsSound z u) where
 
   -- The published slot set isn't free.
   set_not_free : is_free map slots ≡ false
-  set_not_free = by (is_free map slots) refl
-    where
-      by : (b : Bool) → is_free map slots ≡ b → b ≡ false
-      by true free = let counts : one_if (is_free map slots) ≡ 1 = ap one_if free in absurd (omega (arith, G.topics.pool_part.each slots G.topics.pool_part.slots_there, itself slots, counts))
-      by false free = refl
+  set_not_free = not_free G.topics.uses slots SlotSet (set_use G.topics.uses) refl
 
   -- Nor is an older one that is leaving.
   set_held : {actor : ℕ} (page : ℕ) → (page ≡ slots) ⊎ HoldsOld (actors_of z) (λ i. (hand_in mmu u i).topics) actor page → is_free map page ≡ false
   set_held page (inl e) = subst (λ k. is_free map k ≡ false) (sym e) set_not_free
-  set_held page (inr H) = left_not_free (actors_of z) z.pool slots map owned leaving G.topics.stands G.topics.pool_part H.by page H.there H.leaves
+  set_held page (inr H) = left_not_free G.topics.uses H.by page H.there H.leaves
 
-  none_free : (actor : ℕ) → actor < actors_of z → HasPath z u (hand_in mmu u actor).topics.walk → OfEachHeld (λ page. is_free map page ≡ false) (hand_in mmu u actor).topics
-  none_free actor there P = record {
-    tables = λ level H. (path_is_table z u (hand_in mmu u actor).topics.walk level G P H.some H.down H.up).not_free;
+  none_free : (actor : ℕ) → actor < actors_of z → OfEachHeld (λ page. is_free map page ≡ false) (hand_in mmu u actor).topics
+  none_free actor there = record {
+    tables = λ level H. table_not_free G.topics.uses G.topics.spot (table_at level (walk_of u actor)) _ (stands_at z u G actor level there H);
     set = λ page is. set_held page (G.topics.sets actor page there is);
-    owned = λ o is. owned_not_free (actors_of z) z.pool slots map owned leaving G.topics.stands G.topics.pool_part actor o there is;
+    owned = λ o is. owned_not_free G.topics.uses actor o there is;
   }
 
   -- A page that an actor owns no other actor holds.
-  no_other : (actor page : ℕ) → actor < actors_of z → Owns page (hand_in mmu u actor) → ((other : ℕ) → other < actors_of z → HasPath z u (hand_in mmu u other).topics.walk) → NoOtherHolds z actor page u
-  no_other actor page there O paths other among apart = record {
-    tables = λ level H e. (path_is_table z u (hand_in mmu u other).topics.walk level G (paths other among) H.some H.down H.up).not_owned actor O.owned there O.is (O.of_page ∙ sym e);
+  no_other : (actor page : ℕ) → actor < actors_of z → Owns page (hand_in mmu u actor) → NoOtherHolds z actor page u
+  no_other actor page there O other among apart = record {
+    tables = λ level H e. table_not_owned G.topics.uses G.topics.spot (table_at level (walk_of u other)) _ (stands_at z u G other level among H) actor O.owned there O.is (O.of_page ∙ sym e);
     set = λ k is e. not_set k (G.topics.sets other k among is) (O.of_page ∙ sym e);
-    owned = λ o is e. apart (one_owner (actors_of z) z.pool slots map owned leaving G.topics.stands G.topics.pool_part other actor o O.owned among there is O.is (O.of_page ∙ sym e));
+    owned = λ o is e. apart (one_owner G.topics.uses other actor o O.owned among there is O.is (O.of_page ∙ sym e));
   }
     where
       not_set : {i : ℕ} (k : ℕ) → (k ≡ slots) ⊎ HoldsOld (actors_of z) (λ j. (hand_in mmu u j).topics) i k → O.owned.page ≢ k
-      not_set k (inl e) same = owned_not_slots (actors_of z) z.pool slots map owned leaving G.topics.stands G.topics.pool_part actor O.owned there O.is (same ∙ e)
-      not_set k (inr H) same = left_not_owned (actors_of z) z.pool slots map owned leaving G.topics.stands G.topics.pool_part H.by k H.there H.leaves actor O.owned there O.is same
+      not_set k (inl e) same = owned_not_slots G.topics.uses actor O.owned there O.is (same ∙ e)
+      not_set k (inr H) same = left_not_owned G.topics.uses H.by k H.there H.leaves actor O.owned there O.is same
 
   -- An old slot set that is leaving for an actor which has watched all others since, no other actor holds.
-  none_holds_old : (actor page : ℕ) → actor < actors_of z → MayGiveOld (hand_in mmu u actor) → leaving actor ≡ Some page → ((other : ℕ) → other < actors_of z → HasPath z u (hand_in mmu u other).topics.walk) → NoOtherHolds z actor page u
-  none_holds_old actor page there M left paths other among apart = record {
-    tables = λ level H e. (path_is_table z u (hand_in mmu u other).topics.walk level G (paths other among) H.some H.down H.up).not_left actor page there left (sym e);
+  none_holds_old : (actor page : ℕ) → actor < actors_of z → MayGiveOld (hand_in mmu u actor) → leaving actor ≡ Some page → NoOtherHolds z actor page u
+  none_holds_old actor page there M left other among apart = record {
+    tables = λ level H e. left_no_table G.topics.uses G.topics.spot actor page _ there left (ap (stands G.topics.up G.topics.spot) (sym e) ∙ stands_at z u G other level among H);
     set = λ k is e. not_set k (G.topics.sets other k among is) e;
-    owned = λ o is e. left_not_owned (actors_of z) z.pool slots map owned leaving G.topics.stands G.topics.pool_part actor page there left other o among is e;
+    owned = λ o is e. left_not_owned G.topics.uses actor page there left other o among is e;
   }
     where
       watched_all : (own n w i : ℕ) → n ≤ next_watched own w → w ≤ i → i < n → i ≢ own → ⊥
@@ -108,9 +106,9 @@ module _ (z : Sizes) (u : World Held) (G : IsSound z u) where
       over = subst (λ i. actors_of z ≤ next_watched i (hand_in mmu u actor).topics.watched) own (subst (λ (y : Sizes). actors_of y ≤ next_watched (own_index (hand_in mmu u actor)) (hand_in mmu u actor).topics.watched) (G.holds.lines actor there).sizes M.watched)
 
       not_set : (k : ℕ) → (k ≡ slots) ⊎ HoldsOld (actors_of z) (λ j. (hand_in mmu u j).topics) other k → k ≢ page
-      not_set k (inl e) same = left_not_slots (actors_of z) z.pool slots map owned leaving G.topics.stands G.topics.pool_part actor page there left (sym same ∙ e)
+      not_set k (inl e) same = left_not_slots G.topics.uses actor page there left (sym same ∙ e)
       not_set k (inr H) same =
-          let by_is : H.by ≡ actor = one_leaver (actors_of z) z.pool slots map owned leaving G.topics.stands G.topics.pool_part H.by actor page H.there there (H.leaves ∙ ap Some same) left in
+          let by_is : H.by ≡ actor = one_leaver G.topics.uses H.by actor page H.there there (H.leaves ∙ ap Some same) left in
           watched_all actor (actors_of z) (hand_in mmu u actor).topics.watched other over (subst (λ i. (hand_in mmu u i).topics.watched ≤ other) by_is H.unwatched) among apart
 
   -- Whom the watch has passed doesn't hold it.
@@ -118,9 +116,9 @@ module _ (z : Sizes) (u : World Held) (G : IsSound z u) where
   watched_hold_none watcher other page there among left passed is = by (G.topics.sets other page among is)
     where
       by : (page ≡ slots) ⊎ HoldsOld (actors_of z) (λ j. (hand_in mmu u j).topics) other page → ⊥
-      by (inl e) = left_not_slots (actors_of z) z.pool slots map owned leaving G.topics.stands G.topics.pool_part watcher page there left e
+      by (inl e) = left_not_slots G.topics.uses watcher page there left e
       by (inr H) =
-          let by_is : H.by ≡ watcher = one_leaver (actors_of z) z.pool slots map owned leaving G.topics.stands G.topics.pool_part H.by watcher page H.there there H.leaves left in
+          let by_is : H.by ≡ watcher = one_leaver G.topics.uses H.by watcher page H.there there H.leaves left in
           let not_yet : (hand_in mmu u watcher).topics.watched ≤ other = subst (λ i. (hand_in mmu u i).topics.watched ≤ other) by_is H.unwatched in
           omega (arith, not_yet, passed)
 
@@ -148,11 +146,11 @@ module _ (z : Sizes) (u : World Held) (G : IsSound z u) where
           old p id slot K L (ap (λ (t : Task). code_of t.kind) (sym task) ∙ (sym (ap (λ (k : Kind). k.code) N.is) ∙ gives))
 
 pub none_holds_free_pages : NoneHoldsFreePages
-none_holds_free_pages z lines w ss R actor there = none_free z (run mmu w ss) (sound z lines w ss R) actor there (paths_are_tables z lines w ss actor R there)
+none_holds_free_pages z lines w ss R actor there = none_free z (run mmu w ss) (sound z lines w ss R) actor there
 
 pub pages_are_reused_alone : PagesAreReusedAlone
 pages_are_reused_alone z lines w ss s R page = (
-  λ W other among apart. subst (λ (h : Held). OfEachHeld (λ held. held ≢ page) h.topics) (others_hand u s other apart) (no_other z (effect mmu u s) (good_step z u s G may) s.actor page there W.owns paths_behind other among apart),
+  λ W other among apart. subst (λ (h : Held). OfEachHeld (λ held. held ≢ page) h.topics) (others_hand u s other apart) (no_other z (effect mmu u s) (good_step z u s G may) s.actor page there W.owns other among apart),
   λ W. given W.gives W.had,
 )
   where
@@ -171,15 +169,9 @@ pages_are_reused_alone z lines w ss s R page = (
     there : s.actor < actors_of z
     there = last_actor z lines w ss s R
 
-    paths : (other : ℕ) → other < actors_of z → HasPath z u (hand_in mmu u other).topics.walk
-    paths other among = paths_are_tables z lines w ss other R_before among
-
     given : s.kind.code ≡ code_of kind.Give → Owns page (hand_in mmu u s.actor) ⊎ ((hand_in mmu u s.actor).topics.leaving ≡ Some page) → NoOtherHolds z s.actor page u
-    given gives (inl O) = no_other z u G s.actor page there O paths
-    given gives (inr left) = none_holds_old z u G s.actor page there (gives_old z u G s page there may gives left) left paths
-
-    paths_behind : (other : ℕ) → other < actors_of z → HasPath z (effect mmu u s) (hand_in mmu (effect mmu u s) other).topics.walk
-    paths_behind other among = subst (λ x. HasPath z x (hand_in mmu x other).topics.walk) (run_one_more w ss s) (paths_are_tables z lines w (ss ++ s ∷ []) other R among)
+    given gives (inl O) = no_other z u G s.actor page there O
+    given gives (inr left) = none_holds_old z u G s.actor page there (gives_old z u G s page there may gives left) left
 
 pub held_sets_are_known : HeldSetsAreKnown
 held_sets_are_known z lines w ss R = (sound z lines w ss R).topics.sets

@@ -1,155 +1,79 @@
 -- Each pool page has one use.
-use Rattle.std.proofs.Common.{◌≡◌, ◌⊎◌, inl, inr, ◌+◌, ◌<◌, ◌≤◌, ℕ, zero, suc, refl, sym, subst, ap, ◌∙◌, arith}
-use Rattle.std.specs.Prelude.{Bool, true, false, ◌==◌, Option, Some, None, is_some}
-use Rattle.std.proofs.lemmas.Bool.{cases_lt}
+use Rattle.std.proofs.Common.{◌≡◌, ◌⊎◌, inl, inr, ◌+◌, ◌<◌, ◌≤◌, ℕ, refl, sym, ap, ◌∙◌, arith}
+use Rattle.std.specs.Prelude.{true, nat_le, Some}
 use Rattle.std.proofs.lemmas.Bool.Decides.{nat_tests}
 use Rattle.core_views.specs.declared.sizes.Sizes.{Sizes}
-use Rattle.core_views.specs.declared.topics.OwnedPage.{OwnedPage}
 use Rattle.core_views.specs.Held.{Held}
-use Rattle.core_views.specs.Sizes.{actors_of}
 use Rattle.spte_words.specs.declared.area.Area.TheVariants as area
-use Rattle.mmu_core.specs.Enabled.{mmu}
+use Rattle.spte_words.specs.Areas.{pool_index}
+use Rattle.spte_words.proofs.ReadsEntries.{same_table, table_not_absent}
 use Rattle.mmu_core.specs.Laws.{IsSound}
-use Rattle.mmu_core.specs.Machine.{World, hand_in}
-use Rattle.mmu_core.specs.PoolPart.{is_free, is_leaving, is_owned, leavers, owners}
-use Rattle.mmu_core.specs.Sums.{one_if}
-use Rattle.mmu_core.specs.TreePart.{Position}
+use Rattle.mmu_core.specs.Machine.{World}
+use Rattle.mmu_core.specs.PoolPart.{is_use}
+use Rattle.mmu_core.specs.TreePart.{EntryPart, Position, Use, stands}
+use Rattle.mmu_core.specs.TreePart.Use.{Free, OldSet, Outside, Owned, Root, SlotSet, Under}
 use Rattle.mmu_core.specs.View.{word_in}
-use Rattle.mmu_core.proofs.PoolPages.{has_leaver, has_owner, itself, one_leaver, one_owner}
-use Rattle.mmu_core.proofs.Pigeonhole.{sum_some}
-use Rattle.core_theorem.specs.Pages.{HasOneUse, IsUsedFor, PageUse, PagesAreUsed}
-use Rattle.core_theorem.specs.Pages.PageUse.{Free, Leaving, Owned, Published, Table}
+use Rattle.mmu_core.proofs.PoolPages.{free_use, has_leaver, has_owner, left_use, owned_use, set_use, tells, use_is}
+use Rattle.mmu_core.proofs.Standing.{at_spot}
+use Rattle.mmu_core.proofs.TreePlaces.{all_reached, one_place}
+use Rattle.core_theorem.specs.Pages.{IsUsedFor, LinksPage, PagesAreUsed}
 
--- A page that is counted as owned has an owner.
-record HasOwner (n : ℕ) (owned : ℕ → Option OwnedPage) (page : ℕ) : Type 0 where
-  pub actor : ℕ
-  pub there : actor < n
-  pub of_actor : OwnedPage
-  pub is : owned actor ≡ Some of_actor
-  pub of_page : of_actor.page ≡ page
+from_end : (k pages : ℕ) → nat_le pages k ≡ true → pages ≤ k
+from_end k pages is = grind (arith, nat_tests)
 
-owner_of : (n : ℕ) (owned : ℕ → Option OwnedPage) (page : ℕ) → 1 ≤ owners n owned page → HasOwner n owned page
-owner_of zero owned page some = absurd (omega (arith, some))
-owner_of (suc n) owned page some = by (λ less. owner_of n owned page less) (owned n) refl
-  where
-    further : HasOwner n owned page → HasOwner (suc n) owned page
-    further O = let lt = O.there in record { actor = O.actor; there = omega (arith, lt); of_actor = O.of_actor; is = O.is; of_page = O.of_page }
+at_end : (k pages : ℕ) → pages ≤ k → nat_le pages k ≡ true
+at_end k pages le = grind (arith, nat_tests)
 
-    test : (1 ≤ owners n owned page → HasOwner n owned page) → (o : OwnedPage) → owned n ≡ Some o → (b : Bool) → (o.page == page) ≡ b → HasOwner (suc n) owned page
-    test again o is true e = record { actor = n; there = omega arith; of_actor = o; is = is; of_page = grind (arith, nat_tests) }
-    test again o is false e =
-        let none : one_if (is_owned (owned n) page) ≡ 0 = ap (λ x. one_if (is_owned x page)) is ∙ ap one_if e in
-        further (again (omega (arith, some, none)))
+module _ (z : Sizes) (u : World Held) (G : IsSound z u) (page : ℕ) where
+  abbrev up : ℕ → Use
+  up = G.topics.up
 
-    by : (1 ≤ owners n owned page → HasOwner n owned page) → (x : Option OwnedPage) → owned n ≡ x → HasOwner (suc n) owned page
-    by again None is = let none : one_if (is_owned (owned n) page) ≡ 0 = ap (λ x. one_if (is_owned x page)) is in further (again (omega (arith, some, none)))
-    by again (Some o) is = test again o is (o.page == page) refl
+  abbrev spot : ℕ → Position
+  spot = G.topics.spot
 
-left_is : (leaving : Option ℕ) (page : ℕ) → is_leaving leaving page ≡ true → leaving ≡ Some page
-left_is None page is = absurd (cc is)
-left_is (Some k) page is = let same : k ≡ page = grind (arith, nat_tests) in ap Some same
+  -- A page under an entry is linked by it.
+  links_page : (parent entry : ℕ) → up page ≡ Under parent entry → LinksPage z u up spot parent entry page
+  links_page parent entry is =
+      let V = G.topics.tree.under page parent entry is in
+      let from = (G.topics.tree.there page (spot page) (at_spot up spot page (Under parent entry) is refl)).1 in
+      let index = V.index in
+      record { at = _; table = V.above; upper = omega (arith, from); low = omega (arith, index); link = V.link }
 
-module _ (z : Sizes) (u : World Held) (G : IsSound z u) (page : ℕ) (in_pool : page < z.pool) where
-  abbrev stands : ℕ → Option Position
-  stands = G.topics.stands
-
-  abbrev map : ℕ → ℕ
-  map = word_in z u area.PoolMap
-
-  abbrev slots : ℕ
-  slots = word_in z u area.Slots 0
-
-  abbrev owned : ℕ → Option OwnedPage
-  owned i = (hand_in mmu u i).topics.owned
-
-  abbrev Used : PageUse → Type 0
-  Used use_ = IsUsedFor z u stands page use_
-
-  abbrev leaving : ℕ → Option ℕ
-  leaving i = (hand_in mmu u i).topics.leaving
-
-  one : one_if (is_free map page) + owners (actors_of z) owned page + one_if (is_some (stands page)) + one_if (slots == page) + leavers (actors_of z) leaving page ≡ 1
-  one = G.topics.pool_part.each page in_pool
-
-  -- what a use contributes to this sum
-  as_free : Used Free → one_if (is_free map page) ≡ 1
-  as_free is = ap one_if is
-
-  as_owned : (actor : ℕ) → Used (Owned actor) → 1 ≤ owners (actors_of z) owned page
-  as_owned actor U = let some = has_owner (actors_of z) owned actor U.1.owned U.0 U.1.is in let same = ap (owners (actors_of z) owned) U.1.of_page in omega (arith, some, same)
-
-  as_table : (p : Position) → Used (Table p) → one_if (is_some (stands page)) ≡ 1
-  as_table p is = ap (λ (x : Option Position). one_if (is_some x)) is
-
-  as_published : Used Published → one_if (slots == page) ≡ 1
-  as_published is = ap (λ k. one_if (slots == k)) (sym is) ∙ itself slots
-
-  as_leaving : (actor : ℕ) → Used (Leaving actor) → 1 ≤ leavers (actors_of z) leaving page
-  as_leaving actor U = has_leaver (actors_of z) leaving actor page U.0 U.1
-
-  apart : (one_ other : PageUse) → Used one_ → Used other → other ≡ one_
-  apart Free Free U V = refl
-  apart Free (Owned actor) U V = absurd (omega (arith, one, as_free U, as_owned actor V))
-  apart Free (Table p) U V = absurd (omega (arith, one, as_free U, as_table p V))
-  apart Free Published U V = absurd (omega (arith, one, as_free U, as_published V))
-  apart Free (Leaving actor) U V = absurd (omega (arith, one, as_free U, as_leaving actor V))
-  apart (Owned actor) Free U V = absurd (omega (arith, one, as_owned actor U, as_free V))
-  apart (Owned actor) (Owned other) U V =
-      ap Owned (one_owner (actors_of z) z.pool slots map owned leaving stands G.topics.pool_part other actor V.1.owned U.1.owned V.0 U.0 V.1.is U.1.is (U.1.of_page ∙ sym V.1.of_page))
-  apart (Owned actor) (Table p) U V = absurd (omega (arith, one, as_owned actor U, as_table p V))
-  apart (Owned actor) Published U V = absurd (omega (arith, one, as_owned actor U, as_published V))
-  apart (Owned actor) (Leaving other) U V = absurd (omega (arith, one, as_owned actor U, as_leaving other V))
-  apart (Table p) Free U V = absurd (omega (arith, one, as_table p U, as_free V))
-  apart (Table p) (Owned actor) U V = absurd (omega (arith, one, as_table p U, as_owned actor V))
-  apart (Table p) (Table q) U V = let same : p ≡ q = cc (U, V) in ap Table (sym same)
-  apart (Table p) Published U V = absurd (omega (arith, one, as_table p U, as_published V))
-  apart (Table p) (Leaving actor) U V = absurd (omega (arith, one, as_table p U, as_leaving actor V))
-  apart Published Free U V = absurd (omega (arith, one, as_published U, as_free V))
-  apart Published (Owned actor) U V = absurd (omega (arith, one, as_published U, as_owned actor V))
-  apart Published (Table p) U V = absurd (omega (arith, one, as_published U, as_table p V))
-  apart Published Published U V = refl
-  apart Published (Leaving actor) U V = absurd (omega (arith, one, as_published U, as_leaving actor V))
-  apart (Leaving actor) Free U V = absurd (omega (arith, one, as_leaving actor U, as_free V))
-  apart (Leaving actor) (Owned other) U V = absurd (omega (arith, one, as_leaving actor U, as_owned other V))
-  apart (Leaving actor) (Table p) U V = absurd (omega (arith, one, as_leaving actor U, as_table p V))
-  apart (Leaving actor) Published U V = absurd (omega (arith, one, as_leaving actor U, as_published V))
-  apart (Leaving actor) (Leaving other) U V = ap Leaving (one_leaver (actors_of z) z.pool slots map owned leaving stands G.topics.pool_part other actor page V.0 U.0 V.1 U.1)
-
-  used : (use_ : PageUse) → Used use_ → HasOneUse z u stands page
-  used use_ U = record { one = use_; is = U; only = λ other V. apart use_ other U V }
-
-  one_use : HasOneUse z u stands page
-  one_use = by (is_free map page) refl (stands page) refl (slots == page) refl
+  -- And what is linked by an entry is under it.
+  under_it : (parent entry : ℕ) → LinksPage z u up spot parent entry page → up page ≡ Under parent entry
+  under_it parent entry L = by (G.topics.tree.entries parent L.at L.table entry L.low)
     where
-      of_actor : (owners (actors_of z) owned page < 1) ⊎ (1 ≤ owners (actors_of z) owned page) → (owners (actors_of z) owned page < 1 → 1 ≤ leavers (actors_of z) leaving page) → HasOneUse z u stands page
-      of_actor (inl none) leaves =
-          let L = sum_some (actors_of z) (λ i. is_leaving (leaving i) page) (leaves none) in
-          used (Leaving L.0) (L.1, left_is (leaving L.0) page L.2)
-      of_actor (inr some) leaves =
-          let O = owner_of (actors_of z) owned page some in
-          used (Owned O.actor) (O.there, record { owned = O.of_actor; is = O.is; of_page = O.of_page })
+      by : EntryPart up parent L.at entry (word_in z u area.Pool (pool_index parent entry)) → up page ≡ Under parent entry
+      by (inl absent) = absurd (table_not_absent page (sym L.link ∙ absent))
+      by (inr (inl K)) = ap up (sym (same_table K.page page (sym K.is ∙ L.link))) ∙ K.below
+      by (inr (inr F)) = absurd (let lowest = F.lowest in let upper = L.upper in omega (arith, lowest, upper))
 
-      by : (free : Bool) → is_free map page ≡ free → (at : Option Position) → stands page ≡ at → (published : Bool) → (slots == page) ≡ published → HasOneUse z u stands page
-      by true free at is published e = used Free free
-      by false free (Some p) is published e = used (Table p) is
-      by false free None is true e = used Published (grind (arith, nat_tests))
-      by false free None is false e =
-          let no_free : one_if (is_free map page) ≡ 0 = ap one_if free in
-          let no_table : one_if (is_some (stands page)) ≡ 0 = ap (λ (x : Option Position). one_if (is_some x)) is in
-          let no_set : one_if (slots == page) ≡ 0 = ap one_if e in
-          of_actor (cases_lt (owners (actors_of z) owned page) 1) (λ none. omega (arith, one, no_free, no_table, no_set, none))
+  used : (use_ : Use) → up page ≡ use_ → IsUsedFor z u up spot page use_
+  used Free is = G.topics.uses.free page ∙ ap (is_use Free) is
+  used Root is = sym (G.topics.tree.only page is)
+  used (Owned actor) is = let O = has_owner G.topics.uses actor page is in (O.there, record { owned = O.owned_page; is = O.is; of_page = O.of_page })
+  used (Under parent entry) is = links_page parent entry is
+  used SlotSet is = tells (word_in z u area.Slots 0) page (G.topics.uses.set page ∙ ap (is_use SlotSet) is)
+  used (OldSet actor) is = has_leaver G.topics.uses actor page is
+  used Outside is = from_end page z.pool (G.topics.uses.outside page ∙ ap (is_use Outside) is)
 
--- No page outside of the pool has a use.
-in_pool_only : (z : Sizes) (u : World Held) (G : IsSound z u) (page : ℕ) (use_ : PageUse) → IsUsedFor z u G.topics.stands page use_ → page < z.pool
-in_pool_only z u G page Free is = by (cases_lt page z.pool)
-  where
-    by : (page < z.pool) ⊎ (z.pool ≤ page) → page < z.pool
-    by (inl lt) = lt
-    by (inr behind) = let none = G.topics.pool_part.behind page behind in absurd (cc (is, none))
-in_pool_only z u G page (Owned actor) U = subst (λ k. k < z.pool) U.1.of_page (G.topics.pool_part.there actor U.1.owned U.0 U.1.is)
-in_pool_only z u G page (Table p) is = (G.topics.tree.there page p is).0
-in_pool_only z u G page Published is = subst (λ k. k < z.pool) is G.topics.pool_part.slots_there
-in_pool_only z u G page (Leaving actor) U = G.topics.pool_part.left_there actor page U.0 U.1
+  only_so : (use_ : Use) → IsUsedFor z u up spot page use_ → up page ≡ use_
+  only_so Free is = free_use G.topics.uses page is
+  only_so Root is = ap up (sym is) ∙ G.topics.tree.top
+  only_so (Owned actor) U = ap up (sym U.1.of_page) ∙ owned_use G.topics.uses actor U.1.owned U.0 U.1.is
+  only_so (Under parent entry) L = under_it parent entry L
+  only_so SlotSet is = ap up (sym is) ∙ set_use G.topics.uses
+  only_so (OldSet actor) U = left_use G.topics.uses actor page U.0 U.1
+  only_so Outside le = use_is Outside (up page) (sym (G.topics.uses.outside page) ∙ at_end page z.pool le)
 
-pub pages_are_used : (z : Sizes) (u : World Held) → IsSound z u → PagesAreUsed z u
-pages_are_used z u G = record { stands = G.topics.stands; each = λ page in_pool. one_use z u G page in_pool; no_other = in_pool_only z u G; tables = G.topics.tree }
+pub each_used : (z : Sizes) (u : World Held) (G : IsSound z u) (page : ℕ) → IsUsedFor z u G.topics.up G.topics.spot page (G.topics.up page)
+each_used z u G page = used z u G page (G.topics.up page) refl
+
+pub no_other_use : (z : Sizes) (u : World Held) (G : IsSound z u) (page : ℕ) (use_ : Use) → IsUsedFor z u G.topics.up G.topics.spot page use_ → G.topics.up page ≡ use_
+no_other_use z u G page use_ is = only_so z u G page use_ is
+
+pub stand_apart : (z : Sizes) (u : World Held) (G : IsSound z u) (k l : ℕ) (p : Position) → stands G.topics.up G.topics.spot k ≡ Some p → stands G.topics.up G.topics.spot l ≡ Some p → k ≡ l
+stand_apart z u G k l p at_k at_l = let T = G.topics.tree in one_place T k l p (all_reached T k p at_k) (all_reached T l p at_l) at_k at_l
+
+abbrev pub pages_are_used : (z : Sizes) (u : World Held) → IsSound z u → PagesAreUsed z u
+pages_are_used z u G = record { up = G.topics.up; spot = G.topics.spot; each = each_used z u G; only = no_other_use z u G; tables = G.topics.tree; leaves = G.topics.leaves; apart = stand_apart z u G }

@@ -1,15 +1,18 @@
 -- The tables that a walk holds behind a run: those that it has gone through, and the one that it has come to.
-use Rattle.std.specs.Prelude.{◌≡◌, ◌-◌, ◌/◌, ◌^◌, ◌<◌, ◌≤◌, ℕ, List, Some}
+use Rattle.std.specs.Prelude.{◌≡◌, ◌<◌, ◌≤◌, ℕ, List, Some}
 use Rattle.core_views.specs.declared.kind.Kind.{Kind}
 use Rattle.core_views.specs.declared.sizes.Sizes.{Sizes}
 use Rattle.core_views.specs.declared.topics.TableWalk.{TableWalk}
 use Rattle.core_views.specs.declared.trace.Line.{Line}
 use Rattle.core_views.specs.Held.{Held}
 use Rattle.core_views.specs.Sizes.{actors_of}
+use Rattle.spte_words.specs.declared.area.Area.TheVariants as area
+use Rattle.mmu_core.specs.AllOver.{AllOver, LeavesSay}
+use Rattle.mmu_core.specs.View.{word_in}
 use Rattle.mmu_core.specs.Enabled.{mmu}
 use Rattle.mmu_core.specs.Machine.{Step, World, hand_in, run}
-use Rattle.mmu_core.specs.TreePart.{at}
-use Rattle.part_steps.specs.PartSteps.{table_page}
+use Rattle.mmu_core.specs.TreePart.{at, stands}
+pub use Rattle.mmu_core.specs.HeldPart.{run_at, table_at}
 use Rattle.core_theorem.specs.Pages.{PagesAreUsed}
 use Rattle.core_theorem.specs.Runs.{IsRun}
 
@@ -24,17 +27,15 @@ pub record HoldsAt (level : ℕ) (walk : TableWalk) : Type 0 where
   pub down : walk.level ≤ level
   pub up : level ≤ 4
 
--- the table that it holds there
-abbrev pub table_at : ℕ → TableWalk → ℕ
-table_at level walk = table_page (record walk { level = level })
+-- Behind each run the pages are used so that each table that a walk holds stands at its level, for the run that the walk is in. So it is the
+-- root, or linked below it. And each leaf in a table below the root, and in one to which a walk can still come from a table that it holds, says of
+-- each guest frame that it is over what slots and host say.
+pub record PagesAreHeld (z : Sizes) (w : World Held) : Type 0 where
+  pub pages : PagesAreUsed z w
+  pub walks : (actor level : ℕ) → actor < actors_of z → HoldsAt level (walk_of w actor) → stands pages.up pages.spot (table_at level (walk_of w actor)) ≡ Some (at level (run_at level (walk_of w actor)))
+  pub linked : AllOver pages.up pages.spot (word_in z w area.Pool) (word_in z w area.Root 0) (LeavesSay (word_in z w area.Pool) (word_in z w area.Host) (word_in z w area.Slots 0))
+  pub reached : (actor level : ℕ) → actor < actors_of z → HoldsAt level (walk_of w actor)
+      → AllOver pages.up pages.spot (word_in z w area.Pool) (table_at level (walk_of w actor)) (LeavesSay (word_in z w area.Pool) (word_in z w area.Host) (word_in z w area.Slots 0))
 
--- the run of guest frames of that level in which the walk is
-abbrev pub run_at : ℕ → TableWalk → ℕ
-run_at level walk = walk.prefix / 512 ^ (level - walk.level)
-
--- Wherever tables stand behind a run, each table that a walk holds stands there, at its level and for the run that the walk is in. So it is
--- the root, or linked below it.
 abbrev pub WalksHoldTables : Type 0
-WalksHoldTables =
-    (z : Sizes) (lines : List Line) (w : World Held) (ss : List (Step Kind)) → IsRun z lines w ss → (pages : PagesAreUsed z (run mmu w ss)) → (actor level : ℕ) → actor < actors_of z
-    → HoldsAt level (walk_of (run mmu w ss) actor) → pages.stands (table_at level (walk_of (run mmu w ss) actor)) ≡ Some (at level (run_at level (walk_of (run mmu w ss) actor)))
+WalksHoldTables = (z : Sizes) (lines : List Line) (w : World Held) (ss : List (Step Kind)) → IsRun z lines w ss → PagesAreHeld z (run mmu w ss)

@@ -11,12 +11,12 @@ ghost use Rattle.core_theorem.specs.Runs.{TellsLawfully};
 ghost use Rattle.core_theorem.specs.Turns.{CountsAreFew, LinesAreOpen, LinesMakeFewSteps, StepsAreFew};
 ghost use Rattle.core_theorem.specs.Walks.{WalksHoldTables};
 
-/// Every run of the machine. `pages`: each pool page is exactly one of free, owned by
-/// one actor, a table, the published slot set, an old slot set that is leaving, and
-/// no page outside of the pool is any of these; and each table is the root or linked
-/// below it, at a level and run of guest frames of its own. `walks`: each table that a
-/// walk has gone through, and the one that it has come to, is one of these, at its
-/// level and for the run of guest frames that the walk is in. `leaves`, `held`,
+/// Every run of the machine. `pages`: each page is exactly one of free, the root, owned
+/// by one actor, linked by one entry of a table, the published slot set, an old slot set
+/// that is leaving for one actor, and none of the pool; and the tables, the root and what
+/// is linked below it, are each at a level and run of guest frames of its own. `walks`:
+/// with such uses, each table that a walk has gone through, and the one that it has come
+/// to, is at its level and for the run of guest frames that the walk is in. `leaves`, `held`,
 /// `translations`, `used`: each leaf that is linked below the root, or below a table
 /// that a walk holds, each one that is cached, and the one by which an access is about
 /// to touch, is of the page that the slots give the guest frame, at the frame that the

@@ -38,6 +38,7 @@ use Rattle.part_steps.specs.SlotWords.{leaf_of, page_of}
 use Rattle.part_steps.specs.Tasks.{kind_of_task}
 use Rattle.mmu_core.specs.TopicsInvariant.{TopicsInvariant}
 use Rattle.mmu_core.specs.TreePart.{EntryPart, IsLeafAt, at}
+use Rattle.mmu_core.proofs.LeavesOver.{leaf_for}
 use Rattle.mmu_core.specs.View.{View, answer_in, hand_after, stepped}
 pub use Rattle.mmu_core.proofs.LiveStay.{leaf_stays, translations_stay}
 use Rattle.mmu_core.proofs.LiveStays.{MakesParts, access_set_stays}
@@ -59,45 +60,14 @@ flushed_kept P k c v all = by (kind_named k.code)
 
 -- ---- a leaf that a walk finds
 
--- A leaf of the lowest level is of the guest frame whose entry it is.
-pub leaf_at : (pool host : ℕ → ℕ) (set gfn level prefix w : ℕ) → gfn / level_span level / 512 ≡ prefix → IsLeafAt pool host set (at level prefix) (entry_index gfn level) w → (level ≡ 1) × IsLeafFor pool host set gfn w
-leaf_at pool host set gfn level prefix w run L =
-    let own : prefix * 512 + entry_index gfn level ≡ gfn = run_lowest gfn level prefix L.lowest run in (
-      L.lowest,
-      record {
-        id = L.id;
-        slot = L.slot;
-        live = L.live;
-        holds = subst (λ n. contains n L.slot ≡ true) own L.holds;
-        is = L.is ∙ ap (λ n. leaf_of L.slot (host (page_of L.slot n))) own;
-      },
-    )
-
 -- A leaf in the walk's table, at the guest frame's entry, is of the lowest level, and is the guest frame's.
 pub leaf_found : (z : Sizes) (v : View) (a gfn : ℕ) → a < actors_of z → Invariant z v → TopicsInvariant z v → IsOver gfn (v.hand a).topics.walk
     → kind_of (v.hand a).topics.walk.level (v.words area.Pool (pool_index (table_page (v.hand a).topics.walk) (entry_index gfn (v.hand a).topics.walk.level))) ≡ entry_kind.Leaf
     → ((v.hand a).topics.walk.level ≡ 1) × IsLeafFor (v.words area.Pool) (v.words area.Host) (v.words area.Slots 0) gfn (v.words area.Pool (pool_index (table_page (v.hand a).topics.walk) (entry_index gfn (v.hand a).topics.walk.level)))
-leaf_found z v a gfn lt I P over leaf = by (P.tree.entries page (at walk.level walk.prefix) ((P.held a lt).table over.there) j (omega arith))
-  where
-    walk : TableWalk
-    walk = (v.hand a).topics.walk
-
-    page : ℕ
-    page = table_page walk
-
-    j : ℕ
-    j = entry_index gfn walk.level
-
-    w : ℕ
-    w = v.words area.Pool (pool_index page j)
-
-    by : EntryPart (v.words area.Pool) (v.words area.Host) (v.words area.Slots 0) P.stands (at walk.level walk.prefix) j w → (walk.level ≡ 1) × IsLeafFor (v.words area.Pool) (v.words area.Host) (v.words area.Slots 0) gfn w
-    by (inl e) = let none : kind_of walk.level w ≡ entry_kind.Absent = ap (kind_of walk.level) e ∙ kind_of_absent walk.level in absurd (cc (none, leaf))
-    by (inr (inl L)) =
-        let below = (P.tree.there L.page _ L.below).0 in
-        let links : kind_of walk.level w ≡ entry_kind.Table L.page = ap (kind_of walk.level) L.is ∙ kind_of_table walk.level L.page L.upper (omega (arith, below, I.sizes.pool.1)) in
-        absurd (cc (links, leaf))
-    by (inr (inr L)) = leaf_at (v.words area.Pool) (v.words area.Host) (v.words area.Slots 0) gfn walk.level walk.prefix w over.run L
+leaf_found z v a gfn lt I P over leaf =
+    let walk : TableWalk = (v.hand a).topics.walk in
+    let run = over.run in
+    leaf_for z v P (table_page walk) walk.level walk.prefix (entry_index gfn walk.level) gfn ((P.held a lt).table over.there) (omega arith) (omega (arith, run)) leaf
 
 -- What a stay caches is a leaf.
 pub found_is_leaf : (k : SpteKind) (allowed : Bool) → is_found k allowed ≡ true → k ≡ entry_kind.Leaf

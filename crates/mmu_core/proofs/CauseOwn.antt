@@ -1,5 +1,5 @@
 -- What a fault has seen at each of its places it has seen behind its own step.
-use Rattle.std.proofs.Common.{◌≡◌, ◌≢◌, inl, inr, ◌<◌, ◌≤◌, ◌^◌, ℕ, List, [], ◌∷◌, ◌++◌, refl, sym, subst, ap, ◌∙◌, arith}
+use Rattle.std.proofs.Common.{◌≡◌, ◌≢◌, inl, inr, ◌<◌, ◌≤◌, ℕ, List, [], ◌∷◌, ◌++◌, refl, sym, subst, ap, ◌∙◌, arith}
 use Rattle.std.specs.Prelude.{Bool, true, false, ◌==◌, ◌&&◌, nat_le, nat_lt, not, if◌then◌else◌, Some, slice_index}
 use Rattle.std.proofs.lemmas.Bool.Decides.{nat_tests}
 use Rattle.core_views.specs.declared.kind.Kind.{Kind}
@@ -42,7 +42,7 @@ use Rattle.part_steps.specs.PartSteps.{entry_index, page_owned, table_page, word
 use Rattle.part_steps.specs.PartTopics.{part_topics, sequenced}
 use Rattle.part_steps.specs.Tasks.{map_of}
 use Rattle.part_steps.specs.TopicSteps.{gone_down, has_writer, is_loose, is_won, linked_page, searched}
-use Rattle.mmu_core.specs.TreePart.{EntryPart, Position, at}
+use Rattle.mmu_core.specs.TreePart.{EntryPart, at}
 use Rattle.mmu_core.specs.View.{view, word_in}
 use Rattle.mmu_core.proofs.AloneLaws.{part_found}
 use Rattle.mmu_core.proofs.CausePlaces.{FaultSaw, end_longer}
@@ -189,10 +189,10 @@ module _ (z : Sizes) (w : World Held) (ss : List (Step Kind)) (s : Step Kind) (G
       let from : 1 ≤ t.walk.level = M.needs.there in
       let is : v ≡ word_in z u area.Pool (entry_at gfn) = ap (answered mmu u) M.is ∙ part_found z u a (part.Walk gfn) M.note G there M.needs in
       let most = G.holds.sizes.pool.1 in
-      let small : (k : ℕ) (q : Position) → G.topics.stands k ≡ Some q → k < 2 ^ 32 = λ k q stands. (let in_pool = (G.topics.tree.there k q stands).0 in omega (arith, in_pool, most)) in
-      entry_kinds (word_in z u area.Pool) (word_in z u area.Host) (word_in z u area.Slots 0) G.topics.stands (at t.walk.level t.walk.prefix) (entry_index gfn t.walk.level) v small
-      (subst (EntryPart (word_in z u area.Pool) (word_in z u area.Host) (word_in z u area.Slots 0) G.topics.stands (at t.walk.level t.walk.prefix) (entry_index gfn t.walk.level)) (sym is)
-      (G.topics.tree.entries (table_page t.walk) (at t.walk.level t.walk.prefix) ((G.topics.held a there).table from) (entry_index gfn t.walk.level) (low gfn)))
+      let at_page = (G.topics.held a there).table from in
+      entry_kinds G.topics.tree (table_page t.walk) (at t.walk.level t.walk.prefix) (entry_index gfn t.walk.level) v (omega (arith, most)) at_page
+      (subst (EntryPart G.topics.up (table_page t.walk) (at t.walk.level t.walk.prefix) (entry_index gfn t.walk.level)) (sym is)
+      (G.topics.tree.entries (table_page t.walk) (at t.walk.level t.walk.prefix) at_page (entry_index gfn t.walk.level) (low gfn)))
 
   entry_now : (gfn : ℕ) → Made (part.Walk gfn) → EntryIs gfn v more behind
   entry_now gfn M = knows_now So a (entry_word z gfn t.walk) v w ss s may (record { by_actor = refl; on = word_on z u s G may (part.Walk gfn) M; leaves = load_keeps z u s G may (part.Walk gfn) M tt })

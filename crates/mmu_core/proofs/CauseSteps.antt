@@ -1,6 +1,6 @@
 -- What the step of a part leaves of a word that its actor knows, and that it begins and ends no section.
-use Rattle.std.proofs.Common.{◌≡◌, ◌≢◌, ◌⊎◌, inl, inr, ◌<◌, ◌+◌, ◌*◌, ◌^◌, ℕ, refl, sym, subst, ap, ◌∙◌, arith}
-use Rattle.std.specs.Prelude.{Bool, true, false, ◌==◌, if◌then◌else◌, Option, Some}
+use Rattle.std.proofs.Common.{◌≡◌, ◌≢◌, ◌⊎◌, inl, inr, ◌<◌, ◌≤◌, ◌+◌, ◌*◌, ◌^◌, ℕ, refl, sym, subst, ap, ◌∙◌, arith}
+use Rattle.std.specs.Prelude.{Bool, true, false, ◌-◌, ◌==◌, if◌then◌else◌, Some}
 use Rattle.core_views.specs.declared.kind.StepKind.TheVariants as kind
 use Rattle.core_views.specs.declared.sizes.Sizes.{Sizes}
 use Rattle.core_views.specs.declared.topics.Topics.{Topics}
@@ -20,7 +20,8 @@ use Rattle.part_steps.specs.PartSteps.{PartNeeds, fill_task, own_index, part_kin
 use Rattle.part_steps.specs.PartBounds.{PartRests}
 use Rattle.part_steps.specs.SlotWords.{leaf_of, may_write, page_of}
 use Rattle.part_steps.specs.Tasks.{map_of}
-use Rattle.mmu_core.specs.TreePart.{EntryPart, Position}
+use Rattle.mmu_core.specs.TreePart.{EntryPart, Position, TreePart, Use, at, stands}
+use Rattle.mmu_core.proofs.TreePlaces.{link_stands}
 use Rattle.mmu_core.proofs.PartFits.{part_within_by}
 
 -- The step begins no section and ends none.
@@ -108,17 +109,13 @@ spared z a i h step note n same inside N R (inr apart) at =
     absurd (apart P.0 P.1)
 
 -- The entries of tables: none is frozen, and leaves are of the lowest level.
-pub entry_kinds : (pool host : ℕ → ℕ) (set : ℕ) (stands : ℕ → Option Position) (p : Position) (j w : ℕ) → ((k : ℕ) (q : Position) → stands k ≡ Some q → k < 2 ^ 32) → EntryPart pool host set stands p j w
+pub entry_kinds : {pages root set : ℕ} {role pool : ℕ → ℕ} {up : ℕ → Use} {spot : ℕ → Position} (T : TreePart pages root set role pool up spot) (k : ℕ) (p : Position) (j w : ℕ) → pages ≤ 2 ^ 32 → stands up spot k ≡ Some p → EntryPart up k p j w
     → (kind_of p.level w ≡ entry_kind.Leaf → p.level ≡ 1) × (kind_of p.level w ≢ entry_kind.Frozen)
-entry_kinds pool host set stands p j w small (inl e) =
+entry_kinds T k p j w small at_k (inl e) =
     let none : kind_of p.level w ≡ entry_kind.Absent = ap (kind_of p.level) e ∙ kind_of_absent p.level in
     (λ leaf. absurd (cc (none, leaf)), λ frozen. cc (none, frozen))
-entry_kinds pool host set stands p j w small (inr (inl L)) =
-    let links : kind_of p.level w ≡ entry_kind.Table L.page = ap (kind_of p.level) L.is ∙ kind_of_table p.level L.page L.upper (small L.page _ L.below) in
+entry_kinds T k p j w small at_k (inr (inl L)) =
+    let there = T.there L.page (at (p.level - 1) (p.prefix * 512 + j)) (link_stands T k p j w at_k L) in
+    let links : kind_of p.level w ≡ entry_kind.Table L.page = ap (kind_of p.level) L.is ∙ kind_of_table p.level L.page L.upper (omega (arith, small, there.0)) in
     (λ leaf. absurd (cc (links, leaf)), λ frozen. cc (links, frozen))
-entry_kinds pool host set stands p j w small (inr (inr L)) =
-    let word : ℕ = host (page_of L.slot (p.prefix * 512 + j)) in
-    let one : p.level ≡ 1 = L.lowest in
-    let leaf : kind_of p.level w ≡ entry_kind.Leaf =
-    ap (kind_of p.level) L.is ∙ ap (λ l. kind_of l (leaf_of L.slot word)) one ∙ kind_of_leaf 1 (host_frame word) (may_write L.slot word) (host_allows_write word) (may_write L.slot word) (omega arith) (omega arith) in
-    (λ is. one, λ frozen. cc (leaf, frozen))
+entry_kinds T k p j w small at_k (inr (inr L)) = let leaf = L.leaf in (λ is. L.lowest, λ frozen. cc (leaf, frozen))

@@ -9,25 +9,28 @@ use Rattle.core_views.specs.declared.trace.Header.{Header}
 use Rattle.core_views.specs.declared.trace.Line.{Line}
 use Rattle.core_views.specs.Held.{Held}
 use Rattle.core_views.specs.Need.{count_below, need}
-use Rattle.core_views.specs.Sizes.{actors_of, sizes_of}
+use Rattle.core_views.specs.Sizes.{sizes_of}
 use Rattle.spte_words.specs.declared.area.Area.TheVariants as area
 use Rattle.mmu_core.specs.Enabled.{mmu}
 use Rattle.mmu_core.specs.Enough.{EachTableIsWanted, EnoughPages, IsWantedTable, TablesAreForTheirRuns, some_line_wants}
 use Rattle.mmu_core.specs.Laws.{IsSound}
-use Rattle.mmu_core.specs.Machine.{Legal, Step, World, hand_in, run}
-use Rattle.mmu_core.specs.PoolPart.{PoolPart, is_free, is_owned, owners}
+use Rattle.mmu_core.specs.Machine.{Legal, Step, World, run}
+use Rattle.mmu_core.specs.PoolPart.{UsePart, is_free, is_leaving, is_owned, is_use}
 use Rattle.mmu_core.specs.Sums.{one_if, sum_below}
-use Rattle.mmu_core.specs.TreePart.{IsWanted, Position, TreePart, at}
+use Rattle.mmu_core.specs.TreePart.{IsWanted, Position, TreePart, Use, at, stands}
+use Rattle.mmu_core.specs.TreePart.Use.{Free, OldSet, Outside, Owned, Root, SlotSet, Under}
 use Rattle.mmu_core.specs.View.{word_in}
 use Rattle.mmu_core.specs.Worlds.{IsStart}
 use Rattle.mmu_core.proofs.WantedRuns.{IsWantedRun, wanted_by_line}
 use Rattle.mmu_core.proofs.Columns.{same_or}
 use Rattle.mmu_core.proofs.Pigeonhole.{count_le, pigeonhole, sum_each, sum_plus, sum_some}
 use Rattle.mmu_core.proofs.Starts.{start_good}
-use Rattle.mmu_core.proofs.SumsBelow.{sum_mono, sum_none}
+use Rattle.mmu_core.proofs.SumsBelow.{sum_mono}
 use Rattle.mmu_core.proofs.Worlds.{good_run}
-use Rattle.mmu_core.proofs.Leavers.{one_left, one_place}
-use Rattle.mmu_core.specs.TopicsInvariant.{is_leaving, leavers}
+use Rattle.mmu_core.proofs.Leavers.{is_old, one_left, one_number}
+use Rattle.mmu_core.proofs.PoolPages.{has_leaver, has_owner, itself, no_outside, tells}
+use Rattle.mmu_core.proofs.Standing.{at_spot}
+use Rattle.mmu_core.proofs.TreePlaces.{all_reached, one_place, root_stands, same_position}
 
 -- A table of this level stands there; and at which run of guest frames.
 abbrev stands_at : ℕ → Option Position → Bool
@@ -46,9 +49,6 @@ stands_where : (level : ℕ) (o : Option Position) → stands_at level o ≡ tru
 stands_where level None is = absurd (cc is)
 stands_where level (Some p) is = (p, refl, (Decides-eqb p.level level).0 is)
 
-same_position : (p q : Position) → p.level ≡ q.level → p.prefix ≡ q.prefix → p ≡ q
-same_position p q level prefix = λ t. record { level = level t; prefix = prefix t }
-
 -- A table is of one of the four levels.
 one_level : (o : Option Position) → ((p : Position) → o ≡ Some p → (1 ≤ p.level) × (p.level ≤ 4))
     → one_if (is_some o) ≤ one_if (stands_at 4 o) + (one_if (stands_at 3 o) + (one_if (stands_at 2 o) + one_if (stands_at 1 o)))
@@ -62,60 +62,60 @@ one_level (Some p) low = let there = low p refl in of_four p.level there.0 there
 abbrev AreWanted : Header → List Line → ℕ → (ℕ → Option Position) → Type 0
 AreWanted h lines root stands = (k : ℕ) (p : Position) → stands k ≡ Some p → (k ≡ root) ⊎ IsWantedRun h lines p
 
-module _ (h : Header) (lines : List Line) (root set : ℕ) (role pool host : ℕ → ℕ) (stands : ℕ → Option Position) (T : TreePart h.pool root set role pool host stands) (A : AreWanted h lines root stands) where
+module _ (h : Header) (lines : List Line) {root set : ℕ} {role pool : ℕ → ℕ} {up : ℕ → Use} {spot : ℕ → Position} (T : TreePart h.pool root set role pool up spot) (A : AreWanted h lines root (stands up spot)) where
   -- No two tables of a level stand at one run.
-  one_run : (level k l : ℕ) → stands_at level (stands k) ≡ true → stands_at level (stands l) ≡ true → run_of (stands k) ≡ run_of (stands l) → k ≡ l
+  one_run : (level k l : ℕ) → stands_at level (stands up spot k) ≡ true → stands_at level (stands up spot l) ≡ true → run_of (stands up spot k) ≡ run_of (stands up spot l) → k ≡ l
   one_run level k l is be same =
-      let x = stands_where level (stands k) is in
-      let y = stands_where level (stands l) be in
+      let x = stands_where level (stands up spot k) is in
+      let y = stands_where level (stands up spot l) be in
       let run_same : x.0.prefix ≡ y.0.prefix = sym (ap run_of x.1) ∙ same ∙ ap run_of y.1 in
-      T.apart k l x.0 x.1 (y.1 ∙ ap Some (same_position y.0 x.0 (y.2 ∙ sym x.2) (sym run_same)))
+      one_place T k l x.0 (all_reached T k x.0 x.1) (all_reached T l y.0 y.1) x.1 (y.1 ∙ ap Some (same_position y.0 x.0 (y.2 ∙ sym x.2) (sym run_same)))
 
   -- the tables of a level below the root's
-  few_of_level : (level : ℕ) → level ≤ 3 → sum_below h.pool (λ k. one_if (stands_at level (stands k))) ≤ count_below (2 ^ 36 / 512 ^ level) (some_line_wants h lines level)
-  few_of_level level below = pigeonhole h.pool (2 ^ 36 / 512 ^ level) (λ k. stands_at level (stands k)) (λ k. run_of (stands k)) (some_line_wants h lines level) (λ k lt is. at k is) (one_run level)
+  few_of_level : (level : ℕ) → level ≤ 3 → sum_below h.pool (λ k. one_if (stands_at level (stands up spot k))) ≤ count_below (2 ^ 36 / 512 ^ level) (some_line_wants h lines level)
+  few_of_level level below = pigeonhole h.pool (2 ^ 36 / 512 ^ level) (λ k. stands_at level (stands up spot k)) (λ k. run_of (stands up spot k)) (some_line_wants h lines level) (λ k lt is. at k is) (one_run level)
     where
-      at : (k : ℕ) → stands_at level (stands k) ≡ true → (run_of (stands k) < 2 ^ 36 / 512 ^ level) × (some_line_wants h lines level (run_of (stands k)) ≡ true)
+      at : (k : ℕ) → stands_at level (stands up spot k) ≡ true → (run_of (stands up spot k) < 2 ^ 36 / 512 ^ level) × (some_line_wants h lines level (run_of (stands up spot k)) ≡ true)
       at k is = by (A k x.0 x.1)
         where
-          x : (p : Position) × (stands k ≡ Some p) × (p.level ≡ level)
-          x = stands_where level (stands k) is
+          x : (p : Position) × (stands up spot k ≡ Some p) × (p.level ≡ level)
+          x = stands_where level (stands up spot k) is
 
-          by : (k ≡ root) ⊎ IsWantedRun h lines x.0 → (run_of (stands k) < 2 ^ 36 / 512 ^ level) × (some_line_wants h lines level (run_of (stands k)) ≡ true)
+          by : (k ≡ root) ⊎ IsWantedRun h lines x.0 → (run_of (stands up spot k) < 2 ^ 36 / 512 ^ level) × (some_line_wants h lines level (run_of (stands up spot k)) ≡ true)
           by (inl e) =
-              let top : 4 ≡ level = ap level_of (sym T.root_stands ∙ sym (ap stands e) ∙ x.1) ∙ x.2 in
+              let top : 4 ≡ level = ap level_of (sym (root_stands T) ∙ sym (ap (stands up spot) e) ∙ x.1) ∙ x.2 in
               absurd (omega (arith, top, below))
           by (inr R) =
-              let run_is : x.0.prefix ≡ run_of (stands k) = sym (ap run_of x.1) in (
+              let run_is : x.0.prefix ≡ run_of (stands up spot k) = sym (ap run_of x.1) in (
                 subst (λ i. i < 2 ^ 36 / 512 ^ level) run_is (subst (λ n. x.0.prefix < 2 ^ 36 / 512 ^ n) x.2 R.below),
                 subst (λ i. some_line_wants h lines level i ≡ true) run_is (subst (λ n. some_line_wants h lines n x.0.prefix ≡ true) x.2 R.wanted),
               )
 
   -- The root stands alone at its level.
-  few_roots : sum_below h.pool (λ k. one_if (stands_at 4 (stands k))) ≤ 1
-  few_roots = omega (arith, pigeonhole h.pool 1 (λ k. stands_at 4 (stands k)) (λ k. run_of (stands k)) (λ index. true) (λ k lt is. (at k is, refl)) (one_run 4), count_le 1 (λ index. true))
+  few_roots : sum_below h.pool (λ k. one_if (stands_at 4 (stands up spot k))) ≤ 1
+  few_roots = omega (arith, pigeonhole h.pool 1 (λ k. stands_at 4 (stands up spot k)) (λ k. run_of (stands up spot k)) (λ index. true) (λ k lt is. (at k is, refl)) (one_run 4), count_le 1 (λ index. true))
     where
-      at : (k : ℕ) → stands_at 4 (stands k) ≡ true → run_of (stands k) < 1
+      at : (k : ℕ) → stands_at 4 (stands up spot k) ≡ true → run_of (stands up spot k) < 1
       at k is = by (A k x.0 x.1)
         where
-          x : (p : Position) × (stands k ≡ Some p) × (p.level ≡ 4)
-          x = stands_where 4 (stands k) is
+          x : (p : Position) × (stands up spot k ≡ Some p) × (p.level ≡ 4)
+          x = stands_where 4 (stands up spot k) is
 
-          by : (k ≡ root) ⊎ IsWantedRun h lines x.0 → run_of (stands k) < 1
-          by (inl e) = let first : run_of (stands k) ≡ 0 = ap run_of (ap stands e ∙ T.root_stands) in omega (arith, first)
-          by (inr R) = let run_is : x.0.prefix ≡ run_of (stands k) = sym (ap run_of x.1) in subst (λ i. i < 1) run_is (subst (λ n. x.0.prefix < 2 ^ 36 / 512 ^ n) x.2 R.below)
+          by : (k ≡ root) ⊎ IsWantedRun h lines x.0 → run_of (stands up spot k) < 1
+          by (inl e) = let first : run_of (stands up spot k) ≡ 0 = ap run_of (ap (stands up spot) e ∙ root_stands T) in omega (arith, first)
+          by (inr R) = let run_is : x.0.prefix ≡ run_of (stands up spot k) = sym (ap run_of x.1) in subst (λ i. i < 1) run_is (subst (λ n. x.0.prefix < 2 ^ 36 / 512 ^ n) x.2 R.below)
 
   -- the tables altogether, by level
   abbrev of_level : ℕ → ℕ
-  of_level level = sum_below h.pool (λ k. one_if (stands_at level (stands k)))
+  of_level level = sum_below h.pool (λ k. one_if (stands_at level (stands up spot k)))
 
-  by_level : sum_below h.pool (λ k. one_if (is_some (stands k))) ≤ of_level 4 + (of_level 3 + (of_level 2 + of_level 1))
+  by_level : sum_below h.pool (λ k. one_if (is_some (stands up spot k))) ≤ of_level 4 + (of_level 3 + (of_level 2 + of_level 1))
   by_level =
-      let each = sum_mono h.pool (λ k. one_if (is_some (stands k))) (λ k. one_if (stands_at 4 (stands k)) + (one_if (stands_at 3 (stands k)) + (one_if (stands_at 2 (stands k)) + one_if (stands_at 1 (stands k)))))
-      (λ k. one_level (stands k) (λ p is. let there = T.there k p is in (there.1, there.2))) in
-      let a = sum_plus h.pool (λ k. one_if (stands_at 4 (stands k))) (λ k. one_if (stands_at 3 (stands k)) + (one_if (stands_at 2 (stands k)) + one_if (stands_at 1 (stands k)))) in
-      let b = sum_plus h.pool (λ k. one_if (stands_at 3 (stands k))) (λ k. one_if (stands_at 2 (stands k)) + one_if (stands_at 1 (stands k))) in
-      let c = sum_plus h.pool (λ k. one_if (stands_at 2 (stands k))) (λ k. one_if (stands_at 1 (stands k))) in
+      let each = sum_mono h.pool (λ k. one_if (is_some (stands up spot k))) (λ k. one_if (stands_at 4 (stands up spot k)) + (one_if (stands_at 3 (stands up spot k)) + (one_if (stands_at 2 (stands up spot k)) + one_if (stands_at 1 (stands up spot k)))))
+      (λ k. one_level (stands up spot k) (λ p is. let there = T.there k p is in (there.1, there.2))) in
+      let a = sum_plus h.pool (λ k. one_if (stands_at 4 (stands up spot k))) (λ k. one_if (stands_at 3 (stands up spot k)) + (one_if (stands_at 2 (stands up spot k)) + one_if (stands_at 1 (stands up spot k)))) in
+      let b = sum_plus h.pool (λ k. one_if (stands_at 3 (stands up spot k))) (λ k. one_if (stands_at 2 (stands up spot k)) + one_if (stands_at 1 (stands up spot k))) in
+      let c = sum_plus h.pool (λ k. one_if (stands_at 2 (stands up spot k))) (λ k. one_if (stands_at 1 (stands up spot k))) in
       omega (arith, each, a, b, c)
 
 -- Four pages more than there are tables below the root: enough for the root, the slot set, one that leaves, and a free page.
@@ -127,22 +127,45 @@ need_is : (h : Header) (lines : List Line) → 4 + count_below (2 ^ 36 / 512 ^ 3
 unfolding need
 need_is h lines = refl
 
-owns_none : (n : ℕ) (owned : ℕ → Option OwnedPage) (k : ℕ) → ((i : ℕ) → i < n → owned i ≡ None) → owners n owned k ≡ 0
-owns_none n owned k none = sum_none n (λ i. one_if (is_owned (owned i) k)) (λ i lt. ap (λ (o : Option OwnedPage). one_if (is_owned o k)) (none i lt))
-
 -- Where no actor owns a page, each page is free, a table, the published slot set, or leaves.
-free_or_not : (n pages slots : ℕ) (map : ℕ → ℕ) (owned : ℕ → Option OwnedPage) (leaving : ℕ → Option ℕ) (stands : ℕ → Option Position) → PoolPart n pages slots map owned leaving stands → ((i : ℕ) → i < n → owned i ≡ None)
-    → pages ≤ sum_below pages (λ k. one_if (is_free map k)) + (sum_below pages (λ k. one_if (is_some (stands k))) + (sum_below pages (λ k. one_if (slots == k)) + sum_below pages (leavers n leaving)))
-free_or_not n pages slots map owned leaving stands P none =
-    let each = sum_each pages (λ k. one_if (is_free map k) + (one_if (is_some (stands k)) + (one_if (slots == k) + leavers n leaving k))) (λ k lt. let e = P.each k lt in let o = owns_none n owned k none in omega (arith, e, o)) in
-    let a = sum_plus pages (λ k. one_if (is_free map k)) (λ k. one_if (is_some (stands k)) + (one_if (slots == k) + leavers n leaving k)) in
-    let b = sum_plus pages (λ k. one_if (is_some (stands k))) (λ k. one_if (slots == k) + leavers n leaving k) in
-    let c = sum_plus pages (λ k. one_if (slots == k)) (leavers n leaving) in
-    omega (arith, each, a, b, c)
+module _ {n pages slots : ℕ} {map : ℕ → ℕ} {owned : ℕ → Option OwnedPage} {leaving : ℕ → Option ℕ} {up : ℕ → Use} (U : UsePart n pages slots map owned leaving up) (spot : ℕ → Position) (none : (i : ℕ) → i < n → owned i ≡ None) where
+  is_one : (k : ℕ) → k < pages → (u : Use) → up k ≡ u → 1 ≤ one_if (is_free map k) + (one_if (is_some (stands up spot k)) + (one_if (slots == k) + one_if (is_old (up k))))
+  is_one k lt Free is = let free : one_if (is_free map k) ≡ 1 = ap one_if (U.free k) ∙ ap (λ u. one_if (is_use Free u)) is in omega (arith, free)
+  is_one k lt Root is = let table : one_if (is_some (stands up spot k)) ≡ 1 = ap (λ (x : Option Position). one_if (is_some x)) (at_spot up spot k Root is refl) in omega (arith, table)
+  is_one k lt (Under page entry) is = let table : one_if (is_some (stands up spot k)) ≡ 1 = ap (λ (x : Option Position). one_if (is_some x)) (at_spot up spot k (Under page entry) is refl) in omega (arith, table)
+  is_one k lt SlotSet is = let set : one_if (slots == k) ≡ 1 = ap one_if (U.set k) ∙ ap (λ u. one_if (is_use SlotSet u)) is in omega (arith, set)
+  is_one k lt (OldSet i) is = let old : one_if (is_old (up k)) ≡ 1 = ap (λ u. one_if (is_old u)) is in omega (arith, old)
+  is_one k lt (Owned i) is = let O = has_owner U i k is in let owns_none = none i O.there in let owns_one = O.is in absurd (cc (owns_none, owns_one))
+  is_one k lt Outside is = absurd (let inside = no_outside k pages lt in let outside = U.outside k ∙ ap (is_use Outside) is in cc (inside, outside))
+
+  free_or_not : pages ≤ sum_below pages (λ k. one_if (is_free map k)) + (sum_below pages (λ k. one_if (is_some (stands up spot k))) + (sum_below pages (λ k. one_if (slots == k)) + sum_below pages (λ k. one_if (is_old (up k)))))
+  free_or_not =
+      let each = sum_each pages (λ k. one_if (is_free map k) + (one_if (is_some (stands up spot k)) + (one_if (slots == k) + one_if (is_old (up k))))) (λ k lt. is_one k lt (up k) refl) in
+      let a = sum_plus pages (λ k. one_if (is_free map k)) (λ k. one_if (is_some (stands up spot k)) + (one_if (slots == k) + one_if (is_old (up k)))) in
+      let b = sum_plus pages (λ k. one_if (is_some (stands up spot k))) (λ k. one_if (slots == k) + one_if (is_old (up k))) in
+      let c = sum_plus pages (λ k. one_if (slots == k)) (λ k. one_if (is_old (up k))) in
+      omega (arith, each, a, b, c)
+
+-- A page that isn't free, owned, leaving or the slot set is a table.
+no_use : (k l : ℕ) → (k == l) ≡ true → l ≢ k → ⊥
+no_use k l is ne = ne (sym (tells k l is))
+
+module _ {n pages slots : ℕ} {map : ℕ → ℕ} {owned : ℕ → Option OwnedPage} {leaving : ℕ → Option ℕ} {up : ℕ → Use} (U : UsePart n pages slots map owned leaving up) (spot : ℕ → Position) (k : ℕ) where
+  is_table_there : k < pages → is_free map k ≡ false → ((i : ℕ) → i < n → is_owned (owned i) k ≡ false) → ((i : ℕ) → i < n → is_leaving (leaving i) k ≡ false) → k ≢ slots → (p : Position) × (stands up spot k ≡ Some p)
+  is_table_there lt taken none stays ne = by (up k) refl
+    where
+      by : (u : Use) → up k ≡ u → (p : Position) × (stands up spot k ≡ Some p)
+      by Root is = (spot k, at_spot up spot k Root is refl)
+      by (Under page entry) is = (spot k, at_spot up spot k (Under page entry) is refl)
+      by Free is = absurd (let free = U.free k ∙ ap (is_use Free) is in cc (free, taken))
+      by SlotSet is = absurd (no_use slots k (U.set k ∙ ap (is_use SlotSet) is) ne)
+      by Outside is = absurd (let inside = no_outside k pages lt in let outside = U.outside k ∙ ap (is_use Outside) is in cc (inside, outside))
+      by (Owned i) is = absurd (let O = has_owner U i k is in let owns_it = ap (λ o. is_owned o k) O.is ∙ ap (λ p. p == k) O.of_page ∙ itself k in let owns_none = none i O.there in cc (owns_it, owns_none))
+      by (OldSet i) is = absurd (let L = has_leaver U i k is in let leaves_it = ap (λ o. is_leaving o k) L.1 ∙ itself k in let leaves_none = stays i L.0 in cc (leaves_it, leaves_none))
 
 -- what is known of each table behind a list of steps
 wanted_behind : (h : Header) (lines : List Line) (w : World Held) (ss : List (Step Kind)) → IsStart (sizes_of h) lines w → Legal mmu w ss → (G : IsSound (sizes_of h) (run mmu w ss))
-    → AreWanted h lines (word_in (sizes_of h) (run mmu w ss) area.Root 0) G.topics.stands
+    → AreWanted h lines (word_in (sizes_of h) (run mmu w ss) area.Root 0) (stands G.topics.up G.topics.spot)
 wanted_behind h lines w ss start legal G k p is = by (G.topics.tree.wanted k p is)
   where
     z : Sizes
@@ -162,7 +185,7 @@ pub tables_are_for_their_runs : TablesAreForTheirRuns
 tables_are_for_their_runs h lines w ss start legal G k level prefix is low = (by (wanted_behind h lines w ss start legal G k (at level prefix) is), G.topics.tree.roles k (at level prefix) is)
   where
     by : (k ≡ word_in (sizes_of h) (run mmu w ss) area.Root 0) ⊎ IsWantedRun h lines (at level prefix) → some_line_wants h lines level prefix ≡ true
-    by (inl e) = absurd (below_root (word_in (sizes_of h) (run mmu w ss) area.Root 0) k level prefix G.topics.stands G.topics.tree.root_stands is low e)
+    by (inl e) = absurd (below_root (word_in (sizes_of h) (run mmu w ss) area.Root 0) k level prefix (stands G.topics.up G.topics.spot) (root_stands G.topics.tree) is low e)
     by (inr R) = R.wanted
 
 pub enough_pages : EnoughPages
@@ -172,40 +195,22 @@ enough_pages h lines w ss start legal most none =
     let G : IsSound z u = good_run z w ss (start_good z lines w start) legal in
     let A = wanted_behind h lines w ss start legal G in
     let T = G.topics.tree in
-    let root : ℕ = word_in z u area.Root 0 in
     let set : ℕ = word_in z u area.Slots 0 in
-    let role : ℕ → ℕ = word_in z u area.Role in
-    let pool : ℕ → ℕ = word_in z u area.Pool in
-    let host : ℕ → ℕ = word_in z u area.Host in
-    let few = few_of_level h lines root set role pool host G.topics.stands T A in
+    let few = few_of_level h lines T A in
     let some = room h.pool (need h lines) _ _ _ _ _ _ _ _ _ _ _ (need_is h lines) most
-    (free_or_not (actors_of z) h.pool set (word_in z u area.PoolMap) (λ i. (hand_in mmu u i).topics.owned) (λ i. (hand_in mmu u i).topics.leaving) G.topics.stands G.topics.pool_part none) (one_place h.pool set) (one_left z u G)
-    (by_level h lines root set role pool host G.topics.stands T A) (few_roots h lines root set role pool host G.topics.stands T A)
+    (free_or_not G.topics.uses G.topics.spot none) (one_number h.pool set) (one_left z u G)
+    (by_level h lines T A) (few_roots h lines T A)
     (few 3 (omega arith)) (few 2 (omega arith)) (few 1 (omega arith)) in
     let found = sum_some h.pool (λ k. is_free (word_in z u area.PoolMap) k) some in
     record { page = found.0; there = found.1; free = found.2 }
 
--- A page that isn't free, owned, leaving or the slot set is a table.
-no_owner : (n : ℕ) (owned : ℕ → Option OwnedPage) (k : ℕ) → ((i : ℕ) → i < n → is_owned (owned i) k ≡ false) → owners n owned k ≡ 0
-no_owner n owned k none = sum_none n (λ i. one_if (is_owned (owned i) k)) (λ i lt. ap one_if (none i lt))
-
-no_leaver : (n : ℕ) (leaving : ℕ → Option ℕ) (k : ℕ) → ((i : ℕ) → i < n → is_leaving (leaving i) k ≡ false) → leavers n leaving k ≡ 0
-no_leaver n leaving k none = sum_none n (λ i. one_if (is_leaving (leaving i) k)) (λ i lt. ap one_if (none i lt))
-
-is_table : (free : Bool) (owners_ slots leavers_ k : ℕ) (o : Option Position) → one_if free + owners_ + one_if (is_some o) + one_if (slots == k) + leavers_ ≡ 1 → free ≡ false → owners_ ≡ 0 → leavers_ ≡ 0 → k ≢ slots → (p : Position) × (o ≡ Some p)
-is_table free owners_ slots leavers_ k None all is none stays ne = absurd (not_one free owners_ slots leavers_ k all is none stays ne)
-  where
-    not_one : (free : Bool) (owners_ slots leavers_ k : ℕ) → one_if free + owners_ + 0 + one_if (slots == k) + leavers_ ≡ 1 → free ≡ false → owners_ ≡ 0 → leavers_ ≡ 0 → k ≢ slots → ⊥
-    not_one free owners_ slots leavers_ k all is none stays ne = grind (arith, nat_tests)
-is_table free owners_ slots leavers_ k (Some p) all is none stays ne = (p, refl)
-
 -- A table for a run that is wanted is the root, or stands below it, where its role says.
-wanted_below : (h : Header) (lines : List Line) (root set : ℕ) (role pool host : ℕ → ℕ) (stands : ℕ → Option Position) → TreePart h.pool root set role pool host stands → (k : ℕ) (p : Position) → stands k ≡ Some p
+wanted_below : (h : Header) (lines : List Line) {root set : ℕ} {role pool : ℕ → ℕ} {up : ℕ → Use} {spot : ℕ → Position} (T : TreePart h.pool root set role pool up spot) (k : ℕ) (p : Position) → stands up spot k ≡ Some p
     → IsWantedRun h lines p → (p.level ≡ 4) ⊎ (p.level ≢ 4) → (k ≡ root) ⊎ IsWantedTable h lines (role k)
-wanted_below h lines root set role pool host stands T k p is R (inl e) =
+wanted_below h lines T k p is R (inl e) =
     let first : p.prefix < 1 = subst (λ n. p.prefix < 2 ^ 36 / 512 ^ n) e R.below in
-    inl (T.apart k root p is (T.root_stands ∙ ap Some (same_position (at 4 0) p (sym e) (omega (arith, first)))))
-wanted_below h lines root set role pool host stands T k p is R (inr ne) =
+    inl (one_place T k _ p (all_reached T k p is) (all_reached T _ _ (root_stands T)) is (root_stands T ∙ ap Some (same_position (at 4 0) p (sym e) (omega (arith, first)))))
+wanted_below h lines T k p is R (inr ne) =
     let there = T.there k p is in
     inr (subst (IsWantedTable h lines) (sym (T.roles k p is)) (record { below_root = (there.1, omega (arith, there.2, ne)); index = p.prefix; wanted = R.wanted }))
 
@@ -221,10 +226,9 @@ each_table_is_wanted h lines w ss k start legal there taken none stays ne = by (
     G : IsSound z u
     G = good_run z w ss (start_good z lines w start) legal
 
-    table : (p : Position) × (G.topics.stands k ≡ Some p)
-    table = is_table (is_free (word_in z u area.PoolMap) k) (owners (actors_of z) (λ i. (hand_in mmu u i).topics.owned) k) (word_in z u area.Slots 0) (leavers (actors_of z) (λ i. (hand_in mmu u i).topics.leaving) k) k (G.topics.stands k)
-        (G.topics.pool_part.each k there) taken (no_owner (actors_of z) (λ i. (hand_in mmu u i).topics.owned) k none) (no_leaver (actors_of z) (λ i. (hand_in mmu u i).topics.leaving) k stays) ne
+    table : (p : Position) × (stands G.topics.up G.topics.spot k ≡ Some p)
+    table = is_table_there G.topics.uses G.topics.spot k there taken none stays ne
 
     by : (k ≡ word_in z u area.Root 0) ⊎ IsWantedRun h lines table.0 → (k ≡ word_in z u area.Root 0) ⊎ IsWantedTable h lines (word_in z u area.Role k)
     by (inl e) = inl e
-    by (inr R) = wanted_below h lines (word_in z u area.Root 0) (word_in z u area.Slots 0) (word_in z u area.Role) (word_in z u area.Pool) (word_in z u area.Host) G.topics.stands G.topics.tree k table.0 table.1 R (same_or table.0.level 4)
+    by (inr R) = wanted_below h lines G.topics.tree k table.0 table.1 R (same_or table.0.level 4)

@@ -37,7 +37,8 @@ use Rattle.part_steps.specs.PartSteps.{IsOver, LookedUp, SawEntry, entry_index, 
 use Rattle.part_steps.specs.PartTopics.{part_topics}
 use Rattle.part_steps.specs.SlotWords.{field_number, leaf_of, may_write, page_of}
 use Rattle.part_steps.specs.TopicSteps.{gone_down, has_writer, is_won, linked_page, may_search}
-use Rattle.mmu_core.specs.TreePart.{EntryPart, IsLeafAt, IsLiveIn, TreePart, at}
+use Rattle.mmu_core.specs.TreePart.{EntryPart, IsLeafAt, IsLiveIn, TreePart, at, stands}
+use Rattle.mmu_core.proofs.TreePlaces.{all_reached, link_stands}
 use Rattle.mmu_core.specs.View.{answer_in, upd, view, word_in, words_after}
 use Rattle.mmu_core.proofs.AloneLaws.{lock_free}
 use Rattle.mmu_core.proofs.Columns.{upd_same}
@@ -48,7 +49,7 @@ use Rattle.mmu_core.proofs.LeadsDown.{leads_same}
 use Rattle.mmu_core.proofs.LiveStays.{LiveStays, live_in_stays}
 use Rattle.mmu_core.proofs.PartWords.{entry_leaves, fill_leaves, is_word, walks_elsewhere, walks_unowned}
 use Rattle.mmu_core.proofs.SlotFields.{is_number}
-use Rattle.mmu_core.proofs.TreeKept.{found_live, looked_word, run_lowest}
+use Rattle.mmu_core.proofs.TreeKept.{leaf_is, found_live, looked_word, run_lowest}
 use Rattle.mmu_core.proofs.TreeStored.{entry_stored}
 use Rattle.core_views.specs.declared.topics.Stay.{Stay}
 
@@ -200,31 +201,26 @@ module _ (z : Sizes) (w : World Held) (a gfn note : ℕ) (write : Bool) (p : Fau
   index = entry_index gfn t.walk.level
 
   -- the entry that is next is absent, a link, or a leaf of the lowest level
-  entry_is : 1 ≤ t.walk.level → EntryPart (words area.Pool) (words area.Host) (words area.Slots 0) R.sound.topics.stands (at t.walk.level t.walk.prefix) index (words area.Pool (pool_index page index))
+  entry_is : 1 ≤ t.walk.level → EntryPart R.sound.topics.up page (at t.walk.level t.walk.prefix) index (words area.Pool (pool_index page index))
   entry_is from = R.sound.topics.tree.entries page (at t.walk.level t.walk.prefix) ((R.sound.topics.held a R.there).table from) index (omega arith)
 
-  kinds : EntryPart (words area.Pool) (words area.Host) (words area.Slots 0) R.sound.topics.stands (at t.walk.level t.walk.prefix) index (words area.Pool (pool_index page index))
+  kinds : EntryPart R.sound.topics.up page (at t.walk.level t.walk.prefix) index (words area.Pool (pool_index page index))
       → ((kind_of t.walk.level (words area.Pool (pool_index page index)) ≡ entry_kind.Leaf) → t.walk.level ≡ 1) × ((kind_of t.walk.level (words area.Pool (pool_index page index))) ≢ entry_kind.Frozen)
   kinds (inl e) =
       let none : kind_of t.walk.level (words area.Pool (pool_index page index)) ≡ entry_kind.Absent = ap (kind_of t.walk.level) e ∙ kind_of_absent t.walk.level in
       (λ leaf. absurd (cc (none, leaf)), λ frozen. cc (none, frozen))
   kinds (inr (inl L)) =
       let most = R.sound.holds.sizes.pool.1 in
-      let low = (R.sound.topics.tree.there L.page _ L.below).0 in
+      let low = (R.sound.topics.tree.there L.page _ (link_stands R.sound.topics.tree page (at t.walk.level t.walk.prefix) index (words area.Pool (pool_index page index)) ((R.sound.topics.held a R.there).table (let upper = L.upper in omega (arith, upper))) L)).0 in
       let links : kind_of t.walk.level (words area.Pool (pool_index page index)) ≡ entry_kind.Table L.page = ap (kind_of t.walk.level) L.is ∙ kind_of_table t.walk.level L.page L.upper (omega (arith, low, most)) in
       (λ leaf. absurd (cc (links, leaf)), λ frozen. cc (links, frozen))
-  kinds (inr (inr L)) =
-      let word : ℕ = words area.Host (page_of L.slot (t.walk.prefix * 512 + index)) in
-      let one : t.walk.level ≡ 1 = L.lowest in
-      let leaf : kind_of t.walk.level (words area.Pool (pool_index page index)) ≡ entry_kind.Leaf =
-      ap (kind_of t.walk.level) L.is ∙ ap (λ l. kind_of l (leaf_of L.slot word)) one ∙ kind_of_leaf 1 (host_frame word) (may_write L.slot word) (host_allows_write word) (may_write L.slot word) (omega arith) (omega arith) in
-      (λ is. one, λ frozen. cc (leaf, frozen))
+  kinds (inr (inr L)) = let leaf = L.leaf in (λ is. L.lowest, λ frozen. cc (leaf, frozen))
 
   -- where the walk's table stands
-  stands_over : IsOver gfn t.walk → R.sound.topics.stands page ≡ Some (at t.walk.level (gfn / level_span t.walk.level / 512))
+  stands_over : IsOver gfn t.walk → stands R.sound.topics.up R.sound.topics.spot page ≡ Some (at t.walk.level (gfn / level_span t.walk.level / 512))
   stands_over over = (R.sound.topics.held a R.there).table over.there ∙ ap (λ n. Some (at t.walk.level n)) (sym over.run)
 
-  lowest_over : IsOver gfn t.walk → t.walk.level ≡ 1 → R.sound.topics.stands page ≡ Some (at 1 (gfn / level_span 1 / 512))
+  lowest_over : IsOver gfn t.walk → t.walk.level ≡ 1 → stands R.sound.topics.up R.sound.topics.spot page ≡ Some (at 1 (gfn / level_span 1 / 512))
   lowest_over over one = stands_over over ∙ ap (λ l. Some (at l (gfn / level_span l / 512))) one
 
   few : z.pool ≤ 2 ^ 32
@@ -232,7 +228,7 @@ module _ (z : Sizes) (w : World Held) (a gfn note : ℕ) (write : Bool) (p : Fau
 
   above_now : IsOver gfn t.walk → (e : ℕ) → t.walk.level ≡ 1 → LeadsTo (words area.Pool) 1 page gfn e → LeadsTo (words area.Pool) 4 (words area.Root 0) gfn e
   above_now over e one leads =
-      (leads_same z.pool (words area.Root 0) (words area.Slots 0) (words area.Role) (words area.Pool) (words area.Host) R.sound.topics.stands R.sound.topics.tree few gfn e 1 page (lowest_over over one)).above leads
+      (leads_same R.sound.topics.tree few gfn e 1 page (all_reached R.sound.topics.tree page _ (lowest_over over one)) (lowest_over over one)).above leads
 
   -- a fill leaves the entry
   fill_leaves_entry : (value : ℕ) → 1 ≤ t.walk.level → (o : OwnedPage) → t.owned ≡ Some o → o.filled < 513
@@ -248,9 +244,6 @@ module _ (z : Sizes) (w : World Held) (a gfn note : ℕ) (write : Bool) (p : Fau
   leafed = words_after (part_task (part.Leaf gfn) a t note) words area.Pool
 
   module _ (E : Entering gfn write t) (saw : SawEntry gfn t.walk) (low : t.walk.level ≡ 1) (stands : EntryStands (words area.Pool) gfn t) where
-    found_live_slot : IsLiveIn (words area.Pool) (words area.Slots 0) (t.search.id - 1) t.search.slot
-    found_live_slot = found_live z (view z w) a gfn R.there R.sound.topics E.sharing.looked.looked_up.found
-
     stored : leafed ≡ upd (words area.Pool) (pool_index page index) (leaf_written t)
     stored = ap (λ (b : Bool). upd (words area.Pool) (pool_index page index) (if b then leaf_written t else words area.Pool (pool_index page index))) (is_it (words area.Pool (pool_index page index)) t.walk.entry stands)
 
@@ -259,22 +252,13 @@ module _ (z : Sizes) (w : World Held) (a gfn note : ℕ) (write : Bool) (p : Fau
       each = λ id f small live. let low_field = is_number f in entry_leaves gfn (leaf_written t) note t.walk words (words area.Slots 0) (4 * id + field_number f) (omega (arith, small, low_field)) (walks_elsewhere z (view z w) a R.there R.sound.topics saw.over.there);
     }
 
-    is_leaf : IsLeafAt (upd (words area.Pool) (pool_index page index) (leaf_written t)) (words area.Host) (words area.Slots 0) (at t.walk.level t.walk.prefix) index (leaf_written t)
-    is_leaf =
-        let own : t.walk.prefix * 512 + index ≡ gfn = run_lowest gfn t.walk.level t.walk.prefix low saw.over.run in
-        record {
-          lowest = low;
-          id = t.search.id - 1;
-          slot = t.search.slot;
-          live = live_in_stays (words area.Slots 0) (words area.Pool) (upd (words area.Pool) (pool_index page index) (leaf_written t)) (t.search.id - 1) t.search.slot (subst (LiveStays (words area.Slots 0) (words area.Pool)) stored slots_stay) found_live_slot;
-          holds = ap (λ n. contains n t.search.slot) own ∙ E.sharing.looked.looked_up.found.holds;
-          is = ap (leaf_of t.search.slot) (looked_word z (view z w) a gfn R.there R.sound.topics E.sharing.looked.looked_up ∙ ap (λ n. words area.Host (page_of t.search.slot n)) (sym own));
-        }
+    is_leaf : IsLeafAt (at t.walk.level t.walk.prefix) (leaf_written t)
+    is_leaf = record { lowest = low; leaf = leaf_is t low }
 
-    tree_leafed : TreePart z.pool (words area.Root 0) (words area.Slots 0) (words area.Role) leafed (words area.Host) R.sound.topics.stands
+    tree_leafed : TreePart z.pool (words area.Root 0) (words area.Slots 0) (words area.Role) leafed R.sound.topics.up R.sound.topics.spot
     tree_leafed =
-        subst (λ (pool : ℕ → ℕ). TreePart z.pool (words area.Root 0) (words area.Slots 0) (words area.Role) pool (words area.Host) R.sound.topics.stands) (sym stored)
-        (entry_stored z.pool (words area.Root 0) (words area.Slots 0) (words area.Role) (words area.Pool) (words area.Host) R.sound.topics.stands page (at t.walk.level t.walk.prefix) index (leaf_written t) R.sound.topics.tree
+        subst (λ (pool : ℕ → ℕ). TreePart z.pool (words area.Root 0) (words area.Slots 0) (words area.Role) pool R.sound.topics.up R.sound.topics.spot) (sym stored)
+        (entry_stored R.sound.topics.tree page (at t.walk.level t.walk.prefix) index (leaf_written t)
         ((R.sound.topics.held a R.there).table saw.over.there) (omega arith)
         (record { entry = inr (inr is_leaf); no_link = inl low })
         (subst (LiveStays (words area.Slots 0) (words area.Pool)) stored slots_stay))
@@ -282,7 +266,7 @@ module _ (z : Sizes) (w : World Held) (a gfn note : ℕ) (write : Bool) (p : Fau
     leaf_leads : LeadsToLeaf leafed 4 (words area.Root 0) gfn write
     leaf_leads =
         installed (words area.Root 0) (words area.Slots 0) (words area.PoolMap) leafed gfn write page t.walk.level (leaf_written t) low
-        (leads_same z.pool (words area.Root 0) (words area.Slots 0) (words area.Role) leafed (words area.Host) R.sound.topics.stands tree_leafed few gfn (leaf_written t) 1 page (lowest_over saw.over low)).above
+        (leads_same tree_leafed few gfn (leaf_written t) 1 page (all_reached R.sound.topics.tree page _ (lowest_over saw.over low)) (lowest_over saw.over low)).above
         (ap (λ (pool : ℕ → ℕ). pool (pool_index page index)) stored ∙ upd_same (words area.Pool) (pool_index page index) (leaf_written t))
         (kind_of_leaf 1 (host_frame (word_looked t.host)) (may_write t.search.slot (word_looked t.host)) (host_allows_write (word_looked t.host)) (may_write t.search.slot (word_looked t.host)) (omega arith) (omega arith))
         (ap (λ (x : Option HostLook). allows_access write (leaf_of t.search.slot (word_looked x))) L.host ∙ allowed_leaf write t.search.slot L.word E.sharing.looked.allowed)

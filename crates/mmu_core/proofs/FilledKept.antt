@@ -22,7 +22,7 @@ use Rattle.mmu_core.proofs.Columns.{at_upd, same_or}
 use Rattle.mmu_core.proofs.OwnedBehind.{fill_by, leaf_owned, link_owned, owned_behind, owned_is}
 use Rattle.mmu_core.proofs.PartStepping.{IsPart}
 use Rattle.mmu_core.proofs.PartWords.{IsElsewhere, fill_answers, fill_leaves, fill_stores, is_word, no_role, page_stays, role_stays, role_stored, walks_unowned, left_elsewhere}
-use Rattle.mmu_core.proofs.PoolPages.{one_owner, left_not_owned}
+use Rattle.mmu_core.proofs.PoolPages.{left_not_owned, one_owner, owned_there}
 use Rattle.mmu_core.proofs.Standing.{entry_now}
 
 -- Of a page that was claimed nothing is filled.
@@ -98,7 +98,7 @@ own_filled z v a (part.Fill value) note S I o is =
 own_filled z v a (part.Link gfn) note S I o is =
     let t : Topics = (v.hand a).topics in
     let owns : OwnsTable (t.walk.level - 1) t = S.needs.3 in
-    let small : owns.owned.page < 2 ^ 32 = omega (arith, I.pool_part.there a owns.owned S.there owns.is, S.is_sizes.pool.1) in
+    let small : owns.owned.page < 2 ^ 32 = omega (arith, owned_there I.uses a owns.owned S.there owns.is, S.is_sizes.pool.1) in
     let owned : t.owned ≡ Some o = unlinked (entry_now gfn t v == t.walk.entry) owns.owned owns.is (sym (link_owned gfn t owns.owned (entry_now gfn t v) S.needs.1 owns.is small) ∙ is) in
     still_filled z v a (part.Link gfn) note S o (λ e. walks_unowned z v a S.there I S.needs.0.saw.over.there a o S.there owned (sym e)) (I.filled a o S.there owned)
   where
@@ -113,11 +113,11 @@ own_filled z v a _ note S I o is = I.filled a o S.there is
 
 -- Another owner's page is none that the step stores in.
 pub others_elsewhere : (z : Sizes) (v : View) (a : ℕ) (step : PartStep) → IsPart z v a step → TopicsInvariant z v → (i : ℕ) (o : OwnedPage) → i < actors_of z → i ≢ a → (v.hand i).topics.owned ≡ Some o → IsElsewhere step (v.hand a).topics o.page
-others_elsewhere z v a (part.Fill value) S I i o lt apart is = λ p mine same. apart (one_owner (actors_of z) z.pool (v.words area.Slots 0) (v.words area.PoolMap) (λ l. (v.hand l).topics.owned) (λ l. (v.hand l).topics.leaving) I.stands I.pool_part i a o p lt S.there is mine same)
+others_elsewhere z v a (part.Fill value) S I i o lt apart is = λ p mine same. apart (one_owner I.uses i a o p lt S.there is mine same)
 others_elsewhere z v a (part.Link gfn) S I i o lt apart is = λ e. walks_unowned z v a S.there I S.needs.0.saw.over.there i o lt is (sym e)
 others_elsewhere z v a (part.Leaf gfn) S I i o lt apart is = λ e. walks_unowned z v a S.there I S.needs.0.saw.over.there i o lt is (sym e)
 others_elsewhere z v a part.Clear S I i o lt apart is = left_elsewhere (v.hand a).topics S.needs.leaves o.page
-    (λ k left e. left_not_owned (actors_of z) z.pool (v.words area.Slots 0) (v.words area.PoolMap) (λ l. (v.hand l).topics.owned) (λ l. (v.hand l).topics.leaving) I.stands I.pool_part a k S.there left i o lt is (sym e))
+    (λ k left e. left_not_owned I.uses a k S.there left i o lt is (sym e))
 others_elsewhere z v a _ S I i o lt apart is = tt
 
 -- Each step of a part keeps what the owners have filled.

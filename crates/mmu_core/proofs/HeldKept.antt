@@ -1,7 +1,6 @@
 -- Each step of a part keeps what is said of what actors hold of tables and slot sets, and of their counters.
-use Rattle.std.proofs.Common.{◌≡◌, ◌≢◌, ◌⊎◌, inl, inr, ◌+◌, ◌-◌, ◌*◌, ◌/◌, ◌%◌, ◌^◌, ◌<◌, ◌≤◌, ℕ, zero, suc, refl, sym, subst, ap, ◌∙◌, arith}
-use Rattle.std.specs.Prelude.{Bool, true, false, ◌==◌, ◌&&◌, ◌||◌, if◌then◌else◌, Option, Some, None, is_some}
-use Rattle.std.proofs.lemmas.Bool.Decides.{nat_tests}
+use Rattle.std.proofs.Common.{◌≡◌, inl, inr, ◌+◌, ◌-◌, ◌*◌, ◌/◌, ◌%◌, ◌^◌, ◌<◌, ◌≤◌, ℕ, zero, suc, refl, sym, subst, ap, ◌∙◌, arith}
+use Rattle.std.specs.Prelude.{Bool, true, false, ◌==◌, ◌||◌, if◌then◌else◌, Option, Some, None, is_some}
 use Rattle.core_views.specs.declared.place.SlotField.{SlotField}
 use Rattle.core_views.specs.declared.place.SlotField.TheVariants as field
 use Rattle.core_views.specs.declared.sizes.Sizes.{Sizes}
@@ -30,13 +29,16 @@ use Rattle.part_steps.specs.PartSteps.{IsOver, entry_index, leaf_written, link_w
 use Rattle.part_steps.specs.PartTopics.{exchanged}
 use Rattle.mmu_core.specs.TopicsInvariant.{TopicsInvariant}
 use Rattle.part_steps.specs.TopicSteps.{at_root, at_set, gone_down, has_writer, in_section, is_loose, is_won, begun, kept_search, let_go, linked_page, may_search, may_walk, searched, searched_at, swapped, unchecked}
-use Rattle.mmu_core.specs.TreePart.{EntryPart, Position, at}
+use Rattle.mmu_core.specs.TreePart.{EntryPart, Position, TreePart, Use, at, stands}
+use Rattle.mmu_core.specs.TreePart.Use.{Under}
 use Rattle.mmu_core.specs.View.{View, part_stepped, upd}
-use Rattle.mmu_core.proofs.Columns.{at_upd, same_or}
+use Rattle.mmu_core.proofs.Columns.{at_upd, upd_same}
 use Rattle.mmu_core.proofs.PartStepping.{IsPart}
 use Rattle.mmu_core.proofs.PartTopics.{behind_step, fill_keeps, part_behind}
-use Rattle.mmu_core.proofs.PoolPages.{owned_no_table}
-use Rattle.mmu_core.proofs.Standing.{entry_now, position_below, stands_after, with_table}
+use Rattle.mmu_core.proofs.PoolPages.{owned_there}
+use Rattle.mmu_core.proofs.Standing.{at_spot, entry_now, position_below, spot_after, up_after, upd_if}
+use Rattle.mmu_core.proofs.TreePlaces.{link_stands, root_stands}
+use Rattle.mmu_core.proofs.UsesStay.{StaysStanding, stays_standing}
 
 -- what is said of what each hand holds, and of its counters, of a view
 abbrev pub HeldAt : Sizes → (ℕ → Option Position) → View → Type 0
@@ -44,34 +46,6 @@ HeldAt z stands v = (i : ℕ) → i < actors_of z → HeldPart stands (v.hand i)
 
 abbrev pub CountersAt : Sizes → View → Type 0
 CountersAt z v = (i : ℕ) → i < actors_of z → CountersPart z (v.hand i).topics
-
--- ---- A table that stands somewhere stands there behind each step.
-
--- Each table stands where it stood.
-abbrev pub StaysStanding : (ℕ → Option Position) → (ℕ → Option Position) → Type 0
-StaysStanding before after = (k : ℕ) (p : Position) → before k ≡ Some p → after k ≡ Some p
-
-added_stays : (won : Bool) (page : ℕ) (q : Position) (stands : ℕ → Option Position) → ((p : Position) → stands page ≡ Some p → ⊥) → StaysStanding stands (with_table won page q stands)
-added_stays won page q stands none k p is = by (same_or k page)
-  where
-    left : (b c : Bool) → c ≡ false → (if b && c then Some q else stands k) ≡ stands k
-    left true c no_ = ap (λ (x : Bool). if x then Some q else stands k) no_
-    left false c no_ = refl
-
-    by : (k ≡ page) ⊎ (k ≢ page) → with_table won page q stands k ≡ Some p
-    by (inl e) = absurd (none p (sym (ap stands e) ∙ is))
-    by (inr apart) = left won (k == page) (grind (arith, nat_tests)) ∙ is
-
--- The page that is linked stands where it is linked.
-added_stands : (page : ℕ) (q : Position) (stands : ℕ → Option Position) → with_table true page q stands page ≡ Some q
-added_stands page q stands = let same : (page == page) ≡ true = grind (arith, nat_tests) in ap (λ (x : Bool). if x then Some q else stands page) same
-
--- A page that is linked was owned, so it was no table.
-pub stays_standing : (z : Sizes) (v : View) (a : ℕ) (step : PartStep) → IsPart z v a step → (I : TopicsInvariant z v) → StaysStanding I.stands (stands_after step (v.hand a).topics v I.stands)
-stays_standing z v a (part.Link gfn) S I =
-    added_stays _ (page_owned (v.hand a).topics.owned) _ I.stands (λ p is. let O = S.needs.3 in
-    owned_no_table (actors_of z) z.pool (v.words area.Slots 0) (v.words area.PoolMap) (λ i. (v.hand i).topics.owned) (λ i. (v.hand i).topics.leaving) I.stands I.pool_part a O.owned p S.there O.is (sym (ap (λ o. I.stands (page_owned o)) O.is) ∙ is))
-stays_standing z v a _ S I = λ k p is. is
 
 -- ---- Where the entries of tables lead to.
 
@@ -97,12 +71,14 @@ lowest_leads_down stands p j w lowest = subst (LeadsDown stands p j) (sym (ap (�
 pub link_leads_down : (stands : ℕ → Option Position) (p : Position) (j page : ℕ) → 2 ≤ p.level → page < 2 ^ 32 → stands page ≡ Some (at (p.level - 1) (p.prefix * 512 + j)) → LeadsDown stands p j (linked_page (kind_of p.level (table_word page)))
 link_leads_down stands p j page upper small below = subst (LeadsDown stands p j) (sym (ap linked_page (kind_of_table p.level page upper small))) (upper, below)
 
-pub entry_leads_down : (pool host : ℕ → ℕ) (set : ℕ) (stands : ℕ → Option Position) (p : Position) (j w : ℕ) → ((k : ℕ) (q : Position) → stands k ≡ Some q → k < 2 ^ 32) → EntryPart pool host set stands p j w
-    → LeadsDown stands p j (linked_page (kind_of p.level w))
-entry_leads_down pool host set stands p j w small (inl absent) = subst (LeadsDown stands p j) (sym (ap (λ x. linked_page (kind_of p.level x)) absent ∙ ap linked_page (kind_of_absent p.level))) tt
-entry_leads_down pool host set stands p j w small (inr (inl link)) =
-    subst (λ x. LeadsDown stands p j (linked_page (kind_of p.level x))) (sym link.is) (link_leads_down stands p j link.page link.upper (small link.page _ link.below) link.below)
-entry_leads_down pool host set stands p j w small (inr (inr leaf)) = lowest_leads_down stands p j w leaf.lowest
+pub entry_leads_down : {pages root set : ℕ} {role pool : ℕ → ℕ} {up : ℕ → Use} {spot : ℕ → Position} (T : TreePart pages root set role pool up spot) (k : ℕ) (p : Position) (j w : ℕ) → pages ≤ 2 ^ 32 → stands up spot k ≡ Some p → EntryPart up k p j w
+    → LeadsDown (stands up spot) p j (linked_page (kind_of p.level w))
+entry_leads_down {up = up} {spot = spot} T k p j w small at_k (inl absent) = subst (LeadsDown (stands up spot) p j) (sym (ap (λ x. linked_page (kind_of p.level x)) absent ∙ ap linked_page (kind_of_absent p.level))) tt
+entry_leads_down {up = up} {spot = spot} T k p j w small at_k (inr (inl link)) =
+    let below = link_stands T k p j w at_k link in
+    let there = T.there link.page (at (p.level - 1) (p.prefix * 512 + j)) below in
+    subst (λ x. LeadsDown (stands up spot) p j (linked_page (kind_of p.level x))) (sym link.is) (link_leads_down (stands up spot) p j link.page link.upper (omega (arith, small, there.0)) below)
+entry_leads_down {up = up} {spot = spot} T k p j w small at_k (inr (inr leaf)) = lowest_leads_down (stands up spot) p j w leaf.lowest
 
 -- ---- What is held behind each step, over plain topics.
 
@@ -207,28 +183,29 @@ gone_held stands t s j v (Some page) stay hold search walk to leads H = record {
 
 -- ---- Each step.
 
--- what all hands hold, where the actor's holds so
-pub all_held : (z : Sizes) (v : View) (a : ℕ) (h : Held) (stands : ℕ → Option Position) (I : TopicsInvariant z v) → StaysStanding I.stands stands → HeldPart stands h.topics
-    → (i : ℕ) → i < actors_of z → HeldPart stands (upd v.hand a h i).topics
-all_held z v a h stands I stays here = at_upd (λ i (k : Held). i < actors_of z → HeldPart stands k.topics) v.hand a h (λ lt. here) (λ i ne lt. held_stays I.stands stands (v.hand i).topics stays (I.held i lt))
+-- where the tables stand behind the step
+abbrev stands_after : (z : Sizes) (v : View) → ℕ → PartStep → TopicsInvariant z v → ℕ → Option Position
+stands_after z v a step I = stands (up_after step a (v.hand a).topics v I.up) (spot_after step (v.hand a).topics v I.spot)
 
 abbrev HeldBehind : Sizes → View → ℕ → ℕ → PartStep → Type 0
-HeldBehind z v a note step = IsPart z v a step → (I : TopicsInvariant z v) → HeldAt z (stands_after step (v.hand a).topics v I.stands) (part_behind a step note v)
+HeldBehind z v a note step = IsPart z v a step → (I : TopicsInvariant z v) → HeldAt z (stands_after z v a step I) (part_behind a step note v)
 
--- the step leaves where tables stand
-still_held : (z : Sizes) (v : View) (a : ℕ) (h : Held) (I : TopicsInvariant z v) → HeldPart I.stands h.topics → (i : ℕ) → i < actors_of z → HeldPart I.stands (upd v.hand a h i).topics
-still_held z v a h I here = all_held z v a h I.stands I (λ k p is. is) here
+-- what all hands hold, where the actor's holds so
+all_held : (z : Sizes) (v : View) (a : ℕ) (step : PartStep) (h : Held) → IsPart z v a step → (I : TopicsInvariant z v) → HeldPart (stands_after z v a step I) h.topics → HeldAt z (stands_after z v a step I) (record { words = v.words; hand = upd v.hand a h })
+all_held z v a step h S I here =
+    at_upd (λ i (k : Held). i < actors_of z → HeldPart (stands_after z v a step I) k.topics) v.hand a h (λ lt. here)
+    (λ i ne lt. held_stays (stands I.up I.spot) (stands_after z v a step I) (v.hand i).topics (stays_standing z v a step S I) (I.held i lt))
+
+-- where it holds so with the tables where they stood
+still_held : (z : Sizes) (v : View) (a : ℕ) (step : PartStep) (h : Held) → IsPart z v a step → (I : TopicsInvariant z v) → HeldPart (stands I.up I.spot) h.topics → HeldAt z (stands_after z v a step I) (record { words = v.words; hand = upd v.hand a h })
+still_held z v a step h S I here = all_held z v a step h S I (held_stays (stands I.up I.spot) (stands_after z v a step I) h.topics (stays_standing z v a step S I) here)
 
 fill_held : (z : Sizes) (v : View) (a note value : ℕ) → HeldBehind z v a note (part.Fill value)
 fill_held z v a note value S I =
-    let kept : (i : ℕ) → i < actors_of z → HeldPart I.stands ((part_behind a (part.Fill value) note v).hand i).topics =
-    still_held z v a _ I (same_held I.stands (v.hand a).topics _ refl refl refl refl (I.held a S.there)) in
-    fill_keeps (λ words. (i : ℕ) → i < actors_of z → HeldPart I.stands ((part_behind a (part.Fill value) note v).hand i).topics)
+    let kept : (i : ℕ) → i < actors_of z → HeldPart (stands_after z v a (part.Fill value) I) ((part_behind a (part.Fill value) note v).hand i).topics =
+    still_held z v a (part.Fill value) _ S I (same_held (stands I.up I.spot) (v.hand a).topics _ refl refl refl refl (I.held a S.there)) in
+    fill_keeps (λ words. (i : ℕ) → i < actors_of z → HeldPart (stands_after z v a (part.Fill value) I) ((part_behind a (part.Fill value) note v).hand i).topics)
     (page_owned (v.hand a).topics.owned) (words_filled (v.hand a).topics.owned) value note v.words kept kept
-
--- Each table is a page of the pool, so its number fits a link.
-table_small : (z : Sizes) (v : View) (a : ℕ) (step : PartStep) → IsPart z v a step → (I : TopicsInvariant z v) → (k : ℕ) (q : Position) → I.stands k ≡ Some q → k < 2 ^ 32
-table_small z v a step S I k q is = omega (arith, (I.tree.there k q is).0, S.is_sizes.pool.1)
 
 -- The walk's table is at level 4 at most.
 walk_level : (z : Sizes) (v : View) (a : ℕ) → a < actors_of z → TopicsInvariant z v → 1 ≤ (v.hand a).topics.walk.level → (v.hand a).topics.walk.level ≤ 4
@@ -240,8 +217,8 @@ walk_held z v a note gfn S I =
     let from = S.needs.there in
     let j : ℕ = entry_index gfn t.walk.level in
     let H = I.held a S.there in
-    still_held z v a _ I (gone_held I.stands t _ j _ _ refl refl refl refl (walk_level z v a S.there I from)
-    (entry_leads_down (v.words area.Pool) (v.words area.Host) (v.words area.Slots 0) I.stands (at t.walk.level t.walk.prefix) j _ (table_small z v a (part.Walk gfn) S I) (I.tree.entries (table_page t.walk) _ (H.table from) j (omega arith))) H)
+    still_held z v a (part.Walk gfn) _ S I (gone_held (stands I.up I.spot) t _ j _ _ refl refl refl refl (walk_level z v a S.there I from)
+    (entry_leads_down I.tree (table_page t.walk) (at t.walk.level t.walk.prefix) j _ (omega (arith, S.is_sizes.pool.1)) (H.table from) (I.tree.entries (table_page t.walk) _ (H.table from) j (omega arith))) H)
 
 -- an exchange, won or lost
 exchanged_held : (stands : ℕ → Option Position) (t : Topics) (won : Bool) (j new_ v : ℕ) → t.walk.level ≤ 4 → (won ≡ true → LeadsDown stands (at t.walk.level t.walk.prefix) j (linked_page (kind_of t.walk.level new_)))
@@ -251,9 +228,9 @@ exchanged_held stands t false j new_ v to leads H = gone_held stands t _ j v Non
 
 link_held : (z : Sizes) (v : View) (a note gfn : ℕ) → HeldBehind z v a note (part.Link gfn)
 link_held z v a note gfn S I =
-    all_held z v a _ _ I stays (exchanged_held (with_table won page below I.stands) t won (entry_index gfn t.walk.level) (link_written t) _ (walk_level z v a S.there I S.needs.0.saw.over.there)
-    (λ is. link_leads_down (with_table won page below I.stands) (at t.walk.level t.walk.prefix) (entry_index gfn t.walk.level) page S.needs.1 small (subst (λ b. with_table b page below I.stands page ≡ Some below) (sym is) (added_stands page below I.stands)))
-    (held_stays I.stands (with_table won page below I.stands) t stays (I.held a S.there)))
+    all_held z v a (part.Link gfn) _ S I (exchanged_held after t won (entry_index gfn t.walk.level) (link_written t) _ (walk_level z v a S.there I S.needs.0.saw.over.there)
+    (λ is. link_leads_down after (at t.walk.level t.walk.prefix) (entry_index gfn t.walk.level) page S.needs.1 small (added won is))
+    (held_stays (stands I.up I.spot) after t (stays_standing z v a (part.Link gfn) S I) (I.held a S.there)))
   where
     t : Topics
     t = (v.hand a).topics
@@ -264,43 +241,47 @@ link_held z v a note gfn S I =
     page : ℕ
     page = page_owned t.owned
 
-    below : Position
-    below = position_below gfn t
-
-    stays : StaysStanding I.stands (with_table won page below I.stands)
-    stays = stays_standing z v a (part.Link gfn) S I
+    after : ℕ → Option Position
+    after = stands_after z v a (part.Link gfn) I
 
     small : page < 2 ^ 32
-    small = let O = S.needs.3 in omega (arith, ap page_owned O.is, I.pool_part.there a O.owned S.there O.is, S.is_sizes.pool.1)
+    small = let O = S.needs.3 in omega (arith, ap page_owned O.is, owned_there I.uses a O.owned S.there O.is, S.is_sizes.pool.1)
+
+    -- the page that was linked stands where it was linked
+    added : (b : Bool) → b ≡ true → stands (upd_if b I.up page (Under (table_page t.walk) (entry_index gfn t.walk.level))) (upd_if b I.spot page (position_below gfn t)) page ≡ Some (position_below gfn t)
+    added false is = absurd (cc is)
+    added true is =
+        at_spot (upd I.up page (Under (table_page t.walk) (entry_index gfn t.walk.level))) (upd I.spot page (position_below gfn t)) page (Under (table_page t.walk) (entry_index gfn t.walk.level)) (upd_same I.up page (Under (table_page t.walk) (entry_index gfn t.walk.level))) refl
+        ∙ ap Some (upd_same I.spot page (position_below gfn t))
 
 leaf_held : (z : Sizes) (v : View) (a note gfn : ℕ) → HeldBehind z v a note (part.Leaf gfn)
 leaf_held z v a note gfn S I =
     let t : Topics = (v.hand a).topics in
-    still_held z v a _ I (exchanged_held I.stands t (entry_now gfn t v == t.walk.entry) (entry_index gfn t.walk.level) (leaf_written t) _ (walk_level z v a S.there I S.needs.0.saw.over.there)
-    (λ is. lowest_leads_down I.stands (at t.walk.level t.walk.prefix) (entry_index gfn t.walk.level) (leaf_written t) S.needs.1) (I.held a S.there))
+    still_held z v a (part.Leaf gfn) _ S I (exchanged_held (stands I.up I.spot) t (entry_now gfn t v == t.walk.entry) (entry_index gfn t.walk.level) (leaf_written t) _ (walk_level z v a S.there I S.needs.0.saw.over.there)
+    (λ is. lowest_leads_down (stands I.up I.spot) (at t.walk.level t.walk.prefix) (entry_index gfn t.walk.level) (leaf_written t) S.needs.1) (I.held a S.there))
 
 held_behind : (z : Sizes) (v : View) (a note : ℕ) (step : PartStep) → HeldBehind z v a note step
-held_behind z v a note part.Enter = λ S I. still_held z v a _ I (begun_held I.stands Guest (v.hand a).topics)
-held_behind z v a note part.Leave = λ S I. still_held z v a _ I (begun_held I.stands Outside (v.hand a).topics)
-held_behind z v a note part.Begin = λ S I. still_held z v a _ I (begun_held I.stands Section (v.hand a).topics)
-held_behind z v a note part.End = λ S I. still_held z v a _ I (begun_held I.stands Outside (v.hand a).topics)
-held_behind z v a note part.Share = λ S I. still_held z v a _ I (shared_held I.stands (v.hand a).topics (has_writer (v.words area.Lock 0)) (v.words area.Lock 0) S.needs (I.held a S.there))
-held_behind z v a note part.Unshare = λ S I. still_held z v a _ I (let_go_held I.stands (v.hand a).topics (v.hand a).topics.stay (I.held a S.there))
-held_behind z v a note part.Exclude = λ S I. still_held z v a _ I (excluded_held I.stands (v.hand a).topics (v.words area.Lock 0 == 0) (I.held a S.there))
-held_behind z v a note part.Release = λ S I. still_held z v a _ I (let_go_held I.stands (v.hand a).topics (v.hand a).topics.stay (I.held a S.there))
+held_behind z v a note part.Enter = λ S I. still_held z v a part.Enter _ S I (begun_held (stands I.up I.spot) Guest (v.hand a).topics)
+held_behind z v a note part.Leave = λ S I. still_held z v a part.Leave _ S I (begun_held (stands I.up I.spot) Outside (v.hand a).topics)
+held_behind z v a note part.Begin = λ S I. still_held z v a part.Begin _ S I (begun_held (stands I.up I.spot) Section (v.hand a).topics)
+held_behind z v a note part.End = λ S I. still_held z v a part.End _ S I (begun_held (stands I.up I.spot) Outside (v.hand a).topics)
+held_behind z v a note part.Share = λ S I. still_held z v a part.Share _ S I (shared_held (stands I.up I.spot) (v.hand a).topics (has_writer (v.words area.Lock 0)) (v.words area.Lock 0) S.needs (I.held a S.there))
+held_behind z v a note part.Unshare = λ S I. still_held z v a part.Unshare _ S I (let_go_held (stands I.up I.spot) (v.hand a).topics (v.hand a).topics.stay (I.held a S.there))
+held_behind z v a note part.Exclude = λ S I. still_held z v a part.Exclude _ S I (excluded_held (stands I.up I.spot) (v.hand a).topics (v.words area.Lock 0 == 0) (I.held a S.there))
+held_behind z v a note part.Release = λ S I. still_held z v a part.Release _ S I (let_go_held (stands I.up I.spot) (v.hand a).topics (v.hand a).topics.stay (I.held a S.there))
 held_behind z v a note (part.Fill value) = fill_held z v a note value
-held_behind z v a note part.Slots = λ S I. still_held z v a _ I (slots_held (v.words area.Slots 0) I.stands (v.hand a).topics (I.held a S.there))
-held_behind z v a note part.Slot = λ S I. still_held z v a _ I (slot_held I.stands (v.hand a).topics (is_some (v.hand a).topics.search.set) _ (I.held a S.there))
-held_behind z v a note part.Seq = λ S I. still_held z v a _ I (snapshot_held I.stands (v.hand a).topics _ (is_loose (v.hand a).topics.hold) refl refl refl refl (I.held a S.there))
-held_behind z v a note part.Publish = λ S I. still_held z v a _ I (snapshot_held I.stands (v.hand a).topics _ true refl refl refl refl (I.held a S.there))
-held_behind z v a note part.Root = λ S I. still_held z v a _ I (root_held (v.words area.Root 0) I.stands (v.hand a).topics I.tree.root_stands (I.held a S.there))
+held_behind z v a note part.Slots = λ S I. still_held z v a part.Slots _ S I (slots_held (v.words area.Slots 0) (stands I.up I.spot) (v.hand a).topics (I.held a S.there))
+held_behind z v a note part.Slot = λ S I. still_held z v a part.Slot _ S I (slot_held (stands I.up I.spot) (v.hand a).topics (is_some (v.hand a).topics.search.set) _ (I.held a S.there))
+held_behind z v a note part.Seq = λ S I. still_held z v a part.Seq _ S I (snapshot_held (stands I.up I.spot) (v.hand a).topics _ (is_loose (v.hand a).topics.hold) refl refl refl refl (I.held a S.there))
+held_behind z v a note part.Publish = λ S I. still_held z v a part.Publish _ S I (snapshot_held (stands I.up I.spot) (v.hand a).topics _ true refl refl refl refl (I.held a S.there))
+held_behind z v a note part.Root = λ S I. still_held z v a part.Root _ S I (root_held (v.words area.Root 0) (stands I.up I.spot) (v.hand a).topics (root_stands I.tree) (I.held a S.there))
 held_behind z v a note (part.Walk gfn) = walk_held z v a note gfn
 held_behind z v a note (part.Link gfn) = link_held z v a note gfn
 held_behind z v a note (part.Leaf gfn) = leaf_held z v a note gfn
-held_behind z v a note _ = λ S I. still_held z v a _ I (same_held I.stands (v.hand a).topics _ refl refl refl refl (I.held a S.there))
+held_behind z v a note step = λ S I. still_held z v a step _ S I (same_held (stands I.up I.spot) (v.hand a).topics _ refl refl refl refl (I.held a S.there))
 
-pub held_kept : (z : Sizes) (v : View) (a : ℕ) (step : PartStep) (note : ℕ) → IsPart z v a step → (I : TopicsInvariant z v) → HeldAt z (stands_after step (v.hand a).topics v I.stands) (part_stepped a step note v)
-held_kept z v a step note S I = behind_step (HeldAt z (stands_after step (v.hand a).topics v I.stands)) z v a step note S (held_behind z v a note step S I)
+pub held_kept : (z : Sizes) (v : View) (a : ℕ) (step : PartStep) (note : ℕ) → IsPart z v a step → (I : TopicsInvariant z v) → HeldAt z (stands_after z v a step I) (part_stepped a step note v)
+held_kept z v a step note S I = behind_step (HeldAt z (stands_after z v a step I)) z v a step note S (held_behind z v a note step S I)
 
 -- ---- The counters.
 searched_id : (f : SlotField) (s : SlotSearch) (v : ℕ) → s.id ≤ 31 → (searched_at f s v).id ≤ 32

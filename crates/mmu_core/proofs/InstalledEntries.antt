@@ -52,7 +52,7 @@ use Rattle.mmu_core.specs.SetSlotSteps.{set_slot_outcome, set_slot_task}
 use Rattle.mmu_core.specs.Steps.{first_place, line_at, next_line, outcome_at, place_at, standing, task_at}
 use Rattle.part_steps.specs.Tasks.{map_of}
 use Rattle.mmu_core.specs.Outcomes.{place_after}
-use Rattle.mmu_core.specs.TreePart.{at}
+use Rattle.mmu_core.specs.TreePart.{at, stands}
 use Rattle.mmu_core.specs.TurnLaws.{StaysInstalled, WalksInstalled, ends_installed, has_installed, is_installed}
 use Rattle.mmu_core.specs.View.{View, answer_in, hand_after, part_stepped, view, word_in, words_after}
 use Rattle.mmu_core.specs.Worlds.{IsStart}
@@ -175,7 +175,7 @@ standing_installed _ y slots h words x = x
 
 -- where the walk's table stands
 over_stands : (z : Sizes) (w : World Held) (a gfn : ℕ) (G : IsSound z w) → a < actors_of z → IsOver gfn (hand_in mmu w a).topics.walk
-    → G.topics.stands (table_page (hand_in mmu w a).topics.walk) ≡ Some (at (hand_in mmu w a).topics.walk.level (gfn / level_span (hand_in mmu w a).topics.walk.level / 512))
+    → stands G.topics.up G.topics.spot (table_page (hand_in mmu w a).topics.walk) ≡ Some (at (hand_in mmu w a).topics.walk.level (gfn / level_span (hand_in mmu w a).topics.walk.level / 512))
 over_stands z w a gfn G there over =
     let walk : TableWalk = (hand_in mmu w a).topics.walk in
     (G.topics.held a there).table over.there ∙ ap (λ n. Some (at walk.level n)) (sym over.run)

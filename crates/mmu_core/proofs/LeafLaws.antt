@@ -1,5 +1,5 @@
 -- Each leaf that stands, is cached, or is used agrees with slots and host.
-use Rattle.std.proofs.Common.{◌≡◌, inl, inr, ◌+◌, ◌*◌, ◌/◌, ◌^◌, ◌<◌, ◌≤◌, ℕ, zero, suc, refl, sym, subst, ap, ◌∙◌, arith}
+use Rattle.std.proofs.Common.{◌≡◌, inl, inr, ◌+◌, ◌*◌, ◌/◌, ◌%◌, ◌^◌, ◌<◌, ◌≤◌, ℕ, zero, suc, refl, sym, subst, ap, ◌∙◌, arith}
 use Rattle.std.specs.Prelude.{All, Bool, true, false, ◌&&◌, not, if◌then◌else◌, Option, Some, None, is_some}
 use Rattle.core_views.specs.declared.place.AccessPlace.TheVariants.{Touch}
 use Rattle.core_views.specs.declared.place.Place.{Place}
@@ -20,7 +20,7 @@ use Rattle.spte_words.specs.Areas.{pool_index}
 use Rattle.spte_words.specs.Entries.{can_write, frame_in, host_writable, kind_of, level_span, mmu_writable}
 use Rattle.spte_words.specs.HostWords.{host_allows_write, host_frame}
 use Rattle.spte_words.proofs.ReadsEntries.{kind_of_absent, leaf_can_write, leaf_frame, leaf_host_writable, leaf_mmu_writable}
-use Rattle.spte_words.proofs.Spans.{span_4}
+use Rattle.spte_words.proofs.Spans.{span_1, span_4}
 use Rattle.mmu_core.specs.Enabled.{mmu}
 use Rattle.mmu_core.specs.FaultAlone.{LeadsTo}
 use Rattle.mmu_core.specs.FaultSteps.{allows_access}
@@ -31,9 +31,12 @@ use Rattle.mmu_core.specs.Machine.{World, hand_in}
 use Rattle.part_steps.specs.PartSteps.{IsOver, entry_index, table_page}
 use Rattle.part_steps.specs.SlotWords.{may_write, page_of, slot_at, slots_below}
 use Rattle.part_steps.specs.TopicSteps.{linked_page}
-use Rattle.mmu_core.specs.TreePart.{EntryPart, Position, TreePart, at}
-use Rattle.mmu_core.specs.View.{word_in}
-use Rattle.mmu_core.proofs.CachedKept.{leaf_at}
+use Rattle.mmu_core.specs.TreePart.{Position, Reaches, TreePart, Use, at, stands}
+use Rattle.mmu_core.specs.View.{view, word_in}
+use Rattle.mmu_core.specs.AllOver.{AllOver, LeafSays, LeavesSay}
+use Rattle.mmu_core.proofs.AllOver.{reaches_on}
+use Rattle.mmu_core.proofs.LeavesOver.{leaf_for}
+use Rattle.mmu_core.proofs.TreePlaces.{root_stands}
 use Rattle.mmu_core.proofs.LeadsDown.{below_stands, leads_down, run_above}
 use Rattle.mmu_core.proofs.PageFound.{frame_of_host, page_in_machine}
 use Rattle.mmu_core.proofs.SlotLists.{only_one_holds}
@@ -79,51 +82,81 @@ leaf_agrees z set role pool host gfn leaf sizes hosts P L = record {
         only_one_holds gfn pool set L.id 32 (omega (arith, L.live.low)) L.live.live holds (λ i lt live too. P.guest_apart gfn i L.id (omega arith) L.live.low live L.live.live too holds)
         ∙ ap Some L.live.is
 
+-- So it says of its guest frame what slots and host say.
+leaf_says : (z : Sizes) (set : ℕ) (role pool host : ℕ → ℕ) (level gfn leaf : ℕ) → AreSizes z → HostWordsPart z host → SlotSetPart z set role pool → level ≡ 1 → IsLeafFor pool host set gfn leaf → LeafSays pool host set level gfn leaf
+leaf_says z set role pool host level gfn leaf sizes hosts P lowest L = record {
+  id = L.id;
+  slot = slot;
+  live = L.live;
+  holds = L.holds;
+  frame = let one : level_span level ≡ 1 = ap level_span lowest ∙ span_1 in subst (λ n. host_frame word ≡ frame_in leaf + gfn % n) (sym one) (omega (arith, names));
+  writes = λ is. sym (ap can_write L.is ∙ leaf_can_write 1 (host_frame word) (may_write slot word) (host_allows_write word) (may_write slot word)) ∙ is;
+  host_bit = λ is. sym (ap host_writable L.is ∙ leaf_host_writable 1 (host_frame word) (may_write slot word) (host_allows_write word) (may_write slot word) small) ∙ is;
+  mmu_bit = λ is. sym (ap mmu_writable L.is ∙ leaf_mmu_writable 1 (host_frame word) (may_write slot word) (host_allows_write word) (may_write slot word) small) ∙ is;
+}
+  where
+    slot : Slot
+    slot = L.slot
+
+    word : ℕ
+    word = host (page_of slot gfn)
+
+    there : page_of slot gfn < z.pages
+    there = page_in_machine z set role pool L.id gfn slot P L.live L.holds
+
+    small : host_frame word < 2 ^ 40
+    small = let own = frame_of_host z host (page_of slot gfn) hosts there in omega (arith, own, there, sizes.pages)
+
+    names : frame_in leaf ≡ host_frame word
+    names = ap frame_in L.is ∙ leaf_frame 1 (host_frame word) (may_write slot word) (host_allows_write word) (may_write slot word) small
+
+-- All leaves in the tables below the root do, and so do those below any table that the root reaches.
+pub leaves_say : (z : Sizes) (w : World Held) (sound : IsSound z w) (k : ℕ) → Reaches sound.topics.up (word_in z w area.Root 0) k
+    → AllOver sound.topics.up sound.topics.spot (word_in z w area.Pool) k (LeavesSay (word_in z w area.Pool) (word_in z w area.Host) (word_in z w area.Slots 0))
+leaves_say z w sound k R table entry gfn Q O leaf =
+    let I = sound.holds in
+    let P = sound.topics in
+    let is = P.leaves table entry gfn (reaches_on P.up (word_in z w area.Root 0) k table R Q) O leaf in
+    leaf_says z (word_in z w area.Slots 0) (word_in z w area.Role) (word_in z w area.Pool) (word_in z w area.Host) (P.spot table).level gfn (word_in z w area.Pool (pool_index table entry)) I.sizes I.hosts I.set_part is.0 is.1
+
 -- ---- where links lead
 
-module _ (pages root set : ℕ) (role pool host : ℕ → ℕ) (stands : ℕ → Option Position) (T : TreePart pages root set role pool host stands) (few : pages ≤ 2 ^ 32) (gfn entry : ℕ) where
+module _ {pages root set : ℕ} {role pool : ℕ → ℕ} {up : ℕ → Use} {spot : ℕ → Position} (T : TreePart pages root set role pool up spot) (few : pages ≤ 2 ^ 32) (gfn entry : ℕ) where
   -- Behind a link of a table over the guest frame stands a table over it, one level below.
-  one_below : (level page below : ℕ) → stands page ≡ Some (at (suc (suc level)) (gfn / level_span (suc (suc level)) / 512))
-      → linked_page (kind_of (suc (suc level)) (pool (pool_index page (entry_index gfn (suc (suc level)))))) ≡ Some below → stands below ≡ Some (at (suc level) (gfn / level_span (suc level) / 512))
-  one_below level page below at_page link = below_stands pages root set role pool host stands T few gfn entry level (gfn / level_span (suc (suc level)) / 512) page below at_page link ∙ ap (λ n. Some (at (suc level) n)) run
+  one_below : (level page below : ℕ) → stands up spot page ≡ Some (at (suc (suc level)) (gfn / level_span (suc (suc level)) / 512))
+      → linked_page (kind_of (suc (suc level)) (pool (pool_index page (entry_index gfn (suc (suc level)))))) ≡ Some below → stands up spot below ≡ Some (at (suc level) (gfn / level_span (suc level) / 512))
+  one_below level page below at_page link = below_stands T few gfn entry level (gfn / level_span (suc (suc level)) / 512) page below at_page link ∙ ap (λ n. Some (at (suc level) n)) run
     where
       run : gfn / level_span (suc (suc level)) / 512 * 512 + entry_index gfn (suc (suc level)) ≡ gfn / level_span (suc level) / 512
       run =
-          let up : gfn / level_span (suc level) / 512 ≡ gfn / level_span (suc (suc level)) = run_above gfn (suc level) (omega arith) ∙ ap (λ n. gfn / level_span n) (omega arith) in
-          omega (arith, up)
+          let next : gfn / level_span (suc level) / 512 ≡ gfn / level_span (suc (suc level)) = run_above gfn (suc level) (omega arith) ∙ ap (λ n. gfn / level_span n) (omega arith) in
+          omega (arith, next)
 
   -- So the entry to which they lead is one of a table of the lowest level over the guest frame.
-  lowest_table : (level page : ℕ) → stands page ≡ Some (at (suc level) (gfn / level_span (suc level) / 512)) → LeadsTo pool (suc level) page gfn entry
-      → (low : ℕ) × (stands low ≡ Some (at 1 (gfn / level_span 1 / 512))) × (pool (pool_index low (entry_index gfn 1)) ≡ entry)
+  lowest_table : (level page : ℕ) → stands up spot page ≡ Some (at (suc level) (gfn / level_span (suc level) / 512)) → LeadsTo pool (suc level) page gfn entry
+      → (low : ℕ) × (stands up spot low ≡ Some (at 1 (gfn / level_span 1 / 512))) × (pool (pool_index low (entry_index gfn 1)) ≡ entry)
   lowest_table zero page at_page leads = (page, at_page, leads)
   lowest_table (suc level) page at_page leads = lowest_table level leads.0 (one_below level page leads.0 at_page leads.1) leads.2
 
-  from_root : gfn < 2 ^ 36 → LeadsTo pool 4 root gfn entry → (low : ℕ) × (stands low ≡ Some (at 1 (gfn / level_span 1 / 512))) × (pool (pool_index low (entry_index gfn 1)) ≡ entry)
+  from_root : gfn < 2 ^ 36 → LeadsTo pool 4 root gfn entry → (low : ℕ) × (stands up spot low ≡ Some (at 1 (gfn / level_span 1 / 512))) × (pool (pool_index low (entry_index gfn 1)) ≡ entry)
   from_root small leads =
       let first : 0 ≡ gfn / level_span 4 / 512 = rw span_4 (omega (arith, small)) in
-      lowest_table 3 root (T.root_stands ∙ ap (λ n. Some (at 4 n)) first) leads
+      lowest_table 3 root (root_stands T ∙ ap (λ n. Some (at 4 n)) first) leads
 
 -- A leaf of such a table is the guest frame's.
-standing_leaf : (z : Sizes) (w : World Held) (gfn entry low : ℕ) (sound : IsSound z w) → sound.topics.stands low ≡ Some (at 1 (gfn / level_span 1 / 512)) → word_in z w area.Pool (pool_index low (entry_index gfn 1)) ≡ entry
+standing_leaf : (z : Sizes) (w : World Held) (gfn entry low : ℕ) (sound : IsSound z w) → stands sound.topics.up sound.topics.spot low ≡ Some (at 1 (gfn / level_span 1 / 512)) → word_in z w area.Pool (pool_index low (entry_index gfn 1)) ≡ entry
     → kind_of 1 entry ≡ entry_kind.Leaf → IsLeafFor (word_in z w area.Pool) (word_in z w area.Host) (word_in z w area.Slots 0) gfn entry
-standing_leaf z w gfn entry low sound at_low is leaf = by (sound.topics.tree.entries low (at 1 (gfn / level_span 1 / 512)) at_low (entry_index gfn 1) (omega arith))
-  where
-    pool : ℕ → ℕ
-    pool = word_in z w area.Pool
-
-    by : EntryPart pool (word_in z w area.Host) (word_in z w area.Slots 0) sound.topics.stands (at 1 (gfn / level_span 1 / 512)) (entry_index gfn 1) (pool (pool_index low (entry_index gfn 1))) → IsLeafFor pool (word_in z w area.Host) (word_in z w area.Slots 0) gfn entry
-    by (inl e) = let none : kind_of 1 entry ≡ entry_kind.Absent = ap (kind_of 1) (sym is ∙ e) ∙ kind_of_absent 1 in absurd (cc (none, leaf))
-    by (inr (inl L)) = absurd (let upper : 2 ≤ 1 = L.upper in omega (arith, upper))
-    by (inr (inr L)) =
-        subst (IsLeafFor pool (word_in z w area.Host) (word_in z w area.Slots 0) gfn) is
-        (leaf_at pool (word_in z w area.Host) (word_in z w area.Slots 0) gfn 1 (gfn / level_span 1 / 512) (pool (pool_index low (entry_index gfn 1))) refl L).1
+standing_leaf z w gfn entry low sound at_low is leaf =
+    let P = sound.topics in
+    subst (IsLeafFor (word_in z w area.Pool) (word_in z w area.Host) (word_in z w area.Slots 0) gfn) is
+    (leaf_for z (view z w) P low 1 (gfn / level_span 1 / 512) (entry_index gfn 1) gfn at_low (omega arith) (omega arith) (ap (kind_of 1) is ∙ leaf)).1
 
 pub leaves_agree : (z : Sizes) (w : World Held) (gfn entry : ℕ) → IsSound z w → gfn < 2 ^ 36 → LeadsTo (word_in z w area.Pool) 4 (word_in z w area.Root 0) gfn entry → kind_of 1 entry ≡ entry_kind.Leaf
     → LeafAgrees (word_in z w area.Slots 0) (word_in z w area.Pool) (word_in z w area.Host) gfn entry
 leaves_agree z w gfn entry sound small leads leaf =
     let I = sound.holds in
     let P = sound.topics in
-    let low = from_root z.pool (word_in z w area.Root 0) (word_in z w area.Slots 0) (word_in z w area.Role) (word_in z w area.Pool) (word_in z w area.Host) P.stands P.tree (let most = I.sizes.pool.1 in omega (arith, most)) gfn entry small leads in
+    let low = from_root P.tree (let most = I.sizes.pool.1 in omega (arith, most)) gfn entry small leads in
     leaf_agrees z (word_in z w area.Slots 0) (word_in z w area.Role) (word_in z w area.Pool) (word_in z w area.Host) gfn entry I.sizes I.hosts I.set_part (standing_leaf z w gfn entry low.0 sound low.1 low.2 leaf)
 
 -- From a table that is held links lead where they lead from the root.
@@ -132,7 +165,7 @@ pub held_leaves_agree : (z : Sizes) (w : World Held) (actor gfn entry : ℕ) →
     → LeafAgrees (word_in z w area.Slots 0) (word_in z w area.Pool) (word_in z w area.Host) gfn entry
 held_leaves_agree z w actor gfn entry sound lt over leads leaf =
     let walk : TableWalk = (hand_in mmu w actor).topics.walk in
-    let at_page : sound.topics.stands (table_page walk) ≡ Some (at walk.level (gfn / level_span walk.level / 512)) = (sound.topics.held actor lt).table over.there ∙ ap (λ n. Some (at walk.level n)) (sym over.run) in
+    let at_page : stands sound.topics.up sound.topics.spot (table_page walk) ≡ Some (at walk.level (gfn / level_span walk.level / 512)) = (sound.topics.held actor lt).table over.there ∙ ap (λ n. Some (at walk.level n)) (sym over.run) in
     leaves_agree z w gfn entry sound over.small ((leads_down z w gfn (table_page walk) walk.level entry sound at_page).above leads) leaf
 
 -- ---- what is cached and used

@@ -14,7 +14,6 @@ use Rattle.core_views.specs.declared.trace.Slot.{Slot}
 use Rattle.core_views.specs.declared.trace.Op.{Op}
 use Rattle.core_views.specs.declared.trace.Op.TheVariants.{Read}
 use Rattle.core_views.specs.Held.{Held}
-use Rattle.core_views.specs.Sizes.{actors_of}
 use Rattle.core_views.specs.Slots.{contains}
 use Rattle.spte_words.specs.declared.area.Area.{Area}
 use Rattle.spte_words.specs.declared.area.Area.TheVariants as area
@@ -37,10 +36,11 @@ use Rattle.part_steps.specs.SlotWords.{leaf_of, page_of, slot_at}
 use Rattle.mmu_core.specs.Steps.{line_at, place_at}
 use Rattle.mmu_core.specs.TopicsInvariant.{TopicsInvariant}
 use Rattle.part_steps.specs.TopicSteps.{linked_page}
-use Rattle.mmu_core.specs.TreePart.{EntryPart, IsLiveIn, Position, TreePart, at}
+use Rattle.mmu_core.specs.TreePart.{EntryPart, IsLiveIn, Position, TreePart, at, Use, stands}
+use Rattle.mmu_core.proofs.TreePlaces.{root_stands}
 use Rattle.mmu_core.specs.View.{View, part_stepped, stepped, upd, view, word_in, words_after}
 use Rattle.mmu_core.proofs.AccessParts.{AreSmall, makes_parts, makes_setting}
-use Rattle.mmu_core.proofs.CachedKept.{leaf_at}
+use Rattle.mmu_core.proofs.LeavesOver.{leaf_for}
 use Rattle.mmu_core.proofs.Columns.{same_or, upd_other, upd_same}
 use Rattle.mmu_core.proofs.LeadsDown.{below_stands}
 use Rattle.mmu_core.proofs.LiveStays.{behind_access}
@@ -63,15 +63,15 @@ pub record LinksStay (stands : ℕ → Option Position) (before after : Area →
 
 -- ---- where links lead
 
-module _ (pages root set : ℕ) (role before after host : ℕ → ℕ) (stands : ℕ → Option Position) (T : TreePart pages root set role before host stands) (few : pages ≤ 2 ^ 32) (stay : EntriesStay stands before after) (gfn entry : ℕ) where
-  lowest_stays : (prefix page : ℕ) → kind_of 1 entry ≡ entry_kind.Leaf → stands page ≡ Some (at 1 prefix) → LeadsTo before 1 page gfn entry → LeadsTo after 1 page gfn entry
+module _ {pages root set : ℕ} {role before : ℕ → ℕ} {up : ℕ → Use} {spot : ℕ → Position} (T : TreePart pages root set role before up spot) (after : ℕ → ℕ) (few : pages ≤ 2 ^ 32) (stay : EntriesStay (stands up spot) before after) (gfn entry : ℕ) where
+  lowest_stays : (prefix page : ℕ) → kind_of 1 entry ≡ entry_kind.Leaf → stands up spot page ≡ Some (at 1 prefix) → LeadsTo before 1 page gfn entry → LeadsTo after 1 page gfn entry
   lowest_stays prefix page leaf at_page leads = by (stay page (at 1 prefix) at_page (entry_index gfn 1) (omega arith))
     where
       by : (after (pool_index page (entry_index gfn 1)) ≡ before (pool_index page (entry_index gfn 1))) ⊎ (before (pool_index page (entry_index gfn 1)) ≡ absent_word) → after (pool_index page (entry_index gfn 1)) ≡ entry
       by (inl same) = same ∙ leads
       by (inr was) = let absent : kind_of 1 entry ≡ entry_kind.Absent = ap (kind_of 1) (sym leads ∙ was) ∙ kind_of_absent 1 in absurd (cc (absent, leaf))
 
-  link_stays : (level page below : ℕ) (p : Position) → stands page ≡ Some p → linked_page (kind_of (suc (suc level)) (before (pool_index page (entry_index gfn (suc (suc level)))))) ≡ Some below
+  link_stays : (level page below : ℕ) (p : Position) → stands up spot page ≡ Some p → linked_page (kind_of (suc (suc level)) (before (pool_index page (entry_index gfn (suc (suc level)))))) ≡ Some below
       → linked_page (kind_of (suc (suc level)) (after (pool_index page (entry_index gfn (suc (suc level)))))) ≡ Some below
   link_stays level page below p at_page link = by (stay page p at_page j (omega arith))
     where
@@ -84,10 +84,10 @@ module _ (pages root set : ℕ) (role before after host : ℕ → ℕ) (stands :
           let none : linked_page (kind_of (suc (suc level)) (before (pool_index page j))) ≡ None = ap (λ n. linked_page (kind_of (suc (suc level)) n)) was ∙ ap (λ (k : SpteKind). linked_page k) (kind_of_absent (suc (suc level))) in
           absurd (cc (none, link))
 
-  leads_stay : (level prefix page : ℕ) → kind_of 1 entry ≡ entry_kind.Leaf → stands page ≡ Some (at (suc level) prefix) → LeadsTo before (suc level) page gfn entry → LeadsTo after (suc level) page gfn entry
+  leads_stay : (level prefix page : ℕ) → kind_of 1 entry ≡ entry_kind.Leaf → stands up spot page ≡ Some (at (suc level) prefix) → LeadsTo before (suc level) page gfn entry → LeadsTo after (suc level) page gfn entry
   leads_stay zero prefix page leaf at_page leads = lowest_stays prefix page leaf at_page leads
   leads_stay (suc level) prefix page leaf at_page leads =
-      let below : stands leads.0 ≡ Some (at (suc level) (prefix * 512 + entry_index gfn (suc (suc level)))) = below_stands pages root set role before host stands T few gfn entry level prefix page leads.0 at_page leads.1 in
+      let below : stands up spot leads.0 ≡ Some (at (suc level) (prefix * 512 + entry_index gfn (suc (suc level)))) = below_stands T few gfn entry level prefix page leads.0 at_page leads.1 in
       (leads.0, link_stays level page leads.0 (at (suc (suc level)) prefix) at_page leads.1, leads_stay level (prefix * 512 + entry_index gfn (suc (suc level))) leads.0 leaf below leads.2)
 
 -- ---- what a step stores
@@ -123,7 +123,7 @@ module _ (z : Sizes) (v : View) (a gfn : ℕ) (J : Invariant z v) (I : TopicsInv
 
   link_was : IsPart z v a (part.Link gfn) → (entry_now gfn t v == t.walk.entry) ≡ true → pool here ≡ absent_word
   link_was S is =
-      absent_entry z.pool (v.words area.Root 0) (v.words area.Slots 0) (v.words area.Role) pool (v.words area.Host) I.stands (table_page t.walk) t.walk.level t.walk.prefix index I.tree
+      absent_entry I.tree (table_page t.walk) t.walk.level t.walk.prefix index
       ((I.held a S.there).table S.needs.0.saw.over.there) (omega arith) S.needs.1 (omega (arith, S.is_sizes.pool.1)) (ap (kind_of t.walk.level) (tells (entry_now gfn t v) t.walk.entry is) ∙ S.needs.2)
 
   -- A leaf that is there is the one that slots and host give, so it is the one that is put.
@@ -139,24 +139,24 @@ module _ (z : Sizes) (v : View) (a gfn : ℕ) (J : Invariant z v) (I : TopicsInv
   leaf_was : (S : IsPart z v a (part.Leaf gfn)) → (leaf_written t ≡ pool here) ⊎ (pool here ≡ absent_word)
   leaf_was S = by (I.tree.entries (table_page t.walk) (at t.walk.level t.walk.prefix) ((I.held a S.there).table S.needs.0.saw.over.there) index (omega arith))
     where
-      by : EntryPart pool (v.words area.Host) (v.words area.Slots 0) I.stands (at t.walk.level t.walk.prefix) index (pool here) → (leaf_written t ≡ pool here) ⊎ (pool here ≡ absent_word)
+      by : EntryPart I.up (table_page t.walk) (at t.walk.level t.walk.prefix) index (pool here) → (leaf_written t ≡ pool here) ⊎ (pool here ≡ absent_word)
       by (inl e) = inr e
       by (inr (inl L)) = absurd (let upper : 2 ≤ t.walk.level = L.upper in let lowest : t.walk.level ≡ 1 = S.needs.1 in omega (arith, upper, lowest))
-      by (inr (inr L)) = inl (same_leaf S (pool here) (leaf_at pool (v.words area.Host) (v.words area.Slots 0) gfn t.walk.level t.walk.prefix (pool here) S.needs.0.saw.over.run L).1)
+      by (inr (inr L)) = inl (same_leaf S (pool here) (leaf_for z v I (table_page t.walk) t.walk.level t.walk.prefix index gfn ((I.held a S.there).table S.needs.0.saw.over.there) (omega arith) (let run = S.needs.0.saw.over.run in omega (arith, run)) L.leaf).1)
 
 -- a step of a part
-part_entries_stay : (z : Sizes) (v : View) (a : ℕ) (step : PartStep) (note : ℕ) → IsPart z v a step → Invariant z v → (I : TopicsInvariant z v) → EntriesStay I.stands (v.words area.Pool) ((part_stepped a step note v).words area.Pool)
+part_entries_stay : (z : Sizes) (v : View) (a : ℕ) (step : PartStep) (note : ℕ) → IsPart z v a step → Invariant z v → (I : TopicsInvariant z v) → EntriesStay (stands I.up I.spot) (v.words area.Pool) ((part_stepped a step note v).words area.Pool)
 part_entries_stay z v a (part.Link gfn) note S J I k p is j low =
     exchange_stays (v.words area.Pool) (here z v a gfn J I) (link_written (v.hand a).topics) (entry_now gfn (v.hand a).topics v == (v.hand a).topics.walk.entry) (λ won. inr (link_was z v a gfn J I S won)) (pool_index k j)
 part_entries_stay z v a (part.Leaf gfn) note S J I k p is j low =
     exchange_stays (v.words area.Pool) (here z v a gfn J I) (leaf_written (v.hand a).topics) (entry_now gfn (v.hand a).topics v == (v.hand a).topics.walk.entry) (λ won. leaf_was z v a gfn J I S) (pool_index k j)
 part_entries_stay z v a (part.Fill value) note S J I k p is j low =
-    inl (page_stays z v a (part.Fill value) note S k (λ o owns. table_not_owned (actors_of z) z.pool (v.words area.Slots 0) (v.words area.PoolMap) (λ i. (v.hand i).topics.owned) (λ i. (v.hand i).topics.leaving) I.stands I.pool_part k p is a o S.there owns) j low)
+    inl (page_stays z v a (part.Fill value) note S k (λ o owns. table_not_owned I.uses I.spot k p is a o S.there owns) j low)
 part_entries_stay z v a part.Clear note S J I k p is j low =
-    inl (page_stays z v a part.Clear note S k (left_elsewhere (v.hand a).topics S.needs.leaves k (λ l left e. left_no_table (actors_of z) z.pool (v.words area.Slots 0) (v.words area.PoolMap) (λ i. (v.hand i).topics.owned) (λ i. (v.hand i).topics.leaving) I.stands I.pool_part a l p S.there left (ap I.stands e ∙ is))) j low)
+    inl (page_stays z v a part.Clear note S k (left_elsewhere (v.hand a).topics S.needs.leaves k (λ l left e. left_no_table I.uses I.spot a l p S.there left (ap (stands I.up I.spot) e ∙ is))) j low)
 part_entries_stay z v a step note S J I k p is j low = inl (page_stays z v a step note S k tt j low)
 
-part_links_stay : (z : Sizes) (v : View) (a : ℕ) (step : PartStep) (note : ℕ) → IsPart z v a step → Invariant z v → (I : TopicsInvariant z v) → LinksStay I.stands v.words (part_stepped a step note v).words
+part_links_stay : (z : Sizes) (v : View) (a : ℕ) (step : PartStep) (note : ℕ) → IsPart z v a step → Invariant z v → (I : TopicsInvariant z v) → LinksStay (stands I.up I.spot) v.words (part_stepped a step note v).words
 part_links_stay z v a step note S J I = record { entries = part_entries_stay z v a step note S J I; root = ap (λ (f : ℕ → ℕ). f 0) (areas_stay v a step note area.Root refl) }
 
 -- a touch
@@ -165,26 +165,26 @@ touch_links_stay stands words Read i = record { entries = λ k p is j low. inl r
 touch_links_stay stands words _ i = record { entries = λ k p is j low. inl refl; root = refl }
 
 -- a step of a line
-line_links_stay : (z : Sizes) (v : View) (a : ℕ) (line : Line) (command : Command) (p : Place) → AreSmall v → IsStep z v a line command p → Invariant z v → (I : TopicsInvariant z v) → LinksStay I.stands v.words (stepped a line command p v).words
+line_links_stay : (z : Sizes) (v : View) (a : ℕ) (line : Line) (command : Command) (p : Place) → AreSmall v → IsStep z v a line command p → Invariant z v → (I : TopicsInvariant z v) → LinksStay (stands I.up I.spot) v.words (stepped a line command p v).words
 line_links_stay z v a line command place.Between small S J I = absurd S.begun
 line_links_stay z v a line (Access gfn word op) (place.Access p) small S J I =
-    behind_access (λ words. LinksStay I.stands v.words words) v a line p gfn word op (λ step note is. part_links_stay z v a step note (makes_parts z v a line p gfn word op small S J I step is) J I) (λ index. touch_links_stay I.stands v.words op index)
+    behind_access (λ words. LinksStay (stands I.up I.spot) v.words words) v a line p gfn word op (λ step note is. part_links_stay z v a step note (makes_parts z v a line p gfn word op small S J I step is) J I) (λ index. touch_links_stay (stands I.up I.spot) v.words op index)
 line_links_stay z v a line (SetSlot id slot) (place.SetSlot p) small S J I = part_links_stay z v a (set_slot_part p (v.hand a) id slot) (set_slot_note p (v.hand a)) (makes_setting z v a line p id slot small S J I) J I
 line_links_stay z v a line _ _ small S J I = absurd S.holds
 
 -- ---- from world to world
 
-links_stay : (z : Sizes) (w : World Held) (s : Step Kind) (G : IsSound z w) → May mmu w s → LinksStay G.topics.stands (word_in z w) (word_in z (effect mmu w s))
+links_stay : (z : Sizes) (w : World Held) (s : Step Kind) (G : IsSound z w) → May mmu w s → LinksStay (stands G.topics.up G.topics.spot) (word_in z w) (word_in z (effect mmu w s))
 links_stay z w s G may = by (takes z w s G may)
   where
     h : Held
     h = hand_in mmu w s.actor
 
-    by : Takes z w s h ⊎ TakesPart z w s h → LinksStay G.topics.stands (word_in z w) (word_in z (effect mmu w s))
+    by : Takes z w s h ⊎ TakesPart z w s h → LinksStay (stands G.topics.up G.topics.spot) (word_in z w) (word_in z (effect mmu w s))
     by (inl T) =
-        subst (λ (v : View). LinksStay G.topics.stands (word_in z w) v.words) (sym T.leads)
+        subst (λ (v : View). LinksStay (stands G.topics.up G.topics.spot) (word_in z w) v.words) (sym T.leads)
         (line_links_stay z (view z w) s.actor (line_at h.state.place h) (line_at h.state.place h).command (place_at h.state.place h) (view_small z w G.small) T.is_step G.holds G.topics)
-    by (inr T) = subst (λ (v : View). LinksStay G.topics.stands (word_in z w) v.words) (sym T.leads) (part_links_stay z (view z w) s.actor T.step T.note T.is_part G.holds G.topics)
+    by (inr T) = subst (λ (v : View). LinksStay (stands G.topics.up G.topics.spot) (word_in z w) v.words) (sym T.leads) (part_links_stay z (view z w) s.actor T.step T.note T.is_part G.holds G.topics)
 
 pub leaf_stays : (z : Sizes) (w : World Held) (s : Step Kind) (gfn : ℕ) (write : Bool) → IsSound z w → May mmu w s → LeadsToLeaf (word_in z w area.Pool) 4 (word_in z w area.Root 0) gfn write
     → LeadsToLeaf (word_in z (effect mmu w s) area.Pool) 4 (word_in z (effect mmu w s) area.Root 0) gfn write
@@ -193,8 +193,8 @@ leaf_stays z w s gfn write G may L =
     let I = G.topics in
     let words : Area → ℕ → ℕ = word_in z w in
     let leads : LeadsTo (word_in z (effect mmu w s) area.Pool) 4 (words area.Root 0) gfn L.entry =
-    leads_stay z.pool (words area.Root 0) (words area.Slots 0) (words area.Role) (words area.Pool) (word_in z (effect mmu w s) area.Pool) (words area.Host) I.stands I.tree (let most = G.holds.sizes.pool.1 in omega (arith, most)) S.entries gfn L.entry
-    3 0 (words area.Root 0) L.leaf I.tree.root_stands L.leads in
+    leads_stay I.tree (word_in z (effect mmu w s) area.Pool) (let most = G.holds.sizes.pool.1 in omega (arith, most)) S.entries gfn L.entry
+    3 0 (words area.Root 0) L.leaf (root_stands I.tree) L.leads in
     record { entry = L.entry; leads = subst (λ k. LeadsTo (word_in z (effect mmu w s) area.Pool) 4 k gfn L.entry) (sym S.root) leads; leaf = L.leaf; allows = L.allows }
 
 pub leaves_stay : (z : Sizes) (w : World Held) (ss : List (Step Kind)) (gfn : ℕ) (write : Bool) → IsSound z w → Legal mmu w ss → LeadsToLeaf (word_in z w area.Pool) 4 (word_in z w area.Root 0) gfn write

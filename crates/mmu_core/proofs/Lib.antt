@@ -80,6 +80,7 @@ pub mod SumsBelow
 pub mod OwnedBehind
 pub mod PoolBits
 pub mod PoolPages
+pub mod UsesTurn
 pub mod PoolKept
 pub mod FilledKept
 pub mod PartIndex
@@ -89,6 +90,7 @@ pub mod PartTopics
 pub mod LockKept
 pub mod StatesKept
 pub mod HeldKept
+pub mod Paths
 pub mod FirstUsable
 pub mod NextTopics
 pub mod SawWriterKept
@@ -100,8 +102,12 @@ pub mod ScanPlaces
 pub mod StarvedScan
 pub mod Standing
 pub mod LiveStays
+pub mod TreePlaces
 pub mod TreeStored
+pub mod UsesStay
 pub mod TreeKept
+pub mod AllOver
+pub mod LeavesOver
 pub mod SearchKept
 pub mod FaultSame
 pub mod FaultNeeds

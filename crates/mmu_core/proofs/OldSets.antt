@@ -14,6 +14,7 @@ use Rattle.part_steps.specs.PartSteps.{own_index, page_owned, part_task, table_p
 use Rattle.mmu_core.specs.SlotSetPart.{IsLiveIn}
 use Rattle.mmu_core.specs.TopicsInvariant.{TopicsInvariant}
 use Rattle.part_steps.specs.TopicSteps.{still_leaving}
+use Rattle.mmu_core.specs.TreePart.{stands}
 use Rattle.mmu_core.specs.View.{View, part_stepped, upd, answer_in}
 use Rattle.mmu_core.proofs.Columns.{same_or, upd_other, upd_same}
 use Rattle.mmu_core.proofs.PartStepping.{IsPart, is_publish}
@@ -31,13 +32,13 @@ use Rattle.mmu_core.proofs.SetsKept.{sets_kept}
 -- a page that is leaving is no table
 left_no_walk : (z : Sizes) (v : View) (a i k : ℕ) → a < actors_of z → i < actors_of z → TopicsInvariant z v → 1 ≤ (v.hand a).topics.walk.level → (v.hand i).topics.leaving ≡ Some k → table_page (v.hand a).topics.walk ≢ k
 left_no_walk z v a i k there lt I from is e =
-    left_no_table (actors_of z) z.pool (v.words area.Slots 0) (v.words area.PoolMap) (λ j. (v.hand j).topics.owned) (λ j. (v.hand j).topics.leaving) I.stands I.pool_part i k _ lt is (sym (ap I.stands e) ∙ (I.held a there).table from)
+    left_no_table I.uses I.spot i k _ lt is (sym (ap (stands I.up I.spot) e) ∙ (I.held a there).table from)
 
 -- a page that is leaving is none that a step stores words in
 left_words_stay : (z : Sizes) (v : View) (a : ℕ) (step : PartStep) (note : ℕ) → IsPart z v a step → TopicsInvariant z v → (i k : ℕ) → i < actors_of z → (v.hand i).topics.leaving ≡ Some k
     → SetStays k (v.words area.Pool) ((part_stepped a step note v).words area.Pool)
 left_words_stay z v a (part.Fill value) note S I i k lt is =
-    page_stays z v a (part.Fill value) note S k (λ o owned. left_not_owned (actors_of z) z.pool (v.words area.Slots 0) (v.words area.PoolMap) (λ j. (v.hand j).topics.owned) (λ j. (v.hand j).topics.leaving) I.stands I.pool_part i k lt is a o S.there owned)
+    page_stays z v a (part.Fill value) note S k (λ o owned. left_not_owned I.uses i k lt is a o S.there owned)
 left_words_stay z v a (part.Link gfn) note S I i k lt is = page_stays z v a (part.Link gfn) note S k (left_no_walk z v a i k S.there lt I S.needs.0.saw.over.there is)
 left_words_stay z v a (part.Leaf gfn) note S I i k lt is = page_stays z v a (part.Leaf gfn) note S k (left_no_walk z v a i k S.there lt I S.needs.0.saw.over.there is)
 left_words_stay z v a _ note S I i k lt is = λ j low. refl

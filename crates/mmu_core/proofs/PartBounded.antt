@@ -20,7 +20,8 @@ use Rattle.mmu_core.specs.LockPart.{SawWriter}
 use Rattle.part_steps.specs.PartBounds.{PartRests}
 use Rattle.part_steps.specs.PartSteps.{table_page}
 use Rattle.mmu_core.specs.TopicsInvariant.{TopicsInvariant}
-use Rattle.mmu_core.specs.TreePart.{IsLiveIn}
+use Rattle.mmu_core.specs.TreePart.{IsLiveIn, stands}
+use Rattle.mmu_core.proofs.PoolPages.{left_there, owned_there, slots_there}
 use Rattle.mmu_core.specs.View.{View}
 use Rattle.mmu_core.proofs.OldSets.{set_live}
 
@@ -35,8 +36,8 @@ part_rests_at z v i I P there = record {
   level = level (cases_lt 0 h.topics.walk.level);
   table = λ from. subst (λ (y : Sizes). table_page h.topics.walk < y.pool) (sym same) (P.tree.there _ _ (H.table from)).0;
   set = λ k is. subst (λ (y : Sizes). k < y.pool) (sym same) (set_there k is);
-  page = λ o is. subst (λ (y : Sizes). o.page < y.pool) (sym same) (P.pool_part.there i o there is);
-  left = λ k is. subst (λ (y : Sizes). k < y.pool) (sym same) (P.pool_part.left_there i k there is);
+  page = λ o is. subst (λ (y : Sizes). o.page < y.pool) (sym same) (owned_there P.uses i o there is);
+  left = λ k is. subst (λ (y : Sizes). k < y.pool) (sym same) (left_there P.uses i k there is);
   filled = λ o is. (P.filled i o there is).most;
   counters = subst (λ y. CountersPart y h.topics) (sym same) (P.counters i there);
   found = λ whole. subst (λ (y : Sizes). h.topics.search.slot.host + h.topics.search.slot.pages ≤ y.pages) (sym same) (found whole);
@@ -54,7 +55,7 @@ part_rests_at z v i I P there = record {
     same : h.state.sizes ≡ z
     same = O.sizes
 
-    H : HeldPart P.stands h.topics
+    H : HeldPart (stands P.up P.spot) h.topics
     H = P.held i there
 
     lowest : (t : Translation) → (t.level ≡ 1) × IsLeafFor (v.words area.Pool) (v.words area.Host) (v.words area.Slots 0) t.gfn t.leaf → IsAtLeafLevel t
@@ -69,8 +70,8 @@ part_rests_at z v i I P there = record {
     set_there k is = by (P.sets i k there is)
       where
         by : (k ≡ v.words area.Slots 0) ⊎ HoldsOld (actors_of z) (λ j. (v.hand j).topics) i k → k < z.pool
-        by (inl e) = subst (λ n. n < z.pool) (sym e) P.pool_part.slots_there
-        by (inr O) = P.pool_part.left_there O.by k O.there O.leaves
+        by (inl e) = subst (λ n. n < z.pool) (sym e) (slots_there P.uses)
+        by (inr O) = left_there P.uses O.by k O.there O.leaves
 
     -- The slot that was loaded whole is live in the published set.
     found : h.topics.search.whole ≡ true → h.topics.search.slot.host + h.topics.search.slot.pages ≤ z.pages

@@ -175,11 +175,11 @@ role_stays z v a _ note S k differs = refl
 pub walks_elsewhere : (z : Sizes) (v : View) (a : ℕ) → a < actors_of z → TopicsInvariant z v → 1 ≤ (v.hand a).topics.walk.level → table_page (v.hand a).topics.walk ≢ v.words area.Slots 0
 walks_elsewhere z v a lt I from =
     let at = (I.held a lt).table from in
-    table_not_slots (actors_of z) z.pool (v.words area.Slots 0) (v.words area.PoolMap) (λ i. (v.hand i).topics.owned) (λ i. (v.hand i).topics.leaving) I.stands I.pool_part (table_page (v.hand a).topics.walk) _ (I.tree.there _ _ at).0 at
+    table_not_slots I.uses I.spot (table_page (v.hand a).topics.walk) _ at
 
 pub walks_unowned : (z : Sizes) (v : View) (a : ℕ) → a < actors_of z → TopicsInvariant z v → 1 ≤ (v.hand a).topics.walk.level → (i : ℕ) (o : OwnedPage) → i < actors_of z → (v.hand i).topics.owned ≡ Some o → o.page ≢ table_page (v.hand a).topics.walk
 walks_unowned z v a lt I from =
-    table_not_owned (actors_of z) z.pool (v.words area.Slots 0) (v.words area.PoolMap) (λ i. (v.hand i).topics.owned) (λ i. (v.hand i).topics.leaving) I.stands I.pool_part (table_page (v.hand a).topics.walk) _ ((I.held a lt).table from)
+    table_not_owned I.uses I.spot (table_page (v.hand a).topics.walk) _ ((I.held a lt).table from)
 
 -- the page that is leaving is another one
 pub left_elsewhere : (t : Topics) → is_some t.leaving ≡ true → (k : ℕ) → ((l : ℕ) → t.leaving ≡ Some l → l ≢ k) → page_left t.leaving ≢ k
@@ -191,11 +191,11 @@ left_elsewhere t some k each = by t.leaving refl some
 
 -- A step leaves the page of the published slot set.
 pub slots_elsewhere : (z : Sizes) (v : View) (a : ℕ) (step : PartStep) → IsPart z v a step → TopicsInvariant z v → IsElsewhere step (v.hand a).topics (v.words area.Slots 0)
-slots_elsewhere z v a (part.Fill value) S I = λ o is. owned_not_slots (actors_of z) z.pool (v.words area.Slots 0) (v.words area.PoolMap) (λ i. (v.hand i).topics.owned) (λ i. (v.hand i).topics.leaving) I.stands I.pool_part a o S.there is
+slots_elsewhere z v a (part.Fill value) S I = λ o is. owned_not_slots I.uses a o S.there is
 slots_elsewhere z v a (part.Link gfn) S I = walks_elsewhere z v a S.there I S.needs.0.saw.over.there
 slots_elsewhere z v a (part.Leaf gfn) S I = walks_elsewhere z v a S.there I S.needs.0.saw.over.there
 slots_elsewhere z v a part.Clear S I = left_elsewhere (v.hand a).topics S.needs.leaves (v.words area.Slots 0)
-    (λ k is. left_not_slots (actors_of z) z.pool (v.words area.Slots 0) (v.words area.PoolMap) (λ i. (v.hand i).topics.owned) (λ i. (v.hand i).topics.leaving) I.stands I.pool_part a k S.there is)
+    (λ k is. left_not_slots I.uses a k S.there is)
 slots_elsewhere z v a _ S I = tt
 
 pub fill_elsewhere : (z : Sizes) (v : View) (a : ℕ) (step : PartStep) (note : ℕ) → IsPart z v a step → TopicsInvariant z v → (j : ℕ) → j < 512

@@ -16,6 +16,7 @@ use Rattle.spte_words.specs.declared.area.Area.TheVariants as area
 use Rattle.spte_words.specs.Areas.{place, words_of_bits}
 use Rattle.part_steps.specs.declared.part_step.PartStep.{PartStep}
 use Rattle.part_steps.specs.declared.part_step.PartStep.TheVariants as part
+use Rattle.mmu_core.proofs.PoolPages.{slots_there}
 use Rattle.mmu_core.specs.Enabled.{Enabled, mmu}
 use Rattle.mmu_core.specs.Laws.{IsSound}
 use Rattle.mmu_core.specs.Machine.{Legal, May, Step, World, answered, effect, hand_in, run}
@@ -240,7 +241,7 @@ module _ (z : Sizes) (actor : ℕ) where
       same = (G.holds.lines s.actor there).sizes
 
       words : 0 < words_of_bits z.pool
-      words = let slots = G.topics.pool_part.slots_there in omega (arith, slots)
+      words = let slots = slots_there G.topics.uses in omega (arith, slots)
 
       at_is : at_in actor (effect mmu u s) ≡ (if v == 0 then 1 else 0)
       at_is =

@@ -29,11 +29,13 @@ use Rattle.mmu_core.proofs.FilledKept.{filled_kept}
 use Rattle.mmu_core.proofs.HeldKept.{counters_kept, held_kept}
 use Rattle.mmu_core.proofs.LiveStays.{MakesParts}
 use Rattle.mmu_core.proofs.LockKept.{lock_kept}
-use Rattle.mmu_core.proofs.PoolKept.{pool_kept}
+use Rattle.mmu_core.proofs.LeavesOver.{leaves_kept}
+use Rattle.mmu_core.proofs.Paths.{paths_kept}
+use Rattle.mmu_core.proofs.PoolKept.{uses_kept}
 use Rattle.mmu_core.proofs.SameTopics.{same_topics}
 use Rattle.mmu_core.proofs.SawWriterKept.{saw_kept}
 use Rattle.mmu_core.proofs.SearchKept.{looks_kept, searches_kept}
-use Rattle.mmu_core.proofs.Standing.{stands_after}
+use Rattle.mmu_core.proofs.Standing.{spot_after, up_after}
 use Rattle.mmu_core.proofs.StatesKept.{states_kept}
 use Rattle.mmu_core.proofs.SumsBelow.{column}
 use Rattle.mmu_core.proofs.TreeKept.{tree_kept}
@@ -46,14 +48,17 @@ use Rattle.mmu_core.proofs.SetsKept.{sets_kept}
 -- Each step of a part does.
 pub topics_part_kept : (z : Sizes) (v : View) (a : ℕ) (step : PartStep) (note : ℕ) → IsPart z v a step → TopicsInvariant z v → TopicsInvariant z (part_stepped a step note v)
 topics_part_kept z v a step note S I = record {
-  stands = stands_after step (v.hand a).topics v I.stands;
+  up = up_after step a (v.hand a).topics v I.up;
+  spot = spot_after step (v.hand a).topics v I.spot;
   lock_part = lock_kept z v a step note S I;
   saw_writer = saw_kept z v a step note S I;
   states_part = states_kept z v a step note S I;
-  pool_part = pool_kept z v a step note S I;
+  uses = uses_kept z v a step note S I;
+  leaves = leaves_kept z v a step note S I;
   filled = filled_kept z v a step note S I;
   tree = tree_kept z v a step note S I;
   held = held_kept z v a step note S I;
+  paths = paths_kept z v a step note S I;
   sets = sets_kept z v a step note S I;
   old_sets = old_sets_kept z v a step note S I;
   searches = searches_kept z v a step note S I;

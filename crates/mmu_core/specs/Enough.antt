@@ -12,7 +12,7 @@ use Rattle.mmu_core.specs.Enabled.{mmu}
 use Rattle.mmu_core.specs.Laws.{IsSound}
 use Rattle.mmu_core.specs.Machine.{Legal, Step, World, hand_in, run}
 use Rattle.mmu_core.specs.PoolPart.{is_free, is_leaving, is_owned}
-use Rattle.mmu_core.specs.TreePart.{at}
+use Rattle.mmu_core.specs.TreePart.{at, stands}
 use Rattle.mmu_core.specs.View.{word_in}
 use Rattle.mmu_core.specs.Worlds.{IsStart}
 
@@ -48,7 +48,7 @@ EachTableIsWanted =
 abbrev pub TablesAreForTheirRuns : Type 0
 TablesAreForTheirRuns =
     (h : Header) (lines : List Line) (w : World Held) (ss : List (Step Kind)) → IsStart (sizes_of h) lines w → Legal mmu w ss
-    → (sound : IsSound (sizes_of h) (run mmu w ss)) (k level prefix : ℕ) → sound.topics.stands k ≡ Some (at level prefix) → level < 4
+    → (sound : IsSound (sizes_of h) (run mmu w ss)) (k level prefix : ℕ) → stands sound.topics.up sound.topics.spot k ≡ Some (at level prefix) → level < 4
     → (some_line_wants h lines level prefix ≡ true) × (word_in (sizes_of h) (run mmu w ss) area.Role k ≡ level)
 
 -- Where the pool has as many pages as the trace needs at most, and no actor owns one, some page is free behind every list of steps.

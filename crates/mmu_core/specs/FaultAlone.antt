@@ -30,7 +30,7 @@ use Rattle.part_steps.specs.PartSteps.{entry_index, part_task, table_page}
 use Rattle.part_steps.specs.PartTopics.{part_topics}
 use Rattle.part_steps.specs.SlotWords.{NoneBelow, NoneHasPage}
 use Rattle.part_steps.specs.TopicSteps.{linked_page}
-use Rattle.mmu_core.specs.TreePart.{at}
+use Rattle.mmu_core.specs.TreePart.{at, stands}
 use Rattle.mmu_core.specs.View.{answer_in, word_in, words_after}
 
 -- From the table in a page, which is of the level, links lead the guest frame down to this entry of the lowest level.
@@ -125,5 +125,5 @@ pub record LeadSame (pool : ℕ → ℕ) (root level page gfn entry : ℕ) : Typ
 -- Where a table stands over the guest frame, the links from the root lead through it.
 abbrev pub LeadsDown : Type 0
 LeadsDown =
-    (z : Sizes) (w : World Held) (gfn page level entry : ℕ) (sound : IsSound z w) → sound.topics.stands page ≡ Some (at level (gfn / level_span level / 512))
+    (z : Sizes) (w : World Held) (gfn page level entry : ℕ) (sound : IsSound z w) → stands sound.topics.up sound.topics.spot page ≡ Some (at level (gfn / level_span level / 512))
     → LeadSame (word_in z w area.Pool) (word_in z w area.Root 0) level page gfn entry

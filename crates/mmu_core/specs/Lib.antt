@@ -29,6 +29,7 @@ pub mod Sums
 pub mod LockPart
 pub mod StatesPart
 pub mod TreePart
+pub mod AllOver
 pub mod PoolPart
 pub mod SearchPart
 pub mod HeldPart

@@ -24,16 +24,17 @@ use Rattle.mmu_core.specs.Machine.{World, hand_in}
 use Rattle.mmu_core.specs.MayMake.{MayMake}
 use Rattle.part_steps.specs.PartBounds.{PartRests}
 use Rattle.part_steps.specs.PartSteps.{PartNeeds, own_index, page_owned, part_kind, part_task}
-use Rattle.mmu_core.specs.PoolPart.{PoolPart, is_free, is_leaving, is_owned}
+use Rattle.mmu_core.specs.PoolPart.{UsePart, is_free, is_leaving, is_owned}
 use Rattle.mmu_core.specs.Steps.{has_line}
 use Rattle.part_steps.specs.TopicSteps.{claimed, is_won, tried, tried_bit}
-use Rattle.mmu_core.specs.TreePart.{at}
+use Rattle.mmu_core.specs.TreePart.{at, stands}
 use Rattle.mmu_core.specs.View.{word_in}
 use Rattle.mmu_core.specs.Worlds.{HandReached, Reachable}
 use Rattle.mmu_core.proofs.Columns.{upd_same}
 use Rattle.mmu_core.proofs.PartRested.{may_make, reached_part_rests}
 use Rattle.mmu_core.proofs.PoolBits.{page_free}
-use Rattle.mmu_core.proofs.PoolPages.{left_not_owned, one_owner, owned_no_table, owned_not_free, owned_not_slots}
+use Rattle.mmu_core.proofs.PoolPages.{left_not_owned, one_owner, owned_no_table, owned_not_free, owned_not_slots, owned_there}
+use Rattle.mmu_core.proofs.TreePlaces.{root_stands}
 use Rattle.mmu_core.proofs.Starts.{reached_good}
 use Rattle.step_seats.specs.PartTurns.{HasHand, MadePart, Told, ToldBoth}
 use Rattle.table_pool.specs.Claims.{IsClaimersAlone, IsFreePage, SawStands, claim_step, next_word, sees_pages}
@@ -218,8 +219,8 @@ sole_in w a o r there mine = subst (λ (y : Sizes). IsClaimersAlone y a o.page w
     leaving : ℕ → Option ℕ
     leaving i = (hand_in mmu w i).topics.leaving
 
-    P : PoolPart (actors_of z) z.pool (word_in z w area.Slots 0) (word_in z w area.PoolMap) owned leaving G.topics.stands
-    P = G.topics.pool_part
+    P : UsePart (actors_of z) z.pool (word_in z w area.Slots 0) (word_in z w area.PoolMap) owned leaving G.topics.up
+    P = G.topics.uses
 
     itself : (o.page == o.page) ≡ true
     itself = grind (arith, nat_tests)
@@ -229,7 +230,7 @@ sole_in w a o r there mine = subst (λ (y : Sizes). IsClaimersAlone y a o.page w
     other i i_lt apart (Some p) is = by (p.page == o.page) (λ e. grind (arith, nat_tests))
       where
         by : (b : Bool) → (b ≡ true → p.page ≡ o.page) → b ≡ false
-        by true same = absurd (apart (sym (one_owner (actors_of z) z.pool (word_in z w area.Slots 0) (word_in z w area.PoolMap) owned leaving G.topics.stands P a i o p lt i_lt mine is (same refl))))
+        by true same = absurd (apart (sym (one_owner P a i o p lt i_lt mine is (same refl))))
         by false same = refl
 
     stays : (i : ℕ) → i < actors_of z → (x : Option ℕ) → leaving i ≡ x → is_leaving x o.page ≡ false
@@ -237,17 +238,17 @@ sole_in w a o r there mine = subst (λ (y : Sizes). IsClaimersAlone y a o.page w
     stays i i_lt (Some k) is = by (k == o.page) (λ e. grind (arith, nat_tests))
       where
         by : (b : Bool) → (b ≡ true → k ≡ o.page) → b ≡ false
-        by true same = absurd (left_not_owned (actors_of z) z.pool (word_in z w area.Slots 0) (word_in z w area.PoolMap) owned leaving G.topics.stands P i k i_lt is a o lt mine (sym (same refl)))
+        by true same = absurd (left_not_owned P i k i_lt is a o lt mine (sym (same refl)))
         by false same = refl
 
     alone : IsClaimersAlone z a o.page w
     alone = record {
-      there = P.there a o lt mine;
+      there = owned_there P a o lt mine;
       owned = ap (λ x. is_owned x o.page) mine ∙ itself;
       others = λ i i_in apart. other i (subst (λ n. i < n) G.hands i_in) apart (owned i) refl;
-      not_free = owned_not_free (actors_of z) z.pool (word_in z w area.Slots 0) (word_in z w area.PoolMap) owned leaving G.topics.stands P a o lt mine;
-      not_root = λ e. owned_no_table (actors_of z) z.pool (word_in z w area.Slots 0) (word_in z w area.PoolMap) owned leaving G.topics.stands P a o (at 4 0) lt mine (sym (ap G.topics.stands e) ∙ G.topics.tree.root_stands);
-      not_slots = λ e. owned_not_slots (actors_of z) z.pool (word_in z w area.Slots 0) (word_in z w area.PoolMap) owned leaving G.topics.stands P a o lt mine (sym e);
+      not_free = owned_not_free P a o lt mine;
+      not_root = λ e. owned_no_table P G.topics.spot a o (at 4 0) lt mine (sym (ap (stands G.topics.up G.topics.spot) e) ∙ root_stands G.topics.tree);
+      not_slots = λ e. owned_not_slots P a o lt mine (sym e);
       not_leaving = λ i i_in. stays i (subst (λ n. i < n) G.hands i_in) (leaving i) refl;
     }
 

@@ -10,7 +10,21 @@ use Rattle.part_steps.specs.declared.part_step.PartStep.TheVariants as part
 use Rattle.part_steps.specs.PartSteps.{leaf_written, link_written}
 use Rattle.part_steps.specs.PartTopics.{part_topics}
 use Rattle.part_steps.specs.TopicSteps.{gone_down, is_outside, linked_page, may_walk, swapped}
-use Rattle.core_theorem.specs.Walks.{run_at, table_at}
+use Rattle.core_views.specs.declared.sizes.Sizes.{Sizes}
+use Rattle.core_views.specs.Held.{Held}
+use Rattle.core_views.specs.Sizes.{actors_of}
+use Rattle.mmu_core.specs.HeldPart.{HeldPart, PathPart, run_at, table_at}
+use Rattle.mmu_core.specs.TopicsInvariant.{TopicsInvariant}
+use Rattle.mmu_core.specs.TreePart.{Position, at, stands}
+use Rattle.mmu_core.specs.View.{View, answer_in, part_stepped}
+use Rattle.part_steps.specs.PartSteps.{part_task}
+use Rattle.std.proofs.lemmas.Bool.{cases_lt}
+use Rattle.std.proofs.Common.{◌⊎◌, inl, inr, sym, subst}
+use Rattle.mmu_core.proofs.Columns.{at_upd}
+use Rattle.mmu_core.proofs.PartStepping.{IsPart}
+use Rattle.mmu_core.proofs.PartTopics.{behind_step, part_behind}
+use Rattle.mmu_core.proofs.Standing.{spot_after, up_after}
+use Rattle.mmu_core.proofs.UsesStay.{stays_standing}
 
 -- Above the table that a walk has come to, it has gone through the tables that it had gone through or come to before, for the same runs.
 pub record GoesOnAt (before after : TableWalk) (level : ℕ) : Type 0 where
@@ -84,3 +98,40 @@ part_goes (part.Walk gfn) t v = down_goes (linked_page (kind_of t.walk.level v))
 part_goes (part.Link gfn) t v = swap_goes (v == t.walk.entry) t.walk _ (link_written t) v (omega arith)
 part_goes (part.Leaf gfn) t v = swap_goes (v == t.walk.entry) t.walk _ (leaf_written t) v (omega arith)
 part_goes _ t v = stays t.walk
+
+-- ---- The tables of a walk stand behind each step.
+
+-- The table that the walk has come to stands so as those that it has gone through.
+pub whole_path : (stands : ℕ → Option Position) (t : Topics) → HeldPart stands t → PathPart stands t.walk → (level : ℕ) → 1 ≤ t.walk.level → t.walk.level ≤ level → level ≤ 4 → stands (table_at level t.walk) ≡ Some (at level (run_at level t.walk))
+whole_path stands t H P level from down most = by (cases_lt t.walk.level level)
+  where
+    by : (t.walk.level < level) ⊎ (level ≤ t.walk.level) → stands (table_at level t.walk) ≡ Some (at level (run_at level t.walk))
+    by (inl above) = P level from above most
+    by (inr not_above) =
+        let here : t.walk.level ≡ level = omega (arith, down, not_above) in
+        let none : t.walk.level - t.walk.level ≡ 0 = omega arith in
+        let own : t.walk.prefix ≡ run_at t.walk.level t.walk = sym (ap (λ n. t.walk.prefix / 512 ^ n) none ∙ omega arith) in
+        subst (λ l. stands (table_at l t.walk) ≡ Some (at l (run_at l t.walk))) here (H.table from ∙ ap (λ r. Some (at t.walk.level r)) own)
+
+-- A walk that went on is at tables where those stand that it had come to.
+path_on : (before after : ℕ → Option Position) (t s : Topics) → ((k : ℕ) (p : Position) → before k ≡ Some p → after k ≡ Some p) → GoesOn t.walk s.walk → HeldPart before t → PathPart before t.walk → PathPart after s.walk
+path_on before after t s stay goes H P level from above most =
+    let on = goes level from above most in
+    stay (table_at level s.walk) (at level (run_at level s.walk)) (ap before on.table ∙ whole_path before t H P level on.from on.down most ∙ ap (λ r. Some (at level r)) (sym on.run))
+
+-- what is said of the paths of all walks, of a view
+abbrev PathsAt : Sizes → (ℕ → Option Position) → View → Type 0
+PathsAt z stands v = (i : ℕ) → i < actors_of z → PathPart stands (v.hand i).topics.walk
+
+pub paths_kept : (z : Sizes) (v : View) (a : ℕ) (step : PartStep) (note : ℕ) → IsPart z v a step → (I : TopicsInvariant z v)
+    → PathsAt z (stands (up_after step a (v.hand a).topics v I.up) (spot_after step (v.hand a).topics v I.spot)) (part_stepped a step note v)
+paths_kept z v a step note S I = behind_step (PathsAt z after) z v a step note S behind
+  where
+    after : ℕ → Option Position
+    after = stands (up_after step a (v.hand a).topics v I.up) (spot_after step (v.hand a).topics v I.spot)
+
+    behind : PathsAt z after (part_behind a step note v)
+    behind =
+        at_upd (λ i (h : Held). i < actors_of z → PathPart after h.topics.walk) v.hand a _
+        (λ lt. path_on (stands I.up I.spot) after (v.hand a).topics (part_topics step (v.hand a).topics (answer_in (part_task step a (v.hand a).topics note) v.words)) (stays_standing z v a step S I) (part_goes step (v.hand a).topics _) (I.held a lt) (I.paths a lt))
+        (λ i apart lt level from above most. stays_standing z v a step S I (table_at level (v.hand i).topics.walk) (at level (run_at level (v.hand i).topics.walk)) (I.paths i lt level from above most))
