@@ -4,6 +4,7 @@
 //! written, and else with 1. That the text is the one of the trace's flat
 //! history is proved; that `judge` writes it is tested.
 #![tactic(auto)]
+ghost use Rattle.std.specs.Prelude.{◌≡◌, false};
 
 mod plain_text;
 
@@ -16,7 +17,9 @@ use trace_reader::{Read, read_trace};
 
 // Whether the source held a trace, and all that flat guest memory answers was
 // written.
-fn judge<S: Source, K: Sink>(alloc: Global, src: &mut S, out: &mut K) -> bool {
+fn judge<S: Source, K: Sink>(alloc: Global, src: &mut S, out: &mut K) -> bool
+    requires unfailed { K.failed out.old ≡ false }
+{
     let Ok(Read::Trace(trace)) = read_trace(alloc, src) else {
         return false;
     };

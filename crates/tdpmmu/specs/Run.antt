@@ -1,5 +1,5 @@
 -- What a run of the program does, by its status.
-use Rattle.std.specs.Prelude.{◌≡◌, ◌≤◌, ◌⊎◌, ℕ, List, [], ◌∷◌, ◌++◌, length, codes, Bool, true, if◌then◌else◌, Option, Some, None, Result, Ok, Err}
+use Rattle.std.specs.Prelude.{◌≡◌, ◌≤◌, ◌⊎◌, ℕ, List, [], ◌∷◌, ◌++◌, length, codes, Bool, true, false, if◌then◌else◌, Option, Some, None, Result, Ok, Err}
 use Rattle.std.specs.Str.{bytes_eq}
 use Rattle.std.specs.Io.KnownBytes.{Appends, Consumes, IsAtEnd}
 use Rattle.core_views.specs.declared.actor.Actor.{Actor}
@@ -134,6 +134,11 @@ WriteCause before now (Refused line reason) = now ≡ before
 WriteCause before now ReadFault = now ≡ before
 WriteCause before now (Unfinished actor line) = now ≡ before
 WriteCause before now NoMemory = now ≡ before
+
+-- Writing failed.
+abbrev pub is_write_fault : Status → Bool
+is_write_fault WriteFault = true
+is_write_fault _ = false
 
 abbrev pub exit_code : Status → ℕ
 exit_code Done = 0

@@ -1,5 +1,5 @@
 -- What a weave writes, by how it ends.
-use Rattle.std.specs.Prelude.{◌≡◌, ◌⊎◌, ℕ, List, ◌++◌, Option, Some, None, Result, Ok, Err}
+use Rattle.std.specs.Prelude.{◌≡◌, ◌⊎◌, ℕ, List, ◌++◌, Bool, true, false, Option, Some, None, Result, Ok, Err}
 use Rattle.std.specs.Io.KnownBytes.{Appends}
 use Rattle.core_views.specs.declared.no_memory.NoMemory.{NoMemory}
 use Rattle.core_views.specs.declared.trace.Line.{Line}
@@ -58,6 +58,16 @@ WritesBy trace limit closing before after WriteFault = WritesUntil Failed trace 
 abbrev pub WritesWeave : Trace → ℕ → Option (List ℕ) → Option (List ℕ) → Result Ran NoMemory → Type 0
 WritesWeave trace limit before after (Ok ran) = WritesBy trace limit (world_of ran.closing.words ran.closing.hands) before after ran.how
 WritesWeave trace limit before after (Err e) = (closing : World Held) × WritesUntil Full trace limit closing before after
+
+-- The run ended because a write failed.
+abbrev pub is_write_fault : How → Bool
+is_write_fault WriteFault = true
+is_write_fault Done = false
+is_write_fault (Unfinished actor line) = false
+
+abbrev pub ran_failed : Result Ran NoMemory → Bool
+ran_failed (Ok ran) = is_write_fault ran.how
+ran_failed (Err e) = false
 
 -- The count of failed writes rose where the run ended with a fault of writing, and stayed at any other end.
 abbrev pub RoseBy : ℕ → ℕ → How → Type 0

@@ -21,6 +21,7 @@ loop-index-init g c = record {
   sizes = refl;
   count = refl;
   faults = refl;
+  failed = c.requires.unfailed;
 }
 
 pub run_on-requires-clause-there : goal.run_on-requires-clause-there

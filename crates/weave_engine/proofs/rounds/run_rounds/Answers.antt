@@ -16,6 +16,7 @@ loop-passed-init g c = record {
   sizes = refl;
   hands = refl;
   faults = refl;
+  failed = c.requires.unfailed;
 }
 
 pub returns-in_err-turn_and_put-clause-puts : goal.returns-in_err-turn_and_put-clause-puts
@@ -40,6 +41,7 @@ loop-passed-preserved-in-NoLine g c =
       sizes = c.turn_and_put.ensures.same.0 ∙ i.sizes;
       hands = c.turn_and_put.ensures.same.1 ∙ i.hands;
       faults = c.in_ok-turn_and_put.ensures.faults ∙ i.faults;
+      failed = c.in_ok-turn_and_put.ensures.failed;
     }
 
 pub loop-passed-preserved : goal.loop-passed-preserved
@@ -57,6 +59,7 @@ loop-passed-preserved g c =
       sizes = c.turn_and_put.ensures.same.0 ∙ i.sizes;
       hands = c.turn_and_put.ensures.same.1 ∙ i.hands;
       faults = c.in_ok-turn_and_put.ensures.faults ∙ i.faults;
+      failed = c.in_ok-turn_and_put.ensures.failed;
     }
 
 pub returns-after-loop-passed-clause-puts : goal.returns-after-loop-passed-clause-puts

@@ -22,4 +22,5 @@ loop-item-preserved g c =
       sizes = c.run_item.ensures.same.0 ∙ i.sizes;
       hands = c.run_item.ensures.same.1 ∙ i.hands;
       faults = c.in_ok-run_item.ensures.faults ∙ i.faults;
+      failed = c.in_ok-run_item.ensures.failed;
     }

@@ -16,6 +16,7 @@ loop-made-init g c = record {
   sizes = refl;
   hands = refl;
   faults = refl;
+  failed = c.requires.unfailed;
 }
 
 pub returns-in_err-turn_and_put-clause-puts : goal.returns-in_err-turn_and_put-clause-puts
@@ -46,6 +47,7 @@ loop-made-preserved g c =
       sizes = c.turn_and_put.ensures.same.0 ∙ i.sizes;
       hands = c.turn_and_put.ensures.same.1 ∙ i.hands;
       faults = c.in_ok-turn_and_put.ensures.faults ∙ i.faults;
+      failed = c.in_ok-turn_and_put.ensures.failed;
     }
 
 pub returns-clause-puts : goal.returns-clause-puts
