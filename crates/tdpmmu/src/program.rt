@@ -142,7 +142,7 @@ fn ended(written: Result<(), Stop>) -> Status
 
 // The input is this trace.
 fn run_trace<K: Sink>(alloc: Global, command: Command, trace: &Trace, out: &mut K) -> Status
-    requires { IsTrace trace.now }
+    requires trace { IsTrace trace.now }
     requires unfailed { K.failed out.old ≡ false }
     ensures written { WritesOutput command trace.now (K.written out.old) (K.written out.new) result }
     ensures write { WriteCause (K.faults out.old) (K.faults out.new) result }

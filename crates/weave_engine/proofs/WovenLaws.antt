@@ -32,6 +32,7 @@ use Rattle.std.proofs.KnownBytes.{Appends-trans}
 use Rattle.tdp_io.specs.Ends.{AppendsPrefix}
 use Rattle.tdp_io.specs.declared.sink.Stop.{Stop}
 use Rattle.tdp_io.specs.declared.sink.Stop.TheVariants.{NoMemory as Full}
+use Rattle.weave_engine.specs.Pieces.{WritesMost}
 use Rattle.weave_engine.specs.Replays.{RunsLines}
 use Rattle.weave_engine.specs.Turned.{Comes, PutsRun}
 use Rattle.weave_engine.specs.Turning.{AllAnswered, HasNoLine, IsWithin, MayStop, RunsItems, RunsItemsSoFar}
@@ -45,7 +46,7 @@ use Rattle.weave_engine.proofs.FirstLines.{absurd_line}
 use Rattle.weave_engine.proofs.ItemLists.{all_so_far}
 use Rattle.weave_engine.proofs.LinesRun.{between_at_start}
 use Rattle.weave_engine.proofs.Stopping.{stops_behind}
-use Rattle.weave_engine.proofs.Writes.{IsPut, ends, goes_on, none_put, so_far_prefix, stops}
+use Rattle.weave_engine.proofs.Writes.{IsPut, ends, few_last, few_waiting, goes_on, none_put, so_far_most, stops, stops_here}
 
 none_within : (until : Until) → IsWithin until []
 none_within (Turns count) = omega arith
@@ -193,7 +194,7 @@ module _ (trace : Trace) (limit : ℕ) (start : World Held) (is_start : IsStart 
         printed ++ (I.1 ++ bytes),
         stops_weaving stop (L.0.steps ++ (I.0 ++ ss)) t (printed ++ (I.1 ++ bytes)) (comes_both t ss bytes C) (follows ss some).so_far
             (may_stop stop (I.0 ++ ss) (stops_behind stop w I.0 ss (subst (λ (x : World Held). MayStop stop x ss) (sym I.3.ends) may))),
-        subst (AppendsPrefix before after) (append_assoc printed I.1 bytes) (stops before there after waits_there bytes (printed ++ I.1) items_put prefix),
+        subst (WritesMost before after) (append_assoc printed I.1 bytes) (stops before there after waits_there bytes (printed ++ I.1) items_put prefix),
       )
 
       -- The rounds are over.
@@ -253,11 +254,12 @@ module _ (trace : Trace) (limit : ℕ) (start : World Held) (is_start : IsStart 
 
         -- The writing stopped behind all turns.
         pub stops_open : IsStrictlyIncreasing (map (λ (l : Line). l.number) trace.lines) → (stop : Stop) (open_ : Option Line) (after : Option (List ℕ)) → FirstOpen z t open_ → AppendsPrefix at after (waits_at ++ open_text open_) → WritesUntil stop trace limit t before after
-        stops_open up stop None after none wrote = (all_text, inr (inl (all_answered none)), subst (AppendsPrefix before after) (append-nil all_text) (stops before at after waits_at [] all_text all_put wrote))
-        stops_open up stop (Some line) after open_ wrote = (all_text ++ unfinished_text line, inr (inr (all_text, line, used_up up line open_, refl)), stops before at after waits_at (unfinished_text line) all_text all_put wrote)
+        stops_open up stop None after none wrote = (all_text, inr (inl (all_answered none)), stops_here before at after waits_at all_text all_put (few_waiting at after waits_at all_put.3 (subst (AppendsPrefix at after) (append-nil waits_at) wrote)))
+        stops_open up stop (Some line) after open_ wrote =
+            (all_text ++ unfinished_text line, inr (inr (all_text, line, used_up up line open_, refl)), stops before at after waits_at (unfinished_text line) all_text all_put (few_last at after waits_at (unfinished_text line) all_put.3 (inr (inr (line, refl))) wrote))
 
 -- No machine was made: nothing ran.
 pub no_machine : (trace : Trace) (limit : ℕ) (before : Option (List ℕ)) → IsTrace trace → (closing : World Held) × WritesUntil Full trace limit closing before before
 no_machine trace limit before good =
     let made = a_start (sizes_of trace.header) trace.lines (header_sizes trace.header good.header) good.lines good.distinct in
-    (made.0, ([], nothing_ran trace limit made.0 made.1, so_far_prefix before before [] [] (none_put before [])))
+    (made.0, ([], nothing_ran trace limit made.0 made.1, so_far_most before before [] [] (none_put before [] (omega arith))))

@@ -7,9 +7,10 @@ use Rattle.core_views.specs.declared.trace.Trace.{Trace}
 use Rattle.core_views.specs.Held.{Held}
 use Rattle.mmu_core.specs.Machine.{World}
 use Rattle.step_seats.specs.Moves.{world_of}
-use Rattle.tdp_io.specs.Ends.{AppendsPrefix, Rose}
+use Rattle.tdp_io.specs.Ends.{Rose}
 use Rattle.tdp_io.specs.declared.sink.Stop.{Stop}
 use Rattle.tdp_io.specs.declared.sink.Stop.TheVariants.{Failed, NoMemory as Full}
+use Rattle.weave_engine.specs.Pieces.{WritesMost}
 use Rattle.weave_engine.specs.Turning.{MayStop}
 use Rattle.weave_engine.specs.Weaves.{WeavesAll, WeavesPart, WeavesSoFar, unfinished_text}
 use Rattle.weave_engine.specs.declared.ran.How.{How}
@@ -25,9 +26,9 @@ IsWholeText trace limit closing text =
 abbrev pub WeavesUntil : Stop → Trace → ℕ → World Held → List ℕ → Type 0
 WeavesUntil stop trace limit closing text = ((W : WeavesSoFar trace limit text closing) × MayStop stop W.start W.steps) ⊎ IsWholeText trace limit closing text
 
--- A prefix of that text was written.
+-- That text was written but for little.
 abbrev pub WritesUntil : Stop → Trace → ℕ → World Held → Option (List ℕ) → Option (List ℕ) → Type 0
-WritesUntil stop trace limit closing before after = (text : List ℕ) × WeavesUntil stop trace limit closing text × AppendsPrefix before after text
+WritesUntil stop trace limit closing before after = (text : List ℕ) × WeavesUntil stop trace limit closing text × WritesMost before after text
 
 -- All of it was written.
 abbrev pub WritesAll : Trace → ℕ → World Held → Option (List ℕ) → Option (List ℕ) → Type 0

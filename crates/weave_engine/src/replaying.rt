@@ -5,6 +5,7 @@ ghost use Rattle.core_views.specs.Traces.{IsTrace};
 ghost use Rattle.mmu_core.specs.Worlds.{IsStart};
 ghost use Rattle.step_seats.specs.Machines.{world_in};
 ghost use Rattle.tdp_io.specs.Ends.{WroteFaults, is_failed};
+ghost use Rattle.weave_engine.specs.Pieces.{most_waiting};
 ghost use Rattle.weave_engine.specs.Writes.{RunsAndPuts, WritesLines, WritesReplay};
 ghost use Rattle.weave_engine.specs.Woven.{RanFaults, ran_failed};
 
@@ -29,6 +30,7 @@ pub fn run_lines<K: Sink>(
     requires start { IsStart machine.old.sizes lines.now (world_in machine.old) }
     requires count { count ≤ length lines.now }
     requires unfailed { K.failed out.old ≡ false }
+    requires waiting { length (string_bytes waiting.old) ≤ most_waiting }
     ensures puts { RunsAndPuts machine.old.sizes (world_in machine.old) lines.now count (world_in machine.new) (K.written out.old) (K.written out.new) (string_bytes waiting.old) (string_bytes waiting.new) result }
     ensures faults { WroteFaults (K.faults out.old) (K.faults out.new) result }
     ensures failed { K.failed out.new ≡ is_failed result }

@@ -1,5 +1,5 @@
 //! The turns of a schedule, item by item.
-ghost use Rattle.std.specs.Prelude.{◌≡◌, ◌<◌, All, false, length, string_bytes, true};
+ghost use Rattle.std.specs.Prelude.{◌≡◌, ◌<◌, ◌≤◌, All, false, length, string_bytes, true};
 ghost use Rattle.core_views.specs.declared.trace.Until.TheVariants.{Turns};
 ghost use Rattle.core_views.specs.Sizes.{actors_of};
 ghost use Rattle.mmu_core.specs.Enabled.{mmu};
@@ -8,6 +8,7 @@ ghost use Rattle.mmu_core.specs.Steps.{has_line};
 ghost use Rattle.core_views.specs.Traces.{HasActor};
 ghost use Rattle.step_seats.specs.Machines.{world_in};
 ghost use Rattle.tdp_io.specs.Ends.{WroteFaults, is_failed};
+ghost use Rattle.weave_engine.specs.Pieces.{most_waiting};
 ghost use Rattle.weave_engine.specs.Turned.{PutsRun, next_code_in};
 ghost use Rattle.weave_engine.specs.Turning.{IsOpenEnded, RunsBy, RunsBySoFar, RunsItem, RunsItemSoFar, RunsItems, RunsItemsSoFar, names_kind};
 
@@ -28,6 +29,7 @@ fn run_turns<K: Sink>(
 ) -> Result<(), Stop>
     requires there { index < length machine.old.hands }
     requires unfailed { K.failed out.old ≡ false }
+    requires waiting { length (string_bytes waiting.old) ≤ most_waiting }
     ensures puts { PutsRun (RunsBy (Turns count) index) (RunsBySoFar (Turns count) index) (world_in machine.old) (world_in machine.new) (K.written out.old) (K.written out.new) (string_bytes waiting.old) (string_bytes waiting.new) result }
     ensures faults { WroteFaults (K.faults out.old) (K.faults out.new) result }
     ensures failed { K.failed out.new ≡ is_failed result }
@@ -65,6 +67,7 @@ fn run_until<K: Sink>(
     requires there { index < length machine.old.hands }
     requires until { IsOpenEnded until }
     requires unfailed { K.failed out.old ≡ false }
+    requires waiting { length (string_bytes waiting.old) ≤ most_waiting }
     ensures puts { PutsRun (RunsBy until index) (RunsBySoFar until index) (world_in machine.old) (world_in machine.new) (K.written out.old) (K.written out.new) (string_bytes waiting.old) (string_bytes waiting.new) result }
     ensures faults { WroteFaults (K.faults out.old) (K.faults out.new) result }
     ensures failed { K.failed out.new ≡ is_failed result }
@@ -91,6 +94,7 @@ fn run_item<K: Sink>(
 ) -> Result<(), Stop>
     requires actor { HasActor machine.old.sizes item.now.actor }
     requires unfailed { K.failed out.old ≡ false }
+    requires waiting { length (string_bytes waiting.old) ≤ most_waiting }
     ensures puts { PutsRun (RunsItem machine.old.sizes item.now) (RunsItemSoFar machine.old.sizes item.now) (world_in machine.old) (world_in machine.new) (K.written out.old) (K.written out.new) (string_bytes waiting.old) (string_bytes waiting.new) result }
     ensures faults { WroteFaults (K.faults out.old) (K.faults out.new) result }
     ensures failed { K.failed out.new ≡ is_failed result }
@@ -113,6 +117,7 @@ pub fn run_items<K: Sink>(
 ) -> Result<(), Stop>
     requires actors { All (λ item. HasActor machine.old.sizes item.actor) items.now }
     requires unfailed { K.failed out.old ≡ false }
+    requires waiting { length (string_bytes waiting.old) ≤ most_waiting }
     ensures puts { PutsRun (RunsItems machine.old.sizes items.now) (RunsItemsSoFar machine.old.sizes items.now) (world_in machine.old) (world_in machine.new) (K.written out.old) (K.written out.new) (string_bytes waiting.old) (string_bytes waiting.new) result }
     ensures faults { WroteFaults (K.faults out.old) (K.faults out.new) result }
     ensures failed { K.failed out.new ≡ is_failed result }

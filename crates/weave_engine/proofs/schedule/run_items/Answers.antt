@@ -24,3 +24,6 @@ loop-item-preserved g c =
       faults = c.in_ok-run_item.ensures.faults ∙ i.faults;
       failed = c.in_ok-run_item.ensures.failed;
     }
+
+pub run_item-requires-clause-waiting : goal.run_item-requires-clause-waiting
+run_item-requires-clause-waiting g c = c.loop-item.invariant.so_far.put.3

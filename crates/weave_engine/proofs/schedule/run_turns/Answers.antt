@@ -11,7 +11,7 @@ use Rattle.weave_engine.proofs.schedule.run_turns.Goals as goal
 
 pub loop-made-init : goal.loop-made-init
 loop-made-init g c = record {
-  so_far = so_far_none (TurnsMade c.args.index 0) (world_in c.args.machine.now) (g.K.Sink.written c.args.out.now) (string_bytes c.args.waiting.now) (none_made c.args.index (world_in c.args.machine.now));
+  so_far = so_far_none (TurnsMade c.args.index 0) (world_in c.args.machine.now) (g.K.Sink.written c.args.out.now) (string_bytes c.args.waiting.now) c.requires.waiting (none_made c.args.index (world_in c.args.machine.now));
   within = omega arith;
   sizes = refl;
   hands = refl;
@@ -56,3 +56,6 @@ returns-clause-puts g c =
     count_ends c.args.count c.args.index c.loop-made._made (world_in c.args.machine.now) (world_in c.loop-made.machine) (world_in c.loop-made.machine) (g.K.Sink.written c.args.out.now) (g.K.Sink.written c.loop-made.out) (g.K.Sink.written c.loop-made.out)
     (string_bytes c.args.waiting.now) (string_bytes c.loop-made.waiting) (string_bytes c.loop-made.waiting) i.so_far i.within
     (inl (omega (arith, i.within, c.loop-made-test.false)))
+
+pub turn_and_put-requires-clause-waiting : goal.turn_and_put-requires-clause-waiting
+turn_and_put-requires-clause-waiting g c = c.loop-made.invariant.so_far.put.3

@@ -9,7 +9,7 @@ use Rattle.weave_engine.proofs.schedule.run_until.Goals as goal
 
 pub loop-init : goal.loop-init
 loop-init g c = record {
-  so_far = so_far_none (TurnsGoOn c.args.until c.args.index) (world_in c.args.machine.now) (g.K.Sink.written c.args.out.now) (string_bytes c.args.waiting.now) (none_yet c.args.until c.args.index (world_in c.args.machine.now));
+  so_far = so_far_none (TurnsGoOn c.args.until c.args.index) (world_in c.args.machine.now) (g.K.Sink.written c.args.out.now) (string_bytes c.args.waiting.now) c.requires.waiting (none_yet c.args.until c.args.index (world_in c.args.machine.now));
   sizes = refl;
   hands = refl;
   faults = refl;
@@ -54,3 +54,6 @@ loop-preserved g c =
       faults = c.in_ok-turn_and_put.ensures.faults ∙ i.faults;
       failed = c.in_ok-turn_and_put.ensures.failed;
     }
+
+pub turn_and_put-requires-clause-waiting : goal.turn_and_put-requires-clause-waiting
+turn_and_put-requires-clause-waiting g c = c.loop.invariant.so_far.put.3
