@@ -26,7 +26,7 @@ use Rattle.core_views.specs.Traces.{IsCommandFor}
 use Rattle.core_views.specs.Whole.{lines_of}
 use Rattle.core_views.proofs.SameActor.{is_same_self}
 use Rattle.mmu_core.specs.Enabled.{mmu}
-use Rattle.mmu_core.specs.Histories.{answers_by}
+use Rattle.mmu_core.specs.Histories.{answered_in, answers_by}
 use Rattle.mmu_core.specs.Machine.{Legal, Step, World, hand_in, run}
 use Rattle.mmu_core.specs.Steps.{next_line}
 use Rattle.mmu_core.specs.Turns.{with_answer}
@@ -247,7 +247,7 @@ module _ (z : Sizes) (lines : List Line) (start : World Held) (ss : List (Step K
             (has_image (λ (y : AnsweredLine). y.number) (answers_by x.actor told) x (has_kept (λ (y : AnsweredLine). is_same x.actor y.actor) (answers_of told) I.k (with_answer line Done) I.below (is_same_self x.actor)))
 
         theirs : List Line
-        theirs = take ((stays_whole z lines start ss is_start legal).answered_count x.actor) (lines_of x.actor lines)
+        theirs = take (answered_in z (run mmu start ss) x.actor) (lines_of x.actor lines)
 
         L : IsImage (λ (l : Line). l.number) theirs line.number line
         L = of_image (λ (l : Line). l.number) theirs line.number line (subst (λ (ns : List ℕ). Contains ns line.number) ((stays_whole z lines start ss is_start legal).answered x.actor) by_it)

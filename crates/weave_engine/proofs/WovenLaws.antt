@@ -18,8 +18,10 @@ use Rattle.core_views.specs.Held.{Held}
 use Rattle.core_views.specs.Sizes.{actors_of, sizes_of}
 use Rattle.core_views.specs.Text.{text}
 use Rattle.core_views.specs.Traces.{IsTrace}
+use Rattle.core_views.specs.Whole.{IsWholeSoFar}
 use Rattle.core_views.proofs.HeaderSizes.{header_sizes}
 use Rattle.mmu_core.specs.Enabled.{mmu}
+use Rattle.mmu_core.specs.Histories.{answered_in, begun_in}
 use Rattle.mmu_core.specs.Machine.{Legal, Step, World, hand_in, run}
 use Rattle.mmu_core.specs.Steps.{has_line}
 use Rattle.mmu_core.specs.Worlds.{IsStart, history}
@@ -36,7 +38,7 @@ use Rattle.weave_engine.specs.Pieces.{WritesMost}
 use Rattle.weave_engine.specs.Replays.{RunsLines}
 use Rattle.weave_engine.specs.Turned.{Comes, PutsRun}
 use Rattle.weave_engine.specs.Turning.{AllAnswered, HasNoLine, IsWithin, MayStop, RunsItems, RunsItemsSoFar}
-use Rattle.weave_engine.specs.Weaves.{FirstOpen, Follows, FollowsSoFar, IsFirstOpen, RunsAllRounds, RunsSomeRounds, Weaves, WeavesAll, WeavesPart, WeavesSoFar, lines_above, open_text, unfinished_text}
+use Rattle.weave_engine.specs.Weaves.{FirstOpen, FollowsBoth, FollowsSoFar, IsFirstOpen, RunsAllRounds, RunsSomeRounds, Weaves, WeavesAll, WeavesPart, WeavesSoFar, lines_above, open_text, unfinished_text}
 use Rattle.weave_engine.specs.Writes.{RunsAndPuts}
 use Rattle.weave_engine.specs.Woven.{WeavesUntil, WritesUntil, WritesWoven}
 use Rattle.weave_engine.proofs.Beside.{turns_delayed}
@@ -45,6 +47,7 @@ use Rattle.weave_engine.proofs.FirstInFile.{first_in_file}
 use Rattle.weave_engine.proofs.FirstLines.{absurd_line}
 use Rattle.weave_engine.proofs.ItemLists.{all_so_far}
 use Rattle.weave_engine.proofs.LinesRun.{between_at_start}
+use Rattle.weave_engine.proofs.StarvedScans.{starved_scan}
 use Rattle.weave_engine.proofs.Stopping.{stops_behind}
 use Rattle.weave_engine.proofs.Writes.{IsPut, ends, few_last, few_waiting, goes_on, none_put, so_far_most, stops, stops_here}
 
@@ -86,7 +89,8 @@ module _ (trace : Trace) (limit : ℕ) (start : World Held) (is_start : IsStart 
     ends = C.ends;
     follows = F;
     lawful = every_history z trace.lines start ss is_start C.legal;
-    whole = stays_whole z trace.lines start ss is_start C.legal;
+    whole = subst (λ (x : World Held). IsWholeSoFar (history start ss) trace.lines (begun_in z x) (answered_in z x)) C.ends (stays_whole z trace.lines start ss is_start C.legal);
+    starved = starved_scan z trace.lines start ss is_start C.legal;
     prints = C.prints;
   }
 
@@ -169,30 +173,30 @@ module _ (trace : Trace) (limit : ℕ) (start : World Held) (is_start : IsStart 
       comes_both t ss bytes C = from_start t (I.0 ++ ss) (I.1 ++ bytes) (comes_then w u t I.0 ss I.1 bytes I.3 C)
 
       -- Turns in rounds follow all lines above `go` and all items.
-      follows : (ss : List (Step Kind)) → RunsSomeRounds z limit u ss → Follows trace limit start (L.0.steps ++ (I.0 ++ ss))
+      follows : (ss : List (Step Kind)) → RunsSomeRounds z limit u ss → FollowsSoFar trace limit start (L.0.steps ++ (I.0 ++ ss))
       follows ss R = record {
-        so_far = record {
-          above = lines_above trace.go;
-          few_above = few_above;
-          behind = w;
-          alone = L.0;
-          scheduled = I.0;
-          rounds = ss;
-          are = refl;
-          items = all_so_far z trace.items w I.0 I.2;
-          after_go = inr refl;
-          in_rounds = subst (λ (x : World Held). RunsSomeRounds z limit x ss) (sym I.3.ends) R;
-          after_items = inr I.2;
-        };
-        all_above = refl;
-        all_items = I.2;
+        above = lines_above trace.go;
+        few_above = few_above;
+        behind = w;
+        alone = L.0;
+        scheduled = I.0;
+        rounds = ss;
+        are = refl;
+        items = all_so_far z trace.items w I.0 I.2;
+        after_go = inr refl;
+        in_rounds = subst (λ (x : World Held). RunsSomeRounds z limit x ss) (sym I.3.ends) R;
+        after_items = inr I.2;
       }
+
+      follows_both : (ss : List (Step Kind)) (R : RunsSomeRounds z limit u ss) → FollowsBoth trace limit start (L.0.steps ++ (I.0 ++ ss)) (follows ss R)
+      unfolding follows
+      follows_both ss R = record { all_above = refl; all_items = I.2 }
 
       -- It stopped in the rounds.
       pub stopped_in_rounds : (t : World Held) (after : Option (List ℕ)) (more : List ℕ) (stop : Stop) → PutsRun (RunsAllRounds z limit) (RunsSomeRounds z limit) u t there after waits_there more (Err stop) → WritesUntil stop trace limit t before after
       stopped_in_rounds t after more stop (ss, bytes, some, C, may, prefix) = (
         printed ++ (I.1 ++ bytes),
-        stops_weaving stop (L.0.steps ++ (I.0 ++ ss)) t (printed ++ (I.1 ++ bytes)) (comes_both t ss bytes C) (follows ss some).so_far
+        stops_weaving stop (L.0.steps ++ (I.0 ++ ss)) t (printed ++ (I.1 ++ bytes)) (comes_both t ss bytes C) (follows ss some)
             (may_stop stop (I.0 ++ ss) (stops_behind stop w I.0 ss (subst (λ (x : World Held). MayStop stop x ss) (sym I.3.ends) may))),
         subst (WritesMost before after) (append_assoc printed I.1 bytes) (stops before there after waits_there bytes (printed ++ I.1) items_put prefix),
       )
@@ -213,7 +217,7 @@ module _ (trace : Trace) (limit : ℕ) (start : World Held) (is_start : IsStart 
 
         woven : Weaves trace limit all_text t
         unfolding weaves_so_far
-        woven = record { so_far = weaves_so_far all_steps t all_text all_come (follows R.0 R.2.some).so_far; follows = follows R.0 R.2.some }
+        woven = record { so_far = weaves_so_far all_steps t all_text all_come (follows R.0 R.2.some); follows = follows_both R.0 R.2.some }
 
         -- Each line is answered, and what waits is written, or a prefix of it.
         all_answered : AllAnswered z t → WeavesAll trace limit all_text t
@@ -236,7 +240,7 @@ module _ (trace : Trace) (limit : ℕ) (start : World Held) (is_start : IsStart 
           weaves = woven;
           used_up = by R.2.over;
           open_ = open_;
-          delayed = turns_delayed trace limit woven.so_far.start woven.so_far.steps woven.so_far.is_start woven.so_far.legal woven.follows (by R.2.over);
+          delayed = turns_delayed trace limit woven.so_far.start woven.so_far.steps woven.so_far.is_start woven.so_far.legal woven.so_far.follows woven.follows (by R.2.over);
           first_in_file = first_in_file z trace.lines start all_steps is_start all_come.legal up line (subst (λ (x : World Held). IsFirstOpen z x line) (sym all_come.ends) open_);
         }
           where
