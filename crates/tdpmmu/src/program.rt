@@ -184,10 +184,13 @@ fn run_command<S: Source, K: Sink>(
 /// first, on the trace that `src` has left, and writes to `out` all that there
 /// is to say. Today the commands are `check`, `replay` and `weave`; any other words
 /// are answered by the usage line. `rt` and `gate` are for commands that start threads.
+/// No write to `out` may have failed before.
 ///
-/// The status says how it went, and each has its cause: `ReadFault` and
-/// `WriteFault` come only where the count of faults of `src` or `out` rose, or stood
-/// at 2^64 - 1.
+/// The status says how it went, and each has its cause: `ReadFault` comes only where
+/// the count of faults of `src` rose, or stood at 2^64 - 1, and `WriteFault` exactly
+/// where a write to `out` failed. After that nothing was written. At `WriteFault`, and at
+/// `NoMemory` once the input was read, the output is written but for at most 8,192 bytes
+/// and its last line.
 pub fn run<R: Threads + Wait + Sync, S: Source, K: Sink, G: Gate + Sync>(
     _rt: &R,
     alloc: Global,

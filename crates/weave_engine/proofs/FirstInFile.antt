@@ -34,7 +34,7 @@ use Rattle.mmu_core.specs.Worlds.{IsStart, history}
 use Rattle.mmu_core.proofs.EveryAnswer.{start_follows}
 use Rattle.mmu_core.proofs.Starts.{same_actor}
 use Rattle.mmu_core.proofs.WholeSoFar.{stays_whole}
-use Rattle.weave_engine.specs.Turning.{HasLine}
+use Rattle.weave_engine.specs.Turning.{HasLineLeft}
 use Rattle.weave_engine.specs.Weaves.{IsFirstInFile, IsFirstOpen, numbers_answered}
 use Rattle.weave_engine.proofs.FileOrder.{maker_is, maker_there, next_is}
 
@@ -131,10 +131,10 @@ module _ (z : Sizes) (lines : List Line) (start : World Held) (ss : List (Step K
   next_own : (i : ℕ) (d : Line) → i < actors_of z → done i < length (own i) → next_line (hand i) ≡ get_or (own i) (done i) d
   next_own i d i_in lt = ap (λ (ls : List Line). unwrap_or (slice_get ls (done i)) no_line) (own_lines i i_in) ∙ ap (λ (o : Option Line). unwrap_or o no_line) (slice_get-get_or (own i) (done i) d lt)
 
-  has_own : (i : ℕ) → i < actors_of z → done i < length (own i) → HasLine i (run mmu start ss)
+  has_own : (i : ℕ) → i < actors_of z → done i < length (own i) → HasLineLeft i (run mmu start ss)
   has_own i i_in lt = let e = ap (λ (ls : List Line). length ls) (own_lines i i_in) in let below : done i < length (hand i).lines = omega (arith, e, lt) in grind (arith, nat_tests)
 
-  few_own : (i : ℕ) → i < actors_of z → HasLine i (run mmu start ss) → done i < length (own i)
+  few_own : (i : ℕ) → i < actors_of z → HasLineLeft i (run mmu start ss) → done i < length (own i)
   few_own i i_in has = let e = ap (λ (ls : List Line). length ls) (own_lines i i_in) in let below : done i < length (hand i).lines = grind (arith, nat_tests) in omega (arith, e, below)
 
   not_above : (i n p : ℕ) (d : Line) → n ≤ p → p < length (own i) → (get_or (own i) n d).number ≤ (get_or (own i) p d).number

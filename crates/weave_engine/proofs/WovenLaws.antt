@@ -37,7 +37,7 @@ use Rattle.tdp_io.specs.declared.sink.Stop.TheVariants.{NoMemory as Full}
 use Rattle.weave_engine.specs.Pieces.{WritesMost}
 use Rattle.weave_engine.specs.Replays.{RunsLines}
 use Rattle.weave_engine.specs.Turned.{Comes, PutsRun}
-use Rattle.weave_engine.specs.Turning.{AllAnswered, HasNoLine, IsWithin, MayStop, RunsItems, RunsItemsSoFar}
+use Rattle.weave_engine.specs.Turning.{AllAnswered, HasNoLineLeft, IsWithin, MayStop, RunsItems, RunsItemsSoFar}
 use Rattle.weave_engine.specs.Weaves.{FirstOpen, FollowsBoth, FollowsSoFar, IsFirstOpen, RunsAllRounds, RunsSomeRounds, Weaves, WeavesAll, WeavesPart, WeavesSoFar, lines_above, open_text, unfinished_text}
 use Rattle.weave_engine.specs.Writes.{RunsAndPuts}
 use Rattle.weave_engine.specs.Woven.{WeavesUntil, WritesUntil, WritesWoven}
@@ -231,7 +231,7 @@ module _ (trace : Trace) (limit : ℕ) (start : World Held) (is_start : IsStart 
             answered_ : (i : ℕ) → i < actors_of z → length (hand_in mmu (run mmu start all_steps) i).answers ≡ length (hand_in mmu (run mmu start all_steps) i).lines
             answered_ i lt =
                 let few = few_answers z trace.lines start all_steps i is_start all_come.legal lt in
-                let none : HasNoLine i (run mmu start all_steps) = subst (λ (x : World Held). HasNoLine i x) (sym all_come.ends) (all i lt) in
+                let none : HasNoLineLeft i (run mmu start all_steps) = subst (λ (x : World Held). HasNoLineLeft i x) (sym all_come.ends) (all i lt) in
                 no_line_all (hand_in mmu (run mmu start all_steps) i) few none
 
         used_up : IsStrictlyIncreasing (map (λ (l : Line). l.number) trace.lines) → (line : Line) → IsFirstOpen z t line → WeavesPart trace limit all_text t line
@@ -246,7 +246,7 @@ module _ (trace : Trace) (limit : ℕ) (start : World Held) (is_start : IsStart 
           where
             by : (length R.0 ≡ limit) ⊎ AllAnswered z (run mmu u R.0) → length R.0 ≡ limit
             by (inl e) = e
-            by (inr all) = absurd (absurd_line t open_.actor open_.left (subst (λ (x : World Held). HasNoLine open_.actor x) R.3.ends (all open_.actor open_.there)))
+            by (inr all) = absurd (absurd_line t open_.actor open_.left (subst (λ (x : World Held). HasNoLineLeft open_.actor x) R.3.ends (all open_.actor open_.there)))
 
         -- All is written: each line is answered, or this is the first that isn't.
         pub ends_open : IsStrictlyIncreasing (map (λ (l : Line). l.number) trace.lines) → (open_ : Option Line) (after : Option (List ℕ)) → FirstOpen z t open_ → Appends at after (waits_at ++ open_text open_) → WritesWoven trace limit t before after (Ok open_)

@@ -19,7 +19,7 @@ use Rattle.tdp_io.specs.declared.sink.Stop.{Stop}
 use Rattle.tdp_io.specs.declared.sink.Stop.TheVariants.{NoMemory as Full}
 use Rattle.step_seats.specs.LineTurns.{Gives, line_seen, line_turn}
 use Rattle.weave_engine.specs.Pieces.{WritesMost}
-use Rattle.weave_engine.specs.Turning.{AnswersLine, HasNoLine, IsTurn, MayStop, stops}
+use Rattle.weave_engine.specs.Turning.{AnswersLine, HasNoLineLeft, IsTurn, MayStop, stops}
 use Rattle.weave_engine.specs.Writes.{Buffers}
 use Rattle.weave_engine.specs.declared.turning.TurnMade.{TurnMade}
 use Rattle.weave_engine.specs.declared.turning.Turned.{Turned}
@@ -72,7 +72,7 @@ pub record IsTurnOf (made : TurnMade) (actor : ℕ) (before after : World Held) 
   pub answers : AnswersBy made.turn (hand_in mmu before actor) (answered mmu before makes.step.kind)
 
 abbrev pub TurnedOn : Option TurnMade → ℕ → World Held → World Held → Type 0
-TurnedOn None actor before after = HasNoLine actor before × (after ≡ before)
+TurnedOn None actor before after = HasNoLineLeft actor before × (after ≡ before)
 TurnedOn (Some made) actor before after = IsTurnOf made actor before after
 
 -- the same of the worlds that a seat tells, before the turn and behind it
@@ -82,7 +82,7 @@ TurnedTold made actor told tells = IfSome told (λ w. (t : World Held) × (tells
 -- The actor's turn was made, and what it prints was put behind what waited to be written. Where that stopped, either memory was refused
 -- and no step was made; or the turn answered its line. What waited, and what the turn prints, was written but for little.
 abbrev pub PutsTurn : ℕ → World Held → World Held → Option (List ℕ) → Option (List ℕ) → List ℕ → List ℕ → Result Turned Stop → Type 0
-PutsTurn actor before after written writes waited waits (Ok NoLine) = HasNoLine actor before × (after ≡ before) × Buffers written writes waited waits (Ok tt) []
+PutsTurn actor before after written writes waited waits (Ok NoLine) = HasNoLineLeft actor before × (after ≡ before) × Buffers written writes waited waits (Ok tt) []
 PutsTurn actor before after written writes waited waits (Ok Went) = (bytes : List ℕ) × MakesTurn actor before after false bytes × Buffers written writes waited waits (Ok tt) bytes
 PutsTurn actor before after written writes waited waits (Ok Stopped) = (bytes : List ℕ) × MakesTurn actor before after true bytes × Buffers written writes waited waits (Ok tt) bytes
 PutsTurn actor before after written writes waited waits (Err stop) =

@@ -27,7 +27,7 @@ use Rattle.mmu_core.specs.Worlds.{IsStart, history}
 use Rattle.core_theorem.specs.Delays.{answer_of, hand_of}
 use Rattle.weave_engine.specs.Beside.{AreForDelays}
 use Rattle.weave_engine.specs.Replays.{RunsLines}
-use Rattle.weave_engine.specs.Turning.{AllAnswered, HasLine, RunsItems, RunsItemsSoFar, RunsRounds}
+use Rattle.weave_engine.specs.Turning.{AllAnswered, HasLineLeft, RunsItems, RunsItemsSoFar, RunsRounds}
 
 -- how many of the trace's lines run alone: those above `go`
 abbrev pub lines_above : Option ℕ → ℕ
@@ -41,9 +41,9 @@ lines_below trace = drop (lines_above trace.go) trace.lines
 pub record IsFirstOpen (z : Sizes) (w : World Held) (line : Line) : Type 0 where
   pub actor : ℕ
   pub there : actor < actors_of z
-  pub left : HasLine actor w
+  pub left : HasLineLeft actor w
   pub is : next_line (hand_in mmu w actor) ≡ line
-  pub first : (i : ℕ) → i < actors_of z → HasLine i w → line.number ≤ (next_line (hand_in mmu w i)).number
+  pub first : (i : ℕ) → i < actors_of z → HasLineLeft i w → line.number ≤ (next_line (hand_in mmu w i)).number
 
 -- the numbers of the lines that a history answers
 abbrev pub numbers_answered : List Event → List ℕ

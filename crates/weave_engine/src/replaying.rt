@@ -70,8 +70,9 @@ fn replay_on<K: Sink>(
 
 /// Runs the lines of the trace one after another, each alone, a step at a time
 /// over the words of the machine, and writes what they are answered. It gives how it
-/// ended, which is never unfinished, and the words and hands at that moment: behind
-/// the last line, or behind the line with whose answer a write failed.
+/// ended, which is never unfinished, and the words and hands at that moment: after
+/// the last line, or after the line with whose answer a write failed. Then nothing more
+/// is written, and at most 8,192 bytes and the last line are missing.
 pub fn replay<K: Sink>(alloc: Global, trace: &Trace, out: &mut K) -> Result<Ran, NoMemory>
     requires trace { IsTrace trace.now }
     requires unfailed { K.failed out.old ≡ false }

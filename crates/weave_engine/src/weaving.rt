@@ -92,9 +92,10 @@ fn weave_on<K: Sink>(
 /// alone; then the turns that the schedule's items name; then turns in rounds, at most
 /// `limit`, until each line is answered. It puts out each answer when its line is
 /// answered, and where the rounds end before that, which line is the first without an
-/// answer; what is put out is written in pieces, and at the end. It gives how it ended,
-/// and the words and hands at that moment: where a write failed, those behind the turn
-/// with whose answer it was tried.
+/// answer; what is put out is written in pieces, and at the end, and nothing after a write
+/// that failed: then at most 8,192 bytes and the last line are missing. It gives how it
+/// ended, and the words and hands at that moment: where a write failed, those after the
+/// turn with whose answer it was tried.
 pub fn weave<K: Sink>(
     alloc: Global,
     trace: &Trace,

@@ -3,7 +3,7 @@ use Rattle.std.proofs.lemmas.Result.{err_from_is_err_and}
 use Rattle.core_views.specs.Held.{Held}
 use Rattle.mmu_core.specs.Machine.{World}
 use Rattle.step_seats.specs.Machines.{world_in}
-use Rattle.weave_engine.specs.Turning.{HasNoLine}
+use Rattle.weave_engine.specs.Turning.{HasNoLineLeft}
 use Rattle.weave_engine.proofs.Coming.{so_far_none}
 use Rattle.weave_engine.proofs.ItemTurns.{count_ends, count_stops, made_one, nothing_more, one_more}
 use Rattle.weave_engine.proofs.TurnLists.{TurnsMade, none_made}
@@ -33,7 +33,7 @@ returns-in-NoLine-clause-puts g c =
     (string_bytes c.args.waiting.now) (string_bytes c.turn_and_put.new.waiting) (string_bytes c.turn_and_put.new.waiting)
     (nothing_more (TurnsMade c.args.index c.loop-made._made) (world_in c.args.machine.now) (world_in c.loop-made.machine) (world_in c.turn_and_put.new.machine) (g.K.Sink.written c.args.out.now) (g.K.Sink.written c.loop-made.out) (g.K.Sink.written c.turn_and_put.new.out)
     (string_bytes c.args.waiting.now) (string_bytes c.loop-made.waiting) (string_bytes c.turn_and_put.new.waiting) i.so_far p.1 p.2)
-    i.within (inr (subst (λ (x : World Held). HasNoLine c.args.index x) (sym p.1) p.0))
+    i.within (inr (subst (λ (x : World Held). HasNoLineLeft c.args.index x) (sym p.1) p.0))
 
 pub loop-made-preserved : goal.loop-made-preserved
 loop-made-preserved g c =
