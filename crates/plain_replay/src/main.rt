@@ -4,6 +4,7 @@
 //! written, and else with 1. That the text is the one of the trace's flat
 //! history is proved; that `judge` writes it is tested.
 #![tactic(auto)]
+
 ghost use Rattle.std.specs.Prelude.{◌≡◌, false};
 
 mod plain_text;
