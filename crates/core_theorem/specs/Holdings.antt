@@ -1,6 +1,7 @@
 -- What actors hold of pool pages behind a run: nothing that is free, no slot set that was taken out of use by an actor whose watch has
 -- passed them since, and nothing that another actor takes or gives back.
-use Rattle.std.specs.Prelude.{◌≡◌, ◌≢◌, ◌⊎◌, ◌<◌, ℕ, List, [], ◌∷◌, ◌++◌, false, Some}
+use Rattle.std.specs.Prelude.{◌≡◌, ◌≢◌, ◌⊎◌, ◌<◌, ℕ, List, [], ◌∷◌, ◌++◌, false, true, Some}
+use Rattle.core_views.specs.declared.answer.Answer.{Answer}
 use Rattle.core_views.specs.declared.kind.Kind.{Kind}
 use Rattle.core_views.specs.declared.kind.StepKind.TheVariants as kind
 use Rattle.core_views.specs.declared.sizes.Sizes.{Sizes}
@@ -11,9 +12,13 @@ use Rattle.core_views.specs.Held.{Held}
 use Rattle.core_views.specs.Kinds.{code_of}
 use Rattle.core_views.specs.Sizes.{actors_of}
 use Rattle.spte_words.specs.declared.area.Area.TheVariants as area
+use Rattle.mmu_core.specs.declared.outcome.Outcome.TheVariants.{Ends}
 use Rattle.mmu_core.specs.Enabled.{mmu}
-use Rattle.mmu_core.specs.Machine.{Step, World, effect, hand_in, run}
+use Rattle.mmu_core.specs.Machine.{Step, World, answered, effect, hand_in, run}
+use Rattle.mmu_core.specs.OthersRest.{HoldsNothing}
 use Rattle.mmu_core.specs.PoolPart.{is_free}
+use Rattle.mmu_core.specs.Steps.{has_line}
+use Rattle.mmu_core.specs.Turns.{outcome_of}
 use Rattle.mmu_core.specs.View.{word_in}
 use Rattle.mmu_core.specs.HeldPart.{SetsPart}
 use Rattle.core_theorem.specs.Pages.{Owns}
@@ -66,3 +71,10 @@ PagesAreReusedAlone =
     (z : Sizes) (lines : List Line) (w : World Held) (ss : List (Step Kind)) (s : Step Kind) → IsRun z lines w (ss ++ s ∷ []) → (page : ℕ)
     → (Wins page (run mmu w ss) s → NoOtherHolds z s.actor page (run mmu w ss))
     × (GivesBack page (run mmu w ss) s → NoOtherHolds z s.actor page (run mmu w ss))
+
+-- Where a step answers a line, also its actor's last one, the actor holds nothing behind it: it is out of the guest and of every section,
+-- has no lock, no page and no slot set, and no page leaves for it.
+abbrev pub AnsweredLinesRest : Type 0
+AnsweredLinesRest =
+    (z : Sizes) (lines : List Line) (w : World Held) (ss : List (Step Kind)) (s : Step Kind) (answer : Answer) → IsRun z lines w (ss ++ s ∷ []) → has_line (hand_in mmu (run mmu w ss) s.actor) ≡ true
+    → outcome_of (hand_in mmu (run mmu w ss) s.actor) (answered mmu (run mmu w ss) s.kind) ≡ Ends answer → HoldsNothing (hand_in mmu (effect mmu (run mmu w ss) s) s.actor).topics

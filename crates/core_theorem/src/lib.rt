@@ -3,11 +3,11 @@
 #![tactic(auto)]
 
 ghost use Rattle.core_theorem.specs.Delays.{DelaysHaveCauses, FaultsHaveCauses, SettingWaitsHaveCauses, StarvedLinesScanned, WaitsHaveCauses};
-ghost use Rattle.core_theorem.specs.Holdings.{HeldSetsAreKnown, NoneHoldsFreePages, PagesAreReusedAlone, WatchedHoldNoOldSet};
+ghost use Rattle.core_theorem.specs.Holdings.{AnsweredLinesRest, HeldSetsAreKnown, NoneHoldsFreePages, PagesAreReusedAlone, WatchedHoldNoOldSet};
 ghost use Rattle.core_theorem.specs.Leaves.{HeldLeavesAgree, LinkedLeavesAgree, TranslationsAgree, UsedLeavesAgree};
 ghost use Rattle.core_theorem.specs.Locks.{LockIsKept};
 ghost use Rattle.core_theorem.specs.Pages.{EachPageHasOneUse};
-ghost use Rattle.core_theorem.specs.Runs.{TellsLawfully};
+ghost use Rattle.core_theorem.specs.Runs.{TellsLawfully, WordsStandForFacts};
 ghost use Rattle.core_theorem.specs.Turns.{CountsAreFew, LinesAreOpen, LinesMakeFewSteps, StepsAreFew};
 ghost use Rattle.core_theorem.specs.Walks.{WalksHoldTables};
 
@@ -26,8 +26,10 @@ ghost use Rattle.core_theorem.specs.Walks.{WalksHoldTables};
 /// is the published one, or an old one, held in a section and leaving for another
 /// actor, whose watch hasn't passed this one since; so whom a watch has passed holds no
 /// slot set that the watcher has taken out of use. `reuse`: a page that is taken from
-/// the pool or given back to it nobody else holds. `lawful`: each access, each exit
-/// and each answer is one that flat guest memory allows. `begins_anew`, `waits`,
+/// the pool or given back to it nobody else holds. `rest`: whose line is answered holds
+/// nothing after it. `lawful`: each access, each exit and each answer is one that flat
+/// guest memory allows. `facts`: the words stand for the slots, host pages and contents
+/// that the events so far make of flat guest memory. `begins_anew`, `waits`,
 /// `slot_waits`, `starved`: what stood in the way of a fault or of a slot setting was
 /// another actor's, an open invalidation, or that each word of the pool's map was found
 /// with no page free since the line began; `delays`: so it is with each step that is
@@ -50,7 +52,9 @@ pub fn every_run()
     ensures sets { HeldSetsAreKnown }
     ensures watched { WatchedHoldNoOldSet }
     ensures reuse { PagesAreReusedAlone }
+    ensures rest { AnsweredLinesRest }
     ensures lawful { TellsLawfully }
+    ensures facts { WordsStandForFacts }
     ensures counts { CountsAreFew }
     ensures line_turns { LinesMakeFewSteps }
     ensures turns { StepsAreFew }

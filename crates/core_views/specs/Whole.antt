@@ -25,10 +25,9 @@ pub record IsWhole (history : List Event) (lines : List Line) : Type 0 where
   pub begun : (actor : Actor) → lines_of actor (lines_begun history) ≡ lines_of actor lines
   pub answered : (actor : Actor) → map (λ x. x.number) (filter (λ x. is_same actor x.actor) (answers_of history)) ≡ map (λ line. line.number) (lines_of actor lines)
 
--- Each actor begins the first ones of its lines of the trace, in their order, and answers them, each once, but for perhaps the last.
-pub record IsWholeSoFar (history : List Event) (lines : List Line) : Type 0 where
-  pub begun_count : Actor → ℕ
-  pub answered_count : Actor → ℕ
+-- Each actor begins so many of its lines of the trace, the first ones in their order, and answers so many of them, each once: all that it
+-- has begun, but for perhaps the last.
+pub record IsWholeSoFar (history : List Event) (lines : List Line) (begun_count answered_count : Actor → ℕ) : Type 0 where
   pub begun : (actor : Actor) → lines_of actor (lines_begun history) ≡ take (begun_count actor) (lines_of actor lines)
   pub answered : (actor : Actor) → map (λ x. x.number) (filter (λ x. is_same actor x.actor) (answers_of history)) ≡ map (λ line. line.number) (take (answered_count actor) (lines_of actor lines))
   pub before : (actor : Actor) → answered_count actor ≤ begun_count actor

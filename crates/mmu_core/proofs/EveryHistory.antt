@@ -9,7 +9,7 @@ use Rattle.core_views.specs.declared.sizes.Sizes.{Sizes}
 use Rattle.core_views.specs.declared.trace.Command.{Command}
 use Rattle.core_views.specs.declared.trace.Command.TheVariants.{Access, SetSlot}
 use Rattle.core_views.specs.declared.trace.Line.{Line}
-use Rattle.core_views.specs.Events.{after_all}
+use Rattle.core_views.specs.Events.{after, after_all}
 use Rattle.core_views.specs.Flat.{Flat, first_flat}
 use Rattle.core_views.specs.Held.{Held}
 use Rattle.core_views.specs.Lawful.{IsLawful}
@@ -24,7 +24,7 @@ use Rattle.mmu_core.specs.Enabled.{mmu}
 use Rattle.mmu_core.specs.FlatInvariant.{FlatInvariant, UnderIs}
 use Rattle.mmu_core.specs.Invariant.{Invariant, UnderWay}
 use Rattle.mmu_core.specs.Laws.{IsSound}
-use Rattle.mmu_core.specs.Machine.{Legal, Step, World, answered, effect, hand_in}
+use Rattle.mmu_core.specs.Machine.{Legal, Step, World, answered, effect, hand_in, run}
 use Rattle.part_steps.specs.PartSteps.{own_index, part_task}
 use Rattle.mmu_core.specs.Steps.{events_of, has_line, idle_after, line_at, place_at}
 use Rattle.part_steps.specs.Tasks.{kind_of_task}
@@ -90,25 +90,42 @@ part_keeps_flat z v f a step note S none I P F = record {
     idle : a < actors_of z → h.state.place ≡ place.Between
     idle lt = none_under h.state.place h (I.lines a lt).under none
 
--- Any list of steps from a sound world that stands for a flat state tells what is lawful from there.
-pub run_lawful : (z : Sizes) (w : World Held) (f : Flat) (ss : List (Step Kind)) → IsSound z w → FlatInvariant z (view z w) f → Legal mmu w ss → IsLawful z f (history w ss)
-run_lawful z w f [] G F legal = tt
-run_lawful z w f (s ∷ ss) G F legal = by (takes z w s G legal.0) (λ es F. run_lawful z (effect mmu w s) (after_all es f) ss (good_step z w s G legal.0) F legal.1)
+-- What the steps tell is lawful from there, and behind them the world stands for the state that the history leaves.
+abbrev StaysFlat : Sizes → World Held → Flat → List (Step Kind) → Type 0
+StaysFlat z w f ss = IsLawful z f (history w ss) × FlatInvariant z (view z (run mmu w ss)) (after_all (history w ss) f)
+
+after_append : (xs ys : List Event) (f : Flat) → ◌≡◌ {A = Flat} (after_all (xs ++ ys) f) (after_all ys (after_all xs f))
+after_append [] ys f = refl
+after_append (x ∷ xs) ys f = after_append xs ys (after x f)
+
+-- It stays so with what one step tells, and with what the steps behind it tell.
+stays_flat : (z : Sizes) (u : World Held) (f : Flat) (es hs : List Event) → IsLawful z f es → IsLawful z (after_all es f) hs × FlatInvariant z (view z u) (after_all hs (after_all es f))
+    → IsLawful z f (es ++ hs) × FlatInvariant z (view z u) (after_all (es ++ hs) f)
+stays_flat z u f es hs front back = (lawful_append z es hs f front back.0, subst (FlatInvariant z (view z u)) (sym (after_append es hs f)) back.1)
+
+-- Any list of steps from a sound world that stands for a flat state.
+run_flat : (z : Sizes) (w : World Held) (f : Flat) (ss : List (Step Kind)) → IsSound z w → FlatInvariant z (view z w) f → Legal mmu w ss → StaysFlat z w f ss
+run_flat z w f [] G F legal = (tt, F)
+run_flat z w f (s ∷ ss) G F legal = by (takes z w s G legal.0) (λ es F. run_flat z (effect mmu w s) (after_all es f) ss (good_step z w s G legal.0) F legal.1)
   where
     h : Held
     h = hand_in mmu w s.actor
 
-    by : Takes z w s h ⊎ TakesPart z w s h → ((es : List Event) → FlatInvariant z (view z (effect mmu w s)) (after_all es f) → IsLawful z (after_all es f) (history (effect mmu w s) ss)) → IsLawful z f (events_of h (answered mmu w s.kind) ++ history (effect mmu w s) ss)
+    -- the step tells this
+    Tells : List Event → Type 0
+    Tells xs = IsLawful z f (xs ++ history (effect mmu w s) ss) × FlatInvariant z (view z (run mmu (effect mmu w s) ss)) (after_all (xs ++ history (effect mmu w s) ss) f)
+
+    by : Takes z w s h ⊎ TakesPart z w s h → ((es : List Event) → FlatInvariant z (view z (effect mmu w s)) (after_all es f) → StaysFlat z (effect mmu w s) (after_all es f) ss) → StaysFlat z w f (s ∷ ss)
     by (inl T) more =
         let es : List Event = told_events (view z w) s.actor (line_at h.state.place h) (line_at h.state.place h).command (place_at h.state.place h) in
         let is : events_of h (answered mmu w s.kind) ≡ es = ap (events_of h) T.answers ∙ sym (told_is_events z (view z w) s.actor (line_at h.state.place h) (place_at h.state.place h) T.is_step) in
         let K = flat_kept z (view z w) f s.actor (line_at h.state.place h) (line_at h.state.place h).command (place_at h.state.place h) T.is_step G.holds G.topics (part_of z (view z w) s.actor (line_at h.state.place h) (line_at h.state.place h).command (place_at h.state.place h) (view_small z w G.small) T.is_step G.holds G.topics)
         (step_knows z (view z w) s.actor (line_at h.state.place h) (line_at h.state.place h).command (place_at h.state.place h) T.is_step G.holds) F in
         let then_ = more es (subst (λ (v : View). FlatInvariant z v (after_all es f)) (sym T.leads) K.1) in
-        subst (λ (xs : List Event). IsLawful z f (xs ++ history (effect mmu w s) ss)) (sym is) (lawful_append z es (history (effect mmu w s) ss) f K.0 then_)
+        subst Tells (sym is) (stays_flat z (run mmu (effect mmu w s) ss) f es (history (effect mmu w s) ss) K.0 then_)
     by (inr T) more =
         let then_ = more [] (subst (λ (v : View). FlatInvariant z v f) (sym T.leads) (part_keeps_flat z (view z w) f s.actor T.step T.note T.is_part T.none_left G.holds G.topics F)) in
-        subst (λ (xs : List Event). IsLawful z f (xs ++ history (effect mmu w s) ss)) (sym (events_of_part h (answered mmu w s.kind) T.none_left)) then_
+        subst Tells (sym (events_of_part h (answered mmu w s.kind) T.none_left)) then_
 
 -- The start stands for the first flat state.
 start_flat : (z : Sizes) (lines : List Line) (w : World Held) → IsStart z lines w → FlatInvariant z (view z w) first_flat
@@ -122,4 +139,8 @@ start_flat z lines w start = record {
 }
 
 pub every_history : (z : Sizes) (lines : List Line) (w : World Held) (ss : List (Step Kind)) → IsStart z lines w → Legal mmu w ss → IsLawful z first_flat (history w ss)
-every_history z lines w ss start legal = run_lawful z w first_flat ss (start_good z lines w start) (start_flat z lines w start) legal
+every_history z lines w ss start legal = (run_flat z w first_flat ss (start_good z lines w start) (start_flat z lines w start) legal).0
+
+-- Wherever the steps have come, the words and hands stand for the flat state that the history leaves.
+pub every_flat : (z : Sizes) (lines : List Line) (w : World Held) (ss : List (Step Kind)) → IsStart z lines w → Legal mmu w ss → FlatInvariant z (view z (run mmu w ss)) (after_all (history w ss) first_flat)
+every_flat z lines w ss start legal = (run_flat z w first_flat ss (start_good z lines w start) (start_flat z lines w start) legal).1

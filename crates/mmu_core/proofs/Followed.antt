@@ -17,7 +17,7 @@ use Rattle.core_views.specs.Text.{answers_of}
 use Rattle.core_views.specs.Whole.{lines_begun, lines_of}
 use Rattle.mmu_core.specs.declared.outcome.Outcome.{Outcome}
 use Rattle.mmu_core.specs.declared.outcome.Outcome.TheVariants.{Goes, Ends}
-use Rattle.mmu_core.specs.Histories.{answers_by}
+pub use Rattle.mmu_core.specs.Histories.{answers_by, begun_count, begun_lines}
 use Rattle.mmu_core.specs.Invariant.{Invariant}
 use Rattle.mmu_core.specs.Steps.{outcome_at, task_at, tells_at}
 use Rattle.mmu_core.specs.Outcomes.{answers_after, place_after}
@@ -28,14 +28,6 @@ use Rattle.mmu_core.proofs.HandAfter.{GoesUnderWay, outcome_goes}
 use Rattle.mmu_core.proofs.LineEvents.{tells_within}
 use Rattle.mmu_core.proofs.Stepping.{IsStep}
 use Rattle.mmu_core.proofs.ToldOf.{answered_with, answers_by_more, answers_told, begins_told, begun_by, begun_by_append, begun_from, other_answers, other_begins, own_answers, own_begins}
-
--- how many of its lines a hand has begun, that has answered n and stands there
-abbrev pub begun_count : Place → ℕ → ℕ
-begun_count place.Between n = n
-begun_count _ n = suc n
-
-abbrev pub begun_lines : Held → ℕ
-begun_lines h = begun_count h.state.place (length h.answers)
 
 -- The answers are those of the first lines.
 abbrev pub Numbered : List AnsweredLine → List Line → Type 0

@@ -183,7 +183,7 @@ task_answers (Some step) h note touch words = parts_answer step (own_index h) h.
 
 -- behind each step of a line, of the actor itself
 abbrev KnowsAfter : Line → Command → Place → Held → ℕ → Type 0
-KnowsAfter line command p h v = KnowsPart (place_after (outcome_at p command h v)) command (hand_after line command p h v)
+KnowsAfter line command p h v = KnowsBehind (outcome_at p command h v) command (hand_after line command p h v)
 
 own_access : (p : AccessPlace) (line : Line) (h : Held) (gfn word : ℕ) (op : Op) (words : Area → ℕ → ℕ) → IsVcpu h.state.actor → gfn < 2 ^ 36 → PartRests h → AccessKnows p gfn (is_write op) h
     → KnowsAfter line (Access gfn word op) (place.Access p) h (answer_in (access_task p h gfn word op) words)
@@ -191,10 +191,9 @@ own_access p line h gfn word op words vcpu small R K =
     let v : ℕ = answer_in (access_task p h gfn word op) words in
     let s : Option PartStep = access_part p gfn h.topics in
     let cached : Buffer Translation = flushed (kind_of_task h.state.sizes (access_task p h gfn word op)) (caches_at (place.Access p) (Access gfn word op) h v) v in
-    subst (λ (t : Topics). KnowsPart (place_after (access_outcome p h gfn op v)) (Access gfn word op) (hand_with line (Access gfn word op) (place.Access p) h t cached v))
+    subst (λ (t : Topics). KnowsBehind (access_outcome p h gfn op v) (Access gfn word op) (hand_with line (Access gfn word op) (place.Access p) h t cached v))
     (sym (task_topics s h (access_note p) op _ v (access_needs p h gfn (is_write op) vcpu small R K)))
-    (knows_after (access_outcome p h gfn op v) (Access gfn word op) (hand_with line (Access gfn word op) (place.Access p) h (behind_part s h.topics v) cached v)
-    (access_known p line h gfn word op cached v small R K (task_answers s h (access_note p) _ words)))
+    (access_known p line h gfn word op cached v small R K (task_answers s h (access_note p) _ words))
 
 -- what a slot setting knows behind a step is what its next place asks
 setting_behind : (o : Outcome) (id : ℕ) (slot : Slot) (g : Held) → SettingKnows o g → KnowsBehind o (SetSlot id slot) g
@@ -209,10 +208,9 @@ own_set_slot p line h id slot words R K left N =
     let v : ℕ = answer_in (set_slot_task p h id slot) words in
     let step : PartStep = set_slot_part p h id slot in
     let cached : Buffer Translation = flushed (kind_of_task h.state.sizes (set_slot_task p h id slot)) h.cached v in
-    subst (λ (t : Topics). KnowsPart (place_after (set_slot_outcome p h v)) (SetSlot id slot) (hand_with line (SetSlot id slot) (place.SetSlot p) h t cached v))
+    subst (λ (t : Topics). KnowsBehind (set_slot_outcome p h v) (SetSlot id slot) (hand_with line (SetSlot id slot) (place.SetSlot p) h t cached v))
     (sym (part_topics_is h.state.sizes step (own_index h) h.topics (set_slot_note p h) v (is_there step h N)))
-    (knows_after (set_slot_outcome p h v) (SetSlot id slot) (hand_with line (SetSlot id slot) (place.SetSlot p) h (part_topics step h.topics v) cached v)
-    (setting_behind (set_slot_outcome p h v) id slot _ (set_slot_known line h id slot cached v R p K left (parts_answer step (own_index h) h.topics (set_slot_note p h) words))))
+    (setting_behind (set_slot_outcome p h v) id slot _ (set_slot_known line h id slot cached v R p K left (parts_answer step (own_index h) h.topics (set_slot_note p h) words)))
 
 -- what the step of a slot setting needs, at its places
 abbrev pub NeedsAt : Place → Command → Held → Type 0
@@ -276,13 +274,19 @@ needs_at z v a line command (place.Access p) S I P = tt
 needs_at z v a line (Access gfn word op) (place.SetSlot p) S I P = tt
 needs_at z v a line (SetSlot id slot) (place.SetSlot p) S I P = setting_needs z v a line p id slot S I P
 
+-- The step of a line leaves its actor with what its next place asks, or at rest where the line is answered.
+pub line_knows : (z : Sizes) (v : View) (a : ℕ) (line : Line) (command : Command) (p : Place) → IsStep z v a line command p → Invariant z v → TopicsInvariant z v → a < actors_of z
+    → KnowsBehind (outcome_at p command (v.hand a) (answer_in (task_at p command (v.hand a)) v.words)) command (hand_after line command p (v.hand a) (answer_in (task_at p command (v.hand a)) v.words))
+line_knows z v a line command p S I P there =
+    own_known p line command z (v.hand a) v.words S.begun (subst (λ x. IsCommandFor z x command) S.own S.allowed) (part_rests_at z v a I P there) (step_knows z v a line command p S I) (step_leaves z v a line command p S I) (needs_at z v a line command p S I P)
+
 -- Each step of a line leaves each actor with what its place asks.
 pub knows_behind : (z : Sizes) (v : View) (a : ℕ) (line : Line) (command : Command) (p : Place) → IsStep z v a line command p → Invariant z v → TopicsInvariant z v → (i : ℕ) → i < actors_of z
     → KnowsPart ((stepped a line command p v).hand i).state.place ((stepped a line command p v).hand i).state.line.command ((stepped a line command p v).hand i)
 knows_behind z v a line command p S I P =
     at_upd (λ i (h : Held). i < actors_of z → KnowsPart h.state.place h.state.line.command h) v.hand a (hand_after line command p (v.hand a) (answer_in (task_at p command (v.hand a)) v.words))
     (λ there. subst (λ c. KnowsPart (place_after (outcome_at p command (v.hand a) (answer_in (task_at p command (v.hand a)) v.words))) c (hand_after line command p (v.hand a) (answer_in (task_at p command (v.hand a)) v.words))) (sym S.command_is)
-    (own_known p line command z (v.hand a) v.words S.begun (subst (λ x. IsCommandFor z x command) S.own S.allowed) (part_rests_at z v a I P there) (step_knows z v a line command p S I) (step_leaves z v a line command p S I) (needs_at z v a line command p S I P)))
+    (knows_after (outcome_at p command (v.hand a) (answer_in (task_at p command (v.hand a)) v.words)) command (hand_after line command p (v.hand a) (answer_in (task_at p command (v.hand a)) v.words)) (line_knows z v a line command p S I P there)))
     (λ i ne. I.knows i)
 
 -- And so does each step of a part, by an actor with no line left.

@@ -136,3 +136,4 @@ pub mod TurnsNearer
 pub mod EntrySeen
 pub mod StayNearer
 pub mod StepsCounted
+pub mod AnsweredRest

@@ -38,8 +38,6 @@ take_none (suc n) = refl
 
 pub stays_whole : StaysWhole
 stays_whole z lines w ss start legal = record {
-  begun_count = λ actor. begun_lines (hand actor);
-  answered_count = λ actor. length (hand actor).answers;
   begun = λ actor. (one actor (present_or z actor)).begins;
   answered = λ actor. (one actor (present_or z actor)).answers;
   before = λ actor. begun_all (hand actor);

@@ -5,6 +5,8 @@
 //! history is proved; that `judge` writes it is tested.
 #![tactic(auto)]
 
+ghost use Rattle.std.specs.Prelude.{◌≡◌, false};
+
 mod plain_text;
 
 use plain_text::plain_text;
@@ -16,7 +18,9 @@ use trace_reader::{Read, read_trace};
 
 // Whether the source held a trace, and all that flat guest memory answers was
 // written.
-fn judge<S: Source, K: Sink>(alloc: Global, src: &mut S, out: &mut K) -> bool {
+fn judge<S: Source, K: Sink>(alloc: Global, src: &mut S, out: &mut K) -> bool
+    requires unfailed { K.failed out.old ≡ false }
+{
     let Ok(Read::Trace(trace)) = read_trace(alloc, src) else {
         return false;
     };

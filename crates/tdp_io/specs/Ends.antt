@@ -48,6 +48,12 @@ PutFaults before now (Took n) = now ≡ before
 PutFaults before now WriteFailed = Rose before now
 PutFaults before now SinkIsFull = now ≡ before
 
+-- The write failed.
+abbrev pub is_write_fault : Output → Bool
+is_write_fault (Took n) = false
+is_write_fault WriteFailed = true
+is_write_fault SinkIsFull = false
+
 -- A prefix of the text was added: all of it, none of it, or something between.
 abbrev pub AppendsPrefix : Option (List ℕ) → Option (List ℕ) → List ℕ → Type 0
 AppendsPrefix before after text = (n : ℕ) × (n ≤ length text) × Appends before after (take n text)
@@ -62,6 +68,12 @@ abbrev pub WroteFaults : {A : Type 0} → ℕ → ℕ → Result A Stop → Type
 WroteFaults {A} before now (Ok x) = now ≡ before
 WroteFaults {A} before now (Err StopFailed) = Rose before now
 WroteFaults {A} before now (Err StopFull) = now ≡ before
+
+-- The writing stopped because a write failed.
+abbrev pub is_failed : {A : Type 0} → Result A Stop → Bool
+is_failed {A} (Ok x) = false
+is_failed {A} (Err StopFailed) = true
+is_failed {A} (Err StopFull) = false
 
 -- A prefix of what the source had left was taken, at most so many bytes and maybe none, and the rest is left now.
 abbrev pub TakesSome : Option (List ℕ) → Option (List ℕ) → ℕ → Type 0

@@ -15,13 +15,14 @@ pub record Supply : Type 0 where
   pub faults : ℕ
   pub ended : Bool
 
--- a sink in memory: the bytes that it was given, the numbers of the calls that fail, how many calls were made and how
--- many of them failed
+-- a sink in memory: the bytes that it was given, the numbers of the calls that fail, how many calls were made, how
+-- many of them failed, and whether one has
 pub record Store : Type 0 where
   pub bytes : List ℕ
   pub failing : List ℕ
   pub calls : ℕ
   pub faults : ℕ
+  pub failed : Bool
 
 -- The call with this number is among those that fail.
 abbrev pub is_failing : List ℕ → ℕ → Bool
@@ -36,12 +37,6 @@ abbrev pub is_read_fault : Pulled → Bool
 is_read_fault (Got n) = false
 is_read_fault End = false
 is_read_fault ReadFailed = true
-
--- The write failed.
-abbrev pub is_write_fault : Output → Bool
-is_write_fault (Took n) = false
-is_write_fault WriteFailed = true
-is_write_fault SinkIsFull = false
 
 -- A read that gets bytes gets as many as are left and fit into so much room.
 abbrev pub FillsRoom : List ℕ → ℕ → Pulled → Type 0

@@ -11,10 +11,11 @@ pub record ReaderState : Type 0 where
   pub faults : ℕ
   pub ended : Bool
 
--- a writer of std: the bytes that it holds, where it tells them, and how many of its calls failed
+-- a writer of std: the bytes that it holds, where it tells them, and how many of its calls failed, and whether one has
 pub record WriterState : Type 0 where
   pub contents : Option (List ℕ)
   pub faults : ℕ
+  pub failed : Bool
 
 -- The write took some bytes or failed: it is not answered that memory was refused.
 abbrev pub NeedsNoMemory : Output → Type 0

@@ -1,6 +1,6 @@
 ghost use Rattle.std.specs.Prelude.{◌≡◌, ◌<◌, Some, [], false, length};
-ghost use Rattle.tdp_io.specs.Ends.{Pulls, PullFaults, is_end, Puts, PutFaults};
-ghost use Rattle.tdp_io.specs.Memory.{is_failing, next_call, is_read_fault, is_write_fault, FillsRoom, TakesWhole};
+ghost use Rattle.tdp_io.specs.Ends.{Pulls, PullFaults, is_end, Puts, PutFaults, is_write_fault};
+ghost use Rattle.tdp_io.specs.Memory.{is_failing, next_call, is_read_fault, FillsRoom, TakesWhole};
 
 use crate::{Output, Pulled, Sink, Source};
 use std::alloc::Global;
@@ -99,6 +99,7 @@ pub struct MemSink {
     failing: Vec<u64>,
     calls: u64,
     faults: u64,
+    failed: bool,
 }
 
 impl Model for MemSink {
@@ -111,6 +112,7 @@ impl Model for MemSink {
       failing = s.failing.items;
       calls = s.calls;
       faults = s.faults;
+      failed = s.failed;
     } };
 }
 
@@ -118,13 +120,14 @@ impl MemSink {
     /// An empty sink. Its writes are numbered from 0, and those whose numbers
     /// are in `failing` fail.
     pub fn new(alloc: Global, failing: Vec<u64>) -> Self
-        ensures { result ≡ record { bytes = []; failing = failing.items; calls = 0; faults = 0 } }
+        ensures { result ≡ record { bytes = []; failing = failing.items; calls = 0; faults = 0; failed = false } }
     {
         MemSink {
             bytes: Vec::new(alloc),
             failing,
             calls: 0,
             faults: 0,
+            failed: false,
         }
     }
 
@@ -141,12 +144,16 @@ impl Sink for MemSink {
 
     ghost faults = { λ s. s.faults };
 
+    ghost failed = { λ s. s.failed };
+
     /// Fails where the number of the call is in `failing`, and only there. With
     /// no such numbers the count of faults stays.
     fn write(&mut self, piece: &[u8]) -> Output
-        requires { 0 < length piece.now }
+        requires piece { 0 < length piece.now }
+        requires unfailed { self.old.failed ≡ false }
         ensures bytes { Puts (Some self.old.bytes) (Some self.new.bytes) result piece.now }
         ensures faults { PutFaults self.old.faults self.new.faults result }
+        ensures failed { self.new.failed ≡ is_write_fault result }
         ensures fails { is_write_fault result ≡ is_failing self.old.failing self.old.calls }
         ensures whole { TakesWhole piece.now result }
         ensures failing { self.new.failing ≡ self.old.failing }
@@ -157,6 +164,7 @@ impl Sink for MemSink {
         self.calls = self.calls.saturating_add(1);
         if self.failing.contains(&call) {
             self.faults = self.faults.saturating_add(1);
+            self.failed = true;
             return Output::Failed;
         }
         match self.bytes.extend_from_slice(piece) {

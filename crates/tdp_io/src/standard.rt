@@ -1,5 +1,5 @@
 ghost use Rattle.std.specs.Prelude.{◌≡◌, ◌<◌, None, false, length};
-ghost use Rattle.tdp_io.specs.Ends.{Pulls, PullFaults, is_end, Puts, PutFaults};
+ghost use Rattle.tdp_io.specs.Ends.{Pulls, PullFaults, is_end, Puts, PutFaults, is_write_fault};
 ghost use Rattle.tdp_io.specs.Standard.{NeedsNoMemory};
 
 use crate::{Output, Pulled, Sink, Source};
@@ -73,6 +73,7 @@ impl<R: Read + Drop> Source for StdSource<R> {
 pub struct StdSink<W: Write + Drop> {
     inner: W,
     faults: u64,
+    failed: bool,
 }
 
 impl<W: Write + Drop> Model for StdSink<W> {
@@ -80,15 +81,19 @@ impl<W: Write + Drop> Model for StdSink<W> {
 
     ghost Value = { WriterState };
 
-    ghost view = { λ s. record { contents = W.contents s.inner; faults = s.faults } };
+    ghost view = { λ s. record { contents = W.contents s.inner; faults = s.faults; failed = s.failed } };
 }
 
 impl<W: Write + Drop> StdSink<W> {
     /// A sink that has seen no fault.
     pub fn new(inner: W) -> Self
-        ensures { result ≡ record { contents = W.contents inner; faults = 0 } }
+        ensures { result ≡ record { contents = W.contents inner; faults = 0; failed = false } }
     {
-        StdSink { inner, faults: 0 }
+        StdSink {
+            inner,
+            faults: 0,
+            failed: false,
+        }
     }
 }
 
@@ -97,18 +102,23 @@ impl<W: Write + Drop> Sink for StdSink<W> {
 
     ghost faults = { λ s. s.faults };
 
+    ghost failed = { λ s. s.failed };
+
     /// Makes one call of the writer. An `Err` of any kind is a fault, and so is
     /// a write that takes nothing. It never answers `NoMemory`.
     fn write(&mut self, piece: &[u8]) -> Output
-        requires { 0 < length piece.now }
+        requires piece { 0 < length piece.now }
+        requires unfailed { self.old.failed ≡ false }
         ensures bytes { Puts None None result piece.now }
         ensures faults { PutFaults self.old.faults self.new.faults result }
+        ensures failed { self.new.failed ≡ is_write_fault result }
         ensures memory { NeedsNoMemory result }
         ensures inner { Puts self.old.contents self.new.contents result piece.now }
     {
         match self.inner.write(piece) {
             Ok(0) | Err(_) => {
                 self.faults = self.faults.saturating_add(1);
+                self.failed = true;
                 Output::Failed
             }
             Ok(count) => Output::Took(count),

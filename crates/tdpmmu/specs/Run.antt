@@ -1,5 +1,5 @@
 -- What a run of the program does, by its status.
-use Rattle.std.specs.Prelude.{◌≡◌, ◌≤◌, ◌⊎◌, ℕ, List, [], ◌∷◌, ◌++◌, length, codes, Bool, true, if◌then◌else◌, Option, Some, None, Result, Ok, Err}
+use Rattle.std.specs.Prelude.{◌≡◌, ◌≤◌, ◌⊎◌, ℕ, List, [], ◌∷◌, ◌++◌, length, codes, Bool, true, false, if◌then◌else◌, Option, Some, None, Result, Ok, Err}
 use Rattle.std.specs.Str.{bytes_eq}
 use Rattle.std.specs.Io.KnownBytes.{Appends, Consumes, IsAtEnd}
 use Rattle.core_views.specs.declared.actor.Actor.{Actor}
@@ -8,12 +8,13 @@ use Rattle.core_views.specs.declared.trace.Trace.{Trace}
 use Rattle.core_views.specs.Held.{Held}
 use Rattle.core_views.specs.Need.{need}
 use Rattle.mmu_core.specs.Machine.{World}
-use Rattle.tdp_io.specs.Ends.{AppendsPrefix, Rose}
+use Rattle.tdp_io.specs.Ends.{Rose}
 use Rattle.tdp_io.specs.declared.sink.Stop.{Stop}
 use Rattle.tdp_io.specs.declared.sink.Stop.TheVariants.{Failed, NoMemory as Full}
 use Rattle.trace_reader.specs.declared.reason.Reason.{Reason}
 use Rattle.trace_reader.specs.Reading.{reading, IsTraceOf, IsRefusalOf}
-use Rattle.tdpmmu.specs.Output.{check_text, refusal_text, usage_text}
+use Rattle.tdpmmu.specs.Output.{IsWrittenLine, check_text, refusal_text, usage_text}
+use Rattle.weave_engine.specs.Pieces.{LeavesFew}
 use Rattle.weave_engine.specs.Replays.{Replays, ReplaysUntil}
 use Rattle.weave_engine.specs.Weaves.{WeavesAll, WeavesPart, unfinished_text}
 use Rattle.weave_engine.specs.Woven.{WeavesUntil}
@@ -68,9 +69,9 @@ abbrev pub IsOutputOn : Stop → Option Command → List ℕ → List ℕ → Ty
 IsOutputOn stop (Some command) input bytes = IsOutputOf stop command (reading input) bytes
 IsOutputOn stop None input bytes = bytes ≡ usage_text
 
--- A prefix of such an output was written.
+-- A prefix of such an output was written, which lacks at most 8,192 bytes and the output's last line.
 abbrev pub WritesPrefix : Stop → Option Command → List ℕ → Option (List ℕ) → Option (List ℕ) → Type 0
-WritesPrefix stop asked input before after = (bytes : List ℕ) × IsOutputOn stop asked input bytes × AppendsPrefix before after bytes
+WritesPrefix stop asked input before after = (bytes : List ℕ) × IsOutputOn stop asked input bytes × LeavesFew IsWrittenLine before after bytes
 
 -- What the source had left, and whether it has ended; what the sink was given: before a run and after it.
 pub record Around : Type 0 where
@@ -134,6 +135,11 @@ WriteCause before now (Refused line reason) = now ≡ before
 WriteCause before now ReadFault = now ≡ before
 WriteCause before now (Unfinished actor line) = now ≡ before
 WriteCause before now NoMemory = now ≡ before
+
+-- Writing failed.
+abbrev pub is_write_fault : Status → Bool
+is_write_fault WriteFault = true
+is_write_fault _ = false
 
 abbrev pub exit_code : Status → ℕ
 exit_code Done = 0

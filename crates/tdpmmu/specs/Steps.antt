@@ -7,11 +7,12 @@ use Rattle.tdp_io.specs.Ends.{AppendsPrefix}
 use Rattle.tdp_io.specs.declared.sink.Stop.{Stop}
 use Rattle.tdp_io.specs.declared.sink.Stop.TheVariants.{Failed, NoMemory as Full}
 use Rattle.trace_reader.specs.declared.reason.Reason.{Reason}
-use Rattle.tdpmmu.specs.Output.{refusal_text, usage_text}
+use Rattle.tdpmmu.specs.Output.{IsWrittenLine, refusal_text, usage_text}
 use Rattle.tdpmmu.specs.Run.{IsOutput, IsOutputUntil, IsUnfinished}
 use Rattle.tdpmmu.specs.declared.command.Command.{Command}
 use Rattle.tdpmmu.specs.declared.status.Status.{Status}
 use Rattle.tdpmmu.specs.declared.status.Status.TheVariants.{Done, Usage, Refused, WriteFault, Unfinished, NoMemory}
+use Rattle.weave_engine.specs.Pieces.{LeavesFew}
 use Rattle.weave_engine.specs.declared.ran.How.{How}
 use Rattle.weave_engine.specs.declared.ran.How.TheVariants as how
 use Rattle.weave_engine.specs.declared.ran.Ran.{Ran}
@@ -30,11 +31,11 @@ abbrev pub WritesRefusal : ℕ → Reason → Option (List ℕ) → Option (List
 WritesRefusal line reason before after (Refused l r) = (l ≡ line) × (r ≡ reason) × Appends before after (refusal_text line reason)
 WritesRefusal line reason before after status = StopsAt (refusal_text line reason) before after status
 
--- The whole output of a command on a trace was written, or a prefix of its output as far as it came.
+-- The whole output of a command on a trace was written, or its output as far as it came but for little.
 abbrev pub WritesOutput : Command → Trace → Option (List ℕ) → Option (List ℕ) → Status → Type 0
 WritesOutput command trace before after Done = (bytes : List ℕ) × IsOutput command trace bytes × Appends before after bytes
-WritesOutput command trace before after WriteFault = (bytes : List ℕ) × IsOutputUntil Failed command trace bytes × AppendsPrefix before after bytes
-WritesOutput command trace before after NoMemory = (bytes : List ℕ) × IsOutputUntil Full command trace bytes × AppendsPrefix before after bytes
+WritesOutput command trace before after WriteFault = (bytes : List ℕ) × IsOutputUntil Failed command trace bytes × LeavesFew IsWrittenLine before after bytes
+WritesOutput command trace before after NoMemory = (bytes : List ℕ) × IsOutputUntil Full command trace bytes × LeavesFew IsWrittenLine before after bytes
 WritesOutput command trace before after (Unfinished actor line) = (bytes : List ℕ) × IsUnfinished command trace actor line bytes × Appends before after bytes
 WritesOutput command trace before after _ = ⊥
 

@@ -1,9 +1,9 @@
-ghost use Rattle.std.specs.Prelude.{◌≡◌, ◌≤◌, IfOk, IfSome, length, map, string_bytes, take};
+ghost use Rattle.std.specs.Prelude.{◌≡◌, ◌≤◌, IfOk, IfSome, false, length, map, string_bytes, take};
 ghost use Rattle.core_views.specs.Need.{need as need_of};
 ghost use Rattle.core_views.specs.Traces.{IsTrace};
 ghost use Rattle.tdpmmu.specs.Output.{check_text, refusal_text};
-ghost use Rattle.tdp_io.specs.Ends.{Wrote, WroteFaults};
-ghost use Rattle.tdpmmu.specs.Run.{command_named as named, command_of, Prints, ReadCause, RunsTo, WriteCause};
+ghost use Rattle.tdp_io.specs.Ends.{Wrote, WroteFaults, is_failed};
+ghost use Rattle.tdpmmu.specs.Run.{command_named as named, command_of, Prints, ReadCause, RunsTo, WriteCause, is_write_fault};
 ghost use Rattle.tdpmmu.specs.Steps.{WritesOutput, WritesRefusal, WritesUsage, status_by, status_ended};
 
 use crate::command::Command;
@@ -38,8 +38,10 @@ fn check_line(alloc: Global, lines: usize, need: u64) -> Result<String, AllocErr
 
 // Writes how long the trace is and what it needs.
 fn check<K: Sink>(alloc: Global, trace: &Trace, out: &mut K) -> Result<(), Stop>
+    requires unfailed { K.failed out.old ≡ false }
     ensures bytes { Wrote (K.written out.old) (K.written out.new) result (check_text (length trace.now.lines) (need_of trace.now.header trace.now.lines)) }
     ensures faults { WroteFaults (K.faults out.old) (K.faults out.new) result }
+    ensures failed { K.failed out.new ≡ is_failed result }
 {
     let Ok(need) = need(alloc, trace) else {
         return Err(Stop::NoMemory);
@@ -76,8 +78,10 @@ fn command_named(word: &str) -> Option<Command>
 
 // The words are no command of the program.
 fn usage<K: Sink>(out: &mut K) -> Status
+    requires unfailed { K.failed out.old ≡ false }
     ensures written { WritesUsage (K.written out.old) (K.written out.new) result }
     ensures write { WriteCause (K.faults out.old) (K.faults out.new) result }
+    ensures failed { K.failed out.new ≡ is_write_fault result }
 {
     match write_all(out, USAGE.as_bytes()) {
         Ok(()) => Status::Usage,
@@ -88,8 +92,10 @@ fn usage<K: Sink>(out: &mut K) -> Status
 
 // The input is refused at this line.
 fn refuse<K: Sink>(alloc: Global, line: u32, reason: Reason, out: &mut K) -> Status
+    requires unfailed { K.failed out.old ≡ false }
     ensures written { WritesRefusal line reason (K.written out.old) (K.written out.new) result }
     ensures write { WriteCause (K.faults out.old) (K.faults out.new) result }
+    ensures failed { K.failed out.new ≡ is_write_fault result }
 {
     let Ok(text) = refusal(alloc, line, reason) else {
         return Status::NoMemory;
@@ -136,9 +142,11 @@ fn ended(written: Result<(), Stop>) -> Status
 
 // The input is this trace.
 fn run_trace<K: Sink>(alloc: Global, command: Command, trace: &Trace, out: &mut K) -> Status
-    requires { IsTrace trace.now }
+    requires trace { IsTrace trace.now }
+    requires unfailed { K.failed out.old ≡ false }
     ensures written { WritesOutput command trace.now (K.written out.old) (K.written out.new) result }
     ensures write { WriteCause (K.faults out.old) (K.faults out.new) result }
+    ensures failed { K.failed out.new ≡ is_write_fault result }
 {
     match command {
         Command::Check => ended(check(alloc, trace, out)),
@@ -154,10 +162,12 @@ fn run_command<S: Source, K: Sink>(
     src: &mut S,
     out: &mut K,
 ) -> Status
+    requires unfailed { K.failed out.old ≡ false }
     ensures runs { RunsTo (command_of (map string_bytes words.now)) (record { left = S.left src.old; left_after = S.left src.new; ended = S.ended src.new; written = K.written out.old; written_after = K.written out.new }) result }
     ensures prints { IfSome (S.left src.old) (λ input. Prints (command_of (map string_bytes words.now)) (take 16777217 input) (K.written out.old) (K.written out.new) result) }
     ensures read { ReadCause (S.faults src.old) (S.faults src.new) result }
     ensures write { WriteCause (K.faults out.old) (K.faults out.new) result }
+    ensures failed { K.failed out.new ≡ is_write_fault result }
 {
     let Some(command) = asked(words) else {
         return usage(out);
@@ -174,10 +184,13 @@ fn run_command<S: Source, K: Sink>(
 /// first, on the trace that `src` has left, and writes to `out` all that there
 /// is to say. Today the commands are `check`, `replay` and `weave`; any other words
 /// are answered by the usage line. `rt` and `gate` are for commands that start threads.
+/// No write to `out` may have failed before.
 ///
-/// The status says how it went, and each has its cause: `ReadFault` and
-/// `WriteFault` come only where the count of faults of `src` or `out` rose, or stood
-/// at 2^64 - 1.
+/// The status says how it went, and each has its cause: `ReadFault` comes only where
+/// the count of faults of `src` rose, or stood at 2^64 - 1, and `WriteFault` exactly
+/// where a write to `out` failed. After that nothing was written. At `WriteFault`, and at
+/// `NoMemory` once the input was read, the output is written but for at most 8,192 bytes
+/// and its last line.
 pub fn run<R: Threads + Wait + Sync, S: Source, K: Sink, G: Gate + Sync>(
     _rt: &R,
     alloc: Global,
@@ -186,10 +199,12 @@ pub fn run<R: Threads + Wait + Sync, S: Source, K: Sink, G: Gate + Sync>(
     out: &mut K,
     _gate: &G,
 ) -> Status
+    requires unfailed { K.failed out.old ≡ false }
     ensures runs { RunsTo (command_of (map string_bytes words.now)) (record { left = S.left src.old; left_after = S.left src.new; ended = S.ended src.new; written = K.written out.old; written_after = K.written out.new }) result }
     ensures prints { IfSome (S.left src.old) (λ input. Prints (command_of (map string_bytes words.now)) (take 16777217 input) (K.written out.old) (K.written out.new) result) }
     ensures read { ReadCause (S.faults src.old) (S.faults src.new) result }
     ensures write { WriteCause (K.faults out.old) (K.faults out.new) result }
+    ensures failed { K.failed out.new ≡ is_write_fault result }
 {
     run_command(alloc, words, src, out)
 }

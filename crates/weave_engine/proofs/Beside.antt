@@ -44,7 +44,7 @@ use Rattle.core_theorem.proofs.Turns.{steps_are_few, sum_same}
 use Rattle.weave_engine.specs.Beside.{AreForDelays, delays_of}
 use Rattle.weave_engine.specs.Replays.{RunsLines}
 use Rattle.weave_engine.specs.Turning.{AreTurns, RunsItems, RunsRounds}
-use Rattle.weave_engine.specs.Weaves.{Follows as FollowsTrace, FollowsSoFar, lines_below}
+use Rattle.weave_engine.specs.Weaves.{FollowsBoth, FollowsSoFar, lines_below}
 use Rattle.weave_engine.proofs.DelaysBelow.{AreBelow, delays_below, sum_bound}
 use Rattle.weave_engine.proofs.FileOrder.{maker_is, maker_there}
 
@@ -209,17 +209,14 @@ beside_delayed z lines start is_start above behind r ss legal own = record {
         both delays begins own_ count a b = omega (arith, a, b)
 
 -- So it is with the turns of a weave whose rounds are used up.
-pub turns_delayed : (trace : Trace) (limit : ℕ) (start : World Held) (steps : List (Step Kind)) → IsStart (sizes_of trace.header) trace.lines start → Legal mmu start steps → (F : FollowsTrace trace limit start steps) → length F.so_far.rounds ≡ limit
-    → AreForDelays (sizes_of trace.header) (lines_below trace) (length F.so_far.scheduled + limit) F.so_far.behind (F.so_far.scheduled ++ F.so_far.rounds)
-turns_delayed trace limit start steps is_start legal F used_up =
+pub turns_delayed : (trace : Trace) (limit : ℕ) (start : World Held) (steps : List (Step Kind)) → IsStart (sizes_of trace.header) trace.lines start → Legal mmu start steps → (S : FollowsSoFar trace limit start steps) → FollowsBoth trace limit start steps S → length S.rounds ≡ limit
+    → AreForDelays (sizes_of trace.header) (lines_below trace) (length S.scheduled + limit) S.behind (S.scheduled ++ S.rounds)
+turns_delayed trace limit start steps is_start legal S F used_up =
     subst (λ turns. AreForDelays z (lines_below trace) turns S.behind all) (length-append S.scheduled S.rounds ∙ ap (λ n. length S.scheduled + n) used_up)
     (subst (λ n. AreForDelays z (drop n trace.lines) (length all) S.behind all) F.all_above (beside_delayed z trace.lines start is_start S.above S.behind S.alone all legal_behind own))
   where
     z : Sizes
     z = sizes_of trace.header
-
-    S : FollowsSoFar trace limit start steps
-    S = F.so_far
 
     all : List (Step Kind)
     all = S.scheduled ++ S.rounds

@@ -1,5 +1,5 @@
 -- Steps that were made, with what they print put behind what waited: one turn more, or more steps.
-use Rattle.std.proofs.Common.{◌≡◌, ℕ, List, [], ◌∷◌, ◌++◌, Ok, Err, append_assoc, refl, sym, ap, subst, ◌∙◌}
+use Rattle.std.proofs.Common.{◌≡◌, ◌≤◌, ℕ, List, [], ◌∷◌, ◌++◌, Ok, Err, append_assoc, length, refl, sym, ap, subst, ◌∙◌}
 use Rattle.std.proofs.lemmas.List.{append-nil}
 use Rattle.std.specs.Prelude.{Bool, true}
 use Rattle.std.specs.declared.option.Option.{Option}
@@ -12,14 +12,14 @@ use Rattle.mmu_core.specs.Machine.{Legal, Step, World, run}
 use Rattle.mmu_core.specs.Worlds.{history}
 use Rattle.mmu_core.proofs.Extend.{legal-append, run-append}
 use Rattle.mmu_core.proofs.LineRuns.{history_append}
-use Rattle.tdp_io.specs.Ends.{AppendsPrefix}
 use Rattle.tdp_io.specs.declared.sink.Stop.{Stop}
 use Rattle.tdp_io.specs.declared.sink.Stop.TheVariants.{NoMemory as Full}
+use Rattle.weave_engine.specs.Pieces.{WritesMost, most_waiting}
 use Rattle.weave_engine.specs.Turned.{Comes, MakesTurn, PutsRun}
 use Rattle.weave_engine.specs.Turning.{AnswersLine, IsTurn, MayStop, stops as stops_with}
 use Rattle.weave_engine.specs.Writes.{Buffers}
 use Rattle.weave_engine.proofs.Stopping.{answers_last, stops_at_answer, stops_behind, stops_full}
-use Rattle.weave_engine.proofs.Writes.{IsPut, goes_on, none_put, stops}
+use Rattle.weave_engine.proofs.Writes.{IsPut, goes_on, none_put, stops, stops_here}
 
 pub comes_none : (w : World Held) → Comes w [] w []
 comes_none w = record { legal = tt; ends = refl; prints = refl }
@@ -42,8 +42,8 @@ pub record SoFar (P : World Held → List (Step Kind) → Type 0) (w t : World H
   pub comes : Comes w steps t bytes
   pub put : IsPut before here waits (waited ++ bytes)
 
-pub so_far_none : (P : World Held → List (Step Kind) → Type 0) (w : World Held) (before : Option (List ℕ)) (waited : List ℕ) → P w [] → SoFar P w w before before waited waited
-so_far_none P w before waited holds = record { steps = []; bytes = []; holds = holds; comes = comes_none w; put = none_put before waited }
+pub so_far_none : (P : World Held → List (Step Kind) → Type 0) (w : World Held) (before : Option (List ℕ)) (waited : List ℕ) → length waited ≤ most_waiting → P w [] → SoFar P w w before before waited waited
+so_far_none P w before waited few holds = record { steps = []; bytes = []; holds = holds; comes = comes_none w; put = none_put before waited few }
 
 -- Steps more, of which the same or another thing holds with those before.
 pub so_far_then : (P Q : World Held → List (Step Kind) → Type 0) (w t u : World Held) (before here after : Option (List ℕ)) (waited waits more : List ℕ) (ts : List (Step Kind)) (bytes : List ℕ) (F : SoFar P w t before here waited waits)
@@ -67,20 +67,20 @@ pub puts_all : (P Q R : World Held → List (Step Kind) → Type 0) (w t : World
 puts_all P Q R w t before here waited waits F holds = (F.steps, F.bytes, holds, F.comes, F.put)
 
 -- It stopped with no step more.
-pub puts_stopped : (P Q R : World Held → List (Step Kind) → Type 0) (w t u : World Held) (before here after : Option (List ℕ)) (waited waits more : List ℕ) (stop : Stop) (F : SoFar P w t before here waited waits) → stop ≡ Full → u ≡ t → AppendsPrefix here after waits → R w F.steps
+pub puts_stopped : (P Q R : World Held → List (Step Kind) → Type 0) (w t u : World Held) (before here after : Option (List ℕ)) (waited waits more : List ℕ) (stop : Stop) (F : SoFar P w t before here waited waits) → stop ≡ Full → u ≡ t → WritesMost here after waits → R w F.steps
     → PutsRun Q R w u before after waited more (Err stop)
-puts_stopped P Q R w t u before here after waited waits more stop F full same prefix holds =
+puts_stopped P Q R w t u before here after waited waits more stop F full same most holds =
     subst (λ (x : World Held). PutsRun Q R w x before after waited more (Err stop)) (sym same)
-    (F.steps, F.bytes, holds, F.comes, stops_full stop w F.steps full, subst (AppendsPrefix before after) (append-nil (waited ++ F.bytes)) (stops before here after waits [] (waited ++ F.bytes) F.put (subst (AppendsPrefix here after) (sym (append-nil waits)) prefix)))
+    (F.steps, F.bytes, holds, F.comes, stops_full stop w F.steps full, stops_here before here after waits (waited ++ F.bytes) F.put most)
 
 -- It stopped behind steps more.
 pub puts_stopped_behind : (P Q R : World Held → List (Step Kind) → Type 0) (w t u : World Held) (before here after : Option (List ℕ)) (waited waits more : List ℕ) (stop : Stop) (ts : List (Step Kind)) (bytes : List ℕ) (F : SoFar P w t before here waited waits) → Comes t ts u bytes
-    → MayStop stop t ts → AppendsPrefix here after (waits ++ bytes) → R w (F.steps ++ ts) → PutsRun Q R w u before after waited more (Err stop)
+    → MayStop stop t ts → WritesMost here after (waits ++ bytes) → R w (F.steps ++ ts) → PutsRun Q R w u before after waited more (Err stop)
 puts_stopped_behind P Q R w t u before here after waited waits more stop ts bytes F comes may prefix holds =
-    (F.steps ++ ts, F.bytes ++ bytes, holds, comes_then w t u F.steps ts F.bytes bytes F.comes comes, stops_behind stop w F.steps ts (subst (λ (x : World Held). MayStop stop x ts) (sym F.comes.ends) may), subst (AppendsPrefix before after) (append_assoc waited F.bytes bytes) (stops before here after waits bytes (waited ++ F.bytes) F.put prefix))
+    (F.steps ++ ts, F.bytes ++ bytes, holds, comes_then w t u F.steps ts F.bytes bytes F.comes comes, stops_behind stop w F.steps ts (subst (λ (x : World Held). MayStop stop x ts) (sym F.comes.ends) may), subst (WritesMost before after) (append_assoc waited F.bytes bytes) (stops before here after waits bytes (waited ++ F.bytes) F.put prefix))
 
 -- It stopped behind one turn more, which answers its line.
 pub puts_stopped_at : (P Q R : World Held → List (Step Kind) → Type 0) (w t u : World Held) (before here after : Option (List ℕ)) (waited waits more : List ℕ) (stop : Stop) (actor : ℕ) (bytes : List ℕ) (F : SoFar P w t before here waited waits) (M : MakesTurn actor t u true bytes)
-    → AnswersLine t M.step → AppendsPrefix here after (waits ++ bytes) → R w (F.steps ++ M.step ∷ []) → PutsRun Q R w u before after waited more (Err stop)
+    → AnswersLine t M.step → WritesMost here after (waits ++ bytes) → R w (F.steps ++ M.step ∷ []) → PutsRun Q R w u before after waited more (Err stop)
 puts_stopped_at P Q R w t u before here after waited waits more stop actor bytes F M answers prefix holds =
     puts_stopped_behind P Q R w t u before here after waited waits more stop (M.step ∷ []) bytes F M.comes (stops_at_answer stop t (M.step ∷ []) (answers_last t [] M.step answers)) prefix holds

@@ -26,7 +26,7 @@ use Rattle.core_views.specs.Traces.{IsCommandFor}
 use Rattle.core_views.specs.Whole.{lines_of}
 use Rattle.core_views.proofs.SameActor.{is_same_self}
 use Rattle.mmu_core.specs.Enabled.{mmu}
-use Rattle.mmu_core.specs.Histories.{answers_by}
+use Rattle.mmu_core.specs.Histories.{answered_in, answers_by}
 use Rattle.mmu_core.specs.Machine.{Legal, Step, World, hand_in, run}
 use Rattle.mmu_core.specs.Steps.{next_line}
 use Rattle.mmu_core.specs.Turns.{with_answer}
@@ -34,7 +34,7 @@ use Rattle.mmu_core.specs.Worlds.{IsStart, history}
 use Rattle.mmu_core.proofs.EveryAnswer.{start_follows}
 use Rattle.mmu_core.proofs.Starts.{same_actor}
 use Rattle.mmu_core.proofs.WholeSoFar.{stays_whole}
-use Rattle.weave_engine.specs.Turning.{HasLine}
+use Rattle.weave_engine.specs.Turning.{HasLineLeft}
 use Rattle.weave_engine.specs.Weaves.{IsFirstInFile, IsFirstOpen, numbers_answered}
 use Rattle.weave_engine.proofs.FileOrder.{maker_is, maker_there, next_is}
 
@@ -131,10 +131,10 @@ module _ (z : Sizes) (lines : List Line) (start : World Held) (ss : List (Step K
   next_own : (i : ℕ) (d : Line) → i < actors_of z → done i < length (own i) → next_line (hand i) ≡ get_or (own i) (done i) d
   next_own i d i_in lt = ap (λ (ls : List Line). unwrap_or (slice_get ls (done i)) no_line) (own_lines i i_in) ∙ ap (λ (o : Option Line). unwrap_or o no_line) (slice_get-get_or (own i) (done i) d lt)
 
-  has_own : (i : ℕ) → i < actors_of z → done i < length (own i) → HasLine i (run mmu start ss)
+  has_own : (i : ℕ) → i < actors_of z → done i < length (own i) → HasLineLeft i (run mmu start ss)
   has_own i i_in lt = let e = ap (λ (ls : List Line). length ls) (own_lines i i_in) in let below : done i < length (hand i).lines = omega (arith, e, lt) in grind (arith, nat_tests)
 
-  few_own : (i : ℕ) → i < actors_of z → HasLine i (run mmu start ss) → done i < length (own i)
+  few_own : (i : ℕ) → i < actors_of z → HasLineLeft i (run mmu start ss) → done i < length (own i)
   few_own i i_in has = let e = ap (λ (ls : List Line). length ls) (own_lines i i_in) in let below : done i < length (hand i).lines = grind (arith, nat_tests) in omega (arith, e, below)
 
   not_above : (i n p : ℕ) (d : Line) → n ≤ p → p < length (own i) → (get_or (own i) n d).number ≤ (get_or (own i) p d).number
@@ -247,7 +247,7 @@ module _ (z : Sizes) (lines : List Line) (start : World Held) (ss : List (Step K
             (has_image (λ (y : AnsweredLine). y.number) (answers_by x.actor told) x (has_kept (λ (y : AnsweredLine). is_same x.actor y.actor) (answers_of told) I.k (with_answer line Done) I.below (is_same_self x.actor)))
 
         theirs : List Line
-        theirs = take ((stays_whole z lines start ss is_start legal).answered_count x.actor) (lines_of x.actor lines)
+        theirs = take (answered_in z (run mmu start ss) x.actor) (lines_of x.actor lines)
 
         L : IsImage (λ (l : Line). l.number) theirs line.number line
         L = of_image (λ (l : Line). l.number) theirs line.number line (subst (λ (ns : List ℕ). Contains ns line.number) ((stays_whole z lines start ss is_start legal).answered x.actor) by_it)

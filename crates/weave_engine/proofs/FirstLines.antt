@@ -12,7 +12,7 @@ use Rattle.core_views.specs.Sizes.{actors_of}
 use Rattle.mmu_core.specs.Enabled.{mmu}
 use Rattle.mmu_core.specs.Machine.{World, hand_in}
 use Rattle.mmu_core.specs.Steps.{has_line, next_line}
-use Rattle.weave_engine.specs.Turning.{HasLine, HasNoLine}
+use Rattle.weave_engine.specs.Turning.{HasLineLeft, HasNoLineLeft}
 use Rattle.weave_engine.specs.Weaves.{FirstOpen, earlier_of}
 
 -- the next line of a hand, if it has one
@@ -23,13 +23,13 @@ open_next h = slice_get h.lines (length h.answers)
 pub record IsFirstBefore (w : World Held) (count : ℕ) (line : Line) : Type 0 where
   pub actor : ℕ
   pub before : actor < count
-  pub left : HasLine actor w
+  pub left : HasLineLeft actor w
   pub is : next_line (hand_in mmu w actor) ≡ line
-  pub first : (i : ℕ) → i < count → HasLine i w → line.number ≤ (next_line (hand_in mmu w i)).number
+  pub first : (i : ℕ) → i < count → HasLineLeft i w → line.number ≤ (next_line (hand_in mmu w i)).number
 
 abbrev pub FirstBefore : World Held → ℕ → Option Line → Type 0
 FirstBefore w count (Some line) = IsFirstBefore w count line
-FirstBefore w count None = (i : ℕ) → i < count → HasNoLine i w
+FirstBefore w count None = (i : ℕ) → i < count → HasNoLineLeft i w
 
 pub none_before : (w : World Held) → FirstBefore w 0 None
 none_before w i lt = absurd (omega (arith, lt))
@@ -56,7 +56,7 @@ same_or_before i count lt = by (nat_lt i count) refl
     by true e = inr (grind (arith, nat_tests))
     by false e = inl (grind (arith, nat_tests))
 
-pub absurd_line : (w : World Held) (i : ℕ) → HasLine i w → HasNoLine i w → ⊥
+pub absurd_line : (w : World Held) (i : ℕ) → HasLineLeft i w → HasNoLineLeft i w → ⊥
 absurd_line w i has none = let e : true ≡ false = sym has ∙ none in cc e
 
 -- One actor more was looked at.
@@ -66,20 +66,20 @@ looks_at w count first F = by first (open_next (hand_in mmu w count)) refl F
     by : (first next : Option Line) → open_next (hand_in mmu w count) ≡ next → FirstBefore w count first → FirstBefore w (count + 1) (earlier_of first next)
     by None None is F = λ i lt. at i (same_or_before i count lt)
       where
-        at : (i : ℕ) → (i ≡ count) ⊎ (i < count) → HasNoLine i w
-        at i (inl e) = subst (λ (n : ℕ). HasNoLine n w) (sym e) (no_next (hand_in mmu w count) is)
+        at : (i : ℕ) → (i ≡ count) ⊎ (i < count) → HasNoLineLeft i w
+        at i (inl e) = subst (λ (n : ℕ). HasNoLineLeft n w) (sym e) (no_next (hand_in mmu w count) is)
         at i (inr lt) = F i lt
     by None (Some other) is F =
         let N = has_next (hand_in mmu w count) other is in
         record { actor = count; before = omega arith; left = N.0; is = N.1; first = λ i lt has. at i (same_or_before i count lt) has N.1 }
       where
-        at : (i : ℕ) → (i ≡ count) ⊎ (i < count) → HasLine i w → next_line (hand_in mmu w count) ≡ other → other.number ≤ (next_line (hand_in mmu w i)).number
+        at : (i : ℕ) → (i ≡ count) ⊎ (i < count) → HasLineLeft i w → next_line (hand_in mmu w count) ≡ other → other.number ≤ (next_line (hand_in mmu w i)).number
         at i (inl e) has same = let n : (next_line (hand_in mmu w i)).number ≡ other.number = ap (λ (n : ℕ). (next_line (hand_in mmu w n)).number) e ∙ ap (λ (l : Line). l.number) same in omega (arith, n)
         at i (inr lt) has same = absurd (absurd_line w i has (F i lt))
     by (Some line) None is F = record { actor = F.actor; before = let b = F.before in omega (arith, b); left = F.left; is = F.is; first = λ i lt has. at i (same_or_before i count lt) has }
       where
-        at : (i : ℕ) → (i ≡ count) ⊎ (i < count) → HasLine i w → line.number ≤ (next_line (hand_in mmu w i)).number
-        at i (inl e) has = absurd (absurd_line w count (subst (λ (n : ℕ). HasLine n w) e has) (no_next (hand_in mmu w count) is))
+        at : (i : ℕ) → (i ≡ count) ⊎ (i < count) → HasLineLeft i w → line.number ≤ (next_line (hand_in mmu w i)).number
+        at i (inl e) has = absurd (absurd_line w count (subst (λ (n : ℕ). HasLineLeft n w) e has) (no_next (hand_in mmu w count) is))
         at i (inr lt) has = F.first i lt has
     by (Some line) (Some other) is F = pick (nat_lt other.number line.number) refl
       where
@@ -95,7 +95,7 @@ looks_at w count first F = by first (open_next (hand_in mmu w count)) refl F
             less : other.number < line.number
             less = grind (arith, nat_tests)
 
-            at : (i : ℕ) → (i ≡ count) ⊎ (i < count) → HasLine i w → other.number ≤ (next_line (hand_in mmu w i)).number
+            at : (i : ℕ) → (i ≡ count) ⊎ (i < count) → HasLineLeft i w → other.number ≤ (next_line (hand_in mmu w i)).number
             at i (inl e) has = let n = of_other i e in omega (arith, n)
             at i (inr lt) has = let l = less in let f = F.first i lt has in omega (arith, l, f)
         pick false e = record { actor = F.actor; before = let b = F.before in omega (arith, b); left = F.left; is = F.is; first = λ i lt has. at i (same_or_before i count lt) has }
@@ -103,7 +103,7 @@ looks_at w count first F = by first (open_next (hand_in mmu w count)) refl F
             least : line.number ≤ other.number
             least = grind (arith, nat_tests)
 
-            at : (i : ℕ) → (i ≡ count) ⊎ (i < count) → HasLine i w → line.number ≤ (next_line (hand_in mmu w i)).number
+            at : (i : ℕ) → (i ≡ count) ⊎ (i < count) → HasLineLeft i w → line.number ≤ (next_line (hand_in mmu w i)).number
             at i (inl e) has = let n = of_other i e in let l = least in omega (arith, n, l)
             at i (inr lt) has = F.first i lt has
 

@@ -13,7 +13,7 @@ use Rattle.mmu_core.specs.Steps.{has_line}
 use Rattle.mmu_core.proofs.Which.{is_next}
 use Rattle.tdp_io.specs.declared.sink.Stop.{Stop}
 use Rattle.weave_engine.specs.Turned.{Comes, MakesTurn, PutsRun, PutsTurn, next_code_in}
-use Rattle.weave_engine.specs.Turning.{HasNoLine, IsOpenEnded, RunsBy, RunsBySoFar, ends_item, names_kind, stops}
+use Rattle.weave_engine.specs.Turning.{HasNoLineLeft, IsOpenEnded, RunsBy, RunsBySoFar, ends_item, names_kind, stops}
 use Rattle.weave_engine.specs.Writes.{Buffers}
 use Rattle.weave_engine.specs.declared.turning.Turned.{Turned}
 use Rattle.weave_engine.specs.declared.turning.Turned.TheVariants.{NoLine, Went, Stopped}
@@ -43,8 +43,8 @@ pub nothing_more : (P : World Held → List (Step Kind) → Type 0) (w t u : Wor
 nothing_more P w t u before here after waited waits more F same put =
     so_far_then P P w t u before here after waited waits more [] [] F (subst (λ (x : World Held). Comes t [] x []) (sym same) (comes_none t)) put (subst (P w) (sym (append-nil F.steps)) F.holds)
 
-no_line_there : (P : World Held → List (Step Kind) → Type 0) (actor : ℕ) (w t : World Held) (before here : Option (List ℕ)) (waited waits : List ℕ) (F : SoFar P w t before here waited waits) → HasNoLine actor t → HasNoLine actor (run mmu w F.steps)
-no_line_there P actor w t before here waited waits F none = subst (λ (x : World Held). HasNoLine actor x) (sym F.comes.ends) none
+no_line_there : (P : World Held → List (Step Kind) → Type 0) (actor : ℕ) (w t : World Held) (before here : Option (List ℕ)) (waited waits : List ℕ) (F : SoFar P w t before here waited waits) → HasNoLineLeft actor t → HasNoLineLeft actor (run mmu w F.steps)
+no_line_there P actor w t before here waited waits F none = subst (λ (x : World Held). HasNoLineLeft actor x) (sym F.comes.ends) none
 
 -- So many turns: one more of them.
 module _ (count actor made : ℕ) (w t u : World Held) (before here after : Option (List ℕ)) (waited waits more : List ℕ) (F : SoFar (TurnsMade actor made) w t before here waited waits) where
@@ -60,10 +60,10 @@ module _ (count actor made : ℕ) (w t u : World Held) (before here after : Opti
       puts_stopped_at (TurnsMade actor made) (RunsBy (Turns count) actor) (RunsBySoFar (Turns count) actor) w t u before here after waited waits more stop actor bytes F M answers prefix
       (counted_so_far count actor (made + 1) w (F.steps ++ M.step ∷ []) (omega (arith, lt)) (one_more_made actor made w F.steps M.step F.holds (turn_there (TurnsMade actor made) w t u before here waited waits actor true bytes F M).0))
 
-  pub count_ends : made ≤ count → (made ≡ count) ⊎ HasNoLine actor t → PutsRun (RunsBy (Turns count) actor) (RunsBySoFar (Turns count) actor) w t before here waited waits (Ok tt)
+  pub count_ends : made ≤ count → (made ≡ count) ⊎ HasNoLineLeft actor t → PutsRun (RunsBy (Turns count) actor) (RunsBySoFar (Turns count) actor) w t before here waited waits (Ok tt)
   count_ends le over = puts_all (TurnsMade actor made) (RunsBy (Turns count) actor) (RunsBySoFar (Turns count) actor) w t before here waited waits F (counted count actor made w F.steps le (by over) F.holds)
     where
-      by : (made ≡ count) ⊎ HasNoLine actor t → (made ≡ count) ⊎ HasNoLine actor (run mmu w F.steps)
+      by : (made ≡ count) ⊎ HasNoLineLeft actor t → (made ≡ count) ⊎ HasNoLineLeft actor (run mmu w F.steps)
       by (inl e) = inl e
       by (inr none) = inr (no_line_there (TurnsMade actor made) actor w t before here waited waits F none)
 
@@ -115,13 +115,13 @@ module _ (until : Until) (actor : ℕ) (w t u : World Held) (before here after :
       or_true true = refl
       or_true false = refl
 
-  ends_lineless : HasNoLine actor t → u ≡ t → Buffers here after waits more (Ok tt) [] → PutsRun (RunsBy until actor) (RunsBySoFar until actor) w u before after waited more (Ok tt)
+  ends_lineless : HasNoLineLeft actor t → u ≡ t → Buffers here after waits more (Ok tt) [] → PutsRun (RunsBy until actor) (RunsBySoFar until actor) w u before after waited more (Ok tt)
   ends_lineless none same put =
       let G = nothing_more (TurnsGoOn until actor) w t u before here after waited waits more F same put in
       puts_all (TurnsGoOn until actor) (RunsBy until actor) (RunsBySoFar until actor) w u before after waited more G
       (record {
         so_far = goes_on_so_far until actor w G.steps open_ G.holds;
-        over = over_open until actor w G.steps open_ (inr (no_line_there (TurnsGoOn until actor) actor w u before after waited more G (subst (λ (x : World Held). HasNoLine actor x) (sym same) none)));
+        over = over_open until actor w G.steps open_ (inr (no_line_there (TurnsGoOn until actor) actor w u before after waited more G (subst (λ (x : World Held). HasNoLineLeft actor x) (sym same) none)));
       })
 
   pub until_stops : (stop : Stop) → PutsTurn actor t u here after waits more (Err stop) → PutsRun (RunsBy until actor) (RunsBySoFar until actor) w u before after waited more (Err stop)

@@ -20,3 +20,4 @@ pub mod WovenLaws
 pub mod WeaveEnds
 pub mod Nearer
 pub mod Outputs
+pub mod StarvedScans

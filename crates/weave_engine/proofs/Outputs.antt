@@ -1,5 +1,5 @@
 -- What the replay of a trace prints, from the lines that ran: lawful, whole, and flat where the pool is large enough.
-use Rattle.std.proofs.Common.{◌≡◌, ◌≢◌, ◌<◌, ◌≤◌, inl, ℕ, List, [], ◌∷◌, ◌++◌, Result, Ok, Err, length, take, refl, sym, ap, subst, ◌∙◌}
+use Rattle.std.proofs.Common.{◌≡◌, ◌≢◌, ◌<◌, ◌≤◌, arith, inl, ℕ, List, [], ◌∷◌, ◌++◌, Result, Ok, Err, length, take, refl, sym, ap, subst, ◌∙◌}
 use Rattle.std.proofs.Math.Seq.{take-length}
 use Rattle.std.specs.declared.option.Option.{Option}
 use Rattle.std.specs.Prelude.{Some, None}
@@ -46,7 +46,7 @@ use Rattle.weave_engine.specs.declared.ran.How.{How}
 use Rattle.weave_engine.specs.declared.ran.How.TheVariants.{Done, WriteFault}
 use Rattle.weave_engine.proofs.Fed.{fed_append}
 use Rattle.weave_engine.proofs.LinesRun.{between_at_start, ran_first}
-use Rattle.weave_engine.proofs.Writes.{ends, none_put, so_far_prefix}
+use Rattle.weave_engine.proofs.Writes.{WroteMost, ends_most, none_put, so_far_most}
 
 -- Lines that run alone, behind steps from a trace's start, aren't starved where the pool has as many pages as the trace needs.
 module _ (trace : Trace) (start : World Held) (is_start : IsStart (sizes_of trace.header) trace.lines start) (enough : need trace.header trace.lines ≤ trace.header.pool) where
@@ -100,7 +100,7 @@ writes_none trace before good =
     let z : Sizes = sizes_of trace.header in
     let made = a_start z trace.lines (header_sizes trace.header good.header) good.lines good.distinct in
     let none = ran_first z trace.lines 0 made.0 made.0 [] (between_at_start z trace.lines made.0 made.1) in
-    (made.0, ([], inl (0, replays trace (take 0 trace.lines) made.0 made.0 [] made.1 none.0 none.1, tt), so_far_prefix before before [] [] (none_put before [])))
+    (made.0, ([], inl (0, replays trace (take 0 trace.lines) made.0 made.0 [] made.1 none.0 none.1, tt), so_far_most before before [] [] (none_put before [] (omega arith))))
 
 -- It stopped behind some of the lines.
 stopped_replay : (trace : Trace) (count : ℕ) (start end_ : World Held) (stop : Stop) → IsStart (sizes_of trace.header) trace.lines start → (r : RunsLines (sizes_of trace.header) start (take count trace.lines) end_) → MayStop stop start r.steps
@@ -123,7 +123,7 @@ writes_first trace z lines count start end_ before after waited waits stop sizes
 
 -- All lines ran, and what waits is written, or a prefix of it.
 pub writes_all : (trace : Trace) (z : Sizes) (lines : List Line) (count : ℕ) (start end_ : World Held) (before here after : Option (List ℕ)) (waited waits piece : List ℕ) (r : Result (Unit {0}) Stop) → z ≡ sizes_of trace.header → lines ≡ trace.lines → count ≡ length lines → waited ≡ []
-    → IsStart (sizes_of trace.header) trace.lines start → RunsAndPuts z start lines count end_ before here waited waits (Ok tt) → piece ≡ waits → Wrote here after r piece → (bytes : List ℕ) × Replays trace trace.lines bytes end_ × Wrote before after r bytes
+    → IsStart (sizes_of trace.header) trace.lines start → RunsAndPuts z start lines count end_ before here waited waits (Ok tt) → piece ≡ waits → Wrote here after r piece → (bytes : List ℕ) × Replays trace trace.lines bytes end_ × WroteMost before after r bytes
 writes_all trace z lines count start end_ before here after waited waits piece r sizes are whole none is_start puts same wrote =
     let of_trace : RunsAndPuts (sizes_of trace.header) start trace.lines count end_ before here [] waits (Ok tt) =
     subst (λ (w : List ℕ). RunsAndPuts (sizes_of trace.header) start trace.lines count end_ before here w waits (Ok tt)) none
@@ -135,8 +135,8 @@ writes_all trace z lines count start end_ before here after waited waits piece r
     Put : List Line → Type 0
     Put ls = (ran : RunsLines (sizes_of trace.header) start ls end_) × Buffers before here [] waits (Ok tt) (text (history start ran.steps))
 
-    all : Put trace.lines → (bytes : List ℕ) × Replays trace trace.lines bytes end_ × Wrote before after r bytes
-    all (ran, put) = (text (history start ran.steps), replays trace trace.lines start end_ (text (history start ran.steps)) is_start ran refl, ends before here after waits (text (history start ran.steps)) r put (subst (Wrote here after r) same wrote))
+    all : Put trace.lines → (bytes : List ℕ) × Replays trace trace.lines bytes end_ × WroteMost before after r bytes
+    all (ran, put) = (text (history start ran.steps), replays trace trace.lines start end_ (text (history start ran.steps)) is_start ran refl, ends_most before here after waits (text (history start ran.steps)) r put (subst (Wrote here after r) same wrote))
 
 -- How a replay ended says what it wrote.
 module _ (trace : Trace) (closing : World Held) (before after : Option (List ℕ)) where

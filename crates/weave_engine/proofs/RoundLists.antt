@@ -11,7 +11,7 @@ use Rattle.mmu_core.specs.Enabled.{mmu}
 use Rattle.mmu_core.specs.Machine.{Step, World, run}
 use Rattle.tdp_io.specs.declared.sink.Stop.{Stop}
 use Rattle.weave_engine.specs.Turned.{MakesTurn, PutsRun, PutsTurn}
-use Rattle.weave_engine.specs.Turning.{AllAnswered, HasLine, HasNoLine, IsNextInRound, IsNextPlace, RunsRounds, place_behind}
+use Rattle.weave_engine.specs.Turning.{AllAnswered, HasLineLeft, HasNoLineLeft, IsNextInRound, IsNextPlace, RunsRounds, place_behind}
 use Rattle.weave_engine.specs.Weaves.{RunsAllRounds, RunsSomeRounds}
 use Rattle.weave_engine.specs.Writes.{Buffers}
 use Rattle.weave_engine.proofs.Coming.{SoFar, puts_all, puts_stopped, puts_stopped_at, so_far_then, turn_there}
@@ -24,7 +24,7 @@ pub record InRounds (z : Sizes) (index passed made : ℕ) (w : World Held) (ss :
   pub rounds : RunsRounds z 0 first w ss
   pub first_within : first ≤ actors_of z
   pub at : passed < actors_of z → index ≡ place_behind (actors_of z) first passed
-  pub none_left : (i : ℕ) → i < passed → HasNoLine (place_behind (actors_of z) first i) (run mmu w ss)
+  pub none_left : (i : ℕ) → i < passed → HasNoLineLeft (place_behind (actors_of z) first i) (run mmu w ss)
   pub count : length ss ≡ made
 
 less : (a b : ℕ) → a < b → nat_lt a b ≡ true
@@ -91,7 +91,7 @@ module _ (z : Sizes) (index passed made next : ℕ) (w t u : World Held) (before
   index_within = subst (λ (n : ℕ). n < actors_of z) (sym (F.holds.at some)) (place_within (actors_of z) F.holds.first passed F.holds.first_within some)
 
   -- One actor more has no line left.
-  pub passes : IsNextPlace (actors_of z) index next → HasNoLine index t → u ≡ t → Buffers here after waits more (Ok tt) [] → SoFar (InRounds z next (passed + 1) made) w u before after waited more
+  pub passes : IsNextPlace (actors_of z) index next → HasNoLineLeft index t → u ≡ t → Buffers here after waits more (Ok tt) [] → SoFar (InRounds z next (passed + 1) made) w u before after waited more
   passes step none same put =
       let G : SoFar (InRounds z index passed made) w u before after waited more = nothing_more (InRounds z index passed made) w t u before here after waited waits more F same put in
       record {
@@ -109,15 +109,15 @@ module _ (z : Sizes) (index passed made next : ℕ) (w t u : World Held) (before
         put = G.put;
       }
     where
-      none_there : (G : SoFar (InRounds z index passed made) w u before after waited more) (i : ℕ) → i < passed + 1 → HasNoLine (place_behind (actors_of z) G.holds.first i) (run mmu w G.steps)
+      none_there : (G : SoFar (InRounds z index passed made) w u before after waited more) (i : ℕ) → i < passed + 1 → HasNoLineLeft (place_behind (actors_of z) G.holds.first i) (run mmu w G.steps)
       none_there G i lt = by (nat_lt i passed) refl
         where
-          by : (b : Bool) → nat_lt i passed ≡ b → HasNoLine (place_behind (actors_of z) G.holds.first i) (run mmu w G.steps)
+          by : (b : Bool) → nat_lt i passed ≡ b → HasNoLineLeft (place_behind (actors_of z) G.holds.first i) (run mmu w G.steps)
           by true e = G.holds.none_left i (grind (arith, nat_tests))
           by false e =
               let is : passed ≡ i = grind (arith, nat_tests) in
-              subst (λ (n : ℕ). HasNoLine (place_behind (actors_of z) G.holds.first n) (run mmu w G.steps)) is
-              (subst (λ (n : ℕ). HasNoLine n (run mmu w G.steps)) (G.holds.at some) (subst (λ (x : World Held). HasNoLine index x) (sym (G.comes.ends ∙ same)) none))
+              subst (λ (n : ℕ). HasNoLineLeft (place_behind (actors_of z) G.holds.first n) (run mmu w G.steps)) is
+              (subst (λ (n : ℕ). HasNoLineLeft n (run mmu w G.steps)) (G.holds.at some) (subst (λ (x : World Held). HasNoLineLeft index x) (sym (G.comes.ends ∙ same)) none))
 
   -- its turn, in the round
   in_round : (stop : Bool) (bytes : List ℕ) (M : MakesTurn index t u stop bytes) → IsNextInRound z F.holds.first (run mmu w F.steps) M.step
@@ -127,7 +127,7 @@ module _ (z : Sizes) (index passed made next : ℕ) (w t u : World Held) (before
         far = passed;
         within = some;
         is = there.own ∙ F.holds.at some;
-        left = subst (λ (a : ℕ). HasLine a (run mmu w F.steps)) (sym there.own) there.left;
+        left = subst (λ (a : ℕ). HasLineLeft a (run mmu w F.steps)) (sym there.own) there.left;
         passed = F.holds.none_left;
       }
 
@@ -170,20 +170,20 @@ rounds_over z limit index passed made w t before here waited waits F few over =
     H = F.holds
 
     -- which of those passed an actor is
-    which : (i : ℕ) → i < actors_of z → actors_of z ≤ passed → HasNoLine i (run mmu w F.steps)
+    which : (i : ℕ) → i < actors_of z → actors_of z ≤ passed → HasNoLineLeft i (run mmu w F.steps)
     which i lt all = by (nat_lt i H.first) refl
       where
-        by : (b : Bool) → nat_lt i H.first ≡ b → HasNoLine i (run mmu w F.steps)
+        by : (b : Bool) → nat_lt i H.first ≡ b → HasNoLineLeft i (run mmu w F.steps)
         by true e =
             let before_ : i < H.first = grind (arith, nat_tests) in
             let within = H.first_within in
             let far : ℕ = i + actors_of z - H.first in
             let is : place_behind (actors_of z) H.first far ≡ i = let r = place_round (actors_of z) H.first far (omega (arith, before_, within)) in omega (arith, r, before_, within) in
-            subst (λ (n : ℕ). HasNoLine n (run mmu w F.steps)) is (H.none_left far (omega (arith, before_, within, all)))
+            subst (λ (n : ℕ). HasNoLineLeft n (run mmu w F.steps)) is (H.none_left far (omega (arith, before_, within, all)))
         by false e =
             let behind : H.first ≤ i = grind (arith, nat_tests) in
             let is : place_behind (actors_of z) H.first (i - H.first) ≡ i = let r = place_of (actors_of z) H.first (i - H.first) (omega (arith, behind, lt)) in omega (arith, r, behind) in
-            subst (λ (n : ℕ). HasNoLine n (run mmu w F.steps)) is (H.none_left (i - H.first) (omega (arith, behind, lt, all)))
+            subst (λ (n : ℕ). HasNoLineLeft n (run mmu w F.steps)) is (H.none_left (i - H.first) (omega (arith, behind, lt, all)))
 
     by : (m p : Bool) → nat_lt made limit ≡ m → nat_lt passed (actors_of z) ≡ p → (length F.steps ≡ limit) ⊎ AllAnswered z (run mmu w F.steps)
     by false p e f = inl (let c = H.count in let ge : limit ≤ made = grind (arith, nat_tests) in omega (arith, c, ge, few))

@@ -8,7 +8,7 @@ use Rattle.core_views.specs.declared.trace.Until.TheVariants.{Turns}
 use Rattle.core_views.specs.Held.{Held}
 use Rattle.mmu_core.specs.Enabled.{mmu}
 use Rattle.mmu_core.specs.Machine.{Step, World, effect, run}
-use Rattle.weave_engine.specs.Turning.{AreTurns, HasNoLine, IsNextInRound, IsOpenEnded, IsOver, IsTurn, IsWithin, LastEnds, NoneEndsBefore, RunsBy, RunsBySoFar, RunsRounds, ends_item}
+use Rattle.weave_engine.specs.Turning.{AreTurns, HasNoLineLeft, IsNextInRound, IsOpenEnded, IsOver, IsTurn, IsWithin, LastEnds, NoneEndsBefore, RunsBy, RunsBySoFar, RunsRounds, ends_item}
 
 pub turns_more : (actor : ℕ) (w : World Held) (ss : List (Step Kind)) (s : Step Kind) → AreTurns actor w ss → IsTurn actor (run mmu w ss) s → AreTurns actor w (ss ++ s ∷ [])
 turns_more actor w [] s all turn = (turn, tt)
@@ -59,10 +59,10 @@ one_more_made actor made w ss s M turn = record { turns = turns_more actor w ss 
 pub counted_so_far : (count actor made : ℕ) (w : World Held) (ss : List (Step Kind)) → made ≤ count → TurnsMade actor made w ss → RunsBySoFar (Turns count) actor w ss
 counted_so_far count actor made w ss le M = record { turns = M.turns; none_ends = none_before (Turns count) w ss (count_ends_none count w ss); within = omega (arith, le, M.count) }
 
-pub counted : (count actor made : ℕ) (w : World Held) (ss : List (Step Kind)) → made ≤ count → (made ≡ count) ⊎ HasNoLine actor (run mmu w ss) → TurnsMade actor made w ss → RunsBy (Turns count) actor w ss
+pub counted : (count actor made : ℕ) (w : World Held) (ss : List (Step Kind)) → made ≤ count → (made ≡ count) ⊎ HasNoLineLeft actor (run mmu w ss) → TurnsMade actor made w ss → RunsBy (Turns count) actor w ss
 counted count actor made w ss le over M = record { so_far = counted_so_far count actor made w ss le M; over = by over }
   where
-    by : (made ≡ count) ⊎ HasNoLine actor (run mmu w ss) → (length ss ≡ count) ⊎ HasNoLine actor (run mmu w ss)
+    by : (made ≡ count) ⊎ HasNoLineLeft actor (run mmu w ss) → (length ss ≡ count) ⊎ HasNoLineLeft actor (run mmu w ss)
     by (inl e) = inl (M.count ∙ e)
     by (inr e) = inr e
 
@@ -87,6 +87,6 @@ goes_on_so_far until actor w ss open_ M = record { turns = M.turns; none_ends = 
 pub last_so_far : (until : Until) (actor : ℕ) (w : World Held) (ss : List (Step Kind)) (s : Step Kind) → IsOpenEnded until → TurnsGoOn until actor w ss → IsTurn actor (run mmu w ss) s → RunsBySoFar until actor w (ss ++ s ∷ [])
 last_so_far until actor w ss s open_ M turn = record { turns = turns_more actor w ss s M.turns turn; none_ends = last_before until w ss s M.none; within = open_within until (ss ++ s ∷ []) open_ }
 
-pub over_open : (until : Until) (actor : ℕ) (w : World Held) (ss : List (Step Kind)) → IsOpenEnded until → LastEnds until w ss ⊎ HasNoLine actor (run mmu w ss) → IsOver until actor w ss
+pub over_open : (until : Until) (actor : ℕ) (w : World Held) (ss : List (Step Kind)) → IsOpenEnded until → LastEnds until w ss ⊎ HasNoLineLeft actor (run mmu w ss) → IsOver until actor w ss
 over_open (Turns count) actor w ss open_ over = absurd open_
 over_open _ actor w ss open_ over = over

@@ -1,5 +1,5 @@
 -- A turn on the machine is one step of the actor's line.
-use Rattle.std.proofs.Common.{◌≡◌, ◌<◌, ◌⊎◌, inl, inr, ℕ, List, [], ◌∷◌, Ok, Err, length, refl, sym, ap, subst, ◌∙◌, arith}
+use Rattle.std.proofs.Common.{◌≡◌, ◌<◌, ◌≤◌, ◌⊎◌, inl, inr, ℕ, List, [], ◌∷◌, Ok, Err, length, refl, sym, ap, subst, ◌∙◌, arith}
 use Rattle.std.proofs.Math.Logic.{∥∥₁_elim}
 use Rattle.std.proofs.Props.{props}
 use Rattle.std.proofs.KnownBytes.{Appends-nil}
@@ -36,12 +36,14 @@ use Rattle.step_seats.specs.declared.turn.Turn.TheVariants.{Done, Retry, Wait}
 use Rattle.tdp_io.specs.declared.sink.Stop.{Stop}
 use Rattle.step_seats.specs.LineTurns.{TurnsLine, line_turn}
 use Rattle.step_seats.proofs.LineTurns.{EndsSo, GoesSo, line_case}
+use Rattle.weave_engine.specs.Pieces.{most_waiting}
 use Rattle.weave_engine.specs.Turned.{AnswersBy, Comes, IsTurnOf, MakesTurn, PutsTurn, TurnedOn, TurnedTold, is_stop, next_code_in, open_line, turn_text}
 use Rattle.weave_engine.specs.Writes.{Buffers}
 use Rattle.weave_engine.specs.declared.turning.Turned.TheVariants.{Stopped}
 use Rattle.weave_engine.specs.Turning.{AnswersLine, is_ended}
 use Rattle.weave_engine.specs.declared.turning.TurnMade.{TurnMade}
 use Rattle.weave_engine.proofs.TurnEnds.{turn_is}
+use Rattle.weave_engine.proofs.Writes.{few_last}
 
 -- which line is open
 pub open_is : (h : Held) (line : Line) → open_line h ≡ Some line → (has_line h ≡ true) × (line ≡ line_of h)
@@ -125,8 +127,8 @@ answers_line made actor w t answer is T =
 
 -- What such a turn puts, where the writing stops.
 pub stops_done : (made : TurnMade) (actor : ℕ) (w t : World Held) (answer : Answer) (before after : Option (List ℕ)) (waited waits : List ℕ) (stop : Stop) → made.turn ≡ Done answer → TurnedOn (Some made) actor w t
-    → Buffers before after waited waits (Err stop) (line_text made.number made.actor answer) → PutsTurn actor w t before after waited waits (Err stop)
-stops_done made actor w t answer before after waited waits stop is T prefix =
+    → length waited ≤ most_waiting → Buffers before after waited waits (Err stop) (line_text made.number made.actor answer) → PutsTurn actor w t before after waited waits (Err stop)
+stops_done made actor w t answer before after waited waits stop is T few prefix =
     at (turn_text made.number made.actor made.turn) (ap (λ (x : Turn Answer). turn_text made.number made.actor x) is) (is_stop made.turn) (ap is_stop is) T.makes (answers_line made actor w t answer is T)
   where
     at : (bytes : List ℕ) → bytes ≡ line_text made.number made.actor answer → (stopped : Bool) → stopped ≡ true → (M : MakesTurn actor w t stopped bytes) → AnswersLine w M.step → PutsTurn actor w t before after waited waits (Err stop)
@@ -134,16 +136,16 @@ stops_done made actor w t answer before after waited waits stop is T prefix =
       line_text made.number made.actor answer,
       record { step = M.step; turn = M.turn; stops_ = M.stops_ ∙ stops_; comes = subst (λ (x : List ℕ). Comes w (M.step ∷ []) t x) same M.comes },
       A,
-      prefix,
+      few_last before after waited (line_text made.number made.actor answer) few (inr (inl (made.number, made.actor, answer, refl))) prefix,
     )
 
 -- A turn that waits, or begins anew, puts nothing.
-pub puts_waiting : (made : TurnMade) (actor : ℕ) (w t : World Held) (written : Option (List ℕ)) (waited : List ℕ) → ((seen : Seen) × (made.turn ≡ Wait seen)) ⊎ ((cause : Cause) × (made.turn ≡ Retry cause)) → TurnedOn (Some made) actor w t
+pub puts_waiting : (made : TurnMade) (actor : ℕ) (w t : World Held) (written : Option (List ℕ)) (waited : List ℕ) → length waited ≤ most_waiting → ((seen : Seen) × (made.turn ≡ Wait seen)) ⊎ ((cause : Cause) × (made.turn ≡ Retry cause)) → TurnedOn (Some made) actor w t
     → PutsTurn actor w t written written waited waited (Ok Stopped)
-puts_waiting made actor w t written waited (inl (seen, is)) T =
-    ([], subst (λ (x : Turn Answer). MakesTurn actor w t (is_stop x) (turn_text made.number made.actor x)) is T.makes, ([], Appends-nil written, sym (append-nil waited)))
-puts_waiting made actor w t written waited (inr (cause, is)) T =
-    ([], subst (λ (x : Turn Answer). MakesTurn actor w t (is_stop x) (turn_text made.number made.actor x)) is T.makes, ([], Appends-nil written, sym (append-nil waited)))
+puts_waiting made actor w t written waited few (inl (seen, is)) T =
+    ([], subst (λ (x : Turn Answer). MakesTurn actor w t (is_stop x) (turn_text made.number made.actor x)) is T.makes, ([], Appends-nil written, sym (append-nil waited), few))
+puts_waiting made actor w t written waited few (inr (cause, is)) T =
+    ([], subst (λ (x : Turn Answer). MakesTurn actor w t (is_stop x) (turn_text made.number made.actor x)) is T.makes, ([], Appends-nil written, sym (append-nil waited), few))
 
 -- The turn of a seat, in the world that it tells.
 pub turned_told : (actor : ℕ) (h g : Held) (told tells : Told) (line : Line) (whose : Actor) (turn : Turn Answer) → IfSome told.world (HasHand actor h) → open_line h ≡ Some line → whose ≡ h.state.actor → TurnsLine turn actor h g told tells

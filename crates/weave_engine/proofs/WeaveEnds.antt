@@ -1,15 +1,15 @@
 -- How a weave ended says what it wrote.
-use Rattle.std.proofs.Common.{◌≡◌, ℕ, List, Ok, Err, Result, refl, subst}
+use Rattle.std.proofs.Common.{◌≡◌, ℕ, List, Ok, Err, Result, ap, false, refl, subst}
 use Rattle.std.specs.Prelude.{Some, None}
 use Rattle.std.specs.declared.option.Option.{Option}
 use Rattle.core_views.specs.declared.trace.Line.{Line}
 use Rattle.core_views.specs.declared.trace.Trace.{Trace}
 use Rattle.core_views.specs.Held.{Held}
 use Rattle.mmu_core.specs.Machine.{World}
-use Rattle.tdp_io.specs.Ends.{WroteFaults}
+use Rattle.tdp_io.specs.Ends.{WroteFaults, is_failed}
 use Rattle.tdp_io.specs.declared.sink.Stop.{Stop}
 use Rattle.tdp_io.specs.declared.sink.Stop.TheVariants.{Failed, NoMemory}
-use Rattle.weave_engine.specs.Woven.{RoseBy, WritesBy, WritesUntil, WritesWoven, how_ended}
+use Rattle.weave_engine.specs.Woven.{RoseBy, WritesBy, WritesUntil, WritesWoven, how_ended, is_write_fault}
 use Rattle.weave_engine.specs.declared.ran.How.{How}
 use Rattle.weave_engine.specs.declared.ran.How.TheVariants.{Done, Unfinished, WriteFault}
 
@@ -31,6 +31,18 @@ rose_by before now (Ok None) how is faults = let e : Done ≡ how = cc is in sub
 rose_by before now (Ok (Some line)) how is faults = let e : Unfinished line.actor line.number ≡ how = cc is in subst (RoseBy before now) e faults
 rose_by before now (Err Failed) how is faults = let e : WriteFault ≡ how = cc is in subst (RoseBy before now) e faults
 rose_by before now (Err NoMemory) how is faults = absurd (cc is)
+
+pub failed_by : (came : Result (Option Line) Stop) (how : How) → how_ended came ≡ Some how → is_failed came ≡ is_write_fault how
+failed_by (Ok None) how is = let e : Done ≡ how = cc is in ap is_write_fault e
+failed_by (Ok (Some line)) how is = let e : Unfinished line.actor line.number ≡ how = cc is in ap is_write_fault e
+failed_by (Err Failed) how is = let e : WriteFault ≡ how = cc is in ap is_write_fault e
+failed_by (Err NoMemory) how is = absurd (cc is)
+
+pub unfailed_refused : (came : Result (Option Line) Stop) → how_ended came ≡ None → is_failed came ≡ false
+unfailed_refused (Ok None) is = absurd (cc is)
+unfailed_refused (Ok (Some line)) is = absurd (cc is)
+unfailed_refused (Err Failed) is = absurd (cc is)
+unfailed_refused (Err NoMemory) is = refl
 
 pub same_refused : (before now : ℕ) (came : Result (Option Line) Stop) → how_ended came ≡ None → WroteFaults before now came → now ≡ before
 same_refused before now (Ok None) is faults = absurd (cc is)

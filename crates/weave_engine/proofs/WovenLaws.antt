@@ -18,8 +18,10 @@ use Rattle.core_views.specs.Held.{Held}
 use Rattle.core_views.specs.Sizes.{actors_of, sizes_of}
 use Rattle.core_views.specs.Text.{text}
 use Rattle.core_views.specs.Traces.{IsTrace}
+use Rattle.core_views.specs.Whole.{IsWholeSoFar}
 use Rattle.core_views.proofs.HeaderSizes.{header_sizes}
 use Rattle.mmu_core.specs.Enabled.{mmu}
+use Rattle.mmu_core.specs.Histories.{answered_in, begun_in}
 use Rattle.mmu_core.specs.Machine.{Legal, Step, World, hand_in, run}
 use Rattle.mmu_core.specs.Steps.{has_line}
 use Rattle.mmu_core.specs.Worlds.{IsStart, history}
@@ -32,10 +34,11 @@ use Rattle.std.proofs.KnownBytes.{Appends-trans}
 use Rattle.tdp_io.specs.Ends.{AppendsPrefix}
 use Rattle.tdp_io.specs.declared.sink.Stop.{Stop}
 use Rattle.tdp_io.specs.declared.sink.Stop.TheVariants.{NoMemory as Full}
+use Rattle.weave_engine.specs.Pieces.{WritesMost}
 use Rattle.weave_engine.specs.Replays.{RunsLines}
 use Rattle.weave_engine.specs.Turned.{Comes, PutsRun}
-use Rattle.weave_engine.specs.Turning.{AllAnswered, HasNoLine, IsWithin, MayStop, RunsItems, RunsItemsSoFar}
-use Rattle.weave_engine.specs.Weaves.{FirstOpen, Follows, FollowsSoFar, IsFirstOpen, RunsAllRounds, RunsSomeRounds, Weaves, WeavesAll, WeavesPart, WeavesSoFar, lines_above, open_text, unfinished_text}
+use Rattle.weave_engine.specs.Turning.{AllAnswered, HasNoLineLeft, IsWithin, MayStop, RunsItems, RunsItemsSoFar}
+use Rattle.weave_engine.specs.Weaves.{FirstOpen, FollowsBoth, FollowsSoFar, IsFirstOpen, RunsAllRounds, RunsSomeRounds, Weaves, WeavesAll, WeavesPart, WeavesSoFar, lines_above, open_text, unfinished_text}
 use Rattle.weave_engine.specs.Writes.{RunsAndPuts}
 use Rattle.weave_engine.specs.Woven.{WeavesUntil, WritesUntil, WritesWoven}
 use Rattle.weave_engine.proofs.Beside.{turns_delayed}
@@ -44,8 +47,9 @@ use Rattle.weave_engine.proofs.FirstInFile.{first_in_file}
 use Rattle.weave_engine.proofs.FirstLines.{absurd_line}
 use Rattle.weave_engine.proofs.ItemLists.{all_so_far}
 use Rattle.weave_engine.proofs.LinesRun.{between_at_start}
+use Rattle.weave_engine.proofs.StarvedScans.{starved_scan}
 use Rattle.weave_engine.proofs.Stopping.{stops_behind}
-use Rattle.weave_engine.proofs.Writes.{IsPut, ends, goes_on, none_put, so_far_prefix, stops}
+use Rattle.weave_engine.proofs.Writes.{IsPut, ends, few_last, few_waiting, goes_on, none_put, so_far_most, stops, stops_here}
 
 none_within : (until : Until) → IsWithin until []
 none_within (Turns count) = omega arith
@@ -85,7 +89,8 @@ module _ (trace : Trace) (limit : ℕ) (start : World Held) (is_start : IsStart 
     ends = C.ends;
     follows = F;
     lawful = every_history z trace.lines start ss is_start C.legal;
-    whole = stays_whole z trace.lines start ss is_start C.legal;
+    whole = subst (λ (x : World Held). IsWholeSoFar (history start ss) trace.lines (begun_in z x) (answered_in z x)) C.ends (stays_whole z trace.lines start ss is_start C.legal);
+    starved = starved_scan z trace.lines start ss is_start C.legal;
     prints = C.prints;
   }
 
@@ -168,32 +173,32 @@ module _ (trace : Trace) (limit : ℕ) (start : World Held) (is_start : IsStart 
       comes_both t ss bytes C = from_start t (I.0 ++ ss) (I.1 ++ bytes) (comes_then w u t I.0 ss I.1 bytes I.3 C)
 
       -- Turns in rounds follow all lines above `go` and all items.
-      follows : (ss : List (Step Kind)) → RunsSomeRounds z limit u ss → Follows trace limit start (L.0.steps ++ (I.0 ++ ss))
+      follows : (ss : List (Step Kind)) → RunsSomeRounds z limit u ss → FollowsSoFar trace limit start (L.0.steps ++ (I.0 ++ ss))
       follows ss R = record {
-        so_far = record {
-          above = lines_above trace.go;
-          few_above = few_above;
-          behind = w;
-          alone = L.0;
-          scheduled = I.0;
-          rounds = ss;
-          are = refl;
-          items = all_so_far z trace.items w I.0 I.2;
-          after_go = inr refl;
-          in_rounds = subst (λ (x : World Held). RunsSomeRounds z limit x ss) (sym I.3.ends) R;
-          after_items = inr I.2;
-        };
-        all_above = refl;
-        all_items = I.2;
+        above = lines_above trace.go;
+        few_above = few_above;
+        behind = w;
+        alone = L.0;
+        scheduled = I.0;
+        rounds = ss;
+        are = refl;
+        items = all_so_far z trace.items w I.0 I.2;
+        after_go = inr refl;
+        in_rounds = subst (λ (x : World Held). RunsSomeRounds z limit x ss) (sym I.3.ends) R;
+        after_items = inr I.2;
       }
+
+      follows_both : (ss : List (Step Kind)) (R : RunsSomeRounds z limit u ss) → FollowsBoth trace limit start (L.0.steps ++ (I.0 ++ ss)) (follows ss R)
+      unfolding follows
+      follows_both ss R = record { all_above = refl; all_items = I.2 }
 
       -- It stopped in the rounds.
       pub stopped_in_rounds : (t : World Held) (after : Option (List ℕ)) (more : List ℕ) (stop : Stop) → PutsRun (RunsAllRounds z limit) (RunsSomeRounds z limit) u t there after waits_there more (Err stop) → WritesUntil stop trace limit t before after
       stopped_in_rounds t after more stop (ss, bytes, some, C, may, prefix) = (
         printed ++ (I.1 ++ bytes),
-        stops_weaving stop (L.0.steps ++ (I.0 ++ ss)) t (printed ++ (I.1 ++ bytes)) (comes_both t ss bytes C) (follows ss some).so_far
+        stops_weaving stop (L.0.steps ++ (I.0 ++ ss)) t (printed ++ (I.1 ++ bytes)) (comes_both t ss bytes C) (follows ss some)
             (may_stop stop (I.0 ++ ss) (stops_behind stop w I.0 ss (subst (λ (x : World Held). MayStop stop x ss) (sym I.3.ends) may))),
-        subst (AppendsPrefix before after) (append_assoc printed I.1 bytes) (stops before there after waits_there bytes (printed ++ I.1) items_put prefix),
+        subst (WritesMost before after) (append_assoc printed I.1 bytes) (stops before there after waits_there bytes (printed ++ I.1) items_put prefix),
       )
 
       -- The rounds are over.
@@ -212,7 +217,7 @@ module _ (trace : Trace) (limit : ℕ) (start : World Held) (is_start : IsStart 
 
         woven : Weaves trace limit all_text t
         unfolding weaves_so_far
-        woven = record { so_far = weaves_so_far all_steps t all_text all_come (follows R.0 R.2.some).so_far; follows = follows R.0 R.2.some }
+        woven = record { so_far = weaves_so_far all_steps t all_text all_come (follows R.0 R.2.some); follows = follows_both R.0 R.2.some }
 
         -- Each line is answered, and what waits is written, or a prefix of it.
         all_answered : AllAnswered z t → WeavesAll trace limit all_text t
@@ -226,7 +231,7 @@ module _ (trace : Trace) (limit : ℕ) (start : World Held) (is_start : IsStart 
             answered_ : (i : ℕ) → i < actors_of z → length (hand_in mmu (run mmu start all_steps) i).answers ≡ length (hand_in mmu (run mmu start all_steps) i).lines
             answered_ i lt =
                 let few = few_answers z trace.lines start all_steps i is_start all_come.legal lt in
-                let none : HasNoLine i (run mmu start all_steps) = subst (λ (x : World Held). HasNoLine i x) (sym all_come.ends) (all i lt) in
+                let none : HasNoLineLeft i (run mmu start all_steps) = subst (λ (x : World Held). HasNoLineLeft i x) (sym all_come.ends) (all i lt) in
                 no_line_all (hand_in mmu (run mmu start all_steps) i) few none
 
         used_up : IsStrictlyIncreasing (map (λ (l : Line). l.number) trace.lines) → (line : Line) → IsFirstOpen z t line → WeavesPart trace limit all_text t line
@@ -235,13 +240,13 @@ module _ (trace : Trace) (limit : ℕ) (start : World Held) (is_start : IsStart 
           weaves = woven;
           used_up = by R.2.over;
           open_ = open_;
-          delayed = turns_delayed trace limit woven.so_far.start woven.so_far.steps woven.so_far.is_start woven.so_far.legal woven.follows (by R.2.over);
+          delayed = turns_delayed trace limit woven.so_far.start woven.so_far.steps woven.so_far.is_start woven.so_far.legal woven.so_far.follows woven.follows (by R.2.over);
           first_in_file = first_in_file z trace.lines start all_steps is_start all_come.legal up line (subst (λ (x : World Held). IsFirstOpen z x line) (sym all_come.ends) open_);
         }
           where
             by : (length R.0 ≡ limit) ⊎ AllAnswered z (run mmu u R.0) → length R.0 ≡ limit
             by (inl e) = e
-            by (inr all) = absurd (absurd_line t open_.actor open_.left (subst (λ (x : World Held). HasNoLine open_.actor x) R.3.ends (all open_.actor open_.there)))
+            by (inr all) = absurd (absurd_line t open_.actor open_.left (subst (λ (x : World Held). HasNoLineLeft open_.actor x) R.3.ends (all open_.actor open_.there)))
 
         -- All is written: each line is answered, or this is the first that isn't.
         pub ends_open : IsStrictlyIncreasing (map (λ (l : Line). l.number) trace.lines) → (open_ : Option Line) (after : Option (List ℕ)) → FirstOpen z t open_ → Appends at after (waits_at ++ open_text open_) → WritesWoven trace limit t before after (Ok open_)
@@ -253,11 +258,12 @@ module _ (trace : Trace) (limit : ℕ) (start : World Held) (is_start : IsStart 
 
         -- The writing stopped behind all turns.
         pub stops_open : IsStrictlyIncreasing (map (λ (l : Line). l.number) trace.lines) → (stop : Stop) (open_ : Option Line) (after : Option (List ℕ)) → FirstOpen z t open_ → AppendsPrefix at after (waits_at ++ open_text open_) → WritesUntil stop trace limit t before after
-        stops_open up stop None after none wrote = (all_text, inr (inl (all_answered none)), subst (AppendsPrefix before after) (append-nil all_text) (stops before at after waits_at [] all_text all_put wrote))
-        stops_open up stop (Some line) after open_ wrote = (all_text ++ unfinished_text line, inr (inr (all_text, line, used_up up line open_, refl)), stops before at after waits_at (unfinished_text line) all_text all_put wrote)
+        stops_open up stop None after none wrote = (all_text, inr (inl (all_answered none)), stops_here before at after waits_at all_text all_put (few_waiting at after waits_at all_put.3 (subst (AppendsPrefix at after) (append-nil waits_at) wrote)))
+        stops_open up stop (Some line) after open_ wrote =
+            (all_text ++ unfinished_text line, inr (inr (all_text, line, used_up up line open_, refl)), stops before at after waits_at (unfinished_text line) all_text all_put (few_last at after waits_at (unfinished_text line) all_put.3 (inr (inr (line, refl))) wrote))
 
 -- No machine was made: nothing ran.
 pub no_machine : (trace : Trace) (limit : ℕ) (before : Option (List ℕ)) → IsTrace trace → (closing : World Held) × WritesUntil Full trace limit closing before before
 no_machine trace limit before good =
     let made = a_start (sizes_of trace.header) trace.lines (header_sizes trace.header good.header) good.lines good.distinct in
-    (made.0, ([], nothing_ran trace limit made.0 made.1, so_far_prefix before before [] [] (none_put before [])))
+    (made.0, ([], nothing_ran trace limit made.0 made.1, so_far_most before before [] [] (none_put before [] (omega arith))))

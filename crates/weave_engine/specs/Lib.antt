@@ -5,4 +5,5 @@ pub mod Turning
 pub mod Turned
 pub mod Beside
 pub mod Weaves
+pub mod Pieces
 pub mod Woven

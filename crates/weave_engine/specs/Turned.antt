@@ -15,11 +15,11 @@ use Rattle.mmu_core.specs.Turns.{line_of}
 use Rattle.mmu_core.specs.Worlds.{history}
 use Rattle.step_seats.specs.declared.turn.Turn.{Turn}
 use Rattle.step_seats.specs.declared.turn.Turn.TheVariants.{More, Wait, Retry, Done}
-use Rattle.tdp_io.specs.Ends.{AppendsPrefix}
 use Rattle.tdp_io.specs.declared.sink.Stop.{Stop}
 use Rattle.tdp_io.specs.declared.sink.Stop.TheVariants.{NoMemory as Full}
 use Rattle.step_seats.specs.LineTurns.{Gives, line_seen, line_turn}
-use Rattle.weave_engine.specs.Turning.{AnswersLine, HasNoLine, IsTurn, MayStop, stops}
+use Rattle.weave_engine.specs.Pieces.{WritesMost}
+use Rattle.weave_engine.specs.Turning.{AnswersLine, HasNoLineLeft, IsTurn, MayStop, stops}
 use Rattle.weave_engine.specs.Writes.{Buffers}
 use Rattle.weave_engine.specs.declared.turning.TurnMade.{TurnMade}
 use Rattle.weave_engine.specs.declared.turning.Turned.{Turned}
@@ -72,7 +72,7 @@ pub record IsTurnOf (made : TurnMade) (actor : ℕ) (before after : World Held) 
   pub answers : AnswersBy made.turn (hand_in mmu before actor) (answered mmu before makes.step.kind)
 
 abbrev pub TurnedOn : Option TurnMade → ℕ → World Held → World Held → Type 0
-TurnedOn None actor before after = HasNoLine actor before × (after ≡ before)
+TurnedOn None actor before after = HasNoLineLeft actor before × (after ≡ before)
 TurnedOn (Some made) actor before after = IsTurnOf made actor before after
 
 -- the same of the worlds that a seat tells, before the turn and behind it
@@ -80,21 +80,21 @@ abbrev pub TurnedTold : Option TurnMade → ℕ → Option (World Held) → Opti
 TurnedTold made actor told tells = IfSome told (λ w. (t : World Held) × (tells ≡ Some t) × TurnedOn made actor w t)
 
 -- The actor's turn was made, and what it prints was put behind what waited to be written. Where that stopped, either memory was refused
--- and no step was made; or the turn answered its line, and a prefix of what waited and of what the turn prints was written.
+-- and no step was made; or the turn answered its line. What waited, and what the turn prints, was written but for little.
 abbrev pub PutsTurn : ℕ → World Held → World Held → Option (List ℕ) → Option (List ℕ) → List ℕ → List ℕ → Result Turned Stop → Type 0
-PutsTurn actor before after written writes waited waits (Ok NoLine) = HasNoLine actor before × (after ≡ before) × Buffers written writes waited waits (Ok tt) []
+PutsTurn actor before after written writes waited waits (Ok NoLine) = HasNoLineLeft actor before × (after ≡ before) × Buffers written writes waited waits (Ok tt) []
 PutsTurn actor before after written writes waited waits (Ok Went) = (bytes : List ℕ) × MakesTurn actor before after false bytes × Buffers written writes waited waits (Ok tt) bytes
 PutsTurn actor before after written writes waited waits (Ok Stopped) = (bytes : List ℕ) × MakesTurn actor before after true bytes × Buffers written writes waited waits (Ok tt) bytes
 PutsTurn actor before after written writes waited waits (Err stop) =
-    ((stop ≡ Full) × (after ≡ before) × AppendsPrefix written writes waited)
-    ⊎ ((bytes : List ℕ) × (M : MakesTurn actor before after true bytes) × AnswersLine before M.step × AppendsPrefix written writes (waited ++ bytes))
+    ((stop ≡ Full) × (after ≡ before) × WritesMost written writes waited)
+    ⊎ ((bytes : List ℕ) × (M : MakesTurn actor before after true bytes) × AnswersLine before M.step × WritesMost written writes (waited ++ bytes))
 
 -- Steps of which this holds lead from one world to the other, and what they print was put behind what waited to be written; or, where that
--- stopped, steps of which that holds were made, behind which it may stop for this, and a prefix of what waited and of what they print was
--- written.
+-- stopped, steps of which that holds were made, behind which it may stop for this, and what waited and what they print
+-- was written but for little.
 abbrev pub PutsRun :
     (World Held → List (Step Kind) → Type 0) → (World Held → List (Step Kind) → Type 0) → World Held → World Held → Option (List ℕ) → Option (List ℕ) → List ℕ → List ℕ → Result (Unit {0}) Stop → Type 0
 PutsRun whole part before after written writes waited waits (Ok u) =
     (ss : List (Step Kind)) × (bytes : List ℕ) × whole before ss × Comes before ss after bytes × Buffers written writes waited waits (Ok u) bytes
 PutsRun whole part before after written writes waited waits (Err stop) =
-    (ss : List (Step Kind)) × (bytes : List ℕ) × part before ss × Comes before ss after bytes × MayStop stop before ss × AppendsPrefix written writes (waited ++ bytes)
+    (ss : List (Step Kind)) × (bytes : List ℕ) × part before ss × Comes before ss after bytes × MayStop stop before ss × WritesMost written writes (waited ++ bytes)

@@ -19,11 +19,11 @@ use Rattle.tdp_io.specs.declared.sink.Stop.{Stop}
 use Rattle.tdp_io.specs.declared.sink.Stop.TheVariants.{Failed, NoMemory}
 
 -- The actor has a line that has no answer.
-abbrev pub HasLine : ℕ → World Held → Type 0
-HasLine actor w = has_line (hand_in mmu w actor) ≡ true
+abbrev pub HasLineLeft : ℕ → World Held → Type 0
+HasLineLeft actor w = has_line (hand_in mmu w actor) ≡ true
 
-abbrev pub HasNoLine : ℕ → World Held → Type 0
-HasNoLine actor w = has_line (hand_in mmu w actor) ≡ false
+abbrev pub HasNoLineLeft : ℕ → World Held → Type 0
+HasNoLineLeft actor w = has_line (hand_in mmu w actor) ≡ false
 
 abbrev pub is_ended : Outcome → Bool
 is_ended (Goes p) = false
@@ -38,7 +38,7 @@ stops w s = hand_stops (hand_in mmu w s.actor) (answered mmu w s.kind)
 
 -- The step answers its actor's line.
 pub record AnswersLine (w : World Held) (s : Step Kind) : Type 0 where
-  pub left : HasLine s.actor w
+  pub left : HasLineLeft s.actor w
   pub ends : is_ended (outcome_of (hand_in mmu w s.actor) (answered mmu w s.kind)) ≡ true
 
 -- The last of these steps answers its actor's line.
@@ -71,7 +71,7 @@ ends_item until w s = names_kind until s.kind.code || stops w s
 -- The step is a turn of this actor, which has a line left.
 pub record IsTurn (actor : ℕ) (w : World Held) (s : Step Kind) : Type 0 where
   pub own : s.actor ≡ actor
-  pub left : HasLine actor w
+  pub left : HasLineLeft actor w
 
 -- All steps are turns of this actor.
 abbrev pub AreTurns : ℕ → World Held → List (Step Kind) → Type 0
@@ -91,8 +91,8 @@ LastEnds until w (s ∷ t ∷ ss) = LastEnds until (effect mmu w s) (t ∷ ss)
 
 -- As many turns were made as the item says, or one that ends it; or the actor has no line left.
 abbrev pub IsOver : Until → ℕ → World Held → List (Step Kind) → Type 0
-IsOver (Turns count) actor w ss = (length ss ≡ count) ⊎ HasNoLine actor (run mmu w ss)
-IsOver until actor w ss = LastEnds until w ss ⊎ HasNoLine actor (run mmu w ss)
+IsOver (Turns count) actor w ss = (length ss ≡ count) ⊎ HasNoLineLeft actor (run mmu w ss)
+IsOver until actor w ss = LastEnds until w ss ⊎ HasNoLineLeft actor (run mmu w ss)
 
 -- The item doesn't allow more turns than these.
 abbrev pub IsWithin : Until → List (Step Kind) → Type 0
@@ -142,8 +142,8 @@ pub record IsNextInRound (z : Sizes) (first : ℕ) (w : World Held) (s : Step Ki
   pub far : ℕ
   pub within : far < actors_of z
   pub is : s.actor ≡ place_behind (actors_of z) first far
-  pub left : HasLine s.actor w
-  pub passed : (i : ℕ) → i < far → HasNoLine (place_behind (actors_of z) first i) w
+  pub left : HasLineLeft s.actor w
+  pub passed : (i : ℕ) → i < far → HasNoLineLeft (place_behind (actors_of z) first i) w
 
 -- Turns in rounds from one place among the actors on, up to another.
 abbrev pub RunsRounds : Sizes → ℕ → ℕ → World Held → List (Step Kind) → Type 0
@@ -152,4 +152,4 @@ RunsRounds z first next w (s ∷ ss) = IsNextInRound z first w s × RunsRounds z
 
 -- No actor has a line left.
 abbrev pub AllAnswered : Sizes → World Held → Type 0
-AllAnswered z w = (i : ℕ) → i < actors_of z → HasNoLine i w
+AllAnswered z w = (i : ℕ) → i < actors_of z → HasNoLineLeft i w

@@ -2,8 +2,10 @@
 use Rattle.std.specs.Prelude.{◌≡◌, ◌+◌, ◌<◌, ◌≤◌, ◌⊎◌, ℕ, List, [], ◌∷◌, ◌++◌, All, drop, length, map, take, codes, nat_lt, if◌then◌else◌, slice_get, Option, Some, None, unwrap_or}
 use Rattle.std.specs.Fmt.{decimal}
 use Rattle.std.specs.List.{Contains}
+use Rattle.core_views.specs.declared.answer.Answer.TheVariants.{Starved}
 use Rattle.core_views.specs.declared.event.Event.{Event}
 use Rattle.core_views.specs.declared.kind.Kind.{Kind}
+use Rattle.core_views.specs.declared.place.Place.TheVariants.{Between}
 use Rattle.core_views.specs.declared.sizes.Sizes.{Sizes}
 use Rattle.core_views.specs.declared.trace.Line.{Line}
 use Rattle.core_views.specs.declared.trace.Trace.{Trace}
@@ -13,13 +15,19 @@ use Rattle.core_views.specs.Lawful.{IsLawful}
 use Rattle.core_views.specs.Sizes.{actors_of, sizes_of}
 use Rattle.core_views.specs.Text.{actor_name, answers_of, text}
 use Rattle.core_views.specs.Whole.{IsWhole, IsWholeSoFar}
+use Rattle.spte_words.specs.Areas.{words_of_bits}
+use Rattle.mmu_core.specs.declared.outcome.Outcome.TheVariants.{Ends}
 use Rattle.mmu_core.specs.Enabled.{mmu}
+use Rattle.mmu_core.specs.Histories.{answered_in, begun_in}
 use Rattle.mmu_core.specs.Machine.{Legal, Step, World, hand_in, run}
+use Rattle.mmu_core.specs.Scans.{EndsWithScan}
 use Rattle.mmu_core.specs.Steps.{next_line}
+use Rattle.mmu_core.specs.Turns.{outcome_of}
 use Rattle.mmu_core.specs.Worlds.{IsStart, history}
+use Rattle.core_theorem.specs.Delays.{answer_of, hand_of}
 use Rattle.weave_engine.specs.Beside.{AreForDelays}
 use Rattle.weave_engine.specs.Replays.{RunsLines}
-use Rattle.weave_engine.specs.Turning.{AllAnswered, HasLine, RunsItems, RunsItemsSoFar, RunsRounds}
+use Rattle.weave_engine.specs.Turning.{AllAnswered, HasLineLeft, RunsItems, RunsItemsSoFar, RunsRounds}
 
 -- how many of the trace's lines run alone: those above `go`
 abbrev pub lines_above : Option ℕ → ℕ
@@ -33,9 +41,9 @@ lines_below trace = drop (lines_above trace.go) trace.lines
 pub record IsFirstOpen (z : Sizes) (w : World Held) (line : Line) : Type 0 where
   pub actor : ℕ
   pub there : actor < actors_of z
-  pub left : HasLine actor w
+  pub left : HasLineLeft actor w
   pub is : next_line (hand_in mmu w actor) ≡ line
-  pub first : (i : ℕ) → i < actors_of z → HasLine i w → line.number ≤ (next_line (hand_in mmu w i)).number
+  pub first : (i : ℕ) → i < actors_of z → HasLineLeft i w → line.number ≤ (next_line (hand_in mmu w i)).number
 
 -- the numbers of the lines that a history answers
 abbrev pub numbers_answered : List Event → List ℕ
@@ -85,13 +93,21 @@ pub record FollowsSoFar (trace : Trace) (limit : ℕ) (start : World Held) (step
   pub after_items : (rounds ≡ []) ⊎ RunsItems (sizes_of trace.header) trace.items behind scheduled
 
 -- All lines above `go` and all items of the schedule had their turns.
-pub record Follows (trace : Trace) (limit : ℕ) (start : World Held) (steps : List (Step Kind)) : Type 0 where
-  pub so_far : FollowsSoFar trace limit start steps
+pub record FollowsBoth (trace : Trace) (limit : ℕ) (start : World Held) (steps : List (Step Kind)) (so_far : FollowsSoFar trace limit start steps) : Type 0 where
   pub all_above : so_far.above ≡ lines_above trace.go
   pub all_items : RunsItems (sizes_of trace.header) trace.items so_far.behind so_far.scheduled
 
+-- From any moment on at which no line of an actor is under way, so from the one at which its line begins: the step that answers the line
+-- starved ends a scan of the whole map by the line's actor since that moment, which found no page free in any of its words.
+abbrev pub StarvedLinesScan : Sizes → World Held → List (Step Kind) → Type 0
+StarvedLinesScan z start steps =
+    (earlier own later : List (Step Kind)) (s : Step Kind) → steps ≡ earlier ++ (own ++ s ∷ later) → (hand_in mmu (run mmu start earlier) s.actor).state.place ≡ Between
+    → outcome_of (hand_of (run mmu start earlier) own s) (answer_of (run mmu start earlier) own s) ≡ Ends Starved
+    → EndsWithScan z s.actor (words_of_bits z.pool) (run mmu start earlier) (own ++ s ∷ [])
+
 -- One list of steps, that may be made one after another, leads from the trace's start to this world, and follows the trace so far. What it
--- tells is lawful, begins and answers the first lines of each actor, and its text is the bytes.
+-- tells is lawful, begins and answers the first lines of each actor, as many as its hand has in this world, and its text is the bytes. Each line
+-- that is starved has looked through the whole map.
 pub record WeavesSoFar (trace : Trace) (limit : ℕ) (bytes : List ℕ) (closing : World Held) : Type 0 where
   pub start : World Held
   pub is_start : IsStart (sizes_of trace.header) trace.lines start
@@ -100,13 +116,14 @@ pub record WeavesSoFar (trace : Trace) (limit : ℕ) (bytes : List ℕ) (closing
   pub ends : run mmu start steps ≡ closing
   pub follows : FollowsSoFar trace limit start steps
   pub lawful : IsLawful (sizes_of trace.header) first_flat (history start steps)
-  pub whole : IsWholeSoFar (history start steps) trace.lines
+  pub whole : IsWholeSoFar (history start steps) trace.lines (begun_in (sizes_of trace.header) closing) (answered_in (sizes_of trace.header) closing)
+  pub starved : StarvedLinesScan (sizes_of trace.header) start steps
   pub prints : bytes ≡ text (history start steps)
 
 -- It follows all of the trace but perhaps for rounds.
 pub record Weaves (trace : Trace) (limit : ℕ) (bytes : List ℕ) (closing : World Held) : Type 0 where
   pub so_far : WeavesSoFar trace limit bytes closing
-  pub follows : Follows trace limit so_far.start so_far.steps
+  pub follows : FollowsBoth trace limit so_far.start so_far.steps so_far.follows
 
 -- Each line of the trace is answered.
 pub record WeavesAll (trace : Trace) (limit : ℕ) (bytes : List ℕ) (closing : World Held) : Type 0 where
@@ -118,11 +135,11 @@ pub record WeavesAll (trace : Trace) (limit : ℕ) (bytes : List ℕ) (closing :
 -- of the schedule and in rounds.
 pub record WeavesPart (trace : Trace) (limit : ℕ) (bytes : List ℕ) (closing : World Held) (line : Line) : Type 0 where
   pub weaves : Weaves trace limit bytes closing
-  pub used_up : length weaves.follows.so_far.rounds ≡ limit
+  pub used_up : length weaves.so_far.follows.rounds ≡ limit
   pub open_ : IsFirstOpen (sizes_of trace.header) closing line
   pub first_in_file : IsFirstInFile (history weaves.so_far.start weaves.so_far.steps) trace.lines line
   pub delayed :
-      AreForDelays (sizes_of trace.header) (lines_below trace) (length weaves.follows.so_far.scheduled + limit) weaves.follows.so_far.behind (weaves.follows.so_far.scheduled ++ weaves.follows.so_far.rounds)
+      AreForDelays (sizes_of trace.header) (lines_below trace) (length weaves.so_far.follows.scheduled + limit) weaves.so_far.follows.behind (weaves.so_far.follows.scheduled ++ weaves.so_far.follows.rounds)
 
 -- the first line that has no answer, and its actor
 unfoldable pub unfinished_text : Line → List ℕ

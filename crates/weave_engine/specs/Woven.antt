@@ -1,5 +1,5 @@
 -- What a weave writes, by how it ends.
-use Rattle.std.specs.Prelude.{◌≡◌, ◌⊎◌, ℕ, List, ◌++◌, Option, Some, None, Result, Ok, Err}
+use Rattle.std.specs.Prelude.{◌≡◌, ◌⊎◌, ℕ, List, ◌++◌, Bool, true, false, Option, Some, None, Result, Ok, Err}
 use Rattle.std.specs.Io.KnownBytes.{Appends}
 use Rattle.core_views.specs.declared.no_memory.NoMemory.{NoMemory}
 use Rattle.core_views.specs.declared.trace.Line.{Line}
@@ -7,9 +7,10 @@ use Rattle.core_views.specs.declared.trace.Trace.{Trace}
 use Rattle.core_views.specs.Held.{Held}
 use Rattle.mmu_core.specs.Machine.{World}
 use Rattle.step_seats.specs.Moves.{world_of}
-use Rattle.tdp_io.specs.Ends.{AppendsPrefix, Rose}
+use Rattle.tdp_io.specs.Ends.{Rose}
 use Rattle.tdp_io.specs.declared.sink.Stop.{Stop}
 use Rattle.tdp_io.specs.declared.sink.Stop.TheVariants.{Failed, NoMemory as Full}
+use Rattle.weave_engine.specs.Pieces.{WritesMost}
 use Rattle.weave_engine.specs.Turning.{MayStop}
 use Rattle.weave_engine.specs.Weaves.{WeavesAll, WeavesPart, WeavesSoFar, unfinished_text}
 use Rattle.weave_engine.specs.declared.ran.How.{How}
@@ -25,9 +26,9 @@ IsWholeText trace limit closing text =
 abbrev pub WeavesUntil : Stop → Trace → ℕ → World Held → List ℕ → Type 0
 WeavesUntil stop trace limit closing text = ((W : WeavesSoFar trace limit text closing) × MayStop stop W.start W.steps) ⊎ IsWholeText trace limit closing text
 
--- A prefix of that text was written.
+-- That text was written but for little.
 abbrev pub WritesUntil : Stop → Trace → ℕ → World Held → Option (List ℕ) → Option (List ℕ) → Type 0
-WritesUntil stop trace limit closing before after = (text : List ℕ) × WeavesUntil stop trace limit closing text × AppendsPrefix before after text
+WritesUntil stop trace limit closing before after = (text : List ℕ) × WeavesUntil stop trace limit closing text × WritesMost before after text
 
 -- All of it was written.
 abbrev pub WritesAll : Trace → ℕ → World Held → Option (List ℕ) → Option (List ℕ) → Type 0
@@ -58,6 +59,16 @@ WritesBy trace limit closing before after WriteFault = WritesUntil Failed trace 
 abbrev pub WritesWeave : Trace → ℕ → Option (List ℕ) → Option (List ℕ) → Result Ran NoMemory → Type 0
 WritesWeave trace limit before after (Ok ran) = WritesBy trace limit (world_of ran.closing.words ran.closing.hands) before after ran.how
 WritesWeave trace limit before after (Err e) = (closing : World Held) × WritesUntil Full trace limit closing before after
+
+-- The run ended because a write failed.
+abbrev pub is_write_fault : How → Bool
+is_write_fault WriteFault = true
+is_write_fault Done = false
+is_write_fault (Unfinished actor line) = false
+
+abbrev pub ran_failed : Result Ran NoMemory → Bool
+ran_failed (Ok ran) = is_write_fault ran.how
+ran_failed (Err e) = false
 
 -- The count of failed writes rose where the run ended with a fault of writing, and stayed at any other end.
 abbrev pub RoseBy : ℕ → ℕ → How → Type 0

@@ -1,5 +1,5 @@
 -- What the engine's own functions promise each other of what is written.
-use Rattle.std.specs.Prelude.{◌≡◌, ◌≤◌, ℕ, List, ◌++◌, Option, Some, None, Result, Ok, Err, take}
+use Rattle.std.specs.Prelude.{◌≡◌, ◌≤◌, ℕ, List, ◌++◌, Option, Some, None, Result, Ok, Err, length, take}
 use Rattle.std.specs.Io.KnownBytes.{Appends}
 use Rattle.core_views.specs.declared.no_memory.NoMemory.{NoMemory}
 use Rattle.core_views.specs.declared.sizes.Sizes.{Sizes}
@@ -13,22 +13,23 @@ use Rattle.step_seats.specs.Moves.{world_of}
 use Rattle.tdp_io.specs.Ends.{AppendsPrefix}
 use Rattle.tdp_io.specs.declared.sink.Stop.{Stop}
 use Rattle.tdp_io.specs.declared.sink.Stop.TheVariants.{Failed, NoMemory as Full}
+use Rattle.weave_engine.specs.Pieces.{WritesMost, most_waiting}
 use Rattle.weave_engine.specs.Replays.{Replays, ReplaysUntil, RunsLines}
 use Rattle.weave_engine.specs.Turning.{MayStop}
 use Rattle.weave_engine.specs.declared.ran.How.{How}
 use Rattle.weave_engine.specs.declared.ran.How.TheVariants.{Done, WriteFault, Unfinished}
 use Rattle.weave_engine.specs.declared.ran.Ran.{Ran}
 
--- A text was put: what was written by it, and what waits behind it, are what waited before and the text. Where the writing stopped, a prefix of these was written.
+-- A text was put: what was written by it, and what waits after it, are what waited before and the text, and at most 8,192 bytes wait. Where the writing stopped, a prefix of what waited and of the text was written.
 abbrev pub Buffers : Option (List ℕ) → Option (List ℕ) → List ℕ → List ℕ → Result (Unit {0}) Stop → List ℕ → Type 0
-Buffers before after waited waits (Ok u) text = (written : List ℕ) × Appends before after written × (written ++ waits ≡ waited ++ text)
+Buffers before after waited waits (Ok u) text = (written : List ℕ) × Appends before after written × (written ++ waits ≡ waited ++ text) × (length waits ≤ most_waiting)
 Buffers before after waited waits (Err e) text = AppendsPrefix before after (waited ++ text)
 
--- What a replay of all lines prints was written, and no line is open; or, where it stopped, a prefix of what it had printed.
+-- What a replay of all lines prints was written, and no line is open; or, where it stopped, what it had printed but for little.
 abbrev pub WritesLines : Trace → World Held → Option (List ℕ) → Option (List ℕ) → Result (Option Line) Stop → Type 0
 WritesLines trace closing before after (Ok (Some line)) = ⊥
 WritesLines trace closing before after (Ok None) = (bytes : List ℕ) × Replays trace trace.lines bytes closing × Appends before after bytes
-WritesLines trace closing before after (Err stop) = (bytes : List ℕ) × ReplaysUntil stop trace closing bytes × AppendsPrefix before after bytes
+WritesLines trace closing before after (Err stop) = (bytes : List ℕ) × ReplaysUntil stop trace closing bytes × WritesMost before after bytes
 
 -- What a replay wrote, by how it ended with this world. It leaves no line unfinished.
 abbrev pub ReplaysBy : Trace → World Held → Option (List ℕ) → Option (List ℕ) → How → Type 0
@@ -41,8 +42,8 @@ WritesReplay trace before after (Ok ran) = ReplaysBy trace (world_of ran.closing
 WritesReplay trace before after (Err e) = (closing : World Held) × WritesLines trace closing before after (Err Full)
 
 -- The first lines ran one after another, each alone, from this world to that one, and what they are answered was put behind what waited to
--- be written; or fewer of them ran so, and a prefix of these bytes was written.
+-- be written; or fewer of them ran so, and these bytes were written but for little.
 abbrev pub RunsAndPuts : Sizes → World Held → List Line → ℕ → World Held → Option (List ℕ) → Option (List ℕ) → List ℕ → List ℕ → Result (Unit {0}) Stop → Type 0
 RunsAndPuts z start lines count end_ before after waited waits (Ok u) = (r : RunsLines z start (take count lines) end_) × Buffers before after waited waits (Ok u) (text (history start r.steps))
 RunsAndPuts z start lines count end_ before after waited waits (Err stop) =
-    (ran : ℕ) × (ran ≤ count) × (r : RunsLines z start (take ran lines) end_) × MayStop stop start r.steps × AppendsPrefix before after (waited ++ text (history start r.steps))
+    (ran : ℕ) × (ran ≤ count) × (r : RunsLines z start (take ran lines) end_) × MayStop stop start r.steps × WritesMost before after (waited ++ text (history start r.steps))

@@ -1,12 +1,13 @@
 //! The command `replay`: each line of the trace alone, in file order.
-ghost use Rattle.std.specs.Prelude.{◌≡◌, ◌≤◌, length, string_bytes};
+ghost use Rattle.std.specs.Prelude.{◌≡◌, ◌≤◌, false, length, string_bytes};
 ghost use Rattle.core_views.specs.Sizes.{sizes_of};
 ghost use Rattle.core_views.specs.Traces.{IsTrace};
 ghost use Rattle.mmu_core.specs.Worlds.{IsStart};
 ghost use Rattle.step_seats.specs.Machines.{world_in};
-ghost use Rattle.tdp_io.specs.Ends.{WroteFaults};
+ghost use Rattle.tdp_io.specs.Ends.{WroteFaults, is_failed};
+ghost use Rattle.weave_engine.specs.Pieces.{most_waiting};
 ghost use Rattle.weave_engine.specs.Writes.{RunsAndPuts, WritesLines, WritesReplay};
-ghost use Rattle.weave_engine.specs.Woven.{RanFaults};
+ghost use Rattle.weave_engine.specs.Woven.{RanFaults, ran_failed};
 
 use crate::ran::{Ran, how_of};
 use crate::run_on::run_on;
@@ -28,8 +29,11 @@ pub fn run_lines<K: Sink>(
 ) -> Result<(), Stop>
     requires start { IsStart machine.old.sizes lines.now (world_in machine.old) }
     requires count { count ≤ length lines.now }
+    requires unfailed { K.failed out.old ≡ false }
+    requires waiting { length (string_bytes waiting.old) ≤ most_waiting }
     ensures puts { RunsAndPuts machine.old.sizes (world_in machine.old) lines.now count (world_in machine.new) (K.written out.old) (K.written out.new) (string_bytes waiting.old) (string_bytes waiting.new) result }
     ensures faults { WroteFaults (K.faults out.old) (K.faults out.new) result }
+    ensures failed { K.failed out.new ≡ is_failed result }
     ensures same { (machine.new.sizes ≡ machine.old.sizes) × (length machine.new.hands ≡ length machine.old.hands) }
 {
     for index in 0..count {
@@ -52,8 +56,10 @@ fn replay_on<K: Sink>(
 ) -> Result<Option<Line>, Stop>
     requires sizes { machine.old.sizes ≡ sizes_of trace.now.header }
     requires start { IsStart (sizes_of trace.now.header) trace.now.lines (world_in machine.old) }
+    requires unfailed { K.failed out.old ≡ false }
     ensures writes { WritesLines trace.now (world_in machine.new) (K.written out.old) (K.written out.new) result }
     ensures faults { WroteFaults (K.faults out.old) (K.faults out.new) result }
+    ensures failed { K.failed out.new ≡ is_failed result }
 {
     let mut waiting = String::new(alloc);
     let lines = trace.lines.as_slice();
@@ -64,12 +70,15 @@ fn replay_on<K: Sink>(
 
 /// Runs the lines of the trace one after another, each alone, a step at a time
 /// over the words of the machine, and writes what they are answered. It gives how it
-/// ended, which is never unfinished, and the words and hands at that moment: behind
-/// the last line, or behind the line with whose answer a write failed.
+/// ended, which is never unfinished, and the words and hands at that moment: after
+/// the last line, or after the line with whose answer a write failed. Then nothing more
+/// is written, and at most 8,192 bytes and the last line are missing.
 pub fn replay<K: Sink>(alloc: Global, trace: &Trace, out: &mut K) -> Result<Ran, NoMemory>
     requires trace { IsTrace trace.now }
+    requires unfailed { K.failed out.old ≡ false }
     ensures writes { WritesReplay trace.now (K.written out.old) (K.written out.new) result }
     ensures faults { RanFaults (K.faults out.old) (K.faults out.new) result }
+    ensures failed { K.failed out.new ≡ ran_failed result }
 {
     let mut machine = PlainMachine::new(alloc, trace)?;
     let how = how_of(replay_on(alloc, &mut machine, trace, out))?;

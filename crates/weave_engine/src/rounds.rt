@@ -1,7 +1,8 @@
 //! Turns in rounds, once the schedule is over, and the line that they come to.
-ghost use Rattle.std.specs.Prelude.{◌≡◌, ◌<◌, length, string_bytes};
+ghost use Rattle.std.specs.Prelude.{◌≡◌, ◌<◌, ◌≤◌, false, length, string_bytes};
 ghost use Rattle.step_seats.specs.Machines.{world_in};
-ghost use Rattle.tdp_io.specs.Ends.{WroteFaults};
+ghost use Rattle.tdp_io.specs.Ends.{WroteFaults, is_failed};
+ghost use Rattle.weave_engine.specs.Pieces.{most_waiting};
 ghost use Rattle.weave_engine.specs.Turned.{PutsRun};
 ghost use Rattle.weave_engine.specs.Turning.{IsNextPlace};
 ghost use Rattle.weave_engine.specs.Weaves.{FirstOpen, RunsAllRounds, RunsSomeRounds, earlier_of};
@@ -29,8 +30,11 @@ pub fn run_rounds<K: Sink>(
     out: &mut K,
     waiting: &mut String,
 ) -> Result<(), Stop>
+    requires unfailed { K.failed out.old ≡ false }
+    requires waiting { length (string_bytes waiting.old) ≤ most_waiting }
     ensures puts { PutsRun (RunsAllRounds machine.old.sizes limit) (RunsSomeRounds machine.old.sizes limit) (world_in machine.old) (world_in machine.new) (K.written out.old) (K.written out.new) (string_bytes waiting.old) (string_bytes waiting.new) result }
     ensures faults { WroteFaults (K.faults out.old) (K.faults out.new) result }
+    ensures failed { K.failed out.new ≡ is_failed result }
     ensures same { (machine.new.sizes ≡ machine.old.sizes) × (length machine.new.hands ≡ length machine.old.hands) }
 {
     let count = machine.sizes().actors() as usize;

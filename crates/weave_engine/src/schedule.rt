@@ -1,5 +1,5 @@
 //! The turns of a schedule, item by item.
-ghost use Rattle.std.specs.Prelude.{◌≡◌, ◌<◌, All, length, string_bytes, true};
+ghost use Rattle.std.specs.Prelude.{◌≡◌, ◌<◌, ◌≤◌, All, false, length, string_bytes, true};
 ghost use Rattle.core_views.specs.declared.trace.Until.TheVariants.{Turns};
 ghost use Rattle.core_views.specs.Sizes.{actors_of};
 ghost use Rattle.mmu_core.specs.Enabled.{mmu};
@@ -7,7 +7,8 @@ ghost use Rattle.mmu_core.specs.Machine.{hand_in};
 ghost use Rattle.mmu_core.specs.Steps.{has_line};
 ghost use Rattle.core_views.specs.Traces.{HasActor};
 ghost use Rattle.step_seats.specs.Machines.{world_in};
-ghost use Rattle.tdp_io.specs.Ends.{WroteFaults};
+ghost use Rattle.tdp_io.specs.Ends.{WroteFaults, is_failed};
+ghost use Rattle.weave_engine.specs.Pieces.{most_waiting};
 ghost use Rattle.weave_engine.specs.Turned.{PutsRun, next_code_in};
 ghost use Rattle.weave_engine.specs.Turning.{IsOpenEnded, RunsBy, RunsBySoFar, RunsItem, RunsItemSoFar, RunsItems, RunsItemsSoFar, names_kind};
 
@@ -27,8 +28,11 @@ fn run_turns<K: Sink>(
     waiting: &mut String,
 ) -> Result<(), Stop>
     requires there { index < length machine.old.hands }
+    requires unfailed { K.failed out.old ≡ false }
+    requires waiting { length (string_bytes waiting.old) ≤ most_waiting }
     ensures puts { PutsRun (RunsBy (Turns count) index) (RunsBySoFar (Turns count) index) (world_in machine.old) (world_in machine.new) (K.written out.old) (K.written out.new) (string_bytes waiting.old) (string_bytes waiting.new) result }
     ensures faults { WroteFaults (K.faults out.old) (K.faults out.new) result }
+    ensures failed { K.failed out.new ≡ is_failed result }
     ensures same { (machine.new.sizes ≡ machine.old.sizes) × (length machine.new.hands ≡ length machine.old.hands) }
 {
     for _made in 0..count {
@@ -62,8 +66,11 @@ fn run_until<K: Sink>(
 ) -> Result<(), Stop>
     requires there { index < length machine.old.hands }
     requires until { IsOpenEnded until }
+    requires unfailed { K.failed out.old ≡ false }
+    requires waiting { length (string_bytes waiting.old) ≤ most_waiting }
     ensures puts { PutsRun (RunsBy until index) (RunsBySoFar until index) (world_in machine.old) (world_in machine.new) (K.written out.old) (K.written out.new) (string_bytes waiting.old) (string_bytes waiting.new) result }
     ensures faults { WroteFaults (K.faults out.old) (K.faults out.new) result }
+    ensures failed { K.failed out.new ≡ is_failed result }
     ensures same { (machine.new.sizes ≡ machine.old.sizes) × (length machine.new.hands ≡ length machine.old.hands) }
 {
     loop {
@@ -86,8 +93,11 @@ fn run_item<K: Sink>(
     waiting: &mut String,
 ) -> Result<(), Stop>
     requires actor { HasActor machine.old.sizes item.now.actor }
+    requires unfailed { K.failed out.old ≡ false }
+    requires waiting { length (string_bytes waiting.old) ≤ most_waiting }
     ensures puts { PutsRun (RunsItem machine.old.sizes item.now) (RunsItemSoFar machine.old.sizes item.now) (world_in machine.old) (world_in machine.new) (K.written out.old) (K.written out.new) (string_bytes waiting.old) (string_bytes waiting.new) result }
     ensures faults { WroteFaults (K.faults out.old) (K.faults out.new) result }
+    ensures failed { K.failed out.new ≡ is_failed result }
     ensures same { (machine.new.sizes ≡ machine.old.sizes) × (length machine.new.hands ≡ length machine.old.hands) }
 {
     let index = machine.sizes().index_of(item.actor) as usize;
@@ -106,8 +116,11 @@ pub fn run_items<K: Sink>(
     waiting: &mut String,
 ) -> Result<(), Stop>
     requires actors { All (λ item. HasActor machine.old.sizes item.actor) items.now }
+    requires unfailed { K.failed out.old ≡ false }
+    requires waiting { length (string_bytes waiting.old) ≤ most_waiting }
     ensures puts { PutsRun (RunsItems machine.old.sizes items.now) (RunsItemsSoFar machine.old.sizes items.now) (world_in machine.old) (world_in machine.new) (K.written out.old) (K.written out.new) (string_bytes waiting.old) (string_bytes waiting.new) result }
     ensures faults { WroteFaults (K.faults out.old) (K.faults out.new) result }
+    ensures failed { K.failed out.new ≡ is_failed result }
     ensures same { (machine.new.sizes ≡ machine.old.sizes) × (length machine.new.hands ≡ length machine.old.hands) }
 {
     for item in items {

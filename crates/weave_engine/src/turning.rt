@@ -1,12 +1,13 @@
 //! One turn of an actor of the machine: the next step of its line.
-ghost use Rattle.std.specs.Prelude.{◌≡◌, ◌<◌, IfOk, OnErr, length, string_bytes, true};
+ghost use Rattle.std.specs.Prelude.{◌≡◌, ◌<◌, ◌≤◌, IfOk, OnErr, false, length, string_bytes, true};
 ghost use Rattle.mmu_core.specs.Enabled.{mmu};
 ghost use Rattle.mmu_core.specs.Machine.{hand_in};
 ghost use Rattle.mmu_core.specs.Steps.{has_line};
 ghost use Rattle.mmu_core.specs.Turns.{IsSameHand, line_of};
 ghost use Rattle.step_seats.specs.Machines.{world_in};
-ghost use Rattle.tdp_io.specs.Ends.{WroteFaults};
+ghost use Rattle.tdp_io.specs.Ends.{WroteFaults, is_failed};
 ghost use Rattle.step_seats.specs.LineTurns.{Says, TurnsLine};
+ghost use Rattle.weave_engine.specs.Pieces.{most_waiting};
 ghost use Rattle.weave_engine.specs.Turned.{PutsTurn, TurnedOn, TurnedTold, next_code_in, open_line};
 
 use crate::job::start_line;
@@ -105,8 +106,11 @@ pub fn turn_and_put<K: Sink>(
     waiting: &mut String,
 ) -> Result<Turned, Stop>
     requires there { index < length machine.old.hands }
+    requires unfailed { K.failed out.old ≡ false }
+    requires waiting { length (string_bytes waiting.old) ≤ most_waiting }
     ensures puts { PutsTurn index (world_in machine.old) (world_in machine.new) (K.written out.old) (K.written out.new) (string_bytes waiting.old) (string_bytes waiting.new) result }
     ensures faults { WroteFaults (K.faults out.old) (K.faults out.new) result }
+    ensures failed { K.failed out.new ≡ is_failed result }
     ensures same { (machine.new.sizes ≡ machine.old.sizes) × (length machine.new.hands ≡ length machine.old.hands) }
 {
     let Ok(made) = turn_on(machine, index) else {

@@ -1,13 +1,13 @@
 //! The command `weave`: the lines above `go` alone, then the turns of the
 //! schedule, then rounds.
-ghost use Rattle.std.specs.Prelude.{◌≡◌, ◌++◌, IfOk, string_bytes};
+ghost use Rattle.std.specs.Prelude.{◌≡◌, ◌++◌, IfOk, false, string_bytes};
 ghost use Rattle.core_views.specs.Sizes.{sizes_of};
 ghost use Rattle.core_views.specs.Traces.{IsTrace};
 ghost use Rattle.mmu_core.specs.Worlds.{IsStart};
 ghost use Rattle.step_seats.specs.Machines.{world_in};
-ghost use Rattle.tdp_io.specs.Ends.{Wrote, WroteFaults};
+ghost use Rattle.tdp_io.specs.Ends.{Wrote, WroteFaults, is_failed};
 ghost use Rattle.weave_engine.specs.Weaves.{open_text, unfinished_text};
-ghost use Rattle.weave_engine.specs.Woven.{RanFaults, WritesWeave, WritesWoven};
+ghost use Rattle.weave_engine.specs.Woven.{RanFaults, WritesWeave, WritesWoven, ran_failed};
 
 use crate::ran::{Ran, how_of};
 use crate::replaying::run_lines;
@@ -30,8 +30,10 @@ fn unfinished(alloc: Global, line: &Line) -> Result<String, NoMemory>
 
 // Writes what waits, and which line is the first without an answer.
 fn tell<K: Sink>(alloc: Global, line: &Line, out: &mut K, waiting: &mut String) -> Result<(), Stop>
+    requires unfailed { K.failed out.old ≡ false }
     ensures bytes { Wrote (K.written out.old) (K.written out.new) result (string_bytes waiting.old ++ unfinished_text line.now) }
     ensures faults { WroteFaults (K.faults out.old) (K.faults out.new) result }
+    ensures failed { K.failed out.new ≡ is_failed result }
 {
     let Ok(text) = unfinished(alloc, line) else {
         return Err(Stop::NoMemory);
@@ -47,8 +49,10 @@ fn finish<K: Sink>(
     out: &mut K,
     waiting: &mut String,
 ) -> Result<(), Stop>
+    requires unfailed { K.failed out.old ≡ false }
     ensures bytes { Wrote (K.written out.old) (K.written out.new) result (string_bytes waiting.old ++ open_text first) }
     ensures faults { WroteFaults (K.faults out.old) (K.faults out.new) result }
+    ensures failed { K.failed out.new ≡ is_failed result }
 {
     match first {
         Some(line) => tell(alloc, &line, out, waiting),
@@ -68,8 +72,10 @@ fn weave_on<K: Sink>(
     requires trace { IsTrace trace.now }
     requires sizes { machine.old.sizes ≡ sizes_of trace.now.header }
     requires start { IsStart (sizes_of trace.now.header) trace.now.lines (world_in machine.old) }
+    requires unfailed { K.failed out.old ≡ false }
     ensures writes { WritesWoven trace.now limit (world_in machine.new) (K.written out.old) (K.written out.new) result }
     ensures faults { WroteFaults (K.faults out.old) (K.faults out.new) result }
+    ensures failed { K.failed out.new ≡ is_failed result }
 {
     let mut waiting = String::new(alloc);
     let lines = trace.lines.as_slice();
@@ -86,9 +92,10 @@ fn weave_on<K: Sink>(
 /// alone; then the turns that the schedule's items name; then turns in rounds, at most
 /// `limit`, until each line is answered. It puts out each answer when its line is
 /// answered, and where the rounds end before that, which line is the first without an
-/// answer; what is put out is written in pieces, and at the end. It gives how it ended,
-/// and the words and hands at that moment: where a write failed, those behind the turn
-/// with whose answer it was tried.
+/// answer; what is put out is written in pieces, and at the end, and nothing after a write
+/// that failed: then at most 8,192 bytes and the last line are missing. It gives how it
+/// ended, and the words and hands at that moment: where a write failed, those after the
+/// turn with whose answer it was tried.
 pub fn weave<K: Sink>(
     alloc: Global,
     trace: &Trace,
@@ -96,8 +103,10 @@ pub fn weave<K: Sink>(
     out: &mut K,
 ) -> Result<Ran, NoMemory>
     requires trace { IsTrace trace.now }
+    requires unfailed { K.failed out.old ≡ false }
     ensures writes { WritesWeave trace.now limit (K.written out.old) (K.written out.new) result }
     ensures faults { RanFaults (K.faults out.old) (K.faults out.new) result }
+    ensures failed { K.failed out.new ≡ ran_failed result }
 {
     let mut machine = PlainMachine::new(alloc, trace)?;
     let how = how_of(weave_on(alloc, &mut machine, trace, limit, out))?;

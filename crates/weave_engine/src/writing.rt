@@ -1,7 +1,7 @@
 //! What is printed waits, and is written in pieces.
-ghost use Rattle.std.specs.Prelude.{string_bytes};
+ghost use Rattle.std.specs.Prelude.{◌≡◌, false, string_bytes};
 ghost use Rattle.core_views.specs.Text.{line_text};
-ghost use Rattle.tdp_io.specs.Ends.{WroteFaults};
+ghost use Rattle.tdp_io.specs.Ends.{WroteFaults, is_failed};
 ghost use Rattle.weave_engine.specs.Writes.{Buffers};
 
 use core_views::{Actor, Answer};
@@ -12,11 +12,13 @@ use trace_text::answer_line;
 /// The output is written in pieces of this many bytes or a little more.
 const PIECE: usize = 8192;
 
-/// Puts a text behind what waits to be written, and writes all of it where it
-/// is long enough.
+/// Puts a text after what waits to be written, and writes all of it where it
+/// is long enough: so less than a piece waits.
 pub fn put<K: Sink>(out: &mut K, pending: &mut String, text: &str) -> Result<(), Stop>
+    requires unfailed { K.failed out.old ≡ false }
     ensures bytes { Buffers (K.written out.old) (K.written out.new) (string_bytes pending.old) (string_bytes pending.new) result text.now }
     ensures faults { WroteFaults (K.faults out.old) (K.faults out.new) result }
+    ensures failed { K.failed out.new ≡ is_failed result }
 {
     if pending.push_str(text).is_err() {
         return Err(Stop::NoMemory);
@@ -37,8 +39,10 @@ pub fn put_answer<K: Sink>(
     out: &mut K,
     waiting: &mut String,
 ) -> Result<(), Stop>
+    requires unfailed { K.failed out.old ≡ false }
     ensures bytes { Buffers (K.written out.old) (K.written out.new) (string_bytes waiting.old) (string_bytes waiting.new) result (line_text number actor answer.now) }
     ensures faults { WroteFaults (K.faults out.old) (K.faults out.new) result }
+    ensures failed { K.failed out.new ≡ is_failed result }
 {
     let Ok(text) = answer_line(alloc, number, actor, answer) else {
         return Err(Stop::NoMemory);

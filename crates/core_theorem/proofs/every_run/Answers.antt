@@ -1,8 +1,9 @@
 use Rattle.mmu_core.specs.Enabled.{mmu}
 use Rattle.mmu_core.specs.Machine.{run}
 use Rattle.std.proofs.Common.{[], ◌∷◌, ◌++◌}
+use Rattle.mmu_core.proofs.AnsweredRest.{answered_rests}
 use Rattle.mmu_core.proofs.Causes.{faults_begin_anew_by_cause}
-use Rattle.mmu_core.proofs.EveryHistory.{every_history}
+use Rattle.mmu_core.proofs.EveryHistory.{every_flat, every_history}
 use Rattle.mmu_core.proofs.LeafLaws.{cached_leaves_agree, leaves_agree, used_leaves_agree}
 use Rattle.mmu_core.proofs.SettingCauses.{setting_waits_are_by_cause}
 use Rattle.mmu_core.proofs.StarvedScan.{legal_parts, starved_lines_scan}
@@ -15,7 +16,7 @@ use Rattle.core_theorem.proofs.LineTurns.{lines_make_few_steps}
 use Rattle.core_theorem.proofs.Turns.{counts_are_few, steps_are_few}
 use Rattle.core_theorem.proofs.Pages.{pages_are_used}
 use Rattle.core_theorem.proofs.Entries.{cause_of_frame}
-use Rattle.core_theorem.proofs.Runs.{before, last_actor, sound, starts_between}
+use Rattle.core_theorem.proofs.Runs.{before, last_actor, may_last, sound, starts_between}
 use Rattle.core_theorem.proofs.WalksKept.{held_leaves_are_linked, walks_hold_tables}
 use Rattle.core_theorem.proofs.every_run.Goals as goal
 
@@ -54,6 +55,12 @@ returns-clause-reuse c = pages_are_reused_alone
 
 pub returns-clause-lawful : goal.returns-clause-lawful
 returns-clause-lawful c z lines w ss R = every_history z lines w ss R.start R.legal
+
+pub returns-clause-facts : goal.returns-clause-facts
+returns-clause-facts c z lines w ss R = (every_flat z lines w ss R.start R.legal).refines
+
+pub returns-clause-rest : goal.returns-clause-rest
+returns-clause-rest c z lines w ss s answer R has ends = answered_rests z (run mmu w ss) s (sound z lines w ss (before z lines w ss s R)) (may_last z lines w ss s R) has answer ends
 
 pub returns-clause-counts : goal.returns-clause-counts
 returns-clause-counts c = counts_are_few

@@ -1,26 +1,27 @@
-use Rattle.std.proofs.Common.{◌∙◌, ◌++◌, ◌+◌, [], append_assoc, arith, get_or, refl, rules, string_bytes, subst}
+use Rattle.std.proofs.Common.{◌∙◌, ◌++◌, ◌+◌, [], append_assoc, arith, get_or, inl, inr, refl, rules, string_bytes, subst}
 use Rattle.std.proofs.lemmas.Result.{err_from_is_err_and}
 use Rattle.core_views.specs.declared.sizes.Sizes.{Sizes}
 use Rattle.core_views.specs.Flat.{no_line}
 use Rattle.core_views.specs.Sizes.{index_of}
 use Rattle.core_views.specs.Text.{line_text}
 use Rattle.step_seats.specs.Machines.{world_in}
-use Rattle.tdp_io.specs.Ends.{AppendsPrefix}
 use Rattle.tdp_io.specs.declared.sink.Stop.TheVariants.{NoMemory}
+use Rattle.weave_engine.specs.Pieces.{WritesMost}
 use Rattle.weave_engine.specs.Replays.{RanOn}
 use Rattle.weave_engine.proofs.LinesPut.{lines_end, lines_stop}
 use Rattle.weave_engine.proofs.LinesRun.{between_at_start, between_more, hands_at_start, ready_on, sound_between}
 use Rattle.weave_engine.proofs.Stopping.{stops_at_answer}
-use Rattle.weave_engine.proofs.Writes.{goes_on, none_put, so_far_prefix, stops}
+use Rattle.weave_engine.proofs.Writes.{few_last, goes_on, none_put, so_far_most, stops}
 use Rattle.weave_engine.proofs.replaying.run_lines.Goals as goal
 
 pub loop-index-init : goal.loop-index-init
 loop-index-init g c = record {
-  so_far = ([], between_at_start c.args.machine.now.sizes c.args.lines.now (world_in c.args.machine.now) c.requires.start, none_put (g.K.Sink.written c.args.out.now) (string_bytes c.args.waiting.now));
+  so_far = ([], between_at_start c.args.machine.now.sizes c.args.lines.now (world_in c.args.machine.now) c.requires.start, none_put (g.K.Sink.written c.args.out.now) (string_bytes c.args.waiting.now) c.requires.waiting);
   within = omega arith;
   sizes = refl;
   count = refl;
   faults = refl;
+  failed = c.requires.unfailed;
 }
 
 pub run_on-requires-clause-there : goal.run_on-requires-clause-there
@@ -73,7 +74,7 @@ returns-in_default-clause-puts g c =
     let i = c.loop-index.invariant in
     lines_stop c.args.machine.now.sizes (world_in c.args.machine.now) c.args.lines.now (g.K.Sink.written c.args.out.now) (g.K.Sink.written c.loop-index.out) (string_bytes c.args.waiting.now) (string_bytes c.loop-index.waiting)
     c.loop-index.index c.args.count (world_in c.loop-index.machine) (world_in c.run_on.new.machine) i.so_far.0 NoMemory c.in_default.ensures.refused i.within i.so_far.1 tt
-    (so_far_prefix (g.K.Sink.written c.args.out.now) (g.K.Sink.written c.loop-index.out) (string_bytes c.loop-index.waiting) (string_bytes c.args.waiting.now ++ i.so_far.0) i.so_far.2)
+    (so_far_most (g.K.Sink.written c.args.out.now) (g.K.Sink.written c.loop-index.out) (string_bytes c.loop-index.waiting) (string_bytes c.args.waiting.now ++ i.so_far.0) i.so_far.2)
 
 pub returns-in_err-put_answer-clause-puts : goal.returns-in_err-put_answer-clause-puts
 returns-in_err-put_answer-clause-puts g c =
@@ -90,10 +91,11 @@ returns-in_err-put_answer-clause-puts g c =
     let more = between_more z lines n start here behind put c.in-Ok.answer (omega (arith, c.loop-index-test.true, c.requires.count)) (c.requires.start.allowed n no_line (omega (arith, c.loop-index-test.true, c.requires.count))) ran i.so_far.1 in
     let text_ = line_text line.number line.actor c.in-Ok.answer in
     let p = err_from_is_err_and c.from_residual.result c.from_residual.ensures.1 in
-    let stopped : AppendsPrefix (g.K.Sink.written c.args.out.now) (g.K.Sink.written c.put_answer.new.out) ((string_bytes c.args.waiting.now ++ put) ++ text_) =
-    stops (g.K.Sink.written c.args.out.now) (g.K.Sink.written c.loop-index.out) (g.K.Sink.written c.put_answer.new.out) (string_bytes c.loop-index.waiting) text_ (string_bytes c.args.waiting.now ++ put) i.so_far.2 c.in_err-put_answer.ensures.bytes in
+    let stopped : WritesMost (g.K.Sink.written c.args.out.now) (g.K.Sink.written c.put_answer.new.out) ((string_bytes c.args.waiting.now ++ put) ++ text_) =
+    stops (g.K.Sink.written c.args.out.now) (g.K.Sink.written c.loop-index.out) (g.K.Sink.written c.put_answer.new.out) (string_bytes c.loop-index.waiting) text_ (string_bytes c.args.waiting.now ++ put) i.so_far.2
+    (few_last (g.K.Sink.written c.loop-index.out) (g.K.Sink.written c.put_answer.new.out) (string_bytes c.loop-index.waiting) text_ i.so_far.2.3 (inr (inl (line.number, line.actor, c.in-Ok.answer, refl))) c.in_err-put_answer.ensures.bytes) in
     rw (p.1, p.2) (lines_stop z start lines (g.K.Sink.written c.args.out.now) (g.K.Sink.written c.put_answer.new.out) (string_bytes c.args.waiting.now) (string_bytes c.put_answer.new.waiting) (n + 1) c.args.count behind behind (put ++ text_) c.in_err-put_answer.field-0.0 refl
-    (omega (arith, c.loop-index-test.true)) more.0 (stops_at_answer c.in_err-put_answer.field-0.0 start more.0.ran.steps more.1) (subst (AppendsPrefix (g.K.Sink.written c.args.out.now) (g.K.Sink.written c.put_answer.new.out)) (append_assoc (string_bytes c.args.waiting.now) put text_) stopped))
+    (omega (arith, c.loop-index-test.true)) more.0 (stops_at_answer c.in_err-put_answer.field-0.0 start more.0.ran.steps more.1) (subst (WritesMost (g.K.Sink.written c.args.out.now) (g.K.Sink.written c.put_answer.new.out)) (append_assoc (string_bytes c.args.waiting.now) put text_) stopped))
 
 pub loop-index-preserved : goal.loop-index-preserved
 loop-index-preserved g c =
@@ -119,6 +121,7 @@ loop-index-preserved g c =
       sizes = c.in-Ok.ensures.same.0 ∙ i.sizes;
       count = c.in-Ok.ensures.same.1 ∙ i.count;
       faults = search rules;
+      failed = c.in_ok-put_answer.ensures.failed;
     }
 
 pub returns-clause-puts : goal.returns-clause-puts

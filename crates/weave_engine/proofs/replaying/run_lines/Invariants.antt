@@ -1,4 +1,4 @@
-use Rattle.std.proofs.Common.{◌≡◌, ◌≤◌, ◌++◌, List, ℕ, length, string_bytes}
+use Rattle.std.proofs.Common.{◌≡◌, ◌≤◌, ◌++◌, false, List, ℕ, length, string_bytes}
 use Rattle.step_seats.specs.Machines.{world_in}
 use Rattle.weave_engine.proofs.LinesRun.{IsBetween}
 use Rattle.weave_engine.proofs.Writes.{IsPut}
@@ -12,4 +12,5 @@ invariant-loop-index g l = record {
   sizes : l.machine.sizes ≡ l.fn.machine.sizes;
   count : length l.machine.hands ≡ length l.fn.machine.hands;
   faults : g.K.Sink.faults l.out ≡ g.K.Sink.faults l.fn.out;
+  failed : g.K.Sink.failed l.out ≡ false;
 }

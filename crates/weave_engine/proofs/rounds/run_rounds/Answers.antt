@@ -10,12 +10,13 @@ use Rattle.weave_engine.proofs.rounds.run_rounds.Goals as goal
 
 pub loop-passed-init : goal.loop-passed-init
 loop-passed-init g c = record {
-  so_far = so_far_none (InRounds c.args.machine.now.sizes 0 0 0) (world_in c.args.machine.now) (g.K.Sink.written c.args.out.now) (string_bytes c.args.waiting.now) (none_made c.args.machine.now.sizes (world_in c.args.machine.now));
+  so_far = so_far_none (InRounds c.args.machine.now.sizes 0 0 0) (world_in c.args.machine.now) (g.K.Sink.written c.args.out.now) (string_bytes c.args.waiting.now) c.requires.waiting (none_made c.args.machine.now.sizes (world_in c.args.machine.now));
   within = omega arith;
   few = omega arith;
   sizes = refl;
   hands = refl;
   faults = refl;
+  failed = c.requires.unfailed;
 }
 
 pub returns-in_err-turn_and_put-clause-puts : goal.returns-in_err-turn_and_put-clause-puts
@@ -40,6 +41,7 @@ loop-passed-preserved-in-NoLine g c =
       sizes = c.turn_and_put.ensures.same.0 ∙ i.sizes;
       hands = c.turn_and_put.ensures.same.1 ∙ i.hands;
       faults = c.in_ok-turn_and_put.ensures.faults ∙ i.faults;
+      failed = c.in_ok-turn_and_put.ensures.failed;
     }
 
 pub loop-passed-preserved : goal.loop-passed-preserved
@@ -57,6 +59,7 @@ loop-passed-preserved g c =
       sizes = c.turn_and_put.ensures.same.0 ∙ i.sizes;
       hands = c.turn_and_put.ensures.same.1 ∙ i.hands;
       faults = c.in_ok-turn_and_put.ensures.faults ∙ i.faults;
+      failed = c.in_ok-turn_and_put.ensures.failed;
     }
 
 pub returns-after-loop-passed-clause-puts : goal.returns-after-loop-passed-clause-puts
@@ -65,3 +68,6 @@ returns-after-loop-passed-clause-puts g c =
     let count : c.actors-count.result ≡ actors_of c.args.machine.now.sizes = rw c.sizes.ensures.is at c.actors-count.ensures in
     rounds_over c.args.machine.now.sizes c.args.limit c.loop-passed.index c.loop-passed.passed c.loop-passed.made (world_in c.args.machine.now) (world_in c.loop-passed.machine) (g.K.Sink.written c.args.out.now) (g.K.Sink.written c.loop-passed.out) (string_bytes c.args.waiting.now) (string_bytes c.loop-passed.waiting)
     i.so_far i.few (λ some more. omega (arith, some, count, c.loop-passed-test.false))
+
+pub turn_and_put-requires-clause-waiting : goal.turn_and_put-requires-clause-waiting
+turn_and_put-requires-clause-waiting g c = c.loop-passed.invariant.so_far.put.3

@@ -1,4 +1,4 @@
-use Rattle.std.proofs.Common.{◌≡◌, ◌+◌, ◌-◌, ◌*◌, ◌≤◌, length, string_bytes}
+use Rattle.std.proofs.Common.{◌≡◌, ◌+◌, ◌-◌, ◌*◌, ◌≤◌, false, length, string_bytes}
 use Rattle.step_seats.specs.Machines.{world_in}
 use Rattle.weave_engine.proofs.Coming.{SoFar}
 use Rattle.weave_engine.proofs.RoundLists.{InRounds}
@@ -12,6 +12,7 @@ invariant-loop-passed g l = record {
   sizes : l.machine.sizes ≡ l.fn.machine.sizes;
   hands : length l.machine.hands ≡ length l.fn.machine.hands;
   faults : g.K.Sink.faults l.out ≡ g.K.Sink.faults l.fn.out;
+  failed : g.K.Sink.failed l.out ≡ false;
 }
 
 abbrev pub decreases-loop-passed : goal.decreases-loop-passed

@@ -22,4 +22,8 @@ loop-item-preserved g c =
       sizes = c.run_item.ensures.same.0 ∙ i.sizes;
       hands = c.run_item.ensures.same.1 ∙ i.hands;
       faults = c.in_ok-run_item.ensures.faults ∙ i.faults;
+      failed = c.in_ok-run_item.ensures.failed;
     }
+
+pub run_item-requires-clause-waiting : goal.run_item-requires-clause-waiting
+run_item-requires-clause-waiting g c = c.loop-item.invariant.so_far.put.3

@@ -3,7 +3,7 @@ use Rattle.std.proofs.lemmas.Result.{err_from_is_err_and}
 use Rattle.core_views.specs.Held.{Held}
 use Rattle.mmu_core.specs.Machine.{World}
 use Rattle.step_seats.specs.Machines.{world_in}
-use Rattle.weave_engine.specs.Turning.{HasNoLine}
+use Rattle.weave_engine.specs.Turning.{HasNoLineLeft}
 use Rattle.weave_engine.proofs.Coming.{so_far_none}
 use Rattle.weave_engine.proofs.ItemTurns.{count_ends, count_stops, made_one, nothing_more, one_more}
 use Rattle.weave_engine.proofs.TurnLists.{TurnsMade, none_made}
@@ -11,11 +11,12 @@ use Rattle.weave_engine.proofs.schedule.run_turns.Goals as goal
 
 pub loop-made-init : goal.loop-made-init
 loop-made-init g c = record {
-  so_far = so_far_none (TurnsMade c.args.index 0) (world_in c.args.machine.now) (g.K.Sink.written c.args.out.now) (string_bytes c.args.waiting.now) (none_made c.args.index (world_in c.args.machine.now));
+  so_far = so_far_none (TurnsMade c.args.index 0) (world_in c.args.machine.now) (g.K.Sink.written c.args.out.now) (string_bytes c.args.waiting.now) c.requires.waiting (none_made c.args.index (world_in c.args.machine.now));
   within = omega arith;
   sizes = refl;
   hands = refl;
   faults = refl;
+  failed = c.requires.unfailed;
 }
 
 pub returns-in_err-turn_and_put-clause-puts : goal.returns-in_err-turn_and_put-clause-puts
@@ -32,7 +33,7 @@ returns-in-NoLine-clause-puts g c =
     (string_bytes c.args.waiting.now) (string_bytes c.turn_and_put.new.waiting) (string_bytes c.turn_and_put.new.waiting)
     (nothing_more (TurnsMade c.args.index c.loop-made._made) (world_in c.args.machine.now) (world_in c.loop-made.machine) (world_in c.turn_and_put.new.machine) (g.K.Sink.written c.args.out.now) (g.K.Sink.written c.loop-made.out) (g.K.Sink.written c.turn_and_put.new.out)
     (string_bytes c.args.waiting.now) (string_bytes c.loop-made.waiting) (string_bytes c.turn_and_put.new.waiting) i.so_far p.1 p.2)
-    i.within (inr (subst (λ (x : World Held). HasNoLine c.args.index x) (sym p.1) p.0))
+    i.within (inr (subst (λ (x : World Held). HasNoLineLeft c.args.index x) (sym p.1) p.0))
 
 pub loop-made-preserved : goal.loop-made-preserved
 loop-made-preserved g c =
@@ -46,6 +47,7 @@ loop-made-preserved g c =
       sizes = c.turn_and_put.ensures.same.0 ∙ i.sizes;
       hands = c.turn_and_put.ensures.same.1 ∙ i.hands;
       faults = c.in_ok-turn_and_put.ensures.faults ∙ i.faults;
+      failed = c.in_ok-turn_and_put.ensures.failed;
     }
 
 pub returns-clause-puts : goal.returns-clause-puts
@@ -54,3 +56,6 @@ returns-clause-puts g c =
     count_ends c.args.count c.args.index c.loop-made._made (world_in c.args.machine.now) (world_in c.loop-made.machine) (world_in c.loop-made.machine) (g.K.Sink.written c.args.out.now) (g.K.Sink.written c.loop-made.out) (g.K.Sink.written c.loop-made.out)
     (string_bytes c.args.waiting.now) (string_bytes c.loop-made.waiting) (string_bytes c.loop-made.waiting) i.so_far i.within
     (inl (omega (arith, i.within, c.loop-made-test.false)))
+
+pub turn_and_put-requires-clause-waiting : goal.turn_and_put-requires-clause-waiting
+turn_and_put-requires-clause-waiting g c = c.loop-made.invariant.so_far.put.3

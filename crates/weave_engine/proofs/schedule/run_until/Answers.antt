@@ -9,10 +9,11 @@ use Rattle.weave_engine.proofs.schedule.run_until.Goals as goal
 
 pub loop-init : goal.loop-init
 loop-init g c = record {
-  so_far = so_far_none (TurnsGoOn c.args.until c.args.index) (world_in c.args.machine.now) (g.K.Sink.written c.args.out.now) (string_bytes c.args.waiting.now) (none_yet c.args.until c.args.index (world_in c.args.machine.now));
+  so_far = so_far_none (TurnsGoOn c.args.until c.args.index) (world_in c.args.machine.now) (g.K.Sink.written c.args.out.now) (string_bytes c.args.waiting.now) c.requires.waiting (none_yet c.args.until c.args.index (world_in c.args.machine.now));
   sizes = refl;
   hands = refl;
   faults = refl;
+  failed = c.requires.unfailed;
 }
 
 pub returns-in_err-turn_and_put-clause-puts : goal.returns-in_err-turn_and_put-clause-puts
@@ -28,6 +29,7 @@ returns-in-NoLine g c =
       puts = ends_either c.args.until c.args.index (world_in c.args.machine.now) (world_in c.loop.machine) (world_in c.turn_and_put.new.machine) (g.K.Sink.written c.args.out.now) (g.K.Sink.written c.loop.out) (g.K.Sink.written c.turn_and_put.new.out)
           (string_bytes c.args.waiting.now) (string_bytes c.loop.waiting) (string_bytes c.turn_and_put.new.waiting) c.requires.until c.loop.invariant.so_far c.is_named-named.result c.is_named-named.ensures c.in_ok-turn_and_put.field-0 c.in-NoLine.is c.in_ok-turn_and_put.ensures.puts;
       faults = c.in_ok-turn_and_put.ensures.faults ∙ i.faults;
+      failed = c.in_ok-turn_and_put.ensures.failed;
       same = (c.turn_and_put.ensures.same.0 ∙ i.sizes, c.turn_and_put.ensures.same.1 ∙ i.hands);
     }
 
@@ -50,4 +52,8 @@ loop-preserved g c =
       sizes = c.turn_and_put.ensures.same.0 ∙ i.sizes;
       hands = c.turn_and_put.ensures.same.1 ∙ i.hands;
       faults = c.in_ok-turn_and_put.ensures.faults ∙ i.faults;
+      failed = c.in_ok-turn_and_put.ensures.failed;
     }
+
+pub turn_and_put-requires-clause-waiting : goal.turn_and_put-requires-clause-waiting
+turn_and_put-requires-clause-waiting g c = c.loop.invariant.so_far.put.3

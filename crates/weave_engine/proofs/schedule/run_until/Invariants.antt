@@ -1,4 +1,4 @@
-use Rattle.std.proofs.Common.{◌≡◌, length, string_bytes}
+use Rattle.std.proofs.Common.{◌≡◌, false, length, string_bytes}
 use Rattle.mmu_core.specs.Enabled.{mmu}
 use Rattle.mmu_core.specs.LineAlone.{hand_left}
 use Rattle.mmu_core.specs.Machine.{hand_in}
@@ -13,6 +13,7 @@ invariant-loop g l = record {
   sizes : l.machine.sizes ≡ l.fn.machine.sizes;
   hands : length l.machine.hands ≡ length l.fn.machine.hands;
   faults : g.K.Sink.faults l.out ≡ g.K.Sink.faults l.fn.out;
+  failed : g.K.Sink.failed l.out ≡ false;
 }
 
 abbrev pub decreases-loop : goal.decreases-loop

@@ -41,3 +41,9 @@ returns-clause-writes g c =
     (world_in c.run_items.new.machine) (g.K.Sink.written c.run_items.new.out) (string_bytes c.run_items.new.waiting) (rw (c.run_lines.ensures.same.0, c.requires.sizes, c.as_slice.ensures) at c.in_ok-run_items.ensures.puts)
     (world_in c.run_rounds.new.machine) (g.K.Sink.written c.run_rounds.new.out) (string_bytes c.run_rounds.new.waiting) (rw (c.run_items.ensures.same.0, c.run_lines.ensures.same.0, c.requires.sizes) at c.in_ok-run_rounds.ensures.puts)
     c.requires.trace.rising c.first_open-first.result (g.K.Sink.written c.finish.new.out) (rw (c.run_rounds.ensures.same.0, c.run_items.ensures.same.0, c.run_lines.ensures.same.0, c.requires.sizes) at c.first_open-first.ensures) c.in_ok-finish.ensures.bytes
+
+pub run_items-requires-clause-waiting : goal.run_items-requires-clause-waiting
+run_items-requires-clause-waiting g c = c.in_ok-run_lines.ensures.puts.1.3
+
+pub run_rounds-requires-clause-waiting : goal.run_rounds-requires-clause-waiting
+run_rounds-requires-clause-waiting g c = c.in_ok-run_items.ensures.puts.4.3
