@@ -22,7 +22,8 @@ use Rattle.mmu_core.proofs.PartRested.{part_within, rests_in}
 use Rattle.mmu_core.proofs.Starts.{reached_good}
 use Rattle.mmu_core.proofs.Views.{view_behind}
 use Rattle.step_seats.specs.Moves.{Tells, step_by}
-use Rattle.step_seats.specs.PartTurns.{HasHand, MadePart, Told}
+use Rattle.step_seats.specs.PartTurns.{MadePart}
+use Rattle.step_seats.specs.Where.{HasHand, Told}
 use Rattle.step_seats.specs.declared.turn.Turn.{Turn}
 use Rattle.memslots.specs.declared.find.Find.{Find}
 use Rattle.memslots.specs.declared.find.FoundSlot.{FoundSlot}

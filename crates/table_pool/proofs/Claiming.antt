@@ -35,7 +35,8 @@ use Rattle.mmu_core.proofs.PartRested.{may_make, reached_part_rests}
 use Rattle.mmu_core.proofs.PoolBits.{page_free}
 use Rattle.mmu_core.proofs.PoolPages.{left_not_owned, one_owner, owned_no_table, owned_not_free, owned_not_slots}
 use Rattle.mmu_core.proofs.Starts.{reached_good}
-use Rattle.step_seats.specs.PartTurns.{HasHand, MadePart, Told, ToldBoth}
+use Rattle.step_seats.specs.PartTurns.{MadePart}
+use Rattle.step_seats.specs.Where.{HasHand, Told}
 use Rattle.table_pool.specs.Claims.{IsClaimersAlone, IsFreePage, SawStands, claim_step, next_word, sees_pages}
 use Rattle.table_pool.specs.declared.claim.Claim.{Claim}
 use Rattle.table_pool.specs.declared.claim.Claimed.{Claimed}

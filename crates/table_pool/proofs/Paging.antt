@@ -25,7 +25,8 @@ use Rattle.mmu_core.specs.View.{upd, word_in, words_after}
 use Rattle.mmu_core.proofs.Columns.{upd_other, upd_same}
 use Rattle.mmu_core.proofs.OwnedBehind.{fill_by}
 use Rattle.mmu_core.proofs.PoolBits.{free_set}
-use Rattle.step_seats.specs.PartTurns.{HasHand, MadePart, Told, ToldBoth}
+use Rattle.step_seats.specs.PartTurns.{MadePart}
+use Rattle.step_seats.specs.Where.{HasHand, Told}
 use Rattle.table_pool.specs.Pages.{FillTurn, FillsNext, FreesPage, StoresNext, next_area, next_index}
 use Rattle.step_seats.proofs.ToldWords.{StepsTo, found_in, told_both}
 

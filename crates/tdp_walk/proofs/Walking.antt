@@ -15,7 +15,8 @@ use Rattle.part_steps.specs.PartSteps.{IsOver, PartNeeds, SawEntry, entry_index,
 use Rattle.part_steps.specs.PartTopics.{part_topics}
 use Rattle.part_steps.specs.TopicSteps.{at_root, gone_down, linked_page, may_walk}
 use Rattle.mmu_core.specs.View.{word_in}
-use Rattle.step_seats.specs.PartTurns.{MadePart, Told}
+use Rattle.step_seats.specs.PartTurns.{MadePart}
+use Rattle.step_seats.specs.Where.{Told}
 use Rattle.tdp_walk.specs.declared.walk.Walk.{Walk}
 use Rattle.tdp_walk.specs.Walks.{GoesDown, StandsAtRoot, StopsAt, found_last, walk_step, word_next}
 use Rattle.mmu_core.proofs.HeldKept.{page_below}

@@ -6,4 +6,4 @@ use Rattle.grace_period.proofs.section.begin.Goals as goal
 pub returns-clause-told : goal.returns-clause-told
 returns-clause-told g c =
     let new_ = c.make_part.new.s in
-    told_in (g.S.Stepper.told new_) (g.S.Stepper.actor new_) (g.S.Stepper.handful new_).core c.make_part.ensures.has (ap (λ (t : Topics). t.stay) c.make_part.ensures.made.topics)
+    told_in (g.S.Stepper.tells new_).world (g.S.Stepper.actor new_) (g.S.Stepper.handful new_).core c.make_part.ensures.has (ap (λ (t : Topics). t.stay) c.make_part.ensures.made.topics)

@@ -17,13 +17,13 @@ kind_is state hand h frame word op note k state_is hand_is is =
 pub returns-clause-before : goal.returns-clause-before
 returns-clause-before g c =
     let h = g.S.Stepper.handful c.args.s.now in
-    content_found h.core.state.sizes c.args.frame c.args.word c.requires.frame c.requires.word c.args.op c.args.note (g.S.Stepper.told c.args.s.now) (g.S.Stepper.told c.act.new.self) (g.S.Stepper.actor c.args.s.now) c.act.result
-    (subst (λ (k : Kind). Tells (g.S.Stepper.told c.args.s.now) (g.S.Stepper.actor c.args.s.now) k c.act.result (g.S.Stepper.told c.act.new.self))
+    content_found h.core.state.sizes c.args.frame c.args.word c.requires.frame c.requires.word c.args.op c.args.note (g.S.Stepper.tells c.args.s.now).world (g.S.Stepper.tells c.act.new.self).world (g.S.Stepper.actor c.args.s.now) c.act.result
+    (subst (λ (k : Kind). Tells (g.S.Stepper.tells c.args.s.now).world (g.S.Stepper.actor c.args.s.now) k c.act.result (g.S.Stepper.tells c.act.new.self).world)
     (kind_is c.state.result.now c.hand-hand.result.now h c.args.frame c.args.word c.args.op c.args.note c.touch_kind-kind.result c.state.ensures c.hand-hand.ensures.hand c.touch_kind-kind.ensures) c.act.ensures.told)
 
 pub returns-clause-behind : goal.returns-clause-behind
 returns-clause-behind g c =
     let h = g.S.Stepper.handful c.args.s.now in
-    content_behind h.core.state.sizes c.args.frame c.args.word c.requires.frame c.requires.word c.args.op c.args.note (g.S.Stepper.told c.args.s.now) (g.S.Stepper.told c.act.new.self) (g.S.Stepper.actor c.args.s.now) c.act.result
-    (subst (λ (k : Kind). Tells (g.S.Stepper.told c.args.s.now) (g.S.Stepper.actor c.args.s.now) k c.act.result (g.S.Stepper.told c.act.new.self))
+    content_behind h.core.state.sizes c.args.frame c.args.word c.requires.frame c.requires.word c.args.op c.args.note (g.S.Stepper.tells c.args.s.now).world (g.S.Stepper.tells c.act.new.self).world (g.S.Stepper.actor c.args.s.now) c.act.result
+    (subst (λ (k : Kind). Tells (g.S.Stepper.tells c.args.s.now).world (g.S.Stepper.actor c.args.s.now) k c.act.result (g.S.Stepper.tells c.act.new.self).world)
     (kind_is c.state.result.now c.hand-hand.result.now h c.args.frame c.args.word c.args.op c.args.note c.touch_kind-kind.result c.state.ensures c.hand-hand.ensures.hand c.touch_kind-kind.ensures) c.act.ensures.told)

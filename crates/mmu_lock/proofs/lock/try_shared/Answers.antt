@@ -23,13 +23,13 @@ returns-then-make_part-ge-WRITER g c =
     record {
       step = record {
         found = c.make_part-2.result;
-        made = subst (λ (x : PartStep). MadePart x c.args.note c.make_part-2.result (g.S.Stepper.actor c.args.s.now) (g.S.Stepper.handful c.args.s.now).core (g.S.Stepper.handful c.make_part-2.new.s).core (record { world = g.S.Stepper.told c.args.s.now; steps = g.S.Stepper.steps c.args.s.now }) (record { world = g.S.Stepper.told c.make_part-2.new.s; steps = g.S.Stepper.steps c.make_part-2.new.s })) (sym wants.0) made;
+        made = subst (λ (x : PartStep). MadePart x c.args.note c.make_part-2.result (g.S.Stepper.actor c.args.s.now) (g.S.Stepper.handful c.args.s.now).core (g.S.Stepper.handful c.make_part-2.new.s).core (g.S.Stepper.tells c.args.s.now) (g.S.Stepper.tells c.make_part-2.new.s)) (sym wants.0) made;
       };
       tried = (c.make_part-2.result, writer_seen c.make_part-2.result le, wants.1, owes_behind (g.S.Stepper.handful c.args.s.now).core.topics (g.S.Stepper.handful c.make_part-2.new.s).core.topics c.make_part-2.result made.topics le);
       nearer = λ e. fewer_left (g.S.Stepper.handful c.args.s.now).core.topics.hold (g.S.Stepper.handful c.make_part-2.new.s).core.topics.hold c.make_part-2.result wants.1 (ap (λ (t : Topics). t.hold) (owes_behind (g.S.Stepper.handful c.args.s.now).core.topics (g.S.Stepper.handful c.make_part-2.new.s).core.topics c.make_part-2.result made.topics le));
       shared = λ e. absurd (cc e);
-      alone = λ loose. if_some (g.S.Stepper.told c.args.s.now) _ _ (λ w free others. absurd (not_free c.make_part-2.result le (free others)))
-          (share_free (g.S.Stepper.told c.args.s.now) (g.S.Stepper.told c.make_part-2.new.s) (g.S.Stepper.actor c.args.s.now) c.args.note c.make_part-2.result (g.S.Stepper.handful c.args.s.now).core made.has made.world loose);
+      alone = λ loose. if_some (g.S.Stepper.tells c.args.s.now).world _ _ (λ w free others. absurd (not_free c.make_part-2.result le (free others)))
+          (share_free (g.S.Stepper.tells c.args.s.now).world (g.S.Stepper.tells c.make_part-2.new.s).world (g.S.Stepper.actor c.args.s.now) c.args.note c.make_part-2.result (g.S.Stepper.handful c.args.s.now).core made.has made.world loose);
       room = c.make_part-2.ensures.room;
       same = c.make_part-2.ensures.same;
     }
@@ -44,13 +44,13 @@ returns-else-make_part-ge-WRITER g c =
     record {
       step = record {
         found = c.make_part-2.result;
-        made = subst (λ (x : PartStep). MadePart x c.args.note c.make_part-2.result (g.S.Stepper.actor c.args.s.now) (g.S.Stepper.handful c.args.s.now).core (g.S.Stepper.handful c.make_part-2.new.s).core (record { world = g.S.Stepper.told c.args.s.now; steps = g.S.Stepper.steps c.args.s.now }) (record { world = g.S.Stepper.told c.make_part-2.new.s; steps = g.S.Stepper.steps c.make_part-2.new.s })) (sym wants.0) made;
+        made = subst (λ (x : PartStep). MadePart x c.args.note c.make_part-2.result (g.S.Stepper.actor c.args.s.now) (g.S.Stepper.handful c.args.s.now).core (g.S.Stepper.handful c.make_part-2.new.s).core (g.S.Stepper.tells c.args.s.now) (g.S.Stepper.tells c.make_part-2.new.s)) (sym wants.0) made;
       };
       tried = (wants.1, is);
       nearer = λ e. absurd (cc e);
-      shared = λ e. shared_told (g.S.Stepper.told c.make_part-2.new.s) (g.S.Stepper.actor c.make_part-2.new.s) (g.S.Stepper.handful c.make_part-2.new.s).core c.make_part-2.ensures.has (ap (λ (t : Topics). t.hold) is);
-      alone = λ loose. if_some (g.S.Stepper.told c.args.s.now) _ _ (λ w free others. refl)
-          (share_free (g.S.Stepper.told c.args.s.now) (g.S.Stepper.told c.make_part-2.new.s) (g.S.Stepper.actor c.args.s.now) c.args.note c.make_part-2.result (g.S.Stepper.handful c.args.s.now).core made.has made.world loose);
+      shared = λ e. shared_told (g.S.Stepper.tells c.make_part-2.new.s).world (g.S.Stepper.actor c.make_part-2.new.s) (g.S.Stepper.handful c.make_part-2.new.s).core c.make_part-2.ensures.has (ap (λ (t : Topics). t.hold) is);
+      alone = λ loose. if_some (g.S.Stepper.tells c.args.s.now).world _ _ (λ w free others. refl)
+          (share_free (g.S.Stepper.tells c.args.s.now).world (g.S.Stepper.tells c.make_part-2.new.s).world (g.S.Stepper.actor c.args.s.now) c.args.note c.make_part-2.result (g.S.Stepper.handful c.args.s.now).core made.has made.world loose);
       room = c.make_part-2.ensures.room;
       same = c.make_part-2.ensures.same;
     }

@@ -6,12 +6,12 @@ use Rattle.vcpu_tlb.proofs.guest.leave.Goals as goal
 
 pub returns-clause-clear : goal.returns-clause-clear
 returns-clause-clear g c =
-    outside_told (g.S.Stepper.told c.make_part.new.s) (g.S.Stepper.actor c.make_part.new.s) (g.S.Stepper.handful c.make_part.new.s).core c.make_part.ensures.has
+    outside_told (g.S.Stepper.tells c.make_part.new.s).world (g.S.Stepper.actor c.make_part.new.s) (g.S.Stepper.handful c.make_part.new.s).core c.make_part.ensures.has
     (ap (λ (t : Topics). t.stay) c.make_part.ensures.made.topics)
 
 pub returns-clause-asked : goal.returns-clause-asked
 returns-clause-asked g c =
-    flush_kept (g.S.Stepper.told c.args.s.now) (g.S.Stepper.told c.make_part.new.s) (g.S.Stepper.actor c.args.s.now) c.args.note c.make_part.result (g.S.Stepper.handful c.args.s.now).core (g.S.Stepper.handful c.make_part.new.s).core
+    flush_kept (g.S.Stepper.tells c.args.s.now).world (g.S.Stepper.tells c.make_part.new.s).world (g.S.Stepper.actor c.args.s.now) c.args.note c.make_part.result (g.S.Stepper.handful c.args.s.now).core (g.S.Stepper.handful c.make_part.new.s).core
     c.make_part.ensures.made.has c.make_part.ensures.made.world (rw c.make_part.ensures.same.0 at c.make_part.ensures.has)
 
 pub returns-clause-cached : goal.returns-clause-cached

@@ -8,8 +8,8 @@ use Rattle.vcpu_tlb.proofs.guest.paused.Goals as goal
 
 pub returns-clause-told : goal.returns-clause-told
 returns-clause-told g c =
-    if_some (g.S.Stepper.told c.args.s.now) _ _ (λ w is. ap (λ n. not (n == 0)) is)
-    (found_told Pause c.args.note c.make_part.result (g.S.Stepper.actor c.args.s.now) (g.S.Stepper.handful c.args.s.now).core (g.S.Stepper.handful c.make_part.new.s).core (record { world = g.S.Stepper.told c.args.s.now; steps = g.S.Stepper.steps c.args.s.now }) (record { world = g.S.Stepper.told c.make_part.new.s; steps = g.S.Stepper.steps c.make_part.new.s }) c.make_part.ensures.made c.requires.may.needs)
+    if_some (g.S.Stepper.tells c.args.s.now).world _ _ (λ w is. ap (λ n. not (n == 0)) is)
+    (found_told Pause c.args.note c.make_part.result (g.S.Stepper.actor c.args.s.now) (g.S.Stepper.handful c.args.s.now).core (g.S.Stepper.handful c.make_part.new.s).core (g.S.Stepper.tells c.args.s.now) (g.S.Stepper.tells c.make_part.new.s) c.make_part.ensures.made c.requires.may.needs)
 
 pub returns-clause-cached : goal.returns-clause-cached
 returns-clause-cached g c = paused_cached (g.S.Stepper.handful c.args.s.now).core (g.S.Stepper.handful c.make_part.new.s).core c.args.note c.make_part.result c.requires.may c.make_part.ensures.made.hand

@@ -19,8 +19,8 @@ returns-then-in_section-clause-alone g c =
     let h = (g.S.Stepper.handful s).core in
     let at : c.next_look-index.result ≡ looked_at c.args.self.now h = c.next_look-index.ensures ∙ ap (λ (x : Handful). looked_at c.args.self.now x.core) c.hand-hand.ensures.hand in
     let made = c.make_part-value.ensures.made in
-    if_some (g.S.Stepper.told s) _ _ (λ w free others. sym c.if-in_section.true ∙ c.in_section.ensures ∙ free others)
-    (look_free (g.S.Stepper.told s) (g.S.Stepper.told c.make_part-value.new.s) (g.S.Stepper.actor s) c.next_look-index.result c.args.note c.make_part-value.result h made.has made.world (subst (λ i. PartNeeds (part.Watch i) h) (sym at) c.requires.may.needs))
+    if_some (g.S.Stepper.tells s).world _ _ (λ w free others. sym c.if-in_section.true ∙ c.in_section.ensures ∙ free others)
+    (look_free (g.S.Stepper.tells s).world (g.S.Stepper.tells c.make_part-value.new.s).world (g.S.Stepper.actor s) c.next_look-index.result c.args.note c.make_part-value.result h made.has made.world (subst (λ i. PartNeeds (part.Watch i) h) (sym at) c.requires.may.needs))
 
 pub returns-clause-nearer : goal.returns-clause-nearer
 returns-clause-nearer g c = λ more.

@@ -10,5 +10,5 @@ pub returns-clause-word : goal.returns-clause-word
 returns-clause-word g c =
     let made = rw c.step.ensures at c.make_part.ensures.made in
     word_told c.args.self.now.stage c.args.note c.make_part.result (g.S.Stepper.actor c.args.s.now) (g.S.Stepper.handful c.args.s.now).core (g.S.Stepper.handful c.make_part.new.s).core
-    (record { world = g.S.Stepper.told c.args.s.now; steps = g.S.Stepper.steps c.args.s.now }) (record { world = g.S.Stepper.told c.make_part.new.s; steps = g.S.Stepper.steps c.make_part.new.s })
+    (g.S.Stepper.tells c.args.s.now) (g.S.Stepper.tells c.make_part.new.s)
     c.requires.locked made

@@ -13,9 +13,9 @@ returns-then-claim-gt0-clause-free g c page is =
     elim c.match-topics.branch [
       | in-Some w ↦
           let behind : (g.S.Stepper.handful c.make_part-value.new.s).core.topics.owned ≡ Some w.in-Some.owned = rw (sym c.hand-then-claim-gt0.ensures.hand, sym c.topics-then-claim-gt0.ensures) w.in-Some.is in
-          subst (λ k. IfSome (g.S.Stepper.told c.args.s.now) (IsFreePage (g.S.Stepper.handful c.args.s.now).core.state.sizes k)) (ap page_in (sym w.result-is ∙ is))
+          subst (λ k. IfSome (g.S.Stepper.tells c.args.s.now).world (IsFreePage (g.S.Stepper.handful c.args.s.now).core.state.sizes k)) (ap page_in (sym w.result-is ∙ is))
           (claimed_free c.args.note c.make_part-value.result (g.S.Stepper.actor c.args.s.now) (g.S.Stepper.handful c.args.s.now).core (g.S.Stepper.handful c.make_part-value.new.s).core
-          (record { world = g.S.Stepper.told c.args.s.now; steps = g.S.Stepper.steps c.args.s.now }) (record { world = g.S.Stepper.told c.make_part-value.new.s; steps = g.S.Stepper.steps c.make_part-value.new.s })
+          (g.S.Stepper.tells c.args.s.now) (g.S.Stepper.tells c.make_part-value.new.s)
           needs small c.make_part-value.ensures.made w.in-Some.owned behind)
       | in-None w ↦ absurd (cc (is, w.result-is))
     ]
@@ -25,9 +25,9 @@ returns-then-claim-gt0-clause-sole g c page is =
     elim c.match-topics.branch [
       | in-Some w ↦
           let behind : (g.S.Stepper.handful c.make_part-value.new.s).core.topics.owned ≡ Some w.in-Some.owned = rw (sym c.hand-then-claim-gt0.ensures.hand, sym c.topics-then-claim-gt0.ensures) w.in-Some.is in
-          subst (λ k. IfSome (g.S.Stepper.told c.make_part-value.new.s) (IsClaimersAlone (g.S.Stepper.handful c.args.s.now).core.state.sizes (g.S.Stepper.actor c.make_part-value.new.s) k)) (ap page_in (sym w.result-is ∙ is))
+          subst (λ k. IfSome (g.S.Stepper.tells c.make_part-value.new.s).world (IsClaimersAlone (g.S.Stepper.handful c.args.s.now).core.state.sizes (g.S.Stepper.actor c.make_part-value.new.s) k)) (ap page_in (sym w.result-is ∙ is))
           (claimed_alone c.args.note c.make_part-value.result (g.S.Stepper.actor c.args.s.now) (g.S.Stepper.handful c.args.s.now).core (g.S.Stepper.handful c.make_part-value.new.s).core
-          (record { world = g.S.Stepper.told c.args.s.now; steps = g.S.Stepper.steps c.args.s.now }) (record { world = g.S.Stepper.told c.make_part-value.new.s; steps = g.S.Stepper.steps c.make_part-value.new.s })
+          (g.S.Stepper.tells c.args.s.now) (g.S.Stepper.tells c.make_part-value.new.s)
           (g.S.Stepper.actor c.make_part-value.new.s) w.in-Some.owned c.make_part-value.ensures.made c.hand-then-claim-gt0.ensures.has behind)
       | in-None w ↦ absurd (cc (is, w.result-is))
     ]
@@ -38,7 +38,7 @@ returns-then-claim-gt0-clause-stands g c =
     let small : (g.S.Stepper.handful c.args.s.now).core.topics.claim.seen < 2 ^ 64 = rw (sym c.hand.ensures.hand) c.part_rests.ensures.counters.seen in
     let needs = claim_needs c.args.self.now c.args.note (g.S.Stepper.handful c.args.s.now).core c.if-self.true some c.requires.may in
     claim_stands c.args.note c.make_part-value.result (g.S.Stepper.actor c.args.s.now) (g.S.Stepper.handful c.args.s.now).core (g.S.Stepper.handful c.make_part-value.new.s).core
-    (record { world = g.S.Stepper.told c.args.s.now; steps = g.S.Stepper.steps c.args.s.now }) (record { world = g.S.Stepper.told c.make_part-value.new.s; steps = g.S.Stepper.steps c.make_part-value.new.s })
+    (g.S.Stepper.tells c.args.s.now) (g.S.Stepper.tells c.make_part-value.new.s)
     needs small c.make_part-value.ensures.made c.make_part-value.type_inv
 
 pub returns-then-claim-gt0-clause-alone : goal.returns-then-claim-gt0-clause-alone
@@ -47,12 +47,12 @@ returns-then-claim-gt0-clause-alone g c =
     let small : (g.S.Stepper.handful c.args.s.now).core.topics.claim.seen < 2 ^ 64 = rw (sym c.hand.ensures.hand) c.part_rests.ensures.counters.seen in
     let needs = claim_needs c.args.self.now c.args.note (g.S.Stepper.handful c.args.s.now).core c.if-self.true some c.requires.may in
     elim c.match-topics.branch [
-      | in-Some w ↦ won_waits_not (g.S.Stepper.told c.args.s.now) (SawStands (g.S.Stepper.handful c.args.s.now).core.state.sizes (g.S.Stepper.handful c.args.s.now).core.topics.claim) c.match-topics.result w.in-Some.owned.page w.result-is
+      | in-Some w ↦ won_waits_not (g.S.Stepper.tells c.args.s.now).world (SawStands (g.S.Stepper.handful c.args.s.now).core.state.sizes (g.S.Stepper.handful c.args.s.now).core.topics.claim) c.match-topics.result w.in-Some.owned.page w.result-is
       | in-None w ↦
           let behind : (g.S.Stepper.handful c.make_part-value.new.s).core.topics.owned ≡ None = rw (sym c.hand-then-claim-gt0.ensures.hand, sym c.topics-then-claim-gt0.ensures) w.in-None.is in
-          never_waits (g.S.Stepper.told c.args.s.now) (SawStands (g.S.Stepper.handful c.args.s.now).core.state.sizes (g.S.Stepper.handful c.args.s.now).core.topics.claim) c.match-topics.result
+          never_waits (g.S.Stepper.tells c.args.s.now).world (SawStands (g.S.Stepper.handful c.args.s.now).core.state.sizes (g.S.Stepper.handful c.args.s.now).core.topics.claim) c.match-topics.result
           (claim_alone c.args.note c.make_part-value.result (g.S.Stepper.actor c.args.s.now) (g.S.Stepper.handful c.args.s.now).core (g.S.Stepper.handful c.make_part-value.new.s).core
-          (record { world = g.S.Stepper.told c.args.s.now; steps = g.S.Stepper.steps c.args.s.now }) (record { world = g.S.Stepper.told c.make_part-value.new.s; steps = g.S.Stepper.steps c.make_part-value.new.s })
+          (g.S.Stepper.tells c.args.s.now) (g.S.Stepper.tells c.make_part-value.new.s)
           needs small c.make_part-value.ensures.made behind)
     ]
 
@@ -67,5 +67,5 @@ returns-then-topics-size_of-clause-stands g c =
       | else-self-2 w ↦ word_unbegun c.args.self.now (g.S.Stepper.handful c.args.s.now).core.topics.claim c.if-self-2.word w.if-self-2.false w.word-is
     ] in
     load_stands c.if-self-2.word c.args.note c.make_part.result (g.S.Stepper.actor c.args.s.now) (g.S.Stepper.handful c.args.s.now).core (g.S.Stepper.handful c.make_part.new.s).core
-    (record { world = g.S.Stepper.told c.args.s.now; steps = g.S.Stepper.steps c.args.s.now }) (record { world = g.S.Stepper.told c.make_part.new.s; steps = g.S.Stepper.steps c.make_part.new.s })
+    (g.S.Stepper.tells c.args.s.now) (g.S.Stepper.tells c.make_part.new.s)
     (load_needs c.args.self.now c.if-self-2.word c.args.note (g.S.Stepper.handful c.args.s.now).core none word c.requires.may) c.make_part.ensures.made
