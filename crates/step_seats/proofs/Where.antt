@@ -36,18 +36,19 @@ abbrev pub only : World Held → Told
 only w = record { world = Some w; steps = None }
 
 -- What follows from the step, and from its world before and after it, holds where the step was made.
-pub where_answered : (k : Kind) (found a : ℕ) (h g : Held) (told : Told) (P : World Held → World Held → Type 0) → AnsweredThere k found a h g told
-    → ((w : World Held) → IsMadeIn k a h g w → answered mmu w k ≡ found → P w (after_step k a w)) → WhereMade k a h g told P
-where_answered k found a h g told P there each = of_world told.world _ _ (λ w x. (x.0, each w x.0 x.1)) there
+pub where_answered : (k : Kind) (found a : ℕ) (h g : Held) (told : Told) {Q : World Held → Type 0} → AnsweredThere k found a h g told
+    → ((w : World Held) → IsMadeIn k a h g w → answered mmu w k ≡ found → Q w) → OfWorld told.world (λ w. IsMadeIn k a h g w × Q w)
+where_answered k found a h g told {Q = Q} there each =
+    of_world told.world (λ w. IsMadeIn k a h g w × (answered mmu w k ≡ found)) (λ w. IsMadeIn k a h g w × Q w) (λ w x. (x.0, each w x.0 x.1)) there
 
-pub where_made : (step : PartStep) (note found a : ℕ) (h g : Held) (told tells : Told) (P : World Held → World Held → Type 0) → MadePart step note found a h g told tells
-    → ((w t : World Held) → MadePart step note found a h g (only w) (only t) → HasHand a g t → P w t) → WherePartMade step note a h g told P
-where_made step note found a h g told tells P made each =
-    let k : Kind = part_kind h step note in
-    where_answered k found a h g told P made.answers
-    (λ w there is. each w (after_step k a w)
+pub where_made : {step : PartStep} {note found a : ℕ} {h g : Held} {told tells : Told} {Q : World Held → Type 0} → MadePart step note found a h g told tells
+    → ((w : World Held) → MadePart step note found a h g (only w) (only (after_step (part_kind h step note) a w)) → HasHand a g (after_step (part_kind h step note) a w) → Q w)
+    → OfWorld told.world (λ w. IsMadeIn (part_kind h step note) a h g w × Q w)
+where_made {step = step} {note = note} {found = found} {a = a} {h = h} {g = g} {told = told} {Q = Q} made each =
+    where_answered (part_kind h step note) found a h g told {Q = Q} made.answers
+    (λ w there is. each w
     (record { hand = made.hand; topics = made.topics; has = there.has; world = (there.may, is, refl); steps = tt; answers = (there, is) })
-    (has_after k a h g w there))
+    (has_after (part_kind h step note) a h g w there))
 
 -- a fact of the world that was told before a step and of the one that is told after it, where both are told
 abbrev pub ToldBoth : Option (World Held) → Option (World Held) → (World Held → World Held → Type 0) → Type 0
