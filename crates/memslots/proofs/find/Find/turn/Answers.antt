@@ -5,9 +5,9 @@ use Rattle.memslots.proofs.find.Find.turn.Goals as goal
 
 pub returns-then-not-self-clause-published : goal.returns-then-not-self-clause-published
 returns-then-not-self-clause-published g c not_yet =
-    set_published c.args.note c.make_part.result (g.S.Stepper.actor c.args.s.now) (g.S.Stepper.handful c.args.s.now).core (g.S.Stepper.handful c.make_part.new.s).core
+    set_published c.args.self.now c.args.note c.make_part.result (g.S.Stepper.actor c.args.s.now) (g.S.Stepper.handful c.args.s.now).core (g.S.Stepper.handful c.make_part.new.s).core
     (g.S.Stepper.tells c.args.s.now) (g.S.Stepper.tells c.make_part.new.s)
-    (c.requires.held not_yet) c.make_part.ensures.made
+    not_yet (c.requires.held not_yet) c.make_part.ensures.made
 
 pub returns-clause-now : goal.returns-clause-now
 returns-clause-now g c =
