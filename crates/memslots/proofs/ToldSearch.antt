@@ -1,5 +1,5 @@
 -- What a turn of a search says of the words of the world in which its step was made.
-use Rattle.std.proofs.Common.{◌≡◌, ◌<◌, ℕ, Option, Some, None, length, sym, subst, ap, ◌∙◌}
+use Rattle.std.proofs.Common.{◌≡◌, ◌<◌, ℕ, Option, Some, None, length, sym, subst, ap, ◌∙◌, arith}
 use Rattle.std.specs.Prelude.{Bool, true, false, is_some, if◌then◌else◌}
 use Rattle.std.proofs.Math.Logic.{∥∥₁_elim}
 use Rattle.std.proofs.Props.{props}
@@ -12,7 +12,7 @@ use Rattle.part_steps.specs.declared.task.Task.{Task}
 use Rattle.part_steps.specs.declared.part_step.PartStep.TheVariants as part
 use Rattle.mmu_core.specs.Enabled.{mmu}
 use Rattle.mmu_core.specs.Machine.{World, effect, hand_in}
-use Rattle.part_steps.specs.PartSteps.{PartNeeds, own_index, part_kind, part_task}
+use Rattle.part_steps.specs.PartSteps.{PartNeeds, own_index, part_kind, part_task, set_held}
 use Rattle.part_steps.specs.PartTopics.{part_topics}
 use Rattle.part_steps.specs.Tasks.{kind_of_task, map_of}
 use Rattle.part_steps.specs.TopicSteps.{may_search, searched}
@@ -27,10 +27,12 @@ use Rattle.step_seats.specs.Where.{HasHand, Told}
 use Rattle.step_seats.specs.declared.turn.Turn.{Turn}
 use Rattle.memslots.specs.declared.find.Find.{Find}
 use Rattle.memslots.specs.declared.find.FoundSlot.{FoundSlot}
-use Rattle.memslots.specs.Finding.{FindsIn, IsSearchFor, Searches, find_step}
+use Rattle.memslots.specs.Finding.{FindsIn, IsSearchFor, Searches, find_step, HasLoaded}
 use Rattle.step_seats.proofs.Where.{only, where_made}
 use Rattle.step_seats.proofs.Found.{Answers, found_told}
 use Rattle.memslots.proofs.Searching.{finds_by}
+use Rattle.step_seats.specs.declared.turn.Turn.TheVariants.{More}
+use Rattle.core_views.specs.declared.place.SlotField.{SlotField}
 
 -- The load of a slot's word leaves the words of the pool.
 stays_in : (w : World Held) (a note : ℕ) → Reachable w → a < length w.hands → PartNeeds part.Slot (hand_in mmu w a)
@@ -89,3 +91,20 @@ pub set_published : (job : Find) (note found a : ℕ) (before after : Held) (tol
 set_published job note found a before after told tells not_yet held made =
     subst (λ (b : Bool). WherePartMade (if b then part.Slot else part.Slots) note a before after told (IsPublished before after)) (sym not_yet)
     (where_made made (λ w at has. set_loaded before.topics after.topics found held made.topics ∙ ap Some (found_told part.Slots note found a before after (only w) _ at tt)))
+
+-- A search that begins agrees with all words of the pool: nothing was loaded of them yet.
+search_begins : (gfn : ℕ) (pool : ℕ → ℕ) (before after : Topics) (v : ℕ) → may_search before.stay before.hold ≡ true → after ≡ part_topics part.Slots before v → IsSearchFor gfn pool after.search
+search_begins gfn pool before after v held made = record {
+  held = ap is_some set;
+  loaded = subst (λ (f : SlotField). HasLoaded f pool (set_held after.search.set) after.search) (sym (ap (λ (t : Topics). t.search.next) made)) tt;
+  before = λ i lt. let first : after.search.id ≡ 0 = ap (λ (t : Topics). t.search.id) made in absurd (omega (arith, lt, first));
+}
+  where
+    set : after.search.set ≡ Some v
+    set = set_loaded before after v held made
+
+pub begins_found : (job : Find) (note found a : ℕ) (before after : Held) (told tells : Told) → job.begun ≡ false → may_search before.topics.stay before.topics.hold ≡ true → MadePart part.Slots note found a before after told tells
+    → WherePartMade (find_step job) note a before after told (Says job before after More)
+begins_found job note found a before after told tells not_yet held made =
+    subst (λ (b : Bool). WherePartMade (if b then part.Slot else part.Slots) note a before after told (Says job before after More)) (sym not_yet)
+    (where_made made (λ w at has agrees. search_begins job.gfn _ before.topics after.topics found held made.topics))

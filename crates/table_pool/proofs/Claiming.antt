@@ -208,7 +208,17 @@ load_stands word note found a before after told tells N M = told_both told.world
         by true none some = let zero_ = none refl in absurd (omega (arith, some, zero_))
         by false none some = ap (word_in before.state.sizes u area.PoolMap) (omega arith) ∙ (moved.leaves area.PoolMap word ∙ sym moved.finds)
 
--- What an actor owns in a world that is told is its own alone.
+-- what a load says where its step was made: what was seen stands there, and the turn doesn't wait
+module _ (job : Claim) (word note found a : ℕ) (before after : Held) (told tells : Told) (none : sees_pages job before.topics.claim ≡ false) (next : word ≡ next_word job before.topics.claim) (may : MayMake (claim_step job before.topics.claim) note before) (M : MadePart (part.Map word) note found a before after told tells) where
+  pub load_stands_there : WherePartMade (claim_step job before.topics.claim) note a before after told (λ w t. SawStands before.state.sizes after.topics.claim t)
+  load_stands_there = where_claimed job (part.Map word) note found a before after told tells (λ w t. SawStands before.state.sizes after.topics.claim t) (loads job word before.topics.claim none next) M
+      (λ w at has. load_stands word _ _ _ _ _ (only w) (only _) (load_needs job word note before none next may) at)
+
+  pub load_waits_not : (result : Turn Claimed) → ((seen : Seen) → result ≢ Wait seen) → WherePartMade (claim_step job before.topics.claim) note a before after told (λ w t. SawStands before.state.sizes before.topics.claim w → (seen : Seen) → result ≢ Wait seen)
+  load_waits_not result never = where_claimed job (part.Map word) note found a before after told tells (λ w t. SawStands before.state.sizes before.topics.claim w → (seen : Seen) → result ≢ Wait seen)
+      (loads job word before.topics.claim none next) M (λ w at has stands. never)
+
+-- What an actor owns in a world that steps lead to is its own alone.
 sole_in : (w : World Held) (a : ℕ) (o : OwnedPage) (r : Reachable w) → a < length w.hands → (hand_in mmu w a).topics.owned ≡ Some o → IsClaimersAlone (hand_in mmu w a).state.sizes a o.page w
 sole_in w a o r there mine = subst (λ (y : Sizes). IsClaimersAlone y a o.page w) (sym (G.holds.lines a lt).sizes) alone
   where

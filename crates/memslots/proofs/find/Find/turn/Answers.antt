@@ -1,6 +1,6 @@
 use Rattle.std.proofs.Common.{rules}
 use Rattle.memslots.specs.Finding.{Searches}
-use Rattle.memslots.proofs.ToldSearch.{now_found, set_published}
+use Rattle.memslots.proofs.ToldSearch.{now_found, set_published, begins_found}
 use Rattle.memslots.proofs.find.Find.turn.Goals as goal
 
 pub returns-then-not-self-clause-published : goal.returns-then-not-self-clause-published
@@ -15,3 +15,9 @@ returns-clause-now g c =
     now_found c.args.self.now c.args.note c.make_part-2.result (g.S.Stepper.actor c.args.s.now) (g.S.Stepper.handful c.args.s.now).core (g.S.Stepper.handful c.make_part-2.new.s).core
     (g.S.Stepper.tells c.args.s.now) (g.S.Stepper.tells c.make_part-2.new.s)
     c.look.result c.if-not-self.false c.requires.may.needs c.make_part-2.ensures.made looks
+
+pub returns-then-not-self-clause-now : goal.returns-then-not-self-clause-now
+returns-then-not-self-clause-now g c =
+    begins_found c.args.self.now c.args.note c.make_part.result (g.S.Stepper.actor c.args.s.now) (g.S.Stepper.handful c.args.s.now).core (g.S.Stepper.handful c.make_part.new.s).core
+    (g.S.Stepper.tells c.args.s.now) (g.S.Stepper.tells c.make_part.new.s)
+    c.if-not-self.true (c.requires.held c.if-not-self.true) c.make_part.ensures.made

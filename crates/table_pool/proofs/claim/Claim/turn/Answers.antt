@@ -2,11 +2,12 @@ use Rattle.std.proofs.Common.{◌≡◌, ◌<◌, ◌^◌, Some, None, ap, sym, 
 use Rattle.std.specs.Prelude.{false}
 use Rattle.part_steps.specs.declared.part_step.PartStep.TheVariants as part
 use Rattle.table_pool.specs.Claims.{IsClaimersAlone, IsFreePage, SawStands, next_word, sees_pages, claim_step}
-use Rattle.table_pool.proofs.Claiming.{claim_alone, claim_needs, claim_stands, claimed_alone, claimed_free, load_needs, load_stands, never_waits, page_in, saw_none, unbegun, won_waits_not, word_begun, word_unbegun, claims, loads, where_claimed}
+use Rattle.table_pool.proofs.Claiming.{claim_alone, claim_needs, claim_stands, claimed_alone, claimed_free, never_waits, page_in, saw_none, unbegun, won_waits_not, word_begun, word_unbegun, claims, where_claimed, load_stands_there, load_waits_not}
 use Rattle.step_seats.specs.PartTurns.{WherePartMade}
 use Rattle.step_seats.proofs.Where.{only}
 use Rattle.core_views.specs.declared.hand.Seen.{Seen}
-use Rattle.step_seats.specs.declared.turn.Turn.TheVariants.{Wait}
+use Rattle.step_seats.specs.declared.turn.Turn.TheVariants.{Wait, More, Done}
+use Rattle.table_pool.specs.declared.claim.Claimed.TheVariants.{Empty}
 use Rattle.table_pool.proofs.claim.Claim.turn.Goals.{in-Some, in-None, else-self-via-then-self+else-claim-gt0, else-self-via-else-self, then-self-2, else-self-2}
 use Rattle.table_pool.proofs.claim.Claim.turn.Goals as goal
 
@@ -76,17 +77,60 @@ returns-then-claim-gt0-clause-alone g c =
 
 pub returns-then-topics-size_of-clause-stands : goal.returns-then-topics-size_of-clause-stands
 returns-then-topics-size_of-clause-stands g c =
-    let none : sees_pages c.args.self.now (g.S.Stepper.handful c.args.s.now).core.topics.claim ≡ false = elim c.else-self.branch [
-      | else-self-via-then-self+else-claim-gt0 w ↦ saw_none c.args.self.now (g.S.Stepper.handful c.args.s.now).core.topics.claim w.if-self.true (rw (sym c.hand-3.ensures.hand, sym c.topics.ensures) w.if-claim-gt0.false)
-      | else-self-via-else-self w ↦ unbegun c.args.self.now (g.S.Stepper.handful c.args.s.now).core.topics.claim w.if-self.false
-    ] in
-    let word : c.if-self-2.word ≡ next_word c.args.self.now (g.S.Stepper.handful c.args.s.now).core.topics.claim = elim c.if-self-2.branch [
-      | then-self-2 w ↦ word_begun c.args.self.now (g.S.Stepper.handful c.args.s.now).core.topics.claim c.if-self-2.word w.if-self-2.true (rw (sym c.hand-3.ensures.hand, sym c.topics.ensures) w.word-is)
-      | else-self-2 w ↦ word_unbegun c.args.self.now (g.S.Stepper.handful c.args.s.now).core.topics.claim c.if-self-2.word w.if-self-2.false w.word-is
-    ] in
     let s = c.args.s.now in
     let h = (g.S.Stepper.handful s).core in
     let after = (g.S.Stepper.handful c.make_part.new.s).core in
-    where_claimed c.args.self.now (part.Map c.if-self-2.word) c.args.note c.make_part.result (g.S.Stepper.actor s) h after (g.S.Stepper.tells s) (g.S.Stepper.tells c.make_part.new.s)
-    (λ v t. SawStands h.state.sizes after.topics.claim t) (loads c.args.self.now c.if-self-2.word h.topics.claim none word) c.make_part.ensures.made
-    (λ v at has. load_stands c.if-self-2.word _ _ _ _ _ (only v) (only _) (load_needs c.args.self.now c.if-self-2.word c.args.note h none word c.requires.may) at)
+    let none : sees_pages c.args.self.now h.topics.claim ≡ false = elim c.else-self.branch [
+      | else-self-via-then-self+else-claim-gt0 w ↦ saw_none c.args.self.now h.topics.claim w.if-self.true (rw (sym c.hand-3.ensures.hand, sym c.topics.ensures) w.if-claim-gt0.false)
+      | else-self-via-else-self w ↦ unbegun c.args.self.now h.topics.claim w.if-self.false
+    ] in
+    let word : c.if-self-2.word ≡ next_word c.args.self.now h.topics.claim = elim c.if-self-2.branch [
+      | then-self-2 w ↦ word_begun c.args.self.now h.topics.claim c.if-self-2.word w.if-self-2.true (rw (sym c.hand-3.ensures.hand, sym c.topics.ensures) w.word-is)
+      | else-self-2 w ↦ word_unbegun c.args.self.now h.topics.claim c.if-self-2.word w.if-self-2.false w.word-is
+    ] in
+    load_stands_there c.args.self.now c.if-self-2.word c.args.note c.make_part.result (g.S.Stepper.actor s) h after (g.S.Stepper.tells s) (g.S.Stepper.tells c.make_part.new.s) none word c.requires.may c.make_part.ensures.made
+
+pub returns-then-topics-size_of-clause-alone : goal.returns-then-topics-size_of-clause-alone
+returns-then-topics-size_of-clause-alone g c =
+    let s = c.args.s.now in
+    let h = (g.S.Stepper.handful s).core in
+    let after = (g.S.Stepper.handful c.make_part.new.s).core in
+    let none : sees_pages c.args.self.now h.topics.claim ≡ false = elim c.else-self.branch [
+      | else-self-via-then-self+else-claim-gt0 w ↦ saw_none c.args.self.now h.topics.claim w.if-self.true (rw (sym c.hand-3.ensures.hand, sym c.topics.ensures) w.if-claim-gt0.false)
+      | else-self-via-else-self w ↦ unbegun c.args.self.now h.topics.claim w.if-self.false
+    ] in
+    let word : c.if-self-2.word ≡ next_word c.args.self.now h.topics.claim = elim c.if-self-2.branch [
+      | then-self-2 w ↦ word_begun c.args.self.now h.topics.claim c.if-self-2.word w.if-self-2.true (rw (sym c.hand-3.ensures.hand, sym c.topics.ensures) w.word-is)
+      | else-self-2 w ↦ word_unbegun c.args.self.now h.topics.claim c.if-self-2.word w.if-self-2.false w.word-is
+    ] in
+    load_waits_not c.args.self.now c.if-self-2.word c.args.note c.make_part.result (g.S.Stepper.actor s) h after (g.S.Stepper.tells s) (g.S.Stepper.tells c.make_part.new.s) none word c.requires.may c.make_part.ensures.made More (λ seen e. cc e)
+
+pub returns-else-topics-size_of-clause-stands : goal.returns-else-topics-size_of-clause-stands
+returns-else-topics-size_of-clause-stands g c =
+    let s = c.args.s.now in
+    let h = (g.S.Stepper.handful s).core in
+    let after = (g.S.Stepper.handful c.make_part.new.s).core in
+    let none : sees_pages c.args.self.now h.topics.claim ≡ false = elim c.else-self.branch [
+      | else-self-via-then-self+else-claim-gt0 w ↦ saw_none c.args.self.now h.topics.claim w.if-self.true (rw (sym c.hand-3.ensures.hand, sym c.topics.ensures) w.if-claim-gt0.false)
+      | else-self-via-else-self w ↦ unbegun c.args.self.now h.topics.claim w.if-self.false
+    ] in
+    let word : c.if-self-2.word ≡ next_word c.args.self.now h.topics.claim = elim c.if-self-2.branch [
+      | then-self-2 w ↦ word_begun c.args.self.now h.topics.claim c.if-self-2.word w.if-self-2.true (rw (sym c.hand-3.ensures.hand, sym c.topics.ensures) w.word-is)
+      | else-self-2 w ↦ word_unbegun c.args.self.now h.topics.claim c.if-self-2.word w.if-self-2.false w.word-is
+    ] in
+    load_stands_there c.args.self.now c.if-self-2.word c.args.note c.make_part.result (g.S.Stepper.actor s) h after (g.S.Stepper.tells s) (g.S.Stepper.tells c.make_part.new.s) none word c.requires.may c.make_part.ensures.made
+
+pub returns-else-topics-size_of-clause-alone : goal.returns-else-topics-size_of-clause-alone
+returns-else-topics-size_of-clause-alone g c =
+    let s = c.args.s.now in
+    let h = (g.S.Stepper.handful s).core in
+    let after = (g.S.Stepper.handful c.make_part.new.s).core in
+    let none : sees_pages c.args.self.now h.topics.claim ≡ false = elim c.else-self.branch [
+      | else-self-via-then-self+else-claim-gt0 w ↦ saw_none c.args.self.now h.topics.claim w.if-self.true (rw (sym c.hand-3.ensures.hand, sym c.topics.ensures) w.if-claim-gt0.false)
+      | else-self-via-else-self w ↦ unbegun c.args.self.now h.topics.claim w.if-self.false
+    ] in
+    let word : c.if-self-2.word ≡ next_word c.args.self.now h.topics.claim = elim c.if-self-2.branch [
+      | then-self-2 w ↦ word_begun c.args.self.now h.topics.claim c.if-self-2.word w.if-self-2.true (rw (sym c.hand-3.ensures.hand, sym c.topics.ensures) w.word-is)
+      | else-self-2 w ↦ word_unbegun c.args.self.now h.topics.claim c.if-self-2.word w.if-self-2.false w.word-is
+    ] in
+    load_waits_not c.args.self.now c.if-self-2.word c.args.note c.make_part.result (g.S.Stepper.actor s) h after (g.S.Stepper.tells s) (g.S.Stepper.tells c.make_part.new.s) none word c.requires.may c.make_part.ensures.made (Done Empty) (λ seen e. cc e)
