@@ -44,7 +44,7 @@ pub fn start_line<S: Stepper>(s: &mut S, line: &Line) -> Result<LineJob, NoMemor
     ensures reserved { OnOk result (0 < (S.handful s.new).room) }
     ensures refused { OnErr result (S.handful s.new ≡ S.handful s.old) }
     ensures hand { (S.handful s.new).core ≡ (S.handful s.old).core }
-    ensures told { (S.tells s.new ≡ S.tells s.old) }
+    ensures told { S.tells s.new ≡ S.tells s.old }
     ensures same { (S.actor s.new ≡ S.actor s.old) × (S.frame s.new ≡ S.frame s.old) }
 {
     s.reserve(line)?;

@@ -67,7 +67,7 @@ pub fn take_turn<S: Stepper>(s: &mut S, line: &Line) -> Result<Turn<Answer>, NoM
 // no step is made.
 fn next_turn<S: Stepper>(s: &mut S) -> Result<Option<TurnMade>, NoMemory>
     ensures turned { IfOk result (λ made. TurnedTold made (S.actor s.old) (S.tells s.old).world (S.tells s.new).world) }
-    ensures refused { OnErr result (S.told s.new ≡ S.told s.old) }
+    ensures refused { OnErr result (S.tells s.new ≡ S.tells s.old) }
     ensures same { (S.actor s.new ≡ S.actor s.old) × (S.frame s.new ≡ S.frame s.old) }
 {
     let hand = s.hand();

@@ -9,7 +9,7 @@ loop-answer-init g c =
     let e = c.in_ok-job.ensures in
     let below = slice_get_within (g.S.Stepper.handful c.args.s.now).core.lines (length (g.S.Stepper.handful c.args.s.now).core.answers) c.args.line.now c.requires.next in
     record {
-      part = rw (e.hand, e.told.0, e.told.1) (part_starts c.args.line.now (g.S.Stepper.actor c.args.s.now) (g.S.Stepper.handful c.args.s.now).core (g.S.Stepper.tells c.args.s.now) c.requires.idle c.requires.next c.requires.alone);
+      part = rw (e.hand, e.told) (part_starts c.args.line.now (g.S.Stepper.actor c.args.s.now) (g.S.Stepper.handful c.args.s.now).core (g.S.Stepper.tells c.args.s.now) c.requires.idle c.requires.next c.requires.alone);
       reserved = e.reserved;
       job = rw e.hand e.job;
       left = rw e.hand below;

@@ -10,7 +10,7 @@ pub returns-in-Some-clause-turns : goal.returns-in-Some-clause-turns
 returns-in-Some-clause-turns g c =
     setting_done (g.S.Stepper.actor c.args.s.now) (g.S.Stepper.handful c.args.s.now).core (g.S.Stepper.handful c.act-found.new.self).core (g.S.Stepper.tells c.args.s.now) (g.S.Stepper.tells c.act-found.new.self)
     c.setting_place-place.result c.args.self.now.id c.args.self.now.slot (rw c.hand-hand.ensures.hand at c.setting_place-place.ensures) c.requires.setting
-    (record { kind = c.next_kind-kind.result; found = c.act-found.result; enabled = rw c.hand-hand.ensures.hand at c.next_kind-kind.ensures; hand = c.act-found.ensures.hand; world = c.act-found.ensures.told; steps = c.act-found.ensures.steps })
+    (record { kind = c.next_kind-kind.result; found = c.act-found.result; enabled = rw c.hand-hand.ensures.hand at c.next_kind-kind.ensures; hand = c.act-found.ensures.hand; world = c.act-found.ensures.told; steps = c.act-found.ensures.steps; answers = c.act-found.ensures.answers })
     c.in-Some.answered.now.answer
     (turn_is_done (g.S.Stepper.handful c.args.s.now).core (g.S.Stepper.handful c.act-found.new.self).core c.next_kind-kind.result c.act-found.result c.args.self.now.index c.answers.result.now c.in-Some.answered.now c.requires.left c.act-found.ensures.hand (rw c.hand.ensures.hand at c.answers.ensures) c.requires.next c.in-Some.ensures.lookup.3.0 c.in-Some.ensures.lookup.1)
 
@@ -24,7 +24,7 @@ pub returns-then-not-waits-clause-turns : goal.returns-then-not-waits-clause-tur
 returns-then-not-waits-clause-turns g c =
     setting_more (g.S.Stepper.actor c.args.s.now) (g.S.Stepper.handful c.args.s.now).core (g.S.Stepper.handful c.act-found.new.self).core (g.S.Stepper.tells c.args.s.now) (g.S.Stepper.tells c.act-found.new.self)
     c.setting_place-place.result c.args.self.now.id c.args.self.now.slot (rw c.hand-hand.ensures.hand at c.setting_place-place.ensures) c.requires.setting
-    (record { kind = c.next_kind-kind.result; found = c.act-found.result; enabled = rw c.hand-hand.ensures.hand at c.next_kind-kind.ensures; hand = c.act-found.ensures.hand; world = c.act-found.ensures.told; steps = c.act-found.ensures.steps })
+    (record { kind = c.next_kind-kind.result; found = c.act-found.result; enabled = rw c.hand-hand.ensures.hand at c.next_kind-kind.ensures; hand = c.act-found.ensures.hand; world = c.act-found.ensures.told; steps = c.act-found.ensures.steps; answers = c.act-found.ensures.answers })
     (turn_is_more (g.S.Stepper.handful c.args.s.now).core (g.S.Stepper.handful c.act-found.new.self).core c.next_kind-kind.result c.act-found.result c.args.self.now.index c.answers.result.now c.requires.left c.act-found.ensures.hand (rw c.hand.ensures.hand at c.answers.ensures) c.requires.next c.in_default.ensures.lookup.3)
     (sym (rw (c.topics.ensures, c.hand-hand.ensures.hand) at c.waits.ensures) ∙ c.if-not-waits.true)
 
@@ -38,7 +38,7 @@ pub returns-in-Close-clause-turns : goal.returns-in-Close-clause-turns
 returns-in-Close-clause-turns g c =
     setting_counts (g.S.Stepper.actor c.args.s.now) (g.S.Stepper.handful c.args.s.now).core (g.S.Stepper.handful c.act-found.new.self).core (g.S.Stepper.tells c.args.s.now) (g.S.Stepper.tells c.act-found.new.self)
     c.setting_place-place.result c.args.self.now.id c.args.self.now.slot (rw c.hand-hand.ensures.hand at c.setting_place-place.ensures) c.requires.setting
-    (record { kind = c.next_kind-kind.result; found = c.act-found.result; enabled = rw c.hand-hand.ensures.hand at c.next_kind-kind.ensures; hand = c.act-found.ensures.hand; world = c.act-found.ensures.told; steps = c.act-found.ensures.steps })
+    (record { kind = c.next_kind-kind.result; found = c.act-found.result; enabled = rw c.hand-hand.ensures.hand at c.next_kind-kind.ensures; hand = c.act-found.ensures.hand; world = c.act-found.ensures.told; steps = c.act-found.ensures.steps; answers = c.act-found.ensures.answers })
     c.in-Close.is c.counted-counted.result (rw c.hand-hand.ensures.hand at c.counted-counted.ensures)
 
 pub returns-in-Close-clause-says : goal.returns-in-Close-clause-says
@@ -51,7 +51,7 @@ pub returns-in_default-place : goal.returns-in_default-place
 returns-in_default-place g c =
     let T = setting_waits (g.S.Stepper.actor c.args.s.now) (g.S.Stepper.handful c.args.s.now).core (g.S.Stepper.handful c.act-found.new.self).core (g.S.Stepper.tells c.args.s.now) (g.S.Stepper.tells c.act-found.new.self)
     c.setting_place-place.result c.args.self.now.id c.args.self.now.slot (rw c.hand-hand.ensures.hand at c.setting_place-place.ensures) c.requires.setting
-    (record { kind = c.next_kind-kind.result; found = c.act-found.result; enabled = rw c.hand-hand.ensures.hand at c.next_kind-kind.ensures; hand = c.act-found.ensures.hand; world = c.act-found.ensures.told; steps = c.act-found.ensures.steps })
+    (record { kind = c.next_kind-kind.result; found = c.act-found.result; enabled = rw c.hand-hand.ensures.hand at c.next_kind-kind.ensures; hand = c.act-found.ensures.hand; world = c.act-found.ensures.told; steps = c.act-found.ensures.steps; answers = c.act-found.ensures.answers })
     c.in_default-place.not-Close (sym (rw (c.topics.ensures, c.hand-hand.ensures.hand) at c.waits.ensures) ∙ c.if-not-waits.false) (has_line_is (g.S.Stepper.handful c.args.s.now).core c.requires.left) in
     record {
       turns = T;

@@ -51,4 +51,5 @@ returns-in-Touch-clause-makes g c =
       hand = c.touch.ensures.hand;
       world = c.touch.ensures.told;
       steps = c.touch.ensures.steps;
+      answers = c.touch.ensures.answers;
     }
