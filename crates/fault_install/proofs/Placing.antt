@@ -37,7 +37,8 @@ use Rattle.part_steps.specs.TopicSteps.{has_writer, is_loose, is_won, searched}
 use Rattle.mmu_lock.specs.declared.lock.Lock.{Lock}
 use Rattle.mmu_lock.specs.declared.lock.Lock.TheVariants.{Got, Held as HeldBy}
 use Rattle.mmu_lock.specs.Locking.{TriedShared, shared_step}
-use Rattle.step_seats.specs.PartTurns.{MadePart, MakesPart, Told}
+use Rattle.step_seats.specs.PartTurns.{MadePart, MakesPart}
+use Rattle.step_seats.specs.Where.{Told}
 use Rattle.step_seats.specs.declared.turn.Turn.{Turn}
 use Rattle.step_seats.specs.declared.turn.Turn.TheVariants.{More, Wait, Retry, Done}
 use Rattle.table_pool.specs.declared.claim.Claimed.{Claimed}

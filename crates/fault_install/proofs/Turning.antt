@@ -23,7 +23,8 @@ use Rattle.mmu_core.proofs.FaultKnown.{fault_known}
 use Rattle.mmu_core.proofs.FaultNeeds.{fault_needs}
 use Rattle.mmu_core.proofs.HandAfter.{next_same}
 use Rattle.mmu_core.proofs.PartRested.{may_make, reached_part_rests}
-use Rattle.step_seats.specs.PartTurns.{MadePart, Told}
+use Rattle.step_seats.specs.PartTurns.{MadePart}
+use Rattle.step_seats.specs.Where.{Told}
 use Rattle.step_seats.specs.declared.turn.Turn.{Turn}
 use Rattle.step_seats.specs.declared.turn.Turn.TheVariants.{More, Wait, Retry, Done}
 use Rattle.fault_install.specs.declared.fault.FaultJob.{FaultJob}

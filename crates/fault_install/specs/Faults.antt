@@ -11,7 +11,8 @@ use Rattle.mmu_core.specs.FaultKnows.{EndKnows, FaultKnows, KnowsNext}
 use Rattle.mmu_core.specs.FaultLaws.{CanAnswer}
 use Rattle.mmu_core.specs.FaultSteps.{fault_next, fault_part, wait_seen, waits}
 use Rattle.mmu_core.specs.MayMake.{MayMake}
-use Rattle.step_seats.specs.PartTurns.{MadePart, Told}
+use Rattle.step_seats.specs.PartTurns.{MadePart}
+use Rattle.step_seats.specs.Where.{Told}
 use Rattle.step_seats.specs.declared.turn.Turn.{Turn}
 use Rattle.step_seats.specs.declared.turn.Turn.TheVariants.{More, Wait, Retry, Done}
 use Rattle.fault_install.specs.declared.fault.FaultJob.{FaultJob}

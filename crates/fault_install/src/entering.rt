@@ -41,7 +41,7 @@ impl FaultJob {
     pub(crate) fn root<S: Stepper>(&mut self, s: &mut S, note: u64) -> Turn<Faulted>
         requires is_at { IsAt (at.Walk false) self.old note (S.handful s.old).core }
         requires reserved { 0 < (S.handful s.old).room }
-        ensures makes { MakesStep self.old self.new result note (S.actor s.old) (S.handful s.old).core (S.handful s.new).core (record { world = S.told s.old; steps = S.steps s.old }) (record { world = S.told s.new; steps = S.steps s.new }) }
+        ensures makes { MakesStep self.old self.new result note (S.actor s.old) (S.handful s.old).core (S.handful s.new).core (S.tells s.old) (S.tells s.new) }
         ensures room { KeepsRoom (S.handful s.old) (S.handful s.new) }
         ensures same { (S.actor s.new ≡ S.actor s.old) × (S.frame s.new ≡ S.frame s.old) }
     {
@@ -58,7 +58,7 @@ impl FaultJob {
     pub(crate) fn walk<S: Stepper>(&mut self, s: &mut S, note: u64) -> Turn<Faulted>
         requires is_at { IsAt (at.Walk true) self.old note (S.handful s.old).core }
         requires reserved { 0 < (S.handful s.old).room }
-        ensures makes { MakesStep self.old self.new result note (S.actor s.old) (S.handful s.old).core (S.handful s.new).core (record { world = S.told s.old; steps = S.steps s.old }) (record { world = S.told s.new; steps = S.steps s.new }) }
+        ensures makes { MakesStep self.old self.new result note (S.actor s.old) (S.handful s.old).core (S.handful s.new).core (S.tells s.old) (S.tells s.new) }
         ensures room { KeepsRoom (S.handful s.old) (S.handful s.new) }
         ensures same { (S.actor s.new ≡ S.actor s.old) × (S.frame s.new ≡ S.frame s.old) }
     {
@@ -78,7 +78,7 @@ impl FaultJob {
     pub(crate) fn claim<S: Stepper>(&mut self, s: &mut S, begun: bool, note: u64) -> Turn<Faulted>
         requires is_at { IsAt (at.Claim begun) self.old note (S.handful s.old).core }
         requires reserved { 0 < (S.handful s.old).room }
-        ensures makes { MakesStep self.old self.new result note (S.actor s.old) (S.handful s.old).core (S.handful s.new).core (record { world = S.told s.old; steps = S.steps s.old }) (record { world = S.told s.new; steps = S.steps s.new }) }
+        ensures makes { MakesStep self.old self.new result note (S.actor s.old) (S.handful s.old).core (S.handful s.new).core (S.tells s.old) (S.tells s.new) }
         ensures room { KeepsRoom (S.handful s.old) (S.handful s.new) }
         ensures same { (S.actor s.new ≡ S.actor s.old) × (S.frame s.new ≡ S.frame s.old) }
     {
@@ -92,7 +92,7 @@ impl FaultJob {
     pub(crate) fn fill<S: Stepper>(&mut self, s: &mut S, note: u64) -> Turn<Faulted>
         requires is_at { IsAt at.Fill self.old note (S.handful s.old).core }
         requires reserved { 0 < (S.handful s.old).room }
-        ensures makes { MakesStep self.old self.new result note (S.actor s.old) (S.handful s.old).core (S.handful s.new).core (record { world = S.told s.old; steps = S.steps s.old }) (record { world = S.told s.new; steps = S.steps s.new }) }
+        ensures makes { MakesStep self.old self.new result note (S.actor s.old) (S.handful s.old).core (S.handful s.new).core (S.tells s.old) (S.tells s.new) }
         ensures room { KeepsRoom (S.handful s.old) (S.handful s.new) }
         ensures same { (S.actor s.new ≡ S.actor s.old) × (S.frame s.new ≡ S.frame s.old) }
     {
@@ -107,7 +107,7 @@ impl FaultJob {
     pub(crate) fn link<S: Stepper>(&mut self, s: &mut S, note: u64) -> Turn<Faulted>
         requires is_at { IsAt at.Link self.old note (S.handful s.old).core }
         requires reserved { 0 < (S.handful s.old).room }
-        ensures makes { MakesStep self.old self.new result note (S.actor s.old) (S.handful s.old).core (S.handful s.new).core (record { world = S.told s.old; steps = S.steps s.old }) (record { world = S.told s.new; steps = S.steps s.new }) }
+        ensures makes { MakesStep self.old self.new result note (S.actor s.old) (S.handful s.old).core (S.handful s.new).core (S.tells s.old) (S.tells s.new) }
         ensures room { KeepsRoom (S.handful s.old) (S.handful s.new) }
         ensures same { (S.actor s.new ≡ S.actor s.old) × (S.frame s.new ≡ S.frame s.old) }
     {
@@ -127,7 +127,7 @@ impl FaultJob {
     pub(crate) fn give<S: Stepper>(&mut self, s: &mut S, end: FaultEnd, note: u64) -> Turn<Faulted>
         requires is_at { IsAt (at.Give end) self.old note (S.handful s.old).core }
         requires reserved { 0 < (S.handful s.old).room }
-        ensures makes { MakesStep self.old self.new result note (S.actor s.old) (S.handful s.old).core (S.handful s.new).core (record { world = S.told s.old; steps = S.steps s.old }) (record { world = S.told s.new; steps = S.steps s.new }) }
+        ensures makes { MakesStep self.old self.new result note (S.actor s.old) (S.handful s.old).core (S.handful s.new).core (S.tells s.old) (S.tells s.new) }
         ensures room { KeepsRoom (S.handful s.old) (S.handful s.new) }
         ensures same { (S.actor s.new ≡ S.actor s.old) × (S.frame s.new ≡ S.frame s.old) }
     {
@@ -141,7 +141,7 @@ impl FaultJob {
     pub(crate) fn leaf<S: Stepper>(&mut self, s: &mut S, note: u64) -> Turn<Faulted>
         requires is_at { IsAt at.Leaf self.old note (S.handful s.old).core }
         requires reserved { 0 < (S.handful s.old).room }
-        ensures makes { MakesStep self.old self.new result note (S.actor s.old) (S.handful s.old).core (S.handful s.new).core (record { world = S.told s.old; steps = S.steps s.old }) (record { world = S.told s.new; steps = S.steps s.new }) }
+        ensures makes { MakesStep self.old self.new result note (S.actor s.old) (S.handful s.old).core (S.handful s.new).core (S.tells s.old) (S.tells s.new) }
         ensures room { KeepsRoom (S.handful s.old) (S.handful s.new) }
         ensures same { (S.actor s.new ≡ S.actor s.old) × (S.frame s.new ≡ S.frame s.old) }
     {
@@ -166,7 +166,7 @@ impl FaultJob {
     ) -> Turn<Faulted>
         requires is_at { IsAt (at.Unshare end) self.old note (S.handful s.old).core }
         requires reserved { 0 < (S.handful s.old).room }
-        ensures makes { MakesStep self.old self.new result note (S.actor s.old) (S.handful s.old).core (S.handful s.new).core (record { world = S.told s.old; steps = S.steps s.old }) (record { world = S.told s.new; steps = S.steps s.new }) }
+        ensures makes { MakesStep self.old self.new result note (S.actor s.old) (S.handful s.old).core (S.handful s.new).core (S.tells s.old) (S.tells s.new) }
         ensures room { KeepsRoom (S.handful s.old) (S.handful s.new) }
         ensures same { (S.actor s.new ≡ S.actor s.old) × (S.frame s.new ≡ S.frame s.old) }
     {
@@ -179,7 +179,7 @@ impl FaultJob {
     pub(crate) fn end<S: Stepper>(&mut self, s: &mut S, ended: FaultEnd, note: u64) -> Turn<Faulted>
         requires is_at { IsAt (at.End ended) self.old note (S.handful s.old).core }
         requires reserved { 0 < (S.handful s.old).room }
-        ensures makes { MakesStep self.old self.new result note (S.actor s.old) (S.handful s.old).core (S.handful s.new).core (record { world = S.told s.old; steps = S.steps s.old }) (record { world = S.told s.new; steps = S.steps s.new }) }
+        ensures makes { MakesStep self.old self.new result note (S.actor s.old) (S.handful s.old).core (S.handful s.new).core (S.tells s.old) (S.tells s.new) }
         ensures room { KeepsRoom (S.handful s.old) (S.handful s.new) }
         ensures same { (S.actor s.new ≡ S.actor s.old) × (S.frame s.new ≡ S.frame s.old) }
     {

@@ -67,7 +67,7 @@ impl FaultJob {
         requires reserved { 0 < (S.handful s.old).room }
         requires gfn { self.old.gfn < 2 ^ 36 }
         requires knows { FaultKnows self.old.place (S.handful s.old).core.state.sizes self.old.gfn self.old.write (S.handful s.old).core.topics }
-        ensures makes { MakesStep self.old self.new result note (S.actor s.old) (S.handful s.old).core (S.handful s.new).core (record { world = S.told s.old; steps = S.steps s.old }) (record { world = S.told s.new; steps = S.steps s.new }) }
+        ensures makes { MakesStep self.old self.new result note (S.actor s.old) (S.handful s.old).core (S.handful s.new).core (S.tells s.old) (S.tells s.new) }
         ensures room { KeepsRoom (S.handful s.old) (S.handful s.new) }
         ensures same { (S.actor s.new ≡ S.actor s.old) × (S.frame s.new ≡ S.frame s.old) }
     {
@@ -100,7 +100,7 @@ impl FaultJob {
         requires reserved { 0 < (S.handful s.old).room }
         requires gfn { self.old.gfn < 2 ^ 36 }
         requires knows { FaultKnows self.old.place (S.handful s.old).core.state.sizes self.old.gfn self.old.write (S.handful s.old).core.topics }
-        ensures turned { TurnsFault self.old self.new result note (S.actor s.old) (S.handful s.old).core (S.handful s.new).core (record { world = S.told s.old; steps = S.steps s.old }) (record { world = S.told s.new; steps = S.steps s.new }) }
+        ensures turned { TurnsFault self.old self.new result note (S.actor s.old) (S.handful s.old).core (S.handful s.new).core (S.tells s.old) (S.tells s.new) }
         ensures nearer { result ≡ More → fault_left self.new.place (S.handful s.new).core.state.sizes (S.handful s.new).core.topics < fault_left self.old.place (S.handful s.old).core.state.sizes (S.handful s.old).core.topics }
         ensures room { KeepsRoom (S.handful s.old) (S.handful s.new) }
         ensures same { (S.actor s.new ≡ S.actor s.old) × (S.frame s.new ≡ S.frame s.old) }

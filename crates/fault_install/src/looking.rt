@@ -23,7 +23,7 @@ impl FaultJob {
     pub(crate) fn begin<S: Stepper>(&mut self, s: &mut S, note: u64) -> Turn<Faulted>
         requires is_at { IsAt at.Begin self.old note (S.handful s.old).core }
         requires reserved { 0 < (S.handful s.old).room }
-        ensures makes { MakesStep self.old self.new result note (S.actor s.old) (S.handful s.old).core (S.handful s.new).core (record { world = S.told s.old; steps = S.steps s.old }) (record { world = S.told s.new; steps = S.steps s.new }) }
+        ensures makes { MakesStep self.old self.new result note (S.actor s.old) (S.handful s.old).core (S.handful s.new).core (S.tells s.old) (S.tells s.new) }
         ensures room { KeepsRoom (S.handful s.old) (S.handful s.new) }
         ensures same { (S.actor s.new ≡ S.actor s.old) × (S.frame s.new ≡ S.frame s.old) }
     {
@@ -36,7 +36,7 @@ impl FaultJob {
     pub(crate) fn snapshot<S: Stepper>(&mut self, s: &mut S, note: u64) -> Turn<Faulted>
         requires is_at { IsAt at.Snapshot self.old note (S.handful s.old).core }
         requires reserved { 0 < (S.handful s.old).room }
-        ensures makes { MakesStep self.old self.new result note (S.actor s.old) (S.handful s.old).core (S.handful s.new).core (record { world = S.told s.old; steps = S.steps s.old }) (record { world = S.told s.new; steps = S.steps s.new }) }
+        ensures makes { MakesStep self.old self.new result note (S.actor s.old) (S.handful s.old).core (S.handful s.new).core (S.tells s.old) (S.tells s.new) }
         ensures room { KeepsRoom (S.handful s.old) (S.handful s.new) }
         ensures same { (S.actor s.new ≡ S.actor s.old) × (S.frame s.new ≡ S.frame s.old) }
     {
@@ -50,7 +50,7 @@ impl FaultJob {
     pub(crate) fn find<S: Stepper>(&mut self, s: &mut S, begun: bool, note: u64) -> Turn<Faulted>
         requires is_at { IsAt (at.Find begun) self.old note (S.handful s.old).core }
         requires reserved { 0 < (S.handful s.old).room }
-        ensures makes { MakesStep self.old self.new result note (S.actor s.old) (S.handful s.old).core (S.handful s.new).core (record { world = S.told s.old; steps = S.steps s.old }) (record { world = S.told s.new; steps = S.steps s.new }) }
+        ensures makes { MakesStep self.old self.new result note (S.actor s.old) (S.handful s.old).core (S.handful s.new).core (S.tells s.old) (S.tells s.new) }
         ensures room { KeepsRoom (S.handful s.old) (S.handful s.new) }
         ensures same { (S.actor s.new ≡ S.actor s.old) × (S.frame s.new ≡ S.frame s.old) }
     {
@@ -67,7 +67,7 @@ impl FaultJob {
     pub(crate) fn host<S: Stepper>(&mut self, s: &mut S, note: u64) -> Turn<Faulted>
         requires is_at { IsAt at.Host self.old note (S.handful s.old).core }
         requires reserved { 0 < (S.handful s.old).room }
-        ensures makes { MakesStep self.old self.new result note (S.actor s.old) (S.handful s.old).core (S.handful s.new).core (record { world = S.told s.old; steps = S.steps s.old }) (record { world = S.told s.new; steps = S.steps s.new }) }
+        ensures makes { MakesStep self.old self.new result note (S.actor s.old) (S.handful s.old).core (S.handful s.new).core (S.tells s.old) (S.tells s.new) }
         ensures room { KeepsRoom (S.handful s.old) (S.handful s.new) }
         ensures same { (S.actor s.new ≡ S.actor s.old) × (S.frame s.new ≡ S.frame s.old) }
     {
@@ -86,7 +86,7 @@ impl FaultJob {
     pub(crate) fn share<S: Stepper>(&mut self, s: &mut S, note: u64) -> Turn<Faulted>
         requires is_at { IsAt at.Share self.old note (S.handful s.old).core }
         requires reserved { 0 < (S.handful s.old).room }
-        ensures makes { MakesStep self.old self.new result note (S.actor s.old) (S.handful s.old).core (S.handful s.new).core (record { world = S.told s.old; steps = S.steps s.old }) (record { world = S.told s.new; steps = S.steps s.new }) }
+        ensures makes { MakesStep self.old self.new result note (S.actor s.old) (S.handful s.old).core (S.handful s.new).core (S.tells s.old) (S.tells s.new) }
         ensures room { KeepsRoom (S.handful s.old) (S.handful s.new) }
         ensures same { (S.actor s.new ≡ S.actor s.old) × (S.frame s.new ≡ S.frame s.old) }
     {
@@ -106,7 +106,7 @@ impl FaultJob {
     ) -> Turn<Faulted>
         requires is_at { IsAt (at.Check stage) self.old note (S.handful s.old).core }
         requires reserved { 0 < (S.handful s.old).room }
-        ensures makes { MakesStep self.old self.new result note (S.actor s.old) (S.handful s.old).core (S.handful s.new).core (record { world = S.told s.old; steps = S.steps s.old }) (record { world = S.told s.new; steps = S.steps s.new }) }
+        ensures makes { MakesStep self.old self.new result note (S.actor s.old) (S.handful s.old).core (S.handful s.new).core (S.tells s.old) (S.tells s.new) }
         ensures room { KeepsRoom (S.handful s.old) (S.handful s.new) }
         ensures same { (S.actor s.new ≡ S.actor s.old) × (S.frame s.new ≡ S.frame s.old) }
     {

@@ -21,7 +21,7 @@ use Rattle.mmu_core.specs.View.{word_in}
 use Rattle.mmu_core.proofs.HandAfter.{next_same}
 use Rattle.mmu_core.proofs.StateTells.{own_place, state_tells}
 use Rattle.step_seats.specs.Moves.{Tells}
-use Rattle.step_seats.specs.PartTurns.{HasHand}
+use Rattle.step_seats.specs.Where.{HasHand}
 use Rattle.step_seats.specs.declared.turn.Turn.{Turn}
 use Rattle.step_seats.specs.declared.turn.Turn.TheVariants.{Done}
 use Rattle.step_seats.proofs.AloneTold.{watch_free}

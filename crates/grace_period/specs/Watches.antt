@@ -11,7 +11,8 @@ use Rattle.part_steps.specs.Tasks.{map_of}
 use Rattle.part_steps.specs.TopicSteps.{in_section}
 use Rattle.step_seats.specs.declared.turn.Turn.{Turn}
 use Rattle.step_seats.specs.declared.turn.Turn.TheVariants.{More, Wait, Retry, Done}
-use Rattle.step_seats.specs.PartTurns.{MadePart, Told}
+use Rattle.step_seats.specs.PartTurns.{MadePart}
+use Rattle.step_seats.specs.Where.{Told}
 
 -- what a watch keeps: whether it has looked at an actor yet
 pub record Watching : Type 0 where

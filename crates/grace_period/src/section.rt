@@ -5,7 +5,7 @@ ghost use Rattle.mmu_core.specs.MayMake.{MayMake};
 ghost use Rattle.part_steps.specs.TopicSteps.{begun};
 ghost use Rattle.part_steps.specs.declared.part_step.PartStep.TheVariants.{Begin, End};
 ghost use Rattle.step_seats.specs.Moves.{KeepsRoom};
-ghost use Rattle.step_seats.specs.PartTurns.{MakesPart};
+ghost use Rattle.step_seats.specs.PartTurns.{MakesPart, WherePartMade};
 
 use part_steps::PartStep;
 use step_seats::{Stepper, make_part};
@@ -15,9 +15,9 @@ use step_seats::{Stepper, make_part};
 pub fn begin<S: Stepper>(s: &mut S, note: u64)
     requires may { MayMake Begin note (S.handful s.old).core }
     requires reserved { 0 < (S.handful s.old).room }
-    ensures step { MakesPart Begin note (S.actor s.old) (S.handful s.old).core (S.handful s.new).core (record { world = S.told s.old; steps = S.steps s.old }) (record { world = S.told s.new; steps = S.steps s.new }) }
+    ensures step { MakesPart Begin note (S.actor s.old) (S.handful s.old).core (S.handful s.new).core (S.tells s.old) (S.tells s.new) }
     ensures begun { (S.handful s.new).core.topics ≡ begun Section (S.handful s.old).core.topics }
-    ensures told { IfSome (S.told s.new) (IsTold (S.handful s.new).core.state.sizes (S.actor s.new)) }
+    ensures told { WherePartMade Begin note (S.actor s.old) (S.handful s.old).core (S.handful s.new).core (S.tells s.old) (λ w t. IsTold (S.handful s.new).core.state.sizes (S.actor s.old) t) }
     ensures room { KeepsRoom (S.handful s.old) (S.handful s.new) }
     ensures same { (S.actor s.new ≡ S.actor s.old) × (S.frame s.new ≡ S.frame s.old) }
 {
@@ -29,9 +29,9 @@ pub fn begin<S: Stepper>(s: &mut S, note: u64)
 pub fn end<S: Stepper>(s: &mut S, note: u64)
     requires may { MayMake End note (S.handful s.old).core }
     requires reserved { 0 < (S.handful s.old).room }
-    ensures step { MakesPart End note (S.actor s.old) (S.handful s.old).core (S.handful s.new).core (record { world = S.told s.old; steps = S.steps s.old }) (record { world = S.told s.new; steps = S.steps s.new }) }
+    ensures step { MakesPart End note (S.actor s.old) (S.handful s.old).core (S.handful s.new).core (S.tells s.old) (S.tells s.new) }
     ensures ended { (S.handful s.new).core.topics ≡ begun Outside (S.handful s.old).core.topics }
-    ensures told { IfSome (S.told s.new) (IsUntold (S.handful s.new).core.state.sizes (S.actor s.new)) }
+    ensures told { WherePartMade End note (S.actor s.old) (S.handful s.old).core (S.handful s.new).core (S.tells s.old) (λ w t. IsUntold (S.handful s.new).core.state.sizes (S.actor s.old) t) }
     ensures room { KeepsRoom (S.handful s.old) (S.handful s.new) }
     ensures same { (S.actor s.new ≡ S.actor s.old) × (S.frame s.new ≡ S.frame s.old) }
 {

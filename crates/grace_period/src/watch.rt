@@ -7,7 +7,7 @@ ghost use Rattle.part_steps.specs.PartSteps.{PartNeeds};
 ghost use Rattle.part_steps.specs.TopicSteps.{in_section};
 ghost use Rattle.part_steps.specs.declared.part_step.PartStep.TheVariants as part;
 ghost use Rattle.step_seats.specs.Moves.{KeepsRoom};
-ghost use Rattle.step_seats.specs.PartTurns.{MakesPart};
+ghost use Rattle.step_seats.specs.PartTurns.{MakesPart, WherePartMade};
 ghost use Rattle.step_seats.specs.declared.turn.Turn.TheVariants.{More};
 
 use core_views::{Hand, Seen};
@@ -72,13 +72,13 @@ impl Watch {
     pub fn turn<S: Stepper>(&mut self, s: &mut S, note: u64) -> Turn<()>
         requires may { MayMake (part.Watch (looked_at self.old (S.handful s.old).core)) note (S.handful s.old).core }
         requires reserved { 0 < (S.handful s.old).room }
-        ensures step { MakesPart (part.Watch (looked_at self.old (S.handful s.old).core)) note (S.actor s.old) (S.handful s.old).core (S.handful s.new).core (record { world = S.told s.old; steps = S.steps s.old }) (record { world = S.told s.new; steps = S.steps s.new }) }
-        ensures found { IsFoundBy result (looked_at self.old (S.handful s.old).core) note (S.actor s.old) (S.handful s.old).core (S.handful s.new).core (record { world = S.told s.old; steps = S.steps s.old }) (record { world = S.told s.new; steps = S.steps s.new }) }
+        ensures step { MakesPart (part.Watch (looked_at self.old (S.handful s.old).core)) note (S.actor s.old) (S.handful s.old).core (S.handful s.new).core (S.tells s.old) (S.tells s.new) }
+        ensures found { IsFoundBy result (looked_at self.old (S.handful s.old).core) note (S.actor s.old) (S.handful s.old).core (S.handful s.new).core (S.tells s.old) (S.tells s.new) }
         ensures watched { Watched result (looked_at self.old (S.handful s.old).core) (S.handful s.old).core (S.handful s.new).core.topics }
         ensures goes_on { is_done result ≡ false → PartNeeds (part.Watch (looked_at self.new (S.handful s.new).core)) (S.handful s.new).core }
         ensures looked { self.new.has_looked ≡ true }
         ensures nearer { result ≡ More → actors_left self.new (S.handful s.new).core < actors_left self.old (S.handful s.old).core }
-        ensures alone { IfSome (S.told s.old) (λ w. OthersRest (S.actor s.old) w → waits result ≡ false) }
+        ensures alone { WherePartMade (part.Watch (looked_at self.old (S.handful s.old).core)) note (S.actor s.old) (S.handful s.old).core (S.handful s.new).core (S.tells s.old) (λ w t. OthersRest (S.actor s.old) w → waits result ≡ false) }
         ensures room { KeepsRoom (S.handful s.old) (S.handful s.new) }
         ensures same { (S.actor s.new ≡ S.actor s.old) × (S.frame s.new ≡ S.frame s.old) }
     {

@@ -4,9 +4,8 @@ ghost use Rattle.core_views.specs.declared.trace.Op.TheVariants.{Read};
 ghost use Rattle.host_map.specs.Touching.{Touched, content_in, touch_kind};
 ghost use Rattle.mmu_core.specs.Enabled.{Enabled};
 ghost use Rattle.mmu_core.specs.Steps.{next};
-ghost use Rattle.mmu_core.specs.Worlds.{Possible};
 ghost use Rattle.step_seats.specs.Moves.{Adds, KeepsRoom, Tells};
-ghost use Rattle.step_seats.specs.PartTurns.{HasHand};
+ghost use Rattle.step_seats.specs.Where.{AnsweredThere, HasHand, WhereMade};
 
 use core_views::{Kind, Op, Sizes, StepKind};
 use mmu_core::part_rests;
@@ -44,12 +43,12 @@ pub fn touch<S: Stepper>(s: &mut S, frame: u64, word: u8, op: Op, note: u64) -> 
     requires enabled { Enabled (S.handful s.old).core (touch_kind (S.handful s.old).core.state.sizes frame word op note) }
     requires reserved { 0 < (S.handful s.old).room }
     ensures hand { (S.handful s.new).core ≡ next (S.handful s.old).core (touch_kind (S.handful s.old).core.state.sizes frame word op note) result }
-    ensures told { Tells (S.told s.old) (S.actor s.old) (touch_kind (S.handful s.old).core.state.sizes frame word op note) result (S.told s.new) }
-    ensures steps { Adds (S.steps s.old) (S.actor s.old) (touch_kind (S.handful s.old).core.state.sizes frame word op note) (S.steps s.new) }
-    ensures possible { ∥ Possible (S.handful s.old).core (touch_kind (S.handful s.old).core.state.sizes frame word op note) result ∥₁ }
-    ensures before { IfSome (S.told s.old) (λ w. result ≡ content_in (S.handful s.old).core.state.sizes frame word w) }
-    ensures behind { IfSome (S.told s.old) (λ w. IfSome (S.told s.new) (λ v. Touched (S.handful s.old).core.state.sizes frame word op w v)) }
-    ensures has { IfSome (S.told s.new) (HasHand (S.actor s.new) (S.handful s.new).core) }
+    ensures told { Tells (S.tells s.old).world (S.actor s.old) (touch_kind (S.handful s.old).core.state.sizes frame word op note) result (S.tells s.new).world }
+    ensures steps { Adds (S.tells s.old).steps (S.actor s.old) (touch_kind (S.handful s.old).core.state.sizes frame word op note) (S.tells s.new).steps }
+    ensures answers { AnsweredThere (touch_kind (S.handful s.old).core.state.sizes frame word op note) result (S.actor s.old) (S.handful s.old).core (S.handful s.new).core (S.tells s.old) }
+    ensures before { WhereMade (touch_kind (S.handful s.old).core.state.sizes frame word op note) (S.actor s.old) (S.handful s.old).core (S.handful s.new).core (S.tells s.old) (λ w t. result ≡ content_in (S.handful s.old).core.state.sizes frame word w) }
+    ensures behind { WhereMade (touch_kind (S.handful s.old).core.state.sizes frame word op note) (S.actor s.old) (S.handful s.old).core (S.handful s.new).core (S.tells s.old) (Touched (S.handful s.old).core.state.sizes frame word op) }
+    ensures has { IfSome (S.tells s.new).world (HasHand (S.actor s.new) (S.handful s.new).core) }
     ensures room { KeepsRoom (S.handful s.old) (S.handful s.new) }
     ensures same { (S.actor s.new ≡ S.actor s.old) × (S.frame s.new ≡ S.frame s.old) }
 {
@@ -67,12 +66,12 @@ pub fn load<S: Stepper>(s: &mut S, frame: u64, word: u8, note: u64) -> u64
     requires enabled { Enabled (S.handful s.old).core (touch_kind (S.handful s.old).core.state.sizes frame word Read note) }
     requires reserved { 0 < (S.handful s.old).room }
     ensures hand { (S.handful s.new).core ≡ next (S.handful s.old).core (touch_kind (S.handful s.old).core.state.sizes frame word Read note) result }
-    ensures told { Tells (S.told s.old) (S.actor s.old) (touch_kind (S.handful s.old).core.state.sizes frame word Read note) result (S.told s.new) }
-    ensures steps { Adds (S.steps s.old) (S.actor s.old) (touch_kind (S.handful s.old).core.state.sizes frame word Read note) (S.steps s.new) }
-    ensures possible { ∥ Possible (S.handful s.old).core (touch_kind (S.handful s.old).core.state.sizes frame word Read note) result ∥₁ }
-    ensures found { IfSome (S.told s.old) (λ w. result ≡ content_in (S.handful s.old).core.state.sizes frame word w) }
-    ensures words { IfSome (S.told s.old) (λ w. IfSome (S.told s.new) (λ v. v.words ≡ w.words)) }
-    ensures has { IfSome (S.told s.new) (HasHand (S.actor s.new) (S.handful s.new).core) }
+    ensures told { Tells (S.tells s.old).world (S.actor s.old) (touch_kind (S.handful s.old).core.state.sizes frame word Read note) result (S.tells s.new).world }
+    ensures steps { Adds (S.tells s.old).steps (S.actor s.old) (touch_kind (S.handful s.old).core.state.sizes frame word Read note) (S.tells s.new).steps }
+    ensures answers { AnsweredThere (touch_kind (S.handful s.old).core.state.sizes frame word Read note) result (S.actor s.old) (S.handful s.old).core (S.handful s.new).core (S.tells s.old) }
+    ensures found { WhereMade (touch_kind (S.handful s.old).core.state.sizes frame word Read note) (S.actor s.old) (S.handful s.old).core (S.handful s.new).core (S.tells s.old) (λ w t. result ≡ content_in (S.handful s.old).core.state.sizes frame word w) }
+    ensures words { WhereMade (touch_kind (S.handful s.old).core.state.sizes frame word Read note) (S.actor s.old) (S.handful s.old).core (S.handful s.new).core (S.tells s.old) (λ w t. t.words ≡ w.words) }
+    ensures has { IfSome (S.tells s.new).world (HasHand (S.actor s.new) (S.handful s.new).core) }
     ensures room { KeepsRoom (S.handful s.old) (S.handful s.new) }
     ensures same { (S.actor s.new ≡ S.actor s.old) × (S.frame s.new ≡ S.frame s.old) }
 {

@@ -15,7 +15,8 @@ use Rattle.part_steps.specs.PartSteps.{PartNeeds}
 use Rattle.part_steps.specs.PartTopics.{part_topics, sequenced}
 use Rattle.part_steps.specs.TopicSteps.{has_lock, is_loose, seq_checked}
 use Rattle.mmu_core.specs.View.{word_in}
-use Rattle.step_seats.specs.PartTurns.{MadePart, Told}
+use Rattle.step_seats.specs.PartTurns.{MadePart}
+use Rattle.step_seats.specs.Where.{Told}
 use Rattle.invalidate_seq.specs.Checks.{LoadsOnly, area_of, loaded, step_of}
 use Rattle.step_seats.proofs.AloneTold.{if_some}
 use Rattle.step_seats.proofs.Found.{Answers, found_told}

@@ -3,7 +3,7 @@ ghost use Rattle.mmu_core.specs.MayMake.{MayMake};
 ghost use Rattle.part_steps.specs.TopicSteps.{has_lock};
 ghost use Rattle.mmu_core.specs.View.{word_in};
 ghost use Rattle.step_seats.specs.Moves.{KeepsRoom};
-ghost use Rattle.step_seats.specs.PartTurns.{MakesPart};
+ghost use Rattle.step_seats.specs.PartTurns.{MakesPart, WherePartMade};
 ghost use Rattle.step_seats.specs.declared.turn.Turn.TheVariants.{More};
 ghost use Rattle.invalidate_seq.specs.Checks.{AnswersBy, LoadsOnly, Stands, StandsBehind, area_of, loaded, step_of, turns_left};
 
@@ -99,9 +99,9 @@ impl Check {
         requires locked { has_lock (S.handful s.old).core.topics.hold ≡ true }
         requires taken { is_some (S.handful s.old).core.topics.invalidations.snapshot ≡ true }
         requires stands { Stands self.old.stage self.old.gfn (S.handful s.old).core.topics.invalidations }
-        ensures step { MakesPart (step_of self.old.stage) note (S.actor s.old) (S.handful s.old).core (S.handful s.new).core (record { world = S.told s.old; steps = S.steps s.old }) (record { world = S.told s.new; steps = S.steps s.new }) }
+        ensures step { MakesPart (step_of self.old.stage) note (S.actor s.old) (S.handful s.old).core (S.handful s.new).core (S.tells s.old) (S.tells s.new) }
         ensures loads { LoadsOnly self.old.stage (S.handful s.old).core.topics (S.handful s.new).core.topics }
-        ensures word { IfSome (S.told s.old) (λ w. loaded self.old.stage (S.handful s.new).core.topics.invalidations ≡ word_in (S.handful s.old).core.state.sizes w (area_of self.old.stage) 0) }
+        ensures word { WherePartMade (step_of self.old.stage) note (S.actor s.old) (S.handful s.old).core (S.handful s.new).core (S.tells s.old) (λ w t. loaded self.old.stage (S.handful s.new).core.topics.invalidations ≡ word_in (S.handful s.old).core.state.sizes w (area_of self.old.stage) 0) }
         ensures answers { AnswersBy self.old.stage result self.new.stage self.old.gfn (S.handful s.new).core.topics.invalidations }
         ensures stands { result ≡ More → Stands self.new.stage self.new.gfn (S.handful s.new).core.topics.invalidations }
         ensures gfn { self.new.gfn ≡ self.old.gfn }

@@ -5,7 +5,7 @@ ghost use Rattle.mmu_core.specs.View.{word_in};
 ghost use Rattle.part_steps.specs.declared.part_step.PartStep.TheVariants as PartStep;
 ghost use Rattle.spte_words.specs.declared.area.Area.TheVariants as Area;
 ghost use Rattle.step_seats.specs.Moves.{KeepsRoom};
-ghost use Rattle.step_seats.specs.PartTurns.{MakesPart};
+ghost use Rattle.step_seats.specs.PartTurns.{MakesPart, WherePartMade};
 ghost use Rattle.invalidate_seq.specs.Checks.{TakesSnapshot};
 
 use part_steps::PartStep;
@@ -28,9 +28,9 @@ impl Snapshot {
         requires may { MayMake PartStep.Seq note (S.handful s.old).core }
         requires reserved { 0 < (S.handful s.old).room }
         requires loose { (S.handful s.old).core.topics.hold ≡ Loose }
-        ensures step { MakesPart PartStep.Seq note (S.actor s.old) (S.handful s.old).core (S.handful s.new).core (record { world = S.told s.old; steps = S.steps s.old }) (record { world = S.told s.new; steps = S.steps s.new }) }
+        ensures step { MakesPart PartStep.Seq note (S.actor s.old) (S.handful s.old).core (S.handful s.new).core (S.tells s.old) (S.tells s.new) }
         ensures taken { TakesSnapshot result (S.handful s.old).core.topics (S.handful s.new).core.topics }
-        ensures word { IfSome (S.told s.old) (λ w. (S.handful s.new).core.topics.invalidations.snapshot ≡ Some (word_in (S.handful s.old).core.state.sizes w Area.Seq 0)) }
+        ensures word { WherePartMade PartStep.Seq note (S.actor s.old) (S.handful s.old).core (S.handful s.new).core (S.tells s.old) (λ w t. (S.handful s.new).core.topics.invalidations.snapshot ≡ Some (word_in (S.handful s.old).core.state.sizes w Area.Seq 0)) }
         ensures room { KeepsRoom (S.handful s.old) (S.handful s.new) }
         ensures same { (S.actor s.new ≡ S.actor s.old) × (S.frame s.new ≡ S.frame s.old) }
     {

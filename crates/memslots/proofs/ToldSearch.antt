@@ -1,6 +1,6 @@
--- What a turn of a search says of the words of the world that its seat told.
-use Rattle.std.proofs.Common.{◌≡◌, ◌<◌, ℕ, Option, Some, None, length, sym, subst, ap, ◌∙◌}
-use Rattle.std.specs.Prelude.{Bool, true, IfSome, is_some, if◌then◌else◌}
+-- What a turn of a search says of the words of the world in which its step was made.
+use Rattle.std.proofs.Common.{◌≡◌, ◌<◌, ℕ, Option, Some, None, length, sym, subst, ap, ◌∙◌, arith}
+use Rattle.std.specs.Prelude.{Bool, true, false, is_some, if◌then◌else◌}
 use Rattle.std.proofs.Math.Logic.{∥∥₁_elim}
 use Rattle.std.proofs.Props.{props}
 use Rattle.core_views.specs.declared.sizes.Sizes.{Sizes}
@@ -12,7 +12,7 @@ use Rattle.part_steps.specs.declared.task.Task.{Task}
 use Rattle.part_steps.specs.declared.part_step.PartStep.TheVariants as part
 use Rattle.mmu_core.specs.Enabled.{mmu}
 use Rattle.mmu_core.specs.Machine.{World, effect, hand_in}
-use Rattle.part_steps.specs.PartSteps.{PartNeeds, own_index, part_kind, part_task}
+use Rattle.part_steps.specs.PartSteps.{PartNeeds, own_index, part_kind, part_task, set_held}
 use Rattle.part_steps.specs.PartTopics.{part_topics}
 use Rattle.part_steps.specs.Tasks.{kind_of_task, map_of}
 use Rattle.part_steps.specs.TopicSteps.{may_search, searched}
@@ -21,15 +21,18 @@ use Rattle.mmu_core.specs.Worlds.{Reachable}
 use Rattle.mmu_core.proofs.PartRested.{part_within, rests_in}
 use Rattle.mmu_core.proofs.Starts.{reached_good}
 use Rattle.mmu_core.proofs.Views.{view_behind}
-use Rattle.step_seats.specs.Moves.{Tells, step_by}
-use Rattle.step_seats.specs.PartTurns.{HasHand, MadePart, Told}
+use Rattle.step_seats.specs.Moves.{step_by}
+use Rattle.step_seats.specs.PartTurns.{MadePart, WherePartMade}
+use Rattle.step_seats.specs.Where.{HasHand, Told}
 use Rattle.step_seats.specs.declared.turn.Turn.{Turn}
 use Rattle.memslots.specs.declared.find.Find.{Find}
 use Rattle.memslots.specs.declared.find.FoundSlot.{FoundSlot}
-use Rattle.memslots.specs.Finding.{FindsIn, IsSearchFor, Searches, find_step}
-use Rattle.step_seats.proofs.AloneTold.{if_some}
+use Rattle.memslots.specs.Finding.{FindsIn, IsSearchFor, Searches, find_step, HasLoaded}
+use Rattle.step_seats.proofs.Where.{only, where_made}
 use Rattle.step_seats.proofs.Found.{Answers, found_told}
 use Rattle.memslots.proofs.Searching.{finds_by}
+use Rattle.step_seats.specs.declared.turn.Turn.TheVariants.{More}
+use Rattle.core_views.specs.declared.place.SlotField.{SlotField}
 
 -- The load of a slot's word leaves the words of the pool.
 stays_in : (w : World Held) (a note : ℕ) → Reachable w → a < length w.hands → PartNeeds part.Slot (hand_in mmu w a)
@@ -55,7 +58,7 @@ pool_stays w a note h has N =
 behind_word : (before after : Topics) (v : ℕ) → is_some before.search.set ≡ true → after ≡ part_topics part.Slot before v → after.search ≡ searched before.search v
 behind_word before after v held made = ap (λ (t : Topics). t.search) made ∙ ap (λ (b : Bool). if b then searched before.search v else before.search) held
 
--- what the turn says, of a world that was told and the one that is told now
+-- what the turn says, of the world before its step and the one after it
 abbrev Says : Find → Held → Held → Turn (Option FoundSlot) → World Held → World Held → Type 0
 Says job before after result w t = (job.begun ≡ true → IsSearchFor job.gfn (word_in before.state.sizes w area.Pool) before.topics.search) → FindsIn job.gfn (word_in before.state.sizes t area.Pool) after.topics.search result
 
@@ -65,33 +68,43 @@ says_at job note found a before after result w begun N has is made looks agrees 
     subst (λ (pool : ℕ → ℕ). FindsIn job.gfn pool after.topics.search result) (sym (pool_stays w a note before has N))
     (finds_by job.gfn (word_in before.state.sizes w area.Pool) before.topics.search after.topics.search found result (agrees begun) N.1 is (behind_word before.topics after.topics found N.0 made) looks)
 
-says_by : (job : Find) (note found a : ℕ) (before after : Held) (result : Turn (Option FoundSlot)) (told tells : Option (World Held)) → job.begun ≡ true → PartNeeds part.Slot before → IfSome told (HasHand a before) → IfSome told (Answers part.Slot note found before)
-    → IfSome told (λ w. tells ≡ Some (effect mmu w (step_by a (part_kind before part.Slot note)))) → after.topics ≡ part_topics part.Slot before.topics found → Searches job.gfn result before.topics.search after.topics.search
-    → IfSome told (λ w. IfSome tells (Says job before after result w))
-says_by job note found a before after result None tells begun N has is moves made looks = tt
-says_by job note found a before after result (Some w) tells begun N has is moves made looks =
-    subst (λ (o : Option (World Held)). IfSome o (Says job before after result w)) (sym moves) (says_at job note found a before after result w begun N has is made looks)
-
-told_moves : (before : Option (World Held)) (a note found : ℕ) (h : Held) (tells : Option (World Held)) → Tells before a (part_kind h part.Slot note) found tells → IfSome before (λ w. tells ≡ Some (effect mmu w (step_by a (part_kind h part.Slot note))))
-told_moves None a note found h tells t = tt
-told_moves (Some w) a note found h tells t = t.2
-
 needs_slot : (job : Find) (h : Held) → job.begun ≡ true → PartNeeds (find_step job) h → PartNeeds part.Slot h
 needs_slot job h begun N = rw begun at N
 
 pub now_found : (job : Find) (note found a : ℕ) (before after : Held) (told tells : Told) (result : Turn (Option FoundSlot)) → job.begun ≡ true → PartNeeds (find_step job) before → MadePart part.Slot note found a before after told tells
     → Searches job.gfn result before.topics.search after.topics.search
-    → IfSome told.world (λ w. IfSome tells.world (λ t. (job.begun ≡ true → IsSearchFor job.gfn (word_in before.state.sizes w area.Pool) before.topics.search) → FindsIn job.gfn (word_in before.state.sizes t area.Pool) after.topics.search result))
+    → WherePartMade (find_step job) note a before after told (Says job before after result)
 now_found job note found a before after told tells result begun needs made looks =
     let N = needs_slot job before begun needs in
-    says_by job note found a before after result told.world tells.world begun N made.has (found_told part.Slot note found a before after told tells made N) (told_moves told.world a note found before tells.world made.world) made.topics looks
+    subst (λ (b : Bool). WherePartMade (if b then part.Slot else part.Slots) note a before after told (Says job before after result)) (sym begun)
+    (where_made made (λ w at has. says_at job note found a before after result w begun N at.has (found_told part.Slot note found a before after (only w) _ at N) made.topics looks))
 
 set_loaded : (before after : Topics) (v : ℕ) → may_search before.stay before.hold ≡ true → after ≡ part_topics part.Slots before v → after.search.set ≡ Some v
 set_loaded before after v held made = ap (λ (t : Topics). t.search.set) made ∙ ap (λ (b : Bool). if b then Some v else None) held
 
-pub set_published : (note found a : ℕ) (before after : Held) (told tells : Told) → may_search before.topics.stay before.topics.hold ≡ true → MadePart part.Slots note found a before after told tells
-    → IfSome told.world (λ w. after.topics.search.set ≡ Some (word_in before.state.sizes w area.Slots 0))
-set_published note found a before after told tells held made =
-    if_some told.world (Answers part.Slots note found before) (λ w. after.topics.search.set ≡ Some (word_in before.state.sizes w area.Slots 0))
-    (λ w is. set_loaded before.topics after.topics found held made.topics ∙ ap Some is)
-    (found_told part.Slots note found a before after told tells made tt)
+-- the published slot set's page, of the words of this world
+abbrev IsPublished : Held → Held → World Held → World Held → Type 0
+IsPublished before after w t = after.topics.search.set ≡ Some (word_in before.state.sizes w area.Slots 0)
+
+pub set_published : (job : Find) (note found a : ℕ) (before after : Held) (told tells : Told) → job.begun ≡ false → may_search before.topics.stay before.topics.hold ≡ true → MadePart part.Slots note found a before after told tells
+    → WherePartMade (find_step job) note a before after told (IsPublished before after)
+set_published job note found a before after told tells not_yet held made =
+    subst (λ (b : Bool). WherePartMade (if b then part.Slot else part.Slots) note a before after told (IsPublished before after)) (sym not_yet)
+    (where_made made (λ w at has. set_loaded before.topics after.topics found held made.topics ∙ ap Some (found_told part.Slots note found a before after (only w) _ at tt)))
+
+-- A search that begins agrees with all words of the pool: nothing was loaded of them yet.
+search_begins : (gfn : ℕ) (pool : ℕ → ℕ) (before after : Topics) (v : ℕ) → may_search before.stay before.hold ≡ true → after ≡ part_topics part.Slots before v → IsSearchFor gfn pool after.search
+search_begins gfn pool before after v held made = record {
+  held = ap is_some set;
+  loaded = subst (λ (f : SlotField). HasLoaded f pool (set_held after.search.set) after.search) (sym (ap (λ (t : Topics). t.search.next) made)) tt;
+  before = λ i lt. let first : after.search.id ≡ 0 = ap (λ (t : Topics). t.search.id) made in absurd (omega (arith, lt, first));
+}
+  where
+    set : after.search.set ≡ Some v
+    set = set_loaded before after v held made
+
+pub begins_found : (job : Find) (note found a : ℕ) (before after : Held) (told tells : Told) → job.begun ≡ false → may_search before.topics.stay before.topics.hold ≡ true → MadePart part.Slots note found a before after told tells
+    → WherePartMade (find_step job) note a before after told (Says job before after More)
+begins_found job note found a before after told tells not_yet held made =
+    subst (λ (b : Bool). WherePartMade (if b then part.Slot else part.Slots) note a before after told (Says job before after More)) (sym not_yet)
+    (where_made made (λ w at has agrees. search_begins job.gfn _ before.topics after.topics found held made.topics))

@@ -5,7 +5,7 @@ ghost use Rattle.part_steps.specs.TopicSteps.{may_search};
 ghost use Rattle.mmu_core.specs.View.{word_in};
 ghost use Rattle.spte_words.specs.declared.area.Area.TheVariants as Area;
 ghost use Rattle.step_seats.specs.Moves.{KeepsRoom};
-ghost use Rattle.step_seats.specs.PartTurns.{MakesPart};
+ghost use Rattle.step_seats.specs.PartTurns.{MakesPart, WherePartMade};
 ghost use Rattle.step_seats.specs.declared.turn.Turn.TheVariants.{More};
 ghost use Rattle.memslots.specs.Finding.{Begins, FindsIn, IsSearchFor, Searches, find_step, turns_left};
 
@@ -74,12 +74,12 @@ impl Find {
         requires may { MayMake (find_step self.old) note (S.handful s.old).core }
         requires reserved { 0 < (S.handful s.old).room }
         requires held { self.old.begun ≡ false → may_search (S.handful s.old).core.topics.stay (S.handful s.old).core.topics.hold ≡ true }
-        ensures step { MakesPart (find_step self.old) note (S.actor s.old) (S.handful s.old).core (S.handful s.new).core (record { world = S.told s.old; steps = S.steps s.old }) (record { world = S.told s.new; steps = S.steps s.new }) }
+        ensures step { MakesPart (find_step self.old) note (S.actor s.old) (S.handful s.old).core (S.handful s.new).core (S.tells s.old) (S.tells s.new) }
         ensures begins { self.old.begun ≡ false → Begins result (S.handful s.old).core.topics.search (S.handful s.new).core.topics.search }
         ensures searches { self.old.begun ≡ true → Searches self.old.gfn result (S.handful s.old).core.topics.search (S.handful s.new).core.topics.search }
         ensures others { (S.handful s.new).core.topics ≡ record (S.handful s.old).core.topics { search = (S.handful s.new).core.topics.search } }
-        ensures published { self.old.begun ≡ false → IfSome (S.told s.old) (λ w. (S.handful s.new).core.topics.search.set ≡ Some (word_in (S.handful s.old).core.state.sizes w Area.Slots 0)) }
-        ensures now { IfSome (S.told s.old) (λ w. IfSome (S.told s.new) (λ t. (self.old.begun ≡ true → IsSearchFor self.old.gfn (word_in (S.handful s.old).core.state.sizes w Area.Pool) (S.handful s.old).core.topics.search) → FindsIn self.old.gfn (word_in (S.handful s.old).core.state.sizes t Area.Pool) (S.handful s.new).core.topics.search result)) }
+        ensures published { self.old.begun ≡ false → WherePartMade (find_step self.old) note (S.actor s.old) (S.handful s.old).core (S.handful s.new).core (S.tells s.old) (λ w t. (S.handful s.new).core.topics.search.set ≡ Some (word_in (S.handful s.old).core.state.sizes w Area.Slots 0)) }
+        ensures now { WherePartMade (find_step self.old) note (S.actor s.old) (S.handful s.old).core (S.handful s.new).core (S.tells s.old) (λ w t. (self.old.begun ≡ true → IsSearchFor self.old.gfn (word_in (S.handful s.old).core.state.sizes w Area.Pool) (S.handful s.old).core.topics.search) → FindsIn self.old.gfn (word_in (S.handful s.old).core.state.sizes t Area.Pool) (S.handful s.new).core.topics.search result) }
         ensures goes_on { self.new ≡ record { gfn = self.old.gfn; begun = true } }
         ensures nearer { result ≡ More → turns_left self.new (S.handful s.new).core.topics.search < turns_left self.old (S.handful s.old).core.topics.search }
         ensures room { KeepsRoom (S.handful s.old) (S.handful s.new) }

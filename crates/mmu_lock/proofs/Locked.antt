@@ -1,5 +1,5 @@
 -- What tries for the lock come to.
-use Rattle.std.proofs.Common.{◌≡◌, ◌≢◌, ◌<◌, ◌≤◌, ◌^◌, ℕ, refl, ap, ◌∙◌, arith}
+use Rattle.std.proofs.Common.{Some, subst, ◌≡◌, ◌≢◌, ◌<◌, ◌≤◌, ◌^◌, ℕ, refl, ap, ◌∙◌, arith}
 use Rattle.std.specs.Prelude.{Bool, true, false, ◌==◌, if◌then◌else◌}
 use Rattle.std.proofs.lemmas.Bool.Decides.{nat_tests}
 use Rattle.core_views.specs.declared.topics.Hold.{Hold}
@@ -8,8 +8,14 @@ use Rattle.core_views.specs.declared.topics.Topics.{Topics}
 use Rattle.core_views.specs.Held.{Held}
 use Rattle.part_steps.specs.declared.part_step.PartStep.TheVariants.{Share}
 use Rattle.mmu_core.specs.MayMake.{MayMake}
-use Rattle.part_steps.specs.PartSteps.{PartNeeds}
+use Rattle.part_steps.specs.PartSteps.{PartNeeds, part_kind}
 use Rattle.part_steps.specs.TopicSteps.{has_writer}
+use Rattle.mmu_core.specs.Machine.{World}
+use Rattle.mmu_core.specs.OthersRest.{OthersRest}
+use Rattle.part_steps.specs.declared.part_step.PartStep.{PartStep}
+use Rattle.step_seats.specs.PartTurns.{MadePart}
+use Rattle.step_seats.proofs.AloneTold.{share_free}
+use Rattle.step_seats.proofs.Where.{after_step, only}
 use Rattle.mmu_lock.specs.Locking.{holding, shared_step, tries_left}
 
 -- Who isn't owing wants to share, and holds nothing of the lock.
@@ -47,3 +53,9 @@ not_free n le is = absurd (omega (arith, le, is))
 -- Who has yet to take itself out has one turn left.
 pub fewer_left : (before after : Hold) (word : ℕ) → before ≡ Loose → after ≡ Owing word → tries_left after < tries_left before
 fewer_left before after word loose owes = rw (loose, owes) (omega arith)
+
+-- Where the others hold nothing, who shares the lock finds it free.
+pub free_where : (step : PartStep) (w : World Held) (note found actor : ℕ) (h g : Held) → step ≡ Share → MadePart step note found actor h g (only w) (only (after_step (part_kind h step note) actor w)) → h.topics.hold ≡ Loose → OthersRest actor w → found ≡ 0
+free_where step w note found actor h g is made loose others =
+    let shares : MadePart Share note found actor h g (only w) (only (after_step (part_kind h Share note) actor w)) = subst (λ (x : PartStep). MadePart x note found actor h g (only w) (only (after_step (part_kind h x note) actor w))) is made in
+    share_free (Some w) _ actor note found h shares.has shares.world loose others

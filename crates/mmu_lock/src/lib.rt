@@ -9,3 +9,5 @@ pub use lock::{Lock, try_exclusive, try_shared, unlock};
 
 #[cfg(test)]
 mod tests;
+#[cfg(test)]
+mod untold;

@@ -6,7 +6,7 @@ ghost use Rattle.part_steps.specs.declared.part_step.PartStep.TheVariants.{Exclu
 ghost use Rattle.mmu_lock.specs.Locking.{GaveBack, TriedExclusive, TriedShared, lock_found, shared_step, tries_left, unlock_step};
 ghost use Rattle.mmu_lock.specs.declared.lock.Lock.TheVariants.{Got, Held};
 ghost use Rattle.step_seats.specs.Moves.{KeepsRoom};
-ghost use Rattle.step_seats.specs.PartTurns.{MadePart, MakesPart};
+ghost use Rattle.step_seats.specs.PartTurns.{MadePart, MakesPart, WherePartMade};
 ghost use Rattle.step_seats.specs.declared.turn.Turn.TheVariants.{More, Done};
 
 use core_views::Hold;
@@ -33,11 +33,11 @@ pub enum Lock {
 pub fn try_shared<S: Stepper>(s: &mut S, note: u64) -> Turn<Lock>
     requires may { MayMake (shared_step (S.handful s.old).core.topics.hold) note (S.handful s.old).core }
     requires reserved { 0 < (S.handful s.old).room }
-    ensures step { MakesPart (shared_step (S.handful s.old).core.topics.hold) note (S.actor s.old) (S.handful s.old).core (S.handful s.new).core (record { world = S.told s.old; steps = S.steps s.old }) (record { world = S.told s.new; steps = S.steps s.new }) }
+    ensures step { MakesPart (shared_step (S.handful s.old).core.topics.hold) note (S.actor s.old) (S.handful s.old).core (S.handful s.new).core (S.tells s.old) (S.tells s.new) }
     ensures tried { TriedShared result (S.handful s.old).core.topics (S.handful s.new).core.topics }
     ensures nearer { result ≡ More → tries_left (S.handful s.new).core.topics.hold < tries_left (S.handful s.old).core.topics.hold }
-    ensures shared { result ≡ Done Got → IfSome (S.told s.new) NoneHasLockAlone }
-    ensures alone { (S.handful s.old).core.topics.hold ≡ Loose → IfSome (S.told s.old) (λ w. OthersRest (S.actor s.old) w → result ≡ Done Got) }
+    ensures shared { result ≡ Done Got → WherePartMade (shared_step (S.handful s.old).core.topics.hold) note (S.actor s.old) (S.handful s.old).core (S.handful s.new).core (S.tells s.old) (λ w t. NoneHasLockAlone t) }
+    ensures alone { (S.handful s.old).core.topics.hold ≡ Loose → WherePartMade (shared_step (S.handful s.old).core.topics.hold) note (S.actor s.old) (S.handful s.old).core (S.handful s.new).core (S.tells s.old) (λ w t. OthersRest (S.actor s.old) w → result ≡ Done Got) }
     ensures room { KeepsRoom (S.handful s.old) (S.handful s.new) }
     ensures same { (S.actor s.new ≡ S.actor s.old) × (S.frame s.new ≡ S.frame s.old) }
 {
@@ -60,10 +60,10 @@ pub fn try_shared<S: Stepper>(s: &mut S, note: u64) -> Turn<Lock>
 pub fn try_exclusive<S: Stepper>(s: &mut S, note: u64) -> Lock
     requires may { MayMake Exclude note (S.handful s.old).core }
     requires reserved { 0 < (S.handful s.old).room }
-    ensures step { MadePart Exclude note (lock_found result) (S.actor s.old) (S.handful s.old).core (S.handful s.new).core (record { world = S.told s.old; steps = S.steps s.old }) (record { world = S.told s.new; steps = S.steps s.new }) }
+    ensures step { MadePart Exclude note (lock_found result) (S.actor s.old) (S.handful s.old).core (S.handful s.new).core (S.tells s.old) (S.tells s.new) }
     ensures tried { TriedExclusive result (S.handful s.old).core.topics (S.handful s.new).core.topics }
-    ensures sole { result ≡ Got → IfSome (S.told s.new) (NoOtherHasLock (S.actor s.new)) }
-    ensures alone { IfSome (S.told s.old) (λ w. OthersRest (S.actor s.old) w → result ≡ Got) }
+    ensures sole { result ≡ Got → WherePartMade Exclude note (S.actor s.old) (S.handful s.old).core (S.handful s.new).core (S.tells s.old) (λ w t. NoOtherHasLock (S.actor s.old) t) }
+    ensures alone { WherePartMade Exclude note (S.actor s.old) (S.handful s.old).core (S.handful s.new).core (S.tells s.old) (λ w t. OthersRest (S.actor s.old) w → result ≡ Got) }
     ensures room { KeepsRoom (S.handful s.old) (S.handful s.new) }
     ensures same { (S.actor s.new ≡ S.actor s.old) × (S.frame s.new ≡ S.frame s.old) }
 {
@@ -79,7 +79,7 @@ pub fn try_exclusive<S: Stepper>(s: &mut S, note: u64) -> Lock
 pub fn unlock<S: Stepper>(s: &mut S, note: u64)
     requires may { MayMake (unlock_step (S.handful s.old).core.topics.hold) note (S.handful s.old).core }
     requires reserved { 0 < (S.handful s.old).room }
-    ensures step { MakesPart (unlock_step (S.handful s.old).core.topics.hold) note (S.actor s.old) (S.handful s.old).core (S.handful s.new).core (record { world = S.told s.old; steps = S.steps s.old }) (record { world = S.told s.new; steps = S.steps s.new }) }
+    ensures step { MakesPart (unlock_step (S.handful s.old).core.topics.hold) note (S.actor s.old) (S.handful s.old).core (S.handful s.new).core (S.tells s.old) (S.tells s.new) }
     ensures gave_back { GaveBack (S.handful s.old).core.topics (S.handful s.new).core.topics }
     ensures room { KeepsRoom (S.handful s.old) (S.handful s.new) }
     ensures same { (S.actor s.new ≡ S.actor s.old) × (S.frame s.new ≡ S.frame s.old) }

@@ -2,6 +2,7 @@
 ghost use Rattle.std.specs.Prelude.{◌≡◌, ◌<◌, [], ◌∷◌, IfOk, length};
 ghost use Rattle.core_views.specs.Sizes.{index_of};
 
+use crate::untold::{UntoldSeat, exclusive_untold};
 use crate::{Lock, try_exclusive, try_shared, unlock};
 use core_views::{Actor, Command, Header, Hold, Line, Lines, NoMemory, Op, Trace, Words};
 use mmu_core::allows;
@@ -175,6 +176,58 @@ fn a_writer_keeps_readers_out(rt: HostRuntime) -> Result<(), Fail> {
     assert_eq!(rt;
         exclusive_by(&mut machine, Actor::Manager)?,
         Some(Lock::Got)
+    );
+    Ok(())
+}
+
+// A writer's try through a seat that tells no world, where the hand allows it.
+fn exclusive_untold_by(machine: &mut PlainMachine, actor: Actor) -> Result<Option<Lock>, NoMemory> {
+    let sizes = machine.sizes();
+    if sizes.index_of(actor) >= sizes.actors() {
+        return Ok(None);
+    }
+    let mut seat = UntoldSeat {
+        seat: machine.as_actor(actor),
+    };
+    seat.reserve(&any_line())?;
+    if allows(seat.hand(), PartStep::Exclude, 0) {
+        Ok(Some(exclusive_untold(&mut seat)))
+    } else {
+        Ok(None)
+    }
+}
+
+// A reader's try through such a seat.
+fn shared_untold_by(
+    machine: &mut PlainMachine,
+    actor: Actor,
+) -> Result<Option<Turn<Lock>>, NoMemory> {
+    let sizes = machine.sizes();
+    if sizes.index_of(actor) >= sizes.actors() {
+        return Ok(None);
+    }
+    let mut seat = UntoldSeat {
+        seat: machine.as_actor(actor),
+    };
+    shared(&mut seat)
+}
+
+// The parts do the same at a seat that tells no world.
+#[test]
+fn untold_seats_take_the_lock(rt: HostRuntime) -> Result<(), Fail> {
+    let mut machine = machine(rt.alloc())?;
+    let got = Some(Lock::Got);
+    assert_eq!(rt; exclusive_untold_by(&mut machine, Actor::Vcpu(0))?, got);
+    let held = Some(Lock::Held(WRITER));
+    assert_eq!(rt; exclusive_untold_by(&mut machine, Actor::Vcpu(1))?, held);
+    assert_eq!(rt;
+        shared_untold_by(&mut machine, Actor::Vcpu(1))?,
+        Some(Turn::More)
+    );
+    let behind_a_reader = Some(Lock::Held(WRITER + 1));
+    assert_eq!(rt;
+        exclusive_untold_by(&mut machine, Actor::Manager)?,
+        behind_a_reader
     );
     Ok(())
 }

@@ -20,7 +20,7 @@ use Rattle.mmu_core.specs.Steps.{has_line, outcome_at, place_at, task_at}
 use Rattle.part_steps.specs.Tasks.{kind_of_task}
 use Rattle.mmu_core.specs.Turns.{line_of, outcome_of}
 use Rattle.mmu_core.proofs.Which.{is_next}
-use Rattle.step_seats.specs.PartTurns.{Told}
+use Rattle.step_seats.specs.Where.{Told}
 use Rattle.step_seats.specs.declared.turn.Turn.{Turn}
 use Rattle.step_seats.specs.declared.turn.Turn.TheVariants.{More, Wait, Done}
 use Rattle.step_seats.specs.LineTurns.{Gives, MakesLine, TurnsLine, line_seen, line_turn, turn_of}

@@ -33,7 +33,7 @@ impl SlotJob {
         requires next { self.old.index ≡ length (S.handful s.old).core.answers }
         requires setting { (line_of (S.handful s.old).core).command ≡ SetSlot self.old.id self.old.slot }
         requires reserved { 0 < (S.handful s.old).room }
-        ensures turns { TurnsLine result (S.actor s.old) (S.handful s.old).core (S.handful s.new).core (record { world = S.told s.old; steps = S.steps s.old }) (record { world = S.told s.new; steps = S.steps s.new }) }
+        ensures turns { TurnsLine result (S.actor s.old) (S.handful s.old).core (S.handful s.new).core (S.tells s.old) (S.tells s.new) }
         ensures says { Says result (line_of (S.handful s.old).core) (S.handful s.old).core (S.handful s.new).core }
         ensures hand { IsSameHand (S.handful s.old).core (S.handful s.new).core }
         ensures room { KeepsRoom (S.handful s.old) (S.handful s.new) }

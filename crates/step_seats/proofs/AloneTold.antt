@@ -11,7 +11,7 @@ use Rattle.part_steps.specs.PartSteps.{PartNeeds, part_kind}
 use Rattle.part_steps.specs.TopicSteps.{in_section}
 use Rattle.mmu_core.proofs.AloneLaws.{exclude_alone, exclusive_is_sole, share_alone, shared_has_no_writer, watch_alone}
 use Rattle.step_seats.specs.Moves.{Tells}
-use Rattle.step_seats.specs.PartTurns.{HasHand}
+use Rattle.step_seats.specs.Where.{HasHand}
 
 -- what holds where a world is told, from what held there before
 pub if_some : {X : Type 0} (x : Option X) (P Q : X → Type 0) → ((w : X) → P w → Q w) → IfSome x P → IfSome x Q

@@ -14,7 +14,8 @@ use Rattle.mmu_core.specs.Worlds.{Reachable}
 use Rattle.mmu_core.proofs.AloneLaws.{part_found}
 use Rattle.mmu_core.proofs.Starts.{reached_good}
 use Rattle.step_seats.specs.Moves.{Tells}
-use Rattle.step_seats.specs.PartTurns.{HasHand, MadePart, Told}
+use Rattle.step_seats.specs.PartTurns.{MadePart}
+use Rattle.step_seats.specs.Where.{HasHand, Told}
 
 -- what the step answers of the words of the world
 abbrev pub Answers : PartStep → ℕ → ℕ → Held → World Held → Type 0

@@ -2,6 +2,7 @@ pub mod Worlds
 pub mod Starts
 pub mod Told
 pub mod PartMade
+pub mod Where
 pub mod AloneTold
 pub mod Found
 pub mod ToldWords

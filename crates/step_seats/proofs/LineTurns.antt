@@ -39,7 +39,8 @@ use Rattle.mmu_core.specs.Outcomes.{place_after}
 use Rattle.mmu_core.specs.Turns.{Comes, IsAnswered, IsSameHand, line_of, outcome_of}
 use Rattle.mmu_core.proofs.HandAfter.{next_comes, next_same}
 use Rattle.mmu_core.proofs.Which.{has_line_is, next_of_line}
-use Rattle.step_seats.specs.PartTurns.{MadePart, Told}
+use Rattle.step_seats.specs.PartTurns.{MadePart}
+use Rattle.step_seats.specs.Where.{Told}
 use Rattle.step_seats.specs.LineTurns.{Gives, MakesLine, Says, TurnsLine, fault_turn, line_seen, line_turn, turn_of}
 use Rattle.mmu_core.specs.SetSlotSteps.{claim_outcome, set_slot_outcome, set_slot_waits}
 use Rattle.core_views.specs.declared.place.SetSlotPlace.{SetSlotPlace}
@@ -48,7 +49,7 @@ use Rattle.core_views.specs.declared.topics.MapClaim.{MapClaim}
 
 -- A part's step is the line's.
 unfoldable pub made_line : (step : PartStep) (note found actor : ℕ) (h g : Held) (told tells : Told) → MayMake step note h → MadePart step note found actor h g told tells → MakesLine actor h g told tells
-made_line step note found actor h g told tells may made = record { kind = part_kind h step note; found = found; enabled = may.enabled; hand = made.hand; world = made.world; steps = made.steps }
+made_line step note found actor h g told tells may made = record { kind = part_kind h step note; found = found; enabled = may.enabled; hand = made.hand; world = made.world; steps = made.steps; answers = made.answers }
 
 -- A line's turn is done where its line is answered, and goes on where it isn't.
 pub record EndsSo (turn : Turn Answer) (waits : Bool) (o : Outcome) : Type 0 where

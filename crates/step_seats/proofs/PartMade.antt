@@ -9,11 +9,13 @@ use Rattle.part_steps.specs.PartSteps.{part_kind}
 use Rattle.mmu_core.specs.Steps.{next}
 use Rattle.mmu_core.proofs.NextTopics.{topics_behind}
 use Rattle.step_seats.specs.Moves.{Adds, Tells}
-use Rattle.step_seats.specs.PartTurns.{HasHand, MadePart, Told}
+use Rattle.step_seats.specs.PartTurns.{MadePart}
+use Rattle.step_seats.specs.Where.{AnsweredThere, HasHand, Told}
 
 pub made_part : (step : PartStep) (note found actor : ℕ) (before after : Held) (told tells : Told) (k : Kind) → k ≡ part_kind before step note → MayMake step note before → after ≡ next before k found
-    → IfSome told.world (HasHand actor before) → Tells told.world actor k found tells.world → Adds told.steps actor k tells.steps → MadePart step note found actor before after told tells
-made_part step note found actor before after told tells k is may made has world steps =
+    → IfSome told.world (HasHand actor before) → Tells told.world actor k found tells.world → Adds told.steps actor k tells.steps → AnsweredThere k found actor before after told
+    → MadePart step note found actor before after told tells
+made_part step note found actor before after told tells k is may made has world steps answers =
     let hand : after ≡ next before (part_kind before step note) found = made ∙ ap (λ (x : Kind). next before x found) is in
     record {
       hand = hand;
@@ -21,4 +23,5 @@ made_part step note found actor before after told tells k is may made has world 
       has = has;
       world = subst (λ (x : Kind). Tells told.world actor x found tells.world) is world;
       steps = subst (λ (x : Kind). Adds told.steps actor x tells.steps) is steps;
+      answers = subst (λ (x : Kind). AnsweredThere x found actor before after told) is answers;
     }

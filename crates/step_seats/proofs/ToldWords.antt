@@ -20,8 +20,9 @@ use Rattle.mmu_core.proofs.PartRested.{part_within, rests_in}
 use Rattle.mmu_core.proofs.Starts.{reached_good}
 use Rattle.mmu_core.proofs.Views.{view_behind}
 use Rattle.step_seats.specs.Moves.{Tells, step_by}
-use Rattle.step_seats.specs.PartTurns.{HasHand, ToldBoth}
+use Rattle.step_seats.specs.Where.{HasHand}
 use Rattle.step_seats.proofs.Found.{answers}
+use Rattle.step_seats.proofs.Where.{ToldBoth}
 
 module _ (w : World Held) (a note : ℕ) (step : PartStep) where
   -- what the step does for a hand

@@ -11,13 +11,13 @@ use Rattle.core_views.specs.Kinds.{after, answer}
 use Rattle.mmu_core.specs.Enabled.{Enabled, mmu}
 use Rattle.mmu_core.specs.Machine.{Leads, May, effect, answered, hand_in}
 use Rattle.mmu_core.specs.Steps.{next}
-use Rattle.mmu_core.specs.Worlds.{HandReached, Possible}
+use Rattle.mmu_core.specs.Worlds.{HandReached}
 use Rattle.mmu_core.proofs.Extend.{goes_on}
 use Rattle.mmu_core.proofs.Sized.{as_many_as_actors, enabled_inside}
 use Rattle.step_seats.specs.Machines.{IsMachine, Machine, world_in}
 use Rattle.std.proofs.lemmas.Grind.{merely}
 use Rattle.step_seats.specs.Frames.{frame_of, other_rooms, room_of}
-use Rattle.step_seats.specs.PartTurns.{HasHand}
+use Rattle.step_seats.specs.Where.{HasHand, IsMadeIn}
 use Rattle.step_seats.specs.Moves.{core_of, handful_in, no_hand, step_by, world_of}
 
 pub core_at : (words : List ℕ) (hands : List Handful) (i : ℕ) → core_of (handful_in hands i) ≡ hand_in mmu (world_of words hands) i
@@ -50,7 +50,7 @@ pub record Stepped (m : Machine) (words : List ℕ) (hands : List Handful) (i : 
   pub may : May mmu (world_in m) (step_by i k)
   pub answers : answered mmu (world_in m) k ≡ v
   pub leaves : world_of (slice_set words k.word n) (slice_set hands i h) ≡ effect mmu (world_in m) (step_by i k)
-  pub possible : Possible (core_of (handful_in m.hands i)) k v
+  pub made : IsMadeIn k i (core_of (handful_in m.hands i)) (core_of h) (world_in m)
 
 stepped_inside : (z : Sizes) (words : List ℕ) (hands : List Handful) (i : ℕ) (k : Kind) (was n v : ℕ) (before h : Handful)
     → IsMachine z words hands
@@ -66,11 +66,16 @@ stepped_inside z words hands i k was n v before h machine there enabled read han
     let at = core_at words hands i in
     let tells : answer k (slice_index words k.word) ≡ v = sym (told ∙ ap (answer k) read) in
     let makes : core_of h ≡ next (hand_in mmu (world_of words hands) i) k (answer k (slice_index words k.word)) = made ∙ (ap (λ x. next x k v) (ap core_of hand ∙ at) ∙ ap (next (hand_in mmu (world_of words hands) i) k) (sym tells)) in
+    let may = may_step z words hands i k machine there enabled in
     record {
-      may = may_step z words hands i k machine there enabled;
+      may = may;
       answers = tells;
       leaves = ap (λ x. world_of (slice_set words k.word x) (slice_set hands i h)) (stored ∙ ap (after k) read) ∙ world_after words hands i k h makes;
-      possible = record { world = world_of words hands; actor = i; reached = machine.reached; there = there_too hands i there; has = sym at; answers = tells };
+      made = record {
+        has = record { reached = merely machine.reached; there = there_too hands i there; is = sym at };
+        may = may;
+        hand = made ∙ (ap (λ (x : Handful). next (core_of x) k v) hand ∙ ap (next (core_of (handful_in hands i)) k) (sym tells));
+      };
     }
 
 pub there_inside : (z : Sizes) (words : List ℕ) (hands : List Handful) (m : Machine) (i : ℕ) → machine_of z words hands ≡ m → i < length m.hands → i < length hands

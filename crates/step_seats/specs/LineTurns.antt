@@ -24,7 +24,7 @@ use Rattle.mmu_core.specs.SetSlotSteps.{set_slot_seen}
 use Rattle.mmu_core.specs.Steps.{next, outcome_at, place_at}
 use Rattle.mmu_core.specs.Turns.{GoesOn, IsAnswered, line_of}
 use Rattle.step_seats.specs.Moves.{Adds, Tells}
-use Rattle.step_seats.specs.PartTurns.{Told}
+use Rattle.step_seats.specs.Where.{AnsweredThere, Told}
 use Rattle.step_seats.specs.declared.turn.Turn.{Turn}
 use Rattle.step_seats.specs.declared.turn.Turn.TheVariants.{More, Wait, Retry, Done}
 
@@ -58,7 +58,7 @@ abbrev pub Gives : Turn Answer → Bool → Seen → Turn Answer → Type 0
 Gives (Wait seen) waits way t = (waits ≡ true) × (seen ≡ way)
 Gives turn waits way t = (waits ≡ false) × (turn ≡ t)
 
--- One step that the hand allows takes the actor's hand, and what its seat tells, to the next, and this was found.
+-- One step that the hand allows takes the actor's hand, and what its seat tells, to the next, and it answered this where it was made.
 pub record MakesLine (actor : ℕ) (before after : Held) (told tells : Told) : Type 0 where
   pub kind : Kind
   pub found : ℕ
@@ -66,6 +66,7 @@ pub record MakesLine (actor : ℕ) (before after : Held) (told tells : Told) : T
   pub hand : after ≡ next before kind found
   pub world : Tells told.world actor kind found tells.world
   pub steps : Adds told.steps actor kind tells.steps
+  pub answers : AnsweredThere kind found actor before after told
 
 -- The line's next step was made, and the turn answers by it.
 pub record TurnsLine (turn : Turn Answer) (actor : ℕ) (before after : Held) (told tells : Told) : Type 0 where

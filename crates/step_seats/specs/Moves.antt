@@ -1,5 +1,5 @@
 -- What one act of a seat does to the world that it tells, and to the steps that it tells.
-use Rattle.std.specs.Prelude.{◌≡◌, ◌+◌, ℕ, List, [], ◌∷◌, ◌++◌, length, map, slice_index_or, Option, Some, IfSome}
+use Rattle.std.specs.Prelude.{◌≡◌, ◌+◌, ℕ, List, [], ◌∷◌, ◌++◌, length, map, slice_index_or, Option, Some, None, IfSome}
 use Rattle.core_views.specs.declared.kind.Kind.{Kind}
 use Rattle.core_views.specs.Held.{Held, Handful}
 use Rattle.mmu_core.specs.Machine.{Step, World, May, answered, effect}
@@ -9,9 +9,11 @@ use Rattle.mmu_core.specs.Steps.{nobody}
 abbrev pub step_by : ℕ → Kind → Step Kind
 step_by actor kind = record { actor = actor; kind = kind }
 
--- Where the world was told, the actor may make this step there, which answers so, and the world behind it is told.
+-- Where the world was told, the actor may make this step there, which answers so, and the world after it is told. Where none was told,
+-- none is told after the step.
 abbrev pub Tells : Option (World Held) → ℕ → Kind → ℕ → Option (World Held) → Type 0
-Tells before actor kind answer after = IfSome before (λ w. May mmu w (step_by actor kind) × (answered mmu w kind ≡ answer) × (after ≡ Some (effect mmu w (step_by actor kind))))
+Tells (Some w) actor kind answer after = May mmu w (step_by actor kind) × (answered mmu w kind ≡ answer) × (after ≡ Some (effect mmu w (step_by actor kind)))
+Tells None actor kind answer after = after ≡ None
 
 -- Where the steps so far were told, they are told with this one.
 abbrev pub Adds : Option (List (Step Kind)) → ℕ → Kind → Option (List (Step Kind)) → Type 0

@@ -5,10 +5,10 @@ ghost use Rattle.core_views.specs.Traces.{IsTrace};
 ghost use Rattle.mmu_core.specs.Enabled.{Enabled, mmu};
 ghost use Rattle.mmu_core.specs.Machine.{May, answered, effect};
 ghost use Rattle.mmu_core.specs.Steps.{next};
-ghost use Rattle.mmu_core.specs.Worlds.{HandReached, IsStart, Possible};
+ghost use Rattle.mmu_core.specs.Worlds.{HandReached, IsStart};
 ghost use Rattle.step_seats.specs.Machines.{IsMachine, world_in};
 ghost use Rattle.step_seats.specs.Moves.{KeepsRoom, handful_in, step_by};
-ghost use Rattle.step_seats.specs.PartTurns.{HasHand};
+ghost use Rattle.step_seats.specs.Where.{HasHand, IsMadeIn};
 
 use crate::ActorSeat;
 use crate::start::{start_hands, start_words};
@@ -63,7 +63,7 @@ impl PlainMachine {
         ensures world { world_in self.new ≡ effect mmu (world_in self.old) (step_by index kind) }
         ensures hand { (handful_in self.new.hands index).core ≡ next (handful_in self.old.hands index).core kind result }
         ensures room { KeepsRoom (handful_in self.old.hands index) (handful_in self.new.hands index) }
-        ensures possible { ∥ Possible (handful_in self.old.hands index).core kind result ∥₁ }
+        ensures made { IsMadeIn kind index (handful_in self.old.hands index).core (handful_in self.new.hands index).core (world_in self.old) }
         ensures has { HasHand index (handful_in self.new.hands index).core (world_in self.new) }
         ensures others { self.new.hands ≡ slice_set self.old.hands index (handful_in self.new.hands index) }
         ensures same { (self.new.sizes ≡ self.old.sizes) × (length self.new.hands ≡ length self.old.hands) }

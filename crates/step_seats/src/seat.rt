@@ -39,9 +39,7 @@ impl Stepper for ActorSeat<'_> {
 
     ghost frame = { λ s. frame_of s.machine.ghost_name s.machine.now s.index };
 
-    ghost told = { λ s. Some (world_in s.machine.now) };
-
-    ghost steps = { λ s. None };
+    ghost tells = { λ s. record { world = Some (world_in s.machine.now); steps = None } };
 
     fn act(&mut self, kind: Kind) -> u64 {
         self.machine.make_step(self.index, kind)

@@ -18,7 +18,7 @@ use std::test::Fail;
 
 // The next step of the seat's line, through the bound, where it has one left.
 fn step<S: Stepper>(seat: &mut S, line: &Line) -> Result<Option<u64>, NoMemory>
-    ensures told { LeadsOn (S.told seat.old) (S.told seat.new) }
+    ensures told { LeadsOn (S.tells seat.old).world (S.tells seat.new).world }
     ensures same { (S.actor seat.new ≡ S.actor seat.old) × (S.frame seat.new ≡ S.frame seat.old) }
 {
     seat.reserve(line)?;

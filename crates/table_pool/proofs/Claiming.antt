@@ -36,7 +36,8 @@ use Rattle.mmu_core.proofs.PoolBits.{page_free}
 use Rattle.mmu_core.proofs.PoolPages.{left_not_owned, one_owner, owned_no_table, owned_not_free, owned_not_slots, owned_there}
 use Rattle.mmu_core.proofs.TreePlaces.{root_stands}
 use Rattle.mmu_core.proofs.Starts.{reached_good}
-use Rattle.step_seats.specs.PartTurns.{HasHand, MadePart, Told, ToldBoth}
+use Rattle.step_seats.specs.PartTurns.{MadePart, WherePartMade}
+use Rattle.step_seats.specs.Where.{HasHand, Told}
 use Rattle.table_pool.specs.Claims.{IsClaimersAlone, IsFreePage, SawStands, claim_step, next_word, sees_pages}
 use Rattle.table_pool.specs.declared.claim.Claim.{Claim}
 use Rattle.table_pool.specs.declared.claim.Claimed.{Claimed}
@@ -45,6 +46,8 @@ use Rattle.step_seats.specs.declared.turn.Turn.{Turn}
 use Rattle.step_seats.specs.declared.turn.Turn.TheVariants.{More, Wait, Retry, Done}
 use Rattle.mmu_core.proofs.Sized.{next_keeps_sizes}
 use Rattle.step_seats.proofs.ToldWords.{StepsTo, told_before, told_both}
+use Rattle.step_seats.proofs.Where.{ToldBoth, after_step, only, where_made}
+use Rattle.part_steps.specs.declared.part_step.PartStep.{PartStep}
 
 -- The bit that a claim tries is one of the word's, and stands in what it saw.
 low_bit : (claim : MapClaim) → 0 < claim.seen → claim.seen < 2 ^ 64 → tried_bit claim < 64
@@ -63,17 +66,23 @@ still n j low small clear =
     and_comm n (bit_not w64 (2 ^ j)) ∙ omega (arith, parts, shared)
 
 -- What the next step of a claim needs of the hand.
+pub claims : (job : Claim) (claim : MapClaim) → job.begun ≡ true → 0 < claim.seen → claim_step job claim ≡ part.Claim
+claims job claim begun some = let saw : nat_lt 0 claim.seen ≡ true = grind (arith, nat_tests, some) in rw (begun, saw) refl
+
 pub claim_needs : (job : Claim) (note : ℕ) (h : Held) → job.begun ≡ true → 0 < h.topics.claim.seen → MayMake (claim_step job h.topics.claim) note h → PartNeeds part.Claim h
-claim_needs job note h begun some may = subst (λ s. PartNeeds s h) next may.needs
-  where
-    next : claim_step job h.topics.claim ≡ part.Claim
-    next = let saw : nat_lt 0 h.topics.claim.seen ≡ true = grind (arith, nat_tests, some) in rw (begun, saw) refl
+claim_needs job note h begun some may = subst (λ s. PartNeeds s h) (claims job h.topics.claim begun some) may.needs
+
+pub loads : (job : Claim) (word : ℕ) (claim : MapClaim) → sees_pages job claim ≡ false → word ≡ next_word job claim → claim_step job claim ≡ part.Map word
+loads job word claim none is = ap (λ (b : Bool). if b then part.Claim else part.Map (next_word job claim)) none ∙ ap part.Map (sym is)
 
 pub load_needs : (job : Claim) (word note : ℕ) (h : Held) → sees_pages job h.topics.claim ≡ false → word ≡ next_word job h.topics.claim → MayMake (claim_step job h.topics.claim) note h → PartNeeds (part.Map word) h
-load_needs job word note h none is may = subst (λ s. PartNeeds s h) next may.needs
-  where
-    next : claim_step job h.topics.claim ≡ part.Map word
-    next = ap (λ (b : Bool). if b then part.Claim else part.Map (next_word job h.topics.claim)) none ∙ ap part.Map (sym is)
+load_needs job word note h none is may = subst (λ s. PartNeeds s h) (loads job word h.topics.claim none is) may.needs
+
+-- What holds where the part's step was made holds where the claim's was: it is that one.
+pub where_claimed : (job : Claim) (step : PartStep) (note found a : ℕ) (before after : Held) (told tells : Told) (P : World Held → World Held → Type 0) → claim_step job before.topics.claim ≡ step → MadePart step note found a before after told tells
+    → ((w : World Held) → MadePart step note found a before after (only w) (only (after_step (part_kind before step note) a w)) → HasHand a after (after_step (part_kind before step note) a w) → P w (after_step (part_kind before step note) a w))
+    → WherePartMade (claim_step job before.topics.claim) note a before after told P
+where_claimed job step note found a before after told tells P is made each = subst (λ (s : PartStep). WherePartMade s note a before after told P) (sym is) (where_made made each)
 
 -- A claim that isn't over may go on.
 going : (job : Claim) (h : Held) → PartRests h → h.topics.owned ≡ None → (job.begun ≡ true → h.topics.claim.at < words_of_bits h.state.sizes.pool) → PartNeeds (claim_step job h.topics.claim) h
@@ -200,7 +209,17 @@ load_stands word note found a before after told tells N M = told_both told.world
         by true none some = let zero_ = none refl in absurd (omega (arith, some, zero_))
         by false none some = ap (word_in before.state.sizes u area.PoolMap) (omega arith) ∙ (moved.leaves area.PoolMap word ∙ sym moved.finds)
 
--- What an actor owns in a world that is told is its own alone.
+-- what a load says where its step was made: what was seen stands there, and the turn doesn't wait
+module _ (job : Claim) (word note found a : ℕ) (before after : Held) (told tells : Told) (none : sees_pages job before.topics.claim ≡ false) (next : word ≡ next_word job before.topics.claim) (may : MayMake (claim_step job before.topics.claim) note before) (M : MadePart (part.Map word) note found a before after told tells) where
+  pub load_stands_there : WherePartMade (claim_step job before.topics.claim) note a before after told (λ w t. SawStands before.state.sizes after.topics.claim t)
+  load_stands_there = where_claimed job (part.Map word) note found a before after told tells (λ w t. SawStands before.state.sizes after.topics.claim t) (loads job word before.topics.claim none next) M
+      (λ w at has. load_stands word _ _ _ _ _ (only w) (only _) (load_needs job word note before none next may) at)
+
+  pub load_waits_not : (result : Turn Claimed) → ((seen : Seen) → result ≢ Wait seen) → WherePartMade (claim_step job before.topics.claim) note a before after told (λ w t. SawStands before.state.sizes before.topics.claim w → (seen : Seen) → result ≢ Wait seen)
+  load_waits_not result never = where_claimed job (part.Map word) note found a before after told tells (λ w t. SawStands before.state.sizes before.topics.claim w → (seen : Seen) → result ≢ Wait seen)
+      (loads job word before.topics.claim none next) M (λ w at has stands. never)
+
+-- What an actor owns in a world that steps lead to is its own alone.
 sole_in : (w : World Held) (a : ℕ) (o : OwnedPage) (r : Reachable w) → a < length w.hands → (hand_in mmu w a).topics.owned ≡ Some o → IsClaimersAlone (hand_in mmu w a).state.sizes a o.page w
 sole_in w a o r there mine = subst (λ (y : Sizes). IsClaimersAlone y a o.page w) (sym (G.holds.lines a lt).sizes) alone
   where

@@ -1,5 +1,5 @@
 -- What a fill and a give leave in the words of the worlds that are told.
-use Rattle.std.proofs.Common.{◌≡◌, ◌≢◌, ◌+◌, ◌*◌, ◌/◌, ◌%◌, ◌^◌, ◌<◌, ℕ, Some, refl, sym, subst, ap, ◌∙◌, arith, bit_or}
+use Rattle.std.proofs.Common.{Option, None, ◌≡◌, ◌≢◌, ◌+◌, ◌*◌, ◌/◌, ◌%◌, ◌^◌, ◌<◌, ℕ, Some, refl, sym, subst, ap, ◌∙◌, arith, bit_or}
 use Rattle.std.specs.Prelude.{Bool, true, false, ◌==◌, ◌&&◌, ◌||◌, nat_le, if◌then◌else◌}
 use Rattle.std.proofs.lemmas.Bool.Decides.{nat_tests}
 use Rattle.core_views.specs.Held.{Held}
@@ -8,26 +8,28 @@ use Rattle.spte_words.specs.declared.area.Area.TheVariants as area
 use Rattle.spte_words.specs.Areas.{number_of, pool_index}
 use Rattle.spte_words.proofs.Places.{same_number}
 use Rattle.part_steps.specs.declared.part_step.PartStep.TheVariants as part
-use Rattle.mmu_core.specs.Machine.{World}
+use Rattle.mmu_core.specs.Enabled.{mmu}
+use Rattle.mmu_core.specs.Machine.{World, answered}
+use Rattle.core_views.specs.declared.kind.Kind.{Kind}
 use Rattle.part_steps.specs.PartSteps.{HasToFill, PartNeeds, own_index, page_owned, part_kind, part_task, words_filled}
 use Rattle.part_steps.specs.PartTopics.{part_topics}
 use Rattle.mmu_core.specs.PoolPart.{is_free}
 use Rattle.part_steps.specs.TopicSteps.{filled_more}
-use Rattle.mmu_core.specs.Worlds.{Possible}
 use Rattle.mmu_core.proofs.PartWords.{fill_answers}
 use Rattle.core_views.specs.declared.topics.OwnedPage.{OwnedPage}
 use Rattle.core_views.specs.declared.topics.Topics.{Topics}
 use Rattle.step_seats.specs.declared.turn.Turn.TheVariants.{More}
 use Rattle.std.proofs.Math.Logic.{∥∥₁_elim}
 use Rattle.std.proofs.Props.{props}
-use Rattle.std.proofs.lemmas.Grind.{merely}
 use Rattle.mmu_core.specs.View.{upd, word_in, words_after}
 use Rattle.mmu_core.proofs.Columns.{upd_other, upd_same}
 use Rattle.mmu_core.proofs.OwnedBehind.{fill_by}
 use Rattle.mmu_core.proofs.PoolBits.{free_set}
-use Rattle.step_seats.specs.PartTurns.{HasHand, MadePart, Told, ToldBoth}
+use Rattle.step_seats.specs.PartTurns.{MadePart}
+use Rattle.step_seats.specs.Where.{AnsweredThere, IsMadeIn, OfWorld, Told}
 use Rattle.table_pool.specs.Pages.{FillTurn, FillsNext, FreesPage, StoresNext, next_area, next_index}
 use Rattle.step_seats.proofs.ToldWords.{StepsTo, found_in, told_both}
+use Rattle.step_seats.proofs.Where.{ToldBoth}
 
 -- what a store leaves in the words: its value in its word
 stored : (words : Area → ℕ → ℕ) (stored_ : Area) (i x : ℕ) (b : Area) (j : ℕ) → (b ≡ stored_ → j ≢ i) → (if number_of b == number_of stored_ then upd (words b) i x else words b) j ≡ words b j
@@ -90,13 +92,19 @@ give_frees page note found a before after told tells N is M =
             ap (λ n. n / 2 ^ (k % 64) % 2 == 1) (moved.leaves area.PoolMap (k / 64)) ∙ subst (λ p. is_free (upd map (own / 64) (bit_or (map (own / 64)) (2 ^ (own % 64)))) k ≡ upd (is_free map) p true k) place_ bits
 
 -- A fill answers what it wrote.
-pub fill_answers_value : (value note found : ℕ) (h : Held) → PartNeeds (part.Fill value) h → ∥ Possible h (part_kind h (part.Fill value) note) found ∥₁ → found ≡ value
-fill_answers_value value note found h N possible = ∥∥₁_elim possible (hlevel props) (λ x. answered_in x)
+pub fill_answers_value : (value note found a : ℕ) (h g : Held) (told : Told) → PartNeeds (part.Fill value) h → AnsweredThere (part_kind h (part.Fill value) note) found a h g told → found ≡ value
+fill_answers_value value note found a h g told N there = by told.world there
   where
-    answered_in : Possible h (part_kind h (part.Fill value) note) found → found ≡ value
-    answered_in x =
-        let H : HasHand x.actor h x.world = record { reached = merely x.reached; there = x.there; is = x.has } in
-        sym x.answers ∙ found_in x.world x.actor note (part.Fill value) h H N ∙ fill_answers (words_filled h.topics.owned == 512) (page_owned h.topics.owned) (words_filled h.topics.owned) value note (word_in h.state.sizes x.world)
+    k : Kind
+    k = part_kind h (part.Fill value) note
+
+    answered_in : (w : World Held) → IsMadeIn k a h g w → answered mmu w k ≡ found → found ≡ value
+    answered_in w M is =
+        sym is ∙ found_in w a note (part.Fill value) h M.has N ∙ fill_answers (words_filled h.topics.owned == 512) (page_owned h.topics.owned) (words_filled h.topics.owned) value note (word_in h.state.sizes w)
+
+    by : (x : Option (World Held)) → OfWorld x (λ w. IsMadeIn k a h g w × (answered mmu w k ≡ found)) → found ≡ value
+    by (Some w) p = answered_in w p.0 p.1
+    by None p = ∥∥₁_elim p (hlevel props) (λ x. answered_in x.0 x.1.0 x.1.1)
 
 -- The role is next where all words are filled.
 role_next : (filled : ℕ) → filled < 513 → nat_le 512 filled ≡ (filled == 512)

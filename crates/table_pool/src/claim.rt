@@ -5,7 +5,7 @@ ghost use Rattle.mmu_core.specs.Steps.{has_line};
 ghost use Rattle.mmu_core.specs.Worlds.{HandReached};
 ghost use Rattle.spte_words.specs.Areas.{words_of_bits};
 ghost use Rattle.step_seats.specs.Moves.{KeepsRoom};
-ghost use Rattle.step_seats.specs.PartTurns.{MakesPart, ToldBoth};
+ghost use Rattle.step_seats.specs.PartTurns.{MakesPart, WherePartMade};
 ghost use Rattle.step_seats.specs.declared.turn.Turn.TheVariants.{More, Wait, Done};
 ghost use Rattle.table_pool.specs.Claims.{ClaimTurn, IsClaimersAlone, IsFreePage, SawStands, claim_step, turns_left};
 ghost use Rattle.table_pool.specs.declared.claim.Claimed.TheVariants.{Page};
@@ -58,13 +58,13 @@ impl Claim {
     pub fn turn<S: Stepper>(&mut self, s: &mut S, note: u64) -> Turn<Claimed>
         requires may { MayMake (claim_step self.old (S.handful s.old).core.topics.claim) note (S.handful s.old).core }
         requires reserved { 0 < (S.handful s.old).room }
-        ensures step { MakesPart (claim_step self.old (S.handful s.old).core.topics.claim) note (S.actor s.old) (S.handful s.old).core (S.handful s.new).core (record { world = S.told s.old; steps = S.steps s.old }) (record { world = S.told s.new; steps = S.steps s.new }) }
+        ensures step { MakesPart (claim_step self.old (S.handful s.old).core.topics.claim) note (S.actor s.old) (S.handful s.old).core (S.handful s.new).core (S.tells s.old) (S.tells s.new) }
         ensures turned { ClaimTurn (S.handful s.old).core.state.sizes self.old result (S.handful s.old).core.topics (S.handful s.new).core.topics }
         ensures begun { self.new.begun ≡ true }
-        ensures free { (page : ℕ) → result ≡ Done (Page page) → IfSome (S.told s.old) (IsFreePage (S.handful s.old).core.state.sizes page) }
-        ensures sole { (page : ℕ) → result ≡ Done (Page page) → IfSome (S.told s.new) (IsClaimersAlone (S.handful s.old).core.state.sizes (S.actor s.new) page) }
-        ensures stands { ToldBoth (S.told s.old) (S.told s.new) (λ w t. SawStands (S.handful s.old).core.state.sizes (S.handful s.new).core.topics.claim t) }
-        ensures alone { IfSome (S.told s.old) (λ w. SawStands (S.handful s.old).core.state.sizes (S.handful s.old).core.topics.claim w → (seen : Seen) → result ≢ Wait seen) }
+        ensures free { (page : ℕ) → result ≡ Done (Page page) → WherePartMade (claim_step self.old (S.handful s.old).core.topics.claim) note (S.actor s.old) (S.handful s.old).core (S.handful s.new).core (S.tells s.old) (λ w t. IsFreePage (S.handful s.old).core.state.sizes page w) }
+        ensures sole { (page : ℕ) → result ≡ Done (Page page) → WherePartMade (claim_step self.old (S.handful s.old).core.topics.claim) note (S.actor s.old) (S.handful s.old).core (S.handful s.new).core (S.tells s.old) (λ w t. IsClaimersAlone (S.handful s.old).core.state.sizes (S.actor s.old) page t) }
+        ensures stands { WherePartMade (claim_step self.old (S.handful s.old).core.topics.claim) note (S.actor s.old) (S.handful s.old).core (S.handful s.new).core (S.tells s.old) (λ w t. SawStands (S.handful s.old).core.state.sizes (S.handful s.new).core.topics.claim t) }
+        ensures alone { WherePartMade (claim_step self.old (S.handful s.old).core.topics.claim) note (S.actor s.old) (S.handful s.old).core (S.handful s.new).core (S.tells s.old) (λ w t. SawStands (S.handful s.old).core.state.sizes (S.handful s.old).core.topics.claim w → (seen : Seen) → result ≢ Wait seen) }
         ensures nearer { result ≡ More → turns_left (S.handful s.old).core.state.sizes self.new (S.handful s.new).core.topics.claim < turns_left (S.handful s.old).core.state.sizes self.old (S.handful s.old).core.topics.claim }
         ensures room { KeepsRoom (S.handful s.old) (S.handful s.new) }
         ensures same { (S.actor s.new ≡ S.actor s.old) × (S.frame s.new ≡ S.frame s.old) }

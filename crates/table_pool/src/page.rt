@@ -3,7 +3,7 @@ ghost use Rattle.mmu_core.specs.MayMake.{MayMake};
 ghost use Rattle.part_steps.specs.PartSteps.{page_owned, words_filled};
 ghost use Rattle.part_steps.specs.declared.part_step.PartStep.TheVariants as part;
 ghost use Rattle.step_seats.specs.Moves.{KeepsRoom};
-ghost use Rattle.step_seats.specs.PartTurns.{MadePart, MakesPart, ToldBoth};
+ghost use Rattle.step_seats.specs.PartTurns.{MadePart, MakesPart, WherePartMade};
 ghost use Rattle.step_seats.specs.declared.turn.Turn.TheVariants.{More, Done};
 ghost use Rattle.table_pool.specs.Pages.{FillTurn, FreesPage, GivesPage, StoresNext, words_left};
 
@@ -16,7 +16,7 @@ use step_seats::{Stepper, Turn, make_part};
 fn fill_next<S: Stepper>(s: &mut S, value: u64, note: u64)
     requires may { MayMake (part.Fill value) note (S.handful s.old).core }
     requires reserved { 0 < (S.handful s.old).room }
-    ensures made { MadePart (part.Fill value) note value (S.actor s.old) (S.handful s.old).core (S.handful s.new).core (record { world = S.told s.old; steps = S.steps s.old }) (record { world = S.told s.new; steps = S.steps s.new }) }
+    ensures made { MadePart (part.Fill value) note value (S.actor s.old) (S.handful s.old).core (S.handful s.new).core (S.tells s.old) (S.tells s.new) }
     ensures room { KeepsRoom (S.handful s.old) (S.handful s.new) }
     ensures same { (S.actor s.new ≡ S.actor s.old) × (S.frame s.new ≡ S.frame s.old) }
 {
@@ -49,9 +49,9 @@ impl Fill {
         requires may { MayMake (part.Fill value) note (S.handful s.old).core }
         requires page { page_owned (S.handful s.old).core.topics.owned ≡ self.old.page }
         requires reserved { 0 < (S.handful s.old).room }
-        ensures made { MadePart (part.Fill value) note value (S.actor s.old) (S.handful s.old).core (S.handful s.new).core (record { world = S.told s.old; steps = S.steps s.old }) (record { world = S.told s.new; steps = S.steps s.new }) }
+        ensures made { MadePart (part.Fill value) note value (S.actor s.old) (S.handful s.old).core (S.handful s.new).core (S.tells s.old) (S.tells s.new) }
         ensures turned { FillTurn self.old.page value result (S.handful s.old).core.topics (S.handful s.new).core.topics }
-        ensures writes { ToldBoth (S.told s.old) (S.told s.new) (StoresNext (S.handful s.old).core.state.sizes self.old.page (words_filled (S.handful s.old).core.topics.owned) value) }
+        ensures writes { WherePartMade (part.Fill value) note (S.actor s.old) (S.handful s.old).core (S.handful s.new).core (S.tells s.old) (StoresNext (S.handful s.old).core.state.sizes self.old.page (words_filled (S.handful s.old).core.topics.owned) value) }
         ensures page { self.new ≡ self.old }
         ensures nearer { result ≡ More → words_left (S.handful s.new).core.topics < words_left (S.handful s.old).core.topics }
         ensures room { KeepsRoom (S.handful s.old) (S.handful s.new) }
@@ -86,9 +86,9 @@ impl Give {
         requires may { MayMake part.Give note (S.handful s.old).core }
         requires page { page_owned (S.handful s.old).core.topics.owned ≡ self.old.page }
         requires reserved { 0 < (S.handful s.old).room }
-        ensures step { MakesPart part.Give note (S.actor s.old) (S.handful s.old).core (S.handful s.new).core (record { world = S.told s.old; steps = S.steps s.old }) (record { world = S.told s.new; steps = S.steps s.new }) }
+        ensures step { MakesPart part.Give note (S.actor s.old) (S.handful s.old).core (S.handful s.new).core (S.tells s.old) (S.tells s.new) }
         ensures turned { GivesPage result (S.handful s.old).core.topics (S.handful s.new).core.topics }
-        ensures frees { ToldBoth (S.told s.old) (S.told s.new) (FreesPage (S.handful s.old).core.state.sizes self.old.page) }
+        ensures frees { WherePartMade part.Give note (S.actor s.old) (S.handful s.old).core (S.handful s.new).core (S.tells s.old) (FreesPage (S.handful s.old).core.state.sizes self.old.page) }
         ensures page { self.new ≡ self.old }
         ensures room { KeepsRoom (S.handful s.old) (S.handful s.new) }
         ensures same { (S.actor s.new ≡ S.actor s.old) × (S.frame s.new ≡ S.frame s.old) }

@@ -1,6 +1,6 @@
 -- Where a walk stands behind a link, and which word it loaded.
 use Rattle.std.proofs.Common.{◌≡◌, ◌+◌, ◌-◌, ◌*◌, ◌/◌, ◌<◌, ◌≤◌, ℕ, zero, suc, Option, Some, None, refl, sym, subst, ap, ◌∙◌, arith}
-use Rattle.std.specs.Prelude.{Bool, true, false, ◌==◌, if◌then◌else◌, IfSome, ◌%◌, ◌^◌}
+use Rattle.std.specs.Prelude.{Bool, true, false, ◌==◌, if◌then◌else◌, ◌%◌, ◌^◌}
 use Rattle.std.proofs.lemmas.Bool.Decides.{nat_tests}
 use Rattle.core_views.specs.declared.topics.TableWalk.{TableWalk}
 use Rattle.core_views.specs.declared.topics.Topics.{Topics}
@@ -15,12 +15,14 @@ use Rattle.part_steps.specs.PartSteps.{IsOver, PartNeeds, SawEntry, entry_index,
 use Rattle.part_steps.specs.PartTopics.{part_topics}
 use Rattle.part_steps.specs.TopicSteps.{at_root, gone_down, linked_page, may_walk}
 use Rattle.mmu_core.specs.View.{word_in}
-use Rattle.step_seats.specs.PartTurns.{MadePart, Told}
+use Rattle.step_seats.specs.PartTurns.{MadePart, WherePartMade}
+use Rattle.step_seats.specs.Where.{Told}
 use Rattle.tdp_walk.specs.declared.walk.Walk.{Walk}
 use Rattle.tdp_walk.specs.Walks.{GoesDown, StandsAtRoot, StopsAt, found_last, walk_step, word_next}
 use Rattle.mmu_core.proofs.HeldKept.{page_below}
-use Rattle.step_seats.proofs.AloneTold.{if_some}
+use Rattle.step_seats.proofs.Where.{only, where_made}
 use Rattle.step_seats.proofs.Found.{Answers, found_told}
+use Rattle.mmu_core.specs.Machine.{World}
 
 -- At level 1 no entry is a link.
 lowest : (v page : ℕ) → kind_of 1 v ≡ entry_kind.Table page → ⊥
@@ -108,18 +110,23 @@ keeps_entry : (to : Option ℕ) (w : TableWalk) (j v : ℕ) → (gone_down to w 
 keeps_entry None w j v = refl
 keeps_entry (Some page) w j v = refl
 
+-- What was loaded last is the word that the walk came to next, of the words of this world.
+abbrev FoundNext : Walk → Held → Held → World Held → Type 0
+FoundNext walk before after w = found_last walk after.topics.walk ≡ word_next walk before.topics.walk (word_in before.state.sizes w)
+
 pub root_found : (walk : Walk) (note found a : ℕ) (before after : Held) (told tells : Told) → walk.rooted ≡ false → MadePart part.Root note found a before after told tells
-    → IfSome told.world (λ w. found_last walk after.topics.walk ≡ word_next walk before.topics.walk (word_in before.state.sizes w))
+    → WherePartMade (walk_step walk) note a before after told (λ w t. FoundNext walk before after w)
 root_found walk note found a before after told tells not_yet made =
-    if_some told.world (Answers part.Root note found before) (λ w. found_last walk after.topics.walk ≡ word_next walk before.topics.walk (word_in before.state.sizes w))
-    (λ w is. rw (not_yet) (ap (λ (t : Topics). t.walk.root) made.topics ∙ is)) (found_told part.Root note found a before after told tells made tt)
+    subst (λ (b : Bool). WherePartMade (if b then part.Walk walk.gfn else part.Root) note a before after told (λ w t. FoundNext walk before after w)) (sym not_yet)
+    (where_made made (λ w at has. rw (not_yet) (ap (λ (t : Topics). t.walk.root) made.topics ∙ found_told part.Root note found a before after (only w) _ at tt)))
 
 -- the walk has come to a table with the guest frame's entry
 pub is_over : (walk : Walk) (h : Held) → walk.rooted ≡ true → PartNeeds (walk_step walk) h → IsOver walk.gfn h.topics.walk
 is_over walk h already needs = rw already at needs
 
 pub entry_found : (walk : Walk) (note found a : ℕ) (before after : Held) (told tells : Told) → walk.rooted ≡ true → PartNeeds (walk_step walk) before → MadePart (part.Walk walk.gfn) note found a before after told tells
-    → IfSome told.world (λ w. found_last walk after.topics.walk ≡ word_next walk before.topics.walk (word_in before.state.sizes w))
+    → WherePartMade (walk_step walk) note a before after told (λ w t. FoundNext walk before after w)
 entry_found walk note found a before after told tells already needs made =
-    if_some told.world (Answers (part.Walk walk.gfn) note found before) (λ w. found_last walk after.topics.walk ≡ word_next walk before.topics.walk (word_in before.state.sizes w))
-    (λ w is. rw (already) (ap (λ (t : Topics). t.walk.entry) made.topics ∙ keeps_entry (linked_page (kind_of before.topics.walk.level found)) before.topics.walk (entry_index walk.gfn before.topics.walk.level) found ∙ is)) (found_told (part.Walk walk.gfn) note found a before after told tells made (is_over walk before already needs))
+    let loaded = keeps_entry (linked_page (kind_of before.topics.walk.level found)) before.topics.walk (entry_index walk.gfn before.topics.walk.level) found in
+    subst (λ (b : Bool). WherePartMade (if b then part.Walk walk.gfn else part.Root) note a before after told (λ w t. FoundNext walk before after w)) (sym already)
+    (where_made made (λ w at has. rw (already) (ap (λ (t : Topics). t.walk.entry) made.topics ∙ loaded ∙ found_told (part.Walk walk.gfn) note found a before after (only w) _ at (is_over walk before already needs))))

@@ -3,7 +3,7 @@ ghost use Rattle.mmu_core.specs.MayMake.{MayMake};
 ghost use Rattle.part_steps.specs.TopicSteps.{may_walk};
 ghost use Rattle.mmu_core.specs.View.{word_in};
 ghost use Rattle.step_seats.specs.Moves.{KeepsRoom};
-ghost use Rattle.step_seats.specs.PartTurns.{MakesPart};
+ghost use Rattle.step_seats.specs.PartTurns.{MakesPart, WherePartMade};
 ghost use Rattle.step_seats.specs.declared.turn.Turn.TheVariants.{More};
 ghost use Rattle.tdp_walk.specs.Walks.{FindsRoot, Looks, found_last, turns_left, walk_step, word_next};
 
@@ -51,10 +51,10 @@ impl Walk {
         requires reserved { 0 < (S.handful s.old).room }
         requires gfn { self.old.gfn < 2 ^ 36 }
         requires held { self.old.rooted ≡ false → may_walk (S.handful s.old).core.topics.stay (S.handful s.old).core.topics.hold ≡ true }
-        ensures step { MakesPart (walk_step self.old) note (S.actor s.old) (S.handful s.old).core (S.handful s.new).core (record { world = S.told s.old; steps = S.steps s.old }) (record { world = S.told s.new; steps = S.steps s.new }) }
+        ensures step { MakesPart (walk_step self.old) note (S.actor s.old) (S.handful s.old).core (S.handful s.new).core (S.tells s.old) (S.tells s.new) }
         ensures root { self.old.rooted ≡ false → FindsRoot result self.old.gfn (S.handful s.old).core.topics (S.handful s.new).core.topics }
         ensures entry { self.old.rooted ≡ true → Looks result self.old.gfn (S.handful s.old).core.topics (S.handful s.new).core.topics }
-        ensures word { IfSome (S.told s.old) (λ w. found_last self.old (S.handful s.new).core.topics.walk ≡ word_next self.old (S.handful s.old).core.topics.walk (word_in (S.handful s.old).core.state.sizes w)) }
+        ensures word { WherePartMade (walk_step self.old) note (S.actor s.old) (S.handful s.old).core (S.handful s.new).core (S.tells s.old) (λ w t. found_last self.old (S.handful s.new).core.topics.walk ≡ word_next self.old (S.handful s.old).core.topics.walk (word_in (S.handful s.old).core.state.sizes w)) }
         ensures goes_on { self.new ≡ record { gfn = self.old.gfn; rooted = true } }
         ensures nearer { result ≡ More → turns_left self.new (S.handful s.new).core.topics.walk < turns_left self.old (S.handful s.old).core.topics.walk }
         ensures room { KeepsRoom (S.handful s.old) (S.handful s.new) }

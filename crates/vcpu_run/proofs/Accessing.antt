@@ -59,7 +59,7 @@ use Rattle.mmu_core.specs.Turns.{line_of, outcome_of}
 use Rattle.mmu_core.proofs.KnowsKept.{access_vcpu}
 use Rattle.mmu_core.proofs.PartFits.{part_small, part_within_by}
 use Rattle.mmu_core.proofs.Which.{enabled_is}
-use Rattle.step_seats.specs.PartTurns.{Told}
+use Rattle.step_seats.specs.Where.{Told}
 use Rattle.vcpu_run.specs.declared.access.AccessJob.{AccessJob}
 use Rattle.step_seats.specs.LineTurns.{Gives, MakesLine, TurnsLine, fault_turn, line_seen, line_turn, turn_of}
 use Rattle.step_seats.proofs.LineTurns.{made_line}

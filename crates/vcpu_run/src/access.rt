@@ -75,7 +75,7 @@ impl AccessJob {
         requires stands { StandsAt place self.now (S.handful s.old).core }
         requires stay { IsStay place }
         requires reserved { 0 < (S.handful s.old).room }
-        ensures makes { MakesLine (S.actor s.old) (S.handful s.old).core (S.handful s.new).core (record { world = S.told s.old; steps = S.steps s.old }) (record { world = S.told s.new; steps = S.steps s.new }) }
+        ensures makes { MakesLine (S.actor s.old) (S.handful s.old).core (S.handful s.new).core (S.tells s.old) (S.tells s.new) }
         ensures room { KeepsRoom (S.handful s.old) (S.handful s.new) }
         ensures same { (S.actor s.new ≡ S.actor s.old) × (S.frame s.new ≡ S.frame s.old) }
     {
@@ -101,7 +101,7 @@ impl AccessJob {
     fn walk<S: Stepper>(&self, s: &mut S, rooted: bool)
         requires stands { WalksAt rooted self.now (S.handful s.old).core }
         requires reserved { 0 < (S.handful s.old).room }
-        ensures makes { MakesLine (S.actor s.old) (S.handful s.old).core (S.handful s.new).core (record { world = S.told s.old; steps = S.steps s.old }) (record { world = S.told s.new; steps = S.steps s.new }) }
+        ensures makes { MakesLine (S.actor s.old) (S.handful s.old).core (S.handful s.new).core (S.tells s.old) (S.tells s.new) }
         ensures room { KeepsRoom (S.handful s.old) (S.handful s.new) }
         ensures same { (S.actor s.new ≡ S.actor s.old) × (S.frame s.new ≡ S.frame s.old) }
     {
@@ -116,7 +116,7 @@ impl AccessJob {
     fn fault<S: Stepper>(&self, s: &mut S, place: FaultPlace) -> Turn<Answer>
         requires stands { StandsAt (at.Fault place) self.now (S.handful s.old).core }
         requires reserved { 0 < (S.handful s.old).room }
-        ensures turns { TurnsLine result (S.actor s.old) (S.handful s.old).core (S.handful s.new).core (record { world = S.told s.old; steps = S.steps s.old }) (record { world = S.told s.new; steps = S.steps s.new }) }
+        ensures turns { TurnsLine result (S.actor s.old) (S.handful s.old).core (S.handful s.new).core (S.tells s.old) (S.tells s.new) }
         ensures cause { HasItsCause result self.now (S.handful s.old).core }
         ensures room { KeepsRoom (S.handful s.old) (S.handful s.new) }
         ensures same { (S.actor s.new ≡ S.actor s.old) × (S.frame s.new ≡ S.frame s.old) }
@@ -140,7 +140,7 @@ impl AccessJob {
         requires next { self.old.index ≡ length (S.handful s.old).core.answers }
         requires access { (line_of (S.handful s.old).core).command ≡ Access self.old.gfn self.old.word self.old.op }
         requires reserved { 0 < (S.handful s.old).room }
-        ensures turns { TurnsLine result (S.actor s.old) (S.handful s.old).core (S.handful s.new).core (record { world = S.told s.old; steps = S.steps s.old }) (record { world = S.told s.new; steps = S.steps s.new }) }
+        ensures turns { TurnsLine result (S.actor s.old) (S.handful s.old).core (S.handful s.new).core (S.tells s.old) (S.tells s.new) }
         ensures cause { HasItsCause result self.old (S.handful s.old).core }
         ensures says { Says result (line_of (S.handful s.old).core) (S.handful s.old).core (S.handful s.new).core }
         ensures hand { IsSameHand (S.handful s.old).core (S.handful s.new).core }

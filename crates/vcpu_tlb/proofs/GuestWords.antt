@@ -31,7 +31,7 @@ use Rattle.mmu_core.proofs.Starts.{reached_good}
 use Rattle.mmu_core.proofs.Views.{view_behind}
 use Rattle.mmu_core.proofs.Worlds.{good_step}
 use Rattle.step_seats.specs.Moves.{Tells, step_by}
-use Rattle.step_seats.specs.PartTurns.{HasHand}
+use Rattle.step_seats.specs.Where.{HasHand}
 use Rattle.vcpu_tlb.specs.declared.guest.Entered.TheVariants.{In, Flushed}
 use Rattle.mmu_core.specs.Cached.{asks_flush}
 use Rattle.vcpu_tlb.specs.Entering.{answer_to, state_in}

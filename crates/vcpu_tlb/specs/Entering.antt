@@ -8,7 +8,8 @@ use Rattle.mmu_core.specs.Cached.{asks_flush}
 use Rattle.mmu_core.specs.Machine.{World}
 use Rattle.part_steps.specs.PartSteps.{own_index}
 use Rattle.mmu_core.specs.View.{word_in}
-use Rattle.step_seats.specs.PartTurns.{MadePart, Told}
+use Rattle.step_seats.specs.PartTurns.{MadePart}
+use Rattle.step_seats.specs.Where.{Told}
 use Rattle.core_views.specs.declared.cache.Translation.{Translation}
 use Rattle.vcpu_tlb.specs.declared.guest.Entered.{Entered}
 use Rattle.vcpu_tlb.specs.declared.guest.Entered.TheVariants.{In, Flushed}

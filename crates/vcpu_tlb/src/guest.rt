@@ -5,7 +5,7 @@ ghost use Rattle.mmu_core.specs.MayMake.{MayMake};
 ghost use Rattle.part_steps.specs.TopicSteps.{begun};
 ghost use Rattle.part_steps.specs.declared.part_step.PartStep.TheVariants.{Enter, Leave, Pause};
 ghost use Rattle.step_seats.specs.Moves.{KeepsRoom};
-ghost use Rattle.step_seats.specs.PartTurns.{MadePart, MakesPart};
+ghost use Rattle.step_seats.specs.PartTurns.{MadePart, MakesPart, WherePartMade};
 ghost use Rattle.vcpu_tlb.specs.Entering.{Enters, answer_to, cached_behind, pause_in, state_in};
 
 use part_steps::PartStep;
@@ -30,11 +30,11 @@ pub enum Entered {
 pub fn enter<S: Stepper>(s: &mut S, note: u64) -> Entered
     requires may { MayMake Enter note (S.handful s.old).core }
     requires reserved { 0 < (S.handful s.old).room }
-    ensures step { Enters note (S.actor s.old) result (S.handful s.old).core (S.handful s.new).core (record { world = S.told s.old; steps = S.steps s.old }) (record { world = S.told s.new; steps = S.steps s.new }) }
+    ensures step { Enters note (S.actor s.old) result (S.handful s.old).core (S.handful s.new).core (S.tells s.old) (S.tells s.new) }
     ensures cached { (S.handful s.new).core.cached ≡ cached_behind result (S.handful s.old).core.cached }
     ensures stay { (S.handful s.new).core.topics ≡ begun Stay.Guest (S.handful s.old).core.topics }
-    ensures asked { IfSome (S.told s.old) (λ w. result ≡ answer_to (state_in (S.handful s.old).core w)) }
-    ensures state { IfSome (S.told s.old) (λ w. IfSome (S.told s.new) (λ v. state_in (S.handful s.new).core v ≡ 3)) }
+    ensures asked { WherePartMade Enter note (S.actor s.old) (S.handful s.old).core (S.handful s.new).core (S.tells s.old) (λ w t. result ≡ answer_to (state_in (S.handful s.old).core w)) }
+    ensures state { WherePartMade Enter note (S.actor s.old) (S.handful s.old).core (S.handful s.new).core (S.tells s.old) (λ w t. state_in (S.handful s.new).core t ≡ 3) }
     ensures room { KeepsRoom (S.handful s.old) (S.handful s.new) }
     ensures same { (S.actor s.new ≡ S.actor s.old) × (S.frame s.new ≡ S.frame s.old) }
 {
@@ -51,11 +51,11 @@ pub fn enter<S: Stepper>(s: &mut S, note: u64) -> Entered
 pub fn paused<S: Stepper>(s: &mut S, note: u64) -> bool
     requires may { MayMake Pause note (S.handful s.old).core }
     requires reserved { 0 < (S.handful s.old).room }
-    ensures step { MadePart Pause note (S.handful s.new).core.topics.pause (S.actor s.old) (S.handful s.old).core (S.handful s.new).core (record { world = S.told s.old; steps = S.steps s.old }) (record { world = S.told s.new; steps = S.steps s.new }) }
+    ensures step { MadePart Pause note (S.handful s.new).core.topics.pause (S.actor s.old) (S.handful s.old).core (S.handful s.new).core (S.tells s.old) (S.tells s.new) }
     ensures cached { (S.handful s.new).core.cached ≡ (S.handful s.old).core.cached }
     ensures pause { (S.handful s.new).core.topics ≡ record (S.handful s.old).core.topics { pause = (S.handful s.new).core.topics.pause } }
     ensures answer { result ≡ not ((S.handful s.new).core.topics.pause == 0) }
-    ensures told { IfSome (S.told s.old) (λ w. result ≡ not (pause_in (S.handful s.old).core w == 0)) }
+    ensures told { WherePartMade Pause note (S.actor s.old) (S.handful s.old).core (S.handful s.new).core (S.tells s.old) (λ w t. result ≡ not (pause_in (S.handful s.old).core w == 0)) }
     ensures room { KeepsRoom (S.handful s.old) (S.handful s.new) }
     ensures same { (S.actor s.new ≡ S.actor s.old) × (S.frame s.new ≡ S.frame s.old) }
 {
@@ -68,11 +68,11 @@ pub fn paused<S: Stepper>(s: &mut S, note: u64) -> bool
 pub fn leave<S: Stepper>(s: &mut S, note: u64)
     requires may { MayMake Leave note (S.handful s.old).core }
     requires reserved { 0 < (S.handful s.old).room }
-    ensures step { MakesPart Leave note (S.actor s.old) (S.handful s.old).core (S.handful s.new).core (record { world = S.told s.old; steps = S.steps s.old }) (record { world = S.told s.new; steps = S.steps s.new }) }
+    ensures step { MakesPart Leave note (S.actor s.old) (S.handful s.old).core (S.handful s.new).core (S.tells s.old) (S.tells s.new) }
     ensures cached { (S.handful s.new).core.cached ≡ (S.handful s.old).core.cached }
     ensures stay { (S.handful s.new).core.topics ≡ begun Stay.Outside (S.handful s.old).core.topics }
-    ensures clear { IfSome (S.told s.new) (λ v. state_in (S.handful s.new).core v % 4 ≡ 0) }
-    ensures asked { IfSome (S.told s.old) (λ w. IfSome (S.told s.new) (λ v. asks_flush (state_in (S.handful s.new).core v) ≡ asks_flush (state_in (S.handful s.old).core w))) }
+    ensures clear { WherePartMade Leave note (S.actor s.old) (S.handful s.old).core (S.handful s.new).core (S.tells s.old) (λ w t. state_in (S.handful s.new).core t % 4 ≡ 0) }
+    ensures asked { WherePartMade Leave note (S.actor s.old) (S.handful s.old).core (S.handful s.new).core (S.tells s.old) (λ w t. asks_flush (state_in (S.handful s.new).core t) ≡ asks_flush (state_in (S.handful s.old).core w)) }
     ensures room { KeepsRoom (S.handful s.old) (S.handful s.new) }
     ensures same { (S.actor s.new ≡ S.actor s.old) × (S.frame s.new ≡ S.frame s.old) }
 {

@@ -40,7 +40,7 @@ use Rattle.mmu_core.proofs.Which.{has_line_is}
 use Rattle.step_seats.specs.Moves.{Adds, Tells, step_by}
 use Rattle.step_seats.specs.declared.turn.Turn.{Turn}
 use Rattle.step_seats.specs.declared.turn.Turn.TheVariants.{More, Wait, Retry, Done}
-use Rattle.step_seats.specs.PartTurns.{Told}
+use Rattle.step_seats.specs.Where.{Told}
 use Rattle.weave_engine.specs.Replays.{EachStepsAlone, RunsAlone}
 use Rattle.weave_engine.specs.Turning.{is_ended}
 use Rattle.weave_engine.specs.Turns.{IsAlone, RanAlone}

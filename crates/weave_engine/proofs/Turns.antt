@@ -30,7 +30,7 @@ use Rattle.mmu_core.specs.Worlds.{Reachable}
 use Rattle.mmu_core.proofs.Starts.{reached_good}
 use Rattle.mmu_core.proofs.Which.{is_next}
 use Rattle.step_seats.specs.Moves.{step_by}
-use Rattle.step_seats.specs.PartTurns.{HasHand, Told}
+use Rattle.step_seats.specs.Where.{HasHand, Told}
 use Rattle.step_seats.specs.declared.turn.Turn.{Turn}
 use Rattle.step_seats.specs.declared.turn.Turn.TheVariants.{Done, Retry, Wait}
 use Rattle.tdp_io.specs.declared.sink.Stop.{Stop}

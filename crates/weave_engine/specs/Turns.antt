@@ -9,7 +9,7 @@ use Rattle.core_views.specs.Held.{Held}
 use Rattle.mmu_core.specs.Enabled.{mmu}
 use Rattle.mmu_core.specs.LineAlone.{LineAlone}
 use Rattle.mmu_core.specs.Machine.{Step, World, hand_in, run}
-use Rattle.step_seats.specs.PartTurns.{Told}
+use Rattle.step_seats.specs.Where.{Told}
 use Rattle.weave_engine.specs.Replays.{RunsAlone}
 use Rattle.weave_engine.specs.declared.job.LineJob.{LineJob}
 use Rattle.weave_engine.specs.declared.job.LineJob.TheVariants.{Access, Setting}

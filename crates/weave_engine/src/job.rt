@@ -23,7 +23,7 @@ impl LineJob {
         requires left { length (S.handful s.old).core.answers < length (S.handful s.old).core.lines }
         requires line { IsJobOf self.old (line_of (S.handful s.old).core) (length (S.handful s.old).core.answers) }
         requires reserved { 0 < (S.handful s.old).room }
-        ensures turns { TurnsLine result (S.actor s.old) (S.handful s.old).core (S.handful s.new).core (record { world = S.told s.old; steps = S.steps s.old }) (record { world = S.told s.new; steps = S.steps s.new }) }
+        ensures turns { TurnsLine result (S.actor s.old) (S.handful s.old).core (S.handful s.new).core (S.tells s.old) (S.tells s.new) }
         ensures says { Says result (line_of (S.handful s.old).core) (S.handful s.old).core (S.handful s.new).core }
         ensures hand { IsSameHand (S.handful s.old).core (S.handful s.new).core }
         ensures room { KeepsRoom (S.handful s.old) (S.handful s.new) }
@@ -44,7 +44,7 @@ pub fn start_line<S: Stepper>(s: &mut S, line: &Line) -> Result<LineJob, NoMemor
     ensures reserved { OnOk result (0 < (S.handful s.new).room) }
     ensures refused { OnErr result (S.handful s.new ≡ S.handful s.old) }
     ensures hand { (S.handful s.new).core ≡ (S.handful s.old).core }
-    ensures told { (S.told s.new ≡ S.told s.old) × (S.steps s.new ≡ S.steps s.old) }
+    ensures told { S.tells s.new ≡ S.tells s.old }
     ensures same { (S.actor s.new ≡ S.actor s.old) × (S.frame s.new ≡ S.frame s.old) }
 {
     s.reserve(line)?;
@@ -66,11 +66,11 @@ pub fn run_line<S: Stepper>(s: &mut S, line: &Line) -> Result<Answer, NoMemory>
     requires idle { (S.handful s.old).core.state.place ≡ Between }
     requires next { slice_get (S.handful s.old).core.lines (length (S.handful s.old).core.answers) ≡ Some line.now }
     requires own { line.now.actor ≡ (S.handful s.old).core.state.actor }
-    requires alone { IsAlone (S.actor s.old) (S.handful s.old).core (S.told s.old) }
+    requires alone { IsAlone (S.actor s.old) (S.handful s.old).core (S.tells s.old).world }
     ensures answered { IfOk result (λ answer. IsAnswered line.now answer (S.handful s.old).core (S.handful s.new).core) }
-    ensures alone { IfOk result (λ answer. RanAlone (S.handful s.old).core.state.sizes line.now answer (S.actor s.old) (record { world = S.told s.old; steps = S.steps s.old }) (record { world = S.told s.new; steps = S.steps s.new })) }
+    ensures alone { IfOk result (λ answer. RanAlone (S.handful s.old).core.state.sizes line.now answer (S.actor s.old) (S.tells s.old) (S.tells s.new)) }
     ensures hand { IsSameHand (S.handful s.old).core (S.handful s.new).core }
-    ensures refused { OnErr result (((S.handful s.new).core ≡ (S.handful s.old).core) × (S.told s.new ≡ S.told s.old) × (S.steps s.new ≡ S.steps s.old)) }
+    ensures refused { OnErr result (((S.handful s.new).core ≡ (S.handful s.old).core) × (S.tells s.new ≡ S.tells s.old)) }
     ensures same { (S.actor s.new ≡ S.actor s.old) × (S.frame s.new ≡ S.frame s.old) }
 {
     let mut job = start_line(s, line)?;

@@ -54,10 +54,10 @@ fn line_of_hand(hand: &Hand) -> Option<Line>
 pub fn take_turn<S: Stepper>(s: &mut S, line: &Line) -> Result<Turn<Answer>, NoMemory>
     requires left { length (S.handful s.old).core.answers < length (S.handful s.old).core.lines }
     requires line { line.now ≡ line_of (S.handful s.old).core }
-    ensures turns { IfOk result (λ turn. TurnsLine turn (S.actor s.old) (S.handful s.old).core (S.handful s.new).core (record { world = S.told s.old; steps = S.steps s.old }) (record { world = S.told s.new; steps = S.steps s.new })) }
+    ensures turns { IfOk result (λ turn. TurnsLine turn (S.actor s.old) (S.handful s.old).core (S.handful s.new).core (S.tells s.old) (S.tells s.new)) }
     ensures says { IfOk result (λ turn. Says turn line.now (S.handful s.old).core (S.handful s.new).core) }
     ensures hand { IsSameHand (S.handful s.old).core (S.handful s.new).core }
-    ensures refused { OnErr result (((S.handful s.new).core ≡ (S.handful s.old).core) × (S.told s.new ≡ S.told s.old) × (S.steps s.new ≡ S.steps s.old)) }
+    ensures refused { OnErr result (((S.handful s.new).core ≡ (S.handful s.old).core) × (S.tells s.new ≡ S.tells s.old)) }
     ensures same { (S.actor s.new ≡ S.actor s.old) × (S.frame s.new ≡ S.frame s.old) }
 {
     let mut job = start_line(s, line)?;
@@ -67,8 +67,8 @@ pub fn take_turn<S: Stepper>(s: &mut S, line: &Line) -> Result<Turn<Answer>, NoM
 // Makes the actor's next turn, where it has a line left. Where memory is refused
 // no step is made.
 fn next_turn<S: Stepper>(s: &mut S) -> Result<Option<TurnMade>, NoMemory>
-    ensures turned { IfOk result (λ made. TurnedTold made (S.actor s.old) (S.told s.old) (S.told s.new)) }
-    ensures refused { OnErr result (S.told s.new ≡ S.told s.old) }
+    ensures turned { IfOk result (λ made. TurnedTold made (S.actor s.old) (S.tells s.old).world (S.tells s.new).world) }
+    ensures refused { OnErr result (S.tells s.new ≡ S.tells s.old) }
     ensures same { (S.actor s.new ≡ S.actor s.old) × (S.frame s.new ≡ S.frame s.old) }
 {
     let hand = s.hand();

@@ -6,6 +6,6 @@ pub loop-turns-preserved : goal.loop-turns-preserved
 loop-turns-preserved g c = record {
   gfn = subst (λ (n : ℕ). n < 2 ^ 36) (sym c.turn-last.ensures.turned.work.0) c.loop-turns.invariant.gfn;
   knows = knows_on c.loop-turns.job c.turn-last.new.self c.turn-last.result 0 (g.S.Stepper.actor c.reserve.new.self) (g.S.Stepper.handful c.reserve.new.self).core (g.S.Stepper.handful c.turn-last.new.s).core
-      (record { world = g.S.Stepper.told c.reserve.new.self; steps = g.S.Stepper.steps c.reserve.new.self }) (record { world = g.S.Stepper.told c.turn-last.new.s; steps = g.S.Stepper.steps c.turn-last.new.s })
+      (g.S.Stepper.tells c.reserve.new.self) (g.S.Stepper.tells c.turn-last.new.s)
       c.turn-last.ensures.turned (c.goes_on.ensures c.if-not-goes_on.false);
 }

@@ -1,11 +1,12 @@
-use Rattle.std.proofs.Common.{◌≡◌, ℕ, ap, ◌∙◌, subst}
+use Rattle.std.proofs.Common.{◌≡◌, ℕ, ap, ◌∙◌, subst, Some, refl}
 use Rattle.core_views.specs.declared.hand.State.{State}
 use Rattle.core_views.specs.declared.kind.Kind.{Kind}
 use Rattle.core_views.specs.declared.trace.Op.{Op}
 use Rattle.core_views.specs.Held.{Handful}
-use Rattle.step_seats.specs.Moves.{Tells}
 use Rattle.host_map.specs.Touching.{touch_kind}
 use Rattle.host_map.proofs.ContentWords.{content_behind, content_found}
+use Rattle.step_seats.proofs.Where.{where_answered}
+use Rattle.step_seats.specs.Where.{AnsweredThere}
 use Rattle.host_map.proofs.content.touch.Goals as goal
 
 -- The step that was made is the one of the sizes that the hand has.
@@ -16,14 +17,20 @@ kind_is state hand h frame word op note k state_is hand_is is =
 
 pub returns-clause-before : goal.returns-clause-before
 returns-clause-before g c =
-    let h = g.S.Stepper.handful c.args.s.now in
-    content_found h.core.state.sizes c.args.frame c.args.word c.requires.frame c.requires.word c.args.op c.args.note (g.S.Stepper.told c.args.s.now) (g.S.Stepper.told c.act.new.self) (g.S.Stepper.actor c.args.s.now) c.act.result
-    (subst (λ (k : Kind). Tells (g.S.Stepper.told c.args.s.now) (g.S.Stepper.actor c.args.s.now) k c.act.result (g.S.Stepper.told c.act.new.self))
-    (kind_is c.state.result.now c.hand-hand.result.now h c.args.frame c.args.word c.args.op c.args.note c.touch_kind-kind.result c.state.ensures c.hand-hand.ensures.hand c.touch_kind-kind.ensures) c.act.ensures.told)
+    let s = c.args.s.now in
+    let h = (g.S.Stepper.handful s).core in
+    let after = (g.S.Stepper.handful c.act.new.self).core in
+    let kind = kind_is c.state.result.now c.hand-hand.result.now (g.S.Stepper.handful s) c.args.frame c.args.word c.args.op c.args.note c.touch_kind-kind.result c.state.ensures c.hand-hand.ensures.hand c.touch_kind-kind.ensures in
+    let answers = subst (λ (k : Kind). AnsweredThere k c.act.result (g.S.Stepper.actor s) h after (g.S.Stepper.tells s)) kind c.act.ensures.answers in
+    where_answered _ c.act.result _ h after (g.S.Stepper.tells s) answers
+    (λ w there is. content_found h.state.sizes c.args.frame c.args.word c.requires.frame c.requires.word c.args.op c.args.note (Some w) (Some _) _ c.act.result (there.may, is, refl))
 
 pub returns-clause-behind : goal.returns-clause-behind
 returns-clause-behind g c =
-    let h = g.S.Stepper.handful c.args.s.now in
-    content_behind h.core.state.sizes c.args.frame c.args.word c.requires.frame c.requires.word c.args.op c.args.note (g.S.Stepper.told c.args.s.now) (g.S.Stepper.told c.act.new.self) (g.S.Stepper.actor c.args.s.now) c.act.result
-    (subst (λ (k : Kind). Tells (g.S.Stepper.told c.args.s.now) (g.S.Stepper.actor c.args.s.now) k c.act.result (g.S.Stepper.told c.act.new.self))
-    (kind_is c.state.result.now c.hand-hand.result.now h c.args.frame c.args.word c.args.op c.args.note c.touch_kind-kind.result c.state.ensures c.hand-hand.ensures.hand c.touch_kind-kind.ensures) c.act.ensures.told)
+    let s = c.args.s.now in
+    let h = (g.S.Stepper.handful s).core in
+    let after = (g.S.Stepper.handful c.act.new.self).core in
+    let kind = kind_is c.state.result.now c.hand-hand.result.now (g.S.Stepper.handful s) c.args.frame c.args.word c.args.op c.args.note c.touch_kind-kind.result c.state.ensures c.hand-hand.ensures.hand c.touch_kind-kind.ensures in
+    let answers = subst (λ (k : Kind). AnsweredThere k c.act.result (g.S.Stepper.actor s) h after (g.S.Stepper.tells s)) kind c.act.ensures.answers in
+    where_answered _ c.act.result _ h after (g.S.Stepper.tells s) answers
+    (λ w there is. content_behind h.state.sizes c.args.frame c.args.word c.requires.frame c.requires.word c.args.op c.args.note (Some w) (Some _) _ c.act.result (there.may, is, refl))

@@ -1,6 +1,8 @@
 use Rattle.host_map.proofs.ContentWords.{host_found}
+use Rattle.std.proofs.Common.{Some}
+use Rattle.step_seats.proofs.Where.{where_made}
 use Rattle.host_map.proofs.host.look.Goals as goal
 
 pub returns-clause-told : goal.returns-clause-told
 returns-clause-told g c =
-    host_found (g.S.Stepper.handful c.args.s.now).core.state.sizes c.args.page c.args.note (g.S.Stepper.told c.args.s.now) (g.S.Stepper.told c.make_part.new.s) (g.S.Stepper.actor c.args.s.now) c.make_part.result c.requires.may.needs c.make_part.ensures.made.world
+    where_made c.make_part.ensures.made (λ w at has. host_found (g.S.Stepper.handful c.args.s.now).core.state.sizes c.args.page c.args.note (Some w) (Some _) _ _ c.requires.may.needs at.world)

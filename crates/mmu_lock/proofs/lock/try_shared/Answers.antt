@@ -1,11 +1,12 @@
-use Rattle.std.proofs.Common.{◌≡◌, ℕ, refl, sym, subst, ap, ◌∙◌}
+use Rattle.std.proofs.Common.{Some, ◌≡◌, ℕ, refl, sym, subst, ap, ◌∙◌}
 use Rattle.core_views.specs.declared.topics.Hold.TheVariants.{Owing}
 use Rattle.core_views.specs.declared.topics.Topics.{Topics}
 use Rattle.core_views.specs.Held.{Handful}
 use Rattle.part_steps.specs.declared.part_step.PartStep.{PartStep}
 use Rattle.step_seats.specs.PartTurns.{MadePart}
-use Rattle.step_seats.proofs.AloneTold.{if_some, share_free, shared_told}
-use Rattle.mmu_lock.proofs.Locked.{fewer_left, not_free, owes_behind, shares_behind, wants_share, writer_seen}
+use Rattle.step_seats.proofs.AloneTold.{shared_told}
+use Rattle.mmu_lock.proofs.Locked.{fewer_left, free_where, not_free, owes_behind, shares_behind, wants_share, writer_seen}
+use Rattle.step_seats.proofs.Where.{where_made}
 use Rattle.mmu_lock.proofs.lock.try_shared.Goals as goal
 
 pub returns-in-Owing-clause-tried : goal.returns-in-Owing-clause-tried
@@ -19,17 +20,17 @@ returns-then-make_part-ge-WRITER g c =
     λ w e. c.in_default.not-Owing w (ap (λ (t : Topics). t.hold) (c.topics.ensures ∙ ap (λ (h : Handful). h.core.topics) c.hand-hand.ensures.hand) ∙ e) in
     let wants = wants_share (g.S.Stepper.handful c.args.s.now).core c.args.note never c.requires.may in
     let made = c.make_part-2.ensures.made in
+    let shares = subst (λ (x : PartStep). MadePart x c.args.note c.make_part-2.result (g.S.Stepper.actor c.args.s.now) (g.S.Stepper.handful c.args.s.now).core (g.S.Stepper.handful c.make_part-2.new.s).core (g.S.Stepper.tells c.args.s.now) (g.S.Stepper.tells c.make_part-2.new.s)) (sym wants.0) made in
     let le = c.if-make_part-ge-WRITER.true in
     record {
       step = record {
         found = c.make_part-2.result;
-        made = subst (λ (x : PartStep). MadePart x c.args.note c.make_part-2.result (g.S.Stepper.actor c.args.s.now) (g.S.Stepper.handful c.args.s.now).core (g.S.Stepper.handful c.make_part-2.new.s).core (record { world = g.S.Stepper.told c.args.s.now; steps = g.S.Stepper.steps c.args.s.now }) (record { world = g.S.Stepper.told c.make_part-2.new.s; steps = g.S.Stepper.steps c.make_part-2.new.s })) (sym wants.0) made;
+        made = shares;
       };
       tried = (c.make_part-2.result, writer_seen c.make_part-2.result le, wants.1, owes_behind (g.S.Stepper.handful c.args.s.now).core.topics (g.S.Stepper.handful c.make_part-2.new.s).core.topics c.make_part-2.result made.topics le);
       nearer = λ e. fewer_left (g.S.Stepper.handful c.args.s.now).core.topics.hold (g.S.Stepper.handful c.make_part-2.new.s).core.topics.hold c.make_part-2.result wants.1 (ap (λ (t : Topics). t.hold) (owes_behind (g.S.Stepper.handful c.args.s.now).core.topics (g.S.Stepper.handful c.make_part-2.new.s).core.topics c.make_part-2.result made.topics le));
       shared = λ e. absurd (cc e);
-      alone = λ loose. if_some (g.S.Stepper.told c.args.s.now) _ _ (λ w free others. absurd (not_free c.make_part-2.result le (free others)))
-          (share_free (g.S.Stepper.told c.args.s.now) (g.S.Stepper.told c.make_part-2.new.s) (g.S.Stepper.actor c.args.s.now) c.args.note c.make_part-2.result (g.S.Stepper.handful c.args.s.now).core made.has made.world loose);
+      alone = λ loose. where_made shares (λ w at has others. absurd (not_free c.make_part-2.result le (free_where _ w _ _ _ _ _ wants.0 at loose others)));
       room = c.make_part-2.ensures.room;
       same = c.make_part-2.ensures.same;
     }
@@ -40,17 +41,17 @@ returns-else-make_part-ge-WRITER g c =
     λ w e. c.in_default.not-Owing w (ap (λ (t : Topics). t.hold) (c.topics.ensures ∙ ap (λ (h : Handful). h.core.topics) c.hand-hand.ensures.hand) ∙ e) in
     let wants = wants_share (g.S.Stepper.handful c.args.s.now).core c.args.note never c.requires.may in
     let made = c.make_part-2.ensures.made in
+    let shares = subst (λ (x : PartStep). MadePart x c.args.note c.make_part-2.result (g.S.Stepper.actor c.args.s.now) (g.S.Stepper.handful c.args.s.now).core (g.S.Stepper.handful c.make_part-2.new.s).core (g.S.Stepper.tells c.args.s.now) (g.S.Stepper.tells c.make_part-2.new.s)) (sym wants.0) made in
     let is = shares_behind (g.S.Stepper.handful c.args.s.now).core.topics (g.S.Stepper.handful c.make_part-2.new.s).core.topics c.make_part-2.result made.topics c.if-make_part-ge-WRITER.false in
     record {
       step = record {
         found = c.make_part-2.result;
-        made = subst (λ (x : PartStep). MadePart x c.args.note c.make_part-2.result (g.S.Stepper.actor c.args.s.now) (g.S.Stepper.handful c.args.s.now).core (g.S.Stepper.handful c.make_part-2.new.s).core (record { world = g.S.Stepper.told c.args.s.now; steps = g.S.Stepper.steps c.args.s.now }) (record { world = g.S.Stepper.told c.make_part-2.new.s; steps = g.S.Stepper.steps c.make_part-2.new.s })) (sym wants.0) made;
+        made = shares;
       };
       tried = (wants.1, is);
       nearer = λ e. absurd (cc e);
-      shared = λ e. shared_told (g.S.Stepper.told c.make_part-2.new.s) (g.S.Stepper.actor c.make_part-2.new.s) (g.S.Stepper.handful c.make_part-2.new.s).core c.make_part-2.ensures.has (ap (λ (t : Topics). t.hold) is);
-      alone = λ loose. if_some (g.S.Stepper.told c.args.s.now) _ _ (λ w free others. refl)
-          (share_free (g.S.Stepper.told c.args.s.now) (g.S.Stepper.told c.make_part-2.new.s) (g.S.Stepper.actor c.args.s.now) c.args.note c.make_part-2.result (g.S.Stepper.handful c.args.s.now).core made.has made.world loose);
+      shared = λ e. where_made shares (λ w at has. shared_told (Some _) _ _ has (ap (λ (t : Topics). t.hold) is));
+      alone = λ loose. where_made shares (λ w at has others. refl);
       room = c.make_part-2.ensures.room;
       same = c.make_part-2.ensures.same;
     }

@@ -1,32 +1,30 @@
-use Rattle.std.proofs.Common.{ap, sym, ◌∙◌}
+use Rattle.std.proofs.Common.{ap, sym, ◌∙◌, Some}
 use Rattle.part_steps.specs.declared.part_step.PartStep.TheVariants.{Enter}
-use Rattle.step_seats.proofs.AloneTold.{if_some}
 use Rattle.step_seats.proofs.Found.{found_told}
 use Rattle.vcpu_tlb.specs.Entering.{answer_to}
 use Rattle.vcpu_tlb.specs.Entering.{cached_behind}
 use Rattle.vcpu_tlb.proofs.CachedBehind.{entered_cached}
 use Rattle.vcpu_tlb.proofs.GuestWords.{entered_word, found_flush, found_none}
+use Rattle.step_seats.proofs.Where.{only, where_made}
 use Rattle.vcpu_tlb.proofs.guest.enter.Goals as goal
 
 pub returns-then-state-eq1-clause-asked : goal.returns-then-state-eq1-clause-asked
 returns-then-state-eq1-clause-asked g c =
-    if_some (g.S.Stepper.told c.args.s.now) _ _ (λ w is. sym (found_flush c.make_part-state.result c.if-state-eq1.true) ∙ ap answer_to is)
-    (found_told Enter c.args.note c.make_part-state.result (g.S.Stepper.actor c.args.s.now) (g.S.Stepper.handful c.args.s.now).core (g.S.Stepper.handful c.make_part-state.new.s).core (record { world = g.S.Stepper.told c.args.s.now; steps = g.S.Stepper.steps c.args.s.now }) (record { world = g.S.Stepper.told c.make_part-state.new.s; steps = g.S.Stepper.steps c.make_part-state.new.s }) c.make_part-state.ensures.made c.requires.may.needs)
+    where_made c.make_part-state.ensures.made
+    (λ w at has. sym (found_flush c.make_part-state.result c.if-state-eq1.true) ∙ ap answer_to (found_told Enter _ _ _ _ _ (only w) _ at c.requires.may.needs))
 
 pub returns-then-state-eq1-clause-state : goal.returns-then-state-eq1-clause-state
 returns-then-state-eq1-clause-state g c =
-    entered_word (g.S.Stepper.told c.args.s.now) (g.S.Stepper.told c.make_part-state.new.s) (g.S.Stepper.actor c.args.s.now) c.args.note c.make_part-state.result (g.S.Stepper.handful c.args.s.now).core (g.S.Stepper.handful c.make_part-state.new.s).core
-    c.make_part-state.ensures.made.has c.make_part-state.ensures.made.world (rw c.make_part-state.ensures.same.0 at c.make_part-state.ensures.has)
+    where_made c.make_part-state.ensures.made (λ w at has. entered_word (Some w) (Some _) _ _ _ _ _ at.has at.world has)
 
 pub returns-else-state-eq1-clause-asked : goal.returns-else-state-eq1-clause-asked
 returns-else-state-eq1-clause-asked g c =
-    if_some (g.S.Stepper.told c.args.s.now) _ _ (λ w is. sym (found_none c.make_part-state.result c.if-state-eq1.false) ∙ ap answer_to is)
-    (found_told Enter c.args.note c.make_part-state.result (g.S.Stepper.actor c.args.s.now) (g.S.Stepper.handful c.args.s.now).core (g.S.Stepper.handful c.make_part-state.new.s).core (record { world = g.S.Stepper.told c.args.s.now; steps = g.S.Stepper.steps c.args.s.now }) (record { world = g.S.Stepper.told c.make_part-state.new.s; steps = g.S.Stepper.steps c.make_part-state.new.s }) c.make_part-state.ensures.made c.requires.may.needs)
+    where_made c.make_part-state.ensures.made
+    (λ w at has. sym (found_none c.make_part-state.result c.if-state-eq1.false) ∙ ap answer_to (found_told Enter _ _ _ _ _ (only w) _ at c.requires.may.needs))
 
 pub returns-else-state-eq1-clause-state : goal.returns-else-state-eq1-clause-state
 returns-else-state-eq1-clause-state g c =
-    entered_word (g.S.Stepper.told c.args.s.now) (g.S.Stepper.told c.make_part-state.new.s) (g.S.Stepper.actor c.args.s.now) c.args.note c.make_part-state.result (g.S.Stepper.handful c.args.s.now).core (g.S.Stepper.handful c.make_part-state.new.s).core
-    c.make_part-state.ensures.made.has c.make_part-state.ensures.made.world (rw c.make_part-state.ensures.same.0 at c.make_part-state.ensures.has)
+    where_made c.make_part-state.ensures.made (λ w at has. entered_word (Some w) (Some _) _ _ _ _ _ at.has at.world has)
 
 pub returns-then-state-eq1-clause-cached : goal.returns-then-state-eq1-clause-cached
 returns-then-state-eq1-clause-cached g c =

@@ -9,7 +9,7 @@ loop-answer-init g c =
     let e = c.in_ok-job.ensures in
     let below = slice_get_within (g.S.Stepper.handful c.args.s.now).core.lines (length (g.S.Stepper.handful c.args.s.now).core.answers) c.args.line.now c.requires.next in
     record {
-      part = rw (e.hand, e.told.0, e.told.1) (part_starts c.args.line.now (g.S.Stepper.actor c.args.s.now) (g.S.Stepper.handful c.args.s.now).core (record { world = g.S.Stepper.told c.args.s.now; steps = g.S.Stepper.steps c.args.s.now }) c.requires.idle c.requires.next c.requires.alone);
+      part = rw (e.hand, e.told) (part_starts c.args.line.now (g.S.Stepper.actor c.args.s.now) (g.S.Stepper.handful c.args.s.now).core (g.S.Stepper.tells c.args.s.now) c.requires.idle c.requires.next c.requires.alone);
       reserved = e.reserved;
       job = rw e.hand e.job;
       left = rw e.hand below;
@@ -23,7 +23,7 @@ loop-answer-preserved g c =
     let e = c.in-More.ensures in
     record {
       part = (part_goes_on c.args.line.now (g.S.Stepper.actor c.args.s.now) (g.S.Stepper.actor c.loop-answer.s) (g.S.Stepper.handful c.args.s.now).core (g.S.Stepper.handful c.loop-answer.s).core (g.S.Stepper.handful c.turn.new.s).core
-          (record { world = g.S.Stepper.told c.args.s.now; steps = g.S.Stepper.steps c.args.s.now }) (record { world = g.S.Stepper.told c.loop-answer.s; steps = g.S.Stepper.steps c.loop-answer.s }) (record { world = g.S.Stepper.told c.turn.new.s; steps = g.S.Stepper.steps c.turn.new.s })
+          (g.S.Stepper.tells c.args.s.now) (g.S.Stepper.tells c.loop-answer.s) (g.S.Stepper.tells c.turn.new.s)
           i.actor i.left c.requires.own i.part e.turns e.says e.hand).0;
       reserved = omega (arith, e.room, ap (λ (xs : List AnsweredLine). length xs) e.says.answers, i.reserved);
       job = rw (e.job, e.says.answers) i.job;
@@ -37,7 +37,7 @@ returns-in-Done-clause-alone g c =
     let i = c.loop-answer.invariant in
     let e = c.in-Done.ensures in
     part_ends c.args.line.now c.in-Done.answer (g.S.Stepper.actor c.args.s.now) (g.S.Stepper.actor c.loop-answer.s) (g.S.Stepper.handful c.args.s.now).core (g.S.Stepper.handful c.loop-answer.s).core (g.S.Stepper.handful c.turn.new.s).core
-    (record { world = g.S.Stepper.told c.args.s.now; steps = g.S.Stepper.steps c.args.s.now }) (record { world = g.S.Stepper.told c.loop-answer.s; steps = g.S.Stepper.steps c.loop-answer.s }) (record { world = g.S.Stepper.told c.turn.new.s; steps = g.S.Stepper.steps c.turn.new.s })
+    (g.S.Stepper.tells c.args.s.now) (g.S.Stepper.tells c.loop-answer.s) (g.S.Stepper.tells c.turn.new.s)
     i.actor i.left c.requires.own i.part e.turns
 
 pub loop-answer-smaller : goal.loop-answer-smaller
@@ -45,7 +45,7 @@ loop-answer-smaller g c =
     let i = c.loop-answer.invariant in
     let e = c.in-More.ensures in
     (part_goes_on c.args.line.now (g.S.Stepper.actor c.args.s.now) (g.S.Stepper.actor c.loop-answer.s) (g.S.Stepper.handful c.args.s.now).core (g.S.Stepper.handful c.loop-answer.s).core (g.S.Stepper.handful c.turn.new.s).core
-    (record { world = g.S.Stepper.told c.args.s.now; steps = g.S.Stepper.steps c.args.s.now }) (record { world = g.S.Stepper.told c.loop-answer.s; steps = g.S.Stepper.steps c.loop-answer.s }) (record { world = g.S.Stepper.told c.turn.new.s; steps = g.S.Stepper.steps c.turn.new.s })
+    (g.S.Stepper.tells c.args.s.now) (g.S.Stepper.tells c.loop-answer.s) (g.S.Stepper.tells c.turn.new.s)
     i.actor i.left c.requires.own i.part e.turns e.says e.hand).1
 
 pub turn-requires-clause-line : goal.turn-requires-clause-line
@@ -55,5 +55,5 @@ pub unreachable-requires : goal.unreachable-requires
 unreachable-requires g c =
     let i = c.loop-answer.invariant in
     part_goes_through c.args.line.now (g.S.Stepper.actor c.args.s.now) (g.S.Stepper.actor c.loop-answer.s) (g.S.Stepper.handful c.args.s.now).core (g.S.Stepper.handful c.loop-answer.s).core (g.S.Stepper.handful c.turn.new.s).core
-    (record { world = g.S.Stepper.told c.args.s.now; steps = g.S.Stepper.steps c.args.s.now }) (record { world = g.S.Stepper.told c.loop-answer.s; steps = g.S.Stepper.steps c.loop-answer.s }) (record { world = g.S.Stepper.told c.turn.new.s; steps = g.S.Stepper.steps c.turn.new.s })
+    (g.S.Stepper.tells c.args.s.now) (g.S.Stepper.tells c.loop-answer.s) (g.S.Stepper.tells c.turn.new.s)
     c.turn.result i.actor i.left c.requires.own i.part c.turn.ensures.turns c.in-Wait.is

@@ -6,7 +6,7 @@ use Rattle.weave_engine.proofs.job.run_line.Given as goal
 
 abbrev pub invariant-loop-answer : goal.invariant-loop-answer
 invariant-loop-answer g l = record {
-  part : PartRun l.line (g.S.Stepper.actor l.fn.s) (g.S.Stepper.handful l.fn.s).core (g.S.Stepper.handful l.s).core (record { world = g.S.Stepper.told l.fn.s; steps = g.S.Stepper.steps l.fn.s }) (record { world = g.S.Stepper.told l.s; steps = g.S.Stepper.steps l.s });
+  part : PartRun l.line (g.S.Stepper.actor l.fn.s) (g.S.Stepper.handful l.fn.s).core (g.S.Stepper.handful l.s).core (g.S.Stepper.tells l.fn.s) (g.S.Stepper.tells l.s);
   reserved : 0 < (g.S.Stepper.handful l.s).room;
   job : IsJobOf l.job l.line (length (g.S.Stepper.handful l.s).core.answers);
   left : length (g.S.Stepper.handful l.s).core.answers < length (g.S.Stepper.handful l.s).core.lines;

@@ -10,9 +10,9 @@ use Rattle.fault_install.proofs.fault.FaultJob.claim.Goals as goal
 pub returns-clause-makes : goal.returns-clause-makes
 returns-clause-makes g c =
     subst (λ (p : FaultPlace). MakesStep c.args.self.now (record c.args.self.now { place = p }) c.claim_turn.result c.args.note (g.S.Stepper.actor c.args.s.now) (g.S.Stepper.handful c.args.s.now).core (g.S.Stepper.handful c.turn-answer.new.s).core
-    (record { world = g.S.Stepper.told c.args.s.now; steps = g.S.Stepper.steps c.args.s.now }) (record { world = g.S.Stepper.told c.turn-answer.new.s; steps = g.S.Stepper.steps c.turn-answer.new.s })) (sym c.after_claim-self.ensures)
+    (g.S.Stepper.tells c.args.s.now) (g.S.Stepper.tells c.turn-answer.new.s)) (sym c.after_claim-self.ensures)
     (subst (λ (x : Turn Faulted). MakesStep c.args.self.now (record c.args.self.now { place = after_claim c.turn-answer.result }) x c.args.note (g.S.Stepper.actor c.args.s.now) (g.S.Stepper.handful c.args.s.now).core (g.S.Stepper.handful c.turn-answer.new.s).core
-    (record { world = g.S.Stepper.told c.args.s.now; steps = g.S.Stepper.steps c.args.s.now }) (record { world = g.S.Stepper.told c.turn-answer.new.s; steps = g.S.Stepper.steps c.turn-answer.new.s })) (sym c.claim_turn.ensures)
+    (g.S.Stepper.tells c.args.s.now) (g.S.Stepper.tells c.turn-answer.new.s)) (sym c.claim_turn.ensures)
     (claim_makes c.args.self.now c.args.begun c.turn-answer.result c.args.note (g.S.Stepper.actor c.args.s.now) (g.S.Stepper.handful c.args.s.now).core (g.S.Stepper.handful c.turn-answer.new.s).core
-    (record { world = g.S.Stepper.told c.args.s.now; steps = g.S.Stepper.steps c.args.s.now }) (record { world = g.S.Stepper.told c.turn-answer.new.s; steps = g.S.Stepper.steps c.turn-answer.new.s })
+    (g.S.Stepper.tells c.args.s.now) (g.S.Stepper.tells c.turn-answer.new.s)
     c.requires.is_at c.turn-answer.ensures.step c.turn-answer.ensures.turned))

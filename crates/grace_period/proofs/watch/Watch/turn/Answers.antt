@@ -1,4 +1,4 @@
-use Rattle.std.proofs.Common.{arith, ◌≡◌, ◌+◌, ◌-◌, ◌<◌, ℕ, sym, subst, ap, ◌∙◌}
+use Rattle.std.proofs.Common.{arith, ◌≡◌, ◌+◌, ◌-◌, ◌<◌, ℕ, sym, subst, ap, ◌∙◌, Some}
 use Rattle.std.specs.Prelude.{true, false, if◌then◌else◌}
 use Rattle.core_views.specs.declared.hand.State.{State}
 use Rattle.core_views.specs.declared.topics.Topics.{Topics}
@@ -7,9 +7,10 @@ use Rattle.part_steps.specs.declared.part_step.PartStep.TheVariants as part
 use Rattle.core_views.specs.Sizes.{actors_of, index_of}
 use Rattle.part_steps.specs.PartSteps.{PartNeeds, next_watched, own_index, part_kind}
 use Rattle.part_steps.specs.TopicSteps.{in_section}
-use Rattle.step_seats.proofs.AloneTold.{if_some}
-use Rattle.grace_period.specs.Watches.{looked_at}
+use Rattle.grace_period.specs.Watches.{looked_at, waits}
 use Rattle.grace_period.proofs.Looks.{fewer_left, look_free, more_needs, not_done, wait_needs}
+use Rattle.step_seats.proofs.Where.{where_made}
+use Rattle.step_seats.specs.PartTurns.{MadePart}
 use Rattle.grace_period.proofs.watch.Watch.turn.Goals as goal
 use Rattle.grace_period.proofs.watch.Watch.turn.Goals.{then-next_watched-actors, else-next_watched-actors}
 
@@ -18,9 +19,8 @@ returns-then-in_section-clause-alone g c =
     let s = c.args.s.now in
     let h = (g.S.Stepper.handful s).core in
     let at : c.next_look-index.result ≡ looked_at c.args.self.now h = c.next_look-index.ensures ∙ ap (λ (x : Handful). looked_at c.args.self.now x.core) c.hand-hand.ensures.hand in
-    let made = c.make_part-value.ensures.made in
-    if_some (g.S.Stepper.told s) _ _ (λ w free others. sym c.if-in_section.true ∙ c.in_section.ensures ∙ free others)
-    (look_free (g.S.Stepper.told s) (g.S.Stepper.told c.make_part-value.new.s) (g.S.Stepper.actor s) c.next_look-index.result c.args.note c.make_part-value.result h made.has made.world (subst (λ i. PartNeeds (part.Watch i) h) (sym at) c.requires.may.needs))
+    let looks = subst (λ i. MadePart (part.Watch i) c.args.note c.make_part-value.result (g.S.Stepper.actor s) h (g.S.Stepper.handful c.make_part-value.new.s).core (g.S.Stepper.tells s) (g.S.Stepper.tells c.make_part-value.new.s)) at c.make_part-value.ensures.made in
+    where_made looks (λ w made has others. sym c.if-in_section.true ∙ c.in_section.ensures ∙ look_free (Some _) (Some _) _ _ _ _ _ made.has made.world c.requires.may.needs others)
 
 pub returns-clause-nearer : goal.returns-clause-nearer
 returns-clause-nearer g c = λ more.
@@ -58,3 +58,12 @@ returns-clause-goes_on g c = λ again.
     let next_ : c.next_watched.result ≡ next_watched (own_index h) (c.next_look-index.result + 1) = c.next_watched.ensures ∙ ap (λ n. next_watched n (c.next_look-index.result + 1)) own in
     let left : next_watched (own_index h) (c.next_look-index.result + 1) < actors_of h.state.sizes = elim c.if-next_watched-actors.branch [ then-next_watched-actors w ↦ omega (arith, w.if-next_watched-actors, next_, actors) | else-next_watched-actors w ↦ absurd (not_done c.if-next_watched-actors.result tt w.result-is again) ] in
     more_needs h g_ (part_kind h (part.Watch c.next_look-index.result) c.args.note) c.next_look-index.result c.make_part-value.result made.hand watched left
+
+pub returns-clause-alone : goal.returns-clause-alone
+returns-clause-alone g c =
+    let s = c.args.s.now in
+    let h = (g.S.Stepper.handful s).core in
+    let at : c.next_look-index.result ≡ looked_at c.args.self.now h = c.next_look-index.ensures ∙ ap (λ (x : Handful). looked_at c.args.self.now x.core) c.hand-hand.ensures.hand in
+    let looks = subst (λ i. MadePart (part.Watch i) c.args.note c.make_part-value.result (g.S.Stepper.actor s) h (g.S.Stepper.handful c.make_part-value.new.s).core (g.S.Stepper.tells s) (g.S.Stepper.tells c.make_part-value.new.s)) at c.make_part-value.ensures.made in
+    let goes_on : waits c.if-next_watched-actors.result ≡ false = elim c.if-next_watched-actors.branch [ then-next_watched-actors w ↦ ap waits w.result-is | else-next_watched-actors w ↦ ap waits w.result-is ] in
+    where_made looks (λ w made has others. goes_on)

@@ -1,4 +1,5 @@
 use Rattle.invalidate_seq.proofs.Loading.{loads_only, word_told}
+use Rattle.step_seats.proofs.Where.{only, where_made}
 use Rattle.invalidate_seq.proofs.check.Check.turn.Goals as goal
 
 pub returns-clause-loads : goal.returns-clause-loads
@@ -9,6 +10,4 @@ returns-clause-loads g c =
 pub returns-clause-word : goal.returns-clause-word
 returns-clause-word g c =
     let made = rw c.step.ensures at c.make_part.ensures.made in
-    word_told c.args.self.now.stage c.args.note c.make_part.result (g.S.Stepper.actor c.args.s.now) (g.S.Stepper.handful c.args.s.now).core (g.S.Stepper.handful c.make_part.new.s).core
-    (record { world = g.S.Stepper.told c.args.s.now; steps = g.S.Stepper.steps c.args.s.now }) (record { world = g.S.Stepper.told c.make_part.new.s; steps = g.S.Stepper.steps c.make_part.new.s })
-    c.requires.locked made
+    where_made made (λ w at has. word_told c.args.self.now.stage _ _ _ _ _ (only w) _ c.requires.locked at)

@@ -1,6 +1,10 @@
-use Rattle.std.proofs.Common.{arith, refl}
+use Rattle.std.proofs.Common.{arith, refl, subst, sym}
 use Rattle.std.proofs.Math.ListN.{length-set}
-use Rattle.std.proofs.lemmas.Grind.{merely}
+use Rattle.std.proofs.lemmas.List.{get_or-set_same}
+use Rattle.core_views.specs.Held.{Handful}
+use Rattle.step_seats.specs.Machines.{world_in}
+use Rattle.step_seats.specs.Moves.{core_of, handful_in, no_hand}
+use Rattle.step_seats.specs.Where.{IsMadeIn}
 use Rattle.step_seats.proofs.Worlds.{has_hand, machine_after, step_made, there_inside, word_inside}
 use Rattle.step_seats.proofs.plain.PlainMachine.make_step.Goals as goal
 
@@ -32,11 +36,12 @@ returns-clause-world c =
     let made = step_made m.sizes m.words.items m.hands.items c.args.self.now c.args.index c.args.kind c.index-found.result.now c.after.result c.answer-answer.result c.index_mut-hand.result.now c.advance.new.hand c.self.invariant c.self.view_is c.requires.there c.requires.enabled c.index-found.ensures c.index_mut-hand.ensures.value c.after.ensures c.answer-answer.ensures c.advance.ensures.core in
     made.leaves
 
-pub returns-clause-possible : goal.returns-clause-possible
-returns-clause-possible c =
+pub returns-clause-made : goal.returns-clause-made
+returns-clause-made c =
     let m = c.self.inside in
     let made = step_made m.sizes m.words.items m.hands.items c.args.self.now c.args.index c.args.kind c.index-found.result.now c.after.result c.answer-answer.result c.index_mut-hand.result.now c.advance.new.hand c.self.invariant c.self.view_is c.requires.there c.requires.enabled c.index-found.ensures c.index_mut-hand.ensures.value c.after.ensures c.answer-answer.ensures c.advance.ensures.core in
-    merely made.possible
+    subst (λ (x : Handful). IsMadeIn c.args.kind c.args.index (core_of (handful_in c.args.self.now.hands c.args.index)) (core_of x) (world_in c.args.self.now))
+    (sym (get_or-set_same m.hands.items c.args.index c.advance.new.hand no_hand (there_inside m.sizes m.words.items m.hands.items c.args.self.now c.args.index c.self.view_is c.requires.there))) made.made
 
 pub invariant_of-self : goal.invariant_of-self
 invariant_of-self c =

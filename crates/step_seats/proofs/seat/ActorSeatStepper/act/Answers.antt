@@ -8,3 +8,6 @@ returns-clause-same c = (
   refl,
   frame_same c.args.self.now.machine.ghost_name c.args.self.now.machine.now c.make_step.new.self c.args.self.now.index (handful_in c.make_step.new.self.hands c.args.self.now.index) c.make_step.ensures.same.0 c.make_step.ensures.others,
 )
+
+pub returns-clause-answers : goal.returns-clause-answers
+returns-clause-answers c = (c.make_step.ensures.made, c.make_step.ensures.answer)

@@ -1,5 +1,6 @@
 use Rattle.std.proofs.Common.{◌≡◌, Some, sym}
 use Rattle.table_pool.proofs.Paging.{fill_goes_on, fill_writes}
+use Rattle.step_seats.proofs.Where.{only, where_made}
 use Rattle.table_pool.proofs.page.Fill.turn.Goals as goal
 
 pub returns-in-Some-clause-turned : goal.returns-in-Some-clause-turned
@@ -10,12 +11,8 @@ returns-in-Some-clause-turned g c =
 
 pub returns-in-Some-clause-writes : goal.returns-in-Some-clause-writes
 returns-in-Some-clause-writes g c =
-    fill_writes c.args.value c.args.self.now.page c.args.note c.args.value (g.S.Stepper.actor c.args.s.now) (g.S.Stepper.handful c.args.s.now).core (g.S.Stepper.handful c.fill_next.new.s).core
-    (record { world = g.S.Stepper.told c.args.s.now; steps = g.S.Stepper.steps c.args.s.now }) (record { world = g.S.Stepper.told c.fill_next.new.s; steps = g.S.Stepper.steps c.fill_next.new.s })
-    c.requires.may.needs c.requires.page c.fill_next.ensures.made
+    where_made c.fill_next.ensures.made (λ w at has. fill_writes c.args.value c.args.self.now.page _ _ _ _ _ (only w) (only _) c.requires.may.needs c.requires.page at)
 
 pub returns-in_default-clause-writes : goal.returns-in_default-clause-writes
 returns-in_default-clause-writes g c =
-    fill_writes c.args.value c.args.self.now.page c.args.note c.args.value (g.S.Stepper.actor c.args.s.now) (g.S.Stepper.handful c.args.s.now).core (g.S.Stepper.handful c.fill_next.new.s).core
-    (record { world = g.S.Stepper.told c.args.s.now; steps = g.S.Stepper.steps c.args.s.now }) (record { world = g.S.Stepper.told c.fill_next.new.s; steps = g.S.Stepper.steps c.fill_next.new.s })
-    c.requires.may.needs c.requires.page c.fill_next.ensures.made
+    where_made c.fill_next.ensures.made (λ w at has. fill_writes c.args.value c.args.self.now.page _ _ _ _ _ (only w) (only _) c.requires.may.needs c.requires.page at)

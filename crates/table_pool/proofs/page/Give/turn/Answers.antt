@@ -1,8 +1,7 @@
 use Rattle.table_pool.proofs.Paging.{give_frees}
+use Rattle.step_seats.proofs.Where.{only, where_made}
 use Rattle.table_pool.proofs.page.Give.turn.Goals as goal
 
 pub returns-clause-frees : goal.returns-clause-frees
 returns-clause-frees g c =
-    give_frees c.args.self.now.page c.args.note c.make_part.result (g.S.Stepper.actor c.args.s.now) (g.S.Stepper.handful c.args.s.now).core (g.S.Stepper.handful c.make_part.new.s).core
-    (record { world = g.S.Stepper.told c.args.s.now; steps = g.S.Stepper.steps c.args.s.now }) (record { world = g.S.Stepper.told c.make_part.new.s; steps = g.S.Stepper.steps c.make_part.new.s })
-    c.requires.may.needs c.requires.page c.make_part.ensures.made
+    where_made c.make_part.ensures.made (λ w at has. give_frees c.args.self.now.page _ _ _ _ _ (only w) (only _) c.requires.may.needs c.requires.page at)

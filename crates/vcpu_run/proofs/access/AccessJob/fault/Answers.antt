@@ -19,11 +19,11 @@ turn-turn-requires-clause-knows g c = rw c.is_write.ensures c.requires.stands.kn
 
 pub returns-clause-turns : goal.returns-clause-turns
 returns-clause-turns g c =
-    let of_note = subst (λ n. TurnsFault (record { gfn = c.args.self.now.gfn; write = c.is_write.result; place = c.args.place }) c.turn-turn.new.self c.turn-turn.result n (g.S.Stepper.actor c.args.s.now) (g.S.Stepper.handful c.args.s.now).core (g.S.Stepper.handful c.turn-turn.new.s).core (record { world = g.S.Stepper.told c.args.s.now; steps = g.S.Stepper.steps c.args.s.now }) (record { world = g.S.Stepper.told c.turn-turn.new.s; steps = g.S.Stepper.steps c.turn-turn.new.s })) c.access_note.ensures c.turn-turn.ensures.turned in
-    rw c.answer_of.ensures (turns_fault c.args.place c.args.self.now (record { gfn = c.args.self.now.gfn; write = c.is_write.result; place = c.args.place }) c.turn-turn.new.self c.turn-turn.result (g.S.Stepper.actor c.args.s.now) (g.S.Stepper.handful c.args.s.now).core (g.S.Stepper.handful c.turn-turn.new.s).core (record { world = g.S.Stepper.told c.args.s.now; steps = g.S.Stepper.steps c.args.s.now }) (record { world = g.S.Stepper.told c.turn-turn.new.s; steps = g.S.Stepper.steps c.turn-turn.new.s }) c.requires.stands
+    let of_note = subst (λ n. TurnsFault (record { gfn = c.args.self.now.gfn; write = c.is_write.result; place = c.args.place }) c.turn-turn.new.self c.turn-turn.result n (g.S.Stepper.actor c.args.s.now) (g.S.Stepper.handful c.args.s.now).core (g.S.Stepper.handful c.turn-turn.new.s).core (g.S.Stepper.tells c.args.s.now) (g.S.Stepper.tells c.turn-turn.new.s)) c.access_note.ensures c.turn-turn.ensures.turned in
+    rw c.answer_of.ensures (turns_fault c.args.place c.args.self.now (record { gfn = c.args.self.now.gfn; write = c.is_write.result; place = c.args.place }) c.turn-turn.new.self c.turn-turn.result (g.S.Stepper.actor c.args.s.now) (g.S.Stepper.handful c.args.s.now).core (g.S.Stepper.handful c.turn-turn.new.s).core (g.S.Stepper.tells c.args.s.now) (g.S.Stepper.tells c.turn-turn.new.s) c.requires.stands
     (ap (λ w. record { gfn = c.args.self.now.gfn; write = w; place = c.args.place }) c.is_write.ensures) of_note)
 
 pub returns-clause-cause : goal.returns-clause-cause
 returns-clause-cause g c =
-    rw c.answer_of.ensures (fault_cause c.args.place c.args.self.now (record { gfn = c.args.self.now.gfn; write = c.is_write.result; place = c.args.place }) c.turn-turn.new.self c.turn-turn.result (g.S.Stepper.actor c.args.s.now) c.access_note.result (g.S.Stepper.handful c.args.s.now).core (g.S.Stepper.handful c.turn-turn.new.s).core (record { world = g.S.Stepper.told c.args.s.now; steps = g.S.Stepper.steps c.args.s.now }) (record { world = g.S.Stepper.told c.turn-turn.new.s; steps = g.S.Stepper.steps c.turn-turn.new.s })
+    rw c.answer_of.ensures (fault_cause c.args.place c.args.self.now (record { gfn = c.args.self.now.gfn; write = c.is_write.result; place = c.args.place }) c.turn-turn.new.self c.turn-turn.result (g.S.Stepper.actor c.args.s.now) c.access_note.result (g.S.Stepper.handful c.args.s.now).core (g.S.Stepper.handful c.turn-turn.new.s).core (g.S.Stepper.tells c.args.s.now) (g.S.Stepper.tells c.turn-turn.new.s)
     (ap (λ w. record { gfn = c.args.self.now.gfn; write = w; place = c.args.place }) c.is_write.ensures) c.turn-turn.ensures.turned)

@@ -30,16 +30,16 @@ frame-frame-requires g c =
 pub returns-in-Enter-clause-makes : goal.returns-in-Enter-clause-makes
 returns-in-Enter-clause-makes g c =
     let step = c.enter.ensures.step in
-    made_line part.Enter 0 step.found (g.S.Stepper.actor c.args.s.now) (g.S.Stepper.handful c.args.s.now).core (g.S.Stepper.handful c.enter.new.s).core (record { world = g.S.Stepper.told c.args.s.now; steps = g.S.Stepper.steps c.args.s.now }) (record { world = g.S.Stepper.told c.enter.new.s; steps = g.S.Stepper.steps c.enter.new.s }) (may_make (at.Enter c.in-Enter.again) c.args.self.now (g.S.Stepper.handful c.args.s.now).core (subst (λ (p : AccessPlace). StandsAt p c.args.self.now (g.S.Stepper.handful c.args.s.now).core) c.in-Enter.is c.requires.stands) part.Enter refl) step.made
+    made_line part.Enter 0 step.found (g.S.Stepper.actor c.args.s.now) (g.S.Stepper.handful c.args.s.now).core (g.S.Stepper.handful c.enter.new.s).core (g.S.Stepper.tells c.args.s.now) (g.S.Stepper.tells c.enter.new.s) (may_make (at.Enter c.in-Enter.again) c.args.self.now (g.S.Stepper.handful c.args.s.now).core (subst (λ (p : AccessPlace). StandsAt p c.args.self.now (g.S.Stepper.handful c.args.s.now).core) c.in-Enter.is c.requires.stands) part.Enter refl) step.made
 
 pub returns-in-Pause-clause-makes : goal.returns-in-Pause-clause-makes
 returns-in-Pause-clause-makes g c =
-    made_line part.Pause 0 (g.S.Stepper.handful c.paused.new.s).core.topics.pause (g.S.Stepper.actor c.args.s.now) (g.S.Stepper.handful c.args.s.now).core (g.S.Stepper.handful c.paused.new.s).core (record { world = g.S.Stepper.told c.args.s.now; steps = g.S.Stepper.steps c.args.s.now }) (record { world = g.S.Stepper.told c.paused.new.s; steps = g.S.Stepper.steps c.paused.new.s }) (may_make (at.Pause c.in-Pause.again) c.args.self.now (g.S.Stepper.handful c.args.s.now).core (subst (λ (p : AccessPlace). StandsAt p c.args.self.now (g.S.Stepper.handful c.args.s.now).core) c.in-Pause.is c.requires.stands) part.Pause refl) c.paused.ensures.step
+    made_line part.Pause 0 (g.S.Stepper.handful c.paused.new.s).core.topics.pause (g.S.Stepper.actor c.args.s.now) (g.S.Stepper.handful c.args.s.now).core (g.S.Stepper.handful c.paused.new.s).core (g.S.Stepper.tells c.args.s.now) (g.S.Stepper.tells c.paused.new.s) (may_make (at.Pause c.in-Pause.again) c.args.self.now (g.S.Stepper.handful c.args.s.now).core (subst (λ (p : AccessPlace). StandsAt p c.args.self.now (g.S.Stepper.handful c.args.s.now).core) c.in-Pause.is c.requires.stands) part.Pause refl) c.paused.ensures.step
 
 pub returns-in-Leave-clause-makes : goal.returns-in-Leave-clause-makes
 returns-in-Leave-clause-makes g c =
     let step = c.leave.ensures.step in
-    made_line part.Leave c.access_note.result step.found (g.S.Stepper.actor c.args.s.now) (g.S.Stepper.handful c.args.s.now).core (g.S.Stepper.handful c.leave.new.s).core (record { world = g.S.Stepper.told c.args.s.now; steps = g.S.Stepper.steps c.args.s.now }) (record { world = g.S.Stepper.told c.leave.new.s; steps = g.S.Stepper.steps c.leave.new.s })
+    made_line part.Leave c.access_note.result step.found (g.S.Stepper.actor c.args.s.now) (g.S.Stepper.handful c.args.s.now).core (g.S.Stepper.handful c.leave.new.s).core (g.S.Stepper.tells c.args.s.now) (g.S.Stepper.tells c.leave.new.s)
     (subst (λ n. MayMake part.Leave n (g.S.Stepper.handful c.args.s.now).core) (sym (ap access_note c.in-Leave.is) ∙ sym c.access_note.ensures) (may_make (at.Leave c.in-Leave.field-0) c.args.self.now (g.S.Stepper.handful c.args.s.now).core (subst (λ (p : AccessPlace). StandsAt p c.args.self.now (g.S.Stepper.handful c.args.s.now).core) c.in-Leave.is c.requires.stands) part.Leave refl)) step.made
 
 pub returns-in-Touch-clause-makes : goal.returns-in-Touch-clause-makes
@@ -51,4 +51,5 @@ returns-in-Touch-clause-makes g c =
       hand = c.touch.ensures.hand;
       world = c.touch.ensures.told;
       steps = c.touch.ensures.steps;
+      answers = c.touch.ensures.answers;
     }

@@ -15,4 +15,4 @@ turn-requires-clause-held g c = λ root. walk_held c.args.rooted c.args.self.now
 pub returns-clause-makes : goal.returns-clause-makes
 returns-clause-makes g c =
     let step = c.turn.ensures.step in
-    made_line (walk_step (record { gfn = c.args.self.now.gfn; rooted = c.args.rooted })) 0 step.found (g.S.Stepper.actor c.args.s.now) (g.S.Stepper.handful c.args.s.now).core (g.S.Stepper.handful c.turn.new.s).core (record { world = g.S.Stepper.told c.args.s.now; steps = g.S.Stepper.steps c.args.s.now }) (record { world = g.S.Stepper.told c.turn.new.s; steps = g.S.Stepper.steps c.turn.new.s }) (walk_may c.args.rooted c.args.self.now (g.S.Stepper.handful c.args.s.now).core c.requires.stands) step.made
+    made_line (walk_step (record { gfn = c.args.self.now.gfn; rooted = c.args.rooted })) 0 step.found (g.S.Stepper.actor c.args.s.now) (g.S.Stepper.handful c.args.s.now).core (g.S.Stepper.handful c.turn.new.s).core (g.S.Stepper.tells c.args.s.now) (g.S.Stepper.tells c.turn.new.s) (walk_may c.args.rooted c.args.self.now (g.S.Stepper.handful c.args.s.now).core c.requires.stands) step.made

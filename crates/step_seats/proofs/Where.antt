@@ -1,0 +1,77 @@
+-- What holds where a step was made: from what holds in each world in which it may have been made; and what follows of the worlds that are told.
+use Rattle.std.proofs.Common.{◌≡◌, ◌<◌, ℕ, Option, Some, None, refl, sym, subst, ap, ◌∙◌}
+use Rattle.std.proofs.Math.Logic.{∥∥₁_map}
+use Rattle.std.specs.Prelude.{IfSome}
+use Rattle.core_views.specs.declared.kind.Kind.{Kind}
+use Rattle.core_views.specs.Held.{Held}
+use Rattle.part_steps.specs.declared.part_step.PartStep.{PartStep}
+use Rattle.part_steps.specs.PartSteps.{part_kind}
+use Rattle.mmu_core.specs.Enabled.{mmu}
+use Rattle.mmu_core.specs.Machine.{World, answered, effect}
+use Rattle.mmu_core.specs.Steps.{next}
+use Rattle.mmu_core.proofs.Extend.{goes_on, hands_of_effect}
+use Rattle.mmu_core.proofs.LineRuns.{own_hand}
+use Rattle.step_seats.specs.Moves.{Tells, step_by}
+use Rattle.step_seats.specs.PartTurns.{MadePart, WherePartMade}
+use Rattle.step_seats.specs.Where.{AnsweredThere, HasHand, IsMadeIn, OfWorld, Told, WhereMade}
+
+pub of_world : (told : Option (World Held)) (P Q : World Held → Type 0) → ((w : World Held) → P w → Q w) → OfWorld told P → OfWorld told Q
+of_world (Some w) P Q f p = f w p
+of_world None P Q f p = ∥∥₁_map p (λ x. (x.0, f x.0 x.1))
+
+-- the world that a step leads to from one in which it may be made
+abbrev pub after_step : Kind → ℕ → World Held → World Held
+after_step k a w = effect mmu w (step_by a k)
+
+-- The world after the step is one that steps lead to, and has the hand after it.
+pub has_after : (k : Kind) (a : ℕ) (h g : Held) (w : World Held) → IsMadeIn k a h g w → HasHand a g (after_step k a w)
+has_after k a h g w M = record {
+  reached = ∥∥₁_map M.has.reached (λ r. record { sizes = r.sizes; lines = r.lines; start = r.start; is_start = r.is_start; leads = goes_on mmu r.start w (step_by a k) r.leads M.may });
+  there = subst (λ n. a < n) (sym (hands_of_effect mmu w (step_by a k))) M.has.there;
+  is = own_hand w (step_by a k) M.has.there ∙ ap (λ (x : Held). next x k (answered mmu w k)) M.has.is ∙ sym M.hand;
+}
+
+-- the seat that tells this world alone
+abbrev pub only : World Held → Told
+only w = record { world = Some w; steps = None }
+
+-- What follows from the step, and from its world before and after it, holds where the step was made.
+pub where_answered : (k : Kind) (found a : ℕ) (h g : Held) (told : Told) {Q : World Held → Type 0} → AnsweredThere k found a h g told
+    → ((w : World Held) → IsMadeIn k a h g w → answered mmu w k ≡ found → Q w) → OfWorld told.world (λ w. IsMadeIn k a h g w × Q w)
+where_answered k found a h g told {Q = Q} there each =
+    of_world told.world (λ w. IsMadeIn k a h g w × (answered mmu w k ≡ found)) (λ w. IsMadeIn k a h g w × Q w) (λ w x. (x.0, each w x.0 x.1)) there
+
+pub where_made : {step : PartStep} {note found a : ℕ} {h g : Held} {told tells : Told} {Q : World Held → Type 0} → MadePart step note found a h g told tells
+    → ((w : World Held) → MadePart step note found a h g (only w) (only (after_step (part_kind h step note) a w)) → HasHand a g (after_step (part_kind h step note) a w) → Q w)
+    → OfWorld told.world (λ w. IsMadeIn (part_kind h step note) a h g w × Q w)
+where_made {step = step} {note = note} {found = found} {a = a} {h = h} {g = g} {told = told} {Q = Q} made each =
+    where_answered (part_kind h step note) found a h g told {Q = Q} made.answers
+    (λ w there is. each w
+    (record { hand = made.hand; topics = made.topics; has = there.has; world = (there.may, is, refl); steps = tt; answers = (there, is) })
+    (has_after (part_kind h step note) a h g w there))
+
+-- a fact of the world that was told before a step and of the one that is told after it, where both are told
+abbrev pub ToldBoth : Option (World Held) → Option (World Held) → (World Held → World Held → Type 0) → Type 0
+ToldBoth before after P = IfSome before (λ w. IfSome after (λ t. P w t))
+
+-- Where the worlds are told, what holds where the step was made holds of them.
+pub where_told : (k : Kind) (a found : ℕ) (h g : Held) (told tells : Told) (P : World Held → World Held → Type 0) → Tells told.world a k found tells.world → WhereMade k a h g told P → ToldBoth told.world tells.world P
+where_told k a found h g told tells P moves holds = both told.world tells.world moves holds
+  where
+    both : (x y : Option (World Held)) → Tells x a k found y → OfWorld x (λ w. IsMadeIn k a h g w × P w (after_step k a w)) → ToldBoth x y P
+    both None y m p = tt
+    both (Some w) y m p = subst (λ o. IfSome o (P w)) (sym m.2) p.1
+
+pub where_told_before : (k : Kind) (a : ℕ) (h g : Held) (told : Told) (P : World Held → Type 0) → WhereMade k a h g told (λ w t. P w) → IfSome told.world P
+where_told_before k a h g told P holds = before told.world holds
+  where
+    before : (x : Option (World Held)) → OfWorld x (λ w. IsMadeIn k a h g w × P w) → IfSome x P
+    before None p = tt
+    before (Some w) p = p.1
+
+pub where_told_after : (k : Kind) (a found : ℕ) (h g : Held) (told tells : Told) (P : World Held → Type 0) → Tells told.world a k found tells.world → WhereMade k a h g told (λ w t. P t) → IfSome tells.world P
+where_told_after k a found h g told tells P moves holds = after told.world tells.world moves holds
+  where
+    after : (x y : Option (World Held)) → Tells x a k found y → OfWorld x (λ w. IsMadeIn k a h g w × P (after_step k a w)) → IfSome y P
+    after None y m p = subst (λ o. IfSome o P) (sym m) tt
+    after (Some w) y m p = subst (λ o. IfSome o P) (sym m.2) p.1
