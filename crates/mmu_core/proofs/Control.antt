@@ -42,8 +42,7 @@ none_opened_kept _ _ h words none = record { seq = none.seq; count = none.count 
 
 pause_touched : (op : Op) (index : ℕ) (words : Area → ℕ → ℕ) → words_after (touch_of op index) words area.Pause 0 ≡ words area.Pause 0
 pause_touched Read index words = refl
-pause_touched (Write x) index words = refl
-pause_touched (Add x) index words = refl
+pause_touched _ index words = refl
 
 pause_of_part : (step : PartStep) (note : ℕ) (h : Held) (words : Area → ℕ → ℕ) → words_after (task_by (Some step) h note (touch_of Read 0)) words area.Pause 0 ≡ words area.Pause 0
 pause_of_part step note h words = ap (λ (f : ℕ → ℕ). f 0) (areas_stay (record { words = words; hand = λ i. h }) 0 step note area.Pause refl)
