@@ -8,6 +8,7 @@ ghost use Rattle.core_theorem.specs.Leaves.{HeldLeavesAgree, LinkedLeavesAgree, 
 ghost use Rattle.core_theorem.specs.Locks.{LockIsKept};
 ghost use Rattle.core_theorem.specs.Pages.{EachPageHasOneUse};
 ghost use Rattle.core_theorem.specs.Runs.{TellsLawfully};
+ghost use Rattle.core_theorem.specs.Stays.{PauseIsSeenInStay};
 ghost use Rattle.core_theorem.specs.Turns.{CountsAreFew, LinesAreOpen, LinesMakeFewSteps, StepsAreFew};
 ghost use Rattle.core_theorem.specs.Walks.{WalksHoldTables};
 
@@ -27,7 +28,9 @@ ghost use Rattle.core_theorem.specs.Walks.{WalksHoldTables};
 /// actor, whose watch hasn't passed this one since; so whom a watch has passed holds no
 /// slot set that the watcher has taken out of use. `reuse`: a page that is taken from
 /// the pool or given back to it nobody else holds. `lawful`: each access, each exit
-/// and each answer is one that flat guest memory allows. `begins_anew`, `waits`,
+/// and each answer is one that flat guest memory allows. `pause`: an access that is
+/// about to touch has looked at the pause since its actor entered the guest, and none
+/// was set. `begins_anew`, `waits`,
 /// `slot_waits`, `starved`: what stood in the way of a fault or of a slot setting was
 /// another actor's, an open invalidation, or that each word of the pool's map was found
 /// with no page free since the line began; `delays`: so it is with each step that is
@@ -51,6 +54,7 @@ pub fn every_run()
     ensures watched { WatchedHoldNoOldSet }
     ensures reuse { PagesAreReusedAlone }
     ensures lawful { TellsLawfully }
+    ensures pause { PauseIsSeenInStay }
     ensures counts { CountsAreFew }
     ensures line_turns { LinesMakeFewSteps }
     ensures turns { StepsAreFew }

@@ -14,6 +14,7 @@ use Rattle.core_theorem.proofs.Holdings.{held_sets_are_known, none_holds_free_pa
 use Rattle.core_theorem.proofs.LineTurns.{lines_make_few_steps}
 use Rattle.core_theorem.proofs.Turns.{counts_are_few, steps_are_few}
 use Rattle.core_theorem.proofs.Pages.{pages_are_used}
+use Rattle.core_theorem.proofs.PauseSeen.{pause_is_seen_in_stay}
 use Rattle.core_theorem.proofs.Entries.{cause_of_frame}
 use Rattle.core_theorem.proofs.Runs.{before, last_actor, sound, starts_between}
 use Rattle.core_theorem.proofs.WalksKept.{held_leaves_are_linked, walks_hold_tables}
@@ -54,6 +55,9 @@ returns-clause-reuse c = pages_are_reused_alone
 
 pub returns-clause-lawful : goal.returns-clause-lawful
 returns-clause-lawful c z lines w ss R = every_history z lines w ss R.start R.legal
+
+pub returns-clause-pause : goal.returns-clause-pause
+returns-clause-pause c = pause_is_seen_in_stay
 
 pub returns-clause-counts : goal.returns-clause-counts
 returns-clause-counts c = counts_are_few
