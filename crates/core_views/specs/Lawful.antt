@@ -80,7 +80,8 @@ IsAllowed z f actor u (Begun line) = (u.stage ≡ Idle) × (line.actor ≡ actor
 IsAllowed z f actor u LookedAtPause = u.stage ≡ Fresh
 IsAllowed z f actor u LookedAtSlots = u.stage ≡ Fresh
 IsAllowed z f actor u (LookedAtHost page) = u.stage ≡ Fresh
-IsAllowed z f actor u (Accessed gfn word op frame before) = (u.stage ≡ Fresh) × (u.line.command ≡ Access gfn word op) × (u.notes.paused ≡ Some false) × Reaches f gfn word op frame before
+IsAllowed z f actor u (Accessed gfn word op frame before) =
+    (u.stage ≡ Fresh) × (u.line.command ≡ Access gfn word op) × (u.notes.paused ≡ Some false) × Reaches f gfn word op frame before
 IsAllowed z f actor u (Exited answer) = (u.stage ≡ Fresh) × MayLeave z f u.line.command u.notes answer
 IsAllowed z f actor u (SlotChanged id slot) = (u.stage ≡ Fresh) × HasWork z f u.line.command × (slot_change f.slots u.line.command ≡ Some (id, slot))
 IsAllowed z f actor u (Answered line answer) = (line ≡ u.line.number) × Tells z f.slots u.line.command u.stage answer
