@@ -7,3 +7,4 @@ pub mod LineTurns
 pub mod Begins
 pub mod DelayCauses
 pub mod Entries
+pub mod PauseSeen

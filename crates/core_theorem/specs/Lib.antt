@@ -6,3 +6,4 @@ pub mod Locks
 pub mod Holdings
 pub mod Delays
 pub mod Turns
+pub mod Stays

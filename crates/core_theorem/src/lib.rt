@@ -8,6 +8,7 @@ ghost use Rattle.core_theorem.specs.Leaves.{HeldLeavesAgree, LinkedLeavesAgree, 
 ghost use Rattle.core_theorem.specs.Locks.{LockIsKept};
 ghost use Rattle.core_theorem.specs.Pages.{EachPageHasOneUse};
 ghost use Rattle.core_theorem.specs.Runs.{TellsLawfully, WordsStandForFacts};
+ghost use Rattle.core_theorem.specs.Stays.{PauseIsSeenInStay};
 ghost use Rattle.core_theorem.specs.Turns.{CountsAreFew, LinesAreOpen, LinesMakeFewSteps, StepsAreFew};
 ghost use Rattle.core_theorem.specs.Walks.{WalksHoldTables};
 
@@ -29,7 +30,9 @@ ghost use Rattle.core_theorem.specs.Walks.{WalksHoldTables};
 /// the pool or given back to it nobody else holds. `rest`: whose line is answered holds
 /// nothing after it. `lawful`: each access, each exit and each answer is one that flat
 /// guest memory allows. `facts`: the words stand for the slots, host pages and contents
-/// that the events so far make of flat guest memory. `begins_anew`, `waits`,
+/// that the events so far make of flat guest memory. `pause`: an access that is about to
+/// touch has looked at the pause since its actor entered the guest, and none was set.
+/// `begins_anew`, `waits`,
 /// `slot_waits`, `starved`: what stood in the way of a fault or of a slot setting was
 /// another actor's, an open invalidation, or that each word of the pool's map was found
 /// with no page free since the line began; `delays`: so it is with each step that is
@@ -55,6 +58,7 @@ pub fn every_run()
     ensures rest { AnsweredLinesRest }
     ensures lawful { TellsLawfully }
     ensures facts { WordsStandForFacts }
+    ensures pause { PauseIsSeenInStay }
     ensures counts { CountsAreFew }
     ensures line_turns { LinesMakeFewSteps }
     ensures turns { StepsAreFew }

@@ -1,15 +1,18 @@
 -- A lawful history in which each line stands alone, and none is starved, is the flat history, but for what the lines looked at.
 use Rattle.std.proofs.Common.{◌≡◌, ℕ, List, [], ◌∷◌, ◌++◌, false, refl, sym, ap, ◌∙◌, subst}
-use Rattle.std.specs.Prelude.{Some}
+use Rattle.std.specs.Prelude.{Some, Bool, true, ◌==◌, cond}
+use Rattle.std.proofs.lemmas.Bool.{eqb-true}
+use Rattle.std.proofs.lemmas.Option.{same_Some}
 use Rattle.core_views.specs.declared.actor.Actor.{Actor}
 use Rattle.core_views.specs.declared.answer.Answer.{Answer}
 use Rattle.core_views.specs.declared.event.Event.{Event}
 use Rattle.core_views.specs.declared.event.EventKind.{EventKind}
-use Rattle.core_views.specs.declared.event.EventKind.TheVariants.{Begun, LookedAtSlots, LookedAtHost, Accessed, Exited, SlotChanged, Answered}
+use Rattle.core_views.specs.declared.event.EventKind.TheVariants.{Begun, LookedAtPause, LookedAtSlots, LookedAtHost, Accessed, Exited, SlotChanged, Answered}
 use Rattle.core_views.specs.declared.trace.Line.{Line}
 use Rattle.core_views.specs.declared.sizes.Sizes.{Sizes}
 use Rattle.core_views.specs.Actors.{is_same}
-use Rattle.core_views.specs.Host.{HostEntry}
+use Rattle.core_views.specs.Host.{HostEntry, HostNotes, with_entry}
+use Rattle.core_views.specs.SlotSets.{flat_slots}
 use Rattle.core_views.specs.Flat.{Facts, Notes, LineUnderWay, Flat, Stage, Fresh, HasAccessed, HasLeft, HasSetSlot, no_notes}
 use Rattle.core_views.specs.Events.{after, after_all, facts_after, facts_after_all, line_after}
 use Rattle.core_views.specs.Lawful.{IsLawful, IsAllowed}
@@ -62,21 +65,26 @@ shown_event z line rest es stage notes f kind is_shown is ends = record {
   fed = ends.fed;
 }
 
--- the host page that was looked at, with its entry
-noted_host : (f : Facts) (held noted : ℕ × HostEntry) → held.1 ≡ f.host held.0 → Some held ≡ Some noted → noted.1 ≡ f.host noted.0
-noted_host f held noted is e =
-    let same : held ≡ noted = cc e in
-    subst (λ (p : ℕ × HostEntry). p.1 ≡ f.host p.0) same is
+-- Where one more host page was looked at, each that was is so still.
+noted_host : (f : Facts) (page : ℕ) (host : HostNotes) (other : ℕ) (entry : HostEntry) → (host other ≡ Some entry → entry ≡ f.host other) → with_entry page (f.host page) host other ≡ Some entry → entry ≡ f.host other
+noted_host f page host other entry before noted = by_page (page == other) (eqb-true page other) noted
+  where
+    by_page : (b : Bool) → (b ≡ true → page ≡ other) → cond b (Some (f.host page)) (host other) ≡ Some entry → entry ≡ f.host other
+    by_page true same is = sym (same_Some (f.host page) entry is) ∙ ap f.host (same refl)
+    by_page false same is = before is
 
 -- one event within the line: a clause for each kind
 one_event : (z : Sizes) (line : Line) (rest es : List Event) (kind : EventKind) → IsWithin kind → Leads z line rest es → Leads z line rest (by line kind ∷ es)
 one_event z line rest es (Begun other) within leads stage notes f is lawful fed = absurd within
+one_event z line rest es LookedAtPause within leads stage notes f is lawful fed =
+    let ends = leads stage (record notes { paused = Some f.facts.paused }) (after (by line LookedAtPause) f) (record { at = next_at line stage notes f LookedAtPause is; exact = λ fresh. record { slots = (is.exact fresh).slots; host = (is.exact fresh).host } }) lawful.1 fed.1 in
+    record { behind = ends.behind; reaches = ends.reaches; shown = ends.shown; facts_are = ends.facts_are; idle = ends.idle; lawful = ends.lawful; fed = ends.fed }
 one_event z line rest es LookedAtSlots within leads stage notes f is lawful fed =
-    let ends = leads stage (record notes { slots = Some f.facts.slots }) (after (by line LookedAtSlots) f) (record { at = next_at line stage notes f LookedAtSlots is; exact = λ fresh. record { slots = λ slots noted. cc noted; host = (is.exact fresh).host } }) lawful.1 fed.1 in
+    let ends = leads stage (record notes { slots = Some (flat_slots f.facts.slots) }) (after (by line LookedAtSlots) f) (record { at = next_at line stage notes f LookedAtSlots is; exact = λ fresh. record { slots = λ slots noted. cc noted; host = (is.exact fresh).host } }) lawful.1 fed.1 in
     record { behind = ends.behind; reaches = ends.reaches; shown = ends.shown; facts_are = ends.facts_are; idle = ends.idle; lawful = ends.lawful; fed = ends.fed }
 one_event z line rest es (LookedAtHost page) within leads stage notes f is lawful fed =
     let kind : EventKind = LookedAtHost page in
-    let ends = leads stage (record notes { host = Some (page, f.facts.host page) }) (after (by line kind) f) (record { at = next_at line stage notes f kind is; exact = λ fresh. record { slots = (is.exact fresh).slots; host = λ other entry noted. noted_host f.facts (page, f.facts.host page) (other, entry) refl noted } }) lawful.1 fed.1 in
+    let ends = leads stage (record notes { host = with_entry page (f.facts.host page) notes.host }) (after (by line kind) f) (record { at = next_at line stage notes f kind is; exact = λ fresh. record { slots = (is.exact fresh).slots; host = λ other entry noted. noted_host f.facts page notes.host other entry ((is.exact fresh).host other entry) noted } }) lawful.1 fed.1 in
     record { behind = ends.behind; reaches = ends.reaches; shown = ends.shown; facts_are = ends.facts_are; idle = ends.idle; lawful = ends.lawful; fed = ends.fed }
 one_event z line rest es (Accessed gfn word op frame before) within leads stage notes f is lawful fed =
     let kind : EventKind = Accessed gfn word op frame before in

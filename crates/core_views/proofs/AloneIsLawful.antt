@@ -1,27 +1,30 @@
 -- A line that runs alone, from a state in which no line is under way, is lawful, and leaves none under way.
 use Rattle.std.proofs.Common.{◌≡◌, ℕ, List, [], ◌∷◌, ◌++◌, Bool, true, false, cond, refl, sym, ap, ◌∙◌, subst}
+use Rattle.std.proofs.lemmas.Bool.{eq-eqb}
 use Rattle.std.specs.Prelude.{Option, Some, None}
 use Rattle.core_views.specs.declared.actor.Actor.{Actor}
 use Rattle.core_views.specs.declared.answer.Answer.{Answer}
-use Rattle.core_views.specs.declared.answer.Answer.TheVariants.{Reached, Mmio, HostFault, Done, Refused}
+use Rattle.core_views.specs.declared.answer.Answer.TheVariants.{Reached, Mmio, HostFault, Done}
 use Rattle.core_views.specs.declared.event.Event.{Event}
 use Rattle.core_views.specs.declared.event.EventKind.{EventKind}
-use Rattle.core_views.specs.declared.event.EventKind.TheVariants.{Begun, LookedAtSlots, LookedAtHost, Accessed, Exited, SlotChanged, Answered}
+use Rattle.core_views.specs.declared.event.EventKind.TheVariants.{Begun, LookedAtPause, LookedAtSlots, LookedAtHost, Accessed, Exited, SlotChanged, Answered}
 use Rattle.core_views.specs.declared.trace.Command.{Command}
 use Rattle.core_views.specs.declared.trace.Command.TheVariants.{Access, SetSlot}
-use Rattle.core_views.specs.declared.answer.Refusal.{Refusal}
 use Rattle.core_views.specs.declared.sizes.Sizes.{Sizes}
 use Rattle.core_views.specs.declared.trace.Line.{Line}
 use Rattle.core_views.specs.declared.trace.Op.{Op}
 use Rattle.core_views.specs.declared.trace.Slot.{Slot}
 use Rattle.core_views.specs.Actors.{is_same}
-use Rattle.core_views.specs.Host.{is_denied}
-use Rattle.core_views.specs.Slots.{page_behind, slot_refusal}
+use Rattle.core_views.specs.Slots.{page_behind}
+use Rattle.core_views.specs.SlotSets.{flat_slots}
+use Rattle.core_views.specs.Refusals.{is_logged}
+use Rattle.core_views.specs.Host.{HostEntry, HostNotes, is_denied, with_entry}
 use Rattle.core_views.specs.Names.{frame_at}
 use Rattle.core_views.specs.Flat.{Facts, LineUnderWay, Flat, Idle, Fresh, no_notes}
 use Rattle.core_views.specs.Events.{after, after_all, facts_after, facts_after_all, line_after}
-use Rattle.core_views.specs.Lawful.{IsLawful, IsAllowed, Tells}
-use Rattle.core_views.specs.FlatHistory.{by, answers, accessing, reaching, doing, rest_of, looks, looks_behind, alone, one_by_one, setting}
+use Rattle.core_views.specs.Lawful.{HasWork, IsLawful, IsAllowed, SawForbidden, SawNoPage, Tells, answer_at_once}
+use Rattle.core_views.specs.FlatHistory.{by, answers, accessing, reaching, doing, doing_by, rest_of, looks, looks_behind, alone, one_by_one, setting}
+use Rattle.core_views.proofs.Looks.{facts_behind, still_paused}
 use Rattle.core_views.proofs.SameActor.{changed_here}
 
 -- No line of another actor is under way.
@@ -73,60 +76,80 @@ answered z line answer facts u f at is tells = record {
 more : (z : Sizes) (e : Event) (es : List Event) (f : Flat) → IsAllowed z f.facts e.actor (f.under e.actor) e.kind → Closes z es (after e f) → Closes z (e ∷ es) f
 more z e es f may rest = record { lawful = (may, rest.lawful); idle = rest.idle; facts_are = rest.facts_are }
 
-reaching_closes : (z : Sizes) (line : Line) (gfn word : ℕ) (op : Op) (facts : Facts) (page : ℕ) (denied : Bool) (f : Flat) → page_behind facts.slots gfn op ≡ Some page → is_denied op (facts.host page) ≡ denied → line.command ≡ Access gfn word op
-    → IsAt line.actor facts (record { line = line; stage = Fresh; notes = record { slots = Some facts.slots; host = Some (page, facts.host page) } }) f → Closes z (reaching line gfn word op facts page denied) f
-reaching_closes z line gfn word op facts page true f behind denies is at =
+-- An access looks at the pause, at the slots, and at the host page that they give it. It runs where nothing is paused.
+
+abbrev noted : Line → Facts → HostNotes → LineUnderWay
+noted line facts host = record { line = line; stage = Fresh; notes = record { paused = Some facts.paused; slots = Some (flat_slots facts.slots); host = host } }
+
+seen : (page : ℕ) (entry : HostEntry) (host : HostNotes) → with_entry page entry host page ≡ Some entry
+seen page entry host = rw (eq-eqb page page refl) refl
+
+reaching_closes : (z : Sizes) (line : Line) (gfn word : ℕ) (op : Op) (facts : Facts) (page : ℕ) (denied : Bool) (f : Flat) → page_behind (flat_slots facts.slots) gfn op ≡ Some page → is_denied op (facts.host page) ≡ denied → line.command ≡ Access gfn word op
+    → facts.paused ≡ false → IsAt line.actor facts (noted line facts (with_entry page (facts.host page) no_notes.host)) f → Closes z (reaching line gfn word op facts page denied) f
+reaching_closes z line gfn word op facts page true f behind denies is runs at =
+    let saw : SawForbidden (noted line facts (with_entry page (facts.host page) no_notes.host)).notes gfn op =
+    record { runs = ap Some runs; slots = flat_slots facts.slots; noted = refl; page = page; behind = behind; entry = facts.host page; looked = seen page (facts.host page) no_notes.host; forbids = denies } in
     more z (by line (Exited HostFault)) (answers line HostFault) f
-    (allowed z line.actor (Exited HostFault) facts _ f at (refl, rw is (record { slots = facts.slots; noted = refl; page = page; behind = behind; entry = facts.host page; looked = refl; forbids = denies })))
+    (allowed z line.actor (Exited HostFault) facts _ f at (refl, rw is saw))
     (answered z line HostFault facts _ _ (step line.actor (Exited HostFault) facts _ f at) refl refl)
-reaching_closes z line gfn word op facts page false f behind denies is at =
+reaching_closes z line gfn word op facts page false f behind denies is runs at =
     let access : EventKind = Accessed gfn word op (facts.host page).frame (facts.memory page word) in
     let named : frame_at facts.host op (Some page) ≡ Some (facts.host page).frame = ap (λ (b : Bool). cond b None (Some (facts.host page).frame)) denies in
     more z (by line access) (answers line (Reached (facts.host page).frame (facts.memory page word))) f
-    (allowed z line.actor access facts _ f at (refl, is, record { named = ap (frame_at facts.host op) behind ∙ named; page = page; behind = behind; value_is = refl }))
+    (allowed z line.actor access facts _ f at (refl, is, ap Some runs, record { named = ap (frame_at facts.host op) behind ∙ named; page = page; behind = behind; value_is = refl }))
     (answered z line (Reached (facts.host page).frame (facts.memory page word)) (facts_after access facts) _ _ (step line.actor access facts _ f at) refl refl)
 
-access_closes : (z : Sizes) (line : Line) (gfn word : ℕ) (op : Op) (facts : Facts) (page : Option ℕ) (f : Flat) → page_behind facts.slots gfn op ≡ page → line.command ≡ Access gfn word op
-    → IsAt line.actor facts (record { line = line; stage = Fresh; notes = record { slots = Some facts.slots; host = None } }) f → Closes z (looks_behind line page ++ accessing line gfn word op facts page) f
-access_closes z line gfn word op facts None f none is at =
+access_closes : (z : Sizes) (line : Line) (gfn word : ℕ) (op : Op) (facts : Facts) (page : Option ℕ) (f : Flat) → page_behind (flat_slots facts.slots) gfn op ≡ page → line.command ≡ Access gfn word op
+    → facts.paused ≡ false → IsAt line.actor facts (noted line facts no_notes.host) f → Closes z (looks_behind line page ++ accessing line gfn word op facts page) f
+access_closes z line gfn word op facts None f none is runs at =
+    let saw : SawNoPage (noted line facts no_notes.host).notes gfn op = record { runs = ap Some runs; slots = flat_slots facts.slots; noted = refl; none = none } in
     more z (by line (Exited Mmio)) (answers line Mmio) f
-    (allowed z line.actor (Exited Mmio) facts _ f at (refl, rw is (record { slots = facts.slots; noted = refl; none = none })))
+    (allowed z line.actor (Exited Mmio) facts _ f at (refl, rw is saw))
     (answered z line Mmio facts _ _ (step line.actor (Exited Mmio) facts _ f at) refl refl)
-access_closes z line gfn word op facts (Some page) f behind is at =
+access_closes z line gfn word op facts (Some page) f behind is runs at =
     more z (by line (LookedAtHost page)) (reaching line gfn word op facts page (is_denied op (facts.host page))) f
     (allowed z line.actor (LookedAtHost page) facts _ f at refl)
-    (reaching_closes z line gfn word op facts page (is_denied op (facts.host page)) _ behind refl is (step line.actor (LookedAtHost page) facts _ f at))
+    (reaching_closes z line gfn word op facts page (is_denied op (facts.host page)) _ behind refl is runs (step line.actor (LookedAtHost page) facts _ f at))
 
-setting_closes : (z : Sizes) (line : Line) (id : ℕ) (slot : Slot) (refusal : Option Refusal) (facts : Facts) (f : Flat) → slot_refusal z.pages facts.slots id slot ≡ refusal → line.command ≡ SetSlot id slot
-    → IsAt line.actor facts (record { line = line; stage = Fresh; notes = no_notes }) f → Closes z (setting line id slot refusal) f
-setting_closes z line id slot None facts f may is at =
-    more z (by line (SlotChanged id slot)) (answers line Done) f
-    (allowed z line.actor (SlotChanged id slot) facts _ f at (refl, is, may))
-    (answered z line Done (facts_after (SlotChanged id slot) facts) _ _ (step line.actor (SlotChanged id slot) facts _ f at) refl refl)
-setting_closes z line id slot (Some refusal) facts f why is at = answered z line (Refused refusal) facts _ f at refl (rw is why)
+setting_closes : (z : Sizes) (line : Line) (id : ℕ) (slot : Slot) (facts : Facts) (f : Flat) → HasWork z facts (SetSlot id slot) → line.command ≡ SetSlot id slot
+    → IsAt line.actor facts (record { line = line; stage = Fresh; notes = no_notes }) f → Closes z (setting line id slot facts) f
+setting_closes z line id slot facts f works is at =
+    let change : EventKind = SlotChanged id (Some (record { slot = slot; logged = is_logged id facts.slots })) in
+    more z (by line change) (answers line Done) f
+    (allowed z line.actor change facts _ f at (refl, rw is works, rw is refl))
+    (answered z line Done (facts_after change facts) _ _ (step line.actor change facts _ f at) refl refl)
 
-doing_closes : (z : Sizes) (line : Line) (command : Command) (facts : Facts) (f : Flat) → line.command ≡ command
+-- A line that has nothing to do is answered at once.
+doing_closes : (z : Sizes) (line : Line) (command : Command) (facts : Facts) (f : Flat) → line.command ≡ command → facts.paused ≡ false
     → IsAt line.actor facts (record { line = line; stage = Fresh; notes = no_notes }) f → Closes z (looks line command facts ++ doing z line command facts) f
-doing_closes z line (Access gfn word op) facts f is at =
-    more z (by line LookedAtSlots) (looks_behind line (page_behind facts.slots gfn op) ++ accessing line gfn word op facts (page_behind facts.slots gfn op)) f
-    (allowed z line.actor LookedAtSlots facts _ f at refl)
-    (access_closes z line gfn word op facts (page_behind facts.slots gfn op) _ refl is (step line.actor LookedAtSlots facts _ f at))
-doing_closes z line (SetSlot id slot) facts f is at = setting_closes z line id slot (slot_refusal z.pages facts.slots id slot) facts f refl is at
+doing_closes z line (Access gfn word op) facts f is runs at =
+    let page : Option ℕ = page_behind (flat_slots facts.slots) gfn op in
+    more z (by line LookedAtPause) (by line LookedAtSlots ∷ (looks_behind line page ++ accessing line gfn word op facts page)) f
+    (allowed z line.actor LookedAtPause facts _ f at refl)
+    (more z (by line LookedAtSlots) (looks_behind line page ++ accessing line gfn word op facts page) _
+    (allowed z line.actor LookedAtSlots facts _ _ (step line.actor LookedAtPause facts _ f at) refl)
+    (access_closes z line gfn word op facts page _ refl is runs (step line.actor LookedAtSlots facts _ _ (step line.actor LookedAtPause facts _ f at))))
+doing_closes z line (SetSlot id slot) facts f is runs at = by_answer (answer_at_once z facts.slots (SetSlot id slot)) refl
+  where
+    by_answer : (answer : Option Answer) → answer_at_once z facts.slots (SetSlot id slot) ≡ answer → Closes z (doing_by line (SetSlot id slot) facts answer) f
+    by_answer None works = setting_closes z line id slot facts f works is at
+    by_answer (Some answer) says = answered z line answer facts _ f at refl (rw is says)
 
-alone_closes : (z : Sizes) (line : Line) (f : Flat) → AllIdle f → Closes z (alone z line f.facts) f
-alone_closes z line f idle =
+alone_closes : (z : Sizes) (line : Line) (f : Flat) → AllIdle f → f.facts.paused ≡ false → Closes z (alone z line f.facts) f
+alone_closes z line f idle runs =
     let start : IsAt line.actor f.facts (f.under line.actor) f = record { facts_are = refl; line_is = refl; others = λ i apart. idle i } in
     more z (by line (Begun line)) (looks line line.command f.facts ++ rest_of z line Fresh f.facts) f (idle line.actor, refl)
-    (doing_closes z line line.command f.facts (after (by line (Begun line)) f) refl (step line.actor (Begun line) f.facts (f.under line.actor) f start))
+    (doing_closes z line line.command f.facts (after (by line (Begun line)) f) refl runs (step line.actor (Begun line) f.facts (f.under line.actor) f start))
 
 pub lawful_append : (z : Sizes) (xs ys : List Event) (f : Flat) → IsLawful z f xs → IsLawful z (after_all xs f) ys → IsLawful z f (xs ++ ys)
 lawful_append z [] ys f front back = back
 lawful_append z (x ∷ xs) ys f front back = (front.0, lawful_append z xs ys (after x f) front.1 back)
 
-pub one_by_one_lawful : (z : Sizes) (lines : List Line) (f : Flat) → AllIdle f → IsLawful z f (one_by_one z lines f.facts)
-one_by_one_lawful z [] f idle = tt
-one_by_one_lawful z (line ∷ lines) f idle =
-    let closes = alone_closes z line f idle in
+pub one_by_one_lawful : (z : Sizes) (lines : List Line) (f : Flat) → AllIdle f → f.facts.paused ≡ false → IsLawful z f (one_by_one z lines f.facts)
+one_by_one_lawful z [] f idle runs = tt
+one_by_one_lawful z (line ∷ lines) f idle runs =
+    let closes = alone_closes z line f idle runs in
     let then_ : Flat = after_all (alone z line f.facts) f in
+    let still : then_.facts.paused ≡ false = ap (λ (g : Facts). g.paused) (facts_behind (alone z line f.facts) f) ∙ still_paused (alone z line f.facts) f.facts ∙ runs in
     lawful_append z (alone z line f.facts) (one_by_one z lines (facts_after_all (alone z line f.facts) f.facts)) f closes.lawful
-    (subst (λ (g : Facts). IsLawful z then_ (one_by_one z lines g)) closes.facts_are (one_by_one_lawful z lines then_ closes.idle))
+    (subst (λ (g : Facts). IsLawful z then_ (one_by_one z lines g)) closes.facts_are (one_by_one_lawful z lines then_ closes.idle still))

@@ -5,7 +5,7 @@ use Rattle.core_views.specs.declared.answer.Answer.{Answer}
 use Rattle.core_views.specs.declared.answer.AnsweredLine.{AnsweredLine}
 use Rattle.core_views.specs.declared.event.Event.{Event}
 use Rattle.core_views.specs.declared.event.EventKind.{EventKind}
-use Rattle.core_views.specs.declared.event.EventKind.TheVariants.{Begun, LookedAtSlots, LookedAtHost, Accessed, Exited, SlotChanged, Answered}
+use Rattle.core_views.specs.declared.event.EventKind.TheVariants.{Begun, Answered}
 use Rattle.core_views.specs.declared.trace.Line.{Line}
 use Rattle.core_views.specs.Actors.{is_same}
 use Rattle.core_views.specs.Alone.{AreWithin, IsWithin, StandsAlone, StandsFirst}
@@ -15,21 +15,11 @@ use Rattle.core_views.specs.Whole.{IsWhole, lines_begun, or_begun, lines_of}
 -- What stands within a line begins no line, and answers none.
 begins_none : (kind : EventKind) (lines : List Line) → IsWithin kind → or_begun kind lines ≡ lines
 begins_none (Begun line) lines within = absurd within
-begins_none LookedAtSlots lines within = refl
-begins_none (LookedAtHost page) lines within = refl
-begins_none (Accessed gfn word op frame before) lines within = refl
-begins_none (Exited answer) lines within = refl
-begins_none (SlotChanged id slot) lines within = refl
-begins_none (Answered line answer) lines within = refl
+begins_none _ lines within = refl
 
 answers_none : (actor : Actor) (kind : EventKind) (xs : List AnsweredLine) → IsWithin kind → or_answered actor kind xs ≡ xs
-answers_none actor (Begun line) xs within = refl
-answers_none actor LookedAtSlots xs within = refl
-answers_none actor (LookedAtHost page) xs within = refl
-answers_none actor (Accessed gfn word op frame before) xs within = refl
-answers_none actor (Exited answer) xs within = refl
-answers_none actor (SlotChanged id slot) xs within = refl
 answers_none actor (Answered line answer) xs within = absurd within
+answers_none actor _ xs within = refl
 
 begun_behind : (line : Line) (within es : List Event) → AreWithin line within → lines_begun (within ++ es) ≡ lines_begun es
 begun_behind line [] es are = refl

@@ -12,4 +12,3 @@ pub mod Places
 pub mod Sound
 pub mod Holding
 pub mod FlatSlots
-pub mod Unlogged

@@ -4,7 +4,7 @@ use Rattle.core_views.specs.declared.actor.Actor.{Actor}
 use Rattle.core_views.specs.declared.answer.AnsweredLine.{AnsweredLine}
 use Rattle.core_views.specs.declared.event.Event.{Event}
 use Rattle.core_views.specs.declared.event.EventKind.{EventKind}
-use Rattle.core_views.specs.declared.event.EventKind.TheVariants.{Begun, LookedAtSlots, LookedAtHost, Accessed, Exited, SlotChanged, Answered}
+use Rattle.core_views.specs.declared.event.EventKind.TheVariants.{LookedAtPause, LookedAtSlots, LookedAtHost, Accessed, SlotChanged}
 use Rattle.core_views.specs.Flat.{Facts, Flat}
 use Rattle.core_views.specs.Events.{after, after_all, facts_after, facts_after_all}
 use Rattle.core_views.specs.Text.{answers_of, or_answered}
@@ -16,13 +16,10 @@ record IsSilent (kind : EventKind) : Type 0 where
 
 -- a clause for each look
 looks_are_silent : (kind : EventKind) → is_look kind ≡ true → IsSilent kind
-looks_are_silent (Begun line) is = absurd (cc is)
+looks_are_silent LookedAtPause is = record { facts = λ f. refl; answers = λ actor xs. refl }
 looks_are_silent LookedAtSlots is = record { facts = λ f. refl; answers = λ actor xs. refl }
 looks_are_silent (LookedAtHost page) is = record { facts = λ f. refl; answers = λ actor xs. refl }
-looks_are_silent (Accessed gfn word op frame before) is = absurd (cc is)
-looks_are_silent (Exited answer) is = absurd (cc is)
-looks_are_silent (SlotChanged id slot) is = absurd (cc is)
-looks_are_silent (Answered line answer) is = absurd (cc is)
+looks_are_silent _ is = absurd (cc is)
 
 one_more : (b : Bool) (x : Event) (xs ys zs : List Event) → zs ≡ xs ++ ys → cond b zs (x ∷ zs) ≡ cond b xs (x ∷ xs) ++ ys
 one_more true x xs ys zs is = is
@@ -54,3 +51,13 @@ answers_without_looks (e ∷ es) =
 pub facts_behind : (es : List Event) (f : Flat) → (after_all es f).facts ≡ facts_after_all es f.facts
 facts_behind [] f = refl
 facts_behind (e ∷ es) f = facts_behind es (after e f)
+
+-- No event pauses, and none ends a pause.
+still : (kind : EventKind) (f : Facts) → (facts_after kind f).paused ≡ f.paused
+still (Accessed gfn word op frame before) f = refl
+still (SlotChanged id slot) f = refl
+still _ f = refl
+
+pub still_paused : (es : List Event) (f : Facts) → (facts_after_all es f).paused ≡ f.paused
+still_paused [] f = refl
+still_paused (e ∷ es) f = still_paused es (facts_after e.kind f) ∙ still e.kind f

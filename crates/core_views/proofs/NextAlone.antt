@@ -2,27 +2,29 @@
 use Rattle.std.proofs.Common.{◌≡◌, ℕ, ◌∷◌, Bool, true, false, cond, refl, sym, ap, ◌∙◌, subst}
 use Rattle.std.specs.Prelude.{◌≢◌, Option, Some, None}
 use Rattle.core_views.specs.declared.answer.Answer.{Answer}
-use Rattle.core_views.specs.declared.answer.Answer.TheVariants.{Reached, Mmio, HostFault, Starved, Done, Refused}
+use Rattle.core_views.specs.declared.answer.Answer.TheVariants.{Reached, Mmio, HostFault, Starved, Done}
 use Rattle.core_views.specs.declared.event.EventKind.{EventKind}
 use Rattle.core_views.specs.declared.event.EventKind.TheVariants.{Accessed, Exited, SlotChanged}
 use Rattle.core_views.specs.declared.trace.Command.{Command}
 use Rattle.core_views.specs.declared.trace.Command.TheVariants.{Access, SetSlot}
 use Rattle.core_views.specs.declared.trace.Line.{Line}
 use Rattle.core_views.specs.declared.trace.Op.{Op}
-use Rattle.core_views.specs.declared.trace.Slot.{Slot}
 use Rattle.core_views.specs.declared.sizes.Sizes.{Sizes}
 use Rattle.core_views.specs.Host.{HostEntry, is_denied}
+use Rattle.core_views.specs.declared.slot_set.MemorySlot.{MemorySlot}
 use Rattle.core_views.specs.Slots.{Slots, page_behind}
+use Rattle.core_views.specs.SlotSets.{flat_slots}
+use Rattle.core_views.specs.Refusals.{is_logged}
 use Rattle.core_views.specs.Names.{frame_at}
 use Rattle.core_views.specs.Flat.{Facts, Notes, LineUnderWay, Stage, Idle, Fresh, HasAccessed, HasLeft, HasSetSlot}
 use Rattle.core_views.specs.Events.{facts_after, line_after}
-use Rattle.core_views.specs.Lawful.{IsAllowed, MayLeave, SawForbidden, IsRefused, Tells}
-use Rattle.core_views.specs.FlatHistory.{by, answers, accessing, reaching, setting, doing, rest_of}
+use Rattle.core_views.specs.Lawful.{HasWork, IsAllowed, MayLeave, SawForbidden, Tells, slot_change}
+use Rattle.core_views.specs.FlatHistory.{by, answers, accessing, reaching, doing, doing_by, rest_of}
 
 -- What the line noted is so now.
 pub record AreExact (f : Facts) (notes : Notes) : Type 0 where
-  pub slots : (slots : Slots) → notes.slots ≡ Some slots → slots ≡ f.slots
-  pub host : (page : ℕ) (entry : HostEntry) → notes.host ≡ Some (page, entry) → entry ≡ f.host page
+  pub slots : (slots : Slots) → notes.slots ≡ Some slots → slots ≡ flat_slots f.slots
+  pub host : (page : ℕ) (entry : HostEntry) → notes.host page ≡ Some entry → entry ≡ f.host page
 
 -- What is left of the line begins with this event.
 abbrev pub IsNext : Sizes → Facts → LineUnderWay → EventKind → Type 0
@@ -46,55 +48,46 @@ reached line gfn word op f (Some at) page frame before is named value_is =
 
 pub access_is_next : (z : Sizes) (f : Facts) (u : LineUnderWay) (gfn word : ℕ) (op : Op) (frame before : ℕ) → IsAllowed z f u.line.actor u (Accessed gfn word op frame before) → IsNext z f u (Accessed gfn word op frame before)
 access_is_next z f u gfn word op frame before may =
-    rw (may.0) (rw (may.1) (reached u.line gfn word op f (page_behind f.slots gfn op) may.2.page frame before may.2.behind may.2.named may.2.value_is))
+    rw (may.0) (rw (may.1) (reached u.line gfn word op f (page_behind (flat_slots f.slots) gfn op) may.3.page frame before may.3.behind may.3.named may.3.value_is))
 
 -- the host page that the noted slots give is as it was noted, so the host forbids the access now
-forbidden : (line : Line) (gfn word : ℕ) (op : Op) (f : Facts) (notes : Notes) → AreExact f notes → SawForbidden notes gfn op → accessing line gfn word op f (page_behind f.slots gfn op) ≡ by line (Exited HostFault) ∷ answers line HostFault
+forbidden : (line : Line) (gfn word : ℕ) (op : Op) (f : Facts) (notes : Notes) → AreExact f notes → SawForbidden notes gfn op → accessing line gfn word op f (page_behind (flat_slots f.slots) gfn op) ≡ by line (Exited HostFault) ∷ answers line HostFault
 forbidden line gfn word op f notes exact saw =
-    let behind : page_behind f.slots gfn op ≡ Some saw.page = subst (λ (slots : Slots). page_behind slots gfn op ≡ Some saw.page) (exact.slots saw.slots saw.noted) saw.behind in
+    let behind : page_behind (flat_slots f.slots) gfn op ≡ Some saw.page = subst (λ (slots : Slots). page_behind slots gfn op ≡ Some saw.page) (exact.slots saw.slots saw.noted) saw.behind in
     let denies : is_denied op (f.host saw.page) ≡ true = subst (λ (entry : HostEntry). is_denied op entry ≡ true) (exact.host saw.page saw.entry saw.looked) saw.forbids in
     ap (accessing line gfn word op f) behind ∙ ap (reaching line gfn word op f saw.page) denies
 
 -- a clause for each command and answer with which it may leave
-left : (z : Sizes) (line : Line) (command : Command) (f : Facts) (notes : Notes) (answer : Answer) → AreExact f notes → Exited answer ≢ Exited Starved → MayLeave command notes answer → doing z line command f ≡ by line (Exited answer) ∷ answers line answer
+left : (z : Sizes) (line : Line) (command : Command) (f : Facts) (notes : Notes) (answer : Answer) → AreExact f notes → Exited answer ≢ Exited Starved → MayLeave z f command notes answer → doing z line command f ≡ by line (Exited answer) ∷ answers line answer
 left z line (Access gfn word op) f notes Mmio exact fed may =
     ap (accessing line gfn word op f) (subst (λ (slots : Slots). page_behind slots gfn op ≡ None) (exact.slots may.slots may.noted) may.none)
 left z line (Access gfn word op) f notes HostFault exact fed may = forbidden line gfn word op f notes exact may
 left z line (Access gfn word op) f notes Starved exact fed may = absurd (fed refl)
-left z line (Access gfn word op) f notes (Reached frame value) exact fed may = absurd may
-left z line (Access gfn word op) f notes Done exact fed may = absurd may
-left z line (Access gfn word op) f notes (Refused refusal) exact fed may = absurd may
-left z line (SetSlot id slot) f notes Mmio exact fed may = absurd may
-left z line (SetSlot id slot) f notes HostFault exact fed may = absurd may
 left z line (SetSlot id slot) f notes Starved exact fed may = absurd (fed refl)
-left z line (SetSlot id slot) f notes (Reached frame value) exact fed may = absurd may
-left z line (SetSlot id slot) f notes Done exact fed may = absurd may
-left z line (SetSlot id slot) f notes (Refused refusal) exact fed may = absurd may
+left z line _ f notes _ exact fed may = absurd may
 
 pub exit_is_next : (z : Sizes) (f : Facts) (u : LineUnderWay) (answer : Answer) → (u.stage ≡ Fresh → AreExact f u.notes) → Exited answer ≢ Exited Starved → IsAllowed z f u.line.actor u (Exited answer) → IsNext z f u (Exited answer)
 exit_is_next z f u answer exact fed may = rw (may.0) (left z u.line u.line.command f u.notes answer (exact may.0) fed may.1)
 
 -- A slot line: the slot that it sets.
 
-pub slot_change_is_next : (z : Sizes) (f : Facts) (u : LineUnderWay) (id : ℕ) (slot : Slot) → IsAllowed z f u.line.actor u (SlotChanged id slot) → IsNext z f u (SlotChanged id slot)
-slot_change_is_next z f u id slot may = rw (may.0) (rw (may.1) (ap (setting u.line id slot) may.2))
+-- a clause for each command
+changed : (z : Sizes) (line : Line) (command : Command) (f : Facts) (id : ℕ) (slot : Option MemorySlot) → HasWork z f command → slot_change f.slots command ≡ Some (id, slot)
+    → doing z line command f ≡ by line (SlotChanged id slot) ∷ answers line Done
+changed z line (Access gfn word op) f id slot works is = absurd (cc is)
+changed z line (SetSlot at new_) f id slot works is =
+    let same : (at, Some (record { slot = new_; logged = is_logged at f.slots })) ≡ (id, slot) = cc is in
+    ap (doing_by line (SetSlot at new_) f) works ∙ ap (λ (change : ℕ × Option MemorySlot). by line (SlotChanged change.0 change.1) ∷ answers line Done) same
 
--- The answer: what the line's stage tells, or a refusal.
+pub slot_change_is_next : (z : Sizes) (f : Facts) (u : LineUnderWay) (id : ℕ) (slot : Option MemorySlot) → IsAllowed z f u.line.actor u (SlotChanged id slot) → IsNext z f u (SlotChanged id slot)
+slot_change_is_next z f u id slot may = rw (may.0) (changed z u.line u.line.command f id slot may.1 may.2)
 
--- a clause for each command and answer with which it may be refused
-refused : (z : Sizes) (line : Line) (command : Command) (f : Facts) (answer : Answer) → IsRefused z f.slots command answer → doing z line command f ≡ answers line answer
-refused z line (SetSlot id slot) f (Refused refusal) why = ap (setting line id slot) why
-refused z line (SetSlot id slot) f (Reached frame value) why = absurd why
-refused z line (SetSlot id slot) f Mmio why = absurd why
-refused z line (SetSlot id slot) f HostFault why = absurd why
-refused z line (SetSlot id slot) f Starved why = absurd why
-refused z line (SetSlot id slot) f Done why = absurd why
-refused z line (Access gfn word op) f answer why = absurd why
+-- The answer: what the line's stage tells, or what it is answered at once.
 
 -- a clause for each stage
 pub told : (z : Sizes) (line : Line) (stage : Stage) (f : Facts) (answer : Answer) → Tells z f.slots line.command stage answer → rest_of z line stage f ≡ answers line answer
 told z line Idle f answer tells = absurd tells
-told z line Fresh f answer tells = refused z line line.command f answer tells
+told z line Fresh f answer tells = ap (doing_by line line.command f) tells
 told z line (HasAccessed frame value) f answer tells = ap (answers line) (sym tells)
 told z line (HasLeft how) f answer tells = ap (answers line) (sym tells)
 told z line HasSetSlot f answer tells = ap (answers line) (sym tells)

@@ -10,9 +10,9 @@ use Rattle.std.specs.Map.{keys_of}
 use Rattle.core_views.specs.declared.answer.Refusal.{Refusal}
 use Rattle.core_views.specs.declared.answer.Refusal.TheVariants.{BadId, TooLarge, Logged, Resize, Fixed, Overlap, HostOverlap}
 use Rattle.core_views.specs.declared.trace.Slot.{Slot}
-use Rattle.core_views.specs.Slots.{changes_fixed, contains, first_of, has_host_page, is_some_and, is_too_large, meets_guest_frames, meets_host_pages, resizes, share_guest_frames, share_host_pages, slot_refusal, slot_with_id, Slots}
+use Rattle.core_views.specs.Slots.{changes_fixed, contains, first_of, has_host_page, is_some_and, is_too_large, meets_guest_frames, meets_host_pages, resizes, share_guest_frames, share_host_pages, slot_with_id, Slots}
 use Rattle.core_views.specs.declared.slot_set.MemorySlot.{MemorySlot}
-use Rattle.core_views.specs.SlotSets.{AreUnlogged, IsSlotSet, MemorySlots, flat_slots, slot_at}
+use Rattle.core_views.specs.SlotSets.{IsSlotSet, MemorySlots, flat_slots, slot_at}
 use Rattle.core_views.specs.Places.{Places, found, slots_from}
 use Rattle.core_views.specs.Refusals.{moves_logged, set_refusal}
 use Rattle.core_views.proofs.Places.{rising}
@@ -117,7 +117,7 @@ by_parts total id slot slots low large guest host =
     let ends = or_parts (nat_lt (2 ^ 36) (slot.base + slot.pages)) (nat_lt total (slot.host + slot.pages)) large in
     record { low = ltb-false 31 id low; below = ltb-false (2 ^ 36) (slot.base + slot.pages) ends.0; fits = ltb-false total (slot.host + slot.pages) ends.1; guest = guest; host = host }
 
--- the conditions that refuse a slot, in the manager's record and in flat memory
+-- the conditions that refuse a slot
 abbrev conditions : ℕ → ℕ → Slot → MemorySlots → List (Bool × Refusal)
 conditions total id slot slots =
     (nat_lt 31 id, BadId)
@@ -129,33 +129,10 @@ conditions total id slot slots =
     ∷ (meets_host_pages id slot (flat_slots slots), HostOverlap)
     ∷ []
 
-abbrev flat_conditions : ℕ → Slots → ℕ → Slot → List (Bool × Refusal)
-flat_conditions total slots id slot =
-    (nat_lt 31 id, BadId)
-    ∷ (is_too_large total slot, TooLarge)
-    ∷ (is_some_and (resizes slot) (slot_with_id id slots), Resize)
-    ∷ (is_some_and (changes_fixed slot) (slot_with_id id slots), Fixed)
-    ∷ (meets_guest_frames id slot slots, Overlap)
-    ∷ (meets_host_pages id slot slots, HostOverlap)
-    ∷ []
-
 pub passes : (total id : ℕ) (slot : Slot) (slots : MemorySlots) → set_refusal total id slot slots ≡ None → Passes total id slot (flat_slots slots)
 passes total id slot slots e =
     let free = none_holds (conditions total id slot slots) e in
     by_parts total id slot (flat_slots slots) free.0 free.1.0 free.1.1.1.1.1.0 free.1.1.1.1.1.1.0
-
-pub flat_passes : (total : ℕ) (slots : Slots) (id : ℕ) (slot : Slot) → slot_refusal total slots id slot ≡ None → Passes total id slot slots
-flat_passes total slots id slot e =
-    let free = none_holds (flat_conditions total slots id slot) e in
-    by_parts total id slot slots free.0 free.1.0 free.1.1.1.1.0 free.1.1.1.1.1.0
-
--- Where no slot has a dirty log, the manager's record refuses as flat memory does.
-moves_none : (id : ℕ) (slot : Slot) (at : Option MemorySlot) → ((m : MemorySlot) → at ≡ Some m → m.logged ≡ false) → is_some_and (moves_logged slot) at ≡ false
-moves_none id slot None unlogged = refl
-moves_none id slot (Some m) unlogged = rw (unlogged m refl) refl
-
-pub refuses_as_flat : (total id : ℕ) (slot : Slot) (slots : MemorySlots) → AreUnlogged slots → set_refusal total id slot slots ≡ slot_refusal total (flat_slots slots) id slot
-refuses_as_flat total id slot slots unlogged = rw (moves_none id slot (slot_at id slots) (unlogged id)) refl
 
 -- What the invariant says of an array of places.
 abbrev pub AreSound : Places → Type 0

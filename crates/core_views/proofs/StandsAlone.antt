@@ -2,10 +2,9 @@
 use Rattle.std.proofs.Common.{◌≡◌, ℕ, List, [], ◌∷◌, ◌++◌, Bool, true, false, refl, ap, ◌∙◌, append_assoc}
 use Rattle.std.specs.Prelude.{Option, Some, None}
 use Rattle.core_views.specs.declared.answer.Answer.{Answer}
-use Rattle.core_views.specs.declared.answer.Answer.TheVariants.{Reached, Mmio, HostFault, Done, Refused}
-use Rattle.core_views.specs.declared.answer.Refusal.{Refusal}
+use Rattle.core_views.specs.declared.answer.Answer.TheVariants.{Reached, Mmio, HostFault, Done}
 use Rattle.core_views.specs.declared.event.Event.{Event}
-use Rattle.core_views.specs.declared.event.EventKind.TheVariants.{Begun, LookedAtSlots, LookedAtHost, Accessed, Exited, SlotChanged, Answered}
+use Rattle.core_views.specs.declared.event.EventKind.TheVariants.{Begun, LookedAtPause, LookedAtSlots, LookedAtHost, Accessed, Exited, SlotChanged, Answered}
 use Rattle.core_views.specs.declared.trace.Command.{Command}
 use Rattle.core_views.specs.declared.trace.Command.TheVariants.{Access, SetSlot}
 use Rattle.core_views.specs.declared.trace.Line.{Line}
@@ -13,10 +12,13 @@ use Rattle.core_views.specs.declared.trace.Op.{Op}
 use Rattle.core_views.specs.declared.trace.Slot.{Slot}
 use Rattle.core_views.specs.declared.sizes.Sizes.{Sizes}
 use Rattle.core_views.specs.Host.{is_denied}
-use Rattle.core_views.specs.Slots.{page_behind, slot_refusal}
+use Rattle.core_views.specs.Slots.{page_behind}
+use Rattle.core_views.specs.SlotSets.{flat_slots}
+use Rattle.core_views.specs.Refusals.{is_logged}
 use Rattle.core_views.specs.Flat.{Facts}
 use Rattle.core_views.specs.Events.{facts_after_all}
-use Rattle.core_views.specs.FlatHistory.{by, answers, accessing, reaching, setting, doing, looks, looks_behind, alone, one_by_one}
+use Rattle.core_views.specs.Lawful.{answer_at_once}
+use Rattle.core_views.specs.FlatHistory.{by, answers, accessing, reaching, doing, doing_by, looks, looks_behind, alone, one_by_one}
 use Rattle.core_views.specs.Alone.{AreWithin, StandsAlone, StandsFirst}
 
 -- events of one line, and further ones behind them
@@ -50,31 +52,36 @@ record Closed (line : Line) (es : List Event) : Type 0 where
   are_within : AreWithin line within
   events_are : es ≡ within ++ answers line answer
 
-reaching_closed : (line : Line) (gfn word : ℕ) (op : Op) (f : Facts) (page : ℕ) (denied : Bool) → Closed line (by line LookedAtSlots ∷ by line (LookedAtHost page) ∷ reaching line gfn word op f page denied)
+reaching_closed : (line : Line) (gfn word : ℕ) (op : Op) (f : Facts) (page : ℕ) (denied : Bool) → Closed line (by line LookedAtPause ∷ by line LookedAtSlots ∷ by line (LookedAtHost page) ∷ reaching line gfn word op f page denied)
 reaching_closed line gfn word op f page true = record {
-  within = by line LookedAtSlots ∷ by line (LookedAtHost page) ∷ by line (Exited HostFault) ∷ [];
+  within = by line LookedAtPause ∷ by line LookedAtSlots ∷ by line (LookedAtHost page) ∷ by line (Exited HostFault) ∷ [];
   answer = HostFault;
-  are_within = (refl, tt, (refl, tt, (refl, tt, tt)));
+  are_within = (refl, tt, (refl, tt, (refl, tt, (refl, tt, tt))));
   events_are = refl;
 }
 reaching_closed line gfn word op f page false = record {
-  within = by line LookedAtSlots ∷ by line (LookedAtHost page) ∷ by line (Accessed gfn word op (f.host page).frame (f.memory page word)) ∷ [];
+  within = by line LookedAtPause ∷ by line LookedAtSlots ∷ by line (LookedAtHost page) ∷ by line (Accessed gfn word op (f.host page).frame (f.memory page word)) ∷ [];
   answer = Reached (f.host page).frame (f.memory page word);
-  are_within = (refl, tt, (refl, tt, (refl, tt, tt)));
+  are_within = (refl, tt, (refl, tt, (refl, tt, (refl, tt, tt))));
   events_are = refl;
 }
 
-accessing_closed : (line : Line) (gfn word : ℕ) (op : Op) (f : Facts) (page : Option ℕ) → Closed line (by line LookedAtSlots ∷ (looks_behind line page ++ accessing line gfn word op f page))
-accessing_closed line gfn word op f None = record { within = by line LookedAtSlots ∷ by line (Exited Mmio) ∷ []; answer = Mmio; are_within = (refl, tt, (refl, tt, tt)); events_are = refl }
+accessing_closed : (line : Line) (gfn word : ℕ) (op : Op) (f : Facts) (page : Option ℕ) → Closed line (by line LookedAtPause ∷ by line LookedAtSlots ∷ (looks_behind line page ++ accessing line gfn word op f page))
+accessing_closed line gfn word op f None = record { within = by line LookedAtPause ∷ by line LookedAtSlots ∷ by line (Exited Mmio) ∷ []; answer = Mmio; are_within = (refl, tt, (refl, tt, (refl, tt, tt))); events_are = refl }
 accessing_closed line gfn word op f (Some page) = reaching_closed line gfn word op f page (is_denied op (f.host page))
 
-setting_closed : (line : Line) (id : ℕ) (slot : Slot) (refusal : Option Refusal) → Closed line (setting line id slot refusal)
-setting_closed line id slot None = record { within = by line (SlotChanged id slot) ∷ []; answer = Done; are_within = (refl, tt, tt); events_are = refl }
-setting_closed line id slot (Some refusal) = record { within = []; answer = Refused refusal; are_within = tt; events_are = refl }
+setting_closed : (line : Line) (id : ℕ) (slot : Slot) (f : Facts) (at_once : Option Answer) → Closed line (doing_by line (SetSlot id slot) f at_once)
+setting_closed line id slot f None = record {
+  within = by line (SlotChanged id (Some (record { slot = slot; logged = is_logged id f.slots }))) ∷ [];
+  answer = Done;
+  are_within = (refl, tt, tt);
+  events_are = refl;
+}
+setting_closed line id slot f (Some answer) = record { within = []; answer = answer; are_within = tt; events_are = refl }
 
 doing_closed : (z : Sizes) (line : Line) (command : Command) (f : Facts) → Closed line (looks line command f ++ doing z line command f)
-doing_closed z line (Access gfn word op) f = accessing_closed line gfn word op f (page_behind f.slots gfn op)
-doing_closed z line (SetSlot id slot) f = setting_closed line id slot (slot_refusal z.pages f.slots id slot)
+doing_closed z line (Access gfn word op) f = accessing_closed line gfn word op f (page_behind (flat_slots f.slots) gfn op)
+doing_closed z line (SetSlot id slot) f = setting_closed line id slot f (answer_at_once z f.slots (SetSlot id slot))
 
 alone_first : (z : Sizes) (line : Line) (f : Facts) (rest : List Event) → StandsFirst line (alone z line f ++ rest) rest
 alone_first z line f rest =

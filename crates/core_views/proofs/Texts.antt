@@ -4,17 +4,12 @@ use Rattle.core_views.specs.declared.actor.Actor.{Actor}
 use Rattle.core_views.specs.declared.answer.AnsweredLine.{AnsweredLine}
 use Rattle.core_views.specs.declared.event.Event.{Event}
 use Rattle.core_views.specs.declared.event.EventKind.{EventKind}
-use Rattle.core_views.specs.declared.event.EventKind.TheVariants.{Begun, LookedAtSlots, LookedAtHost, Accessed, Exited, SlotChanged, Answered}
+use Rattle.core_views.specs.declared.event.EventKind.TheVariants.{Answered}
 use Rattle.core_views.specs.Text.{answers_of, or_answered, line_text, lines_text, text}
 
 or_answered_append : (actor : Actor) (kind : EventKind) (xs ys : List AnsweredLine) → or_answered actor kind (xs ++ ys) ≡ or_answered actor kind xs ++ ys
-or_answered_append actor (Begun line) xs ys = refl
-or_answered_append actor LookedAtSlots xs ys = refl
-or_answered_append actor (LookedAtHost page) xs ys = refl
-or_answered_append actor (Accessed gfn word op frame before) xs ys = refl
-or_answered_append actor (Exited answer) xs ys = refl
-or_answered_append actor (SlotChanged id slot) xs ys = refl
 or_answered_append actor (Answered line answer) xs ys = refl
+or_answered_append actor _ xs ys = refl
 
 pub answers_append : (xs ys : List Event) → answers_of (xs ++ ys) ≡ answers_of xs ++ answers_of ys
 answers_append [] ys = refl

@@ -4,19 +4,16 @@ use Rattle.core_views.specs.declared.answer.Answer.{Answer}
 use Rattle.core_views.specs.declared.answer.Answer.TheVariants.{Starved}
 use Rattle.core_views.specs.declared.event.Event.{Event}
 use Rattle.core_views.specs.declared.event.EventKind.{EventKind}
-use Rattle.core_views.specs.declared.event.EventKind.TheVariants.{Begun, LookedAtSlots, LookedAtHost, Accessed, Exited, SlotChanged, Answered}
+use Rattle.core_views.specs.declared.event.EventKind.TheVariants.{Begun, LookedAtPause, LookedAtSlots, LookedAtHost, Exited, Answered}
 use Rattle.core_views.specs.declared.trace.Line.{Line}
 use Rattle.core_views.specs.FlatHistory.{by}
 
 -- The event only notes what is true: it changes no fact and is nobody's answer.
 abbrev pub is_look : EventKind → Bool
-is_look (Begun line) = false
+is_look LookedAtPause = true
 is_look LookedAtSlots = true
 is_look (LookedAtHost page) = true
-is_look (Accessed gfn word op frame before) = false
-is_look (Exited answer) = false
-is_look (SlotChanged id slot) = false
-is_look (Answered line answer) = false
+is_look _ = false
 
 -- the history, but for what its lines looked at
 abbrev pub without_looks : List Event → List Event
@@ -26,12 +23,8 @@ without_looks (e ∷ es) = if is_look e.kind then without_looks es else e ∷ wi
 -- The event stands within a line: it neither begins nor answers one.
 abbrev pub IsWithin : EventKind → Type 0
 IsWithin (Begun line) = ⊥
-IsWithin LookedAtSlots = Unit {0}
-IsWithin (LookedAtHost page) = Unit {0}
-IsWithin (Accessed gfn word op frame before) = Unit {0}
-IsWithin (Exited answer) = Unit {0}
-IsWithin (SlotChanged id slot) = Unit {0}
 IsWithin (Answered line answer) = ⊥
+IsWithin _ = Unit {0}
 
 -- Each of the events is of the line's actor, and stands within a line.
 abbrev pub AreWithin : Line → List Event → Type 0

@@ -2,10 +2,12 @@
 use Rattle.std.specs.Prelude.{ℕ, List, [], ◌∷◌, Option, Some, None}
 use Rattle.core_views.specs.declared.event.Event.{Event}
 use Rattle.core_views.specs.declared.event.EventKind.{EventKind}
-use Rattle.core_views.specs.declared.event.EventKind.TheVariants.{Begun, LookedAtSlots, LookedAtHost, Accessed, Exited, SlotChanged, Answered}
+use Rattle.core_views.specs.declared.event.EventKind.TheVariants.{Begun, LookedAtPause, LookedAtSlots, LookedAtHost, Accessed, Exited, SlotChanged, Answered}
 use Rattle.core_views.specs.declared.trace.Op.{Op}
 use Rattle.core_views.specs.Actors.{changed_at}
-use Rattle.core_views.specs.Slots.{with_slot, page_behind}
+use Rattle.core_views.specs.Host.{with_entry}
+use Rattle.core_views.specs.Slots.{page_behind}
+use Rattle.core_views.specs.SlotSets.{changed_slots, flat_slots}
 use Rattle.core_views.specs.Memory.{Memory, with_word, stored}
 use Rattle.core_views.specs.Flat.{Facts, LineUnderWay, Flat, no_notes, Idle, Fresh, HasAccessed, HasLeft, HasSetSlot}
 
@@ -14,17 +16,18 @@ abbrev pub touched : Option ℕ → ℕ → Op → Memory → Memory
 touched None word op memory = memory
 touched (Some page) word op memory = with_word page word (stored op (memory page word)) memory
 
--- the facts after the event: only an access changes memory, and only a slot setting the slots
+-- the facts after the event: only an access changes memory, only a slot change the slots, and nothing the host and the pause
 abbrev pub facts_after : EventKind → Facts → Facts
-facts_after (Accessed gfn word op frame before) f = record f { memory = touched (page_behind f.slots gfn op) word op f.memory }
-facts_after (SlotChanged id slot) f = record f { slots = with_slot id slot f.slots }
+facts_after (Accessed gfn word op frame before) f = record f { memory = touched (page_behind (flat_slots f.slots) gfn op) word op f.memory }
+facts_after (SlotChanged id slot) f = record f { slots = changed_slots id slot f.slots }
 facts_after _ f = f
 
 -- the line under way after an event of its actor
 abbrev pub line_after : EventKind → Facts → LineUnderWay → LineUnderWay
 line_after (Begun line) f u = record { line = line; stage = Fresh; notes = no_notes }
-line_after LookedAtSlots f u = record u { notes = record u.notes { slots = Some f.slots } }
-line_after (LookedAtHost page) f u = record u { notes = record u.notes { host = Some (page, f.host page) } }
+line_after LookedAtPause f u = record u { notes = record u.notes { paused = Some f.paused } }
+line_after LookedAtSlots f u = record u { notes = record u.notes { slots = Some (flat_slots f.slots) } }
+line_after (LookedAtHost page) f u = record u { notes = record u.notes { host = with_entry page (f.host page) u.notes.host } }
 line_after (Accessed gfn word op frame before) f u = record u { stage = HasAccessed frame before }
 line_after (Exited answer) f u = record u { stage = HasLeft answer }
 line_after (SlotChanged id slot) f u = record u { stage = HasSetSlot }

@@ -1,5 +1,5 @@
 -- The state of flat guest memory: facts, and for each actor the line that it has under way.
-use Rattle.std.specs.Prelude.{ℕ, [], Option, None}
+use Rattle.std.specs.Prelude.{ℕ, [], Bool, false, Option, None}
 use Rattle.core_views.specs.declared.actor.Actor.{Actor}
 use Rattle.core_views.specs.declared.actor.Actor.TheVariants.{Vcpu}
 use Rattle.core_views.specs.declared.answer.Answer.{Answer}
@@ -7,14 +7,16 @@ use Rattle.core_views.specs.declared.trace.Command.TheVariants.{Access}
 use Rattle.core_views.specs.declared.trace.Op.TheVariants.{Read}
 use Rattle.core_views.specs.declared.trace.Line.{Line}
 use Rattle.core_views.specs.Slots.{Slots}
-use Rattle.core_views.specs.Host.{HostEntry, HostMap, own_frames}
+use Rattle.core_views.specs.SlotSets.{MemorySlots}
+use Rattle.core_views.specs.Host.{HostMap, HostNotes, own_frames}
 use Rattle.core_views.specs.Memory.{Memory, all_zero}
 
 -- what is true of guest memory now, one field a topic
 pub record Facts : Type 0 where
-  pub slots : Slots
+  pub slots : MemorySlots
   pub host : HostMap
   pub memory : Memory
+  pub paused : Bool  -- Virtual processors are to make no access.
 
 -- how far the line under way has come, by its own events
 pub data Stage : Type 0 where
@@ -24,10 +26,11 @@ pub data Stage : Type 0 where
   HasLeft : (answer : Answer) → Stage  -- it was given up: its access left the guest, or no page was free
   HasSetSlot : Stage  -- its change took effect
 
--- what the line last looked at: the slots, and a host page with its entry
+-- what the line looked at, as it last did: the pause, the slots, and the entry of each host page
 pub record Notes : Type 0 where
+  pub paused : Option Bool
   pub slots : Option Slots
-  pub host : Option (ℕ × HostEntry)
+  pub host : HostNotes
 
 -- the line under way, or the last one
 pub record LineUnderWay : Type 0 where
@@ -39,12 +42,12 @@ pub record Flat : Type 0 where
   pub facts : Facts
   pub under : Actor → LineUnderWay
 
--- At the start there is no slot, each host page is at its own frame, and all content is zero.
+-- At the start there is no slot, each host page is at its own frame, all content is zero, and nothing is paused.
 abbrev pub first_facts : Facts
-first_facts = record { slots = []; host = own_frames; memory = all_zero }
+first_facts = record { slots = []; host = own_frames; memory = all_zero; paused = false }
 
 abbrev pub no_notes : Notes
-no_notes = record { slots = None; host = None }
+no_notes = record { paused = None; slots = None; host = λ page. None }
 
 -- stands where there is no line
 abbrev pub no_line : Line

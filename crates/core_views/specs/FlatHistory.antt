@@ -1,13 +1,12 @@
 -- The flat history of a trace: each line runs alone, in file order.
 use Rattle.std.specs.Prelude.{ℕ, List, [], ◌∷◌, ◌++◌, Bool, true, false, Option, Some, None}
 use Rattle.core_views.specs.declared.answer.Answer.{Answer}
-use Rattle.core_views.specs.declared.answer.Answer.TheVariants.{Reached, Mmio, HostFault, Done, Refused}
+use Rattle.core_views.specs.declared.answer.Answer.TheVariants.{Reached, Mmio, HostFault, Done}
 use Rattle.core_views.specs.declared.event.Event.{Event}
 use Rattle.core_views.specs.declared.event.EventKind.{EventKind}
-use Rattle.core_views.specs.declared.event.EventKind.TheVariants.{Begun, LookedAtSlots, LookedAtHost, Accessed, Exited, SlotChanged, Answered}
+use Rattle.core_views.specs.declared.event.EventKind.TheVariants.{Begun, LookedAtPause, LookedAtSlots, LookedAtHost, Accessed, Exited, SlotChanged, Answered}
 use Rattle.core_views.specs.declared.trace.Command.{Command}
 use Rattle.core_views.specs.declared.trace.Command.TheVariants.{Access, SetSlot}
-use Rattle.core_views.specs.declared.answer.Refusal.{Refusal}
 use Rattle.core_views.specs.declared.sizes.Sizes.{Sizes}
 use Rattle.core_views.specs.Sizes.{sizes_of}
 use Rattle.core_views.specs.declared.trace.Line.{Line}
@@ -15,9 +14,12 @@ use Rattle.core_views.specs.declared.trace.Op.{Op}
 use Rattle.core_views.specs.declared.trace.Slot.{Slot}
 use Rattle.core_views.specs.declared.trace.Trace.{Trace}
 use Rattle.core_views.specs.Host.{is_denied}
-use Rattle.core_views.specs.Slots.{page_behind, slot_refusal}
+use Rattle.core_views.specs.Slots.{page_behind}
+use Rattle.core_views.specs.SlotSets.{flat_slots}
+use Rattle.core_views.specs.Refusals.{is_logged}
 use Rattle.core_views.specs.Flat.{Facts, Stage, Idle, Fresh, HasAccessed, HasLeft, HasSetSlot, first_facts}
 use Rattle.core_views.specs.Events.{facts_after_all}
+use Rattle.core_views.specs.Lawful.{answer_at_once}
 
 abbrev pub by : Line → EventKind → Event
 by line kind = record { actor = line.actor; kind = kind }
@@ -35,14 +37,22 @@ abbrev pub accessing : Line → ℕ → ℕ → Op → Facts → Option ℕ → 
 accessing line gfn word op f None = by line (Exited Mmio) ∷ answers line Mmio
 accessing line gfn word op f (Some page) = reaching line gfn word op f page (is_denied op (f.host page))
 
--- A slot that the machine refuses changes nothing.
-abbrev pub setting : Line → ℕ → Slot → Option Refusal → List Event
-setting line id slot None = by line (SlotChanged id slot) ∷ answers line Done
-setting line id slot (Some refusal) = answers line (Refused refusal)
+-- A slot that is set keeps its dirty log.
+abbrev pub setting : Line → ℕ → Slot → Facts → List Event
+setting line id slot f = by line (SlotChanged id (Some (record { slot = slot; logged = is_logged id f.slots }))) ∷ answers line Done
+
+-- what a line does that has something to do
+abbrev pub working : Line → Command → Facts → List Event
+working line (Access gfn word op) f = accessing line gfn word op f (page_behind (flat_slots f.slots) gfn op)
+working line (SetSlot id slot) f = setting line id slot f
+
+-- A line that has nothing to do is answered at once, and changes nothing.
+abbrev pub doing_by : Line → Command → Facts → Option Answer → List Event
+doing_by line command f None = working line command f
+doing_by line command f (Some answer) = answers line answer
 
 abbrev pub doing : Sizes → Line → Command → Facts → List Event
-doing z line (Access gfn word op) f = accessing line gfn word op f (page_behind f.slots gfn op)
-doing z line (SetSlot id slot) f = setting line id slot (slot_refusal z.pages f.slots id slot)
+doing z line command f = doing_by line command f (answer_at_once z f.slots command)
 
 -- what is left of a line, from each stage on
 abbrev pub rest_of : Sizes → Line → Stage → Facts → List Event
@@ -52,13 +62,13 @@ rest_of z line (HasAccessed frame value) f = answers line (Reached frame value)
 rest_of z line (HasLeft answer) f = answers line answer
 rest_of z line HasSetSlot f = answers line Done
 
--- what a line looks at before it does anything: an access at the slots, and at the host page that they give it
+-- what a line looks at before it does anything: an access at the pause, at the slots, and at the host page that they give it
 abbrev pub looks_behind : Line → Option ℕ → List Event
 looks_behind line None = []
 looks_behind line (Some page) = by line (LookedAtHost page) ∷ []
 
 abbrev pub looks : Line → Command → Facts → List Event
-looks line (Access gfn word op) f = by line LookedAtSlots ∷ looks_behind line (page_behind f.slots gfn op)
+looks line (Access gfn word op) f = by line LookedAtPause ∷ by line LookedAtSlots ∷ looks_behind line (page_behind (flat_slots f.slots) gfn op)
 looks line (SetSlot id slot) f = []
 
 -- the whole line, alone

@@ -1,16 +1,20 @@
 -- Which histories flat guest memory allows.
-use Rattle.std.specs.Prelude.{◌≡◌, ℕ, List, [], ◌∷◌, Some, None, true}
+use Rattle.std.specs.Prelude.{◌≡◌, ℕ, List, [], ◌∷◌, Option, Some, None, true, false}
+use Rattle.std.specs.Option.{option_map}
 use Rattle.core_views.specs.declared.actor.Actor.{Actor}
 use Rattle.core_views.specs.declared.answer.Answer.{Answer}
 use Rattle.core_views.specs.declared.answer.Answer.TheVariants.{Reached, Mmio, HostFault, Starved, Done, Refused}
 use Rattle.core_views.specs.declared.event.Event.{Event}
 use Rattle.core_views.specs.declared.event.EventKind.{EventKind}
-use Rattle.core_views.specs.declared.event.EventKind.TheVariants.{Begun, LookedAtSlots, LookedAtHost, Accessed, Exited, SlotChanged, Answered}
+use Rattle.core_views.specs.declared.event.EventKind.TheVariants.{Begun, LookedAtPause, LookedAtSlots, LookedAtHost, Accessed, Exited, SlotChanged, Answered}
 use Rattle.core_views.specs.declared.trace.Command.{Command}
 use Rattle.core_views.specs.declared.trace.Command.TheVariants.{Access, SetSlot}
 use Rattle.core_views.specs.declared.sizes.Sizes.{Sizes}
 use Rattle.core_views.specs.declared.trace.Op.{Op}
-use Rattle.core_views.specs.Slots.{Slots, page_behind, slot_refusal}
+use Rattle.core_views.specs.declared.slot_set.MemorySlot.{MemorySlot}
+use Rattle.core_views.specs.Slots.{Slots, page_behind}
+use Rattle.core_views.specs.SlotSets.{MemorySlots, flat_slots}
+use Rattle.core_views.specs.Refusals.{is_logged, set_refusal}
 use Rattle.core_views.specs.Host.{HostEntry, is_denied}
 use Rattle.core_views.specs.Names.{names}
 use Rattle.core_views.specs.Flat.{Facts, Notes, LineUnderWay, Flat, Stage, Idle, Fresh, HasAccessed, HasLeft, HasSetSlot}
@@ -18,56 +22,68 @@ use Rattle.core_views.specs.Events.{after}
 
 -- The access reaches the frame that slots and host name now, at a word that holds `before`.
 pub record Reaches (f : Facts) (gfn word : ℕ) (op : Op) (frame before : ℕ) : Type 0 where
-  pub named : names f.slots f.host gfn op ≡ Some frame
+  pub named : names (flat_slots f.slots) f.host gfn op ≡ Some frame
   pub page : ℕ
-  pub behind : page_behind f.slots gfn op ≡ Some page
+  pub behind : page_behind (flat_slots f.slots) gfn op ≡ Some page
   pub value_is : f.memory page word ≡ before
 
--- The slots that the line looked at give the guest frame no page for the operation (api.rst, KVM_EXIT_MMIO).
+-- The line saw no pause, and the slots that it looked at give the guest frame no page for the operation (api.rst, KVM_EXIT_MMIO).
 pub record SawNoPage (notes : Notes) (gfn : ℕ) (op : Op) : Type 0 where
+  pub runs : notes.paused ≡ Some false
   pub slots : Slots
   pub noted : notes.slots ≡ Some slots
   pub none : page_behind slots gfn op ≡ None
 
--- They give it a page, and the host's entry of this page, as the line looked at it, forbids the operation (api.rst, KVM_EXIT_MEMORY_FAULT).
+-- It saw no pause, they give it a page, and the host's entry of this page, as the line looked at it, forbids the operation (api.rst, KVM_EXIT_MEMORY_FAULT).
 pub record SawForbidden (notes : Notes) (gfn : ℕ) (op : Op) : Type 0 where
+  pub runs : notes.paused ≡ Some false
   pub slots : Slots
   pub noted : notes.slots ≡ Some slots
   pub page : ℕ
   pub behind : page_behind slots gfn op ≡ Some page
   pub entry : HostEntry
-  pub looked : notes.host ≡ Some (page, entry)
+  pub looked : notes.host page ≡ Some entry
   pub forbids : is_denied op entry ≡ true
 
--- The line under way may be given up with this answer. That no pool page was free is no fact of flat memory.
-abbrev pub MayLeave : Command → Notes → Answer → Type 0
-MayLeave (Access gfn word op) notes Mmio = SawNoPage notes gfn op
-MayLeave (Access gfn word op) notes HostFault = SawForbidden notes gfn op
-MayLeave (Access gfn word op) notes Starved = Unit {0}
-MayLeave (SetSlot id slot) notes Starved = Unit {0}
-MayLeave _ _ _ = ⊥
+-- what a line is answered that has nothing to do on a machine with these slots: the refusal of a slot
+abbrev pub answer_at_once : Sizes → MemorySlots → Command → Option Answer
+answer_at_once z slots (Access gfn word op) = None
+answer_at_once z slots (SetSlot id slot) = option_map (λ refusal. Refused refusal) (set_refusal z.pages id slot slots)
 
--- A machine with these slots refuses the command with this answer.
-abbrev pub IsRefused : Sizes → Slots → Command → Answer → Type 0
-IsRefused z slots (SetSlot id slot) (Refused refusal) = slot_refusal z.pages slots id slot ≡ Some refusal
-IsRefused z slots _ _ = ⊥
+-- The line has something to do.
+abbrev pub HasWork : Sizes → Facts → Command → Type 0
+HasWork z f command = answer_at_once z f.slots command ≡ None
 
--- The line's own events tell this answer, or it has none and is refused.
-abbrev pub Tells : Sizes → Slots → Command → Stage → Answer → Type 0
+-- the ID of which a line changes the slot, and the slot behind the change: it has a dirty log where the one that was there had one
+abbrev pub slot_change : MemorySlots → Command → Option (ℕ × Option MemorySlot)
+slot_change slots (Access gfn word op) = None
+slot_change slots (SetSlot id slot) = Some (id, Some (record { slot = slot; logged = is_logged id slots }))
+
+-- The line under way may be given up with this answer. That no pool page was free is no fact of flat memory; but a line that has nothing to do wants none.
+abbrev pub MayLeave : Sizes → Facts → Command → Notes → Answer → Type 0
+MayLeave z f (Access gfn word op) notes Mmio = SawNoPage notes gfn op
+MayLeave z f (Access gfn word op) notes HostFault = SawForbidden notes gfn op
+MayLeave z f command notes Starved = HasWork z f command
+MayLeave _ _ _ _ _ = ⊥
+
+-- The line's own events tell this answer, or it has none, and is answered so at once.
+abbrev pub Tells : Sizes → MemorySlots → Command → Stage → Answer → Type 0
 Tells z slots command (HasAccessed frame value) answer = answer ≡ Reached frame value
 Tells z slots command (HasLeft how) answer = answer ≡ how
 Tells z slots command HasSetSlot answer = answer ≡ Done
 Tells z slots command Idle answer = ⊥
-Tells z slots command Fresh answer = IsRefused z slots command answer
+Tells z slots command Fresh answer = answer_at_once z slots command ≡ Some answer
 
 -- The actor, with this line under way, may do this next.
 abbrev pub IsAllowed : Sizes → Facts → Actor → LineUnderWay → EventKind → Type 0
 IsAllowed z f actor u (Begun line) = (u.stage ≡ Idle) × (line.actor ≡ actor)
+IsAllowed z f actor u LookedAtPause = u.stage ≡ Fresh
 IsAllowed z f actor u LookedAtSlots = u.stage ≡ Fresh
 IsAllowed z f actor u (LookedAtHost page) = u.stage ≡ Fresh
-IsAllowed z f actor u (Accessed gfn word op frame before) = (u.stage ≡ Fresh) × (u.line.command ≡ Access gfn word op) × Reaches f gfn word op frame before
-IsAllowed z f actor u (Exited answer) = (u.stage ≡ Fresh) × MayLeave u.line.command u.notes answer
-IsAllowed z f actor u (SlotChanged id slot) = (u.stage ≡ Fresh) × (u.line.command ≡ SetSlot id slot) × (slot_refusal z.pages f.slots id slot ≡ None)
+IsAllowed z f actor u (Accessed gfn word op frame before) =
+    (u.stage ≡ Fresh) × (u.line.command ≡ Access gfn word op) × (u.notes.paused ≡ Some false) × Reaches f gfn word op frame before
+IsAllowed z f actor u (Exited answer) = (u.stage ≡ Fresh) × MayLeave z f u.line.command u.notes answer
+IsAllowed z f actor u (SlotChanged id slot) = (u.stage ≡ Fresh) × HasWork z f u.line.command × (slot_change f.slots u.line.command ≡ Some (id, slot))
 IsAllowed z f actor u (Answered line answer) = (line ≡ u.line.number) × Tells z f.slots u.line.command u.stage answer
 
 -- Each event of the history is allowed in the state that the events before it give.

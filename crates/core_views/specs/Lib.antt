@@ -19,4 +19,5 @@ pub mod Need
 pub mod Kinds
 pub mod Held
 pub mod Laws
+pub mod Unlawful
 pub mod Rows

@@ -1,5 +1,5 @@
 -- Sets of memory slots (api.rst, KVM_SET_USER_MEMORY_REGION): each slot at its ID, with or without a dirty log.
-use Rattle.std.specs.Prelude.{◌≡◌, ◌≢◌, ◌+◌, ◌^◌, ◌≤◌, ◌==◌, ℕ, false, List, map, Option, Some, find}
+use Rattle.std.specs.Prelude.{◌≡◌, ◌≢◌, ◌+◌, ◌^◌, ◌≤◌, ◌==◌, ℕ, false, List, map, Option, Some, None, find}
 use Rattle.std.specs.Ordering.{nat_cmp}
 use Rattle.std.specs.BTreeMap.{insert_entry}
 use Rattle.std.specs.Map.{keys_of, lookup, remove_entry}
@@ -31,9 +31,10 @@ slot_holding gfn slots = find (λ entry. contains gfn entry.1.slot) slots
 abbrev pub flat_slots : MemorySlots → Slots
 flat_slots slots = map (λ entry. (entry.0, entry.1.slot)) slots
 
--- No slot has a dirty log.
-abbrev pub AreUnlogged : MemorySlots → Type 0
-AreUnlogged slots = (id : ℕ) (m : MemorySlot) → slot_at id slots ≡ Some m → m.logged ≡ false
+-- the slots, where from now on this is the one with the ID, or there is none
+abbrev pub changed_slots : ℕ → Option MemorySlot → MemorySlots → MemorySlots
+changed_slots id (Some slot) slots = with_slot_at id slot slots
+changed_slots id None slots = without_slot_at id slots
 
 -- IDs rise and are at most 31; each slot has a page at least and lies below 2 ^ 36; no two have a guest frame or a host page in common.
 pub record IsSlotSet (slots : MemorySlots) : Type 0 where

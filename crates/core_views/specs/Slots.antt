@@ -6,7 +6,6 @@ use Rattle.std.specs.Ordering.{nat_cmp}
 use Rattle.std.specs.BTreeMap.{insert_entry}
 use Rattle.std.specs.Map.{lookup, values_of}
 use Rattle.core_views.specs.declared.answer.Refusal.{Refusal}
-use Rattle.core_views.specs.declared.answer.Refusal.TheVariants.{BadId, TooLarge, Resize, Fixed, Overlap, HostOverlap}
 use Rattle.core_views.specs.declared.trace.Op.{Op}
 use Rattle.core_views.specs.declared.trace.Op.TheVariants.{Read, Write, Add}
 use Rattle.core_views.specs.declared.trace.Slot.{Slot}
@@ -85,14 +84,3 @@ meets_guest_frames id slot slots = list_any (λ entry. not (entry.0 == id) && sh
 -- A slot with another ID has a host page in common with this one.
 abbrev pub meets_host_pages : ℕ → Slot → Slots → Bool
 meets_host_pages id slot slots = list_any (λ entry. not (entry.0 == id) && share_host_pages slot entry.1) slots
-
--- why the setting of this slot is refused, on a machine of so many host pages that has these slots: a row of conditions, of which the first that holds answers
-abbrev pub slot_refusal : ℕ → Slots → ℕ → Slot → Option Refusal
-slot_refusal total slots id slot = first_of (
-    (nat_lt 31 id, BadId)
-    ∷ (is_too_large total slot, TooLarge)
-    ∷ (is_some_and (resizes slot) (slot_with_id id slots), Resize)
-    ∷ (is_some_and (changes_fixed slot) (slot_with_id id slots), Fixed)
-    ∷ (meets_guest_frames id slot slots, Overlap)
-    ∷ (meets_host_pages id slot slots, HostOverlap)
-    ∷ [])

@@ -1,4 +1,4 @@
-use crate::{Actor, Answer, Line, Op, Slot};
+use crate::{Actor, Answer, Line, MemorySlot, Op};
 
 /// One event of a history: what an actor did to, or saw of, flat guest memory.
 #[derive(Clone, Copy, Debug, PartialEq, Eq, Drop)]
@@ -12,6 +12,8 @@ pub struct Event {
 pub enum EventKind {
     /// The actor began this line.
     Begun(Line),
+    /// The line looked at whether virtual processors are paused now.
+    LookedAtPause,
     /// The line looked at the memory slots as they are now.
     LookedAtSlots,
     /// The line looked at what the host maps this page to now.
@@ -30,10 +32,10 @@ pub enum EventKind {
     /// The line is given up with no effect: an access leaves the guest without
     /// touching memory, or a slot setting finds no free page for the new slot set.
     Exited(Answer),
-    /// The memory slot with this ID is set.
+    /// From now on this is the memory slot with the ID, or there is none.
     SlotChanged {
         id: u64,
-        slot: Slot,
+        slot: Option<MemorySlot>,
     },
     /// The line with this number is answered.
     Answered {

@@ -1,4 +1,5 @@
 ghost use Rattle.core_views.specs.Laws.{FlatIsLawful, FlatIsWhole, FlatStandsAlone, FlatPrints, AloneIsFlat, AloneAnswersAsFlat, AloneIsWhole};
+ghost use Rattle.core_views.specs.Unlawful.{AccessLooksAtPause, AccessReachesItsFrame, OutsideReachesNone, OverlapCannotStarve};
 
 /// Laws about the definitions alone: the flat history of every list of lines
 /// is lawful, answers each line once, in its actor's order, and is made of
@@ -19,4 +20,14 @@ pub fn alone_is_flat()
     ensures flat { AloneIsFlat }
     ensures answers { AloneAnswersAsFlat }
     ensures whole { AloneIsWhole }
+{}
+
+/// A law about closed histories that are not lawful: a slot line that is to be
+/// refused can't be given up for want of a pool page, an access has looked at
+/// the pause, and it reaches the frame that slots and host name, or none.
+pub fn unlawful_histories_are_refused()
+    ensures starved { OverlapCannotStarve }
+    ensures pause { AccessLooksAtPause }
+    ensures frame { AccessReachesItsFrame }
+    ensures outside { OutsideReachesNone }
 {}

@@ -23,7 +23,7 @@ pub use cache::{Cache, Translation};
 pub use event::{Event, EventKind};
 pub use hand::{Closing, Hand, Hands, Seen, State};
 pub use kind::{Kind, Operation, StepKind};
-pub use laws::{alone_is_flat, flat_history_is_lawful};
+pub use laws::{alone_is_flat, flat_history_is_lawful, unlawful_histories_are_refused};
 pub use no_memory::NoMemory;
 pub use place::{
     AccessPlace, Cause, CheckStage, FaultEnd, FaultNext, FaultPlace, Leaving, Place, SetSlotPlace,

@@ -1,8 +1,8 @@
 ghost use Rattle.std.specs.Prelude.{◌≡◌, ◌+◌, ◌≤◌, [], ℕ, true, OnOk, OnErr, Some, nat_lt};
 ghost use Rattle.std.specs.Option.{option_map};
 ghost use Rattle.std.specs.Result.{result_err};
-ghost use Rattle.core_views.specs.Slots.{changes_fixed, contains, has_host_page, is_some_and, meets_guest_frames, meets_host_pages, resizes, share_guest_frames, share_host_pages, slot_of, slot_refusal, slot_with_id, with_slot};
-ghost use Rattle.core_views.specs.SlotSets.{AreUnlogged, IsSlotSet, flat_slots, slot_at, slot_holding, without_slot_at};
+ghost use Rattle.core_views.specs.Slots.{changes_fixed, contains, has_host_page, is_some_and, meets_guest_frames, meets_host_pages, resizes, share_guest_frames, share_host_pages, slot_of, slot_with_id, with_slot};
+ghost use Rattle.core_views.specs.SlotSets.{IsSlotSet, flat_slots, slot_at, slot_holding, without_slot_at};
 ghost use Rattle.core_views.specs.Refusals.{after_log, after_set, delete_refusal, is_logged, log_refusal, moves_logged, set_refusal, slot_from};
 ghost use Rattle.core_views.specs.declared.slot_set.MemorySlot.{MemorySlot};
 
@@ -156,7 +156,6 @@ impl SlotSet {
     ) -> Result<(), Refusal>
         requires { 1 ≤ pages }
         ensures refusal { result_err result ≡ set_refusal total id (slot_from base pages host ro) self.old }
-        ensures unlogged { AreUnlogged self.old → result_err result ≡ slot_refusal total (flat_slots self.old) id (slot_from base pages host ro) }
         ensures refused { OnErr result (self.new ≡ self.old) }
         ensures set { OnOk result (self.new ≡ after_set id (slot_from base pages host ro) self.old) }
         ensures flat { OnOk result (flat_slots self.new ≡ with_slot id (slot_from base pages host ro) (flat_slots self.old)) }

@@ -7,6 +7,7 @@ use Rattle.core_views.specs.declared.answer.Answer.TheVariants.{Reached}
 use Rattle.core_views.specs.declared.trace.Op.{Op}
 use Rattle.core_views.specs.Memory.{Memory, with_word, stored}
 use Rattle.core_views.specs.Slots.{page_behind}
+use Rattle.core_views.specs.SlotSets.{flat_slots}
 use Rattle.flat_model.specs.Kept.{Kept, is_place, memory_of}
 use Rattle.flat_model.specs.Steps.{Accesses, AccessesPage}
 
@@ -33,7 +34,7 @@ kept memory page word p w = same_place ((page == p) && (word == w)) memory page 
 
 -- What an access to a page gives, from what it read and what stands there behind it.
 pub reached : (gfn word : ℕ) (op : Op) (before after : Kept) (page value : ℕ)
-    → Some page ≡ page_behind before.slots gfn op → value ≡ memory_of before.words page word → after.slots ≡ before.slots
+    → Some page ≡ page_behind (flat_slots before.slots) gfn op → value ≡ memory_of before.words page word → after.slots ≡ before.slots
     → ((p w : ℕ) → memory_of after.words p w ≡ with_word page word (stored op (memory_of before.words page word)) (memory_of before.words) p w)
     → Accesses gfn word op before after (Reached page value)
 reached gfn word op before after page value behind is same words =

@@ -1,5 +1,5 @@
 -- What the interpreter keeps, and what it stands for.
-use Rattle.std.specs.Prelude.{◌≡◌, ℕ, List, [], ◌∷◌, Bool, ◌==◌, ◌&&◌, unwrap_or}
+use Rattle.std.specs.Prelude.{◌≡◌, ℕ, List, [], ◌∷◌, Bool, false, ◌==◌, ◌&&◌, unwrap_or}
 use Rattle.std.specs.Map.{lookup}
 use Rattle.core_views.specs.declared.answer.Answer.{Answer}
 use Rattle.core_views.specs.declared.trace.Command.{Command}
@@ -7,7 +7,7 @@ use Rattle.core_views.specs.declared.trace.Command.TheVariants.{Access, SetSlot}
 use Rattle.core_views.specs.declared.trace.Line.{Line}
 use Rattle.core_views.specs.Traces.{IsSlotInRange}
 use Rattle.core_views.specs.declared.sizes.Sizes.{Sizes}
-use Rattle.core_views.specs.Slots.{Slots}
+use Rattle.core_views.specs.SlotSets.{MemorySlots}
 use Rattle.core_views.specs.Host.{own_frames}
 use Rattle.core_views.specs.Memory.{Memory}
 use Rattle.core_views.specs.Flat.{Facts}
@@ -18,7 +18,7 @@ use Rattle.core_views.specs.Text.{answers_of}
 -- the machine's sizes, the slots by rising ID, and the words that were written, each at its host page and word
 pub record Kept : Type 0 where
   pub sizes : Sizes
-  pub slots : Slots
+  pub slots : MemorySlots
   pub words : List ((ℕ × ℕ) × ℕ)
 
 abbrev pub is_place : ℕ × ℕ → ℕ × ℕ → Bool
@@ -28,9 +28,9 @@ is_place x y = (x.0 == y.0) && (x.1 == y.1)
 abbrev pub memory_of : List ((ℕ × ℕ) × ℕ) → Memory
 memory_of words page word = unwrap_or (lookup (is_place (page, word)) words) 0
 
--- the flat facts that this stands for; each host page is at its own frame
+-- the flat facts that this stands for; each host page is at its own frame, and nothing is paused
 abbrev pub facts_of : Kept → Facts
-facts_of kept = record { slots = kept.slots; host = own_frames; memory = memory_of kept.words }
+facts_of kept = record { slots = kept.slots; host = own_frames; memory = memory_of kept.words; paused = false }
 
 -- The command's numbers are in the ranges of a line.
 abbrev pub IsInRange : Command → Type 0

@@ -1,7 +1,9 @@
 ghost use Rattle.std.specs.Prelude.{◌≡◌, IfOk, OnErr};
 ghost use Rattle.core_views.specs.Sizes.{sizes_of};
 ghost use Rattle.core_views.specs.Flat.{first_facts};
-ghost use Rattle.core_views.specs.Slots.{page_behind, slot_refusal};
+ghost use Rattle.core_views.specs.Refusals.{set_refusal};
+ghost use Rattle.core_views.specs.Slots.{page_behind};
+ghost use Rattle.core_views.specs.SlotSets.{flat_slots};
 ghost use Rattle.core_views.specs.Traces.{IsSlotInRange};
 ghost use Rattle.flat_model.specs.Kept.{GivesLine, IsInRange, facts_of};
 ghost use Rattle.flat_model.specs.Steps.{Accesses, SetsSlot};
@@ -22,15 +24,15 @@ pub struct Plain {
 
 impl Model for Plain {
     ghost use Rattle.std.specs.Prelude.{◌<◌, ◌^◌};
-    ghost use Rattle.core_views.specs.SlotSets.{AreUnlogged, flat_slots};
+    ghost use Rattle.core_views.specs.SlotSets.{flat_slots};
     ghost use Rattle.flat_model.specs.Kept.{Kept};
     ghost use Rattle.flat_model.specs.Steps.{AreSlotsOf};
 
     ghost Value = { Kept };
 
-    ghost view = { λ p. record { sizes = p.sizes; slots = flat_slots p.slots; words = p.memory.entries } };
+    ghost view = { λ p. record { sizes = p.sizes; slots = p.slots; words = p.memory.entries } };
 
-    ghost invariant = { λ p. (p.sizes.pages < 2 ^ 64) × AreUnlogged p.slots × AreSlotsOf p.sizes.pages (flat_slots p.slots) };
+    ghost invariant = { λ p. (p.sizes.pages < 2 ^ 64) × AreSlotsOf p.sizes.pages (flat_slots p.slots) };
 }
 
 impl Plain {
@@ -62,7 +64,7 @@ impl Plain {
 
     fn set_slot(&mut self, id: u64, slot: Slot) -> Answer
         requires { IsSlotInRange slot }
-        ensures sets { SetsSlot id slot self.old self.new result (slot_refusal self.old.sizes.pages self.old.slots id slot) }
+        ensures sets { SetsSlot id slot self.old self.new result (set_refusal self.old.sizes.pages id slot self.old.slots) }
         ensures sizes { self.new.sizes ≡ self.old.sizes }
     {
         let Slot {
@@ -95,7 +97,7 @@ impl Plain {
 
     // The host page that the slots give the guest frame for this operation.
     fn page_behind(&self, gfn: u64, op: Op) -> Option<u64>
-        ensures { result ≡ page_behind self.now.slots gfn op }
+        ensures { result ≡ page_behind (flat_slots self.now.slots) gfn op }
     {
         let found = self.slots.slot_of(gfn)?;
         let slot = found.1.slot;

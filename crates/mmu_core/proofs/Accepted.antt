@@ -23,9 +23,9 @@ use Rattle.core_views.specs.Flat.{no_line}
 use Rattle.core_views.specs.Held.{Held}
 use Rattle.core_views.specs.Refusals.{set_refusal}
 use Rattle.core_views.specs.SlotSets.{MemorySlots, flat_slots}
-use Rattle.core_views.specs.Slots.{Slots, contains, has_host_page, share_guest_frames, share_host_pages, slot_refusal}
+use Rattle.core_views.specs.Slots.{Slots, contains, has_host_page, share_guest_frames, share_host_pages}
 use Rattle.core_views.specs.Traces.{IsCommandFor, or_slot_id, slot_ids}
-use Rattle.core_views.proofs.Sound.{Passes, passes, refuses_as_flat}
+use Rattle.core_views.proofs.Sound.{Passes, passes}
 use Rattle.spte_words.specs.declared.area.Area.TheVariants as area
 use Rattle.mmu_core.specs.Invariant.{Invariant, OwnLines, RecordPart}
 use Rattle.mmu_core.specs.SlotSetPart.{Fits}
@@ -33,6 +33,7 @@ use Rattle.part_steps.specs.SlotWords.{live_at, slot_at, slots_below}
 use Rattle.mmu_core.specs.Steps.{next_line}
 use Rattle.mmu_core.specs.View.{View}
 use Rattle.mmu_core.proofs.Columns.{same_or}
+use Rattle.mmu_core.proofs.SlotLists.{flat_below}
 use Rattle.mmu_core.proofs.Stepping.{IsStep, none_done}
 use Rattle.mmu_core.specs.LinesPart.{lines_done}
 use Rattle.mmu_core.specs.KnowsPart.{may_leave}
@@ -142,19 +143,16 @@ accepted_id total id slot slots e = (passes total id slot slots e).low
 pub record_of : (z : Sizes) (v : View) (a : ℕ) (line : Line) (id : ℕ) (slot : Slot) (p : SetSlotPlace) → IsStep z v a line (SetSlot id slot) (place.SetSlot p) → Invariant z v → RecordPart (v.words area.Pool) (v.words area.Slots 0) (v.hand a).slots
 record_of z v a line id slot p S I = I.recorded a S.there (sym S.own ∙ setting_is_managers z line.actor id slot S.allowed)
 
--- The record refuses as flat memory does.
-pub refused_alike : (z : Sizes) (v : View) (a : ℕ) (line : Line) (id : ℕ) (slot : Slot) (p : SetSlotPlace) → IsStep z v a line (SetSlot id slot) (place.SetSlot p) → Invariant z v
-    → slot_refusal z.pages (slots_below (v.words area.Pool) (v.words area.Slots 0) 32) id slot ≡ set_refusal z.pages id slot (v.hand a).slots
-refused_alike z v a line id slot p S I =
-    let R = record_of z v a line id slot p S I in
-    ap (λ (slots : Slots). slot_refusal z.pages slots id slot) (sym R.same) ∙ sym (refuses_as_flat z.pages id slot (v.hand a).slots R.unlogged)
+-- Without their dirty logs the slots of the record are those of the set.
+pub record_flat : (pool : ℕ → ℕ) (set : ℕ) (slots : MemorySlots) → RecordPart pool set slots → flat_slots slots ≡ slots_below pool set 32
+record_flat pool set slots R = ap flat_slots R.same ∙ flat_below pool set 32
 
 not_live_yet : (z : Sizes) (pool : ℕ → ℕ) (set i : ℕ) (h : Held) (id : ℕ) (slot : Slot) → OwnLines z i h → length h.answers < length h.lines → (next_line h).command ≡ SetSlot id slot → RecordPart pool set h.slots → id ≤ 31 → lines_done h ≡ length h.answers → live_at pool set id ≡ false
 not_live_yet z pool set i h id slot O left is R low done = case (live_at pool set id) refl
   where
     case : (b : Bool) → live_at pool set id ≡ b → live_at pool set id ≡ false
     case true live =
-        let listed : Contains (keys_of h.slots) id = subst (λ (ids : List ℕ). Contains ids id) (ap keys_of (sym R.same) ∙ same_keys h.slots) (live_is_listed pool set 32 id (omega (arith, low)) live) in
+        let listed : Contains (keys_of h.slots) id = subst (λ (ids : List ℕ). Contains ids id) (ap keys_of (sym (record_flat pool set h.slots R)) ∙ same_keys h.slots) (live_is_listed pool set 32 id (omega (arith, low)) live) in
         absurd (not_set_before (length h.answers) h.lines id slot left is O.distinct (All-contains (Contains (slot_ids (take (length h.answers) h.lines))) (keys_of h.slots) id (subst (λ n. All (Contains (slot_ids (take n h.lines))) (keys_of h.slots)) done O.answered) listed))
     case false e = e
 
@@ -164,5 +162,5 @@ may_be_set z v a line id slot p S I not_yet accepts =
     let h : Held = v.hand a in
     let R = record_of z v a line id slot p S I in
     let P = passes z.pages id slot h.slots accepts in
-    may_be z (v.words area.Pool) (v.words area.Slots 0) id slot (subst (Passes z.pages id slot) R.same P)
+    may_be z (v.words area.Pool) (v.words area.Slots 0) id slot (subst (Passes z.pages id slot) (record_flat (v.words area.Pool) (v.words area.Slots 0) h.slots R) P)
     (not_live_yet z (v.words area.Pool) (v.words area.Slots 0) a h id slot (I.lines a S.there) S.left (ap (λ (l : Line). l.command) (sym S.next) ∙ S.command_is) R P.low (none_done z v a line (SetSlot id slot) (place.SetSlot p) S not_yet))

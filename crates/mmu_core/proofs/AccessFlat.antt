@@ -1,6 +1,6 @@
 -- What the steps of an access owe flat memory.
 use Rattle.std.proofs.Common.{◌≡◌, ◌≢◌, ◌<◌, ◌⊎◌, inl, inr, ℕ, [], ◌∷◌, refl, sym, subst, ap, ◌∙◌, arith}
-use Rattle.std.specs.Prelude.{Bool, true, false, ◌&&◌, not, if◌then◌else◌, Option, Some, None}
+use Rattle.std.specs.Prelude.{Bool, true, false, ◌==◌, ◌&&◌, not, if◌then◌else◌, Option, Some, None}
 use Rattle.std.proofs.lemmas.Bool.Decides.{nat_tests}
 use Rattle.core_views.specs.declared.answer.Answer.TheVariants.{Reached}
 use Rattle.core_views.specs.declared.cache.Translation.{Translation}
@@ -18,12 +18,13 @@ use Rattle.core_views.specs.declared.trace.Line.{Line}
 use Rattle.core_views.specs.declared.trace.Op.{Op}
 use Rattle.core_views.specs.declared.trace.Op.TheVariants.{Read, Write, Add}
 use Rattle.core_views.specs.Events.{touched}
-use Rattle.core_views.specs.Flat.{Facts, LineUnderWay, Stage, Fresh}
+use Rattle.core_views.specs.Flat.{Facts, LineUnderWay, Stage}
 use Rattle.core_views.specs.Host.{HostMap, own_frames}
 use Rattle.core_views.specs.Lawful.{Tells}
 use Rattle.core_views.specs.Memory.{Memory, stored, with_word}
 use Rattle.core_views.specs.Names.{frame_at}
 use Rattle.core_views.specs.Slots.{is_write, page_behind}
+use Rattle.core_views.specs.SlotSets.{flat_slots}
 use Rattle.spte_words.specs.declared.area.Area.{Area}
 use Rattle.spte_words.specs.declared.area.Area.TheVariants as area
 use Rattle.spte_words.specs.declared.spte_kind.SpteKind.{SpteKind}
@@ -36,7 +37,7 @@ use Rattle.part_steps.specs.declared.part_step.PartStep.TheVariants as part
 use Rattle.mmu_core.specs.AccessSteps.{access_note, access_part, access_task, pause_next, task_by, touch_of, walk_next}
 use Rattle.mmu_core.specs.Cached.{first_usable}
 use Rattle.mmu_core.specs.FaultSteps.{allows_access}
-use Rattle.mmu_core.specs.FlatInvariant.{AccessUnder}
+use Rattle.mmu_core.specs.FlatInvariant.{AccessUnder, Runs}
 use Rattle.mmu_core.specs.Invariant.{Invariant, IsLeafFor}
 use Rattle.mmu_core.specs.KnowsPart.{AccessKnows}
 use Rattle.part_steps.specs.SlotWords.{page_of}
@@ -46,7 +47,7 @@ use Rattle.part_steps.specs.TopicSteps.{topics_after}
 use Rattle.mmu_core.specs.View.{View, answer_in, put, words_after}
 use Rattle.mmu_core.proofs.Columns.{same_or, upd_same, upd_other}
 use Rattle.mmu_core.proofs.FaultFlat.{fault_goes}
-use Rattle.mmu_core.proofs.FlatSteps.{Goes, Leaves, Ready, StepGoes, part_leaves, refines_stay}
+use Rattle.mmu_core.proofs.FlatSteps.{Goes, Leaves, Ready, StepGoes, part_leaves, refined_slots, refines_stay}
 use Rattle.mmu_core.proofs.PageFound.{frame_of_leaf, leaf_allows, page_in_machine, page_is_behind, word_in_page}
 use Rattle.mmu_core.proofs.PartStepping.{IsPart}
 use Rattle.mmu_core.proofs.Stepping.{IsStep}
@@ -58,17 +59,17 @@ IsPartOr z v a None = Unit {0}
 IsPartOr z v a (Some step) = IsPart z v a step
 
 -- Where a stay goes on, nothing is done yet.
-pause_under : (pool : ℕ → ℕ) (gfn : ℕ) (op : Op) (t : Topics) (u : LineUnderWay) (again : Bool) (found : Option Translation) → u.stage ≡ Fresh → AccessUnder pool (pause_next again found) gfn op t u
-pause_under pool gfn op t u again None fresh = fresh
-pause_under pool gfn op t u again (Some found) fresh = fresh
+pause_under : (pool : ℕ → ℕ) (gfn : ℕ) (op : Op) (t : Topics) (u : LineUnderWay) (again : Bool) (found : Option Translation) → Runs u → AccessUnder pool (pause_next again found) gfn op t u
+pause_under pool gfn op t u again None runs = runs
+pause_under pool gfn op t u again (Some found) runs = runs
 
-leaf_under : (pool : ℕ → ℕ) (gfn : ℕ) (op : Op) (t : Topics) (u : LineUnderWay) (allowed : Bool) → u.stage ≡ Fresh → AccessUnder pool (if allowed then Touch else Leave leaving.Faults) gfn op t u
-leaf_under pool gfn op t u true fresh = fresh
-leaf_under pool gfn op t u false fresh = fresh
+leaf_under : (pool : ℕ → ℕ) (gfn : ℕ) (op : Op) (t : Topics) (u : LineUnderWay) (allowed : Bool) → Runs u → AccessUnder pool (if allowed then Touch else Leave leaving.Faults) gfn op t u
+leaf_under pool gfn op t u true runs = runs
+leaf_under pool gfn op t u false runs = runs
 
-walk_under : (pool : ℕ → ℕ) (gfn : ℕ) (op : Op) (t : Topics) (u : LineUnderWay) (again : Bool) (k : SpteKind) (allowed : Bool) → u.stage ≡ Fresh → AccessUnder pool (walk_next again k allowed) gfn op t u
-walk_under pool gfn op t u again entry_kind.Leaf allowed fresh = leaf_under pool gfn op t u allowed fresh
-walk_under pool gfn op t u again _ allowed fresh = fresh
+walk_under : (pool : ℕ → ℕ) (gfn : ℕ) (op : Op) (t : Topics) (u : LineUnderWay) (again : Bool) (k : SpteKind) (allowed : Bool) → Runs u → AccessUnder pool (walk_next again k allowed) gfn op t u
+walk_under pool gfn op t u again entry_kind.Leaf allowed runs = leaf_under pool gfn op t u allowed runs
+walk_under pool gfn op t u again _ allowed runs = runs
 
 with_word_here : (page word x : ℕ) (memory : Memory) (p w : ℕ) → p ≡ page → w ≡ word → with_word page word x memory p w ≡ x
 with_word_here page word x memory p w e f = grind (arith, nat_tests)
@@ -110,7 +111,7 @@ record Touches (z : Sizes) (s : State) (gfn word : ℕ) (op : Op) (facts : Facts
   page_in : page < z.pages
   word_in : word < z.words
   frame : frame_in s.leaf ≡ page
-  behind_is : page_behind facts.slots gfn op ≡ Some page
+  behind_is : page_behind (flat_slots facts.slots) gfn op ≡ Some page
   index : content_index (map_of s.sizes) (frame_in s.leaf) word ≡ content_index (map_of z) page word
 
 touches : (z : Sizes) (v : View) (a : ℕ) (line : Line) (gfn word : ℕ) (op : Op) (facts : Facts) (u : LineUnderWay)
@@ -128,22 +129,23 @@ touches z v a line gfn word op facts u S I K R =
       page_in = page_in;
       word_in = word_in_page z line.actor gfn word op S.allowed;
       frame = frame;
-      behind_is = page_is_behind z (v.words area.Slots 0) (v.words area.Role) (v.words area.Pool) F.id gfn F.slot op facts.slots I.set_part F.live F.holds allowed R.refines.slots;
+      behind_is = page_is_behind z (v.words area.Slots 0) (v.words area.Role) (v.words area.Pool) F.id gfn F.slot op (flat_slots facts.slots) I.set_part F.live F.holds allowed (refined_slots z (v.words area.Slots 0) (v.words area.Pool) (v.words area.Content) (v.words area.Pause 0) facts R.refines);
       index = rw ((I.lines a S.there).sizes, frame) refl;
     }
 
 touch_goes : (z : Sizes) (v : View) (a : ℕ) (line : Line) (gfn word : ℕ) (op : Op) (facts : Facts) (u : LineUnderWay) (after : Area → ℕ → ℕ) (t : Topics)
     → IsStep z v a line (Access gfn word op) (place.Access Touch) → Ready z v line (Access gfn word op) (place.Access Touch) (v.hand a).topics facts u → (T : Touches z (v.hand a).state gfn word op facts)
-    → after area.Slots ≡ v.words area.Slots → after area.Pool ≡ v.words area.Pool
+    → after area.Slots ≡ v.words area.Slots → after area.Pool ≡ v.words area.Pool → after area.Pause ≡ v.words area.Pause
     → after area.Content (content_index (map_of (v.hand a).state.sizes) (frame_in (v.hand a).state.leaf) word) ≡ stored op (v.words area.Content (content_index (map_of (v.hand a).state.sizes) (frame_in (v.hand a).state.leaf) word))
     → ((i : ℕ) → i ≢ content_index (map_of (v.hand a).state.sizes) (frame_in (v.hand a).state.leaf) word → after area.Content i ≡ v.words area.Content i)
     → let x : ℕ = v.words area.Content (content_index (map_of (v.hand a).state.sizes) (frame_in (v.hand a).state.leaf) word) in
     Goes z (v.hand a).state.actor line (Access gfn word op) after (place.Access (Leave (leaving.Reached (frame_in (v.hand a).state.leaf) x))) t (Accessed gfn word op (frame_in (v.hand a).state.leaf) x ∷ []) facts u
-touch_goes z v a line gfn word op facts u after t S R T slots_is pool_is here there = record {
+touch_goes z v a line gfn word op facts u after t S R T slots_is pool_is pause_is here there = record {
   allowed = (
     (
-      R.under.1,
+      R.under.1.0,
       ap (λ (l : Line). l.command) R.under.0 ∙ S.command_is,
+      R.under.1.1,
       record {
         named = ap (frame_at facts.host op) T.behind_is ∙ ap (λ (host : HostMap). frame_at host op (Some T.page)) R.refines.host ∙ frame_named op T.page ∙ ap Some (sym T.frame);
         page = T.page;
@@ -158,6 +160,7 @@ touch_goes z v a line gfn word op facts u after t S R T slots_is pool_is here th
     host = R.refines.host;
     memory = subst (λ page. (p j : ℕ) → p < z.pages → j < z.words → touched page word op facts.memory p j ≡ after area.Content (content_index (map_of z) p j)) (sym T.behind_is)
         (memory_behind z T.page word op facts.memory (v.words area.Content) (after area.Content) T.page_in T.word_in R.refines.memory (rw T.index at here) (rw T.index at there));
+    paused = R.refines.paused ∙ ap (λ (g : ℕ → ℕ). not (g 0 == 0)) (sym pause_is);
   };
   under = (R.under.0, refl);
 }
@@ -183,13 +186,13 @@ module _ (z : Sizes) (v : View) (a : ℕ) (line : Line) (gfn word : ℕ) (facts 
   held_behind op p = topics_after (v.hand a).state.sizes (kind_of_task (v.hand a).state.sizes (access_task p (v.hand a) gfn word op)) (v.hand a).topics (answered op p)
 
   touch_owes : (op : Op) → Owes op Touch
-  touch_owes Read S I P part_ K R = touch_goes z v a line gfn word Read facts u v.words (held_behind Read Touch) S R (touches z v a line gfn word Read facts u S I K R) refl refl refl (λ i apart. refl)
+  touch_owes Read S I P part_ K R = touch_goes z v a line gfn word Read facts u v.words (held_behind Read Touch) S R (touches z v a line gfn word Read facts u S I K R) refl refl refl refl (λ i apart. refl)
   touch_owes (Write x) S I P part_ K R =
-      touch_goes z v a line gfn word (Write x) facts u (put v.words area.Content (touched_index (v.hand a).state word) x) (held_behind (Write x) Touch) S R (touches z v a line gfn word (Write x) facts u S I K R) refl refl
+      touch_goes z v a line gfn word (Write x) facts u (put v.words area.Content (touched_index (v.hand a).state word) x) (held_behind (Write x) Touch) S R (touches z v a line gfn word (Write x) facts u S I K R) refl refl refl
       (upd_same (v.words area.Content) (touched_index (v.hand a).state word) x) (λ i apart. upd_other (v.words area.Content) (touched_index (v.hand a).state word) i x apart)
   touch_owes (Add x) S I P part_ K R =
       let sum : ℕ = stored (Add x) (v.words area.Content (touched_index (v.hand a).state word)) in
-      touch_goes z v a line gfn word (Add x) facts u (put v.words area.Content (touched_index (v.hand a).state word) sum) (held_behind (Add x) Touch) S R (touches z v a line gfn word (Add x) facts u S I K R) refl refl
+      touch_goes z v a line gfn word (Add x) facts u (put v.words area.Content (touched_index (v.hand a).state word) sum) (held_behind (Add x) Touch) S R (touches z v a line gfn word (Add x) facts u S I K R) refl refl refl
       (upd_same (v.words area.Content) (touched_index (v.hand a).state word) sum) (λ i apart. upd_other (v.words area.Content) (touched_index (v.hand a).state word) i sum apart)
 
   -- A step of a stay that tells nothing.
@@ -212,11 +215,22 @@ module _ (z : Sizes) (v : View) (a : ℕ) (line : Line) (gfn word : ℕ) (facts 
       L : Leaves v.words (words_behind op (Leave (leaving.Reached frame value)))
       L = part_leaves z v a part.Leave 1 part_ P refl
 
+  -- The line looks at the pause, which isn't set.
+  looks_at_pause : (op : Op) (again : Bool) → IsPart z v a part.Pause → TopicsInvariant z v → Ready z v line (Access gfn word op) (place.Access (Pause again)) (v.hand a).topics facts u
+      → StepGoes z v a line (Access gfn word op) (place.Access (Pause again)) facts u
+  looks_at_pause op again S P R = record {
+    allowed = (R.under.1, tt);
+    refines = refines_stay z v.words (words_behind op (Pause again)) facts (part_leaves z v a part.Pause 0 S P refl) R.refines;
+    under = (
+      R.under.0,
+      pause_under (words_behind op (Pause again) area.Pool) gfn op (held_behind op (Pause again)) (record u { notes = record u.notes { paused = Some facts.paused } }) again
+          (first_usable gfn (is_write op) (v.hand a).cached.items) (R.under.1, ap Some R.runs),
+    );
+  }
+
   pub access_goes : (op : Op) (p : AccessPlace) → Owes op p
   access_goes op (Enter again) S I P part_ K R = quiet op (Enter again) (Pause again) part.Enter refl part_ I P R R.under
-  access_goes op (Pause again) S I P part_ K R =
-      let found : Option Translation = first_usable gfn (is_write op) (v.hand a).cached.items in
-      quiet op (Pause again) (pause_next again found) part.Pause refl part_ I P R (R.under.0, pause_under (words_behind op (Pause again) area.Pool) gfn op (held_behind op (Pause again)) u again found R.under.1)
+  access_goes op (Pause again) S I P part_ K R = looks_at_pause op again part_ P R
   access_goes op (Root again) S I P part_ K R = quiet op (Root again) (Walk again) part.Root refl part_ I P R R.under
   access_goes op (Walk again) S I P part_ K R =
       let k : SpteKind = kind_of (v.hand a).topics.walk.level (answered op (Walk again)) in

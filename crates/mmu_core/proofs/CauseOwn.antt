@@ -1,6 +1,7 @@
 -- What a fault has seen at each of its places it has seen behind its own step.
 use Rattle.std.proofs.Common.{◌≡◌, ◌≢◌, inl, inr, ◌<◌, ◌≤◌, ℕ, List, [], ◌∷◌, ◌++◌, refl, sym, subst, ap, ◌∙◌, arith}
 use Rattle.std.specs.Prelude.{Bool, true, false, ◌==◌, ◌&&◌, nat_le, nat_lt, not, if◌then◌else◌, Some, slice_index}
+use Rattle.std.proofs.lemmas.Bool.{eqb-false}
 use Rattle.std.proofs.lemmas.Bool.Decides.{nat_tests}
 use Rattle.core_views.specs.declared.kind.Kind.{Kind}
 use Rattle.core_views.specs.declared.kind.StepKind.TheVariants as kind
@@ -156,7 +157,7 @@ module _ (z : Sizes) (w : World Held) (ss : List (Step Kind)) (s : Step Kind) (G
   seq_saw : (gfn : ℕ) (b : Bool) → (v == snapshot_taken t.invalidations.snapshot) ≡ b → Made part.Seq → SeqIs (snapshot_taken t.invalidations.snapshot) ss u
       → FaultSaw z a w (if b then Walk false else Unshare (Retry (Moved (snapshot_taken t.invalidations.snapshot) v))) gfn (part_topics part.Seq t v) more behind
   seq_saw gfn true is M K = tt
-  seq_saw gfn false is M K = saw part.Seq _ (snapshot_taken t.invalidations.snapshot) M tt (word_on z u s G may part.Seq M) (load_finds z u s G may part.Seq M tt) K (λ e. grind (arith, nat_tests))
+  seq_saw gfn false is M K = saw part.Seq _ (snapshot_taken t.invalidations.snapshot) M tt (word_on z u s G may part.Seq M) (load_finds z u s G may part.Seq M tt) K (eqb-false v (snapshot_taken t.invalidations.snapshot) is)
 
   check_saw : (stage_ : CheckStage) (gfn : ℕ) → Made (check_part stage_) → CheckKnows stage_ gfn t.invalidations → FaultSaw z a w (Check stage_) gfn t ss u
       → FaultSaw z a w (check_next stage_ gfn t v) gfn (part_topics (check_part stage_) t v) more behind
@@ -237,7 +238,7 @@ module _ (z : Sizes) (w : World Held) (ss : List (Step Kind)) (s : Step Kind) (G
   -- A lost exchange saw that the entry was changed.
   swap_saw : (gfn : ℕ) (step : PartStep) (M : Made step) → IsAmid step → IsExchange step → s.kind.word ≡ entry_word z gfn t.walk → EntryIs gfn t.walk.entry ss u → (v == t.walk.entry) ≡ false
       → IsCaused (Entry (entry_word z gfn t.walk) t.walk.entry v) z a gfn w more
-  swap_saw gfn step M is ex here K lost = saw step (entry_word z gfn t.walk) t.walk.entry M is here (exchange_finds z u s G may step M ex) K (λ e. grind (arith, nat_tests))
+  swap_saw gfn step M is ex here K lost = saw step (entry_word z gfn t.walk) t.walk.entry M is here (exchange_finds z u s G may step M ex) K (eqb-false v t.walk.entry lost)
 
   link_saw : (gfn : ℕ) (b : Bool) (t_ : Topics) → (v == t.walk.entry) ≡ b → Made (part.Link gfn) → EntryIs gfn t.walk.entry ss u
       → FaultSaw z a w (if b then Walk true else Give (Retry (Entry (entry_word z gfn t.walk) t.walk.entry v))) gfn t_ more behind

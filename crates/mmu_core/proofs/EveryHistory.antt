@@ -1,6 +1,6 @@
 -- What every list of steps tells is lawful.
 use Rattle.std.proofs.Common.{◌≡◌, ◌⊎◌, inl, inr, ◌<◌, ℕ, List, [], ◌∷◌, ◌++◌, refl, sym, subst, ap, ◌∙◌}
-use Rattle.std.specs.Prelude.{false, Option, Some, None}
+use Rattle.std.specs.Prelude.{◌==◌, false, not, Option, Some, None}
 use Rattle.core_views.specs.declared.event.Event.{Event}
 use Rattle.core_views.specs.declared.kind.Kind.{Kind}
 use Rattle.core_views.specs.declared.place.Place.{Place}
@@ -27,6 +27,7 @@ use Rattle.mmu_core.specs.Laws.{IsSound}
 use Rattle.mmu_core.specs.Machine.{Legal, Step, World, answered, effect, hand_in, run}
 use Rattle.part_steps.specs.PartSteps.{own_index, part_task}
 use Rattle.mmu_core.specs.Steps.{events_of, has_line, idle_after, line_at, place_at}
+use Rattle.part_steps.specs.SlotWords.{live_at, memory_slot_at}
 use Rattle.part_steps.specs.Tasks.{kind_of_task}
 use Rattle.mmu_core.specs.TopicsInvariant.{TopicsInvariant}
 use Rattle.mmu_core.specs.View.{View, answer_in, part_stepped, view, word_in, words_after}
@@ -120,7 +121,7 @@ run_flat z w f (s ∷ ss) G F legal = by (takes z w s G legal.0) (λ es F. run_f
         let es : List Event = told_events (view z w) s.actor (line_at h.state.place h) (line_at h.state.place h).command (place_at h.state.place h) in
         let is : events_of h (answered mmu w s.kind) ≡ es = ap (events_of h) T.answers ∙ sym (told_is_events z (view z w) s.actor (line_at h.state.place h) (place_at h.state.place h) T.is_step) in
         let K = flat_kept z (view z w) f s.actor (line_at h.state.place h) (line_at h.state.place h).command (place_at h.state.place h) T.is_step G.holds G.topics (part_of z (view z w) s.actor (line_at h.state.place h) (line_at h.state.place h).command (place_at h.state.place h) (view_small z w G.small) T.is_step G.holds G.topics)
-        (step_knows z (view z w) s.actor (line_at h.state.place h) (line_at h.state.place h).command (place_at h.state.place h) T.is_step G.holds) F in
+        (step_knows z (view z w) s.actor (line_at h.state.place h) (line_at h.state.place h).command (place_at h.state.place h) T.is_step G.holds) G.no_pause F in
         let then_ = more es (subst (λ (v : View). FlatInvariant z v (after_all es f)) (sym T.leads) K.1) in
         subst Tells (sym is) (stays_flat z (run mmu (effect mmu w s) ss) f es (history (effect mmu w s) ss) K.0 then_)
     by (inr T) more =
@@ -131,9 +132,10 @@ run_flat z w f (s ∷ ss) G F legal = by (takes z w s G legal.0) (λ es F. run_f
 start_flat : (z : Sizes) (lines : List Line) (w : World Held) → IsStart z lines w → FlatInvariant z (view z w) first_flat
 start_flat z lines w start = record {
   refines = record {
-    slots = sym (none_below (word_in z w area.Pool) (word_in z w area.Slots 0) 32 (λ id low. none_live z w (word_in z w area.Slots 0) id start.words));
+    slots = sym (none_below (live_at (word_in z w area.Pool) (word_in z w area.Slots 0)) (memory_slot_at (word_in z w area.Pool) (word_in z w area.Slots 0)) 32 (λ id low. none_live z w (word_in z w area.Slots 0) id start.words));
     host = refl;
     memory = λ p j lt below. sym (word_at_start z w area.Content _ 0 start.words (λ l. refl) (λ e. refl));
+    paused = ap (λ n. not (n == 0)) (sym (word_at_start z w area.Pause 0 0 start.words (λ l. refl) (λ e. refl)));
   };
   under = λ i lt. subst (λ (h : Held). UnderIs (word_in z w area.Pool) h.state.place h.state.line.command h (first_flat.under h.state.actor)) (sym (hand_is z lines w i start lt)) refl;
 }

@@ -22,6 +22,7 @@ use Rattle.core_views.specs.declared.trace.Command.TheVariants.{Access}
 use Rattle.core_views.specs.declared.trace.Line.{Line}
 use Rattle.core_views.specs.declared.trace.Op.{Op}
 use Rattle.core_views.specs.Flat.{Facts, LineUnderWay, Notes}
+use Rattle.core_views.specs.Host.{with_entry}
 use Rattle.core_views.specs.Lawful.{MayLeave}
 use Rattle.core_views.specs.Slots.{is_write}
 use Rattle.spte_words.specs.declared.area.Area.{Area}
@@ -42,7 +43,7 @@ use Rattle.part_steps.specs.Tasks.{kind_of_task}
 use Rattle.mmu_core.specs.TopicsInvariant.{TopicsInvariant}
 use Rattle.mmu_core.specs.View.{View, answer_in, words_after}
 use Rattle.mmu_core.proofs.FindFlat.{find_noted}
-use Rattle.mmu_core.proofs.FlatSteps.{Goes, Ready, StepGoes, part_leaves, refines_stay}
+use Rattle.mmu_core.proofs.FlatSteps.{Goes, Ready, StepGoes, part_leaves, refined_slots, refines_stay}
 use Rattle.mmu_core.proofs.PageFound.{host_writable}
 use Rattle.mmu_core.proofs.PartStepping.{IsPart}
 use Rattle.mmu_core.proofs.PartTopics.{part_topics_is}
@@ -120,9 +121,9 @@ module _ (z : Sizes) (v : View) (a : ℕ) (line : Line) (gfn word : ℕ) (op : O
   -- The line looks at the slots: those of the published set, which its search holds now, and none of them is passed yet.
   looks : FaultKnows (Find false) (v.hand a).state.sizes gfn (is_write op) held → Ready z v line (Access gfn word op) (place.Access (Fault (Find false))) held facts u → StepGoes z v a line (Access gfn word op) (place.Access (Fault (Find false))) facts u
   looks K R = record {
-    allowed = (R.under.1.0, tt);
+    allowed = (R.under.1.0.0, tt);
     refines = R.refines;
-    under = (R.under.0, (R.under.1.0, record { set = v.words area.Slots 0; held = set_is; noted = ap Some R.refines.slots; passed = λ k d lt low. absurd (omega (arith, first, low)) }));
+    under = (R.under.0, (R.under.1.0, record { set = v.words area.Slots 0; held = set_is; noted = ap Some (refined_slots z (v.words area.Slots 0) (v.words area.Pool) (v.words area.Content) (v.words area.Pause 0) facts R.refines); passed = λ k d lt low. absurd (omega (arith, first, low)) }));
   }
     where
       behind : (held_behind (Find false)).search ≡ at_set (may_search held.stay held.hold) held.search (v.words area.Slots 0)
@@ -143,7 +144,7 @@ module _ (z : Sizes) (v : View) (a : ℕ) (line : Line) (gfn word : ℕ) (op : O
   searches S part_ I P K R =
       quiet (Find true) (find_next gfn (is_write op) held.search.next (searched held.search (answered (Find true)))) part_ I P R
       (find_noted z (v.words area.Slots 0) (v.words area.Role) (v.words area.Pool) gfn (answered (Find true)) op held.search.next held.search (held_behind (Find true)) u.notes I.set_part
-      (λ k is. set_live z v a k S.there P is) (P.searches a S.there).loaded (K.1 refl).1 refl search R.under.1.1)
+      (λ k is. set_live z v a k S.there P is) (P.searches a S.there).loaded (K.1 refl).1 refl search R.under.1.0.1 R.under.1.1)
     where
       search : (held_behind (Find true)).search ≡ searched held.search (answered (Find true))
       search =
@@ -154,13 +155,13 @@ module _ (z : Sizes) (v : View) (a : ℕ) (line : Line) (gfn word : ℕ) (op : O
   looks_at_host : IsPart z v a (part.Host (page_of held.search.slot gfn)) → Invariant z v → Ready z v line (Access gfn word op) (place.Access (Fault Host)) held facts u
       → StepGoes z v a line (Access gfn word op) (place.Access (Fault Host)) facts u
   looks_at_host S I R = record {
-    allowed = (R.under.1.0, tt);
+    allowed = (R.under.1.0.0, tt);
     refines = R.refines;
     under = (
       R.under.0,
       (
         R.under.1.0,
-        host_noted (v.words area.Pool) gfn op (held_behind Host) (record u.notes { host = Some (page_of held.search.slot gfn, facts.host (page_of held.search.slot gfn)) }) (is_write op) (answered Host)
+        host_noted (v.words area.Pool) gfn op (held_behind Host) (record u.notes { host = with_entry (page_of held.search.slot gfn) (facts.host (page_of held.search.slot gfn)) u.notes.host }) (is_write op) (answered Host)
             (host_writable z (v.words area.Host) (page_of held.search.slot gfn) I.hosts (subst (λ (y : Sizes). page_of held.search.slot gfn < y.pages) S.sizes S.needs)),
       ),
     );
@@ -168,12 +169,12 @@ module _ (z : Sizes) (v : View) (a : ℕ) (line : Line) (gfn word : ℕ) (op : O
 
   -- The line leaves the guest with what its fault ends with.
   leaves_with : (how : Answer) → line.command ≡ Access gfn word op → IsPart z v a part.End → Invariant z v → TopicsInvariant z v → (e : FaultEnd) → Ready z v line (Access gfn word op) (place.Access (Fault (End e))) held facts u
-      → MayLeave (Access gfn word op) u.notes how
+      → MayLeave z facts (Access gfn word op) u.notes how
       → Goes z (v.hand a).state.actor line (Access gfn word op) (words_behind (End e)) place.Between (held_behind (End e)) (Exited how ∷ Answered line.number how ∷ []) facts u
   leaves_with how is S I P e R may =
       let L = part_leaves z v a part.End (access_note (Fault (End e))) S P refl in
       record {
-        allowed = ((R.under.1.0, subst (λ c. MayLeave c u.notes how) (sym (ap (λ (l : Line). l.command) R.under.0 ∙ is)) may), ((ap (λ (l : Line). l.number) (sym R.under.0), refl), tt));
+        allowed = ((R.under.1.0.0, subst (λ c. MayLeave z facts c u.notes how) (sym (ap (λ (l : Line). l.command) R.under.0 ∙ is)) may), ((ap (λ (l : Line). l.number) (sym R.under.0), refl), tt));
         refines = refines_stay z v.words (words_behind (End e)) facts L R.refines;
         under = refl;
       }
@@ -186,7 +187,7 @@ module _ (z : Sizes) (v : View) (a : ℕ) (line : Line) (gfn word : ℕ) (op : O
       record {
         allowed = tt;
         refines = refines_stay z v.words (words_behind (End e)) facts L R.refines;
-        under = (R.under.0, R.under.1.0);
+        under = (R.under.0, R.under.1.0.0);
       }
 
   ends : (e : FaultEnd) → line.command ≡ Access gfn word op → IsPart z v a part.End → Invariant z v → TopicsInvariant z v → Ready z v line (Access gfn word op) (place.Access (Fault (End e))) held facts u
@@ -194,7 +195,7 @@ module _ (z : Sizes) (v : View) (a : ℕ) (line : Line) (gfn word : ℕ) (op : O
   ends Installed is S I P R = goes_back true Installed S I P R
   ends Mmio is S I P R = leaves_with answer.Mmio is S I P Mmio R R.under.1.1
   ends HostFault is S I P R = leaves_with answer.HostFault is S I P HostFault R R.under.1.1
-  ends Starved is S I P R = leaves_with answer.Starved is S I P Starved R tt
+  ends Starved is S I P R = leaves_with answer.Starved is S I P Starved R refl
   ends (Retry cause) is S I P R = goes_back false (Retry cause) S I P R
 
   pub fault_goes : (p : FaultPlace) → IsStep z v a line (Access gfn word op) (place.Access (Fault p)) → IsPart z v a (fault_part p gfn held) → Invariant z v → TopicsInvariant z v

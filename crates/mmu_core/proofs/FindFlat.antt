@@ -26,8 +26,9 @@ use Rattle.mmu_core.proofs.SlotLists.{each_is_live, no_page_behind}
 use Rattle.mmu_core.proofs.LiveStay.{StayLive}
 use Rattle.part_steps.specs.PartSteps.{set_held}
 
--- What is noted are the slots of the slot set in this page, and those with IDs below this one don't hold the guest frame.
+-- No pause was seen, what is noted are the slots of the slot set in this page, and those with IDs below this one don't hold the guest frame.
 record NotedTo (pool : ℕ → ℕ) (notes : Notes) (k id gfn : ℕ) : Type 0 where
+  runs : notes.paused ≡ Some false
   noted : notes.slots ≡ Some (slots_below pool k 32)
   passed : All (λ e. e.0 < id → contains gfn e.1 ≡ false) (slots_below pool k 32)
 
@@ -43,7 +44,7 @@ listed : (pool : ℕ → ℕ) (k : ℕ) → All (λ e. IsLiveIn pool k e.0 e.1) 
 listed pool k = each_is_live pool k 32 (omega arith)
 
 passing : (pool : ℕ → ℕ) (notes : Notes) (k id gfn : ℕ) → NotedTo pool notes k id gfn → ((slot : SlotOf) → IsLiveIn pool k id slot → contains gfn slot ≡ false) → NotedTo pool notes k (id + 1) gfn
-passing pool notes k id gfn N here = record { noted = N.noted; passed = λ n d lt. passes_one pool k gfn id _ here (listed pool k n d lt) (N.passed n d lt) }
+passing pool notes k id gfn N here = record { runs = N.runs; noted = N.noted; passed = λ n d lt. passes_one pool k gfn id _ here (listed pool k n d lt) (N.passed n d lt) }
 
 -- Behind the last slot no slot gives the guest frame a page.
 beyond : (pool : ℕ → ℕ) (k gfn id : ℕ) (op : Op) (e : ℕ × SlotOf) → id ≡ 32 → IsLiveIn pool k e.0 e.1 → (e.0 < id → contains gfn e.1 ≡ false) → contains gfn e.1 ≡ true → (is_write op && e.1.read_only) ≡ true
@@ -54,7 +55,7 @@ goes_on : (pool : ℕ → ℕ) (k gfn id : ℕ) (op : Op) (t : Topics) (notes : 
 goes_on pool k gfn id op t notes held is N = case (id == 32) (Decides-eqb id 32).0
   where
     case : (last : Bool) → (last ≡ true → id ≡ 32) → NotedAt pool (if last then End Mmio else Find true) gfn op t notes
-    case true last = record { slots = slots_below pool k 32; noted = N.noted; none = no_page_behind (slots_below pool k 32) gfn op (λ n d lt. beyond pool k gfn id op _ (last refl) (listed pool k n d lt) (N.passed n d lt)) }
+    case true last = record { runs = N.runs; slots = slots_below pool k 32; noted = N.noted; none = no_page_behind (slots_below pool k 32) gfn op (λ n d lt. beyond pool k gfn id op _ (last refl) (listed pool k n d lt) (N.passed n d lt)) }
     case false last = record { set = k; held = held; noted = N.noted; passed = subst (λ i. All (λ (e : ℕ × SlotOf). e.0 < i → contains gfn e.1 ≡ false) (slots_below pool k 32)) (sym is) N.passed }
 
 -- The flags are loaded: a slot that isn't live is passed.
@@ -97,7 +98,7 @@ whole_noted z set k role pool gfn x op s t notes P live loaded low held search N
 
     case : (holds denied : Bool) → contains gfn slot ≡ holds → (is_write op && s.slot.read_only) ≡ denied
         → NotedAt pool (if holds then (if denied then End Mmio else Host) else (if s.id + 1 == 32 then End Mmio else Find true)) gfn op t notes
-    case true true holds denied = record { slots = slots_below pool k 32; noted = N.noted; none = no_page_behind (slots_below pool k 32) gfn op (λ n d lt. denied_to _ holds (listed pool k n d lt) denied) }
+    case true true holds denied = record { runs = N.runs; slots = slots_below pool k 32; noted = N.noted; none = no_page_behind (slots_below pool k 32) gfn op (λ n d lt. denied_to _ holds (listed pool k n d lt) denied) }
     case true false holds denied = tt
     case false denied holds _ = goes_on pool k gfn (s.id + 1) op t notes held search (passing pool notes k s.id gfn N (λ r l. ap (contains gfn) (sym l.is) ∙ sym same_frames ∙ holds))
 
@@ -111,7 +112,7 @@ word_noted z set k role pool gfn x op field.Host s t notes P live held loaded lo
 word_noted z set k role pool gfn x op _ s t notes P live held loaded low is search N = goes_on pool k gfn s.id op t notes (ap (λ (r : SlotSearch). r.set) search ∙ held) (ap (λ (r : SlotSearch). r.id) search) N
 
 pub find_noted : (z : Sizes) (set : ℕ) (role pool : ℕ → ℕ) (gfn x : ℕ) (op : Op) (f : SlotField) (s : SlotSearch) (t : Topics) (notes : Notes) → SlotSetPart z set role pool → ((k : ℕ) → s.set ≡ Some k → StayLive pool k pool set)
-    → ((k : ℕ) → s.set ≡ Some k → HasLoaded f pool k s) → s.id ≤ 31 → x ≡ pool (slot_index (set_held s.set) s.id f) → t.search ≡ searched_at f s x → NotedSlots pool notes s gfn
+    → ((k : ℕ) → s.set ≡ Some k → HasLoaded f pool k s) → s.id ≤ 31 → x ≡ pool (slot_index (set_held s.set) s.id f) → t.search ≡ searched_at f s x → notes.paused ≡ Some false → NotedSlots pool notes s gfn
     → NotedAt pool (find_next gfn (is_write op) f (searched_at f s x)) gfn op t notes
-find_noted z set role pool gfn x op f s t notes P live loaded low is search N =
-    word_noted z set N.set role pool gfn x op f s t notes P (live N.set N.held) N.held (loaded N.set N.held) low (is ∙ ap (λ o. pool (slot_index (set_held o) s.id f)) N.held) search (record { noted = N.noted; passed = N.passed })
+find_noted z set role pool gfn x op f s t notes P live loaded low is search runs N =
+    word_noted z set N.set role pool gfn x op f s t notes P (live N.set N.held) N.held (loaded N.set N.held) low (is ∙ ap (λ o. pool (slot_index (set_held o) s.id f)) N.held) search (record { runs = runs; noted = N.noted; passed = N.passed })

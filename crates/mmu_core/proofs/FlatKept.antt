@@ -1,6 +1,6 @@
 -- Each step tells lawful events, and the words and hands are flat guest memory behind it.
 use Rattle.std.proofs.Common.{◌≡◌, ◌≢◌, ◌+◌, ◌<◌, ℕ, List, [], ◌∷◌, ◌++◌, refl, sym, subst, ap, ◌∙◌}
-use Rattle.std.specs.Prelude.{Bool, true, false, Option, Some, None}
+use Rattle.std.specs.Prelude.{◌==◌, not, Bool, true, false, Option, Some, None}
 use Rattle.std.proofs.lemmas.Bool.Decides.{Decides-eqb}
 use Rattle.core_views.specs.declared.actor.Actor.{Actor}
 use Rattle.core_views.specs.declared.actor.Actor.TheVariants as actor
@@ -111,7 +111,7 @@ meets_begun : (z : Sizes) (v : View) (f : Flat) (a : ℕ) (line : Line) (command
 meets_begun z v f a line command p S I P part K R others = (
   told_lawful z s.actor kinds f G.allowed,
   record {
-    refines = subst (Refines z (words area.Slots 0) (words area.Pool) (words area.Content)) (sym (told_facts s.actor kinds f)) G.refines;
+    refines = subst (Refines z (words area.Slots 0) (words area.Pool) (words area.Content) (words area.Pause 0)) (sym (told_facts s.actor kinds f)) G.refines;
     under = at_upd (λ i (h : Held). i < actors_of z → UnderIs (words area.Pool) h.state.place h.state.line.command h (behind.under h.state.actor)) v.hand a then_
         (λ a_in. here) (λ i apart i_in. there i i_in apart);
   },
@@ -160,9 +160,14 @@ first_at pool z slots line (SetSlot id slot) t u fresh is = (is, first_set (set_
     first_set None = fresh
     first_set (Some refusal) = fresh
 
-ready_first : (z : Sizes) (v : View) (f : Flat) (a : ℕ) (line : Line) (command : Command) (p : Place) → IsStep z v a line command p → FlatInvariant z v f → (v.hand a).state.place ≡ place.Between
+-- Where the pause's word is 0 nothing is paused.
+not_paused : (z : Sizes) (v : View) (f : Flat) → FlatInvariant z v f → v.words area.Pause 0 ≡ 0 → f.facts.paused ≡ false
+not_paused z v f F no_pause = F.refines.paused ∙ ap (λ n. not (n == 0)) no_pause
+
+ready_first : (z : Sizes) (v : View) (f : Flat) (a : ℕ) (line : Line) (command : Command) (p : Place) → IsStep z v a line command p → FlatInvariant z v f → v.words area.Pause 0 ≡ 0 → (v.hand a).state.place ≡ place.Between
     → let begun : Flat = after (record { actor = (v.hand a).state.actor; kind = Begun line }) f in Ready z v line command p (v.hand a).topics begun.facts (begun.under (v.hand a).state.actor)
-ready_first z v f a line command p S F e = record {
+ready_first z v f a line command p S F no_pause e = record {
+  runs = not_paused z v f F no_pause;
   refines = F.refines;
   under = subst (λ q. UnderAt (v.words area.Pool) q line command h.topics now_) first_is
       (first_at (v.words area.Pool) h.state.sizes h.slots line command h.topics now_ (ap (λ (u : LineUnderWay). u.stage) begun) (ap (λ (u : LineUnderWay). u.line) begun));
@@ -192,9 +197,10 @@ line_under : (q : Place) (h : Held) → IsUnderWay q → line_at q h ≡ h.state
 line_under place.Between h under = absurd under
 line_under _ h under = refl
 
-ready_on : (z : Sizes) (v : View) (f : Flat) (a : ℕ) (line : Line) (command : Command) (p : Place) → IsStep z v a line command p → FlatInvariant z v f → IsUnderWay (v.hand a).state.place
+ready_on : (z : Sizes) (v : View) (f : Flat) (a : ℕ) (line : Line) (command : Command) (p : Place) → IsStep z v a line command p → FlatInvariant z v f → v.words area.Pause 0 ≡ 0 → IsUnderWay (v.hand a).state.place
     → Ready z v line command p (v.hand a).topics f.facts (f.under (v.hand a).state.actor)
-ready_on z v f a line command p S F stands = record {
+ready_on z v f a line command p S F no_pause stands = record {
+  runs = not_paused z v f F no_pause;
   refines = F.refines;
   under = subst (λ q. UnderAt (v.words area.Pool) q line command h.topics u) place_is
       (subst (λ c. UnderAt (v.words area.Pool) h.state.place line c h.topics u) (ap (λ (l : Line). l.command) (sym line_is) ∙ S.command_is)
@@ -215,9 +221,9 @@ ready_on z v f a line command p S F stands = record {
     place_is = sym (stands_under h.state.place h.state.sizes h.slots (line_at h.state.place h).command stands) ∙ S.place_is
 
 pub flat_kept : (z : Sizes) (v : View) (f : Flat) (a : ℕ) (line : Line) (command : Command) (p : Place)
-    → IsStep z v a line command p → Invariant z v → TopicsInvariant z v → PartOf z v a command p → KnowsPart p command (v.hand a) → FlatInvariant z v f
+    → IsStep z v a line command p → Invariant z v → TopicsInvariant z v → PartOf z v a command p → KnowsPart p command (v.hand a) → v.words area.Pause 0 ≡ 0 → FlatInvariant z v f
     → IsLawful z f (told_events v a line command p) × FlatInvariant z (stepped a line command p v) (after_all (told_events v a line command p) f)
-flat_kept z v f a line command p S I P part K F = case (v.hand a).state.place refl
+flat_kept z v f a line command p S I P part K no_pause F = case (v.hand a).state.place refl
   where
     actor : Actor
     actor = (v.hand a).state.actor
@@ -231,12 +237,12 @@ flat_kept z v f a line command p S I P part K F = case (v.hand a).state.place re
         (sym (told_others actor (v.hand i).state.actor (Begun line ∷ []) f (other_actor z v a i I S.there i_in apart))) (F.under i i_in)
 
     on : IsUnderWay (v.hand a).state.place → Meets z v f a line command p (told actor (told_kinds v a line command p))
-    on stands = meets_begun z v f a line command p S I P part K (ready_on z v f a line command p S F stands) (λ i i_in apart. F.under i i_in)
+    on stands = meets_begun z v f a line command p S I P part K (ready_on z v f a line command p S F no_pause stands) (λ i i_in apart. F.under i i_in)
 
     case : (q : Place) → (v.hand a).state.place ≡ q → Meets z v f a line command p (told (v.hand a).state.actor (beginning q line ++ told_kinds v a line command p))
     case place.Between e =
         let idle : (f.under actor).stage ≡ Idle = subst (λ q. UnderIs (v.words area.Pool) q (v.hand a).state.line.command (v.hand a) (f.under actor)) e (F.under a S.there) in
-        let rest = meets_begun z v begun a line command p S I P part K (ready_first z v f a line command p S F e) others in
+        let rest = meets_begun z v begun a line command p S I P part K (ready_first z v f a line command p S F no_pause e) others in
         (((idle, S.own), rest.0), rest.1)
     case _ e = on (subst IsUnderWay (sym e) tt)
 

@@ -62,6 +62,8 @@ noted_at_still pool other _ gfn op t notes still N = tt
 
 access_still : (pool other : ℕ → ℕ) (p : AccessPlace) (gfn : ℕ) (op : Op) (t : Topics) (u : LineUnderWay) → HeldStays pool other t.search → AccessUnder pool p gfn op t u → AccessUnder other p gfn op t u
 access_still pool other (access.Fault p) gfn op t u still under = (under.0, noted_at_still pool other p gfn op t u.notes still under.1)
+access_still pool other (access.Enter again) gfn op t u still under = under
+access_still pool other (access.Pause again) gfn op t u still under = under
 access_still pool other (access.Leave (leaving.Reached frame value)) gfn op t u still under = under
 access_still pool other _ gfn op t u still under = under
 

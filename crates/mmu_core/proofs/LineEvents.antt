@@ -9,7 +9,7 @@ use Rattle.core_views.specs.declared.event.Event.{Event}
 use Rattle.core_views.specs.declared.event.EventKind.{EventKind}
 use Rattle.core_views.specs.declared.event.EventKind.TheVariants.{Begun, LookedAtSlots, Answered}
 use Rattle.core_views.specs.declared.place.AccessPlace.{AccessPlace}
-use Rattle.core_views.specs.declared.place.AccessPlace.TheVariants.{Touch, Fault}
+use Rattle.core_views.specs.declared.place.AccessPlace.TheVariants.{Pause, Touch, Fault}
 use Rattle.core_views.specs.declared.place.FaultPlace.TheVariants as fault
 use Rattle.core_views.specs.declared.place.Place.{Place}
 use Rattle.core_views.specs.declared.place.Place.TheVariants as place
@@ -48,6 +48,7 @@ look_within true = tt
 look_within false = (tt, tt)
 
 access_within : (p : AccessPlace) (h : Held) (gfn word : ℕ) (op : Op) (v : ℕ) → AllWithin (access_tells p h gfn word op v)
+access_within (Pause again) h gfn word op v = (tt, tt)
 access_within Touch h gfn word op v = (tt, tt)
 access_within (Fault (fault.Find begun)) h gfn word op v = look_within begun
 access_within (Fault fault.Host) h gfn word op v = (tt, tt)
@@ -105,7 +106,6 @@ tells_more _ line h kinds all so_far = opens line h kinds all so_far
 -- The line tells nothing besides its begin, its own events and its answer.
 
 kind_answers : (actor : Actor) (kind : EventKind) (rest : List AnsweredLine) → IsWithin kind → or_answered actor kind rest ≡ rest
-kind_answers actor (Begun other) rest within = absurd within
 kind_answers actor (Answered number answer) rest within = absurd within
 kind_answers actor _ rest within = refl
 

@@ -1,7 +1,6 @@
 -- The page of a slot set that is filled: which slots are live in it, and that it has those of the published one, and one more.
 use Rattle.std.proofs.Common.{◌≡◌, ◌≢◌, ◌⊎◌, inl, inr, ◌<◌, ◌≤◌, ◌+◌, ◌*◌, ◌/◌, ◌%◌, ℕ, zero, suc, [], ◌∷◌, ◌++◌, refl, sym, ap, ◌∙◌, arith}
 use Rattle.std.proofs.lemmas.Bool.Decides.{nat_tests}
-use Rattle.std.specs.Option.{option_map}
 use Rattle.std.specs.Prelude.{Bool, true, false, ◌==◌, if◌then◌else◌, Option, Some, None}
 use Rattle.core_views.specs.declared.place.Place.TheVariants as place
 use Rattle.core_views.specs.declared.place.SetSlotPlace.{SetSlotPlace}
@@ -16,20 +15,18 @@ use Rattle.core_views.specs.declared.trace.Line.{Line}
 use Rattle.core_views.specs.declared.trace.Slot.{Slot}
 use Rattle.core_views.specs.Held.{Held}
 use Rattle.core_views.specs.Refusals.{after_set, is_logged}
-use Rattle.core_views.specs.Slots.{Slots, slot_with_id, with_slot}
-use Rattle.core_views.specs.SlotSets.{MemorySlots, slot_at as recorded_at}
-use Rattle.core_views.proofs.FlatSlots.{flat_at}
+use Rattle.core_views.specs.SlotSets.{MemorySlots, slot_at as recorded_at, with_slot_at}
 use Rattle.spte_words.specs.declared.area.Area.TheVariants as area
 use Rattle.spte_words.specs.Areas.{pool_index}
-use Rattle.spte_words.specs.Flags.{flags_live, flags_read_only}
-use Rattle.spte_words.proofs.ReadsFlags.{flags_are_live, flags_are_read_only}
+use Rattle.spte_words.specs.Flags.{flags_live, flags_logged, flags_read_only}
+use Rattle.spte_words.proofs.ReadsFlags.{flags_are_live, flags_are_logged, flags_are_read_only}
 use Rattle.part_steps.specs.declared.part_step.PartStep.TheVariants as part
 use Rattle.mmu_core.specs.FaultSteps.{claim_part, map_word, tries_page}
 use Rattle.mmu_core.specs.Invariant.{Invariant, IsLiveIn, RecordPart}
 use Rattle.part_steps.specs.PartSteps.{OwnsSet, page_owned}
 use Rattle.mmu_core.specs.SetSlotSteps.{set_slot_part}
 use Rattle.part_steps.specs.SetWords.{IsFilledWith, set_word, word_of_slot}
-use Rattle.part_steps.specs.SlotWords.{field_number, live_at, slot_at, slot_index, slots_below}
+use Rattle.part_steps.specs.SlotWords.{field_number, live_at, memory_slot_at, memory_slots_below, slot_at, slot_index}
 use Rattle.mmu_core.specs.View.{View}
 use Rattle.mmu_core.proofs.Accepted.{may_be_set, record_of}
 use Rattle.mmu_core.proofs.Columns.{same_or}
@@ -43,43 +40,43 @@ use Rattle.mmu_core.proofs.Stepping.{IsStep}
 -- ---- The record has a slot where the published set has it live.
 
 -- where an ID isn't that of the last slot of a list, or the slot there isn't live
-not_last : (n id : ℕ) (s : Slot) (xs : Slots) (b : Bool) → n ≢ id → slot_with_id id (xs ++ (if b then (n, s) ∷ [] else [])) ≡ slot_with_id id xs
-not_last n id s [] true apart = grind (arith, nat_tests)
-not_last n id s [] false apart = refl
-not_last n id s (x ∷ xs) b apart = ap (λ (rest : Option Slot). if x.0 == id then Some x.1 else rest) (not_last n id s xs b apart)
+not_last : (n id : ℕ) (m : MemorySlot) (xs : MemorySlots) (b : Bool) → n ≢ id → recorded_at id (xs ++ (if b then (n, m) ∷ [] else [])) ≡ recorded_at id xs
+not_last n id m [] true apart = grind (arith, nat_tests)
+not_last n id m [] false apart = refl
+not_last n id m (x ∷ xs) b apart = ap (λ (rest : Option MemorySlot). if x.0 == id then Some x.1 else rest) (not_last n id m xs b apart)
 
--- the slot with an ID, of those below n
-abbrev live_slot : (ℕ → ℕ) → ℕ → ℕ → Option Slot
-live_slot pool set id = if live_at pool set id then Some (slot_at pool set id) else None
+-- the slot with an ID, of those that are live
+abbrev live_slot : (ℕ → ℕ) → ℕ → ℕ → Option MemorySlot
+live_slot pool set id = if live_at pool set id then Some (memory_slot_at pool set id) else None
 
-none_from : (pool : ℕ → ℕ) (set n id : ℕ) → n ≤ id → slot_with_id id (slots_below pool set n) ≡ None
+none_from : (pool : ℕ → ℕ) (set n id : ℕ) → n ≤ id → recorded_at id (memory_slots_below pool set n) ≡ None
 none_from pool set zero id le = refl
-none_from pool set (suc n) id le = not_last n id (slot_at pool set n) (slots_below pool set n) (live_at pool set n) (λ e. absurd (omega arith)) ∙ none_from pool set n id (omega arith)
+none_from pool set (suc n) id le = not_last n id (memory_slot_at pool set n) (memory_slots_below pool set n) (live_at pool set n) (λ e. absurd (omega arith)) ∙ none_from pool set n id (omega arith)
 
 -- the last slot of a list, where the others have other IDs
-is_last : (id : ℕ) (s : Slot) (xs : Slots) (b : Bool) → slot_with_id id xs ≡ None → slot_with_id id (xs ++ (if b then (id, s) ∷ [] else [])) ≡ (if b then Some s else None)
-is_last id s [] true none = grind (arith, nat_tests)
-is_last id s [] false none = refl
-is_last id s (x ∷ xs) b none = by (x.0 == id) none (is_last id s xs b)
+is_last : (id : ℕ) (m : MemorySlot) (xs : MemorySlots) (b : Bool) → recorded_at id xs ≡ None → recorded_at id (xs ++ (if b then (id, m) ∷ [] else [])) ≡ (if b then Some m else None)
+is_last id m [] true none = grind (arith, nat_tests)
+is_last id m [] false none = refl
+is_last id m (x ∷ xs) b none = by (x.0 == id) none (is_last id m xs b)
   where
-    by : (here : Bool) → (if here then Some x.1 else slot_with_id id xs) ≡ None → (slot_with_id id xs ≡ None → slot_with_id id (xs ++ (if b then (id, s) ∷ [] else [])) ≡ (if b then Some s else None))
-        → (if here then Some x.1 else slot_with_id id (xs ++ (if b then (id, s) ∷ [] else []))) ≡ (if b then Some s else None)
+    by : (here : Bool) → (if here then Some x.1 else recorded_at id xs) ≡ None → (recorded_at id xs ≡ None → recorded_at id (xs ++ (if b then (id, m) ∷ [] else [])) ≡ (if b then Some m else None))
+        → (if here then Some x.1 else recorded_at id (xs ++ (if b then (id, m) ∷ [] else []))) ≡ (if b then Some m else None)
     by true none rest = absurd (cc none)
     by false none rest = rest none
 
-pub listed_at : (pool : ℕ → ℕ) (set n id : ℕ) → id < n → slot_with_id id (slots_below pool set n) ≡ live_slot pool set id
+listed_at : (pool : ℕ → ℕ) (set n id : ℕ) → id < n → recorded_at id (memory_slots_below pool set n) ≡ live_slot pool set id
 listed_at pool set zero id lt = absurd (omega arith)
 listed_at pool set (suc n) id lt = case (same_or n id) (λ less. listed_at pool set n id less)
   where
-    case : (n ≡ id) ⊎ (n ≢ id) → (id < n → slot_with_id id (slots_below pool set n) ≡ live_slot pool set id) → slot_with_id id (slots_below pool set (suc n)) ≡ live_slot pool set id
+    case : (n ≡ id) ⊎ (n ≢ id) → (id < n → recorded_at id (memory_slots_below pool set n) ≡ live_slot pool set id) → recorded_at id (memory_slots_below pool set (suc n)) ≡ live_slot pool set id
     case (inl e) before =
-        ap (λ k. slot_with_id id (slots_below pool set (suc k))) e
-        ∙ is_last id (slot_at pool set id) (slots_below pool set id) (live_at pool set id) (none_from pool set id id (omega arith))
-    case (inr apart) before = not_last n id (slot_at pool set n) (slots_below pool set n) (live_at pool set n) apart ∙ before (omega arith)
+        ap (λ k. recorded_at id (memory_slots_below pool set (suc k))) e
+        ∙ is_last id (memory_slot_at pool set id) (memory_slots_below pool set id) (live_at pool set id) (none_from pool set id id (omega arith))
+    case (inr apart) before = not_last n id (memory_slot_at pool set n) (memory_slots_below pool set n) (live_at pool set n) apart ∙ before (omega arith)
 
--- the record's slot with an ID, without its dirty log
-pub record_at : (pool : ℕ → ℕ) (set id : ℕ) (slots : MemorySlots) → RecordPart pool set slots → id ≤ 31 → option_map (λ (m : MemorySlot). m.slot) (recorded_at id slots) ≡ live_slot pool set id
-record_at pool set id slots R low = sym (flat_at id slots) ∙ ap (slot_with_id id) R.same ∙ listed_at pool set 32 id (omega arith)
+-- the record's slot with an ID
+record_at : (pool : ℕ → ℕ) (set id : ℕ) (slots : MemorySlots) → RecordPart pool set slots → id ≤ 31 → recorded_at id slots ≡ live_slot pool set id
+record_at pool set id slots R low = ap (recorded_at id) R.same ∙ listed_at pool set 32 id (omega arith)
 
 -- ---- The page that is filled has the record's slots.
 
@@ -114,6 +111,11 @@ module _ (pool : ℕ → ℕ) (page : ℕ) (slots : MemorySlots) (filled : (j : 
       (field_is field.Base ∙ ap (λ x. word_of_slot x 0) some) (field_is field.Pages ∙ ap (λ x. word_of_slot x 1) some) (field_is field.Host ∙ ap (λ x. word_of_slot x 2) some)
       (ap flags_read_only (field_is field.Flags ∙ ap (λ x. word_of_slot x 3) some) ∙ flags_are_read_only true m.slot.read_only m.logged)
 
+  pub some_memory_slot : (m : MemorySlot) → recorded_at id slots ≡ Some m → memory_slot_at pool page id ≡ m
+  some_memory_slot m some =
+      ap (λ (s : Slot). record { slot = s; logged = flags_logged (pool (slot_index page id field.Flags)) }) (some_slot m some)
+      ∙ ap (λ logged. record { slot = m.slot; logged = logged }) (ap flags_logged (field_is field.Flags ∙ ap (λ x. word_of_slot x 3) some) ∙ flags_are_logged true m.slot.read_only m.logged)
+
 -- ---- The page with one slot more than the published set has.
 
 module _ (pool : ℕ → ℕ) (set page id : ℕ) (slot : Slot) (slots : MemorySlots) (R : RecordPart pool set slots) (low : id ≤ 31) (not_yet : live_at pool set id ≡ false)
@@ -142,29 +144,32 @@ module _ (pool : ℕ → ℕ) (set page id : ℕ) (slot : Slot) (slots : MemoryS
   pub new_slot : slot_at pool page id ≡ slot
   new_slot = some_slot pool page (after_set id slot slots) filled id low new_one at_id
 
+  new_memory_slot : memory_slot_at pool page id ≡ new_one
+  new_memory_slot = some_memory_slot pool page (after_set id slot slots) filled id low new_one at_id
+
   -- another one is live where it was, and the same
-  as_before : (i : ℕ) → i ≤ 31 → i ≢ id → (live_at pool page i ≡ live_at pool set i) × (live_at pool set i ≡ true → slot_at pool page i ≡ slot_at pool set i)
+  as_before : (i : ℕ) → i ≤ 31 → i ≢ id → (live_at pool page i ≡ live_at pool set i) × (live_at pool set i ≡ true → memory_slot_at pool page i ≡ memory_slot_at pool set i)
   as_before i below apart = by (recorded_at i slots) refl (live_at pool set i) refl (record_at pool set i slots R below)
     where
-      same : {x y : Slot} → Some x ≡ Some y → x ≡ y
+      same : {x y : MemorySlot} → Some x ≡ Some y → x ≡ y
       same e = cc e
 
-      by : (m : Option MemorySlot) → recorded_at i slots ≡ m → (live : Bool) → live_at pool set i ≡ live → option_map (λ (x : MemorySlot). x.slot) (recorded_at i slots) ≡ live_slot pool set i
-          → (live_at pool page i ≡ live_at pool set i) × (live_at pool set i ≡ true → slot_at pool page i ≡ slot_at pool set i)
-      by None none true live is = let bad : None ≡ Some (slot_at pool set i) = rw (none, live) at is in absurd (cc bad)
+      by : (m : Option MemorySlot) → recorded_at i slots ≡ m → (live : Bool) → live_at pool set i ≡ live → recorded_at i slots ≡ live_slot pool set i
+          → (live_at pool page i ≡ live_at pool set i) × (live_at pool set i ≡ true → memory_slot_at pool page i ≡ memory_slot_at pool set i)
+      by None none true live is = let bad : None ≡ Some (memory_slot_at pool set i) = rw (none, live) at is in absurd (cc bad)
       by None none false live is = (none_live pool page (after_set id slot slots) filled i below (at_other i apart ∙ none) ∙ sym live, λ on. absurd (cc (on, live)))
       by (Some m) some true live is =
-          let one : Some m.slot ≡ Some (slot_at pool set i) = rw (some, live) at is in (
+          let one : Some m ≡ Some (memory_slot_at pool set i) = rw (some, live) at is in (
             some_live pool page (after_set id slot slots) filled i below m (at_other i apart ∙ some) ∙ sym live,
-            λ on. some_slot pool page (after_set id slot slots) filled i below m (at_other i apart ∙ some) ∙ same one,
+            λ on. some_memory_slot pool page (after_set id slot slots) filled i below m (at_other i apart ∙ some) ∙ same one,
           )
-      by (Some m) some false live is = let bad : Some m.slot ≡ None = rw (some, live) at is in absurd (cc bad)
+      by (Some m) some false live is = let bad : Some m ≡ None = rw (some, live) at is in absurd (cc bad)
 
   pub others_live : (i : ℕ) → i ≤ 31 → i ≢ id → live_at pool page i ≡ live_at pool set i
   others_live i below apart = (as_before i below apart).0
 
   pub others_same : (i : ℕ) → i ≤ 31 → i ≢ id → live_at pool set i ≡ true → slot_at pool page i ≡ slot_at pool set i
-  others_same i below apart live = (as_before i below apart).1 live
+  others_same i below apart live = ap (λ (m : MemorySlot). m.slot) ((as_before i below apart).1 live)
 
   -- Each slot of the published set is live in the page, and the same.
   pub has_each : (i : ℕ) (s : Slot) → IsLiveIn pool set i s → IsLiveIn pool page i s
@@ -174,10 +179,11 @@ module _ (pool : ℕ → ℕ) (set page id : ℕ) (slot : Slot) (slots : MemoryS
       apart e = let is : live_at pool set i ≡ live_at pool set id = ap (live_at pool set) e in let live = L.live in absurd (cc (is, not_yet, live))
 
   -- The list of its slots has the new one at its ID.
-  pub list_with : slots_below pool page 32 ≡ with_slot id slot (slots_below pool set 32)
+  pub list_with : memory_slots_below pool page 32 ≡ with_slot_at id new_one (memory_slots_below pool set 32)
   list_with =
-      one_more_live pool pool set page id 32 (omega (arith, low)) not_yet new_live (λ i lt apart. others_live i (omega arith) apart) (λ i lt apart live. others_same i (omega arith) apart live)
-      ∙ ap (λ s. with_slot id s (slots_below pool set 32)) new_slot
+      one_more_live (live_at pool set) (live_at pool page) (memory_slot_at pool set) (memory_slot_at pool page) id 32 (omega (arith, low)) not_yet new_live
+      (λ i lt apart. others_live i (omega arith) apart) (λ i lt apart live. (as_before i (omega arith) apart).1 live)
+      ∙ ap (λ m. with_slot_at id m (memory_slots_below pool set 32)) new_memory_slot
 
 -- ---- A setting that is to publish its page.
 

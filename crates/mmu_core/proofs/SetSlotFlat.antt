@@ -1,6 +1,7 @@
 -- What the steps of a slot setting owe flat memory.
 use Rattle.std.proofs.Common.{◌≡◌, ◌+◌, ℕ, [], ◌++◌, refl, sym, subst, ap, ◌∙◌, ◌⊎◌, inl, inr}
-use Rattle.std.specs.Prelude.{Bool, true, false, ◌==◌, nat_lt, if◌then◌else◌}
+use Rattle.std.specs.Option.{option_map}
+use Rattle.std.specs.Prelude.{Bool, true, false, ◌==◌, nat_lt, if◌then◌else◌, Option, Some, None}
 use Rattle.core_views.specs.declared.answer.Answer.TheVariants.{Refused, Starved, Done}
 use Rattle.core_views.specs.declared.answer.Refusal.{Refusal}
 use Rattle.core_views.specs.declared.place.Place.TheVariants as place
@@ -9,14 +10,15 @@ use Rattle.core_views.specs.declared.place.SetSlotPlace.TheVariants.{Refuse, Cla
 use Rattle.core_views.specs.declared.sizes.Sizes.{Sizes}
 use Rattle.core_views.specs.declared.topics.MapClaim.{MapClaim}
 use Rattle.core_views.specs.declared.topics.Topics.{Topics}
-use Rattle.core_views.specs.declared.trace.Command.TheVariants.{SetSlot}
+use Rattle.core_views.specs.declared.trace.Command.TheVariants.{Access, SetSlot}
 use Rattle.core_views.specs.declared.trace.Line.{Line}
+use Rattle.core_views.specs.declared.trace.Command.{Command}
 use Rattle.core_views.specs.declared.trace.Slot.{Slot}
-use Rattle.core_views.specs.Flat.{Facts, LineUnderWay, Stage}
-use Rattle.core_views.specs.Lawful.{IsRefused, MayLeave, Tells}
-use Rattle.core_views.specs.Refusals.{set_refusal}
+use Rattle.core_views.specs.Flat.{Facts, LineUnderWay, Notes, Stage}
+use Rattle.core_views.specs.Lawful.{HasWork, MayLeave, Tells, answer_at_once, slot_change}
+use Rattle.core_views.specs.Refusals.{is_logged, set_refusal}
 use Rattle.core_views.specs.Sizes.{actors_of}
-use Rattle.core_views.specs.Slots.{Slots, slot_refusal, with_slot}
+use Rattle.core_views.specs.SlotSets.{MemorySlots, with_slot_at}
 use Rattle.spte_words.specs.declared.area.Area.{Area}
 use Rattle.spte_words.specs.declared.area.Area.TheVariants as area
 use Rattle.spte_words.specs.Areas.{words_of_bits}
@@ -32,17 +34,24 @@ use Rattle.part_steps.specs.Tasks.{kind_of_task}
 use Rattle.mmu_core.specs.TopicsInvariant.{TopicsInvariant}
 use Rattle.part_steps.specs.TopicSteps.{in_section, is_won, topics_after}
 use Rattle.mmu_core.specs.View.{View, answer_in, words_after}
-use Rattle.mmu_core.proofs.Accepted.{MayBeSet, may_be_set, record_of, refused_alike}
+use Rattle.mmu_core.proofs.Accepted.{MayBeSet, may_be_set, record_of}
 use Rattle.mmu_core.proofs.FlatSteps.{Goes, Leaves, Ready, StepGoes, UnderAt, part_leaves, refines_stay}
 use Rattle.mmu_core.proofs.PartStepping.{IsPart}
 use Rattle.mmu_core.proofs.SetFilled.{is_publication, list_with, setting_filled, setting_never}
 use Rattle.mmu_core.proofs.SettingHolds.{either_place}
 use Rattle.mmu_core.proofs.Stepping.{IsStep}
 
--- Flat memory refuses the slot as the manager's record does.
-flat_refusal : (z : Sizes) (v : View) (a : ℕ) (line : Line) (id : ℕ) (slot : Slot) (p : SetSlotPlace) (facts : Facts) (u : LineUnderWay) → IsStep z v a line (SetSlot id slot) (place.SetSlot p) → Invariant z v
-    → Ready z v line (SetSlot id slot) (place.SetSlot p) (v.hand a).topics facts u → slot_refusal z.pages facts.slots id slot ≡ set_refusal z.pages id slot (v.hand a).slots
-flat_refusal z v a line id slot p facts u S I R = ap (λ (slots : Slots). slot_refusal z.pages slots id slot) R.refines.slots ∙ refused_alike z v a line id slot p S I
+-- Flat memory has the slots of the manager's record, and so refuses as it does.
+same_record : (z : Sizes) (v : View) (a : ℕ) (line : Line) (id : ℕ) (slot : Slot) (p : SetSlotPlace) (facts : Facts) (u : LineUnderWay) → IsStep z v a line (SetSlot id slot) (place.SetSlot p) → Invariant z v
+    → Ready z v line (SetSlot id slot) (place.SetSlot p) (v.hand a).topics facts u → facts.slots ≡ (v.hand a).slots
+same_record z v a line id slot p facts u S I R = R.refines.slots ∙ sym (record_of z v a line id slot p S I).same
+
+at_once : (z : Sizes) (v : View) (a : ℕ) (line : Line) (id : ℕ) (slot : Slot) (p : SetSlotPlace) (facts : Facts) (u : LineUnderWay) (refusal : Option Refusal) → IsStep z v a line (SetSlot id slot) (place.SetSlot p) → Invariant z v
+    → Ready z v line (SetSlot id slot) (place.SetSlot p) (v.hand a).topics facts u → set_refusal z.pages id slot (v.hand a).slots ≡ refusal → answer_at_once z facts.slots u.line.command ≡ option_map (λ r. Refused r) refusal
+at_once z v a line id slot p facts u refusal S I R is =
+    ap (answer_at_once z facts.slots) (ap (λ (l : Line). l.command) R.under.0 ∙ S.command_is)
+    ∙ ap (λ (slots : MemorySlots). answer_at_once z slots (SetSlot id slot)) (same_record z v a line id slot p facts u S I R)
+    ∙ ap (option_map (λ r. Refused r)) is
 
 module _ (z : Sizes) (v : View) (a : ℕ) (line : Line) (id : ℕ) (slot : Slot) (facts : Facts) (u : LineUnderWay) where
   abbrev answered : SetSlotPlace → ℕ
@@ -72,14 +81,19 @@ module _ (z : Sizes) (v : View) (a : ℕ) (line : Line) (id : ℕ) (slot : Slot)
       → Goes z (v.hand a).state.actor line (SetSlot id slot) (words_behind p) (place.SetSlot next) (held_behind p) [] facts u
   quiet p next never S P R under = record { allowed = tt; refines = refines_stay z v.words (words_behind p) facts (stays p never S P) R.refines; under = under }
 
+  -- A line that has something to do may be given up where no page is free.
+  gives_up : (command : Command) (notes : Notes) → HasWork z facts command → MayLeave z facts command notes Starved
+  gives_up (Access gfn word op) notes works = works
+  gives_up (SetSlot i s) notes works = works
+
   -- A claim goes on, or there is no page free.
-  claim_goes : (begun : Bool) (o : Outcome) → line.command ≡ SetSlot id slot → IsPart z v a (set_slot_part (Claim begun) (v.hand a) id slot) → TopicsInvariant z v → ReadyAt (Claim begun)
+  claim_goes : (begun : Bool) (o : Outcome) → HasWork z facts u.line.command → IsPart z v a (set_slot_part (Claim begun) (v.hand a) id slot) → TopicsInvariant z v → ReadyAt (Claim begun)
       → (o ≡ GoesTo (place.SetSlot Fill)) ⊎ (o ≡ GoesTo (place.SetSlot (Claim true))) ⊎ (o ≡ Ends Starved)
       → Goes z (v.hand a).state.actor line (SetSlot id slot) (words_behind (Claim begun)) (place_after o) (held_behind (Claim begun)) (exiting o ++ answering o line) facts u
-  claim_goes begun o is S P R (inl e) = subst (λ x. Goes z (v.hand a).state.actor line (SetSlot id slot) (words_behind (Claim begun)) (place_after x) (held_behind (Claim begun)) (exiting x ++ answering x line) facts u) (sym e) (quiet (Claim begun) Fill refl S P R R.under)
-  claim_goes begun o is S P R (inr (inl e)) = subst (λ x. Goes z (v.hand a).state.actor line (SetSlot id slot) (words_behind (Claim begun)) (place_after x) (held_behind (Claim begun)) (exiting x ++ answering x line) facts u) (sym e) (quiet (Claim begun) (Claim true) refl S P R R.under)
-  claim_goes begun o is S P R (inr (inr e)) = subst (λ x. Goes z (v.hand a).state.actor line (SetSlot id slot) (words_behind (Claim begun)) (place_after x) (held_behind (Claim begun)) (exiting x ++ answering x line) facts u) (sym e) (record {
-    allowed = ((R.under.1, subst (λ c. MayLeave c u.notes Starved) (sym (ap (λ (l : Line). l.command) R.under.0 ∙ is)) tt), ((ap (λ (l : Line). l.number) (sym R.under.0), refl), tt));
+  claim_goes begun o works S P R (inl e) = subst (λ x. Goes z (v.hand a).state.actor line (SetSlot id slot) (words_behind (Claim begun)) (place_after x) (held_behind (Claim begun)) (exiting x ++ answering x line) facts u) (sym e) (quiet (Claim begun) Fill refl S P R R.under)
+  claim_goes begun o works S P R (inr (inl e)) = subst (λ x. Goes z (v.hand a).state.actor line (SetSlot id slot) (words_behind (Claim begun)) (place_after x) (held_behind (Claim begun)) (exiting x ++ answering x line) facts u) (sym e) (quiet (Claim begun) (Claim true) refl S P R R.under)
+  claim_goes begun o works S P R (inr (inr e)) = subst (λ x. Goes z (v.hand a).state.actor line (SetSlot id slot) (words_behind (Claim begun)) (place_after x) (held_behind (Claim begun)) (exiting x ++ answering x line) facts u) (sym e) (record {
+    allowed = ((R.under.1, gives_up u.line.command u.notes works), ((ap (λ (l : Line). l.number) (sym R.under.0), refl), tt));
     refines = refines_stay z v.words (words_behind (Claim begun)) facts (stays (Claim begun) refl S P) R.refines;
     under = refl;
   })
@@ -103,7 +117,7 @@ module _ (z : Sizes) (v : View) (a : ℕ) (line : Line) (id : ℕ) (slot : Slot)
       (
         ap (λ (l : Line). l.number) (sym R.under.0),
         subst (λ stage. Tells z facts.slots u.line.command stage (Refused refusal)) (sym R.under.1)
-            (subst (λ c. IsRefused z facts.slots c (Refused refusal)) (sym (ap (λ (l : Line). l.command) R.under.0 ∙ S.command_is)) (flat_refusal z v a line id slot (Refuse refusal) facts u S I R ∙ S.holds)),
+            (at_once z v a line id slot (Refuse refusal) facts u (Some refusal) S I R S.holds),
       ),
       tt,
     );
@@ -114,12 +128,21 @@ module _ (z : Sizes) (v : View) (a : ℕ) (line : Line) (id : ℕ) (slot : Slot)
   -- The set is published: flat memory has the slot too.
   publish_goes : IsStep z v a line (SetSlot id slot) (place.SetSlot Publish) → Invariant z v → ReadyAt Publish → GoesAt Publish
   publish_goes S I R = record {
-    allowed = ((R.under.1, ap (λ (l : Line). l.command) R.under.0 ∙ S.command_is, flat_refusal z v a line id slot Publish facts u S I R ∙ S.holds.accepted), tt);
+    allowed = (
+      (
+        R.under.1,
+        at_once z v a line id slot Publish facts u None S I R S.holds.accepted,
+        ap (slot_change facts.slots) (ap (λ (l : Line). l.command) R.under.0 ∙ S.command_is)
+            ∙ ap (λ (slots : MemorySlots). slot_change slots (SetSlot id slot)) (same_record z v a line id slot Publish facts u S I R),
+      ),
+      tt,
+    );
     refines = record {
-      slots = ap (with_slot id slot) R.refines.slots
+      slots = ap (with_slot_at id (record { slot = slot; logged = is_logged id (v.hand a).slots })) R.refines.slots
           ∙ sym (list_with (v.words area.Pool) (v.words area.Slots 0) (page_owned (v.hand a).topics.owned) id slot (v.hand a).slots (record_of z v a line id slot Publish S I) may.low may.not_live (setting_filled z v a line id slot S I));
       host = R.refines.host;
       memory = R.refines.memory;
+      paused = R.refines.paused;
     };
     under = (R.under.0, refl);
   }
@@ -142,7 +165,7 @@ module _ (z : Sizes) (v : View) (a : ℕ) (line : Line) (id : ℕ) (slot : Slot)
   pub set_slot_goes : (p : SetSlotPlace) → IsStep z v a line (SetSlot id slot) (place.SetSlot p) → Invariant z v → TopicsInvariant z v → IsPart z v a (set_slot_part p (v.hand a) id slot) → ReadyAt p → GoesAt p
   set_slot_goes (Refuse refusal) S I P part_ R = refuse_goes refusal S I R
   set_slot_goes (Claim begun) S I P part_ R =
-      claim_goes begun (set_slot_outcome (Claim begun) (v.hand a) (answered (Claim begun))) S.command_is part_ P R
+      claim_goes begun (set_slot_outcome (Claim begun) (v.hand a) (answered (Claim begun))) (at_once z v a line id slot (Claim begun) facts u None S I R S.holds) part_ P R
       (claim_ends (tries_page begun (v.hand a).topics.claim) (v.hand a).state.sizes (at_map_word begun (v.hand a).topics.claim) (answered (Claim begun)))
   set_slot_goes Fill S I P part_ R =
       let more : Bool = nat_lt (words_filled (v.hand a).topics.owned) 512 in

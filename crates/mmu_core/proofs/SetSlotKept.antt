@@ -20,11 +20,8 @@ use Rattle.core_views.specs.declared.trace.Slot.{Slot}
 use Rattle.core_views.specs.Held.{Held}
 use Rattle.core_views.specs.Refusals.{after_set, is_logged}
 use Rattle.core_views.specs.Sizes.{actors_of, index_of}
-use Rattle.core_views.specs.SlotSets.{MemorySlots}
-use Rattle.core_views.specs.Slots.{with_slot}
+use Rattle.core_views.specs.SlotSets.{MemorySlots, with_slot_at}
 use Rattle.core_views.specs.Traces.{IsCommandFor, slot_ids}
-use Rattle.core_views.proofs.FlatSlots.{flat_with}
-use Rattle.core_views.proofs.Unlogged.{unlogged_behind}
 use Rattle.spte_words.specs.declared.area.Area.{Area}
 use Rattle.spte_words.specs.declared.area.Area.TheVariants as area
 use Rattle.mmu_core.specs.declared.outcome.Outcome.{Outcome}
@@ -187,10 +184,7 @@ published_kept z v a line id slot S I P knows =
     (λ i lt ne own is j low. refl) (λ i lt ne is. absurd (ne (one_manager z i a (v.hand i) h (I.lines i lt) O is manager))) own
     (subst (λ c. Holds z pool (v.words area.Host) page (place.SetSlot Release) c after) (sym S.command_is) tt) (λ may. absurd (cc may))
     (still_cached pool set pool page (v.words area.Host) (kind_of_task h.state.sizes (set_slot_task Publish h id slot)) h.cached set stay (I.cached a S.there))
-    (λ is. record {
-      same = flat_with id new_ h.slots ∙ ap (with_slot id slot) R.same ∙ sym (list_with pool set page id slot h.slots R may.low may.not_live filled);
-      unlogged = unlogged_behind id slot h.slots R.unlogged;
-    }) knows I
+    (λ is. record { same = ap (with_slot_at id new_) R.same ∙ sym (list_with pool set page id slot h.slots R may.low may.not_live filled) }) knows I
   where
     h : Held
     h = v.hand a

@@ -1,7 +1,7 @@
 -- Each step of a slot setting that waits has its cause, in the steps before it or in what another actor holds.
 use Rattle.std.proofs.Common.{◌≡◌, ◌≢◌, ◌<◌, ◌+◌, ℕ, List, [], ◌∷◌, ◌++◌, length, refl, sym, subst, arith}
 use Rattle.std.specs.Prelude.{Bool, true, false, ◌==◌, nat_lt, if◌then◌else◌, Option, Some, None}
-use Rattle.std.proofs.lemmas.Bool.Decides.{nat_tests}
+use Rattle.std.proofs.lemmas.Bool.{eqb-false}
 use Rattle.core_views.specs.declared.answer.Answer.TheVariants.{Starved}
 use Rattle.core_views.specs.declared.answer.Refusal.{Refusal}
 use Rattle.core_views.specs.declared.kind.Kind.{Kind}
@@ -109,7 +109,7 @@ module _ (z : Sizes) (w : World Held) (ss : List (Step Kind)) (s : Step Kind) (G
   counted_goes true t_ is count M = tt
   counted_goes false t_ is count M =
       subst (λ m. FoundSomeOpen z a m w (ss ++ s ∷ [])) (sym count)
-      (made_now (Finds a (place_of (map_of z) area.Count 0) v) (IsOthers a) w ss s (record { by_actor = refl; on = word_on z u s G may part.Count M; finds = load_finds z u s G may part.Count M tt }), grind (arith, nat_tests))
+      (made_now (Finds a (place_of (map_of z) area.Count 0) v) (IsOthers a) w ss s (record { by_actor = refl; on = word_on z u s G may part.Count M; finds = load_finds z u s G may part.Count M tt }), let some : v ≢ 0 = eqb-false v 0 is in omega (arith, some))
 
   own_saw : (p : SetSlotPlace) (id : ℕ) (slot : Slot) → Made (set_slot_part p h id slot) → SawNow (place_after (set_slot_outcome p h v)) (part_topics (set_slot_part p h id slot) t v)
   own_saw (Claim begun) id slot M = claim_goes (tries_page begun t.claim) h.state.sizes (at_map_word begun t.claim) (part_topics (claim_part begun t.claim) t v) (claim_saw z w ss s G may begun M)

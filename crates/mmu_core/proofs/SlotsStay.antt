@@ -1,6 +1,5 @@
 -- What speaks of the published slot set alone stays where its words stay.
-use Rattle.std.proofs.Common.{◌≡◌, ◌≢◌, ◌<◌, ◌≤◌, ◌+◌, ◌*◌, ℕ, zero, suc, [], ◌∷◌, ◌++◌, refl, sym, ap, ◌∙◌, arith, Some}
-use Rattle.std.specs.Prelude.{if◌then◌else◌}
+use Rattle.std.proofs.Common.{◌≡◌, ◌≢◌, ◌<◌, ◌≤◌, ◌+◌, ◌*◌, ℕ, sym, ap, ◌∙◌, arith, Some}
 use Rattle.core_views.specs.declared.actor.Actor.TheVariants.{Manager}
 use Rattle.core_views.specs.declared.place.Place.{Place}
 use Rattle.core_views.specs.declared.place.Place.TheVariants as place
@@ -16,14 +15,15 @@ use Rattle.core_views.specs.declared.topics.OwnedPage.{OwnedPage}
 use Rattle.core_views.specs.Held.{Held}
 use Rattle.core_views.specs.Sizes.{actors_of}
 use Rattle.core_views.specs.SlotSets.{MemorySlots}
-use Rattle.spte_words.specs.Flags.{flags_live, flags_read_only}
+use Rattle.spte_words.specs.Flags.{flags_live, flags_logged, flags_read_only}
 use Rattle.mmu_core.specs.Invariant.{CachedPart, FillsSet, Holds, InvariantOf, KnowsPart, LeavesPart, OwnLines, RecordPart, SetSlotHolds, SlotSetPart}
-use Rattle.part_steps.specs.SlotWords.{field_number, live_at, slot_at, slot_index, slots_below}
+use Rattle.part_steps.specs.SlotWords.{field_number, live_at, memory_slot_at, memory_slots_below, slot_at, slot_index, slots_below}
 use Rattle.mmu_core.specs.View.{upd}
 use Rattle.mmu_core.proofs.Columns.{at_upd}
 use Rattle.mmu_core.proofs.LiveStay.{StayLive, access_stays, translations_stay}
 pub use Rattle.mmu_core.proofs.LiveStays.{SetStays}
 use Rattle.mmu_core.proofs.SlotFields.{is_number, same_slot}
+use Rattle.mmu_core.proofs.SlotLists.{same_below}
 
 module _ (set : ℕ) (before after : ℕ → ℕ) (stays : SetStays set before after) where
   pub word_stays : (id : ℕ) (f : SlotField) → id ≤ 31 → after (slot_index set id f) ≡ before (slot_index set id f)
@@ -43,15 +43,20 @@ module _ (set : ℕ) (before after : ℕ → ℕ) (stays : SetStays set before a
   pub is_live_was : StayLive after set before set
   is_live_was id slot l = record { low = l.low; live = sym (live_stays id l.low) ∙ l.live; is = sym (slot_stays id l.low) ∙ l.is }
 
+  memory_slot_stays : (id : ℕ) → id ≤ 31 → memory_slot_at after set id ≡ memory_slot_at before set id
+  memory_slot_stays id low =
+      ap (λ (s : SlotOf). record { slot = s; logged = flags_logged (after (slot_index set id field.Flags)) }) (slot_stays id low)
+      ∙ ap (λ word. record { slot = slot_at before set id; logged = flags_logged word }) (word_stays id field.Flags low)
+
   pub below_stay : (n : ℕ) → n ≤ 32 → slots_below after set n ≡ slots_below before set n
-  below_stay zero le = refl
-  below_stay (suc n) le =
-      ap (λ xs. xs ++ (if live_at after set n then (n, slot_at after set n) ∷ [] else [])) (below_stay n (omega arith))
-      ∙ ap (λ b. slots_below before set n ++ (if b then (n, slot_at after set n) ∷ [] else [])) (live_stays n (omega arith))
-      ∙ ap (λ s. slots_below before set n ++ (if live_at before set n then (n, s) ∷ [] else [])) (slot_stays n (omega arith))
+  below_stay n le = same_below (live_at after set) (live_at before set) (slot_at after set) (slot_at before set) n (λ i lt. live_stays i (omega arith)) (λ i lt live. slot_stays i (omega arith))
+
+  pub memory_below_stay : (n : ℕ) → n ≤ 32 → memory_slots_below after set n ≡ memory_slots_below before set n
+  memory_below_stay n le =
+      same_below (live_at after set) (live_at before set) (memory_slot_at after set) (memory_slot_at before set) n (λ i lt. live_stays i (omega arith)) (λ i lt live. memory_slot_stays i (omega arith))
 
   pub record_stays : (slots : MemorySlots) → RecordPart before set slots → RecordPart after set slots
-  record_stays slots R = record { same = R.same ∙ sym (below_stay 32 (omega arith)); unlogged = R.unlogged }
+  record_stays slots R = record { same = R.same ∙ sym (memory_below_stay 32 (omega arith)) }
 
 -- The words of the page that an actor owns stay.
 abbrev pub OwnedStays : (ℕ → ℕ) → (ℕ → ℕ) → Held → Type 0

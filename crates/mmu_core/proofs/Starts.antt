@@ -6,6 +6,7 @@ use Rattle.std.proofs.lemmas.Bool.Decides.{nat_tests, Decides-eqb}
 use Rattle.std.proofs.lemmas.Nat.{pow_pos}
 use Rattle.std.proofs.lemmas.List.Elements.{All-nil}
 use Rattle.std.specs.List.{AllByRecursion, Contains, IsDistinct}
+use Rattle.part_steps.specs.SlotWords.{live_at, memory_slot_at}
 use Rattle.mmu_core.proofs.SlotLists.{none_below}
 use Rattle.std.specs.Prelude.{All, Bool, true, false, ◌==◌, nat_lt, if◌then◌else◌, slice_index}
 use Rattle.core_views.specs.declared.actor.Actor.{Actor}
@@ -219,6 +220,7 @@ start_good z lines w start = record {
   hands = ap length start.hands ∙ hands_count z lines (actors_of z);
   small = all_small z w.words start.sizes start.words;
   none_opened = record { seq = word_at_start z w area.Seq 0 0 start.words (λ l. refl) (λ e. refl); count = word_at_start z w area.Count 0 0 start.words (λ l. refl) (λ e. refl) };
+  no_pause = word_at_start z w area.Pause 0 0 start.words (λ l. refl) (λ e. refl);
   holds = record {
     sizes = start.sizes;
     hosts = λ p lt. word_at_start z w area.Host p (host_word p true true 1) start.words (λ l. refl) (λ e. let t = below p z.pages lt in absurd (cc (e, t)));
@@ -235,7 +237,7 @@ start_good z lines w start = record {
     cached = λ i lt. subst (λ (h : Held). CachedPart (word_in z w area.Pool) (word_in z w area.Host) (word_in z w area.Slots 0) h.cached.items) (sym (hand_is z lines w i start lt))
         (All-nil (λ (t : Translation). (t.level ≡ 1) × IsLeafFor (word_in z w area.Pool) (word_in z w area.Host) (word_in z w area.Slots 0) t.gfn t.leaf));
     recorded = λ i lt is. subst (λ (h : Held). RecordPart (word_in z w area.Pool) (word_in z w area.Slots 0) h.slots) (sym (hand_is z lines w i start lt))
-        (record { same = sym (none_below (word_in z w area.Pool) (word_in z w area.Slots 0) 32 (λ id low. none_live z w (word_in z w area.Slots 0) id start.words)); unlogged = λ id m at. absurd (cc at) });
+        (record { same = sym (none_below (live_at (word_in z w area.Pool) (word_in z w area.Slots 0)) (memory_slot_at (word_in z w area.Pool) (word_in z w area.Slots 0)) 32 (λ id low. none_live z w (word_in z w area.Slots 0) id start.words)) });
   };
   topics = start_topics z lines w start;
 }

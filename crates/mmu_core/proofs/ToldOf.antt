@@ -44,13 +44,11 @@ begun_by_append actor xs ys = ap (lines_of actor) (begun_more xs ys) ∙ filter-
 
 -- An event that stands within a line neither begins nor answers one.
 answers_none : (actor : Actor) (kind : EventKind) (rest : List AnsweredLine) → IsWithin kind → or_answered actor kind rest ≡ rest
-answers_none actor (Begun line) rest within = absurd within
 answers_none actor (Answered line answer) rest within = absurd within
 answers_none actor _ rest within = refl
 
 begins_none : (kind : EventKind) (rest : List Line) → IsWithin kind → or_begun kind rest ≡ rest
 begins_none (Begun line) rest within = absurd within
-begins_none (Answered line answer) rest within = absurd within
 begins_none _ rest within = refl
 
 within_then_answers : (actor : Actor) (kinds more : List EventKind) → AllWithin kinds → answers_of (told actor (kinds ++ more)) ≡ answers_of (told actor more)

@@ -33,6 +33,7 @@ use Rattle.part_steps.specs.SlotWords.{live_at, slot_at, slots_below}
 use Rattle.mmu_core.specs.TreePart.{IsLiveIn, IsWanted, Position}
 use Rattle.mmu_core.specs.View.{word_in}
 use Rattle.mmu_core.specs.Worlds.{IsStart}
+use Rattle.mmu_core.proofs.Accepted.{record_flat}
 use Rattle.mmu_core.proofs.Columns.{same_or}
 use Rattle.mmu_core.proofs.EveryAnswer.{start_follows}
 use Rattle.mmu_core.proofs.Starts.{start_good}
@@ -101,7 +102,7 @@ live_is_set z lines w ss id slot start legal L =
     let IsSet : ℕ × Slot → Type 0 = λ e. Contains (map (λ (l : Line). l.command) g.lines) (SetSlot e.0 e.1) in
     let each : All IsSet (flat_slots g.slots) = All-map IsSet (λ (e : ℕ × MemorySlot). (e.0, e.1.slot)) g.slots (G.holds.lines manager (manager_place z)).set in
     let listed = slot_is_listed pool set 32 id (omega (arith, L.low)) L.live in
-    let here : IsSet (id, slot_at pool set id) = All-contains IsSet (slots_below pool set 32) (id, slot_at pool set id) (subst (λ (xs : Slots). All IsSet xs) R.same each) listed in
+    let here : IsSet (id, slot_at pool set id) = All-contains IsSet (slots_below pool set 32) (id, slot_at pool set id) (subst (λ (xs : Slots). All IsSet xs) (record_flat pool set g.slots R) each) listed in
     subst (λ (xs : List Line). Contains (map (λ (l : Line). l.command) xs) (SetSlot id slot)) own (subst (λ (s : Slot). IsSet (id, s)) L.is here)
 
 -- A slot that fits and holds a guest frame counts, and has a guest frame in the run that this one is in.

@@ -7,7 +7,7 @@ use Rattle.core_views.specs.declared.kind.Operation.{Operation}
 use Rattle.core_views.specs.declared.kind.Operation.TheVariants as operation
 use Rattle.core_views.specs.Kinds.{after, operation_of_code, word_after}
 use Rattle.mmu_core.specs.Laws.{IsSound, NoneOpened}
-use Rattle.mmu_core.proofs.Control.{none_opened_kept}
+use Rattle.mmu_core.proofs.Control.{none_opened_kept, pause_stays}
 use Rattle.mmu_core.proofs.Columns.{same_or}
 use Rattle.core_views.specs.declared.kind.Kind.{Kind}
 use Rattle.core_views.specs.declared.sizes.Sizes.{Sizes}
@@ -186,6 +186,7 @@ good_step z w s G may = by (takes z w s G may)
       hands = hands_of_effect mmu w s ∙ G.hands;
       small = small T.writes;
       none_opened = subst (λ (v : View). NoneOpened v.words) (sym T.leads) (none_opened_kept (place_at h.state.place h) (line_at h.state.place h).command h (word_in z w) G.none_opened);
+      no_pause = subst (λ (v : View). v.words area.Pause 0 ≡ 0) (sym T.leads) (pause_stays (place_at h.state.place h) (line_at h.state.place h).command h (word_in z w) ∙ G.no_pause);
       holds = subst (Invariant z) (sym T.leads) (step_kept z (view z w) s.actor (line_at h.state.place h) (line_at h.state.place h).command (place_at h.state.place h) (view_small z w G.small) T.is_step G.holds G.topics);
       topics = subst (TopicsInvariant z) (sym T.leads) (topics_line_kept z (view z w) s.actor (line_at h.state.place h) (line_at h.state.place h).command (place_at h.state.place h) (view_small z w G.small) T.is_step G.holds G.topics);
     }
@@ -194,6 +195,7 @@ good_step z w s G may = by (takes z w s G may)
       hands = hands_of_effect mmu w s ∙ G.hands;
       small = small T.writes;
       none_opened = subst (λ (v : View). NoneOpened v.words) (sym T.leads) (part_opens_none z (view z w) s.actor T.step T.note G.none_opened);
+      no_pause = subst (λ (v : View). v.words area.Pause 0 ≡ 0) (sym T.leads) (ap (λ (f : ℕ → ℕ). f 0) (areas_stay (view z w) s.actor T.step T.note area.Pause refl) ∙ G.no_pause);
       holds = subst (Invariant z) (sym T.leads) (part_keeps_lines z (view z w) s.actor T.step T.note T.is_part T.none_left G.holds G.topics (part_knows_behind z (view z w) s.actor T.step T.note T.none_left G.holds));
       topics = subst (TopicsInvariant z) (sym T.leads) (topics_part_kept z (view z w) s.actor T.step T.note T.is_part G.topics);
     }

@@ -5,7 +5,7 @@ use Rattle.circular_buffer.specs.Buffer.{Buffer}
 use Rattle.core_views.specs.declared.answer.Answer.TheVariants.{Mmio, HostFault, Starved, Reached}
 use Rattle.core_views.specs.declared.cache.Translation.{Translation}
 use Rattle.core_views.specs.declared.event.EventKind.{EventKind}
-use Rattle.core_views.specs.declared.event.EventKind.TheVariants.{Accessed, Exited, LookedAtHost, LookedAtSlots}
+use Rattle.core_views.specs.declared.event.EventKind.TheVariants.{Accessed, Exited, LookedAtHost, LookedAtPause, LookedAtSlots}
 use Rattle.core_views.specs.declared.hand.State.{State}
 use Rattle.core_views.specs.declared.kind.StepKind.TheVariants as kind
 use Rattle.core_views.specs.declared.place.AccessPlace.{AccessPlace}
@@ -131,6 +131,7 @@ exiting (Ends answer) = Exited answer ∷ []
 
 -- what a step tells, besides that its line begins or is answered
 abbrev pub access_tells : AccessPlace → Held → ℕ → ℕ → Op → ℕ → List EventKind
+access_tells (Pause again) h gfn word op v = LookedAtPause ∷ []
 access_tells Touch h gfn word op v = Accessed gfn word op (frame_in h.state.leaf) v ∷ []
 access_tells (Fault (fault.Find begun)) h gfn word op v = if begun then [] else LookedAtSlots ∷ []
 access_tells (Fault fault.Host) h gfn word op v = LookedAtHost (page_of h.topics.search.slot gfn) ∷ []

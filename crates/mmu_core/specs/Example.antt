@@ -1,15 +1,17 @@
 -- That the machine goes on: every machine has a start, each actor with a line left can make a step, and four small runs.
-use Rattle.std.specs.Prelude.{◌≡◌, ◌^◌, ◌<◌, ◌==◌, ℕ, zero, suc, List, [], ◌∷◌, ◌++◌, All, replicate, codes, true, false, length}
+use Rattle.std.specs.Prelude.{◌≡◌, ◌^◌, ◌<◌, ◌==◌, ℕ, zero, suc, List, [], ◌∷◌, ◌++◌, All, replicate, codes, true, false, length, Option, Some}
 use Rattle.std.specs.List.{IsDistinct}
 use Rattle.core_views.specs.declared.answer.Answer.TheVariants.{Done, Mmio, Reached, Starved}
 use Rattle.core_views.specs.declared.event.Event.{Event}
-use Rattle.core_views.specs.declared.event.EventKind.TheVariants.{Accessed, Answered, Begun, Exited, LookedAtHost, LookedAtSlots, SlotChanged}
+use Rattle.core_views.specs.declared.event.EventKind.TheVariants.{Accessed, Answered, Begun, Exited, LookedAtHost, LookedAtPause, LookedAtSlots, SlotChanged}
 use Rattle.core_views.specs.declared.kind.Kind.{Kind}
 use Rattle.core_views.specs.declared.sizes.Sizes.{Sizes}
 use Rattle.core_views.specs.declared.trace.Command.{Command}
 use Rattle.core_views.specs.declared.trace.Command.TheVariants.{Access, SetSlot}
 use Rattle.core_views.specs.declared.trace.Line.{Line}
+use Rattle.core_views.specs.declared.slot_set.MemorySlot.{MemorySlot}
 use Rattle.core_views.specs.declared.trace.Op.TheVariants.{Add, Read, Write}
+use Rattle.core_views.specs.declared.trace.Slot.{Slot}
 use Rattle.core_views.specs.FlatHistory.{by}
 use Rattle.core_views.specs.Held.{Held}
 use Rattle.core_views.specs.Laws.{access_line, example_slot, manager_line}
@@ -64,6 +66,10 @@ pub record RunTells (z : Sizes) (lines : List Line) (order : List ℕ) (events :
 abbrev pub run_sizes : Sizes
 run_sizes = record { pages = 128; frames = 128; words = 2; pool = 7; cache = 64; vcpus = 2; hosts = 1; workers = 0 }
 
+-- this slot, which has no dirty log
+abbrev pub unlogged : Slot → Option MemorySlot
+unlogged slot = Some (record { slot = slot; logged = false })
+
 -- The manager sets a slot, of guest frames 5 to 7, and a read-only one, of guest frames 16 to 18.
 abbrev pub set_line : Line
 set_line = manager_line 2 0 (example_slot 5 64 false)
@@ -114,35 +120,44 @@ run_order = replicate 1048 3 ++ (replicate 47 0 ++ (replicate 1581 1 ++ (replica
 abbrev pub run_events : List Event
 run_events =
     by set_line (Begun set_line)
-    ∷ by set_line (SlotChanged 0 (example_slot 5 64 false))
+    ∷ by set_line (SlotChanged 0 (unlogged (example_slot 5 64 false)))
     ∷ by set_line (Answered 2 Done)
     ∷ by set_read_only_line (Begun set_read_only_line)
-    ∷ by set_read_only_line (SlotChanged 1 (example_slot 16 0 true))
+    ∷ by set_read_only_line (SlotChanged 1 (unlogged (example_slot 16 0 true)))
     ∷ by set_read_only_line (Answered 3 Done)
     ∷ by outside_line (Begun outside_line)
+    ∷ by outside_line LookedAtPause
     ∷ by outside_line LookedAtSlots
     ∷ by outside_line (Exited Mmio)
     ∷ by outside_line (Answered 4 Mmio)
     ∷ by write_line (Begun write_line)
+    ∷ by write_line LookedAtPause
     ∷ by write_line LookedAtSlots
     ∷ by write_line (LookedAtHost 65)
+    ∷ by write_line LookedAtPause
     ∷ by write_line (Accessed 6 0 (Write 7) 65 0)
     ∷ by write_line (Answered 5 (Reached 65 0))
     ∷ by read_line (Begun read_line)
+    ∷ by read_line LookedAtPause
     ∷ by read_line (Accessed 6 0 Read 65 7)
     ∷ by read_line (Answered 6 (Reached 65 7))
     ∷ by add_line (Begun add_line)
+    ∷ by add_line LookedAtPause
     ∷ by add_line (Accessed 6 0 (Add 2) 65 7)
     ∷ by add_line (Answered 7 (Reached 65 7))
     ∷ by sum_line (Begun sum_line)
+    ∷ by sum_line LookedAtPause
     ∷ by sum_line (Accessed 6 0 Read 65 9)
     ∷ by sum_line (Answered 8 (Reached 65 9))
     ∷ by other_slot_line (Begun other_slot_line)
+    ∷ by other_slot_line LookedAtPause
     ∷ by other_slot_line LookedAtSlots
     ∷ by other_slot_line (LookedAtHost 1)
+    ∷ by other_slot_line LookedAtPause
     ∷ by other_slot_line (Accessed 17 0 Read 1 0)
     ∷ by other_slot_line (Answered 9 (Reached 1 0))
     ∷ by forbidden_line (Begun forbidden_line)
+    ∷ by forbidden_line LookedAtPause
     ∷ by forbidden_line LookedAtSlots
     ∷ by forbidden_line (Exited Mmio)
     ∷ by forbidden_line (Answered 10 Mmio)
@@ -176,9 +191,10 @@ small_order = replicate 524 3 ++ (replicate 1055 0 ++ replicate 1 3)
 abbrev pub small_events : List Event
 small_events =
     by set_line (Begun set_line)
-    ∷ by set_line (SlotChanged 0 (example_slot 5 64 false))
+    ∷ by set_line (SlotChanged 0 (unlogged (example_slot 5 64 false)))
     ∷ by set_line (Answered 2 Done)
     ∷ by starved_line (Begun starved_line)
+    ∷ by starved_line LookedAtPause
     ∷ by starved_line LookedAtSlots
     ∷ by starved_line (LookedAtHost 65)
     ∷ by starved_line (Exited Starved)
@@ -214,20 +230,26 @@ race_order = replicate 524 3 ++ (in_turn 1581 (0 ∷ 1 ∷ []) ++ replicate 46 1
 abbrev pub race_events : List Event
 race_events =
     by set_line (Begun set_line)
-    ∷ by set_line (SlotChanged 0 (example_slot 5 64 false))
+    ∷ by set_line (SlotChanged 0 (unlogged (example_slot 5 64 false)))
     ∷ by set_line (Answered 2 Done)
     ∷ by first_line (Begun first_line)
     ∷ by second_line (Begun second_line)
+    ∷ by first_line LookedAtPause
+    ∷ by second_line LookedAtPause
     ∷ by first_line LookedAtSlots
     ∷ by second_line LookedAtSlots
     ∷ by first_line (LookedAtHost 65)
     ∷ by second_line (LookedAtHost 65)
+    ∷ by second_line LookedAtPause
     ∷ by second_line LookedAtSlots
     ∷ by second_line (LookedAtHost 65)
+    ∷ by second_line LookedAtPause
     ∷ by second_line LookedAtSlots
     ∷ by second_line (LookedAtHost 65)
+    ∷ by first_line LookedAtPause
     ∷ by first_line (Accessed 6 0 (Write 7) 65 0)
     ∷ by first_line (Answered 3 (Reached 65 0))
+    ∷ by second_line LookedAtPause
     ∷ by second_line (Accessed 6 0 (Write 8) 65 7)
     ∷ by second_line (Answered 4 (Reached 65 7))
     ∷ []
@@ -251,13 +273,15 @@ wait_order = replicate 524 3 ++ (replicate 19 1 ++ (3 ∷ 1 ∷ replicate 516 3 
 abbrev pub wait_events : List Event
 wait_events =
     by set_line (Begun set_line)
-    ∷ by set_line (SlotChanged 0 (example_slot 5 64 false))
+    ∷ by set_line (SlotChanged 0 (unlogged (example_slot 5 64 false)))
     ∷ by set_line (Answered 2 Done)
     ∷ by beside_line (Begun beside_line)
+    ∷ by beside_line LookedAtPause
     ∷ by beside_line LookedAtSlots
     ∷ by beside_line (LookedAtHost 65)
     ∷ by set_read_only_line (Begun set_read_only_line)
-    ∷ by set_read_only_line (SlotChanged 1 (example_slot 16 0 true))
+    ∷ by set_read_only_line (SlotChanged 1 (unlogged (example_slot 16 0 true)))
+    ∷ by beside_line LookedAtPause
     ∷ by beside_line (Accessed 6 0 (Write 7) 65 0)
     ∷ by beside_line (Answered 4 (Reached 65 0))
     ∷ by set_read_only_line (Answered 3 Done)

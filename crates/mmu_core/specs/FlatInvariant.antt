@@ -1,5 +1,5 @@
 -- The words and hands as flat guest memory: the facts that the words stand for, and the lines that the hands have under way.
-use Rattle.std.specs.Prelude.{◌≡◌, ◌<◌, ℕ, All, Some, true, false}
+use Rattle.std.specs.Prelude.{◌≡◌, ◌<◌, ◌==◌, ℕ, All, Some, true, false, not}
 use Rattle.core_views.specs.declared.place.AccessPlace.{AccessPlace}
 use Rattle.core_views.specs.declared.place.AccessPlace.TheVariants as access
 use Rattle.core_views.specs.declared.place.FaultEnd.{FaultEnd}
@@ -25,15 +25,17 @@ use Rattle.core_views.specs.Sizes.{actors_of}
 use Rattle.core_views.specs.Slots.{contains}
 use Rattle.spte_words.specs.Areas.{content_index}
 use Rattle.spte_words.specs.declared.area.Area.TheVariants as area
-use Rattle.part_steps.specs.SlotWords.{slots_below}
+use Rattle.part_steps.specs.SlotWords.{memory_slots_below, slots_below}
 use Rattle.part_steps.specs.Tasks.{map_of}
 use Rattle.mmu_core.specs.View.{View}
 
--- The slots are the live ones of the published set, in this page; each host page is at its own frame; the content words are memory.
-pub record Refines (z : Sizes) (set : ℕ) (pool content : ℕ → ℕ) (f : Facts) : Type 0 where
-  pub slots : f.slots ≡ slots_below pool set 32
+-- The slots are the live ones of the published set, in this page, each with its dirty log or without; each host page is at its own frame;
+-- the content words are memory; and a pause is set where its word isn't 0.
+pub record Refines (z : Sizes) (set : ℕ) (pool content : ℕ → ℕ) (pause : ℕ) (f : Facts) : Type 0 where
+  pub slots : f.slots ≡ memory_slots_below pool set 32
   pub host : ◌≡◌ {A = HostMap} f.host own_frames
   pub memory : (p j : ℕ) → p < z.pages → j < z.words → f.memory p j ≡ content (content_index (map_of z) p j)
+  pub paused : f.paused ≡ not (pause == 0)
 
 -- The slots that the line looked at are those of the slot set that its search holds, and the ones that the search has passed don't hold
 -- the guest frame.
@@ -57,11 +59,17 @@ NotedAt pool (fault.Unshare e) gfn op t notes = EndNoted e gfn op notes
 NotedAt pool (fault.End e) gfn op t notes = EndNoted e gfn op notes
 NotedAt pool _ gfn op t notes = Unit {0}
 
--- An access has done nothing yet, up to its touch; behind it, it has reached its word.
+-- The line has done nothing yet, and has looked at the pause, which wasn't set.
+abbrev pub Runs : LineUnderWay → Type 0
+Runs u = (u.stage ≡ Fresh) × (u.notes.paused ≡ Some false)
+
+-- An access has done nothing yet, up to its touch; from its first stay on it has looked at the pause. Behind the touch it has reached its word.
 abbrev pub AccessUnder : (ℕ → ℕ) → AccessPlace → ℕ → Op → Topics → LineUnderWay → Type 0
-AccessUnder pool (access.Fault p) gfn op t u = (u.stage ≡ Fresh) × NotedAt pool p gfn op t u.notes
+AccessUnder pool (access.Enter again) gfn op t u = u.stage ≡ Fresh
+AccessUnder pool (access.Pause again) gfn op t u = u.stage ≡ Fresh
+AccessUnder pool (access.Fault p) gfn op t u = Runs u × NotedAt pool p gfn op t u.notes
 AccessUnder pool (access.Leave (leaving.Reached frame value)) gfn op t u = u.stage ≡ HasAccessed frame value
-AccessUnder pool _ gfn op t u = u.stage ≡ Fresh
+AccessUnder pool _ gfn op t u = Runs u
 
 -- A slot setting has done nothing yet, up to its publication; behind it, it has set its slot.
 abbrev pub SettingUnder : SetSlotPlace → LineUnderWay → Type 0
@@ -79,5 +87,5 @@ UnderIs pool (place.SetSlot p) (SetSlot id slot) h u = (u.line ≡ h.state.line)
 UnderIs pool _ _ h u = ⊥
 
 pub record FlatInvariant (z : Sizes) (v : View) (f : Flat) : Type 0 where
-  pub refines : Refines z (v.words area.Slots 0) (v.words area.Pool) (v.words area.Content) f.facts
+  pub refines : Refines z (v.words area.Slots 0) (v.words area.Pool) (v.words area.Content) (v.words area.Pause 0) f.facts
   pub under : (i : ℕ) → i < actors_of z → UnderIs (v.words area.Pool) (v.hand i).state.place (v.hand i).state.line.command (v.hand i) (f.under (v.hand i).state.actor)

@@ -23,13 +23,14 @@ pub record NoneOpened (words : Area → ℕ → ℕ) : Type 0 where
   pub seq : words area.Seq 0 ≡ 0
   pub count : words area.Count 0 ≡ 0
 
--- The words and hands are as many as the machine has, each word is a number below 2 ^ 64, no invalidation was opened, and every part
--- of the invariant holds: what lines rest on, and what is held of the machine's parts.
+-- The words and hands are as many as the machine has, each word is a number below 2 ^ 64, no invalidation was opened and no pause set, and
+-- every part of the invariant holds: what lines rest on, and what is held of the machine's parts.
 pub record IsSound (z : Sizes) (w : World Held) : Type 0 where
   pub words : length w.words ≡ total (map_of z)
   pub hands : length w.hands ≡ actors_of z
   pub small : (i : ℕ) → slice_index w.words i < 2 ^ 64
   pub none_opened : NoneOpened (word_in z w)
+  pub no_pause : word_in z w area.Pause 0 ≡ 0
   pub holds : Invariant z (view z w)
   pub topics : TopicsInvariant z (view z w)
 

@@ -15,7 +15,7 @@ use Rattle.core_views.specs.declared.topics.MapClaim.{MapClaim}
 use Rattle.core_views.specs.declared.topics.Topics.{Topics}
 use Rattle.core_views.specs.declared.trace.Slot.{Slot}
 use Rattle.core_views.specs.Held.{Held}
-use Rattle.core_views.specs.Refusals.{after_set}
+use Rattle.core_views.specs.Refusals.{after_set, is_logged}
 use Rattle.core_views.specs.Sizes.{actors_of}
 use Rattle.core_views.specs.SlotSets.{MemorySlots}
 use Rattle.spte_words.specs.declared.area.Area.TheVariants as area
@@ -103,7 +103,7 @@ set_slot_outcome Give h v = Ends Done
 -- What a step tells besides that its line begins or is answered: the slot is set where its set is published.
 abbrev pub set_slot_tells : SetSlotPlace → Held → ℕ → Slot → ℕ → List EventKind
 set_slot_tells (Claim begun) h id slot v = exiting (set_slot_outcome (Claim begun) h v)
-set_slot_tells Publish h id slot v = SlotChanged id slot ∷ []
+set_slot_tells Publish h id slot v = SlotChanged id (Some (record { slot = slot; logged = is_logged id h.slots })) ∷ []
 set_slot_tells _ h id slot v = []
 
 -- Another actor is in the way: it took the page that was tried, it has the lock, it has an invalidation open, or it is in a section.

@@ -1,12 +1,14 @@
 -- The words of a slot in a slot set, and the leaf of a host page in a slot.
-use Rattle.std.specs.Prelude.{◌≡◌, ◌<◌, ◌≤◌, ◌+◌, ◌-◌, ◌*◌, ℕ, [], ◌∷◌, ◌++◌, zero, suc, Bool, true, false, ◌&&◌, not, if◌then◌else◌}
+use Rattle.std.specs.Prelude.{◌≡◌, ◌<◌, ◌≤◌, ◌+◌, ◌-◌, ◌*◌, ℕ, List, [], ◌∷◌, ◌++◌, zero, suc, Bool, true, false, ◌&&◌, not, if◌then◌else◌}
 use Rattle.core_views.specs.declared.place.SlotField.{SlotField}
 use Rattle.core_views.specs.declared.place.SlotField.TheVariants.{Base, Pages, Host, Flags}
 use Rattle.core_views.specs.declared.trace.Slot.{Slot}
+use Rattle.core_views.specs.declared.slot_set.MemorySlot.{MemorySlot}
 use Rattle.core_views.specs.Slots.{Slots, contains}
+use Rattle.core_views.specs.SlotSets.{MemorySlots}
 use Rattle.spte_words.specs.Areas.{pool_index}
 use Rattle.spte_words.specs.Entries.{leaf_word}
-use Rattle.spte_words.specs.Flags.{flags_live, flags_read_only}
+use Rattle.spte_words.specs.Flags.{flags_live, flags_logged, flags_read_only}
 use Rattle.spte_words.specs.HostWords.{host_frame, host_allows_write}
 
 -- A slot's four words in its set, in their order.
@@ -32,10 +34,22 @@ slot_at pool set id = record {
   read_only = flags_read_only (pool (slot_index set id Flags));
 }
 
--- the live slots with IDs below n, by rising ID
+-- the same, with its dirty log or without
+abbrev pub memory_slot_at : (ℕ → ℕ) → ℕ → ℕ → MemorySlot
+memory_slot_at pool set id = record { slot = slot_at pool set id; logged = flags_logged (pool (slot_index set id Flags)) }
+
+-- what is live of the IDs below n, by rising ID
+abbrev pub live_below : {A : Type 0} → (ℕ → Bool) → (ℕ → A) → ℕ → List (ℕ × A)
+live_below live at zero = []
+live_below live at (suc n) = live_below live at n ++ (if live n then (n, at n) ∷ [] else [])
+
+-- the live slots with IDs below n
 abbrev pub slots_below : (ℕ → ℕ) → ℕ → ℕ → Slots
-slots_below pool set zero = []
-slots_below pool set (suc n) = slots_below pool set n ++ (if live_at pool set n then (n, slot_at pool set n) ∷ [] else [])
+slots_below pool set n = live_below (live_at pool set) (slot_at pool set) n
+
+-- the same, each with its dirty log or without
+abbrev pub memory_slots_below : (ℕ → ℕ) → ℕ → ℕ → MemorySlots
+memory_slots_below pool set n = live_below (live_at pool set) (memory_slot_at pool set) n
 
 -- No live slot of the set with an ID below this one has the guest frame.
 abbrev pub NoneBelow : ℕ → (ℕ → ℕ) → ℕ → ℕ → Type 0

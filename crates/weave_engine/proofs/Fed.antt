@@ -7,7 +7,7 @@ use Rattle.core_views.specs.declared.event.Event.{Event}
 use Rattle.core_views.specs.declared.event.EventKind.{EventKind}
 use Rattle.core_views.specs.declared.event.EventKind.TheVariants.{Exited, LookedAtSlots}
 use Rattle.core_views.specs.declared.place.AccessPlace.{AccessPlace}
-use Rattle.core_views.specs.declared.place.AccessPlace.TheVariants.{Touch, Fault}
+use Rattle.core_views.specs.declared.place.AccessPlace.TheVariants.{Pause, Touch, Fault}
 use Rattle.core_views.specs.declared.place.FaultPlace.TheVariants as fault
 use Rattle.core_views.specs.declared.place.Place.{Place}
 use Rattle.core_views.specs.declared.place.Place.TheVariants as place
@@ -53,6 +53,7 @@ look_fed true = tt
 look_fed false = (λ e. absurd (cc e), tt)
 
 access_fed : (p : AccessPlace) (h : Held) (gfn word : ℕ) (op : Op) (v : ℕ) → access_outcome p h gfn op v ≢ Ends Starved → AreFed (access_tells p h gfn word op v)
+access_fed (Pause again) h gfn word op v other = (λ e. absurd (cc e), tt)
 access_fed Touch h gfn word op v other = (λ e. absurd (cc e), tt)
 access_fed (Fault (fault.Find begun)) h gfn word op v other = look_fed begun
 access_fed (Fault fault.Host) h gfn word op v other = (λ e. absurd (cc e), tt)

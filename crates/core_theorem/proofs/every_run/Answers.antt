@@ -15,6 +15,7 @@ use Rattle.core_theorem.proofs.Holdings.{held_sets_are_known, none_holds_free_pa
 use Rattle.core_theorem.proofs.LineTurns.{lines_make_few_steps}
 use Rattle.core_theorem.proofs.Turns.{counts_are_few, steps_are_few}
 use Rattle.core_theorem.proofs.Pages.{pages_are_used}
+use Rattle.core_theorem.proofs.PauseSeen.{pause_is_seen_in_stay}
 use Rattle.core_theorem.proofs.Entries.{cause_of_frame}
 use Rattle.core_theorem.proofs.Runs.{before, last_actor, may_last, sound, starts_between}
 use Rattle.core_theorem.proofs.WalksKept.{held_leaves_are_linked, walks_hold_tables}
@@ -61,6 +62,9 @@ returns-clause-facts c z lines w ss R = (every_flat z lines w ss R.start R.legal
 
 pub returns-clause-rest : goal.returns-clause-rest
 returns-clause-rest c z lines w ss s answer R has ends = answered_rests z (run mmu w ss) s (sound z lines w ss (before z lines w ss s R)) (may_last z lines w ss s R) has answer ends
+
+pub returns-clause-pause : goal.returns-clause-pause
+returns-clause-pause c = pause_is_seen_in_stay
 
 pub returns-clause-counts : goal.returns-clause-counts
 returns-clause-counts c = counts_are_few

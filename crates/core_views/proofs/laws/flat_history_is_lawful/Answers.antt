@@ -19,7 +19,7 @@ use Rattle.core_views.proofs.StandsAlone.{one_by_one_stands}
 use Rattle.core_views.proofs.laws.flat_history_is_lawful.Goals as goal
 
 pub returns-clause-lawful : goal.returns-clause-lawful
-returns-clause-lawful c h lines = one_by_one_lawful h lines first_flat (λ i. refl)
+returns-clause-lawful c h lines = one_by_one_lawful h lines first_flat (λ i. refl) refl
 
 pub returns-clause-whole : goal.returns-clause-whole
 returns-clause-whole c h lines = stands_whole lines (one_by_one h lines first_facts) (one_by_one_stands h lines first_facts)

@@ -6,7 +6,7 @@ use Rattle.core_views.specs.SlotSets.{flat_slots, with_slot_at}
 use Rattle.core_views.specs.Places.{slots_from}
 use Rattle.core_views.specs.Refusals.{set_refusal, slot_from}
 use Rattle.core_views.proofs.Places.{put}
-use Rattle.core_views.proofs.Sound.{passes, refuses_as_flat, set_sound}
+use Rattle.core_views.proofs.Sound.{passes, set_sound}
 use Rattle.core_views.proofs.FlatSlots.{flat_with}
 use Rattle.core_views.proofs.slot_set.SlotSet.set.Goals as goal
 
@@ -32,7 +32,3 @@ returns-clause-flat c =
     let lt : c.args.id < length c.self.inside.places = omega (arith, c.self.invariant.0) in
     let m : MemorySlot = record { slot = slot; logged = c.is_logged-logged.result } in
     ap flat_slots (put c.args.id m c.self.inside.places lt) ∙ flat_with c.args.id m (slots_from 0 c.self.inside.places) ∙ ap (λ x. with_slot c.args.id slot (flat_slots x)) c.self.view_is
-
-pub returns-clause-unlogged : goal.returns-clause-unlogged
-returns-clause-unlogged c unlogged =
-    c.in_ok-check_set.ensures ∙ refuses_as_flat c.args.total c.args.id (slot_from c.args.base c.args.pages c.args.host c.args.ro) c.args.self.now unlogged

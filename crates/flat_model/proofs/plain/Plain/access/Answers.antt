@@ -13,9 +13,9 @@ returns-in_ok-insert-clause-reached c =
     let page = c.in-Some.page in
     let word = c.args.word in
     let op = c.args.op in
-    let before : Kept = record { sizes = c.self.inside.sizes; slots = flat_slots c.self.inside.slots; words = c.self.inside.memory.entries } in
+    let before : Kept = record { sizes = c.self.inside.sizes; slots = c.self.inside.slots; words = c.self.inside.memory.entries } in
     let after : Kept = record before { words = c.insert.new.self.entries } in
-    let behind : Some page ≡ page_behind before.slots c.args.gfn op = rw (← c.self.view_is) at c.in-Some.ensures in
+    let behind : Some page ≡ page_behind (flat_slots before.slots) c.args.gfn op = rw (← c.self.view_is) at c.in-Some.ensures in
     let value : c.unwrap_or-value.result ≡ memory_of before.words page word = search rules in
     let new : c.stored.result ≡ stored op (memory_of before.words page word) = c.stored.ensures ∙ ap (stored op) value in
     let words = subst (λ (x : ℕ). (p w : ℕ) → memory_of after.words p w ≡ with_word page word x (memory_of before.words) p w) new

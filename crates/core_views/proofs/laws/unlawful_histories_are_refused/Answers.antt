@@ -1,0 +1,21 @@
+use Rattle.std.proofs.Common.{◌≡◌, ℕ, arith}
+use Rattle.std.proofs.lemmas.Option.{same_Some}
+use Rattle.std.specs.Prelude.{Option, Some}
+use Rattle.core_views.proofs.laws.unlawful_histories_are_refused.Goals as goal
+
+-- The slot line is begun, sets its slot, and is answered; then the other line begins.
+
+pub returns-clause-starved : goal.returns-clause-starved
+returns-clause-starved c lawful = absurd (cc lawful.1.1.1.1.0.1)
+
+pub returns-clause-pause : goal.returns-clause-pause
+returns-clause-pause c lawful = absurd (cc lawful.1.1.1.1.1.1.0.2)
+
+other_frame : ◌≡◌ {A = Option ℕ} (Some 65) (Some 66) → ⊥
+other_frame e = let is : 65 ≡ 66 = same_Some 65 66 e in absurd (omega (arith, is))
+
+pub returns-clause-frame : goal.returns-clause-frame
+returns-clause-frame c lawful = other_frame lawful.1.1.1.1.1.1.1.0.3.named
+
+pub returns-clause-outside : goal.returns-clause-outside
+returns-clause-outside c lawful = absurd (cc lawful.1.1.1.1.1.1.0.3.named)
