@@ -45,6 +45,7 @@ use Rattle.core_theorem.proofs.Runs.{sound}
 use Rattle.core_theorem.specs.Runs.{IsRun}
 use Rattle.core_theorem.proofs.Paths.{GoesOn, part_goes, stays}
 use Rattle.core_theorem.proofs.Tables.{IsTable, Stands, stands_here, stands_is_table, tables_stay}
+use Rattle.core_views.specs.Slots.{is_write}
 
 -- ---- what a step of a hand makes of its walk
 
@@ -61,14 +62,14 @@ touch_goes Read h index v = stays h.topics.walk
 touch_goes (Write x) h index v = stays h.topics.walk
 touch_goes (Add x) h index v = stays h.topics.walk
 
-access_goes : (s : Option PartStep) (h : Held) (note : ℕ) (op : Op) (index v : ℕ) → RestsOn s h → Goes h (kind_of_task h.state.sizes (task_by s h note (touch_of op index))) v
-access_goes None h note op index v N = touch_goes op h index v
-access_goes (Some step) h note op index v N = made_goes h step note v N
+access_goes : (s : Option PartStep) (h : Held) (note gfn : ℕ) (op : Op) (index v : ℕ) → RestsOn s gfn (is_write op) h → Goes h (kind_of_task h.state.sizes (task_by s h note (touch_of op index))) v
+access_goes None h note gfn op index v N = touch_goes op h index v
+access_goes (Some step) h note gfn op index v N = made_goes h step note v N
 
 line_goes : (p : Place) (command : Command) (h : Held) (v : ℕ) → RestsAt p command h → Goes h (kind_of_task h.state.sizes (task_at p command h)) v
 line_goes place.Between (Access gfn word op) h v R = made_goes h part.Seq 0 v tt
 line_goes place.Between (SetSlot id slot) h v R = made_goes h part.Seq 0 v tt
-line_goes (place.Access p) (Access gfn word op) h v R = access_goes (access_part p gfn h.topics) h (access_note p) op _ v R
+line_goes (place.Access p) (Access gfn word op) h v R = access_goes (access_part p gfn h.topics) h (access_note p) gfn op _ v R
 line_goes (place.Access p) (SetSlot id slot) h v R = absurd R
 line_goes (place.SetSlot p) (Access gfn word op) h v R = absurd R
 line_goes (place.SetSlot p) (SetSlot id slot) h v R = made_goes h (set_slot_part p h id slot) (set_slot_note p h) v R

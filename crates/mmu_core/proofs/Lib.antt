@@ -130,3 +130,4 @@ pub mod TurnsNearer
 pub mod EntrySeen
 pub mod StayNearer
 pub mod StepsCounted
+pub mod UsedTranslations

@@ -258,10 +258,10 @@ map_kept z v a part.GiveOld note S I =
     (left_is part.GiveOld (v.hand a).state.sizes (own_index (v.hand a)) t note _ ∙ ap (λ x. still_leaving x t.leaving) S.needs.owns_none) I.pool_part
 map_kept z v a part.Publish note S I =
     let t : Topics = (v.hand a).topics in
-    let owns : OwnsSet t = S.needs.1.owns in
+    let owns : OwnsSet t = S.needs.owns in
     let page : page_owned t.owned ≡ owns.owned.page = ap page_owned owns.is in
     subst (λ p. PoolPart (actors_of z) z.pool p (v.words area.PoolMap) (λ i. (upd v.hand a (hand_behind v a part.Publish note) i).topics.owned) (λ i. (upd v.hand a (hand_behind v a part.Publish note) i).topics.leaving) I.stands) (sym page)
-    (publish_kept (actors_of z) z.pool (v.words area.Slots 0) (v.words area.PoolMap) v.hand a (hand_behind v a part.Publish note) owns.owned I.stands S.there owns.is S.needs.1.none_leaves
+    (publish_kept (actors_of z) z.pool (v.words area.Slots 0) (v.words area.PoolMap) v.hand a (hand_behind v a part.Publish note) owns.owned I.stands S.there owns.is S.needs.none_leaves
     (owned_is part.Publish (v.hand a).state.sizes (own_index (v.hand a)) t note _) (left_is part.Publish (v.hand a).state.sizes (own_index (v.hand a)) t note _) I.pool_part)
 map_kept z v a part.Clear note S I =
     fill_kept (actors_of z) z.pool (v.words area.Slots 0) (v.words area.PoolMap) v.hand a (hand_behind v a part.Clear note) _ I.stands S.there

@@ -1,5 +1,5 @@
 //! The steps of a guest access.
-ghost use Rattle.std.specs.Prelude.{◌≡◌, ◌<◌, All};
+ghost use Rattle.std.specs.Prelude.{◌≡◌, ◌<◌, All, IfSome};
 ghost use Rattle.core_views.specs.Slots.{is_write};
 ghost use Rattle.mmu_core.specs.FaultSteps.{allows_access};
 ghost use Rattle.spte_words.specs.Entries.{kind_of};
@@ -7,6 +7,7 @@ ghost use Rattle.mmu_core.specs.AccessSteps.{access_caches, access_loads, access
 ghost use Rattle.part_steps.specs.PartBounds.{IsAtLeafLevel};
 ghost use Rattle.mmu_core.specs.Cached.{allows, covers, first_usable, is_usable};
 ghost use Rattle.part_steps.specs.PartBounds.{PartRests};
+ghost use Rattle.part_steps.specs.PartSteps.{PartNeeds};
 ghost use Rattle.mmu_core.specs.Rests.{RestsOn};
 ghost use Rattle.part_steps.specs.Tasks.{map_of};
 ghost use Rattle.spte_words.specs.Areas.{size_of};
@@ -91,7 +92,7 @@ fn touch(op: Op, index: u64) -> Task
 
 // The step of this place, but for the touch.
 fn part(place: AccessPlace, gfn: u64, hand: &Hand) -> Option<PartStep>
-    requires rests { RestsOn (access_part place gfn hand.now.core.topics) hand.now.core }
+    requires needs { IfSome (access_part place gfn hand.now.core.topics) (λ step. PartNeeds step hand.now.core) }
     requires part { PartRests hand.now.core }
     ensures { result ≡ access_part place gfn hand.now.core.topics }
 {
@@ -122,8 +123,9 @@ pub fn access_note(place: AccessPlace) -> u64
 }
 
 /// What the step of this place is to do.
+#[tactic(auto, using(crate::proofs::UsedTranslations::part_needs))]
 pub(crate) fn task(place: AccessPlace, hand: &Hand, gfn: u64, word: u8, op: Op) -> Task
-    requires rests { RestsOn (access_part place gfn hand.now.core.topics) hand.now.core }
+    requires rests { RestsOn (access_part place gfn hand.now.core.topics) gfn (is_write op) hand.now.core }
     requires part { PartRests hand.now.core }
     requires word { word < hand.now.core.state.sizes.words }
     ensures task { result ≡ access_task place hand.now.core gfn word op }
@@ -201,7 +203,7 @@ fn behind_fault(next: FaultNext) -> Outcome
 
 /// Where the line stands after the step of this place.
 pub(crate) fn outcome(place: AccessPlace, hand: &Hand, gfn: u64, op: Op, found: u64) -> Outcome
-    requires rests { RestsOn (access_part place gfn hand.now.core.topics) hand.now.core }
+    requires rests { RestsOn (access_part place gfn hand.now.core.topics) gfn (is_write op) hand.now.core }
     requires part { PartRests hand.now.core }
     ensures { result ≡ access_outcome place hand.now.core gfn op found }
 {

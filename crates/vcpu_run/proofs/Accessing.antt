@@ -73,11 +73,11 @@ word_of z (Worker n) gfn word op may = absurd may
 
 module _ (p : AccessPlace) (job : AccessJob) (h : Held) (S : StandsAt p job h) where
   -- what the step of its place needs
-  rests_on : RestsOn (access_part p job.gfn h.topics) h
+  rests_on : RestsOn (access_part p job.gfn h.topics) job.gfn (is_write job.op) h
   rests_on = subst (λ (c : Command). RestsAt (place.Access p) c h) S.command (subst (λ (q : Place). RestsAt q (line_of h).command h) S.stands S.rests.at)
 
   pub needs : (step : PartStep) → access_part p job.gfn h.topics ≡ Some step → PartNeeds step h
-  needs step is = subst (λ (x : Option PartStep). RestsOn x h) is rests_on
+  needs step is = subst (λ (x : Option PartStep). RestsOn x job.gfn (is_write job.op) h) is rests_on
 
   task_is : task_of h ≡ task_at (place.Access p) (Access job.gfn job.word job.op) h
   task_is = ap (λ (q : Place). task_at q (line_of h).command h) S.stands ∙ ap (λ (c : Command). task_at (place.Access p) c h) S.command
