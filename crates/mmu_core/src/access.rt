@@ -22,13 +22,6 @@ use core_views::{
 use part_steps::{PartStep, Task, map_of, part_task};
 use spte_words::{Area, Spte, SpteKind};
 
-// Whether the operation writes.
-fn is_write(op: Op) -> bool
-    ensures { result ≡ is_write op }
-{
-    !matches!(op, Op::Read)
-}
-
 // Whether the translation's leaf covers the guest frame.
 #[tactic(auto, using(spte_words::proofs::Spans::span_positive))]
 fn covers(gfn: u64, translation: &Translation) -> bool
@@ -144,7 +137,7 @@ pub(crate) fn leaf_behind(place: AccessPlace, hand: &Hand, gfn: u64, op: Op, fou
     ensures { result ≡ (access_loads place hand.now.core gfn op found).leaf }
 {
     match place {
-        AccessPlace::Pause { .. } => match lookup(hand.cache(), gfn, is_write(op)) {
+        AccessPlace::Pause { .. } => match lookup(hand.cache(), gfn, op.is_write()) {
             Some(translation) => translation.leaf,
             None => hand.state().leaf,
         },
@@ -161,7 +154,7 @@ pub(crate) fn fill_cache(place: AccessPlace, hand: &mut Hand, gfn: u64, op: Op, 
     if let AccessPlace::Walk { .. } = place {
         let level = hand.topics().walk.level;
         let entry = Spte::from_word(found);
-        if entry.kind(level) == SpteKind::Leaf && (!is_write(op) || entry.is_writable()) {
+        if entry.kind(level) == SpteKind::Leaf && (!op.is_write() || entry.is_writable()) {
             hand.cache_mut().fill(Translation {
                 gfn,
                 level,
@@ -178,7 +171,7 @@ fn walk_next(again: bool, level: u8, op: Op, found: u64) -> AccessPlace
     let entry = Spte::from_word(found);
     match entry.kind(level) {
         SpteKind::Table(_) => AccessPlace::Walk { again },
-        SpteKind::Leaf if !is_write(op) || entry.is_writable() => AccessPlace::Touch,
+        SpteKind::Leaf if !op.is_write() || entry.is_writable() => AccessPlace::Touch,
         _ => AccessPlace::Leave(Leaving::Faults),
     }
 }
@@ -209,7 +202,7 @@ pub(crate) fn outcome(place: AccessPlace, hand: &Hand, gfn: u64, op: Op, found: 
 {
     let next = match place {
         AccessPlace::Enter { again } => AccessPlace::Pause { again },
-        AccessPlace::Pause { again } => match lookup(hand.cache(), gfn, is_write(op)) {
+        AccessPlace::Pause { again } => match lookup(hand.cache(), gfn, op.is_write()) {
             Some(_) => AccessPlace::Touch,
             None => AccessPlace::Root { again },
         },
@@ -227,7 +220,7 @@ pub(crate) fn outcome(place: AccessPlace, hand: &Hand, gfn: u64, op: Op, found: 
         }
         AccessPlace::Leave(Leaving::Faults) => AccessPlace::Fault(FaultPlace::Begin),
         AccessPlace::Fault(place) => {
-            return behind_fault(fault::next(place, hand, gfn, is_write(op), found));
+            return behind_fault(fault::next(place, hand, gfn, op.is_write(), found));
         }
     };
     Outcome::Goes(Place::Access(next))

@@ -5,7 +5,7 @@ ghost use Rattle.core_views.specs.Sizes.{index_of};
 use crate::{Lock, try_exclusive, try_shared, unlock};
 use core_views::{Actor, Command, Header, Hold, Line, Lines, NoMemory, Op, Trace, Words};
 use mmu_core::allows;
-use part_steps::PartStep;
+use part_steps::{PartStep, WRITER};
 use std::alloc::Global;
 use std::test::Fail;
 use step_seats::{PlainMachine, Stepper, Turn};
@@ -124,8 +124,6 @@ fn given_back_by(machine: &mut PlainMachine, actor: Actor) -> Result<bool, NoMem
     let mut seat = machine.as_actor(actor);
     given_back(&mut seat)
 }
-
-const WRITER: u64 = 1 << 63;
 
 // Two readers share the lock, and a writer finds both of them.
 #[test]

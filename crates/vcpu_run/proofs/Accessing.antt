@@ -119,13 +119,13 @@ touches job h S small =
     let frame : ℕ = frame_in h.state.leaf in
     let there = rests_on Touch job h S in
     let index : ℕ = content_index (map_of z) frame job.word in (
-      there.0,
+      there.frame,
       word_there Touch job h S,
       enabled_is h (touch_kind z frame job.word job.op 0) (record {
         left = S.left;
         rests = S.rests;
         is = ap (λ (t : Task). kind_of_task z t) (touch_same job.op index) ∙ sym (ap (λ (t : Task). kind_of_task z t) (task_is Touch job h S));
-        inside = inside_of job.op z index (place_below (map_of z) area.Content index (content_within (map_of z) frame job.word there.0 (word_there Touch job h S)));
+        inside = inside_of job.op z index (place_below (map_of z) area.Content index (content_within (map_of z) frame job.word there.frame (word_there Touch job h S)));
         small = small_of job.op z index small;
       }),
     )
