@@ -1,6 +1,6 @@
 -- The own state word and the pause word of a told world, before and behind a step of a part.
 use Rattle.std.proofs.Common.{◌≡◌, ◌<◌, ◌%◌, ◌*◌, ◌/◌, ◌^◌, ℕ, Option, Some, None, refl, sym, subst, ap, ◌∙◌, arith, length}
-use Rattle.std.specs.Prelude.{◌==◌, Bool, false, IfSome, unwrap_or, if◌then◌else◌}
+use Rattle.std.specs.Prelude.{◌==◌, Bool, true, false, IfSome, unwrap_or, if◌then◌else◌}
 use Rattle.std.specs.Int.Bits.{bit_and}
 use Rattle.std.proofs.Math.Logic.{∥∥₁_elim}
 use Rattle.std.proofs.Props.{props}
