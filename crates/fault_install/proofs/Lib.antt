@@ -1,2 +1,3 @@
 pub mod Turning
 mod Placing
+pub mod InLine

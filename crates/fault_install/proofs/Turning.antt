@@ -31,12 +31,6 @@ use Rattle.fault_install.specs.declared.fault.FaultJob.{FaultJob}
 use Rattle.fault_install.specs.declared.fault.Faulted.{Faulted}
 use Rattle.fault_install.specs.Faults.{EndsBy, IsToGoOn, MakesStep, Turned, TurnsFault, WaitsBy}
 
--- A fault that knows what its place asks may make its step.
-pub may_turn : (job : FaultJob) (note : ℕ) (h : Held) → ∥ HandReached h ∥₁ → has_line h ≡ false → job.gfn < 2 ^ 36 → FaultKnows job.place h.state.sizes job.gfn job.write h.topics → MayMake (fault_part job.place job.gfn h.topics) note h
-may_turn job note h reached idle small known =
-    let R : PartRests h = reached_part_rests h reached in
-    may_make h (fault_part job.place job.gfn h.topics) note R idle (fault_needs job.place h job.gfn job.write small R known)
-
 -- A fault ends behind the last step of its section alone, where it knows why.
 ends_by : (turn : Turn Faulted) (p place : FaultPlace) (z : Sizes) (gfn v : ℕ) (write : Bool) (t : Topics) → FaultKnows p z gfn write t → Turned (fault_next p z gfn write t v) turn place → EndsBy turn (λ e. EndKnows e z gfn write t)
 ends_by More p place z gfn v write t known turned = tt

@@ -1,16 +1,23 @@
 -- What one turn of a fault is: the step of its place, and where it stands behind it.
-use Rattle.std.specs.Prelude.{◌≡◌, ◌≢◌, ◌<◌, ◌^◌, ℕ, Bool, true}
+use Rattle.std.specs.Prelude.{◌≡◌, ◌≢◌, ◌<◌, ◌^◌, ℕ, Bool, true, length}
 use Rattle.core_views.specs.declared.place.FaultEnd.{FaultEnd}
 use Rattle.core_views.specs.declared.place.FaultEnd.TheVariants as end_of
 use Rattle.core_views.specs.declared.place.FaultNext.{FaultNext}
 use Rattle.core_views.specs.declared.place.FaultNext.TheVariants.{Goes, Ends}
 use Rattle.core_views.specs.declared.hand.Seen.{Seen}
 use Rattle.core_views.specs.declared.place.FaultPlace.{FaultPlace}
+use Rattle.core_views.specs.declared.place.AccessPlace.TheVariants.{Fault}
+use Rattle.core_views.specs.declared.place.Place.TheVariants as place
+use Rattle.core_views.specs.declared.trace.Command.TheVariants.{Access}
+use Rattle.core_views.specs.declared.trace.Op.{Op}
 use Rattle.core_views.specs.Held.{Held}
+use Rattle.core_views.specs.Slots.{is_write}
 use Rattle.mmu_core.specs.FaultKnows.{EndKnows, FaultKnows, KnowsNext}
 use Rattle.mmu_core.specs.FaultLaws.{CanAnswer}
 use Rattle.mmu_core.specs.FaultSteps.{fault_next, fault_part, wait_seen, waits}
 use Rattle.mmu_core.specs.MayMake.{MayMake}
+use Rattle.mmu_core.specs.Steps.{place_at}
+use Rattle.mmu_core.specs.Turns.{line_of}
 use Rattle.step_seats.specs.PartTurns.{MadePart}
 use Rattle.step_seats.specs.Where.{Told}
 use Rattle.step_seats.specs.declared.turn.Turn.{Turn}
@@ -52,6 +59,15 @@ abbrev pub EndsBy : Turn Faulted → (FaultEnd → Type 0) → Type 0
 EndsBy (Done answer) Knows = Knows (end_with answer)
 EndsBy (Retry cause) Knows = Knows (end_of.Retry cause)
 EndsBy _ Knows = Unit {0}
+
+-- The hand's next line is the access whose fault this is, and stands at the fault's place.
+pub record StandsInLine (job : FaultJob) (h : Held) : Type 0 where
+  pub left : length h.answers < length h.lines
+  pub stands : place_at h.state.place h ≡ place.Access (Fault job.place)
+  pub word : ℕ
+  pub op : Op
+  pub command : (line_of h).command ≡ Access job.gfn word op
+  pub writes : is_write op ≡ job.write
 
 -- The fault is at this place, whose step its actor may make, and knows what the place asks.
 pub record IsAt (p : FaultPlace) (job : FaultJob) (note : ℕ) (h : Held) : Type 0 where

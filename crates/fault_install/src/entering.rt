@@ -3,37 +3,28 @@ ghost use Rattle.core_views.specs.declared.place.FaultPlace.TheVariants as at;
 ghost use Rattle.fault_install.specs.Faults.{IsAt, MakesStep};
 ghost use Rattle.mmu_core.specs.FaultSteps.{entry_word};
 ghost use Rattle.part_steps.specs.PartBounds.{PartRests};
-ghost use Rattle.part_steps.specs.PartSteps.{IsOver, page_owned};
+ghost use Rattle.part_steps.specs.PartSteps.{IsOver};
 ghost use Rattle.step_seats.specs.Moves.{KeepsRoom};
 
 use crate::places::{after_claim, after_end, after_fill, after_walk, claim_turn};
 use crate::{FaultJob, Faulted};
-use core_views::{Cause, FaultEnd, FaultPlace, Hand, OwnedPage, Topics};
+use core_views::{Cause, FaultEnd, FaultPlace, Hand};
 use grace_period::end;
-use mmu_core::{part_rests, table_value};
+use mmu_core::{entry_word, part_rests, table_value};
 use mmu_lock::unlock;
-use part_steps::{PartStep, part_kind};
+use part_steps::{PartStep, page_owned};
 use step_seats::{Stepper, Turn, make_part};
 use table_pool::{Claim, Fill, Give};
 use tdp_walk::Walk;
 
-// The word of the guest frame's entry in the table that the walk has come to.
-fn entry_word(hand: &Hand, gfn: u64) -> u32
+// The word of the guest frame's entry in the table that the hand's walk has come
+// to.
+fn entry_word_of(hand: &Hand, gfn: u64) -> u32
     requires rests { PartRests hand.now.core }
     requires over { IsOver gfn hand.now.core.topics.walk }
     ensures { result ≡ entry_word hand.now.core.state.sizes gfn hand.now.core.topics.walk }
 {
-    part_kind(hand, PartStep::Walk(gfn), 0).word
-}
-
-// The page that is owned.
-fn page_of(topics: &Topics) -> u64
-    ensures { result ≡ page_owned topics.now.owned }
-{
-    match topics.owned {
-        Some(OwnedPage { page, .. }) => page,
-        None => 0,
-    }
+    entry_word(&hand.state().sizes, gfn, &hand.topics().walk)
 }
 
 impl FaultJob {
@@ -63,7 +54,7 @@ impl FaultJob {
         ensures same { (S.actor s.new ≡ S.actor s.old) × (S.frame s.new ≡ S.frame s.old) }
     {
         part_rests(s.hand());
-        let word = entry_word(s.hand(), self.gfn);
+        let word = entry_word_of(s.hand(), self.gfn);
         let mut walk = Walk {
             gfn: self.gfn,
             rooted: true,
@@ -97,7 +88,7 @@ impl FaultJob {
         ensures same { (S.actor s.new ≡ S.actor s.old) × (S.frame s.new ≡ S.frame s.old) }
     {
         let value = table_value(s.hand().topics());
-        let mut fill = Fill::new(page_of(s.hand().topics()));
+        let mut fill = Fill::new(page_owned(s.hand().topics().owned));
         let answer = fill.turn(s, value, note);
         self.place = after_fill(answer);
         Turn::More
@@ -112,7 +103,7 @@ impl FaultJob {
         ensures same { (S.actor s.new ≡ S.actor s.old) × (S.frame s.new ≡ S.frame s.old) }
     {
         part_rests(s.hand());
-        let word = entry_word(s.hand(), self.gfn);
+        let word = entry_word_of(s.hand(), self.gfn);
         let read = s.hand().topics().walk.entry;
         let seen = make_part(s, PartStep::Link(self.gfn), note);
         self.place = if seen == read {
@@ -131,7 +122,7 @@ impl FaultJob {
         ensures room { KeepsRoom (S.handful s.old) (S.handful s.new) }
         ensures same { (S.actor s.new ≡ S.actor s.old) × (S.frame s.new ≡ S.frame s.old) }
     {
-        let mut give = Give::new(page_of(s.hand().topics()));
+        let mut give = Give::new(page_owned(s.hand().topics().owned));
         let _ = give.turn(s, note);
         self.place = FaultPlace::Unshare(end);
         Turn::More
@@ -146,7 +137,7 @@ impl FaultJob {
         ensures same { (S.actor s.new ≡ S.actor s.old) × (S.frame s.new ≡ S.frame s.old) }
     {
         part_rests(s.hand());
-        let word = entry_word(s.hand(), self.gfn);
+        let word = entry_word_of(s.hand(), self.gfn);
         let read = s.hand().topics().walk.entry;
         let seen = make_part(s, PartStep::Leaf(self.gfn), note);
         self.place = FaultPlace::Unshare(if seen == read {

@@ -1,10 +1,11 @@
 ghost use Rattle.std.specs.Prelude.{◌≡◌, ◌<◌, ◌^◌, false};
+ghost use Rattle.core_views.specs.declared.place.AccessPlace.TheVariants.{Fault};
 ghost use Rattle.core_views.specs.declared.place.FaultPlace.TheVariants.{Begin};
-ghost use Rattle.fault_install.specs.Faults.{MakesStep, TurnsFault};
+ghost use Rattle.fault_install.specs.Faults.{MakesStep, StandsInLine, TurnsFault};
+ghost use Rattle.mmu_core.specs.AccessSteps.{access_note};
 ghost use Rattle.mmu_core.specs.FaultKnows.{FaultKnows};
 ghost use Rattle.mmu_core.specs.FaultSteps.{fault_left, fault_part};
 ghost use Rattle.mmu_core.specs.MayMake.{MayMake};
-ghost use Rattle.mmu_core.specs.Steps.{has_line};
 ghost use Rattle.mmu_core.specs.Worlds.{HandReached};
 ghost use Rattle.step_seats.specs.Moves.{KeepsRoom};
 ghost use Rattle.step_seats.specs.declared.turn.Turn.TheVariants.{More};
@@ -51,14 +52,14 @@ impl FaultJob {
         }
     }
 
-    /// A fault that knows what its place asks may make its next turn, by a hand
-    /// that has no line left.
-    pub fn may_turn(&self, hand: &Hand, note: u64)
+    /// The fault of a hand's line, which stands at the fault's place, may make its
+    /// next turn, and knows what this place asks.
+    pub fn may_turn(&self, hand: &Hand)
         requires reached { ∥ HandReached hand.now.core ∥₁ }
-        requires idle { has_line hand.now.core ≡ false }
-        requires gfn { self.now.gfn < 2 ^ 36 }
-        requires knows { FaultKnows self.now.place hand.now.core.state.sizes self.now.gfn self.now.write hand.now.core.topics }
-        ensures { MayMake (fault_part self.now.place self.now.gfn hand.now.core.topics) note hand.now.core }
+        requires stands { StandsInLine self.now hand.now.core }
+        ensures may { MayMake (fault_part self.now.place self.now.gfn hand.now.core.topics) (access_note (Fault self.now.place)) hand.now.core }
+        ensures gfn { self.now.gfn < 2 ^ 36 }
+        ensures knows { FaultKnows self.now.place hand.now.core.state.sizes self.now.gfn self.now.write hand.now.core.topics }
     {}
 
     // Makes the step of its place, and goes on to the next one.
@@ -90,8 +91,7 @@ impl FaultJob {
         }
     }
 
-    /// Makes the next step, which is one of the line whose fault it is, or of an
-    /// actor with no line left. `Wait` where a writer has the lock or a page was
+    /// Makes the next step, which is one of the line whose fault it is. `Wait` where a writer has the lock or a page was
     /// claimed by another actor meanwhile, and `Retry` where the look-up holds no
     /// more or another actor's entry stood in the way: the section is over then,
     /// and the fault is to begin anew.

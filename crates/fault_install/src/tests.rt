@@ -1,22 +1,19 @@
-//! Faults of processors with no line, beside a manager that sets slot 0: of guest
-//! frames 0 to 5, which are host pages 64 to 69, at frames 64 to 69.
-ghost use Rattle.std.specs.Prelude.{◌≡◌, ◌<◌, ◌≤◌, ◌^◌, true, false, [], ◌∷◌, IfOk, OnOk, length};
+//! Faults of the accesses of two processors, beside a manager that sets slot 0: of
+//! guest frames 0 to 5, which are host pages 64 to 69, at frames 64 to 69.
+ghost use Rattle.std.specs.Prelude.{◌≡◌, ◌<◌, ◌≤◌, ◌^◌, false, [], ◌∷◌, IfOk, IfSome, OnOk, length};
 ghost use Rattle.core_views.specs.Sizes.{index_of};
 ghost use Rattle.core_views.specs.Traces.{IsTrace};
-ghost use Rattle.core_views.specs.declared.actor.Actor.TheVariants.{Manager};
-ghost use Rattle.core_views.specs.declared.trace.Command.TheVariants.{SetSlot};
-ghost use Rattle.fault_install.specs.Faults.{IsToGoOn};
-ghost use Rattle.mmu_core.specs.FaultKnows.{FaultKnows};
-ghost use Rattle.part_steps.specs.PartSteps.{IsAtRest};
-ghost use Rattle.mmu_core.specs.Worlds.{HandReached};
+ghost use Rattle.core_views.specs.declared.actor.Actor.TheVariants.{Manager, Vcpu};
+ghost use Rattle.core_views.specs.declared.trace.Command.TheVariants.{Access, SetSlot};
+ghost use Rattle.core_views.specs.declared.trace.Op.TheVariants.{Read, Write};
+ghost use Rattle.fault_install.specs.Faults.{StandsInLine};
 
 use crate::{FaultJob, Faulted};
 use core_views::{
-    Actor, Cause, Command, FaultPlace, Hand, Header, Hold, Line, Lines, NoMemory, Op, Slot, Stay,
-    Topics, Trace, Words,
+    AccessPlace, Actor, Cause, Command, FaultPlace, Hand, Header, Line, Lines, NoMemory, Op, Place,
+    Slot, Trace, Words,
 };
-use mmu_core::{allows, next_kind, rests};
-use part_steps::PartStep;
+use mmu_core::{access_note, next_kind, rests};
 use std::alloc::Global;
 use std::test::Fail;
 use step_seats::{PlainMachine, Stepper, Turn};
@@ -111,17 +108,54 @@ fn setting() -> Line
     }
 }
 
-// The trace of the manager's line.
+// A read of the guest frame, by the first processor.
+fn reading(gfn: u64) -> Line
+    ensures { result ≡ record { number = 3; actor = Vcpu 0; command = Access gfn 0 Read } }
+{
+    Line {
+        number: 3,
+        actor: Actor::Vcpu(0),
+        command: Command::Access {
+            gfn,
+            word: 0,
+            op: Op::Read,
+        },
+    }
+}
+
+// A write of 7 to the guest frame, by the second one.
+fn writing(number: u32, gfn: u64) -> Line
+    ensures { result ≡ record { number = number; actor = Vcpu 1; command = Access gfn 0 (Write 7) } }
+{
+    Line {
+        number,
+        actor: Actor::Vcpu(1),
+        command: Command::Access {
+            gfn,
+            word: 0,
+            op: Op::Write(7),
+        },
+    }
+}
+
+// The manager's line, accesses of one guest frame by both processors, and one of
+// guest frame 4 by the second one.
 #[tactic(auto, using(step_seats::proofs::Starts::one_is_distinct))]
-fn trace(alloc: Global, pool: u32) -> Result<Trace, NoMemory>
+fn trace(alloc: Global, pool: u32, gfn: u64) -> Result<Trace, NoMemory>
     requires from { 4 ≤ pool }
     requires to { pool ≤ 8 }
+    requires gfn { gfn < 2 ^ 36 }
     ensures { IfOk result IsTrace }
 {
     Ok(Trace::unscheduled(
         alloc,
         header(alloc, pool)?,
-        Lines::from_vec(vec![in alloc; setting()]?),
+        Lines::from_vec(vec![in alloc;
+            setting(),
+            reading(gfn),
+            writing(4, gfn),
+            writing(5, 4),
+        ]?),
     ))
 }
 
@@ -137,96 +171,103 @@ fn start(alloc: Global, trace: &Trace) -> Result<PlainMachine, Fail>
     Ok(machine)
 }
 
-fn is_at_rest(topics: &Topics) -> bool
-    ensures { result ≡ true → IsAtRest topics.now }
+// The fault of the hand's line, where the line stands in one.
+fn fault_of(hand: &Hand) -> Option<FaultJob>
+    ensures { IfSome result (λ job. StandsInLine job hand.now.core) }
 {
-    topics.stay == Stay::Outside
-        && topics.hold == Hold::Loose
-        && topics.owned.is_none()
-        && topics.walk.level == 0
-        && topics.search.set.is_none()
+    let _next = hand.next_line()?;
+    let state = hand.state();
+    let Place::Access(AccessPlace::Fault(place)) = state.place else {
+        return None;
+    };
+    let Command::Access { gfn, op, .. } = state.line.command else {
+        return None;
+    };
+    Some(FaultJob {
+        gfn,
+        write: op.is_write(),
+        place,
+    })
 }
 
-// Whether the hand shows what the fault knows at its start, or at a link.
-fn stands(job: &FaultJob, hand: &Hand) -> bool
-    requires reached { ∥ HandReached hand.now.core ∥₁ }
-    ensures { result ≡ true → FaultKnows job.now.place hand.now.core.state.sizes job.now.gfn job.now.write hand.now.core.topics }
+// Makes the steps of the seat's lines up to the next fault.
+fn go_to_fault<S: Stepper>(s: &mut S) -> Result<(), Fail>
+    ensures same { (S.actor s.new ≡ S.actor s.old) × (S.frame s.new ≡ S.frame s.old) }
 {
-    match job.place {
-        FaultPlace::Begin => is_at_rest(hand.topics()),
-        FaultPlace::Link => !job.write && allows(hand, PartStep::Link(job.gfn), 0),
-        _ => false,
+    for _ in 0..40 {
+        if fault_of(s.hand()).is_some() {
+            return Ok(());
+        }
+        run_lines(s, 1)?;
     }
+    Err(Fail::new("there is no fault"))
 }
 
-fn goes_on(turn: Turn<Faulted>) -> bool
-    ensures { result ≡ true → IsToGoOn turn }
-{
-    match turn {
-        Turn::More | Turn::Wait(_) => true,
-        Turn::Retry(_) | Turn::Done(_) => false,
-    }
-}
-
-// Makes the turns of a fault up to its end, or up to its first link: how many
-// they were, and the last one.
-fn run<S: Stepper>(job: &mut FaultJob, s: &mut S, stops: bool) -> Result<(u64, Turn<Faulted>), Fail>
-    requires gfn { job.old.gfn < 2 ^ 36 }
-    requires knows { FaultKnows job.old.place (S.handful s.old).core.state.sizes job.old.gfn job.old.write (S.handful s.old).core.topics }
-{
+// Makes the turns of the fault that the seat's line stands in up to its end, or up
+// to its first link: how many they were, and the last one. Behind each of them the
+// line stands where the fault does.
+fn run<S: Stepper>(s: &mut S, stops: bool) -> Result<(u64, Turn<Faulted>), Fail> {
     for turns in 0..9000 {
+        s.reserve(&LINE)?;
+        let Some(mut job) = fault_of(s.hand()) else {
+            return Err(Fail::new("the line stands in no fault"));
+        };
         if stops && job.place == FaultPlace::Link {
             return Ok((turns, Turn::More));
         }
-        s.reserve(&LINE)?;
-        if s.hand().next_line().is_some() {
-            return Err(Fail::new("a line is left"));
-        }
-        job.may_turn(s.hand(), 0);
-        let last = job.turn(s, 0);
-        if !goes_on(last) {
+        job.may_turn(s.hand());
+        let last = job.turn(s, access_note(AccessPlace::Fault(job.place)));
+        if matches!(last, Turn::Retry(_) | Turn::Done(_)) {
             return Ok((turns + 1, last));
+        }
+        if fault_of(s.hand()) != Some(job) {
+            return Err(Fail::new("the line stands elsewhere"));
         }
     }
     Err(Fail::new("the fault goes on"))
 }
 
-// The same of a processor of the machine.
+// Makes the steps of a processor's lines up to its next fault.
+fn leave_the_guest(machine: &mut PlainMachine, vcpu: u8) -> Result<(), Fail> {
+    let actor = Actor::Vcpu(vcpu);
+    expect_actor(machine, actor)?;
+    let mut seat = machine.as_actor(actor);
+    go_to_fault(&mut seat)
+}
+
+// The turns of the next fault of a processor of the machine.
 fn fault(
     machine: &mut PlainMachine,
     vcpu: u8,
-    job: &mut FaultJob,
     stops: bool,
 ) -> Result<(u64, Turn<Faulted>), Fail> {
     let actor = Actor::Vcpu(vcpu);
     expect_actor(machine, actor)?;
     let mut seat = machine.as_actor(actor);
-    if job.gfn >= 1 << 36 || !stands(job, seat.hand()) {
-        return Err(Fail::new("the fault doesn't stand there"));
-    }
-    run(job, &mut seat, stops)
+    go_to_fault(&mut seat)?;
+    run(&mut seat, stops)
 }
 
 // The first fault makes 12 turns up to the root, then for the levels 4, 3 and 2
 // the entry, the map, the page, 513 fills and the link each, and the entry, the
-// leaf and two turns to the end. The second one finds the three tables.
+// leaf and two turns to the end. The second processor has left the guest for the
+// same guest frame before: its fault finds the three tables and the leaf. The next
+// one finds the tables alone.
 #[test]
 fn puts_tables_and_leaves(rt: HostRuntime) -> Result<(), Fail> {
-    let mut machine = start(rt.alloc(), &trace(rt.alloc(), 8)?)?;
-    let mut first = FaultJob::new(5, false);
+    let mut machine = start(rt.alloc(), &trace(rt.alloc(), 8, 5)?)?;
+    leave_the_guest(&mut machine, 1)?;
     assert_eq!(rt;
-        fault(&mut machine, 0, &mut first, false)?,
+        fault(&mut machine, 0, false)?,
         (12 + 3 * 517 + 4, Turn::Done(Faulted::Installed))
     );
-    let mut second = FaultJob::new(4, true);
     assert_eq!(rt;
-        fault(&mut machine, 1, &mut second, false)?,
-        (12 + 3 + 4, Turn::Done(Faulted::Installed))
-    );
-    let mut again = FaultJob::new(5, true);
-    assert_eq!(rt;
-        fault(&mut machine, 0, &mut again, false)?,
+        fault(&mut machine, 1, false)?,
         (12 + 4 + 2, Turn::Done(Faulted::Installed))
+    );
+    assert_eq!(rt;
+        fault(&mut machine, 1, false)?,
+        (12 + 3 + 4, Turn::Done(Faulted::Installed))
     );
     let closing = machine.into_closing();
     let words = closing.words.as_slice();
@@ -243,10 +284,9 @@ fn puts_tables_and_leaves(rt: HostRuntime) -> Result<(), Fail> {
 // Outside the slot: the four words of slot 0, and the flags of the 31 others.
 #[test]
 fn leaves_outside_the_slot(rt: HostRuntime) -> Result<(), Fail> {
-    let mut machine = start(rt.alloc(), &trace(rt.alloc(), 4)?)?;
-    let mut job = FaultJob::new(6, false);
+    let mut machine = start(rt.alloc(), &trace(rt.alloc(), 4, 6)?)?;
     assert_eq!(rt;
-        fault(&mut machine, 0, &mut job, false)?,
+        fault(&mut machine, 0, false)?,
         (3 + 4 + 31 + 1, Turn::Done(Faulted::Mmio))
     );
     Ok(())
@@ -255,10 +295,9 @@ fn leaves_outside_the_slot(rt: HostRuntime) -> Result<(), Fail> {
 // With four pool pages two tables are linked, and there is none for level 1.
 #[test]
 fn starves_where_no_page_is_free(rt: HostRuntime) -> Result<(), Fail> {
-    let mut machine = start(rt.alloc(), &trace(rt.alloc(), 4)?)?;
-    let mut job = FaultJob::new(5, false);
+    let mut machine = start(rt.alloc(), &trace(rt.alloc(), 4, 5)?)?;
     assert_eq!(rt;
-        fault(&mut machine, 0, &mut job, false)?,
+        fault(&mut machine, 0, false)?,
         (12 + 2 * 517 + 4, Turn::Done(Faulted::Starved))
     );
     let closing = machine.into_closing();
@@ -275,19 +314,17 @@ fn starves_where_no_page_is_free(rt: HostRuntime) -> Result<(), Fail> {
 // root first: page 1 is given back, and the first one is to begin anew.
 #[test]
 fn loses_its_link(rt: HostRuntime) -> Result<(), Fail> {
-    let mut machine = start(rt.alloc(), &trace(rt.alloc(), 8)?)?;
-    let mut slow = FaultJob::new(5, false);
+    let mut machine = start(rt.alloc(), &trace(rt.alloc(), 8, 5)?)?;
     assert_eq!(rt;
-        fault(&mut machine, 0, &mut slow, true)?,
+        fault(&mut machine, 0, true)?,
         (12 + 516, Turn::More)
     );
-    let mut quick = FaultJob::new(5, false);
     assert_eq!(rt;
-        fault(&mut machine, 1, &mut quick, false)?,
+        fault(&mut machine, 1, false)?,
         (12 + 3 * 517 + 4, Turn::Done(Faulted::Installed))
     );
     assert_eq!(rt;
-        fault(&mut machine, 0, &mut slow, false)?,
+        fault(&mut machine, 0, false)?,
         (
             4,
             Turn::Retry(Cause::Entry {

@@ -4,7 +4,6 @@ ghost use Rattle.mmu_core.specs.OthersRest.{OthersRest};
 ghost use Rattle.mmu_core.specs.MayMake.{MayMake};
 ghost use Rattle.part_steps.specs.PartBounds.{PartRests};
 ghost use Rattle.part_steps.specs.PartSteps.{PartNeeds};
-ghost use Rattle.part_steps.specs.TopicSteps.{in_section};
 ghost use Rattle.part_steps.specs.declared.part_step.PartStep.TheVariants as part;
 ghost use Rattle.step_seats.specs.Moves.{KeepsRoom};
 ghost use Rattle.step_seats.specs.PartTurns.{MakesPart, WherePartMade};
@@ -12,7 +11,7 @@ ghost use Rattle.step_seats.specs.declared.turn.Turn.TheVariants.{More};
 
 use core_views::{Hand, Seen};
 use mmu_core::part_rests;
-use part_steps::{PartStep, map_of, next_watched};
+use part_steps::{PartStep, in_section, map_of, next_watched};
 use std::marker::Model;
 use step_seats::{Stepper, Turn, make_part};
 
@@ -33,13 +32,6 @@ impl Model for Watch {
     ghost view = { λ w. record { has_looked = w.has_looked } };
 
     ghost inverse = { λ w. record { has_looked = w.has_looked } };
-}
-
-// Bit 1 of a state word: its actor is in a section, or in the guest.
-fn in_section(state: u64) -> bool
-    ensures { result ≡ in_section state }
-{
-    state / 2 % 2 == 1
 }
 
 impl Watch {

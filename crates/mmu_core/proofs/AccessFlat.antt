@@ -52,6 +52,7 @@ use Rattle.mmu_core.proofs.PageFound.{frame_of_leaf, leaf_allows, page_in_machin
 use Rattle.mmu_core.proofs.PartStepping.{IsPart}
 use Rattle.mmu_core.proofs.Stepping.{IsStep}
 use Rattle.mmu_core.proofs.LiveStays.{access_never}
+use Rattle.mmu_core.proofs.UsedTranslations.{uses_allows}
 
 -- The step is one of a part, if it isn't the touch.
 abbrev pub IsPartOr : Sizes → View → ℕ → Option PartStep → Type 0
@@ -123,7 +124,7 @@ touches z v a line gfn word op facts u S I K R =
     let page : ℕ = page_of F.slot gfn in
     let page_in : page < z.pages = page_in_machine z (v.words area.Slots 0) (v.words area.Role) (v.words area.Pool) F.id gfn F.slot I.set_part F.live F.holds in
     let frame : frame_in s.leaf ≡ page = ap frame_in F.is ∙ frame_of_leaf z (v.words area.Host) F.slot page I.sizes I.hosts page_in in
-    let allowed : (is_write op && F.slot.read_only) ≡ false = leaf_allows op F.slot (v.words area.Host page) s.leaf F.is K.1 in
+    let allowed : (is_write op && F.slot.read_only) ≡ false = leaf_allows op F.slot (v.words area.Host page) s.leaf F.is (uses_allows gfn (is_write op) (v.hand a) K.1) in
     record {
       page = page;
       page_in = page_in;

@@ -27,7 +27,7 @@ use Rattle.spte_words.specs.declared.spte_kind.SpteKind.TheVariants as entry_kin
 use Rattle.spte_words.specs.Areas.{pool_index}
 use Rattle.spte_words.specs.Entries.{kind_of}
 use Rattle.mmu_core.specs.declared.outcome.Outcome.{Outcome}
-use Rattle.mmu_core.specs.AccessSteps.{access_loads, access_outcome, access_task, behind_fault, leaf_used, pause_next, walk_next}
+use Rattle.mmu_core.specs.AccessSteps.{access_caches, access_loads, access_outcome, access_task, behind_fault, leaf_used, pause_next, walk_next}
 use Rattle.mmu_core.specs.Cached.{first_usable}
 use Rattle.mmu_core.specs.FaultSteps.{allows_access, fault_next}
 use Rattle.mmu_core.specs.KnowsPart.{AccessKnows}
@@ -45,6 +45,8 @@ use Rattle.mmu_core.proofs.SlotsStay.{AllKnow, hand_moved, is_live_stays, is_liv
 use Rattle.mmu_core.proofs.LiveStay.{set_stays}
 use Rattle.mmu_core.proofs.OthersStay.{access_leaves_none, access_owned_stays}
 use Rattle.mmu_core.proofs.KnowsKept.{step_leaves}
+use Rattle.mmu_core.proofs.UsedTranslations.{flushed_room, caches_room}
+use Rattle.part_steps.specs.Tasks.{kind_of_task}
 
 loads_sizes : (p : AccessPlace) (h : Held) (gfn : ℕ) (op : Op) (x : ℕ) → (access_loads p h gfn op x).sizes ≡ h.state.sizes
 loads_sizes (Pause again) h gfn op x = refl
@@ -143,7 +145,9 @@ access_kept z v a line p gfn word op S I P K makes knows =
     own : OwnLines z a after
     own =
         let O = I.lines a S.there in
-        lines_behind z a h line s o after.topics after.cached h.slots O S.next S.left (loads_sizes p h gfn op x ∙ O.sizes) (loads_actor p h gfn op x) (answered_kept (lines_done h) (lines_done after) h.lines (keys_of h.slots) (omega (arith, none_done z v a line (Access gfn word op) (place.Access p) S refl, answers_more o line h.answers)) O.answered) O.set
+        lines_behind z a h line s o after.topics after.cached h.slots O S.next S.left (loads_sizes p h gfn op x ∙ O.sizes) (loads_actor p h gfn op x)
+        (flushed_room (kind_of_task h.state.sizes (access_task p h gfn word op)) (access_caches p h gfn op x) x ∙ caches_room p h gfn op x)
+        (answered_kept (lines_done h) (lines_done after) h.lines (keys_of h.slots) (omega (arith, none_done z v a line (Access gfn word op) (place.Access p) S refl, answers_more o line h.answers)) O.answered) O.set
 
     leaves : LeavesPart after.state.place after.topics
     leaves may = access_leaves_none h p gfn word op x (step_leaves z v a line (Access gfn word op) (place.Access p) S I refl)

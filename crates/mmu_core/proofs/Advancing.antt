@@ -38,6 +38,7 @@ use Rattle.mmu_core.proofs.Sized.{loads_keep_sizes}
 use Rattle.mmu_core.specs.Steps.{has_line, held_after, idle_after, line_after, line_at, next, place_at, standing, task_at, task_of}
 use Rattle.part_steps.specs.TopicSteps.{HasRoom, topics_after}
 use Rattle.mmu_core.proofs.Which.{has_line_is, next_of_line, next_of_part}
+use Rattle.core_views.specs.Slots.{is_write}
 
 pub enabled_sizes : (h : Held) (k : Kind) → Enabled h k → AreSizes h.state.sizes
 unfolding Enabled
@@ -81,16 +82,16 @@ touch_room : (op : Op) (index : ℕ) (t : Topics) → HasRoom (touch_of op index
 touch_room Read index t = tt
 touch_room _ index t = tt
 
-access_room : (s : Option PartStep) (h : Held) (note : ℕ) (op : Op) (index : ℕ) → AreSizes h.state.sizes → RestsOn s h → HasRoom (task_by s h note (touch_of op index)).kind h.topics
-access_room None h note op index z N = touch_room op index h.topics
-access_room (Some step) h note op index z N = part_room step h note z N
+access_room : (s : Option PartStep) (h : Held) (note gfn : ℕ) (op : Op) (index : ℕ) → AreSizes h.state.sizes → RestsOn s gfn (is_write op) h → HasRoom (task_by s h note (touch_of op index)).kind h.topics
+access_room None h note gfn op index z N = touch_room op index h.topics
+access_room (Some step) h note gfn op index z N = part_room step h note z N
 
 setting_room : (p : SetSlotPlace) (h : Held) (id : ℕ) (slot : SlotOf) → AreSizes h.state.sizes → PartNeeds (set_slot_part p h id slot) h → HasRoom (set_slot_task p h id slot).kind h.topics
 setting_room p h id slot z N = part_room (set_slot_part p h id slot) h (set_slot_note p h) z N
 
 task_room : (p : Place) (command : Command) (h : Held) → AreSizes h.state.sizes → RestsAt p command h → HasRoom (task_at p command h).kind h.topics
 task_room place.Between _ h z R = tt
-task_room (place.Access p) (Access gfn word op) h z R = access_room (access_part p gfn h.topics) h (access_note p) op _ z R
+task_room (place.Access p) (Access gfn word op) h z R = access_room (access_part p gfn h.topics) h (access_note p) gfn op _ z R
 task_room (place.SetSlot p) (SetSlot id slot) h z R = setting_room p h id slot z R
 task_room _ _ h z R = absurd R
 

@@ -38,7 +38,7 @@ use Rattle.spte_words.specs.Entries.{kind_of}
 use Rattle.mmu_core.specs.declared.outcome.Outcome.{Outcome}
 use Rattle.mmu_core.specs.declared.outcome.Outcome.TheVariants.{Goes, Ends}
 use Rattle.part_steps.specs.declared.part_step.PartStep.{PartStep}
-use Rattle.mmu_core.specs.AccessSteps.{access_note, access_outcome, access_part, access_task, behind_fault, pause_next, walk_next}
+use Rattle.mmu_core.specs.AccessSteps.{access_caches, access_note, access_outcome, access_part, access_task, behind_fault, pause_next, walk_next}
 use Rattle.mmu_core.specs.AloneKnows.{AccessAlone, AloneKnows, SetSlotAlone, StayAlone}
 use Rattle.mmu_core.specs.Bounds.{stay_left}
 use Rattle.mmu_core.specs.Cached.{first_usable}
@@ -69,6 +69,8 @@ use Rattle.mmu_core.proofs.SetSlotAlone.{setting_through}
 use Rattle.mmu_core.proofs.SetSlotKnown.{SettingKnows, set_slot_known}
 use Rattle.mmu_core.specs.SetSlotKnows.{SetSlotKnows}
 use Rattle.mmu_core.proofs.KnowsKept.{KnowsBehind, NeedsAt, access_known, access_needs, access_vcpu, behind_part, task_answers, task_topics}
+use Rattle.mmu_core.proofs.UsedTranslations.{filled_behind}
+use Rattle.circular_buffer.specs.Buffer.{Buffer}
 
 -- ---- where links lead
 
@@ -258,11 +260,12 @@ access_step z w a sound others there R own sizes p line gfn word op may K alone 
     let V = access_vcpu z h.state.actor gfn word op may in
     let s : Option PartStep = access_part p gfn h.topics in
     let t : Topics = behind_part s h.topics v in
+    let cached : Buffer Translation = access_caches p h gfn op v in
     let is : topics_at (place.Access p) (Access gfn word op) h words ≡ t = task_topics s h (access_note p) op _ v (access_needs p h gfn (is_write op) V.0 V.1 R K) in
     record {
       on = subst (GoesOnAlone (place.Access p) (Access gfn word op) h words) (sym is) (access_goes z w a sound others there R own sizes p gfn word op V.1 K alone);
       rests = subst (RestsBehind (access_outcome p h gfn op v)) (sym is)
-          (rests_by (access_outcome p h gfn op v) (Access gfn word op) (hand_with line (Access gfn word op) (place.Access p) h t h.cached v) (access_known p line h gfn word op h.cached v V.1 R K (task_answers s h (access_note p) _ words)));
+          (rests_by (access_outcome p h gfn op v) (Access gfn word op) (hand_with line (Access gfn word op) (place.Access p) h t cached v) (access_known p line h gfn word op cached v (filled_behind p h gfn op v) V.1 R K (task_answers s h (access_note p) _ words)));
     }
 
 setting_step : (z : Sizes) (w : World Held) (a : ℕ) → IsSound z w → OthersRest a w → a < actors_of z → PartRests (hand_in mmu w a) → own_index (hand_in mmu w a) ≡ a → (hand_in mmu w a).state.sizes ≡ z

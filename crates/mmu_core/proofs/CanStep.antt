@@ -31,13 +31,14 @@ use Rattle.mmu_core.specs.View.{view}
 use Rattle.mmu_core.proofs.RestsKept.{hand_rests, task_within}
 use Rattle.mmu_core.proofs.Stepping.{IsStep, is_step}
 use Rattle.mmu_core.proofs.Which.{enabled_is}
+use Rattle.core_views.specs.Slots.{is_write}
 
 -- What a step writes has 64 bits.
 touch_small : (op : Op) (gfn word index : ℕ) → WritesOneWord (Access gfn word op) → (touch_of op index).written < 2 ^ 64
 touch_small Read gfn word index fits = omega arith
 touch_small _ gfn word index fits = fits
 
-access_small : (s : Option PartStep) (h : Held) (note gfn word : ℕ) (op : Op) (index : ℕ) → PartRests h → RestsOn s h → WritesOneWord (Access gfn word op) → (task_by s h note (touch_of op index)).written < 2 ^ 64
+access_small : (s : Option PartStep) (h : Held) (note gfn word : ℕ) (op : Op) (index : ℕ) → PartRests h → RestsOn s gfn (is_write op) h → WritesOneWord (Access gfn word op) → (task_by s h note (touch_of op index)).written < 2 ^ 64
 access_small None h note gfn word op index R N fits = touch_small op gfn word index fits
 access_small (Some step) h note gfn word op index R N fits = part_small step h note N R
 

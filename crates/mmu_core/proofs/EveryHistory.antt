@@ -25,7 +25,7 @@ use Rattle.mmu_core.specs.FlatInvariant.{FlatInvariant, UnderIs}
 use Rattle.mmu_core.specs.Invariant.{Invariant, UnderWay}
 use Rattle.mmu_core.specs.Laws.{IsSound}
 use Rattle.mmu_core.specs.Machine.{Legal, Step, World, answered, effect, hand_in, run}
-use Rattle.part_steps.specs.PartSteps.{own_index, part_task}
+use Rattle.part_steps.specs.PartSteps.{needs_line, own_index, part_task}
 use Rattle.mmu_core.specs.Steps.{events_of, has_line, idle_after, line_at, place_at}
 use Rattle.part_steps.specs.SlotWords.{live_at, memory_slot_at}
 use Rattle.part_steps.specs.Tasks.{kind_of_task}
@@ -63,9 +63,9 @@ part_of z v a line (SetSlot id slot) (place.SetSlot p) small S I P = makes_setti
 part_of z v a line _ _ small S I P = tt
 
 -- A step of a part tells nothing, and the words still stand for the same facts.
-part_keeps_flat : (z : Sizes) (v : View) (f : Flat) (a : ℕ) (step : PartStep) (note : ℕ) → IsPart z v a step → has_line (v.hand a) ≡ false → Invariant z v → TopicsInvariant z v → FlatInvariant z v f
+part_keeps_flat : (z : Sizes) (v : View) (f : Flat) (a : ℕ) (step : PartStep) (note : ℕ) → IsPart z v a step → needs_line step ≡ false → has_line (v.hand a) ≡ false → Invariant z v → TopicsInvariant z v → FlatInvariant z v f
     → FlatInvariant z (part_stepped a step note v) f
-part_keeps_flat z v f a step note S none I P F = record {
+part_keeps_flat z v f a step note S free none I P F = record {
   refines = refines_stay z v.words words f.facts L F.refines;
   under = at_upd (λ i (g : Held). i < actors_of z → UnderIs (words area.Pool) g.state.place g.state.line.command g (f.under g.state.actor)) v.hand a behind
       (λ lt. subst (λ q. UnderIs (words area.Pool) q h.state.line.command behind (f.under h.state.actor)) (sym (idle lt))
@@ -86,7 +86,7 @@ part_keeps_flat z v f a step note S none I P F = record {
     behind = idle_after h (kind_of_task h.state.sizes task) (answer_in task v.words)
 
     L : Leaves v.words words
-    L = part_leaves z v a step note S P (idle_never step h S.needs none)
+    L = part_leaves z v a step note S P (idle_never step free)
 
     idle : a < actors_of z → h.state.place ≡ place.Between
     idle lt = none_under h.state.place h (I.lines a lt).under none
@@ -125,7 +125,7 @@ run_flat z w f (s ∷ ss) G F legal = by (takes z w s G legal.0) (λ es F. run_f
         let then_ = more es (subst (λ (v : View). FlatInvariant z v (after_all es f)) (sym T.leads) K.1) in
         subst Tells (sym is) (stays_flat z (run mmu (effect mmu w s) ss) f es (history (effect mmu w s) ss) K.0 then_)
     by (inr T) more =
-        let then_ = more [] (subst (λ (v : View). FlatInvariant z v f) (sym T.leads) (part_keeps_flat z (view z w) f s.actor T.step T.note T.is_part T.none_left G.holds G.topics F)) in
+        let then_ = more [] (subst (λ (v : View). FlatInvariant z v f) (sym T.leads) (part_keeps_flat z (view z w) f s.actor T.step T.note T.is_part T.free T.none_left G.holds G.topics F)) in
         subst Tells (sym (events_of_part h (answered mmu w s.kind) T.none_left)) then_
 
 -- The start stands for the first flat state.

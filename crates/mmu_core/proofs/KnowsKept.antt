@@ -1,6 +1,6 @@
 -- Each actor knows what its place asks, behind each step: of its own line, of a part, and of another actor.
-use Rattle.std.proofs.Common.{◌≡◌, ◌^◌, ◌<◌, ◌≤◌, ℕ, List, [], ◌∷◌, length, refl, sym, subst, ap, ◌∙◌}
-use Rattle.std.specs.Prelude.{Bool, true, false, ◌&&◌, if◌then◌else◌, Option, Some, None}
+use Rattle.std.proofs.Common.{◌≡◌, ◌^◌, ◌<◌, ◌≤◌, ℕ, length, refl, sym, subst, ap, ◌∙◌}
+use Rattle.std.specs.Prelude.{Bool, true, false, if◌then◌else◌, Option, Some, None}
 use Rattle.circular_buffer.specs.Buffer.{Buffer}
 use Rattle.core_views.specs.declared.actor.Actor.{Actor}
 use Rattle.core_views.specs.declared.actor.Actor.TheVariants.{Vcpu}
@@ -37,8 +37,8 @@ use Rattle.mmu_core.specs.declared.outcome.Outcome.TheVariants.{Goes, Ends}
 use Rattle.part_steps.specs.declared.task.Task.{Task}
 use Rattle.part_steps.specs.declared.part_step.PartStep.{PartStep}
 use Rattle.part_steps.specs.declared.part_step.PartStep.TheVariants as part
-use Rattle.mmu_core.specs.AccessSteps.{access_note, access_outcome, access_part, access_task, behind_fault, leaf_used, pause_next, task_by, touch_of, walk_next}
-use Rattle.mmu_core.specs.Cached.{allows, covers, first_usable, flushed, is_usable}
+use Rattle.mmu_core.specs.AccessSteps.{access_note, access_outcome, access_part, access_task, behind_fault, is_found, leaf_used, pause_next, task_by, touch_of, walk_next}
+use Rattle.mmu_core.specs.Cached.{first_usable, flushed, with_leaf}
 use Rattle.mmu_core.specs.FaultKnows.{KnowsNext}
 use Rattle.mmu_core.specs.FaultLaws.{CanAnswer}
 use Rattle.mmu_core.specs.FaultSteps.{allows_access, fault_next}
@@ -58,6 +58,7 @@ use Rattle.mmu_core.specs.View.{View, answer_in, hand_after, part_stepped, stepp
 use Rattle.mmu_core.proofs.Columns.{at_upd}
 use Rattle.mmu_core.proofs.FaultKnown.{above_lowest, fault_known, gone_over, parts_answer, root_over}
 use Rattle.mmu_core.proofs.FaultNeeds.{fault_needs}
+use Rattle.mmu_core.proofs.UsedTranslations.{CachesBehind, flushed_behind, newest_filled}
 use Rattle.mmu_core.proofs.PartBounded.{part_rests_at}
 use Rattle.mmu_core.proofs.PartTopics.{is_there, part_topics_is}
 use Rattle.mmu_core.proofs.Stepping.{IsStep}
@@ -107,32 +108,24 @@ access_needs (Leave how) h gfn write vcpu small R K = K.guest
 access_needs (Fault p) h gfn write vcpu small R K = fault_needs p h gfn write small R K
 access_needs _ h gfn write vcpu small R K = tt
 
--- The translation that is used allows the access.
-found_usable : (gfn : ℕ) (write : Bool) (ts : List Translation) (t : Translation) → first_usable gfn write ts ≡ Some t → allows_access write t.leaf ≡ true
-found_usable gfn write [] t is = absurd (cc is)
-found_usable gfn write (x ∷ xs) t is = by (is_usable gfn write x) (found_usable gfn write xs t) refl is
-  where
-    one : {a b : Translation} → Some a ≡ Some b → a ≡ b
-    one e = cc e
+-- The access uses a translation that it has cached, or walks.
+pause_known : (f : Option Translation) (again : Bool) (gfn : ℕ) (write : Bool) (h g : Held) → first_usable gfn write h.cached.items ≡ f → g.cached ≡ h.cached → InGuest g.topics → g.state.leaf ≡ leaf_used f h.state.leaf → AccessKnows (pause_next again f) gfn write g
+pause_known None again gfn write h g is same I leaf = I
+pause_known (Some t) again gfn write h g is same I leaf = (I, record { translation = t; newest = ap (λ (c : Buffer Translation). first_usable gfn write c.items) same ∙ is; leaf = leaf })
 
-    last : (a b : Bool) → (a && b) ≡ true → b ≡ true
-    last true b e = e
-    last false b e = absurd (cc e)
-
-    by : (b : Bool) → (first_usable gfn write xs ≡ Some t → allows_access write t.leaf ≡ true) → is_usable gfn write x ≡ b → (if b then Some x else first_usable gfn write xs) ≡ Some t → allows_access write t.leaf ≡ true
-    by true rest usable e = ap (λ (y : Translation). allows_access write y.leaf) (sym (one e)) ∙ last (covers gfn x) (allows write x) usable
-    by false rest usable e = rest e
-
-pause_known : (f : Option Translation) (again : Bool) (gfn : ℕ) (write : Bool) (h g : Held) → first_usable gfn write h.cached.items ≡ f → InGuest g.topics → g.state.leaf ≡ leaf_used f h.state.leaf → AccessKnows (pause_next again f) gfn write g
-pause_known None again gfn write h g is I leaf = I
-pause_known (Some t) again gfn write h g is I leaf = (I, ap (λ w. allows_access write w) leaf ∙ found_usable gfn write h.cached.items t is)
-
--- The walk of a stay goes down by a link, and ends at every other entry.
-walk_known : (k : SpteKind) (allowed again : Bool) (gfn : ℕ) (write : Bool) (v : ℕ) (t : Topics) (g : Held) → kind_of t.walk.level v ≡ k → allows_access write v ≡ allowed → t.walk.level ≤ 4 → IsOver gfn t.walk
+-- The walk of a stay goes down by a link, and ends at every other entry; a leaf that allows the access is cached, and used.
+walk_known : (k : SpteKind) (allowed again : Bool) (gfn : ℕ) (write : Bool) (v : ℕ) (t : Topics) (c : Buffer Translation) (g : Held) → 1 ≤ c.capacity → g.cached ≡ (if is_found k allowed then with_leaf gfn t.walk.level v c else c) → kind_of t.walk.level v ≡ k → allows_access write v ≡ allowed → t.walk.level ≤ 4 → IsOver gfn t.walk
     → InGuest g.topics → g.topics.walk ≡ gone_down (linked_page k) t.walk (entry_index gfn t.walk.level) v → g.state.leaf ≡ v → AccessKnows (walk_next again k allowed) gfn write g
-walk_known (entry_kind.Table page) allowed again gfn write v t g is may most O I walk leaf = (I, subst (IsOver gfn) (sym walk) (gone_over gfn page v t.walk (above_lowest t.walk.level v page O.there is) most O))
-walk_known entry_kind.Leaf true again gfn write v t g is may most O I walk leaf = (I, ap (λ w. allows_access write w) leaf ∙ may)
-walk_known _ _ again gfn write v t g is may most O I walk leaf = I
+walk_known (entry_kind.Table page) allowed again gfn write v t c g room cached is may most O I walk leaf = (I, subst (IsOver gfn) (sym walk) (gone_over gfn page v t.walk (above_lowest t.walk.level v page O.there is) most O))
+walk_known entry_kind.Leaf true again gfn write v t c g room cached is may most O I walk leaf = (
+  I,
+  record {
+    translation = record { gfn = gfn; level = t.walk.level; leaf = v };
+    newest = ap (λ (x : Buffer Translation). first_usable gfn write x.items) cached ∙ newest_filled gfn t.walk.level v write c room may;
+    leaf = leaf;
+  },
+)
+walk_known _ _ again gfn write v t c g room cached is may most O I walk leaf = I
 
 -- A fault goes on, or the access is at rest again.
 fault_over_known : (n : FaultNext) (gfn word : ℕ) (op : Op) (g : Held) → KnowsNext n g.state.sizes gfn (is_write op) g.topics → KnowsBehind (behind_fault n) (Access gfn word op) g
@@ -144,25 +137,25 @@ fault_over_known (next_of.Ends end_of.Starved) gfn word op g K = K
 fault_over_known (next_of.Ends (end_of.Retry cause)) gfn word op g K = K
 
 -- behind each step of an access
-pub access_known : (p : AccessPlace) (line : Line) (h : Held) (gfn word : ℕ) (op : Op) (cached : Buffer Translation) (v : ℕ) → gfn < 2 ^ 36 → PartRests h → AccessKnows p gfn (is_write op) h → CanAnswerBy (access_part p gfn h.topics) v
+pub access_known : (p : AccessPlace) (line : Line) (h : Held) (gfn word : ℕ) (op : Op) (cached : Buffer Translation) (v : ℕ) → CachesBehind p h gfn op v cached → gfn < 2 ^ 36 → PartRests h → AccessKnows p gfn (is_write op) h → CanAnswerBy (access_part p gfn h.topics) v
     → KnowsBehind (access_outcome p h gfn op v) (Access gfn word op) (hand_with line (Access gfn word op) (place.Access p) h (behind_part (access_part p gfn h.topics) h.topics v) cached v)
-access_known (Enter again) line h gfn word op cached v small R K A = record { guest = refl; loose = K.loose; owns_none = K.owns_none; no_set = refl }
-access_known (Pause again) line h gfn word op cached v small R K A =
+access_known (Enter again) line h gfn word op cached v C small R K A = record { guest = refl; loose = K.loose; owns_none = K.owns_none; no_set = refl }
+access_known (Pause again) line h gfn word op cached v C small R K A =
     pause_known (first_usable gfn (is_write op) h.cached.items) again gfn (is_write op) h
-    (hand_with line (Access gfn word op) (place.Access (Pause again)) h (part_topics part.Pause h.topics v) cached v) refl
+    (hand_with line (Access gfn word op) (place.Access (Pause again)) h (part_topics part.Pause h.topics v) cached v) refl C
     (record { guest = K.guest; loose = K.loose; owns_none = K.owns_none; no_set = K.no_set }) refl
-access_known (Root again) line h gfn word op cached v small R K A = (
+access_known (Root again) line h gfn word op cached v C small R K A = (
   record { guest = K.guest; loose = K.loose; owns_none = K.owns_none; no_set = K.no_set },
   subst (λ (b : Bool). IsOver gfn (at_root b h.topics.walk v)) (sym (ap (λ (s : Stay). may_walk s h.topics.hold) K.guest)) (root_over gfn v h.topics.walk small),
 )
-access_known (Walk again) line h gfn word op cached v small R K A =
-    walk_known (kind_of h.topics.walk.level v) (allows_access (is_write op) v) again gfn (is_write op) v h.topics
-    (hand_with line (Access gfn word op) (place.Access (Walk again)) h (part_topics (part.Walk gfn) h.topics v) cached v) refl refl R.level K.1
+access_known (Walk again) line h gfn word op cached v C small R K A =
+    walk_known (kind_of h.topics.walk.level v) (allows_access (is_write op) v) again gfn (is_write op) v h.topics h.cached
+    (hand_with line (Access gfn word op) (place.Access (Walk again)) h (part_topics (part.Walk gfn) h.topics v) cached v) R.cache C refl refl R.level K.1
     (record { guest = K.0.guest; loose = K.0.loose; owns_none = K.0.owns_none; no_set = K.0.no_set }) refl refl
-access_known Touch line h gfn word op cached v small R K A = K.0
-access_known (Leave (leaving.Reached frame value)) line h gfn word op cached v small R K A = record { outside = refl; loose = K.loose; owns_none = K.owns_none; no_table = refl; no_set = refl }
-access_known (Leave leaving.Faults) line h gfn word op cached v small R K A = record { outside = refl; loose = K.loose; owns_none = K.owns_none; no_table = refl; no_set = refl }
-access_known (Fault p) line h gfn word op cached v small R K A =
+access_known Touch line h gfn word op cached v C small R K A = K.0
+access_known (Leave (leaving.Reached frame value)) line h gfn word op cached v C small R K A = record { outside = refl; loose = K.loose; owns_none = K.owns_none; no_table = refl; no_set = refl }
+access_known (Leave leaving.Faults) line h gfn word op cached v C small R K A = record { outside = refl; loose = K.loose; owns_none = K.owns_none; no_table = refl; no_set = refl }
+access_known (Fault p) line h gfn word op cached v C small R K A =
     fault_over_known (fault_next p h.state.sizes gfn (is_write op) h.topics v) gfn word op
     (hand_with line (Access gfn word op) (place.Access (Fault p)) h (behind_part (access_part (Fault p) gfn h.topics) h.topics v) cached v)
     (fault_known p h gfn v (is_write op) small R K A)
@@ -193,7 +186,7 @@ own_access p line h gfn word op words vcpu small R K =
     let cached : Buffer Translation = flushed (kind_of_task h.state.sizes (access_task p h gfn word op)) (caches_at (place.Access p) (Access gfn word op) h v) v in
     subst (λ (t : Topics). KnowsBehind (access_outcome p h gfn op v) (Access gfn word op) (hand_with line (Access gfn word op) (place.Access p) h t cached v))
     (sym (task_topics s h (access_note p) op _ v (access_needs p h gfn (is_write op) vcpu small R K)))
-    (access_known p line h gfn word op cached v small R K (task_answers s h (access_note p) _ words))
+    (access_known p line h gfn word op cached v (flushed_behind p h gfn word op v) small R K (task_answers s h (access_note p) _ words))
 
 -- what a slot setting knows behind a step is what its next place asks
 setting_behind : (o : Outcome) (id : ℕ) (slot : Slot) (g : Held) → SettingKnows o g → KnowsBehind o (SetSlot id slot) g
@@ -264,7 +257,7 @@ setting_needs : (z : Sizes) (v : View) (a : ℕ) (line : Line) (p : SetSlotPlace
     → PartNeeds (set_slot_part p (v.hand a) id slot) (v.hand a)
 setting_needs z v a line p id slot S I P =
     let h : Held = v.hand a in
-    set_slot_needs p h id slot (has_line_is h S.left)
+    set_slot_needs p h id slot
     (value_small id slot h.slots (words_filled h.topics.owned) (in_range z line.actor id slot S.allowed) (record_small z h.lines h.slots (I.lines a S.there).allowed (I.lines a S.there).set))
     (part_rests_at z v a I P S.there) (step_knows z v a line (SetSlot id slot) (place.SetSlot p) S I)
 

@@ -6,7 +6,7 @@ use Rattle.std.proofs.Math.Logic.{∥∥₁_elim, ∥∥₁_map}
 use Rattle.std.proofs.Props.{props}
 use Rattle.std.proofs.lemmas.Bool.{cases_lt}
 use Rattle.core_views.specs.declared.place.AccessPlace.{AccessPlace}
-use Rattle.core_views.specs.declared.place.AccessPlace.TheVariants.{Fault}
+use Rattle.core_views.specs.declared.place.AccessPlace.TheVariants.{Touch, Fault}
 use Rattle.core_views.specs.declared.place.Cause.{Cause}
 use Rattle.core_views.specs.declared.place.Cause.TheVariants.{Entry}
 use Rattle.core_views.specs.declared.place.CheckStage.{CheckStage}
@@ -46,6 +46,7 @@ use Rattle.mmu_core.proofs.Starts.{reached_good}
 use Rattle.core_views.specs.declared.place.SetSlotPlace.{SetSlotPlace}
 use Rattle.core_views.specs.declared.place.SetSlotPlace.TheVariants as set_slot
 use Rattle.mmu_core.specs.SetSlotKnows.{SetSlotKnows}
+use Rattle.mmu_core.proofs.UsedTranslations.{uses_stays}
 
 -- what can be decided of two facts, of how far a check has come, and of an entry
 both_or : {A B : Type 0} → A ⊎ (A → ⊥) → B ⊎ (B → ⊥) → (A × B) ⊎ (A × B → ⊥)
@@ -175,6 +176,7 @@ fault_stays (fault.End e) z gfn write t x = (∥∥₁_elim x (hlevel props) (λ
 fault_stays _ z gfn write t x = prop_stays (hlevel props) x
 
 access_stays : (p : AccessPlace) (gfn : ℕ) (write : Bool) (h : Held) → ∥ AccessKnows p gfn write h ∥₁ → AccessKnows p gfn write h
+access_stays Touch gfn write h x = (∥∥₁_elim x (hlevel props) (λ K. K.0), uses_stays gfn write h (∥∥₁_map x (λ K. K.1)))
 access_stays (Fault p) gfn write h x = fault_stays p h.state.sizes gfn write h.topics x
 access_stays _ gfn write h x = prop_stays (hlevel props) x
 

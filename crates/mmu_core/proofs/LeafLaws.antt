@@ -40,6 +40,7 @@ use Rattle.mmu_core.proofs.TreePlaces.{root_stands}
 use Rattle.mmu_core.proofs.LeadsDown.{below_stands, leads_down, run_above}
 use Rattle.mmu_core.proofs.PageFound.{frame_of_host, page_in_machine}
 use Rattle.mmu_core.proofs.SlotLists.{only_one_holds}
+use Rattle.mmu_core.proofs.UsedTranslations.{uses_allows}
 
 -- A write gets the page of its slot, where the slot isn't read-only.
 gets_page : (write read_only : Bool) (page : ℕ) → write ≡ true → is_some (if write && read_only then None else Some page) ≡ not read_only
@@ -182,7 +183,7 @@ at_touch : (z : Sizes) (pool host : ℕ → ℕ) (set : ℕ) (h : Held) (p : Pla
 at_touch z pool host set h p c gfn word op at is holds knows =
     let here : Holds z pool host set (place.Access Touch) (Access gfn word op) h = subst (λ (d : Command). Holds z pool host set (place.Access Touch) d h) is (subst (λ (q : Place). Holds z pool host set q c h) at holds) in
     let knows_here : KnowsPart (place.Access Touch) (Access gfn word op) h = subst (λ (d : Command). KnowsPart (place.Access Touch) d h) is (subst (λ (q : Place). KnowsPart q c h) at knows) in
-    (here, knows_here.1)
+    (here, uses_allows gfn (is_write op) h knows_here.1)
 
 pub used_leaves_agree : (z : Sizes) (w : World Held) (actor gfn word : ℕ) (op : Op) → IsSound z w → actor < actors_of z → (hand_in mmu w actor).state.place ≡ place.Access Touch
     → (hand_in mmu w actor).state.line.command ≡ Access gfn word op

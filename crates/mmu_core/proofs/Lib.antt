@@ -137,3 +137,4 @@ pub mod EntrySeen
 pub mod StayNearer
 pub mod StepsCounted
 pub mod AnsweredRest
+pub mod UsedTranslations

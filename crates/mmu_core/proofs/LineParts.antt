@@ -26,6 +26,7 @@ use Rattle.mmu_core.specs.SetSlotSteps.{set_slot_task, set_slot_note, set_slot_p
 use Rattle.mmu_core.specs.Steps.{line_at, place_at, task_at}
 use Rattle.part_steps.specs.Tasks.{kind_of_task}
 use Rattle.part_steps.specs.TopicSteps.{topics_after}
+use Rattle.core_views.specs.Slots.{is_write}
 
 -- the step of a part, whose needs the hand holds
 pub record IsPartKind (h : Held) (k : Kind) : Type 0 where
@@ -49,16 +50,16 @@ unfolding topics_after
 touch_quiet Read z t index = record { code = λ e. absurd (omega (arith, e)); claim = λ v. refl; watched = λ v. refl; stay = λ v. refl }
 touch_quiet _ z t index = record { code = λ e. absurd (omega (arith, e)); claim = λ v. refl; watched = λ v. refl; stay = λ v. refl }
 
-access_kind : (s : Option PartStep) (h : Held) (note : ℕ) (op : Op) (index : ℕ) → RestsOn s h → PartOrQuiet h (task_by s h note (touch_of op index))
-access_kind None h note op index N = inr (touch_quiet op h.state.sizes h.topics index)
-access_kind (Some step) h note op index N = inl (record { step = step; note = note; is = refl; needs = N })
+access_kind : (s : Option PartStep) (h : Held) (note gfn : ℕ) (op : Op) (index : ℕ) → RestsOn s gfn (is_write op) h → PartOrQuiet h (task_by s h note (touch_of op index))
+access_kind None h note gfn op index N = inr (touch_quiet op h.state.sizes h.topics index)
+access_kind (Some step) h note gfn op index N = inl (record { step = step; note = note; is = refl; needs = N })
 
 setting_kind : (p : SetSlotPlace) (h : Held) (id : ℕ) (slot : Slot) → PartNeeds (set_slot_part p h id slot) h → PartOrQuiet h (set_slot_task p h id slot)
 setting_kind p h id slot N = inl (record { step = set_slot_part p h id slot; note = set_slot_note p h; is = refl; needs = N })
 
 line_kind : (p : Place) (command : Command) (h : Held) → RestsAt p command h → PartOrQuiet h (task_at p command h)
 line_kind place.Between _ h R = inl (record { step = part.Seq; note = 0; is = refl; needs = tt })
-line_kind (place.Access p) (Access gfn word op) h R = access_kind (access_part p gfn h.topics) h (access_note p) op _ R
+line_kind (place.Access p) (Access gfn word op) h R = access_kind (access_part p gfn h.topics) h (access_note p) gfn op _ R
 line_kind (place.SetSlot p) (SetSlot id slot) h R = setting_kind p h id slot R
 line_kind _ _ h R = absurd R
 

@@ -113,9 +113,10 @@ under_behind h line s place.Between t c slots is left = tt
 under_behind h line s _ t c slots is left = (is, left)
 
 pub lines_behind : (z : Sizes) (a : ℕ) (h : Held) (line : Line) (s : State) (o : Outcome) (t : Topics) (c : Buffer Translation) (slots : MemorySlots) → OwnLines z a h → line ≡ next_line h → length h.answers < length h.lines
-    → s.sizes ≡ z → s.actor ≡ h.state.actor → AreSetBy h.lines (lines_done (behind h line s o t c slots)) (keys_of slots) → All (IsSetBy h.lines) slots → OwnLines z a (behind h line s o t c slots)
-lines_behind z a h line s (Goes p) t c slots O is left same actor answered set = record {
+    → s.sizes ≡ z → s.actor ≡ h.state.actor → c.capacity ≡ h.cached.capacity → AreSetBy h.lines (lines_done (behind h line s o t c slots)) (keys_of slots) → All (IsSetBy h.lines) slots → OwnLines z a (behind h line s o t c slots)
+lines_behind z a h line s (Goes p) t c slots O is left same actor room answered set = record {
   sizes = same;
+  cache = room ∙ O.cache;
   index = ap (index_of z) actor ∙ O.index;
   allowed = O.allowed;
   own = subst (λ x. All (λ (l : Line). l.actor ≡ x) h.lines) (sym actor) O.own;
@@ -124,8 +125,9 @@ lines_behind z a h line s (Goes p) t c slots O is left same actor answered set =
   answered = answered;
   set = set;
 }
-lines_behind z a h line s (Ends answer) t c slots O is left same actor answered set = record {
+lines_behind z a h line s (Ends answer) t c slots O is left same actor room answered set = record {
   sizes = same;
+  cache = room ∙ O.cache;
   index = ap (index_of z) actor ∙ O.index;
   allowed = O.allowed;
   own = subst (λ x. All (λ (l : Line). l.actor ≡ x) h.lines) (sym actor) O.own;

@@ -137,6 +137,6 @@ part_small (part.Fill value) h note N R = fill_small (words_filled h.topics.owne
 part_small part.Give h note N R = power_small (page_owned h.topics.owned % 64) (omega arith)
 part_small (part.Link gfn) h note N R = link_small h N.3 R
 part_small (part.Leaf gfn) h note N R = leaf_small h N.0.looked_up R
-part_small part.Publish h note N R = publish_small h N.1 R
+part_small part.Publish h note N R = publish_small h N R
 part_small part.GiveOld h note N R = power_small (page_left h.topics.leaving % 64) (omega arith)
 part_small _ h note N R = omega arith

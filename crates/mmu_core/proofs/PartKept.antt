@@ -20,7 +20,7 @@ use Rattle.std.specs.Prelude.{false}
 use Rattle.core_views.specs.declared.trace.Command.{Command}
 use Rattle.core_views.specs.SlotSets.{MemorySlots}
 use Rattle.mmu_core.specs.Invariant.{CachedPart, Holds, Invariant, InvariantOf, IsLeafFor, OwnLines, RecordPart, UnderWay}
-use Rattle.part_steps.specs.PartSteps.{has_line, own_index, part_task}
+use Rattle.part_steps.specs.PartSteps.{has_line, needs_line, own_index, part_task}
 use Rattle.mmu_core.proofs.LiveStay.{StayLive, set_stays, translations_stay}
 use Rattle.mmu_core.proofs.LiveStays.{SetStays, published_stays}
 use Rattle.mmu_core.proofs.OthersStay.{leaves_none, owned_stays}
@@ -28,13 +28,14 @@ use Rattle.mmu_core.proofs.PartStepping.{IsPart, idle_never, is_publish}
 use Rattle.mmu_core.proofs.PartWords.{areas_stay, role_stays, slots_are, slots_elsewhere, slots_same}
 use Rattle.mmu_core.proofs.SlotsStay.{AllKnow, hand_moved, is_live_stays, is_live_was, record_stays}
 use Rattle.mmu_core.proofs.Which.{has_line_is}
+use Rattle.mmu_core.proofs.UsedTranslations.{flushed_room}
 
 -- a hand with other topics, and with other translations in its cache
 abbrev pub with_topics : Held → Topics → Buffer Translation → Held
 with_topics h t c = record { state = h.state; topics = t; cached = c; slots = h.slots; lines = h.lines; answers = h.answers }
 
-own_lines : (z : Sizes) (i : ℕ) (h : Held) (t : Topics) (c : Buffer Translation) → OwnLines z i h → OwnLines z i (with_topics h t c)
-own_lines z i h t c O = record { sizes = O.sizes; index = O.index; allowed = O.allowed; own = O.own; distinct = O.distinct; under = under h.state.place O.under; answered = O.answered; set = O.set }
+own_lines : (z : Sizes) (i : ℕ) (h : Held) (t : Topics) (c : Buffer Translation) → c.capacity ≡ h.cached.capacity → OwnLines z i h → OwnLines z i (with_topics h t c)
+own_lines z i h t c room O = record { cache = room ∙ O.cache; sizes = O.sizes; index = O.index; allowed = O.allowed; own = O.own; distinct = O.distinct; under = under h.state.place O.under; answered = O.answered; set = O.set }
   where
     under : (p : Place) → UnderWay p h → UnderWay p (with_topics h t c)
     under place.Between e = tt
@@ -46,14 +47,14 @@ idle_holds z pool host set place.Between command h g none under = tt
 idle_holds z pool host set _ command h g none under = let has = has_line_is h under.1 in absurd (cc (none, has))
 
 -- A step of a part by an actor that has no line left.
-pub part_keeps_lines : (z : Sizes) (v : View) (a : ℕ) (step : PartStep) (note : ℕ) → IsPart z v a step → has_line (v.hand a) ≡ false → Invariant z v → TopicsInvariant z v → AllKnow z (part_stepped a step note v).hand → Invariant z (part_stepped a step note v)
-part_keeps_lines z v a step note S none I P knows =
+pub part_keeps_lines : (z : Sizes) (v : View) (a : ℕ) (step : PartStep) (note : ℕ) → IsPart z v a step → needs_line step ≡ false → has_line (v.hand a) ≡ false → Invariant z v → TopicsInvariant z v → AllKnow z (part_stepped a step note v).hand → Invariant z (part_stepped a step note v)
+part_keeps_lines z v a step note S free none I P knows =
     subst (λ n. InvariantOf z n (words area.Role) (words area.Pool) (words area.Host) (upd v.hand a after)) (sym (slots_are v a step note ∙ slots_same step h.topics set never))
     (subst (λ (f : ℕ → ℕ). InvariantOf z set (words area.Role) (words area.Pool) f (upd v.hand a after)) (sym (areas_stay v a step note area.Host refl))
     (hand_moved z set set (v.words area.Role) (words area.Role) (v.words area.Pool) (words area.Pool) (v.words area.Host) v.hand a after live
     (set_stays z (v.words area.Role) (words area.Role) (v.words area.Pool) set (words area.Pool) set (is_live_was set (v.words area.Pool) (words area.Pool) stays)
     (role_stays z v a step note S set (slots_elsewhere z v a step S P) ∙ I.set_part.role_is) I.set_part)
-    (owned_stays z v a step note S P) (λ i lt ne is. recorded (v.hand i).slots (I.recorded i lt is)) (own_lines z a h after.topics after.cached (I.lines a S.there))
+    (owned_stays z v a step note S P) (λ i lt ne is. recorded (v.hand i).slots (I.recorded i lt is)) (own_lines z a h after.topics after.cached (flushed_room (kind_of_task h.state.sizes t) h.cached x) (I.lines a S.there))
     (idle_holds z (words area.Pool) (v.words area.Host) set h.state.place h.state.line.command h after none (I.lines a S.there).under)
     (λ may. leaves_none step h.state.sizes (own_index h) h.topics note x never (I.leaves a S.there may)) cached (λ is. recorded h.slots (I.recorded a S.there is)) knows I))
   where
@@ -76,7 +77,7 @@ part_keeps_lines z v a step note S none I P knows =
     after = idle_after h (kind_of_task h.state.sizes t) x
 
     never : is_publish step ≡ false
-    never = idle_never step h S.needs none
+    never = idle_never step free
 
     stays : SetStays set (v.words area.Pool) (words area.Pool)
     stays = published_stays z v a step note S P

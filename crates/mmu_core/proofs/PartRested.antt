@@ -1,4 +1,4 @@
--- What the steps of the parts rest on holds of every hand that some world has; with it, a hand with no line left may make each step that it holds the needs of.
+-- What the steps of the parts rest on holds of every hand that some world has; with it, a hand with no line left may make each step that it holds the needs of and that isn't one of lines alone.
 use Rattle.std.proofs.Common.{◌≡◌, inr, ◌<◌, ℕ, refl, subst}
 use Rattle.std.specs.Prelude.{false}
 use Rattle.std.proofs.Math.Logic.{∥∥₁_elim}
@@ -11,7 +11,7 @@ use Rattle.mmu_core.specs.Laws.{IsSound}
 use Rattle.mmu_core.specs.Machine.{World, hand_in}
 use Rattle.mmu_core.specs.MayMake.{MayMake}
 use Rattle.part_steps.specs.PartBounds.{PartRests}
-use Rattle.part_steps.specs.PartSteps.{PartNeeds, part_kind}
+use Rattle.part_steps.specs.PartSteps.{PartNeeds, needs_line, part_kind}
 use Rattle.mmu_core.specs.Steps.{has_line}
 use Rattle.mmu_core.specs.View.{view}
 use Rattle.mmu_core.specs.Worlds.{HandReached}
@@ -31,8 +31,8 @@ enabled_part : (h : Held) (step : PartStep) (note : ℕ) → IsPartStep h (part_
 unfolding Enabled
 enabled_part h step note e = inr e
 
-pub may_make : (h : Held) (step : PartStep) (note : ℕ) → PartRests h → has_line h ≡ false → PartNeeds step h → MayMake step note h
-may_make h step note R none N = record {
+pub may_make : (h : Held) (step : PartStep) (note : ℕ) → PartRests h → has_line h ≡ false → needs_line step ≡ false → PartNeeds step h → MayMake step note h
+may_make h step note R none free N = record {
   needs = N;
-  enabled = enabled_part h step note (record { none_left = none; sizes = R.sizes; step = step; note = note; is = refl; needs = N; within = part_within step h N R; small = part_small step h note N R });
+  enabled = enabled_part h step note (record { none_left = none; sizes = R.sizes; step = step; free = free; note = note; is = refl; needs = N; within = part_within step h N R; small = part_small step h note N R });
 }

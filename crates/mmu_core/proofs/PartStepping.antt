@@ -1,7 +1,6 @@
 -- A step of a part, with what the invariant says of its hand.
 use Rattle.std.proofs.Common.{◌≡◌, ◌<◌, ◌^◌, ℕ, false, Bool, true, refl}
 use Rattle.core_views.specs.declared.sizes.Sizes.{Sizes}
-use Rattle.core_views.specs.Held.{Held}
 use Rattle.core_views.specs.Sizes.{AreSizes, actors_of}
 use Rattle.core_views.specs.declared.topics.Topics.{Topics}
 use Rattle.core_views.specs.declared.trace.Slot.{Slot as SlotOf}
@@ -9,7 +8,7 @@ use Rattle.spte_words.specs.declared.area.Area.{Area}
 use Rattle.spte_words.specs.declared.area.Area.TheVariants as area
 use Rattle.part_steps.specs.declared.part_step.PartStep.TheVariants as part
 use Rattle.part_steps.specs.declared.part_step.PartStep.{PartStep}
-use Rattle.part_steps.specs.PartSteps.{IsWithin, PartNeeds, own_index, page_owned, has_line}
+use Rattle.part_steps.specs.PartSteps.{IsWithin, PartNeeds, needs_line, own_index, page_owned}
 use Rattle.mmu_core.specs.SlotSetPart.{IsLiveIn}
 use Rattle.mmu_core.specs.View.{View}
 
@@ -34,10 +33,10 @@ abbrev pub is_publish : PartStep → Bool
 is_publish part.Publish = true
 is_publish _ = false
 
--- An actor that has no line left publishes nothing.
-pub idle_never : (step : PartStep) (h : Held) → PartNeeds step h → has_line h ≡ false → is_publish step ≡ false
-idle_never part.Publish h needs none = let has = needs.0 in absurd (cc (has, none))
-idle_never _ h needs none = refl
+-- A step that isn't one of lines alone publishes nothing.
+pub idle_never : (step : PartStep) → needs_line step ≡ false → is_publish step ≡ false
+idle_never part.Publish free = absurd (cc free)
+idle_never _ free = refl
 
 pub replaces_none : (step : PartStep) (pool : ℕ → ℕ) (slots : ℕ) (t : Topics) → is_publish step ≡ false → Replaces step pool slots t
 replaces_none part.Publish pool slots t never = absurd (cc never)

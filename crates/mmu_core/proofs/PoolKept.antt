@@ -87,11 +87,11 @@ map_kept z v a part.GiveOld note S I =
     (left_is part.GiveOld (v.hand a).state.sizes (own_index (v.hand a)) t note _ ∙ ap (λ x. still_leaving x t.leaving) S.needs.owns_none))
 map_kept z v a part.Publish note S I =
     let t : Topics = (v.hand a).topics in
-    let owns : OwnsSet t = S.needs.1.owns in
+    let owns : OwnsSet t = S.needs.owns in
     let page : page_owned t.owned ≡ owns.owned.page = ap page_owned owns.is in
     let h : Held = hand_behind v a part.Publish note in
     subst (λ p. UsePart (actors_of z) z.pool p (v.words area.PoolMap) (λ i. (upd v.hand a h i).topics.owned) (λ i. (upd v.hand a h i).topics.leaving) (upd (upd I.up (v.words area.Slots 0) (OldSet a)) p SlotSet)) (sym page)
-    (publish_kept v.hand I.uses a h S.there owns.owned owns.is S.needs.1.none_leaves
+    (publish_kept v.hand I.uses a h S.there owns.owned owns.is S.needs.none_leaves
     (owned_is part.Publish (v.hand a).state.sizes (own_index (v.hand a)) t note _) (left_is part.Publish (v.hand a).state.sizes (own_index (v.hand a)) t note _))
 map_kept z v a part.Clear note S I =
     fill_kept v.hand I.uses a (hand_behind v a part.Clear note) S.there _

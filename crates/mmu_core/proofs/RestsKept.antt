@@ -1,6 +1,6 @@
 -- What a line rests on, from the invariant; and that the word of its next step is one of the words.
 use Rattle.std.proofs.Common.{◌≡◌, ◌⊎◌, inl, inr, ◌<◌, ◌≤◌, ◌+◌, ◌-◌, ℕ, length, refl, sym, subst, ap, ◌∙◌, arith}
-use Rattle.std.specs.Prelude.{true, ◌&&◌, nat_le, nat_lt, Option, Some, None}
+use Rattle.std.specs.Prelude.{Bool, true, ◌&&◌, nat_le, nat_lt, Option, Some, None}
 use Rattle.std.proofs.Math.Logic.{∥∥₁_elim, ∥∥₁_map}
 use Rattle.std.proofs.Props.{props}
 use Rattle.std.proofs.lemmas.Bool.{cases_lt}
@@ -56,6 +56,7 @@ pub use Rattle.mmu_core.proofs.PartBounded.{host_at}
 use Rattle.mmu_core.proofs.PartFits.{part_within_by}
 use Rattle.mmu_core.proofs.Stepping.{is_step}
 use Rattle.mmu_core.specs.Invariant.{Holds, HostWordsPart, Invariant, IsLeafFor, KnowsPart, SetSlotHolds, SlotSetPart}
+use Rattle.mmu_core.proofs.UsedTranslations.{uses_stays}
 
 -- The leaf that an access uses is at a frame of the machine.
 leaf_there : (z : Sizes) (set : ℕ) (role pool host : ℕ → ℕ) (gfn leaf : ℕ) → AreSizes z → SlotSetPart z set role pool → HostWordsPart z host → IsLeafFor pool host set gfn leaf → frame_in leaf < z.frames
@@ -75,9 +76,12 @@ leaf_there z set role pool host gfn leaf sizes part hosts L =
 
 -- The next step of a line finds what it needs.
 access_rests : (p : AccessPlace) (z : Sizes) (v : View) (h : Held) (gfn word : ℕ) (op : Op) → Invariant z v → h.state.sizes ≡ z → IsCommandFor z h.state.actor (Access gfn word op) → PartRests h → AccessKnows p gfn (is_write op) h
-    → Holds z (v.words area.Pool) (v.words area.Host) (v.words area.Slots 0) (place.Access p) (Access gfn word op) h → RestsOn (access_part p gfn h.topics) h
-access_rests Touch z v h gfn word op I same may R K e =
-    (subst (λ (y : Sizes). frame_in h.state.leaf < y.frames) (sym same) (leaf_there z (v.words area.Slots 0) (v.words area.Role) (v.words area.Pool) (v.words area.Host) gfn h.state.leaf I.sizes I.set_part I.hosts e), K.0.guest)
+    → Holds z (v.words area.Pool) (v.words area.Host) (v.words area.Slots 0) (place.Access p) (Access gfn word op) h → RestsOn (access_part p gfn h.topics) gfn (is_write op) h
+access_rests Touch z v h gfn word op I same may R K e = record {
+  guest = K.0.guest;
+  uses = K.1;
+  frame = subst (λ (y : Sizes). frame_in h.state.leaf < y.frames) (sym same) (leaf_there z (v.words area.Slots 0) (v.words area.Role) (v.words area.Pool) (v.words area.Host) gfn h.state.leaf I.sizes I.set_part I.hosts e);
+}
 access_rests (Enter again) z v h gfn word op I same may R K e = let V = access_vcpu z h.state.actor gfn word op may in access_needs (Enter again) h gfn (is_write op) V.0 V.1 R K
 access_rests (Walk again) z v h gfn word op I same may R K e = K.1
 access_rests (Leave how) z v h gfn word op I same may R K e = K.guest
@@ -238,16 +242,16 @@ needs_stay (part.Watch index) h x = (
   ∥∥₁_elim x (hlevel props) (λ N. N.1),
   either_stays (same_or index (next_watched (own_index h) 0)) (λ y. prop_stays (hlevel props) y) (∥∥₁_map x (λ N. N.2)),
 )
-needs_stay part.Publish h x = (∥∥₁_elim x (hlevel props) (λ N. N.0), publish_stays h.topics (∥∥₁_map x (λ N. N.1)))
+needs_stay part.Publish h x = publish_stays h.topics x
 needs_stay _ h x = prop_stays (hlevel props) x
 
-on_stays : (s : Option PartStep) (h : Held) → ∥ RestsOn s h ∥₁ → RestsOn s h
-on_stays None h x = prop_stays (hlevel props) x
-on_stays (Some step) h x = needs_stay step h x
+on_stays : (s : Option PartStep) (gfn : ℕ) (write : Bool) (h : Held) → ∥ RestsOn s gfn write h ∥₁ → RestsOn s gfn write h
+on_stays None gfn write h x = record { guest = ∥∥₁_elim x (hlevel props) (λ N. N.guest); uses = uses_stays gfn write h (∥∥₁_map x (λ N. N.uses)); frame = ∥∥₁_elim x (hlevel props) (λ N. N.frame) }
+on_stays (Some step) gfn write h x = needs_stay step h x
 
 at_stays : (p : Place) (command : Command) (h : Held) → ∥ RestsAt p command h ∥₁ → RestsAt p command h
 at_stays place.Between command h x = tt
-at_stays (place.Access p) (Access gfn word op) h x = on_stays (access_part p gfn h.topics) h x
+at_stays (place.Access p) (Access gfn word op) h x = on_stays (access_part p gfn h.topics) gfn (is_write op) h x
 at_stays (place.SetSlot p) (SetSlot id slot) h x = needs_stay (set_slot_part p h id slot) h x
 at_stays _ _ h x = prop_stays (hlevel props) x
 
@@ -288,11 +292,11 @@ touch_within : (z : Sizes) (op : Op) (frame word : ℕ) → frame < z.frames →
 touch_within z Read frame word a b = content_within (map_of z) frame word a b
 touch_within z _ frame word a b = content_within (map_of z) frame word a b
 
-task_is_within : (s : Option PartStep) (h : Held) (note word : ℕ) (op : Op) → word < h.state.sizes.words → PartRests h → RestsOn s h
+task_is_within : (s : Option PartStep) (h : Held) (note gfn word : ℕ) (op : Op) → word < h.state.sizes.words → PartRests h → RestsOn s gfn (is_write op) h
     → (task_by s h note (touch_of op (content_index (map_of h.state.sizes) (frame_in h.state.leaf) word))).index
     < size_of (map_of h.state.sizes) (task_by s h note (touch_of op (content_index (map_of h.state.sizes) (frame_in h.state.leaf) word))).area
-task_is_within None h note word op w R N = touch_within h.state.sizes op (frame_in h.state.leaf) word N.0 w
-task_is_within (Some step) h note word op w R N = part_within_by step h note N R
+task_is_within None h note gfn word op w R N = touch_within h.state.sizes op (frame_in h.state.leaf) word N.frame w
+task_is_within (Some step) h note gfn word op w R N = part_within_by step h note N R
 
 command_word : (z : Sizes) (actor : Actor) (gfn word : ℕ) (op : Op) → IsCommandFor z actor (Access gfn word op) → word < z.words
 command_word z (Vcpu n) gfn word op e = e.2
@@ -300,7 +304,7 @@ command_word z _ gfn word op e = absurd e
 
 within_at : (p : Place) (actor : Actor) (command : Command) (h : Held) → IsCommandFor h.state.sizes actor command → PartRests h → RestsAt p command h → (task_at p command h).index < size_of (map_of h.state.sizes) (task_at p command h).area
 within_at place.Between actor _ h may R e = omega arith
-within_at (place.Access p) actor (Access gfn word op) h may R e = task_is_within (access_part p gfn h.topics) h (access_note p) word op (command_word h.state.sizes actor gfn word op may) R e
+within_at (place.Access p) actor (Access gfn word op) h may R e = task_is_within (access_part p gfn h.topics) h (access_note p) gfn word op (command_word h.state.sizes actor gfn word op may) R e
 within_at (place.SetSlot p) actor (SetSlot id slot) h may R e = part_within_by (set_slot_part p h id slot) h (set_slot_note p h) e R
 within_at _ actor _ h may R e = absurd e
 

@@ -57,6 +57,7 @@ use Rattle.core_views.specs.declared.answer.Answer.TheVariants.{Done}
 use Rattle.mmu_core.specs.declared.outcome.Outcome.TheVariants.{Goes}
 use Rattle.mmu_core.specs.SetSlotKnows.{SetSlotKnows}
 use Rattle.spte_words.specs.Areas.{pool_index}
+use Rattle.mmu_core.proofs.UsedTranslations.{flushed_room}
 
 -- A hand that stands in a slot setting is the manager's.
 pub setting_hand : (z : Sizes) (i : ℕ) (h : Held) (p : SetSlotPlace) (id : ℕ) (slot : Slot) → OwnLines z i h → h.state.place ≡ place.SetSlot p → h.state.line.command ≡ SetSlot id slot → h.state.actor ≡ Manager
@@ -165,6 +166,7 @@ quiet_kept z v a line p id slot never S I P makes knows =
     own =
         let O = I.lines a S.there in
         lines_behind z a h line (state_at (place.SetSlot p) (SetSlot id slot) h x) o after.topics after.cached after.slots O S.next S.left O.sizes refl
+        (flushed_room (kind_of_task h.state.sizes (set_slot_task p h id slot)) h.cached x)
         (subst (λ (s : MemorySlots). AreSetBy h.lines (lines_done after) (keys_of s)) (sym same) (answered_kept (lines_done h) (lines_done after) h.lines (keys_of h.slots) (lines_more z v a line p id slot x S) O.answered))
         (subst (λ (s : MemorySlots). All (IsSetBy h.lines) s) (sym same) O.set)
 
@@ -234,6 +236,7 @@ published_kept z v a line id slot S I P knows =
     own : OwnLines z a after
     own =
         lines_behind z a h line (state_at (place.SetSlot Publish) (SetSlot id slot) h set) (Goes (place.SetSlot Release)) after.topics after.cached (after_set id slot h.slots) O S.next S.left O.sizes refl
+        (flushed_room (kind_of_task h.state.sizes (set_slot_task Publish h id slot)) h.cached set)
         (All-keys-insert_entry nat_cmp id new_ (Contains (slot_ids (take (length h.answers + 1) h.lines))) h.slots
         (answered_kept (lines_done h) (length h.answers + 1) h.lines (keys_of h.slots) (lines_more z v a line Publish id slot set S) O.answered)
         (subst (λ n. Contains (slot_ids (take n h.lines)) id) one (set_here (length h.answers) h.lines id slot S.left is_set)))

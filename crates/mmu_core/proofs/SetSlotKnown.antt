@@ -23,7 +23,7 @@ use Rattle.part_steps.specs.declared.part_step.PartStep.TheVariants as part
 use Rattle.mmu_core.specs.FaultLaws.{CanAnswer}
 use Rattle.mmu_core.specs.FaultSteps.{at_map_word, map_word, tries_page}
 use Rattle.part_steps.specs.PartBounds.{PartRests}
-use Rattle.part_steps.specs.PartSteps.{HasToFill, IsAtRest, OwnsSet, PartNeeds, has_line, next_watched, own_index, words_filled}
+use Rattle.part_steps.specs.PartSteps.{HasToFill, IsAtRest, OwnsSet, PartNeeds, next_watched, own_index, words_filled}
 use Rattle.part_steps.specs.PartTopics.{part_topics, sequenced}
 use Rattle.mmu_core.specs.SetSlotKnows.{HasPublished, HoldsLock, SetSlotKnows}
 use Rattle.mmu_core.specs.SetSlotSteps.{claim_outcome, looked_at, set_slot_outcome, set_slot_part}
@@ -46,17 +46,17 @@ never_own own seen e = by (seen == own) (λ t. grind (arith, nat_tests)) (λ t. 
     by true is other e = let same = is refl in absurd (omega (arith, e, same))
     by false is other e = other refl e
 
-pub set_slot_needs : (p : SetSlotPlace) (h : Held) (id : ℕ) (slot : Slot) → has_line h ≡ true → set_value (after_set id slot h.slots) (words_filled h.topics.owned) < 2 ^ 64 → PartRests h → SetSlotKnows p h
+pub set_slot_needs : (p : SetSlotPlace) (h : Held) (id : ℕ) (slot : Slot) → set_value (after_set id slot h.slots) (words_filled h.topics.owned) < 2 ^ 64 → PartRests h → SetSlotKnows p h
     → PartNeeds (set_slot_part p h id slot) h
-set_slot_needs (Refuse refusal) h id slot has small R K = tt
-set_slot_needs (Claim begun) h id slot has small R K = claim_needs (tries_page begun h.topics.claim) begun h refl R.sizes K.0.owns_none K.1
-set_slot_needs Fill h id slot has small R K = (K.1, small)
-set_slot_needs Count h id slot has small R K = tt
-set_slot_needs Publish h id slot has small R K = (has, K.1)
-set_slot_needs Watch h id slot has small R K = (K.2, never_own (own_index h) h.topics.watched, inr refl)
-set_slot_needs Clear h id slot has small R K = K.1
-set_slot_needs Give h id slot has small R K = K.1
-set_slot_needs _ h id slot has small R K = K.0.holds
+set_slot_needs (Refuse refusal) h id slot small R K = tt
+set_slot_needs (Claim begun) h id slot small R K = claim_needs (tries_page begun h.topics.claim) begun h refl R.sizes K.0.owns_none K.1
+set_slot_needs Fill h id slot small R K = (K.1, small)
+set_slot_needs Count h id slot small R K = tt
+set_slot_needs Publish h id slot small R K = K.1
+set_slot_needs Watch h id slot small R K = (K.2, never_own (own_index h) h.topics.watched, inr refl)
+set_slot_needs Clear h id slot small R K = K.1
+set_slot_needs Give h id slot small R K = K.1
+set_slot_needs _ h id slot small R K = K.0.holds
 
 -- ---- What is known behind each step: the place that comes next, or rest where the line is answered.
 

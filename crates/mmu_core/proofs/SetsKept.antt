@@ -233,8 +233,8 @@ watch_sets z v a note index S I =
 
 publish_sets : (z : Sizes) (v : View) (a note : ℕ) → SetsBehind z v a note part.Publish
 publish_sets z v a note S I =
-    sets_published (actors_of z) v.hand a _ (v.words area.Slots 0) (page_owned (v.hand a).topics.owned) S.there refl refl refl S.needs.1.none_leaves
-    (λ i k ne lt held. holder_in_section z v a i k S.there lt ne I S.needs.1.alone held) I.sets
+    sets_published (actors_of z) v.hand a _ (v.words area.Slots 0) (page_owned (v.hand a).topics.owned) S.there refl refl refl S.needs.none_leaves
+    (λ i k ne lt held. holder_in_section z v a i k S.there lt ne I S.needs.alone held) I.sets
 
 give_old_sets : (z : Sizes) (v : View) (a note : ℕ) → SetsBehind z v a note part.GiveOld
 give_old_sets z v a note S I =

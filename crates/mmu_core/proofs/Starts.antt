@@ -166,6 +166,7 @@ first_lines z lines w i start lt =
     record {
       sizes = refl;
       index = place_of_actor z i lt;
+      cache = refl;
       allowed = all_of P (lines_of actor lines) (chosen_each P actor lines (each_of P lines start.allowed));
       own = all_of (λ line. line.actor ≡ actor) (lines_of actor lines) (chosen_own actor lines);
       distinct = chosen_distinct actor lines start.distinct;

@@ -21,7 +21,7 @@ use Rattle.spte_words.specs.Areas.{place, size_of}
 use Rattle.mmu_core.specs.Enabled.{IsNext, IsPartStep, mmu}
 use Rattle.mmu_core.specs.Invariant.{Invariant}
 use Rattle.mmu_core.specs.Machine.{Legal, May, Step, World, answered, effect, hand_in, run}
-use Rattle.part_steps.specs.PartSteps.{own_index, part_task}
+use Rattle.part_steps.specs.PartSteps.{needs_line, own_index, part_task}
 use Rattle.mmu_core.specs.Steps.{has_line, held_after, idle_after, line_at, next, place_at, task_of}
 use Rattle.part_steps.specs.Tasks.{kind_of_task, map_of}
 use Rattle.mmu_core.specs.TopicsInvariant.{TopicsInvariant}
@@ -104,6 +104,7 @@ takes_line z w s G may N =
 pub record TakesPart (z : Sizes) (w : World Held) (s : Step Kind) (h : Held) : Type 0 where
   pub none_left : has_line h ≡ false
   pub step : PartStep
+  pub free : needs_line step ≡ false
   pub note : ℕ
   pub is_part : IsPart z (view z w) s.actor step
   pub leads : ◌≡◌ {A = View} (view z (effect mmu w s)) (part_stepped s.actor step note (view z w))
@@ -141,6 +142,7 @@ takes_part z w s G may N =
     record {
       none_left = N.none_left;
       step = N.step;
+      free = N.free;
       note = N.note;
       is_part = record {
         is_sizes = G.holds.sizes;
@@ -148,7 +150,7 @@ takes_part z w s G may N =
         sizes = same;
         own_place = ap (λ y. index_of y h.state.actor) same ∙ O.index;
         needs = N.needs;
-        replaces = replaces_none N.step (word_in z w area.Pool) (word_in z w area.Slots 0) h.topics (idle_never N.step h N.needs N.none_left);
+        replaces = replaces_none N.step (word_in z w area.Pool) (word_in z w area.Slots 0) h.topics (idle_never N.step N.free);
         within = N.within;
         small = view_small z w G.small;
       };
@@ -196,7 +198,7 @@ good_step z w s G may = by (takes z w s G may)
       small = small T.writes;
       none_opened = subst (λ (v : View). NoneOpened v.words) (sym T.leads) (part_opens_none z (view z w) s.actor T.step T.note G.none_opened);
       no_pause = subst (λ (v : View). v.words area.Pause 0 ≡ 0) (sym T.leads) (ap (λ (f : ℕ → ℕ). f 0) (areas_stay (view z w) s.actor T.step T.note area.Pause refl) ∙ G.no_pause);
-      holds = subst (Invariant z) (sym T.leads) (part_keeps_lines z (view z w) s.actor T.step T.note T.is_part T.none_left G.holds G.topics (part_knows_behind z (view z w) s.actor T.step T.note T.none_left G.holds));
+      holds = subst (Invariant z) (sym T.leads) (part_keeps_lines z (view z w) s.actor T.step T.note T.is_part T.free T.none_left G.holds G.topics (part_knows_behind z (view z w) s.actor T.step T.note T.none_left G.holds));
       topics = subst (TopicsInvariant z) (sym T.leads) (topics_part_kept z (view z w) s.actor T.step T.note T.is_part G.topics);
     }
 

@@ -1,10 +1,11 @@
 -- Cached translations: which guest frames one covers, what it allows, and which of a list is used.
-use Rattle.std.specs.Prelude.{◌/◌, ◌==◌, ◌&&◌, ◌||◌, ℕ, Bool, List, [], ◌∷◌, find, not, take, Option, if◌then◌else◌}
+use Rattle.std.specs.Prelude.{◌≡◌, ◌/◌, ◌==◌, ◌&&◌, ◌||◌, ℕ, Bool, List, [], ◌∷◌, find, not, take, Option, Some, if◌then◌else◌}
 use Rattle.circular_buffer.specs.Buffer.{Buffer, buffer}
 use Rattle.core_views.specs.declared.cache.Translation.{Translation}
 use Rattle.core_views.specs.declared.kind.Kind.{Kind}
 use Rattle.core_views.specs.declared.kind.StepKind.{StepKind}
 use Rattle.core_views.specs.declared.kind.StepKind.TheVariants as kind
+use Rattle.core_views.specs.Held.{Held}
 use Rattle.core_views.specs.Kinds.{kind_named}
 use Rattle.spte_words.specs.Bits.{has_bit}
 use Rattle.spte_words.specs.Entries.{can_write, level_span}
@@ -24,6 +25,13 @@ is_usable gfn write t = covers gfn t && allows write t
 -- the newest translation that covers the guest frame and allows the access
 abbrev pub first_usable : ℕ → Bool → List Translation → Option Translation
 first_usable gfn write ts = find (is_usable gfn write) ts
+
+-- The leaf that the actor uses is that of a translation that it has cached: of the newest one that covers the guest frame and allows the
+-- access.
+pub record UsesTranslation (gfn : ℕ) (write : Bool) (h : Held) : Type 0 where
+  pub translation : Translation
+  pub newest : first_usable gfn write h.cached.items ≡ Some translation
+  pub leaf : h.state.leaf ≡ translation.leaf
 
 -- Bit 2 of a state word: a flush is asked for (vcpu-requests.rst, KVM_REQ_TLB_FLUSH).
 abbrev pub asks_flush : ℕ → Bool

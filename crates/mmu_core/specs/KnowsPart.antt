@@ -12,8 +12,8 @@ use Rattle.core_views.specs.declared.trace.Command.{Command}
 use Rattle.core_views.specs.declared.trace.Command.TheVariants.{Access, SetSlot}
 use Rattle.core_views.specs.Held.{Held}
 use Rattle.core_views.specs.Slots.{is_write}
+use Rattle.mmu_core.specs.Cached.{UsesTranslation}
 use Rattle.mmu_core.specs.FaultKnows.{FaultKnows}
-use Rattle.mmu_core.specs.FaultSteps.{allows_access}
 use Rattle.part_steps.specs.PartSteps.{IsAtRest, IsOver}
 use Rattle.mmu_core.specs.SetSlotKnows.{SetSlotKnows}
 use Rattle.mmu_core.specs.Steps.{has_line}
@@ -36,13 +36,13 @@ pub record InGuest (t : Topics) : Type 0 where
   pub owns_none : t.owned ≡ None
   pub no_set : t.search.set ≡ None
 
--- what an access knows at each place: at the touch, that the leaf that it uses allows it
+-- what an access knows at each place: at the touch, that the leaf that it uses is one that it has cached
 abbrev pub AccessKnows : AccessPlace → ℕ → Bool → Held → Type 0
 AccessKnows (Enter again) gfn write h = IsAtRest h.topics
 AccessKnows (Pause again) gfn write h = InGuest h.topics
 AccessKnows (Root again) gfn write h = InGuest h.topics
 AccessKnows (Walk again) gfn write h = InGuest h.topics × IsOver gfn h.topics.walk
-AccessKnows Touch gfn write h = InGuest h.topics × (allows_access write h.state.leaf ≡ true)
+AccessKnows Touch gfn write h = InGuest h.topics × UsesTranslation gfn write h
 AccessKnows (Leave how) gfn write h = InGuest h.topics
 AccessKnows (Fault p) gfn write h = FaultKnows p h.state.sizes gfn write h.topics
 

@@ -1,5 +1,5 @@
 -- What a job may rest on, from its hand alone: what its line's next step needs.
-use Rattle.std.specs.Prelude.{◌≡◌, ◌<◌, ℕ, Option, Some, None}
+use Rattle.std.specs.Prelude.{◌≡◌, ◌<◌, ℕ, Bool, Option, Some, None}
 use Rattle.core_views.specs.declared.place.Place.{Place}
 use Rattle.core_views.specs.declared.place.Place.TheVariants as place
 use Rattle.core_views.specs.declared.place.SetSlotPlace.{SetSlotPlace}
@@ -11,24 +11,33 @@ use Rattle.core_views.specs.declared.trace.Slot.{Slot as SlotOf}
 use Rattle.core_views.specs.Held.{Held}
 use Rattle.core_views.specs.declared.sizes.Sizes.{Sizes}
 use Rattle.core_views.specs.Refusals.{set_refusal}
+use Rattle.core_views.specs.Slots.{is_write}
 use Rattle.core_views.specs.SlotSets.{MemorySlots}
 use Rattle.core_views.specs.Traces.{IsCommandFor}
 use Rattle.spte_words.specs.Entries.{frame_in}
 use Rattle.part_steps.specs.declared.part_step.PartStep.{PartStep}
 use Rattle.mmu_core.specs.AccessSteps.{access_part}
+use Rattle.mmu_core.specs.Cached.{UsesTranslation}
 use Rattle.part_steps.specs.PartBounds.{PartRests}
 use Rattle.part_steps.specs.PartSteps.{PartNeeds}
 use Rattle.mmu_core.specs.SetSlotSteps.{set_slot_part}
 use Rattle.mmu_core.specs.Steps.{line_at, place_at}
 
--- what the next step of a line needs: a step of a part its needs, and the touch a frame of the machine, from a stay in the guest
-abbrev pub RestsOn : Option PartStep → Held → Type 0
-RestsOn (Some step) h = PartNeeds step h
-RestsOn None h = (frame_in h.state.leaf < h.state.sizes.frames) × (h.topics.stay ≡ Guest)
+-- What a touch needs: the actor is in the guest, and uses a translation that it has cached, which covers the guest frame and allows the
+-- access; its leaf is at a frame of the machine.
+pub record TouchNeeds (gfn : ℕ) (write : Bool) (h : Held) : Type 0 where
+  pub guest : h.topics.stay ≡ Guest
+  pub uses : UsesTranslation gfn write h
+  pub frame : frame_in h.state.leaf < h.state.sizes.frames
+
+-- what the next step of an access needs: a step of a part its needs, and the touch its own
+abbrev pub RestsOn : Option PartStep → ℕ → Bool → Held → Type 0
+RestsOn (Some step) gfn write h = PartNeeds step h
+RestsOn None gfn write h = TouchNeeds gfn write h
 
 abbrev pub RestsAt : Place → Command → Held → Type 0
-RestsAt (place.Access p) (Access gfn word op) h = RestsOn (access_part p gfn h.topics) h
-RestsAt (place.SetSlot p) (SetSlot id slot) h = RestsOn (Some (set_slot_part p h id slot)) h
+RestsAt (place.Access p) (Access gfn word op) h = RestsOn (access_part p gfn h.topics) gfn (is_write op) h
+RestsAt (place.SetSlot p) (SetSlot id slot) h = PartNeeds (set_slot_part p h id slot) h
 RestsAt place.Between command h = Unit {0}
 RestsAt _ _ h = ⊥
 

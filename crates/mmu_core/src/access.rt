@@ -1,5 +1,5 @@
 //! The steps of a guest access.
-ghost use Rattle.std.specs.Prelude.{◌≡◌, ◌<◌, All};
+ghost use Rattle.std.specs.Prelude.{◌≡◌, ◌<◌, All, IfSome};
 ghost use Rattle.core_views.specs.Slots.{is_write};
 ghost use Rattle.mmu_core.specs.FaultSteps.{allows_access};
 ghost use Rattle.spte_words.specs.Entries.{kind_of};
@@ -7,6 +7,7 @@ ghost use Rattle.mmu_core.specs.AccessSteps.{access_caches, access_loads, access
 ghost use Rattle.part_steps.specs.PartBounds.{IsAtLeafLevel};
 ghost use Rattle.mmu_core.specs.Cached.{allows, covers, first_usable, is_usable};
 ghost use Rattle.part_steps.specs.PartBounds.{PartRests};
+ghost use Rattle.part_steps.specs.PartSteps.{PartNeeds};
 ghost use Rattle.mmu_core.specs.Rests.{RestsOn};
 ghost use Rattle.part_steps.specs.Tasks.{map_of};
 ghost use Rattle.spte_words.specs.Areas.{size_of};
@@ -20,13 +21,6 @@ use core_views::{
 };
 use part_steps::{PartStep, Task, map_of, part_task};
 use spte_words::{Area, Spte, SpteKind};
-
-// Whether the operation writes.
-fn is_write(op: Op) -> bool
-    ensures { result ≡ is_write op }
-{
-    !matches!(op, Op::Read)
-}
 
 // Whether the translation's leaf covers the guest frame.
 #[tactic(auto, using(spte_words::proofs::Spans::span_positive))]
@@ -91,7 +85,7 @@ fn touch(op: Op, index: u64) -> Task
 
 // The step of this place, but for the touch.
 fn part(place: AccessPlace, gfn: u64, hand: &Hand) -> Option<PartStep>
-    requires rests { RestsOn (access_part place gfn hand.now.core.topics) hand.now.core }
+    requires needs { IfSome (access_part place gfn hand.now.core.topics) (λ step. PartNeeds step hand.now.core) }
     requires part { PartRests hand.now.core }
     ensures { result ≡ access_part place gfn hand.now.core.topics }
 {
@@ -122,8 +116,9 @@ pub fn access_note(place: AccessPlace) -> u64
 }
 
 /// What the step of this place is to do.
+#[tactic(auto, using(crate::proofs::UsedTranslations::part_needs))]
 pub(crate) fn task(place: AccessPlace, hand: &Hand, gfn: u64, word: u8, op: Op) -> Task
-    requires rests { RestsOn (access_part place gfn hand.now.core.topics) hand.now.core }
+    requires rests { RestsOn (access_part place gfn hand.now.core.topics) gfn (is_write op) hand.now.core }
     requires part { PartRests hand.now.core }
     requires word { word < hand.now.core.state.sizes.words }
     ensures task { result ≡ access_task place hand.now.core gfn word op }
@@ -142,7 +137,7 @@ pub(crate) fn leaf_behind(place: AccessPlace, hand: &Hand, gfn: u64, op: Op, fou
     ensures { result ≡ (access_loads place hand.now.core gfn op found).leaf }
 {
     match place {
-        AccessPlace::Pause { .. } => match lookup(hand.cache(), gfn, is_write(op)) {
+        AccessPlace::Pause { .. } => match lookup(hand.cache(), gfn, op.is_write()) {
             Some(translation) => translation.leaf,
             None => hand.state().leaf,
         },
@@ -159,7 +154,7 @@ pub(crate) fn fill_cache(place: AccessPlace, hand: &mut Hand, gfn: u64, op: Op, 
     if let AccessPlace::Walk { .. } = place {
         let level = hand.topics().walk.level;
         let entry = Spte::from_word(found);
-        if entry.kind(level) == SpteKind::Leaf && (!is_write(op) || entry.is_writable()) {
+        if entry.kind(level) == SpteKind::Leaf && (!op.is_write() || entry.is_writable()) {
             hand.cache_mut().fill(Translation {
                 gfn,
                 level,
@@ -176,7 +171,7 @@ fn walk_next(again: bool, level: u8, op: Op, found: u64) -> AccessPlace
     let entry = Spte::from_word(found);
     match entry.kind(level) {
         SpteKind::Table(_) => AccessPlace::Walk { again },
-        SpteKind::Leaf if !is_write(op) || entry.is_writable() => AccessPlace::Touch,
+        SpteKind::Leaf if !op.is_write() || entry.is_writable() => AccessPlace::Touch,
         _ => AccessPlace::Leave(Leaving::Faults),
     }
 }
@@ -201,13 +196,13 @@ fn behind_fault(next: FaultNext) -> Outcome
 
 /// Where the line stands after the step of this place.
 pub(crate) fn outcome(place: AccessPlace, hand: &Hand, gfn: u64, op: Op, found: u64) -> Outcome
-    requires rests { RestsOn (access_part place gfn hand.now.core.topics) hand.now.core }
+    requires rests { RestsOn (access_part place gfn hand.now.core.topics) gfn (is_write op) hand.now.core }
     requires part { PartRests hand.now.core }
     ensures { result ≡ access_outcome place hand.now.core gfn op found }
 {
     let next = match place {
         AccessPlace::Enter { again } => AccessPlace::Pause { again },
-        AccessPlace::Pause { again } => match lookup(hand.cache(), gfn, is_write(op)) {
+        AccessPlace::Pause { again } => match lookup(hand.cache(), gfn, op.is_write()) {
             Some(_) => AccessPlace::Touch,
             None => AccessPlace::Root { again },
         },
@@ -225,7 +220,7 @@ pub(crate) fn outcome(place: AccessPlace, hand: &Hand, gfn: u64, op: Op, found: 
         }
         AccessPlace::Leave(Leaving::Faults) => AccessPlace::Fault(FaultPlace::Begin),
         AccessPlace::Fault(place) => {
-            return behind_fault(fault::next(place, hand, gfn, is_write(op), found));
+            return behind_fault(fault::next(place, hand, gfn, op.is_write(), found));
         }
     };
     Outcome::Goes(Place::Access(next))

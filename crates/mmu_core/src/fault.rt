@@ -6,17 +6,19 @@ ghost use Rattle.core_views.specs.declared.place.FaultPlace.TheVariants.{End, Fi
 ghost use Rattle.core_views.specs.Sizes.{AreSizes};
 ghost use Rattle.mmu_core.specs.FaultSteps.{at_map_word, check_next, check_part, claim_next, claim_part, entry_word, fault_next, fault_part, find_next, is_owing, map_word, share_next, table_value, tries_page, waits, walk_next};
 ghost use Rattle.part_steps.specs.PartBounds.{PartRests};
-ghost use Rattle.part_steps.specs.PartSteps.{PartNeeds, table_page, words_filled};
+ghost use Rattle.part_steps.specs.PartSteps.{PartNeeds, table_page};
 ghost use Rattle.part_steps.specs.SlotWords.{page_of};
 ghost use Rattle.part_steps.specs.TopicSteps.{searched};
 ghost use Rattle.spte_words.specs.Entries.{kind_of};
 ghost use Rattle.spte_words.specs.HostWords.{host_allows_write};
 
 use core_views::{
-    Cause, CheckStage, FaultEnd, FaultNext, FaultPlace, Hand, Hold, MapClaim, OwnedPage, Sizes,
-    SlotField, SlotSearch, TableWalk, Topics,
+    Cause, CheckStage, FaultEnd, FaultNext, FaultPlace, Hand, Hold, MapClaim, Sizes, SlotField,
+    SlotSearch, TableWalk, Topics,
 };
-use part_steps::{PartStep, WRITER, map_of, page_of, run_of, search, table_page};
+use part_steps::{
+    PartStep, entry_index, has_writer, is_won, map_of, page_of, search, table_page, words_filled,
+};
 use spte_words::{Area, HostWord, Spte, SpteKind};
 
 /// How many words of a table's page are entries.
@@ -34,22 +36,12 @@ pub(crate) fn map_word(begun: bool, claim: &MapClaim) -> u64
     if begun { claim.at } else { 0 }
 }
 
-// How many words of the owned page are filled.
-pub(crate) fn filled(owned: &Option<OwnedPage>) -> u64
-    ensures { result ≡ words_filled owned.now }
-{
-    match owned {
-        Some(page) => page.filled,
-        None => 0,
-    }
-}
-
 /// What the next word of a table's page that is filled is to hold: its 512 entries
 /// are absent, and its role is the level below the walk's.
 pub fn table_value(topics: &Topics) -> u64
     ensures { result ≡ table_value topics.now }
 {
-    if filled(&topics.owned) < ENTRIES {
+    if words_filled(topics.owned) < ENTRIES {
         0
     } else {
         topics.walk.level.saturating_sub(1) as u64
@@ -128,7 +120,7 @@ fn share_next(hold: Hold, found: u64) -> FaultPlace
 {
     match hold {
         Hold::Owing(_) => FaultPlace::Share,
-        _ if found >= WRITER => FaultPlace::Share,
+        _ if has_writer(found) => FaultPlace::Share,
         _ => FaultPlace::Check(CheckStage::Count),
     }
 }
@@ -162,8 +154,8 @@ fn check_next(stage: CheckStage, gfn: u64, topics: &Topics, found: u64) -> Fault
     }
 }
 
-// Where the guest frame's entry of the walk's table stands among all words.
-fn entry_word(sizes: &Sizes, gfn: u64, walk: &TableWalk) -> u32
+/// Where the guest frame's entry of the walk's table stands among all words.
+pub fn entry_word(sizes: &Sizes, gfn: u64, walk: &TableWalk) -> u32
     requires sizes { AreSizes sizes.now }
     requires from { 1 ≤ walk.now.level }
     requires to { walk.now.level ≤ 4 }
@@ -171,7 +163,7 @@ fn entry_word(sizes: &Sizes, gfn: u64, walk: &TableWalk) -> u32
     ensures { result ≡ entry_word sizes.now gfn walk.now }
 {
     let map = map_of(sizes);
-    let index = map.pool_index(table_page(walk), run_of(gfn, walk.level) % ENTRIES);
+    let index = map.pool_index(table_page(walk), entry_index(gfn, walk.level));
     map.word_of(Area::Pool, index)
 }
 
@@ -216,8 +208,7 @@ fn claim_next(begun: bool, sizes: &Sizes, claim: &MapClaim, found: u64) -> Fault
     ensures { result ≡ claim_next (tries_page begun claim.now) sizes.now (at_map_word begun claim.now) found }
 {
     if tries_page(begun, claim) {
-        let bit = claim.seen.trailing_zeros();
-        return if (found >> bit) % 2 == 1 {
+        return if is_won(claim, found) {
             FaultPlace::Fill
         } else {
             FaultPlace::Claim { begun: true }
@@ -291,7 +282,7 @@ pub(crate) fn next(place: FaultPlace, hand: &Hand, gfn: u64, write: bool, found:
         FaultPlace::Walk { rooted: true } => walk_next(sizes, gfn, write, &topics.walk, found),
         FaultPlace::Walk { rooted: false } => FaultPlace::Walk { rooted: true },
         FaultPlace::Claim { begun } => claim_next(begun, sizes, &topics.claim, found),
-        FaultPlace::Fill if filled(&topics.owned) < ENTRIES => FaultPlace::Fill,
+        FaultPlace::Fill if words_filled(topics.owned) < ENTRIES => FaultPlace::Fill,
         FaultPlace::Fill => FaultPlace::Link,
         FaultPlace::Link => {
             exchange_next(hand, gfn, found, FaultPlace::Walk { rooted: true }, true)
@@ -319,8 +310,7 @@ pub(crate) fn waits(place: FaultPlace, topics: &Topics, found: u64) -> bool
     match place {
         FaultPlace::Share => is_owing(topics.hold),
         FaultPlace::Claim { begun } => {
-            tries_page(begun, &topics.claim)
-                && (found >> topics.claim.seen.trailing_zeros()) % 2 == 0
+            tries_page(begun, &topics.claim) && !is_won(&topics.claim, found)
         }
         _ => false,
     }

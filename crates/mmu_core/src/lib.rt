@@ -12,7 +12,7 @@ mod set_slot;
 mod step;
 
 pub use access::{access_note, lookup};
-pub use fault::table_value;
+pub use fault::{entry_word, table_value};
 pub use laws::{
     a_fault_alone_goes_through, a_fault_goes_on, a_line_alone_goes_through,
     each_delay_has_its_cause, every_answer_is_told, every_list_of_steps, knows, leaves_agree,
@@ -22,4 +22,4 @@ pub use laws::{
 pub use outcome::Outcome;
 pub use parts::{allows, may_make, part_rests};
 pub use set_slot::{setting_place, waits as setting_waits};
-pub use step::{advance, next_kind};
+pub use step::{advance, asks_flush, next_kind};

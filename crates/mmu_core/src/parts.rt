@@ -2,17 +2,18 @@
 ghost use Rattle.std.specs.Prelude.{◌≡◌, ◌-◌, true, false, is_some};
 ghost use Rattle.mmu_core.specs.MayMake.{MayMake};
 ghost use Rattle.part_steps.specs.PartBounds.{PartRests};
-ghost use Rattle.part_steps.specs.PartSteps.{PartNeeds, has_line};
+ghost use Rattle.part_steps.specs.PartSteps.{PartNeeds, has_line, needs_line};
 ghost use Rattle.mmu_core.specs.Worlds.{HandReached};
 
 use core_views::Hand;
-use part_steps::{PartStep, has_needs};
+use part_steps::{PartStep, has_needs, needs_line};
 
 /// A hand with no line left may make each step of a part that it holds the needs
-/// of.
+/// of, but for those of lines alone.
 pub fn may_make(hand: &Hand, step: PartStep, note: u64)
     requires rests { PartRests hand.now.core }
     requires idle { has_line hand.now.core ≡ false }
+    requires free { needs_line step ≡ false }
     requires needs { PartNeeds step hand.now.core }
     ensures { MayMake step note hand.now.core }
 {}
@@ -24,13 +25,14 @@ pub fn part_rests(hand: &Hand)
     ensures { PartRests hand.now.core }
 {}
 
-/// Whether the hand has no line left and holds what this step of a part needs.
+/// Whether the hand has no line left and holds what this step of a part needs,
+/// which isn't one of lines alone.
 pub fn allows(hand: &Hand, step: PartStep, note: u64) -> bool
     requires reached { ∥ HandReached hand.now.core ∥₁ }
     ensures { result ≡ true → MayMake step note hand.now.core }
 {
     part_rests(hand);
-    if hand.next_line().is_some() || !has_needs(hand, step) {
+    if hand.next_line().is_some() || needs_line(step) || !has_needs(hand, step) {
         return false;
     }
     may_make(hand, step, note);

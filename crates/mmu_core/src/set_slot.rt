@@ -14,10 +14,12 @@ ghost use Rattle.part_steps.specs.Tasks.{map_of};
 ghost use Rattle.mmu_core.specs.Turns.{line_of};
 ghost use Rattle.spte_words.specs.Areas.{size_of};
 
-use crate::fault::{claim_part, filled, map_word, tries_page};
+use crate::fault::{claim_part, map_word, tries_page};
 use crate::outcome::Outcome;
 use core_views::{Answer, Hand, MapClaim, Place, SetSlotPlace, Sizes, Slot, SlotSet, Topics};
-use part_steps::{PartStep, Task, map_of, next_watched, part_task, set_value};
+use part_steps::{
+    PartStep, Task, in_section, is_won, map_of, next_watched, part_task, set_value, words_filled,
+};
 use spte_words::Area;
 
 /// How many words of a slot set's page are filled before its role.
@@ -52,7 +54,7 @@ fn part(place: SetSlotPlace, hand: &Hand, id: u64, slot: &Slot) -> PartStep
         SetSlotPlace::Refuse(_) => PartStep::Seq,
         SetSlotPlace::Claim { begun } => claim_part(begun, &topics.claim),
         SetSlotPlace::Fill => {
-            PartStep::Fill(set_value(hand.slots(), id, slot, filled(&topics.owned)))
+            PartStep::Fill(set_value(hand.slots(), id, slot, words_filled(topics.owned)))
         }
         SetSlotPlace::Exclude => PartStep::Exclude,
         SetSlotPlace::Count => PartStep::Count,
@@ -123,8 +125,7 @@ fn claim_outcome(begun: bool, sizes: &Sizes, claim: &MapClaim, found: u64) -> Ou
     ensures { result ≡ claim_outcome (tries_page begun claim.now) sizes.now (at_map_word begun claim.now) found }
 {
     if tries_page(begun, claim) {
-        let bit = claim.seen.trailing_zeros();
-        return Outcome::Goes(Place::SetSlot(if (found >> bit) % 2 == 1 {
+        return Outcome::Goes(Place::SetSlot(if is_won(claim, found) {
             SetSlotPlace::Fill
         } else {
             SetSlotPlace::Claim { begun: true }
@@ -145,7 +146,7 @@ fn watch_next(hand: &Hand, found: u64) -> SetSlotPlace
 {
     let state = hand.state();
     let own = state.sizes.index_of(state.actor);
-    if found / 2 % 2 == 1 || next_watched(own, looked_at(hand) + 1) < state.sizes.actors() {
+    if in_section(found) || next_watched(own, looked_at(hand) + 1) < state.sizes.actors() {
         SetSlotPlace::Watch
     } else {
         SetSlotPlace::Clear
@@ -163,7 +164,7 @@ pub(crate) fn outcome(place: SetSlotPlace, hand: &Hand, found: u64) -> Outcome
         SetSlotPlace::Claim { begun } => {
             return claim_outcome(begun, &hand.state().sizes, &topics.claim, found);
         }
-        SetSlotPlace::Fill if filled(&topics.owned) < WORDS => SetSlotPlace::Fill,
+        SetSlotPlace::Fill if words_filled(topics.owned) < WORDS => SetSlotPlace::Fill,
         SetSlotPlace::Fill | SetSlotPlace::Close => SetSlotPlace::Exclude,
         SetSlotPlace::Exclude if found == 0 => SetSlotPlace::Count,
         SetSlotPlace::Exclude => SetSlotPlace::Exclude,
@@ -196,12 +197,11 @@ pub fn waits(place: SetSlotPlace, topics: &Topics, found: u64) -> bool
 {
     match place {
         SetSlotPlace::Claim { begun } => {
-            tries_page(begun, &topics.claim)
-                && (found >> topics.claim.seen.trailing_zeros()) % 2 == 0
+            tries_page(begun, &topics.claim) && !is_won(&topics.claim, found)
         }
         SetSlotPlace::Exclude => found != 0,
         SetSlotPlace::Close => true,
-        SetSlotPlace::Watch => found / 2 % 2 == 1,
+        SetSlotPlace::Watch => in_section(found),
         _ => false,
     }
 }

@@ -5,7 +5,7 @@ ghost use Rattle.core_views.specs.Traces.{IsCommandFor};
 ghost use Rattle.mmu_core.specs.Rests.{AcceptsAt, IsUnderWay, Rests, RestsAt};
 ghost use Rattle.mmu_core.specs.Enabled.{Enabled};
 ghost use Rattle.mmu_core.specs.Steps.{caches_at, first_place, has_line, line_after, line_at, loads_at, next, outcome_at, place_at, records_at, standing, task_at};
-ghost use Rattle.mmu_core.specs.Cached.{flushed};
+ghost use Rattle.mmu_core.specs.Cached.{asks_flush, flushed};
 ghost use Rattle.part_steps.specs.PartBounds.{PartRests};
 ghost use Rattle.core_views.specs.Kinds.{kind_named};
 ghost use Rattle.part_steps.specs.Tasks.{map_of};
@@ -19,9 +19,6 @@ use core_views::{
     AccessPlace, AnsweredLine, Command, Hand, Kind, Line, Place, Sizes, SlotSet, StepKind,
 };
 use part_steps::{Task, kind_of, step_topics};
-
-/// Bit 2 of a state word: a flush is asked for.
-const FLUSH: u64 = 1 << 2;
 
 // The line that the hand's next step is of: the one under way, or the next one.
 fn line_of(hand: &Hand) -> Line
@@ -207,13 +204,20 @@ fn advance_topics(hand: &mut Hand, kind: Kind, found: u64)
     step_topics(&sizes, kind, hand.topics_mut(), found);
 }
 
+/// Whether a flush is asked for, by an actor's state word: its bit 2.
+pub fn asks_flush(state: u64) -> bool
+    ensures { result ≡ asks_flush state }
+{
+    state / (1 << 2) % 2 == 1
+}
+
 // The effect of a step on what is cached, where a flush was asked for.
 #[tactic(auto, unfolding(crate::specs::Cached::flushed))]
 fn flush(hand: &mut Hand, kind: Kind, found: u64)
     ensures core { hand.new.core ≡ record hand.old.core { cached = flushed kind hand.old.core.cached found } }
     ensures room { hand.new.room ≡ hand.old.room }
 {
-    if kind.named() == StepKind::Enter && found / FLUSH % 2 == 1 {
+    if kind.named() == StepKind::Enter && asks_flush(found) {
         hand.cache_mut().clear();
     }
 }

@@ -28,17 +28,11 @@ wants_share h note never may = by h.topics.hold refl may.needs
     by Exclusive is needs = (refl, needs)
     by (Owing w) is needs = absurd (never w is)
 
-pub writer_seen : (found : ℕ) → 2 ^ 63 ≤ found → has_writer found ≡ true
-writer_seen found le = grind (arith, nat_tests)
+pub owes_behind : (before after : Topics) (found : ℕ) → after ≡ holding (if has_writer found then Owing found else Shared) before → has_writer found ≡ true → after ≡ holding (Owing found) before
+owes_behind before after found is seen = is ∙ ap (λ (b : Bool). holding (if b then Owing found else Shared) before) seen
 
-pub no_writer_seen : (found : ℕ) → found < 2 ^ 63 → has_writer found ≡ false
-no_writer_seen found lt = grind (arith, nat_tests)
-
-pub owes_behind : (before after : Topics) (found : ℕ) → after ≡ holding (if has_writer found then Owing found else Shared) before → 2 ^ 63 ≤ found → after ≡ holding (Owing found) before
-owes_behind before after found is le = is ∙ ap (λ (b : Bool). holding (if b then Owing found else Shared) before) (writer_seen found le)
-
-pub shares_behind : (before after : Topics) (found : ℕ) → after ≡ holding (if has_writer found then Owing found else Shared) before → found < 2 ^ 63 → after ≡ holding Shared before
-shares_behind before after found is lt = is ∙ ap (λ (b : Bool). holding (if b then Owing found else Shared) before) (no_writer_seen found lt)
+pub shares_behind : (before after : Topics) (found : ℕ) → after ≡ holding (if has_writer found then Owing found else Shared) before → has_writer found ≡ false → after ≡ holding Shared before
+shares_behind before after found is none = is ∙ ap (λ (b : Bool). holding (if b then Owing found else Shared) before) none
 
 -- A writer's try, won or lost.
 pub excludes_behind : (before after : Topics) (found : ℕ) → after ≡ holding (if found == 0 then Exclusive else before.hold) before → found ≡ 0 → after ≡ holding Exclusive before
@@ -47,8 +41,8 @@ excludes_behind before after found is free = is ∙ ap (λ n. holding (if n == 0
 pub keeps_behind : (before after : Topics) (found : ℕ) → after ≡ holding (if found == 0 then Exclusive else before.hold) before → found ≢ 0 → after ≡ holding before.hold before
 keeps_behind before after found is taken = let test : (found == 0) ≡ false = grind (arith, nat_tests) in is ∙ ap (λ (b : Bool). holding (if b then Exclusive else before.hold) before) test
 
-pub not_free : (n : ℕ) → 2 ^ 63 ≤ n → n ≡ 0 → ⊥
-not_free n le is = absurd (omega (arith, le, is))
+pub not_free : (n : ℕ) → has_writer n ≡ true → n ≡ 0 → ⊥
+not_free n seen is = let none : has_writer n ≡ false = ap has_writer is in cc (seen, none)
 
 -- Who has yet to take itself out has one turn left.
 pub fewer_left : (before after : Hold) (word : ℕ) → before ≡ Loose → after ≡ Owing word → tries_left after < tries_left before

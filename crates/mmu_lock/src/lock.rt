@@ -11,11 +11,8 @@ ghost use Rattle.step_seats.specs.declared.turn.Turn.TheVariants.{More, Done};
 
 use core_views::Hold;
 use mmu_core::part_rests;
-use part_steps::PartStep;
+use part_steps::{PartStep, has_writer};
 use step_seats::{Stepper, Turn, make_part};
-
-/// Bit 63 of the lock's word: a writer holds it.
-const WRITER: u64 = 1 << 63;
 
 /// What came of trying for the lock.
 #[derive(Clone, Copy, Debug, PartialEq, Eq, Drop)]
@@ -47,7 +44,7 @@ pub fn try_shared<S: Stepper>(s: &mut S, note: u64) -> Turn<Lock>
         let _ = make_part(s, PartStep::Unshare, note);
         return Turn::Done(Lock::Held(word));
     }
-    if make_part(s, PartStep::Share, note) >= WRITER {
+    if has_writer(make_part(s, PartStep::Share, note)) {
         Turn::More
     } else {
         Turn::Done(Lock::Got)

@@ -6,7 +6,7 @@ use crate::untold::{UntoldSeat, exclusive_untold};
 use crate::{Lock, try_exclusive, try_shared, unlock};
 use core_views::{Actor, Command, Header, Hold, Line, Lines, NoMemory, Op, Trace, Words};
 use mmu_core::allows;
-use part_steps::PartStep;
+use part_steps::{PartStep, WRITER};
 use std::alloc::Global;
 use std::test::Fail;
 use step_seats::{PlainMachine, Stepper, Turn};
@@ -125,8 +125,6 @@ fn given_back_by(machine: &mut PlainMachine, actor: Actor) -> Result<bool, NoMem
     let mut seat = machine.as_actor(actor);
     given_back(&mut seat)
 }
-
-const WRITER: u64 = 1 << 63;
 
 // Two readers share the lock, and a writer finds both of them.
 #[test]

@@ -26,7 +26,7 @@ pub record CountersPart (z : Sizes) (t : Topics) : Type 0 where
   pub run : 1 ≤ t.walk.level → t.walk.prefix < 2 ^ 36
 
 -- What holds of every hand that some world has: its actor is one of the machine's, its pages are pages of the pool, its counters
--- stay within what they count, and where it has yet to take itself out of the lock's readers it saw a writer.
+-- stay within what they count, its cache has room for a translation, and where it has yet to take itself out of the lock's readers it saw a writer.
 pub record PartRests (h : Held) : Type 0 where
   pub sizes : AreSizes h.state.sizes
   pub own_place : own_index h < actors_of h.state.sizes
@@ -38,6 +38,7 @@ pub record PartRests (h : Held) : Type 0 where
   pub filled : (o : OwnedPage) → h.topics.owned ≡ Some o → o.filled ≤ 513
   pub counters : CountersPart h.state.sizes h.topics
   pub found : h.topics.search.whole ≡ true → h.topics.search.slot.host + h.topics.search.slot.pages ≤ h.state.sizes.pages
+  pub cache : 1 ≤ h.cached.capacity
   pub levels : All IsAtLeafLevel h.cached.items
   pub looked : (look : HostLook) → h.topics.host ≡ Some look → (look.page < h.state.sizes.pages) × (host_frame look.word < h.state.sizes.frames)
   pub saw_writer : (word : ℕ) → h.topics.hold ≡ Owing word → has_writer word ≡ true

@@ -30,15 +30,11 @@ use Rattle.part_steps.specs.declared.part_step.PartStep.TheVariants as part
 use Rattle.part_steps.specs.SetWords.{set_role}
 use Rattle.part_steps.specs.SlotWords.{leaf_of, page_of, slot_index}
 use Rattle.part_steps.specs.Tasks.{kind_of_task, loads, map_of}
-use Rattle.part_steps.specs.TopicSteps.{tried_bit}
+use Rattle.part_steps.specs.TopicSteps.{guest_bits, section_bit, tried_bit, writer}
 
 -- the number that keeps all bits but these
 abbrev pub all_but : ℕ → ℕ
 all_but bits = bit_not w64 bits
-
--- the lock's writer
-abbrev pub writer : ℕ
-writer = 2 ^ 63
 
 -- the page of the table that a walk has come to
 abbrev pub table_page : TableWalk → ℕ
@@ -97,11 +93,11 @@ fill_task page filled value note = if filled == 512 then works kind.Fill area.Ro
 
 -- what the step does for the actor at a place, that holds these topics
 abbrev pub part_task : PartStep → ℕ → Topics → ℕ → Task
-part_task part.Enter own t note = works kind.Enter area.State own 3 note
-part_task part.Leave own t note = works kind.Leave area.State own (all_but 3) note
+part_task part.Enter own t note = works kind.Enter area.State own guest_bits note
+part_task part.Leave own t note = works kind.Leave area.State own (all_but guest_bits) note
 part_task part.Pause own t note = loads kind.Control area.Pause 0 note
-part_task part.Begin own t note = works kind.Begin area.State own 2 note
-part_task part.End own t note = works kind.End area.State own (all_but 2) note
+part_task part.Begin own t note = works kind.Begin area.State own section_bit note
+part_task part.End own t note = works kind.End area.State own (all_but section_bit) note
 part_task part.Share own t note = works kind.Share area.Lock 0 1 note
 part_task part.Unshare own t note = works kind.Unshare area.Lock 0 1 note
 part_task part.Exclude own t note = works kind.Exclude area.Lock 0 writer note
@@ -240,7 +236,17 @@ pub record MayGiveOld (h : Held) : Type 0 where
 abbrev pub has_line : Held → Bool
 has_line h = nat_lt (length h.answers) (length h.lines)
 
--- what a step needs of the hand; a slot set is published for a line alone
+-- The step is one of lines alone, in their order: it exchanges an entry of the tables, or is of a publication. No actor makes it that has
+-- no line left.
+abbrev pub needs_line : PartStep → Bool
+needs_line (part.Link gfn) = true
+needs_line (part.Leaf gfn) = true
+needs_line part.Publish = true
+needs_line part.Clear = true
+needs_line part.GiveOld = true
+needs_line _ = false
+
+-- what a step needs of the hand
 abbrev pub PartNeeds : PartStep → Held → Type 0
 PartNeeds part.Enter h = IsVcpu h.state.actor × (h.topics.stay ≡ Outside)
 PartNeeds part.Leave h = h.topics.stay ≡ Guest
@@ -267,7 +273,7 @@ PartNeeds (part.Link gfn) h = MayEnter gfn h.topics × (2 ≤ h.topics.walk.leve
 PartNeeds (part.Leaf gfn) h = MayEnter gfn h.topics × (h.topics.walk.level ≡ 1)
 PartNeeds (part.Host page) h = page < h.state.sizes.pages
 PartNeeds (part.Watch index) h = (index < actors_of h.state.sizes) × (index ≢ own_index h) × ((index ≡ next_watched (own_index h) 0) ⊎ (index ≡ next_watched (own_index h) h.topics.watched))
-PartNeeds part.Publish h = (has_line h ≡ true) × MayPublish h.topics
+PartNeeds part.Publish h = MayPublish h.topics
 PartNeeds part.Clear h = MayGiveOld h
 PartNeeds part.GiveOld h = MayGiveOld h
 

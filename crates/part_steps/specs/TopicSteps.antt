@@ -178,10 +178,19 @@ abbrev pub published : Topics → ℕ → Topics
 published t v = record t { search = kept_search false t.search; owned = None; leaving = Some v; watched = 0 }
 
 -- Bit 63 of a lock word: a writer has it.
-abbrev pub has_writer : ℕ → Bool
-has_writer v = nat_le (2 ^ 63) v
+abbrev pub writer : ℕ
+writer = 2 ^ 63
 
--- Bit 1 of a state word: the actor is in the guest or in a section.
+abbrev pub has_writer : ℕ → Bool
+has_writer v = nat_le writer v
+
+-- Bit 1 of a state word: the actor is in the guest or in a section; with bit 0 it is in the guest.
+abbrev pub section_bit : ℕ
+section_bit = 2
+
+abbrev pub guest_bits : ℕ
+guest_bits = 3
+
 abbrev pub in_section : ℕ → Bool
 in_section v = has_bit 1 v
 

@@ -2,14 +2,18 @@
 //! what it needs of the hand that makes it, and what this hand holds behind it.
 #![tactic(auto)]
 
+mod control_words;
 mod needs;
 mod part_step;
 mod slot_words;
 mod task;
 mod topics;
 
-pub use needs::{has_needs, next_watched};
-pub use part_step::{PartStep, part_kind, part_task, run_of, table_page};
+pub use control_words::{WRITER, has_writer, in_section};
+pub use needs::{has_needs, needs_line, next_watched};
+pub use part_step::{
+    PartStep, entry_index, page_owned, part_kind, part_task, run_of, table_page, words_filled,
+};
 pub use slot_words::{page_of, set_value};
 pub use task::{Task, kind_of, map_of};
-pub use topics::{WRITER, search, step_topics};
+pub use topics::{is_won, search, step_topics};

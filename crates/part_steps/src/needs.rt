@@ -4,13 +4,13 @@ ghost use Rattle.core_views.specs.declared.topics.OwnedPage.{OwnedPage};
 ghost use Rattle.spte_words.specs.Areas.{size_of};
 ghost use Rattle.part_steps.specs.PartBounds.{PartRests};
 ghost use Rattle.core_views.specs.Slots.{contains};
-ghost use Rattle.part_steps.specs.PartSteps.{IsFresh, IsOver, MayEnter, MayGiveOld, MayPublish, OwnsTable, PartNeeds, SawEntry, next_watched};
+ghost use Rattle.part_steps.specs.PartSteps.{IsFresh, IsOver, MayEnter, MayGiveOld, MayPublish, OwnsTable, PartNeeds, SawEntry, needs_line, next_watched};
 ghost use Rattle.part_steps.specs.SetWords.{set_role};
 ghost use Rattle.part_steps.specs.SlotWords.{page_of};
 ghost use Rattle.part_steps.specs.Tasks.{map_of};
 ghost use Rattle.part_steps.specs.declared.part_step.PartStep.TheVariants.{Enter, Leave, Begin, End, Clear};
 
-use crate::part_step::{PartStep, run_of};
+use crate::part_step::{PartStep, entry_index, run_of};
 use crate::slot_words::SET_ROLE;
 use crate::task::map_of;
 use core_views::{
@@ -40,7 +40,7 @@ fn saw_entry(gfn: u64, walk: &TableWalk) -> bool
     requires { walk.now.level ≤ 4 }
     ensures { result ≡ true → SawEntry gfn walk.now }
 {
-    is_over(gfn, walk) && walk.index == run_of(gfn, walk.level) % 512
+    is_over(gfn, walk) && walk.index == entry_index(gfn, walk.level)
 }
 
 // Whether what was looked up of the guest frame is fresh.
@@ -130,6 +130,18 @@ fn may_give_old(hand: &Hand) -> bool
         && sizes.actors() <= next_watched(own, topics.watched)
 }
 
+/// Whether the step is one of lines alone, which no actor makes that has no line
+/// left: it exchanges an entry of the tables, or is of a publication.
+pub fn needs_line(step: PartStep) -> bool
+    ensures { result ≡ needs_line step }
+{
+    match step {
+        PartStep::Link(_) | PartStep::Leaf(_) => true,
+        PartStep::Publish | PartStep::Clear | PartStep::GiveOld => true,
+        _ => false,
+    }
+}
+
 /// Whether the hand holds what the step needs.
 pub fn has_needs(hand: &Hand, step: PartStep) -> bool
     requires { PartRests hand.now.core }
@@ -178,7 +190,7 @@ pub fn has_needs(hand: &Hand, step: PartStep) -> bool
                 && index != own
                 && (index == next_watched(own, 0) || index == next_watched(own, topics.watched))
         }
-        PartStep::Publish => hand.next_line().is_some() && may_publish(topics),
+        PartStep::Publish => may_publish(topics),
         PartStep::Clear | PartStep::GiveOld => may_give_old(hand),
         PartStep::Pause | PartStep::Slots | PartStep::Root => true,
         PartStep::Seq | PartStep::Count | PartStep::RangeStart | PartStep::RangeEnd => true,

@@ -11,12 +11,13 @@ ghost use Rattle.part_steps.specs.SlotWords.{slot_index};
 ghost use Rattle.spte_words.specs.Entries.{level_span, table_word};
 ghost use Rattle.spte_words.specs.HostWords.{host_frame};
 ghost use Rattle.part_steps.specs.Tasks.{loads, map_of};
-ghost use Rattle.part_steps.specs.TopicSteps.{tried_bit};
+ghost use Rattle.part_steps.specs.TopicSteps.{guest_bits, section_bit, tried_bit};
 ghost use Rattle.part_steps.specs.declared.part_step.PartStep.TheVariants.{Enter, Leave, Begin, End, Clear};
 
+use crate::control_words::{GUEST_BITS, SECTION_BIT, WRITER};
 use crate::slot_words::{leaf_of, slot_word};
 use crate::task::{Task, kind_of, map_of};
-use crate::topics::WRITER;
+use crate::topics::tried_bit;
 use core_views::{
     Hand, HostLook, Kind, MapClaim, OwnedPage, SlotSearch, StepKind, TableWalk, Topics,
 };
@@ -110,6 +111,26 @@ pub fn table_page(walk: &TableWalk) -> u64
     }
 }
 
+/// The page that is owned, and 0 where none is.
+pub fn page_owned(owned: Option<OwnedPage>) -> u64
+    ensures { result ≡ page_owned owned }
+{
+    match owned {
+        Some(owned) => owned.page,
+        None => 0,
+    }
+}
+
+/// How far the page that is owned is filled.
+pub fn words_filled(owned: Option<OwnedPage>) -> u64
+    ensures { result ≡ words_filled owned }
+{
+    match owned {
+        Some(owned) => owned.filled,
+        None => 0,
+    }
+}
+
 // Fills the next word of the page, or its role.
 fn fill(map: &WordMap, owned: Option<OwnedPage>, value: u64, note: u64) -> Task
     requires map { IsWordMap map.now }
@@ -200,6 +221,16 @@ pub fn run_of(gfn: u64, level: u8) -> u64
     gfn / Spte::level_span(level)
 }
 
+/// The place of the guest frame's entry in a table of the level.
+pub fn entry_index(gfn: u64, level: u8) -> u64
+    requires from { 1 ≤ level }
+    requires to { level ≤ 4 }
+    ensures is { result ≡ entry_index gfn level }
+    ensures below { result < 512 }
+{
+    run_of(gfn, level) % 512
+}
+
 // Loads the guest frame's entry in the table that the walk has come to.
 fn walk(map: &WordMap, walk: &TableWalk, gfn: u64, note: u64) -> Task
     requires map { IsWordMap map.now }
@@ -209,7 +240,7 @@ fn walk(map: &WordMap, walk: &TableWalk, gfn: u64, note: u64) -> Task
     ensures task { result ≡ loads StepKind.Walk Area.Pool (pool_index (table_page walk.now) (entry_index gfn walk.now.level)) note }
     ensures within { result.index < size_of map.now result.area }
 {
-    let index = map.pool_index(table_page(walk), run_of(gfn, walk.level) % 512);
+    let index = map.pool_index(table_page(walk), entry_index(gfn, walk.level));
     Task::load(StepKind::Walk, Area::Pool, index, note)
 }
 
@@ -225,7 +256,7 @@ fn enter(map: &WordMap, walk: &TableWalk, gfn: u64, new: u64, note: u64) -> Task
     Task {
         kind: StepKind::Swap,
         area: Area::Pool,
-        index: map.pool_index(table_page(walk), run_of(gfn, walk.level) % 512),
+        index: map.pool_index(table_page(walk), entry_index(gfn, walk.level)),
         expected: walk.entry,
         written: new,
         may_end: note,
@@ -261,7 +292,7 @@ fn claim(claim: &MapClaim, note: u64) -> Task
     requires { 0 < claim.now.seen }
     ensures { result ≡ works StepKind.Claim Area.PoolMap claim.now.at (all_but (2 ^ tried_bit claim.now)) note }
 {
-    let bit = 1 << claim.seen.trailing_zeros();
+    let bit = 1 << tried_bit(claim);
     work(StepKind::Claim, Area::PoolMap, claim.at, !bit, note)
 }
 
@@ -269,16 +300,16 @@ fn claim(claim: &MapClaim, note: u64) -> Task
 fn own_task(step: PartStep, own: u64, note: u64) -> Task
     ensures area { result.area ≡ Area.State }
     ensures index { result.index ≡ own }
-    ensures enter { step ≡ Enter → result ≡ works StepKind.Enter Area.State own 3 note }
-    ensures leave { step ≡ Leave → result ≡ works StepKind.Leave Area.State own (all_but 3) note }
-    ensures begin { step ≡ Begin → result ≡ works StepKind.Begin Area.State own 2 note }
-    ensures end { step ≡ End → result ≡ works StepKind.End Area.State own (all_but 2) note }
+    ensures enter { step ≡ Enter → result ≡ works StepKind.Enter Area.State own guest_bits note }
+    ensures leave { step ≡ Leave → result ≡ works StepKind.Leave Area.State own (all_but guest_bits) note }
+    ensures begin { step ≡ Begin → result ≡ works StepKind.Begin Area.State own section_bit note }
+    ensures end { step ≡ End → result ≡ works StepKind.End Area.State own (all_but section_bit) note }
 {
     match step {
-        PartStep::Enter => work(StepKind::Enter, Area::State, own, 3, note),
-        PartStep::Leave => work(StepKind::Leave, Area::State, own, !3, note),
-        PartStep::Begin => work(StepKind::Begin, Area::State, own, 2, note),
-        _ => work(StepKind::End, Area::State, own, !2, note),
+        PartStep::Enter => work(StepKind::Enter, Area::State, own, GUEST_BITS, note),
+        PartStep::Leave => work(StepKind::Leave, Area::State, own, !GUEST_BITS, note),
+        PartStep::Begin => work(StepKind::Begin, Area::State, own, SECTION_BIT, note),
+        _ => work(StepKind::End, Area::State, own, !SECTION_BIT, note),
     }
 }
 

@@ -5,8 +5,9 @@ ghost use Rattle.core_views.specs.Kinds.{kind_named};
 ghost use Rattle.core_views.specs.Sizes.{AreSizes};
 ghost use Rattle.core_views.specs.declared.place.SlotField.TheVariants.{Flags};
 ghost use Rattle.core_views.specs.declared.kind.StepKind.TheVariants.{Walk, Swap};
-ghost use Rattle.part_steps.specs.TopicSteps.{HasRoom, at_word, begun, checked_after, claimed, controlled, filled_more, gone_down, index_in_page, let_go, may_search, may_walk, noted, published, searched, still_owned, swapped, takes_snapshot, topics_after, tried, walked};
+ghost use Rattle.part_steps.specs.TopicSteps.{HasRoom, at_word, begun, checked_after, claimed, controlled, count_checked, filled_more, gone_down, index_in_page, is_won, let_go, may_search, may_walk, noted, published, range_checked, searched, seq_checked, start_checked, still_owned, swapped, takes_snapshot, topics_after, tried, tried_bit, walked};
 
+use crate::control_words::{has_lock, has_writer, in_section, is_word_of};
 use crate::task::map_of;
 use core_views::{
     Checked, Hold, HostLook, Invalidations, Kind, MapClaim, OwnedPage, Sizes, SlotField,
@@ -14,13 +15,10 @@ use core_views::{
 };
 use spte_words::{Area, SlotFlags, Spte, SpteKind};
 
-/// The lock's bit of its writer.
-pub const WRITER: u64 = 1 << 63;
-
 fn may_walk(stay: Stay, hold: Hold) -> bool
     ensures { result ≡ may_walk stay hold }
 {
-    stay != Stay::Outside || hold == Hold::Shared || hold == Hold::Exclusive
+    stay != Stay::Outside || has_lock(hold)
 }
 
 fn may_search(stay: Stay, hold: Hold) -> bool
@@ -184,16 +182,33 @@ pub fn search(search: &mut SlotSearch, found: u64)
     }
 }
 
-// The claim is won where the bit that it tried was still there.
+/// The bit that a claim tries: the lowest of those seen.
+pub(crate) fn tried_bit(claim: &MapClaim) -> u32
+    requires { 0 < claim.now.seen }
+    ensures is { result ≡ tried_bit claim.now }
+    ensures below { result < 64 }
+{
+    claim.seen.trailing_zeros()
+}
+
+/// Whether a claim is won, which found this word: the bit that it tried was still
+/// there.
+pub fn is_won(claim: &MapClaim, found: u64) -> bool
+    requires { 0 < claim.now.seen }
+    ensures { result ≡ is_won claim.now found }
+{
+    (found >> tried_bit(claim)) % 2 == 1
+}
+
+// A claim has tried for a bit, and found this word.
 fn claim(claim: &mut MapClaim, found: u64) -> Option<OwnedPage>
     requires seen { 0 < claim.old.seen }
     requires at { claim.old.at < 2 ^ 32 }
     ensures owned { result ≡ claimed claim.old found }
     ensures claim { claim.new ≡ tried claim.old found }
 {
-    let bit = claim.seen.trailing_zeros();
-    if (found >> bit) % 2 == 1 {
-        let page = 64 * claim.at + bit as u64;
+    if is_won(claim, found) {
+        let page = 64 * claim.at + tried_bit(claim) as u64;
         *claim = MapClaim { at: 0, seen: 0 };
         Some(OwnedPage {
             page,
@@ -232,18 +247,60 @@ fn publish(topics: &mut Topics, page: u64)
     topics.watched = 0;
 }
 
-// How far the check has come behind the load of a word of the invalidations.
+// How far the check has come after a load of the count, of the range's start, of
+// its end, and of the sequence number.
+fn count_checked(hold: Hold) -> Checked
+    ensures { result ≡ count_checked hold }
+{
+    if has_lock(hold) {
+        Checked::Count
+    } else {
+        Checked::Nothing
+    }
+}
+
+fn start_checked(checked: Checked) -> Checked
+    ensures { result ≡ start_checked checked }
+{
+    match checked {
+        Checked::Count => Checked::Start,
+        _ => Checked::Nothing,
+    }
+}
+
+fn range_checked(checked: Checked) -> Checked
+    ensures { result ≡ range_checked checked }
+{
+    match checked {
+        Checked::Start => Checked::Range,
+        _ => Checked::Nothing,
+    }
+}
+
+fn seq_checked(count: u64, checked: Checked) -> Checked
+    ensures { result ≡ seq_checked count checked }
+{
+    match checked {
+        Checked::Count if count == 0 => Checked::All,
+        Checked::Range => Checked::All,
+        _ => Checked::Nothing,
+    }
+}
+
+// How far the check has come after the load of a word of control.
 fn checked_after(word: u32, hold: Hold, invalidations: &Invalidations) -> Checked
     ensures { result ≡ checked_after word hold invalidations.now }
 {
-    match (word, invalidations.checked) {
-        (3, _) if hold == Hold::Shared || hold == Hold::Exclusive => Checked::Count,
-        (4, Checked::Count) => Checked::Start,
-        (5, Checked::Start) => Checked::Range,
-        (2, Checked::Count) if invalidations.count == 0 => Checked::All,
-        (2, Checked::Range) => Checked::All,
-        (2..=5, _) => Checked::Nothing,
-        _ => invalidations.checked,
+    if is_word_of(Area::Count, word) {
+        count_checked(hold)
+    } else if is_word_of(Area::RangeStart, word) {
+        start_checked(invalidations.checked)
+    } else if is_word_of(Area::RangeEnd, word) {
+        range_checked(invalidations.checked)
+    } else if is_word_of(Area::Seq, word) {
+        seq_checked(invalidations.count, invalidations.checked)
+    } else {
+        invalidations.checked
     }
 }
 
@@ -252,18 +309,18 @@ fn note(word: u32, hold: Hold, invalidations: &mut Invalidations, found: u64)
     ensures { invalidations.new ≡ noted word hold invalidations.old found }
 {
     invalidations.checked = checked_after(word, hold, invalidations);
-    match word {
-        2 => {
-            if hold == Hold::Loose {
-                invalidations.snapshot = Some(found);
-            } else {
-                invalidations.seq = found;
-            }
+    if is_word_of(Area::Seq, word) {
+        if hold == Hold::Loose {
+            invalidations.snapshot = Some(found);
+        } else {
+            invalidations.seq = found;
         }
-        3 => invalidations.count = found,
-        4 => invalidations.start = found,
-        5 => invalidations.end = found,
-        _ => {}
+    } else if is_word_of(Area::Count, word) {
+        invalidations.count = found;
+    } else if is_word_of(Area::RangeStart, word) {
+        invalidations.start = found;
+    } else if is_word_of(Area::RangeEnd, word) {
+        invalidations.end = found;
     }
 }
 
@@ -285,7 +342,7 @@ fn look_at_map(sizes: &Sizes, word: u32, claim: &mut MapClaim, found: u64)
 fn takes_snapshot(word: u32, hold: Hold) -> bool
     ensures { result ≡ takes_snapshot word hold }
 {
-    word == 2 && hold == Hold::Loose
+    is_word_of(Area::Seq, word) && hold == Hold::Loose
 }
 
 // A word of the machine's control was loaded.
@@ -298,7 +355,7 @@ fn control(sizes: &Sizes, word: u32, topics: &mut Topics, found: u64)
         topics.search.whole = false;
         topics.host = None;
     }
-    if word == 0 {
+    if is_word_of(Area::Root, word) {
         topics.walk.level = if may_walk(topics.stay, topics.hold) {
             4
         } else {
@@ -308,14 +365,14 @@ fn control(sizes: &Sizes, word: u32, topics: &mut Topics, found: u64)
         topics.walk.root = found;
         topics.walk.index = 512;
     }
-    if word == 1 {
+    if is_word_of(Area::Slots, word) {
         let held = may_search(topics.stay, topics.hold);
         topics.search.set = if held { Some(found) } else { None };
         topics.search.id = 0;
         topics.search.next = SlotField::Flags;
         topics.search.whole = false;
     }
-    if word == 7 {
+    if is_word_of(Area::Pause, word) {
         topics.pause = found;
     }
     note(word, topics.hold, &mut topics.invalidations, found);
@@ -350,7 +407,7 @@ pub fn step_topics(sizes: &Sizes, kind: Kind, topics: &mut Topics, found: u64)
         }
         StepKind::Share => {
             topics.invalidations.checked = Checked::Nothing;
-            topics.hold = if found >= WRITER {
+            topics.hold = if has_writer(found) {
                 Hold::Owing(found)
             } else {
                 Hold::Shared
@@ -373,8 +430,8 @@ pub fn step_topics(sizes: &Sizes, kind: Kind, topics: &mut Topics, found: u64)
         }
         StepKind::Publish => publish(topics, found),
         StepKind::Watch => {
-            let inside = found / 2 % 2 == 1;
-            topics.watched = kind.word.saturating_sub(8) as u64 + if inside { 0 } else { 1 };
+            let index = kind.word.saturating_sub(Area::State.number());
+            topics.watched = index as u64 + if in_section(found) { 0 } else { 1 };
         }
         StepKind::Read | StepKind::Write | StepKind::Add => {}
     }

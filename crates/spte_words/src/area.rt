@@ -1,3 +1,6 @@
+ghost use Rattle.std.specs.Prelude.{◌≡◌};
+ghost use Rattle.spte_words.specs.Areas.{number_of};
+
 /// A run of words of one use. The areas follow one another in this order.
 #[derive(Clone, Copy, Debug, PartialEq, Eq, Drop)]
 pub enum Area {
@@ -33,4 +36,30 @@ pub enum Area {
     Pool,
     /// The words of the frames.
     Content,
+}
+
+impl Area {
+    /// Its number in the order of the areas, the first being 0.
+    pub fn number(self) -> u32
+        ensures { result ≡ number_of self }
+    {
+        match self {
+            Area::Root => 0,
+            Area::Slots => 1,
+            Area::Seq => 2,
+            Area::Count => 3,
+            Area::RangeStart => 4,
+            Area::RangeEnd => 5,
+            Area::Lock => 6,
+            Area::Pause => 7,
+            Area::State => 8,
+            Area::PoolMap => 9,
+            Area::FrameMap => 10,
+            Area::Log => 11,
+            Area::Host => 12,
+            Area::Role => 13,
+            Area::Pool => 14,
+            Area::Content => 15,
+        }
+    }
 }

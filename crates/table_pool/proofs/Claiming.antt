@@ -23,7 +23,7 @@ use Rattle.mmu_core.specs.Laws.{IsSound}
 use Rattle.mmu_core.specs.Machine.{World, hand_in}
 use Rattle.mmu_core.specs.MayMake.{MayMake}
 use Rattle.part_steps.specs.PartBounds.{PartRests}
-use Rattle.part_steps.specs.PartSteps.{PartNeeds, own_index, page_owned, part_kind, part_task}
+use Rattle.part_steps.specs.PartSteps.{PartNeeds, needs_line, own_index, page_owned, part_kind, part_task}
 use Rattle.mmu_core.specs.PoolPart.{UsePart, is_free, is_leaving, is_owned}
 use Rattle.mmu_core.specs.Steps.{has_line}
 use Rattle.part_steps.specs.TopicSteps.{claimed, is_won, tried, tried_bit}
@@ -99,10 +99,15 @@ going job h R none before = by job.begun refl (nat_lt 0 claim.seen) (λ e. grind
     by true is false some zero_ = (none, before is, inr (refl, zero_ refl))
     by false is saw some zero_ = (none, words, inl refl)
 
+-- A step of a claim isn't one of lines alone.
+claims_free : (sees : Bool) (word : ℕ) → needs_line (if sees then part.Claim else part.Map word) ≡ false
+claims_free true word = refl
+claims_free false word = refl
+
 pub may_claim : (job : Claim) (note : ℕ) (h : Held) → ∥ HandReached h ∥₁ → has_line h ≡ false → h.topics.owned ≡ None → (job.begun ≡ true → h.topics.claim.at < words_of_bits h.state.sizes.pool) → MayMake (claim_step job h.topics.claim) note h
 may_claim job note h reached idle none before =
     let R : PartRests h = reached_part_rests h reached in
-    may_make h (claim_step job h.topics.claim) note R idle (going job h R none before)
+    may_make h (claim_step job h.topics.claim) note R idle (claims_free (sees_pages job h.topics.claim) (next_word job h.topics.claim)) (going job h R none before)
 
 -- The claim hasn't begun, or saw no page.
 pub unbegun : (job : Claim) (claim : MapClaim) → job.begun ≡ false → sees_pages job claim ≡ false

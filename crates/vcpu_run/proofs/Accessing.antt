@@ -73,11 +73,11 @@ word_of z (Worker n) gfn word op may = absurd may
 
 module _ (p : AccessPlace) (job : AccessJob) (h : Held) (S : StandsAt p job h) where
   -- what the step of its place needs
-  rests_on : RestsOn (access_part p job.gfn h.topics) h
+  rests_on : RestsOn (access_part p job.gfn h.topics) job.gfn (is_write job.op) h
   rests_on = subst (λ (c : Command). RestsAt (place.Access p) c h) S.command (subst (λ (q : Place). RestsAt q (line_of h).command h) S.stands S.rests.at)
 
   pub needs : (step : PartStep) → access_part p job.gfn h.topics ≡ Some step → PartNeeds step h
-  needs step is = subst (λ (x : Option PartStep). RestsOn x h) is rests_on
+  needs step is = subst (λ (x : Option PartStep). RestsOn x job.gfn (is_write job.op) h) is rests_on
 
   task_is : task_of h ≡ task_at (place.Access p) (Access job.gfn job.word job.op) h
   task_is = ap (λ (q : Place). task_at q (line_of h).command h) S.stands ∙ ap (λ (c : Command). task_at (place.Access p) c h) S.command
@@ -119,13 +119,13 @@ touches job h S small =
     let frame : ℕ = frame_in h.state.leaf in
     let there = rests_on Touch job h S in
     let index : ℕ = content_index (map_of z) frame job.word in (
-      there.0,
+      there.frame,
       word_there Touch job h S,
       enabled_is h (touch_kind z frame job.word job.op 0) (record {
         left = S.left;
         rests = S.rests;
         is = ap (λ (t : Task). kind_of_task z t) (touch_same job.op index) ∙ sym (ap (λ (t : Task). kind_of_task z t) (task_is Touch job h S));
-        inside = inside_of job.op z index (place_below (map_of z) area.Content index (content_within (map_of z) frame job.word there.0 (word_there Touch job h S)));
+        inside = inside_of job.op z index (place_below (map_of z) area.Content index (content_within (map_of z) frame job.word there.frame (word_there Touch job h S)));
         small = small_of job.op z index small;
       }),
     )

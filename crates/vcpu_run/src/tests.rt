@@ -14,7 +14,7 @@ use core_views::{
     Trace, Words,
 };
 use mmu_core::{allows, next_kind, rests};
-use part_steps::PartStep;
+use part_steps::{PartStep, WRITER};
 use std::alloc::Global;
 use std::test::Fail;
 use step_seats::{PlainMachine, Stepper, Turn, make_part};
@@ -51,9 +51,6 @@ const LOCK: u32 = 6;
 const ROOT: u32 = 96;
 
 const CONTENT: usize = 4331;
-
-// A writer has the lock.
-const WRITER: u64 = 1 << 63;
 
 fn header(alloc: Global, pool: u32) -> Result<Header, NoMemory>
     ensures { IfOk result (λ h. h ≡ record { version = 1; vcpus = 2; workers = 0; pages = 70; frames = 130; words = 2; pool = pool; cache = 64; manual = 0; hosts = 0 ∷ [] }) }

@@ -1,6 +1,6 @@
 -- The own state word and the pause word of a told world, before and behind a step of a part.
 use Rattle.std.proofs.Common.{◌≡◌, ◌<◌, ◌%◌, ◌*◌, ◌/◌, ◌^◌, ℕ, Option, Some, None, refl, sym, subst, ap, ◌∙◌, arith, length}
-use Rattle.std.specs.Prelude.{◌==◌, Bool, false, IfSome, unwrap_or, if◌then◌else◌}
+use Rattle.std.specs.Prelude.{◌==◌, Bool, true, false, IfSome, unwrap_or, if◌then◌else◌}
 use Rattle.std.specs.Int.Bits.{bit_and}
 use Rattle.std.proofs.Math.Logic.{∥∥₁_elim}
 use Rattle.std.proofs.Props.{props}
@@ -119,10 +119,8 @@ pub entered_word : (told tells : Option (World Held)) (actor note found : ℕ) (
 entered_word told tells actor note found h g has moves behind = state_behind part.Enter kind.Enter 3 (λ n. 3) told tells actor note found h g has moves behind (λ own t. refl) (λ words i. refl)
 
 -- the answer to what was found
-pub found_flush : (n : ℕ) → n / 2 ^ 2 % 2 ≡ 1 → answer_to n ≡ Flushed
-found_flush n is = ap (λ b. if b == 1 then Flushed else In) is
+pub found_flush : (n : ℕ) → asks_flush n ≡ true → answer_to n ≡ Flushed
+found_flush n is = ap (λ (b : Bool). if b then Flushed else In) is
 
-pub found_none : (n : ℕ) → (n / 2 ^ 2 % 2 ≡ 1 → ⊥) → answer_to n ≡ In
-found_none n other =
-    let e : asks_flush n ≡ false = grind (arith, nat_tests, other) in
-    ap (λ (b : Bool). if b then Flushed else In) e
+pub found_none : (n : ℕ) → asks_flush n ≡ false → answer_to n ≡ In
+found_none n is = ap (λ (b : Bool). if b then Flushed else In) is

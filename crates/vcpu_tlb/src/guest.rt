@@ -8,11 +8,9 @@ ghost use Rattle.step_seats.specs.Moves.{KeepsRoom};
 ghost use Rattle.step_seats.specs.PartTurns.{MadePart, MakesPart, WherePartMade};
 ghost use Rattle.vcpu_tlb.specs.Entering.{Enters, answer_to, cached_behind, pause_in, state_in};
 
+use mmu_core::asks_flush;
 use part_steps::PartStep;
 use step_seats::{Stepper, make_part};
-
-/// Bit 2 of a state word: a flush is asked for.
-const FLUSH: u64 = 1 << 2;
 
 /// What a virtual processor found as it entered the guest.
 #[derive(Clone, Copy, Debug, PartialEq, Eq, Drop)]
@@ -39,7 +37,7 @@ pub fn enter<S: Stepper>(s: &mut S, note: u64) -> Entered
     ensures same { (S.actor s.new ≡ S.actor s.old) × (S.frame s.new ≡ S.frame s.old) }
 {
     let state = make_part(s, PartStep::Enter, note);
-    if state / FLUSH % 2 == 1 {
+    if asks_flush(state) {
         Entered::Flushed
     } else {
         Entered::In

@@ -8,30 +8,30 @@ use Rattle.vcpu_tlb.proofs.GuestWords.{entered_word, found_flush, found_none}
 use Rattle.step_seats.proofs.Where.{only, where_made}
 use Rattle.vcpu_tlb.proofs.guest.enter.Goals as goal
 
-pub returns-then-state-eq1-clause-asked : goal.returns-then-state-eq1-clause-asked
-returns-then-state-eq1-clause-asked g c =
+pub returns-then-asks_flush-clause-asked : goal.returns-then-asks_flush-clause-asked
+returns-then-asks_flush-clause-asked g c =
     where_made c.make_part-state.ensures.made
-    (λ w at has. sym (found_flush c.make_part-state.result c.if-state-eq1.true) ∙ ap answer_to (found_told Enter _ _ _ _ _ (only w) _ at c.requires.may.needs))
+    (λ w at has. sym (found_flush c.make_part-state.result (sym c.asks_flush.ensures ∙ c.if-asks_flush.true)) ∙ ap answer_to (found_told Enter _ _ _ _ _ (only w) _ at c.requires.may.needs))
 
-pub returns-then-state-eq1-clause-state : goal.returns-then-state-eq1-clause-state
-returns-then-state-eq1-clause-state g c =
+pub returns-then-asks_flush-clause-state : goal.returns-then-asks_flush-clause-state
+returns-then-asks_flush-clause-state g c =
     where_made c.make_part-state.ensures.made (λ w at has. entered_word (Some w) (Some _) _ _ _ _ _ at.has at.world has)
 
-pub returns-else-state-eq1-clause-asked : goal.returns-else-state-eq1-clause-asked
-returns-else-state-eq1-clause-asked g c =
+pub returns-else-asks_flush-clause-asked : goal.returns-else-asks_flush-clause-asked
+returns-else-asks_flush-clause-asked g c =
     where_made c.make_part-state.ensures.made
-    (λ w at has. sym (found_none c.make_part-state.result c.if-state-eq1.false) ∙ ap answer_to (found_told Enter _ _ _ _ _ (only w) _ at c.requires.may.needs))
+    (λ w at has. sym (found_none c.make_part-state.result (sym c.asks_flush.ensures ∙ c.if-asks_flush.false)) ∙ ap answer_to (found_told Enter _ _ _ _ _ (only w) _ at c.requires.may.needs))
 
-pub returns-else-state-eq1-clause-state : goal.returns-else-state-eq1-clause-state
-returns-else-state-eq1-clause-state g c =
+pub returns-else-asks_flush-clause-state : goal.returns-else-asks_flush-clause-state
+returns-else-asks_flush-clause-state g c =
     where_made c.make_part-state.ensures.made (λ w at has. entered_word (Some w) (Some _) _ _ _ _ _ at.has at.world has)
 
-pub returns-then-state-eq1-clause-cached : goal.returns-then-state-eq1-clause-cached
-returns-then-state-eq1-clause-cached g c =
+pub returns-then-asks_flush-clause-cached : goal.returns-then-asks_flush-clause-cached
+returns-then-asks_flush-clause-cached g c =
     entered_cached (g.S.Stepper.handful c.args.s.now).core (g.S.Stepper.handful c.make_part-state.new.s).core c.args.note c.make_part-state.result c.requires.may c.make_part-state.ensures.made.hand
-    ∙ ap (λ a. cached_behind a (g.S.Stepper.handful c.args.s.now).core.cached) (found_flush c.make_part-state.result c.if-state-eq1.true)
+    ∙ ap (λ a. cached_behind a (g.S.Stepper.handful c.args.s.now).core.cached) (found_flush c.make_part-state.result (sym c.asks_flush.ensures ∙ c.if-asks_flush.true))
 
-pub returns-else-state-eq1-clause-cached : goal.returns-else-state-eq1-clause-cached
-returns-else-state-eq1-clause-cached g c =
+pub returns-else-asks_flush-clause-cached : goal.returns-else-asks_flush-clause-cached
+returns-else-asks_flush-clause-cached g c =
     entered_cached (g.S.Stepper.handful c.args.s.now).core (g.S.Stepper.handful c.make_part-state.new.s).core c.args.note c.make_part-state.result c.requires.may c.make_part-state.ensures.made.hand
-    ∙ ap (λ a. cached_behind a (g.S.Stepper.handful c.args.s.now).core.cached) (found_none c.make_part-state.result c.if-state-eq1.false)
+    ∙ ap (λ a. cached_behind a (g.S.Stepper.handful c.args.s.now).core.cached) (found_none c.make_part-state.result (sym c.asks_flush.ensures ∙ c.if-asks_flush.false))
