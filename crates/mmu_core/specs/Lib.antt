@@ -40,6 +40,8 @@ pub mod OthersRest
 pub mod Grace
 pub mod Scans
 pub mod Causes
+pub mod Waits
+pub mod PartWaits
 pub mod Enough
 pub mod FaultAlone
 pub mod LineAlone
