@@ -8,4 +8,3 @@ pub mod Turns
 pub mod LineTurns
 pub mod Begins
 pub mod DelayCauses
-pub mod Entries

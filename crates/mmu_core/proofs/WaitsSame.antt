@@ -1,6 +1,7 @@
 -- A step of a line that waits is a step of a part that waits.
-use Rattle.std.proofs.Common.{◌≡◌, ℕ, refl, sym, ap, ◌∙◌}
+use Rattle.std.proofs.Common.{◌≡◌, ℕ, refl, sym, subst, ap, ◌∙◌}
 use Rattle.std.specs.Prelude.{Bool, true, false, ◌==◌, ◌&&◌, not, if◌then◌else◌}
+use Rattle.core_views.specs.declared.kind.Kind.{Kind}
 use Rattle.core_views.specs.declared.place.AccessPlace.TheVariants as access
 use Rattle.core_views.specs.declared.place.CheckStage.{CheckStage}
 use Rattle.core_views.specs.declared.place.CheckStage.TheVariants as stage
@@ -22,12 +23,12 @@ use Rattle.core_views.specs.Held.{Held}
 use Rattle.core_views.specs.Slots.{is_write}
 use Rattle.part_steps.specs.declared.part_step.PartStep.{PartStep}
 use Rattle.part_steps.specs.declared.part_step.PartStep.TheVariants as part
-use Rattle.part_steps.specs.declared.task.Task.{Task}
 use Rattle.part_steps.specs.PartSteps.{PartNeeds, part_kind}
 use Rattle.part_steps.specs.Tasks.{kind_of_task}
 use Rattle.part_steps.specs.TopicSteps.{is_won}
 use Rattle.mmu_core.specs.AccessSteps.{access_note}
 use Rattle.mmu_core.specs.Delays.{line_waits}
+use Rattle.mmu_core.specs.Enabled.{IsNext}
 use Rattle.mmu_core.specs.FaultKnows.{FaultKnows}
 use Rattle.mmu_core.specs.FaultSteps.{check_part, fault_part, map_word, share_part, tries_page, waits}
 use Rattle.mmu_core.specs.KnowsPart.{KnowsPart}
@@ -35,7 +36,7 @@ use Rattle.mmu_core.specs.PartWaits.{is_owing, part_waits, saw_open, was_counted
 use Rattle.mmu_core.specs.Rests.{RestsAt}
 use Rattle.mmu_core.specs.SetSlotKnows.{SetSlotKnows}
 use Rattle.mmu_core.specs.SetSlotSteps.{set_slot_note, set_slot_part, set_slot_waits}
-use Rattle.mmu_core.specs.Steps.{task_at}
+use Rattle.mmu_core.specs.Steps.{line_at, place_at, task_at}
 
 -- ---- the fault and the slot setting
 
@@ -79,15 +80,15 @@ setting_waits_same _ h id slot v K = refl
 
 -- ---- each line
 
--- The task is this step of a part, which waits.
-pub record WaitsAs (h : Held) (t : Task) (v : ℕ) : Type 0 where
+-- The step is this one of a part, which waits.
+pub record WaitsAs (h : Held) (k : Kind) (v : ℕ) : Type 0 where
   pub step : PartStep
   pub note : ℕ
-  pub is : kind_of_task h.state.sizes t ≡ part_kind h step note
+  pub is : k ≡ part_kind h step note
   pub needs : PartNeeds step h
   pub waits_ : part_waits step h.topics v ≡ true
 
-pub waits_as : (p : Place) (command : Command) (h : Held) (v : ℕ) → RestsAt p command h → KnowsPart p command h → line_waits p h.topics v ≡ true → WaitsAs h (task_at p command h) v
+waits_as : (p : Place) (command : Command) (h : Held) (v : ℕ) → RestsAt p command h → KnowsPart p command h → line_waits p h.topics v ≡ true → WaitsAs h (kind_of_task h.state.sizes (task_at p command h)) v
 waits_as (place.Access (access.Fault p)) (Access gfn word op) h v R K is = record {
   step = fault_part p gfn h.topics;
   note = access_note (access.Fault p);
@@ -104,3 +105,12 @@ waits_as (place.Access access.Touch) command h v R K is = absurd (cc is)
 waits_as (place.Access (access.Leave how)) command h v R K is = absurd (cc is)
 waits_as place.Between command h v R K is = absurd (cc is)
 waits_as _ _ h v R K is = absurd R
+
+-- the place of a line that has yet to begin is no place of waiting
+at_its_place : (q : Place) (h : Held) (v : ℕ) → line_waits q h.topics v ≡ true → (RestsAt (place_at q h) (line_at q h).command h) → KnowsPart q h.state.line.command h → WaitsAs h (kind_of_task h.state.sizes (task_at (place_at q h) (line_at q h).command h)) v
+at_its_place place.Between h v is R K = absurd (cc is)
+at_its_place (place.Access p) h v is R K = waits_as (place.Access p) h.state.line.command h v R K is
+at_its_place (place.SetSlot p) h v is R K = waits_as (place.SetSlot p) h.state.line.command h v R K is
+
+pub line_waits_as : (h : Held) (k : Kind) (v : ℕ) → IsNext h k → KnowsPart h.state.place h.state.line.command h → line_waits h.state.place h.topics v ≡ true → WaitsAs h k v
+line_waits_as h k v N K is = subst (λ (x : Kind). WaitsAs h x v) (sym N.is) (at_its_place h.state.place h v is N.rests.at K)
