@@ -1,4 +1,5 @@
 pub mod ActorSaw
+pub mod ByStep
 pub mod StepWaits
 pub mod WaitsSame
 pub mod Entries

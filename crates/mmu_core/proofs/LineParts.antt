@@ -28,6 +28,7 @@ use Rattle.mmu_core.specs.SetSlotSteps.{set_slot_task, set_slot_note, set_slot_p
 use Rattle.mmu_core.specs.Steps.{line_at, place_at, task_at}
 use Rattle.part_steps.specs.Tasks.{kind_of_task, map_of}
 use Rattle.part_steps.specs.TopicSteps.{topics_after}
+use Rattle.mmu_core.proofs.ByStep.{StepAt, step_at, Makes, Touches}
 
 -- the step of a part, whose needs the hand holds
 pub record IsPartKind (h : Held) (k : Kind) : Type 0 where
@@ -50,18 +51,12 @@ unfolding topics_after place
 touch_quiet Read z t index = record { code = λ e. absurd (omega (arith, e)); content = omega arith; topics = λ v. refl }
 touch_quiet _ z t index = record { code = λ e. absurd (omega (arith, e)); content = omega arith; topics = λ v. refl }
 
-access_kind : (s : Option PartStep) (h : Held) (note : ℕ) (op : Op) (index : ℕ) → RestsOn s h → PartOrQuiet h (task_by s h note (touch_of op index))
-access_kind None h note op index N = inr (touch_quiet op h.state.sizes h.topics index)
-access_kind (Some step) h note op index N = inl (record { step = step; note = note; is = refl; needs = N })
-
-setting_kind : (p : SetSlotPlace) (h : Held) (id : ℕ) (slot : Slot) → PartNeeds (set_slot_part p h id slot) h → PartOrQuiet h (set_slot_task p h id slot)
-setting_kind p h id slot N = inl (record { step = set_slot_part p h id slot; note = set_slot_note p h; is = refl; needs = N })
+part_or_quiet : (command : Command) (h : Held) (t : Task) → StepAt command h t → PartOrQuiet h t
+part_or_quiet command h _ (Makes step note N) = inl (record { step = step; note = note; is = refl; needs = N })
+part_or_quiet command h _ (Touches gfn word op is R) = inr (touch_quiet op h.state.sizes h.topics _)
 
 line_kind : (p : Place) (command : Command) (h : Held) → RestsAt p command h → PartOrQuiet h (task_at p command h)
-line_kind at.Between _ h R = inl (record { step = part.Seq; note = 0; is = refl; needs = tt })
-line_kind (at.Access p) (Access gfn word op) h R = access_kind (access_part p gfn h.topics) h (access_note p) op _ R
-line_kind (at.SetSlot p) (SetSlot id slot) h R = setting_kind p h id slot R
-line_kind _ _ h R = absurd R
+line_kind p command h R = part_or_quiet command h (task_at p command h) (step_at p command h R)
 
 pub step_kind : (h : Held) (k : Kind) → Enabled h k → IsPartKind h k ⊎ IsQuiet h.state.sizes h.topics k
 unfolding Enabled

@@ -2,6 +2,7 @@ pub mod Machine
 pub mod Cached
 pub mod AccessSteps
 pub mod SetSlotSteps
+pub mod PartAt
 pub mod Steps
 pub mod Rests
 pub mod Enabled
