@@ -14,15 +14,16 @@ use Rattle.core_views.specs.Held.{Held}
 use Rattle.mmu_core.specs.Delays.{begins_anew, line_waits}
 use Rattle.mmu_core.specs.Enabled.{mmu}
 use Rattle.mmu_core.specs.Machine.{Step, World, run}
+use Rattle.mmu_core.specs.Steps.{has_line}
 use Rattle.mmu_core.proofs.Causes.{faults_begin_anew_by_cause}
 use Rattle.mmu_core.proofs.EachFault.{is_access}
-use Rattle.mmu_core.proofs.SettingCauses.{setting_waits_are_by_cause}
 use Rattle.mmu_core.proofs.Starts.{start_good}
 use Rattle.mmu_core.proofs.TurnsNearer.{delays_wait_or_begin_anew}
-use Rattle.mmu_core.proofs.WaitCauses.{waits_are_by_cause}
-use Rattle.core_theorem.specs.Delays.{BeginsAnew, DelaysHaveCauses, FaultWaits, SettingWaits, answer_of, hand_of}
+use Rattle.mmu_core.proofs.StepWaits.{step_waits_are_by_cause}
+use Rattle.mmu_core.proofs.WaitsSame.{WaitsAs, line_waits_as}
+use Rattle.mmu_core.proofs.Which.{is_next}
+use Rattle.core_theorem.specs.Delays.{BeginsAnew, DelaysHaveCauses, StepWaits, answer_of, hand_of}
 use Rattle.core_theorem.specs.Runs.{IsRun}
-use Rattle.core_theorem.proofs.Entries.{cause_of_frame}
 use Rattle.core_theorem.proofs.Runs.{before, last_actor, may_last, reached, sound, starts_between}
 
 -- The place is the end of a section that begins anew.
@@ -65,18 +66,8 @@ module _ (z : Sizes) (lines : List Line) (w : World Held) (ss : List (Step Kind)
   abbrev v : ℕ
   v = answer_of w ss s
 
-  waiting : (p : Place) → h.state.place ≡ p → line_waits p h.topics v ≡ true → BeginsAnew z w ss s ⊎ FaultWaits z w ss s ⊎ SettingWaits z w ss s
-  waiting (place.Access (Fault p)) stands is =
-      inr (inl (record { where_ = p; at = stands; waits_ = is; caused = waits_are_by_cause z w ss s p (start_good z lines w R.start) R.legal (starts_between z lines w ss s R) stands is }))
-  waiting (place.SetSlot p) stands is =
-      inr (inr (record { where_ = p; at = stands; waits_ = is; caused = setting_waits_are_by_cause z w ss s p (start_good z lines w R.start) R.legal (starts_between z lines w ss s R) stands is }))
-  waiting place.Between stands is = absurd (cc is)
-  waiting (place.Access (Enter again)) stands is = absurd (cc is)
-  waiting (place.Access (Pause again)) stands is = absurd (cc is)
-  waiting (place.Access (Root again)) stands is = absurd (cc is)
-  waiting (place.Access (Walk again)) stands is = absurd (cc is)
-  waiting (place.Access Touch) stands is = absurd (cc is)
-  waiting (place.Access (Leave how)) stands is = absurd (cc is)
+  waiting : WaitsAs h s.kind v → StepWaits z w ss s
+  waiting W = record { step = W.step; note = W.note; is = W.is; needs = W.needs; waits = W.waits_; caused = step_waits_are_by_cause z lines w ss s W.step W.note R.start R.legal W.is W.needs W.waits_ }
 
   beginning : IsNewBeginning h.state.place → BeginsAnew z w ss s
   beginning N =
@@ -90,12 +81,11 @@ module _ (z : Sizes) (lines : List Line) (w : World Held) (ss : List (Step Kind)
         access_is = A.command;
         caused =
             faults_begin_anew_by_cause z w ss s.actor A.gfn A.word A.op N.cause (start_good z lines w R.start) (before z lines w ss s R).legal (starts_between z lines w ss s R) N.is A.command;
-        of_frame = cause_of_frame z (run mmu w ss) s.actor A.gfn A.word A.op N.cause (sound z lines w ss (before z lines w ss s R)) (last_actor z lines w ss s R) N.is A.command;
       }
 
-  by : (line_waits h.state.place h.topics v ≡ true) ⊎ (begins_anew h.state.place ≡ true) → BeginsAnew z w ss s ⊎ FaultWaits z w ss s ⊎ SettingWaits z w ss s
-  by (inl is) = waiting h.state.place refl is
-  by (inr is) = inl (beginning (new_beginning h.state.place is))
+  by : has_line h ≡ true → (line_waits h.state.place h.topics v ≡ true) ⊎ (begins_anew h.state.place ≡ true) → BeginsAnew z w ss s ⊎ StepWaits z w ss s
+  by has (inl is) = inr (waiting (line_waits_as h s.kind v (is_next h s.kind (may_last z lines w ss s R).enabled has) ((sound z lines w ss (before z lines w ss s R)).holds.knows s.actor (last_actor z lines w ss s R)) is))
+  by has (inr is) = inl (beginning (new_beginning h.state.place is))
 
 pub delays_have_causes : DelaysHaveCauses
-delays_have_causes z lines w ss s R has delays = by z lines w ss s R (delays_wait_or_begin_anew (run mmu w ss) s (reached z lines w ss (before z lines w ss s R)) (may_last z lines w ss s R) has delays)
+delays_have_causes z lines w ss s R has delays = by z lines w ss s R has (delays_wait_or_begin_anew (run mmu w ss) s (reached z lines w ss (before z lines w ss s R)) (may_last z lines w ss s R) has delays)

@@ -6,5 +6,4 @@ pub mod Turns
 pub mod LineTurns
 pub mod Begins
 pub mod DelayCauses
-pub mod Entries
 pub mod PauseSeen

@@ -1,34 +1,30 @@
 -- Why a fault begins anew, why a step waits and why a line is starved, in every run.
-use Rattle.std.specs.Prelude.{◌≡◌, ◌⊎◌, ◌<◌, ◌≤◌, ℕ, List, [], ◌∷◌, ◌++◌, true}
+use Rattle.std.specs.Prelude.{◌≡◌, ◌⊎◌, ℕ, List, [], ◌∷◌, ◌++◌, true}
 use Rattle.core_views.specs.declared.answer.Answer.TheVariants.{Starved}
 use Rattle.core_views.specs.declared.kind.Kind.{Kind}
 use Rattle.core_views.specs.declared.place.AccessPlace.TheVariants as access
 use Rattle.core_views.specs.declared.place.Cause.{Cause}
-use Rattle.core_views.specs.declared.place.Cause.TheVariants.{Entry}
 use Rattle.core_views.specs.declared.place.FaultEnd.TheVariants.{Retry}
-use Rattle.core_views.specs.declared.place.FaultPlace.{FaultPlace}
 use Rattle.core_views.specs.declared.place.FaultPlace.TheVariants.{End}
 use Rattle.core_views.specs.declared.place.Place.TheVariants.{Between}
 use Rattle.core_views.specs.declared.place.Place.TheVariants as place
-use Rattle.core_views.specs.declared.place.SetSlotPlace.{SetSlotPlace}
 use Rattle.core_views.specs.declared.sizes.Sizes.{Sizes}
 use Rattle.core_views.specs.declared.trace.Command.TheVariants.{Access}
 use Rattle.core_views.specs.declared.trace.Line.{Line}
 use Rattle.core_views.specs.declared.trace.Op.{Op}
 use Rattle.core_views.specs.Held.{Held}
-use Rattle.spte_words.specs.declared.area.Area.TheVariants as area
-use Rattle.spte_words.specs.Areas.{place as place_of, pool_index, words_of_bits}
-use Rattle.part_steps.specs.PartSteps.{entry_index}
-use Rattle.part_steps.specs.Tasks.{map_of}
+use Rattle.spte_words.specs.Areas.{words_of_bits}
+use Rattle.part_steps.specs.declared.part_step.PartStep.{PartStep}
+use Rattle.part_steps.specs.PartSteps.{PartNeeds, part_kind}
 use Rattle.mmu_core.specs.declared.outcome.Outcome.TheVariants.{Ends}
-use Rattle.mmu_core.specs.Causes.{IsCaused, SettingWaitIsCaused, WaitIsCaused}
+use Rattle.mmu_core.specs.Causes.{IsCaused}
 use Rattle.mmu_core.specs.Enabled.{mmu}
-use Rattle.mmu_core.specs.FaultSteps.{waits}
 use Rattle.mmu_core.specs.Machine.{Step, World, answered, hand_in, run}
+use Rattle.mmu_core.specs.PartWaits.{part_waits}
 use Rattle.mmu_core.specs.Scans.{EndsWithScan}
-use Rattle.mmu_core.specs.SetSlotSteps.{set_slot_waits}
 use Rattle.mmu_core.specs.Steps.{delays_at, has_line, place_at}
 use Rattle.mmu_core.specs.Turns.{line_of, outcome_of}
+use Rattle.mmu_core.specs.Waits.{StepWaitIsCaused}
 use Rattle.core_theorem.specs.Runs.{IsRun}
 
 -- the hand that makes a step behind a run, and what the step answers
@@ -38,40 +34,19 @@ hand_of w ss s = hand_in mmu (run mmu w ss) s.actor
 abbrev pub answer_of : World Held → List (Step Kind) → Step Kind → ℕ
 answer_of w ss s = answered mmu (run mmu w ss) s.kind
 
--- The word is an entry of the guest frame: in a table of some level, in a page of the pool.
-pub record IsEntryOf (z : Sizes) (gfn word : ℕ) : Type 0 where
-  pub level : ℕ
-  pub from : 1 ≤ level
-  pub to : level ≤ 4
-  pub page : ℕ
-  pub there : page < z.pool
-  pub is : word ≡ place_of (map_of z) area.Pool (pool_index page (entry_index gfn level))
-
--- Where the cause is an entry, it is one of the guest frame.
-abbrev pub IsOfFrame : Cause → Sizes → ℕ → Type 0
-IsOfFrame (Entry word read seen) z gfn = IsEntryOf z gfn word
-IsOfFrame _ z gfn = Unit {0}
-
 -- Where a step ends the section of a fault that begins anew, this has its cause in the steps before it, in this section.
 abbrev pub FaultsHaveCauses : Type 0
 FaultsHaveCauses =
     (z : Sizes) (lines : List Line) (w : World Held) (ss : List (Step Kind)) (s : Step Kind) (cause : Cause) (gfn word : ℕ) (op : Op) → IsRun z lines w (ss ++ s ∷ [])
     → (hand_of w ss s).state.place ≡ place.Access (access.Fault (End (Retry cause))) → (hand_of w ss s).state.line.command ≡ Access gfn word op
-    → IsCaused cause z s.actor gfn w ss × IsOfFrame cause z gfn
+    → IsCaused cause z s.actor gfn w ss
 
--- Each step of a fault that waits has its cause in the steps before it.
+-- Each step of a part that waits, whoever makes it, has its cause in the steps before it, or in what another actor holds as it is made.
 abbrev pub WaitsHaveCauses : Type 0
 WaitsHaveCauses =
-    (z : Sizes) (lines : List Line) (w : World Held) (ss : List (Step Kind)) (s : Step Kind) (p : FaultPlace) → IsRun z lines w (ss ++ s ∷ [])
-    → (hand_of w ss s).state.place ≡ place.Access (access.Fault p) → waits p (hand_of w ss s).topics (answer_of w ss s) ≡ true
-    → WaitIsCaused p z s.actor (hand_of w ss s).topics (answer_of w ss s) w ss
-
--- Each step of a slot setting that waits has its cause in the steps before it, or in what another actor holds as it is made.
-abbrev pub SettingWaitsHaveCauses : Type 0
-SettingWaitsHaveCauses =
-    (z : Sizes) (lines : List Line) (w : World Held) (ss : List (Step Kind)) (s : Step Kind) (p : SetSlotPlace) → IsRun z lines w (ss ++ s ∷ [])
-    → (hand_of w ss s).state.place ≡ place.SetSlot p → set_slot_waits p (hand_of w ss s).topics (answer_of w ss s) ≡ true
-    → SettingWaitIsCaused p z w ss s
+    (z : Sizes) (lines : List Line) (w : World Held) (ss : List (Step Kind)) (s : Step Kind) (step : PartStep) (note : ℕ) → IsRun z lines w (ss ++ s ∷ [])
+    → s.kind ≡ part_kind (hand_of w ss s) step note → PartNeeds step (hand_of w ss s) → part_waits step (hand_of w ss s).topics (answer_of w ss s) ≡ true
+    → StepWaitIsCaused step z w ss s
 
 -- With the step the fault of the line ends its section, to begin anew, for this cause in the steps before it, in this section.
 pub record BeginsAnew (z : Sizes) (w : World Held) (ss : List (Step Kind)) (s : Step Kind) : Type 0 where
@@ -82,28 +57,22 @@ pub record BeginsAnew (z : Sizes) (w : World Held) (ss : List (Step Kind)) (s : 
   pub at : (hand_of w ss s).state.place ≡ place.Access (access.Fault (End (Retry cause)))
   pub access_is : (hand_of w ss s).state.line.command ≡ Access gfn word op
   pub caused : IsCaused cause z s.actor gfn w ss
-  pub of_frame : IsOfFrame cause z gfn
 
--- It is a step of a fault that waits, for its cause.
-pub record FaultWaits (z : Sizes) (w : World Held) (ss : List (Step Kind)) (s : Step Kind) : Type 0 where
-  pub where_ : FaultPlace
-  pub at : (hand_of w ss s).state.place ≡ place.Access (access.Fault where_)
-  pub waits_ : waits where_ (hand_of w ss s).topics (answer_of w ss s) ≡ true
-  pub caused : WaitIsCaused where_ z s.actor (hand_of w ss s).topics (answer_of w ss s) w ss
-
--- It is a step of a slot setting that waits, for its cause.
-pub record SettingWaits (z : Sizes) (w : World Held) (ss : List (Step Kind)) (s : Step Kind) : Type 0 where
-  pub where_ : SetSlotPlace
-  pub at : (hand_of w ss s).state.place ≡ place.SetSlot where_
-  pub waits_ : set_slot_waits where_ (hand_of w ss s).topics (answer_of w ss s) ≡ true
-  pub caused : SettingWaitIsCaused where_ z w ss s
+-- It is a step of a part that waits, for its cause.
+pub record StepWaits (z : Sizes) (w : World Held) (ss : List (Step Kind)) (s : Step Kind) : Type 0 where
+  pub step : PartStep
+  pub note : ℕ
+  pub is : s.kind ≡ part_kind (hand_of w ss s) step note
+  pub needs : PartNeeds step (hand_of w ss s)
+  pub waits : part_waits step (hand_of w ss s).topics (answer_of w ss s) ≡ true
+  pub caused : StepWaitIsCaused step z w ss s
 
 -- Each step that its hand counts as a delay of its line is one of these.
 abbrev pub DelaysHaveCauses : Type 0
 DelaysHaveCauses =
     (z : Sizes) (lines : List Line) (w : World Held) (ss : List (Step Kind)) (s : Step Kind) → IsRun z lines w (ss ++ s ∷ []) → has_line (hand_of w ss s) ≡ true
     → delays_at (place_at (hand_of w ss s).state.place (hand_of w ss s)) (line_of (hand_of w ss s)).command (hand_of w ss s) (answer_of w ss s) ≡ true
-    → BeginsAnew z w ss s ⊎ FaultWaits z w ss s ⊎ SettingWaits z w ss s
+    → BeginsAnew z w ss s ⊎ StepWaits z w ss s
 
 -- From any moment on in which no line of an actor is under way, so from the one at which its line begins: a step that answers the line
 -- starved ends a scan of the whole map by the line's actor since that moment, which found no page free in any of its words.

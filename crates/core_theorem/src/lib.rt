@@ -2,7 +2,7 @@
 //! actors in any order, each enabled in its turn, from the start of every machine.
 #![tactic(auto)]
 
-ghost use Rattle.core_theorem.specs.Delays.{DelaysHaveCauses, FaultsHaveCauses, SettingWaitsHaveCauses, StarvedLinesScanned, WaitsHaveCauses};
+ghost use Rattle.core_theorem.specs.Delays.{DelaysHaveCauses, FaultsHaveCauses, StarvedLinesScanned, WaitsHaveCauses};
 ghost use Rattle.core_theorem.specs.Holdings.{AnsweredLinesRest, HeldSetsAreKnown, NoneHoldsFreePages, PagesAreReusedAlone, WatchedHoldNoOldSet};
 ghost use Rattle.core_theorem.specs.Leaves.{HeldLeavesAgree, LinkedLeavesAgree, TranslationsAgree, UsedLeavesAgree};
 ghost use Rattle.core_theorem.specs.Locks.{LockIsKept};
@@ -32,11 +32,11 @@ ghost use Rattle.core_theorem.specs.Walks.{WalksHoldTables};
 /// guest memory allows. `facts`: the words stand for the slots, host pages and contents
 /// that the events so far make of flat guest memory. `pause`: an access that is about to
 /// touch has looked at the pause since its actor entered the guest, and none was set.
-/// `begins_anew`, `waits`,
-/// `slot_waits`, `starved`: what stood in the way of a fault or of a slot setting was
-/// another actor's, an open invalidation, or that each word of the pool's map was found
-/// with no page free since the line began; `delays`: so it is with each step that is
-/// counted as a delay of its line (tdp_mmu.c; locking.rst; mmu.rst).
+/// `begins_anew`, `waits`, `starved`: what stood in the way of a fault, and of each step
+/// that waits, whoever makes it, was another actor's, an open invalidation, or that each
+/// word of the pool's map was found with no page free since the line began; `delays`: so
+/// it is with each step that is counted as a delay of its line (tdp_mmu.c; locking.rst;
+/// mmu.rst).
 ///
 /// `counts`, `line_turns`: a line makes at most 8,192 steps, one for each pool page
 /// and one for each frame up to the end of its first delay, as many from there to the
@@ -65,7 +65,6 @@ pub fn every_run()
     ensures open_lines { LinesAreOpen }
     ensures begins_anew { FaultsHaveCauses }
     ensures waits { WaitsHaveCauses }
-    ensures slot_waits { SettingWaitsHaveCauses }
     ensures delays { DelaysHaveCauses }
     ensures starved { StarvedLinesScanned }
 {}

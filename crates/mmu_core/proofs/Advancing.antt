@@ -34,6 +34,7 @@ use Rattle.mmu_core.specs.Rests.{AcceptsAt, Rests, RestsAt, RestsOn}
 use Rattle.mmu_core.specs.Cached.{flushed}
 use Rattle.part_steps.specs.PartBounds.{PartRests}
 use Rattle.core_views.specs.declared.sizes.Sizes.{Sizes}
+use Rattle.mmu_core.proofs.ByStep.{StepAt, step_at, Makes, Touches}
 use Rattle.mmu_core.proofs.Sized.{loads_keep_sizes}
 use Rattle.mmu_core.specs.Steps.{has_line, held_after, idle_after, line_after, line_at, next, place_at, standing, task_at, task_of}
 use Rattle.part_steps.specs.TopicSteps.{HasRoom, topics_after}
@@ -82,18 +83,12 @@ touch_room : (op : Op) (index : ℕ) (t : Topics) → HasRoom (touch_of op index
 touch_room Read index t = tt
 touch_room _ index t = tt
 
-access_room : (s : Option PartStep) (h : Held) (note gfn : ℕ) (op : Op) (index : ℕ) → AreSizes h.state.sizes → RestsOn s gfn (is_write op) h → HasRoom (task_by s h note (touch_of op index)).kind h.topics
-access_room None h note gfn op index z N = touch_room op index h.topics
-access_room (Some step) h note gfn op index z N = part_room step h note z N
-
-setting_room : (p : SetSlotPlace) (h : Held) (id : ℕ) (slot : SlotOf) → AreSizes h.state.sizes → PartNeeds (set_slot_part p h id slot) h → HasRoom (set_slot_task p h id slot).kind h.topics
-setting_room p h id slot z N = part_room (set_slot_part p h id slot) h (set_slot_note p h) z N
+room_by : (command : Command) (h : Held) (t : Task) → AreSizes h.state.sizes → StepAt command h t → HasRoom t.kind h.topics
+room_by command h _ z (Makes step note N) = part_room step h note z N
+room_by command h _ z (Touches gfn word op is R) = touch_room op _ h.topics
 
 task_room : (p : Place) (command : Command) (h : Held) → AreSizes h.state.sizes → RestsAt p command h → HasRoom (task_at p command h).kind h.topics
-task_room place.Between _ h z R = tt
-task_room (place.Access p) (Access gfn word op) h z R = access_room (access_part p gfn h.topics) h (access_note p) gfn op _ z R
-task_room (place.SetSlot p) (SetSlot id slot) h z R = setting_room p h id slot z R
-task_room _ _ h z R = absurd R
+task_room p command h z R = room_by command h (task_at p command h) z (step_at p command h R)
 
 room_of : (h : Held) (k : Kind) → IsNext h k ⊎ IsPartStep h k → HasRoom (kind_named k.code) h.topics
 room_of h k (inl e) = subst (λ (x : Kind). HasRoom (kind_named x.code) h.topics) (sym e.is) (subst (λ x. HasRoom x h.topics) (sym (named_is (task_of h).kind)) (task_room (place_at h.state.place h) (line_at h.state.place h).command h e.rests.part.sizes e.rests.at))

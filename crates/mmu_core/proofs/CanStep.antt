@@ -28,6 +28,8 @@ use Rattle.mmu_core.specs.SetSlotSteps.{set_slot_note, set_slot_part}
 use Rattle.mmu_core.specs.Steps.{line_at, place_at, task_at, task_of}
 use Rattle.part_steps.specs.Tasks.{kind_of_task, map_of}
 use Rattle.mmu_core.specs.View.{view}
+use Rattle.part_steps.specs.declared.task.Task.{Task}
+use Rattle.mmu_core.proofs.ByStep.{StepAt, step_at, Makes, Touches}
 use Rattle.mmu_core.proofs.RestsKept.{hand_rests, task_within}
 use Rattle.mmu_core.proofs.Stepping.{IsStep, is_step}
 use Rattle.mmu_core.proofs.Which.{enabled_is}
@@ -38,15 +40,12 @@ touch_small : (op : Op) (gfn word index : ℕ) → WritesOneWord (Access gfn wor
 touch_small Read gfn word index fits = omega arith
 touch_small _ gfn word index fits = fits
 
-access_small : (s : Option PartStep) (h : Held) (note gfn word : ℕ) (op : Op) (index : ℕ) → PartRests h → RestsOn s gfn (is_write op) h → WritesOneWord (Access gfn word op) → (task_by s h note (touch_of op index)).written < 2 ^ 64
-access_small None h note gfn word op index R N fits = touch_small op gfn word index fits
-access_small (Some step) h note gfn word op index R N fits = part_small step h note N R
+small_by : (command : Command) (h : Held) (t : Task) → PartRests h → WritesOneWord command → StepAt command h t → t.written < 2 ^ 64
+small_by command h _ R fits (Makes step note N) = part_small step h note N R
+small_by command h _ R fits (Touches gfn word op is N) = touch_small op gfn word _ (subst WritesOneWord is fits)
 
-written_small : (p : Place) (actor : Actor) (command : Command) (h : Held) → PartRests h → IsCommandFor h.state.sizes actor command → RestsAt p command h → WritesOneWord command → (task_at p command h).written < 2 ^ 64
-written_small place.Between actor _ h R may rests fits = omega arith
-written_small (place.Access p) actor (Access gfn word op) h R may rests fits = access_small (access_part p gfn h.topics) h (access_note p) gfn word op _ R rests fits
-written_small (place.SetSlot p) actor (SetSlot id slot) h R may rests fits = part_small (set_slot_part p h id slot) h (set_slot_note p h) rests R
-written_small _ actor _ h R may rests fits = absurd rests
+written_small : (p : Place) (command : Command) (h : Held) → PartRests h → RestsAt p command h → WritesOneWord command → (task_at p command h).written < 2 ^ 64
+written_small p command h R rests fits = small_by command h (task_at p command h) R fits (step_at p command h rests)
 
 pub may_step : (z : Sizes) (w : World Held) (a : ℕ) → IsSound z w → a < actors_of z → HasLine (hand_in mmu w a) → May mmu w (next_step z w a)
 may_step z w a G there has = record {
@@ -56,7 +55,7 @@ may_step z w a G there has = record {
     rests = R;
     is = ap (λ y. kind_of_task y (task_of h)) (sym same);
     inside = subst (λ y. word_place (map_of z) (task_of h).area (task_of h).index < total (map_of y)) (sym same) below;
-    small = written_small (place_at h.state.place h) (line_at h.state.place h).actor (line_at h.state.place h).command h R.part R.line R.at
+    small = written_small (place_at h.state.place h) (line_at h.state.place h).command h R.part R.at
         (subst (λ (l : Line). WritesOneWord l.command) (sym S.next) has.fits);
   });
   inside = omega (arith, below, G.words);

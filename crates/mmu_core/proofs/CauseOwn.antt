@@ -32,7 +32,7 @@ use Rattle.spte_words.specs.HostWords.{host_allows_write}
 use Rattle.spte_words.proofs.Indices.{pool_within, same_pool_word}
 use Rattle.part_steps.specs.declared.part_step.PartStep.{PartStep}
 use Rattle.part_steps.specs.declared.part_step.PartStep.TheVariants as part
-use Rattle.mmu_core.specs.Causes.{Finds, HasMade, IsCaused, SawChange, StaysInSection}
+use Rattle.mmu_core.specs.Causes.{Finds, HasMade, SawChange, StaysInSection}
 use Rattle.mmu_core.specs.Enabled.{mmu}
 use Rattle.mmu_core.specs.FaultKnows.{CheckKnows, FaultKnows, is_trying}
 use Rattle.mmu_core.specs.FaultSteps.{allows_access, at_map_word, check_next, check_part, entry_word, fault_next, fault_part, find_next, found_next, is_last_word, map_word, share_next, share_part, snapshot_taken, tries_page, walk_next}
@@ -46,7 +46,7 @@ use Rattle.part_steps.specs.TopicSteps.{gone_down, has_writer, is_loose, is_won,
 use Rattle.mmu_core.specs.TreePart.{EntryPart, at}
 use Rattle.mmu_core.specs.View.{view, word_in}
 use Rattle.mmu_core.proofs.AloneLaws.{part_found}
-use Rattle.mmu_core.proofs.CausePlaces.{FaultSaw, end_longer}
+use Rattle.mmu_core.proofs.CausePlaces.{CauseSaw, FaultSaw, end_longer}
 use Rattle.mmu_core.proofs.CauseSteps.{IsAmid, IsExchange, IsLoad, Spares, entry_kinds, spared}
 use Rattle.mmu_core.proofs.Changes.{Knows, knows_longer, knows_now, made_longer, made_now, saw_now, was_changed}
 use Rattle.mmu_core.proofs.EachFault.{NextIs}
@@ -237,7 +237,7 @@ module _ (z : Sizes) (w : World Held) (ss : List (Step Kind)) (s : Step Kind) (G
 
   -- A lost exchange saw that the entry was changed.
   swap_saw : (gfn : ℕ) (step : PartStep) (M : Made step) → IsAmid step → IsExchange step → s.kind.word ≡ entry_word z gfn t.walk → EntryIs gfn t.walk.entry ss u → (v == t.walk.entry) ≡ false
-      → IsCaused (Entry (entry_word z gfn t.walk) t.walk.entry v) z a gfn w more
+      → CauseSaw (Entry (entry_word z gfn t.walk) t.walk.entry v) z a gfn w more
   swap_saw gfn step M is ex here K lost = saw step (entry_word z gfn t.walk) t.walk.entry M is here (exchange_finds z u s G may step M ex) K (eqb-false v t.walk.entry lost)
 
   link_saw : (gfn : ℕ) (b : Bool) (t_ : Topics) → (v == t.walk.entry) ≡ b → Made (part.Link gfn) → EntryIs gfn t.walk.entry ss u

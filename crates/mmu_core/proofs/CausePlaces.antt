@@ -1,5 +1,5 @@
 -- What a fault has seen at each of its places, and that it has seen it behind its own step.
-use Rattle.std.proofs.Common.{◌≢◌, ℕ, List, [], ◌∷◌, ◌++◌}
+use Rattle.std.proofs.Common.{◌≡◌, ◌≢◌, ℕ, List, [], ◌∷◌, ◌++◌}
 use Rattle.core_views.specs.declared.kind.Kind.{Kind}
 use Rattle.core_views.specs.declared.place.Cause.{Cause}
 use Rattle.core_views.specs.declared.place.Cause.TheVariants.{Open, Moved, Entry}
@@ -17,12 +17,18 @@ use Rattle.core_views.specs.Held.{Held}
 use Rattle.spte_words.specs.declared.area.Area.{Area}
 use Rattle.spte_words.specs.declared.area.Area.TheVariants as area
 use Rattle.spte_words.specs.Areas.{place as place_of}
-use Rattle.mmu_core.specs.Causes.{Finds, HasMade, IsCaused, StaysInSection}
+use Rattle.mmu_core.specs.Causes.{Finds, HasMade, SawChange, SawOpen, StaysInSection}
 use Rattle.mmu_core.specs.Enabled.{mmu}
 use Rattle.mmu_core.specs.FaultSteps.{entry_word, snapshot_taken}
 use Rattle.mmu_core.specs.Machine.{May, Step, World, effect, run}
 use Rattle.part_steps.specs.Tasks.{map_of}
 use Rattle.mmu_core.proofs.Changes.{Knows, made_longer, knows_longer, saw_longer}
+
+-- what a fault has seen that begins anew, by its cause
+abbrev pub CauseSaw : Cause → Sizes → ℕ → ℕ → World Held → List (Step Kind) → Type 0
+CauseSaw (Open count start end_ at) z actor gfn w ss = (at ≡ gfn) × SawOpen z actor gfn count start end_ w ss
+CauseSaw (Moved old_ now_) z actor gfn w ss = SawChange actor (place_of (map_of z) area.Seq 0) old_ now_ w ss
+CauseSaw (Entry word read seen) z actor gfn w ss = SawChange actor word read seen w ss
 
 module _ (z : Sizes) (actor : ℕ) (w : World Held) where
   -- The snapshot, the words of the check and the entry seen are what the fault found in these words, or they were changed since.
@@ -41,7 +47,7 @@ module _ (z : Sizes) (actor : ℕ) (w : World Held) where
   CheckSaw _ n ss = Unit {0}
 
   abbrev EndSaw : FaultEnd → ℕ → List (Step Kind) → Type 0
-  EndSaw (Retry cause) gfn ss = IsCaused cause z actor gfn w ss
+  EndSaw (Retry cause) gfn ss = CauseSaw cause z actor gfn w ss
   EndSaw _ gfn ss = Unit {0}
 
   abbrev pub FaultSaw : FaultPlace → ℕ → Topics → List (Step Kind) → World Held → Type 0
@@ -66,7 +72,7 @@ module _ (z : Sizes) (actor : ℕ) (w : World Held) where
     check_longer stage.End n C = (made_longer (Finds actor _ n.count) (StaysInSection actor) w ss s so C.0, made_longer (Finds actor _ n.start) (StaysInSection actor) w ss s so C.1)
     check_longer _ n C = tt
 
-    caused_longer : (cause : Cause) (gfn : ℕ) → IsCaused cause z actor gfn w ss → IsCaused cause z actor gfn w (ss ++ s ∷ [])
+    caused_longer : (cause : Cause) (gfn : ℕ) → CauseSaw cause z actor gfn w ss → CauseSaw cause z actor gfn w (ss ++ s ∷ [])
     caused_longer (Open count start end_ at) gfn C = (
       C.0,
       record {

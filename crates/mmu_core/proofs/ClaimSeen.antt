@@ -17,17 +17,14 @@ use Rattle.spte_words.specs.Areas.{place as place_of}
 use Rattle.spte_words.specs.Bits.{has_bit}
 use Rattle.part_steps.specs.declared.part_step.PartStep.{PartStep}
 use Rattle.part_steps.specs.declared.part_step.PartStep.TheVariants as part
-use Rattle.mmu_core.specs.Causes.{IsOthers, PageWasTaken}
 use Rattle.mmu_core.specs.Enabled.{mmu}
-use Rattle.mmu_core.specs.FaultSteps.{claim_part, map_word, tries_page}
 use Rattle.mmu_core.specs.Laws.{IsSound}
 use Rattle.mmu_core.specs.Machine.{May, Step, World, answered, effect, found, hand_in, run}
 use Rattle.part_steps.specs.PartSteps.{all_but, part_kind}
-use Rattle.part_steps.specs.PartTopics.{part_topics}
-use Rattle.part_steps.specs.Tasks.{map_of}
+use Rattle.mmu_core.specs.Waits.{IsOffWord, PageIsTaken, pool_word}
 use Rattle.part_steps.specs.TopicSteps.{is_won, tried_bit}
-use Rattle.mmu_core.proofs.Changes.{Knows, knows_longer, knows_now, was_changed}
-use Rattle.mmu_core.proofs.FaultSame.{both, is_not}
+use Rattle.mmu_core.proofs.Changes.{Knows, knows_now, was_changed}
+use Rattle.mmu_core.proofs.FaultSame.{is_not}
 use Rattle.mmu_core.proofs.MadeSteps.{Makes, exchange_finds, load_keeps, own_rests, word_on}
 
 -- A bit that is clear is cleared: the word stays.
@@ -53,14 +50,9 @@ try_leaves : (h : Held) (note n : ℕ) → after (part_kind h part.Claim note) n
 unfolding after
 try_leaves h note n = refl
 
--- A claim that saw pages free in the word that it has come to found this word with its actor's last step.
-abbrev pub ClaimSaw : Sizes → World Held → ℕ → MapClaim → List (Step Kind) → World Held → Type 0
-ClaimSaw z w actor claim ss u = 0 < claim.seen → Knows (IsOthers actor) actor (place_of (map_of z) area.PoolMap claim.at) claim.seen w ss u
-
--- Another actor's step takes nothing away.
-pub others_claim : (z : Sizes) (w : World Held) (actor : ℕ) (claim : MapClaim) (ss : List (Step Kind)) (s : Step Kind) → May mmu (run mmu w ss) s → s.actor ≢ actor
-    → ClaimSaw z w actor claim ss (run mmu w ss) → ClaimSaw z w actor claim (ss ++ s ∷ []) (effect mmu (run mmu w ss) s)
-others_claim z w actor claim ss s may other S = λ some. knows_longer (IsOthers actor) actor _ claim.seen w ss s may other (λ mine. absurd (other mine)) (S some)
+-- What the actor knows of a word of the pool's map, since its last step there.
+abbrev pub KnowsWord : Sizes → World Held → ℕ → ℕ → ℕ → List (Step Kind) → World Held → Type 0
+KnowsWord z w actor at seen ss u = Knows (IsOffWord actor (pool_word z at)) actor (pool_word z at) seen w ss u
 
 module _ (z : Sizes) (w : World Held) (ss : List (Step Kind)) (s : Step Kind) (G : IsSound z (run mmu w ss)) (may : May mmu (run mmu w ss) s) where
   abbrev a : ℕ
@@ -81,12 +73,13 @@ module _ (z : Sizes) (w : World Held) (ss : List (Step Kind)) (s : Step Kind) (G
   abbrev Made : PartStep → Type 0
   Made step = Makes (hand_in mmu u s.actor) s step
 
-  abbrev SawNow : MapClaim → Type 0
-  SawNow claim = ClaimSaw z w a claim (ss ++ s ∷ []) (effect mmu u s)
+  abbrev SawNow : ℕ → ℕ → Type 0
+  SawNow at seen = KnowsWord z w a at seen (ss ++ s ∷ []) (effect mmu u s)
 
-  tried_saw : (won : Bool) → is_won t.claim v ≡ won → Made part.Claim → SawNow (record { at = if won then 0 else t.claim.at; seen = if won then 0 else v })
-  tried_saw true is M = λ some. absurd (omega (arith, some))
-  tried_saw false lost M = λ some. knows_now (IsOthers a) a (place_of (map_of z) area.PoolMap t.claim.at) v w ss s may (record { by_actor = refl; on = word_on z u s G may part.Claim M; leaves = leaves })
+  -- what a claim has seen behind its own step
+  pub tried_saw : (won : Bool) → is_won t.claim v ≡ won → Made part.Claim → 0 < (if won then 0 else v) → SawNow (if won then 0 else t.claim.at) (if won then 0 else v)
+  tried_saw true is M some = absurd (omega (arith, some))
+  tried_saw false lost M some = knows_now (IsOffWord a (pool_word z t.claim.at)) a (pool_word z t.claim.at) v w ss s may (record { by_actor = refl; on = word_on z u s G may part.Claim M; leaves = leaves })
     where
       bit : tried_bit t.claim < 64
       bit = (bit_at-trailing_zeros w64 t.claim.seen M.needs.1 (own_rests z u s G may).counters.seen).0
@@ -96,36 +89,19 @@ module _ (z : Sizes) (w : World Held) (ss : List (Step Kind)) (s : Step Kind) (G
           let finds : n ≡ v = exchange_finds z u s G may part.Claim M tt in
           ap (λ k. after k n) M.is ∙ try_leaves (hand_in mmu u s.actor) M.note n ∙ left_alone n (tried_bit t.claim) bit (G.small s.kind.word) (ap (has_bit (tried_bit t.claim)) finds ∙ lost) ∙ finds
 
-  mapped_saw : (none : Bool) (word : ℕ) → (v == 0) ≡ none → Made (part.Map word) → SawNow (record { at = word + (if none then 1 else 0); seen = v })
-  mapped_saw true word is M = λ some. absurd (let zero_ : v ≡ 0 = grind (arith, nat_tests) in omega (arith, some, zero_))
-  mapped_saw false word is M = λ some.
-      subst (λ i. Knows (IsOthers a) a (place_of (map_of z) area.PoolMap i) v w (ss ++ s ∷ []) (effect mmu u s)) (omega arith)
-      (knows_now (IsOthers a) a (place_of (map_of z) area.PoolMap word) v w ss s may (record { by_actor = refl; on = word_on z u s G may (part.Map word) M; leaves = load_keeps z u s G may (part.Map word) M tt }))
-
-  -- what a claim has seen behind its own step
-  pub claim_saw : (begun : Bool) → Made (claim_part begun t.claim) → SawNow (part_topics (claim_part begun t.claim) t v).claim
-  claim_saw begun M = by (tries_page begun t.claim) M
-    where
-      by : (tries : Bool) → Made (if tries then part.Claim else part.Map (map_word begun t.claim)) → SawNow (part_topics (if tries then part.Claim else part.Map (map_word begun t.claim)) t v).claim
-      by true M = tried_saw (is_won t.claim v) refl M
-      by false M = mapped_saw (v == 0) (map_word begun t.claim) refl M
+  pub mapped_saw : (none : Bool) (word : ℕ) → (v == 0) ≡ none → Made (part.Map word) → 0 < v → SawNow (word + (if none then 1 else 0)) v
+  mapped_saw true word is M some = absurd (let zero_ : v ≡ 0 = grind (arith, nat_tests) in omega (arith, some, zero_))
+  mapped_saw false word is M some =
+      subst (λ i. SawNow i v) (omega arith)
+      (knows_now (IsOffWord a (pool_word z word)) a (pool_word z word) v w ss s may (record { by_actor = refl; on = word_on z u s G may (part.Map word) M; leaves = load_keeps z u s G may (part.Map word) M tt }))
 
   -- A try is lost where another actor took the page.
-  pub page_taken : (begun : Bool) → (tries_page begun t.claim && not (is_won t.claim v)) ≡ true → Made (claim_part begun t.claim) → (begun ≡ true → ClaimSaw z w a t.claim ss u) → PageWasTaken z a t.claim v w ss
-  page_taken begun lost M S = by (tries_page begun t.claim) refl lost M
-    where
-      taken : tries_page begun t.claim ≡ true → not (is_won t.claim v) ≡ true → Made part.Claim → PageWasTaken z a t.claim v w ss
-      taken is lost M =
-          let B = both begun (nat_lt 0 t.claim.seen) is in
-          let some : 0 < t.claim.seen = (let b = B.1 in grind (arith, nat_tests)) in
-          let gone : has_bit (tried_bit t.claim) v ≡ false = is_not (is_won t.claim v) lost in
-          let saw : has_bit (tried_bit t.claim) t.claim.seen ≡ true = saw_bit t.claim some (own_rests z u s G may).counters.seen in
-          let here : slice_index u.words (place_of (map_of z) area.PoolMap t.claim.at) ≡ v = ap (slice_index u.words) (sym (word_on z u s G may part.Claim M)) ∙ exchange_finds z u s G may part.Claim M tt in (
-            was_changed (IsOthers a) a (place_of (map_of z) area.PoolMap t.claim.at) t.claim.seen w ss u (S B.0 some) (λ same. let apart : has_bit (tried_bit t.claim) t.claim.seen ≡ false = ap (has_bit (tried_bit t.claim)) (sym same ∙ here) ∙ gone in cc (saw, apart)),
-            saw,
-            gone,
-          )
-
-      by : (tries : Bool) → tries_page begun t.claim ≡ tries → (tries && not (is_won t.claim v)) ≡ true → Made (if tries then part.Claim else part.Map (map_word begun t.claim)) → PageWasTaken z a t.claim v w ss
-      by true is lost M = taken is lost M
-      by false is lost M = absurd (cc lost)
+  pub page_taken : not (is_won t.claim v) ≡ true → Made part.Claim → KnowsWord z w a t.claim.at t.claim.seen ss u → PageIsTaken z a t.claim v w ss
+  page_taken lost M K =
+      let gone : has_bit (tried_bit t.claim) v ≡ false = is_not (is_won t.claim v) lost in
+      let saw : has_bit (tried_bit t.claim) t.claim.seen ≡ true = saw_bit t.claim M.needs.1 (own_rests z u s G may).counters.seen in
+      let here : slice_index u.words (pool_word z t.claim.at) ≡ v = ap (slice_index u.words) (sym (word_on z u s G may part.Claim M)) ∙ exchange_finds z u s G may part.Claim M tt in (
+        was_changed (IsOffWord a (pool_word z t.claim.at)) a (pool_word z t.claim.at) t.claim.seen w ss u K (λ same. let apart : has_bit (tried_bit t.claim) t.claim.seen ≡ false = ap (has_bit (tried_bit t.claim)) (sym same ∙ here) ∙ gone in cc (saw, apart)),
+        saw,
+        gone,
+      )

@@ -85,7 +85,7 @@ pub same_page : (gfn : ℕ) (write : Bool) (t u : Topics) → u.search ≡ t.sea
 same_page gfn write t u search (inl n) = inl (n.0, same_found gfn t u search n.1, ap (λ (s : SlotSearch). s.slot.read_only) search ∙ n.2)
 same_page gfn write t u search (inr e) = inr (ap (λ (s : SlotSearch). s.id) search ∙ e)
 
-pub ends_same : (e : FaultEnd) (z : Sizes) (gfn : ℕ) (write : Bool) (t u : Topics) → u.walk ≡ t.walk → u.search ≡ t.search → u.host ≡ t.host → u.claim ≡ t.claim → unchecked u.invalidations ≡ unchecked t.invalidations
+pub ends_same : (e : FaultEnd) (z : Sizes) (gfn : ℕ) (write : Bool) (t u : Topics) → u.walk ≡ t.walk → u.search ≡ t.search → u.host ≡ t.host → u.claim.at ≡ t.claim.at → unchecked u.invalidations ≡ unchecked t.invalidations
     → EndKnows e z gfn write t → EndKnows e z gfn write u
 ends_same Installed z gfn write t u walk search host claim n K = record {
   saw = subst (SawEntry gfn) (sym walk) K.saw;
@@ -95,7 +95,7 @@ ends_same Installed z gfn write t u walk search host claim n K = record {
 }
 ends_same Mmio z gfn write t u walk search host claim n K = same_page gfn write t u search K
 ends_same HostFault z gfn write t u walk search host claim n K = record { writes = K.writes; looked_up = same_looked_up gfn t u search host K.looked_up; forbids = K.forbids }
-ends_same Starved z gfn write t u walk search host claim n K = subst (λ (c : MapClaim). words_of_bits z.pool ≤ c.at) (sym claim) K
+ends_same Starved z gfn write t u walk search host claim n K = subst (λ n. words_of_bits z.pool ≤ n) (sym claim) K
 ends_same (Retry (Open count start end_ at)) z gfn write t u walk search host claim n K =
     (K.0, K.1, K.2, K.3, ap (λ (x : Invalidations). x.count) n ∙ K.4, ap (λ (x : Invalidations). x.start) n ∙ K.5, ap (λ (x : Invalidations). x.end) n ∙ K.6)
 ends_same (Retry (Moved old_ now_)) z gfn write t u walk search host claim n K = (ap (λ (x : Invalidations). x.snapshot) n ∙ K.0, ap (λ (x : Invalidations). x.seq) n ∙ K.1, K.2)

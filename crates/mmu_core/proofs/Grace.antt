@@ -166,7 +166,7 @@ own_look z w s i G may ne lt = by (step_kind h s.kind may.enabled)
     by (inl N) = part_look N (look_or_not N.step)
     by (inr Q) =
         let v = answered mmu w s.kind in
-        inr (subst (λ n. i < n) (ap (λ (x : Held). x.topics.watched) behind ∙ ap (λ (t : Topics). t.watched) (next_topics h s.kind v) ∙ Q.watched v) lt, λ L. Q.code L.watch)
+        inr (subst (λ n. i < n) (ap (λ (x : Held). x.topics.watched) behind ∙ ap (λ (t : Topics). t.watched) (next_topics h s.kind v) ∙ ap (λ (t : Topics). t.watched) (Q.topics v)) lt, λ L. Q.code L.watch)
 
 one_look : (z : Sizes) (w : World Held) (s : Step Kind) (a i : ℕ) → IsSound z w → May mmu w s → OneLook z w s a i
 one_look z w s a i G may = by (same_or a s.actor)
@@ -224,7 +224,7 @@ own_comes w s may out = by (step_kind h s.kind may.enabled)
     by (inl N) =
         let topics : (topics_in (effect mmu w s) s.actor) ≡ part_topics N.step h.topics v = ap (λ (x : Held). x.topics) (hand_here w s may.there) ∙ ap (λ (k : Kind). (next h k v).topics) N.is ∙ topics_behind h N.step N.note v N.needs in
         subst (λ t. (t.stay ≡ Outside) ⊎ IsEmptyInside t) (sym topics) (part_comes N.step h.topics v out)
-    by (inr Q) = inl (ap (λ (x : Held). x.topics.stay) (hand_here w s may.there) ∙ ap (λ (t : Topics). t.stay) (next_topics h s.kind v) ∙ Q.stay v ∙ out)
+    by (inr Q) = inl (ap (λ (x : Held). x.topics.stay) (hand_here w s may.there) ∙ ap (λ (t : Topics). t.stay) (next_topics h s.kind v) ∙ ap (λ (t : Topics). t.stay) (Q.topics v) ∙ out)
 
 -- An actor that was outside is so behind a step, or this step is its own, and it holds nothing inside.
 abbrev Comes : World Held → Step Kind → ℕ → Type 0

@@ -398,6 +398,8 @@ exchanged_run gfn v new_ walk false over = gone_run gfn v walk None over
 counters_behind : (z : Sizes) (v : View) (a note : ℕ) (step : PartStep) → CountersBehind z v a note step
 counters_behind z v a note (part.Map word) = map_counts z v a note word
 counters_behind z v a note part.Claim = claim_counts z v a note
+counters_behind z v a note part.Give = λ S I. let C = I.counters a S.there in all_count z v a _ I (record { slots = C.slots; claim = C.claim; seen = omega arith; watched = C.watched; run = C.run })
+counters_behind z v a note part.GiveOld = λ S I. let C = I.counters a S.there in all_count z v a _ I (record { slots = C.slots; claim = C.claim; seen = omega arith; watched = C.watched; run = C.run })
 counters_behind z v a note (part.Watch index) = watch_counts z v a note index
 counters_behind z v a note part.Slots = λ S I. let C = I.counters a S.there in all_count z v a _ I (record { slots = omega arith; claim = C.claim; seen = C.seen; watched = C.watched; run = C.run })
 counters_behind z v a note part.Slot = λ S I.

@@ -184,7 +184,7 @@ setting_stays : (p : SetSlotPlace) (h : Held) → ∥ SetSlotKnows p h ∥₁ �
 setting_stays set_slot.Fill h x = (∥∥₁_elim x (hlevel props) (λ K. K.0), fill_stays h.topics (∥∥₁_map x (λ K. K.1)))
 setting_stays set_slot.Exclude h x = (∥∥₁_elim x (hlevel props) (λ K. K.0), owns_set_stays h.topics (∥∥₁_map x (λ K. K.1)))
 setting_stays set_slot.Count h x = (∥∥₁_elim x (hlevel props) (λ K. K.0), owns_set_stays h.topics (∥∥₁_map x (λ K. K.1)))
-setting_stays set_slot.Close h x = (∥∥₁_elim x (hlevel props) (λ K. K.0), owns_set_stays h.topics (∥∥₁_map x (λ K. K.1)))
+setting_stays set_slot.Close h x = (∥∥₁_elim x (hlevel props) (λ K. K.0), owns_set_stays h.topics (∥∥₁_map x (λ K. K.1)), ∥∥₁_elim x (hlevel props) (λ K. K.2))
 setting_stays set_slot.Publish h x = (∥∥₁_elim x (hlevel props) (λ K. K.0), publish_stays h.topics (∥∥₁_map x (λ K. K.1)))
 setting_stays _ h x = prop_stays (hlevel props) x
 

@@ -1,10 +1,13 @@
-pub mod WaitCauses
+pub mod ActorSaw
+pub mod ByStep
+pub mod StepWaits
+pub mod WaitsSame
+pub mod Entries
 pub mod MadeSteps
 pub mod EachFault
 pub mod EachLine
 pub mod ClaimSeen
 pub mod FindsOthers
-pub mod SettingCauses
 pub mod Causes
 pub mod CauseOwn
 pub mod CausePlaces

@@ -1,10 +1,10 @@
--- A step of a hand is a step of a part, or leaves claim, watch and stay as they were.
-use Rattle.std.proofs.Common.{◌≡◌, ◌≢◌, ◌⊎◌, inl, inr, ℕ, refl, sym, subst, arith}
+-- A step of a hand is a step of a part, or touches content and changes nothing that is held.
+use Rattle.std.proofs.Common.{◌≡◌, ◌≢◌, ◌≤◌, ◌⊎◌, inl, inr, ℕ, refl, sym, subst, arith}
 use Rattle.std.specs.Prelude.{Option, Some, None}
 use Rattle.core_views.specs.declared.kind.Kind.{Kind}
 use Rattle.core_views.specs.declared.kind.StepKind.TheVariants as kind
 use Rattle.core_views.specs.declared.place.Place.{Place}
-use Rattle.core_views.specs.declared.place.Place.TheVariants as place
+use Rattle.core_views.specs.declared.place.Place.TheVariants as at
 use Rattle.core_views.specs.declared.place.SetSlotPlace.{SetSlotPlace}
 use Rattle.core_views.specs.declared.sizes.Sizes.{Sizes}
 use Rattle.core_views.specs.declared.topics.Topics.{Topics}
@@ -15,6 +15,8 @@ use Rattle.core_views.specs.declared.trace.Op.TheVariants.{Read}
 use Rattle.core_views.specs.declared.trace.Slot.{Slot}
 use Rattle.core_views.specs.Held.{Held}
 use Rattle.core_views.specs.Kinds.{code_of}
+use Rattle.spte_words.specs.declared.area.Area.TheVariants as area
+use Rattle.spte_words.specs.Areas.{place}
 use Rattle.part_steps.specs.declared.task.Task.{Task}
 use Rattle.part_steps.specs.declared.part_step.PartStep.{PartStep}
 use Rattle.part_steps.specs.declared.part_step.PartStep.TheVariants as part
@@ -24,9 +26,9 @@ use Rattle.part_steps.specs.PartSteps.{PartNeeds, part_kind}
 use Rattle.mmu_core.specs.Rests.{RestsAt, RestsOn}
 use Rattle.mmu_core.specs.SetSlotSteps.{set_slot_task, set_slot_note, set_slot_part}
 use Rattle.mmu_core.specs.Steps.{line_at, place_at, task_at}
-use Rattle.part_steps.specs.Tasks.{kind_of_task}
+use Rattle.part_steps.specs.Tasks.{kind_of_task, map_of}
 use Rattle.part_steps.specs.TopicSteps.{topics_after}
-use Rattle.core_views.specs.Slots.{is_write}
+use Rattle.mmu_core.proofs.ByStep.{StepAt, step_at, Makes, Touches}
 
 -- the step of a part, whose needs the hand holds
 pub record IsPartKind (h : Held) (k : Kind) : Type 0 where
@@ -35,33 +37,26 @@ pub record IsPartKind (h : Held) (k : Kind) : Type 0 where
   pub is : k ≡ part_kind h step note
   pub needs : PartNeeds step h
 
--- It is no look at a state word, and leaves claim, watch and stay.
+-- It is on a word of content, and changes nothing that the actor holds.
 pub record IsQuiet (z : Sizes) (t : Topics) (k : Kind) : Type 0 where
   pub code : k.code ≢ code_of kind.Watch
-  pub claim : (v : ℕ) → (topics_after z k t v).claim ≡ t.claim
-  pub watched : (v : ℕ) → (topics_after z k t v).watched ≡ t.watched
-  pub stay : (v : ℕ) → (topics_after z k t v).stay ≡ t.stay
+  pub content : place (map_of z) area.Content 0 ≤ k.word
+  pub topics : (v : ℕ) → topics_after z k t v ≡ t
 
 abbrev PartOrQuiet : Held → Task → Type 0
 PartOrQuiet h t = IsPartKind h (kind_of_task h.state.sizes t) ⊎ IsQuiet h.state.sizes h.topics (kind_of_task h.state.sizes t)
 
 touch_quiet : (op : Op) (z : Sizes) (t : Topics) (index : ℕ) → IsQuiet z t (kind_of_task z (touch_of op index))
-unfolding topics_after
-touch_quiet Read z t index = record { code = λ e. absurd (omega (arith, e)); claim = λ v. refl; watched = λ v. refl; stay = λ v. refl }
-touch_quiet _ z t index = record { code = λ e. absurd (omega (arith, e)); claim = λ v. refl; watched = λ v. refl; stay = λ v. refl }
+unfolding topics_after place
+touch_quiet Read z t index = record { code = λ e. absurd (omega (arith, e)); content = omega arith; topics = λ v. refl }
+touch_quiet _ z t index = record { code = λ e. absurd (omega (arith, e)); content = omega arith; topics = λ v. refl }
 
-access_kind : (s : Option PartStep) (h : Held) (note gfn : ℕ) (op : Op) (index : ℕ) → RestsOn s gfn (is_write op) h → PartOrQuiet h (task_by s h note (touch_of op index))
-access_kind None h note gfn op index N = inr (touch_quiet op h.state.sizes h.topics index)
-access_kind (Some step) h note gfn op index N = inl (record { step = step; note = note; is = refl; needs = N })
-
-setting_kind : (p : SetSlotPlace) (h : Held) (id : ℕ) (slot : Slot) → PartNeeds (set_slot_part p h id slot) h → PartOrQuiet h (set_slot_task p h id slot)
-setting_kind p h id slot N = inl (record { step = set_slot_part p h id slot; note = set_slot_note p h; is = refl; needs = N })
+part_or_quiet : (command : Command) (h : Held) (t : Task) → StepAt command h t → PartOrQuiet h t
+part_or_quiet command h _ (Makes step note N) = inl (record { step = step; note = note; is = refl; needs = N })
+part_or_quiet command h _ (Touches gfn word op is R) = inr (touch_quiet op h.state.sizes h.topics _)
 
 line_kind : (p : Place) (command : Command) (h : Held) → RestsAt p command h → PartOrQuiet h (task_at p command h)
-line_kind place.Between _ h R = inl (record { step = part.Seq; note = 0; is = refl; needs = tt })
-line_kind (place.Access p) (Access gfn word op) h R = access_kind (access_part p gfn h.topics) h (access_note p) gfn op _ R
-line_kind (place.SetSlot p) (SetSlot id slot) h R = setting_kind p h id slot R
-line_kind _ _ h R = absurd R
+line_kind p command h R = part_or_quiet command h (task_at p command h) (step_at p command h R)
 
 pub step_kind : (h : Held) (k : Kind) → Enabled h k → IsPartKind h k ⊎ IsQuiet h.state.sizes h.topics k
 unfolding Enabled

@@ -55,6 +55,8 @@ use Rattle.mmu_core.proofs.PartBounded.{part_rests_at}
 pub use Rattle.mmu_core.proofs.PartBounded.{host_at}
 use Rattle.mmu_core.proofs.PartFits.{part_within_by}
 use Rattle.mmu_core.proofs.Stepping.{is_step}
+use Rattle.part_steps.specs.declared.task.Task.{Task}
+use Rattle.mmu_core.proofs.ByStep.{StepAt, step_at, Makes, Touches}
 use Rattle.mmu_core.specs.Invariant.{Holds, HostWordsPart, Invariant, IsLeafFor, KnowsPart, SetSlotHolds, SlotSetPart}
 use Rattle.mmu_core.proofs.UsedTranslations.{uses_stays}
 
@@ -292,21 +294,16 @@ touch_within : (z : Sizes) (op : Op) (frame word : ℕ) → frame < z.frames →
 touch_within z Read frame word a b = content_within (map_of z) frame word a b
 touch_within z _ frame word a b = content_within (map_of z) frame word a b
 
-task_is_within : (s : Option PartStep) (h : Held) (note gfn word : ℕ) (op : Op) → word < h.state.sizes.words → PartRests h → RestsOn s gfn (is_write op) h
-    → (task_by s h note (touch_of op (content_index (map_of h.state.sizes) (frame_in h.state.leaf) word))).index
-    < size_of (map_of h.state.sizes) (task_by s h note (touch_of op (content_index (map_of h.state.sizes) (frame_in h.state.leaf) word))).area
-task_is_within None h note gfn word op w R N = touch_within h.state.sizes op (frame_in h.state.leaf) word N.frame w
-task_is_within (Some step) h note gfn word op w R N = part_within_by step h note N R
-
 command_word : (z : Sizes) (actor : Actor) (gfn word : ℕ) (op : Op) → IsCommandFor z actor (Access gfn word op) → word < z.words
 command_word z (Vcpu n) gfn word op e = e.2
 command_word z _ gfn word op e = absurd e
 
+within_by : (actor : Actor) (command : Command) (h : Held) (t : Task) → IsCommandFor h.state.sizes actor command → PartRests h → StepAt command h t → t.index < size_of (map_of h.state.sizes) t.area
+within_by actor command h _ may R (Makes step note N) = part_within_by step h note N R
+within_by actor command h _ may R (Touches gfn word op is N) = touch_within h.state.sizes op (frame_in h.state.leaf) word N.frame (command_word h.state.sizes actor gfn word op (subst (IsCommandFor h.state.sizes actor) is may))
+
 within_at : (p : Place) (actor : Actor) (command : Command) (h : Held) → IsCommandFor h.state.sizes actor command → PartRests h → RestsAt p command h → (task_at p command h).index < size_of (map_of h.state.sizes) (task_at p command h).area
-within_at place.Between actor _ h may R e = omega arith
-within_at (place.Access p) actor (Access gfn word op) h may R e = task_is_within (access_part p gfn h.topics) h (access_note p) gfn word op (command_word h.state.sizes actor gfn word op may) R e
-within_at (place.SetSlot p) actor (SetSlot id slot) h may R e = part_within_by (set_slot_part p h id slot) h (set_slot_note p h) e R
-within_at _ actor _ h may R e = absurd e
+within_at p actor command h may R e = within_by actor command h (task_at p command h) may R (step_at p command h e)
 
 pub task_within : (h : Held) → Rests h → (task_of h).index < size_of (map_of h.state.sizes) (task_of h).area
 task_within h R = within_at (place_at h.state.place h) (line_at h.state.place h).actor (line_at h.state.place h).command h R.line R.part R.at

@@ -25,7 +25,7 @@ use Rattle.part_steps.specs.PartTopics.{part_topics}
 use Rattle.mmu_core.specs.Scans.{ClaimsScanOnce, ClaimsSeeEachWord, EndsWithScan, FindsNoneFree, LoadsMap, SawNoneFree}
 use Rattle.mmu_core.specs.Steps.{has_line, next, next_by, nobody}
 use Rattle.part_steps.specs.Tasks.{map_of}
-use Rattle.part_steps.specs.TopicSteps.{controlled, is_won, topics_after, topics_by, tried}
+use Rattle.part_steps.specs.TopicSteps.{controlled, is_won, topics_after, topics_by, tried, unseen}
 use Rattle.mmu_core.proofs.Columns.{same_or}
 use Rattle.mmu_core.proofs.Extend.{run-append}
 use Rattle.mmu_core.proofs.LineRuns.{own_hand}
@@ -42,11 +42,15 @@ use Rattle.mmu_core.proofs.Worlds.{good_step}
 abbrev claim_behind : PartStep → MapClaim → ℕ → MapClaim
 claim_behind (part.Map word) c v = record { at = word + (if v == 0 then 1 else 0); seen = v }
 claim_behind part.Claim c v = tried c v
+claim_behind part.Give c v = unseen c
+claim_behind part.GiveOld c v = unseen c
 claim_behind _ c v = c
 
 claim_is : (step : PartStep) (t : Topics) (v : ℕ) → (part_topics step t v).claim ≡ claim_behind step t.claim v
 claim_is (part.Map word) t v = refl
 claim_is part.Claim t v = refl
+claim_is part.Give t v = refl
+claim_is part.GiveOld t v = refl
 claim_is _ t v = refl
 
 -- the claim behind a load of word 0, whoever makes it
@@ -105,6 +109,8 @@ part_goes z actor w s h part.Claim note own hand same is N no_ = by (is_won h.to
     by : (b : Bool) → GoesTo z actor w s h.topics.claim.at (if b then 0 else h.topics.claim.at)
     by true = inr (inl refl)
     by false = inl refl
+part_goes z actor w s h part.Give note own hand same is N no_ = inl refl
+part_goes z actor w s h part.GiveOld note own hand same is N no_ = inl refl
 part_goes z actor w s h _ note own hand same is N no_ = inl refl
 
 -- Any step that isn't the actor's load of word 0.
@@ -126,7 +132,7 @@ goes z actor w s G may no_ = by (same_or actor s.actor)
         ap (λ (x : Held). x.topics.claim.at) (own_hand w s may.there) ∙ ap (λ (k : Kind). (next h k v).topics.claim.at) N.is
         ∙ ap (λ (t : Topics). t.claim.at) (topics_behind h N.step N.note v N.needs) ∙ ap (λ (c : MapClaim). c.at) (claim_is N.step h.topics v) in
         subst (GoesTo z actor w s h.topics.claim.at) (sym at_is) (part_goes z actor w s h N.step N.note own (ap (λ i. (hand_in mmu w i).topics.owned) own) (G.holds.lines s.actor there).sizes N.is N.needs no_)
-    of_own own (inr Q) = inl (at_behind w s may.there ∙ ap (λ (c : MapClaim). c.at) (Q.claim v))
+    of_own own (inr Q) = inl (at_behind w s may.there ∙ ap (λ (t : Topics). t.claim.at) (Q.topics v))
 
     mine : s.actor ≡ actor → GoesTo z actor w s h.topics.claim.at (at_in s.actor (effect mmu w s))
     mine own = of_own own (step_kind h s.kind may.enabled)
@@ -139,6 +145,8 @@ goes z actor w s G may no_ = by (same_or actor s.actor)
 sees_owns_none : (h : Held) (step : PartStep) → PartNeeds step h → ((v : ℕ) → (claim_behind step h.topics.claim v).seen ≡ v) → h.topics.owned ≡ None
 sees_owns_none h (part.Map word) N sees = N.0
 sees_owns_none h part.Claim N sees = N.0
+sees_owns_none h part.Give N sees = let one : 0 ≡ 1 = sees 1 in absurd (omega (arith, one))
+sees_owns_none h part.GiveOld N sees = let one : 0 ≡ 1 = sees 1 in absurd (omega (arith, one))
 sees_owns_none h _ N sees =
     let none : h.topics.claim.seen ≡ 0 = sees 0 in
     let one : h.topics.claim.seen ≡ 1 = sees 1 in
@@ -157,8 +165,8 @@ first_owns_none z h k same words enabled code at = by (step_kind h k enabled)
         (λ v. ap (λ (c : MapClaim). c.seen) (sym (claim_is N.step h.topics v)) ∙ ap (λ (t : Topics). t.claim.seen) (sym (topics_behind h N.step N.note v N.needs)) ∙ ap (λ (x : Kind). (next h x v).topics.claim.seen) (sym N.is)
         ∙ ap (λ (t : Topics). t.claim.seen) (next_topics h k v) ∙ seen_is v)
     by (inr Q) =
-        let none : h.topics.claim.seen ≡ 0 = ap (λ (c : MapClaim). c.seen) (sym (Q.claim 0)) ∙ seen_is 0 in
-        let one : h.topics.claim.seen ≡ 1 = ap (λ (c : MapClaim). c.seen) (sym (Q.claim 1)) ∙ seen_is 1 in
+        let none : h.topics.claim.seen ≡ 0 = ap (λ (t : Topics). t.claim.seen) (sym (Q.topics 0)) ∙ seen_is 0 in
+        let one : h.topics.claim.seen ≡ 1 = ap (λ (t : Topics). t.claim.seen) (sym (Q.topics 1)) ∙ seen_is 1 in
         absurd (omega (arith, none, one))
 
 -- ---- scans, a step longer

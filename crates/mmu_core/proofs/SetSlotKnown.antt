@@ -7,6 +7,7 @@ use Rattle.core_views.specs.declared.cache.Translation.{Translation}
 use Rattle.core_views.specs.declared.place.Place.TheVariants as place
 use Rattle.core_views.specs.declared.place.SetSlotPlace.{SetSlotPlace}
 use Rattle.core_views.specs.declared.place.SetSlotPlace.TheVariants.{Refuse, Claim, Fill, Exclude, Count, Close, Publish, Release, Watch, Clear, Give}
+use Rattle.core_views.specs.declared.topics.Hold.{Hold}
 use Rattle.core_views.specs.declared.topics.Hold.TheVariants.{Loose, Exclusive}
 use Rattle.core_views.specs.declared.topics.OwnedPage.{OwnedPage}
 use Rattle.core_views.specs.declared.topics.Stay.{Stay}
@@ -25,6 +26,7 @@ use Rattle.mmu_core.specs.FaultSteps.{at_map_word, map_word, tries_page}
 use Rattle.part_steps.specs.PartBounds.{PartRests}
 use Rattle.part_steps.specs.PartSteps.{HasToFill, IsAtRest, OwnsSet, PartNeeds, next_watched, own_index, words_filled}
 use Rattle.part_steps.specs.PartTopics.{part_topics, sequenced}
+use Rattle.mmu_core.specs.PartWaits.{was_counted}
 use Rattle.mmu_core.specs.SetSlotKnows.{HasPublished, HoldsLock, SetSlotKnows}
 use Rattle.mmu_core.specs.SetSlotSteps.{claim_outcome, looked_at, set_slot_outcome, set_slot_part}
 use Rattle.part_steps.specs.SetWords.{set_value}
@@ -153,7 +155,7 @@ module _ (line : Line) (h : Held) (id : ℕ) (slot : Slot) (cached : Buffer Tran
       let owns : OwnsSet counted = record { owned = O.owned; is = O.is; whole = O.whole; role = O.role } in
       either (behind p (record h.topics { invalidations = record h.topics.invalidations { count = v; checked = count_checked h.topics.hold } })) (v == 0) Publish Close
       (λ e. (lock, record { owns = owns; alone = K.holds; looked = ap count_checked K.holds; none_open = zero_is v e; none_leaves = left }))
-      (λ e. (lock, owns))
+      (λ e. (lock, owns, ap (λ (k : Hold). was_counted (count_checked k) && not (v == 0)) K.holds ∙ ap not e))
 
   watch_known : (p : SetSlotPlace) (inside : Bool) → HoldsLock Loose h.topics → HasPublished h.topics → looked_at h < actors_of h.state.sizes
       → Knows (behind p (record h.topics { watched = looked_at h + (if inside then 0 else 1) }))
@@ -186,7 +188,7 @@ module _ (line : Line) (h : Held) (id : ℕ) (slot : Slot) (cached : Buffer Tran
   set_slot_known Exclude K left A = exclude_known Exclude (v == 0) K.0 K.1
   set_slot_known Count K left A = count_known Count K.0 K.1 (left refl)
   set_slot_known Close K left A = (let_go_lock h.topics K.0.outside, record { owned = K.1.owned; is = K.1.is; whole = K.1.whole; role = K.1.role })
-  set_slot_known Publish K left A = (record { outside = K.0.outside; holds = K.0.holds; no_table = K.0.no_table; no_set = refl }, record { leaves = refl; owns_none = refl }, refl)
+  set_slot_known Publish K left A = (record { outside = K.0.outside; holds = K.0.holds; no_table = K.0.no_table; no_set = refl }, record { leaves = refl; owns_none = refl }, refl, K.1.none_open)
   set_slot_known Release K left A = (let_go_lock h.topics K.0.outside, record { leaves = K.1.leaves; owns_none = K.1.owns_none }, subst (λ w. next_watched (own_index h) w < actors_of h.state.sizes) (sym K.2) first_look)
   set_slot_known Watch K left A = watch_known Watch (in_section v) K.0 K.1 K.2
   set_slot_known Clear K left A = (

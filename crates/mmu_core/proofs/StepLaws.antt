@@ -48,6 +48,7 @@ use Rattle.mmu_core.proofs.Advancing.{named_is}
 use Rattle.mmu_core.proofs.ClaimNote.{claim_tells}
 use Rattle.mmu_core.proofs.PartIndex.{index_same}
 use Rattle.mmu_core.proofs.RestsKept.{task_within}
+use Rattle.mmu_core.proofs.ByStep.{StepAt, step_at, Makes, Touches}
 use Rattle.mmu_core.proofs.Which.{is_next}
 
 -- What the step of a part is on, and its note.
@@ -113,10 +114,12 @@ line_tells place.Between _ h v R = record { tells = inl refl; last = λ L. absur
 line_tells _ _ h v R = absurd R
 
 -- What a line's step is on.
-line_on : (p : Place) (command : Command) (h : Held) → IsOn (task_at p command h).kind (task_at p command h).area
-line_on (place.Access p) (Access gfn word op) h = (tells_by (access_part p gfn h.topics) h (access_note p) _ op).on
-line_on (place.SetSlot p) (SetSlot id slot) h = (tells_part (set_slot_part p h id slot) (own_index h) h.topics (set_slot_note p h)).on
-line_on _ _ h = tt
+on_by : (command : Command) (h : Held) (t : Task) → StepAt command h t → IsOn t.kind t.area
+on_by command h _ (Makes step note N) = (tells_part step (own_index h) h.topics note).on
+on_by command h _ (Touches gfn word op is N) = (tells_touch op _).on
+
+line_on : (p : Place) (command : Command) (h : Held) → RestsAt p command h → IsOn (task_at p command h).kind (task_at p command h).area
+line_on p command h R = on_by command h (task_at p command h) (step_at p command h R)
 
 -- a task's numbers
 on_its_area : (z : Sizes) (t : Task) → t.index < size_of (map_of z) t.area → IsOn t.kind t.area → IsOnItsArea z (kind_of_task z t)
@@ -125,7 +128,7 @@ on_its_area z t within on = record { area = t.area; index = t.index; there = wit
 pub steps_are_on_their_areas : (h : Held) (k : Kind) → Enabled h k → IsOnItsArea h.state.sizes k
 unfolding Enabled
 steps_are_on_their_areas h k (inl N) =
-    subst (IsOnItsArea h.state.sizes) (sym N.is) (on_its_area h.state.sizes (task_of h) (task_within h N.rests) (line_on (place_at h.state.place h) (line_of h).command h))
+    subst (IsOnItsArea h.state.sizes) (sym N.is) (on_its_area h.state.sizes (task_of h) (task_within h N.rests) (line_on (place_at h.state.place h) (line_of h).command h N.rests.at))
 steps_are_on_their_areas h k (inr N) =
     let t : Task = part_task N.step (own_index h) h.topics N.note in
     let same = index_same N.step (own_index h) h.topics N.note in

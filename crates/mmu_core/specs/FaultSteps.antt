@@ -31,6 +31,7 @@ use Rattle.spte_words.specs.HostWords.{host_allows_write}
 use Rattle.part_steps.specs.declared.part_step.PartStep.{PartStep}
 use Rattle.part_steps.specs.declared.part_step.PartStep.TheVariants as part
 use Rattle.part_steps.specs.PartSteps.{entry_index, part_kind, table_page, words_filled}
+pub use Rattle.mmu_core.specs.PartWaits.{is_owing, word_owed}
 use Rattle.mmu_core.specs.SearchLeft.{look_left}
 use Rattle.part_steps.specs.SlotWords.{page_of}
 use Rattle.part_steps.specs.Tasks.{map_of}
@@ -153,20 +154,12 @@ fault_next (End e) z gfn write t v = Ends e
 
 -- The step leaves the fault where it was, since another actor is in the way: it takes itself out of the lock's readers, where it saw a
 -- writer, or another actor took the page that it tried.
-abbrev pub is_owing : Hold → Bool
-is_owing (Owing word) = true
-is_owing _ = false
-
 abbrev pub waits : FaultPlace → Topics → ℕ → Bool
 waits Share t v = is_owing t.hold
 waits (Claim begun) t v = tries_page begun t.claim && not (is_won t.claim v)
 waits _ t v = false
 
 -- What a step that waits has seen: of the lock the word that it found with the try which it takes back, and of the map what is there now.
-abbrev pub word_owed : Hold → ℕ
-word_owed (Owing word) = word
-word_owed _ = 0
-
 abbrev pub wait_value : FaultPlace → Topics → ℕ → ℕ
 wait_value Share t v = word_owed t.hold
 wait_value _ t v = v

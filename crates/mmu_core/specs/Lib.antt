@@ -2,6 +2,7 @@ pub mod Machine
 pub mod Cached
 pub mod AccessSteps
 pub mod SetSlotSteps
+pub mod PartAt
 pub mod Steps
 pub mod Rests
 pub mod Enabled
@@ -41,6 +42,8 @@ pub mod OthersRest
 pub mod Grace
 pub mod Scans
 pub mod Causes
+pub mod Waits
+pub mod PartWaits
 pub mod Enough
 pub mod FaultAlone
 pub mod LineAlone

@@ -10,6 +10,7 @@ use Rattle.core_views.specs.Held.{Held}
 use Rattle.core_views.specs.Sizes.{actors_of}
 use Rattle.spte_words.specs.Areas.{words_of_bits}
 use Rattle.part_steps.specs.PartSteps.{HasToFill, IsAtRest, MayGiveOld, MayPublish, OwnsSet}
+use Rattle.mmu_core.specs.PartWaits.{saw_open}
 use Rattle.mmu_core.specs.SetSlotSteps.{looked_at}
 
 -- Outside, with no table and no slot set, holding the lock so.
@@ -31,9 +32,9 @@ SetSlotKnows (Claim begun) h = IsAtRest h.topics × (begun ≡ true → h.topics
 SetSlotKnows Fill h = HoldsLock Loose h.topics × HasToFill h.topics
 SetSlotKnows Exclude h = HoldsLock Loose h.topics × OwnsSet h.topics
 SetSlotKnows Count h = HoldsLock Exclusive h.topics × OwnsSet h.topics
-SetSlotKnows Close h = HoldsLock Exclusive h.topics × OwnsSet h.topics
+SetSlotKnows Close h = HoldsLock Exclusive h.topics × OwnsSet h.topics × (saw_open h.topics.invalidations ≡ true)
 SetSlotKnows Publish h = HoldsLock Exclusive h.topics × MayPublish h.topics
-SetSlotKnows Release h = HoldsLock Exclusive h.topics × HasPublished h.topics × (h.topics.watched ≡ 0)
+SetSlotKnows Release h = HoldsLock Exclusive h.topics × HasPublished h.topics × (h.topics.watched ≡ 0) × (h.topics.invalidations.count ≡ 0)
 SetSlotKnows Watch h = HoldsLock Loose h.topics × HasPublished h.topics × (looked_at h < actors_of h.state.sizes)
 SetSlotKnows Clear h = HoldsLock Loose h.topics × MayGiveOld h
 SetSlotKnows Give h = HoldsLock Loose h.topics × MayGiveOld h

@@ -22,13 +22,13 @@ use Rattle.core_views.specs.SlotSets.{MemorySlots}
 use Rattle.mmu_core.specs.declared.outcome.Outcome.{Outcome}
 use Rattle.mmu_core.specs.declared.outcome.Outcome.TheVariants.{Goes}
 use Rattle.part_steps.specs.declared.task.Task.{Task}
-use Rattle.mmu_core.specs.AccessSteps.{access_caches, access_loads, access_outcome, access_task, access_tells}
+use Rattle.mmu_core.specs.AccessSteps.{access_caches, access_loads, access_outcome, access_tells}
 use Rattle.mmu_core.specs.Cached.{flushed}
 pub use Rattle.part_steps.specs.PartSteps.{has_line}
 use Rattle.mmu_core.specs.Delays.{counted, delays_counted, is_delay, steps_counted}
-use Rattle.mmu_core.specs.SetSlotSteps.{set_slot_first, set_slot_outcome, set_slot_records, set_slot_task, set_slot_tells}
+use Rattle.mmu_core.specs.SetSlotSteps.{set_slot_first, set_slot_outcome, set_slot_records, set_slot_tells}
+pub use Rattle.mmu_core.specs.PartAt.{task_at}
 use Rattle.mmu_core.specs.Outcomes.{answering, answers_after, place_after}
-use Rattle.part_steps.specs.Tasks.{no_task}
 use Rattle.part_steps.specs.TopicSteps.{topics_after}
 
 -- the first of a hand's lines that has no answer
@@ -55,12 +55,6 @@ standing (place.SetSlot p) z slots command = place.SetSlot p
 -- where the line of the hand's next step stands
 abbrev pub place_at : Place → Held → Place
 place_at p h = standing p h.state.sizes h.slots (line_at p h).command
-
--- what the step of a place is to do for the command
-abbrev pub task_at : Place → Command → Held → Task
-task_at (place.Access p) (Access gfn word op) h = access_task p h gfn word op
-task_at (place.SetSlot p) (SetSlot id slot) h = set_slot_task p h id slot
-task_at _ _ h = no_task
 
 -- what the state has loaded after it
 abbrev pub loads_at : Place → Command → Held → ℕ → State

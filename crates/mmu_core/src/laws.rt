@@ -1,5 +1,5 @@
 ghost use Rattle.std.specs.Prelude.{◌<◌, length};
-ghost use Rattle.mmu_core.specs.Causes.{FaultsBeginAnewByCause, SettingWaitsAreByCause, WaitsAreByCause};
+ghost use Rattle.mmu_core.specs.Causes.{FaultsBeginAnewByCause};
 ghost use Rattle.mmu_core.specs.Enough.{EachTableIsWanted, EnoughPages, TablesAreForTheirRuns};
 ghost use Rattle.mmu_core.specs.Example.{EachMayStep, EveryMachineStarts, ExamplePrints, ExampleRaces, ExampleRuns, ExampleStarves, ExampleWaits};
 ghost use Rattle.mmu_core.specs.FaultAlone.{FaultGoesThrough, LeadsDown};
@@ -14,6 +14,7 @@ ghost use Rattle.mmu_core.specs.Scans.{StarvedLinesScan};
 ghost use Rattle.mmu_core.specs.Steps.{line_at, place_at};
 ghost use Rattle.mmu_core.specs.StepLaws.{EnteringFlushes, NotesTellEnds, OthersCacheOneAtMost, StepsAreOnTheirAreas};
 ghost use Rattle.mmu_core.specs.TurnLaws.{DelaysWaitOrBeginAnew, InstalledEntriesServe, LeavesStay, StepsAreBounded, StepsAreCounted, TurnsAreBounded, TurnsComeNearer};
+ghost use Rattle.mmu_core.specs.Waits.{StepWaitsAreByCause};
 ghost use Rattle.mmu_core.specs.Worlds.{HandReached};
 
 use core_views::Hand;
@@ -47,23 +48,22 @@ pub fn every_list_of_steps()
     ensures starved { StarvedLinesScan }
 {}
 
-/// What stands in a line's way is another actor's, in every list of steps. A fault
+/// What stands in an actor's way is another actor's, in every list of steps. A fault
 /// begins anew only where in this section it found an invalidation open over its
 /// guest frame, or found another number in a word of which it knew the number, since
 /// another actor's step changed it: in the sequence number behind its snapshot, or in
-/// an entry behind its load. A step waits only where the step of its line before it
-/// found a writer in the lock's word, or where the page that it tries was free at its
-/// line's step before it, and another actor's step changed this word of the map since
-/// (tdp_mmu.c, `kvm_tdp_mmu_map`; locking.rst). A slot line waits where such a page was
-/// taken from its claim, where it finds the lock held by another actor, where it found
-/// invalidations open and gives the lock back, and where its watch finds another actor
-/// in the guest or in a section (kvm_main.c, `kvm_swap_active_memslots`). And a line
-/// counts no other step as a delay than one with which it waits or begins its fault
-/// anew.
+/// an entry of its guest frame behind its load. A step waits, whoever makes it, only
+/// where its actor, with its last step on the lock, found another actor having it
+/// alone; where the page that it tries was free at its actor's last step on this word
+/// of the pool's map, and another actor's step changed this word since; where it finds
+/// the lock held by another actor; where it gives the lock back, since its actor's last
+/// load of their count found invalidations open; and where it finds another actor in
+/// the guest or in a section (tdp_mmu.c, `kvm_tdp_mmu_map`; kvm_main.c,
+/// `kvm_swap_active_memslots`; locking.rst). And a line counts no other step as a delay
+/// than one with which it waits or begins its fault anew.
 pub fn each_delay_has_its_cause()
     ensures begins_anew { FaultsBeginAnewByCause }
-    ensures waits { WaitsAreByCause }
-    ensures slot_waits { SettingWaitsAreByCause }
+    ensures waits { StepWaitsAreByCause }
     ensures delays { DelaysWaitOrBeginAnew }
 {}
 

@@ -6,7 +6,7 @@ use Rattle.core_views.specs.declared.topics.Topics.{Topics}
 use Rattle.part_steps.specs.declared.part_step.PartStep.{PartStep}
 use Rattle.part_steps.specs.declared.part_step.PartStep.TheVariants as part
 use Rattle.part_steps.specs.PartSteps.{entry_index, leaf_written, link_written}
-use Rattle.part_steps.specs.TopicSteps.{at_root, at_set, begun, claimed, count_checked, filled_more, has_writer, in_section, is_loose, kept_search, let_go, may_search, may_walk, published, range_checked, searched, seq_checked, start_checked, still_leaving, still_owned, swapped, tried, unchecked, walked}
+use Rattle.part_steps.specs.TopicSteps.{at_root, at_set, begun, claimed, count_checked, filled_more, given_back, has_writer, in_section, is_loose, kept_search, let_go, may_search, may_walk, published, range_checked, searched, seq_checked, start_checked, still_owned, swapped, tried, unchecked, walked}
 
 -- The sequence number was loaded: without the lock it is the snapshot, with which a look-up begins; else the check's last word.
 abbrev pub sequenced : Bool → Topics → ℕ → Topics
@@ -38,7 +38,7 @@ part_topics part.Release t v = let_go t
 part_topics (part.Map word) t v = record t { claim = record { at = word + (if v == 0 then 1 else 0); seen = v } }
 part_topics part.Claim t v = record t { owned = claimed t.claim v; claim = tried t.claim v }
 part_topics (part.Fill value) t v = record t { owned = filled_more t.owned v }
-part_topics part.Give t v = record t { owned = None; leaving = still_leaving t.owned t.leaving }
+part_topics part.Give t v = given_back t
 part_topics part.Slots t v = record t { search = at_set (may_search t.stay t.hold) t.search v }
 part_topics part.Slot t v = record t { search = if is_some t.search.set then searched t.search v else t.search }
 part_topics part.Seq t v = sequenced (is_loose t.hold) t v
@@ -53,4 +53,4 @@ part_topics (part.Host page) t v = record t { host = Some (record { page = page;
 part_topics (part.Watch index) t v = record t { watched = index + (if in_section v then 0 else 1) }
 part_topics part.Publish t v = published t v
 part_topics part.Clear t v = record t { owned = filled_more t.owned v }
-part_topics part.GiveOld t v = record t { owned = None; leaving = still_leaving t.owned t.leaving }
+part_topics part.GiveOld t v = given_back t

@@ -158,6 +158,10 @@ claimed claim v = if is_won claim v then Some (record { page = 64 * claim.at + t
 abbrev pub tried : MapClaim → ℕ → MapClaim
 tried claim v = record { at = if is_won claim v then 0 else claim.at; seen = if is_won claim v then 0 else v }
 
+-- a claim that has seen no page yet
+abbrev pub unseen : MapClaim → MapClaim
+unseen claim = record claim { seen = 0 }
+
 -- One more word of an owned page is filled.
 abbrev pub filled_more : Option OwnedPage → ℕ → Option OwnedPage
 filled_more None v = None
@@ -172,6 +176,10 @@ filled_more (Some o) v = Some (record {
 abbrev pub still_leaving : Option OwnedPage → Option ℕ → Option ℕ
 still_leaving None leaving = None
 still_leaving (Some o) leaving = leaving
+
+-- A page was given back: a claim has yet to see again which pages are free in its word of the map.
+abbrev pub given_back : Topics → Topics
+given_back t = record t { owned = None; leaving = still_leaving t.owned t.leaving; claim = unseen t.claim }
 
 -- A slot set was published in place of the one in page v, which is leaving now: nobody was watched yet, and it is held no more.
 abbrev pub published : Topics → ℕ → Topics
@@ -303,7 +311,7 @@ topics_by kind.Exclude z k t v = record t { hold = if v == 0 then Exclusive else
 topics_by kind.Release z k t v = let_go t
 topics_by kind.Claim z k t v = record t { owned = claimed t.claim v; claim = tried t.claim v }
 topics_by kind.Fill z k t v = record t { owned = filled_more t.owned v }
-topics_by kind.Give z k t v = record t { owned = None; leaving = still_leaving t.owned t.leaving }
+topics_by kind.Give z k t v = given_back t
 topics_by kind.Publish z k t v = published t v
 topics_by kind.Watch z k t v = record t { watched = (k.word - number_of area.State) + (if in_section v then 0 else 1) }
 topics_by kind.Read z k t v = t

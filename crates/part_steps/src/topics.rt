@@ -427,6 +427,7 @@ pub fn step_topics(sizes: &Sizes, kind: Kind, topics: &mut Topics, found: u64)
                 topics.leaving = None;
             }
             topics.owned = None;
+            topics.claim.seen = 0;
         }
         StepKind::Publish => publish(topics, found),
         StepKind::Watch => {

@@ -5,10 +5,9 @@ use Rattle.mmu_core.proofs.AnsweredRest.{answered_rests}
 use Rattle.mmu_core.proofs.Causes.{faults_begin_anew_by_cause}
 use Rattle.mmu_core.proofs.EveryHistory.{every_flat, every_history}
 use Rattle.mmu_core.proofs.LeafLaws.{cached_leaves_agree, leaves_agree, used_leaves_agree}
-use Rattle.mmu_core.proofs.SettingCauses.{setting_waits_are_by_cause}
 use Rattle.mmu_core.proofs.StarvedScan.{legal_parts, starved_lines_scan}
 use Rattle.mmu_core.proofs.Starts.{start_good}
-use Rattle.mmu_core.proofs.WaitCauses.{waits_are_by_cause}
+use Rattle.mmu_core.proofs.StepWaits.{step_waits_are_by_cause}
 use Rattle.core_theorem.proofs.Begins.{lines_are_open}
 use Rattle.core_theorem.proofs.DelayCauses.{delays_have_causes}
 use Rattle.core_theorem.proofs.Holdings.{held_sets_are_known, none_holds_free_pages, pages_are_reused_alone, watched_hold_no_old_set}
@@ -16,7 +15,6 @@ use Rattle.core_theorem.proofs.LineTurns.{lines_make_few_steps}
 use Rattle.core_theorem.proofs.Turns.{counts_are_few, steps_are_few}
 use Rattle.core_theorem.proofs.Pages.{pages_are_used}
 use Rattle.core_theorem.proofs.PauseSeen.{pause_is_seen_in_stay}
-use Rattle.core_theorem.proofs.Entries.{cause_of_frame}
 use Rattle.core_theorem.proofs.Runs.{before, last_actor, may_last, sound, starts_between}
 use Rattle.core_theorem.proofs.WalksKept.{held_leaves_are_linked, walks_hold_tables}
 use Rattle.core_theorem.proofs.every_run.Goals as goal
@@ -79,16 +77,11 @@ pub returns-clause-open_lines : goal.returns-clause-open_lines
 returns-clause-open_lines c = lines_are_open
 
 pub returns-clause-begins_anew : goal.returns-clause-begins_anew
-returns-clause-begins_anew c z lines w ss s cause gfn word op R stands command = (
-  faults_begin_anew_by_cause z w ss s.actor gfn word op cause (start_good z lines w R.start) (before z lines w ss s R).legal (starts_between z lines w ss s R) stands command,
-  cause_of_frame z (run mmu w ss) s.actor gfn word op cause (sound z lines w ss (before z lines w ss s R)) (last_actor z lines w ss s R) stands command,
-)
+returns-clause-begins_anew c z lines w ss s cause gfn word op R stands command =
+    faults_begin_anew_by_cause z w ss s.actor gfn word op cause (start_good z lines w R.start) (before z lines w ss s R).legal (starts_between z lines w ss s R) stands command
 
 pub returns-clause-waits : goal.returns-clause-waits
-returns-clause-waits c z lines w ss s p R stands waits = waits_are_by_cause z w ss s p (start_good z lines w R.start) R.legal (starts_between z lines w ss s R) stands waits
-
-pub returns-clause-slot_waits : goal.returns-clause-slot_waits
-returns-clause-slot_waits c z lines w ss s p R stands waits = setting_waits_are_by_cause z w ss s p (start_good z lines w R.start) R.legal (starts_between z lines w ss s R) stands waits
+returns-clause-waits c z lines w ss s step note R is needs waits = step_waits_are_by_cause z lines w ss s step note R.start R.legal is needs waits
 
 pub returns-clause-delays : goal.returns-clause-delays
 returns-clause-delays c = delays_have_causes

@@ -1,17 +1,13 @@
 use Rattle.mmu_core.proofs.Causes.{faults_begin_anew_by_cause}
-use Rattle.mmu_core.proofs.SettingCauses.{setting_waits_are_by_cause}
+use Rattle.mmu_core.proofs.StepWaits.{step_waits_are_by_cause}
 use Rattle.mmu_core.proofs.TurnsNearer.{delays_wait_or_begin_anew}
-use Rattle.mmu_core.proofs.WaitCauses.{waits_are_by_cause}
 use Rattle.mmu_core.proofs.laws.each_delay_has_its_cause.Goals as goal
 
 pub returns-clause-begins_anew : goal.returns-clause-begins_anew
 returns-clause-begins_anew c = faults_begin_anew_by_cause
 
 pub returns-clause-waits : goal.returns-clause-waits
-returns-clause-waits c = waits_are_by_cause
-
-pub returns-clause-slot_waits : goal.returns-clause-slot_waits
-returns-clause-slot_waits c = setting_waits_are_by_cause
+returns-clause-waits c = step_waits_are_by_cause
 
 pub returns-clause-delays : goal.returns-clause-delays
 returns-clause-delays c = delays_wait_or_begin_anew

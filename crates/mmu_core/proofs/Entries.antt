@@ -16,13 +16,18 @@ use Rattle.core_views.specs.Sizes.{actors_of}
 use Rattle.core_views.specs.Slots.{is_write}
 use Rattle.part_steps.specs.PartBounds.{PartRests}
 use Rattle.part_steps.specs.PartSteps.{table_page}
+use Rattle.mmu_core.specs.Causes.{IsEntryOf}
 use Rattle.mmu_core.specs.Enabled.{mmu}
 use Rattle.mmu_core.specs.FaultKnows.{FaultKnows, HasCause, IsInTheWay}
 use Rattle.mmu_core.specs.KnowsPart.{KnowsPart}
 use Rattle.mmu_core.specs.Laws.{IsSound}
 use Rattle.mmu_core.specs.Machine.{World, hand_in}
 use Rattle.mmu_core.proofs.PartRested.{rests_in}
-use Rattle.core_theorem.specs.Delays.{IsEntryOf, IsOfFrame}
+
+-- Where the cause is an entry, it is one of the guest frame.
+abbrev pub IsOfFrame : Cause → Sizes → ℕ → Type 0
+IsOfFrame (Entry word read seen) z gfn = IsEntryOf z gfn word
+IsOfFrame _ z gfn = Unit {0}
 
 entry_of : (z : Sizes) (h : Held) (word read seen gfn : ℕ) → h.state.sizes ≡ z → PartRests h → IsInTheWay word read seen z gfn h.topics.walk → IsEntryOf z gfn word
 entry_of z h word read seen gfn same R K = record {

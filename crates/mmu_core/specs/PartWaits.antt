@@ -1,0 +1,39 @@
+-- Which steps of the parts wait for another actor, by what their actor holds and what they answer.
+use Rattle.std.specs.Prelude.{ℕ, Bool, true, false, ◌==◌, ◌&&◌, not}
+use Rattle.core_views.specs.declared.topics.Checked.{Checked}
+use Rattle.core_views.specs.declared.topics.Checked.TheVariants.{Count}
+use Rattle.core_views.specs.declared.topics.Hold.{Hold}
+use Rattle.core_views.specs.declared.topics.Hold.TheVariants.{Owing}
+use Rattle.core_views.specs.declared.topics.Invalidations.{Invalidations}
+use Rattle.core_views.specs.declared.topics.Topics.{Topics}
+use Rattle.part_steps.specs.declared.part_step.PartStep.{PartStep}
+use Rattle.part_steps.specs.declared.part_step.PartStep.TheVariants as part
+use Rattle.part_steps.specs.TopicSteps.{in_section, is_won}
+
+-- The actor is to take itself out of the lock's readers: it saw a writer, in this word of the lock.
+abbrev pub is_owing : Hold → Bool
+is_owing (Owing word) = true
+is_owing _ = false
+
+abbrev pub word_owed : Hold → ℕ
+word_owed (Owing word) = word
+word_owed _ = 0
+
+-- Of the check the count of open invalidations was loaded, and no more.
+abbrev pub was_counted : Checked → Bool
+was_counted Count = true
+was_counted _ = false
+
+-- It saw that some are open.
+abbrev pub saw_open : Invalidations → Bool
+saw_open n = was_counted n.checked && not (n.count == 0)
+
+-- The step waits: it takes back the try for the lock that found a writer, the page that it tries is gone, it finds the lock taken, it gives the lock back
+-- under which it saw invalidations open, or it finds another actor in the guest or in a section.
+abbrev pub part_waits : PartStep → Topics → ℕ → Bool
+part_waits part.Unshare t v = is_owing t.hold
+part_waits part.Claim t v = not (is_won t.claim v)
+part_waits part.Exclude t v = not (v == 0)
+part_waits part.Release t v = saw_open t.invalidations
+part_waits (part.Watch index) t v = in_section v
+part_waits _ t v = false
