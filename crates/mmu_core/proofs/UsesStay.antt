@@ -61,7 +61,7 @@ same_tables z v a part.GiveOld S I never =
     let k = leaving_some (v.hand a).topics S.needs.leaves in
     one_turned I.up (page_left (v.hand a).topics.leaving) Free (ap (λ x. is_table (I.up (page_left x))) k.1 ∙ ap is_table (left_use I.uses a k.0 S.there k.1)) refl
 same_tables z v a part.Publish S I never =
-    let O = S.needs.1.owns in
+    let O = S.needs.owns in
     two_turned I.up (upd I.up (v.words area.Slots 0) (OldSet a)) (page_owned (v.hand a).topics.owned) SlotSet
     (one_turned I.up (v.words area.Slots 0) (OldSet a) (ap is_table (set_use I.uses)) refl)
     (ap (λ x. is_table (I.up (page_owned x))) O.is ∙ ap is_table (owned_use I.uses a O.owned S.there O.is)) refl
