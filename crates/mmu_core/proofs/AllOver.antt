@@ -1,6 +1,6 @@
 -- What is said of all entries below a table stays so behind each step of a part, if it says nothing of what is no leaf, and holds of the leaf that is put.
-use Rattle.std.proofs.Common.{◌≡◌, ◌≢◌, ◌⊎◌, inl, inr, ◌+◌, ◌-◌, ◌*◌, ◌/◌, ◌%◌, ◌^◌, ◌<◌, ◌≤◌, ℕ, zero, suc, refl, sym, subst, ap, ◌∙◌, arith}
-use Rattle.std.specs.Prelude.{Bool, true, false, ◌==◌, if◌then◌else◌, Option, Some}
+use Rattle.std.proofs.Common.{◌≡◌, ◌≢◌, ◌⊎◌, inl, inr, ◌-◌, ◌/◌, ◌^◌, ◌<◌, ◌≤◌, ℕ, zero, suc, refl, sym, subst, ap, ◌∙◌, arith}
+use Rattle.std.specs.Prelude.{Bool, true, false, ◌==◌, if◌then◌else◌}
 use Rattle.core_views.specs.declared.sizes.Sizes.{Sizes}
 use Rattle.core_views.specs.declared.topics.Topics.{Topics}
 use Rattle.core_views.specs.Sizes.{actors_of}
@@ -14,14 +14,14 @@ use Rattle.part_steps.specs.PartSteps.{IsOver, OwnsTable, entry_index, leaf_writ
 use Rattle.mmu_core.specs.AllOver.{AllOver, IsEntryOver}
 use Rattle.mmu_core.specs.PoolPart.{IsFilled}
 use Rattle.mmu_core.specs.TopicsInvariant.{TopicsInvariant}
-use Rattle.mmu_core.specs.TreePart.{Below, Position, Reaches, TreePart, Use, at, is_table, stands, through}
+use Rattle.mmu_core.specs.TreePart.{Below, Position, Reaches, TreePart, Use, at, is_table, through}
 use Rattle.mmu_core.specs.TreePart.Use.{Free, OldSet, Outside, Owned, Root, SlotSet, Under}
 use Rattle.mmu_core.specs.View.{View, part_stepped, upd}
 use Rattle.mmu_core.proofs.Columns.{same_or, upd_other, upd_same}
 use Rattle.mmu_core.proofs.PartStepping.{IsPart}
 use Rattle.mmu_core.proofs.PartWords.{IsElsewhere, left_elsewhere, page_stays}
 use Rattle.mmu_core.proofs.PoolPages.{left_use, owned_there, owned_use}
-use Rattle.mmu_core.proofs.Standing.{at_spot, entry_now, one_position, position_below, spot_after, spot_of, up_after, upd_if}
+use Rattle.mmu_core.proofs.Standing.{entry_now, position_below, spot_after, spot_of, up_after, upd_if}
 use Rattle.mmu_core.proofs.SumsBelow.{upd_id}
 use Rattle.mmu_core.proofs.UsesStay.{SameTable, SameTables, is_link, same_tables}
 

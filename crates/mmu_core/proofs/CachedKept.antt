@@ -1,5 +1,5 @@
 -- What is cached, and the leaf that an access uses, is the leaf that slots and host give: as a walk finds it, and behind each step.
-use Rattle.std.proofs.Common.{◌≡◌, ◌+◌, ◌*◌, ◌/◌, ◌<◌, inl, inr, ℕ, List, [], ◌∷◌, refl, sym, subst, ap, ◌∙◌, arith}
+use Rattle.std.proofs.Common.{◌≡◌, ◌/◌, ◌<◌, ℕ, List, [], ◌∷◌, refl, sym, subst, ap, ◌∙◌, arith}
 use Rattle.std.proofs.lemmas.Bool.Decides.{nat_tests}
 use Rattle.std.proofs.lemmas.List.Elements.{All-cons, All-head, All-nil, All-tail, All-take}
 use Rattle.std.specs.Prelude.{All, Bool, true, false, ◌==◌, ◌&&◌, find, if◌then◌else◌, Some}
@@ -19,13 +19,12 @@ use Rattle.core_views.specs.declared.trace.Op.{Op}
 use Rattle.core_views.specs.Held.{Held}
 use Rattle.core_views.specs.Kinds.{kind_named}
 use Rattle.core_views.specs.Sizes.{actors_of}
-use Rattle.core_views.specs.Slots.{contains, is_write}
+use Rattle.core_views.specs.Slots.{is_write}
 use Rattle.spte_words.specs.declared.area.Area.TheVariants as area
 use Rattle.spte_words.specs.declared.spte_kind.SpteKind.{SpteKind}
 use Rattle.spte_words.specs.declared.spte_kind.SpteKind.TheVariants as entry_kind
 use Rattle.spte_words.specs.Areas.{pool_index}
 use Rattle.spte_words.specs.Entries.{kind_of, level_span}
-use Rattle.spte_words.proofs.ReadsEntries.{kind_of_absent, kind_of_table}
 use Rattle.spte_words.proofs.Spans.{span_1}
 use Rattle.part_steps.specs.declared.task.Task.{Task}
 use Rattle.mmu_core.specs.AccessSteps.{access_caches, access_task, is_found}
@@ -34,16 +33,13 @@ use Rattle.mmu_core.specs.FaultSteps.{allows_access}
 use Rattle.mmu_core.specs.Invariant.{CachedPart, Invariant, IsLeafFor}
 use Rattle.mmu_core.specs.KnowsPart.{AccessKnows}
 use Rattle.part_steps.specs.PartSteps.{IsOver, entry_index, table_page}
-use Rattle.part_steps.specs.SlotWords.{leaf_of, page_of}
 use Rattle.part_steps.specs.Tasks.{kind_of_task}
 use Rattle.mmu_core.specs.TopicsInvariant.{TopicsInvariant}
-use Rattle.mmu_core.specs.TreePart.{EntryPart, IsLeafAt, at}
 use Rattle.mmu_core.proofs.LeavesOver.{leaf_for}
 use Rattle.mmu_core.specs.View.{View, answer_in, hand_after, stepped}
 pub use Rattle.mmu_core.proofs.LiveStay.{leaf_stays, translations_stay}
 use Rattle.mmu_core.proofs.LiveStays.{MakesParts, access_set_stays}
 use Rattle.mmu_core.proofs.SlotsStay.{is_live_stays}
-use Rattle.mmu_core.proofs.TreeKept.{run_lowest}
 
 -- A step leaves what is cached, or flushes it.
 pub flushed_kept : (P : Translation → Type 0) (k : Kind) (c : Buffer Translation) (v : ℕ) → All P c.items → All P (flushed k c v).items

@@ -11,14 +11,12 @@ use Rattle.spte_words.specs.declared.area.Area.TheVariants as area
 use Rattle.spte_words.specs.declared.spte_kind.SpteKind.TheVariants as entry_kind
 use Rattle.spte_words.specs.Areas.{place as place_of, pool_index, size_of}
 use Rattle.spte_words.specs.Entries.{kind_of}
-use Rattle.spte_words.specs.HostWords.{host_allows_write, host_frame}
 use Rattle.spte_words.proofs.Places.{places_apart}
-use Rattle.spte_words.proofs.ReadsEntries.{kind_of_absent, kind_of_leaf, kind_of_table}
+use Rattle.spte_words.proofs.ReadsEntries.{kind_of_absent, kind_of_table}
 use Rattle.part_steps.specs.declared.part_step.PartStep.{PartStep}
 use Rattle.part_steps.specs.declared.part_step.PartStep.TheVariants as part
 use Rattle.part_steps.specs.PartSteps.{PartNeeds, fill_task, own_index, part_kind, part_task, works}
 use Rattle.part_steps.specs.PartBounds.{PartRests}
-use Rattle.part_steps.specs.SlotWords.{leaf_of, may_write, page_of}
 use Rattle.part_steps.specs.Tasks.{map_of}
 use Rattle.mmu_core.specs.TreePart.{EntryPart, Position, TreePart, Use, at, stands}
 use Rattle.mmu_core.proofs.TreePlaces.{link_stands}

@@ -1,5 +1,5 @@
 -- A fault that runs while all other actors rest never waits and never begins anew.
-use Rattle.std.proofs.Common.{◌≡◌, ◌≢◌, inl, inr, ◌+◌, ◌-◌, ◌*◌, ◌/◌, ◌^◌, ◌<◌, ◌≤◌, ℕ, refl, sym, subst, ap, ◌∙◌, arith, w64}
+use Rattle.std.proofs.Common.{◌≡◌, ◌≢◌, inl, inr, ◌+◌, ◌*◌, ◌/◌, ◌^◌, ◌<◌, ◌≤◌, ℕ, refl, sym, subst, ap, ◌∙◌, arith, w64}
 use Rattle.std.specs.Prelude.{Bool, true, false, ◌==◌, ◌&&◌, nat_lt, not, if◌then◌else◌, Option, Some, None}
 use Rattle.std.proofs.lemmas.Bool.Decides.{nat_tests}
 use Rattle.std.proofs.lemmas.Nat.Bits.{bit_at-trailing_zeros}
@@ -16,7 +16,6 @@ use Rattle.core_views.specs.declared.topics.MapClaim.{MapClaim}
 use Rattle.core_views.specs.declared.topics.OwnedPage.{OwnedPage}
 use Rattle.core_views.specs.declared.topics.Topics.{Topics}
 use Rattle.core_views.specs.Held.{Held}
-use Rattle.core_views.specs.Slots.{contains}
 use Rattle.spte_words.specs.declared.area.Area.{Area}
 use Rattle.spte_words.specs.declared.area.Area.TheVariants as area
 use Rattle.spte_words.specs.declared.spte_kind.SpteKind.{SpteKind}
@@ -37,7 +36,7 @@ use Rattle.part_steps.specs.PartSteps.{IsOver, LookedUp, SawEntry, entry_index, 
 use Rattle.part_steps.specs.PartTopics.{part_topics}
 use Rattle.part_steps.specs.SlotWords.{field_number, leaf_of, may_write, page_of}
 use Rattle.part_steps.specs.TopicSteps.{gone_down, has_writer, is_won, linked_page, may_search}
-use Rattle.mmu_core.specs.TreePart.{EntryPart, IsLeafAt, IsLiveIn, TreePart, at, stands}
+use Rattle.mmu_core.specs.TreePart.{EntryPart, IsLeafAt, TreePart, at, stands}
 use Rattle.mmu_core.proofs.TreePlaces.{all_reached, link_stands}
 use Rattle.mmu_core.specs.View.{answer_in, upd, view, word_in, words_after}
 use Rattle.mmu_core.proofs.AloneLaws.{lock_free}
@@ -46,10 +45,10 @@ use Rattle.mmu_core.proofs.FaultKnown.{allowed_leaf}
 use Rattle.mmu_core.proofs.FaultSame.{both}
 use Rattle.mmu_core.proofs.FindAlone.{find_goes}
 use Rattle.mmu_core.proofs.LeadsDown.{leads_same}
-use Rattle.mmu_core.proofs.LiveStays.{LiveStays, live_in_stays}
+use Rattle.mmu_core.proofs.LiveStays.{LiveStays}
 use Rattle.mmu_core.proofs.PartWords.{entry_leaves, fill_leaves, is_word, walks_elsewhere, walks_unowned}
 use Rattle.mmu_core.proofs.SlotFields.{is_number}
-use Rattle.mmu_core.proofs.TreeKept.{leaf_is, found_live, looked_word, run_lowest}
+use Rattle.mmu_core.proofs.TreeKept.{leaf_is}
 use Rattle.mmu_core.proofs.TreeStored.{entry_stored}
 use Rattle.core_views.specs.declared.topics.Stay.{Stay}
 

@@ -5,7 +5,6 @@ use Rattle.std.specs.Prelude.{Bool, true, false, ◌-◌, ◌==◌, if◌then◌
 use Rattle.core_views.specs.declared.sizes.Sizes.{Sizes}
 use Rattle.core_views.specs.declared.topics.Topics.{Topics}
 use Rattle.core_views.specs.Sizes.{actors_of}
-use Rattle.core_views.specs.Slots.{contains}
 use Rattle.spte_words.specs.declared.area.Area.TheVariants as area
 use Rattle.spte_words.specs.declared.spte_kind.SpteKind.TheVariants as entry_kind
 use Rattle.spte_words.specs.Areas.{pool_index}
@@ -18,12 +17,12 @@ use Rattle.part_steps.specs.declared.part_step.PartStep.{PartStep}
 use Rattle.part_steps.specs.declared.part_step.PartStep.TheVariants as part
 use Rattle.part_steps.specs.PartSteps.{FoundSlot, LookedUp, MayEnter, OwnsTable, entry_index, leaf_written, link_written, page_owned, table_page, word_looked}
 use Rattle.mmu_core.specs.PoolPart.{IsFilled}
-use Rattle.part_steps.specs.SlotWords.{leaf_of, page_of}
+use Rattle.part_steps.specs.SlotWords.{page_of}
 use Rattle.mmu_core.specs.TopicsInvariant.{TopicsInvariant}
 use Rattle.mmu_core.specs.TreePart.{EntryPart, IsLeafAt, IsLiveIn, IsWanted, Position, TreePart, Use, at, is_table, stands}
 use Rattle.mmu_core.specs.TreePart.Use.{Under}
 use Rattle.mmu_core.specs.View.{View, part_stepped, upd}
-use Rattle.mmu_core.proofs.LiveStays.{LiveStays, live_in_stays, part_live_stays}
+use Rattle.mmu_core.proofs.LiveStays.{LiveStays, part_live_stays}
 use Rattle.mmu_core.proofs.PartStepping.{IsPart}
 use Rattle.mmu_core.proofs.PartWords.{IsElsewhere, areas_stay, page_stays, role_stays, left_elsewhere, slots_are, slots_behind}
 use Rattle.mmu_core.proofs.PoolPages.{left_no_table, owned_there, owned_use, table_not_owned, tells}

@@ -5,7 +5,7 @@ use Rattle.spte_words.specs.Areas.{pool_index}
 use Rattle.spte_words.specs.Entries.{absent_word, table_word}
 use Rattle.spte_words.proofs.Indices.{same_pool_word}
 use Rattle.spte_words.proofs.ReadsEntries.{table_not_absent}
-use Rattle.mmu_core.specs.TreePart.{EntryPart, IsLeafAt, IsUnder, IsWanted, Position, TreePart, Use, at, is_table, stands}
+use Rattle.mmu_core.specs.TreePart.{EntryPart, IsUnder, IsWanted, Position, TreePart, Use, at, is_table, stands}
 use Rattle.mmu_core.specs.TreePart.Use.{Root, Under}
 use Rattle.mmu_core.specs.View.{upd}
 use Rattle.mmu_core.proofs.Columns.{same_or, upd_other, upd_same}
