@@ -1,4 +1,4 @@
-ghost use Rattle.std.specs.Prelude.{◌≡◌, ◌<◌, IfSome};
+ghost use Rattle.std.specs.Prelude.{◌≡◌, ◌<◌};
 ghost use Rattle.core_views.specs.declared.topics.Stay.TheVariants.{Outside, Section};
 ghost use Rattle.grace_period.specs.Sections.{IsTold, IsUntold};
 ghost use Rattle.mmu_core.specs.MayMake.{MayMake};

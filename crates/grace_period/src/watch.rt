@@ -1,4 +1,4 @@
-ghost use Rattle.std.specs.Prelude.{◌≡◌, ◌<◌, true, false, IfSome};
+ghost use Rattle.std.specs.Prelude.{◌≡◌, ◌<◌, true, false};
 ghost use Rattle.grace_period.specs.Watches.{IsFoundBy, Watched, actors_left, is_done, looked_at, waits};
 ghost use Rattle.mmu_core.specs.OthersRest.{OthersRest};
 ghost use Rattle.mmu_core.specs.MayMake.{MayMake};

@@ -1,4 +1,4 @@
-ghost use Rattle.std.specs.Prelude.{◌≡◌, ◌<◌, true, IfSome, is_some};
+ghost use Rattle.std.specs.Prelude.{◌≡◌, ◌<◌, true, is_some};
 ghost use Rattle.mmu_core.specs.MayMake.{MayMake};
 ghost use Rattle.part_steps.specs.TopicSteps.{has_lock};
 ghost use Rattle.mmu_core.specs.View.{word_in};

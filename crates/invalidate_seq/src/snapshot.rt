@@ -1,4 +1,4 @@
-ghost use Rattle.std.specs.Prelude.{◌≡◌, ◌<◌, Some, IfSome};
+ghost use Rattle.std.specs.Prelude.{◌≡◌, ◌<◌, Some};
 ghost use Rattle.core_views.specs.declared.topics.Hold.TheVariants.{Loose};
 ghost use Rattle.mmu_core.specs.MayMake.{MayMake};
 ghost use Rattle.mmu_core.specs.View.{word_in};

@@ -1,4 +1,4 @@
-ghost use Rattle.std.specs.Prelude.{◌≡◌, ◌<◌, ◌≤◌, true, false, Some, IfSome};
+ghost use Rattle.std.specs.Prelude.{◌≡◌, ◌<◌, ◌≤◌, true, false, Some};
 ghost use Rattle.core_views.specs.declared.place.SlotField.TheVariants.{Host};
 ghost use Rattle.mmu_core.specs.MayMake.{MayMake};
 ghost use Rattle.part_steps.specs.TopicSteps.{may_search};

@@ -1,4 +1,4 @@
-ghost use Rattle.std.specs.Prelude.{◌≡◌, ◌<◌, ◌≤◌, ◌^◌, true, IfSome};
+ghost use Rattle.std.specs.Prelude.{◌≡◌, ◌<◌, ◌≤◌, ◌^◌, true};
 ghost use Rattle.core_views.specs.declared.topics.Hold.TheVariants.{Loose, Shared, Exclusive};
 ghost use Rattle.mmu_core.specs.OthersRest.{NoOtherHasLock, NoneHasLockAlone, OthersRest};
 ghost use Rattle.mmu_core.specs.MayMake.{MayMake};

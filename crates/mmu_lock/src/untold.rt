@@ -1,6 +1,6 @@
 //! A seat at a machine that tells no world, and the lock taken through it: what a
 //! part says of the told world it says of some possible world here.
-ghost use Rattle.std.specs.Prelude.{◌≡◌, ◌<◌, ℕ, None};
+ghost use Rattle.std.specs.Prelude.{◌≡◌, ◌<◌, None};
 ghost use Rattle.core_views.specs.Held.{Held};
 ghost use Rattle.mmu_core.specs.Enabled.{mmu};
 ghost use Rattle.mmu_core.specs.Machine.{World, effect};

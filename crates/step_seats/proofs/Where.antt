@@ -12,7 +12,7 @@ use Rattle.mmu_core.specs.Steps.{next}
 use Rattle.mmu_core.proofs.Extend.{goes_on, hands_of_effect}
 use Rattle.mmu_core.proofs.LineRuns.{own_hand}
 use Rattle.step_seats.specs.Moves.{Tells, step_by}
-use Rattle.step_seats.specs.PartTurns.{MadePart, WherePartMade}
+use Rattle.step_seats.specs.PartTurns.{MadePart}
 use Rattle.step_seats.specs.Where.{AnsweredThere, HasHand, IsMadeIn, OfWorld, Told, WhereMade}
 
 pub of_world : (told : Option (World Held)) (P Q : World Held → Type 0) → ((w : World Held) → P w → Q w) → OfWorld told P → OfWorld told Q

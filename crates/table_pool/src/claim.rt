@@ -1,4 +1,4 @@
-ghost use Rattle.std.specs.Prelude.{◌≡◌, ◌≢◌, ◌<◌, ℕ, true, false, None, IfSome};
+ghost use Rattle.std.specs.Prelude.{◌≡◌, ◌≢◌, ◌<◌, ℕ, true, false, None};
 ghost use Rattle.core_views.specs.declared.hand.Seen.{Seen};
 ghost use Rattle.mmu_core.specs.MayMake.{MayMake};
 ghost use Rattle.mmu_core.specs.Steps.{has_line};

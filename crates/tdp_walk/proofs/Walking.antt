@@ -21,7 +21,7 @@ use Rattle.tdp_walk.specs.declared.walk.Walk.{Walk}
 use Rattle.tdp_walk.specs.Walks.{GoesDown, StandsAtRoot, StopsAt, found_last, walk_step, word_next}
 use Rattle.mmu_core.proofs.HeldKept.{page_below}
 use Rattle.step_seats.proofs.Where.{only, where_made}
-use Rattle.step_seats.proofs.Found.{Answers, found_told}
+use Rattle.step_seats.proofs.Found.{found_told}
 use Rattle.mmu_core.specs.Machine.{World}
 
 -- At level 1 no entry is a link.

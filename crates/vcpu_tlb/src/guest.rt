@@ -1,4 +1,4 @@
-ghost use Rattle.std.specs.Prelude.{◌≡◌, ◌+◌, ◌%◌, ◌<◌, ◌==◌, not, IfSome};
+ghost use Rattle.std.specs.Prelude.{◌≡◌, ◌+◌, ◌%◌, ◌<◌, ◌==◌, not};
 ghost use Rattle.core_views.specs.declared.topics.Stay.TheVariants as Stay;
 ghost use Rattle.mmu_core.specs.Cached.{asks_flush};
 ghost use Rattle.mmu_core.specs.MayMake.{MayMake};
