@@ -150,12 +150,7 @@ fn trace(alloc: Global, pool: u32, gfn: u64) -> Result<Trace, NoMemory>
     Ok(Trace::unscheduled(
         alloc,
         header(alloc, pool)?,
-        Lines::from_vec(vec![in alloc;
-            setting(),
-            reading(gfn),
-            writing(4, gfn),
-            writing(5, 4),
-        ]?),
+        Lines::from_vec(vec![in alloc; setting(), reading(gfn), writing(4, gfn), writing(5, 4)]?),
     ))
 }
 
@@ -216,7 +211,8 @@ fn run<S: Stepper>(s: &mut S, stops: bool) -> Result<(u64, Turn<Faulted>), Fail>
             return Ok((turns, Turn::More));
         }
         job.may_turn(s.hand());
-        let last = job.turn(s, access_note(AccessPlace::Fault(job.place)));
+        let note = access_note(AccessPlace::Fault(job.place));
+        let last = job.turn(s, note);
         if matches!(last, Turn::Retry(_) | Turn::Done(_)) {
             return Ok((turns + 1, last));
         }
@@ -236,11 +232,7 @@ fn leave_the_guest(machine: &mut PlainMachine, vcpu: u8) -> Result<(), Fail> {
 }
 
 // The turns of the next fault of a processor of the machine.
-fn fault(
-    machine: &mut PlainMachine,
-    vcpu: u8,
-    stops: bool,
-) -> Result<(u64, Turn<Faulted>), Fail> {
+fn fault(machine: &mut PlainMachine, vcpu: u8, stops: bool) -> Result<(u64, Turn<Faulted>), Fail> {
     let actor = Actor::Vcpu(vcpu);
     expect_actor(machine, actor)?;
     let mut seat = machine.as_actor(actor);
@@ -315,10 +307,7 @@ fn starves_where_no_page_is_free(rt: HostRuntime) -> Result<(), Fail> {
 #[test]
 fn loses_its_link(rt: HostRuntime) -> Result<(), Fail> {
     let mut machine = start(rt.alloc(), &trace(rt.alloc(), 8, 5)?)?;
-    assert_eq!(rt;
-        fault(&mut machine, 0, true)?,
-        (12 + 516, Turn::More)
-    );
+    assert_eq!(rt; fault(&mut machine, 0, true)?, (12 + 516, Turn::More));
     assert_eq!(rt;
         fault(&mut machine, 1, false)?,
         (12 + 3 * 517 + 4, Turn::Done(Faulted::Installed))
