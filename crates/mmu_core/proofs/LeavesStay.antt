@@ -51,6 +51,9 @@ use Rattle.mmu_core.proofs.Standing.{entry_now}
 use Rattle.mmu_core.proofs.Stepping.{IsStep}
 use Rattle.mmu_core.proofs.SumsBelow.{upd_id}
 use Rattle.mmu_core.proofs.TreeKept.{absent_entry, found_live, looked_word}
+use Rattle.part_steps.specs.declared.task.Task.{Task}
+use Rattle.mmu_core.specs.PartAt.{task_at}
+use Rattle.mmu_core.proofs.StepIn.{StepIn, step_in, Makes, Touches}
 use Rattle.mmu_core.proofs.Worlds.{Takes, TakesPart, good_step, takes, view_small}
 
 -- What was in an entry of a table is there still, or it was absent; and the root is the same.
@@ -165,12 +168,12 @@ touch_links_stay stands words Read i = record { entries = λ k p is j low. inl r
 touch_links_stay stands words _ i = record { entries = λ k p is j low. inl refl; root = refl }
 
 -- a step of a line
+links_by : (z : Sizes) (v : View) (a : ℕ) (task : Task) → StepIn z v a task → Invariant z v → (I : TopicsInvariant z v) → LinksStay I.stands v.words (words_after task v.words)
+links_by z v a _ (Makes step note S) J I = part_links_stay z v a step note S J I
+links_by z v a _ (Touches op index) J I = touch_links_stay I.stands v.words op index
+
 line_links_stay : (z : Sizes) (v : View) (a : ℕ) (line : Line) (command : Command) (p : Place) → AreSmall v → IsStep z v a line command p → Invariant z v → (I : TopicsInvariant z v) → LinksStay I.stands v.words (stepped a line command p v).words
-line_links_stay z v a line command place.Between small S J I = absurd S.begun
-line_links_stay z v a line (Access gfn word op) (place.Access p) small S J I =
-    behind_access (λ words. LinksStay I.stands v.words words) v a line p gfn word op (λ step note is. part_links_stay z v a step note (makes_parts z v a line p gfn word op small S J I step is) J I) (λ index. touch_links_stay I.stands v.words op index)
-line_links_stay z v a line (SetSlot id slot) (place.SetSlot p) small S J I = part_links_stay z v a (set_slot_part p (v.hand a) id slot) (set_slot_note p (v.hand a)) (makes_setting z v a line p id slot small S J I) J I
-line_links_stay z v a line _ _ small S J I = absurd S.holds
+line_links_stay z v a line command p small S J I = links_by z v a (task_at p command (v.hand a)) (step_in z v a line command p small S J I) J I
 
 -- ---- from world to world
 
