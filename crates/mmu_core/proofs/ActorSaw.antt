@@ -8,7 +8,6 @@ use Rattle.core_views.specs.declared.kind.StepKind.TheVariants as kind
 use Rattle.core_views.specs.declared.sizes.Sizes.{Sizes}
 use Rattle.core_views.specs.declared.topics.Checked.{Checked}
 use Rattle.core_views.specs.declared.topics.Checked.TheVariants as checked
-use Rattle.core_views.specs.declared.topics.Hold.{Hold}
 use Rattle.core_views.specs.declared.topics.Hold.TheVariants.{Loose, Shared, Owing, Exclusive}
 use Rattle.core_views.specs.declared.topics.Topics.{Topics}
 use Rattle.core_views.specs.declared.trace.Line.{Line}
@@ -27,9 +26,8 @@ use Rattle.part_steps.specs.TopicSteps.{has_writer, is_won, range_checked, seq_c
 use Rattle.mmu_core.specs.Causes.{Finds}
 use Rattle.mmu_core.specs.Enabled.{mmu}
 use Rattle.mmu_core.specs.Laws.{IsSound}
-use Rattle.mmu_core.specs.Machine.{Legal, May, Step, World, answered, effect, found, hand_in, run}
+use Rattle.mmu_core.specs.Machine.{Legal, May, Step, World, answered, effect, hand_in, run}
 use Rattle.mmu_core.specs.PartWaits.{was_counted}
-use Rattle.mmu_core.specs.Steps.{next}
 use Rattle.mmu_core.specs.Waits.{FindsWriter, FoundCount, FoundWriter, IsOffWord, count_word, lock_word, pool_word}
 use Rattle.mmu_core.specs.Worlds.{IsStart}
 use Rattle.mmu_core.proofs.Changes.{Knows, knows_longer, made_longer, made_now, of_each_list}

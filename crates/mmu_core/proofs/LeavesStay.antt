@@ -4,11 +4,9 @@ use Rattle.std.specs.Prelude.{Bool, true, false, ◌-◌, ◌==◌, if◌then◌
 use Rattle.std.proofs.lemmas.Bool.Decides.{nat_tests}
 use Rattle.core_views.specs.declared.kind.Kind.{Kind}
 use Rattle.core_views.specs.declared.place.Place.{Place}
-use Rattle.core_views.specs.declared.place.Place.TheVariants as place
 use Rattle.core_views.specs.declared.sizes.Sizes.{Sizes}
 use Rattle.core_views.specs.declared.topics.Topics.{Topics}
 use Rattle.core_views.specs.declared.trace.Command.{Command}
-use Rattle.core_views.specs.declared.trace.Command.TheVariants.{Access, SetSlot}
 use Rattle.core_views.specs.declared.trace.Line.{Line}
 use Rattle.core_views.specs.declared.trace.Slot.{Slot}
 use Rattle.core_views.specs.declared.trace.Op.{Op}
@@ -32,18 +30,16 @@ use Rattle.mmu_core.specs.Invariant.{Invariant, IsLeafFor}
 use Rattle.mmu_core.specs.Laws.{IsSound}
 use Rattle.mmu_core.specs.Machine.{Legal, May, Step, World, effect, hand_in, run}
 use Rattle.part_steps.specs.PartSteps.{MayEnter, entry_index, leaf_written, link_written, table_page}
-use Rattle.mmu_core.specs.SetSlotSteps.{set_slot_note, set_slot_part}
 use Rattle.part_steps.specs.SlotWords.{leaf_of, page_of, slot_at}
 use Rattle.mmu_core.specs.Steps.{line_at, place_at}
 use Rattle.mmu_core.specs.TopicsInvariant.{TopicsInvariant}
 use Rattle.part_steps.specs.TopicSteps.{linked_page}
 use Rattle.mmu_core.specs.TreePart.{EntryPart, IsLiveIn, Position, TreePart, at}
 use Rattle.mmu_core.specs.View.{View, part_stepped, stepped, upd, view, word_in, words_after}
-use Rattle.mmu_core.proofs.AccessParts.{AreSmall, makes_parts, makes_setting}
+use Rattle.mmu_core.proofs.AccessParts.{AreSmall}
 use Rattle.mmu_core.proofs.CachedKept.{leaf_at}
 use Rattle.mmu_core.proofs.Columns.{same_or, upd_other, upd_same}
 use Rattle.mmu_core.proofs.LeadsDown.{below_stands}
-use Rattle.mmu_core.proofs.LiveStays.{behind_access}
 use Rattle.mmu_core.proofs.PartStepping.{IsPart}
 use Rattle.mmu_core.proofs.PartWords.{areas_stay, left_elsewhere, page_stays}
 use Rattle.mmu_core.proofs.PoolPages.{left_no_table, table_not_owned}

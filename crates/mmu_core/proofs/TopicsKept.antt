@@ -1,33 +1,25 @@
 -- Each step keeps what holds of the machine's parts.
 use Rattle.std.proofs.Common.{◌≡◌, ℕ, refl}
-use Rattle.std.specs.Prelude.{Bool, true, false, ◌==◌, if◌then◌else◌, Option, Some, None}
-use Rattle.core_views.specs.declared.place.AccessPlace.{AccessPlace}
+use Rattle.std.specs.Prelude.{Bool, true, false, ◌==◌, if◌then◌else◌}
 use Rattle.core_views.specs.declared.place.Place.{Place}
-use Rattle.core_views.specs.declared.place.Place.TheVariants as place
-use Rattle.core_views.specs.declared.place.SetSlotPlace.{SetSlotPlace}
 use Rattle.core_views.specs.declared.sizes.Sizes.{Sizes}
 use Rattle.core_views.specs.declared.trace.Command.{Command}
-use Rattle.core_views.specs.declared.trace.Command.TheVariants.{Access, SetSlot}
 use Rattle.core_views.specs.declared.trace.Line.{Line}
 use Rattle.core_views.specs.declared.trace.Op.{Op}
 use Rattle.core_views.specs.declared.trace.Op.TheVariants.{Read}
-use Rattle.core_views.specs.declared.trace.Slot.{Slot}
 use Rattle.core_views.specs.Held.{Held}
-use Rattle.spte_words.specs.Areas.{content_index}
-use Rattle.spte_words.specs.Entries.{frame_in}
 use Rattle.part_steps.specs.declared.task.Task.{Task}
 use Rattle.part_steps.specs.declared.part_step.PartStep.{PartStep}
-use Rattle.mmu_core.specs.AccessSteps.{access_note, access_part, access_task, task_by, touch_of}
+use Rattle.mmu_core.specs.AccessSteps.{touch_of}
 use Rattle.mmu_core.specs.Invariant.{Invariant}
 use Rattle.mmu_core.specs.Steps.{idle_after, task_at}
-use Rattle.part_steps.specs.Tasks.{kind_of_task, map_of}
+use Rattle.part_steps.specs.Tasks.{kind_of_task}
 use Rattle.part_steps.specs.TopicSteps.{topics_after}
 use Rattle.mmu_core.specs.TopicsInvariant.{TopicsInvariant}
 use Rattle.mmu_core.specs.View.{View, answer_in, hand_after, part_stepped, stepped, upd, words_after}
 use Rattle.mmu_core.proofs.AccessParts.{AreSmall}
 use Rattle.mmu_core.proofs.FilledKept.{filled_kept}
 use Rattle.mmu_core.proofs.HeldKept.{counters_kept, held_kept}
-use Rattle.mmu_core.proofs.LiveStays.{MakesParts}
 use Rattle.mmu_core.proofs.LockKept.{lock_kept}
 use Rattle.mmu_core.proofs.PoolKept.{pool_kept}
 use Rattle.mmu_core.proofs.SameTopics.{same_topics}
@@ -40,7 +32,6 @@ use Rattle.mmu_core.proofs.TreeKept.{tree_kept}
 use Rattle.mmu_core.proofs.PartStepping.{IsPart}
 use Rattle.mmu_core.proofs.StepIn.{StepIn, step_in, Makes, Touches}
 use Rattle.mmu_core.proofs.Stepping.{IsStep}
-use Rattle.mmu_core.specs.SetSlotSteps.{set_slot_note, set_slot_part, set_slot_task}
 use Rattle.mmu_core.proofs.OldSets.{old_sets_kept}
 use Rattle.mmu_core.proofs.SetsKept.{sets_kept}
 

@@ -1,5 +1,3 @@
-use Rattle.mmu_core.specs.Enabled.{mmu}
-use Rattle.mmu_core.specs.Machine.{run}
 use Rattle.std.proofs.Common.{[], ◌∷◌, ◌++◌}
 use Rattle.mmu_core.proofs.Causes.{faults_begin_anew_by_cause}
 use Rattle.mmu_core.proofs.EveryHistory.{every_history}
@@ -13,7 +11,7 @@ use Rattle.core_theorem.proofs.Holdings.{held_sets_are_known, none_holds_free_pa
 use Rattle.core_theorem.proofs.LineTurns.{lines_make_few_steps}
 use Rattle.core_theorem.proofs.Turns.{counts_are_few, steps_are_few}
 use Rattle.core_theorem.proofs.Pages.{pages_are_used}
-use Rattle.core_theorem.proofs.Runs.{before, last_actor, sound, starts_between}
+use Rattle.core_theorem.proofs.Runs.{before, sound, starts_between}
 use Rattle.core_theorem.proofs.WalksKept.{held_leaves_are_linked, walks_hold_tables}
 use Rattle.core_theorem.proofs.every_run.Goals as goal
 
