@@ -84,7 +84,7 @@ pub record FindsOtherInside (z : Sizes) (w : World Held) (s : Step Kind) : Type 
   pub tells : in_section (found mmu w s.kind) ≡ true
   pub inside : (hand_in mmu w other).topics.stay ≢ Outside
 
--- Why a step of a part waits, that is made behind these steps: its actor found a writer with the try for the lock that it takes back; the page that it
+-- Why a step of a part waits, that is made after these steps: its actor found a writer with the try for the lock that it takes back; the page that it
 -- tries was taken; it finds the lock taken; it gives the lock back, under which its actor found invalidations open; or it finds another actor in the
 -- guest or in a section.
 abbrev pub StepWaitIsCaused : PartStep → Sizes → World Held → List (Step Kind) → Step Kind → Type 0
