@@ -8,7 +8,6 @@ use Rattle.core_views.specs.declared.kind.StepKind.TheVariants as kind
 use Rattle.core_views.specs.declared.sizes.Sizes.{Sizes}
 use Rattle.core_views.specs.declared.topics.Checked.{Checked}
 use Rattle.core_views.specs.declared.topics.Checked.TheVariants as checked
-use Rattle.core_views.specs.declared.topics.Hold.{Hold}
 use Rattle.core_views.specs.declared.topics.Hold.TheVariants.{Loose, Shared, Owing, Exclusive}
 use Rattle.core_views.specs.declared.topics.Topics.{Topics}
 use Rattle.core_views.specs.declared.trace.Line.{Line}
@@ -27,9 +26,8 @@ use Rattle.part_steps.specs.TopicSteps.{has_writer, is_won, range_checked, seq_c
 use Rattle.mmu_core.specs.Causes.{Finds}
 use Rattle.mmu_core.specs.Enabled.{mmu}
 use Rattle.mmu_core.specs.Laws.{IsSound}
-use Rattle.mmu_core.specs.Machine.{Legal, May, Step, World, answered, effect, found, hand_in, run}
+use Rattle.mmu_core.specs.Machine.{Legal, May, Step, World, answered, effect, hand_in, run}
 use Rattle.mmu_core.specs.PartWaits.{was_counted}
-use Rattle.mmu_core.specs.Steps.{next}
 use Rattle.mmu_core.specs.Waits.{FindsWriter, FoundCount, FoundWriter, IsOffWord, count_word, lock_word, pool_word}
 use Rattle.mmu_core.specs.Worlds.{IsStart}
 use Rattle.mmu_core.proofs.Changes.{Knows, knows_longer, made_longer, made_now, of_each_list}
@@ -51,7 +49,7 @@ pub record ActorSaw (z : Sizes) (w : World Held) (actor : ℕ) (t : Topics) (ss 
   pub claim : 0 < t.claim.seen → Knows (IsOffWord actor (pool_word z t.claim.at)) actor (pool_word z t.claim.at) t.claim.seen w ss u
   pub alone : 0 < t.claim.seen → t.claim.at < words_of_bits z.pool
 
--- Behind a load of the range or of the sequence number the check is further than the count, or begins anew.
+-- After a load of the range or of the sequence number the check is further than the count, or begins anew.
 start_no_count : (c : Checked) → was_counted (start_checked c) ≡ true → ⊥
 start_no_count checked.Count is = cc is
 start_no_count _ is = cc is
@@ -131,7 +129,7 @@ module _ (z : Sizes) (w : World Held) (ss : List (Step Kind)) (s : Step Kind) (G
       let off : s.kind.word ≢ pool_word z t.claim.at = off_word step M area.PoolMap t.claim.at (S.alone some) apart in
       knows_longer (IsOffWord a (pool_word z t.claim.at)) a (pool_word z t.claim.at) t.claim.seen w ss s may (λ mine. off) (λ mine at. absurd (off at)) (S.claim some)
 
-  -- ---- what an actor has seen behind a step of a part
+  -- ---- what an actor has seen after a step of a part
 
   shared_saw : (found_one : Bool) → has_writer v ≡ found_one → Made part.Share → (word : ℕ) → (if found_one then Owing v else Shared) ≡ Owing word → FoundWriter z a word w Behind
   shared_saw true tells M word is =
@@ -197,7 +195,7 @@ module _ (z : Sizes) (w : World Held) (ss : List (Step Kind)) (s : Step Kind) (G
   part_saw : (step : PartStep) → Made step → SeesHere t → SeesBehind (part_topics step t v)
   part_saw step M S = record { owing = owing_saw step M S; counted = counted_saw step M S; claim = claim_saw step M S; alone = low_saw step M S }
 
-  -- ---- and behind a touch, and another actor's step
+  -- ---- and after a touch, and another actor's step
 
   far : (b : Area) (i : ℕ) → number_of b < number_of area.Content → i < size_of (map_of z) b → place (map_of z) area.Content 0 ≤ s.kind.word → s.kind.word ≢ place (map_of z) b i
   far b i before inside from at =
@@ -223,7 +221,7 @@ module _ (z : Sizes) (w : World Held) (ss : List (Step Kind)) (s : Step Kind) (G
   touch_saw from S =
       same_saw a t (λ word is mine at. far area.Lock 0 (omega arith) (omega arith) from (at ∙ is)) (λ mine. far area.Count 0 (omega arith) (omega arith) from) (λ i low mine. far area.PoolMap i (omega arith) low from) S
 
-  -- ---- behind each step
+  -- ---- after each step
 
   abbrev HandSaw : ℕ → List (Step Kind) → World Held → Type 0
   HandSaw actor ts x = ActorSaw z w actor (hand_in mmu x actor).topics ts x
@@ -251,7 +249,7 @@ module _ (z : Sizes) (w : World Held) (ss : List (Step Kind)) (s : Step Kind) (G
 first_saw : (z : Sizes) (w : World Held) (actor : ℕ) → ActorSaw z w actor first_topics [] w
 first_saw z w actor = record { owing = λ word is. absurd (cc is); counted = λ is. absurd (cc is); claim = λ some. absurd (omega (arith, some)); alone = λ some. absurd (omega (arith, some)) }
 
--- From a start: so it is with each actor, behind every list of steps.
+-- From a start: so it is with each actor, after every list of steps.
 pub actor_saw : (z : Sizes) (lines : List Line) (w : World Held) (ss : List (Step Kind)) (actor : ℕ) → IsStart z lines w → Legal mmu w ss → actor < actors_of z
     → ActorSaw z w actor (hand_in mmu (run mmu w ss) actor).topics ss (run mmu w ss)
 actor_saw z lines w ss actor start legal there =

@@ -1,25 +1,20 @@
 -- What a hand must have for a step, and what its fields are behind it.
 use Rattle.std.proofs.Math.Nat.{div-le_self}
 use Rattle.std.proofs.Common.{◌≡◌, ◌<◌, ◌≤◌, ◌^◌, ◌⊎◌, inl, inr, ℕ, zero, suc, List, [], ◌∷◌, length, refl, sym, subst, ap, ◌∙◌, arith}
-use Rattle.std.specs.Prelude.{Bool, true, false, ◌==◌, Some, None, Option, is_some, slice_get, if◌then◌else◌}
+use Rattle.std.specs.Prelude.{Bool, true, false, ◌==◌, Some, None, is_some, slice_get, if◌then◌else◌}
 use Rattle.core_views.specs.declared.kind.Kind.{Kind}
 use Rattle.core_views.specs.declared.kind.StepKind.{StepKind}
 use Rattle.core_views.specs.declared.kind.StepKind.TheVariants as kind
 use Rattle.core_views.specs.declared.place.Place.{Place}
-use Rattle.core_views.specs.declared.place.Place.TheVariants as place
-use Rattle.core_views.specs.declared.place.SetSlotPlace.{SetSlotPlace}
 use Rattle.core_views.specs.declared.topics.OwnedPage.{OwnedPage}
 use Rattle.core_views.specs.declared.topics.TableWalk.{TableWalk}
 use Rattle.core_views.specs.declared.topics.Topics.{Topics}
 use Rattle.core_views.specs.declared.trace.Command.{Command}
-use Rattle.core_views.specs.declared.trace.Command.TheVariants.{Access, SetSlot}
 use Rattle.core_views.specs.declared.trace.Line.{Line}
 use Rattle.core_views.specs.declared.trace.Op.{Op}
 use Rattle.core_views.specs.declared.trace.Op.TheVariants.{Read}
-use Rattle.core_views.specs.declared.trace.Slot.{Slot as SlotOf}
 use Rattle.part_steps.specs.declared.task.Task.{Task}
-use Rattle.mmu_core.specs.AccessSteps.{access_note, access_part, task_by, touch_of}
-use Rattle.mmu_core.specs.SetSlotSteps.{set_slot_task, set_slot_note, set_slot_part}
+use Rattle.mmu_core.specs.AccessSteps.{touch_of}
 use Rattle.std.proofs.lemmas.Bool.Decides.{nat_tests}
 use Rattle.core_views.specs.Held.{Held}
 use Rattle.core_views.specs.Kinds.{code_of, kind_named}
@@ -30,7 +25,7 @@ use Rattle.part_steps.specs.declared.part_step.PartStep.TheVariants as part
 use Rattle.mmu_core.specs.Enabled.{Enabled, IsNext, IsPartStep}
 use Rattle.spte_words.specs.Entries.{level_span}
 use Rattle.part_steps.specs.PartSteps.{IsOver, HasToFill, PartNeeds, own_index, part_task, words_filled}
-use Rattle.mmu_core.specs.Rests.{AcceptsAt, Rests, RestsAt, RestsOn}
+use Rattle.mmu_core.specs.Rests.{AcceptsAt, Rests, RestsAt}
 use Rattle.mmu_core.specs.Cached.{flushed}
 use Rattle.part_steps.specs.PartBounds.{PartRests}
 use Rattle.core_views.specs.declared.sizes.Sizes.{Sizes}

@@ -1,30 +1,24 @@
 -- An actor that has a line left may make a step.
-use Rattle.std.specs.Prelude.{Option, Some, None}
 use Rattle.std.proofs.Common.{◌≡◌, ◌^◌, ◌<◌, ℕ, sym, subst, ap, arith}
-use Rattle.core_views.specs.declared.actor.Actor.{Actor}
 use Rattle.core_views.specs.declared.place.Place.{Place}
-use Rattle.core_views.specs.declared.place.Place.TheVariants as place
 use Rattle.core_views.specs.declared.sizes.Sizes.{Sizes}
 use Rattle.core_views.specs.declared.trace.Command.{Command}
-use Rattle.core_views.specs.declared.trace.Command.TheVariants.{Access, SetSlot}
+use Rattle.core_views.specs.declared.trace.Command.TheVariants.{Access}
 use Rattle.core_views.specs.declared.trace.Line.{Line}
 use Rattle.core_views.specs.declared.trace.Op.{Op}
 use Rattle.core_views.specs.declared.trace.Op.TheVariants.{Read}
 use Rattle.core_views.specs.Held.{Held}
 use Rattle.core_views.specs.Sizes.{actors_of}
-use Rattle.core_views.specs.Traces.{IsCommandFor}
 use Rattle.spte_words.specs.Areas.{place as word_place, size_of, total}
 use Rattle.spte_words.proofs.Places.{place_below}
-use Rattle.mmu_core.specs.AccessSteps.{access_note, access_part, task_by, touch_of}
+use Rattle.mmu_core.specs.AccessSteps.{touch_of}
 use Rattle.mmu_core.specs.Enabled.{mmu}
 use Rattle.mmu_core.specs.Example.{HasLine, WritesOneWord, next_step}
 use Rattle.mmu_core.specs.Laws.{IsSound}
-use Rattle.part_steps.specs.declared.part_step.PartStep.{PartStep}
 use Rattle.part_steps.specs.PartBounds.{PartRests}
 use Rattle.mmu_core.proofs.PartFits.{part_small}
 use Rattle.mmu_core.specs.Machine.{May, World, hand_in}
-use Rattle.mmu_core.specs.Rests.{Rests, RestsAt, RestsOn}
-use Rattle.mmu_core.specs.SetSlotSteps.{set_slot_note, set_slot_part}
+use Rattle.mmu_core.specs.Rests.{Rests, RestsAt}
 use Rattle.mmu_core.specs.Steps.{line_at, place_at, task_at, task_of}
 use Rattle.part_steps.specs.Tasks.{kind_of_task, map_of}
 use Rattle.mmu_core.specs.View.{view}

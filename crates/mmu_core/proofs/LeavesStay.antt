@@ -4,11 +4,9 @@ use Rattle.std.specs.Prelude.{Bool, true, false, ◌-◌, ◌==◌, if◌then◌
 use Rattle.std.proofs.lemmas.Bool.Decides.{nat_tests}
 use Rattle.core_views.specs.declared.kind.Kind.{Kind}
 use Rattle.core_views.specs.declared.place.Place.{Place}
-use Rattle.core_views.specs.declared.place.Place.TheVariants as place
 use Rattle.core_views.specs.declared.sizes.Sizes.{Sizes}
 use Rattle.core_views.specs.declared.topics.Topics.{Topics}
 use Rattle.core_views.specs.declared.trace.Command.{Command}
-use Rattle.core_views.specs.declared.trace.Command.TheVariants.{Access, SetSlot}
 use Rattle.core_views.specs.declared.trace.Line.{Line}
 use Rattle.core_views.specs.declared.trace.Slot.{Slot}
 use Rattle.core_views.specs.declared.trace.Op.{Op}
@@ -31,7 +29,6 @@ use Rattle.mmu_core.specs.Invariant.{Invariant, IsLeafFor}
 use Rattle.mmu_core.specs.Laws.{IsSound}
 use Rattle.mmu_core.specs.Machine.{Legal, May, Step, World, effect, hand_in, run}
 use Rattle.part_steps.specs.PartSteps.{MayEnter, entry_index, leaf_written, link_written, table_page}
-use Rattle.mmu_core.specs.SetSlotSteps.{set_slot_note, set_slot_part}
 use Rattle.part_steps.specs.SlotWords.{leaf_of, page_of, slot_at}
 use Rattle.mmu_core.specs.Steps.{line_at, place_at}
 use Rattle.mmu_core.specs.TopicsInvariant.{TopicsInvariant}
@@ -39,11 +36,10 @@ use Rattle.part_steps.specs.TopicSteps.{linked_page}
 use Rattle.mmu_core.specs.TreePart.{EntryPart, IsLiveIn, Position, TreePart, at, Use, stands}
 use Rattle.mmu_core.proofs.TreePlaces.{root_stands}
 use Rattle.mmu_core.specs.View.{View, part_stepped, stepped, upd, view, word_in, words_after}
-use Rattle.mmu_core.proofs.AccessParts.{AreSmall, makes_parts, makes_setting}
+use Rattle.mmu_core.proofs.AccessParts.{AreSmall}
 use Rattle.mmu_core.proofs.LeavesOver.{leaf_for}
 use Rattle.mmu_core.proofs.Columns.{same_or, upd_other, upd_same}
 use Rattle.mmu_core.proofs.LeadsDown.{below_stands}
-use Rattle.mmu_core.proofs.LiveStays.{behind_access}
 use Rattle.mmu_core.proofs.PartStepping.{IsPart}
 use Rattle.mmu_core.proofs.PartWords.{areas_stay, left_elsewhere, page_stays}
 use Rattle.mmu_core.proofs.PoolPages.{left_no_table, table_not_owned}
@@ -51,6 +47,9 @@ use Rattle.mmu_core.proofs.Standing.{entry_now}
 use Rattle.mmu_core.proofs.Stepping.{IsStep}
 use Rattle.mmu_core.proofs.SumsBelow.{upd_id}
 use Rattle.mmu_core.proofs.TreeKept.{absent_entry, found_live, looked_word}
+use Rattle.part_steps.specs.declared.task.Task.{Task}
+use Rattle.mmu_core.specs.PartAt.{task_at}
+use Rattle.mmu_core.proofs.StepIn.{StepIn, step_in, Makes, Touches}
 use Rattle.mmu_core.proofs.Worlds.{Takes, TakesPart, good_step, takes, view_small}
 
 -- What was in an entry of a table is there still, or it was absent; and the root is the same.
@@ -165,12 +164,12 @@ touch_links_stay stands words Read i = record { entries = λ k p is j low. inl r
 touch_links_stay stands words _ i = record { entries = λ k p is j low. inl refl; root = refl }
 
 -- a step of a line
+links_by : (z : Sizes) (v : View) (a : ℕ) (task : Task) → StepIn z v a task → Invariant z v → (I : TopicsInvariant z v) → LinksStay (stands I.up I.spot) v.words (words_after task v.words)
+links_by z v a _ (Makes step note S) J I = part_links_stay z v a step note S J I
+links_by z v a _ (Touches op index) J I = touch_links_stay (stands I.up I.spot) v.words op index
+
 line_links_stay : (z : Sizes) (v : View) (a : ℕ) (line : Line) (command : Command) (p : Place) → AreSmall v → IsStep z v a line command p → Invariant z v → (I : TopicsInvariant z v) → LinksStay (stands I.up I.spot) v.words (stepped a line command p v).words
-line_links_stay z v a line command place.Between small S J I = absurd S.begun
-line_links_stay z v a line (Access gfn word op) (place.Access p) small S J I =
-    behind_access (λ words. LinksStay (stands I.up I.spot) v.words words) v a line p gfn word op (λ step note is. part_links_stay z v a step note (makes_parts z v a line p gfn word op small S J I step is) J I) (λ index. touch_links_stay (stands I.up I.spot) v.words op index)
-line_links_stay z v a line (SetSlot id slot) (place.SetSlot p) small S J I = part_links_stay z v a (set_slot_part p (v.hand a) id slot) (set_slot_note p (v.hand a)) (makes_setting z v a line p id slot small S J I) J I
-line_links_stay z v a line _ _ small S J I = absurd S.holds
+line_links_stay z v a line command p small S J I = links_by z v a (task_at p command (v.hand a)) (step_in z v a line command p small S J I) J I
 
 -- ---- from world to world
 

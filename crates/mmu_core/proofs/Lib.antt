@@ -1,5 +1,6 @@
 pub mod ActorSaw
 pub mod ByStep
+pub mod StepIn
 pub mod StepWaits
 pub mod WaitsSame
 pub mod Entries

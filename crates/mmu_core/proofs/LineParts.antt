@@ -1,30 +1,23 @@
 -- A step of a hand is a step of a part, or touches content and changes nothing that is held.
 use Rattle.std.proofs.Common.{◌≡◌, ◌≢◌, ◌≤◌, ◌⊎◌, inl, inr, ℕ, refl, sym, subst, arith}
-use Rattle.std.specs.Prelude.{Option, Some, None}
 use Rattle.core_views.specs.declared.kind.Kind.{Kind}
 use Rattle.core_views.specs.declared.kind.StepKind.TheVariants as kind
 use Rattle.core_views.specs.declared.place.Place.{Place}
-use Rattle.core_views.specs.declared.place.Place.TheVariants as at
-use Rattle.core_views.specs.declared.place.SetSlotPlace.{SetSlotPlace}
 use Rattle.core_views.specs.declared.sizes.Sizes.{Sizes}
 use Rattle.core_views.specs.declared.topics.Topics.{Topics}
 use Rattle.core_views.specs.declared.trace.Command.{Command}
-use Rattle.core_views.specs.declared.trace.Command.TheVariants.{Access, SetSlot}
 use Rattle.core_views.specs.declared.trace.Op.{Op}
 use Rattle.core_views.specs.declared.trace.Op.TheVariants.{Read}
-use Rattle.core_views.specs.declared.trace.Slot.{Slot}
 use Rattle.core_views.specs.Held.{Held}
 use Rattle.core_views.specs.Kinds.{code_of}
 use Rattle.spte_words.specs.declared.area.Area.TheVariants as area
 use Rattle.spte_words.specs.Areas.{place}
 use Rattle.part_steps.specs.declared.task.Task.{Task}
 use Rattle.part_steps.specs.declared.part_step.PartStep.{PartStep}
-use Rattle.part_steps.specs.declared.part_step.PartStep.TheVariants as part
-use Rattle.mmu_core.specs.AccessSteps.{access_note, access_part, task_by, touch_of}
+use Rattle.mmu_core.specs.AccessSteps.{touch_of}
 use Rattle.mmu_core.specs.Enabled.{Enabled}
 use Rattle.part_steps.specs.PartSteps.{PartNeeds, part_kind}
-use Rattle.mmu_core.specs.Rests.{RestsAt, RestsOn}
-use Rattle.mmu_core.specs.SetSlotSteps.{set_slot_task, set_slot_note, set_slot_part}
+use Rattle.mmu_core.specs.Rests.{RestsAt}
 use Rattle.mmu_core.specs.Steps.{line_at, place_at, task_at}
 use Rattle.part_steps.specs.Tasks.{kind_of_task, map_of}
 use Rattle.part_steps.specs.TopicSteps.{topics_after}

@@ -37,12 +37,12 @@ use Rattle.spte_words.proofs.Indices.{content_within}
 use Rattle.spte_words.proofs.ReadsEntries.{leaf_frame}
 use Rattle.part_steps.specs.declared.part_step.PartStep.{PartStep}
 use Rattle.part_steps.specs.declared.part_step.PartStep.TheVariants as part
-use Rattle.mmu_core.specs.AccessSteps.{access_note, access_part, task_by, touch_of}
+use Rattle.mmu_core.specs.AccessSteps.{access_part, touch_of}
 use Rattle.mmu_core.specs.KnowsPart.{AccessKnows}
 use Rattle.part_steps.specs.PartBounds.{PartRests}
 use Rattle.part_steps.specs.PartSteps.{FoundSlot, GoesOnToWord, HasToFill, IsFresh, IsVcpu, LookedUp, MayEnter, OwnsTable, PartNeeds, next_watched, own_index, OwnsSet, MayPublish}
 use Rattle.mmu_core.specs.Rests.{AcceptsAt, RecordAccepts, Rests, RestsAt, RestsOn}
-use Rattle.mmu_core.specs.SetSlotSteps.{set_slot_note, set_slot_part}
+use Rattle.mmu_core.specs.SetSlotSteps.{set_slot_part}
 use Rattle.part_steps.specs.SlotWords.{may_write, page_of}
 use Rattle.mmu_core.specs.Steps.{line_at, place_at, task_at, task_of}
 use Rattle.part_steps.specs.Tasks.{map_of}

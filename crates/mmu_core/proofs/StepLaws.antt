@@ -38,7 +38,7 @@ use Rattle.mmu_core.specs.Cached.{asks_flush, flushed, flushed_by, with_leaf}
 use Rattle.mmu_core.specs.Enabled.{Enabled}
 use Rattle.mmu_core.specs.FaultSteps.{allows_access, fault_next}
 use Rattle.part_steps.specs.PartSteps.{PartNeeds, own_index, page_owned, part_task, words_filled, works}
-use Rattle.mmu_core.specs.SetSlotSteps.{set_slot_note, set_slot_outcome, set_slot_part, set_slot_task}
+use Rattle.mmu_core.specs.SetSlotSteps.{set_slot_outcome, set_slot_part, set_slot_task}
 use Rattle.mmu_core.specs.StepLaws.{CachesOneAtMost, IsOn, IsOnItsArea, NoteTells}
 use Rattle.mmu_core.specs.Steps.{caches_at, has_line, next, next_by, outcome_at, place_at, task_at, task_of}
 use Rattle.part_steps.specs.Tasks.{kind_of_task, map_of}

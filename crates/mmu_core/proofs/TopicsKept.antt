@@ -1,33 +1,25 @@
 -- Each step keeps what holds of the machine's parts.
 use Rattle.std.proofs.Common.{◌≡◌, ℕ, refl}
-use Rattle.std.specs.Prelude.{Bool, true, false, ◌==◌, if◌then◌else◌, Option, Some, None}
-use Rattle.core_views.specs.declared.place.AccessPlace.{AccessPlace}
+use Rattle.std.specs.Prelude.{Bool, true, false, ◌==◌, if◌then◌else◌}
 use Rattle.core_views.specs.declared.place.Place.{Place}
-use Rattle.core_views.specs.declared.place.Place.TheVariants as place
-use Rattle.core_views.specs.declared.place.SetSlotPlace.{SetSlotPlace}
 use Rattle.core_views.specs.declared.sizes.Sizes.{Sizes}
 use Rattle.core_views.specs.declared.trace.Command.{Command}
-use Rattle.core_views.specs.declared.trace.Command.TheVariants.{Access, SetSlot}
 use Rattle.core_views.specs.declared.trace.Line.{Line}
 use Rattle.core_views.specs.declared.trace.Op.{Op}
 use Rattle.core_views.specs.declared.trace.Op.TheVariants.{Read}
-use Rattle.core_views.specs.declared.trace.Slot.{Slot}
 use Rattle.core_views.specs.Held.{Held}
-use Rattle.spte_words.specs.Areas.{content_index}
-use Rattle.spte_words.specs.Entries.{frame_in}
 use Rattle.part_steps.specs.declared.task.Task.{Task}
 use Rattle.part_steps.specs.declared.part_step.PartStep.{PartStep}
-use Rattle.mmu_core.specs.AccessSteps.{access_note, access_part, access_task, task_by, touch_of}
+use Rattle.mmu_core.specs.AccessSteps.{touch_of}
 use Rattle.mmu_core.specs.Invariant.{Invariant}
-use Rattle.mmu_core.specs.Steps.{idle_after}
-use Rattle.part_steps.specs.Tasks.{kind_of_task, map_of}
+use Rattle.mmu_core.specs.Steps.{idle_after, task_at}
+use Rattle.part_steps.specs.Tasks.{kind_of_task}
 use Rattle.part_steps.specs.TopicSteps.{topics_after}
 use Rattle.mmu_core.specs.TopicsInvariant.{TopicsInvariant}
 use Rattle.mmu_core.specs.View.{View, answer_in, hand_after, part_stepped, stepped, upd, words_after}
-use Rattle.mmu_core.proofs.AccessParts.{AreSmall, makes_parts, makes_setting}
+use Rattle.mmu_core.proofs.AccessParts.{AreSmall}
 use Rattle.mmu_core.proofs.FilledKept.{filled_kept}
 use Rattle.mmu_core.proofs.HeldKept.{counters_kept, held_kept}
-use Rattle.mmu_core.proofs.LiveStays.{MakesParts}
 use Rattle.mmu_core.proofs.LockKept.{lock_kept}
 use Rattle.mmu_core.proofs.LeavesOver.{leaves_kept}
 use Rattle.mmu_core.proofs.Paths.{paths_kept}
@@ -40,8 +32,8 @@ use Rattle.mmu_core.proofs.StatesKept.{states_kept}
 use Rattle.mmu_core.proofs.SumsBelow.{column}
 use Rattle.mmu_core.proofs.TreeKept.{tree_kept}
 use Rattle.mmu_core.proofs.PartStepping.{IsPart}
+use Rattle.mmu_core.proofs.StepIn.{StepIn, step_in, Makes, Touches}
 use Rattle.mmu_core.proofs.Stepping.{IsStep}
-use Rattle.mmu_core.specs.SetSlotSteps.{set_slot_note, set_slot_part, set_slot_task}
 use Rattle.mmu_core.proofs.OldSets.{old_sets_kept}
 use Rattle.mmu_core.proofs.SetsKept.{sets_kept}
 
@@ -66,7 +58,7 @@ topics_part_kept z v a step note S I = record {
   counters = counters_kept z v a step note S I;
 }
 
--- The words behind a task of an access, and the hands with what its actor holds then.
+-- The words behind a task of a line, and the hands with what its actor holds then.
 abbrev topics_behind : View → ℕ → Task → View
 topics_behind v a task = record {
   words = words_after task v.words;
@@ -79,64 +71,33 @@ unfolding topics_after
 touch_kept z v a Read index P = same_topics z _ _ _ _ _ _ _ _ _ v.hand _ (column (λ (h : Held). h.topics) v.hand a _ refl) P
 touch_kept z v a _ index P = same_topics z _ _ _ _ _ _ _ _ _ v.hand _ (column (λ (h : Held). h.topics) v.hand a _ refl) P
 
--- Each step of an access is a step of a part, or a touch.
-pub topics_access_kept : (z : Sizes) (v : View) (a : ℕ) (line : Line) (p : AccessPlace) (gfn word : ℕ) (op : Op) → MakesParts z v a p gfn → TopicsInvariant z v → TopicsInvariant z (stepped a line (Access gfn word op) (place.Access p) v)
-topics_access_kept z v a line p gfn word op makes P =
-    same_topics z _ _ _ _ _ _ _ _ _ behind.hand (upd v.hand a after) (λ t i. same i t) (by (access_part p gfn h.topics) makes)
-  where
-    h : Held
-    h = v.hand a
-
-    index : ℕ
-    index = content_index (map_of h.state.sizes) (frame_in h.state.leaf) word
-
-    behind : View
-    behind = topics_behind v a (access_task p h gfn word op)
-
-    after : Held
-    after = hand_after line (Access gfn word op) (place.Access p) h (answer_in (access_task p h gfn word op) v.words)
-
-    idle : Held
-    idle = idle_after h (kind_of_task h.state.sizes (access_task p h gfn word op)) (answer_in (access_task p h gfn word op) v.words)
-
-    same : (i : ℕ) → (upd v.hand a after i).topics ≡ (upd v.hand a idle i).topics
-    same i = either (i == a)
-      where
-        either : (b : Bool) → (if b then after else v.hand i).topics ≡ (if b then idle else v.hand i).topics
-        either true = refl
-        either false = refl
-
-    by : (o : Option PartStep) → ((step : PartStep) → o ≡ Some step → IsPart z v a step) → TopicsInvariant z (topics_behind v a (task_by o h (access_note p) (touch_of op index)))
-    by None each = touch_kept z v a op index P
-    by (Some step) each = topics_part_kept z v a step (access_note p) (each step refl) P
-
--- Each step of a slot setting is a step of a part.
-pub topics_setting_kept : (z : Sizes) (v : View) (a : ℕ) (line : Line) (p : SetSlotPlace) (id : ℕ) (slot : Slot) → IsPart z v a (set_slot_part p (v.hand a) id slot) → TopicsInvariant z v → TopicsInvariant z (stepped a line (SetSlot id slot) (place.SetSlot p) v)
-topics_setting_kept z v a line p id slot S P =
-    same_topics z _ _ _ _ _ _ _ _ _ behind.hand (upd v.hand a after) (λ t i. same i t) (topics_part_kept z v a (set_slot_part p h id slot) (set_slot_note p h) S P)
-  where
-    h : Held
-    h = v.hand a
-
-    behind : View
-    behind = topics_behind v a (set_slot_task p h id slot)
-
-    after : Held
-    after = hand_after line (SetSlot id slot) (place.SetSlot p) h (answer_in (set_slot_task p h id slot) v.words)
-
-    idle : Held
-    idle = idle_after h (kind_of_task h.state.sizes (set_slot_task p h id slot)) (answer_in (set_slot_task p h id slot) v.words)
-
-    same : (i : ℕ) → (upd v.hand a after i).topics ≡ (upd v.hand a idle i).topics
-    same i = either (i == a)
-      where
-        either : (b : Bool) → (if b then after else v.hand i).topics ≡ (if b then idle else v.hand i).topics
-        either true = refl
-        either false = refl
+kept_by : (z : Sizes) (v : View) (a : ℕ) (task : Task) → StepIn z v a task → TopicsInvariant z v → TopicsInvariant z (topics_behind v a task)
+kept_by z v a _ (Makes step note S) P = topics_part_kept z v a step note S P
+kept_by z v a _ (Touches op index) P = touch_kept z v a op index P
 
 -- Each step of a line keeps it.
 pub topics_line_kept : (z : Sizes) (v : View) (a : ℕ) (line : Line) (command : Command) (p : Place) → AreSmall v → IsStep z v a line command p → Invariant z v → TopicsInvariant z v → TopicsInvariant z (stepped a line command p v)
-topics_line_kept z v a line command place.Between small S I P = absurd S.begun
-topics_line_kept z v a line (Access gfn word op) (place.Access p) small S I P = topics_access_kept z v a line p gfn word op (makes_parts z v a line p gfn word op small S I P) P
-topics_line_kept z v a line (SetSlot id slot) (place.SetSlot p) small S I P = topics_setting_kept z v a line p id slot (makes_setting z v a line p id slot small S I P) P
-topics_line_kept z v a line _ _ small S I P = absurd S.holds
+topics_line_kept z v a line command p small S I P =
+    same_topics z _ _ _ _ _ _ _ _ _ behind.hand (upd v.hand a after) (λ t i. same i t) (kept_by z v a task (step_in z v a line command p small S I P) P)
+  where
+    h : Held
+    h = v.hand a
+
+    task : Task
+    task = task_at p command h
+
+    behind : View
+    behind = topics_behind v a task
+
+    after : Held
+    after = hand_after line command p h (answer_in task v.words)
+
+    idle : Held
+    idle = idle_after h (kind_of_task h.state.sizes task) (answer_in task v.words)
+
+    same : (i : ℕ) → (upd v.hand a after i).topics ≡ (upd v.hand a idle i).topics
+    same i = either (i == a)
+      where
+        either : (b : Bool) → (if b then after else v.hand i).topics ≡ (if b then idle else v.hand i).topics
+        either true = refl
+        either false = refl

@@ -187,8 +187,8 @@ good_step z w s G may = by (takes z w s G may)
       words = words_of_effect mmu w s ∙ G.words;
       hands = hands_of_effect mmu w s ∙ G.hands;
       small = small T.writes;
-      none_opened = subst (λ (v : View). NoneOpened v.words) (sym T.leads) (none_opened_kept (place_at h.state.place h) (line_at h.state.place h).command h (word_in z w) G.none_opened);
-      no_pause = subst (λ (v : View). v.words area.Pause 0 ≡ 0) (sym T.leads) (pause_stays (place_at h.state.place h) (line_at h.state.place h).command h (word_in z w) ∙ G.no_pause);
+      none_opened = subst (λ (v : View). NoneOpened v.words) (sym T.leads) (none_opened_kept z (view z w) s.actor (line_at h.state.place h) (line_at h.state.place h).command (place_at h.state.place h) (view_small z w G.small) T.is_step G.holds G.topics G.none_opened);
+      no_pause = subst (λ (v : View). v.words area.Pause 0 ≡ 0) (sym T.leads) (pause_stays z (view z w) s.actor (line_at h.state.place h) (line_at h.state.place h).command (place_at h.state.place h) (view_small z w G.small) T.is_step G.holds G.topics ∙ G.no_pause);
       holds = subst (Invariant z) (sym T.leads) (step_kept z (view z w) s.actor (line_at h.state.place h) (line_at h.state.place h).command (place_at h.state.place h) (view_small z w G.small) T.is_step G.holds G.topics);
       topics = subst (TopicsInvariant z) (sym T.leads) (topics_line_kept z (view z w) s.actor (line_at h.state.place h) (line_at h.state.place h).command (place_at h.state.place h) (view_small z w G.small) T.is_step G.holds G.topics);
     }

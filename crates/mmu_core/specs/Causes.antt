@@ -1,5 +1,5 @@
 -- Why a fault begins anew, in every list of steps: what its actor found in a word, and who changed this word since.
-use Rattle.std.specs.Prelude.{◌≡◌, ◌≢◌, ◌<◌, ◌≤◌, ℕ, List, [], ◌∷◌, ◌++◌, All}
+use Rattle.std.specs.Prelude.{◌≡◌, ◌≢◌, ◌<◌, ◌≤◌, ℕ, List, ◌∷◌, ◌++◌, All}
 use Rattle.core_views.specs.declared.kind.Kind.{Kind}
 use Rattle.core_views.specs.declared.kind.StepKind.TheVariants as kind
 use Rattle.core_views.specs.declared.place.AccessPlace.TheVariants as access
@@ -97,7 +97,7 @@ pub record IsEntryOf (z : Sizes) (gfn word : ℕ) : Type 0 where
   pub is : word ≡ place_of (map_of z) area.Pool (pool_index page (entry_index gfn level))
 
 -- Why the actor's fault of a guest frame begins anew: an invalidation was open over the guest frame, another actor's step moved the
--- sequence number behind the snapshot, or another actor's step changed an entry of the guest frame behind its load.
+-- sequence number behind the snapshot, or another actor's step changed an entry of the guest frame after its load.
 abbrev pub IsCaused : Cause → Sizes → ℕ → ℕ → World Held → List (Step Kind) → Type 0
 IsCaused (Open count start end_ at) z actor gfn w ss = (at ≡ gfn) × SawOpen z actor gfn count start end_ w ss
 IsCaused (Moved old_ now_) z actor gfn w ss = SawChange actor (place_of (map_of z) area.Seq 0) old_ now_ w ss

@@ -1,16 +1,11 @@
 -- Which steps of the parts wait for another actor, and why, in every list of steps: what the step finds, or what its actor found before it.
-use Rattle.std.specs.Prelude.{◌≡◌, ◌≢◌, ◌<◌, ℕ, Bool, true, false, ◌==◌, ◌&&◌, not, List, [], ◌∷◌, ◌++◌}
+use Rattle.std.specs.Prelude.{◌≡◌, ◌≢◌, ◌<◌, ℕ, true, false, List, [], ◌∷◌, ◌++◌}
 use Rattle.core_views.specs.declared.kind.Kind.{Kind}
 use Rattle.core_views.specs.declared.kind.StepKind.TheVariants as kind
 use Rattle.core_views.specs.declared.sizes.Sizes.{Sizes}
-use Rattle.core_views.specs.declared.topics.Checked.{Checked}
-use Rattle.core_views.specs.declared.topics.Checked.TheVariants as checked
-use Rattle.core_views.specs.declared.topics.Hold.{Hold}
-use Rattle.core_views.specs.declared.topics.Hold.TheVariants.{Loose, Owing, Exclusive}
-use Rattle.core_views.specs.declared.topics.Invalidations.{Invalidations}
+use Rattle.core_views.specs.declared.topics.Hold.TheVariants.{Loose, Exclusive}
 use Rattle.core_views.specs.declared.topics.MapClaim.{MapClaim}
 use Rattle.core_views.specs.declared.topics.Stay.TheVariants.{Outside}
-use Rattle.core_views.specs.declared.topics.Topics.{Topics}
 use Rattle.core_views.specs.declared.trace.Line.{Line}
 use Rattle.core_views.specs.Held.{Held}
 use Rattle.core_views.specs.Kinds.{code_of}
@@ -22,7 +17,7 @@ use Rattle.part_steps.specs.declared.part_step.PartStep.{PartStep}
 use Rattle.part_steps.specs.declared.part_step.PartStep.TheVariants as part
 use Rattle.part_steps.specs.PartSteps.{PartNeeds, part_kind}
 use Rattle.part_steps.specs.Tasks.{map_of}
-use Rattle.part_steps.specs.TopicSteps.{has_writer, in_section, is_won, tried_bit}
+use Rattle.part_steps.specs.TopicSteps.{has_writer, in_section, tried_bit}
 use Rattle.mmu_core.specs.Causes.{Finds, HasMade, WasChanged}
 use Rattle.mmu_core.specs.Enabled.{mmu}
 use Rattle.mmu_core.specs.Machine.{Legal, Step, World, answered, found, hand_in, run}
@@ -89,7 +84,7 @@ pub record FindsOtherInside (z : Sizes) (w : World Held) (s : Step Kind) : Type 
   pub tells : in_section (found mmu w s.kind) ≡ true
   pub inside : (hand_in mmu w other).topics.stay ≢ Outside
 
--- Why a step of a part waits, that is made behind these steps: its actor found a writer with the try for the lock that it takes back; the page that it
+-- Why a step of a part waits, that is made after these steps: its actor found a writer with the try for the lock that it takes back; the page that it
 -- tries was taken; it finds the lock taken; it gives the lock back, under which its actor found invalidations open; or it finds another actor in the
 -- guest or in a section.
 abbrev pub StepWaitIsCaused : PartStep → Sizes → World Held → List (Step Kind) → Step Kind → Type 0

@@ -52,7 +52,7 @@ pub fn every_list_of_steps()
 /// begins anew only where in this section it found an invalidation open over its
 /// guest frame, or found another number in a word of which it knew the number, since
 /// another actor's step changed it: in the sequence number behind its snapshot, or in
-/// an entry of its guest frame behind its load. A step waits, whoever makes it, only
+/// an entry of its guest frame after its load. A step waits, whoever makes it, only
 /// where its actor, with its last step on the lock, found another actor having it
 /// alone; where the page that it tries was free at its actor's last step on this word
 /// of the pool's map, and another actor's step changed this word since; where it finds

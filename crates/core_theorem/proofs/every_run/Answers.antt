@@ -1,5 +1,3 @@
-use Rattle.mmu_core.specs.Enabled.{mmu}
-use Rattle.mmu_core.specs.Machine.{run}
 use Rattle.std.proofs.Common.{[], ◌∷◌, ◌++◌}
 use Rattle.mmu_core.proofs.AnsweredRest.{answered_rests}
 use Rattle.mmu_core.proofs.Causes.{faults_begin_anew_by_cause}
@@ -15,7 +13,7 @@ use Rattle.core_theorem.proofs.LineTurns.{lines_make_few_steps}
 use Rattle.core_theorem.proofs.Turns.{counts_are_few, steps_are_few}
 use Rattle.core_theorem.proofs.Pages.{pages_are_used}
 use Rattle.core_theorem.proofs.PauseSeen.{pause_is_seen_in_stay}
-use Rattle.core_theorem.proofs.Runs.{before, last_actor, may_last, sound, starts_between}
+use Rattle.core_theorem.proofs.Runs.{before, may_last, sound, starts_between}
 use Rattle.core_theorem.proofs.WalksKept.{held_leaves_are_linked, walks_hold_tables}
 use Rattle.core_theorem.proofs.every_run.Goals as goal
 
