@@ -1,5 +1,5 @@
 -- Claims of pool pages: what comes next, and what each answer says.
-use Rattle.std.specs.Prelude.{◌≡◌, ◌≢◌, ◌+◌, ◌-◌, ◌*◌, ◌%◌, ◌<◌, ◌⊎◌, ℕ, Bool, true, false, ◌&&◌, nat_lt, if◌then◌else◌, Some, None, length}
+use Rattle.std.specs.Prelude.{◌≡◌, ◌≢◌, ◌+◌, ◌-◌, ◌*◌, ◌/◌, ◌%◌, ◌<◌, ◌⊎◌, ℕ, Bool, true, false, ◌&&◌, nat_lt, if◌then◌else◌, Some, None, length}
 use Rattle.core_views.specs.declared.hand.Seen.{Seen}
 use Rattle.core_views.specs.declared.sizes.Sizes.{Sizes}
 use Rattle.core_views.specs.declared.topics.MapClaim.{MapClaim}
@@ -51,6 +51,12 @@ pub record LooksOn (z : Sizes) (job : Claim) (before after : Topics) : Type 0 wh
   pub within : after.claim.at < words_of_bits z.pool
   pub owns_none : after.owned ≡ None
   pub only : after ≡ record before { claim = after.claim }
+
+-- The page is the first one of those that were seen free in the word of the map that the claim has come to.
+pub record IsFirstSeen (page : ℕ) (claim : MapClaim) : Type 0 where
+  pub of_word : page / 64 ≡ claim.at
+  pub free : has_bit (page % 64) claim.seen ≡ true
+  pub none_before : (i : ℕ) → i < page % 64 → has_bit i claim.seen ≡ false
 
 -- The page is the lowest of those seen, and its bit stood in the word that was found. The actor owns it, with nothing filled, and its
 -- claim is over. Nothing else that it holds has changed.

@@ -7,7 +7,7 @@ ghost use Rattle.spte_words.specs.Areas.{words_of_bits};
 ghost use Rattle.step_seats.specs.Moves.{KeepsRoom};
 ghost use Rattle.step_seats.specs.PartTurns.{MakesPart, WherePartMade};
 ghost use Rattle.step_seats.specs.declared.turn.Turn.TheVariants.{More, Wait, Done};
-ghost use Rattle.table_pool.specs.Claims.{ClaimTurn, IsClaimersAlone, IsFreePage, SawStands, claim_step, turns_left};
+ghost use Rattle.table_pool.specs.Claims.{ClaimTurn, IsClaimersAlone, IsFirstSeen, IsFreePage, SawStands, claim_step, turns_left};
 ghost use Rattle.table_pool.specs.declared.claim.Claimed.TheVariants.{Page};
 
 use core_views::{Hand, Seen};
@@ -61,6 +61,7 @@ impl Claim {
         ensures step { MakesPart (claim_step self.old (S.handful s.old).core.topics.claim) note (S.actor s.old) (S.handful s.old).core (S.handful s.new).core (S.tells s.old) (S.tells s.new) }
         ensures turned { ClaimTurn (S.handful s.old).core.state.sizes self.old result (S.handful s.old).core.topics (S.handful s.new).core.topics }
         ensures begun { self.new.begun ≡ true }
+        ensures first { (page : ℕ) → result ≡ Done (Page page) → IsFirstSeen page (S.handful s.old).core.topics.claim }
         ensures free { (page : ℕ) → result ≡ Done (Page page) → WherePartMade (claim_step self.old (S.handful s.old).core.topics.claim) note (S.actor s.old) (S.handful s.old).core (S.handful s.new).core (S.tells s.old) (λ w t. IsFreePage (S.handful s.old).core.state.sizes page w) }
         ensures sole { (page : ℕ) → result ≡ Done (Page page) → WherePartMade (claim_step self.old (S.handful s.old).core.topics.claim) note (S.actor s.old) (S.handful s.old).core (S.handful s.new).core (S.tells s.old) (λ w t. IsClaimersAlone (S.handful s.old).core.state.sizes (S.actor s.old) page t) }
         ensures stands { WherePartMade (claim_step self.old (S.handful s.old).core.topics.claim) note (S.actor s.old) (S.handful s.old).core (S.handful s.new).core (S.tells s.old) (λ w t. SawStands (S.handful s.old).core.state.sizes (S.handful s.new).core.topics.claim t) }

@@ -1,15 +1,30 @@
 use Rattle.std.proofs.Common.{◌≡◌, ◌<◌, ◌^◌, Some, None, ap, sym, ◌∙◌, subst, ◌≢◌}
 use Rattle.std.specs.Prelude.{false}
 use Rattle.part_steps.specs.declared.part_step.PartStep.TheVariants as part
-use Rattle.table_pool.specs.Claims.{IsClaimersAlone, IsFreePage, SawStands, next_word, sees_pages, claim_step}
-use Rattle.table_pool.proofs.Claiming.{claim_alone, claim_needs, claim_stands, claimed_alone, claimed_free, never_waits, page_in, saw_none, unbegun, won_waits_not, word_begun, word_unbegun, claims, where_claimed, load_stands_there, load_waits_not}
+use Rattle.table_pool.specs.Claims.{IsClaimersAlone, IsFirstSeen, IsFreePage, SawStands, next_word, sees_pages, claim_step}
+use Rattle.table_pool.proofs.Claiming.{claim_alone, claim_needs, claim_stands, claimed_alone, claimed_free, first_seen, never_waits, page_in, saw_none, unbegun, won_waits_not, word_begun, word_unbegun, claims, where_claimed, load_stands_there, load_waits_not}
 use Rattle.step_seats.specs.PartTurns.{WherePartMade}
 use Rattle.step_seats.proofs.Where.{only}
 use Rattle.core_views.specs.declared.hand.Seen.{Seen}
+use Rattle.core_views.specs.declared.topics.Topics.{Topics}
 use Rattle.step_seats.specs.declared.turn.Turn.TheVariants.{Wait, More, Done}
 use Rattle.table_pool.specs.declared.claim.Claimed.TheVariants.{Empty}
 use Rattle.table_pool.proofs.claim.Claim.turn.Goals.{in-Some, in-None, else-self-via-then-self+else-claim-gt0, else-self-via-else-self, then-self-2, else-self-2}
 use Rattle.table_pool.proofs.claim.Claim.turn.Goals as goal
+
+pub returns-then-claim-gt0-clause-first : goal.returns-then-claim-gt0-clause-first
+returns-then-claim-gt0-clause-first g c page is =
+    let h = (g.S.Stepper.handful c.args.s.now).core in
+    let after = (g.S.Stepper.handful c.make_part-value.new.s).core in
+    let some : 0 < h.topics.claim.seen = rw (sym c.hand-3.ensures.hand, sym c.topics.ensures) c.if-claim-gt0.true in
+    let small : h.topics.claim.seen < 2 ^ 64 = rw (sym c.hand.ensures.hand) c.part_rests.ensures.counters.seen in
+    elim c.match-topics.branch [
+      | in-Some w ↦
+          let behind : after.topics.owned ≡ Some w.in-Some.owned = rw (sym c.hand-then-claim-gt0.ensures.hand, sym c.topics-then-claim-gt0.ensures) w.in-Some.is in
+          subst (λ k. IsFirstSeen k h.topics.claim) (ap page_in (sym w.result-is ∙ is))
+          (first_seen h.topics.claim c.make_part-value.result w.in-Some.owned some small (sym (ap (λ (t : Topics). t.owned) c.make_part-value.ensures.made.topics) ∙ behind))
+      | in-None w ↦ absurd (cc (is, w.result-is))
+    ]
 
 pub returns-then-claim-gt0-clause-free : goal.returns-then-claim-gt0-clause-free
 returns-then-claim-gt0-clause-free g c page is =
