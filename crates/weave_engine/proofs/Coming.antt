@@ -1,6 +1,5 @@
 -- Steps that were made, with what they print put behind what waited: one turn more, or more steps.
 use Rattle.std.proofs.Common.{◌≡◌, ◌≤◌, ℕ, List, [], ◌∷◌, ◌++◌, Ok, Err, append_assoc, length, refl, sym, ap, subst, ◌∙◌}
-use Rattle.std.proofs.lemmas.List.{append-nil}
 use Rattle.std.specs.Prelude.{Bool, true}
 use Rattle.std.specs.declared.option.Option.{Option}
 use Rattle.core_views.specs.declared.kind.Kind.{Kind}

@@ -7,7 +7,7 @@ use Rattle.std.proofs.KnownBytes.{Appends-nil, Appends-trans}
 use Rattle.std.specs.declared.option.Option.{Option}
 use Rattle.tdp_io.specs.Ends.{AppendsPrefix, Wrote}
 use Rattle.tdp_io.specs.declared.sink.Stop.{Stop}
-use Rattle.weave_engine.specs.Pieces.{IsPrintedLine, LeavesFew, WritesMost, most_waiting}
+use Rattle.weave_engine.specs.Pieces.{IsPrintedLine, WritesMost, most_waiting}
 use Rattle.weave_engine.specs.Writes.{Buffers}
 
 -- Of the text put so far something was written since the start, and the rest waits.
