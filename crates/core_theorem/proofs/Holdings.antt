@@ -122,28 +122,30 @@ module _ (z : Sizes) (u : World Held) (G : IsSound z u) where
           let not_yet : (hand_in mmu u watcher).topics.watched ≤ other = subst (λ i. (hand_in mmu u i).topics.watched ≤ other) by_is H.unwatched in
           omega (arith, not_yet, passed)
 
-  -- A page is given back while one is leaving: this one, behind the watch.
-  gives_old : (s : Step Kind) (page : ℕ) → s.actor < actors_of z → May mmu u s → s.kind.code ≡ code_of kind.Give → leaving s.actor ≡ Some page → MayGiveOld (hand_in mmu u s.actor)
+  -- A page is given back while one is leaving: this one, at the last place of a slot setting, after the watch.
+  pub gives_old : (s : Step Kind) (page : ℕ) → s.actor < actors_of z → May mmu u s → s.kind.code ≡ code_of kind.Give → leaving s.actor ≡ Some page
+      → ((hand_in mmu u s.actor).state.place ≡ place.SetSlot set_slot.Give) × MayGiveOld (hand_in mmu u s.actor)
   gives_old s page there may gives left = by h.state.place h.state.line.command refl refl (G.holds.knows s.actor there) (G.holds.leaves s.actor there) (G.holds.lines s.actor there).under
     where
       h : Held
       h = hand_in mmu u s.actor
 
-      old : (p : SetSlotPlace) (id : ℕ) (slot : Slot) → SetSlotKnows p h → LeavesPart (place.SetSlot p) h.topics → code_of (set_slot_task p h id slot).kind ≡ code_of kind.Give → MayGiveOld h
-      old set_slot.Give id slot K L e = K.1
+      old : (p : SetSlotPlace) (id : ℕ) (slot : Slot) → SetSlotKnows p h → LeavesPart (place.SetSlot p) h.topics → code_of (set_slot_task p h id slot).kind ≡ code_of kind.Give → (place.SetSlot p ≡ place.SetSlot set_slot.Give) × MayGiveOld h
+      old set_slot.Give id slot K L e = (refl, K.1)
       old set_slot.Release id slot K L e = absurd (omega (arith, e))
       old set_slot.Watch id slot K L e = absurd (omega (arith, e))
       old set_slot.Clear id slot K L e = absurd (omega (arith, e))
       old _ id slot K L e = let none = L refl in absurd (cc (none, left))
 
-      by : (p : Place) (c : Command) → h.state.place ≡ p → h.state.line.command ≡ c → KnowsPart p c h → LeavesPart p h.topics → UnderWay p h → MayGiveOld h
+      by : (p : Place) (c : Command) → h.state.place ≡ p → h.state.line.command ≡ c → KnowsPart p c h → LeavesPart p h.topics → UnderWay p h → (h.state.place ≡ place.SetSlot set_slot.Give) × MayGiveOld h
       by place.Between c at is K L U = let none = L refl in absurd (cc (none, left))
       by (place.Access p) c at is K L U = let none = L refl in absurd (cc (none, left))
       by (place.SetSlot p) (Access gfn word op) at is K L U = absurd K
       by (place.SetSlot p) (SetSlot id slot) at is K L U =
           let N = is_next h s.kind may.enabled (has_line_is h U.1) in
           let task : task_of h ≡ set_slot_task p h id slot = ap (λ q. task_at (place_at q h) (line_at q h).command h) at ∙ ap (λ c. task_at (place.SetSlot p) c h) is in
-          old p id slot K L (ap (λ (t : Task). code_of t.kind) (sym task) ∙ (sym (ap (λ (k : Kind). k.code) N.is) ∙ gives))
+          let there_now = old p id slot K L (ap (λ (t : Task). code_of t.kind) (sym task) ∙ (sym (ap (λ (k : Kind). k.code) N.is) ∙ gives)) in
+          (at ∙ there_now.0, there_now.1)
 
 pub none_holds_free_pages : NoneHoldsFreePages
 none_holds_free_pages z lines w ss R actor there = none_free z (run mmu w ss) (sound z lines w ss R) actor there
@@ -171,7 +173,7 @@ pages_are_reused_alone z lines w ss s R page = (
 
     given : s.kind.code ≡ code_of kind.Give → Owns page (hand_in mmu u s.actor) ⊎ ((hand_in mmu u s.actor).topics.leaving ≡ Some page) → NoOtherHolds z s.actor page u
     given gives (inl O) = no_other z u G s.actor page there O
-    given gives (inr left) = none_holds_old z u G s.actor page there (gives_old z u G s page there may gives left) left
+    given gives (inr left) = none_holds_old z u G s.actor page there (gives_old z u G s page there may gives left).1 left
 
 pub held_sets_are_known : HeldSetsAreKnown
 held_sets_are_known z lines w ss R = (sound z lines w ss R).topics.sets

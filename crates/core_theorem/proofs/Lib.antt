@@ -1,6 +1,7 @@
 pub mod WalksKept
 pub mod Pages
 pub mod Holdings
+pub mod SetsCleared
 pub mod Runs
 pub mod Turns
 pub mod LineTurns

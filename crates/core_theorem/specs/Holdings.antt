@@ -72,6 +72,12 @@ PagesAreReusedAlone =
     → (Wins page (run mmu w ss) s → NoOtherHolds z s.actor page (run mmu w ss))
     × (GivesBack page (run mmu w ss) s → NoOtherHolds z s.actor page (run mmu w ss))
 
+-- Where an old slot set is given back to the pool, the role word of its page is 0: a step of its own has taken the role away.
+abbrev pub ReturnedSetsAreCleared : Type 0
+ReturnedSetsAreCleared =
+    (z : Sizes) (lines : List Line) (w : World Held) (ss : List (Step Kind)) (s : Step Kind) → IsRun z lines w (ss ++ s ∷ []) → (page : ℕ)
+    → GivesBack page (run mmu w ss) s → (hand_in mmu (run mmu w ss) s.actor).topics.leaving ≡ Some page → word_in z (run mmu w ss) area.Role page ≡ 0
+
 -- Where a step answers a line, also its actor's last one, the actor holds nothing behind it: it is out of the guest and of every section,
 -- has no lock, no page and no slot set, and no page leaves for it.
 abbrev pub AnsweredLinesRest : Type 0

@@ -3,7 +3,7 @@
 #![tactic(auto)]
 
 ghost use Rattle.core_theorem.specs.Delays.{DelaysHaveCauses, FaultsHaveCauses, StarvedLinesScanned, WaitsHaveCauses};
-ghost use Rattle.core_theorem.specs.Holdings.{AnsweredLinesRest, HeldSetsAreKnown, NoneHoldsFreePages, PagesAreReusedAlone, WatchedHoldNoOldSet};
+ghost use Rattle.core_theorem.specs.Holdings.{AnsweredLinesRest, HeldSetsAreKnown, NoneHoldsFreePages, PagesAreReusedAlone, ReturnedSetsAreCleared, WatchedHoldNoOldSet};
 ghost use Rattle.core_theorem.specs.Leaves.{HeldLeavesAgree, LinkedLeavesAgree, TranslationsAgree, UsedLeavesAgree};
 ghost use Rattle.core_theorem.specs.Locks.{LockIsKept};
 ghost use Rattle.core_theorem.specs.Pages.{EachPageHasOneUse};
@@ -29,7 +29,8 @@ ghost use Rattle.core_theorem.specs.Walks.{WalksHoldTables};
 /// is the published one, or an old one, held in a section and leaving for another
 /// actor, whose watch hasn't passed this one since; so whom a watch has passed holds no
 /// slot set that the watcher has taken out of use. `reuse`: a page that is taken from
-/// the pool or given back to it nobody else holds. `rest`: whose line is answered holds
+/// the pool or given back to it nobody else holds. `cleared`: where an old slot set is
+/// given back to the pool, its role word is 0. `rest`: whose line is answered holds
 /// nothing after it. `lawful`: each access, each exit and each answer is one that flat
 /// guest memory allows. `facts`: the words stand for the slots, host pages and contents
 /// that the events so far make of flat guest memory. `pause`: an access that is about to
@@ -57,6 +58,7 @@ pub fn every_run()
     ensures sets { HeldSetsAreKnown }
     ensures watched { WatchedHoldNoOldSet }
     ensures reuse { PagesAreReusedAlone }
+    ensures cleared { ReturnedSetsAreCleared }
     ensures rest { AnsweredLinesRest }
     ensures lawful { TellsLawfully }
     ensures facts { WordsStandForFacts }

@@ -14,6 +14,7 @@ use Rattle.core_theorem.proofs.Turns.{counts_are_few, steps_are_few}
 use Rattle.core_theorem.proofs.Pages.{pages_are_used}
 use Rattle.core_theorem.proofs.PauseSeen.{pause_is_seen_in_stay}
 use Rattle.core_theorem.proofs.Runs.{before, may_last, sound, starts_between}
+use Rattle.core_theorem.proofs.SetsCleared.{returned_sets_are_cleared}
 use Rattle.core_theorem.proofs.WalksKept.{held_leaves_are_linked, walks_hold_tables}
 use Rattle.core_theorem.proofs.every_run.Goals as goal
 
@@ -49,6 +50,9 @@ returns-clause-watched c = watched_hold_no_old_set
 
 pub returns-clause-reuse : goal.returns-clause-reuse
 returns-clause-reuse c = pages_are_reused_alone
+
+pub returns-clause-cleared : goal.returns-clause-cleared
+returns-clause-cleared c = returned_sets_are_cleared
 
 pub returns-clause-lawful : goal.returns-clause-lawful
 returns-clause-lawful c z lines w ss R = every_history z lines w ss R.start R.legal
