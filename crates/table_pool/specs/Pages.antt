@@ -45,7 +45,7 @@ pub record StoresNext (z : Sizes) (page filled value : ℕ) (w t : World Held) :
 abbrev pub words_left : Topics → ℕ
 words_left t = 513 - words_filled t.owned
 
--- The page is given back: the actor owns none. Nothing else that it holds has changed.
+-- The page is given back: the actor owns none, and its claim has yet to see again what is free. Nothing else that it holds has changed.
 abbrev pub GivesPage : Turn (Unit {0}) → Topics → Topics → Type 0
 GivesPage (Done _) before after = after ≡ record before { owned = None; claim = unseen before.claim }
 GivesPage More before after = ⊥
