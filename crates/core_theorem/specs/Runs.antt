@@ -1,13 +1,14 @@
 -- A run of the machine: what it tells, and what its words stand for.
-use Rattle.std.specs.Prelude.{List}
+use Rattle.std.specs.Prelude.{◌≡◌, ◌<◌, ℕ, List, true}
 use Rattle.core_views.specs.declared.kind.Kind.{Kind}
 use Rattle.core_views.specs.declared.sizes.Sizes.{Sizes}
 use Rattle.core_views.specs.declared.trace.Line.{Line}
 use Rattle.core_views.specs.Events.{after_all}
-use Rattle.core_views.specs.Flat.{first_flat}
+use Rattle.core_views.specs.Flat.{Facts, first_flat}
 use Rattle.core_views.specs.Held.{Held}
 use Rattle.core_views.specs.Lawful.{IsLawful}
 use Rattle.spte_words.specs.declared.area.Area.TheVariants as area
+use Rattle.spte_words.specs.HostWords.{host_word}
 use Rattle.mmu_core.specs.Enabled.{mmu}
 use Rattle.mmu_core.specs.FlatInvariant.{Refines}
 use Rattle.mmu_core.specs.Machine.{Legal, Step, World, run}
@@ -23,8 +24,14 @@ pub record IsRun (z : Sizes) (lines : List Line) (w : World Held) (ss : List (St
 abbrev pub TellsLawfully : Type 0
 TellsLawfully = (z : Sizes) (lines : List Line) (w : World Held) (ss : List (Step Kind)) → IsRun z lines w ss → IsLawful z first_flat (history w ss)
 
--- The words behind a run stand for the facts that its history gives.
+-- The words of this world stand for these facts: published slots with their logs, content words and the pause; and each host word is what
+-- the host maps its page to.
+pub record StandsForFacts (z : Sizes) (w : World Held) (f : Facts) : Type 0 where
+  pub refines : Refines z (word_in z w area.Slots 0) (word_in z w area.Pool) (word_in z w area.Content) (word_in z w area.Pause 0) f
+  pub host : (page : ℕ) → page < z.pages → word_in z w area.Host page ≡ host_word (f.host page).frame true (f.host page).writable 1
+
+-- The words after a run stand for the facts that its history gives.
 abbrev pub WordsStandForFacts : Type 0
 WordsStandForFacts =
     (z : Sizes) (lines : List Line) (w : World Held) (ss : List (Step Kind)) → IsRun z lines w ss
-    → Refines z (word_in z (run mmu w ss) area.Slots 0) (word_in z (run mmu w ss) area.Pool) (word_in z (run mmu w ss) area.Content) (after_all (history w ss) first_flat).facts
+    → StandsForFacts z (run mmu w ss) (after_all (history w ss) first_flat).facts

@@ -9,6 +9,7 @@ use Rattle.spte_words.specs.declared.area.Area.TheVariants as area
 use Rattle.spte_words.specs.Areas.{pool_index}
 use Rattle.mmu_core.specs.Machine.{World}
 use Rattle.part_steps.specs.PartSteps.{words_filled}
+use Rattle.part_steps.specs.TopicSteps.{unseen}
 use Rattle.mmu_core.specs.PoolPart.{is_free}
 use Rattle.mmu_core.specs.View.{word_in}
 use Rattle.step_seats.specs.declared.turn.Turn.{Turn}
@@ -44,9 +45,9 @@ pub record StoresNext (z : Sizes) (page filled value : ℕ) (w t : World Held) :
 abbrev pub words_left : Topics → ℕ
 words_left t = 513 - words_filled t.owned
 
--- The page is given back: the actor owns none. Nothing else that it holds has changed.
+-- The page is given back: the actor owns none, and its claim has yet to see again what is free. Nothing else that it holds has changed.
 abbrev pub GivesPage : Turn (Unit {0}) → Topics → Topics → Type 0
-GivesPage (Done _) before after = after ≡ record before { owned = None }
+GivesPage (Done _) before after = after ≡ record before { owned = None; claim = unseen before.claim }
 GivesPage More before after = ⊥
 GivesPage (Wait seen) before after = ⊥
 GivesPage (Retry cause) before after = ⊥

@@ -1,4 +1,9 @@
-use Rattle.std.proofs.Common.{[], ◌∷◌, ◌++◌}
+use Rattle.std.proofs.Common.{[], ◌∷◌, ◌++◌, ap, sym, ◌∙◌}
+use Rattle.std.specs.Prelude.{true}
+use Rattle.core_views.specs.Host.{HostMap}
+use Rattle.spte_words.specs.HostWords.{host_word}
+use Rattle.mmu_core.specs.Enabled.{mmu}
+use Rattle.mmu_core.specs.Machine.{run}
 use Rattle.mmu_core.proofs.AnsweredRest.{answered_rests}
 use Rattle.mmu_core.proofs.Causes.{faults_begin_anew_by_cause}
 use Rattle.mmu_core.proofs.EveryHistory.{every_flat, every_history}
@@ -58,7 +63,11 @@ pub returns-clause-lawful : goal.returns-clause-lawful
 returns-clause-lawful c z lines w ss R = every_history z lines w ss R.start R.legal
 
 pub returns-clause-facts : goal.returns-clause-facts
-returns-clause-facts c z lines w ss R = (every_flat z lines w ss R.start R.legal).refines
+returns-clause-facts c z lines w ss R =
+    let F = (every_flat z lines w ss R.start R.legal).refines in record {
+      refines = F;
+      host = λ page there. (sound z lines w ss R).holds.hosts page there ∙ ap (λ (m : HostMap). host_word (m page).frame true (m page).writable 1) (sym F.host);
+    }
 
 pub returns-clause-rest : goal.returns-clause-rest
 returns-clause-rest c z lines w ss s answer R has ends = answered_rests z (run mmu w ss) s (sound z lines w ss (before z lines w ss s R)) (may_last z lines w ss s R) has answer ends
