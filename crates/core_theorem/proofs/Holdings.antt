@@ -1,5 +1,5 @@
 -- What actors hold is not free, and what one of them owns no other one holds.
-use Rattle.std.proofs.Common.{[], ◌∷◌, ◌++◌, ◌≡◌, ◌⊎◌, inl, inr, ◌≢◌, ◌<◌, ℕ, refl, sym, subst, ap, ◌∙◌, arith, ◌≤◌, ◌+◌}
+use Rattle.std.proofs.Common.{◌≡◌, ◌⊎◌, inl, inr, ◌≢◌, ◌<◌, ℕ, refl, sym, subst, ap, ◌∙◌, arith, ◌≤◌, ◌+◌}
 use Rattle.std.specs.Prelude.{Bool, true, false, Option, Some, ◌==◌, if◌then◌else◌}
 use Rattle.core_views.specs.declared.sizes.Sizes.{Sizes}
 use Rattle.core_views.specs.declared.topics.OwnedPage.{OwnedPage}
@@ -11,7 +11,6 @@ use Rattle.mmu_core.specs.Laws.{IsSound}
 use Rattle.mmu_core.specs.Machine.{May, World, effect, hand_in, run, Step}
 use Rattle.mmu_core.specs.PoolPart.{is_free}
 use Rattle.mmu_core.specs.View.{word_in}
-use Rattle.mmu_core.proofs.LineRuns.{run_one_more}
 use Rattle.mmu_core.specs.TopicsInvariant.{HoldsOld}
 use Rattle.mmu_core.proofs.PoolPages.{left_no_table, left_not_free, left_not_owned, left_not_slots, not_free, one_leaver, one_owner, owned_not_free, owned_not_slots, set_use, table_not_free, table_not_owned}
 use Rattle.mmu_core.proofs.Scanned.{others_hand}

@@ -1,5 +1,5 @@
 -- Where a slot setting is about to give the old slot set's page back, the page's role is cleared.
-use Rattle.std.proofs.Common.{◌≡◌, ◌≢◌, ◌⊎◌, inl, inr, ◌<◌, ℕ, List, [], ◌∷◌, ◌++◌, refl, sym, subst, ap, ◌∙◌}
+use Rattle.std.proofs.Common.{◌≡◌, ◌≢◌, ◌⊎◌, inl, inr, ◌<◌, ℕ, List, refl, sym, subst, ap, ◌∙◌}
 use Rattle.std.specs.Prelude.{Bool, true, false, ◌+◌, ◌==◌, if◌then◌else◌, nat_lt, Option, Some, None, is_some}
 use Rattle.core_views.specs.declared.answer.Answer.TheVariants.{Starved}
 use Rattle.core_views.specs.declared.kind.Kind.{Kind}
@@ -24,10 +24,9 @@ use Rattle.spte_words.specs.Areas.{words_of_bits}
 use Rattle.part_steps.specs.declared.part_step.PartStep.{PartStep}
 use Rattle.part_steps.specs.declared.part_step.PartStep.TheVariants as part
 use Rattle.part_steps.specs.declared.task.Task.{Task}
-use Rattle.part_steps.specs.PartSteps.{next_watched, own_index, page_left, part_task, table_page, words_filled}
+use Rattle.part_steps.specs.PartSteps.{next_watched, own_index, page_left, part_task, words_filled}
 use Rattle.part_steps.specs.Tasks.{kind_of_task}
 use Rattle.part_steps.specs.TopicSteps.{in_section, is_won, topics_after}
-use Rattle.mmu_core.specs.declared.outcome.Outcome.{Outcome}
 use Rattle.mmu_core.specs.declared.outcome.Outcome.TheVariants.{Goes, Ends}
 use Rattle.mmu_core.specs.AccessSteps.{touch_of}
 use Rattle.mmu_core.specs.Enabled.{mmu}
@@ -38,10 +37,10 @@ use Rattle.mmu_core.specs.Machine.{May, Step, World, effect, hand_in, run}
 use Rattle.mmu_core.specs.Outcomes.{place_after}
 use Rattle.mmu_core.specs.PartAt.{task_at}
 use Rattle.mmu_core.specs.SetSlotSteps.{claim_outcome, looked_at, set_slot_note, set_slot_outcome, set_slot_task}
-use Rattle.mmu_core.specs.Steps.{has_line, idle_after, line_at, outcome_at, place_at}
+use Rattle.mmu_core.specs.Steps.{has_line, line_at, place_at}
 use Rattle.mmu_core.specs.TopicsInvariant.{TopicsInvariant}
 use Rattle.mmu_core.specs.TreePart.{stands}
-use Rattle.mmu_core.specs.View.{View, answer_in, hand_after, part_stepped, stepped, upd, view, word_in, words_after}
+use Rattle.mmu_core.specs.View.{View, answer_in, part_stepped, stepped, upd, view, word_in, words_after}
 use Rattle.mmu_core.proofs.Changes.{of_each_list}
 use Rattle.mmu_core.proofs.Columns.{same_or, upd_other, upd_same}
 use Rattle.mmu_core.proofs.OwnedBehind.{left_is}

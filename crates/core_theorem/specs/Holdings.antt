@@ -72,7 +72,7 @@ PagesAreReusedAlone =
     → (Wins page (run mmu w ss) s → NoOtherHolds z s.actor page (run mmu w ss))
     × (GivesBack page (run mmu w ss) s → NoOtherHolds z s.actor page (run mmu w ss))
 
--- Where an old slot set is given back to the pool, the role word of its page is 0: a step of its own has taken the role away.
+-- Where an old slot set is given back to the pool, the role word of its page is 0.
 abbrev pub ReturnedSetsAreCleared : Type 0
 ReturnedSetsAreCleared =
     (z : Sizes) (lines : List Line) (w : World Held) (ss : List (Step Kind)) (s : Step Kind) → IsRun z lines w (ss ++ s ∷ []) → (page : ℕ)
