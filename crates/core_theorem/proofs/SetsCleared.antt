@@ -1,5 +1,5 @@
 -- Where a slot setting is about to give the old slot set's page back, the page's role is cleared.
-use Rattle.std.proofs.Common.{◌≡◌, ◌≢◌, ◌⊎◌, inl, inr, ◌<◌, ℕ, List, refl, sym, subst, ap, ◌∙◌}
+use Rattle.std.proofs.Common.{◌≡◌, ◌≢◌, ◌⊎◌, inl, inr, ◌<◌, ◌≤◌, ℕ, List, refl, sym, subst, ap, ◌∙◌}
 use Rattle.std.specs.Prelude.{Bool, true, false, ◌+◌, ◌==◌, if◌then◌else◌, nat_lt, Option, Some, None, is_some}
 use Rattle.core_views.specs.declared.answer.Answer.TheVariants.{Starved}
 use Rattle.core_views.specs.declared.kind.Kind.{Kind}
@@ -24,7 +24,7 @@ use Rattle.spte_words.specs.Areas.{words_of_bits}
 use Rattle.part_steps.specs.declared.part_step.PartStep.{PartStep}
 use Rattle.part_steps.specs.declared.part_step.PartStep.TheVariants as part
 use Rattle.part_steps.specs.declared.task.Task.{Task}
-use Rattle.part_steps.specs.PartSteps.{next_watched, own_index, page_left, part_task, words_filled}
+use Rattle.part_steps.specs.PartSteps.{next_watched, own_index, page_left, part_task, table_page, words_filled}
 use Rattle.part_steps.specs.Tasks.{kind_of_task}
 use Rattle.part_steps.specs.TopicSteps.{in_section, is_won, topics_after}
 use Rattle.mmu_core.specs.declared.outcome.Outcome.TheVariants.{Goes, Ends}
@@ -67,92 +67,117 @@ abbrev PlaceCleared : (ℕ → ℕ) → Place → Topics → Type 0
 PlaceCleared role (place.SetSlot p) t = SettingCleared role p t
 PlaceCleared role _ t = Unit {0}
 
+abbrev HeldCleared : (ℕ → ℕ) → Held → Type 0
+HeldCleared role h = PlaceCleared role h.state.place h.topics
+
 abbrev HandCleared : View → ℕ → Type 0
-HandCleared v i = PlaceCleared (v.words area.Role) (v.hand i).state.place (v.hand i).topics
+HandCleared v i = HeldCleared (v.words area.Role) (v.hand i)
 
 -- ---- a line's own step
 
-claim_cleared : (role : ℕ → ℕ) (tries : Bool) (y : Sizes) (claim : MapClaim) (x : ℕ) (t : Topics) → PlaceCleared role (place_after (claim_outcome tries y claim x)) t
-claim_cleared role true y claim x t = either_place (λ q. SettingCleared role q t) (is_won claim x) Fill (Claim true) tt tt
-claim_cleared role false y claim x t = by (nat_lt (claim.at + (if x == 0 then 1 else 0)) (words_of_bits y.pool))
-  where
-    by : (b : Bool) → PlaceCleared role (place_after (if b then Goes (place.SetSlot (Claim true)) else Ends Starved)) t
-    by true = tt
-    by false = tt
+module _ (role : ℕ → ℕ) (x : ℕ) (t : Topics) where
+  claim_cleared : (tries : Bool) (y : Sizes) (claim : MapClaim) → PlaceCleared role (place_after (claim_outcome tries y claim x)) t
+  claim_cleared true y claim = either_place (λ q. SettingCleared role q t) (is_won claim x) Fill (Claim true) tt tt
+  claim_cleared false y claim = by (nat_lt (claim.at + (if x == 0 then 1 else 0)) (words_of_bits y.pool))
+    where
+      by : (b : Bool) → PlaceCleared role (place_after (if b then Goes (place.SetSlot (Claim true)) else Ends Starved)) t
+      by true = tt
+      by false = tt
 
--- The step of this place clears the role.
-abbrev clears : SetSlotPlace → Bool
-clears Clear = true
-clears _ = false
+  -- The step of this place clears the role.
+  abbrev clears : SetSlotPlace → Bool
+  clears Clear = true
+  clears _ = false
 
--- From no other place does a setting come to give the page back.
-no_give : (role : ℕ → ℕ) (p : SetSlotPlace) (h : Held) (x : ℕ) (t : Topics) → clears p ≡ false → PlaceCleared role (place_after (set_slot_outcome p h x)) t
-no_give role (Claim begun) h x t never = claim_cleared role (tries_page begun h.topics.claim) h.state.sizes (at_map_word begun h.topics.claim) x t
-no_give role Fill h x t never = either_place (λ q. SettingCleared role q t) (nat_lt (words_filled h.topics.owned) 512) Fill Exclude tt tt
-no_give role Exclude h x t never = either_place (λ q. SettingCleared role q t) (x == 0) Count Exclude tt tt
-no_give role Count h x t never = either_place (λ q. SettingCleared role q t) (x == 0) Publish Close tt tt
-no_give role Watch h x t never =
-    let more : Bool = nat_lt (next_watched (own_index h) (looked_at h + 1)) (actors_of h.state.sizes) in
-    either_place (λ q. SettingCleared role q t) (in_section x) Watch (if more then Watch else Clear) tt (either_place (λ q. SettingCleared role q t) more Watch Clear tt tt)
-no_give role Clear h x t never = absurd (cc never)
-no_give role _ h x t never = tt
+  -- From no other place does a setting come to give the page back.
+  no_give : (p : SetSlotPlace) (h : Held) → clears p ≡ false → PlaceCleared role (place_after (set_slot_outcome p h x)) t
+  no_give (Claim begun) h never = claim_cleared (tries_page begun h.topics.claim) h.state.sizes (at_map_word begun h.topics.claim)
+  no_give Fill h never = either_place (λ q. SettingCleared role q t) (nat_lt (words_filled h.topics.owned) 512) Fill Exclude tt tt
+  no_give Exclude h never = either_place (λ q. SettingCleared role q t) (x == 0) Count Exclude tt tt
+  no_give Count h never = either_place (λ q. SettingCleared role q t) (x == 0) Publish Close tt tt
+  no_give Watch h never =
+      let more : Bool = nat_lt (next_watched (own_index h) (looked_at h + 1)) (actors_of h.state.sizes) in
+      either_place (λ q. SettingCleared role q t) (in_section x) Watch (if more then Watch else Clear) tt
+      (either_place (λ q. SettingCleared role q t) more Watch Clear tt tt)
+  no_give Clear h never = absurd (cc never)
+  no_give _ h never = tt
 
-setting_cleared : (words : Area → ℕ → ℕ) (p : SetSlotPlace) (h : Held) (id : ℕ) (slot : Slot) (x : ℕ)
-    → PlaceCleared (words_after (set_slot_task p h id slot) words area.Role) (place_after (set_slot_outcome p h x)) (topics_after h.state.sizes (kind_of_task h.state.sizes (set_slot_task p h id slot)) h.topics x)
-setting_cleared words Clear h id slot x =
-    ap (λ l. upd (words area.Role) (page_left h.topics.leaving) 0 (page_left l)) (left_is part.Clear h.state.sizes (own_index h) h.topics (set_slot_note Clear h) x)
-    ∙ upd_same (words area.Role) (page_left h.topics.leaving) 0
-setting_cleared words p h id slot x = no_give (words_after (set_slot_task p h id slot) words area.Role) p h x (topics_after h.state.sizes (kind_of_task h.state.sizes (set_slot_task p h id slot)) h.topics x) refl
+module _ (words : Area → ℕ → ℕ) (h : Held) (id : ℕ) (slot : Slot) (x : ℕ) where
+  abbrev role_behind : SetSlotPlace → ℕ → ℕ
+  role_behind p = words_after (set_slot_task p h id slot) words area.Role
+
+  abbrev topics_behind : SetSlotPlace → Topics
+  topics_behind p = topics_after h.state.sizes (kind_of_task h.state.sizes (set_slot_task p h id slot)) h.topics x
+
+  setting_cleared : (p : SetSlotPlace) → PlaceCleared (role_behind p) (place_after (set_slot_outcome p h x)) (topics_behind p)
+  setting_cleared Clear =
+      ap (λ l. role_behind Clear (page_left l)) (left_is part.Clear h.state.sizes (own_index h) h.topics (set_slot_note Clear h) x)
+      ∙ upd_same (words area.Role) (page_left h.topics.leaving) 0
+  setting_cleared p = no_give (role_behind p) x (topics_behind p) p h refl
 
 -- An access stands at no place of a setting.
-access_cleared : (role : ℕ → ℕ) (p : Place) (c : Command) (h : Held) (gfn word : ℕ) (op : Op) → c ≡ Access gfn word op → KnowsPart p c h → PlaceCleared role p h.topics
+access_cleared : (role : ℕ → ℕ) (p : Place) (c : Command) (h : Held) (gfn word : ℕ) (op : Op) → c ≡ Access gfn word op → KnowsPart p c h
+    → PlaceCleared role p h.topics
 access_cleared role (place.SetSlot p) (Access gfn word op) h g w o is K = absurd K
 access_cleared role (place.SetSlot p) (SetSlot id slot) h g w o is K = absurd (cc is)
 access_cleared role _ c h g w o is K = tt
 
-own_cleared : (z : Sizes) (v : View) (a : ℕ) (line : Line) (c : Command) (p : Place) → IsStep z v a line c p → Invariant z (stepped a line c p v) → HandCleared (stepped a line c p v) a
+own_cleared : (z : Sizes) (v : View) (a : ℕ) (line : Line) (c : Command) (p : Place) → IsStep z v a line c p → Invariant z (stepped a line c p v)
+    → HandCleared (stepped a line c p v) a
 own_cleared z v a line c place.Between S after = absurd S.begun
 own_cleared z v a line (Access gfn word op) p S after =
     let w : View = stepped a line (Access gfn word op) p v in
-    access_cleared (w.words area.Role) (w.hand a).state.place (w.hand a).state.line.command (w.hand a) gfn word op (ap (λ (h : Held). h.state.line.command) (upd_same v.hand a _) ∙ S.command_is) (after.knows a S.there)
+    let command : (w.hand a).state.line.command ≡ Access gfn word op = ap (λ (h : Held). h.state.line.command) (upd_same v.hand a _) ∙ S.command_is in
+    access_cleared (w.words area.Role) (w.hand a).state.place (w.hand a).state.line.command (w.hand a) gfn word op command (after.knows a S.there)
 own_cleared z v a line (SetSlot id slot) (place.SetSlot p) S after =
     let w : View = stepped a line (SetSlot id slot) (place.SetSlot p) v in
-    subst (λ (h : Held). PlaceCleared (w.words area.Role) h.state.place h.topics) (sym (upd_same v.hand a _)) (setting_cleared v.words p (v.hand a) id slot (answer_in (set_slot_task p (v.hand a) id slot) v.words))
+    subst (HeldCleared (w.words area.Role)) (sym (upd_same v.hand a _))
+    (setting_cleared v.words (v.hand a) id slot (answer_in (set_slot_task p (v.hand a) id slot) v.words) p)
 own_cleared z v a line _ _ S after = absurd S.holds
 
 -- ---- another actor's step
-
--- It stores in no word of the page that is leaving.
-elsewhere : (z : Sizes) (v : View) (a : ℕ) (step : PartStep) → IsPart z v a step → TopicsInvariant z v → (i k : ℕ) → i < actors_of z → i ≢ a → (v.hand i).topics.leaving ≡ Some k → IsElsewhere step (v.hand a).topics k
-elsewhere z v a (part.Fill value) S I i k lt ne left = λ o is. left_not_owned I.uses i k lt left a o S.there is
-elsewhere z v a (part.Link gfn) S I i k lt ne left = λ e. left_no_table I.uses I.spot i k _ lt left (sym (ap (stands I.up I.spot) e) ∙ (I.held a S.there).table S.needs.0.saw.over.there)
-elsewhere z v a (part.Leaf gfn) S I i k lt ne left = λ e. left_no_table I.uses I.spot i k _ lt left (sym (ap (stands I.up I.spot) e) ∙ (I.held a S.there).table S.needs.0.saw.over.there)
-elsewhere z v a part.Clear S I i k lt ne left = left_elsewhere (v.hand a).topics S.needs.leaves k (λ l is e. ne (one_leaver I.uses i a k lt S.there left (is ∙ ap Some e)))
-elsewhere z v a _ S I i k lt ne left = tt
 
 touched : (op : Op) (index : ℕ) (words : Area → ℕ → ℕ) (k : ℕ) → words_after (touch_of op index) words area.Role k ≡ words area.Role k
 touched Read index words k = refl
 touched _ index words k = refl
 
-role_after : (z : Sizes) (v : View) (a : ℕ) (task : Task) → StepIn z v a task → TopicsInvariant z v → (i k : ℕ) → i < actors_of z → i ≢ a → (v.hand i).topics.leaving ≡ Some k → words_after task v.words area.Role k ≡ v.words area.Role k
-role_after z v a _ (Makes step note S) I i k lt ne left = role_stays z v a step note S k (elsewhere z v a step S I i k lt ne left)
-role_after z v a _ (Touches op index) I i k lt ne left = touched op index v.words k
+module _ (z : Sizes) (v : View) (a i : ℕ) (I : Invariant z v) (P : TopicsInvariant z v) (lt : i < actors_of z) (ne : i ≢ a) where
+  abbrev Leaves : ℕ → Type 0
+  Leaves k = (v.hand i).topics.leaving ≡ Some k
 
-some_left : (x : Option ℕ) → is_some x ≡ true → x ≡ Some (page_left x)
-some_left None some = absurd (cc some)
-some_left (Some k) some = refl
+  -- A page that is leaving is no table.
+  no_walk : (k : ℕ) → Leaves k → a < actors_of z → 1 ≤ (v.hand a).topics.walk.level → table_page (v.hand a).topics.walk ≢ k
+  no_walk k left there from e = left_no_table P.uses P.spot i k _ lt left (sym (ap (stands P.up P.spot) e) ∙ (P.held a there).table from)
 
-still_cleared : (role after : ℕ → ℕ) (p : Place) (c : Command) (h : Held) → KnowsPart p c h → ((k : ℕ) → h.topics.leaving ≡ Some k → after k ≡ role k) → PlaceCleared role p h.topics → PlaceCleared after p h.topics
-still_cleared role after (place.SetSlot Give) (SetSlot id slot) h K same C = same (page_left h.topics.leaving) (some_left h.topics.leaving K.1.leaves) ∙ C
-still_cleared role after (place.SetSlot Give) (Access gfn word op) h K same C = absurd K
-still_cleared role after (place.SetSlot _) c h K same C = tt
-still_cleared role after _ c h K same C = tt
+  -- The step stores in no word of it.
+  elsewhere : (k : ℕ) → Leaves k → (step : PartStep) → IsPart z v a step → IsElsewhere step (v.hand a).topics k
+  elsewhere k left (part.Fill value) S = λ o is. left_not_owned P.uses i k lt left a o S.there is
+  elsewhere k left (part.Link gfn) S = no_walk k left S.there S.needs.0.saw.over.there
+  elsewhere k left (part.Leaf gfn) S = no_walk k left S.there S.needs.0.saw.over.there
+  elsewhere k left part.Clear S = left_elsewhere (v.hand a).topics S.needs.leaves k (λ l is e. ne (one_leaver P.uses i a k lt S.there left (is ∙ ap Some e)))
+  elsewhere k left _ S = tt
 
-others_cleared : (z : Sizes) (v : View) (a i : ℕ) (h : Held) (task : Task) → StepIn z v a task → Invariant z v → TopicsInvariant z v → i < actors_of z → i ≢ a → HandCleared v i
-    → HandCleared (record { words = words_after task v.words; hand = upd v.hand a h }) i
-others_cleared z v a i h task makes I P lt ne C =
-    subst (λ (g : Held). PlaceCleared (words_after task v.words area.Role) g.state.place g.topics) (sym (upd_other v.hand a i h ne))
-    (still_cleared (v.words area.Role) (words_after task v.words area.Role) (v.hand i).state.place (v.hand i).state.line.command (v.hand i) (I.knows i lt) (λ k left. role_after z v a task makes P i k lt ne left) C)
+  role_after : (k : ℕ) → Leaves k → (task : Task) → StepIn z v a task → words_after task v.words area.Role k ≡ v.words area.Role k
+  role_after k left _ (Makes step note S) = role_stays z v a step note S k (elsewhere k left step S)
+  role_after k left _ (Touches op index) = touched op index v.words k
+
+  some_left : (x : Option ℕ) → is_some x ≡ true → x ≡ Some (page_left x)
+  some_left None some = absurd (cc some)
+  some_left (Some k) some = refl
+
+  still_cleared : (role after : ℕ → ℕ) (p : Place) (c : Command) (h : Held) → KnowsPart p c h → ((k : ℕ) → h.topics.leaving ≡ Some k → after k ≡ role k)
+      → PlaceCleared role p h.topics → PlaceCleared after p h.topics
+  still_cleared role after (place.SetSlot Give) (SetSlot id slot) h K same C = same (page_left h.topics.leaving) (some_left h.topics.leaving K.1.leaves) ∙ C
+  still_cleared role after (place.SetSlot Give) (Access gfn word op) h K same C = absurd K
+  still_cleared role after (place.SetSlot _) c h K same C = tt
+  still_cleared role after _ c h K same C = tt
+
+  others_cleared : (h : Held) (task : Task) → StepIn z v a task → HandCleared v i
+      → HandCleared (record { words = words_after task v.words; hand = upd v.hand a h }) i
+  others_cleared h task makes C =
+      subst (HeldCleared (words_after task v.words area.Role)) (sym (upd_other v.hand a i h ne))
+      (still_cleared (v.words area.Role) (words_after task v.words area.Role) (v.hand i).state.place (v.hand i).state.line.command (v.hand i) (I.knows i lt)
+      (λ k left. role_after k left task makes) C)
 
 -- ---- each step
 
@@ -174,9 +199,17 @@ module _ (z : Sizes) (u : World Held) (s : Step Kind) (G : IsSound z u) (may : M
       p : Place
       p = place_at h.state.place h
 
-      by : (i ≡ s.actor) ⊎ (i ≢ s.actor) → HandCleared (stepped s.actor line line.command p (view z u)) i
-      by (inl own) = subst (HandCleared (stepped s.actor line line.command p (view z u))) (sym own) (own_cleared z (view z u) s.actor line line.command p T.is_step (subst (Invariant z) T.leads (good_step z u s G may).holds))
-      by (inr ne) = others_cleared z (view z u) s.actor i _ (task_at p line.command h) (step_in z (view z u) s.actor line line.command p (view_small z u G.small) T.is_step G.holds G.topics) G.holds G.topics lt ne C
+      after : View
+      after = stepped s.actor line line.command p (view z u)
+
+      makes : StepIn z (view z u) s.actor (task_at p line.command h)
+      makes = step_in z (view z u) s.actor line line.command p (view_small z u G.small) T.is_step G.holds G.topics
+
+      by : (i ≡ s.actor) ⊎ (i ≢ s.actor) → HandCleared after i
+      by (inl own) =
+          subst (HandCleared after) (sym own)
+          (own_cleared z (view z u) s.actor line line.command p T.is_step (subst (Invariant z) T.leads (good_step z u s G may).holds))
+      by (inr ne) = others_cleared z (view z u) s.actor i G.holds G.topics lt ne _ (task_at p line.command h) makes C
 
   part_step : TakesPart z u s h → HandCleared (view z (effect mmu u s)) i
   part_step T = subst (λ (v : View). HandCleared v i) (sym T.leads) (by (same_or i s.actor))
@@ -185,8 +218,12 @@ module _ (z : Sizes) (u : World Held) (s : Step Kind) (G : IsSound z u) (may : M
       after = part_stepped s.actor T.step T.note (view z u)
 
       by : (i ≡ s.actor) ⊎ (i ≢ s.actor) → HandCleared after i
-      by (inl own) = subst (HandCleared after) (sym own) (subst (λ (g : Held). PlaceCleared (after.words area.Role) g.state.place g.topics) (sym (upd_same (hand_in mmu u) s.actor _)) (idle_cleared (after.words area.Role) h.state.place h _ T.none_left (G.holds.lines s.actor T.is_part.there).under))
-      by (inr ne) = others_cleared z (view z u) s.actor i _ (part_task T.step (own_index h) h.topics T.note) (Makes T.step T.note T.is_part) G.holds G.topics lt ne C
+      by (inl own) =
+          subst (HandCleared after) (sym own) (subst (HeldCleared (after.words area.Role)) (sym (upd_same (hand_in mmu u) s.actor _))
+          (idle_cleared (after.words area.Role) h.state.place h _ T.none_left (G.holds.lines s.actor T.is_part.there).under))
+      by (inr ne) =
+          let task : Task = part_task T.step (own_index h) h.topics T.note in
+          others_cleared z (view z u) s.actor i G.holds G.topics lt ne _ task (Makes T.step T.note T.is_part) C
 
   one_more : HandCleared (view z (effect mmu u s)) i
   one_more = by (takes z u s G may)
@@ -195,13 +232,16 @@ module _ (z : Sizes) (u : World Held) (s : Step Kind) (G : IsSound z u) (may : M
       by (inl T) = line_step T
       by (inr T) = part_step T
 
-each_cleared : (z : Sizes) (lines : List Line) (w : World Held) (ss : List (Step Kind)) → IsRun z lines w ss → (i : ℕ) → i < actors_of z → HandCleared (view z (run mmu w ss)) i
+each_cleared : (z : Sizes) (lines : List Line) (w : World Held) (ss : List (Step Kind)) → IsRun z lines w ss → (i : ℕ) → i < actors_of z
+    → HandCleared (view z (run mmu w ss)) i
 each_cleared z lines w ss R i lt =
     of_each_list z w (λ ts u. HandCleared (view z u) i) (λ ts s G may C. one_more z (run mmu w ts) s G may i lt C) ss (start_good z lines w R.start) R.legal
-    (subst (λ (h : Held). PlaceCleared (word_in z w area.Role) h.state.place h.topics) (sym (hand_is z lines w i R.start lt)) tt)
+    (subst (HeldCleared (word_in z w area.Role)) (sym (hand_is z lines w i R.start lt)) tt)
 
 pub returned_sets_are_cleared : ReturnedSetsAreCleared
-returned_sets_are_cleared z lines w ss s R page gives left = ap (word_in z u area.Role) (ap page_left (sym left)) ∙ subst (λ p. PlaceCleared (word_in z u area.Role) p h.topics) at C
+returned_sets_are_cleared z lines w ss s R page gives left =
+    ap (λ l. word_in z u area.Role (page_left l)) (sym left)
+    ∙ subst (λ p. PlaceCleared (word_in z u area.Role) p h.topics) at (each_cleared z lines w ss earlier s.actor there)
   where
     u : World Held
     u = run mmu w ss
@@ -209,11 +249,11 @@ returned_sets_are_cleared z lines w ss s R page gives left = ap (word_in z u are
     h : Held
     h = hand_in mmu u s.actor
 
+    earlier : IsRun z lines w ss
+    earlier = before z lines w ss s R
+
     there : s.actor < actors_of z
     there = last_actor z lines w ss s R
 
-    C : HandCleared (view z u) s.actor
-    C = each_cleared z lines w ss (before z lines w ss s R) s.actor there
-
     at : h.state.place ≡ place.SetSlot Give
-    at = (gives_old z u (sound z lines w ss (before z lines w ss s R)) s page there (may_last z lines w ss s R) gives.gives left).0
+    at = (gives_old z u (sound z lines w ss earlier) s page there (may_last z lines w ss s R) gives.gives left).0
