@@ -71,15 +71,6 @@ pub record HandReached (h : Held) : Type 0 where
   pub there : actor < length world.hands
   pub has : hand_in mmu world actor ≡ h
 
--- Some reachable world has this hand, and in it the step would answer this.
-pub record Possible (h : Held) (k : Kind) (v : ℕ) : Type 0 where
-  pub world : World Held
-  pub actor : ℕ
-  pub reached : Reachable world
-  pub there : actor < length world.hands
-  pub has : hand_in mmu world actor ≡ h
-  pub answers : answered mmu world k ≡ v
-
 -- what a list of steps tells
 abbrev pub history : World Held → List (Step Kind) → List Event
 history w [] = []

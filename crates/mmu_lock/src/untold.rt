@@ -52,7 +52,7 @@ impl Stepper for UntoldSeat<'_> {
 pub fn exclusive_untold(s: &mut UntoldSeat<'_>) -> Lock
     requires may { MayMake Exclude 0 (handful_in s.old.seat.machine.now.hands s.old.seat.index).core }
     requires reserved { 0 < (handful_in s.old.seat.machine.now.hands s.old.seat.index).room }
-    ensures sole { result ≡ Got → ∥ ((w : World Held) × IsMadeIn (part_kind (handful_in s.old.seat.machine.now.hands s.old.seat.index).core Exclude 0) s.old.seat.index (handful_in s.old.seat.machine.now.hands s.old.seat.index).core (handful_in s.new.seat.machine.now.hands s.new.seat.index).core w × NoOtherHasLock s.old.seat.index (effect mmu w (step_by s.old.seat.index (part_kind (handful_in s.old.seat.machine.now.hands s.old.seat.index).core Exclude 0)))) ∥₁ }
+    ensures sole { result ≡ Got → ∥ ((w : World Held) × (IsMadeIn (part_kind (handful_in s.old.seat.machine.now.hands s.old.seat.index).core Exclude 0) s.old.seat.index (handful_in s.old.seat.machine.now.hands s.old.seat.index).core (handful_in s.new.seat.machine.now.hands s.new.seat.index).core w × NoOtherHasLock s.old.seat.index (effect mmu w (step_by s.old.seat.index (part_kind (handful_in s.old.seat.machine.now.hands s.old.seat.index).core Exclude 0))))) ∥₁ }
 {
     try_exclusive(s, 0)
 }

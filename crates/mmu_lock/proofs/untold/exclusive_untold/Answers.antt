@@ -1,0 +1,4 @@
+use Rattle.mmu_lock.proofs.untold.exclusive_untold.Goals as goal
+
+pub returns : goal.returns
+returns c = record { sole = c.try_exclusive.ensures.sole }
