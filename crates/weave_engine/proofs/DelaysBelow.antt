@@ -1,13 +1,12 @@
 -- Each delay below `go` is one of a line that stands there: so all delays are those of these lines together.
 use Rattle.std.proofs.Common.{◌≡◌, ◌⊎◌, inl, inr, ◌+◌, ◌*◌, ◌-◌, ◌<◌, ◌≤◌, ℕ, List, [], ◌∷◌, ◌++◌, get_or, length, length-append, refl, sym, subst, ap, ◌∙◌, arith}
-use Rattle.std.proofs.lemmas.Bool.{cases_Bool}
-use Rattle.std.proofs.lemmas.Bool.Decides.{nat_tests}
+use Rattle.std.proofs.lemmas.Bool.{cases_Bool, eq-eqb, ltb-true}
 use Rattle.std.proofs.lemmas.List.{get_or-append_right}
 use Rattle.std.proofs.lemmas.List.Elements.{All-contains, All-contains_itself, All-filter, Contains-get_or, filter-append}
 use Rattle.std.proofs.lemmas.List.Sums.{get_or-le-sum_by, sum_by-cons}
 use Rattle.std.proofs.lemmas.Option.{slice_get-get_or}
 use Rattle.std.specs.List.{Contains, sum_by}
-use Rattle.std.specs.Prelude.{Bool, true, false, ◌&&◌, ◌==◌, unwrap_or}
+use Rattle.std.specs.Prelude.{Bool, true, false, ◌&&◌, ◌==◌, nat_lt, unwrap_or}
 use Rattle.std.specs.declared.option.Option.{Option}
 use Rattle.core_views.specs.declared.answer.AnsweredLine.{AnsweredLine}
 use Rattle.core_views.specs.declared.kind.Kind.{Kind}
@@ -111,11 +110,14 @@ module _ (z : Sizes) (ran below : List Line) where
       there : s.actor < actors_of z
       there = let hands = G.hands in let at = may.there in omega (arith, at, hands)
 
+      left_of : (n m : ℕ) → nat_lt n m ≡ true → n < m
+      left_of n m is = ltb-true n m is
+
       none_few : (n m : ℕ) → n ≡ 0 → n ≤ m
       none_few n m none = omega (arith, none)
 
       own_number : (n : ℕ) (b : Bool) → one_if ((n == n) && b) ≡ one_if b
-      own_number n b = let e : (n == n) ≡ true = grind (arith, nat_tests) in ap (λ x. one_if (x && b)) e
+      own_number n b = let e : (n == n) ≡ true = eq-eqb n n refl in ap (λ x. one_if (x && b)) e
 
       of_line : length h.answers < length h.lines → one_if (delays_line u s) ≤ sum_by (λ line. one_if (is_numbered line.number u s && delays_line u s)) below
       of_line left =
@@ -125,7 +127,7 @@ module _ (z : Sizes) (ran below : List Line) where
           omega (arith, few, own)
 
       by : (has_line h ≡ true) ⊎ (has_line h ≡ false) → one_if (delays_line u s) ≤ sum_by (λ line. one_if (is_numbered line.number u s && delays_line u s)) below
-      by (inl has) = of_line (grind (arith, nat_tests))
+      by (inl has) = of_line (left_of (length h.answers) (length h.lines) has)
       by (inr no_line_) = none_few (one_if (delays_line u s)) _ (ap (λ b. one_if (b && hand_delays h (answered mmu u s.kind))) no_line_)
 
   pub delays_below : (u : World Held) (ss : List (Step Kind)) → IsSound z u → Legal mmu u ss → AreBelow u → how_many delays_line u ss ≤ sum_by (λ line. delays_of line.number u ss) below
