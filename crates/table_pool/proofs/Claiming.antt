@@ -38,7 +38,7 @@ use Rattle.mmu_core.proofs.TreePlaces.{root_stands}
 use Rattle.mmu_core.proofs.Starts.{reached_good}
 use Rattle.step_seats.specs.PartTurns.{MadePart, WherePartMade}
 use Rattle.step_seats.specs.Where.{HasHand, Told}
-use Rattle.table_pool.specs.Claims.{IsClaimersAlone, IsFirstSeen, IsFreePage, SawStands, claim_step, next_word, sees_pages}
+use Rattle.table_pool.specs.Claims.{IsClaimersAlone, IsFreePage, SawStands, claim_step, next_word, sees_pages}
 use Rattle.table_pool.specs.declared.claim.Claim.{Claim}
 use Rattle.table_pool.specs.declared.claim.Claimed.{Claimed}
 use Rattle.table_pool.specs.declared.claim.Claimed.TheVariants.{Page, Empty}
@@ -55,26 +55,6 @@ low_bit claim some small = (bit_at-trailing_zeros w64 claim.seen some small).0
 
 saw_bit : (claim : MapClaim) → 0 < claim.seen → claim.seen < 2 ^ 64 → has_bit (tried_bit claim) claim.seen ≡ true
 saw_bit claim some small = ap (λ b. b == 1) (bit_at-trailing_zeros w64 claim.seen some small).1
-
--- A page that was claimed is the first one of those that were seen free.
-won_page : (claim : MapClaim) (found : ℕ) (o : OwnedPage) → claimed claim found ≡ Some o → o.page ≡ 64 * claim.at + tried_bit claim
-won_page claim found o is = by (is_won claim found) is
-  where
-    by : (won : Bool) → ◌≡◌ {A = Option OwnedPage} (if won then Some (record { page = 64 * claim.at + tried_bit claim; filled = 0; absent = true; role = 0 }) else None) (Some o) → o.page ≡ 64 * claim.at + tried_bit claim
-    by true e = let same : record { page = 64 * claim.at + tried_bit claim; filled = 0; absent = true; role = 0 } ≡ o = cc e in ap (λ (x : OwnedPage). x.page) (sym same)
-    by false e = absurd (cc e)
-
-pub first_seen : (claim : MapClaim) (found : ℕ) (o : OwnedPage) → 0 < claim.seen → claim.seen < 2 ^ 64 → claimed claim found ≡ Some o → IsFirstSeen o.page claim
-first_seen claim found o some small is =
-    let page : o.page ≡ 64 * claim.at + tried_bit claim = won_page claim found o is in
-    let B = bit_at-trailing_zeros w64 claim.seen some small in
-    let low : tried_bit claim < 64 = B.0 in
-    let bit : o.page % 64 ≡ tried_bit claim = omega (arith, page, low) in
-    record {
-      of_word = omega (arith, page, low);
-      free = ap (λ b. has_bit b claim.seen) bit ∙ ap (λ b. b == 1) B.1;
-      none_before = λ i lt. ap (λ b. b == 1) (B.2 i (subst (λ b. i < b) bit lt));
-    }
 
 -- Clearing a bit that is clear leaves the number.
 still : (n j : ℕ) → j < 64 → n < 2 ^ 64 → has_bit j n ≡ false → bit_and n (bit_not w64 (2 ^ j)) ≡ n

@@ -2,7 +2,8 @@ use Rattle.std.proofs.Common.{◌≡◌, ◌<◌, ◌^◌, Some, None, ap, sym, 
 use Rattle.std.specs.Prelude.{false}
 use Rattle.part_steps.specs.declared.part_step.PartStep.TheVariants as part
 use Rattle.table_pool.specs.Claims.{IsClaimersAlone, IsFirstSeen, IsFreePage, SawStands, next_word, sees_pages, claim_step}
-use Rattle.table_pool.proofs.Claiming.{claim_alone, claim_needs, claim_stands, claimed_alone, claimed_free, first_seen, never_waits, page_in, saw_none, unbegun, won_waits_not, word_begun, word_unbegun, claims, where_claimed, load_stands_there, load_waits_not}
+use Rattle.table_pool.proofs.Claiming.{claim_alone, claim_needs, claim_stands, claimed_alone, claimed_free, never_waits, page_in, saw_none, unbegun, won_waits_not, word_begun, word_unbegun, claims, where_claimed, load_stands_there, load_waits_not}
+use Rattle.table_pool.proofs.FirstSeen.{first_seen}
 use Rattle.step_seats.specs.PartTurns.{WherePartMade}
 use Rattle.step_seats.proofs.Where.{only}
 use Rattle.core_views.specs.declared.hand.Seen.{Seen}
