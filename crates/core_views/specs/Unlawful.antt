@@ -1,7 +1,7 @@
 -- Histories that flat guest memory doesn't allow. Each begins with the whole of one slot line, which is as it must be.
 use Rattle.std.specs.Prelude.{List, [], ◌∷◌, ◌++◌, false, map}
 use Rattle.core_views.specs.declared.answer.Answer.{Answer}
-use Rattle.core_views.specs.declared.answer.Answer.TheVariants.{Reached, Starved}
+use Rattle.core_views.specs.declared.answer.Answer.TheVariants.{Mmio, Reached, Starved}
 use Rattle.core_views.specs.declared.event.Event.{Event}
 use Rattle.core_views.specs.declared.event.EventKind.{EventKind}
 use Rattle.core_views.specs.declared.event.EventKind.TheVariants.{Begun, LookedAtPause, LookedAtSlots, LookedAtHost, Accessed, Exited}
@@ -49,3 +49,7 @@ outside_line = access_line 3 0 4 0 Read
 
 abbrev pub OutsideReachesNone : Type 0
 OutsideReachesNone = IsUnlawful outside_line (LookedAtPause ∷ LookedAtSlots ∷ Accessed 4 0 Read 4 0 ∷ []) (Reached 4 0)
+
+-- Nor does it leave the guest before it has looked at the pause.
+abbrev pub ExitLooksAtPause : Type 0
+ExitLooksAtPause = IsUnlawful outside_line (LookedAtSlots ∷ Exited Mmio ∷ []) Mmio

@@ -1,5 +1,5 @@
 ghost use Rattle.core_views.specs.Laws.{FlatIsLawful, FlatIsWhole, FlatStandsAlone, FlatPrints, AloneIsFlat, AloneAnswersAsFlat, AloneIsWhole};
-ghost use Rattle.core_views.specs.Unlawful.{AccessLooksAtPause, AccessReachesItsFrame, OutsideReachesNone, OverlapCannotStarve};
+ghost use Rattle.core_views.specs.Unlawful.{AccessLooksAtPause, AccessReachesItsFrame, ExitLooksAtPause, OutsideReachesNone, OverlapCannotStarve};
 
 /// Laws about the definitions alone: the flat history of every list of lines
 /// is lawful, answers each line once, in its actor's order, and is made of
@@ -23,11 +23,13 @@ pub fn alone_is_flat()
 {}
 
 /// A law about closed histories that are not lawful: a slot line that is to be
-/// refused can't be given up for want of a pool page, an access has looked at
-/// the pause, and it reaches the frame that slots and host name, or none.
+/// refused can't be given up for want of a pool page, an access that reaches a
+/// frame or leaves the guest has looked at the pause, and it reaches the frame
+/// that slots and host name, or none.
 pub fn unlawful_histories_are_refused()
     ensures starved { OverlapCannotStarve }
     ensures pause { AccessLooksAtPause }
     ensures frame { AccessReachesItsFrame }
     ensures outside { OutsideReachesNone }
+    ensures exit { ExitLooksAtPause }
 {}

@@ -34,7 +34,6 @@ use Rattle.mmu_core.proofs.Sized.{loads_keep_sizes}
 use Rattle.mmu_core.specs.Steps.{has_line, held_after, idle_after, line_after, line_at, next, place_at, standing, task_at, task_of}
 use Rattle.part_steps.specs.TopicSteps.{HasRoom, topics_after}
 use Rattle.mmu_core.proofs.Which.{has_line_is, next_of_line, next_of_part}
-use Rattle.core_views.specs.Slots.{is_write}
 
 pub enabled_sizes : (h : Held) (k : Kind) → Enabled h k → AreSizes h.state.sizes
 unfolding Enabled

@@ -27,7 +27,6 @@ use Rattle.mmu_core.proofs.ByStep.{StepAt, step_at, Makes, Touches}
 use Rattle.mmu_core.proofs.RestsKept.{hand_rests, task_within}
 use Rattle.mmu_core.proofs.Stepping.{IsStep, is_step}
 use Rattle.mmu_core.proofs.Which.{enabled_is}
-use Rattle.core_views.specs.Slots.{is_write}
 
 -- What a step writes has 64 bits.
 touch_small : (op : Op) (gfn word index : ℕ) → WritesOneWord (Access gfn word op) → (touch_of op index).written < 2 ^ 64

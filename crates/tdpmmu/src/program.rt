@@ -189,8 +189,8 @@ fn run_command<S: Source, K: Sink>(
 /// The status says how it went, and each has its cause: `ReadFault` comes only where
 /// the count of faults of `src` rose, or stood at 2^64 - 1, and `WriteFault` exactly
 /// where a write to `out` failed. After that nothing was written. At `WriteFault`, and at
-/// `NoMemory` once the input was read, the output is written but for at most 8,192 bytes
-/// and its last line.
+/// `NoMemory` but where nothing is written, what the first lines or turns print is written
+/// but for at most 8,192 bytes and its last line.
 pub fn run<R: Threads + Wait + Sync, S: Source, K: Sink, G: Gate + Sync>(
     _rt: &R,
     alloc: Global,

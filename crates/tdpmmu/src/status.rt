@@ -16,14 +16,14 @@ pub enum Status {
     Refused { line: u32, reason: Reason },
     /// Reading the trace failed. Nothing was written.
     ReadFault,
-    /// Writing failed. What was written is a prefix of the output, which lacks at
-    /// most 8,192 bytes and the last line.
+    /// Writing failed. What was written is what the first lines or turns print, but
+    /// for at most 8,192 bytes and the last line of it.
     WriteFault,
     /// The turns were used up before each line was answered: the first line of
     /// the file that has no answer.
     Unfinished { actor: Actor, line: u32 },
-    /// Memory was refused. What was written is a prefix of the output, which lacks
-    /// at most 8,192 bytes and the last line; nothing, if the input was being read.
+    /// Memory was refused. What was written is nothing, or what the first lines or
+    /// turns print, but for at most 8,192 bytes and the last line of it.
     NoMemory,
 }
 

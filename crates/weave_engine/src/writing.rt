@@ -13,7 +13,7 @@ use trace_text::answer_line;
 const PIECE: usize = 8192;
 
 /// Puts a text after what waits to be written, and writes all of it where it
-/// is long enough: so less than a piece waits.
+/// is long enough: so at most a piece waits.
 pub fn put<K: Sink>(out: &mut K, pending: &mut String, text: &str) -> Result<(), Stop>
     requires unfailed { K.failed out.old ≡ false }
     ensures bytes { Buffers (K.written out.old) (K.written out.new) (string_bytes pending.old) (string_bytes pending.new) result text.now }

@@ -19,3 +19,6 @@ returns-clause-frame c lawful = other_frame lawful.1.1.1.1.1.1.1.0.3.named
 
 pub returns-clause-outside : goal.returns-clause-outside
 returns-clause-outside c lawful = absurd (cc lawful.1.1.1.1.1.1.0.3.named)
+
+pub returns-clause-exit : goal.returns-clause-exit
+returns-clause-exit c lawful = absurd (cc lawful.1.1.1.1.1.0.1.runs)
