@@ -15,15 +15,15 @@ use Rattle.core_views.specs.Actors.{is_same}
 use Rattle.core_views.specs.Held.{Held}
 use Rattle.core_views.specs.Sizes.{actor_at, actors_of, index_of}
 use Rattle.core_views.specs.Whole.{lines_of}
-use Rattle.mmu_core.specs.Enabled.{mmu}
-use Rattle.mmu_core.specs.LinesPart.{UnderWay}
-use Rattle.mmu_core.specs.Machine.{Legal, May, Step, World, answered, effect, hand_in, run}
-use Rattle.mmu_core.specs.Steps.{has_line}
-use Rattle.mmu_core.specs.Sums.{one_if, sum_below}
-use Rattle.mmu_core.proofs.EveryAnswer.{run_follows, start_follows}
-use Rattle.mmu_core.proofs.Starts.{place_of_actor, same_actor}
-use Rattle.mmu_core.proofs.StarvedScan.{legal_parts}
-use Rattle.mmu_core.proofs.SumsBelow.{one_small, sum_only}
+use Rattle.mmu_core.specs.machine.Enabled.{mmu}
+use Rattle.mmu_core.specs.invariant.LinesPart.{UnderWay}
+use Rattle.mmu_core.specs.machine.Machine.{Legal, May, Step, World, answered, effect, hand_in, run}
+use Rattle.mmu_core.specs.machine.Steps.{has_line}
+use Rattle.mmu_core.specs.machine.Sums.{one_if, sum_below}
+use Rattle.mmu_laws.proofs.flat.EveryAnswer.{run_follows, start_follows}
+use Rattle.mmu_core.proofs.start.Starts.{place_of_actor, same_actor}
+use Rattle.mmu_laws.proofs.causes.StarvedScan.{legal_parts}
+use Rattle.mmu_core.proofs.machine.SumsBelow.{one_small, sum_only}
 use Rattle.core_theorem.specs.Turns.{LinesAreOpen, begins_line, hand_delays, how_many, is_under_way}
 use Rattle.core_theorem.proofs.Turns.{CountsEnding, CountsGoing, IsReached, one_begins, open_in, part_still, reached_behind, reached_more, reached_sound, step_counts, sum_moves, sum_of, sum_same}
 

@@ -11,17 +11,17 @@ use Rattle.core_views.specs.declared.place.Place.TheVariants as place
 use Rattle.core_views.specs.declared.sizes.Sizes.{Sizes}
 use Rattle.core_views.specs.declared.trace.Line.{Line}
 use Rattle.core_views.specs.Held.{Held}
-use Rattle.mmu_core.specs.Delays.{begins_anew, line_waits}
-use Rattle.mmu_core.specs.Enabled.{mmu}
-use Rattle.mmu_core.specs.Machine.{Step, World, run}
-use Rattle.mmu_core.specs.Steps.{has_line}
-use Rattle.mmu_core.proofs.Causes.{faults_begin_anew_by_cause}
-use Rattle.mmu_core.proofs.EachFault.{is_access}
-use Rattle.mmu_core.proofs.Starts.{start_good}
-use Rattle.mmu_core.proofs.TurnsNearer.{delays_wait_or_begin_anew}
-use Rattle.mmu_core.proofs.StepWaits.{step_waits_are_by_cause}
-use Rattle.mmu_core.proofs.WaitsSame.{WaitsAs, line_waits_as}
-use Rattle.mmu_core.proofs.Which.{is_next}
+use Rattle.mmu_core.specs.lines.Delays.{begins_anew, line_waits}
+use Rattle.mmu_core.specs.machine.Enabled.{mmu}
+use Rattle.mmu_core.specs.machine.Machine.{Step, World, run}
+use Rattle.mmu_core.specs.machine.Steps.{has_line}
+use Rattle.mmu_laws.proofs.causes.Causes.{faults_begin_anew_by_cause}
+use Rattle.mmu_laws.proofs.causes.EachFault.{is_access}
+use Rattle.mmu_core.proofs.start.Starts.{start_good}
+use Rattle.mmu_laws.proofs.turns.TurnsNearer.{delays_wait_or_begin_anew}
+use Rattle.mmu_laws.proofs.causes.StepWaits.{step_waits_are_by_cause}
+use Rattle.mmu_laws.proofs.causes.WaitsSame.{WaitsAs, line_waits_as}
+use Rattle.mmu_core.proofs.machine.Which.{is_next}
 use Rattle.core_theorem.specs.Delays.{BeginsAnew, DelaysHaveCauses, StepWaits, answer_of, hand_of}
 use Rattle.core_theorem.specs.Runs.{IsRun}
 use Rattle.core_theorem.proofs.Runs.{before, last_actor, may_last, reached, sound, starts_between}

@@ -6,30 +6,30 @@ use Rattle.core_views.specs.declared.topics.OwnedPage.{OwnedPage}
 use Rattle.core_views.specs.Held.{Held}
 use Rattle.core_views.specs.Sizes.{actors_of, index_of}
 use Rattle.spte_words.specs.declared.area.Area.TheVariants as area
-use Rattle.mmu_core.specs.Enabled.{mmu}
-use Rattle.mmu_core.specs.Laws.{IsSound}
-use Rattle.mmu_core.specs.Machine.{May, World, effect, hand_in, run, Step}
-use Rattle.mmu_core.specs.PoolPart.{is_free}
-use Rattle.mmu_core.specs.View.{word_in}
-use Rattle.mmu_core.specs.TopicsInvariant.{HoldsOld}
-use Rattle.mmu_core.proofs.PoolPages.{left_no_table, left_not_free, left_not_owned, left_not_slots, not_free, one_leaver, one_owner, owned_not_free, owned_not_slots, set_use, table_not_free, table_not_owned}
-use Rattle.mmu_core.proofs.Scanned.{others_hand}
-use Rattle.mmu_core.proofs.Worlds.{good_step}
+use Rattle.mmu_core.specs.machine.Enabled.{mmu}
+use Rattle.mmu_core.specs.invariant.Laws.{IsSound}
+use Rattle.mmu_core.specs.machine.Machine.{May, World, effect, hand_in, run, Step}
+use Rattle.mmu_core.specs.invariant.PoolPart.{is_free}
+use Rattle.mmu_core.specs.machine.View.{word_in}
+use Rattle.mmu_core.specs.invariant.TopicsInvariant.{HoldsOld}
+use Rattle.mmu_core.proofs.pages.PoolPages.{left_no_table, left_not_free, left_not_owned, left_not_slots, not_free, one_leaver, one_owner, owned_not_free, owned_not_slots, set_use, table_not_free, table_not_owned}
+use Rattle.mmu_core.proofs.held.Scanned.{others_hand}
+use Rattle.mmu_core.proofs.machine.Worlds.{good_step}
 use Rattle.core_theorem.specs.Holdings.{HeldSetsAreKnown, NoneHoldsFreePages, NoOtherHolds, WatchedHoldNoOldSet, OfEachHeld, PagesAreReusedAlone}
 use Rattle.core_theorem.specs.Pages.{Owns}
 use Rattle.core_theorem.specs.Runs.{IsRun}
 use Rattle.core_theorem.proofs.Runs.{before, last_actor, may_last, sound}
 use Rattle.core_theorem.proofs.WalksKept.{stands_at}
 use Rattle.core_theorem.specs.Walks.{table_at, walk_of}
-use Rattle.mmu_core.specs.TreePart.{stands}
-use Rattle.mmu_core.specs.TreePart.Use.{SlotSet}
+use Rattle.mmu_core.specs.invariant.TreePart.{stands}
+use Rattle.mmu_core.specs.invariant.TreePart.Use.{SlotSet}
 use Rattle.std.proofs.lemmas.Bool.Decides.{nat_tests}
 use Rattle.part_steps.specs.PartSteps.{MayGiveOld, next_watched, own_index}
-use Rattle.mmu_core.specs.SetSlotKnows.{SetSlotKnows}
-use Rattle.mmu_core.specs.SetSlotSteps.{set_slot_task}
-use Rattle.mmu_core.specs.Invariant.{KnowsPart, LeavesPart, UnderWay}
-use Rattle.mmu_core.specs.Steps.{line_at, place_at, task_at, task_of}
-use Rattle.mmu_core.proofs.Which.{has_line_is, is_next}
+use Rattle.mmu_core.specs.lines.SetSlotKnows.{SetSlotKnows}
+use Rattle.mmu_core.specs.lines.SetSlotSteps.{set_slot_task}
+use Rattle.mmu_core.specs.invariant.Invariant.{KnowsPart, LeavesPart, UnderWay}
+use Rattle.mmu_core.specs.machine.Steps.{line_at, place_at, task_at, task_of}
+use Rattle.mmu_core.proofs.machine.Which.{has_line_is, is_next}
 use Rattle.part_steps.specs.declared.task.Task.{Task}
 use Rattle.core_views.specs.Kinds.{code_of}
 use Rattle.core_views.specs.declared.place.Place.{Place}

@@ -9,15 +9,15 @@ use Rattle.core_views.specs.declared.place.Place.TheVariants as place
 use Rattle.core_views.specs.declared.sizes.Sizes.{Sizes}
 use Rattle.core_views.specs.Held.{Held}
 use Rattle.core_views.specs.Sizes.{actors_of}
-use Rattle.mmu_core.specs.Bounds.{most_steps}
-use Rattle.mmu_core.specs.Delays.{counted}
-use Rattle.mmu_core.specs.Enabled.{mmu}
-use Rattle.mmu_core.specs.Machine.{Legal, May, Step, World, answered, effect, hand_in, run}
-use Rattle.mmu_core.specs.Steps.{has_line}
-use Rattle.mmu_core.specs.Sums.{one_if}
-use Rattle.mmu_core.proofs.Columns.{same_or}
-use Rattle.mmu_core.proofs.Scanned.{others_hand}
-use Rattle.mmu_core.proofs.StarvedScan.{legal_parts}
+use Rattle.mmu_core.specs.lines.Bounds.{most_steps}
+use Rattle.mmu_core.specs.lines.Delays.{counted}
+use Rattle.mmu_core.specs.machine.Enabled.{mmu}
+use Rattle.mmu_core.specs.machine.Machine.{Legal, May, Step, World, answered, effect, hand_in, run}
+use Rattle.mmu_core.specs.machine.Steps.{has_line}
+use Rattle.mmu_core.specs.machine.Sums.{one_if}
+use Rattle.mmu_core.proofs.machine.Columns.{same_or}
+use Rattle.mmu_core.proofs.held.Scanned.{others_hand}
+use Rattle.mmu_laws.proofs.causes.StarvedScan.{legal_parts}
 use Rattle.core_theorem.specs.Turns.{LinesMakeFewSteps, delays_line, hand_delays, is_of, own_delays, own_steps}
 use Rattle.core_theorem.proofs.Turns.{Counts, CountsEnding, CountsGoing, IsReached, count_few, counted_in, part_still, reached_behind, reached_more, step_counts}
 

@@ -7,15 +7,15 @@ use Rattle.core_views.specs.Held.{Held}
 use Rattle.spte_words.specs.declared.area.Area.TheVariants as area
 use Rattle.spte_words.specs.Areas.{pool_index}
 use Rattle.spte_words.proofs.ReadsEntries.{same_table, table_not_absent}
-use Rattle.mmu_core.specs.Laws.{IsSound}
-use Rattle.mmu_core.specs.Machine.{World}
-use Rattle.mmu_core.specs.PoolPart.{is_use}
-use Rattle.mmu_core.specs.TreePart.{EntryPart, Position, Use, stands}
-use Rattle.mmu_core.specs.TreePart.Use.{Free, OldSet, Outside, Owned, Root, SlotSet, Under}
-use Rattle.mmu_core.specs.View.{word_in}
-use Rattle.mmu_core.proofs.PoolPages.{free_use, has_leaver, has_owner, left_use, owned_use, set_use, tells, use_is}
-use Rattle.mmu_core.proofs.Standing.{at_spot}
-use Rattle.mmu_core.proofs.TreePlaces.{all_reached, one_place}
+use Rattle.mmu_core.specs.invariant.Laws.{IsSound}
+use Rattle.mmu_core.specs.machine.Machine.{World}
+use Rattle.mmu_core.specs.invariant.PoolPart.{is_use}
+use Rattle.mmu_core.specs.invariant.TreePart.{EntryPart, Position, Use, stands}
+use Rattle.mmu_core.specs.invariant.TreePart.Use.{Free, OldSet, Outside, Owned, Root, SlotSet, Under}
+use Rattle.mmu_core.specs.machine.View.{word_in}
+use Rattle.mmu_core.proofs.pages.PoolPages.{free_use, has_leaver, has_owner, left_use, owned_use, set_use, tells, use_is}
+use Rattle.mmu_core.proofs.pages.Standing.{at_spot}
+use Rattle.mmu_core.proofs.pages.TreePlaces.{all_reached, one_place}
 use Rattle.core_theorem.specs.Pages.{IsUsedFor, LinksPage, PagesAreUsed}
 
 from_end : (k pages : ℕ) → nat_le pages k ≡ true → pages ≤ k

@@ -30,22 +30,22 @@ use Rattle.spte_words.specs.declared.spte_kind.SpteKind.TheVariants as entry_kin
 use Rattle.spte_words.specs.Areas.{words_of_bits}
 use Rattle.spte_words.specs.Entries.{kind_of}
 use Rattle.part_steps.specs.declared.part_step.PartStep.TheVariants as part
-use Rattle.mmu_core.specs.AccessSteps.{access_outcome, behind_fault, pause_next, walk_next}
-use Rattle.mmu_core.specs.Cached.{first_usable}
-use Rattle.mmu_core.specs.Causes.{HasMade}
-use Rattle.mmu_core.specs.Enabled.{mmu}
-use Rattle.mmu_core.specs.FaultSteps.{allows_access, at_map_word, fault_next, tries_page}
-use Rattle.mmu_core.specs.Laws.{IsSound}
-use Rattle.mmu_core.specs.Machine.{May, Step, World, answered, hand_in, run}
-use Rattle.mmu_core.specs.Outcomes.{place_after}
+use Rattle.mmu_core.specs.lines.AccessSteps.{access_outcome, behind_fault, pause_next, walk_next}
+use Rattle.mmu_core.specs.lines.Cached.{first_usable}
+use Rattle.mmu_laws.specs.causes.Causes.{HasMade}
+use Rattle.mmu_core.specs.machine.Enabled.{mmu}
+use Rattle.mmu_core.specs.lines.FaultSteps.{allows_access, at_map_word, fault_next, tries_page}
+use Rattle.mmu_core.specs.invariant.Laws.{IsSound}
+use Rattle.mmu_core.specs.machine.Machine.{May, Step, World, answered, hand_in, run}
+use Rattle.mmu_core.specs.machine.Outcomes.{place_after}
 use Rattle.mmu_core.specs.declared.outcome.Outcome.TheVariants.{Goes, Ends}
 use Rattle.core_views.specs.declared.answer.Answer.TheVariants.{Starved}
-use Rattle.mmu_core.specs.SetSlotSteps.{claim_outcome, set_slot_outcome}
-use Rattle.mmu_core.specs.Steps.{first_place, outcome_at}
-use Rattle.mmu_core.proofs.Changes.{made_longer, made_now}
-use Rattle.mmu_core.proofs.EachLine.{IsStepAt, LineSights, LinesSee, each_line}
-use Rattle.mmu_core.proofs.MadeSteps.{Makes, word_on}
-use Rattle.mmu_core.proofs.Starts.{hand_is, start_good}
+use Rattle.mmu_core.specs.lines.SetSlotSteps.{claim_outcome, set_slot_outcome}
+use Rattle.mmu_core.specs.machine.Steps.{first_place, outcome_at}
+use Rattle.mmu_laws.proofs.causes.Changes.{made_longer, made_now}
+use Rattle.mmu_laws.proofs.causes.EachLine.{IsStepAt, LineSights, LinesSee, each_line}
+use Rattle.mmu_laws.proofs.causes.MadeSteps.{Makes, word_on}
+use Rattle.mmu_core.proofs.start.Starts.{hand_is, start_good}
 use Rattle.core_theorem.specs.Stays.{FindsNoPause, PauseIsSeenInStay, StaysInGuest}
 
 -- The actor has looked at the pause in the stay in which the steps end.

@@ -6,13 +6,13 @@ use Rattle.core_views.specs.declared.sizes.Sizes.{Sizes}
 use Rattle.core_views.specs.declared.trace.Line.{Line}
 use Rattle.core_views.specs.Held.{Held}
 use Rattle.core_views.specs.Sizes.{actors_of}
-use Rattle.mmu_core.specs.Enabled.{mmu}
-use Rattle.mmu_core.specs.Laws.{IsSound}
-use Rattle.mmu_core.specs.Machine.{May, Step, World, hand_in, run}
-use Rattle.mmu_core.specs.Worlds.{Reachable}
-use Rattle.mmu_core.proofs.Starts.{hand_is, start_good}
-use Rattle.mmu_core.proofs.StarvedScan.{legal_parts}
-use Rattle.mmu_core.proofs.Worlds.{good_run}
+use Rattle.mmu_core.specs.machine.Enabled.{mmu}
+use Rattle.mmu_core.specs.invariant.Laws.{IsSound}
+use Rattle.mmu_core.specs.machine.Machine.{May, Step, World, hand_in, run}
+use Rattle.mmu_core.specs.machine.Worlds.{Reachable}
+use Rattle.mmu_core.proofs.start.Starts.{hand_is, start_good}
+use Rattle.mmu_laws.proofs.causes.StarvedScan.{legal_parts}
+use Rattle.mmu_core.proofs.machine.Worlds.{good_run}
 use Rattle.core_theorem.specs.Runs.{IsRun}
 
 pub sound : (z : Sizes) (lines : List Line) (w : World Held) (ss : List (Step Kind)) → IsRun z lines w ss → IsSound z (run mmu w ss)

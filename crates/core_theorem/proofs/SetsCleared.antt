@@ -28,31 +28,31 @@ use Rattle.part_steps.specs.PartSteps.{next_watched, own_index, page_left, part_
 use Rattle.part_steps.specs.Tasks.{kind_of_task}
 use Rattle.part_steps.specs.TopicSteps.{in_section, is_won, topics_after}
 use Rattle.mmu_core.specs.declared.outcome.Outcome.TheVariants.{Goes, Ends}
-use Rattle.mmu_core.specs.AccessSteps.{touch_of}
-use Rattle.mmu_core.specs.Enabled.{mmu}
-use Rattle.mmu_core.specs.FaultSteps.{at_map_word, tries_page}
-use Rattle.mmu_core.specs.Invariant.{Invariant, KnowsPart, UnderWay}
-use Rattle.mmu_core.specs.Laws.{IsSound}
-use Rattle.mmu_core.specs.Machine.{May, Step, World, effect, hand_in, run}
-use Rattle.mmu_core.specs.Outcomes.{place_after}
-use Rattle.mmu_core.specs.PartAt.{task_at}
-use Rattle.mmu_core.specs.SetSlotSteps.{claim_outcome, looked_at, set_slot_note, set_slot_outcome, set_slot_task}
-use Rattle.mmu_core.specs.Steps.{has_line, line_at, place_at}
-use Rattle.mmu_core.specs.TopicsInvariant.{TopicsInvariant}
-use Rattle.mmu_core.specs.TreePart.{stands}
-use Rattle.mmu_core.specs.View.{View, answer_in, part_stepped, stepped, upd, view, word_in, words_after}
-use Rattle.mmu_core.proofs.Changes.{of_each_list}
-use Rattle.mmu_core.proofs.Columns.{same_or, upd_other, upd_same}
-use Rattle.mmu_core.proofs.OwnedBehind.{left_is}
-use Rattle.mmu_core.proofs.PartStepping.{IsPart}
-use Rattle.mmu_core.proofs.PartWords.{IsElsewhere, left_elsewhere, role_stays}
-use Rattle.mmu_core.proofs.PoolPages.{left_no_table, left_not_owned, one_leaver}
-use Rattle.mmu_core.proofs.SettingHolds.{either_place}
-use Rattle.mmu_core.proofs.Starts.{hand_is, start_good}
-use Rattle.mmu_core.proofs.StepIn.{StepIn, Makes, Touches, step_in}
-use Rattle.mmu_core.proofs.Stepping.{IsStep}
-use Rattle.mmu_core.proofs.Which.{has_line_is}
-use Rattle.mmu_core.proofs.Worlds.{Takes, TakesPart, good_step, takes, view_small}
+use Rattle.mmu_core.specs.lines.AccessSteps.{touch_of}
+use Rattle.mmu_core.specs.machine.Enabled.{mmu}
+use Rattle.mmu_core.specs.lines.FaultSteps.{at_map_word, tries_page}
+use Rattle.mmu_core.specs.invariant.Invariant.{Invariant, KnowsPart, UnderWay}
+use Rattle.mmu_core.specs.invariant.Laws.{IsSound}
+use Rattle.mmu_core.specs.machine.Machine.{May, Step, World, effect, hand_in, run}
+use Rattle.mmu_core.specs.machine.Outcomes.{place_after}
+use Rattle.mmu_core.specs.lines.PartAt.{task_at}
+use Rattle.mmu_core.specs.lines.SetSlotSteps.{claim_outcome, looked_at, set_slot_note, set_slot_outcome, set_slot_task}
+use Rattle.mmu_core.specs.machine.Steps.{has_line, line_at, place_at}
+use Rattle.mmu_core.specs.invariant.TopicsInvariant.{TopicsInvariant}
+use Rattle.mmu_core.specs.invariant.TreePart.{stands}
+use Rattle.mmu_core.specs.machine.View.{View, answer_in, part_stepped, stepped, upd, view, word_in, words_after}
+use Rattle.mmu_laws.proofs.causes.Changes.{of_each_list}
+use Rattle.mmu_core.proofs.machine.Columns.{same_or, upd_other, upd_same}
+use Rattle.mmu_core.proofs.pages.OwnedBehind.{left_is}
+use Rattle.mmu_core.proofs.machine.PartStepping.{IsPart}
+use Rattle.mmu_core.proofs.words.PartWords.{IsElsewhere, left_elsewhere, role_stays}
+use Rattle.mmu_core.proofs.pages.PoolPages.{left_no_table, left_not_owned, one_leaver}
+use Rattle.mmu_core.proofs.slots.SettingHolds.{either_place}
+use Rattle.mmu_core.proofs.start.Starts.{hand_is, start_good}
+use Rattle.mmu_core.proofs.lines.StepIn.{StepIn, Makes, Touches, step_in}
+use Rattle.mmu_core.proofs.machine.Stepping.{IsStep}
+use Rattle.mmu_core.proofs.machine.Which.{has_line_is}
+use Rattle.mmu_core.proofs.machine.Worlds.{Takes, TakesPart, good_step, takes, view_small}
 use Rattle.core_theorem.specs.Holdings.{ReturnedSetsAreCleared}
 use Rattle.core_theorem.specs.Runs.{IsRun}
 use Rattle.core_theorem.proofs.Holdings.{gives_old}

@@ -13,26 +13,26 @@ use Rattle.core_views.specs.Held.{Held}
 use Rattle.core_views.specs.Sizes.{actors_of}
 use Rattle.mmu_core.specs.declared.outcome.Outcome.{Outcome}
 use Rattle.mmu_core.specs.declared.outcome.Outcome.TheVariants.{Goes, Ends}
-use Rattle.mmu_core.specs.Bounds.{most_steps}
-use Rattle.mmu_core.specs.Delays.{counted}
-use Rattle.mmu_core.specs.Enabled.{mmu}
-use Rattle.mmu_core.specs.Laws.{IsSound}
-use Rattle.mmu_core.specs.Machine.{Legal, May, Step, World, answered, effect, hand_in, run}
-use Rattle.mmu_core.specs.Rests.{IsUnderWay}
-use Rattle.mmu_core.specs.Steps.{has_line, idle_after}
-use Rattle.mmu_core.specs.Sums.{one_if, sum_below}
-use Rattle.mmu_core.specs.TurnLaws.{CountsOn}
-use Rattle.mmu_core.specs.Turns.{Comes, line_of, outcome_of}
-use Rattle.mmu_core.specs.Worlds.{Reachable}
-use Rattle.mmu_core.proofs.Columns.{same_or}
-use Rattle.mmu_core.proofs.Extend.{goes_on, leads_to_end}
-use Rattle.mmu_core.proofs.HandAfter.{next_comes}
-use Rattle.mmu_core.proofs.LineRuns.{own_hand}
-use Rattle.mmu_core.proofs.Scanned.{others_hand}
-use Rattle.mmu_core.proofs.Starts.{reached_good}
-use Rattle.mmu_core.proofs.StarvedScan.{legal_parts}
-use Rattle.mmu_core.proofs.StepsCounted.{counts_fit, steps_counted_on}
-use Rattle.mmu_core.proofs.Which.{next_of_part}
+use Rattle.mmu_core.specs.lines.Bounds.{most_steps}
+use Rattle.mmu_core.specs.lines.Delays.{counted}
+use Rattle.mmu_core.specs.machine.Enabled.{mmu}
+use Rattle.mmu_core.specs.invariant.Laws.{IsSound}
+use Rattle.mmu_core.specs.machine.Machine.{Legal, May, Step, World, answered, effect, hand_in, run}
+use Rattle.mmu_core.specs.lines.Rests.{IsUnderWay}
+use Rattle.mmu_core.specs.machine.Steps.{has_line, idle_after}
+use Rattle.mmu_core.specs.machine.Sums.{one_if, sum_below}
+use Rattle.mmu_laws.specs.turns.TurnLaws.{CountsOn}
+use Rattle.mmu_core.specs.machine.Turns.{Comes, line_of, outcome_of}
+use Rattle.mmu_core.specs.machine.Worlds.{Reachable}
+use Rattle.mmu_core.proofs.machine.Columns.{same_or}
+use Rattle.mmu_core.proofs.machine.Extend.{goes_on, leads_to_end}
+use Rattle.mmu_core.proofs.machine.HandAfter.{next_comes}
+use Rattle.mmu_core.proofs.machine.LineRuns.{own_hand}
+use Rattle.mmu_core.proofs.held.Scanned.{others_hand}
+use Rattle.mmu_core.proofs.start.Starts.{reached_good}
+use Rattle.mmu_laws.proofs.causes.StarvedScan.{legal_parts}
+use Rattle.mmu_laws.proofs.turns.StepsCounted.{counts_fit, steps_counted_on}
+use Rattle.mmu_core.proofs.machine.Which.{next_of_part}
 use Rattle.core_theorem.specs.Runs.{IsRun}
 use Rattle.core_theorem.specs.Turns.{CountsAreFew, StepsAreFew, begins_line, delays_line, hand_delays, how_many, is_of_line, is_under_way, lines_in, lines_under_way}
 

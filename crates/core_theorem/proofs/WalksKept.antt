@@ -4,14 +4,14 @@ use Rattle.std.specs.Prelude.{Some}
 use Rattle.core_views.specs.declared.sizes.Sizes.{Sizes}
 use Rattle.core_views.specs.Held.{Held}
 use Rattle.core_views.specs.Sizes.{actors_of}
-use Rattle.mmu_core.specs.Enabled.{mmu}
-use Rattle.mmu_core.specs.Laws.{IsSound}
-use Rattle.mmu_core.specs.Machine.{World, hand_in, run}
-use Rattle.mmu_core.specs.TreePart.{at, stands}
-use Rattle.mmu_core.proofs.LeadsDown.{leads_down}
-use Rattle.mmu_core.proofs.LeafLaws.{leaves_agree, leaves_say}
-use Rattle.mmu_core.proofs.TreePlaces.{all_reached}
-use Rattle.mmu_core.proofs.Paths.{whole_path}
+use Rattle.mmu_core.specs.machine.Enabled.{mmu}
+use Rattle.mmu_core.specs.invariant.Laws.{IsSound}
+use Rattle.mmu_core.specs.machine.Machine.{World, hand_in, run}
+use Rattle.mmu_core.specs.invariant.TreePart.{at, stands}
+use Rattle.mmu_laws.proofs.leaves.LeadsDown.{leads_down}
+use Rattle.mmu_laws.proofs.leaves.LeafLaws.{leaves_agree, leaves_say}
+use Rattle.mmu_core.proofs.pages.TreePlaces.{all_reached}
+use Rattle.mmu_core.proofs.pages.Paths.{whole_path}
 use Rattle.core_theorem.specs.Leaves.{HeldLeavesAgree}
 use Rattle.core_theorem.specs.Walks.{HoldsAt, WalksHoldTables, run_at, table_at, walk_of}
 use Rattle.core_theorem.proofs.Pages.{pages_are_used}

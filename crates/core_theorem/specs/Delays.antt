@@ -17,14 +17,14 @@ use Rattle.spte_words.specs.Areas.{words_of_bits}
 use Rattle.part_steps.specs.declared.part_step.PartStep.{PartStep}
 use Rattle.part_steps.specs.PartSteps.{PartNeeds, part_kind}
 use Rattle.mmu_core.specs.declared.outcome.Outcome.TheVariants.{Ends}
-use Rattle.mmu_core.specs.Causes.{IsCaused}
-use Rattle.mmu_core.specs.Enabled.{mmu}
-use Rattle.mmu_core.specs.Machine.{Step, World, answered, hand_in, run}
-use Rattle.mmu_core.specs.PartWaits.{part_waits}
-use Rattle.mmu_core.specs.Scans.{EndsWithScan}
-use Rattle.mmu_core.specs.Steps.{delays_at, has_line, place_at}
-use Rattle.mmu_core.specs.Turns.{line_of, outcome_of}
-use Rattle.mmu_core.specs.Waits.{StepWaitIsCaused}
+use Rattle.mmu_laws.specs.causes.Causes.{IsCaused}
+use Rattle.mmu_core.specs.machine.Enabled.{mmu}
+use Rattle.mmu_core.specs.machine.Machine.{Step, World, answered, hand_in, run}
+use Rattle.mmu_core.specs.lines.PartWaits.{part_waits}
+use Rattle.mmu_core.specs.invariant.Scans.{EndsWithScan}
+use Rattle.mmu_core.specs.machine.Steps.{delays_at, has_line, place_at}
+use Rattle.mmu_core.specs.machine.Turns.{line_of, outcome_of}
+use Rattle.mmu_laws.specs.causes.Waits.{StepWaitIsCaused}
 use Rattle.core_theorem.specs.Runs.{IsRun}
 
 -- the hand that makes a step behind a run, and what the step answers

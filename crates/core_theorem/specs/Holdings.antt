@@ -13,14 +13,14 @@ use Rattle.core_views.specs.Kinds.{code_of}
 use Rattle.core_views.specs.Sizes.{actors_of}
 use Rattle.spte_words.specs.declared.area.Area.TheVariants as area
 use Rattle.mmu_core.specs.declared.outcome.Outcome.TheVariants.{Ends}
-use Rattle.mmu_core.specs.Enabled.{mmu}
-use Rattle.mmu_core.specs.Machine.{Step, World, answered, effect, hand_in, run}
-use Rattle.mmu_core.specs.OthersRest.{HoldsNothing}
-use Rattle.mmu_core.specs.PoolPart.{is_free}
-use Rattle.mmu_core.specs.Steps.{has_line}
-use Rattle.mmu_core.specs.Turns.{outcome_of}
-use Rattle.mmu_core.specs.View.{word_in}
-use Rattle.mmu_core.specs.HeldPart.{SetsPart}
+use Rattle.mmu_core.specs.machine.Enabled.{mmu}
+use Rattle.mmu_core.specs.machine.Machine.{Step, World, answered, effect, hand_in, run}
+use Rattle.mmu_core.specs.alone.OthersRest.{HoldsNothing}
+use Rattle.mmu_core.specs.invariant.PoolPart.{is_free}
+use Rattle.mmu_core.specs.machine.Steps.{has_line}
+use Rattle.mmu_core.specs.machine.Turns.{outcome_of}
+use Rattle.mmu_core.specs.machine.View.{word_in}
+use Rattle.mmu_core.specs.invariant.HeldPart.{SetsPart}
 use Rattle.core_theorem.specs.Pages.{Owns}
 use Rattle.core_theorem.specs.Runs.{IsRun}
 use Rattle.core_theorem.specs.Walks.{HoldsAt, table_at}

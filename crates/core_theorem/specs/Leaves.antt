@@ -13,12 +13,12 @@ use Rattle.core_views.specs.Slots.{is_write}
 use Rattle.spte_words.specs.declared.area.Area.TheVariants as area
 use Rattle.spte_words.specs.declared.spte_kind.SpteKind.TheVariants as entry_kind
 use Rattle.spte_words.specs.Entries.{kind_of, level_span}
-use Rattle.mmu_core.specs.Enabled.{mmu}
-use Rattle.mmu_core.specs.FaultAlone.{LeadsTo}
-use Rattle.mmu_core.specs.FaultSteps.{allows_access}
-use Rattle.mmu_core.specs.LeafLaws.{LeafAgrees}
-use Rattle.mmu_core.specs.Machine.{Step, World, hand_in, run}
-use Rattle.mmu_core.specs.View.{word_in}
+use Rattle.mmu_core.specs.machine.Enabled.{mmu}
+use Rattle.mmu_core.specs.alone.FaultAlone.{LeadsTo}
+use Rattle.mmu_core.specs.lines.FaultSteps.{allows_access}
+use Rattle.mmu_laws.specs.leaves.LeafLaws.{LeafAgrees}
+use Rattle.mmu_core.specs.machine.Machine.{Step, World, hand_in, run}
+use Rattle.mmu_core.specs.machine.View.{word_in}
 use Rattle.core_theorem.specs.Runs.{IsRun}
 use Rattle.core_theorem.specs.Walks.{HoldsAt, run_at, table_at, walk_of}
 

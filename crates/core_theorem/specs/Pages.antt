@@ -9,13 +9,13 @@ use Rattle.core_views.specs.Sizes.{actors_of}
 use Rattle.spte_words.specs.declared.area.Area.TheVariants as area
 use Rattle.spte_words.specs.Areas.{pool_index}
 use Rattle.spte_words.specs.Entries.{table_word}
-use Rattle.mmu_core.specs.Enabled.{mmu}
-use Rattle.mmu_core.specs.Machine.{Step, World, hand_in, run}
-use Rattle.mmu_core.specs.PoolPart.{is_free}
-use Rattle.mmu_core.specs.AllOver.{AllOver, LeafIsFor}
-use Rattle.mmu_core.specs.TreePart.{Position, TreePart, Use, stands}
-use Rattle.mmu_core.specs.TreePart.Use.{Free, OldSet, Outside, Owned, Root, SlotSet, Under}
-use Rattle.mmu_core.specs.View.{word_in}
+use Rattle.mmu_core.specs.machine.Enabled.{mmu}
+use Rattle.mmu_core.specs.machine.Machine.{Step, World, hand_in, run}
+use Rattle.mmu_core.specs.invariant.PoolPart.{is_free}
+use Rattle.mmu_core.specs.invariant.AllOver.{AllOver, LeafIsFor}
+use Rattle.mmu_core.specs.invariant.TreePart.{Position, TreePart, Use, stands}
+use Rattle.mmu_core.specs.invariant.TreePart.Use.{Free, OldSet, Outside, Owned, Root, SlotSet, Under}
+use Rattle.mmu_core.specs.machine.View.{word_in}
 use Rattle.core_theorem.specs.Runs.{IsRun}
 
 -- The actor owns this page.

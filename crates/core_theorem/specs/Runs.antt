@@ -9,11 +9,11 @@ use Rattle.core_views.specs.Held.{Held}
 use Rattle.core_views.specs.Lawful.{IsLawful}
 use Rattle.spte_words.specs.declared.area.Area.TheVariants as area
 use Rattle.spte_words.specs.HostWords.{host_word}
-use Rattle.mmu_core.specs.Enabled.{mmu}
-use Rattle.mmu_core.specs.FlatInvariant.{Refines}
-use Rattle.mmu_core.specs.Machine.{Legal, Step, World, run}
-use Rattle.mmu_core.specs.View.{word_in}
-use Rattle.mmu_core.specs.Worlds.{IsStart, history}
+use Rattle.mmu_core.specs.machine.Enabled.{mmu}
+use Rattle.mmu_laws.specs.flat.FlatInvariant.{Refines}
+use Rattle.mmu_core.specs.machine.Machine.{Legal, Step, World, run}
+use Rattle.mmu_core.specs.machine.View.{word_in}
+use Rattle.mmu_core.specs.machine.Worlds.{IsStart, history}
 
 -- The steps are made one behind the other from the start of a machine of these sizes with these lines, and each may be made in its turn.
 pub record IsRun (z : Sizes) (lines : List Line) (w : World Held) (ss : List (Step Kind)) : Type 0 where

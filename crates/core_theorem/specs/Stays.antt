@@ -13,9 +13,9 @@ use Rattle.core_views.specs.Sizes.{actors_of}
 use Rattle.spte_words.specs.declared.area.Area.TheVariants as area
 use Rattle.spte_words.specs.Areas.{place as place_of}
 use Rattle.part_steps.specs.Tasks.{map_of}
-use Rattle.mmu_core.specs.Causes.{Finds, HasMade}
-use Rattle.mmu_core.specs.Enabled.{mmu}
-use Rattle.mmu_core.specs.Machine.{Step, World, hand_in, run}
+use Rattle.mmu_laws.specs.causes.Causes.{Finds, HasMade}
+use Rattle.mmu_core.specs.machine.Enabled.{mmu}
+use Rattle.mmu_core.specs.machine.Machine.{Step, World, hand_in, run}
 use Rattle.core_theorem.specs.Runs.{IsRun}
 
 -- The step, made in this world, is this actor's load of the pause's word, in the guest, and finds that no pause is set.

@@ -7,12 +7,12 @@ use Rattle.core_views.specs.declared.sizes.Sizes.{Sizes}
 use Rattle.core_views.specs.declared.trace.Line.{Line}
 use Rattle.core_views.specs.Held.{Held}
 use Rattle.core_views.specs.Sizes.{actors_of}
-use Rattle.mmu_core.specs.Bounds.{most_steps}
-use Rattle.mmu_core.specs.Enabled.{mmu}
-use Rattle.mmu_core.specs.Machine.{Step, World, answered, effect, hand_in, run}
-use Rattle.mmu_core.specs.Steps.{delays_at, has_line, place_at}
-use Rattle.mmu_core.specs.Sums.{one_if, sum_below}
-use Rattle.mmu_core.specs.Turns.{line_of}
+use Rattle.mmu_core.specs.lines.Bounds.{most_steps}
+use Rattle.mmu_core.specs.machine.Enabled.{mmu}
+use Rattle.mmu_core.specs.machine.Machine.{Step, World, answered, effect, hand_in, run}
+use Rattle.mmu_core.specs.machine.Steps.{delays_at, has_line, place_at}
+use Rattle.mmu_core.specs.machine.Sums.{one_if, sum_below}
+use Rattle.mmu_core.specs.machine.Turns.{line_of}
 use Rattle.core_theorem.specs.Runs.{IsRun}
 
 -- A line is under way there.

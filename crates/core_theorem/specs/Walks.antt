@@ -7,12 +7,12 @@ use Rattle.core_views.specs.declared.trace.Line.{Line}
 use Rattle.core_views.specs.Held.{Held}
 use Rattle.core_views.specs.Sizes.{actors_of}
 use Rattle.spte_words.specs.declared.area.Area.TheVariants as area
-use Rattle.mmu_core.specs.AllOver.{AllOver, LeavesSay}
-use Rattle.mmu_core.specs.View.{word_in}
-use Rattle.mmu_core.specs.Enabled.{mmu}
-use Rattle.mmu_core.specs.Machine.{Step, World, hand_in, run}
-use Rattle.mmu_core.specs.TreePart.{at, stands}
-pub use Rattle.mmu_core.specs.HeldPart.{run_at, table_at}
+use Rattle.mmu_core.specs.invariant.AllOver.{AllOver, LeavesSay}
+use Rattle.mmu_core.specs.machine.View.{word_in}
+use Rattle.mmu_core.specs.machine.Enabled.{mmu}
+use Rattle.mmu_core.specs.machine.Machine.{Step, World, hand_in, run}
+use Rattle.mmu_core.specs.invariant.TreePart.{at, stands}
+pub use Rattle.mmu_core.specs.invariant.HeldPart.{run_at, table_at}
 use Rattle.core_theorem.specs.Pages.{PagesAreUsed}
 use Rattle.core_theorem.specs.Runs.{IsRun}
 

@@ -14,20 +14,20 @@ use Rattle.part_steps.specs.declared.part_step.PartStep.{PartStep}
 use Rattle.part_steps.specs.declared.task.Task.{Task}
 use Rattle.part_steps.specs.PartSteps.{PartNeeds, own_index, part_kind, part_task}
 use Rattle.part_steps.specs.Tasks.{kind_of_task, map_of}
-use Rattle.mmu_core.specs.AccessSteps.{access_note}
-use Rattle.mmu_core.specs.FaultKnows.{FaultKnows}
-use Rattle.mmu_core.specs.FaultSteps.{fault_part}
-use Rattle.mmu_core.specs.KnowsPart.{KnowsPart}
-use Rattle.mmu_core.specs.MayMake.{MayMake}
-use Rattle.mmu_core.specs.Rests.{Rests, RestsAt}
-use Rattle.mmu_core.specs.Steps.{task_at, task_of}
-use Rattle.mmu_core.specs.Turns.{line_of}
-use Rattle.mmu_core.specs.Worlds.{HandReached}
-use Rattle.mmu_core.proofs.KnowsKept.{access_vcpu}
-use Rattle.mmu_core.proofs.KnowsStay.{reached_knows}
-use Rattle.mmu_core.proofs.PartFits.{part_small, part_within_by}
-use Rattle.mmu_core.proofs.Starts.{reached_rests}
-use Rattle.mmu_core.proofs.Which.{enabled_is}
+use Rattle.mmu_core.specs.lines.AccessSteps.{access_note}
+use Rattle.mmu_core.specs.lines.FaultKnows.{FaultKnows}
+use Rattle.mmu_core.specs.lines.FaultSteps.{fault_part}
+use Rattle.mmu_core.specs.lines.KnowsPart.{KnowsPart}
+use Rattle.mmu_core.specs.machine.MayMake.{MayMake}
+use Rattle.mmu_core.specs.lines.Rests.{Rests, RestsAt}
+use Rattle.mmu_core.specs.machine.Steps.{task_at, task_of}
+use Rattle.mmu_core.specs.machine.Turns.{line_of}
+use Rattle.mmu_core.specs.machine.Worlds.{HandReached}
+use Rattle.mmu_core.proofs.lines.KnowsKept.{access_vcpu}
+use Rattle.mmu_core.proofs.lines.KnowsStay.{reached_knows}
+use Rattle.mmu_core.proofs.words.PartFits.{part_small, part_within_by}
+use Rattle.mmu_core.proofs.start.Starts.{reached_rests}
+use Rattle.mmu_core.proofs.machine.Which.{enabled_is}
 use Rattle.fault_install.specs.declared.fault.FaultJob.{FaultJob}
 use Rattle.fault_install.specs.Faults.{StandsInLine}
 

@@ -27,9 +27,9 @@ use Rattle.memslots.specs.declared.find.FoundSlot.{FoundSlot}
 use Rattle.memslots.specs.Finding.{Begins, Searches, find_step}
 use Rattle.part_steps.specs.declared.part_step.PartStep.{PartStep}
 use Rattle.part_steps.specs.declared.part_step.PartStep.TheVariants as part
-use Rattle.mmu_core.specs.FaultKnows.{CheckKnows}
-use Rattle.mmu_core.specs.FaultLaws.{CanAnswer}
-use Rattle.mmu_core.specs.FaultSteps.{at_map_word, check_next, check_part, claim_next, find_next, found_next, is_last_word, is_owing, map_word, share_next, share_part, snapshot_taken, tries_page, waits, word_owed}
+use Rattle.mmu_core.specs.lines.FaultKnows.{CheckKnows}
+use Rattle.mmu_core.specs.lines.FaultLaws.{CanAnswer}
+use Rattle.mmu_core.specs.lines.FaultSteps.{at_map_word, check_next, check_part, claim_next, find_next, found_next, is_last_word, is_owing, map_word, share_next, share_part, snapshot_taken, tries_page, waits, word_owed}
 use Rattle.part_steps.specs.PartTopics.{part_topics, sequenced}
 use Rattle.part_steps.specs.PartSteps.{own_index, part_task}
 use Rattle.part_steps.specs.Tasks.{kind_of_task, map_of}

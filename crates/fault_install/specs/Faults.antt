@@ -12,12 +12,12 @@ use Rattle.core_views.specs.declared.trace.Command.TheVariants.{Access}
 use Rattle.core_views.specs.declared.trace.Op.{Op}
 use Rattle.core_views.specs.Held.{Held}
 use Rattle.core_views.specs.Slots.{is_write}
-use Rattle.mmu_core.specs.FaultKnows.{EndKnows, FaultKnows, KnowsNext}
-use Rattle.mmu_core.specs.FaultLaws.{CanAnswer}
-use Rattle.mmu_core.specs.FaultSteps.{fault_next, fault_part, wait_seen, waits}
-use Rattle.mmu_core.specs.MayMake.{MayMake}
-use Rattle.mmu_core.specs.Steps.{place_at}
-use Rattle.mmu_core.specs.Turns.{line_of}
+use Rattle.mmu_core.specs.lines.FaultKnows.{EndKnows, FaultKnows, KnowsNext}
+use Rattle.mmu_core.specs.lines.FaultLaws.{CanAnswer}
+use Rattle.mmu_core.specs.lines.FaultSteps.{fault_next, fault_part, wait_seen, waits}
+use Rattle.mmu_core.specs.machine.MayMake.{MayMake}
+use Rattle.mmu_core.specs.machine.Steps.{place_at}
+use Rattle.mmu_core.specs.machine.Turns.{line_of}
 use Rattle.step_seats.specs.PartTurns.{MadePart}
 use Rattle.step_seats.specs.Where.{Told}
 use Rattle.step_seats.specs.declared.turn.Turn.{Turn}

@@ -10,7 +10,7 @@ use Rattle.core_views.specs.declared.place.FaultPlace.TheVariants as at
 use Rattle.invalidate_seq.specs.declared.check.Checked.{Checked}
 use Rattle.invalidate_seq.specs.declared.check.Checked.TheVariants.{Fresh, Open, Moved}
 use Rattle.memslots.specs.declared.find.FoundSlot.{FoundSlot}
-use Rattle.mmu_core.specs.FaultSteps.{allows_access}
+use Rattle.mmu_core.specs.lines.FaultSteps.{allows_access}
 use Rattle.mmu_lock.specs.declared.lock.Lock.{Lock}
 use Rattle.mmu_lock.specs.declared.lock.Lock.TheVariants.{Got, Held}
 use Rattle.step_seats.specs.declared.turn.Turn.{Turn}

@@ -1,7 +1,7 @@
 ghost use Rattle.std.specs.Prelude.{◌≡◌, ◌<◌, true, false};
 ghost use Rattle.core_views.specs.declared.place.FaultPlace.TheVariants as at;
 ghost use Rattle.fault_install.specs.Faults.{IsAt, MakesStep};
-ghost use Rattle.mmu_core.specs.FaultSteps.{entry_word};
+ghost use Rattle.mmu_core.specs.lines.FaultSteps.{entry_word};
 ghost use Rattle.part_steps.specs.PartBounds.{PartRests};
 ghost use Rattle.part_steps.specs.PartSteps.{IsOver};
 ghost use Rattle.step_seats.specs.Moves.{KeepsRoom};

@@ -2,11 +2,11 @@ ghost use Rattle.std.specs.Prelude.{◌≡◌, ◌<◌, ◌^◌, false};
 ghost use Rattle.core_views.specs.declared.place.AccessPlace.TheVariants.{Fault};
 ghost use Rattle.core_views.specs.declared.place.FaultPlace.TheVariants.{Begin};
 ghost use Rattle.fault_install.specs.Faults.{MakesStep, StandsInLine, TurnsFault};
-ghost use Rattle.mmu_core.specs.AccessSteps.{access_note};
-ghost use Rattle.mmu_core.specs.FaultKnows.{FaultKnows};
-ghost use Rattle.mmu_core.specs.FaultSteps.{fault_left, fault_part};
-ghost use Rattle.mmu_core.specs.MayMake.{MayMake};
-ghost use Rattle.mmu_core.specs.Worlds.{HandReached};
+ghost use Rattle.mmu_core.specs.lines.AccessSteps.{access_note};
+ghost use Rattle.mmu_core.specs.lines.FaultKnows.{FaultKnows};
+ghost use Rattle.mmu_core.specs.lines.FaultSteps.{fault_left, fault_part};
+ghost use Rattle.mmu_core.specs.machine.MayMake.{MayMake};
+ghost use Rattle.mmu_core.specs.machine.Worlds.{HandReached};
 ghost use Rattle.step_seats.specs.Moves.{KeepsRoom};
 ghost use Rattle.step_seats.specs.declared.turn.Turn.TheVariants.{More};
 

@@ -11,15 +11,15 @@ use Rattle.core_views.specs.Held.{Held}
 use Rattle.core_views.specs.Sizes.{actors_of, index_of}
 use Rattle.spte_words.specs.declared.area.Area.TheVariants.{State}
 use Rattle.part_steps.specs.declared.part_step.PartStep.TheVariants as part
-use Rattle.mmu_core.specs.Machine.{World}
-use Rattle.mmu_core.specs.OthersRest.{OthersRest}
+use Rattle.mmu_core.specs.machine.Machine.{World}
+use Rattle.mmu_core.specs.alone.OthersRest.{OthersRest}
 use Rattle.part_steps.specs.PartBounds.{PartRests}
 use Rattle.part_steps.specs.PartSteps.{PartNeeds, next_watched, own_index, part_kind}
-use Rattle.mmu_core.specs.Steps.{next}
+use Rattle.mmu_core.specs.machine.Steps.{next}
 use Rattle.part_steps.specs.TopicSteps.{in_section, is_outside}
-use Rattle.mmu_core.specs.View.{word_in}
-use Rattle.mmu_core.proofs.HandAfter.{next_same}
-use Rattle.mmu_core.proofs.StateTells.{own_place, state_tells}
+use Rattle.mmu_core.specs.machine.View.{word_in}
+use Rattle.mmu_core.proofs.machine.HandAfter.{next_same}
+use Rattle.mmu_core.proofs.held.StateTells.{own_place, state_tells}
 use Rattle.step_seats.specs.Moves.{Tells}
 use Rattle.step_seats.specs.Where.{HasHand}
 use Rattle.step_seats.specs.declared.turn.Turn.{Turn}

@@ -1,4 +1,4 @@
-ghost use Rattle.mmu_core.specs.Grace.{SectionsBeginEmpty, WatchedWasOutside};
+ghost use Rattle.mmu_core.specs.invariant.Grace.{SectionsBeginEmpty, WatchedWasOutside};
 
 /// What a grace period is for. Each other actor that a watch has behind it was
 /// seen outside by a look of this very watch; and whoever was outside at some

@@ -1,7 +1,7 @@
 ghost use Rattle.std.specs.Prelude.{◌≡◌, ◌<◌, true, false};
 ghost use Rattle.grace_period.specs.Watches.{IsFoundBy, Watched, actors_left, is_done, looked_at, waits};
-ghost use Rattle.mmu_core.specs.OthersRest.{OthersRest};
-ghost use Rattle.mmu_core.specs.MayMake.{MayMake};
+ghost use Rattle.mmu_core.specs.alone.OthersRest.{OthersRest};
+ghost use Rattle.mmu_core.specs.machine.MayMake.{MayMake};
 ghost use Rattle.part_steps.specs.PartBounds.{PartRests};
 ghost use Rattle.part_steps.specs.PartSteps.{PartNeeds};
 ghost use Rattle.part_steps.specs.declared.part_step.PartStep.TheVariants as part;

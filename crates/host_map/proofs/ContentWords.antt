@@ -13,10 +13,10 @@ use Rattle.core_views.specs.Memory.{stored}
 use Rattle.spte_words.specs.declared.area.Area.TheVariants as area
 use Rattle.spte_words.specs.Areas.{content_index, size_of}
 use Rattle.spte_words.proofs.Indices.{content_within}
-use Rattle.mmu_core.specs.Enabled.{mmu}
-use Rattle.mmu_core.specs.Machine.{World, answered, effect}
+use Rattle.mmu_core.specs.machine.Enabled.{mmu}
+use Rattle.mmu_core.specs.machine.Machine.{World, answered, effect}
 use Rattle.part_steps.specs.Tasks.{kind_of_task, loads, map_of}
-use Rattle.mmu_core.proofs.Views.{answered_is}
+use Rattle.mmu_core.proofs.machine.Views.{answered_is}
 use Rattle.step_seats.specs.Moves.{Tells, step_by}
 use Rattle.host_map.specs.Touching.{Touched, content_in, content_place, host_in, touch_kind}
 

@@ -7,10 +7,10 @@ use Rattle.core_views.specs.Held.{Held}
 use Rattle.core_views.specs.Memory.{stored}
 use Rattle.spte_words.specs.declared.area.Area.TheVariants as area
 use Rattle.spte_words.specs.Areas.{content_index, place}
-use Rattle.mmu_core.specs.AccessSteps.{touch_of}
-use Rattle.mmu_core.specs.Machine.{World}
+use Rattle.mmu_core.specs.lines.AccessSteps.{touch_of}
+use Rattle.mmu_core.specs.machine.Machine.{World}
 use Rattle.part_steps.specs.Tasks.{kind_of_task, map_of}
-use Rattle.mmu_core.specs.View.{word_in}
+use Rattle.mmu_core.specs.machine.View.{word_in}
 
 -- the host word of a page
 abbrev pub host_in : Sizes → ℕ → World Held → ℕ

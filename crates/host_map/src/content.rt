@@ -2,8 +2,8 @@ ghost use Rattle.std.specs.Prelude.{◌≡◌, ◌<◌, IfSome};
 ghost use Rattle.core_views.specs.Sizes.{AreSizes};
 ghost use Rattle.core_views.specs.declared.trace.Op.TheVariants.{Read};
 ghost use Rattle.host_map.specs.Touching.{Touched, content_in, touch_kind};
-ghost use Rattle.mmu_core.specs.Enabled.{Enabled};
-ghost use Rattle.mmu_core.specs.Steps.{next};
+ghost use Rattle.mmu_core.specs.machine.Enabled.{Enabled};
+ghost use Rattle.mmu_core.specs.machine.Steps.{next};
 ghost use Rattle.step_seats.specs.Moves.{Adds, KeepsRoom, Tells};
 ghost use Rattle.step_seats.specs.Where.{AnsweredThere, HasHand, WhereMade};
 

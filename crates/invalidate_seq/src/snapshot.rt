@@ -1,7 +1,7 @@
 ghost use Rattle.std.specs.Prelude.{◌≡◌, ◌<◌, Some};
 ghost use Rattle.core_views.specs.declared.topics.Hold.TheVariants.{Loose};
-ghost use Rattle.mmu_core.specs.MayMake.{MayMake};
-ghost use Rattle.mmu_core.specs.View.{word_in};
+ghost use Rattle.mmu_core.specs.machine.MayMake.{MayMake};
+ghost use Rattle.mmu_core.specs.machine.View.{word_in};
 ghost use Rattle.part_steps.specs.declared.part_step.PartStep.TheVariants as PartStep;
 ghost use Rattle.spte_words.specs.declared.area.Area.TheVariants as Area;
 ghost use Rattle.step_seats.specs.Moves.{KeepsRoom};

@@ -4,7 +4,7 @@ use Rattle.std.specs.Prelude.{Bool, true, false, if◌then◌else◌, Some, None
 use Rattle.core_views.specs.declared.trace.Slot.{Slot}
 use Rattle.core_views.specs.Slots.{Slots, contains, slot_of}
 use Rattle.part_steps.specs.SlotWords.{live_at, slot_at, slots_below}
-use Rattle.mmu_core.proofs.Columns.{same_or}
+use Rattle.mmu_core.proofs.machine.Columns.{same_or}
 use Rattle.memslots.specs.Finding.{NoneBelow}
 
 -- a list of slots behind another one

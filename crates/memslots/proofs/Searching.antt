@@ -10,7 +10,7 @@ use Rattle.spte_words.specs.Flags.{flags_live, flags_logged, flags_read_only}
 use Rattle.part_steps.specs.PartSteps.{set_held}
 use Rattle.part_steps.specs.SlotWords.{live_at, slot_at, slot_index}
 use Rattle.part_steps.specs.TopicSteps.{searched, searched_at}
-use Rattle.mmu_core.proofs.Columns.{same_or}
+use Rattle.mmu_core.proofs.machine.Columns.{same_or}
 use Rattle.step_seats.specs.declared.turn.Turn.{Turn}
 use Rattle.step_seats.specs.declared.turn.Turn.TheVariants.{More, Wait, Retry, Done}
 use Rattle.memslots.specs.declared.find.FoundSlot.{FoundSlot}

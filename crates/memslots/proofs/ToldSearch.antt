@@ -10,17 +10,17 @@ use Rattle.spte_words.specs.declared.area.Area.TheVariants as area
 use Rattle.spte_words.specs.Areas.{size_of}
 use Rattle.part_steps.specs.declared.task.Task.{Task}
 use Rattle.part_steps.specs.declared.part_step.PartStep.TheVariants as part
-use Rattle.mmu_core.specs.Enabled.{mmu}
-use Rattle.mmu_core.specs.Machine.{World, effect, hand_in}
+use Rattle.mmu_core.specs.machine.Enabled.{mmu}
+use Rattle.mmu_core.specs.machine.Machine.{World, effect, hand_in}
 use Rattle.part_steps.specs.PartSteps.{PartNeeds, own_index, part_kind, part_task, set_held}
 use Rattle.part_steps.specs.PartTopics.{part_topics}
 use Rattle.part_steps.specs.Tasks.{kind_of_task, map_of}
 use Rattle.part_steps.specs.TopicSteps.{may_search, searched}
-use Rattle.mmu_core.specs.View.{View, word_in}
-use Rattle.mmu_core.specs.Worlds.{Reachable}
-use Rattle.mmu_core.proofs.PartRested.{part_within, rests_in}
-use Rattle.mmu_core.proofs.Starts.{reached_good}
-use Rattle.mmu_core.proofs.Views.{view_behind}
+use Rattle.mmu_core.specs.machine.View.{View, word_in}
+use Rattle.mmu_core.specs.machine.Worlds.{Reachable}
+use Rattle.mmu_core.proofs.invariant.PartRested.{part_within, rests_in}
+use Rattle.mmu_core.proofs.start.Starts.{reached_good}
+use Rattle.mmu_core.proofs.machine.Views.{view_behind}
 use Rattle.step_seats.specs.Moves.{step_by}
 use Rattle.step_seats.specs.PartTurns.{MadePart, WherePartMade}
 use Rattle.step_seats.specs.Where.{HasHand, Told}

@@ -6,9 +6,9 @@ use Rattle.core_views.specs.Slots.{contains, slot_of}
 use Rattle.spte_words.specs.Flags.{flags_logged}
 use Rattle.part_steps.specs.declared.part_step.PartStep.{PartStep}
 use Rattle.part_steps.specs.declared.part_step.PartStep.TheVariants as part
-use Rattle.mmu_core.specs.Bounds.{look_left}
+use Rattle.mmu_core.specs.lines.Bounds.{look_left}
 use Rattle.part_steps.specs.PartSteps.{set_held}
-pub use Rattle.mmu_core.specs.SearchPart.{HasFlags, HasLoaded}
+pub use Rattle.mmu_core.specs.invariant.SearchPart.{HasFlags, HasLoaded}
 use Rattle.part_steps.specs.SlotWords.{live_at, slot_at, slot_index, slots_below}
 pub use Rattle.part_steps.specs.SlotWords.{NoneBelow}
 use Rattle.step_seats.specs.declared.turn.Turn.{Turn}

@@ -1,14 +1,14 @@
 //! The steps of a guest access.
 ghost use Rattle.std.specs.Prelude.{◌≡◌, ◌<◌, All, IfSome};
 ghost use Rattle.core_views.specs.Slots.{is_write};
-ghost use Rattle.mmu_core.specs.FaultSteps.{allows_access};
+ghost use Rattle.mmu_core.specs.lines.FaultSteps.{allows_access};
 ghost use Rattle.spte_words.specs.Entries.{kind_of};
-ghost use Rattle.mmu_core.specs.AccessSteps.{access_caches, access_loads, access_note, access_outcome, access_part, access_task, behind_fault, touch_of, walk_next};
+ghost use Rattle.mmu_core.specs.lines.AccessSteps.{access_caches, access_loads, access_note, access_outcome, access_part, access_task, behind_fault, touch_of, walk_next};
 ghost use Rattle.part_steps.specs.PartBounds.{IsAtLeafLevel};
-ghost use Rattle.mmu_core.specs.Cached.{allows, covers, first_usable, is_usable};
+ghost use Rattle.mmu_core.specs.lines.Cached.{allows, covers, first_usable, is_usable};
 ghost use Rattle.part_steps.specs.PartBounds.{PartRests};
 ghost use Rattle.part_steps.specs.PartSteps.{PartNeeds};
-ghost use Rattle.mmu_core.specs.Rests.{RestsOn};
+ghost use Rattle.mmu_core.specs.lines.Rests.{RestsOn};
 ghost use Rattle.part_steps.specs.Tasks.{map_of};
 ghost use Rattle.spte_words.specs.Areas.{size_of};
 ghost use Rattle.spte_words.specs.declared.area.Area.TheVariants.{Content};

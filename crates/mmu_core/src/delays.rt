@@ -1,7 +1,7 @@
 //! What a line counts: its steps since it began or since its last delay, and
 //! its delays.
 ghost use Rattle.std.specs.Prelude.{◌≡◌};
-ghost use Rattle.mmu_core.specs.Delays.{counted, delays_counted, is_delay, leaves_to_fault, one_more, steps_counted};
+ghost use Rattle.mmu_core.specs.lines.Delays.{counted, delays_counted, is_delay, leaves_to_fault, one_more, steps_counted};
 
 use crate::outcome::Outcome;
 use crate::{fault, set_slot};

@@ -4,7 +4,7 @@ ghost use Rattle.core_views.specs.declared.place.Cause.TheVariants.{Entry};
 ghost use Rattle.core_views.specs.declared.place.FaultEnd.TheVariants.{HostFault, Retry};
 ghost use Rattle.core_views.specs.declared.place.FaultPlace.TheVariants.{End, Find, Give, Host, Share, Unshare};
 ghost use Rattle.core_views.specs.Sizes.{AreSizes};
-ghost use Rattle.mmu_core.specs.FaultSteps.{at_map_word, check_next, check_part, claim_next, claim_part, entry_word, fault_next, fault_part, find_next, is_owing, map_word, share_next, table_value, tries_page, waits, walk_next};
+ghost use Rattle.mmu_core.specs.lines.FaultSteps.{at_map_word, check_next, check_part, claim_next, claim_part, entry_word, fault_next, fault_part, find_next, is_owing, map_word, share_next, table_value, tries_page, waits, walk_next};
 ghost use Rattle.part_steps.specs.PartBounds.{PartRests};
 ghost use Rattle.part_steps.specs.PartSteps.{PartNeeds, table_page};
 ghost use Rattle.part_steps.specs.SlotWords.{page_of};

@@ -1,21 +1,21 @@
 ghost use Rattle.std.specs.Prelude.{◌<◌, length};
-ghost use Rattle.mmu_core.specs.Causes.{FaultsBeginAnewByCause};
-ghost use Rattle.mmu_core.specs.Enough.{EachTableIsWanted, EnoughPages, TablesAreForTheirRuns};
-ghost use Rattle.mmu_core.specs.Example.{EachMayStep, EveryMachineStarts, ExamplePrints, ExampleRaces, ExampleRuns, ExampleStarves, ExampleWaits};
-ghost use Rattle.mmu_core.specs.FaultAlone.{FaultGoesThrough, LeadsDown};
-ghost use Rattle.mmu_core.specs.FaultLaws.{FaultIsBounded, FaultMeetsNeeds, FaultStaysKnown, FaultStepsFall, PartsAnswer, WaitsSeeAnother};
-ghost use Rattle.mmu_core.specs.Histories.{AnswersAreTold, EndsWhole, StaysWhole};
-ghost use Rattle.mmu_core.specs.KnowsPart.{KnowsPart};
-ghost use Rattle.mmu_core.specs.Laws.{StaysSound, TellsLawfully};
-ghost use Rattle.mmu_core.specs.LeafLaws.{CachedLeavesAgree, HeldLeavesAgree, LeavesAgree, UsedLeavesAgree};
-ghost use Rattle.mmu_core.specs.LineAlone.{LineBeginsAlone, LineEndsAlone, LineGoesThrough, NoneStarvedAlone};
-ghost use Rattle.mmu_core.specs.Rests.{Rests};
-ghost use Rattle.mmu_core.specs.Scans.{StarvedLinesScan};
-ghost use Rattle.mmu_core.specs.Steps.{line_at, place_at};
-ghost use Rattle.mmu_core.specs.StepLaws.{EnteringFlushes, NotesTellEnds, OthersCacheOneAtMost, StepsAreOnTheirAreas};
-ghost use Rattle.mmu_core.specs.TurnLaws.{DelaysWaitOrBeginAnew, InstalledEntriesServe, LeavesStay, StepsAreBounded, StepsAreCounted, TurnsAreBounded, TurnsComeNearer};
-ghost use Rattle.mmu_core.specs.Waits.{StepWaitsAreByCause};
-ghost use Rattle.mmu_core.specs.Worlds.{HandReached};
+ghost use Rattle.mmu_laws.specs.causes.Causes.{FaultsBeginAnewByCause};
+ghost use Rattle.mmu_laws.specs.pool.Enough.{EachTableIsWanted, EnoughPages, TablesAreForTheirRuns};
+ghost use Rattle.mmu_laws.specs.steps.Example.{EachMayStep, EveryMachineStarts, ExamplePrints, ExampleRaces, ExampleRuns, ExampleStarves, ExampleWaits};
+ghost use Rattle.mmu_core.specs.alone.FaultAlone.{FaultGoesThrough, LeadsDown};
+ghost use Rattle.mmu_core.specs.lines.FaultLaws.{FaultIsBounded, FaultMeetsNeeds, FaultStaysKnown, FaultStepsFall, PartsAnswer, WaitsSeeAnother};
+ghost use Rattle.mmu_laws.specs.flat.Histories.{AnswersAreTold, EndsWhole, StaysWhole};
+ghost use Rattle.mmu_core.specs.lines.KnowsPart.{KnowsPart};
+ghost use Rattle.mmu_core.specs.invariant.Laws.{StaysSound, TellsLawfully};
+ghost use Rattle.mmu_laws.specs.leaves.LeafLaws.{CachedLeavesAgree, HeldLeavesAgree, LeavesAgree, UsedLeavesAgree};
+ghost use Rattle.mmu_core.specs.alone.LineAlone.{LineBeginsAlone, LineEndsAlone, LineGoesThrough, NoneStarvedAlone};
+ghost use Rattle.mmu_core.specs.lines.Rests.{Rests};
+ghost use Rattle.mmu_core.specs.invariant.Scans.{StarvedLinesScan};
+ghost use Rattle.mmu_core.specs.machine.Steps.{line_at, place_at};
+ghost use Rattle.mmu_laws.specs.steps.StepLaws.{EnteringFlushes, NotesTellEnds, OthersCacheOneAtMost, StepsAreOnTheirAreas};
+ghost use Rattle.mmu_laws.specs.turns.TurnLaws.{DelaysWaitOrBeginAnew, InstalledEntriesServe, LeavesStay, StepsAreBounded, StepsAreCounted, TurnsAreBounded, TurnsComeNearer};
+ghost use Rattle.mmu_laws.specs.causes.Waits.{StepWaitsAreByCause};
+ghost use Rattle.mmu_core.specs.machine.Worlds.{HandReached};
 
 use core_views::Hand;
 

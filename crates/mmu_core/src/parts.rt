@@ -1,9 +1,9 @@
 //! Which steps of parts a hand may make.
 ghost use Rattle.std.specs.Prelude.{◌≡◌, ◌-◌, true, false, is_some};
-ghost use Rattle.mmu_core.specs.MayMake.{MayMake};
+ghost use Rattle.mmu_core.specs.machine.MayMake.{MayMake};
 ghost use Rattle.part_steps.specs.PartBounds.{PartRests};
 ghost use Rattle.part_steps.specs.PartSteps.{PartNeeds, has_line, needs_line};
-ghost use Rattle.mmu_core.specs.Worlds.{HandReached};
+ghost use Rattle.mmu_core.specs.machine.Worlds.{HandReached};
 
 use core_views::Hand;
 use part_steps::{PartStep, has_needs, needs_line};

@@ -2,10 +2,10 @@
 ghost use Rattle.std.specs.Prelude.{◌≡◌, ◌<◌, ◌+◌, length, true, false};
 ghost use Rattle.core_views.specs.Sizes.{AreSizes};
 ghost use Rattle.core_views.specs.Traces.{IsCommandFor};
-ghost use Rattle.mmu_core.specs.Rests.{AcceptsAt, IsUnderWay, Rests, RestsAt};
-ghost use Rattle.mmu_core.specs.Enabled.{Enabled};
-ghost use Rattle.mmu_core.specs.Steps.{caches_at, first_place, has_line, line_after, line_at, loads_at, next, outcome_at, place_at, records_at, standing, task_at};
-ghost use Rattle.mmu_core.specs.Cached.{asks_flush, flushed};
+ghost use Rattle.mmu_core.specs.lines.Rests.{AcceptsAt, IsUnderWay, Rests, RestsAt};
+ghost use Rattle.mmu_core.specs.machine.Enabled.{Enabled};
+ghost use Rattle.mmu_core.specs.machine.Steps.{caches_at, first_place, has_line, line_after, line_at, loads_at, next, outcome_at, place_at, records_at, standing, task_at};
+ghost use Rattle.mmu_core.specs.lines.Cached.{asks_flush, flushed};
 ghost use Rattle.part_steps.specs.PartBounds.{PartRests};
 ghost use Rattle.core_views.specs.Kinds.{kind_named};
 ghost use Rattle.part_steps.specs.Tasks.{map_of};

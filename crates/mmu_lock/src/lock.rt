@@ -1,7 +1,7 @@
 ghost use Rattle.std.specs.Prelude.{◌≡◌, ◌<◌, ◌≤◌, ◌^◌, true};
 ghost use Rattle.core_views.specs.declared.topics.Hold.TheVariants.{Loose, Shared, Exclusive};
-ghost use Rattle.mmu_core.specs.OthersRest.{NoOtherHasLock, NoneHasLockAlone, OthersRest};
-ghost use Rattle.mmu_core.specs.MayMake.{MayMake};
+ghost use Rattle.mmu_core.specs.alone.OthersRest.{NoOtherHasLock, NoneHasLockAlone, OthersRest};
+ghost use Rattle.mmu_core.specs.machine.MayMake.{MayMake};
 ghost use Rattle.part_steps.specs.declared.part_step.PartStep.TheVariants.{Exclude};
 ghost use Rattle.mmu_lock.specs.Locking.{GaveBack, TriedExclusive, TriedShared, lock_found, shared_step, tries_left, unlock_step};
 ghost use Rattle.mmu_lock.specs.declared.lock.Lock.TheVariants.{Got, Held};

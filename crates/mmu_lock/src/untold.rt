@@ -2,10 +2,10 @@
 //! part says of the told world it says of some possible world here.
 ghost use Rattle.std.specs.Prelude.{◌≡◌, ◌<◌, None};
 ghost use Rattle.core_views.specs.Held.{Held};
-ghost use Rattle.mmu_core.specs.Enabled.{mmu};
-ghost use Rattle.mmu_core.specs.Machine.{World, effect};
-ghost use Rattle.mmu_core.specs.MayMake.{MayMake};
-ghost use Rattle.mmu_core.specs.OthersRest.{NoOtherHasLock};
+ghost use Rattle.mmu_core.specs.machine.Enabled.{mmu};
+ghost use Rattle.mmu_core.specs.machine.Machine.{World, effect};
+ghost use Rattle.mmu_core.specs.machine.MayMake.{MayMake};
+ghost use Rattle.mmu_core.specs.alone.OthersRest.{NoOtherHasLock};
 ghost use Rattle.mmu_lock.specs.declared.lock.Lock.TheVariants.{Got};
 ghost use Rattle.part_steps.specs.PartSteps.{part_kind};
 ghost use Rattle.part_steps.specs.declared.part_step.PartStep.TheVariants.{Exclude};

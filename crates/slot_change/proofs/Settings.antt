@@ -14,12 +14,12 @@ use Rattle.core_views.specs.declared.trace.Slot.{Slot}
 use Rattle.core_views.specs.Held.{Held}
 use Rattle.mmu_core.specs.declared.outcome.Outcome.{Outcome}
 use Rattle.mmu_core.specs.declared.outcome.Outcome.TheVariants.{Goes, Ends}
-use Rattle.mmu_core.specs.LineAlone.{line_waits}
-use Rattle.mmu_core.specs.SetSlotSteps.{set_slot_outcome, set_slot_seen, set_slot_task, set_slot_waits}
-use Rattle.mmu_core.specs.Steps.{has_line, outcome_at, place_at, task_at}
+use Rattle.mmu_core.specs.alone.LineAlone.{line_waits}
+use Rattle.mmu_core.specs.lines.SetSlotSteps.{set_slot_outcome, set_slot_seen, set_slot_task, set_slot_waits}
+use Rattle.mmu_core.specs.machine.Steps.{has_line, outcome_at, place_at, task_at}
 use Rattle.part_steps.specs.Tasks.{kind_of_task}
-use Rattle.mmu_core.specs.Turns.{line_of, outcome_of}
-use Rattle.mmu_core.proofs.Which.{is_next}
+use Rattle.mmu_core.specs.machine.Turns.{line_of, outcome_of}
+use Rattle.mmu_core.proofs.machine.Which.{is_next}
 use Rattle.step_seats.specs.Where.{Told}
 use Rattle.step_seats.specs.declared.turn.Turn.{Turn}
 use Rattle.step_seats.specs.declared.turn.Turn.TheVariants.{More, Wait, Done}

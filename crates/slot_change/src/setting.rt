@@ -2,8 +2,8 @@ ghost use Rattle.std.specs.Prelude.{◌≡◌, ◌<◌, length};
 ghost use Rattle.core_views.specs.Sizes.{AreSizes};
 ghost use Rattle.core_views.specs.declared.place.SetSlotPlace.TheVariants.{Close};
 ghost use Rattle.core_views.specs.declared.trace.Command.TheVariants.{SetSlot};
-ghost use Rattle.mmu_core.specs.SetSlotSteps.{set_slot_seen};
-ghost use Rattle.mmu_core.specs.Turns.{IsSameHand, line_of};
+ghost use Rattle.mmu_core.specs.lines.SetSlotSteps.{set_slot_seen};
+ghost use Rattle.mmu_core.specs.machine.Turns.{IsSameHand, line_of};
 ghost use Rattle.step_seats.specs.LineTurns.{Says, TurnsLine};
 ghost use Rattle.step_seats.specs.Moves.{KeepsRoom};
 

@@ -6,7 +6,7 @@ ghost use Rattle.core_views.specs.Sizes.{index_of};
 ghost use Rattle.core_views.specs.Traces.{IsTrace};
 ghost use Rattle.core_views.specs.declared.actor.Actor.TheVariants.{Manager};
 ghost use Rattle.core_views.specs.declared.trace.Command.TheVariants.{SetSlot};
-ghost use Rattle.mmu_core.specs.Turns.{line_of};
+ghost use Rattle.mmu_core.specs.machine.Turns.{line_of};
 
 use crate::SlotJob;
 use core_views::{

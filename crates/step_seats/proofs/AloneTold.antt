@@ -4,12 +4,12 @@ use Rattle.std.specs.Prelude.{IfSome, false}
 use Rattle.core_views.specs.declared.topics.Hold.TheVariants.{Loose, Shared, Exclusive}
 use Rattle.core_views.specs.Held.{Held}
 use Rattle.part_steps.specs.declared.part_step.PartStep.TheVariants as part
-use Rattle.mmu_core.specs.Enabled.{mmu}
-use Rattle.mmu_core.specs.Machine.{World, answered}
-use Rattle.mmu_core.specs.OthersRest.{NoOtherHasLock, NoneHasLockAlone, OthersRest}
+use Rattle.mmu_core.specs.machine.Enabled.{mmu}
+use Rattle.mmu_core.specs.machine.Machine.{World, answered}
+use Rattle.mmu_core.specs.alone.OthersRest.{NoOtherHasLock, NoneHasLockAlone, OthersRest}
 use Rattle.part_steps.specs.PartSteps.{PartNeeds, part_kind}
 use Rattle.part_steps.specs.TopicSteps.{in_section}
-use Rattle.mmu_core.proofs.AloneLaws.{exclude_alone, exclusive_is_sole, share_alone, shared_has_no_writer, watch_alone}
+use Rattle.mmu_core.proofs.invariant.AloneLaws.{exclude_alone, exclusive_is_sole, share_alone, shared_has_no_writer, watch_alone}
 use Rattle.step_seats.specs.Moves.{Tells}
 use Rattle.step_seats.specs.Where.{HasHand}
 

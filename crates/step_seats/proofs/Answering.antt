@@ -7,10 +7,10 @@ use Rattle.core_views.specs.declared.trace.Line.{Line}
 use Rattle.core_views.specs.Held.{Held}
 use Rattle.mmu_core.specs.declared.outcome.Outcome.{Outcome}
 use Rattle.mmu_core.specs.declared.outcome.Outcome.TheVariants.{Goes, Ends}
-use Rattle.mmu_core.specs.Steps.{next}
-use Rattle.mmu_core.specs.Outcomes.{answers_after}
-use Rattle.mmu_core.specs.Turns.{line_of, outcome_of, with_answer}
-use Rattle.mmu_core.proofs.Which.{has_line_is, next_of_line}
+use Rattle.mmu_core.specs.machine.Steps.{next}
+use Rattle.mmu_core.specs.machine.Outcomes.{answers_after}
+use Rattle.mmu_core.specs.machine.Turns.{line_of, outcome_of, with_answer}
+use Rattle.mmu_core.proofs.machine.Which.{has_line_is, next_of_line}
 use Rattle.step_seats.specs.declared.turn.Turn.TheVariants.{More, Done}
 use Rattle.step_seats.specs.LineTurns.{turn_of}
 

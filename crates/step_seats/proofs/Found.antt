@@ -6,13 +6,13 @@ use Rattle.std.proofs.Props.{props}
 use Rattle.core_views.specs.declared.sizes.Sizes.{Sizes}
 use Rattle.core_views.specs.Held.{Held}
 use Rattle.part_steps.specs.declared.part_step.PartStep.{PartStep}
-use Rattle.mmu_core.specs.Enabled.{mmu}
-use Rattle.mmu_core.specs.Machine.{World, answered, hand_in}
+use Rattle.mmu_core.specs.machine.Enabled.{mmu}
+use Rattle.mmu_core.specs.machine.Machine.{World, answered, hand_in}
 use Rattle.part_steps.specs.PartSteps.{PartNeeds, own_index, part_kind, part_task}
-use Rattle.mmu_core.specs.View.{answer_in, word_in}
-use Rattle.mmu_core.specs.Worlds.{Reachable}
-use Rattle.mmu_core.proofs.AloneLaws.{part_found}
-use Rattle.mmu_core.proofs.Starts.{reached_good}
+use Rattle.mmu_core.specs.machine.View.{answer_in, word_in}
+use Rattle.mmu_core.specs.machine.Worlds.{Reachable}
+use Rattle.mmu_core.proofs.invariant.AloneLaws.{part_found}
+use Rattle.mmu_core.proofs.start.Starts.{reached_good}
 use Rattle.step_seats.specs.Moves.{Tells}
 use Rattle.step_seats.specs.PartTurns.{MadePart}
 use Rattle.step_seats.specs.Where.{HasHand, Told}

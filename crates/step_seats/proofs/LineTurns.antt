@@ -16,9 +16,9 @@ use Rattle.core_views.specs.declared.place.FaultPlace.TheVariants as fault
 use Rattle.core_views.specs.declared.topics.Topics.{Topics}
 use Rattle.mmu_core.specs.declared.outcome.Outcome.{Outcome}
 use Rattle.mmu_core.specs.declared.outcome.Outcome.TheVariants as outcome
-use Rattle.mmu_core.specs.FaultSteps.{at_map_word, tries_page}
-use Rattle.mmu_core.specs.Bounds.{steps_left}
-use Rattle.mmu_core.specs.LineAlone.{hand_left, line_waits}
+use Rattle.mmu_core.specs.lines.FaultSteps.{at_map_word, tries_page}
+use Rattle.mmu_core.specs.lines.Bounds.{steps_left}
+use Rattle.mmu_core.specs.alone.LineAlone.{hand_left, line_waits}
 use Rattle.step_seats.specs.declared.turn.Turn.{Turn}
 use Rattle.step_seats.specs.declared.turn.Turn.TheVariants.{More, Wait, Retry, Done}
 use Rattle.core_views.specs.declared.place.Place.{Place}
@@ -31,18 +31,18 @@ use Rattle.core_views.specs.declared.trace.Op.{Op}
 use Rattle.core_views.specs.Held.{Held}
 use Rattle.part_steps.specs.declared.part_step.PartStep.{PartStep}
 use Rattle.part_steps.specs.TopicSteps.{is_won}
-use Rattle.mmu_core.specs.AccessSteps.{behind_fault}
-use Rattle.mmu_core.specs.MayMake.{MayMake}
+use Rattle.mmu_core.specs.lines.AccessSteps.{behind_fault}
+use Rattle.mmu_core.specs.machine.MayMake.{MayMake}
 use Rattle.part_steps.specs.PartSteps.{part_kind}
-use Rattle.mmu_core.specs.Steps.{outcome_at, place_at, standing}
-use Rattle.mmu_core.specs.Outcomes.{place_after}
-use Rattle.mmu_core.specs.Turns.{Comes, IsAnswered, IsSameHand, line_of, outcome_of}
-use Rattle.mmu_core.proofs.HandAfter.{next_comes, next_same}
-use Rattle.mmu_core.proofs.Which.{has_line_is, next_of_line}
+use Rattle.mmu_core.specs.machine.Steps.{outcome_at, place_at, standing}
+use Rattle.mmu_core.specs.machine.Outcomes.{place_after}
+use Rattle.mmu_core.specs.machine.Turns.{Comes, IsAnswered, IsSameHand, line_of, outcome_of}
+use Rattle.mmu_core.proofs.machine.HandAfter.{next_comes, next_same}
+use Rattle.mmu_core.proofs.machine.Which.{has_line_is, next_of_line}
 use Rattle.step_seats.specs.PartTurns.{MadePart}
 use Rattle.step_seats.specs.Where.{Told}
 use Rattle.step_seats.specs.LineTurns.{Gives, MakesLine, Says, TurnsLine, fault_turn, line_seen, line_turn, turn_of}
-use Rattle.mmu_core.specs.SetSlotSteps.{claim_outcome, set_slot_outcome, set_slot_waits}
+use Rattle.mmu_core.specs.lines.SetSlotSteps.{claim_outcome, set_slot_outcome, set_slot_waits}
 use Rattle.core_views.specs.declared.place.SetSlotPlace.{SetSlotPlace}
 use Rattle.core_views.specs.declared.place.SetSlotPlace.TheVariants as set_slot
 use Rattle.core_views.specs.declared.topics.MapClaim.{MapClaim}

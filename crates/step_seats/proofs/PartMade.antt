@@ -4,10 +4,10 @@ use Rattle.std.specs.Prelude.{IfSome}
 use Rattle.core_views.specs.declared.kind.Kind.{Kind}
 use Rattle.core_views.specs.Held.{Held}
 use Rattle.part_steps.specs.declared.part_step.PartStep.{PartStep}
-use Rattle.mmu_core.specs.MayMake.{MayMake}
+use Rattle.mmu_core.specs.machine.MayMake.{MayMake}
 use Rattle.part_steps.specs.PartSteps.{part_kind}
-use Rattle.mmu_core.specs.Steps.{next}
-use Rattle.mmu_core.proofs.NextTopics.{topics_behind}
+use Rattle.mmu_core.specs.machine.Steps.{next}
+use Rattle.mmu_core.proofs.machine.NextTopics.{topics_behind}
 use Rattle.step_seats.specs.Moves.{Adds, Tells}
 use Rattle.step_seats.specs.PartTurns.{MadePart}
 use Rattle.step_seats.specs.Where.{AnsweredThere, HasHand, Told}

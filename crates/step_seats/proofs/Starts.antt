@@ -14,12 +14,12 @@ use Rattle.core_views.specs.Sizes.{AreSizes, actor_at, actors_of, sizes_of}
 use Rattle.core_views.specs.Traces.{IsCommandFor, IsTrace}
 use Rattle.core_views.specs.Whole.{lines_of}
 use Rattle.core_views.proofs.HeaderSizes.{header_sizes}
-use Rattle.mmu_core.specs.Enabled.{mmu}
+use Rattle.mmu_core.specs.machine.Enabled.{mmu}
 use Rattle.part_steps.specs.Tasks.{map_of}
-use Rattle.mmu_core.specs.Worlds.{AreStartWords, IsStart, least, start_hands, start_word}
-use Rattle.mmu_core.proofs.Extend.{stays}
-use Rattle.mmu_core.proofs.Sized.{count_at_start}
-use Rattle.mmu_core.specs.Steps.{nobody}
+use Rattle.mmu_core.specs.machine.Worlds.{AreStartWords, IsStart, least, start_hands, start_word}
+use Rattle.mmu_core.proofs.machine.Extend.{stays}
+use Rattle.mmu_core.proofs.machine.Sized.{count_at_start}
+use Rattle.mmu_core.specs.machine.Steps.{nobody}
 use Rattle.step_seats.proofs.Worlds.{core_at}
 use Rattle.spte_words.specs.declared.area.Area.{Area}
 use Rattle.spte_words.specs.declared.word_map.WordMap.{WordMap}

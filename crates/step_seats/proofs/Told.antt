@@ -2,9 +2,9 @@
 use Rattle.std.proofs.Common.{ℕ, Option, Some, None, sym, subst}
 use Rattle.core_views.specs.declared.kind.Kind.{Kind}
 use Rattle.core_views.specs.Held.{Held}
-use Rattle.mmu_core.specs.Enabled.{mmu}
-use Rattle.mmu_core.specs.Machine.{World}
-use Rattle.mmu_core.proofs.Extend.{goes_on, stays, then}
+use Rattle.mmu_core.specs.machine.Enabled.{mmu}
+use Rattle.mmu_core.specs.machine.Machine.{World}
+use Rattle.mmu_core.proofs.machine.Extend.{goes_on, stays, then}
 use Rattle.step_seats.specs.Moves.{Tells, step_by}
 use Rattle.step_seats.specs.Told.{LeadsOn}
 

@@ -9,16 +9,16 @@ use Rattle.spte_words.specs.declared.area.Area.{Area}
 use Rattle.spte_words.specs.Areas.{size_of}
 use Rattle.part_steps.specs.declared.task.Task.{Task}
 use Rattle.part_steps.specs.declared.part_step.PartStep.{PartStep}
-use Rattle.mmu_core.specs.Enabled.{mmu}
-use Rattle.mmu_core.specs.Machine.{World, answered, effect, hand_in}
+use Rattle.mmu_core.specs.machine.Enabled.{mmu}
+use Rattle.mmu_core.specs.machine.Machine.{World, answered, effect, hand_in}
 use Rattle.part_steps.specs.PartSteps.{PartNeeds, own_index, part_kind, part_task}
 use Rattle.part_steps.specs.Tasks.{kind_of_task, map_of}
-use Rattle.mmu_core.specs.View.{View, answer_in, word_in, words_after}
-use Rattle.mmu_core.specs.Worlds.{Reachable}
-use Rattle.mmu_core.proofs.PartIndex.{index_same}
-use Rattle.mmu_core.proofs.PartRested.{part_within, rests_in}
-use Rattle.mmu_core.proofs.Starts.{reached_good}
-use Rattle.mmu_core.proofs.Views.{view_behind}
+use Rattle.mmu_core.specs.machine.View.{View, answer_in, word_in, words_after}
+use Rattle.mmu_core.specs.machine.Worlds.{Reachable}
+use Rattle.mmu_core.proofs.words.PartIndex.{index_same}
+use Rattle.mmu_core.proofs.invariant.PartRested.{part_within, rests_in}
+use Rattle.mmu_core.proofs.start.Starts.{reached_good}
+use Rattle.mmu_core.proofs.machine.Views.{view_behind}
 use Rattle.step_seats.specs.Moves.{Tells, step_by}
 use Rattle.step_seats.specs.Where.{HasHand}
 use Rattle.step_seats.proofs.Found.{answers}

@@ -6,11 +6,11 @@ use Rattle.core_views.specs.declared.kind.Kind.{Kind}
 use Rattle.core_views.specs.Held.{Held}
 use Rattle.part_steps.specs.declared.part_step.PartStep.{PartStep}
 use Rattle.part_steps.specs.PartSteps.{part_kind}
-use Rattle.mmu_core.specs.Enabled.{mmu}
-use Rattle.mmu_core.specs.Machine.{World, answered, effect}
-use Rattle.mmu_core.specs.Steps.{next}
-use Rattle.mmu_core.proofs.Extend.{goes_on, hands_of_effect}
-use Rattle.mmu_core.proofs.LineRuns.{own_hand}
+use Rattle.mmu_core.specs.machine.Enabled.{mmu}
+use Rattle.mmu_core.specs.machine.Machine.{World, answered, effect}
+use Rattle.mmu_core.specs.machine.Steps.{next}
+use Rattle.mmu_core.proofs.machine.Extend.{goes_on, hands_of_effect}
+use Rattle.mmu_core.proofs.machine.LineRuns.{own_hand}
 use Rattle.step_seats.specs.Moves.{Tells, step_by}
 use Rattle.step_seats.specs.PartTurns.{MadePart}
 use Rattle.step_seats.specs.Where.{AnsweredThere, HasHand, IsMadeIn, OfWorld, Told, WhereMade}

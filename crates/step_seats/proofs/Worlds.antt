@@ -8,12 +8,12 @@ use Rattle.core_views.specs.declared.sizes.Sizes.{Sizes}
 use Rattle.core_views.specs.Held.{Handful}
 use Rattle.core_views.specs.Sizes.{actors_of}
 use Rattle.core_views.specs.Kinds.{after, answer}
-use Rattle.mmu_core.specs.Enabled.{Enabled, mmu}
-use Rattle.mmu_core.specs.Machine.{Leads, May, effect, answered, hand_in}
-use Rattle.mmu_core.specs.Steps.{next}
-use Rattle.mmu_core.specs.Worlds.{HandReached}
-use Rattle.mmu_core.proofs.Extend.{goes_on}
-use Rattle.mmu_core.proofs.Sized.{as_many_as_actors, enabled_inside}
+use Rattle.mmu_core.specs.machine.Enabled.{Enabled, mmu}
+use Rattle.mmu_core.specs.machine.Machine.{Leads, May, effect, answered, hand_in}
+use Rattle.mmu_core.specs.machine.Steps.{next}
+use Rattle.mmu_core.specs.machine.Worlds.{HandReached}
+use Rattle.mmu_core.proofs.machine.Extend.{goes_on}
+use Rattle.mmu_core.proofs.machine.Sized.{as_many_as_actors, enabled_inside}
 use Rattle.step_seats.specs.Machines.{IsMachine, Machine, world_in}
 use Rattle.std.proofs.lemmas.Grind.{merely}
 use Rattle.step_seats.specs.Frames.{frame_of, other_rooms, room_of}

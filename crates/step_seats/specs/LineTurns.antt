@@ -16,13 +16,13 @@ use Rattle.core_views.specs.Held.{Held}
 use Rattle.core_views.specs.Slots.{is_write}
 use Rattle.mmu_core.specs.declared.outcome.Outcome.{Outcome}
 use Rattle.mmu_core.specs.declared.outcome.Outcome.TheVariants.{Goes, Ends}
-use Rattle.mmu_core.specs.AccessSteps.{access_note, behind_fault}
-use Rattle.mmu_core.specs.Enabled.{Enabled}
-use Rattle.mmu_core.specs.FaultSteps.{fault_next, wait_seen}
-use Rattle.mmu_core.specs.LineAlone.{line_waits}
-use Rattle.mmu_core.specs.SetSlotSteps.{set_slot_seen}
-use Rattle.mmu_core.specs.Steps.{next, outcome_at, place_at}
-use Rattle.mmu_core.specs.Turns.{GoesOn, IsAnswered, line_of}
+use Rattle.mmu_core.specs.lines.AccessSteps.{access_note, behind_fault}
+use Rattle.mmu_core.specs.machine.Enabled.{Enabled}
+use Rattle.mmu_core.specs.lines.FaultSteps.{fault_next, wait_seen}
+use Rattle.mmu_core.specs.alone.LineAlone.{line_waits}
+use Rattle.mmu_core.specs.lines.SetSlotSteps.{set_slot_seen}
+use Rattle.mmu_core.specs.machine.Steps.{next, outcome_at, place_at}
+use Rattle.mmu_core.specs.machine.Turns.{GoesOn, IsAnswered, line_of}
 use Rattle.step_seats.specs.Moves.{Adds, Tells}
 use Rattle.step_seats.specs.Where.{AnsweredThere, Told}
 use Rattle.step_seats.specs.declared.turn.Turn.{Turn}

@@ -2,8 +2,8 @@
 use Rattle.std.specs.Prelude.{◌≡◌, ℕ, List}
 use Rattle.core_views.specs.declared.sizes.Sizes.{Sizes}
 use Rattle.core_views.specs.Held.{Held, Handful}
-use Rattle.mmu_core.specs.Machine.{World}
-use Rattle.mmu_core.specs.Worlds.{Reachable}
+use Rattle.mmu_core.specs.machine.Machine.{World}
+use Rattle.mmu_core.specs.machine.Worlds.{Reachable}
 use Rattle.step_seats.specs.Moves.{world_of}
 
 pub record Machine : Type 0 where

@@ -2,9 +2,9 @@
 use Rattle.std.specs.Prelude.{◌≡◌, ◌+◌, ℕ, List, [], ◌∷◌, ◌++◌, length, map, slice_index_or, Option, Some, None, IfSome}
 use Rattle.core_views.specs.declared.kind.Kind.{Kind}
 use Rattle.core_views.specs.Held.{Held, Handful}
-use Rattle.mmu_core.specs.Machine.{Step, World, May, answered, effect}
-use Rattle.mmu_core.specs.Enabled.{mmu}
-use Rattle.mmu_core.specs.Steps.{nobody}
+use Rattle.mmu_core.specs.machine.Machine.{Step, World, May, answered, effect}
+use Rattle.mmu_core.specs.machine.Enabled.{mmu}
+use Rattle.mmu_core.specs.machine.Steps.{nobody}
 
 abbrev pub step_by : ℕ → Kind → Step Kind
 step_by actor kind = record { actor = actor; kind = kind }

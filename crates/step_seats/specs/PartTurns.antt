@@ -4,8 +4,8 @@ use Rattle.core_views.specs.Held.{Held}
 use Rattle.part_steps.specs.declared.part_step.PartStep.{PartStep}
 use Rattle.part_steps.specs.PartSteps.{part_kind}
 use Rattle.part_steps.specs.PartTopics.{part_topics}
-use Rattle.mmu_core.specs.Machine.{World}
-use Rattle.mmu_core.specs.Steps.{next}
+use Rattle.mmu_core.specs.machine.Machine.{World}
+use Rattle.mmu_core.specs.machine.Steps.{next}
 use Rattle.step_seats.specs.Moves.{Adds, Tells}
 use Rattle.step_seats.specs.Where.{AnsweredThere, HasHand, Told, WhereMade}
 

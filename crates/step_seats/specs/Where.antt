@@ -2,10 +2,10 @@
 use Rattle.std.specs.Prelude.{◌≡◌, ◌<◌, ℕ, List, Option, Some, None, length}
 use Rattle.core_views.specs.declared.kind.Kind.{Kind}
 use Rattle.core_views.specs.Held.{Held}
-use Rattle.mmu_core.specs.Enabled.{mmu}
-use Rattle.mmu_core.specs.Machine.{May, Step, World, answered, effect, hand_in}
-use Rattle.mmu_core.specs.Steps.{next}
-use Rattle.mmu_core.specs.Worlds.{Reachable}
+use Rattle.mmu_core.specs.machine.Enabled.{mmu}
+use Rattle.mmu_core.specs.machine.Machine.{May, Step, World, answered, effect, hand_in}
+use Rattle.mmu_core.specs.machine.Steps.{next}
+use Rattle.mmu_core.specs.machine.Worlds.{Reachable}
 use Rattle.step_seats.specs.Moves.{step_by}
 
 -- all that a seat tells: the world, and the steps made so far

@@ -2,10 +2,10 @@
 ghost use Rattle.std.specs.Prelude.{◌≡◌, ◌<◌, ◌≤◌, IfOk, OnErr, OnOk, length, slice_set};
 ghost use Rattle.core_views.specs.Sizes.{AreSizes, actors_of, index_of, sizes_of};
 ghost use Rattle.core_views.specs.Traces.{IsTrace};
-ghost use Rattle.mmu_core.specs.Enabled.{Enabled, mmu};
-ghost use Rattle.mmu_core.specs.Machine.{May, answered, effect};
-ghost use Rattle.mmu_core.specs.Steps.{next};
-ghost use Rattle.mmu_core.specs.Worlds.{HandReached, IsStart};
+ghost use Rattle.mmu_core.specs.machine.Enabled.{Enabled, mmu};
+ghost use Rattle.mmu_core.specs.machine.Machine.{May, answered, effect};
+ghost use Rattle.mmu_core.specs.machine.Steps.{next};
+ghost use Rattle.mmu_core.specs.machine.Worlds.{HandReached, IsStart};
 ghost use Rattle.step_seats.specs.Machines.{IsMachine, world_in};
 ghost use Rattle.step_seats.specs.Moves.{KeepsRoom, handful_in, step_by};
 ghost use Rattle.step_seats.specs.Where.{HasHand, IsMadeIn};

@@ -5,7 +5,7 @@ ghost use Rattle.core_views.specs.Sizes.{AreSizes, actors_of, sizes_of};
 ghost use Rattle.core_views.specs.Traces.{IsTrace};
 ghost use Rattle.core_views.specs.Whole.{lines_of};
 ghost use Rattle.part_steps.specs.Tasks.{map_of};
-ghost use Rattle.mmu_core.specs.Worlds.{AreStartWords, free_bits, least, start_hands, start_word};
+ghost use Rattle.mmu_core.specs.machine.Worlds.{AreStartWords, free_bits, least, start_hands, start_word};
 ghost use Rattle.spte_words.specs.Areas.{size_of};
 ghost use Rattle.step_seats.specs.Moves.{cores_of};
 

@@ -1,7 +1,7 @@
 ghost use Rattle.std.specs.Prelude.{◌≡◌, ◌<◌, IfSome, OnErr, OnOk};
-ghost use Rattle.mmu_core.specs.Enabled.{Enabled};
-ghost use Rattle.mmu_core.specs.Steps.{next};
-ghost use Rattle.mmu_core.specs.Worlds.{HandReached};
+ghost use Rattle.mmu_core.specs.machine.Enabled.{Enabled};
+ghost use Rattle.mmu_core.specs.machine.Steps.{next};
+ghost use Rattle.mmu_core.specs.machine.Worlds.{HandReached};
 ghost use Rattle.step_seats.specs.Moves.{Adds, KeepsRoom, Tells};
 ghost use Rattle.step_seats.specs.Where.{AnsweredThere, HasHand};
 

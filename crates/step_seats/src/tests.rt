@@ -5,8 +5,8 @@ ghost use Rattle.core_views.specs.Traces.{IsTrace};
 ghost use Rattle.core_views.specs.declared.actor.Actor.TheVariants.{Vcpu};
 ghost use Rattle.core_views.specs.declared.trace.Command.TheVariants.{Access};
 ghost use Rattle.core_views.specs.declared.trace.Op.TheVariants.{Read};
-ghost use Rattle.mmu_core.specs.Enabled.{mmu};
-ghost use Rattle.mmu_core.specs.Machine.{Leads};
+ghost use Rattle.mmu_core.specs.machine.Enabled.{mmu};
+ghost use Rattle.mmu_core.specs.machine.Machine.{Leads};
 ghost use Rattle.step_seats.specs.Machines.{world_in};
 ghost use Rattle.step_seats.specs.Told.{LeadsOn};
 

@@ -18,24 +18,24 @@ use Rattle.spte_words.specs.declared.area.Area.TheVariants as area
 use Rattle.spte_words.specs.Areas.{words_of_bits}
 use Rattle.spte_words.specs.Bits.{has_bit}
 use Rattle.part_steps.specs.declared.part_step.PartStep.TheVariants as part
-use Rattle.mmu_core.specs.Enabled.{mmu}
-use Rattle.mmu_core.specs.Laws.{IsSound}
-use Rattle.mmu_core.specs.Machine.{World, hand_in}
-use Rattle.mmu_core.specs.MayMake.{MayMake}
+use Rattle.mmu_core.specs.machine.Enabled.{mmu}
+use Rattle.mmu_core.specs.invariant.Laws.{IsSound}
+use Rattle.mmu_core.specs.machine.Machine.{World, hand_in}
+use Rattle.mmu_core.specs.machine.MayMake.{MayMake}
 use Rattle.part_steps.specs.PartBounds.{PartRests}
 use Rattle.part_steps.specs.PartSteps.{PartNeeds, needs_line, own_index, page_owned, part_kind, part_task}
-use Rattle.mmu_core.specs.PoolPart.{UsePart, is_free, is_leaving, is_owned}
-use Rattle.mmu_core.specs.Steps.{has_line}
+use Rattle.mmu_core.specs.invariant.PoolPart.{UsePart, is_free, is_leaving, is_owned}
+use Rattle.mmu_core.specs.machine.Steps.{has_line}
 use Rattle.part_steps.specs.TopicSteps.{claimed, is_won, tried, tried_bit}
-use Rattle.mmu_core.specs.TreePart.{at, stands}
-use Rattle.mmu_core.specs.View.{word_in}
-use Rattle.mmu_core.specs.Worlds.{HandReached, Reachable}
-use Rattle.mmu_core.proofs.Columns.{upd_same}
-use Rattle.mmu_core.proofs.PartRested.{may_make, reached_part_rests}
-use Rattle.mmu_core.proofs.PoolBits.{page_free}
-use Rattle.mmu_core.proofs.PoolPages.{left_not_owned, one_owner, owned_no_table, owned_not_free, owned_not_slots, owned_there}
-use Rattle.mmu_core.proofs.TreePlaces.{root_stands}
-use Rattle.mmu_core.proofs.Starts.{reached_good}
+use Rattle.mmu_core.specs.invariant.TreePart.{at, stands}
+use Rattle.mmu_core.specs.machine.View.{word_in}
+use Rattle.mmu_core.specs.machine.Worlds.{HandReached, Reachable}
+use Rattle.mmu_core.proofs.machine.Columns.{upd_same}
+use Rattle.mmu_core.proofs.invariant.PartRested.{may_make, reached_part_rests}
+use Rattle.mmu_core.proofs.words.PoolBits.{page_free}
+use Rattle.mmu_core.proofs.pages.PoolPages.{left_not_owned, one_owner, owned_no_table, owned_not_free, owned_not_slots, owned_there}
+use Rattle.mmu_core.proofs.pages.TreePlaces.{root_stands}
+use Rattle.mmu_core.proofs.start.Starts.{reached_good}
 use Rattle.step_seats.specs.PartTurns.{MadePart, WherePartMade}
 use Rattle.step_seats.specs.Where.{HasHand, Told}
 use Rattle.table_pool.specs.Claims.{IsClaimersAlone, IsFreePage, SawStands, claim_step, next_word, sees_pages}
@@ -44,7 +44,7 @@ use Rattle.table_pool.specs.declared.claim.Claimed.{Claimed}
 use Rattle.table_pool.specs.declared.claim.Claimed.TheVariants.{Page, Empty}
 use Rattle.step_seats.specs.declared.turn.Turn.{Turn}
 use Rattle.step_seats.specs.declared.turn.Turn.TheVariants.{More, Wait, Retry, Done}
-use Rattle.mmu_core.proofs.Sized.{next_keeps_sizes}
+use Rattle.mmu_core.proofs.machine.Sized.{next_keeps_sizes}
 use Rattle.step_seats.proofs.ToldWords.{StepsTo, told_before, told_both}
 use Rattle.step_seats.proofs.Where.{ToldBoth, after_step, only, where_made}
 use Rattle.part_steps.specs.declared.part_step.PartStep.{PartStep}

@@ -8,23 +8,23 @@ use Rattle.spte_words.specs.declared.area.Area.TheVariants as area
 use Rattle.spte_words.specs.Areas.{number_of, pool_index}
 use Rattle.spte_words.proofs.Places.{same_number}
 use Rattle.part_steps.specs.declared.part_step.PartStep.TheVariants as part
-use Rattle.mmu_core.specs.Enabled.{mmu}
-use Rattle.mmu_core.specs.Machine.{World, answered}
+use Rattle.mmu_core.specs.machine.Enabled.{mmu}
+use Rattle.mmu_core.specs.machine.Machine.{World, answered}
 use Rattle.core_views.specs.declared.kind.Kind.{Kind}
 use Rattle.part_steps.specs.PartSteps.{HasToFill, PartNeeds, own_index, page_owned, part_kind, part_task, words_filled}
 use Rattle.part_steps.specs.PartTopics.{part_topics}
-use Rattle.mmu_core.specs.PoolPart.{is_free}
+use Rattle.mmu_core.specs.invariant.PoolPart.{is_free}
 use Rattle.part_steps.specs.TopicSteps.{filled_more}
-use Rattle.mmu_core.proofs.PartWords.{fill_answers}
+use Rattle.mmu_core.proofs.words.PartWords.{fill_answers}
 use Rattle.core_views.specs.declared.topics.OwnedPage.{OwnedPage}
 use Rattle.core_views.specs.declared.topics.Topics.{Topics}
 use Rattle.step_seats.specs.declared.turn.Turn.TheVariants.{More}
 use Rattle.std.proofs.Math.Logic.{∥∥₁_elim}
 use Rattle.std.proofs.Props.{props}
-use Rattle.mmu_core.specs.View.{upd, word_in, words_after}
-use Rattle.mmu_core.proofs.Columns.{upd_other, upd_same}
-use Rattle.mmu_core.proofs.OwnedBehind.{fill_by}
-use Rattle.mmu_core.proofs.PoolBits.{free_set}
+use Rattle.mmu_core.specs.machine.View.{upd, word_in, words_after}
+use Rattle.mmu_core.proofs.machine.Columns.{upd_other, upd_same}
+use Rattle.mmu_core.proofs.pages.OwnedBehind.{fill_by}
+use Rattle.mmu_core.proofs.words.PoolBits.{free_set}
 use Rattle.step_seats.specs.PartTurns.{MadePart}
 use Rattle.step_seats.specs.Where.{AnsweredThere, IsMadeIn, OfWorld, Told}
 use Rattle.table_pool.specs.Pages.{FillTurn, FillsNext, FreesPage, StoresNext, next_area, next_index}

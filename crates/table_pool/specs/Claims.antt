@@ -10,13 +10,13 @@ use Rattle.spte_words.specs.Areas.{place, words_of_bits}
 use Rattle.spte_words.specs.Bits.{has_bit}
 use Rattle.part_steps.specs.declared.part_step.PartStep.{PartStep}
 use Rattle.part_steps.specs.declared.part_step.PartStep.TheVariants as part
-use Rattle.mmu_core.specs.Enabled.{mmu}
-use Rattle.mmu_core.specs.Machine.{World, hand_in}
+use Rattle.mmu_core.specs.machine.Enabled.{mmu}
+use Rattle.mmu_core.specs.machine.Machine.{World, hand_in}
 use Rattle.part_steps.specs.PartTopics.{part_topics}
-use Rattle.mmu_core.specs.PoolPart.{is_free, is_leaving, is_owned}
+use Rattle.mmu_core.specs.invariant.PoolPart.{is_free, is_leaving, is_owned}
 use Rattle.part_steps.specs.Tasks.{map_of}
 use Rattle.part_steps.specs.TopicSteps.{tried_bit}
-use Rattle.mmu_core.specs.View.{word_in}
+use Rattle.mmu_core.specs.machine.View.{word_in}
 use Rattle.step_seats.specs.declared.turn.Turn.{Turn}
 use Rattle.step_seats.specs.declared.turn.Turn.TheVariants.{More, Wait, Retry, Done}
 use Rattle.table_pool.specs.declared.claim.Claim.{Claim}

@@ -7,11 +7,11 @@ use Rattle.core_views.specs.Held.{Held}
 use Rattle.spte_words.specs.declared.area.Area.{Area}
 use Rattle.spte_words.specs.declared.area.Area.TheVariants as area
 use Rattle.spte_words.specs.Areas.{pool_index}
-use Rattle.mmu_core.specs.Machine.{World}
+use Rattle.mmu_core.specs.machine.Machine.{World}
 use Rattle.part_steps.specs.PartSteps.{words_filled}
 use Rattle.part_steps.specs.TopicSteps.{unseen}
-use Rattle.mmu_core.specs.PoolPart.{is_free}
-use Rattle.mmu_core.specs.View.{word_in}
+use Rattle.mmu_core.specs.invariant.PoolPart.{is_free}
+use Rattle.mmu_core.specs.machine.View.{word_in}
 use Rattle.step_seats.specs.declared.turn.Turn.{Turn}
 use Rattle.step_seats.specs.declared.turn.Turn.TheVariants.{More, Wait, Retry, Done}
 

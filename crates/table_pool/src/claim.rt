@@ -1,8 +1,8 @@
 ghost use Rattle.std.specs.Prelude.{◌≡◌, ◌≢◌, ◌<◌, ℕ, true, false, None};
 ghost use Rattle.core_views.specs.declared.hand.Seen.{Seen};
-ghost use Rattle.mmu_core.specs.MayMake.{MayMake};
-ghost use Rattle.mmu_core.specs.Steps.{has_line};
-ghost use Rattle.mmu_core.specs.Worlds.{HandReached};
+ghost use Rattle.mmu_core.specs.machine.MayMake.{MayMake};
+ghost use Rattle.mmu_core.specs.machine.Steps.{has_line};
+ghost use Rattle.mmu_core.specs.machine.Worlds.{HandReached};
 ghost use Rattle.spte_words.specs.Areas.{words_of_bits};
 ghost use Rattle.step_seats.specs.Moves.{KeepsRoom};
 ghost use Rattle.step_seats.specs.PartTurns.{MakesPart, WherePartMade};

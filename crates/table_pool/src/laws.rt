@@ -1,4 +1,4 @@
-ghost use Rattle.mmu_core.specs.Scans.{ClaimsScanOnce, ClaimsSeeEachWord};
+ghost use Rattle.mmu_core.specs.invariant.Scans.{ClaimsScanOnce, ClaimsSeeEachWord};
 
 /// What a claim has seen, in every list of steps that is enabled step by step,
 /// of all actors in any order, from the start of every machine: each word of the

@@ -1,5 +1,5 @@
 ghost use Rattle.std.specs.Prelude.{◌≡◌, ◌<◌, None};
-ghost use Rattle.mmu_core.specs.MayMake.{MayMake};
+ghost use Rattle.mmu_core.specs.machine.MayMake.{MayMake};
 ghost use Rattle.part_steps.specs.PartSteps.{page_owned, words_filled};
 ghost use Rattle.part_steps.specs.declared.part_step.PartStep.TheVariants as part;
 ghost use Rattle.step_seats.specs.Moves.{KeepsRoom};

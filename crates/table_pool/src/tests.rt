@@ -2,7 +2,7 @@
 //! and 3 are free.
 ghost use Rattle.std.specs.Prelude.{◌≡◌, ◌<◌, [], ◌∷◌, IfOk, OnOk, length};
 ghost use Rattle.core_views.specs.Sizes.{index_of};
-ghost use Rattle.mmu_core.specs.MayMake.{MayMake};
+ghost use Rattle.mmu_core.specs.machine.MayMake.{MayMake};
 ghost use Rattle.part_steps.specs.PartSteps.{page_owned};
 ghost use Rattle.table_pool.specs.Claims.{claim_step};
 

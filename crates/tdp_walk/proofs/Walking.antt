@@ -14,15 +14,15 @@ use Rattle.part_steps.specs.declared.part_step.PartStep.TheVariants as part
 use Rattle.part_steps.specs.PartSteps.{IsOver, PartNeeds, SawEntry, entry_index, table_page}
 use Rattle.part_steps.specs.PartTopics.{part_topics}
 use Rattle.part_steps.specs.TopicSteps.{at_root, gone_down, linked_page, may_walk}
-use Rattle.mmu_core.specs.View.{word_in}
+use Rattle.mmu_core.specs.machine.View.{word_in}
 use Rattle.step_seats.specs.PartTurns.{MadePart, WherePartMade}
 use Rattle.step_seats.specs.Where.{Told}
 use Rattle.tdp_walk.specs.declared.walk.Walk.{Walk}
 use Rattle.tdp_walk.specs.Walks.{GoesDown, StandsAtRoot, StopsAt, found_last, walk_step, word_next}
-use Rattle.mmu_core.proofs.HeldKept.{page_below}
+use Rattle.mmu_core.proofs.held.HeldKept.{page_below}
 use Rattle.step_seats.proofs.Where.{only, where_made}
 use Rattle.step_seats.proofs.Found.{found_told}
-use Rattle.mmu_core.specs.Machine.{World}
+use Rattle.mmu_core.specs.machine.Machine.{World}
 
 -- At level 1 no entry is a link.
 lowest : (v page : ℕ) → kind_of 1 v ≡ entry_kind.Table page → ⊥

@@ -4,7 +4,7 @@ use Rattle.std.specs.declared.option.Option.{Option}
 use Rattle.core_views.specs.declared.no_memory.NoMemory.{NoMemory}
 use Rattle.core_views.specs.declared.trace.Trace.{Trace}
 use Rattle.core_views.specs.Held.{Held}
-use Rattle.mmu_core.specs.Machine.{World}
+use Rattle.mmu_core.specs.machine.Machine.{World}
 use Rattle.step_seats.specs.Moves.{world_of}
 use Rattle.weave_engine.specs.Pieces.{IsPrintedLine, LeavesFew, WritesMost}
 use Rattle.weave_engine.specs.Weaves.{unfinished_text}

@@ -20,9 +20,9 @@ use Rattle.fault_install.specs.declared.fault.Faulted.TheVariants as faulted
 use Rattle.fault_install.specs.Faults.{EndsBy, Turned, TurnsFault, WaitsBy}
 use Rattle.mmu_core.specs.declared.outcome.Outcome.{Outcome}
 use Rattle.mmu_core.specs.declared.outcome.Outcome.TheVariants as outcome
-use Rattle.mmu_core.specs.FaultKnows.{EndKnows}
-use Rattle.mmu_core.specs.FaultSteps.{fault_next, fault_part, wait_seen, waits}
-use Rattle.mmu_core.specs.LineAlone.{line_waits}
+use Rattle.mmu_core.specs.lines.FaultKnows.{EndKnows}
+use Rattle.mmu_core.specs.lines.FaultSteps.{fault_next, fault_part, wait_seen, waits}
+use Rattle.mmu_core.specs.alone.LineAlone.{line_waits}
 use Rattle.step_seats.specs.declared.turn.Turn.{Turn}
 use Rattle.step_seats.specs.declared.turn.Turn.TheVariants.{More, Wait, Retry, Done}
 use Rattle.core_views.specs.declared.place.Leaving.TheVariants as leaving
@@ -47,18 +47,18 @@ use Rattle.part_steps.specs.declared.part_step.PartStep.{PartStep}
 use Rattle.part_steps.specs.declared.part_step.PartStep.TheVariants as part
 use Rattle.part_steps.specs.TopicSteps.{may_walk}
 use Rattle.tdp_walk.specs.Walks.{walk_step}
-use Rattle.mmu_core.specs.AccessSteps.{access_note, access_part, task_by, touch_of}
-use Rattle.mmu_core.specs.Enabled.{Enabled}
-use Rattle.mmu_core.specs.MayMake.{MayMake}
+use Rattle.mmu_core.specs.lines.AccessSteps.{access_note, access_part, task_by, touch_of}
+use Rattle.mmu_core.specs.machine.Enabled.{Enabled}
+use Rattle.mmu_core.specs.machine.MayMake.{MayMake}
 use Rattle.part_steps.specs.PartSteps.{PartNeeds, part_kind, part_task, own_index}
-use Rattle.mmu_core.specs.KnowsPart.{KnowsPart}
-use Rattle.mmu_core.specs.Rests.{Rests, RestsAt, RestsOn}
-use Rattle.mmu_core.specs.Steps.{outcome_at, place_at, task_at, task_of}
+use Rattle.mmu_core.specs.lines.KnowsPart.{KnowsPart}
+use Rattle.mmu_core.specs.lines.Rests.{Rests, RestsAt, RestsOn}
+use Rattle.mmu_core.specs.machine.Steps.{outcome_at, place_at, task_at, task_of}
 use Rattle.part_steps.specs.Tasks.{kind_of_task, map_of}
-use Rattle.mmu_core.specs.Turns.{line_of, outcome_of}
-use Rattle.mmu_core.proofs.KnowsKept.{access_vcpu}
-use Rattle.mmu_core.proofs.PartFits.{part_small, part_within_by}
-use Rattle.mmu_core.proofs.Which.{enabled_is}
+use Rattle.mmu_core.specs.machine.Turns.{line_of, outcome_of}
+use Rattle.mmu_core.proofs.lines.KnowsKept.{access_vcpu}
+use Rattle.mmu_core.proofs.words.PartFits.{part_small, part_within_by}
+use Rattle.mmu_core.proofs.machine.Which.{enabled_is}
 use Rattle.step_seats.specs.Where.{Told}
 use Rattle.vcpu_run.specs.declared.access.AccessJob.{AccessJob}
 use Rattle.step_seats.specs.LineTurns.{Gives, MakesLine, TurnsLine, fault_turn, line_seen, line_turn, turn_of}

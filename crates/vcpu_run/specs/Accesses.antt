@@ -11,11 +11,11 @@ use Rattle.core_views.specs.Held.{Held}
 use Rattle.core_views.specs.Slots.{is_write}
 use Rattle.fault_install.specs.declared.fault.Faulted.{Faulted}
 use Rattle.fault_install.specs.declared.fault.Faulted.TheVariants as faulted
-use Rattle.mmu_core.specs.FaultKnows.{EndKnows}
-use Rattle.mmu_core.specs.KnowsPart.{KnowsPart}
-use Rattle.mmu_core.specs.Rests.{Rests}
-use Rattle.mmu_core.specs.Steps.{place_at}
-use Rattle.mmu_core.specs.Turns.{line_of}
+use Rattle.mmu_core.specs.lines.FaultKnows.{EndKnows}
+use Rattle.mmu_core.specs.lines.KnowsPart.{KnowsPart}
+use Rattle.mmu_core.specs.lines.Rests.{Rests}
+use Rattle.mmu_core.specs.machine.Steps.{place_at}
+use Rattle.mmu_core.specs.machine.Turns.{line_of}
 use Rattle.step_seats.specs.declared.turn.Turn.{Turn}
 use Rattle.step_seats.specs.declared.turn.Turn.TheVariants.{More, Wait, Retry, Done}
 use Rattle.vcpu_run.specs.declared.access.AccessJob.{AccessJob}

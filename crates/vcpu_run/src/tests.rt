@@ -6,7 +6,7 @@ ghost use Rattle.core_views.specs.Traces.{IsTrace};
 ghost use Rattle.core_views.specs.declared.actor.Actor.TheVariants.{Manager, Vcpu};
 ghost use Rattle.core_views.specs.declared.trace.Command.TheVariants.{Access, SetSlot};
 ghost use Rattle.core_views.specs.declared.trace.Op.TheVariants.{Read, Write};
-ghost use Rattle.mmu_core.specs.Turns.{line_of};
+ghost use Rattle.mmu_core.specs.machine.Turns.{line_of};
 
 use crate::AccessJob;
 use core_views::{

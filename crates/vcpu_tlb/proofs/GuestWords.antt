@@ -18,22 +18,22 @@ use Rattle.spte_words.specs.declared.area.Area.TheVariants as area
 use Rattle.part_steps.specs.declared.task.Task.{Task}
 use Rattle.part_steps.specs.declared.part_step.PartStep.{PartStep}
 use Rattle.part_steps.specs.declared.part_step.PartStep.TheVariants as part
-use Rattle.mmu_core.specs.Enabled.{mmu}
-use Rattle.mmu_core.specs.Laws.{IsSound}
-use Rattle.mmu_core.specs.Machine.{World, effect, hand_in}
+use Rattle.mmu_core.specs.machine.Enabled.{mmu}
+use Rattle.mmu_core.specs.invariant.Laws.{IsSound}
+use Rattle.mmu_core.specs.machine.Machine.{World, effect, hand_in}
 use Rattle.part_steps.specs.PartSteps.{all_but, own_index, part_kind, part_task, works}
-use Rattle.mmu_core.specs.StatesPart.{stay_bits}
+use Rattle.mmu_core.specs.invariant.StatesPart.{stay_bits}
 use Rattle.part_steps.specs.Tasks.{kind_of_task}
-use Rattle.mmu_core.specs.View.{View, upd, word_in, words_after}
-use Rattle.mmu_core.specs.Worlds.{Reachable}
-use Rattle.mmu_core.proofs.Columns.{upd_same}
-use Rattle.mmu_core.proofs.Starts.{reached_good}
-use Rattle.mmu_core.proofs.Views.{view_behind}
-use Rattle.mmu_core.proofs.Worlds.{good_step}
+use Rattle.mmu_core.specs.machine.View.{View, upd, word_in, words_after}
+use Rattle.mmu_core.specs.machine.Worlds.{Reachable}
+use Rattle.mmu_core.proofs.machine.Columns.{upd_same}
+use Rattle.mmu_core.proofs.start.Starts.{reached_good}
+use Rattle.mmu_core.proofs.machine.Views.{view_behind}
+use Rattle.mmu_core.proofs.machine.Worlds.{good_step}
 use Rattle.step_seats.specs.Moves.{Tells, step_by}
 use Rattle.step_seats.specs.Where.{HasHand}
 use Rattle.vcpu_tlb.specs.declared.guest.Entered.TheVariants.{In, Flushed}
-use Rattle.mmu_core.specs.Cached.{asks_flush}
+use Rattle.mmu_core.specs.lines.Cached.{asks_flush}
 use Rattle.vcpu_tlb.specs.Entering.{answer_to, state_in}
 
 -- The state word of an actor's hand is the one at its place.

@@ -4,10 +4,10 @@ use Rattle.circular_buffer.specs.Buffer.{Buffer, buffer}
 use Rattle.core_views.specs.Held.{Held}
 use Rattle.spte_words.specs.declared.area.Area.TheVariants as area
 use Rattle.part_steps.specs.declared.part_step.PartStep.TheVariants as part
-use Rattle.mmu_core.specs.Cached.{asks_flush}
-use Rattle.mmu_core.specs.Machine.{World}
+use Rattle.mmu_core.specs.lines.Cached.{asks_flush}
+use Rattle.mmu_core.specs.machine.Machine.{World}
 use Rattle.part_steps.specs.PartSteps.{own_index}
-use Rattle.mmu_core.specs.View.{word_in}
+use Rattle.mmu_core.specs.machine.View.{word_in}
 use Rattle.step_seats.specs.PartTurns.{MadePart}
 use Rattle.step_seats.specs.Where.{Told}
 use Rattle.core_views.specs.declared.cache.Translation.{Translation}

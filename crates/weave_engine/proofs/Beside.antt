@@ -22,21 +22,21 @@ use Rattle.core_views.specs.Traces.{IsCommandFor}
 use Rattle.core_views.specs.Whole.{IsWhole, lines_of}
 use Rattle.core_views.proofs.AloneIsWhole.{stands_whole}
 use Rattle.core_views.proofs.SameActor.{is_same_self}
-use Rattle.mmu_core.specs.Bounds.{most_steps}
-use Rattle.mmu_core.specs.Enabled.{mmu}
-use Rattle.mmu_core.specs.Histories.{answers_by}
-use Rattle.mmu_core.specs.Invariant.{UnderWay}
-use Rattle.mmu_core.specs.Laws.{IsSound}
-use Rattle.mmu_core.specs.Machine.{Legal, Step, World, effect, hand_in, run}
-use Rattle.mmu_core.specs.Sums.{one_if, sum_below}
-use Rattle.mmu_core.specs.Worlds.{IsStart, history}
-use Rattle.mmu_core.proofs.EveryAnswer.{start_follows}
-use Rattle.mmu_core.proofs.Extend.{legal-append}
-use Rattle.mmu_core.proofs.Followed.{Follows, begun_count}
-use Rattle.mmu_core.proofs.Starts.{start_good}
-use Rattle.mmu_core.proofs.StarvedScan.{legal_parts}
-use Rattle.mmu_core.proofs.SumsBelow.{sum_ge, sum_none}
-use Rattle.mmu_core.proofs.Worlds.{good_run}
+use Rattle.mmu_core.specs.lines.Bounds.{most_steps}
+use Rattle.mmu_core.specs.machine.Enabled.{mmu}
+use Rattle.mmu_laws.specs.flat.Histories.{answers_by}
+use Rattle.mmu_core.specs.invariant.Invariant.{UnderWay}
+use Rattle.mmu_core.specs.invariant.Laws.{IsSound}
+use Rattle.mmu_core.specs.machine.Machine.{Legal, Step, World, effect, hand_in, run}
+use Rattle.mmu_core.specs.machine.Sums.{one_if, sum_below}
+use Rattle.mmu_core.specs.machine.Worlds.{IsStart, history}
+use Rattle.mmu_laws.proofs.flat.EveryAnswer.{start_follows}
+use Rattle.mmu_core.proofs.machine.Extend.{legal-append}
+use Rattle.mmu_laws.proofs.flat.Followed.{Follows, begun_count}
+use Rattle.mmu_core.proofs.start.Starts.{start_good}
+use Rattle.mmu_laws.proofs.causes.StarvedScan.{legal_parts}
+use Rattle.mmu_core.proofs.machine.SumsBelow.{sum_ge, sum_none}
+use Rattle.mmu_core.proofs.machine.Worlds.{good_run}
 use Rattle.core_theorem.specs.Runs.{IsRun}
 use Rattle.core_theorem.specs.Turns.{begins_line, delays_line, how_many, is_of_line, is_under_way, lines_answered, lines_in, lines_under_way}
 use Rattle.core_theorem.proofs.Begins.{chosen_more, lines_are_open, sum_plus}

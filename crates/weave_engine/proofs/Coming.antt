@@ -6,11 +6,11 @@ use Rattle.core_views.specs.declared.kind.Kind.{Kind}
 use Rattle.core_views.specs.Held.{Held}
 use Rattle.core_views.specs.Text.{text}
 use Rattle.core_views.proofs.Texts.{text_append}
-use Rattle.mmu_core.specs.Enabled.{mmu}
-use Rattle.mmu_core.specs.Machine.{Legal, Step, World, run}
-use Rattle.mmu_core.specs.Worlds.{history}
-use Rattle.mmu_core.proofs.Extend.{legal-append, run-append}
-use Rattle.mmu_core.proofs.LineRuns.{history_append}
+use Rattle.mmu_core.specs.machine.Enabled.{mmu}
+use Rattle.mmu_core.specs.machine.Machine.{Legal, Step, World, run}
+use Rattle.mmu_core.specs.machine.Worlds.{history}
+use Rattle.mmu_core.proofs.machine.Extend.{legal-append, run-append}
+use Rattle.mmu_core.proofs.machine.LineRuns.{history_append}
 use Rattle.tdp_io.specs.declared.sink.Stop.{Stop}
 use Rattle.tdp_io.specs.declared.sink.Stop.TheVariants.{NoMemory as Full}
 use Rattle.weave_engine.specs.Pieces.{WritesMost, most_waiting}

@@ -19,15 +19,15 @@ use Rattle.core_views.specs.Flat.{no_line}
 use Rattle.core_views.specs.Held.{Held}
 use Rattle.core_views.specs.Sizes.{actor_at, actors_of}
 use Rattle.core_views.specs.Whole.{lines_of}
-use Rattle.mmu_core.specs.Enabled.{mmu}
-use Rattle.mmu_core.specs.Invariant.{UnderWay}
-use Rattle.mmu_core.specs.Laws.{IsSound}
-use Rattle.mmu_core.specs.Machine.{Legal, May, Step, World, answered, effect, hand_in}
-use Rattle.mmu_core.specs.Steps.{has_line, line_at, next_line}
-use Rattle.mmu_core.specs.Sums.{one_if}
-use Rattle.mmu_core.specs.Turns.{line_of}
-use Rattle.mmu_core.proofs.EveryAnswer.{run_follows}
-use Rattle.mmu_core.proofs.Worlds.{good_step}
+use Rattle.mmu_core.specs.machine.Enabled.{mmu}
+use Rattle.mmu_core.specs.invariant.Invariant.{UnderWay}
+use Rattle.mmu_core.specs.invariant.Laws.{IsSound}
+use Rattle.mmu_core.specs.machine.Machine.{Legal, May, Step, World, answered, effect, hand_in}
+use Rattle.mmu_core.specs.machine.Steps.{has_line, line_at, next_line}
+use Rattle.mmu_core.specs.machine.Sums.{one_if}
+use Rattle.mmu_core.specs.machine.Turns.{line_of}
+use Rattle.mmu_laws.proofs.flat.EveryAnswer.{run_follows}
+use Rattle.mmu_core.proofs.machine.Worlds.{good_step}
 use Rattle.core_theorem.specs.Turns.{delays_line, hand_delays, how_many}
 use Rattle.weave_engine.specs.Beside.{delays_of, is_numbered}
 

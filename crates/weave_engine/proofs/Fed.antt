@@ -22,11 +22,11 @@ use Rattle.core_views.specs.Alone.{NoneStarved}
 use Rattle.core_views.specs.Held.{Held}
 use Rattle.mmu_core.specs.declared.outcome.Outcome.{Outcome}
 use Rattle.mmu_core.specs.declared.outcome.Outcome.TheVariants.{Goes, Ends}
-use Rattle.mmu_core.specs.AccessSteps.{access_outcome, access_tells, exiting, fault_over}
-use Rattle.mmu_core.specs.SetSlotSteps.{set_slot_outcome, set_slot_tells}
-use Rattle.mmu_core.specs.Steps.{beginning, event_kinds, events_by, events_of, has_line, line_at, outcome_at, place_at, tells_at}
-use Rattle.mmu_core.specs.Outcomes.{answering}
-use Rattle.mmu_core.specs.Turns.{outcome_of}
+use Rattle.mmu_core.specs.lines.AccessSteps.{access_outcome, access_tells, exiting, fault_over}
+use Rattle.mmu_core.specs.lines.SetSlotSteps.{set_slot_outcome, set_slot_tells}
+use Rattle.mmu_core.specs.machine.Steps.{beginning, event_kinds, events_by, events_of, has_line, line_at, outcome_at, place_at, tells_at}
+use Rattle.mmu_core.specs.machine.Outcomes.{answering}
+use Rattle.mmu_core.specs.machine.Turns.{outcome_of}
 
 abbrev AreFed : List EventKind → Type 0
 AreFed [] = Unit {0}

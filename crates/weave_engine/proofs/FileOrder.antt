@@ -17,7 +17,7 @@ use Rattle.core_views.specs.Sizes.{actor_at, actors_of, index_of}
 use Rattle.core_views.specs.Traces.{IsCommandFor}
 use Rattle.core_views.specs.Whole.{lines_of}
 use Rattle.core_views.proofs.SameActor.{is_same_self}
-use Rattle.mmu_core.proofs.Starts.{place_of_actor, same_actor}
+use Rattle.mmu_core.proofs.start.Starts.{place_of_actor, same_actor}
 
 -- an actor's lines among two lists
 lines_of_append : (actor : Actor) (xs ys : List Line) → lines_of actor (xs ++ ys) ≡ lines_of actor xs ++ lines_of actor ys

@@ -25,15 +25,15 @@ use Rattle.core_views.specs.Text.{answers_of}
 use Rattle.core_views.specs.Traces.{IsCommandFor}
 use Rattle.core_views.specs.Whole.{lines_of}
 use Rattle.core_views.proofs.SameActor.{is_same_self}
-use Rattle.mmu_core.specs.Enabled.{mmu}
-use Rattle.mmu_core.specs.Histories.{answered_in, answers_by}
-use Rattle.mmu_core.specs.Machine.{Legal, Step, World, hand_in, run}
-use Rattle.mmu_core.specs.Steps.{next_line}
-use Rattle.mmu_core.specs.Turns.{with_answer}
-use Rattle.mmu_core.specs.Worlds.{IsStart, history}
-use Rattle.mmu_core.proofs.EveryAnswer.{start_follows}
-use Rattle.mmu_core.proofs.Starts.{same_actor}
-use Rattle.mmu_core.proofs.WholeSoFar.{stays_whole}
+use Rattle.mmu_core.specs.machine.Enabled.{mmu}
+use Rattle.mmu_laws.specs.flat.Histories.{answered_in, answers_by}
+use Rattle.mmu_core.specs.machine.Machine.{Legal, Step, World, hand_in, run}
+use Rattle.mmu_core.specs.machine.Steps.{next_line}
+use Rattle.mmu_core.specs.machine.Turns.{with_answer}
+use Rattle.mmu_core.specs.machine.Worlds.{IsStart, history}
+use Rattle.mmu_laws.proofs.flat.EveryAnswer.{start_follows}
+use Rattle.mmu_core.proofs.start.Starts.{same_actor}
+use Rattle.mmu_laws.proofs.flat.WholeSoFar.{stays_whole}
 use Rattle.weave_engine.specs.Turning.{HasLineLeft}
 use Rattle.weave_engine.specs.Weaves.{IsFirstInFile, IsFirstOpen, numbers_answered}
 use Rattle.weave_engine.proofs.FileOrder.{maker_is, maker_there, next_is}

@@ -9,9 +9,9 @@ use Rattle.core_views.specs.declared.trace.Line.{Line}
 use Rattle.core_views.specs.Flat.{no_line}
 use Rattle.core_views.specs.Held.{Held}
 use Rattle.core_views.specs.Sizes.{actors_of}
-use Rattle.mmu_core.specs.Enabled.{mmu}
-use Rattle.mmu_core.specs.Machine.{World, hand_in}
-use Rattle.mmu_core.specs.Steps.{has_line, next_line}
+use Rattle.mmu_core.specs.machine.Enabled.{mmu}
+use Rattle.mmu_core.specs.machine.Machine.{World, hand_in}
+use Rattle.mmu_core.specs.machine.Steps.{has_line, next_line}
 use Rattle.weave_engine.specs.Turning.{HasLineLeft, HasNoLineLeft}
 use Rattle.weave_engine.specs.Weaves.{FirstOpen, earlier_of}
 

@@ -8,9 +8,9 @@ use Rattle.core_views.specs.declared.actor.Actor.TheVariants.{Vcpu}
 use Rattle.core_views.specs.declared.trace.Item.{Item}
 use Rattle.core_views.specs.declared.trace.Until.TheVariants.{Turns}
 use Rattle.core_views.specs.Held.{Held}
-use Rattle.mmu_core.specs.Enabled.{mmu}
-use Rattle.mmu_core.specs.Machine.{Step, World, run}
-use Rattle.mmu_core.proofs.Extend.{run-append}
+use Rattle.mmu_core.specs.machine.Enabled.{mmu}
+use Rattle.mmu_core.specs.machine.Machine.{Step, World, run}
+use Rattle.mmu_core.proofs.machine.Extend.{run-append}
 use Rattle.std.specs.declared.option.Option.{Option}
 use Rattle.tdp_io.specs.declared.sink.Stop.{Stop}
 use Rattle.weave_engine.specs.Turned.{PutsRun}

@@ -7,10 +7,10 @@ use Rattle.core_views.specs.declared.kind.Kind.{Kind}
 use Rattle.core_views.specs.declared.trace.Until.{Until}
 use Rattle.core_views.specs.declared.trace.Until.TheVariants.{Turns, Answered, Made}
 use Rattle.core_views.specs.Held.{Held}
-use Rattle.mmu_core.specs.Enabled.{Enabled, mmu}
-use Rattle.mmu_core.specs.Machine.{Step, World, hand_in, run}
-use Rattle.mmu_core.specs.Steps.{has_line}
-use Rattle.mmu_core.proofs.Which.{is_next}
+use Rattle.mmu_core.specs.machine.Enabled.{Enabled, mmu}
+use Rattle.mmu_core.specs.machine.Machine.{Step, World, hand_in, run}
+use Rattle.mmu_core.specs.machine.Steps.{has_line}
+use Rattle.mmu_core.proofs.machine.Which.{is_next}
 use Rattle.tdp_io.specs.declared.sink.Stop.{Stop}
 use Rattle.weave_engine.specs.Turned.{Comes, MakesTurn, PutsRun, PutsTurn, next_code_in}
 use Rattle.weave_engine.specs.Turning.{HasNoLineLeft, IsOpenEnded, RunsBy, RunsBySoFar, ends_item, names_kind, stops}

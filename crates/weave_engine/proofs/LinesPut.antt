@@ -4,7 +4,7 @@ use Rattle.std.specs.declared.option.Option.{Option}
 use Rattle.core_views.specs.declared.sizes.Sizes.{Sizes}
 use Rattle.core_views.specs.declared.trace.Line.{Line}
 use Rattle.core_views.specs.Held.{Held}
-use Rattle.mmu_core.specs.Machine.{World}
+use Rattle.mmu_core.specs.machine.Machine.{World}
 use Rattle.tdp_io.specs.declared.sink.Stop.{Stop}
 use Rattle.weave_engine.specs.Pieces.{WritesMost}
 use Rattle.weave_engine.specs.Turning.{MayStop}

@@ -21,21 +21,21 @@ use Rattle.core_views.specs.Traces.{IsCommandFor}
 use Rattle.core_views.specs.Whole.{lines_of}
 use Rattle.core_views.proofs.StandsAlone.{stands_append}
 use Rattle.core_views.proofs.Texts.{text_append}
-use Rattle.mmu_core.specs.Bounds.{most_steps}
-use Rattle.mmu_core.specs.Enabled.{mmu}
-use Rattle.mmu_core.specs.Laws.{IsSound}
-use Rattle.mmu_core.specs.LineAlone.{AllRest, LineAlone}
-use Rattle.mmu_core.specs.Machine.{Legal, Step, World, effect, hand_in, run}
-use Rattle.mmu_core.specs.OthersRest.{HoldsNothing}
-use Rattle.mmu_core.specs.Steps.{nobody}
-use Rattle.mmu_core.specs.Turns.{IsAnswered, IsSameHand}
-use Rattle.mmu_core.specs.Worlds.{IsStart, history}
-use Rattle.mmu_core.proofs.AloneRuns.{begins_alone}
-use Rattle.mmu_core.proofs.Columns.{same_or}
-use Rattle.mmu_core.proofs.Extend.{legal-append, run-append}
-use Rattle.mmu_core.proofs.LineRuns.{history_append}
-use Rattle.mmu_core.proofs.Starts.{hand_is, start_good}
-use Rattle.mmu_core.proofs.Worlds.{good_run}
+use Rattle.mmu_core.specs.lines.Bounds.{most_steps}
+use Rattle.mmu_core.specs.machine.Enabled.{mmu}
+use Rattle.mmu_core.specs.invariant.Laws.{IsSound}
+use Rattle.mmu_core.specs.alone.LineAlone.{AllRest, LineAlone}
+use Rattle.mmu_core.specs.machine.Machine.{Legal, Step, World, effect, hand_in, run}
+use Rattle.mmu_core.specs.alone.OthersRest.{HoldsNothing}
+use Rattle.mmu_core.specs.machine.Steps.{nobody}
+use Rattle.mmu_core.specs.machine.Turns.{IsAnswered, IsSameHand}
+use Rattle.mmu_core.specs.machine.Worlds.{IsStart, history}
+use Rattle.mmu_laws.proofs.alone.AloneRuns.{begins_alone}
+use Rattle.mmu_core.proofs.machine.Columns.{same_or}
+use Rattle.mmu_core.proofs.machine.Extend.{legal-append, run-append}
+use Rattle.mmu_core.proofs.machine.LineRuns.{history_append}
+use Rattle.mmu_core.proofs.start.Starts.{hand_is, start_good}
+use Rattle.mmu_core.proofs.machine.Worlds.{good_run}
 use Rattle.step_seats.specs.Machines.{Machine, world_in}
 use Rattle.step_seats.specs.Moves.{core_of, handful_in}
 use Rattle.step_seats.proofs.Worlds.{core_at}

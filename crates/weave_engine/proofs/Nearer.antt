@@ -5,14 +5,14 @@ use Rattle.core_views.specs.declared.place.Place.{Place}
 use Rattle.core_views.specs.Held.{Held}
 use Rattle.mmu_core.specs.declared.outcome.Outcome.{Outcome}
 use Rattle.mmu_core.specs.declared.outcome.Outcome.TheVariants.{Goes, Ends}
-use Rattle.mmu_core.specs.Enabled.{mmu}
-use Rattle.mmu_core.specs.LineAlone.{hand_left, line_waits}
-use Rattle.mmu_core.specs.Machine.{World, answered, effect, hand_in}
-use Rattle.mmu_core.specs.Steps.{has_line, place_at}
-use Rattle.mmu_core.specs.TurnLaws.{begins_anew}
-use Rattle.mmu_core.specs.Turns.{outcome_of}
-use Rattle.mmu_core.specs.Worlds.{Reachable}
-use Rattle.mmu_core.proofs.TurnsNearer.{turns_nearer}
+use Rattle.mmu_core.specs.machine.Enabled.{mmu}
+use Rattle.mmu_core.specs.alone.LineAlone.{hand_left, line_waits}
+use Rattle.mmu_core.specs.machine.Machine.{World, answered, effect, hand_in}
+use Rattle.mmu_core.specs.machine.Steps.{has_line, place_at}
+use Rattle.mmu_laws.specs.turns.TurnLaws.{begins_anew}
+use Rattle.mmu_core.specs.machine.Turns.{outcome_of}
+use Rattle.mmu_core.specs.machine.Worlds.{Reachable}
+use Rattle.mmu_laws.proofs.turns.TurnsNearer.{turns_nearer}
 use Rattle.weave_engine.specs.Turned.{MakesTurn}
 use Rattle.weave_engine.specs.Turning.{is_ended}
 

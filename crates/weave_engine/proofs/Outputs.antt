@@ -22,19 +22,19 @@ use Rattle.core_views.proofs.AloneIsFlat.{goes_as_flat}
 use Rattle.core_views.proofs.AloneIsWhole.{stands_whole}
 use Rattle.core_views.proofs.HeaderSizes.{header_sizes}
 use Rattle.spte_words.specs.declared.area.Area.TheVariants as area
-use Rattle.mmu_core.specs.Enabled.{mmu}
-use Rattle.mmu_core.specs.Enough.{HasFreePage}
-use Rattle.mmu_core.specs.Machine.{Legal, Step, World, hand_in, run}
-use Rattle.mmu_core.specs.View.{word_in}
-use Rattle.mmu_core.specs.Worlds.{IsStart, history}
-use Rattle.mmu_core.proofs.AloneEnough.{none_free}
-use Rattle.mmu_core.proofs.Enough.{enough_pages}
-use Rattle.mmu_core.proofs.EveryHistory.{every_history}
-use Rattle.mmu_core.proofs.Extend.{legal-append, run-append}
-use Rattle.mmu_core.proofs.LineRuns.{history_append}
-use Rattle.mmu_core.proofs.Starts.{start_good}
-use Rattle.mmu_core.proofs.StartViews.{a_start}
-use Rattle.mmu_core.proofs.Worlds.{good_run}
+use Rattle.mmu_core.specs.machine.Enabled.{mmu}
+use Rattle.mmu_laws.specs.pool.Enough.{HasFreePage}
+use Rattle.mmu_core.specs.machine.Machine.{Legal, Step, World, hand_in, run}
+use Rattle.mmu_core.specs.machine.View.{word_in}
+use Rattle.mmu_core.specs.machine.Worlds.{IsStart, history}
+use Rattle.mmu_laws.proofs.alone.AloneEnough.{none_free}
+use Rattle.mmu_laws.proofs.pool.Enough.{enough_pages}
+use Rattle.mmu_laws.proofs.flat.EveryHistory.{every_history}
+use Rattle.mmu_core.proofs.machine.Extend.{legal-append, run-append}
+use Rattle.mmu_core.proofs.machine.LineRuns.{history_append}
+use Rattle.mmu_core.proofs.start.Starts.{start_good}
+use Rattle.mmu_core.proofs.start.StartViews.{a_start}
+use Rattle.mmu_core.proofs.machine.Worlds.{good_run}
 use Rattle.tdp_io.specs.Ends.{Wrote}
 use Rattle.tdp_io.specs.declared.sink.Stop.{Stop}
 use Rattle.tdp_io.specs.declared.sink.Stop.TheVariants.{Failed, NoMemory}

@@ -20,23 +20,23 @@ use Rattle.spte_words.specs.declared.area.Area.TheVariants as area
 use Rattle.spte_words.specs.Areas.{words_of_bits}
 use Rattle.mmu_core.specs.declared.outcome.Outcome.{Outcome}
 use Rattle.mmu_core.specs.declared.outcome.Outcome.TheVariants.{Goes, Ends}
-use Rattle.mmu_core.specs.Bounds.{most_steps, steps_left}
-use Rattle.mmu_core.specs.Enabled.{mmu}
-use Rattle.mmu_core.specs.Laws.{IsSound}
-use Rattle.mmu_core.specs.LineAlone.{AllRest, LineAlone, StarvedOnlyWithout, StepsAlone, hand_left, line_waits}
-use Rattle.mmu_core.specs.Machine.{Legal, May, Step, World, answered, effect, hand_in, run}
-use Rattle.mmu_core.specs.Rests.{IsUnderWay}
-use Rattle.mmu_core.specs.Scans.{EndsWithScan}
-use Rattle.mmu_core.specs.Steps.{events_of, has_line, line_at, next, place_at}
-use Rattle.mmu_core.specs.View.{word_in}
-use Rattle.mmu_core.specs.Turns.{GoesOn, IsSameHand, line_of, outcome_of}
-use Rattle.mmu_core.specs.Worlds.{history}
-use Rattle.mmu_core.proofs.AloneRuns.{ToldAlone, some_left, steps_alone, told_alone}
-use Rattle.mmu_core.proofs.LineEvents as events
-use Rattle.mmu_core.proofs.LineEvents.{IsClosed, IsOpen, SoFar, step_tells}
-use Rattle.mmu_core.proofs.LineRuns.{history_one_more, legal_one_more, own_hand, run_one_more}
-use Rattle.mmu_core.proofs.StarvedScan.{starved_lines_scan}
-use Rattle.mmu_core.proofs.Which.{has_line_is}
+use Rattle.mmu_core.specs.lines.Bounds.{most_steps, steps_left}
+use Rattle.mmu_core.specs.machine.Enabled.{mmu}
+use Rattle.mmu_core.specs.invariant.Laws.{IsSound}
+use Rattle.mmu_core.specs.alone.LineAlone.{AllRest, LineAlone, StarvedOnlyWithout, StepsAlone, hand_left, line_waits}
+use Rattle.mmu_core.specs.machine.Machine.{Legal, May, Step, World, answered, effect, hand_in, run}
+use Rattle.mmu_core.specs.lines.Rests.{IsUnderWay}
+use Rattle.mmu_core.specs.invariant.Scans.{EndsWithScan}
+use Rattle.mmu_core.specs.machine.Steps.{events_of, has_line, line_at, next, place_at}
+use Rattle.mmu_core.specs.machine.View.{word_in}
+use Rattle.mmu_core.specs.machine.Turns.{GoesOn, IsSameHand, line_of, outcome_of}
+use Rattle.mmu_core.specs.machine.Worlds.{history}
+use Rattle.mmu_laws.proofs.alone.AloneRuns.{ToldAlone, some_left, steps_alone, told_alone}
+use Rattle.mmu_laws.proofs.flat.LineEvents as events
+use Rattle.mmu_laws.proofs.flat.LineEvents.{IsClosed, IsOpen, SoFar, step_tells}
+use Rattle.mmu_core.proofs.machine.LineRuns.{history_one_more, legal_one_more, own_hand, run_one_more}
+use Rattle.mmu_laws.proofs.causes.StarvedScan.{starved_lines_scan}
+use Rattle.mmu_core.proofs.machine.Which.{has_line_is}
 use Rattle.step_seats.specs.Moves.{Adds, Tells, step_by}
 use Rattle.step_seats.specs.declared.turn.Turn.{Turn}
 use Rattle.step_seats.specs.declared.turn.Turn.TheVariants.{More, Wait, Retry, Done}

@@ -7,8 +7,8 @@ use Rattle.core_views.specs.declared.kind.Kind.{Kind}
 use Rattle.core_views.specs.declared.sizes.Sizes.{Sizes}
 use Rattle.core_views.specs.Held.{Held}
 use Rattle.core_views.specs.Sizes.{actors_of}
-use Rattle.mmu_core.specs.Enabled.{mmu}
-use Rattle.mmu_core.specs.Machine.{Step, World, run}
+use Rattle.mmu_core.specs.machine.Enabled.{mmu}
+use Rattle.mmu_core.specs.machine.Machine.{Step, World, run}
 use Rattle.tdp_io.specs.declared.sink.Stop.{Stop}
 use Rattle.weave_engine.specs.Turned.{MakesTurn, PutsRun, PutsTurn}
 use Rattle.weave_engine.specs.Turning.{AllAnswered, HasLineLeft, HasNoLineLeft, IsNextInRound, IsNextPlace, RunsRounds, place_behind}

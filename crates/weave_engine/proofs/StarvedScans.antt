@@ -4,12 +4,12 @@ use Rattle.core_views.specs.declared.kind.Kind.{Kind}
 use Rattle.core_views.specs.declared.sizes.Sizes.{Sizes}
 use Rattle.core_views.specs.declared.trace.Line.{Line}
 use Rattle.core_views.specs.Held.{Held}
-use Rattle.mmu_core.specs.Enabled.{mmu}
-use Rattle.mmu_core.specs.Machine.{Legal, Step, World, run}
-use Rattle.mmu_core.specs.Worlds.{IsStart}
-use Rattle.mmu_core.proofs.StarvedScan.{legal_parts, starved_lines_scan}
-use Rattle.mmu_core.proofs.Starts.{start_good}
-use Rattle.mmu_core.proofs.Worlds.{good_run}
+use Rattle.mmu_core.specs.machine.Enabled.{mmu}
+use Rattle.mmu_core.specs.machine.Machine.{Legal, Step, World, run}
+use Rattle.mmu_core.specs.machine.Worlds.{IsStart}
+use Rattle.mmu_laws.proofs.causes.StarvedScan.{legal_parts, starved_lines_scan}
+use Rattle.mmu_core.proofs.start.Starts.{start_good}
+use Rattle.mmu_core.proofs.machine.Worlds.{good_run}
 use Rattle.weave_engine.specs.Weaves.{StarvedLinesScan}
 
 pub starved_scan : (z : Sizes) (lines : List Line) (start : World Held) (steps : List (Step Kind)) → IsStart z lines start → Legal mmu start steps → StarvedLinesScan z start steps

@@ -2,9 +2,9 @@
 use Rattle.std.proofs.Common.{◌≡◌, List, [], ◌∷◌, ◌++◌, append_assoc, refl, sym, ap, subst, ◌∙◌}
 use Rattle.core_views.specs.declared.kind.Kind.{Kind}
 use Rattle.core_views.specs.Held.{Held}
-use Rattle.mmu_core.specs.Enabled.{mmu}
-use Rattle.mmu_core.specs.Machine.{Step, World, run}
-use Rattle.mmu_core.proofs.Extend.{run-append}
+use Rattle.mmu_core.specs.machine.Enabled.{mmu}
+use Rattle.mmu_core.specs.machine.Machine.{Step, World, run}
+use Rattle.mmu_core.proofs.machine.Extend.{run-append}
 use Rattle.tdp_io.specs.declared.sink.Stop.{Stop}
 use Rattle.tdp_io.specs.declared.sink.Stop.TheVariants.{Failed, NoMemory}
 use Rattle.weave_engine.specs.Turning.{AnswersLine, EndsWithAnswer, MayStop}

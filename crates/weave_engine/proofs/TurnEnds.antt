@@ -21,20 +21,20 @@ use Rattle.core_views.specs.Held.{Held}
 use Rattle.core_views.specs.Text.{line_text, lines_text, text}
 use Rattle.mmu_core.specs.declared.outcome.Outcome.{Outcome}
 use Rattle.mmu_core.specs.declared.outcome.Outcome.TheVariants.{Goes, Ends}
-use Rattle.mmu_core.specs.AccessSteps.{fault_over}
-use Rattle.mmu_core.specs.LineAlone.{line_waits}
-use Rattle.mmu_core.specs.Rests.{RestsAt}
-use Rattle.mmu_core.specs.Steps.{events_of, has_line, line_at, outcome_at, place_at, tells_at}
-use Rattle.mmu_core.specs.Turns.{line_of, outcome_of}
-use Rattle.mmu_core.proofs.LineEvents.{tells_within}
-use Rattle.mmu_core.proofs.ToldOf.{answered_with, answers_told}
-use Rattle.mmu_core.proofs.Which.{events_of_line}
+use Rattle.mmu_core.specs.lines.AccessSteps.{fault_over}
+use Rattle.mmu_core.specs.alone.LineAlone.{line_waits}
+use Rattle.mmu_core.specs.lines.Rests.{RestsAt}
+use Rattle.mmu_core.specs.machine.Steps.{events_of, has_line, line_at, outcome_at, place_at, tells_at}
+use Rattle.mmu_core.specs.machine.Turns.{line_of, outcome_of}
+use Rattle.mmu_laws.proofs.flat.LineEvents.{tells_within}
+use Rattle.mmu_laws.proofs.flat.ToldOf.{answered_with, answers_told}
+use Rattle.mmu_core.proofs.machine.Which.{events_of_line}
 use Rattle.step_seats.specs.declared.turn.Turn.{Turn}
 use Rattle.step_seats.specs.declared.turn.Turn.TheVariants.{More, Wait, Retry, Done}
 use Rattle.step_seats.specs.LineTurns.{Gives, line_seen, line_turn, turn_of}
 use Rattle.weave_engine.specs.Turned.{is_stop, turn_text}
 use Rattle.weave_engine.specs.Turning.{begins_anew, hand_stops, is_ended}
-use Rattle.mmu_core.specs.SetSlotSteps.{set_slot_outcome, set_slot_waits}
+use Rattle.mmu_core.specs.lines.SetSlotSteps.{set_slot_outcome, set_slot_waits}
 use Rattle.step_seats.proofs.LineTurns.{setting_free}
 
 -- what is printed of a step, by where its line stands after it

@@ -20,15 +20,15 @@ use Rattle.core_views.specs.declared.trace.Line.{Line}
 use Rattle.core_views.specs.Flat.{no_line}
 use Rattle.core_views.specs.Held.{Held}
 use Rattle.core_views.specs.Text.{line_text, text}
-use Rattle.mmu_core.specs.Enabled.{Enabled, mmu}
-use Rattle.mmu_core.specs.Machine.{Step, World, answered, effect, hand_in}
-use Rattle.mmu_core.specs.Invariant.{UnderWay}
-use Rattle.mmu_core.specs.Steps.{events_of, has_line, line_at, next_line, place_at}
-use Rattle.mmu_core.specs.LineAlone.{line_waits}
-use Rattle.mmu_core.specs.Turns.{line_of, outcome_of}
-use Rattle.mmu_core.specs.Worlds.{Reachable}
-use Rattle.mmu_core.proofs.Starts.{reached_good}
-use Rattle.mmu_core.proofs.Which.{is_next}
+use Rattle.mmu_core.specs.machine.Enabled.{Enabled, mmu}
+use Rattle.mmu_core.specs.machine.Machine.{Step, World, answered, effect, hand_in}
+use Rattle.mmu_core.specs.invariant.Invariant.{UnderWay}
+use Rattle.mmu_core.specs.machine.Steps.{events_of, has_line, line_at, next_line, place_at}
+use Rattle.mmu_core.specs.alone.LineAlone.{line_waits}
+use Rattle.mmu_core.specs.machine.Turns.{line_of, outcome_of}
+use Rattle.mmu_core.specs.machine.Worlds.{Reachable}
+use Rattle.mmu_core.proofs.start.Starts.{reached_good}
+use Rattle.mmu_core.proofs.machine.Which.{is_next}
 use Rattle.step_seats.specs.Moves.{step_by}
 use Rattle.step_seats.specs.Where.{HasHand, Told}
 use Rattle.step_seats.specs.declared.turn.Turn.{Turn}

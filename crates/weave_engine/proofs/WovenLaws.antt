@@ -20,15 +20,15 @@ use Rattle.core_views.specs.Text.{text}
 use Rattle.core_views.specs.Traces.{IsTrace}
 use Rattle.core_views.specs.Whole.{IsWholeSoFar}
 use Rattle.core_views.proofs.HeaderSizes.{header_sizes}
-use Rattle.mmu_core.specs.Enabled.{mmu}
-use Rattle.mmu_core.specs.Histories.{answered_in, begun_in}
-use Rattle.mmu_core.specs.Machine.{Legal, Step, World, hand_in, run}
-use Rattle.mmu_core.specs.Steps.{has_line}
-use Rattle.mmu_core.specs.Worlds.{IsStart, history}
-use Rattle.mmu_core.proofs.EveryAnswer.{ends_whole, start_follows}
-use Rattle.mmu_core.proofs.EveryHistory.{every_history}
-use Rattle.mmu_core.proofs.StartViews.{a_start}
-use Rattle.mmu_core.proofs.WholeSoFar.{stays_whole}
+use Rattle.mmu_core.specs.machine.Enabled.{mmu}
+use Rattle.mmu_laws.specs.flat.Histories.{answered_in, begun_in}
+use Rattle.mmu_core.specs.machine.Machine.{Legal, Step, World, hand_in, run}
+use Rattle.mmu_core.specs.machine.Steps.{has_line}
+use Rattle.mmu_core.specs.machine.Worlds.{IsStart, history}
+use Rattle.mmu_laws.proofs.flat.EveryAnswer.{ends_whole, start_follows}
+use Rattle.mmu_laws.proofs.flat.EveryHistory.{every_history}
+use Rattle.mmu_core.proofs.start.StartViews.{a_start}
+use Rattle.mmu_laws.proofs.flat.WholeSoFar.{stays_whole}
 use Rattle.std.specs.Io.KnownBytes.{Appends}
 use Rattle.std.proofs.KnownBytes.{Appends-trans}
 use Rattle.tdp_io.specs.Ends.{AppendsPrefix}

@@ -5,10 +5,10 @@ use Rattle.core_views.specs.declared.kind.Kind.{Kind}
 use Rattle.core_views.specs.declared.sizes.Sizes.{Sizes}
 use Rattle.core_views.specs.declared.trace.Line.{Line}
 use Rattle.core_views.specs.Held.{Held}
-use Rattle.mmu_core.specs.Bounds.{most_steps}
-use Rattle.mmu_core.specs.Enabled.{mmu}
-use Rattle.mmu_core.specs.Machine.{Step, World, hand_in}
-use Rattle.mmu_core.specs.Turns.{line_of}
+use Rattle.mmu_core.specs.lines.Bounds.{most_steps}
+use Rattle.mmu_core.specs.machine.Enabled.{mmu}
+use Rattle.mmu_core.specs.machine.Machine.{Step, World, hand_in}
+use Rattle.mmu_core.specs.machine.Turns.{line_of}
 use Rattle.core_theorem.specs.Turns.{begins_line, delays_line, how_many}
 
 -- The step's actor has the line with this number under way, or it is its next one.

@@ -18,15 +18,15 @@ use Rattle.core_views.specs.Text.{text}
 use Rattle.core_views.specs.Whole.{IsWhole}
 use Rattle.spte_words.specs.declared.area.Area.TheVariants as area
 use Rattle.spte_words.specs.Areas.{words_of_bits}
-use Rattle.mmu_core.specs.Bounds.{most_steps}
-use Rattle.mmu_core.specs.Enabled.{mmu}
-use Rattle.mmu_core.specs.LineAlone.{AllRest, StarvedOnlyWithout, StepsAlone}
-use Rattle.mmu_core.specs.LineRuns.{RunsLine}
-use Rattle.mmu_core.specs.Machine.{Legal, Step, World, effect, hand_in, run}
-use Rattle.mmu_core.specs.Scans.{EndsWithScan}
-use Rattle.mmu_core.specs.Turns.{IsAnswered, IsSameHand}
-use Rattle.mmu_core.specs.View.{word_in}
-use Rattle.mmu_core.specs.Worlds.{IsStart, history}
+use Rattle.mmu_core.specs.lines.Bounds.{most_steps}
+use Rattle.mmu_core.specs.machine.Enabled.{mmu}
+use Rattle.mmu_core.specs.alone.LineAlone.{AllRest, StarvedOnlyWithout, StepsAlone}
+use Rattle.mmu_laws.specs.alone.LineRuns.{RunsLine}
+use Rattle.mmu_core.specs.machine.Machine.{Legal, Step, World, effect, hand_in, run}
+use Rattle.mmu_core.specs.invariant.Scans.{EndsWithScan}
+use Rattle.mmu_core.specs.machine.Turns.{IsAnswered, IsSameHand}
+use Rattle.mmu_core.specs.machine.View.{word_in}
+use Rattle.mmu_core.specs.machine.Worlds.{IsStart, history}
 use Rattle.tdp_io.specs.declared.sink.Stop.{Stop}
 use Rattle.weave_engine.specs.Turning.{EndsWithAnswer, MayStop}
 

@@ -6,13 +6,13 @@ use Rattle.core_views.specs.declared.kind.Kind.{Kind}
 use Rattle.core_views.specs.declared.trace.Line.{Line}
 use Rattle.core_views.specs.Held.{Held}
 use Rattle.core_views.specs.Text.{line_text, text}
-use Rattle.mmu_core.specs.Enabled.{mmu}
-use Rattle.mmu_core.specs.LineAlone.{line_waits}
-use Rattle.mmu_core.specs.Machine.{Legal, Step, World, answered, hand_in, run}
-use Rattle.mmu_core.specs.Steps.{has_line, place_at, task_of}
+use Rattle.mmu_core.specs.machine.Enabled.{mmu}
+use Rattle.mmu_core.specs.alone.LineAlone.{line_waits}
+use Rattle.mmu_core.specs.machine.Machine.{Legal, Step, World, answered, hand_in, run}
+use Rattle.mmu_core.specs.machine.Steps.{has_line, place_at, task_of}
 use Rattle.part_steps.specs.Tasks.{kind_of_task}
-use Rattle.mmu_core.specs.Turns.{line_of}
-use Rattle.mmu_core.specs.Worlds.{history}
+use Rattle.mmu_core.specs.machine.Turns.{line_of}
+use Rattle.mmu_core.specs.machine.Worlds.{history}
 use Rattle.step_seats.specs.declared.turn.Turn.{Turn}
 use Rattle.step_seats.specs.declared.turn.Turn.TheVariants.{More, Wait, Retry, Done}
 use Rattle.tdp_io.specs.declared.sink.Stop.{Stop}

@@ -9,12 +9,12 @@ use Rattle.core_views.specs.Held.{Held}
 use Rattle.core_views.specs.Sizes.{actors_of, index_of}
 use Rattle.mmu_core.specs.declared.outcome.Outcome.{Outcome}
 use Rattle.mmu_core.specs.declared.outcome.Outcome.TheVariants.{Goes, Ends}
-pub use Rattle.mmu_core.specs.TurnLaws.{begins_anew}
-use Rattle.mmu_core.specs.Enabled.{mmu}
-use Rattle.mmu_core.specs.LineAlone.{line_waits}
-use Rattle.mmu_core.specs.Machine.{Step, World, answered, effect, hand_in, run}
-use Rattle.mmu_core.specs.Steps.{has_line, place_at}
-use Rattle.mmu_core.specs.Turns.{outcome_of}
+pub use Rattle.mmu_laws.specs.turns.TurnLaws.{begins_anew}
+use Rattle.mmu_core.specs.machine.Enabled.{mmu}
+use Rattle.mmu_core.specs.alone.LineAlone.{line_waits}
+use Rattle.mmu_core.specs.machine.Machine.{Step, World, answered, effect, hand_in, run}
+use Rattle.mmu_core.specs.machine.Steps.{has_line, place_at}
+use Rattle.mmu_core.specs.machine.Turns.{outcome_of}
 use Rattle.tdp_io.specs.declared.sink.Stop.{Stop}
 use Rattle.tdp_io.specs.declared.sink.Stop.TheVariants.{Failed, NoMemory}
 

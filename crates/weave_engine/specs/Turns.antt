@@ -6,9 +6,9 @@ use Rattle.core_views.specs.declared.sizes.Sizes.{Sizes}
 use Rattle.core_views.specs.declared.trace.Command.TheVariants as command
 use Rattle.core_views.specs.declared.trace.Line.{Line}
 use Rattle.core_views.specs.Held.{Held}
-use Rattle.mmu_core.specs.Enabled.{mmu}
-use Rattle.mmu_core.specs.LineAlone.{LineAlone}
-use Rattle.mmu_core.specs.Machine.{Step, World, hand_in, run}
+use Rattle.mmu_core.specs.machine.Enabled.{mmu}
+use Rattle.mmu_core.specs.alone.LineAlone.{LineAlone}
+use Rattle.mmu_core.specs.machine.Machine.{Step, World, hand_in, run}
 use Rattle.step_seats.specs.Where.{Told}
 use Rattle.weave_engine.specs.Replays.{RunsAlone}
 use Rattle.weave_engine.specs.declared.job.LineJob.{LineJob}

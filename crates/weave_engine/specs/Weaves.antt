@@ -17,13 +17,13 @@ use Rattle.core_views.specs.Text.{actor_name, answers_of, text}
 use Rattle.core_views.specs.Whole.{IsWhole, IsWholeSoFar}
 use Rattle.spte_words.specs.Areas.{words_of_bits}
 use Rattle.mmu_core.specs.declared.outcome.Outcome.TheVariants.{Ends}
-use Rattle.mmu_core.specs.Enabled.{mmu}
-use Rattle.mmu_core.specs.Histories.{answered_in, begun_in}
-use Rattle.mmu_core.specs.Machine.{Legal, Step, World, hand_in, run}
-use Rattle.mmu_core.specs.Scans.{EndsWithScan}
-use Rattle.mmu_core.specs.Steps.{next_line}
-use Rattle.mmu_core.specs.Turns.{outcome_of}
-use Rattle.mmu_core.specs.Worlds.{IsStart, history}
+use Rattle.mmu_core.specs.machine.Enabled.{mmu}
+use Rattle.mmu_laws.specs.flat.Histories.{answered_in, begun_in}
+use Rattle.mmu_core.specs.machine.Machine.{Legal, Step, World, hand_in, run}
+use Rattle.mmu_core.specs.invariant.Scans.{EndsWithScan}
+use Rattle.mmu_core.specs.machine.Steps.{next_line}
+use Rattle.mmu_core.specs.machine.Turns.{outcome_of}
+use Rattle.mmu_core.specs.machine.Worlds.{IsStart, history}
 use Rattle.core_theorem.specs.Delays.{answer_of, hand_of}
 use Rattle.weave_engine.specs.Beside.{AreForDelays}
 use Rattle.weave_engine.specs.Replays.{RunsLines}

@@ -5,7 +5,7 @@ use Rattle.core_views.specs.declared.no_memory.NoMemory.{NoMemory}
 use Rattle.core_views.specs.declared.trace.Line.{Line}
 use Rattle.core_views.specs.declared.trace.Trace.{Trace}
 use Rattle.core_views.specs.Held.{Held}
-use Rattle.mmu_core.specs.Machine.{World}
+use Rattle.mmu_core.specs.machine.Machine.{World}
 use Rattle.step_seats.specs.Moves.{world_of}
 use Rattle.tdp_io.specs.Ends.{Rose}
 use Rattle.tdp_io.specs.declared.sink.Stop.{Stop}

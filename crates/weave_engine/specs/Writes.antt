@@ -7,8 +7,8 @@ use Rattle.core_views.specs.declared.trace.Line.{Line}
 use Rattle.core_views.specs.declared.trace.Trace.{Trace}
 use Rattle.core_views.specs.Held.{Held}
 use Rattle.core_views.specs.Text.{text}
-use Rattle.mmu_core.specs.Machine.{World}
-use Rattle.mmu_core.specs.Worlds.{history}
+use Rattle.mmu_core.specs.machine.Machine.{World}
+use Rattle.mmu_core.specs.machine.Worlds.{history}
 use Rattle.step_seats.specs.Moves.{world_of}
 use Rattle.tdp_io.specs.Ends.{AppendsPrefix}
 use Rattle.tdp_io.specs.declared.sink.Stop.{Stop}

@@ -1,6 +1,6 @@
 ghost use Rattle.std.specs.Prelude.{◌≡◌, ◌<◌, IfOk, OnErr, OnOk, Some, length, slice_get};
 ghost use Rattle.core_views.specs.declared.place.Place.TheVariants.{Between};
-ghost use Rattle.mmu_core.specs.Turns.{IsAnswered, IsSameHand, line_of};
+ghost use Rattle.mmu_core.specs.machine.Turns.{IsAnswered, IsSameHand, line_of};
 ghost use Rattle.step_seats.specs.Moves.{KeepsRoom};
 ghost use Rattle.weave_engine.specs.Turns.{IsAlone, IsJobOf, RanAlone};
 ghost use Rattle.step_seats.specs.LineTurns.{Says, TurnsLine};

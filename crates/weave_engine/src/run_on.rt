@@ -2,9 +2,9 @@
 ghost use Rattle.std.specs.Prelude.{◌≡◌, ◌<◌, IfOk, OnErr, Some, length, slice_get};
 ghost use Rattle.core_views.specs.declared.place.Place.TheVariants.{Between};
 ghost use Rattle.core_views.specs.Sizes.{index_of};
-ghost use Rattle.mmu_core.specs.Enabled.{mmu};
-ghost use Rattle.mmu_core.specs.LineAlone.{LineAlone};
-ghost use Rattle.mmu_core.specs.Machine.{hand_in};
+ghost use Rattle.mmu_core.specs.machine.Enabled.{mmu};
+ghost use Rattle.mmu_core.specs.alone.LineAlone.{LineAlone};
+ghost use Rattle.mmu_core.specs.machine.Machine.{hand_in};
 ghost use Rattle.step_seats.specs.Machines.{world_in};
 ghost use Rattle.step_seats.specs.Moves.{handful_in};
 ghost use Rattle.weave_engine.specs.Replays.{RanOn};

@@ -2,9 +2,9 @@
 ghost use Rattle.std.specs.Prelude.{◌≡◌, ◌<◌, ◌≤◌, All, false, length, string_bytes, true};
 ghost use Rattle.core_views.specs.declared.trace.Until.TheVariants.{Turns};
 ghost use Rattle.core_views.specs.Sizes.{actors_of};
-ghost use Rattle.mmu_core.specs.Enabled.{mmu};
-ghost use Rattle.mmu_core.specs.Machine.{hand_in};
-ghost use Rattle.mmu_core.specs.Steps.{has_line};
+ghost use Rattle.mmu_core.specs.machine.Enabled.{mmu};
+ghost use Rattle.mmu_core.specs.machine.Machine.{hand_in};
+ghost use Rattle.mmu_core.specs.machine.Steps.{has_line};
 ghost use Rattle.core_views.specs.Traces.{HasActor};
 ghost use Rattle.step_seats.specs.Machines.{world_in};
 ghost use Rattle.tdp_io.specs.Ends.{WroteFaults, is_failed};

@@ -1,9 +1,9 @@
 //! One turn of an actor of the machine: the next step of its line.
 ghost use Rattle.std.specs.Prelude.{◌≡◌, ◌<◌, ◌≤◌, IfOk, OnErr, false, length, string_bytes, true};
-ghost use Rattle.mmu_core.specs.Enabled.{mmu};
-ghost use Rattle.mmu_core.specs.Machine.{hand_in};
-ghost use Rattle.mmu_core.specs.Steps.{has_line};
-ghost use Rattle.mmu_core.specs.Turns.{IsSameHand, line_of};
+ghost use Rattle.mmu_core.specs.machine.Enabled.{mmu};
+ghost use Rattle.mmu_core.specs.machine.Machine.{hand_in};
+ghost use Rattle.mmu_core.specs.machine.Steps.{has_line};
+ghost use Rattle.mmu_core.specs.machine.Turns.{IsSameHand, line_of};
 ghost use Rattle.step_seats.specs.Machines.{world_in};
 ghost use Rattle.tdp_io.specs.Ends.{WroteFaults, is_failed};
 ghost use Rattle.step_seats.specs.LineTurns.{Says, TurnsLine};

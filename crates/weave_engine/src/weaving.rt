@@ -3,7 +3,7 @@
 ghost use Rattle.std.specs.Prelude.{◌≡◌, ◌++◌, IfOk, false, string_bytes};
 ghost use Rattle.core_views.specs.Sizes.{sizes_of};
 ghost use Rattle.core_views.specs.Traces.{IsTrace};
-ghost use Rattle.mmu_core.specs.Worlds.{IsStart};
+ghost use Rattle.mmu_core.specs.machine.Worlds.{IsStart};
 ghost use Rattle.step_seats.specs.Machines.{world_in};
 ghost use Rattle.tdp_io.specs.Ends.{Wrote, WroteFaults, is_failed};
 ghost use Rattle.weave_engine.specs.Weaves.{open_text, unfinished_text};

@@ -2,15 +2,15 @@ use Rattle.std.proofs.Common.{[], ◌∷◌, ◌++◌, ap, sym, ◌∙◌}
 use Rattle.std.specs.Prelude.{true}
 use Rattle.core_views.specs.Host.{HostMap}
 use Rattle.spte_words.specs.HostWords.{host_word}
-use Rattle.mmu_core.specs.Enabled.{mmu}
-use Rattle.mmu_core.specs.Machine.{run}
-use Rattle.mmu_core.proofs.AnsweredRest.{answered_rests}
-use Rattle.mmu_core.proofs.Causes.{faults_begin_anew_by_cause}
-use Rattle.mmu_core.proofs.EveryHistory.{every_flat, every_history}
-use Rattle.mmu_core.proofs.LeafLaws.{cached_leaves_agree, leaves_agree, used_leaves_agree}
-use Rattle.mmu_core.proofs.StarvedScan.{legal_parts, starved_lines_scan}
-use Rattle.mmu_core.proofs.Starts.{start_good}
-use Rattle.mmu_core.proofs.StepWaits.{step_waits_are_by_cause}
+use Rattle.mmu_core.specs.machine.Enabled.{mmu}
+use Rattle.mmu_core.specs.machine.Machine.{run}
+use Rattle.mmu_laws.proofs.turns.AnsweredRest.{answered_rests}
+use Rattle.mmu_laws.proofs.causes.Causes.{faults_begin_anew_by_cause}
+use Rattle.mmu_laws.proofs.flat.EveryHistory.{every_flat, every_history}
+use Rattle.mmu_laws.proofs.leaves.LeafLaws.{cached_leaves_agree, leaves_agree, used_leaves_agree}
+use Rattle.mmu_laws.proofs.causes.StarvedScan.{legal_parts, starved_lines_scan}
+use Rattle.mmu_core.proofs.start.Starts.{start_good}
+use Rattle.mmu_laws.proofs.causes.StepWaits.{step_waits_are_by_cause}
 use Rattle.core_theorem.proofs.Begins.{lines_are_open}
 use Rattle.core_theorem.proofs.DelayCauses.{delays_have_causes}
 use Rattle.core_theorem.proofs.Holdings.{held_sets_are_known, none_holds_free_pages, pages_are_reused_alone, watched_hold_no_old_set}

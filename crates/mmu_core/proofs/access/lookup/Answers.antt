@@ -1,5 +1,5 @@
 use Rattle.std.proofs.Common.{sym, ◌∙◌, arith}
-use Rattle.mmu_core.proofs.FirstUsable.{goes_past, none_at, usable_here}
+use Rattle.mmu_core.proofs.lines.FirstUsable.{goes_past, none_at, usable_here}
 use Rattle.mmu_core.proofs.access.lookup.Goals.{in-Some+else-is_usable, in_default}
 use Rattle.mmu_core.proofs.access.lookup.Goals as goal
 

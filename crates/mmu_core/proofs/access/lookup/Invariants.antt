@@ -1,6 +1,6 @@
 -- None of the translations so far is usable.
 use Rattle.std.proofs.Common.{◌≡◌, drop}
-use Rattle.mmu_core.specs.Cached.{first_usable}
+use Rattle.mmu_core.specs.lines.Cached.{first_usable}
 use Rattle.mmu_core.proofs.access.lookup.Given as goal
 
 abbrev pub invariant-loop-i : goal.invariant-loop-i

@@ -1,5 +1,5 @@
-use Rattle.mmu_core.proofs.FaultAlone.{goes_through}
-use Rattle.mmu_core.proofs.LeadsDown.{leads_down}
+use Rattle.mmu_laws.proofs.alone.FaultAlone.{goes_through}
+use Rattle.mmu_laws.proofs.leaves.LeadsDown.{leads_down}
 use Rattle.mmu_core.proofs.laws.a_fault_alone_goes_through.Goals as goal
 
 pub returns-clause-through : goal.returns-clause-through

@@ -1,5 +1,5 @@
-use Rattle.mmu_core.proofs.EveryAnswer.{answers_are_told, ends_whole}
-use Rattle.mmu_core.proofs.WholeSoFar.{stays_whole}
+use Rattle.mmu_laws.proofs.flat.EveryAnswer.{answers_are_told, ends_whole}
+use Rattle.mmu_laws.proofs.flat.WholeSoFar.{stays_whole}
 use Rattle.mmu_core.proofs.laws.every_answer_is_told.Goals as goal
 
 pub returns-clause-answers : goal.returns-clause-answers

@@ -1,7 +1,7 @@
-use Rattle.mmu_core.proofs.EveryHistory.{every_history}
-use Rattle.mmu_core.proofs.StarvedScan.{starved_lines_scan}
-use Rattle.mmu_core.proofs.Starts.{start_good}
-use Rattle.mmu_core.proofs.Worlds.{good_run}
+use Rattle.mmu_laws.proofs.flat.EveryHistory.{every_history}
+use Rattle.mmu_laws.proofs.causes.StarvedScan.{starved_lines_scan}
+use Rattle.mmu_core.proofs.start.Starts.{start_good}
+use Rattle.mmu_core.proofs.machine.Worlds.{good_run}
 use Rattle.mmu_core.proofs.laws.every_list_of_steps.Goals as goal
 
 pub returns-clause-sound : goal.returns-clause-sound

@@ -1,4 +1,4 @@
-use Rattle.mmu_core.proofs.KnowsStay.{reached_knows}
+use Rattle.mmu_core.proofs.lines.KnowsStay.{reached_knows}
 use Rattle.mmu_core.proofs.laws.knows.Goals as goal
 
 pub returns : goal.returns

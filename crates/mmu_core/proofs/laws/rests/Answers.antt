@@ -1,4 +1,4 @@
-use Rattle.mmu_core.proofs.Starts.{reached_rests}
+use Rattle.mmu_core.proofs.start.Starts.{reached_rests}
 use Rattle.mmu_core.proofs.laws.rests.Goals as goal
 
 pub returns : goal.returns

@@ -1,4 +1,4 @@
-use Rattle.mmu_core.proofs.StepsCounted.{counts_fit, steps_counted_on}
+use Rattle.mmu_laws.proofs.turns.StepsCounted.{counts_fit, steps_counted_on}
 use Rattle.mmu_core.proofs.laws.steps_are_bounded.Goals as goal
 
 pub returns-clause-bounded : goal.returns-clause-bounded

@@ -1,4 +1,4 @@
-use Rattle.mmu_core.proofs.Enough.{each_table_is_wanted, enough_pages, tables_are_for_their_runs}
+use Rattle.mmu_laws.proofs.pool.Enough.{each_table_is_wanted, enough_pages, tables_are_for_their_runs}
 use Rattle.mmu_core.proofs.laws.the_pool_is_enough.Goals as goal
 
 pub returns-clause-wanted : goal.returns-clause-wanted

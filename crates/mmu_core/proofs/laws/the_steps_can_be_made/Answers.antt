@@ -1,10 +1,10 @@
-use Rattle.mmu_core.specs.Enabled.{mmu}
-use Rattle.mmu_core.specs.Machine.{run}
-use Rattle.mmu_core.proofs.CanStep.{may_step}
-use Rattle.mmu_core.proofs.ExampleRun.{example_prints, example_races, example_runs, example_starves, example_waits}
-use Rattle.mmu_core.proofs.StartViews.{a_start}
-use Rattle.mmu_core.proofs.Starts.{start_good}
-use Rattle.mmu_core.proofs.Worlds.{good_run}
+use Rattle.mmu_core.specs.machine.Enabled.{mmu}
+use Rattle.mmu_core.specs.machine.Machine.{run}
+use Rattle.mmu_laws.proofs.steps.CanStep.{may_step}
+use Rattle.mmu_laws.proofs.steps.ExampleRun.{example_prints, example_races, example_runs, example_starves, example_waits}
+use Rattle.mmu_core.proofs.start.StartViews.{a_start}
+use Rattle.mmu_core.proofs.start.Starts.{start_good}
+use Rattle.mmu_core.proofs.machine.Worlds.{good_run}
 use Rattle.mmu_core.proofs.laws.the_steps_can_be_made.Goals as goal
 
 pub returns-clause-starts : goal.returns-clause-starts

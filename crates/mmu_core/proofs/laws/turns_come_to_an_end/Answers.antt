@@ -1,7 +1,7 @@
-use Rattle.mmu_core.proofs.InstalledEntries.{installed_serve}
-use Rattle.mmu_core.proofs.LeavesStay.{leaves_stay}
-use Rattle.mmu_core.proofs.StepsBounded.{turns_bounded}
-use Rattle.mmu_core.proofs.TurnsNearer.{turns_nearer}
+use Rattle.mmu_laws.proofs.turns.InstalledEntries.{installed_serve}
+use Rattle.mmu_laws.proofs.turns.LeavesStay.{leaves_stay}
+use Rattle.mmu_laws.proofs.turns.StepsBounded.{turns_bounded}
+use Rattle.mmu_laws.proofs.turns.TurnsNearer.{turns_nearer}
 use Rattle.mmu_core.proofs.laws.turns_come_to_an_end.Goals as goal
 
 pub returns-clause-nearer : goal.returns-clause-nearer

@@ -1,4 +1,4 @@
-use Rattle.mmu_core.proofs.PartRested.{may_make}
+use Rattle.mmu_core.proofs.invariant.PartRested.{may_make}
 use Rattle.mmu_core.proofs.parts.may_make.Goals as goal
 
 pub returns : goal.returns

@@ -1,4 +1,4 @@
-use Rattle.mmu_core.proofs.PartRested.{reached_part_rests}
+use Rattle.mmu_core.proofs.invariant.PartRested.{reached_part_rests}
 use Rattle.mmu_core.proofs.parts.part_rests.Goals as goal
 
 pub returns : goal.returns

@@ -1,5 +1,5 @@
-use Rattle.mmu_core.proofs.Advancing.{advanced, room_still, sizes_still}
-use Rattle.mmu_core.proofs.Which.{is_next}
+use Rattle.mmu_core.proofs.machine.Advancing.{advanced, room_still, sizes_still}
+use Rattle.mmu_core.proofs.machine.Which.{is_next}
 use Rattle.mmu_core.proofs.step.advance.Goals as goal
 
 pub step_line-requires-clause-rests : goal.step_line-requires-clause-rests

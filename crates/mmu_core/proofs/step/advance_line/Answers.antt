@@ -1,10 +1,10 @@
 use Rattle.std.proofs.Common.{ap, sym, ◌∙◌}
 use Rattle.core_views.specs.declared.topics.Topics.{Topics}
 use Rattle.mmu_core.specs.declared.outcome.Outcome.{Outcome}
-use Rattle.mmu_core.specs.Delays.{is_delay}
-use Rattle.mmu_core.specs.Steps.{records_at}
-use Rattle.mmu_core.specs.Outcomes.{answers_after, place_after}
-use Rattle.mmu_core.proofs.LineMade.{line_made}
+use Rattle.mmu_core.specs.lines.Delays.{is_delay}
+use Rattle.mmu_core.specs.machine.Steps.{records_at}
+use Rattle.mmu_core.specs.machine.Outcomes.{answers_after, place_after}
+use Rattle.mmu_core.proofs.machine.LineMade.{line_made}
 use Rattle.mmu_core.proofs.step.advance_line.Goals as goal
 
 pub returns-in-Goes-clause-core : goal.returns-in-Goes-clause-core

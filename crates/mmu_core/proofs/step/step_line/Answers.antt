@@ -1,6 +1,6 @@
 use Rattle.std.proofs.Common.{sym, ap, ◌∙◌}
 use Rattle.std.specs.Prelude.{is_some}
-use Rattle.mmu_core.proofs.Advancing.{accepts_here, command_here, has_here, left_here, made_here, none_here, part_here, rests_at_here}
+use Rattle.mmu_core.proofs.machine.Advancing.{accepts_here, command_here, has_here, left_here, made_here, none_here, part_here, rests_at_here}
 use Rattle.mmu_core.proofs.step.step_line.Goals as goal
 
 pub line_of-line-requires : goal.line_of-line-requires

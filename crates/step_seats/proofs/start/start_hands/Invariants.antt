@@ -1,5 +1,5 @@
 use Rattle.std.proofs.Common.{◌≡◌}
-use Rattle.mmu_core.specs.Worlds.{start_hands}
+use Rattle.mmu_core.specs.machine.Worlds.{start_hands}
 use Rattle.step_seats.specs.Moves.{cores_of}
 use Rattle.step_seats.proofs.start.start_hands.Given as goal
 

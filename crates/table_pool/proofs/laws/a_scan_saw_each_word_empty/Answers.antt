@@ -1,4 +1,4 @@
-use Rattle.mmu_core.proofs.Scanned.{claims_scan_once, claims_see_each_word}
+use Rattle.mmu_core.proofs.held.Scanned.{claims_scan_once, claims_see_each_word}
 use Rattle.table_pool.proofs.laws.a_scan_saw_each_word_empty.Goals as goal
 
 pub returns-clause-each : goal.returns-clause-each

@@ -1,5 +1,5 @@
 use Rattle.std.proofs.Common.{◌≡◌, ◌<◌, length}
-use Rattle.mmu_core.specs.LineAlone.{hand_left}
+use Rattle.mmu_core.specs.alone.LineAlone.{hand_left}
 use Rattle.weave_engine.specs.Turns.{IsJobOf}
 use Rattle.weave_engine.proofs.PartRuns.{PartRun}
 use Rattle.weave_engine.proofs.job.run_line.Given as goal

@@ -1,8 +1,8 @@
 use Rattle.std.proofs.Common.{◌≡◌, ◌∙◌, ◌+◌, ap, arith, subst, sym}
 use Rattle.core_views.specs.Held.{Handful, Held}
 use Rattle.core_views.specs.Sizes.{actors_of}
-use Rattle.mmu_core.specs.Enabled.{mmu}
-use Rattle.mmu_core.specs.Machine.{hand_in}
+use Rattle.mmu_core.specs.machine.Enabled.{mmu}
+use Rattle.mmu_core.specs.machine.Machine.{hand_in}
 use Rattle.step_seats.specs.Machines.{world_in}
 use Rattle.weave_engine.specs.Weaves.{earlier_of}
 use Rattle.weave_engine.proofs.FirstLines.{FirstBefore, looks_at, open_next}

@@ -5,9 +5,9 @@ use Rattle.std.proofs.lemmas.List.{length-set}
 use Rattle.std.specs.Prelude.{Some}
 use Rattle.core_views.specs.declared.sizes.Sizes.{Sizes}
 use Rattle.core_views.specs.Held.{Handful, Held}
-use Rattle.mmu_core.specs.Enabled.{mmu}
-use Rattle.mmu_core.specs.LineAlone.{LineAlone}
-use Rattle.mmu_core.specs.Machine.{hand_in}
+use Rattle.mmu_core.specs.machine.Enabled.{mmu}
+use Rattle.mmu_core.specs.alone.LineAlone.{LineAlone}
+use Rattle.mmu_core.specs.machine.Machine.{hand_in}
 use Rattle.step_seats.specs.Frames.{Frame, other_rooms, room_of}
 use Rattle.step_seats.specs.Machines.{Machine, world_in}
 use Rattle.step_seats.specs.Moves.{handful_in}

@@ -1,7 +1,7 @@
 use Rattle.std.proofs.Common.{◌∙◌, inl, inr, arith, refl, string_bytes, subst, sym}
 use Rattle.std.proofs.lemmas.Result.{err_from_is_err_and}
 use Rattle.core_views.specs.Held.{Held}
-use Rattle.mmu_core.specs.Machine.{World}
+use Rattle.mmu_core.specs.machine.Machine.{World}
 use Rattle.step_seats.specs.Machines.{world_in}
 use Rattle.weave_engine.specs.Turning.{HasNoLineLeft}
 use Rattle.weave_engine.proofs.Coming.{so_far_none}

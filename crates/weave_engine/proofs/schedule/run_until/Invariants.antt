@@ -1,7 +1,7 @@
 use Rattle.std.proofs.Common.{◌≡◌, false, length, string_bytes}
-use Rattle.mmu_core.specs.Enabled.{mmu}
-use Rattle.mmu_core.specs.LineAlone.{hand_left}
-use Rattle.mmu_core.specs.Machine.{hand_in}
+use Rattle.mmu_core.specs.machine.Enabled.{mmu}
+use Rattle.mmu_core.specs.alone.LineAlone.{hand_left}
+use Rattle.mmu_core.specs.machine.Machine.{hand_in}
 use Rattle.step_seats.specs.Machines.{world_in}
 use Rattle.weave_engine.proofs.Coming.{SoFar}
 use Rattle.weave_engine.proofs.TurnLists.{TurnsGoOn}

@@ -1,6 +1,6 @@
 use Rattle.std.proofs.Common.{refl, sym, ◌∙◌}
 use Rattle.step_seats.specs.declared.turn.Turn.TheVariants.{Done, More, Wait}
-use Rattle.mmu_core.proofs.Which.{has_line_is}
+use Rattle.mmu_core.proofs.machine.Which.{has_line_is}
 use Rattle.step_seats.proofs.Answering.{turn_is_done, turn_is_more}
 use Rattle.step_seats.proofs.LineTurns.{turns_same, turns_say}
 use Rattle.slot_change.proofs.Settings.{setting_counts, setting_done, setting_more, setting_waits}

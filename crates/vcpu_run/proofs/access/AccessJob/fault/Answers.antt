@@ -1,7 +1,7 @@
 use Rattle.std.proofs.Common.{ap, refl, subst, sym}
 use Rattle.core_views.specs.declared.place.AccessPlace.TheVariants.{Fault}
-use Rattle.mmu_core.specs.FaultSteps.{fault_part}
-use Rattle.mmu_core.specs.MayMake.{MayMake}
+use Rattle.mmu_core.specs.lines.FaultSteps.{fault_part}
+use Rattle.mmu_core.specs.machine.MayMake.{MayMake}
 use Rattle.fault_install.specs.Faults.{TurnsFault}
 use Rattle.vcpu_run.proofs.Accessing.{fault_cause, gfn_small, may_make, turns_fault}
 use Rattle.vcpu_run.proofs.access.AccessJob.fault.Goals as goal

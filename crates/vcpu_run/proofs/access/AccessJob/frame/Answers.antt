@@ -2,7 +2,7 @@ use Rattle.std.proofs.Common.{◌<◌, ◌^◌, ◌∙◌, ap, subst, sym}
 use Rattle.spte_words.specs.Entries.{frame_in}
 use Rattle.core_views.specs.declared.hand.State.{State}
 use Rattle.host_map.specs.Touching.{touch_kind}
-use Rattle.mmu_core.specs.Enabled.{Enabled}
+use Rattle.mmu_core.specs.machine.Enabled.{Enabled}
 use Rattle.vcpu_run.proofs.Accessing.{touches}
 use Rattle.vcpu_run.proofs.access.AccessJob.frame.Goals as goal
 

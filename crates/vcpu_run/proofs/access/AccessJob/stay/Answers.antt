@@ -3,8 +3,8 @@ use Rattle.core_views.specs.declared.place.AccessPlace.{AccessPlace}
 use Rattle.core_views.specs.declared.place.AccessPlace.TheVariants as at
 use Rattle.host_map.specs.Touching.{touch_kind}
 use Rattle.part_steps.specs.declared.part_step.PartStep.TheVariants as part
-use Rattle.mmu_core.specs.AccessSteps.{access_note}
-use Rattle.mmu_core.specs.MayMake.{MayMake}
+use Rattle.mmu_core.specs.lines.AccessSteps.{access_note}
+use Rattle.mmu_core.specs.machine.MayMake.{MayMake}
 use Rattle.vcpu_run.specs.Accesses.{StandsAt}
 use Rattle.step_seats.proofs.LineTurns.{made_line}
 use Rattle.vcpu_run.proofs.Accessing.{may_make}

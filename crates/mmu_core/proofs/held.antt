@@ -1,0 +1,12 @@
+pub mod Grace
+pub mod HeldKept
+pub mod LockKept
+pub mod OldSets
+pub mod OthersStay
+pub mod SawWriterKept
+pub mod SearchKept
+pub mod SetsKept
+pub mod StateTells
+pub mod StatesKept
+pub mod TopicsKept
+pub mod Scanned

@@ -1,0 +1,425 @@
+-- Each step of a part keeps what is said of what actors hold of tables and slot sets, and of their counters.
+use Rattle.std.proofs.Common.{◌≡◌, inl, inr, ◌+◌, ◌-◌, ◌*◌, ◌/◌, ◌%◌, ◌^◌, ◌<◌, ◌≤◌, ℕ, zero, suc, refl, sym, subst, ap, ◌∙◌, arith}
+use Rattle.std.specs.Prelude.{Bool, true, false, ◌==◌, ◌||◌, if◌then◌else◌, Option, Some, None, is_some}
+use Rattle.core_views.specs.declared.place.SlotField.{SlotField}
+use Rattle.core_views.specs.declared.place.SlotField.TheVariants as field
+use Rattle.core_views.specs.declared.sizes.Sizes.{Sizes}
+use Rattle.core_views.specs.declared.topics.Hold.{Hold}
+use Rattle.core_views.specs.declared.topics.Hold.TheVariants.{Loose, Shared, Owing, Exclusive}
+use Rattle.core_views.specs.declared.topics.MapClaim.{MapClaim}
+use Rattle.core_views.specs.declared.topics.SlotSearch.{SlotSearch}
+use Rattle.core_views.specs.declared.topics.Stay.{Stay}
+use Rattle.core_views.specs.declared.topics.Stay.TheVariants.{Outside, Guest, Section}
+use Rattle.core_views.specs.declared.topics.TableWalk.{TableWalk}
+use Rattle.core_views.specs.declared.topics.Topics.{Topics}
+use Rattle.core_views.specs.Held.{Held}
+use Rattle.core_views.specs.Sizes.{actors_of}
+use Rattle.spte_words.specs.declared.area.Area.TheVariants as area
+use Rattle.spte_words.specs.Areas.{pool_index, words_of_bits}
+use Rattle.spte_words.specs.declared.spte_kind.SpteKind.TheVariants.{Absent, Frozen, Leaf}
+use Rattle.spte_words.specs.Bits.{has_bit}
+use Rattle.spte_words.specs.Entries.{frozen_word, is_leaf_at, kind_of, level_span, table_word}
+use Rattle.spte_words.proofs.ReadsEntries.{kind_of_absent, kind_of_table}
+use Rattle.spte_words.specs.Flags.{flags_live}
+use Rattle.part_steps.specs.declared.part_step.PartStep.{PartStep}
+use Rattle.part_steps.specs.declared.part_step.PartStep.TheVariants as part
+use Rattle.part_steps.specs.PartBounds.{CountersPart}
+use Rattle.mmu_core.specs.invariant.HeldPart.{HeldPart}
+use Rattle.part_steps.specs.PartSteps.{IsOver, entry_index, leaf_written, link_written, page_owned, table_page, words_filled}
+use Rattle.part_steps.specs.PartTopics.{exchanged}
+use Rattle.mmu_core.specs.invariant.TopicsInvariant.{TopicsInvariant}
+use Rattle.part_steps.specs.TopicSteps.{at_root, at_set, gone_down, has_writer, in_section, is_loose, is_won, begun, kept_search, let_go, linked_page, may_search, may_walk, searched, searched_at, swapped, unchecked}
+use Rattle.mmu_core.specs.invariant.TreePart.{EntryPart, Position, TreePart, Use, at, stands}
+use Rattle.mmu_core.specs.invariant.TreePart.Use.{Under}
+use Rattle.mmu_core.specs.machine.View.{View, part_stepped, upd}
+use Rattle.mmu_core.proofs.machine.Columns.{at_upd, upd_same}
+use Rattle.mmu_core.proofs.machine.PartStepping.{IsPart}
+use Rattle.mmu_core.proofs.words.PartTopics.{behind_step, fill_keeps, part_behind}
+use Rattle.mmu_core.proofs.pages.PoolPages.{owned_there}
+use Rattle.mmu_core.proofs.pages.Standing.{at_spot, entry_now, position_below, spot_after, up_after, upd_if}
+use Rattle.mmu_core.proofs.pages.TreePlaces.{link_stands, root_stands}
+use Rattle.mmu_core.proofs.pages.UsesStay.{StaysStanding, stays_standing}
+
+-- what is said of what each hand holds, and of its counters, of a view
+abbrev pub HeldAt : Sizes → (ℕ → Option Position) → View → Type 0
+HeldAt z stands v = (i : ℕ) → i < actors_of z → HeldPart stands (v.hand i).topics
+
+abbrev pub CountersAt : Sizes → View → Type 0
+CountersAt z v = (i : ℕ) → i < actors_of z → CountersPart z (v.hand i).topics
+
+-- ---- Where the entries of tables lead to.
+
+-- What an entry links to, if it is a link, stands one level below.
+abbrev pub LeadsDown : (ℕ → Option Position) → Position → ℕ → Option ℕ → Type 0
+LeadsDown stands p j None = Unit {0}
+LeadsDown stands p j (Some page) = (2 ≤ p.level) × (stands page ≡ Some (at (p.level - 1) (p.prefix * 512 + j)))
+
+-- An entry of the lowest level is no link.
+lowest_leads : (w : ℕ) → linked_page (kind_of 1 w) ≡ None
+unfolding kind_of is_leaf_at
+lowest_leads w = by (w == frozen_word) (has_bit 11 w)
+  where
+    by : (frozen present : Bool) → linked_page (if frozen then Frozen else if present then Leaf else Absent) ≡ None
+    by true present = refl
+    by false true = refl
+    by false false = refl
+
+pub lowest_leads_down : (stands : ℕ → Option Position) (p : Position) (j w : ℕ) → p.level ≡ 1 → LeadsDown stands p j (linked_page (kind_of p.level w))
+lowest_leads_down stands p j w lowest = subst (LeadsDown stands p j) (sym (ap (λ level. linked_page (kind_of level w)) lowest ∙ lowest_leads w)) tt
+
+-- A link leads to its page.
+pub link_leads_down : (stands : ℕ → Option Position) (p : Position) (j page : ℕ) → 2 ≤ p.level → page < 2 ^ 32 → stands page ≡ Some (at (p.level - 1) (p.prefix * 512 + j)) → LeadsDown stands p j (linked_page (kind_of p.level (table_word page)))
+link_leads_down stands p j page upper small below = subst (LeadsDown stands p j) (sym (ap linked_page (kind_of_table p.level page upper small))) (upper, below)
+
+pub entry_leads_down : {pages root set : ℕ} {role pool : ℕ → ℕ} {up : ℕ → Use} {spot : ℕ → Position} (T : TreePart pages root set role pool up spot) (k : ℕ) (p : Position) (j w : ℕ) → pages ≤ 2 ^ 32 → stands up spot k ≡ Some p → EntryPart up k p j w
+    → LeadsDown (stands up spot) p j (linked_page (kind_of p.level w))
+entry_leads_down {up = up} {spot = spot} T k p j w small at_k (inl absent) = subst (LeadsDown (stands up spot) p j) (sym (ap (λ x. linked_page (kind_of p.level x)) absent ∙ ap linked_page (kind_of_absent p.level))) tt
+entry_leads_down {up = up} {spot = spot} T k p j w small at_k (inr (inl link)) =
+    let below = link_stands T k p j w at_k link in
+    let there = T.there link.page (at (p.level - 1) (p.prefix * 512 + j)) below in
+    subst (λ x. LeadsDown (stands up spot) p j (linked_page (kind_of p.level x))) (sym link.is) (link_leads_down (stands up spot) p j link.page link.upper (omega (arith, small, there.0)) below)
+entry_leads_down {up = up} {spot = spot} T k p j w small at_k (inr (inr leaf)) = lowest_leads_down (stands up spot) p j w leaf.lowest
+
+-- ---- What is held behind each step, over plain topics.
+
+never_or : (b : Bool) → (b || true) ≡ false → ⊥
+never_or true e = cc
+never_or false e = cc
+
+begun_held : (stands : ℕ → Option Position) (stay : Stay) (t : Topics) → HeldPart stands (begun stay t)
+begun_held stands stay t = record { table = λ from. absurd (omega (arith, from)); no_table = λ f. refl; no_set = λ f. refl }
+
+shared_held : (stands : ℕ → Option Position) (t : Topics) (b : Bool) (w : ℕ) → t.hold ≡ Loose → HeldPart stands t → HeldPart stands (record t { hold = if b then Owing w else Shared; invalidations = unchecked t.invalidations })
+shared_held stands t true w is H = record {
+  table = H.table;
+  no_table = λ f. H.no_table (ap (λ (h : Hold). may_walk t.stay h) is ∙ f);
+  no_set = λ f. H.no_set (ap (λ (h : Hold). may_search t.stay h) is ∙ f);
+}
+shared_held stands t false w is H = record {
+  table = H.table;
+  no_table = λ f. absurd (never_or _ f);
+  no_set = λ f. H.no_set (ap (λ (h : Hold). may_search t.stay h) is ∙ f);
+}
+
+excluded_held : (stands : ℕ → Option Position) (t : Topics) (b : Bool) → HeldPart stands t → HeldPart stands (record t { hold = if b then Exclusive else t.hold; invalidations = unchecked t.invalidations })
+excluded_held stands t true H = record { table = H.table; no_table = λ f. absurd (never_or _ f); no_set = λ f. absurd (never_or _ f) }
+excluded_held stands t false H = record { table = H.table; no_table = H.no_table; no_set = H.no_set }
+
+let_go_held : (stands : ℕ → Option Position) (t : Topics) (stay : Stay) → HeldPart stands t → HeldPart stands (let_go (record t { stay = stay }))
+let_go_held stands t Outside H = record { table = λ from. absurd (omega (arith, from)); no_table = λ f. refl; no_set = λ f. refl }
+let_go_held stands t Guest H = record { table = H.table; no_table = λ f. absurd (cc f); no_set = λ f. refl }
+let_go_held stands t Section H = record { table = H.table; no_table = λ f. absurd (cc f); no_set = λ f. absurd (cc f) }
+
+root_held : (root : ℕ) (stands : ℕ → Option Position) (t : Topics) → stands root ≡ Some (at 4 0) → HeldPart stands t → HeldPart stands (record t { walk = at_root (may_walk t.stay t.hold) t.walk root })
+root_held root stands t is H = record { table = by (may_walk t.stay t.hold); no_table = λ f. ap (λ (b : Bool). (at_root b t.walk root).level) f; no_set = H.no_set }
+  where
+    by : (b : Bool) → 1 ≤ (at_root b t.walk root).level → stands (table_page (at_root b t.walk root)) ≡ Some (at (at_root b t.walk root).level (at_root b t.walk root).prefix)
+    by true from = is
+    by false from = absurd (omega (arith, from))
+
+slots_held : (slots : ℕ) (stands : ℕ → Option Position) (t : Topics) → HeldPart stands t → HeldPart stands (record t { search = at_set (may_search t.stay t.hold) t.search slots })
+slots_held slots stands t H = record { table = H.table; no_table = H.no_table; no_set = λ f. ap (λ (b : Bool). (at_set b t.search slots).set) f }
+
+-- a search goes on in the same slot set
+searched_set : (f : SlotField) (s : SlotSearch) (v : ℕ) → (searched_at f s v).set ≡ s.set
+searched_set field.Flags s v = refl
+searched_set _ s v = refl
+
+pub set_kept : (b : Bool) (s : SlotSearch) (v : ℕ) → (if b then searched s v else s).set ≡ s.set
+set_kept true s v = searched_set s.next s v
+set_kept false s v = refl
+
+slot_held : (stands : ℕ → Option Position) (t : Topics) (b : Bool) (v : ℕ) → HeldPart stands t → HeldPart stands (record t { search = if b then searched t.search v else t.search })
+slot_held stands t b v H = record {
+  table = H.table;
+  no_table = H.no_table;
+  no_set = λ f. set_kept b t.search v ∙ H.no_set f;
+}
+
+-- a snapshot lets the search go, or leaves it
+snapshot_held : (stands : ℕ → Option Position) (t s : Topics) (b : Bool) → s.stay ≡ t.stay → s.hold ≡ t.hold → s.walk ≡ t.walk → s.search ≡ (if b then kept_search false t.search else t.search) → HeldPart stands t → HeldPart stands s
+snapshot_held stands t s true stay hold walk search H = record {
+  table = subst (λ (y : TableWalk). 1 ≤ y.level → stands (table_page y) ≡ Some (at y.level y.prefix)) (sym walk) H.table;
+  no_table = λ f. ap (λ (y : TableWalk). y.level) walk ∙ H.no_table (sym (ap (λ (y : Stay). may_walk y s.hold) stay ∙ ap (λ (y : Hold). may_walk t.stay y) hold) ∙ f);
+  no_set = λ f. ap (λ (y : SlotSearch). y.set) search;
+}
+snapshot_held stands t s false stay hold walk search H = record {
+  table = subst (λ (y : TableWalk). 1 ≤ y.level → stands (table_page y) ≡ Some (at y.level y.prefix)) (sym walk) H.table;
+  no_table = λ f. ap (λ (y : TableWalk). y.level) walk ∙ H.no_table (sym (ap (λ (y : Stay). may_walk y s.hold) stay ∙ ap (λ (y : Hold). may_walk t.stay y) hold) ∙ f);
+  no_set = λ f. ap (λ (y : SlotSearch). y.set) search ∙ H.no_set (sym (ap (λ (y : Stay). may_search y s.hold) stay ∙ ap (λ (y : Hold). may_search t.stay y) hold) ∙ f);
+}
+
+-- a hand that keeps what it holds
+same_held : (stands : ℕ → Option Position) (t s : Topics) → s.stay ≡ t.stay → s.hold ≡ t.hold → s.walk ≡ t.walk → s.search ≡ t.search → HeldPart stands t → HeldPart stands s
+same_held stands t s stay hold walk search H = snapshot_held stands t s false stay hold walk search H
+
+-- the tables stand where they stood
+pub held_stays : (before after : ℕ → Option Position) (t : Topics) → StaysStanding before after → HeldPart before t → HeldPart after t
+held_stays before after t stays H = record { table = λ from. stays _ _ (H.table from); no_table = H.no_table; no_set = H.no_set }
+
+-- The page that a walk goes down to is its table there.
+pub page_below : (level root third second first page : ℕ) → 2 ≤ level → level ≤ 4
+    → (if level - 1 == 4 then root else if level - 1 == 3 then (if level == 4 then page else third) else if level - 1 == 2 then (if level == 3 then page else second) else (if level == 2 then page else first)) ≡ page
+page_below zero root third second first page from to = absurd (omega arith)
+page_below (suc zero) root third second first page from to = absurd (omega arith)
+page_below (suc (suc zero)) root third second first page from to = refl
+page_below (suc (suc (suc zero))) root third second first page from to = refl
+page_below (suc (suc (suc (suc zero)))) root third second first page from to = refl
+page_below (suc (suc (suc (suc (suc level))))) root third second first page from to = absurd (omega arith)
+
+-- An entry was loaded, or exchanged: the walk goes down where it is a link, and else stays.
+gone_held : (stands : ℕ → Option Position) (t s : Topics) (j v : ℕ) (o : Option ℕ) → s.stay ≡ t.stay → s.hold ≡ t.hold → s.search ≡ t.search → s.walk ≡ gone_down o t.walk j v → t.walk.level ≤ 4 → LeadsDown stands (at t.walk.level t.walk.prefix) j o
+    → HeldPart stands t → HeldPart stands s
+gone_held stands t s j v None stay hold search walk to leads H = record {
+  table = subst (λ (y : TableWalk). 1 ≤ y.level → stands (table_page y) ≡ Some (at y.level y.prefix)) (sym walk) H.table;
+  no_table = λ f. ap (λ (y : TableWalk). y.level) walk ∙ H.no_table (sym (ap (λ (y : Stay). may_walk y s.hold) stay ∙ ap (λ (y : Hold). may_walk t.stay y) hold) ∙ f);
+  no_set = λ f. ap (λ (y : SlotSearch). y.set) search ∙ H.no_set (sym (ap (λ (y : Stay). may_search y s.hold) stay ∙ ap (λ (y : Hold). may_search t.stay y) hold) ∙ f);
+}
+gone_held stands t s j v (Some page) stay hold search walk to leads H = record {
+  table = subst (λ (y : TableWalk). 1 ≤ y.level → stands (table_page y) ≡ Some (at y.level y.prefix)) (sym walk) (λ from. ap stands (page_below t.walk.level t.walk.root t.walk.third t.walk.second t.walk.first page leads.0 to) ∙ leads.1);
+  no_table = λ f. ap (λ (y : TableWalk). y.level) walk ∙ (let none = H.no_table (sym (ap (λ (y : Stay). may_walk y s.hold) stay ∙ ap (λ (y : Hold). may_walk t.stay y) hold) ∙ f) in omega (arith, none));
+  no_set = λ f. ap (λ (y : SlotSearch). y.set) search ∙ H.no_set (sym (ap (λ (y : Stay). may_search y s.hold) stay ∙ ap (λ (y : Hold). may_search t.stay y) hold) ∙ f);
+}
+
+-- ---- Each step.
+
+-- where the tables stand behind the step
+abbrev stands_after : (z : Sizes) (v : View) → ℕ → PartStep → TopicsInvariant z v → ℕ → Option Position
+stands_after z v a step I = stands (up_after step a (v.hand a).topics v I.up) (spot_after step (v.hand a).topics v I.spot)
+
+abbrev HeldBehind : Sizes → View → ℕ → ℕ → PartStep → Type 0
+HeldBehind z v a note step = IsPart z v a step → (I : TopicsInvariant z v) → HeldAt z (stands_after z v a step I) (part_behind a step note v)
+
+-- what all hands hold, where the actor's holds so
+all_held : (z : Sizes) (v : View) (a : ℕ) (step : PartStep) (h : Held) → IsPart z v a step → (I : TopicsInvariant z v) → HeldPart (stands_after z v a step I) h.topics → HeldAt z (stands_after z v a step I) (record { words = v.words; hand = upd v.hand a h })
+all_held z v a step h S I here =
+    at_upd (λ i (k : Held). i < actors_of z → HeldPart (stands_after z v a step I) k.topics) v.hand a h (λ lt. here)
+    (λ i ne lt. held_stays (stands I.up I.spot) (stands_after z v a step I) (v.hand i).topics (stays_standing z v a step S I) (I.held i lt))
+
+-- where it holds so with the tables where they stood
+still_held : (z : Sizes) (v : View) (a : ℕ) (step : PartStep) (h : Held) → IsPart z v a step → (I : TopicsInvariant z v) → HeldPart (stands I.up I.spot) h.topics → HeldAt z (stands_after z v a step I) (record { words = v.words; hand = upd v.hand a h })
+still_held z v a step h S I here = all_held z v a step h S I (held_stays (stands I.up I.spot) (stands_after z v a step I) h.topics (stays_standing z v a step S I) here)
+
+fill_held : (z : Sizes) (v : View) (a note value : ℕ) → HeldBehind z v a note (part.Fill value)
+fill_held z v a note value S I =
+    let kept : (i : ℕ) → i < actors_of z → HeldPart (stands_after z v a (part.Fill value) I) ((part_behind a (part.Fill value) note v).hand i).topics =
+    still_held z v a (part.Fill value) _ S I (same_held (stands I.up I.spot) (v.hand a).topics _ refl refl refl refl (I.held a S.there)) in
+    fill_keeps (λ words. (i : ℕ) → i < actors_of z → HeldPart (stands_after z v a (part.Fill value) I) ((part_behind a (part.Fill value) note v).hand i).topics)
+    (page_owned (v.hand a).topics.owned) (words_filled (v.hand a).topics.owned) value note v.words kept kept
+
+-- The walk's table is at level 4 at most.
+walk_level : (z : Sizes) (v : View) (a : ℕ) → a < actors_of z → TopicsInvariant z v → 1 ≤ (v.hand a).topics.walk.level → (v.hand a).topics.walk.level ≤ 4
+walk_level z v a lt I from = (I.tree.there _ _ ((I.held a lt).table from)).2
+
+walk_held : (z : Sizes) (v : View) (a note gfn : ℕ) → HeldBehind z v a note (part.Walk gfn)
+walk_held z v a note gfn S I =
+    let t : Topics = (v.hand a).topics in
+    let from = S.needs.there in
+    let j : ℕ = entry_index gfn t.walk.level in
+    let H = I.held a S.there in
+    still_held z v a (part.Walk gfn) _ S I (gone_held (stands I.up I.spot) t _ j _ _ refl refl refl refl (walk_level z v a S.there I from)
+    (entry_leads_down I.tree (table_page t.walk) (at t.walk.level t.walk.prefix) j _ (omega (arith, S.is_sizes.pool.1)) (H.table from) (I.tree.entries (table_page t.walk) _ (H.table from) j (omega arith))) H)
+
+-- an exchange, won or lost
+exchanged_held : (stands : ℕ → Option Position) (t : Topics) (won : Bool) (j new_ v : ℕ) → t.walk.level ≤ 4 → (won ≡ true → LeadsDown stands (at t.walk.level t.walk.prefix) j (linked_page (kind_of t.walk.level new_)))
+    → HeldPart stands t → HeldPart stands (exchanged won j new_ t v)
+exchanged_held stands t true j new_ v to leads H = gone_held stands t _ j new_ (linked_page (kind_of t.walk.level new_)) refl refl refl refl to (leads refl) H
+exchanged_held stands t false j new_ v to leads H = gone_held stands t _ j v None refl refl refl refl to tt H
+
+link_held : (z : Sizes) (v : View) (a note gfn : ℕ) → HeldBehind z v a note (part.Link gfn)
+link_held z v a note gfn S I =
+    all_held z v a (part.Link gfn) _ S I (exchanged_held after t won (entry_index gfn t.walk.level) (link_written t) _ (walk_level z v a S.there I S.needs.0.saw.over.there)
+    (λ is. link_leads_down after (at t.walk.level t.walk.prefix) (entry_index gfn t.walk.level) page S.needs.1 small (added won is))
+    (held_stays (stands I.up I.spot) after t (stays_standing z v a (part.Link gfn) S I) (I.held a S.there)))
+  where
+    t : Topics
+    t = (v.hand a).topics
+
+    won : Bool
+    won = entry_now gfn t v == t.walk.entry
+
+    page : ℕ
+    page = page_owned t.owned
+
+    after : ℕ → Option Position
+    after = stands_after z v a (part.Link gfn) I
+
+    small : page < 2 ^ 32
+    small = let O = S.needs.3 in omega (arith, ap page_owned O.is, owned_there I.uses a O.owned S.there O.is, S.is_sizes.pool.1)
+
+    -- the page that was linked stands where it was linked
+    added : (b : Bool) → b ≡ true → stands (upd_if b I.up page (Under (table_page t.walk) (entry_index gfn t.walk.level))) (upd_if b I.spot page (position_below gfn t)) page ≡ Some (position_below gfn t)
+    added false is = absurd (cc is)
+    added true is =
+        at_spot (upd I.up page (Under (table_page t.walk) (entry_index gfn t.walk.level))) (upd I.spot page (position_below gfn t)) page (Under (table_page t.walk) (entry_index gfn t.walk.level)) (upd_same I.up page (Under (table_page t.walk) (entry_index gfn t.walk.level))) refl
+        ∙ ap Some (upd_same I.spot page (position_below gfn t))
+
+leaf_held : (z : Sizes) (v : View) (a note gfn : ℕ) → HeldBehind z v a note (part.Leaf gfn)
+leaf_held z v a note gfn S I =
+    let t : Topics = (v.hand a).topics in
+    still_held z v a (part.Leaf gfn) _ S I (exchanged_held (stands I.up I.spot) t (entry_now gfn t v == t.walk.entry) (entry_index gfn t.walk.level) (leaf_written t) _ (walk_level z v a S.there I S.needs.0.saw.over.there)
+    (λ is. lowest_leads_down (stands I.up I.spot) (at t.walk.level t.walk.prefix) (entry_index gfn t.walk.level) (leaf_written t) S.needs.1) (I.held a S.there))
+
+held_behind : (z : Sizes) (v : View) (a note : ℕ) (step : PartStep) → HeldBehind z v a note step
+held_behind z v a note part.Enter = λ S I. still_held z v a part.Enter _ S I (begun_held (stands I.up I.spot) Guest (v.hand a).topics)
+held_behind z v a note part.Leave = λ S I. still_held z v a part.Leave _ S I (begun_held (stands I.up I.spot) Outside (v.hand a).topics)
+held_behind z v a note part.Begin = λ S I. still_held z v a part.Begin _ S I (begun_held (stands I.up I.spot) Section (v.hand a).topics)
+held_behind z v a note part.End = λ S I. still_held z v a part.End _ S I (begun_held (stands I.up I.spot) Outside (v.hand a).topics)
+held_behind z v a note part.Share = λ S I. still_held z v a part.Share _ S I (shared_held (stands I.up I.spot) (v.hand a).topics (has_writer (v.words area.Lock 0)) (v.words area.Lock 0) S.needs (I.held a S.there))
+held_behind z v a note part.Unshare = λ S I. still_held z v a part.Unshare _ S I (let_go_held (stands I.up I.spot) (v.hand a).topics (v.hand a).topics.stay (I.held a S.there))
+held_behind z v a note part.Exclude = λ S I. still_held z v a part.Exclude _ S I (excluded_held (stands I.up I.spot) (v.hand a).topics (v.words area.Lock 0 == 0) (I.held a S.there))
+held_behind z v a note part.Release = λ S I. still_held z v a part.Release _ S I (let_go_held (stands I.up I.spot) (v.hand a).topics (v.hand a).topics.stay (I.held a S.there))
+held_behind z v a note (part.Fill value) = fill_held z v a note value
+held_behind z v a note part.Slots = λ S I. still_held z v a part.Slots _ S I (slots_held (v.words area.Slots 0) (stands I.up I.spot) (v.hand a).topics (I.held a S.there))
+held_behind z v a note part.Slot = λ S I. still_held z v a part.Slot _ S I (slot_held (stands I.up I.spot) (v.hand a).topics (is_some (v.hand a).topics.search.set) _ (I.held a S.there))
+held_behind z v a note part.Seq = λ S I. still_held z v a part.Seq _ S I (snapshot_held (stands I.up I.spot) (v.hand a).topics _ (is_loose (v.hand a).topics.hold) refl refl refl refl (I.held a S.there))
+held_behind z v a note part.Publish = λ S I. still_held z v a part.Publish _ S I (snapshot_held (stands I.up I.spot) (v.hand a).topics _ true refl refl refl refl (I.held a S.there))
+held_behind z v a note part.Root = λ S I. still_held z v a part.Root _ S I (root_held (v.words area.Root 0) (stands I.up I.spot) (v.hand a).topics (root_stands I.tree) (I.held a S.there))
+held_behind z v a note (part.Walk gfn) = walk_held z v a note gfn
+held_behind z v a note (part.Link gfn) = link_held z v a note gfn
+held_behind z v a note (part.Leaf gfn) = leaf_held z v a note gfn
+held_behind z v a note step = λ S I. still_held z v a step _ S I (same_held (stands I.up I.spot) (v.hand a).topics _ refl refl refl refl (I.held a S.there))
+
+pub held_kept : (z : Sizes) (v : View) (a : ℕ) (step : PartStep) (note : ℕ) → IsPart z v a step → (I : TopicsInvariant z v) → HeldAt z (stands_after z v a step I) (part_stepped a step note v)
+held_kept z v a step note S I = behind_step (HeldAt z (stands_after z v a step I)) z v a step note S (held_behind z v a note step S I)
+
+-- ---- The counters.
+searched_id : (f : SlotField) (s : SlotSearch) (v : ℕ) → s.id ≤ 31 → (searched_at f s v).id ≤ 32
+searched_id field.Flags s v le = by (flags_live v)
+  where
+    by : (b : Bool) → (if b then s.id else s.id + 1) ≤ 32
+    by true = omega (arith, le)
+    by false = omega (arith, le)
+searched_id _ s v le = omega (arith, le)
+
+slot_counts : (b : Bool) (s : SlotSearch) (v : ℕ) → s.id ≤ 31 → (if b then searched s v else s).id ≤ 32
+slot_counts true s v le = searched_id s.next s v le
+slot_counts false s v le = omega (arith, le)
+
+one_more : (b : Bool) (n most : ℕ) → n < most → n + (if b then 1 else 0) ≤ most
+one_more true n most lt = omega (arith, lt)
+one_more false n most lt = omega (arith, lt)
+
+one_more_unless : (b : Bool) (n most : ℕ) → n < most → n + (if b then 0 else 1) ≤ most
+one_more_unless true n most lt = omega (arith, lt)
+one_more_unless false n most lt = omega (arith, lt)
+
+tried_at : (b : Bool) (n most : ℕ) → n ≤ most → (if b then 0 else n) ≤ most
+tried_at true n most le = omega arith
+tried_at false n most le = omega (arith, le)
+
+tried_seen : (b : Bool) (n : ℕ) → n < 2 ^ 64 → (if b then 0 else n) < 2 ^ 64
+tried_seen true n lt = omega arith
+tried_seen false n lt = omega (arith, lt)
+
+pub all_count : (z : Sizes) (v : View) (a : ℕ) (h : Held) → TopicsInvariant z v → CountersPart z h.topics → (i : ℕ) → i < actors_of z → CountersPart z (upd v.hand a h i).topics
+all_count z v a h I here = at_upd (λ i (k : Held). i < actors_of z → CountersPart z k.topics) v.hand a h (λ lt. here) (λ i ne. I.counters i)
+
+-- The run of a walk's table is one of those of its level.
+abbrev pub RunFits : TableWalk → Type 0
+RunFits walk = 1 ≤ walk.level → walk.prefix < 2 ^ 36
+
+-- a hand that keeps its counters but the walk's
+walked_counts : (z : Sizes) (t s : Topics) → s.search.id ≡ t.search.id → s.claim ≡ t.claim → s.watched ≡ t.watched → RunFits s.walk → CountersPart z t → CountersPart z s
+walked_counts z t s id claim watched run C = record {
+  slots = omega (arith, id, C.slots);
+  claim = subst (λ (c : MapClaim). c.at ≤ words_of_bits z.pool) (sym claim) C.claim;
+  seen = subst (λ (c : MapClaim). c.seen < 2 ^ 64) (sym claim) C.seen;
+  watched = omega (arith, watched, C.watched);
+  run = run;
+}
+
+-- a hand that keeps its counters
+same_counts : (z : Sizes) (t s : Topics) → s.search.id ≡ t.search.id → s.claim ≡ t.claim → s.watched ≡ t.watched → s.walk ≡ t.walk → CountersPart z t → CountersPart z s
+same_counts z t s id claim watched walk C = walked_counts z t s id claim watched (subst RunFits (sym walk) C.run) C
+
+abbrev CountersBehind : Sizes → View → ℕ → ℕ → PartStep → Type 0
+CountersBehind z v a note step = IsPart z v a step → TopicsInvariant z v → CountersAt z (part_behind a step note v)
+
+pool_of : (z : Sizes) (v : View) (a : ℕ) (step : PartStep) → IsPart z v a step → words_of_bits (v.hand a).state.sizes.pool ≡ words_of_bits z.pool
+pool_of z v a step S = ap (λ (y : Sizes). words_of_bits y.pool) S.sizes
+
+map_counts : (z : Sizes) (v : View) (a note word : ℕ) → CountersBehind z v a note (part.Map word)
+map_counts z v a note word S I =
+    let C = I.counters a S.there in
+    let lt : word < words_of_bits z.pool = subst (λ n. word < n) (pool_of z v a (part.Map word) S) S.needs.1 in
+    all_count z v a _ I (record {
+      slots = C.slots;
+      claim = one_more (v.words area.PoolMap word == 0) word (words_of_bits z.pool) lt;
+      seen = S.small area.PoolMap word;
+      watched = C.watched;
+      run = C.run;
+    })
+
+claim_counts : (z : Sizes) (v : View) (a note : ℕ) → CountersBehind z v a note part.Claim
+claim_counts z v a note S I =
+    let C = I.counters a S.there in
+    let claim : MapClaim = (v.hand a).topics.claim in
+    let found : ℕ = v.words area.PoolMap claim.at in
+    all_count z v a _ I (record {
+      slots = C.slots;
+      claim = tried_at (is_won claim found) claim.at (words_of_bits z.pool) C.claim;
+      seen = tried_seen (is_won claim found) found (S.small area.PoolMap claim.at);
+      watched = C.watched;
+      run = C.run;
+    })
+
+watch_counts : (z : Sizes) (v : View) (a note index : ℕ) → CountersBehind z v a note (part.Watch index)
+watch_counts z v a note index S I =
+    let C = I.counters a S.there in
+    let lt : index < actors_of z = subst (λ (y : Sizes). index < actors_of y) S.sizes S.needs.0 in
+    all_count z v a _ I (record { slots = C.slots; claim = C.claim; seen = C.seen; watched = one_more_unless (in_section (v.words area.State index)) index (actors_of z) lt; run = C.run })
+
+pub snapshot_id : (b : Bool) (s : SlotSearch) → (if b then kept_search false s else s).id ≡ s.id
+snapshot_id true s = refl
+snapshot_id false s = refl
+
+-- A walk that is let go has no run.
+let_go_run : (stay : Stay) (t : Topics) → RunFits t.walk → RunFits (let_go (record t { stay = stay })).walk
+let_go_run Outside t run = λ from. absurd (omega (arith, from))
+let_go_run _ t run = run
+
+root_run : (b : Bool) (walk : TableWalk) (v : ℕ) → RunFits (at_root b walk v)
+root_run true walk v = λ from. omega arith
+root_run false walk v = λ from. absurd (omega (arith, from))
+
+-- The guest frame's entry leads to a run that it is in itself, one level down.
+run_below : (gfn span prefix : ℕ) → gfn < 2 ^ 36 → gfn / span / 512 ≡ prefix → prefix * 512 + gfn / span % 512 < 2 ^ 36
+run_below gfn span prefix small is = let le : gfn / span ≤ gfn = grind arith in omega (arith, small, is, le)
+
+gone_run : (gfn v : ℕ) (walk : TableWalk) (o : Option ℕ) → IsOver gfn walk → RunFits (gone_down o walk (entry_index gfn walk.level) v)
+gone_run gfn v walk None over = λ from. omega (arith, run_below gfn (level_span walk.level) walk.prefix over.small over.run)
+gone_run gfn v walk (Some page) over = λ from. run_below gfn (level_span walk.level) walk.prefix over.small over.run
+
+exchanged_run : (gfn v new_ : ℕ) (walk : TableWalk) (won : Bool) → IsOver gfn walk → RunFits (swapped won walk (entry_index gfn walk.level) new_ v)
+exchanged_run gfn v new_ walk true over = gone_run gfn new_ walk (linked_page (kind_of walk.level new_)) over
+exchanged_run gfn v new_ walk false over = gone_run gfn v walk None over
+
+counters_behind : (z : Sizes) (v : View) (a note : ℕ) (step : PartStep) → CountersBehind z v a note step
+counters_behind z v a note (part.Map word) = map_counts z v a note word
+counters_behind z v a note part.Claim = claim_counts z v a note
+counters_behind z v a note part.Give = λ S I. let C = I.counters a S.there in all_count z v a _ I (record { slots = C.slots; claim = C.claim; seen = omega arith; watched = C.watched; run = C.run })
+counters_behind z v a note part.GiveOld = λ S I. let C = I.counters a S.there in all_count z v a _ I (record { slots = C.slots; claim = C.claim; seen = omega arith; watched = C.watched; run = C.run })
+counters_behind z v a note (part.Watch index) = watch_counts z v a note index
+counters_behind z v a note part.Slots = λ S I. let C = I.counters a S.there in all_count z v a _ I (record { slots = omega arith; claim = C.claim; seen = C.seen; watched = C.watched; run = C.run })
+counters_behind z v a note part.Slot = λ S I.
+    let C = I.counters a S.there in all_count z v a _ I (record { slots = slot_counts (is_some (v.hand a).topics.search.set) (v.hand a).topics.search _ S.needs.1; claim = C.claim; seen = C.seen; watched = C.watched; run = C.run })
+counters_behind z v a note part.Enter = λ S I. all_count z v a _ I (walked_counts z (v.hand a).topics _ refl refl refl (λ from. absurd (omega (arith, from))) (I.counters a S.there))
+counters_behind z v a note part.Leave = λ S I. all_count z v a _ I (walked_counts z (v.hand a).topics _ refl refl refl (λ from. absurd (omega (arith, from))) (I.counters a S.there))
+counters_behind z v a note part.Begin = λ S I. all_count z v a _ I (walked_counts z (v.hand a).topics _ refl refl refl (λ from. absurd (omega (arith, from))) (I.counters a S.there))
+counters_behind z v a note part.End = λ S I. all_count z v a _ I (walked_counts z (v.hand a).topics _ refl refl refl (λ from. absurd (omega (arith, from))) (I.counters a S.there))
+counters_behind z v a note part.Unshare = λ S I. all_count z v a _ I (walked_counts z (v.hand a).topics _ refl refl refl (let_go_run (v.hand a).topics.stay (v.hand a).topics (I.counters a S.there).run) (I.counters a S.there))
+counters_behind z v a note part.Release = λ S I. all_count z v a _ I (walked_counts z (v.hand a).topics _ refl refl refl (let_go_run (v.hand a).topics.stay (v.hand a).topics (I.counters a S.there).run) (I.counters a S.there))
+counters_behind z v a note part.Seq = λ S I. all_count z v a _ I (same_counts z (v.hand a).topics _ (snapshot_id (is_loose (v.hand a).topics.hold) (v.hand a).topics.search) refl refl refl (I.counters a S.there))
+counters_behind z v a note part.Publish = λ S I. let C = I.counters a S.there in all_count z v a _ I (record { slots = C.slots; claim = C.claim; seen = C.seen; watched = omega arith; run = C.run })
+counters_behind z v a note part.Root = λ S I. all_count z v a _ I (walked_counts z (v.hand a).topics _ refl refl refl (root_run (may_walk (v.hand a).topics.stay (v.hand a).topics.hold) (v.hand a).topics.walk (v.words area.Root 0)) (I.counters a S.there))
+counters_behind z v a note (part.Walk gfn) = λ S I.
+    let walk : TableWalk = (v.hand a).topics.walk in
+    let found : ℕ = v.words area.Pool (pool_index (table_page walk) (entry_index gfn walk.level)) in
+    all_count z v a _ I (walked_counts z (v.hand a).topics _ refl refl refl (gone_run gfn found walk (linked_page (kind_of walk.level found)) S.needs) (I.counters a S.there))
+counters_behind z v a note (part.Link gfn) = λ S I. all_count z v a _ I (walked_counts z (v.hand a).topics _ refl refl refl (exchanged_run gfn _ (link_written (v.hand a).topics) (v.hand a).topics.walk _ S.needs.0.saw.over) (I.counters a S.there))
+counters_behind z v a note (part.Leaf gfn) = λ S I. all_count z v a _ I (walked_counts z (v.hand a).topics _ refl refl refl (exchanged_run gfn _ (leaf_written (v.hand a).topics) (v.hand a).topics.walk _ S.needs.0.saw.over) (I.counters a S.there))
+counters_behind z v a note _ = λ S I. all_count z v a _ I (same_counts z (v.hand a).topics _ refl refl refl refl (I.counters a S.there))
+
+pub counters_kept : (z : Sizes) (v : View) (a : ℕ) (step : PartStep) (note : ℕ) → IsPart z v a step → TopicsInvariant z v → CountersAt z (part_stepped a step note v)
+counters_kept z v a step note S I = behind_step (CountersAt z) z v a step note S (counters_behind z v a note step S I)

@@ -1,0 +1,89 @@
+-- What the steps of the parts rest on holds of each hand, by the invariant.
+use Rattle.std.proofs.Common.{◌≡◌, ◌⊎◌, inl, inr, ◌<◌, ◌≤◌, ◌+◌, ◌-◌, ℕ, sym, subst, ap, ◌∙◌, arith}
+use Rattle.std.specs.Prelude.{Some, true}
+use Rattle.std.proofs.lemmas.Bool.{cases_lt}
+use Rattle.std.proofs.lemmas.List.Elements.{All-weaker}
+use Rattle.core_views.specs.declared.cache.Translation.{Translation}
+use Rattle.core_views.specs.declared.sizes.Sizes.{Sizes}
+use Rattle.core_views.specs.declared.topics.HostLook.{HostLook}
+use Rattle.core_views.specs.declared.trace.Slot.{Slot as SlotOf}
+use Rattle.core_views.specs.Held.{Held}
+use Rattle.core_views.specs.Sizes.{AreSizes, actors_of, index_of}
+use Rattle.spte_words.specs.declared.area.Area.TheVariants as area
+use Rattle.spte_words.specs.HostWords.{host_frame}
+use Rattle.spte_words.proofs.ReadsHost.{host_has_frame}
+use Rattle.part_steps.specs.PartBounds.{IsAtLeafLevel}
+use Rattle.part_steps.specs.PartBounds.{CountersPart}
+use Rattle.mmu_core.specs.invariant.HeldPart.{HeldPart, HoldsOld}
+use Rattle.mmu_core.specs.invariant.Invariant.{HostWordsPart, Invariant, IsLeafFor, OwnLines}
+use Rattle.mmu_core.specs.invariant.LockPart.{SawWriter}
+use Rattle.part_steps.specs.PartBounds.{PartRests}
+use Rattle.part_steps.specs.PartSteps.{table_page}
+use Rattle.mmu_core.specs.invariant.TopicsInvariant.{TopicsInvariant}
+use Rattle.mmu_core.specs.invariant.TreePart.{IsLiveIn, stands}
+use Rattle.mmu_core.proofs.pages.PoolPages.{left_there, owned_there, slots_there}
+use Rattle.mmu_core.specs.machine.View.{View}
+use Rattle.mmu_core.proofs.held.OldSets.{set_live}
+
+-- the host word of a page that the machine has
+pub host_at : (z : Sizes) (host : ℕ → ℕ) (p : ℕ) → AreSizes z → HostWordsPart z host → p < z.pages → host_frame (host p) < z.frames
+host_at z host p sizes hosts lt = rw (hosts p lt, host_has_frame p true true 1 (omega arith)) (omega (arith, sizes.frames.0))
+
+pub part_rests_at : (z : Sizes) (v : View) (i : ℕ) → Invariant z v → TopicsInvariant z v → i < actors_of z → PartRests (v.hand i)
+part_rests_at z v i I P there = record {
+  sizes = subst AreSizes (sym same) I.sizes;
+  own_place = subst (λ n. n < actors_of h.state.sizes) (sym (ap (λ y. index_of y h.state.actor) same ∙ O.index)) (subst (λ (y : Sizes). i < actors_of y) (sym same) there);
+  level = level (cases_lt 0 h.topics.walk.level);
+  table = λ from. subst (λ (y : Sizes). table_page h.topics.walk < y.pool) (sym same) (P.tree.there _ _ (H.table from)).0;
+  set = λ k is. subst (λ (y : Sizes). k < y.pool) (sym same) (set_there k is);
+  page = λ o is. subst (λ (y : Sizes). o.page < y.pool) (sym same) (owned_there P.uses i o there is);
+  left = λ k is. subst (λ (y : Sizes). k < y.pool) (sym same) (left_there P.uses i k there is);
+  filled = λ o is. (P.filled i o there is).most;
+  counters = subst (λ y. CountersPart y h.topics) (sym same) (P.counters i there);
+  found = λ whole. subst (λ (y : Sizes). h.topics.search.slot.host + h.topics.search.slot.pages ≤ y.pages) (sym same) (found whole);
+  cache = subst (λ n. 1 ≤ n) (sym O.cache) I.sizes.cache.0;
+  levels = All-weaker (λ (t : Translation). (t.level ≡ 1) × IsLeafFor (v.words area.Pool) (v.words area.Host) (v.words area.Slots 0) t.gfn t.leaf) IsAtLeafLevel lowest h.cached.items (I.cached i there);
+  looked = λ look is. subst (λ (y : Sizes). (look.page < y.pages) × (host_frame look.word < y.frames)) (sym same) (looked look is);
+  saw_writer = λ word is. subst SawWriter is (P.saw_writer i there);
+}
+  where
+    h : Held
+    h = v.hand i
+
+    O : OwnLines z i h
+    O = I.lines i there
+
+    same : h.state.sizes ≡ z
+    same = O.sizes
+
+    H : HeldPart (stands P.up P.spot) h.topics
+    H = P.held i there
+
+    lowest : (t : Translation) → (t.level ≡ 1) × IsLeafFor (v.words area.Pool) (v.words area.Host) (v.words area.Slots 0) t.gfn t.leaf → IsAtLeafLevel t
+    lowest t is = let one = is.0 in (omega (arith, one), omega (arith, one))
+
+    level : (0 < h.topics.walk.level) ⊎ (h.topics.walk.level ≤ 0) → h.topics.walk.level ≤ 4
+    level (inl from) = (P.tree.there _ _ (H.table from)).2
+    level (inr none) = omega (arith, none)
+
+    -- The slot set that is held is a page of the pool.
+    set_there : (k : ℕ) → h.topics.search.set ≡ Some k → k < z.pool
+    set_there k is = by (P.sets i k there is)
+      where
+        by : (k ≡ v.words area.Slots 0) ⊎ HoldsOld (actors_of z) (λ j. (v.hand j).topics) i k → k < z.pool
+        by (inl e) = subst (λ n. n < z.pool) (sym e) (slots_there P.uses)
+        by (inr O) = left_there P.uses O.by k O.there O.leaves
+
+    -- The slot that was loaded whole is live in the published set.
+    found : h.topics.search.whole ≡ true → h.topics.search.slot.host + h.topics.search.slot.pages ≤ z.pages
+    found whole =
+        let S = P.searches i there in
+        let own = S.held whole in
+        let live : IsLiveIn (v.words area.Pool) (v.words area.Slots 0) (h.topics.search.id - 1) h.topics.search.slot =
+        set_live z v i own.0 there P own.1 (h.topics.search.id - 1) h.topics.search.slot (S.whole own.0 own.1 whole).1 in
+        subst (λ (s : SlotOf). s.host + s.pages ≤ z.pages) live.is (I.set_part.fits (h.topics.search.id - 1) live.low live.live).pages
+
+    looked : (look : HostLook) → h.topics.host ≡ Some look → (look.page < z.pages) × (host_frame look.word < z.frames)
+    looked look is =
+        let L = P.looks i there in
+        (L.there look is, subst (λ n. n < z.frames) (ap host_frame (sym (L.is look is))) (host_at z (v.words area.Host) look.page I.sizes I.hosts (L.there look is)))

@@ -1,0 +1,14 @@
+pub mod AccessKept
+pub mod AccessParts
+pub mod ByStep
+pub mod CachedKept
+pub mod FaultFalls
+pub mod FaultKnown
+pub mod FaultNeeds
+pub mod FaultSame
+pub mod FirstUsable
+pub mod KnowsKept
+pub mod KnowsStay
+pub mod LinesKept
+pub mod StepIn
+pub mod UsedTranslations

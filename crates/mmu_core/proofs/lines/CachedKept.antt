@@ -1,0 +1,141 @@
+-- What is cached, and the leaf that an access uses, is the leaf that slots and host give: as a walk finds it, and behind each step.
+use Rattle.std.proofs.Common.{◌≡◌, ◌/◌, ◌<◌, ℕ, List, [], ◌∷◌, refl, sym, subst, ap, ◌∙◌, arith}
+use Rattle.std.proofs.lemmas.Bool.Decides.{nat_tests}
+use Rattle.std.proofs.lemmas.List.Elements.{All-cons, All-head, All-nil, All-tail, All-take}
+use Rattle.std.specs.Prelude.{All, Bool, true, false, ◌==◌, ◌&&◌, find, if◌then◌else◌, Some}
+use Rattle.circular_buffer.specs.Buffer.{Buffer, buffer}
+use Rattle.core_views.specs.declared.cache.Translation.{Translation}
+use Rattle.core_views.specs.declared.kind.Kind.{Kind}
+use Rattle.core_views.specs.declared.kind.StepKind.{StepKind}
+use Rattle.core_views.specs.declared.kind.StepKind.TheVariants as kind
+use Rattle.core_views.specs.declared.place.AccessPlace.{AccessPlace}
+use Rattle.core_views.specs.declared.place.AccessPlace.TheVariants.{Walk}
+use Rattle.core_views.specs.declared.place.Place.TheVariants as place
+use Rattle.core_views.specs.declared.sizes.Sizes.{Sizes}
+use Rattle.core_views.specs.declared.topics.TableWalk.{TableWalk}
+use Rattle.core_views.specs.declared.trace.Command.TheVariants.{Access}
+use Rattle.core_views.specs.declared.trace.Line.{Line}
+use Rattle.core_views.specs.declared.trace.Op.{Op}
+use Rattle.core_views.specs.Held.{Held}
+use Rattle.core_views.specs.Kinds.{kind_named}
+use Rattle.core_views.specs.Sizes.{actors_of}
+use Rattle.core_views.specs.Slots.{is_write}
+use Rattle.spte_words.specs.declared.area.Area.TheVariants as area
+use Rattle.spte_words.specs.declared.spte_kind.SpteKind.{SpteKind}
+use Rattle.spte_words.specs.declared.spte_kind.SpteKind.TheVariants as entry_kind
+use Rattle.spte_words.specs.Areas.{pool_index}
+use Rattle.spte_words.specs.Entries.{kind_of, level_span}
+use Rattle.spte_words.proofs.Spans.{span_1}
+use Rattle.part_steps.specs.declared.task.Task.{Task}
+use Rattle.mmu_core.specs.lines.AccessSteps.{access_caches, access_task, is_found}
+use Rattle.mmu_core.specs.lines.Cached.{allows, asks_flush, covers, first_usable, flushed, flushed_by, is_usable, with_leaf}
+use Rattle.mmu_core.specs.lines.FaultSteps.{allows_access}
+use Rattle.mmu_core.specs.invariant.Invariant.{CachedPart, Invariant, IsLeafFor}
+use Rattle.mmu_core.specs.lines.KnowsPart.{AccessKnows}
+use Rattle.part_steps.specs.PartSteps.{IsOver, entry_index, table_page}
+use Rattle.part_steps.specs.Tasks.{kind_of_task}
+use Rattle.mmu_core.specs.invariant.TopicsInvariant.{TopicsInvariant}
+use Rattle.mmu_core.proofs.pages.LeavesOver.{leaf_for}
+use Rattle.mmu_core.specs.machine.View.{View, answer_in, hand_after, stepped}
+pub use Rattle.mmu_core.proofs.slots.LiveStay.{leaf_stays, translations_stay}
+use Rattle.mmu_core.proofs.slots.LiveStays.{MakesParts, access_set_stays}
+use Rattle.mmu_core.proofs.slots.SlotsStay.{is_live_stays}
+
+-- A step leaves what is cached, or flushes it.
+pub flushed_kept : (P : Translation → Type 0) (k : Kind) (c : Buffer Translation) (v : ℕ) → All P c.items → All P (flushed k c v).items
+unfolding flushed
+flushed_kept P k c v all = by (kind_named k.code)
+  where
+    cleared : (b : Bool) → All P (if b then buffer [] c.capacity else c).items
+    cleared true = All-nil P
+    cleared false = all
+
+    by : (n : StepKind) → All P (flushed_by n c v).items
+    by kind.Enter = cleared (asks_flush v)
+    by _ = all
+
+-- ---- a leaf that a walk finds
+
+-- A leaf in the walk's table, at the guest frame's entry, is of the lowest level, and is the guest frame's.
+pub leaf_found : (z : Sizes) (v : View) (a gfn : ℕ) → a < actors_of z → Invariant z v → TopicsInvariant z v → IsOver gfn (v.hand a).topics.walk
+    → kind_of (v.hand a).topics.walk.level (v.words area.Pool (pool_index (table_page (v.hand a).topics.walk) (entry_index gfn (v.hand a).topics.walk.level))) ≡ entry_kind.Leaf
+    → ((v.hand a).topics.walk.level ≡ 1) × IsLeafFor (v.words area.Pool) (v.words area.Host) (v.words area.Slots 0) gfn (v.words area.Pool (pool_index (table_page (v.hand a).topics.walk) (entry_index gfn (v.hand a).topics.walk.level)))
+leaf_found z v a gfn lt I P over leaf =
+    let walk : TableWalk = (v.hand a).topics.walk in
+    let run = over.run in
+    leaf_for z v P (table_page walk) walk.level walk.prefix (entry_index gfn walk.level) gfn ((P.held a lt).table over.there) (omega arith) (omega (arith, run)) leaf
+
+-- What a stay caches is a leaf.
+pub found_is_leaf : (k : SpteKind) (allowed : Bool) → is_found k allowed ≡ true → k ≡ entry_kind.Leaf
+found_is_leaf entry_kind.Leaf allowed is = refl
+found_is_leaf _ allowed is = absurd (cc is)
+
+-- A leaf that agrees is cached before all others.
+with_leaf_kept : (pool host : ℕ → ℕ) (set gfn level leaf : ℕ) (c : Buffer Translation) → level ≡ 1 → IsLeafFor pool host set gfn leaf → CachedPart pool host set c.items → CachedPart pool host set (with_leaf gfn level leaf c).items
+with_leaf_kept pool host set gfn level leaf c lowest agrees each =
+    All-take (λ (t : Translation). (t.level ≡ 1) × IsLeafFor pool host set t.gfn t.leaf) c.capacity (record { gfn = gfn; level = level; leaf = leaf } ∷ c.items)
+    (All-cons (λ (t : Translation). (t.level ≡ 1) × IsLeafFor pool host set t.gfn t.leaf) (record { gfn = gfn; level = level; leaf = leaf }) c.items (lowest, agrees) each)
+
+-- ---- a translation that is used
+
+-- What is found in a list passes the test, and has what all have.
+found_has : (P : Translation → Type 0) (test : Translation → Bool) (ts : List Translation) (t : Translation) → All P ts → find test ts ≡ Some t → P t × (test t ≡ true)
+found_has P test [] t all is = absurd (cc is)
+found_has P test (x ∷ xs) t all is = by (test x) refl (found_has P test xs t (All-tail P x xs all)) is
+  where
+    by : (b : Bool) → test x ≡ b → (find test xs ≡ Some t → P t × (test t ≡ true)) → (if b then Some x else find test xs) ≡ Some t → P t × (test t ≡ true)
+    by true passes rest here = let same : x ≡ t = cc here in (subst P same (All-head P x xs all), ap test (sym same) ∙ passes)
+    by false fails rest there = rest there
+
+-- Translations of the lowest level cover their own guest frame alone.
+covers_one : (gfn other level : ℕ) → level ≡ 1 → (gfn / level_span level == other / level_span level) ≡ true → other ≡ gfn
+covers_one gfn other level lowest is =
+    let span : level_span level ≡ 1 = ap level_span lowest ∙ span_1 in
+    let same : gfn / level_span level ≡ other / level_span level = grind (arith, nat_tests) in
+    let own : gfn / level_span level ≡ gfn = ap (λ n. gfn / n) span ∙ omega arith in
+    let its : other / level_span level ≡ other = ap (λ n. other / n) span ∙ omega arith in
+    omega (arith, same, own, its)
+
+first_of : (a b : Bool) → (a && b) ≡ true → a ≡ true
+first_of true b e = refl
+first_of false b e = absurd (cc e)
+
+-- The cached translation that an access uses is the leaf of its guest frame.
+pub used_leaf : (pool host : ℕ → ℕ) (set gfn : ℕ) (write : Bool) (ts : List Translation) (t : Translation) → CachedPart pool host set ts → first_usable gfn write ts ≡ Some t → IsLeafFor pool host set gfn t.leaf
+used_leaf pool host set gfn write ts t each is =
+    let F = found_has (λ (t : Translation). (t.level ≡ 1) × IsLeafFor pool host set t.gfn t.leaf) (is_usable gfn write) ts t each is in
+    subst (λ n. IsLeafFor pool host set n t.leaf) (covers_one gfn t.gfn t.level F.0.0 (first_of (covers gfn t) (allows write t) F.1)) F.0.1
+
+-- ---- behind a step of an access
+
+-- What an access caches, where it stands so: a leaf that its walk found, before what was cached.
+pub caches_kept : (z : Sizes) (v : View) (a : ℕ) (p : AccessPlace) (gfn word : ℕ) (op : Op) → a < actors_of z → Invariant z v → TopicsInvariant z v → AccessKnows p gfn (is_write op) (v.hand a)
+    → CachedPart (v.words area.Pool) (v.words area.Host) (v.words area.Slots 0) (access_caches p (v.hand a) gfn op (answer_in (access_task p (v.hand a) gfn word op) v.words)).items
+caches_kept z v a (Walk again) gfn word op lt I P K = by (is_found (kind_of level w) (allows_access (is_write op) w)) (λ e. found_is_leaf (kind_of level w) (allows_access (is_write op) w) e)
+  where
+    h : Held
+    h = v.hand a
+
+    level : ℕ
+    level = h.topics.walk.level
+
+    w : ℕ
+    w = v.words area.Pool (pool_index (table_page h.topics.walk) (entry_index gfn level))
+
+    by : (b : Bool) → (b ≡ true → kind_of level w ≡ entry_kind.Leaf) → CachedPart (v.words area.Pool) (v.words area.Host) (v.words area.Slots 0) (if b then with_leaf gfn level w h.cached else h.cached).items
+    by true leaf = let found = leaf_found z v a gfn lt I P K.1 (leaf refl) in with_leaf_kept (v.words area.Pool) (v.words area.Host) (v.words area.Slots 0) gfn level w h.cached found.0 found.1 (I.cached a lt)
+    by false leaf = I.cached a lt
+caches_kept z v a _ gfn word op lt I P K = I.cached a lt
+
+-- All that the actor has cached behind its step agrees.
+pub cached_kept : (z : Sizes) (v : View) (a : ℕ) (line : Line) (p : AccessPlace) (gfn word : ℕ) (op : Op) → a < actors_of z → Invariant z v → TopicsInvariant z v → AccessKnows p gfn (is_write op) (v.hand a) → MakesParts z v a p gfn
+    → CachedPart ((stepped a line (Access gfn word op) (place.Access p) v).words area.Pool) (v.words area.Host) (v.words area.Slots 0) (hand_after line (Access gfn word op) (place.Access p) (v.hand a) (answer_in (access_task p (v.hand a) gfn word op) v.words)).cached.items
+cached_kept z v a line p gfn word op lt I P K makes =
+    let h : Held = v.hand a in
+    let t : Task = access_task p h gfn word op in
+    let x : ℕ = answer_in t v.words in
+    let after : ℕ → ℕ = (stepped a line (Access gfn word op) (place.Access p) v).words area.Pool in
+    let set : ℕ = v.words area.Slots 0 in
+    let stays = is_live_stays set (v.words area.Pool) after (access_set_stays z v a line p gfn word op makes P) in
+    flushed_kept (λ (y : Translation). (y.level ≡ 1) × IsLeafFor after (v.words area.Host) set y.gfn y.leaf) (kind_of_task h.state.sizes t) (access_caches p h gfn op x) x
+    (translations_stay (v.words area.Pool) set after set stays (v.words area.Host) (access_caches p h gfn op x).items (caches_kept z v a p gfn word op lt I P K))

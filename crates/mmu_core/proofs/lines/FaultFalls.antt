@@ -1,0 +1,210 @@
+-- Each step of a fault that doesn't wait for another actor leaves it fewer steps.
+use Rattle.std.proofs.Common.{◌≡◌, ◌≢◌, ◌+◌, ◌-◌, ◌*◌, ◌^◌, ◌<◌, ◌≤◌, ℕ, refl, sym, subst, ap, ◌∙◌, arith}
+use Rattle.std.specs.Prelude.{Bool, true, false, ◌==◌, ◌&&◌, nat_le, nat_lt, not, if◌then◌else◌, Option, Some, None, is_some}
+use Rattle.std.proofs.lemmas.Bool.Decides.{nat_tests}
+use Rattle.core_views.specs.declared.place.Cause.TheVariants.{Open, Moved, Entry}
+use Rattle.core_views.specs.declared.place.CheckStage.{CheckStage}
+use Rattle.core_views.specs.declared.place.CheckStage.TheVariants as stage
+use Rattle.core_views.specs.declared.place.FaultEnd.TheVariants.{Installed, Mmio, HostFault, Starved, Retry}
+use Rattle.core_views.specs.declared.place.FaultPlace.{FaultPlace}
+use Rattle.core_views.specs.declared.place.FaultPlace.TheVariants.{Begin, Find, Host, Share, Check, Walk, Claim, Fill, Link, Give, Leaf, Unshare, End}
+use Rattle.core_views.specs.declared.place.SlotField.{SlotField}
+use Rattle.core_views.specs.declared.place.SlotField.TheVariants as field
+use Rattle.core_views.specs.declared.sizes.Sizes.{Sizes}
+use Rattle.core_views.specs.declared.topics.Hold.{Hold}
+use Rattle.core_views.specs.declared.topics.Hold.TheVariants.{Loose, Shared, Owing}
+use Rattle.core_views.specs.declared.topics.MapClaim.{MapClaim}
+use Rattle.core_views.specs.declared.topics.OwnedPage.{OwnedPage}
+use Rattle.core_views.specs.declared.topics.Topics.{Topics}
+use Rattle.core_views.specs.Held.{Held}
+use Rattle.core_views.specs.Sizes.{AreSizes}
+use Rattle.core_views.specs.Slots.{contains}
+use Rattle.spte_words.specs.declared.spte_kind.SpteKind.{SpteKind}
+use Rattle.spte_words.specs.declared.spte_kind.SpteKind.TheVariants as entry_kind
+use Rattle.spte_words.specs.Areas.{words_of_bits}
+use Rattle.spte_words.specs.Entries.{kind_of, table_word}
+use Rattle.spte_words.specs.Flags.{flags_live}
+use Rattle.spte_words.specs.HostWords.{host_allows_write}
+use Rattle.spte_words.proofs.ReadsEntries.{kind_of_table}
+use Rattle.part_steps.specs.declared.part_step.PartStep.TheVariants as part
+use Rattle.mmu_core.specs.lines.FaultKnows.{FaultKnows, is_trying}
+use Rattle.mmu_core.specs.lines.FaultSteps.{allows_access, at_map_word, check_left, check_next, claim_next, entering_left, entry_word, fault_left, fault_next, fault_part, find_next, is_owing, lock_left, map_word, next_left, share_next, share_part, snapshot_taken, table_left, tries_page, waits, walk_left, walk_next}
+use Rattle.part_steps.specs.PartBounds.{PartRests}
+use Rattle.part_steps.specs.PartSteps.{entry_index, link_written, page_owned, words_filled}
+use Rattle.part_steps.specs.PartTopics.{exchanged, part_topics}
+use Rattle.mmu_core.specs.lines.SearchLeft.{look_left}
+use Rattle.part_steps.specs.TopicSteps.{filled_more, gone_down, has_writer, is_won, linked_page, may_walk, searched, searched_at}
+use Rattle.mmu_core.proofs.lines.FaultKnown.{above_lowest}
+use Rattle.mmu_core.proofs.lines.FaultNeeds.{first_word}
+use Rattle.mmu_core.proofs.lines.FaultSame.{not_not}
+
+-- the search
+search_falls : (b : Bool) (z : Sizes) (u : Topics) (n : ℕ) → (u.search.id == 32) ≡ b → (b ≡ false → 4 * (31 - u.search.id) + look_left u.search.next < n) → fault_left (if b then End Mmio else Find true) z u < entering_left z + 7 + n
+search_falls true z u n is less = omega arith
+search_falls false z u n is less = let few = less refl in omega (arith, few)
+
+flags_fall : (live : Bool) (id : ℕ) → id ≤ 31 → ((if live then id else id + 1) == 32) ≡ false → 4 * (31 - (if live then id else id + 1)) + look_left (if live then field.Base else field.Flags) < 4 * (31 - id) + 4
+flags_fall true id low is = omega arith
+flags_fall false id low is = let lower : id + 1 ≢ 32 = grind (arith, nat_tests) in omega (arith, lower)
+
+found_falls : (holds denied : Bool) (z : Sizes) (u : Topics) (id : ℕ) → id ≤ 31 → u.search.id ≡ id + 1 → look_left u.search.next ≡ 4
+    → fault_left (if holds then (if denied then End Mmio else Host) else if u.search.id == 32 then End Mmio else Find true) z u < entering_left z + 7 + (4 * (31 - id) + 1)
+found_falls true true z u id low is next = omega arith
+found_falls true false z u id low is next = omega arith
+found_falls false denied z u id low is next = search_falls (u.search.id == 32) z u (4 * (31 - id) + 1) refl (λ e. let lower : u.search.id ≢ 32 = grind (arith, nat_tests) in omega (arith, lower))
+
+find_falls : (f : SlotField) (z : Sizes) (gfn : ℕ) (write : Bool) (t : Topics) (v : ℕ) → t.search.id ≤ 31
+    → fault_left (find_next gfn write f (searched_at f t.search v)) z (record t { search = searched_at f t.search v }) < entering_left z + 7 + (4 * (31 - t.search.id) + look_left f)
+find_falls field.Flags z gfn write t v low = search_falls ((searched_at field.Flags t.search v).id == 32) z (record t { search = searched_at field.Flags t.search v }) (4 * (31 - t.search.id) + 4) refl (λ e. flags_fall (flags_live v) t.search.id low e)
+find_falls field.Base z gfn write t v low = search_falls (t.search.id == 32) z (record t { search = searched_at field.Base t.search v }) (4 * (31 - t.search.id) + 3) refl (λ e. omega arith)
+find_falls field.Pages z gfn write t v low = search_falls (t.search.id == 32) z (record t { search = searched_at field.Pages t.search v }) (4 * (31 - t.search.id) + 2) refl (λ e. omega arith)
+find_falls field.Host z gfn write t v low = found_falls (contains gfn (searched_at field.Host t.search v).slot) (write && t.search.slot.read_only) z (record t { search = searched_at field.Host t.search v }) t.search.id low refl refl
+
+slot_falls : (b : Bool) (z : Sizes) (gfn : ℕ) (write : Bool) (t : Topics) (v : ℕ) → b ≡ true → t.search.id ≤ 31
+    → fault_left (find_next gfn write t.search.next (searched t.search v)) z (record t { search = if b then searched t.search v else t.search }) < entering_left z + 7 + (4 * (31 - t.search.id) + look_left t.search.next)
+slot_falls true z gfn write t v is low = find_falls t.search.next z gfn write t v low
+slot_falls false z gfn write t v is low = absurd (cc is)
+
+-- the host word, and the lock
+host_falls : (b : Bool) (z : Sizes) (u : Topics) → u.hold ≡ Loose → fault_left (if b then End HostFault else Share) z u < entering_left z + 7
+host_falls true z u loose = omega arith
+host_falls false z u loose = let two : lock_left u.hold ≡ 2 = ap (λ (x : Hold). lock_left x) loose in omega (arith, two)
+
+share_falls : (k : Hold) (z : Sizes) (t : Topics) (v : ℕ) → is_trying k ≡ true → is_owing k ≡ false → fault_left (share_next k v) z (part_topics (share_part k) t v) < entering_left z + 4 + lock_left k
+share_falls Loose z t v try_ goes = by (has_writer v)
+  where
+    by : (b : Bool) → fault_left (if b then Share else Check stage.Count) z (record t { hold = if b then Owing v else Shared; invalidations = (part_topics part.Share t v).invalidations }) < entering_left z + 4 + 2
+    by true = omega arith
+    by false = omega arith
+share_falls (Owing word) z t v try_ goes = absurd (cc goes)
+share_falls _ z t v try_ goes = absurd (cc try_)
+
+-- the check
+check_falls : (at : CheckStage) (z : Sizes) (gfn : ℕ) (t u : Topics) (v : ℕ) → fault_left (check_next at gfn t v) z u < entering_left z + check_left at
+check_falls stage.Count z gfn t u v = by (v == 0)
+  where
+    by : (b : Bool) → fault_left (if b then Check stage.Seq else Check stage.Start) z u < entering_left z + 4
+    by true = omega arith
+    by false = omega arith
+check_falls stage.Start z gfn t u v = omega arith
+check_falls stage.End z gfn t u v = by (nat_le t.invalidations.start gfn && nat_lt gfn v)
+  where
+    by : (b : Bool) → fault_left (if b then Unshare (Retry (Open t.invalidations.count t.invalidations.start v gfn)) else Check stage.Seq) z u < entering_left z + 2
+    by true = omega arith
+    by false = omega arith
+check_falls stage.Seq z gfn t u v = by (v == snapshot_taken t.invalidations.snapshot)
+  where
+    by : (b : Bool) → fault_left (if b then Walk false else Unshare (Retry (Moved (snapshot_taken t.invalidations.snapshot) v))) z u < entering_left z + 1
+    by true = omega arith
+    by false = omega arith
+
+-- the walk: a table costs what is left above it and not below
+table_below : (z : Sizes) (level : ℕ) → 2 ≤ level → level ≤ 4 → walk_left z level ≡ walk_left z (level - 1) + table_left z
+table_below z level from to = by (level == 2) (level == 3) refl refl
+  where
+    by : (two three : Bool) → (level == 2) ≡ two → (level == 3) ≡ three → walk_left z level ≡ walk_left z (level - 1) + table_left z
+    by true three is other = let e : level ≡ 2 = grind (arith, nat_tests) in rw e (omega arith)
+    by false true is other = let e : level ≡ 3 = grind (arith, nat_tests) in rw e (omega arith)
+    by false false is other = let e : level ≡ 4 = grind (arith, nat_tests) in rw e (omega arith)
+
+root_falls : (b : Bool) (z : Sizes) → walk_left z (if b then 4 else 0) < entering_left z
+root_falls true z = omega arith
+root_falls false z = omega arith
+
+four_left : (z : Sizes) (level : ℕ) → 4 ≤ walk_left z level
+four_left z level = omega arith
+
+leaf_falls : (lowest allows : Bool) (z : Sizes) (word v level : ℕ) (u : Topics) → fault_left (if lowest then (if allows then Unshare Installed else Leaf) else Unshare (Retry (Entry word v v))) z u < walk_left z level
+leaf_falls true true z word v level u = let four = four_left z level in omega (arith, four)
+leaf_falls _ _ z word v level u = let four = four_left z level in omega (arith, four)
+
+none_falls : (lowest : Bool) (z : Sizes) (u : Topics) → (u.walk.level == 1) ≡ lowest → 1 ≤ u.walk.level → u.walk.level ≤ 4 → fault_left (if lowest then Leaf else Claim false) z u < walk_left z u.walk.level
+none_falls true z u is from most = let four = four_left z u.walk.level in omega (arith, four)
+none_falls false z u is from most =
+    let upper : 2 ≤ u.walk.level = grind (arith, nat_tests) in
+    let below = table_below z u.walk.level upper most in
+    omega (arith, below)
+
+walk_falls : (k : SpteKind) (z : Sizes) (gfn : ℕ) (write : Bool) (t : Topics) (v : ℕ) → kind_of t.walk.level v ≡ k → 1 ≤ t.walk.level → t.walk.level ≤ 4
+    → fault_left (walk_next k z gfn write t.walk v) z (record t { walk = gone_down (linked_page k) t.walk (entry_index gfn t.walk.level) v }) < walk_left z t.walk.level
+walk_falls (entry_kind.Table page) z gfn write t v is from most =
+    let below = table_below z t.walk.level (above_lowest t.walk.level v page from is) most in omega (arith, below)
+walk_falls entry_kind.Leaf z gfn write t v is from most = leaf_falls (t.walk.level == 1) (allows_access write v) z (entry_word z gfn t.walk) v t.walk.level _
+walk_falls entry_kind.Absent z gfn write t v is from most = none_falls (t.walk.level == 1) z (record t { walk = gone_down None t.walk (entry_index gfn t.walk.level) v }) refl from most
+walk_falls entry_kind.Frozen z gfn write t v is from most = let four = four_left z t.walk.level in omega (arith, four)
+
+-- the claim
+tried_falls : (won : Bool) (z : Sizes) (t : Topics) (page v : ℕ) → won ≡ true
+    → fault_left (if won then Fill else Claim true) z (record t {
+      owned = if won then Some (record { page = page; filled = 0; absent = true; role = 0 }) else None;
+      claim = record { at = if won then 0 else t.claim.at; seen = if won then 0 else v };
+    })
+    < walk_left z (t.walk.level - 1) + 514 + 1
+tried_falls true z t page v is = omega arith
+tried_falls false z t page v is = absurd (cc is)
+
+pub seen_falls : (zero_ : Bool) (words word v : ℕ) → (v == 0) ≡ zero_ → word < words
+    → (if nat_lt 0 v then 1 else words - (word + (if zero_ then 1 else 0)) + 1) < words - word + 1
+seen_falls true words word v is low = let none : nat_lt 0 v ≡ false = grind (arith, nat_tests) in rw none (omega arith)
+seen_falls false words word v is low = let some : nat_lt 0 v ≡ true = grind (arith, nat_tests) in rw some (omega arith)
+
+mapped_falls : (more : Bool) (z : Sizes) (t : Topics) (word v : ℕ) → word < words_of_bits z.pool
+    → fault_left (if more then Claim true else Unshare Starved) z (record t { claim = record { at = word + (if v == 0 then 1 else 0); seen = v } }) < walk_left z (t.walk.level - 1) + 514 + (words_of_bits z.pool - word + 1)
+mapped_falls true z t word v low = let less = seen_falls (v == 0) (words_of_bits z.pool) word v refl low in omega (arith, less)
+mapped_falls false z t word v low = omega arith
+
+claim_falls : (tries b : Bool) (z : Sizes) (t : Topics) (v : ℕ) → (tries && not (is_won t.claim v)) ≡ false → map_word b t.claim < words_of_bits z.pool
+    → fault_left (claim_next tries z (at_map_word b t.claim) v) z (part_topics (if tries then part.Claim else part.Map (map_word b t.claim)) t v)
+    < walk_left z (t.walk.level - 1) + 514 + (if tries then 1 else words_of_bits z.pool - map_word b t.claim + 1)
+claim_falls true b z t v goes low = tried_falls (is_won t.claim v) z t _ v (not_not (is_won t.claim v) goes)
+claim_falls false b z t v goes low = mapped_falls (nat_lt (map_word b t.claim + (if v == 0 then 1 else 0)) (words_of_bits z.pool)) z t (map_word b t.claim) v low
+
+pub word_there : (b : Bool) (z : Sizes) (claim : MapClaim) → AreSizes z → (b ≡ true → claim.at < words_of_bits z.pool) → map_word b claim < words_of_bits z.pool
+word_there true z claim S low = low refl
+word_there false z claim S low = first_word z S
+
+-- the page's words, and the link
+filled_falls : (few : Bool) (z : Sizes) (t : Topics) (o : OwnedPage) (v : ℕ) → o.filled < 513
+    → fault_left (if few then Fill else Link) z (record t { owned = filled_more (Some o) v }) < walk_left z (t.walk.level - 1) + 1 + (513 - o.filled)
+filled_falls true z t o v left = omega arith
+filled_falls false z t o v left = omega arith
+
+fill_falls : (z : Sizes) (t : Topics) (v : ℕ) (o : OwnedPage) → t.owned ≡ Some o → o.filled < 513
+    → fault_left (if nat_lt (words_filled t.owned) 512 then Fill else Link) z (record t { owned = filled_more t.owned v }) < walk_left z (t.walk.level - 1) + 1 + (513 - words_filled t.owned)
+fill_falls z t v o is left =
+    subst (λ (x : Option OwnedPage). fault_left (if nat_lt (words_filled x) 512 then Fill else Link) z (record t { owned = filled_more x v }) < walk_left z (t.walk.level - 1) + 1 + (513 - words_filled x)) (sym is)
+    (filled_falls (nat_lt o.filled 512) z t o v left)
+
+link_falls : (b : Bool) (z : Sizes) (t : Topics) (gfn v : ℕ) (o : OwnedPage) → 2 ≤ t.walk.level → t.owned ≡ Some o → o.page < 2 ^ 32
+    → fault_left (if b then Walk true else Give (Retry (Entry (entry_word z gfn t.walk) t.walk.entry v))) z (exchanged b (entry_index gfn t.walk.level) (link_written t) t v) < walk_left z (t.walk.level - 1) + 1
+link_falls true z t gfn v o from is small =
+    subst (λ (k : SpteKind). walk_left z (gone_down (linked_page k) t.walk (entry_index gfn t.walk.level) (link_written t)).level < walk_left z (t.walk.level - 1) + 1)
+    (sym linked) (omega arith)
+  where
+    linked : kind_of t.walk.level (link_written t) ≡ entry_kind.Table o.page
+    linked = ap (λ (x : Option OwnedPage). kind_of t.walk.level (table_word (page_owned x))) is ∙ kind_of_table t.walk.level o.page from small
+link_falls false z t gfn v o from is small = let four = four_left z (t.walk.level - 1) in omega (arith, four)
+
+leaf_put : (b : Bool) (z : Sizes) (word read v : ℕ) (u : Topics) → fault_left (if b then Unshare Installed else Unshare (Retry (Entry word read v))) z u < 3
+leaf_put true z word read v u = omega arith
+leaf_put false z word read v u = omega arith
+
+pub fault_falls : (p : FaultPlace) (h : Held) (gfn v : ℕ) (write : Bool) → gfn < 2 ^ 36 → PartRests h → FaultKnows p h.state.sizes gfn write h.topics → waits p h.topics v ≡ false
+    → next_left (fault_next p h.state.sizes gfn write h.topics v) h.state.sizes (part_topics (fault_part p gfn h.topics) h.topics v) < fault_left p h.state.sizes h.topics
+fault_falls (Find true) h gfn v write small R K goes = let set = K.1 refl in slot_falls (is_some h.topics.search.set) h.state.sizes gfn write h.topics v set.0 set.1
+fault_falls (Find false) h gfn v write small R K goes = omega arith
+fault_falls Host h gfn v write small R K goes = host_falls (write && not (host_allows_write v)) h.state.sizes (part_topics (fault_part Host gfn h.topics) h.topics v) K.0.loose
+fault_falls Share h gfn v write small R K goes = share_falls h.topics.hold h.state.sizes h.topics v K.1 goes
+fault_falls (Check at) h gfn v write small R K goes = check_falls at h.state.sizes gfn h.topics _ v
+fault_falls (Walk true) h gfn v write small R K goes = let over = K.2 refl in walk_falls (kind_of h.topics.walk.level v) h.state.sizes gfn write h.topics v refl over.there R.level
+fault_falls (Walk false) h gfn v write small R K goes = root_falls (may_walk h.topics.stay h.topics.hold) h.state.sizes
+fault_falls (Claim begun) h gfn v write small R K goes = claim_falls (tries_page begun h.topics.claim) begun h.state.sizes h.topics v goes (word_there begun h.state.sizes h.topics.claim R.sizes K.3)
+fault_falls Fill h gfn v write small R K goes = fill_falls h.state.sizes h.topics v K.2.owned K.2.is K.2.left
+fault_falls Link h gfn v write small R K goes =
+    let low : K.2.owned.page < 2 ^ 32 = let page = R.page K.2.owned K.2.is in let most = R.sizes.pool.1 in omega (arith, page, most) in
+    link_falls (v == h.topics.walk.entry) h.state.sizes h.topics gfn v K.2.owned K.1.upper K.2.is low
+fault_falls Leaf h gfn v write small R K goes = leaf_put (v == h.topics.walk.entry) h.state.sizes (entry_word h.state.sizes gfn h.topics.walk) h.topics.walk.entry v _
+fault_falls _ h gfn v write small R K goes = omega arith
+
+pub fault_is_bounded : (z : Sizes) (t : Topics) → AreSizes z → fault_left Begin z t ≤ 8192 + z.pool
+fault_is_bounded z t S = let most = S.pool.1 in omega (arith, most)

@@ -1,0 +1,398 @@
+-- Behind each of its steps a fault knows what its next place asks.
+use Rattle.std.proofs.Common.{◌≡◌, ◌⊎◌, inl, inr, ◌+◌, ◌-◌, ◌*◌, ◌/◌, ◌%◌, ◌^◌, ◌<◌, ◌≤◌, ℕ, refl, sym, subst, ap, ◌∙◌, arith}
+use Rattle.std.specs.Prelude.{Bool, true, false, ◌==◌, ◌&&◌, ◌||◌, nat_le, nat_lt, not, if◌then◌else◌, Option, Some, None, is_some}
+use Rattle.std.proofs.lemmas.Bool.Decides.{nat_tests}
+use Rattle.core_views.specs.declared.place.Cause.TheVariants.{Open, Moved, Entry}
+use Rattle.core_views.specs.declared.place.CheckStage.{CheckStage}
+use Rattle.core_views.specs.declared.place.CheckStage.TheVariants as stage
+use Rattle.core_views.specs.declared.place.FaultEnd.{FaultEnd}
+use Rattle.core_views.specs.declared.place.FaultEnd.TheVariants.{Installed, Mmio, HostFault, Starved, Retry}
+use Rattle.core_views.specs.declared.place.FaultPlace.{FaultPlace}
+use Rattle.core_views.specs.declared.place.FaultPlace.TheVariants.{Begin, Snapshot, Find, Host, Share, Check, Walk, Claim, Fill, Link, Give, Leaf, Unshare, End}
+use Rattle.core_views.specs.declared.place.SlotField.{SlotField}
+use Rattle.core_views.specs.declared.place.SlotField.TheVariants as field
+use Rattle.core_views.specs.declared.sizes.Sizes.{Sizes}
+use Rattle.core_views.specs.declared.topics.Checked.{Checked}
+use Rattle.core_views.specs.declared.topics.Checked.TheVariants as checked
+use Rattle.core_views.specs.declared.topics.Hold.{Hold}
+use Rattle.core_views.specs.declared.topics.Hold.TheVariants.{Loose, Shared, Owing}
+use Rattle.core_views.specs.declared.topics.HostLook.{HostLook}
+use Rattle.core_views.specs.declared.topics.Invalidations.{Invalidations}
+use Rattle.core_views.specs.declared.topics.OwnedPage.{OwnedPage}
+use Rattle.core_views.specs.declared.topics.Stay.{Stay}
+use Rattle.core_views.specs.declared.topics.Stay.TheVariants.{Section}
+use Rattle.core_views.specs.declared.topics.TableWalk.{TableWalk}
+use Rattle.core_views.specs.declared.topics.Topics.{Topics}
+use Rattle.core_views.specs.declared.trace.Slot.{Slot}
+use Rattle.core_views.specs.Held.{Held}
+use Rattle.core_views.specs.Slots.{contains}
+use Rattle.spte_words.specs.declared.area.Area.{Area}
+use Rattle.spte_words.specs.declared.spte_kind.SpteKind.{SpteKind}
+use Rattle.spte_words.specs.declared.spte_kind.SpteKind.TheVariants as entry_kind
+use Rattle.spte_words.specs.Areas.{words_of_bits}
+use Rattle.spte_words.specs.Bits.{has_bit}
+use Rattle.spte_words.specs.Entries.{frozen_word, is_leaf_at, kind_of, level_span, table_word}
+use Rattle.spte_words.specs.HostWords.{host_allows_write, host_frame}
+use Rattle.spte_words.proofs.ReadsEntries.{kind_of_leaf, kind_of_table, leaf_can_write}
+use Rattle.spte_words.proofs.Spans.{span_1, span_2, span_3, span_4}
+use Rattle.part_steps.specs.declared.part_step.PartStep.{PartStep}
+use Rattle.part_steps.specs.declared.part_step.PartStep.TheVariants as part
+use Rattle.mmu_core.specs.lines.FaultKnows.{CheckKnows, EndKnows, Entering, FaultKnows, Filling, InSection, KnowsNext, LookedFor, SawNone, Sharing, WithoutLock, is_trying}
+use Rattle.mmu_core.specs.lines.FaultLaws.{CanAnswer}
+use Rattle.mmu_core.specs.lines.FaultSteps.{allows_access, at_map_word, check_next, check_part, claim_next, entry_word, fault_next, fault_part, find_next, map_word, share_next, share_part, snapshot_taken, table_value, tries_page, walk_next}
+use Rattle.part_steps.specs.PartBounds.{PartRests}
+use Rattle.part_steps.specs.PartSteps.{FoundSlot, HoldsSet, IsOver, LookedUp, SawEntry, entry_index, leaf_written, link_written, page_owned, part_task, word_looked, words_filled}
+use Rattle.part_steps.specs.PartTopics.{exchanged, part_topics, sequenced}
+use Rattle.part_steps.specs.SlotWords.{leaf_of, may_write, page_of}
+use Rattle.part_steps.specs.TopicSteps.{at_root, at_set, count_checked, filled_more, gone_down, has_writer, is_loose, is_outside, is_section, is_won, kept_search, kept_walk, let_go, linked_page, may_search, may_walk, range_checked, searched, searched_at, seq_checked, start_checked, unchecked, unless_linked}
+use Rattle.mmu_core.specs.machine.View.{answer_in}
+use Rattle.mmu_core.proofs.words.PartWords.{fill_answers}
+use Rattle.mmu_core.proofs.lines.FaultSame.{both, ends_same, is_not, not_not, not_then, over_it, same_entering, same_looked, same_none, same_sharing, same_without}
+
+-- the section, and the snapshot
+without_lock : (t : Topics) (v : ℕ) → InSection t → t.hold ≡ Loose → WithoutLock (sequenced true t v)
+without_lock t v I loose = record { inside = record { section = I.section; owns_none = I.owns_none }; loose = loose; snapshot = refl }
+
+snapshot_known : (t : Topics) (v : ℕ) → InSection t → t.hold ≡ Loose → WithoutLock (sequenced (is_loose t.hold) t v)
+snapshot_known t v I loose = subst (λ (x : Hold). WithoutLock (sequenced (is_loose x) t v)) (sym loose) (without_lock t v I loose)
+
+-- the search
+slots_known : (z : Sizes) (gfn : ℕ) (write b : Bool) (t : Topics) (v : ℕ) → b ≡ true → WithoutLock t → FaultKnows (Find true) z gfn write (record t { search = at_set b t.search v })
+slots_known z gfn write true t v holds W = (same_without t _ refl refl refl refl W, λ _. (refl, omega arith))
+slots_known z gfn write false t v holds W = absurd (cc holds)
+
+find_goes_on : (b : Bool) (z : Sizes) (gfn : ℕ) (write : Bool) (u : Topics) → (u.search.id == 32) ≡ b → u.search.id ≤ 32 → WithoutLock u → HoldsSet u → FaultKnows (if b then End Mmio else Find true) z gfn write u
+find_goes_on true z gfn write u is most W set = (W.inside, W.loose, inr (grind (arith, nat_tests)))
+find_goes_on false z gfn write u is most W set = (W, λ _. (set, grind (arith, nat_tests)))
+
+slot_found : (holds denied : Bool) (z : Sizes) (gfn : ℕ) (write : Bool) (u : Topics) → contains gfn u.search.slot ≡ holds → (write && u.search.slot.read_only) ≡ denied → u.search.whole ≡ true
+    → u.search.id ≤ 32 → WithoutLock u → HoldsSet u
+    → FaultKnows (if holds then (if denied then End Mmio else Host) else if u.search.id == 32 then End Mmio else Find true) z gfn write u
+slot_found true true z gfn write u is denied whole most W set =
+    let D = both write u.search.slot.read_only denied in (W.inside, W.loose, inl (D.0, record { whole = whole; holds = is }, D.1))
+slot_found true false z gfn write u is denied whole most W set = (W, record { whole = whole; holds = is }, denied)
+slot_found false denied z gfn write u is _ whole most W set = find_goes_on (u.search.id == 32) z gfn write u refl most W set
+
+one_further : (live : Bool) (id : ℕ) → id ≤ 31 → (if live then id else id + 1) ≤ 32
+one_further true id low = omega arith
+one_further false id low = omega arith
+
+find_known : (f : SlotField) (z : Sizes) (gfn : ℕ) (write : Bool) (t : Topics) (v : ℕ) → t.search.id ≤ 31 → WithoutLock t → HoldsSet t
+    → FaultKnows (find_next gfn write f (searched_at f t.search v)) z gfn write (record t { search = searched_at f t.search v })
+find_known field.Flags z gfn write t v low W set = find_goes_on ((searched_at field.Flags t.search v).id == 32) z gfn write _ refl (one_further _ t.search.id low) (same_without t _ refl refl refl refl W) set
+find_known field.Host z gfn write t v low W set =
+    slot_found (contains gfn (searched_at field.Host t.search v).slot) (write && t.search.slot.read_only) z gfn write _ refl refl refl (omega arith) (same_without t _ refl refl refl refl W) set
+find_known _ z gfn write t v low W set = find_goes_on (t.search.id == 32) z gfn write _ refl (omega arith) (same_without t _ refl refl refl refl W) set
+
+slot_known : (z : Sizes) (gfn : ℕ) (write b : Bool) (t : Topics) (v : ℕ) → b ≡ true → t.search.id ≤ 31 → WithoutLock t → HoldsSet t
+    → FaultKnows (find_next gfn write t.search.next (searched t.search v)) z gfn write (record t { search = if b then searched t.search v else t.search })
+slot_known z gfn write true t v is low W set = find_known t.search.next z gfn write t v low W set
+slot_known z gfn write false t v is low W set = absurd (cc is)
+
+-- the host word
+host_known : (b : Bool) (z : Sizes) (gfn : ℕ) (write : Bool) (t : Topics) (v : ℕ) → (write && not (host_allows_write v)) ≡ b → WithoutLock t → FoundSlot gfn t → (write && t.search.slot.read_only) ≡ false
+    → FaultKnows (if b then End HostFault else Share) z gfn write (record t { host = Some (record { page = page_of t.search.slot gfn; word = v }) })
+host_known true z gfn write t v is W F may =
+    let D = both write (not (host_allows_write v)) is in (
+      record { section = W.inside.section; owns_none = W.inside.owns_none },
+      W.loose,
+      record {
+        writes = D.0;
+        looked_up = record { found = record { whole = F.whole; holds = F.holds }; word = v; host = refl };
+        forbids = is_not (host_allows_write v) D.1;
+      },
+    )
+host_known false z gfn write t v is W F may = (
+  record { section = W.inside.section; owns_none = W.inside.owns_none },
+  ap (λ (x : Hold). is_trying x) W.loose,
+  record {
+    looked_up = record { found = record { whole = F.whole; holds = F.holds }; word = v; host = refl };
+    allowed = λ w. (not_then write t.search.slot.read_only may w, not_not (host_allows_write v) (not_then write (not (host_allows_write v)) is w));
+    snapshot = W.snapshot;
+  },
+)
+
+-- the lock
+shared_known : (b : Bool) (z : Sizes) (gfn : ℕ) (write : Bool) (t : Topics) (v : ℕ) → InSection t → LookedFor gfn write t
+    → FaultKnows (if b then Share else Check stage.Count) z gfn write (record t { hold = if b then Owing v else Shared; invalidations = unchecked t.invalidations })
+shared_known true z gfn write t v I L = (record { section = I.section; owns_none = I.owns_none }, refl, same_looked gfn write t _ refl refl refl L)
+shared_known false z gfn write t v I L = (record { section = I.section; shares = refl; looked = same_looked gfn write t _ refl refl refl L }, I.owns_none, tt)
+
+kept : (t : Topics) → t.stay ≡ Section → kept_search (is_section t.stay) t.search ≡ t.search
+kept t section = ap (λ (s : Stay). kept_search (is_section s) t.search) section
+
+kept_table : (t : Topics) → t.stay ≡ Section → kept_walk (not (is_outside t.stay)) t.walk ≡ t.walk
+kept_table t section = ap (λ (s : Stay). kept_walk (not (is_outside s)) t.walk) section
+
+share_known : (k : Hold) (z : Sizes) (gfn : ℕ) (write : Bool) (t : Topics) (v : ℕ) → is_trying k ≡ true → InSection t → LookedFor gfn write t
+    → FaultKnows (share_next k v) z gfn write (part_topics (share_part k) t v)
+share_known Loose z gfn write t v try_ I L = shared_known (has_writer v) z gfn write t v I L
+share_known (Owing word) z gfn write t v try_ I L = (record { section = I.section; owns_none = I.owns_none }, refl, same_looked gfn write t _ (kept t I.section) refl refl L)
+share_known _ z gfn write t v try_ I L = absurd (cc try_)
+
+-- the check
+count_known : (b : Bool) (z : Sizes) (gfn : ℕ) (write : Bool) (t : Topics) (v : ℕ) → (v == 0) ≡ b → Sharing gfn write t → t.owned ≡ None
+    → FaultKnows (if b then Check stage.Seq else Check stage.Start) z gfn write (record t { invalidations = record t.invalidations { count = v; checked = count_checked t.hold } })
+count_known true z gfn write t v is S none = (same_sharing gfn write t _ refl refl refl refl refl S, none, inl (ap (λ (x : Hold). count_checked x) S.shares, grind (arith, nat_tests)))
+count_known false z gfn write t v is S none = (same_sharing gfn write t _ refl refl refl refl refl S, none, (ap (λ (x : Hold). count_checked x) S.shares, grind (arith, nat_tests)))
+
+past : (start gfn end_ : ℕ) → (nat_le start gfn && nat_lt gfn end_) ≡ false → (gfn < start) ⊎ (end_ ≤ gfn)
+past start gfn end_ e = by (nat_le start gfn) refl
+  where
+    by : (b : Bool) → nat_le start gfn ≡ b → (gfn < start) ⊎ (end_ ≤ gfn)
+    by true is = inr (grind (arith, nat_tests))
+    by false is = inl (grind (arith, nat_tests))
+
+range_known : (b : Bool) (z : Sizes) (gfn : ℕ) (write : Bool) (t : Topics) (v : ℕ) → (nat_le t.invalidations.start gfn && nat_lt gfn v) ≡ b → Sharing gfn write t → t.owned ≡ None → CheckKnows stage.End gfn t.invalidations
+    → FaultKnows (if b then Unshare (Retry (Open t.invalidations.count t.invalidations.start v gfn)) else Check stage.Seq) z gfn write (record t { invalidations = record t.invalidations { end = v; checked = range_checked t.invalidations.checked } })
+range_known true z gfn write t v is S none K =
+    let O = over_it t.invalidations.start gfn v is in (record { section = S.section; owns_none = none }, S.shares, (refl, K.1, O.0, O.1, refl, refl, refl))
+range_known false z gfn write t v is S none K =
+    (same_sharing gfn write t _ refl refl refl refl refl S, none, inr (ap (λ (x : Checked). range_checked x) K.0, past t.invalidations.start gfn v is))
+
+taken : (s : Option ℕ) → is_some s ≡ true → s ≡ Some (snapshot_taken s)
+taken None is = absurd (cc is)
+taken (Some n) is = refl
+
+none_open : (n : Invalidations) (gfn : ℕ) → CheckKnows stage.Seq gfn n → (seq_checked n.count n.checked ≡ checked.All) × ((n.count ≡ 0) ⊎ (gfn < n.start) ⊎ (n.end ≤ gfn))
+none_open n gfn (inl c) = (ap (λ (x : Checked). seq_checked n.count x) c.0 ∙ ap (λ m. seq_checked m checked.Count) c.1, inl c.1)
+none_open n gfn (inr c) = (ap (λ (x : Checked). seq_checked n.count x) c.0, over c.1)
+  where
+    over : (gfn < n.start) ⊎ (n.end ≤ gfn) → (n.count ≡ 0) ⊎ (gfn < n.start) ⊎ (n.end ≤ gfn)
+    over (inl lt) = inr (inl lt)
+    over (inr le) = inr (inr le)
+
+seq_by : (b : Bool) (z : Sizes) (gfn : ℕ) (write : Bool) (t : Topics) (v : ℕ) → (v == snapshot_taken t.invalidations.snapshot) ≡ b → Sharing gfn write t → t.owned ≡ None → CheckKnows stage.Seq gfn t.invalidations
+    → FaultKnows (if b then Walk false else Unshare (Retry (Moved (snapshot_taken t.invalidations.snapshot) v))) z gfn write (sequenced false t v)
+seq_by true z gfn write t v is S none K =
+    let N = none_open t.invalidations gfn K in
+    let same : v ≡ snapshot_taken t.invalidations.snapshot = grind (arith, nat_tests) in (
+      record {
+        sharing = same_sharing gfn write t _ refl refl refl refl refl S;
+        fresh = record { checked_all = N.0; still = taken t.invalidations.snapshot S.looked.snapshot ∙ ap Some (sym same); none_over = N.1 };
+      },
+      none,
+      λ e. absurd (cc e),
+    )
+seq_by false z gfn write t v is S none K =
+    (record { section = S.section; owns_none = none }, S.shares, (taken t.invalidations.snapshot S.looked.snapshot, refl, grind (arith, nat_tests)))
+
+check_known : (at : CheckStage) (z : Sizes) (gfn : ℕ) (write : Bool) (t : Topics) (v : ℕ) → Sharing gfn write t → t.owned ≡ None → CheckKnows at gfn t.invalidations
+    → FaultKnows (check_next at gfn t v) z gfn write (part_topics (check_part at) t v)
+check_known stage.Count z gfn write t v S none K = count_known (v == 0) z gfn write t v refl S none
+check_known stage.Start z gfn write t v S none K = (same_sharing gfn write t _ refl refl refl refl refl S, none, (ap (λ (x : Checked). start_checked x) K.0, K.1))
+check_known stage.End z gfn write t v S none K = range_known (nat_le t.invalidations.start gfn && nat_lt gfn v) z gfn write t v refl S none K
+check_known stage.Seq z gfn write t v S none K =
+    subst (λ (x : Hold). FaultKnows (check_next stage.Seq gfn t v) z gfn write (sequenced (is_loose x) t v)) (sym S.shares) (seq_by (v == snapshot_taken t.invalidations.snapshot) z gfn write t v refl S none K)
+
+-- the walk: a link leads down to the table that has the guest frame's entry of the level below
+down_run : (gfn level : ℕ) → 2 ≤ level → level ≤ 4 → gfn / level_span (level - 1) / 512 ≡ gfn / level_span level / 512 * 512 + gfn / level_span level % 512
+down_run gfn level from to = by (level == 2) (level == 3) refl refl
+  where
+    by : (two three : Bool) → (level == 2) ≡ two → (level == 3) ≡ three → gfn / level_span (level - 1) / 512 ≡ gfn / level_span level / 512 * 512 + gfn / level_span level % 512
+    by true three is other = let e : level ≡ 2 = grind (arith, nat_tests) in rw e (rw (span_1, span_2) (omega arith))
+    by false true is other = let e : level ≡ 3 = grind (arith, nat_tests) in rw e (rw (span_2, span_3) (omega arith))
+    by false false is other = let e : level ≡ 4 = grind (arith, nat_tests) in rw e (rw (span_3, span_4) (omega arith))
+
+-- At the lowest level nothing is a link.
+no_link : (w page : ℕ) → kind_of 1 w ≡ entry_kind.Table page → ⊥
+unfolding kind_of is_leaf_at
+no_link w page e = by (w == frozen_word) (has_bit 11 w) e
+  where
+    by : (frozen present : Bool) → (if frozen then entry_kind.Frozen else if present then entry_kind.Leaf else entry_kind.Absent) ≡ entry_kind.Table page → ⊥
+    by true present f = cc f
+    by false true f = cc f
+    by false false f = cc f
+
+pub above_lowest : (level w page : ℕ) → 1 ≤ level → kind_of level w ≡ entry_kind.Table page → 2 ≤ level
+above_lowest level w page from e = by (level == 1) refl
+  where
+    by : (b : Bool) → (level == 1) ≡ b → 2 ≤ level
+    by true is = let one : level ≡ 1 = grind (arith, nat_tests) in absurd (no_link w page (subst (λ l. kind_of l w ≡ entry_kind.Table page) one e))
+    by false is = grind (arith, nat_tests)
+
+pub gone_over : (gfn page v : ℕ) (walk : TableWalk) → 2 ≤ walk.level → walk.level ≤ 4 → IsOver gfn walk → IsOver gfn (gone_down (Some page) walk (entry_index gfn walk.level) v)
+gone_over gfn page v walk from to O = record {
+  small = O.small;
+  there = omega arith;
+  run = down_run gfn walk.level from to ∙ ap (λ n. n * 512 + gfn / level_span walk.level % 512) O.run;
+}
+
+pub root_over : (gfn v : ℕ) (walk : TableWalk) → gfn < 2 ^ 36 → IsOver gfn (at_root true walk v)
+root_over gfn v walk small = record { small = small; there = omega arith; run = rw span_4 (omega arith) }
+
+root_known : (b : Bool) (z : Sizes) (gfn : ℕ) (write : Bool) (t : Topics) (v : ℕ) → b ≡ true → gfn < 2 ^ 36 → Entering gfn write t → t.owned ≡ None
+    → FaultKnows (Walk true) z gfn write (record t { walk = at_root b t.walk v })
+root_known true z gfn write t v is small E none = (same_entering gfn write t _ refl refl refl refl refl E, none, λ _. root_over gfn v t.walk small)
+root_known false z gfn write t v is small E none = absurd (cc is)
+
+-- the guest frame's entry was loaded
+saw_it : (gfn v : ℕ) (walk : TableWalk) → IsOver gfn walk → SawEntry gfn (gone_down None walk (entry_index gfn walk.level) v)
+saw_it gfn v walk O = record { over = record { small = O.small; there = O.there; run = O.run }; loaded = refl }
+
+leaf_seen : (lowest allows : Bool) (z : Sizes) (gfn : ℕ) (write : Bool) (t : Topics) (v : ℕ) → (t.walk.level == 1) ≡ lowest → allows_access write v ≡ allows → kind_of t.walk.level v ≡ entry_kind.Leaf
+    → Entering gfn write t → t.owned ≡ None → IsOver gfn t.walk
+    → FaultKnows (if lowest then (if allows then Unshare Installed else Leaf) else Unshare (Retry (Entry (entry_word z gfn t.walk) v v))) z gfn write (record t { walk = gone_down None t.walk (entry_index gfn t.walk.level) v })
+leaf_seen true true z gfn write t v low may is E none O =
+    let one : t.walk.level ≡ 1 = grind (arith, nat_tests) in
+    (record { section = E.sharing.section; owns_none = none }, E.sharing.shares, record { saw = saw_it gfn v t.walk O; lowest = one; leaf = subst (λ l. kind_of l v ≡ entry_kind.Leaf) one is; allows = may })
+leaf_seen true false z gfn write t v low may is E none O =
+    (same_entering gfn write t _ refl refl refl refl refl E, none, saw_it gfn v t.walk O, grind (arith, nat_tests))
+leaf_seen false allows z gfn write t v low may is E none O =
+    let from : 1 ≤ t.walk.level = O.there in
+    (record { section = E.sharing.section; owns_none = none }, E.sharing.shares, record { saw = saw_it gfn v t.walk O; is_entry = refl; holds = refl; why = inr (inr (is, grind (arith, nat_tests))) })
+
+none_seen : (lowest : Bool) (z : Sizes) (gfn : ℕ) (write : Bool) (t : Topics) (v : ℕ) → (t.walk.level == 1) ≡ lowest → kind_of t.walk.level v ≡ entry_kind.Absent → Entering gfn write t → t.owned ≡ None → IsOver gfn t.walk
+    → FaultKnows (if lowest then Leaf else Claim false) z gfn write (record t { walk = gone_down None t.walk (entry_index gfn t.walk.level) v })
+none_seen true z gfn write t v low is E none O = (same_entering gfn write t _ refl refl refl refl refl E, none, saw_it gfn v t.walk O, grind (arith, nat_tests))
+none_seen false z gfn write t v low is E none O =
+    let from : 1 ≤ t.walk.level = O.there in
+    (same_entering gfn write t _ refl refl refl refl refl E, none, record { saw = saw_it gfn v t.walk O; upper = grind (arith, nat_tests); absent = is }, λ e. absurd (cc e))
+
+walk_known : (k : SpteKind) (z : Sizes) (gfn : ℕ) (write : Bool) (t : Topics) (v : ℕ) → kind_of t.walk.level v ≡ k → t.walk.level ≤ 4 → Entering gfn write t → t.owned ≡ None → IsOver gfn t.walk
+    → FaultKnows (walk_next k z gfn write t.walk v) z gfn write (record t { walk = gone_down (linked_page k) t.walk (entry_index gfn t.walk.level) v })
+walk_known (entry_kind.Table page) z gfn write t v is most E none O =
+    (same_entering gfn write t _ refl refl refl refl refl E, none, λ _. gone_over gfn page v t.walk (above_lowest t.walk.level v page O.there is) most O)
+walk_known entry_kind.Leaf z gfn write t v is most E none O = leaf_seen (t.walk.level == 1) (allows_access write v) z gfn write t v refl refl is E none O
+walk_known entry_kind.Absent z gfn write t v is most E none O = none_seen (t.walk.level == 1) z gfn write t v refl is E none O
+walk_known entry_kind.Frozen z gfn write t v is most E none O = (record { section = E.sharing.section; owns_none = none }, E.sharing.shares, record { saw = saw_it gfn v t.walk O; is_entry = refl; holds = refl; why = inr (inl is) })
+
+-- the claim
+tried_known : (won : Bool) (z : Sizes) (gfn : ℕ) (write : Bool) (t : Topics) (page v : ℕ) → Entering gfn write t → t.owned ≡ None → SawNone gfn t → t.claim.at < words_of_bits z.pool
+    → FaultKnows (if won then Fill else Claim true) z gfn write (record t {
+      owned = if won then Some (record { page = page; filled = 0; absent = true; role = 0 }) else None;
+      claim = record { at = if won then 0 else t.claim.at; seen = if won then 0 else v };
+    })
+tried_known true z gfn write t page v E none S low =
+    (same_entering gfn write t _ refl refl refl refl refl E, same_none gfn t _ refl S, record { owned = record { page = page; filled = 0; absent = true; role = 0 }; is = refl; left = omega arith; absent = refl })
+tried_known false z gfn write t page v E none S low = (same_entering gfn write t _ refl refl refl refl refl E, refl, same_none gfn t _ refl S, λ _. low)
+
+mapped_known : (more : Bool) (z : Sizes) (gfn at v : ℕ) (write : Bool) (t : Topics) → nat_lt at (words_of_bits z.pool) ≡ more → Entering gfn write t → t.owned ≡ None → SawNone gfn t
+    → FaultKnows (if more then Claim true else Unshare Starved) z gfn write (record t { claim = record { at = at; seen = v } })
+mapped_known true z gfn at v write t is E none S = (same_entering gfn write t _ refl refl refl refl refl E, none, same_none gfn t _ refl S, λ _. grind (arith, nat_tests))
+mapped_known false z gfn at v write t is E none S = (record { section = E.sharing.section; owns_none = none }, E.sharing.shares, grind (arith, nat_tests))
+
+claim_by : (tries : Bool) (b : Bool) (z : Sizes) (gfn : ℕ) (write : Bool) (t : Topics) (v : ℕ) → tries_page b t.claim ≡ tries → Entering gfn write t → t.owned ≡ None → SawNone gfn t → (b ≡ true → t.claim.at < words_of_bits z.pool)
+    → FaultKnows (claim_next tries z (at_map_word b t.claim) v) z gfn write (part_topics (if tries then part.Claim else part.Map (map_word b t.claim)) t v)
+claim_by true b z gfn write t v is E none S low = tried_known (is_won t.claim v) z gfn write t _ v E none S (low (both b (nat_lt 0 t.claim.seen) is).0)
+claim_by false b z gfn write t v is E none S low = mapped_known (nat_lt _ (words_of_bits z.pool)) z gfn _ v write t refl E none S
+
+-- the page's words
+next_absent : (filled v : ℕ) (absent few : Bool) → nat_lt filled 512 ≡ few → absent ≡ true → (few ≡ true → v ≡ 0) → (absent && (nat_le 512 filled || v == 0)) ≡ true
+next_absent filled v true true is absent zero_ = let e : v ≡ 0 = zero_ refl in grind (arith, nat_tests)
+next_absent filled v true false is absent zero_ = grind (arith, nat_tests)
+next_absent filled v false few is absent zero_ = absurd (cc absent)
+
+fill_by_one : (few : Bool) (z : Sizes) (gfn : ℕ) (write : Bool) (t : Topics) (o : OwnedPage) (v : ℕ) → nat_lt o.filled 512 ≡ few → v ≡ (if few then 0 else t.walk.level - 1) → Entering gfn write t → SawNone gfn t → o.filled < 513 → o.absent ≡ true
+    → FaultKnows (if few then Fill else Link) z gfn write (record t { owned = filled_more (Some o) v })
+fill_by_one true z gfn write t o v is value E S left absent = (
+  same_entering gfn write t _ refl refl refl refl refl E,
+  same_none gfn t _ refl S,
+  record {
+    owned = record { page = o.page; filled = o.filled + 1; absent = o.absent && (nat_le 512 o.filled || v == 0); role = if o.filled == 512 then v else o.role };
+    is = refl;
+    left = grind (arith, nat_tests);
+    absent = next_absent o.filled v o.absent true is absent (λ _. value);
+  },
+)
+fill_by_one false z gfn write t o v is value E S left absent =
+    let whole : o.filled ≡ 512 = grind (arith, nat_tests) in
+    let last : (o.filled == 512) ≡ true = grind (arith, nat_tests) in (
+      same_entering gfn write t _ refl refl refl refl refl E,
+      same_none gfn t _ refl S,
+      record {
+        owned = record { page = o.page; filled = o.filled + 1; absent = o.absent && (nat_le 512 o.filled || v == 0); role = if o.filled == 512 then v else o.role };
+        is = refl;
+        whole = omega arith;
+        absent = next_absent o.filled v o.absent false is absent (λ e. absurd (cc e));
+        role = ap (λ (b : Bool). if b then v else o.role) last ∙ value;
+      },
+    )
+
+fill_known : (z : Sizes) (gfn : ℕ) (write : Bool) (t : Topics) (v : ℕ) → v ≡ table_value t → Entering gfn write t → SawNone gfn t → (F : Filling t)
+    → FaultKnows (if nat_lt (words_filled t.owned) 512 then Fill else Link) z gfn write (record t { owned = filled_more t.owned v })
+fill_known z gfn write t v value E S F =
+    subst (λ (x : Option OwnedPage). v ≡ (if nat_lt (words_filled x) 512 then 0 else t.walk.level - 1) → FaultKnows (if nat_lt (words_filled x) 512 then Fill else Link) z gfn write (record t { owned = filled_more x v }))
+    (sym F.is) (λ is. fill_by_one (nat_lt F.owned.filled 512) z gfn write t F.owned v refl is E S F.left F.absent) value
+
+-- the link
+link_won : (z : Sizes) (gfn : ℕ) (write : Bool) (t : Topics) (v : ℕ) → t.walk.level ≤ 4 → Entering gfn write t → SawNone gfn t → (o : OwnedPage) → t.owned ≡ Some o → o.page < 2 ^ 32
+    → FaultKnows (Walk true) z gfn write (exchanged true (entry_index gfn t.walk.level) (link_written t) t v)
+link_won z gfn write t v most E S o is small =
+    subst (λ (k : SpteKind). FaultKnows (Walk true) z gfn write (record t { walk = gone_down (linked_page k) t.walk (entry_index gfn t.walk.level) (link_written t); owned = unless_linked (linked_page k) t.owned }))
+    (sym linked)
+    (same_entering gfn write t _ refl refl refl refl refl E, refl, λ _. gone_over gfn o.page (link_written t) t.walk S.upper most S.saw.over)
+  where
+    linked : kind_of t.walk.level (link_written t) ≡ entry_kind.Table o.page
+    linked = ap (λ (x : Option OwnedPage). kind_of t.walk.level (table_word (page_owned x))) is ∙ kind_of_table t.walk.level o.page S.upper small
+
+link_known : (b : Bool) (z : Sizes) (gfn : ℕ) (write : Bool) (t : Topics) (v : ℕ) → (v == t.walk.entry) ≡ b → t.walk.level ≤ 4 → Entering gfn write t → SawNone gfn t → (o : OwnedPage) → t.owned ≡ Some o → o.page < 2 ^ 32
+    → FaultKnows (if b then Walk true else Give (Retry (Entry (entry_word z gfn t.walk) t.walk.entry v))) z gfn write (exchanged b (entry_index gfn t.walk.level) (link_written t) t v)
+link_known true z gfn write t v is most E S o owned small = link_won z gfn write t v most E S o owned small
+link_known false z gfn write t v is most E S o owned small =
+    (E.sharing.section, E.sharing.shares, ap (λ (x : Option OwnedPage). is_some x) owned, record { saw = saw_it gfn v t.walk S.saw.over; is_entry = refl; holds = refl; why = inl (grind (arith, nat_tests)) })
+
+-- the leaf
+pub allowed_leaf : (write : Bool) (slot : Slot) (word : ℕ) → (write ≡ true → (slot.read_only ≡ false) × (host_allows_write word ≡ true)) → allows_access write (leaf_of slot word) ≡ true
+allowed_leaf false slot word may = refl
+allowed_leaf true slot word may =
+    let M = may refl in
+    leaf_can_write 1 (host_frame word) (may_write slot word) (host_allows_write word) (may_write slot word) ∙ ap (λ (b : Bool). b && not slot.read_only) M.1 ∙ ap (λ (b : Bool). not b) M.0
+
+leaf_won : (z : Sizes) (gfn : ℕ) (write : Bool) (t : Topics) (v : ℕ) → Entering gfn write t → t.owned ≡ None → SawEntry gfn t.walk → t.walk.level ≡ 1
+    → FaultKnows (Unshare Installed) z gfn write (exchanged true (entry_index gfn t.walk.level) (leaf_written t) t v)
+leaf_won z gfn write t v E none S low =
+    subst (λ (k : SpteKind). FaultKnows (Unshare Installed) z gfn write (record t { walk = gone_down (linked_page k) t.walk (entry_index gfn t.walk.level) (leaf_written t); owned = unless_linked (linked_page k) t.owned }))
+    (sym stays)
+    (record { section = E.sharing.section; owns_none = none }, E.sharing.shares, record { saw = saw_it gfn (leaf_written t) t.walk S.over; lowest = low; leaf = leaf; allows = allows })
+  where
+    L : LookedUp gfn t
+    L = E.sharing.looked.looked_up
+
+    leaf : kind_of 1 (leaf_written t) ≡ entry_kind.Leaf
+    leaf = kind_of_leaf 1 (host_frame (word_looked t.host)) (may_write t.search.slot (word_looked t.host)) (host_allows_write (word_looked t.host)) (may_write t.search.slot (word_looked t.host)) (omega arith) (omega arith)
+
+    stays : kind_of t.walk.level (leaf_written t) ≡ entry_kind.Leaf
+    stays = ap (λ l. kind_of l (leaf_written t)) low ∙ leaf
+
+    allows : allows_access write (leaf_written t) ≡ true
+    allows = ap (λ (x : Option HostLook). allows_access write (leaf_of t.search.slot (word_looked x))) L.host ∙ allowed_leaf write t.search.slot L.word E.sharing.looked.allowed
+
+leaf_known : (b : Bool) (z : Sizes) (gfn : ℕ) (write : Bool) (t : Topics) (v : ℕ) → (v == t.walk.entry) ≡ b → Entering gfn write t → t.owned ≡ None → SawEntry gfn t.walk → t.walk.level ≡ 1
+    → FaultKnows (if b then Unshare Installed else Unshare (Retry (Entry (entry_word z gfn t.walk) t.walk.entry v))) z gfn write (exchanged b (entry_index gfn t.walk.level) (leaf_written t) t v)
+leaf_known true z gfn write t v is E none S low = leaf_won z gfn write t v E none S low
+leaf_known false z gfn write t v is E none S low =
+    (record { section = E.sharing.section; owns_none = none }, E.sharing.shares, record { saw = saw_it gfn v t.walk S.over; is_entry = refl; holds = refl; why = inl (grind (arith, nat_tests)) })
+
+-- the lock given back, and the section's end
+unshare_known : (e : FaultEnd) (z : Sizes) (gfn : ℕ) (write : Bool) (t : Topics) → InSection t → EndKnows e z gfn write t → FaultKnows (End e) z gfn write (let_go t)
+unshare_known e z gfn write t I K =
+    (record { section = I.section; owns_none = I.owns_none }, refl, ends_same e z gfn write t _ (kept_table t I.section) (kept t I.section) refl refl refl K)
+
+pub fault_known : (p : FaultPlace) (h : Held) (gfn v : ℕ) (write : Bool) → gfn < 2 ^ 36 → PartRests h → FaultKnows p h.state.sizes gfn write h.topics → CanAnswer (fault_part p gfn h.topics) v
+    → KnowsNext (fault_next p h.state.sizes gfn write h.topics v) h.state.sizes gfn write (part_topics (fault_part p gfn h.topics) h.topics v)
+fault_known Begin h gfn v write small R K A = (record { section = refl; owns_none = K.owns_none }, K.loose)
+fault_known Snapshot h gfn v write small R K A = (snapshot_known h.topics v K.0 K.1, λ e. absurd (cc e))
+fault_known (Find true) h gfn v write small R K A = let set = K.1 refl in slot_known h.state.sizes gfn write (is_some h.topics.search.set) h.topics v set.0 set.1 K.0 set.0
+fault_known (Find false) h gfn v write small R K A =
+    slots_known h.state.sizes gfn write (may_search h.topics.stay h.topics.hold) h.topics v (ap (λ (s : Stay). may_search s h.topics.hold) K.0.inside.section) K.0
+fault_known Host h gfn v write small R K A = host_known (write && not (host_allows_write v)) h.state.sizes gfn write h.topics v refl K.0 K.1 K.2
+fault_known Share h gfn v write small R K A = share_known h.topics.hold h.state.sizes gfn write h.topics v K.1 K.0 K.2
+fault_known (Check at) h gfn v write small R K A = check_known at h.state.sizes gfn write h.topics v K.0 K.1 K.2
+fault_known (Walk true) h gfn v write small R K A = walk_known (kind_of h.topics.walk.level v) h.state.sizes gfn write h.topics v refl R.level K.0 K.1 (K.2 refl)
+fault_known (Walk false) h gfn v write small R K A =
+    root_known (may_walk h.topics.stay h.topics.hold) h.state.sizes gfn write h.topics v (ap (λ (s : Stay). may_walk s h.topics.hold) K.0.sharing.section) small K.0 K.1
+fault_known (Claim begun) h gfn v write small R K A = claim_by (tries_page begun h.topics.claim) begun h.state.sizes gfn write h.topics v refl K.0 K.1 K.2 K.3
+fault_known Fill h gfn v write small R K A = fill_known h.state.sizes gfn write h.topics v A K.0 K.1 K.2
+fault_known Link h gfn v write small R K A =
+    let low : K.2.owned.page < 2 ^ 32 = let page = R.page K.2.owned K.2.is in let most = R.sizes.pool.1 in omega (arith, page, most) in
+    link_known (v == h.topics.walk.entry) h.state.sizes gfn write h.topics v refl R.level K.0 K.1 K.2.owned K.2.is low
+fault_known (Give e) h gfn v write small R K A = (record { section = K.0; owns_none = refl }, K.1, ends_same e h.state.sizes gfn write h.topics _ refl refl refl refl refl K.3)
+fault_known Leaf h gfn v write small R K A = leaf_known (v == h.topics.walk.entry) h.state.sizes gfn write h.topics v refl K.0 K.1 K.2 K.3
+fault_known (Unshare e) h gfn v write small R K A = unshare_known e h.state.sizes gfn write h.topics K.0 K.2
+fault_known (End e) h gfn v write small R K A = record { outside = refl; loose = K.1; owns_none = K.0.owns_none; no_table = refl; no_set = refl }
+
+-- A fill answers what it stored.
+pub parts_answer : (step : PartStep) (own : ℕ) (t : Topics) (note : ℕ) (words : Area → ℕ → ℕ) → CanAnswer step (answer_in (part_task step own t note) words)
+parts_answer (part.Fill value) own t note words = fill_answers (words_filled t.owned == 512) (page_owned t.owned) (words_filled t.owned) value note words
+parts_answer _ own t note words = tt

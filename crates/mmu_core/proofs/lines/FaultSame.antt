@@ -1,0 +1,108 @@
+-- What a fault knows of topics it knows of other topics that are the same in what this speaks of.
+use Rattle.std.proofs.Common.{◌≡◌, inl, inr, ◌<◌, ◌≤◌, ℕ, refl, sym, subst, ap, ◌∙◌, arith}
+use Rattle.std.specs.Prelude.{Bool, true, false, ◌&&◌, nat_le, nat_lt, not, Option, Some, is_some}
+use Rattle.std.proofs.lemmas.Bool.Decides.{nat_tests}
+use Rattle.core_views.specs.declared.place.Cause.TheVariants.{Open, Moved, Entry}
+use Rattle.core_views.specs.declared.place.FaultEnd.{FaultEnd}
+use Rattle.core_views.specs.declared.place.FaultEnd.TheVariants.{Installed, Mmio, HostFault, Starved, Retry}
+use Rattle.core_views.specs.declared.sizes.Sizes.{Sizes}
+use Rattle.core_views.specs.declared.topics.HostLook.{HostLook}
+use Rattle.core_views.specs.declared.topics.Invalidations.{Invalidations}
+use Rattle.core_views.specs.declared.topics.SlotSearch.{SlotSearch}
+use Rattle.core_views.specs.declared.topics.TableWalk.{TableWalk}
+use Rattle.core_views.specs.declared.topics.Topics.{Topics}
+use Rattle.core_views.specs.Slots.{contains}
+use Rattle.spte_words.specs.Areas.{words_of_bits}
+use Rattle.spte_words.specs.Entries.{kind_of}
+use Rattle.mmu_core.specs.lines.FaultKnows.{EndKnows, Entering, FoundNoPage, IsInTheWay, LookedFor, SawNone, Sharing, WithoutLock}
+use Rattle.mmu_core.specs.lines.FaultSteps.{allows_access}
+use Rattle.part_steps.specs.PartSteps.{FoundSlot, IsFresh, LookedUp, SawEntry}
+use Rattle.part_steps.specs.SlotWords.{page_of}
+use Rattle.part_steps.specs.TopicSteps.{unchecked}
+
+-- Tests of two truths.
+pub both : (a b : Bool) → (a && b) ≡ true → (a ≡ true) × (b ≡ true)
+both true b e = (refl, e)
+both false b e = absurd (cc e)
+
+pub not_then : (a b : Bool) → (a && b) ≡ false → a ≡ true → b ≡ false
+not_then true b e is = e
+not_then false b e is = absurd (cc is)
+
+pub not_not : (b : Bool) → not b ≡ false → b ≡ true
+not_not true e = refl
+not_not false e = absurd (cc e)
+
+pub is_not : (b : Bool) → not b ≡ true → b ≡ false
+is_not true e = absurd (cc e)
+is_not false e = refl
+
+pub over_it : (start gfn end_ : ℕ) → (nat_le start gfn && nat_lt gfn end_) ≡ true → (start ≤ gfn) × (gfn < end_)
+over_it start gfn end_ e = let B = both (nat_le start gfn) (nat_lt gfn end_) e in (grind (arith, nat_tests), grind (arith, nat_tests))
+
+-- What was found of the slot, looked up and allowed is so of other topics with the same search and host word.
+pub same_found : (gfn : ℕ) (t u : Topics) → u.search ≡ t.search → FoundSlot gfn t → FoundSlot gfn u
+same_found gfn t u search F = record {
+  whole = ap (λ (s : SlotSearch). s.whole) search ∙ F.whole;
+  holds = ap (λ (s : SlotSearch). contains gfn s.slot) search ∙ F.holds;
+}
+
+abbrev pub same_looked_up : (gfn : ℕ) (t u : Topics) → u.search ≡ t.search → u.host ≡ t.host → LookedUp gfn t → LookedUp gfn u
+same_looked_up gfn t u search host L =
+    let look : SlotSearch → Option HostLook = λ s. Some (record { page = page_of s.slot gfn; word = L.word }) in
+    record { found = same_found gfn t u search L.found; word = L.word; host = host ∙ L.host ∙ ap look (sym search) }
+
+pub same_looked : (gfn : ℕ) (write : Bool) (t u : Topics) → u.search ≡ t.search → u.host ≡ t.host → u.invalidations.snapshot ≡ t.invalidations.snapshot → LookedFor gfn write t → LookedFor gfn write u
+same_looked gfn write t u search host snapshot L = record {
+  looked_up = same_looked_up gfn t u search host L.looked_up;
+  allowed = λ w. (ap (λ (s : SlotSearch). s.slot.read_only) search ∙ (L.allowed w).0, (L.allowed w).1);
+  snapshot = ap (λ (x : Option ℕ). is_some x) snapshot ∙ L.snapshot;
+}
+
+pub same_sharing : (gfn : ℕ) (write : Bool) (t u : Topics) → u.stay ≡ t.stay → u.hold ≡ t.hold → u.search ≡ t.search → u.host ≡ t.host → u.invalidations.snapshot ≡ t.invalidations.snapshot → Sharing gfn write t → Sharing gfn write u
+same_sharing gfn write t u stay hold search host snapshot S = record {
+  section = stay ∙ S.section;
+  shares = hold ∙ S.shares;
+  looked = same_looked gfn write t u search host snapshot S.looked;
+}
+
+pub same_entering : (gfn : ℕ) (write : Bool) (t u : Topics) → u.stay ≡ t.stay → u.hold ≡ t.hold → u.search ≡ t.search → u.host ≡ t.host → u.invalidations ≡ t.invalidations → Entering gfn write t → Entering gfn write u
+same_entering gfn write t u stay hold search host n E = record {
+  sharing = same_sharing gfn write t u stay hold search host (ap (λ (x : Invalidations). x.snapshot) n) E.sharing;
+  fresh = subst (IsFresh gfn) (sym n) E.fresh;
+}
+
+pub same_none : (gfn : ℕ) (t u : Topics) → u.walk ≡ t.walk → SawNone gfn t → SawNone gfn u
+same_none gfn t u walk S = record {
+  saw = subst (SawEntry gfn) (sym walk) S.saw;
+  upper = subst (λ (w : TableWalk). 2 ≤ w.level) (sym walk) S.upper;
+  absent = ap (λ (w : TableWalk). kind_of w.level w.entry) walk ∙ S.absent;
+}
+
+-- And so is what an end rests on, where the walk and the claim are the same too, and what was loaded of the invalidations.
+pub same_page : (gfn : ℕ) (write : Bool) (t u : Topics) → u.search ≡ t.search → FoundNoPage gfn write t → FoundNoPage gfn write u
+same_page gfn write t u search (inl n) = inl (n.0, same_found gfn t u search n.1, ap (λ (s : SlotSearch). s.slot.read_only) search ∙ n.2)
+same_page gfn write t u search (inr e) = inr (ap (λ (s : SlotSearch). s.id) search ∙ e)
+
+pub ends_same : (e : FaultEnd) (z : Sizes) (gfn : ℕ) (write : Bool) (t u : Topics) → u.walk ≡ t.walk → u.search ≡ t.search → u.host ≡ t.host → u.claim.at ≡ t.claim.at → unchecked u.invalidations ≡ unchecked t.invalidations
+    → EndKnows e z gfn write t → EndKnows e z gfn write u
+ends_same Installed z gfn write t u walk search host claim n K = record {
+  saw = subst (SawEntry gfn) (sym walk) K.saw;
+  lowest = ap (λ (w : TableWalk). w.level) walk ∙ K.lowest;
+  leaf = ap (λ (w : TableWalk). kind_of 1 w.entry) walk ∙ K.leaf;
+  allows = ap (λ (w : TableWalk). allows_access write w.entry) walk ∙ K.allows;
+}
+ends_same Mmio z gfn write t u walk search host claim n K = same_page gfn write t u search K
+ends_same HostFault z gfn write t u walk search host claim n K = record { writes = K.writes; looked_up = same_looked_up gfn t u search host K.looked_up; forbids = K.forbids }
+ends_same Starved z gfn write t u walk search host claim n K = subst (λ n. words_of_bits z.pool ≤ n) (sym claim) K
+ends_same (Retry (Open count start end_ at)) z gfn write t u walk search host claim n K =
+    (K.0, K.1, K.2, K.3, ap (λ (x : Invalidations). x.count) n ∙ K.4, ap (λ (x : Invalidations). x.start) n ∙ K.5, ap (λ (x : Invalidations). x.end) n ∙ K.6)
+ends_same (Retry (Moved old_ now_)) z gfn write t u walk search host claim n K = (ap (λ (x : Invalidations). x.snapshot) n ∙ K.0, ap (λ (x : Invalidations). x.seq) n ∙ K.1, K.2)
+ends_same (Retry (Entry word read seen)) z gfn write t u walk search host claim n K = subst (IsInTheWay word read seen z gfn) (sym walk) K
+
+pub same_without : (t u : Topics) → u.stay ≡ t.stay → u.owned ≡ t.owned → u.hold ≡ t.hold → u.invalidations ≡ t.invalidations → WithoutLock t → WithoutLock u
+same_without t u stay owned hold n W = record {
+  inside = record { section = stay ∙ W.inside.section; owns_none = owned ∙ W.inside.owns_none };
+  loose = hold ∙ W.loose;
+  snapshot = ap (λ (x : Invalidations). is_some x.snapshot) n ∙ W.snapshot;
+}

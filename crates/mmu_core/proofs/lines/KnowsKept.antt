@@ -1,0 +1,295 @@
+-- Each actor knows what its place asks, behind each step: of its own line, of a part, and of another actor.
+use Rattle.std.proofs.Common.{◌≡◌, ◌^◌, ◌<◌, ◌≤◌, ℕ, length, refl, sym, subst, ap, ◌∙◌}
+use Rattle.std.specs.Prelude.{Bool, true, false, if◌then◌else◌, Option, Some, None}
+use Rattle.circular_buffer.specs.Buffer.{Buffer}
+use Rattle.core_views.specs.declared.actor.Actor.{Actor}
+use Rattle.core_views.specs.declared.actor.Actor.TheVariants.{Vcpu}
+use Rattle.core_views.specs.declared.cache.Translation.{Translation}
+use Rattle.core_views.specs.declared.place.AccessPlace.{AccessPlace}
+use Rattle.core_views.specs.declared.place.AccessPlace.TheVariants.{Enter, Pause, Root, Walk, Touch, Leave, Fault}
+use Rattle.core_views.specs.declared.place.FaultEnd.TheVariants as end_of
+use Rattle.core_views.specs.declared.place.FaultNext.{FaultNext}
+use Rattle.core_views.specs.declared.place.FaultNext.TheVariants as next_of
+use Rattle.core_views.specs.declared.place.Leaving.TheVariants as leaving
+use Rattle.core_views.specs.declared.place.Place.{Place}
+use Rattle.core_views.specs.declared.place.Place.TheVariants as place
+use Rattle.core_views.specs.declared.place.SetSlotPlace.{SetSlotPlace}
+use Rattle.core_views.specs.declared.sizes.Sizes.{Sizes}
+use Rattle.core_views.specs.declared.topics.Stay.{Stay}
+use Rattle.core_views.specs.declared.topics.Stay.TheVariants.{Guest}
+use Rattle.core_views.specs.declared.topics.Topics.{Topics}
+use Rattle.core_views.specs.declared.trace.Command.{Command}
+use Rattle.core_views.specs.declared.trace.Command.TheVariants.{Access, SetSlot}
+use Rattle.core_views.specs.declared.trace.Line.{Line}
+use Rattle.core_views.specs.declared.trace.Op.{Op}
+use Rattle.core_views.specs.declared.trace.Op.TheVariants.{Read}
+use Rattle.core_views.specs.declared.trace.Slot.{Slot}
+use Rattle.core_views.specs.Held.{Held}
+use Rattle.core_views.specs.Sizes.{actors_of}
+use Rattle.core_views.specs.Slots.{is_write}
+use Rattle.core_views.specs.Traces.{IsCommandFor}
+use Rattle.spte_words.specs.declared.area.Area.{Area}
+use Rattle.spte_words.specs.declared.spte_kind.SpteKind.{SpteKind}
+use Rattle.spte_words.specs.declared.spte_kind.SpteKind.TheVariants as entry_kind
+use Rattle.spte_words.specs.Entries.{kind_of}
+use Rattle.mmu_core.specs.declared.outcome.Outcome.{Outcome}
+use Rattle.mmu_core.specs.declared.outcome.Outcome.TheVariants.{Goes, Ends}
+use Rattle.part_steps.specs.declared.task.Task.{Task}
+use Rattle.part_steps.specs.declared.part_step.PartStep.{PartStep}
+use Rattle.part_steps.specs.declared.part_step.PartStep.TheVariants as part
+use Rattle.mmu_core.specs.lines.AccessSteps.{access_note, access_outcome, access_part, access_task, behind_fault, is_found, leaf_used, pause_next, task_by, touch_of, walk_next}
+use Rattle.mmu_core.specs.lines.Cached.{first_usable, flushed, with_leaf}
+use Rattle.mmu_core.specs.lines.FaultKnows.{KnowsNext}
+use Rattle.mmu_core.specs.lines.FaultLaws.{CanAnswer}
+use Rattle.mmu_core.specs.lines.FaultSteps.{allows_access, fault_next}
+use Rattle.mmu_core.specs.invariant.Invariant.{Invariant, KnowsPart, UnderWay, LeavesPart}
+use Rattle.mmu_core.specs.lines.KnowsPart.{AccessKnows, InGuest, LeavesPart, may_leave}
+use Rattle.part_steps.specs.PartBounds.{PartRests}
+use Rattle.part_steps.specs.PartSteps.{IsAtRest, IsOver, IsVcpu, PartNeeds, entry_index, own_index, words_filled}
+use Rattle.part_steps.specs.PartTopics.{part_topics}
+use Rattle.mmu_core.specs.lines.SetSlotSteps.{set_slot_outcome, set_slot_task, set_slot_part, set_slot_first, set_slot_note}
+use Rattle.mmu_core.specs.lines.Rests.{IsUnderWay}
+use Rattle.mmu_core.specs.machine.Steps.{caches_at, first_place, has_line, line_at, outcome_at, place_at, standing, task_at}
+use Rattle.part_steps.specs.Tasks.{kind_of_task}
+use Rattle.mmu_core.specs.machine.Outcomes.{place_after}
+use Rattle.mmu_core.specs.invariant.TopicsInvariant.{TopicsInvariant}
+use Rattle.part_steps.specs.TopicSteps.{at_root, gone_down, linked_page, may_walk, topics_after}
+use Rattle.mmu_core.specs.machine.View.{View, answer_in, hand_after, part_stepped, stepped}
+use Rattle.mmu_core.proofs.machine.Columns.{at_upd}
+use Rattle.mmu_core.proofs.lines.FaultKnown.{above_lowest, fault_known, gone_over, parts_answer, root_over}
+use Rattle.mmu_core.proofs.lines.FaultNeeds.{fault_needs}
+use Rattle.mmu_core.proofs.lines.UsedTranslations.{CachesBehind, flushed_behind, newest_filled}
+use Rattle.mmu_core.proofs.invariant.PartBounded.{part_rests_at}
+use Rattle.mmu_core.proofs.words.PartTopics.{is_there, part_topics_is}
+use Rattle.mmu_core.proofs.machine.Stepping.{IsStep}
+use Rattle.mmu_core.proofs.machine.Which.{has_line_is}
+use Rattle.mmu_core.proofs.machine.HandWith.{hand_with}
+use Rattle.mmu_core.proofs.slots.SetSlotKnown.{SettingKnows, set_slot_known, set_slot_needs}
+use Rattle.mmu_core.specs.lines.SetSlotKnows.{SetSlotKnows}
+use Rattle.part_steps.proofs.SetWords.{value_small}
+use Rattle.mmu_core.proofs.words.SmallSlots.{in_range, record_small}
+use Rattle.core_views.specs.declared.answer.Refusal.{Refusal}
+use Rattle.core_views.specs.Refusals.{set_refusal}
+use Rattle.core_views.specs.SlotSets.{MemorySlots}
+
+-- what is held behind the step of a part, or behind the touch
+abbrev pub behind_part : Option PartStep → Topics → ℕ → Topics
+behind_part None t v = t
+behind_part (Some step) t v = part_topics step t v
+
+abbrev pub CanAnswerBy : Option PartStep → ℕ → Type 0
+CanAnswerBy None v = Unit {0}
+CanAnswerBy (Some step) v = CanAnswer step v
+
+-- what it knows behind a step: at rest, where the line is answered
+abbrev pub KnowsBehind : Outcome → Command → Held → Type 0
+KnowsBehind (Goes p) command h = KnowsPart p command h
+KnowsBehind (Ends answer) command h = IsAtRest h.topics
+
+pub knows_after : (o : Outcome) (command : Command) (h : Held) → KnowsBehind o command h → KnowsPart (place_after o) command h
+knows_after (Goes p) command h K = K
+knows_after (Ends answer) command h K = λ has. K
+
+-- A processor makes accesses.
+pub access_vcpu : (z : Sizes) (actor : Actor) (gfn word : ℕ) (op : Op) → IsCommandFor z actor (Access gfn word op) → IsVcpu actor × (gfn < 2 ^ 36)
+access_vcpu z (Vcpu n) gfn word op may = (tt, may.1)
+access_vcpu z _ gfn word op may = absurd may
+
+-- What an access knows at a place meets the needs of its step.
+abbrev pub NeedsOf : Option PartStep → Held → Type 0
+NeedsOf None h = h.topics.stay ≡ Guest
+NeedsOf (Some step) h = PartNeeds step h
+
+pub access_needs : (p : AccessPlace) (h : Held) (gfn : ℕ) (write : Bool) → IsVcpu h.state.actor → gfn < 2 ^ 36 → PartRests h → AccessKnows p gfn write h → NeedsOf (access_part p gfn h.topics) h
+access_needs (Enter again) h gfn write vcpu small R K = (vcpu, K.outside)
+access_needs (Walk again) h gfn write vcpu small R K = K.1
+access_needs Touch h gfn write vcpu small R K = K.0.guest
+access_needs (Leave how) h gfn write vcpu small R K = K.guest
+access_needs (Fault p) h gfn write vcpu small R K = fault_needs p h gfn write small R K
+access_needs _ h gfn write vcpu small R K = tt
+
+-- The access uses a translation that it has cached, or walks.
+pause_known : (f : Option Translation) (again : Bool) (gfn : ℕ) (write : Bool) (h g : Held) → first_usable gfn write h.cached.items ≡ f → g.cached ≡ h.cached → InGuest g.topics → g.state.leaf ≡ leaf_used f h.state.leaf → AccessKnows (pause_next again f) gfn write g
+pause_known None again gfn write h g is same I leaf = I
+pause_known (Some t) again gfn write h g is same I leaf = (I, record { translation = t; newest = ap (λ (c : Buffer Translation). first_usable gfn write c.items) same ∙ is; leaf = leaf })
+
+-- The walk of a stay goes down by a link, and ends at every other entry; a leaf that allows the access is cached, and used.
+walk_known : (k : SpteKind) (allowed again : Bool) (gfn : ℕ) (write : Bool) (v : ℕ) (t : Topics) (c : Buffer Translation) (g : Held) → 1 ≤ c.capacity → g.cached ≡ (if is_found k allowed then with_leaf gfn t.walk.level v c else c) → kind_of t.walk.level v ≡ k → allows_access write v ≡ allowed → t.walk.level ≤ 4 → IsOver gfn t.walk
+    → InGuest g.topics → g.topics.walk ≡ gone_down (linked_page k) t.walk (entry_index gfn t.walk.level) v → g.state.leaf ≡ v → AccessKnows (walk_next again k allowed) gfn write g
+walk_known (entry_kind.Table page) allowed again gfn write v t c g room cached is may most O I walk leaf = (I, subst (IsOver gfn) (sym walk) (gone_over gfn page v t.walk (above_lowest t.walk.level v page O.there is) most O))
+walk_known entry_kind.Leaf true again gfn write v t c g room cached is may most O I walk leaf = (
+  I,
+  record {
+    translation = record { gfn = gfn; level = t.walk.level; leaf = v };
+    newest = ap (λ (x : Buffer Translation). first_usable gfn write x.items) cached ∙ newest_filled gfn t.walk.level v write c room may;
+    leaf = leaf;
+  },
+)
+walk_known _ _ again gfn write v t c g room cached is may most O I walk leaf = I
+
+-- A fault goes on, or the access is at rest again.
+fault_over_known : (n : FaultNext) (gfn word : ℕ) (op : Op) (g : Held) → KnowsNext n g.state.sizes gfn (is_write op) g.topics → KnowsBehind (behind_fault n) (Access gfn word op) g
+fault_over_known (next_of.Goes p) gfn word op g K = K
+fault_over_known (next_of.Ends end_of.Installed) gfn word op g K = K
+fault_over_known (next_of.Ends end_of.Mmio) gfn word op g K = K
+fault_over_known (next_of.Ends end_of.HostFault) gfn word op g K = K
+fault_over_known (next_of.Ends end_of.Starved) gfn word op g K = K
+fault_over_known (next_of.Ends (end_of.Retry cause)) gfn word op g K = K
+
+-- behind each step of an access
+pub access_known : (p : AccessPlace) (line : Line) (h : Held) (gfn word : ℕ) (op : Op) (cached : Buffer Translation) (v : ℕ) → CachesBehind p h gfn op v cached → gfn < 2 ^ 36 → PartRests h → AccessKnows p gfn (is_write op) h → CanAnswerBy (access_part p gfn h.topics) v
+    → KnowsBehind (access_outcome p h gfn op v) (Access gfn word op) (hand_with line (Access gfn word op) (place.Access p) h (behind_part (access_part p gfn h.topics) h.topics v) cached v)
+access_known (Enter again) line h gfn word op cached v C small R K A = record { guest = refl; loose = K.loose; owns_none = K.owns_none; no_set = refl }
+access_known (Pause again) line h gfn word op cached v C small R K A =
+    pause_known (first_usable gfn (is_write op) h.cached.items) again gfn (is_write op) h
+    (hand_with line (Access gfn word op) (place.Access (Pause again)) h (part_topics part.Pause h.topics v) cached v) refl C
+    (record { guest = K.guest; loose = K.loose; owns_none = K.owns_none; no_set = K.no_set }) refl
+access_known (Root again) line h gfn word op cached v C small R K A = (
+  record { guest = K.guest; loose = K.loose; owns_none = K.owns_none; no_set = K.no_set },
+  subst (λ (b : Bool). IsOver gfn (at_root b h.topics.walk v)) (sym (ap (λ (s : Stay). may_walk s h.topics.hold) K.guest)) (root_over gfn v h.topics.walk small),
+)
+access_known (Walk again) line h gfn word op cached v C small R K A =
+    walk_known (kind_of h.topics.walk.level v) (allows_access (is_write op) v) again gfn (is_write op) v h.topics h.cached
+    (hand_with line (Access gfn word op) (place.Access (Walk again)) h (part_topics (part.Walk gfn) h.topics v) cached v) R.cache C refl refl R.level K.1
+    (record { guest = K.0.guest; loose = K.0.loose; owns_none = K.0.owns_none; no_set = K.0.no_set }) refl refl
+access_known Touch line h gfn word op cached v C small R K A = K.0
+access_known (Leave (leaving.Reached frame value)) line h gfn word op cached v C small R K A = record { outside = refl; loose = K.loose; owns_none = K.owns_none; no_table = refl; no_set = refl }
+access_known (Leave leaving.Faults) line h gfn word op cached v C small R K A = record { outside = refl; loose = K.loose; owns_none = K.owns_none; no_table = refl; no_set = refl }
+access_known (Fault p) line h gfn word op cached v C small R K A =
+    fault_over_known (fault_next p h.state.sizes gfn (is_write op) h.topics v) gfn word op
+    (hand_with line (Access gfn word op) (place.Access (Fault p)) h (behind_part (access_part (Fault p) gfn h.topics) h.topics v) cached v)
+    (fault_known p h gfn v (is_write op) small R K A)
+
+-- The touch leaves the topics, and a step of a part changes them as the part says.
+pub touch_topics : (z : Sizes) (op : Op) (index : ℕ) (t : Topics) (v : ℕ) → topics_after z (kind_of_task z (touch_of op index)) t v ≡ t
+unfolding topics_after
+touch_topics z Read index t v = refl
+touch_topics z _ index t v = refl
+
+pub task_topics : (s : Option PartStep) (h : Held) (note : ℕ) (op : Op) (index v : ℕ) → NeedsOf s h → topics_after h.state.sizes (kind_of_task h.state.sizes (task_by s h note (touch_of op index))) h.topics v ≡ behind_part s h.topics v
+task_topics None h note op index v N = touch_topics h.state.sizes op index h.topics v
+task_topics (Some step) h note op index v N = part_topics_is h.state.sizes step (own_index h) h.topics note v (is_there step h N)
+
+pub task_answers : (s : Option PartStep) (h : Held) (note : ℕ) (touch : Task) (words : Area → ℕ → ℕ) → CanAnswerBy s (answer_in (task_by s h note touch) words)
+task_answers None h note touch words = tt
+task_answers (Some step) h note touch words = parts_answer step (own_index h) h.topics note words
+
+-- behind each step of a line, of the actor itself
+abbrev KnowsAfter : Line → Command → Place → Held → ℕ → Type 0
+KnowsAfter line command p h v = KnowsBehind (outcome_at p command h v) command (hand_after line command p h v)
+
+own_access : (p : AccessPlace) (line : Line) (h : Held) (gfn word : ℕ) (op : Op) (words : Area → ℕ → ℕ) → IsVcpu h.state.actor → gfn < 2 ^ 36 → PartRests h → AccessKnows p gfn (is_write op) h
+    → KnowsAfter line (Access gfn word op) (place.Access p) h (answer_in (access_task p h gfn word op) words)
+own_access p line h gfn word op words vcpu small R K =
+    let v : ℕ = answer_in (access_task p h gfn word op) words in
+    let s : Option PartStep = access_part p gfn h.topics in
+    let cached : Buffer Translation = flushed (kind_of_task h.state.sizes (access_task p h gfn word op)) (caches_at (place.Access p) (Access gfn word op) h v) v in
+    subst (λ (t : Topics). KnowsBehind (access_outcome p h gfn op v) (Access gfn word op) (hand_with line (Access gfn word op) (place.Access p) h t cached v))
+    (sym (task_topics s h (access_note p) op _ v (access_needs p h gfn (is_write op) vcpu small R K)))
+    (access_known p line h gfn word op cached v (flushed_behind p h gfn word op v) small R K (task_answers s h (access_note p) _ words))
+
+-- what a slot setting knows behind a step is what its next place asks
+setting_behind : (o : Outcome) (id : ℕ) (slot : Slot) (g : Held) → SettingKnows o g → KnowsBehind o (SetSlot id slot) g
+setting_behind (Goes (place.SetSlot p)) id slot g K = K
+setting_behind (Goes (place.Access p)) id slot g K = absurd K
+setting_behind (Goes place.Between) id slot g K = absurd K
+setting_behind (Ends answer) id slot g K = K
+
+own_set_slot : (p : SetSlotPlace) (line : Line) (h : Held) (id : ℕ) (slot : Slot) (words : Area → ℕ → ℕ) → PartRests h → SetSlotKnows p h → (may_leave (place.SetSlot p) ≡ false → h.topics.leaving ≡ None) → PartNeeds (set_slot_part p h id slot) h
+    → KnowsAfter line (SetSlot id slot) (place.SetSlot p) h (answer_in (set_slot_task p h id slot) words)
+own_set_slot p line h id slot words R K left N =
+    let v : ℕ = answer_in (set_slot_task p h id slot) words in
+    let step : PartStep = set_slot_part p h id slot in
+    let cached : Buffer Translation = flushed (kind_of_task h.state.sizes (set_slot_task p h id slot)) h.cached v in
+    subst (λ (t : Topics). KnowsBehind (set_slot_outcome p h v) (SetSlot id slot) (hand_with line (SetSlot id slot) (place.SetSlot p) h t cached v))
+    (sym (part_topics_is h.state.sizes step (own_index h) h.topics (set_slot_note p h) v (is_there step h N)))
+    (setting_behind (set_slot_outcome p h v) id slot _ (set_slot_known line h id slot cached v R p K left (parts_answer step (own_index h) h.topics (set_slot_note p h) words)))
+
+-- what the step of a slot setting needs, at its places
+abbrev pub NeedsAt : Place → Command → Held → Type 0
+NeedsAt (place.SetSlot p) (SetSlot id slot) h = PartNeeds (set_slot_part p h id slot) h
+NeedsAt _ command h = Unit {0}
+
+own_known : (p : Place) (line : Line) (command : Command) (z : Sizes) (h : Held) (words : Area → ℕ → ℕ) → IsUnderWay p → IsCommandFor z h.state.actor command → PartRests h → KnowsPart p command h → LeavesPart p h.topics → NeedsAt p command h
+    → KnowsAfter line command p h (answer_in (task_at p command h) words)
+own_known place.Between line command z h words begun may R K left N = absurd begun
+own_known (place.Access p) line (Access gfn word op) z h words begun may R K left N = let V = access_vcpu z h.state.actor gfn word op may in own_access p line h gfn word op words V.0 V.1 R K
+own_known (place.SetSlot p) line (SetSlot id slot) z h words begun may R K left N = own_set_slot p line h id slot words R K left N
+own_known _ line _ z h words begun may R K left N = absurd K
+
+-- what a hand knows where its line stands, also where this is about to begin
+first_known : (z : Sizes) (command : Command) (h : Held) → IsAtRest h.topics → KnowsPart (first_place z h.slots command) command h
+first_known z (Access gfn word op) h R = R
+first_known z (SetSlot id slot) h R = by (set_refusal z.pages id slot h.slots)
+  where
+    by : (r : Option Refusal) → SetSlotKnows (set_slot_first r) h
+    by None = (R, λ e. absurd (cc e))
+    by (Some refusal) = R
+
+standing_known : (q : Place) (z : Sizes) (h : Held) → length h.answers < length h.lines → KnowsPart q h.state.line.command h → KnowsPart (standing q z h.slots (line_at q h).command) (line_at q h).command h
+standing_known place.Between z h left K = first_known z (line_at place.Between h).command h (K (has_line_is h left))
+standing_known _ z h left K = K
+
+pub knows_at : (z : Sizes) (v : View) (a : ℕ) → Invariant z v → a < actors_of z → length (v.hand a).answers < length (v.hand a).lines
+    → KnowsPart (place_at (v.hand a).state.place (v.hand a)) (line_at (v.hand a).state.place (v.hand a)).command (v.hand a)
+knows_at z v a I there left = standing_known (v.hand a).state.place (v.hand a).state.sizes (v.hand a) left (I.knows a there)
+
+pub step_knows : (z : Sizes) (v : View) (a : ℕ) (line : Line) (command : Command) (p : Place) → IsStep z v a line command p → Invariant z v → KnowsPart p command (v.hand a)
+step_knows z v a line command p S I =
+    subst (λ q. KnowsPart q command (v.hand a)) S.place_is
+    (subst (λ c. KnowsPart (place_at (v.hand a).state.place (v.hand a)) c (v.hand a)) (ap (λ (l : Line). l.command) (sym S.line_is) ∙ S.command_is) (knows_at z v a I S.there S.left))
+
+-- Where a line begins, and up to a publication, no page leaves.
+first_leaves : (z : Sizes) (command : Command) (slots : MemorySlots) (t : Topics) → t.leaving ≡ None → LeavesPart (first_place z slots command) t
+first_leaves z command slots t none = λ may. none
+
+standing_leaves : (q : Place) (z : Sizes) (slots : MemorySlots) (command : Command) (t : Topics) → LeavesPart q t → LeavesPart (standing q z slots command) t
+standing_leaves place.Between z slots command t L = first_leaves z command slots t (L refl)
+standing_leaves _ z slots command t L = L
+
+pub step_leaves : (z : Sizes) (v : View) (a : ℕ) (line : Line) (command : Command) (p : Place) → IsStep z v a line command p → Invariant z v → LeavesPart p (v.hand a).topics
+step_leaves z v a line command p S I =
+    subst (λ q. LeavesPart q (v.hand a).topics) S.place_is
+    (standing_leaves (v.hand a).state.place (v.hand a).state.sizes (v.hand a).slots (line_at (v.hand a).state.place (v.hand a)).command (v.hand a).topics (I.leaves a S.there))
+
+-- The step of a slot setting has what it needs.
+setting_needs : (z : Sizes) (v : View) (a : ℕ) (line : Line) (p : SetSlotPlace) (id : ℕ) (slot : Slot) → IsStep z v a line (SetSlot id slot) (place.SetSlot p) → Invariant z v → TopicsInvariant z v
+    → PartNeeds (set_slot_part p (v.hand a) id slot) (v.hand a)
+setting_needs z v a line p id slot S I P =
+    let h : Held = v.hand a in
+    set_slot_needs p h id slot
+    (value_small id slot h.slots (words_filled h.topics.owned) (in_range z line.actor id slot S.allowed) (record_small z h.lines h.slots (I.lines a S.there).allowed (I.lines a S.there).set))
+    (part_rests_at z v a I P S.there) (step_knows z v a line (SetSlot id slot) (place.SetSlot p) S I)
+
+pub needs_at : (z : Sizes) (v : View) (a : ℕ) (line : Line) (command : Command) (p : Place) → IsStep z v a line command p → Invariant z v → TopicsInvariant z v → NeedsAt p command (v.hand a)
+needs_at z v a line command place.Between S I P = tt
+needs_at z v a line command (place.Access p) S I P = tt
+needs_at z v a line (Access gfn word op) (place.SetSlot p) S I P = tt
+needs_at z v a line (SetSlot id slot) (place.SetSlot p) S I P = setting_needs z v a line p id slot S I P
+
+-- The step of a line leaves its actor with what its next place asks, or at rest where the line is answered.
+pub line_knows : (z : Sizes) (v : View) (a : ℕ) (line : Line) (command : Command) (p : Place) → IsStep z v a line command p → Invariant z v → TopicsInvariant z v → a < actors_of z
+    → KnowsBehind (outcome_at p command (v.hand a) (answer_in (task_at p command (v.hand a)) v.words)) command (hand_after line command p (v.hand a) (answer_in (task_at p command (v.hand a)) v.words))
+line_knows z v a line command p S I P there =
+    own_known p line command z (v.hand a) v.words S.begun (subst (λ x. IsCommandFor z x command) S.own S.allowed) (part_rests_at z v a I P there) (step_knows z v a line command p S I) (step_leaves z v a line command p S I) (needs_at z v a line command p S I P)
+
+-- Each step of a line leaves each actor with what its place asks.
+pub knows_behind : (z : Sizes) (v : View) (a : ℕ) (line : Line) (command : Command) (p : Place) → IsStep z v a line command p → Invariant z v → TopicsInvariant z v → (i : ℕ) → i < actors_of z
+    → KnowsPart ((stepped a line command p v).hand i).state.place ((stepped a line command p v).hand i).state.line.command ((stepped a line command p v).hand i)
+knows_behind z v a line command p S I P =
+    at_upd (λ i (h : Held). i < actors_of z → KnowsPart h.state.place h.state.line.command h) v.hand a (hand_after line command p (v.hand a) (answer_in (task_at p command (v.hand a)) v.words))
+    (λ there. subst (λ c. KnowsPart (place_after (outcome_at p command (v.hand a) (answer_in (task_at p command (v.hand a)) v.words))) c (hand_after line command p (v.hand a) (answer_in (task_at p command (v.hand a)) v.words))) (sym S.command_is)
+    (knows_after (outcome_at p command (v.hand a) (answer_in (task_at p command (v.hand a)) v.words)) command (hand_after line command p (v.hand a) (answer_in (task_at p command (v.hand a)) v.words)) (line_knows z v a line command p S I P there)))
+    (λ i ne. I.knows i)
+
+-- And so does each step of a part, by an actor with no line left.
+idle_knows : (q : Place) (command : Command) (h g : Held) → has_line h ≡ false → UnderWay q h → has_line g ≡ has_line h → KnowsPart q command g
+idle_knows place.Between command h g none under same = λ has. absurd (cc (none, same, has))
+idle_knows _ command h g none under same = let has = has_line_is h under.1 in absurd (cc (none, has))
+
+pub part_knows_behind : (z : Sizes) (v : View) (a : ℕ) (step : PartStep) (note : ℕ) → has_line (v.hand a) ≡ false → Invariant z v → (i : ℕ) → i < actors_of z
+    → KnowsPart ((part_stepped a step note v).hand i).state.place ((part_stepped a step note v).hand i).state.line.command ((part_stepped a step note v).hand i)
+part_knows_behind z v a step note none I =
+    at_upd (λ i (h : Held). i < actors_of z → KnowsPart h.state.place h.state.line.command h) v.hand a _
+    (λ there. idle_knows (v.hand a).state.place (v.hand a).state.line.command (v.hand a) _ none (I.lines a there).under refl)
+    (λ i ne. I.knows i)

@@ -1,0 +1,210 @@
+-- What a line knows at its place holds where there merely is a world that shows it: each part of it has at most one proof, or speaks of
+-- what the topics name, or can be decided. So every reached hand knows what the place of its next step asks.
+use Rattle.std.proofs.Common.{◌≡◌, ◌≢◌, ◌⊎◌, inl, inr, ⊎_elim, ◌<◌, ◌≤◌, ◌-◌, ℕ, length, refl, sym, subst, ap, ◌∙◌}
+use Rattle.std.specs.Prelude.{Bool}
+use Rattle.std.proofs.Math.Logic.{∥∥₁_elim, ∥∥₁_map}
+use Rattle.std.proofs.Props.{props}
+use Rattle.std.proofs.lemmas.Bool.{cases_lt}
+use Rattle.core_views.specs.declared.place.AccessPlace.{AccessPlace}
+use Rattle.core_views.specs.declared.place.AccessPlace.TheVariants.{Touch, Fault}
+use Rattle.core_views.specs.declared.place.Cause.{Cause}
+use Rattle.core_views.specs.declared.place.Cause.TheVariants.{Entry}
+use Rattle.core_views.specs.declared.place.CheckStage.{CheckStage}
+use Rattle.core_views.specs.declared.place.CheckStage.TheVariants as stage
+use Rattle.core_views.specs.declared.place.FaultEnd.{FaultEnd}
+use Rattle.core_views.specs.declared.place.FaultEnd.TheVariants.{Mmio, HostFault, Retry}
+use Rattle.core_views.specs.declared.place.FaultPlace.{FaultPlace}
+use Rattle.core_views.specs.declared.place.FaultPlace.TheVariants as fault
+use Rattle.core_views.specs.declared.place.Place.{Place}
+use Rattle.core_views.specs.declared.place.Place.TheVariants as place
+use Rattle.core_views.specs.declared.sizes.Sizes.{Sizes}
+use Rattle.core_views.specs.declared.topics.Checked.{Checked}
+use Rattle.core_views.specs.declared.topics.Checked.TheVariants as checked
+use Rattle.core_views.specs.declared.topics.HostLook.{HostLook}
+use Rattle.core_views.specs.declared.topics.Invalidations.{Invalidations}
+use Rattle.core_views.specs.declared.topics.OwnedPage.{OwnedPage}
+use Rattle.core_views.specs.declared.topics.TableWalk.{TableWalk}
+use Rattle.core_views.specs.declared.topics.Topics.{Topics}
+use Rattle.core_views.specs.declared.trace.Command.{Command}
+use Rattle.core_views.specs.declared.trace.Command.TheVariants.{Access, SetSlot}
+use Rattle.core_views.specs.Held.{Held}
+use Rattle.core_views.specs.Slots.{is_write}
+use Rattle.spte_words.specs.declared.spte_kind.SpteKind.{SpteKind}
+use Rattle.spte_words.specs.declared.spte_kind.SpteKind.TheVariants as entry_kind
+use Rattle.spte_words.specs.Entries.{kind_of}
+use Rattle.spte_words.specs.HostWords.{host_allows_write}
+use Rattle.mmu_core.specs.lines.FaultKnows.{CheckKnows, EndKnows, Entering, FaultKnows, Filling, FoundNoPage, HasCause, HostForbids, IsInTheWay, LookedFor, Sharing}
+use Rattle.mmu_core.specs.lines.KnowsPart.{AccessKnows, KnowsPart}
+use Rattle.part_steps.specs.PartSteps.{LookedUp}
+use Rattle.mmu_core.specs.machine.Steps.{line_at, place_at}
+use Rattle.mmu_core.specs.machine.View.{view}
+use Rattle.mmu_core.specs.machine.Worlds.{HandReached}
+use Rattle.mmu_core.proofs.machine.Columns.{same_or}
+use Rattle.mmu_core.proofs.lines.KnowsKept.{knows_at}
+use Rattle.mmu_core.proofs.invariant.RestsKept.{either_stays, fill_stays, fresh_stays, looked_stays, or_not, owns_set_stays, prop_stays, publish_stays, same_look, same_owned, table_stays}
+use Rattle.mmu_core.proofs.start.Starts.{reached_good}
+use Rattle.core_views.specs.declared.place.SetSlotPlace.{SetSlotPlace}
+use Rattle.core_views.specs.declared.place.SetSlotPlace.TheVariants as set_slot
+use Rattle.mmu_core.specs.lines.SetSlotKnows.{SetSlotKnows}
+use Rattle.mmu_core.proofs.lines.UsedTranslations.{uses_stays}
+
+-- what can be decided of two facts, of how far a check has come, and of an entry
+both_or : {A B : Type 0} → A ⊎ (A → ⊥) → B ⊎ (B → ⊥) → (A × B) ⊎ (A × B → ⊥)
+both_or (inl a) (inl b) = inl (a, b)
+both_or (inl a) (inr never) = inr (λ p. never p.1)
+both_or (inr never) b = inr (λ p. never p.0)
+
+is_count : (c : Checked) → (c ≡ checked.Count) ⊎ (c ≢ checked.Count)
+is_count checked.Count = inl refl
+is_count _ = inr (λ e. absurd (cc e))
+
+is_frozen : (k : SpteKind) → (k ≡ entry_kind.Frozen) ⊎ (k ≢ entry_kind.Frozen)
+is_frozen entry_kind.Frozen = inl refl
+is_frozen _ = inr (λ e. absurd (cc e))
+
+-- The topics name the host word that was looked up.
+same_word : (gfn : ℕ) (t : Topics) (a b : LookedUp gfn t) → a.word ≡ b.word
+same_word gfn t a b = ap (λ (look : HostLook). look.word) (same_look (sym a.host ∙ b.host))
+
+looked_for_stays : (gfn : ℕ) (write : Bool) (t : Topics) → ∥ LookedFor gfn write t ∥₁ → LookedFor gfn write t
+looked_for_stays gfn write t x =
+    let look = looked_stays gfn t (∥∥₁_map x (λ L. L.looked_up)) in
+    record {
+      looked_up = look;
+      allowed = ∥∥₁_elim x (hlevel props) (λ L. λ writes. let may = L.allowed writes in (may.0, ap host_allows_write (same_word gfn t look L.looked_up) ∙ may.1));
+      snapshot = ∥∥₁_elim x (hlevel props) (λ L. L.snapshot);
+    }
+
+sharing_stays : (gfn : ℕ) (write : Bool) (t : Topics) → ∥ Sharing gfn write t ∥₁ → Sharing gfn write t
+sharing_stays gfn write t x = record {
+  section = ∥∥₁_elim x (hlevel props) (λ S. S.section);
+  shares = ∥∥₁_elim x (hlevel props) (λ S. S.shares);
+  looked = looked_for_stays gfn write t (∥∥₁_map x (λ S. S.looked));
+}
+
+entering_stays : (gfn : ℕ) (write : Bool) (t : Topics) → ∥ Entering gfn write t ∥₁ → Entering gfn write t
+entering_stays gfn write t x = record { sharing = sharing_stays gfn write t (∥∥₁_map x (λ E. E.sharing)); fresh = fresh_stays gfn t.invalidations (∥∥₁_map x (λ E. E.fresh)) }
+
+-- how far the check has come
+range_stays : (gfn : ℕ) (n : Invalidations) → ∥ (n.checked ≡ checked.Range) × ((gfn < n.start) ⊎ (n.end ≤ gfn)) ∥₁ → (n.checked ≡ checked.Range) × ((gfn < n.start) ⊎ (n.end ≤ gfn))
+range_stays gfn n x = (∥∥₁_elim x (hlevel props) (λ R. R.0), either_stays (or_not gfn n.start (cases_lt gfn n.start)) (λ y. prop_stays (hlevel props) y) (∥∥₁_map x (λ R. R.1)))
+
+check_stays : (at : CheckStage) (gfn : ℕ) (n : Invalidations) → ∥ CheckKnows at gfn n ∥₁ → CheckKnows at gfn n
+check_stays stage.Count gfn n x = tt
+check_stays stage.Seq gfn n x = either_stays (both_or (is_count n.checked) (same_or n.count 0)) (range_stays gfn n) x
+check_stays _ gfn n x = prop_stays (hlevel props) x
+
+filling_stays : (t : Topics) → ∥ Filling t ∥₁ → Filling t
+filling_stays t x =
+    let fill = fill_stays t (∥∥₁_map x (λ F. record { owned = F.owned; is = F.is; left = F.left })) in
+    record {
+      owned = fill.owned;
+      is = fill.is;
+      left = fill.left;
+      absent = ∥∥₁_elim x (hlevel props) (λ F. ap (λ (o : OwnedPage). o.absent) (same_owned (sym fill.is ∙ F.is)) ∙ F.absent);
+    }
+
+-- what an end rests on
+no_page_stays : (gfn : ℕ) (write : Bool) (t : Topics) → ∥ FoundNoPage gfn write t ∥₁ → FoundNoPage gfn write t
+no_page_stays gfn write t x = by (same_or t.search.id 32)
+  where
+    by : (t.search.id ≡ 32) ⊎ (t.search.id ≢ 32) → FoundNoPage gfn write t
+    by (inl behind) = inr behind
+    by (inr before) = inl (∥∥₁_elim x (hlevel props) (⊎_elim (λ found. found) (λ behind. absurd (before behind))))
+
+forbids_stays : (gfn : ℕ) (write : Bool) (t : Topics) → ∥ HostForbids gfn write t ∥₁ → HostForbids gfn write t
+forbids_stays gfn write t x =
+    let look = looked_stays gfn t (∥∥₁_map x (λ F. F.looked_up)) in
+    record {
+      writes = ∥∥₁_elim x (hlevel props) (λ F. F.writes);
+      looked_up = look;
+      forbids = ∥∥₁_elim x (hlevel props) (λ F. ap host_allows_write (same_word gfn t look F.looked_up) ∙ F.forbids);
+    }
+
+way_stays : (word read seen : ℕ) (z : Sizes) (gfn : ℕ) (walk : TableWalk) → ∥ IsInTheWay word read seen z gfn walk ∥₁ → IsInTheWay word read seen z gfn walk
+way_stays word read seen z gfn walk x = record {
+  saw = ∥∥₁_elim x (hlevel props) (λ W. W.saw);
+  is_entry = ∥∥₁_elim x (hlevel props) (λ W. W.is_entry);
+  holds = ∥∥₁_elim x (hlevel props) (λ W. W.holds);
+  why = why (same_or read seen) (∥∥₁_map x (λ W. W.why));
+}
+  where
+    Why : Type 0
+    Why = (read ≢ seen) ⊎ (kind_of walk.level seen ≡ entry_kind.Frozen) ⊎ ((kind_of walk.level seen ≡ entry_kind.Leaf) × (2 ≤ walk.level))
+
+    why : (read ≡ seen) ⊎ (read ≢ seen) → ∥ Why ∥₁ → Why
+    why (inl same) y = either_stays (inr (λ differs. differs same)) (either_stays (is_frozen (kind_of walk.level seen)) (prop_stays (hlevel props))) y
+    why (inr differs) y = inl differs
+
+cause_stays : (cause : Cause) (z : Sizes) (gfn : ℕ) (t : Topics) → ∥ HasCause cause z gfn t ∥₁ → HasCause cause z gfn t
+cause_stays (Entry word read seen) z gfn t x = way_stays word read seen z gfn t.walk x
+cause_stays _ z gfn t x = prop_stays (hlevel props) x
+
+end_stays : (e : FaultEnd) (z : Sizes) (gfn : ℕ) (write : Bool) (t : Topics) → ∥ EndKnows e z gfn write t ∥₁ → EndKnows e z gfn write t
+end_stays Mmio z gfn write t x = no_page_stays gfn write t x
+end_stays HostFault z gfn write t x = forbids_stays gfn write t x
+end_stays (Retry cause) z gfn write t x = cause_stays cause z gfn t x
+end_stays _ z gfn write t x = prop_stays (hlevel props) x
+
+-- each place of a fault, of an access, and of a line
+fault_stays : (p : FaultPlace) (z : Sizes) (gfn : ℕ) (write : Bool) (t : Topics) → ∥ FaultKnows p z gfn write t ∥₁ → FaultKnows p z gfn write t
+fault_stays fault.Share z gfn write t x = (∥∥₁_elim x (hlevel props) (λ K. K.0), ∥∥₁_elim x (hlevel props) (λ K. K.1), looked_for_stays gfn write t (∥∥₁_map x (λ K. K.2)))
+fault_stays (fault.Check at) z gfn write t x = (sharing_stays gfn write t (∥∥₁_map x (λ K. K.0)), ∥∥₁_elim x (hlevel props) (λ K. K.1), check_stays at gfn t.invalidations (∥∥₁_map x (λ K. K.2)))
+fault_stays (fault.Walk rooted) z gfn write t x = (entering_stays gfn write t (∥∥₁_map x (λ K. K.0)), ∥∥₁_elim x (hlevel props) (λ K. K.1), ∥∥₁_elim x (hlevel props) (λ K. K.2))
+fault_stays (fault.Claim begun) z gfn write t x = (
+  entering_stays gfn write t (∥∥₁_map x (λ K. K.0)),
+  ∥∥₁_elim x (hlevel props) (λ K. K.1),
+  ∥∥₁_elim x (hlevel props) (λ K. K.2),
+  ∥∥₁_elim x (hlevel props) (λ K. K.3),
+)
+fault_stays fault.Fill z gfn write t x = (entering_stays gfn write t (∥∥₁_map x (λ K. K.0)), ∥∥₁_elim x (hlevel props) (λ K. K.1), filling_stays t (∥∥₁_map x (λ K. K.2)))
+fault_stays fault.Link z gfn write t x = (entering_stays gfn write t (∥∥₁_map x (λ K. K.0)), ∥∥₁_elim x (hlevel props) (λ K. K.1), table_stays (t.walk.level - 1) t (∥∥₁_map x (λ K. K.2)))
+fault_stays fault.Leaf z gfn write t x = (
+  entering_stays gfn write t (∥∥₁_map x (λ K. K.0)),
+  ∥∥₁_elim x (hlevel props) (λ K. K.1),
+  ∥∥₁_elim x (hlevel props) (λ K. K.2),
+  ∥∥₁_elim x (hlevel props) (λ K. K.3),
+)
+fault_stays (fault.Give e) z gfn write t x = (
+  ∥∥₁_elim x (hlevel props) (λ K. K.0),
+  ∥∥₁_elim x (hlevel props) (λ K. K.1),
+  ∥∥₁_elim x (hlevel props) (λ K. K.2),
+  end_stays e z gfn write t (∥∥₁_map x (λ K. K.3)),
+)
+fault_stays (fault.Unshare e) z gfn write t x = (∥∥₁_elim x (hlevel props) (λ K. K.0), ∥∥₁_elim x (hlevel props) (λ K. K.1), end_stays e z gfn write t (∥∥₁_map x (λ K. K.2)))
+fault_stays (fault.End e) z gfn write t x = (∥∥₁_elim x (hlevel props) (λ K. K.0), ∥∥₁_elim x (hlevel props) (λ K. K.1), end_stays e z gfn write t (∥∥₁_map x (λ K. K.2)))
+fault_stays _ z gfn write t x = prop_stays (hlevel props) x
+
+access_stays : (p : AccessPlace) (gfn : ℕ) (write : Bool) (h : Held) → ∥ AccessKnows p gfn write h ∥₁ → AccessKnows p gfn write h
+access_stays Touch gfn write h x = (∥∥₁_elim x (hlevel props) (λ K. K.0), uses_stays gfn write h (∥∥₁_map x (λ K. K.1)))
+access_stays (Fault p) gfn write h x = fault_stays p h.state.sizes gfn write h.topics x
+access_stays _ gfn write h x = prop_stays (hlevel props) x
+
+setting_stays : (p : SetSlotPlace) (h : Held) → ∥ SetSlotKnows p h ∥₁ → SetSlotKnows p h
+setting_stays set_slot.Fill h x = (∥∥₁_elim x (hlevel props) (λ K. K.0), fill_stays h.topics (∥∥₁_map x (λ K. K.1)))
+setting_stays set_slot.Exclude h x = (∥∥₁_elim x (hlevel props) (λ K. K.0), owns_set_stays h.topics (∥∥₁_map x (λ K. K.1)))
+setting_stays set_slot.Count h x = (∥∥₁_elim x (hlevel props) (λ K. K.0), owns_set_stays h.topics (∥∥₁_map x (λ K. K.1)))
+setting_stays set_slot.Close h x = (∥∥₁_elim x (hlevel props) (λ K. K.0), owns_set_stays h.topics (∥∥₁_map x (λ K. K.1)), ∥∥₁_elim x (hlevel props) (λ K. K.2))
+setting_stays set_slot.Publish h x = (∥∥₁_elim x (hlevel props) (λ K. K.0), publish_stays h.topics (∥∥₁_map x (λ K. K.1)))
+setting_stays _ h x = prop_stays (hlevel props) x
+
+part_stays : (p : Place) (command : Command) (h : Held) → ∥ KnowsPart p command h ∥₁ → KnowsPart p command h
+part_stays (place.Access p) (Access gfn word op) h x = access_stays p gfn (is_write op) h x
+part_stays (place.SetSlot p) (SetSlot id slot) h x = setting_stays p h x
+part_stays _ _ h x = prop_stays (hlevel props) x
+
+-- what the place of the hand's next step asks
+abbrev pub KnowsNow : Held → Type 0
+KnowsNow h = KnowsPart (place_at h.state.place h) (line_at h.state.place h).command h
+
+pub knows_stay : (h : Held) → ∥ KnowsNow h ∥₁ → KnowsNow h
+knows_stay h x = part_stays (place_at h.state.place h) (line_at h.state.place h).command h x
+
+pub reached_knows : (h : Held) → ∥ HandReached h ∥₁ → length h.answers < length h.lines → KnowsNow h
+reached_knows h reached left = knows_stay h (∥∥₁_map reached knows_of)
+  where
+    knows_of : HandReached h → KnowsNow h
+    knows_of x =
+        let G = reached_good x.world x.reached in
+        let there = subst (λ n. x.actor < n) G.hands x.there in
+        subst KnowsNow x.has (knows_at x.reached.sizes (view x.reached.sizes x.world) x.actor G.holds there (subst (λ (g : Held). length g.answers < length g.lines) (sym x.has) left))

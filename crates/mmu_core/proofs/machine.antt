@@ -1,0 +1,17 @@
+pub mod Advancing
+pub mod Columns
+pub mod Extend
+pub mod HandAfter
+pub mod HandWith
+pub mod LineMade
+pub mod LineParts
+pub mod LineRuns
+pub mod NextTopics
+pub mod PartStepping
+pub mod SameTopics
+pub mod Sized
+pub mod Stepping
+pub mod SumsBelow
+pub mod Views
+pub mod Which
+pub mod Worlds

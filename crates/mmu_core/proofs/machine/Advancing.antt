@@ -1,0 +1,171 @@
+-- What a hand must have for a step, and what its fields are behind it.
+use Rattle.std.proofs.Math.Nat.{div-le_self}
+use Rattle.std.proofs.Common.{◌≡◌, ◌<◌, ◌≤◌, ◌^◌, ◌⊎◌, inl, inr, ℕ, zero, suc, List, [], ◌∷◌, length, refl, sym, subst, ap, ◌∙◌, arith}
+use Rattle.std.specs.Prelude.{Bool, true, false, ◌==◌, Some, None, is_some, slice_get, if◌then◌else◌}
+use Rattle.core_views.specs.declared.kind.Kind.{Kind}
+use Rattle.core_views.specs.declared.kind.StepKind.{StepKind}
+use Rattle.core_views.specs.declared.kind.StepKind.TheVariants as kind
+use Rattle.core_views.specs.declared.place.Place.{Place}
+use Rattle.core_views.specs.declared.topics.OwnedPage.{OwnedPage}
+use Rattle.core_views.specs.declared.topics.TableWalk.{TableWalk}
+use Rattle.core_views.specs.declared.topics.Topics.{Topics}
+use Rattle.core_views.specs.declared.trace.Command.{Command}
+use Rattle.core_views.specs.declared.trace.Line.{Line}
+use Rattle.core_views.specs.declared.trace.Op.{Op}
+use Rattle.core_views.specs.declared.trace.Op.TheVariants.{Read}
+use Rattle.part_steps.specs.declared.task.Task.{Task}
+use Rattle.mmu_core.specs.lines.AccessSteps.{touch_of}
+use Rattle.std.proofs.lemmas.Bool.Decides.{nat_tests}
+use Rattle.core_views.specs.Held.{Held}
+use Rattle.core_views.specs.Kinds.{code_of, kind_named}
+use Rattle.core_views.specs.Sizes.{AreSizes}
+use Rattle.core_views.specs.Traces.{IsCommandFor}
+use Rattle.part_steps.specs.declared.part_step.PartStep.{PartStep}
+use Rattle.part_steps.specs.declared.part_step.PartStep.TheVariants as part
+use Rattle.mmu_core.specs.machine.Enabled.{Enabled, IsNext, IsPartStep}
+use Rattle.spte_words.specs.Entries.{level_span}
+use Rattle.part_steps.specs.PartSteps.{IsOver, HasToFill, PartNeeds, own_index, part_task, words_filled}
+use Rattle.mmu_core.specs.lines.Rests.{AcceptsAt, Rests, RestsAt}
+use Rattle.mmu_core.specs.lines.Cached.{flushed}
+use Rattle.part_steps.specs.PartBounds.{PartRests}
+use Rattle.core_views.specs.declared.sizes.Sizes.{Sizes}
+use Rattle.mmu_core.proofs.lines.ByStep.{StepAt, step_at, Makes, Touches}
+use Rattle.mmu_core.proofs.machine.Sized.{loads_keep_sizes}
+use Rattle.mmu_core.specs.machine.Steps.{has_line, held_after, idle_after, line_after, line_at, next, place_at, standing, task_at, task_of}
+use Rattle.part_steps.specs.TopicSteps.{HasRoom, topics_after}
+use Rattle.mmu_core.proofs.machine.Which.{has_line_is, next_of_line, next_of_part}
+
+pub enabled_sizes : (h : Held) (k : Kind) → Enabled h k → AreSizes h.state.sizes
+unfolding Enabled
+enabled_sizes h k (inl e) = e.rests.part.sizes
+enabled_sizes h k (inr e) = e.sizes
+
+-- a hand at rest has nothing that a line's step would count
+no_page_room : (t : Topics) → t.owned ≡ None → HasRoom kind.Fill t
+no_page_room t none = λ o is. let e : None ≡ Some o = sym none ∙ is in absurd (cc e)
+
+-- the run of a guest frame is a small number
+pub run_small : (gfn : ℕ) (walk : TableWalk) → IsOver gfn walk → walk.prefix < 2 ^ 36
+run_small gfn walk O = let le = div-le_self gfn (level_span walk.level) in omega (arith, O.small, O.run, le)
+
+-- the kind that a kind's number names
+pub named_is : (k : StepKind) → kind_named (code_of k) ≡ k
+named_is kind.Enter = refl
+named_is _ = refl
+
+fill_room : (t : Topics) → HasToFill t → (b : Bool) (x y : Task) → x.kind ≡ kind.Fill → y.kind ≡ kind.Fill → HasRoom (if b then x else y).kind t
+fill_room t N true x y is other = subst (λ k. HasRoom k t) (sym is) (λ o e. let q : Some N.owned ≡ Some o = sym N.is ∙ e in subst (λ (o : OwnedPage). o.filled < 513) (some_is q) N.left)
+  where
+    some_is : {a b : OwnedPage} → Some a ≡ Some b → a ≡ b
+    some_is q = cc q
+fill_room t N false x y is other = subst (λ k. HasRoom k t) (sym other) (λ o e. let q : Some N.owned ≡ Some o = sym N.is ∙ e in subst (λ (o : OwnedPage). o.filled < 513) (some_is q) N.left)
+  where
+    some_is : {a b : OwnedPage} → Some a ≡ Some b → a ≡ b
+    some_is q = cc q
+
+part_room : (step : PartStep) (h : Held) (note : ℕ) → AreSizes h.state.sizes → PartNeeds step h → HasRoom (part_task step (own_index h) h.topics note).kind h.topics
+part_room (part.Fill value) h note z N = fill_room h.topics N.0 (words_filled h.topics.owned == 512) _ _ refl refl
+part_room part.Slot h note z N = λ some. N.1
+part_room part.Claim h note z N = (N.1, omega (arith, N.2, z.pool.1))
+part_room (part.Walk gfn) h note z N = λ from. run_small gfn h.topics.walk N
+part_room (part.Link gfn) h note z N = λ from. run_small gfn h.topics.walk N.0.saw.over
+part_room (part.Leaf gfn) h note z N = λ from. run_small gfn h.topics.walk N.0.saw.over
+part_room part.Clear h note z N = λ o is. let e : None ≡ Some o = sym N.owns_none ∙ is in absurd (cc e)
+part_room _ h note z N = tt
+
+touch_room : (op : Op) (index : ℕ) (t : Topics) → HasRoom (touch_of op index).kind t
+touch_room Read index t = tt
+touch_room _ index t = tt
+
+room_by : (command : Command) (h : Held) (t : Task) → AreSizes h.state.sizes → StepAt command h t → HasRoom t.kind h.topics
+room_by command h _ z (Makes step note N) = part_room step h note z N
+room_by command h _ z (Touches gfn word op is R) = touch_room op _ h.topics
+
+task_room : (p : Place) (command : Command) (h : Held) → AreSizes h.state.sizes → RestsAt p command h → HasRoom (task_at p command h).kind h.topics
+task_room p command h z R = room_by command h (task_at p command h) z (step_at p command h R)
+
+room_of : (h : Held) (k : Kind) → IsNext h k ⊎ IsPartStep h k → HasRoom (kind_named k.code) h.topics
+room_of h k (inl e) = subst (λ (x : Kind). HasRoom (kind_named x.code) h.topics) (sym e.is) (subst (λ x. HasRoom x h.topics) (sym (named_is (task_of h).kind)) (task_room (place_at h.state.place h) (line_at h.state.place h).command h e.rests.part.sizes e.rests.at))
+room_of h k (inr e) =
+    subst (λ (x : Kind). HasRoom (kind_named x.code) h.topics) (sym e.is)
+    (subst (λ x. HasRoom x h.topics) (sym (named_is (part_task e.step (own_index h) h.topics e.note).kind)) (part_room e.step h e.note e.sizes e.needs))
+
+pub enabled_room : (h : Held) (k : Kind) → Enabled h k → HasRoom (kind_named k.code) h.topics
+unfolding Enabled
+enabled_room h k e = room_of h k e
+
+-- a place of a list that has something
+pub some_below : {X : Type 0} (xs : List X) (n : ℕ) → is_some (slice_get xs n) ≡ true → n < length xs
+some_below [] n is = absurd (cc is)
+some_below (x ∷ xs) zero is = omega arith
+some_below (x ∷ xs) (suc n) is = omega (arith, some_below xs n is)
+
+pub none_below : {X : Type 0} (xs : List X) (n : ℕ) → is_some (slice_get xs n) ≡ false → length xs ≤ n
+none_below [] n is = omega arith
+none_below (x ∷ xs) zero is = absurd (cc is)
+none_below (x ∷ xs) (suc n) is = omega (arith, none_below xs n is)
+
+-- A hand with a line left takes its next step.
+module _ (h : Held) (rests : has_line h ≡ true → Rests h) (some : is_some (slice_get h.lines (length h.answers)) ≡ true) where
+  pub left_here : length h.answers < length h.lines
+  left_here = some_below h.lines (length h.answers) some
+
+  pub has_here : has_line h ≡ true
+  has_here = has_line_is h left_here
+
+  pub rests_here : Rests h
+  rests_here = rests has_here
+
+  pub part_here : PartRests h
+  part_here = rests_here.part
+
+  pub command_here : (line : Line) → line ≡ line_at h.state.place h → IsCommandFor h.state.sizes line.actor line.command
+  command_here line line_is = subst (λ (l : Line). IsCommandFor h.state.sizes l.actor l.command) (sym line_is) rests_here.line
+
+  place_here : (line : Line) (p : Place) → line ≡ line_at h.state.place h → p ≡ standing h.state.place h.state.sizes h.slots line.command → p ≡ place_at h.state.place h
+  place_here line p line_is place_is = place_is ∙ ap (λ (l : Line). standing h.state.place h.state.sizes h.slots l.command) line_is
+
+  pub rests_at_here : (line : Line) (p : Place) → line ≡ line_at h.state.place h → p ≡ standing h.state.place h.state.sizes h.slots line.command → RestsAt p line.command h
+  rests_at_here line p line_is place_is =
+      subst (λ q. RestsAt q line.command h) (sym (place_here line p line_is place_is)) (subst (λ (l : Line). RestsAt (place_at h.state.place h) l.command h) (sym line_is) rests_here.at)
+
+  pub accepts_here : (line : Line) (p : Place) → line ≡ line_at h.state.place h → p ≡ standing h.state.place h.state.sizes h.slots line.command → AcceptsAt p line.command h.state.sizes h.slots
+  accepts_here line p line_is place_is =
+      subst (λ q. AcceptsAt q line.command h.state.sizes h.slots) (sym (place_here line p line_is place_is))
+      (subst (λ (l : Line). AcceptsAt (place_at h.state.place h) l.command h.state.sizes h.slots) (sym line_is) rests_here.accepts)
+
+  pub made_here : (x : Held) (line : Line) (p : Place) (v : ℕ) → line ≡ line_at h.state.place h → p ≡ standing h.state.place h.state.sizes h.slots line.command → x ≡ line_after line p h v
+      → x ≡ line_after (line_at h.state.place h) (place_at h.state.place h) h v
+  made_here x line p v line_is place_is made =
+      made ∙ ap (λ (q : Place). line_after line q h v) (place_here line p line_is place_is) ∙ ap (λ (l : Line). line_after l (place_at h.state.place h) h v) line_is
+
+pub none_here : (h : Held) → is_some (slice_get h.lines (length h.answers)) ≡ false → has_line h ≡ false
+none_here h none = let few = none_below h.lines (length h.answers) none in grind (arith, nat_tests)
+
+-- Behind the line's step, where a line is left, come the flush and the topics, and make the hand that the step leads to.
+module _ (h g : Held) (k : Kind) (v : ℕ) (enabled : Enabled h k) (line : has_line h ≡ true → g ≡ line_after (line_at h.state.place h) (place_at h.state.place h) h v) (none : has_line h ≡ false → g ≡ h) where
+  still : (g.state.sizes ≡ h.state.sizes) × (g.topics ≡ h.topics)
+  still = by (has_line h) refl
+    where
+      by : (b : Bool) → has_line h ≡ b → (g.state.sizes ≡ h.state.sizes) × (g.topics ≡ h.topics)
+      by true has = (ap (λ (y : Held). y.state.sizes) (line has) ∙ loads_keep_sizes (place_at h.state.place h) (line_at h.state.place h).command h v, ap (λ (y : Held). y.topics) (line has))
+      by false no_ = (ap (λ (y : Held). y.state.sizes) (none no_), ap (λ (y : Held). y.topics) (none no_))
+
+  pub sizes_still : (x : Held) → x ≡ record g { cached = flushed k g.cached v } → AreSizes x.state.sizes
+  sizes_still x is = subst AreSizes (sym (ap (λ (y : Held). y.state.sizes) is ∙ still.0)) (enabled_sizes h k enabled)
+
+  pub room_still : (x : Held) → x ≡ record g { cached = flushed k g.cached v } → HasRoom (kind_named k.code) x.topics
+  room_still x is = subst (HasRoom (kind_named k.code)) (sym (ap (λ (y : Held). y.topics) is ∙ still.1)) (enabled_room h k enabled)
+
+  finished : idle_after g k v ≡ next h k v
+  finished = by (has_line h) refl
+    where
+      by : (b : Bool) → has_line h ≡ b → idle_after g k v ≡ next h k v
+      by true has =
+          ap (λ (y : Held). idle_after y k v) (line has)
+          ∙ ap (λ (z : Sizes). record (held_after (line_at h.state.place h) (place_at h.state.place h) h k v) { topics = topics_after z k h.topics v }) (loads_keep_sizes (place_at h.state.place h) (line_at h.state.place h).command h v)
+          ∙ sym (next_of_line h k v has)
+      by false no_ = ap (λ (y : Held). idle_after y k v) (none no_) ∙ sym (next_of_part h k v no_)
+
+  pub advanced : (x y : Held) → x ≡ record g { cached = flushed k g.cached v } → y ≡ record x { topics = topics_after x.state.sizes k x.topics v } → y ≡ next h k v
+  advanced x y flush_is is = is ∙ ap (λ (q : Held). record q { topics = topics_after q.state.sizes k q.topics v }) flush_is ∙ finished

@@ -1,0 +1,85 @@
+-- The hand that a line's step makes, field by field.
+use Rattle.std.specs.Prelude.{Bool}
+use Rattle.std.proofs.Common.{◌≡◌, ℕ, List, refl, sym, ap, ◌∙◌}
+use Rattle.circular_buffer.specs.Buffer.{Buffer}
+use Rattle.core_views.specs.declared.actor.Actor.{Actor}
+use Rattle.core_views.specs.declared.answer.AnsweredLine.{AnsweredLine}
+use Rattle.core_views.specs.declared.cache.Translation.{Translation}
+use Rattle.core_views.specs.declared.hand.State.{State}
+use Rattle.core_views.specs.declared.place.AccessPlace.{AccessPlace}
+use Rattle.core_views.specs.declared.place.AccessPlace.TheVariants.{Enter}
+use Rattle.core_views.specs.declared.place.Place.{Place}
+use Rattle.core_views.specs.declared.place.Place.TheVariants as place
+use Rattle.core_views.specs.declared.sizes.Sizes.{Sizes}
+use Rattle.core_views.specs.declared.trace.Command.{Command}
+use Rattle.core_views.specs.declared.trace.Command.TheVariants.{Access}
+use Rattle.core_views.specs.declared.trace.Line.{Line}
+use Rattle.core_views.specs.declared.trace.Op.{Op}
+use Rattle.core_views.specs.Held.{Held}
+use Rattle.core_views.specs.SlotSets.{MemorySlots}
+use Rattle.mmu_core.specs.declared.outcome.Outcome.{Outcome}
+use Rattle.mmu_core.specs.lines.AccessSteps.{access_caches}
+use Rattle.mmu_core.specs.lines.Delays.{counted, delays_counted, is_delay, steps_counted}
+use Rattle.mmu_core.specs.machine.Steps.{delays_at, caches_at, line_after, loads_at, outcome_at, records_at}
+use Rattle.mmu_core.specs.machine.Outcomes.{answers_after, place_after}
+use Rattle.mmu_core.proofs.machine.HandAfter.{IsSameState, loads_same}
+
+-- What is cached doesn't hang on the record of slots.
+abbrev with_slots : Held → MemorySlots → Held
+with_slots h slots = record { state = h.state; topics = h.topics; cached = h.cached; slots = slots; lines = h.lines; answers = h.answers }
+
+access_caches_same : (p : AccessPlace) (h : Held) (slots : MemorySlots) (gfn : ℕ) (op : Op) (v : ℕ) → access_caches p (with_slots h slots) gfn op v ≡ access_caches p h gfn op v
+access_caches_same (Enter again) h slots gfn op v = refl
+access_caches_same _ h slots gfn op v = refl
+
+caches_same : (p : Place) (command : Command) (h : Held) (slots : MemorySlots) (v : ℕ) → caches_at p command (with_slots h slots) v ≡ caches_at p command h v
+caches_same (place.Access p) (Access gfn word op) h slots v = access_caches_same p h slots gfn op v
+caches_same _ _ h slots v = refl
+
+abbrev placed : State → Place → Line → ℕ → ℕ → ℕ → Held → List AnsweredLine → Held
+placed s q line leaf steps delays f answers = record {
+  state = record { sizes = s.sizes; actor = s.actor; place = q; line = line; leaf = leaf; steps = steps; delays = delays };
+  topics = f.topics;
+  cached = f.cached;
+  slots = f.slots;
+  lines = f.lines;
+  answers = answers;
+}
+
+abbrev with_cached : Held → Buffer Translation → MemorySlots → Held
+with_cached h c slots = record { state = h.state; topics = h.topics; cached = c; slots = slots; lines = h.lines; answers = h.answers }
+
+-- what was counted behind a step that is a delay, or none
+abbrev steps_behind : Held → Bool → ℕ
+steps_behind h delay = steps_counted delay (counted h.state.place h.state.steps)
+
+abbrev delays_behind : Held → Bool → ℕ
+delays_behind h delay = delays_counted delay (counted h.state.place h.state.delays)
+
+pub line_made : (h f : Held) (s : State) (line : Line) (p q : Place) (v leaf : ℕ) (slots : MemorySlots) (o : Outcome) (delay : Bool) (steps delays : ℕ) (answers : List AnsweredLine) → o ≡ outcome_at p line.command h v → leaf ≡ (loads_at p line.command h v).leaf
+    → delay ≡ is_delay p h.topics o v → steps ≡ steps_behind h delay → delays ≡ delays_behind h delay → slots ≡ records_at p line.command h.slots → f ≡ with_cached h (caches_at p line.command (with_slots h slots) v) slots → s ≡ f.state → q ≡ place_after o → answers ≡ answers_after o line h.answers
+    → placed s q line leaf steps delays f answers ≡ line_after line p h v
+line_made h f s line p q v leaf slots o delay steps delays answers o_is leaf_is delay_is steps_is delays_is slots_is f_is s_is q_is answers_is =
+    let same : IsSameState h.state (loads_at p line.command h v) = loads_same p line.command h v in
+    let same_delay : delay ≡ delays_at p line.command h v = delay_is ∙ ap (λ (x : Outcome). is_delay p h.topics x v) o_is in
+    ap (λ (x : State). placed x q line leaf steps delays f answers) s_is
+    ∙ ap (λ x. placed f.state q line leaf x delays f answers) (steps_is ∙ ap (steps_behind h) same_delay)
+    ∙ ap (λ x. placed f.state q line leaf made x f answers) (delays_is ∙ ap (delays_behind h) same_delay)
+    ∙ ap (λ (x : Held). placed x.state q line leaf made waits x answers) f_is
+    ∙ ap (λ (c : Buffer Translation). placed h.state q line leaf made waits (with_cached h c slots) answers) (caches_same p line.command h slots v)
+    ∙ ap (λ (x : MemorySlots). placed h.state q line leaf made waits (with_cached h (caches_at p line.command h v) x) answers) slots_is
+    ∙ ap (λ x. placed h.state q line x made waits cached answers) leaf_is
+    ∙ ap (λ (x : Sizes). placed (record h.state { sizes = x }) q line (loads_at p line.command h v).leaf made waits cached answers) (sym same.sizes)
+    ∙ ap (λ (x : Actor). placed (record (loads_at p line.command h v) { actor = x }) q line (loads_at p line.command h v).leaf made waits cached answers) (sym same.actor)
+    ∙ ap (λ (x : Place). placed (loads_at p line.command h v) x line (loads_at p line.command h v).leaf made waits cached answers) (q_is ∙ ap place_after o_is)
+    ∙ ap (λ (x : List AnsweredLine). placed (loads_at p line.command h v) (place_after (outcome_at p line.command h v)) line (loads_at p line.command h v).leaf made waits cached x)
+    (answers_is ∙ ap (λ (x : Outcome). answers_after x line h.answers) o_is)
+  where
+    made : ℕ
+    made = steps_behind h (delays_at p line.command h v)
+
+    waits : ℕ
+    waits = delays_behind h (delays_at p line.command h v)
+
+    cached : Held
+    cached = with_cached h (caches_at p line.command h v) (records_at p line.command h.slots)

@@ -1,0 +1,28 @@
+-- What is said of the words of the parts and of what actors hold speaks of hands by their topics alone.
+use Rattle.std.proofs.Common.{◌≡◌, ◌<◌, ℕ, sym, subst}
+use Rattle.core_views.specs.declared.sizes.Sizes.{Sizes}
+use Rattle.core_views.specs.declared.topics.Topics.{Topics}
+use Rattle.core_views.specs.Held.{Held}
+use Rattle.core_views.specs.Sizes.{actors_of}
+use Rattle.mmu_core.specs.invariant.TopicsInvariant.{CountersPart, FilledPart, HeldPart, LockPart, LookPart, SawWriter, SearchPart, StatesPart, TopicsInvariantOf, SetsPart, OldSetsPart, PathPart, UsePart, stands}
+
+pub same_topics : (z : Sizes) (lock root slots seq : ℕ) (states map host role pool : ℕ → ℕ) (hand other : ℕ → Held) → ◌≡◌ {A = ℕ → Topics} (λ i. (other i).topics) (λ i. (hand i).topics)
+    → TopicsInvariantOf z lock root slots seq states map host role pool hand → TopicsInvariantOf z lock root slots seq states map host role pool other
+same_topics z lock root slots seq states map host role pool hand other same I = record {
+  up = I.up;
+  spot = I.spot;
+  lock_part = subst (λ (t : ℕ → Topics). LockPart (actors_of z) lock (λ i. (t i).hold)) (sym same) I.lock_part;
+  saw_writer = subst (λ (t : ℕ → Topics). (i : ℕ) → i < actors_of z → SawWriter (t i).hold) (sym same) I.saw_writer;
+  states_part = subst (λ (t : ℕ → Topics). StatesPart (actors_of z) states (λ i. (t i).stay)) (sym same) I.states_part;
+  uses = subst (λ (t : ℕ → Topics). UsePart (actors_of z) z.pool slots map (λ i. (t i).owned) (λ i. (t i).leaving) I.up) (sym same) I.uses;
+  tree = I.tree;
+  leaves = I.leaves;
+  filled = subst (λ (t : ℕ → Topics). FilledPart (actors_of z) role pool (λ i. (t i).owned)) (sym same) I.filled;
+  held = subst (λ (t : ℕ → Topics). (i : ℕ) → i < actors_of z → HeldPart (stands I.up I.spot) (t i)) (sym same) I.held;
+  paths = subst (λ (t : ℕ → Topics). (i : ℕ) → i < actors_of z → PathPart (stands I.up I.spot) (t i).walk) (sym same) I.paths;
+  sets = subst (λ (t : ℕ → Topics). SetsPart (actors_of z) slots t) (sym same) I.sets;
+  old_sets = subst (λ (t : ℕ → Topics). OldSetsPart (actors_of z) slots pool (λ i. (t i).leaving)) (sym same) I.old_sets;
+  searches = subst (λ (t : ℕ → Topics). (i : ℕ) → i < actors_of z → SearchPart pool (t i).search) (sym same) I.searches;
+  looks = subst (λ (t : ℕ → Topics). (i : ℕ) → i < actors_of z → LookPart z seq host (t i)) (sym same) I.looks;
+  counters = subst (λ (t : ℕ → Topics). (i : ℕ) → i < actors_of z → CountersPart z (t i)) (sym same) I.counters;
+}

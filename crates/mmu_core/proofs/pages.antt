@@ -1,0 +1,13 @@
+pub mod AllOver
+pub mod FilledKept
+pub mod LeavesOver
+pub mod OwnedBehind
+pub mod PoolKept
+pub mod PoolPages
+pub mod Standing
+pub mod TreeKept
+pub mod TreePlaces
+pub mod TreeStored
+pub mod UsesStay
+pub mod UsesTurn
+pub mod Paths

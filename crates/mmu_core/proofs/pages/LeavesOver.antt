@@ -1,0 +1,90 @@
+-- Each leaf to which links lead from the root is the one that slots and host give the guest frames that it is over: each step of a part keeps it.
+use Rattle.std.proofs.Common.{◌≡◌, ◌+◌, ◌*◌, ◌/◌, ◌<◌, ℕ, refl, sym, subst, ap, ◌∙◌, arith}
+use Rattle.std.specs.Prelude.{◌-◌, Some}
+use Rattle.core_views.specs.declared.sizes.Sizes.{Sizes}
+use Rattle.core_views.specs.declared.topics.Topics.{Topics}
+use Rattle.spte_words.specs.declared.area.Area.TheVariants as area
+use Rattle.spte_words.specs.declared.spte_kind.SpteKind.TheVariants as entry_kind
+use Rattle.spte_words.specs.Areas.{pool_index}
+use Rattle.spte_words.specs.Entries.{kind_of, level_span}
+use Rattle.spte_words.proofs.ReadsEntries.{kind_of_absent, kind_of_table}
+use Rattle.spte_words.proofs.Spans.{span_1}
+use Rattle.part_steps.specs.declared.part_step.PartStep.{PartStep}
+use Rattle.part_steps.specs.declared.part_step.PartStep.TheVariants as part
+use Rattle.part_steps.specs.PartSteps.{leaf_written}
+use Rattle.part_steps.specs.SlotWords.{leaf_of}
+use Rattle.mmu_core.specs.invariant.AllOver.{AllOver, LeafIsFor}
+use Rattle.mmu_core.specs.invariant.CachedPart.{IsLeafFor}
+use Rattle.mmu_core.specs.invariant.TopicsInvariant.{TopicsInvariant}
+use Rattle.mmu_core.specs.invariant.TreePart.{Position, Use, at, is_table, stands}
+use Rattle.mmu_core.specs.machine.View.{View, part_stepped}
+use Rattle.mmu_core.proofs.pages.AllOver.{IsLight, OfNewLeaf, over_step, over_weaker}
+use Rattle.mmu_core.proofs.slots.LiveStay.{StayLive, leaf_stays}
+use Rattle.mmu_core.proofs.slots.LiveStays.{live_in_stays, part_live_stays}
+use Rattle.mmu_core.proofs.machine.PartStepping.{IsPart}
+use Rattle.mmu_core.proofs.words.PartWords.{areas_stay, slots_are, slots_behind}
+use Rattle.mmu_core.proofs.pages.Standing.{spot_after, spot_of, up_after}
+use Rattle.mmu_core.proofs.pages.TreeKept.{found_live, looked_word}
+use Rattle.mmu_core.proofs.pages.TreePlaces.{all_reached}
+
+-- It says nothing of what is no leaf.
+pub leaves_light : (pool host : ℕ → ℕ) (set : ℕ) → IsLight (LeafIsFor pool host set)
+leaves_light pool host set = record {
+  absent = λ level gfn leaf. let none = kind_of_absent level in absurd (cc (none, leaf));
+  link = λ level gfn page upper small leaf. let links = kind_of_table level page upper small in absurd (cc (links, leaf));
+}
+
+-- What was live is live, and the same, in the slot set that is published behind the step.
+live_behind : (z : Sizes) (v : View) (a : ℕ) (step : PartStep) (note : ℕ) → IsPart z v a step → TopicsInvariant z v
+    → StayLive (v.words area.Pool) (v.words area.Slots 0) ((part_stepped a step note v).words area.Pool) (slots_behind step (v.hand a).topics (v.words area.Slots 0))
+live_behind z v a part.Publish note S I = S.replaces
+live_behind z v a step note S I = λ id slot live. live_in_stays (v.words area.Slots 0) (v.words area.Pool) ((part_stepped a step note v).words area.Pool) id slot (part_live_stays z v a step note S I) live
+
+-- A new leaf is the one for the guest frame that its fault is for.
+new_leaf : (z : Sizes) (v : View) (a : ℕ) (step : PartStep) → IsPart z v a step → TopicsInvariant z v → OfNewLeaf step (v.hand a).topics (LeafIsFor (v.words area.Pool) (v.words area.Host) (v.words area.Slots 0))
+new_leaf z v a (part.Leaf gfn) S I = λ other over leaf. (S.needs.1, subst (λ g. IsLeafFor (v.words area.Pool) (v.words area.Host) (v.words area.Slots 0) g (leaf_written t)) (sym (same other over)) own)
+  where
+    t : Topics
+    t = (v.hand a).topics
+
+    same : (other : ℕ) → other / level_span t.walk.level ≡ gfn / level_span t.walk.level → other ≡ gfn
+    same other over =
+        let one : level_span t.walk.level ≡ 1 = ap level_span S.needs.1 ∙ span_1 in
+        let frames : other / 1 ≡ gfn / 1 = subst (λ n. other / n ≡ gfn / n) one over in
+        omega (arith, frames)
+
+    own : IsLeafFor (v.words area.Pool) (v.words area.Host) (v.words area.Slots 0) gfn (leaf_written t)
+    own = let found = S.needs.0.looked_up in record {
+      id = t.search.id - 1;
+      slot = t.search.slot;
+      live = found_live z v a gfn S.there I found.found;
+      holds = found.found.holds;
+      is = ap (leaf_of t.search.slot) (looked_word z v a gfn S.there I found);
+    }
+new_leaf z v a _ S I = tt
+
+pub leaves_kept : (z : Sizes) (v : View) (a : ℕ) (step : PartStep) (note : ℕ) → IsPart z v a step → (I : TopicsInvariant z v)
+    → AllOver (up_after step a (v.hand a).topics v I.up) (spot_after step (v.hand a).topics v I.spot) ((part_stepped a step note v).words area.Pool) ((part_stepped a step note v).words area.Root 0)
+    (LeafIsFor ((part_stepped a step note v).words area.Pool) ((part_stepped a step note v).words area.Host) ((part_stepped a step note v).words area.Slots 0))
+leaves_kept z v a step note S I =
+    let w : View = part_stepped a step note v in
+    let up : ℕ → Use = up_after step a (v.hand a).topics v I.up in
+    let spot : ℕ → Position = spot_after step (v.hand a).topics v I.spot in
+    let set : ℕ = v.words area.Slots 0 in
+    let before : ℕ → ℕ = v.words area.Pool in
+    let behind : ℕ = slots_behind step (v.hand a).topics set in
+    let host : ℕ → ℕ = v.words area.Host in
+    subst (λ (r : ℕ → ℕ). AllOver up spot (w.words area.Pool) (r 0) (LeafIsFor (w.words area.Pool) (w.words area.Host) (w.words area.Slots 0))) (sym (areas_stay v a step note area.Root refl))
+    (subst (λ (h : ℕ → ℕ). AllOver up spot (w.words area.Pool) (v.words area.Root 0) (LeafIsFor (w.words area.Pool) h (w.words area.Slots 0))) (sym (areas_stay v a step note area.Host refl))
+    (subst (λ s. AllOver up spot (w.words area.Pool) (v.words area.Root 0) (LeafIsFor (w.words area.Pool) host s)) (sym (slots_are v a step note))
+    (over_weaker up spot (w.words area.Pool) (v.words area.Root 0) (LeafIsFor before host set) (LeafIsFor (w.words area.Pool) host behind)
+    (λ level gfn word so leaf. let is = so leaf in (is.0, leaf_stays before set (w.words area.Pool) behind (live_behind z v a step note S I) host gfn word is.1))
+    (over_step z v a step note S I (v.words area.Root 0) (LeafIsFor before host set) (ap is_table I.tree.top) (leaves_light before host set) (new_leaf z v a step S I) I.leaves))))
+
+-- A leaf in a table that stands here is the one for each guest frame that its entry is over.
+pub leaf_for : (z : Sizes) (v : View) (I : TopicsInvariant z v) (k level prefix entry gfn : ℕ) → stands I.up I.spot k ≡ Some (at level prefix) → entry < 512 → gfn / level_span level ≡ prefix * 512 + entry
+    → kind_of level (v.words area.Pool (pool_index k entry)) ≡ entry_kind.Leaf → (level ≡ 1) × IsLeafFor (v.words area.Pool) (v.words area.Host) (v.words area.Slots 0) gfn (v.words area.Pool (pool_index k entry))
+leaf_for z v I k level prefix entry gfn at_k low over =
+    let here : I.spot k ≡ at level prefix = (spot_of I.up I.spot k (at level prefix) at_k).1 in
+    subst (λ (p : Position). LeafIsFor (v.words area.Pool) (v.words area.Host) (v.words area.Slots 0) p.level gfn (v.words area.Pool (pool_index k entry))) here
+    (I.leaves k entry gfn (all_reached I.tree k (at level prefix) at_k) (low, subst (λ (p : Position). gfn / level_span p.level ≡ p.prefix * 512 + entry) (sym here) over))

@@ -1,0 +1,137 @@
+-- Each table that a walk has gone through is a table, down to the one that it has come to.
+use Rattle.std.proofs.Common.{◌≡◌, ◌+◌, ◌*◌, ◌/◌, ◌^◌, ◌<◌, ◌≤◌, ℕ, zero, suc, refl, ap, ◌∙◌, arith}
+use Rattle.std.specs.Prelude.{◌-◌, Bool, true, false, ◌==◌, not, if◌then◌else◌, Option, Some, None}
+use Rattle.std.proofs.lemmas.Bool.Decides.{nat_tests}
+use Rattle.core_views.specs.declared.topics.TableWalk.{TableWalk}
+use Rattle.core_views.specs.declared.topics.Topics.{Topics}
+use Rattle.spte_words.specs.Entries.{kind_of}
+use Rattle.part_steps.specs.declared.part_step.PartStep.{PartStep}
+use Rattle.part_steps.specs.declared.part_step.PartStep.TheVariants as part
+use Rattle.part_steps.specs.PartSteps.{leaf_written, link_written}
+use Rattle.part_steps.specs.PartTopics.{part_topics}
+use Rattle.part_steps.specs.TopicSteps.{gone_down, is_outside, linked_page, may_walk, swapped}
+use Rattle.core_views.specs.declared.sizes.Sizes.{Sizes}
+use Rattle.core_views.specs.Held.{Held}
+use Rattle.core_views.specs.Sizes.{actors_of}
+use Rattle.mmu_core.specs.invariant.HeldPart.{HeldPart, PathPart, run_at, table_at}
+use Rattle.mmu_core.specs.invariant.TopicsInvariant.{TopicsInvariant}
+use Rattle.mmu_core.specs.invariant.TreePart.{Position, at, stands}
+use Rattle.mmu_core.specs.machine.View.{View, answer_in, part_stepped}
+use Rattle.part_steps.specs.PartSteps.{part_task}
+use Rattle.std.proofs.lemmas.Bool.{cases_lt}
+use Rattle.std.proofs.Common.{◌⊎◌, inl, inr, sym, subst}
+use Rattle.mmu_core.proofs.machine.Columns.{at_upd}
+use Rattle.mmu_core.proofs.machine.PartStepping.{IsPart}
+use Rattle.mmu_core.proofs.words.PartTopics.{behind_step, part_behind}
+use Rattle.mmu_core.proofs.pages.Standing.{spot_after, up_after}
+use Rattle.mmu_core.proofs.pages.UsesStay.{stays_standing}
+
+-- Above the table that a walk has come to, it has gone through the tables that it had gone through or come to before, for the same runs.
+pub record GoesOnAt (before after : TableWalk) (level : ℕ) : Type 0 where
+  pub from : 1 ≤ before.level
+  pub down : before.level ≤ level
+  pub table : table_at level after ≡ table_at level before
+  pub run : run_at level after ≡ run_at level before
+
+abbrev pub GoesOn : TableWalk → TableWalk → Type 0
+GoesOn before after = (level : ℕ) → 1 ≤ after.level → after.level < level → level ≤ 4 → GoesOnAt before after level
+
+pub stays : (walk : TableWalk) → GoesOn walk walk
+stays walk level from above most = record { from = from; down = omega (arith, above); table = refl; run = refl }
+
+kept_goes : (b : Bool) (walk : TableWalk) → GoesOn walk (record walk { level = if b then walk.level else 0 })
+kept_goes true walk level from above most = record { from = from; down = omega (arith, above); table = refl; run = refl }
+kept_goes false walk level from above most = absurd (omega (arith, from))
+
+rooted_goes : (b : Bool) (walk : TableWalk) (v : ℕ) → GoesOn walk (record walk { level = if b then 4 else 0; prefix = 0; root = v; index = 512 })
+rooted_goes true walk v level from above most = absurd (omega (arith, above, most))
+rooted_goes false walk v level from above most = absurd (omega (arith, from))
+
+-- A run of one level lower lies in the same runs above.
+same_run : (n prefix index : ℕ) → n ≤ 3 → index < 512 → (prefix * 512 + index) / 512 ^ (n + 1) ≡ prefix / 512 ^ n
+same_run zero prefix index few low = omega (arith, low)
+same_run (suc zero) prefix index few low = omega (arith, low)
+same_run (suc (suc zero)) prefix index few low = omega (arith, low)
+same_run (suc (suc (suc zero))) prefix index few low = omega (arith, low)
+same_run (suc (suc (suc (suc n)))) prefix index few low = absurd (omega (arith, few))
+
+down_goes : (to : Option ℕ) (walk : TableWalk) (index v : ℕ) → index < 512 → GoesOn walk (gone_down to walk index v)
+down_goes None walk index v low level from above most = record { from = from; down = omega (arith, above); table = refl; run = refl }
+down_goes (Some page) walk index v low level from above most = record { from = omega (arith, from); down = omega (arith, from, above); table = same; run = run }
+  where
+    run : run_at level (gone_down (Some page) walk index v) ≡ run_at level walk
+    run =
+        let lower : level - (walk.level - 1) ≡ (level - walk.level) + 1 = omega (arith, from, above) in
+        ap (λ n. (walk.prefix * 512 + index) / 512 ^ n) lower ∙ same_run (level - walk.level) walk.prefix index (omega (arith, from, most)) low
+
+    third : level ≡ 3 → (walk.level == 4) ≡ false
+    third e = grind (arith, nat_tests)
+
+    second : level ≡ 2 → (walk.level == 3) ≡ false
+    second e = grind (arith, nat_tests)
+
+    same : table_at level (gone_down (Some page) walk index v) ≡ table_at level walk
+    same = by (level == 4) (level == 3) (level == 2) (λ e. third (grind (arith, nat_tests))) (λ e. second (grind (arith, nat_tests))) (λ e. grind (arith, nat_tests))
+      where
+        by : (four three two : Bool) → (three ≡ true → (walk.level == 4) ≡ false) → (two ≡ true → (walk.level == 3) ≡ false) → ((four ≡ false) × (three ≡ false) × (two ≡ false) → ⊥)
+            → (if four then walk.root else if three then (if walk.level == 4 then page else walk.third) else if two then (if walk.level == 3 then page else walk.second) else if walk.level == 2 then page else walk.first)
+            ≡ (if four then walk.root else if three then walk.third else if two then walk.second else walk.first)
+        by true three two a b c = refl
+        by false true two a b c = ap (λ (x : Bool). if x then page else walk.third) (a refl)
+        by false false true a b c = ap (λ (x : Bool). if x then page else walk.second) (b refl)
+        by false false false a b c = absurd (c (refl, refl, refl))
+
+swap_goes : (won : Bool) (walk : TableWalk) (index new_ v : ℕ) → index < 512 → GoesOn walk (swapped won walk index new_ v)
+swap_goes true walk index new_ v low = down_goes (linked_page (kind_of walk.level new_)) walk index new_ low
+swap_goes false walk index new_ v low = down_goes None walk index v low
+
+-- So it is behind each step of a part.
+pub part_goes : (step : PartStep) (t : Topics) (v : ℕ) → GoesOn t.walk (part_topics step t v).walk
+part_goes part.Enter t v = kept_goes false t.walk
+part_goes part.Leave t v = kept_goes false t.walk
+part_goes part.Begin t v = kept_goes false t.walk
+part_goes part.End t v = kept_goes false t.walk
+part_goes part.Unshare t v = kept_goes (not (is_outside t.stay)) t.walk
+part_goes part.Release t v = kept_goes (not (is_outside t.stay)) t.walk
+part_goes part.Root t v = rooted_goes (may_walk t.stay t.hold) t.walk v
+part_goes (part.Walk gfn) t v = down_goes (linked_page (kind_of t.walk.level v)) t.walk _ v (omega arith)
+part_goes (part.Link gfn) t v = swap_goes (v == t.walk.entry) t.walk _ (link_written t) v (omega arith)
+part_goes (part.Leaf gfn) t v = swap_goes (v == t.walk.entry) t.walk _ (leaf_written t) v (omega arith)
+part_goes _ t v = stays t.walk
+
+-- ---- The tables of a walk stand behind each step.
+
+-- The table that the walk has come to stands so as those that it has gone through.
+pub whole_path : (stands : ℕ → Option Position) (t : Topics) → HeldPart stands t → PathPart stands t.walk → (level : ℕ) → 1 ≤ t.walk.level → t.walk.level ≤ level → level ≤ 4 → stands (table_at level t.walk) ≡ Some (at level (run_at level t.walk))
+whole_path stands t H P level from down most = by (cases_lt t.walk.level level)
+  where
+    by : (t.walk.level < level) ⊎ (level ≤ t.walk.level) → stands (table_at level t.walk) ≡ Some (at level (run_at level t.walk))
+    by (inl above) = P level from above most
+    by (inr not_above) =
+        let here : t.walk.level ≡ level = omega (arith, down, not_above) in
+        let none : t.walk.level - t.walk.level ≡ 0 = omega arith in
+        let own : t.walk.prefix ≡ run_at t.walk.level t.walk = sym (ap (λ n. t.walk.prefix / 512 ^ n) none ∙ omega arith) in
+        subst (λ l. stands (table_at l t.walk) ≡ Some (at l (run_at l t.walk))) here (H.table from ∙ ap (λ r. Some (at t.walk.level r)) own)
+
+-- A walk that went on is at tables where those stand that it had come to.
+path_on : (before after : ℕ → Option Position) (t s : Topics) → ((k : ℕ) (p : Position) → before k ≡ Some p → after k ≡ Some p) → GoesOn t.walk s.walk → HeldPart before t → PathPart before t.walk → PathPart after s.walk
+path_on before after t s stay goes H P level from above most =
+    let on = goes level from above most in
+    stay (table_at level s.walk) (at level (run_at level s.walk)) (ap before on.table ∙ whole_path before t H P level on.from on.down most ∙ ap (λ r. Some (at level r)) (sym on.run))
+
+-- what is said of the paths of all walks, of a view
+abbrev PathsAt : Sizes → (ℕ → Option Position) → View → Type 0
+PathsAt z stands v = (i : ℕ) → i < actors_of z → PathPart stands (v.hand i).topics.walk
+
+pub paths_kept : (z : Sizes) (v : View) (a : ℕ) (step : PartStep) (note : ℕ) → IsPart z v a step → (I : TopicsInvariant z v)
+    → PathsAt z (stands (up_after step a (v.hand a).topics v I.up) (spot_after step (v.hand a).topics v I.spot)) (part_stepped a step note v)
+paths_kept z v a step note S I = behind_step (PathsAt z after) z v a step note S behind
+  where
+    after : ℕ → Option Position
+    after = stands (up_after step a (v.hand a).topics v I.up) (spot_after step (v.hand a).topics v I.spot)
+
+    behind : PathsAt z after (part_behind a step note v)
+    behind =
+        at_upd (λ i (h : Held). i < actors_of z → PathPart after h.topics.walk) v.hand a _
+        (λ lt. path_on (stands I.up I.spot) after (v.hand a).topics (part_topics step (v.hand a).topics (answer_in (part_task step a (v.hand a).topics note) v.words)) (stays_standing z v a step S I) (part_goes step (v.hand a).topics _) (I.held a lt) (I.paths a lt))
+        (λ i apart lt level from above most. stays_standing z v a step S I (table_at level (v.hand i).topics.walk) (at level (run_at level (v.hand i).topics.walk)) (I.paths i lt level from above most))

@@ -1,0 +1,157 @@
+-- What a page of the pool is, it is alone: free, owned by one actor, a table, the published slot set, or leaving.
+use Rattle.std.proofs.Common.{◌≡◌, ◌≢◌, ◌<◌, ℕ, refl, sym, ap, ◌∙◌, arith}
+use Rattle.std.specs.Prelude.{Bool, true, false, ◌==◌, ◌&&◌, nat_le, nat_lt, Option, Some, None}
+use Rattle.std.proofs.lemmas.Bool.Decides.{nat_tests}
+use Rattle.core_views.specs.declared.topics.OwnedPage.{OwnedPage}
+use Rattle.mmu_core.specs.invariant.PoolPart.{UsePart, is_free, is_leaving, is_owned, is_use, leaves, owns}
+use Rattle.mmu_core.specs.invariant.TreePart.{Position, Use, stands}
+use Rattle.mmu_core.specs.invariant.TreePart.Use.{Free, OldSet, Outside, Owned, Root, SlotSet, Under}
+use Rattle.mmu_core.proofs.pages.Standing.{no_table}
+
+-- A number is itself, and no other one.
+pub itself : (k : ℕ) → (k == k) ≡ true
+itself k = grind (arith, nat_tests)
+
+pub other : (k l : ℕ) → k ≢ l → (k == l) ≡ false
+other k l apart = grind (arith, nat_tests)
+
+pub tells : (k l : ℕ) → (k == l) ≡ true → k ≡ l
+tells k l is = grind (arith, nat_tests)
+
+pub among : (i n : ℕ) → i < n → nat_lt i n ≡ true
+among i n lt = grind (arith, nat_tests)
+
+pub among_tells : (i n : ℕ) → nat_lt i n ≡ true → i < n
+among_tells i n is = grind (arith, nat_tests)
+
+pub no_outside : (k pages : ℕ) → k < pages → nat_le pages k ≡ false
+no_outside k pages lt = grind (arith, nat_tests)
+
+pub both : (a b : Bool) → (a && b) ≡ true → (a ≡ true) × (b ≡ true)
+both true b is = (refl, is)
+both false b is = absurd (cc is)
+
+-- Uses that are found to be one are one.
+pub use_is : (u w : Use) → is_use u w ≡ true → w ≡ u
+use_is Free Free is = refl
+use_is Root Root is = refl
+use_is SlotSet SlotSet is = refl
+use_is Outside Outside is = refl
+use_is (Owned i) (Owned j) is = ap Owned (sym (tells i j is))
+use_is (Under k i) (Under l j) is = let e = both (k == l) (i == j) is in let page = tells k l e.0 in let entry = tells i j e.1 in λ t. Under (sym page t) (sym entry t)
+use_is (OldSet i) (OldSet j) is = ap OldSet (sym (tells i j is))
+use_is _ _ is = absurd (cc is)
+
+pub owns_it : (n : ℕ) (owned : ℕ → Option OwnedPage) (i : ℕ) (o : OwnedPage) → i < n → owned i ≡ Some o → owns n owned i o.page ≡ true
+owns_it n owned i o lt is = ap (λ b. b && is_owned (owned i) o.page) (among i n lt) ∙ ap (λ x. is_owned x o.page) is ∙ itself o.page
+
+pub leaves_it : (n : ℕ) (leaving : ℕ → Option ℕ) (i k : ℕ) → i < n → leaving i ≡ Some k → leaves n leaving i k ≡ true
+leaves_it n leaving i k lt is = ap (λ b. b && is_leaving (leaving i) k) (among i n lt) ∙ ap (λ x. is_leaving x k) is ∙ itself k
+
+-- Who owns a page, and for whom a page leaves.
+pub record HasOwner (n : ℕ) (owned : ℕ → Option OwnedPage) (i page : ℕ) : Type 0 where
+  pub there : i < n
+  pub owned_page : OwnedPage
+  pub is : owned i ≡ Some owned_page
+  pub of_page : owned_page.page ≡ page
+
+owned_tells : (x : Option OwnedPage) (page : ℕ) → is_owned x page ≡ true → (o : OwnedPage) × (x ≡ Some o) × (o.page ≡ page)
+owned_tells None page is = absurd (cc is)
+owned_tells (Some o) page is = (o, refl, tells o.page page is)
+
+leaving_tells : (x : Option ℕ) (page : ℕ) → is_leaving x page ≡ true → x ≡ Some page
+leaving_tells None page is = absurd (cc is)
+leaving_tells (Some k) page is = ap Some (tells k page is)
+
+module _ {n pages slots : ℕ} {map : ℕ → ℕ} {owned : ℕ → Option OwnedPage} {leaving : ℕ → Option ℕ} {up : ℕ → Use} (U : UsePart n pages slots map owned leaving up) where
+  -- What a page is, by the words and hands.
+  pub free_use : (k : ℕ) → is_free map k ≡ true → up k ≡ Free
+  free_use k free = use_is Free (up k) (sym (U.free k) ∙ free)
+
+  pub owned_use : (i : ℕ) (o : OwnedPage) → i < n → owned i ≡ Some o → up o.page ≡ Owned i
+  owned_use i o lt is = use_is (Owned i) (up o.page) (sym (U.owner i o.page) ∙ owns_it n owned i o lt is)
+
+  pub left_use : (i k : ℕ) → i < n → leaving i ≡ Some k → up k ≡ OldSet i
+  left_use i k lt is = use_is (OldSet i) (up k) (sym (U.leaver i k) ∙ leaves_it n leaving i k lt is)
+
+  pub set_use : up slots ≡ SlotSet
+  set_use = use_is SlotSet (up slots) (sym (U.set slots) ∙ itself slots)
+
+  -- And back.
+  pub has_owner : (i page : ℕ) → up page ≡ Owned i → HasOwner n owned i page
+  has_owner i page is =
+      let e = both (nat_lt i n) (is_owned (owned i) page) (U.owner i page ∙ ap (is_use (Owned i)) is ∙ itself i) in
+      let o = owned_tells (owned i) page e.1 in
+      record { there = among_tells i n e.0; owned_page = o.0; is = o.1; of_page = o.2 }
+
+  pub has_leaver : (i page : ℕ) → up page ≡ OldSet i → (i < n) × (leaving i ≡ Some page)
+  has_leaver i page is =
+      let e = both (nat_lt i n) (is_leaving (leaving i) page) (U.leaver i page ∙ ap (is_use (OldSet i)) is ∙ itself i) in
+      (among_tells i n e.0, leaving_tells (leaving i) page e.1)
+
+  -- A page that is something else than outside is one of the pool.
+  pub in_pool : (k : ℕ) (u : Use) → up k ≡ u → is_use Outside u ≡ false → k < pages
+  in_pool k u is inside = within k (U.outside k ∙ ap (is_use Outside) is ∙ inside)
+    where
+      within : (l : ℕ) → nat_le pages l ≡ false → l < pages
+      within l e = grind (arith, nat_tests)
+
+  pub owned_there : (i : ℕ) (o : OwnedPage) → i < n → owned i ≡ Some o → o.page < pages
+  owned_there i o lt is = in_pool o.page (Owned i) (owned_use i o lt is) refl
+
+  pub left_there : (i k : ℕ) → i < n → leaving i ≡ Some k → k < pages
+  left_there i k lt is = in_pool k (OldSet i) (left_use i k lt is) refl
+
+  pub slots_there : slots < pages
+  slots_there = in_pool slots SlotSet set_use refl
+
+  pub free_there : (k : ℕ) → is_free map k ≡ true → k < pages
+  free_there k free = in_pool k Free (free_use k free) refl
+
+  -- A page that is something else isn't free.
+  pub not_free : (k : ℕ) (u : Use) → up k ≡ u → is_use Free u ≡ false → is_free map k ≡ false
+  not_free k u is used = U.free k ∙ ap (is_use Free) is ∙ used
+
+  -- An owned page isn't free, is no table and isn't the published slot set.
+  pub owned_not_free : (i : ℕ) (o : OwnedPage) → i < n → owned i ≡ Some o → is_free map o.page ≡ false
+  owned_not_free i o lt is = not_free o.page (Owned i) (owned_use i o lt is) refl
+
+  pub owned_no_table : (spot : ℕ → Position) (i : ℕ) (o : OwnedPage) (p : Position) → i < n → owned i ≡ Some o → stands up spot o.page ≡ Some p → ⊥
+  owned_no_table spot i o p lt is = no_table up spot o.page p (Owned i) (owned_use i o lt is) refl
+
+  pub owned_not_slots : (i : ℕ) (o : OwnedPage) → i < n → owned i ≡ Some o → o.page ≢ slots
+  owned_not_slots i o lt is e = let one = sym (owned_use i o lt is) ∙ ap up e ∙ set_use in absurd (cc one)
+
+  -- A page has one owner at most.
+  pub one_owner : (i j : ℕ) (o p : OwnedPage) → i < n → j < n → owned i ≡ Some o → owned j ≡ Some p → p.page ≡ o.page → i ≡ j
+  one_owner i j o p lt more is be same = let one = sym (owned_use i o lt is) ∙ ap up (sym same) ∙ owned_use j p more be in cc one
+
+  -- A table isn't free, isn't the published slot set, and has no owner.
+  pub table_not_free : (spot : ℕ → Position) (k : ℕ) (p : Position) → stands up spot k ≡ Some p → is_free map k ≡ false
+  table_not_free spot k p at = by (is_free map k) refl
+    where
+      by : (b : Bool) → is_free map k ≡ b → b ≡ false
+      by true free = absurd (no_table up spot k p Free (free_use k free) refl at)
+      by false free = refl
+
+  pub table_not_slots : (spot : ℕ → Position) (k : ℕ) (p : Position) → stands up spot k ≡ Some p → k ≢ slots
+  table_not_slots spot k p at e = no_table up spot k p SlotSet (ap up e ∙ set_use) refl at
+
+  pub table_not_owned : (spot : ℕ → Position) (k : ℕ) (p : Position) → stands up spot k ≡ Some p → (i : ℕ) (o : OwnedPage) → i < n → owned i ≡ Some o → o.page ≢ k
+  table_not_owned spot k p at i o lt is e = owned_no_table spot i o p lt is (ap (stands up spot) e ∙ at)
+
+  -- A page that is leaving isn't free, has no owner, is no table, and isn't the published slot set; and it leaves for one actor.
+  pub left_not_free : (i k : ℕ) → i < n → leaving i ≡ Some k → is_free map k ≡ false
+  left_not_free i k lt is = not_free k (OldSet i) (left_use i k lt is) refl
+
+  pub left_not_owned : (i k : ℕ) → i < n → leaving i ≡ Some k → (j : ℕ) (o : OwnedPage) → j < n → owned j ≡ Some o → o.page ≢ k
+  left_not_owned i k lt is j o more be e = let one = sym (owned_use j o more be) ∙ ap up e ∙ left_use i k lt is in absurd (cc one)
+
+  pub left_no_table : (spot : ℕ → Position) (i k : ℕ) (p : Position) → i < n → leaving i ≡ Some k → stands up spot k ≡ Some p → ⊥
+  left_no_table spot i k p lt is = no_table up spot k p (OldSet i) (left_use i k lt is) refl
+
+  pub left_not_slots : (i k : ℕ) → i < n → leaving i ≡ Some k → k ≢ slots
+  left_not_slots i k lt is e = let one = sym (left_use i k lt is) ∙ ap up e ∙ set_use in absurd (cc one)
+
+  pub one_leaver : (i j k : ℕ) → i < n → j < n → leaving i ≡ Some k → leaving j ≡ Some k → i ≡ j
+  one_leaver i j k lt more is be = let one = sym (left_use i k lt is) ∙ left_use j k more be in cc one

@@ -1,0 +1,202 @@
+-- Each step of a part keeps what the tables are.
+use Rattle.std.proofs.Math.Nat.{div-div-eq-div-mul}
+use Rattle.std.proofs.Common.{◌≡◌, ◌⊎◌, inl, inr, ◌+◌, ◌*◌, ◌/◌, ◌%◌, ◌^◌, ◌<◌, ◌≤◌, ℕ, refl, sym, subst, ap, ◌∙◌, arith}
+use Rattle.std.specs.Prelude.{Bool, true, false, ◌-◌, ◌==◌, if◌then◌else◌, Some}
+use Rattle.core_views.specs.declared.sizes.Sizes.{Sizes}
+use Rattle.core_views.specs.declared.topics.Topics.{Topics}
+use Rattle.core_views.specs.Sizes.{actors_of}
+use Rattle.spte_words.specs.declared.area.Area.TheVariants as area
+use Rattle.spte_words.specs.declared.spte_kind.SpteKind.TheVariants as entry_kind
+use Rattle.spte_words.specs.Areas.{pool_index}
+use Rattle.spte_words.specs.Entries.{absent_word, kind_of, level_span}
+use Rattle.spte_words.proofs.ReadsEntries.{kind_of_leaf, kind_of_table}
+use Rattle.spte_words.specs.HostWords.{host_allows_write, host_frame}
+use Rattle.part_steps.specs.SlotWords.{may_write}
+use Rattle.spte_words.proofs.Spans.{span_1, span_above}
+use Rattle.part_steps.specs.declared.part_step.PartStep.{PartStep}
+use Rattle.part_steps.specs.declared.part_step.PartStep.TheVariants as part
+use Rattle.part_steps.specs.PartSteps.{FoundSlot, LookedUp, MayEnter, OwnsTable, entry_index, leaf_written, link_written, page_owned, table_page, word_looked}
+use Rattle.mmu_core.specs.invariant.PoolPart.{IsFilled}
+use Rattle.part_steps.specs.SlotWords.{page_of}
+use Rattle.mmu_core.specs.invariant.TopicsInvariant.{TopicsInvariant}
+use Rattle.mmu_core.specs.invariant.TreePart.{EntryPart, IsLeafAt, IsLiveIn, IsWanted, Position, TreePart, Use, at, is_table, stands}
+use Rattle.mmu_core.specs.invariant.TreePart.Use.{Under}
+use Rattle.mmu_core.specs.machine.View.{View, part_stepped, upd}
+use Rattle.mmu_core.proofs.slots.LiveStays.{LiveStays, part_live_stays}
+use Rattle.mmu_core.proofs.machine.PartStepping.{IsPart}
+use Rattle.mmu_core.proofs.words.PartWords.{IsElsewhere, areas_stay, page_stays, role_stays, left_elsewhere, slots_are, slots_behind}
+use Rattle.mmu_core.proofs.pages.PoolPages.{left_no_table, owned_there, owned_use, table_not_owned, tells}
+use Rattle.mmu_core.proofs.pages.Standing.{entry_now, position_below, spot_after, up_after, upd_if}
+use Rattle.mmu_core.proofs.machine.SumsBelow.{upd_id}
+use Rattle.mmu_core.proofs.pages.TreePlaces.{link_stands}
+use Rattle.mmu_core.proofs.pages.TreeStored.{entry_stored, table_linked, tree_moved}
+use Rattle.mmu_core.proofs.pages.UsesStay.{is_link, same_tables, stay_same, stood_same}
+use Rattle.mmu_core.proofs.held.OldSets.{set_live}
+use Rattle.mmu_core.proofs.slots.LiveStay.{StayLive}
+
+absent_is : 0 ≡ absent_word
+unfolding absent_word
+absent_is = refl
+
+-- The run of the guest frame's entry, one level below the table that it is in.
+run_below : (gfn level prefix : ℕ) → 2 ≤ level → gfn / level_span level / 512 ≡ prefix → gfn / level_span (level - 1) / 512 ≡ prefix * 512 + gfn / level_span level % 512
+run_below gfn level prefix upper run =
+    let up : level - 1 + 1 ≡ level = omega (arith, upper) in
+    let span : level_span level ≡ 512 * level_span (level - 1) = ap level_span (sym up) ∙ span_above (level - 1) (omega (arith, upper)) in
+    let whole : gfn / level_span (level - 1) / 512 ≡ gfn / level_span level = div-div-eq-div-mul gfn (level_span (level - 1)) 512 ∙ ap (λ n. gfn / n) (omega (arith, span)) in
+    omega (arith, whole, run)
+
+-- At the lowest level the entry is the guest frame's own.
+pub run_lowest : (gfn level prefix : ℕ) → level ≡ 1 → gfn / level_span level / 512 ≡ prefix → prefix * 512 + gfn / level_span level % 512 ≡ gfn
+run_lowest gfn level prefix lowest run =
+    let span : level_span level ≡ 1 = ap level_span lowest ∙ span_1 in
+    let own : gfn / level_span level ≡ gfn = ap (λ n. gfn / n) span ∙ omega arith in
+    omega (arith, own, run)
+
+-- The slot that was loaded whole is live in the published slot set.
+pub found_live : (z : Sizes) (v : View) (a gfn : ℕ) → a < actors_of z → TopicsInvariant z v → FoundSlot gfn (v.hand a).topics → IsLiveIn (v.words area.Pool) (v.words area.Slots 0) ((v.hand a).topics.search.id - 1) (v.hand a).topics.search.slot
+found_live z v a gfn lt I found =
+    let t : Topics = (v.hand a).topics in
+    let held = (I.searches a lt).held found.whole in
+    set_live z v a held.0 lt I held.1 (t.search.id - 1) t.search.slot ((I.searches a lt).whole held.0 held.1 found.whole).1
+
+-- The word that was looked up is the host word of the page behind the guest frame.
+pub looked_word : (z : Sizes) (v : View) (a gfn : ℕ) → a < actors_of z → TopicsInvariant z v → LookedUp gfn (v.hand a).topics → word_looked (v.hand a).topics.host ≡ v.words area.Host (page_of (v.hand a).topics.search.slot gfn)
+looked_word z v a gfn lt I L = ap word_looked L.host ∙ (I.looks a lt).is (record { page = page_of (v.hand a).topics.search.slot gfn; word = L.word }) L.host
+
+-- What a fault puts into a table of the lowest level is a leaf.
+pub leaf_is : (t : Topics) → t.walk.level ≡ 1 → kind_of t.walk.level (leaf_written t) ≡ entry_kind.Leaf
+leaf_is t lowest =
+    let word : ℕ = word_looked t.host in
+    ap (λ l. kind_of l (leaf_written t)) lowest ∙ kind_of_leaf 1 (host_frame word) (may_write t.search.slot word) (host_allows_write word) (may_write t.search.slot word) (omega arith) (omega arith)
+
+-- An entry above the lowest level whose kind is absent is the absent word.
+pub absent_entry : {pages root set : ℕ} {role pool : ℕ → ℕ} {up : ℕ → Use} {spot : ℕ → Position} (T : TreePart pages root set role pool up spot) (k level prefix j : ℕ) → stands up spot k ≡ Some (at level prefix) → j < 512 → 2 ≤ level → pages < 2 ^ 32
+    → kind_of level (pool (pool_index k j)) ≡ entry_kind.Absent → pool (pool_index k j) ≡ absent_word
+absent_entry {pages} {root} {set} {role} {pool} {up} {spot} T k level prefix j at_k low upper few kind = by (T.entries k (at level prefix) at_k j low)
+  where
+    by : EntryPart up k (at level prefix) j (pool (pool_index k j)) → pool (pool_index k j) ≡ absent_word
+    by (inl e) = e
+    by (inr (inl L)) =
+        let there = T.there L.page (at (level - 1) (prefix * 512 + j)) (link_stands T k (at level prefix) j (pool (pool_index k j)) at_k L) in
+        let links : kind_of level (pool (pool_index k j)) ≡ entry_kind.Table L.page = ap (kind_of level) L.is ∙ kind_of_table level L.page upper (omega (arith, few, there.0)) in
+        absurd (cc (kind, links))
+    by (inr (inr L)) = absurd (omega (arith, L.lowest, upper))
+
+-- Where the step stores in no table, all tables stay.
+stay : (z : Sizes) (v : View) (a : ℕ) (step : PartStep) (note : ℕ) → IsPart z v a step → (I : TopicsInvariant z v) → is_link step ≡ false → ((k : ℕ) (p : Position) → stands I.up I.spot k ≡ Some p → IsElsewhere step (v.hand a).topics k)
+    → TreePart z.pool (v.words area.Root 0) (v.words area.Slots 0) ((part_stepped a step note v).words area.Role) ((part_stepped a step note v).words area.Pool) (up_after step a (v.hand a).topics v I.up) I.spot
+stay z v a step note S I never elsewhere =
+    let same = same_tables z v a step S I never in
+    let after : ℕ → Use = up_after step a (v.hand a).topics v I.up in
+    tree_moved I.tree ((part_stepped a step note v).words area.Role) ((part_stepped a step note v).words area.Pool) after I.spot (stay_same I.up after I.spot same)
+    (λ k p is. inl (stood_same I.up after I.spot same k p is)) (λ k p is. role_stays z v a step note S k (elsewhere k p is)) (λ k p is j low. inl (page_stays z v a step note S k (elsewhere k p is) j low)) (part_live_stays z v a step note S I)
+
+-- An exchange that was lost leaves the pool.
+lost : {pages root set : ℕ} {role pool : ℕ → ℕ} {up : ℕ → Use} {spot : ℕ → Position} (i : ℕ) → TreePart pages root set role pool up spot → TreePart pages root set role (upd pool i (pool i)) up spot
+lost {pages} {root} {set} {role} {pool} {up} {spot} i T = subst (λ (words : ℕ → ℕ). TreePart pages root set role words up spot) (sym (upd_id pool i)) T
+
+module _ (z : Sizes) (v : View) (a gfn note : ℕ) (I : TopicsInvariant z v) where
+  abbrev t : Topics
+  t = (v.hand a).topics
+
+  abbrev index : ℕ
+  index = entry_index gfn t.walk.level
+
+  abbrev here : ℕ
+  here = pool_index (table_page t.walk) index
+
+  -- the words of the pool behind an exchange for the new entry
+  abbrev exchanged : Bool → ℕ → ℕ → ℕ
+  exchanged won new_ = upd (v.words area.Pool) here (if won then new_ else entry_now gfn t v)
+
+  linked : (S : IsPart z v a (part.Link gfn)) (won : Bool) → (entry_now gfn t v == t.walk.entry) ≡ won → LiveStays (v.words area.Slots 0) (v.words area.Pool) (exchanged won (link_written t))
+      → TreePart z.pool (v.words area.Root 0) (v.words area.Slots 0) (v.words area.Role) (exchanged won (link_written t)) (upd_if won I.up (page_owned t.owned) (Under (table_page t.walk) index)) (upd_if won I.spot (page_owned t.owned) (position_below gfn t))
+  linked S false is live = lost here I.tree
+  linked S true is live =
+      table_linked I.tree (table_page t.walk) t.walk.level t.walk.prefix index (page_owned t.owned) ((I.held a S.there).table may.saw.over.there) S.needs.1 (omega arith) absent
+      (ap (λ k. is_table (I.up k)) page ∙ ap is_table (owned_use I.uses a owns.owned S.there owns.is))
+      (omega (arith, page, owned_there I.uses a owns.owned S.there owns.is))
+      (ap (v.words area.Role) page ∙ filled.role_is owns.whole ∙ owns.role)
+      (λ i low. ap (λ k. v.words area.Pool (pool_index k i)) page ∙ filled.absent owns.absent i (omega (arith, low, owns.whole)) low ∙ absent_is)
+      (record { gfn = gfn; id = t.search.id - 1; slot = t.search.slot; live = found_live z v a gfn S.there I may.looked_up.found; holds = may.looked_up.found.holds; run = run_below gfn t.walk.level t.walk.prefix S.needs.1 may.saw.over.run })
+      live
+    where
+      may : MayEnter gfn t
+      may = S.needs.0
+
+      owns : OwnsTable (t.walk.level - 1) t
+      owns = S.needs.3
+
+      absent : v.words area.Pool here ≡ absent_word
+      absent =
+          absent_entry I.tree (table_page t.walk) t.walk.level t.walk.prefix index
+          ((I.held a S.there).table may.saw.over.there) (omega arith) S.needs.1 (omega (arith, S.is_sizes.pool.1)) (ap (kind_of t.walk.level) (tells (entry_now gfn t v) t.walk.entry is) ∙ S.needs.2)
+
+      page : page_owned t.owned ≡ owns.owned.page
+      page = ap page_owned owns.is
+
+      filled : IsFilled (v.words area.Role) (v.words area.Pool) owns.owned
+      filled = I.filled a owns.owned S.there owns.is
+
+  leafed : (S : IsPart z v a (part.Leaf gfn)) (won : Bool) → LiveStays (v.words area.Slots 0) (v.words area.Pool) (exchanged won (leaf_written t))
+      → TreePart z.pool (v.words area.Root 0) (v.words area.Slots 0) (v.words area.Role) (exchanged won (leaf_written t)) I.up I.spot
+  leafed S false live = lost here I.tree
+  leafed S true live =
+      entry_stored I.tree (table_page t.walk) (at t.walk.level t.walk.prefix) index (leaf_written t)
+      ((I.held a S.there).table may.saw.over.there) (omega arith)
+      (record { entry = inr (inr leaf); no_link = inl S.needs.1 })
+      live
+    where
+      may : MayEnter gfn t
+      may = S.needs.0
+
+      leaf : IsLeafAt (at t.walk.level t.walk.prefix) (leaf_written t)
+      leaf = record { lowest = S.needs.1; leaf = leaf_is t S.needs.1 }
+
+-- What the tables are behind each step; the root, the published set and the host's words stay.
+tree_behind : (z : Sizes) (v : View) (a : ℕ) (step : PartStep) (note : ℕ) → IsPart z v a step → (I : TopicsInvariant z v)
+    → TreePart z.pool (v.words area.Root 0) (v.words area.Slots 0) ((part_stepped a step note v).words area.Role) ((part_stepped a step note v).words area.Pool) (up_after step a (v.hand a).topics v I.up) (spot_after step (v.hand a).topics v I.spot)
+tree_behind z v a (part.Link gfn) note S I = linked z v a gfn note I S (entry_now gfn (v.hand a).topics v == (v.hand a).topics.walk.entry) refl (part_live_stays z v a (part.Link gfn) note S I)
+tree_behind z v a (part.Leaf gfn) note S I = leafed z v a gfn note I S (entry_now gfn (v.hand a).topics v == (v.hand a).topics.walk.entry) (part_live_stays z v a (part.Leaf gfn) note S I)
+tree_behind z v a (part.Fill value) note S I =
+    stay z v a (part.Fill value) note S I refl (λ k p is o owns. table_not_owned I.uses I.spot k p is a o S.there owns)
+tree_behind z v a part.Clear note S I =
+    stay z v a part.Clear note S I refl (λ k p is. left_elsewhere (v.hand a).topics S.needs.leaves k
+    (λ l left e. left_no_table I.uses I.spot a l p S.there left (ap (stands I.up I.spot) e ∙ is)))
+tree_behind z v a step note S I = stay z v a step note S I refl (λ k p is. tt)
+
+-- A slot set is published that has each slot of the one before it.
+tree_republished : {pages root set : ℕ} {role pool : ℕ → ℕ} {up : ℕ → Use} {spot : ℕ → Position} (other : ℕ) → StayLive pool set pool other → TreePart pages root set role pool up spot → TreePart pages root other role pool up spot
+tree_republished {pages} {root} {set} {role} {pool} {up} {spot} other stay T = record {
+  top = T.top;
+  only = T.only;
+  top_at = T.top_at;
+  under = T.under;
+  there = T.there;
+  roles = T.roles;
+  entries = T.entries;
+  wanted = λ k p is. want k p (T.wanted k p is);
+}
+  where
+    want : (k : ℕ) (p : Position) → (k ≡ root) ⊎ IsWanted pool set p → (k ≡ root) ⊎ IsWanted pool other p
+    want k p (inl e) = inl e
+    want k p (inr W) = inr (record { gfn = W.gfn; id = W.id; slot = W.slot; live = stay W.id W.slot W.live; holds = W.holds; run = W.run })
+
+-- What the tables are of the set that is published behind each step.
+tree_set : (z : Sizes) (v : View) (a : ℕ) (step : PartStep) (note : ℕ) → IsPart z v a step → (I : TopicsInvariant z v)
+    → TreePart z.pool (v.words area.Root 0) (slots_behind step (v.hand a).topics (v.words area.Slots 0)) ((part_stepped a step note v).words area.Role) ((part_stepped a step note v).words area.Pool) (up_after step a (v.hand a).topics v I.up) (spot_after step (v.hand a).topics v I.spot)
+tree_set z v a part.Publish note S I = tree_republished (page_owned (v.hand a).topics.owned) S.replaces (tree_behind z v a part.Publish note S I)
+tree_set z v a step note S I = tree_behind z v a step note S I
+
+-- Each step of a part keeps what the tables are.
+pub tree_kept : (z : Sizes) (v : View) (a : ℕ) (step : PartStep) (note : ℕ) → IsPart z v a step → (I : TopicsInvariant z v)
+    → TreePart z.pool ((part_stepped a step note v).words area.Root 0) ((part_stepped a step note v).words area.Slots 0) ((part_stepped a step note v).words area.Role) ((part_stepped a step note v).words area.Pool)
+    (up_after step a (v.hand a).topics v I.up) (spot_after step (v.hand a).topics v I.spot)
+tree_kept z v a step note S I =
+    let w : View = part_stepped a step note v in
+    let up : ℕ → Use = up_after step a (v.hand a).topics v I.up in
+    let spot : ℕ → Position = spot_after step (v.hand a).topics v I.spot in
+    subst (λ (r : ℕ → ℕ). TreePart z.pool (r 0) (w.words area.Slots 0) (w.words area.Role) (w.words area.Pool) up spot) (sym (areas_stay v a step note area.Root refl))
+    (subst (λ s. TreePart z.pool (v.words area.Root 0) s (w.words area.Role) (w.words area.Pool) up spot) (sym (slots_are v a step note))
+    (tree_set z v a step note S I))

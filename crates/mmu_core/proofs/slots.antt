@@ -1,0 +1,9 @@
+pub mod Accepted
+pub mod LiveStay
+pub mod LiveStays
+pub mod SetFilled
+pub mod SetPublished
+pub mod SetSlotKept
+pub mod SetSlotKnown
+pub mod SettingHolds
+pub mod SlotsStay

@@ -1,0 +1,51 @@
+-- Where each live slot stays live, and the same, what accesses use and what is cached stays too.
+use Rattle.std.proofs.Common.{◌≡◌, ◌≤◌, ℕ, List, refl, subst, ap, ◌∙◌}
+use Rattle.std.proofs.lemmas.List.Elements.{All-weaker}
+use Rattle.std.specs.Prelude.{true}
+use Rattle.core_views.specs.declared.cache.Translation.{Translation}
+use Rattle.core_views.specs.declared.place.AccessPlace.{AccessPlace}
+use Rattle.core_views.specs.declared.place.AccessPlace.TheVariants.{Touch}
+use Rattle.core_views.specs.declared.sizes.Sizes.{Sizes}
+use Rattle.core_views.specs.declared.trace.Slot.{Slot as SlotOf}
+use Rattle.core_views.specs.Held.{Held}
+use Rattle.core_views.specs.Slots.{contains, has_host_page}
+use Rattle.mmu_core.specs.invariant.Invariant.{AccessHolds, CachedPart, IsLeafFor, IsLiveIn, SlotSetPart}
+use Rattle.part_steps.specs.SetWords.{set_role}
+use Rattle.mmu_core.specs.invariant.SlotSetPart.{Fits}
+use Rattle.part_steps.specs.SlotWords.{live_at, slot_at}
+
+-- Each slot that is live in one slot set is live in another one, and the same.
+abbrev pub StayLive : (ℕ → ℕ) → ℕ → (ℕ → ℕ) → ℕ → Type 0
+StayLive before set after other = (id : ℕ) (slot : SlotOf) → IsLiveIn before set id slot → IsLiveIn after other id slot
+
+module _ (before : ℕ → ℕ) (set : ℕ) (after : ℕ → ℕ) (other : ℕ) (stay : StayLive before set after other) where
+  pub live_stays : (id : ℕ) → id ≤ 31 → live_at before set id ≡ true → live_at after other id ≡ true
+  live_stays id low live = (stay id (slot_at before set id) (record { low = low; live = live; is = refl })).live
+
+  pub slot_stays : (id : ℕ) → id ≤ 31 → live_at before set id ≡ true → slot_at after other id ≡ slot_at before set id
+  slot_stays id low live = (stay id (slot_at before set id) (record { low = low; live = live; is = refl })).is
+
+  pub leaf_stays : (host : ℕ → ℕ) (gfn leaf : ℕ) → IsLeafFor before host set gfn leaf → IsLeafFor after host other gfn leaf
+  leaf_stays host gfn leaf L = record { id = L.id; slot = L.slot; live = stay L.id L.slot L.live; holds = L.holds; is = L.is }
+
+  pub translations_stay : (host : ℕ → ℕ) (ts : List Translation) → CachedPart before host set ts → CachedPart after host other ts
+  translations_stay host ts each =
+      All-weaker (λ (t : Translation). (t.level ≡ 1) × IsLeafFor before host set t.gfn t.leaf) (λ (t : Translation). (t.level ≡ 1) × IsLeafFor after host other t.gfn t.leaf)
+      (λ t is. (is.0, leaf_stays host t.gfn t.leaf is.1)) ts each
+
+  pub access_stays : (host : ℕ → ℕ) (p : AccessPlace) (gfn : ℕ) (h : Held) → AccessHolds before host set p gfn h → AccessHolds after host other p gfn h
+  access_stays host Touch gfn h leaf = leaf_stays host gfn h.state.leaf leaf
+  access_stays host _ gfn h none = tt
+
+-- Each live slot was live, and the same: the set is one still.
+pub set_stays : (z : Sizes) (role behind before : ℕ → ℕ) (set : ℕ) (after : ℕ → ℕ) (other : ℕ) → StayLive after other before set → behind other ≡ set_role → SlotSetPart z set role before → SlotSetPart z other behind after
+set_stays z role behind before set after other was role_is part = record {
+  role_is = role_is;
+  fits = λ id low live. subst (Fits z) (slot_stays after other before set was id low live) (part.fits id low (live_stays after other before set was id low live));
+  guest_apart = λ gfn i j low under live more holds too.
+      part.guest_apart gfn i j low under (live_stays after other before set was i low live) (live_stays after other before set was j under more)
+      (ap (contains gfn) (slot_stays after other before set was i low live) ∙ holds) (ap (contains gfn) (slot_stays after other before set was j under more) ∙ too);
+  host_apart = λ page i j low under live more has too.
+      part.host_apart page i j low under (live_stays after other before set was i low live) (live_stays after other before set was j under more)
+      (ap (has_host_page page) (slot_stays after other before set was i low live) ∙ has) (ap (has_host_page page) (slot_stays after other before set was j under more) ∙ too);
+}

@@ -1,0 +1,229 @@
+-- The page of a slot set that is filled: which slots are live in it, and that it has those of the published one, and one more.
+use Rattle.std.proofs.Common.{◌≡◌, ◌≢◌, ◌⊎◌, inl, inr, ◌<◌, ◌≤◌, ◌+◌, ◌*◌, ◌/◌, ◌%◌, ℕ, zero, suc, [], ◌∷◌, ◌++◌, refl, sym, ap, ◌∙◌, arith}
+use Rattle.std.proofs.lemmas.Bool.Decides.{nat_tests}
+use Rattle.std.specs.Prelude.{Bool, true, false, ◌==◌, if◌then◌else◌, Option, Some, None}
+use Rattle.core_views.specs.declared.place.Place.TheVariants as place
+use Rattle.core_views.specs.declared.place.SetSlotPlace.{SetSlotPlace}
+use Rattle.core_views.specs.declared.place.SetSlotPlace.TheVariants.{Claim, Publish}
+use Rattle.core_views.specs.declared.place.SlotField.{SlotField}
+use Rattle.core_views.specs.declared.place.SlotField.TheVariants as field
+use Rattle.core_views.specs.declared.sizes.Sizes.{Sizes}
+use Rattle.core_views.specs.declared.slot_set.MemorySlot.{MemorySlot}
+use Rattle.core_views.specs.declared.topics.Topics.{Topics}
+use Rattle.core_views.specs.declared.trace.Command.TheVariants.{SetSlot}
+use Rattle.core_views.specs.declared.trace.Line.{Line}
+use Rattle.core_views.specs.declared.trace.Slot.{Slot}
+use Rattle.core_views.specs.Held.{Held}
+use Rattle.core_views.specs.Refusals.{after_set, is_logged}
+use Rattle.core_views.specs.SlotSets.{MemorySlots, slot_at as recorded_at, with_slot_at}
+use Rattle.spte_words.specs.declared.area.Area.TheVariants as area
+use Rattle.spte_words.specs.Areas.{pool_index}
+use Rattle.spte_words.specs.Flags.{flags_live, flags_logged, flags_read_only}
+use Rattle.spte_words.proofs.ReadsFlags.{flags_are_live, flags_are_logged, flags_are_read_only}
+use Rattle.part_steps.specs.declared.part_step.PartStep.TheVariants as part
+use Rattle.mmu_core.specs.lines.FaultSteps.{claim_part, map_word, tries_page}
+use Rattle.mmu_core.specs.invariant.Invariant.{Invariant, IsLiveIn, RecordPart}
+use Rattle.part_steps.specs.PartSteps.{OwnsSet, page_owned}
+use Rattle.mmu_core.specs.lines.SetSlotSteps.{set_slot_part}
+use Rattle.part_steps.specs.SetWords.{IsFilledWith, set_word, word_of_slot}
+use Rattle.part_steps.specs.SlotWords.{field_number, live_at, memory_slot_at, memory_slots_below, slot_at, slot_index}
+use Rattle.mmu_core.specs.machine.View.{View}
+use Rattle.mmu_core.proofs.slots.Accepted.{may_be_set, record_of}
+use Rattle.mmu_core.proofs.machine.Columns.{same_or}
+use Rattle.mmu_core.proofs.lines.KnowsKept.{step_knows}
+use Rattle.mmu_core.proofs.machine.PartStepping.{Replaces, is_publish, replaces_none}
+use Rattle.part_steps.proofs.SetWords.{set_at}
+use Rattle.mmu_core.proofs.words.SlotFields.{is_number, same_slot}
+use Rattle.mmu_core.proofs.words.SlotLists.{one_more_live}
+use Rattle.mmu_core.proofs.machine.Stepping.{IsStep}
+
+-- ---- The record has a slot where the published set has it live.
+
+-- where an ID isn't that of the last slot of a list, or the slot there isn't live
+not_last : (n id : ℕ) (m : MemorySlot) (xs : MemorySlots) (b : Bool) → n ≢ id → recorded_at id (xs ++ (if b then (n, m) ∷ [] else [])) ≡ recorded_at id xs
+not_last n id m [] true apart = grind (arith, nat_tests)
+not_last n id m [] false apart = refl
+not_last n id m (x ∷ xs) b apart = ap (λ (rest : Option MemorySlot). if x.0 == id then Some x.1 else rest) (not_last n id m xs b apart)
+
+-- the slot with an ID, of those that are live
+abbrev live_slot : (ℕ → ℕ) → ℕ → ℕ → Option MemorySlot
+live_slot pool set id = if live_at pool set id then Some (memory_slot_at pool set id) else None
+
+none_from : (pool : ℕ → ℕ) (set n id : ℕ) → n ≤ id → recorded_at id (memory_slots_below pool set n) ≡ None
+none_from pool set zero id le = refl
+none_from pool set (suc n) id le = not_last n id (memory_slot_at pool set n) (memory_slots_below pool set n) (live_at pool set n) (λ e. absurd (omega arith)) ∙ none_from pool set n id (omega arith)
+
+-- the last slot of a list, where the others have other IDs
+is_last : (id : ℕ) (m : MemorySlot) (xs : MemorySlots) (b : Bool) → recorded_at id xs ≡ None → recorded_at id (xs ++ (if b then (id, m) ∷ [] else [])) ≡ (if b then Some m else None)
+is_last id m [] true none = grind (arith, nat_tests)
+is_last id m [] false none = refl
+is_last id m (x ∷ xs) b none = by (x.0 == id) none (is_last id m xs b)
+  where
+    by : (here : Bool) → (if here then Some x.1 else recorded_at id xs) ≡ None → (recorded_at id xs ≡ None → recorded_at id (xs ++ (if b then (id, m) ∷ [] else [])) ≡ (if b then Some m else None))
+        → (if here then Some x.1 else recorded_at id (xs ++ (if b then (id, m) ∷ [] else []))) ≡ (if b then Some m else None)
+    by true none rest = absurd (cc none)
+    by false none rest = rest none
+
+listed_at : (pool : ℕ → ℕ) (set n id : ℕ) → id < n → recorded_at id (memory_slots_below pool set n) ≡ live_slot pool set id
+listed_at pool set zero id lt = absurd (omega arith)
+listed_at pool set (suc n) id lt = case (same_or n id) (λ less. listed_at pool set n id less)
+  where
+    case : (n ≡ id) ⊎ (n ≢ id) → (id < n → recorded_at id (memory_slots_below pool set n) ≡ live_slot pool set id) → recorded_at id (memory_slots_below pool set (suc n)) ≡ live_slot pool set id
+    case (inl e) before =
+        ap (λ k. recorded_at id (memory_slots_below pool set (suc k))) e
+        ∙ is_last id (memory_slot_at pool set id) (memory_slots_below pool set id) (live_at pool set id) (none_from pool set id id (omega arith))
+    case (inr apart) before = not_last n id (memory_slot_at pool set n) (memory_slots_below pool set n) (live_at pool set n) apart ∙ before (omega arith)
+
+-- the record's slot with an ID
+record_at : (pool : ℕ → ℕ) (set id : ℕ) (slots : MemorySlots) → RecordPart pool set slots → id ≤ 31 → recorded_at id slots ≡ live_slot pool set id
+record_at pool set id slots R low = ap (recorded_at id) R.same ∙ listed_at pool set 32 id (omega arith)
+
+-- ---- The page that is filled has the record's slots.
+
+four : (id n : ℕ) → n ≤ 3 → ((4 * id + n) / 4 ≡ id) × ((4 * id + n) % 4 ≡ n)
+four id n low = (omega arith, omega arith)
+
+-- the slot that four words of a page make
+none_is_live : flags_live 0 ≡ false
+unfolding flags_live
+none_is_live = refl
+
+module _ (pool : ℕ → ℕ) (page : ℕ) (slots : MemorySlots) (filled : (j : ℕ) → j < 512 → pool (pool_index page j) ≡ set_word slots j) (id : ℕ) (low : id ≤ 31) where
+  field_is : (f : SlotField) → pool (slot_index page id f) ≡ word_of_slot (recorded_at id slots) (field_number f)
+  field_is f =
+      let n = is_number f in
+      let parts = four id (field_number f) n in
+      filled (4 * id + field_number f) (omega (arith, n, low))
+      ∙ ap (λ k. word_of_slot (recorded_at k slots) ((4 * id + field_number f) % 4)) parts.0
+      ∙ ap (word_of_slot (recorded_at id slots)) parts.1
+
+  -- no slot of the record has the ID
+  pub none_live : recorded_at id slots ≡ None → live_at pool page id ≡ false
+  none_live none = ap flags_live (field_is field.Flags ∙ ap (λ m. word_of_slot m 3) none) ∙ none_is_live
+
+  -- this one has it
+  pub some_live : (m : MemorySlot) → recorded_at id slots ≡ Some m → live_at pool page id ≡ true
+  some_live m some = ap flags_live (field_is field.Flags ∙ ap (λ x. word_of_slot x 3) some) ∙ flags_are_live true m.slot.read_only m.logged
+
+  pub some_slot : (m : MemorySlot) → recorded_at id slots ≡ Some m → slot_at pool page id ≡ m.slot
+  some_slot m some =
+      same_slot (slot_at pool page id) m.slot
+      (field_is field.Base ∙ ap (λ x. word_of_slot x 0) some) (field_is field.Pages ∙ ap (λ x. word_of_slot x 1) some) (field_is field.Host ∙ ap (λ x. word_of_slot x 2) some)
+      (ap flags_read_only (field_is field.Flags ∙ ap (λ x. word_of_slot x 3) some) ∙ flags_are_read_only true m.slot.read_only m.logged)
+
+  pub some_memory_slot : (m : MemorySlot) → recorded_at id slots ≡ Some m → memory_slot_at pool page id ≡ m
+  some_memory_slot m some =
+      ap (λ (s : Slot). record { slot = s; logged = flags_logged (pool (slot_index page id field.Flags)) }) (some_slot m some)
+      ∙ ap (λ logged. record { slot = m.slot; logged = logged }) (ap flags_logged (field_is field.Flags ∙ ap (λ x. word_of_slot x 3) some) ∙ flags_are_logged true m.slot.read_only m.logged)
+
+-- ---- The page with one slot more than the published set has.
+
+module _ (pool : ℕ → ℕ) (set page id : ℕ) (slot : Slot) (slots : MemorySlots) (R : RecordPart pool set slots) (low : id ≤ 31) (not_yet : live_at pool set id ≡ false)
+    (filled : (j : ℕ) → j < 512 → pool (pool_index page j) ≡ set_word (after_set id slot slots) j) where
+  abbrev new_one : MemorySlot
+  new_one = record { slot = slot; logged = is_logged id slots }
+
+  at_id : recorded_at id (after_set id slot slots) ≡ Some new_one
+  at_id = set_at id id slot slots ∙ by (id == id) (grind (arith, nat_tests))
+    where
+      by : (b : Bool) → b ≡ true → (if b then Some new_one else recorded_at id slots) ≡ Some new_one
+      by true e = refl
+      by false e = absurd (cc e)
+
+  at_other : (i : ℕ) → i ≢ id → recorded_at i (after_set id slot slots) ≡ recorded_at i slots
+  at_other i apart = set_at i id slot slots ∙ by (id == i) (grind (arith, nat_tests))
+    where
+      by : (b : Bool) → b ≡ false → (if b then Some new_one else recorded_at i slots) ≡ recorded_at i slots
+      by true e = absurd (cc e)
+      by false e = refl
+
+  -- the new slot is live
+  pub new_live : live_at pool page id ≡ true
+  new_live = some_live pool page (after_set id slot slots) filled id low new_one at_id
+
+  pub new_slot : slot_at pool page id ≡ slot
+  new_slot = some_slot pool page (after_set id slot slots) filled id low new_one at_id
+
+  new_memory_slot : memory_slot_at pool page id ≡ new_one
+  new_memory_slot = some_memory_slot pool page (after_set id slot slots) filled id low new_one at_id
+
+  -- another one is live where it was, and the same
+  as_before : (i : ℕ) → i ≤ 31 → i ≢ id → (live_at pool page i ≡ live_at pool set i) × (live_at pool set i ≡ true → memory_slot_at pool page i ≡ memory_slot_at pool set i)
+  as_before i below apart = by (recorded_at i slots) refl (live_at pool set i) refl (record_at pool set i slots R below)
+    where
+      same : {x y : MemorySlot} → Some x ≡ Some y → x ≡ y
+      same e = cc e
+
+      by : (m : Option MemorySlot) → recorded_at i slots ≡ m → (live : Bool) → live_at pool set i ≡ live → recorded_at i slots ≡ live_slot pool set i
+          → (live_at pool page i ≡ live_at pool set i) × (live_at pool set i ≡ true → memory_slot_at pool page i ≡ memory_slot_at pool set i)
+      by None none true live is = let bad : None ≡ Some (memory_slot_at pool set i) = rw (none, live) at is in absurd (cc bad)
+      by None none false live is = (none_live pool page (after_set id slot slots) filled i below (at_other i apart ∙ none) ∙ sym live, λ on. absurd (cc (on, live)))
+      by (Some m) some true live is =
+          let one : Some m ≡ Some (memory_slot_at pool set i) = rw (some, live) at is in (
+            some_live pool page (after_set id slot slots) filled i below m (at_other i apart ∙ some) ∙ sym live,
+            λ on. some_memory_slot pool page (after_set id slot slots) filled i below m (at_other i apart ∙ some) ∙ same one,
+          )
+      by (Some m) some false live is = let bad : Some m ≡ None = rw (some, live) at is in absurd (cc bad)
+
+  pub others_live : (i : ℕ) → i ≤ 31 → i ≢ id → live_at pool page i ≡ live_at pool set i
+  others_live i below apart = (as_before i below apart).0
+
+  pub others_same : (i : ℕ) → i ≤ 31 → i ≢ id → live_at pool set i ≡ true → slot_at pool page i ≡ slot_at pool set i
+  others_same i below apart live = ap (λ (m : MemorySlot). m.slot) ((as_before i below apart).1 live)
+
+  -- Each slot of the published set is live in the page, and the same.
+  pub has_each : (i : ℕ) (s : Slot) → IsLiveIn pool set i s → IsLiveIn pool page i s
+  has_each i s L = record { low = L.low; live = others_live i L.low apart ∙ L.live; is = others_same i L.low apart L.live ∙ L.is }
+    where
+      apart : i ≢ id
+      apart e = let is : live_at pool set i ≡ live_at pool set id = ap (live_at pool set) e in let live = L.live in absurd (cc (is, not_yet, live))
+
+  -- The list of its slots has the new one at its ID.
+  pub list_with : memory_slots_below pool page 32 ≡ with_slot_at id new_one (memory_slots_below pool set 32)
+  list_with =
+      one_more_live (live_at pool set) (live_at pool page) (memory_slot_at pool set) (memory_slot_at pool page) id 32 (omega (arith, low)) not_yet new_live
+      (λ i lt apart. others_live i (omega arith) apart) (λ i lt apart live. (as_before i (omega arith) apart).1 live)
+      ∙ ap (λ m. with_slot_at id m (memory_slots_below pool set 32)) new_memory_slot
+
+-- ---- A setting that is to publish its page.
+
+-- The words of the page that is owned and filled whole.
+pub filled_page : (pool : ℕ → ℕ) (slots : MemorySlots) (t : Topics) → OwnsSet t → IsFilledWith pool slots t.owned → (j : ℕ) → j < 512 → pool (pool_index (page_owned t.owned) j) ≡ set_word slots j
+filled_page pool slots t owns filled j lt =
+    ap (λ k. pool (pool_index k j)) (ap page_owned owns.is) ∙ filled owns.owned owns.is j (omega (arith, owns.whole, lt)) lt
+
+pub setting_filled : (z : Sizes) (v : View) (a : ℕ) (line : Line) (id : ℕ) (slot : Slot) → IsStep z v a line (SetSlot id slot) (place.SetSlot Publish) → Invariant z v
+    → (j : ℕ) → j < 512 → v.words area.Pool (pool_index (page_owned (v.hand a).topics.owned) j) ≡ set_word (after_set id slot (v.hand a).slots) j
+setting_filled z v a line id slot S I =
+    filled_page (v.words area.Pool) (after_set id slot (v.hand a).slots) (v.hand a).topics
+    (step_knows z v a line (SetSlot id slot) (place.SetSlot Publish) S I).1.owns S.holds.filled
+
+publish_replaces : (z : Sizes) (v : View) (a : ℕ) (line : Line) (id : ℕ) (slot : Slot) → IsStep z v a line (SetSlot id slot) (place.SetSlot Publish) → Invariant z v
+    → (i : ℕ) (s : Slot) → IsLiveIn (v.words area.Pool) (v.words area.Slots 0) i s → IsLiveIn (v.words area.Pool) (page_owned (v.hand a).topics.owned) i s
+publish_replaces z v a line id slot S I =
+    let may = may_be_set z v a line id slot Publish S I refl S.holds.accepted in
+    has_each (v.words area.Pool) (v.words area.Slots 0) (page_owned (v.hand a).topics.owned) id slot (v.hand a).slots (record_of z v a line id slot Publish S I) may.low may.not_live
+    (setting_filled z v a line id slot S I)
+
+-- A setting publishes at one place alone.
+abbrev pub is_publication : SetSlotPlace → Bool
+is_publication Publish = true
+is_publication _ = false
+
+claim_never : (tries : Bool) (word : ℕ) → is_publish (if tries then part.Claim else part.Map word) ≡ false
+claim_never true word = refl
+claim_never false word = refl
+
+pub setting_never : (p : SetSlotPlace) (h : Held) (id : ℕ) (slot : Slot) → is_publication p ≡ false → is_publish (set_slot_part p h id slot) ≡ false
+setting_never Publish h id slot other = absurd (cc other)
+setting_never (Claim begun) h id slot other = claim_never (tries_page begun h.topics.claim) (map_word begun h.topics.claim)
+setting_never _ h id slot other = refl
+
+-- A slot set that a setting publishes has each slot of the one before it.
+pub setting_replaces : (z : Sizes) (v : View) (a : ℕ) (line : Line) (p : SetSlotPlace) (id : ℕ) (slot : Slot) → IsStep z v a line (SetSlot id slot) (place.SetSlot p) → Invariant z v
+    → Replaces (set_slot_part p (v.hand a) id slot) (v.words area.Pool) (v.words area.Slots 0) (v.hand a).topics
+setting_replaces z v a line Publish id slot S I = publish_replaces z v a line id slot S I
+setting_replaces z v a line (Claim begun) id slot S I =
+    let t : Topics = (v.hand a).topics in
+    replaces_none (claim_part begun t.claim) (v.words area.Pool) (v.words area.Slots 0) t (claim_never (tries_page begun t.claim) (map_word begun t.claim))
+setting_replaces z v a line _ id slot S I = tt

@@ -1,0 +1,198 @@
+-- A slot setting has what each of its steps needs, and knows behind it what its next place asks.
+use Rattle.std.proofs.Common.{◌≡◌, ◌≢◌, inr, ◌<◌, ◌≤◌, ◌^◌, ◌+◌, ◌==◌, ℕ, refl, sym, subst, ap, ◌∙◌, arith}
+use Rattle.std.specs.Prelude.{Bool, true, false, ◌&&◌, not, if◌then◌else◌, nat_lt, Some, None}
+use Rattle.std.proofs.lemmas.Bool.Decides.{nat_tests}
+use Rattle.circular_buffer.specs.Buffer.{Buffer}
+use Rattle.core_views.specs.declared.cache.Translation.{Translation}
+use Rattle.core_views.specs.declared.place.Place.TheVariants as place
+use Rattle.core_views.specs.declared.place.SetSlotPlace.{SetSlotPlace}
+use Rattle.core_views.specs.declared.place.SetSlotPlace.TheVariants.{Refuse, Claim, Fill, Exclude, Count, Close, Publish, Release, Watch, Clear, Give}
+use Rattle.core_views.specs.declared.topics.Hold.{Hold}
+use Rattle.core_views.specs.declared.topics.Hold.TheVariants.{Loose, Exclusive}
+use Rattle.core_views.specs.declared.topics.OwnedPage.{OwnedPage}
+use Rattle.core_views.specs.declared.topics.Stay.{Stay}
+use Rattle.core_views.specs.declared.topics.Stay.TheVariants.{Outside}
+use Rattle.core_views.specs.declared.topics.Topics.{Topics}
+use Rattle.core_views.specs.declared.trace.Command.TheVariants.{SetSlot}
+use Rattle.core_views.specs.declared.trace.Line.{Line}
+use Rattle.core_views.specs.declared.trace.Slot.{Slot}
+use Rattle.core_views.specs.Held.{Held}
+use Rattle.core_views.specs.Refusals.{after_set}
+use Rattle.core_views.specs.Sizes.{actors_of}
+use Rattle.spte_words.specs.Areas.{words_of_bits}
+use Rattle.part_steps.specs.declared.part_step.PartStep.TheVariants as part
+use Rattle.mmu_core.specs.lines.FaultLaws.{CanAnswer}
+use Rattle.mmu_core.specs.lines.FaultSteps.{at_map_word, map_word, tries_page}
+use Rattle.part_steps.specs.PartBounds.{PartRests}
+use Rattle.part_steps.specs.PartSteps.{HasToFill, IsAtRest, OwnsSet, PartNeeds, next_watched, own_index, words_filled}
+use Rattle.part_steps.specs.PartTopics.{part_topics, sequenced}
+use Rattle.mmu_core.specs.lines.PartWaits.{was_counted}
+use Rattle.mmu_core.specs.lines.SetSlotKnows.{HasPublished, HoldsLock, SetSlotKnows}
+use Rattle.mmu_core.specs.lines.SetSlotSteps.{claim_outcome, looked_at, set_slot_outcome, set_slot_part}
+use Rattle.part_steps.specs.SetWords.{set_value}
+use Rattle.part_steps.specs.TopicSteps.{count_checked, filled_more, in_section, is_loose, is_outside, is_section, is_won, kept_search, kept_walk, let_go, unchecked}
+use Rattle.mmu_core.proofs.lines.FaultNeeds.{claim_needs}
+use Rattle.mmu_core.proofs.machine.HandWith.{hand_with}
+use Rattle.core_views.specs.declared.answer.Answer.TheVariants.{Starved}
+use Rattle.core_views.specs.declared.answer.Refusal.{Refusal}
+use Rattle.mmu_core.specs.declared.outcome.Outcome.{Outcome}
+use Rattle.mmu_core.specs.declared.outcome.Outcome.TheVariants.{Goes, Ends}
+use Rattle.mmu_core.specs.lines.KnowsPart.{may_leave}
+
+-- ---- What each step needs.
+
+never_own : (own seen : ℕ) → next_watched own seen ≢ own
+never_own own seen e = by (seen == own) (λ t. grind (arith, nat_tests)) (λ t. grind (arith, nat_tests)) e
+  where
+    by : (b : Bool) → (b ≡ true → seen ≡ own) → (b ≡ false → seen ≢ own) → (if b then seen + 1 else seen) ≡ own → ⊥
+    by true is other e = let same = is refl in absurd (omega (arith, e, same))
+    by false is other e = other refl e
+
+pub set_slot_needs : (p : SetSlotPlace) (h : Held) (id : ℕ) (slot : Slot) → set_value (after_set id slot h.slots) (words_filled h.topics.owned) < 2 ^ 64 → PartRests h → SetSlotKnows p h
+    → PartNeeds (set_slot_part p h id slot) h
+set_slot_needs (Refuse refusal) h id slot small R K = tt
+set_slot_needs (Claim begun) h id slot small R K = claim_needs (tries_page begun h.topics.claim) begun h refl R.sizes K.0.owns_none K.1
+set_slot_needs Fill h id slot small R K = (K.1, small)
+set_slot_needs Count h id slot small R K = tt
+set_slot_needs Publish h id slot small R K = K.1
+set_slot_needs Watch h id slot small R K = (K.2, never_own (own_index h) h.topics.watched, inr refl)
+set_slot_needs Clear h id slot small R K = K.1
+set_slot_needs Give h id slot small R K = K.1
+set_slot_needs _ h id slot small R K = K.0.holds
+
+-- ---- What is known behind each step: the place that comes next, or rest where the line is answered.
+
+abbrev pub SettingKnows : Outcome → Held → Type 0
+SettingKnows (Goes (place.SetSlot p)) h = SetSlotKnows p h
+SettingKnows (Goes _) h = ⊥
+SettingKnows (Ends answer) h = IsAtRest h.topics
+
+-- Where it goes on by a test, it knows what either place asks.
+module _ (g : Held) where
+  abbrev Knows : SetSlotPlace → Type 0
+  Knows p = SettingKnows (Goes (place.SetSlot p)) g
+
+  either : (b : Bool) (p q : SetSlotPlace) → (b ≡ true → SetSlotKnows p g) → (b ≡ false → SetSlotKnows q g) → Knows (if b then p else q)
+  either true p q first second = first refl
+  either false p q first second = second refl
+
+below : (n m : ℕ) → nat_lt n m ≡ true → n < m
+below n m e = grind (arith, nat_tests)
+
+reaches : (n m : ℕ) → nat_lt n m ≡ false → m ≤ n
+reaches n m e = grind (arith, nat_tests)
+
+zero_is : (n : ℕ) → (n == 0) ≡ true → n ≡ 0
+zero_is n e = grind (arith, nat_tests)
+
+-- who let the lock go outside holds nothing by it
+let_go_lock : (t : Topics) → t.stay ≡ Outside → HoldsLock Loose (let_go t)
+let_go_lock t outside = record {
+  outside = outside;
+  holds = refl;
+  no_table = ap (λ (s : Stay). (kept_walk (not (is_outside s)) t.walk).level) outside;
+  no_set = ap (λ (s : Stay). (kept_search (is_section s) t.search).set) outside;
+}
+
+module _ (line : Line) (h : Held) (id : ℕ) (slot : Slot) (cached : Buffer Translation) (v : ℕ) (R : PartRests h) where
+  -- the hand behind the step of a place, with these topics
+  abbrev behind : SetSlotPlace → Topics → Held
+  behind p t = hand_with line (SetSlot id slot) (place.SetSlot p) h t cached v
+
+  refused_known : (refusal : Refusal) → IsAtRest h.topics → IsAtRest (sequenced (is_loose h.topics.hold) h.topics v)
+  refused_known refusal K = by (is_loose h.topics.hold)
+    where
+      by : (b : Bool) → IsAtRest (sequenced b h.topics v)
+      by true = record { outside = K.outside; loose = K.loose; owns_none = K.owns_none; no_table = K.no_table; no_set = refl }
+      by false = record { outside = K.outside; loose = K.loose; owns_none = K.owns_none; no_table = K.no_table; no_set = K.no_set }
+
+  -- a page was tried: it is owned and to be filled, or the claim goes on
+  tried_known : (p : SetSlotPlace) (won : Bool) (o : OwnedPage) → o.filled < 513 → IsAtRest h.topics → h.topics.claim.at < words_of_bits h.state.sizes.pool
+      → Knows (behind p (record h.topics { owned = if won then Some o else None; claim = record { at = if won then 0 else h.topics.claim.at; seen = if won then 0 else v } })) (if won then Fill else Claim true)
+  tried_known p true o few K low = (record { outside = K.outside; holds = K.loose; no_table = K.no_table; no_set = K.no_set }, record { owned = o; is = refl; left = few })
+  tried_known p false o few K low = (record { outside = K.outside; loose = K.loose; owns_none = refl; no_table = K.no_table; no_set = K.no_set }, λ e. low)
+
+  -- a word of the map was loaded
+  mapped_known : (p : SetSlotPlace) (at : ℕ) (more : Bool) → nat_lt at (words_of_bits h.state.sizes.pool) ≡ more → IsAtRest h.topics
+      → SettingKnows (if more then Goes (place.SetSlot (Claim true)) else Ends Starved) (behind p (record h.topics { claim = record { at = at; seen = v } }))
+  mapped_known p at true more K = (record { outside = K.outside; loose = K.loose; owns_none = K.owns_none; no_table = K.no_table; no_set = K.no_set }, λ e. below at (words_of_bits h.state.sizes.pool) more)
+  mapped_known p at false more K = record { outside = K.outside; loose = K.loose; owns_none = K.owns_none; no_table = K.no_table; no_set = K.no_set }
+
+  claim_known : (p : SetSlotPlace) (begun tries : Bool) → tries_page begun h.topics.claim ≡ tries → IsAtRest h.topics → (begun ≡ true → h.topics.claim.at < words_of_bits h.state.sizes.pool)
+      → SettingKnows (claim_outcome tries h.state.sizes (at_map_word begun h.topics.claim) v) (behind p (part_topics (if tries then part.Claim else part.Map (map_word begun h.topics.claim)) h.topics v))
+  claim_known p begun true is K low = tried_known p (is_won h.topics.claim v) _ (omega arith) K (low (begun_is begun is))
+    where
+      begun_is : (b : Bool) → (b && nat_lt 0 h.topics.claim.seen) ≡ true → b ≡ true
+      begun_is true e = refl
+      begun_is false e = absurd (cc e)
+  claim_known p begun false is K low = mapped_known p (map_word begun h.topics.claim + (if v == 0 then 1 else 0)) (nat_lt (map_word begun h.topics.claim + (if v == 0 then 1 else 0)) (words_of_bits h.state.sizes.pool)) refl K
+
+  -- one more word of the page is filled
+  fill_known : (p : SetSlotPlace) → HoldsLock Loose h.topics → (F : HasToFill h.topics) → v ≡ set_value (after_set id slot h.slots) (words_filled h.topics.owned)
+      → Knows (behind p (record h.topics { owned = filled_more h.topics.owned v })) (if nat_lt (words_filled h.topics.owned) 512 then Fill else Exclude)
+  fill_known p K F A =
+      let filled : words_filled h.topics.owned ≡ F.owned.filled = ap words_filled F.is in
+      let more : filled_more h.topics.owned v ≡ filled_more (Some F.owned) v = ap (λ o. filled_more o v) F.is in
+      let lock : HoldsLock Loose (record h.topics { owned = filled_more h.topics.owned v }) = record { outside = K.outside; holds = K.holds; no_table = K.no_table; no_set = K.no_set } in
+      either (behind p (record h.topics { owned = filled_more h.topics.owned v })) (nat_lt (words_filled h.topics.owned) 512) Fill Exclude
+      (λ e. (lock, record { owned = _; is = more; left = omega (arith, below (words_filled h.topics.owned) 512 e, filled) }))
+      (λ e. let last : F.owned.filled ≡ 512 = omega (arith, reaches (words_filled h.topics.owned) 512 e, filled, F.left) in
+      (lock, record { owned = _; is = more; whole = omega (arith, last); role = role F.owned.filled last ∙ A ∙ ap (set_value (after_set id slot h.slots)) (filled ∙ last) }))
+    where
+      role : (n : ℕ) → n ≡ 512 → (if n == 512 then v else F.owned.role) ≡ v
+      role n e = let same : (n == 512) ≡ true = grind (arith, nat_tests) in ap (λ (b : Bool). if b then v else F.owned.role) same
+
+  exclude_known : (p : SetSlotPlace) (free : Bool) → HoldsLock Loose h.topics → OwnsSet h.topics
+      → Knows (behind p (record h.topics { hold = if free then Exclusive else h.topics.hold; invalidations = unchecked h.topics.invalidations })) (if free then Count else Exclude)
+  exclude_known p true K O = (record { outside = K.outside; holds = refl; no_table = K.no_table; no_set = K.no_set }, record { owned = O.owned; is = O.is; whole = O.whole; role = O.role })
+  exclude_known p false K O = (record { outside = K.outside; holds = K.holds; no_table = K.no_table; no_set = K.no_set }, record { owned = O.owned; is = O.is; whole = O.whole; role = O.role })
+
+  count_known : (p : SetSlotPlace) → HoldsLock Exclusive h.topics → OwnsSet h.topics → h.topics.leaving ≡ None
+      → Knows (behind p (record h.topics { invalidations = record h.topics.invalidations { count = v; checked = count_checked h.topics.hold } })) (if v == 0 then Publish else Close)
+  count_known p K O left =
+      let counted : Topics = record h.topics { invalidations = record h.topics.invalidations { count = v; checked = count_checked h.topics.hold } } in
+      let lock : HoldsLock Exclusive counted = record { outside = K.outside; holds = K.holds; no_table = K.no_table; no_set = K.no_set } in
+      let owns : OwnsSet counted = record { owned = O.owned; is = O.is; whole = O.whole; role = O.role } in
+      either (behind p (record h.topics { invalidations = record h.topics.invalidations { count = v; checked = count_checked h.topics.hold } })) (v == 0) Publish Close
+      (λ e. (lock, record { owns = owns; alone = K.holds; looked = ap count_checked K.holds; none_open = zero_is v e; none_leaves = left }))
+      (λ e. (lock, owns, ap (λ (k : Hold). was_counted (count_checked k) && not (v == 0)) K.holds ∙ ap not e))
+
+  watch_known : (p : SetSlotPlace) (inside : Bool) → HoldsLock Loose h.topics → HasPublished h.topics → looked_at h < actors_of h.state.sizes
+      → Knows (behind p (record h.topics { watched = looked_at h + (if inside then 0 else 1) }))
+      (if inside then Watch else if nat_lt (next_watched (own_index h) (looked_at h + 1)) (actors_of h.state.sizes) then Watch else Clear)
+  watch_known p true K H lt =
+      (record { outside = K.outside; holds = K.holds; no_table = K.no_table; no_set = K.no_set }, record { leaves = H.leaves; owns_none = H.owns_none }, omega (arith, lt, still (own_index h) (looked_at h) (never_own (own_index h) h.topics.watched)))
+    where
+      still : (own seen : ℕ) → seen ≢ own → next_watched own (seen + 0) ≡ seen
+      still own seen ne = let no : (seen + 0 == own) ≡ false = grind (arith, nat_tests) in ap (λ (b : Bool). if b then seen + 0 + 1 else seen + 0) no ∙ omega arith
+  watch_known p false K H lt =
+      let lock : HoldsLock Loose (record h.topics { watched = looked_at h + 1 }) = record { outside = K.outside; holds = K.holds; no_table = K.no_table; no_set = K.no_set } in
+      let next : ℕ = next_watched (own_index h) (looked_at h + 1) in
+      either (behind p (record h.topics { watched = looked_at h + 1 })) (nat_lt next (actors_of h.state.sizes)) Watch Clear
+      (λ e. (lock, record { leaves = H.leaves; owns_none = H.owns_none }, below next (actors_of h.state.sizes) e))
+      (λ e. (lock, record { leaves = H.leaves; owns_none = H.owns_none; watched = reaches next (actors_of h.state.sizes) e }))
+
+  -- there is another actor to look at: the first one, or the one behind it
+  first_look : next_watched (own_index h) 0 < actors_of h.state.sizes
+  first_look = by (0 == own_index h)
+    where
+      by : (b : Bool) → (if b then 0 + 1 else 0) < actors_of h.state.sizes
+      by true = omega (arith, R.sizes.some)
+      by false = omega (arith, R.sizes.some)
+
+  pub set_slot_known : (p : SetSlotPlace) → SetSlotKnows p h → (may_leave (place.SetSlot p) ≡ false → h.topics.leaving ≡ None) → CanAnswer (set_slot_part p h id slot) v
+      → SettingKnows (set_slot_outcome p h v) (behind p (part_topics (set_slot_part p h id slot) h.topics v))
+  set_slot_known (Refuse refusal) K left A = refused_known refusal K
+  set_slot_known (Claim begun) K left A = claim_known (Claim begun) begun (tries_page begun h.topics.claim) refl K.0 K.1
+  set_slot_known Fill K left A = fill_known Fill K.0 K.1 A
+  set_slot_known Exclude K left A = exclude_known Exclude (v == 0) K.0 K.1
+  set_slot_known Count K left A = count_known Count K.0 K.1 (left refl)
+  set_slot_known Close K left A = (let_go_lock h.topics K.0.outside, record { owned = K.1.owned; is = K.1.is; whole = K.1.whole; role = K.1.role })
+  set_slot_known Publish K left A = (record { outside = K.0.outside; holds = K.0.holds; no_table = K.0.no_table; no_set = refl }, record { leaves = refl; owns_none = refl }, refl, K.1.none_open)
+  set_slot_known Release K left A = (let_go_lock h.topics K.0.outside, record { leaves = K.1.leaves; owns_none = K.1.owns_none }, subst (λ w. next_watched (own_index h) w < actors_of h.state.sizes) (sym K.2) first_look)
+  set_slot_known Watch K left A = watch_known Watch (in_section v) K.0 K.1 K.2
+  set_slot_known Clear K left A = (
+    record { outside = K.0.outside; holds = K.0.holds; no_table = K.0.no_table; no_set = K.0.no_set },
+    record { leaves = K.1.leaves; owns_none = ap (λ o. filled_more o v) K.1.owns_none; watched = K.1.watched },
+  )
+  set_slot_known Give K left A = record { outside = K.0.outside; loose = K.0.holds; owns_none = refl; no_table = K.0.no_table; no_set = K.0.no_set }

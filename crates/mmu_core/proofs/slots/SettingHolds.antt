@@ -1,0 +1,154 @@
+-- What a slot setting has filled, and which page leaves for it, behind each of its steps.
+use Rattle.std.proofs.Common.{◌≡◌, ◌≢◌, ◌⊎◌, inl, inr, ◌<◌, ◌+◌, ℕ, refl, sym, subst, ap, ◌∙◌, arith, ◌*◌}
+use Rattle.std.specs.Prelude.{Bool, true, false, ◌==◌, nat_lt, if◌then◌else◌, Option, Some, None}
+use Rattle.core_views.specs.declared.place.Place.TheVariants as place
+use Rattle.core_views.specs.declared.place.SetSlotPlace.{SetSlotPlace}
+use Rattle.core_views.specs.declared.place.SetSlotPlace.TheVariants.{Claim, Fill, Exclude, Count, Close, Publish, Release, Watch, Clear, Give}
+use Rattle.core_views.specs.declared.sizes.Sizes.{Sizes}
+use Rattle.core_views.specs.declared.topics.MapClaim.{MapClaim}
+use Rattle.core_views.specs.declared.topics.OwnedPage.{OwnedPage}
+use Rattle.core_views.specs.declared.topics.Topics.{Topics}
+use Rattle.core_views.specs.declared.trace.Command.TheVariants.{SetSlot}
+use Rattle.core_views.specs.declared.trace.Slot.{Slot}
+use Rattle.core_views.specs.Held.{Held}
+use Rattle.core_views.specs.Refusals.{after_set, set_refusal}
+use Rattle.core_views.specs.Sizes.{actors_of}
+use Rattle.core_views.specs.SlotSets.{MemorySlots}
+use Rattle.spte_words.specs.declared.area.Area.{Area}
+use Rattle.spte_words.specs.declared.area.Area.TheVariants as area
+use Rattle.spte_words.specs.Areas.{pool_index, words_of_bits}
+use Rattle.part_steps.specs.declared.part_step.PartStep.TheVariants as part
+use Rattle.mmu_core.specs.lines.FaultSteps.{at_map_word, map_word, tries_page}
+use Rattle.mmu_core.specs.invariant.Invariant.{FillsSet, Holds, LeavesPart, SetSlotHolds}
+use Rattle.part_steps.specs.PartSteps.{HasToFill, next_watched, own_index, page_owned, words_filled}
+use Rattle.mmu_core.specs.lines.SetSlotKnows.{SetSlotKnows}
+use Rattle.mmu_core.specs.lines.SetSlotSteps.{claim_outcome, looked_at, set_slot_outcome, set_slot_part, set_slot_task}
+use Rattle.part_steps.specs.SetWords.{IsFilledWith, set_role, set_value, set_word}
+use Rattle.mmu_core.specs.machine.Outcomes.{place_after}
+use Rattle.mmu_core.specs.machine.View.{words_after}
+use Rattle.mmu_core.proofs.machine.Columns.{same_or}
+use Rattle.mmu_core.proofs.pages.FilledKept.{filled_words}
+use Rattle.mmu_core.proofs.pages.OwnedBehind.{left_behind, owned_behind}
+use Rattle.mmu_core.proofs.words.PartWords.{fill_leaves, fill_stores, is_word, no_role}
+use Rattle.mmu_core.proofs.slots.SetFilled.{is_publication}
+use Rattle.mmu_core.specs.declared.outcome.Outcome.TheVariants.{Goes, Ends}
+use Rattle.core_views.specs.declared.answer.Answer.TheVariants.{Starved}
+use Rattle.part_steps.specs.TopicSteps.{claimed, filled_more, in_section, is_won, still_leaving, tried_bit}
+
+-- What is filled stays filled, where the page that is owned and the record stay.
+fills_still : (pages : ℕ) (pool : ℕ → ℕ) (id : ℕ) (slot : Slot) (h g : Held) → g.slots ≡ h.slots → g.topics.owned ≡ h.topics.owned → FillsSet pages pool id slot h → FillsSet pages pool id slot g
+fills_still pages pool id slot h g slots owned F = record {
+  accepted = ap (set_refusal pages id slot) slots ∙ F.accepted;
+  filled = λ o is j lt word. F.filled o (sym owned ∙ is) j lt word ∙ ap (λ (s : MemorySlots). set_word (after_set id slot s) j) (sym slots);
+}
+
+-- Of a page that was claimed nothing is filled.
+claimed_empty : (claim : MapClaim) (v : ℕ) (o : OwnedPage) → claimed claim v ≡ Some o → o.filled ≡ 0
+claimed_empty claim v o is = sym (ap words_filled is) ∙ by (is_won claim v)
+  where
+    by : (b : Bool) → words_filled (if b then Some (record { page = 64 * claim.at + tried_bit claim; filled = 0; absent = true; role = 0 }) else None) ≡ 0
+    by true = refl
+    by false = refl
+
+fills_claimed : (pages : ℕ) (pool : ℕ → ℕ) (id : ℕ) (slot : Slot) (claim : MapClaim) (v : ℕ) (g : Held) → set_refusal pages id slot g.slots ≡ None → g.topics.owned ≡ claimed claim v → FillsSet pages pool id slot g
+fills_claimed pages pool id slot claim v g accepted owned = record {
+  accepted = accepted;
+  filled = λ o is j lt word. let none = claimed_empty claim v o (sym owned ∙ is) in absurd (omega (arith, lt, none));
+}
+
+-- behind a step of the claim
+claim_holds : (tries : Bool) (z : Sizes) (pool host : ℕ → ℕ) (set : ℕ) (t : Topics) (claim : MapClaim) (word v id : ℕ) (slot : Slot) (g : Held) → set_refusal z.pages id slot g.slots ≡ None
+    → g.topics.owned ≡ owned_behind (if tries then part.Claim else part.Map word) t v → (y : Sizes) → Holds z pool host set (place_after (claim_outcome tries y claim v)) (SetSlot id slot) g
+claim_holds true z pool host set t claim word v id slot g accepted owned y = by (is_won claim v)
+  where
+    by : (b : Bool) → SetSlotHolds z pool (if b then Fill else Claim true) id slot g
+    by true = fills_claimed z.pages pool id slot t.claim v g accepted owned
+    by false = accepted
+claim_holds false z pool host set t claim word v id slot g accepted owned y = by (nat_lt (claim.at + (if v == 0 then 1 else 0)) (words_of_bits y.pool))
+  where
+    by : (b : Bool) → Holds z pool host set (place_after (if b then Goes (place.SetSlot (Claim true)) else Ends Starved)) (SetSlot id slot) g
+    by true = accepted
+    by false = tt
+
+-- One more word of the page is filled.
+one_more : (words : Area → ℕ → ℕ) (slots : MemorySlots) (p : OwnedPage) (note v : ℕ) → p.filled < 513 → IsFilledWith (words area.Pool) slots (Some p)
+    → IsFilledWith (filled_words (Some p) (set_value slots p.filled) note words area.Pool) slots (filled_more (Some p) v)
+one_more words slots p note v left F o is j lt word = ap (λ k. filled_words (Some p) (set_value slots p.filled) note words area.Pool (pool_index k j)) page ∙ by (same_or j p.filled)
+  where
+    page : o.page ≡ p.page
+    page = sym (ap page_owned is)
+
+    filled : o.filled ≡ p.filled + 1
+    filled = sym (ap words_filled is)
+
+    value : (role : Bool) → role ≡ false → (if role then set_role else set_word slots p.filled) ≡ set_word slots p.filled
+    value true e = absurd (cc e)
+    value false e = refl
+
+    by : (j ≡ p.filled) ⊎ (j ≢ p.filled) → filled_words (Some p) (set_value slots p.filled) note words area.Pool (pool_index p.page j) ≡ set_word slots j
+    by (inl e) =
+        let role : (p.filled == 512) ≡ false = no_role p.filled (omega (arith, e, word)) in
+        ap (λ k. filled_words (Some p) (set_value slots p.filled) note words area.Pool (pool_index p.page k)) e
+        ∙ fill_stores (p.filled == 512) p.page p.filled (set_value slots p.filled) note words role ∙ value (p.filled == 512) role ∙ ap (set_word slots) (sym e)
+    by (inr ne) =
+        fill_leaves (p.filled == 512) p.page p.filled (set_value slots p.filled) note words p.page j (λ e. is_word p.filled left e) word (λ same d. ne (sym d))
+        ∙ F p refl j (omega (arith, lt, filled, ne)) word
+
+fill_holds : (words : Area → ℕ → ℕ) (slots : MemorySlots) (t : Topics) (note v : ℕ) → HasToFill t → IsFilledWith (words area.Pool) slots t.owned
+    → IsFilledWith (filled_words t.owned (set_value slots (words_filled t.owned)) note words area.Pool) slots (filled_more t.owned v)
+fill_holds words slots t note v to_fill F =
+    subst (λ (x : Option OwnedPage). IsFilledWith (filled_words x (set_value slots (words_filled x)) note words area.Pool) slots (filled_more x v)) (sym to_fill.is)
+    (one_more words slots to_fill.owned note v to_fill.left (subst (λ (x : Option OwnedPage). IsFilledWith (words area.Pool) slots x) to_fill.is F))
+
+fills_more : (pages : ℕ) (words : Area → ℕ → ℕ) (id : ℕ) (slot : Slot) (h g : Held) (note v : ℕ) → HasToFill h.topics → g.slots ≡ h.slots → g.topics.owned ≡ filled_more h.topics.owned v → FillsSet pages (words area.Pool) id slot h
+    → FillsSet pages (filled_words h.topics.owned (set_value (after_set id slot h.slots) (words_filled h.topics.owned)) note words area.Pool) id slot g
+fills_more pages words id slot h g note v to_fill slots owned F = record {
+  accepted = ap (set_refusal pages id slot) slots ∙ F.accepted;
+  filled = λ o is j lt word.
+      fill_holds words (after_set id slot h.slots) h.topics note v to_fill F.filled o (sym owned ∙ is) j lt word
+      ∙ ap (λ (s : MemorySlots). set_word (after_set id slot s) j) (sym slots);
+}
+
+-- two places of which the next one is one
+pub either_place : (P : SetSlotPlace → Type 0) (b : Bool) (p q : SetSlotPlace) → P p → P q → P (if b then p else q)
+either_place P true p q x y = x
+either_place P false p q x y = y
+
+-- What a setting has loaded and filled, behind a step that found v.
+pub setting_holds : (z : Sizes) (words : Area → ℕ → ℕ) (set : ℕ) (h : Held) (p : SetSlotPlace) (id : ℕ) (slot : Slot) (g : Held) (v : ℕ) → SetSlotKnows p h → SetSlotHolds z (words area.Pool) p id slot h
+    → (is_publication p ≡ false → g.slots ≡ h.slots) → g.topics.owned ≡ owned_behind (set_slot_part p h id slot) h.topics v
+    → Holds z (words_after (set_slot_task p h id slot) words area.Pool) (words area.Host) set (place_after (set_slot_outcome p h v)) (SetSlot id slot) g
+setting_holds z words set h (Claim begun) id slot g v K e slots owned =
+    claim_holds (tries_page begun h.topics.claim) z (words_after (set_slot_task (Claim begun) h id slot) words area.Pool) (words area.Host) set h.topics (at_map_word begun h.topics.claim) (map_word begun h.topics.claim) v id slot g
+    (ap (set_refusal z.pages id slot) (slots refl) ∙ e) owned h.state.sizes
+setting_holds z words set h Fill id slot g v K e slots owned =
+    let F = fills_more z.pages words id slot h g 0 v K.1 (slots refl) owned e in
+    either_place (λ q. SetSlotHolds z (words_after (set_slot_task Fill h id slot) words area.Pool) q id slot g) (nat_lt (words_filled h.topics.owned) 512) Fill Exclude F F
+setting_holds z words set h Exclude id slot g v K e slots owned =
+    let F = fills_still z.pages (words area.Pool) id slot h g (slots refl) owned e in
+    either_place (λ q. SetSlotHolds z (words area.Pool) q id slot g) (v == 0) Count Exclude F F
+setting_holds z words set h Count id slot g v K e slots owned =
+    let F = fills_still z.pages (words area.Pool) id slot h g (slots refl) owned e in
+    either_place (λ q. SetSlotHolds z (words area.Pool) q id slot g) (v == 0) Publish Close F F
+setting_holds z words set h Close id slot g v K e slots owned = fills_still z.pages (words area.Pool) id slot h g (slots refl) owned e
+setting_holds z words set h Watch id slot g v K e slots owned =
+    either_place (λ q. SetSlotHolds z (words area.Pool) q id slot g) (in_section v) Watch (if nat_lt (next_watched (own_index h) (looked_at h + 1)) (actors_of h.state.sizes) then Watch else Clear) tt
+    (either_place (λ q. SetSlotHolds z (words area.Pool) q id slot g) (nat_lt (next_watched (own_index h) (looked_at h + 1)) (actors_of h.state.sizes)) Watch Clear tt tt)
+setting_holds z words set h _ id slot g v K e slots owned = tt
+
+-- Behind a step up to the publication no page leaves, and behind the last one none does any more.
+claim_leaves : (tries : Bool) (word : ℕ) (t : Topics) (v : ℕ) → t.leaving ≡ None → left_behind (if tries then part.Claim else part.Map word) t v ≡ None
+claim_leaves true word t v none = none
+claim_leaves false word t v none = none
+
+pub setting_leaves : (p : SetSlotPlace) (h : Held) (id : ℕ) (slot : Slot) (t : Topics) (v : ℕ) → SetSlotKnows p h → LeavesPart (place.SetSlot p) h.topics → t.leaving ≡ left_behind (set_slot_part p h id slot) h.topics v
+    → LeavesPart (place_after (set_slot_outcome p h v)) t
+setting_leaves (Claim begun) h id slot t v K left is = λ may. is ∙ claim_leaves (tries_page begun h.topics.claim) (map_word begun h.topics.claim) h.topics v (left refl)
+setting_leaves Publish h id slot t v K left is = λ may. absurd (cc may)
+setting_leaves Release h id slot t v K left is = λ may. absurd (cc may)
+setting_leaves Watch h id slot t v K left is =
+    either_place (λ q. LeavesPart (place.SetSlot q) t) (in_section v) Watch (if nat_lt (next_watched (own_index h) (looked_at h + 1)) (actors_of h.state.sizes) then Watch else Clear) (λ may. absurd (cc may))
+    (either_place (λ q. LeavesPart (place.SetSlot q) t) (nat_lt (next_watched (own_index h) (looked_at h + 1)) (actors_of h.state.sizes)) Watch Clear (λ may. absurd (cc may)) (λ may. absurd (cc may)))
+setting_leaves Clear h id slot t v K left is = λ may. absurd (cc may)
+setting_leaves Give h id slot t v K left is = λ may. is ∙ ap (λ x. still_leaving x h.topics.leaving) K.1.owns_none
+setting_leaves _ h id slot t v K left is = λ may. is ∙ left refl

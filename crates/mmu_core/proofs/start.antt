@@ -1,0 +1,4 @@
+pub mod StartTopics
+pub mod StartViews
+pub mod StartWords
+pub mod Starts

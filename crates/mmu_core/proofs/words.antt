@@ -1,0 +1,9 @@
+pub mod Control
+pub mod PartFits
+pub mod PartIndex
+pub mod PartTopics
+pub mod PartWords
+pub mod PoolBits
+pub mod SlotFields
+pub mod SlotLists
+pub mod SmallSlots

@@ -1,0 +1,4 @@
+pub mod OthersRest
+pub mod AloneKnows
+pub mod FaultAlone
+pub mod LineAlone

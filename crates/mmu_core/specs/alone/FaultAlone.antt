@@ -1,0 +1,129 @@
+-- A fault that runs while all other actors rest: what it knows of the words at each place, so that it never waits and never begins
+-- anew, and what stands where it ends.
+use Rattle.std.specs.Prelude.{◌≡◌, ◌/◌, ◌^◌, ◌<◌, ℕ, zero, suc, Bool, true, false, Some}
+use Rattle.core_views.specs.declared.place.CheckStage.TheVariants as stage
+use Rattle.core_views.specs.declared.place.FaultEnd.{FaultEnd}
+use Rattle.core_views.specs.declared.place.FaultEnd.TheVariants.{Installed, Mmio, Starved, Retry}
+use Rattle.core_views.specs.declared.place.FaultNext.{FaultNext}
+use Rattle.core_views.specs.declared.place.FaultNext.TheVariants.{Goes, Ends}
+use Rattle.core_views.specs.declared.place.FaultPlace.{FaultPlace}
+use Rattle.core_views.specs.declared.place.FaultPlace.TheVariants.{Find, Share, Check, Claim, Fill, Link, Give, Leaf, Unshare, End}
+use Rattle.core_views.specs.declared.sizes.Sizes.{Sizes}
+use Rattle.core_views.specs.declared.topics.Hold.TheVariants.{Loose}
+use Rattle.core_views.specs.declared.topics.Topics.{Topics}
+use Rattle.core_views.specs.Held.{Held}
+use Rattle.core_views.specs.Sizes.{actors_of}
+use Rattle.spte_words.specs.declared.area.Area.{Area}
+use Rattle.spte_words.specs.declared.area.Area.TheVariants as area
+use Rattle.spte_words.specs.declared.spte_kind.SpteKind.TheVariants as entry_kind
+use Rattle.spte_words.specs.Areas.{pool_index}
+use Rattle.spte_words.specs.Entries.{kind_of, level_span}
+use Rattle.part_steps.specs.declared.task.Task.{Task}
+use Rattle.part_steps.specs.declared.part_step.PartStep.{PartStep}
+use Rattle.mmu_core.specs.machine.Enabled.{mmu}
+use Rattle.mmu_core.specs.lines.FaultKnows.{FaultKnows}
+use Rattle.mmu_core.specs.lines.FaultSteps.{allows_access, fault_next, fault_part, waits}
+use Rattle.mmu_core.specs.invariant.Laws.{IsSound}
+use Rattle.mmu_core.specs.machine.Machine.{World, hand_in}
+use Rattle.mmu_core.specs.alone.OthersRest.{OthersRest}
+use Rattle.part_steps.specs.PartSteps.{entry_index, part_task, table_page}
+use Rattle.part_steps.specs.PartTopics.{part_topics}
+use Rattle.part_steps.specs.SlotWords.{NoneBelow, NoneHasPage}
+use Rattle.part_steps.specs.TopicSteps.{linked_page}
+use Rattle.mmu_core.specs.invariant.TreePart.{at, stands}
+use Rattle.mmu_core.specs.machine.View.{answer_in, word_in, words_after}
+
+-- From the table in a page, which is of the level, links lead the guest frame down to this entry of the lowest level.
+abbrev pub LeadsTo : (ℕ → ℕ) → ℕ → ℕ → ℕ → ℕ → Type 0
+LeadsTo pool zero page gfn entry = ⊥
+LeadsTo pool (suc zero) page gfn entry = pool (pool_index page (entry_index gfn 1)) ≡ entry
+LeadsTo pool (suc (suc level)) page gfn entry =
+    (below : ℕ) × (linked_page (kind_of (suc (suc level)) (pool (pool_index page (entry_index gfn (suc (suc level)))))) ≡ Some below) × LeadsTo pool (suc level) below gfn entry
+
+-- They lead to a leaf that allows the access.
+pub record LeadsToLeaf (pool : ℕ → ℕ) (level page gfn : ℕ) (write : Bool) : Type 0 where
+  pub entry : ℕ
+  pub leads : LeadsTo pool level page gfn entry
+  pub leaf : kind_of 1 entry ≡ entry_kind.Leaf
+  pub allows : allows_access write entry ≡ true
+
+-- The entry that was loaded stands still.
+abbrev pub EntryStands : (ℕ → ℕ) → ℕ → Topics → Type 0
+EntryStands pool gfn t = pool (pool_index (table_page t.walk) (entry_index gfn t.walk.level)) ≡ t.walk.entry
+
+-- The pages that the claim saw free in its word are free still.
+abbrev pub SeenStands : Bool → (ℕ → ℕ) → Topics → Type 0
+SeenStands begun map t = begun ≡ true → 0 < t.claim.seen → map t.claim.at ≡ t.claim.seen
+
+-- The words of the map up to this one are 0: no page of theirs is free.
+abbrev pub NoneFreeBefore : (ℕ → ℕ) → ℕ → Type 0
+NoneFreeBefore map word = (i : ℕ) → i < word → map i ≡ 0
+
+-- Behind a fault that has installed an entry, links lead to a leaf that allows the access; one that ends with MMIO leaves no live slot of
+-- the published set that has a page for the access; one that is starved saw each word of the map 0, up to where its claim came, and each
+-- is; no fault begins anew.
+abbrev pub EndAlone : FaultEnd → ℕ → ℕ → (ℕ → ℕ) → (ℕ → ℕ) → ℕ → Bool → ℕ → Type 0
+EndAlone Installed root set map pool gfn write came = LeadsToLeaf pool 4 root gfn write
+EndAlone Mmio root set map pool gfn write came = NoneHasPage gfn write pool set
+EndAlone Starved root set map pool gfn write came = NoneFreeBefore map came
+EndAlone (Retry cause) root set map pool gfn write came = ⊥
+EndAlone _ root set map pool gfn write came = Unit {0}
+
+-- What a fault knows of the words at each place, where no other actor is in its way: the slots behind its search don't have the guest
+-- frame; the entry and the pages that it saw are as it saw them. It never comes to a range of guest frames, since
+-- no invalidation is open, and never gives a page back.
+abbrev pub FaultAlone : FaultPlace → ℕ → ℕ → (ℕ → ℕ) → (ℕ → ℕ) → ℕ → Bool → Topics → Type 0
+FaultAlone (Find begun) root set map pool gfn write t = begun ≡ true → (t.search.set ≡ Some set) × NoneBelow gfn pool set t.search.id
+FaultAlone Share root set map pool gfn write t = t.hold ≡ Loose
+FaultAlone (Check stage.Start) root set map pool gfn write t = ⊥
+FaultAlone (Check stage.End) root set map pool gfn write t = ⊥
+FaultAlone (Claim begun) root set map pool gfn write t = EntryStands pool gfn t × SeenStands begun map t × (begun ≡ true → NoneFreeBefore map t.claim.at)
+FaultAlone Fill root set map pool gfn write t = EntryStands pool gfn t
+FaultAlone Link root set map pool gfn write t = EntryStands pool gfn t
+FaultAlone Leaf root set map pool gfn write t = EntryStands pool gfn t
+FaultAlone (Give e) root set map pool gfn write t = ⊥
+FaultAlone (Unshare e) root set map pool gfn write t = EndAlone e root set map pool gfn write t.claim.at
+FaultAlone (End e) root set map pool gfn write t = EndAlone e root set map pool gfn write t.claim.at
+FaultAlone _ root set map pool gfn write t = Unit {0}
+
+-- what it knows of the words behind a step
+abbrev pub AloneNext : FaultNext → ℕ → ℕ → (ℕ → ℕ) → (ℕ → ℕ) → ℕ → Bool → Topics → Type 0
+AloneNext (Goes p) root set map pool gfn write t = FaultAlone p root set map pool gfn write t
+AloneNext (Ends e) root set map pool gfn write t = EndAlone e root set map pool gfn write t.claim.at
+
+-- A fault of the actor at place a stands at this place of its order, while all other actors rest.
+pub record RunsAlone (z : Sizes) (w : World Held) (a : ℕ) (p : FaultPlace) (gfn : ℕ) (write : Bool) : Type 0 where
+  pub sound : IsSound z w
+  pub others : OthersRest a w
+  pub there : a < actors_of z
+  pub small : gfn < 2 ^ 36
+  pub knows : FaultKnows p z gfn write (hand_in mmu w a).topics
+  pub alone : FaultAlone p (word_in z w area.Root 0) (word_in z w area.Slots 0) (word_in z w area.PoolMap) (word_in z w area.Pool) gfn write (hand_in mmu w a).topics
+
+-- The step of its place doesn't wait for another actor, and behind it the fault knows of the words what its next place asks.
+pub record GoesThrough (z : Sizes) (words : Area → ℕ → ℕ) (a : ℕ) (t : Topics) (note : ℕ) (p : FaultPlace) (gfn : ℕ) (write : Bool) : Type 0 where
+  pub goes : waits p t (answer_in (part_task (fault_part p gfn t) a t note) words) ≡ false
+  pub next :
+      let step : PartStep = fault_part p gfn t in
+      let task : Task = part_task step a t note in
+      let found : ℕ = answer_in task words in
+      let behind : Area → ℕ → ℕ = words_after task words in
+      AloneNext (fault_next p z gfn write t found) (behind area.Root 0) (behind area.Slots 0) (behind area.PoolMap) (behind area.Pool) gfn write (part_topics step t found)
+
+-- A fault alone goes through: no step of it waits, it never begins anew, where it ends with an entry installed, links lead from the root to
+-- a leaf that allows the access, and where it ends with MMIO, no slot has a page for the access.
+abbrev pub FaultGoesThrough : Type 0
+FaultGoesThrough =
+    (z : Sizes) (w : World Held) (a gfn note : ℕ) (write : Bool) (p : FaultPlace) → RunsAlone z w a p gfn write
+    → GoesThrough z (word_in z w) a (hand_in mmu w a).topics note p gfn write
+
+-- Links lead from the root to an entry exactly where they do so from this table.
+pub record LeadSame (pool : ℕ → ℕ) (root level page gfn entry : ℕ) : Type 0 where
+  pub below : LeadsTo pool 4 root gfn entry → LeadsTo pool level page gfn entry
+  pub above : LeadsTo pool level page gfn entry → LeadsTo pool 4 root gfn entry
+
+-- Where a table stands over the guest frame, the links from the root lead through it.
+abbrev pub LeadsDown : Type 0
+LeadsDown =
+    (z : Sizes) (w : World Held) (gfn page level entry : ℕ) (sound : IsSound z w) → stands sound.topics.up sound.topics.spot page ≡ Some (at level (gfn / level_span level / 512))
+    → LeadSame (word_in z w area.Pool) (word_in z w area.Root 0) level page gfn entry

@@ -1,0 +1,39 @@
+-- What is said of all entries below a table, of each guest frame that they are over; and what leaves say of guest frames.
+use Rattle.std.specs.Prelude.{◌≡◌, ◌+◌, ◌*◌, ◌/◌, ◌%◌, ◌<◌, ℕ, true}
+use Rattle.core_views.specs.declared.trace.Slot.{Slot as SlotOf}
+use Rattle.core_views.specs.Slots.{contains}
+use Rattle.spte_words.specs.declared.spte_kind.SpteKind.TheVariants.{Leaf}
+use Rattle.spte_words.specs.Areas.{pool_index}
+use Rattle.spte_words.specs.Entries.{can_write, frame_in, host_writable, kind_of, level_span, mmu_writable}
+use Rattle.spte_words.specs.HostWords.{host_allows_write, host_frame}
+use Rattle.mmu_core.specs.invariant.CachedPart.{IsLeafFor}
+use Rattle.mmu_core.specs.invariant.SlotSetPart.{IsLiveIn}
+use Rattle.mmu_core.specs.invariant.TreePart.{Position, Reaches, Use}
+use Rattle.part_steps.specs.SlotWords.{may_write, page_of}
+
+-- The entry of the table that stands here is over the guest frame.
+abbrev pub IsEntryOver : Position → ℕ → ℕ → Type 0
+IsEntryOver p entry gfn = (entry < 512) × (gfn / level_span p.level ≡ p.prefix * 512 + entry)
+
+-- Each entry of table m, and of each table to which links lead from it, is so: of its level, of each guest frame that it is over, and of its word.
+abbrev pub AllOver : (ℕ → Use) → (ℕ → Position) → (ℕ → ℕ) → ℕ → (ℕ → ℕ → ℕ → Type 0) → Type 0
+AllOver up spot pool m IsSo = (table entry gfn : ℕ) → Reaches up m table → IsEntryOver (spot table) entry gfn → IsSo (spot table).level gfn (pool (pool_index table entry))
+
+-- A leaf is the one that slots and host give the guest frame.
+abbrev pub LeafIsFor : (ℕ → ℕ) → (ℕ → ℕ) → ℕ → ℕ → ℕ → ℕ → Type 0
+LeafIsFor pool host set level gfn w = kind_of level w ≡ Leaf → (level ≡ 1) × IsLeafFor pool host set gfn w
+
+-- What a leaf of any level says of a guest frame of its run: it names the frame of the page that slots and host give this guest frame, as far from
+-- the first one of its run as the guest frame is; and it allows no write that they don't allow.
+pub record LeafSays (pool host : ℕ → ℕ) (set level gfn leaf : ℕ) : Type 0 where
+  pub id : ℕ
+  pub slot : SlotOf
+  pub live : IsLiveIn pool set id slot
+  pub holds : contains gfn slot ≡ true
+  pub frame : host_frame (host (page_of slot gfn)) ≡ frame_in leaf + gfn % level_span level
+  pub writes : can_write leaf ≡ true → may_write slot (host (page_of slot gfn)) ≡ true
+  pub host_bit : host_writable leaf ≡ true → host_allows_write (host (page_of slot gfn)) ≡ true
+  pub mmu_bit : mmu_writable leaf ≡ true → may_write slot (host (page_of slot gfn)) ≡ true
+
+abbrev pub LeavesSay : (ℕ → ℕ) → (ℕ → ℕ) → ℕ → ℕ → ℕ → ℕ → Type 0
+LeavesSay pool host set level gfn w = kind_of level w ≡ Leaf → LeafSays pool host set level gfn w

@@ -1,0 +1,19 @@
+-- Translations: what is cached, and what an access uses, agrees with slots and host.
+use Rattle.std.specs.Prelude.{◌≡◌, ℕ, All, List, true}
+use Rattle.core_views.specs.declared.cache.Translation.{Translation}
+use Rattle.core_views.specs.declared.trace.Slot.{Slot as SlotOf}
+use Rattle.core_views.specs.Slots.{contains}
+use Rattle.mmu_core.specs.invariant.SlotSetPart.{IsLiveIn}
+use Rattle.part_steps.specs.SlotWords.{leaf_of, page_of}
+
+-- The word is the leaf of the page that the published slots, in this page, and the host give the guest frame.
+pub record IsLeafFor (pool host : ℕ → ℕ) (set gfn leaf : ℕ) : Type 0 where
+  pub id : ℕ
+  pub slot : SlotOf
+  pub live : IsLiveIn pool set id slot
+  pub holds : contains gfn slot ≡ true
+  pub is : leaf ≡ leaf_of slot (host (page_of slot gfn))
+
+-- Each cached translation is of the lowest level, and is this leaf.
+abbrev pub CachedPart : (ℕ → ℕ) → (ℕ → ℕ) → ℕ → List Translation → Type 0
+CachedPart pool host set cached = All (λ t. (t.level ≡ 1) × IsLeafFor pool host set t.gfn t.leaf) cached

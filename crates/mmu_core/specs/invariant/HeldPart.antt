@@ -1,0 +1,46 @@
+-- What an actor holds of tables and slot sets.
+use Rattle.std.specs.Prelude.{◌≡◌, ◌≢◌, ◌<◌, ◌≤◌, ◌⊎◌, ◌-◌, ◌/◌, ◌^◌, ℕ, false, Option, Some, None}
+use Rattle.core_views.specs.declared.topics.Stay.TheVariants.{Section}
+use Rattle.core_views.specs.declared.topics.TableWalk.{TableWalk}
+use Rattle.core_views.specs.declared.topics.Topics.{Topics}
+use Rattle.part_steps.specs.PartSteps.{table_page}
+use Rattle.mmu_core.specs.invariant.SlotSetPart.{IsLiveIn}
+use Rattle.core_views.specs.declared.trace.Slot.{Slot as SlotOf}
+use Rattle.part_steps.specs.TopicSteps.{may_search, may_walk}
+use Rattle.mmu_core.specs.invariant.TreePart.{Position, at}
+
+-- The table that a walk has come to is one, at the walk's level and run; and neither a table nor a slot set is held outside of the
+-- guest, of a section and of the lock.
+pub record HeldPart (stands : ℕ → Option Position) (t : Topics) : Type 0 where
+  pub table : 1 ≤ t.walk.level → stands (table_page t.walk) ≡ Some (at t.walk.level t.walk.prefix)
+  pub no_table : may_walk t.stay t.hold ≡ false → t.walk.level ≡ 0
+  pub no_set : may_search t.stay t.hold ≡ false → t.search.set ≡ None
+
+-- the table that a walk holds at a level
+abbrev pub table_at : ℕ → TableWalk → ℕ
+table_at level walk = table_page (record walk { level = level })
+
+-- the run of guest frames of that level in which the walk is
+abbrev pub run_at : ℕ → TableWalk → ℕ
+run_at level walk = walk.prefix / 512 ^ (level - walk.level)
+
+-- Each table that a walk has gone through stands at its level, for the run of this level in which the walk is.
+abbrev pub PathPart : (ℕ → Option Position) → TableWalk → Type 0
+PathPart stands walk = (level : ℕ) → 1 ≤ walk.level → walk.level < level → level ≤ 4 → stands (table_at level walk) ≡ Some (at level (run_at level walk))
+
+-- The actor at place i is in a section, page k is leaving for another actor, and this one hasn't watched it since.
+pub record HoldsOld (n : ℕ) (topics : ℕ → Topics) (i k : ℕ) : Type 0 where
+  pub section : (topics i).stay ≡ Section
+  pub by : ℕ
+  pub there : by < n
+  pub other : by ≢ i
+  pub leaves : (topics by).leaving ≡ Some k
+  pub unwatched : (topics by).watched ≤ i
+
+-- The slot set that an actor holds is the published one, or an older one that is leaving, for an actor that hasn't watched it since.
+abbrev pub SetsPart : ℕ → ℕ → (ℕ → Topics) → Type 0
+SetsPart n slots topics = (i k : ℕ) → i < n → (topics i).search.set ≡ Some k → (k ≡ slots) ⊎ HoldsOld n topics i k
+
+-- Each slot of a slot set that is leaving is live, as it is, in the published one.
+abbrev pub OldSetsPart : ℕ → ℕ → (ℕ → ℕ) → (ℕ → Option ℕ) → Type 0
+OldSetsPart n slots pool leaving = (i k : ℕ) → i < n → leaving i ≡ Some k → (id : ℕ) (slot : SlotOf) → IsLiveIn pool k id slot → IsLiveIn pool slots id slot

@@ -1,0 +1,41 @@
+-- Lines: whose a hand is, and which of its lines is under way.
+use Rattle.std.specs.Prelude.{◌≡◌, ◌<◌, ◌+◌, ◌==◌, ℕ, List, All, length, map, take, if◌then◌else◌}
+use Rattle.std.specs.List.{Contains, IsDistinct}
+use Rattle.std.specs.Map.{keys_of}
+use Rattle.core_views.specs.declared.place.Place.{Place}
+use Rattle.core_views.specs.declared.place.Place.TheVariants as place
+use Rattle.core_views.specs.declared.sizes.Sizes.{Sizes}
+use Rattle.core_views.specs.declared.slot_set.MemorySlot.{MemorySlot}
+use Rattle.core_views.specs.declared.trace.Command.TheVariants.{SetSlot}
+use Rattle.core_views.specs.declared.trace.Line.{Line}
+use Rattle.core_views.specs.Held.{Held}
+use Rattle.core_views.specs.Sizes.{index_of}
+use Rattle.core_views.specs.Traces.{IsCommandFor, slot_ids}
+use Rattle.mmu_core.specs.lines.KnowsPart.{may_leave}
+use Rattle.mmu_core.specs.machine.Steps.{next_line}
+
+-- A line is under way: it is the hand's next line, which has no answer yet.
+abbrev pub UnderWay : Place → Held → Type 0
+UnderWay place.Between h = Unit {0}
+UnderWay (place.Access p) h = (h.state.line ≡ next_line h) × (length h.answers < length h.lines)
+UnderWay (place.SetSlot p) h = (h.state.line ≡ next_line h) × (length h.answers < length h.lines)
+
+-- One of the lines sets this slot at this ID.
+abbrev pub IsSetBy : List Line → ℕ × MemorySlot → Type 0
+IsSetBy lines entry = Contains (map (λ line. line.command) lines) (SetSlot entry.0 entry.1.slot)
+
+-- how many of the hand's lines have done what they do: those that are answered, and behind its publication the one under way
+abbrev pub lines_done : Held → ℕ
+lines_done h = length h.answers + (if may_leave h.state.place then 1 else 0)
+
+-- Lines: whose the hand is, with room in its cache as the sizes say, and that its lines are its actor's; no two of them set a slot at one ID, and each slot of its record was set, as it is, by one of them, which has done so.
+pub record OwnLines (z : Sizes) (i : ℕ) (h : Held) : Type 0 where
+  pub sizes : h.state.sizes ≡ z
+  pub index : index_of z h.state.actor ≡ i
+  pub cache : h.cached.capacity ≡ z.cache
+  pub allowed : All (λ line. IsCommandFor z line.actor line.command) h.lines
+  pub own : All (λ line. line.actor ≡ h.state.actor) h.lines
+  pub distinct : IsDistinct (λ i j. i == j) (slot_ids h.lines)
+  pub under : UnderWay h.state.place h
+  pub answered : All (Contains (slot_ids (take (lines_done h) h.lines))) (keys_of h.slots)
+  pub set : All (IsSetBy h.lines) h.slots

@@ -1,0 +1,42 @@
+-- What an actor has loaded of a slot set, of the host and of the invalidations.
+use Rattle.std.specs.Prelude.{◌≡◌, ◌-◌, ◌<◌, ◌≤◌, ℕ, true, Some}
+use Rattle.core_views.specs.declared.place.SlotField.{SlotField}
+use Rattle.core_views.specs.declared.place.SlotField.TheVariants.{Base, Pages, Host, Flags}
+use Rattle.core_views.specs.declared.sizes.Sizes.{Sizes}
+use Rattle.core_views.specs.declared.topics.HostLook.{HostLook}
+use Rattle.core_views.specs.declared.topics.SlotSearch.{SlotSearch}
+use Rattle.core_views.specs.declared.topics.Topics.{Topics}
+use Rattle.spte_words.specs.Flags.{flags_logged}
+use Rattle.part_steps.specs.SlotWords.{live_at, slot_at, slot_index}
+use Rattle.mmu_core.specs.invariant.TreePart.{IsLiveIn}
+
+-- The slot under search is live, and its flags were loaded as the words of its slot set hold them.
+abbrev pub HasFlags : (ℕ → ℕ) → ℕ → SlotSearch → Type 0
+HasFlags pool set so_far = (live_at pool set so_far.id ≡ true) × (so_far.slot.read_only ≡ (slot_at pool set so_far.id).read_only) × (so_far.logged ≡ flags_logged (pool (slot_index set so_far.id Flags)))
+
+-- What was loaded of the slot under search, up to the word that is next, is what the words of its slot set hold.
+abbrev pub HasLoaded : SlotField → (ℕ → ℕ) → ℕ → SlotSearch → Type 0
+HasLoaded Flags pool set so_far = Unit {0}
+HasLoaded Base pool set so_far = HasFlags pool set so_far
+HasLoaded Pages pool set so_far = HasFlags pool set so_far × (so_far.slot.base ≡ (slot_at pool set so_far.id).base)
+HasLoaded Host pool set so_far = HasFlags pool set so_far × (so_far.slot.base ≡ (slot_at pool set so_far.id).base) × (so_far.slot.pages ≡ (slot_at pool set so_far.id).pages)
+
+-- A word of a slot behind its flags is next only of one of the IDs.
+abbrev pub IsOnList : SlotField → ℕ → Type 0
+IsOnList Flags id = Unit {0}
+IsOnList _ id = id ≤ 31
+
+-- What was loaded of the slot under search stands in the slot set that is held; the slot that was loaded whole is live there, with the
+-- ID before the next one, whose flags are next.
+pub record SearchPart (pool : ℕ → ℕ) (s : SlotSearch) : Type 0 where
+  pub listed : IsOnList s.next s.id
+  pub loaded : (k : ℕ) → s.set ≡ Some k → HasLoaded s.next pool k s
+  pub whole : (k : ℕ) → s.set ≡ Some k → s.whole ≡ true → (1 ≤ s.id) × IsLiveIn pool k (s.id - 1) s.slot
+  pub held : s.whole ≡ true → (k : ℕ) × (s.set ≡ Some k)
+  pub before_flags : s.whole ≡ true → s.next ≡ Flags
+
+-- The host word that was looked up is the host word of its page, and the snapshot isn't ahead of the sequence number.
+pub record LookPart (z : Sizes) (seq : ℕ) (host : ℕ → ℕ) (t : Topics) : Type 0 where
+  pub there : (look : HostLook) → t.host ≡ Some look → look.page < z.pages
+  pub is : (look : HostLook) → t.host ≡ Some look → look.word ≡ host look.page
+  pub snapshot : (s : ℕ) → t.invalidations.snapshot ≡ Some s → s ≤ seq

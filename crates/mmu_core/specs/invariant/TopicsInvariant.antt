@@ -1,0 +1,37 @@
+-- What holds at every moment of the words of the machine's parts and of what actors hold of them.
+use Rattle.std.specs.Prelude.{◌<◌, ℕ}
+use Rattle.core_views.specs.declared.sizes.Sizes.{Sizes}
+use Rattle.core_views.specs.Held.{Held}
+use Rattle.core_views.specs.Sizes.{actors_of}
+use Rattle.spte_words.specs.declared.area.Area.TheVariants as area
+use Rattle.mmu_core.specs.machine.View.{View}
+pub use Rattle.part_steps.specs.PartBounds.{CountersPart}
+pub use Rattle.mmu_core.specs.invariant.AllOver.{AllOver, LeafIsFor}
+pub use Rattle.mmu_core.specs.invariant.HeldPart.{HeldPart, HoldsOld, OldSetsPart, PathPart, SetsPart}
+pub use Rattle.mmu_core.specs.invariant.LockPart.{LockPart, SawWriter}
+pub use Rattle.mmu_core.specs.invariant.PoolPart.{FilledPart, IsFilled, UsePart, is_leaving}
+pub use Rattle.mmu_core.specs.invariant.SearchPart.{LookPart, SearchPart}
+pub use Rattle.mmu_core.specs.invariant.StatesPart.{StatesPart}
+pub use Rattle.mmu_core.specs.invariant.TreePart.{Position, TreePart, Use, stands}
+
+-- All parts, of the columns of words and the column of hands; and what each page of the pool is, and where it stands if it is a table.
+pub record TopicsInvariantOf (z : Sizes) (lock root slots seq : ℕ) (states map host role pool : ℕ → ℕ) (hand : ℕ → Held) : Type 0 where
+  pub up : ℕ → Use
+  pub spot : ℕ → Position
+  pub lock_part : LockPart (actors_of z) lock (λ i. (hand i).topics.hold)
+  pub saw_writer : (i : ℕ) → i < actors_of z → SawWriter (hand i).topics.hold
+  pub states_part : StatesPart (actors_of z) states (λ i. (hand i).topics.stay)
+  pub uses : UsePart (actors_of z) z.pool slots map (λ i. (hand i).topics.owned) (λ i. (hand i).topics.leaving) up
+  pub tree : TreePart z.pool root slots role pool up spot
+  pub leaves : AllOver up spot pool root (LeafIsFor pool host slots)
+  pub filled : FilledPart (actors_of z) role pool (λ i. (hand i).topics.owned)
+  pub held : (i : ℕ) → i < actors_of z → HeldPart (stands up spot) (hand i).topics
+  pub paths : (i : ℕ) → i < actors_of z → PathPart (stands up spot) (hand i).topics.walk
+  pub sets : SetsPart (actors_of z) slots (λ i. (hand i).topics)
+  pub old_sets : OldSetsPart (actors_of z) slots pool (λ i. (hand i).topics.leaving)
+  pub searches : (i : ℕ) → i < actors_of z → SearchPart pool (hand i).topics.search
+  pub looks : (i : ℕ) → i < actors_of z → LookPart z seq host (hand i).topics
+  pub counters : (i : ℕ) → i < actors_of z → CountersPart z (hand i).topics
+
+abbrev pub TopicsInvariant : Sizes → View → Type 0
+TopicsInvariant z v = TopicsInvariantOf z (v.words area.Lock 0) (v.words area.Root 0) (v.words area.Slots 0) (v.words area.Seq 0) (v.words area.State) (v.words area.PoolMap) (v.words area.Host) (v.words area.Role) (v.words area.Pool) v.hand

@@ -1,0 +1,14 @@
+pub mod Cached
+pub mod AccessSteps
+pub mod FaultSteps
+pub mod SetSlotSteps
+pub mod PartAt
+pub mod PartWaits
+pub mod Delays
+pub mod Rests
+pub mod FaultKnows
+pub mod SetSlotKnows
+pub mod KnowsPart
+pub mod FaultLaws
+pub mod SearchLeft
+pub mod Bounds

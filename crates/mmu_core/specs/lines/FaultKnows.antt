@@ -1,0 +1,142 @@
+-- What a fault knows at each of its places, from what its actor holds alone.
+use Rattle.std.specs.Prelude.{◌≡◌, ◌≢◌, ◌-◌, ◌<◌, ◌≤◌, ◌⊎◌, ℕ, Bool, true, false, ◌&&◌, Some, None, is_some}
+use Rattle.core_views.specs.declared.place.Cause.{Cause}
+use Rattle.core_views.specs.declared.place.Cause.TheVariants.{Open, Moved, Entry}
+use Rattle.core_views.specs.declared.place.CheckStage.{CheckStage}
+use Rattle.core_views.specs.declared.place.CheckStage.TheVariants as stage
+use Rattle.core_views.specs.declared.place.FaultEnd.{FaultEnd}
+use Rattle.core_views.specs.declared.place.FaultEnd.TheVariants.{Installed, Mmio, HostFault, Starved, Retry}
+use Rattle.core_views.specs.declared.place.FaultNext.{FaultNext}
+use Rattle.core_views.specs.declared.place.FaultNext.TheVariants.{Goes, Ends}
+use Rattle.core_views.specs.declared.place.FaultPlace.{FaultPlace}
+use Rattle.core_views.specs.declared.place.FaultPlace.TheVariants.{Begin, Snapshot, Find, Host, Share, Check, Walk, Claim, Fill, Link, Give, Leaf, Unshare, End}
+use Rattle.core_views.specs.declared.sizes.Sizes.{Sizes}
+use Rattle.core_views.specs.declared.topics.Checked.TheVariants as checked
+use Rattle.core_views.specs.declared.topics.Hold.{Hold}
+use Rattle.core_views.specs.declared.topics.Hold.TheVariants.{Loose, Shared, Owing, Exclusive}
+use Rattle.core_views.specs.declared.topics.Invalidations.{Invalidations}
+use Rattle.core_views.specs.declared.topics.OwnedPage.{OwnedPage}
+use Rattle.core_views.specs.declared.topics.Stay.TheVariants.{Section}
+use Rattle.core_views.specs.declared.topics.TableWalk.{TableWalk}
+use Rattle.core_views.specs.declared.topics.Topics.{Topics}
+use Rattle.spte_words.specs.declared.spte_kind.SpteKind.TheVariants as entry_kind
+use Rattle.spte_words.specs.Areas.{words_of_bits}
+use Rattle.spte_words.specs.Entries.{kind_of}
+use Rattle.spte_words.specs.HostWords.{host_allows_write}
+use Rattle.mmu_core.specs.lines.FaultSteps.{allows_access, entry_word}
+use Rattle.part_steps.specs.PartSteps.{FoundSlot, HoldsSet, IsAtRest, IsFresh, IsOver, LookedUp, OwnsPage, OwnsTable, SawEntry}
+
+-- In a section, with no page; without the lock, or sharing it.
+pub record InSection (t : Topics) : Type 0 where
+  pub section : t.stay ≡ Section
+  pub owns_none : t.owned ≡ None
+
+pub record WithoutLock (t : Topics) : Type 0 where
+  pub inside : InSection t
+  pub loose : t.hold ≡ Loose
+  pub snapshot : is_some t.invalidations.snapshot ≡ true
+
+-- The look-up allows the access: neither the slot nor the host forbids the write, if it is one.
+pub record LookedFor (gfn : ℕ) (write : Bool) (t : Topics) : Type 0 where
+  pub looked_up : LookedUp gfn t
+  pub allowed : write ≡ true → (t.search.slot.read_only ≡ false) × (host_allows_write looked_up.word ≡ true)
+  pub snapshot : is_some t.invalidations.snapshot ≡ true
+
+-- The lock isn't shared yet: nothing was done, or it is to take itself out of its readers.
+abbrev pub is_trying : Hold → Bool
+is_trying Loose = true
+is_trying Shared = false
+is_trying (Owing word) = true
+is_trying Exclusive = false
+
+-- It shares the lock, and looked up.
+pub record Sharing (gfn : ℕ) (write : Bool) (t : Topics) : Type 0 where
+  pub section : t.stay ≡ Section
+  pub shares : t.hold ≡ Shared
+  pub looked : LookedFor gfn write t
+
+-- How far the check has come.
+abbrev pub CheckKnows : CheckStage → ℕ → Invalidations → Type 0
+CheckKnows stage.Count gfn n = Unit {0}
+CheckKnows stage.Start gfn n = (n.checked ≡ checked.Count) × (0 < n.count)
+CheckKnows stage.End gfn n = (n.checked ≡ checked.Start) × (0 < n.count)
+CheckKnows stage.Seq gfn n = ((n.checked ≡ checked.Count) × (n.count ≡ 0)) ⊎ ((n.checked ≡ checked.Range) × ((gfn < n.start) ⊎ (n.end ≤ gfn)))
+
+-- The check is made: the fault may store entries.
+pub record Entering (gfn : ℕ) (write : Bool) (t : Topics) : Type 0 where
+  pub sharing : Sharing gfn write t
+  pub fresh : IsFresh gfn t.invalidations
+
+-- The guest frame's entry in a table above the lowest level was loaded, and is absent.
+pub record SawNone (gfn : ℕ) (t : Topics) : Type 0 where
+  pub saw : SawEntry gfn t.walk
+  pub upper : 2 ≤ t.walk.level
+  pub absent : kind_of t.walk.level t.walk.entry ≡ entry_kind.Absent
+
+-- The page that is owned is being filled as a table.
+pub record Filling (t : Topics) : Type 0 where
+  pub owned : OwnedPage
+  pub is : t.owned ≡ Some owned
+  pub left : owned.filled < 513
+  pub absent : owned.absent ≡ true
+
+-- An entry of the lowest level that allows the access was seen, or put, at the guest frame.
+pub record HasEntry (gfn : ℕ) (write : Bool) (t : Topics) : Type 0 where
+  pub saw : SawEntry gfn t.walk
+  pub lowest : t.walk.level ≡ 1
+  pub leaf : kind_of 1 t.walk.entry ≡ entry_kind.Leaf
+  pub allows : allows_access write t.walk.entry ≡ true
+
+-- The host word that was looked up forbids the write.
+pub record HostForbids (gfn : ℕ) (write : Bool) (t : Topics) : Type 0 where
+  pub writes : write ≡ true
+  pub looked_up : LookedUp gfn t
+  pub forbids : host_allows_write looked_up.word ≡ false
+
+-- The slot that was found is read-only, or the search has come behind the last slot.
+abbrev pub FoundNoPage : ℕ → Bool → Topics → Type 0
+FoundNoPage gfn write t = ((write ≡ true) × FoundSlot gfn t × (t.search.slot.read_only ≡ true)) ⊎ (t.search.id ≡ 32)
+
+-- This word is the guest frame's entry in the walk's table, and was seen so. It isn't what was read of it before, or it is frozen, or a
+-- leaf above the lowest level.
+pub record IsInTheWay (word read seen : ℕ) (z : Sizes) (gfn : ℕ) (walk : TableWalk) : Type 0 where
+  pub saw : SawEntry gfn walk
+  pub is_entry : word ≡ entry_word z gfn walk
+  pub holds : walk.entry ≡ seen
+  pub why : (read ≢ seen) ⊎ (kind_of walk.level seen ≡ entry_kind.Frozen) ⊎ ((kind_of walk.level seen ≡ entry_kind.Leaf) × (2 ≤ walk.level))
+
+-- Why it is to begin anew: by the words that it loaded.
+abbrev pub HasCause : Cause → Sizes → ℕ → Topics → Type 0
+HasCause (Open count start end_ at) z gfn t = (at ≡ gfn) × (0 < count) × (start ≤ gfn) × (gfn < end_) × (t.invalidations.count ≡ count) × (t.invalidations.start ≡ start) × (t.invalidations.end ≡ end_)
+HasCause (Moved old_ now_) z gfn t = (t.invalidations.snapshot ≡ Some old_) × (t.invalidations.seq ≡ now_) × (now_ ≢ old_)
+HasCause (Entry word read seen) z gfn t = IsInTheWay word read seen z gfn t.walk
+
+-- what the end of a fault rests on
+abbrev pub EndKnows : FaultEnd → Sizes → ℕ → Bool → Topics → Type 0
+EndKnows Installed z gfn write t = HasEntry gfn write t
+EndKnows Mmio z gfn write t = FoundNoPage gfn write t
+EndKnows HostFault z gfn write t = HostForbids gfn write t
+EndKnows Starved z gfn write t = words_of_bits z.pool ≤ t.claim.at
+EndKnows (Retry cause) z gfn write t = HasCause cause z gfn t
+
+-- what a fault knows at each place
+abbrev pub FaultKnows : FaultPlace → Sizes → ℕ → Bool → Topics → Type 0
+FaultKnows Begin z gfn write t = IsAtRest t
+FaultKnows Snapshot z gfn write t = InSection t × (t.hold ≡ Loose)
+FaultKnows (Find begun) z gfn write t = WithoutLock t × (begun ≡ true → HoldsSet t × (t.search.id ≤ 31))
+FaultKnows Host z gfn write t = WithoutLock t × FoundSlot gfn t × ((write && t.search.slot.read_only) ≡ false)
+FaultKnows Share z gfn write t = InSection t × (is_trying t.hold ≡ true) × LookedFor gfn write t
+FaultKnows (Check at) z gfn write t = Sharing gfn write t × (t.owned ≡ None) × CheckKnows at gfn t.invalidations
+FaultKnows (Walk rooted) z gfn write t = Entering gfn write t × (t.owned ≡ None) × (rooted ≡ true → IsOver gfn t.walk)
+FaultKnows (Claim begun) z gfn write t = Entering gfn write t × (t.owned ≡ None) × SawNone gfn t × (begun ≡ true → t.claim.at < words_of_bits z.pool)
+FaultKnows Fill z gfn write t = Entering gfn write t × SawNone gfn t × Filling t
+FaultKnows Link z gfn write t = Entering gfn write t × SawNone gfn t × OwnsTable (t.walk.level - 1) t
+FaultKnows Leaf z gfn write t = Entering gfn write t × (t.owned ≡ None) × SawEntry gfn t.walk × (t.walk.level ≡ 1)
+FaultKnows (Give e) z gfn write t = (t.stay ≡ Section) × (t.hold ≡ Shared) × OwnsPage t × EndKnows e z gfn write t
+FaultKnows (Unshare e) z gfn write t = InSection t × (t.hold ≡ Shared) × EndKnows e z gfn write t
+FaultKnows (End e) z gfn write t = InSection t × (t.hold ≡ Loose) × EndKnows e z gfn write t
+
+-- what it knows behind a step: where it is over it holds nothing
+abbrev pub KnowsNext : FaultNext → Sizes → ℕ → Bool → Topics → Type 0
+KnowsNext (Goes p) z gfn write t = FaultKnows p z gfn write t
+KnowsNext (Ends e) z gfn write t = IsAtRest t

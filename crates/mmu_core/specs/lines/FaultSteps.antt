@@ -1,0 +1,220 @@
+-- The order of steps of a fault (tdp_mmu.c, kvm_tdp_mmu_map; locking.rst): in a section the snapshot, the slot of the guest frame and the
+-- host word of its page; then, sharing the lock, the check of the snapshot, and from the root down each level's entry: a link leads
+-- down, an absent entry gets a table of its own, and at the lowest level the leaf.
+use Rattle.std.specs.Prelude.{◌+◌, ◌-◌, ◌*◌, ℕ, Bool, true, false, ◌==◌, ◌&&◌, ◌||◌, nat_le, nat_lt, not, if◌then◌else◌, Option, Some, None}
+use Rattle.core_views.specs.declared.hand.Seen.{Seen}
+use Rattle.core_views.specs.declared.place.Cause.TheVariants.{Open, Moved, Entry}
+use Rattle.core_views.specs.declared.place.CheckStage.{CheckStage}
+use Rattle.core_views.specs.declared.place.CheckStage.TheVariants as stage
+use Rattle.core_views.specs.declared.place.FaultEnd.TheVariants.{Installed, Mmio, HostFault, Starved, Retry}
+use Rattle.core_views.specs.declared.place.FaultNext.{FaultNext}
+use Rattle.core_views.specs.declared.place.FaultNext.TheVariants.{Goes, Ends}
+use Rattle.core_views.specs.declared.place.FaultPlace.{FaultPlace}
+use Rattle.core_views.specs.declared.place.FaultPlace.TheVariants.{Begin, Snapshot, Find, Host, Share, Check, Walk, Claim, Fill, Link, Give, Leaf, Unshare, End}
+use Rattle.core_views.specs.declared.place.SlotField.{SlotField}
+use Rattle.core_views.specs.declared.place.SlotField.TheVariants as field
+use Rattle.core_views.specs.declared.sizes.Sizes.{Sizes}
+use Rattle.core_views.specs.declared.topics.Hold.{Hold}
+use Rattle.core_views.specs.declared.topics.Hold.TheVariants.{Owing}
+use Rattle.core_views.specs.declared.topics.MapClaim.{MapClaim}
+use Rattle.core_views.specs.declared.topics.SlotSearch.{SlotSearch}
+use Rattle.core_views.specs.declared.topics.TableWalk.{TableWalk}
+use Rattle.core_views.specs.declared.topics.Topics.{Topics}
+use Rattle.core_views.specs.Held.{Held}
+use Rattle.core_views.specs.Slots.{contains}
+use Rattle.spte_words.specs.declared.area.Area.TheVariants as area
+use Rattle.spte_words.specs.declared.spte_kind.SpteKind.{SpteKind}
+use Rattle.spte_words.specs.declared.spte_kind.SpteKind.TheVariants as entry_kind
+use Rattle.spte_words.specs.Areas.{place, pool_index, words_of_bits}
+use Rattle.spte_words.specs.Entries.{can_write, kind_of}
+use Rattle.spte_words.specs.HostWords.{host_allows_write}
+use Rattle.part_steps.specs.declared.part_step.PartStep.{PartStep}
+use Rattle.part_steps.specs.declared.part_step.PartStep.TheVariants as part
+use Rattle.part_steps.specs.PartSteps.{entry_index, part_kind, table_page, words_filled}
+pub use Rattle.mmu_core.specs.lines.PartWaits.{is_owing, word_owed}
+use Rattle.mmu_core.specs.lines.SearchLeft.{look_left}
+use Rattle.part_steps.specs.SlotWords.{page_of}
+use Rattle.part_steps.specs.Tasks.{map_of}
+use Rattle.part_steps.specs.TopicSteps.{has_writer, is_won, searched}
+
+-- A claim tries the lowest page of those seen, and else loads the word of the map that it has come to, the first one where it begins.
+abbrev pub map_word : Bool → MapClaim → ℕ
+map_word begun claim = if begun then claim.at else 0
+
+abbrev pub tries_page : Bool → MapClaim → Bool
+tries_page begun claim = begun && nat_lt 0 claim.seen
+
+abbrev pub claim_part : Bool → MapClaim → PartStep
+claim_part begun claim = if tries_page begun claim then part.Claim else part.Map (map_word begun claim)
+
+-- what a table's page is filled with: 512 absent entries, and then its role, one level below the walk's table
+abbrev pub table_value : Topics → ℕ
+table_value t = if nat_lt (words_filled t.owned) 512 then 0 else t.walk.level - 1
+
+abbrev pub share_part : Hold → PartStep
+share_part (Owing word) = part.Unshare
+share_part _ = part.Share
+
+abbrev pub check_part : CheckStage → PartStep
+check_part stage.Count = part.Count
+check_part stage.Start = part.RangeStart
+check_part stage.End = part.RangeEnd
+check_part stage.Seq = part.Seq
+
+-- the step of each place
+abbrev pub fault_part : FaultPlace → ℕ → Topics → PartStep
+fault_part Begin gfn t = part.Begin
+fault_part Snapshot gfn t = part.Seq
+fault_part (Find begun) gfn t = if begun then part.Slot else part.Slots
+fault_part Host gfn t = part.Host (page_of t.search.slot gfn)
+fault_part Share gfn t = share_part t.hold
+fault_part (Check at) gfn t = check_part at
+fault_part (Walk rooted) gfn t = if rooted then part.Walk gfn else part.Root
+fault_part (Claim begun) gfn t = claim_part begun t.claim
+fault_part Fill gfn t = part.Fill (table_value t)
+fault_part Link gfn t = part.Link gfn
+fault_part (Give e) gfn t = part.Give
+fault_part Leaf gfn t = part.Leaf gfn
+fault_part (Unshare e) gfn t = part.Unshare
+fault_part (End e) gfn t = part.End
+
+-- behind a word of the slots: the slot with the guest frame is found, none has it, or the search goes on
+abbrev pub is_last_word : SlotField → Bool
+is_last_word field.Host = true
+is_last_word _ = false
+
+abbrev pub found_next : Bool → SlotSearch → FaultPlace
+found_next write found = if write && found.slot.read_only then End Mmio else Host
+
+abbrev pub find_next : ℕ → Bool → SlotField → SlotSearch → FaultPlace
+find_next gfn write loaded found =
+    if is_last_word loaded && contains gfn found.slot then found_next write found else
+    if found.id == 32 then End Mmio else
+    Find true
+
+-- behind a try for the lock that found v: once it is shared the check begins
+abbrev pub share_next : Hold → ℕ → FaultPlace
+share_next (Owing word) v = Share
+share_next _ v = if has_writer v then Share else Check stage.Count
+
+-- the snapshot that was taken
+abbrev pub snapshot_taken : Option ℕ → ℕ
+snapshot_taken None = 0
+snapshot_taken (Some n) = n
+
+abbrev pub check_next : CheckStage → ℕ → Topics → ℕ → FaultPlace
+check_next stage.Count gfn t v = if v == 0 then Check stage.Seq else Check stage.Start
+check_next stage.Start gfn t v = Check stage.End
+check_next stage.End gfn t v =
+    if nat_le t.invalidations.start gfn && nat_lt gfn v then Unshare (Retry (Open t.invalidations.count t.invalidations.start v gfn)) else Check stage.Seq
+check_next stage.Seq gfn t v =
+    if v == snapshot_taken t.invalidations.snapshot then Walk false else Unshare (Retry (Moved (snapshot_taken t.invalidations.snapshot) v))
+
+-- where the guest frame's entry of the walk's table stands among all words
+abbrev pub entry_word : Sizes → ℕ → TableWalk → ℕ
+entry_word z gfn walk = place (map_of z) area.Pool (pool_index (table_page walk) (entry_index gfn walk.level))
+
+-- The entry allows the access.
+abbrev pub allows_access : Bool → ℕ → Bool
+allows_access write w = not write || can_write w
+
+-- behind an entry v of the walk's table: no leaf stands above the lowest level yet
+abbrev pub walk_next : SpteKind → Sizes → ℕ → Bool → TableWalk → ℕ → FaultPlace
+walk_next (entry_kind.Table page) z gfn write walk v = Walk true
+walk_next entry_kind.Leaf z gfn write walk v =
+    if walk.level == 1 then (if allows_access write v then Unshare Installed else Leaf) else Unshare (Retry (Entry (entry_word z gfn walk) v v))
+walk_next entry_kind.Absent z gfn write walk v = if walk.level == 1 then Leaf else Claim false
+walk_next entry_kind.Frozen z gfn write walk v = Unshare (Retry (Entry (entry_word z gfn walk) v v))
+
+-- behind a step of a claim that found v: the page is to be filled, each word of the map was seen 0, or the claim goes on
+abbrev pub claim_next : Bool → Sizes → MapClaim → ℕ → FaultPlace
+claim_next true z claim v = if is_won claim v then Fill else Claim true
+claim_next false z claim v = if nat_lt (claim.at + (if v == 0 then 1 else 0)) (words_of_bits z.pool) then Claim true else Unshare Starved
+
+-- the claim, at the word of the map that it loads
+abbrev pub at_map_word : Bool → MapClaim → MapClaim
+at_map_word begun claim = record claim { at = map_word begun claim }
+
+-- where the fault stands behind the step of its place, which found v
+abbrev pub fault_next : FaultPlace → Sizes → ℕ → Bool → Topics → ℕ → FaultNext
+fault_next Begin z gfn write t v = Goes Snapshot
+fault_next Snapshot z gfn write t v = Goes (Find false)
+fault_next (Find begun) z gfn write t v = Goes (if begun then find_next gfn write t.search.next (searched t.search v) else Find true)
+fault_next Host z gfn write t v = Goes (if write && not (host_allows_write v) then End HostFault else Share)
+fault_next Share z gfn write t v = Goes (share_next t.hold v)
+fault_next (Check at) z gfn write t v = Goes (check_next at gfn t v)
+fault_next (Walk rooted) z gfn write t v = Goes (if rooted then walk_next (kind_of t.walk.level v) z gfn write t.walk v else Walk true)
+fault_next (Claim begun) z gfn write t v = Goes (claim_next (tries_page begun t.claim) z (at_map_word begun t.claim) v)
+fault_next Fill z gfn write t v = Goes (if nat_lt (words_filled t.owned) 512 then Fill else Link)
+fault_next Link z gfn write t v = Goes (if v == t.walk.entry then Walk true else Give (Retry (Entry (entry_word z gfn t.walk) t.walk.entry v)))
+fault_next (Give e) z gfn write t v = Goes (Unshare e)
+fault_next Leaf z gfn write t v = Goes (if v == t.walk.entry then Unshare Installed else Unshare (Retry (Entry (entry_word z gfn t.walk) t.walk.entry v)))
+fault_next (Unshare e) z gfn write t v = Goes (End e)
+fault_next (End e) z gfn write t v = Ends e
+
+-- The step leaves the fault where it was, since another actor is in the way: it takes itself out of the lock's readers, where it saw a
+-- writer, or another actor took the page that it tried.
+abbrev pub waits : FaultPlace → Topics → ℕ → Bool
+waits Share t v = is_owing t.hold
+waits (Claim begun) t v = tries_page begun t.claim && not (is_won t.claim v)
+waits _ t v = false
+
+-- What a step that waits has seen: of the lock the word that it found with the try which it takes back, and of the map what is there now.
+abbrev pub wait_value : FaultPlace → Topics → ℕ → ℕ
+wait_value Share t v = word_owed t.hold
+wait_value _ t v = v
+
+-- and which word this is: the one that the step of the place is on
+abbrev pub wait_seen : FaultPlace → Held → ℕ → ℕ → ℕ → Seen
+wait_seen p h gfn note v = record { word = (part_kind h (fault_part p gfn h.topics) note).word; value = wait_value p h.topics v }
+
+-- the most steps from a table of the level on, whose entry comes next: for each table below it the entry, all words of the map and a
+-- page seen there, the page's words and its role, and the link; and then an entry, the leaf, the lock and the section
+abbrev pub table_left : Sizes → ℕ
+table_left z = words_of_bits z.pool + 516
+
+abbrev pub walk_left : Sizes → ℕ → ℕ
+walk_left z level = (level - 1) * table_left z + 4
+
+-- the most steps from the root's load on
+abbrev pub entering_left : Sizes → ℕ
+entering_left z = walk_left z 4 + 1
+
+-- the words of the check, the tries for the lock, the words of slots, and those of a claim, from this one on
+abbrev pub check_left : CheckStage → ℕ
+check_left stage.Count = 4
+check_left stage.Start = 3
+check_left stage.End = 2
+check_left stage.Seq = 1
+
+abbrev pub lock_left : Hold → ℕ
+lock_left (Owing word) = 1
+lock_left _ = 2
+
+abbrev pub find_left : Bool → SlotSearch → ℕ
+find_left begun search = if begun then 4 * (31 - search.id) + look_left search.next else 129
+
+abbrev pub claim_left : Bool → Sizes → MapClaim → ℕ
+claim_left begun z claim = if tries_page begun claim then 1 else words_of_bits z.pool - map_word begun claim + 1
+
+-- the most steps that a fault has left from a place on, where no other actor is in the way
+abbrev pub fault_left : FaultPlace → Sizes → Topics → ℕ
+fault_left Begin z t = entering_left z + 138
+fault_left Snapshot z t = entering_left z + 137
+fault_left (Find begun) z t = entering_left z + 7 + find_left begun t.search
+fault_left Host z t = entering_left z + 7
+fault_left Share z t = entering_left z + 4 + lock_left t.hold
+fault_left (Check at) z t = entering_left z + check_left at
+fault_left (Walk rooted) z t = if rooted then walk_left z t.walk.level else entering_left z
+fault_left (Claim begun) z t = walk_left z (t.walk.level - 1) + 514 + claim_left begun z t.claim
+fault_left Fill z t = walk_left z (t.walk.level - 1) + 1 + (513 - words_filled t.owned)
+fault_left Link z t = walk_left z (t.walk.level - 1) + 1
+fault_left (Give e) z t = 3
+fault_left Leaf z t = 3
+fault_left (Unshare e) z t = 2
+fault_left (End e) z t = 1
+
+-- the most steps left behind a step: none where the fault is over
+abbrev pub next_left : FaultNext → Sizes → Topics → ℕ
+next_left (Goes p) z t = fault_left p z t
+next_left (Ends e) z t = 0

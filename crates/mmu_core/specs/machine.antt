@@ -1,0 +1,9 @@
+pub mod Machine
+pub mod View
+pub mod Worlds
+pub mod Enabled
+pub mod Steps
+pub mod Turns
+pub mod Outcomes
+pub mod MayMake
+pub mod Sums

@@ -1,0 +1,154 @@
+-- What each form of line does, put together: the step that a hand allows, and the hand after it.
+use Rattle.std.specs.Prelude.{ℕ, Bool, true, false, List, [], ◌∷◌, ◌++◌, length, map, slice_get, unwrap_or}
+use Rattle.circular_buffer.specs.Buffer.{Buffer}
+use Rattle.core_views.specs.declared.actor.Actor.TheVariants.{Manager}
+use Rattle.core_views.specs.declared.cache.Translation.{Translation}
+use Rattle.core_views.specs.declared.event.Event.{Event}
+use Rattle.core_views.specs.declared.event.EventKind.{EventKind}
+use Rattle.core_views.specs.declared.event.EventKind.TheVariants.{Begun}
+use Rattle.core_views.specs.declared.hand.State.{State}
+use Rattle.core_views.specs.declared.kind.Kind.{Kind}
+use Rattle.core_views.specs.declared.place.Place.{Place}
+use Rattle.core_views.specs.declared.place.Place.TheVariants as place
+use Rattle.core_views.specs.declared.place.AccessPlace.TheVariants.{Enter}
+use Rattle.core_views.specs.declared.sizes.Sizes.{Sizes}
+use Rattle.core_views.specs.declared.trace.Command.{Command}
+use Rattle.core_views.specs.declared.trace.Command.TheVariants.{Access, SetSlot}
+use Rattle.core_views.specs.declared.trace.Line.{Line}
+use Rattle.core_views.specs.Flat.{no_line}
+use Rattle.core_views.specs.Held.{Held, first_held}
+use Rattle.core_views.specs.Refusals.{set_refusal}
+use Rattle.core_views.specs.SlotSets.{MemorySlots}
+use Rattle.mmu_core.specs.declared.outcome.Outcome.{Outcome}
+use Rattle.mmu_core.specs.declared.outcome.Outcome.TheVariants.{Goes}
+use Rattle.part_steps.specs.declared.task.Task.{Task}
+use Rattle.mmu_core.specs.lines.AccessSteps.{access_caches, access_loads, access_outcome, access_tells}
+use Rattle.mmu_core.specs.lines.Cached.{flushed}
+pub use Rattle.part_steps.specs.PartSteps.{has_line}
+use Rattle.mmu_core.specs.lines.Delays.{counted, delays_counted, is_delay, steps_counted}
+use Rattle.mmu_core.specs.lines.SetSlotSteps.{set_slot_first, set_slot_outcome, set_slot_records, set_slot_tells}
+pub use Rattle.mmu_core.specs.lines.PartAt.{task_at}
+use Rattle.mmu_core.specs.machine.Outcomes.{answering, answers_after, place_after}
+use Rattle.part_steps.specs.TopicSteps.{topics_after}
+
+-- the first of a hand's lines that has no answer
+abbrev pub next_line : Held → Line
+next_line h = unwrap_or (slice_get h.lines (length h.answers)) no_line
+
+-- the line that the hand's next step is of: the one under way, or the next one
+abbrev pub line_at : Place → Held → Line
+line_at place.Between h = next_line h
+line_at (place.Access p) h = h.state.line
+line_at (place.SetSlot p) h = h.state.line
+
+-- where a line begins
+abbrev pub first_place : Sizes → MemorySlots → Command → Place
+first_place z slots (Access gfn word op) = place.Access (Enter false)
+first_place z slots (SetSlot id slot) = place.SetSlot (set_slot_first (set_refusal z.pages id slot slots))
+
+-- where a line with this command stands, which is at its first place where it hasn't begun
+abbrev pub standing : Place → Sizes → MemorySlots → Command → Place
+standing place.Between z slots command = first_place z slots command
+standing (place.Access p) z slots command = place.Access p
+standing (place.SetSlot p) z slots command = place.SetSlot p
+
+-- where the line of the hand's next step stands
+abbrev pub place_at : Place → Held → Place
+place_at p h = standing p h.state.sizes h.slots (line_at p h).command
+
+-- what the state has loaded after it
+abbrev pub loads_at : Place → Command → Held → ℕ → State
+loads_at (place.Access p) (Access gfn word op) h v = access_loads p h gfn op v
+loads_at _ _ h v = h.state
+
+-- what is cached after it
+abbrev pub caches_at : Place → Command → Held → ℕ → Buffer Translation
+caches_at (place.Access p) (Access gfn word op) h v = access_caches p h gfn op v
+caches_at _ _ h v = h.cached
+
+-- the manager's own record of the slots after it
+abbrev pub records_at : Place → Command → MemorySlots → MemorySlots
+records_at (place.SetSlot p) (SetSlot id slot) slots = set_slot_records p id slot slots
+records_at _ _ slots = slots
+
+-- where the line stands after it
+abbrev pub outcome_at : Place → Command → Held → ℕ → Outcome
+outcome_at (place.Access p) (Access gfn word op) h v = access_outcome p h gfn op v
+outcome_at (place.SetSlot p) (SetSlot id slot) h v = set_slot_outcome p h v
+outcome_at p _ h v = Goes p
+
+-- what it tells of the line, besides its begin and its answer
+abbrev pub tells_at : Place → Command → Held → ℕ → List EventKind
+tells_at (place.Access p) (Access gfn word op) h v = access_tells p h gfn word op v
+tells_at (place.SetSlot p) (SetSlot id slot) h v = set_slot_tells p h id slot v
+tells_at _ _ h v = []
+
+-- what the hand's next step is to do
+abbrev pub task_of : Held → Task
+task_of h = task_at (place_at h.state.place h) (line_at h.state.place h).command h
+
+-- The step is a delay of its line.
+abbrev pub delays_at : Place → Command → Held → ℕ → Bool
+delays_at p command h v = is_delay p h.topics (outcome_at p command h v) v
+
+-- what the state has loaded and counted after it
+abbrev pub state_at : Place → Command → Held → ℕ → State
+state_at p command h v = record (loads_at p command h v) {
+  steps = steps_counted (delays_at p command h v) (counted h.state.place h.state.steps);
+  delays = delays_counted (delays_at p command h v) (counted h.state.place h.state.delays);
+}
+
+-- the hand after a step of this line, at this place, that found v, but for its topics and for a flush
+abbrev pub line_after : Line → Place → Held → ℕ → Held
+line_after line p h v = record {
+  state = record (state_at p line.command h v) { line = line; place = place_after (outcome_at p line.command h v) };
+  topics = h.topics;
+  cached = caches_at p line.command h v;
+  slots = records_at p line.command h.slots;
+  lines = h.lines;
+  answers = answers_after (outcome_at p line.command h v) line h.answers;
+}
+
+-- the hand after a step of this line
+abbrev pub held_after : Line → Place → Held → Kind → ℕ → Held
+held_after line p h k v = record {
+  state = record (state_at p line.command h v) { line = line; place = place_after (outcome_at p line.command h v) };
+  topics = topics_after h.state.sizes k h.topics v;
+  cached = flushed k (caches_at p line.command h v) v;
+  slots = records_at p line.command h.slots;
+  lines = h.lines;
+  answers = answers_after (outcome_at p line.command h v) line h.answers;
+}
+
+-- the hand after a step of a part, which is no line's
+abbrev pub idle_after : Held → Kind → ℕ → Held
+idle_after h k v = record { state = h.state; topics = topics_after h.state.sizes k h.topics v; cached = flushed k h.cached v; slots = h.slots; lines = h.lines; answers = h.answers }
+
+-- the hand after this step, which answered v: its line's next step where it has a line left, else a step of a part
+abbrev pub next_by : Bool → Held → Kind → ℕ → Held
+next_by true h k v = held_after (line_at h.state.place h) (place_at h.state.place h) h k v
+next_by false h k v = idle_after h k v
+
+unfoldable pub next : Held → Kind → ℕ → Held
+next h k v = next_by (has_line h) h k v
+
+-- A line begins with its first step.
+abbrev pub beginning : Place → Line → List EventKind
+beginning place.Between line = Begun line ∷ []
+beginning (place.Access p) line = []
+beginning (place.SetSlot p) line = []
+
+abbrev pub event_kinds : Place → Line → Place → Held → ℕ → List EventKind
+event_kinds stood line p h v = beginning stood line ++ (tells_at p line.command h v ++ answering (outcome_at p line.command h v) line)
+
+-- what the hand's next step tells, where it answered v; a step of a part tells nothing
+abbrev pub events_by : Bool → Held → ℕ → List Event
+events_by true h v = map (λ kind. record { actor = h.state.actor; kind = kind }) (event_kinds h.state.place (line_at h.state.place h) (place_at h.state.place h) h v)
+events_by false h v = []
+
+unfoldable pub events_of : Held → ℕ → List Event
+events_of h v = events_by (has_line h) h v
+
+-- the hand of an actor that is none
+abbrev pub nobody : Held
+nobody = first_held (record { pages = 0; frames = 0; words = 0; pool = 0; cache = 0; vcpus = 0; hosts = 0; workers = 0 }) Manager []

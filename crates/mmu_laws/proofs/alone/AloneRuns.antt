@@ -1,0 +1,252 @@
+-- A line that runs while all other actors rest, from world to world: each step of it that may be made comes nearer to its answer.
+use Rattle.std.proofs.Common.{◌≡◌, ◌≢◌, ◌⊎◌, inl, inr, ◌<◌, ◌≤◌, ℕ, length, refl, sym, subst, ap, ◌∙◌, arith}
+use Rattle.std.specs.Prelude.{true, false, Option, Some, None}
+use Rattle.core_views.specs.declared.answer.Refusal.{Refusal}
+use Rattle.core_views.specs.declared.kind.Kind.{Kind}
+use Rattle.core_views.specs.declared.place.AccessPlace.{AccessPlace}
+use Rattle.core_views.specs.declared.place.AccessPlace.TheVariants as access
+use Rattle.core_views.specs.declared.place.FaultPlace.{FaultPlace}
+use Rattle.core_views.specs.declared.place.FaultPlace.TheVariants.{Walk}
+use Rattle.core_views.specs.declared.place.Leaving.TheVariants as leaving
+use Rattle.core_views.specs.declared.place.Place.{Place}
+use Rattle.core_views.specs.declared.place.Place.TheVariants as place
+use Rattle.core_views.specs.declared.place.SetSlotPlace.{SetSlotPlace}
+use Rattle.core_views.specs.declared.place.SetSlotPlace.TheVariants as set_slot
+use Rattle.core_views.specs.declared.sizes.Sizes.{Sizes}
+use Rattle.core_views.specs.declared.topics.Topics.{Topics}
+use Rattle.core_views.specs.declared.trace.Command.{Command}
+use Rattle.core_views.specs.declared.trace.Command.TheVariants.{Access, SetSlot}
+use Rattle.core_views.specs.declared.trace.Line.{Line}
+use Rattle.core_views.specs.Held.{Held}
+use Rattle.core_views.specs.Refusals.{set_refusal}
+use Rattle.core_views.specs.Sizes.{AreSizes, actors_of, index_of}
+use Rattle.core_views.specs.SlotSets.{MemorySlots}
+use Rattle.core_views.specs.Traces.{IsCommandFor}
+use Rattle.spte_words.specs.declared.area.Area.{Area}
+use Rattle.spte_words.specs.declared.area.Area.TheVariants as area
+use Rattle.mmu_core.specs.declared.outcome.Outcome.{Outcome}
+use Rattle.mmu_core.specs.declared.outcome.Outcome.TheVariants.{Goes, Ends}
+use Rattle.mmu_core.specs.alone.AloneKnows.{AloneKnows, SetSlotAlone}
+use Rattle.mmu_core.specs.lines.KnowsPart.{may_leave}
+use Rattle.mmu_core.specs.lines.Bounds.{access_left, most_steps, set_slot_left, steps_left}
+use Rattle.mmu_core.specs.machine.Enabled.{mmu}
+use Rattle.mmu_core.specs.lines.FaultSteps.{fault_left}
+use Rattle.mmu_core.specs.invariant.Laws.{IsSound}
+use Rattle.mmu_core.specs.alone.LineAlone.{AllRest, ComesNearer, LineAlone, StarvedOnlyWithout, StepsAlone, hand_left, line_waits}
+use Rattle.mmu_core.specs.machine.Machine.{May, Step, World, answered, effect, hand_in}
+use Rattle.mmu_core.specs.alone.OthersRest.{HoldsNothing, OthersRest}
+use Rattle.part_steps.specs.PartSteps.{IsAtRest}
+use Rattle.mmu_core.specs.lines.Rests.{IsUnderWay}
+use Rattle.mmu_core.specs.lines.SetSlotSteps.{set_slot_first}
+use Rattle.mmu_core.specs.machine.Steps.{first_place, line_at, outcome_at, place_at, standing, task_at}
+use Rattle.mmu_core.specs.machine.Outcomes.{answers_after, place_after}
+use Rattle.mmu_core.specs.machine.Turns.{line_of, outcome_of}
+use Rattle.mmu_core.specs.machine.View.{View, answer_in, hand_after, view, word_in, words_after}
+use Rattle.mmu_laws.proofs.alone.AloneStep.{AloneStep, RestsBehind, alone_step, two_left}
+use Rattle.mmu_laws.proofs.alone.GoesAlone.{GoesAlone}
+use Rattle.mmu_core.proofs.machine.Columns.{same_or, upd_other, upd_same}
+use Rattle.mmu_core.proofs.machine.Extend.{hands_of_effect}
+use Rattle.mmu_core.proofs.lines.KnowsKept.{knows_at, needs_at, step_leaves}
+use Rattle.mmu_core.proofs.invariant.PartBounded.{part_rests_at}
+use Rattle.mmu_core.proofs.machine.Which.{has_line_is, is_next}
+use Rattle.mmu_core.proofs.machine.Worlds.{Takes, good_step, takes_line}
+
+-- A line that begins has no more steps left than any line.
+first_setting : (r : Option Refusal) (y : Sizes) (t : Topics) → AreSizes y → steps_left (place.SetSlot (set_slot_first r)) y t ≤ most_steps y
+first_setting None y t S = omega (arith, S.actors.vcpus, S.actors.hosts, S.actors.workers)
+first_setting (Some refusal) y t S = omega arith
+
+first_left : (y : Sizes) (slots : MemorySlots) (command : Command) (t : Topics) → AreSizes y → steps_left (first_place y slots command) y t ≤ most_steps y
+first_left y slots (Access gfn word op) t S = let most = S.pool.1 in omega (arith, most)
+first_left y slots (SetSlot id slot) t S = first_setting (set_refusal y.pages id slot slots) y t S
+
+pub standing_left : (q : Place) (y : Sizes) (slots : MemorySlots) (command : Command) (t : Topics) → AreSizes y → steps_left (standing q y slots command) y t ≤ steps_left q y t
+standing_left place.Between y slots command t S = first_left y slots command t S
+standing_left _ y slots command t S = omega arith
+
+-- Each place of a line has a step left.
+some_fault_left : (p : FaultPlace) (y : Sizes) (t : Topics) → 0 < fault_left p y t
+some_fault_left (Walk true) y t = omega arith
+some_fault_left (Walk false) y t = omega arith
+some_fault_left _ y t = omega arith
+
+some_access_left : (p : AccessPlace) (y : Sizes) (t : Topics) → 0 < access_left p y t
+some_access_left (access.Walk again) y t = let two = two_left again y t in omega (arith, two)
+some_access_left (access.Leave (leaving.Reached frame value)) y t = omega arith
+some_access_left (access.Leave leaving.Faults) y t = omega arith
+some_access_left (access.Fault p) y t = let some = some_fault_left p y t in omega (arith, some)
+some_access_left _ y t = omega arith
+
+some_setting_left : (p : SetSlotPlace) (y : Sizes) (t : Topics) → 0 < set_slot_left p y t
+some_setting_left (set_slot.Refuse refusal) y t = omega arith
+some_setting_left _ y t = omega arith
+
+pub some_left : (p : Place) (y : Sizes) (t : Topics) → 0 < steps_left p y t
+some_left place.Between y t = omega arith
+some_left (place.Access p) y t = some_access_left p y t
+some_left (place.SetSlot p) y t = some_setting_left p y t
+
+-- and it knows what its first place asks
+first_setting_alone : (r : Option Refusal) (map : ℕ → ℕ) (t : Topics) → SetSlotAlone (set_slot_first r) map t
+first_setting_alone None map t = (λ e. absurd (cc e), λ e. absurd (cc e))
+first_setting_alone (Some refusal) map t = tt
+
+first_alone : (y : Sizes) (slots : MemorySlots) (command : Command) (words : Area → ℕ → ℕ) (t : Topics) → AloneKnows (first_place y slots command) command words t
+first_alone y slots (Access gfn word op) words t = λ e. absurd (cc e)
+first_alone y slots (SetSlot id slot) words t = first_setting_alone (set_refusal y.pages id slot slots) (words area.PoolMap) t
+
+standing_alone : (q : Place) (y : Sizes) (slots : MemorySlots) (command : Command) (words : Area → ℕ → ℕ) (t : Topics) → AloneKnows q command words t → AloneKnows (standing q y slots command) command words t
+standing_alone place.Between y slots command words t K = first_alone y slots command words t
+standing_alone _ y slots command words t K = K
+
+goes_more : (o : Outcome) (command : Command) (y : Sizes) (words : Area → ℕ → ℕ) (t : Topics) (n m : ℕ) → n ≤ m → GoesAlone o command y words t n → GoesAlone o command y words t m
+goes_more (Goes p) command y words t n m le G = (G.0, G.1, let less = G.2 in omega (arith, less, le))
+goes_more (Ends answer) command y words t n m le G = G
+
+under_line : (q : Place) (g : Held) → IsUnderWay q → line_at q g ≡ g.state.line
+under_line place.Between g under = absurd under
+under_line _ g under = refl
+
+-- The world behind a step, where the actor's hand is g.
+record Behind (z : Sizes) (a : ℕ) (after : World Held) (g : Held) (words : Area → ℕ → ℕ) : Type 0 where
+  sound : IsSound z after
+  others : OthersRest a after
+  there : a < actors_of z
+  hand : hand_in mmu after a ≡ g
+  words_are : word_in z after ≡ words
+
+-- The hand behind a step of this line, by its outcome.
+record HandBy (o : Outcome) (line : Line) (h g : Held) : Type 0 where
+  stands : g.state.place ≡ place_after o
+  line_is : g.state.line ≡ line
+  lines : g.lines ≡ h.lines
+  answers : g.answers ≡ answers_after o line h.answers
+  left : length h.answers < length h.lines
+
+knows_on : (q : Place) (line : Line) (g : Held) (words : Area → ℕ → ℕ) → g.state.place ≡ q → g.state.line ≡ line → IsUnderWay q → AloneKnows q line.command words g.topics → AloneKnows g.state.place (line_of g).command words g.topics
+knows_on q line g words stands line_is under K =
+    let own : line_of g ≡ line = ap (λ y. line_at y g) stands ∙ under_line q g under ∙ line_is in
+    subst (λ (l : Line). AloneKnows g.state.place l.command words g.topics) (sym own) (subst (λ y. AloneKnows y line.command words g.topics) (sym stands) K)
+
+goes_on : (q : Place) (z : Sizes) (w after : World Held) (a : ℕ) (line : Line) (g : Held) (words : Area → ℕ → ℕ) → (hand_in mmu w a).state.sizes ≡ z → Behind z a after g words → HandBy (Goes q) line (hand_in mmu w a) g
+    → GoesAlone (Goes q) line.command (hand_in mmu w a).state.sizes words g.topics (hand_left (hand_in mmu w a)) → ComesNearer (Goes q) z a w after
+goes_on q z w after a line g words sizes B H G =
+    let knows : AloneKnows g.state.place (line_of g).command (word_in z after) g.topics = subst (λ (ws : Area → ℕ → ℕ). AloneKnows g.state.place (line_of g).command ws g.topics) (sym B.words_are) (knows_on q line g words H.stands H.line_is G.0 G.1) in
+    let left : length g.answers < length g.lines = rw (H.answers, H.lines) H.left in
+    let same : g.state.sizes ≡ (hand_in mmu w a).state.sizes = sym (ap (λ (x : Held). x.state.sizes) B.hand) ∙ (B.sound.holds.lines a B.there).sizes ∙ sym sizes in
+    let nearer : hand_left g < hand_left (hand_in mmu w a) =
+    subst (λ y. steps_left g.state.place y g.topics < hand_left (hand_in mmu w a)) (sym same) (subst (λ y. steps_left y (hand_in mmu w a).state.sizes g.topics < hand_left (hand_in mmu w a)) (sym H.stands) G.2) in (
+      record {
+        sound = B.sound;
+        others = B.others;
+        there = B.there;
+        left = subst (λ (x : Held). length x.answers < length x.lines) (sym B.hand) left;
+        knows = subst (λ (x : Held). AloneKnows x.state.place (line_of x).command (word_in z after) x.topics) (sym B.hand) knows;
+      },
+      subst (λ (x : Held). hand_left x < hand_left (hand_in mmu w a)) (sym B.hand) nearer,
+    )
+
+comes_nearer : (o : Outcome) (z : Sizes) (w after : World Held) (a : ℕ) (line : Line) (g : Held) (words : Area → ℕ → ℕ) → (hand_in mmu w a).state.sizes ≡ z → Behind z a after g words → HandBy o line (hand_in mmu w a) g
+    → GoesAlone o line.command (hand_in mmu w a).state.sizes words g.topics (hand_left (hand_in mmu w a)) → RestsBehind o g.topics → ComesNearer o z a w after
+comes_nearer (Goes q) z w after a line g words sizes B H G rests = goes_on q z w after a line g words sizes B H G
+comes_nearer (Ends answer) z w after a line g words sizes B H G rests = (B.sound, all, subst (λ (ws : Area → ℕ → ℕ). StarvedOnlyWithout answer z (ws area.PoolMap)) (sym B.words_are) (subst (λ y. StarvedOnlyWithout answer y (words area.PoolMap)) sizes G))
+  where
+    -- no page leaves where no line is under way
+    own : HoldsNothing (hand_in mmu after a).topics
+    own = record {
+      rests = subst (λ (x : Held). IsAtRest x.topics) (sym B.hand) rests;
+      leaves_none = B.sound.holds.leaves a B.there (ap may_leave (ap (λ (x : Held). x.state.place) B.hand ∙ H.stands));
+    }
+
+    all : AllRest after
+    all i lt = by (same_or i a)
+      where
+        by : (i ≡ a) ⊎ (i ≢ a) → HoldsNothing (hand_in mmu after i).topics
+        by (inl e) = subst (λ j. HoldsNothing (hand_in mmu after j).topics) (sym e) own
+        by (inr ne) = B.others i lt ne
+
+module _ (z : Sizes) (w : World Held) (s : Step Kind) (L : LineAlone z w s.actor) (may : May mmu w s) where
+  abbrev a : ℕ
+  a = s.actor
+
+  abbrev h : Held
+  h = hand_in mmu w a
+
+  abbrev line : Line
+  line = line_at h.state.place h
+
+  abbrev stood : Place
+  stood = place_at h.state.place h
+
+  abbrev words : Area → ℕ → ℕ
+  words = word_in z w
+
+  abbrev x : ℕ
+  x = answer_in (task_at stood line.command h) words
+
+  sizes : h.state.sizes ≡ z
+  sizes = (L.sound.holds.lines a L.there).sizes
+
+  taken : Takes z w s h
+  taken = takes_line z w s L.sound may (is_next h s.kind may.enabled (has_line_is h L.left))
+
+  stepped_alone : AloneStep stood line.command h words
+  stepped_alone =
+      let S = taken.is_step in
+      alone_step z w a L.sound L.others L.there (part_rests_at z (view z w) a L.sound.holds L.sound.topics L.there) (ap (λ y. index_of y h.state.actor) sizes ∙ (L.sound.holds.lines a L.there).index) sizes
+      stood line line.command S.begun (subst (λ c. IsCommandFor z c line.command) S.own S.allowed) (knows_at z (view z w) a L.sound.holds L.there L.left)
+      (step_leaves z (view z w) a line line.command stood S L.sound.holds) (needs_at z (view z w) a line line.command stood S L.sound.holds L.sound.topics) (standing_alone h.state.place h.state.sizes h.slots line.command words h.topics L.knows)
+
+  behind : Behind z a (effect mmu w s) (hand_after line line.command stood h x) (words_after (task_at stood line.command h) words)
+  behind = record {
+    sound = good_step z w s L.sound may;
+    others = λ i lt ne. subst (λ (g : Held). HoldsNothing g.topics) (sym (ap (λ (v : View). v.hand i) taken.leads ∙ upd_other (hand_in mmu w) a i (hand_after line line.command stood h x) ne)) (L.others i (subst (λ n. i < n) (hands_of_effect mmu w s) lt) ne);
+    there = L.there;
+    hand = ap (λ (v : View). v.hand a) taken.leads ∙ upd_same (hand_in mmu w) a (hand_after line line.command stood h x);
+    words_are = ap (λ (v : View). v.words) taken.leads;
+  }
+
+  nearer : ComesNearer (outcome_at stood line.command h x) z a w (effect mmu w s)
+  nearer =
+      comes_nearer (outcome_at stood line.command h x) z w (effect mmu w s) a line (hand_after line line.command stood h x) (words_after (task_at stood line.command h) words) sizes behind
+      (record { stands = refl; line_is = refl; lines = refl; answers = refl; left = L.left })
+      (goes_more (outcome_at stood line.command h x) line.command h.state.sizes (words_after (task_at stood line.command h) words) (hand_after line line.command stood h x).topics (steps_left stood h.state.sizes h.topics) (hand_left h)
+      (standing_left h.state.place h.state.sizes h.slots line.command h.topics (subst AreSizes (sym sizes) L.sound.holds.sizes)) stepped_alone.on.next)
+      stepped_alone.rests
+
+  steps_alone_here : StepsAlone z w s
+  steps_alone_here = record {
+    goes = ap (λ n. line_waits stood h.topics n) taken.answers ∙ stepped_alone.on.goes;
+    nearer = subst (λ n. ComesNearer (outcome_at stood line.command h n) z a w (effect mmu w s)) (sym taken.answers) nearer;
+  }
+
+pub steps_alone : (z : Sizes) (w : World Held) (s : Step Kind) → LineAlone z w s.actor → May mmu w s → StepsAlone z w s
+steps_alone z w s L may = steps_alone_here z w s L may
+
+pub begins_alone : (z : Sizes) (w : World Held) (a : ℕ) → IsSound z w → OthersRest a w → a < actors_of z → length (hand_in mmu w a).answers < length (hand_in mmu w a).lines → (hand_in mmu w a).state.place ≡ place.Between
+    → LineAlone z w a × (hand_left (hand_in mmu w a) ≤ most_steps z)
+begins_alone z w a sound others there left idle =
+    let h : Held = hand_in mmu w a in
+    let all : hand_left h ≡ most_steps z = ap (λ q. steps_left q h.state.sizes h.topics) idle ∙ ap most_steps (sound.holds.lines a there).sizes in
+    (record { sound = sound; others = others; there = there; left = left; knows = subst (λ q. AloneKnows q (line_of h).command (word_in z w) h.topics) (sym idle) tt }, omega (arith, all))
+
+-- What is told of a step of a line alone: of the hands before and behind it, and the world behind.
+abbrev pub ToldAlone : Outcome → Sizes → ℕ → Held → Held → World Held → Type 0
+ToldAlone (Goes p) z a h g after = LineAlone z after a × (hand_left g < hand_left h)
+ToldAlone (Ends answer) z a h g after = IsSound z after × AllRest after × StarvedOnlyWithout answer z (word_in z after area.PoolMap)
+
+nearer_told : (o : Outcome) (z : Sizes) (a : ℕ) (w after : World Held) → ComesNearer o z a w after → ToldAlone o z a (hand_in mmu w a) (hand_in mmu after a) after
+nearer_told (Goes p) z a w after N = N
+nearer_told (Ends answer) z a w after N = N
+
+-- a step of a line alone, where the hands, its answer and the world behind it are told
+pub told_alone : (z : Sizes) (w after : World Held) (a v : ℕ) (k : Kind) (h g : Held) → LineAlone z w a → hand_in mmu w a ≡ h → hand_in mmu after a ≡ g → May mmu w (record { actor = a; kind = k }) → answered mmu w k ≡ v
+    → after ≡ effect mmu w (record { actor = a; kind = k }) → (line_waits (place_at h.state.place h) h.topics v ≡ false) × ToldAlone (outcome_of h v) z a h g after
+told_alone z w after a v k h g L has then_ may found is =
+    let N = steps_alone z w (record { actor = a; kind = k }) L may in
+    let o : Outcome = outcome_of (hand_in mmu w a) (answered mmu w k) in
+    let told : ToldAlone o z a (hand_in mmu w a) (hand_in mmu after a) after = nearer_told o z a w after (subst (λ (u : World Held). ComesNearer o z a w u) (sym is) N.nearer) in (
+      subst (λ n. line_waits (place_at h.state.place h) h.topics n ≡ false) found (subst (λ (x : Held). line_waits (place_at x.state.place x) x.topics (answered mmu w k) ≡ false) has N.goes),
+      subst (λ (y : Held). ToldAlone (outcome_of h v) z a h y after) then_
+          (subst (λ n. ToldAlone (outcome_of h n) z a h (hand_in mmu after a) after) found (subst (λ (x : Held). ToldAlone (outcome_of x (answered mmu w k)) z a x (hand_in mmu after a) after) has told)),
+    )

@@ -1,0 +1,17 @@
+pub mod ActorSaw
+pub mod CauseOwn
+pub mod CausePlaces
+pub mod CauseSteps
+pub mod Causes
+pub mod Changes
+pub mod ClaimSeen
+pub mod EachFault
+pub mod EachLine
+pub mod Entries
+pub mod FaultWaits
+pub mod FindsOthers
+pub mod MadeSteps
+pub mod ScanPlaces
+pub mod StarvedScan
+pub mod StepWaits
+pub mod WaitsSame

@@ -1,0 +1,257 @@
+-- What each actor has seen that waits for another one, in every list of steps from a start, whatever it does: of the lock the writer that it found, of the
+-- open invalidations their count, and of the pool's map the word that its claim has come to.
+use Rattle.std.proofs.Common.{◌≡◌, ◌≢◌, ◌⊎◌, inl, inr, ◌<◌, ◌≤◌, ◌+◌, ℕ, List, [], ◌∷◌, ◌++◌, refl, sym, subst, ap, ◌∙◌, arith}
+use Rattle.std.specs.Prelude.{Bool, true, false, ◌==◌, if◌then◌else◌}
+use Rattle.std.proofs.lemmas.Bool.Decides.{nat_tests}
+use Rattle.core_views.specs.declared.kind.Kind.{Kind}
+use Rattle.core_views.specs.declared.kind.StepKind.TheVariants as kind
+use Rattle.core_views.specs.declared.sizes.Sizes.{Sizes}
+use Rattle.core_views.specs.declared.topics.Checked.{Checked}
+use Rattle.core_views.specs.declared.topics.Checked.TheVariants as checked
+use Rattle.core_views.specs.declared.topics.Hold.TheVariants.{Loose, Shared, Owing, Exclusive}
+use Rattle.core_views.specs.declared.topics.Topics.{Topics}
+use Rattle.core_views.specs.declared.trace.Line.{Line}
+use Rattle.core_views.specs.Held.{Held, first_topics}
+use Rattle.core_views.specs.Sizes.{actors_of}
+use Rattle.spte_words.specs.declared.area.Area.{Area}
+use Rattle.spte_words.specs.declared.area.Area.TheVariants as area
+use Rattle.spte_words.specs.Areas.{number_of, place, pool_index, size_of, words_of_bits}
+use Rattle.spte_words.proofs.Places.{areas_apart, place_at, places_apart}
+use Rattle.part_steps.specs.declared.part_step.PartStep.{PartStep}
+use Rattle.part_steps.specs.declared.part_step.PartStep.TheVariants as part
+use Rattle.part_steps.specs.PartSteps.{own_index, page_owned, part_task, words_filled, works}
+use Rattle.part_steps.specs.PartTopics.{part_topics}
+use Rattle.part_steps.specs.Tasks.{map_of}
+use Rattle.part_steps.specs.TopicSteps.{has_writer, is_won, range_checked, seq_checked, start_checked, topics_after}
+use Rattle.mmu_laws.specs.causes.Causes.{Finds}
+use Rattle.mmu_core.specs.machine.Enabled.{mmu}
+use Rattle.mmu_core.specs.invariant.Laws.{IsSound}
+use Rattle.mmu_core.specs.machine.Machine.{Legal, May, Step, World, answered, effect, hand_in, run}
+use Rattle.mmu_core.specs.lines.PartWaits.{was_counted}
+use Rattle.mmu_laws.specs.causes.Waits.{FindsWriter, FoundCount, FoundWriter, IsOffWord, count_word, lock_word, pool_word}
+use Rattle.mmu_core.specs.machine.Worlds.{IsStart}
+use Rattle.mmu_laws.proofs.causes.Changes.{Knows, knows_longer, made_longer, made_now, of_each_list}
+use Rattle.mmu_laws.proofs.causes.ClaimSeen.{mapped_saw, tried_saw}
+use Rattle.mmu_core.proofs.machine.Columns.{same_or}
+use Rattle.mmu_laws.proofs.causes.FindsOthers.{writer_found}
+use Rattle.mmu_core.proofs.machine.LineParts.{IsPartKind, IsQuiet, step_kind}
+use Rattle.mmu_core.proofs.machine.LineRuns.{own_hand}
+use Rattle.mmu_laws.proofs.causes.MadeSteps.{Makes, load_finds, made_topics, own_rests, own_sizes, word_on}
+use Rattle.mmu_core.proofs.machine.NextTopics.{next_topics}
+use Rattle.mmu_core.proofs.words.PartFits.{part_within_by}
+use Rattle.mmu_core.proofs.held.Scanned.{others_hand}
+use Rattle.mmu_core.proofs.start.StartWords.{hand_is}
+use Rattle.mmu_core.proofs.start.Starts.{start_good}
+
+pub record ActorSaw (z : Sizes) (w : World Held) (actor : ℕ) (t : Topics) (ss : List (Step Kind)) (u : World Held) : Type 0 where
+  pub owing : (word : ℕ) → t.hold ≡ Owing word → FoundWriter z actor word w ss
+  pub counted : was_counted t.invalidations.checked ≡ true → FoundCount z actor t.invalidations.count w ss
+  pub claim : 0 < t.claim.seen → Knows (IsOffWord actor (pool_word z t.claim.at)) actor (pool_word z t.claim.at) t.claim.seen w ss u
+  pub alone : 0 < t.claim.seen → t.claim.at < words_of_bits z.pool
+
+-- After a load of the range or of the sequence number the check is further than the count, or begins anew.
+start_no_count : (c : Checked) → was_counted (start_checked c) ≡ true → ⊥
+start_no_count checked.Count is = cc is
+start_no_count _ is = cc is
+
+end_no_count : (c : Checked) → was_counted (range_checked c) ≡ true → ⊥
+end_no_count checked.Start is = cc is
+end_no_count _ is = cc is
+
+seq_no_count : (n : ℕ) (c : Checked) → was_counted (seq_checked n c) ≡ true → ⊥
+seq_no_count n checked.Count is = by (n == 0) is
+  where
+    by : (b : Bool) → was_counted (if b then checked.All else checked.Nothing) ≡ true → ⊥
+    by true is = cc is
+    by false is = cc is
+seq_no_count n checked.Range is = cc is
+seq_no_count n _ is = cc is
+
+-- A fill stores in the pool or in the roles, so in neither lock, count nor map.
+fill_apart : (t : Topics) (own note value : ℕ) (b : Area) → (area.Role ≡ b → ⊥) → (area.Pool ≡ b → ⊥) → (part_task (part.Fill value) own t note).area ≡ b → ⊥
+fill_apart t own note value b role pool at = by (words_filled t.owned == 512) at
+  where
+    by : (full : Bool) → (if full then works kind.Fill area.Role (page_owned t.owned) value note else works kind.Fill area.Pool (pool_index (page_owned t.owned) (words_filled t.owned)) value note).area ≡ b → ⊥
+    by true e = role e
+    by false e = pool e
+
+module _ (z : Sizes) (w : World Held) (ss : List (Step Kind)) (s : Step Kind) (G : IsSound z (run mmu w ss)) (may : May mmu (run mmu w ss) s) where
+  abbrev a : ℕ
+  a = s.actor
+
+  abbrev u : World Held
+  u = run mmu w ss
+
+  abbrev h : Held
+  h = hand_in mmu u s.actor
+
+  abbrev t : Topics
+  t = h.topics
+
+  abbrev v : ℕ
+  v = answered mmu u s.kind
+
+  abbrev Made : PartStep → Type 0
+  Made step = Makes h s step
+
+  abbrev SeesHere : Topics → Type 0
+  SeesHere t_ = ActorSaw z w a t_ ss u
+
+  abbrev Behind : List (Step Kind)
+  Behind = ss ++ s ∷ []
+
+  -- ---- a step on another area
+
+  off_word : (step : PartStep) (M : Made step) (b : Area) (i : ℕ) → i < size_of (map_of z) b → ((part_task step (own_index h) t M.note).area ≡ b → ⊥) → s.kind.word ≢ place (map_of z) b i
+  off_word step M b i inside apart at =
+      let same : h.state.sizes ≡ z = own_sizes z u s G may in
+      let here : (part_task step (own_index h) t M.note).index < size_of (map_of z) (part_task step (own_index h) t M.note).area =
+      subst (λ (y : Sizes). (part_task step (own_index h) t M.note).index < size_of (map_of y) (part_task step (own_index h) t M.note).area) same (part_within_by step h M.note M.needs (own_rests z u s G may)) in
+      apart (places_apart (map_of z) (part_task step (own_index h) t M.note).area b (part_task step (own_index h) t M.note).index i here inside (sym (word_on z u s G may step M) ∙ at)).0
+
+  lock_off : (step : PartStep) (M : Made step) → ((part_task step (own_index h) t M.note).area ≡ area.Lock → ⊥) → IsOffWord a (lock_word z) s
+  lock_off step M apart mine = off_word step M area.Lock 0 (omega arith) apart
+
+  count_off : (step : PartStep) (M : Made step) → ((part_task step (own_index h) t M.note).area ≡ area.Count → ⊥) → IsOffWord a (count_word z) s
+  count_off step M apart mine = off_word step M area.Count 0 (omega arith) apart
+
+  lock_longer : (step : PartStep) (M : Made step) → ((part_task step (own_index h) t M.note).area ≡ area.Lock → ⊥) → SeesHere t → (word : ℕ) → t.hold ≡ Owing word → FoundWriter z a word w Behind
+  lock_longer step M apart S word is = made_longer (FindsWriter z a word) (IsOffWord a (lock_word z)) w ss s (lock_off step M apart) (S.owing word is)
+
+  count_longer : (step : PartStep) (M : Made step) → ((part_task step (own_index h) t M.note).area ≡ area.Count → ⊥) → SeesHere t → was_counted t.invalidations.checked ≡ true → FoundCount z a t.invalidations.count w Behind
+  count_longer step M apart S is = made_longer (Finds a (count_word z) t.invalidations.count) (IsOffWord a (count_word z)) w ss s (count_off step M apart) (S.counted is)
+
+  abbrev ClaimSaw : ℕ → ℕ → Type 0
+  ClaimSaw at seen = Knows (IsOffWord a (pool_word z at)) a (pool_word z at) seen w Behind (effect mmu u s)
+
+  claim_longer : (step : PartStep) (M : Made step) → ((part_task step (own_index h) t M.note).area ≡ area.PoolMap → ⊥) → SeesHere t → 0 < t.claim.seen → ClaimSaw t.claim.at t.claim.seen
+  claim_longer step M apart S some =
+      let off : s.kind.word ≢ pool_word z t.claim.at = off_word step M area.PoolMap t.claim.at (S.alone some) apart in
+      knows_longer (IsOffWord a (pool_word z t.claim.at)) a (pool_word z t.claim.at) t.claim.seen w ss s may (λ mine. off) (λ mine at. absurd (off at)) (S.claim some)
+
+  -- ---- what an actor has seen after a step of a part
+
+  shared_saw : (found_one : Bool) → has_writer v ≡ found_one → Made part.Share → (word : ℕ) → (if found_one then Owing v else Shared) ≡ Owing word → FoundWriter z a word w Behind
+  shared_saw true tells M word is =
+      let same : v ≡ word = cc is in
+      subst (λ m. FoundWriter z a m w Behind) same (made_now (FindsWriter z a v) (IsOffWord a (lock_word z)) w ss s (writer_found z u s G may M tells))
+  shared_saw false tells M word is = absurd (cc is)
+
+  excluded_saw : (free : Bool) → t.hold ≡ Loose → (word : ℕ) → (if free then Exclusive else t.hold) ≡ Owing word → FoundWriter z a word w Behind
+  excluded_saw true loose word is = absurd (cc is)
+  excluded_saw false loose word is = absurd (cc (loose, is))
+
+  owing_saw : (step : PartStep) → Made step → SeesHere t → (word : ℕ) → (part_topics step t v).hold ≡ Owing word → FoundWriter z a word w Behind
+  owing_saw part.Share M S word is = shared_saw (has_writer v) refl M word is
+  owing_saw part.Exclude M S word is = excluded_saw (v == 0) M.needs word is
+  owing_saw part.Unshare M S word is = absurd (cc is)
+  owing_saw part.Release M S word is = absurd (cc is)
+  owing_saw (part.Fill value) M S word is = lock_longer (part.Fill value) M (fill_apart t (own_index h) M.note value area.Lock (λ e. cc e) (λ e. cc e)) S word is
+  owing_saw step M S word is = lock_longer step M (λ e. cc e) S word is
+
+  counted_saw : (step : PartStep) → Made step → SeesHere t → was_counted (part_topics step t v).invalidations.checked ≡ true → FoundCount z a (part_topics step t v).invalidations.count w Behind
+  counted_saw part.Count M S is =
+      made_now (Finds a (count_word z) v) (IsOffWord a (count_word z)) w ss s (record { by_actor = refl; on = word_on z u s G may part.Count M; finds = load_finds z u s G may part.Count M tt })
+  counted_saw part.RangeStart M S is = absurd (start_no_count t.invalidations.checked is)
+  counted_saw part.RangeEnd M S is = absurd (end_no_count t.invalidations.checked is)
+  counted_saw part.Seq M S is = absurd (seq_no_count t.invalidations.count t.invalidations.checked is)
+  counted_saw part.Enter M S is = absurd (cc is)
+  counted_saw part.Leave M S is = absurd (cc is)
+  counted_saw part.Begin M S is = absurd (cc is)
+  counted_saw part.End M S is = absurd (cc is)
+  counted_saw part.Share M S is = absurd (cc is)
+  counted_saw part.Unshare M S is = absurd (cc is)
+  counted_saw part.Exclude M S is = absurd (cc is)
+  counted_saw part.Release M S is = absurd (cc is)
+  counted_saw (part.Fill value) M S is = count_longer (part.Fill value) M (fill_apart t (own_index h) M.note value area.Count (λ e. cc e) (λ e. cc e)) S is
+  counted_saw step M S is = count_longer step M (λ e. cc e) S is
+
+  claim_saw : (step : PartStep) → Made step → SeesHere t → 0 < (part_topics step t v).claim.seen → ClaimSaw (part_topics step t v).claim.at (part_topics step t v).claim.seen
+  claim_saw (part.Map word) M S some = mapped_saw z w ss s G may (v == 0) word refl M some
+  claim_saw part.Claim M S some = tried_saw z w ss s G may (is_won t.claim v) refl M some
+  claim_saw part.Give M S some = absurd (omega (arith, some))
+  claim_saw part.GiveOld M S some = absurd (omega (arith, some))
+  claim_saw (part.Fill value) M S some = claim_longer (part.Fill value) M (fill_apart t (own_index h) M.note value area.PoolMap (λ e. cc e) (λ e. cc e)) S some
+  claim_saw step M S some = claim_longer step M (λ e. cc e) S some
+
+  mapped_low : (none : Bool) (word : ℕ) → (v == 0) ≡ none → word < words_of_bits z.pool → 0 < v → word + (if none then 1 else 0) < words_of_bits z.pool
+  mapped_low true word is low some = let none : v ≡ 0 = grind (arith, nat_tests) in absurd (omega (arith, some, none))
+  mapped_low false word is low some = omega (arith, low)
+
+  tried_low : (won : Bool) → t.claim.at < words_of_bits z.pool → 0 < (if won then 0 else v) → (if won then 0 else t.claim.at) < words_of_bits z.pool
+  tried_low true low some = absurd (omega (arith, some))
+  tried_low false low some = low
+
+  low_saw : (step : PartStep) → Made step → SeesHere t → 0 < (part_topics step t v).claim.seen → (part_topics step t v).claim.at < words_of_bits z.pool
+  low_saw (part.Map word) M S some = mapped_low (v == 0) word refl (subst (λ (y : Sizes). word < words_of_bits y.pool) (own_sizes z u s G may) M.needs.1) some
+  low_saw part.Claim M S some = tried_low (is_won t.claim v) (subst (λ (y : Sizes). t.claim.at < words_of_bits y.pool) (own_sizes z u s G may) M.needs.2) some
+  low_saw part.Give M S some = absurd (omega (arith, some))
+  low_saw part.GiveOld M S some = absurd (omega (arith, some))
+  low_saw _ M S some = S.alone some
+
+  abbrev SeesBehind : Topics → Type 0
+  SeesBehind t_ = ActorSaw z w a t_ Behind (effect mmu u s)
+
+  part_saw : (step : PartStep) → Made step → SeesHere t → SeesBehind (part_topics step t v)
+  part_saw step M S = record { owing = owing_saw step M S; counted = counted_saw step M S; claim = claim_saw step M S; alone = low_saw step M S }
+
+  -- ---- and after a touch, and another actor's step
+
+  far : (b : Area) (i : ℕ) → number_of b < number_of area.Content → i < size_of (map_of z) b → place (map_of z) area.Content 0 ≤ s.kind.word → s.kind.word ≢ place (map_of z) b i
+  far b i before inside from at =
+      let ends = areas_apart (map_of z) b area.Content before in
+      let here = place_at (map_of z) b i in
+      let last = place_at (map_of z) b (size_of (map_of z) b) in
+      omega (arith, ends, here, last, inside, from, at)
+
+  same_saw : (actor : ℕ) (t_ : Topics) → ((word : ℕ) → word ≡ lock_word z → IsOffWord actor word s) → IsOffWord actor (count_word z) s → ((i : ℕ) → i < words_of_bits z.pool → IsOffWord actor (pool_word z i) s)
+      → ActorSaw z w actor t_ ss u → ActorSaw z w actor t_ Behind (effect mmu u s)
+  same_saw actor t_ lock count map S = record {
+    owing = λ word is. made_longer (FindsWriter z actor word) (IsOffWord actor (lock_word z)) w ss s (lock (lock_word z) refl) (S.owing word is);
+    counted = λ is. made_longer (Finds actor (count_word z) t_.invalidations.count) (IsOffWord actor (count_word z)) w ss s count (S.counted is);
+    claim = λ some. let off : IsOffWord actor (pool_word z t_.claim.at) s = map t_.claim.at (S.alone some) in
+        knows_longer (IsOffWord actor (pool_word z t_.claim.at)) actor (pool_word z t_.claim.at) t_.claim.seen w ss s may off (λ mine at. absurd (off mine at)) (S.claim some);
+    alone = S.alone;
+  }
+
+  others_saw : (actor : ℕ) (t_ : Topics) → s.actor ≢ actor → ActorSaw z w actor t_ ss u → ActorSaw z w actor t_ Behind (effect mmu u s)
+  others_saw actor t_ other S = same_saw actor t_ (λ word is mine. absurd (other mine)) (λ mine. absurd (other mine)) (λ i low mine. absurd (other mine)) S
+
+  touch_saw : place (map_of z) area.Content 0 ≤ s.kind.word → SeesHere t → SeesBehind t
+  touch_saw from S =
+      same_saw a t (λ word is mine at. far area.Lock 0 (omega arith) (omega arith) from (at ∙ is)) (λ mine. far area.Count 0 (omega arith) (omega arith) from) (λ i low mine. far area.PoolMap i (omega arith) low from) S
+
+  -- ---- after each step
+
+  abbrev HandSaw : ℕ → List (Step Kind) → World Held → Type 0
+  HandSaw actor ts x = ActorSaw z w actor (hand_in mmu x actor).topics ts x
+
+  own_saw : HandSaw a ss u → HandSaw a Behind (effect mmu u s)
+  own_saw S = by (step_kind h s.kind may.enabled)
+    where
+      behind : (hand_in mmu (effect mmu u s) a).topics ≡ topics_after h.state.sizes s.kind t v
+      behind = ap (λ (x : Held). x.topics) (own_hand u s may.there) ∙ next_topics h s.kind v
+
+      by : IsPartKind h s.kind ⊎ IsQuiet h.state.sizes t s.kind → HandSaw a Behind (effect mmu u s)
+      by (inl N) =
+          let M : Made N.step = record { note = N.note; is = N.is; needs = N.needs } in
+          subst SeesBehind (sym (behind ∙ made_topics h s v N.step M)) (part_saw N.step M S)
+      by (inr Q) = subst SeesBehind (sym (behind ∙ Q.topics v)) (touch_saw (subst (λ (y : Sizes). place (map_of y) area.Content 0 ≤ s.kind.word) (own_sizes z u s G may) Q.content) S)
+
+  saw_more : (actor : ℕ) → HandSaw actor ss u → HandSaw actor Behind (effect mmu u s)
+  saw_more actor S = by (same_or actor s.actor)
+    where
+      by : (actor ≡ s.actor) ⊎ (actor ≢ s.actor) → HandSaw actor Behind (effect mmu u s)
+      by (inl own) = subst (λ i. HandSaw i Behind (effect mmu u s)) (sym own) (own_saw (subst (λ i. HandSaw i ss u) own S))
+      by (inr apart) =
+          subst (λ (x : Held). ActorSaw z w actor x.topics Behind (effect mmu u s)) (sym (others_hand u s actor apart)) (others_saw actor (hand_in mmu u actor).topics (λ e. apart (sym e)) S)
+
+first_saw : (z : Sizes) (w : World Held) (actor : ℕ) → ActorSaw z w actor first_topics [] w
+first_saw z w actor = record { owing = λ word is. absurd (cc is); counted = λ is. absurd (cc is); claim = λ some. absurd (omega (arith, some)); alone = λ some. absurd (omega (arith, some)) }
+
+-- From a start: so it is with each actor, after every list of steps.
+pub actor_saw : (z : Sizes) (lines : List Line) (w : World Held) (ss : List (Step Kind)) (actor : ℕ) → IsStart z lines w → Legal mmu w ss → actor < actors_of z
+    → ActorSaw z w actor (hand_in mmu (run mmu w ss) actor).topics ss (run mmu w ss)
+actor_saw z lines w ss actor start legal there =
+    of_each_list z w (λ (ts : List (Step Kind)) (x : World Held). ActorSaw z w actor (hand_in mmu x actor).topics ts x) (λ ts s G may S. saw_more z w ts s G may actor S) ss (start_good z lines w start) legal
+    (subst (λ (x : Held). ActorSaw z w actor x.topics [] w) (sym (hand_is z lines w actor start there)) (first_saw z w actor))

@@ -1,0 +1,15 @@
+pub mod AccessFlat
+pub mod EveryAnswer
+pub mod EveryHistory
+pub mod FaultFlat
+pub mod FindFlat
+pub mod FlatKept
+pub mod FlatSteps
+pub mod FlatStill
+pub mod Followed
+pub mod LineEvents
+pub mod PageFound
+pub mod SetSlotFlat
+pub mod Told
+pub mod ToldOf
+pub mod WholeSoFar

@@ -1,0 +1,243 @@
+-- What the steps of an access owe flat memory.
+use Rattle.std.proofs.Common.{◌≡◌, ◌≢◌, ◌<◌, ◌⊎◌, inl, inr, ℕ, [], ◌∷◌, refl, sym, subst, ap, ◌∙◌, arith}
+use Rattle.std.specs.Prelude.{Bool, true, false, ◌==◌, ◌&&◌, not, if◌then◌else◌, Option, Some, None}
+use Rattle.std.proofs.lemmas.Bool.Decides.{nat_tests}
+use Rattle.core_views.specs.declared.answer.Answer.TheVariants.{Reached}
+use Rattle.core_views.specs.declared.cache.Translation.{Translation}
+use Rattle.core_views.specs.declared.event.EventKind.TheVariants.{Accessed}
+use Rattle.core_views.specs.declared.hand.State.{State}
+use Rattle.core_views.specs.declared.place.AccessPlace.{AccessPlace}
+use Rattle.core_views.specs.declared.place.AccessPlace.TheVariants.{Enter, Pause, Root, Walk, Touch, Leave, Fault}
+use Rattle.core_views.specs.declared.place.FaultPlace.TheVariants as fault
+use Rattle.core_views.specs.declared.place.Leaving.TheVariants as leaving
+use Rattle.core_views.specs.declared.place.Place.TheVariants as place
+use Rattle.core_views.specs.declared.sizes.Sizes.{Sizes}
+use Rattle.core_views.specs.declared.topics.Topics.{Topics}
+use Rattle.core_views.specs.declared.trace.Command.TheVariants.{Access}
+use Rattle.core_views.specs.declared.trace.Line.{Line}
+use Rattle.core_views.specs.declared.trace.Op.{Op}
+use Rattle.core_views.specs.declared.trace.Op.TheVariants.{Read, Write, Add}
+use Rattle.core_views.specs.Events.{touched}
+use Rattle.core_views.specs.Flat.{Facts, LineUnderWay, Stage}
+use Rattle.core_views.specs.Host.{HostMap, own_frames}
+use Rattle.core_views.specs.Lawful.{Tells}
+use Rattle.core_views.specs.Memory.{Memory, stored, with_word}
+use Rattle.core_views.specs.Names.{frame_at}
+use Rattle.core_views.specs.Slots.{is_write, page_behind}
+use Rattle.core_views.specs.SlotSets.{flat_slots}
+use Rattle.spte_words.specs.declared.area.Area.{Area}
+use Rattle.spte_words.specs.declared.area.Area.TheVariants as area
+use Rattle.spte_words.specs.declared.spte_kind.SpteKind.{SpteKind}
+use Rattle.spte_words.specs.declared.spte_kind.SpteKind.TheVariants as entry_kind
+use Rattle.spte_words.specs.Areas.{content_index}
+use Rattle.spte_words.specs.Entries.{frame_in, kind_of}
+use Rattle.spte_words.proofs.Indices.{same_content}
+use Rattle.part_steps.specs.declared.part_step.PartStep.{PartStep}
+use Rattle.part_steps.specs.declared.part_step.PartStep.TheVariants as part
+use Rattle.mmu_core.specs.lines.AccessSteps.{access_note, access_part, access_task, pause_next, task_by, touch_of, walk_next}
+use Rattle.mmu_core.specs.lines.Cached.{first_usable}
+use Rattle.mmu_core.specs.lines.FaultSteps.{allows_access}
+use Rattle.mmu_laws.specs.flat.FlatInvariant.{AccessUnder, Runs}
+use Rattle.mmu_core.specs.invariant.Invariant.{Invariant, IsLeafFor}
+use Rattle.mmu_core.specs.lines.KnowsPart.{AccessKnows}
+use Rattle.part_steps.specs.SlotWords.{page_of}
+use Rattle.part_steps.specs.Tasks.{kind_of_task, map_of}
+use Rattle.mmu_core.specs.invariant.TopicsInvariant.{TopicsInvariant}
+use Rattle.part_steps.specs.TopicSteps.{topics_after}
+use Rattle.mmu_core.specs.machine.View.{View, answer_in, put, words_after}
+use Rattle.mmu_core.proofs.machine.Columns.{same_or, upd_same, upd_other}
+use Rattle.mmu_laws.proofs.flat.FaultFlat.{fault_goes}
+use Rattle.mmu_laws.proofs.flat.FlatSteps.{Goes, Leaves, Ready, StepGoes, part_leaves, refined_slots, refines_stay}
+use Rattle.mmu_laws.proofs.flat.PageFound.{frame_of_leaf, leaf_allows, page_in_machine, page_is_behind, word_in_page}
+use Rattle.mmu_core.proofs.machine.PartStepping.{IsPart}
+use Rattle.mmu_core.proofs.machine.Stepping.{IsStep}
+use Rattle.mmu_core.proofs.slots.LiveStays.{access_never}
+use Rattle.mmu_core.proofs.lines.UsedTranslations.{uses_allows}
+
+-- The step is one of a part, if it isn't the touch.
+abbrev pub IsPartOr : Sizes → View → ℕ → Option PartStep → Type 0
+IsPartOr z v a None = Unit {0}
+IsPartOr z v a (Some step) = IsPart z v a step
+
+-- Where a stay goes on, nothing is done yet.
+pause_under : (pool : ℕ → ℕ) (gfn : ℕ) (op : Op) (t : Topics) (u : LineUnderWay) (again : Bool) (found : Option Translation) → Runs u → AccessUnder pool (pause_next again found) gfn op t u
+pause_under pool gfn op t u again None runs = runs
+pause_under pool gfn op t u again (Some found) runs = runs
+
+leaf_under : (pool : ℕ → ℕ) (gfn : ℕ) (op : Op) (t : Topics) (u : LineUnderWay) (allowed : Bool) → Runs u → AccessUnder pool (if allowed then Touch else Leave leaving.Faults) gfn op t u
+leaf_under pool gfn op t u true runs = runs
+leaf_under pool gfn op t u false runs = runs
+
+walk_under : (pool : ℕ → ℕ) (gfn : ℕ) (op : Op) (t : Topics) (u : LineUnderWay) (again : Bool) (k : SpteKind) (allowed : Bool) → Runs u → AccessUnder pool (walk_next again k allowed) gfn op t u
+walk_under pool gfn op t u again entry_kind.Leaf allowed runs = leaf_under pool gfn op t u allowed runs
+walk_under pool gfn op t u again _ allowed runs = runs
+
+with_word_here : (page word x : ℕ) (memory : Memory) (p w : ℕ) → p ≡ page → w ≡ word → with_word page word x memory p w ≡ x
+with_word_here page word x memory p w e f = grind (arith, nat_tests)
+
+with_word_other : (page word x : ℕ) (memory : Memory) (p w : ℕ) → (p ≡ page → w ≡ word → ⊥) → with_word page word x memory p w ≡ memory p w
+with_word_other page word x memory p w apart = grind (arith, nat_tests)
+
+-- The touched word is memory's behind the touch, and so is each other one.
+memory_behind : (z : Sizes) (page word : ℕ) (op : Op) (memory : Memory) (content after : ℕ → ℕ) → page < z.pages → word < z.words
+    → ((p j : ℕ) → p < z.pages → j < z.words → memory p j ≡ content (content_index (map_of z) p j))
+    → after (content_index (map_of z) page word) ≡ stored op (content (content_index (map_of z) page word))
+    → ((i : ℕ) → i ≢ content_index (map_of z) page word → after i ≡ content i)
+    → (p j : ℕ) → p < z.pages → j < z.words → touched (Some page) word op memory p j ≡ after (content_index (map_of z) p j)
+memory_behind z page word op memory content after page_in word_in is here there p j p_in j_in = case (same_or p page) (same_or j word)
+  where
+    other : (p ≡ page → j ≡ word → ⊥) → touched (Some page) word op memory p j ≡ after (content_index (map_of z) p j)
+    other apart =
+        with_word_other page word (stored op (memory page word)) memory p j apart ∙ is p j p_in j_in
+        ∙ sym (there (content_index (map_of z) p j) (λ e. let same : (p ≡ page) × (j ≡ word) = same_content (map_of z) p page j word j_in word_in e in apart same.0 same.1))
+
+    case : (p ≡ page) ⊎ (p ≢ page) → (j ≡ word) ⊎ (j ≢ word) → touched (Some page) word op memory p j ≡ after (content_index (map_of z) p j)
+    case (inl e) (inl f) =
+        with_word_here page word (stored op (memory page word)) memory p j e f ∙ ap (stored op) (is page word page_in word_in) ∙ sym here
+        ∙ rw (e, f) refl
+    case (inr e) f = other (λ same _. e same)
+    case (inl e) (inr f) = other (λ _ same. f same)
+
+-- The host forbids nothing.
+frame_named : (op : Op) (page : ℕ) → frame_at own_frames op (Some page) ≡ Some page
+frame_named op page = by (is_write op)
+  where
+    by : (write : Bool) → (if write && not true then None else Some page) ≡ Some page
+    by true = refl
+    by false = refl
+
+-- what a touch finds: the page behind the guest frame, and its word in memory
+record Touches (z : Sizes) (s : State) (gfn word : ℕ) (op : Op) (facts : Facts) : Type 0 where
+  page : ℕ
+  page_in : page < z.pages
+  word_in : word < z.words
+  frame : frame_in s.leaf ≡ page
+  behind_is : page_behind (flat_slots facts.slots) gfn op ≡ Some page
+  index : content_index (map_of s.sizes) (frame_in s.leaf) word ≡ content_index (map_of z) page word
+
+touches : (z : Sizes) (v : View) (a : ℕ) (line : Line) (gfn word : ℕ) (op : Op) (facts : Facts) (u : LineUnderWay)
+    → IsStep z v a line (Access gfn word op) (place.Access Touch) → Invariant z v → AccessKnows Touch gfn (is_write op) (v.hand a) → Ready z v line (Access gfn word op) (place.Access Touch) (v.hand a).topics facts u
+    → Touches z (v.hand a).state gfn word op facts
+touches z v a line gfn word op facts u S I K R =
+    let s : State = (v.hand a).state in
+    let F : IsLeafFor (v.words area.Pool) (v.words area.Host) (v.words area.Slots 0) gfn s.leaf = S.holds in
+    let page : ℕ = page_of F.slot gfn in
+    let page_in : page < z.pages = page_in_machine z (v.words area.Slots 0) (v.words area.Role) (v.words area.Pool) F.id gfn F.slot I.set_part F.live F.holds in
+    let frame : frame_in s.leaf ≡ page = ap frame_in F.is ∙ frame_of_leaf z (v.words area.Host) F.slot page I.sizes I.hosts page_in in
+    let allowed : (is_write op && F.slot.read_only) ≡ false = leaf_allows op F.slot (v.words area.Host page) s.leaf F.is (uses_allows gfn (is_write op) (v.hand a) K.1) in
+    record {
+      page = page;
+      page_in = page_in;
+      word_in = word_in_page z line.actor gfn word op S.allowed;
+      frame = frame;
+      behind_is = page_is_behind z (v.words area.Slots 0) (v.words area.Role) (v.words area.Pool) F.id gfn F.slot op (flat_slots facts.slots) I.set_part F.live F.holds allowed (refined_slots z (v.words area.Slots 0) (v.words area.Pool) (v.words area.Content) (v.words area.Pause 0) facts R.refines);
+      index = rw ((I.lines a S.there).sizes, frame) refl;
+    }
+
+touch_goes : (z : Sizes) (v : View) (a : ℕ) (line : Line) (gfn word : ℕ) (op : Op) (facts : Facts) (u : LineUnderWay) (after : Area → ℕ → ℕ) (t : Topics)
+    → IsStep z v a line (Access gfn word op) (place.Access Touch) → Ready z v line (Access gfn word op) (place.Access Touch) (v.hand a).topics facts u → (T : Touches z (v.hand a).state gfn word op facts)
+    → after area.Slots ≡ v.words area.Slots → after area.Pool ≡ v.words area.Pool → after area.Pause ≡ v.words area.Pause
+    → after area.Content (content_index (map_of (v.hand a).state.sizes) (frame_in (v.hand a).state.leaf) word) ≡ stored op (v.words area.Content (content_index (map_of (v.hand a).state.sizes) (frame_in (v.hand a).state.leaf) word))
+    → ((i : ℕ) → i ≢ content_index (map_of (v.hand a).state.sizes) (frame_in (v.hand a).state.leaf) word → after area.Content i ≡ v.words area.Content i)
+    → let x : ℕ = v.words area.Content (content_index (map_of (v.hand a).state.sizes) (frame_in (v.hand a).state.leaf) word) in
+    Goes z (v.hand a).state.actor line (Access gfn word op) after (place.Access (Leave (leaving.Reached (frame_in (v.hand a).state.leaf) x))) t (Accessed gfn word op (frame_in (v.hand a).state.leaf) x ∷ []) facts u
+touch_goes z v a line gfn word op facts u after t S R T slots_is pool_is pause_is here there = record {
+  allowed = (
+    (
+      R.under.1.0,
+      ap (λ (l : Line). l.command) R.under.0 ∙ S.command_is,
+      R.under.1.1,
+      record {
+        named = ap (frame_at facts.host op) T.behind_is ∙ ap (λ (host : HostMap). frame_at host op (Some T.page)) R.refines.host ∙ frame_named op T.page ∙ ap Some (sym T.frame);
+        page = T.page;
+        behind = T.behind_is;
+        value_is = R.refines.memory T.page word T.page_in T.word_in ∙ ap (v.words area.Content) (sym T.index);
+      },
+    ),
+    tt,
+  );
+  refines = record {
+    slots = R.refines.slots ∙ rw (slots_is, pool_is) refl;
+    host = R.refines.host;
+    memory = subst (λ page. (p j : ℕ) → p < z.pages → j < z.words → touched page word op facts.memory p j ≡ after area.Content (content_index (map_of z) p j)) (sym T.behind_is)
+        (memory_behind z T.page word op facts.memory (v.words area.Content) (after area.Content) T.page_in T.word_in R.refines.memory (rw T.index at here) (rw T.index at there));
+    paused = R.refines.paused ∙ ap (λ (g : ℕ → ℕ). not (g 0 == 0)) (sym pause_is);
+  };
+  under = (R.under.0, refl);
+}
+
+-- the index of the word that the access touches
+abbrev pub touched_index : State → ℕ → ℕ
+touched_index s word = content_index (map_of s.sizes) (frame_in s.leaf) word
+
+module _ (z : Sizes) (v : View) (a : ℕ) (line : Line) (gfn word : ℕ) (facts : Facts) (u : LineUnderWay) where
+  -- what a step of the access owes, from what its actor knows
+  abbrev Owes : Op → AccessPlace → Type 0
+  Owes op p =
+      IsStep z v a line (Access gfn word op) (place.Access p) → Invariant z v → TopicsInvariant z v → IsPartOr z v a (access_part p gfn (v.hand a).topics) → AccessKnows p gfn (is_write op) (v.hand a)
+      → Ready z v line (Access gfn word op) (place.Access p) (v.hand a).topics facts u → StepGoes z v a line (Access gfn word op) (place.Access p) facts u
+
+  abbrev words_behind : Op → AccessPlace → Area → ℕ → ℕ
+  words_behind op p = words_after (access_task p (v.hand a) gfn word op) v.words
+
+  abbrev answered : Op → AccessPlace → ℕ
+  answered op p = answer_in (access_task p (v.hand a) gfn word op) v.words
+
+  abbrev held_behind : Op → AccessPlace → Topics
+  held_behind op p = topics_after (v.hand a).state.sizes (kind_of_task (v.hand a).state.sizes (access_task p (v.hand a) gfn word op)) (v.hand a).topics (answered op p)
+
+  touch_owes : (op : Op) → Owes op Touch
+  touch_owes Read S I P part_ K R = touch_goes z v a line gfn word Read facts u v.words (held_behind Read Touch) S R (touches z v a line gfn word Read facts u S I K R) refl refl refl refl (λ i apart. refl)
+  touch_owes (Write x) S I P part_ K R =
+      touch_goes z v a line gfn word (Write x) facts u (put v.words area.Content (touched_index (v.hand a).state word) x) (held_behind (Write x) Touch) S R (touches z v a line gfn word (Write x) facts u S I K R) refl refl refl
+      (upd_same (v.words area.Content) (touched_index (v.hand a).state word) x) (λ i apart. upd_other (v.words area.Content) (touched_index (v.hand a).state word) i x apart)
+  touch_owes (Add x) S I P part_ K R =
+      let sum : ℕ = stored (Add x) (v.words area.Content (touched_index (v.hand a).state word)) in
+      touch_goes z v a line gfn word (Add x) facts u (put v.words area.Content (touched_index (v.hand a).state word) sum) (held_behind (Add x) Touch) S R (touches z v a line gfn word (Add x) facts u S I K R) refl refl refl
+      (upd_same (v.words area.Content) (touched_index (v.hand a).state word) sum) (λ i apart. upd_other (v.words area.Content) (touched_index (v.hand a).state word) i sum apart)
+
+  -- A step of a stay that tells nothing.
+  quiet : (op : Op) (p next : AccessPlace) (step : PartStep) → access_part p gfn (v.hand a).topics ≡ Some step → IsPart z v a step → Invariant z v → TopicsInvariant z v
+      → Ready z v line (Access gfn word op) (place.Access p) (v.hand a).topics facts u → (u.line ≡ line) × AccessUnder (words_behind op p area.Pool) next gfn op (held_behind op p) u
+      → Goes z (v.hand a).state.actor line (Access gfn word op) (words_behind op p) (place.Access next) (held_behind op p) [] facts u
+  quiet op p next step is S I P R under = record { allowed = tt; refines = refines_stay z v.words (words_behind op p) facts L R.refines; under = under }
+    where
+      L : Leaves v.words (words_behind op p)
+      L = subst (λ o. Leaves v.words (words_after (task_by o (v.hand a) (access_note p) (touch_of op (touched_index (v.hand a).state word))) v.words)) (sym is) (part_leaves z v a step (access_note p) S P (access_never p gfn (v.hand a).topics step is))
+
+  -- The access is answered.
+  reached_owes : (op : Op) (frame value : ℕ) → Owes op (Leave (leaving.Reached frame value))
+  reached_owes op frame value S I P part_ K R = record {
+    allowed = ((ap (λ (l : Line). l.number) (sym R.under.0), subst (λ (stage : Stage). Tells z facts.slots u.line.command stage (Reached frame value)) (sym R.under.1) refl), tt);
+    refines = refines_stay z v.words (words_behind op (Leave (leaving.Reached frame value))) facts L R.refines;
+    under = refl;
+  }
+    where
+      L : Leaves v.words (words_behind op (Leave (leaving.Reached frame value)))
+      L = part_leaves z v a part.Leave 1 part_ P refl
+
+  -- The line looks at the pause, which isn't set.
+  looks_at_pause : (op : Op) (again : Bool) → IsPart z v a part.Pause → TopicsInvariant z v → Ready z v line (Access gfn word op) (place.Access (Pause again)) (v.hand a).topics facts u
+      → StepGoes z v a line (Access gfn word op) (place.Access (Pause again)) facts u
+  looks_at_pause op again S P R = record {
+    allowed = (R.under.1, tt);
+    refines = refines_stay z v.words (words_behind op (Pause again)) facts (part_leaves z v a part.Pause 0 S P refl) R.refines;
+    under = (
+      R.under.0,
+      pause_under (words_behind op (Pause again) area.Pool) gfn op (held_behind op (Pause again)) (record u { notes = record u.notes { paused = Some facts.paused } }) again
+          (first_usable gfn (is_write op) (v.hand a).cached.items) (R.under.1, ap Some R.runs),
+    );
+  }
+
+  pub access_goes : (op : Op) (p : AccessPlace) → Owes op p
+  access_goes op (Enter again) S I P part_ K R = quiet op (Enter again) (Pause again) part.Enter refl part_ I P R R.under
+  access_goes op (Pause again) S I P part_ K R = looks_at_pause op again part_ P R
+  access_goes op (Root again) S I P part_ K R = quiet op (Root again) (Walk again) part.Root refl part_ I P R R.under
+  access_goes op (Walk again) S I P part_ K R =
+      let k : SpteKind = kind_of (v.hand a).topics.walk.level (answered op (Walk again)) in
+      let allowed : Bool = allows_access (is_write op) (answered op (Walk again)) in
+      quiet op (Walk again) (walk_next again k allowed) (part.Walk gfn) refl part_ I P R (R.under.0, walk_under (words_behind op (Walk again) area.Pool) gfn op (held_behind op (Walk again)) u again k allowed R.under.1)
+  access_goes op Touch S I P part_ K R = touch_owes op S I P part_ K R
+  access_goes op (Leave (leaving.Reached frame value)) S I P part_ K R = reached_owes op frame value S I P part_ K R
+  access_goes op (Leave leaving.Faults) S I P part_ K R = quiet op (Leave leaving.Faults) (Fault fault.Begin) part.Leave refl part_ I P R (R.under.0, (R.under.1, tt))
+  access_goes op (Fault p) S I P part_ K R = fault_goes z v a line gfn word op facts u p S part_ I P K R

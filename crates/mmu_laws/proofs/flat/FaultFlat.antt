@@ -1,0 +1,232 @@
+-- What the steps of a fault owe flat memory.
+use Rattle.std.proofs.Common.{◌≡◌, ◌+◌, ◌<◌, ℕ, [], ◌∷◌, refl, sym, subst, ap, ◌∙◌, arith}
+use Rattle.std.specs.Prelude.{Bool, true, false, ◌==◌, ◌&&◌, nat_le, nat_lt, not, if◌then◌else◌, Some}
+use Rattle.core_views.specs.declared.answer.Answer.{Answer}
+use Rattle.core_views.specs.declared.answer.Answer.TheVariants as answer
+use Rattle.core_views.specs.declared.event.EventKind.TheVariants.{Answered, Exited}
+use Rattle.core_views.specs.declared.place.Cause.TheVariants.{Open, Moved, Entry}
+use Rattle.core_views.specs.declared.place.CheckStage.{CheckStage}
+use Rattle.core_views.specs.declared.place.CheckStage.TheVariants as stage
+use Rattle.core_views.specs.declared.place.FaultEnd.{FaultEnd}
+use Rattle.core_views.specs.declared.place.FaultEnd.TheVariants.{Installed, Mmio, HostFault, Starved, Retry}
+use Rattle.core_views.specs.declared.place.FaultPlace.{FaultPlace}
+use Rattle.core_views.specs.declared.place.FaultPlace.TheVariants.{Begin, Snapshot, Find, Host, Share, Check, Walk, Claim, Fill, Link, Give, Leaf, Unshare, End}
+use Rattle.core_views.specs.declared.place.AccessPlace.TheVariants.{Enter, Fault}
+use Rattle.core_views.specs.declared.place.Place.TheVariants as place
+use Rattle.core_views.specs.declared.sizes.Sizes.{Sizes}
+use Rattle.core_views.specs.declared.topics.Hold.{Hold}
+use Rattle.core_views.specs.declared.topics.Hold.TheVariants.{Owing}
+use Rattle.core_views.specs.declared.topics.TableWalk.{TableWalk}
+use Rattle.core_views.specs.declared.topics.Topics.{Topics}
+use Rattle.core_views.specs.declared.trace.Command.TheVariants.{Access}
+use Rattle.core_views.specs.declared.trace.Line.{Line}
+use Rattle.core_views.specs.declared.trace.Op.{Op}
+use Rattle.core_views.specs.Flat.{Facts, LineUnderWay, Notes}
+use Rattle.core_views.specs.Host.{with_entry}
+use Rattle.core_views.specs.Lawful.{MayLeave}
+use Rattle.core_views.specs.Slots.{is_write}
+use Rattle.spte_words.specs.declared.area.Area.{Area}
+use Rattle.spte_words.specs.declared.area.Area.TheVariants as area
+use Rattle.spte_words.specs.declared.spte_kind.SpteKind.{SpteKind}
+use Rattle.spte_words.specs.declared.spte_kind.SpteKind.TheVariants as entry_kind
+use Rattle.spte_words.specs.Areas.{words_of_bits}
+use Rattle.spte_words.specs.Entries.{kind_of}
+use Rattle.spte_words.specs.HostWords.{host_allows_write}
+use Rattle.part_steps.specs.declared.part_step.PartStep.TheVariants as part
+use Rattle.mmu_core.specs.lines.AccessSteps.{access_note, access_task}
+use Rattle.mmu_core.specs.lines.FaultKnows.{FaultKnows}
+use Rattle.mmu_core.specs.lines.FaultSteps.{allows_access, at_map_word, check_next, claim_next, entry_word, fault_part, find_next, map_word, share_next, snapshot_taken, tries_page, walk_next}
+use Rattle.mmu_laws.specs.flat.FlatInvariant.{NotedAt}
+use Rattle.mmu_core.specs.invariant.Invariant.{Invariant}
+use Rattle.part_steps.specs.PartSteps.{own_index, words_filled}
+use Rattle.part_steps.specs.Tasks.{kind_of_task}
+use Rattle.mmu_core.specs.invariant.TopicsInvariant.{TopicsInvariant}
+use Rattle.mmu_core.specs.machine.View.{View, answer_in, words_after}
+use Rattle.mmu_laws.proofs.flat.FindFlat.{find_noted}
+use Rattle.mmu_laws.proofs.flat.FlatSteps.{Goes, Ready, StepGoes, part_leaves, refined_slots, refines_stay}
+use Rattle.mmu_laws.proofs.flat.PageFound.{host_writable}
+use Rattle.mmu_core.proofs.machine.PartStepping.{IsPart}
+use Rattle.mmu_core.proofs.words.PartTopics.{part_topics_is}
+use Rattle.mmu_core.proofs.machine.Stepping.{IsStep}
+use Rattle.part_steps.specs.SlotWords.{page_of}
+use Rattle.part_steps.specs.TopicSteps.{at_set, has_writer, is_won, may_search, searched, topics_after}
+use Rattle.core_views.specs.declared.topics.SlotSearch.{SlotSearch}
+use Rattle.core_views.specs.declared.topics.Stay.{Stay}
+use Rattle.mmu_core.proofs.slots.LiveStays.{access_never}
+use Rattle.mmu_core.proofs.held.OldSets.{set_live}
+
+-- Where a fault stands behind most of its steps, the line has noted nothing.
+module _ (pool : ℕ → ℕ) (gfn : ℕ) (op : Op) (t : Topics) (notes : Notes) where
+  abbrev Noted : FaultPlace → Type 0
+  Noted p = NotedAt pool p gfn op t notes
+
+  either : (b : Bool) (p q : FaultPlace) → Noted p → Noted q → Noted (if b then p else q)
+  either true p q first second = first
+  either false p q first second = second
+
+  share_noted : (hold : Hold) (x : ℕ) → Noted (share_next hold x)
+  share_noted (Owing word) x = tt
+  share_noted _ x = either (has_writer x) Share (Check stage.Count) tt tt
+
+  check_noted : (at : CheckStage) (h : Topics) (x : ℕ) → Noted (check_next at gfn h x)
+  check_noted stage.Count h x = either (x == 0) (Check stage.Seq) (Check stage.Start) tt tt
+  check_noted stage.Start h x = tt
+  check_noted stage.End h x =
+      either (nat_le h.invalidations.start gfn && nat_lt gfn x) (Unshare (Retry (Open h.invalidations.count h.invalidations.start x gfn))) (Check stage.Seq) tt tt
+  check_noted stage.Seq h x =
+      either (x == snapshot_taken h.invalidations.snapshot) (Walk false) (Unshare (Retry (Moved (snapshot_taken h.invalidations.snapshot) x))) tt tt
+
+  walk_noted : (k : SpteKind) (z : Sizes) (write : Bool) (walk : TableWalk) (x : ℕ) → Noted (walk_next k z gfn write walk x)
+  walk_noted entry_kind.Leaf z write walk x =
+      either (walk.level == 1) (if allows_access write x then Unshare Installed else Leaf) (Unshare (Retry (Entry (entry_word z gfn walk) x x)))
+      (either (allows_access write x) (Unshare Installed) Leaf tt tt) tt
+  walk_noted entry_kind.Absent z write walk x = either (walk.level == 1) Leaf (Claim false) tt tt
+  walk_noted _ z write walk x = tt
+
+  claim_noted : (tries : Bool) (z : Sizes) (h : Topics) (begun : Bool) (x : ℕ) → Noted (claim_next tries z (at_map_word begun h.claim) x)
+  claim_noted true z h begun x = either (is_won (at_map_word begun h.claim) x) Fill (Claim true) tt tt
+  claim_noted false z h begun x = either (nat_lt (map_word begun h.claim + (if x == 0 then 1 else 0)) (words_of_bits z.pool)) (Claim true) (Unshare Starved) tt tt
+
+  -- The host allows the access.
+  host_noted : (write : Bool) (x : ℕ) → host_allows_write x ≡ true → Noted (if write && not (host_allows_write x) then End HostFault else Share)
+  host_noted true x allows = rw allows tt
+  host_noted false x allows = tt
+
+module _ (z : Sizes) (v : View) (a : ℕ) (line : Line) (gfn word : ℕ) (op : Op) (facts : Facts) (u : LineUnderWay) where
+  abbrev held : Topics
+  held = (v.hand a).topics
+
+  -- what the step of a fault's place makes of the words, what it answers, and what is held behind it
+  abbrev words_behind : FaultPlace → Area → ℕ → ℕ
+  words_behind p = words_after (access_task (Fault p) (v.hand a) gfn word op) v.words
+
+  abbrev answered : FaultPlace → ℕ
+  answered p = answer_in (access_task (Fault p) (v.hand a) gfn word op) v.words
+
+  abbrev held_behind : FaultPlace → Topics
+  held_behind p = topics_after (v.hand a).state.sizes (kind_of_task (v.hand a).state.sizes (access_task (Fault p) (v.hand a) gfn word op)) held (answered p)
+
+  -- A step that tells nothing, behind which the line has noted what its next place asks.
+  quiet : (p next : FaultPlace) → IsPart z v a (fault_part p gfn held) → Invariant z v → TopicsInvariant z v → Ready z v line (Access gfn word op) (place.Access (Fault p)) held facts u
+      → NotedAt (words_behind p area.Pool) next gfn op (held_behind p) u.notes
+      → Goes z (v.hand a).state.actor line (Access gfn word op) (words_behind p) (place.Access (Fault next)) (held_behind p) [] facts u
+  quiet p next S I P R noted =
+      let L = part_leaves z v a (fault_part p gfn held) (access_note (Fault p)) S P (access_never (Fault p) gfn held (fault_part p gfn held) refl) in
+      record {
+        allowed = tt;
+        refines = refines_stay z v.words (words_behind p) facts L R.refines;
+        under = (R.under.0, (R.under.1.0, noted));
+      }
+
+  -- The line looks at the slots: those of the published set, which its search holds now, and none of them is passed yet.
+  looks : FaultKnows (Find false) (v.hand a).state.sizes gfn (is_write op) held → Ready z v line (Access gfn word op) (place.Access (Fault (Find false))) held facts u → StepGoes z v a line (Access gfn word op) (place.Access (Fault (Find false))) facts u
+  looks K R = record {
+    allowed = (R.under.1.0.0, tt);
+    refines = R.refines;
+    under = (R.under.0, (R.under.1.0, record { set = v.words area.Slots 0; held = set_is; noted = ap Some (refined_slots z (v.words area.Slots 0) (v.words area.Pool) (v.words area.Content) (v.words area.Pause 0) facts R.refines); passed = λ k d lt low. absurd (omega (arith, first, low)) }));
+  }
+    where
+      behind : (held_behind (Find false)).search ≡ at_set (may_search held.stay held.hold) held.search (v.words area.Slots 0)
+      behind = ap (λ (t : Topics). t.search) (part_topics_is (v.hand a).state.sizes part.Slots (own_index (v.hand a)) held 0 (answered (Find false)) tt)
+
+      first : (held_behind (Find false)).search.id ≡ 0
+      first = ap (λ (s : SlotSearch). s.id) behind
+
+      may : may_search held.stay held.hold ≡ true
+      may = ap (λ (stay : Stay). may_search stay held.hold) K.0.inside.section
+
+      set_is : (held_behind (Find false)).search.set ≡ Some (v.words area.Slots 0)
+      set_is = ap (λ (s : SlotSearch). s.set) behind ∙ ap (λ b. (at_set b held.search (v.words area.Slots 0)).set) may
+
+  -- The search loads the next word of a slot.
+  searches : IsStep z v a line (Access gfn word op) (place.Access (Fault (Find true))) → IsPart z v a part.Slot → Invariant z v → TopicsInvariant z v → FaultKnows (Find true) (v.hand a).state.sizes gfn (is_write op) held
+      → Ready z v line (Access gfn word op) (place.Access (Fault (Find true))) held facts u → StepGoes z v a line (Access gfn word op) (place.Access (Fault (Find true))) facts u
+  searches S part_ I P K R =
+      quiet (Find true) (find_next gfn (is_write op) held.search.next (searched held.search (answered (Find true)))) part_ I P R
+      (find_noted z (v.words area.Slots 0) (v.words area.Role) (v.words area.Pool) gfn (answered (Find true)) op held.search.next held.search (held_behind (Find true)) u.notes I.set_part
+      (λ k is. set_live z v a k S.there P is) (P.searches a S.there).loaded (K.1 refl).1 refl search R.under.1.0.1 R.under.1.1)
+    where
+      search : (held_behind (Find true)).search ≡ searched held.search (answered (Find true))
+      search =
+          ap (λ (t : Topics). t.search) (part_topics_is (v.hand a).state.sizes part.Slot (own_index (v.hand a)) held 0 (answered (Find true)) tt)
+          ∙ ap (λ b. if b then searched held.search (answered (Find true)) else held.search) (K.1 refl).0
+
+  -- The line looks at the host word of the page, which allows writes.
+  looks_at_host : IsPart z v a (part.Host (page_of held.search.slot gfn)) → Invariant z v → Ready z v line (Access gfn word op) (place.Access (Fault Host)) held facts u
+      → StepGoes z v a line (Access gfn word op) (place.Access (Fault Host)) facts u
+  looks_at_host S I R = record {
+    allowed = (R.under.1.0.0, tt);
+    refines = R.refines;
+    under = (
+      R.under.0,
+      (
+        R.under.1.0,
+        host_noted (v.words area.Pool) gfn op (held_behind Host) (record u.notes { host = with_entry (page_of held.search.slot gfn) (facts.host (page_of held.search.slot gfn)) u.notes.host }) (is_write op) (answered Host)
+            (host_writable z (v.words area.Host) (page_of held.search.slot gfn) I.hosts (subst (λ (y : Sizes). page_of held.search.slot gfn < y.pages) S.sizes S.needs)),
+      ),
+    );
+  }
+
+  -- The line leaves the guest with what its fault ends with.
+  leaves_with : (how : Answer) → line.command ≡ Access gfn word op → IsPart z v a part.End → Invariant z v → TopicsInvariant z v → (e : FaultEnd) → Ready z v line (Access gfn word op) (place.Access (Fault (End e))) held facts u
+      → MayLeave z facts (Access gfn word op) u.notes how
+      → Goes z (v.hand a).state.actor line (Access gfn word op) (words_behind (End e)) place.Between (held_behind (End e)) (Exited how ∷ Answered line.number how ∷ []) facts u
+  leaves_with how is S I P e R may =
+      let L = part_leaves z v a part.End (access_note (Fault (End e))) S P refl in
+      record {
+        allowed = ((R.under.1.0.0, subst (λ c. MayLeave z facts c u.notes how) (sym (ap (λ (l : Line). l.command) R.under.0 ∙ is)) may), ((ap (λ (l : Line). l.number) (sym R.under.0), refl), tt));
+        refines = refines_stay z v.words (words_behind (End e)) facts L R.refines;
+        under = refl;
+      }
+
+  -- Or it enters the guest again.
+  goes_back : (again : Bool) (e : FaultEnd) → IsPart z v a part.End → Invariant z v → TopicsInvariant z v → Ready z v line (Access gfn word op) (place.Access (Fault (End e))) held facts u
+      → Goes z (v.hand a).state.actor line (Access gfn word op) (words_behind (End e)) (place.Access (Enter again)) (held_behind (End e)) [] facts u
+  goes_back again e S I P R =
+      let L = part_leaves z v a part.End (access_note (Fault (End e))) S P refl in
+      record {
+        allowed = tt;
+        refines = refines_stay z v.words (words_behind (End e)) facts L R.refines;
+        under = (R.under.0, R.under.1.0.0);
+      }
+
+  ends : (e : FaultEnd) → line.command ≡ Access gfn word op → IsPart z v a part.End → Invariant z v → TopicsInvariant z v → Ready z v line (Access gfn word op) (place.Access (Fault (End e))) held facts u
+      → StepGoes z v a line (Access gfn word op) (place.Access (Fault (End e))) facts u
+  ends Installed is S I P R = goes_back true Installed S I P R
+  ends Mmio is S I P R = leaves_with answer.Mmio is S I P Mmio R R.under.1.1
+  ends HostFault is S I P R = leaves_with answer.HostFault is S I P HostFault R R.under.1.1
+  ends Starved is S I P R = leaves_with answer.Starved is S I P Starved R refl
+  ends (Retry cause) is S I P R = goes_back false (Retry cause) S I P R
+
+  pub fault_goes : (p : FaultPlace) → IsStep z v a line (Access gfn word op) (place.Access (Fault p)) → IsPart z v a (fault_part p gfn held) → Invariant z v → TopicsInvariant z v
+      → FaultKnows p (v.hand a).state.sizes gfn (is_write op) held → Ready z v line (Access gfn word op) (place.Access (Fault p)) held facts u → StepGoes z v a line (Access gfn word op) (place.Access (Fault p)) facts u
+  fault_goes Begin S part_ I P K R = quiet Begin Snapshot part_ I P R tt
+  fault_goes Snapshot S part_ I P K R = quiet Snapshot (Find false) part_ I P R tt
+  fault_goes (Find false) S part_ I P K R = looks K R
+  fault_goes (Find true) S part_ I P K R = searches S part_ I P K R
+  fault_goes Host S part_ I P K R = looks_at_host part_ I R
+  fault_goes Share S part_ I P K R =
+      quiet Share (share_next held.hold (answered Share)) part_ I P R (share_noted (words_behind Share area.Pool) gfn op (held_behind Share) u.notes held.hold (answered Share))
+  fault_goes (Check at) S part_ I P K R =
+      quiet (Check at) (check_next at gfn held (answered (Check at))) part_ I P R (check_noted (words_behind (Check at) area.Pool) gfn op (held_behind (Check at)) u.notes at held (answered (Check at)))
+  fault_goes (Walk false) S part_ I P K R = quiet (Walk false) (Walk true) part_ I P R tt
+  fault_goes (Walk true) S part_ I P K R =
+      quiet (Walk true) (walk_next (kind_of held.walk.level (answered (Walk true))) (v.hand a).state.sizes gfn (is_write op) held.walk (answered (Walk true))) part_ I P R
+      (walk_noted (words_behind (Walk true) area.Pool) gfn op (held_behind (Walk true)) u.notes (kind_of held.walk.level (answered (Walk true))) (v.hand a).state.sizes (is_write op) held.walk (answered (Walk true)))
+  fault_goes (Claim begun) S part_ I P K R =
+      quiet (Claim begun) (claim_next (tries_page begun held.claim) (v.hand a).state.sizes (at_map_word begun held.claim) (answered (Claim begun))) part_ I P R
+      (claim_noted (words_behind (Claim begun) area.Pool) gfn op (held_behind (Claim begun)) u.notes (tries_page begun held.claim) (v.hand a).state.sizes held begun (answered (Claim begun)))
+  fault_goes Fill S part_ I P K R =
+      quiet Fill (if nat_lt (words_filled held.owned) 512 then Fill else Link) part_ I P R
+      (either (words_behind Fill area.Pool) gfn op (held_behind Fill) u.notes (nat_lt (words_filled held.owned) 512) Fill Link tt tt)
+  fault_goes Link S part_ I P K R =
+      let x : ℕ = answered Link in
+      let lost : FaultPlace = Give (Retry (Entry (entry_word (v.hand a).state.sizes gfn held.walk) held.walk.entry x)) in
+      quiet Link (if x == held.walk.entry then Walk true else lost) part_ I P R (either (words_behind Link area.Pool) gfn op (held_behind Link) u.notes (x == held.walk.entry) (Walk true) lost tt tt)
+  fault_goes (Give e) S part_ I P K R = quiet (Give e) (Unshare e) part_ I P R R.under.1.1
+  fault_goes Leaf S part_ I P K R =
+      let x : ℕ = answered Leaf in
+      let lost : FaultPlace = Unshare (Retry (Entry (entry_word (v.hand a).state.sizes gfn held.walk) held.walk.entry x)) in
+      quiet Leaf (if x == held.walk.entry then Unshare Installed else lost) part_ I P R (either (words_behind Leaf area.Pool) gfn op (held_behind Leaf) u.notes (x == held.walk.entry) (Unshare Installed) lost tt tt)
+  fault_goes (Unshare e) S part_ I P K R = quiet (Unshare e) (End e) part_ I P R R.under.1.1
+  fault_goes (End e) S part_ I P K R = ends e S.command_is part_ I P R

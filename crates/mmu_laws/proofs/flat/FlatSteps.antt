@@ -1,0 +1,104 @@
+-- What a step owes the flat side: its events are allowed, and words and its hand are flat memory behind them.
+use Rattle.std.proofs.Common.{◌≡◌, ℕ, List, ◌++◌, refl, sym, ap, ◌∙◌, arith}
+use Rattle.core_views.specs.declared.actor.Actor.{Actor}
+use Rattle.core_views.specs.declared.event.EventKind.{EventKind}
+use Rattle.core_views.specs.declared.place.Place.{Place}
+use Rattle.core_views.specs.declared.place.Place.TheVariants as place
+use Rattle.core_views.specs.declared.sizes.Sizes.{Sizes}
+use Rattle.core_views.specs.declared.topics.Topics.{Topics}
+use Rattle.core_views.specs.declared.trace.Command.{Command}
+use Rattle.core_views.specs.declared.trace.Command.TheVariants.{Access, SetSlot}
+use Rattle.core_views.specs.declared.trace.Line.{Line}
+use Rattle.core_views.specs.Held.{Held}
+use Rattle.core_views.specs.SlotSets.{flat_slots}
+use Rattle.spte_words.specs.declared.area.Area.{Area}
+use Rattle.spte_words.specs.declared.area.Area.TheVariants as area
+use Rattle.spte_words.specs.Areas.{content_index}
+use Rattle.part_steps.specs.declared.task.Task.{Task}
+use Rattle.part_steps.specs.declared.part_step.PartStep.{PartStep}
+use Rattle.mmu_core.specs.machine.Steps.{outcome_at, task_at, tells_at}
+use Rattle.mmu_core.specs.machine.Outcomes.{answering, place_after}
+use Rattle.part_steps.specs.Tasks.{kind_of_task, map_of}
+use Rattle.mmu_core.specs.invariant.TopicsInvariant.{TopicsInvariant}
+use Rattle.part_steps.specs.TopicSteps.{topics_after}
+use Rattle.mmu_core.specs.machine.View.{View, answer_in, part_stepped, words_after}
+use Rattle.mmu_laws.proofs.flat.Told.{AreAllowed, facts_behind, line_behind}
+use Rattle.mmu_laws.specs.flat.FlatInvariant.{AccessUnder, Refines, SettingUnder, UnderIs}
+use Rattle.part_steps.specs.SlotWords.{memory_slots_below, slots_below}
+use Rattle.std.specs.Prelude.{◌==◌, false, not}
+use Rattle.mmu_core.proofs.slots.LiveStays.{SetStays, published_stays}
+use Rattle.mmu_core.proofs.machine.PartStepping.{IsPart, is_publish}
+use Rattle.mmu_core.proofs.words.PartWords.{areas_stay, slots_are, slots_same}
+use Rattle.mmu_core.proofs.words.SlotLists.{flat_below}
+use Rattle.mmu_core.proofs.slots.SlotsStay.{memory_below_stay}
+use Rattle.core_views.specs.Flat.{Facts, LineUnderWay, Idle}
+
+-- The line under way is this one, with this command, at this place, and its actor holds these topics.
+abbrev pub UnderAt : (ℕ → ℕ) → Place → Line → Command → Topics → LineUnderWay → Type 0
+UnderAt pool place.Between line command t u = u.stage ≡ Idle
+UnderAt pool (place.Access p) line (Access gfn word op) t u = (u.line ≡ line) × AccessUnder pool p gfn op t u
+UnderAt pool (place.SetSlot p) line (SetSlot id slot) t u = (u.line ≡ line) × SettingUnder p u
+UnderAt pool _ line command t u = ⊥
+
+pub under_is : (pool : ℕ → ℕ) (p : Place) (command : Command) (h : Held) (u : LineUnderWay) → UnderAt pool p h.state.line command h.topics u → UnderIs pool p command h u
+under_is pool place.Between command h u under = under
+under_is pool (place.Access p) (Access gfn word op) h u under = under
+under_is pool (place.SetSlot p) (SetSlot id slot) h u under = under
+under_is pool _ _ h u under = absurd under
+
+pub under_at : (pool : ℕ → ℕ) (p : Place) (command : Command) (h : Held) (u : LineUnderWay) → UnderIs pool p command h u → UnderAt pool p h.state.line command h.topics u
+under_at pool place.Between command h u under = under
+under_at pool (place.Access p) (Access gfn word op) h u under = under
+under_at pool (place.SetSlot p) (SetSlot id slot) h u under = under
+under_at pool _ _ h u under = absurd under
+
+-- The line has begun and stands at this place; the facts are what the words say, and nothing is paused.
+pub record Ready (z : Sizes) (v : View) (line : Line) (command : Command) (p : Place) (t : Topics) (facts : Facts) (u : LineUnderWay) : Type 0 where
+  pub runs : facts.paused ≡ false
+  pub refines : Refines z (v.words area.Slots 0) (v.words area.Pool) (v.words area.Content) (v.words area.Pause 0) facts
+  pub under : UnderAt (v.words area.Pool) p line command t u
+
+-- What the step tells is allowed; behind it the facts are what the words say, and the line stands at this place.
+pub record Goes (z : Sizes) (actor : Actor) (line : Line) (command : Command) (after : Area → ℕ → ℕ) (p : Place) (t : Topics) (kinds : List EventKind) (facts : Facts) (u : LineUnderWay) : Type 0 where
+  pub allowed : AreAllowed z actor kinds facts u
+  pub refines : Refines z (after area.Slots 0) (after area.Pool) (after area.Content) (after area.Pause 0) (facts_behind kinds facts)
+  pub under : UnderAt (after area.Pool) p line command t (line_behind kinds facts u)
+
+-- the same of the actor's step, once its line has begun
+abbrev pub StepGoes : Sizes → View → ℕ → Line → Command → Place → Facts → LineUnderWay → Type 0
+StepGoes z v a line command p facts u =
+    let h : Held = v.hand a in
+    let task : Task = task_at p command h in
+    let x : ℕ = answer_in task v.words in
+    Goes z h.state.actor line command (words_after task v.words) (place_after (outcome_at p command h x)) (topics_after h.state.sizes (kind_of_task h.state.sizes task) h.topics x)
+    (tells_at p command h x ++ answering (outcome_at p command h x) line) facts u
+
+-- A step leaves which slot set is published, the words of its page, all content, and the pause.
+pub record Leaves (before after : Area → ℕ → ℕ) : Type 0 where
+  pub slots : after area.Slots 0 ≡ before area.Slots 0
+  pub pool : SetStays (before area.Slots 0) (before area.Pool) (after area.Pool)
+  pub content : after area.Content ≡ before area.Content
+  pub pause : after area.Pause ≡ before area.Pause
+
+-- So does each step of a part but a publication.
+pub part_leaves : (z : Sizes) (v : View) (a : ℕ) (step : PartStep) (note : ℕ) → IsPart z v a step → TopicsInvariant z v → is_publish step ≡ false → Leaves v.words ((part_stepped a step note v).words)
+part_leaves z v a step note S P never = record {
+  slots = slots_are v a step note ∙ slots_same step (v.hand a).topics (v.words area.Slots 0) never;
+  pool = published_stays z v a step note S P;
+  content = areas_stay v a step note area.Content refl;
+  pause = areas_stay v a step note area.Pause refl;
+}
+
+-- The facts' slots, without their dirty logs, are those of the set.
+pub refined_slots : (z : Sizes) (set : ℕ) (pool content : ℕ → ℕ) (pause : ℕ) (facts : Facts) → Refines z set pool content pause facts → flat_slots facts.slots ≡ slots_below pool set 32
+refined_slots z set pool content pause facts R = ap flat_slots R.slots ∙ flat_below pool set 32
+
+-- The words behind it still stand for the same facts.
+pub refines_stay : (z : Sizes) (before after : Area → ℕ → ℕ) (facts : Facts) → Leaves before after → Refines z (before area.Slots 0) (before area.Pool) (before area.Content) (before area.Pause 0) facts
+    → Refines z (after area.Slots 0) (after area.Pool) (after area.Content) (after area.Pause 0) facts
+refines_stay z before after facts L R = record {
+  slots = R.slots ∙ sym (memory_below_stay (before area.Slots 0) (before area.Pool) (after area.Pool) L.pool 32 (omega arith)) ∙ ap (λ k. memory_slots_below (after area.Pool) k 32) (sym L.slots);
+  host = R.host;
+  memory = λ p j lt below. R.memory p j lt below ∙ sym (ap (λ (g : ℕ → ℕ). g (content_index (map_of z) p j)) L.content);
+  paused = R.paused ∙ ap (λ (g : ℕ → ℕ). not (g 0 == 0)) (sym L.pause);
+}

@@ -1,0 +1,75 @@
+-- What an access has found: a host page of the machine, at the frame of its own number, that the slots give.
+use Rattle.std.proofs.Common.{◌≡◌, ◌+◌, ◌<◌, ◌≤◌, ℕ, refl, subst, ap, ◌∙◌, arith}
+use Rattle.std.specs.Prelude.{Bool, true, false, ◌&&◌, ◌||◌, not, Some, nat_le, nat_lt}
+use Rattle.std.proofs.lemmas.Bool.Decides.{nat_tests}
+use Rattle.core_views.specs.declared.actor.Actor.{Actor}
+use Rattle.core_views.specs.declared.actor.Actor.TheVariants.{Vcpu}
+use Rattle.core_views.specs.declared.sizes.Sizes.{Sizes}
+use Rattle.core_views.specs.declared.trace.Command.TheVariants.{Access}
+use Rattle.core_views.specs.declared.trace.Op.{Op}
+use Rattle.core_views.specs.declared.trace.Slot.{Slot}
+use Rattle.core_views.specs.Sizes.{AreSizes}
+use Rattle.core_views.specs.Slots.{Slots, contains, is_write, page_behind, page_in, slot_of}
+use Rattle.core_views.specs.Traces.{IsCommandFor}
+use Rattle.spte_words.specs.Entries.{can_write, frame_in}
+use Rattle.spte_words.specs.HostWords.{host_allows_write, host_frame}
+use Rattle.spte_words.proofs.ReadsEntries.{leaf_can_write, leaf_frame}
+use Rattle.spte_words.proofs.ReadsHost.{host_has_frame, host_is_writable}
+use Rattle.mmu_core.specs.lines.FaultSteps.{allows_access}
+use Rattle.mmu_core.specs.invariant.Invariant.{HostWordsPart, IsLiveIn, SlotSetPart}
+use Rattle.part_steps.specs.SlotWords.{leaf_of, may_write, page_of, slot_at, slots_below}
+use Rattle.mmu_core.proofs.words.SlotLists.{only_one_holds, page_allowed}
+
+pub contains_bounds : (gfn : ℕ) (slot : Slot) → contains gfn slot ≡ true → (slot.base ≤ gfn) × (gfn < slot.base + slot.pages)
+contains_bounds gfn slot holds = bounds slot.base (slot.base + slot.pages) holds
+  where
+    bounds : (low high : ℕ) → (nat_le low gfn && nat_lt gfn high) ≡ true → (low ≤ gfn) × (gfn < high)
+    bounds low high test = (grind (arith, nat_tests), grind (arith, nat_tests))
+
+-- The word of an access is one of a page.
+pub word_in_page : (z : Sizes) (actor : Actor) (gfn word : ℕ) (op : Op) → IsCommandFor z actor (Access gfn word op) → word < z.words
+word_in_page z (Vcpu n) gfn word op may = may.2
+word_in_page z _ gfn word op may = absurd may
+
+-- The page found is one of the machine's.
+pub page_in_machine : (z : Sizes) (set : ℕ) (role pool : ℕ → ℕ) (id gfn : ℕ) (slot : Slot) → SlotSetPart z set role pool → IsLiveIn pool set id slot → contains gfn slot ≡ true → page_of slot gfn < z.pages
+page_in_machine z set role pool id gfn slot P L holds =
+    let fits : slot.host + slot.pages ≤ z.pages = subst (λ (t : Slot). t.host + t.pages ≤ z.pages) L.is ((P.fits id L.low L.live).pages) in
+    let bounds : (slot.base ≤ gfn) × (gfn < slot.base + slot.pages) = contains_bounds gfn slot holds in
+    omega arith
+
+-- A page's host word names its own number, and so does its leaf.
+pub frame_of_host : (z : Sizes) (host : ℕ → ℕ) (page : ℕ) → HostWordsPart z host → page < z.pages → host_frame (host page) ≡ page
+frame_of_host z host page P lt = ap host_frame (P page lt) ∙ host_has_frame page true true 1 (omega arith)
+
+pub frame_of_leaf : (z : Sizes) (host : ℕ → ℕ) (slot : Slot) (page : ℕ) → AreSizes z → HostWordsPart z host → page < z.pages → frame_in (leaf_of slot (host page)) ≡ page
+frame_of_leaf z host slot page sizes P lt =
+    let own : host_frame (host page) ≡ page = frame_of_host z host page P lt in
+    leaf_frame 1 (host_frame (host page)) (may_write slot (host page)) (host_allows_write (host page)) (may_write slot (host page)) (omega (arith, own, lt, sizes.pages)) ∙ own
+
+-- And it allows writes.
+pub host_writable : (z : Sizes) (host : ℕ → ℕ) (page : ℕ) → HostWordsPart z host → page < z.pages → host_allows_write (host page) ≡ true
+host_writable z host page P lt = ap host_allows_write (P page lt) ∙ host_is_writable page true true 1
+
+-- A leaf that allows the access is of a slot that allows it.
+not_denied : (write host read_only : Bool) → (not write || (host && not read_only)) ≡ true → (write && read_only) ≡ false
+not_denied true true true e = absurd (cc e)
+not_denied true false true e = absurd (cc e)
+not_denied _ host _ e = refl
+
+pub leaf_allows : (op : Op) (slot : Slot) (host leaf : ℕ) → leaf ≡ leaf_of slot host → allows_access (is_write op) leaf ≡ true → (is_write op && slot.read_only) ≡ false
+leaf_allows op slot host leaf is allows =
+    not_denied (is_write op) (host_allows_write host) slot.read_only
+    (subst (λ b. (not (is_write op) || b) ≡ true) (ap can_write is ∙ leaf_can_write 1 (host_frame host) (may_write slot host) (host_allows_write host) (may_write slot host)) allows)
+
+-- The slots give the guest frame the page that was found.
+pub page_is_behind : (z : Sizes) (set : ℕ) (role pool : ℕ → ℕ) (id gfn : ℕ) (slot : Slot) (op : Op) (now_ : Slots) → SlotSetPart z set role pool → IsLiveIn pool set id slot → contains gfn slot ≡ true → (is_write op && slot.read_only) ≡ false
+    → now_ ≡ slots_below pool set 32 → page_behind now_ gfn op ≡ Some (page_of slot gfn)
+page_is_behind z set role pool id gfn slot op now_ P L in_slot allows is =
+    let holds : contains gfn (slot_at pool set id) ≡ true = ap (contains gfn) L.is ∙ in_slot in
+    ap (page_in gfn op)
+    (ap (λ (xs : Slots). slot_of xs gfn) is
+    ∙ only_one_holds gfn pool set id 32 (omega (arith, L.low)) L.live holds
+    (λ i lt live too. P.guest_apart gfn i id (omega arith) L.low live L.live too holds)
+    ∙ ap Some L.is)
+    ∙ page_allowed slot gfn op allows

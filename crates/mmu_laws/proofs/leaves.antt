@@ -1,0 +1,2 @@
+pub mod LeadsDown
+pub mod LeafLaws

@@ -1,0 +1,104 @@
+-- Links lead from the root to an entry exactly where they do so from a table that stands over the guest frame.
+use Rattle.std.proofs.Math.Nat.{div-div-eq-div-mul}
+use Rattle.std.proofs.Common.{◌≡◌, ◌⊎◌, inl, inr, ◌+◌, ◌-◌, ◌*◌, ◌/◌, ◌%◌, ◌^◌, ◌<◌, ◌≤◌, ℕ, zero, suc, sym, subst, ap, ◌∙◌, arith}
+use Rattle.std.specs.Prelude.{Some, None}
+use Rattle.core_views.specs.declared.sizes.Sizes.{Sizes}
+use Rattle.core_views.specs.Held.{Held}
+use Rattle.spte_words.specs.declared.area.Area.TheVariants as area
+use Rattle.spte_words.specs.declared.spte_kind.SpteKind.{SpteKind}
+use Rattle.spte_words.specs.Areas.{pool_index}
+use Rattle.spte_words.specs.Entries.{kind_of, level_span}
+use Rattle.spte_words.proofs.ReadsEntries.{kind_of_absent, kind_of_table}
+use Rattle.spte_words.proofs.Spans.{span_above}
+use Rattle.mmu_core.specs.alone.FaultAlone.{LeadSame, LeadsTo}
+use Rattle.mmu_core.specs.invariant.Laws.{IsSound}
+use Rattle.mmu_core.specs.machine.Machine.{World}
+use Rattle.part_steps.specs.PartSteps.{entry_index}
+use Rattle.part_steps.specs.TopicSteps.{linked_page}
+use Rattle.mmu_core.specs.invariant.TreePart.{EntryPart, Position, Reaches, TreePart, Use, at, stands}
+use Rattle.mmu_core.specs.machine.View.{word_in}
+use Rattle.mmu_core.proofs.pages.Standing.{one_position}
+use Rattle.mmu_core.proofs.pages.TreePlaces.{IsLinked, all_reached, link_stands, linked, root_stands}
+
+pub same_page : {k l : ℕ} → Some k ≡ Some l → k ≡ l
+same_page e = cc e
+
+-- the run of a guest frame, one level up
+pub run_above : (gfn level : ℕ) → 1 ≤ level → gfn / level_span level / 512 ≡ gfn / level_span (level + 1)
+run_above gfn level from = div-div-eq-div-mul gfn (level_span level) 512 ∙ ap (λ n. gfn / n) (let up = span_above level from in omega (arith, up))
+
+module _ {pages root set : ℕ} {role pool : ℕ → ℕ} {up : ℕ → Use} {spot : ℕ → Position} (T : TreePart pages root set role pool up spot) (few : pages ≤ 2 ^ 32) (gfn entry : ℕ) where
+  -- Behind a link of a table stands a table, one level below, at the run of this entry.
+  pub below_stands : (level prefix page below : ℕ) → stands up spot page ≡ Some (at (suc (suc level)) prefix) → linked_page (kind_of (suc (suc level)) (pool (pool_index page (entry_index gfn (suc (suc level)))))) ≡ Some below
+      → stands up spot below ≡ Some (at (suc level) (prefix * 512 + entry_index gfn (suc (suc level))))
+  below_stands level prefix page below at_page link = by (T.entries page (at (suc (suc level)) prefix) at_page j (omega arith))
+    where
+      j : ℕ
+      j = entry_index gfn (suc (suc level))
+
+      word : ℕ
+      word = pool (pool_index page j)
+
+      by : EntryPart up page (at (suc (suc level)) prefix) j word → stands up spot below ≡ Some (at (suc level) (prefix * 512 + j))
+      by (inl e) = let none : linked_page (kind_of (suc (suc level)) word) ≡ None = ap (λ n. linked_page (kind_of (suc (suc level)) n)) e ∙ ap (λ (k : SpteKind). linked_page k) (kind_of_absent (suc (suc level))) in absurd (cc (none, link))
+      by (inr (inl L)) =
+          let stands_there = link_stands T page (at (suc (suc level)) prefix) j word at_page L in
+          let low = (T.there L.page _ stands_there).0 in
+          let links : linked_page (kind_of (suc (suc level)) word) ≡ Some L.page =
+          ap (λ n. linked_page (kind_of (suc (suc level)) n)) L.is ∙ ap (λ (k : SpteKind). linked_page k) (kind_of_table (suc (suc level)) L.page L.upper (omega (arith, low, few))) in
+          ap (stands up spot) (same_page (sym link ∙ links)) ∙ stands_there ∙ ap (λ n. Some (at n (prefix * 512 + j))) (omega arith)
+      by (inr (inr L)) = let lowest : suc (suc level) ≡ 1 = L.lowest in absurd (omega (arith, lowest))
+
+  -- the table that is linked by an entry leads on where it is the guest frame's
+  one_down : (level page below : ℕ) → linked_page (kind_of (suc (suc level)) (pool (pool_index page (entry_index gfn (suc (suc level)))))) ≡ Some below
+      → LeadSame pool root (suc (suc level)) page gfn entry → LeadSame pool root (suc level) below gfn entry
+  one_down level page below link S = record {
+    below = λ from. let down = S.below from in subst (λ k. LeadsTo pool (suc level) k gfn entry) (same_page (sym down.1 ∙ link)) down.2;
+    above = λ leads. S.above (below, link, leads);
+  }
+
+  -- So it is with each table over the guest frame, from the top level down.
+  leads_at_root : (level page : ℕ) → stands up spot page ≡ Some (at (suc level) (gfn / level_span (suc level) / 512)) → page ≡ root → LeadSame pool root (suc level) page gfn entry
+  leads_at_root level page at_page e =
+      let top : suc level ≡ 4 = ap (λ (p : Position). p.level) (one_position (sym at_page ∙ ap (stands up spot) e ∙ root_stands T)) in
+      subst (λ l. LeadSame pool root l page gfn entry) (sym top) (subst (λ k. LeadSame pool root 4 k gfn entry) (sym e) (record { below = λ leads. leads; above = λ leads. leads }))
+
+  -- the table's parent stands over the guest frame too, and its entry there is the link
+  parent_over : (level page links : ℕ) (L : IsLinked pool up spot root links page (at (suc level) (gfn / level_span (suc level) / 512))) → stands up spot L.parent ≡ Some (at (suc (suc level)) (gfn / level_span (suc (suc level)) / 512))
+  parent_over level page links L =
+      let one : suc level + 1 ≡ suc (suc level) = omega arith in
+      let run : gfn / level_span (suc level) / 512 ≡ gfn / level_span (suc (suc level)) = run_above gfn (suc level) (omega arith) ∙ ap (λ n. gfn / level_span n) one in
+      L.above ∙ ap (λ n. Some (at n (gfn / level_span (suc level) / 512 / 512))) one ∙ ap (λ n. Some (at (suc (suc level)) (n / 512))) run
+
+  parent_links : (level page links : ℕ) → stands up spot page ≡ Some (at (suc level) (gfn / level_span (suc level) / 512)) → (L : IsLinked pool up spot root links page (at (suc level) (gfn / level_span (suc level) / 512)))
+      → linked_page (kind_of (suc (suc level)) (pool (pool_index L.parent (entry_index gfn (suc (suc level)))))) ≡ Some page
+  parent_links level page links at_page L =
+      let one : suc level + 1 ≡ suc (suc level) = omega arith in
+      let run : gfn / level_span (suc (suc level)) ≡ gfn / level_span (suc level) / 512 = sym (run_above gfn (suc level) (omega arith) ∙ ap (λ n. gfn / level_span n) one) in
+      ap (λ n. linked_page (kind_of (suc (suc level)) (pool (pool_index L.parent (n % 512))))) run
+      ∙ ap (λ w. linked_page (kind_of (suc (suc level)) w)) L.link
+      ∙ ap (λ (k : SpteKind). linked_page k) (kind_of_table (suc (suc level)) page (omega arith) (let lt = (T.there page _ at_page).0 in omega (arith, lt, few)))
+
+  -- The table is the root, or linked.
+  leads_from : (level page : ℕ) → Reaches up root page → stands up spot page ≡ Some (at (suc level) (gfn / level_span (suc level) / 512))
+      → ((k : ℕ) → suc level < 4 → Reaches up root k → stands up spot k ≡ Some (at (suc (suc level)) (gfn / level_span (suc (suc level)) / 512)) → LeadSame pool root (suc (suc level)) k gfn entry)
+      → LeadSame pool root (suc level) page gfn entry
+  leads_from level page R at_page over = by (linked T page _ R at_page)
+    where
+      by : (page ≡ root) ⊎ ((links : ℕ) × IsLinked pool up spot root links page (at (suc level) (gfn / level_span (suc level) / 512))) → LeadSame pool root (suc level) page gfn entry
+      by (inl e) = leads_at_root level page at_page e
+      by (inr found) = let L = found.1 in one_down level L.parent page (parent_links level page found.0 at_page L) (over L.parent L.lower (found.0, L.chain) (parent_over level page found.0 L))
+
+  leads_by : (above level page : ℕ) → level + above ≡ 3 → Reaches up root page → stands up spot page ≡ Some (at (suc level) (gfn / level_span (suc level) / 512)) → LeadSame pool root (suc level) page gfn entry
+  leads_by zero level page levels R at_page = leads_from level page R at_page (λ k lower reached at_k. absurd (omega (arith, levels, lower)))
+  leads_by (suc n) level page levels R at_page = leads_from level page R at_page (λ k lower reached at_k. leads_by n (suc level) k (omega (arith, levels)) reached at_k)
+
+  pub leads_same : (level page : ℕ) → Reaches up root page → stands up spot page ≡ Some (at level (gfn / level_span level / 512)) → LeadSame pool root level page gfn entry
+  leads_same zero page R at_page = absurd (let low = (T.there page _ at_page).1 in omega (arith, low))
+  leads_same (suc level) page R at_page = leads_by (3 - level) level page (let most = (T.there page _ at_page).2 in omega (arith, most)) R at_page
+
+pub leads_down : (z : Sizes) (w : World Held) (gfn page level entry : ℕ) (sound : IsSound z w) → stands sound.topics.up sound.topics.spot page ≡ Some (at level (gfn / level_span level / 512))
+    → LeadSame (word_in z w area.Pool) (word_in z w area.Root 0) level page gfn entry
+leads_down z w gfn page level entry sound at_page =
+    let I = sound.topics in
+    leads_same I.tree (let most = sound.holds.sizes.pool.1 in omega (arith, most)) gfn entry level page (all_reached I.tree page _ at_page) at_page

@@ -1,0 +1,4 @@
+pub mod Enough
+pub mod Leavers
+pub mod Pigeonhole
+pub mod WantedRuns

@@ -1,0 +1,9 @@
+pub mod EntrySeen
+pub mod InstalledEntries
+pub mod LeavesStay
+pub mod SetSlotNearer
+pub mod StayNearer
+pub mod StepsBounded
+pub mod StepsCounted
+pub mod TurnsNearer
+pub mod AnsweredRest

@@ -1,0 +1,122 @@
+-- Where a fault comes to its end with an entry installed, it has just loaded this entry or stored it.
+use Rattle.std.proofs.Common.{◌≡◌, ◌+◌, ℕ, refl, sym, subst, ap, ◌∙◌, arith}
+use Rattle.std.specs.Prelude.{Bool, true, false, ◌==◌, ◌&&◌, nat_le, nat_lt, not, if◌then◌else◌}
+use Rattle.core_views.specs.declared.place.Cause.TheVariants.{Entry, Moved, Open}
+use Rattle.core_views.specs.declared.place.CheckStage.{CheckStage}
+use Rattle.core_views.specs.declared.place.CheckStage.TheVariants as stage
+use Rattle.core_views.specs.declared.place.FaultEnd.{FaultEnd}
+use Rattle.core_views.specs.declared.place.FaultEnd.TheVariants as end_of
+use Rattle.core_views.specs.declared.place.FaultNext.{FaultNext}
+use Rattle.core_views.specs.declared.place.FaultNext.TheVariants as next_of
+use Rattle.core_views.specs.declared.place.FaultPlace.{FaultPlace}
+use Rattle.core_views.specs.declared.place.FaultPlace.TheVariants as fault
+use Rattle.core_views.specs.declared.place.SlotField.{SlotField}
+use Rattle.core_views.specs.declared.sizes.Sizes.{Sizes}
+use Rattle.core_views.specs.declared.topics.Hold.{Hold}
+use Rattle.core_views.specs.declared.topics.Hold.TheVariants.{Owing}
+use Rattle.core_views.specs.declared.topics.MapClaim.{MapClaim}
+use Rattle.core_views.specs.declared.topics.SlotSearch.{SlotSearch}
+use Rattle.core_views.specs.declared.topics.Topics.{Topics}
+use Rattle.core_views.specs.Slots.{contains}
+use Rattle.spte_words.specs.declared.area.Area.{Area}
+use Rattle.spte_words.specs.declared.area.Area.TheVariants as area
+use Rattle.spte_words.specs.declared.spte_kind.SpteKind.{SpteKind}
+use Rattle.spte_words.specs.declared.spte_kind.SpteKind.TheVariants as entry_kind
+use Rattle.spte_words.specs.Areas.{pool_index, words_of_bits}
+use Rattle.spte_words.specs.Entries.{kind_of}
+use Rattle.spte_words.specs.HostWords.{host_allows_write, host_frame}
+use Rattle.spte_words.proofs.ReadsEntries.{kind_of_leaf}
+use Rattle.part_steps.specs.declared.part_step.PartStep.TheVariants as part
+use Rattle.mmu_core.specs.alone.FaultAlone.{EntryStands}
+use Rattle.mmu_core.specs.lines.FaultKnows.{FaultKnows}
+use Rattle.mmu_core.specs.lines.FaultSteps.{at_map_word, check_next, check_part, claim_next, claim_part, entry_word, fault_next, fault_part, find_next, is_last_word, share_next, share_part, snapshot_taken, tries_page, walk_next}
+use Rattle.part_steps.specs.PartSteps.{entry_index, leaf_written, part_task, table_page, word_looked, words_filled}
+use Rattle.part_steps.specs.PartTopics.{exchanged, part_topics}
+use Rattle.part_steps.specs.SlotWords.{may_write, page_of}
+use Rattle.part_steps.specs.TopicSteps.{gone_down, has_writer, is_won, linked_page, searched, unless_linked}
+use Rattle.mmu_laws.specs.turns.TurnLaws.{ends_installed, has_installed}
+use Rattle.mmu_core.specs.machine.View.{answer_in, upd, words_after}
+use Rattle.mmu_core.proofs.machine.Columns.{upd_same}
+
+-- Where a fault comes to such an end, it has just loaded or stored the entry; it is over with one only from such a place.
+abbrev pub SeesEntry : FaultNext → (ℕ → ℕ) → ℕ → Topics → Type 0
+SeesEntry (next_of.Goes q) pool gfn t = ends_installed q ≡ true → EntryStands pool gfn t
+SeesEntry (next_of.Ends e) pool gfn t = has_installed e ≡ false
+
+neither : (b : Bool) (p q : FaultPlace) → ends_installed p ≡ false → ends_installed q ≡ false → ends_installed (if b then p else q) ≡ true → ⊥
+neither true p q first second is = cc (first, is)
+neither false p q first second is = cc (second, is)
+
+finds_by : (holds denied last : Bool) → ends_installed (if holds then (if denied then fault.End end_of.Mmio else fault.Host) else if last then fault.End end_of.Mmio else fault.Find true) ≡ true → ⊥
+finds_by true denied last is = neither denied (fault.End end_of.Mmio) fault.Host refl refl is
+finds_by false denied last is = neither last (fault.End end_of.Mmio) (fault.Find true) refl refl is
+
+finds_not : (gfn : ℕ) (write : Bool) (f : SlotField) (found : SlotSearch) → ends_installed (find_next gfn write f found) ≡ true → ⊥
+finds_not gfn write f found is = finds_by (is_last_word f && contains gfn found.slot) (write && found.slot.read_only) (found.id == 32) is
+
+shares_not : (k : Hold) (v : ℕ) → ends_installed (share_next k v) ≡ true → ⊥
+shares_not (Owing word) v is = cc is
+shares_not _ v is = neither (has_writer v) fault.Share (fault.Check stage.Count) refl refl is
+
+checks_not : (at_ : CheckStage) (gfn : ℕ) (t : Topics) (v : ℕ) → ends_installed (check_next at_ gfn t v) ≡ true → ⊥
+checks_not stage.Count gfn t v is = neither (v == 0) (fault.Check stage.Seq) (fault.Check stage.Start) refl refl is
+checks_not stage.Start gfn t v is = cc is
+checks_not stage.End gfn t v is =
+    neither (nat_le t.invalidations.start gfn && nat_lt gfn v) (fault.Unshare (end_of.Retry (Open t.invalidations.count t.invalidations.start v gfn))) (fault.Check stage.Seq) refl refl is
+checks_not stage.Seq gfn t v is =
+    neither (v == snapshot_taken t.invalidations.snapshot) (fault.Walk false) (fault.Unshare (end_of.Retry (Moved (snapshot_taken t.invalidations.snapshot) v))) refl refl is
+
+claims_not : (tries : Bool) (z : Sizes) (claim : MapClaim) (v : ℕ) → ends_installed (claim_next tries z claim v) ≡ true → ⊥
+claims_not true z claim v is = neither (is_won claim v) fault.Fill (fault.Claim true) refl refl is
+claims_not false z claim v is = neither (nat_lt (claim.at + (if v == 0 then 1 else 0)) (words_of_bits z.pool)) (fault.Claim true) (fault.Unshare end_of.Starved) refl refl is
+
+walk_sees : (k : SpteKind) (z : Sizes) (gfn : ℕ) (write : Bool) (t : Topics) (pool : ℕ → ℕ) (v : ℕ) → pool (pool_index (table_page t.walk) (entry_index gfn t.walk.level)) ≡ v
+    → SeesEntry (next_of.Goes (walk_next k z gfn write t.walk v)) pool gfn (record t { walk = gone_down (linked_page k) t.walk (entry_index gfn t.walk.level) v })
+walk_sees (entry_kind.Table page) z gfn write t pool v here = λ is. absurd (cc is)
+walk_sees _ z gfn write t pool v here = λ is. here
+
+leaf_sees : (won : Bool) (z : Sizes) (gfn v : ℕ) (t : Topics) (pool : ℕ → ℕ) (cause : FaultEnd) → has_installed cause ≡ false → t.walk.level ≡ 1 → v ≡ pool (pool_index (table_page t.walk) (entry_index gfn t.walk.level))
+    → SeesEntry (next_of.Goes (if won then fault.Unshare end_of.Installed else fault.Unshare cause))
+    (upd pool (pool_index (table_page t.walk) (entry_index gfn t.walk.level)) (if won then leaf_written t else v)) gfn (exchanged won (entry_index gfn t.walk.level) (leaf_written t) t v)
+leaf_sees false z gfn v t pool cause not_ low is = λ ends. absurd (cc (not_, ends))
+leaf_sees true z gfn v t pool cause not_ low is =
+    subst (λ (k : SpteKind). SeesEntry (next_of.Goes (fault.Unshare end_of.Installed)) behind gfn (record t { walk = gone_down (linked_page k) t.walk (entry_index gfn t.walk.level) (leaf_written t); owned = unless_linked (linked_page k) t.owned }))
+    (sym stays) (λ ends. upd_same pool (pool_index (table_page t.walk) (entry_index gfn t.walk.level)) (leaf_written t))
+  where
+    behind : ℕ → ℕ
+    behind = upd pool (pool_index (table_page t.walk) (entry_index gfn t.walk.level)) (leaf_written t)
+
+    stays : kind_of t.walk.level (leaf_written t) ≡ entry_kind.Leaf
+    stays = ap (λ l. kind_of l (leaf_written t)) low
+        ∙ kind_of_leaf 1 (host_frame (word_looked t.host)) (may_write t.search.slot (word_looked t.host)) (host_allows_write (word_looked t.host)) (may_write t.search.slot (word_looked t.host)) (omega arith) (omega arith)
+
+pub fault_sees : (p : FaultPlace) (z : Sizes) (own gfn note : ℕ) (write : Bool) (t : Topics) (words : Area → ℕ → ℕ) → ends_installed p ≡ false → FaultKnows p z gfn write t
+    → SeesEntry (fault_next p z gfn write t (answer_in (part_task (fault_part p gfn t) own t note) words)) (words_after (part_task (fault_part p gfn t) own t note) words area.Pool) gfn
+    (part_topics (fault_part p gfn t) t (answer_in (part_task (fault_part p gfn t) own t note) words))
+fault_sees (fault.Find true) z own gfn note write t words not_ K =
+    let v : ℕ = answer_in (part_task part.Slot own t note) words in
+    λ is. absurd (finds_not gfn write t.search.next (searched t.search v) is)
+fault_sees (fault.Find false) z own gfn note write t words not_ K = λ is. absurd (cc is)
+fault_sees fault.Host z own gfn note write t words not_ K =
+    let v : ℕ = answer_in (part_task (part.Host (page_of t.search.slot gfn)) own t note) words in
+    λ is. absurd (neither (write && not (host_allows_write v)) (fault.End end_of.HostFault) fault.Share refl refl is)
+fault_sees fault.Share z own gfn note write t words not_ K = λ is. absurd (shares_not t.hold (answer_in (part_task (share_part t.hold) own t note) words) is)
+fault_sees (fault.Check at_) z own gfn note write t words not_ K = λ is. absurd (checks_not at_ gfn t (answer_in (part_task (check_part at_) own t note) words) is)
+fault_sees (fault.Walk true) z own gfn note write t words not_ K =
+    let v : ℕ = words area.Pool (pool_index (table_page t.walk) (entry_index gfn t.walk.level)) in
+    walk_sees (kind_of t.walk.level v) z gfn write t (words area.Pool) v refl
+fault_sees (fault.Walk false) z own gfn note write t words not_ K = λ is. absurd (cc is)
+fault_sees (fault.Claim begun) z own gfn note write t words not_ K =
+    let v : ℕ = answer_in (part_task (claim_part begun t.claim) own t note) words in
+    λ is. absurd (claims_not (tries_page begun t.claim) z (at_map_word begun t.claim) v is)
+fault_sees fault.Fill z own gfn note write t words not_ K = λ is. absurd (neither (nat_lt (words_filled t.owned) 512) fault.Fill fault.Link refl refl is)
+fault_sees fault.Link z own gfn note write t words not_ K =
+    let v : ℕ = words area.Pool (pool_index (table_page t.walk) (entry_index gfn t.walk.level)) in
+    λ is. absurd (neither (v == t.walk.entry) (fault.Walk true) (fault.Give (end_of.Retry (Entry (entry_word z gfn t.walk) t.walk.entry v))) refl refl is)
+fault_sees (fault.Give e) z own gfn note write t words not_ K = λ is. absurd (cc (not_, is))
+fault_sees fault.Leaf z own gfn note write t words not_ K =
+    let v : ℕ = words area.Pool (pool_index (table_page t.walk) (entry_index gfn t.walk.level)) in
+    leaf_sees (v == t.walk.entry) z gfn v t (words area.Pool) (end_of.Retry (Entry (entry_word z gfn t.walk) t.walk.entry v)) refl K.3 refl
+fault_sees (fault.Unshare e) z own gfn note write t words not_ K = λ is. absurd (cc (not_, is))
+fault_sees (fault.End e) z own gfn note write t words not_ K = not_
+fault_sees _ z own gfn note write t words not_ K = λ is. absurd (cc is)

@@ -1,0 +1,205 @@
+-- Each step of a line that neither waits nor begins anew leaves it fewer steps, beside other actors too.
+use Rattle.std.proofs.Common.{◌≡◌, ◌⊎◌, inl, inr, ◌<◌, ◌≤◌, ℕ, length, refl, sym, subst, ap, ◌∙◌, arith}
+use Rattle.std.specs.Prelude.{Bool, true, false, ◌&&◌, ◌||◌, Option, Some, None}
+use Rattle.std.proofs.lemmas.Bool.Decides.{nat_tests}
+use Rattle.core_views.specs.declared.answer.Refusal.{Refusal}
+use Rattle.core_views.specs.declared.kind.Kind.{Kind}
+use Rattle.core_views.specs.declared.place.AccessPlace.TheVariants.{Enter, Pause, Root, Walk, Touch, Leave, Fault}
+use Rattle.core_views.specs.declared.place.Place.{Place}
+use Rattle.core_views.specs.declared.place.Place.TheVariants as place
+use Rattle.core_views.specs.declared.sizes.Sizes.{Sizes}
+use Rattle.core_views.specs.declared.topics.Topics.{Topics}
+use Rattle.core_views.specs.declared.trace.Command.{Command}
+use Rattle.core_views.specs.declared.trace.Command.TheVariants.{Access, SetSlot}
+use Rattle.core_views.specs.declared.trace.Line.{Line}
+use Rattle.core_views.specs.Held.{Held}
+use Rattle.core_views.specs.Refusals.{set_refusal}
+use Rattle.core_views.specs.Sizes.{AreSizes, actors_of}
+use Rattle.core_views.specs.SlotSets.{MemorySlots}
+use Rattle.core_views.specs.Slots.{is_write}
+use Rattle.core_views.specs.Traces.{IsCommandFor}
+use Rattle.spte_words.specs.declared.area.Area.{Area}
+use Rattle.spte_words.specs.declared.area.Area.TheVariants as area
+use Rattle.spte_words.specs.declared.spte_kind.SpteKind.{SpteKind}
+use Rattle.spte_words.specs.declared.spte_kind.SpteKind.TheVariants as entry_kind
+use Rattle.spte_words.specs.Areas.{pool_index}
+use Rattle.spte_words.specs.Entries.{kind_of}
+use Rattle.mmu_core.specs.declared.outcome.Outcome.{Outcome}
+use Rattle.mmu_core.specs.declared.outcome.Outcome.TheVariants.{Goes}
+use Rattle.mmu_core.specs.lines.AccessSteps.{walk_next}
+use Rattle.mmu_core.specs.lines.Bounds.{steps_left}
+use Rattle.mmu_core.specs.lines.Delays.{leaves_to_fault, walks_again}
+use Rattle.mmu_core.specs.alone.FaultAlone.{LeadsToLeaf}
+use Rattle.mmu_core.specs.machine.Enabled.{mmu}
+use Rattle.mmu_core.specs.lines.FaultSteps.{allows_access}
+use Rattle.mmu_core.specs.invariant.Laws.{IsSound}
+use Rattle.mmu_core.specs.alone.LineAlone.{hand_left, line_waits}
+use Rattle.mmu_core.specs.machine.Machine.{May, Step, World, answered, effect, hand_in}
+use Rattle.part_steps.specs.PartSteps.{entry_index, table_page}
+use Rattle.mmu_core.specs.lines.SetSlotSteps.{set_slot_first}
+use Rattle.mmu_core.specs.machine.Steps.{delays_at, first_place, has_line, line_at, outcome_at, place_at, standing, task_at}
+use Rattle.mmu_core.specs.machine.Outcomes.{place_after}
+use Rattle.mmu_laws.specs.turns.TurnLaws.{DelaysWaitOrBeginAnew, StaysInstalled, WalksInstalled, begins_anew}
+use Rattle.mmu_core.specs.machine.Turns.{outcome_of}
+use Rattle.mmu_core.specs.machine.View.{View, answer_in, hand_after, view, word_in}
+use Rattle.mmu_core.specs.machine.Worlds.{Reachable}
+use Rattle.mmu_laws.proofs.alone.AloneRuns.{standing_left}
+use Rattle.mmu_laws.proofs.alone.AloneStep.{is_leaf_here}
+use Rattle.mmu_core.proofs.machine.Columns.{upd_same}
+use Rattle.mmu_laws.proofs.turns.InstalledEntries.{AllInstalled, all_installed, standing_installed, walks_installed}
+use Rattle.mmu_core.proofs.lines.KnowsKept.{knows_at, needs_at}
+use Rattle.mmu_core.proofs.invariant.PartBounded.{part_rests_at}
+use Rattle.mmu_core.proofs.start.Starts.{reached_good}
+use Rattle.mmu_laws.proofs.turns.StayNearer.{Nearer, place_nearer}
+use Rattle.mmu_core.proofs.machine.Which.{is_next}
+use Rattle.mmu_core.proofs.machine.Worlds.{Takes, good_step, takes_line}
+
+-- ---- a stay behind an installed entry finds it
+
+misses_never : (k : SpteKind) (allowed again : Bool) (pool : ℕ → ℕ) (level page gfn : ℕ) (write : Bool) (v : ℕ) → pool (pool_index page (entry_index gfn level)) ≡ v → kind_of level v ≡ k → allows_access write v ≡ allowed
+    → (again ≡ true → LeadsToLeaf pool level page gfn write) → (again && leaves_to_fault (Goes (place.Access (walk_next again k allowed)))) ≡ false
+misses_never k allowed false pool level page gfn write v here is may leads = refl
+misses_never (entry_kind.Table below) allowed true pool level page gfn write v here is may leads = refl
+misses_never entry_kind.Leaf true true pool level page gfn write v here is may leads = refl
+misses_never entry_kind.Leaf false true pool level page gfn write v here is may leads = let allows = (is_leaf_here pool level page gfn v write entry_kind.Leaf here is refl (leads refl)).1 in absurd (cc (may, allows))
+misses_never entry_kind.Absent allowed true pool level page gfn write v here is may leads = let leaf = (is_leaf_here pool level page gfn v write entry_kind.Absent here is refl (leads refl)).0 in absurd (cc leaf)
+misses_never entry_kind.Frozen allowed true pool level page gfn write v here is may leads = let leaf = (is_leaf_here pool level page gfn v write entry_kind.Frozen here is refl (leads refl)).0 in absurd (cc leaf)
+
+-- So a step is a delay only where it waits or begins anew.
+no_miss : (p : Place) (c : Command) (h : Held) (words : Area → ℕ → ℕ) → WalksInstalled p c words h.topics → (walks_again p && leaves_to_fault (outcome_at p c h (answer_in (task_at p c h) words))) ≡ false
+no_miss (place.Access (Walk again)) (Access gfn word op) h words walks =
+    let v : ℕ = words area.Pool (pool_index (table_page h.topics.walk) (entry_index gfn h.topics.walk.level)) in
+    misses_never (kind_of h.topics.walk.level v) (allows_access (is_write op) v) again (words area.Pool) h.topics.walk.level (table_page h.topics.walk) gfn (is_write op) v refl refl refl walks
+no_miss (place.Access (Walk true)) (SetSlot id slot) h words walks = refl
+no_miss (place.Access (Walk false)) (SetSlot id slot) h words walks = refl
+no_miss (place.Access (Enter again)) c h words walks = refl
+no_miss (place.Access (Pause again)) c h words walks = refl
+no_miss (place.Access (Root again)) c h words walks = refl
+no_miss (place.Access Touch) c h words walks = refl
+no_miss (place.Access (Leave how)) c h words walks = refl
+no_miss (place.Access (Fault p)) c h words walks = refl
+no_miss _ c h words walks = refl
+
+none_of : (a b c : Bool) → a ≡ false → b ≡ false → c ≡ false → (a || (b || c)) ≡ false
+none_of true b c first second third = absurd (cc first)
+none_of false true c first second third = absurd (cc second)
+none_of false false c first second third = third
+
+one_of : (a b c : Bool) → (a || (b || c)) ≡ true → c ≡ false → (a ≡ true) ⊎ (b ≡ true)
+one_of true b c is none = inl refl
+one_of false true c is none = inr refl
+one_of false false c is none = absurd (cc (is, none))
+
+-- No line begins with a delay: what is so of the place of its first step is so of the one at which it stands.
+begins_at_once : (o : Option Refusal) (t : Topics) (v : ℕ) → line_waits (place.SetSlot (set_slot_first o)) t v ≡ true → ⊥
+begins_at_once (Some refusal) t v is = cc is
+begins_at_once None t v is = cc is
+
+first_goes : (y : Sizes) (slots : MemorySlots) (c : Command) (t : Topics) (v : ℕ) → line_waits (first_place y slots c) t v ≡ true → ⊥
+first_goes y slots (Access gfn word op) t v is = cc is
+first_goes y slots (SetSlot id slot) t v is = begins_at_once (set_refusal y.pages id slot slots) t v is
+
+first_no_end : (y : Sizes) (slots : MemorySlots) (c : Command) → begins_anew (first_place y slots c) ≡ true → ⊥
+first_no_end y slots (Access gfn word op) is = cc is
+first_no_end y slots (SetSlot id slot) is = cc is
+
+abbrev WaitsOrBegins : Place → Topics → ℕ → Type 0
+WaitsOrBegins p t v = (line_waits p t v ≡ true) ⊎ (begins_anew p ≡ true)
+
+where_it_stands : (q : Place) (y : Sizes) (slots : MemorySlots) (c : Command) (t : Topics) (v : ℕ) → WaitsOrBegins (standing q y slots c) t v → WaitsOrBegins q t v
+where_it_stands place.Between y slots c t v (inl waits) = absurd (first_goes y slots c t v waits)
+where_it_stands place.Between y slots c t v (inr anew) = absurd (first_no_end y slots c anew)
+where_it_stands _ y slots c t v is = is
+
+-- ---- from world to world
+
+has_left : (h : Held) → has_line h ≡ true → length h.answers < length h.lines
+has_left h has = grind (arith, nat_tests)
+
+-- The hand behind a step stands there, with these topics.
+nearer_hand : (g : Held) (o : Outcome) (p : Place) (y : Sizes) (n m : ℕ) → o ≡ Goes p → g.state.place ≡ place_after o → g.state.sizes ≡ y → n ≤ m → Nearer o y g.topics n → hand_left g < m
+nearer_hand g o p y n m is stands sizes le N =
+    let less : steps_left p y g.topics < n = subst (λ (q : Outcome). Nearer q y g.topics n) is N in
+    let left : hand_left g ≡ steps_left p y g.topics = ap (λ q. steps_left q g.state.sizes g.topics) (stands ∙ ap place_after is) ∙ ap (λ (x : Sizes). steps_left p x g.topics) sizes in
+    omega (arith, less, left, le)
+
+-- A step of a line that may be made, and the hand behind it.
+module _ (z : Sizes) (w : World Held) (s : Step Kind) (G : IsSound z w) (may : May mmu w s) (has : has_line (hand_in mmu w s.actor) ≡ true) where
+  abbrev a : ℕ
+  a = s.actor
+
+  abbrev h : Held
+  h = hand_in mmu w a
+
+  abbrev line : Line
+  line = line_at h.state.place h
+
+  abbrev stood : Place
+  stood = place_at h.state.place h
+
+  abbrev words : Area → ℕ → ℕ
+  words = word_in z w
+
+  abbrev x : ℕ
+  x = answer_in (task_at stood line.command h) words
+
+  abbrev after : Held
+  after = hand_after line line.command stood h x
+
+  taken : Takes z w s h
+  taken = takes_line z w s G may (is_next h s.kind may.enabled has)
+
+  pub there : a < actors_of z
+  there = taken.is_step.there
+
+  sizes : h.state.sizes ≡ z
+  sizes = (G.holds.lines a there).sizes
+
+  pub hand_behind : hand_in mmu (effect mmu w s) a ≡ after
+  hand_behind = ap (λ (v : View). v.hand a) taken.leads ∙ upd_same (hand_in mmu w) a after
+
+  pub same_sizes : after.state.sizes ≡ h.state.sizes
+  same_sizes = sym (ap (λ (g : Held). g.state.sizes) hand_behind) ∙ ((good_step z w s G may).holds.lines a there).sizes ∙ sym sizes
+
+  -- where the line stands it has no more left than the hand
+  pub stood_left : steps_left stood h.state.sizes h.topics ≤ hand_left h
+  stood_left = standing_left h.state.place h.state.sizes h.slots line.command h.topics (subst AreSizes (sym sizes) G.holds.sizes)
+
+  -- What is no delay leaves fewer steps.
+  pub nearer_here : delays_at stood line.command h x ≡ false → Nearer (outcome_at stood line.command h x) h.state.sizes after.topics (steps_left stood h.state.sizes h.topics)
+  nearer_here on =
+      let S = taken.is_step in
+      place_nearer stood line.command z h words S.begun (subst (λ y. IsCommandFor z y line.command) S.own S.allowed) (part_rests_at z (view z w) a G.holds G.topics there) (knows_at z (view z w) a G.holds there S.left)
+      (needs_at z (view z w) a line line.command stood S G.holds G.topics) on
+
+  -- The stay behind an installed entry finds it.
+  stay_finds : AllInstalled z (view z w) → (walks_again stood && leaves_to_fault (outcome_at stood line.command h x)) ≡ false
+  stay_finds A =
+      let stays : StaysInstalled stood line.command words = standing_installed h.state.place h.state.sizes h.slots h words (A a there) in
+      no_miss stood line.command h words (walks_installed stood line.command z w a G there (knows_at z (view z w) a G.holds there taken.is_step.left) stays)
+
+  delay_is : AllInstalled z (view z w) → delays_at stood line.command h (answered mmu w s.kind) ≡ true → WaitsOrBegins h.state.place h.topics (answered mmu w s.kind)
+  delay_is A delays =
+      where_it_stands h.state.place h.state.sizes h.slots line.command h.topics (answered mmu w s.kind)
+      (one_of (line_waits stood h.topics (answered mmu w s.kind)) (begins_anew stood) (walks_again stood && leaves_to_fault (outcome_at stood line.command h (answered mmu w s.kind))) delays
+      (ap (λ v. walks_again stood && leaves_to_fault (outcome_at stood line.command h v)) taken.answers ∙ stay_finds A))
+
+  turn_nearer : AllInstalled z (view z w) → line_waits stood h.topics (answered mmu w s.kind) ≡ false → begins_anew stood ≡ false → (p : Place) → outcome_of h (answered mmu w s.kind) ≡ Goes p
+      → hand_left (hand_in mmu (effect mmu w s) a) < hand_left h
+  turn_nearer A goes on p out =
+      let none : delays_at stood line.command h x ≡ false = none_of (line_waits stood h.topics x) (begins_anew stood) (walks_again stood && leaves_to_fault (outcome_at stood line.command h x)) (ap (line_waits stood h.topics) (sym taken.answers) ∙ goes) on (stay_finds A) in
+      subst (λ (g : Held). hand_left g < hand_left h) (sym hand_behind)
+      (nearer_hand after (outcome_at stood line.command h x) p h.state.sizes (steps_left stood h.state.sizes h.topics) (hand_left h) (ap (outcome_at stood line.command h) (sym taken.answers) ∙ out) refl same_sizes stood_left (nearer_here none))
+
+pub reached_installed : (w : World Held) (r : Reachable w) → AllInstalled r.sizes (view r.sizes w)
+reached_installed w r = subst (λ (u : World Held). AllInstalled r.sizes (view r.sizes u)) r.leads.ends (all_installed r.sizes r.lines r.start r.leads.steps r.is_start r.leads.legal)
+
+pub turns_nearer : (w : World Held) (s : Step Kind) → Reachable w → May mmu w s → has_line (hand_in mmu w s.actor) ≡ true
+    → line_waits (place_at (hand_in mmu w s.actor).state.place (hand_in mmu w s.actor)) (hand_in mmu w s.actor).topics (answered mmu w s.kind) ≡ false
+    → begins_anew (place_at (hand_in mmu w s.actor).state.place (hand_in mmu w s.actor)) ≡ false
+    → (p : Place) → outcome_of (hand_in mmu w s.actor) (answered mmu w s.kind) ≡ Goes p
+    → hand_left (hand_in mmu (effect mmu w s) s.actor) < hand_left (hand_in mmu w s.actor)
+turns_nearer w s r may has goes on p out = turn_nearer r.sizes w s (reached_good w r) may has (reached_installed w r) goes on p out
+
+pub delays_wait_or_begin_anew : DelaysWaitOrBeginAnew
+delays_wait_or_begin_anew w s r may has delays = delay_is r.sizes w s (reached_good w r) may has (reached_installed w r) delays

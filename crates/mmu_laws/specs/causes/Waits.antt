@@ -1,0 +1,105 @@
+-- Which steps of the parts wait for another actor, and why, in every list of steps: what the step finds, or what its actor found before it.
+use Rattle.std.specs.Prelude.{◌≡◌, ◌≢◌, ◌<◌, ℕ, true, false, List, [], ◌∷◌, ◌++◌}
+use Rattle.core_views.specs.declared.kind.Kind.{Kind}
+use Rattle.core_views.specs.declared.kind.StepKind.TheVariants as kind
+use Rattle.core_views.specs.declared.sizes.Sizes.{Sizes}
+use Rattle.core_views.specs.declared.topics.Hold.TheVariants.{Loose, Exclusive}
+use Rattle.core_views.specs.declared.topics.MapClaim.{MapClaim}
+use Rattle.core_views.specs.declared.topics.Stay.TheVariants.{Outside}
+use Rattle.core_views.specs.declared.trace.Line.{Line}
+use Rattle.core_views.specs.Held.{Held}
+use Rattle.core_views.specs.Kinds.{code_of}
+use Rattle.core_views.specs.Sizes.{actors_of}
+use Rattle.spte_words.specs.declared.area.Area.TheVariants as area
+use Rattle.spte_words.specs.Areas.{place}
+use Rattle.spte_words.specs.Bits.{has_bit}
+use Rattle.part_steps.specs.declared.part_step.PartStep.{PartStep}
+use Rattle.part_steps.specs.declared.part_step.PartStep.TheVariants as part
+use Rattle.part_steps.specs.PartSteps.{PartNeeds, part_kind}
+use Rattle.part_steps.specs.Tasks.{map_of}
+use Rattle.part_steps.specs.TopicSteps.{has_writer, in_section, tried_bit}
+use Rattle.mmu_laws.specs.causes.Causes.{Finds, HasMade, WasChanged}
+use Rattle.mmu_core.specs.machine.Enabled.{mmu}
+use Rattle.mmu_core.specs.machine.Machine.{Legal, Step, World, answered, found, hand_in, run}
+use Rattle.mmu_core.specs.lines.PartWaits.{part_waits, word_owed}
+use Rattle.mmu_core.specs.machine.Worlds.{IsStart}
+
+-- the words that steps wait at: that of the lock, that of the open invalidations' count, and word i of the pool's map
+abbrev pub lock_word : Sizes → ℕ
+lock_word z = place (map_of z) area.Lock 0
+
+abbrev pub count_word : Sizes → ℕ
+count_word z = place (map_of z) area.Count 0
+
+abbrev pub pool_word : Sizes → ℕ → ℕ
+pool_word z i = place (map_of z) area.PoolMap i
+
+-- The step is none of this actor's on this word.
+abbrev pub IsOffWord : ℕ → ℕ → Step Kind → Type 0
+IsOffWord actor word s = s.actor ≡ actor → s.kind.word ≢ word
+
+-- It is this actor's try to share the lock, and finds a writer in this word of the lock: in this world another actor of the machine has the
+-- lock alone.
+pub record FindsWriter (z : Sizes) (actor word : ℕ) (w : World Held) (s : Step Kind) : Type 0 where
+  pub shares : s.kind.code ≡ code_of kind.Share
+  pub finds : Finds actor (lock_word z) word w s
+  pub tells : has_writer word ≡ true
+  pub other : ℕ
+  pub there : other < actors_of z
+  pub is_other : other ≢ actor
+  pub alone : (hand_in mmu w other).topics.hold ≡ Exclusive
+
+-- With its last step on the lock the actor tried to share it, and found a writer in this word of it.
+abbrev pub FoundWriter : Sizes → ℕ → ℕ → World Held → List (Step Kind) → Type 0
+FoundWriter z actor word w ss = HasMade (FindsWriter z actor word) (IsOffWord actor (lock_word z)) w ss
+
+-- With its last step on the count of open invalidations the actor found this number.
+abbrev pub FoundCount : Sizes → ℕ → ℕ → World Held → List (Step Kind) → Type 0
+FoundCount z actor count w ss = HasMade (Finds actor (count_word z) count) (IsOffWord actor (count_word z)) w ss
+
+-- The page that the actor's claim tries was free where its last step on this word of the map found it, another actor's step changed the word
+-- since, and the page isn't free now, where v is found.
+abbrev pub PageIsTaken : Sizes → ℕ → MapClaim → ℕ → World Held → List (Step Kind) → Type 0
+PageIsTaken z actor claim v w ss =
+    WasChanged (IsOffWord actor (pool_word z claim.at)) actor (pool_word z claim.at) claim.seen w ss
+    × (has_bit (tried_bit claim) claim.seen ≡ true)
+    × (has_bit (tried_bit claim) v ≡ false)
+
+-- The step finds the lock taken: another number than 0 stands in its word, and in this world another actor of the machine has the lock as a reader or
+-- alone, or has yet to take itself out of the readers.
+pub record FindsLockTaken (z : Sizes) (w : World Held) (s : Step Kind) : Type 0 where
+  pub on : s.kind.word ≡ lock_word z
+  pub taken : found mmu w s.kind ≢ 0
+  pub other : ℕ
+  pub there : other < actors_of z
+  pub is_other : other ≢ s.actor
+  pub holds : (hand_in mmu w other).topics.hold ≢ Loose
+
+-- The step finds another actor inside: the state word of this actor of the machine says so, and in this world it is in the guest or in a section.
+pub record FindsOtherInside (z : Sizes) (w : World Held) (s : Step Kind) : Type 0 where
+  pub other : ℕ
+  pub there : other < actors_of z
+  pub is_other : other ≢ s.actor
+  pub on : s.kind.word ≡ place (map_of z) area.State other
+  pub tells : in_section (found mmu w s.kind) ≡ true
+  pub inside : (hand_in mmu w other).topics.stay ≢ Outside
+
+-- Why a step of a part waits, that is made after these steps: its actor found a writer with the try for the lock that it takes back; the page that it
+-- tries was taken; it finds the lock taken; it gives the lock back, under which its actor found invalidations open; or it finds another actor in the
+-- guest or in a section.
+abbrev pub StepWaitIsCaused : PartStep → Sizes → World Held → List (Step Kind) → Step Kind → Type 0
+StepWaitIsCaused part.Unshare z w ss s = FoundWriter z s.actor (word_owed (hand_in mmu (run mmu w ss) s.actor).topics.hold) w ss
+StepWaitIsCaused part.Claim z w ss s = PageIsTaken z s.actor (hand_in mmu (run mmu w ss) s.actor).topics.claim (answered mmu (run mmu w ss) s.kind) w ss
+StepWaitIsCaused part.Exclude z w ss s = FindsLockTaken z (run mmu w ss) s
+StepWaitIsCaused part.Release z w ss s =
+    FoundCount z s.actor (hand_in mmu (run mmu w ss) s.actor).topics.invalidations.count w ss × (0 < (hand_in mmu (run mmu w ss) s.actor).topics.invalidations.count)
+StepWaitIsCaused (part.Watch index) z w ss s = FindsOtherInside z (run mmu w ss) s
+StepWaitIsCaused _ z w ss s = ⊥
+
+-- From every start: each step of a part that waits has its cause, whoever makes it, in the steps before it or in what another actor holds as it is made.
+abbrev pub StepWaitsAreByCause : Type 0
+StepWaitsAreByCause =
+    (z : Sizes) (lines : List Line) (w : World Held) (ss : List (Step Kind)) (s : Step Kind) (step : PartStep) (note : ℕ) → IsStart z lines w → Legal mmu w (ss ++ s ∷ [])
+    → s.kind ≡ part_kind (hand_in mmu (run mmu w ss) s.actor) step note → PartNeeds step (hand_in mmu (run mmu w ss) s.actor)
+    → part_waits step (hand_in mmu (run mmu w ss) s.actor).topics (answered mmu (run mmu w ss) s.kind) ≡ true
+    → StepWaitIsCaused step z w ss s

@@ -1,0 +1,2 @@
+pub mod FlatInvariant
+pub mod Histories

@@ -1,0 +1,91 @@
+-- The words and hands as flat guest memory: the facts that the words stand for, and the lines that the hands have under way.
+use Rattle.std.specs.Prelude.{◌≡◌, ◌<◌, ◌==◌, ℕ, All, Some, true, false, not}
+use Rattle.core_views.specs.declared.place.AccessPlace.{AccessPlace}
+use Rattle.core_views.specs.declared.place.AccessPlace.TheVariants as access
+use Rattle.core_views.specs.declared.place.FaultEnd.{FaultEnd}
+use Rattle.core_views.specs.declared.place.FaultEnd.TheVariants as end_of
+use Rattle.core_views.specs.declared.place.FaultPlace.{FaultPlace}
+use Rattle.core_views.specs.declared.place.FaultPlace.TheVariants as fault
+use Rattle.core_views.specs.declared.place.Leaving.TheVariants as leaving
+use Rattle.core_views.specs.declared.place.Place.{Place}
+use Rattle.core_views.specs.declared.place.Place.TheVariants as place
+use Rattle.core_views.specs.declared.place.SetSlotPlace.{SetSlotPlace}
+use Rattle.core_views.specs.declared.place.SetSlotPlace.TheVariants.{Release, Watch, Clear, Give}
+use Rattle.core_views.specs.declared.sizes.Sizes.{Sizes}
+use Rattle.core_views.specs.declared.topics.SlotSearch.{SlotSearch}
+use Rattle.core_views.specs.declared.topics.Topics.{Topics}
+use Rattle.core_views.specs.declared.trace.Command.{Command}
+use Rattle.core_views.specs.declared.trace.Command.TheVariants.{Access, SetSlot}
+use Rattle.core_views.specs.declared.trace.Op.{Op}
+use Rattle.core_views.specs.Flat.{Facts, Flat, LineUnderWay, Notes, Fresh, HasAccessed, HasSetSlot, Idle}
+use Rattle.core_views.specs.Held.{Held}
+use Rattle.core_views.specs.Host.{HostMap, own_frames}
+use Rattle.core_views.specs.Lawful.{SawForbidden, SawNoPage}
+use Rattle.core_views.specs.Sizes.{actors_of}
+use Rattle.core_views.specs.Slots.{contains}
+use Rattle.spte_words.specs.Areas.{content_index}
+use Rattle.spte_words.specs.declared.area.Area.TheVariants as area
+use Rattle.part_steps.specs.SlotWords.{memory_slots_below, slots_below}
+use Rattle.part_steps.specs.Tasks.{map_of}
+use Rattle.mmu_core.specs.machine.View.{View}
+
+-- The slots are the live ones of the published set, in this page, each with its dirty log or without; each host page is at its own frame;
+-- the content words are memory; and a pause is set where its word isn't 0.
+pub record Refines (z : Sizes) (set : ℕ) (pool content : ℕ → ℕ) (pause : ℕ) (f : Facts) : Type 0 where
+  pub slots : f.slots ≡ memory_slots_below pool set 32
+  pub host : ◌≡◌ {A = HostMap} f.host own_frames
+  pub memory : (p j : ℕ) → p < z.pages → j < z.words → f.memory p j ≡ content (content_index (map_of z) p j)
+  pub paused : f.paused ≡ not (pause == 0)
+
+-- The slots that the line looked at are those of the slot set that its search holds, and the ones that the search has passed don't hold
+-- the guest frame.
+pub record NotedSlots (pool : ℕ → ℕ) (notes : Notes) (search : SlotSearch) (gfn : ℕ) : Type 0 where
+  pub set : ℕ
+  pub held : search.set ≡ Some set
+  pub noted : notes.slots ≡ Some (slots_below pool set 32)
+  pub passed : All (λ e. e.0 < search.id → contains gfn e.1 ≡ false) (slots_below pool set 32)
+
+-- what the line has noted where its fault is to end so
+abbrev pub EndNoted : FaultEnd → ℕ → Op → Notes → Type 0
+EndNoted end_of.Mmio gfn op notes = SawNoPage notes gfn op
+EndNoted end_of.HostFault gfn op notes = SawForbidden notes gfn op
+EndNoted _ gfn op notes = Unit {0}
+
+-- what the line has noted: while it searches the slots, and once its fault is to end
+abbrev pub NotedAt : (ℕ → ℕ) → FaultPlace → ℕ → Op → Topics → Notes → Type 0
+NotedAt pool (fault.Find true) gfn op t notes = NotedSlots pool notes t.search gfn
+NotedAt pool (fault.Give e) gfn op t notes = EndNoted e gfn op notes
+NotedAt pool (fault.Unshare e) gfn op t notes = EndNoted e gfn op notes
+NotedAt pool (fault.End e) gfn op t notes = EndNoted e gfn op notes
+NotedAt pool _ gfn op t notes = Unit {0}
+
+-- The line has done nothing yet, and has looked at the pause, which wasn't set.
+abbrev pub Runs : LineUnderWay → Type 0
+Runs u = (u.stage ≡ Fresh) × (u.notes.paused ≡ Some false)
+
+-- An access has done nothing yet, up to its touch; from its first stay on it has looked at the pause. Behind the touch it has reached its word.
+abbrev pub AccessUnder : (ℕ → ℕ) → AccessPlace → ℕ → Op → Topics → LineUnderWay → Type 0
+AccessUnder pool (access.Enter again) gfn op t u = u.stage ≡ Fresh
+AccessUnder pool (access.Pause again) gfn op t u = u.stage ≡ Fresh
+AccessUnder pool (access.Fault p) gfn op t u = Runs u × NotedAt pool p gfn op t u.notes
+AccessUnder pool (access.Leave (leaving.Reached frame value)) gfn op t u = u.stage ≡ HasAccessed frame value
+AccessUnder pool _ gfn op t u = Runs u
+
+-- A slot setting has done nothing yet, up to its publication; behind it, it has set its slot.
+abbrev pub SettingUnder : SetSlotPlace → LineUnderWay → Type 0
+SettingUnder Release u = u.stage ≡ HasSetSlot
+SettingUnder Watch u = u.stage ≡ HasSetSlot
+SettingUnder Clear u = u.stage ≡ HasSetSlot
+SettingUnder Give u = u.stage ≡ HasSetSlot
+SettingUnder _ u = u.stage ≡ Fresh
+
+-- The hand's line under way is the flat one.
+abbrev pub UnderIs : (ℕ → ℕ) → Place → Command → Held → LineUnderWay → Type 0
+UnderIs pool place.Between command h u = u.stage ≡ Idle
+UnderIs pool (place.Access p) (Access gfn word op) h u = (u.line ≡ h.state.line) × AccessUnder pool p gfn op h.topics u
+UnderIs pool (place.SetSlot p) (SetSlot id slot) h u = (u.line ≡ h.state.line) × SettingUnder p u
+UnderIs pool _ _ h u = ⊥
+
+pub record FlatInvariant (z : Sizes) (v : View) (f : Flat) : Type 0 where
+  pub refines : Refines z (v.words area.Slots 0) (v.words area.Pool) (v.words area.Content) (v.words area.Pause 0) f.facts
+  pub under : (i : ℕ) → i < actors_of z → UnderIs (v.words area.Pool) (v.hand i).state.place (v.hand i).state.line.command (v.hand i) (f.under (v.hand i).state.actor)

@@ -1,0 +1,60 @@
+-- Which page a leaf is of and who may write by it, as slots and host say (tdp_mmu.c, `tdp_mmu_map_handle_target_level`; mmu.rst, "Shadow pages").
+use Rattle.std.specs.Prelude.{◌≡◌, ◌^◌, ◌<◌, ◌&&◌, ℕ, All, true, Some, is_some}
+use Rattle.core_views.specs.declared.place.AccessPlace.TheVariants.{Touch}
+use Rattle.core_views.specs.declared.place.Place.TheVariants as place
+use Rattle.core_views.specs.declared.sizes.Sizes.{Sizes}
+use Rattle.core_views.specs.declared.trace.Command.TheVariants.{Access}
+use Rattle.core_views.specs.declared.trace.Op.{Op}
+use Rattle.core_views.specs.declared.trace.Op.TheVariants.{Read}
+use Rattle.core_views.specs.Held.{Held}
+use Rattle.core_views.specs.Sizes.{actors_of}
+use Rattle.core_views.specs.Slots.{is_write, page_behind}
+use Rattle.spte_words.specs.declared.area.Area.TheVariants as area
+use Rattle.spte_words.specs.declared.spte_kind.SpteKind.TheVariants as entry_kind
+use Rattle.spte_words.specs.Entries.{can_write, frame_in, host_writable, kind_of, mmu_writable}
+use Rattle.spte_words.specs.HostWords.{host_allows_write, host_frame}
+use Rattle.mmu_core.specs.machine.Enabled.{mmu}
+use Rattle.mmu_core.specs.alone.FaultAlone.{LeadsTo}
+use Rattle.mmu_core.specs.lines.FaultSteps.{allows_access}
+use Rattle.mmu_core.specs.invariant.Laws.{IsSound}
+use Rattle.mmu_core.specs.machine.Machine.{World, hand_in}
+use Rattle.part_steps.specs.PartSteps.{IsOver, table_page}
+use Rattle.part_steps.specs.SlotWords.{slots_below}
+use Rattle.mmu_core.specs.machine.View.{word_in}
+
+-- The leaf is of the page that the live slots of the published set give the guest frame, and names the frame that this page's host word
+-- names. It allows writes exactly where the slots give a write its page too and the host allows writes to this page.
+pub record LeafAgrees (set : ℕ) (pool host : ℕ → ℕ) (gfn leaf : ℕ) : Type 0 where
+  pub page : ℕ
+  pub behind : page_behind (slots_below pool set 32) gfn Read ≡ Some page
+  pub frame : frame_in leaf ≡ host_frame (host page)
+  pub writes : (op : Op) → is_write op ≡ true → can_write leaf ≡ (host_allows_write (host page) && is_some (page_behind (slots_below pool set 32) gfn op))
+  pub host_bit : host_writable leaf ≡ host_allows_write (host page)
+  pub mmu_bit : mmu_writable leaf ≡ can_write leaf
+
+-- In every sound world: each leaf to which links lead a guest frame from the root agrees.
+abbrev pub LeavesAgree : Type 0
+LeavesAgree =
+    (z : Sizes) (w : World Held) (gfn entry : ℕ) → IsSound z w → gfn < 2 ^ 36
+    → LeadsTo (word_in z w area.Pool) 4 (word_in z w area.Root 0) gfn entry → kind_of 1 entry ≡ entry_kind.Leaf
+    → LeafAgrees (word_in z w area.Slots 0) (word_in z w area.Pool) (word_in z w area.Host) gfn entry
+
+-- So does each leaf to which links lead a guest frame from the table that an actor's walk has come to, where this table is over it.
+abbrev pub HeldLeavesAgree : Type 0
+HeldLeavesAgree =
+    (z : Sizes) (w : World Held) (actor gfn entry : ℕ) → IsSound z w → actor < actors_of z → IsOver gfn (hand_in mmu w actor).topics.walk
+    → LeadsTo (word_in z w area.Pool) (hand_in mmu w actor).topics.walk.level (table_page (hand_in mmu w actor).topics.walk) gfn entry → kind_of 1 entry ≡ entry_kind.Leaf
+    → LeafAgrees (word_in z w area.Slots 0) (word_in z w area.Pool) (word_in z w area.Host) gfn entry
+
+-- Each translation that an actor has cached agrees.
+abbrev pub CachedLeavesAgree : Type 0
+CachedLeavesAgree =
+    (z : Sizes) (w : World Held) (actor : ℕ) → IsSound z w → actor < actors_of z
+    → All (λ t. (t.level ≡ 1) × LeafAgrees (word_in z w area.Slots 0) (word_in z w area.Pool) (word_in z w area.Host) t.gfn t.leaf) (hand_in mmu w actor).cached.items
+
+-- The leaf by which an access is about to touch agrees, and allows the access.
+abbrev pub UsedLeavesAgree : Type 0
+UsedLeavesAgree =
+    (z : Sizes) (w : World Held) (actor gfn word : ℕ) (op : Op) → IsSound z w → actor < actors_of z
+    → (hand_in mmu w actor).state.place ≡ place.Access Touch → (hand_in mmu w actor).state.line.command ≡ Access gfn word op
+    → LeafAgrees (word_in z w area.Slots 0) (word_in z w area.Pool) (word_in z w area.Host) gfn (hand_in mmu w actor).state.leaf × (allows_access (is_write op) (hand_in mmu w actor).state.leaf ≡ true)

@@ -1,0 +1,101 @@
+-- What the numbers of a step tell: of which area its word is, whether its line ends with it, and what it leaves of what is cached.
+use Rattle.std.specs.Prelude.{◌≡◌, ◌<◌, ◌+◌, ◌⊎◌, ℕ, Bool, true, false, [], ◌==◌, if◌then◌else◌}
+use Rattle.circular_buffer.specs.Buffer.{Buffer}
+use Rattle.core_views.specs.declared.cache.Translation.{Translation}
+use Rattle.core_views.specs.declared.kind.Kind.{Kind}
+use Rattle.core_views.specs.declared.kind.StepKind.{StepKind}
+use Rattle.core_views.specs.declared.kind.StepKind.TheVariants as kind
+use Rattle.core_views.specs.declared.place.Place.{Place}
+use Rattle.core_views.specs.declared.place.Place.TheVariants.{SetSlot}
+use Rattle.core_views.specs.declared.place.SetSlotPlace.TheVariants.{Claim}
+use Rattle.core_views.specs.declared.sizes.Sizes.{Sizes}
+use Rattle.core_views.specs.Held.{Held}
+use Rattle.core_views.specs.Kinds.{kind_named}
+use Rattle.spte_words.specs.declared.area.Area.{Area}
+use Rattle.spte_words.specs.declared.area.Area.TheVariants as area
+use Rattle.spte_words.specs.Areas.{place, size_of}
+use Rattle.mmu_core.specs.declared.outcome.Outcome.{Outcome}
+use Rattle.mmu_core.specs.lines.AccessSteps.{ends_with}
+use Rattle.mmu_core.specs.lines.Cached.{asks_flush, with_leaf}
+use Rattle.mmu_core.specs.machine.Enabled.{Enabled}
+use Rattle.mmu_core.specs.machine.Steps.{has_line, next, place_at}
+use Rattle.part_steps.specs.Tasks.{map_of}
+use Rattle.part_steps.specs.TopicSteps.{map_ends}
+use Rattle.mmu_core.specs.machine.Turns.{outcome_of}
+
+-- The words that are loaded as control words: those of the machine's control, and those of the pool's map.
+abbrev pub IsControl : Area → Type 0
+IsControl area.Root = Unit {0}
+IsControl area.Slots = Unit {0}
+IsControl area.Seq = Unit {0}
+IsControl area.Count = Unit {0}
+IsControl area.RangeStart = Unit {0}
+IsControl area.RangeEnd = Unit {0}
+IsControl area.Pause = Unit {0}
+IsControl area.PoolMap = Unit {0}
+IsControl _ = ⊥
+
+-- Steps of the kind are on words of this area.
+abbrev pub IsOn : StepKind → Area → Type 0
+IsOn kind.Enter a = a ≡ area.State
+IsOn kind.Leave a = a ≡ area.State
+IsOn kind.Begin a = a ≡ area.State
+IsOn kind.End a = a ≡ area.State
+IsOn kind.Watch a = a ≡ area.State
+IsOn kind.Control a = IsControl a
+IsOn kind.Share a = a ≡ area.Lock
+IsOn kind.Unshare a = a ≡ area.Lock
+IsOn kind.Exclude a = a ≡ area.Lock
+IsOn kind.Release a = a ≡ area.Lock
+IsOn kind.Claim a = a ≡ area.PoolMap
+IsOn kind.Give a = a ≡ area.PoolMap
+IsOn kind.Publish a = a ≡ area.Slots
+IsOn kind.Fill a = (a ≡ area.Pool) ⊎ (a ≡ area.Role)
+IsOn kind.Slot a = a ≡ area.Pool
+IsOn kind.Walk a = a ≡ area.Pool
+IsOn kind.Swap a = a ≡ area.Pool
+IsOn kind.Host a = a ≡ area.Host
+IsOn kind.Read a = a ≡ area.Content
+IsOn kind.Write a = a ≡ area.Content
+IsOn kind.Add a = a ≡ area.Content
+
+-- The step's word is one of an area of its kind.
+pub record IsOnItsArea (z : Sizes) (k : Kind) : Type 0 where
+  pub area : Area
+  pub index : ℕ
+  pub there : index < size_of (map_of z) area
+  pub at : k.word ≡ place (map_of z) area index
+  pub of_kind : IsOn (kind_named k.code) area
+
+-- Each step that a hand allows is so, a line's or a part's.
+abbrev pub StepsAreOnTheirAreas : Type 0
+StepsAreOnTheirAreas = (h : Held) (k : Kind) → Enabled h k → IsOnItsArea h.state.sizes k
+
+-- The step of this place is a slot setting's load of the last word of the pool's map.
+pub record LoadsLastWord (p : Place) (z : Sizes) (k : Kind) : Type 0 where
+  pub begun : Bool
+  pub place_is : p ≡ SetSlot (Claim begun)
+  pub loads : kind_named k.code ≡ kind.Control
+  pub last : k.word + 1 ≡ map_ends z
+
+-- The note of a step that found v is 1 where its line is answered with it, and 0 where the line goes on; but that of the load of the last
+-- word of the map is 1, and the line is answered with this load exactly where it found 0.
+pub record NoteTells (p : Place) (z : Sizes) (k : Kind) (o : Outcome) (v : ℕ) : Type 0 where
+  pub tells : (k.note ≡ ends_with o) ⊎ LoadsLastWord p z k
+  pub last : LoadsLastWord p z k → (k.note ≡ 1) × (ends_with o ≡ (if v == 0 then 1 else 0))
+
+-- So are the notes of all lines' steps, whatever they find.
+abbrev pub NotesTellEnds : Type 0
+NotesTellEnds = (h : Held) (k : Kind) (v : ℕ) → Enabled h k → has_line h ≡ true → NoteTells (place_at h.state.place h) h.state.sizes k (outcome_of h v) v
+
+-- Who enters the guest with a flush asked for has nothing cached behind that step.
+abbrev pub EnteringFlushes : Type 0
+EnteringFlushes = (h : Held) (k : Kind) (v : ℕ) → Enabled h k → kind_named k.code ≡ kind.Enter → asks_flush v ≡ true → (next h k v).cached.items ≡ []
+
+-- What is cached stays, or one translation is cached before all others.
+abbrev pub CachesOneAtMost : Buffer Translation → Buffer Translation → Type 0
+CachesOneAtMost before after = (after ≡ before) ⊎ ((t : Translation) × (after ≡ with_leaf t.gfn t.level t.leaf before))
+
+-- Each other step leaves at most one more translation.
+abbrev pub OthersCacheOneAtMost : Type 0
+OthersCacheOneAtMost = (h : Held) (k : Kind) (v : ℕ) → Enabled h k → (kind_named k.code ≡ kind.Enter → asks_flush v ≡ false) → CachesOneAtMost h.cached (next h k v).cached
