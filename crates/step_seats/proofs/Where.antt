@@ -13,11 +13,7 @@ use Rattle.mmu_core.proofs.machine.Extend.{goes_on, hands_of_effect}
 use Rattle.mmu_core.proofs.machine.LineRuns.{own_hand}
 use Rattle.step_seats.specs.Moves.{Tells, step_by}
 use Rattle.step_seats.specs.PartTurns.{MadePart}
-use Rattle.step_seats.specs.Where.{AnsweredThere, HasHand, IsMadeIn, OfWorld, Told, WhereMade}
-
-pub of_world : (told : Option (World Held)) (P Q : World Held → Type 0) → ((w : World Held) → P w → Q w) → OfWorld told P → OfWorld told Q
-of_world (Some w) P Q f p = f w p
-of_world None P Q f p = ∥∥₁_map p (λ x. (x.0, f x.0 x.1))
+use Rattle.step_seats.specs.Where.{AnsweredThere, HasHand, IsMadeIn, OfMade, OfWorld, Told, WhereMade}
 
 -- the world that a step leads to from one in which it may be made
 abbrev pub after_step : Kind → ℕ → World Held → World Held
@@ -35,19 +31,22 @@ has_after k a h g w M = record {
 abbrev pub only : World Held → Told
 only w = record { world = Some w; steps = None }
 
--- What follows from the step, and from its world before and after it, holds where the step was made.
+-- What follows from the step and its answer, of each world in which it may have been made, holds where the step was made.
 pub where_answered : (k : Kind) (found a : ℕ) (h g : Held) (told : Told) {Q : World Held → Type 0} → AnsweredThere k found a h g told
-    → ((w : World Held) → IsMadeIn k a h g w → answered mmu w k ≡ found → Q w) → OfWorld told.world (λ w. IsMadeIn k a h g w × Q w)
-where_answered k found a h g told {Q = Q} there each =
-    of_world told.world (λ w. IsMadeIn k a h g w × (answered mmu w k ≡ found)) (λ w. IsMadeIn k a h g w × Q w) (λ w x. (x.0, each w x.0 x.1)) there
+    → ((w : World Held) → IsMadeIn k a h g w → answered mmu w k ≡ found → Q w) → OfMade told.world k a h g Q
+where_answered k found a h g told {Q = Q} there each = of_made told.world there
+  where
+    of_made : (x : Option (World Held)) → OfWorld x (λ w. IsMadeIn k a h g w × (answered mmu w k ≡ found)) → OfMade x k a h g Q
+    of_made (Some w) p = (p.0, each w p.0 p.1)
+    of_made None p = record { found = found; some = p; each = each }
 
 pub where_made : {step : PartStep} {note found a : ℕ} {h g : Held} {told tells : Told} {Q : World Held → Type 0} → MadePart step note found a h g told tells
     → ((w : World Held) → MadePart step note found a h g (only w) (only (after_step (part_kind h step note) a w)) → HasHand a g (after_step (part_kind h step note) a w) → Q w)
-    → OfWorld told.world (λ w. IsMadeIn (part_kind h step note) a h g w × Q w)
+    → OfMade told.world (part_kind h step note) a h g Q
 where_made {step = step} {note = note} {found = found} {a = a} {h = h} {g = g} {told = told} {Q = Q} made each =
     where_answered (part_kind h step note) found a h g told {Q = Q} made.answers
     (λ w there is. each w
-    (record { hand = made.hand; topics = made.topics; has = there.has; world = (there.may, is, refl); steps = tt; answers = (there, is) })
+    (record { hand = made.hand; topics = made.topics; has = there.has; world = (there.may, is, refl); steps = refl; answers = (there, is) })
     (has_after (part_kind h step note) a h g w there))
 
 -- a fact of the world that was told before a step and of the one that is told after it, where both are told
@@ -58,20 +57,20 @@ ToldBoth before after P = IfSome before (λ w. IfSome after (λ t. P w t))
 pub where_told : (k : Kind) (a found : ℕ) (h g : Held) (told tells : Told) (P : World Held → World Held → Type 0) → Tells told.world a k found tells.world → WhereMade k a h g told P → ToldBoth told.world tells.world P
 where_told k a found h g told tells P moves holds = both told.world tells.world moves holds
   where
-    both : (x y : Option (World Held)) → Tells x a k found y → OfWorld x (λ w. IsMadeIn k a h g w × P w (after_step k a w)) → ToldBoth x y P
+    both : (x y : Option (World Held)) → Tells x a k found y → OfMade x k a h g (λ w. P w (after_step k a w)) → ToldBoth x y P
     both None y m p = tt
     both (Some w) y m p = subst (λ o. IfSome o (P w)) (sym m.2) p.1
 
 pub where_told_before : (k : Kind) (a : ℕ) (h g : Held) (told : Told) (P : World Held → Type 0) → WhereMade k a h g told (λ w t. P w) → IfSome told.world P
 where_told_before k a h g told P holds = before told.world holds
   where
-    before : (x : Option (World Held)) → OfWorld x (λ w. IsMadeIn k a h g w × P w) → IfSome x P
+    before : (x : Option (World Held)) → OfMade x k a h g P → IfSome x P
     before None p = tt
     before (Some w) p = p.1
 
 pub where_told_after : (k : Kind) (a found : ℕ) (h g : Held) (told tells : Told) (P : World Held → Type 0) → Tells told.world a k found tells.world → WhereMade k a h g told (λ w t. P t) → IfSome tells.world P
 where_told_after k a found h g told tells P moves holds = after told.world tells.world moves holds
   where
-    after : (x y : Option (World Held)) → Tells x a k found y → OfWorld x (λ w. IsMadeIn k a h g w × P (after_step k a w)) → IfSome y P
+    after : (x y : Option (World Held)) → Tells x a k found y → OfMade x k a h g (λ w. P (after_step k a w)) → IfSome y P
     after None y m p = subst (λ o. IfSome o P) (sym m) tt
     after (Some w) y m p = subst (λ o. IfSome o P) (sym m.2) p.1

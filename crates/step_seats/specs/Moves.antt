@@ -1,5 +1,5 @@
 -- What one act of a seat does to the world that it tells, and to the steps that it tells.
-use Rattle.std.specs.Prelude.{◌≡◌, ◌+◌, ℕ, List, [], ◌∷◌, ◌++◌, length, map, slice_index_or, Option, Some, None, IfSome}
+use Rattle.std.specs.Prelude.{◌≡◌, ◌+◌, ℕ, List, [], ◌∷◌, ◌++◌, length, map, slice_index_or, Option, Some, None}
 use Rattle.core_views.specs.declared.kind.Kind.{Kind}
 use Rattle.core_views.specs.Held.{Held, Handful}
 use Rattle.mmu_core.specs.machine.Machine.{Step, World, May, answered, effect}
@@ -15,9 +15,10 @@ abbrev pub Tells : Option (World Held) → ℕ → Kind → ℕ → Option (Worl
 Tells (Some w) actor kind answer after = May mmu w (step_by actor kind) × (answered mmu w kind ≡ answer) × (after ≡ Some (effect mmu w (step_by actor kind)))
 Tells None actor kind answer after = after ≡ None
 
--- Where the steps so far were told, they are told with this one.
+-- Where the steps so far were told, they are told with this one. Where none were told, none are told after the step.
 abbrev pub Adds : Option (List (Step Kind)) → ℕ → Kind → Option (List (Step Kind)) → Type 0
-Adds before actor kind after = IfSome before (λ ss. after ≡ Some (ss ++ step_by actor kind ∷ []))
+Adds (Some ss) actor kind after = after ≡ Some (ss ++ step_by actor kind ∷ [])
+Adds None actor kind after = after ≡ None
 
 -- An answer takes the room of one.
 abbrev pub KeepsRoom : Handful → Handful → Type 0

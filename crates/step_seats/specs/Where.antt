@@ -31,11 +31,24 @@ abbrev pub OfWorld : Option (World Held) → (World Held → Type 0) → Type 0
 OfWorld (Some w) P = P w
 OfWorld None P = ∥ ((w : World Held) × P w) ∥₁
 
--- It holds where the step was made: of the world that the seat told before the step, or of some world in which the step may have been
--- made; and of the world that the step leads to from there.
-abbrev pub WhereMade : Kind → ℕ → Held → Held → Told → (World Held → World Held → Type 0) → Type 0
-WhereMade kind actor before after told P = OfWorld told.world (λ w. IsMadeIn kind actor before after w × P w (effect mmu w (step_by actor kind)))
-
--- The step answered this where it was made.
+-- The step answered this where it was made: in the world that the seat told before the step, or in some world in which the step may
+-- have been made.
 abbrev pub AnsweredThere : Kind → ℕ → ℕ → Held → Held → Told → Type 0
-AnsweredThere kind found actor before after told = WhereMade kind actor before after told (λ w t. answered mmu w kind ≡ found)
+AnsweredThere kind found actor before after told = OfWorld told.world (λ w. IsMadeIn kind actor before after w × (answered mmu w kind ≡ found))
+
+-- The step was made in a world that isn't told. There is an answer that it gives in some world in which it may have been made, and of each
+-- such world in which it gives this answer this holds.
+pub record OfEachWorld (kind : Kind) (actor : ℕ) (before after : Held) (P : World Held → Type 0) : Type 0 where
+  pub found : ℕ
+  pub some : ∥ ((w : World Held) × (IsMadeIn kind actor before after w × (answered mmu w kind ≡ found))) ∥₁
+  pub each : (w : World Held) → IsMadeIn kind actor before after w → answered mmu w kind ≡ found → P w
+
+-- It holds of the world that the seat told before the step, in which the step may have been made; and where none was told, of each world in
+-- which it may have been made with this answer.
+abbrev pub OfMade : Option (World Held) → Kind → ℕ → Held → Held → (World Held → Type 0) → Type 0
+OfMade (Some w) kind actor before after P = IsMadeIn kind actor before after w × P w
+OfMade None kind actor before after P = OfEachWorld kind actor before after P
+
+-- It holds where the step was made, of the world before the step and the world that the step leads to.
+abbrev pub WhereMade : Kind → ℕ → Held → Held → Told → (World Held → World Held → Type 0) → Type 0
+WhereMade kind actor before after told P = OfMade told.world kind actor before after (λ w. P w (effect mmu w (step_by actor kind)))
