@@ -7,3 +7,4 @@ pub mod Turns
 pub mod Outcomes
 pub mod MayMake
 pub mod Sums
+pub mod NextSteps

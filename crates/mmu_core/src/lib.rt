@@ -1,5 +1,5 @@
 //! The steps of the machine: which step a hand allows, and what it does to its
-//! word and to the hand.
+//! word and to the hand; and what holds of words and hands at every moment.
 #![tactic(auto)]
 
 mod access;
@@ -13,12 +13,7 @@ mod step;
 
 pub use access::{access_note, lookup};
 pub use fault::{entry_word, table_value};
-pub use laws::{
-    a_fault_alone_goes_through, a_fault_goes_on, a_line_alone_goes_through,
-    each_delay_has_its_cause, every_answer_is_told, every_list_of_steps, knows, leaves_agree,
-    rests, steps_are_bounded, steps_tell_what_they_are, the_pool_is_enough, the_steps_can_be_made,
-    turns_come_to_an_end,
-};
+pub use laws::{knows, rests};
 pub use outcome::Outcome;
 pub use parts::{allows, may_make, part_rests};
 pub use set_slot::{setting_place, waits as setting_waits};

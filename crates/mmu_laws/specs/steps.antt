@@ -1,2 +1,7 @@
 pub mod StepLaws
-pub mod Example
+pub mod CanStep
+pub mod ExampleSteps
+pub mod ExampleRuns
+pub mod ExampleStarves
+pub mod ExampleRaces
+pub mod ExampleWaits

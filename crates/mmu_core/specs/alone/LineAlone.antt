@@ -18,7 +18,7 @@ use Rattle.mmu_core.specs.alone.AloneKnows.{AloneKnows}
 use Rattle.mmu_core.specs.lines.Bounds.{most_steps, steps_left}
 pub use Rattle.mmu_core.specs.lines.Delays.{line_waits}
 use Rattle.mmu_core.specs.machine.Enabled.{mmu}
-use Rattle.mmu_laws.specs.steps.Example.{HasLine}
+use Rattle.mmu_core.specs.machine.NextSteps.{HasLineThatFits}
 use Rattle.mmu_core.specs.alone.FaultAlone.{NoneFreeBefore}
 use Rattle.mmu_core.specs.invariant.Laws.{IsSound}
 use Rattle.mmu_core.specs.machine.Machine.{Legal, May, Step, World, answered, effect, hand_in, run}
@@ -81,7 +81,7 @@ pub record EndsAlone (z : Sizes) (w : World Held) (a : ℕ) : Type 0 where
 
 -- A line alone, that writes a number of 64 bits if it writes, can be run to its answer.
 abbrev pub LineEndsAlone : Type 0
-LineEndsAlone = (z : Sizes) (w : World Held) (a : ℕ) → LineAlone z w a → HasLine (hand_in mmu w a) → EndsAlone z w a
+LineEndsAlone = (z : Sizes) (w : World Held) (a : ℕ) → LineAlone z w a → HasLineThatFits (hand_in mmu w a) → EndsAlone z w a
 
 -- Where the pool has as many pages as the trace needs at most, no line that runs alone is starved.
 abbrev pub NoneStarvedAlone : Type 0

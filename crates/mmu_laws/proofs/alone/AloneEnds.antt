@@ -8,7 +8,7 @@ use Rattle.core_views.specs.Held.{Held}
 use Rattle.mmu_core.specs.declared.outcome.Outcome.{Outcome}
 use Rattle.mmu_core.specs.declared.outcome.Outcome.TheVariants.{Goes, Ends}
 use Rattle.mmu_core.specs.machine.Enabled.{mmu}
-use Rattle.mmu_laws.specs.steps.Example.{HasLine, WritesOneWord, next_step}
+use Rattle.mmu_core.specs.machine.NextSteps.{HasLineThatFits, WritesOneWord, next_step}
 use Rattle.mmu_core.specs.alone.LineAlone.{ComesNearer, EndsAlone, LineAlone, hand_left}
 use Rattle.mmu_core.specs.machine.Machine.{May, Step, World, answered, effect, hand_in}
 use Rattle.mmu_core.specs.machine.Steps.{held_after, line_at, next_line, place_at}
@@ -19,7 +19,7 @@ use Rattle.mmu_laws.proofs.steps.CanStep.{may_step}
 use Rattle.mmu_core.proofs.machine.LineRuns.{own_hand}
 use Rattle.mmu_core.proofs.machine.Which.{has_line_is, next_of_line}
 
-module _ (z : Sizes) (w : World Held) (a : ℕ) (L : LineAlone z w a) (has : HasLine (hand_in mmu w a)) where
+module _ (z : Sizes) (w : World Held) (a : ℕ) (L : LineAlone z w a) (has : HasLineThatFits (hand_in mmu w a)) where
   abbrev h : Held
   h = hand_in mmu w a
 
@@ -47,7 +47,7 @@ module _ (z : Sizes) (w : World Held) (a : ℕ) (L : LineAlone z w a) (has : Has
       let lines : (hand_in mmu after a).lines ≡ h.lines = ap (λ (g : Held). g.lines) hand_is in
       rw (same, lines) has.fits
 
-  ends_on : (o : Outcome) → outcome_of h v ≡ o → ComesNearer o z a w after → ((u : World Held) → hand_left (hand_in mmu u a) < hand_left h → LineAlone z u a → HasLine (hand_in mmu u a) → EndsAlone z u a) → EndsAlone z w a
+  ends_on : (o : Outcome) → outcome_of h v ≡ o → ComesNearer o z a w after → ((u : World Held) → hand_left (hand_in mmu u a) < hand_left h → LineAlone z u a → HasLineThatFits (hand_in mmu u a) → EndsAlone z u a) → EndsAlone z w a
   ends_on (Goes p) is N further =
       let same : (hand_in mmu after a).answers ≡ h.answers = answers_are (Goes p) is in
       let E : EndsAlone z after a = further after N.1 N.0 (record { left = N.0.left; fits = fits_on same }) in
@@ -70,10 +70,10 @@ module _ (z : Sizes) (w : World Held) (a : ℕ) (L : LineAlone z w a) (has : Has
     rest = N.1;
   }
 
-ends_by : (n : ℕ) (z : Sizes) (w : World Held) (a : ℕ) → hand_left (hand_in mmu w a) ≤ n → LineAlone z w a → HasLine (hand_in mmu w a) → EndsAlone z w a
+ends_by : (n : ℕ) (z : Sizes) (w : World Held) (a : ℕ) → hand_left (hand_in mmu w a) ≤ n → LineAlone z w a → HasLineThatFits (hand_in mmu w a) → EndsAlone z w a
 ends_by zero z w a le L has = let some = some_left (hand_in mmu w a).state.place (hand_in mmu w a).state.sizes (hand_in mmu w a).topics in absurd (omega (arith, le, some))
 ends_by (suc n) z w a le L has =
     ends_on z w a L has (outcome_of (hand_in mmu w a) (answered mmu w (next_step z w a).kind)) refl (steps_alone z w (next_step z w a) L (may z w a L has)).nearer (λ u less M more. ends_by n z u a (omega (arith, le, less)) M more)
 
-pub ends_alone : (z : Sizes) (w : World Held) (a : ℕ) → LineAlone z w a → HasLine (hand_in mmu w a) → EndsAlone z w a
+pub ends_alone : (z : Sizes) (w : World Held) (a : ℕ) → LineAlone z w a → HasLineThatFits (hand_in mmu w a) → EndsAlone z w a
 ends_alone z w a L has = ends_by (hand_left (hand_in mmu w a)) z w a (omega arith) L has

@@ -13,7 +13,7 @@ use Rattle.spte_words.specs.Areas.{place as word_place, size_of, total}
 use Rattle.spte_words.proofs.Places.{place_below}
 use Rattle.mmu_core.specs.lines.AccessSteps.{touch_of}
 use Rattle.mmu_core.specs.machine.Enabled.{mmu}
-use Rattle.mmu_laws.specs.steps.Example.{HasLine, WritesOneWord, next_step}
+use Rattle.mmu_core.specs.machine.NextSteps.{HasLineThatFits, WritesOneWord, next_step}
 use Rattle.mmu_core.specs.invariant.Laws.{IsSound}
 use Rattle.part_steps.specs.PartBounds.{PartRests}
 use Rattle.mmu_core.proofs.words.PartFits.{part_small}
@@ -40,7 +40,7 @@ small_by command h _ R fits (Touches gfn word op is N) = touch_small op gfn word
 written_small : (p : Place) (command : Command) (h : Held) → PartRests h → RestsAt p command h → WritesOneWord command → (task_at p command h).written < 2 ^ 64
 written_small p command h R rests fits = small_by command h (task_at p command h) R fits (step_at p command h rests)
 
-pub may_step : (z : Sizes) (w : World Held) (a : ℕ) → IsSound z w → a < actors_of z → HasLine (hand_in mmu w a) → May mmu w (next_step z w a)
+pub may_step : (z : Sizes) (w : World Held) (a : ℕ) → IsSound z w → a < actors_of z → HasLineThatFits (hand_in mmu w a) → May mmu w (next_step z w a)
 may_step z w a G there has = record {
   there = omega (arith, there, G.hands);
   enabled = enabled_is h (next_step z w a).kind (record {

@@ -16,7 +16,11 @@ use Rattle.spte_words.specs.Areas.{content_index, place, pool_index}
 use Rattle.spte_words.specs.Entries.{absent_word, can_write, frame_in, frozen_word, is_leaf_at, kind_of, leaf_word, level_span, table_word}
 use Rattle.spte_words.specs.Flags.{flags_live, flags_logged, flags_read_only, flags_word}
 use Rattle.spte_words.specs.HostWords.{host_allows_write, host_frame, host_word}
-use Rattle.mmu_laws.specs.steps.Example.{ExamplePrints, ExampleRuns, ExampleRaces, ExampleStarves, ExampleWaits, RunDelays, RunTells, add_line, beside_line, first_line, forbidden_line, other_slot_line, outside_line, race_events, race_lines, race_order, read_line, run_events, run_lines, run_order, run_sizes, second_line, set_line, set_read_only_line, small_events, small_lines, small_order, small_sizes, starved_line, starved_set_line, sum_line, turns, wait_events, wait_lines, wait_order, write_line}
+use Rattle.mmu_laws.specs.steps.ExampleRaces.{ExampleRaces, first_line, race_events, race_lines, race_order, second_line}
+use Rattle.mmu_laws.specs.steps.ExampleRuns.{ExamplePrints, ExampleRuns, add_line, forbidden_line, other_slot_line, outside_line, read_line, run_events, run_lines, run_order, sum_line, write_line}
+use Rattle.mmu_laws.specs.steps.ExampleStarves.{ExampleStarves, small_events, small_lines, small_order, small_sizes, starved_line, starved_set_line}
+use Rattle.mmu_laws.specs.steps.ExampleSteps.{RunDelays, RunTells, run_sizes, set_line, set_read_only_line, turns}
+use Rattle.mmu_laws.specs.steps.ExampleWaits.{ExampleWaits, beside_line, wait_events, wait_lines, wait_order}
 use Rattle.mmu_core.specs.lines.Cached.{flushed}
 use Rattle.mmu_core.specs.machine.Enabled.{mmu}
 use Rattle.mmu_core.specs.machine.Machine.{run}

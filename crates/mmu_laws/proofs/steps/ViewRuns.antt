@@ -10,7 +10,8 @@ use Rattle.core_views.specs.declared.trace.Op.TheVariants.{Add, Read, Write}
 use Rattle.core_views.specs.Held.{Held}
 use Rattle.core_views.specs.Sizes.{actors_of}
 use Rattle.mmu_core.specs.machine.Enabled.{mmu}
-use Rattle.mmu_laws.specs.steps.Example.{HasLine, WritesOneWord, next_step, turns}
+use Rattle.mmu_core.specs.machine.NextSteps.{HasLineThatFits, WritesOneWord, next_step}
+use Rattle.mmu_laws.specs.steps.ExampleSteps.{turns}
 use Rattle.mmu_core.specs.invariant.Laws.{IsSound}
 use Rattle.mmu_core.specs.machine.Machine.{Legal, World, answered, effect, hand_in, run}
 use Rattle.mmu_core.specs.machine.Steps.{events_of, line_at, next_line, place_at}
@@ -36,7 +37,7 @@ tale v (a ∷ actors) = tells v a ++ tale (turned v a) actors
 -- Each of them has a line left when its turn comes.
 abbrev pub HaveLines : Sizes → View → List ℕ → Type 0
 HaveLines z v [] = Unit {0}
-HaveLines z v (a ∷ actors) = (a < actors_of z) × HasLine (v.hand a) × HaveLines z (turned v a) actors
+HaveLines z v (a ∷ actors) = (a < actors_of z) × HasLineThatFits (v.hand a) × HaveLines z (turned v a) actors
 
 -- the same, as a test
 abbrev writes_one_word : Command → Bool

@@ -1,7 +1,7 @@
 use Rattle.mmu_laws.proofs.alone.AloneEnds.{ends_alone}
 use Rattle.mmu_laws.proofs.alone.AloneEnough.{none_starved}
 use Rattle.mmu_laws.proofs.alone.AloneRuns.{begins_alone, steps_alone}
-use Rattle.mmu_core.proofs.laws.a_line_alone_goes_through.Goals as goal
+use Rattle.mmu_laws.proofs.laws.a_line_alone_goes_through.Goals as goal
 
 pub returns-clause-through : goal.returns-clause-through
 returns-clause-through c = steps_alone

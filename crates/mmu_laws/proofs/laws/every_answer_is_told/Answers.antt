@@ -1,6 +1,6 @@
 use Rattle.mmu_laws.proofs.flat.EveryAnswer.{answers_are_told, ends_whole}
 use Rattle.mmu_laws.proofs.flat.WholeSoFar.{stays_whole}
-use Rattle.mmu_core.proofs.laws.every_answer_is_told.Goals as goal
+use Rattle.mmu_laws.proofs.laws.every_answer_is_told.Goals as goal
 
 pub returns-clause-answers : goal.returns-clause-answers
 returns-clause-answers c = answers_are_told

@@ -1,7 +1,7 @@
 use Rattle.mmu_laws.proofs.causes.Causes.{faults_begin_anew_by_cause}
 use Rattle.mmu_laws.proofs.causes.StepWaits.{step_waits_are_by_cause}
 use Rattle.mmu_laws.proofs.turns.TurnsNearer.{delays_wait_or_begin_anew}
-use Rattle.mmu_core.proofs.laws.each_delay_has_its_cause.Goals as goal
+use Rattle.mmu_laws.proofs.laws.each_delay_has_its_cause.Goals as goal
 
 pub returns-clause-begins_anew : goal.returns-clause-begins_anew
 returns-clause-begins_anew c = faults_begin_anew_by_cause

@@ -1,5 +1,5 @@
 use Rattle.mmu_laws.proofs.turns.StepsCounted.{counts_fit, steps_counted_on}
-use Rattle.mmu_core.proofs.laws.steps_are_bounded.Goals as goal
+use Rattle.mmu_laws.proofs.laws.steps_are_bounded.Goals as goal
 
 pub returns-clause-bounded : goal.returns-clause-bounded
 returns-clause-bounded c = counts_fit

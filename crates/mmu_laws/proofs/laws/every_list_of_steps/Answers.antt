@@ -2,7 +2,7 @@ use Rattle.mmu_laws.proofs.flat.EveryHistory.{every_history}
 use Rattle.mmu_laws.proofs.causes.StarvedScan.{starved_lines_scan}
 use Rattle.mmu_core.proofs.start.Starts.{start_good}
 use Rattle.mmu_core.proofs.machine.Worlds.{good_run}
-use Rattle.mmu_core.proofs.laws.every_list_of_steps.Goals as goal
+use Rattle.mmu_laws.proofs.laws.every_list_of_steps.Goals as goal
 
 pub returns-clause-sound : goal.returns-clause-sound
 returns-clause-sound c z lines w ss start legal = good_run z w ss (start_good z lines w start) legal

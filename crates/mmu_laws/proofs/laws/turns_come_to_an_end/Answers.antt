@@ -2,7 +2,7 @@ use Rattle.mmu_laws.proofs.turns.InstalledEntries.{installed_serve}
 use Rattle.mmu_laws.proofs.turns.LeavesStay.{leaves_stay}
 use Rattle.mmu_laws.proofs.turns.StepsBounded.{turns_bounded}
 use Rattle.mmu_laws.proofs.turns.TurnsNearer.{turns_nearer}
-use Rattle.mmu_core.proofs.laws.turns_come_to_an_end.Goals as goal
+use Rattle.mmu_laws.proofs.laws.turns_come_to_an_end.Goals as goal
 
 pub returns-clause-nearer : goal.returns-clause-nearer
 returns-clause-nearer c = turns_nearer

@@ -1,6 +1,6 @@
 use Rattle.mmu_laws.proofs.alone.FaultAlone.{goes_through}
 use Rattle.mmu_laws.proofs.leaves.LeadsDown.{leads_down}
-use Rattle.mmu_core.proofs.laws.a_fault_alone_goes_through.Goals as goal
+use Rattle.mmu_laws.proofs.laws.a_fault_alone_goes_through.Goals as goal
 
 pub returns-clause-through : goal.returns-clause-through
 returns-clause-through c = goes_through

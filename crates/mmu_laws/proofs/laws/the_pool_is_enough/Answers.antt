@@ -1,5 +1,5 @@
 use Rattle.mmu_laws.proofs.pool.Enough.{each_table_is_wanted, enough_pages, tables_are_for_their_runs}
-use Rattle.mmu_core.proofs.laws.the_pool_is_enough.Goals as goal
+use Rattle.mmu_laws.proofs.laws.the_pool_is_enough.Goals as goal
 
 pub returns-clause-wanted : goal.returns-clause-wanted
 returns-clause-wanted c = each_table_is_wanted

@@ -1,5 +1,5 @@
 use Rattle.mmu_laws.proofs.leaves.LeafLaws.{cached_leaves_agree, held_leaves_agree, leaves_agree, used_leaves_agree}
-use Rattle.mmu_core.proofs.laws.leaves_agree.Goals as goal
+use Rattle.mmu_laws.proofs.laws.leaves_agree.Goals as goal
 
 pub returns-clause-standing : goal.returns-clause-standing
 returns-clause-standing c = leaves_agree

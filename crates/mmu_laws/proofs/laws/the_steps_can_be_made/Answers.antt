@@ -5,7 +5,7 @@ use Rattle.mmu_laws.proofs.steps.ExampleRun.{example_prints, example_races, exam
 use Rattle.mmu_core.proofs.start.StartViews.{a_start}
 use Rattle.mmu_core.proofs.start.Starts.{start_good}
 use Rattle.mmu_core.proofs.machine.Worlds.{good_run}
-use Rattle.mmu_core.proofs.laws.the_steps_can_be_made.Goals as goal
+use Rattle.mmu_laws.proofs.laws.the_steps_can_be_made.Goals as goal
 
 pub returns-clause-starts : goal.returns-clause-starts
 returns-clause-starts c = a_start

@@ -1,0 +1,47 @@
+-- Runs from a start, each step of them the next one of an actor: what they tell, and how often the last line was delayed. And the machine and
+-- the slots of the examples.
+use Rattle.std.specs.Prelude.{◌≡◌, ℕ, List, [], ◌∷◌, true, false, Option, Some}
+use Rattle.core_views.specs.declared.event.Event.{Event}
+use Rattle.core_views.specs.declared.kind.Kind.{Kind}
+use Rattle.core_views.specs.declared.sizes.Sizes.{Sizes}
+use Rattle.core_views.specs.declared.trace.Line.{Line}
+use Rattle.core_views.specs.declared.slot_set.MemorySlot.{MemorySlot}
+use Rattle.core_views.specs.declared.trace.Slot.{Slot}
+use Rattle.core_views.specs.Held.{Held}
+use Rattle.core_views.specs.Laws.{example_slot, manager_line}
+use Rattle.mmu_core.specs.machine.Enabled.{mmu}
+use Rattle.mmu_core.specs.machine.Machine.{Legal, Step, World, effect, hand_in, run}
+use Rattle.mmu_core.specs.machine.Worlds.{IsStart, history}
+use Rattle.mmu_core.specs.machine.NextSteps.{next_step}
+
+-- the next steps of these actors, one after another
+abbrev pub turns : Sizes → World Held → List ℕ → List (Step Kind)
+turns z w [] = []
+turns z w (actor ∷ actors) = next_step z w actor ∷ turns z (effect mmu w (next_step z w actor)) actors
+
+-- From a start with these lines the next steps of actors in this order can be made, and they tell this.
+pub record RunTells (z : Sizes) (lines : List Line) (order : List ℕ) (events : List Event) : Type 0 where
+  pub start : World Held
+  pub is_start : IsStart z lines start
+  pub legal : Legal mmu start (turns z start order)
+  pub tells : history start (turns z start order) ≡ events
+
+-- Such a run tells this, and behind it the actor at this place has counted so many delays of its last line.
+pub record RunDelays (z : Sizes) (lines : List Line) (order : List ℕ) (events : List Event) (actor delays : ℕ) : Type 0 where
+  pub tells : RunTells z lines order events
+  pub counts : (hand_in mmu (run mmu tells.start (turns z tells.start order)) actor).state.delays ≡ delays
+
+-- A machine whose pool has as many pages as the lines below need: four, and one for a table of each level below the root.
+abbrev pub run_sizes : Sizes
+run_sizes = record { pages = 128; frames = 128; words = 2; pool = 7; cache = 64; vcpus = 2; hosts = 1; workers = 0 }
+
+-- this slot, which has no dirty log
+abbrev pub unlogged : Slot → Option MemorySlot
+unlogged slot = Some (record { slot = slot; logged = false })
+
+-- The manager sets a slot, of guest frames 5 to 7, and a read-only one, of guest frames 16 to 18.
+abbrev pub set_line : Line
+set_line = manager_line 2 0 (example_slot 5 64 false)
+
+abbrev pub set_read_only_line : Line
+set_read_only_line = manager_line 3 1 (example_slot 16 0 true)

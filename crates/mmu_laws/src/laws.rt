@@ -1,0 +1,184 @@
+ghost use Rattle.mmu_laws.specs.causes.Causes.{FaultsBeginAnewByCause};
+ghost use Rattle.mmu_laws.specs.pool.Enough.{EachTableIsWanted, EnoughPages, TablesAreForTheirRuns};
+ghost use Rattle.mmu_laws.specs.steps.CanStep.{EachMayStep, EveryMachineStarts};
+ghost use Rattle.mmu_laws.specs.steps.ExampleRaces.{ExampleRaces};
+ghost use Rattle.mmu_laws.specs.steps.ExampleRuns.{ExamplePrints, ExampleRuns};
+ghost use Rattle.mmu_laws.specs.steps.ExampleStarves.{ExampleStarves};
+ghost use Rattle.mmu_laws.specs.steps.ExampleWaits.{ExampleWaits};
+ghost use Rattle.mmu_core.specs.alone.FaultAlone.{FaultGoesThrough, LeadsDown};
+ghost use Rattle.mmu_core.specs.lines.FaultLaws.{FaultIsBounded, FaultMeetsNeeds, FaultStaysKnown, FaultStepsFall, PartsAnswer, WaitsSeeAnother};
+ghost use Rattle.mmu_laws.specs.flat.Histories.{AnswersAreTold, EndsWhole, StaysWhole};
+ghost use Rattle.mmu_core.specs.invariant.Laws.{StaysSound, TellsLawfully};
+ghost use Rattle.mmu_laws.specs.leaves.LeafLaws.{CachedLeavesAgree, HeldLeavesAgree, LeavesAgree, UsedLeavesAgree};
+ghost use Rattle.mmu_core.specs.alone.LineAlone.{LineBeginsAlone, LineEndsAlone, LineGoesThrough, NoneStarvedAlone};
+ghost use Rattle.mmu_core.specs.invariant.Scans.{StarvedLinesScan};
+ghost use Rattle.mmu_laws.specs.steps.StepLaws.{EnteringFlushes, NotesTellEnds, OthersCacheOneAtMost, StepsAreOnTheirAreas};
+ghost use Rattle.mmu_laws.specs.turns.TurnLaws.{DelaysWaitOrBeginAnew, InstalledEntriesServe, LeavesStay, StepsAreBounded, StepsAreCounted, TurnsAreBounded, TurnsComeNearer};
+ghost use Rattle.mmu_laws.specs.causes.Waits.{StepWaitsAreByCause};
+
+/// What holds of every list of steps that is enabled step by step, of all
+/// actors in any order, from the start of every machine. Where one of them answers
+/// a line starved, its actor has gone through the whole map of the pool since the
+/// line began, word by word, owned no page at these loads, and found each word 0
+/// (tdp_mmu.c, `kvm_tdp_mmu_map`).
+pub fn every_list_of_steps()
+    ensures sound { StaysSound }
+    ensures lawful { TellsLawfully }
+    ensures starved { StarvedLinesScan }
+{}
+
+/// What stands in an actor's way is another actor's, in every list of steps. A fault
+/// begins anew only where in this section it found an invalidation open over its
+/// guest frame, or found another number in a word of which it knew the number, since
+/// another actor's step changed it: in the sequence number behind its snapshot, or in
+/// an entry of its guest frame after its load. A step waits, whoever makes it, only
+/// where its actor, with its last step on the lock, found another actor having it
+/// alone; where the page that it tries was free at its actor's last step on this word
+/// of the pool's map, and another actor's step changed this word since; where it finds
+/// the lock held by another actor; where it gives the lock back, since its actor's last
+/// load of their count found invalidations open; and where it finds another actor in
+/// the guest or in a section (tdp_mmu.c, `kvm_tdp_mmu_map`; kvm_main.c,
+/// `kvm_swap_active_memslots`; locking.rst). And a line counts no other step as a delay
+/// than one with which it waits or begins its fault anew.
+pub fn each_delay_has_its_cause()
+    ensures begins_anew { FaultsBeginAnewByCause }
+    ensures waits { StepWaitsAreByCause }
+    ensures delays { DelaysWaitOrBeginAnew }
+{}
+
+/// That the steps can be made: every machine has a start, and at every moment
+/// each actor that has a line left has a step to make. A small run from its start
+/// sets two slots, answers an access of a guest frame that no slot has, and one
+/// whose fault fills and links three tables and puts the leaf; then accesses that
+/// walk to this leaf or go by what is cached, and a write that a read-only slot
+/// refuses. In a pool that is too small an access is starved, and a slot setting
+/// behind it; where two processors write to one guest frame at a time, one
+/// waits and begins anew; and a slot setting beside a write waits for the page that the
+/// processor takes, for the lock that it shares, and until it has left the guest.
+pub fn the_steps_can_be_made()
+    ensures starts { EveryMachineStarts }
+    ensures goes_on { EachMayStep }
+    ensures example { ExampleRuns }
+    ensures prints { ExamplePrints }
+    ensures starves { ExampleStarves }
+    ensures races { ExampleRaces }
+    ensures slot_waits { ExampleWaits }
+{}
+
+/// What a step's numbers tell of it: each step that a hand allows is on a word of
+/// the area that its kind is for, and the note of a line's step says whether the
+/// line is answered with it, whatever the step finds; but a slot setting's load of
+/// the last word of the pool's map has note 1, and is its answer exactly where it
+/// finds 0. Who enters the guest with a flush asked for has nothing cached behind
+/// that step; each other step leaves at most one more translation
+/// (vcpu-requests.rst, KVM_REQ_TLB_FLUSH).
+pub fn steps_tell_what_they_are()
+    ensures areas { StepsAreOnTheirAreas }
+    ensures notes { NotesTellEnds }
+    ensures flushes { EnteringFlushes }
+    ensures caches { OthersCacheOneAtMost }
+{}
+
+/// What each hand has answered behind a list of steps is what the history tells
+/// of its actor; the history begins the first lines of each actor, in their order,
+/// and answers them, each once, but for perhaps the last one; and where each hand has
+/// answered all its lines, the history answers the whole trace.
+pub fn every_answer_is_told()
+    ensures answers { AnswersAreTold }
+    ensures so_far { StaysWhole }
+    ensures whole { EndsWhole }
+{}
+
+/// The order of a fault's steps can be kept, and comes to an end: what it knows
+/// at a place, with what every reachable hand rests on, is what the step of this
+/// place needs; whatever that step answers, the fault knows what its next place
+/// asks; each step that doesn't wait for another actor leaves it fewer steps, of
+/// which it has at most 8,192 and one for each pool page; and one that waits has
+/// seen another actor, in the word that it is on (tdp_mmu.c, `kvm_tdp_mmu_map`;
+/// locking.rst).
+pub fn a_fault_goes_on()
+    ensures needs { FaultMeetsNeeds }
+    ensures answers { PartsAnswer }
+    ensures known { FaultStaysKnown }
+    ensures falls { FaultStepsFall }
+    ensures waits { WaitsSeeAnother }
+    ensures bounded { FaultIsBounded }
+{}
+
+/// A pool of `need` pages is enough, in every list of steps: each table below
+/// the root is for a run of guest frames that a slot line of the trace wants
+/// (one that sets a slot of at least one page, and no more than the machine has,
+/// below guest frame 2^36), and this run is the one that it stands at; and where
+/// the pool has as many pages as `need` says, and no actor owns one, some page of
+/// it is free, so that who claims one then is not starved (tdp_mmu.c,
+/// `kvm_tdp_mmu_map`; mmu.rst, "Translation").
+pub fn the_pool_is_enough()
+    ensures wanted { EachTableIsWanted }
+    ensures own_runs { TablesAreForTheirRuns }
+    ensures enough { EnoughPages }
+{}
+
+/// Leaves agree with slots and host, in every sound world: each one to which links
+/// lead a guest frame from the root, or from the table over it that an actor's walk
+/// has come to, each one that is cached, and the one by which an access is about to
+/// touch is of the page that the slots give the guest frame, at the frame that the
+/// host gives this page, and allows writes exactly where the slots give a write
+/// this page and the host allows it (tdp_mmu.c, `tdp_mmu_map_handle_target_level`;
+/// mmu.rst, "Shadow pages").
+pub fn leaves_agree()
+    ensures standing { LeavesAgree }
+    ensures held { HeldLeavesAgree }
+    ensures cached { CachedLeavesAgree }
+    ensures used { UsedLeavesAgree }
+{}
+
+/// What a fault comes to that runs while all other actors rest: no step of it
+/// waits, it never begins anew, where it ends with an entry installed, links lead
+/// from the root to a leaf that allows the access, where it ends with MMIO, no slot
+/// has a page for the access, and where it is starved, each word of the pool's map
+/// is 0, up to where its claim came (tdp_mmu.c, `kvm_tdp_mmu_map`; locking.rst). And from each table over a guest frame links
+/// lead to the same entries as from the root.
+pub fn a_fault_alone_goes_through()
+    ensures through { FaultGoesThrough }
+    ensures leads { LeadsDown }
+{}
+
+/// What a line comes to that runs while all other actors rest: no step of it
+/// waits, none of its faults begins anew, and each step leaves it fewer steps, of
+/// which it has at most 8,192, one for each pool page and one for each frame;
+/// where it is answered, all actors rest again, and it is starved only where no
+/// page of the pool is free, so never where the pool has as many pages as the
+/// trace needs at most. And its steps can be made, up to its answer (tdp_mmu.c,
+/// `kvm_tdp_mmu_map`; locking.rst).
+pub fn a_line_alone_goes_through()
+    ensures through { LineGoesThrough }
+    ensures begins { LineBeginsAlone }
+    ensures ends { LineEndsAlone }
+    ensures enough { NoneStarvedAlone }
+{}
+
+/// A line's turns come to an end between its waits and its new beginnings, beside
+/// other actors that stand anywhere in their lines: each step of it that neither
+/// waits nor begins a fault anew leaves it fewer steps, or answers it, and it never
+/// has more left than 8,192, one for each pool page and one for each frame. For
+/// behind a fault that ended with an entry installed, whatever the other actors do,
+/// links lead from the root, and from the table that the line's walk has come to, to
+/// a leaf that allows the access; and where links lead to such a leaf once, they do
+/// so behind every list of steps (tdp_mmu.c, `kvm_tdp_mmu_map`; locking.rst).
+pub fn turns_come_to_an_end()
+    ensures nearer { TurnsComeNearer }
+    ensures bounded { TurnsAreBounded }
+    ensures installed { InstalledEntriesServe }
+    ensures stay { LeavesStay }
+{}
+
+/// A hand counts the steps of its line since it began, or since the end of its last
+/// delay (a step with which it waits or begins a fault anew, or a stay behind an
+/// installed entry that finds no translation which allows the access), and its
+/// delays, of which it counts no more than 2^64 - 1. Behind every list of steps
+/// these steps are at most 8,192, one for each pool page and one for each frame,
+/// and while the line is under way, so they are together with those that it has left.
+pub fn steps_are_bounded()
+    ensures bounded { StepsAreBounded }
+    ensures counted { StepsAreCounted }
+{}
