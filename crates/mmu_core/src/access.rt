@@ -116,7 +116,7 @@ pub fn access_note(place: AccessPlace) -> u64
 }
 
 /// What the step of this place is to do.
-#[tactic(auto, using(crate::proofs::UsedTranslations::part_needs))]
+#[tactic(auto, using(crate::proofs::lines::UsedTranslations::part_needs))]
 pub(crate) fn task(place: AccessPlace, hand: &Hand, gfn: u64, word: u8, op: Op) -> Task
     requires rests { RestsOn (access_part place gfn hand.now.core.topics) gfn (is_write op) hand.now.core }
     requires part { PartRests hand.now.core }

@@ -80,7 +80,7 @@ fn task(place: Place, hand: &Hand, line: &Line) -> Task
 
 /// The one step that the hand allows: the next one of its line, in the order
 /// of the line's steps.
-#[tactic(auto, unfolding(crate::specs::Enabled::Enabled))]
+#[tactic(auto, unfolding(crate::specs::machine::Enabled::Enabled))]
 pub fn next_kind(hand: &Hand) -> Kind
     requires left { length hand.now.core.answers < length hand.now.core.lines }
     requires rests { Rests hand.now.core }
@@ -212,7 +212,7 @@ pub fn asks_flush(state: u64) -> bool
 }
 
 // The effect of a step on what is cached, where a flush was asked for.
-#[tactic(auto, unfolding(crate::specs::Cached::flushed))]
+#[tactic(auto, unfolding(crate::specs::lines::Cached::flushed))]
 fn flush(hand: &mut Hand, kind: Kind, found: u64)
     ensures core { hand.new.core ≡ record hand.old.core { cached = flushed kind hand.old.core.cached found } }
     ensures room { hand.new.room ≡ hand.old.room }
@@ -223,7 +223,7 @@ fn flush(hand: &mut Hand, kind: Kind, found: u64)
 }
 
 /// Makes the effect of a step on the hand, where the step answered `found`.
-#[tactic(auto, unfolding(crate::specs::Steps::next))]
+#[tactic(auto, unfolding(crate::specs::machine::Steps::next))]
 pub fn advance(hand: &mut Hand, kind: Kind, found: u64)
     requires enabled { Enabled hand.old.core kind }
     requires room { 0 < hand.old.room }
