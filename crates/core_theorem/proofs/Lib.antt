@@ -1,5 +1,6 @@
 pub mod WalksKept
 pub mod Pages
+pub mod SamePages
 pub mod Holdings
 pub mod SetsCleared
 pub mod Runs

@@ -27,15 +27,20 @@ pub record HoldsAt (level : ℕ) (walk : TableWalk) : Type 0 where
   pub down : walk.level ≤ level
   pub up : level ≤ 4
 
--- Behind each run the pages are used so that each table that a walk holds stands at its level, for the run that the walk is in. So it is the
--- root, or linked below it. And each leaf in a table below the root, and in one to which a walk can still come from a table that it holds, says of
--- each guest frame that it is over what slots and host say.
-pub record PagesAreHeld (z : Sizes) (w : World Held) : Type 0 where
-  pub pages : PagesAreUsed z w
-  pub walks : (actor level : ℕ) → actor < actors_of z → HoldsAt level (walk_of w actor) → stands pages.up pages.spot (table_at level (walk_of w actor)) ≡ Some (at level (run_at level (walk_of w actor)))
-  pub linked : AllOver pages.up pages.spot (word_in z w area.Pool) (word_in z w area.Root 0) (LeavesSay (word_in z w area.Pool) (word_in z w area.Host) (word_in z w area.Slots 0))
+-- In this account of the pages each table that a walk holds stands at its level, for the run that the walk is in. So it is the root, or linked below
+-- it. And each leaf in a table below the root, and in one to which a walk can still come from a table that it holds, says of each guest frame that it
+-- is over what slots and host say.
+pub record PagesAreHeld (z : Sizes) (w : World Held) (pages : PagesAreUsed z w) : Type 0 where
+  pub walks : (actor level : ℕ) → actor < actors_of z → HoldsAt level (walk_of w actor)
+      → stands pages.up pages.spot (table_at level (walk_of w actor)) ≡ Some (at level (run_at level (walk_of w actor)))
+  pub linked : AllOver pages.up pages.spot (word_in z w area.Pool) (word_in z w area.Root 0)
+      (LeavesSay (word_in z w area.Pool) (word_in z w area.Host) (word_in z w area.Slots 0))
   pub reached : (actor level : ℕ) → actor < actors_of z → HoldsAt level (walk_of w actor)
-      → AllOver pages.up pages.spot (word_in z w area.Pool) (table_at level (walk_of w actor)) (LeavesSay (word_in z w area.Pool) (word_in z w area.Host) (word_in z w area.Slots 0))
+      → AllOver pages.up pages.spot (word_in z w area.Pool) (table_at level (walk_of w actor))
+      (LeavesSay (word_in z w area.Pool) (word_in z w area.Host) (word_in z w area.Slots 0))
 
+-- Whatever account is given of the pages after a run, the walks hold their tables in it.
 abbrev pub WalksHoldTables : Type 0
-WalksHoldTables = (z : Sizes) (lines : List Line) (w : World Held) (ss : List (Step Kind)) → IsRun z lines w ss → PagesAreHeld z (run mmu w ss)
+WalksHoldTables =
+    (z : Sizes) (lines : List Line) (w : World Held) (ss : List (Step Kind)) → IsRun z lines w ss
+    → (pages : PagesAreUsed z (run mmu w ss)) → PagesAreHeld z (run mmu w ss) pages

@@ -16,10 +16,10 @@ ghost use Rattle.core_theorem.specs.Walks.{WalksHoldTables};
 /// by one actor, linked by one entry of a table, the published slot set, an old slot set
 /// that is leaving for one actor, and none of the pool; and the tables, the root and what
 /// is linked below it, are each at a level and run of guest frames of its own. `walks`:
-/// with such uses, each table that a walk has gone through, and the one that it has come
-/// to, is at its level and for the run of guest frames that the walk is in, and each leaf
-/// below it, as each one below the root, says of every guest frame that it is over what
-/// slots and host say. `leaves`, `held`, `translations`, `used`: each leaf that is
+/// in each such account of the pages, each table that a walk has gone through, and the one
+/// that it has come to, is at its level and for the run of guest frames that the walk is
+/// in, and each leaf below it, as each one below the root, says of every guest frame that
+/// it is over what slots and host say. `leaves`, `held`, `translations`, `used`: each leaf that is
 /// linked below the root, or below a table that a walk holds, each one that is cached,
 /// and the one by which an access is about to touch, is of the page that the slots give
 /// the guest frame, at the frame that the host gives this page. `lock`: the lock's word

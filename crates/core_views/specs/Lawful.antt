@@ -45,6 +45,17 @@ pub record SawForbidden (notes : Notes) (gfn : ℕ) (op : Op) : Type 0 where
   pub looked : notes.host page ≡ Some entry
   pub forbids : is_denied op entry ≡ true
 
+-- It saw no pause, they give it a page, and the host's entry of this page, as the line looked at it, allows the operation.
+pub record SawPage (notes : Notes) (gfn : ℕ) (op : Op) : Type 0 where
+  pub runs : notes.paused ≡ Some false
+  pub slots : Slots
+  pub noted : notes.slots ≡ Some slots
+  pub page : ℕ
+  pub behind : page_behind slots gfn op ≡ Some page
+  pub entry : HostEntry
+  pub looked : notes.host page ≡ Some entry
+  pub allows : is_denied op entry ≡ false
+
 -- what a line is answered that has nothing to do on a machine with these slots: the refusal of a slot
 abbrev pub answer_at_once : Sizes → MemorySlots → Command → Option Answer
 answer_at_once z slots (Access gfn word op) = None
@@ -59,11 +70,13 @@ abbrev pub slot_change : MemorySlots → Command → Option (ℕ × Option Memor
 slot_change slots (Access gfn word op) = None
 slot_change slots (SetSlot id slot) = Some (id, Some (record { slot = slot; logged = is_logged id slots }))
 
--- The line under way may be given up with this answer. That no pool page was free is no fact of flat memory; but a line that has nothing to do wants none.
+-- The line under way may be given up with this answer. That no pool page was free is no fact of flat memory. But a line that has nothing to do wants
+-- none, and an access wants one, for a table, only once it has seen its page.
 abbrev pub MayLeave : Sizes → Facts → Command → Notes → Answer → Type 0
 MayLeave z f (Access gfn word op) notes Mmio = SawNoPage notes gfn op
 MayLeave z f (Access gfn word op) notes HostFault = SawForbidden notes gfn op
-MayLeave z f command notes Starved = HasWork z f command
+MayLeave z f (Access gfn word op) notes Starved = HasWork z f (Access gfn word op) × SawPage notes gfn op
+MayLeave z f (SetSlot id slot) notes Starved = HasWork z f (SetSlot id slot)
 MayLeave _ _ _ _ _ = ⊥
 
 -- The line's own events tell this answer, or it has none, and is answered so at once.

@@ -50,6 +50,10 @@ outside_line = access_line 3 0 4 0 Read
 abbrev pub OutsideReachesNone : Type 0
 OutsideReachesNone = IsUnlawful outside_line (LookedAtPause ∷ LookedAtSlots ∷ Accessed 4 0 Read 4 0 ∷ []) (Reached 4 0)
 
+-- It has seen no page, and so can't be given up for want of a pool page.
+abbrev pub OutsideCannotStarve : Type 0
+OutsideCannotStarve = IsUnlawful outside_line (LookedAtPause ∷ LookedAtSlots ∷ Exited Starved ∷ []) Starved
+
 -- Nor does it leave the guest before it has looked at the pause.
 abbrev pub ExitLooksAtPause : Type 0
 ExitLooksAtPause = IsUnlawful outside_line (LookedAtSlots ∷ Exited Mmio ∷ []) Mmio

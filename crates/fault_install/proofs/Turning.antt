@@ -13,16 +13,11 @@ use Rattle.core_views.specs.Held.{Held}
 use Rattle.mmu_core.specs.lines.FaultKnows.{EndKnows, FaultKnows, KnowsNext}
 use Rattle.mmu_core.specs.lines.FaultLaws.{CanAnswer}
 use Rattle.mmu_core.specs.lines.FaultSteps.{fault_left, fault_next, fault_part, next_left, wait_seen, waits}
-use Rattle.mmu_core.specs.machine.MayMake.{MayMake}
 use Rattle.part_steps.specs.PartBounds.{PartRests}
 use Rattle.part_steps.specs.PartSteps.{part_kind}
-use Rattle.mmu_core.specs.machine.Steps.{has_line}
-use Rattle.mmu_core.specs.machine.Worlds.{HandReached}
 use Rattle.mmu_core.proofs.lines.FaultFalls.{fault_falls}
 use Rattle.mmu_core.proofs.lines.FaultKnown.{fault_known}
-use Rattle.mmu_core.proofs.lines.FaultNeeds.{fault_needs}
 use Rattle.mmu_core.proofs.machine.HandAfter.{next_same}
-use Rattle.mmu_core.proofs.invariant.PartRested.{may_make, reached_part_rests}
 use Rattle.step_seats.specs.PartTurns.{MadePart}
 use Rattle.step_seats.specs.Where.{Told}
 use Rattle.step_seats.specs.declared.turn.Turn.{Turn}

@@ -30,13 +30,6 @@ actors_left watch h = actors_of h.state.sizes - looked_at watch h
 abbrev pub next_behind : Held → ℕ → ℕ
 next_behind h index = next_watched (own_index h) (index + 1)
 
--- the turn is to be made again
-abbrev pub waits : Turn (Unit {0}) → Bool
-waits More = false
-waits (Wait seen) = true
-waits (Retry cause) = false
-waits (Done answer) = false
-
 -- the watch is over
 abbrev pub is_done : Turn (Unit {0}) → Bool
 is_done More = false

@@ -1,12 +1,12 @@
 ghost use Rattle.std.specs.Prelude.{◌≡◌, ◌<◌, true, false};
-ghost use Rattle.grace_period.specs.Watches.{IsFoundBy, Watched, actors_left, is_done, looked_at, waits};
+ghost use Rattle.grace_period.specs.Watches.{IsFoundBy, Watched, actors_left, is_done, looked_at};
 ghost use Rattle.mmu_core.specs.alone.OthersRest.{OthersRest};
 ghost use Rattle.mmu_core.specs.machine.MayMake.{MayMake};
 ghost use Rattle.part_steps.specs.PartBounds.{PartRests};
 ghost use Rattle.part_steps.specs.PartSteps.{PartNeeds};
 ghost use Rattle.part_steps.specs.declared.part_step.PartStep.TheVariants as part;
 ghost use Rattle.step_seats.specs.Moves.{KeepsRoom};
-ghost use Rattle.step_seats.specs.PartTurns.{MakesPart, WherePartMade};
+ghost use Rattle.step_seats.specs.PartTurns.{TurnsPart, WherePartMade, waits};
 ghost use Rattle.step_seats.specs.declared.turn.Turn.TheVariants.{More};
 
 use core_views::{Hand, Seen};
@@ -58,13 +58,13 @@ impl Watch {
     }
 
     /// Looks at the next actor. Where this one is in a section or in the guest,
-    /// the turn waits, and the next turn looks at it again; else the watch goes
-    /// on to the next actor, and is done behind the last one. There must be an
-    /// actor left to look at; of the first turn there always is.
+    /// the turn waits, as its step does, and the next turn looks at it again; else
+    /// the watch goes on to the next actor, and is done behind the last one. There
+    /// must be an actor left to look at; of the first turn there always is.
     pub fn turn<S: Stepper>(&mut self, s: &mut S, note: u64) -> Turn<()>
         requires may { MayMake (part.Watch (looked_at self.old (S.handful s.old).core)) note (S.handful s.old).core }
         requires reserved { 0 < (S.handful s.old).room }
-        ensures step { MakesPart (part.Watch (looked_at self.old (S.handful s.old).core)) note (S.actor s.old) (S.handful s.old).core (S.handful s.new).core (S.tells s.old) (S.tells s.new) }
+        ensures step { TurnsPart (waits result) (part.Watch (looked_at self.old (S.handful s.old).core)) note (S.actor s.old) (S.handful s.old).core (S.handful s.new).core (S.tells s.old) (S.tells s.new) }
         ensures found { IsFoundBy result (looked_at self.old (S.handful s.old).core) note (S.actor s.old) (S.handful s.old).core (S.handful s.new).core (S.tells s.old) (S.tells s.new) }
         ensures watched { Watched result (looked_at self.old (S.handful s.old).core) (S.handful s.old).core (S.handful s.new).core.topics }
         ensures goes_on { is_done result ≡ false → PartNeeds (part.Watch (looked_at self.new (S.handful s.new).core)) (S.handful s.new).core }

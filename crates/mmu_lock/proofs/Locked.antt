@@ -1,5 +1,5 @@
 -- What tries for the lock come to.
-use Rattle.std.proofs.Common.{Some, subst, ◌≡◌, ◌≢◌, ◌<◌, ◌≤◌, ◌^◌, ℕ, refl, ap, ◌∙◌, arith}
+use Rattle.std.proofs.Common.{Some, subst, ◌≡◌, ◌≢◌, ◌<◌, ℕ, refl, ap, ◌∙◌, arith}
 use Rattle.std.specs.Prelude.{Bool, true, false, ◌==◌, if◌then◌else◌}
 use Rattle.std.proofs.lemmas.Bool.Decides.{nat_tests}
 use Rattle.core_views.specs.declared.topics.Hold.{Hold}

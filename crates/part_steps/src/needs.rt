@@ -11,7 +11,7 @@ ghost use Rattle.part_steps.specs.Tasks.{map_of};
 ghost use Rattle.part_steps.specs.declared.part_step.PartStep.TheVariants.{Enter, Leave, Begin, End, Clear};
 
 use crate::part_step::{PartStep, entry_index, run_of};
-use crate::slot_words::SET_ROLE;
+use crate::slot_words::SLOT_SET_ROLE;
 use crate::task::map_of;
 use core_views::{
     Actor, Checked, Hand, Hold, HostLook, Invalidations, MapClaim, OwnedPage, Slot, SlotSearch,
@@ -101,7 +101,7 @@ fn owns_set(owned: Option<OwnedPage>) -> bool
     ensures { result ≡ true → (o : OwnedPage) × (owned ≡ Some o) × (o.filled ≡ 513) × (o.role ≡ set_role) }
 {
     match owned {
-        Some(owned) => owned.filled == 513 && owned.role == SET_ROLE,
+        Some(owned) => owned.filled == 513 && owned.role == SLOT_SET_ROLE,
         None => false,
     }
 }

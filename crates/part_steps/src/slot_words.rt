@@ -35,7 +35,7 @@ pub(crate) fn slot_word(map: &WordMap, set: u64, id: u64, field: SlotField) -> u
 }
 
 /// The role of a slot set's page.
-pub(crate) const SET_ROLE: u64 = 5;
+pub const SLOT_SET_ROLE: u64 = 5;
 
 // Word i of a slot in its slot set; 0 where there is none.
 fn word_of_slot(slot: &Option<MemorySlot>, i: u64) -> u64
@@ -74,7 +74,7 @@ pub fn set_value(slots: &SlotSet, id: u64, slot: &Slot, filled: u64) -> u64
     ensures { result ≡ set_value (after_set id slot.now slots.now) filled }
 {
     if filled == 512 {
-        return SET_ROLE;
+        return SLOT_SET_ROLE;
     }
     let slot = slot_after(slots, id, slot, filled / 4);
     word_of_slot(&slot, filled % 4)

@@ -1,13 +1,16 @@
 -- What one step of a part makes of the seat that makes it.
-use Rattle.std.specs.Prelude.{◌≡◌, ℕ, IfSome}
+use Rattle.std.specs.Prelude.{◌≡◌, ℕ, Bool, true, false, IfSome}
 use Rattle.core_views.specs.Held.{Held}
 use Rattle.part_steps.specs.declared.part_step.PartStep.{PartStep}
 use Rattle.part_steps.specs.PartSteps.{part_kind}
 use Rattle.part_steps.specs.PartTopics.{part_topics}
 use Rattle.mmu_core.specs.machine.Machine.{World}
+use Rattle.mmu_core.specs.lines.PartWaits.{part_waits}
 use Rattle.mmu_core.specs.machine.Steps.{next}
 use Rattle.step_seats.specs.Moves.{Adds, Tells}
 use Rattle.step_seats.specs.Where.{AnsweredThere, HasHand, Told, WhereMade}
+use Rattle.step_seats.specs.declared.turn.Turn.{Turn}
+use Rattle.step_seats.specs.declared.turn.Turn.TheVariants.{More, Wait, Retry, Done}
 
 -- It holds where the step of a part was made.
 abbrev pub WherePartMade : PartStep → ℕ → ℕ → Held → Held → Told → (World Held → World Held → Type 0) → Type 0
@@ -22,6 +25,19 @@ pub record MadePart (step : PartStep) (note found actor : ℕ) (before after : H
   pub world : Tells told.world actor (part_kind before step note) found tells.world
   pub steps : Adds told.steps actor (part_kind before step note) tells.steps
   pub answers : AnsweredThere (part_kind before step note) found actor before after told
+
+-- The turn is to be made again: another actor is in its way.
+abbrev pub waits : {A : Type 0} → Turn A → Bool
+waits (Wait seen) = true
+waits More = false
+waits (Retry cause) = false
+waits (Done answer) = false
+
+-- The actor made this step of a part with a turn that waits exactly where the step does, by what the actor held and what the step answered.
+pub record TurnsPart (turn_waits : Bool) (step : PartStep) (note actor : ℕ) (before after : Held) (told tells : Told) : Type 0 where
+  pub found : ℕ
+  pub made : MadePart step note found actor before after told tells
+  pub waits_as : turn_waits ≡ part_waits step before.topics found
 
 -- The actor made this step of a part, whatever it answered.
 pub record MakesPart (step : PartStep) (note actor : ℕ) (before after : Held) (told tells : Told) : Type 0 where

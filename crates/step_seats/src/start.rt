@@ -10,7 +10,7 @@ ghost use Rattle.spte_words.specs.Areas.{size_of};
 ghost use Rattle.step_seats.specs.Moves.{cores_of};
 
 use core_views::{Actor, Hand, Line, NoMemory, Sizes};
-use part_steps::map_of;
+use part_steps::{SLOT_SET_ROLE, map_of};
 use spte_words::{Area, HostWord};
 use std::alloc::Global;
 
@@ -22,9 +22,6 @@ const USED_PAGES: u64 = 2;
 
 /// The role of the root's page: a table of level 4.
 const ROOT_ROLE: u64 = 4;
-
-/// The role of the published slot set's page.
-const SLOT_SET_ROLE: u64 = 5;
 
 fn least(a: u64, b: u64) -> u64
     ensures { result ≡ least a b }

@@ -58,11 +58,11 @@ pub record IsFirstSeen (page : ℕ) (claim : MapClaim) : Type 0 where
   pub free : has_bit (page % 64) claim.seen ≡ true
   pub none_before : (i : ℕ) → i < page % 64 → has_bit i claim.seen ≡ false
 
--- The page is the lowest of those seen, and its bit stood in the word that was found. The actor owns it, with nothing filled, and its
--- claim is over. Nothing else that it holds has changed.
+-- The claim tried this page, and its bit stood in the word that was found. The actor owns it, with nothing filled, and its claim is over. Nothing
+-- else that it holds has changed.
 pub record TakesPage (job : Claim) (page : ℕ) (before after : Topics) : Type 0 where
   pub tries : sees_pages job before.claim ≡ true
-  pub lowest : page ≡ 64 * before.claim.at + tried_bit before.claim
+  pub tried : page ≡ 64 * before.claim.at + tried_bit before.claim
   pub found : ℕ
   pub leads : after ≡ part_topics part.Claim before found
   pub stood : has_bit (page % 64) found ≡ true

@@ -5,7 +5,7 @@ ghost use Rattle.mmu_core.specs.machine.Steps.{has_line};
 ghost use Rattle.mmu_core.specs.machine.Worlds.{HandReached};
 ghost use Rattle.spte_words.specs.Areas.{words_of_bits};
 ghost use Rattle.step_seats.specs.Moves.{KeepsRoom};
-ghost use Rattle.step_seats.specs.PartTurns.{MakesPart, WherePartMade};
+ghost use Rattle.step_seats.specs.PartTurns.{TurnsPart, WherePartMade, waits};
 ghost use Rattle.step_seats.specs.declared.turn.Turn.TheVariants.{More, Wait, Done};
 ghost use Rattle.table_pool.specs.Claims.{ClaimTurn, IsClaimersAlone, IsFirstSeen, IsFreePage, SawStands, claim_step, turns_left};
 ghost use Rattle.table_pool.specs.declared.claim.Claimed.TheVariants.{Page};
@@ -53,12 +53,12 @@ impl Claim {
     {}
 
     /// Tries the lowest page of those seen, or loads the next word of the map.
-    /// `Wait` where another actor took the page meanwhile: what was seen then is
-    /// what the claim goes on with.
+    /// `Wait` exactly where its step waits, since another actor took the page
+    /// meanwhile: what was seen then is what the claim goes on with.
     pub fn turn<S: Stepper>(&mut self, s: &mut S, note: u64) -> Turn<Claimed>
         requires may { MayMake (claim_step self.old (S.handful s.old).core.topics.claim) note (S.handful s.old).core }
         requires reserved { 0 < (S.handful s.old).room }
-        ensures step { MakesPart (claim_step self.old (S.handful s.old).core.topics.claim) note (S.actor s.old) (S.handful s.old).core (S.handful s.new).core (S.tells s.old) (S.tells s.new) }
+        ensures step { TurnsPart (waits result) (claim_step self.old (S.handful s.old).core.topics.claim) note (S.actor s.old) (S.handful s.old).core (S.handful s.new).core (S.tells s.old) (S.tells s.new) }
         ensures turned { ClaimTurn (S.handful s.old).core.state.sizes self.old result (S.handful s.old).core.topics (S.handful s.new).core.topics }
         ensures begun { self.new.begun ≡ true }
         ensures first { (page : ℕ) → result ≡ Done (Page page) → IsFirstSeen page (S.handful s.old).core.topics.claim }

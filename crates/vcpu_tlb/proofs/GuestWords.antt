@@ -4,7 +4,6 @@ use Rattle.std.specs.Prelude.{◌==◌, Bool, true, false, IfSome, unwrap_or, if
 use Rattle.std.specs.Int.Bits.{bit_and}
 use Rattle.std.proofs.Math.Logic.{∥∥₁_elim}
 use Rattle.std.proofs.Props.{props}
-use Rattle.std.proofs.lemmas.Bool.Decides.{nat_tests}
 use Rattle.std.proofs.lemmas.Nat.Bits.{and_high_mask}
 use Rattle.core_views.specs.declared.kind.StepKind.{StepKind}
 use Rattle.core_views.specs.declared.kind.StepKind.TheVariants as kind

@@ -78,7 +78,7 @@ module _ {pages root set : ℕ} {role pool : ℕ → ℕ} {up : ℕ → Use} {sp
   one_place k l p R Q = one_chain R.0 Q.0 k l p R.1 Q.1
 
   -- The root reaches each table.
-  table_or : {X : Type 0} (k : ℕ) (p : Position) → stands up spot k ≡ Some p → (up k ≡ Root → X) → ((m j : ℕ) → up k ≡ Under m j → IsUnder pool up spot k p m j → X) → X
+  pub table_or : {X : Type 0} (k : ℕ) (p : Position) → stands up spot k ≡ Some p → (up k ≡ Root → X) → ((m j : ℕ) → up k ≡ Under m j → IsUnder pool up spot k p m j → X) → X
   table_or {X} k p at_k at_top linked_so = by (up k) refl (spot_of up spot k p at_k).0
     where
       by : (u : Use) → up k ≡ u → is_table u ≡ true → X

@@ -1,5 +1,6 @@
 -- What the steps of a fault owe flat memory.
 use Rattle.std.proofs.Common.{◌≡◌, ◌+◌, ◌<◌, ℕ, [], ◌∷◌, refl, sym, subst, ap, ◌∙◌, arith}
+use Rattle.std.proofs.lemmas.Bool.{eq-eqb}
 use Rattle.std.specs.Prelude.{Bool, true, false, ◌==◌, ◌&&◌, nat_le, nat_lt, not, if◌then◌else◌, Some}
 use Rattle.core_views.specs.declared.answer.Answer.{Answer}
 use Rattle.core_views.specs.declared.answer.Answer.TheVariants as answer
@@ -22,8 +23,8 @@ use Rattle.core_views.specs.declared.trace.Command.TheVariants.{Access}
 use Rattle.core_views.specs.declared.trace.Line.{Line}
 use Rattle.core_views.specs.declared.trace.Op.{Op}
 use Rattle.core_views.specs.Flat.{Facts, LineUnderWay, Notes}
-use Rattle.core_views.specs.Host.{with_entry}
-use Rattle.core_views.specs.Lawful.{MayLeave}
+use Rattle.core_views.specs.Host.{HostEntry, HostMap, HostNotes, is_denied, own_frames, with_entry}
+use Rattle.core_views.specs.Lawful.{MayLeave, SawPage}
 use Rattle.core_views.specs.Slots.{is_write}
 use Rattle.spte_words.specs.declared.area.Area.{Area}
 use Rattle.spte_words.specs.declared.area.Area.TheVariants as area
@@ -55,7 +56,7 @@ use Rattle.core_views.specs.declared.topics.Stay.{Stay}
 use Rattle.mmu_core.proofs.slots.LiveStays.{access_never}
 use Rattle.mmu_core.proofs.held.OldSets.{set_live}
 
--- Where a fault stands behind most of its steps, the line has noted nothing.
+-- Where a fault stands after most of its steps the line has noted nothing, up to its look at the host, and from there on that it saw a page.
 module _ (pool : ℕ → ℕ) (gfn : ℕ) (op : Op) (t : Topics) (notes : Notes) where
   abbrev Noted : FaultPlace → Type 0
   Noted p = NotedAt pool p gfn op t notes
@@ -64,33 +65,44 @@ module _ (pool : ℕ → ℕ) (gfn : ℕ) (op : Op) (t : Topics) (notes : Notes)
   either true p q first second = first
   either false p q first second = second
 
-  share_noted : (hold : Hold) (x : ℕ) → Noted (share_next hold x)
-  share_noted (Owing word) x = tt
-  share_noted _ x = either (has_writer x) Share (Check stage.Count) tt tt
+  share_noted : SawPage notes gfn op → (hold : Hold) (x : ℕ) → Noted (share_next hold x)
+  share_noted saw (Owing word) x = saw
+  share_noted saw _ x = either (has_writer x) Share (Check stage.Count) saw saw
 
-  check_noted : (at : CheckStage) (h : Topics) (x : ℕ) → Noted (check_next at gfn h x)
-  check_noted stage.Count h x = either (x == 0) (Check stage.Seq) (Check stage.Start) tt tt
-  check_noted stage.Start h x = tt
-  check_noted stage.End h x =
-      either (nat_le h.invalidations.start gfn && nat_lt gfn x) (Unshare (Retry (Open h.invalidations.count h.invalidations.start x gfn))) (Check stage.Seq) tt tt
-  check_noted stage.Seq h x =
-      either (x == snapshot_taken h.invalidations.snapshot) (Walk false) (Unshare (Retry (Moved (snapshot_taken h.invalidations.snapshot) x))) tt tt
+  check_noted : SawPage notes gfn op → (at : CheckStage) (h : Topics) (x : ℕ) → Noted (check_next at gfn h x)
+  check_noted saw stage.Count h x = either (x == 0) (Check stage.Seq) (Check stage.Start) saw saw
+  check_noted saw stage.Start h x = saw
+  check_noted saw stage.End h x =
+      either (nat_le h.invalidations.start gfn && nat_lt gfn x) (Unshare (Retry (Open h.invalidations.count h.invalidations.start x gfn))) (Check stage.Seq) tt saw
+  check_noted saw stage.Seq h x =
+      either (x == snapshot_taken h.invalidations.snapshot) (Walk false) (Unshare (Retry (Moved (snapshot_taken h.invalidations.snapshot) x))) saw tt
 
-  walk_noted : (k : SpteKind) (z : Sizes) (write : Bool) (walk : TableWalk) (x : ℕ) → Noted (walk_next k z gfn write walk x)
-  walk_noted entry_kind.Leaf z write walk x =
+  walk_noted : SawPage notes gfn op → (k : SpteKind) (z : Sizes) (write : Bool) (walk : TableWalk) (x : ℕ) → Noted (walk_next k z gfn write walk x)
+  walk_noted saw entry_kind.Leaf z write walk x =
       either (walk.level == 1) (if allows_access write x then Unshare Installed else Leaf) (Unshare (Retry (Entry (entry_word z gfn walk) x x)))
-      (either (allows_access write x) (Unshare Installed) Leaf tt tt) tt
-  walk_noted entry_kind.Absent z write walk x = either (walk.level == 1) Leaf (Claim false) tt tt
-  walk_noted _ z write walk x = tt
+      (either (allows_access write x) (Unshare Installed) Leaf tt saw) tt
+  walk_noted saw entry_kind.Absent z write walk x = either (walk.level == 1) Leaf (Claim false) saw saw
+  walk_noted saw (entry_kind.Table page) z write walk x = saw
+  walk_noted saw entry_kind.Frozen z write walk x = tt
 
-  claim_noted : (tries : Bool) (z : Sizes) (h : Topics) (begun : Bool) (x : ℕ) → Noted (claim_next tries z (at_map_word begun h.claim) x)
-  claim_noted true z h begun x = either (is_won (at_map_word begun h.claim) x) Fill (Claim true) tt tt
-  claim_noted false z h begun x = either (nat_lt (map_word begun h.claim + (if x == 0 then 1 else 0)) (words_of_bits z.pool)) (Claim true) (Unshare Starved) tt tt
+  claim_noted : SawPage notes gfn op → (tries : Bool) (z : Sizes) (h : Topics) (begun : Bool) (x : ℕ) → Noted (claim_next tries z (at_map_word begun h.claim) x)
+  claim_noted saw true z h begun x = either (is_won (at_map_word begun h.claim) x) Fill (Claim true) saw saw
+  claim_noted saw false z h begun x = either (nat_lt (map_word begun h.claim + (if x == 0 then 1 else 0)) (words_of_bits z.pool)) (Claim true) (Unshare Starved) saw saw
 
   -- The host allows the access.
-  host_noted : (write : Bool) (x : ℕ) → host_allows_write x ≡ true → Noted (if write && not (host_allows_write x) then End HostFault else Share)
-  host_noted true x allows = rw allows tt
-  host_noted false x allows = tt
+  host_noted : SawPage notes gfn op → (write : Bool) (x : ℕ) → host_allows_write x ≡ true → Noted (if write && not (host_allows_write x) then End HostFault else Share)
+  host_noted saw true x allows = rw allows saw
+  host_noted saw false x allows = saw
+
+never_denied : (op : Op) (page : ℕ) → is_denied op (own_frames page) ≡ false
+never_denied op page = by (is_write op)
+  where
+    by : (write : Bool) → (write && not true) ≡ false
+    by true = refl
+    by false = refl
+
+entry_noted : (page : ℕ) (entry : HostEntry) (host : HostNotes) → with_entry page entry host page ≡ Some entry
+entry_noted page entry host = rw (eq-eqb page page refl) refl
 
 module _ (z : Sizes) (v : View) (a : ℕ) (line : Line) (gfn word : ℕ) (op : Op) (facts : Facts) (u : LineUnderWay) where
   abbrev held : Topics
@@ -151,6 +163,22 @@ module _ (z : Sizes) (v : View) (a : ℕ) (line : Line) (gfn word : ℕ) (op : O
           ap (λ (t : Topics). t.search) (part_topics_is (v.hand a).state.sizes part.Slot (own_index (v.hand a)) held 0 (answered (Find true)) tt)
           ∙ ap (λ b. if b then searched held.search (answered (Find true)) else held.search) (K.1 refl).0
 
+  -- The line has seen a page, once it looks at the entry of the one that it has found: the host forbids nothing.
+  sees_page : Ready z v line (Access gfn word op) (place.Access (Fault Host)) held facts u
+      → SawPage (record u.notes { host = with_entry (page_of held.search.slot gfn) (facts.host (page_of held.search.slot gfn)) u.notes.host }) gfn op
+  sees_page R =
+      let N = R.under.1.1 in
+      record {
+        runs = R.under.1.0.1;
+        slots = N.slots;
+        noted = N.noted;
+        page = page_of held.search.slot gfn;
+        behind = N.behind;
+        entry = facts.host (page_of held.search.slot gfn);
+        looked = entry_noted (page_of held.search.slot gfn) (facts.host (page_of held.search.slot gfn)) u.notes.host;
+        allows = ap (λ (m : HostMap). is_denied op (m (page_of held.search.slot gfn))) R.refines.host ∙ never_denied op (page_of held.search.slot gfn);
+      }
+
   -- The line looks at the host word of the page, which allows writes.
   looks_at_host : IsPart z v a (part.Host (page_of held.search.slot gfn)) → Invariant z v → Ready z v line (Access gfn word op) (place.Access (Fault Host)) held facts u
       → StepGoes z v a line (Access gfn word op) (place.Access (Fault Host)) facts u
@@ -161,7 +189,7 @@ module _ (z : Sizes) (v : View) (a : ℕ) (line : Line) (gfn word : ℕ) (op : O
       R.under.0,
       (
         R.under.1.0,
-        host_noted (v.words area.Pool) gfn op (held_behind Host) (record u.notes { host = with_entry (page_of held.search.slot gfn) (facts.host (page_of held.search.slot gfn)) u.notes.host }) (is_write op) (answered Host)
+        host_noted (v.words area.Pool) gfn op (held_behind Host) (record u.notes { host = with_entry (page_of held.search.slot gfn) (facts.host (page_of held.search.slot gfn)) u.notes.host }) (sees_page R) (is_write op) (answered Host)
             (host_writable z (v.words area.Host) (page_of held.search.slot gfn) I.hosts (subst (λ (y : Sizes). page_of held.search.slot gfn < y.pages) S.sizes S.needs)),
       ),
     );
@@ -195,7 +223,7 @@ module _ (z : Sizes) (v : View) (a : ℕ) (line : Line) (gfn word : ℕ) (op : O
   ends Installed is S I P R = goes_back true Installed S I P R
   ends Mmio is S I P R = leaves_with answer.Mmio is S I P Mmio R R.under.1.1
   ends HostFault is S I P R = leaves_with answer.HostFault is S I P HostFault R R.under.1.1
-  ends Starved is S I P R = leaves_with answer.Starved is S I P Starved R refl
+  ends Starved is S I P R = leaves_with answer.Starved is S I P Starved R (refl, R.under.1.1)
   ends (Retry cause) is S I P R = goes_back false (Retry cause) S I P R
 
   pub fault_goes : (p : FaultPlace) → IsStep z v a line (Access gfn word op) (place.Access (Fault p)) → IsPart z v a (fault_part p gfn held) → Invariant z v → TopicsInvariant z v
@@ -206,23 +234,23 @@ module _ (z : Sizes) (v : View) (a : ℕ) (line : Line) (gfn word : ℕ) (op : O
   fault_goes (Find true) S part_ I P K R = searches S part_ I P K R
   fault_goes Host S part_ I P K R = looks_at_host part_ I R
   fault_goes Share S part_ I P K R =
-      quiet Share (share_next held.hold (answered Share)) part_ I P R (share_noted (words_behind Share area.Pool) gfn op (held_behind Share) u.notes held.hold (answered Share))
+      quiet Share (share_next held.hold (answered Share)) part_ I P R (share_noted (words_behind Share area.Pool) gfn op (held_behind Share) u.notes R.under.1.1 held.hold (answered Share))
   fault_goes (Check at) S part_ I P K R =
-      quiet (Check at) (check_next at gfn held (answered (Check at))) part_ I P R (check_noted (words_behind (Check at) area.Pool) gfn op (held_behind (Check at)) u.notes at held (answered (Check at)))
-  fault_goes (Walk false) S part_ I P K R = quiet (Walk false) (Walk true) part_ I P R tt
+      quiet (Check at) (check_next at gfn held (answered (Check at))) part_ I P R (check_noted (words_behind (Check at) area.Pool) gfn op (held_behind (Check at)) u.notes R.under.1.1 at held (answered (Check at)))
+  fault_goes (Walk false) S part_ I P K R = quiet (Walk false) (Walk true) part_ I P R R.under.1.1
   fault_goes (Walk true) S part_ I P K R =
       quiet (Walk true) (walk_next (kind_of held.walk.level (answered (Walk true))) (v.hand a).state.sizes gfn (is_write op) held.walk (answered (Walk true))) part_ I P R
-      (walk_noted (words_behind (Walk true) area.Pool) gfn op (held_behind (Walk true)) u.notes (kind_of held.walk.level (answered (Walk true))) (v.hand a).state.sizes (is_write op) held.walk (answered (Walk true)))
+      (walk_noted (words_behind (Walk true) area.Pool) gfn op (held_behind (Walk true)) u.notes R.under.1.1 (kind_of held.walk.level (answered (Walk true))) (v.hand a).state.sizes (is_write op) held.walk (answered (Walk true)))
   fault_goes (Claim begun) S part_ I P K R =
       quiet (Claim begun) (claim_next (tries_page begun held.claim) (v.hand a).state.sizes (at_map_word begun held.claim) (answered (Claim begun))) part_ I P R
-      (claim_noted (words_behind (Claim begun) area.Pool) gfn op (held_behind (Claim begun)) u.notes (tries_page begun held.claim) (v.hand a).state.sizes held begun (answered (Claim begun)))
+      (claim_noted (words_behind (Claim begun) area.Pool) gfn op (held_behind (Claim begun)) u.notes R.under.1.1 (tries_page begun held.claim) (v.hand a).state.sizes held begun (answered (Claim begun)))
   fault_goes Fill S part_ I P K R =
       quiet Fill (if nat_lt (words_filled held.owned) 512 then Fill else Link) part_ I P R
-      (either (words_behind Fill area.Pool) gfn op (held_behind Fill) u.notes (nat_lt (words_filled held.owned) 512) Fill Link tt tt)
+      (either (words_behind Fill area.Pool) gfn op (held_behind Fill) u.notes (nat_lt (words_filled held.owned) 512) Fill Link R.under.1.1 R.under.1.1)
   fault_goes Link S part_ I P K R =
       let x : ℕ = answered Link in
       let lost : FaultPlace = Give (Retry (Entry (entry_word (v.hand a).state.sizes gfn held.walk) held.walk.entry x)) in
-      quiet Link (if x == held.walk.entry then Walk true else lost) part_ I P R (either (words_behind Link area.Pool) gfn op (held_behind Link) u.notes (x == held.walk.entry) (Walk true) lost tt tt)
+      quiet Link (if x == held.walk.entry then Walk true else lost) part_ I P R (either (words_behind Link area.Pool) gfn op (held_behind Link) u.notes (x == held.walk.entry) (Walk true) lost R.under.1.1 tt)
   fault_goes (Give e) S part_ I P K R = quiet (Give e) (Unshare e) part_ I P R R.under.1.1
   fault_goes Leaf S part_ I P K R =
       let x : ℕ = answered Leaf in

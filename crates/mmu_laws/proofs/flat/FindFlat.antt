@@ -11,7 +11,7 @@ use Rattle.core_views.specs.declared.topics.Topics.{Topics}
 use Rattle.core_views.specs.declared.trace.Op.{Op}
 use Rattle.core_views.specs.declared.trace.Slot.{Slot as SlotOf}
 use Rattle.core_views.specs.Flat.{Notes}
-use Rattle.core_views.specs.Slots.{contains, is_write}
+use Rattle.core_views.specs.Slots.{contains, is_write, page_behind, page_in}
 use Rattle.spte_words.specs.Flags.{flags_live}
 use Rattle.mmu_core.specs.lines.FaultSteps.{find_next}
 use Rattle.mmu_laws.specs.flat.FlatInvariant.{NotedAt, NotedSlots}
@@ -21,8 +21,8 @@ use Rattle.part_steps.specs.TopicSteps.{searched_at}
 use Rattle.mmu_core.proofs.machine.Columns.{same_or}
 use Rattle.std.proofs.Common.{◌⊎◌, inl, inr, ◌≢◌}
 use Rattle.std.specs.Prelude.{All, Bool, true, false, ◌==◌, ◌&&◌, if◌then◌else◌, Some}
-use Rattle.part_steps.specs.SlotWords.{slot_at, slot_index, slots_below}
-use Rattle.mmu_core.proofs.words.SlotLists.{each_is_live, no_page_behind}
+use Rattle.part_steps.specs.SlotWords.{page_of, slot_at, slot_index, slots_below}
+use Rattle.mmu_core.proofs.words.SlotLists.{each_is_live, no_page_behind, only_one_holds, page_allowed}
 use Rattle.mmu_core.proofs.slots.LiveStay.{StayLive}
 use Rattle.part_steps.specs.PartSteps.{set_held}
 
@@ -78,11 +78,28 @@ held_apart z set k role pool P live gfn i j x y first second holds too =
 
 -- The slot is loaded whole: it holds the guest frame, and allows the operation or not, or it is passed.
 whole_noted : (z : Sizes) (set k : ℕ) (role pool : ℕ → ℕ) (gfn x : ℕ) (op : Op) (s : SlotSearch) (t : Topics) (notes : Notes) → SlotSetPart z set role pool → StayLive pool k pool set → HasLoaded field.Host pool k s → s.id ≤ 31
-    → t.search.set ≡ Some k → t.search.id ≡ s.id + 1 → NotedTo pool notes k s.id gfn → NotedAt pool (find_next gfn (is_write op) field.Host (searched_at field.Host s x)) gfn op t notes
-whole_noted z set k role pool gfn x op s t notes P live loaded low held search N = case (contains gfn slot) (is_write op && s.slot.read_only) refl refl
+    → x ≡ pool (slot_index k s.id field.Host) → t.search ≡ searched_at field.Host s x → t.search.set ≡ Some k → NotedTo pool notes k s.id gfn → NotedAt pool (find_next gfn (is_write op) field.Host (searched_at field.Host s x)) gfn op t notes
+whole_noted z set k role pool gfn x op s t notes P live loaded low is search held N = case (contains gfn slot) (is_write op && s.slot.read_only) refl refl
   where
     slot : SlotOf
     slot = record s.slot { host = x }
+
+    found_slot : t.search.slot ≡ slot
+    found_slot = ap (λ (r : SlotSearch). r.slot) search
+
+    next : t.search.id ≡ s.id + 1
+    next = ap (λ (r : SlotSearch). r.id) search
+
+    is_slot : slot_at pool k s.id ≡ slot
+    is_slot = λ i. record { base = sym loaded.1 i; pages = sym loaded.2 i; host = sym is i; read_only = sym loaded.0.1 i }
+
+    -- It is the one slot of the set that holds the guest frame.
+    found : contains gfn slot ≡ true → page_behind (slots_below pool k 32) gfn op ≡ page_in gfn op (Some slot)
+    found holds =
+        let here : contains gfn (slot_at pool k s.id) ≡ true = ap (contains gfn) is_slot ∙ holds in
+        ap (page_in gfn op)
+        (only_one_holds gfn pool k s.id 32 (omega (arith, low)) loaded.0.0 here (λ i lt live_i too. held_apart z set k role pool P live gfn i s.id _ _ (record { low = omega arith; live = live_i; is = refl }) (record { low = low; live = loaded.0.0; is = refl }) too here)
+        ∙ ap Some is_slot)
 
     same_frames : contains gfn slot ≡ contains gfn (slot_at pool k s.id)
     same_frames = rw (loaded.1, loaded.2) refl
@@ -99,8 +116,8 @@ whole_noted z set k role pool gfn x op s t notes P live loaded low held search N
     case : (holds denied : Bool) → contains gfn slot ≡ holds → (is_write op && s.slot.read_only) ≡ denied
         → NotedAt pool (if holds then (if denied then End Mmio else Host) else (if s.id + 1 == 32 then End Mmio else Find true)) gfn op t notes
     case true true holds denied = record { runs = N.runs; slots = slots_below pool k 32; noted = N.noted; none = no_page_behind (slots_below pool k 32) gfn op (λ n d lt. denied_to _ holds (listed pool k n d lt) denied) }
-    case true false holds denied = tt
-    case false denied holds _ = goes_on pool k gfn (s.id + 1) op t notes held search (passing pool notes k s.id gfn N (λ r l. ap (contains gfn) (sym l.is) ∙ sym same_frames ∙ holds))
+    case true false holds denied = record { slots = slots_below pool k 32; noted = N.noted; behind = found holds ∙ page_allowed slot gfn op denied ∙ ap (λ (r : SlotOf). Some (page_of r gfn)) (sym found_slot) }
+    case false denied holds _ = goes_on pool k gfn (s.id + 1) op t notes held next (passing pool notes k s.id gfn N (λ r l. ap (contains gfn) (sym l.is) ∙ sym same_frames ∙ holds))
 
 -- What the line has noted behind a word of a slot.
 word_noted : (z : Sizes) (set k : ℕ) (role pool : ℕ → ℕ) (gfn x : ℕ) (op : Op) (f : SlotField) (s : SlotSearch) (t : Topics) (notes : Notes) → SlotSetPart z set role pool → StayLive pool k pool set → s.set ≡ Some k → HasLoaded f pool k s → s.id ≤ 31
@@ -108,7 +125,7 @@ word_noted : (z : Sizes) (set k : ℕ) (role pool : ℕ → ℕ) (gfn x : ℕ) (
 word_noted z set k role pool gfn x op field.Flags s t notes P live held loaded low is search N =
     goes_on pool k gfn (if flags_live x then s.id else s.id + 1) op t notes (ap (λ (r : SlotSearch). r.set) search ∙ held) (ap (λ (r : SlotSearch). r.id) search) (flags_noted pool k gfn x s notes is N)
 word_noted z set k role pool gfn x op field.Host s t notes P live held loaded low is search N =
-    whole_noted z set k role pool gfn x op s t notes P live loaded low (ap (λ (r : SlotSearch). r.set) search ∙ held) (ap (λ (r : SlotSearch). r.id) search) N
+    whole_noted z set k role pool gfn x op s t notes P live loaded low is search (ap (λ (r : SlotSearch). r.set) search ∙ held) N
 word_noted z set k role pool gfn x op _ s t notes P live held loaded low is search N = goes_on pool k gfn s.id op t notes (ap (λ (r : SlotSearch). r.set) search ∙ held) (ap (λ (r : SlotSearch). r.id) search) N
 
 pub find_noted : (z : Sizes) (set : ℕ) (role pool : ℕ → ℕ) (gfn x : ℕ) (op : Op) (f : SlotField) (s : SlotSearch) (t : Topics) (notes : Notes) → SlotSetPart z set role pool → ((k : ℕ) → s.set ≡ Some k → StayLive pool k pool set)

@@ -55,10 +55,7 @@ noted_still pool other notes s gfn still N = record {
 
 noted_at_still : (pool other : ℕ → ℕ) (p : FaultPlace) (gfn : ℕ) (op : Op) (t : Topics) (notes : Notes) → HeldStays pool other t.search → NotedAt pool p gfn op t notes → NotedAt other p gfn op t notes
 noted_at_still pool other (fault.Find true) gfn op t notes still N = noted_still pool other notes t.search gfn still N
-noted_at_still pool other (fault.Give e) gfn op t notes still N = N
-noted_at_still pool other (fault.Unshare e) gfn op t notes still N = N
-noted_at_still pool other (fault.End e) gfn op t notes still N = N
-noted_at_still pool other _ gfn op t notes still N = tt
+noted_at_still pool other _ gfn op t notes still N = N
 
 access_still : (pool other : ℕ → ℕ) (p : AccessPlace) (gfn : ℕ) (op : Op) (t : Topics) (u : LineUnderWay) → HeldStays pool other t.search → AccessUnder pool p gfn op t u → AccessUnder other p gfn op t u
 access_still pool other (access.Fault p) gfn op t u still under = (under.0, noted_at_still pool other p gfn op t u.notes still under.1)

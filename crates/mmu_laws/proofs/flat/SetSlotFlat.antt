@@ -10,7 +10,7 @@ use Rattle.core_views.specs.declared.place.SetSlotPlace.TheVariants.{Refuse, Cla
 use Rattle.core_views.specs.declared.sizes.Sizes.{Sizes}
 use Rattle.core_views.specs.declared.topics.MapClaim.{MapClaim}
 use Rattle.core_views.specs.declared.topics.Topics.{Topics}
-use Rattle.core_views.specs.declared.trace.Command.TheVariants.{Access, SetSlot}
+use Rattle.core_views.specs.declared.trace.Command.TheVariants.{SetSlot}
 use Rattle.core_views.specs.declared.trace.Line.{Line}
 use Rattle.core_views.specs.declared.trace.Command.{Command}
 use Rattle.core_views.specs.declared.trace.Slot.{Slot}
@@ -82,18 +82,17 @@ module _ (z : Sizes) (v : View) (a : ℕ) (line : Line) (id : ℕ) (slot : Slot)
   quiet p next never S P R under = record { allowed = tt; refines = refines_stay z v.words (words_behind p) facts (stays p never S P) R.refines; under = under }
 
   -- A line that has something to do may be given up where no page is free.
-  gives_up : (command : Command) (notes : Notes) → HasWork z facts command → MayLeave z facts command notes Starved
-  gives_up (Access gfn word op) notes works = works
-  gives_up (SetSlot i s) notes works = works
+  gives_up : (command : Command) (notes : Notes) → command ≡ SetSlot id slot → HasWork z facts command → MayLeave z facts command notes Starved
+  gives_up command notes is works = subst (λ c. MayLeave z facts c notes Starved) (sym is) (subst (HasWork z facts) is works)
 
   -- A claim goes on, or there is no page free.
-  claim_goes : (begun : Bool) (o : Outcome) → HasWork z facts u.line.command → IsPart z v a (set_slot_part (Claim begun) (v.hand a) id slot) → TopicsInvariant z v → ReadyAt (Claim begun)
+  claim_goes : (begun : Bool) (o : Outcome) → u.line.command ≡ SetSlot id slot → HasWork z facts u.line.command → IsPart z v a (set_slot_part (Claim begun) (v.hand a) id slot) → TopicsInvariant z v → ReadyAt (Claim begun)
       → (o ≡ GoesTo (place.SetSlot Fill)) ⊎ (o ≡ GoesTo (place.SetSlot (Claim true))) ⊎ (o ≡ Ends Starved)
       → Goes z (v.hand a).state.actor line (SetSlot id slot) (words_behind (Claim begun)) (place_after o) (held_behind (Claim begun)) (exiting o ++ answering o line) facts u
-  claim_goes begun o works S P R (inl e) = subst (λ x. Goes z (v.hand a).state.actor line (SetSlot id slot) (words_behind (Claim begun)) (place_after x) (held_behind (Claim begun)) (exiting x ++ answering x line) facts u) (sym e) (quiet (Claim begun) Fill refl S P R R.under)
-  claim_goes begun o works S P R (inr (inl e)) = subst (λ x. Goes z (v.hand a).state.actor line (SetSlot id slot) (words_behind (Claim begun)) (place_after x) (held_behind (Claim begun)) (exiting x ++ answering x line) facts u) (sym e) (quiet (Claim begun) (Claim true) refl S P R R.under)
-  claim_goes begun o works S P R (inr (inr e)) = subst (λ x. Goes z (v.hand a).state.actor line (SetSlot id slot) (words_behind (Claim begun)) (place_after x) (held_behind (Claim begun)) (exiting x ++ answering x line) facts u) (sym e) (record {
-    allowed = ((R.under.1, gives_up u.line.command u.notes works), ((ap (λ (l : Line). l.number) (sym R.under.0), refl), tt));
+  claim_goes begun o is works S P R (inl e) = subst (λ x. Goes z (v.hand a).state.actor line (SetSlot id slot) (words_behind (Claim begun)) (place_after x) (held_behind (Claim begun)) (exiting x ++ answering x line) facts u) (sym e) (quiet (Claim begun) Fill refl S P R R.under)
+  claim_goes begun o is works S P R (inr (inl e)) = subst (λ x. Goes z (v.hand a).state.actor line (SetSlot id slot) (words_behind (Claim begun)) (place_after x) (held_behind (Claim begun)) (exiting x ++ answering x line) facts u) (sym e) (quiet (Claim begun) (Claim true) refl S P R R.under)
+  claim_goes begun o is works S P R (inr (inr e)) = subst (λ x. Goes z (v.hand a).state.actor line (SetSlot id slot) (words_behind (Claim begun)) (place_after x) (held_behind (Claim begun)) (exiting x ++ answering x line) facts u) (sym e) (record {
+    allowed = ((R.under.1, gives_up u.line.command u.notes is works), ((ap (λ (l : Line). l.number) (sym R.under.0), refl), tt));
     refines = refines_stay z v.words (words_behind (Claim begun)) facts (stays (Claim begun) refl S P) R.refines;
     under = refl;
   })
@@ -165,7 +164,7 @@ module _ (z : Sizes) (v : View) (a : ℕ) (line : Line) (id : ℕ) (slot : Slot)
   pub set_slot_goes : (p : SetSlotPlace) → IsStep z v a line (SetSlot id slot) (place.SetSlot p) → Invariant z v → TopicsInvariant z v → IsPart z v a (set_slot_part p (v.hand a) id slot) → ReadyAt p → GoesAt p
   set_slot_goes (Refuse refusal) S I P part_ R = refuse_goes refusal S I R
   set_slot_goes (Claim begun) S I P part_ R =
-      claim_goes begun (set_slot_outcome (Claim begun) (v.hand a) (answered (Claim begun))) (at_once z v a line id slot (Claim begun) facts u None S I R S.holds) part_ P R
+      claim_goes begun (set_slot_outcome (Claim begun) (v.hand a) (answered (Claim begun))) (ap (λ (l : Line). l.command) R.under.0 ∙ S.command_is) (at_once z v a line id slot (Claim begun) facts u None S I R S.holds) part_ P R
       (claim_ends (tries_page begun (v.hand a).topics.claim) (v.hand a).state.sizes (at_map_word begun (v.hand a).topics.claim) (answered (Claim begun)))
   set_slot_goes Fill S I P part_ R =
       let more : Bool = nat_lt (words_filled (v.hand a).topics.owned) 512 in

@@ -20,12 +20,12 @@ use Rattle.core_views.specs.declared.trace.Op.{Op}
 use Rattle.core_views.specs.Flat.{Facts, Flat, LineUnderWay, Notes, Fresh, HasAccessed, HasSetSlot, Idle}
 use Rattle.core_views.specs.Held.{Held}
 use Rattle.core_views.specs.Host.{HostMap, own_frames}
-use Rattle.core_views.specs.Lawful.{SawForbidden, SawNoPage}
+use Rattle.core_views.specs.Lawful.{SawForbidden, SawNoPage, SawPage}
 use Rattle.core_views.specs.Sizes.{actors_of}
-use Rattle.core_views.specs.Slots.{contains}
+use Rattle.core_views.specs.Slots.{Slots, contains, page_behind}
 use Rattle.spte_words.specs.Areas.{content_index}
 use Rattle.spte_words.specs.declared.area.Area.TheVariants as area
-use Rattle.part_steps.specs.SlotWords.{memory_slots_below, slots_below}
+use Rattle.part_steps.specs.SlotWords.{memory_slots_below, page_of, slots_below}
 use Rattle.part_steps.specs.Tasks.{map_of}
 use Rattle.mmu_core.specs.machine.View.{View}
 
@@ -45,19 +45,30 @@ pub record NotedSlots (pool : ℕ → ℕ) (notes : Notes) (search : SlotSearch)
   pub noted : notes.slots ≡ Some (slots_below pool set 32)
   pub passed : All (λ e. e.0 < search.id → contains gfn e.1 ≡ false) (slots_below pool set 32)
 
+-- The slots that the line looked at give the guest frame a page for the operation: the one behind it in the slot that the search has found.
+pub record NotedPage (notes : Notes) (search : SlotSearch) (gfn : ℕ) (op : Op) : Type 0 where
+  pub slots : Slots
+  pub noted : notes.slots ≡ Some slots
+  pub behind : page_behind slots gfn op ≡ Some (page_of search.slot gfn)
+
 -- what the line has noted where its fault is to end so
 abbrev pub EndNoted : FaultEnd → ℕ → Op → Notes → Type 0
 EndNoted end_of.Mmio gfn op notes = SawNoPage notes gfn op
 EndNoted end_of.HostFault gfn op notes = SawForbidden notes gfn op
+EndNoted end_of.Starved gfn op notes = SawPage notes gfn op
 EndNoted _ gfn op notes = Unit {0}
 
--- what the line has noted: while it searches the slots, and once its fault is to end
+-- what the line has noted: while it searches the slots; once it has found its slot; from its look at the host on; and once its fault is to end
 abbrev pub NotedAt : (ℕ → ℕ) → FaultPlace → ℕ → Op → Topics → Notes → Type 0
+NotedAt pool fault.Begin gfn op t notes = Unit {0}
+NotedAt pool fault.Snapshot gfn op t notes = Unit {0}
+NotedAt pool (fault.Find false) gfn op t notes = Unit {0}
 NotedAt pool (fault.Find true) gfn op t notes = NotedSlots pool notes t.search gfn
+NotedAt pool fault.Host gfn op t notes = NotedPage notes t.search gfn op
 NotedAt pool (fault.Give e) gfn op t notes = EndNoted e gfn op notes
 NotedAt pool (fault.Unshare e) gfn op t notes = EndNoted e gfn op notes
 NotedAt pool (fault.End e) gfn op t notes = EndNoted e gfn op notes
-NotedAt pool _ gfn op t notes = Unit {0}
+NotedAt pool _ gfn op t notes = SawPage notes gfn op
 
 -- The line has done nothing yet, and has looked at the pause, which wasn't set.
 abbrev pub Runs : LineUnderWay → Type 0

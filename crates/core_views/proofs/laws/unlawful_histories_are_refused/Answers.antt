@@ -1,12 +1,21 @@
-use Rattle.std.proofs.Common.{◌≡◌, ℕ, arith}
+use Rattle.std.proofs.Common.{◌≡◌, ℕ, refl, sym, ap, ◌∙◌, arith}
 use Rattle.std.proofs.lemmas.Option.{same_Some}
-use Rattle.std.specs.Prelude.{Option, Some}
+use Rattle.std.specs.Prelude.{Option, Some, None}
+use Rattle.core_views.specs.declared.trace.Op.{Op}
+use Rattle.core_views.specs.declared.trace.Op.TheVariants.{Read}
+use Rattle.core_views.specs.Slots.{Slots, page_behind}
 use Rattle.core_views.proofs.laws.unlawful_histories_are_refused.Goals as goal
 
 -- The slot line is begun, sets its slot, and is answered; then the other line begins.
 
 pub returns-clause-starved : goal.returns-clause-starved
 returns-clause-starved c lawful = absurd (cc lawful.1.1.1.1.0.1)
+
+no_page : (slots noted : Slots) (gfn page : ℕ) (op : Op) → page_behind slots gfn op ≡ None → Some slots ≡ Some noted → page_behind noted gfn op ≡ Some page → ⊥
+no_page slots noted gfn page op none is behind = let same : slots ≡ noted = same_Some slots noted is in let other = sym none ∙ ap (λ (xs : Slots). page_behind xs gfn op) same ∙ behind in absurd (cc other)
+
+pub returns-clause-no_page : goal.returns-clause-no_page
+returns-clause-no_page c lawful = let saw = lawful.1.1.1.1.1.1.0.1.1 in no_page _ saw.slots 4 saw.page Read refl saw.noted saw.behind
 
 pub returns-clause-pause : goal.returns-clause-pause
 returns-clause-pause c lawful = absurd (cc lawful.1.1.1.1.1.1.0.2)

@@ -15,4 +15,4 @@ returns-clause-makes g c =
     (g.S.Stepper.tells c.args.s.now) (g.S.Stepper.tells c.turn-answer.new.s)) (sym c.claim_turn.ensures)
     (claim_makes c.args.self.now c.args.begun c.turn-answer.result c.args.note (g.S.Stepper.actor c.args.s.now) (g.S.Stepper.handful c.args.s.now).core (g.S.Stepper.handful c.turn-answer.new.s).core
     (g.S.Stepper.tells c.args.s.now) (g.S.Stepper.tells c.turn-answer.new.s)
-    c.requires.is_at c.turn-answer.ensures.step c.turn-answer.ensures.turned))
+    c.requires.is_at (record { found = c.turn-answer.ensures.step.found; made = c.turn-answer.ensures.step.made }) c.turn-answer.ensures.turned))

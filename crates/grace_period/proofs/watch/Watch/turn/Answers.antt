@@ -7,10 +7,10 @@ use Rattle.part_steps.specs.declared.part_step.PartStep.TheVariants as part
 use Rattle.core_views.specs.Sizes.{actors_of, index_of}
 use Rattle.part_steps.specs.PartSteps.{PartNeeds, next_watched, own_index, part_kind}
 use Rattle.part_steps.specs.TopicSteps.{in_section}
-use Rattle.grace_period.specs.Watches.{looked_at, waits}
+use Rattle.grace_period.specs.Watches.{looked_at}
 use Rattle.grace_period.proofs.Looks.{fewer_left, look_free, more_needs, not_done, wait_needs}
 use Rattle.step_seats.proofs.Where.{where_made}
-use Rattle.step_seats.specs.PartTurns.{MadePart}
+use Rattle.step_seats.specs.PartTurns.{MadePart, waits}
 use Rattle.grace_period.proofs.watch.Watch.turn.Goals as goal
 use Rattle.grace_period.proofs.watch.Watch.turn.Goals.{then-next_watched-actors, else-next_watched-actors}
 
