@@ -1,5 +1,5 @@
 -- Each delay of a line has its cause: it waits or begins its fault anew, and each of these has one.
-use Rattle.std.proofs.Common.{◌≡◌, ◌⊎◌, inl, inr, ℕ, List, [], ◌∷◌, ◌++◌, refl}
+use Rattle.std.proofs.Common.{◌≡◌, ◌⊎◌, inl, inr, ◌<◌, ℕ, List, [], ◌∷◌, ◌++◌, refl, sym, subst, ap}
 use Rattle.std.specs.Prelude.{true}
 use Rattle.core_views.specs.declared.kind.Kind.{Kind}
 use Rattle.core_views.specs.declared.place.AccessPlace.TheVariants.{Enter, Pause, Root, Walk, Touch, Leave, Fault}
@@ -11,20 +11,32 @@ use Rattle.core_views.specs.declared.place.Place.TheVariants as place
 use Rattle.core_views.specs.declared.sizes.Sizes.{Sizes}
 use Rattle.core_views.specs.declared.trace.Line.{Line}
 use Rattle.core_views.specs.Held.{Held}
+use Rattle.core_views.specs.Sizes.{actors_of}
+use Rattle.part_steps.specs.declared.part_step.PartStep.{PartStep}
+use Rattle.part_steps.specs.PartSteps.{PartNeeds, part_kind}
 use Rattle.mmu_core.specs.lines.Delays.{begins_anew, line_waits}
 use Rattle.mmu_core.specs.machine.Enabled.{mmu}
-use Rattle.mmu_core.specs.machine.Machine.{Step, World, run}
+use Rattle.mmu_core.specs.lines.KnowsPart.{KnowsPart}
+use Rattle.mmu_core.specs.invariant.Laws.{IsSound}
+use Rattle.mmu_core.specs.machine.Machine.{Legal, May, Step, World, hand_in, run}
+use Rattle.mmu_core.specs.lines.PartWaits.{part_waits}
 use Rattle.mmu_core.specs.machine.Steps.{has_line}
+use Rattle.mmu_laws.specs.causes.Waits.{SawNothing, StepWaitIsCaused}
+use Rattle.mmu_core.specs.machine.Worlds.{Reachable}
 use Rattle.mmu_laws.proofs.causes.Causes.{faults_begin_anew_by_cause}
 use Rattle.mmu_laws.proofs.causes.EachFault.{is_access}
-use Rattle.mmu_core.proofs.start.Starts.{start_good}
-use Rattle.mmu_laws.proofs.turns.TurnsNearer.{delays_wait_or_begin_anew}
+use Rattle.mmu_core.proofs.machine.Extend.{leads_to_end, then}
+use Rattle.mmu_laws.proofs.causes.SawNothing.{between_lines_saw_nothing, line_left_before, starts_saw_nothing as seen_at_start}
+use Rattle.mmu_laws.proofs.causes.StarvedScan.{legal_parts}
+use Rattle.mmu_core.proofs.start.Starts.{hand_is}
+use Rattle.mmu_laws.proofs.turns.DelayCases.{delays_wait_or_begin_anew}
 use Rattle.mmu_laws.proofs.causes.StepWaits.{step_waits_are_by_cause}
 use Rattle.mmu_laws.proofs.causes.WaitsSame.{WaitsAs, line_waits_as}
 use Rattle.mmu_core.proofs.machine.Which.{is_next}
-use Rattle.core_theorem.specs.Delays.{BeginsAnew, DelaysHaveCauses, StepWaits, answer_of, hand_of}
+use Rattle.mmu_core.proofs.machine.Worlds.{good_run}
+use Rattle.core_theorem.specs.Delays.{BeginsAnew, BetweenLinesSawNothing, DelaysHaveCauses, StartsSawNothing, StepWaits, WaitsHaveCauses, answer_of, hand_of}
 use Rattle.core_theorem.specs.Runs.{IsRun}
-use Rattle.core_theorem.proofs.Runs.{before, last_actor, may_last, reached, sound, starts_between}
+use Rattle.core_theorem.proofs.Runs.{reached, sound}
 
 -- The place is the end of a section that begins anew.
 record IsNewBeginning (p : Place) : Type 0 where
@@ -59,19 +71,54 @@ new_beginning (place.Access (Leave how)) is = absurd (cc is)
 new_beginning (place.SetSlot p) is = absurd (cc is)
 new_beginning place.Between is = absurd (cc is)
 
-module _ (z : Sizes) (lines : List Line) (w : World Held) (ss : List (Step Kind)) (s : Step Kind) (R : IsRun z lines w (ss ++ s ∷ [])) where
+-- A run to a moment, some steps after it and one more.
+module _ (z : Sizes) (lines : List Line) (w : World Held) (ss ts : List (Step Kind)) (s : Step Kind) (R : IsRun z lines w (ss ++ (ts ++ s ∷ []))) where
+  -- the world of this moment
+  abbrev u : World Held
+  u = run mmu w ss
+
   abbrev h : Held
-  h = hand_of w ss s
+  h = hand_of u ts s
 
   abbrev v : ℕ
-  v = answer_of w ss s
+  v = answer_of u ts s
 
-  waiting : WaitsAs h s.kind v → StepWaits z w ss s
-  waiting W = record { step = W.step; note = W.note; is = W.is; needs = W.needs; waits = W.waits_; caused = step_waits_are_by_cause z lines w ss s W.step W.note R.start R.legal W.is W.needs W.waits_ }
+  parts : Legal mmu w ss × Legal mmu u (ts ++ s ∷ [])
+  parts = legal_parts w ss (ts ++ s ∷ []) R.legal
 
-  beginning : IsNewBeginning h.state.place → BeginsAnew z w ss s
-  beginning N =
-      let A = is_access h (Fault (fault.End (end_of.Retry N.cause))) N.is ((sound z lines w ss (before z lines w ss s R)).holds.knows s.actor (last_actor z lines w ss s R)) in
+  since : Legal mmu u ts × Legal mmu (run mmu u ts) (s ∷ [])
+  since = legal_parts u ts (s ∷ []) parts.1
+
+  up_to : IsRun z lines w ss
+  up_to = record { start = R.start; legal = parts.0 }
+
+  good : IsSound z u
+  good = sound z lines w ss up_to
+
+  last_good : IsSound z (run mmu u ts)
+  last_good = good_run z u ts good since.0
+
+  may : May mmu (run mmu u ts) s
+  may = since.1.0
+
+  there : s.actor < actors_of z
+  there = subst (λ n. s.actor < n) last_good.hands may.there
+
+  reached_last : Reachable (run mmu u ts)
+  reached_last = record { sizes = z; lines = lines; start = w; is_start = R.start; leads = then mmu w u (run mmu u ts) (leads_to_end mmu w ss parts.0) (leads_to_end mmu u ts since.0) }
+
+  known : KnowsPart h.state.place h.state.line.command h
+  known = last_good.holds.knows s.actor there
+
+  pub wait_is_caused : (step : PartStep) (note : ℕ) → SawNothing (hand_in mmu u s.actor).topics → s.kind ≡ part_kind h step note → PartNeeds step h → part_waits step h.topics v ≡ true → StepWaitIsCaused step z u ts s
+  wait_is_caused step note N is needs waits = step_waits_are_by_cause z u ts s step note good parts.1 N is needs waits
+
+  waiting : SawNothing (hand_in mmu u s.actor).topics → WaitsAs h s.kind v → StepWaits z u ts s
+  waiting N W = record { step = W.step; note = W.note; is = W.is; needs = W.needs; waits = W.waits_; caused = wait_is_caused W.step W.note N W.is W.needs W.waits_ }
+
+  beginning : (hand_in mmu u s.actor).state.place ≡ place.Between → IsNewBeginning h.state.place → BeginsAnew z u ts s
+  beginning idle N =
+      let A = is_access h (Fault (fault.End (end_of.Retry N.cause))) N.is known in
       record {
         cause = N.cause;
         gfn = A.gfn;
@@ -79,13 +126,26 @@ module _ (z : Sizes) (lines : List Line) (w : World Held) (ss : List (Step Kind)
         op = A.op;
         at = N.is;
         access_is = A.command;
-        caused =
-            faults_begin_anew_by_cause z w ss s.actor A.gfn A.word A.op N.cause (start_good z lines w R.start) (before z lines w ss s R).legal (starts_between z lines w ss s R) N.is A.command;
+        caused = faults_begin_anew_by_cause z u ts s.actor A.gfn A.word A.op N.cause good since.0 idle N.is A.command;
       }
 
-  by : has_line h ≡ true → (line_waits h.state.place h.topics v ≡ true) ⊎ (begins_anew h.state.place ≡ true) → BeginsAnew z w ss s ⊎ StepWaits z w ss s
-  by has (inl is) = inr (waiting (line_waits_as h s.kind v (is_next h s.kind (may_last z lines w ss s R).enabled has) ((sound z lines w ss (before z lines w ss s R)).holds.knows s.actor (last_actor z lines w ss s R)) is))
-  by has (inr is) = inl (beginning (new_beginning h.state.place is))
+  by : has_line h ≡ true → (hand_in mmu u s.actor).state.place ≡ place.Between → (line_waits h.state.place h.topics v ≡ true) ⊎ (begins_anew h.state.place ≡ true) → BeginsAnew z u ts s ⊎ StepWaits z u ts s
+  by has idle (inl is) =
+      let had = line_left_before z u ts s.actor good since.0 has in
+      let N = between_lines_saw_nothing u s.actor (reached z lines w ss up_to) (subst (λ n. s.actor < n) (sym good.hands) there) had idle in
+      inr (waiting N (line_waits_as h s.kind v (is_next h s.kind may.enabled has) known is))
+  by has idle (inr is) = inl (beginning idle (new_beginning h.state.place is))
+
+pub waits_have_causes : WaitsHaveCauses
+waits_have_causes z lines w ss ts s step note R N is needs waits = wait_is_caused z lines w ss ts s R step note N is needs waits
 
 pub delays_have_causes : DelaysHaveCauses
-delays_have_causes z lines w ss s R has delays = by z lines w ss s R has (delays_wait_or_begin_anew (run mmu w ss) s (reached z lines w ss (before z lines w ss s R)) (may_last z lines w ss s R) has delays)
+delays_have_causes z lines w ss ts s R idle has delays = by z lines w ss ts s R has idle (delays_wait_or_begin_anew (run mmu (run mmu w ss) ts) s (reached_last z lines w ss ts s R) (may z lines w ss ts s R) has delays)
+
+-- ---- what an actor has seen at the start, and between its lines
+
+pub starts_saw_nothing : StartsSawNothing
+starts_saw_nothing z lines w actor R there = (ap (λ (h : Held). h.state.place) (hand_is z lines w actor R.start there), seen_at_start z lines w actor R.start there)
+
+pub between_lines_see_nothing : BetweenLinesSawNothing
+between_lines_see_nothing z lines w ss actor R there has idle = between_lines_saw_nothing (run mmu w ss) actor (reached z lines w ss R) (subst (λ n. actor < n) (sym (sound z lines w ss R).hands) there) has idle

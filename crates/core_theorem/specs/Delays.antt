@@ -1,5 +1,5 @@
 -- Why a fault begins anew, why a step waits and why a line is starved, in every run.
-use Rattle.std.specs.Prelude.{◌≡◌, ◌⊎◌, ℕ, List, [], ◌∷◌, ◌++◌, true}
+use Rattle.std.specs.Prelude.{◌≡◌, ◌⊎◌, ◌<◌, ℕ, List, [], ◌∷◌, ◌++◌, true}
 use Rattle.core_views.specs.declared.answer.Answer.TheVariants.{Starved}
 use Rattle.core_views.specs.declared.kind.Kind.{Kind}
 use Rattle.core_views.specs.declared.place.AccessPlace.TheVariants as access
@@ -13,6 +13,7 @@ use Rattle.core_views.specs.declared.trace.Command.TheVariants.{Access}
 use Rattle.core_views.specs.declared.trace.Line.{Line}
 use Rattle.core_views.specs.declared.trace.Op.{Op}
 use Rattle.core_views.specs.Held.{Held}
+use Rattle.core_views.specs.Sizes.{actors_of}
 use Rattle.spte_words.specs.Areas.{words_of_bits}
 use Rattle.part_steps.specs.declared.part_step.PartStep.{PartStep}
 use Rattle.part_steps.specs.PartSteps.{PartNeeds, part_kind}
@@ -24,7 +25,7 @@ use Rattle.mmu_core.specs.lines.PartWaits.{part_waits}
 use Rattle.mmu_core.specs.invariant.Scans.{EndsWithScan}
 use Rattle.mmu_core.specs.machine.Steps.{delays_at, has_line, place_at}
 use Rattle.mmu_core.specs.machine.Turns.{line_of, outcome_of}
-use Rattle.mmu_laws.specs.causes.Waits.{StepWaitIsCaused}
+use Rattle.mmu_laws.specs.causes.Waits.{SawNothing, StepWaitIsCaused}
 use Rattle.core_theorem.specs.Runs.{IsRun}
 
 -- the hand that makes a step behind a run, and what the step answers
@@ -41,12 +42,28 @@ FaultsHaveCauses =
     → (hand_of w ss s).state.place ≡ place.Access (access.Fault (End (Retry cause))) → (hand_of w ss s).state.line.command ≡ Access gfn word op
     → IsCaused cause z s.actor gfn w ss
 
--- Each step of a part that waits, whoever makes it, has its cause in the steps before it, or in what another actor holds as it is made.
+-- At the start no actor has a line under way, or has seen anything that a step waits for.
+abbrev pub StartsSawNothing : Type 0
+StartsSawNothing =
+    (z : Sizes) (lines : List Line) (w : World Held) (actor : ℕ) → IsRun z lines w [] → actor < actors_of z
+    → ((hand_in mmu w actor).state.place ≡ Between) × SawNothing (hand_in mmu w actor).topics
+
+-- Nor has, after any run, an actor that has a line left and none under way: so at the moment at which a line begins its actor has seen nothing.
+abbrev pub BetweenLinesSawNothing : Type 0
+BetweenLinesSawNothing =
+    (z : Sizes) (lines : List Line) (w : World Held) (ss : List (Step Kind)) (actor : ℕ) → IsRun z lines w ss → actor < actors_of z
+    → has_line (hand_in mmu (run mmu w ss) actor) ≡ true → (hand_in mmu (run mmu w ss) actor).state.place ≡ Between
+    → SawNothing (hand_in mmu (run mmu w ss) actor).topics
+
+-- From any moment on at which an actor has seen nothing that a step waits for: each step of a part that it makes and that waits has its cause in the steps
+-- since that moment, or in what another actor holds as it is made.
 abbrev pub WaitsHaveCauses : Type 0
 WaitsHaveCauses =
-    (z : Sizes) (lines : List Line) (w : World Held) (ss : List (Step Kind)) (s : Step Kind) (step : PartStep) (note : ℕ) → IsRun z lines w (ss ++ s ∷ [])
-    → s.kind ≡ part_kind (hand_of w ss s) step note → PartNeeds step (hand_of w ss s) → part_waits step (hand_of w ss s).topics (answer_of w ss s) ≡ true
-    → StepWaitIsCaused step z w ss s
+    (z : Sizes) (lines : List Line) (w : World Held) (ss ts : List (Step Kind)) (s : Step Kind) (step : PartStep) (note : ℕ)
+    → IsRun z lines w (ss ++ (ts ++ s ∷ [])) → SawNothing (hand_in mmu (run mmu w ss) s.actor).topics
+    → s.kind ≡ part_kind (hand_of (run mmu w ss) ts s) step note → PartNeeds step (hand_of (run mmu w ss) ts s)
+    → part_waits step (hand_of (run mmu w ss) ts s).topics (answer_of (run mmu w ss) ts s) ≡ true
+    → StepWaitIsCaused step z (run mmu w ss) ts s
 
 -- With the step the fault of the line ends its section, to begin anew, for this cause in the steps before it, in this section.
 pub record BeginsAnew (z : Sizes) (w : World Held) (ss : List (Step Kind)) (s : Step Kind) : Type 0 where
@@ -67,12 +84,18 @@ pub record StepWaits (z : Sizes) (w : World Held) (ss : List (Step Kind)) (s : S
   pub waits : part_waits step (hand_of w ss s).topics (answer_of w ss s) ≡ true
   pub caused : StepWaitIsCaused step z w ss s
 
--- Each step that its hand counts as a delay of its line is one of these.
+-- The hand counts its step, with this answer, as a delay of its line.
+abbrev pub IsDelay : Held → ℕ → Type 0
+IsDelay h v = delays_at (place_at h.state.place h) (line_of h).command h v ≡ true
+
+-- From any moment on at which no line of an actor is under way, so from the one at which its line begins: each step that its hand counts as a delay of
+-- its line is one of these, with its cause in the steps since that moment.
 abbrev pub DelaysHaveCauses : Type 0
 DelaysHaveCauses =
-    (z : Sizes) (lines : List Line) (w : World Held) (ss : List (Step Kind)) (s : Step Kind) → IsRun z lines w (ss ++ s ∷ []) → has_line (hand_of w ss s) ≡ true
-    → delays_at (place_at (hand_of w ss s).state.place (hand_of w ss s)) (line_of (hand_of w ss s)).command (hand_of w ss s) (answer_of w ss s) ≡ true
-    → BeginsAnew z w ss s ⊎ StepWaits z w ss s
+    (z : Sizes) (lines : List Line) (w : World Held) (ss ts : List (Step Kind)) (s : Step Kind) → IsRun z lines w (ss ++ (ts ++ s ∷ []))
+    → (hand_in mmu (run mmu w ss) s.actor).state.place ≡ Between → has_line (hand_of (run mmu w ss) ts s) ≡ true
+    → IsDelay (hand_of (run mmu w ss) ts s) (answer_of (run mmu w ss) ts s)
+    → BeginsAnew z (run mmu w ss) ts s ⊎ StepWaits z (run mmu w ss) ts s
 
 -- From any moment on in which no line of an actor is under way, so from the one at which its line begins: a step that answers the line
 -- starved ends a scan of the whole map by the line's actor since that moment, which found no page free in any of its words.

@@ -2,6 +2,7 @@
 //! actors in any order, each enabled in its turn, from the start of every machine.
 #![tactic(auto)]
 
+ghost use Rattle.core_theorem.specs.Delays.{BetweenLinesSawNothing, StartsSawNothing};
 ghost use Rattle.core_theorem.specs.Delays.{DelaysHaveCauses, FaultsHaveCauses, StarvedLinesScanned, WaitsHaveCauses};
 ghost use Rattle.core_theorem.specs.Holdings.{AnsweredLinesRest, HeldSetsAreKnown, NoneHoldsFreePages, PagesAreReusedAlone, ReturnedSetsAreCleared, WatchedHoldNoOldSet};
 ghost use Rattle.core_theorem.specs.Leaves.{HeldLeavesAgree, LinkedLeavesAgree, TranslationsAgree, UsedLeavesAgree};
@@ -38,8 +39,10 @@ ghost use Rattle.core_theorem.specs.Walks.{WalksHoldTables};
 /// `begins_anew`, `waits`, `starved`: what stood in the way of a fault, and of each step
 /// that waits, whoever makes it, was another actor's, an open invalidation, or that each
 /// word of the pool's map was found with no page free since the line began; `delays`: so
-/// it is with each step that is counted as a delay of its line (tdp_mmu.c; locking.rst;
-/// mmu.rst).
+/// it is with each step that is counted as a delay of its line, since that line began.
+/// `at_start`, `between_lines`: what a step waits for was seen since any moment at which
+/// the actor had seen nothing, as at the start and between its lines (tdp_mmu.c;
+/// locking.rst; mmu.rst).
 ///
 /// `counts`, `line_turns`: a line makes at most 8,192 steps, one for each pool page
 /// and one for each frame up to the end of its first delay, as many from there to the
@@ -69,6 +72,8 @@ pub fn every_run()
     ensures open_lines { LinesAreOpen }
     ensures begins_anew { FaultsHaveCauses }
     ensures waits { WaitsHaveCauses }
+    ensures at_start { StartsSawNothing }
+    ensures between_lines { BetweenLinesSawNothing }
     ensures delays { DelaysHaveCauses }
     ensures starved { StarvedLinesScanned }
 {}

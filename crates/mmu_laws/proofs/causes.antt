@@ -15,3 +15,5 @@ pub mod ScanPlaces
 pub mod StarvedScan
 pub mod StepWaits
 pub mod WaitsSame
+pub mod NotOpen
+pub mod SawNothing

@@ -7,3 +7,6 @@ pub mod StepsBounded
 pub mod StepsCounted
 pub mod TurnsNearer
 pub mod AnsweredRest
+pub mod DelayCases
+pub mod OwnServed
+pub mod Removal

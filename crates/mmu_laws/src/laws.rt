@@ -13,8 +13,9 @@ ghost use Rattle.mmu_laws.specs.leaves.LeafLaws.{CachedLeavesAgree, HeldLeavesAg
 ghost use Rattle.mmu_core.specs.alone.LineAlone.{LineBeginsAlone, LineEndsAlone, LineGoesThrough, NoneStarvedAlone};
 ghost use Rattle.mmu_core.specs.invariant.Scans.{StarvedLinesScan};
 ghost use Rattle.mmu_laws.specs.steps.StepLaws.{EnteringFlushes, NotesTellEnds, OthersCacheOneAtMost, StepsAreOnTheirAreas};
-ghost use Rattle.mmu_laws.specs.turns.TurnLaws.{DelaysWaitOrBeginAnew, InstalledEntriesServe, LeavesStay, StepsAreBounded, StepsAreCounted, TurnsAreBounded, TurnsComeNearer};
-ghost use Rattle.mmu_laws.specs.causes.Waits.{StepWaitsAreByCause};
+ghost use Rattle.mmu_laws.specs.turns.Removal.{InstalledEntriesServe, LeavesStay, NoStepBreaks};
+ghost use Rattle.mmu_laws.specs.turns.TurnLaws.{DelaysWaitBeginAnewOrMiss, StepsAreBounded, StepsAreCounted, TurnsAreBounded, TurnsComeNearer};
+ghost use Rattle.mmu_laws.specs.causes.Waits.{BetweenLinesSawNothing, StartsSawNothing, StepWaitsAreByCause};
 
 /// What holds of every list of steps that is enabled step by step, of all
 /// actors in any order, from the start of every machine. Where one of them answers
@@ -38,12 +39,18 @@ pub fn every_list_of_steps()
 /// the lock held by another actor; where it gives the lock back, since its actor's last
 /// load of their count found invalidations open; and where it finds another actor in
 /// the guest or in a section (tdp_mmu.c, `kvm_tdp_mmu_map`; kvm_main.c,
-/// `kvm_swap_active_memslots`; locking.rst). And a line counts no other step as a delay
-/// than one with which it waits or begins its fault anew.
+/// `kvm_swap_active_memslots`; locking.rst). These causes lie in the steps since any
+/// moment at which the actor had seen nothing that a step waits for: so it is at a start,
+/// and between the lines of an actor that has one left. And a line counts no other step
+/// as a delay than one with which it waits or begins its fault anew, or one of the stay
+/// after a fault that installed an entry, which finds no translation: since that fault
+/// began a step took an entry of the guest frame away.
 pub fn each_delay_has_its_cause()
     ensures begins_anew { FaultsBeginAnewByCause }
     ensures waits { StepWaitsAreByCause }
-    ensures delays { DelaysWaitOrBeginAnew }
+    ensures starts { StartsSawNothing }
+    ensures between { BetweenLinesSawNothing }
+    ensures delays { DelaysWaitBeginAnewOrMiss }
 {}
 
 /// That the steps can be made: every machine has a start, and at every moment
@@ -157,19 +164,22 @@ pub fn a_line_alone_goes_through()
     ensures enough { NoneStarvedAlone }
 {}
 
-/// A line's turns come to an end between its waits and its new beginnings, beside
-/// other actors that stand anywhere in their lines: each step of it that neither
-/// waits nor begins a fault anew leaves it fewer steps, or answers it, and it never
-/// has more left than 8,192, one for each pool page and one for each frame. For
-/// behind a fault that ended with an entry installed, whatever the other actors do,
-/// links lead from the root, and from the table that the line's walk has come to, to
-/// a leaf that allows the access; and where links lead to such a leaf once, they do
-/// so behind every list of steps (tdp_mmu.c, `kvm_tdp_mmu_map`; locking.rst).
+/// A line's turns come to an end between its delays, beside other actors that stand
+/// anywhere in their lines: each step of it that neither waits nor begins a fault anew
+/// leaves it fewer steps, or answers it, or is one of a stay that misses, and it never
+/// has more left than 8,192, one for each pool page and one for each frame. For after a
+/// fault that ended with an entry installed, whatever the other actors do, links lead
+/// from the root, and from the table that the line's walk has come to, to a leaf that
+/// allows the access, or a step since that fault began took an entry of the guest frame
+/// away; and where links lead to such a leaf once, they do so after every list of steps,
+/// or one of them took an entry of the guest frame away. No step of the machine does so
+/// yet (`unbroken`), so no stay misses (tdp_mmu.c, `kvm_tdp_mmu_map`; locking.rst).
 pub fn turns_come_to_an_end()
     ensures nearer { TurnsComeNearer }
     ensures bounded { TurnsAreBounded }
     ensures installed { InstalledEntriesServe }
     ensures stay { LeavesStay }
+    ensures unbroken { NoStepBreaks }
 {}
 
 /// A hand counts the steps of its line since it began, or since the end of its last

@@ -12,7 +12,7 @@ use Rattle.mmu_core.specs.machine.Steps.{has_line, place_at}
 use Rattle.mmu_laws.specs.turns.TurnLaws.{begins_anew}
 use Rattle.mmu_core.specs.machine.Turns.{outcome_of}
 use Rattle.mmu_core.specs.machine.Worlds.{Reachable}
-use Rattle.mmu_laws.proofs.turns.TurnsNearer.{turns_nearer}
+use Rattle.mmu_laws.proofs.turns.DelayCases.{turns_nearer}
 use Rattle.weave_engine.specs.Turned.{MakesTurn}
 use Rattle.weave_engine.specs.Turning.{is_ended}
 

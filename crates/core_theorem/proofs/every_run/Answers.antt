@@ -10,9 +10,8 @@ use Rattle.mmu_laws.proofs.flat.EveryHistory.{every_flat, every_history}
 use Rattle.mmu_laws.proofs.leaves.LeafLaws.{cached_leaves_agree, leaves_agree, used_leaves_agree}
 use Rattle.mmu_laws.proofs.causes.StarvedScan.{legal_parts, starved_lines_scan}
 use Rattle.mmu_core.proofs.start.Starts.{start_good}
-use Rattle.mmu_laws.proofs.causes.StepWaits.{step_waits_are_by_cause}
 use Rattle.core_theorem.proofs.Begins.{lines_are_open}
-use Rattle.core_theorem.proofs.DelayCauses.{delays_have_causes}
+use Rattle.core_theorem.proofs.DelayCauses.{between_lines_see_nothing, delays_have_causes, starts_saw_nothing, waits_have_causes}
 use Rattle.core_theorem.proofs.Holdings.{held_sets_are_known, none_holds_free_pages, pages_are_reused_alone, watched_hold_no_old_set}
 use Rattle.core_theorem.proofs.LineTurns.{lines_make_few_steps}
 use Rattle.core_theorem.proofs.Turns.{counts_are_few, steps_are_few}
@@ -92,7 +91,13 @@ returns-clause-begins_anew c z lines w ss s cause gfn word op R stands command =
     faults_begin_anew_by_cause z w ss s.actor gfn word op cause (start_good z lines w R.start) (before z lines w ss s R).legal (starts_between z lines w ss s R) stands command
 
 pub returns-clause-waits : goal.returns-clause-waits
-returns-clause-waits c z lines w ss s step note R is needs waits = step_waits_are_by_cause z lines w ss s step note R.start R.legal is needs waits
+returns-clause-waits c = waits_have_causes
+
+pub returns-clause-at_start : goal.returns-clause-at_start
+returns-clause-at_start c = starts_saw_nothing
+
+pub returns-clause-between_lines : goal.returns-clause-between_lines
+returns-clause-between_lines c = between_lines_see_nothing
 
 pub returns-clause-delays : goal.returns-clause-delays
 returns-clause-delays c = delays_have_causes

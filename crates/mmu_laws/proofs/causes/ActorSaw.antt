@@ -1,18 +1,14 @@
--- What each actor has seen that waits for another one, in every list of steps from a start, whatever it does: of the lock the writer that it found, of the
--- open invalidations their count, and of the pool's map the word that its claim has come to.
+-- What each actor has seen that waits for another one, in every list of steps from a world in which it has seen nothing, whatever it does: of the lock the
+-- writer that it found, of the open invalidations their count, and of the pool's map the word that its claim has come to.
 use Rattle.std.proofs.Common.{◌≡◌, ◌≢◌, ◌⊎◌, inl, inr, ◌<◌, ◌≤◌, ◌+◌, ℕ, List, [], ◌∷◌, ◌++◌, refl, sym, subst, ap, ◌∙◌, arith}
-use Rattle.std.specs.Prelude.{Bool, true, false, ◌==◌, if◌then◌else◌}
+use Rattle.std.specs.Prelude.{Bool, true, false, ◌==◌, not, if◌then◌else◌}
 use Rattle.std.proofs.lemmas.Bool.Decides.{nat_tests}
 use Rattle.core_views.specs.declared.kind.Kind.{Kind}
 use Rattle.core_views.specs.declared.kind.StepKind.TheVariants as kind
 use Rattle.core_views.specs.declared.sizes.Sizes.{Sizes}
-use Rattle.core_views.specs.declared.topics.Checked.{Checked}
-use Rattle.core_views.specs.declared.topics.Checked.TheVariants as checked
 use Rattle.core_views.specs.declared.topics.Hold.TheVariants.{Loose, Shared, Owing, Exclusive}
 use Rattle.core_views.specs.declared.topics.Topics.{Topics}
-use Rattle.core_views.specs.declared.trace.Line.{Line}
-use Rattle.core_views.specs.Held.{Held, first_topics}
-use Rattle.core_views.specs.Sizes.{actors_of}
+use Rattle.core_views.specs.Held.{Held}
 use Rattle.spte_words.specs.declared.area.Area.{Area}
 use Rattle.spte_words.specs.declared.area.Area.TheVariants as area
 use Rattle.spte_words.specs.Areas.{number_of, place, pool_index, size_of, words_of_bits}
@@ -22,14 +18,13 @@ use Rattle.part_steps.specs.declared.part_step.PartStep.TheVariants as part
 use Rattle.part_steps.specs.PartSteps.{own_index, page_owned, part_task, words_filled, works}
 use Rattle.part_steps.specs.PartTopics.{part_topics}
 use Rattle.part_steps.specs.Tasks.{map_of}
-use Rattle.part_steps.specs.TopicSteps.{has_writer, is_won, range_checked, seq_checked, start_checked, topics_after}
+use Rattle.part_steps.specs.TopicSteps.{has_writer, is_won, topics_after}
 use Rattle.mmu_laws.specs.causes.Causes.{Finds}
 use Rattle.mmu_core.specs.machine.Enabled.{mmu}
 use Rattle.mmu_core.specs.invariant.Laws.{IsSound}
 use Rattle.mmu_core.specs.machine.Machine.{Legal, May, Step, World, answered, effect, hand_in, run}
-use Rattle.mmu_core.specs.lines.PartWaits.{was_counted}
-use Rattle.mmu_laws.specs.causes.Waits.{FindsWriter, FoundCount, FoundWriter, IsOffWord, count_word, lock_word, pool_word}
-use Rattle.mmu_core.specs.machine.Worlds.{IsStart}
+use Rattle.mmu_core.specs.lines.PartWaits.{is_owing, saw_open}
+use Rattle.mmu_laws.specs.causes.Waits.{FindsWriter, FoundCount, FoundWriter, IsOffWord, SawNothing, count_word, lock_word, pool_word}
 use Rattle.mmu_laws.proofs.causes.Changes.{Knows, knows_longer, made_longer, made_now, of_each_list}
 use Rattle.mmu_laws.proofs.causes.ClaimSeen.{mapped_saw, tried_saw}
 use Rattle.mmu_core.proofs.machine.Columns.{same_or}
@@ -38,34 +33,15 @@ use Rattle.mmu_core.proofs.machine.LineParts.{IsPartKind, IsQuiet, step_kind}
 use Rattle.mmu_core.proofs.machine.LineRuns.{own_hand}
 use Rattle.mmu_laws.proofs.causes.MadeSteps.{Makes, load_finds, made_topics, own_rests, own_sizes, word_on}
 use Rattle.mmu_core.proofs.machine.NextTopics.{next_topics}
+use Rattle.mmu_laws.proofs.causes.NotOpen.{range_not_open, seq_not_open, start_not_open}
 use Rattle.mmu_core.proofs.words.PartFits.{part_within_by}
 use Rattle.mmu_core.proofs.held.Scanned.{others_hand}
-use Rattle.mmu_core.proofs.start.StartWords.{hand_is}
-use Rattle.mmu_core.proofs.start.Starts.{start_good}
 
 pub record ActorSaw (z : Sizes) (w : World Held) (actor : ℕ) (t : Topics) (ss : List (Step Kind)) (u : World Held) : Type 0 where
   pub owing : (word : ℕ) → t.hold ≡ Owing word → FoundWriter z actor word w ss
-  pub counted : was_counted t.invalidations.checked ≡ true → FoundCount z actor t.invalidations.count w ss
+  pub counted : saw_open t.invalidations ≡ true → FoundCount z actor t.invalidations.count w ss
   pub claim : 0 < t.claim.seen → Knows (IsOffWord actor (pool_word z t.claim.at)) actor (pool_word z t.claim.at) t.claim.seen w ss u
   pub alone : 0 < t.claim.seen → t.claim.at < words_of_bits z.pool
-
--- After a load of the range or of the sequence number the check is further than the count, or begins anew.
-start_no_count : (c : Checked) → was_counted (start_checked c) ≡ true → ⊥
-start_no_count checked.Count is = cc is
-start_no_count _ is = cc is
-
-end_no_count : (c : Checked) → was_counted (range_checked c) ≡ true → ⊥
-end_no_count checked.Start is = cc is
-end_no_count _ is = cc is
-
-seq_no_count : (n : ℕ) (c : Checked) → was_counted (seq_checked n c) ≡ true → ⊥
-seq_no_count n checked.Count is = by (n == 0) is
-  where
-    by : (b : Bool) → was_counted (if b then checked.All else checked.Nothing) ≡ true → ⊥
-    by true is = cc is
-    by false is = cc is
-seq_no_count n checked.Range is = cc is
-seq_no_count n _ is = cc is
 
 -- A fill stores in the pool or in the roles, so in neither lock, count nor map.
 fill_apart : (t : Topics) (own note value : ℕ) (b : Area) → (area.Role ≡ b → ⊥) → (area.Pool ≡ b → ⊥) → (part_task (part.Fill value) own t note).area ≡ b → ⊥
@@ -118,7 +94,7 @@ module _ (z : Sizes) (w : World Held) (ss : List (Step Kind)) (s : Step Kind) (G
   lock_longer : (step : PartStep) (M : Made step) → ((part_task step (own_index h) t M.note).area ≡ area.Lock → ⊥) → SeesHere t → (word : ℕ) → t.hold ≡ Owing word → FoundWriter z a word w Behind
   lock_longer step M apart S word is = made_longer (FindsWriter z a word) (IsOffWord a (lock_word z)) w ss s (lock_off step M apart) (S.owing word is)
 
-  count_longer : (step : PartStep) (M : Made step) → ((part_task step (own_index h) t M.note).area ≡ area.Count → ⊥) → SeesHere t → was_counted t.invalidations.checked ≡ true → FoundCount z a t.invalidations.count w Behind
+  count_longer : (step : PartStep) (M : Made step) → ((part_task step (own_index h) t M.note).area ≡ area.Count → ⊥) → SeesHere t → saw_open t.invalidations ≡ true → FoundCount z a t.invalidations.count w Behind
   count_longer step M apart S is = made_longer (Finds a (count_word z) t.invalidations.count) (IsOffWord a (count_word z)) w ss s (count_off step M apart) (S.counted is)
 
   abbrev ClaimSaw : ℕ → ℕ → Type 0
@@ -149,12 +125,12 @@ module _ (z : Sizes) (w : World Held) (ss : List (Step Kind)) (s : Step Kind) (G
   owing_saw (part.Fill value) M S word is = lock_longer (part.Fill value) M (fill_apart t (own_index h) M.note value area.Lock (λ e. cc e) (λ e. cc e)) S word is
   owing_saw step M S word is = lock_longer step M (λ e. cc e) S word is
 
-  counted_saw : (step : PartStep) → Made step → SeesHere t → was_counted (part_topics step t v).invalidations.checked ≡ true → FoundCount z a (part_topics step t v).invalidations.count w Behind
+  counted_saw : (step : PartStep) → Made step → SeesHere t → saw_open (part_topics step t v).invalidations ≡ true → FoundCount z a (part_topics step t v).invalidations.count w Behind
   counted_saw part.Count M S is =
       made_now (Finds a (count_word z) v) (IsOffWord a (count_word z)) w ss s (record { by_actor = refl; on = word_on z u s G may part.Count M; finds = load_finds z u s G may part.Count M tt })
-  counted_saw part.RangeStart M S is = absurd (start_no_count t.invalidations.checked is)
-  counted_saw part.RangeEnd M S is = absurd (end_no_count t.invalidations.checked is)
-  counted_saw part.Seq M S is = absurd (seq_no_count t.invalidations.count t.invalidations.checked is)
+  counted_saw part.RangeStart M S is = let none = start_not_open t.invalidations.checked (not (t.invalidations.count == 0)) in absurd (cc (none, is))
+  counted_saw part.RangeEnd M S is = let none = range_not_open t.invalidations.checked (not (t.invalidations.count == 0)) in absurd (cc (none, is))
+  counted_saw part.Seq M S is = let none = seq_not_open t.invalidations.count t.invalidations.checked (not (t.invalidations.count == 0)) in absurd (cc (none, is))
   counted_saw part.Enter M S is = absurd (cc is)
   counted_saw part.Leave M S is = absurd (cc is)
   counted_saw part.Begin M S is = absurd (cc is)
@@ -246,12 +222,17 @@ module _ (z : Sizes) (w : World Held) (ss : List (Step Kind)) (s : Step Kind) (G
       by (inr apart) =
           subst (λ (x : Held). ActorSaw z w actor x.topics Behind (effect mmu u s)) (sym (others_hand u s actor apart)) (others_saw actor (hand_in mmu u actor).topics (λ e. apart (sym e)) S)
 
-first_saw : (z : Sizes) (w : World Held) (actor : ℕ) → ActorSaw z w actor first_topics [] w
-first_saw z w actor = record { owing = λ word is. absurd (cc is); counted = λ is. absurd (cc is); claim = λ some. absurd (omega (arith, some)); alone = λ some. absurd (omega (arith, some)) }
+first_saw : (z : Sizes) (w : World Held) (actor : ℕ) (t_ : Topics) → SawNothing t_ → ActorSaw z w actor t_ [] w
+first_saw z w actor t_ N = record {
+  owing = λ word is. let owes = ap is_owing is in absurd (cc (N.owes, owes));
+  counted = λ is. absurd (cc (N.closed, is));
+  claim = λ some. absurd (omega (arith, some, N.claims));
+  alone = λ some. absurd (omega (arith, some, N.claims));
+}
 
--- From a start: so it is with each actor, after every list of steps.
-pub actor_saw : (z : Sizes) (lines : List Line) (w : World Held) (ss : List (Step Kind)) (actor : ℕ) → IsStart z lines w → Legal mmu w ss → actor < actors_of z
+-- From every sound world in which the actor has seen nothing: what it has seen after every list of steps.
+pub actor_saw : (z : Sizes) (w : World Held) (ss : List (Step Kind)) (actor : ℕ) → IsSound z w → Legal mmu w ss → SawNothing (hand_in mmu w actor).topics
     → ActorSaw z w actor (hand_in mmu (run mmu w ss) actor).topics ss (run mmu w ss)
-actor_saw z lines w ss actor start legal there =
-    of_each_list z w (λ (ts : List (Step Kind)) (x : World Held). ActorSaw z w actor (hand_in mmu x actor).topics ts x) (λ ts s G may S. saw_more z w ts s G may actor S) ss (start_good z lines w start) legal
-    (subst (λ (x : Held). ActorSaw z w actor x.topics [] w) (sym (hand_is z lines w actor start there)) (first_saw z w actor))
+actor_saw z w ss actor G legal N =
+    of_each_list z w (λ (ts : List (Step Kind)) (x : World Held). ActorSaw z w actor (hand_in mmu x actor).topics ts x) (λ ts s sound may S. saw_more z w ts s sound may actor S) ss G legal
+    (first_saw z w actor (hand_in mmu w actor).topics N)

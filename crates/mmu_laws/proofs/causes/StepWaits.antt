@@ -19,9 +19,8 @@ use Rattle.mmu_laws.proofs.causes.ActorSaw.{ActorSaw, actor_saw}
 use Rattle.mmu_laws.proofs.causes.ClaimSeen.{page_taken}
 use Rattle.mmu_core.proofs.lines.FaultSame.{both}
 use Rattle.mmu_laws.proofs.causes.FindsOthers.{lock_taken, other_inside}
-use Rattle.mmu_laws.proofs.causes.MadeSteps.{Makes, in_machine}
+use Rattle.mmu_laws.proofs.causes.MadeSteps.{Makes}
 use Rattle.mmu_laws.proofs.causes.StarvedScan.{legal_parts}
-use Rattle.mmu_core.proofs.start.Starts.{start_good}
 use Rattle.mmu_core.proofs.machine.Worlds.{good_run}
 
 module _ (z : Sizes) (w : World Held) (ss : List (Step Kind)) (s : Step Kind) (G : IsSound z (run mmu w ss)) (may : May mmu (run mmu w ss) s) where
@@ -42,7 +41,7 @@ module _ (z : Sizes) (w : World Held) (ss : List (Step Kind)) (s : Step Kind) (G
   owes _ is owing S = absurd (cc owing)
 
   saw_some : (was_counted h.topics.invalidations.checked && not (h.topics.invalidations.count == 0)) ≡ true → Saw h.topics → FoundCount z s.actor h.topics.invalidations.count w ss × (0 < h.topics.invalidations.count)
-  saw_some open_ S = let B = both (was_counted h.topics.invalidations.checked) (not (h.topics.invalidations.count == 0)) open_ in (S.counted B.0, more h.topics.invalidations.count B.1)
+  saw_some open_ S = let B = both (was_counted h.topics.invalidations.checked) (not (h.topics.invalidations.count == 0)) open_ in (S.counted open_, more h.topics.invalidations.count B.1)
     where
       more : (n : ℕ) → not (n == 0) ≡ true → 0 < n
       more n is = grind (arith, nat_tests)
@@ -56,8 +55,7 @@ module _ (z : Sizes) (w : World Held) (ss : List (Step Kind)) (s : Step Kind) (G
   caused _ M is S = absurd (cc is)
 
 pub step_waits_are_by_cause : StepWaitsAreByCause
-step_waits_are_by_cause z lines w ss s step note start legal is needs waits =
+step_waits_are_by_cause z w ss s step note sound legal nothing_ is needs waits =
     let parts = legal_parts w ss (s ∷ []) legal in
-    let G : IsSound z (run mmu w ss) = good_run z w ss (start_good z lines w start) parts.0 in
-    let may : May mmu (run mmu w ss) s = parts.1.0 in
-    caused z w ss s G may step (record { note = note; is = is; needs = needs }) waits (actor_saw z lines w ss s.actor start parts.0 (in_machine z (run mmu w ss) s G may))
+    let G : IsSound z (run mmu w ss) = good_run z w ss sound parts.0 in
+    caused z w ss s G parts.1.0 step (record { note = note; is = is; needs = needs }) waits (actor_saw z w ss s.actor sound parts.0 nothing_)

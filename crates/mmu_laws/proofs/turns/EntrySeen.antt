@@ -34,7 +34,7 @@ use Rattle.part_steps.specs.PartSteps.{entry_index, leaf_written, part_task, tab
 use Rattle.part_steps.specs.PartTopics.{exchanged, part_topics}
 use Rattle.part_steps.specs.SlotWords.{may_write, page_of}
 use Rattle.part_steps.specs.TopicSteps.{gone_down, has_writer, is_won, linked_page, searched, unless_linked}
-use Rattle.mmu_laws.specs.turns.TurnLaws.{ends_installed, has_installed}
+use Rattle.mmu_laws.specs.turns.Removal.{ends_installed, has_installed}
 use Rattle.mmu_core.specs.machine.View.{answer_in, upd, words_after}
 use Rattle.mmu_core.proofs.machine.Columns.{upd_same}
 

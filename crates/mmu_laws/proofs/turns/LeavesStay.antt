@@ -1,5 +1,5 @@
--- Where links lead from the root to a leaf, they lead to it behind each step: an entry of a table that isn't absent stays as it is.
-use Rattle.std.proofs.Common.{◌≡◌, ◌≢◌, ◌⊎◌, inl, inr, ◌+◌, ◌*◌, ◌^◌, ◌<◌, ◌≤◌, ℕ, zero, suc, List, [], ◌∷◌, refl, sym, subst, ap, ◌∙◌, arith}
+-- Where links lead from the root to a leaf, they lead to it after each step that takes no entry away: an entry of a table that isn't absent stays as it is.
+use Rattle.std.proofs.Common.{◌≡◌, ◌≢◌, ◌⊎◌, inl, inr, ◌+◌, ◌*◌, ◌^◌, ◌<◌, ◌≤◌, ℕ, zero, suc, refl, sym, subst, ap, ◌∙◌, arith}
 use Rattle.std.specs.Prelude.{Bool, true, false, ◌-◌, ◌==◌, if◌then◌else◌, Option, Some, None}
 use Rattle.std.proofs.lemmas.Bool.Decides.{nat_tests}
 use Rattle.core_views.specs.declared.kind.Kind.{Kind}
@@ -27,7 +27,8 @@ use Rattle.mmu_core.specs.machine.Enabled.{mmu}
 use Rattle.mmu_core.specs.alone.FaultAlone.{LeadsTo, LeadsToLeaf}
 use Rattle.mmu_core.specs.invariant.Invariant.{Invariant, IsLeafFor}
 use Rattle.mmu_core.specs.invariant.Laws.{IsSound}
-use Rattle.mmu_core.specs.machine.Machine.{Legal, May, Step, World, effect, hand_in, run}
+use Rattle.mmu_core.specs.machine.Machine.{May, Step, World, effect, hand_in}
+use Rattle.mmu_laws.specs.turns.Removal.{Breaks, LeadsFromRoot, LeavesStay}
 use Rattle.part_steps.specs.PartSteps.{MayEnter, entry_index, leaf_written, link_written, table_page}
 use Rattle.part_steps.specs.SlotWords.{leaf_of, page_of, slot_at}
 use Rattle.mmu_core.specs.machine.Steps.{line_at, place_at}
@@ -43,6 +44,7 @@ use Rattle.mmu_laws.proofs.leaves.LeadsDown.{below_stands}
 use Rattle.mmu_core.proofs.machine.PartStepping.{IsPart}
 use Rattle.mmu_core.proofs.words.PartWords.{areas_stay, left_elsewhere, page_stays}
 use Rattle.mmu_core.proofs.pages.PoolPages.{left_no_table, table_not_owned}
+use Rattle.mmu_laws.proofs.turns.Removal.{stands_or_broken}
 use Rattle.mmu_core.proofs.pages.Standing.{entry_now}
 use Rattle.mmu_core.proofs.machine.Stepping.{IsStep}
 use Rattle.mmu_core.proofs.machine.SumsBelow.{upd_id}
@@ -185,7 +187,7 @@ links_stay z w s G may = by (takes z w s G may)
         (line_links_stay z (view z w) s.actor (line_at h.state.place h) (line_at h.state.place h).command (place_at h.state.place h) (view_small z w G.small) T.is_step G.holds G.topics)
     by (inr T) = subst (λ (v : View). LinksStay (stands G.topics.up G.topics.spot) (word_in z w) v.words) (sym T.leads) (part_links_stay z (view z w) s.actor T.step T.note T.is_part G.holds G.topics)
 
-pub leaf_stays : (z : Sizes) (w : World Held) (s : Step Kind) (gfn : ℕ) (write : Bool) → IsSound z w → May mmu w s → LeadsToLeaf (word_in z w area.Pool) 4 (word_in z w area.Root 0) gfn write
+leaf_stays : (z : Sizes) (w : World Held) (s : Step Kind) (gfn : ℕ) (write : Bool) → IsSound z w → May mmu w s → LeadsToLeaf (word_in z w area.Pool) 4 (word_in z w area.Root 0) gfn write
     → LeadsToLeaf (word_in z (effect mmu w s) area.Pool) 4 (word_in z (effect mmu w s) area.Root 0) gfn write
 leaf_stays z w s gfn write G may L =
     let S = links_stay z w s G may in
@@ -196,7 +198,10 @@ leaf_stays z w s gfn write G may L =
     3 0 (words area.Root 0) L.leaf (root_stands I.tree) L.leads in
     record { entry = L.entry; leads = subst (λ k. LeadsTo (word_in z (effect mmu w s) area.Pool) 4 k gfn L.entry) (sym S.root) leads; leaf = L.leaf; allows = L.allows }
 
-pub leaves_stay : (z : Sizes) (w : World Held) (ss : List (Step Kind)) (gfn : ℕ) (write : Bool) → IsSound z w → Legal mmu w ss → LeadsToLeaf (word_in z w area.Pool) 4 (word_in z w area.Root 0) gfn write
-    → LeadsToLeaf (word_in z (run mmu w ss) area.Pool) 4 (word_in z (run mmu w ss) area.Root 0) gfn write
-leaves_stay z w [] gfn write G legal L = L
-leaves_stay z w (s ∷ ss) gfn write G legal L = leaves_stay z (effect mmu w s) ss gfn write (good_step z w s G legal.0) legal.1 (leaf_stays z w s gfn write G legal.0 L)
+-- Each step keeps it so, or takes an entry of the guest frame away: a kind that does so has its case here.
+pub leaf_stays_or_breaks : (z : Sizes) (w : World Held) (s : Step Kind) (gfn : ℕ) (write : Bool) → IsSound z w → May mmu w s → LeadsFromRoot z w gfn write → LeadsFromRoot z (effect mmu w s) gfn write ⊎ Breaks z gfn w s
+leaf_stays_or_breaks z w s gfn write G may L = inl (leaf_stays z w s gfn write G may L)
+
+pub leaves_stay : LeavesStay
+leaves_stay z w ss gfn write G legal L =
+    stands_or_broken (IsSound z) (λ (u : World Held). LeadsFromRoot z u gfn write) (Breaks z gfn) (good_step z) (λ u s. leaf_stays_or_breaks z u s gfn write) w ss G legal L

@@ -1,4 +1,4 @@
--- Each step of a line that neither waits nor begins anew leaves it fewer steps, beside other actors too.
+-- What a step of a line leaves it, beside other actors too: fewer steps, where it is no delay. And which steps are delays.
 use Rattle.std.proofs.Common.{◌≡◌, ◌⊎◌, inl, inr, ◌<◌, ◌≤◌, ℕ, length, refl, sym, subst, ap, ◌∙◌, arith}
 use Rattle.std.specs.Prelude.{Bool, true, false, ◌&&◌, ◌||◌, Option, Some, None}
 use Rattle.std.proofs.lemmas.Bool.Decides.{nat_tests}
@@ -34,22 +34,19 @@ use Rattle.mmu_core.specs.machine.Enabled.{mmu}
 use Rattle.mmu_core.specs.lines.FaultSteps.{allows_access}
 use Rattle.mmu_core.specs.invariant.Laws.{IsSound}
 use Rattle.mmu_core.specs.alone.LineAlone.{hand_left, line_waits}
-use Rattle.mmu_core.specs.machine.Machine.{May, Step, World, answered, effect, hand_in}
+use Rattle.mmu_core.specs.machine.Machine.{May, Step, World, effect, hand_in}
 use Rattle.part_steps.specs.PartSteps.{entry_index, table_page}
 use Rattle.mmu_core.specs.lines.SetSlotSteps.{set_slot_first}
 use Rattle.mmu_core.specs.machine.Steps.{delays_at, first_place, has_line, line_at, outcome_at, place_at, standing, task_at}
 use Rattle.mmu_core.specs.machine.Outcomes.{place_after}
-use Rattle.mmu_laws.specs.turns.TurnLaws.{DelaysWaitOrBeginAnew, StaysInstalled, WalksInstalled, begins_anew}
-use Rattle.mmu_core.specs.machine.Turns.{outcome_of}
+use Rattle.mmu_laws.specs.turns.Removal.{WalksInstalled}
+use Rattle.mmu_laws.specs.turns.TurnLaws.{begins_anew}
 use Rattle.mmu_core.specs.machine.View.{View, answer_in, hand_after, view, word_in}
-use Rattle.mmu_core.specs.machine.Worlds.{Reachable}
 use Rattle.mmu_laws.proofs.alone.AloneRuns.{standing_left}
 use Rattle.mmu_laws.proofs.alone.AloneStep.{is_leaf_here}
 use Rattle.mmu_core.proofs.machine.Columns.{upd_same}
-use Rattle.mmu_laws.proofs.turns.InstalledEntries.{AllInstalled, all_installed, standing_installed, walks_installed}
 use Rattle.mmu_core.proofs.lines.KnowsKept.{knows_at, needs_at}
 use Rattle.mmu_core.proofs.invariant.PartBounded.{part_rests_at}
-use Rattle.mmu_core.proofs.start.Starts.{reached_good}
 use Rattle.mmu_laws.proofs.turns.StayNearer.{Nearer, place_nearer}
 use Rattle.mmu_core.proofs.machine.Which.{is_next}
 use Rattle.mmu_core.proofs.machine.Worlds.{Takes, good_step, takes_line}
@@ -66,7 +63,7 @@ misses_never entry_kind.Absent allowed true pool level page gfn write v here is 
 misses_never entry_kind.Frozen allowed true pool level page gfn write v here is may leads = let leaf = (is_leaf_here pool level page gfn v write entry_kind.Frozen here is refl (leads refl)).0 in absurd (cc leaf)
 
 -- So a step is a delay only where it waits or begins anew.
-no_miss : (p : Place) (c : Command) (h : Held) (words : Area → ℕ → ℕ) → WalksInstalled p c words h.topics → (walks_again p && leaves_to_fault (outcome_at p c h (answer_in (task_at p c h) words))) ≡ false
+pub no_miss : (p : Place) (c : Command) (h : Held) (words : Area → ℕ → ℕ) → WalksInstalled p c words h.topics → (walks_again p && leaves_to_fault (outcome_at p c h (answer_in (task_at p c h) words))) ≡ false
 no_miss (place.Access (Walk again)) (Access gfn word op) h words walks =
     let v : ℕ = words area.Pool (pool_index (table_page h.topics.walk) (entry_index gfn h.topics.walk.level)) in
     misses_never (kind_of h.topics.walk.level v) (allows_access (is_write op) v) again (words area.Pool) h.topics.walk.level (table_page h.topics.walk) gfn (is_write op) v refl refl refl walks
@@ -80,15 +77,15 @@ no_miss (place.Access (Leave how)) c h words walks = refl
 no_miss (place.Access (Fault p)) c h words walks = refl
 no_miss _ c h words walks = refl
 
-none_of : (a b c : Bool) → a ≡ false → b ≡ false → c ≡ false → (a || (b || c)) ≡ false
+pub none_of : (a b c : Bool) → a ≡ false → b ≡ false → c ≡ false → (a || (b || c)) ≡ false
 none_of true b c first second third = absurd (cc first)
 none_of false true c first second third = absurd (cc second)
 none_of false false c first second third = third
 
-one_of : (a b c : Bool) → (a || (b || c)) ≡ true → c ≡ false → (a ≡ true) ⊎ (b ≡ true)
-one_of true b c is none = inl refl
-one_of false true c is none = inr refl
-one_of false false c is none = absurd (cc (is, none))
+pub one_of : (a b c : Bool) → (a || (b || c)) ≡ true → (a ≡ true) ⊎ (b ≡ true) ⊎ (c ≡ true)
+one_of true b c is = inl refl
+one_of false true c is = inr (inl refl)
+one_of false false c is = inr (inr is)
 
 -- No line begins with a delay: what is so of the place of its first step is so of the one at which it stands.
 begins_at_once : (o : Option Refusal) (t : Topics) (v : ℕ) → line_waits (place.SetSlot (set_slot_first o)) t v ≡ true → ⊥
@@ -103,10 +100,10 @@ first_no_end : (y : Sizes) (slots : MemorySlots) (c : Command) → begins_anew (
 first_no_end y slots (Access gfn word op) is = cc is
 first_no_end y slots (SetSlot id slot) is = cc is
 
-abbrev WaitsOrBegins : Place → Topics → ℕ → Type 0
+abbrev pub WaitsOrBegins : Place → Topics → ℕ → Type 0
 WaitsOrBegins p t v = (line_waits p t v ≡ true) ⊎ (begins_anew p ≡ true)
 
-where_it_stands : (q : Place) (y : Sizes) (slots : MemorySlots) (c : Command) (t : Topics) (v : ℕ) → WaitsOrBegins (standing q y slots c) t v → WaitsOrBegins q t v
+pub where_it_stands : (q : Place) (y : Sizes) (slots : MemorySlots) (c : Command) (t : Topics) (v : ℕ) → WaitsOrBegins (standing q y slots c) t v → WaitsOrBegins q t v
 where_it_stands place.Between y slots c t v (inl waits) = absurd (first_goes y slots c t v waits)
 where_it_stands place.Between y slots c t v (inr anew) = absurd (first_no_end y slots c anew)
 where_it_stands _ y slots c t v is = is
@@ -117,7 +114,7 @@ has_left : (h : Held) → has_line h ≡ true → length h.answers < length h.li
 has_left h has = grind (arith, nat_tests)
 
 -- The hand behind a step stands there, with these topics.
-nearer_hand : (g : Held) (o : Outcome) (p : Place) (y : Sizes) (n m : ℕ) → o ≡ Goes p → g.state.place ≡ place_after o → g.state.sizes ≡ y → n ≤ m → Nearer o y g.topics n → hand_left g < m
+pub nearer_hand : (g : Held) (o : Outcome) (p : Place) (y : Sizes) (n m : ℕ) → o ≡ Goes p → g.state.place ≡ place_after o → g.state.sizes ≡ y → n ≤ m → Nearer o y g.topics n → hand_left g < m
 nearer_hand g o p y n m is stands sizes le N =
     let less : steps_left p y g.topics < n = subst (λ (q : Outcome). Nearer q y g.topics n) is N in
     let left : hand_left g ≡ steps_left p y g.topics = ap (λ q. steps_left q g.state.sizes g.topics) (stands ∙ ap place_after is) ∙ ap (λ (x : Sizes). steps_left p x g.topics) sizes in
@@ -146,7 +143,7 @@ module _ (z : Sizes) (w : World Held) (s : Step Kind) (G : IsSound z w) (may : M
   abbrev after : Held
   after = hand_after line line.command stood h x
 
-  taken : Takes z w s h
+  pub taken : Takes z w s h
   taken = takes_line z w s G may (is_next h s.kind may.enabled has)
 
   pub there : a < actors_of z
@@ -171,35 +168,3 @@ module _ (z : Sizes) (w : World Held) (s : Step Kind) (G : IsSound z w) (may : M
       let S = taken.is_step in
       place_nearer stood line.command z h words S.begun (subst (λ y. IsCommandFor z y line.command) S.own S.allowed) (part_rests_at z (view z w) a G.holds G.topics there) (knows_at z (view z w) a G.holds there S.left)
       (needs_at z (view z w) a line line.command stood S G.holds G.topics) on
-
-  -- The stay behind an installed entry finds it.
-  stay_finds : AllInstalled z (view z w) → (walks_again stood && leaves_to_fault (outcome_at stood line.command h x)) ≡ false
-  stay_finds A =
-      let stays : StaysInstalled stood line.command words = standing_installed h.state.place h.state.sizes h.slots h words (A a there) in
-      no_miss stood line.command h words (walks_installed stood line.command z w a G there (knows_at z (view z w) a G.holds there taken.is_step.left) stays)
-
-  delay_is : AllInstalled z (view z w) → delays_at stood line.command h (answered mmu w s.kind) ≡ true → WaitsOrBegins h.state.place h.topics (answered mmu w s.kind)
-  delay_is A delays =
-      where_it_stands h.state.place h.state.sizes h.slots line.command h.topics (answered mmu w s.kind)
-      (one_of (line_waits stood h.topics (answered mmu w s.kind)) (begins_anew stood) (walks_again stood && leaves_to_fault (outcome_at stood line.command h (answered mmu w s.kind))) delays
-      (ap (λ v. walks_again stood && leaves_to_fault (outcome_at stood line.command h v)) taken.answers ∙ stay_finds A))
-
-  turn_nearer : AllInstalled z (view z w) → line_waits stood h.topics (answered mmu w s.kind) ≡ false → begins_anew stood ≡ false → (p : Place) → outcome_of h (answered mmu w s.kind) ≡ Goes p
-      → hand_left (hand_in mmu (effect mmu w s) a) < hand_left h
-  turn_nearer A goes on p out =
-      let none : delays_at stood line.command h x ≡ false = none_of (line_waits stood h.topics x) (begins_anew stood) (walks_again stood && leaves_to_fault (outcome_at stood line.command h x)) (ap (line_waits stood h.topics) (sym taken.answers) ∙ goes) on (stay_finds A) in
-      subst (λ (g : Held). hand_left g < hand_left h) (sym hand_behind)
-      (nearer_hand after (outcome_at stood line.command h x) p h.state.sizes (steps_left stood h.state.sizes h.topics) (hand_left h) (ap (outcome_at stood line.command h) (sym taken.answers) ∙ out) refl same_sizes stood_left (nearer_here none))
-
-pub reached_installed : (w : World Held) (r : Reachable w) → AllInstalled r.sizes (view r.sizes w)
-reached_installed w r = subst (λ (u : World Held). AllInstalled r.sizes (view r.sizes u)) r.leads.ends (all_installed r.sizes r.lines r.start r.leads.steps r.is_start r.leads.legal)
-
-pub turns_nearer : (w : World Held) (s : Step Kind) → Reachable w → May mmu w s → has_line (hand_in mmu w s.actor) ≡ true
-    → line_waits (place_at (hand_in mmu w s.actor).state.place (hand_in mmu w s.actor)) (hand_in mmu w s.actor).topics (answered mmu w s.kind) ≡ false
-    → begins_anew (place_at (hand_in mmu w s.actor).state.place (hand_in mmu w s.actor)) ≡ false
-    → (p : Place) → outcome_of (hand_in mmu w s.actor) (answered mmu w s.kind) ≡ Goes p
-    → hand_left (hand_in mmu (effect mmu w s) s.actor) < hand_left (hand_in mmu w s.actor)
-turns_nearer w s r may has goes on p out = turn_nearer r.sizes w s (reached_good w r) may has (reached_installed w r) goes on p out
-
-pub delays_wait_or_begin_anew : DelaysWaitOrBeginAnew
-delays_wait_or_begin_anew w s r may has delays = delay_is r.sizes w s (reached_good w r) may has (reached_installed w r) delays

@@ -1,11 +1,14 @@
--- Which steps of the parts wait for another actor, and why, in every list of steps: what the step finds, or what its actor found before it.
-use Rattle.std.specs.Prelude.{◌≡◌, ◌≢◌, ◌<◌, ℕ, true, false, List, [], ◌∷◌, ◌++◌}
+-- Which steps of the parts wait for another actor, and why, in every list of steps: what the step finds, or what its actor found before it, since
+-- any world in which it had seen nothing that a step waits for.
+use Rattle.std.specs.Prelude.{◌≡◌, ◌≢◌, ◌<◌, ℕ, true, false, List, [], ◌∷◌, ◌++◌, length}
 use Rattle.core_views.specs.declared.kind.Kind.{Kind}
 use Rattle.core_views.specs.declared.kind.StepKind.TheVariants as kind
+use Rattle.core_views.specs.declared.place.Place.TheVariants.{Between}
 use Rattle.core_views.specs.declared.sizes.Sizes.{Sizes}
 use Rattle.core_views.specs.declared.topics.Hold.TheVariants.{Loose, Exclusive}
 use Rattle.core_views.specs.declared.topics.MapClaim.{MapClaim}
 use Rattle.core_views.specs.declared.topics.Stay.TheVariants.{Outside}
+use Rattle.core_views.specs.declared.topics.Topics.{Topics}
 use Rattle.core_views.specs.declared.trace.Line.{Line}
 use Rattle.core_views.specs.Held.{Held}
 use Rattle.core_views.specs.Kinds.{code_of}
@@ -20,9 +23,11 @@ use Rattle.part_steps.specs.Tasks.{map_of}
 use Rattle.part_steps.specs.TopicSteps.{has_writer, in_section, tried_bit}
 use Rattle.mmu_laws.specs.causes.Causes.{Finds, HasMade, WasChanged}
 use Rattle.mmu_core.specs.machine.Enabled.{mmu}
+use Rattle.mmu_core.specs.invariant.Laws.{IsSound}
 use Rattle.mmu_core.specs.machine.Machine.{Legal, Step, World, answered, found, hand_in, run}
-use Rattle.mmu_core.specs.lines.PartWaits.{part_waits, word_owed}
-use Rattle.mmu_core.specs.machine.Worlds.{IsStart}
+use Rattle.mmu_core.specs.lines.PartWaits.{is_owing, part_waits, saw_open, word_owed}
+use Rattle.mmu_core.specs.machine.Steps.{has_line}
+use Rattle.mmu_core.specs.machine.Worlds.{IsStart, Reachable}
 
 -- the words that steps wait at: that of the lock, that of the open invalidations' count, and word i of the pool's map
 abbrev pub lock_word : Sizes → ℕ
@@ -96,10 +101,30 @@ StepWaitIsCaused part.Release z w ss s =
 StepWaitIsCaused (part.Watch index) z w ss s = FindsOtherInside z (run mmu w ss) s
 StepWaitIsCaused _ z w ss s = ⊥
 
--- From every start: each step of a part that waits has its cause, whoever makes it, in the steps before it or in what another actor holds as it is made.
+-- The actor has seen nothing that a step waits for: it owes the lock no reader, it saw no invalidation open under the lock, and its claim has seen no
+-- page.
+pub record SawNothing (t : Topics) : Type 0 where
+  pub owes : is_owing t.hold ≡ false
+  pub closed : saw_open t.invalidations ≡ false
+  pub claims : t.claim.seen ≡ 0
+
+-- From every sound world in which its actor has seen nothing that a step waits for: each step of a part that waits, whoever makes it, has its cause in the
+-- steps since then, or in what another actor holds as it is made.
 abbrev pub StepWaitsAreByCause : Type 0
 StepWaitsAreByCause =
-    (z : Sizes) (lines : List Line) (w : World Held) (ss : List (Step Kind)) (s : Step Kind) (step : PartStep) (note : ℕ) → IsStart z lines w → Legal mmu w (ss ++ s ∷ [])
+    (z : Sizes) (w : World Held) (ss : List (Step Kind)) (s : Step Kind) (step : PartStep) (note : ℕ)
+    → IsSound z w → Legal mmu w (ss ++ s ∷ []) → SawNothing (hand_in mmu w s.actor).topics
     → s.kind ≡ part_kind (hand_in mmu (run mmu w ss) s.actor) step note → PartNeeds step (hand_in mmu (run mmu w ss) s.actor)
     → part_waits step (hand_in mmu (run mmu w ss) s.actor).topics (answered mmu (run mmu w ss) s.kind) ≡ true
     → StepWaitIsCaused step z w ss s
+
+-- So it is with each actor at a start.
+abbrev pub StartsSawNothing : Type 0
+StartsSawNothing =
+    (z : Sizes) (lines : List Line) (w : World Held) (actor : ℕ) → IsStart z lines w → actor < actors_of z → SawNothing (hand_in mmu w actor).topics
+
+-- And with each actor that has a line left, while none of its lines is under way: so at the moment at which a line begins.
+abbrev pub BetweenLinesSawNothing : Type 0
+BetweenLinesSawNothing =
+    (w : World Held) (actor : ℕ) → Reachable w → actor < length w.hands → has_line (hand_in mmu w actor) ≡ true → (hand_in mmu w actor).state.place ≡ Between
+    → SawNothing (hand_in mmu w actor).topics

@@ -1,11 +1,12 @@
 use Rattle.mmu_laws.proofs.turns.InstalledEntries.{installed_serve}
 use Rattle.mmu_laws.proofs.turns.LeavesStay.{leaves_stay}
 use Rattle.mmu_laws.proofs.turns.StepsBounded.{turns_bounded}
-use Rattle.mmu_laws.proofs.turns.TurnsNearer.{turns_nearer}
+use Rattle.mmu_laws.proofs.turns.DelayCases.{turns_come_nearer}
+use Rattle.mmu_laws.proofs.turns.Removal.{no_step_breaks}
 use Rattle.mmu_laws.proofs.laws.turns_come_to_an_end.Goals as goal
 
 pub returns-clause-nearer : goal.returns-clause-nearer
-returns-clause-nearer c = turns_nearer
+returns-clause-nearer c = turns_come_nearer
 
 pub returns-clause-bounded : goal.returns-clause-bounded
 returns-clause-bounded c = turns_bounded
@@ -15,3 +16,6 @@ returns-clause-installed c = installed_serve
 
 pub returns-clause-stay : goal.returns-clause-stay
 returns-clause-stay c = leaves_stay
+
+pub returns-clause-unbroken : goal.returns-clause-unbroken
+returns-clause-unbroken c = no_step_breaks

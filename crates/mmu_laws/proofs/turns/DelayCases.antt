@@ -1,0 +1,198 @@
+-- A step of a line that neither waits nor begins anew leaves it fewer steps, or its stay misses; and a delay is one of these three.
+use Rattle.std.proofs.Common.{◌≡◌, ◌⊎◌, inl, inr, ◌<◌, ℕ, List, [], ◌∷◌, ◌++◌, refl, sym, subst, ap, ◌∙◌}
+use Rattle.std.specs.Prelude.{Bool, true, false, ◌&&◌}
+use Rattle.core_views.specs.declared.kind.Kind.{Kind}
+use Rattle.core_views.specs.declared.place.AccessPlace.TheVariants.{Walk, Leave}
+use Rattle.core_views.specs.declared.place.Leaving.TheVariants as leaving
+use Rattle.core_views.specs.declared.place.Place.{Place}
+use Rattle.core_views.specs.declared.place.Place.TheVariants as place
+use Rattle.core_views.specs.declared.sizes.Sizes.{Sizes}
+use Rattle.core_views.specs.declared.trace.Command.{Command}
+use Rattle.core_views.specs.declared.trace.Command.TheVariants.{Access, SetSlot}
+use Rattle.core_views.specs.declared.trace.Line.{Line}
+use Rattle.core_views.specs.declared.trace.Op.{Op}
+use Rattle.core_views.specs.Held.{Held}
+use Rattle.core_views.specs.SlotSets.{MemorySlots}
+use Rattle.core_views.specs.Slots.{is_write}
+use Rattle.spte_words.specs.declared.area.Area.{Area}
+use Rattle.mmu_core.specs.declared.outcome.Outcome.{Outcome}
+use Rattle.mmu_core.specs.declared.outcome.Outcome.TheVariants.{Goes}
+use Rattle.mmu_core.specs.lines.Bounds.{steps_left}
+use Rattle.mmu_core.specs.lines.Delays.{leaves_to_fault, walks_again}
+use Rattle.mmu_core.specs.machine.Enabled.{mmu}
+use Rattle.mmu_core.specs.lines.KnowsPart.{KnowsPart}
+use Rattle.mmu_core.specs.invariant.Laws.{IsSound}
+use Rattle.mmu_core.specs.alone.LineAlone.{hand_left, line_waits}
+use Rattle.mmu_core.specs.machine.Machine.{Legal, May, Step, World, answered, effect, hand_in, run}
+use Rattle.mmu_laws.specs.turns.Removal.{LeadsFromRoot, LostEntry, StandsAt, StayMisses, WalksInstalled, is_installed}
+use Rattle.mmu_core.specs.machine.Steps.{delays_at, has_line, line_at, outcome_at, place_at, standing, task_at}
+use Rattle.mmu_laws.specs.turns.TurnLaws.{DelaysWaitBeginAnewOrMiss, TurnsComeNearer, begins_anew, is_counted, stands_at}
+use Rattle.mmu_core.specs.machine.Turns.{outcome_of}
+use Rattle.mmu_core.specs.machine.View.{answer_in, hand_after, view, word_in}
+use Rattle.mmu_core.specs.machine.Worlds.{IsStart, Reachable}
+use Rattle.mmu_core.proofs.machine.Extend.{legal-append}
+use Rattle.mmu_laws.proofs.turns.InstalledEntries.{installed_serve}
+use Rattle.mmu_core.proofs.lines.KnowsKept.{knows_at}
+use Rattle.mmu_laws.proofs.turns.Removal.{no_stay_misses}
+use Rattle.mmu_laws.proofs.causes.StarvedScan.{legal_parts}
+use Rattle.mmu_core.proofs.start.Starts.{start_good}
+use Rattle.mmu_laws.proofs.turns.TurnsNearer.{WaitsOrBegins, hand_behind, nearer_hand, nearer_here, no_miss, none_of, one_of, same_sizes, stood_left, taken, where_it_stands}
+use Rattle.mmu_core.proofs.machine.Worlds.{Takes, good_run}
+
+-- ---- a stay that misses
+
+-- It stands at the walk after an installed entry, and leaves for a fault.
+record Misses (p : Place) (c : Command) (o : Outcome) : Type 0 where
+  gfn : ℕ
+  word : ℕ
+  op : Op
+  at : p ≡ place.Access (Walk true)
+  access_is : c ≡ Access gfn word op
+  leaves : o ≡ Goes (place.Access (Leave leaving.Faults))
+
+leaves_is : (o : Outcome) → leaves_to_fault o ≡ true → o ≡ Goes (place.Access (Leave leaving.Faults))
+leaves_is (Goes (place.Access (Leave leaving.Faults))) is = refl
+leaves_is _ is = absurd (cc is)
+
+misses_at : (p : Place) (c : Command) (h : Held) (o : Outcome) → KnowsPart p c h → (walks_again p && leaves_to_fault o) ≡ true → Misses p c o
+misses_at (place.Access (Walk true)) (Access gfn word op) h o K is = record { gfn = gfn; word = word; op = op; at = refl; access_is = refl; leaves = leaves_is o is }
+misses_at (place.Access (Walk true)) (SetSlot id slot) h o K is = absurd K
+misses_at _ c h o K is = absurd (cc is)
+
+standing_walks : (q : Place) (y : Sizes) (slots : MemorySlots) (c : Command) → standing q y slots c ≡ place.Access (Walk true) → q ≡ place.Access (Walk true)
+standing_walks place.Between y slots (Access gfn word op) is = absurd (cc is)
+standing_walks place.Between y slots (SetSlot id slot) is = absurd (cc is)
+standing_walks _ y slots c is = is
+
+walk_command : (q : Place) (h : Held) (c : Command) → q ≡ place.Access (Walk true) → (line_at q h).command ≡ c → h.state.line.command ≡ c
+walk_command place.Between h c at is = absurd (cc at)
+walk_command _ h c at is = is
+
+-- ---- a step after some others from a start
+
+module _ (z : Sizes) (lines : List Line) (start : World Held) (ss : List (Step Kind)) (s : Step Kind) (is_start : IsStart z lines start) (legal : Legal mmu start (ss ++ s ∷ [])) (has : has_line (hand_in mmu (run mmu start ss) s.actor) ≡ true) where
+  abbrev w : World Held
+  w = run mmu start ss
+
+  abbrev h : Held
+  h = hand_in mmu w s.actor
+
+  abbrev line : Line
+  line = line_at h.state.place h
+
+  abbrev stood : Place
+  stood = place_at h.state.place h
+
+  abbrev words : Area → ℕ → ℕ
+  words = word_in z w
+
+  abbrev v : ℕ
+  v = answered mmu w s.kind
+
+  abbrev x : ℕ
+  x = answer_in (task_at stood line.command h) words
+
+  parts : Legal mmu start ss × Legal mmu w (s ∷ [])
+  parts = legal_parts start ss (s ∷ []) legal
+
+  may : May mmu w s
+  may = parts.1.0
+
+  G : IsSound z w
+  G = good_run z start ss (start_good z lines start is_start) parts.0
+
+  T : Takes z w s h
+  T = taken z w s G may has
+
+  abbrev misses : ℕ → Bool
+  misses n = walks_again stood && leaves_to_fault (outcome_at stood line.command h n)
+
+  miss_is : misses v ≡ true → StayMisses z start ss s
+  miss_is is = by (installed_serve z lines start ss s.actor M.gfn (is_write M.op) is_start parts.0 T.is_step.there stands)
+    where
+      M : Misses stood line.command (outcome_at stood line.command h v)
+      M = misses_at stood line.command h (outcome_at stood line.command h v) (knows_at z (view z w) s.actor G.holds T.is_step.there T.is_step.left) is
+
+      at : h.state.place ≡ place.Access (Walk true)
+      at = standing_walks h.state.place h.state.sizes h.slots line.command M.at
+
+      command : h.state.line.command ≡ Access M.gfn M.word M.op
+      command = walk_command h.state.place h (Access M.gfn M.word M.op) at M.access_is
+
+      stands : StandsAt is_installed h.state.place h.state.line.command M.gfn (is_write M.op)
+      stands = subst (λ (q : Place). StandsAt is_installed q h.state.line.command M.gfn (is_write M.op)) (sym at) (subst (λ (c : Command). StandsAt is_installed (place.Access (Walk true)) c M.gfn (is_write M.op)) (sym command) (refl, refl, refl))
+
+      finds : WalksInstalled h.state.place h.state.line.command words h.topics → misses x ≡ false
+      finds walks =
+          let there = subst (λ (q : Place). WalksInstalled q h.state.line.command words h.topics) at walks in
+          let of_access = subst (λ (c : Command). WalksInstalled (place.Access (Walk true)) c words h.topics) (command ∙ sym M.access_is) there in
+          no_miss stood line.command h words (subst (λ (q : Place). WalksInstalled q line.command words h.topics) (sym M.at) of_access)
+
+      by : (LeadsFromRoot z w M.gfn (is_write M.op) × WalksInstalled h.state.place h.state.line.command words h.topics) ⊎ LostEntry z s.actor M.gfn (is_write M.op) start ss → StayMisses z start ss s
+      by (inl L) = let found = ap misses T.answers ∙ finds L.1 in absurd (cc (is, found))
+      by (inr lost) = record { gfn = M.gfn; word = M.word; op = M.op; at = at; access_is = command; misses = M.leaves; lost = lost }
+
+  -- It leaves fewer steps, where it finds a translation.
+  nearer : line_waits stood h.topics v ≡ false → begins_anew stood ≡ false → misses v ≡ false → (p : Place) → outcome_of h v ≡ Goes p → hand_left (hand_in mmu (effect mmu w s) s.actor) < hand_left h
+  nearer goes on finds p out =
+      let none : delays_at stood line.command h x ≡ false = none_of (line_waits stood h.topics x) (begins_anew stood) (misses x) (ap (line_waits stood h.topics) (sym T.answers) ∙ goes) on (ap misses (sym T.answers) ∙ finds) in
+      subst (λ (g : Held). hand_left g < hand_left h) (sym (hand_behind z w s G may has))
+      (nearer_hand (hand_after line line.command stood h x) (outcome_at stood line.command h x) p h.state.sizes (steps_left stood h.state.sizes h.topics) (hand_left h) (ap (outcome_at stood line.command h) (sym T.answers) ∙ out) refl (same_sizes z w s G may has)
+      (stood_left z w s G may has) (nearer_here z w s G may has none))
+
+  turn : line_waits stood h.topics v ≡ false → begins_anew stood ≡ false → (p : Place) → outcome_of h v ≡ Goes p → (hand_left (hand_in mmu (effect mmu w s) s.actor) < hand_left h) ⊎ StayMisses z start ss s
+  turn goes on p out = by (misses v) refl
+    where
+      by : (b : Bool) → misses v ≡ b → (hand_left (hand_in mmu (effect mmu w s) s.actor) < hand_left h) ⊎ StayMisses z start ss s
+      by true is = inr (miss_is is)
+      by false is = inl (nearer goes on is p out)
+
+  delay : is_counted w s ≡ true → (line_waits h.state.place h.topics v ≡ true) ⊎ (begins_anew h.state.place ≡ true) ⊎ StayMisses z start ss s
+  delay counts = by (one_of (line_waits stood h.topics v) (begins_anew stood) (misses v) counts)
+    where
+      two : WaitsOrBegins h.state.place h.topics v → (line_waits h.state.place h.topics v ≡ true) ⊎ (begins_anew h.state.place ≡ true) ⊎ StayMisses z start ss s
+      two (inl waits) = inl waits
+      two (inr anew) = inr (inl anew)
+
+      by : (line_waits stood h.topics v ≡ true) ⊎ (begins_anew stood ≡ true) ⊎ (misses v ≡ true) → (line_waits h.state.place h.topics v ≡ true) ⊎ (begins_anew h.state.place ≡ true) ⊎ StayMisses z start ss s
+      by (inl waits) = two (where_it_stands h.state.place h.state.sizes h.slots line.command h.topics v (inl waits))
+      by (inr (inl anew)) = two (where_it_stands h.state.place h.state.sizes h.slots line.command h.topics v (inr anew))
+      by (inr (inr is)) = inr (inr (miss_is is))
+
+pub turns_come_nearer : TurnsComeNearer
+turns_come_nearer z lines start ss s is_start legal has goes on p out = turn z lines start ss s is_start legal has goes on p out
+
+pub delays_wait_begin_anew_or_miss : DelaysWaitBeginAnewOrMiss
+delays_wait_begin_anew_or_miss z lines start ss s is_start legal has counts = delay z lines start ss s is_start legal has counts
+
+-- ---- with no kind of step that takes entries away, no stay misses
+
+-- What is so of each step after a list of steps from a start is so of each step in a reachable world.
+of_reachable : (P : World Held → Step Kind → Type 0) → ((z : Sizes) (lines : List Line) (start : World Held) (ss : List (Step Kind)) (s : Step Kind) → IsStart z lines start → Legal mmu start (ss ++ s ∷ []) → P (run mmu start ss) s)
+    → (w : World Held) (s : Step Kind) → Reachable w → May mmu w s → P w s
+of_reachable P so w s r may =
+    subst (λ (u : World Held). P u s) r.leads.ends
+    (so r.sizes r.lines r.start r.leads.steps s r.is_start (legal-append mmu r.start r.leads.steps (s ∷ []) r.leads.legal (subst (λ (u : World Held). Legal mmu u (s ∷ [])) (sym r.leads.ends) (may, tt))))
+
+abbrev ComesNearer : World Held → Step Kind → Type 0
+ComesNearer w s =
+    has_line (hand_in mmu w s.actor) ≡ true → line_waits (stands_at w s) (hand_in mmu w s.actor).topics (answered mmu w s.kind) ≡ false → begins_anew (stands_at w s) ≡ false
+    → (p : Place) → outcome_of (hand_in mmu w s.actor) (answered mmu w s.kind) ≡ Goes p → hand_left (hand_in mmu (effect mmu w s) s.actor) < hand_left (hand_in mmu w s.actor)
+
+pub turns_nearer : (w : World Held) (s : Step Kind) → Reachable w → May mmu w s → ComesNearer w s
+turns_nearer = of_reachable ComesNearer (λ z lines start ss s is_start legal has goes on p out. by z start ss s (turns_come_nearer z lines start ss s is_start legal has goes on p out))
+  where
+    by : (z : Sizes) (start : World Held) (ss : List (Step Kind)) (s : Step Kind) {X : Type 0} → X ⊎ StayMisses z start ss s → X
+    by z start ss s (inl less) = less
+    by z start ss s (inr M) = absurd (no_stay_misses z start ss s M)
+
+abbrev WaitsOrBeginsAnew : World Held → Step Kind → Type 0
+WaitsOrBeginsAnew w s = has_line (hand_in mmu w s.actor) ≡ true → is_counted w s ≡ true → WaitsOrBegins (hand_in mmu w s.actor).state.place (hand_in mmu w s.actor).topics (answered mmu w s.kind)
+
+pub delays_wait_or_begin_anew : (w : World Held) (s : Step Kind) → Reachable w → May mmu w s → WaitsOrBeginsAnew w s
+delays_wait_or_begin_anew = of_reachable WaitsOrBeginsAnew (λ z lines start ss s is_start legal has counts. by z start ss s (delays_wait_begin_anew_or_miss z lines start ss s is_start legal has counts))
+  where
+    by : (z : Sizes) (start : World Held) (ss : List (Step Kind)) (s : Step Kind) {X Y : Type 0} → X ⊎ Y ⊎ StayMisses z start ss s → X ⊎ Y
+    by z start ss s (inl waits) = inl waits
+    by z start ss s (inr (inl anew)) = inr anew
+    by z start ss s (inr (inr M)) = absurd (no_stay_misses z start ss s M)
