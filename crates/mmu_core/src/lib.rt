@@ -12,7 +12,7 @@ mod set_slot;
 mod step;
 
 pub use access::{access_note, lookup};
-pub use fault::{entry_word, table_value};
+pub use fault::entry_word;
 pub use laws::{
     a_fault_alone_goes_through, a_fault_goes_on, a_line_alone_goes_through,
     each_delay_has_its_cause, every_answer_is_told, every_list_of_steps, knows, leaves_agree,
