@@ -1,12 +1,12 @@
 -- Where a slot setting is about to give the old slot set's page back, the page's role is cleared.
-use Rattle.std.proofs.Common.{◌≡◌, ◌≢◌, ◌⊎◌, inl, inr, ◌<◌, ◌≤◌, ℕ, List, refl, sym, subst, ap, ◌∙◌}
+use Rattle.std.proofs.Common.{◌≡◌, ◌≢◌, ◌⊎◌, inl, inr, ◌<◌, ℕ, List, refl, sym, subst, ap, ◌∙◌}
 use Rattle.std.specs.Prelude.{Bool, true, false, ◌+◌, ◌==◌, if◌then◌else◌, nat_lt, Option, Some, None, is_some}
 use Rattle.core_views.specs.declared.answer.Answer.TheVariants.{Starved}
 use Rattle.core_views.specs.declared.kind.Kind.{Kind}
 use Rattle.core_views.specs.declared.place.Place.{Place}
 use Rattle.core_views.specs.declared.place.Place.TheVariants as place
 use Rattle.core_views.specs.declared.place.SetSlotPlace.{SetSlotPlace}
-use Rattle.core_views.specs.declared.place.SetSlotPlace.TheVariants.{Claim, Fill, Exclude, Count, Close, Publish, Watch, Clear, Give}
+use Rattle.core_views.specs.declared.place.SetSlotPlace.TheVariants.{Claim, Fill, Role, Exclude, Count, Close, Publish, Watch, Clear, Give}
 use Rattle.core_views.specs.declared.sizes.Sizes.{Sizes}
 use Rattle.core_views.specs.declared.topics.MapClaim.{MapClaim}
 use Rattle.core_views.specs.declared.topics.Topics.{Topics}
@@ -24,7 +24,7 @@ use Rattle.spte_words.specs.Areas.{words_of_bits}
 use Rattle.part_steps.specs.declared.part_step.PartStep.{PartStep}
 use Rattle.part_steps.specs.declared.part_step.PartStep.TheVariants as part
 use Rattle.part_steps.specs.declared.task.Task.{Task}
-use Rattle.part_steps.specs.PartSteps.{next_watched, own_index, page_left, part_task, table_page, words_filled}
+use Rattle.part_steps.specs.PartSteps.{next_watched, own_index, page_left, part_task, words_filled}
 use Rattle.part_steps.specs.Tasks.{kind_of_task}
 use Rattle.part_steps.specs.TopicSteps.{in_section, is_won, topics_after}
 use Rattle.mmu_core.specs.declared.outcome.Outcome.TheVariants.{Goes, Ends}
@@ -39,14 +39,13 @@ use Rattle.mmu_core.specs.lines.PartAt.{task_at}
 use Rattle.mmu_core.specs.lines.SetSlotSteps.{claim_outcome, looked_at, set_slot_note, set_slot_outcome, set_slot_task}
 use Rattle.mmu_core.specs.machine.Steps.{has_line, line_at, place_at}
 use Rattle.mmu_core.specs.invariant.TopicsInvariant.{TopicsInvariant}
-use Rattle.mmu_core.specs.invariant.TreePart.{stands}
 use Rattle.mmu_core.specs.machine.View.{View, answer_in, part_stepped, stepped, upd, view, word_in, words_after}
 use Rattle.mmu_laws.proofs.causes.Changes.{of_each_list}
 use Rattle.mmu_core.proofs.machine.Columns.{same_or, upd_other, upd_same}
 use Rattle.mmu_core.proofs.pages.OwnedBehind.{left_is}
 use Rattle.mmu_core.proofs.machine.PartStepping.{IsPart}
-use Rattle.mmu_core.proofs.words.PartWords.{IsElsewhere, left_elsewhere, role_stays}
-use Rattle.mmu_core.proofs.pages.PoolPages.{left_no_table, left_not_owned, one_leaver}
+use Rattle.mmu_core.proofs.words.PartWords.{HasOtherRole, left_elsewhere, role_stays}
+use Rattle.mmu_core.proofs.pages.PoolPages.{left_not_owned, one_leaver}
 use Rattle.mmu_core.proofs.slots.SettingHolds.{either_place}
 use Rattle.mmu_core.proofs.start.Starts.{hand_is, start_good}
 use Rattle.mmu_core.proofs.lines.StepIn.{StepIn, Makes, Touches, step_in}
@@ -92,7 +91,7 @@ module _ (role : ℕ → ℕ) (x : ℕ) (t : Topics) where
   -- From no other place does a setting come to give the page back.
   no_give : (p : SetSlotPlace) (h : Held) → clears p ≡ false → PlaceCleared role (place_after (set_slot_outcome p h x)) t
   no_give (Claim begun) h never = claim_cleared (tries_page begun h.topics.claim) h.state.sizes (at_map_word begun h.topics.claim)
-  no_give Fill h never = either_place (λ q. SettingCleared role q t) (nat_lt (words_filled h.topics.owned) 512) Fill Exclude tt tt
+  no_give Fill h never = either_place (λ q. SettingCleared role q t) (nat_lt (words_filled h.topics.owned + 1) 512) Fill Role tt tt
   no_give Exclude h never = either_place (λ q. SettingCleared role q t) (x == 0) Count Exclude tt tt
   no_give Count h never = either_place (λ q. SettingCleared role q t) (x == 0) Publish Close tt tt
   no_give Watch h never =
@@ -145,15 +144,9 @@ module _ (z : Sizes) (v : View) (a i : ℕ) (I : Invariant z v) (P : TopicsInvar
   abbrev Leaves : ℕ → Type 0
   Leaves k = (v.hand i).topics.leaving ≡ Some k
 
-  -- A page that is leaving is no table.
-  no_walk : (k : ℕ) → Leaves k → a < actors_of z → 1 ≤ (v.hand a).topics.walk.level → table_page (v.hand a).topics.walk ≢ k
-  no_walk k left there from e = left_no_table P.uses P.spot i k _ lt left (sym (ap (stands P.up P.spot) e) ∙ (P.held a there).table from)
-
-  -- The step stores in no word of it.
-  elsewhere : (k : ℕ) → Leaves k → (step : PartStep) → IsPart z v a step → IsElsewhere step (v.hand a).topics k
-  elsewhere k left (part.Fill value) S = λ o is. left_not_owned P.uses i k lt left a o S.there is
-  elsewhere k left (part.Link gfn) S = no_walk k left S.there S.needs.0.saw.over.there
-  elsewhere k left (part.Leaf gfn) S = no_walk k left S.there S.needs.0.saw.over.there
+  -- The step stores in another role.
+  elsewhere : (k : ℕ) → Leaves k → (step : PartStep) → IsPart z v a step → HasOtherRole step (v.hand a).topics k
+  elsewhere k left (part.Role value) S = λ o is. left_not_owned P.uses i k lt left a o S.there is
   elsewhere k left part.Clear S = left_elsewhere (v.hand a).topics S.needs.leaves k (λ l is e. ne (one_leaver P.uses i a k lt S.there left (is ∙ ap Some e)))
   elsewhere k left _ S = tt
 

@@ -54,8 +54,10 @@ pub enum SetSlotPlace {
     Refuse(crate::Refusal),
     /// Loads a word of the pool's map, or tries a page that it saw there.
     Claim { begun: bool },
-    /// Stores the next word of the new slot set, or the role of its page.
+    /// Stores the next word of the new slot set.
     Fill,
+    /// Stores the role of its page, once all words are stored.
+    Role,
     /// Tries to take the lock alone.
     Exclude,
     /// Loads how many invalidations are open.
@@ -148,8 +150,10 @@ pub enum FaultPlace {
     Walk { rooted: bool },
     /// Loads a word of the pool's map, or tries a page that it saw there.
     Claim { begun: bool },
-    /// Stores the next word of the page that it owns, or its role.
+    /// Stores the next word of the page that it owns.
     Fill,
+    /// Stores its role, once all words are stored.
+    Role,
     /// Links the page as a table.
     Link,
     /// Gives the page back, where another actor's entry stands.

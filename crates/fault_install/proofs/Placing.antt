@@ -7,6 +7,7 @@ use Rattle.core_views.specs.declared.place.CheckStage.{CheckStage}
 use Rattle.core_views.specs.declared.place.CheckStage.TheVariants as stage
 use Rattle.core_views.specs.declared.place.FaultEnd.TheVariants as end_of
 use Rattle.core_views.specs.declared.place.FaultNext.TheVariants.{Goes}
+use Rattle.core_views.specs.declared.place.FaultPlace.{FaultPlace}
 use Rattle.core_views.specs.declared.place.FaultPlace.TheVariants as at
 use Rattle.core_views.specs.declared.place.SlotField.{SlotField}
 use Rattle.core_views.specs.declared.place.SlotField.TheVariants as field
@@ -31,7 +32,7 @@ use Rattle.mmu_core.specs.lines.FaultKnows.{CheckKnows}
 use Rattle.mmu_core.specs.lines.FaultLaws.{CanAnswer}
 use Rattle.mmu_core.specs.lines.FaultSteps.{at_map_word, check_next, check_part, claim_next, find_next, found_next, is_last_word, is_owing, map_word, share_next, share_part, snapshot_taken, tries_page, waits, word_owed}
 use Rattle.part_steps.specs.PartTopics.{part_topics, sequenced}
-use Rattle.part_steps.specs.PartSteps.{own_index, part_task}
+use Rattle.part_steps.specs.PartSteps.{own_index, part_task, words_filled}
 use Rattle.part_steps.specs.Tasks.{kind_of_task, map_of}
 use Rattle.part_steps.specs.TopicSteps.{has_writer, is_loose, is_won, searched}
 use Rattle.mmu_lock.specs.declared.lock.Lock.{Lock}
@@ -46,8 +47,9 @@ use Rattle.table_pool.specs.declared.claim.Claimed.TheVariants.{Page, Empty}
 use Rattle.table_pool.specs.Claims.{ClaimTurn, claim_step}
 use Rattle.fault_install.specs.declared.fault.FaultJob.{FaultJob}
 use Rattle.fault_install.specs.Faults.{IsAt, MakesStep, Turned, WaitsBy}
-use Rattle.fault_install.specs.Places.{after_check, after_claim, after_search, after_try, claim_turn, lock_turn}
+use Rattle.fault_install.specs.Places.{after_check, after_claim, after_search, after_try, claim_turn, lock_turn, after_fill}
 use Rattle.fault_install.proofs.Turning.{makes}
+use Rattle.table_pool.specs.Pages.{fill_step}
 
 not_true : false ≢ true
 not_true e = absurd (cc e)
@@ -284,3 +286,12 @@ claim_makes job begun answer note a h g told tells is M turned =
     let turn = claim_turned (tries_page begun h.topics.claim) begun answer h.state.sizes h.topics g.topics M.found refl M.made.topics turned in
     makes (at.Claim begun) (after_claim answer) job (claim_turn answer) note M.found a h g told tells is.place M.made (can_claim (tries_page begun h.topics.claim) (map_word begun h.topics.claim) M.found) turn.0
     (subst (λ n. WaitsBy (claim_turn answer) (waits (at.Claim begun) h.topics M.found) (record { word = n; value = M.found })) (on_map (tries_page begun h.topics.claim) begun (own_index h) h.topics h.state.sizes note) turn.1)
+
+-- the fill, while there is a word of the page left
+word_left : (filled value : ℕ) → filled < 512 → fill_step filled value ≡ part.Fill value
+word_left filled value few = let no : (filled == 512) ≡ false = grind (arith, nat_tests, few) in ap (λ (b : Bool). if b then part.Role value else part.Fill value) no
+
+pub fill_makes : (job : FaultJob) (place : FaultPlace) (note a : ℕ) (h g : Held) (told tells : Told) → IsAt at.Fill job note h → place ≡ after_fill (words_filled h.topics.owned)
+    → MadePart (fill_step (words_filled h.topics.owned) 0) note 0 a h g told tells → MakesStep job (record job { place = place }) More note a h g told tells
+fill_makes job place note a h g told tells is next M =
+    makes at.Fill place job More note 0 a h g told tells is.place (subst (λ (x : PartStep). MadePart x note 0 a h g told tells) (word_left (words_filled h.topics.owned) 0 is.may.needs.0.1) M) refl next not_true

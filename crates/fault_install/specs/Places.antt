@@ -1,5 +1,5 @@
 -- Which place of a fault follows from what the part of the place answered, and what the fault's turn answers then.
-use Rattle.std.specs.Prelude.{ℕ, Bool, true, false, ◌==◌, ◌&&◌, if◌then◌else◌, Option, Some, None}
+use Rattle.std.specs.Prelude.{ℕ, Bool, true, false, ◌==◌, ◌&&◌, if◌then◌else◌, Option, Some, None, ◌+◌, nat_lt}
 use Rattle.core_views.specs.declared.place.Cause.TheVariants as cause
 use Rattle.core_views.specs.declared.place.CheckStage.{CheckStage}
 use Rattle.core_views.specs.declared.place.CheckStage.TheVariants as stage
@@ -62,10 +62,9 @@ abbrev pub claim_turn : Turn Claimed → Turn Faulted
 claim_turn (Wait seen) = Wait seen
 claim_turn _ = More
 
--- behind a word of a fill
-abbrev pub after_fill : Turn (Unit {0}) → FaultPlace
-after_fill (Done _) = at.Link
-after_fill _ = at.Fill
+-- after a word of the page that is filled, of which so many words were filled before
+abbrev pub after_fill : ℕ → FaultPlace
+after_fill filled = if nat_lt (filled + 1) 512 then at.Fill else at.Role
 
 -- behind the end of the section
 abbrev pub after_end : FaultEnd → Turn Faulted

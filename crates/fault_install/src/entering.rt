@@ -10,9 +10,9 @@ use crate::places::{after_claim, after_end, after_fill, after_walk, claim_turn};
 use crate::{FaultJob, Faulted};
 use core_views::{Cause, FaultEnd, FaultPlace, Hand};
 use grace_period::end;
-use mmu_core::{entry_word, part_rests, table_value};
+use mmu_core::{entry_word, part_rests};
 use mmu_lock::unlock;
-use part_steps::{PartStep, page_owned};
+use part_steps::{PartStep, page_owned, words_filled};
 use step_seats::{Stepper, Turn, make_part};
 use table_pool::{Claim, Fill, Give};
 use tdp_walk::Walk;
@@ -79,7 +79,7 @@ impl FaultJob {
         claim_turn(answer)
     }
 
-    // Fills the page as a table whose entries are absent.
+    // Fills the page with absent entries.
     pub(crate) fn fill<S: Stepper>(&mut self, s: &mut S, note: u64) -> Turn<Faulted>
         requires is_at { IsAt at.Fill self.old note (S.handful s.old).core }
         requires reserved { 0 < (S.handful s.old).room }
@@ -87,10 +87,26 @@ impl FaultJob {
         ensures room { KeepsRoom (S.handful s.old) (S.handful s.new) }
         ensures same { (S.actor s.new ≡ S.actor s.old) × (S.frame s.new ≡ S.frame s.old) }
     {
-        let value = table_value(s.hand().topics());
-        let mut fill = Fill::new(page_owned(s.hand().topics().owned));
-        let answer = fill.turn(s, value, note);
-        self.place = after_fill(answer);
+        let owned = s.hand().topics().owned;
+        let mut fill = Fill::new(page_owned(owned));
+        let _ = fill.turn(s, 0, note);
+        self.place = after_fill(words_filled(owned));
+        Turn::More
+    }
+
+    // Stores the role of the page: it is a table one level below the walk's.
+    pub(crate) fn role<S: Stepper>(&mut self, s: &mut S, note: u64) -> Turn<Faulted>
+        requires is_at { IsAt at.Role self.old note (S.handful s.old).core }
+        requires reserved { 0 < (S.handful s.old).room }
+        ensures makes { MakesStep self.old self.new result note (S.actor s.old) (S.handful s.old).core (S.handful s.new).core (S.tells s.old) (S.tells s.new) }
+        ensures room { KeepsRoom (S.handful s.old) (S.handful s.new) }
+        ensures same { (S.actor s.new ≡ S.actor s.old) × (S.frame s.new ≡ S.frame s.old) }
+    {
+        let topics = s.hand().topics();
+        let level = topics.walk.level.saturating_sub(1) as u64;
+        let mut fill = Fill::new(page_owned(topics.owned));
+        let _ = fill.turn(s, level, note);
+        self.place = FaultPlace::Link;
         Turn::More
     }
 

@@ -83,6 +83,7 @@ impl FaultJob {
             FaultPlace::Walk { rooted: true } => self.walk(s, note),
             FaultPlace::Claim { begun } => self.claim(s, begun, note),
             FaultPlace::Fill => self.fill(s, note),
+            FaultPlace::Role => self.role(s, note),
             FaultPlace::Link => self.link(s, note),
             FaultPlace::Give(end) => self.give(s, end, note),
             FaultPlace::Leaf => self.leaf(s, note),

@@ -1,5 +1,5 @@
 //! Which place follows from what a part answered.
-ghost use Rattle.std.specs.Prelude.{◌≡◌};
+ghost use Rattle.std.specs.Prelude.{◌≡◌, ◌<◌};
 ghost use Rattle.fault_install.specs.Places.{after_check, after_claim, after_end, after_fill, after_search, after_try, after_walk, claim_turn, lock_turn};
 
 use crate::Faulted;
@@ -120,13 +120,16 @@ pub(crate) fn claim_turn(answer: Turn<Claimed>) -> Turn<Faulted>
     }
 }
 
-/// Behind a word of the page that is filled.
-pub(crate) fn after_fill(answer: Turn<()>) -> FaultPlace
-    ensures { result ≡ after_fill answer }
+/// After a word of the page that is filled, of which so many words were filled
+/// before.
+pub(crate) fn after_fill(filled: u64) -> FaultPlace
+    requires { filled < 512 }
+    ensures { result ≡ after_fill filled }
 {
-    match answer {
-        Turn::Done(()) => FaultPlace::Link,
-        _ => FaultPlace::Fill,
+    if filled + 1 < 512 {
+        FaultPlace::Fill
+    } else {
+        FaultPlace::Role
     }
 }
 

@@ -11,3 +11,4 @@ pub mod TreeStored
 pub mod UsesStay
 pub mod UsesTurn
 pub mod Paths
+pub mod Owned

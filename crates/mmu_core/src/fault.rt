@@ -4,7 +4,7 @@ ghost use Rattle.core_views.specs.declared.place.Cause.TheVariants.{Entry};
 ghost use Rattle.core_views.specs.declared.place.FaultEnd.TheVariants.{HostFault, Retry};
 ghost use Rattle.core_views.specs.declared.place.FaultPlace.TheVariants.{End, Find, Give, Host, Share, Unshare};
 ghost use Rattle.core_views.specs.Sizes.{AreSizes};
-ghost use Rattle.mmu_core.specs.lines.FaultSteps.{at_map_word, check_next, check_part, claim_next, claim_part, entry_word, fault_next, fault_part, find_next, is_owing, map_word, share_next, table_value, tries_page, waits, walk_next};
+ghost use Rattle.mmu_core.specs.lines.FaultSteps.{at_map_word, check_next, check_part, claim_next, claim_part, entry_word, fault_next, fault_part, find_next, is_owing, map_word, share_next, tries_page, waits, walk_next};
 ghost use Rattle.part_steps.specs.PartBounds.{PartRests};
 ghost use Rattle.part_steps.specs.PartSteps.{PartNeeds, table_page};
 ghost use Rattle.part_steps.specs.SlotWords.{page_of};
@@ -34,18 +34,6 @@ pub(crate) fn map_word(begun: bool, claim: &MapClaim) -> u64
     ensures { result ≡ map_word begun claim.now }
 {
     if begun { claim.at } else { 0 }
-}
-
-/// What the next word of a table's page that is filled is to hold: its 512 entries
-/// are absent, and its role is the level below the walk's.
-pub fn table_value(topics: &Topics) -> u64
-    ensures { result ≡ table_value topics.now }
-{
-    if words_filled(topics.owned) < ENTRIES {
-        0
-    } else {
-        topics.walk.level.saturating_sub(1) as u64
-    }
 }
 
 fn check_part(stage: CheckStage) -> PartStep
@@ -88,7 +76,8 @@ pub(crate) fn part(place: FaultPlace, gfn: u64, topics: &Topics) -> PartStep
         FaultPlace::Walk { rooted: true } => PartStep::Walk(gfn),
         FaultPlace::Walk { rooted: false } => PartStep::Root,
         FaultPlace::Claim { begun } => claim_part(begun, &topics.claim),
-        FaultPlace::Fill => PartStep::Fill(table_value(topics)),
+        FaultPlace::Fill => PartStep::Fill(0),
+        FaultPlace::Role => PartStep::Role(topics.walk.level.saturating_sub(1) as u64),
         FaultPlace::Link => PartStep::Link(gfn),
         FaultPlace::Give(_) => PartStep::Give,
         FaultPlace::Leaf => PartStep::Leaf(gfn),
@@ -282,8 +271,9 @@ pub(crate) fn next(place: FaultPlace, hand: &Hand, gfn: u64, write: bool, found:
         FaultPlace::Walk { rooted: true } => walk_next(sizes, gfn, write, &topics.walk, found),
         FaultPlace::Walk { rooted: false } => FaultPlace::Walk { rooted: true },
         FaultPlace::Claim { begun } => claim_next(begun, sizes, &topics.claim, found),
-        FaultPlace::Fill if words_filled(topics.owned) < ENTRIES => FaultPlace::Fill,
-        FaultPlace::Fill => FaultPlace::Link,
+        FaultPlace::Fill if words_filled(topics.owned) + 1 < ENTRIES => FaultPlace::Fill,
+        FaultPlace::Fill => FaultPlace::Role,
+        FaultPlace::Role => FaultPlace::Link,
         FaultPlace::Link => {
             exchange_next(hand, gfn, found, FaultPlace::Walk { rooted: true }, true)
         }

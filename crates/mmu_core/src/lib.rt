@@ -12,7 +12,7 @@ mod set_slot;
 mod step;
 
 pub use access::{access_note, lookup};
-pub use fault::{entry_word, table_value};
+pub use fault::entry_word;
 pub use laws::{knows, rests};
 pub use outcome::Outcome;
 pub use parts::{allows, may_make, part_rests};

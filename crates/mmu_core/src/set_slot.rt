@@ -18,11 +18,12 @@ use crate::fault::{claim_part, map_word, tries_page};
 use crate::outcome::Outcome;
 use core_views::{Answer, Hand, MapClaim, Place, SetSlotPlace, Sizes, Slot, SlotSet, Topics};
 use part_steps::{
-    PartStep, Task, in_section, is_won, map_of, next_watched, part_task, set_value, words_filled,
+    PartStep, SLOT_SET_ROLE, Task, in_section, is_won, map_of, next_watched, part_task, set_word,
+    words_filled,
 };
 use spte_words::Area;
 
-/// How many words of a slot set's page are filled before its role.
+/// How many words of a slot set's page are filled.
 const WORDS: u64 = 512;
 
 /// Where a setting begins, by the manager's own record of the slots.
@@ -54,8 +55,9 @@ fn part(place: SetSlotPlace, hand: &Hand, id: u64, slot: &Slot) -> PartStep
         SetSlotPlace::Refuse(_) => PartStep::Seq,
         SetSlotPlace::Claim { begun } => claim_part(begun, &topics.claim),
         SetSlotPlace::Fill => {
-            PartStep::Fill(set_value(hand.slots(), id, slot, words_filled(topics.owned)))
+            PartStep::Fill(set_word(hand.slots(), id, slot, words_filled(topics.owned)))
         }
+        SetSlotPlace::Role => PartStep::Role(SLOT_SET_ROLE),
         SetSlotPlace::Exclude => PartStep::Exclude,
         SetSlotPlace::Count => PartStep::Count,
         SetSlotPlace::Close | SetSlotPlace::Release => PartStep::Release,
@@ -164,8 +166,9 @@ pub(crate) fn outcome(place: SetSlotPlace, hand: &Hand, found: u64) -> Outcome
         SetSlotPlace::Claim { begun } => {
             return claim_outcome(begun, &hand.state().sizes, &topics.claim, found);
         }
-        SetSlotPlace::Fill if words_filled(topics.owned) < WORDS => SetSlotPlace::Fill,
-        SetSlotPlace::Fill | SetSlotPlace::Close => SetSlotPlace::Exclude,
+        SetSlotPlace::Fill if words_filled(topics.owned) + 1 < WORDS => SetSlotPlace::Fill,
+        SetSlotPlace::Fill => SetSlotPlace::Role,
+        SetSlotPlace::Role | SetSlotPlace::Close => SetSlotPlace::Exclude,
         SetSlotPlace::Exclude if found == 0 => SetSlotPlace::Count,
         SetSlotPlace::Exclude => SetSlotPlace::Exclude,
         SetSlotPlace::Count if found == 0 => SetSlotPlace::Publish,

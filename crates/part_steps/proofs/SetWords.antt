@@ -10,7 +10,7 @@ use Rattle.core_views.specs.declared.trace.Slot.{Slot}
 use Rattle.core_views.specs.Refusals.{after_set, is_logged}
 use Rattle.core_views.specs.SlotSets.{MemorySlots, slot_at, with_slot_at}
 use Rattle.spte_words.specs.Flags.{flags_word}
-use Rattle.part_steps.specs.SetWords.{set_role, set_value, set_word, word_of_slot}
+use Rattle.part_steps.specs.SetWords.{set_word, word_of_slot}
 
 -- A set with one more slot has this one at its ID, and else what it had.
 pub put_at : (i id : ℕ) (m : MemorySlot) (slots : MemorySlots) → slot_at i (with_slot_at id m slots) ≡ (if id == i then Some m else slot_at i slots)
@@ -62,11 +62,12 @@ word_small (Some m) i small = by (i == 0) (i == 1) (i == 2)
     by false false true = S.host
     by false false false = flags_small m.slot.read_only m.logged
 
-pub value_small : (id : ℕ) (slot : Slot) (slots : MemorySlots) (filled : ℕ) → IsSmall slot → ((i : ℕ) (m : MemorySlot) → slot_at i slots ≡ Some m → IsSmall m.slot) → set_value (after_set id slot slots) filled < 2 ^ 64
-value_small id slot slots filled new_ old_ = by (filled == 512)
+pub set_word_small : (id : ℕ) (slot : Slot) (slots : MemorySlots) (j : ℕ) → IsSmall slot → ((i : ℕ) (m : MemorySlot) → slot_at i slots ≡ Some m → IsSmall m.slot) → set_word (after_set id slot slots) j < 2 ^ 64
+set_word_small id slot slots j new_ old_ =
+    word_small (slot_at at (after_set id slot slots)) (j % 4) (λ m e. each (id == at) m (sym (put_at at id (record { slot = slot; logged = is_logged id slots }) slots) ∙ e))
   where
     at : ℕ
-    at = filled / 4
+    at = j / 4
 
     each : (here : Bool) (m : MemorySlot) → (if here then Some (record { slot = slot; logged = is_logged id slots }) else slot_at at slots) ≡ Some m → IsSmall m.slot
     each true m e = subst (λ (s : MemorySlot). IsSmall s.slot) (some_slot e) new_
@@ -74,7 +75,3 @@ value_small id slot slots filled new_ old_ = by (filled == 512)
         some_slot : {x y : MemorySlot} → Some x ≡ Some y → x ≡ y
         some_slot e = cc e
     each false m e = old_ at m e
-
-    by : (role : Bool) → (if role then set_role else set_word (after_set id slot slots) filled) < 2 ^ 64
-    by true = omega arith
-    by false = word_small (slot_at at (after_set id slot slots)) (filled % 4) (λ m e. each (id == at) m (sym (put_at at id (record { slot = slot; logged = is_logged id slots }) slots) ∙ e))

@@ -57,6 +57,16 @@ abbrev pub words_filled : Option OwnedPage → ℕ
 words_filled None = 0
 words_filled (Some o) = o.filled
 
+-- Each word that is filled so far is 0.
+abbrev pub is_absent : Option OwnedPage → Bool
+is_absent None = false
+is_absent (Some o) = o.absent
+
+-- the role that is stored for the page
+abbrev pub role_filled : Option OwnedPage → ℕ
+role_filled None = 0
+role_filled (Some o) = o.role
+
 -- the page that is leaving
 abbrev pub page_left : Option ℕ → ℕ
 page_left None = 0
@@ -87,10 +97,6 @@ entry_task gfn new_ walk note = record { kind = kind.Swap; area = area.Pool; ind
 abbrev pub works : StepKind → Area → ℕ → ℕ → ℕ → Task
 works k a index written note = record { kind = k; area = a; index = index; expected = 0; written = written; may_end = note }
 
--- a fill: the page's words in their order, and behind them its role
-abbrev pub fill_task : ℕ → ℕ → ℕ → ℕ → Task
-fill_task page filled value note = if filled == 512 then works kind.Fill area.Role page value note else works kind.Fill area.Pool (pool_index page filled) value note
-
 -- what the step does for the actor at a place, that holds these topics
 abbrev pub part_task : PartStep → ℕ → Topics → ℕ → Task
 part_task part.Enter own t note = works kind.Enter area.State own guest_bits note
@@ -104,7 +110,8 @@ part_task part.Exclude own t note = works kind.Exclude area.Lock 0 writer note
 part_task part.Release own t note = works kind.Release area.Lock 0 (all_but writer) note
 part_task (part.Map word) own t note = loads kind.Control area.PoolMap word note
 part_task part.Claim own t note = works kind.Claim area.PoolMap t.claim.at (all_but (2 ^ tried_bit t.claim)) note
-part_task (part.Fill value) own t note = fill_task (page_owned t.owned) (words_filled t.owned) value note
+part_task (part.Fill value) own t note = works kind.Fill area.Pool (pool_index (page_owned t.owned) (words_filled t.owned)) value note
+part_task (part.Role value) own t note = works kind.Fill area.Role (page_owned t.owned) value note
 part_task part.Give own t note = works kind.Give area.PoolMap (page_owned t.owned / 64) (2 ^ (page_owned t.owned % 64)) note
 part_task part.Slots own t note = loads kind.Control area.Slots 0 note
 part_task part.Slot own t note = loads kind.Slot area.Pool (slot_index (set_held t.search.set) t.search.id t.search.next) note
@@ -153,14 +160,16 @@ next_watched own_ seen = if seen == own_ then seen + 1 else seen
 abbrev pub GoesOnToWord : ℕ → Topics → Type 0
 GoesOnToWord word t = (word ≡ 0) ⊎ ((word ≡ t.claim.at) × (t.claim.seen ≡ 0))
 
--- A page is owned, and not all of its words and its role are filled.
-pub record HasToFill (t : Topics) : Type 0 where
-  pub owned : OwnedPage
-  pub is : t.owned ≡ Some owned
-  pub left : owned.filled < 513
-
 abbrev pub OwnsPage : Topics → Type 0
 OwnsPage t = is_some t.owned ≡ true
+
+-- A page is owned, and not all of its words are filled.
+abbrev pub HasToFill : Topics → Type 0
+HasToFill t = OwnsPage t × (words_filled t.owned < 512)
+
+-- All words of the page that is owned are filled, and its role comes next.
+abbrev pub HasRoleToSet : Topics → Type 0
+HasRoleToSet t = words_filled t.owned ≡ 512
 
 abbrev pub HoldsSet : Topics → Type 0
 HoldsSet t = is_some t.search.set ≡ true
@@ -178,11 +187,9 @@ pub record SawEntry (gfn : ℕ) (walk : TableWalk) : Type 0 where
 
 -- The page that is owned is filled whole, as a table of the level whose entries are absent.
 pub record OwnsTable (level : ℕ) (t : Topics) : Type 0 where
-  pub owned : OwnedPage
-  pub is : t.owned ≡ Some owned
-  pub whole : owned.filled ≡ 513
-  pub absent : owned.absent ≡ true
-  pub role : owned.role ≡ level
+  pub whole : words_filled t.owned ≡ 513
+  pub absent : is_absent t.owned ≡ true
+  pub role : role_filled t.owned ≡ level
 
 -- A slot with the guest frame was loaded whole.
 pub record FoundSlot (gfn : ℕ) (t : Topics) : Type 0 where
@@ -212,10 +219,8 @@ pub record MayEnter (gfn : ℕ) (t : Topics) : Type 0 where
 
 -- The page that is owned is filled whole, as a slot set.
 pub record OwnsSet (t : Topics) : Type 0 where
-  pub owned : OwnedPage
-  pub is : t.owned ≡ Some owned
-  pub whole : owned.filled ≡ 513
-  pub role : owned.role ≡ set_role
+  pub whole : words_filled t.owned ≡ 513
+  pub role : role_filled t.owned ≡ set_role
 
 -- A slot set may be published: it is owned and filled whole, the actor has the lock alone, under which it has seen that no invalidation is
 -- open, and no page is leaving yet.
@@ -260,6 +265,7 @@ PartNeeds part.Release h = h.topics.hold ≡ Exclusive
 PartNeeds (part.Map word) h = (h.topics.owned ≡ None) × (word < words_of_bits h.state.sizes.pool) × GoesOnToWord word h.topics
 PartNeeds part.Claim h = (h.topics.owned ≡ None) × (0 < h.topics.claim.seen) × (h.topics.claim.at < words_of_bits h.state.sizes.pool)
 PartNeeds (part.Fill value) h = HasToFill h.topics × (value < 2 ^ 64)
+PartNeeds (part.Role value) h = HasRoleToSet h.topics × (value < 2 ^ 64)
 PartNeeds part.Give h = OwnsPage h.topics
 PartNeeds part.Slots h = Unit {0}
 PartNeeds part.Slot h = HoldsSet h.topics × (h.topics.search.id ≤ 31)

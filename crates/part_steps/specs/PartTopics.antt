@@ -38,6 +38,7 @@ part_topics part.Release t v = let_go t
 part_topics (part.Map word) t v = record t { claim = record { at = word + (if v == 0 then 1 else 0); seen = v } }
 part_topics part.Claim t v = record t { owned = claimed t.claim v; claim = tried t.claim v }
 part_topics (part.Fill value) t v = record t { owned = filled_more t.owned v }
+part_topics (part.Role value) t v = record t { owned = filled_more t.owned v }
 part_topics part.Give t v = given_back t
 part_topics part.Slots t v = record t { search = at_set (may_search t.stay t.hold) t.search v }
 part_topics part.Slot t v = record t { search = if is_some t.search.set then searched t.search v else t.search }

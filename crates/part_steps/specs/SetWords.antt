@@ -1,4 +1,4 @@
--- The page of a slot set, as it is filled: four words for each ID, and its role.
+-- The page of a slot set: four words for each ID, and its role.
 use Rattle.std.specs.Prelude.{◌≡◌, ◌/◌, ◌%◌, ◌<◌, ℕ, true, ◌==◌, if◌then◌else◌, Option, Some, None}
 use Rattle.core_views.specs.declared.slot_set.MemorySlot.{MemorySlot}
 use Rattle.core_views.specs.declared.topics.OwnedPage.{OwnedPage}
@@ -22,10 +22,6 @@ set_word slots j = word_of_slot (slot_at (j / 4) slots) (j % 4)
 -- the role of a slot set's page
 abbrev pub set_role : ℕ
 set_role = 5
-
--- what the page is filled with: its 512 words, and behind them its role
-abbrev pub set_value : MemorySlots → ℕ → ℕ
-set_value slots filled = if filled == 512 then set_role else set_word slots filled
 
 -- What is filled of the page that is owned is the set of these slots.
 abbrev pub IsFilledWith : (ℕ → ℕ) → MemorySlots → Option OwnedPage → Type 0

@@ -14,6 +14,6 @@ pub use needs::{has_needs, needs_line, next_watched};
 pub use part_step::{
     PartStep, entry_index, page_owned, part_kind, part_task, run_of, table_page, words_filled,
 };
-pub use slot_words::{SLOT_SET_ROLE, page_of, set_value};
+pub use slot_words::{SLOT_SET_ROLE, page_of, set_word};
 pub use task::{Task, kind_of, map_of};
 pub use topics::{is_won, search, step_topics};

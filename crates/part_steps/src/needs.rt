@@ -4,13 +4,13 @@ ghost use Rattle.core_views.specs.declared.topics.OwnedPage.{OwnedPage};
 ghost use Rattle.spte_words.specs.Areas.{size_of};
 ghost use Rattle.part_steps.specs.PartBounds.{PartRests};
 ghost use Rattle.core_views.specs.Slots.{contains};
-ghost use Rattle.part_steps.specs.PartSteps.{IsFresh, IsOver, MayEnter, MayGiveOld, MayPublish, OwnsTable, PartNeeds, SawEntry, needs_line, next_watched};
+ghost use Rattle.part_steps.specs.PartSteps.{IsFresh, IsOver, MayEnter, MayGiveOld, MayPublish, OwnsTable, PartNeeds, SawEntry, needs_line, next_watched, role_filled, words_filled};
 ghost use Rattle.part_steps.specs.SetWords.{set_role};
 ghost use Rattle.part_steps.specs.SlotWords.{page_of};
 ghost use Rattle.part_steps.specs.Tasks.{map_of};
 ghost use Rattle.part_steps.specs.declared.part_step.PartStep.TheVariants.{Enter, Leave, Begin, End, Clear};
 
-use crate::part_step::{PartStep, entry_index, run_of};
+use crate::part_step::{PartStep, entry_index, run_of, words_filled};
 use crate::slot_words::SLOT_SET_ROLE;
 use crate::task::map_of;
 use core_views::{
@@ -98,7 +98,7 @@ fn owns_table(topics: &Topics) -> bool
 
 // Whether the page that is owned is filled as a slot set.
 fn owns_set(owned: Option<OwnedPage>) -> bool
-    ensures { result ≡ true → (o : OwnedPage) × (owned ≡ Some o) × (o.filled ≡ 513) × (o.role ≡ set_role) }
+    ensures { result ≡ true → (words_filled owned ≡ 513) × (role_filled owned ≡ set_role) }
 {
     match owned {
         Some(owned) => owned.filled == 513 && owned.role == SLOT_SET_ROLE,
@@ -170,10 +170,8 @@ pub fn has_needs(hand: &Hand, step: PartStep) -> bool
         PartStep::Claim => {
             topics.owned.is_none() && claim.seen > 0 && claim.at < map.size_of(Area::PoolMap) as u64
         }
-        PartStep::Fill(_) => match topics.owned {
-            Some(owned) => owned.filled < 513,
-            None => false,
-        },
+        PartStep::Fill(_) => topics.owned.is_some() && words_filled(topics.owned) < 512,
+        PartStep::Role(_) => words_filled(topics.owned) == 512,
         PartStep::Give => topics.owned.is_some(),
         PartStep::Slot => topics.search.set.is_some() && topics.search.id <= 31,
         PartStep::Walk(gfn) => is_over(gfn, &topics.walk),

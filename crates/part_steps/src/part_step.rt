@@ -6,7 +6,7 @@ ghost use Rattle.core_views.specs.declared.topics.OwnedPage.{OwnedPage};
 ghost use Rattle.spte_words.specs.declared.area.Area.TheVariants as Area;
 ghost use Rattle.spte_words.specs.Areas.{IsWordMap, pool_index, size_of};
 ghost use Rattle.part_steps.specs.PartBounds.{PartRests};
-ghost use Rattle.part_steps.specs.PartSteps.{PartNeeds, all_but, entry_index, entry_task, fill_task, leaf_written, own_index, page_left, page_owned, part_kind, part_task, set_held, table_page, word_looked, words_filled, works};
+ghost use Rattle.part_steps.specs.PartSteps.{PartNeeds, all_but, entry_index, entry_task, leaf_written, own_index, page_left, page_owned, part_kind, part_task, set_held, table_page, word_looked, words_filled, works};
 ghost use Rattle.part_steps.specs.SlotWords.{slot_index};
 ghost use Rattle.spte_words.specs.Entries.{level_span, table_word};
 ghost use Rattle.spte_words.specs.HostWords.{host_frame};
@@ -49,8 +49,10 @@ pub enum PartStep {
     Map(u64),
     /// Tries to take the lowest free page of those seen there.
     Claim,
-    /// Stores this number in the next word of its page, or in its role.
+    /// Stores this number in the next word of its page.
     Fill(u64),
+    /// Stores this number as the role of its page.
+    Role(u64),
     /// Gives its page back, which was never linked.
     Give,
     /// Loads which slot set is published.
@@ -131,24 +133,34 @@ pub fn words_filled(owned: Option<OwnedPage>) -> u64
     }
 }
 
-// Fills the next word of the page, or its role.
+// Fills the next word of the page.
 fn fill(map: &WordMap, owned: Option<OwnedPage>, value: u64, note: u64) -> Task
     requires map { IsWordMap map.now }
-    requires left { (o : OwnedPage) → owned ≡ Some o → o.filled < 513 }
+    requires left { words_filled owned < 512 }
     requires page { (o : OwnedPage) → owned ≡ Some o → o.page < map.now.pool }
     requires owned { is_some owned ≡ true }
-    ensures task { result ≡ fill_task (page_owned owned) (words_filled owned) value note }
+    ensures task { result ≡ works StepKind.Fill Area.Pool (pool_index (page_owned owned) (words_filled owned)) value note }
     ensures within { result.index < size_of map.now result.area }
 {
     let Some(OwnedPage { page, filled, .. }) = owned else {
         unreachable!()
     };
-    if filled == 512 {
-        work(StepKind::Fill, Area::Role, page, value, note)
-    } else {
-        let index = map.pool_index(page, filled);
-        work(StepKind::Fill, Area::Pool, index, value, note)
-    }
+    let index = map.pool_index(page, filled);
+    work(StepKind::Fill, Area::Pool, index, value, note)
+}
+
+// Stores the role of the page.
+fn role(map: &WordMap, owned: Option<OwnedPage>, value: u64, note: u64) -> Task
+    requires map { IsWordMap map.now }
+    requires page { (o : OwnedPage) → owned ≡ Some o → o.page < map.now.pool }
+    requires filled { words_filled owned ≡ 512 }
+    ensures task { result ≡ works StepKind.Fill Area.Role (page_owned owned) value note }
+    ensures within { result.index < size_of map.now result.area }
+{
+    let Some(OwnedPage { page, .. }) = owned else {
+        unreachable!()
+    };
+    work(StepKind::Fill, Area::Role, page, value, note)
 }
 
 // Gives the page back.
@@ -336,6 +348,7 @@ pub fn part_task(hand: &Hand, step: PartStep, note: u64) -> Task
         PartStep::Map(word) => Task::load(StepKind::Control, Area::PoolMap, word, note),
         PartStep::Claim => claim(&topics.claim, note),
         PartStep::Fill(value) => fill(map, topics.owned, value, note),
+        PartStep::Role(value) => role(map, topics.owned, value, note),
         PartStep::Give => give(map, topics.owned, note),
         PartStep::Slots => Task::load(StepKind::Control, Area::Slots, 0, note),
         PartStep::Slot => slot(map, &topics.search, note),

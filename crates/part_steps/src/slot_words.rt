@@ -1,6 +1,6 @@
 ghost use Rattle.std.specs.Prelude.{◌≡◌, ◌≤◌, ◌<◌, ◌^◌};
 ghost use Rattle.part_steps.specs.SlotWords.{field_number, leaf_of, may_write, page_of, slot_index};
-ghost use Rattle.part_steps.specs.SetWords.{set_value, word_of_slot};
+ghost use Rattle.part_steps.specs.SetWords.{set_word, word_of_slot};
 ghost use Rattle.core_views.specs.Refusals.{after_set};
 ghost use Rattle.core_views.specs.SlotSets.{slot_at};
 ghost use Rattle.core_views.specs.Traces.{IsSlotInRange};
@@ -68,16 +68,12 @@ fn slot_after(slots: &SlotSet, id: u64, slot: &Slot, here: u64) -> Option<Memory
     })
 }
 
-/// What the page of a slot set is filled with next, where the set has these slots
-/// and this one at the ID: the next of its words, or its role.
-pub fn set_value(slots: &SlotSet, id: u64, slot: &Slot, filled: u64) -> u64
-    ensures { result ≡ set_value (after_set id slot.now slots.now) filled }
+/// Word j of the page of a slot set that has these slots, and this one at the ID.
+pub fn set_word(slots: &SlotSet, id: u64, slot: &Slot, j: u64) -> u64
+    ensures { result ≡ set_word (after_set id slot.now slots.now) j }
 {
-    if filled == 512 {
-        return SLOT_SET_ROLE;
-    }
-    let slot = slot_after(slots, id, slot, filled / 4);
-    word_of_slot(&slot, filled % 4)
+    let slot = slot_after(slots, id, slot, j / 4);
+    word_of_slot(&slot, j % 4)
 }
 
 /// The host page behind a guest frame of the slot.

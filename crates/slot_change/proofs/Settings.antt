@@ -33,16 +33,7 @@ done_ends (Ends other) answer is = let e : other ≡ answer = cc is in ap Ends e
 -- A step that waits has seen its own word, but where it gives the lock back.
 own_word : (p : SetSlotPlace) → p ≢ set_slot.Close → (h : Held) (id : ℕ) (slot : Slot) (seen : Seen) (word v : ℕ) → word ≡ (kind_of_task h.state.sizes (set_slot_task p h id slot)).word → seen ≡ record { word = word; value = v } → seen ≡ set_slot_seen p h id slot v
 own_word set_slot.Close other h id slot seen word v at is = absurd (other refl)
-own_word (set_slot.Refuse refusal) other h id slot seen word v at is = rw (is, at) refl
-own_word (set_slot.Claim begun) other h id slot seen word v at is = rw (is, at) refl
-own_word set_slot.Fill other h id slot seen word v at is = rw (is, at) refl
-own_word set_slot.Exclude other h id slot seen word v at is = rw (is, at) refl
-own_word set_slot.Count other h id slot seen word v at is = rw (is, at) refl
-own_word set_slot.Publish other h id slot seen word v at is = rw (is, at) refl
-own_word set_slot.Release other h id slot seen word v at is = rw (is, at) refl
-own_word set_slot.Watch other h id slot seen word v at is = rw (is, at) refl
-own_word set_slot.Clear other h id slot seen word v at is = rw (is, at) refl
-own_word set_slot.Give other h id slot seen word v at is = rw (is, at) refl
+own_word _ other h id slot seen word v at is = rw (is, at) refl
 
 -- The setting stands at this place.
 module _ (actor : ℕ) (h g : Held) (told tells : Told) (p : SetSlotPlace) (id : ℕ) (slot : Slot) (stands : place_at h.state.place h ≡ place.SetSlot p) (setting : (line_of h).command ≡ SetSlot id slot) (M : MakesLine actor h g told tells) where

@@ -8,12 +8,18 @@ use Rattle.spte_words.specs.declared.area.Area.{Area}
 use Rattle.spte_words.specs.declared.area.Area.TheVariants as area
 use Rattle.spte_words.specs.Areas.{pool_index}
 use Rattle.mmu_core.specs.machine.Machine.{World}
+use Rattle.part_steps.specs.declared.part_step.PartStep.{PartStep}
+use Rattle.part_steps.specs.declared.part_step.PartStep.TheVariants as part
 use Rattle.part_steps.specs.PartSteps.{words_filled}
 use Rattle.part_steps.specs.TopicSteps.{unseen}
 use Rattle.mmu_core.specs.invariant.PoolPart.{is_free}
 use Rattle.mmu_core.specs.machine.View.{word_in}
 use Rattle.step_seats.specs.declared.turn.Turn.{Turn}
 use Rattle.step_seats.specs.declared.turn.Turn.TheVariants.{More, Wait, Retry, Done}
+
+-- The step of a fill of a page of which so many words are filled: the next word, and the role where all 512 are.
+abbrev pub fill_step : ℕ → ℕ → PartStep
+fill_step filled value = if filled == 512 then part.Role value else part.Fill value
 
 -- The page, which is owned, has one more of its words filled, or its role behind the last of them; it still counts as absent where all
 -- words so far hold 0, and its role is remembered. Nothing else that the actor holds has changed.

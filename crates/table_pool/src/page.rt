@@ -5,24 +5,39 @@ ghost use Rattle.part_steps.specs.declared.part_step.PartStep.TheVariants as par
 ghost use Rattle.step_seats.specs.Moves.{KeepsRoom};
 ghost use Rattle.step_seats.specs.PartTurns.{MadePart, MakesPart, WherePartMade};
 ghost use Rattle.step_seats.specs.declared.turn.Turn.TheVariants.{More, Done};
-ghost use Rattle.table_pool.specs.Pages.{FillTurn, FreesPage, GivesPage, StoresNext, words_left};
+ghost use Rattle.table_pool.specs.Pages.{FillTurn, FreesPage, GivesPage, StoresNext, fill_step, words_left};
 
 use mmu_core::part_rests;
-use part_steps::{PartStep, part_kind};
+use part_steps::{PartStep, part_kind, words_filled};
 use step_seats::{Stepper, Turn, make_part};
+
+/// How many words of a page are filled before its role.
+const WORDS: u64 = 512;
+
+// The step that fills a page of which so many words are filled.
+pub(crate) fn fill_step(filled: u64, value: u64) -> PartStep
+    ensures { result ≡ fill_step filled value }
+{
+    if filled == WORDS {
+        PartStep::Role(value)
+    } else {
+        PartStep::Fill(value)
+    }
+}
 
 // Writes this value in the word of the owned page that is next, or in its role:
 // a store answers what it wrote.
 fn fill_next<S: Stepper>(s: &mut S, value: u64, note: u64)
-    requires may { MayMake (part.Fill value) note (S.handful s.old).core }
+    requires may { MayMake (fill_step (words_filled (S.handful s.old).core.topics.owned) value) note (S.handful s.old).core }
     requires reserved { 0 < (S.handful s.old).room }
-    ensures made { MadePart (part.Fill value) note value (S.actor s.old) (S.handful s.old).core (S.handful s.new).core (S.tells s.old) (S.tells s.new) }
+    ensures made { MadePart (fill_step (words_filled (S.handful s.old).core.topics.owned) value) note value (S.actor s.old) (S.handful s.old).core (S.handful s.new).core (S.tells s.old) (S.tells s.new) }
     ensures room { KeepsRoom (S.handful s.old) (S.handful s.new) }
     ensures same { (S.actor s.new ≡ S.actor s.old) × (S.frame s.new ≡ S.frame s.old) }
 {
     let hand = s.hand();
     part_rests(hand);
-    let kind = part_kind(hand, PartStep::Fill(value), note);
+    let step = fill_step(words_filled(hand.topics().owned), value);
+    let kind = part_kind(hand, step, note);
     let _ = s.act(kind);
 }
 
@@ -46,22 +61,23 @@ impl Fill {
     /// where all 512 are written. `Done` once the role is written. It never
     /// waits.
     pub fn turn<S: Stepper>(&mut self, s: &mut S, value: u64, note: u64) -> Turn<()>
-        requires may { MayMake (part.Fill value) note (S.handful s.old).core }
+        requires may { MayMake (fill_step (words_filled (S.handful s.old).core.topics.owned) value) note (S.handful s.old).core }
         requires page { page_owned (S.handful s.old).core.topics.owned ≡ self.old.page }
         requires reserved { 0 < (S.handful s.old).room }
-        ensures made { MadePart (part.Fill value) note value (S.actor s.old) (S.handful s.old).core (S.handful s.new).core (S.tells s.old) (S.tells s.new) }
+        ensures made { MadePart (fill_step (words_filled (S.handful s.old).core.topics.owned) value) note value (S.actor s.old) (S.handful s.old).core (S.handful s.new).core (S.tells s.old) (S.tells s.new) }
         ensures turned { FillTurn self.old.page value result (S.handful s.old).core.topics (S.handful s.new).core.topics }
-        ensures writes { WherePartMade (part.Fill value) note (S.actor s.old) (S.handful s.old).core (S.handful s.new).core (S.tells s.old) (StoresNext (S.handful s.old).core.state.sizes self.old.page (words_filled (S.handful s.old).core.topics.owned) value) }
+        ensures writes { WherePartMade (fill_step (words_filled (S.handful s.old).core.topics.owned) value) note (S.actor s.old) (S.handful s.old).core (S.handful s.new).core (S.tells s.old) (StoresNext (S.handful s.old).core.state.sizes self.old.page (words_filled (S.handful s.old).core.topics.owned) value) }
         ensures page { self.new ≡ self.old }
         ensures nearer { result ≡ More → words_left (S.handful s.new).core.topics < words_left (S.handful s.old).core.topics }
         ensures room { KeepsRoom (S.handful s.old) (S.handful s.new) }
         ensures same { (S.actor s.new ≡ S.actor s.old) × (S.frame s.new ≡ S.frame s.old) }
     {
-        part_rests(s.hand());
+        let filled = words_filled(s.hand().topics().owned);
         fill_next(s, value, note);
-        match s.hand().topics().owned {
-            Some(owned) if owned.filled < 513 => Turn::More,
-            _ => Turn::Done(()),
+        if filled == WORDS {
+            Turn::Done(())
+        } else {
+            Turn::More
         }
     }
 }

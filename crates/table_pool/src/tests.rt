@@ -6,10 +6,11 @@ ghost use Rattle.mmu_core.specs.machine.MayMake.{MayMake};
 ghost use Rattle.part_steps.specs.PartSteps.{page_owned};
 ghost use Rattle.table_pool.specs.Claims.{claim_step};
 
+use crate::page::fill_step;
 use crate::{Claim, Claimed, Fill, Give};
 use core_views::{Actor, Command, Header, Line, Lines, NoMemory, Op, Seen, Trace, Words};
 use mmu_core::{allows, part_rests};
-use part_steps::{PartStep, map_of};
+use part_steps::{PartStep, map_of, words_filled};
 use spte_words::Area;
 use std::alloc::Global;
 use std::test::Fail;
@@ -107,7 +108,8 @@ fn expect_owned<S: Stepper>(seat: &S, page: u64) -> Result<(), Fail>
 
 fn fill_by<S: Stepper>(seat: &mut S, job: &mut Fill, value: u64) -> Result<Turn<()>, Fail> {
     expect_owned(seat, job.page)?;
-    make_ready(seat, PartStep::Fill(value))?;
+    let step = fill_step(words_filled(seat.hand().topics().owned), value);
+    make_ready(seat, step)?;
     Ok(job.turn(seat, value, 0))
 }
 

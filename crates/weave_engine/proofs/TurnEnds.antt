@@ -92,19 +92,7 @@ module _ (number : ℕ) (actor : Actor) where
 
   fault_tells : (p : FaultPlace) (turn : Turn Answer) (gfn word : ℕ) (op : Op) (h : Held) (v : ℕ) → Tells turn (place.Access (access.Fault p)) (Access gfn word op) h v
   fault_tells (fault.End e) turn gfn word op h v gives = fault_ends e turn gfn word op h v gives
-  fault_tells fault.Begin turn gfn word op h v gives = goes_or_waits turn _ _ _ gives
-  fault_tells fault.Snapshot turn gfn word op h v gives = goes_or_waits turn _ _ _ gives
-  fault_tells (fault.Find begun) turn gfn word op h v gives = goes_or_waits turn _ _ _ gives
-  fault_tells fault.Host turn gfn word op h v gives = goes_or_waits turn _ _ _ gives
-  fault_tells fault.Share turn gfn word op h v gives = goes_or_waits turn _ _ _ gives
-  fault_tells (fault.Check at) turn gfn word op h v gives = goes_or_waits turn _ _ _ gives
-  fault_tells (fault.Walk rooted) turn gfn word op h v gives = goes_or_waits turn _ _ _ gives
-  fault_tells (fault.Claim begun) turn gfn word op h v gives = goes_or_waits turn _ _ _ gives
-  fault_tells fault.Fill turn gfn word op h v gives = goes_or_waits turn _ _ _ gives
-  fault_tells fault.Link turn gfn word op h v gives = goes_or_waits turn _ _ _ gives
-  fault_tells (fault.Give e) turn gfn word op h v gives = goes_or_waits turn _ _ _ gives
-  fault_tells fault.Leaf turn gfn word op h v gives = goes_or_waits turn _ _ _ gives
-  fault_tells (fault.Unshare e) turn gfn word op h v gives = goes_or_waits turn _ _ _ gives
+  fault_tells _ turn gfn word op h v gives = goes_or_waits turn _ _ _ gives
 
   access_tells_turn : (p : AccessPlace) (turn : Turn Answer) (gfn word : ℕ) (op : Op) (h : Held) (v : ℕ) → Tells turn (place.Access p) (Access gfn word op) h v
   access_tells_turn (access.Fault p) turn gfn word op h v gives = fault_tells p turn gfn word op h v gives

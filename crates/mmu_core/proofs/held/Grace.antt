@@ -15,14 +15,14 @@ use Rattle.core_views.specs.Kinds.{code_of}
 use Rattle.core_views.specs.Sizes.{actors_of, index_of}
 use Rattle.spte_words.specs.declared.area.Area.TheVariants as area
 use Rattle.spte_words.specs.declared.word_map.WordMap.{WordMap}
-use Rattle.spte_words.specs.Areas.{place, pool_index}
+use Rattle.spte_words.specs.Areas.{place}
 use Rattle.part_steps.specs.declared.part_step.PartStep.{PartStep}
 use Rattle.part_steps.specs.declared.part_step.PartStep.TheVariants as part
 use Rattle.mmu_core.specs.machine.Enabled.{mmu}
 use Rattle.mmu_core.specs.invariant.Grace.{BeganEmpty, BeginNoWatch, IsLook, SawOutside, SectionsBeginEmpty, WatchedWasOutside, topics_in}
 use Rattle.mmu_core.specs.invariant.Laws.{IsSound}
 use Rattle.mmu_core.specs.machine.Machine.{Legal, May, Step, World, answered, effect, hand_in, run}
-use Rattle.part_steps.specs.PartSteps.{PartNeeds, fill_task, next_watched, own_index, part_kind, part_task, works}
+use Rattle.part_steps.specs.PartSteps.{PartNeeds, next_watched, own_index, part_kind, part_task}
 use Rattle.part_steps.specs.PartTopics.{part_topics}
 use Rattle.mmu_core.specs.machine.Steps.{next, nobody}
 use Rattle.part_steps.specs.Tasks.{map_of}
@@ -52,16 +52,8 @@ record IsNoLook (step : PartStep) : Type 0 where
   code : (own note : ℕ) (t : Topics) → code_of (part_task step own t note).kind ≢ code_of kind.Watch
   watched : (t : Topics) (v : ℕ) → (part_topics step t v).watched ≤ t.watched
 
-fill_code : (page filled value note : ℕ) → code_of (fill_task page filled value note).kind ≢ code_of kind.Watch
-fill_code page filled value note = by (filled == 512)
-  where
-    by : (b : Bool) → code_of (if b then works kind.Fill area.Role page value note else works kind.Fill area.Pool (pool_index page filled) value note).kind ≢ code_of kind.Watch
-    by true = λ e. absurd (omega (arith, e))
-    by false = λ e. absurd (omega (arith, e))
-
 look_or_not : (step : PartStep) → ((index : ℕ) × (step ≡ part.Watch index)) ⊎ IsNoLook step
 look_or_not (part.Watch index) = inl (index, refl)
-look_or_not (part.Fill value) = inr (record { code = λ own note t. fill_code _ _ value note; watched = λ t v. omega arith })
 look_or_not _ = inr (record { code = λ own note t e. absurd (omega (arith, e)); watched = λ t v. omega arith })
 
 -- who stands before the next one to be watched was watched, or is the own actor

@@ -25,7 +25,7 @@ use Rattle.part_steps.specs.declared.part_step.PartStep.{PartStep}
 use Rattle.part_steps.specs.declared.part_step.PartStep.TheVariants as part
 use Rattle.part_steps.specs.PartBounds.{CountersPart}
 use Rattle.mmu_core.specs.invariant.HeldPart.{HeldPart}
-use Rattle.part_steps.specs.PartSteps.{IsOver, entry_index, leaf_written, link_written, page_owned, table_page, words_filled}
+use Rattle.part_steps.specs.PartSteps.{IsOver, entry_index, leaf_written, link_written, page_owned, table_page}
 use Rattle.part_steps.specs.PartTopics.{exchanged}
 use Rattle.mmu_core.specs.invariant.TopicsInvariant.{TopicsInvariant}
 use Rattle.part_steps.specs.TopicSteps.{at_root, at_set, gone_down, has_writer, in_section, is_loose, is_won, begun, kept_search, let_go, linked_page, may_search, may_walk, searched, searched_at, swapped, unchecked}
@@ -34,11 +34,12 @@ use Rattle.mmu_core.specs.invariant.TreePart.Use.{Under}
 use Rattle.mmu_core.specs.machine.View.{View, part_stepped, upd}
 use Rattle.mmu_core.proofs.machine.Columns.{at_upd, upd_same}
 use Rattle.mmu_core.proofs.machine.PartStepping.{IsPart}
-use Rattle.mmu_core.proofs.words.PartTopics.{behind_step, fill_keeps, part_behind}
+use Rattle.mmu_core.proofs.words.PartTopics.{behind_step, part_behind}
 use Rattle.mmu_core.proofs.pages.PoolPages.{owned_there}
 use Rattle.mmu_core.proofs.pages.Standing.{at_spot, entry_now, position_below, spot_after, up_after, upd_if}
 use Rattle.mmu_core.proofs.pages.TreePlaces.{link_stands, root_stands}
 use Rattle.mmu_core.proofs.pages.UsesStay.{StaysStanding, stays_standing}
+use Rattle.mmu_core.proofs.pages.Owned.{table_owned}
 
 -- what is said of what each hand holds, and of its counters, of a view
 abbrev pub HeldAt : Sizes → (ℕ → Option Position) → View → Type 0
@@ -200,13 +201,6 @@ all_held z v a step h S I here =
 still_held : (z : Sizes) (v : View) (a : ℕ) (step : PartStep) (h : Held) → IsPart z v a step → (I : TopicsInvariant z v) → HeldPart (stands I.up I.spot) h.topics → HeldAt z (stands_after z v a step I) (record { words = v.words; hand = upd v.hand a h })
 still_held z v a step h S I here = all_held z v a step h S I (held_stays (stands I.up I.spot) (stands_after z v a step I) h.topics (stays_standing z v a step S I) here)
 
-fill_held : (z : Sizes) (v : View) (a note value : ℕ) → HeldBehind z v a note (part.Fill value)
-fill_held z v a note value S I =
-    let kept : (i : ℕ) → i < actors_of z → HeldPart (stands_after z v a (part.Fill value) I) ((part_behind a (part.Fill value) note v).hand i).topics =
-    still_held z v a (part.Fill value) _ S I (same_held (stands I.up I.spot) (v.hand a).topics _ refl refl refl refl (I.held a S.there)) in
-    fill_keeps (λ words. (i : ℕ) → i < actors_of z → HeldPart (stands_after z v a (part.Fill value) I) ((part_behind a (part.Fill value) note v).hand i).topics)
-    (page_owned (v.hand a).topics.owned) (words_filled (v.hand a).topics.owned) value note v.words kept kept
-
 -- The walk's table is at level 4 at most.
 walk_level : (z : Sizes) (v : View) (a : ℕ) → a < actors_of z → TopicsInvariant z v → 1 ≤ (v.hand a).topics.walk.level → (v.hand a).topics.walk.level ≤ 4
 walk_level z v a lt I from = (I.tree.there _ _ ((I.held a lt).table from)).2
@@ -245,7 +239,7 @@ link_held z v a note gfn S I =
     after = stands_after z v a (part.Link gfn) I
 
     small : page < 2 ^ 32
-    small = let O = S.needs.3 in omega (arith, ap page_owned O.is, owned_there I.uses a O.owned S.there O.is, S.is_sizes.pool.1)
+    small = let O = table_owned (t.walk.level - 1) t S.needs.3 in omega (arith, ap page_owned O.is, owned_there I.uses a O.owned S.there O.is, S.is_sizes.pool.1)
 
     -- the page that was linked stands where it was linked
     added : (b : Bool) → b ≡ true → stands (upd_if b I.up page (Under (table_page t.walk) (entry_index gfn t.walk.level))) (upd_if b I.spot page (position_below gfn t)) page ≡ Some (position_below gfn t)
@@ -269,7 +263,6 @@ held_behind z v a note part.Share = λ S I. still_held z v a part.Share _ S I (s
 held_behind z v a note part.Unshare = λ S I. still_held z v a part.Unshare _ S I (let_go_held (stands I.up I.spot) (v.hand a).topics (v.hand a).topics.stay (I.held a S.there))
 held_behind z v a note part.Exclude = λ S I. still_held z v a part.Exclude _ S I (excluded_held (stands I.up I.spot) (v.hand a).topics (v.words area.Lock 0 == 0) (I.held a S.there))
 held_behind z v a note part.Release = λ S I. still_held z v a part.Release _ S I (let_go_held (stands I.up I.spot) (v.hand a).topics (v.hand a).topics.stay (I.held a S.there))
-held_behind z v a note (part.Fill value) = fill_held z v a note value
 held_behind z v a note part.Slots = λ S I. still_held z v a part.Slots _ S I (slots_held (v.words area.Slots 0) (stands I.up I.spot) (v.hand a).topics (I.held a S.there))
 held_behind z v a note part.Slot = λ S I. still_held z v a part.Slot _ S I (slot_held (stands I.up I.spot) (v.hand a).topics (is_some (v.hand a).topics.search.set) _ (I.held a S.there))
 held_behind z v a note part.Seq = λ S I. still_held z v a part.Seq _ S I (snapshot_held (stands I.up I.spot) (v.hand a).topics _ (is_loose (v.hand a).topics.hold) refl refl refl refl (I.held a S.there))

@@ -12,13 +12,13 @@ use Rattle.spte_words.specs.declared.area.Area.TheVariants as area
 use Rattle.part_steps.specs.declared.part_step.PartStep.{PartStep}
 use Rattle.part_steps.specs.declared.part_step.PartStep.TheVariants as part
 use Rattle.mmu_core.specs.invariant.LockPart.{LockPart, is_shared, readers, sharers, writers}
-use Rattle.part_steps.specs.PartSteps.{counts, page_owned, words_filled}
+use Rattle.part_steps.specs.PartSteps.{counts}
 use Rattle.mmu_core.specs.machine.Sums.{one_if, sum_below}
 use Rattle.mmu_core.specs.invariant.TopicsInvariant.{TopicsInvariant}
 use Rattle.part_steps.specs.TopicSteps.{is_alone}
 use Rattle.mmu_core.specs.machine.View.{View, part_stepped, upd}
 use Rattle.mmu_core.proofs.machine.PartStepping.{IsPart}
-use Rattle.mmu_core.proofs.words.PartTopics.{behind_step, fill_keeps, part_behind}
+use Rattle.mmu_core.proofs.words.PartTopics.{behind_step, part_behind}
 use Rattle.mmu_core.proofs.machine.SumsBelow.{framed, one_small, sum_le, sum_mono, sum_upd}
 
 -- the lock's part, of a view
@@ -116,18 +116,11 @@ release_kept z v a note S I =
     subst (λ w. LockPart (actors_of z) w (λ i. ((part_behind a part.Release note v).hand i).topics.hold)) (sym (and_mask (v.words area.Lock 0) 63))
     (release (actors_of z) (v.words area.Lock 0) _ _ I.lock_part (moved z v.hand a _ Exclusive Loose S.is_sizes S.there S.needs refl))
 
-fill_kept : (z : Sizes) (v : View) (a note value : ℕ) → LockBehind z v a note (part.Fill value)
-fill_kept z v a note value S I =
-    let kept : LockPart (actors_of z) (v.words area.Lock 0) (λ i. ((part_behind a (part.Fill value) note v).hand i).topics.hold) = lock_frame (actors_of z) (v.words area.Lock 0) v.hand a _ refl I.lock_part in
-    fill_keeps (λ words. LockPart (actors_of z) (words area.Lock 0) (λ i. ((part_behind a (part.Fill value) note v).hand i).topics.hold))
-    (page_owned (v.hand a).topics.owned) (words_filled (v.hand a).topics.owned) value note v.words kept kept
-
 lock_behind : (z : Sizes) (v : View) (a note : ℕ) (step : PartStep) → LockBehind z v a note step
 lock_behind z v a note part.Share = share_kept z v a note
 lock_behind z v a note part.Unshare = unshare_kept z v a note
 lock_behind z v a note part.Exclude = exclude_kept z v a note
 lock_behind z v a note part.Release = release_kept z v a note
-lock_behind z v a note (part.Fill value) = fill_kept z v a note value
 lock_behind z v a note _ = λ S I. lock_frame (actors_of z) (v.words area.Lock 0) v.hand a _ refl I.lock_part
 
 pub lock_kept : (z : Sizes) (v : View) (a : ℕ) (step : PartStep) (note : ℕ) → IsPart z v a step → TopicsInvariant z v → LockAt z (part_stepped a step note v)

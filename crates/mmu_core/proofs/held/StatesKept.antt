@@ -10,13 +10,13 @@ use Rattle.core_views.specs.Sizes.{actors_of}
 use Rattle.spte_words.specs.declared.area.Area.TheVariants as area
 use Rattle.part_steps.specs.declared.part_step.PartStep.{PartStep}
 use Rattle.part_steps.specs.declared.part_step.PartStep.TheVariants as part
-use Rattle.part_steps.specs.PartSteps.{all_but, page_owned, words_filled}
+use Rattle.part_steps.specs.PartSteps.{all_but}
 use Rattle.mmu_core.specs.invariant.StatesPart.{StatesPart, stay_bits}
 use Rattle.mmu_core.specs.invariant.TopicsInvariant.{TopicsInvariant}
 use Rattle.mmu_core.specs.machine.View.{View, part_stepped, upd}
 use Rattle.mmu_core.proofs.machine.Columns.{at_upd, same_or, upd_other, upd_same}
 use Rattle.mmu_core.proofs.machine.PartStepping.{IsPart}
-use Rattle.mmu_core.proofs.words.PartTopics.{behind_step, fill_keeps, part_behind}
+use Rattle.mmu_core.proofs.words.PartTopics.{behind_step, part_behind}
 use Rattle.mmu_core.proofs.machine.SumsBelow.{framed}
 
 -- the state words' part, of a view
@@ -68,18 +68,11 @@ StatesBehind z v a note step = IsPart z v a step → TopicsInvariant z v → Sta
 own_word : (z : Sizes) (v : View) (a : ℕ) (step : PartStep) (stay : Stay) → IsPart z v a step → TopicsInvariant z v → (v.hand a).topics.stay ≡ stay → Tells (v.words area.State a) stay
 own_word z v a step stay S I is = subst (Tells (v.words area.State a)) is (I.states_part a S.there)
 
-fill_kept : (z : Sizes) (v : View) (a note value : ℕ) → StatesBehind z v a note (part.Fill value)
-fill_kept z v a note value S I =
-    let kept : StatesPart (actors_of z) (v.words area.State) (λ i. ((part_behind a (part.Fill value) note v).hand i).topics.stay) = states_frame (actors_of z) (v.words area.State) v.hand a _ refl I.states_part in
-    fill_keeps (λ words. StatesPart (actors_of z) (words area.State) (λ i. ((part_behind a (part.Fill value) note v).hand i).topics.stay))
-    (page_owned (v.hand a).topics.owned) (words_filled (v.hand a).topics.owned) value note v.words kept kept
-
 states_behind : (z : Sizes) (v : View) (a note : ℕ) (step : PartStep) → StatesBehind z v a note step
 states_behind z v a note part.Enter = λ S I. told (actors_of z) (v.words area.State) v.hand a 3 _ (omega arith, refl) I.states_part
 states_behind z v a note part.Leave = λ S I. told (actors_of z) (v.words area.State) v.hand a _ _ (left_word (v.words area.State a) (own_word z v a part.Leave Guest S I S.needs)) I.states_part
 states_behind z v a note part.Begin = λ S I. told (actors_of z) (v.words area.State) v.hand a _ _ (begun_word (v.words area.State a) (own_word z v a part.Begin Outside S I S.needs)) I.states_part
 states_behind z v a note part.End = λ S I. told (actors_of z) (v.words area.State) v.hand a _ _ (ended_word (v.words area.State a) (own_word z v a part.End Section S I S.needs)) I.states_part
-states_behind z v a note (part.Fill value) = fill_kept z v a note value
 states_behind z v a note _ = λ S I. states_frame (actors_of z) (v.words area.State) v.hand a _ refl I.states_part
 
 pub states_kept : (z : Sizes) (v : View) (a : ℕ) (step : PartStep) (note : ℕ) → IsPart z v a step → TopicsInvariant z v → StatesAt z (part_stepped a step note v)

@@ -25,7 +25,7 @@ use Rattle.mmu_core.proofs.slots.LiveStay.{StayLive, set_stays, translations_sta
 use Rattle.mmu_core.proofs.slots.LiveStays.{SetStays, published_stays}
 use Rattle.mmu_core.proofs.held.OthersStay.{leaves_none, owned_stays}
 use Rattle.mmu_core.proofs.machine.PartStepping.{IsPart, idle_never, is_publish}
-use Rattle.mmu_core.proofs.words.PartWords.{areas_stay, role_stays, slots_are, slots_elsewhere, slots_same}
+use Rattle.mmu_core.proofs.words.PartWords.{areas_stay, role_stays, slots_are, slots_other_role, slots_same}
 use Rattle.mmu_core.proofs.slots.SlotsStay.{AllKnow, hand_moved, is_live_stays, is_live_was, record_stays}
 use Rattle.mmu_core.proofs.machine.Which.{has_line_is}
 use Rattle.mmu_core.proofs.lines.UsedTranslations.{flushed_room}
@@ -53,7 +53,7 @@ part_keeps_lines z v a step note S free none I P knows =
     (subst (λ (f : ℕ → ℕ). InvariantOf z set (words area.Role) (words area.Pool) f (upd v.hand a after)) (sym (areas_stay v a step note area.Host refl))
     (hand_moved z set set (v.words area.Role) (words area.Role) (v.words area.Pool) (words area.Pool) (v.words area.Host) v.hand a after live
     (set_stays z (v.words area.Role) (words area.Role) (v.words area.Pool) set (words area.Pool) set (is_live_was set (v.words area.Pool) (words area.Pool) stays)
-    (role_stays z v a step note S set (slots_elsewhere z v a step S P) ∙ I.set_part.role_is) I.set_part)
+    (role_stays z v a step note S set (slots_other_role z v a step S P) ∙ I.set_part.role_is) I.set_part)
     (owned_stays z v a step note S P) (λ i lt ne is. recorded (v.hand i).slots (I.recorded i lt is)) (own_lines z a h after.topics after.cached (flushed_room (kind_of_task h.state.sizes t) h.cached x) (I.lines a S.there))
     (idle_holds z (words area.Pool) (v.words area.Host) set h.state.place h.state.line.command h after none (I.lines a S.there).under)
     (λ may. leaves_none step h.state.sizes (own_index h) h.topics note x never (I.leaves a S.there may)) cached (λ is. recorded h.slots (I.recorded a S.there is)) knows I))

@@ -1,5 +1,5 @@
 -- What a line rests on, from the invariant; and that the word of its next step is one of the words.
-use Rattle.std.proofs.Common.{◌≡◌, ◌⊎◌, inl, inr, ◌<◌, ◌≤◌, ◌+◌, ◌-◌, ℕ, length, refl, sym, subst, ap, ◌∙◌, arith}
+use Rattle.std.proofs.Common.{◌≡◌, ◌⊎◌, inl, inr, ◌<◌, ◌≤◌, ◌+◌, ℕ, length, refl, sym, subst, ap, ◌∙◌, arith}
 use Rattle.std.specs.Prelude.{Bool, true, ◌&&◌, nat_le, nat_lt, Option, Some, None}
 use Rattle.std.proofs.Math.Logic.{∥∥₁_elim, ∥∥₁_map}
 use Rattle.std.proofs.Props.{props}
@@ -40,7 +40,7 @@ use Rattle.part_steps.specs.declared.part_step.PartStep.TheVariants as part
 use Rattle.mmu_core.specs.lines.AccessSteps.{access_part, touch_of}
 use Rattle.mmu_core.specs.lines.KnowsPart.{AccessKnows}
 use Rattle.part_steps.specs.PartBounds.{PartRests}
-use Rattle.part_steps.specs.PartSteps.{FoundSlot, GoesOnToWord, HasToFill, IsFresh, IsVcpu, LookedUp, MayEnter, OwnsTable, PartNeeds, next_watched, own_index, OwnsSet, MayPublish}
+use Rattle.part_steps.specs.PartSteps.{FoundSlot, GoesOnToWord, IsFresh, IsVcpu, LookedUp, MayEnter, PartNeeds, next_watched, own_index}
 use Rattle.mmu_core.specs.lines.Rests.{AcceptsAt, RecordAccepts, Rests, RestsAt, RestsOn}
 use Rattle.mmu_core.specs.lines.SetSlotSteps.{set_slot_part}
 use Rattle.part_steps.specs.SlotWords.{may_write, page_of}
@@ -173,47 +173,6 @@ enter_stays gfn t x = record {
   saw = ∥∥₁_elim x (hlevel props) (λ M. M.saw);
 }
 
-pub table_stays : (level : ℕ) (t : Topics) → ∥ OwnsTable level t ∥₁ → OwnsTable level t
-table_stays level t x = by t.owned refl
-  where
-    by : (o : Option OwnedPage) → t.owned ≡ o → OwnsTable level t
-    by None is = absurd (∥∥₁_elim x (hlevel props) (λ O. let e = O.is in cc (e, is)))
-    by (Some o) is = record {
-      owned = o;
-      is = is;
-      whole = ∥∥₁_elim x (hlevel props) (λ O. ap (λ (p : OwnedPage). p.filled) (same_owned (sym is ∙ O.is)) ∙ O.whole);
-      absent = ∥∥₁_elim x (hlevel props) (λ O. ap (λ (p : OwnedPage). p.absent) (same_owned (sym is ∙ O.is)) ∙ O.absent);
-      role = ∥∥₁_elim x (hlevel props) (λ O. ap (λ (p : OwnedPage). p.role) (same_owned (sym is ∙ O.is)) ∙ O.role);
-    }
-
-pub fill_stays : (t : Topics) → ∥ HasToFill t ∥₁ → HasToFill t
-fill_stays t x = by t.owned refl
-  where
-    by : (o : Option OwnedPage) → t.owned ≡ o → HasToFill t
-    by None is = absurd (∥∥₁_elim x (hlevel props) (λ O. let e = O.is in cc (e, is)))
-    by (Some o) is = record { owned = o; is = is; left = ∥∥₁_elim x (hlevel props) (λ O. subst (λ (p : OwnedPage). p.filled < 513) (sym (same_owned (sym is ∙ O.is))) O.left) }
-
-pub owns_set_stays : (t : Topics) → ∥ OwnsSet t ∥₁ → OwnsSet t
-owns_set_stays t x = by t.owned refl
-  where
-    by : (o : Option OwnedPage) → t.owned ≡ o → OwnsSet t
-    by None is = absurd (∥∥₁_elim x (hlevel props) (λ O. let e = O.is in cc (e, is)))
-    by (Some o) is = record {
-      owned = o;
-      is = is;
-      whole = ∥∥₁_elim x (hlevel props) (λ O. ap (λ (p : OwnedPage). p.filled) (same_owned (sym is ∙ O.is)) ∙ O.whole);
-      role = ∥∥₁_elim x (hlevel props) (λ O. ap (λ (p : OwnedPage). p.role) (same_owned (sym is ∙ O.is)) ∙ O.role);
-    }
-
-pub publish_stays : (t : Topics) → ∥ MayPublish t ∥₁ → MayPublish t
-publish_stays t x = record {
-  owns = owns_set_stays t (∥∥₁_map x (λ M. M.owns));
-  alone = ∥∥₁_elim x (hlevel props) (λ M. M.alone);
-  looked = ∥∥₁_elim x (hlevel props) (λ M. M.looked);
-  none_open = ∥∥₁_elim x (hlevel props) (λ M. M.none_open);
-  none_leaves = ∥∥₁_elim x (hlevel props) (λ M. M.none_leaves);
-}
-
 word_stays : (word : ℕ) (t : Topics) → ∥ GoesOnToWord word t ∥₁ → GoesOnToWord word t
 word_stays word t x = either_stays (same_or word 0) (λ y. prop_stays (hlevel props) y) x
 
@@ -225,7 +184,6 @@ needs_stay : (step : PartStep) (h : Held) → ∥ PartNeeds step h ∥₁ → Pa
 needs_stay part.Enter h x = (∥∥₁_elim x (vcpu_prop h.state.actor) (λ N. N.0), ∥∥₁_elim x (hlevel props) (λ N. N.1))
 needs_stay part.Pause h x = tt
 needs_stay (part.Map word) h x = (∥∥₁_elim x (hlevel props) (λ N. N.0), ∥∥₁_elim x (hlevel props) (λ N. N.1), word_stays word h.topics (∥∥₁_map x (λ N. N.2)))
-needs_stay (part.Fill value) h x = (fill_stays h.topics (∥∥₁_map x (λ N. N.0)), ∥∥₁_elim x (hlevel props) (λ N. N.1))
 needs_stay part.Slots h x = tt
 needs_stay part.Seq h x = tt
 needs_stay part.Count h x = tt
@@ -236,7 +194,7 @@ needs_stay (part.Link gfn) h x = (
   enter_stays gfn h.topics (∥∥₁_map x (λ N. N.0)),
   ∥∥₁_elim x (hlevel props) (λ N. N.1),
   ∥∥₁_elim x (hlevel props) (λ N. N.2),
-  table_stays (h.topics.walk.level - 1) h.topics (∥∥₁_map x (λ N. N.3)),
+  ∥∥₁_elim x (hlevel props) (λ N. N.3),
 )
 needs_stay (part.Leaf gfn) h x = (enter_stays gfn h.topics (∥∥₁_map x (λ N. N.0)), ∥∥₁_elim x (hlevel props) (λ N. N.1))
 needs_stay (part.Watch index) h x = (
@@ -244,7 +202,6 @@ needs_stay (part.Watch index) h x = (
   ∥∥₁_elim x (hlevel props) (λ N. N.1),
   either_stays (same_or index (next_watched (own_index h) 0)) (λ y. prop_stays (hlevel props) y) (∥∥₁_map x (λ N. N.2)),
 )
-needs_stay part.Publish h x = publish_stays h.topics x
 needs_stay _ h x = prop_stays (hlevel props) x
 
 on_stays : (s : Option PartStep) (gfn : ℕ) (write : Bool) (h : Held) → ∥ RestsOn s gfn write h ∥₁ → RestsOn s gfn write h

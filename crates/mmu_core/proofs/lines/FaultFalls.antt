@@ -7,7 +7,7 @@ use Rattle.core_views.specs.declared.place.CheckStage.{CheckStage}
 use Rattle.core_views.specs.declared.place.CheckStage.TheVariants as stage
 use Rattle.core_views.specs.declared.place.FaultEnd.TheVariants.{Installed, Mmio, HostFault, Starved, Retry}
 use Rattle.core_views.specs.declared.place.FaultPlace.{FaultPlace}
-use Rattle.core_views.specs.declared.place.FaultPlace.TheVariants.{Begin, Find, Host, Share, Check, Walk, Claim, Fill, Link, Give, Leaf, Unshare, End}
+use Rattle.core_views.specs.declared.place.FaultPlace.TheVariants.{Begin, Find, Host, Share, Check, Walk, Claim, Fill, Role, Link, Give, Leaf, Unshare, End}
 use Rattle.core_views.specs.declared.place.SlotField.{SlotField}
 use Rattle.core_views.specs.declared.place.SlotField.TheVariants as field
 use Rattle.core_views.specs.declared.sizes.Sizes.{Sizes}
@@ -30,13 +30,14 @@ use Rattle.part_steps.specs.declared.part_step.PartStep.TheVariants as part
 use Rattle.mmu_core.specs.lines.FaultKnows.{FaultKnows, is_trying}
 use Rattle.mmu_core.specs.lines.FaultSteps.{allows_access, at_map_word, check_left, check_next, claim_next, entering_left, entry_word, fault_left, fault_next, fault_part, find_next, is_owing, lock_left, map_word, next_left, share_next, share_part, snapshot_taken, table_left, tries_page, waits, walk_left, walk_next}
 use Rattle.part_steps.specs.PartBounds.{PartRests}
-use Rattle.part_steps.specs.PartSteps.{entry_index, link_written, page_owned, words_filled}
+use Rattle.part_steps.specs.PartSteps.{entry_index, link_written, page_owned, words_filled, HasToFill}
 use Rattle.part_steps.specs.PartTopics.{exchanged, part_topics}
 use Rattle.mmu_core.specs.lines.SearchLeft.{look_left}
 use Rattle.part_steps.specs.TopicSteps.{filled_more, gone_down, has_writer, is_won, linked_page, may_walk, searched, searched_at}
 use Rattle.mmu_core.proofs.lines.FaultKnown.{above_lowest}
 use Rattle.mmu_core.proofs.lines.FaultNeeds.{first_word}
 use Rattle.mmu_core.proofs.lines.FaultSame.{not_not}
+use Rattle.mmu_core.proofs.pages.Owned.{more_filled, table_owned}
 
 -- the search
 search_falls : (b : Bool) (z : Sizes) (u : Topics) (n : ℕ) → (u.search.id == 32) ≡ b → (b ≡ false → 4 * (31 - u.search.id) + look_left u.search.next < n) → fault_left (if b then End Mmio else Find true) z u < entering_left z + 7 + n
@@ -164,16 +165,9 @@ word_there true z claim S low = low refl
 word_there false z claim S low = first_word z S
 
 -- the page's words, and the link
-filled_falls : (few : Bool) (z : Sizes) (t : Topics) (o : OwnedPage) (v : ℕ) → o.filled < 513
-    → fault_left (if few then Fill else Link) z (record t { owned = filled_more (Some o) v }) < walk_left z (t.walk.level - 1) + 1 + (513 - o.filled)
-filled_falls true z t o v left = omega arith
-filled_falls false z t o v left = omega arith
-
-fill_falls : (z : Sizes) (t : Topics) (v : ℕ) (o : OwnedPage) → t.owned ≡ Some o → o.filled < 513
-    → fault_left (if nat_lt (words_filled t.owned) 512 then Fill else Link) z (record t { owned = filled_more t.owned v }) < walk_left z (t.walk.level - 1) + 1 + (513 - words_filled t.owned)
-fill_falls z t v o is left =
-    subst (λ (x : Option OwnedPage). fault_left (if nat_lt (words_filled x) 512 then Fill else Link) z (record t { owned = filled_more x v }) < walk_left z (t.walk.level - 1) + 1 + (513 - words_filled x)) (sym is)
-    (filled_falls (nat_lt o.filled 512) z t o v left)
+fill_falls : (more : Bool) (z : Sizes) (t : Topics) (v : ℕ) → HasToFill t → fault_left (if more then Fill else Role) z (record t { owned = filled_more t.owned v }) < walk_left z (t.walk.level - 1) + 1 + (513 - words_filled t.owned)
+fill_falls true z t v F = omega (arith, F.1, more_filled t.owned v F.0)
+fill_falls false z t v F = omega (arith, F.1)
 
 link_falls : (b : Bool) (z : Sizes) (t : Topics) (gfn v : ℕ) (o : OwnedPage) → 2 ≤ t.walk.level → t.owned ≡ Some o → o.page < 2 ^ 32
     → fault_left (if b then Walk true else Give (Retry (Entry (entry_word z gfn t.walk) t.walk.entry v))) z (exchanged b (entry_index gfn t.walk.level) (link_written t) t v) < walk_left z (t.walk.level - 1) + 1
@@ -199,10 +193,11 @@ fault_falls (Check at) h gfn v write small R K goes = check_falls at h.state.siz
 fault_falls (Walk true) h gfn v write small R K goes = let over = K.2 refl in walk_falls (kind_of h.topics.walk.level v) h.state.sizes gfn write h.topics v refl over.there R.level
 fault_falls (Walk false) h gfn v write small R K goes = root_falls (may_walk h.topics.stay h.topics.hold) h.state.sizes
 fault_falls (Claim begun) h gfn v write small R K goes = claim_falls (tries_page begun h.topics.claim) begun h.state.sizes h.topics v goes (word_there begun h.state.sizes h.topics.claim R.sizes K.3)
-fault_falls Fill h gfn v write small R K goes = fill_falls h.state.sizes h.topics v K.2.owned K.2.is K.2.left
+fault_falls Fill h gfn v write small R K goes = fill_falls (nat_lt (words_filled h.topics.owned + 1) 512) h.state.sizes h.topics v K.2
 fault_falls Link h gfn v write small R K goes =
-    let low : K.2.owned.page < 2 ^ 32 = let page = R.page K.2.owned K.2.is in let most = R.sizes.pool.1 in omega (arith, page, most) in
-    link_falls (v == h.topics.walk.entry) h.state.sizes h.topics gfn v K.2.owned K.1.upper K.2.is low
+    let O = table_owned (h.topics.walk.level - 1) h.topics K.2 in
+    let low : O.owned.page < 2 ^ 32 = let page = R.page O.owned O.is in let most = R.sizes.pool.1 in omega (arith, page, most) in
+    link_falls (v == h.topics.walk.entry) h.state.sizes h.topics gfn v O.owned K.1.upper O.is low
 fault_falls Leaf h gfn v write small R K goes = leaf_put (v == h.topics.walk.entry) h.state.sizes (entry_word h.state.sizes gfn h.topics.walk) h.topics.walk.entry v _
 fault_falls _ h gfn v write small R K goes = omega arith
 

@@ -1,6 +1,6 @@
 -- Behind each of its steps a fault knows what its next place asks.
 use Rattle.std.proofs.Common.{◌≡◌, ◌⊎◌, inl, inr, ◌+◌, ◌-◌, ◌*◌, ◌/◌, ◌%◌, ◌^◌, ◌<◌, ◌≤◌, ℕ, refl, sym, subst, ap, ◌∙◌, arith}
-use Rattle.std.specs.Prelude.{Bool, true, false, ◌==◌, ◌&&◌, ◌||◌, nat_le, nat_lt, not, if◌then◌else◌, Option, Some, None, is_some}
+use Rattle.std.specs.Prelude.{Bool, true, false, ◌==◌, ◌&&◌, nat_le, nat_lt, not, if◌then◌else◌, Option, Some, None, is_some}
 use Rattle.std.proofs.lemmas.Bool.Decides.{nat_tests}
 use Rattle.core_views.specs.declared.place.Cause.TheVariants.{Open, Moved, Entry}
 use Rattle.core_views.specs.declared.place.CheckStage.{CheckStage}
@@ -8,7 +8,7 @@ use Rattle.core_views.specs.declared.place.CheckStage.TheVariants as stage
 use Rattle.core_views.specs.declared.place.FaultEnd.{FaultEnd}
 use Rattle.core_views.specs.declared.place.FaultEnd.TheVariants.{Installed, Mmio, HostFault, Starved, Retry}
 use Rattle.core_views.specs.declared.place.FaultPlace.{FaultPlace}
-use Rattle.core_views.specs.declared.place.FaultPlace.TheVariants.{Begin, Snapshot, Find, Host, Share, Check, Walk, Claim, Fill, Link, Give, Leaf, Unshare, End}
+use Rattle.core_views.specs.declared.place.FaultPlace.TheVariants.{Begin, Snapshot, Find, Host, Share, Check, Walk, Claim, Fill, Role, Link, Give, Leaf, Unshare, End}
 use Rattle.core_views.specs.declared.place.SlotField.{SlotField}
 use Rattle.core_views.specs.declared.place.SlotField.TheVariants as field
 use Rattle.core_views.specs.declared.sizes.Sizes.{Sizes}
@@ -37,16 +37,16 @@ use Rattle.spte_words.proofs.ReadsEntries.{kind_of_leaf, kind_of_table, leaf_can
 use Rattle.spte_words.proofs.Spans.{span_1, span_2, span_3, span_4}
 use Rattle.part_steps.specs.declared.part_step.PartStep.{PartStep}
 use Rattle.part_steps.specs.declared.part_step.PartStep.TheVariants as part
-use Rattle.mmu_core.specs.lines.FaultKnows.{CheckKnows, EndKnows, Entering, FaultKnows, Filling, InSection, KnowsNext, LookedFor, SawNone, Sharing, WithoutLock, is_trying}
+use Rattle.mmu_core.specs.lines.FaultKnows.{CheckKnows, EndKnows, Entering, FaultKnows, InSection, KnowsNext, LookedFor, SawNone, Sharing, WithoutLock, is_trying}
 use Rattle.mmu_core.specs.lines.FaultLaws.{CanAnswer}
-use Rattle.mmu_core.specs.lines.FaultSteps.{allows_access, at_map_word, check_next, check_part, claim_next, entry_word, fault_next, fault_part, find_next, map_word, share_next, share_part, snapshot_taken, table_value, tries_page, walk_next}
+use Rattle.mmu_core.specs.lines.FaultSteps.{allows_access, at_map_word, check_next, check_part, claim_next, entry_word, fault_next, fault_part, find_next, map_word, share_next, share_part, snapshot_taken, tries_page, walk_next}
 use Rattle.part_steps.specs.PartBounds.{PartRests}
-use Rattle.part_steps.specs.PartSteps.{FoundSlot, HoldsSet, IsOver, LookedUp, SawEntry, entry_index, leaf_written, link_written, page_owned, part_task, word_looked, words_filled}
+use Rattle.part_steps.specs.PartSteps.{FoundSlot, HoldsSet, IsOver, LookedUp, SawEntry, entry_index, leaf_written, link_written, page_owned, part_task, word_looked, words_filled, HasRoleToSet, HasToFill, is_absent}
 use Rattle.part_steps.specs.PartTopics.{exchanged, part_topics, sequenced}
 use Rattle.part_steps.specs.SlotWords.{leaf_of, may_write, page_of}
 use Rattle.part_steps.specs.TopicSteps.{at_root, at_set, count_checked, filled_more, gone_down, has_writer, is_loose, is_outside, is_section, is_won, kept_search, kept_walk, let_go, linked_page, may_search, may_walk, range_checked, searched, searched_at, seq_checked, start_checked, unchecked, unless_linked}
 use Rattle.mmu_core.specs.machine.View.{answer_in}
-use Rattle.mmu_core.proofs.words.PartWords.{fill_answers}
+use Rattle.mmu_core.proofs.pages.Owned.{more_absent, more_filled, more_role, more_some, some_filled, table_owned}
 use Rattle.mmu_core.proofs.lines.FaultSame.{both, ends_same, is_not, not_not, not_then, over_it, same_entering, same_looked, same_none, same_sharing, same_without}
 
 -- the section, and the snapshot
@@ -264,7 +264,7 @@ tried_known : (won : Bool) (z : Sizes) (gfn : ℕ) (write : Bool) (t : Topics) (
       claim = record { at = if won then 0 else t.claim.at; seen = if won then 0 else v };
     })
 tried_known true z gfn write t page v E none S low =
-    (same_entering gfn write t _ refl refl refl refl refl E, same_none gfn t _ refl S, record { owned = record { page = page; filled = 0; absent = true; role = 0 }; is = refl; left = omega arith; absent = refl })
+    (same_entering gfn write t _ refl refl refl refl refl E, same_none gfn t _ refl S, (refl, omega arith), refl)
 tried_known false z gfn write t page v E none S low = (same_entering gfn write t _ refl refl refl refl refl E, refl, same_none gfn t _ refl S, λ _. low)
 
 mapped_known : (more : Bool) (z : Sizes) (gfn at v : ℕ) (write : Bool) (t : Topics) → nat_lt at (words_of_bits z.pool) ≡ more → Entering gfn write t → t.owned ≡ None → SawNone gfn t
@@ -277,43 +277,27 @@ claim_by : (tries : Bool) (b : Bool) (z : Sizes) (gfn : ℕ) (write : Bool) (t :
 claim_by true b z gfn write t v is E none S low = tried_known (is_won t.claim v) z gfn write t _ v E none S (low (both b (nat_lt 0 t.claim.seen) is).0)
 claim_by false b z gfn write t v is E none S low = mapped_known (nat_lt _ (words_of_bits z.pool)) z gfn _ v write t refl E none S
 
--- the page's words
-next_absent : (filled v : ℕ) (absent few : Bool) → nat_lt filled 512 ≡ few → absent ≡ true → (few ≡ true → v ≡ 0) → (absent && (nat_le 512 filled || v == 0)) ≡ true
-next_absent filled v true true is absent zero_ = let e : v ≡ 0 = zero_ refl in grind (arith, nat_tests)
-next_absent filled v true false is absent zero_ = grind (arith, nat_tests)
-next_absent filled v false few is absent zero_ = absurd (cc absent)
+-- the page's words, and its role
+fill_known : (more : Bool) (z : Sizes) (gfn : ℕ) (write : Bool) (t : Topics) (v : ℕ) → nat_lt (words_filled t.owned + 1) 512 ≡ more → v ≡ 0 → Entering gfn write t → SawNone gfn t → HasToFill t → is_absent t.owned ≡ true
+    → FaultKnows (if more then Fill else Role) z gfn write (record t { owned = filled_more t.owned v })
+fill_known true z gfn write t v is zero_ E S F absent =
+    let few : words_filled t.owned + 1 < 512 = grind (arith, nat_tests) in
+    (same_entering gfn write t _ refl refl refl refl refl E, same_none gfn t _ refl S, (more_some t.owned v F.0, omega (arith, few, more_filled t.owned v F.0)), more_absent t.owned v absent (inl zero_))
+fill_known false z gfn write t v is zero_ E S F absent =
+    let all : 512 ≤ words_filled t.owned + 1 = grind (arith, nat_tests) in
+    (same_entering gfn write t _ refl refl refl refl refl E, same_none gfn t _ refl S, omega (arith, all, F.1, more_filled t.owned v F.0), more_absent t.owned v absent (inl zero_))
 
-fill_by_one : (few : Bool) (z : Sizes) (gfn : ℕ) (write : Bool) (t : Topics) (o : OwnedPage) (v : ℕ) → nat_lt o.filled 512 ≡ few → v ≡ (if few then 0 else t.walk.level - 1) → Entering gfn write t → SawNone gfn t → o.filled < 513 → o.absent ≡ true
-    → FaultKnows (if few then Fill else Link) z gfn write (record t { owned = filled_more (Some o) v })
-fill_by_one true z gfn write t o v is value E S left absent = (
+role_known : (z : Sizes) (gfn : ℕ) (write : Bool) (t : Topics) (v : ℕ) → v ≡ t.walk.level - 1 → Entering gfn write t → SawNone gfn t → HasRoleToSet t → is_absent t.owned ≡ true
+    → FaultKnows Link z gfn write (record t { owned = filled_more t.owned v })
+role_known z gfn write t v value E S full absent = (
   same_entering gfn write t _ refl refl refl refl refl E,
   same_none gfn t _ refl S,
   record {
-    owned = record { page = o.page; filled = o.filled + 1; absent = o.absent && (nat_le 512 o.filled || v == 0); role = if o.filled == 512 then v else o.role };
-    is = refl;
-    left = grind (arith, nat_tests);
-    absent = next_absent o.filled v o.absent true is absent (λ _. value);
+    whole = omega (arith, full, more_filled t.owned v (some_filled t.owned 512 full (omega arith)));
+    absent = more_absent t.owned v absent (inr full);
+    role = more_role t.owned v full ∙ value;
   },
 )
-fill_by_one false z gfn write t o v is value E S left absent =
-    let whole : o.filled ≡ 512 = grind (arith, nat_tests) in
-    let last : (o.filled == 512) ≡ true = grind (arith, nat_tests) in (
-      same_entering gfn write t _ refl refl refl refl refl E,
-      same_none gfn t _ refl S,
-      record {
-        owned = record { page = o.page; filled = o.filled + 1; absent = o.absent && (nat_le 512 o.filled || v == 0); role = if o.filled == 512 then v else o.role };
-        is = refl;
-        whole = omega arith;
-        absent = next_absent o.filled v o.absent false is absent (λ e. absurd (cc e));
-        role = ap (λ (b : Bool). if b then v else o.role) last ∙ value;
-      },
-    )
-
-fill_known : (z : Sizes) (gfn : ℕ) (write : Bool) (t : Topics) (v : ℕ) → v ≡ table_value t → Entering gfn write t → SawNone gfn t → (F : Filling t)
-    → FaultKnows (if nat_lt (words_filled t.owned) 512 then Fill else Link) z gfn write (record t { owned = filled_more t.owned v })
-fill_known z gfn write t v value E S F =
-    subst (λ (x : Option OwnedPage). v ≡ (if nat_lt (words_filled x) 512 then 0 else t.walk.level - 1) → FaultKnows (if nat_lt (words_filled x) 512 then Fill else Link) z gfn write (record t { owned = filled_more x v }))
-    (sym F.is) (λ is. fill_by_one (nat_lt F.owned.filled 512) z gfn write t F.owned v refl is E S F.left F.absent) value
 
 -- the link
 link_won : (z : Sizes) (gfn : ℕ) (write : Bool) (t : Topics) (v : ℕ) → t.walk.level ≤ 4 → Entering gfn write t → SawNone gfn t → (o : OwnedPage) → t.owned ≡ Some o → o.page < 2 ^ 32
@@ -383,16 +367,19 @@ fault_known (Walk true) h gfn v write small R K A = walk_known (kind_of h.topics
 fault_known (Walk false) h gfn v write small R K A =
     root_known (may_walk h.topics.stay h.topics.hold) h.state.sizes gfn write h.topics v (ap (λ (s : Stay). may_walk s h.topics.hold) K.0.sharing.section) small K.0 K.1
 fault_known (Claim begun) h gfn v write small R K A = claim_by (tries_page begun h.topics.claim) begun h.state.sizes gfn write h.topics v refl K.0 K.1 K.2 K.3
-fault_known Fill h gfn v write small R K A = fill_known h.state.sizes gfn write h.topics v A K.0 K.1 K.2
+fault_known Fill h gfn v write small R K A = fill_known (nat_lt (words_filled h.topics.owned + 1) 512) h.state.sizes gfn write h.topics v refl A K.0 K.1 K.2 K.3
+fault_known Role h gfn v write small R K A = role_known h.state.sizes gfn write h.topics v A K.0 K.1 K.2 K.3
 fault_known Link h gfn v write small R K A =
-    let low : K.2.owned.page < 2 ^ 32 = let page = R.page K.2.owned K.2.is in let most = R.sizes.pool.1 in omega (arith, page, most) in
-    link_known (v == h.topics.walk.entry) h.state.sizes gfn write h.topics v refl R.level K.0 K.1 K.2.owned K.2.is low
+    let O = table_owned (h.topics.walk.level - 1) h.topics K.2 in
+    let low : O.owned.page < 2 ^ 32 = let page = R.page O.owned O.is in let most = R.sizes.pool.1 in omega (arith, page, most) in
+    link_known (v == h.topics.walk.entry) h.state.sizes gfn write h.topics v refl R.level K.0 K.1 O.owned O.is low
 fault_known (Give e) h gfn v write small R K A = (record { section = K.0; owns_none = refl }, K.1, ends_same e h.state.sizes gfn write h.topics _ refl refl refl refl refl K.3)
 fault_known Leaf h gfn v write small R K A = leaf_known (v == h.topics.walk.entry) h.state.sizes gfn write h.topics v refl K.0 K.1 K.2 K.3
 fault_known (Unshare e) h gfn v write small R K A = unshare_known e h.state.sizes gfn write h.topics K.0 K.2
 fault_known (End e) h gfn v write small R K A = record { outside = refl; loose = K.1; owns_none = K.0.owns_none; no_table = refl; no_set = refl }
 
--- A fill answers what it stored.
+-- A fill answers what it stored, of a word or of the role.
 pub parts_answer : (step : PartStep) (own : ℕ) (t : Topics) (note : ℕ) (words : Area → ℕ → ℕ) → CanAnswer step (answer_in (part_task step own t note) words)
-parts_answer (part.Fill value) own t note words = fill_answers (words_filled t.owned == 512) (page_owned t.owned) (words_filled t.owned) value note words
+parts_answer (part.Fill value) own t note words = refl
+parts_answer (part.Role value) own t note words = refl
 parts_answer _ own t note words = tt

@@ -1,11 +1,11 @@
 -- What a fault knows at a place is what the step of this place needs.
-use Rattle.std.proofs.Common.{◌≡◌, inl, inr, ◌+◌, ◌-◌, ◌^◌, ◌<◌, ◌≤◌, ℕ, refl, ap, arith}
+use Rattle.std.proofs.Common.{◌≡◌, inl, inr, ◌+◌, ◌^◌, ◌<◌, ℕ, refl, ap, arith}
 use Rattle.std.specs.Prelude.{Bool, true, false, nat_lt, if◌then◌else◌, None}
 use Rattle.std.proofs.lemmas.Bool.Decides.{nat_tests}
 use Rattle.core_views.specs.declared.place.CheckStage.{CheckStage}
 use Rattle.core_views.specs.declared.place.CheckStage.TheVariants as stage
 use Rattle.core_views.specs.declared.place.FaultPlace.{FaultPlace}
-use Rattle.core_views.specs.declared.place.FaultPlace.TheVariants.{Begin, Snapshot, Find, Host, Share, Check, Walk, Claim, Fill, Link, Give, Leaf, Unshare, End}
+use Rattle.core_views.specs.declared.place.FaultPlace.TheVariants.{Begin, Snapshot, Find, Host, Share, Check, Walk, Claim, Fill, Role, Link, Give, Leaf, Unshare, End}
 use Rattle.core_views.specs.declared.sizes.Sizes.{Sizes}
 use Rattle.core_views.specs.declared.topics.Hold.{Hold}
 use Rattle.core_views.specs.declared.topics.Hold.TheVariants.{Loose, Owing}
@@ -17,7 +17,7 @@ use Rattle.part_steps.specs.declared.part_step.PartStep.TheVariants as part
 use Rattle.mmu_core.specs.lines.FaultKnows.{Entering, FaultKnows, is_trying}
 use Rattle.mmu_core.specs.lines.FaultSteps.{check_part, fault_part, map_word, share_part, tries_page}
 use Rattle.part_steps.specs.PartBounds.{PartRests}
-use Rattle.part_steps.specs.PartSteps.{FoundSlot, MayEnter, PartNeeds, SawEntry, counts, words_filled}
+use Rattle.part_steps.specs.PartSteps.{FoundSlot, MayEnter, PartNeeds, SawEntry, counts}
 use Rattle.part_steps.specs.SlotWords.{page_of}
 use Rattle.mmu_core.proofs.lines.FaultSame.{both, over_it}
 
@@ -48,10 +48,6 @@ pub claim_needs : (tries begun : Bool) (h : Held) → tries_page begun h.topics.
 claim_needs true begun h is S none low = let B = both begun (nat_lt 0 h.topics.claim.seen) is in (none, grind (arith, nat_tests), low B.0)
 claim_needs false begun h is S none low = map_needs begun h is S none low
 
-fill_needs : (few : Bool) (level : ℕ) → level ≤ 4 → (if few then 0 else level - 1) < 2 ^ 64
-fill_needs true level most = omega arith
-fill_needs false level most = omega arith
-
 may_enter : (gfn : ℕ) (write : Bool) (t : Topics) → Entering gfn write t → SawEntry gfn t.walk → MayEnter gfn t
 may_enter gfn write t E S = record { shares = E.sharing.shares; section = E.sharing.section; fresh = E.fresh; looked_up = E.sharing.looked.looked_up; saw = S }
 
@@ -66,7 +62,8 @@ fault_needs (Check at) h gfn write small R K = check_needs at h
 fault_needs (Walk true) h gfn write small R K = K.2 refl
 fault_needs (Walk false) h gfn write small R K = tt
 fault_needs (Claim begun) h gfn write small R K = claim_needs (tries_page begun h.topics.claim) begun h refl R.sizes K.1 K.3
-fault_needs Fill h gfn write small R K = (record { owned = K.2.owned; is = K.2.is; left = K.2.left }, fill_needs (nat_lt (words_filled h.topics.owned) 512) h.topics.walk.level R.level)
+fault_needs Fill h gfn write small R K = (K.2, omega arith)
+fault_needs Role h gfn write small R K = (K.2, omega (arith, R.level))
 fault_needs Link h gfn write small R K = (may_enter gfn write h.topics K.0 K.1.saw, K.1.upper, K.1.absent, K.2)
 fault_needs (Give e) h gfn write small R K = K.2
 fault_needs Leaf h gfn write small R K = (may_enter gfn write h.topics K.0 K.2, K.3)

@@ -66,7 +66,7 @@ use Rattle.mmu_core.proofs.machine.Which.{has_line_is}
 use Rattle.mmu_core.proofs.machine.HandWith.{hand_with}
 use Rattle.mmu_core.proofs.slots.SetSlotKnown.{SettingKnows, set_slot_known, set_slot_needs}
 use Rattle.mmu_core.specs.lines.SetSlotKnows.{SetSlotKnows}
-use Rattle.part_steps.proofs.SetWords.{value_small}
+use Rattle.part_steps.proofs.SetWords.{set_word_small}
 use Rattle.mmu_core.proofs.words.SmallSlots.{in_range, record_small}
 use Rattle.core_views.specs.declared.answer.Refusal.{Refusal}
 use Rattle.core_views.specs.Refusals.{set_refusal}
@@ -258,7 +258,7 @@ setting_needs : (z : Sizes) (v : View) (a : ℕ) (line : Line) (p : SetSlotPlace
 setting_needs z v a line p id slot S I P =
     let h : Held = v.hand a in
     set_slot_needs p h id slot
-    (value_small id slot h.slots (words_filled h.topics.owned) (in_range z line.actor id slot S.allowed) (record_small z h.lines h.slots (I.lines a S.there).allowed (I.lines a S.there).set))
+    (set_word_small id slot h.slots (words_filled h.topics.owned) (in_range z line.actor id slot S.allowed) (record_small z h.lines h.slots (I.lines a S.there).allowed (I.lines a S.there).set))
     (part_rests_at z v a I P S.there) (step_knows z v a line (SetSlot id slot) (place.SetSlot p) S I)
 
 pub needs_at : (z : Sizes) (v : View) (a : ℕ) (line : Line) (command : Command) (p : Place) → IsStep z v a line command p → Invariant z v → TopicsInvariant z v → NeedsAt p command (v.hand a)

@@ -1,6 +1,6 @@
 -- What a line knows at its place holds where there merely is a world that shows it: each part of it has at most one proof, or speaks of
 -- what the topics name, or can be decided. So every reached hand knows what the place of its next step asks.
-use Rattle.std.proofs.Common.{◌≡◌, ◌≢◌, ◌⊎◌, inl, inr, ⊎_elim, ◌<◌, ◌≤◌, ◌-◌, ℕ, length, refl, sym, subst, ap, ◌∙◌}
+use Rattle.std.proofs.Common.{◌≡◌, ◌≢◌, ◌⊎◌, inl, inr, ⊎_elim, ◌<◌, ◌≤◌, ℕ, length, refl, sym, subst, ap, ◌∙◌}
 use Rattle.std.specs.Prelude.{Bool}
 use Rattle.std.proofs.Math.Logic.{∥∥₁_elim, ∥∥₁_map}
 use Rattle.std.proofs.Props.{props}
@@ -22,7 +22,6 @@ use Rattle.core_views.specs.declared.topics.Checked.{Checked}
 use Rattle.core_views.specs.declared.topics.Checked.TheVariants as checked
 use Rattle.core_views.specs.declared.topics.HostLook.{HostLook}
 use Rattle.core_views.specs.declared.topics.Invalidations.{Invalidations}
-use Rattle.core_views.specs.declared.topics.OwnedPage.{OwnedPage}
 use Rattle.core_views.specs.declared.topics.TableWalk.{TableWalk}
 use Rattle.core_views.specs.declared.topics.Topics.{Topics}
 use Rattle.core_views.specs.declared.trace.Command.{Command}
@@ -33,7 +32,7 @@ use Rattle.spte_words.specs.declared.spte_kind.SpteKind.{SpteKind}
 use Rattle.spte_words.specs.declared.spte_kind.SpteKind.TheVariants as entry_kind
 use Rattle.spte_words.specs.Entries.{kind_of}
 use Rattle.spte_words.specs.HostWords.{host_allows_write}
-use Rattle.mmu_core.specs.lines.FaultKnows.{CheckKnows, EndKnows, Entering, FaultKnows, Filling, FoundNoPage, HasCause, HostForbids, IsInTheWay, LookedFor, Sharing}
+use Rattle.mmu_core.specs.lines.FaultKnows.{CheckKnows, EndKnows, Entering, FaultKnows, FoundNoPage, HasCause, HostForbids, IsInTheWay, LookedFor, Sharing}
 use Rattle.mmu_core.specs.lines.KnowsPart.{AccessKnows, KnowsPart}
 use Rattle.part_steps.specs.PartSteps.{LookedUp}
 use Rattle.mmu_core.specs.machine.Steps.{line_at, place_at}
@@ -41,7 +40,7 @@ use Rattle.mmu_core.specs.machine.View.{view}
 use Rattle.mmu_core.specs.machine.Worlds.{HandReached}
 use Rattle.mmu_core.proofs.machine.Columns.{same_or}
 use Rattle.mmu_core.proofs.lines.KnowsKept.{knows_at}
-use Rattle.mmu_core.proofs.invariant.RestsKept.{either_stays, fill_stays, fresh_stays, looked_stays, or_not, owns_set_stays, prop_stays, publish_stays, same_look, same_owned, table_stays}
+use Rattle.mmu_core.proofs.invariant.RestsKept.{either_stays, fresh_stays, looked_stays, or_not, prop_stays, same_look}
 use Rattle.mmu_core.proofs.start.Starts.{reached_good}
 use Rattle.core_views.specs.declared.place.SetSlotPlace.{SetSlotPlace}
 use Rattle.core_views.specs.declared.place.SetSlotPlace.TheVariants as set_slot
@@ -85,6 +84,12 @@ sharing_stays gfn write t x = record {
 entering_stays : (gfn : ℕ) (write : Bool) (t : Topics) → ∥ Entering gfn write t ∥₁ → Entering gfn write t
 entering_stays gfn write t x = record { sharing = sharing_stays gfn write t (∥∥₁_map x (λ E. E.sharing)); fresh = fresh_stays gfn t.invalidations (∥∥₁_map x (λ E. E.fresh)) }
 
+entering_two : (gfn : ℕ) (write : Bool) (t : Topics) {A B : Type 0} → ∥ Entering gfn write t × A × B ∥₁ → IsProp A → IsProp B → Entering gfn write t × A × B
+entering_two gfn write t x a b = (entering_stays gfn write t (∥∥₁_map x (λ K. K.0)), ∥∥₁_elim x a (λ K. K.1), ∥∥₁_elim x b (λ K. K.2))
+
+entering_three : (gfn : ℕ) (write : Bool) (t : Topics) {A B C : Type 0} → ∥ Entering gfn write t × A × B × C ∥₁ → IsProp A → IsProp B → IsProp C → Entering gfn write t × A × B × C
+entering_three gfn write t x a b c = (entering_stays gfn write t (∥∥₁_map x (λ K. K.0)), ∥∥₁_elim x a (λ K. K.1), ∥∥₁_elim x b (λ K. K.2), ∥∥₁_elim x c (λ K. K.3))
+
 -- how far the check has come
 range_stays : (gfn : ℕ) (n : Invalidations) → ∥ (n.checked ≡ checked.Range) × ((gfn < n.start) ⊎ (n.end ≤ gfn)) ∥₁ → (n.checked ≡ checked.Range) × ((gfn < n.start) ⊎ (n.end ≤ gfn))
 range_stays gfn n x = (∥∥₁_elim x (hlevel props) (λ R. R.0), either_stays (or_not gfn n.start (cases_lt gfn n.start)) (λ y. prop_stays (hlevel props) y) (∥∥₁_map x (λ R. R.1)))
@@ -93,16 +98,6 @@ check_stays : (at : CheckStage) (gfn : ℕ) (n : Invalidations) → ∥ CheckKno
 check_stays stage.Count gfn n x = tt
 check_stays stage.Seq gfn n x = either_stays (both_or (is_count n.checked) (same_or n.count 0)) (range_stays gfn n) x
 check_stays _ gfn n x = prop_stays (hlevel props) x
-
-filling_stays : (t : Topics) → ∥ Filling t ∥₁ → Filling t
-filling_stays t x =
-    let fill = fill_stays t (∥∥₁_map x (λ F. record { owned = F.owned; is = F.is; left = F.left })) in
-    record {
-      owned = fill.owned;
-      is = fill.is;
-      left = fill.left;
-      absent = ∥∥₁_elim x (hlevel props) (λ F. ap (λ (o : OwnedPage). o.absent) (same_owned (sym fill.is ∙ F.is)) ∙ F.absent);
-    }
 
 -- what an end rests on
 no_page_stays : (gfn : ℕ) (write : Bool) (t : Topics) → ∥ FoundNoPage gfn write t ∥₁ → FoundNoPage gfn write t
@@ -150,21 +145,12 @@ end_stays _ z gfn write t x = prop_stays (hlevel props) x
 fault_stays : (p : FaultPlace) (z : Sizes) (gfn : ℕ) (write : Bool) (t : Topics) → ∥ FaultKnows p z gfn write t ∥₁ → FaultKnows p z gfn write t
 fault_stays fault.Share z gfn write t x = (∥∥₁_elim x (hlevel props) (λ K. K.0), ∥∥₁_elim x (hlevel props) (λ K. K.1), looked_for_stays gfn write t (∥∥₁_map x (λ K. K.2)))
 fault_stays (fault.Check at) z gfn write t x = (sharing_stays gfn write t (∥∥₁_map x (λ K. K.0)), ∥∥₁_elim x (hlevel props) (λ K. K.1), check_stays at gfn t.invalidations (∥∥₁_map x (λ K. K.2)))
-fault_stays (fault.Walk rooted) z gfn write t x = (entering_stays gfn write t (∥∥₁_map x (λ K. K.0)), ∥∥₁_elim x (hlevel props) (λ K. K.1), ∥∥₁_elim x (hlevel props) (λ K. K.2))
-fault_stays (fault.Claim begun) z gfn write t x = (
-  entering_stays gfn write t (∥∥₁_map x (λ K. K.0)),
-  ∥∥₁_elim x (hlevel props) (λ K. K.1),
-  ∥∥₁_elim x (hlevel props) (λ K. K.2),
-  ∥∥₁_elim x (hlevel props) (λ K. K.3),
-)
-fault_stays fault.Fill z gfn write t x = (entering_stays gfn write t (∥∥₁_map x (λ K. K.0)), ∥∥₁_elim x (hlevel props) (λ K. K.1), filling_stays t (∥∥₁_map x (λ K. K.2)))
-fault_stays fault.Link z gfn write t x = (entering_stays gfn write t (∥∥₁_map x (λ K. K.0)), ∥∥₁_elim x (hlevel props) (λ K. K.1), table_stays (t.walk.level - 1) t (∥∥₁_map x (λ K. K.2)))
-fault_stays fault.Leaf z gfn write t x = (
-  entering_stays gfn write t (∥∥₁_map x (λ K. K.0)),
-  ∥∥₁_elim x (hlevel props) (λ K. K.1),
-  ∥∥₁_elim x (hlevel props) (λ K. K.2),
-  ∥∥₁_elim x (hlevel props) (λ K. K.3),
-)
+fault_stays (fault.Walk rooted) z gfn write t x = entering_two gfn write t x (hlevel props) (hlevel props)
+fault_stays (fault.Claim begun) z gfn write t x = entering_three gfn write t x (hlevel props) (hlevel props) (hlevel props)
+fault_stays fault.Fill z gfn write t x = entering_three gfn write t x (hlevel props) (hlevel props) (hlevel props)
+fault_stays fault.Role z gfn write t x = entering_three gfn write t x (hlevel props) (hlevel props) (hlevel props)
+fault_stays fault.Link z gfn write t x = entering_two gfn write t x (hlevel props) (hlevel props)
+fault_stays fault.Leaf z gfn write t x = entering_three gfn write t x (hlevel props) (hlevel props) (hlevel props)
 fault_stays (fault.Give e) z gfn write t x = (
   ∥∥₁_elim x (hlevel props) (λ K. K.0),
   ∥∥₁_elim x (hlevel props) (λ K. K.1),
@@ -181,11 +167,7 @@ access_stays (Fault p) gfn write h x = fault_stays p h.state.sizes gfn write h.t
 access_stays _ gfn write h x = prop_stays (hlevel props) x
 
 setting_stays : (p : SetSlotPlace) (h : Held) → ∥ SetSlotKnows p h ∥₁ → SetSlotKnows p h
-setting_stays set_slot.Fill h x = (∥∥₁_elim x (hlevel props) (λ K. K.0), fill_stays h.topics (∥∥₁_map x (λ K. K.1)))
-setting_stays set_slot.Exclude h x = (∥∥₁_elim x (hlevel props) (λ K. K.0), owns_set_stays h.topics (∥∥₁_map x (λ K. K.1)))
-setting_stays set_slot.Count h x = (∥∥₁_elim x (hlevel props) (λ K. K.0), owns_set_stays h.topics (∥∥₁_map x (λ K. K.1)))
-setting_stays set_slot.Close h x = (∥∥₁_elim x (hlevel props) (λ K. K.0), owns_set_stays h.topics (∥∥₁_map x (λ K. K.1)), ∥∥₁_elim x (hlevel props) (λ K. K.2))
-setting_stays set_slot.Publish h x = (∥∥₁_elim x (hlevel props) (λ K. K.0), publish_stays h.topics (∥∥₁_map x (λ K. K.1)))
+setting_stays (set_slot.Refuse refusal) h x = prop_stays (hlevel props) x
 setting_stays _ h x = prop_stays (hlevel props) x
 
 part_stays : (p : Place) (command : Command) (h : Held) → ∥ KnowsPart p command h ∥₁ → KnowsPart p command h

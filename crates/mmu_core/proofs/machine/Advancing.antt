@@ -1,12 +1,11 @@
 -- What a hand must have for a step, and what its fields are behind it.
 use Rattle.std.proofs.Math.Nat.{div-le_self}
 use Rattle.std.proofs.Common.{◌≡◌, ◌<◌, ◌≤◌, ◌^◌, ◌⊎◌, inl, inr, ℕ, zero, suc, List, [], ◌∷◌, length, refl, sym, subst, ap, ◌∙◌, arith}
-use Rattle.std.specs.Prelude.{Bool, true, false, ◌==◌, Some, None, is_some, slice_get, if◌then◌else◌}
+use Rattle.std.specs.Prelude.{Bool, true, false, Some, None, is_some, slice_get}
 use Rattle.core_views.specs.declared.kind.Kind.{Kind}
 use Rattle.core_views.specs.declared.kind.StepKind.{StepKind}
 use Rattle.core_views.specs.declared.kind.StepKind.TheVariants as kind
 use Rattle.core_views.specs.declared.place.Place.{Place}
-use Rattle.core_views.specs.declared.topics.OwnedPage.{OwnedPage}
 use Rattle.core_views.specs.declared.topics.TableWalk.{TableWalk}
 use Rattle.core_views.specs.declared.topics.Topics.{Topics}
 use Rattle.core_views.specs.declared.trace.Command.{Command}
@@ -24,7 +23,7 @@ use Rattle.part_steps.specs.declared.part_step.PartStep.{PartStep}
 use Rattle.part_steps.specs.declared.part_step.PartStep.TheVariants as part
 use Rattle.mmu_core.specs.machine.Enabled.{Enabled, IsNext, IsPartStep}
 use Rattle.spte_words.specs.Entries.{level_span}
-use Rattle.part_steps.specs.PartSteps.{IsOver, HasToFill, PartNeeds, own_index, part_task, words_filled}
+use Rattle.part_steps.specs.PartSteps.{IsOver, PartNeeds, own_index, part_task, words_filled}
 use Rattle.mmu_core.specs.lines.Rests.{AcceptsAt, Rests, RestsAt}
 use Rattle.mmu_core.specs.lines.Cached.{flushed}
 use Rattle.part_steps.specs.PartBounds.{PartRests}
@@ -53,18 +52,9 @@ pub named_is : (k : StepKind) → kind_named (code_of k) ≡ k
 named_is kind.Enter = refl
 named_is _ = refl
 
-fill_room : (t : Topics) → HasToFill t → (b : Bool) (x y : Task) → x.kind ≡ kind.Fill → y.kind ≡ kind.Fill → HasRoom (if b then x else y).kind t
-fill_room t N true x y is other = subst (λ k. HasRoom k t) (sym is) (λ o e. let q : Some N.owned ≡ Some o = sym N.is ∙ e in subst (λ (o : OwnedPage). o.filled < 513) (some_is q) N.left)
-  where
-    some_is : {a b : OwnedPage} → Some a ≡ Some b → a ≡ b
-    some_is q = cc q
-fill_room t N false x y is other = subst (λ k. HasRoom k t) (sym other) (λ o e. let q : Some N.owned ≡ Some o = sym N.is ∙ e in subst (λ (o : OwnedPage). o.filled < 513) (some_is q) N.left)
-  where
-    some_is : {a b : OwnedPage} → Some a ≡ Some b → a ≡ b
-    some_is q = cc q
-
 part_room : (step : PartStep) (h : Held) (note : ℕ) → AreSizes h.state.sizes → PartNeeds step h → HasRoom (part_task step (own_index h) h.topics note).kind h.topics
-part_room (part.Fill value) h note z N = fill_room h.topics N.0 (words_filled h.topics.owned == 512) _ _ refl refl
+part_room (part.Fill value) h note z N = λ o is. let filled : words_filled h.topics.owned ≡ o.filled = ap words_filled is in omega (arith, filled, N.0.1)
+part_room (part.Role value) h note z N = λ o is. let filled : words_filled h.topics.owned ≡ o.filled = ap words_filled is in omega (arith, filled, N.0)
 part_room part.Slot h note z N = λ some. N.1
 part_room part.Claim h note z N = (N.1, omega (arith, N.2, z.pool.1))
 part_room (part.Walk gfn) h note z N = λ from. run_small gfn h.topics.walk N

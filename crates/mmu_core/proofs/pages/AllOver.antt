@@ -10,7 +10,7 @@ use Rattle.spte_words.specs.Entries.{absent_word, level_span, table_word}
 use Rattle.spte_words.proofs.Indices.{same_pool_word}
 use Rattle.part_steps.specs.declared.part_step.PartStep.{PartStep}
 use Rattle.part_steps.specs.declared.part_step.PartStep.TheVariants as part
-use Rattle.part_steps.specs.PartSteps.{IsOver, OwnsTable, entry_index, leaf_written, link_written, page_owned, table_page}
+use Rattle.part_steps.specs.PartSteps.{IsOver, entry_index, is_absent, leaf_written, link_written, page_owned, table_page}
 use Rattle.mmu_core.specs.invariant.AllOver.{AllOver, IsEntryOver}
 use Rattle.mmu_core.specs.invariant.PoolPart.{IsFilled}
 use Rattle.mmu_core.specs.invariant.TopicsInvariant.{TopicsInvariant}
@@ -18,9 +18,10 @@ use Rattle.mmu_core.specs.invariant.TreePart.{Below, Position, Reaches, TreePart
 use Rattle.mmu_core.specs.invariant.TreePart.Use.{Free, OldSet, Outside, Owned, Root, SlotSet, Under}
 use Rattle.mmu_core.specs.machine.View.{View, part_stepped, upd}
 use Rattle.mmu_core.proofs.machine.Columns.{same_or, upd_other, upd_same}
+use Rattle.mmu_core.proofs.pages.Owned.{OwnsWhole, table_owned}
 use Rattle.mmu_core.proofs.machine.PartStepping.{IsPart}
-use Rattle.mmu_core.proofs.words.PartWords.{IsElsewhere, left_elsewhere, page_stays}
-use Rattle.mmu_core.proofs.pages.PoolPages.{left_use, owned_there, owned_use}
+use Rattle.mmu_core.proofs.words.PartWords.{IsElsewhere, page_stays}
+use Rattle.mmu_core.proofs.pages.PoolPages.{owned_there, owned_use}
 use Rattle.mmu_core.proofs.pages.Standing.{entry_now, position_below, spot_after, spot_of, up_after, upd_if}
 use Rattle.mmu_core.proofs.machine.SumsBelow.{upd_id}
 use Rattle.mmu_core.proofs.pages.UsesStay.{SameTable, SameTables, is_link, same_tables}
@@ -192,15 +193,15 @@ module _ (z : Sizes) (v : View) (a : ℕ) (I : TopicsInvariant z v) (m : ℕ) (I
   link_over : (gfn note : ℕ) → IsPart z v a (part.Link gfn) → AllOver (up_after (part.Link gfn) a t v I.up) (spot_after (part.Link gfn) t v I.spot) ((part_stepped a (part.Link gfn) note v).words area.Pool) m IsSo
   link_over gfn note S =
       over_grown I.tree ((part_stepped a (part.Link gfn) note v).words area.Pool) m IsSo table light won (page_owned t.owned) (Under (table_page t.walk) (entry_index gfn t.walk.level)) (position_below gfn t) no_table_yet
-      (λ is j low. page_stays z v a (part.Link gfn) note S (page_owned t.owned) apart j low ∙ ap (λ k. v.words area.Pool (pool_index k j)) page ∙ filled.absent owns.absent j (omega (arith, low, owns.whole)) low ∙ absent_is)
+      (λ is j low. page_stays z v a (part.Link gfn) note S (page_owned t.owned) apart j low ∙ ap (λ k. v.words area.Pool (pool_index k j)) page ∙ filled.absent (ap is_absent (sym owns.is) ∙ S.needs.3.absent) j (omega (arith, low, owns.whole)) low ∙ absent_is)
       (over_exchanged I.up I.spot (v.words area.Pool) m IsSo table A (table_page t.walk) (entry_index gfn t.walk.level) (link_written t) won (omega arith)
       (λ is other O. light.link (I.spot (table_page t.walk)).level other (page_owned t.owned) (let upper = S.needs.1 in let level = ap (λ (p : Position). p.level) here in omega (arith, upper, level)) (omega (arith, page, owned_there I.uses a owns.owned S.there owns.is, S.is_sizes.pool.1))))
     where
       won : Bool
       won = entry_now gfn t v == t.walk.entry
 
-      owns : OwnsTable (t.walk.level - 1) t
-      owns = S.needs.3
+      owns : OwnsWhole (t.walk.level - 1) t
+      owns = table_owned (t.walk.level - 1) t S.needs.3
 
       page : page_owned t.owned ≡ owns.owned.page
       page = ap page_owned owns.is
@@ -227,6 +228,4 @@ over_step z v a (part.Link gfn) note S I m IsSo table light new_ A = link_over z
 over_step z v a (part.Leaf gfn) note S I m IsSo table light new_ A = leaf_over z v a I m IsSo table light A gfn note S new_
 over_step z v a (part.Fill value) note S I m IsSo table light new_ A =
     still_over z v a I m IsSo table light A (part.Fill value) note S refl (λ k is o owns e. let no = ap (λ l. is_table (I.up l)) (sym e) ∙ ap is_table (owned_use I.uses a o S.there owns) in absurd (cc (no, is)))
-over_step z v a part.Clear note S I m IsSo table light new_ A =
-    still_over z v a I m IsSo table light A part.Clear note S refl (λ k is. left_elsewhere (v.hand a).topics S.needs.leaves k (λ l left e. let no = ap (λ n. is_table (I.up n)) (sym e) ∙ ap is_table (left_use I.uses a l S.there left) in absurd (cc (no, is))))
 over_step z v a step note S I m IsSo table light new_ A = still_over z v a I m IsSo table light A step note S refl (λ k is. tt)

@@ -2,42 +2,28 @@
 use Rattle.std.proofs.Common.{◌≡◌, ◌^◌, ◌<◌, ◌≤◌, ℕ, refl, ap, ◌∙◌, arith}
 use Rattle.std.specs.Prelude.{Bool, true, false, ◌==◌, nat_le, if◌then◌else◌, Option, Some, None}
 use Rattle.std.proofs.lemmas.Bool.Decides.{nat_tests}
-use Rattle.core_views.specs.declared.kind.Kind.{Kind}
-use Rattle.core_views.specs.declared.kind.StepKind.{StepKind}
-use Rattle.core_views.specs.declared.kind.StepKind.TheVariants as kind
 use Rattle.core_views.specs.declared.sizes.Sizes.{Sizes}
 use Rattle.core_views.specs.declared.topics.OwnedPage.{OwnedPage}
 use Rattle.core_views.specs.declared.topics.Topics.{Topics}
 use Rattle.core_views.specs.Held.{Held}
-use Rattle.core_views.specs.Kinds.{code_of, kind_named}
-use Rattle.spte_words.specs.declared.area.Area.TheVariants as area
 use Rattle.spte_words.specs.declared.spte_kind.SpteKind.TheVariants as entry_kind
-use Rattle.spte_words.specs.Areas.{pool_index}
 use Rattle.spte_words.specs.Bits.{has_bit}
 use Rattle.spte_words.specs.Entries.{frozen_word, is_leaf_at, kind_of}
 use Rattle.spte_words.proofs.ReadsEntries.{kind_of_table}
-use Rattle.part_steps.specs.declared.task.Task.{Task}
 use Rattle.part_steps.specs.declared.part_step.PartStep.{PartStep}
 use Rattle.part_steps.specs.declared.part_step.PartStep.TheVariants as part
-use Rattle.part_steps.specs.PartSteps.{leaf_written, link_written, own_index, page_owned, part_task, works}
+use Rattle.part_steps.specs.PartSteps.{leaf_written, link_written, own_index, page_owned, part_task}
 use Rattle.part_steps.specs.Tasks.{kind_of_task}
-use Rattle.part_steps.specs.TopicSteps.{claimed, filled_more, is_in_table, linked_page, still_owned, topics_after, topics_by, unless_linked, still_leaving}
+use Rattle.part_steps.specs.TopicSteps.{claimed, filled_more, is_in_table, linked_page, still_owned, topics_after, unless_linked, still_leaving}
 use Rattle.mmu_core.specs.machine.View.{View, answer_in, part_stepped, upd}
 use Rattle.mmu_core.proofs.machine.Columns.{upd_same}
 use Rattle.mmu_core.proofs.machine.SumsBelow.{column}
-
--- a fill of a word of the page, or of its role
-abbrev pub fill_by : Bool → ℕ → ℕ → ℕ → ℕ → Task
-fill_by role page filled value note = if role then works kind.Fill area.Role page value note else works kind.Fill area.Pool (pool_index page filled) value note
-
-pub fills : (role : Bool) (page filled value note : ℕ) → (fill_by role page filled value note).kind ≡ kind.Fill
-fills true page filled value note = refl
-fills false page filled value note = refl
 
 -- what is owned behind a step that answered v
 abbrev pub owned_behind : PartStep → Topics → ℕ → Option OwnedPage
 owned_behind part.Claim t v = claimed t.claim v
 owned_behind (part.Fill value) t v = filled_more t.owned v
+owned_behind (part.Role value) t v = filled_more t.owned v
 owned_behind part.Give t v = None
 owned_behind part.GiveOld t v = None
 owned_behind part.Publish t v = None
@@ -46,12 +32,9 @@ owned_behind (part.Link gfn) t v = if is_in_table t.walk then still_owned (v == 
 owned_behind (part.Leaf gfn) t v = if is_in_table t.walk then still_owned (v == t.walk.entry) t.walk (leaf_written t) t.owned else t.owned
 owned_behind _ t v = t.owned
 
-filled_behind : (z : Sizes) (k : Kind) (t : Topics) (v : ℕ) (name : StepKind) → name ≡ kind.Fill → (topics_by (kind_named (code_of name)) z k t v).owned ≡ filled_more t.owned v
-filled_behind z k t v name is = ap (λ n. (topics_by (kind_named (code_of n)) z k t v).owned) is
-
 pub owned_is : (step : PartStep) (z : Sizes) (own : ℕ) (t : Topics) (note v : ℕ) → (topics_after z (kind_of_task z (part_task step own t note)) t v).owned ≡ owned_behind step t v
 unfolding topics_after
-owned_is (part.Fill value) z own t note v = filled_behind z (kind_of_task z (part_task (part.Fill value) own t note)) t v (part_task (part.Fill value) own t note).kind (fills _ _ _ value note)
+owned_is part.Claim z own t note v = refl
 owned_is _ z own t note v = refl
 
 -- what leaves behind a step that answered v
@@ -61,12 +44,9 @@ left_behind part.Give t v = still_leaving t.owned t.leaving
 left_behind part.GiveOld t v = still_leaving t.owned t.leaving
 left_behind _ t v = t.leaving
 
-left_by_fill : (z : Sizes) (k : Kind) (t : Topics) (v : ℕ) (name : StepKind) → name ≡ kind.Fill → (topics_by (kind_named (code_of name)) z k t v).leaving ≡ t.leaving
-left_by_fill z k t v name is = ap (λ n. (topics_by (kind_named (code_of n)) z k t v).leaving) is
-
 pub left_is : (step : PartStep) (z : Sizes) (own : ℕ) (t : Topics) (note v : ℕ) → (topics_after z (kind_of_task z (part_task step own t note)) t v).leaving ≡ left_behind step t v
 unfolding topics_after
-left_is (part.Fill value) z own t note v = left_by_fill z (kind_of_task z (part_task (part.Fill value) own t note)) t v (part_task (part.Fill value) own t note).kind (fills _ _ _ value note)
+left_is part.Publish z own t note v = refl
 left_is _ z own t note v = refl
 
 pub left_same : (hand : ℕ → Held) (a : ℕ) (h : Held) → h.topics.leaving ≡ (hand a).topics.leaving → ◌≡◌ {A = ℕ → Option ℕ} (λ i. (upd hand a h i).topics.leaving) (λ i. (hand i).topics.leaving)

@@ -11,7 +11,7 @@ use Rattle.spte_words.specs.declared.area.Area.TheVariants as area
 use Rattle.part_steps.specs.declared.task.Task.{Task}
 use Rattle.part_steps.specs.declared.part_step.PartStep.{PartStep}
 use Rattle.part_steps.specs.declared.part_step.PartStep.TheVariants as part
-use Rattle.part_steps.specs.PartSteps.{OwnsTable, own_index, page_owned, part_task, words_filled, page_left, table_page, entry_index, OwnsSet}
+use Rattle.part_steps.specs.PartSteps.{own_index, page_owned, part_task, page_left, table_page, entry_index}
 use Rattle.mmu_core.specs.invariant.PoolPart.{UsePart}
 use Rattle.mmu_core.specs.machine.Steps.{idle_after}
 use Rattle.part_steps.specs.Tasks.{kind_of_task}
@@ -22,10 +22,12 @@ use Rattle.mmu_core.specs.invariant.TreePart.Use.{Free, OldSet, SlotSet, Under}
 use Rattle.mmu_core.specs.machine.View.{View, answer_in, part_stepped, upd}
 use Rattle.mmu_core.proofs.pages.OwnedBehind.{leaf_owned, link_owned, owned_is, owned_same, left_same, left_is}
 use Rattle.mmu_core.proofs.machine.PartStepping.{IsPart}
-use Rattle.mmu_core.proofs.words.PartWords.{fill_map, slots_are, slots_behind}
+use Rattle.mmu_core.proofs.words.PartWords.{slots_are, slots_behind}
 use Rattle.mmu_core.proofs.pages.PoolPages.{owned_there}
 use Rattle.mmu_core.proofs.pages.Standing.{entry_now, up_after, upd_if}
 use Rattle.mmu_core.proofs.pages.UsesTurn.{claim_kept, fill_kept, give_kept, give_old_kept, link_kept, publish_kept}
+use Rattle.mmu_core.proofs.pages.Owned.{OwnsWhole, owned_some, set_owned, table_owned}
+use Rattle.part_steps.specs.SetWords.{set_role}
 
 -- the hand behind the step
 abbrev hand_behind : View → ℕ → PartStep → ℕ → Held
@@ -39,13 +41,6 @@ UsesBehind z v a step note up =
     UsePart (actors_of z) z.pool (slots_behind step (v.hand a).topics (v.words area.Slots 0)) ((part_stepped a step note v).words area.PoolMap) (λ i. (upd v.hand a (hand_behind v a step note) i).topics.owned) (λ i. (upd v.hand a (hand_behind v a step note) i).topics.leaving) (up_after step a (v.hand a).topics v up)
 
 -- the page owned is there, where one is
-pub owned_some : (t : Topics) → is_some t.owned ≡ true → (o : OwnedPage) × (t.owned ≡ Some o)
-owned_some t some = by t.owned refl some
-  where
-    by : (x : Option OwnedPage) → t.owned ≡ x → is_some x ≡ true → (o : OwnedPage) × (t.owned ≡ Some o)
-    by None is some = absurd (cc some)
-    by (Some o) is some = (o, is)
-
 pub leaving_some : (t : Topics) → is_some t.leaving ≡ true → (k : ℕ) × (t.leaving ≡ Some k)
 leaving_some t some = by t.leaving refl some
   where
@@ -87,7 +82,7 @@ map_kept z v a part.GiveOld note S I =
     (left_is part.GiveOld (v.hand a).state.sizes (own_index (v.hand a)) t note _ ∙ ap (λ x. still_leaving x t.leaving) S.needs.owns_none))
 map_kept z v a part.Publish note S I =
     let t : Topics = (v.hand a).topics in
-    let owns : OwnsSet t = S.needs.owns in
+    let owns : OwnsWhole set_role t = set_owned t S.needs.owns in
     let page : page_owned t.owned ≡ owns.owned.page = ap page_owned owns.is in
     let h : Held = hand_behind v a part.Publish note in
     subst (λ p. UsePart (actors_of z) z.pool p (v.words area.PoolMap) (λ i. (upd v.hand a h i).topics.owned) (λ i. (upd v.hand a h i).topics.leaving) (upd (upd I.up (v.words area.Slots 0) (OldSet a)) p SlotSet)) (sym page)
@@ -97,15 +92,14 @@ map_kept z v a part.Clear note S I =
     fill_kept v.hand I.uses a (hand_behind v a part.Clear note) S.there _
     (owned_is part.Clear (v.hand a).state.sizes (own_index (v.hand a)) (v.hand a).topics note _) (left_is part.Clear (v.hand a).state.sizes (own_index (v.hand a)) (v.hand a).topics note _)
 map_kept z v a (part.Fill value) note S I =
-    let t : Topics = (v.hand a).topics in
-    let h : Held = hand_behind v a (part.Fill value) note in
-    subst (λ (map : ℕ → ℕ). UsePart (actors_of z) z.pool (v.words area.Slots 0) map (λ i. (upd v.hand a h i).topics.owned) (λ i. (upd v.hand a h i).topics.leaving) I.up)
-    (sym (fill_map (words_filled t.owned == 512) (page_owned t.owned) (words_filled t.owned) value note v.words))
-    (fill_kept v.hand I.uses a h S.there _
-    (owned_is (part.Fill value) (v.hand a).state.sizes (own_index (v.hand a)) t note _) (left_is (part.Fill value) (v.hand a).state.sizes (own_index (v.hand a)) t note _))
+    fill_kept v.hand I.uses a (hand_behind v a (part.Fill value) note) S.there _
+    (owned_is (part.Fill value) (v.hand a).state.sizes (own_index (v.hand a)) (v.hand a).topics note _) (left_is (part.Fill value) (v.hand a).state.sizes (own_index (v.hand a)) (v.hand a).topics note _)
+map_kept z v a (part.Role value) note S I =
+    fill_kept v.hand I.uses a (hand_behind v a (part.Role value) note) S.there _
+    (owned_is (part.Role value) (v.hand a).state.sizes (own_index (v.hand a)) (v.hand a).topics note _) (left_is (part.Role value) (v.hand a).state.sizes (own_index (v.hand a)) (v.hand a).topics note _)
 map_kept z v a (part.Link gfn) note S I =
     let t : Topics = (v.hand a).topics in
-    let owns : OwnsTable (t.walk.level - 1) t = S.needs.3 in
+    let owns : OwnsWhole (t.walk.level - 1) t = table_owned (t.walk.level - 1) t S.needs.3 in
     let page : page_owned t.owned ≡ owns.owned.page = ap page_owned owns.is in
     let small : owns.owned.page < 2 ^ 32 = omega (arith, owned_there I.uses a owns.owned S.there owns.is, S.is_sizes.pool.1) in
     let is = owned_is (part.Link gfn) (v.hand a).state.sizes (own_index (v.hand a)) t note (entry_now gfn t v) ∙ link_owned gfn t owns.owned (entry_now gfn t v) S.needs.1 owns.is small in

@@ -15,7 +15,7 @@ use Rattle.part_steps.specs.SlotWords.{may_write}
 use Rattle.spte_words.proofs.Spans.{span_1, span_above}
 use Rattle.part_steps.specs.declared.part_step.PartStep.{PartStep}
 use Rattle.part_steps.specs.declared.part_step.PartStep.TheVariants as part
-use Rattle.part_steps.specs.PartSteps.{FoundSlot, LookedUp, MayEnter, OwnsTable, entry_index, leaf_written, link_written, page_owned, table_page, word_looked}
+use Rattle.part_steps.specs.PartSteps.{FoundSlot, LookedUp, MayEnter, entry_index, is_absent, leaf_written, link_written, page_owned, table_page, word_looked}
 use Rattle.mmu_core.specs.invariant.PoolPart.{IsFilled}
 use Rattle.part_steps.specs.SlotWords.{page_of}
 use Rattle.mmu_core.specs.invariant.TopicsInvariant.{TopicsInvariant}
@@ -23,8 +23,9 @@ use Rattle.mmu_core.specs.invariant.TreePart.{EntryPart, IsLeafAt, IsLiveIn, IsW
 use Rattle.mmu_core.specs.invariant.TreePart.Use.{Under}
 use Rattle.mmu_core.specs.machine.View.{View, part_stepped, upd}
 use Rattle.mmu_core.proofs.slots.LiveStays.{LiveStays, part_live_stays}
+use Rattle.mmu_core.proofs.pages.Owned.{OwnsWhole, table_owned}
 use Rattle.mmu_core.proofs.machine.PartStepping.{IsPart}
-use Rattle.mmu_core.proofs.words.PartWords.{IsElsewhere, areas_stay, page_stays, role_stays, left_elsewhere, slots_are, slots_behind}
+use Rattle.mmu_core.proofs.words.PartWords.{HasOtherRole, IsElsewhere, areas_stay, page_stays, role_stays, left_elsewhere, slots_are, slots_behind}
 use Rattle.mmu_core.proofs.pages.PoolPages.{left_no_table, owned_there, owned_use, table_not_owned, tells}
 use Rattle.mmu_core.proofs.pages.Standing.{entry_now, position_below, spot_after, up_after, upd_if}
 use Rattle.mmu_core.proofs.machine.SumsBelow.{upd_id}
@@ -84,13 +85,13 @@ absent_entry {pages} {root} {set} {role} {pool} {up} {spot} T k level prefix j a
     by (inr (inr L)) = absurd (omega (arith, L.lowest, upper))
 
 -- Where the step stores in no table, all tables stay.
-stay : (z : Sizes) (v : View) (a : ℕ) (step : PartStep) (note : ℕ) → IsPart z v a step → (I : TopicsInvariant z v) → is_link step ≡ false → ((k : ℕ) (p : Position) → stands I.up I.spot k ≡ Some p → IsElsewhere step (v.hand a).topics k)
+stay : (z : Sizes) (v : View) (a : ℕ) (step : PartStep) (note : ℕ) → IsPart z v a step → (I : TopicsInvariant z v) → is_link step ≡ false → ((k : ℕ) (p : Position) → stands I.up I.spot k ≡ Some p → IsElsewhere step (v.hand a).topics k × HasOtherRole step (v.hand a).topics k)
     → TreePart z.pool (v.words area.Root 0) (v.words area.Slots 0) ((part_stepped a step note v).words area.Role) ((part_stepped a step note v).words area.Pool) (up_after step a (v.hand a).topics v I.up) I.spot
 stay z v a step note S I never elsewhere =
     let same = same_tables z v a step S I never in
     let after : ℕ → Use = up_after step a (v.hand a).topics v I.up in
     tree_moved I.tree ((part_stepped a step note v).words area.Role) ((part_stepped a step note v).words area.Pool) after I.spot (stay_same I.up after I.spot same)
-    (λ k p is. inl (stood_same I.up after I.spot same k p is)) (λ k p is. role_stays z v a step note S k (elsewhere k p is)) (λ k p is j low. inl (page_stays z v a step note S k (elsewhere k p is) j low)) (part_live_stays z v a step note S I)
+    (λ k p is. inl (stood_same I.up after I.spot same k p is)) (λ k p is. role_stays z v a step note S k (elsewhere k p is).1) (λ k p is j low. inl (page_stays z v a step note S k (elsewhere k p is).0 j low)) (part_live_stays z v a step note S I)
 
 -- An exchange that was lost leaves the pool.
 lost : {pages root set : ℕ} {role pool : ℕ → ℕ} {up : ℕ → Use} {spot : ℕ → Position} (i : ℕ) → TreePart pages root set role pool up spot → TreePart pages root set role (upd pool i (pool i)) up spot
@@ -118,15 +119,15 @@ module _ (z : Sizes) (v : View) (a gfn note : ℕ) (I : TopicsInvariant z v) whe
       (ap (λ k. is_table (I.up k)) page ∙ ap is_table (owned_use I.uses a owns.owned S.there owns.is))
       (omega (arith, page, owned_there I.uses a owns.owned S.there owns.is))
       (ap (v.words area.Role) page ∙ filled.role_is owns.whole ∙ owns.role)
-      (λ i low. ap (λ k. v.words area.Pool (pool_index k i)) page ∙ filled.absent owns.absent i (omega (arith, low, owns.whole)) low ∙ absent_is)
+      (λ i low. ap (λ k. v.words area.Pool (pool_index k i)) page ∙ filled.absent (ap is_absent (sym owns.is) ∙ S.needs.3.absent) i (omega (arith, low, owns.whole)) low ∙ absent_is)
       (record { gfn = gfn; id = t.search.id - 1; slot = t.search.slot; live = found_live z v a gfn S.there I may.looked_up.found; holds = may.looked_up.found.holds; run = run_below gfn t.walk.level t.walk.prefix S.needs.1 may.saw.over.run })
       live
     where
       may : MayEnter gfn t
       may = S.needs.0
 
-      owns : OwnsTable (t.walk.level - 1) t
-      owns = S.needs.3
+      owns : OwnsWhole (t.walk.level - 1) t
+      owns = table_owned (t.walk.level - 1) t S.needs.3
 
       absent : v.words area.Pool here ≡ absent_word
       absent =
@@ -160,11 +161,16 @@ tree_behind : (z : Sizes) (v : View) (a : ℕ) (step : PartStep) (note : ℕ) �
 tree_behind z v a (part.Link gfn) note S I = linked z v a gfn note I S (entry_now gfn (v.hand a).topics v == (v.hand a).topics.walk.entry) refl (part_live_stays z v a (part.Link gfn) note S I)
 tree_behind z v a (part.Leaf gfn) note S I = leafed z v a gfn note I S (entry_now gfn (v.hand a).topics v == (v.hand a).topics.walk.entry) (part_live_stays z v a (part.Leaf gfn) note S I)
 tree_behind z v a (part.Fill value) note S I =
-    stay z v a (part.Fill value) note S I refl (λ k p is o owns. table_not_owned I.uses I.spot k p is a o S.there owns)
+    stay z v a (part.Fill value) note S I refl (λ k p is. (λ o owns. table_not_owned I.uses I.spot k p is a o S.there owns, tt))
+tree_behind z v a (part.Role value) note S I =
+    stay z v a (part.Role value) note S I refl (λ k p is. (tt, λ o owns. table_not_owned I.uses I.spot k p is a o S.there owns))
 tree_behind z v a part.Clear note S I =
-    stay z v a part.Clear note S I refl (λ k p is. left_elsewhere (v.hand a).topics S.needs.leaves k
-    (λ l left e. left_no_table I.uses I.spot a l p S.there left (ap (stands I.up I.spot) e ∙ is)))
-tree_behind z v a step note S I = stay z v a step note S I refl (λ k p is. tt)
+    stay z v a part.Clear note S I refl (λ k p is. (
+      tt,
+      left_elsewhere (v.hand a).topics S.needs.leaves k
+          (λ l left e. left_no_table I.uses I.spot a l p S.there left (ap (stands I.up I.spot) e ∙ is)),
+    ))
+tree_behind z v a step note S I = stay z v a step note S I refl (λ k p is. (tt, tt))
 
 -- A slot set is published that has each slot of the one before it.
 tree_republished : {pages root set : ℕ} {role pool : ℕ → ℕ} {up : ℕ → Use} {spot : ℕ → Position} (other : ℕ) → StayLive pool set pool other → TreePart pages root set role pool up spot → TreePart pages root other role pool up spot

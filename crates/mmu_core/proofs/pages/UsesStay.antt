@@ -1,5 +1,5 @@
 -- What was a table stays the same table behind each step of a part.
-use Rattle.std.proofs.Common.{◌≡◌, ◌⊎◌, inl, inr, ◌+◌, ◌*◌, ℕ, refl, sym, ap, ◌∙◌}
+use Rattle.std.proofs.Common.{◌≡◌, ◌⊎◌, inl, inr, ◌+◌, ◌*◌, ℕ, refl, sym, ap, ◌∙◌, ◌-◌}
 use Rattle.std.specs.Prelude.{Bool, true, false, ◌==◌, if◌then◌else◌, Option, Some, None}
 use Rattle.std.proofs.lemmas.Nat.Bits.{bit_at-trailing_zeros}
 use Rattle.core_views.specs.declared.sizes.Sizes.{Sizes}
@@ -17,7 +17,8 @@ use Rattle.mmu_core.specs.machine.View.{View, upd}
 use Rattle.mmu_core.proofs.machine.Columns.{at_upd}
 use Rattle.mmu_core.proofs.machine.PartStepping.{IsPart}
 use Rattle.mmu_core.proofs.words.PoolBits.{page_free}
-use Rattle.mmu_core.proofs.pages.PoolKept.{leaving_some, owned_some}
+use Rattle.mmu_core.proofs.pages.Owned.{owned_some, set_owned, table_owned}
+use Rattle.mmu_core.proofs.pages.PoolKept.{leaving_some}
 use Rattle.mmu_core.proofs.pages.PoolPages.{free_use, left_use, owned_use, set_use}
 use Rattle.mmu_core.proofs.pages.Standing.{entry_now, position_below, spot_after, up_after, upd_if}
 use Rattle.mmu_core.proofs.pages.TreeStored.{TablesStay, all_stay, still_stands}
@@ -61,7 +62,7 @@ same_tables z v a part.GiveOld S I never =
     let k = leaving_some (v.hand a).topics S.needs.leaves in
     one_turned I.up (page_left (v.hand a).topics.leaving) Free (ap (λ x. is_table (I.up (page_left x))) k.1 ∙ ap is_table (left_use I.uses a k.0 S.there k.1)) refl
 same_tables z v a part.Publish S I never =
-    let O = S.needs.owns in
+    let O = set_owned (v.hand a).topics S.needs.owns in
     two_turned I.up (upd I.up (v.words area.Slots 0) (OldSet a)) (page_owned (v.hand a).topics.owned) SlotSet
     (one_turned I.up (v.words area.Slots 0) (OldSet a) (ap is_table (set_use I.uses)) refl)
     (ap (λ x. is_table (I.up (page_owned x))) O.is ∙ ap is_table (owned_use I.uses a O.owned S.there O.is)) refl
@@ -95,7 +96,7 @@ linked_stay true up spot page w p none = record {
 pub tables_stay : (z : Sizes) (v : View) (a : ℕ) (step : PartStep) → IsPart z v a step → (I : TopicsInvariant z v) → TablesStay I.up (up_after step a (v.hand a).topics v I.up) I.spot (spot_after step (v.hand a).topics v I.spot)
 tables_stay z v a (part.Link gfn) S I =
     let t : Topics = (v.hand a).topics in
-    let O = S.needs.3 in
+    let O = table_owned (t.walk.level - 1) t S.needs.3 in
     linked_stay (entry_now gfn t v == t.walk.entry) I.up I.spot (page_owned t.owned) (Under (table_page t.walk) (entry_index gfn t.walk.level)) (position_below gfn t)
     (ap (λ x. is_table (I.up (page_owned x))) O.is ∙ ap is_table (owned_use I.uses a O.owned S.there O.is))
 tables_stay z v a step S I = stay_same I.up (up_after step a (v.hand a).topics v I.up) I.spot (same_tables z v a step S I refl)

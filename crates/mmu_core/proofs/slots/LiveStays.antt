@@ -34,7 +34,7 @@ use Rattle.mmu_core.specs.invariant.TopicsInvariant.{TopicsInvariant}
 use Rattle.mmu_core.specs.invariant.TreePart.{IsLiveIn}
 use Rattle.mmu_core.specs.machine.View.{View, part_stepped, stepped, words_after}
 use Rattle.mmu_core.proofs.machine.PartStepping.{IsPart, is_publish}
-use Rattle.mmu_core.proofs.words.PartWords.{areas_stay, fill_elsewhere, role_stays, slots_are, slots_elsewhere, slots_same}
+use Rattle.mmu_core.proofs.words.PartWords.{areas_stay, fill_elsewhere, role_stays, slots_are, slots_other_role, slots_same}
 use Rattle.mmu_core.proofs.words.SlotFields.{is_number, same_slot}
 
 -- Each word of a slot that is live in the slot set of a page stays as it is.
@@ -169,7 +169,7 @@ module _ (z : Sizes) (v : View) (a : ℕ) (line : Line) (p : AccessPlace) (gfn w
   pub access_role_stays : behind area.Role (v.words area.Slots 0) ≡ v.words area.Role (v.words area.Slots 0)
   access_role_stays =
       behind_access (λ words. words area.Role (v.words area.Slots 0) ≡ v.words area.Role (v.words area.Slots 0)) v a line p gfn word op
-      (λ step note at. role_stays z v a step note (makes step at) (v.words area.Slots 0) (slots_elsewhere z v a step (makes step at) I))
+      (λ step note at. role_stays z v a step note (makes step at) (v.words area.Slots 0) (slots_other_role z v a step (makes step at) I))
       (λ index. ap (λ (role : ℕ → ℕ). role (v.words area.Slots 0)) (touch_leaves_role v.words op index))
 
   pub access_host_stays : ◌≡◌ {A = ℕ → ℕ} (behind area.Host) (v.words area.Host)

@@ -24,6 +24,7 @@ use Rattle.part_steps.specs.declared.part_step.PartStep.TheVariants as part
 use Rattle.mmu_core.specs.lines.FaultSteps.{claim_part, map_word, tries_page}
 use Rattle.mmu_core.specs.invariant.Invariant.{Invariant, IsLiveIn, RecordPart}
 use Rattle.part_steps.specs.PartSteps.{OwnsSet, page_owned}
+use Rattle.mmu_core.proofs.pages.Owned.{set_owned}
 use Rattle.mmu_core.specs.lines.SetSlotSteps.{set_slot_part}
 use Rattle.part_steps.specs.SetWords.{IsFilledWith, set_word, word_of_slot}
 use Rattle.part_steps.specs.SlotWords.{field_number, live_at, memory_slot_at, memory_slots_below, slot_at, slot_index}
@@ -189,7 +190,8 @@ module _ (pool : ℕ → ℕ) (set page id : ℕ) (slot : Slot) (slots : MemoryS
 
 -- The words of the page that is owned and filled whole.
 pub filled_page : (pool : ℕ → ℕ) (slots : MemorySlots) (t : Topics) → OwnsSet t → IsFilledWith pool slots t.owned → (j : ℕ) → j < 512 → pool (pool_index (page_owned t.owned) j) ≡ set_word slots j
-filled_page pool slots t owns filled j lt =
+filled_page pool slots t O filled j lt =
+    let owns = set_owned t O in
     ap (λ k. pool (pool_index k j)) (ap page_owned owns.is) ∙ filled owns.owned owns.is j (omega (arith, owns.whole, lt)) lt
 
 pub setting_filled : (z : Sizes) (v : View) (a : ℕ) (line : Line) (id : ℕ) (slot : Slot) → IsStep z v a line (SetSlot id slot) (place.SetSlot Publish) → Invariant z v

@@ -29,7 +29,7 @@ use Rattle.part_steps.specs.declared.part_step.PartStep.{PartStep}
 use Rattle.mmu_core.specs.lines.Cached.{flushed}
 use Rattle.mmu_core.specs.invariant.Invariant.{CachedPart, Holds, Invariant, InvariantOf, IsLeafFor, OwnLines, RecordPart, UnderWay, lines_done, IsSetBy}
 use Rattle.mmu_core.specs.lines.KnowsPart.{may_leave}
-use Rattle.part_steps.specs.PartSteps.{own_index, page_owned, next_watched, OwnsSet}
+use Rattle.part_steps.specs.PartSteps.{own_index, page_owned, next_watched}
 use Rattle.mmu_core.specs.lines.SetSlotSteps.{looked_at, set_slot_note, set_slot_outcome, set_slot_part, set_slot_records, set_slot_task}
 use Rattle.part_steps.specs.SetWords.{set_role, set_word}
 use Rattle.mmu_core.specs.machine.Steps.{next_line, state_at}
@@ -47,7 +47,8 @@ use Rattle.mmu_core.proofs.slots.LiveStays.{SetStays, published_stays}
 use Rattle.mmu_core.proofs.held.OthersStay.{owned_stays}
 use Rattle.mmu_core.proofs.pages.OwnedBehind.{left_is, owned_is}
 use Rattle.mmu_core.proofs.machine.PartStepping.{IsPart}
-use Rattle.mmu_core.proofs.words.PartWords.{areas_stay, role_stays, slots_are, slots_elsewhere, slots_same}
+use Rattle.mmu_core.proofs.pages.Owned.{OwnsWhole, set_owned}
+use Rattle.mmu_core.proofs.words.PartWords.{areas_stay, role_stays, slots_are, slots_other_role, slots_same}
 use Rattle.mmu_core.proofs.slots.SetFilled.{is_publication, has_each, list_with, new_slot, others_live, others_same, setting_filled, setting_never}
 use Rattle.mmu_core.proofs.slots.SetPublished.{set_with}
 use Rattle.mmu_core.proofs.slots.SettingHolds.{either_place, setting_holds, setting_leaves}
@@ -117,7 +118,7 @@ quiet_kept z v a line p id slot never S I P makes knows =
     (subst (λ (f : ℕ → ℕ). InvariantOf z set (words area.Role) (words area.Pool) f (upd v.hand a after)) (sym (areas_stay v a step note area.Host refl))
     (hand_moved z set set (v.words area.Role) (words area.Role) (v.words area.Pool) (words area.Pool) (v.words area.Host) v.hand a after live
     (set_stays z (v.words area.Role) (words area.Role) (v.words area.Pool) set (words area.Pool) set (is_live_was set (v.words area.Pool) (words area.Pool) stays)
-    (role_stays z v a step note makes set (slots_elsewhere z v a step makes P) ∙ I.set_part.role_is) I.set_part)
+    (role_stays z v a step note makes set (slots_other_role z v a step makes P) ∙ I.set_part.role_is) I.set_part)
     (owned_stays z v a step note makes P) (λ i lt ne is. recorded (v.hand i).slots (I.recorded i lt is)) own holds
     (setting_leaves p h id slot after.topics x K (step_leaves z v a line (SetSlot id slot) (place.SetSlot p) S I) (left_is step h.state.sizes (own_index h) h.topics note x))
     (still_cached (v.words area.Pool) set (words area.Pool) set (v.words area.Host) (kind_of_task h.state.sizes (set_slot_task p h id slot)) h.cached x live (I.cached a S.there))
@@ -224,8 +225,8 @@ published_kept z v a line id slot S I P knows =
     stay : StayLive pool set pool page
     stay = has_each pool set page id slot h.slots R may.low may.not_live filled
 
-    owns : OwnsSet h.topics
-    owns = (step_knows z v a line (SetSlot id slot) (place.SetSlot Publish) S I).1.owns
+    owns : OwnsWhole set_role h.topics
+    owns = set_owned h.topics (step_knows z v a line (SetSlot id slot) (place.SetSlot Publish) S I).1.owns
 
     role_is : v.words area.Role page ≡ set_role
     role_is = ap (v.words area.Role) (ap page_owned owns.is) ∙ (P.filled a owns.owned S.there owns.is).role_is owns.whole ∙ owns.role

@@ -6,7 +6,7 @@ use Rattle.circular_buffer.specs.Buffer.{Buffer}
 use Rattle.core_views.specs.declared.cache.Translation.{Translation}
 use Rattle.core_views.specs.declared.place.Place.TheVariants as place
 use Rattle.core_views.specs.declared.place.SetSlotPlace.{SetSlotPlace}
-use Rattle.core_views.specs.declared.place.SetSlotPlace.TheVariants.{Refuse, Claim, Fill, Exclude, Count, Close, Publish, Release, Watch, Clear, Give}
+use Rattle.core_views.specs.declared.place.SetSlotPlace.TheVariants.{Refuse, Claim, Fill, Role, Exclude, Count, Close, Publish, Release, Watch, Clear, Give}
 use Rattle.core_views.specs.declared.topics.Hold.{Hold}
 use Rattle.core_views.specs.declared.topics.Hold.TheVariants.{Loose, Exclusive}
 use Rattle.core_views.specs.declared.topics.OwnedPage.{OwnedPage}
@@ -24,12 +24,12 @@ use Rattle.part_steps.specs.declared.part_step.PartStep.TheVariants as part
 use Rattle.mmu_core.specs.lines.FaultLaws.{CanAnswer}
 use Rattle.mmu_core.specs.lines.FaultSteps.{at_map_word, map_word, tries_page}
 use Rattle.part_steps.specs.PartBounds.{PartRests}
-use Rattle.part_steps.specs.PartSteps.{HasToFill, IsAtRest, OwnsSet, PartNeeds, next_watched, own_index, words_filled}
+use Rattle.part_steps.specs.PartSteps.{HasRoleToSet, HasToFill, IsAtRest, OwnsSet, PartNeeds, next_watched, own_index, words_filled}
 use Rattle.part_steps.specs.PartTopics.{part_topics, sequenced}
 use Rattle.mmu_core.specs.lines.PartWaits.{was_counted}
 use Rattle.mmu_core.specs.lines.SetSlotKnows.{HasPublished, HoldsLock, SetSlotKnows}
 use Rattle.mmu_core.specs.lines.SetSlotSteps.{claim_outcome, looked_at, set_slot_outcome, set_slot_part}
-use Rattle.part_steps.specs.SetWords.{set_value}
+use Rattle.part_steps.specs.SetWords.{set_role, set_word}
 use Rattle.part_steps.specs.TopicSteps.{count_checked, filled_more, in_section, is_loose, is_outside, is_section, is_won, kept_search, kept_walk, let_go, unchecked}
 use Rattle.mmu_core.proofs.lines.FaultNeeds.{claim_needs}
 use Rattle.mmu_core.proofs.machine.HandWith.{hand_with}
@@ -38,6 +38,7 @@ use Rattle.core_views.specs.declared.answer.Refusal.{Refusal}
 use Rattle.mmu_core.specs.declared.outcome.Outcome.{Outcome}
 use Rattle.mmu_core.specs.declared.outcome.Outcome.TheVariants.{Goes, Ends}
 use Rattle.mmu_core.specs.lines.KnowsPart.{may_leave}
+use Rattle.mmu_core.proofs.pages.Owned.{more_filled, more_role, more_some, some_filled}
 
 -- ---- What each step needs.
 
@@ -48,11 +49,12 @@ never_own own seen e = by (seen == own) (λ t. grind (arith, nat_tests)) (λ t. 
     by true is other e = let same = is refl in absurd (omega (arith, e, same))
     by false is other e = other refl e
 
-pub set_slot_needs : (p : SetSlotPlace) (h : Held) (id : ℕ) (slot : Slot) → set_value (after_set id slot h.slots) (words_filled h.topics.owned) < 2 ^ 64 → PartRests h → SetSlotKnows p h
+pub set_slot_needs : (p : SetSlotPlace) (h : Held) (id : ℕ) (slot : Slot) → set_word (after_set id slot h.slots) (words_filled h.topics.owned) < 2 ^ 64 → PartRests h → SetSlotKnows p h
     → PartNeeds (set_slot_part p h id slot) h
 set_slot_needs (Refuse refusal) h id slot small R K = tt
 set_slot_needs (Claim begun) h id slot small R K = claim_needs (tries_page begun h.topics.claim) begun h refl R.sizes K.0.owns_none K.1
 set_slot_needs Fill h id slot small R K = (K.1, small)
+set_slot_needs Role h id slot small R K = (K.1, omega arith)
 set_slot_needs Count h id slot small R K = tt
 set_slot_needs Publish h id slot small R K = K.1
 set_slot_needs Watch h id slot small R K = (K.2, never_own (own_index h) h.topics.watched, inr refl)
@@ -107,9 +109,9 @@ module _ (line : Line) (h : Held) (id : ℕ) (slot : Slot) (cached : Buffer Tran
       by false = record { outside = K.outside; loose = K.loose; owns_none = K.owns_none; no_table = K.no_table; no_set = K.no_set }
 
   -- a page was tried: it is owned and to be filled, or the claim goes on
-  tried_known : (p : SetSlotPlace) (won : Bool) (o : OwnedPage) → o.filled < 513 → IsAtRest h.topics → h.topics.claim.at < words_of_bits h.state.sizes.pool
+  tried_known : (p : SetSlotPlace) (won : Bool) (o : OwnedPage) → o.filled < 512 → IsAtRest h.topics → h.topics.claim.at < words_of_bits h.state.sizes.pool
       → Knows (behind p (record h.topics { owned = if won then Some o else None; claim = record { at = if won then 0 else h.topics.claim.at; seen = if won then 0 else v } })) (if won then Fill else Claim true)
-  tried_known p true o few K low = (record { outside = K.outside; holds = K.loose; no_table = K.no_table; no_set = K.no_set }, record { owned = o; is = refl; left = few })
+  tried_known p true o few K low = (record { outside = K.outside; holds = K.loose; no_table = K.no_table; no_set = K.no_set }, (refl, few))
   tried_known p false o few K low = (record { outside = K.outside; loose = K.loose; owns_none = refl; no_table = K.no_table; no_set = K.no_set }, λ e. low)
 
   -- a word of the map was loaded
@@ -127,32 +129,32 @@ module _ (line : Line) (h : Held) (id : ℕ) (slot : Slot) (cached : Buffer Tran
       begun_is false e = absurd (cc e)
   claim_known p begun false is K low = mapped_known p (map_word begun h.topics.claim + (if v == 0 then 1 else 0)) (nat_lt (map_word begun h.topics.claim + (if v == 0 then 1 else 0)) (words_of_bits h.state.sizes.pool)) refl K
 
-  -- one more word of the page is filled
-  fill_known : (p : SetSlotPlace) → HoldsLock Loose h.topics → (F : HasToFill h.topics) → v ≡ set_value (after_set id slot h.slots) (words_filled h.topics.owned)
-      → Knows (behind p (record h.topics { owned = filled_more h.topics.owned v })) (if nat_lt (words_filled h.topics.owned) 512 then Fill else Exclude)
-  fill_known p K F A =
-      let filled : words_filled h.topics.owned ≡ F.owned.filled = ap words_filled F.is in
-      let more : filled_more h.topics.owned v ≡ filled_more (Some F.owned) v = ap (λ o. filled_more o v) F.is in
+  -- one more word of the page is filled, or its role is stored
+  fill_known : (p : SetSlotPlace) → HoldsLock Loose h.topics → HasToFill h.topics
+      → Knows (behind p (record h.topics { owned = filled_more h.topics.owned v })) (if nat_lt (words_filled h.topics.owned + 1) 512 then Fill else Role)
+  fill_known p K F =
+      let filled = more_filled h.topics.owned v F.0 in
       let lock : HoldsLock Loose (record h.topics { owned = filled_more h.topics.owned v }) = record { outside = K.outside; holds = K.holds; no_table = K.no_table; no_set = K.no_set } in
-      either (behind p (record h.topics { owned = filled_more h.topics.owned v })) (nat_lt (words_filled h.topics.owned) 512) Fill Exclude
-      (λ e. (lock, record { owned = _; is = more; left = omega (arith, below (words_filled h.topics.owned) 512 e, filled) }))
-      (λ e. let last : F.owned.filled ≡ 512 = omega (arith, reaches (words_filled h.topics.owned) 512 e, filled, F.left) in
-      (lock, record { owned = _; is = more; whole = omega (arith, last); role = role F.owned.filled last ∙ A ∙ ap (set_value (after_set id slot h.slots)) (filled ∙ last) }))
-    where
-      role : (n : ℕ) → n ≡ 512 → (if n == 512 then v else F.owned.role) ≡ v
-      role n e = let same : (n == 512) ≡ true = grind (arith, nat_tests) in ap (λ (b : Bool). if b then v else F.owned.role) same
+      either (behind p (record h.topics { owned = filled_more h.topics.owned v })) (nat_lt (words_filled h.topics.owned + 1) 512) Fill Role
+      (λ e. (lock, (more_some h.topics.owned v F.0, omega (arith, filled, below (words_filled h.topics.owned + 1) 512 e)))) (λ e. (lock, omega (arith, filled, reaches (words_filled h.topics.owned + 1) 512 e, F.1)))
+
+  role_known : (p : SetSlotPlace) → HoldsLock Loose h.topics → HasRoleToSet h.topics → v ≡ set_role → Knows (behind p (record h.topics { owned = filled_more h.topics.owned v })) Exclude
+  role_known p K full A = (
+    record { outside = K.outside; holds = K.holds; no_table = K.no_table; no_set = K.no_set },
+    record { whole = omega (arith, full, more_filled h.topics.owned v (some_filled h.topics.owned 512 full (omega arith))); role = more_role h.topics.owned v full ∙ A },
+  )
 
   exclude_known : (p : SetSlotPlace) (free : Bool) → HoldsLock Loose h.topics → OwnsSet h.topics
       → Knows (behind p (record h.topics { hold = if free then Exclusive else h.topics.hold; invalidations = unchecked h.topics.invalidations })) (if free then Count else Exclude)
-  exclude_known p true K O = (record { outside = K.outside; holds = refl; no_table = K.no_table; no_set = K.no_set }, record { owned = O.owned; is = O.is; whole = O.whole; role = O.role })
-  exclude_known p false K O = (record { outside = K.outside; holds = K.holds; no_table = K.no_table; no_set = K.no_set }, record { owned = O.owned; is = O.is; whole = O.whole; role = O.role })
+  exclude_known p true K O = (record { outside = K.outside; holds = refl; no_table = K.no_table; no_set = K.no_set }, record { whole = O.whole; role = O.role })
+  exclude_known p false K O = (record { outside = K.outside; holds = K.holds; no_table = K.no_table; no_set = K.no_set }, record { whole = O.whole; role = O.role })
 
   count_known : (p : SetSlotPlace) → HoldsLock Exclusive h.topics → OwnsSet h.topics → h.topics.leaving ≡ None
       → Knows (behind p (record h.topics { invalidations = record h.topics.invalidations { count = v; checked = count_checked h.topics.hold } })) (if v == 0 then Publish else Close)
   count_known p K O left =
       let counted : Topics = record h.topics { invalidations = record h.topics.invalidations { count = v; checked = count_checked h.topics.hold } } in
       let lock : HoldsLock Exclusive counted = record { outside = K.outside; holds = K.holds; no_table = K.no_table; no_set = K.no_set } in
-      let owns : OwnsSet counted = record { owned = O.owned; is = O.is; whole = O.whole; role = O.role } in
+      let owns : OwnsSet counted = record { whole = O.whole; role = O.role } in
       either (behind p (record h.topics { invalidations = record h.topics.invalidations { count = v; checked = count_checked h.topics.hold } })) (v == 0) Publish Close
       (λ e. (lock, record { owns = owns; alone = K.holds; looked = ap count_checked K.holds; none_open = zero_is v e; none_leaves = left }))
       (λ e. (lock, owns, ap (λ (k : Hold). was_counted (count_checked k) && not (v == 0)) K.holds ∙ ap not e))
@@ -184,10 +186,11 @@ module _ (line : Line) (h : Held) (id : ℕ) (slot : Slot) (cached : Buffer Tran
       → SettingKnows (set_slot_outcome p h v) (behind p (part_topics (set_slot_part p h id slot) h.topics v))
   set_slot_known (Refuse refusal) K left A = refused_known refusal K
   set_slot_known (Claim begun) K left A = claim_known (Claim begun) begun (tries_page begun h.topics.claim) refl K.0 K.1
-  set_slot_known Fill K left A = fill_known Fill K.0 K.1 A
+  set_slot_known Fill K left A = fill_known Fill K.0 K.1
+  set_slot_known Role K left A = role_known Role K.0 K.1 A
   set_slot_known Exclude K left A = exclude_known Exclude (v == 0) K.0 K.1
   set_slot_known Count K left A = count_known Count K.0 K.1 (left refl)
-  set_slot_known Close K left A = (let_go_lock h.topics K.0.outside, record { owned = K.1.owned; is = K.1.is; whole = K.1.whole; role = K.1.role })
+  set_slot_known Close K left A = (let_go_lock h.topics K.0.outside, record { whole = K.1.whole; role = K.1.role })
   set_slot_known Publish K left A = (record { outside = K.0.outside; holds = K.0.holds; no_table = K.0.no_table; no_set = refl }, record { leaves = refl; owns_none = refl }, refl, K.1.none_open)
   set_slot_known Release K left A = (let_go_lock h.topics K.0.outside, record { leaves = K.1.leaves; owns_none = K.1.owns_none }, subst (λ w. next_watched (own_index h) w < actors_of h.state.sizes) (sym K.2) first_look)
   set_slot_known Watch K left A = watch_known Watch (in_section v) K.0 K.1 K.2

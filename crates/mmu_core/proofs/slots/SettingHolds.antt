@@ -1,9 +1,9 @@
 -- What a slot setting has filled, and which page leaves for it, behind each of its steps.
-use Rattle.std.proofs.Common.{◌≡◌, ◌≢◌, ◌⊎◌, inl, inr, ◌<◌, ◌+◌, ℕ, refl, sym, subst, ap, ◌∙◌, arith, ◌*◌}
+use Rattle.std.proofs.Common.{◌≡◌, ◌≢◌, ◌⊎◌, inl, inr, ◌<◌, ◌+◌, ℕ, refl, sym, ap, ◌∙◌, arith, ◌*◌}
 use Rattle.std.specs.Prelude.{Bool, true, false, ◌==◌, nat_lt, if◌then◌else◌, Option, Some, None}
 use Rattle.core_views.specs.declared.place.Place.TheVariants as place
 use Rattle.core_views.specs.declared.place.SetSlotPlace.{SetSlotPlace}
-use Rattle.core_views.specs.declared.place.SetSlotPlace.TheVariants.{Claim, Fill, Exclude, Count, Close, Publish, Release, Watch, Clear, Give}
+use Rattle.core_views.specs.declared.place.SetSlotPlace.TheVariants.{Claim, Fill, Role, Exclude, Count, Close, Publish, Release, Watch, Clear, Give}
 use Rattle.core_views.specs.declared.sizes.Sizes.{Sizes}
 use Rattle.core_views.specs.declared.topics.MapClaim.{MapClaim}
 use Rattle.core_views.specs.declared.topics.OwnedPage.{OwnedPage}
@@ -20,16 +20,15 @@ use Rattle.spte_words.specs.Areas.{pool_index, words_of_bits}
 use Rattle.part_steps.specs.declared.part_step.PartStep.TheVariants as part
 use Rattle.mmu_core.specs.lines.FaultSteps.{at_map_word, map_word, tries_page}
 use Rattle.mmu_core.specs.invariant.Invariant.{FillsSet, Holds, LeavesPart, SetSlotHolds}
-use Rattle.part_steps.specs.PartSteps.{HasToFill, next_watched, own_index, page_owned, words_filled}
+use Rattle.part_steps.specs.PartSteps.{next_watched, own_index, page_owned, words_filled}
 use Rattle.mmu_core.specs.lines.SetSlotKnows.{SetSlotKnows}
 use Rattle.mmu_core.specs.lines.SetSlotSteps.{claim_outcome, looked_at, set_slot_outcome, set_slot_part, set_slot_task}
-use Rattle.part_steps.specs.SetWords.{IsFilledWith, set_role, set_value, set_word}
+use Rattle.part_steps.specs.SetWords.{IsFilledWith, set_word}
 use Rattle.mmu_core.specs.machine.Outcomes.{place_after}
-use Rattle.mmu_core.specs.machine.View.{words_after}
-use Rattle.mmu_core.proofs.machine.Columns.{same_or}
-use Rattle.mmu_core.proofs.pages.FilledKept.{filled_words}
+use Rattle.mmu_core.specs.machine.View.{upd, words_after}
+use Rattle.mmu_core.proofs.machine.Columns.{same_or, upd_same}
 use Rattle.mmu_core.proofs.pages.OwnedBehind.{left_behind, owned_behind}
-use Rattle.mmu_core.proofs.words.PartWords.{fill_leaves, fill_stores, is_word, no_role}
+use Rattle.mmu_core.proofs.words.PartWords.{fill_leaves}
 use Rattle.mmu_core.proofs.slots.SetFilled.{is_publication}
 use Rattle.mmu_core.specs.declared.outcome.Outcome.TheVariants.{Goes, Ends}
 use Rattle.core_views.specs.declared.answer.Answer.TheVariants.{Starved}
@@ -70,10 +69,11 @@ claim_holds false z pool host set t claim word v id slot g accepted owned y = by
     by true = accepted
     by false = tt
 
--- One more word of the page is filled.
-one_more : (words : Area → ℕ → ℕ) (slots : MemorySlots) (p : OwnedPage) (note v : ℕ) → p.filled < 513 → IsFilledWith (words area.Pool) slots (Some p)
-    → IsFilledWith (filled_words (Some p) (set_value slots p.filled) note words area.Pool) slots (filled_more (Some p) v)
-one_more words slots p note v left F o is j lt word = ap (λ k. filled_words (Some p) (set_value slots p.filled) note words area.Pool (pool_index k j)) page ∙ by (same_or j p.filled)
+-- One more word of the page is filled, or its role is stored.
+one_more : (pool : ℕ → ℕ) (slots : MemorySlots) (x : Option OwnedPage) (v : ℕ) → words_filled x < 512 → IsFilledWith pool slots x
+    → IsFilledWith (upd pool (pool_index (page_owned x) (words_filled x)) (set_word slots (words_filled x))) slots (filled_more x v)
+one_more pool slots None v low F o is j lt word = absurd (cc is)
+one_more pool slots (Some p) v low F o is j lt word = ap (λ k. upd pool (pool_index p.page p.filled) (set_word slots p.filled) (pool_index k j)) page ∙ by (same_or j p.filled)
   where
     page : o.page ≡ p.page
     page = sym (ap page_owned is)
@@ -81,32 +81,20 @@ one_more words slots p note v left F o is j lt word = ap (λ k. filled_words (So
     filled : o.filled ≡ p.filled + 1
     filled = sym (ap words_filled is)
 
-    value : (role : Bool) → role ≡ false → (if role then set_role else set_word slots p.filled) ≡ set_word slots p.filled
-    value true e = absurd (cc e)
-    value false e = refl
-
-    by : (j ≡ p.filled) ⊎ (j ≢ p.filled) → filled_words (Some p) (set_value slots p.filled) note words area.Pool (pool_index p.page j) ≡ set_word slots j
+    by : (j ≡ p.filled) ⊎ (j ≢ p.filled) → upd pool (pool_index p.page p.filled) (set_word slots p.filled) (pool_index p.page j) ≡ set_word slots j
     by (inl e) =
-        let role : (p.filled == 512) ≡ false = no_role p.filled (omega (arith, e, word)) in
-        ap (λ k. filled_words (Some p) (set_value slots p.filled) note words area.Pool (pool_index p.page k)) e
-        ∙ fill_stores (p.filled == 512) p.page p.filled (set_value slots p.filled) note words role ∙ value (p.filled == 512) role ∙ ap (set_word slots) (sym e)
-    by (inr ne) =
-        fill_leaves (p.filled == 512) p.page p.filled (set_value slots p.filled) note words p.page j (λ e. is_word p.filled left e) word (λ same d. ne (sym d))
-        ∙ F p refl j (omega (arith, lt, filled, ne)) word
+        ap (λ k. upd pool (pool_index p.page p.filled) (set_word slots p.filled) (pool_index p.page k)) e ∙ upd_same pool (pool_index p.page p.filled) (set_word slots p.filled) ∙ ap (set_word slots) (sym e)
+    by (inr ne) = fill_leaves p.page p.filled (set_word slots p.filled) pool p.page j low word (λ same d. ne (sym d)) ∙ F p refl j (omega (arith, lt, filled, ne)) word
 
-fill_holds : (words : Area → ℕ → ℕ) (slots : MemorySlots) (t : Topics) (note v : ℕ) → HasToFill t → IsFilledWith (words area.Pool) slots t.owned
-    → IsFilledWith (filled_words t.owned (set_value slots (words_filled t.owned)) note words area.Pool) slots (filled_more t.owned v)
-fill_holds words slots t note v to_fill F =
-    subst (λ (x : Option OwnedPage). IsFilledWith (filled_words x (set_value slots (words_filled x)) note words area.Pool) slots (filled_more x v)) (sym to_fill.is)
-    (one_more words slots to_fill.owned note v to_fill.left (subst (λ (x : Option OwnedPage). IsFilledWith (words area.Pool) slots x) to_fill.is F))
+all_filled : (pool : ℕ → ℕ) (slots : MemorySlots) (x : Option OwnedPage) (v : ℕ) → words_filled x ≡ 512 → IsFilledWith pool slots x → IsFilledWith pool slots (filled_more x v)
+all_filled pool slots None v full F o is j lt word = absurd (cc is)
+all_filled pool slots (Some p) v full F o is j lt word = ap (λ k. pool (pool_index k j)) (sym (ap page_owned is)) ∙ F p refl j (omega (arith, full, word)) word
 
-fills_more : (pages : ℕ) (words : Area → ℕ → ℕ) (id : ℕ) (slot : Slot) (h g : Held) (note v : ℕ) → HasToFill h.topics → g.slots ≡ h.slots → g.topics.owned ≡ filled_more h.topics.owned v → FillsSet pages (words area.Pool) id slot h
-    → FillsSet pages (filled_words h.topics.owned (set_value (after_set id slot h.slots) (words_filled h.topics.owned)) note words area.Pool) id slot g
-fills_more pages words id slot h g note v to_fill slots owned F = record {
-  accepted = ap (set_refusal pages id slot) slots ∙ F.accepted;
-  filled = λ o is j lt word.
-      fill_holds words (after_set id slot h.slots) h.topics note v to_fill F.filled o (sym owned ∙ is) j lt word
-      ∙ ap (λ (s : MemorySlots). set_word (after_set id slot s) j) (sym slots);
+fills_more : (pages : ℕ) (pool : ℕ → ℕ) (id : ℕ) (slot : Slot) (h g : Held) (v : ℕ) → g.slots ≡ h.slots → g.topics.owned ≡ filled_more h.topics.owned v → set_refusal pages id slot h.slots ≡ None
+    → IsFilledWith pool (after_set id slot h.slots) (filled_more h.topics.owned v) → FillsSet pages pool id slot g
+fills_more pages pool id slot h g v slots owned accepted F = record {
+  accepted = ap (set_refusal pages id slot) slots ∙ accepted;
+  filled = λ o is j lt word. F o (sym owned ∙ is) j lt word ∙ ap (λ (s : MemorySlots). set_word (after_set id slot s) j) (sym slots);
 }
 
 -- two places of which the next one is one
@@ -122,8 +110,11 @@ setting_holds z words set h (Claim begun) id slot g v K e slots owned =
     claim_holds (tries_page begun h.topics.claim) z (words_after (set_slot_task (Claim begun) h id slot) words area.Pool) (words area.Host) set h.topics (at_map_word begun h.topics.claim) (map_word begun h.topics.claim) v id slot g
     (ap (set_refusal z.pages id slot) (slots refl) ∙ e) owned h.state.sizes
 setting_holds z words set h Fill id slot g v K e slots owned =
-    let F = fills_more z.pages words id slot h g 0 v K.1 (slots refl) owned e in
-    either_place (λ q. SetSlotHolds z (words_after (set_slot_task Fill h id slot) words area.Pool) q id slot g) (nat_lt (words_filled h.topics.owned) 512) Fill Exclude F F
+    let behind : ℕ → ℕ = words_after (set_slot_task Fill h id slot) words area.Pool in
+    let F = fills_more z.pages behind id slot h g v (slots refl) owned e.accepted (one_more (words area.Pool) (after_set id slot h.slots) h.topics.owned v K.1.1 e.filled) in
+    either_place (λ q. SetSlotHolds z behind q id slot g) (nat_lt (words_filled h.topics.owned + 1) 512) Fill Role F F
+setting_holds z words set h Role id slot g v K e slots owned =
+    fills_more z.pages (words area.Pool) id slot h g v (slots refl) owned e.accepted (all_filled (words area.Pool) (after_set id slot h.slots) h.topics.owned v K.1 e.filled)
 setting_holds z words set h Exclude id slot g v K e slots owned =
     let F = fills_still z.pages (words area.Pool) id slot h g (slots refl) owned e in
     either_place (λ q. SetSlotHolds z (words area.Pool) q id slot g) (v == 0) Count Exclude F F

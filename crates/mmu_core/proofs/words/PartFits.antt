@@ -1,27 +1,24 @@
 -- The word of each step of a part is one of its area, and what it writes has 64 bits.
-use Rattle.std.proofs.Common.{◌≡◌, ◌<◌, ◌≤◌, ◌^◌, ◌%◌, ◌+◌, ◌-◌, ◌*◌, ◌≢◌, ℕ, refl, sym, subst, ap, arith}
-use Rattle.std.specs.Prelude.{Bool, true, false, ◌==◌, Some, None, is_some, Option, if◌then◌else◌}
-use Rattle.std.proofs.lemmas.Bool.Decides.{nat_tests}
+use Rattle.std.proofs.Common.{◌≡◌, ◌<◌, ◌≤◌, ◌^◌, ◌%◌, ◌+◌, ◌-◌, ◌*◌, ℕ, refl, sym, subst, ap, arith}
+use Rattle.std.specs.Prelude.{true, Some, None, is_some, Option}
 use Rattle.std.proofs.Math.Pow.{pow-lt}
-use Rattle.core_views.specs.declared.kind.StepKind.TheVariants as kind
 use Rattle.core_views.specs.declared.place.SlotField.{SlotField}
 use Rattle.core_views.specs.declared.place.SlotField.TheVariants as field
-use Rattle.core_views.specs.declared.topics.OwnedPage.{OwnedPage}
 use Rattle.core_views.specs.declared.topics.Topics.{Topics}
 use Rattle.core_views.specs.Held.{Held}
 use Rattle.spte_words.specs.declared.area.Area.TheVariants as area
-use Rattle.spte_words.specs.Areas.{pool_index, size_of}
-use Rattle.spte_words.specs.Entries.{table_word}
+use Rattle.spte_words.specs.Areas.{size_of}
 use Rattle.spte_words.specs.HostWords.{host_allows_write, host_frame}
 use Rattle.spte_words.proofs.Indices.{pool_within}
 use Rattle.spte_words.proofs.ReadsEntries.{leaf_fits, table_fits}
 use Rattle.part_steps.specs.declared.part_step.PartStep.{PartStep}
 use Rattle.part_steps.specs.declared.part_step.PartStep.TheVariants as part
 use Rattle.part_steps.specs.PartBounds.{PartRests}
-use Rattle.part_steps.specs.PartSteps.{HasToFill, IsWithin, LookedUp, OwnsTable, PartNeeds, all_but, leaf_written, link_written, own_index, page_owned, part_kind, part_task, set_held, table_page, word_looked, words_filled, works, MayPublish, MayGiveOld, page_left}
+use Rattle.part_steps.specs.PartSteps.{IsWithin, LookedUp, OwnsTable, PartNeeds, all_but, leaf_written, link_written, own_index, page_owned, part_kind, part_task, set_held, table_page, word_looked, words_filled, MayPublish, MayGiveOld, page_left}
 use Rattle.part_steps.specs.SlotWords.{field_number, leaf_of, may_write, slot_index}
 use Rattle.part_steps.specs.Tasks.{map_of}
 use Rattle.part_steps.specs.TopicSteps.{tried_bit}
+use Rattle.mmu_core.proofs.pages.Owned.{owned_some, some_filled}
 
 pub is_number : (f : SlotField) → field_number f ≤ 3
 is_number field.Base = omega arith
@@ -31,31 +28,12 @@ is_number _ = omega arith
 abbrev pub IsWithinBy : Held → PartStep → ℕ → Type 0
 IsWithinBy h step note = (part_task step (own_index h) h.topics note).index < size_of (map_of h.state.sizes) (part_task step (own_index h) h.topics note).area
 
--- the page that is owned
-owned_is : (t : Topics) (P : OwnedPage → Type 0) → is_some t.owned ≡ true → ((o : OwnedPage) → t.owned ≡ Some o → P o) → (o : OwnedPage) × (t.owned ≡ Some o) × P o
-owned_is t P some each = by t.owned refl some
-  where
-    by : (x : Option OwnedPage) → t.owned ≡ x → is_some x ≡ true → (o : OwnedPage) × (t.owned ≡ Some o) × P o
-    by None is some = absurd (cc some)
-    by (Some o) is some = (o, is, each o is)
-
-fill_within : (h : Held) (value note : ℕ) (N : HasToFill h.topics) → PartRests h → IsWithinBy h (part.Fill value) note
-fill_within h value note N R =
-    rw (ap page_owned N.is, ap words_filled N.is) (by (N.owned.filled == 512) (λ e. grind (arith, nat_tests)))
-  where
-    page : N.owned.page < h.state.sizes.pool
-    page = R.page N.owned N.is
-
-    by : (b : Bool) → (b ≡ false → N.owned.filled ≢ 512)
-        → (if b then works kind.Fill area.Role N.owned.page value note else works kind.Fill area.Pool (pool_index N.owned.page N.owned.filled) value note).index
-        < size_of (map_of h.state.sizes) (if b then works kind.Fill area.Role N.owned.page value note else works kind.Fill area.Pool (pool_index N.owned.page N.owned.filled) value note).area
-    by true other = page
-    by false other = let few = N.left in let ne = other refl in pool_within (map_of h.state.sizes) N.owned.page N.owned.filled page (omega (arith, few, ne))
+-- the page that is owned is one of the pool
+page_there : (h : Held) → is_some h.topics.owned ≡ true → PartRests h → page_owned h.topics.owned < h.state.sizes.pool
+page_there h some R = let o = owned_some h.topics some in rw (ap page_owned o.1) (R.page o.0 o.1)
 
 give_within : (h : Held) (note : ℕ) → is_some h.topics.owned ≡ true → PartRests h → IsWithinBy h part.Give note
-give_within h note some R =
-    let o = owned_is h.topics (λ o. o.page < h.state.sizes.pool) some R.page in
-    rw (ap page_owned o.1) (omega (arith, o.2))
+give_within h note some R = let page = page_there h some R in omega (arith, page)
 
 slot_within : (h : Held) (note : ℕ) → is_some h.topics.search.set ≡ true → h.topics.search.id ≤ 31 → PartRests h → IsWithinBy h part.Slot note
 slot_within h note some low R = by h.topics.search.set refl some
@@ -81,7 +59,8 @@ part_within_by part.Begin h note N R = R.own_place
 part_within_by part.End h note N R = R.own_place
 part_within_by (part.Map word) h note N R = N.1
 part_within_by part.Claim h note N R = N.2
-part_within_by (part.Fill value) h note N R = fill_within h value note N.0 R
+part_within_by (part.Fill value) h note N R = pool_within (map_of h.state.sizes) (page_owned h.topics.owned) (words_filled h.topics.owned) (page_there h N.0.0 R) N.0.1
+part_within_by (part.Role value) h note N R = page_there h (some_filled h.topics.owned 512 N.0 (omega arith)) R
 part_within_by part.Give h note N R = give_within h note N R
 part_within_by part.Slot h note N R = slot_within h note N.0 N.1 R
 part_within_by (part.Walk gfn) h note N R = pool_within (map_of h.state.sizes) (table_page h.topics.walk) _ (R.table N.there) (omega arith)
@@ -103,18 +82,14 @@ not_small n = omega arith
 bit_small : (t : Topics) → 0 < t.claim.seen → t.claim.seen < 2 ^ 64 → all_but (2 ^ tried_bit t.claim) < 2 ^ 64
 bit_small t some small = not_small _
 
-fill_small : (b : Bool) (page j value note : ℕ) → value < 2 ^ 64 → (if b then works kind.Fill area.Role page value note else works kind.Fill area.Pool j value note).written < 2 ^ 64
-fill_small true page j value note small = small
-fill_small false page j value note small = small
-
 power_small : (k : ℕ) → k < 64 → 2 ^ k < 2 ^ 64
 power_small k lt = pow-lt lt
 
 -- A link is to a page of the pool, and a leaf to a frame of the machine.
 link_small : (h : Held) → OwnsTable (h.topics.walk.level - 1) h.topics → PartRests h → link_written h.topics < 2 ^ 64
 link_small h O R =
-    let page = R.page O.owned O.is in
-    subst (λ o. table_word (page_owned o) < 2 ^ 64) (sym O.is) (table_fits O.owned.page (omega (arith, page, R.sizes.pool.1)))
+    let page = page_there h (some_filled h.topics.owned 513 O.whole (omega arith)) R in
+    table_fits (page_owned h.topics.owned) (omega (arith, page, R.sizes.pool.1))
 
 leaf_small : {gfn : ℕ} (h : Held) → LookedUp gfn h.topics → PartRests h → leaf_written h.topics < 2 ^ 64
 leaf_small h U R =
@@ -124,16 +99,15 @@ leaf_small h U R =
 
 -- A page that is published is one of the pool.
 publish_small : (h : Held) → MayPublish h.topics → PartRests h → page_owned h.topics.owned < 2 ^ 64
-publish_small h M R =
-    let page = R.page M.owns.owned M.owns.is in
-    rw (ap page_owned M.owns.is) (omega (arith, page, R.sizes.pool.1))
+publish_small h M R = let page = page_there h (some_filled h.topics.owned 513 M.owns.whole (omega arith)) R in omega (arith, page, R.sizes.pool.1)
 
 pub part_small : (step : PartStep) (h : Held) (note : ℕ) → PartNeeds step h → PartRests h → (part_kind h step note).new < 2 ^ 64
 part_small part.Leave h note N R = not_small 3
 part_small part.End h note N R = not_small 2
 part_small part.Release h note N R = not_small (2 ^ 63)
 part_small part.Claim h note N R = not_small (2 ^ tried_bit h.topics.claim)
-part_small (part.Fill value) h note N R = fill_small (words_filled h.topics.owned == 512) (page_owned h.topics.owned) _ value note N.1
+part_small (part.Fill value) h note N R = N.1
+part_small (part.Role value) h note N R = N.1
 part_small part.Give h note N R = power_small (page_owned h.topics.owned % 64) (omega arith)
 part_small (part.Link gfn) h note N R = link_small h N.3 R
 part_small (part.Leaf gfn) h note N R = leaf_small h N.0.looked_up R

@@ -2,13 +2,11 @@
 use Rattle.std.proofs.Common.{◌≡◌, ◌+◌, ◌-◌, ◌<◌, ◌≤◌, ℕ, refl, sym, subst, ap, ◌∙◌, arith}
 use Rattle.std.specs.Prelude.{Bool, true, false, ◌==◌, ◌&&◌, nat_le, nat_lt, not, if◌then◌else◌, Some, None}
 use Rattle.std.proofs.lemmas.Bool.Decides.{nat_tests}
-use Rattle.core_views.specs.declared.kind.StepKind.TheVariants as kind
 use Rattle.core_views.specs.declared.sizes.Sizes.{Sizes}
 use Rattle.core_views.specs.declared.topics.MapClaim.{MapClaim}
 use Rattle.core_views.specs.declared.topics.TableWalk.{TableWalk}
 use Rattle.core_views.specs.declared.topics.Topics.{Topics}
 use Rattle.core_views.specs.Held.{Held}
-use Rattle.spte_words.specs.declared.area.Area.{Area}
 use Rattle.spte_words.specs.declared.area.Area.TheVariants as area
 use Rattle.spte_words.specs.Areas.{number_of, place, pool_index, words_of_bits}
 use Rattle.spte_words.proofs.Places.{next_place, place_at}
@@ -16,7 +14,7 @@ use Rattle.part_steps.specs.declared.task.Task.{Task}
 use Rattle.mmu_core.specs.lines.Cached.{flushed}
 use Rattle.part_steps.specs.declared.part_step.PartStep.{PartStep}
 use Rattle.part_steps.specs.declared.part_step.PartStep.TheVariants as part
-use Rattle.part_steps.specs.PartSteps.{PartNeeds, entry_index, entry_task, fill_task, leaf_written, link_written, page_owned, part_task, table_page, words_filled, works}
+use Rattle.part_steps.specs.PartSteps.{PartNeeds, entry_index, entry_task, leaf_written, link_written, part_task, table_page}
 use Rattle.part_steps.specs.PartTopics.{exchanged, part_topics}
 use Rattle.mmu_core.specs.machine.Steps.{idle_after}
 use Rattle.part_steps.specs.Tasks.{kind_of_task, map_of}
@@ -114,15 +112,6 @@ unfolding topics_after
 map_topics z own i t note v lt =
     ap (λ word. controlled z word t v) (map_word_at z i) ∙ mapped z (map_begins z + i) _ t v (omega (arith, lone_begin z)) (at_map z i t.claim v lt)
 
--- a fill is a fill wherever it stores
-fill_topics : (z : Sizes) (own value : ℕ) (t : Topics) (note v : ℕ) → topics_after z (kind_of_task z (part_task (part.Fill value) own t note)) t v ≡ part_topics (part.Fill value) t v
-unfolding topics_after
-fill_topics z own value t note v = by (words_filled t.owned == 512)
-  where
-    by : (b : Bool) → topics_after z (kind_of_task z (if b then works kind.Fill area.Role (page_owned t.owned) value note else works kind.Fill area.Pool (pool_index (page_owned t.owned) (words_filled t.owned)) value note)) t v ≡ part_topics (part.Fill value) t v
-    by true = refl
-    by false = refl
-
 -- a word of a pool page stands at its own place in the page, and a host word behind the first one
 in_its_page : (z : Sizes) (page j : ℕ) → j < 512 → index_in_page z (place (map_of z) area.Pool (pool_index page j)) ≡ j
 unfolding place pool_index
@@ -156,7 +145,6 @@ pub part_topics_is : (z : Sizes) (step : PartStep) (own : ℕ) (t : Topics) (not
 unfolding topics_after place
 part_topics_is z part.Pause own t note v there = lone_is z 7 t v (omega arith)
 part_topics_is z (part.Map word) own t note v there = map_topics z own word t note v there
-part_topics_is z (part.Fill value) own t note v there = fill_topics z own value t note v
 part_topics_is z part.Slots own t note v there = lone_is z 1 t v (omega arith)
 part_topics_is z part.Seq own t note v there = lone_is z 2 t v (omega arith)
 part_topics_is z part.Count own t note v there = lone_is z 3 t v (omega arith)
@@ -216,12 +204,3 @@ part_stepped_is z v a step note S =
 -- what holds behind the step as it is written out holds behind it
 pub behind_step : (P : View → Type 0) (z : Sizes) (v : View) (a : ℕ) (step : PartStep) (note : ℕ) → IsPart z v a step → P (part_behind a step note v) → P (part_stepped a step note v)
 behind_step P z v a step note S = subst P (sym (part_stepped_is z v a step note S))
-
--- A fill stores in a page or in its role, and nowhere else.
-pub fill_keeps : (P : (Area → ℕ → ℕ) → Type 0) (page filled value note : ℕ) (words : Area → ℕ → ℕ)
-    → P (words_after (works kind.Fill area.Role page value note) words) → P (words_after (works kind.Fill area.Pool (pool_index page filled) value note) words) → P (words_after (fill_task page filled value note) words)
-fill_keeps P page filled value note words role word = by (filled == 512)
-  where
-    by : (b : Bool) → P (words_after (if b then works kind.Fill area.Role page value note else works kind.Fill area.Pool (pool_index page filled) value note) words)
-    by true = role
-    by false = word

@@ -1,7 +1,6 @@
 -- The words that a step of a part leaves: whole areas, and of the pool all pages but the actor's own.
 use Rattle.std.proofs.Common.{◌≡◌, ◌≢◌, ◌<◌, ◌≤◌, ℕ, refl, sym, ap, ◌∙◌, arith, is_some, Option}
 use Rattle.std.specs.Prelude.{Bool, true, false, ◌==◌, if◌then◌else◌, Some, Option, None, is_some}
-use Rattle.std.proofs.lemmas.Bool.Decides.{nat_tests}
 use Rattle.core_views.specs.declared.sizes.Sizes.{Sizes}
 use Rattle.core_views.specs.declared.topics.OwnedPage.{OwnedPage}
 use Rattle.core_views.specs.declared.topics.TableWalk.{TableWalk}
@@ -13,11 +12,11 @@ use Rattle.spte_words.specs.Areas.{number_of, pool_index}
 use Rattle.spte_words.proofs.Indices.{same_pool_word}
 use Rattle.part_steps.specs.declared.part_step.PartStep.{PartStep}
 use Rattle.part_steps.specs.declared.part_step.PartStep.TheVariants as part
-use Rattle.part_steps.specs.PartSteps.{HasToFill, entry_index, entry_task, leaf_written, link_written, own_index, page_owned, part_task, table_page, words_filled, page_left}
+use Rattle.part_steps.specs.PartSteps.{entry_index, entry_task, leaf_written, link_written, own_index, page_owned, part_task, table_page, words_filled, page_left}
 use Rattle.mmu_core.specs.invariant.TopicsInvariant.{TopicsInvariant}
-use Rattle.mmu_core.specs.machine.View.{View, answer_in, part_stepped, put, upd, words_after}
-use Rattle.mmu_core.proofs.machine.Columns.{upd_other, upd_same}
-use Rattle.mmu_core.proofs.pages.OwnedBehind.{fill_by}
+use Rattle.mmu_core.specs.machine.View.{View, part_stepped, put, upd, words_after}
+use Rattle.mmu_core.proofs.machine.Columns.{upd_other}
+use Rattle.mmu_core.proofs.pages.Owned.{owned_some, some_filled}
 use Rattle.mmu_core.proofs.machine.PartStepping.{IsPart, is_publish}
 use Rattle.mmu_core.proofs.pages.PoolPages.{owned_not_slots, table_not_owned, table_not_slots, left_not_slots}
 
@@ -52,10 +51,6 @@ apart _ is = record { lock = refl; state = refl; map = refl; role = refl; slots 
 put_elsewhere : (words : Area → ℕ → ℕ) (stored b : Area) (i x : ℕ) → (number_of b == number_of stored) ≡ false → put words stored i x b ≡ words b
 put_elsewhere words stored b i x is = ap (λ (t : Bool). if t then upd (words b) i x else words b) is
 
-fill_elsewhere_by : (role : Bool) (page filled value note : ℕ) (words : Area → ℕ → ℕ) (b : Area) → IsApart b → words_after (fill_by role page filled value note) words b ≡ words b
-fill_elsewhere_by true page filled value note words b A = put_elsewhere words area.Role b page value A.role
-fill_elsewhere_by false page filled value note words b A = put_elsewhere words area.Pool b (pool_index page filled) value A.pool
-
 words_stay : (step : PartStep) (own : ℕ) (t : Topics) (note : ℕ) (words : Area → ℕ → ℕ) (b : Area) → IsApart b → words_after (part_task step own t note) words b ≡ words b
 words_stay part.Enter own t note words b A = put_elsewhere words area.State b own _ A.state
 words_stay part.Leave own t note words b A = put_elsewhere words area.State b own _ A.state
@@ -72,7 +67,8 @@ words_stay part.Publish own t note words b A = put_elsewhere words area.Slots b 
 words_stay part.Clear own t note words b A = put_elsewhere words area.Role b _ _ A.role
 words_stay (part.Link gfn) own t note words b A = put_elsewhere words area.Pool b _ _ A.pool
 words_stay (part.Leaf gfn) own t note words b A = put_elsewhere words area.Pool b _ _ A.pool
-words_stay (part.Fill value) own t note words b A = fill_elsewhere_by (words_filled t.owned == 512) (page_owned t.owned) (words_filled t.owned) value note words b A
+words_stay (part.Fill value) own t note words b A = put_elsewhere words area.Pool b _ _ A.pool
+words_stay (part.Role value) own t note words b A = put_elsewhere words area.Role b _ _ A.role
 words_stay _ own t note words b A = refl
 
 -- Whole areas stay: those of the machine's control but the lock and the published slot set, host words, content, the frame map and the log.
@@ -86,11 +82,6 @@ slots_behind _ t slots = slots
 
 slots_after : (step : PartStep) (own : ℕ) (t : Topics) (note : ℕ) (words : Area → ℕ → ℕ) → words_after (part_task step own t note) words area.Slots 0 ≡ slots_behind step t (words area.Slots 0)
 slots_after part.Publish own t note words = refl
-slots_after (part.Fill value) own t note words = by (words_filled t.owned == 512)
-  where
-    by : (role : Bool) → words_after (fill_by role (page_owned t.owned) (words_filled t.owned) value note) words area.Slots 0 ≡ words area.Slots 0
-    by true = refl
-    by false = refl
 slots_after _ own t note words = refl
 
 pub slots_same : (step : PartStep) (t : Topics) (slots : ℕ) → is_publish step ≡ false → slots_behind step t slots ≡ slots
@@ -100,49 +91,30 @@ slots_same _ t slots never = refl
 pub slots_are : (v : View) (a : ℕ) (step : PartStep) (note : ℕ) → (part_stepped a step note v).words area.Slots 0 ≡ slots_behind step (v.hand a).topics (v.words area.Slots 0)
 slots_are v a step note = slots_after step (own_index (v.hand a)) (v.hand a).topics note v.words
 
--- ---- a fill, of a word or of the role
-
-pub is_word : (filled : ℕ) → filled < 513 → (filled == 512) ≡ false → filled < 512
-is_word filled lt is = grind (arith, nat_tests)
-
-pub no_role : (filled : ℕ) → filled < 512 → (filled == 512) ≡ false
-no_role filled lt = grind (arith, nat_tests)
-
--- It leaves every other word of the pool.
-pub fill_leaves : (role : Bool) (page filled value note : ℕ) (words : Area → ℕ → ℕ) (k j : ℕ) → (role ≡ false → filled < 512) → j < 512 → (page ≡ k → filled ≡ j → ⊥) → words_after (fill_by role page filled value note) words area.Pool (pool_index k j) ≡ words area.Pool (pool_index k j)
-fill_leaves true page filled value note words k j low in_page differs = refl
-fill_leaves false page filled value note words k j low in_page differs =
-    upd_other (words area.Pool) (pool_index page filled) (pool_index k j) value (λ e. let s = same_pool_word k page j filled in_page (low refl) e in differs (sym s.0) (sym s.1))
-
-pub fill_stores : (role : Bool) (page filled value note : ℕ) (words : Area → ℕ → ℕ) → role ≡ false → words_after (fill_by role page filled value note) words area.Pool (pool_index page filled) ≡ value
-fill_stores true page filled value note words is = absurd (cc is)
-fill_stores false page filled value note words is = upd_same (words area.Pool) (pool_index page filled) value
-
-pub fill_answers : (role : Bool) (page filled value note : ℕ) (words : Area → ℕ → ℕ) → answer_in (fill_by role page filled value note) words ≡ value
-fill_answers true page filled value note words = refl
-fill_answers false page filled value note words = refl
-
-pub fill_map : (role : Bool) (page filled value note : ℕ) (words : Area → ℕ → ℕ) → words_after (fill_by role page filled value note) words area.PoolMap ≡ words area.PoolMap
-fill_map true page filled value note words = refl
-fill_map false page filled value note words = refl
-
--- The role is stored where the words are filled, and else stays; that of each other page stays.
-pub role_stored : (role : Bool) (page filled value note : ℕ) (words : Area → ℕ → ℕ) → role ≡ true → words_after (fill_by role page filled value note) words area.Role page ≡ value
-role_stored true page filled value note words is = upd_same (words area.Role) page value
-role_stored false page filled value note words is = absurd (cc is)
-
-role_leaves : (role : Bool) (page filled value note : ℕ) (words : Area → ℕ → ℕ) (k : ℕ) → page ≢ k → words_after (fill_by role page filled value note) words area.Role k ≡ words area.Role k
-role_leaves true page filled value note words k apart = upd_other (words area.Role) page k value (λ e. apart (sym e))
-role_leaves false page filled value note words k apart = refl
+-- ---- a page that the step doesn't store in
 
 -- The step stores in no word of the page: in none of the page that the actor owns, where it fills that, and in none of the table that
--- its walk has come to, where it exchanges an entry; and it isn't the page whose role is taken.
+-- its walk has come to, where it exchanges an entry.
 abbrev pub IsElsewhere : PartStep → Topics → ℕ → Type 0
 IsElsewhere (part.Fill value) t k = (o : OwnedPage) → t.owned ≡ Some o → o.page ≢ k
 IsElsewhere (part.Link gfn) t k = table_page t.walk ≢ k
 IsElsewhere (part.Leaf gfn) t k = table_page t.walk ≢ k
-IsElsewhere part.Clear t k = page_left t.leaving ≢ k
 IsElsewhere _ t k = Unit {0}
+
+-- Nor in its role: it isn't the page whose role is stored, or taken.
+abbrev pub HasOtherRole : PartStep → Topics → ℕ → Type 0
+HasOtherRole (part.Role value) t k = (o : OwnedPage) → t.owned ≡ Some o → o.page ≢ k
+HasOtherRole part.Clear t k = page_left t.leaving ≢ k
+HasOtherRole _ t k = Unit {0}
+
+-- the page that is owned is another one
+owned_elsewhere : (t : Topics) → is_some t.owned ≡ true → (k : ℕ) → ((o : OwnedPage) → t.owned ≡ Some o → o.page ≢ k) → page_owned t.owned ≢ k
+owned_elsewhere t some k each e = let o = owned_some t some in each o.0 o.1 (sym (ap page_owned o.1) ∙ e)
+
+-- A fill leaves each other word of the pool.
+pub fill_leaves : (page filled value : ℕ) (pool : ℕ → ℕ) (k j : ℕ) → filled < 512 → j < 512 → (page ≡ k → filled ≡ j → ⊥) → upd pool (pool_index page filled) value (pool_index k j) ≡ pool (pool_index k j)
+fill_leaves page filled value pool k j low in_page differs =
+    upd_other pool (pool_index page filled) (pool_index k j) value (λ e. let s = same_pool_word k page j filled in_page low e in differs (sym s.0) (sym s.1))
 
 -- An exchange of an entry leaves each other page.
 pub entry_leaves : (gfn new_ note : ℕ) (walk : TableWalk) (words : Area → ℕ → ℕ) (k j : ℕ) → j < 512 → table_page walk ≢ k → words_after (entry_task gfn new_ walk note) words area.Pool (pool_index k j) ≡ words area.Pool (pool_index k j)
@@ -153,21 +125,15 @@ pub page_stays : (z : Sizes) (v : View) (a : ℕ) (step : PartStep) (note : ℕ)
     → (part_stepped a step note v).words area.Pool (pool_index k j) ≡ v.words area.Pool (pool_index k j)
 page_stays z v a (part.Fill value) note S k differs j low =
     let t : Topics = (v.hand a).topics in
-    let to_fill : HasToFill t = S.needs.0 in
-    let page : page_owned t.owned ≡ to_fill.owned.page = ap page_owned to_fill.is in
-    let filled : words_filled t.owned ≡ to_fill.owned.filled = ap words_filled to_fill.is in
-    fill_leaves (words_filled t.owned == 512) (page_owned t.owned) (words_filled t.owned) value note v.words k j (λ is. is_word (words_filled t.owned) (omega (arith, filled, to_fill.left)) is) low
-    (λ e d. differs to_fill.owned to_fill.is (sym page ∙ e))
+    fill_leaves (page_owned t.owned) (words_filled t.owned) value (v.words area.Pool) k j S.needs.0.1 low (λ e d. owned_elsewhere t S.needs.0.0 k differs e)
 page_stays z v a (part.Link gfn) note S k differs j low = entry_leaves gfn (link_written (v.hand a).topics) note (v.hand a).topics.walk v.words k j low differs
 page_stays z v a (part.Leaf gfn) note S k differs j low = entry_leaves gfn (leaf_written (v.hand a).topics) note (v.hand a).topics.walk v.words k j low differs
 page_stays z v a _ note S k differs j low = refl
 
-pub role_stays : (z : Sizes) (v : View) (a : ℕ) (step : PartStep) (note : ℕ) → IsPart z v a step → (k : ℕ) → IsElsewhere step (v.hand a).topics k → (part_stepped a step note v).words area.Role k ≡ v.words area.Role k
-role_stays z v a (part.Fill value) note S k differs =
+pub role_stays : (z : Sizes) (v : View) (a : ℕ) (step : PartStep) (note : ℕ) → IsPart z v a step → (k : ℕ) → HasOtherRole step (v.hand a).topics k → (part_stepped a step note v).words area.Role k ≡ v.words area.Role k
+role_stays z v a (part.Role value) note S k differs =
     let t : Topics = (v.hand a).topics in
-    let to_fill : HasToFill t = S.needs.0 in
-    let page : page_owned t.owned ≡ to_fill.owned.page = ap page_owned to_fill.is in
-    role_leaves (words_filled t.owned == 512) (page_owned t.owned) (words_filled t.owned) value note v.words k (λ e. differs to_fill.owned to_fill.is (sym page ∙ e))
+    upd_other (v.words area.Role) (page_owned t.owned) k value (λ e. owned_elsewhere t (some_filled t.owned 512 S.needs.0 (omega arith)) k differs (sym e))
 role_stays z v a part.Clear note S k differs = upd_other (v.words area.Role) (page_left (v.hand a).topics.leaving) k 0 (λ e. differs (sym e))
 role_stays z v a _ note S k differs = refl
 
@@ -194,9 +160,14 @@ pub slots_elsewhere : (z : Sizes) (v : View) (a : ℕ) (step : PartStep) → IsP
 slots_elsewhere z v a (part.Fill value) S I = λ o is. owned_not_slots I.uses a o S.there is
 slots_elsewhere z v a (part.Link gfn) S I = walks_elsewhere z v a S.there I S.needs.0.saw.over.there
 slots_elsewhere z v a (part.Leaf gfn) S I = walks_elsewhere z v a S.there I S.needs.0.saw.over.there
-slots_elsewhere z v a part.Clear S I = left_elsewhere (v.hand a).topics S.needs.leaves (v.words area.Slots 0)
-    (λ k is. left_not_slots I.uses a k S.there is)
 slots_elsewhere z v a _ S I = tt
+
+-- And its role.
+pub slots_other_role : (z : Sizes) (v : View) (a : ℕ) (step : PartStep) → IsPart z v a step → TopicsInvariant z v → HasOtherRole step (v.hand a).topics (v.words area.Slots 0)
+slots_other_role z v a (part.Role value) S I = λ o is. owned_not_slots I.uses a o S.there is
+slots_other_role z v a part.Clear S I = left_elsewhere (v.hand a).topics S.needs.leaves (v.words area.Slots 0)
+    (λ k is. left_not_slots I.uses a k S.there is)
+slots_other_role z v a _ S I = tt
 
 pub fill_elsewhere : (z : Sizes) (v : View) (a : ℕ) (step : PartStep) (note : ℕ) → IsPart z v a step → TopicsInvariant z v → (j : ℕ) → j < 512
     → (part_stepped a step note v).words area.Pool (pool_index (v.words area.Slots 0) j) ≡ v.words area.Pool (pool_index (v.words area.Slots 0) j)

@@ -7,7 +7,7 @@ use Rattle.core_views.specs.declared.place.FaultEnd.TheVariants.{Installed, Mmio
 use Rattle.core_views.specs.declared.place.FaultNext.{FaultNext}
 use Rattle.core_views.specs.declared.place.FaultNext.TheVariants.{Goes, Ends}
 use Rattle.core_views.specs.declared.place.FaultPlace.{FaultPlace}
-use Rattle.core_views.specs.declared.place.FaultPlace.TheVariants.{Find, Share, Check, Claim, Fill, Link, Give, Leaf, Unshare, End}
+use Rattle.core_views.specs.declared.place.FaultPlace.TheVariants.{Find, Share, Check, Claim, Fill, Role, Link, Give, Leaf, Unshare, End}
 use Rattle.core_views.specs.declared.sizes.Sizes.{Sizes}
 use Rattle.core_views.specs.declared.topics.Hold.TheVariants.{Loose}
 use Rattle.core_views.specs.declared.topics.Topics.{Topics}
@@ -79,6 +79,7 @@ FaultAlone (Check stage.Start) root set map pool gfn write t = ⊥
 FaultAlone (Check stage.End) root set map pool gfn write t = ⊥
 FaultAlone (Claim begun) root set map pool gfn write t = EntryStands pool gfn t × SeenStands begun map t × (begun ≡ true → NoneFreeBefore map t.claim.at)
 FaultAlone Fill root set map pool gfn write t = EntryStands pool gfn t
+FaultAlone Role root set map pool gfn write t = EntryStands pool gfn t
 FaultAlone Link root set map pool gfn write t = EntryStands pool gfn t
 FaultAlone Leaf root set map pool gfn write t = EntryStands pool gfn t
 FaultAlone (Give e) root set map pool gfn write t = ⊥

@@ -5,7 +5,7 @@ use Rattle.core_views.specs.declared.place.AccessPlace.TheVariants.{Touch}
 use Rattle.core_views.specs.declared.place.Place.{Place}
 use Rattle.core_views.specs.declared.place.Place.TheVariants as place
 use Rattle.core_views.specs.declared.place.SetSlotPlace.{SetSlotPlace}
-use Rattle.core_views.specs.declared.place.SetSlotPlace.TheVariants.{Refuse, Claim, Fill, Exclude, Count, Close, Publish}
+use Rattle.core_views.specs.declared.place.SetSlotPlace.TheVariants.{Refuse, Claim, Fill, Role, Exclude, Count, Close, Publish}
 use Rattle.core_views.specs.declared.sizes.Sizes.{Sizes}
 use Rattle.core_views.specs.declared.trace.Command.{Command}
 use Rattle.core_views.specs.declared.trace.Command.TheVariants.{Access, SetSlot}
@@ -30,6 +30,7 @@ abbrev pub SetSlotHolds : Sizes → (ℕ → ℕ) → SetSlotPlace → ℕ → S
 SetSlotHolds z pool (Refuse refusal) id slot h = set_refusal z.pages id slot h.slots ≡ Some refusal
 SetSlotHolds z pool (Claim begun) id slot h = set_refusal z.pages id slot h.slots ≡ None
 SetSlotHolds z pool Fill id slot h = FillsSet z.pages pool id slot h
+SetSlotHolds z pool Role id slot h = FillsSet z.pages pool id slot h
 SetSlotHolds z pool Exclude id slot h = FillsSet z.pages pool id slot h
 SetSlotHolds z pool Count id slot h = FillsSet z.pages pool id slot h
 SetSlotHolds z pool Close id slot h = FillsSet z.pages pool id slot h

@@ -36,6 +36,7 @@ abbrev pub set_slot_left : SetSlotPlace → Sizes → Topics → ℕ
 set_slot_left (set_slot.Refuse refusal) z t = 1
 set_slot_left (set_slot.Claim begun) z t = 520 + actors_of z + claim_left begun z t.claim
 set_slot_left set_slot.Fill z t = 7 + actors_of z + (513 - words_filled t.owned)
+set_slot_left set_slot.Role z t = 8 + actors_of z
 set_slot_left set_slot.Close z t = 5 + actors_of z
 set_slot_left set_slot.Exclude z t = 7 + actors_of z
 set_slot_left set_slot.Count z t = 6 + actors_of z

@@ -9,13 +9,12 @@ use Rattle.core_views.specs.declared.place.FaultEnd.TheVariants.{Installed, Mmio
 use Rattle.core_views.specs.declared.place.FaultNext.{FaultNext}
 use Rattle.core_views.specs.declared.place.FaultNext.TheVariants.{Goes, Ends}
 use Rattle.core_views.specs.declared.place.FaultPlace.{FaultPlace}
-use Rattle.core_views.specs.declared.place.FaultPlace.TheVariants.{Begin, Snapshot, Find, Host, Share, Check, Walk, Claim, Fill, Link, Give, Leaf, Unshare, End}
+use Rattle.core_views.specs.declared.place.FaultPlace.TheVariants.{Begin, Snapshot, Find, Host, Share, Check, Walk, Claim, Fill, Role, Link, Give, Leaf, Unshare, End}
 use Rattle.core_views.specs.declared.sizes.Sizes.{Sizes}
 use Rattle.core_views.specs.declared.topics.Checked.TheVariants as checked
 use Rattle.core_views.specs.declared.topics.Hold.{Hold}
 use Rattle.core_views.specs.declared.topics.Hold.TheVariants.{Loose, Shared, Owing, Exclusive}
 use Rattle.core_views.specs.declared.topics.Invalidations.{Invalidations}
-use Rattle.core_views.specs.declared.topics.OwnedPage.{OwnedPage}
 use Rattle.core_views.specs.declared.topics.Stay.TheVariants.{Section}
 use Rattle.core_views.specs.declared.topics.TableWalk.{TableWalk}
 use Rattle.core_views.specs.declared.topics.Topics.{Topics}
@@ -24,7 +23,7 @@ use Rattle.spte_words.specs.Areas.{words_of_bits}
 use Rattle.spte_words.specs.Entries.{kind_of}
 use Rattle.spte_words.specs.HostWords.{host_allows_write}
 use Rattle.mmu_core.specs.lines.FaultSteps.{allows_access, entry_word}
-use Rattle.part_steps.specs.PartSteps.{FoundSlot, HoldsSet, IsAtRest, IsFresh, IsOver, LookedUp, OwnsPage, OwnsTable, SawEntry}
+use Rattle.part_steps.specs.PartSteps.{FoundSlot, HasRoleToSet, HasToFill, HoldsSet, IsAtRest, IsFresh, IsOver, LookedUp, OwnsPage, OwnsTable, SawEntry, is_absent}
 
 -- In a section, with no page; without the lock, or sharing it.
 pub record InSection (t : Topics) : Type 0 where
@@ -72,13 +71,6 @@ pub record SawNone (gfn : ℕ) (t : Topics) : Type 0 where
   pub saw : SawEntry gfn t.walk
   pub upper : 2 ≤ t.walk.level
   pub absent : kind_of t.walk.level t.walk.entry ≡ entry_kind.Absent
-
--- The page that is owned is being filled as a table.
-pub record Filling (t : Topics) : Type 0 where
-  pub owned : OwnedPage
-  pub is : t.owned ≡ Some owned
-  pub left : owned.filled < 513
-  pub absent : owned.absent ≡ true
 
 -- An entry of the lowest level that allows the access was seen, or put, at the guest frame.
 pub record HasEntry (gfn : ℕ) (write : Bool) (t : Topics) : Type 0 where
@@ -129,7 +121,8 @@ FaultKnows Share z gfn write t = InSection t × (is_trying t.hold ≡ true) × L
 FaultKnows (Check at) z gfn write t = Sharing gfn write t × (t.owned ≡ None) × CheckKnows at gfn t.invalidations
 FaultKnows (Walk rooted) z gfn write t = Entering gfn write t × (t.owned ≡ None) × (rooted ≡ true → IsOver gfn t.walk)
 FaultKnows (Claim begun) z gfn write t = Entering gfn write t × (t.owned ≡ None) × SawNone gfn t × (begun ≡ true → t.claim.at < words_of_bits z.pool)
-FaultKnows Fill z gfn write t = Entering gfn write t × SawNone gfn t × Filling t
+FaultKnows Fill z gfn write t = Entering gfn write t × SawNone gfn t × HasToFill t × (is_absent t.owned ≡ true)
+FaultKnows Role z gfn write t = Entering gfn write t × SawNone gfn t × HasRoleToSet t × (is_absent t.owned ≡ true)
 FaultKnows Link z gfn write t = Entering gfn write t × SawNone gfn t × OwnsTable (t.walk.level - 1) t
 FaultKnows Leaf z gfn write t = Entering gfn write t × (t.owned ≡ None) × SawEntry gfn t.walk × (t.walk.level ≡ 1)
 FaultKnows (Give e) z gfn write t = (t.stay ≡ Section) × (t.hold ≡ Shared) × OwnsPage t × EndKnows e z gfn write t

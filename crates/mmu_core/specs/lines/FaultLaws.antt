@@ -25,6 +25,7 @@ use Rattle.mmu_core.specs.machine.View.{answer_in}
 -- what a step of a part can answer: a fill what it stored, and every other step any word
 abbrev pub CanAnswer : PartStep → ℕ → Type 0
 CanAnswer (part.Fill value) v = v ≡ value
+CanAnswer (part.Role value) v = v ≡ value
 CanAnswer _ v = Unit {0}
 
 -- What a step of a part answers is what it can answer, whatever the words are.

@@ -10,7 +10,7 @@ use Rattle.core_views.specs.declared.place.FaultEnd.TheVariants.{Installed, Mmio
 use Rattle.core_views.specs.declared.place.FaultNext.{FaultNext}
 use Rattle.core_views.specs.declared.place.FaultNext.TheVariants.{Goes, Ends}
 use Rattle.core_views.specs.declared.place.FaultPlace.{FaultPlace}
-use Rattle.core_views.specs.declared.place.FaultPlace.TheVariants.{Begin, Snapshot, Find, Host, Share, Check, Walk, Claim, Fill, Link, Give, Leaf, Unshare, End}
+use Rattle.core_views.specs.declared.place.FaultPlace.TheVariants.{Begin, Snapshot, Find, Host, Share, Check, Walk, Claim, Fill, Role, Link, Give, Leaf, Unshare, End}
 use Rattle.core_views.specs.declared.place.SlotField.{SlotField}
 use Rattle.core_views.specs.declared.place.SlotField.TheVariants as field
 use Rattle.core_views.specs.declared.sizes.Sizes.{Sizes}
@@ -47,10 +47,6 @@ tries_page begun claim = begun && nat_lt 0 claim.seen
 abbrev pub claim_part : Bool → MapClaim → PartStep
 claim_part begun claim = if tries_page begun claim then part.Claim else part.Map (map_word begun claim)
 
--- what a table's page is filled with: 512 absent entries, and then its role, one level below the walk's table
-abbrev pub table_value : Topics → ℕ
-table_value t = if nat_lt (words_filled t.owned) 512 then 0 else t.walk.level - 1
-
 abbrev pub share_part : Hold → PartStep
 share_part (Owing word) = part.Unshare
 share_part _ = part.Share
@@ -61,7 +57,7 @@ check_part stage.Start = part.RangeStart
 check_part stage.End = part.RangeEnd
 check_part stage.Seq = part.Seq
 
--- the step of each place
+-- the step of each place; a table's page is filled with 512 absent entries, and its role is one level below the walk's table
 abbrev pub fault_part : FaultPlace → ℕ → Topics → PartStep
 fault_part Begin gfn t = part.Begin
 fault_part Snapshot gfn t = part.Seq
@@ -71,7 +67,8 @@ fault_part Share gfn t = share_part t.hold
 fault_part (Check at) gfn t = check_part at
 fault_part (Walk rooted) gfn t = if rooted then part.Walk gfn else part.Root
 fault_part (Claim begun) gfn t = claim_part begun t.claim
-fault_part Fill gfn t = part.Fill (table_value t)
+fault_part Fill gfn t = part.Fill 0
+fault_part Role gfn t = part.Role (t.walk.level - 1)
 fault_part Link gfn t = part.Link gfn
 fault_part (Give e) gfn t = part.Give
 fault_part Leaf gfn t = part.Leaf gfn
@@ -145,7 +142,8 @@ fault_next Share z gfn write t v = Goes (share_next t.hold v)
 fault_next (Check at) z gfn write t v = Goes (check_next at gfn t v)
 fault_next (Walk rooted) z gfn write t v = Goes (if rooted then walk_next (kind_of t.walk.level v) z gfn write t.walk v else Walk true)
 fault_next (Claim begun) z gfn write t v = Goes (claim_next (tries_page begun t.claim) z (at_map_word begun t.claim) v)
-fault_next Fill z gfn write t v = Goes (if nat_lt (words_filled t.owned) 512 then Fill else Link)
+fault_next Fill z gfn write t v = Goes (if nat_lt (words_filled t.owned + 1) 512 then Fill else Role)
+fault_next Role z gfn write t v = Goes Link
 fault_next Link z gfn write t v = Goes (if v == t.walk.entry then Walk true else Give (Retry (Entry (entry_word z gfn t.walk) t.walk.entry v)))
 fault_next (Give e) z gfn write t v = Goes (Unshare e)
 fault_next Leaf z gfn write t v = Goes (if v == t.walk.entry then Unshare Installed else Unshare (Retry (Entry (entry_word z gfn t.walk) t.walk.entry v)))
@@ -208,6 +206,7 @@ fault_left (Check at) z t = entering_left z + check_left at
 fault_left (Walk rooted) z t = if rooted then walk_left z t.walk.level else entering_left z
 fault_left (Claim begun) z t = walk_left z (t.walk.level - 1) + 514 + claim_left begun z t.claim
 fault_left Fill z t = walk_left z (t.walk.level - 1) + 1 + (513 - words_filled t.owned)
+fault_left Role z t = walk_left z (t.walk.level - 1) + 2
 fault_left Link z t = walk_left z (t.walk.level - 1) + 1
 fault_left (Give e) z t = 3
 fault_left Leaf z t = 3

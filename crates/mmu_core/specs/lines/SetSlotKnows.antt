@@ -1,7 +1,7 @@
 -- What a slot setting knows at each of its places, from what its actor holds alone.
 use Rattle.std.specs.Prelude.{◌≡◌, ◌<◌, true, None, is_some}
 use Rattle.core_views.specs.declared.place.SetSlotPlace.{SetSlotPlace}
-use Rattle.core_views.specs.declared.place.SetSlotPlace.TheVariants.{Refuse, Claim, Fill, Exclude, Count, Close, Publish, Release, Watch, Clear, Give}
+use Rattle.core_views.specs.declared.place.SetSlotPlace.TheVariants.{Refuse, Claim, Fill, Role, Exclude, Count, Close, Publish, Release, Watch, Clear, Give}
 use Rattle.core_views.specs.declared.topics.Hold.{Hold}
 use Rattle.core_views.specs.declared.topics.Hold.TheVariants.{Loose, Exclusive}
 use Rattle.core_views.specs.declared.topics.Stay.TheVariants.{Outside}
@@ -9,7 +9,7 @@ use Rattle.core_views.specs.declared.topics.Topics.{Topics}
 use Rattle.core_views.specs.Held.{Held}
 use Rattle.core_views.specs.Sizes.{actors_of}
 use Rattle.spte_words.specs.Areas.{words_of_bits}
-use Rattle.part_steps.specs.PartSteps.{HasToFill, IsAtRest, MayGiveOld, MayPublish, OwnsSet}
+use Rattle.part_steps.specs.PartSteps.{HasRoleToSet, HasToFill, IsAtRest, MayGiveOld, MayPublish, OwnsSet}
 use Rattle.mmu_core.specs.lines.PartWaits.{saw_open}
 use Rattle.mmu_core.specs.lines.SetSlotSteps.{looked_at}
 
@@ -30,6 +30,7 @@ abbrev pub SetSlotKnows : SetSlotPlace → Held → Type 0
 SetSlotKnows (Refuse refusal) h = IsAtRest h.topics
 SetSlotKnows (Claim begun) h = IsAtRest h.topics × (begun ≡ true → h.topics.claim.at < words_of_bits h.state.sizes.pool)
 SetSlotKnows Fill h = HoldsLock Loose h.topics × HasToFill h.topics
+SetSlotKnows Role h = HoldsLock Loose h.topics × HasRoleToSet h.topics
 SetSlotKnows Exclude h = HoldsLock Loose h.topics × OwnsSet h.topics
 SetSlotKnows Count h = HoldsLock Exclusive h.topics × OwnsSet h.topics
 SetSlotKnows Close h = HoldsLock Exclusive h.topics × OwnsSet h.topics × (saw_open h.topics.invalidations ≡ true)

@@ -8,7 +8,7 @@ use Rattle.core_views.specs.declared.event.EventKind.{EventKind}
 use Rattle.core_views.specs.declared.event.EventKind.TheVariants.{SlotChanged}
 use Rattle.core_views.specs.declared.hand.Seen.{Seen}
 use Rattle.core_views.specs.declared.place.SetSlotPlace.{SetSlotPlace}
-use Rattle.core_views.specs.declared.place.SetSlotPlace.TheVariants.{Refuse, Claim, Fill, Exclude, Count, Close, Publish, Release, Watch, Clear, Give}
+use Rattle.core_views.specs.declared.place.SetSlotPlace.TheVariants.{Refuse, Claim, Fill, Role, Exclude, Count, Close, Publish, Release, Watch, Clear, Give}
 use Rattle.core_views.specs.declared.place.Place.TheVariants.{SetSlot}
 use Rattle.core_views.specs.declared.sizes.Sizes.{Sizes}
 use Rattle.core_views.specs.declared.topics.MapClaim.{MapClaim}
@@ -28,7 +28,7 @@ use Rattle.part_steps.specs.declared.part_step.PartStep.TheVariants as part
 use Rattle.mmu_core.specs.lines.AccessSteps.{exiting}
 use Rattle.mmu_core.specs.lines.FaultSteps.{at_map_word, claim_part, map_word, tries_page}
 use Rattle.part_steps.specs.PartSteps.{next_watched, own_index, part_kind, part_task, words_filled}
-use Rattle.part_steps.specs.SetWords.{set_value}
+use Rattle.part_steps.specs.SetWords.{set_role, set_word}
 use Rattle.part_steps.specs.Tasks.{map_of}
 use Rattle.part_steps.specs.TopicSteps.{in_section, is_won}
 
@@ -45,7 +45,8 @@ looked_at h = next_watched (own_index h) h.topics.watched
 abbrev pub set_slot_part : SetSlotPlace → Held → ℕ → Slot → PartStep
 set_slot_part (Refuse refusal) h id slot = part.Seq
 set_slot_part (Claim begun) h id slot = claim_part begun h.topics.claim
-set_slot_part Fill h id slot = part.Fill (set_value (after_set id slot h.slots) (words_filled h.topics.owned))
+set_slot_part Fill h id slot = part.Fill (set_word (after_set id slot h.slots) (words_filled h.topics.owned))
+set_slot_part Role h id slot = part.Role set_role
 set_slot_part Exclude h id slot = part.Exclude
 set_slot_part Count h id slot = part.Count
 set_slot_part Close h id slot = part.Release
@@ -90,7 +91,8 @@ watch_next h v =
 abbrev pub set_slot_outcome : SetSlotPlace → Held → ℕ → Outcome
 set_slot_outcome (Refuse refusal) h v = Ends (Refused refusal)
 set_slot_outcome (Claim begun) h v = claim_outcome (tries_page begun h.topics.claim) h.state.sizes (at_map_word begun h.topics.claim) v
-set_slot_outcome Fill h v = Goes (SetSlot (if nat_lt (words_filled h.topics.owned) 512 then Fill else Exclude))
+set_slot_outcome Fill h v = Goes (SetSlot (if nat_lt (words_filled h.topics.owned + 1) 512 then Fill else Role))
+set_slot_outcome Role h v = Goes (SetSlot Exclude)
 set_slot_outcome Exclude h v = Goes (SetSlot (if v == 0 then Count else Exclude))
 set_slot_outcome Count h v = Goes (SetSlot (if v == 0 then Publish else Close))
 set_slot_outcome Close h v = Goes (SetSlot Exclude)

@@ -7,13 +7,12 @@ use Rattle.core_views.specs.declared.place.Cause.TheVariants.{Entry, Moved}
 use Rattle.core_views.specs.declared.place.CheckStage.TheVariants as stage
 use Rattle.core_views.specs.declared.place.FaultEnd.TheVariants.{Installed, HostFault, Starved, Retry}
 use Rattle.core_views.specs.declared.place.FaultPlace.{FaultPlace}
-use Rattle.core_views.specs.declared.place.FaultPlace.TheVariants.{Begin, Snapshot, Find, Host, Share, Check, Walk, Claim, Fill, Link, Give, Leaf, Unshare, End}
+use Rattle.core_views.specs.declared.place.FaultPlace.TheVariants.{Begin, Snapshot, Find, Host, Share, Check, Walk, Claim, Fill, Role, Link, Give, Leaf, Unshare, End}
 use Rattle.core_views.specs.declared.sizes.Sizes.{Sizes}
 use Rattle.core_views.specs.declared.topics.Hold.{Hold}
 use Rattle.core_views.specs.declared.topics.Hold.TheVariants.{Loose}
 use Rattle.core_views.specs.declared.topics.HostLook.{HostLook}
 use Rattle.core_views.specs.declared.topics.MapClaim.{MapClaim}
-use Rattle.core_views.specs.declared.topics.OwnedPage.{OwnedPage}
 use Rattle.core_views.specs.declared.topics.Topics.{Topics}
 use Rattle.core_views.specs.Held.{Held}
 use Rattle.spte_words.specs.declared.area.Area.{Area}
@@ -30,9 +29,9 @@ use Rattle.part_steps.specs.declared.part_step.PartStep.TheVariants as part
 use Rattle.mmu_core.specs.machine.Enabled.{mmu}
 use Rattle.mmu_core.specs.alone.FaultAlone.{EntryStands, FaultAlone, GoesThrough, LeadsTo, LeadsToLeaf, NoneFreeBefore, RunsAlone, SeenStands}
 use Rattle.mmu_core.specs.lines.FaultKnows.{Entering}
-use Rattle.mmu_core.specs.lines.FaultSteps.{allows_access, at_map_word, claim_next, entry_word, is_owing, map_word, share_next, share_part, snapshot_taken, table_value, tries_page, walk_next}
+use Rattle.mmu_core.specs.lines.FaultSteps.{allows_access, at_map_word, claim_next, entry_word, is_owing, map_word, share_next, share_part, snapshot_taken, tries_page, walk_next}
 use Rattle.mmu_core.specs.machine.Machine.{World, hand_in}
-use Rattle.part_steps.specs.PartSteps.{IsOver, LookedUp, SawEntry, entry_index, leaf_written, page_owned, part_task, table_page, word_looked, words_filled}
+use Rattle.part_steps.specs.PartSteps.{IsOver, LookedUp, SawEntry, entry_index, leaf_written, page_owned, part_task, table_page, word_looked, words_filled, HasToFill}
 use Rattle.part_steps.specs.PartTopics.{part_topics}
 use Rattle.part_steps.specs.SlotWords.{field_number, leaf_of, may_write, page_of}
 use Rattle.part_steps.specs.TopicSteps.{gone_down, has_writer, is_won, linked_page, may_search}
@@ -46,7 +45,8 @@ use Rattle.mmu_core.proofs.lines.FaultSame.{both}
 use Rattle.mmu_laws.proofs.alone.FindAlone.{find_goes}
 use Rattle.mmu_laws.proofs.leaves.LeadsDown.{leads_same}
 use Rattle.mmu_core.proofs.slots.LiveStays.{LiveStays}
-use Rattle.mmu_core.proofs.words.PartWords.{entry_leaves, fill_leaves, is_word, walks_elsewhere, walks_unowned}
+use Rattle.mmu_core.proofs.pages.Owned.{owned_some}
+use Rattle.mmu_core.proofs.words.PartWords.{entry_leaves, fill_leaves, walks_elsewhere, walks_unowned}
 use Rattle.mmu_core.proofs.words.SlotFields.{is_number}
 use Rattle.mmu_core.proofs.pages.TreeKept.{leaf_is}
 use Rattle.mmu_core.proofs.pages.TreeStored.{entry_stored}
@@ -146,7 +146,7 @@ module _ (root set : ℕ) (map pool : ℕ → ℕ) (gfn : ℕ) (write : Bool) wh
 
   -- ---- the stores
 
-  fill_alone : (few : Bool) (u : Topics) → EntryStands pool gfn u → FaultAlone (if few then Fill else Link) root set map pool gfn write u
+  fill_alone : (few : Bool) (u : Topics) → EntryStands pool gfn u → FaultAlone (if few then Fill else Role) root set map pool gfn write u
   fill_alone true u stands = stands
   fill_alone false u stands = stands
 
@@ -230,13 +230,11 @@ module _ (z : Sizes) (w : World Held) (a gfn note : ℕ) (write : Bool) (p : Fau
       (leads_same R.sound.topics.tree few gfn e 1 page (all_reached R.sound.topics.tree page _ (lowest_over over one)) (lowest_over over one)).above leads
 
   -- a fill leaves the entry
-  fill_leaves_entry : (value : ℕ) → 1 ≤ t.walk.level → (o : OwnedPage) → t.owned ≡ Some o → o.filled < 513
-      → words_after (part_task (part.Fill value) a t note) words area.Pool (pool_index page index) ≡ words area.Pool (pool_index page index)
-  fill_leaves_entry value from o is left =
-      let filled : words_filled t.owned ≡ o.filled = ap words_filled is in
-      let owned : page_owned t.owned ≡ o.page = ap page_owned is in
-      fill_leaves (words_filled t.owned == 512) (page_owned t.owned) (words_filled t.owned) value note words page index (λ e. is_word (words_filled t.owned) (omega (arith, filled, left)) e) (omega arith)
-      (λ e d. walks_unowned z (view z w) a R.there R.sound.topics from a o R.there is (sym owned ∙ e))
+  fill_leaves_entry : (value : ℕ) → 1 ≤ t.walk.level → HasToFill t → words_after (part_task (part.Fill value) a t note) words area.Pool (pool_index page index) ≡ words area.Pool (pool_index page index)
+  fill_leaves_entry value from F =
+      let o = owned_some t F.0 in
+      fill_leaves (page_owned t.owned) (words_filled t.owned) value (words area.Pool) page index F.1 (omega arith)
+      (λ e d. walks_unowned z (view z w) a R.there R.sound.topics from a o.0 R.there o.1 (sym (ap page_owned o.1) ∙ e))
 
   -- behind the leaf's exchange
   abbrev leafed : ℕ → ℕ
@@ -331,15 +329,16 @@ goes_through z w a gfn note write (Claim begun) R =
     }
 goes_through z w a gfn note write Fill R =
     let t : Topics = (hand_in mmu w a).topics in
-    let step : PartStep = part.Fill (table_value t) in
+    let step : PartStep = part.Fill 0 in
     let task : Task = part_task step a t note in
     let behind : Area → ℕ → ℕ = words_after task (word_in z w) in
     record {
       goes = refl;
       next =
-          fill_alone (behind area.Root 0) (behind area.Slots 0) (behind area.PoolMap) (behind area.Pool) gfn write (nat_lt (words_filled t.owned) 512) (part_topics step t (answer_in task (word_in z w)))
-          (fill_leaves_entry z w a gfn note write Fill R (table_value t) R.knows.1.saw.over.there R.knows.2.owned R.knows.2.is R.knows.2.left ∙ R.alone);
+          fill_alone (behind area.Root 0) (behind area.Slots 0) (behind area.PoolMap) (behind area.Pool) gfn write (nat_lt (words_filled t.owned + 1) 512) (part_topics step t (answer_in task (word_in z w)))
+          (fill_leaves_entry z w a gfn note write Fill R 0 R.knows.1.saw.over.there R.knows.2 ∙ R.alone);
     }
+goes_through z w a gfn note write Role R = record { goes = refl; next = R.alone }
 goes_through z w a gfn note write Link R =
     let t : Topics = (hand_in mmu w a).topics in
     let v : ℕ = word_in z w area.Pool (pool_index (table_page t.walk) (entry_index gfn t.walk.level)) in

@@ -6,7 +6,7 @@ use Rattle.std.proofs.lemmas.Bool.Decides.{nat_tests}
 use Rattle.core_views.specs.declared.answer.Answer.TheVariants.{Starved}
 use Rattle.core_views.specs.declared.place.Place.TheVariants as place
 use Rattle.core_views.specs.declared.place.SetSlotPlace.{SetSlotPlace}
-use Rattle.core_views.specs.declared.place.SetSlotPlace.TheVariants.{Refuse, Claim, Fill, Exclude, Count, Close, Publish, Watch, Clear, Give}
+use Rattle.core_views.specs.declared.place.SetSlotPlace.TheVariants.{Refuse, Claim, Fill, Role, Exclude, Count, Close, Publish, Watch, Clear, Give}
 use Rattle.core_views.specs.declared.sizes.Sizes.{Sizes}
 use Rattle.core_views.specs.declared.topics.Topics.{Topics}
 use Rattle.core_views.specs.declared.trace.Command.TheVariants.{SetSlot}
@@ -35,6 +35,7 @@ use Rattle.mmu_core.proofs.invariant.AloneLaws.{lock_free, outside_word}
 use Rattle.mmu_laws.proofs.alone.FaultAlone.{before_word, claim_goes, past_word, seen_stands, tries_seen}
 use Rattle.mmu_core.proofs.lines.FaultFalls.{seen_falls}
 use Rattle.mmu_laws.proofs.alone.GoesAlone.{GoesAlone, GoesOnAlone}
+use Rattle.mmu_core.proofs.pages.Owned.{more_filled}
 
 is_zero : (v : ℕ) → v ≡ 0 → (v == 0) ≡ true
 is_zero v e = grind (arith, nat_tests)
@@ -68,12 +69,9 @@ module _ (id : ℕ) (slot : Slot) (y : Sizes) (words : Area → ℕ → ℕ) whe
   tried_goes false t page v is = absurd (cc is)
 
   -- one more word of the page is filled
-  fill_goes : (t : Topics) (v : ℕ) → HasToFill t → Comes (if nat_lt (words_filled t.owned) 512 then Fill else Exclude) (record t { owned = filled_more t.owned v }) (7 + actors_of y + (513 - words_filled t.owned))
-  fill_goes t v F =
-      let filled : words_filled t.owned ≡ F.owned.filled = ap words_filled F.is in
-      let more : words_filled (filled_more t.owned v) ≡ F.owned.filled + 1 = ap (λ o. words_filled (filled_more o v)) F.is in
-      either (nat_lt (words_filled t.owned) 512) Fill Exclude (record t { owned = filled_more t.owned v }) (7 + actors_of y + (513 - words_filled t.owned))
-      (λ e. (tt, tt, omega (arith, filled, more, F.left))) (λ e. (tt, tt, omega (arith, filled, F.left)))
+  fill_goes : (more : Bool) (t : Topics) (v : ℕ) → HasToFill t → Comes (if more then Fill else Role) (record t { owned = filled_more t.owned v }) (7 + actors_of y + (513 - words_filled t.owned))
+  fill_goes true t v F = (tt, tt, omega (arith, F.1, more_filled t.owned v F.0))
+  fill_goes false t v F = (tt, tt, omega (arith, F.1))
 
 module _ (z : Sizes) (w : World Held) (a : ℕ) (sound : IsSound z w) (others : OthersRest a w) (there : a < actors_of z) (own : own_index (hand_in mmu w a) ≡ a) (sizes : (hand_in mmu w a).state.sizes ≡ z) (id : ℕ) (slot : Slot) where
   abbrev h : Held
@@ -171,7 +169,7 @@ module _ (z : Sizes) (w : World Held) (a : ℕ) (sound : IsSound z w) (others : 
   pub setting_through : (p : SetSlotPlace) → SetSlotKnows p h → SetSlotAlone p (words area.PoolMap) h.topics → PartNeeds (set_slot_part p h id slot) h → Through p
   setting_through (Refuse refusal) K alone N = record { goes = refl; next = λ e. absurd (cc e) }
   setting_through (Claim begun) K alone N = claim_through begun alone N
-  setting_through Fill K alone N = record { goes = refl; next = fill_goes id slot h.state.sizes (words_after (set_slot_task Fill h id slot) words) h.topics (found Fill) K.1 }
+  setting_through Fill K alone N = record { goes = refl; next = fill_goes id slot h.state.sizes (words_after (set_slot_task Fill h id slot) words) (nat_lt (words_filled h.topics.owned + 1) 512) h.topics (found Fill) K.1 }
   setting_through Exclude K alone N = exclude_through K
   setting_through Count K alone N = count_through
   setting_through Close K alone N = absurd alone

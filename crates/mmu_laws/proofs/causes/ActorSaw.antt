@@ -4,18 +4,17 @@ use Rattle.std.proofs.Common.{◌≡◌, ◌≢◌, ◌⊎◌, inl, inr, ◌<◌
 use Rattle.std.specs.Prelude.{Bool, true, false, ◌==◌, not, if◌then◌else◌}
 use Rattle.std.proofs.lemmas.Bool.Decides.{nat_tests}
 use Rattle.core_views.specs.declared.kind.Kind.{Kind}
-use Rattle.core_views.specs.declared.kind.StepKind.TheVariants as kind
 use Rattle.core_views.specs.declared.sizes.Sizes.{Sizes}
 use Rattle.core_views.specs.declared.topics.Hold.TheVariants.{Loose, Shared, Owing, Exclusive}
 use Rattle.core_views.specs.declared.topics.Topics.{Topics}
 use Rattle.core_views.specs.Held.{Held}
 use Rattle.spte_words.specs.declared.area.Area.{Area}
 use Rattle.spte_words.specs.declared.area.Area.TheVariants as area
-use Rattle.spte_words.specs.Areas.{number_of, place, pool_index, size_of, words_of_bits}
+use Rattle.spte_words.specs.Areas.{number_of, place, size_of, words_of_bits}
 use Rattle.spte_words.proofs.Places.{areas_apart, place_at, places_apart}
 use Rattle.part_steps.specs.declared.part_step.PartStep.{PartStep}
 use Rattle.part_steps.specs.declared.part_step.PartStep.TheVariants as part
-use Rattle.part_steps.specs.PartSteps.{own_index, page_owned, part_task, words_filled, works}
+use Rattle.part_steps.specs.PartSteps.{own_index, part_task}
 use Rattle.part_steps.specs.PartTopics.{part_topics}
 use Rattle.part_steps.specs.Tasks.{map_of}
 use Rattle.part_steps.specs.TopicSteps.{has_writer, is_won, topics_after}
@@ -43,13 +42,6 @@ pub record ActorSaw (z : Sizes) (w : World Held) (actor : ℕ) (t : Topics) (ss 
   pub claim : 0 < t.claim.seen → Knows (IsOffWord actor (pool_word z t.claim.at)) actor (pool_word z t.claim.at) t.claim.seen w ss u
   pub alone : 0 < t.claim.seen → t.claim.at < words_of_bits z.pool
 
--- A fill stores in the pool or in the roles, so in neither lock, count nor map.
-fill_apart : (t : Topics) (own note value : ℕ) (b : Area) → (area.Role ≡ b → ⊥) → (area.Pool ≡ b → ⊥) → (part_task (part.Fill value) own t note).area ≡ b → ⊥
-fill_apart t own note value b role pool at = by (words_filled t.owned == 512) at
-  where
-    by : (full : Bool) → (if full then works kind.Fill area.Role (page_owned t.owned) value note else works kind.Fill area.Pool (pool_index (page_owned t.owned) (words_filled t.owned)) value note).area ≡ b → ⊥
-    by true e = role e
-    by false e = pool e
 
 module _ (z : Sizes) (w : World Held) (ss : List (Step Kind)) (s : Step Kind) (G : IsSound z (run mmu w ss)) (may : May mmu (run mmu w ss) s) where
   abbrev a : ℕ
@@ -122,7 +114,6 @@ module _ (z : Sizes) (w : World Held) (ss : List (Step Kind)) (s : Step Kind) (G
   owing_saw part.Exclude M S word is = excluded_saw (v == 0) M.needs word is
   owing_saw part.Unshare M S word is = absurd (cc is)
   owing_saw part.Release M S word is = absurd (cc is)
-  owing_saw (part.Fill value) M S word is = lock_longer (part.Fill value) M (fill_apart t (own_index h) M.note value area.Lock (λ e. cc e) (λ e. cc e)) S word is
   owing_saw step M S word is = lock_longer step M (λ e. cc e) S word is
 
   counted_saw : (step : PartStep) → Made step → SeesHere t → saw_open (part_topics step t v).invalidations ≡ true → FoundCount z a (part_topics step t v).invalidations.count w Behind
@@ -139,7 +130,6 @@ module _ (z : Sizes) (w : World Held) (ss : List (Step Kind)) (s : Step Kind) (G
   counted_saw part.Unshare M S is = absurd (cc is)
   counted_saw part.Exclude M S is = absurd (cc is)
   counted_saw part.Release M S is = absurd (cc is)
-  counted_saw (part.Fill value) M S is = count_longer (part.Fill value) M (fill_apart t (own_index h) M.note value area.Count (λ e. cc e) (λ e. cc e)) S is
   counted_saw step M S is = count_longer step M (λ e. cc e) S is
 
   claim_saw : (step : PartStep) → Made step → SeesHere t → 0 < (part_topics step t v).claim.seen → ClaimSaw (part_topics step t v).claim.at (part_topics step t v).claim.seen
@@ -147,7 +137,6 @@ module _ (z : Sizes) (w : World Held) (ss : List (Step Kind)) (s : Step Kind) (G
   claim_saw part.Claim M S some = tried_saw z w ss s G may (is_won t.claim v) refl M some
   claim_saw part.Give M S some = absurd (omega (arith, some))
   claim_saw part.GiveOld M S some = absurd (omega (arith, some))
-  claim_saw (part.Fill value) M S some = claim_longer (part.Fill value) M (fill_apart t (own_index h) M.note value area.PoolMap (λ e. cc e) (λ e. cc e)) S some
   claim_saw step M S some = claim_longer step M (λ e. cc e) S some
 
   mapped_low : (none : Bool) (word : ℕ) → (v == 0) ≡ none → word < words_of_bits z.pool → 0 < v → word + (if none then 1 else 0) < words_of_bits z.pool

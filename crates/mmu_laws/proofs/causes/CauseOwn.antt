@@ -1,21 +1,19 @@
 -- What a fault has seen at each of its places it has seen behind its own step.
-use Rattle.std.proofs.Common.{◌≡◌, ◌≢◌, inl, inr, ◌<◌, ◌≤◌, ℕ, List, [], ◌∷◌, ◌++◌, refl, sym, subst, ap, ◌∙◌, arith}
-use Rattle.std.specs.Prelude.{Bool, true, false, ◌==◌, ◌&&◌, nat_le, nat_lt, not, if◌then◌else◌, Some, slice_index}
+use Rattle.std.proofs.Common.{◌≡◌, ◌≢◌, inl, inr, ◌<◌, ◌≤◌, ℕ, List, [], ◌∷◌, ◌++◌, refl, sym, subst, ap, ◌∙◌, arith, ◌+◌}
+use Rattle.std.specs.Prelude.{Bool, true, false, ◌==◌, ◌&&◌, nat_le, nat_lt, not, if◌then◌else◌, slice_index}
 use Rattle.std.proofs.lemmas.Bool.{eqb-false}
 use Rattle.std.proofs.lemmas.Bool.Decides.{nat_tests}
 use Rattle.core_views.specs.declared.kind.Kind.{Kind}
-use Rattle.core_views.specs.declared.kind.StepKind.TheVariants as kind
 use Rattle.core_views.specs.declared.place.Cause.TheVariants.{Open, Moved, Entry}
 use Rattle.core_views.specs.declared.place.CheckStage.{CheckStage}
 use Rattle.core_views.specs.declared.place.CheckStage.TheVariants as stage
 use Rattle.core_views.specs.declared.place.FaultEnd.TheVariants.{Installed, Mmio, HostFault, Starved, Retry}
 use Rattle.core_views.specs.declared.place.FaultPlace.{FaultPlace}
-use Rattle.core_views.specs.declared.place.FaultPlace.TheVariants.{Snapshot, Find, Host, Share, Check, Walk, Claim, Fill, Link, Give, Leaf, Unshare, End}
+use Rattle.core_views.specs.declared.place.FaultPlace.TheVariants.{Snapshot, Find, Host, Share, Check, Walk, Claim, Fill, Role, Link, Give, Leaf, Unshare, End}
 use Rattle.core_views.specs.declared.place.SlotField.{SlotField}
 use Rattle.core_views.specs.declared.sizes.Sizes.{Sizes}
 use Rattle.core_views.specs.declared.topics.Hold.{Hold}
 use Rattle.core_views.specs.declared.topics.Hold.TheVariants.{Loose, Owing}
-use Rattle.core_views.specs.declared.topics.OwnedPage.{OwnedPage}
 use Rattle.core_views.specs.declared.topics.SlotSearch.{SlotSearch}
 use Rattle.core_views.specs.declared.topics.Topics.{Topics}
 use Rattle.core_views.specs.Held.{Held}
@@ -39,7 +37,7 @@ use Rattle.mmu_core.specs.lines.FaultSteps.{allows_access, at_map_word, check_ne
 use Rattle.mmu_core.specs.invariant.Laws.{IsSound}
 use Rattle.mmu_core.specs.machine.Machine.{May, Step, World, answered, effect, found, hand_in, run}
 use Rattle.part_steps.specs.PartBounds.{PartRests}
-use Rattle.part_steps.specs.PartSteps.{entry_index, page_owned, table_page, words_filled, works}
+use Rattle.part_steps.specs.PartSteps.{entry_index, page_owned, table_page, words_filled, HasToFill}
 use Rattle.part_steps.specs.PartTopics.{part_topics, sequenced}
 use Rattle.part_steps.specs.Tasks.{map_of}
 use Rattle.part_steps.specs.TopicSteps.{gone_down, has_writer, is_loose, is_won, linked_page, searched}
@@ -53,6 +51,7 @@ use Rattle.mmu_laws.proofs.causes.EachFault.{NextIs}
 use Rattle.mmu_core.proofs.lines.FaultSame.{over_it}
 use Rattle.mmu_laws.proofs.causes.MadeSteps.{Makes, exchange_finds, in_machine, load_finds, load_keeps, own_rests, own_sizes, stays_in, word_on}
 use Rattle.mmu_core.proofs.words.PartWords.{walks_unowned}
+use Rattle.mmu_core.proofs.pages.Owned.{owned_some}
 
 module _ (z : Sizes) (w : World Held) (ss : List (Step Kind)) (s : Step Kind) (G : IsSound z (run mmu w ss)) (may : May mmu (run mmu w ss) s) where
   abbrev a : ℕ
@@ -221,19 +220,11 @@ module _ (z : Sizes) (w : World Held) (ss : List (Step Kind)) (s : Step Kind) (G
       let K_ = entry_longer gfn (part.Map (map_word begun t.claim)) M from tt (inl tt) K in
       rw is (either (nat_lt _ (words_of_bits z.pool)) (Claim true) (Unshare Starved) gfn (part_topics (part.Map (map_word begun t.claim)) t v) K_ tt)
 
-  fill_spares : (gfn value note : ℕ) (o : OwnedPage) → t.owned ≡ Some o → o.filled < 513 → 1 ≤ t.walk.level → Spares area.Pool (entry_at gfn) h (part.Fill value) note
-  fill_spares gfn value note o is left from = inr (by (words_filled t.owned == 512) (λ e. grind (arith, nat_tests)))
-    where
-      filled : words_filled t.owned ≡ o.filled
-      filled = ap words_filled is
-
-      by : (b : Bool) → (b ≡ false → words_filled t.owned ≢ 512) → (if b then works kind.Fill area.Role (page_owned t.owned) value note else works kind.Fill area.Pool (pool_index (page_owned t.owned) (words_filled t.owned)) value note).area ≡ area.Pool
-          → (if b then works kind.Fill area.Role (page_owned t.owned) value note else works kind.Fill area.Pool (pool_index (page_owned t.owned) (words_filled t.owned)) value note).index ≢ entry_at gfn
-      by true other e = absurd (cc e)
-      by false other e = λ here.
-          let ne = other refl in
-          let P = same_pool_word (page_owned t.owned) (table_page t.walk) (words_filled t.owned) (entry_index gfn t.walk.level) (omega (arith, filled, left, ne)) (low gfn) here in
-          walks_unowned z (view z u) a there G.topics from a o there is (sym (ap page_owned is) ∙ P.0)
+  fill_spares : (gfn value note : ℕ) → HasToFill t → 1 ≤ t.walk.level → Spares area.Pool (entry_at gfn) h (part.Fill value) note
+  fill_spares gfn value note F from = inr (λ e here.
+      let o = owned_some t F.0 in
+      let P = same_pool_word (page_owned t.owned) (table_page t.walk) (words_filled t.owned) (entry_index gfn t.walk.level) F.1 (low gfn) here in
+      walks_unowned z (view z u) a there G.topics from a o.0 there o.1 (sym (ap page_owned o.1) ∙ P.0))
 
   -- A lost exchange saw that the entry was changed.
   swap_saw : (gfn : ℕ) (step : PartStep) (M : Made step) → IsAmid step → IsExchange step → s.kind.word ≡ entry_word z gfn t.walk → EntryIs gfn t.walk.entry ss u → (v == t.walk.entry) ≡ false
@@ -265,8 +256,9 @@ module _ (z : Sizes) (w : World Held) (ss : List (Step Kind)) (s : Step Kind) (G
   own_saw Fill gfn write M K S =
       let up = K.1.upper in
       let from : 1 ≤ t.walk.level = omega (arith, up) in
-      let K_ = entry_longer gfn (fault_part Fill gfn t) M from tt (fill_spares gfn _ M.note K.2.owned K.2.is K.2.left from) S in
-      either (nat_lt (words_filled t.owned) 512) Fill Link gfn _ K_ K_
+      let K_ = entry_longer gfn (fault_part Fill gfn t) M from tt (fill_spares gfn 0 M.note K.2 from) S in
+      either (nat_lt (words_filled t.owned + 1) 512) Fill Role gfn _ K_ K_
+  own_saw Role gfn write M K S = let up = K.1.upper in entry_longer gfn (fault_part Role gfn t) M (omega (arith, up)) tt (inr (λ e. absurd (cc e))) S
   own_saw Link gfn write M K S = link_saw gfn (v == t.walk.entry) _ refl M S
   own_saw (Give e) gfn write M K S = end_longer z a w ss s (stays_in z u s G may part.Give M tt) e gfn S
   own_saw Leaf gfn write M K S = put_saw gfn (v == t.walk.entry) _ refl M S

@@ -8,7 +8,7 @@ use Rattle.core_views.specs.declared.place.CheckStage.TheVariants as stage
 use Rattle.core_views.specs.declared.place.FaultEnd.{FaultEnd}
 use Rattle.core_views.specs.declared.place.FaultEnd.TheVariants.{Retry}
 use Rattle.core_views.specs.declared.place.FaultPlace.{FaultPlace}
-use Rattle.core_views.specs.declared.place.FaultPlace.TheVariants.{Begin, Snapshot, Find, Host, Share, Check, Walk, Claim, Fill, Link, Give, Leaf, Unshare, End}
+use Rattle.core_views.specs.declared.place.FaultPlace.TheVariants.{Begin, Snapshot, Find, Host, Share, Check, Walk, Claim, Fill, Role, Link, Give, Leaf, Unshare, End}
 use Rattle.core_views.specs.declared.sizes.Sizes.{Sizes}
 use Rattle.core_views.specs.declared.topics.Invalidations.{Invalidations}
 use Rattle.core_views.specs.declared.topics.TableWalk.{TableWalk}
@@ -57,6 +57,7 @@ module _ (z : Sizes) (actor : ℕ) (w : World Held) where
   FaultSaw (Check at) gfn t ss u = KnowsSeq t.invalidations ss u × CheckSaw at t.invalidations ss
   FaultSaw (Claim begun) gfn t ss u = KnowsEntry gfn t.walk ss u
   FaultSaw Fill gfn t ss u = KnowsEntry gfn t.walk ss u
+  FaultSaw Role gfn t ss u = KnowsEntry gfn t.walk ss u
   FaultSaw Link gfn t ss u = KnowsEntry gfn t.walk ss u
   FaultSaw Leaf gfn t ss u = KnowsEntry gfn t.walk ss u
   FaultSaw (Give e) gfn t ss u = EndSaw e gfn ss

@@ -1,21 +1,20 @@
 -- What the step of a part leaves of a word that its actor knows, and that it begins and ends no section.
 use Rattle.std.proofs.Common.{◌≡◌, ◌≢◌, ◌⊎◌, inl, inr, ◌<◌, ◌≤◌, ◌+◌, ◌*◌, ◌^◌, ℕ, refl, sym, subst, ap, ◌∙◌, arith}
-use Rattle.std.specs.Prelude.{Bool, true, false, ◌-◌, ◌==◌, if◌then◌else◌, Some}
+use Rattle.std.specs.Prelude.{◌-◌, Some}
 use Rattle.core_views.specs.declared.kind.StepKind.TheVariants as kind
 use Rattle.core_views.specs.declared.sizes.Sizes.{Sizes}
 use Rattle.core_views.specs.declared.topics.Topics.{Topics}
 use Rattle.core_views.specs.Held.{Held}
 use Rattle.core_views.specs.Kinds.{after, answer, code_of}
 use Rattle.spte_words.specs.declared.area.Area.{Area}
-use Rattle.spte_words.specs.declared.area.Area.TheVariants as area
 use Rattle.spte_words.specs.declared.spte_kind.SpteKind.TheVariants as entry_kind
-use Rattle.spte_words.specs.Areas.{place as place_of, pool_index, size_of}
+use Rattle.spte_words.specs.Areas.{place as place_of, size_of}
 use Rattle.spte_words.specs.Entries.{kind_of}
 use Rattle.spte_words.proofs.Places.{places_apart}
 use Rattle.spte_words.proofs.ReadsEntries.{kind_of_absent, kind_of_table}
 use Rattle.part_steps.specs.declared.part_step.PartStep.{PartStep}
 use Rattle.part_steps.specs.declared.part_step.PartStep.TheVariants as part
-use Rattle.part_steps.specs.PartSteps.{PartNeeds, fill_task, own_index, part_kind, part_task, works}
+use Rattle.part_steps.specs.PartSteps.{PartNeeds, own_index, part_kind, part_task}
 use Rattle.part_steps.specs.PartBounds.{PartRests}
 use Rattle.part_steps.specs.Tasks.{map_of}
 use Rattle.mmu_core.specs.invariant.TreePart.{EntryPart, Position, TreePart, Use, at, stands}
@@ -31,17 +30,9 @@ IsAmid _ = Unit {0}
 abbrev IsNoEdge : ℕ → Type 0
 IsNoEdge code = (code ≢ code_of kind.Begin) × (code ≢ code_of kind.End)
 
-fill_amid : (page filled value note : ℕ) → IsNoEdge (code_of (fill_task page filled value note).kind)
-fill_amid page filled value note = by (filled == 512)
-  where
-    by : (b : Bool) → IsNoEdge (code_of (if b then works kind.Fill area.Role page value note else works kind.Fill area.Pool (pool_index page filled) value note).kind)
-    by true = (λ e. absurd (omega (arith, e)), λ e. absurd (omega (arith, e)))
-    by false = (λ e. absurd (omega (arith, e)), λ e. absurd (omega (arith, e)))
-
 pub amid : (step : PartStep) (own : ℕ) (t : Topics) (note : ℕ) → IsAmid step → IsNoEdge (code_of (part_task step own t note).kind)
 amid part.Begin own t note is = absurd is
 amid part.End own t note is = absurd is
-amid (part.Fill value) own t note is = fill_amid _ _ value note
 amid _ own t note is = (λ e. absurd (omega (arith, e)), λ e. absurd (omega (arith, e)))
 
 -- The step loads its word: it leaves what it finds, and answers it.

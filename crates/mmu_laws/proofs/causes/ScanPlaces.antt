@@ -13,7 +13,7 @@ use Rattle.core_views.specs.declared.place.FaultEnd.TheVariants.{Installed, Mmio
 use Rattle.core_views.specs.declared.place.FaultNext.{FaultNext}
 use Rattle.core_views.specs.declared.place.FaultNext.TheVariants as next_of
 use Rattle.core_views.specs.declared.place.FaultPlace.{FaultPlace}
-use Rattle.core_views.specs.declared.place.FaultPlace.TheVariants.{Snapshot, Find, Host, Share, Check, Walk, Claim, Fill, Link, Give, Leaf, Unshare, End}
+use Rattle.core_views.specs.declared.place.FaultPlace.TheVariants.{Snapshot, Find, Host, Share, Check, Walk, Claim, Fill, Role, Link, Give, Leaf, Unshare, End}
 use Rattle.core_views.specs.declared.place.Leaving.TheVariants as leaving
 use Rattle.core_views.specs.declared.place.Place.{Place}
 use Rattle.core_views.specs.declared.place.Place.TheVariants as place
@@ -136,7 +136,7 @@ fault_claims (Check at) z gfn write t v e = not_by_check at gfn t v e
 fault_claims (Walk rooted) z gfn write t v e =
     neither rooted (walk_next (kind_of t.walk.level v) z gfn write t.walk v) (Walk true) (not_by_walk (kind_of t.walk.level v) z gfn write t.walk v) (λ x. x) e
 fault_claims (Claim begun) z gfn write t v e = tt
-fault_claims Fill z gfn write t v e = neither (nat_lt (words_filled t.owned) 512) Fill Link (λ x. x) (λ x. x) e
+fault_claims Fill z gfn write t v e = neither (nat_lt (words_filled t.owned + 1) 512) Fill Role (λ x. x) (λ x. x) e
 fault_claims Link z gfn write t v e = neither (v == t.walk.entry) (Walk true) (Give (Retry _)) (λ x. x) (λ x. x) e
 fault_claims Leaf z gfn write t v e = neither (v == t.walk.entry) (Unshare Installed) (Unshare (Retry _)) (λ x. x) (λ x. x) e
 fault_claims (End end) z gfn write t v e = absurd e
@@ -191,7 +191,7 @@ claim_begins false h id slot = inr (record { loads = refl; of_map = refl; first 
 
 setting_scans : (p : SetSlotPlace) (h : Held) (id : ℕ) (slot : Slot) (v : ℕ) → HasScan (place_after (set_slot_outcome p h v)) → HasScan (place.SetSlot p) ⊎ LoadsFirst (set_slot_task p h id slot)
 setting_scans (set_slot.Claim begun) h id slot v S = claim_begins begun h id slot
-setting_scans set_slot.Fill h id slot v S = absurd (either (nat_lt (words_filled h.topics.owned) 512) set_slot.Fill set_slot.Exclude (λ e. e) (λ e. e) S)
+setting_scans set_slot.Fill h id slot v S = absurd (either (nat_lt (words_filled h.topics.owned + 1) 512) set_slot.Fill set_slot.Role (λ e. e) (λ e. e) S)
 setting_scans set_slot.Exclude h id slot v S = absurd (either (v == 0) set_slot.Count set_slot.Exclude (λ e. e) (λ e. e) S)
 setting_scans set_slot.Count h id slot v S = absurd (either (v == 0) set_slot.Publish set_slot.Close (λ e. e) (λ e. e) S)
 setting_scans set_slot.Watch h id slot v S =

@@ -11,7 +11,7 @@ use Rattle.core_views.specs.declared.place.CheckStage.TheVariants as stage
 use Rattle.core_views.specs.declared.place.FaultEnd.{FaultEnd}
 use Rattle.core_views.specs.declared.place.FaultEnd.TheVariants.{Installed, Mmio, HostFault, Starved, Retry}
 use Rattle.core_views.specs.declared.place.FaultPlace.{FaultPlace}
-use Rattle.core_views.specs.declared.place.FaultPlace.TheVariants.{Begin, Snapshot, Find, Host, Share, Check, Walk, Claim, Fill, Link, Give, Leaf, Unshare, End}
+use Rattle.core_views.specs.declared.place.FaultPlace.TheVariants.{Begin, Snapshot, Find, Host, Share, Check, Walk, Claim, Fill, Role, Link, Give, Leaf, Unshare, End}
 use Rattle.core_views.specs.declared.place.AccessPlace.TheVariants.{Enter, Fault}
 use Rattle.core_views.specs.declared.place.Place.TheVariants as place
 use Rattle.core_views.specs.declared.sizes.Sizes.{Sizes}
@@ -245,8 +245,9 @@ module _ (z : Sizes) (v : View) (a : ℕ) (line : Line) (gfn word : ℕ) (op : O
       quiet (Claim begun) (claim_next (tries_page begun held.claim) (v.hand a).state.sizes (at_map_word begun held.claim) (answered (Claim begun))) part_ I P R
       (claim_noted (words_behind (Claim begun) area.Pool) gfn op (held_behind (Claim begun)) u.notes R.under.1.1 (tries_page begun held.claim) (v.hand a).state.sizes held begun (answered (Claim begun)))
   fault_goes Fill S part_ I P K R =
-      quiet Fill (if nat_lt (words_filled held.owned) 512 then Fill else Link) part_ I P R
-      (either (words_behind Fill area.Pool) gfn op (held_behind Fill) u.notes (nat_lt (words_filled held.owned) 512) Fill Link R.under.1.1 R.under.1.1)
+      quiet Fill (if nat_lt (words_filled held.owned + 1) 512 then Fill else Role) part_ I P R
+      (either (words_behind Fill area.Pool) gfn op (held_behind Fill) u.notes (nat_lt (words_filled held.owned + 1) 512) Fill Role R.under.1.1 R.under.1.1)
+  fault_goes Role S part_ I P K R = quiet Role Link part_ I P R R.under.1.1
   fault_goes Link S part_ I P K R =
       let x : ℕ = answered Link in
       let lost : FaultPlace = Give (Retry (Entry (entry_word (v.hand a).state.sizes gfn held.walk) held.walk.entry x)) in

@@ -6,7 +6,7 @@ use Rattle.core_views.specs.declared.answer.Answer.TheVariants.{Refused, Starved
 use Rattle.core_views.specs.declared.answer.Refusal.{Refusal}
 use Rattle.core_views.specs.declared.place.Place.TheVariants as place
 use Rattle.core_views.specs.declared.place.SetSlotPlace.{SetSlotPlace}
-use Rattle.core_views.specs.declared.place.SetSlotPlace.TheVariants.{Refuse, Claim, Fill, Exclude, Count, Close, Publish, Release, Watch, Clear, Give}
+use Rattle.core_views.specs.declared.place.SetSlotPlace.TheVariants.{Refuse, Claim, Fill, Role, Exclude, Count, Close, Publish, Release, Watch, Clear, Give}
 use Rattle.core_views.specs.declared.sizes.Sizes.{Sizes}
 use Rattle.core_views.specs.declared.topics.MapClaim.{MapClaim}
 use Rattle.core_views.specs.declared.topics.Topics.{Topics}
@@ -167,8 +167,9 @@ module _ (z : Sizes) (v : View) (a : ℕ) (line : Line) (id : ℕ) (slot : Slot)
       claim_goes begun (set_slot_outcome (Claim begun) (v.hand a) (answered (Claim begun))) (ap (λ (l : Line). l.command) R.under.0 ∙ S.command_is) (at_once z v a line id slot (Claim begun) facts u None S I R S.holds) part_ P R
       (claim_ends (tries_page begun (v.hand a).topics.claim) (v.hand a).state.sizes (at_map_word begun (v.hand a).topics.claim) (answered (Claim begun)))
   set_slot_goes Fill S I P part_ R =
-      let more : Bool = nat_lt (words_filled (v.hand a).topics.owned) 512 in
-      quiet Fill (if more then Fill else Exclude) refl part_ P R (either_goes Fill more Fill Exclude R.under R.under)
+      let more : Bool = nat_lt (words_filled (v.hand a).topics.owned + 1) 512 in
+      quiet Fill (if more then Fill else Role) refl part_ P R (either_goes Fill more Fill Role R.under R.under)
+  set_slot_goes Role S I P part_ R = quiet Role Exclude refl part_ P R R.under
   set_slot_goes Exclude S I P part_ R =
       let won : Bool = answered Exclude == 0 in
       quiet Exclude (if won then Count else Exclude) refl part_ P R (either_goes Exclude won Count Exclude R.under R.under)

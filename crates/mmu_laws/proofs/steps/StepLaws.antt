@@ -1,6 +1,6 @@
 -- Each step is on a word of its kind's area, its note tells whether its line ends with it, and it leaves at most one more translation.
 use Rattle.std.proofs.Common.{◌≡◌, inl, inr, ◌<◌, ℕ, refl, sym, subst, ap, ◌∙◌}
-use Rattle.std.specs.Prelude.{Bool, true, false, [], ◌==◌, if◌then◌else◌, Option, Some, None}
+use Rattle.std.specs.Prelude.{Bool, true, false, [], if◌then◌else◌, Option, Some, None}
 use Rattle.circular_buffer.specs.Buffer.{Buffer, buffer}
 use Rattle.core_views.specs.declared.cache.Translation.{Translation}
 use Rattle.core_views.specs.declared.kind.Kind.{Kind}
@@ -14,7 +14,7 @@ use Rattle.core_views.specs.declared.place.Leaving.TheVariants as leaving
 use Rattle.core_views.specs.declared.place.Place.{Place}
 use Rattle.core_views.specs.declared.place.Place.TheVariants as place
 use Rattle.core_views.specs.declared.place.SetSlotPlace.{SetSlotPlace}
-use Rattle.core_views.specs.declared.place.SetSlotPlace.TheVariants.{Claim, Fill}
+use Rattle.core_views.specs.declared.place.SetSlotPlace.TheVariants.{Claim}
 use Rattle.core_views.specs.declared.sizes.Sizes.{Sizes}
 use Rattle.core_views.specs.declared.topics.Topics.{Topics}
 use Rattle.core_views.specs.declared.trace.Command.{Command}
@@ -26,8 +26,7 @@ use Rattle.core_views.specs.Held.{Held}
 use Rattle.core_views.specs.Kinds.{kind_named}
 use Rattle.core_views.specs.Slots.{is_write}
 use Rattle.spte_words.specs.declared.area.Area.{Area}
-use Rattle.spte_words.specs.declared.area.Area.TheVariants as area
-use Rattle.spte_words.specs.Areas.{pool_index, size_of}
+use Rattle.spte_words.specs.Areas.{size_of}
 use Rattle.spte_words.specs.Entries.{kind_of}
 use Rattle.mmu_core.specs.declared.outcome.Outcome.{Outcome}
 use Rattle.part_steps.specs.declared.task.Task.{Task}
@@ -37,7 +36,7 @@ use Rattle.mmu_core.specs.lines.AccessSteps.{access_caches, access_note, access_
 use Rattle.mmu_core.specs.lines.Cached.{asks_flush, flushed, flushed_by, with_leaf}
 use Rattle.mmu_core.specs.machine.Enabled.{Enabled}
 use Rattle.mmu_core.specs.lines.FaultSteps.{allows_access, fault_next}
-use Rattle.part_steps.specs.PartSteps.{PartNeeds, own_index, page_owned, part_task, words_filled, works}
+use Rattle.part_steps.specs.PartSteps.{PartNeeds, own_index, part_task}
 use Rattle.mmu_core.specs.lines.SetSlotSteps.{set_slot_outcome, set_slot_part, set_slot_task}
 use Rattle.mmu_laws.specs.steps.StepLaws.{CachesOneAtMost, IsOn, IsOnItsArea, NoteTells}
 use Rattle.mmu_core.specs.machine.Steps.{caches_at, has_line, next, next_by, outcome_at, place_at, task_at, task_of}
@@ -56,12 +55,9 @@ record TellsPart (note : ℕ) (t : Task) : Type 0 where
   on : IsOn t.kind t.area
   note_is : t.may_end ≡ note
 
-tells_fill : (role : Bool) (page filled value note : ℕ) → TellsPart note (if role then works kind.Fill area.Role page value note else works kind.Fill area.Pool (pool_index page filled) value note)
-tells_fill true page filled value note = record { on = inr refl; note_is = refl }
-tells_fill false page filled value note = record { on = inl refl; note_is = refl }
-
 tells_part : (step : PartStep) (own : ℕ) (t : Topics) (note : ℕ) → TellsPart note (part_task step own t note)
-tells_part (part.Fill value) own t note = tells_fill (words_filled t.owned == 512) (page_owned t.owned) (words_filled t.owned) value note
+tells_part (part.Fill value) own t note = record { on = inl refl; note_is = refl }
+tells_part (part.Role value) own t note = record { on = inr refl; note_is = refl }
 tells_part part.Pause own t note = record { on = tt; note_is = refl }
 tells_part (part.Map word) own t note = record { on = tt; note_is = refl }
 tells_part part.Slots own t note = record { on = tt; note_is = refl }
@@ -103,7 +99,6 @@ tells_exactly p z t o v is other = record { tells = inl is; last = λ L. absurd 
 
 setting_tells : (p : SetSlotPlace) (h : Held) (id : ℕ) (slot : Slot) (v : ℕ) → PartNeeds (set_slot_part p h id slot) h → NoteTells (place.SetSlot p) h.state.sizes (kind_of_task h.state.sizes (set_slot_task p h id slot)) (set_slot_outcome p h v) v
 setting_tells (Claim begun) h id slot v N = claim_tells begun h id slot v N
-setting_tells Fill h id slot v N = tells_exactly (place.SetSlot Fill) h.state.sizes (set_slot_task Fill h id slot) (set_slot_outcome Fill h v) v (tells_part (set_slot_part Fill h id slot) (own_index h) h.topics 0).note_is (λ begun e. cc e)
 setting_tells p h id slot v N = record { tells = inl refl; last = λ L. absurd (cc L.place_is) }
 
 line_tells : (p : Place) (command : Command) (h : Held) (v : ℕ) → RestsAt p command h → NoteTells p h.state.sizes (kind_of_task h.state.sizes (task_at p command h)) (outcome_at p command h v) v

@@ -109,7 +109,7 @@ fault_sees (fault.Walk false) z own gfn note write t words not_ K = λ is. absur
 fault_sees (fault.Claim begun) z own gfn note write t words not_ K =
     let v : ℕ = answer_in (part_task (claim_part begun t.claim) own t note) words in
     λ is. absurd (claims_not (tries_page begun t.claim) z (at_map_word begun t.claim) v is)
-fault_sees fault.Fill z own gfn note write t words not_ K = λ is. absurd (neither (nat_lt (words_filled t.owned) 512) fault.Fill fault.Link refl refl is)
+fault_sees fault.Fill z own gfn note write t words not_ K = λ is. absurd (neither (nat_lt (words_filled t.owned + 1) 512) fault.Fill fault.Role refl refl is)
 fault_sees fault.Link z own gfn note write t words not_ K =
     let v : ℕ = words area.Pool (pool_index (table_page t.walk) (entry_index gfn t.walk.level)) in
     λ is. absurd (neither (v == t.walk.entry) (fault.Walk true) (fault.Give (end_of.Retry (Entry (entry_word z gfn t.walk) t.walk.entry v))) refl refl is)

@@ -42,8 +42,8 @@ use Rattle.mmu_core.proofs.pages.LeavesOver.{leaf_for}
 use Rattle.mmu_core.proofs.machine.Columns.{same_or, upd_other, upd_same}
 use Rattle.mmu_laws.proofs.leaves.LeadsDown.{below_stands}
 use Rattle.mmu_core.proofs.machine.PartStepping.{IsPart}
-use Rattle.mmu_core.proofs.words.PartWords.{areas_stay, left_elsewhere, page_stays}
-use Rattle.mmu_core.proofs.pages.PoolPages.{left_no_table, table_not_owned}
+use Rattle.mmu_core.proofs.words.PartWords.{areas_stay, page_stays}
+use Rattle.mmu_core.proofs.pages.PoolPages.{table_not_owned}
 use Rattle.mmu_laws.proofs.turns.Removal.{stands_or_broken}
 use Rattle.mmu_core.proofs.pages.Standing.{entry_now}
 use Rattle.mmu_core.proofs.machine.Stepping.{IsStep}
@@ -153,8 +153,6 @@ part_entries_stay z v a (part.Leaf gfn) note S J I k p is j low =
     exchange_stays (v.words area.Pool) (here z v a gfn J I) (leaf_written (v.hand a).topics) (entry_now gfn (v.hand a).topics v == (v.hand a).topics.walk.entry) (λ won. leaf_was z v a gfn J I S) (pool_index k j)
 part_entries_stay z v a (part.Fill value) note S J I k p is j low =
     inl (page_stays z v a (part.Fill value) note S k (λ o owns. table_not_owned I.uses I.spot k p is a o S.there owns) j low)
-part_entries_stay z v a part.Clear note S J I k p is j low =
-    inl (page_stays z v a part.Clear note S k (left_elsewhere (v.hand a).topics S.needs.leaves k (λ l left e. left_no_table I.uses I.spot a l p S.there left (ap (stands I.up I.spot) e ∙ is))) j low)
 part_entries_stay z v a step note S J I k p is j low = inl (page_stays z v a step note S k tt j low)
 
 part_links_stay : (z : Sizes) (v : View) (a : ℕ) (step : PartStep) (note : ℕ) → IsPart z v a step → Invariant z v → (I : TopicsInvariant z v) → LinksStay (stands I.up I.spot) v.words (part_stepped a step note v).words

@@ -1,12 +1,11 @@
 -- Each step of a slot setting that doesn't wait leaves it fewer steps, beside other actors too.
-use Rattle.std.proofs.Common.{◌≡◌, ◌+◌, ◌-◌, ◌<◌, ℕ, refl, sym, subst, arith}
-use Rattle.std.specs.Prelude.{Bool, true, false, ◌==◌, ◌&&◌, nat_lt, not, if◌then◌else◌, Option, Some, None}
+use Rattle.std.proofs.Common.{◌≡◌, ◌+◌, ◌-◌, ◌<◌, ℕ, refl, arith}
+use Rattle.std.specs.Prelude.{Bool, true, false, ◌==◌, ◌&&◌, nat_lt, not, if◌then◌else◌, Some, None}
 use Rattle.core_views.specs.declared.answer.Answer.TheVariants.{Starved}
 use Rattle.core_views.specs.declared.place.Place.TheVariants as place
 use Rattle.core_views.specs.declared.place.SetSlotPlace.{SetSlotPlace}
-use Rattle.core_views.specs.declared.place.SetSlotPlace.TheVariants.{Refuse, Claim, Fill, Exclude, Count, Close, Publish, Watch, Clear, Give}
+use Rattle.core_views.specs.declared.place.SetSlotPlace.TheVariants.{Refuse, Claim, Fill, Role, Exclude, Count, Close, Publish, Watch, Clear, Give}
 use Rattle.core_views.specs.declared.sizes.Sizes.{Sizes}
-use Rattle.core_views.specs.declared.topics.OwnedPage.{OwnedPage}
 use Rattle.core_views.specs.declared.topics.Topics.{Topics}
 use Rattle.core_views.specs.declared.trace.Slot.{Slot}
 use Rattle.core_views.specs.Held.{Held}
@@ -24,6 +23,7 @@ use Rattle.mmu_core.specs.lines.SetSlotKnows.{SetSlotKnows}
 use Rattle.mmu_core.specs.lines.SetSlotSteps.{claim_outcome, looked_at, set_slot_outcome, set_slot_part, set_slot_waits}
 use Rattle.part_steps.specs.TopicSteps.{filled_more, in_section, is_won}
 use Rattle.mmu_core.proofs.lines.FaultFalls.{seen_falls, word_there}
+use Rattle.mmu_core.proofs.pages.Owned.{more_filled}
 
 -- Where the line goes on it has fewer than n steps left.
 abbrev pub Nearer : Outcome → Sizes → Topics → ℕ → Type 0
@@ -64,14 +64,9 @@ claim_nearer true begun y t v goes low = tried_nearer (is_won t.claim v) y t _ v
 claim_nearer false begun y t v goes low = mapped_nearer (nat_lt (map_word begun t.claim + (if v == 0 then 1 else 0)) (words_of_bits y.pool)) y t (map_word begun t.claim) v low
 
 -- the page's words
-filled_nearer : (few : Bool) (y : Sizes) (t : Topics) (o : OwnedPage) (v : ℕ) → o.filled < 513 → At (if few then Fill else Exclude) y (record t { owned = filled_more (Some o) v }) (7 + actors_of y + (513 - o.filled))
-filled_nearer true y t o v left = omega (arith, left)
-filled_nearer false y t o v left = omega (arith, left)
-
-fill_nearer : (y : Sizes) (t : Topics) (v : ℕ) → HasToFill t → At (if nat_lt (words_filled t.owned) 512 then Fill else Exclude) y (record t { owned = filled_more t.owned v }) (7 + actors_of y + (513 - words_filled t.owned))
-fill_nearer y t v F =
-    subst (λ (x : Option OwnedPage). At (if nat_lt (words_filled x) 512 then Fill else Exclude) y (record t { owned = filled_more x v }) (7 + actors_of y + (513 - words_filled x))) (sym F.is)
-    (filled_nearer (nat_lt F.owned.filled 512) y t F.owned v F.left)
+fill_nearer : (more : Bool) (y : Sizes) (t : Topics) (v : ℕ) → HasToFill t → At (if more then Fill else Role) y (record t { owned = filled_more t.owned v }) (7 + actors_of y + (513 - words_filled t.owned))
+fill_nearer true y t v F = omega (arith, F.1, more_filled t.owned v F.0)
+fill_nearer false y t v F = omega (arith, F.1)
 
 -- the lock
 excluded_nearer : (free : Bool) (y : Sizes) (u : Topics) → not free ≡ false → At (if free then Count else Exclude) y u (7 + actors_of y)
@@ -98,7 +93,7 @@ pub set_slot_nearer : (p : SetSlotPlace) (h : Held) (id : ℕ) (slot : Slot) (v 
     → Nearer (set_slot_outcome p h v) h.state.sizes (part_topics (set_slot_part p h id slot) h.topics v) (set_slot_left p h.state.sizes h.topics)
 set_slot_nearer (Refuse refusal) h id slot v R K goes = tt
 set_slot_nearer (Claim begun) h id slot v R K goes = claim_nearer (tries_page begun h.topics.claim) begun h.state.sizes h.topics v goes (word_there begun h.state.sizes h.topics.claim R.sizes K.1)
-set_slot_nearer Fill h id slot v R K goes = fill_nearer h.state.sizes h.topics v K.1
+set_slot_nearer Fill h id slot v R K goes = fill_nearer (nat_lt (words_filled h.topics.owned + 1) 512) h.state.sizes h.topics v K.1
 set_slot_nearer Exclude h id slot v R K goes = excluded_nearer (v == 0) h.state.sizes (part_topics part.Exclude h.topics v) goes
 set_slot_nearer Count h id slot v R K goes = either (v == 0) Publish Close h.state.sizes (part_topics part.Count h.topics v) (6 + actors_of h.state.sizes) (omega arith) (omega arith)
 set_slot_nearer Close h id slot v R K goes = absurd (cc goes)

@@ -74,6 +74,7 @@ fault_few (fault.Walk true) z t most = let few = tables_few z t.walk.level most 
 fault_few (fault.Walk false) z t most = omega arith
 fault_few (fault.Claim b) z t most = let tables = more_tables_few z t.walk.level most in let few = claim_few b z t in omega (arith, few, tables)
 fault_few fault.Fill z t most = let tables = more_tables_few z t.walk.level most in omega (arith, tables)
+fault_few fault.Role z t most = let tables = more_tables_few z t.walk.level most in omega (arith, tables)
 fault_few fault.Link z t most = let tables = more_tables_few z t.walk.level most in omega (arith, tables)
 fault_few _ z t most = omega arith
 
