@@ -1,5 +1,5 @@
 -- What the steps of a fault owe flat memory.
-use Rattle.std.proofs.Common.{◌≡◌, ◌+◌, ◌<◌, ℕ, [], ◌∷◌, refl, sym, subst, ap, ◌∙◌, arith}
+use Rattle.std.proofs.Common.{◌≡◌, ◌<◌, ℕ, [], ◌∷◌, refl, sym, subst, ap, ◌∙◌, arith}
 use Rattle.std.specs.Prelude.{Bool, true, false, ◌==◌, ◌&&◌, nat_le, nat_lt, not, if◌then◌else◌, Some}
 use Rattle.core_views.specs.declared.answer.Answer.{Answer}
 use Rattle.core_views.specs.declared.answer.Answer.TheVariants as answer
@@ -14,8 +14,6 @@ use Rattle.core_views.specs.declared.place.FaultPlace.TheVariants.{Begin, Snapsh
 use Rattle.core_views.specs.declared.place.AccessPlace.TheVariants.{Enter, Fault}
 use Rattle.core_views.specs.declared.place.Place.TheVariants as place
 use Rattle.core_views.specs.declared.sizes.Sizes.{Sizes}
-use Rattle.core_views.specs.declared.topics.Hold.{Hold}
-use Rattle.core_views.specs.declared.topics.Hold.TheVariants.{Owing}
 use Rattle.core_views.specs.declared.topics.TableWalk.{TableWalk}
 use Rattle.core_views.specs.declared.topics.Topics.{Topics}
 use Rattle.core_views.specs.declared.trace.Command.TheVariants.{Access}
@@ -29,13 +27,16 @@ use Rattle.spte_words.specs.declared.area.Area.{Area}
 use Rattle.spte_words.specs.declared.area.Area.TheVariants as area
 use Rattle.spte_words.specs.declared.spte_kind.SpteKind.{SpteKind}
 use Rattle.spte_words.specs.declared.spte_kind.SpteKind.TheVariants as entry_kind
-use Rattle.spte_words.specs.Areas.{words_of_bits}
 use Rattle.spte_words.specs.Entries.{kind_of}
 use Rattle.spte_words.specs.HostWords.{host_allows_write}
 use Rattle.part_steps.specs.declared.part_step.PartStep.TheVariants as part
+use Rattle.mmu_core.specs.declared.claim.ClaimNext.{ClaimNext}
+use Rattle.mmu_core.specs.declared.claim.ClaimNext.TheVariants as claims
+use Rattle.mmu_core.specs.declared.share.ShareNext.{ShareNext}
+use Rattle.mmu_core.specs.declared.share.ShareNext.TheVariants as shares
 use Rattle.mmu_core.specs.lines.AccessSteps.{access_note, access_task}
 use Rattle.mmu_core.specs.lines.FaultKnows.{FaultKnows}
-use Rattle.mmu_core.specs.lines.FaultSteps.{allows_access, at_map_word, check_next, claim_next, entry_word, fault_part, find_next, map_word, share_next, snapshot_taken, tries_page, walk_next}
+use Rattle.mmu_core.specs.lines.FaultSteps.{after_claim, after_share, allows_access, check_next, claim_next, entry_word, fault_part, find_next, share_next, snapshot_taken, walk_next}
 use Rattle.mmu_laws.specs.flat.FlatInvariant.{NotedAt}
 use Rattle.mmu_core.specs.invariant.Invariant.{Invariant}
 use Rattle.part_steps.specs.PartSteps.{own_index, words_filled}
@@ -49,7 +50,7 @@ use Rattle.mmu_core.proofs.machine.PartStepping.{IsPart}
 use Rattle.mmu_core.proofs.words.PartTopics.{part_topics_is}
 use Rattle.mmu_core.proofs.machine.Stepping.{IsStep}
 use Rattle.part_steps.specs.SlotWords.{page_of}
-use Rattle.part_steps.specs.TopicSteps.{at_set, has_writer, is_won, may_search, searched, topics_after}
+use Rattle.part_steps.specs.TopicSteps.{at_set, may_search, searched, topics_after}
 use Rattle.core_views.specs.declared.topics.SlotSearch.{SlotSearch}
 use Rattle.core_views.specs.declared.topics.Stay.{Stay}
 use Rattle.mmu_core.proofs.slots.LiveStays.{access_never}
@@ -64,9 +65,9 @@ module _ (pool : ℕ → ℕ) (gfn : ℕ) (op : Op) (t : Topics) (notes : Notes)
   either true p q first second = first
   either false p q first second = second
 
-  share_noted : (hold : Hold) (x : ℕ) → Noted (share_next hold x)
-  share_noted (Owing word) x = tt
-  share_noted _ x = either (has_writer x) Share (Check stage.Count) tt tt
+  share_noted : (next : ShareNext) → Noted (after_share next)
+  share_noted shares.Tries = tt
+  share_noted _ = tt
 
   check_noted : (at : CheckStage) (h : Topics) (x : ℕ) → Noted (check_next at gfn h x)
   check_noted stage.Count h x = either (x == 0) (Check stage.Seq) (Check stage.Start) tt tt
@@ -83,9 +84,9 @@ module _ (pool : ℕ → ℕ) (gfn : ℕ) (op : Op) (t : Topics) (notes : Notes)
   walk_noted entry_kind.Absent z write walk x = either (walk.level == 1) Leaf (Claim false) tt tt
   walk_noted _ z write walk x = tt
 
-  claim_noted : (tries : Bool) (z : Sizes) (h : Topics) (begun : Bool) (x : ℕ) → Noted (claim_next tries z (at_map_word begun h.claim) x)
-  claim_noted true z h begun x = either (is_won (at_map_word begun h.claim) x) Fill (Claim true) tt tt
-  claim_noted false z h begun x = either (nat_lt (map_word begun h.claim + (if x == 0 then 1 else 0)) (words_of_bits z.pool)) (Claim true) (Unshare Starved) tt tt
+  claim_noted : (next : ClaimNext) → Noted (after_claim next)
+  claim_noted claims.Goes = tt
+  claim_noted _ = tt
 
   -- The host allows the access.
   host_noted : (write : Bool) (x : ℕ) → host_allows_write x ≡ true → Noted (if write && not (host_allows_write x) then End HostFault else Share)
@@ -206,7 +207,8 @@ module _ (z : Sizes) (v : View) (a : ℕ) (line : Line) (gfn word : ℕ) (op : O
   fault_goes (Find true) S part_ I P K R = searches S part_ I P K R
   fault_goes Host S part_ I P K R = looks_at_host part_ I R
   fault_goes Share S part_ I P K R =
-      quiet Share (share_next held.hold (answered Share)) part_ I P R (share_noted (words_behind Share area.Pool) gfn op (held_behind Share) u.notes held.hold (answered Share))
+      let next : ShareNext = share_next held.hold (answered Share) in
+      quiet Share (after_share next) part_ I P R (share_noted (words_behind Share area.Pool) gfn op (held_behind Share) u.notes next)
   fault_goes (Check at) S part_ I P K R =
       quiet (Check at) (check_next at gfn held (answered (Check at))) part_ I P R (check_noted (words_behind (Check at) area.Pool) gfn op (held_behind (Check at)) u.notes at held (answered (Check at)))
   fault_goes (Walk false) S part_ I P K R = quiet (Walk false) (Walk true) part_ I P R tt
@@ -214,8 +216,8 @@ module _ (z : Sizes) (v : View) (a : ℕ) (line : Line) (gfn word : ℕ) (op : O
       quiet (Walk true) (walk_next (kind_of held.walk.level (answered (Walk true))) (v.hand a).state.sizes gfn (is_write op) held.walk (answered (Walk true))) part_ I P R
       (walk_noted (words_behind (Walk true) area.Pool) gfn op (held_behind (Walk true)) u.notes (kind_of held.walk.level (answered (Walk true))) (v.hand a).state.sizes (is_write op) held.walk (answered (Walk true)))
   fault_goes (Claim begun) S part_ I P K R =
-      quiet (Claim begun) (claim_next (tries_page begun held.claim) (v.hand a).state.sizes (at_map_word begun held.claim) (answered (Claim begun))) part_ I P R
-      (claim_noted (words_behind (Claim begun) area.Pool) gfn op (held_behind (Claim begun)) u.notes (tries_page begun held.claim) (v.hand a).state.sizes held begun (answered (Claim begun)))
+      let next : ClaimNext = claim_next begun (v.hand a).state.sizes held.claim (answered (Claim begun)) in
+      quiet (Claim begun) (after_claim next) part_ I P R (claim_noted (words_behind (Claim begun) area.Pool) gfn op (held_behind (Claim begun)) u.notes next)
   fault_goes Fill S part_ I P K R =
       quiet Fill (if nat_lt (words_filled held.owned) 512 then Fill else Link) part_ I P R
       (either (words_behind Fill area.Pool) gfn op (held_behind Fill) u.notes (nat_lt (words_filled held.owned) 512) Fill Link tt tt)
