@@ -1,5 +1,5 @@
 -- Where a slot setting is about to give the old slot set's page back, the page's role is cleared.
-use Rattle.std.proofs.Common.{◌≡◌, ◌≢◌, ◌⊎◌, inl, inr, ◌<◌, ℕ, List, refl, sym, subst, ap, ◌∙◌}
+use Rattle.std.proofs.Common.{◌≡◌, ◌≢◌, ◌⊎◌, inl, inr, ◌<◌, ℕ, List, refl, sym, subst, ap, ◌∙◌, ◌≤◌}
 use Rattle.std.specs.Prelude.{Bool, true, false, ◌+◌, ◌==◌, if◌then◌else◌, nat_lt, Option, Some, None, is_some}
 use Rattle.core_views.specs.declared.answer.Answer.TheVariants.{Starved}
 use Rattle.core_views.specs.declared.kind.Kind.{Kind}
@@ -8,7 +8,6 @@ use Rattle.core_views.specs.declared.place.Place.TheVariants as place
 use Rattle.core_views.specs.declared.place.SetSlotPlace.{SetSlotPlace}
 use Rattle.core_views.specs.declared.place.SetSlotPlace.TheVariants.{Claim, Fill, Role, Exclude, Count, Close, Publish, Watch, Clear, Give}
 use Rattle.core_views.specs.declared.sizes.Sizes.{Sizes}
-use Rattle.core_views.specs.declared.topics.MapClaim.{MapClaim}
 use Rattle.core_views.specs.declared.topics.Topics.{Topics}
 use Rattle.core_views.specs.declared.trace.Command.{Command}
 use Rattle.core_views.specs.declared.trace.Command.TheVariants.{Access, SetSlot}
@@ -20,23 +19,24 @@ use Rattle.core_views.specs.Held.{Held}
 use Rattle.core_views.specs.Sizes.{actors_of}
 use Rattle.spte_words.specs.declared.area.Area.{Area}
 use Rattle.spte_words.specs.declared.area.Area.TheVariants as area
-use Rattle.spte_words.specs.Areas.{words_of_bits}
 use Rattle.part_steps.specs.declared.part_step.PartStep.{PartStep}
 use Rattle.part_steps.specs.declared.part_step.PartStep.TheVariants as part
 use Rattle.part_steps.specs.declared.task.Task.{Task}
-use Rattle.part_steps.specs.PartSteps.{next_watched, own_index, page_left, part_task, words_filled}
+use Rattle.part_steps.specs.PartSteps.{next_watched, own_index, page_left, part_task, words_filled, table_page}
 use Rattle.part_steps.specs.Tasks.{kind_of_task}
-use Rattle.part_steps.specs.TopicSteps.{in_section, is_won, topics_after}
-use Rattle.mmu_core.specs.declared.outcome.Outcome.TheVariants.{Goes, Ends}
+use Rattle.part_steps.specs.TopicSteps.{topics_after}
+use Rattle.mmu_core.specs.declared.outcome.Outcome.TheVariants.{Goes}
+use Rattle.mmu_core.specs.declared.claim.ClaimNext.{ClaimNext}
+use Rattle.mmu_core.specs.declared.claim.ClaimNext.TheVariants as claims
 use Rattle.mmu_core.specs.lines.AccessSteps.{touch_of}
 use Rattle.mmu_core.specs.machine.Enabled.{mmu}
-use Rattle.mmu_core.specs.lines.FaultSteps.{at_map_word, tries_page}
+use Rattle.mmu_core.specs.lines.ClaimSteps.{claim_next}
 use Rattle.mmu_core.specs.invariant.Invariant.{Invariant, KnowsPart, UnderWay}
 use Rattle.mmu_core.specs.invariant.Laws.{IsSound}
 use Rattle.mmu_core.specs.machine.Machine.{May, Step, World, effect, hand_in, run}
 use Rattle.mmu_core.specs.machine.Outcomes.{place_after}
 use Rattle.mmu_core.specs.lines.PartAt.{task_at}
-use Rattle.mmu_core.specs.lines.SetSlotSteps.{claim_outcome, looked_at, set_slot_note, set_slot_outcome, set_slot_task}
+use Rattle.mmu_core.specs.lines.SetSlotSteps.{after_claim, watch_next, set_slot_note, set_slot_outcome, set_slot_task}
 use Rattle.mmu_core.specs.machine.Steps.{has_line, line_at, place_at}
 use Rattle.mmu_core.specs.invariant.TopicsInvariant.{TopicsInvariant}
 use Rattle.mmu_core.specs.machine.View.{View, answer_in, part_stepped, stepped, upd, view, word_in, words_after}
@@ -44,9 +44,9 @@ use Rattle.mmu_laws.proofs.causes.Changes.{of_each_list}
 use Rattle.mmu_core.proofs.machine.Columns.{same_or, upd_other, upd_same}
 use Rattle.mmu_core.proofs.pages.OwnedBehind.{left_is}
 use Rattle.mmu_core.proofs.machine.PartStepping.{IsPart}
-use Rattle.mmu_core.proofs.words.PartWords.{HasOtherRole, left_elsewhere, role_stays}
-use Rattle.mmu_core.proofs.pages.PoolPages.{left_not_owned, one_leaver}
-use Rattle.mmu_core.proofs.slots.SettingHolds.{either_place}
+use Rattle.mmu_core.proofs.words.PartWords.{HasOtherRole, left_elsewhere, role_stays, IsElsewhere}
+use Rattle.mmu_core.proofs.pages.PoolPages.{left_not_owned, one_leaver, left_no_table}
+use Rattle.mmu_core.proofs.slots.SettingHolds.{either_place, each_watch}
 use Rattle.mmu_core.proofs.start.Starts.{hand_is, start_good}
 use Rattle.mmu_core.proofs.lines.StepIn.{StepIn, Makes, Touches, step_in}
 use Rattle.mmu_core.proofs.machine.Stepping.{IsStep}
@@ -75,13 +75,9 @@ HandCleared v i = HeldCleared (v.words area.Role) (v.hand i)
 -- ---- a line's own step
 
 module _ (role : ℕ → ℕ) (x : ℕ) (t : Topics) where
-  claim_cleared : (tries : Bool) (y : Sizes) (claim : MapClaim) → PlaceCleared role (place_after (claim_outcome tries y claim x)) t
-  claim_cleared true y claim = either_place (λ q. SettingCleared role q t) (is_won claim x) Fill (Claim true) tt tt
-  claim_cleared false y claim = by (nat_lt (claim.at + (if x == 0 then 1 else 0)) (words_of_bits y.pool))
-    where
-      by : (b : Bool) → PlaceCleared role (place_after (if b then Goes (place.SetSlot (Claim true)) else Ends Starved)) t
-      by true = tt
-      by false = tt
+  claim_cleared : (next : ClaimNext) → PlaceCleared role (place_after (after_claim next)) t
+  claim_cleared claims.Goes = tt
+  claim_cleared _ = tt
 
   -- The step of this place clears the role.
   abbrev clears : SetSlotPlace → Bool
@@ -90,14 +86,11 @@ module _ (role : ℕ → ℕ) (x : ℕ) (t : Topics) where
 
   -- From no other place does a setting come to give the page back.
   no_give : (p : SetSlotPlace) (h : Held) → clears p ≡ false → PlaceCleared role (place_after (set_slot_outcome p h x)) t
-  no_give (Claim begun) h never = claim_cleared (tries_page begun h.topics.claim) h.state.sizes (at_map_word begun h.topics.claim)
+  no_give (Claim begun) h never = claim_cleared (claim_next begun h.state.sizes h.topics.claim x)
   no_give Fill h never = either_place (λ q. SettingCleared role q t) (nat_lt (words_filled h.topics.owned + 1) 512) Fill Role tt tt
   no_give Exclude h never = either_place (λ q. SettingCleared role q t) (x == 0) Count Exclude tt tt
   no_give Count h never = either_place (λ q. SettingCleared role q t) (x == 0) Publish Close tt tt
-  no_give Watch h never =
-      let more : Bool = nat_lt (next_watched (own_index h) (looked_at h + 1)) (actors_of h.state.sizes) in
-      either_place (λ q. SettingCleared role q t) (in_section x) Watch (if more then Watch else Clear) tt
-      (either_place (λ q. SettingCleared role q t) more Watch Clear tt tt)
+  no_give Watch h never = each_watch (λ q. SettingCleared role q t) (watch_next h x) tt tt
   no_give Clear h never = absurd (cc never)
   no_give _ h never = tt
 

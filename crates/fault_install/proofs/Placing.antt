@@ -1,5 +1,5 @@
 -- The place that follows from a part's answer is the one where the order of steps leads.
-use Rattle.std.proofs.Common.{◌≡◌, ◌≢◌, ◌+◌, ◌<◌, ◌≤◌, ℕ, refl, sym, subst, ap, ◌∙◌, arith}
+use Rattle.std.proofs.Common.{◌≡◌, ◌≢◌, ◌<◌, ◌≤◌, ℕ, refl, sym, subst, ap, ◌∙◌, arith}
 use Rattle.std.specs.Prelude.{Bool, true, false, ◌==◌, ◌&&◌, nat_le, nat_lt, not, if◌then◌else◌, Option, Some, None, is_some}
 use Rattle.std.proofs.lemmas.Bool.Decides.{nat_tests}
 use Rattle.core_views.specs.declared.place.Cause.TheVariants as cause
@@ -14,13 +14,12 @@ use Rattle.core_views.specs.declared.place.SlotField.TheVariants as field
 use Rattle.core_views.specs.declared.sizes.Sizes.{Sizes}
 use Rattle.core_views.specs.declared.topics.Hold.{Hold}
 use Rattle.core_views.specs.declared.topics.Hold.TheVariants.{Loose, Shared, Owing, Exclusive}
-use Rattle.core_views.specs.declared.topics.OwnedPage.{OwnedPage}
 use Rattle.core_views.specs.declared.topics.SlotSearch.{SlotSearch}
 use Rattle.core_views.specs.declared.topics.Topics.{Topics}
 use Rattle.core_views.specs.Held.{Held}
 use Rattle.core_views.specs.Slots.{contains}
 use Rattle.spte_words.specs.declared.area.Area.TheVariants as area
-use Rattle.spte_words.specs.Areas.{place, words_of_bits}
+use Rattle.spte_words.specs.Areas.{place}
 use Rattle.invalidate_seq.specs.Checks.{AnswersBy, step_of}
 use Rattle.invalidate_seq.specs.declared.check.Checked.{Checked}
 use Rattle.invalidate_seq.specs.declared.check.Checked.TheVariants.{Fresh, Open, Moved}
@@ -28,13 +27,20 @@ use Rattle.memslots.specs.declared.find.FoundSlot.{FoundSlot}
 use Rattle.memslots.specs.Finding.{Begins, Searches, find_step}
 use Rattle.part_steps.specs.declared.part_step.PartStep.{PartStep}
 use Rattle.part_steps.specs.declared.part_step.PartStep.TheVariants as part
+use Rattle.mmu_core.specs.declared.claim.ClaimNext.{ClaimNext}
+use Rattle.mmu_core.specs.lines.ClaimSteps.{claim_waits, map_word, tries_page}
+use Rattle.mmu_core.specs.declared.share.ShareNext.{ShareNext}
 use Rattle.mmu_core.specs.lines.FaultKnows.{CheckKnows}
 use Rattle.mmu_core.specs.lines.FaultLaws.{CanAnswer}
-use Rattle.mmu_core.specs.lines.FaultSteps.{at_map_word, check_next, check_part, claim_next, find_next, found_next, is_last_word, is_owing, map_word, share_next, share_part, snapshot_taken, tries_page, waits, word_owed}
+use Rattle.mmu_core.specs.lines.FaultSteps.{after_claim as fault_after_claim, after_share as fault_after_share, check_next, check_part, find_next, found_next, is_last_word, is_owing, share_part, snapshot_taken, waits, word_owed}
 use Rattle.part_steps.specs.PartTopics.{part_topics, sequenced}
 use Rattle.part_steps.specs.PartSteps.{own_index, part_task, words_filled}
 use Rattle.part_steps.specs.Tasks.{kind_of_task, map_of}
-use Rattle.part_steps.specs.TopicSteps.{has_writer, is_loose, is_won, searched}
+use Rattle.part_steps.specs.TopicSteps.{is_loose, searched}
+use Rattle.mmu_core.proofs.lines.ClaimMade.{ClaimMade, claim_made}
+use Rattle.mmu_core.proofs.lines.ClaimMade as made
+use Rattle.mmu_core.proofs.lines.ShareMade.{ShareMade, share_made}
+use Rattle.mmu_core.proofs.lines.ShareMade as share
 use Rattle.mmu_lock.specs.declared.lock.Lock.{Lock}
 use Rattle.mmu_lock.specs.declared.lock.Lock.TheVariants.{Got, Held as HeldBy}
 use Rattle.mmu_lock.specs.Locking.{TriedShared, shared_step}
@@ -117,9 +123,6 @@ can_share Shared v = tt
 can_share (Owing word) v = tt
 can_share Exclusive v = tt
 
-same_owing : {m n : ℕ} → Owing m ≡ Owing n → m ≡ n
-same_owing e = cc e
-
 -- the word that the tries are on
 on_lock : (k : Hold) (own : ℕ) (t : Topics) (z : Sizes) (note : ℕ) → place (map_of z) area.Lock 0 ≡ (kind_of_task z (part_task (share_part k) own t note)).word
 on_lock Loose own t z note = refl
@@ -127,36 +130,25 @@ on_lock Shared own t z note = refl
 on_lock (Owing word) own t z note = refl
 on_lock Exclusive own t z note = refl
 
-try_turn : (k : Hold) (answer : Turn Lock) (t u : Topics) (v word : ℕ) → t.hold ≡ k → u ≡ part_topics (share_part k) t v → TriedShared answer t u
-    → Turned (Goes (share_next k v)) (lock_turn word answer) (after_try answer) × WaitsBy (lock_turn word answer) (is_owing k) (record { word = word; value = word_owed k })
-try_turn Loose More t u v word is made tried = (by (has_writer v) (ap (λ (x : Topics). x.hold) (sym made ∙ tried.3)), not_true)
-  where
-    by : (b : Bool) → (if b then Owing v else Shared) ≡ Owing tried.0 → at.Share ≡ (if b then at.Share else at.Check stage.Count)
-    by true e = refl
-    by false e = absurd (cc e)
-try_turn Loose (Done Got) t u v word is made tried = (by (has_writer v) (ap (λ (x : Topics). x.hold) (sym made ∙ tried.1)), not_true)
-  where
-    by : (b : Bool) → (if b then Owing v else Shared) ≡ Shared → at.Check stage.Count ≡ (if b then at.Share else at.Check stage.Count)
-    by true e = absurd (cc e)
-    by false e = refl
-try_turn (Owing saw) (Done (HeldBy value)) t u v word is made tried = (refl, (refl, ap (λ n. record { word = word; value = n }) (same_owing (sym tried.0 ∙ is))))
-try_turn Loose (Done (HeldBy value)) t u v word is made tried = absurd (cc (is, tried.0))
-try_turn Shared More t u v word is made tried = absurd (cc (is, tried.2))
-try_turn Shared (Done Got) t u v word is made tried = absurd (cc (is, tried.0))
-try_turn Shared (Done (HeldBy value)) t u v word is made tried = absurd (cc (is, tried.0))
-try_turn (Owing saw) More t u v word is made tried = absurd (cc (is, tried.2))
-try_turn (Owing saw) (Done Got) t u v word is made tried = absurd (cc (is, tried.0))
-try_turn Exclusive More t u v word is made tried = absurd (cc (is, tried.2))
-try_turn Exclusive (Done Got) t u v word is made tried = absurd (cc (is, tried.0))
-try_turn Exclusive (Done (HeldBy value)) t u v word is made tried = absurd (cc (is, tried.0))
-try_turn k (Wait seen) t u v word is made tried = absurd tried
-try_turn k (Retry why) t u v word is made tried = absurd tried
+try_turn : (t : Topics) (v : ℕ) (step : PartStep) (next : ShareNext) (u : Topics) → ShareMade t v step next u → (answer : Turn Lock) (word : ℕ) → TriedShared answer t u
+    → Turned (Goes (fault_after_share next)) (lock_turn word answer) (after_try answer) × WaitsBy (lock_turn word answer) (is_owing t.hold) (record { word = word; value = word_owed t.hold })
+try_turn t v _ _ _ (share.Got loose is) (Done Got) word tried = (refl, λ e. cc (ap is_owing loose, e))
+try_turn t v _ _ _ (share.Got loose is) More word tried = absurd (cc (ap (λ (x : Topics). x.hold) tried.3))
+try_turn t v _ _ _ (share.Got loose is) (Done (HeldBy value)) word tried = absurd (cc (loose, tried.0))
+try_turn t v _ _ _ (share.SawWriter loose is) More word tried = (refl, λ e. cc (ap is_owing loose, e))
+try_turn t v _ _ _ (share.SawWriter loose is) (Done Got) word tried = absurd (cc (ap (λ (x : Topics). x.hold) tried.1))
+try_turn t v _ _ _ (share.SawWriter loose is) (Done (HeldBy value)) word tried = absurd (cc (loose, tried.0))
+try_turn t v _ _ _ (share.TakesBack saw is) (Done (HeldBy value)) word tried = (refl, (ap is_owing is, ap (λ (k : Hold). record { word = word; value = word_owed k }) (sym tried.0)))
+try_turn t v _ _ _ (share.TakesBack saw is) More word tried = absurd (cc (is, tried.2))
+try_turn t v _ _ _ (share.TakesBack saw is) (Done Got) word tried = absurd (cc (is, tried.0))
+try_turn t v _ _ _ _ (Wait seen) word tried = absurd tried
+try_turn t v _ _ _ _ (Retry why) word tried = absurd tried
 
 pub share_makes : (job : FaultJob) (answer : Turn Lock) (word note a : ℕ) (h g : Held) (told tells : Told) → word ≡ place (map_of h.state.sizes) area.Lock 0 → IsAt at.Share job note h → MakesPart (shared_step h.topics.hold) note a h g told tells → TriedShared answer h.topics g.topics
     → MakesStep job (record job { place = after_try answer }) (lock_turn word answer) note a h g told tells
 share_makes job answer word note a h g told tells at_lock is M tried =
     let made : MadePart (share_part h.topics.hold) note M.found a h g told tells = subst (λ (s : PartStep). MadePart s note M.found a h g told tells) (same_try h.topics.hold) M.made in
-    let turn = try_turn h.topics.hold answer h.topics g.topics M.found word refl made.topics tried in
+    let turn = try_turn h.topics M.found _ _ _ (share_made h.topics M.found is.knows.1) answer word (subst (λ (x : Topics). TriedShared answer h.topics x) made.topics tried) in
     let there = at_lock ∙ on_lock h.topics.hold (own_index h) h.topics h.state.sizes note in
     let waits_by = subst (λ n. WaitsBy (lock_turn word answer) (is_owing h.topics.hold) (record { word = n; value = word_owed h.topics.hold })) there turn.1 in
     makes at.Share (after_try answer) job (lock_turn word answer) note M.found a h g told tells is.place made (can_share h.topics.hold M.found) turn.0 waits_by
@@ -237,14 +229,6 @@ can_claim : (b : Bool) (word v : ℕ) → CanAnswer (if b then part.Claim else p
 can_claim true word v = tt
 can_claim false word v = tt
 
-won_turn : (won : Bool) (o p : OwnedPage) → (if won then Some o else None) ≡ Some p → (at.Fill ≡ (if won then at.Fill else at.Claim true)) × ((true && not won) ≢ true)
-won_turn true o p is = (refl, not_true)
-won_turn false o p is = absurd (cc is)
-
-lost_turn : (won : Bool) (o : OwnedPage) (v value : ℕ) → (if won then Some o else None) ≡ None → (if won then 0 else v) ≡ value → (at.Claim true ≡ (if won then at.Fill else at.Claim true)) × ((true && not won) ≡ true) × (value ≡ v)
-lost_turn true o v value is sees = absurd (cc is)
-lost_turn false o v value is sees = (refl, refl, sym sees)
-
 -- the word that a claim's step is on
 abbrev claim_word : Bool → Bool → Sizes → Topics → ℕ
 claim_word b begun z t = place (map_of z) area.PoolMap (if b then t.claim.at else map_word begun t.claim)
@@ -253,37 +237,35 @@ on_map : (b begun : Bool) (own : ℕ) (t : Topics) (z : Sizes) (note : ℕ) → 
 on_map true begun own t z note = refl
 on_map false begun own t z note = refl
 
-claim_turned : (b begun : Bool) (answer : Turn Claimed) (z : Sizes) (t u : Topics) (v : ℕ) → tries_page begun t.claim ≡ b → u ≡ part_topics (if b then part.Claim else part.Map (map_word begun t.claim)) t v → ClaimTurn z (record { begun = begun }) answer t u
-    → Turned (Goes (claim_next b z (at_map_word begun t.claim) v)) (claim_turn answer) (after_claim answer) × WaitsBy (claim_turn answer) (b && not (is_won t.claim v)) (record { word = claim_word b begun z t; value = v })
-claim_turned true begun More z t u v is made looks = absurd (cc (is, looks.loads))
-claim_turned true begun (Done Empty) z t u v is made none = absurd (cc (is, none.loads))
-claim_turned true begun (Done (Page page)) z t u v is made takes = won_turn (is_won t.claim v) _ _ (ap (λ (x : Topics). x.owned) (sym made ∙ takes.behind))
-claim_turned true begun (Wait seen) z t u v is made loses =
-    let lost = lost_turn (is_won t.claim v) _ v seen.value (ap (λ (x : Topics). x.owned) (sym made) ∙ loses.owns_none) (ap (λ (x : Topics). x.claim.seen) (sym made ∙ loses.behind)) in
-    (lost.0, (lost.1, ap (λ n. record { word = n; value = seen.value }) loses.word ∙ ap (λ n. record { word = place (map_of z) area.PoolMap t.claim.at; value = n }) lost.2))
-claim_turned false begun More z t u v is made looks =
-    let within : map_word begun t.claim + (if v == 0 then 1 else 0) < words_of_bits z.pool = subst (λ (x : Topics). x.claim.at < words_of_bits z.pool) made looks.within in
-    let less : nat_lt (map_word begun t.claim + (if v == 0 then 1 else 0)) (words_of_bits z.pool) ≡ true = is_less _ _ within in
-    (sym (ap (λ (b : Bool). if b then at.Claim true else at.Unshare end_of.Starved) less), not_true)
-  where
-    is_less : (m n : ℕ) → m < n → nat_lt m n ≡ true
-    is_less m n less = grind (arith, nat_tests, less)
-claim_turned false begun (Done Empty) z t u v is made none =
-    let all : map_word begun t.claim + (if v == 0 then 1 else 0) ≡ words_of_bits z.pool = ap (λ (x : Topics). x.claim.at) (sym made ∙ none.behind) in
-    let over : nat_lt (map_word begun t.claim + (if v == 0 then 1 else 0)) (words_of_bits z.pool) ≡ false = is_over _ _ all in
-    (sym (ap (λ (b : Bool). if b then at.Claim true else at.Unshare end_of.Starved) over), not_true)
-  where
-    is_over : (m n : ℕ) → m ≡ n → nat_lt m n ≡ false
-    is_over m n is = grind (arith, nat_tests, is)
-claim_turned false begun (Done (Page page)) z t u v is made takes = absurd (cc (is, takes.tries))
-claim_turned false begun (Wait seen) z t u v is made loses = absurd (cc (is, loses.tries))
-claim_turned b begun (Retry why) z t u v is made never = absurd never
+claim_turned : (z : Sizes) (begun : Bool) (t : Topics) (v : ℕ) (step : PartStep) (next : ClaimNext) (u : Topics) → ClaimMade z begun t v step next u → (answer : Turn Claimed) → ClaimTurn z (record { begun = begun }) answer t u
+    → Turned (Goes (fault_after_claim next)) (claim_turn answer) (after_claim answer) × WaitsBy (claim_turn answer) (claim_waits begun t.claim v) (record { word = claim_word (tries_page begun t.claim) begun z t; value = v })
+claim_turned z begun t v _ _ _ (made.Won tries b some is) (Done (Page page)) takes = (refl, λ e. cc (tries, is, e))
+claim_turned z begun t v _ _ _ (made.Won tries b some is) More looks = absurd (cc (tries, looks.loads))
+claim_turned z begun t v _ _ _ (made.Won tries b some is) (Done Empty) none = absurd (cc (tries, none.loads))
+claim_turned z begun t v _ _ _ (made.Won tries b some is) (Wait seen) loses = absurd (cc loses.owns_none)
+claim_turned z begun t v _ _ _ (made.Lost tries b some is) (Wait seen) loses =
+    let value : v ≡ seen.value = ap (λ (x : Topics). x.claim.seen) loses.behind in
+    rw tries (refl, (ap not is, ap (λ n. record { word = n; value = seen.value }) loses.word ∙ ap (λ n. record { word = place (map_of z) area.PoolMap t.claim.at; value = n }) (sym value)))
+claim_turned z begun t v _ _ _ (made.Lost tries b some is) More looks = absurd (cc (tries, looks.loads))
+claim_turned z begun t v _ _ _ (made.Lost tries b some is) (Done Empty) none = absurd (cc (tries, none.loads))
+claim_turned z begun t v _ _ _ (made.Lost tries b some is) (Done (Page page)) takes = absurd (cc (ap (λ (x : Topics). x.owned) takes.behind))
+claim_turned z begun t v _ _ _ (made.Saw not_ lt) More looks = (refl, λ e. cc (not_, e))
+claim_turned z begun t v _ _ _ (made.Saw not_ lt) (Done Empty) none = let all = ap (λ (x : Topics). x.claim.at) none.behind in absurd (omega (arith, lt, all))
+claim_turned z begun t v _ _ _ (made.Saw not_ lt) (Done (Page page)) takes = absurd (cc (not_, takes.tries))
+claim_turned z begun t v _ _ _ (made.Saw not_ lt) (Wait seen) loses = absurd (cc (not_, loses.tries))
+claim_turned z begun t v _ _ _ (made.SawNone not_ le) (Done Empty) none = (refl, λ e. cc (not_, e))
+claim_turned z begun t v _ _ _ (made.SawNone not_ le) More looks = let within = looks.within in absurd (omega (arith, le, within))
+claim_turned z begun t v _ _ _ (made.SawNone not_ le) (Done (Page page)) takes = absurd (cc (not_, takes.tries))
+claim_turned z begun t v _ _ _ (made.SawNone not_ le) (Wait seen) loses = absurd (cc (not_, loses.tries))
+claim_turned z begun t v _ _ _ _ (Retry why) never = absurd never
 
 pub claim_makes : (job : FaultJob) (begun : Bool) (answer : Turn Claimed) (note a : ℕ) (h g : Held) (told tells : Told) → IsAt (at.Claim begun) job note h → MakesPart (claim_step (record { begun = begun }) h.topics.claim) note a h g told tells
     → ClaimTurn h.state.sizes (record { begun = begun }) answer h.topics g.topics
     → MakesStep job (record job { place = after_claim answer }) (claim_turn answer) note a h g told tells
 claim_makes job begun answer note a h g told tells is M turned =
-    let turn = claim_turned (tries_page begun h.topics.claim) begun answer h.state.sizes h.topics g.topics M.found refl M.made.topics turned in
+    let turn =
+    claim_turned h.state.sizes begun h.topics M.found _ _ _ (claim_made h.state.sizes begun h.topics M.found) answer
+    (subst (λ (x : Topics). ClaimTurn h.state.sizes (record { begun = begun }) answer h.topics x) M.made.topics turned) in
     makes (at.Claim begun) (after_claim answer) job (claim_turn answer) note M.found a h g told tells is.place M.made (can_claim (tries_page begun h.topics.claim) (map_word begun h.topics.claim) M.found) turn.0
     (subst (λ n. WaitsBy (claim_turn answer) (waits (at.Claim begun) h.topics M.found) (record { word = n; value = M.found })) (on_map (tries_page begun h.topics.claim) begun (own_index h) h.topics h.state.sizes note) turn.1)
 

@@ -12,3 +12,6 @@ pub mod KnowsStay
 pub mod LinesKept
 pub mod StepIn
 pub mod UsedTranslations
+pub mod ClaimMade
+pub mod ShareMade
+pub mod WatchMade

@@ -12,3 +12,6 @@ pub mod KnowsPart
 pub mod FaultLaws
 pub mod SearchLeft
 pub mod Bounds
+pub mod ClaimSteps
+pub mod ShareSteps
+pub mod WatchSteps

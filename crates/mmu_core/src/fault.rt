@@ -4,7 +4,7 @@ ghost use Rattle.core_views.specs.declared.place.Cause.TheVariants.{Entry};
 ghost use Rattle.core_views.specs.declared.place.FaultEnd.TheVariants.{HostFault, Retry};
 ghost use Rattle.core_views.specs.declared.place.FaultPlace.TheVariants.{End, Find, Give, Host, Share, Unshare};
 ghost use Rattle.core_views.specs.Sizes.{AreSizes};
-ghost use Rattle.mmu_core.specs.lines.FaultSteps.{at_map_word, check_next, check_part, claim_next, claim_part, entry_word, fault_next, fault_part, find_next, is_owing, map_word, share_next, tries_page, waits, walk_next};
+ghost use Rattle.mmu_core.specs.lines.FaultSteps.{after_claim, after_share, check_next, check_part, entry_word, fault_next, fault_part, find_next, share_next, waits, walk_next};
 ghost use Rattle.part_steps.specs.PartBounds.{PartRests};
 ghost use Rattle.part_steps.specs.PartSteps.{PartNeeds, table_page};
 ghost use Rattle.part_steps.specs.SlotWords.{page_of};
@@ -12,28 +12,18 @@ ghost use Rattle.part_steps.specs.TopicSteps.{searched};
 ghost use Rattle.spte_words.specs.Entries.{kind_of};
 ghost use Rattle.spte_words.specs.HostWords.{host_allows_write};
 
+use crate::claim::{ClaimNext, claim_next, claim_part, claim_waits};
+use crate::share::{ShareNext, is_owing, share_next, share_part};
 use core_views::{
-    Cause, CheckStage, FaultEnd, FaultNext, FaultPlace, Hand, Hold, MapClaim, Sizes, SlotField,
-    SlotSearch, TableWalk, Topics,
+    Cause, CheckStage, FaultEnd, FaultNext, FaultPlace, Hand, Sizes, SlotField, SlotSearch,
+    TableWalk, Topics,
 };
-use part_steps::{
-    PartStep, entry_index, has_writer, is_won, map_of, page_of, search, table_page, words_filled,
-};
+use part_steps::{PartStep, entry_index, map_of, page_of, search, table_page, words_filled};
 use spte_words::{Area, HostWord, Spte, SpteKind};
 
 /// How many words of a table's page are entries.
 const ENTRIES: u64 = 512;
 
-pub(crate) fn tries_page(begun: bool, claim: &MapClaim) -> bool
-    ensures { result ≡ tries_page begun claim.now }
-{
-    begun && claim.seen > 0
-}
-
-pub(crate) fn map_word(begun: bool, claim: &MapClaim) -> u64
-    ensures { result ≡ map_word begun claim.now }
-{
-    if begun { claim.at } else { 0 }
 }
 
 fn check_part(stage: CheckStage) -> PartStep
@@ -44,16 +34,6 @@ fn check_part(stage: CheckStage) -> PartStep
         CheckStage::Start => PartStep::RangeStart,
         CheckStage::End => PartStep::RangeEnd,
         CheckStage::Seq => PartStep::Seq,
-    }
-}
-
-pub(crate) fn claim_part(begun: bool, claim: &MapClaim) -> PartStep
-    ensures { result ≡ claim_part begun claim.now }
-{
-    if tries_page(begun, claim) {
-        PartStep::Claim
-    } else {
-        PartStep::Map(map_word(begun, claim))
     }
 }
 
@@ -68,10 +48,7 @@ pub(crate) fn part(place: FaultPlace, gfn: u64, topics: &Topics) -> PartStep
         FaultPlace::Find { begun: true } => PartStep::Slot,
         FaultPlace::Find { begun: false } => PartStep::Slots,
         FaultPlace::Host => PartStep::Host(page_of(&topics.search.slot, gfn)),
-        FaultPlace::Share => match topics.hold {
-            Hold::Owing(_) => PartStep::Unshare,
-            _ => PartStep::Share,
-        },
+        FaultPlace::Share => share_part(topics.hold),
         FaultPlace::Check(stage) => check_part(stage),
         FaultPlace::Walk { rooted: true } => PartStep::Walk(gfn),
         FaultPlace::Walk { rooted: false } => PartStep::Root,
@@ -103,14 +80,13 @@ fn find_next(gfn: u64, write: bool, loaded: SlotField, found: &SlotSearch) -> Fa
     }
 }
 
-// Behind a try for the lock.
-fn share_next(hold: Hold, found: u64) -> FaultPlace
-    ensures { result ≡ share_next hold found }
+// After a step of sharing the lock.
+fn after_share(next: ShareNext) -> FaultPlace
+    ensures { result ≡ after_share next }
 {
-    match hold {
-        Hold::Owing(_) => FaultPlace::Share,
-        _ if has_writer(found) => FaultPlace::Share,
-        _ => FaultPlace::Check(CheckStage::Count),
+    match next {
+        ShareNext::Tries => FaultPlace::Share,
+        ShareNext::Shares => FaultPlace::Check(CheckStage::Count),
     }
 }
 
@@ -189,25 +165,14 @@ fn walk_next(sizes: &Sizes, gfn: u64, write: bool, walk: &TableWalk, found: u64)
     }
 }
 
-// Behind a step of a claim.
-fn claim_next(begun: bool, sizes: &Sizes, claim: &MapClaim, found: u64) -> FaultPlace
-    requires sizes { AreSizes sizes.now }
-    requires at { claim.now.at < 2 ^ 32 }
-    requires seen { tries_page begun claim.now ≡ true → 0 < claim.now.seen }
-    ensures { result ≡ claim_next (tries_page begun claim.now) sizes.now (at_map_word begun claim.now) found }
+// After a step of its claim.
+fn after_claim(next: ClaimNext) -> FaultPlace
+    ensures { result ≡ after_claim next }
 {
-    if tries_page(begun, claim) {
-        return if is_won(claim, found) {
-            FaultPlace::Fill
-        } else {
-            FaultPlace::Claim { begun: true }
-        };
-    }
-    let at = map_word(begun, claim) + if found == 0 { 1 } else { 0 };
-    if at < map_of(sizes).size_of(Area::PoolMap) as u64 {
-        FaultPlace::Claim { begun: true }
-    } else {
-        FaultPlace::Unshare(FaultEnd::Starved)
+    match next {
+        ClaimNext::Goes => FaultPlace::Claim { begun: true },
+        ClaimNext::Got => FaultPlace::Fill,
+        ClaimNext::Empty => FaultPlace::Unshare(FaultEnd::Starved),
     }
 }
 
@@ -236,7 +201,7 @@ fn looked_next(place: FaultPlace, gfn: u64, write: bool, topics: &Topics, found:
     requires begun { place ≡ Find true → topics.now.search.id ≤ 31 }
     ensures find { (begun : Bool) → place ≡ Find begun → result ≡ (if begun then find_next gfn write topics.now.search.next (searched topics.now.search found) else Find true) }
     ensures host { place ≡ Host → result ≡ (if write && not (host_allows_write found) then End HostFault else Share) }
-    ensures share { place ≡ Share → result ≡ share_next topics.now.hold found }
+    ensures share { place ≡ Share → result ≡ after_share (share_next topics.now.hold found) }
 {
     match place {
         FaultPlace::Find { begun: true } => {
@@ -249,7 +214,7 @@ fn looked_next(place: FaultPlace, gfn: u64, write: bool, topics: &Topics, found:
             FaultPlace::End(FaultEnd::HostFault)
         }
         FaultPlace::Host => FaultPlace::Share,
-        _ => share_next(topics.hold, found),
+        _ => after_share(share_next(topics.hold, found)),
     }
 }
 
@@ -270,7 +235,9 @@ pub(crate) fn next(place: FaultPlace, hand: &Hand, gfn: u64, write: bool, found:
         FaultPlace::Check(stage) => check_next(stage, gfn, topics, found),
         FaultPlace::Walk { rooted: true } => walk_next(sizes, gfn, write, &topics.walk, found),
         FaultPlace::Walk { rooted: false } => FaultPlace::Walk { rooted: true },
-        FaultPlace::Claim { begun } => claim_next(begun, sizes, &topics.claim, found),
+        FaultPlace::Claim { begun } => {
+            after_claim(claim_next(begun, sizes, &topics.claim, found))
+        }
         FaultPlace::Fill if words_filled(topics.owned) + 1 < ENTRIES => FaultPlace::Fill,
         FaultPlace::Fill => FaultPlace::Role,
         FaultPlace::Role => FaultPlace::Link,
@@ -287,21 +254,13 @@ pub(crate) fn next(place: FaultPlace, hand: &Hand, gfn: u64, write: bool, found:
     })
 }
 
-fn is_owing(hold: Hold) -> bool
-    ensures { result ≡ is_owing hold }
-{
-    matches!(hold, Hold::Owing(_))
-}
-
 /// The step leaves the fault where it was, since another actor is in the way.
 pub(crate) fn waits(place: FaultPlace, topics: &Topics, found: u64) -> bool
     ensures { result ≡ waits place topics.now found }
 {
     match place {
         FaultPlace::Share => is_owing(topics.hold),
-        FaultPlace::Claim { begun } => {
-            tries_page(begun, &topics.claim) && !is_won(&topics.claim, found)
-        }
+        FaultPlace::Claim { begun } => claim_waits(begun, &topics.claim, found),
         _ => false,
     }
 }

@@ -1,27 +1,22 @@
 //! The steps of a slot setting.
-ghost use Rattle.std.specs.Prelude.{◌≡◌, ◌≤◌, ◌<◌, ◌^◌, true};
+ghost use Rattle.std.specs.Prelude.{◌≡◌, ◌≤◌, ◌<◌};
 ghost use Rattle.core_views.specs.declared.place.Place.TheVariants as place;
 ghost use Rattle.core_views.specs.declared.trace.Command.TheVariants.{SetSlot};
-ghost use Rattle.core_views.specs.Sizes.{AreSizes};
 ghost use Rattle.core_views.specs.Refusals.{set_refusal};
-ghost use Rattle.mmu_core.specs.lines.FaultSteps.{at_map_word, tries_page};
 ghost use Rattle.part_steps.specs.PartBounds.{PartRests};
 ghost use Rattle.part_steps.specs.PartSteps.{PartNeeds};
 ghost use Rattle.mmu_core.specs.lines.Rests.{RecordAccepts, Rests};
-ghost use Rattle.mmu_core.specs.lines.SetSlotSteps.{claim_outcome, looked_at, set_slot_first, set_slot_note, set_slot_outcome, set_slot_part, set_slot_records, set_slot_task, set_slot_waits, watch_next};
+ghost use Rattle.mmu_core.specs.lines.SetSlotSteps.{after_claim, after_watch, set_slot_first, set_slot_note, set_slot_outcome, set_slot_part, set_slot_records, set_slot_task, set_slot_waits};
 ghost use Rattle.mmu_core.specs.machine.Steps.{place_at};
 ghost use Rattle.part_steps.specs.Tasks.{map_of};
 ghost use Rattle.mmu_core.specs.machine.Turns.{line_of};
 ghost use Rattle.spte_words.specs.Areas.{size_of};
 
-use crate::fault::{claim_part, map_word, tries_page};
+use crate::claim::{ClaimNext, claim_next, claim_part, claim_waits, loads_last_word};
 use crate::outcome::Outcome;
-use core_views::{Answer, Hand, MapClaim, Place, SetSlotPlace, Sizes, Slot, SlotSet, Topics};
-use part_steps::{
-    PartStep, SLOT_SET_ROLE, Task, in_section, is_won, map_of, next_watched, part_task, set_word,
-    words_filled,
-};
-use spte_words::Area;
+use crate::watch::{WatchNext, looked_at, watch_next};
+use core_views::{Answer, Hand, Place, SetSlotPlace, Sizes, Slot, SlotSet, Topics};
+use part_steps::{PartStep, SLOT_SET_ROLE, Task, in_section, part_task, set_word, words_filled};
 
 /// How many words of a slot set's page are filled.
 const WORDS: u64 = 512;
@@ -34,15 +29,6 @@ pub(crate) fn first(sizes: &Sizes, slots: &SlotSet, id: u64, slot: &Slot) -> Set
         Err(refusal) => SetSlotPlace::Refuse(refusal),
         Ok(()) => SetSlotPlace::Claim { begun: false },
     }
-}
-
-// The actor that the watch looks at next.
-fn looked_at(hand: &Hand) -> u64
-    requires { PartRests hand.now.core }
-    ensures { result ≡ looked_at hand.now.core }
-{
-    let state = hand.state();
-    next_watched(state.sizes.index_of(state.actor), hand.topics().watched)
 }
 
 // The step of this place.
@@ -76,13 +62,8 @@ fn note(place: SetSlotPlace, hand: &Hand) -> u64
     match place {
         SetSlotPlace::Refuse(_) | SetSlotPlace::Give => 1,
         SetSlotPlace::Claim { begun } => {
-            let claim = &hand.topics().claim;
-            let words = map_of(&hand.state().sizes).size_of(Area::PoolMap) as u64;
-            if !tries_page(begun, claim) && map_word(begun, claim) + 1 == words {
-                1
-            } else {
-                0
-            }
+            let last = loads_last_word(begun, &hand.state().sizes, &hand.topics().claim);
+            if last { 1 } else { 0 }
         }
         _ => 0,
     }
@@ -119,39 +100,24 @@ pub(crate) fn record_slot(
     }
 }
 
-// Behind a step of the claim.
-fn claim_outcome(begun: bool, sizes: &Sizes, claim: &MapClaim, found: u64) -> Outcome
-    requires sizes { AreSizes sizes.now }
-    requires at { claim.now.at < 2 ^ 32 }
-    requires seen { tries_page begun claim.now ≡ true → claim.now.seen < 2 ^ 64 }
-    ensures { result ≡ claim_outcome (tries_page begun claim.now) sizes.now (at_map_word begun claim.now) found }
+// After a step of its claim.
+fn after_claim(next: ClaimNext) -> Outcome
+    ensures { result ≡ after_claim next }
 {
-    if tries_page(begun, claim) {
-        return Outcome::Goes(Place::SetSlot(if is_won(claim, found) {
-            SetSlotPlace::Fill
-        } else {
-            SetSlotPlace::Claim { begun: true }
-        }));
-    }
-    let at = map_word(begun, claim) + if found == 0 { 1 } else { 0 };
-    if at < map_of(sizes).size_of(Area::PoolMap) as u64 {
-        Outcome::Goes(Place::SetSlot(SetSlotPlace::Claim { begun: true }))
-    } else {
-        Outcome::Ends(Answer::Starved)
+    match next {
+        ClaimNext::Goes => Outcome::Goes(Place::SetSlot(SetSlotPlace::Claim { begun: true })),
+        ClaimNext::Got => Outcome::Goes(Place::SetSlot(SetSlotPlace::Fill)),
+        ClaimNext::Empty => Outcome::Ends(Answer::Starved),
     }
 }
 
-// Behind a look at another actor.
-fn watch_next(hand: &Hand, found: u64) -> SetSlotPlace
-    requires rests { PartRests hand.now.core }
-    ensures { result ≡ watch_next hand.now.core found }
+// After a look of its watch.
+fn after_watch(next: WatchNext) -> SetSlotPlace
+    ensures { result ≡ after_watch next }
 {
-    let state = hand.state();
-    let own = state.sizes.index_of(state.actor);
-    if in_section(found) || next_watched(own, looked_at(hand) + 1) < state.sizes.actors() {
-        SetSlotPlace::Watch
-    } else {
-        SetSlotPlace::Clear
+    match next {
+        WatchNext::Last => SetSlotPlace::Clear,
+        WatchNext::Again | WatchNext::Next => SetSlotPlace::Watch,
     }
 }
 
@@ -164,7 +130,8 @@ pub(crate) fn outcome(place: SetSlotPlace, hand: &Hand, found: u64) -> Outcome
     Outcome::Goes(Place::SetSlot(match place {
         SetSlotPlace::Refuse(refusal) => return Outcome::Ends(Answer::Refused(refusal)),
         SetSlotPlace::Claim { begun } => {
-            return claim_outcome(begun, &hand.state().sizes, &topics.claim, found);
+            let sizes = &hand.state().sizes;
+            return after_claim(claim_next(begun, sizes, &topics.claim, found));
         }
         SetSlotPlace::Fill if words_filled(topics.owned) + 1 < WORDS => SetSlotPlace::Fill,
         SetSlotPlace::Fill => SetSlotPlace::Role,
@@ -175,7 +142,7 @@ pub(crate) fn outcome(place: SetSlotPlace, hand: &Hand, found: u64) -> Outcome
         SetSlotPlace::Count => SetSlotPlace::Close,
         SetSlotPlace::Publish => SetSlotPlace::Release,
         SetSlotPlace::Release => SetSlotPlace::Watch,
-        SetSlotPlace::Watch => watch_next(hand, found),
+        SetSlotPlace::Watch => after_watch(watch_next(hand, found)),
         SetSlotPlace::Clear => SetSlotPlace::Give,
         SetSlotPlace::Give => return Outcome::Ends(Answer::Done),
     }))
@@ -199,9 +166,7 @@ pub fn waits(place: SetSlotPlace, topics: &Topics, found: u64) -> bool
     ensures { result ≡ set_slot_waits place topics.now found }
 {
     match place {
-        SetSlotPlace::Claim { begun } => {
-            tries_page(begun, &topics.claim) && !is_won(&topics.claim, found)
-        }
+        SetSlotPlace::Claim { begun } => claim_waits(begun, &topics.claim, found),
         SetSlotPlace::Exclude => found != 0,
         SetSlotPlace::Close => true,
         SetSlotPlace::Watch => in_section(found),

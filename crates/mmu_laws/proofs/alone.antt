@@ -6,3 +6,4 @@ pub mod FaultAlone
 pub mod FindAlone
 pub mod GoesAlone
 pub mod SetSlotAlone
+pub mod ClaimAlone

@@ -1,6 +1,6 @@
 -- What a turn of a line answers is how its step goes: it is done where the line is answered, and has more to do where the line begins anew.
 use Rattle.std.proofs.Common.{◌≡◌, ◌≢◌, ◌⊎◌, inl, inr, ◌<◌, ℕ, length, refl, sym, subst, ap, ◌∙◌, arith}
-use Rattle.std.specs.Prelude.{Bool, true, false, ◌&&◌, not}
+use Rattle.std.specs.Prelude.{Bool, true, false}
 use Rattle.core_views.specs.declared.place.AccessPlace.TheVariants.{Enter, Pause, Root, Walk, Touch, Leave, Fault}
 use Rattle.core_views.specs.declared.answer.Answer.{Answer}
 use Rattle.core_views.specs.declared.answer.Answer.TheVariants as answers
@@ -16,7 +16,8 @@ use Rattle.core_views.specs.declared.place.FaultPlace.TheVariants as fault
 use Rattle.core_views.specs.declared.topics.Topics.{Topics}
 use Rattle.mmu_core.specs.declared.outcome.Outcome.{Outcome}
 use Rattle.mmu_core.specs.declared.outcome.Outcome.TheVariants as outcome
-use Rattle.mmu_core.specs.lines.FaultSteps.{at_map_word, tries_page}
+use Rattle.mmu_core.specs.declared.claim.ClaimNext.{ClaimNext}
+use Rattle.mmu_core.specs.lines.ClaimSteps.{claim_waits}
 use Rattle.mmu_core.specs.lines.Bounds.{steps_left}
 use Rattle.mmu_core.specs.alone.LineAlone.{hand_left, line_waits}
 use Rattle.step_seats.specs.declared.turn.Turn.{Turn}
@@ -30,7 +31,6 @@ use Rattle.core_views.specs.declared.trace.Line.{Line}
 use Rattle.core_views.specs.declared.trace.Op.{Op}
 use Rattle.core_views.specs.Held.{Held}
 use Rattle.part_steps.specs.declared.part_step.PartStep.{PartStep}
-use Rattle.part_steps.specs.TopicSteps.{is_won}
 use Rattle.mmu_core.specs.lines.AccessSteps.{behind_fault}
 use Rattle.mmu_core.specs.machine.MayMake.{MayMake}
 use Rattle.part_steps.specs.PartSteps.{part_kind}
@@ -42,10 +42,11 @@ use Rattle.mmu_core.proofs.machine.Which.{has_line_is, next_of_line}
 use Rattle.step_seats.specs.PartTurns.{MadePart}
 use Rattle.step_seats.specs.Where.{Told}
 use Rattle.step_seats.specs.LineTurns.{Gives, MakesLine, Says, TurnsLine, fault_turn, line_seen, line_turn, turn_of}
-use Rattle.mmu_core.specs.lines.SetSlotSteps.{claim_outcome, set_slot_outcome, set_slot_waits}
+use Rattle.mmu_core.proofs.lines.ClaimMade.{ClaimMade, claim_made}
+use Rattle.mmu_core.proofs.lines.ClaimMade as made
+use Rattle.mmu_core.specs.lines.SetSlotSteps.{after_claim, set_slot_outcome, set_slot_waits}
 use Rattle.core_views.specs.declared.place.SetSlotPlace.{SetSlotPlace}
 use Rattle.core_views.specs.declared.place.SetSlotPlace.TheVariants as set_slot
-use Rattle.core_views.specs.declared.topics.MapClaim.{MapClaim}
 
 -- A part's step is the line's.
 unfoldable pub made_line : (step : PartStep) (note found actor : ℕ) (h g : Held) (told tells : Told) → MayMake step note h → MadePart step note found actor h g told tells → MakesLine actor h g told tells
@@ -68,12 +69,12 @@ plain_case (outcome.Goes q) waits free = inr (record { place = q; more = λ answ
 plain_case (outcome.Ends answer) waits free = inl (record { answer = answer; done = refl; free = free answer refl; is = refl })
 
 -- A slot setting that is answered doesn't wait.
-claim_free : (tries won : Bool) (z : Sizes) (claim : MapClaim) (v : ℕ) (answer : Answer) → claim_outcome tries z claim v ≡ outcome.Ends answer → (tries && not won) ≡ false
-claim_free true won z claim v answer e = absurd (cc e)
-claim_free false won z claim v answer e = refl
+claim_free : (z : Sizes) (begun : Bool) (t : Topics) (v : ℕ) (step : PartStep) (next : ClaimNext) (u : Topics) → ClaimMade z begun t v step next u → (answer : Answer) → after_claim next ≡ outcome.Ends answer → claim_waits begun t.claim v ≡ false
+claim_free z begun t v _ _ _ (made.SawNone not_ le) answer e = rw not_ refl
+claim_free z begun t v _ _ _ _ answer e = absurd (cc e)
 
 pub setting_free : (p : SetSlotPlace) (h : Held) (v : ℕ) (answer : Answer) → set_slot_outcome p h v ≡ outcome.Ends answer → set_slot_waits p h.topics v ≡ false
-setting_free (set_slot.Claim begun) h v answer e = claim_free (tries_page begun h.topics.claim) (is_won h.topics.claim v) h.state.sizes (at_map_word begun h.topics.claim) v answer e
+setting_free (set_slot.Claim begun) h v answer e = claim_free h.state.sizes begun h.topics v _ _ _ (claim_made h.state.sizes begun h.topics v) answer e
 setting_free (set_slot.Refuse refusal) h v answer e = refl
 setting_free set_slot.Give h v answer e = refl
 setting_free p h v answer e = absurd (cc e)

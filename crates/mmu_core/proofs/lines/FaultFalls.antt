@@ -5,15 +5,14 @@ use Rattle.std.proofs.lemmas.Bool.Decides.{nat_tests}
 use Rattle.core_views.specs.declared.place.Cause.TheVariants.{Open, Moved, Entry}
 use Rattle.core_views.specs.declared.place.CheckStage.{CheckStage}
 use Rattle.core_views.specs.declared.place.CheckStage.TheVariants as stage
-use Rattle.core_views.specs.declared.place.FaultEnd.TheVariants.{Installed, Mmio, HostFault, Starved, Retry}
+use Rattle.core_views.specs.declared.place.FaultEnd.TheVariants.{Installed, Mmio, HostFault, Retry}
 use Rattle.core_views.specs.declared.place.FaultPlace.{FaultPlace}
 use Rattle.core_views.specs.declared.place.FaultPlace.TheVariants.{Begin, Find, Host, Share, Check, Walk, Claim, Fill, Role, Link, Give, Leaf, Unshare, End}
 use Rattle.core_views.specs.declared.place.SlotField.{SlotField}
 use Rattle.core_views.specs.declared.place.SlotField.TheVariants as field
 use Rattle.core_views.specs.declared.sizes.Sizes.{Sizes}
 use Rattle.core_views.specs.declared.topics.Hold.{Hold}
-use Rattle.core_views.specs.declared.topics.Hold.TheVariants.{Loose, Shared, Owing}
-use Rattle.core_views.specs.declared.topics.MapClaim.{MapClaim}
+use Rattle.core_views.specs.declared.topics.Hold.TheVariants.{Loose}
 use Rattle.core_views.specs.declared.topics.OwnedPage.{OwnedPage}
 use Rattle.core_views.specs.declared.topics.Topics.{Topics}
 use Rattle.core_views.specs.Held.{Held}
@@ -21,23 +20,28 @@ use Rattle.core_views.specs.Sizes.{AreSizes}
 use Rattle.core_views.specs.Slots.{contains}
 use Rattle.spte_words.specs.declared.spte_kind.SpteKind.{SpteKind}
 use Rattle.spte_words.specs.declared.spte_kind.SpteKind.TheVariants as entry_kind
-use Rattle.spte_words.specs.Areas.{words_of_bits}
 use Rattle.spte_words.specs.Entries.{kind_of, table_word}
 use Rattle.spte_words.specs.Flags.{flags_live}
 use Rattle.spte_words.specs.HostWords.{host_allows_write}
 use Rattle.spte_words.proofs.ReadsEntries.{kind_of_table}
-use Rattle.part_steps.specs.declared.part_step.PartStep.TheVariants as part
-use Rattle.mmu_core.specs.lines.FaultKnows.{FaultKnows, is_trying}
-use Rattle.mmu_core.specs.lines.FaultSteps.{allows_access, at_map_word, check_left, check_next, claim_next, entering_left, entry_word, fault_left, fault_next, fault_part, find_next, is_owing, lock_left, map_word, next_left, share_next, share_part, snapshot_taken, table_left, tries_page, waits, walk_left, walk_next}
+use Rattle.part_steps.specs.declared.part_step.PartStep.{PartStep}
+use Rattle.mmu_core.specs.declared.claim.ClaimNext.{ClaimNext}
+use Rattle.mmu_core.specs.declared.share.ShareNext.{ShareNext}
+use Rattle.mmu_core.specs.declared.share.ShareNext.TheVariants as shares
+use Rattle.mmu_core.specs.lines.FaultKnows.{FaultKnows}
+use Rattle.mmu_core.specs.lines.FaultSteps.{after_claim, after_share, allows_access, check_left, check_next, claim_left, entering_left, entry_word, fault_left, fault_next, fault_part, find_next, next_left, share_left, share_next, share_part, snapshot_taken, table_left, waits, walk_left, walk_next}
 use Rattle.part_steps.specs.PartBounds.{PartRests}
 use Rattle.part_steps.specs.PartSteps.{entry_index, link_written, page_owned, words_filled, HasToFill}
 use Rattle.part_steps.specs.PartTopics.{exchanged, part_topics}
 use Rattle.mmu_core.specs.lines.SearchLeft.{look_left}
-use Rattle.part_steps.specs.TopicSteps.{filled_more, gone_down, has_writer, is_won, linked_page, may_walk, searched, searched_at}
+use Rattle.part_steps.specs.TopicSteps.{filled_more, gone_down, linked_page, may_walk, searched, searched_at}
+use Rattle.mmu_core.proofs.lines.ClaimMade.{ClaimMade, claim_falls, claim_made, claim_left_after, word_there}
+use Rattle.mmu_core.proofs.lines.ClaimMade as made
 use Rattle.mmu_core.proofs.lines.FaultKnown.{above_lowest}
 use Rattle.mmu_core.proofs.lines.FaultNeeds.{first_word}
 use Rattle.mmu_core.proofs.lines.FaultSame.{not_not}
 use Rattle.mmu_core.proofs.pages.Owned.{more_filled, table_owned}
+use Rattle.mmu_core.proofs.lines.ShareMade.{share_falls, share_made, share_left_after}
 
 -- the search
 search_falls : (b : Bool) (z : Sizes) (u : Topics) (n : ℕ) → (u.search.id == 32) ≡ b → (b ≡ false → 4 * (31 - u.search.id) + look_left u.search.next < n) → fault_left (if b then End Mmio else Find true) z u < entering_left z + 7 + n
@@ -69,16 +73,11 @@ slot_falls false z gfn write t v is low = absurd (cc is)
 -- the host word, and the lock
 host_falls : (b : Bool) (z : Sizes) (u : Topics) → u.hold ≡ Loose → fault_left (if b then End HostFault else Share) z u < entering_left z + 7
 host_falls true z u loose = omega arith
-host_falls false z u loose = let two : lock_left u.hold ≡ 2 = ap (λ (x : Hold). lock_left x) loose in omega (arith, two)
+host_falls false z u loose = let two : share_left u.hold ≡ 2 = ap (λ (x : Hold). share_left x) loose in omega (arith, two)
 
-share_falls : (k : Hold) (z : Sizes) (t : Topics) (v : ℕ) → is_trying k ≡ true → is_owing k ≡ false → fault_left (share_next k v) z (part_topics (share_part k) t v) < entering_left z + 4 + lock_left k
-share_falls Loose z t v try_ goes = by (has_writer v)
-  where
-    by : (b : Bool) → fault_left (if b then Share else Check stage.Count) z (record t { hold = if b then Owing v else Shared; invalidations = (part_topics part.Share t v).invalidations }) < entering_left z + 4 + 2
-    by true = omega arith
-    by false = omega arith
-share_falls (Owing word) z t v try_ goes = absurd (cc goes)
-share_falls _ z t v try_ goes = absurd (cc try_)
+shares_fall : (next : ShareNext) (z : Sizes) (u : Topics) (n : ℕ) → share_left_after next u.hold < n → fault_left (after_share next) z u < entering_left z + 4 + n
+shares_fall shares.Tries z u n less = omega (arith, less)
+shares_fall _ z u n less = omega (arith, less)
 
 -- the check
 check_falls : (at : CheckStage) (z : Sizes) (gfn : ℕ) (t u : Topics) (v : ℕ) → fault_left (check_next at gfn t v) z u < entering_left z + check_left at
@@ -135,34 +134,10 @@ walk_falls entry_kind.Absent z gfn write t v is from most = none_falls (t.walk.l
 walk_falls entry_kind.Frozen z gfn write t v is from most = let four = four_left z t.walk.level in omega (arith, four)
 
 -- the claim
-tried_falls : (won : Bool) (z : Sizes) (t : Topics) (page v : ℕ) → won ≡ true
-    → fault_left (if won then Fill else Claim true) z (record t {
-      owned = if won then Some (record { page = page; filled = 0; absent = true; role = 0 }) else None;
-      claim = record { at = if won then 0 else t.claim.at; seen = if won then 0 else v };
-    })
-    < walk_left z (t.walk.level - 1) + 514 + 1
-tried_falls true z t page v is = omega arith
-tried_falls false z t page v is = absurd (cc is)
-
-pub seen_falls : (zero_ : Bool) (words word v : ℕ) → (v == 0) ≡ zero_ → word < words
-    → (if nat_lt 0 v then 1 else words - (word + (if zero_ then 1 else 0)) + 1) < words - word + 1
-seen_falls true words word v is low = let none : nat_lt 0 v ≡ false = grind (arith, nat_tests) in rw none (omega arith)
-seen_falls false words word v is low = let some : nat_lt 0 v ≡ true = grind (arith, nat_tests) in rw some (omega arith)
-
-mapped_falls : (more : Bool) (z : Sizes) (t : Topics) (word v : ℕ) → word < words_of_bits z.pool
-    → fault_left (if more then Claim true else Unshare Starved) z (record t { claim = record { at = word + (if v == 0 then 1 else 0); seen = v } }) < walk_left z (t.walk.level - 1) + 514 + (words_of_bits z.pool - word + 1)
-mapped_falls true z t word v low = let less = seen_falls (v == 0) (words_of_bits z.pool) word v refl low in omega (arith, less)
-mapped_falls false z t word v low = omega arith
-
-claim_falls : (tries b : Bool) (z : Sizes) (t : Topics) (v : ℕ) → (tries && not (is_won t.claim v)) ≡ false → map_word b t.claim < words_of_bits z.pool
-    → fault_left (claim_next tries z (at_map_word b t.claim) v) z (part_topics (if tries then part.Claim else part.Map (map_word b t.claim)) t v)
-    < walk_left z (t.walk.level - 1) + 514 + (if tries then 1 else words_of_bits z.pool - map_word b t.claim + 1)
-claim_falls true b z t v goes low = tried_falls (is_won t.claim v) z t _ v (not_not (is_won t.claim v) goes)
-claim_falls false b z t v goes low = mapped_falls (nat_lt (map_word b t.claim + (if v == 0 then 1 else 0)) (words_of_bits z.pool)) z t (map_word b t.claim) v low
-
-pub word_there : (b : Bool) (z : Sizes) (claim : MapClaim) → AreSizes z → (b ≡ true → claim.at < words_of_bits z.pool) → map_word b claim < words_of_bits z.pool
-word_there true z claim S low = low refl
-word_there false z claim S low = first_word z S
+claims_fall : (z : Sizes) (begun : Bool) (t : Topics) (v : ℕ) (step : PartStep) (next : ClaimNext) (u : Topics) → ClaimMade z begun t v step next u → claim_left_after next z u.claim < claim_left begun z t.claim
+    → fault_left (after_claim next) z u < walk_left z (t.walk.level - 1) + 514 + claim_left begun z t.claim
+claims_fall z begun t v _ _ _ (made.Won tries b some is) less = omega (arith, less)
+claims_fall z begun t v _ _ _ _ less = omega (arith, less)
 
 -- the page's words, and the link
 fill_falls : (more : Bool) (z : Sizes) (t : Topics) (v : ℕ) → HasToFill t → fault_left (if more then Fill else Role) z (record t { owned = filled_more t.owned v }) < walk_left z (t.walk.level - 1) + 1 + (513 - words_filled t.owned)
@@ -188,11 +163,13 @@ pub fault_falls : (p : FaultPlace) (h : Held) (gfn v : ℕ) (write : Bool) → g
 fault_falls (Find true) h gfn v write small R K goes = let set = K.1 refl in slot_falls (is_some h.topics.search.set) h.state.sizes gfn write h.topics v set.0 set.1
 fault_falls (Find false) h gfn v write small R K goes = omega arith
 fault_falls Host h gfn v write small R K goes = host_falls (write && not (host_allows_write v)) h.state.sizes (part_topics (fault_part Host gfn h.topics) h.topics v) K.0.loose
-fault_falls Share h gfn v write small R K goes = share_falls h.topics.hold h.state.sizes h.topics v K.1 goes
+fault_falls Share h gfn v write small R K goes = shares_fall (share_next h.topics.hold v) h.state.sizes (part_topics (share_part h.topics.hold) h.topics v) (share_left h.topics.hold) (share_falls h.topics v _ _ _ (share_made h.topics v K.1) goes)
 fault_falls (Check at) h gfn v write small R K goes = check_falls at h.state.sizes gfn h.topics _ v
 fault_falls (Walk true) h gfn v write small R K goes = let over = K.2 refl in walk_falls (kind_of h.topics.walk.level v) h.state.sizes gfn write h.topics v refl over.there R.level
 fault_falls (Walk false) h gfn v write small R K goes = root_falls (may_walk h.topics.stay h.topics.hold) h.state.sizes
-fault_falls (Claim begun) h gfn v write small R K goes = claim_falls (tries_page begun h.topics.claim) begun h.state.sizes h.topics v goes (word_there begun h.state.sizes h.topics.claim R.sizes K.3)
+fault_falls (Claim begun) h gfn v write small R K goes =
+    let M = claim_made h.state.sizes begun h.topics v in
+    claims_fall h.state.sizes begun h.topics v _ _ _ M (claim_falls h.state.sizes begun h.topics v _ _ _ M goes (word_there begun h.state.sizes h.topics.claim R.sizes K.3))
 fault_falls Fill h gfn v write small R K goes = fill_falls (nat_lt (words_filled h.topics.owned + 1) 512) h.state.sizes h.topics v K.2
 fault_falls Link h gfn v write small R K goes =
     let O = table_owned (h.topics.walk.level - 1) h.topics K.2 in

@@ -6,7 +6,7 @@ use Rattle.core_views.specs.declared.place.Cause.TheVariants.{Open, Moved, Entry
 use Rattle.core_views.specs.declared.place.CheckStage.{CheckStage}
 use Rattle.core_views.specs.declared.place.CheckStage.TheVariants as stage
 use Rattle.core_views.specs.declared.place.FaultEnd.{FaultEnd}
-use Rattle.core_views.specs.declared.place.FaultEnd.TheVariants.{Installed, Mmio, HostFault, Starved, Retry}
+use Rattle.core_views.specs.declared.place.FaultEnd.TheVariants.{Installed, Mmio, HostFault, Retry}
 use Rattle.core_views.specs.declared.place.FaultPlace.{FaultPlace}
 use Rattle.core_views.specs.declared.place.FaultPlace.TheVariants.{Begin, Snapshot, Find, Host, Share, Check, Walk, Claim, Fill, Role, Link, Give, Leaf, Unshare, End}
 use Rattle.core_views.specs.declared.place.SlotField.{SlotField}
@@ -15,7 +15,7 @@ use Rattle.core_views.specs.declared.sizes.Sizes.{Sizes}
 use Rattle.core_views.specs.declared.topics.Checked.{Checked}
 use Rattle.core_views.specs.declared.topics.Checked.TheVariants as checked
 use Rattle.core_views.specs.declared.topics.Hold.{Hold}
-use Rattle.core_views.specs.declared.topics.Hold.TheVariants.{Loose, Shared, Owing}
+use Rattle.core_views.specs.declared.topics.Hold.TheVariants.{Loose}
 use Rattle.core_views.specs.declared.topics.HostLook.{HostLook}
 use Rattle.core_views.specs.declared.topics.Invalidations.{Invalidations}
 use Rattle.core_views.specs.declared.topics.OwnedPage.{OwnedPage}
@@ -37,16 +37,23 @@ use Rattle.spte_words.proofs.ReadsEntries.{kind_of_leaf, kind_of_table, leaf_can
 use Rattle.spte_words.proofs.Spans.{span_1, span_2, span_3, span_4}
 use Rattle.part_steps.specs.declared.part_step.PartStep.{PartStep}
 use Rattle.part_steps.specs.declared.part_step.PartStep.TheVariants as part
-use Rattle.mmu_core.specs.lines.FaultKnows.{CheckKnows, EndKnows, Entering, FaultKnows, InSection, KnowsNext, LookedFor, SawNone, Sharing, WithoutLock, is_trying}
+use Rattle.mmu_core.specs.lines.FaultKnows.{CheckKnows, EndKnows, Entering, FaultKnows, InSection, KnowsNext, LookedFor, SawNone, Sharing, WithoutLock, is_trying, Filling}
 use Rattle.mmu_core.specs.lines.FaultLaws.{CanAnswer}
-use Rattle.mmu_core.specs.lines.FaultSteps.{allows_access, at_map_word, check_next, check_part, claim_next, entry_word, fault_next, fault_part, find_next, map_word, share_next, share_part, snapshot_taken, tries_page, walk_next}
+use Rattle.mmu_core.specs.lines.FaultSteps.{allows_access, at_map_word, check_next, check_part, claim_next, entry_word, fault_next, fault_part, find_next, map_word, share_next, share_part, snapshot_taken, tries_page, walk_next, after_claim, after_share, table_value}
+use Rattle.mmu_core.specs.declared.claim.ClaimNext.{ClaimNext}
+use Rattle.mmu_core.specs.declared.share.ShareNext.{ShareNext}
 use Rattle.part_steps.specs.PartBounds.{PartRests}
 use Rattle.part_steps.specs.PartSteps.{FoundSlot, HoldsSet, IsOver, LookedUp, SawEntry, entry_index, leaf_written, link_written, page_owned, part_task, word_looked, words_filled, HasRoleToSet, HasToFill, is_absent}
 use Rattle.part_steps.specs.PartTopics.{exchanged, part_topics, sequenced}
 use Rattle.part_steps.specs.SlotWords.{leaf_of, may_write, page_of}
-use Rattle.part_steps.specs.TopicSteps.{at_root, at_set, count_checked, filled_more, gone_down, has_writer, is_loose, is_outside, is_section, is_won, kept_search, kept_walk, let_go, linked_page, may_search, may_walk, range_checked, searched, searched_at, seq_checked, start_checked, unchecked, unless_linked}
+use Rattle.part_steps.specs.TopicSteps.{at_root, at_set, count_checked, filled_more, gone_down, is_loose, is_outside, is_section, kept_search, kept_walk, let_go, linked_page, may_search, may_walk, range_checked, searched, searched_at, seq_checked, start_checked, unless_linked}
 use Rattle.mmu_core.specs.machine.View.{answer_in}
 use Rattle.mmu_core.proofs.pages.Owned.{more_absent, more_filled, more_role, more_some, some_filled, table_owned}
+use Rattle.mmu_core.proofs.lines.ClaimMade.{ClaimMade, claim_made, page_won}
+use Rattle.mmu_core.proofs.lines.ClaimMade as made
+use Rattle.mmu_core.proofs.words.PartWords.{fill_answers}
+use Rattle.mmu_core.proofs.lines.ShareMade.{ShareMade, share_made}
+use Rattle.mmu_core.proofs.lines.ShareMade as share
 use Rattle.mmu_core.proofs.lines.FaultSame.{both, ends_same, is_not, not_not, not_then, over_it, same_entering, same_looked, same_none, same_sharing, same_without}
 
 -- the section, and the snapshot
@@ -113,22 +120,16 @@ host_known false z gfn write t v is W F may = (
 )
 
 -- the lock
-shared_known : (b : Bool) (z : Sizes) (gfn : ℕ) (write : Bool) (t : Topics) (v : ℕ) → InSection t → LookedFor gfn write t
-    → FaultKnows (if b then Share else Check stage.Count) z gfn write (record t { hold = if b then Owing v else Shared; invalidations = unchecked t.invalidations })
-shared_known true z gfn write t v I L = (record { section = I.section; owns_none = I.owns_none }, refl, same_looked gfn write t _ refl refl refl L)
-shared_known false z gfn write t v I L = (record { section = I.section; shares = refl; looked = same_looked gfn write t _ refl refl refl L }, I.owns_none, tt)
-
 kept : (t : Topics) → t.stay ≡ Section → kept_search (is_section t.stay) t.search ≡ t.search
 kept t section = ap (λ (s : Stay). kept_search (is_section s) t.search) section
 
 kept_table : (t : Topics) → t.stay ≡ Section → kept_walk (not (is_outside t.stay)) t.walk ≡ t.walk
 kept_table t section = ap (λ (s : Stay). kept_walk (not (is_outside s)) t.walk) section
 
-share_known : (k : Hold) (z : Sizes) (gfn : ℕ) (write : Bool) (t : Topics) (v : ℕ) → is_trying k ≡ true → InSection t → LookedFor gfn write t
-    → FaultKnows (share_next k v) z gfn write (part_topics (share_part k) t v)
-share_known Loose z gfn write t v try_ I L = shared_known (has_writer v) z gfn write t v I L
-share_known (Owing word) z gfn write t v try_ I L = (record { section = I.section; owns_none = I.owns_none }, refl, same_looked gfn write t _ (kept t I.section) refl refl L)
-share_known _ z gfn write t v try_ I L = absurd (cc try_)
+share_known : (z : Sizes) (gfn : ℕ) (write : Bool) (t : Topics) (v : ℕ) (step : PartStep) (next : ShareNext) (u : Topics) → ShareMade t v step next u → InSection t → LookedFor gfn write t → FaultKnows (after_share next) z gfn write u
+share_known z gfn write t v _ _ _ (share.Got loose is) I L = (record { section = I.section; shares = refl; looked = same_looked gfn write t _ refl refl refl L }, I.owns_none, tt)
+share_known z gfn write t v _ _ _ (share.SawWriter loose is) I L = (record { section = I.section; owns_none = I.owns_none }, refl, same_looked gfn write t _ refl refl refl L)
+share_known z gfn write t v _ _ _ (share.TakesBack word is) I L = (record { section = I.section; owns_none = I.owns_none }, refl, same_looked gfn write t _ (kept t I.section) refl refl L)
 
 -- the check
 count_known : (b : Bool) (z : Sizes) (gfn : ℕ) (write : Bool) (t : Topics) (v : ℕ) → (v == 0) ≡ b → Sharing gfn write t → t.owned ≡ None
@@ -258,24 +259,12 @@ walk_known entry_kind.Absent z gfn write t v is most E none O = none_seen (t.wal
 walk_known entry_kind.Frozen z gfn write t v is most E none O = (record { section = E.sharing.section; owns_none = none }, E.sharing.shares, record { saw = saw_it gfn v t.walk O; is_entry = refl; holds = refl; why = inr (inl is) })
 
 -- the claim
-tried_known : (won : Bool) (z : Sizes) (gfn : ℕ) (write : Bool) (t : Topics) (page v : ℕ) → Entering gfn write t → t.owned ≡ None → SawNone gfn t → t.claim.at < words_of_bits z.pool
-    → FaultKnows (if won then Fill else Claim true) z gfn write (record t {
-      owned = if won then Some (record { page = page; filled = 0; absent = true; role = 0 }) else None;
-      claim = record { at = if won then 0 else t.claim.at; seen = if won then 0 else v };
-    })
-tried_known true z gfn write t page v E none S low =
-    (same_entering gfn write t _ refl refl refl refl refl E, same_none gfn t _ refl S, (refl, omega arith), refl)
-tried_known false z gfn write t page v E none S low = (same_entering gfn write t _ refl refl refl refl refl E, refl, same_none gfn t _ refl S, λ _. low)
-
-mapped_known : (more : Bool) (z : Sizes) (gfn at v : ℕ) (write : Bool) (t : Topics) → nat_lt at (words_of_bits z.pool) ≡ more → Entering gfn write t → t.owned ≡ None → SawNone gfn t
-    → FaultKnows (if more then Claim true else Unshare Starved) z gfn write (record t { claim = record { at = at; seen = v } })
-mapped_known true z gfn at v write t is E none S = (same_entering gfn write t _ refl refl refl refl refl E, none, same_none gfn t _ refl S, λ _. grind (arith, nat_tests))
-mapped_known false z gfn at v write t is E none S = (record { section = E.sharing.section; owns_none = none }, E.sharing.shares, grind (arith, nat_tests))
-
-claim_by : (tries : Bool) (b : Bool) (z : Sizes) (gfn : ℕ) (write : Bool) (t : Topics) (v : ℕ) → tries_page b t.claim ≡ tries → Entering gfn write t → t.owned ≡ None → SawNone gfn t → (b ≡ true → t.claim.at < words_of_bits z.pool)
-    → FaultKnows (claim_next tries z (at_map_word b t.claim) v) z gfn write (part_topics (if tries then part.Claim else part.Map (map_word b t.claim)) t v)
-claim_by true b z gfn write t v is E none S low = tried_known (is_won t.claim v) z gfn write t _ v E none S (low (both b (nat_lt 0 t.claim.seen) is).0)
-claim_by false b z gfn write t v is E none S low = mapped_known (nat_lt _ (words_of_bits z.pool)) z gfn _ v write t refl E none S
+claim_known : (z : Sizes) (gfn : ℕ) (write begun : Bool) (t : Topics) (v : ℕ) (step : PartStep) (next : ClaimNext) (u : Topics) → ClaimMade z begun t v step next u → Entering gfn write t → t.owned ≡ None → SawNone gfn t
+    → (begun ≡ true → t.claim.at < words_of_bits z.pool) → FaultKnows (after_claim next) z gfn write u
+claim_known z gfn write begun t v _ _ _ (made.Won tries b some is) E none S low = (same_entering gfn write t _ refl refl refl refl refl E, same_none gfn t _ refl S, (refl, omega arith), refl)
+claim_known z gfn write begun t v _ _ _ (made.Lost tries b some is) E none S low = (same_entering gfn write t _ refl refl refl refl refl E, refl, same_none gfn t _ refl S, λ _. low b)
+claim_known z gfn write begun t v _ _ _ (made.Saw not_ lt) E none S low = (same_entering gfn write t _ refl refl refl refl refl E, none, same_none gfn t _ refl S, λ _. lt)
+claim_known z gfn write begun t v _ _ _ (made.SawNone not_ le) E none S low = (record { section = E.sharing.section; owns_none = none }, E.sharing.shares, le)
 
 -- the page's words, and its role
 fill_known : (more : Bool) (z : Sizes) (gfn : ℕ) (write : Bool) (t : Topics) (v : ℕ) → nat_lt (words_filled t.owned + 1) 512 ≡ more → v ≡ 0 → Entering gfn write t → SawNone gfn t → HasToFill t → is_absent t.owned ≡ true
@@ -361,12 +350,12 @@ fault_known (Find true) h gfn v write small R K A = let set = K.1 refl in slot_k
 fault_known (Find false) h gfn v write small R K A =
     slots_known h.state.sizes gfn write (may_search h.topics.stay h.topics.hold) h.topics v (ap (λ (s : Stay). may_search s h.topics.hold) K.0.inside.section) K.0
 fault_known Host h gfn v write small R K A = host_known (write && not (host_allows_write v)) h.state.sizes gfn write h.topics v refl K.0 K.1 K.2
-fault_known Share h gfn v write small R K A = share_known h.topics.hold h.state.sizes gfn write h.topics v K.1 K.0 K.2
+fault_known Share h gfn v write small R K A = share_known h.state.sizes gfn write h.topics v _ _ _ (share_made h.topics v K.1) K.0 K.2
 fault_known (Check at) h gfn v write small R K A = check_known at h.state.sizes gfn write h.topics v K.0 K.1 K.2
 fault_known (Walk true) h gfn v write small R K A = walk_known (kind_of h.topics.walk.level v) h.state.sizes gfn write h.topics v refl R.level K.0 K.1 (K.2 refl)
 fault_known (Walk false) h gfn v write small R K A =
     root_known (may_walk h.topics.stay h.topics.hold) h.state.sizes gfn write h.topics v (ap (λ (s : Stay). may_walk s h.topics.hold) K.0.sharing.section) small K.0 K.1
-fault_known (Claim begun) h gfn v write small R K A = claim_by (tries_page begun h.topics.claim) begun h.state.sizes gfn write h.topics v refl K.0 K.1 K.2 K.3
+fault_known (Claim begun) h gfn v write small R K A = claim_known h.state.sizes gfn write begun h.topics v _ _ _ (claim_made h.state.sizes begun h.topics v) K.0 K.1 K.2 K.3
 fault_known Fill h gfn v write small R K A = fill_known (nat_lt (words_filled h.topics.owned + 1) 512) h.state.sizes gfn write h.topics v refl A K.0 K.1 K.2 K.3
 fault_known Role h gfn v write small R K A = role_known h.state.sizes gfn write h.topics v A K.0 K.1 K.2 K.3
 fault_known Link h gfn v write small R K A =

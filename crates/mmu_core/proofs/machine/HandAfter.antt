@@ -1,6 +1,6 @@
 -- What one step makes of its actor's hand.
 use Rattle.std.proofs.Common.{◌≡◌, ◌<◌, ℕ, length, refl, sym, subst}
-use Rattle.std.specs.Prelude.{Bool, true, false, ◌+◌, ◌==◌, if◌then◌else◌, nat_lt}
+use Rattle.std.specs.Prelude.{Bool, true, false}
 use Rattle.core_views.specs.declared.hand.State.{State}
 use Rattle.core_views.specs.declared.kind.Kind.{Kind}
 use Rattle.core_views.specs.declared.place.AccessPlace.{AccessPlace}
@@ -14,9 +14,6 @@ use Rattle.core_views.specs.declared.place.Place.{Place}
 use Rattle.core_views.specs.declared.place.Place.TheVariants as place
 use Rattle.core_views.specs.declared.place.SetSlotPlace.{SetSlotPlace}
 use Rattle.core_views.specs.declared.place.SetSlotPlace.TheVariants.{Claim}
-use Rattle.core_views.specs.declared.sizes.Sizes.{Sizes}
-use Rattle.core_views.specs.declared.topics.MapClaim.{MapClaim}
-use Rattle.core_views.specs.declared.answer.Answer.TheVariants.{Starved}
 use Rattle.core_views.specs.declared.trace.Command.{Command}
 use Rattle.core_views.specs.declared.trace.Command.TheVariants.{Access, SetSlot}
 use Rattle.core_views.specs.declared.trace.Line.{Line}
@@ -25,11 +22,13 @@ use Rattle.core_views.specs.Held.{Held}
 use Rattle.core_views.specs.Slots.{is_write}
 use Rattle.mmu_core.specs.declared.outcome.Outcome.{Outcome}
 use Rattle.mmu_core.specs.declared.outcome.Outcome.TheVariants.{Goes, Ends}
+use Rattle.mmu_core.specs.declared.claim.ClaimNext.{ClaimNext}
+use Rattle.mmu_core.specs.declared.claim.ClaimNext.TheVariants as claims
 use Rattle.mmu_core.specs.lines.AccessSteps.{access_loads, access_outcome, behind_fault, fault_over}
-use Rattle.mmu_core.specs.lines.FaultSteps.{at_map_word, fault_next, tries_page}
+use Rattle.mmu_core.specs.lines.ClaimSteps.{claim_next}
+use Rattle.mmu_core.specs.lines.FaultSteps.{fault_next}
 use Rattle.mmu_core.specs.lines.Rests.{IsUnderWay}
-use Rattle.mmu_core.specs.lines.SetSlotSteps.{claim_outcome, set_slot_outcome}
-use Rattle.spte_words.specs.Areas.{words_of_bits}
+use Rattle.mmu_core.specs.lines.SetSlotSteps.{after_claim, set_slot_outcome}
 use Rattle.mmu_core.specs.machine.Steps.{has_line, held_after, line_at, loads_at, next, next_by, outcome_at, place_at}
 use Rattle.mmu_core.proofs.machine.Stepping.{is_begun}
 use Rattle.mmu_core.proofs.machine.Which.{has_line_is, next_of_line}
@@ -76,16 +75,12 @@ access_goes (Leave leaving.Faults) h gfn op v = tt
 access_goes (Fault p) h gfn op v = fault_goes (fault_next p h.state.sizes gfn (is_write op) h.topics v)
 access_goes _ h gfn op v = tt
 
-claim_goes : (tries : Bool) (z : Sizes) (claim : MapClaim) (v : ℕ) → GoesUnderWay (claim_outcome tries z claim v)
-claim_goes true z claim v = tt
-claim_goes false z claim v = by (nat_lt (claim.at + (if v == 0 then 1 else 0)) (words_of_bits z.pool))
-  where
-    by : (b : Bool) → GoesUnderWay (if b then Goes (place.SetSlot (Claim true)) else Ends Starved)
-    by true = tt
-    by false = tt
+claim_goes : (next : ClaimNext) → GoesUnderWay (after_claim next)
+claim_goes claims.Goes = tt
+claim_goes _ = tt
 
 set_slot_goes : (p : SetSlotPlace) (h : Held) (v : ℕ) → GoesUnderWay (set_slot_outcome p h v)
-set_slot_goes (Claim begun) h v = claim_goes (tries_page begun h.topics.claim) h.state.sizes (at_map_word begun h.topics.claim) v
+set_slot_goes (Claim begun) h v = claim_goes (claim_next begun h.state.sizes h.topics.claim v)
 set_slot_goes _ h v = tt
 
 pub outcome_goes : (p : Place) (command : Command) (h : Held) (v : ℕ) → IsUnderWay p → GoesUnderWay (outcome_at p command h v)

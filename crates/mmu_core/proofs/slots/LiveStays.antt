@@ -6,9 +6,7 @@ use Rattle.core_views.specs.declared.place.AccessPlace.TheVariants as access
 use Rattle.core_views.specs.declared.place.CheckStage.TheVariants as stage
 use Rattle.core_views.specs.declared.place.FaultPlace.{FaultPlace}
 use Rattle.core_views.specs.declared.place.FaultPlace.TheVariants as fault
-use Rattle.core_views.specs.declared.topics.Hold.{Hold}
 use Rattle.core_views.specs.declared.topics.Topics.{Topics}
-use Rattle.core_views.specs.declared.topics.Hold.TheVariants.{Owing}
 use Rattle.part_steps.specs.declared.part_step.PartStep.TheVariants as part
 use Rattle.core_views.specs.declared.place.Place.TheVariants as place
 use Rattle.core_views.specs.declared.place.SlotField.{SlotField}
@@ -27,14 +25,16 @@ use Rattle.spte_words.specs.Entries.{frame_in}
 use Rattle.spte_words.specs.Flags.{flags_live, flags_read_only}
 use Rattle.part_steps.specs.declared.part_step.PartStep.{PartStep}
 use Rattle.mmu_core.specs.lines.AccessSteps.{access_note, access_part, task_by, touch_of}
-use Rattle.mmu_core.specs.lines.FaultSteps.{fault_part, map_word, share_part, tries_page}
+use Rattle.mmu_core.specs.lines.FaultSteps.{fault_part}
 use Rattle.part_steps.specs.SlotWords.{field_number, live_at, slot_at, slot_index}
 use Rattle.part_steps.specs.Tasks.{map_of}
 use Rattle.mmu_core.specs.invariant.TopicsInvariant.{TopicsInvariant}
 use Rattle.mmu_core.specs.invariant.TreePart.{IsLiveIn}
 use Rattle.mmu_core.specs.machine.View.{View, part_stepped, stepped, words_after}
+use Rattle.mmu_core.proofs.lines.ClaimMade.{claim_never}
 use Rattle.mmu_core.proofs.machine.PartStepping.{IsPart, is_publish}
-use Rattle.mmu_core.proofs.words.PartWords.{areas_stay, fill_elsewhere, role_stays, slots_are, slots_other_role, slots_same}
+use Rattle.mmu_core.proofs.words.PartWords.{areas_stay, fill_elsewhere, role_stays, slots_are, slots_other_role, slots_same, slots_elsewhere}
+use Rattle.mmu_core.proofs.lines.ShareMade.{share_never}
 use Rattle.mmu_core.proofs.words.SlotFields.{is_number, same_slot}
 
 -- Each word of a slot that is live in the slot set of a page stays as it is.
@@ -111,11 +111,7 @@ never_by_fault (fault.Find begun) gfn t = by begun
     by : (b : Bool) → is_publish (if b then part.Slot else part.Slots) ≡ false
     by true = refl
     by false = refl
-never_by_fault fault.Share gfn t = by t.hold
-  where
-    by : (hold : Hold) → is_publish (share_part hold) ≡ false
-    by (Owing word) = refl
-    by _ = refl
+never_by_fault fault.Share gfn t = share_never t.hold
 never_by_fault (fault.Check stage.Count) gfn t = refl
 never_by_fault (fault.Check stage.Start) gfn t = refl
 never_by_fault (fault.Check stage.End) gfn t = refl
@@ -125,11 +121,7 @@ never_by_fault (fault.Walk rooted) gfn t = by rooted
     by : (b : Bool) → is_publish (if b then part.Walk gfn else part.Root) ≡ false
     by true = refl
     by false = refl
-never_by_fault (fault.Claim begun) gfn t = by (tries_page begun t.claim)
-  where
-    by : (b : Bool) → is_publish (if b then part.Claim else part.Map (map_word begun t.claim)) ≡ false
-    by true = refl
-    by false = refl
+never_by_fault (fault.Claim begun) gfn t = claim_never begun t.claim
 never_by_fault _ gfn t = refl
 
 pub access_never : (p : AccessPlace) (gfn : ℕ) (t : Topics) (step : PartStep) → access_part p gfn t ≡ Some step → is_publish step ≡ false

@@ -20,8 +20,7 @@ use Rattle.spte_words.specs.declared.area.Area.TheVariants as area
 use Rattle.spte_words.specs.Areas.{pool_index}
 use Rattle.spte_words.specs.Flags.{flags_live, flags_logged, flags_read_only}
 use Rattle.spte_words.proofs.ReadsFlags.{flags_are_live, flags_are_logged, flags_are_read_only}
-use Rattle.part_steps.specs.declared.part_step.PartStep.TheVariants as part
-use Rattle.mmu_core.specs.lines.FaultSteps.{claim_part, map_word, tries_page}
+use Rattle.mmu_core.specs.lines.FaultSteps.{claim_part}
 use Rattle.mmu_core.specs.invariant.Invariant.{Invariant, IsLiveIn, RecordPart}
 use Rattle.part_steps.specs.PartSteps.{OwnsSet, page_owned}
 use Rattle.mmu_core.proofs.pages.Owned.{set_owned}
@@ -32,6 +31,7 @@ use Rattle.mmu_core.specs.machine.View.{View}
 use Rattle.mmu_core.proofs.slots.Accepted.{may_be_set, record_of}
 use Rattle.mmu_core.proofs.machine.Columns.{same_or}
 use Rattle.mmu_core.proofs.lines.KnowsKept.{step_knows}
+use Rattle.mmu_core.proofs.lines.ClaimMade.{claim_never}
 use Rattle.mmu_core.proofs.machine.PartStepping.{Replaces, is_publish, replaces_none}
 use Rattle.part_steps.proofs.SetWords.{set_at}
 use Rattle.mmu_core.proofs.words.SlotFields.{is_number, same_slot}
@@ -212,13 +212,9 @@ abbrev pub is_publication : SetSlotPlace → Bool
 is_publication Publish = true
 is_publication _ = false
 
-claim_never : (tries : Bool) (word : ℕ) → is_publish (if tries then part.Claim else part.Map word) ≡ false
-claim_never true word = refl
-claim_never false word = refl
-
 pub setting_never : (p : SetSlotPlace) (h : Held) (id : ℕ) (slot : Slot) → is_publication p ≡ false → is_publish (set_slot_part p h id slot) ≡ false
 setting_never Publish h id slot other = absurd (cc other)
-setting_never (Claim begun) h id slot other = claim_never (tries_page begun h.topics.claim) (map_word begun h.topics.claim)
+setting_never (Claim begun) h id slot other = claim_never begun h.topics.claim
 setting_never _ h id slot other = refl
 
 -- A slot set that a setting publishes has each slot of the one before it.
@@ -227,5 +223,5 @@ pub setting_replaces : (z : Sizes) (v : View) (a : ℕ) (line : Line) (p : SetSl
 setting_replaces z v a line Publish id slot S I = publish_replaces z v a line id slot S I
 setting_replaces z v a line (Claim begun) id slot S I =
     let t : Topics = (v.hand a).topics in
-    replaces_none (claim_part begun t.claim) (v.words area.Pool) (v.words area.Slots 0) t (claim_never (tries_page begun t.claim) (map_word begun t.claim))
+    replaces_none (claim_part begun t.claim) (v.words area.Pool) (v.words area.Slots 0) t (claim_never begun t.claim)
 setting_replaces z v a line _ id slot S I = tt

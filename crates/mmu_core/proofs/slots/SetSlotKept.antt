@@ -4,7 +4,7 @@ use Rattle.std.proofs.lemmas.Map.Views.{All-keys-insert_entry}
 use Rattle.std.specs.List.{Contains}
 use Rattle.std.specs.Map.{keys_of}
 use Rattle.std.specs.Ordering.{nat_cmp}
-use Rattle.std.specs.Prelude.{All, Bool, true, false, nat_lt, if◌then◌else◌}
+use Rattle.std.specs.Prelude.{All, Bool, true, false, if◌then◌else◌}
 use Rattle.circular_buffer.specs.Buffer.{Buffer}
 use Rattle.core_views.specs.declared.actor.Actor.TheVariants.{Manager}
 use Rattle.core_views.specs.declared.cache.Translation.{Translation}
@@ -19,7 +19,7 @@ use Rattle.core_views.specs.declared.trace.Line.{Line}
 use Rattle.core_views.specs.declared.trace.Slot.{Slot}
 use Rattle.core_views.specs.Held.{Held}
 use Rattle.core_views.specs.Refusals.{after_set, is_logged}
-use Rattle.core_views.specs.Sizes.{actors_of, index_of}
+use Rattle.core_views.specs.Sizes.{index_of}
 use Rattle.core_views.specs.SlotSets.{MemorySlots, with_slot_at}
 use Rattle.core_views.specs.Traces.{IsCommandFor, slot_ids}
 use Rattle.spte_words.specs.declared.area.Area.{Area}
@@ -29,14 +29,13 @@ use Rattle.part_steps.specs.declared.part_step.PartStep.{PartStep}
 use Rattle.mmu_core.specs.lines.Cached.{flushed}
 use Rattle.mmu_core.specs.invariant.Invariant.{CachedPart, Holds, Invariant, InvariantOf, IsLeafFor, OwnLines, RecordPart, UnderWay, lines_done, IsSetBy}
 use Rattle.mmu_core.specs.lines.KnowsPart.{may_leave}
-use Rattle.part_steps.specs.PartSteps.{own_index, page_owned, next_watched}
-use Rattle.mmu_core.specs.lines.SetSlotSteps.{looked_at, set_slot_note, set_slot_outcome, set_slot_part, set_slot_records, set_slot_task}
+use Rattle.part_steps.specs.PartSteps.{own_index, page_owned, next_watched, OwnsSet}
+use Rattle.mmu_core.specs.lines.SetSlotSteps.{looked_at, set_slot_note, set_slot_outcome, set_slot_part, set_slot_records, set_slot_task, watch_next}
 use Rattle.part_steps.specs.SetWords.{set_role, set_word}
 use Rattle.mmu_core.specs.machine.Steps.{next_line, state_at}
 use Rattle.mmu_core.specs.machine.Outcomes.{answers_after, place_after}
 use Rattle.part_steps.specs.Tasks.{kind_of_task}
 use Rattle.mmu_core.specs.invariant.TopicsInvariant.{TopicsInvariant}
-use Rattle.part_steps.specs.TopicSteps.{in_section}
 use Rattle.mmu_core.specs.machine.View.{View, answer_in, hand_after, stepped, upd}
 use Rattle.mmu_core.proofs.slots.Accepted.{MayBeSet, may_be_set, record_of, setting_is_managers}
 use Rattle.mmu_core.proofs.lines.CachedKept.{flushed_kept}
@@ -51,7 +50,7 @@ use Rattle.mmu_core.proofs.pages.Owned.{OwnsWhole, set_owned}
 use Rattle.mmu_core.proofs.words.PartWords.{areas_stay, role_stays, slots_are, slots_other_role, slots_same}
 use Rattle.mmu_core.proofs.slots.SetFilled.{is_publication, has_each, list_with, new_slot, others_live, others_same, setting_filled, setting_never}
 use Rattle.mmu_core.proofs.slots.SetPublished.{set_with}
-use Rattle.mmu_core.proofs.slots.SettingHolds.{either_place, setting_holds, setting_leaves}
+use Rattle.mmu_core.proofs.slots.SettingHolds.{each_watch, setting_holds, setting_leaves}
 use Rattle.mmu_core.proofs.slots.SlotsStay.{AllKnow, hand_moved, is_live_stays, is_live_was, record_stays}
 use Rattle.mmu_core.proofs.machine.Stepping.{IsStep, next_has, none_done}
 use Rattle.core_views.specs.declared.answer.Answer.TheVariants.{Done}
@@ -82,9 +81,7 @@ still_cached before set after other host k c x stay each =
 counts_more : (p : SetSlotPlace) (h : Held) (line : Line) (v : ℕ) → may_leave (place.SetSlot p) ≡ true
     → length h.answers + 1 ≤ length (answers_after (set_slot_outcome p h v) line h.answers) + (if may_leave (place_after (set_slot_outcome p h v)) then 1 else 0)
 counts_more Release h line v may = omega arith
-counts_more Watch h line v may =
-    either_place (λ q. length h.answers + 1 ≤ length h.answers + (if may_leave (place.SetSlot q) then 1 else 0)) (in_section v) Watch (if nat_lt (next_watched (own_index h) (looked_at h + 1)) (actors_of h.state.sizes) then Watch else Clear) (omega arith)
-    (either_place (λ q. length h.answers + 1 ≤ length h.answers + (if may_leave (place.SetSlot q) then 1 else 0)) (nat_lt (next_watched (own_index h) (looked_at h + 1)) (actors_of h.state.sizes)) Watch Clear (omega arith) (omega arith))
+counts_more Watch h line v may = each_watch (λ q. length h.answers + 1 ≤ length h.answers + (if may_leave (place.SetSlot q) then 1 else 0)) (watch_next h v) (omega arith) (omega arith)
 counts_more Clear h line v may = omega arith
 counts_more Give h line v may = let n = answers_length h.answers (record { number = line.number; actor = line.actor; answer = Done }) in omega (arith, n)
 counts_more _ h line v may = absurd (cc may)

@@ -1,5 +1,5 @@
 -- A slot setting has what each of its steps needs, and knows behind it what its next place asks.
-use Rattle.std.proofs.Common.{◌≡◌, ◌≢◌, inr, ◌<◌, ◌≤◌, ◌^◌, ◌+◌, ◌==◌, ℕ, refl, sym, subst, ap, ◌∙◌, arith}
+use Rattle.std.proofs.Common.{◌≡◌, inr, ◌<◌, ◌≤◌, ◌^◌, ◌+◌, ◌==◌, ℕ, refl, sym, subst, ap, ◌∙◌, arith}
 use Rattle.std.specs.Prelude.{Bool, true, false, ◌&&◌, not, if◌then◌else◌, nat_lt, Some, None}
 use Rattle.std.proofs.lemmas.Bool.Decides.{nat_tests}
 use Rattle.circular_buffer.specs.Buffer.{Buffer}
@@ -9,7 +9,6 @@ use Rattle.core_views.specs.declared.place.SetSlotPlace.{SetSlotPlace}
 use Rattle.core_views.specs.declared.place.SetSlotPlace.TheVariants.{Refuse, Claim, Fill, Role, Exclude, Count, Close, Publish, Release, Watch, Clear, Give}
 use Rattle.core_views.specs.declared.topics.Hold.{Hold}
 use Rattle.core_views.specs.declared.topics.Hold.TheVariants.{Loose, Exclusive}
-use Rattle.core_views.specs.declared.topics.OwnedPage.{OwnedPage}
 use Rattle.core_views.specs.declared.topics.Stay.{Stay}
 use Rattle.core_views.specs.declared.topics.Stay.TheVariants.{Outside}
 use Rattle.core_views.specs.declared.topics.Topics.{Topics}
@@ -20,20 +19,24 @@ use Rattle.core_views.specs.Held.{Held}
 use Rattle.core_views.specs.Refusals.{after_set}
 use Rattle.core_views.specs.Sizes.{actors_of}
 use Rattle.spte_words.specs.Areas.{words_of_bits}
-use Rattle.part_steps.specs.declared.part_step.PartStep.TheVariants as part
+use Rattle.part_steps.specs.declared.part_step.PartStep.{PartStep}
+use Rattle.mmu_core.specs.declared.claim.ClaimNext.{ClaimNext}
+use Rattle.mmu_core.specs.declared.watch.WatchNext.{WatchNext}
 use Rattle.mmu_core.specs.lines.FaultLaws.{CanAnswer}
-use Rattle.mmu_core.specs.lines.FaultSteps.{at_map_word, map_word, tries_page}
 use Rattle.part_steps.specs.PartBounds.{PartRests}
 use Rattle.part_steps.specs.PartSteps.{HasRoleToSet, HasToFill, IsAtRest, OwnsSet, PartNeeds, next_watched, own_index, words_filled}
 use Rattle.part_steps.specs.PartTopics.{part_topics, sequenced}
 use Rattle.mmu_core.specs.lines.PartWaits.{was_counted}
 use Rattle.mmu_core.specs.lines.SetSlotKnows.{HasPublished, HoldsLock, SetSlotKnows}
-use Rattle.mmu_core.specs.lines.SetSlotSteps.{claim_outcome, looked_at, set_slot_outcome, set_slot_part}
-use Rattle.part_steps.specs.SetWords.{set_role, set_word}
+use Rattle.mmu_core.specs.lines.SetSlotSteps.{claim_outcome, looked_at, set_slot_outcome, set_slot_part, after_claim, after_watch}
+use Rattle.part_steps.specs.SetWords.{set_role, set_word, set_value}
 use Rattle.part_steps.specs.TopicSteps.{count_checked, filled_more, in_section, is_loose, is_outside, is_section, is_won, kept_search, kept_walk, let_go, unchecked}
 use Rattle.mmu_core.proofs.lines.FaultNeeds.{claim_needs}
+use Rattle.mmu_core.proofs.lines.ClaimMade.{ClaimMade, claim_made, claim_needs, page_won}
+use Rattle.mmu_core.proofs.lines.ClaimMade as made
 use Rattle.mmu_core.proofs.machine.HandWith.{hand_with}
-use Rattle.core_views.specs.declared.answer.Answer.TheVariants.{Starved}
+use Rattle.mmu_core.proofs.lines.WatchMade.{WatchMade, never_own, watch_comes, watch_made}
+use Rattle.mmu_core.proofs.lines.WatchMade as watch
 use Rattle.core_views.specs.declared.answer.Refusal.{Refusal}
 use Rattle.mmu_core.specs.declared.outcome.Outcome.{Outcome}
 use Rattle.mmu_core.specs.declared.outcome.Outcome.TheVariants.{Goes, Ends}
@@ -42,17 +45,10 @@ use Rattle.mmu_core.proofs.pages.Owned.{more_filled, more_role, more_some, some_
 
 -- ---- What each step needs.
 
-never_own : (own seen : ℕ) → next_watched own seen ≢ own
-never_own own seen e = by (seen == own) (λ t. grind (arith, nat_tests)) (λ t. grind (arith, nat_tests)) e
-  where
-    by : (b : Bool) → (b ≡ true → seen ≡ own) → (b ≡ false → seen ≢ own) → (if b then seen + 1 else seen) ≡ own → ⊥
-    by true is other e = let same = is refl in absurd (omega (arith, e, same))
-    by false is other e = other refl e
-
 pub set_slot_needs : (p : SetSlotPlace) (h : Held) (id : ℕ) (slot : Slot) → set_word (after_set id slot h.slots) (words_filled h.topics.owned) < 2 ^ 64 → PartRests h → SetSlotKnows p h
     → PartNeeds (set_slot_part p h id slot) h
 set_slot_needs (Refuse refusal) h id slot small R K = tt
-set_slot_needs (Claim begun) h id slot small R K = claim_needs (tries_page begun h.topics.claim) begun h refl R.sizes K.0.owns_none K.1
+set_slot_needs (Claim begun) h id slot small R K = claim_needs begun h R.sizes K.0.owns_none K.1
 set_slot_needs Fill h id slot small R K = (K.1, small)
 set_slot_needs Role h id slot small R K = (K.1, omega arith)
 set_slot_needs Count h id slot small R K = tt
@@ -108,26 +104,13 @@ module _ (line : Line) (h : Held) (id : ℕ) (slot : Slot) (cached : Buffer Tran
       by true = record { outside = K.outside; loose = K.loose; owns_none = K.owns_none; no_table = K.no_table; no_set = refl }
       by false = record { outside = K.outside; loose = K.loose; owns_none = K.owns_none; no_table = K.no_table; no_set = K.no_set }
 
-  -- a page was tried: it is owned and to be filled, or the claim goes on
-  tried_known : (p : SetSlotPlace) (won : Bool) (o : OwnedPage) → o.filled < 512 → IsAtRest h.topics → h.topics.claim.at < words_of_bits h.state.sizes.pool
-      → Knows (behind p (record h.topics { owned = if won then Some o else None; claim = record { at = if won then 0 else h.topics.claim.at; seen = if won then 0 else v } })) (if won then Fill else Claim true)
-  tried_known p true o few K low = (record { outside = K.outside; holds = K.loose; no_table = K.no_table; no_set = K.no_set }, (refl, few))
-  tried_known p false o few K low = (record { outside = K.outside; loose = K.loose; owns_none = refl; no_table = K.no_table; no_set = K.no_set }, λ e. low)
-
-  -- a word of the map was loaded
-  mapped_known : (p : SetSlotPlace) (at : ℕ) (more : Bool) → nat_lt at (words_of_bits h.state.sizes.pool) ≡ more → IsAtRest h.topics
-      → SettingKnows (if more then Goes (place.SetSlot (Claim true)) else Ends Starved) (behind p (record h.topics { claim = record { at = at; seen = v } }))
-  mapped_known p at true more K = (record { outside = K.outside; loose = K.loose; owns_none = K.owns_none; no_table = K.no_table; no_set = K.no_set }, λ e. below at (words_of_bits h.state.sizes.pool) more)
-  mapped_known p at false more K = record { outside = K.outside; loose = K.loose; owns_none = K.owns_none; no_table = K.no_table; no_set = K.no_set }
-
-  claim_known : (p : SetSlotPlace) (begun tries : Bool) → tries_page begun h.topics.claim ≡ tries → IsAtRest h.topics → (begun ≡ true → h.topics.claim.at < words_of_bits h.state.sizes.pool)
-      → SettingKnows (claim_outcome tries h.state.sizes (at_map_word begun h.topics.claim) v) (behind p (part_topics (if tries then part.Claim else part.Map (map_word begun h.topics.claim)) h.topics v))
-  claim_known p begun true is K low = tried_known p (is_won h.topics.claim v) _ (omega arith) K (low (begun_is begun is))
-    where
-      begun_is : (b : Bool) → (b && nat_lt 0 h.topics.claim.seen) ≡ true → b ≡ true
-      begun_is true e = refl
-      begun_is false e = absurd (cc e)
-  claim_known p begun false is K low = mapped_known p (map_word begun h.topics.claim + (if v == 0 then 1 else 0)) (nat_lt (map_word begun h.topics.claim + (if v == 0 then 1 else 0)) (words_of_bits h.state.sizes.pool)) refl K
+  -- a step of the claim
+  claim_known : (p : SetSlotPlace) (begun : Bool) (t : Topics) (step : PartStep) (next : ClaimNext) (u : Topics) → ClaimMade h.state.sizes begun t v step next u → IsAtRest t → (begun ≡ true → t.claim.at < words_of_bits h.state.sizes.pool)
+      → SettingKnows (after_claim next) (behind p u)
+  claim_known p begun t _ _ _ (made.Won tries b some is) K low = (record { outside = K.outside; holds = K.loose; no_table = K.no_table; no_set = K.no_set }, (refl, omega arith))
+  claim_known p begun t _ _ _ (made.Lost tries b some is) K low = (record { outside = K.outside; loose = K.loose; owns_none = refl; no_table = K.no_table; no_set = K.no_set }, λ _. low b)
+  claim_known p begun t _ _ _ (made.Saw not_ lt) K low = (record { outside = K.outside; loose = K.loose; owns_none = K.owns_none; no_table = K.no_table; no_set = K.no_set }, λ _. lt)
+  claim_known p begun t _ _ _ (made.SawNone not_ le) K low = record { outside = K.outside; loose = K.loose; owns_none = K.owns_none; no_table = K.no_table; no_set = K.no_set }
 
   -- one more word of the page is filled, or its role is stored
   fill_known : (p : SetSlotPlace) → HoldsLock Loose h.topics → HasToFill h.topics
@@ -159,20 +142,12 @@ module _ (line : Line) (h : Held) (id : ℕ) (slot : Slot) (cached : Buffer Tran
       (λ e. (lock, record { owns = owns; alone = K.holds; looked = ap count_checked K.holds; none_open = zero_is v e; none_leaves = left }))
       (λ e. (lock, owns, ap (λ (k : Hold). was_counted (count_checked k) && not (v == 0)) K.holds ∙ ap not e))
 
-  watch_known : (p : SetSlotPlace) (inside : Bool) → HoldsLock Loose h.topics → HasPublished h.topics → looked_at h < actors_of h.state.sizes
-      → Knows (behind p (record h.topics { watched = looked_at h + (if inside then 0 else 1) }))
-      (if inside then Watch else if nat_lt (next_watched (own_index h) (looked_at h + 1)) (actors_of h.state.sizes) then Watch else Clear)
-  watch_known p true K H lt =
-      (record { outside = K.outside; holds = K.holds; no_table = K.no_table; no_set = K.no_set }, record { leaves = H.leaves; owns_none = H.owns_none }, omega (arith, lt, still (own_index h) (looked_at h) (never_own (own_index h) h.topics.watched)))
-    where
-      still : (own seen : ℕ) → seen ≢ own → next_watched own (seen + 0) ≡ seen
-      still own seen ne = let no : (seen + 0 == own) ≡ false = grind (arith, nat_tests) in ap (λ (b : Bool). if b then seen + 0 + 1 else seen + 0) no ∙ omega arith
-  watch_known p false K H lt =
-      let lock : HoldsLock Loose (record h.topics { watched = looked_at h + 1 }) = record { outside = K.outside; holds = K.holds; no_table = K.no_table; no_set = K.no_set } in
-      let next : ℕ = next_watched (own_index h) (looked_at h + 1) in
-      either (behind p (record h.topics { watched = looked_at h + 1 })) (nat_lt next (actors_of h.state.sizes)) Watch Clear
-      (λ e. (lock, record { leaves = H.leaves; owns_none = H.owns_none }, below next (actors_of h.state.sizes) e))
-      (λ e. (lock, record { leaves = H.leaves; owns_none = H.owns_none; watched = reaches next (actors_of h.state.sizes) e }))
+  watch_known : (p : SetSlotPlace) (t : Topics) (next : WatchNext) (u : Topics) → WatchMade (own_index h) (actors_of h.state.sizes) t v next u → next_watched (own_index h) t.watched < actors_of h.state.sizes → HoldsLock Loose t → HasPublished t
+      → Knows (behind p u) (after_watch next)
+  watch_known p t _ _ (watch.Again is) low K H =
+      (record { outside = K.outside; holds = K.holds; no_table = K.no_table; no_set = K.no_set }, record { leaves = H.leaves; owns_none = H.owns_none }, watch_comes (own_index h) (actors_of h.state.sizes) t v _ _ (watch.Again is) low)
+  watch_known p t _ _ (watch.Next is lt) low K H = (record { outside = K.outside; holds = K.holds; no_table = K.no_table; no_set = K.no_set }, record { leaves = H.leaves; owns_none = H.owns_none }, lt)
+  watch_known p t _ _ (watch.Last is le) low K H = (record { outside = K.outside; holds = K.holds; no_table = K.no_table; no_set = K.no_set }, record { leaves = H.leaves; owns_none = H.owns_none; watched = le })
 
   -- there is another actor to look at: the first one, or the one behind it
   first_look : next_watched (own_index h) 0 < actors_of h.state.sizes
@@ -185,7 +160,7 @@ module _ (line : Line) (h : Held) (id : ℕ) (slot : Slot) (cached : Buffer Tran
   pub set_slot_known : (p : SetSlotPlace) → SetSlotKnows p h → (may_leave (place.SetSlot p) ≡ false → h.topics.leaving ≡ None) → CanAnswer (set_slot_part p h id slot) v
       → SettingKnows (set_slot_outcome p h v) (behind p (part_topics (set_slot_part p h id slot) h.topics v))
   set_slot_known (Refuse refusal) K left A = refused_known refusal K
-  set_slot_known (Claim begun) K left A = claim_known (Claim begun) begun (tries_page begun h.topics.claim) refl K.0 K.1
+  set_slot_known (Claim begun) K left A = claim_known (Claim begun) begun h.topics _ _ _ (claim_made h.state.sizes begun h.topics v) K.0 K.1
   set_slot_known Fill K left A = fill_known Fill K.0 K.1
   set_slot_known Role K left A = role_known Role K.0 K.1 A
   set_slot_known Exclude K left A = exclude_known Exclude (v == 0) K.0 K.1
@@ -193,7 +168,7 @@ module _ (line : Line) (h : Held) (id : ℕ) (slot : Slot) (cached : Buffer Tran
   set_slot_known Close K left A = (let_go_lock h.topics K.0.outside, record { whole = K.1.whole; role = K.1.role })
   set_slot_known Publish K left A = (record { outside = K.0.outside; holds = K.0.holds; no_table = K.0.no_table; no_set = refl }, record { leaves = refl; owns_none = refl }, refl, K.1.none_open)
   set_slot_known Release K left A = (let_go_lock h.topics K.0.outside, record { leaves = K.1.leaves; owns_none = K.1.owns_none }, subst (λ w. next_watched (own_index h) w < actors_of h.state.sizes) (sym K.2) first_look)
-  set_slot_known Watch K left A = watch_known Watch (in_section v) K.0 K.1 K.2
+  set_slot_known Watch K left A = watch_known Watch h.topics _ _ (watch_made h v) K.2 K.0 K.1
   set_slot_known Clear K left A = (
     record { outside = K.0.outside; holds = K.0.holds; no_table = K.0.no_table; no_set = K.0.no_set },
     record { leaves = K.1.leaves; owns_none = ap (λ o. filled_more o v) K.1.owns_none; watched = K.1.watched },

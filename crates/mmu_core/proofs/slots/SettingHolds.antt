@@ -12,27 +12,31 @@ use Rattle.core_views.specs.declared.trace.Command.TheVariants.{SetSlot}
 use Rattle.core_views.specs.declared.trace.Slot.{Slot}
 use Rattle.core_views.specs.Held.{Held}
 use Rattle.core_views.specs.Refusals.{after_set, set_refusal}
-use Rattle.core_views.specs.Sizes.{actors_of}
 use Rattle.core_views.specs.SlotSets.{MemorySlots}
 use Rattle.spte_words.specs.declared.area.Area.{Area}
 use Rattle.spte_words.specs.declared.area.Area.TheVariants as area
-use Rattle.spte_words.specs.Areas.{pool_index, words_of_bits}
+use Rattle.spte_words.specs.Areas.{pool_index}
+use Rattle.part_steps.specs.declared.part_step.PartStep.{PartStep}
 use Rattle.part_steps.specs.declared.part_step.PartStep.TheVariants as part
-use Rattle.mmu_core.specs.lines.FaultSteps.{at_map_word, map_word, tries_page}
+use Rattle.mmu_core.specs.declared.claim.ClaimNext.{ClaimNext}
+use Rattle.mmu_core.specs.declared.watch.WatchNext.{WatchNext}
+use Rattle.mmu_core.specs.declared.watch.WatchNext.TheVariants as watches
+use Rattle.mmu_core.specs.lines.ClaimSteps.{map_word, tries_page}
 use Rattle.mmu_core.specs.invariant.Invariant.{FillsSet, Holds, LeavesPart, SetSlotHolds}
-use Rattle.part_steps.specs.PartSteps.{next_watched, own_index, page_owned, words_filled}
+use Rattle.part_steps.specs.PartSteps.{next_watched, own_index, page_owned, words_filled, HasToFill}
 use Rattle.mmu_core.specs.lines.SetSlotKnows.{SetSlotKnows}
-use Rattle.mmu_core.specs.lines.SetSlotSteps.{claim_outcome, looked_at, set_slot_outcome, set_slot_part, set_slot_task}
-use Rattle.part_steps.specs.SetWords.{IsFilledWith, set_word}
+use Rattle.mmu_core.specs.lines.SetSlotSteps.{claim_outcome, looked_at, set_slot_outcome, set_slot_part, set_slot_task, after_claim, after_watch, watch_next}
+use Rattle.part_steps.specs.SetWords.{IsFilledWith, set_word, set_role, set_value}
 use Rattle.mmu_core.specs.machine.Outcomes.{place_after}
 use Rattle.mmu_core.specs.machine.View.{upd, words_after}
 use Rattle.mmu_core.proofs.machine.Columns.{same_or, upd_same}
+use Rattle.mmu_core.proofs.lines.ClaimMade.{ClaimMade, claim_made}
+use Rattle.mmu_core.proofs.lines.ClaimMade as made
+use Rattle.mmu_core.proofs.pages.FilledKept.{filled_words}
 use Rattle.mmu_core.proofs.pages.OwnedBehind.{left_behind, owned_behind}
 use Rattle.mmu_core.proofs.words.PartWords.{fill_leaves}
 use Rattle.mmu_core.proofs.slots.SetFilled.{is_publication}
-use Rattle.mmu_core.specs.declared.outcome.Outcome.TheVariants.{Goes, Ends}
-use Rattle.core_views.specs.declared.answer.Answer.TheVariants.{Starved}
-use Rattle.part_steps.specs.TopicSteps.{claimed, filled_more, in_section, is_won, still_leaving, tried_bit}
+use Rattle.part_steps.specs.TopicSteps.{claimed, filled_more, is_won, still_leaving, tried_bit}
 
 -- What is filled stays filled, where the page that is owned and the record stay.
 fills_still : (pages : ℕ) (pool : ℕ → ℕ) (id : ℕ) (slot : Slot) (h g : Held) → g.slots ≡ h.slots → g.topics.owned ≡ h.topics.owned → FillsSet pages pool id slot h → FillsSet pages pool id slot g
@@ -55,19 +59,12 @@ fills_claimed pages pool id slot claim v g accepted owned = record {
   filled = λ o is j lt word. let none = claimed_empty claim v o (sym owned ∙ is) in absurd (omega (arith, lt, none));
 }
 
--- behind a step of the claim
-claim_holds : (tries : Bool) (z : Sizes) (pool host : ℕ → ℕ) (set : ℕ) (t : Topics) (claim : MapClaim) (word v id : ℕ) (slot : Slot) (g : Held) → set_refusal z.pages id slot g.slots ≡ None
-    → g.topics.owned ≡ owned_behind (if tries then part.Claim else part.Map word) t v → (y : Sizes) → Holds z pool host set (place_after (claim_outcome tries y claim v)) (SetSlot id slot) g
-claim_holds true z pool host set t claim word v id slot g accepted owned y = by (is_won claim v)
-  where
-    by : (b : Bool) → SetSlotHolds z pool (if b then Fill else Claim true) id slot g
-    by true = fills_claimed z.pages pool id slot t.claim v g accepted owned
-    by false = accepted
-claim_holds false z pool host set t claim word v id slot g accepted owned y = by (nat_lt (claim.at + (if v == 0 then 1 else 0)) (words_of_bits y.pool))
-  where
-    by : (b : Bool) → Holds z pool host set (place_after (if b then Goes (place.SetSlot (Claim true)) else Ends Starved)) (SetSlot id slot) g
-    by true = accepted
-    by false = tt
+-- after a step of the claim
+claim_holds : (z : Sizes) (pool host : ℕ → ℕ) (set : ℕ) (y : Sizes) (begun : Bool) (t : Topics) (v : ℕ) (step : PartStep) (next : ClaimNext) (u : Topics) → ClaimMade y begun t v step next u → (id : ℕ) (slot : Slot) (g : Held)
+    → set_refusal z.pages id slot g.slots ≡ None → g.topics.owned ≡ owned_behind step t v → Holds z pool host set (place_after (after_claim next)) (SetSlot id slot) g
+claim_holds z pool host set y begun t v _ _ _ (made.Won tries b some is) id slot g accepted owned = fills_claimed z.pages pool id slot t.claim v g accepted owned
+claim_holds z pool host set y begun t v _ _ _ (made.SawNone not_ le) id slot g accepted owned = tt
+claim_holds z pool host set y begun t v _ _ _ _ id slot g accepted owned = accepted
 
 -- One more word of the page is filled, or its role is stored.
 one_more : (pool : ℕ → ℕ) (slots : MemorySlots) (x : Option OwnedPage) (v : ℕ) → words_filled x < 512 → IsFilledWith pool slots x
@@ -102,13 +99,17 @@ pub either_place : (P : SetSlotPlace → Type 0) (b : Bool) (p q : SetSlotPlace)
 either_place P true p q x y = x
 either_place P false p q x y = y
 
+-- the two places after a look of the watch
+pub each_watch : (P : SetSlotPlace → Type 0) (next : WatchNext) → P Watch → P Clear → P (after_watch next)
+each_watch P watches.Last x y = y
+each_watch P _ x y = x
+
 -- What a setting has loaded and filled, behind a step that found v.
 pub setting_holds : (z : Sizes) (words : Area → ℕ → ℕ) (set : ℕ) (h : Held) (p : SetSlotPlace) (id : ℕ) (slot : Slot) (g : Held) (v : ℕ) → SetSlotKnows p h → SetSlotHolds z (words area.Pool) p id slot h
     → (is_publication p ≡ false → g.slots ≡ h.slots) → g.topics.owned ≡ owned_behind (set_slot_part p h id slot) h.topics v
     → Holds z (words_after (set_slot_task p h id slot) words area.Pool) (words area.Host) set (place_after (set_slot_outcome p h v)) (SetSlot id slot) g
 setting_holds z words set h (Claim begun) id slot g v K e slots owned =
-    claim_holds (tries_page begun h.topics.claim) z (words_after (set_slot_task (Claim begun) h id slot) words area.Pool) (words area.Host) set h.topics (at_map_word begun h.topics.claim) (map_word begun h.topics.claim) v id slot g
-    (ap (set_refusal z.pages id slot) (slots refl) ∙ e) owned h.state.sizes
+    claim_holds z (words_after (set_slot_task (Claim begun) h id slot) words area.Pool) (words area.Host) set h.state.sizes begun h.topics v _ _ _ (claim_made h.state.sizes begun h.topics v) id slot g (ap (set_refusal z.pages id slot) (slots refl) ∙ e) owned
 setting_holds z words set h Fill id slot g v K e slots owned =
     let behind : ℕ → ℕ = words_after (set_slot_task Fill h id slot) words area.Pool in
     let F = fills_more z.pages behind id slot h g v (slots refl) owned e.accepted (one_more (words area.Pool) (after_set id slot h.slots) h.topics.owned v K.1.1 e.filled) in
@@ -122,9 +123,7 @@ setting_holds z words set h Count id slot g v K e slots owned =
     let F = fills_still z.pages (words area.Pool) id slot h g (slots refl) owned e in
     either_place (λ q. SetSlotHolds z (words area.Pool) q id slot g) (v == 0) Publish Close F F
 setting_holds z words set h Close id slot g v K e slots owned = fills_still z.pages (words area.Pool) id slot h g (slots refl) owned e
-setting_holds z words set h Watch id slot g v K e slots owned =
-    either_place (λ q. SetSlotHolds z (words area.Pool) q id slot g) (in_section v) Watch (if nat_lt (next_watched (own_index h) (looked_at h + 1)) (actors_of h.state.sizes) then Watch else Clear) tt
-    (either_place (λ q. SetSlotHolds z (words area.Pool) q id slot g) (nat_lt (next_watched (own_index h) (looked_at h + 1)) (actors_of h.state.sizes)) Watch Clear tt tt)
+setting_holds z words set h Watch id slot g v K e slots owned = each_watch (λ q. SetSlotHolds z (words area.Pool) q id slot g) (watch_next h v) tt tt
 setting_holds z words set h _ id slot g v K e slots owned = tt
 
 -- Behind a step up to the publication no page leaves, and behind the last one none does any more.
@@ -137,9 +136,7 @@ pub setting_leaves : (p : SetSlotPlace) (h : Held) (id : ℕ) (slot : Slot) (t :
 setting_leaves (Claim begun) h id slot t v K left is = λ may. is ∙ claim_leaves (tries_page begun h.topics.claim) (map_word begun h.topics.claim) h.topics v (left refl)
 setting_leaves Publish h id slot t v K left is = λ may. absurd (cc may)
 setting_leaves Release h id slot t v K left is = λ may. absurd (cc may)
-setting_leaves Watch h id slot t v K left is =
-    either_place (λ q. LeavesPart (place.SetSlot q) t) (in_section v) Watch (if nat_lt (next_watched (own_index h) (looked_at h + 1)) (actors_of h.state.sizes) then Watch else Clear) (λ may. absurd (cc may))
-    (either_place (λ q. LeavesPart (place.SetSlot q) t) (nat_lt (next_watched (own_index h) (looked_at h + 1)) (actors_of h.state.sizes)) Watch Clear (λ may. absurd (cc may)) (λ may. absurd (cc may)))
+setting_leaves Watch h id slot t v K left is = each_watch (λ q. LeavesPart (place.SetSlot q) t) (watch_next h v) (λ may. absurd (cc may)) (λ may. absurd (cc may))
 setting_leaves Clear h id slot t v K left is = λ may. absurd (cc may)
 setting_leaves Give h id slot t v K left is = λ may. is ∙ ap (λ x. still_leaving x h.topics.leaving) K.1.owns_none
 setting_leaves _ h id slot t v K left is = λ may. is ∙ left refl

@@ -12,8 +12,7 @@ use Rattle.core_views.specs.declared.place.FaultPlace.{FaultPlace}
 use Rattle.core_views.specs.declared.place.FaultPlace.TheVariants.{Begin, Snapshot, Find, Host, Share, Check, Walk, Claim, Fill, Role, Link, Give, Leaf, Unshare, End}
 use Rattle.core_views.specs.declared.sizes.Sizes.{Sizes}
 use Rattle.core_views.specs.declared.topics.Checked.TheVariants as checked
-use Rattle.core_views.specs.declared.topics.Hold.{Hold}
-use Rattle.core_views.specs.declared.topics.Hold.TheVariants.{Loose, Shared, Owing, Exclusive}
+use Rattle.core_views.specs.declared.topics.Hold.TheVariants.{Loose, Shared}
 use Rattle.core_views.specs.declared.topics.Invalidations.{Invalidations}
 use Rattle.core_views.specs.declared.topics.Stay.TheVariants.{Section}
 use Rattle.core_views.specs.declared.topics.TableWalk.{TableWalk}
@@ -22,6 +21,7 @@ use Rattle.spte_words.specs.declared.spte_kind.SpteKind.TheVariants as entry_kin
 use Rattle.spte_words.specs.Areas.{words_of_bits}
 use Rattle.spte_words.specs.Entries.{kind_of}
 use Rattle.spte_words.specs.HostWords.{host_allows_write}
+pub use Rattle.mmu_core.specs.lines.ShareSteps.{is_trying}
 use Rattle.mmu_core.specs.lines.FaultSteps.{allows_access, entry_word}
 use Rattle.part_steps.specs.PartSteps.{FoundSlot, HasRoleToSet, HasToFill, HoldsSet, IsAtRest, IsFresh, IsOver, LookedUp, OwnsPage, OwnsTable, SawEntry, is_absent}
 
@@ -40,13 +40,6 @@ pub record LookedFor (gfn : ℕ) (write : Bool) (t : Topics) : Type 0 where
   pub looked_up : LookedUp gfn t
   pub allowed : write ≡ true → (t.search.slot.read_only ≡ false) × (host_allows_write looked_up.word ≡ true)
   pub snapshot : is_some t.invalidations.snapshot ≡ true
-
--- The lock isn't shared yet: nothing was done, or it is to take itself out of its readers.
-abbrev pub is_trying : Hold → Bool
-is_trying Loose = true
-is_trying Shared = false
-is_trying (Owing word) = true
-is_trying Exclusive = false
 
 -- It shares the lock, and looked up.
 pub record Sharing (gfn : ℕ) (write : Bool) (t : Topics) : Type 0 where

@@ -14,9 +14,6 @@ use Rattle.core_views.specs.declared.place.FaultPlace.TheVariants.{Begin, Snapsh
 use Rattle.core_views.specs.declared.place.SlotField.{SlotField}
 use Rattle.core_views.specs.declared.place.SlotField.TheVariants as field
 use Rattle.core_views.specs.declared.sizes.Sizes.{Sizes}
-use Rattle.core_views.specs.declared.topics.Hold.{Hold}
-use Rattle.core_views.specs.declared.topics.Hold.TheVariants.{Owing}
-use Rattle.core_views.specs.declared.topics.MapClaim.{MapClaim}
 use Rattle.core_views.specs.declared.topics.SlotSearch.{SlotSearch}
 use Rattle.core_views.specs.declared.topics.TableWalk.{TableWalk}
 use Rattle.core_views.specs.declared.topics.Topics.{Topics}
@@ -31,25 +28,18 @@ use Rattle.spte_words.specs.HostWords.{host_allows_write}
 use Rattle.part_steps.specs.declared.part_step.PartStep.{PartStep}
 use Rattle.part_steps.specs.declared.part_step.PartStep.TheVariants as part
 use Rattle.part_steps.specs.PartSteps.{entry_index, part_kind, table_page, words_filled}
+use Rattle.mmu_core.specs.declared.claim.ClaimNext.{ClaimNext}
+use Rattle.mmu_core.specs.declared.claim.ClaimNext.TheVariants as claims
+use Rattle.mmu_core.specs.declared.share.ShareNext.{ShareNext}
+use Rattle.mmu_core.specs.declared.share.ShareNext.TheVariants as shares
+pub use Rattle.mmu_core.specs.lines.ClaimSteps.{claim_left, claim_next, claim_part, claim_waits, map_word, tries_page}
 pub use Rattle.mmu_core.specs.lines.PartWaits.{is_owing, word_owed}
+pub use Rattle.mmu_core.specs.lines.ShareSteps.{share_left, share_next, share_part}
 use Rattle.mmu_core.specs.lines.SearchLeft.{look_left}
 use Rattle.part_steps.specs.SlotWords.{page_of}
 use Rattle.part_steps.specs.Tasks.{map_of}
-use Rattle.part_steps.specs.TopicSteps.{has_writer, is_won, searched}
+use Rattle.part_steps.specs.TopicSteps.{searched}
 
--- A claim tries the lowest page of those seen, and else loads the word of the map that it has come to, the first one where it begins.
-abbrev pub map_word : Bool → MapClaim → ℕ
-map_word begun claim = if begun then claim.at else 0
-
-abbrev pub tries_page : Bool → MapClaim → Bool
-tries_page begun claim = begun && nat_lt 0 claim.seen
-
-abbrev pub claim_part : Bool → MapClaim → PartStep
-claim_part begun claim = if tries_page begun claim then part.Claim else part.Map (map_word begun claim)
-
-abbrev pub share_part : Hold → PartStep
-share_part (Owing word) = part.Unshare
-share_part _ = part.Share
 
 abbrev pub check_part : CheckStage → PartStep
 check_part stage.Count = part.Count
@@ -89,10 +79,10 @@ find_next gfn write loaded found =
     if found.id == 32 then End Mmio else
     Find true
 
--- behind a try for the lock that found v: once it is shared the check begins
-abbrev pub share_next : Hold → ℕ → FaultPlace
-share_next (Owing word) v = Share
-share_next _ v = if has_writer v then Share else Check stage.Count
+-- after a step of sharing the lock: the check begins once it is shared
+abbrev pub after_share : ShareNext → FaultPlace
+after_share shares.Tries = Share
+after_share shares.Shares = Check stage.Count
 
 -- the snapshot that was taken
 abbrev pub snapshot_taken : Option ℕ → ℕ
@@ -123,14 +113,11 @@ walk_next entry_kind.Leaf z gfn write walk v =
 walk_next entry_kind.Absent z gfn write walk v = if walk.level == 1 then Leaf else Claim false
 walk_next entry_kind.Frozen z gfn write walk v = Unshare (Retry (Entry (entry_word z gfn walk) v v))
 
--- behind a step of a claim that found v: the page is to be filled, each word of the map was seen 0, or the claim goes on
-abbrev pub claim_next : Bool → Sizes → MapClaim → ℕ → FaultPlace
-claim_next true z claim v = if is_won claim v then Fill else Claim true
-claim_next false z claim v = if nat_lt (claim.at + (if v == 0 then 1 else 0)) (words_of_bits z.pool) then Claim true else Unshare Starved
-
--- the claim, at the word of the map that it loads
-abbrev pub at_map_word : Bool → MapClaim → MapClaim
-at_map_word begun claim = record claim { at = map_word begun claim }
+-- after a step of its claim: the page is to be filled, or no page is free
+abbrev pub after_claim : ClaimNext → FaultPlace
+after_claim claims.Goes = Claim true
+after_claim claims.Got = Fill
+after_claim claims.Empty = Unshare Starved
 
 -- where the fault stands behind the step of its place, which found v
 abbrev pub fault_next : FaultPlace → Sizes → ℕ → Bool → Topics → ℕ → FaultNext
@@ -138,10 +125,10 @@ fault_next Begin z gfn write t v = Goes Snapshot
 fault_next Snapshot z gfn write t v = Goes (Find false)
 fault_next (Find begun) z gfn write t v = Goes (if begun then find_next gfn write t.search.next (searched t.search v) else Find true)
 fault_next Host z gfn write t v = Goes (if write && not (host_allows_write v) then End HostFault else Share)
-fault_next Share z gfn write t v = Goes (share_next t.hold v)
+fault_next Share z gfn write t v = Goes (after_share (share_next t.hold v))
 fault_next (Check at) z gfn write t v = Goes (check_next at gfn t v)
 fault_next (Walk rooted) z gfn write t v = Goes (if rooted then walk_next (kind_of t.walk.level v) z gfn write t.walk v else Walk true)
-fault_next (Claim begun) z gfn write t v = Goes (claim_next (tries_page begun t.claim) z (at_map_word begun t.claim) v)
+fault_next (Claim begun) z gfn write t v = Goes (after_claim (claim_next begun z t.claim v))
 fault_next Fill z gfn write t v = Goes (if nat_lt (words_filled t.owned + 1) 512 then Fill else Role)
 fault_next Role z gfn write t v = Goes Link
 fault_next Link z gfn write t v = Goes (if v == t.walk.entry then Walk true else Give (Retry (Entry (entry_word z gfn t.walk) t.walk.entry v)))
@@ -154,7 +141,7 @@ fault_next (End e) z gfn write t v = Ends e
 -- writer, or another actor took the page that it tried.
 abbrev pub waits : FaultPlace → Topics → ℕ → Bool
 waits Share t v = is_owing t.hold
-waits (Claim begun) t v = tries_page begun t.claim && not (is_won t.claim v)
+waits (Claim begun) t v = claim_waits begun t.claim v
 waits _ t v = false
 
 -- What a step that waits has seen: of the lock the word that it found with the try which it takes back, and of the map what is there now.
@@ -178,22 +165,15 @@ walk_left z level = (level - 1) * table_left z + 4
 abbrev pub entering_left : Sizes → ℕ
 entering_left z = walk_left z 4 + 1
 
--- the words of the check, the tries for the lock, the words of slots, and those of a claim, from this one on
+-- the words of the check, and the words of slots, from this one on
 abbrev pub check_left : CheckStage → ℕ
 check_left stage.Count = 4
 check_left stage.Start = 3
 check_left stage.End = 2
 check_left stage.Seq = 1
 
-abbrev pub lock_left : Hold → ℕ
-lock_left (Owing word) = 1
-lock_left _ = 2
-
 abbrev pub find_left : Bool → SlotSearch → ℕ
 find_left begun search = if begun then 4 * (31 - search.id) + look_left search.next else 129
-
-abbrev pub claim_left : Bool → Sizes → MapClaim → ℕ
-claim_left begun z claim = if tries_page begun claim then 1 else words_of_bits z.pool - map_word begun claim + 1
 
 -- the most steps that a fault has left from a place on, where no other actor is in the way
 abbrev pub fault_left : FaultPlace → Sizes → Topics → ℕ
@@ -201,7 +181,7 @@ fault_left Begin z t = entering_left z + 138
 fault_left Snapshot z t = entering_left z + 137
 fault_left (Find begun) z t = entering_left z + 7 + find_left begun t.search
 fault_left Host z t = entering_left z + 7
-fault_left Share z t = entering_left z + 4 + lock_left t.hold
+fault_left Share z t = entering_left z + 4 + share_left t.hold
 fault_left (Check at) z t = entering_left z + check_left at
 fault_left (Walk rooted) z t = if rooted then walk_left z t.walk.level else entering_left z
 fault_left (Claim begun) z t = walk_left z (t.walk.level - 1) + 514 + claim_left begun z t.claim

@@ -1,7 +1,7 @@
 -- The order of steps of a slot setting (api.rst, KVM_SET_USER_MEMORY_REGION; kvm_main.c, `kvm_swap_active_memslots`): a refused one makes
 -- one load of the sequence. Else a page is claimed and filled with the new slot set; under the lock alone, with no invalidation open, it is
 -- published in place of the old one; and behind a watch of all other actors the old page is given back.
-use Rattle.std.specs.Prelude.{◌+◌, ℕ, Bool, true, false, List, [], ◌∷◌, Option, Some, None, ◌==◌, ◌&&◌, not, nat_lt, if◌then◌else◌}
+use Rattle.std.specs.Prelude.{ℕ, Bool, true, false, List, [], ◌∷◌, Option, Some, None, ◌==◌, not, nat_lt, if◌then◌else◌}
 use Rattle.core_views.specs.declared.answer.Answer.TheVariants.{Done, Refused, Starved}
 use Rattle.core_views.specs.declared.answer.Refusal.{Refusal}
 use Rattle.core_views.specs.declared.event.EventKind.{EventKind}
@@ -10,16 +10,13 @@ use Rattle.core_views.specs.declared.hand.Seen.{Seen}
 use Rattle.core_views.specs.declared.place.SetSlotPlace.{SetSlotPlace}
 use Rattle.core_views.specs.declared.place.SetSlotPlace.TheVariants.{Refuse, Claim, Fill, Role, Exclude, Count, Close, Publish, Release, Watch, Clear, Give}
 use Rattle.core_views.specs.declared.place.Place.TheVariants.{SetSlot}
-use Rattle.core_views.specs.declared.sizes.Sizes.{Sizes}
-use Rattle.core_views.specs.declared.topics.MapClaim.{MapClaim}
 use Rattle.core_views.specs.declared.topics.Topics.{Topics}
 use Rattle.core_views.specs.declared.trace.Slot.{Slot}
 use Rattle.core_views.specs.Held.{Held}
 use Rattle.core_views.specs.Refusals.{after_set, is_logged}
-use Rattle.core_views.specs.Sizes.{actors_of}
 use Rattle.core_views.specs.SlotSets.{MemorySlots}
 use Rattle.spte_words.specs.declared.area.Area.TheVariants as area
-use Rattle.spte_words.specs.Areas.{place, words_of_bits}
+use Rattle.spte_words.specs.Areas.{place}
 use Rattle.mmu_core.specs.declared.outcome.Outcome.{Outcome}
 use Rattle.mmu_core.specs.declared.outcome.Outcome.TheVariants.{Goes, Ends}
 use Rattle.part_steps.specs.declared.task.Task.{Task}
@@ -28,18 +25,20 @@ use Rattle.part_steps.specs.declared.part_step.PartStep.TheVariants as part
 use Rattle.mmu_core.specs.lines.AccessSteps.{exiting}
 use Rattle.mmu_core.specs.lines.FaultSteps.{at_map_word, claim_part, map_word, tries_page}
 use Rattle.part_steps.specs.PartSteps.{next_watched, own_index, part_kind, part_task, words_filled}
-use Rattle.part_steps.specs.SetWords.{set_role, set_word}
+use Rattle.part_steps.specs.SetWords.{set_role, set_word, set_value}
+use Rattle.mmu_core.specs.lines.ClaimSteps.{claim_next, claim_part, claim_waits, loads_last_word}
+use Rattle.mmu_core.specs.declared.claim.ClaimNext.{ClaimNext}
+use Rattle.mmu_core.specs.declared.claim.ClaimNext.TheVariants as claims
+use Rattle.mmu_core.specs.declared.watch.WatchNext.{WatchNext}
+use Rattle.mmu_core.specs.declared.watch.WatchNext.TheVariants as watches
+pub use Rattle.mmu_core.specs.lines.WatchSteps.{looked_at, watch_next}
 use Rattle.part_steps.specs.Tasks.{map_of}
-use Rattle.part_steps.specs.TopicSteps.{in_section, is_won}
+use Rattle.part_steps.specs.TopicSteps.{in_section}
 
 -- where a setting begins
 abbrev pub set_slot_first : Option Refusal → SetSlotPlace
 set_slot_first (Some refusal) = Refuse refusal
 set_slot_first None = Claim false
-
--- the actor that the watch looks at next
-abbrev pub looked_at : Held → ℕ
-looked_at h = next_watched (own_index h) h.topics.watched
 
 -- the step of each place
 abbrev pub set_slot_part : SetSlotPlace → Held → ℕ → Slot → PartStep
@@ -56,10 +55,6 @@ set_slot_part Watch h id slot = part.Watch (looked_at h)
 set_slot_part Clear h id slot = part.Clear
 set_slot_part Give h id slot = part.GiveOld
 
--- The claim loads the last word of the map: where no page is free there either, the line is answered with this step.
-abbrev pub loads_last_word : Bool → Sizes → MapClaim → Bool
-loads_last_word begun z claim = not (tries_page begun claim) && (map_word begun claim + 1 == words_of_bits z.pool)
-
 -- 1 where the line may end with the step
 abbrev pub set_slot_note : SetSlotPlace → Held → ℕ
 set_slot_note (Refuse refusal) h = 1
@@ -75,22 +70,21 @@ abbrev pub set_slot_records : SetSlotPlace → ℕ → Slot → MemorySlots → 
 set_slot_records Publish id slot slots = after_set id slot slots
 set_slot_records _ id slot slots = slots
 
--- behind a step of the claim that found v: the page is to be filled, each word of the map was seen 0, or the claim goes on
-abbrev pub claim_outcome : Bool → Sizes → MapClaim → ℕ → Outcome
-claim_outcome true z claim v = Goes (SetSlot (if is_won claim v then Fill else Claim true))
-claim_outcome false z claim v = if nat_lt (claim.at + (if v == 0 then 1 else 0)) (words_of_bits z.pool) then Goes (SetSlot (Claim true)) else Ends Starved
+-- after a step of its claim: the page is to be filled, or the line is answered, since no page is free
+abbrev pub after_claim : ClaimNext → Outcome
+after_claim claims.Goes = Goes (SetSlot (Claim true))
+after_claim claims.Got = Goes (SetSlot Fill)
+after_claim claims.Empty = Ends Starved
 
--- behind a look at the actor at a place that found v: at the same one again, at the next one, or over
-abbrev pub watch_next : Held → ℕ → SetSlotPlace
-watch_next h v =
-    if in_section v then Watch else
-    if nat_lt (next_watched (own_index h) (looked_at h + 1)) (actors_of h.state.sizes) then Watch else
-    Clear
+-- after a look of its watch
+abbrev pub after_watch : WatchNext → SetSlotPlace
+after_watch watches.Last = Clear
+after_watch _ = Watch
 
 -- where the line stands behind the step of its place, which found v
 abbrev pub set_slot_outcome : SetSlotPlace → Held → ℕ → Outcome
 set_slot_outcome (Refuse refusal) h v = Ends (Refused refusal)
-set_slot_outcome (Claim begun) h v = claim_outcome (tries_page begun h.topics.claim) h.state.sizes (at_map_word begun h.topics.claim) v
+set_slot_outcome (Claim begun) h v = after_claim (claim_next begun h.state.sizes h.topics.claim v)
 set_slot_outcome Fill h v = Goes (SetSlot (if nat_lt (words_filled h.topics.owned + 1) 512 then Fill else Role))
 set_slot_outcome Role h v = Goes (SetSlot Exclude)
 set_slot_outcome Exclude h v = Goes (SetSlot (if v == 0 then Count else Exclude))
@@ -98,7 +92,7 @@ set_slot_outcome Count h v = Goes (SetSlot (if v == 0 then Publish else Close))
 set_slot_outcome Close h v = Goes (SetSlot Exclude)
 set_slot_outcome Publish h v = Goes (SetSlot Release)
 set_slot_outcome Release h v = Goes (SetSlot Watch)
-set_slot_outcome Watch h v = Goes (SetSlot (watch_next h v))
+set_slot_outcome Watch h v = Goes (SetSlot (after_watch (watch_next h v)))
 set_slot_outcome Clear h v = Goes (SetSlot Give)
 set_slot_outcome Give h v = Ends Done
 
@@ -110,7 +104,7 @@ set_slot_tells _ h id slot v = []
 
 -- Another actor is in the way: it took the page that was tried, it has the lock, it has an invalidation open, or it is in a section.
 abbrev pub set_slot_waits : SetSlotPlace → Topics → ℕ → Bool
-set_slot_waits (Claim begun) t v = tries_page begun t.claim && not (is_won t.claim v)
+set_slot_waits (Claim begun) t v = claim_waits begun t.claim v
 set_slot_waits Exclude t v = not (v == 0)
 set_slot_waits Close t v = true
 set_slot_waits Watch t v = in_section v

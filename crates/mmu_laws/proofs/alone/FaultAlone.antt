@@ -1,11 +1,10 @@
 -- A fault that runs while all other actors rest never waits and never begins anew.
-use Rattle.std.proofs.Common.{◌≡◌, ◌≢◌, inl, inr, ◌+◌, ◌*◌, ◌/◌, ◌^◌, ◌<◌, ◌≤◌, ℕ, refl, sym, subst, ap, ◌∙◌, arith, w64}
+use Rattle.std.proofs.Common.{◌≡◌, ◌≢◌, inl, inr, ◌+◌, ◌*◌, ◌/◌, ◌^◌, ◌<◌, ◌≤◌, ℕ, refl, sym, subst, ap, ◌∙◌, arith}
 use Rattle.std.specs.Prelude.{Bool, true, false, ◌==◌, ◌&&◌, nat_lt, not, if◌then◌else◌, Option, Some, None}
 use Rattle.std.proofs.lemmas.Bool.Decides.{nat_tests}
-use Rattle.std.proofs.lemmas.Nat.Bits.{bit_at-trailing_zeros}
 use Rattle.core_views.specs.declared.place.Cause.TheVariants.{Entry, Moved}
 use Rattle.core_views.specs.declared.place.CheckStage.TheVariants as stage
-use Rattle.core_views.specs.declared.place.FaultEnd.TheVariants.{Installed, HostFault, Starved, Retry}
+use Rattle.core_views.specs.declared.place.FaultEnd.TheVariants.{Installed, HostFault, Retry}
 use Rattle.core_views.specs.declared.place.FaultPlace.{FaultPlace}
 use Rattle.core_views.specs.declared.place.FaultPlace.TheVariants.{Begin, Snapshot, Find, Host, Share, Check, Walk, Claim, Fill, Role, Link, Give, Leaf, Unshare, End}
 use Rattle.core_views.specs.declared.sizes.Sizes.{Sizes}
@@ -13,6 +12,7 @@ use Rattle.core_views.specs.declared.topics.Hold.{Hold}
 use Rattle.core_views.specs.declared.topics.Hold.TheVariants.{Loose}
 use Rattle.core_views.specs.declared.topics.HostLook.{HostLook}
 use Rattle.core_views.specs.declared.topics.MapClaim.{MapClaim}
+use Rattle.core_views.specs.declared.topics.OwnedPage.{OwnedPage}
 use Rattle.core_views.specs.declared.topics.Topics.{Topics}
 use Rattle.core_views.specs.Held.{Held}
 use Rattle.spte_words.specs.declared.area.Area.{Area}
@@ -27,26 +27,33 @@ use Rattle.part_steps.specs.declared.task.Task.{Task}
 use Rattle.part_steps.specs.declared.part_step.PartStep.{PartStep}
 use Rattle.part_steps.specs.declared.part_step.PartStep.TheVariants as part
 use Rattle.mmu_core.specs.machine.Enabled.{mmu}
-use Rattle.mmu_core.specs.alone.FaultAlone.{EntryStands, FaultAlone, GoesThrough, LeadsTo, LeadsToLeaf, NoneFreeBefore, RunsAlone, SeenStands}
+use Rattle.mmu_core.specs.declared.claim.ClaimNext.{ClaimNext}
+use Rattle.mmu_core.specs.declared.claim.ClaimNext.TheVariants as claims
+use Rattle.mmu_core.specs.declared.share.ShareNext.{ShareNext}
+use Rattle.mmu_core.specs.declared.share.ShareNext.TheVariants as shares
+use Rattle.mmu_core.specs.alone.FaultAlone.{EntryStands, FaultAlone, GoesThrough, LeadsTo, LeadsToLeaf, RunsAlone}
 use Rattle.mmu_core.specs.lines.FaultKnows.{Entering}
-use Rattle.mmu_core.specs.lines.FaultSteps.{allows_access, at_map_word, claim_next, entry_word, is_owing, map_word, share_next, share_part, snapshot_taken, tries_page, walk_next}
+use Rattle.mmu_core.specs.lines.FaultSteps.{allows_access, at_map_word, claim_next, entry_word, is_owing, map_word, share_next, share_part, snapshot_taken, tries_page, walk_next, after_claim, after_share, claim_part, table_value}
 use Rattle.mmu_core.specs.machine.Machine.{World, hand_in}
 use Rattle.part_steps.specs.PartSteps.{IsOver, LookedUp, SawEntry, entry_index, leaf_written, page_owned, part_task, table_page, word_looked, words_filled, HasToFill}
 use Rattle.part_steps.specs.PartTopics.{part_topics}
 use Rattle.part_steps.specs.SlotWords.{field_number, leaf_of, may_write, page_of}
-use Rattle.part_steps.specs.TopicSteps.{gone_down, has_writer, is_won, linked_page, may_search}
+use Rattle.part_steps.specs.TopicSteps.{gone_down, linked_page, may_search}
 use Rattle.mmu_core.specs.invariant.TreePart.{EntryPart, IsLeafAt, TreePart, at, stands}
 use Rattle.mmu_core.proofs.pages.TreePlaces.{all_reached, link_stands}
 use Rattle.mmu_core.specs.machine.View.{answer_in, upd, view, word_in, words_after}
 use Rattle.mmu_core.proofs.invariant.AloneLaws.{lock_free}
+use Rattle.mmu_laws.proofs.alone.ClaimAlone.{ClaimComes, claim_comes, claim_goes}
+use Rattle.mmu_core.proofs.lines.ClaimMade.{ClaimMade, claim_made}
+use Rattle.mmu_core.proofs.lines.ClaimMade as made
 use Rattle.mmu_core.proofs.machine.Columns.{upd_same}
 use Rattle.mmu_core.proofs.lines.FaultKnown.{allowed_leaf}
-use Rattle.mmu_core.proofs.lines.FaultSame.{both}
 use Rattle.mmu_laws.proofs.alone.FindAlone.{find_goes}
 use Rattle.mmu_laws.proofs.leaves.LeadsDown.{leads_same}
 use Rattle.mmu_core.proofs.slots.LiveStays.{LiveStays}
 use Rattle.mmu_core.proofs.pages.Owned.{owned_some}
-use Rattle.mmu_core.proofs.words.PartWords.{entry_leaves, fill_leaves, walks_elsewhere, walks_unowned}
+use Rattle.mmu_core.proofs.words.PartWords.{entry_leaves, fill_leaves, walks_elsewhere, walks_unowned, is_word}
+use Rattle.mmu_core.proofs.lines.ShareMade.{share_comes, share_made}
 use Rattle.mmu_core.proofs.words.SlotFields.{is_number}
 use Rattle.mmu_core.proofs.pages.TreeKept.{leaf_is}
 use Rattle.mmu_core.proofs.pages.TreeStored.{entry_stored}
@@ -57,33 +64,6 @@ use Rattle.core_views.specs.declared.topics.Stay.{Stay}
 is_it : (v n : ℕ) → v ≡ n → (v == n) ≡ true
 is_it v n e = grind (arith, nat_tests)
 
-no_writer : (v : ℕ) → v ≡ 0 → has_writer v ≡ false
-no_writer v e = grind (arith, nat_tests)
-
--- the bit that a claim tries is one of those that it saw
-saw_bit : (claim : MapClaim) → 0 < claim.seen → claim.seen < 2 ^ 64 → is_won claim claim.seen ≡ true
-saw_bit claim some small = ap (λ b. b == 1) (bit_at-trailing_zeros w64 claim.seen some small).1
-
--- ---- a load of a word of the map
-
-module _ (map : ℕ → ℕ) where
-  -- the words up to the next one, behind a load of this one
-  pub past_word : (zero_ : Bool) (word v : ℕ) → (v == 0) ≡ zero_ → map word ≡ v → NoneFreeBefore map word → NoneFreeBefore map (word + (if zero_ then 1 else 0))
-  past_word false word v none is before i lt = before i (omega (arith, lt))
-  past_word true word v none is before i lt = by (nat_lt i word) refl
-    where
-      by : (b : Bool) → nat_lt i word ≡ b → map i ≡ 0
-      by true low = before i (grind (arith, nat_tests))
-      by false low = let here : i ≡ word = grind (arith, nat_tests) in let empty : v ≡ 0 = grind (arith, nat_tests) in ap map here ∙ is ∙ empty
-
-  -- the claim stays at this one, where it saw a page free in it
-  pub seen_stands : (word v : ℕ) → map word ≡ v → 0 < v → map (word + (if v == 0 then 1 else 0)) ≡ v
-  seen_stands word v is some = ap map (at_word (v == 0) refl some) ∙ is
-    where
-      at_word : (zero_ : Bool) → (v == 0) ≡ zero_ → 0 < v → word + (if zero_ then 1 else 0) ≡ word
-      at_word true is some = absurd (grind (arith, nat_tests))
-      at_word false is some = omega arith
-
 module _ (root set : ℕ) (map pool : ℕ → ℕ) (gfn : ℕ) (write : Bool) where
   -- ---- the host word, the lock and the check
 
@@ -91,9 +71,9 @@ module _ (root set : ℕ) (map pool : ℕ → ℕ) (gfn : ℕ) (write : Bool) wh
   host_alone true t loose = tt
   host_alone false t loose = loose
 
-  share_alone : (k : Hold) (words : Area → ℕ → ℕ) (a note : ℕ) (t u : Topics) → k ≡ Loose → words area.Lock 0 ≡ 0 → FaultAlone (share_next k (answer_in (part_task (share_part k) a t note) words)) root set map pool gfn write u
-  share_alone Loose words a note t u loose free = subst (λ b. FaultAlone (if b then Share else Check stage.Count) root set map pool gfn write u) (sym (no_writer (words area.Lock 0) free)) tt
-  share_alone _ words a note t u loose free = absurd (cc loose)
+  share_alone : (next : ShareNext) (u : Topics) → next ≡ shares.Shares → FaultAlone (after_share next) root set map pool gfn write u
+  share_alone shares.Shares u is = tt
+  share_alone shares.Tries u is = absurd (cc is)
 
   count_alone : (v : ℕ) (u : Topics) → v ≡ 0 → FaultAlone (if v == 0 then Check stage.Seq else Check stage.Start) root set map pool gfn write u
   count_alone v u none = subst (λ b. FaultAlone (if b then Check stage.Seq else Check stage.Start) root set map pool gfn write u) (sym (is_it v 0 none)) tt
@@ -135,14 +115,10 @@ module _ (root set : ℕ) (map pool : ℕ → ℕ) (gfn : ℕ) (write : Bool) wh
 
   -- ---- the claim
 
-  mapped_alone : (more : Bool) (t : Topics) (word v : ℕ) → EntryStands pool gfn t → map word ≡ v → NoneFreeBefore map word
-      → FaultAlone (if more then Claim true else Unshare Starved) root set map pool gfn write (record t { claim = record { at = word + (if v == 0 then 1 else 0); seen = v } })
-  mapped_alone true t word v stands is before = (stands, λ b some. seen_stands map word v is some, λ b. past_word map (v == 0) word v refl is before)
-  mapped_alone false t word v stands is before = past_word map (v == 0) word v refl is before
-
-  tried_alone : (won : Bool) (u : Topics) → won ≡ true → EntryStands pool gfn u → FaultAlone (if won then Fill else Claim true) root set map pool gfn write u
-  tried_alone true u is stands = stands
-  tried_alone false u is stands = absurd (cc is)
+  claim_alone : (next : ClaimNext) (z : Sizes) (u : Topics) → EntryStands pool gfn u → ClaimComes next z map u → FaultAlone (after_claim next) root set map pool gfn write u
+  claim_alone claims.Goes z u still comes = (still, comes.0, λ e. comes.1)
+  claim_alone claims.Got z u still comes = still
+  claim_alone claims.Empty z u still comes = comes.0
 
   -- ---- the stores
 
@@ -158,31 +134,11 @@ module _ (root set : ℕ) (map pool : ℕ → ℕ) (gfn : ℕ) (write : Bool) wh
   leaf_alone true end_ u is leads = leads
   leaf_alone false end_ u is leads = absurd (cc is)
 
--- what a claim finds
-module _ (t : Topics) (words : Area → ℕ → ℕ) (a note : ℕ) (small : t.claim.seen < 2 ^ 64) (b : Bool) (seen : SeenStands b (words area.PoolMap) t) where
-  pub tries_seen : tries_page b t.claim ≡ true → is_won t.claim (words area.PoolMap t.claim.at) ≡ true
-  tries_seen is =
-      let B = both b (nat_lt 0 t.claim.seen) is in
-      let some : 0 < t.claim.seen = let more = B.1 in grind (arith, nat_tests) in
-      ap (is_won t.claim) (seen B.0 some) ∙ saw_bit t.claim some small
-
-  pub claim_goes : (tries : Bool) → tries_page b t.claim ≡ tries → (tries && not (is_won t.claim (answer_in (part_task (if tries then part.Claim else part.Map (map_word b t.claim)) a t note) words))) ≡ false
-  claim_goes true is = ap not (tries_seen is)
-  claim_goes false is = refl
-
-  pub before_word : (c : Bool) → (c ≡ true → NoneFreeBefore (words area.PoolMap) t.claim.at) → NoneFreeBefore (words area.PoolMap) (map_word c t.claim)
-  before_word true before = before refl
-  before_word false before = λ i lt. absurd (omega (arith, lt))
-
-  claim_alone : (tries : Bool) (z : Sizes) (gfn : ℕ) (write : Bool) → tries_page b t.claim ≡ tries → EntryStands (words area.Pool) gfn t → (b ≡ true → NoneFreeBefore (words area.PoolMap) t.claim.at)
-      → FaultAlone (claim_next tries z (at_map_word b t.claim) (answer_in (part_task (if tries then part.Claim else part.Map (map_word b t.claim)) a t note) words))
-      (words_after (part_task (if tries then part.Claim else part.Map (map_word b t.claim)) a t note) words area.Root 0)
-      (words_after (part_task (if tries then part.Claim else part.Map (map_word b t.claim)) a t note) words area.Slots 0)
-      (words_after (part_task (if tries then part.Claim else part.Map (map_word b t.claim)) a t note) words area.PoolMap)
-      (words_after (part_task (if tries then part.Claim else part.Map (map_word b t.claim)) a t note) words area.Pool) gfn write
-      (part_topics (if tries then part.Claim else part.Map (map_word b t.claim)) t (answer_in (part_task (if tries then part.Claim else part.Map (map_word b t.claim)) a t note) words))
-  claim_alone true z gfn write is stands before = tried_alone (words area.Root 0) (words area.Slots 0) _ (words area.Pool) gfn write (is_won t.claim (words area.PoolMap t.claim.at)) _ (tries_seen is) stands
-  claim_alone false z gfn write is stands before = mapped_alone (words area.Root 0) (words area.Slots 0) (words area.PoolMap) (words area.Pool) gfn write _ t (map_word b t.claim) (words area.PoolMap (map_word b t.claim)) stands refl (before_word b before)
+-- A step of the claim leaves the entry.
+entry_still : (z : Sizes) (gfn : ℕ) (begun : Bool) (t : Topics) (v : ℕ) (words : Area → ℕ → ℕ) (a note : ℕ) (step : PartStep) (next : ClaimNext) (u : Topics) → ClaimMade z begun t v step next u
+    → EntryStands (words area.Pool) gfn t → EntryStands (words_after (part_task step a t note) words area.Pool) gfn u
+entry_still z gfn begun t v words a note _ _ _ (made.Won tries b some is) stands = stands
+entry_still z gfn begun t v words a note _ _ _ _ stands = stands
 
 -- ---- in a sound world
 
@@ -292,7 +248,9 @@ goes_through z w a gfn note write Share R =
     let behind : Area → ℕ → ℕ = words_after task (word_in z w) in
     record {
       goes = ap (λ (x : Hold). is_owing x) R.alone;
-      next = share_alone (behind area.Root 0) (behind area.Slots 0) (behind area.PoolMap) (behind area.Pool) gfn write t.hold (word_in z w) a note t (part_topics (share_part t.hold) t v) R.alone (lock_free z w a R.sound R.there R.others R.alone);
+      next =
+          share_alone (behind area.Root 0) (behind area.Slots 0) (behind area.PoolMap) (behind area.Pool) gfn write (share_next t.hold v) (part_topics (share_part t.hold) t v)
+          (share_comes t (word_in z w) a note _ _ _ (share_made t v R.knows.1) R.alone (lock_free z w a R.sound R.there R.others R.alone));
     }
 goes_through z w a gfn note write (Check stage.Count) R =
     let t : Topics = (hand_in mmu w a).topics in
@@ -323,9 +281,16 @@ goes_through z w a gfn note write (Walk true) R =
 goes_through z w a gfn note write (Claim begun) R =
     let t : Topics = (hand_in mmu w a).topics in
     let small = (R.sound.topics.counters a R.there).seen in
+    let step : PartStep = claim_part begun t.claim in
+    let task : Task = part_task step a t note in
+    let v : ℕ = answer_in task (word_in z w) in
+    let after : Area → ℕ → ℕ = words_after task (word_in z w) in
+    let M = claim_made z begun t v in
     record {
-      goes = claim_goes t (word_in z w) a note small begun R.alone.1 (tries_page begun t.claim) refl;
-      next = claim_alone t (word_in z w) a note small begun R.alone.1 (tries_page begun t.claim) z gfn write refl R.alone.0 R.alone.2;
+      goes = claim_goes z begun t (word_in z w) a note small R.alone.1 _ _ _ M;
+      next =
+          claim_alone (after area.Root 0) (after area.Slots 0) (after area.PoolMap) (after area.Pool) gfn write (claim_next begun z t.claim v) z (part_topics step t v) (entry_still z gfn begun t v (word_in z w) a note _ _ _ M R.alone.0)
+          (claim_comes z begun t (word_in z w) a note small R.alone.1 _ _ _ M R.alone.2);
     }
 goes_through z w a gfn note write Fill R =
     let t : Topics = (hand_in mmu w a).topics in

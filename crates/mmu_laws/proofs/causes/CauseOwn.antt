@@ -7,7 +7,7 @@ use Rattle.core_views.specs.declared.kind.Kind.{Kind}
 use Rattle.core_views.specs.declared.place.Cause.TheVariants.{Open, Moved, Entry}
 use Rattle.core_views.specs.declared.place.CheckStage.{CheckStage}
 use Rattle.core_views.specs.declared.place.CheckStage.TheVariants as stage
-use Rattle.core_views.specs.declared.place.FaultEnd.TheVariants.{Installed, Mmio, HostFault, Starved, Retry}
+use Rattle.core_views.specs.declared.place.FaultEnd.TheVariants.{Installed, Mmio, HostFault, Retry}
 use Rattle.core_views.specs.declared.place.FaultPlace.{FaultPlace}
 use Rattle.core_views.specs.declared.place.FaultPlace.TheVariants.{Snapshot, Find, Host, Share, Check, Walk, Claim, Fill, Role, Link, Give, Leaf, Unshare, End}
 use Rattle.core_views.specs.declared.place.SlotField.{SlotField}
@@ -24,7 +24,7 @@ use Rattle.spte_words.specs.declared.area.Area.{Area}
 use Rattle.spte_words.specs.declared.area.Area.TheVariants as area
 use Rattle.spte_words.specs.declared.spte_kind.SpteKind.{SpteKind}
 use Rattle.spte_words.specs.declared.spte_kind.SpteKind.TheVariants as entry_kind
-use Rattle.spte_words.specs.Areas.{place as place_of, pool_index, size_of, words_of_bits}
+use Rattle.spte_words.specs.Areas.{place as place_of, pool_index, size_of}
 use Rattle.spte_words.specs.Entries.{kind_of}
 use Rattle.spte_words.specs.HostWords.{host_allows_write}
 use Rattle.spte_words.proofs.Indices.{pool_within, same_pool_word}
@@ -32,21 +32,26 @@ use Rattle.part_steps.specs.declared.part_step.PartStep.{PartStep}
 use Rattle.part_steps.specs.declared.part_step.PartStep.TheVariants as part
 use Rattle.mmu_laws.specs.causes.Causes.{Finds, HasMade, SawChange, StaysInSection}
 use Rattle.mmu_core.specs.machine.Enabled.{mmu}
+use Rattle.mmu_core.specs.declared.claim.ClaimNext.{ClaimNext}
+use Rattle.mmu_core.specs.declared.claim.ClaimNext.TheVariants as claims
+use Rattle.mmu_core.specs.declared.share.ShareNext.{ShareNext}
+use Rattle.mmu_core.specs.declared.share.ShareNext.TheVariants as shares
 use Rattle.mmu_core.specs.lines.FaultKnows.{CheckKnows, FaultKnows, is_trying}
-use Rattle.mmu_core.specs.lines.FaultSteps.{allows_access, at_map_word, check_next, check_part, entry_word, fault_next, fault_part, find_next, found_next, is_last_word, map_word, share_next, share_part, snapshot_taken, tries_page, walk_next}
+use Rattle.mmu_core.specs.lines.FaultSteps.{after_claim, after_share, allows_access, check_next, check_part, claim_next, entry_word, fault_next, fault_part, find_next, found_next, is_last_word, map_word, share_next, share_part, snapshot_taken, tries_page, walk_next}
 use Rattle.mmu_core.specs.invariant.Laws.{IsSound}
 use Rattle.mmu_core.specs.machine.Machine.{May, Step, World, answered, effect, found, hand_in, run}
 use Rattle.part_steps.specs.PartBounds.{PartRests}
 use Rattle.part_steps.specs.PartSteps.{entry_index, page_owned, table_page, words_filled, HasToFill}
 use Rattle.part_steps.specs.PartTopics.{part_topics, sequenced}
 use Rattle.part_steps.specs.Tasks.{map_of}
-use Rattle.part_steps.specs.TopicSteps.{gone_down, has_writer, is_loose, is_won, linked_page, searched}
+use Rattle.part_steps.specs.TopicSteps.{gone_down, is_loose, linked_page, searched}
 use Rattle.mmu_core.specs.invariant.TreePart.{EntryPart, at}
 use Rattle.mmu_core.specs.machine.View.{view, word_in}
 use Rattle.mmu_core.proofs.invariant.AloneLaws.{part_found}
-use Rattle.mmu_laws.proofs.causes.CausePlaces.{CauseSaw, FaultSaw, end_longer}
+use Rattle.mmu_laws.proofs.causes.CausePlaces.{CauseSaw, FaultSaw, KnowsEntry, end_longer}
 use Rattle.mmu_laws.proofs.causes.CauseSteps.{IsAmid, IsExchange, IsLoad, Spares, entry_kinds, spared}
 use Rattle.mmu_laws.proofs.causes.Changes.{Knows, knows_longer, knows_now, made_longer, made_now, saw_now, was_changed}
+use Rattle.mmu_core.proofs.lines.ClaimMade.{claim_made, claim_walk}
 use Rattle.mmu_laws.proofs.causes.EachFault.{NextIs}
 use Rattle.mmu_core.proofs.lines.FaultSame.{over_it}
 use Rattle.mmu_laws.proofs.causes.MadeSteps.{Makes, exchange_finds, in_machine, load_finds, load_keeps, own_rests, own_sizes, stays_in, word_on}
@@ -124,8 +129,12 @@ module _ (z : Sizes) (w : World Held) (ss : List (Step Kind)) (s : Step Kind) (G
       either (is_last_word f && contains gfn so_far.slot) (found_next write so_far) (if so_far.id == 32 then End Mmio else Find true) gfn t_ (either (write && so_far.slot.read_only) (End Mmio) Host gfn t_ tt K)
       (either (so_far.id == 32) (End Mmio) (Find true) gfn t_ tt K)
 
-  share_saw : (hold : Hold) (gfn : ℕ) → is_trying hold ≡ true → Made (share_part hold) → SeqIs (snapshot_taken t.invalidations.snapshot) ss u → FaultSaw z a w (share_next hold v) gfn (part_topics (share_part hold) t v) more behind
-  share_saw Loose gfn try_ M K = let K_ = seq_longer _ part.Share M tt (inr (λ e. absurd (cc e))) K in either (has_writer v) Share (Check stage.Count) gfn (part_topics part.Share t v) K_ (K_, tt)
+  tried_saw : (next : ShareNext) (gfn : ℕ) (t_ : Topics) → SeqIs (snapshot_taken t_.invalidations.snapshot) more behind → FaultSaw z a w (after_share next) gfn t_ more behind
+  tried_saw shares.Tries gfn t_ K = K
+  tried_saw shares.Shares gfn t_ K = (K, tt)
+
+  share_saw : (hold : Hold) (gfn : ℕ) → is_trying hold ≡ true → Made (share_part hold) → SeqIs (snapshot_taken t.invalidations.snapshot) ss u → FaultSaw z a w (after_share (share_next hold v)) gfn (part_topics (share_part hold) t v) more behind
+  share_saw Loose gfn try_ M K = tried_saw (share_next Loose v) gfn (part_topics part.Share t v) (seq_longer _ part.Share M tt (inr (λ e. absurd (cc e))) K)
   share_saw (Owing word) gfn try_ M K = seq_longer _ part.Unshare M tt (inr (λ e. absurd (cc e))) K
   share_saw _ gfn try_ M K = absurd (cc try_)
 
@@ -211,14 +220,13 @@ module _ (z : Sizes) (w : World Held) (ss : List (Step Kind)) (s : Step Kind) (G
   walk_saw gfn write entry_kind.Absent is M = either (t.walk.level == 1) Leaf (Claim false) gfn (gone gfn entry_kind.Absent) (entry_now gfn M) (entry_now gfn M)
   walk_saw gfn write entry_kind.Frozen is M = absurd ((kinds gfn M).1 is)
 
-  claim_saw : (gfn : ℕ) (write begun tries : Bool) → tries_page begun t.claim ≡ tries → 1 ≤ t.walk.level → Made (if tries then part.Claim else part.Map (map_word begun t.claim)) → EntryIs gfn t.walk.entry ss u
-      → NextIs (λ actor. FaultSaw z actor w) a (fault_next (Claim begun) z gfn write t v) gfn (part_topics (if tries then part.Claim else part.Map (map_word begun t.claim)) t v) more behind
-  claim_saw gfn write begun true is from M K =
-      let K_ = entry_longer gfn part.Claim M from tt (inr (λ e. absurd (cc e))) K in
-      rw is (either (is_won (at_map_word begun t.claim) v) Fill (Claim true) gfn (part_topics part.Claim t v) K_ K_)
-  claim_saw gfn write begun false is from M K =
-      let K_ = entry_longer gfn (part.Map (map_word begun t.claim)) M from tt (inl tt) K in
-      rw is (either (nat_lt _ (words_of_bits z.pool)) (Claim true) (Unshare Starved) gfn (part_topics (part.Map (map_word begun t.claim)) t v) K_ tt)
+  claim_longer : (gfn : ℕ) (tries : Bool) (word : ℕ) → Made (if tries then part.Claim else part.Map word) → 1 ≤ t.walk.level → EntryIs gfn t.walk.entry ss u → EntryIs gfn t.walk.entry more behind
+  claim_longer gfn true word M from K = entry_longer gfn part.Claim M from tt (inr (λ e. absurd (cc e))) K
+  claim_longer gfn false word M from K = entry_longer gfn (part.Map word) M from tt (inl tt) K
+
+  claim_saw : (gfn : ℕ) (next : ClaimNext) (t_ : Topics) → t_.walk ≡ t.walk → EntryIs gfn t.walk.entry more behind → FaultSaw z a w (after_claim next) gfn t_ more behind
+  claim_saw gfn claims.Empty t_ walk K = tt
+  claim_saw gfn _ t_ walk K = subst (λ x. KnowsEntry z a w gfn x more behind) (sym walk) K
 
   fill_spares : (gfn value note : ℕ) → HasToFill t → 1 ≤ t.walk.level → Spares area.Pool (entry_at gfn) h (part.Fill value) note
   fill_spares gfn value note F from = inr (λ e here.
@@ -252,7 +260,9 @@ module _ (z : Sizes) (w : World Held) (ss : List (Step Kind)) (s : Step Kind) (G
   own_saw (Check stage_) gfn write M K S = check_saw stage_ gfn M K.2 S
   own_saw (Walk true) gfn write M K S = walk_saw gfn write (kind_of t.walk.level v) refl M
   own_saw (Walk false) gfn write M K S = tt
-  own_saw (Claim begun) gfn write M K S = let up = K.2.upper in claim_saw gfn write begun (tries_page begun t.claim) refl (omega (arith, up)) M S
+  own_saw (Claim begun) gfn write M K S =
+      let up = K.2.upper in
+      claim_saw gfn (claim_next begun z t.claim v) _ (claim_walk z begun t v _ _ _ (claim_made z begun t v)) (claim_longer gfn (tries_page begun t.claim) (map_word begun t.claim) M (omega (arith, up)) S)
   own_saw Fill gfn write M K S =
       let up = K.1.upper in
       let from : 1 ≤ t.walk.level = omega (arith, up) in

@@ -35,7 +35,7 @@ module _ (z : Sizes) (actor : ℕ) (w : World Held) where
   abbrev KnowsSeq : Invalidations → List (Step Kind) → World Held → Type 0
   KnowsSeq n ss u = Knows (StaysInSection actor) actor (place_of (map_of z) area.Seq 0) (snapshot_taken n.snapshot) w ss u
 
-  abbrev KnowsEntry : ℕ → TableWalk → List (Step Kind) → World Held → Type 0
+  abbrev pub KnowsEntry : ℕ → TableWalk → List (Step Kind) → World Held → Type 0
   KnowsEntry gfn walk ss u = Knows (StaysInSection actor) actor (entry_word z gfn walk) walk.entry w ss u
 
   abbrev FoundWord : Area → ℕ → List (Step Kind) → Type 0

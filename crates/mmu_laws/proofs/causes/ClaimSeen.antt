@@ -8,7 +8,6 @@ use Rattle.std.proofs.lemmas.Nat.{and-not, and_comm}
 use Rattle.std.proofs.lemmas.Nat.Bits.{and_pow, bit_at-lt, bit_at-trailing_zeros}
 use Rattle.core_views.specs.declared.kind.Kind.{Kind}
 use Rattle.core_views.specs.declared.sizes.Sizes.{Sizes}
-use Rattle.core_views.specs.declared.topics.MapClaim.{MapClaim}
 use Rattle.core_views.specs.declared.topics.Topics.{Topics}
 use Rattle.core_views.specs.Held.{Held}
 use Rattle.core_views.specs.Kinds.{after}
@@ -22,6 +21,7 @@ use Rattle.part_steps.specs.PartSteps.{all_but, part_kind}
 use Rattle.mmu_laws.specs.causes.Waits.{IsOffWord, PageIsTaken, pool_word}
 use Rattle.part_steps.specs.TopicSteps.{is_won, tried_bit}
 use Rattle.mmu_laws.proofs.causes.Changes.{Knows, knows_now, was_changed}
+use Rattle.mmu_core.proofs.lines.ClaimMade.{saw_bit}
 use Rattle.mmu_core.proofs.lines.FaultSame.{is_not}
 use Rattle.mmu_laws.proofs.causes.MadeSteps.{Makes, exchange_finds, load_keeps, own_rests, word_on}
 
@@ -39,10 +39,6 @@ left_alone n j low small clear =
 
     nil : (x : ℕ) → 0 * x ≡ 0
     nil x = omega arith
-
--- The bit that a claim tries is one of those that it saw.
-saw_bit : (claim : MapClaim) → 0 < claim.seen → claim.seen < 2 ^ 64 → has_bit (tried_bit claim) claim.seen ≡ true
-saw_bit claim some small = ap (λ b. b == 1) (bit_at-trailing_zeros w64 claim.seen some small).1
 
 try_leaves : (h : Held) (note n : ℕ) → after (part_kind h part.Claim note) n ≡ bit_and n (all_but (2 ^ tried_bit h.topics.claim))
 unfolding after

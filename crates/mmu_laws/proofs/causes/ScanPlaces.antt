@@ -1,6 +1,6 @@
 -- The places at which a line has a scan of the pool's map behind it, and how it comes to one of them.
 use Rattle.std.proofs.Common.{◌≡◌, ◌⊎◌, inl, inr, ◌<◌, ℕ, refl, subst, ap, ◌∙◌}
-use Rattle.std.specs.Prelude.{Bool, true, false, ◌==◌, ◌&&◌, nat_le, nat_lt, not, if◌then◌else◌, Option, Some, None, ◌+◌}
+use Rattle.std.specs.Prelude.{Bool, true, false, ◌==◌, ◌&&◌, nat_le, nat_lt, not, if◌then◌else◌, Option, Some, None}
 use Rattle.core_views.specs.declared.cache.Translation.{Translation}
 use Rattle.core_views.specs.declared.kind.Kind.{Kind}
 use Rattle.core_views.specs.declared.kind.StepKind.TheVariants as kind
@@ -21,8 +21,6 @@ use Rattle.core_views.specs.declared.place.SetSlotPlace.{SetSlotPlace}
 use Rattle.core_views.specs.declared.place.SetSlotPlace.TheVariants as set_slot
 use Rattle.core_views.specs.declared.place.SlotField.{SlotField}
 use Rattle.core_views.specs.declared.sizes.Sizes.{Sizes}
-use Rattle.core_views.specs.declared.topics.Hold.{Hold}
-use Rattle.core_views.specs.declared.topics.Hold.TheVariants.{Owing}
 use Rattle.core_views.specs.declared.topics.SlotSearch.{SlotSearch}
 use Rattle.core_views.specs.declared.topics.TableWalk.{TableWalk}
 use Rattle.core_views.specs.declared.topics.Topics.{Topics}
@@ -32,7 +30,6 @@ use Rattle.core_views.specs.declared.trace.Op.{Op}
 use Rattle.core_views.specs.Held.{Held}
 use Rattle.core_views.specs.Kinds.{code_of}
 use Rattle.core_views.specs.Refusals.{set_refusal}
-use Rattle.core_views.specs.Sizes.{actors_of}
 use Rattle.core_views.specs.SlotSets.{MemorySlots}
 use Rattle.core_views.specs.Slots.{contains, is_write}
 use Rattle.spte_words.specs.declared.area.Area.TheVariants as area
@@ -42,21 +39,24 @@ use Rattle.spte_words.specs.Areas.{place as place_of}
 use Rattle.spte_words.specs.Entries.{kind_of}
 use Rattle.spte_words.specs.HostWords.{host_allows_write}
 use Rattle.part_steps.specs.declared.task.Task.{Task}
+use Rattle.mmu_core.specs.declared.share.ShareNext.{ShareNext}
+use Rattle.mmu_core.specs.declared.share.ShareNext.TheVariants as shares
 use Rattle.mmu_core.specs.lines.AccessSteps.{access_outcome, access_task, behind_fault, pause_next, walk_next as stay_next}
 use Rattle.mmu_core.specs.lines.Cached.{first_usable}
 use Rattle.mmu_core.specs.machine.Enabled.{IsNext, mmu}
-use Rattle.mmu_core.specs.lines.FaultSteps.{allows_access, check_next, fault_next, find_next, found_next, is_last_word, share_next, snapshot_taken, walk_next}
+use Rattle.mmu_core.specs.lines.FaultSteps.{after_share, allows_access, check_next, fault_next, find_next, found_next, is_last_word, share_next, snapshot_taken, walk_next}
 use Rattle.mmu_core.specs.invariant.Laws.{IsSound}
 use Rattle.mmu_core.specs.machine.Machine.{May, Step, World, answered, effect, hand_in}
-use Rattle.part_steps.specs.PartSteps.{words_filled, next_watched, own_index}
+use Rattle.part_steps.specs.PartSteps.{words_filled}
 use Rattle.mmu_core.specs.lines.Rests.{RestsAt}
 use Rattle.mmu_core.specs.invariant.Scans.{LoadsMap}
-use Rattle.mmu_core.specs.lines.SetSlotSteps.{set_slot_first, set_slot_outcome, looked_at, set_slot_task}
+use Rattle.mmu_core.specs.lines.SetSlotSteps.{set_slot_first, set_slot_outcome, set_slot_task, watch_next}
 use Rattle.mmu_core.specs.machine.Steps.{first_place, has_line, line_at, next, outcome_at, place_at, standing, task_at, task_of}
 use Rattle.part_steps.specs.Tasks.{map_of}
 use Rattle.mmu_core.specs.machine.Outcomes.{place_after}
-use Rattle.part_steps.specs.TopicSteps.{has_writer, searched, in_section}
+use Rattle.part_steps.specs.TopicSteps.{searched}
 use Rattle.mmu_core.proofs.machine.LineRuns.{own_hand}
+use Rattle.mmu_core.proofs.slots.SettingHolds.{each_watch}
 use Rattle.mmu_core.proofs.machine.Which.{is_next, next_of_line, next_of_part}
 use Rattle.core_views.specs.declared.answer.Refusal.{Refusal}
 use Rattle.core_views.specs.declared.trace.Slot.{Slot}
@@ -111,9 +111,9 @@ not_by_find gfn write loaded found =
     neither (is_last_word loaded && contains gfn found.slot) (found_next write found) (if found.id == 32 then End Mmio else Find true) (not_found write found)
     (neither (found.id == 32) (End Mmio) (Find true) (λ e. e) (λ e. e))
 
-not_by_share : (hold : Hold) (v : ℕ) → NotBegun (share_next hold v)
-not_by_share (Owing word) v = λ e. e
-not_by_share _ v = neither (has_writer v) Share (Check stage.Count) (λ e. e) (λ e. e)
+not_by_share : (next : ShareNext) → NotBegun (after_share next)
+not_by_share shares.Tries = λ e. e
+not_by_share _ = λ e. e
 
 not_by_check : (at : CheckStage) (gfn : ℕ) (t : Topics) (v : ℕ) → NotBegun (check_next at gfn t v)
 not_by_check stage.Count gfn t v = neither (v == 0) (Check stage.Seq) (Check stage.Start) (λ e. e) (λ e. e)
@@ -131,7 +131,7 @@ fault_claims : (p : FaultPlace) (z : Sizes) (gfn : ℕ) (write : Bool) (t : Topi
 fault_claims Snapshot z gfn write t v e = absurd e
 fault_claims (Find begun) z gfn write t v e = neither begun (find_next gfn write t.search.next (searched t.search v)) (Find true) (not_by_find gfn write t.search.next (searched t.search v)) (λ x. x) e
 fault_claims Host z gfn write t v e = neither (write && not (host_allows_write v)) (End HostFault) Share (λ x. x) (λ x. x) e
-fault_claims Share z gfn write t v e = not_by_share t.hold v e
+fault_claims Share z gfn write t v e = not_by_share (share_next t.hold v) e
 fault_claims (Check at) z gfn write t v e = not_by_check at gfn t v e
 fault_claims (Walk rooted) z gfn write t v e =
     neither rooted (walk_next (kind_of t.walk.level v) z gfn write t.walk v) (Walk true) (not_by_walk (kind_of t.walk.level v) z gfn write t.walk v) (λ x. x) e
@@ -194,9 +194,7 @@ setting_scans (set_slot.Claim begun) h id slot v S = claim_begins begun h id slo
 setting_scans set_slot.Fill h id slot v S = absurd (either (nat_lt (words_filled h.topics.owned + 1) 512) set_slot.Fill set_slot.Role (λ e. e) (λ e. e) S)
 setting_scans set_slot.Exclude h id slot v S = absurd (either (v == 0) set_slot.Count set_slot.Exclude (λ e. e) (λ e. e) S)
 setting_scans set_slot.Count h id slot v S = absurd (either (v == 0) set_slot.Publish set_slot.Close (λ e. e) (λ e. e) S)
-setting_scans set_slot.Watch h id slot v S =
-    let more = nat_lt (next_watched (own_index h) (looked_at h + 1)) (actors_of h.state.sizes) in
-    absurd (either (in_section v) set_slot.Watch (if more then set_slot.Watch else set_slot.Clear) (λ e. e) (either more set_slot.Watch set_slot.Clear (λ e. e) (λ e. e)) S)
+setting_scans set_slot.Watch h id slot v S = absurd (each_watch (λ q. HasBegunSetting q → ⊥) (watch_next h v) (λ e. e) (λ e. e) S)
 setting_scans _ h id slot v S = absurd S
 
 -- A line comes to such a place from another one, or with the first load of the map.

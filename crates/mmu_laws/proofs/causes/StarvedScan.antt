@@ -1,6 +1,6 @@
 -- A line is answered starved only where its own claim saw each word of the pool's map with no free page.
-use Rattle.std.proofs.Common.{◌≡◌, ◌≢◌, ◌⊎◌, inl, inr, ◌<◌, ◌≤◌, ℕ, List, [], ◌∷◌, ◌++◌, length, refl, sym, subst, ap, append_assoc, arith}
-use Rattle.std.specs.Prelude.{Bool, true, false, ◌==◌, nat_lt, if◌then◌else◌, Option, Some, None, slice_get, unwrap_or, is_some, ◌+◌}
+use Rattle.std.proofs.Common.{◌≡◌, ◌≢◌, ◌⊎◌, inl, inr, ◌<◌, ◌≤◌, ℕ, List, [], ◌∷◌, ◌++◌, length, refl, sym, subst, ap, append_assoc}
+use Rattle.std.specs.Prelude.{Bool, Option, Some, None, slice_get, unwrap_or, is_some, ◌+◌}
 use Rattle.std.proofs.lemmas.List.{append-nil}
 use Rattle.core_views.specs.declared.answer.Answer.TheVariants as answer
 use Rattle.core_views.specs.declared.kind.Kind.{Kind}
@@ -24,34 +24,36 @@ use Rattle.core_views.specs.Refusals.{set_refusal}
 use Rattle.core_views.specs.Sizes.{actors_of}
 use Rattle.core_views.specs.SlotSets.{MemorySlots}
 use Rattle.spte_words.specs.Areas.{words_of_bits}
-use Rattle.mmu_core.specs.declared.outcome.Outcome.TheVariants.{Ends, Goes}
+use Rattle.mmu_core.specs.declared.outcome.Outcome.TheVariants.{Ends}
 use Rattle.part_steps.specs.declared.task.Task.{Task}
 use Rattle.mmu_core.specs.lines.AccessSteps.{access_outcome, access_task}
 use Rattle.mmu_core.specs.machine.Enabled.{IsNext, mmu}
-use Rattle.mmu_core.specs.lines.FaultSteps.{at_map_word, claim_part, map_word, tries_page}
+use Rattle.mmu_core.specs.declared.claim.ClaimNext.{ClaimNext}
+use Rattle.mmu_core.specs.lines.ClaimSteps.{claim_part}
 use Rattle.mmu_core.specs.lines.KnowsPart.{KnowsPart}
 use Rattle.mmu_core.specs.invariant.Laws.{IsSound}
 use Rattle.mmu_core.specs.invariant.LinesPart.{UnderWay}
 use Rattle.mmu_core.specs.machine.Machine.{Legal, May, Step, World, answered, effect, hand_in, run}
-use Rattle.part_steps.specs.PartSteps.{PartNeeds, own_index, part_kind}
+use Rattle.part_steps.specs.PartSteps.{PartNeeds, own_index}
 use Rattle.mmu_core.specs.lines.Rests.{RestsAt}
 use Rattle.mmu_core.specs.invariant.Scans.{EndsWithScan, LoadsMap, StarvedLinesScan}
-use Rattle.mmu_core.specs.lines.SetSlotSteps.{set_slot_first, set_slot_outcome, claim_outcome, set_slot_note, set_slot_part, set_slot_task}
+use Rattle.mmu_core.specs.lines.SetSlotSteps.{set_slot_first, set_slot_outcome, after_claim, set_slot_note, set_slot_part, set_slot_task}
 use Rattle.mmu_core.specs.machine.Steps.{first_place, line_at, outcome_at, place_at, task_at, task_of}
 use Rattle.part_steps.specs.Tasks.{kind_of_task}
 use Rattle.part_steps.specs.TopicSteps.{topics_after}
 use Rattle.mmu_core.specs.machine.Turns.{outcome_of}
+use Rattle.mmu_core.proofs.lines.ClaimMade.{ClaimMade, claim_made}
+use Rattle.mmu_core.proofs.lines.ClaimMade as made
 use Rattle.mmu_core.proofs.machine.Columns.{same_or}
 use Rattle.mmu_core.proofs.machine.LineRuns.{run_one_more}
 use Rattle.mmu_core.proofs.machine.Advancing.{some_below}
-use Rattle.mmu_core.proofs.words.PartTopics.{part_topics_is}
+use Rattle.mmu_core.proofs.words.PartTopics.{is_there, part_topics_is}
 use Rattle.mmu_core.proofs.held.Scanned.{at_behind, at_in, begins_scan, others_hand, scan_kept, shorter}
 use Rattle.mmu_core.proofs.machine.Which.{has_line_is, is_next}
 use Rattle.mmu_core.proofs.machine.Worlds.{good_run, good_step}
-use Rattle.part_steps.specs.declared.part_step.PartStep.TheVariants as part
+use Rattle.part_steps.specs.declared.part_step.PartStep.{PartStep}
 use Rattle.core_views.specs.declared.trace.Line.{Line}
 use Rattle.core_views.specs.Flat.{no_line}
-use Rattle.std.proofs.lemmas.Bool.Decides.{nat_tests}
 use Rattle.core_views.specs.declared.trace.Slot.{Slot}
 use Rattle.mmu_laws.proofs.causes.ScanPlaces.{HasScan, LoadsFirst, claim_begins, own_scans, stands_or_loads}
 
@@ -108,28 +110,19 @@ starved_access (access.Leave leaving.Faults) h gfn word op v e K = absurd (cc e)
 starved_access p h gfn word op v e K = absurd (cc e)
 
 -- A claim is answered starved with a load that leaves no word of the map to be loaded.
-starved_load : (h : Held) (word note v : ℕ) → word < words_of_bits h.state.sizes.pool → (if nat_lt (word + (if v == 0 then 1 else 0)) (words_of_bits h.state.sizes.pool) then Goes (place.SetSlot (set_slot.Claim true)) else Ends answer.Starved) ≡ Ends answer.Starved
-    → words_of_bits h.state.sizes.pool ≤ (topics_after h.state.sizes (part_kind h (part.Map word) note) h.topics v).claim.at
-starved_load h word note v there e =
-    subst (λ n. words_of_bits h.state.sizes.pool ≤ n) (sym (ap (λ (t : Topics). t.claim.at) (part_topics_is h.state.sizes (part.Map word) (own_index h) h.topics note v there)))
-    (by (nat_lt (word + (if v == 0 then 1 else 0)) (words_of_bits h.state.sizes.pool)) refl e)
-  where
-    by : (b : Bool) → nat_lt (word + (if v == 0 then 1 else 0)) (words_of_bits h.state.sizes.pool) ≡ b → (if b then Goes (place.SetSlot (set_slot.Claim true)) else Ends answer.Starved) ≡ Ends answer.Starved
-        → words_of_bits h.state.sizes.pool ≤ word + (if v == 0 then 1 else 0)
-    by true is e = absurd (cc e)
-    by false is e = grind (arith, nat_tests)
+past_words : (y : Sizes) (begun : Bool) (t : Topics) (v : ℕ) (step : PartStep) (next : ClaimNext) (u : Topics) → ClaimMade y begun t v step next u → after_claim next ≡ Ends answer.Starved → words_of_bits y.pool ≤ u.claim.at
+past_words y begun t v _ _ _ (made.SawNone not_ le) e = le
+past_words y begun t v _ _ _ _ e = absurd (cc e)
 
 starved_claim : (begun : Bool) (h : Held) (id : ℕ) (slot : Slot) (v : ℕ) → set_slot_outcome (set_slot.Claim begun) h v ≡ Ends answer.Starved → PartNeeds (claim_part begun h.topics.claim) h
     → IsStarved (place.SetSlot (set_slot.Claim begun)) (set_slot_task (set_slot.Claim begun) h id slot) h v
-starved_claim begun h id slot v e N = record { scans = claim_begins begun h id slot; past = by (tries_page begun h.topics.claim) e N }
-  where
-    note : ℕ
-    note = set_slot_note (set_slot.Claim begun) h
-
-    by : (tries : Bool) → claim_outcome tries h.state.sizes (at_map_word begun h.topics.claim) v ≡ Ends answer.Starved → PartNeeds (if tries then part.Claim else part.Map (map_word begun h.topics.claim)) h
-        → words_of_bits h.state.sizes.pool ≤ (topics_after h.state.sizes (part_kind h (if tries then part.Claim else part.Map (map_word begun h.topics.claim)) note) h.topics v).claim.at
-    by true e N = absurd (cc e)
-    by false e N = starved_load h (map_word begun h.topics.claim) note v N.1 e
+starved_claim begun h id slot v e N = record {
+  scans = claim_begins begun h id slot;
+  past =
+      subst (λ (t : Topics). words_of_bits h.state.sizes.pool ≤ t.claim.at)
+      (sym (part_topics_is h.state.sizes (claim_part begun h.topics.claim) (own_index h) h.topics (set_slot_note (set_slot.Claim begun) h) v (is_there (claim_part begun h.topics.claim) h N)))
+      (past_words h.state.sizes begun h.topics v _ _ _ (claim_made h.state.sizes begun h.topics v) e);
+}
 
 starved_setting : (p : SetSlotPlace) (h : Held) (id : ℕ) (slot : Slot) (v : ℕ) → set_slot_outcome p h v ≡ Ends answer.Starved → PartNeeds (set_slot_part p h id slot) h → IsStarved (place.SetSlot p) (set_slot_task p h id slot) h v
 starved_setting (set_slot.Claim begun) h id slot v e N = starved_claim begun h id slot v e N

@@ -15,8 +15,6 @@ use Rattle.core_views.specs.declared.place.FaultPlace.TheVariants.{Begin, Snapsh
 use Rattle.core_views.specs.declared.place.AccessPlace.TheVariants.{Enter, Fault}
 use Rattle.core_views.specs.declared.place.Place.TheVariants as place
 use Rattle.core_views.specs.declared.sizes.Sizes.{Sizes}
-use Rattle.core_views.specs.declared.topics.Hold.{Hold}
-use Rattle.core_views.specs.declared.topics.Hold.TheVariants.{Owing}
 use Rattle.core_views.specs.declared.topics.TableWalk.{TableWalk}
 use Rattle.core_views.specs.declared.topics.Topics.{Topics}
 use Rattle.core_views.specs.declared.trace.Command.TheVariants.{Access}
@@ -30,13 +28,16 @@ use Rattle.spte_words.specs.declared.area.Area.{Area}
 use Rattle.spte_words.specs.declared.area.Area.TheVariants as area
 use Rattle.spte_words.specs.declared.spte_kind.SpteKind.{SpteKind}
 use Rattle.spte_words.specs.declared.spte_kind.SpteKind.TheVariants as entry_kind
-use Rattle.spte_words.specs.Areas.{words_of_bits}
 use Rattle.spte_words.specs.Entries.{kind_of}
 use Rattle.spte_words.specs.HostWords.{host_allows_write}
 use Rattle.part_steps.specs.declared.part_step.PartStep.TheVariants as part
+use Rattle.mmu_core.specs.declared.claim.ClaimNext.{ClaimNext}
+use Rattle.mmu_core.specs.declared.claim.ClaimNext.TheVariants as claims
+use Rattle.mmu_core.specs.declared.share.ShareNext.{ShareNext}
+use Rattle.mmu_core.specs.declared.share.ShareNext.TheVariants as shares
 use Rattle.mmu_core.specs.lines.AccessSteps.{access_note, access_task}
 use Rattle.mmu_core.specs.lines.FaultKnows.{FaultKnows}
-use Rattle.mmu_core.specs.lines.FaultSteps.{allows_access, at_map_word, check_next, claim_next, entry_word, fault_part, find_next, map_word, share_next, snapshot_taken, tries_page, walk_next}
+use Rattle.mmu_core.specs.lines.FaultSteps.{after_claim, after_share, allows_access, check_next, claim_next, entry_word, fault_part, find_next, share_next, snapshot_taken, walk_next}
 use Rattle.mmu_laws.specs.flat.FlatInvariant.{NotedAt}
 use Rattle.mmu_core.specs.invariant.Invariant.{Invariant}
 use Rattle.part_steps.specs.PartSteps.{own_index, words_filled}
@@ -50,7 +51,7 @@ use Rattle.mmu_core.proofs.machine.PartStepping.{IsPart}
 use Rattle.mmu_core.proofs.words.PartTopics.{part_topics_is}
 use Rattle.mmu_core.proofs.machine.Stepping.{IsStep}
 use Rattle.part_steps.specs.SlotWords.{page_of}
-use Rattle.part_steps.specs.TopicSteps.{at_set, has_writer, is_won, may_search, searched, topics_after}
+use Rattle.part_steps.specs.TopicSteps.{at_set, may_search, searched, topics_after}
 use Rattle.core_views.specs.declared.topics.SlotSearch.{SlotSearch}
 use Rattle.core_views.specs.declared.topics.Stay.{Stay}
 use Rattle.mmu_core.proofs.slots.LiveStays.{access_never}
@@ -65,9 +66,9 @@ module _ (pool : ℕ → ℕ) (gfn : ℕ) (op : Op) (t : Topics) (notes : Notes)
   either true p q first second = first
   either false p q first second = second
 
-  share_noted : SawPage notes gfn op → (hold : Hold) (x : ℕ) → Noted (share_next hold x)
-  share_noted saw (Owing word) x = saw
-  share_noted saw _ x = either (has_writer x) Share (Check stage.Count) saw saw
+  share_noted : SawPage notes gfn op → (next : ShareNext) → Noted (after_share next)
+  share_noted saw shares.Tries = saw
+  share_noted saw _ = saw
 
   check_noted : SawPage notes gfn op → (at : CheckStage) (h : Topics) (x : ℕ) → Noted (check_next at gfn h x)
   check_noted saw stage.Count h x = either (x == 0) (Check stage.Seq) (Check stage.Start) saw saw
@@ -85,9 +86,9 @@ module _ (pool : ℕ → ℕ) (gfn : ℕ) (op : Op) (t : Topics) (notes : Notes)
   walk_noted saw (entry_kind.Table page) z write walk x = saw
   walk_noted saw entry_kind.Frozen z write walk x = tt
 
-  claim_noted : SawPage notes gfn op → (tries : Bool) (z : Sizes) (h : Topics) (begun : Bool) (x : ℕ) → Noted (claim_next tries z (at_map_word begun h.claim) x)
-  claim_noted saw true z h begun x = either (is_won (at_map_word begun h.claim) x) Fill (Claim true) saw saw
-  claim_noted saw false z h begun x = either (nat_lt (map_word begun h.claim + (if x == 0 then 1 else 0)) (words_of_bits z.pool)) (Claim true) (Unshare Starved) saw saw
+  claim_noted : SawPage notes gfn op → (next : ClaimNext) → Noted (after_claim next)
+  claim_noted saw claims.Goes = saw
+  claim_noted saw _ = saw
 
   -- The host allows the access.
   host_noted : SawPage notes gfn op → (write : Bool) (x : ℕ) → host_allows_write x ≡ true → Noted (if write && not (host_allows_write x) then End HostFault else Share)
@@ -234,7 +235,8 @@ module _ (z : Sizes) (v : View) (a : ℕ) (line : Line) (gfn word : ℕ) (op : O
   fault_goes (Find true) S part_ I P K R = searches S part_ I P K R
   fault_goes Host S part_ I P K R = looks_at_host part_ I R
   fault_goes Share S part_ I P K R =
-      quiet Share (share_next held.hold (answered Share)) part_ I P R (share_noted (words_behind Share area.Pool) gfn op (held_behind Share) u.notes R.under.1.1 held.hold (answered Share))
+      let next : ShareNext = share_next held.hold (answered Share) in
+      quiet Share (after_share next) part_ I P R (share_noted (words_behind Share area.Pool) gfn op (held_behind Share) u.notes R.under.1.1 next)
   fault_goes (Check at) S part_ I P K R =
       quiet (Check at) (check_next at gfn held (answered (Check at))) part_ I P R (check_noted (words_behind (Check at) area.Pool) gfn op (held_behind (Check at)) u.notes R.under.1.1 at held (answered (Check at)))
   fault_goes (Walk false) S part_ I P K R = quiet (Walk false) (Walk true) part_ I P R R.under.1.1
@@ -242,8 +244,8 @@ module _ (z : Sizes) (v : View) (a : ℕ) (line : Line) (gfn word : ℕ) (op : O
       quiet (Walk true) (walk_next (kind_of held.walk.level (answered (Walk true))) (v.hand a).state.sizes gfn (is_write op) held.walk (answered (Walk true))) part_ I P R
       (walk_noted (words_behind (Walk true) area.Pool) gfn op (held_behind (Walk true)) u.notes R.under.1.1 (kind_of held.walk.level (answered (Walk true))) (v.hand a).state.sizes (is_write op) held.walk (answered (Walk true)))
   fault_goes (Claim begun) S part_ I P K R =
-      quiet (Claim begun) (claim_next (tries_page begun held.claim) (v.hand a).state.sizes (at_map_word begun held.claim) (answered (Claim begun))) part_ I P R
-      (claim_noted (words_behind (Claim begun) area.Pool) gfn op (held_behind (Claim begun)) u.notes R.under.1.1 (tries_page begun held.claim) (v.hand a).state.sizes held begun (answered (Claim begun)))
+      let next : ClaimNext = claim_next begun (v.hand a).state.sizes held.claim (answered (Claim begun)) in
+      quiet (Claim begun) (after_claim next) part_ I P R (claim_noted (words_behind (Claim begun) area.Pool) gfn op (held_behind (Claim begun)) u.notes R.under.1.1 next)
   fault_goes Fill S part_ I P K R =
       quiet Fill (if nat_lt (words_filled held.owned + 1) 512 then Fill else Role) part_ I P R
       (either (words_behind Fill area.Pool) gfn op (held_behind Fill) u.notes (nat_lt (words_filled held.owned + 1) 512) Fill Role R.under.1.1 R.under.1.1)

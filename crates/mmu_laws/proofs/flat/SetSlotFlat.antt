@@ -1,5 +1,5 @@
 -- What the steps of a slot setting owe flat memory.
-use Rattle.std.proofs.Common.{◌≡◌, ◌+◌, ℕ, [], ◌++◌, refl, sym, subst, ap, ◌∙◌, ◌⊎◌, inl, inr}
+use Rattle.std.proofs.Common.{◌≡◌, ◌+◌, ℕ, [], ◌++◌, refl, sym, subst, ap, ◌∙◌}
 use Rattle.std.specs.Option.{option_map}
 use Rattle.std.specs.Prelude.{Bool, true, false, ◌==◌, nat_lt, if◌then◌else◌, Option, Some, None}
 use Rattle.core_views.specs.declared.answer.Answer.TheVariants.{Refused, Starved, Done}
@@ -8,7 +8,6 @@ use Rattle.core_views.specs.declared.place.Place.TheVariants as place
 use Rattle.core_views.specs.declared.place.SetSlotPlace.{SetSlotPlace}
 use Rattle.core_views.specs.declared.place.SetSlotPlace.TheVariants.{Refuse, Claim, Fill, Role, Exclude, Count, Close, Publish, Release, Watch, Clear, Give}
 use Rattle.core_views.specs.declared.sizes.Sizes.{Sizes}
-use Rattle.core_views.specs.declared.topics.MapClaim.{MapClaim}
 use Rattle.core_views.specs.declared.topics.Topics.{Topics}
 use Rattle.core_views.specs.declared.trace.Command.TheVariants.{SetSlot}
 use Rattle.core_views.specs.declared.trace.Line.{Line}
@@ -17,28 +16,27 @@ use Rattle.core_views.specs.declared.trace.Slot.{Slot}
 use Rattle.core_views.specs.Flat.{Facts, LineUnderWay, Notes, Stage}
 use Rattle.core_views.specs.Lawful.{HasWork, MayLeave, Tells, answer_at_once, slot_change}
 use Rattle.core_views.specs.Refusals.{is_logged, set_refusal}
-use Rattle.core_views.specs.Sizes.{actors_of}
 use Rattle.core_views.specs.SlotSets.{MemorySlots, with_slot_at}
 use Rattle.spte_words.specs.declared.area.Area.{Area}
 use Rattle.spte_words.specs.declared.area.Area.TheVariants as area
-use Rattle.spte_words.specs.Areas.{words_of_bits}
-use Rattle.mmu_core.specs.declared.outcome.Outcome.{Outcome}
-use Rattle.mmu_core.specs.declared.outcome.Outcome.TheVariants.{Goes as GoesTo, Ends}
+use Rattle.mmu_core.specs.declared.claim.ClaimNext.{ClaimNext}
+use Rattle.mmu_core.specs.declared.claim.ClaimNext.TheVariants as claims
+use Rattle.mmu_core.specs.declared.watch.WatchNext.{WatchNext}
 use Rattle.mmu_core.specs.lines.AccessSteps.{exiting}
-use Rattle.mmu_core.specs.lines.FaultSteps.{at_map_word, tries_page}
+use Rattle.mmu_core.specs.lines.ClaimSteps.{claim_next}
 use Rattle.mmu_core.specs.invariant.Invariant.{Invariant}
-use Rattle.part_steps.specs.PartSteps.{next_watched, own_index, page_owned, words_filled}
-use Rattle.mmu_core.specs.lines.SetSlotSteps.{claim_outcome, looked_at, set_slot_note, set_slot_outcome, set_slot_part, set_slot_task}
+use Rattle.part_steps.specs.PartSteps.{page_owned, words_filled}
+use Rattle.mmu_core.specs.lines.SetSlotSteps.{after_claim, after_watch, watch_next, set_slot_note, set_slot_part, set_slot_task}
 use Rattle.mmu_core.specs.machine.Outcomes.{answering, place_after}
 use Rattle.part_steps.specs.Tasks.{kind_of_task}
 use Rattle.mmu_core.specs.invariant.TopicsInvariant.{TopicsInvariant}
-use Rattle.part_steps.specs.TopicSteps.{in_section, is_won, topics_after}
+use Rattle.part_steps.specs.TopicSteps.{topics_after}
 use Rattle.mmu_core.specs.machine.View.{View, answer_in, words_after}
 use Rattle.mmu_core.proofs.slots.Accepted.{MayBeSet, may_be_set, record_of}
 use Rattle.mmu_laws.proofs.flat.FlatSteps.{Goes, Leaves, Ready, StepGoes, UnderAt, part_leaves, refines_stay}
 use Rattle.mmu_core.proofs.machine.PartStepping.{IsPart}
 use Rattle.mmu_core.proofs.slots.SetFilled.{is_publication, list_with, setting_filled, setting_never}
-use Rattle.mmu_core.proofs.slots.SettingHolds.{either_place}
+use Rattle.mmu_core.proofs.slots.SettingHolds.{each_watch, either_place}
 use Rattle.mmu_core.proofs.machine.Stepping.{IsStep}
 
 -- Flat memory has the slots of the manager's record, and so refuses as it does.
@@ -86,29 +84,15 @@ module _ (z : Sizes) (v : View) (a : ℕ) (line : Line) (id : ℕ) (slot : Slot)
   gives_up command notes is works = subst (λ c. MayLeave z facts c notes Starved) (sym is) (subst (HasWork z facts) is works)
 
   -- A claim goes on, or there is no page free.
-  claim_goes : (begun : Bool) (o : Outcome) → u.line.command ≡ SetSlot id slot → HasWork z facts u.line.command → IsPart z v a (set_slot_part (Claim begun) (v.hand a) id slot) → TopicsInvariant z v → ReadyAt (Claim begun)
-      → (o ≡ GoesTo (place.SetSlot Fill)) ⊎ (o ≡ GoesTo (place.SetSlot (Claim true))) ⊎ (o ≡ Ends Starved)
-      → Goes z (v.hand a).state.actor line (SetSlot id slot) (words_behind (Claim begun)) (place_after o) (held_behind (Claim begun)) (exiting o ++ answering o line) facts u
-  claim_goes begun o is works S P R (inl e) = subst (λ x. Goes z (v.hand a).state.actor line (SetSlot id slot) (words_behind (Claim begun)) (place_after x) (held_behind (Claim begun)) (exiting x ++ answering x line) facts u) (sym e) (quiet (Claim begun) Fill refl S P R R.under)
-  claim_goes begun o is works S P R (inr (inl e)) = subst (λ x. Goes z (v.hand a).state.actor line (SetSlot id slot) (words_behind (Claim begun)) (place_after x) (held_behind (Claim begun)) (exiting x ++ answering x line) facts u) (sym e) (quiet (Claim begun) (Claim true) refl S P R R.under)
-  claim_goes begun o is works S P R (inr (inr e)) = subst (λ x. Goes z (v.hand a).state.actor line (SetSlot id slot) (words_behind (Claim begun)) (place_after x) (held_behind (Claim begun)) (exiting x ++ answering x line) facts u) (sym e) (record {
+  claim_goes : (begun : Bool) (next : ClaimNext) → u.line.command ≡ SetSlot id slot → HasWork z facts u.line.command → IsPart z v a (set_slot_part (Claim begun) (v.hand a) id slot) → TopicsInvariant z v → ReadyAt (Claim begun)
+      → Goes z (v.hand a).state.actor line (SetSlot id slot) (words_behind (Claim begun)) (place_after (after_claim next)) (held_behind (Claim begun)) (exiting (after_claim next) ++ answering (after_claim next) line) facts u
+  claim_goes begun claims.Goes is works S P R = quiet (Claim begun) (Claim true) refl S P R R.under
+  claim_goes begun claims.Got is works S P R = quiet (Claim begun) Fill refl S P R R.under
+  claim_goes begun claims.Empty is works S P R = record {
     allowed = ((R.under.1, gives_up u.line.command u.notes is works), ((ap (λ (l : Line). l.number) (sym R.under.0), refl), tt));
     refines = refines_stay z v.words (words_behind (Claim begun)) facts (stays (Claim begun) refl S P) R.refines;
     under = refl;
-  })
-
-  -- what comes of a claim
-  claim_ends : (tries : Bool) (y : Sizes) (claim : MapClaim) (x : ℕ) → (claim_outcome tries y claim x ≡ GoesTo (place.SetSlot Fill)) ⊎ (claim_outcome tries y claim x ≡ GoesTo (place.SetSlot (Claim true))) ⊎ (claim_outcome tries y claim x ≡ Ends Starved)
-  claim_ends true y claim x = by (is_won claim x)
-    where
-      by : (b : Bool) → (GoesTo (place.SetSlot (if b then Fill else Claim true)) ≡ GoesTo (place.SetSlot Fill)) ⊎ (GoesTo (place.SetSlot (if b then Fill else Claim true)) ≡ GoesTo (place.SetSlot (Claim true))) ⊎ (GoesTo (place.SetSlot (if b then Fill else Claim true)) ≡ Ends Starved)
-      by true = inl refl
-      by false = inr (inl refl)
-  claim_ends false y claim x = by (nat_lt (claim.at + (if x == 0 then 1 else 0)) (words_of_bits y.pool))
-    where
-      by : (b : Bool) → ((if b then GoesTo (place.SetSlot (Claim true)) else Ends Starved) ≡ GoesTo (place.SetSlot Fill)) ⊎ ((if b then GoesTo (place.SetSlot (Claim true)) else Ends Starved) ≡ GoesTo (place.SetSlot (Claim true))) ⊎ ((if b then GoesTo (place.SetSlot (Claim true)) else Ends Starved) ≡ Ends Starved)
-      by true = inr (inl refl)
-      by false = inr (inr refl)
+  }
 
   refuse_goes : (refusal : Refusal) → IsStep z v a line (SetSlot id slot) (place.SetSlot (Refuse refusal)) → Invariant z v → ReadyAt (Refuse refusal) → GoesAt (Refuse refusal)
   refuse_goes refusal S I R = record {
@@ -164,8 +148,7 @@ module _ (z : Sizes) (v : View) (a : ℕ) (line : Line) (id : ℕ) (slot : Slot)
   pub set_slot_goes : (p : SetSlotPlace) → IsStep z v a line (SetSlot id slot) (place.SetSlot p) → Invariant z v → TopicsInvariant z v → IsPart z v a (set_slot_part p (v.hand a) id slot) → ReadyAt p → GoesAt p
   set_slot_goes (Refuse refusal) S I P part_ R = refuse_goes refusal S I R
   set_slot_goes (Claim begun) S I P part_ R =
-      claim_goes begun (set_slot_outcome (Claim begun) (v.hand a) (answered (Claim begun))) (ap (λ (l : Line). l.command) R.under.0 ∙ S.command_is) (at_once z v a line id slot (Claim begun) facts u None S I R S.holds) part_ P R
-      (claim_ends (tries_page begun (v.hand a).topics.claim) (v.hand a).state.sizes (at_map_word begun (v.hand a).topics.claim) (answered (Claim begun)))
+      claim_goes begun (claim_next begun (v.hand a).state.sizes (v.hand a).topics.claim (answered (Claim begun))) (ap (λ (l : Line). l.command) R.under.0 ∙ S.command_is) (at_once z v a line id slot (Claim begun) facts u None S I R S.holds) part_ P R
   set_slot_goes Fill S I P part_ R =
       let more : Bool = nat_lt (words_filled (v.hand a).topics.owned + 1) 512 in
       quiet Fill (if more then Fill else Role) refl part_ P R (either_goes Fill more Fill Role R.under R.under)
@@ -180,8 +163,7 @@ module _ (z : Sizes) (v : View) (a : ℕ) (line : Line) (id : ℕ) (slot : Slot)
   set_slot_goes Publish S I P part_ R = publish_goes S I R
   set_slot_goes Release S I P part_ R = quiet Release Watch refl part_ P R R.under
   set_slot_goes Watch S I P part_ R =
-      let sees : Bool = in_section (answered Watch) in
-      let more : Bool = nat_lt (next_watched (own_index (v.hand a)) (looked_at (v.hand a) + 1)) (actors_of (v.hand a).state.sizes) in
-      quiet Watch (if sees then Watch else if more then Watch else Clear) refl part_ P R (either_goes Watch sees Watch (if more then Watch else Clear) R.under (either_goes Watch more Watch Clear R.under R.under))
+      let next : WatchNext = watch_next (v.hand a) (answered Watch) in
+      quiet Watch (after_watch next) refl part_ P R (each_watch (UnderBehind Watch) next R.under R.under)
   set_slot_goes Clear S I P part_ R = quiet Clear Give refl part_ P R R.under
   set_slot_goes Give S I P part_ R = give_goes part_ P R

@@ -1,5 +1,5 @@
 -- Where a fault comes to its end with an entry installed, it has just loaded this entry or stored it.
-use Rattle.std.proofs.Common.{◌≡◌, ◌+◌, ℕ, refl, sym, subst, ap, ◌∙◌, arith}
+use Rattle.std.proofs.Common.{◌≡◌, ℕ, refl, sym, subst, ap, ◌∙◌, arith}
 use Rattle.std.specs.Prelude.{Bool, true, false, ◌==◌, ◌&&◌, nat_le, nat_lt, not, if◌then◌else◌}
 use Rattle.core_views.specs.declared.place.Cause.TheVariants.{Entry, Moved, Open}
 use Rattle.core_views.specs.declared.place.CheckStage.{CheckStage}
@@ -12,9 +12,6 @@ use Rattle.core_views.specs.declared.place.FaultPlace.{FaultPlace}
 use Rattle.core_views.specs.declared.place.FaultPlace.TheVariants as fault
 use Rattle.core_views.specs.declared.place.SlotField.{SlotField}
 use Rattle.core_views.specs.declared.sizes.Sizes.{Sizes}
-use Rattle.core_views.specs.declared.topics.Hold.{Hold}
-use Rattle.core_views.specs.declared.topics.Hold.TheVariants.{Owing}
-use Rattle.core_views.specs.declared.topics.MapClaim.{MapClaim}
 use Rattle.core_views.specs.declared.topics.SlotSearch.{SlotSearch}
 use Rattle.core_views.specs.declared.topics.Topics.{Topics}
 use Rattle.core_views.specs.Slots.{contains}
@@ -22,19 +19,24 @@ use Rattle.spte_words.specs.declared.area.Area.{Area}
 use Rattle.spte_words.specs.declared.area.Area.TheVariants as area
 use Rattle.spte_words.specs.declared.spte_kind.SpteKind.{SpteKind}
 use Rattle.spte_words.specs.declared.spte_kind.SpteKind.TheVariants as entry_kind
-use Rattle.spte_words.specs.Areas.{pool_index, words_of_bits}
+use Rattle.spte_words.specs.Areas.{pool_index}
 use Rattle.spte_words.specs.Entries.{kind_of}
 use Rattle.spte_words.specs.HostWords.{host_allows_write, host_frame}
 use Rattle.spte_words.proofs.ReadsEntries.{kind_of_leaf}
 use Rattle.part_steps.specs.declared.part_step.PartStep.TheVariants as part
+use Rattle.mmu_core.specs.declared.claim.ClaimNext.{ClaimNext}
+use Rattle.mmu_core.specs.declared.claim.ClaimNext.TheVariants as claims
+use Rattle.mmu_core.specs.declared.share.ShareNext.{ShareNext}
+use Rattle.mmu_core.specs.declared.share.ShareNext.TheVariants as shares
 use Rattle.mmu_core.specs.alone.FaultAlone.{EntryStands}
 use Rattle.mmu_core.specs.lines.FaultKnows.{FaultKnows}
-use Rattle.mmu_core.specs.lines.FaultSteps.{at_map_word, check_next, check_part, claim_next, claim_part, entry_word, fault_next, fault_part, find_next, is_last_word, share_next, share_part, snapshot_taken, tries_page, walk_next}
+use Rattle.mmu_core.specs.lines.FaultSteps.{after_claim, after_share, check_next, check_part, claim_next, claim_part, entry_word, fault_next, fault_part, find_next, is_last_word, share_next, share_part, snapshot_taken, walk_next}
 use Rattle.part_steps.specs.PartSteps.{entry_index, leaf_written, part_task, table_page, word_looked, words_filled}
 use Rattle.part_steps.specs.PartTopics.{exchanged, part_topics}
 use Rattle.part_steps.specs.SlotWords.{may_write, page_of}
 use Rattle.part_steps.specs.TopicSteps.{gone_down, has_writer, is_won, linked_page, searched, unless_linked}
 use Rattle.mmu_laws.specs.turns.Removal.{ends_installed, has_installed}
+use Rattle.mmu_laws.specs.turns.TurnLaws.{ends_installed, has_installed}
 use Rattle.mmu_core.specs.machine.View.{answer_in, upd, words_after}
 use Rattle.mmu_core.proofs.machine.Columns.{upd_same}
 
@@ -54,9 +56,9 @@ finds_by false denied last is = neither last (fault.End end_of.Mmio) (fault.Find
 finds_not : (gfn : ℕ) (write : Bool) (f : SlotField) (found : SlotSearch) → ends_installed (find_next gfn write f found) ≡ true → ⊥
 finds_not gfn write f found is = finds_by (is_last_word f && contains gfn found.slot) (write && found.slot.read_only) (found.id == 32) is
 
-shares_not : (k : Hold) (v : ℕ) → ends_installed (share_next k v) ≡ true → ⊥
-shares_not (Owing word) v is = cc is
-shares_not _ v is = neither (has_writer v) fault.Share (fault.Check stage.Count) refl refl is
+shares_not : (next : ShareNext) → ends_installed (after_share next) ≡ true → ⊥
+shares_not shares.Tries is = cc is
+shares_not _ is = cc is
 
 checks_not : (at_ : CheckStage) (gfn : ℕ) (t : Topics) (v : ℕ) → ends_installed (check_next at_ gfn t v) ≡ true → ⊥
 checks_not stage.Count gfn t v is = neither (v == 0) (fault.Check stage.Seq) (fault.Check stage.Start) refl refl is
@@ -66,9 +68,9 @@ checks_not stage.End gfn t v is =
 checks_not stage.Seq gfn t v is =
     neither (v == snapshot_taken t.invalidations.snapshot) (fault.Walk false) (fault.Unshare (end_of.Retry (Moved (snapshot_taken t.invalidations.snapshot) v))) refl refl is
 
-claims_not : (tries : Bool) (z : Sizes) (claim : MapClaim) (v : ℕ) → ends_installed (claim_next tries z claim v) ≡ true → ⊥
-claims_not true z claim v is = neither (is_won claim v) fault.Fill (fault.Claim true) refl refl is
-claims_not false z claim v is = neither (nat_lt (claim.at + (if v == 0 then 1 else 0)) (words_of_bits z.pool)) (fault.Claim true) (fault.Unshare end_of.Starved) refl refl is
+claims_not : (next : ClaimNext) → ends_installed (after_claim next) ≡ true → ⊥
+claims_not claims.Goes is = cc is
+claims_not _ is = cc is
 
 walk_sees : (k : SpteKind) (z : Sizes) (gfn : ℕ) (write : Bool) (t : Topics) (pool : ℕ → ℕ) (v : ℕ) → pool (pool_index (table_page t.walk) (entry_index gfn t.walk.level)) ≡ v
     → SeesEntry (next_of.Goes (walk_next k z gfn write t.walk v)) pool gfn (record t { walk = gone_down (linked_page k) t.walk (entry_index gfn t.walk.level) v })
@@ -100,15 +102,13 @@ fault_sees (fault.Find false) z own gfn note write t words not_ K = λ is. absur
 fault_sees fault.Host z own gfn note write t words not_ K =
     let v : ℕ = answer_in (part_task (part.Host (page_of t.search.slot gfn)) own t note) words in
     λ is. absurd (neither (write && not (host_allows_write v)) (fault.End end_of.HostFault) fault.Share refl refl is)
-fault_sees fault.Share z own gfn note write t words not_ K = λ is. absurd (shares_not t.hold (answer_in (part_task (share_part t.hold) own t note) words) is)
+fault_sees fault.Share z own gfn note write t words not_ K = λ is. absurd (shares_not (share_next t.hold (answer_in (part_task (share_part t.hold) own t note) words)) is)
 fault_sees (fault.Check at_) z own gfn note write t words not_ K = λ is. absurd (checks_not at_ gfn t (answer_in (part_task (check_part at_) own t note) words) is)
 fault_sees (fault.Walk true) z own gfn note write t words not_ K =
     let v : ℕ = words area.Pool (pool_index (table_page t.walk) (entry_index gfn t.walk.level)) in
     walk_sees (kind_of t.walk.level v) z gfn write t (words area.Pool) v refl
 fault_sees (fault.Walk false) z own gfn note write t words not_ K = λ is. absurd (cc is)
-fault_sees (fault.Claim begun) z own gfn note write t words not_ K =
-    let v : ℕ = answer_in (part_task (claim_part begun t.claim) own t note) words in
-    λ is. absurd (claims_not (tries_page begun t.claim) z (at_map_word begun t.claim) v is)
+fault_sees (fault.Claim begun) z own gfn note write t words not_ K = λ is. absurd (claims_not (claim_next begun z t.claim (answer_in (part_task (claim_part begun t.claim) own t note) words)) is)
 fault_sees fault.Fill z own gfn note write t words not_ K = λ is. absurd (neither (nat_lt (words_filled t.owned + 1) 512) fault.Fill fault.Role refl refl is)
 fault_sees fault.Link z own gfn note write t words not_ K =
     let v : ℕ = words area.Pool (pool_index (table_page t.walk) (entry_index gfn t.walk.level)) in

@@ -25,7 +25,7 @@ use Rattle.core_views.specs.Sizes.{AreSizes, actors_of}
 use Rattle.spte_words.specs.Areas.{words_of_bits}
 use Rattle.mmu_core.specs.lines.Bounds.{access_left, most_steps, set_slot_left, stay_left, steps_left}
 use Rattle.mmu_core.specs.machine.Enabled.{mmu}
-use Rattle.mmu_core.specs.lines.FaultSteps.{check_left, claim_left, fault_left, find_left, lock_left, map_word, table_left, tries_page}
+use Rattle.mmu_core.specs.lines.FaultSteps.{check_left, claim_left, fault_left, find_left, map_word, share_left, table_left, tries_page}
 use Rattle.mmu_core.specs.alone.LineAlone.{hand_left}
 use Rattle.mmu_core.specs.machine.Machine.{World, hand_in}
 use Rattle.part_steps.specs.PartBounds.{PartRests}
@@ -57,9 +57,9 @@ find_few : (b : Bool) (search : SlotSearch) → find_left b search ≤ 129
 find_few true search = let few = look_few search.next in omega (arith, few)
 find_few false search = omega arith
 
-lock_few : (k : Hold) → lock_left k ≤ 2
-lock_few Loose = omega arith
-lock_few _ = omega arith
+share_few : (k : Hold) → share_left k ≤ 2
+share_few Loose = omega arith
+share_few _ = omega arith
 
 check_few : (at_ : CheckStage) → check_left at_ ≤ 4
 check_few stage.Count = omega arith
@@ -68,7 +68,7 @@ check_few _ = omega arith
 -- A fault has no more left at any place than where it begins.
 fault_few : (p : FaultPlace) (z : Sizes) (t : Topics) → t.walk.level ≤ 4 → fault_left p z t ≤ fault_left fault.Begin z t
 fault_few (fault.Find b) z t most = let few = find_few b t.search in omega (arith, few)
-fault_few fault.Share z t most = let few = lock_few t.hold in omega (arith, few)
+fault_few fault.Share z t most = let few = share_few t.hold in omega (arith, few)
 fault_few (fault.Check at_) z t most = let few = check_few at_ in omega (arith, few)
 fault_few (fault.Walk true) z t most = let few = tables_few z t.walk.level most in omega (arith, few)
 fault_few (fault.Walk false) z t most = omega arith
