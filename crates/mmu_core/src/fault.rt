@@ -24,8 +24,6 @@ use spte_words::{Area, HostWord, Spte, SpteKind};
 /// How many words of a table's page are entries.
 const ENTRIES: u64 = 512;
 
-}
-
 fn check_part(stage: CheckStage) -> PartStep
     ensures { result ≡ check_part stage }
 {

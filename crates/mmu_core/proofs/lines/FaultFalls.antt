@@ -38,8 +38,6 @@ use Rattle.part_steps.specs.TopicSteps.{filled_more, gone_down, linked_page, may
 use Rattle.mmu_core.proofs.lines.ClaimMade.{ClaimMade, claim_falls, claim_made, claim_left_after, word_there}
 use Rattle.mmu_core.proofs.lines.ClaimMade as made
 use Rattle.mmu_core.proofs.lines.FaultKnown.{above_lowest}
-use Rattle.mmu_core.proofs.lines.FaultNeeds.{first_word}
-use Rattle.mmu_core.proofs.lines.FaultSame.{not_not}
 use Rattle.mmu_core.proofs.pages.Owned.{more_filled, table_owned}
 use Rattle.mmu_core.proofs.lines.ShareMade.{share_falls, share_made, share_left_after}
 

@@ -37,9 +37,9 @@ use Rattle.spte_words.proofs.ReadsEntries.{kind_of_leaf, kind_of_table, leaf_can
 use Rattle.spte_words.proofs.Spans.{span_1, span_2, span_3, span_4}
 use Rattle.part_steps.specs.declared.part_step.PartStep.{PartStep}
 use Rattle.part_steps.specs.declared.part_step.PartStep.TheVariants as part
-use Rattle.mmu_core.specs.lines.FaultKnows.{CheckKnows, EndKnows, Entering, FaultKnows, InSection, KnowsNext, LookedFor, SawNone, Sharing, WithoutLock, is_trying, Filling}
+use Rattle.mmu_core.specs.lines.FaultKnows.{CheckKnows, EndKnows, Entering, FaultKnows, InSection, KnowsNext, LookedFor, SawNone, Sharing, WithoutLock, is_trying}
 use Rattle.mmu_core.specs.lines.FaultLaws.{CanAnswer}
-use Rattle.mmu_core.specs.lines.FaultSteps.{allows_access, at_map_word, check_next, check_part, claim_next, entry_word, fault_next, fault_part, find_next, map_word, share_next, share_part, snapshot_taken, tries_page, walk_next, after_claim, after_share, table_value}
+use Rattle.mmu_core.specs.lines.FaultSteps.{allows_access, check_next, check_part, entry_word, fault_next, fault_part, find_next, snapshot_taken, walk_next, after_claim, after_share}
 use Rattle.mmu_core.specs.declared.claim.ClaimNext.{ClaimNext}
 use Rattle.mmu_core.specs.declared.share.ShareNext.{ShareNext}
 use Rattle.part_steps.specs.PartBounds.{PartRests}
@@ -51,7 +51,6 @@ use Rattle.mmu_core.specs.machine.View.{answer_in}
 use Rattle.mmu_core.proofs.pages.Owned.{more_absent, more_filled, more_role, more_some, some_filled, table_owned}
 use Rattle.mmu_core.proofs.lines.ClaimMade.{ClaimMade, claim_made, page_won}
 use Rattle.mmu_core.proofs.lines.ClaimMade as made
-use Rattle.mmu_core.proofs.words.PartWords.{fill_answers}
 use Rattle.mmu_core.proofs.lines.ShareMade.{ShareMade, share_made}
 use Rattle.mmu_core.proofs.lines.ShareMade as share
 use Rattle.mmu_core.proofs.lines.FaultSame.{both, ends_same, is_not, not_not, not_then, over_it, same_entering, same_looked, same_none, same_sharing, same_without}

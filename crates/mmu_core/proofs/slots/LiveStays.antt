@@ -33,7 +33,7 @@ use Rattle.mmu_core.specs.invariant.TreePart.{IsLiveIn}
 use Rattle.mmu_core.specs.machine.View.{View, part_stepped, stepped, words_after}
 use Rattle.mmu_core.proofs.lines.ClaimMade.{claim_never}
 use Rattle.mmu_core.proofs.machine.PartStepping.{IsPart, is_publish}
-use Rattle.mmu_core.proofs.words.PartWords.{areas_stay, fill_elsewhere, role_stays, slots_are, slots_other_role, slots_same, slots_elsewhere}
+use Rattle.mmu_core.proofs.words.PartWords.{areas_stay, fill_elsewhere, role_stays, slots_are, slots_other_role, slots_same}
 use Rattle.mmu_core.proofs.lines.ShareMade.{share_never}
 use Rattle.mmu_core.proofs.words.SlotFields.{is_number, same_slot}
 

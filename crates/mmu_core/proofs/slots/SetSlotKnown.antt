@@ -1,6 +1,6 @@
 -- A slot setting has what each of its steps needs, and knows behind it what its next place asks.
 use Rattle.std.proofs.Common.{◌≡◌, inr, ◌<◌, ◌≤◌, ◌^◌, ◌+◌, ◌==◌, ℕ, refl, sym, subst, ap, ◌∙◌, arith}
-use Rattle.std.specs.Prelude.{Bool, true, false, ◌&&◌, not, if◌then◌else◌, nat_lt, Some, None}
+use Rattle.std.specs.Prelude.{Bool, true, false, ◌&&◌, not, if◌then◌else◌, nat_lt, None}
 use Rattle.std.proofs.lemmas.Bool.Decides.{nat_tests}
 use Rattle.circular_buffer.specs.Buffer.{Buffer}
 use Rattle.core_views.specs.declared.cache.Translation.{Translation}
@@ -28,10 +28,9 @@ use Rattle.part_steps.specs.PartSteps.{HasRoleToSet, HasToFill, IsAtRest, OwnsSe
 use Rattle.part_steps.specs.PartTopics.{part_topics, sequenced}
 use Rattle.mmu_core.specs.lines.PartWaits.{was_counted}
 use Rattle.mmu_core.specs.lines.SetSlotKnows.{HasPublished, HoldsLock, SetSlotKnows}
-use Rattle.mmu_core.specs.lines.SetSlotSteps.{claim_outcome, looked_at, set_slot_outcome, set_slot_part, after_claim, after_watch}
-use Rattle.part_steps.specs.SetWords.{set_role, set_word, set_value}
-use Rattle.part_steps.specs.TopicSteps.{count_checked, filled_more, in_section, is_loose, is_outside, is_section, is_won, kept_search, kept_walk, let_go, unchecked}
-use Rattle.mmu_core.proofs.lines.FaultNeeds.{claim_needs}
+use Rattle.mmu_core.specs.lines.SetSlotSteps.{set_slot_outcome, set_slot_part, after_claim, after_watch}
+use Rattle.part_steps.specs.SetWords.{set_role, set_word}
+use Rattle.part_steps.specs.TopicSteps.{count_checked, filled_more, is_loose, is_outside, is_section, kept_search, kept_walk, let_go, unchecked}
 use Rattle.mmu_core.proofs.lines.ClaimMade.{ClaimMade, claim_made, claim_needs, page_won}
 use Rattle.mmu_core.proofs.lines.ClaimMade as made
 use Rattle.mmu_core.proofs.machine.HandWith.{hand_with}

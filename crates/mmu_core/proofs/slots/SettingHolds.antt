@@ -23,16 +23,15 @@ use Rattle.mmu_core.specs.declared.watch.WatchNext.{WatchNext}
 use Rattle.mmu_core.specs.declared.watch.WatchNext.TheVariants as watches
 use Rattle.mmu_core.specs.lines.ClaimSteps.{map_word, tries_page}
 use Rattle.mmu_core.specs.invariant.Invariant.{FillsSet, Holds, LeavesPart, SetSlotHolds}
-use Rattle.part_steps.specs.PartSteps.{next_watched, own_index, page_owned, words_filled, HasToFill}
+use Rattle.part_steps.specs.PartSteps.{page_owned, words_filled}
 use Rattle.mmu_core.specs.lines.SetSlotKnows.{SetSlotKnows}
-use Rattle.mmu_core.specs.lines.SetSlotSteps.{claim_outcome, looked_at, set_slot_outcome, set_slot_part, set_slot_task, after_claim, after_watch, watch_next}
-use Rattle.part_steps.specs.SetWords.{IsFilledWith, set_word, set_role, set_value}
+use Rattle.mmu_core.specs.lines.SetSlotSteps.{set_slot_outcome, set_slot_part, set_slot_task, after_claim, after_watch, watch_next}
+use Rattle.part_steps.specs.SetWords.{IsFilledWith, set_word}
 use Rattle.mmu_core.specs.machine.Outcomes.{place_after}
 use Rattle.mmu_core.specs.machine.View.{upd, words_after}
 use Rattle.mmu_core.proofs.machine.Columns.{same_or, upd_same}
 use Rattle.mmu_core.proofs.lines.ClaimMade.{ClaimMade, claim_made}
 use Rattle.mmu_core.proofs.lines.ClaimMade as made
-use Rattle.mmu_core.proofs.pages.FilledKept.{filled_words}
 use Rattle.mmu_core.proofs.pages.OwnedBehind.{left_behind, owned_behind}
 use Rattle.mmu_core.proofs.words.PartWords.{fill_leaves}
 use Rattle.mmu_core.proofs.slots.SetFilled.{is_publication}

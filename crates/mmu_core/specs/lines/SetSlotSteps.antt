@@ -1,7 +1,7 @@
 -- The order of steps of a slot setting (api.rst, KVM_SET_USER_MEMORY_REGION; kvm_main.c, `kvm_swap_active_memslots`): a refused one makes
 -- one load of the sequence. Else a page is claimed and filled with the new slot set; under the lock alone, with no invalidation open, it is
 -- published in place of the old one; and behind a watch of all other actors the old page is given back.
-use Rattle.std.specs.Prelude.{ℕ, Bool, true, false, List, [], ◌∷◌, Option, Some, None, ◌==◌, not, nat_lt, if◌then◌else◌}
+use Rattle.std.specs.Prelude.{ℕ, Bool, true, false, List, [], ◌∷◌, Option, Some, None, ◌==◌, not, nat_lt, if◌then◌else◌, ◌+◌}
 use Rattle.core_views.specs.declared.answer.Answer.TheVariants.{Done, Refused, Starved}
 use Rattle.core_views.specs.declared.answer.Refusal.{Refusal}
 use Rattle.core_views.specs.declared.event.EventKind.{EventKind}
@@ -23,9 +23,9 @@ use Rattle.part_steps.specs.declared.task.Task.{Task}
 use Rattle.part_steps.specs.declared.part_step.PartStep.{PartStep}
 use Rattle.part_steps.specs.declared.part_step.PartStep.TheVariants as part
 use Rattle.mmu_core.specs.lines.AccessSteps.{exiting}
-use Rattle.mmu_core.specs.lines.FaultSteps.{at_map_word, claim_part, map_word, tries_page}
-use Rattle.part_steps.specs.PartSteps.{next_watched, own_index, part_kind, part_task, words_filled}
-use Rattle.part_steps.specs.SetWords.{set_role, set_word, set_value}
+use Rattle.mmu_core.specs.lines.FaultSteps.{claim_part}
+use Rattle.part_steps.specs.PartSteps.{own_index, part_kind, part_task, words_filled}
+use Rattle.part_steps.specs.SetWords.{set_role, set_word}
 use Rattle.mmu_core.specs.lines.ClaimSteps.{claim_next, claim_part, claim_waits, loads_last_word}
 use Rattle.mmu_core.specs.declared.claim.ClaimNext.{ClaimNext}
 use Rattle.mmu_core.specs.declared.claim.ClaimNext.TheVariants as claims
