@@ -33,7 +33,7 @@ use Rattle.mmu_core.specs.declared.share.ShareNext.{ShareNext}
 use Rattle.mmu_core.specs.declared.share.ShareNext.TheVariants as shares
 use Rattle.mmu_core.specs.alone.FaultAlone.{EntryStands, FaultAlone, GoesThrough, LeadsTo, LeadsToLeaf, RunsAlone}
 use Rattle.mmu_core.specs.lines.FaultKnows.{Entering}
-use Rattle.mmu_core.specs.lines.FaultSteps.{allows_access, at_map_word, claim_next, entry_word, is_owing, map_word, share_next, share_part, snapshot_taken, tries_page, walk_next, after_claim, after_share, claim_part, table_value}
+use Rattle.mmu_core.specs.lines.FaultSteps.{allows_access, claim_next, entry_word, is_owing, map_word, share_next, share_part, snapshot_taken, tries_page, walk_next, after_claim, after_share, claim_part}
 use Rattle.mmu_core.specs.machine.Machine.{World, hand_in}
 use Rattle.part_steps.specs.PartSteps.{IsOver, LookedUp, SawEntry, entry_index, leaf_written, page_owned, part_task, table_page, word_looked, words_filled, HasToFill}
 use Rattle.part_steps.specs.PartTopics.{part_topics}
@@ -52,7 +52,7 @@ use Rattle.mmu_laws.proofs.alone.FindAlone.{find_goes}
 use Rattle.mmu_laws.proofs.leaves.LeadsDown.{leads_same}
 use Rattle.mmu_core.proofs.slots.LiveStays.{LiveStays}
 use Rattle.mmu_core.proofs.pages.Owned.{owned_some}
-use Rattle.mmu_core.proofs.words.PartWords.{entry_leaves, fill_leaves, walks_elsewhere, walks_unowned, is_word}
+use Rattle.mmu_core.proofs.words.PartWords.{entry_leaves, fill_leaves, walks_elsewhere, walks_unowned}
 use Rattle.mmu_core.proofs.lines.ShareMade.{share_comes, share_made}
 use Rattle.mmu_core.proofs.words.SlotFields.{is_number}
 use Rattle.mmu_core.proofs.pages.TreeKept.{leaf_is}

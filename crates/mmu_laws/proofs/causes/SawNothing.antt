@@ -1,5 +1,5 @@
 -- Between its lines an actor has seen nothing that a step waits for.
-use Rattle.std.proofs.Common.{◌≡◌, ◌≢◌, ◌⊎◌, inl, inr, ◌+◌, ◌<◌, ℕ, List, refl, sym, subst, ap, ◌∙◌, arith}
+use Rattle.std.proofs.Common.{◌≡◌, ◌≢◌, ◌⊎◌, inl, inr, ◌+◌, ◌<◌, ℕ, List, refl, sym, subst, ap, ◌∙◌, arith, ◌≤◌}
 use Rattle.std.specs.Prelude.{Bool, true, false, ◌==◌, nat_lt, if◌then◌else◌}
 use Rattle.std.proofs.lemmas.Bool.Decides.{nat_tests}
 use Rattle.core_views.specs.declared.answer.Answer.TheVariants as answer
@@ -42,14 +42,20 @@ use Rattle.part_steps.specs.TopicSteps.{is_won}
 use Rattle.mmu_core.specs.declared.outcome.Outcome.TheVariants.{Goes, Ends}
 use Rattle.mmu_core.specs.lines.AccessSteps.{access_note, access_outcome, access_part, access_task, behind_fault}
 use Rattle.mmu_core.specs.machine.Enabled.{mmu}
-use Rattle.mmu_core.specs.lines.FaultSteps.{check_part, claim_next, fault_next, fault_part, map_word, share_part, tries_page}
+use Rattle.mmu_core.specs.declared.claim.ClaimNext.{ClaimNext}
+use Rattle.mmu_core.specs.declared.claim.ClaimNext.TheVariants as claims
+use Rattle.mmu_core.specs.lines.ClaimSteps.{claim_next, claim_part, map_word, tries_page}
+use Rattle.mmu_core.specs.lines.FaultSteps.{after_claim, check_part, fault_next, fault_part, share_part}
+use Rattle.mmu_core.proofs.lines.ClaimMade.{ClaimMade, claim_made}
+use Rattle.mmu_core.proofs.lines.ClaimMade as made
 use Rattle.mmu_core.specs.lines.KnowsPart.{KnowsPart}
 use Rattle.mmu_core.specs.invariant.Laws.{IsSound}
 use Rattle.mmu_core.specs.machine.Machine.{Legal, May, Step, World, effect, hand_in, run}
 use Rattle.mmu_core.specs.machine.Outcomes.{place_after}
 use Rattle.mmu_core.specs.lines.PartWaits.{is_owing, saw_open}
 use Rattle.mmu_core.specs.lines.Rests.{IsUnderWay}
-use Rattle.mmu_core.specs.lines.SetSlotSteps.{claim_outcome, set_slot_note, set_slot_outcome, set_slot_part, set_slot_task}
+use Rattle.mmu_core.specs.lines.SetSlotSteps as set_slot_steps
+use Rattle.mmu_core.specs.lines.SetSlotSteps.{set_slot_note, set_slot_outcome, set_slot_part, set_slot_task}
 use Rattle.mmu_core.specs.machine.Steps.{has_line, line_at, next, outcome_at, place_at, standing, task_at}
 use Rattle.mmu_core.specs.machine.View.{answer_in, view, word_in}
 use Rattle.mmu_laws.specs.causes.Waits.{BetweenLinesSawNothing, SawNothing, StartsSawNothing}
@@ -118,33 +124,35 @@ fault_closed : (p : FaultPlace) (z : Sizes) (gfn : ℕ) (write : Bool) (t : Topi
 fault_closed (fault.End e) z gfn write t v is = refl
 fault_closed _ z gfn write t v is = absurd (cc is)
 
--- A claim is over where its try was won, or where the last word of the map was found 0.
-last_word : (none low : Bool) (word n v : ℕ) → (v == 0) ≡ none → nat_lt (word + (if none then 1 else 0)) n ≡ low → word < n → low ≡ false → v ≡ 0
-last_word true low word n v zero_ is inside over = grind (arith, nat_tests)
-last_word false low word n v zero_ is inside over = let less : nat_lt (word + 0) n ≡ false = is ∙ over in absurd (grind (arith, nat_tests))
+-- After a load with which no word of the map is left, it was found 0.
+last_word : (none : Bool) (word n v : ℕ) → (v == 0) ≡ none → n ≤ word + (if none then 1 else 0) → word < n → v ≡ 0
+last_word true word n v zero_ over inside = grind (arith, nat_tests)
+last_word false word n v zero_ over inside = absurd (omega (arith, over, inside))
+
+-- Where a claim ends with its step, it has seen no page: its try was won, or the last word of the map was found 0.
+claim_over : (z : Sizes) (begun : Bool) (t : Topics) (v : ℕ) (step : PartStep) (next : ClaimNext) (u : Topics) → ClaimMade z begun t v step next u
+    → ((word : ℕ) → step ≡ part.Map word → word < words_of_bits z.pool) → next ≢ claims.Goes → u.claim.seen ≡ 0
+claim_over z begun t v _ _ _ (made.Won tries b some is) low over = refl
+claim_over z begun t v _ _ _ (made.SawNone not_ le) low over = last_word (v == 0) (map_word begun t.claim) (words_of_bits z.pool) v refl le (low (map_word begun t.claim) refl)
+claim_over z begun t v _ _ _ (made.Lost tries b some is) low over = absurd (over refl)
+claim_over z begun t v _ _ _ (made.Saw not_ lt) low over = absurd (over refl)
+
+claims_nothing : (h : Held) (begun : Bool) (v : ℕ) → PartNeeds (claim_part begun h.topics.claim) h → claim_next begun h.state.sizes h.topics.claim v ≢ claims.Goes → (part_topics (claim_part begun h.topics.claim) h.topics v).claim.seen ≡ 0
+claims_nothing h begun v N over =
+    claim_over h.state.sizes begun h.topics v _ _ _ (claim_made h.state.sizes begun h.topics v) (λ word is. let at : PartNeeds (part.Map word) h = subst (λ s. PartNeeds s h) is N in at.1) over
 
 module _ (h : Held) (gfn : ℕ) (v : ℕ) where
   abbrev t : Topics
   t = h.topics
 
-  won_none : (won : Bool) → may_claim (place.Access (access.Fault (if won then fault.Fill else fault.Claim true))) ≡ false → (if won then 0 else v) ≡ 0
-  won_none true is = refl
-  won_none false is = absurd (cc is)
-
-  on_or_over : (low : Bool) → may_claim (place.Access (access.Fault (if low then fault.Claim true else fault.Unshare Starved))) ≡ false → low ≡ false
-  on_or_over true is = absurd (cc is)
-  on_or_over false is = refl
-
-  claim_none : (tries : Bool) (word : ℕ) → PartNeeds (if tries then part.Claim else part.Map word) h → may_claim (place.Access (access.Fault (claim_next tries h.state.sizes (record t.claim { at = word }) v))) ≡ false
-      → (part_topics (if tries then part.Claim else part.Map word) t v).claim.seen ≡ 0
-  claim_none true word N is = won_none (is_won t.claim v) is
-  claim_none false word N is =
-      last_word (v == 0) (nat_lt (word + (if v == 0 then 1 else 0)) (words_of_bits h.state.sizes.pool)) word (words_of_bits h.state.sizes.pool) v refl refl N.1
-      (on_or_over (nat_lt (word + (if v == 0 then 1 else 0)) (words_of_bits h.state.sizes.pool)) is)
+  goes_on : (next : ClaimNext) → may_claim (place.Access (access.Fault (after_claim next))) ≡ false → next ≢ claims.Goes
+  goes_on claims.Goes is e = cc is
+  goes_on claims.Got is e = cc e
+  goes_on claims.Empty is e = cc e
 
   fault_none : (p : FaultPlace) (write : Bool) → PartNeeds (fault_part p gfn t) h → SawNone (place.Access (access.Fault p)) t → may_claim (place_after (behind_fault (fault_next p h.state.sizes gfn write t v))) ≡ false
       → (part_topics (fault_part p gfn t) t v).claim.seen ≡ 0
-  fault_none (fault.Claim begun) write N S is = claim_none (tries_page begun t.claim) (map_word begun t.claim) N is
+  fault_none (fault.Claim begun) write N S is = claims_nothing h begun v N (goes_on (claim_next begun h.state.sizes t.claim v) is)
   fault_none p write N S is = unseen_on (fault_part p gfn t) t v (fault_no_map p gfn t refl) (S.claims refl)
 
   access_none : (p : AccessPlace) (op : Op) → NeedsOf (access_part p gfn t) h → SawNone (place.Access p) t → SawNone (place_after (access_outcome p h gfn op v)) (behind_part (access_part p gfn t) t v)
@@ -156,19 +164,10 @@ module _ (h : Held) (gfn : ℕ) (v : ℕ) where
 -- ---- the slot setting
 
 module _ (h : Held) (id : ℕ) (slot : Slot) (v : ℕ) where
-  setting_won : (won : Bool) → may_claim (place.SetSlot (if won then set_slot.Fill else set_slot.Claim true)) ≡ false → (if won then 0 else v) ≡ 0
-  setting_won true is = refl
-  setting_won false is = absurd (cc is)
-
-  setting_claim : (tries : Bool) (word : ℕ) → PartNeeds (if tries then part.Claim else part.Map word) h → may_claim (place_after (claim_outcome tries h.state.sizes (record h.topics.claim { at = word }) v)) ≡ false
-      → (part_topics (if tries then part.Claim else part.Map word) h.topics v).claim.seen ≡ 0
-  setting_claim true word N is = setting_won (is_won h.topics.claim v) is
-  setting_claim false word N is = by (nat_lt (word + (if v == 0 then 1 else 0)) (words_of_bits h.state.sizes.pool)) refl is
-    where
-      by : (low : Bool) → nat_lt (word + (if v == 0 then 1 else 0)) (words_of_bits h.state.sizes.pool) ≡ low
-          → may_claim (place_after (if low then Goes (place.SetSlot (set_slot.Claim true)) else Ends answer.Starved)) ≡ false → v ≡ 0
-      by true at on = absurd (cc on)
-      by false at on = last_word (v == 0) false word (words_of_bits h.state.sizes.pool) v refl at N.1 refl
+  setting_goes_on : (next : ClaimNext) → may_claim (place_after (set_slot_steps.after_claim next)) ≡ false → next ≢ claims.Goes
+  setting_goes_on claims.Goes is e = cc is
+  setting_goes_on claims.Got is e = cc e
+  setting_goes_on claims.Empty is e = cc e
 
   claim_closed : (tries : Bool) (word : ℕ) → saw_open h.topics.invalidations ≡ false → saw_open (part_topics (if tries then part.Claim else part.Map word) h.topics v).invalidations ≡ false
   claim_closed true word closed = closed
@@ -180,7 +179,7 @@ module _ (h : Held) (id : ℕ) (slot : Slot) (v : ℕ) where
 
   setting_none : (p : SetSlotPlace) → PartNeeds (set_slot_part p h id slot) h → SawNone (place.SetSlot p) h.topics → SawNone (place_after (set_slot_outcome p h v)) (part_topics (set_slot_part p h id slot) h.topics v)
   setting_none (set_slot.Refuse refusal) N S = record { claims = λ is. S.claims refl; closed = λ is. closed_on part.Seq h.topics v refl (S.closed refl) }
-  setting_none (set_slot.Claim begun) N S = record { claims = setting_claim (tries_page begun h.topics.claim) (map_word begun h.topics.claim) N; closed = λ is. claim_closed (tries_page begun h.topics.claim) (map_word begun h.topics.claim) (S.closed refl) }
+  setting_none (set_slot.Claim begun) N S = record { claims = λ is. claims_nothing h begun v N (setting_goes_on (claim_next begun h.state.sizes h.topics.claim v) is); closed = λ is. claim_closed (tries_page begun h.topics.claim) (map_word begun h.topics.claim) (S.closed refl) }
   setting_none set_slot.Exclude N S = record { claims = λ is. S.claims refl; closed = λ is. refl }
   setting_none set_slot.Count N S = record { claims = λ is. S.claims refl; closed = λ is. absurd (count_next (v == 0) is) }
   setting_none set_slot.Close N S = record { claims = λ is. S.claims refl; closed = λ is. refl }

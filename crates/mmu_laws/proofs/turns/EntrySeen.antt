@@ -1,6 +1,6 @@
 -- Where a fault comes to its end with an entry installed, it has just loaded this entry or stored it.
 use Rattle.std.proofs.Common.{◌≡◌, ℕ, refl, sym, subst, ap, ◌∙◌, arith}
-use Rattle.std.specs.Prelude.{Bool, true, false, ◌==◌, ◌&&◌, nat_le, nat_lt, not, if◌then◌else◌}
+use Rattle.std.specs.Prelude.{◌+◌, Bool, true, false, ◌==◌, ◌&&◌, nat_le, nat_lt, not, if◌then◌else◌}
 use Rattle.core_views.specs.declared.place.Cause.TheVariants.{Entry, Moved, Open}
 use Rattle.core_views.specs.declared.place.CheckStage.{CheckStage}
 use Rattle.core_views.specs.declared.place.CheckStage.TheVariants as stage
@@ -36,7 +36,6 @@ use Rattle.part_steps.specs.PartTopics.{exchanged, part_topics}
 use Rattle.part_steps.specs.SlotWords.{may_write, page_of}
 use Rattle.part_steps.specs.TopicSteps.{gone_down, has_writer, is_won, linked_page, searched, unless_linked}
 use Rattle.mmu_laws.specs.turns.Removal.{ends_installed, has_installed}
-use Rattle.mmu_laws.specs.turns.TurnLaws.{ends_installed, has_installed}
 use Rattle.mmu_core.specs.machine.View.{answer_in, upd, words_after}
 use Rattle.mmu_core.proofs.machine.Columns.{upd_same}
 

@@ -23,9 +23,8 @@ use Rattle.part_steps.specs.PartBounds.{PartRests}
 use Rattle.part_steps.specs.PartSteps.{HasToFill, own_index, words_filled}
 use Rattle.part_steps.specs.PartTopics.{part_topics}
 use Rattle.mmu_core.specs.lines.SetSlotKnows.{SetSlotKnows}
-use Rattle.mmu_core.specs.lines.SetSlotSteps.{claim_outcome, looked_at, set_slot_outcome, set_slot_part, set_slot_waits, after_claim, after_watch, watch_next}
+use Rattle.mmu_core.specs.lines.SetSlotSteps.{looked_at, set_slot_outcome, set_slot_part, set_slot_waits, after_claim, after_watch, watch_next}
 use Rattle.part_steps.specs.TopicSteps.{filled_more, in_section, is_won}
-use Rattle.mmu_core.proofs.lines.FaultFalls.{seen_falls, word_there}
 use Rattle.mmu_core.proofs.pages.Owned.{more_filled}
 use Rattle.mmu_core.proofs.lines.ClaimMade.{claim_falls, claim_made, claim_left_after, word_there}
 use Rattle.mmu_core.proofs.lines.WatchMade.{watch_left_after, watch_falls, watch_made}
