@@ -182,14 +182,7 @@ vcpu_prop _ = hlevel props
 
 needs_stay : (step : PartStep) (h : Held) → ∥ PartNeeds step h ∥₁ → PartNeeds step h
 needs_stay part.Enter h x = (∥∥₁_elim x (vcpu_prop h.state.actor) (λ N. N.0), ∥∥₁_elim x (hlevel props) (λ N. N.1))
-needs_stay part.Pause h x = tt
 needs_stay (part.Map word) h x = (∥∥₁_elim x (hlevel props) (λ N. N.0), ∥∥₁_elim x (hlevel props) (λ N. N.1), word_stays word h.topics (∥∥₁_map x (λ N. N.2)))
-needs_stay part.Slots h x = tt
-needs_stay part.Seq h x = tt
-needs_stay part.Count h x = tt
-needs_stay part.RangeStart h x = tt
-needs_stay part.RangeEnd h x = tt
-needs_stay part.Root h x = tt
 needs_stay (part.Link gfn) h x = (
   enter_stays gfn h.topics (∥∥₁_map x (λ N. N.0)),
   ∥∥₁_elim x (hlevel props) (λ N. N.1),
