@@ -2,10 +2,10 @@
 use Rattle.std.proofs.Common.{◌≡◌, ◌<◌, ◌^◌, ℕ, sym, subst, ap, ◌∙◌}
 use Rattle.std.specs.Prelude.{Bool}
 use Rattle.core_views.specs.declared.place.AccessPlace.TheVariants.{Fault}
+use Rattle.core_views.specs.declared.place.FaultPlace.{FaultPlace}
 use Rattle.core_views.specs.declared.place.Place.{Place}
 use Rattle.core_views.specs.declared.place.Place.TheVariants as place
 use Rattle.core_views.specs.declared.trace.Command.{Command}
-use Rattle.core_views.specs.declared.trace.Command.TheVariants.{Access}
 use Rattle.core_views.specs.Held.{Held}
 use Rattle.core_views.specs.Traces.{IsCommandFor}
 use Rattle.spte_words.proofs.Places.{place_below}
@@ -19,7 +19,7 @@ use Rattle.mmu_core.specs.lines.FaultSteps.{fault_part}
 use Rattle.mmu_core.specs.lines.KnowsPart.{KnowsPart}
 use Rattle.mmu_core.specs.machine.MayMake.{MayMake}
 use Rattle.mmu_core.specs.lines.Rests.{Rests, RestsAt}
-use Rattle.mmu_core.specs.machine.Steps.{task_at, task_of}
+use Rattle.mmu_core.specs.machine.Steps.{place_at, task_at, task_of}
 use Rattle.mmu_core.specs.machine.Turns.{line_of}
 use Rattle.mmu_core.specs.machine.Worlds.{HandReached}
 use Rattle.mmu_core.proofs.lines.KnowsKept.{access_vcpu}
@@ -28,20 +28,20 @@ use Rattle.mmu_core.proofs.words.PartFits.{part_small, part_within_by}
 use Rattle.mmu_core.proofs.start.Starts.{reached_rests}
 use Rattle.mmu_core.proofs.machine.Which.{enabled_is}
 use Rattle.fault_install.specs.declared.fault.FaultJob.{FaultJob}
-use Rattle.fault_install.specs.Faults.{StandsInLine}
+use Rattle.fault_install.specs.Faults.{IsAt, StandsInLine}
 
-module _ (job : FaultJob) (h : Held) (R : Rests h) (S : StandsInLine job h) where
+module _ (p : FaultPlace) (job : FaultJob) (h : Held) (R : Rests h) (S : StandsInLine job h) (stands : place_at h.state.place h ≡ place.Access (Fault p)) where
   abbrev here : PartStep
-  here = fault_part job.place job.gfn h.topics
+  here = fault_part p job.gfn h.topics
 
   abbrev note : ℕ
-  note = access_note (Fault job.place)
+  note = access_note (Fault p)
 
   needs : PartNeeds here h
-  needs = subst (λ (c : Command). RestsAt (place.Access (Fault job.place)) c h) S.command (subst (λ (q : Place). RestsAt q (line_of h).command h) S.stands R.at)
+  needs = subst (λ (c : Command). RestsAt (place.Access (Fault p)) c h) S.command (subst (λ (q : Place). RestsAt q (line_of h).command h) stands R.at)
 
   task_is : task_of h ≡ part_task here (own_index h) h.topics note
-  task_is = ap (λ (q : Place). task_at q (line_of h).command h) S.stands ∙ ap (λ (c : Command). task_at (place.Access (Fault job.place)) c h) S.command
+  task_is = ap (λ (q : Place). task_at q (line_of h).command h) stands ∙ ap (λ (c : Command). task_at (place.Access (Fault p)) c h) S.command
 
   may_make : MayMake here note h
   may_make = record {
@@ -58,12 +58,12 @@ module _ (job : FaultJob) (h : Held) (R : Rests h) (S : StandsInLine job h) wher
   gfn_small : job.gfn < 2 ^ 36
   gfn_small = (access_vcpu h.state.sizes (line_of h).actor job.gfn S.word S.op (subst (λ (c : Command). IsCommandFor h.state.sizes (line_of h).actor c) S.command R.line)).1
 
-  knows : KnowsPart (place.Access (Fault job.place)) (Access job.gfn S.word S.op) h → FaultKnows job.place h.state.sizes job.gfn job.write h.topics
-  knows K = subst (λ (write : Bool). FaultKnows job.place h.state.sizes job.gfn write h.topics) S.writes K
+  knows : KnowsPart (place_at h.state.place h) (line_of h).command h → FaultKnows p h.state.sizes job.gfn job.write h.topics
+  knows K =
+      subst (λ (write : Bool). FaultKnows p h.state.sizes job.gfn write h.topics) S.writes
+      (subst (λ (c : Command). KnowsPart (place.Access (Fault p)) c h) S.command (subst (λ (q : Place). KnowsPart q (line_of h).command h) stands K))
 
-pub may_turn : (job : FaultJob) (h : Held) → ∥ HandReached h ∥₁ → StandsInLine job h
-    → MayMake (fault_part job.place job.gfn h.topics) (access_note (Fault job.place)) h × (job.gfn < 2 ^ 36) × FaultKnows job.place h.state.sizes job.gfn job.write h.topics
-may_turn job h reached S =
+pub is_at : (p : FaultPlace) (job : FaultJob) (h : Held) → ∥ HandReached h ∥₁ → StandsInLine job h → place_at h.state.place h ≡ place.Access (Fault p) → IsAt p job (access_note (Fault p)) h
+is_at p job h reached S stands =
     let R : Rests h = reached_rests h reached S.left in
-    let K = subst (λ (c : Command). KnowsPart (place.Access (Fault job.place)) c h) S.command (subst (λ (q : Place). KnowsPart q (line_of h).command h) S.stands (reached_knows h reached S.left)) in
-    (may_make job h R S, gfn_small job h R S, knows job h R S K)
+    record { may = may_make p job h R S stands; gfn = gfn_small p job h R S stands; knows = knows p job h R S stands (reached_knows h reached S.left) }

@@ -1,3 +1,2 @@
-pub mod Turning
-mod Placing
 pub mod InLine
+pub mod Turning

@@ -1,61 +1,78 @@
 -- What a turn of a fault says, from the step that it made.
-use Rattle.std.proofs.Common.{◌≡◌, ◌<◌, ◌^◌, ℕ, refl, sym, subst, ap, ◌∙◌}
+use Rattle.std.proofs.Common.{◌≡◌, ◌<◌, ◌+◌, ◌∙◌, ℕ, Option, Some, None, refl, sym, subst, ap, arith}
+use Rattle.std.proofs.Math.Logic.{∥∥₁_elim}
+use Rattle.std.proofs.Props.{props}
 use Rattle.std.specs.Prelude.{Bool, true, false}
 use Rattle.core_views.specs.declared.hand.Seen.{Seen}
+use Rattle.core_views.specs.declared.kind.Kind.{Kind}
+use Rattle.core_views.specs.declared.place.AccessPlace.TheVariants.{Fault}
 use Rattle.core_views.specs.declared.place.FaultEnd.{FaultEnd}
+use Rattle.core_views.specs.declared.place.FaultEnd.TheVariants as end_of
 use Rattle.core_views.specs.declared.place.FaultNext.{FaultNext}
 use Rattle.core_views.specs.declared.place.FaultNext.TheVariants.{Goes, Ends}
 use Rattle.core_views.specs.declared.place.FaultPlace.{FaultPlace}
 use Rattle.core_views.specs.declared.place.FaultPlace.TheVariants.{End}
+use Rattle.core_views.specs.declared.place.Place.{Place}
+use Rattle.core_views.specs.declared.place.Place.TheVariants as place
 use Rattle.core_views.specs.declared.sizes.Sizes.{Sizes}
 use Rattle.core_views.specs.declared.topics.Topics.{Topics}
+use Rattle.core_views.specs.declared.trace.Command.{Command}
+use Rattle.core_views.specs.declared.trace.Command.TheVariants.{Access, SetSlot}
 use Rattle.core_views.specs.Held.{Held}
+use Rattle.core_views.specs.SlotSets.{MemorySlots}
+use Rattle.mmu_core.specs.alone.LineAlone.{hand_left}
+use Rattle.mmu_core.specs.lines.AccessSteps.{access_note, behind_fault}
+use Rattle.mmu_core.specs.lines.Bounds.{steps_left}
 use Rattle.mmu_core.specs.lines.FaultKnows.{EndKnows, FaultKnows, KnowsNext}
 use Rattle.mmu_core.specs.lines.FaultLaws.{CanAnswer}
 use Rattle.mmu_core.specs.lines.FaultSteps.{fault_left, fault_next, fault_part, next_left, wait_seen, waits}
+use Rattle.mmu_core.specs.machine.Enabled.{mmu}
+use Rattle.mmu_core.specs.machine.Machine.{World, answered}
+use Rattle.mmu_core.specs.machine.Outcomes.{place_after}
+use Rattle.mmu_core.specs.machine.Steps.{outcome_at, place_at, standing}
+use Rattle.mmu_core.specs.machine.Turns.{line_of}
+use Rattle.mmu_core.specs.machine.View.{word_in}
+use Rattle.part_steps.specs.declared.part_step.PartStep.{PartStep}
+use Rattle.part_steps.specs.declared.part_step.PartStep.TheVariants as part
 use Rattle.part_steps.specs.PartBounds.{PartRests}
-use Rattle.part_steps.specs.PartSteps.{part_kind}
+use Rattle.part_steps.specs.PartSteps.{PartNeeds, own_index, part_kind}
 use Rattle.mmu_core.proofs.lines.FaultFalls.{fault_falls}
-use Rattle.mmu_core.proofs.lines.FaultKnown.{fault_known}
+use Rattle.mmu_core.proofs.lines.FaultKnown.{fault_known, parts_answer}
 use Rattle.mmu_core.proofs.machine.HandAfter.{next_same}
+use Rattle.mmu_core.proofs.machine.Which.{has_line_is, next_of_line}
 use Rattle.step_seats.specs.PartTurns.{MadePart}
-use Rattle.step_seats.specs.Where.{Told}
+use Rattle.step_seats.specs.Where.{IsMadeIn, OfWorld, Told}
 use Rattle.step_seats.specs.declared.turn.Turn.{Turn}
 use Rattle.step_seats.specs.declared.turn.Turn.TheVariants.{More, Wait, Retry, Done}
+use Rattle.step_seats.proofs.Found.{answers}
 use Rattle.fault_install.specs.declared.fault.FaultJob.{FaultJob}
 use Rattle.fault_install.specs.declared.fault.Faulted.{Faulted}
-use Rattle.fault_install.specs.Faults.{EndsBy, IsToGoOn, MakesStep, Turned, TurnsFault, WaitsBy}
+use Rattle.fault_install.specs.Faults.{AnswersBy, EndsBy, IsAt, MakesStep, StandsInLine, TurnsAt, TurnsFault, WaitsBy, end_turn}
 
--- A fault ends behind the last step of its section alone, where it knows why.
-ends_by : (turn : Turn Faulted) (p place : FaultPlace) (z : Sizes) (gfn v : ℕ) (write : Bool) (t : Topics) → FaultKnows p z gfn write t → Turned (fault_next p z gfn write t v) turn place → EndsBy turn (λ e. EndKnows e z gfn write t)
-ends_by More p place z gfn v write t known turned = tt
-ends_by (Wait seen) p place z gfn v write t known turned = tt
-ends_by (Done answer) (End e) place z gfn v write t known turned = subst (λ (x : FaultEnd). EndKnows x z gfn write t) turned known.2
-ends_by (Retry cause) (End e) place z gfn v write t known turned = subst (λ (x : FaultEnd). EndKnows x z gfn write t) turned known.2
-ends_by (Done answer) p place z gfn v write t known turned = absurd turned
-ends_by (Retry cause) p place z gfn v write t known turned = absurd turned
+-- What the step of a part found is what it can answer.
+can_prop : (step : PartStep) (v : ℕ) → IsProp (CanAnswer step v)
+can_prop (part.Fill value) v = hlevel props
+can_prop _ v = hlevel props
 
-pub turns : (before after : FaultJob) (turn : Turn Faulted) (note a : ℕ) (h g : Held) (told tells : Told) → before.gfn < 2 ^ 36 → PartRests h → FaultKnows before.place h.state.sizes before.gfn before.write h.topics
-    → MakesStep before after turn note a h g told tells → TurnsFault before after turn note a h g told tells
-turns before after turn note a h g told tells small R known M = record {
-  found = M.found;
-  made = M.made;
-  work = M.work;
-  turned = M.turned;
-  waits_by = M.waits_by;
-  knows = subst (λ (u : Topics). KnowsNext (fault_next before.place h.state.sizes before.gfn before.write h.topics M.found) h.state.sizes before.gfn before.write u) (sym M.made.topics)
-      (fault_known before.place h before.gfn M.found before.write small R known M.can);
-  ends_by = ends_by turn before.place after.place h.state.sizes before.gfn M.found before.write h.topics known M.turned;
-}
+abbrev Found : Kind → ℕ → ℕ → Held → Held → World Held → Type 0
+Found kind a v h g w = IsMadeIn kind a h g w × (answered mmu w kind ≡ v)
+
+can_answer : (step : PartStep) (note v a : ℕ) (h g : Held) (told tells : Told) → PartNeeds step h → MadePart step note v a h g told tells → CanAnswer step v
+can_answer step note v a h g told tells needs made = of_world told.world made.answers
+  where
+    in_world : (w : World Held) → Found (part_kind h step note) a v h g w → CanAnswer step v
+    in_world w p = subst (λ n. CanAnswer step n) (sym (answers w a note v step h p.0.has needs p.1)) (parts_answer step (own_index h) h.topics note (word_in h.state.sizes w))
+
+    of_world : (x : Option (World Held)) → OfWorld x (Found (part_kind h step note) a v h g) → CanAnswer step v
+    of_world (Some w) p = in_world w p
+    of_world None p = ∥∥₁_elim p (can_prop step v) (λ q. in_world q.0 q.1)
+
+-- A fault ends with the last step of its section alone, where it knows why.
+ends_by : (p : FaultPlace) (z : Sizes) (gfn v : ℕ) (write : Bool) (t : Topics) → FaultKnows p z gfn write t → EndsBy (fault_next p z gfn write t v) (λ e. EndKnows e z gfn write t)
+ends_by (End e) z gfn v write t known = known.2
+ends_by _ z gfn v write t known = tt
 
 -- A turn with more to do leaves fewer steps.
-goes_nearer : (n : FaultNext) (turn : Turn Faulted) (place : FaultPlace) (z : Sizes) (u : Topics) (m : ℕ) → turn ≡ More → Turned n turn place → next_left n z u < m → fault_left place z u < m
-goes_nearer (Goes p) More place z u m is turned less = subst (λ (x : FaultPlace). fault_left x z u < m) (sym turned) less
-goes_nearer (Ends e) More place z u m is turned less = absurd turned
-goes_nearer n (Wait seen) place z u m is turned less = absurd (cc is)
-goes_nearer n (Retry cause) place z u m is turned less = absurd (cc is)
-goes_nearer n (Done answer) place z u m is turned less = absurd (cc is)
-
 waits_not : (turn : Turn Faulted) (b : Bool) (way : Seen) → turn ≡ More → WaitsBy turn b way → b ≡ false
 waits_not More true way is never = absurd (never refl)
 waits_not More false way is never = refl
@@ -63,40 +80,53 @@ waits_not (Wait seen) b way is never = absurd (cc is)
 waits_not (Retry cause) b way is never = absurd (cc is)
 waits_not (Done answer) b way is never = absurd (cc is)
 
-pub nearer : (before after : FaultJob) (turn : Turn Faulted) (note a : ℕ) (h g : Held) (told tells : Told) → before.gfn < 2 ^ 36 → PartRests h → FaultKnows before.place h.state.sizes before.gfn before.write h.topics
-    → MakesStep before after turn note a h g told tells → turn ≡ More → fault_left after.place g.state.sizes g.topics < fault_left before.place h.state.sizes h.topics
-nearer before after turn note a h g told tells small R known M is =
-    let go = waits_not turn (waits before.place h.topics M.found) (wait_seen before.place h before.gfn note M.found) is M.waits_by in
-    let falls = fault_falls before.place h before.gfn M.found before.write small R known go in
-    let same : g.state.sizes ≡ h.state.sizes = ap (λ (x : Held). x.state.sizes) M.made.hand ∙ (next_same h (part_kind h (fault_part before.place before.gfn h.topics) note) M.found).sizes in
-    subst (λ (z : Sizes). fault_left after.place z g.topics < fault_left before.place h.state.sizes h.topics) (sym same)
-    (subst (λ (u : Topics). fault_left after.place h.state.sizes u < fault_left before.place h.state.sizes h.topics) (sym M.made.topics)
-    (goes_nearer (fault_next before.place h.state.sizes before.gfn before.write h.topics M.found) turn after.place h.state.sizes _ _ is M.turned falls))
+goes_nearer : (n : FaultNext) (turn : Turn Faulted) (z : Sizes) (u : Topics) (m : ℕ) → turn ≡ More → AnswersBy turn n → next_left n z u < m → steps_left (place_after (behind_fault n)) z u < m + 9
+goes_nearer (Goes p) turn z u m is by_ less = omega (arith, less)
+goes_nearer (Ends e) turn z u m is by_ less = absurd (never e (sym is ∙ by_))
+  where
+    never : (e : FaultEnd) → More ≡ end_turn e → ⊥
+    never end_of.Installed x = cc x
+    never end_of.Mmio x = cc x
+    never end_of.HostFault x = cc x
+    never end_of.Starved x = cc x
+    never (end_of.Retry cause) x = cc x
 
--- The step of a place was made: what the fault's turn is, with where it stands behind it.
-pub makes : (p next : FaultPlace) (job : FaultJob) (turn : Turn Faulted) (note v a : ℕ) (h g : Held) (told tells : Told) → job.place ≡ p → MadePart (fault_part p job.gfn h.topics) note v a h g told tells → CanAnswer (fault_part p job.gfn h.topics) v
-    → Turned (fault_next p h.state.sizes job.gfn job.write h.topics v) turn next → WaitsBy turn (waits p h.topics v) (wait_seen p h job.gfn note v)
-    → MakesStep job (record job { place = next }) turn note a h g told tells
-makes p next job turn note v a h g told tells at made can turned waits_by = record {
-  found = v;
-  made = subst (λ (x : FaultPlace). MadePart (fault_part x job.gfn h.topics) note v a h g told tells) (sym at) made;
-  can = subst (λ (x : FaultPlace). CanAnswer (fault_part x job.gfn h.topics) v) (sym at) can;
-  work = (refl, refl);
-  turned = subst (λ (x : FaultPlace). Turned (fault_next x h.state.sizes job.gfn job.write h.topics v) turn next) (sym at) turned;
-  waits_by = subst (λ (x : FaultPlace). WaitsBy turn (waits x h.topics v) (wait_seen x h job.gfn note v)) (sym at) waits_by;
-}
+left_at : (p : FaultPlace) (q : Place) (z : Sizes) (slots : MemorySlots) (c : Command) (t : Topics) → standing q z slots c ≡ place.Access (Fault p) → steps_left q z t ≡ fault_left p z t + 9
+left_at p place.Between z slots (Access gfn word op) t is = absurd (cc is)
+left_at p place.Between z slots (SetSlot id slot) t is = absurd (cc is)
+left_at p (place.Access q) z slots c t is = ap (λ (x : Place). steps_left x z t) is
+left_at p (place.SetSlot q) z slots c t is = absurd (cc is)
 
--- Where the fault goes on, it knows what its next place asks.
-goes_on : (n : FaultNext) (turn : Turn Faulted) (place : FaultPlace) (z : Sizes) (gfn : ℕ) (write : Bool) (u : Topics) → Turned n turn place → KnowsNext n z gfn write u → IsToGoOn turn → FaultKnows place z gfn write u
-goes_on (Goes p) More place z gfn write u turned knows on = subst (λ (x : FaultPlace). FaultKnows x z gfn write u) (sym turned) knows
-goes_on (Goes p) (Wait seen) place z gfn write u turned knows on = subst (λ (x : FaultPlace). FaultKnows x z gfn write u) (sym turned) knows
-goes_on (Ends e) More place z gfn write u turned knows on = absurd turned
-goes_on (Ends e) (Wait seen) place z gfn write u turned knows on = absurd turned
-goes_on n (Retry cause) place z gfn write u turned knows on = absurd on
-goes_on n (Done answer) place z gfn write u turned knows on = absurd on
+-- The fault of the hand's line, at its place, whose step was made.
+module _ (p : FaultPlace) (job : FaultJob) (turn : Turn Faulted) (a : ℕ) (h g : Held) (told tells : Told) (rests : PartRests h) (S : StandsInLine job h) (at : place_at h.state.place h ≡ place.Access (Fault p))
+    (I : IsAt p job (access_note (Fault p)) h) (M : MakesStep p job turn (access_note (Fault p)) a h g told tells) where
+  abbrev goes_to : FaultNext
+  goes_to = fault_next p h.state.sizes job.gfn job.write h.topics M.found
 
-pub knows_on : (before after : FaultJob) (turn : Turn Faulted) (note a : ℕ) (h g : Held) (told tells : Told) → TurnsFault before after turn note a h g told tells → IsToGoOn turn → FaultKnows after.place g.state.sizes after.gfn after.write g.topics
-knows_on before after turn note a h g told tells T on =
-    let same : g.state.sizes ≡ h.state.sizes = ap (λ (x : Held). x.state.sizes) T.made.hand ∙ (next_same h (part_kind h (fault_part before.place before.gfn h.topics) note) T.found).sizes in
-    let next = goes_on (fault_next before.place h.state.sizes before.gfn before.write h.topics T.found) turn after.place h.state.sizes before.gfn before.write g.topics T.turned T.knows on in
-    rw (same, T.work.0, T.work.1) next
+  stands : g.state.place ≡ place_after (behind_fault goes_to)
+  stands =
+      ap (λ (x : Held). x.state.place) (M.made.hand ∙ next_of_line h (part_kind h (fault_part p job.gfn h.topics) (access_note (Fault p))) M.found (has_line_is h S.left))
+      ∙ ap (λ (q : Place). place_after (outcome_at q (line_of h).command h M.found)) at ∙ ap (λ (c : Command). place_after (outcome_at (place.Access (Fault p)) c h M.found)) S.command
+      ∙ ap (λ (write : Bool). place_after (behind_fault (fault_next p h.state.sizes job.gfn write h.topics M.found))) S.writes
+
+  turns_at : TurnsAt p job turn a h g told tells
+  turns_at = record {
+    step = M;
+    stands = stands;
+    knows = subst (λ (u : Topics). KnowsNext goes_to h.state.sizes job.gfn job.write u) (sym M.made.topics)
+        (fault_known p h job.gfn M.found job.write I.gfn rests I.knows (can_answer (fault_part p job.gfn h.topics) (access_note (Fault p)) M.found a h g told tells I.may.needs M.made));
+    ends_by = ends_by p h.state.sizes job.gfn M.found job.write h.topics I.knows;
+  }
+
+  pub nearer : turn ≡ More → hand_left g < hand_left h
+  nearer is =
+      let falls = fault_falls p h job.gfn M.found job.write I.gfn rests I.knows (waits_not turn (waits p h.topics M.found) (wait_seen p h job.gfn (access_note (Fault p)) M.found) is M.waits_by) in
+      let same : g.state.sizes ≡ h.state.sizes = ap (λ (x : Held). x.state.sizes) M.made.hand ∙ (next_same h (part_kind h (fault_part p job.gfn h.topics) (access_note (Fault p))) M.found).sizes in
+      let before : hand_left h ≡ fault_left p h.state.sizes h.topics + 9 = left_at p h.state.place h.state.sizes h.slots (line_of h).command h.topics at in
+      rw (before, stands, same, M.made.topics) (goes_nearer goes_to turn h.state.sizes _ _ is M.turned falls)
+
+pub turns_fault : (p : FaultPlace) (job : FaultJob) (turn : Turn Faulted) (a : ℕ) (h g : Held) (told tells : Told) → PartRests h → StandsInLine job h → place_at h.state.place h ≡ place.Access (Fault p) → IsAt p job (access_note (Fault p)) h
+    → MakesStep p job turn (access_note (Fault p)) a h g told tells → TurnsFault job turn a h g told tells
+turns_fault p job turn a h g told tells rests S at I M q stands =
+    let same : place.Access (Fault p) ≡ place.Access (Fault q) = sym at ∙ stands in
+    subst (λ (x : FaultPlace). TurnsAt x job turn a h g told tells) (cc same) (turns_at p job turn a h g told tells rests S at I M)

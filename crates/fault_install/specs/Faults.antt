@@ -1,4 +1,4 @@
--- What one turn of a fault is: the step of its place, and where it stands behind it.
+-- What one turn of a fault is: the step of its place, and what the turn answers.
 use Rattle.std.specs.Prelude.{◌≡◌, ◌≢◌, ◌<◌, ◌^◌, ℕ, Bool, true, length}
 use Rattle.core_views.specs.declared.place.FaultEnd.{FaultEnd}
 use Rattle.core_views.specs.declared.place.FaultEnd.TheVariants as end_of
@@ -6,93 +6,114 @@ use Rattle.core_views.specs.declared.place.FaultNext.{FaultNext}
 use Rattle.core_views.specs.declared.place.FaultNext.TheVariants.{Goes, Ends}
 use Rattle.core_views.specs.declared.hand.Seen.{Seen}
 use Rattle.core_views.specs.declared.place.FaultPlace.{FaultPlace}
+use Rattle.core_views.specs.declared.place.FaultPlace.TheVariants.{Begin, Snapshot, Find, Host, Share, Claim, End}
 use Rattle.core_views.specs.declared.place.AccessPlace.TheVariants.{Fault}
 use Rattle.core_views.specs.declared.place.Place.TheVariants as place
 use Rattle.core_views.specs.declared.trace.Command.TheVariants.{Access}
 use Rattle.core_views.specs.declared.trace.Op.{Op}
 use Rattle.core_views.specs.Held.{Held}
 use Rattle.core_views.specs.Slots.{is_write}
+use Rattle.mmu_core.specs.lines.AccessSteps.{access_note, behind_fault}
 use Rattle.mmu_core.specs.lines.FaultKnows.{EndKnows, FaultKnows, KnowsNext}
-use Rattle.mmu_core.specs.lines.FaultLaws.{CanAnswer}
 use Rattle.mmu_core.specs.lines.FaultSteps.{fault_next, fault_part, wait_seen, waits}
 use Rattle.mmu_core.specs.machine.MayMake.{MayMake}
+use Rattle.mmu_core.specs.machine.Outcomes.{place_after}
 use Rattle.mmu_core.specs.machine.Steps.{place_at}
 use Rattle.mmu_core.specs.machine.Turns.{line_of}
+use Rattle.mmu_lock.specs.declared.lock.Lock.{Lock}
+use Rattle.mmu_lock.specs.declared.lock.Lock.TheVariants as lock
 use Rattle.step_seats.specs.PartTurns.{MadePart}
 use Rattle.step_seats.specs.Where.{Told}
 use Rattle.step_seats.specs.declared.turn.Turn.{Turn}
 use Rattle.step_seats.specs.declared.turn.Turn.TheVariants.{More, Wait, Retry, Done}
+use Rattle.table_pool.specs.declared.claim.Claimed.{Claimed}
 use Rattle.fault_install.specs.declared.fault.FaultJob.{FaultJob}
 use Rattle.fault_install.specs.declared.fault.Faulted.{Faulted}
 use Rattle.fault_install.specs.declared.fault.Faulted.TheVariants.{Installed, Mmio, HostFault, Starved}
 
--- the end of a fault that an answer stands for
-abbrev pub end_with : Faulted → FaultEnd
-end_with Installed = end_of.Installed
-end_with Mmio = end_of.Mmio
-end_with HostFault = end_of.HostFault
-end_with Starved = end_of.Starved
+-- what a turn answers after a try for the lock, whose word this is
+abbrev pub lock_turn : ℕ → Turn Lock → Turn Faulted
+lock_turn word (Done (lock.Held value)) = Wait (record { word = word; value = value })
+lock_turn word _ = More
 
--- The fault stands at this place now, or it is over, and the turn answers so.
-abbrev pub Turned : FaultNext → Turn Faulted → FaultPlace → Type 0
-Turned (Goes p) More place = place ≡ p
-Turned (Goes p) (Wait seen) place = place ≡ p
-Turned (Goes p) _ place = ⊥
-Turned (Ends e) (Done answer) place = e ≡ end_with answer
-Turned (Ends e) (Retry cause) place = e ≡ end_of.Retry cause
-Turned (Ends e) _ place = ⊥
+-- after a step of a claim
+abbrev pub claim_turn : Turn Claimed → Turn Faulted
+claim_turn (Wait seen) = Wait seen
+claim_turn _ = More
+
+-- after the end of the section
+abbrev pub end_turn : FaultEnd → Turn Faulted
+end_turn end_of.Installed = Done Installed
+end_turn end_of.Mmio = Done Mmio
+end_turn end_of.HostFault = Done HostFault
+end_turn end_of.Starved = Done Starved
+end_turn (end_of.Retry cause) = Retry cause
+
+-- The turn answers by what is next after its step: it goes on, or has to be made again, or the fault is over.
+abbrev pub AnswersBy : Turn Faulted → FaultNext → Type 0
+AnswersBy More (Goes p) = Unit {0}
+AnswersBy (Wait seen) (Goes p) = Unit {0}
+AnswersBy _ (Goes p) = ⊥
+AnswersBy turn (Ends e) = turn ≡ end_turn e
 
 -- The turn waits exactly where its step is one that waits for another actor, and then it has seen what is in its way.
 abbrev pub WaitsBy : Turn Faulted → Bool → Seen → Type 0
 WaitsBy (Wait seen) b way = (b ≡ true) × (seen ≡ way)
 WaitsBy _ b way = b ≢ true
 
--- The fault isn't over: the turn has more to do, or is to be made again.
-abbrev pub IsToGoOn : Turn Faulted → Type 0
-IsToGoOn More = Unit {0}
-IsToGoOn (Wait seen) = Unit {0}
-IsToGoOn (Retry cause) = ⊥
-IsToGoOn (Done answer) = ⊥
-
 -- What an end rests on: what was known right before it, by the words that this fault has loaded.
-abbrev pub EndsBy : Turn Faulted → (FaultEnd → Type 0) → Type 0
-EndsBy (Done answer) Knows = Knows (end_with answer)
-EndsBy (Retry cause) Knows = Knows (end_of.Retry cause)
-EndsBy _ Knows = Unit {0}
+abbrev pub EndsBy : FaultNext → (FaultEnd → Type 0) → Type 0
+EndsBy (Goes p) Knows = Unit {0}
+EndsBy (Ends e) Knows = Knows e
 
--- The hand's next line is the access whose fault this is, and stands at the fault's place.
+-- The step of the place always leads on to another place, and never waits.
+abbrev pub LeadsOn : FaultPlace → Type 0
+LeadsOn Share = ⊥
+LeadsOn (Claim begun) = ⊥
+LeadsOn (End e) = ⊥
+LeadsOn _ = Unit {0}
+
+-- The fault shares the lock at this place.
+abbrev pub SharesLock : FaultPlace → Type 0
+SharesLock Begin = ⊥
+SharesLock Snapshot = ⊥
+SharesLock (Find begun) = ⊥
+SharesLock Host = ⊥
+SharesLock Share = ⊥
+SharesLock (End e) = ⊥
+SharesLock _ = Unit {0}
+
+-- The hand's next line is the access whose fault this is, and stands at this place of it.
 pub record StandsInLine (job : FaultJob) (h : Held) : Type 0 where
   pub left : length h.answers < length h.lines
-  pub stands : place_at h.state.place h ≡ place.Access (Fault job.place)
+  pub at : FaultPlace
+  pub stands : place_at h.state.place h ≡ place.Access (Fault at)
   pub word : ℕ
   pub op : Op
   pub command : (line_of h).command ≡ Access job.gfn word op
   pub writes : is_write op ≡ job.write
 
--- The fault is at this place, whose step its actor may make, and knows what the place asks.
+-- The actor may make the step of this place of the fault, and knows what the place asks.
 pub record IsAt (p : FaultPlace) (job : FaultJob) (note : ℕ) (h : Held) : Type 0 where
-  pub place : job.place ≡ p
   pub may : MayMake (fault_part p job.gfn h.topics) note h
   pub gfn : job.gfn < 2 ^ 36
   pub knows : FaultKnows p h.state.sizes job.gfn job.write h.topics
 
--- The step of the fault's place was made, of which this was found (a fill: what it stored); the fault stands where the order of steps
--- leads from there, and the turn answers so.
-pub record MakesStep (before after : FaultJob) (turn : Turn Faulted) (note actor : ℕ) (h g : Held) (told tells : Told) : Type 0 where
+-- The step of this place was made, of which this was found, and the turn answers by what is next in the order of steps.
+pub record MakesStep (p : FaultPlace) (job : FaultJob) (turn : Turn Faulted) (note actor : ℕ) (h g : Held) (told tells : Told) : Type 0 where
   pub found : ℕ
-  pub made : MadePart (fault_part before.place before.gfn h.topics) note found actor h g told tells
-  pub can : CanAnswer (fault_part before.place before.gfn h.topics) found
-  pub work : (after.gfn ≡ before.gfn) × (after.write ≡ before.write)
-  pub turned : Turned (fault_next before.place h.state.sizes before.gfn before.write h.topics found) turn after.place
-  pub waits_by : WaitsBy turn (waits before.place h.topics found) (wait_seen before.place h before.gfn note found)
+  pub made : MadePart (fault_part p job.gfn h.topics) note found actor h g told tells
+  pub turned : AnswersBy turn (fault_next p h.state.sizes job.gfn job.write h.topics found)
+  pub waits_by : WaitsBy turn (waits p h.topics found) (wait_seen p h job.gfn note found)
 
--- One turn of the fault: its place's step was made, of which this was found; the fault stands where the order of steps leads from there,
--- and knows what its next place asks; where it is over, its answer has its cause in what was loaded, and the actor holds nothing.
-pub record TurnsFault (before after : FaultJob) (turn : Turn Faulted) (note actor : ℕ) (h g : Held) (told tells : Told) : Type 0 where
-  pub found : ℕ
-  pub made : MadePart (fault_part before.place before.gfn h.topics) note found actor h g told tells
-  pub work : (after.gfn ≡ before.gfn) × (after.write ≡ before.write)
-  pub turned : Turned (fault_next before.place h.state.sizes before.gfn before.write h.topics found) turn after.place
-  pub waits_by : WaitsBy turn (waits before.place h.topics found) (wait_seen before.place h before.gfn note found)
-  pub knows : KnowsNext (fault_next before.place h.state.sizes before.gfn before.write h.topics found) h.state.sizes before.gfn before.write g.topics
-  pub ends_by : EndsBy turn (λ e. EndKnows e h.state.sizes before.gfn before.write h.topics)
+-- One turn of the fault at this place: the hand stands where the order of steps leads from there, and knows what its next place asks; where
+-- the fault is over, its answer has its cause in what was loaded, and the actor holds nothing.
+pub record TurnsAt (p : FaultPlace) (job : FaultJob) (turn : Turn Faulted) (actor : ℕ) (h g : Held) (told tells : Told) : Type 0 where
+  pub step : MakesStep p job turn (access_note (Fault p)) actor h g told tells
+  pub stands : g.state.place ≡ place_after (behind_fault (fault_next p h.state.sizes job.gfn job.write h.topics step.found))
+  pub knows : KnowsNext (fault_next p h.state.sizes job.gfn job.write h.topics step.found) h.state.sizes job.gfn job.write g.topics
+  pub ends_by : EndsBy (fault_next p h.state.sizes job.gfn job.write h.topics step.found) (λ e. EndKnows e h.state.sizes job.gfn job.write h.topics)
+
+-- One turn of the fault, at the place where the hand's line stands.
+abbrev pub TurnsFault : FaultJob → Turn Faulted → ℕ → Held → Held → Told → Told → Type 0
+TurnsFault job turn actor h g told tells = (p : FaultPlace) → place_at h.state.place h ≡ place.Access (Fault p) → TurnsAt p job turn actor h g told tells

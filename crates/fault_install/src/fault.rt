@@ -1,18 +1,31 @@
-ghost use Rattle.std.specs.Prelude.{◌≡◌, ◌<◌, ◌^◌, false};
+ghost use Rattle.std.specs.Prelude.{◌≡◌, ◌<◌};
 ghost use Rattle.core_views.specs.declared.place.AccessPlace.TheVariants.{Fault};
-ghost use Rattle.core_views.specs.declared.place.FaultPlace.TheVariants.{Begin};
-ghost use Rattle.fault_install.specs.Faults.{MakesStep, StandsInLine, TurnsFault};
+ghost use Rattle.core_views.specs.declared.place.FaultPlace.TheVariants as at;
+ghost use Rattle.core_views.specs.declared.place.Place.TheVariants as Place;
+ghost use Rattle.fault_install.specs.Faults.{IsAt, LeadsOn, MakesStep, SharesLock, StandsInLine, TurnsFault};
+ghost use Rattle.mmu_core.specs.alone.LineAlone.{hand_left};
 ghost use Rattle.mmu_core.specs.lines.AccessSteps.{access_note};
-ghost use Rattle.mmu_core.specs.lines.FaultKnows.{FaultKnows};
-ghost use Rattle.mmu_core.specs.lines.FaultSteps.{fault_left, fault_part};
-ghost use Rattle.mmu_core.specs.machine.MayMake.{MayMake};
+ghost use Rattle.mmu_core.specs.lines.FaultSteps.{fault_part};
+ghost use Rattle.mmu_core.specs.machine.Steps.{place_at};
 ghost use Rattle.mmu_core.specs.machine.Worlds.{HandReached};
+ghost use Rattle.part_steps.specs.declared.part_step.PartStep.TheVariants as part;
 ghost use Rattle.step_seats.specs.Moves.{KeepsRoom};
+ghost use Rattle.step_seats.specs.PartTurns.{MakesPart};
 ghost use Rattle.step_seats.specs.declared.turn.Turn.TheVariants.{More};
 
-use core_views::{FaultPlace, Hand};
-use mmu_core::part_rests;
-use step_seats::{Stepper, Turn};
+use crate::answers::{claim_turn, end_turn, lock_turn};
+use core_views::{AccessPlace, FaultEnd, FaultPlace, Hand, Place};
+use grace_period::{begin, end};
+use host_map::look;
+use invalidate_seq::{Check, Snapshot};
+use memslots::Find;
+use mmu_core::{access_note, part_rests};
+use mmu_lock::{try_shared, unlock};
+use part_steps::{PartStep, map_of, page_of, page_owned};
+use spte_words::Area;
+use step_seats::{Stepper, Turn, make_part};
+use table_pool::{Claim, Fill, Give};
+use tdp_walk::Walk;
 
 /// What a fault answers.
 #[derive(Clone, Copy, Debug, PartialEq, Eq, Drop)]
@@ -29,84 +42,186 @@ pub enum Faulted {
     Starved,
 }
 
-/// The fault of one access, a step a turn.
+/// The fault of one access, a step a turn. The place where it stands is kept in the
+/// hand whose line the access is.
 #[derive(Clone, Copy, Debug, PartialEq, Eq, Drop)]
 pub struct FaultJob {
     /// The guest frame, below 2^36.
     pub gfn: u64,
     /// Whether the access writes.
     pub write: bool,
-    /// The step that comes next.
-    pub place: FaultPlace,
+}
+
+// The place where the fault of the hand's line stands.
+fn place_of(hand: &Hand, job: &FaultJob) -> FaultPlace
+    requires stands { StandsInLine job.now hand.now.core }
+    ensures { place_at hand.now.core.state.place hand.now.core ≡ Place.Access (Fault result) }
+{
+    match hand.state().place {
+        Place::Access(AccessPlace::Fault(place)) => place,
+        _ => unreachable!(),
+    }
 }
 
 impl FaultJob {
-    /// The fault of an access of this guest frame, which is yet to begin.
-    pub fn new(gfn: u64, write: bool) -> FaultJob
-        ensures { result ≡ record { gfn = gfn; write = write; place = Begin } }
-    {
-        FaultJob {
-            gfn,
-            write,
-            place: FaultPlace::Begin,
-        }
-    }
-
-    /// The fault of a hand's line, which stands at the fault's place, may make its
-    /// next turn, and knows what this place asks.
-    pub fn may_turn(&self, hand: &Hand)
+    // The fault of a hand's line may make the step of the place where it stands, and
+    // knows what this place asks.
+    fn may_step(&self, hand: &Hand, place: FaultPlace)
         requires reached { ∥ HandReached hand.now.core ∥₁ }
         requires stands { StandsInLine self.now hand.now.core }
-        ensures may { MayMake (fault_part self.now.place self.now.gfn hand.now.core.topics) (access_note (Fault self.now.place)) hand.now.core }
-        ensures gfn { self.now.gfn < 2 ^ 36 }
-        ensures knows { FaultKnows self.now.place hand.now.core.state.sizes self.now.gfn self.now.write hand.now.core.topics }
+        requires place { place_at hand.now.core.state.place hand.now.core ≡ Place.Access (Fault place) }
+        ensures { IsAt place self.now (access_note (Fault place)) hand.now.core }
     {}
 
-    // Makes the step of its place, and goes on to the next one.
-    fn step<S: Stepper>(&mut self, s: &mut S, note: u64) -> Turn<Faulted>
-        requires may { MayMake (fault_part self.old.place self.old.gfn (S.handful s.old).core.topics) note (S.handful s.old).core }
+    // Makes the step of a place that always leads on to another one.
+    fn go_on<S: Stepper>(&self, s: &mut S, place: FaultPlace, note: u64)
+        requires is_at { IsAt place self.now note (S.handful s.old).core }
+        requires leads_on { LeadsOn place }
         requires reserved { 0 < (S.handful s.old).room }
-        requires gfn { self.old.gfn < 2 ^ 36 }
-        requires knows { FaultKnows self.old.place (S.handful s.old).core.state.sizes self.old.gfn self.old.write (S.handful s.old).core.topics }
-        ensures makes { MakesStep self.old self.new result note (S.actor s.old) (S.handful s.old).core (S.handful s.new).core (S.tells s.old) (S.tells s.new) }
+        ensures makes { MakesPart (fault_part place self.now.gfn (S.handful s.old).core.topics) note (S.actor s.old) (S.handful s.old).core (S.handful s.new).core (S.tells s.old) (S.tells s.new) }
         ensures room { KeepsRoom (S.handful s.old) (S.handful s.new) }
         ensures same { (S.actor s.new ≡ S.actor s.old) × (S.frame s.new ≡ S.frame s.old) }
     {
-        match self.place {
-            FaultPlace::Begin => self.begin(s, note),
-            FaultPlace::Snapshot => self.snapshot(s, note),
-            FaultPlace::Find { begun } => self.find(s, begun, note),
-            FaultPlace::Host => self.host(s, note),
-            FaultPlace::Share => self.share(s, note),
-            FaultPlace::Check(stage) => self.check(s, stage, note),
-            FaultPlace::Walk { rooted: false } => self.root(s, note),
-            FaultPlace::Walk { rooted: true } => self.walk(s, note),
-            FaultPlace::Claim { begun } => self.claim(s, begun, note),
-            FaultPlace::Fill => self.fill(s, note),
-            FaultPlace::Role => self.role(s, note),
-            FaultPlace::Link => self.link(s, note),
-            FaultPlace::Give(end) => self.give(s, end, note),
-            FaultPlace::Leaf => self.leaf(s, note),
-            FaultPlace::Unshare(end) => self.unshare(s, end, note),
-            FaultPlace::End(end) => self.end(s, end, note),
+        let gfn = self.gfn;
+        match place {
+            FaultPlace::Begin => begin(s, note),
+            FaultPlace::Snapshot => {
+                let _ = Snapshot::new().turn(s, note);
+            }
+            FaultPlace::Find { begun } => {
+                let _ = Find { gfn, begun }.turn(s, note);
+            }
+            FaultPlace::Host => {
+                part_rests(s.hand());
+                let page = page_of(&s.hand().topics().search.slot, gfn);
+                let _ = look(s, page, note);
+            }
+            _ => self.go_down(s, place, note),
         }
     }
 
-    /// Makes the next step, which is one of the line whose fault it is. `Wait` where a writer has the lock or a page was
-    /// claimed by another actor meanwhile, and `Retry` where the look-up holds no
-    /// more or another actor's entry stood in the way: the section is over then,
-    /// and the fault is to begin anew.
-    pub fn turn<S: Stepper>(&mut self, s: &mut S, note: u64) -> Turn<Faulted>
-        requires may { MayMake (fault_part self.old.place self.old.gfn (S.handful s.old).core.topics) note (S.handful s.old).core }
+    // Makes the step of such a place where the fault shares the lock.
+    fn go_down<S: Stepper>(&self, s: &mut S, place: FaultPlace, note: u64)
+        requires is_at { IsAt place self.now note (S.handful s.old).core }
+        requires leads_on { LeadsOn place }
+        requires shares { SharesLock place }
         requires reserved { 0 < (S.handful s.old).room }
-        requires gfn { self.old.gfn < 2 ^ 36 }
-        requires knows { FaultKnows self.old.place (S.handful s.old).core.state.sizes self.old.gfn self.old.write (S.handful s.old).core.topics }
-        ensures turned { TurnsFault self.old self.new result note (S.actor s.old) (S.handful s.old).core (S.handful s.new).core (S.tells s.old) (S.tells s.new) }
-        ensures nearer { result ≡ More → fault_left self.new.place (S.handful s.new).core.state.sizes (S.handful s.new).core.topics < fault_left self.old.place (S.handful s.old).core.state.sizes (S.handful s.old).core.topics }
+        ensures makes { MakesPart (fault_part place self.now.gfn (S.handful s.old).core.topics) note (S.actor s.old) (S.handful s.old).core (S.handful s.new).core (S.tells s.old) (S.tells s.new) }
+        ensures room { KeepsRoom (S.handful s.old) (S.handful s.new) }
+        ensures same { (S.actor s.new ≡ S.actor s.old) × (S.frame s.new ≡ S.frame s.old) }
+    {
+        let gfn = self.gfn;
+        let page = page_owned(s.hand().topics().owned);
+        match place {
+            FaultPlace::Check(stage) => {
+                let _ = Check { gfn, stage }.turn(s, note);
+            }
+            FaultPlace::Walk { rooted } => {
+                let _ = Walk { gfn, rooted }.turn(s, note);
+            }
+            FaultPlace::Fill => self.fill(s, note),
+            FaultPlace::Role => {
+                let level = s.hand().topics().walk.level.saturating_sub(1) as u64;
+                let _ = Fill::new(page).turn(s, level, note);
+            }
+            FaultPlace::Link => {
+                let _ = make_part(s, PartStep::Link(gfn), note);
+            }
+            FaultPlace::Give(_) => {
+                let _ = Give::new(page).turn(s, note);
+            }
+            FaultPlace::Leaf => {
+                let _ = make_part(s, PartStep::Leaf(gfn), note);
+            }
+            FaultPlace::Unshare(_) => unlock(s, note),
+            _ => unreachable!(),
+        }
+    }
+
+    // Fills the next word of the page: the entries of a table are absent.
+    fn fill<S: Stepper>(&self, s: &mut S, note: u64)
+        requires is_at { IsAt at.Fill self.now note (S.handful s.old).core }
+        requires reserved { 0 < (S.handful s.old).room }
+        ensures makes { MakesPart (part.Fill 0) note (S.actor s.old) (S.handful s.old).core (S.handful s.new).core (S.tells s.old) (S.tells s.new) }
+        ensures room { KeepsRoom (S.handful s.old) (S.handful s.new) }
+        ensures same { (S.actor s.new ≡ S.actor s.old) × (S.frame s.new ≡ S.frame s.old) }
+    {
+        let mut fill = Fill::new(page_owned(s.hand().topics().owned));
+        let _ = fill.turn(s, 0, note);
+    }
+
+    // Tries to share the lock.
+    fn share<S: Stepper>(&self, s: &mut S, note: u64) -> Turn<Faulted>
+        requires is_at { IsAt at.Share self.now note (S.handful s.old).core }
+        requires reserved { 0 < (S.handful s.old).room }
+        ensures makes { MakesStep at.Share self.now result note (S.actor s.old) (S.handful s.old).core (S.handful s.new).core (S.tells s.old) (S.tells s.new) }
         ensures room { KeepsRoom (S.handful s.old) (S.handful s.new) }
         ensures same { (S.actor s.new ≡ S.actor s.old) × (S.frame s.new ≡ S.frame s.old) }
     {
         part_rests(s.hand());
-        self.step(s, note)
+        let word = map_of(&s.hand().state().sizes).word_of(Area::Lock, 0);
+        lock_turn(word, try_shared(s, note))
+    }
+
+    // Claims a page for a table.
+    fn claim<S: Stepper>(&self, s: &mut S, begun: bool, note: u64) -> Turn<Faulted>
+        requires is_at { IsAt (at.Claim begun) self.now note (S.handful s.old).core }
+        requires reserved { 0 < (S.handful s.old).room }
+        ensures makes { MakesStep (at.Claim begun) self.now result note (S.actor s.old) (S.handful s.old).core (S.handful s.new).core (S.tells s.old) (S.tells s.new) }
+        ensures room { KeepsRoom (S.handful s.old) (S.handful s.new) }
+        ensures same { (S.actor s.new ≡ S.actor s.old) × (S.frame s.new ≡ S.frame s.old) }
+    {
+        claim_turn(Claim { begun }.turn(s, note))
+    }
+
+    // Ends the section.
+    fn end<S: Stepper>(&self, s: &mut S, ended: FaultEnd, note: u64) -> Turn<Faulted>
+        requires is_at { IsAt (at.End ended) self.now note (S.handful s.old).core }
+        requires reserved { 0 < (S.handful s.old).room }
+        ensures makes { MakesStep (at.End ended) self.now result note (S.actor s.old) (S.handful s.old).core (S.handful s.new).core (S.tells s.old) (S.tells s.new) }
+        ensures room { KeepsRoom (S.handful s.old) (S.handful s.new) }
+        ensures same { (S.actor s.new ≡ S.actor s.old) × (S.frame s.new ≡ S.frame s.old) }
+    {
+        end(s, note);
+        end_turn(ended)
+    }
+
+    // Makes the step of this place by the call of its part, and answers by what the
+    // part answers.
+    fn step<S: Stepper>(&self, s: &mut S, place: FaultPlace, note: u64) -> Turn<Faulted>
+        requires is_at { IsAt place self.now note (S.handful s.old).core }
+        requires reserved { 0 < (S.handful s.old).room }
+        ensures makes { MakesStep place self.now result note (S.actor s.old) (S.handful s.old).core (S.handful s.new).core (S.tells s.old) (S.tells s.new) }
+        ensures room { KeepsRoom (S.handful s.old) (S.handful s.new) }
+        ensures same { (S.actor s.new ≡ S.actor s.old) × (S.frame s.new ≡ S.frame s.old) }
+    {
+        match place {
+            FaultPlace::Share => self.share(s, note),
+            FaultPlace::Claim { begun } => self.claim(s, begun, note),
+            FaultPlace::End(ended) => self.end(s, ended, note),
+            _ => {
+                self.go_on(s, place, note);
+                Turn::More
+            }
+        }
+    }
+
+    /// Makes the next step of the hand's line, which stands in its fault. `Wait`
+    /// where a writer has the lock or a page was claimed by another actor meanwhile,
+    /// and `Retry` where the look-up holds no more or another actor's entry stood in
+    /// the way: the section is over then, and the access is to begin anew.
+    pub fn turn<S: Stepper>(&self, s: &mut S) -> Turn<Faulted>
+        requires stands { StandsInLine self.now (S.handful s.old).core }
+        requires reserved { 0 < (S.handful s.old).room }
+        ensures turned { TurnsFault self.now result (S.actor s.old) (S.handful s.old).core (S.handful s.new).core (S.tells s.old) (S.tells s.new) }
+        ensures nearer { result ≡ More → hand_left (S.handful s.new).core < hand_left (S.handful s.old).core }
+        ensures room { KeepsRoom (S.handful s.old) (S.handful s.new) }
+        ensures same { (S.actor s.new ≡ S.actor s.old) × (S.frame s.new ≡ S.frame s.old) }
+    {
+        let hand = s.hand();
+        part_rests(hand);
+        let place = place_of(hand, self);
+        self.may_step(hand, place);
+        self.step(s, place, access_note(AccessPlace::Fault(place)))
     }
 }

@@ -4,10 +4,8 @@
 //! root, links the tables that are missing, and puts the leaf.
 #![tactic(auto)]
 
-mod entering;
+mod answers;
 mod fault;
-mod looking;
-mod places;
 
 pub use fault::{FaultJob, Faulted};
 

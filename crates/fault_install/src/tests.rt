@@ -13,7 +13,7 @@ use core_views::{
     AccessPlace, Actor, Cause, Command, FaultPlace, Hand, Header, Line, Lines, NoMemory, Op, Place,
     Slot, Trace, Words,
 };
-use mmu_core::{access_note, next_kind, rests};
+use mmu_core::{next_kind, rests};
 use std::alloc::Global;
 use std::test::Fail;
 use step_seats::{PlainMachine, Stepper, Turn};
@@ -172,7 +172,7 @@ fn fault_of(hand: &Hand) -> Option<FaultJob>
 {
     let _next = hand.next_line()?;
     let state = hand.state();
-    let Place::Access(AccessPlace::Fault(place)) = state.place else {
+    let Place::Access(AccessPlace::Fault(_)) = state.place else {
         return None;
     };
     let Command::Access { gfn, op, .. } = state.line.command else {
@@ -181,7 +181,6 @@ fn fault_of(hand: &Hand) -> Option<FaultJob>
     Some(FaultJob {
         gfn,
         write: op.is_write(),
-        place,
     })
 }
 
@@ -199,25 +198,20 @@ fn go_to_fault<S: Stepper>(s: &mut S) -> Result<(), Fail>
 }
 
 // Makes the turns of the fault that the seat's line stands in up to its end, or up
-// to its first link: how many they were, and the last one. Behind each of them the
-// line stands where the fault does.
+// to its first link: how many they were, and the last one.
 fn run<S: Stepper>(s: &mut S, stops: bool) -> Result<(u64, Turn<Faulted>), Fail> {
+    let link = Place::Access(AccessPlace::Fault(FaultPlace::Link));
     for turns in 0..9000 {
         s.reserve(&LINE)?;
-        let Some(mut job) = fault_of(s.hand()) else {
+        let Some(job) = fault_of(s.hand()) else {
             return Err(Fail::new("the line stands in no fault"));
         };
-        if stops && job.place == FaultPlace::Link {
+        if stops && s.hand().state().place == link {
             return Ok((turns, Turn::More));
         }
-        job.may_turn(s.hand());
-        let note = access_note(AccessPlace::Fault(job.place));
-        let last = job.turn(s, note);
+        let last = job.turn(s);
         if matches!(last, Turn::Retry(_) | Turn::Done(_)) {
             return Ok((turns + 1, last));
-        }
-        if fault_of(s.hand()) != Some(job) {
-            return Err(Fail::new("the line stands elsewhere"));
         }
     }
     Err(Fail::new("the fault goes on"))

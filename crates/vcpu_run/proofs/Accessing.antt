@@ -8,6 +8,7 @@ use Rattle.core_views.specs.declared.place.AccessPlace.TheVariants.{Enter, Pause
 use Rattle.core_views.specs.declared.answer.Answer.{Answer}
 use Rattle.core_views.specs.declared.hand.Seen.{Seen}
 use Rattle.core_views.specs.declared.place.FaultEnd.{FaultEnd}
+use Rattle.core_views.specs.declared.place.FaultEnd.TheVariants as end_of
 use Rattle.core_views.specs.declared.place.FaultNext.{FaultNext}
 use Rattle.core_views.specs.declared.place.FaultNext.TheVariants.{Goes, Ends}
 use Rattle.core_views.specs.declared.place.FaultPlace.{FaultPlace}
@@ -15,9 +16,7 @@ use Rattle.core_views.specs.declared.topics.Topics.{Topics}
 use Rattle.core_views.specs.Slots.{is_write}
 use Rattle.fault_install.specs.declared.fault.FaultJob.{FaultJob}
 use Rattle.fault_install.specs.declared.fault.Faulted.{Faulted}
-use Rattle.fault_install.specs.declared.fault.Faulted.TheVariants.{Installed}
-use Rattle.fault_install.specs.declared.fault.Faulted.TheVariants as faulted
-use Rattle.fault_install.specs.Faults.{EndsBy, Turned, TurnsFault, WaitsBy}
+use Rattle.fault_install.specs.Faults.{AnswersBy, EndsBy, TurnsAt, TurnsFault, WaitsBy, end_turn}
 use Rattle.mmu_core.specs.declared.outcome.Outcome.{Outcome}
 use Rattle.mmu_core.specs.declared.outcome.Outcome.TheVariants as outcome
 use Rattle.mmu_core.specs.lines.FaultKnows.{EndKnows}
@@ -164,31 +163,35 @@ not_true true ne = absurd (ne refl)
 not_true false ne = refl
 
 -- What a fault's turn answers of its step, for the access.
-pub gives_fault : (turn : Turn Faulted) (next : FaultNext) (at : FaultPlace) (waits : Bool) (way : Seen) → Turned next turn at → WaitsBy turn waits way → Gives (answer_of turn) waits way (fault_turn next)
-gives_fault More (Goes p) at waits way is by_ = (not_true waits by_, refl)
-gives_fault (Wait seen) (Goes p) at waits way is by_ = by_
-gives_fault (Done answer) (Goes p) at waits way is by_ = absurd is
-gives_fault (Retry cause) (Goes p) at waits way is by_ = absurd is
-gives_fault More (Ends e) at waits way is by_ = absurd is
-gives_fault (Wait seen) (Ends e) at waits way is by_ = absurd is
-gives_fault (Retry cause) (Ends e) at waits way is by_ = (not_true waits by_, sym (ap (λ (x : FaultEnd). fault_turn (Ends x)) is))
-gives_fault (Done Installed) (Ends e) at waits way is by_ = (not_true waits by_, sym (ap (λ (x : FaultEnd). fault_turn (Ends x)) is))
-gives_fault (Done faulted.Mmio) (Ends e) at waits way is by_ = (not_true waits by_, sym (ap (λ (x : FaultEnd). fault_turn (Ends x)) is))
-gives_fault (Done faulted.HostFault) (Ends e) at waits way is by_ = (not_true waits by_, sym (ap (λ (x : FaultEnd). fault_turn (Ends x)) is))
-gives_fault (Done faulted.Starved) (Ends e) at waits way is by_ = (not_true waits by_, sym (ap (λ (x : FaultEnd). fault_turn (Ends x)) is))
+over_gives : (e : FaultEnd) (waits : Bool) (way : Seen) → WaitsBy (end_turn e) waits way → Gives (answer_of (end_turn e)) waits way (fault_turn (Ends e))
+over_gives end_of.Installed waits way by_ = (not_true waits by_, refl)
+over_gives end_of.Mmio waits way by_ = (not_true waits by_, refl)
+over_gives end_of.HostFault waits way by_ = (not_true waits by_, refl)
+over_gives end_of.Starved waits way by_ = (not_true waits by_, refl)
+over_gives (end_of.Retry cause) waits way by_ = (not_true waits by_, refl)
+
+gives_fault : (turn : Turn Faulted) (next : FaultNext) (waits : Bool) (way : Seen) → AnswersBy turn next → WaitsBy turn waits way → Gives (answer_of turn) waits way (fault_turn next)
+gives_fault More (Goes p) waits way is by_ = (not_true waits by_, refl)
+gives_fault (Wait seen) (Goes p) waits way is by_ = by_
+gives_fault (Done answer) (Goes p) waits way is by_ = absurd is
+gives_fault (Retry cause) (Goes p) waits way is by_ = absurd is
+gives_fault turn (Ends e) waits way is by_ = subst (λ (t : Turn Faulted). Gives (answer_of t) waits way (fault_turn (Ends e))) (sym is) (over_gives e waits way (subst (λ (t : Turn Faulted). WaitsBy t waits way) is by_))
+
+-- what the fault of the access is
+abbrev pub fault_of : AccessJob → FaultJob
+fault_of job = record { gfn = job.gfn; write = is_write job.op }
 
 -- The turn of a fault is the line's.
-pub turns_fault : (p : FaultPlace) (job : AccessJob) (before after : FaultJob) (turn : Turn Faulted) (actor : ℕ) (h g : Held) (told tells : Told) → StandsAt (Fault p) job h → before ≡ record { gfn = job.gfn; write = is_write job.op; place = p }
-    → TurnsFault before after turn (access_note (Fault p)) actor h g told tells → TurnsLine (answer_of turn) actor h g told tells
+pub turns_fault : (p : FaultPlace) (job : AccessJob) (fault : FaultJob) (turn : Turn Faulted) (actor : ℕ) (h g : Held) (told tells : Told) → StandsAt (Fault p) job h → fault ≡ fault_of job → TurnsFault fault turn actor h g told tells → TurnsLine (answer_of turn) actor h g told tells
 unfolding made_line
-turns_fault p job before after turn actor h g told tells S is T =
-    let of_job : TurnsFault (record { gfn = job.gfn; write = is_write job.op; place = p }) after turn (access_note (Fault p)) actor h g told tells = subst (λ (j : FaultJob). TurnsFault j after turn (access_note (Fault p)) actor h g told tells) is T in
+turns_fault p job fault turn actor h g told tells S is T =
+    let M = (subst (λ (j : FaultJob). TurnsAt p j turn actor h g told tells) is (T p S.stands)).step in
     let step : PartStep = fault_part p job.gfn h.topics in
     record {
-      makes = made_line step (access_note (Fault p)) of_job.found actor h g told tells (may_make (Fault p) job h S step refl) of_job.made;
-      gives = subst (λ (c : Command). Gives (answer_of turn) (line_waits (place_at h.state.place h) h.topics of_job.found) (line_seen (place_at h.state.place h) c h of_job.found) (line_turn (place_at h.state.place h) c h of_job.found)) (sym S.command)
-          (subst (λ (q : Place). Gives (answer_of turn) (line_waits q h.topics of_job.found) (line_seen q (Access job.gfn job.word job.op) h of_job.found) (line_turn q (Access job.gfn job.word job.op) h of_job.found)) (sym S.stands)
-          (gives_fault turn (fault_next p h.state.sizes job.gfn (is_write job.op) h.topics of_job.found) after.place (waits p h.topics of_job.found) (wait_seen p h job.gfn (access_note (Fault p)) of_job.found) of_job.turned of_job.waits_by));
+      makes = made_line step (access_note (Fault p)) M.found actor h g told tells (may_make (Fault p) job h S step refl) M.made;
+      gives = subst (λ (c : Command). Gives (answer_of turn) (line_waits (place_at h.state.place h) h.topics M.found) (line_seen (place_at h.state.place h) c h M.found) (line_turn (place_at h.state.place h) c h M.found)) (sym S.command)
+          (subst (λ (q : Place). Gives (answer_of turn) (line_waits q h.topics M.found) (line_seen q (Access job.gfn job.word job.op) h M.found) (line_turn q (Access job.gfn job.word job.op) h M.found)) (sym S.stands)
+          (gives_fault turn (fault_next p h.state.sizes job.gfn (is_write job.op) h.topics M.found) (waits p h.topics M.found) (wait_seen p h job.gfn (access_note (Fault p)) M.found) M.turned M.waits_by));
     }
 
 -- The turn of a stay answers by the answers of its hand.
@@ -250,18 +253,24 @@ walk_held true job h W root = absurd (cc root)
 walk_held false job h W root = ap (λ (s : Stay). may_walk s h.topics.hold) W.stands.knows.guest
 
 -- An exit, or a begin anew, has its cause: what its fault's turn says of it.
-pub fault_cause : (p : FaultPlace) (job : AccessJob) (before after : FaultJob) (turn : Turn Faulted) (actor note : ℕ) (h g : Held) (told tells : Told) → before ≡ record { gfn = job.gfn; write = is_write job.op; place = p }
-    → TurnsFault before after turn note actor h g told tells → HasItsCause (answer_of turn) job h
-fault_cause p job before after turn actor note h g told tells is T = by turn (subst (λ (j : FaultJob). EndsBy turn (λ e. EndKnows e h.state.sizes j.gfn j.write h.topics)) is T.ends_by)
-  where
-    by : (t : Turn Faulted) → EndsBy t (λ e. EndKnows e h.state.sizes job.gfn (is_write job.op) h.topics) → HasItsCause (answer_of t) job h
-    by More K = tt
-    by (Wait seen) K = tt
-    by (Retry cause) K = K
-    by (Done Installed) K = tt
-    by (Done faulted.Mmio) K = K
-    by (Done faulted.HostFault) K = K
-    by (Done faulted.Starved) K = K
+over_cause : (e : FaultEnd) (job : AccessJob) (h : Held) → EndKnows e h.state.sizes job.gfn (is_write job.op) h.topics → HasItsCause (answer_of (end_turn e)) job h
+over_cause end_of.Installed job h K = tt
+over_cause end_of.Mmio job h K = K
+over_cause end_of.HostFault job h K = K
+over_cause end_of.Starved job h K = K
+over_cause (end_of.Retry cause) job h K = K
+
+next_cause : (turn : Turn Faulted) (next : FaultNext) (job : AccessJob) (h : Held) → AnswersBy turn next → EndsBy next (λ e. EndKnows e h.state.sizes job.gfn (is_write job.op) h.topics) → HasItsCause (answer_of turn) job h
+next_cause More (Goes p) job h is K = tt
+next_cause (Wait seen) (Goes p) job h is K = tt
+next_cause (Done answer) (Goes p) job h is K = absurd is
+next_cause (Retry cause) (Goes p) job h is K = absurd is
+next_cause turn (Ends e) job h is K = subst (λ (t : Turn Faulted). HasItsCause (answer_of t) job h) (sym is) (over_cause e job h K)
+
+pub fault_cause : (p : FaultPlace) (job : AccessJob) (fault : FaultJob) (turn : Turn Faulted) (actor : ℕ) (h g : Held) (told tells : Told) → StandsAt (Fault p) job h → fault ≡ fault_of job → TurnsFault fault turn actor h g told tells → HasItsCause (answer_of turn) job h
+fault_cause p job fault turn actor h g told tells S is T =
+    let turns : TurnsAt p (fault_of job) turn actor h g told tells = subst (λ (j : FaultJob). TurnsAt p j turn actor h g told tells) is (T p S.stands) in
+    next_cause turn (fault_next p h.state.sizes job.gfn (is_write job.op) h.topics turns.step.found) job h turns.step.turned turns.ends_by
 
 -- A stay in the guest ends with what it reached.
 stay_outcome : (p : AccessPlace) (gfn word : ℕ) (op : Op) (h : Held) (v : ℕ) (turn : Turn Answer) (job : AccessJob) → IsStay p → turn ≡ turn_of (outcome_at (place.Access p) (Access gfn word op) h v) → HasItsCause turn job h

@@ -5,6 +5,7 @@ use Rattle.core_views.specs.declared.answer.Answer.TheVariants.{Mmio, HostFault,
 use Rattle.core_views.specs.declared.place.AccessPlace.{AccessPlace}
 use Rattle.core_views.specs.declared.place.AccessPlace.TheVariants.{Fault, Root, Walk}
 use Rattle.core_views.specs.declared.place.FaultEnd.TheVariants as end_of
+use Rattle.core_views.specs.declared.place.FaultPlace.{FaultPlace}
 use Rattle.core_views.specs.declared.place.Place.TheVariants as place
 use Rattle.core_views.specs.declared.trace.Command.TheVariants.{Access}
 use Rattle.core_views.specs.Held.{Held}
@@ -41,6 +42,11 @@ walk_place again rooted = if rooted then Walk again else Root again
 pub record WalksAt (rooted : Bool) (job : AccessJob) (h : Held) : Type 0 where
   pub again : Bool
   pub stands : StandsAt (walk_place again rooted) job h
+
+-- The access stands in its fault.
+pub record IsInFault (job : AccessJob) (h : Held) : Type 0 where
+  pub at : FaultPlace
+  pub stands : StandsAt (Fault at) job h
 
 -- what the turn of an access answers, by the answer of its fault's turn
 abbrev pub answer_of : Turn Faulted → Turn Answer

@@ -10,9 +10,9 @@ ghost use Rattle.mmu_core.specs.machine.Steps.{place_at};
 ghost use Rattle.mmu_core.specs.machine.Turns.{IsSameHand, line_of};
 ghost use Rattle.step_seats.specs.Moves.{KeepsRoom};
 ghost use Rattle.step_seats.specs.LineTurns.{MakesLine, Says, TurnsLine};
-ghost use Rattle.vcpu_run.specs.Accesses.{HasItsCause, IsStay, StandsAt, WalksAt, answer_of};
+ghost use Rattle.vcpu_run.specs.Accesses.{HasItsCause, IsInFault, IsStay, StandsAt, WalksAt, answer_of};
 
-use core_views::{AccessPlace, Answer, FaultPlace, Hand, Op, Place};
+use core_views::{AccessPlace, Answer, Hand, Op, Place};
 use fault_install::{FaultJob, Faulted};
 use host_map::touch;
 use mmu_core::{access_note, knows, rests};
@@ -112,22 +112,20 @@ impl AccessJob {
         let _ = walk.turn(s, 0);
     }
 
-    // Makes the step of a fault.
-    fn fault<S: Stepper>(&self, s: &mut S, place: FaultPlace) -> Turn<Answer>
-        requires stands { StandsAt (at.Fault place) self.now (S.handful s.old).core }
+    // Makes the step of its fault.
+    fn fault<S: Stepper>(&self, s: &mut S) -> Turn<Answer>
+        requires stands { IsInFault self.now (S.handful s.old).core }
         requires reserved { 0 < (S.handful s.old).room }
         ensures turns { TurnsLine result (S.actor s.old) (S.handful s.old).core (S.handful s.new).core (S.tells s.old) (S.tells s.new) }
         ensures cause { HasItsCause result self.now (S.handful s.old).core }
         ensures room { KeepsRoom (S.handful s.old) (S.handful s.new) }
         ensures same { (S.actor s.new ≡ S.actor s.old) × (S.frame s.new ≡ S.frame s.old) }
     {
-        let mut job = FaultJob {
+        let job = FaultJob {
             gfn: self.gfn,
             write: self.op.is_write(),
-            place,
         };
-        let turn = job.turn(s, access_note(AccessPlace::Fault(place)));
-        answer_of(turn)
+        answer_of(job.turn(s))
     }
 
     /// Makes the next step of the line, and says whether it is answered. `Wait`
@@ -152,8 +150,8 @@ impl AccessJob {
         rests(hand);
         knows(hand);
         let place = place_of(hand, self);
-        if let AccessPlace::Fault(place) = place {
-            return self.fault(s, place);
+        if let AccessPlace::Fault(_) = place {
+            return self.fault(s);
         }
         self.stay(s, place);
         match s.hand().answers().get(self.index) {
