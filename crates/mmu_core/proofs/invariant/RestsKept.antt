@@ -267,13 +267,8 @@ accepts_at_prop _ _ z slots = hlevel props
 
 command_prop : (z : Sizes) (actor : Actor) (command : Command) → IsProp (IsCommandFor z actor command)
 command_prop z (Vcpu n) (Access gfn word op) = hlevel props
-command_prop z (Vcpu n) (SetSlot id slot) = hlevel props
-command_prop z (Host n) (Access gfn word op) = hlevel props
-command_prop z (Host n) (SetSlot id slot) = hlevel props
-command_prop z Manager (Access gfn word op) = hlevel props
-command_prop z Manager (SetSlot id slot) = hlevel props
-command_prop z (Worker n) (Access gfn word op) = hlevel props
-command_prop z (Worker n) (SetSlot id slot) = hlevel props
+command_prop z _ (Access gfn word op) = hlevel props
+command_prop z _ _ = hlevel props
 
 pub part_rests_prop : (h : Held) → IsProp (PartRests h)
 part_rests_prop h = hlevel props

@@ -1,9 +1,11 @@
 -- The step of a part that an access makes at its place is one that its actor may make.
-use Rattle.std.proofs.Common.{◌^◌, ◌<◌, ℕ, subst, ap, ◌∙◌}
-use Rattle.std.specs.Prelude.{Option}
+use Rattle.std.proofs.Common.{◌≡◌, ◌^◌, ◌<◌, ℕ, subst, ap, ◌∙◌}
+use Rattle.std.specs.Prelude.{Option, Some}
 use Rattle.core_views.specs.declared.place.AccessPlace.{AccessPlace}
+use Rattle.core_views.specs.declared.place.Place.{Place}
 use Rattle.core_views.specs.declared.place.Place.TheVariants as place
 use Rattle.core_views.specs.declared.sizes.Sizes.{Sizes}
+use Rattle.core_views.specs.declared.trace.Command.{Command}
 use Rattle.core_views.specs.declared.trace.Command.TheVariants.{Access, SetSlot}
 use Rattle.core_views.specs.declared.trace.Line.{Line}
 use Rattle.core_views.specs.declared.trace.Op.{Op}
@@ -26,6 +28,7 @@ use Rattle.mmu_core.proofs.machine.PartStepping.{IsPart, Replaces, replaces_none
 use Rattle.mmu_core.proofs.machine.Stepping.{IsStep}
 use Rattle.core_views.specs.declared.place.SetSlotPlace.{SetSlotPlace}
 use Rattle.core_views.specs.declared.trace.Slot.{Slot}
+use Rattle.mmu_core.specs.lines.PartAt.{part_at}
 use Rattle.mmu_core.specs.lines.SetSlotSteps.{set_slot_part}
 use Rattle.mmu_core.proofs.slots.SetFilled.{setting_replaces}
 
@@ -64,3 +67,16 @@ pub makes_setting : (z : Sizes) (v : View) (a : ℕ) (line : Line) (p : SetSlotP
     → IsPart z v a (set_slot_part p (v.hand a) id slot)
 makes_setting z v a line p id slot small S I P =
     may_make z v a (set_slot_part p (v.hand a) id slot) small I P S.there (needs_at z v a line (SetSlot id slot) (place.SetSlot p) S I P) (setting_replaces z v a line p id slot S I)
+
+-- The step of a part that a line makes at a place is one that its actor may make.
+abbrev pub MakesAt : Sizes → View → ℕ → Place → Command → Type 0
+MakesAt z v a p command = (step : PartStep) → part_at p command (v.hand a) ≡ Some step → IsPart z v a step
+
+same_step : {s step : PartStep} → Some s ≡ Some step → s ≡ step
+same_step e = cc e
+
+pub makes_at : (z : Sizes) (v : View) (a : ℕ) (line : Line) (command : Command) (p : Place) → AreSmall v → IsStep z v a line command p → Invariant z v → TopicsInvariant z v → MakesAt z v a p command
+makes_at z v a line command place.Between small S I P = absurd S.begun
+makes_at z v a line (Access gfn word op) (place.Access p) small S I P = makes_parts z v a line p gfn word op small S I P
+makes_at z v a line (SetSlot id slot) (place.SetSlot p) small S I P = λ step is. subst (IsPart z v a) (same_step is) (makes_setting z v a line p id slot small S I P)
+makes_at z v a line _ _ small S I P = absurd S.holds
