@@ -20,7 +20,7 @@ use Rattle.mmu_core.specs.invariant.Invariant.{Invariant}
 use Rattle.mmu_core.specs.lines.PartAt.{note_at, part_at, task_at, touch_at}
 use Rattle.mmu_core.specs.invariant.TopicsInvariant.{TopicsInvariant}
 use Rattle.mmu_core.specs.machine.View.{View}
-use Rattle.mmu_core.proofs.lines.AccessParts.{AreSmall, makes_at}
+use Rattle.mmu_core.proofs.lines.AccessParts.{AreSmall, MakesAt, makes_at}
 use Rattle.mmu_core.proofs.machine.PartStepping.{IsPart}
 use Rattle.mmu_core.proofs.machine.Stepping.{IsStep}
 
@@ -29,7 +29,7 @@ pub data StepIn (z : Sizes) (v : View) (a : ℕ) : Task → Type 0 where
   Touches : (op : Op) (index : ℕ) → StepIn z v a (touch_of op index)
 
 -- A place that names no step of a part is one where the guest touches for its access.
-pub touched : (p : Place) (command : Command) (h : Held) → part_at p command h ≡ None → (op : Op) × (index : ℕ) × (touch_at command h ≡ touch_of op index)
+touched : (p : Place) (command : Command) (h : Held) → part_at p command h ≡ None → (op : Op) × (index : ℕ) × (touch_at command h ≡ touch_of op index)
 touched (place.Access p) (Access gfn word op) h none = (op, content_index (map_of h.state.sizes) (frame_in h.state.leaf) word, refl)
 touched _ (Access gfn word op) h none = absurd (cc none)
 touched _ _ h none = absurd (cc none)
@@ -39,6 +39,9 @@ step_by : (z : Sizes) (v : View) (a : ℕ) (s : Option PartStep) (note : ℕ) (t
 step_by z v a None note touch makes touches = let T = touches refl in subst (StepIn z v a) (sym T.2) (Touches T.0 T.1)
 step_by z v a (Some step) note touch makes touches = Makes step note (makes step refl)
 
+-- It is the step of a part that its actor may make, where it is one of a part, and else a touch.
+pub step_of : (z : Sizes) (v : View) (a : ℕ) (command : Command) (p : Place) → MakesAt z v a p command → StepIn z v a (task_at p command (v.hand a))
+step_of z v a command p makes = step_by z v a (part_at p command (v.hand a)) (note_at p command (v.hand a)) (touch_at command (v.hand a)) makes (touched p command (v.hand a))
+
 pub step_in : (z : Sizes) (v : View) (a : ℕ) (line : Line) (command : Command) (p : Place) → AreSmall v → IsStep z v a line command p → Invariant z v → TopicsInvariant z v → StepIn z v a (task_at p command (v.hand a))
-step_in z v a line command p small S I P =
-    step_by z v a (part_at p command (v.hand a)) (note_at p command (v.hand a)) (touch_at command (v.hand a)) (makes_at z v a line command p small S I P) (touched p command (v.hand a))
+step_in z v a line command p small S I P = step_of z v a command p (makes_at z v a line command p small S I P)

@@ -77,8 +77,7 @@ answers_behind (Ends answer) line actor answers own = rw own refl
 
 begun_behind : (o : Outcome) (line : Line) (answers : List AnsweredLine) → GoesUnderWay o → begun_count (place_after o) (length (answers_after o line answers)) ≡ suc (length answers)
 begun_behind (Goes place.Between) line answers under = absurd under
-begun_behind (Goes (place.Access p)) line answers under = refl
-begun_behind (Goes (place.SetSlot p)) line answers under = refl
+begun_behind (Goes _) line answers under = refl
 begun_behind (Ends answer) line answers under = count_push answers (record { number = line.number; actor = line.actor; answer = answer })
 
 take_next : (lines : List Line) (n : ℕ) → n < length lines → take (suc n) lines ≡ take n lines ++ unwrap_or (slice_get lines n) no_line ∷ []
