@@ -7,6 +7,7 @@ pub mod FaultKnown
 pub mod FaultNeeds
 pub mod FaultSame
 pub mod FirstUsable
+pub mod Forms
 pub mod KnowsKept
 pub mod KnowsStay
 pub mod LinesKept

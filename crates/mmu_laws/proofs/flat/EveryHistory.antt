@@ -37,7 +37,8 @@ use Rattle.mmu_core.proofs.machine.Stepping.{IsStep}
 use Rattle.mmu_core.proofs.start.Starts.{hand_is, none_live, start_good, word_at_start}
 use Rattle.mmu_core.proofs.machine.Which.{events_of_part, has_line_is}
 use Rattle.mmu_core.proofs.machine.Worlds.{Takes, TakesPart, good_step, takes, view_small}
-use Rattle.mmu_core.proofs.lines.AccessParts.{AreSmall, makes_at}
+use Rattle.mmu_core.proofs.lines.AccessParts.{AreSmall}
+use Rattle.mmu_core.proofs.invariant.Kept.{makes_at}
 use Rattle.mmu_laws.proofs.flat.FlatKept.{flat_kept, told_events, told_is_events}
 use Rattle.mmu_laws.proofs.flat.FlatStill.{others_held, under_still}
 use Rattle.mmu_core.proofs.machine.PartStepping.{IsPart, idle_never}

@@ -41,7 +41,7 @@ use Rattle.mmu_core.proofs.machine.Columns.{at_upd}
 use Rattle.mmu_laws.proofs.flat.FlatSteps.{Ready, StepGoes, UnderAt}
 use Rattle.mmu_laws.proofs.flat.SetSlotFlat.{set_slot_goes}
 use Rattle.mmu_core.proofs.machine.Which.{events_of_line, has_line_is}
-use Rattle.mmu_core.proofs.lines.AccessParts.{MakesAt}
+use Rattle.mmu_core.proofs.invariant.Kept.{MakesAt}
 use Rattle.mmu_core.proofs.machine.Stepping.{IsStep}
 use Rattle.mmu_laws.proofs.flat.Told.{line_behind, told, told_facts, told_lawful, told_line, told_others}
 use Rattle.mmu_laws.proofs.flat.FlatStill.{line_held, part_or, under_still}

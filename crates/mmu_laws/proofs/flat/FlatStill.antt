@@ -32,7 +32,7 @@ use Rattle.mmu_laws.proofs.flat.AccessFlat.{IsPartOr}
 use Rattle.mmu_core.proofs.machine.Columns.{upd_other}
 use Rattle.mmu_core.proofs.slots.LiveStays.{SetStays, touch_leaves_pool}
 use Rattle.mmu_core.proofs.machine.PartStepping.{IsPart}
-use Rattle.mmu_core.proofs.lines.AccessParts.{MakesAt}
+use Rattle.mmu_core.proofs.invariant.Kept.{MakesAt}
 use Rattle.mmu_core.proofs.lines.StepIn.{StepIn, Makes, Touches, step_of}
 use Rattle.mmu_core.proofs.held.OldSets.{held_words_stay}
 use Rattle.mmu_core.proofs.slots.SlotsStay.{below_stay}

@@ -24,7 +24,8 @@ use Rattle.mmu_core.specs.machine.Outcomes.{answers_after, place_after}
 use Rattle.mmu_core.specs.machine.View.{View, answer_in, hand_after, upd}
 use Rattle.mmu_core.proofs.machine.Columns.{at_upd}
 use Rattle.mmu_laws.proofs.flat.FlatKept.{other_actor, same_actor, told_events}
-use Rattle.mmu_core.proofs.machine.HandAfter.{GoesUnderWay, outcome_goes}
+use Rattle.mmu_core.proofs.lines.Forms.{outcome_goes}
+use Rattle.mmu_core.proofs.machine.GoesOn.{GoesUnderWay}
 use Rattle.mmu_laws.proofs.flat.LineEvents.{tells_within}
 use Rattle.mmu_core.proofs.machine.Stepping.{IsStep}
 use Rattle.mmu_laws.proofs.flat.ToldOf.{answered_with, answers_by_more, answers_told, begins_told, begun_by, begun_by_append, begun_from, other_answers, other_begins, own_answers, own_begins}
