@@ -1,6 +1,6 @@
 -- An access that is about to touch has looked at the pause in this stay in the guest.
 use Rattle.std.proofs.Common.{◌≡◌, ◌≢◌, ℕ, List, [], ◌∷◌, ◌++◌, refl, sym, subst, ap, ◌∙◌, arith}
-use Rattle.std.specs.Prelude.{Bool, true, false, ◌==◌, nat_lt, if◌then◌else◌, Option, Some, None, ◌+◌, slice_index}
+use Rattle.std.specs.Prelude.{Bool, true, false, Option, Some, None, slice_index}
 use Rattle.core_views.specs.declared.cache.Translation.{Translation}
 use Rattle.core_views.specs.declared.kind.Kind.{Kind}
 use Rattle.core_views.specs.declared.kind.StepKind.TheVariants as kind
@@ -13,13 +13,10 @@ use Rattle.core_views.specs.declared.place.FaultNext.TheVariants as next_of
 use Rattle.core_views.specs.declared.place.Leaving.TheVariants as leaving
 use Rattle.core_views.specs.declared.place.Place.{Place}
 use Rattle.core_views.specs.declared.place.Place.TheVariants as place
-use Rattle.core_views.specs.declared.place.SetSlotPlace.{SetSlotPlace}
-use Rattle.core_views.specs.declared.place.SetSlotPlace.TheVariants.{Claim}
 use Rattle.core_views.specs.declared.sizes.Sizes.{Sizes}
-use Rattle.core_views.specs.declared.topics.MapClaim.{MapClaim}
 use Rattle.core_views.specs.declared.topics.Stay.TheVariants.{Guest}
 use Rattle.core_views.specs.declared.trace.Command.{Command}
-use Rattle.core_views.specs.declared.trace.Command.TheVariants.{Access, SetSlot}
+use Rattle.core_views.specs.declared.trace.Command.TheVariants.{Access}
 use Rattle.core_views.specs.declared.trace.Op.{Op}
 use Rattle.core_views.specs.Held.{Held}
 use Rattle.core_views.specs.Kinds.{code_of}
@@ -27,24 +24,24 @@ use Rattle.core_views.specs.Slots.{is_write}
 use Rattle.core_views.specs.SlotSets.{MemorySlots}
 use Rattle.spte_words.specs.declared.spte_kind.SpteKind.{SpteKind}
 use Rattle.spte_words.specs.declared.spte_kind.SpteKind.TheVariants as entry_kind
-use Rattle.spte_words.specs.Areas.{words_of_bits}
 use Rattle.spte_words.specs.Entries.{kind_of}
 use Rattle.part_steps.specs.declared.part_step.PartStep.TheVariants as part
 use Rattle.mmu_core.specs.lines.AccessSteps.{access_outcome, behind_fault, pause_next, walk_next}
 use Rattle.mmu_core.specs.lines.Cached.{first_usable}
 use Rattle.mmu_laws.specs.causes.Causes.{HasMade}
 use Rattle.mmu_core.specs.machine.Enabled.{mmu}
-use Rattle.mmu_core.specs.lines.FaultSteps.{allows_access, at_map_word, fault_next, tries_page}
+use Rattle.mmu_core.specs.lines.FaultSteps.{allows_access, fault_next}
 use Rattle.mmu_core.specs.invariant.Laws.{IsSound}
 use Rattle.mmu_core.specs.machine.Machine.{May, Step, World, answered, hand_in, run}
 use Rattle.mmu_core.specs.machine.Outcomes.{place_after}
+use Rattle.mmu_core.specs.declared.outcome.Outcome.{Outcome}
 use Rattle.mmu_core.specs.declared.outcome.Outcome.TheVariants.{Goes, Ends}
-use Rattle.core_views.specs.declared.answer.Answer.TheVariants.{Starved}
-use Rattle.mmu_core.specs.lines.SetSlotSteps.{claim_outcome, set_slot_outcome}
 use Rattle.mmu_core.specs.machine.Steps.{first_place, outcome_at}
 use Rattle.mmu_laws.proofs.causes.Changes.{made_longer, made_now}
 use Rattle.mmu_laws.proofs.causes.EachLine.{IsStepAt, LineSights, LinesSee, each_line}
 use Rattle.mmu_laws.proofs.causes.MadeSteps.{Makes, word_on}
+use Rattle.mmu_core.proofs.lines.Forms.{outcome_apart}
+use Rattle.mmu_core.proofs.machine.GoesOn.{GoesToNoAccess}
 use Rattle.mmu_core.proofs.start.Starts.{hand_is, start_good}
 use Rattle.core_theorem.specs.Stays.{FindsNoPause, PauseIsSeenInStay, StaysInGuest}
 
@@ -126,28 +123,21 @@ module _ (z : Sizes) (w : World Held) (ss : List (Step Kind)) (s : Step Kind) (G
   access_saw (Fault p) gfn word op K S = fault_saw (fault_next p h.state.sizes gfn (is_write op) h.topics v)
   access_saw _ gfn word op K S = tt
 
-  claim_saw : (tries : Bool) (y : Sizes) (claim : MapClaim) (x : ℕ) → SawNow (place_after (claim_outcome tries y claim x))
-  claim_saw true y claim x = tt
-  claim_saw false y claim x = by (nat_lt (claim.at + (if x == 0 then 1 else 0)) (words_of_bits y.pool))
-    where
-      by : (b : Bool) → SawNow (place_after (if b then Goes (place.SetSlot (Claim true)) else Ends Starved))
-      by true = tt
-      by false = tt
-
-  setting_saw : (p : SetSlotPlace) → SawNow (place_after (set_slot_outcome p h v))
-  setting_saw (Claim begun) = claim_saw (tries_page begun h.topics.claim) h.state.sizes (at_map_word begun h.topics.claim) v
-  setting_saw _ = tt
+  -- A line of another form goes to no place of a stay.
+  other_saw : (o : Outcome) → GoesToNoAccess o → SawNow (place_after o)
+  other_saw (Goes (place.Access p)) other = absurd other
+  other_saw (Goes _) other = tt
+  other_saw (Ends answer) other = tt
 
   line_saw : (p : Place) (c : Command) → IsStepAt h s p c → PlaceSaw z w a p ss → SawNow (place_after (outcome_at p c h v))
   line_saw (place.Access p) (Access gfn word op) K S = access_saw p gfn word op K S
-  line_saw (place.SetSlot p) (SetSlot id slot) K S = setting_saw p
-  line_saw place.Between _ K S = tt
-  line_saw _ _ K S = absurd K.knows
+  line_saw (place.Access p) _ K S = absurd K.knows
+  line_saw p c K S = other_saw (outcome_at p c h v) (outcome_apart p c h v tt)
 
 module _ (z : Sizes) (w : World Held) where
   first_saw : (actor : ℕ) (y : Sizes) (slots : MemorySlots) (c : Command) (ss : List (Step Kind)) → PlaceSaw z w actor (first_place y slots c) ss
   first_saw actor y slots (Access gfn word op) ss = tt
-  first_saw actor y slots (SetSlot id slot) ss = tt
+  first_saw actor y slots _ ss = tt
 
   -- No other actor's step ends the stay.
   others_access : (actor : ℕ) (p : AccessPlace) (ss : List (Step Kind)) (s : Step Kind) → s.actor ≢ actor → AccessSaw z w actor p ss → AccessSaw z w actor p (ss ++ s ∷ [])
