@@ -1,6 +1,8 @@
 -- The step of a line, by its form: a step of a part is one that its actor may make, and the invariant holds after it.
-use Rattle.std.proofs.Common.{◌≡◌, ℕ, subst}
+use Rattle.std.proofs.Common.{◌≡◌, ℕ, refl, subst}
 use Rattle.std.specs.Prelude.{Some}
+use Rattle.core_views.specs.declared.actor.Actor.TheVariants.{Manager}
+use Rattle.core_views.specs.Held.{Held}
 use Rattle.core_views.specs.declared.place.Place.{Place}
 use Rattle.core_views.specs.declared.place.Place.TheVariants as place
 use Rattle.core_views.specs.declared.sizes.Sizes.{Sizes}
@@ -12,12 +14,12 @@ use Rattle.core_views.specs.declared.place.SetSlotPlace.{SetSlotPlace}
 use Rattle.part_steps.specs.declared.part_step.PartStep.{PartStep}
 use Rattle.mmu_core.specs.lines.PartAt.{part_at}
 use Rattle.mmu_core.specs.lines.SetSlotSteps.{set_slot_part}
-use Rattle.mmu_core.specs.invariant.Invariant.{Invariant}
+use Rattle.mmu_core.specs.invariant.Invariant.{Invariant, KnowsPart, LeavesPart, OwnLines}
 use Rattle.mmu_core.specs.invariant.TopicsInvariant.{TopicsInvariant}
 use Rattle.mmu_core.specs.machine.View.{View, stepped}
 use Rattle.mmu_core.proofs.lines.AccessKept.{access_kept}
 use Rattle.mmu_core.proofs.lines.KnowsKept.{knows_behind, needs_at, step_knows}
-use Rattle.mmu_core.proofs.slots.SetSlotKept.{set_slot_kept}
+use Rattle.mmu_core.proofs.slots.SetSlotKept.{set_slot_kept, setting_hand}
 use Rattle.mmu_core.proofs.machine.Stepping.{IsStep}
 use Rattle.mmu_core.proofs.lines.AccessParts.{AreSmall, makes_parts, may_make}
 use Rattle.mmu_core.proofs.machine.PartStepping.{IsPart}
@@ -49,3 +51,12 @@ step_kept z v a line (Access gfn word op) (place.Access p) small S I P =
     access_kept z v a line p gfn word op S I P (step_knows z v a line (Access gfn word op) (place.Access p) S I) (makes_parts z v a line p gfn word op small S I P) (knows_behind z v a line (Access gfn word op) (place.Access p) S I P)
 step_kept z v a line (SetSlot id slot) (place.SetSlot p) small S I P = set_slot_kept z v a line p id slot S I P (makes_setting z v a line p id slot small S I P) (knows_behind z v a line (SetSlot id slot) (place.SetSlot p) S I P)
 step_kept z v a line _ _ small S I P = absurd S.holds
+
+-- The hand for which a page leaves is the manager's.
+pub leaver_is_manager : (z : Sizes) (i k : ℕ) (h : Held) → OwnLines z i h → KnowsPart h.state.place h.state.line.command h → LeavesPart h.state.place h.topics → h.topics.leaving ≡ Some k → h.state.actor ≡ Manager
+leaver_is_manager z i k h O K L leaves = by h.state.place h.state.line.command refl refl K L
+  where
+    by : (p : Place) (c : Command) → h.state.place ≡ p → h.state.line.command ≡ c → KnowsPart p c h → LeavesPart p h.topics → h.state.actor ≡ Manager
+    by (place.SetSlot p) (SetSlot id slot) at is K L = setting_hand z i h p id slot O at is
+    by (place.SetSlot p) _ at is K L = absurd K
+    by _ c at is K L = let none = L refl in absurd (cc (none, leaves))
