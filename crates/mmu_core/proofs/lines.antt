@@ -1,4 +1,5 @@
 pub mod AccessKept
+pub mod AccessLeft
 pub mod AccessParts
 pub mod ByStep
 pub mod CachedKept

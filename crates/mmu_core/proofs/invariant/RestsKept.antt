@@ -17,7 +17,7 @@ use Rattle.core_views.specs.declared.topics.Invalidations.{Invalidations}
 use Rattle.core_views.specs.declared.topics.OwnedPage.{OwnedPage}
 use Rattle.core_views.specs.declared.topics.Topics.{Topics}
 use Rattle.core_views.specs.declared.trace.Command.{Command}
-use Rattle.core_views.specs.declared.trace.Command.TheVariants.{Access, SetSlot}
+use Rattle.core_views.specs.declared.trace.Command.TheVariants.{Access}
 use Rattle.core_views.specs.declared.trace.Line.{Line}
 use Rattle.core_views.specs.declared.trace.Op.{Op}
 use Rattle.core_views.specs.declared.trace.Op.TheVariants.{Read}
@@ -40,7 +40,6 @@ use Rattle.mmu_core.specs.lines.KnowsPart.{AccessKnows}
 use Rattle.part_steps.specs.PartBounds.{PartRests}
 use Rattle.part_steps.specs.PartSteps.{FoundSlot, GoesOnToWord, HasToFill, IsFresh, IsVcpu, LookedUp, MayEnter, OwnsTable, PartNeeds, next_watched, own_index, OwnsSet, MayPublish}
 use Rattle.mmu_core.specs.lines.Rests.{AcceptsAt, Rests, RestsAt, RestsOn}
-use Rattle.mmu_core.specs.lines.SetSlotSteps.{set_slot_part}
 use Rattle.part_steps.specs.SlotWords.{may_write, page_of}
 use Rattle.mmu_core.specs.machine.Steps.{line_at, place_at, task_at, task_of}
 use Rattle.part_steps.specs.Tasks.{map_of}
@@ -54,7 +53,8 @@ pub use Rattle.mmu_core.proofs.invariant.PartBounded.{host_at}
 use Rattle.mmu_core.proofs.words.PartFits.{part_within_by}
 use Rattle.mmu_core.proofs.machine.Stepping.{is_step}
 use Rattle.part_steps.specs.declared.task.Task.{Task}
-use Rattle.mmu_core.proofs.lines.Forms.{accepts_at, accepts_at_prop}
+use Rattle.mmu_core.proofs.invariant.Kept.{rests_by_needs}
+use Rattle.mmu_core.proofs.lines.Forms.{RestsOnPart, accepts_at, accepts_at_prop, other_rests}
 use Rattle.mmu_core.proofs.lines.ByStep.{StepAt, step_at, Makes, Touches}
 use Rattle.mmu_core.specs.invariant.Invariant.{Holds, HostWordsPart, Invariant, IsLeafFor, KnowsPart, SlotSetPart}
 use Rattle.mmu_core.proofs.lines.UsedTranslations.{uses_stays}
@@ -91,10 +91,9 @@ access_rests _ z v h gfn word op I same may R K e = tt
 
 rests_at : (p : Place) (command : Command) (z : Sizes) (v : View) (h : Held) → Invariant z v → h.state.sizes ≡ z → IsCommandFor z h.state.actor command → PartRests h → KnowsPart p command h
     → Holds z (v.words area.Pool) (v.words area.Host) (v.words area.Slots 0) p command h → NeedsAt p command h → RestsAt p command h
-rests_at place.Between command z v h I same may R K e N = tt
 rests_at (place.Access p) (Access gfn word op) z v h I same may R K e N = access_rests p z v h gfn word op I same may R K e
-rests_at (place.SetSlot p) (SetSlot id slot) z v h I same may R K e N = N
-rests_at _ _ z v h I same may R K e N = absurd K
+rests_at (place.Access p) _ z v h I same may R K e N = absurd K
+rests_at p command z v h I same may R K e N = rests_by_needs p command h tt K N
 
 pub hand_rests : (z : Sizes) (v : View) (a : ℕ) → Invariant z v → TopicsInvariant z v → a < actors_of z → length (v.hand a).answers < length (v.hand a).lines → Rests (v.hand a)
 hand_rests z v a I P there left =
@@ -242,11 +241,14 @@ on_stays : (s : Option PartStep) (gfn : ℕ) (write : Bool) (h : Held) → ∥ R
 on_stays None gfn write h x = record { guest = ∥∥₁_elim x (hlevel props) (λ N. N.guest); uses = uses_stays gfn write h (∥∥₁_map x (λ N. N.uses)); frame = ∥∥₁_elim x (hlevel props) (λ N. N.frame) }
 on_stays (Some step) gfn write h x = needs_stay step h x
 
+other_stays : (p : Place) (command : Command) (h : Held) → (RestsAt p command h → ⊥) ⊎ RestsOnPart p command h → ∥ RestsAt p command h ∥₁ → RestsAt p command h
+other_stays p command h (inl never) x = absurd (∥∥₁_elim x (hlevel props) never)
+other_stays p command h (inr P) x = P.rests (needs_stay P.step h (∥∥₁_map x P.needs))
+
 at_stays : (p : Place) (command : Command) (h : Held) → ∥ RestsAt p command h ∥₁ → RestsAt p command h
-at_stays place.Between command h x = tt
 at_stays (place.Access p) (Access gfn word op) h x = on_stays (access_part p gfn h.topics) gfn (is_write op) h x
-at_stays (place.SetSlot p) (SetSlot id slot) h x = needs_stay (set_slot_part p h id slot) h x
-at_stays _ _ h x = prop_stays (hlevel props) x
+at_stays (place.Access p) _ h x = prop_stays (hlevel props) x
+at_stays p command h x = other_stays p command h (other_rests p command h tt) x
 
 command_prop : (z : Sizes) (actor : Actor) (command : Command) → IsProp (IsCommandFor z actor command)
 command_prop z (Vcpu n) (Access gfn word op) = hlevel props

@@ -1,6 +1,7 @@
 -- What is so of the lines of every form: the one place where it is told by the form. A form of line writes a clause in each of these.
-use Rattle.std.proofs.Common.{ℕ, refl}
+use Rattle.std.proofs.Common.{◌≡◌, ◌⊎◌, inl, inr, ◌≤◌, ◌+◌, ℕ, refl, arith}
 use Rattle.std.proofs.Props.{props}
+use Rattle.std.specs.Prelude.{Some}
 use Rattle.core_views.specs.declared.place.AccessPlace.{AccessPlace}
 use Rattle.core_views.specs.declared.place.AccessPlace.TheVariants.{Leave, Fault}
 use Rattle.core_views.specs.declared.place.FaultEnd.{FaultEnd}
@@ -11,22 +12,31 @@ use Rattle.core_views.specs.declared.place.Leaving.TheVariants as leaving
 use Rattle.core_views.specs.declared.place.Place.{Place}
 use Rattle.core_views.specs.declared.place.Place.TheVariants as place
 use Rattle.core_views.specs.declared.sizes.Sizes.{Sizes}
+use Rattle.core_views.specs.declared.topics.Topics.{Topics}
 use Rattle.core_views.specs.declared.trace.Command.{Command}
 use Rattle.core_views.specs.declared.trace.Command.TheVariants.{Access, SetSlot}
 use Rattle.core_views.specs.declared.trace.Op.{Op}
 use Rattle.core_views.specs.Held.{Held}
 use Rattle.core_views.specs.Refusals.{set_refusal}
+use Rattle.core_views.specs.Sizes.{AreSizes}
 use Rattle.core_views.specs.SlotSets.{MemorySlots}
 use Rattle.core_views.specs.Slots.{is_write}
+use Rattle.part_steps.specs.declared.part_step.PartStep.{PartStep}
+use Rattle.part_steps.specs.declared.part_step.PartStep.TheVariants as part
+use Rattle.part_steps.specs.PartSteps.{PartNeeds}
 use Rattle.mmu_core.specs.invariant.LoadsPart.{Holds}
 use Rattle.mmu_core.specs.lines.AccessSteps.{access_outcome, behind_fault, fault_over}
 use Rattle.mmu_core.specs.lines.FaultSteps.{fault_next}
-use Rattle.mmu_core.specs.lines.Rests.{AcceptsAt, IsUnderWay}
+use Rattle.mmu_core.specs.lines.Bounds.{most_steps, steps_left}
+use Rattle.mmu_core.specs.lines.PartAt.{part_at}
+use Rattle.mmu_core.specs.lines.Rests.{AcceptsAt, IsUnderWay, RestsAt}
+use Rattle.mmu_core.specs.lines.SetSlotSteps.{set_slot_part}
 use Rattle.mmu_core.specs.machine.Steps.{first_place, outcome_at}
+use Rattle.mmu_core.proofs.lines.AccessLeft.{access_few}
 use Rattle.mmu_core.proofs.machine.GoesOn.{GoesToNoAccess, GoesUnderWay, IsNoAccess}
 use Rattle.mmu_core.proofs.slots.LiveStay.{StayLive, access_stays}
 use Rattle.mmu_core.proofs.slots.LiveStays.{OwnedStays}
-use Rattle.mmu_core.proofs.slots.SetSlotPlaces.{accepts_prop, set_slot_begins, set_slot_goes, set_slot_stays, setting_accepts}
+use Rattle.mmu_core.proofs.slots.SetSlotPlaces.{accepts_prop, set_slot_begins, set_slot_few, set_slot_goes, set_slot_stays, setting_accepts}
 
 -- ---- where a line goes on to
 
@@ -54,6 +64,29 @@ pub outcome_apart : (p : Place) (command : Command) (h : Held) (v : ℕ) → IsN
 outcome_apart (place.Access p) command h v other = absurd other
 outcome_apart (place.SetSlot p) (SetSlot id slot) h v other = (set_slot_goes p h v).1
 outcome_apart _ _ h v other = tt
+
+-- ---- what its step needs
+
+-- At a place of another form than an access a line rests on what the step of a part needs.
+pub record RestsOnPart (p : Place) (command : Command) (h : Held) : Type 0 where
+  pub step : PartStep
+  pub at : part_at p command h ≡ Some step
+  pub needs : RestsAt p command h → PartNeeds step h
+  pub rests : PartNeeds step h → RestsAt p command h
+
+-- Or the place is one of another form than the line's.
+pub other_rests : (p : Place) (command : Command) (h : Held) → IsNoAccess p → (RestsAt p command h → ⊥) ⊎ RestsOnPart p command h
+other_rests (place.Access p) command h other = absurd other
+other_rests place.Between command h other = inr (record { step = part.Seq; at = refl; needs = λ R. tt; rests = λ N. tt })
+other_rests (place.SetSlot p) (SetSlot id slot) h other = inr (record { step = set_slot_part p h id slot; at = refl; needs = λ R. R; rests = λ N. N })
+other_rests _ _ h other = inl (λ R. R)
+
+-- ---- how many steps it has left
+
+pub place_few : (p : Place) (z : Sizes) (t : Topics) → AreSizes z → t.walk.level ≤ 4 → steps_left p z t ≤ most_steps z
+place_few place.Between z t S most = omega arith
+place_few (place.Access p) z t S most = let few = access_few p z t most in let pool = S.pool.1 in omega (arith, few, pool)
+place_few (place.SetSlot p) z t S most = let few = set_slot_few p z t in let actors = S.actors in let pool = S.pool.1 in omega (arith, few, actors, pool)
 
 -- ---- what a line has loaded or stored
 

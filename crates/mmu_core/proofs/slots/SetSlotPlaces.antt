@@ -1,5 +1,5 @@
--- A slot line at its places: where it goes on to, what it has loaded, and what the manager's record accepts.
-use Rattle.std.proofs.Common.{◌≡◌, ℕ, ◌∙◌, ◌+◌}
+-- A slot line at its places: where it goes on to, what it has loaded, what the manager's record accepts, and how many steps it has left.
+use Rattle.std.proofs.Common.{◌≡◌, ◌≤◌, ℕ, ◌∙◌, ◌+◌, arith}
 use Rattle.std.proofs.Props.{props}
 use Rattle.std.specs.Prelude.{Bool, true, false, ◌==◌, if◌then◌else◌, nat_lt, Option, Some, None}
 use Rattle.core_views.specs.declared.answer.Answer.TheVariants.{Starved}
@@ -9,17 +9,21 @@ use Rattle.core_views.specs.declared.place.SetSlotPlace.{SetSlotPlace}
 use Rattle.core_views.specs.declared.place.SetSlotPlace.TheVariants.{Refuse, Claim, Publish, Release, Watch, Clear, Give}
 use Rattle.core_views.specs.declared.sizes.Sizes.{Sizes}
 use Rattle.core_views.specs.declared.topics.MapClaim.{MapClaim}
+use Rattle.core_views.specs.declared.topics.Topics.{Topics}
 use Rattle.core_views.specs.declared.trace.Command.TheVariants.{SetSlot}
 use Rattle.core_views.specs.declared.trace.Slot.{Slot as SlotOf}
 use Rattle.core_views.specs.Held.{Held}
 use Rattle.core_views.specs.Refusals.{set_refusal}
+use Rattle.core_views.specs.Sizes.{actors_of}
 use Rattle.core_views.specs.SlotSets.{MemorySlots}
 use Rattle.spte_words.specs.Areas.{words_of_bits}
 use Rattle.mmu_core.specs.declared.outcome.Outcome.TheVariants.{Goes, Ends}
 use Rattle.mmu_core.specs.invariant.LoadsPart.{FillsSet, Holds, SetSlotHolds}
+use Rattle.mmu_core.specs.lines.Bounds.{set_slot_left}
 use Rattle.mmu_core.specs.lines.FaultSteps.{at_map_word, tries_page}
 use Rattle.mmu_core.specs.lines.Rests.{RecordAccepts}
 use Rattle.mmu_core.specs.lines.SetSlotSteps.{claim_outcome, set_slot_first, set_slot_outcome}
+use Rattle.mmu_core.proofs.lines.AccessLeft.{claim_few}
 use Rattle.mmu_core.proofs.machine.GoesOn.{GoesToNoAccess, GoesUnderWay}
 use Rattle.mmu_core.proofs.slots.LiveStays.{OwnedStays}
 
@@ -67,3 +71,10 @@ setting_accepts _ id slot z pool h e = tt
 pub accepts_prop : (p : SetSlotPlace) (total id : ℕ) (slot : SlotOf) (slots : MemorySlots) → IsProp (RecordAccepts p total id slot slots)
 accepts_prop Publish total id slot slots = hlevel props
 accepts_prop _ total id slot slots = hlevel props
+
+-- ---- how many steps it has left
+
+-- Few beside those of a claim, of 64 pages a word, and other actors.
+pub set_slot_few : (p : SetSlotPlace) (z : Sizes) (t : Topics) → set_slot_left p z t ≤ 521 + actors_of z + words_of_bits z.pool
+set_slot_few (Claim begun) z t = let few = claim_few begun z t in omega (arith, few)
+set_slot_few _ z t = omega arith
