@@ -93,8 +93,7 @@ answers_few z u i R lt = subst (λ (x : World Held). length (hand_in mmu x i).an
 
 begun_few : (p : Place) (h : Held) → UnderWay p h → length h.answers ≤ length h.lines → length h.answers + one_if (is_under_way p) ≤ length h.lines
 begun_few place.Between h under few = omega (arith, few)
-begun_few (place.Access p) h under few = let left = under.1 in omega (arith, left)
-begun_few (place.SetSlot p) h under few = let left = under.1 in omega (arith, left)
+begun_few _ h under few = let left = under.1 in omega (arith, left)
 
 -- ---- from step to step
 

@@ -56,8 +56,7 @@ new_beginning (place.Access (Root again)) is = absurd (cc is)
 new_beginning (place.Access (Walk again)) is = absurd (cc is)
 new_beginning (place.Access Touch) is = absurd (cc is)
 new_beginning (place.Access (Leave how)) is = absurd (cc is)
-new_beginning (place.SetSlot p) is = absurd (cc is)
-new_beginning place.Between is = absurd (cc is)
+new_beginning _ is = absurd (cc is)
 
 -- A run to a moment, some steps after it and one more.
 module _ (z : Sizes) (lines : List Line) (w : World Held) (ss ts : List (Step Kind)) (s : Step Kind) (R : IsRun z lines w (ss ++ (ts ++ s ∷ []))) where

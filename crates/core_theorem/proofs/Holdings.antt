@@ -18,6 +18,7 @@ use Rattle.mmu_core.proofs.machine.Worlds.{good_step}
 use Rattle.core_theorem.specs.Holdings.{HeldSetsAreKnown, NoneHoldsFreePages, NoOtherHolds, WatchedHoldNoOldSet, OfEachHeld, PagesAreReusedAlone}
 use Rattle.core_theorem.specs.Pages.{Owns}
 use Rattle.core_theorem.specs.Runs.{IsRun}
+use Rattle.core_theorem.proofs.SetsCleared.{gives_old}
 use Rattle.core_theorem.proofs.Runs.{before, last_actor, may_last, sound}
 use Rattle.core_theorem.proofs.WalksKept.{stands_at}
 use Rattle.core_theorem.specs.Walks.{table_at, walk_of}
@@ -25,21 +26,8 @@ use Rattle.mmu_core.specs.invariant.TreePart.{stands}
 use Rattle.mmu_core.specs.invariant.TreePart.Use.{SlotSet}
 use Rattle.std.proofs.lemmas.Bool.Decides.{nat_tests}
 use Rattle.part_steps.specs.PartSteps.{MayGiveOld, next_watched, own_index}
-use Rattle.mmu_core.specs.lines.SetSlotKnows.{SetSlotKnows}
-use Rattle.mmu_core.specs.lines.SetSlotSteps.{set_slot_task}
-use Rattle.mmu_core.specs.invariant.Invariant.{KnowsPart, LeavesPart, UnderWay}
-use Rattle.mmu_core.specs.machine.Steps.{line_at, place_at, task_at, task_of}
-use Rattle.mmu_core.proofs.machine.Which.{has_line_is, is_next}
-use Rattle.part_steps.specs.declared.task.Task.{Task}
 use Rattle.core_views.specs.Kinds.{code_of}
-use Rattle.core_views.specs.declared.place.Place.{Place}
-use Rattle.core_views.specs.declared.place.Place.TheVariants as place
-use Rattle.core_views.specs.declared.place.SetSlotPlace.{SetSlotPlace}
-use Rattle.core_views.specs.declared.place.SetSlotPlace.TheVariants as set_slot
 use Rattle.core_views.specs.declared.kind.StepKind.TheVariants as kind
-use Rattle.core_views.specs.declared.trace.Command.{Command}
-use Rattle.core_views.specs.declared.trace.Command.TheVariants.{Access, SetSlot}
-use Rattle.core_views.specs.declared.trace.Slot.{Slot}
 use Rattle.core_views.specs.declared.kind.Kind.{Kind}
 
 module _ (z : Sizes) (u : World Held) (G : IsSound z u) where
@@ -120,31 +108,6 @@ module _ (z : Sizes) (u : World Held) (G : IsSound z u) where
           let by_is : H.by ≡ watcher = one_leaver G.topics.uses H.by watcher page H.there there H.leaves left in
           let not_yet : (hand_in mmu u watcher).topics.watched ≤ other = subst (λ i. (hand_in mmu u i).topics.watched ≤ other) by_is H.unwatched in
           omega (arith, not_yet, passed)
-
-  -- A page is given back while one is leaving: this one, at the last place of a slot setting, after the watch.
-  pub gives_old : (s : Step Kind) (page : ℕ) → s.actor < actors_of z → May mmu u s → s.kind.code ≡ code_of kind.Give → leaving s.actor ≡ Some page
-      → ((hand_in mmu u s.actor).state.place ≡ place.SetSlot set_slot.Give) × MayGiveOld (hand_in mmu u s.actor)
-  gives_old s page there may gives left = by h.state.place h.state.line.command refl refl (G.holds.knows s.actor there) (G.holds.leaves s.actor there) (G.holds.lines s.actor there).under
-    where
-      h : Held
-      h = hand_in mmu u s.actor
-
-      old : (p : SetSlotPlace) (id : ℕ) (slot : Slot) → SetSlotKnows p h → LeavesPart (place.SetSlot p) h.topics → code_of (set_slot_task p h id slot).kind ≡ code_of kind.Give → (place.SetSlot p ≡ place.SetSlot set_slot.Give) × MayGiveOld h
-      old set_slot.Give id slot K L e = (refl, K.1)
-      old set_slot.Release id slot K L e = absurd (omega (arith, e))
-      old set_slot.Watch id slot K L e = absurd (omega (arith, e))
-      old set_slot.Clear id slot K L e = absurd (omega (arith, e))
-      old _ id slot K L e = let none = L refl in absurd (cc (none, left))
-
-      by : (p : Place) (c : Command) → h.state.place ≡ p → h.state.line.command ≡ c → KnowsPart p c h → LeavesPart p h.topics → UnderWay p h → (h.state.place ≡ place.SetSlot set_slot.Give) × MayGiveOld h
-      by place.Between c at is K L U = let none = L refl in absurd (cc (none, left))
-      by (place.Access p) c at is K L U = let none = L refl in absurd (cc (none, left))
-      by (place.SetSlot p) (Access gfn word op) at is K L U = absurd K
-      by (place.SetSlot p) (SetSlot id slot) at is K L U =
-          let N = is_next h s.kind may.enabled (has_line_is h U.1) in
-          let task : task_of h ≡ set_slot_task p h id slot = ap (λ q. task_at (place_at q h) (line_at q h).command h) at ∙ ap (λ c. task_at (place.SetSlot p) c h) is in
-          let there_now = old p id slot K L (ap (λ (t : Task). code_of t.kind) (sym task) ∙ (sym (ap (λ (k : Kind). k.code) N.is) ∙ gives)) in
-          (at ∙ there_now.0, there_now.1)
 
 pub none_holds_free_pages : NoneHoldsFreePages
 none_holds_free_pages z lines w ss R actor there = none_free z (run mmu w ss) (sound z lines w ss R) actor there

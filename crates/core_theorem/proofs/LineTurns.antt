@@ -30,8 +30,7 @@ and_false false c no_ = refl
 
 own_few : (p : Place) (n most : ℕ) → n ≤ most → counted p n ≤ most
 own_few place.Between n most few = omega arith
-own_few (place.Access p) n most few = few
-own_few (place.SetSlot p) n most few = few
+own_few _ n most few = few
 
 one_few : (b : Bool) → one_if b ≤ 1
 one_few true = omega arith

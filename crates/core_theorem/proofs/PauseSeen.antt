@@ -13,12 +13,10 @@ use Rattle.core_views.specs.declared.place.FaultNext.TheVariants as next_of
 use Rattle.core_views.specs.declared.place.Leaving.TheVariants as leaving
 use Rattle.core_views.specs.declared.place.Place.{Place}
 use Rattle.core_views.specs.declared.place.Place.TheVariants as place
-use Rattle.core_views.specs.declared.place.SetSlotPlace.{SetSlotPlace}
-use Rattle.core_views.specs.declared.place.SetSlotPlace.TheVariants.{Claim}
 use Rattle.core_views.specs.declared.sizes.Sizes.{Sizes}
 use Rattle.core_views.specs.declared.topics.Stay.TheVariants.{Guest}
 use Rattle.core_views.specs.declared.trace.Command.{Command}
-use Rattle.core_views.specs.declared.trace.Command.TheVariants.{Access, SetSlot}
+use Rattle.core_views.specs.declared.trace.Command.TheVariants.{Access}
 use Rattle.core_views.specs.declared.trace.Op.{Op}
 use Rattle.core_views.specs.Held.{Held}
 use Rattle.core_views.specs.Kinds.{code_of}
@@ -39,12 +37,15 @@ use Rattle.mmu_core.specs.lines.FaultSteps.{allows_access, fault_next}
 use Rattle.mmu_core.specs.invariant.Laws.{IsSound}
 use Rattle.mmu_core.specs.machine.Machine.{May, Step, World, answered, hand_in, run}
 use Rattle.mmu_core.specs.machine.Outcomes.{place_after}
+use Rattle.mmu_core.specs.declared.outcome.Outcome.{Outcome}
 use Rattle.mmu_core.specs.declared.outcome.Outcome.TheVariants.{Goes, Ends}
 use Rattle.mmu_core.specs.lines.SetSlotSteps.{after_claim, set_slot_outcome}
 use Rattle.mmu_core.specs.machine.Steps.{first_place, outcome_at}
 use Rattle.mmu_laws.proofs.causes.Changes.{made_longer, made_now}
 use Rattle.mmu_laws.proofs.causes.EachLine.{IsStepAt, LineSights, LinesSee, each_line}
 use Rattle.mmu_laws.proofs.causes.MadeSteps.{Makes, word_on}
+use Rattle.mmu_core.proofs.lines.Forms.{outcome_apart}
+use Rattle.mmu_core.proofs.machine.GoesOn.{GoesToNoAccess}
 use Rattle.mmu_core.proofs.start.Starts.{hand_is, start_good}
 use Rattle.core_theorem.specs.Stays.{FindsNoPause, PauseIsSeenInStay, StaysInGuest}
 
@@ -126,24 +127,21 @@ module _ (z : Sizes) (w : World Held) (ss : List (Step Kind)) (s : Step Kind) (G
   access_saw (Fault p) gfn word op K S = fault_saw (fault_next p h.state.sizes gfn (is_write op) h.topics v)
   access_saw _ gfn word op K S = tt
 
-  claim_saw : (next : ClaimNext) → SawNow (place_after (after_claim next))
-  claim_saw claims.Goes = tt
-  claim_saw _ = tt
-
-  setting_saw : (p : SetSlotPlace) → SawNow (place_after (set_slot_outcome p h v))
-  setting_saw (Claim begun) = claim_saw (claim_next begun h.state.sizes h.topics.claim v)
-  setting_saw _ = tt
+  -- A line of another form goes to no place of a stay.
+  other_saw : (o : Outcome) → GoesToNoAccess o → SawNow (place_after o)
+  other_saw (Goes (place.Access p)) other = absurd other
+  other_saw (Goes _) other = tt
+  other_saw (Ends answer) other = tt
 
   line_saw : (p : Place) (c : Command) → IsStepAt h s p c → PlaceSaw z w a p ss → SawNow (place_after (outcome_at p c h v))
   line_saw (place.Access p) (Access gfn word op) K S = access_saw p gfn word op K S
-  line_saw (place.SetSlot p) (SetSlot id slot) K S = setting_saw p
-  line_saw place.Between _ K S = tt
-  line_saw _ _ K S = absurd K.knows
+  line_saw (place.Access p) _ K S = absurd K.knows
+  line_saw p c K S = other_saw (outcome_at p c h v) (outcome_apart p c h v tt)
 
 module _ (z : Sizes) (w : World Held) where
   first_saw : (actor : ℕ) (y : Sizes) (slots : MemorySlots) (c : Command) (ss : List (Step Kind)) → PlaceSaw z w actor (first_place y slots c) ss
   first_saw actor y slots (Access gfn word op) ss = tt
-  first_saw actor y slots (SetSlot id slot) ss = tt
+  first_saw actor y slots _ ss = tt
 
   -- No other actor's step ends the stay.
   others_access : (actor : ℕ) (p : AccessPlace) (ss : List (Step Kind)) (s : Step Kind) → s.actor ≢ actor → AccessSaw z w actor p ss → AccessSaw z w actor p (ss ++ s ∷ [])

@@ -1,16 +1,18 @@
--- Where a slot setting is about to give the old slot set's page back, the page's role is cleared.
-use Rattle.std.proofs.Common.{◌≡◌, ◌≢◌, ◌⊎◌, inl, inr, ◌<◌, ℕ, List, refl, sym, subst, ap, ◌∙◌, ◌≤◌}
+-- Where a slot line is about to give the old slot set's page back, the page's role is cleared.
+use Rattle.std.proofs.Common.{◌≡◌, ◌≢◌, ◌⊎◌, inl, inr, ◌<◌, ℕ, List, refl, sym, subst, ap, ◌∙◌, ◌≤◌, arith}
 use Rattle.std.specs.Prelude.{Bool, true, false, ◌+◌, ◌==◌, if◌then◌else◌, nat_lt, Option, Some, None, is_some}
 use Rattle.core_views.specs.declared.answer.Answer.TheVariants.{Starved}
 use Rattle.core_views.specs.declared.kind.Kind.{Kind}
+use Rattle.core_views.specs.declared.kind.StepKind.TheVariants as kind
+use Rattle.core_views.specs.Kinds.{code_of}
 use Rattle.core_views.specs.declared.place.Place.{Place}
 use Rattle.core_views.specs.declared.place.Place.TheVariants as place
 use Rattle.core_views.specs.declared.place.SetSlotPlace.{SetSlotPlace}
-use Rattle.core_views.specs.declared.place.SetSlotPlace.TheVariants.{Claim, Fill, Role, Exclude, Count, Close, Publish, Watch, Clear, Give}
+use Rattle.core_views.specs.declared.place.SetSlotPlace.TheVariants.{Claim, Fill, Role, Exclude, Count, Close, Publish, Watch, Clear, Give, Release}
 use Rattle.core_views.specs.declared.sizes.Sizes.{Sizes}
 use Rattle.core_views.specs.declared.topics.Topics.{Topics}
 use Rattle.core_views.specs.declared.trace.Command.{Command}
-use Rattle.core_views.specs.declared.trace.Command.TheVariants.{Access, SetSlot}
+use Rattle.core_views.specs.declared.trace.Command.TheVariants.{SetSlot}
 use Rattle.core_views.specs.declared.trace.Line.{Line}
 use Rattle.core_views.specs.declared.trace.Op.{Op}
 use Rattle.core_views.specs.declared.trace.Op.TheVariants.{Read}
@@ -22,7 +24,7 @@ use Rattle.spte_words.specs.declared.area.Area.TheVariants as area
 use Rattle.part_steps.specs.declared.part_step.PartStep.{PartStep}
 use Rattle.part_steps.specs.declared.part_step.PartStep.TheVariants as part
 use Rattle.part_steps.specs.declared.task.Task.{Task}
-use Rattle.part_steps.specs.PartSteps.{next_watched, own_index, page_left, part_task, words_filled, table_page}
+use Rattle.part_steps.specs.PartSteps.{next_watched, own_index, page_left, part_task, words_filled, table_page, MayGiveOld}
 use Rattle.part_steps.specs.Tasks.{kind_of_task}
 use Rattle.part_steps.specs.TopicSteps.{topics_after}
 use Rattle.mmu_core.specs.declared.outcome.Outcome.TheVariants.{Goes}
@@ -31,13 +33,15 @@ use Rattle.mmu_core.specs.declared.claim.ClaimNext.TheVariants as claims
 use Rattle.mmu_core.specs.lines.AccessSteps.{touch_of}
 use Rattle.mmu_core.specs.machine.Enabled.{mmu}
 use Rattle.mmu_core.specs.lines.ClaimSteps.{claim_next}
-use Rattle.mmu_core.specs.invariant.Invariant.{Invariant, KnowsPart, UnderWay}
+use Rattle.mmu_core.specs.invariant.Invariant.{Invariant, KnowsPart, UnderWay, LeavesPart}
+use Rattle.mmu_core.specs.lines.FaultSteps.{at_map_word, tries_page}
 use Rattle.mmu_core.specs.invariant.Laws.{IsSound}
 use Rattle.mmu_core.specs.machine.Machine.{May, Step, World, effect, hand_in, run}
 use Rattle.mmu_core.specs.machine.Outcomes.{place_after}
 use Rattle.mmu_core.specs.lines.PartAt.{task_at}
-use Rattle.mmu_core.specs.lines.SetSlotSteps.{after_claim, watch_next, set_slot_note, set_slot_outcome, set_slot_task}
-use Rattle.mmu_core.specs.machine.Steps.{has_line, line_at, place_at}
+use Rattle.mmu_core.specs.lines.SetSlotSteps.{after_claim, watch_next, set_slot_note, set_slot_outcome, set_slot_task, claim_outcome, looked_at}
+use Rattle.mmu_core.specs.machine.Steps.{has_line, line_at, place_at, task_of}
+use Rattle.mmu_core.specs.lines.SetSlotKnows.{SetSlotKnows}
 use Rattle.mmu_core.specs.invariant.TopicsInvariant.{TopicsInvariant}
 use Rattle.mmu_core.specs.machine.View.{View, answer_in, part_stepped, stepped, upd, view, word_in, words_after}
 use Rattle.mmu_laws.proofs.causes.Changes.{of_each_list}
@@ -50,12 +54,39 @@ use Rattle.mmu_core.proofs.slots.SettingHolds.{either_place, each_watch}
 use Rattle.mmu_core.proofs.start.Starts.{hand_is, start_good}
 use Rattle.mmu_core.proofs.lines.StepIn.{StepIn, Makes, Touches, step_in}
 use Rattle.mmu_core.proofs.machine.Stepping.{IsStep}
-use Rattle.mmu_core.proofs.machine.Which.{has_line_is}
+use Rattle.mmu_core.proofs.machine.Which.{has_line_is, is_next}
 use Rattle.mmu_core.proofs.machine.Worlds.{Takes, TakesPart, good_step, takes, view_small}
 use Rattle.core_theorem.specs.Holdings.{ReturnedSetsAreCleared}
 use Rattle.core_theorem.specs.Runs.{IsRun}
-use Rattle.core_theorem.proofs.Holdings.{gives_old}
 use Rattle.core_theorem.proofs.Runs.{before, last_actor, may_last, sound}
+
+-- ---- where a page is given back
+
+-- A page is given back while one is leaving: this one, at the last place of a slot line, after the watch.
+pub gives_old : (z : Sizes) (u : World Held) (G : IsSound z u) (s : Step Kind) (page : ℕ) → s.actor < actors_of z → May mmu u s → s.kind.code ≡ code_of kind.Give → (hand_in mmu u s.actor).topics.leaving ≡ Some page
+    → ((hand_in mmu u s.actor).state.place ≡ place.SetSlot Give) × MayGiveOld (hand_in mmu u s.actor)
+gives_old z u G s page there may gives left = by h.state.place h.state.line.command refl refl (G.holds.knows s.actor there) (G.holds.leaves s.actor there) (G.holds.lines s.actor there).under
+  where
+    h : Held
+    h = hand_in mmu u s.actor
+
+    old : (p : SetSlotPlace) (id : ℕ) (slot : Slot) → SetSlotKnows p h → LeavesPart (place.SetSlot p) h.topics → code_of (set_slot_task p h id slot).kind ≡ code_of kind.Give → (place.SetSlot p ≡ place.SetSlot Give) × MayGiveOld h
+    old Give id slot K L e = (refl, K.1)
+    old Release id slot K L e = absurd (omega (arith, e))
+    old Watch id slot K L e = absurd (omega (arith, e))
+    old Clear id slot K L e = absurd (omega (arith, e))
+    old _ id slot K L e = let none = L refl in absurd (cc (none, left))
+
+    by : (p : Place) (c : Command) → h.state.place ≡ p → h.state.line.command ≡ c → KnowsPart p c h → LeavesPart p h.topics → UnderWay p h → (h.state.place ≡ place.SetSlot Give) × MayGiveOld h
+    by (place.SetSlot p) (SetSlot id slot) at is K L U =
+        let N = is_next h s.kind may.enabled (has_line_is h U.1) in
+        let task : task_of h ≡ set_slot_task p h id slot = ap (λ q. task_at (place_at q h) (line_at q h).command h) at ∙ ap (λ c. task_at (place.SetSlot p) c h) is in
+        let there_now = old p id slot K L (ap (λ (t : Task). code_of t.kind) (sym task) ∙ (sym (ap (λ (k : Kind). k.code) N.is) ∙ gives)) in
+        (at ∙ there_now.0, there_now.1)
+    by (place.SetSlot p) _ at is K L U = absurd K
+    by _ c at is K L U = let none = L refl in absurd (cc (none, left))
+
+-- ---- its role
 
 -- Where the line is about to give the page back that is leaving, the page's role is 0.
 abbrev SettingCleared : (ℕ → ℕ) → SetSlotPlace → Topics → Type 0
@@ -84,7 +115,7 @@ module _ (role : ℕ → ℕ) (x : ℕ) (t : Topics) where
   clears Clear = true
   clears _ = false
 
-  -- From no other place does a setting come to give the page back.
+  -- From no other place does a slot line come to give the page back.
   no_give : (p : SetSlotPlace) (h : Held) → clears p ≡ false → PlaceCleared role (place_after (set_slot_outcome p h x)) t
   no_give (Claim begun) h never = claim_cleared (claim_next begun h.state.sizes h.topics.claim x)
   no_give Fill h never = either_place (λ q. SettingCleared role q t) (nat_lt (words_filled h.topics.owned + 1) 512) Fill Role tt tt
@@ -107,25 +138,28 @@ module _ (words : Area → ℕ → ℕ) (h : Held) (id : ℕ) (slot : Slot) (x :
       ∙ upd_same (words area.Role) (page_left h.topics.leaving) 0
   setting_cleared p = no_give (role_behind p) x (topics_behind p) p h refl
 
--- An access stands at no place of a setting.
-access_cleared : (role : ℕ → ℕ) (p : Place) (c : Command) (h : Held) (gfn word : ℕ) (op : Op) → c ≡ Access gfn word op → KnowsPart p c h
-    → PlaceCleared role p h.topics
-access_cleared role (place.SetSlot p) (Access gfn word op) h g w o is K = absurd K
-access_cleared role (place.SetSlot p) (SetSlot id slot) h g w o is K = absurd (cc is)
-access_cleared role _ c h g w o is K = tt
+-- A line of another form stands at no place of a slot line.
+abbrev IsOfOtherForm : Command → Type 0
+IsOfOtherForm (SetSlot id slot) = ⊥
+IsOfOtherForm _ = Unit {0}
+
+other_cleared : (role : ℕ → ℕ) (p : Place) (c command : Command) (h : Held) → IsOfOtherForm command → c ≡ command → KnowsPart p c h → PlaceCleared role p h.topics
+other_cleared role (place.SetSlot p) (SetSlot id slot) command h other is K = absurd (subst IsOfOtherForm (sym is) other)
+other_cleared role (place.SetSlot p) _ command h other is K = absurd K
+other_cleared role _ c command h other is K = tt
 
 own_cleared : (z : Sizes) (v : View) (a : ℕ) (line : Line) (c : Command) (p : Place) → IsStep z v a line c p → Invariant z (stepped a line c p v)
     → HandCleared (stepped a line c p v) a
-own_cleared z v a line c place.Between S after = absurd S.begun
-own_cleared z v a line (Access gfn word op) p S after =
-    let w : View = stepped a line (Access gfn word op) p v in
-    let command : (w.hand a).state.line.command ≡ Access gfn word op = ap (λ (h : Held). h.state.line.command) (upd_same v.hand a _) ∙ S.command_is in
-    access_cleared (w.words area.Role) (w.hand a).state.place (w.hand a).state.line.command (w.hand a) gfn word op command (after.knows a S.there)
 own_cleared z v a line (SetSlot id slot) (place.SetSlot p) S after =
     let w : View = stepped a line (SetSlot id slot) (place.SetSlot p) v in
     subst (HeldCleared (w.words area.Role)) (sym (upd_same v.hand a _))
     (setting_cleared v.words (v.hand a) id slot (answer_in (set_slot_task p (v.hand a) id slot) v.words) p)
-own_cleared z v a line _ _ S after = absurd S.holds
+own_cleared z v a line (SetSlot id slot) place.Between S after = absurd S.begun
+own_cleared z v a line (SetSlot id slot) _ S after = absurd S.holds
+own_cleared z v a line c p S after =
+    let w : View = stepped a line c p v in
+    let command : (w.hand a).state.line.command ≡ c = ap (λ (h : Held). h.state.line.command) (upd_same v.hand a _) ∙ S.command_is in
+    other_cleared (w.words area.Role) (w.hand a).state.place (w.hand a).state.line.command c (w.hand a) tt command (after.knows a S.there)
 
 -- ---- another actor's step
 
@@ -154,7 +188,7 @@ module _ (z : Sizes) (v : View) (a i : ℕ) (I : Invariant z v) (P : TopicsInvar
   still_cleared : (role after : ℕ → ℕ) (p : Place) (c : Command) (h : Held) → KnowsPart p c h → ((k : ℕ) → h.topics.leaving ≡ Some k → after k ≡ role k)
       → PlaceCleared role p h.topics → PlaceCleared after p h.topics
   still_cleared role after (place.SetSlot Give) (SetSlot id slot) h K same C = same (page_left h.topics.leaving) (some_left h.topics.leaving K.1.leaves) ∙ C
-  still_cleared role after (place.SetSlot Give) (Access gfn word op) h K same C = absurd K
+  still_cleared role after (place.SetSlot Give) _ h K same C = absurd K
   still_cleared role after (place.SetSlot _) c h K same C = tt
   still_cleared role after _ c h K same C = tt
 
@@ -167,7 +201,7 @@ module _ (z : Sizes) (v : View) (a i : ℕ) (I : Invariant z v) (P : TopicsInvar
 
 -- ---- each step
 
--- Who has no line left stands at no place of a setting.
+-- Who has no line left stands at no place of a slot line.
 idle_cleared : (role : ℕ → ℕ) (p : Place) (h : Held) (t : Topics) → has_line h ≡ false → UnderWay p h → PlaceCleared role p t
 idle_cleared role (place.SetSlot p) h t none U = let has = has_line_is h U.1 in absurd (cc (none, has))
 idle_cleared role _ h t none U = tt

@@ -93,19 +93,16 @@ pub record Counts (most : ℕ) (delay : Bool) (h g : Held) : Type 0 where
 
 under_open : (p : Place) → IsUnderWay p → one_if (is_under_way p) ≡ 1
 under_open place.Between under = absurd under
-under_open (place.Access p) under = refl
-under_open (place.SetSlot p) under = refl
+under_open _ under = refl
 
 under_counted : (p : Place) (n : ℕ) → IsUnderWay p → counted p n ≡ n
 under_counted place.Between n under = absurd under
-under_counted (place.Access p) n under = refl
-under_counted (place.SetSlot p) n under = refl
+under_counted _ n under = refl
 
 -- what was counted is at most the hand's count, and nothing where no line is under way
 pub counted_few : (p : Place) (n most : ℕ) → n ≤ most → counted p n ≤ most * one_if (is_under_way p)
 counted_few place.Between n most few = omega arith
-counted_few (place.Access p) n most few = omega (arith, few)
-counted_few (place.SetSlot p) n most few = omega (arith, few)
+counted_few _ n most few = omega (arith, few)
 
 room_by : (z : Sizes) (delay : Bool) (h g : Held) → CountsOn delay h g → h.state.sizes ≡ z → g.state.steps ≤ most_steps z → counted_in h + 1 ≤ most_steps z
 room_by z false h g C same few = let steps = C.0 in omega (arith, few, steps)

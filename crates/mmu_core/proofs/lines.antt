@@ -1,4 +1,5 @@
 pub mod AccessKept
+pub mod AccessLeft
 pub mod AccessParts
 pub mod ByStep
 pub mod CachedKept
@@ -7,6 +8,7 @@ pub mod FaultKnown
 pub mod FaultNeeds
 pub mod FaultSame
 pub mod FirstUsable
+pub mod Forms
 pub mod KnowsKept
 pub mod KnowsStay
 pub mod LinesKept

@@ -1,6 +1,7 @@
 pub mod Advancing
 pub mod Columns
 pub mod Extend
+pub mod GoesOn
 pub mod HandAfter
 pub mod HandWith
 pub mod LineMade

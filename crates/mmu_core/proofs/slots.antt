@@ -5,5 +5,6 @@ pub mod SetFilled
 pub mod SetPublished
 pub mod SetSlotKept
 pub mod SetSlotKnown
+pub mod SetSlotPlaces
 pub mod SettingHolds
 pub mod SlotsStay

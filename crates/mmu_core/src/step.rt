@@ -30,7 +30,7 @@ fn line_of(hand: &Hand) -> Line
             Some(line) => line,
             None => unreachable!(),
         },
-        Place::Access(_) | Place::SetSlot(_) => hand.state().line,
+        _ => hand.state().line,
     }
 }
 
@@ -54,7 +54,7 @@ fn place_of(hand: &Hand, line: &Line) -> Place
     let place = hand.state().place;
     match place {
         Place::Between => first(hand, line),
-        Place::Access(_) | Place::SetSlot(_) => place,
+        _ => place,
     }
 }
 

@@ -7,6 +7,7 @@ pub mod FlatKept
 pub mod FlatSteps
 pub mod FlatStill
 pub mod Followed
+pub mod Forms
 pub mod LineEvents
 pub mod PageFound
 pub mod SetSlotFlat

@@ -58,9 +58,9 @@ pub fn each_delay_has_its_cause()
 /// sets two slots, answers an access of a guest frame that no slot has, and one
 /// whose fault fills and links three tables and puts the leaf; then accesses that
 /// walk to this leaf or go by what is cached, and a write that a read-only slot
-/// refuses. In a pool that is too small an access is starved, and a slot setting
+/// refuses. In a pool that is too small an access is starved, and a slot line
 /// behind it; where two processors write to one guest frame at a time, one
-/// waits and begins anew; and a slot setting beside a write waits for the page that the
+/// waits and begins anew; and a slot line beside a write waits for the page that the
 /// processor takes, for the lock that it shares, and until it has left the guest.
 pub fn the_steps_can_be_made()
     ensures starts { EveryMachineStarts }
@@ -74,7 +74,7 @@ pub fn the_steps_can_be_made()
 
 /// What a step's numbers tell of it: each step that a hand allows is on a word of
 /// the area that its kind is for, and the note of a line's step says whether the
-/// line is answered with it, whatever the step finds; but a slot setting's load of
+/// line is answered with it, whatever the step finds; but a slot line's load of
 /// the last word of the pool's map has note 1, and is its answer exactly where it
 /// finds 0. Who enters the guest with a flush asked for has nothing cached behind
 /// that step; each other step leaves at most one more translation

@@ -11,15 +11,13 @@ use Rattle.core_views.specs.declared.place.AccessPlace.{AccessPlace}
 use Rattle.core_views.specs.declared.place.AccessPlace.TheVariants.{Enter, Walk, Touch, Leave, Fault}
 use Rattle.core_views.specs.declared.place.Place.{Place}
 use Rattle.core_views.specs.declared.place.Place.TheVariants as place
-use Rattle.core_views.specs.declared.place.SetSlotPlace.{SetSlotPlace}
-use Rattle.core_views.specs.declared.place.SetSlotPlace.TheVariants.{Publish}
 use Rattle.core_views.specs.declared.sizes.Sizes.{Sizes}
 use Rattle.core_views.specs.declared.topics.HostLook.{HostLook}
 use Rattle.core_views.specs.declared.topics.Invalidations.{Invalidations}
 use Rattle.core_views.specs.declared.topics.OwnedPage.{OwnedPage}
 use Rattle.core_views.specs.declared.topics.Topics.{Topics}
 use Rattle.core_views.specs.declared.trace.Command.{Command}
-use Rattle.core_views.specs.declared.trace.Command.TheVariants.{Access, SetSlot}
+use Rattle.core_views.specs.declared.trace.Command.TheVariants.{Access}
 use Rattle.core_views.specs.declared.trace.Line.{Line}
 use Rattle.core_views.specs.declared.trace.Op.{Op}
 use Rattle.core_views.specs.declared.trace.Op.TheVariants.{Read}
@@ -40,7 +38,7 @@ use Rattle.part_steps.specs.declared.part_step.PartStep.TheVariants as part
 use Rattle.mmu_core.specs.lines.AccessSteps.{access_part, touch_of}
 use Rattle.mmu_core.specs.lines.KnowsPart.{AccessKnows}
 use Rattle.part_steps.specs.PartBounds.{PartRests}
-use Rattle.part_steps.specs.PartSteps.{FoundSlot, GoesOnToWord, IsFresh, IsVcpu, LookedUp, MayEnter, PartNeeds, next_watched, own_index}
+use Rattle.part_steps.specs.PartSteps.{FoundSlot, GoesOnToWord, IsFresh, IsVcpu, LookedUp, MayEnter, PartNeeds, next_watched, own_index, HasToFill, OwnsTable, OwnsSet, MayPublish}
 use Rattle.mmu_core.specs.lines.Rests.{AcceptsAt, RecordAccepts, Rests, RestsAt, RestsOn}
 use Rattle.mmu_core.specs.lines.SetSlotSteps.{set_slot_part}
 use Rattle.part_steps.specs.SlotWords.{may_write, page_of}
@@ -56,8 +54,10 @@ pub use Rattle.mmu_core.proofs.invariant.PartBounded.{host_at}
 use Rattle.mmu_core.proofs.words.PartFits.{part_within_by}
 use Rattle.mmu_core.proofs.machine.Stepping.{is_step}
 use Rattle.part_steps.specs.declared.task.Task.{Task}
+use Rattle.mmu_core.proofs.invariant.Kept.{rests_by_needs}
+use Rattle.mmu_core.proofs.lines.Forms.{RestsOnPart, accepts_at, accepts_at_prop, other_rests}
 use Rattle.mmu_core.proofs.lines.ByStep.{StepAt, step_at, Makes, Touches}
-use Rattle.mmu_core.specs.invariant.Invariant.{Holds, HostWordsPart, Invariant, IsLeafFor, KnowsPart, SetSlotHolds, SlotSetPart}
+use Rattle.mmu_core.specs.invariant.Invariant.{Holds, HostWordsPart, Invariant, IsLeafFor, KnowsPart, SlotSetPart}
 use Rattle.mmu_core.proofs.lines.UsedTranslations.{uses_stays}
 
 -- The leaf that an access uses is at a frame of the machine.
@@ -92,18 +92,9 @@ access_rests _ z v h gfn word op I same may R K e = tt
 
 rests_at : (p : Place) (command : Command) (z : Sizes) (v : View) (h : Held) → Invariant z v → h.state.sizes ≡ z → IsCommandFor z h.state.actor command → PartRests h → KnowsPart p command h
     → Holds z (v.words area.Pool) (v.words area.Host) (v.words area.Slots 0) p command h → NeedsAt p command h → RestsAt p command h
-rests_at place.Between command z v h I same may R K e N = tt
 rests_at (place.Access p) (Access gfn word op) z v h I same may R K e N = access_rests p z v h gfn word op I same may R K e
-rests_at (place.SetSlot p) (SetSlot id slot) z v h I same may R K e N = N
-rests_at _ _ z v h I same may R K e N = absurd K
-
-setting_accepts : (p : SetSlotPlace) (id : ℕ) (slot : SlotOf) (z : Sizes) (pool : ℕ → ℕ) (h : Held) → SetSlotHolds z pool p id slot h → RecordAccepts p z.pages id slot h.slots
-setting_accepts Publish id slot z pool h e = e.accepted
-setting_accepts _ id slot z pool h e = tt
-
-accepts_at : (p : Place) (command : Command) (z : Sizes) (v : View) (h : Held) → Holds z (v.words area.Pool) (v.words area.Host) (v.words area.Slots 0) p command h → AcceptsAt p command z h.slots
-accepts_at (place.SetSlot p) (SetSlot id slot) z v h e = setting_accepts p id slot z (v.words area.Pool) h e
-accepts_at _ _ z v h e = tt
+rests_at (place.Access p) _ z v h I same may R K e N = absurd K
+rests_at p command z v h I same may R K e N = rests_by_needs p command h tt K N
 
 pub hand_rests : (z : Sizes) (v : View) (a : ℕ) → Invariant z v → TopicsInvariant z v → a < actors_of z → length (v.hand a).answers < length (v.hand a).lines → Rests (v.hand a)
 hand_rests z v a I P there left =
@@ -117,7 +108,7 @@ hand_rests z v a I P there left =
       part = R;
       line = subst (λ (y : Sizes). IsCommandFor y line.actor line.command) (sym same) S.allowed;
       at = rests_at p line.command z v h I same (subst (λ (x : Actor). IsCommandFor z x line.command) S.own S.allowed) R (step_knows z v a line line.command p S I) S.holds (needs_at z v a line line.command p S I P);
-      accepts = subst (λ (y : Sizes). AcceptsAt p line.command y h.slots) (sym same) (accepts_at p line.command z v h S.holds);
+      accepts = subst (λ (y : Sizes). AcceptsAt p line.command y h.slots) (sym same) (accepts_at p line.command z (v.words area.Pool) (v.words area.Host) (v.words area.Slots 0) h S.holds);
     }
 
 -- What a line rests on holds where there merely is a world that shows it: each part of it has at most one proof, or can be decided.
@@ -201,29 +192,19 @@ on_stays : (s : Option PartStep) (gfn : ℕ) (write : Bool) (h : Held) → ∥ R
 on_stays None gfn write h x = record { guest = ∥∥₁_elim x (hlevel props) (λ N. N.guest); uses = uses_stays gfn write h (∥∥₁_map x (λ N. N.uses)); frame = ∥∥₁_elim x (hlevel props) (λ N. N.frame) }
 on_stays (Some step) gfn write h x = needs_stay step h x
 
+other_stays : (p : Place) (command : Command) (h : Held) → (RestsAt p command h → ⊥) ⊎ RestsOnPart p command h → ∥ RestsAt p command h ∥₁ → RestsAt p command h
+other_stays p command h (inl never) x = absurd (∥∥₁_elim x (hlevel props) never)
+other_stays p command h (inr P) x = P.rests (needs_stay P.step h (∥∥₁_map x P.needs))
+
 at_stays : (p : Place) (command : Command) (h : Held) → ∥ RestsAt p command h ∥₁ → RestsAt p command h
-at_stays place.Between command h x = tt
 at_stays (place.Access p) (Access gfn word op) h x = on_stays (access_part p gfn h.topics) gfn (is_write op) h x
-at_stays (place.SetSlot p) (SetSlot id slot) h x = needs_stay (set_slot_part p h id slot) h x
-at_stays _ _ h x = prop_stays (hlevel props) x
-
-accepts_prop : (p : SetSlotPlace) (total id : ℕ) (slot : SlotOf) (slots : MemorySlots) → IsProp (RecordAccepts p total id slot slots)
-accepts_prop Publish total id slot slots = hlevel props
-accepts_prop _ total id slot slots = hlevel props
-
-accepts_at_prop : (p : Place) (command : Command) (z : Sizes) (slots : MemorySlots) → IsProp (AcceptsAt p command z slots)
-accepts_at_prop (place.SetSlot p) (SetSlot id slot) z slots = accepts_prop p z.pages id slot slots
-accepts_at_prop _ _ z slots = hlevel props
+at_stays (place.Access p) _ h x = prop_stays (hlevel props) x
+at_stays p command h x = other_stays p command h (other_rests p command h tt) x
 
 command_prop : (z : Sizes) (actor : Actor) (command : Command) → IsProp (IsCommandFor z actor command)
 command_prop z (Vcpu n) (Access gfn word op) = hlevel props
-command_prop z (Vcpu n) (SetSlot id slot) = hlevel props
-command_prop z (Host n) (Access gfn word op) = hlevel props
-command_prop z (Host n) (SetSlot id slot) = hlevel props
-command_prop z Manager (Access gfn word op) = hlevel props
-command_prop z Manager (SetSlot id slot) = hlevel props
-command_prop z (Worker n) (Access gfn word op) = hlevel props
-command_prop z (Worker n) (SetSlot id slot) = hlevel props
+command_prop z _ (Access gfn word op) = hlevel props
+command_prop z _ _ = hlevel props
 
 pub part_rests_prop : (h : Held) → IsProp (PartRests h)
 part_rests_prop h = hlevel props

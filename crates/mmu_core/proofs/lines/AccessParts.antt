@@ -4,7 +4,7 @@ use Rattle.std.specs.Prelude.{Option}
 use Rattle.core_views.specs.declared.place.AccessPlace.{AccessPlace}
 use Rattle.core_views.specs.declared.place.Place.TheVariants as place
 use Rattle.core_views.specs.declared.sizes.Sizes.{Sizes}
-use Rattle.core_views.specs.declared.trace.Command.TheVariants.{Access, SetSlot}
+use Rattle.core_views.specs.declared.trace.Command.TheVariants.{Access}
 use Rattle.core_views.specs.declared.trace.Line.{Line}
 use Rattle.core_views.specs.declared.trace.Op.{Op}
 use Rattle.core_views.specs.Sizes.{actors_of, index_of}
@@ -18,16 +18,12 @@ use Rattle.mmu_core.specs.invariant.Invariant.{Invariant, OwnLines}
 use Rattle.part_steps.specs.PartSteps.{IsVcpu, PartNeeds}
 use Rattle.mmu_core.specs.invariant.TopicsInvariant.{TopicsInvariant}
 use Rattle.mmu_core.specs.machine.View.{View}
-use Rattle.mmu_core.proofs.lines.KnowsKept.{NeedsOf, access_needs, access_vcpu, step_knows, needs_at}
+use Rattle.mmu_core.proofs.lines.KnowsKept.{NeedsOf, access_needs, access_vcpu, step_knows}
 use Rattle.mmu_core.proofs.slots.LiveStays.{MakesParts, access_never}
 use Rattle.mmu_core.proofs.invariant.PartBounded.{part_rests_at}
 use Rattle.mmu_core.proofs.words.PartFits.{part_within}
 use Rattle.mmu_core.proofs.machine.PartStepping.{IsPart, Replaces, replaces_none}
 use Rattle.mmu_core.proofs.machine.Stepping.{IsStep}
-use Rattle.core_views.specs.declared.place.SetSlotPlace.{SetSlotPlace}
-use Rattle.core_views.specs.declared.trace.Slot.{Slot}
-use Rattle.mmu_core.specs.lines.SetSlotSteps.{set_slot_part}
-use Rattle.mmu_core.proofs.slots.SetFilled.{setting_replaces}
 
 -- Each word has 64 bits.
 abbrev pub AreSmall : View → Type 0
@@ -58,9 +54,3 @@ makes_parts z v a line p gfn word op small S I P step is = may_make z v a step s
 
     needs : NeedsOf (access_part p gfn (v.hand a).topics) (v.hand a)
     needs = access_needs p (v.hand a) gfn (is_write op) may.0 may.1 (part_rests_at z v a I P S.there) (step_knows z v a line (Access gfn word op) (place.Access p) S I)
-
--- The step of a part that a slot setting makes at its place is one that its actor may make.
-pub makes_setting : (z : Sizes) (v : View) (a : ℕ) (line : Line) (p : SetSlotPlace) (id : ℕ) (slot : Slot) → AreSmall v → IsStep z v a line (SetSlot id slot) (place.SetSlot p) → Invariant z v → TopicsInvariant z v
-    → IsPart z v a (set_slot_part p (v.hand a) id slot)
-makes_setting z v a line p id slot small S I P =
-    may_make z v a (set_slot_part p (v.hand a) id slot) small I P S.there (needs_at z v a line (SetSlot id slot) (place.SetSlot p) S I P) (setting_replaces z v a line p id slot S I)

@@ -22,7 +22,7 @@ use Rattle.core_views.specs.declared.topics.Topics.{Topics}
 use Rattle.core_views.specs.Held.{Held}
 use Rattle.core_views.specs.Sizes.{index_of}
 use Rattle.core_views.specs.declared.trace.Command.{Command}
-use Rattle.core_views.specs.declared.trace.Command.TheVariants.{Access, SetSlot}
+use Rattle.core_views.specs.declared.trace.Command.TheVariants.{SetSlot}
 use Rattle.core_views.specs.declared.trace.Slot.{Slot}
 use Rattle.core_views.specs.Flat.{no_line}
 use Rattle.core_views.specs.SlotSets.{MemorySlots}
@@ -36,6 +36,15 @@ use Rattle.mmu_core.specs.machine.Outcomes.{answers_after, place_after}
 same_id : (i j : ℕ) → nat_cmp i j ≡ Equal → i ≡ j
 same_id i j e = grind (arith, nat_tests)
 
+-- A line sets a slot at one ID, or at none.
+pub data AddsId : (List ℕ → List ℕ) → Type 0 where
+  NoId : AddsId (λ ids. ids)
+  OneId : (id : ℕ) → AddsId (λ ids. id ∷ ids)
+
+pub adds_id : (command : Command) → AddsId (λ ids. or_slot_id command ids)
+adds_id (SetSlot id slot) = OneId id
+adds_id _ = NoId
+
 -- one more line, with the ID of the slot that it sets, if it sets one
 pub ids_more : (n : ℕ) (lines : List Line) → n < length lines → slot_ids (take (suc n) lines) ≡ slot_ids (take n lines) ++ or_slot_id (unwrap_or (slice_get lines n) no_line).command []
 ids_more n [] lt = absurd (omega arith)
@@ -46,8 +55,8 @@ ids_more (suc n) (line ∷ lines) lt = by line.command (ids_more n lines (omega 
     last = or_slot_id (unwrap_or (slice_get lines n) no_line).command []
 
     by : (c : Command) → slot_ids (take (suc n) lines) ≡ slot_ids (take n lines) ++ last → or_slot_id c (slot_ids (take (suc n) lines)) ≡ or_slot_id c (slot_ids (take n lines)) ++ last
-    by (Access gfn word op) rest = rest
     by (SetSlot id slot) rest = ap (λ (ids : List ℕ). id ∷ ids) rest
+    by _ rest = rest
 
 -- a line that sets a slot, among those up to it
 pub set_here : (n : ℕ) (lines : List Line) (id : ℕ) (slot : Slot) → n < length lines → (unwrap_or (slice_get lines n) no_line).command ≡ SetSlot id slot → Contains (slot_ids (take (suc n) lines)) id
@@ -93,8 +102,8 @@ more_set (suc m) (suc n) (line ∷ lines) id le has = by line.command (more_set 
     behind_first first before after rest (suc k) lt is = shifted first after (rest (k, omega arith, is))
 
     by : (c : Command) → (Contains (slot_ids (take m lines)) id → Contains (slot_ids (take n lines)) id) → Contains (or_slot_id c (slot_ids (take m lines))) id → Contains (or_slot_id c (slot_ids (take n lines))) id
-    by (Access gfn word op) rest has = rest has
     by (SetSlot i slot) rest has = behind_first i (slot_ids (take m lines)) (slot_ids (take n lines)) rest has.0 has.1 has.2
+    by _ rest has = rest has
 
 pub answered_kept : (m n : ℕ) (lines : List Line) (ids : List ℕ) → m ≤ n → AreSetBy lines m ids → AreSetBy lines n ids
 answered_kept m n lines ids le set = All-weaker (Contains (slot_ids (take m lines))) (Contains (slot_ids (take n lines))) (λ id has. more_set m n lines id le has) ids set

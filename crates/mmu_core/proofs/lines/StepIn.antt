@@ -1,23 +1,27 @@
 -- The step of a line, in a view where the invariant holds: a step of a part that its actor may make, or a touch.
-use Rattle.std.proofs.Common.{◌≡◌, ℕ, refl}
+use Rattle.std.proofs.Common.{◌≡◌, ℕ, refl, sym, subst}
 use Rattle.std.specs.Prelude.{Option, Some, None}
 use Rattle.core_views.specs.declared.place.Place.{Place}
 use Rattle.core_views.specs.declared.place.Place.TheVariants as place
 use Rattle.core_views.specs.declared.sizes.Sizes.{Sizes}
 use Rattle.core_views.specs.declared.trace.Command.{Command}
-use Rattle.core_views.specs.declared.trace.Command.TheVariants.{Access, SetSlot}
+use Rattle.core_views.specs.declared.trace.Command.TheVariants.{Access}
 use Rattle.core_views.specs.declared.trace.Line.{Line}
 use Rattle.core_views.specs.declared.trace.Op.{Op}
+use Rattle.core_views.specs.Held.{Held}
+use Rattle.spte_words.specs.Areas.{content_index}
+use Rattle.spte_words.specs.Entries.{frame_in}
 use Rattle.part_steps.specs.declared.part_step.PartStep.{PartStep}
 use Rattle.part_steps.specs.declared.task.Task.{Task}
 use Rattle.part_steps.specs.PartSteps.{own_index, part_task}
-use Rattle.mmu_core.specs.lines.AccessSteps.{access_note, access_part, task_by, touch_of}
+use Rattle.part_steps.specs.Tasks.{map_of}
+use Rattle.mmu_core.specs.lines.AccessSteps.{task_by, touch_of}
 use Rattle.mmu_core.specs.invariant.Invariant.{Invariant}
-use Rattle.mmu_core.specs.lines.PartAt.{task_at}
-use Rattle.mmu_core.specs.lines.SetSlotSteps.{set_slot_note, set_slot_part}
+use Rattle.mmu_core.specs.lines.PartAt.{note_at, part_at, task_at, touch_at}
 use Rattle.mmu_core.specs.invariant.TopicsInvariant.{TopicsInvariant}
 use Rattle.mmu_core.specs.machine.View.{View}
-use Rattle.mmu_core.proofs.lines.AccessParts.{AreSmall, makes_parts, makes_setting}
+use Rattle.mmu_core.proofs.lines.AccessParts.{AreSmall}
+use Rattle.mmu_core.proofs.invariant.Kept.{MakesAt, makes_at}
 use Rattle.mmu_core.proofs.machine.PartStepping.{IsPart}
 use Rattle.mmu_core.proofs.machine.Stepping.{IsStep}
 
@@ -25,12 +29,20 @@ pub data StepIn (z : Sizes) (v : View) (a : ℕ) : Task → Type 0 where
   Makes : (step : PartStep) (note : ℕ) → IsPart z v a step → StepIn z v a (part_task step (own_index (v.hand a)) (v.hand a).topics note)
   Touches : (op : Op) (index : ℕ) → StepIn z v a (touch_of op index)
 
-access_in : (z : Sizes) (v : View) (a : ℕ) (s : Option PartStep) (note : ℕ) (op : Op) (index : ℕ) → ((step : PartStep) → s ≡ Some step → IsPart z v a step) → StepIn z v a (task_by s (v.hand a) note (touch_of op index))
-access_in z v a None note op index makes = Touches op index
-access_in z v a (Some step) note op index makes = Makes step note (makes step refl)
+-- A place that names no step of a part is one where the guest touches for its access.
+touched : (p : Place) (command : Command) (h : Held) → part_at p command h ≡ None → (op : Op) × (index : ℕ) × (touch_at command h ≡ touch_of op index)
+touched (place.Access p) (Access gfn word op) h none = (op, content_index (map_of h.state.sizes) (frame_in h.state.leaf) word, refl)
+touched _ (Access gfn word op) h none = absurd (cc none)
+touched _ _ h none = absurd (cc none)
+
+step_by : (z : Sizes) (v : View) (a : ℕ) (s : Option PartStep) (note : ℕ) (touch : Task) → ((step : PartStep) → s ≡ Some step → IsPart z v a step) → (s ≡ None → (op : Op) × (index : ℕ) × (touch ≡ touch_of op index))
+    → StepIn z v a (task_by s (v.hand a) note touch)
+step_by z v a None note touch makes touches = let T = touches refl in subst (StepIn z v a) (sym T.2) (Touches T.0 T.1)
+step_by z v a (Some step) note touch makes touches = Makes step note (makes step refl)
+
+-- It is the step of a part that its actor may make, where it is one of a part, and else a touch.
+pub step_of : (z : Sizes) (v : View) (a : ℕ) (command : Command) (p : Place) → MakesAt z v a p command → StepIn z v a (task_at p command (v.hand a))
+step_of z v a command p makes = step_by z v a (part_at p command (v.hand a)) (note_at p command (v.hand a)) (touch_at command (v.hand a)) makes (touched p command (v.hand a))
 
 pub step_in : (z : Sizes) (v : View) (a : ℕ) (line : Line) (command : Command) (p : Place) → AreSmall v → IsStep z v a line command p → Invariant z v → TopicsInvariant z v → StepIn z v a (task_at p command (v.hand a))
-step_in z v a line command place.Between small S I P = absurd S.begun
-step_in z v a line (Access gfn word op) (place.Access p) small S I P = access_in z v a (access_part p gfn (v.hand a).topics) (access_note p) op _ (makes_parts z v a line p gfn word op small S I P)
-step_in z v a line (SetSlot id slot) (place.SetSlot p) small S I P = Makes (set_slot_part p (v.hand a) id slot) (set_slot_note p (v.hand a)) (makes_setting z v a line p id slot small S I P)
-step_in z v a line _ _ small S I P = absurd S.holds
+step_in z v a line command p small S I P = step_of z v a command p (makes_at z v a line command p small S I P)

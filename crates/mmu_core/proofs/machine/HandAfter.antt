@@ -4,22 +4,16 @@ use Rattle.std.specs.Prelude.{Bool, true, false}
 use Rattle.core_views.specs.declared.hand.State.{State}
 use Rattle.core_views.specs.declared.kind.Kind.{Kind}
 use Rattle.core_views.specs.declared.place.AccessPlace.{AccessPlace}
-use Rattle.core_views.specs.declared.place.AccessPlace.TheVariants.{Enter, Leave, Fault}
-use Rattle.core_views.specs.declared.place.FaultEnd.{FaultEnd}
-use Rattle.core_views.specs.declared.place.FaultEnd.TheVariants as end_of
-use Rattle.core_views.specs.declared.place.FaultNext.{FaultNext}
-use Rattle.core_views.specs.declared.place.FaultNext.TheVariants as next_of
-use Rattle.core_views.specs.declared.place.Leaving.TheVariants as leaving
+use Rattle.core_views.specs.declared.place.AccessPlace.TheVariants.{Enter}
 use Rattle.core_views.specs.declared.place.Place.{Place}
 use Rattle.core_views.specs.declared.place.Place.TheVariants as place
 use Rattle.core_views.specs.declared.place.SetSlotPlace.{SetSlotPlace}
 use Rattle.core_views.specs.declared.place.SetSlotPlace.TheVariants.{Claim}
 use Rattle.core_views.specs.declared.trace.Command.{Command}
-use Rattle.core_views.specs.declared.trace.Command.TheVariants.{Access, SetSlot}
+use Rattle.core_views.specs.declared.trace.Command.TheVariants.{Access}
 use Rattle.core_views.specs.declared.trace.Line.{Line}
 use Rattle.core_views.specs.declared.trace.Op.{Op}
 use Rattle.core_views.specs.Held.{Held}
-use Rattle.core_views.specs.Slots.{is_write}
 use Rattle.mmu_core.specs.declared.outcome.Outcome.{Outcome}
 use Rattle.mmu_core.specs.declared.outcome.Outcome.TheVariants.{Goes, Ends}
 use Rattle.mmu_core.specs.declared.claim.ClaimNext.{ClaimNext}
@@ -30,6 +24,8 @@ use Rattle.mmu_core.specs.lines.FaultSteps.{fault_next}
 use Rattle.mmu_core.specs.lines.Rests.{IsUnderWay}
 use Rattle.mmu_core.specs.lines.SetSlotSteps.{after_claim, set_slot_outcome}
 use Rattle.mmu_core.specs.machine.Steps.{has_line, held_after, line_at, loads_at, next, next_by, outcome_at, place_at}
+use Rattle.mmu_core.proofs.lines.Forms.{outcome_goes}
+use Rattle.mmu_core.proofs.machine.GoesOn.{GoesUnderWay}
 use Rattle.mmu_core.proofs.machine.Stepping.{is_begun}
 use Rattle.mmu_core.proofs.machine.Which.{has_line_is, next_of_line}
 use Rattle.mmu_core.specs.machine.Outcomes.{answers_after, place_after}
@@ -55,39 +51,6 @@ next_same h k v = by (has_line h)
     by : (b : Bool) → IsSameHand h (next_by b h k v)
     by true = let same = loads_same (place_at h.state.place h) (line_of h).command h v in record { actor = same.actor; sizes = same.sizes; lines = refl }
     by false = record { actor = refl; sizes = refl; lines = refl }
-
--- A line that has begun goes on to a place where it is under way, or is answered.
-abbrev pub GoesUnderWay : Outcome → Type 0
-GoesUnderWay (Goes p) = IsUnderWay p
-GoesUnderWay (Ends answer) = Unit {0}
-
-fault_over_goes : (e : FaultEnd) → GoesUnderWay (fault_over e)
-fault_over_goes end_of.Installed = tt
-fault_over_goes _ = tt
-
-fault_goes : (n : FaultNext) → GoesUnderWay (behind_fault n)
-fault_goes (next_of.Goes p) = tt
-fault_goes (next_of.Ends e) = fault_over_goes e
-
-access_goes : (p : AccessPlace) (h : Held) (gfn : ℕ) (op : Op) (v : ℕ) → GoesUnderWay (access_outcome p h gfn op v)
-access_goes (Leave (leaving.Reached frame value)) h gfn op v = tt
-access_goes (Leave leaving.Faults) h gfn op v = tt
-access_goes (Fault p) h gfn op v = fault_goes (fault_next p h.state.sizes gfn (is_write op) h.topics v)
-access_goes _ h gfn op v = tt
-
-claim_goes : (next : ClaimNext) → GoesUnderWay (after_claim next)
-claim_goes claims.Goes = tt
-claim_goes _ = tt
-
-set_slot_goes : (p : SetSlotPlace) (h : Held) (v : ℕ) → GoesUnderWay (set_slot_outcome p h v)
-set_slot_goes (Claim begun) h v = claim_goes (claim_next begun h.state.sizes h.topics.claim v)
-set_slot_goes _ h v = tt
-
-pub outcome_goes : (p : Place) (command : Command) (h : Held) (v : ℕ) → IsUnderWay p → GoesUnderWay (outcome_at p command h v)
-outcome_goes place.Between command h v begun = absurd begun
-outcome_goes (place.Access p) (Access gfn word op) h v begun = access_goes p h gfn op v
-outcome_goes (place.SetSlot p) (SetSlot id slot) h v begun = set_slot_goes p h v
-outcome_goes _ _ h v begun = tt
 
 comes : (o : Outcome) (line : Line) (h g : Held) → GoesUnderWay o → g.state.place ≡ place_after o → g.state.line ≡ line → g.answers ≡ answers_after o line h.answers → Comes o line h g
 comes (Goes p) line h g goes stands line_is answers = record { under_way = rw stands goes; line_is = line_is; answers = answers }

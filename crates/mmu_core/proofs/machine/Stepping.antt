@@ -5,24 +5,21 @@ use Rattle.core_views.specs.declared.place.Place.{Place}
 use Rattle.core_views.specs.declared.place.Place.TheVariants as place
 use Rattle.core_views.specs.declared.sizes.Sizes.{Sizes}
 use Rattle.core_views.specs.declared.trace.Command.{Command}
-use Rattle.core_views.specs.declared.trace.Command.TheVariants.{Access, SetSlot}
+use Rattle.core_views.specs.declared.trace.Command.TheVariants.{Access}
 use Rattle.core_views.specs.declared.trace.Line.{Line}
-use Rattle.core_views.specs.declared.trace.Slot.{Slot}
 use Rattle.core_views.specs.Flat.{no_line}
-use Rattle.core_views.specs.declared.answer.Refusal.{Refusal}
 use Rattle.core_views.specs.Held.{Held}
 use Rattle.core_views.specs.Sizes.{actors_of}
-use Rattle.core_views.specs.Refusals.{set_refusal}
 use Rattle.core_views.specs.SlotSets.{MemorySlots}
 use Rattle.core_views.specs.Traces.{IsCommandFor}
 use Rattle.spte_words.specs.declared.area.Area.TheVariants as area
 use Rattle.mmu_core.specs.invariant.Invariant.{Holds, Invariant, UnderWay}
 use Rattle.mmu_core.specs.lines.Rests.{IsUnderWay}
-use Rattle.mmu_core.specs.lines.SetSlotSteps.{set_slot_first}
 use Rattle.mmu_core.specs.machine.Steps.{first_place, line_at, next_line, place_at, standing}
 use Rattle.mmu_core.specs.machine.View.{View}
 use Rattle.mmu_core.specs.lines.KnowsPart.{may_leave}
 use Rattle.mmu_core.specs.invariant.LinesPart.{lines_done}
+use Rattle.mmu_core.proofs.lines.Forms.{first_holds}
 
 -- The actor makes the step of this place for this line, whose command it is.
 pub record IsStep (z : Sizes) (v : View) (a : ℕ) (line : Line) (command : Command) (p : Place) : Type 0 where
@@ -43,20 +40,11 @@ line_is_next _ h under is = under.0
 
 first_is_begun : (z : Sizes) (slots : MemorySlots) (command : Command) → IsUnderWay (first_place z slots command)
 first_is_begun z slots (Access gfn word op) = tt
-first_is_begun z slots (SetSlot id slot) = tt
+first_is_begun z slots _ = tt
 
 pub is_begun : (p : Place) (z : Sizes) (slots : MemorySlots) (command : Command) → IsUnderWay (standing p z slots command)
 is_begun place.Between z slots command = first_is_begun z slots command
 is_begun _ z slots command = tt
-
--- the loads of a line that begins: none
-set_slot_begins : (z : Sizes) (pool host : ℕ → ℕ) (set id : ℕ) (slot : Slot) (h : Held) (r : Option Refusal) → set_refusal z.pages id slot h.slots ≡ r → Holds z pool host set (place.SetSlot (set_slot_first r)) (SetSlot id slot) h
-set_slot_begins z pool host set id slot h None is = is
-set_slot_begins z pool host set id slot h (Some refusal) is = is
-
-first_holds : (z : Sizes) (pool host : ℕ → ℕ) (set : ℕ) (command : Command) (h : Held) → Holds z pool host set (first_place z h.slots command) command h
-first_holds z pool host set (Access gfn word op) h = tt
-first_holds z pool host set (SetSlot id slot) h = set_slot_begins z pool host set id slot h (set_refusal z.pages id slot h.slots) refl
 
 standing_holds : (z : Sizes) (pool host : ℕ → ℕ) (set : ℕ) (q : Place) (h : Held) → h.state.place ≡ q → Holds z pool host set q h.state.line.command h → Holds z pool host set (standing q z h.slots (line_at q h).command) (line_at q h).command h
 standing_holds z pool host set place.Between h is holds = first_holds z pool host set (next_line h).command h
@@ -94,8 +82,8 @@ is_step z v a I there left =
 
 -- Where the step's place isn't behind a publication, the hand's isn't either.
 before_published : (q : Place) (z : Sizes) (slots : MemorySlots) (command : Command) (p : Place) → standing q z slots command ≡ p → may_leave p ≡ false → may_leave q ≡ false
-before_published (place.SetSlot q) z slots command p is not_yet = ap may_leave is ∙ not_yet
-before_published _ z slots command p is not_yet = refl
+before_published place.Between z slots command p is not_yet = refl
+before_published _ z slots command p is not_yet = ap may_leave is ∙ not_yet
 
 pub none_done : (z : Sizes) (v : View) (a : ℕ) (line : Line) (command : Command) (p : Place) → IsStep z v a line command p → may_leave p ≡ false → lines_done (v.hand a) ≡ length (v.hand a).answers
 none_done z v a line command p S not_yet =

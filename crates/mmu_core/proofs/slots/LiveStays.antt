@@ -17,6 +17,7 @@ use Rattle.core_views.specs.declared.trace.Line.{Line}
 use Rattle.core_views.specs.declared.trace.Op.{Op}
 use Rattle.core_views.specs.declared.trace.Op.TheVariants.{Read}
 use Rattle.core_views.specs.declared.trace.Slot.{Slot as SlotOf}
+use Rattle.core_views.specs.declared.topics.OwnedPage.{OwnedPage}
 use Rattle.core_views.specs.Held.{Held}
 use Rattle.spte_words.specs.declared.area.Area.{Area}
 use Rattle.spte_words.specs.declared.area.Area.TheVariants as area
@@ -58,6 +59,10 @@ SetStays set before after = (j : ℕ) → j < 512 → after (pool_index set j) �
 
 pub words_live : (set : ℕ) (before after : ℕ → ℕ) → SetStays set before after → LiveStays set before after
 words_live set before after stays = record { each = λ id f low live. let small = is_number f in stays (4 * id + field_number f) (omega (arith, low, small)) }
+
+-- The words of the page that an actor owns stay.
+abbrev pub OwnedStays : (ℕ → ℕ) → (ℕ → ℕ) → Held → Type 0
+OwnedStays before after h = (o : OwnedPage) → h.topics.owned ≡ Some o → SetStays o.page before after
 
 -- No step of a part stores in the published slot set.
 pub published_stays : (z : Sizes) (v : View) (a : ℕ) (step : PartStep) (note : ℕ) → IsPart z v a step → TopicsInvariant z v → SetStays (v.words area.Slots 0) (v.words area.Pool) ((part_stepped a step note v).words area.Pool)

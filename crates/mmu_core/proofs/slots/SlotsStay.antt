@@ -1,27 +1,21 @@
 -- What speaks of the published slot set alone stays where its words stay.
 use Rattle.std.proofs.Common.{◌≡◌, ◌≢◌, ◌<◌, ◌≤◌, ◌+◌, ◌*◌, ℕ, sym, ap, ◌∙◌, arith, Some}
 use Rattle.core_views.specs.declared.actor.Actor.TheVariants.{Manager}
-use Rattle.core_views.specs.declared.place.Place.{Place}
-use Rattle.core_views.specs.declared.place.Place.TheVariants as place
-use Rattle.core_views.specs.declared.place.SetSlotPlace.{SetSlotPlace}
-use Rattle.core_views.specs.declared.place.SetSlotPlace.TheVariants.{Refuse, Claim, Release, Watch, Clear, Give}
 use Rattle.core_views.specs.declared.place.SlotField.{SlotField}
 use Rattle.core_views.specs.declared.place.SlotField.TheVariants as field
 use Rattle.core_views.specs.declared.sizes.Sizes.{Sizes}
-use Rattle.core_views.specs.declared.trace.Command.{Command}
-use Rattle.core_views.specs.declared.trace.Command.TheVariants.{Access, SetSlot}
 use Rattle.core_views.specs.declared.trace.Slot.{Slot as SlotOf}
-use Rattle.core_views.specs.declared.topics.OwnedPage.{OwnedPage}
 use Rattle.core_views.specs.Held.{Held}
 use Rattle.core_views.specs.Sizes.{actors_of}
 use Rattle.core_views.specs.SlotSets.{MemorySlots}
 use Rattle.spte_words.specs.Flags.{flags_live, flags_logged, flags_read_only}
-use Rattle.mmu_core.specs.invariant.Invariant.{CachedPart, FillsSet, Holds, InvariantOf, KnowsPart, LeavesPart, OwnLines, RecordPart, SetSlotHolds, SlotSetPart}
+use Rattle.mmu_core.specs.invariant.Invariant.{CachedPart, Holds, InvariantOf, KnowsPart, LeavesPart, OwnLines, RecordPart, SlotSetPart}
 use Rattle.part_steps.specs.SlotWords.{field_number, live_at, memory_slot_at, memory_slots_below, slot_at, slot_index, slots_below}
 use Rattle.mmu_core.specs.machine.View.{upd}
 use Rattle.mmu_core.proofs.machine.Columns.{at_upd}
-use Rattle.mmu_core.proofs.slots.LiveStay.{StayLive, access_stays, translations_stay}
-pub use Rattle.mmu_core.proofs.slots.LiveStays.{SetStays}
+use Rattle.mmu_core.proofs.lines.Forms.{loads_stay}
+use Rattle.mmu_core.proofs.slots.LiveStay.{StayLive, translations_stay}
+pub use Rattle.mmu_core.proofs.slots.LiveStays.{OwnedStays, SetStays}
 use Rattle.mmu_core.proofs.words.SlotFields.{is_number, same_slot}
 use Rattle.mmu_core.proofs.words.SlotLists.{same_below}
 
@@ -57,30 +51,6 @@ module _ (set : ℕ) (before after : ℕ → ℕ) (stays : SetStays set before a
 
   pub record_stays : (slots : MemorySlots) → RecordPart before set slots → RecordPart after set slots
   record_stays slots R = record { same = R.same ∙ sym (memory_below_stay 32 (omega arith)) }
-
--- The words of the page that an actor owns stay.
-abbrev pub OwnedStays : (ℕ → ℕ) → (ℕ → ℕ) → Held → Type 0
-OwnedStays before after h = (o : OwnedPage) → h.topics.owned ≡ Some o → SetStays o.page before after
-
--- What a line has loaded or stored stays, where live slots and the words of its own page do.
-module _ (z : Sizes) (before : ℕ → ℕ) (set : ℕ) (after : ℕ → ℕ) (other : ℕ) (host : ℕ → ℕ) (h : Held) (stay : StayLive before set after other) (own : OwnedStays before after h) where
-  fills_stay : (id : ℕ) (slot : SlotOf) → FillsSet z.pages before id slot h → FillsSet z.pages after id slot h
-  fills_stay id slot F = record { accepted = F.accepted; filled = λ o is j lt word. own o is j word ∙ F.filled o is j lt word }
-
-  set_slot_stays : (p : SetSlotPlace) (id : ℕ) (slot : SlotOf) → SetSlotHolds z before p id slot h → SetSlotHolds z after p id slot h
-  set_slot_stays (Refuse refusal) id slot e = e
-  set_slot_stays (Claim begun) id slot e = e
-  set_slot_stays Release id slot e = tt
-  set_slot_stays Watch id slot e = tt
-  set_slot_stays Clear id slot e = tt
-  set_slot_stays Give id slot e = tt
-  set_slot_stays _ id slot e = fills_stay id slot e
-
-  pub loads_stay : (p : Place) (command : Command) → Holds z before host set p command h → Holds z after host other p command h
-  loads_stay place.Between command e = tt
-  loads_stay (place.Access p) (Access gfn word op) e = access_stays before set after other stay host p gfn h e
-  loads_stay (place.SetSlot p) (SetSlot id slot) e = set_slot_stays p id slot e
-  loads_stay _ _ e = absurd e
 
 -- What each hand knows of its place, from itself.
 abbrev pub AllKnow : Sizes → (ℕ → Held) → Type 0

@@ -13,8 +13,6 @@ use Rattle.core_views.specs.declared.actor.Actor.{Actor}
 use Rattle.core_views.specs.declared.actor.Actor.TheVariants.{Vcpu, Host, Manager, Worker}
 use Rattle.core_views.specs.declared.cache.Translation.{Translation}
 use Rattle.core_views.specs.declared.sizes.Sizes.{Sizes}
-use Rattle.core_views.specs.declared.trace.Command.{Command}
-use Rattle.core_views.specs.declared.trace.Command.TheVariants.{Access, SetSlot}
 use Rattle.core_views.specs.declared.trace.Line.{Line}
 use Rattle.core_views.specs.Actors.{is_same}
 use Rattle.core_views.specs.Held.{Held, first_held}
@@ -40,6 +38,7 @@ use Rattle.mmu_core.specs.machine.Worlds.{AreStartWords, HandReached, IsStart, R
 pub use Rattle.mmu_core.proofs.start.StartWords.{hand_is, word_at_start}
 use Rattle.mmu_core.proofs.start.StartWords.{hands_count, least_low, pool_word}
 use Rattle.mmu_core.proofs.start.StartTopics.{rest_first, start_topics}
+use Rattle.mmu_core.proofs.lines.LinesKept.{AddsId, NoId, OneId, adds_id}
 use Rattle.mmu_core.proofs.invariant.RestsKept.{hand_rests, rests_stay}
 use Rattle.mmu_core.specs.invariant.Laws.{IsSound}
 use Rattle.mmu_core.proofs.machine.Worlds.{good_run}
@@ -121,43 +120,43 @@ chosen_own actor (line ∷ lines) = by (chosen_own actor lines) (is_same actor l
     by rest false is = rest
 
 -- the IDs that an actor's lines set are among those of all, in their order
-all_behind : (P : ℕ → Type 0) (c : Command) (ids : List ℕ) → AllByRecursion P (or_slot_id c ids) → AllByRecursion P ids
-all_behind P (Access gfn word op) ids e = e
-all_behind P (SetSlot id slot) ids e = e.1
+all_behind : (P : ℕ → Type 0) (with_id : List ℕ → List ℕ) (ids : List ℕ) → AddsId with_id → AllByRecursion P (with_id ids) → AllByRecursion P ids
+all_behind P _ ids NoId e = e
+all_behind P _ ids (OneId id) e = e.1
 
-all_with : (P : ℕ → Type 0) (c : Command) (ids own : List ℕ) → (AllByRecursion P ids → AllByRecursion P own) → AllByRecursion P (or_slot_id c ids) → AllByRecursion P (or_slot_id c own)
-all_with P (Access gfn word op) ids own rest e = rest e
-all_with P (SetSlot id slot) ids own rest e = (e.0, rest e.1)
+all_with : (P : ℕ → Type 0) (with_id : List ℕ → List ℕ) (ids own : List ℕ) → AddsId with_id → (AllByRecursion P ids → AllByRecursion P own) → AllByRecursion P (with_id ids) → AllByRecursion P (with_id own)
+all_with P _ ids own NoId rest e = rest e
+all_with P _ ids own (OneId id) rest e = (e.0, rest e.1)
 
 chosen_ids : (P : ℕ → Type 0) (actor : Actor) (lines : List Line) → AllByRecursion P (slot_ids lines) → AllByRecursion P (slot_ids (lines_of actor lines))
 chosen_ids P actor [] e = tt
 chosen_ids P actor (line ∷ lines) e = by (is_same actor line.actor) (chosen_ids P actor lines)
   where
     by : (b : Bool) → (AllByRecursion P (slot_ids lines) → AllByRecursion P (slot_ids (lines_of actor lines))) → AllByRecursion P (slot_ids (if b then line ∷ lines_of actor lines else lines_of actor lines))
-    by true rest = all_with P line.command (slot_ids lines) (slot_ids (lines_of actor lines)) rest e
-    by false rest = rest (all_behind P line.command (slot_ids lines) e)
+    by true rest = all_with P (or_slot_id line.command) (slot_ids lines) (slot_ids (lines_of actor lines)) (adds_id line.command) rest e
+    by false rest = rest (all_behind P (or_slot_id line.command) (slot_ids lines) (adds_id line.command) e)
 
 -- No two of an actor's lines set a slot at one ID, where no two of all do.
 abbrev Differ : List ℕ → Type 0
 Differ ids = IsDistinct (λ i j. i == j) ids
 
-differ_behind : (c : Command) (ids : List ℕ) → Differ (or_slot_id c ids) → Differ ids
+differ_behind : (with_id : List ℕ → List ℕ) (ids : List ℕ) → AddsId with_id → Differ (with_id ids) → Differ ids
 unfolding IsDistinct
-differ_behind (Access gfn word op) ids e = e
-differ_behind (SetSlot id slot) ids e = e.1
+differ_behind _ ids NoId e = e
+differ_behind _ ids (OneId id) e = e.1
 
-differ_with : (c : Command) (ids own : List ℕ) → ((P : ℕ → Type 0) → AllByRecursion P ids → AllByRecursion P own) → (Differ ids → Differ own) → Differ (or_slot_id c ids) → Differ (or_slot_id c own)
+differ_with : (with_id : List ℕ → List ℕ) (ids own : List ℕ) → AddsId with_id → ((P : ℕ → Type 0) → AllByRecursion P ids → AllByRecursion P own) → (Differ ids → Differ own) → Differ (with_id ids) → Differ (with_id own)
 unfolding IsDistinct
-differ_with (Access gfn word op) ids own each rest e = rest e
-differ_with (SetSlot id slot) ids own each rest e = (each (λ j. (id == j) ≡ false) e.0, rest e.1)
+differ_with _ ids own NoId each rest e = rest e
+differ_with _ ids own (OneId id) each rest e = (each (λ j. (id == j) ≡ false) e.0, rest e.1)
 
 chosen_distinct : (actor : Actor) (lines : List Line) → Differ (slot_ids lines) → Differ (slot_ids (lines_of actor lines))
 chosen_distinct actor [] e = e
 chosen_distinct actor (line ∷ lines) e = by (is_same actor line.actor) (chosen_distinct actor lines)
   where
     by : (b : Bool) → (Differ (slot_ids lines) → Differ (slot_ids (lines_of actor lines))) → Differ (slot_ids (if b then line ∷ lines_of actor lines else lines_of actor lines))
-    by true rest = differ_with line.command (slot_ids lines) (slot_ids (lines_of actor lines)) (λ P. chosen_ids P actor lines) rest e
-    by false rest = rest (differ_behind line.command (slot_ids lines) e)
+    by true rest = differ_with (or_slot_id line.command) (slot_ids lines) (slot_ids (lines_of actor lines)) (adds_id line.command) (λ P. chosen_ids P actor lines) rest e
+    by false rest = rest (differ_behind (or_slot_id line.command) (slot_ids lines) (adds_id line.command) e)
 
 first_lines : (z : Sizes) (lines : List Line) (w : World Held) (i : ℕ) → IsStart z lines w → i < actors_of z → OwnLines z i (first_held z (actor_at z i) (lines_of (actor_at z i) lines))
 first_lines z lines w i start lt =

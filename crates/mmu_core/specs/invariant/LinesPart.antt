@@ -17,8 +17,7 @@ use Rattle.mmu_core.specs.machine.Steps.{next_line}
 -- A line is under way: it is the hand's next line, which has no answer yet.
 abbrev pub UnderWay : Place → Held → Type 0
 UnderWay place.Between h = Unit {0}
-UnderWay (place.Access p) h = (h.state.line ≡ next_line h) × (length h.answers < length h.lines)
-UnderWay (place.SetSlot p) h = (h.state.line ≡ next_line h) × (length h.answers < length h.lines)
+UnderWay _ h = (h.state.line ≡ next_line h) × (length h.answers < length h.lines)
 
 -- One of the lines sets this slot at this ID.
 abbrev pub IsSetBy : List Line → ℕ × MemorySlot → Type 0

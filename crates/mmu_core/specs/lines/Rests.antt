@@ -44,8 +44,7 @@ RestsAt _ _ h = ⊥
 -- A line stands there that has begun, or begins with the next step.
 abbrev pub IsUnderWay : Place → Type 0
 IsUnderWay place.Between = ⊥
-IsUnderWay (place.Access p) = Unit {0}
-IsUnderWay (place.SetSlot p) = Unit {0}
+IsUnderWay _ = Unit {0}
 
 -- The manager's own record accepts the slot whose set is published.
 abbrev pub RecordAccepts : SetSlotPlace → ℕ → ℕ → SlotOf → MemorySlots → Type 0

@@ -3,7 +3,7 @@ use Rattle.std.specs.Prelude.{◌^◌, ◌<◌, ℕ, length}
 use Rattle.core_views.specs.declared.kind.Kind.{Kind}
 use Rattle.core_views.specs.declared.sizes.Sizes.{Sizes}
 use Rattle.core_views.specs.declared.trace.Command.{Command}
-use Rattle.core_views.specs.declared.trace.Command.TheVariants.{Access, SetSlot}
+use Rattle.core_views.specs.declared.trace.Command.TheVariants.{Access}
 use Rattle.core_views.specs.declared.trace.Op.TheVariants.{Add, Read, Write}
 use Rattle.core_views.specs.Held.{Held}
 use Rattle.mmu_core.specs.machine.Enabled.{mmu}
@@ -20,7 +20,7 @@ abbrev pub WritesOneWord : Command → Type 0
 WritesOneWord (Access gfn word Read) = Unit {0}
 WritesOneWord (Access gfn word (Write x)) = x < 2 ^ 64
 WritesOneWord (Access gfn word (Add x)) = x < 2 ^ 64
-WritesOneWord (SetSlot id slot) = Unit {0}
+WritesOneWord _ = Unit {0}
 
 -- The hand has a line without an answer, and what the line writes has 64 bits.
 pub record HasLineThatFits (h : Held) : Type 0 where

@@ -38,8 +38,7 @@ next_line h = unwrap_or (slice_get h.lines (length h.answers)) no_line
 -- the line that the hand's next step is of: the one under way, or the next one
 abbrev pub line_at : Place → Held → Line
 line_at place.Between h = next_line h
-line_at (place.Access p) h = h.state.line
-line_at (place.SetSlot p) h = h.state.line
+line_at _ h = h.state.line
 
 -- where a line begins
 abbrev pub first_place : Sizes → MemorySlots → Command → Place
@@ -49,8 +48,7 @@ first_place z slots (SetSlot id slot) = place.SetSlot (set_slot_first (set_refus
 -- where a line with this command stands, which is at its first place where it hasn't begun
 abbrev pub standing : Place → Sizes → MemorySlots → Command → Place
 standing place.Between z slots command = first_place z slots command
-standing (place.Access p) z slots command = place.Access p
-standing (place.SetSlot p) z slots command = place.SetSlot p
+standing p z slots command = p
 
 -- where the line of the hand's next step stands
 abbrev pub place_at : Place → Held → Place
@@ -135,8 +133,7 @@ next h k v = next_by (has_line h) h k v
 -- A line begins with its first step.
 abbrev pub beginning : Place → Line → List EventKind
 beginning place.Between line = Begun line ∷ []
-beginning (place.Access p) line = []
-beginning (place.SetSlot p) line = []
+beginning _ line = []
 
 abbrev pub event_kinds : Place → Line → Place → Held → ℕ → List EventKind
 event_kinds stood line p h v = beginning stood line ++ (tells_at p line.command h v ++ answering (outcome_at p line.command h v) line)

@@ -16,7 +16,7 @@ use Rattle.core_views.specs.declared.place.Place.TheVariants as place
 use Rattle.core_views.specs.declared.sizes.Sizes.{Sizes}
 use Rattle.core_views.specs.declared.topics.Topics.{Topics}
 use Rattle.core_views.specs.declared.trace.Command.{Command}
-use Rattle.core_views.specs.declared.trace.Command.TheVariants.{Access, SetSlot}
+use Rattle.core_views.specs.declared.trace.Command.TheVariants.{Access}
 use Rattle.core_views.specs.declared.trace.Op.{Op}
 use Rattle.core_views.specs.Held.{Held}
 use Rattle.core_views.specs.SlotSets.{MemorySlots}
@@ -66,7 +66,7 @@ AccessSaw Saw actor _ gfn t ss u = Unit {0}
 
 abbrev PlaceSaw : Sights → ℕ → Command → Place → Topics → List (Step Kind) → World Held → Type 0
 PlaceSaw Saw actor (Access gfn word op) p t ss u = AccessSaw Saw actor p gfn t ss u
-PlaceSaw Saw actor (SetSlot id slot) p t ss u = Unit {0}
+PlaceSaw Saw actor _ p t ss u = Unit {0}
 
 abbrev LineSaw : Sights → LineSights
 LineSaw Saw actor p c t ss u = PlaceSaw Saw actor c p t ss u
@@ -131,25 +131,25 @@ module _ (z : Sizes) (w : World Held) (Saw : Sights) (A : AreSeen z w Saw) (ss :
   access_saw _ gfn word op K S = tt
 
   line_saw : (p : Place) (c : Command) → IsStepAt h s p c → LineSaw Saw s.actor p c h.topics ss u → SawNow (place_after (outcome_at p c h v)) c behind
-  line_saw p (SetSlot id slot) K S = tt
-  line_saw place.Between (Access gfn word op) K S = tt
   line_saw (place.Access p) (Access gfn word op) K S = access_saw p gfn word op K S
-  line_saw (place.SetSlot p) (Access gfn word op) K S = absurd K.knows
+  line_saw place.Between (Access gfn word op) K S = tt
+  line_saw _ (Access gfn word op) K S = absurd K.knows
+  line_saw _ _ K S = tt
 
 module _ (z : Sizes) (w : World Held) (Saw : Sights) where
   between_saw : (actor : ℕ) (c : Command) (t : Topics) (ss : List (Step Kind)) (u : World Held) → LineSaw Saw actor place.Between c t ss u
   between_saw actor (Access gfn word op) t ss u = tt
-  between_saw actor (SetSlot id slot) t ss u = tt
+  between_saw actor _ t ss u = tt
 
   first_saw : (actor : ℕ) (y : Sizes) (slots : MemorySlots) (c : Command) (t : Topics) (ss : List (Step Kind)) (u : World Held) → LineSaw Saw actor (first_place y slots c) c t ss u
   first_saw actor y slots (Access gfn word op) t ss u = tt
-  first_saw actor y slots (SetSlot id slot) t ss u = tt
+  first_saw actor y slots _ t ss u = tt
 
   others_saw : AreSeen z w Saw → (actor : ℕ) (p : Place) (c : Command) (t : Topics) (ss : List (Step Kind)) (s : Step Kind) → May mmu (run mmu w ss) s → s.actor ≢ actor
       → LineSaw Saw actor p c t ss (run mmu w ss) → LineSaw Saw actor p c t (ss ++ s ∷ []) (effect mmu (run mmu w ss) s)
-  others_saw A actor p (SetSlot id slot) t ss s may other S = tt
   others_saw A actor (place.Access (access.Fault p)) (Access gfn word op) t ss s may other S = A.others actor p gfn t ss s may other S
   others_saw A actor _ (Access gfn word op) t ss s may other S = tt
+  others_saw A actor _ _ t ss s may other S = tt
 
   lines_see : AreSeen z w Saw → LinesSee z w (LineSaw Saw)
   lines_see A = record { between = between_saw; first = first_saw; own = λ ss s G may p c K S. line_saw z w Saw A ss s G may p c K S; others = others_saw A }
@@ -177,7 +177,7 @@ is_access h q stands K = by h.state.line.command refl (subst (λ (p : Place). Kn
   where
     by : (c : Command) → h.state.line.command ≡ c → KnowsPart (place.Access q) c h → IsAccess h
     by (Access gfn word op) e K = record { gfn = gfn; word = word; op = op; command = e }
-    by (SetSlot id slot) e K = absurd K
+    by _ e K = absurd K
 
 -- The next step of a line at a fault's place is the step of this place.
 pub fault_makes : (h : Held) (s : Step Kind) (p : FaultPlace) (gfn word : ℕ) (op : Op) → IsNext h s.kind → h.state.place ≡ place.Access (access.Fault p) → h.state.line.command ≡ Access gfn word op → Makes h s (fault_part p gfn h.topics)

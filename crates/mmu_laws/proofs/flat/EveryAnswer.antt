@@ -13,7 +13,7 @@ use Rattle.core_views.specs.declared.place.Place.{Place}
 use Rattle.core_views.specs.declared.place.Place.TheVariants as place
 use Rattle.core_views.specs.declared.sizes.Sizes.{Sizes}
 use Rattle.core_views.specs.declared.trace.Command.{Command}
-use Rattle.core_views.specs.declared.trace.Command.TheVariants.{Access, SetSlot}
+use Rattle.core_views.specs.declared.trace.Command.TheVariants.{Access}
 use Rattle.core_views.specs.declared.trace.Line.{Line}
 use Rattle.core_views.specs.Actors.{is_same}
 use Rattle.core_views.specs.Held.{Held, first_held}
@@ -168,8 +168,9 @@ equal n = grind (arith, nat_tests)
 -- Each line's actor has one.
 present : (z : Sizes) (actor : Actor) (command : Command) → IsCommandFor z actor command → Present z actor
 present z (Vcpu n) (Access gfn word op) may = (n, omega (arith, may.0), rw (less n z.vcpus may.0) refl)
-present z Manager (SetSlot id slot) may =
+present z Manager command may =
     (z.vcpus + z.hosts, omega arith, rw (not_less (z.vcpus + z.hosts) z.vcpus (omega arith), not_less (z.vcpus + z.hosts - z.vcpus) z.hosts (omega arith), equal (z.vcpus + z.hosts)) refl)
+present z _ (Access gfn word op) may = absurd may
 present z _ _ may = absurd may
 
 -- An actor has a hand, or is none of those that have one.

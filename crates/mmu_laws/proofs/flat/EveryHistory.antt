@@ -6,8 +6,6 @@ use Rattle.core_views.specs.declared.kind.Kind.{Kind}
 use Rattle.core_views.specs.declared.place.Place.{Place}
 use Rattle.core_views.specs.declared.place.Place.TheVariants as place
 use Rattle.core_views.specs.declared.sizes.Sizes.{Sizes}
-use Rattle.core_views.specs.declared.trace.Command.{Command}
-use Rattle.core_views.specs.declared.trace.Command.TheVariants.{Access, SetSlot}
 use Rattle.core_views.specs.declared.trace.Line.{Line}
 use Rattle.core_views.specs.Events.{after, after_all}
 use Rattle.core_views.specs.Flat.{Flat, first_flat}
@@ -19,7 +17,6 @@ use Rattle.spte_words.specs.declared.area.Area.{Area}
 use Rattle.spte_words.specs.declared.area.Area.TheVariants as area
 use Rattle.part_steps.specs.declared.task.Task.{Task}
 use Rattle.part_steps.specs.declared.part_step.PartStep.{PartStep}
-use Rattle.mmu_core.specs.lines.AccessSteps.{access_part}
 use Rattle.mmu_core.specs.machine.Enabled.{mmu}
 use Rattle.mmu_laws.specs.flat.FlatInvariant.{FlatInvariant, UnderIs}
 use Rattle.mmu_core.specs.invariant.Invariant.{Invariant, UnderWay}
@@ -32,7 +29,6 @@ use Rattle.part_steps.specs.Tasks.{kind_of_task}
 use Rattle.mmu_core.specs.invariant.TopicsInvariant.{TopicsInvariant}
 use Rattle.mmu_core.specs.machine.View.{View, answer_in, part_stepped, view, word_in, words_after}
 use Rattle.mmu_core.specs.machine.Worlds.{IsStart, history}
-use Rattle.mmu_laws.proofs.flat.AccessFlat.{IsPartOr}
 use Rattle.mmu_core.proofs.machine.Columns.{at_upd}
 use Rattle.mmu_laws.proofs.flat.FlatSteps.{Leaves, part_leaves, refines_stay}
 use Rattle.mmu_core.proofs.lines.KnowsKept.{step_knows}
@@ -41,26 +37,16 @@ use Rattle.mmu_core.proofs.machine.Stepping.{IsStep}
 use Rattle.mmu_core.proofs.start.Starts.{hand_is, none_live, start_good, word_at_start}
 use Rattle.mmu_core.proofs.machine.Which.{events_of_part, has_line_is}
 use Rattle.mmu_core.proofs.machine.Worlds.{Takes, TakesPart, good_step, takes, view_small}
-use Rattle.mmu_core.proofs.lines.AccessParts.{AreSmall, makes_parts, makes_setting}
+use Rattle.mmu_core.proofs.lines.AccessParts.{AreSmall}
+use Rattle.mmu_core.proofs.invariant.Kept.{makes_at}
 use Rattle.mmu_laws.proofs.flat.FlatKept.{flat_kept, told_events, told_is_events}
-use Rattle.mmu_laws.proofs.flat.FlatStill.{PartOf, others_held, under_still}
+use Rattle.mmu_laws.proofs.flat.FlatStill.{others_held, under_still}
 use Rattle.mmu_core.proofs.machine.PartStepping.{IsPart, idle_never}
 
 -- A hand with no line left has none under way.
 none_under : (p : Place) (h : Held) → UnderWay p h → has_line h ≡ false → p ≡ place.Between
 none_under place.Between h under none = refl
 none_under _ h under none = let has = has_line_is h under.1 in absurd (cc (none, has))
-
--- A step of a line is one of a part that its actor may make, or none.
-part_or : (z : Sizes) (v : View) (a : ℕ) (o : Option PartStep) → ((step : PartStep) → o ≡ Some step → IsPart z v a step) → IsPartOr z v a o
-part_or z v a None makes = tt
-part_or z v a (Some step) makes = makes step refl
-
-part_of : (z : Sizes) (v : View) (a : ℕ) (line : Line) (command : Command) (p : Place) → AreSmall v → IsStep z v a line command p → Invariant z v → TopicsInvariant z v → PartOf z v a command p
-part_of z v a line command place.Between small S I P = absurd S.begun
-part_of z v a line (Access gfn word op) (place.Access p) small S I P = part_or z v a (access_part p gfn (v.hand a).topics) (makes_parts z v a line p gfn word op small S I P)
-part_of z v a line (SetSlot id slot) (place.SetSlot p) small S I P = makes_setting z v a line p id slot small S I P
-part_of z v a line _ _ small S I P = tt
 
 -- A step of a part tells nothing, and the words still stand for the same facts.
 part_keeps_flat : (z : Sizes) (v : View) (f : Flat) (a : ℕ) (step : PartStep) (note : ℕ) → IsPart z v a step → needs_line step ≡ false → has_line (v.hand a) ≡ false → Invariant z v → TopicsInvariant z v → FlatInvariant z v f
@@ -120,7 +106,7 @@ run_flat z w f (s ∷ ss) G F legal = by (takes z w s G legal.0) (λ es F. run_f
     by (inl T) more =
         let es : List Event = told_events (view z w) s.actor (line_at h.state.place h) (line_at h.state.place h).command (place_at h.state.place h) in
         let is : events_of h (answered mmu w s.kind) ≡ es = ap (events_of h) T.answers ∙ sym (told_is_events z (view z w) s.actor (line_at h.state.place h) (place_at h.state.place h) T.is_step) in
-        let K = flat_kept z (view z w) f s.actor (line_at h.state.place h) (line_at h.state.place h).command (place_at h.state.place h) T.is_step G.holds G.topics (part_of z (view z w) s.actor (line_at h.state.place h) (line_at h.state.place h).command (place_at h.state.place h) (view_small z w G.small) T.is_step G.holds G.topics)
+        let K = flat_kept z (view z w) f s.actor (line_at h.state.place h) (line_at h.state.place h).command (place_at h.state.place h) T.is_step G.holds G.topics (makes_at z (view z w) s.actor (line_at h.state.place h) (line_at h.state.place h).command (place_at h.state.place h) (view_small z w G.small) T.is_step G.holds G.topics)
         (step_knows z (view z w) s.actor (line_at h.state.place h) (line_at h.state.place h).command (place_at h.state.place h) T.is_step G.holds) G.no_pause F in
         let then_ = more es (subst (λ (v : View). FlatInvariant z v (after_all es f)) (sym T.leads) K.1) in
         subst Tells (sym is) (stays_flat z (run mmu (effect mmu w s) ss) f es (history (effect mmu w s) ss) K.0 then_)

@@ -15,7 +15,7 @@ use Rattle.core_views.specs.declared.place.Place.TheVariants as place
 use Rattle.core_views.specs.declared.sizes.Sizes.{Sizes}
 use Rattle.core_views.specs.declared.topics.Topics.{Topics}
 use Rattle.core_views.specs.declared.trace.Command.{Command}
-use Rattle.core_views.specs.declared.trace.Command.TheVariants.{Access, SetSlot}
+use Rattle.core_views.specs.declared.trace.Command.TheVariants.{Access}
 use Rattle.core_views.specs.declared.trace.Line.{Line}
 use Rattle.core_views.specs.declared.trace.Op.{Op}
 use Rattle.core_views.specs.Actors.{changed_at, is_same}
@@ -29,7 +29,7 @@ use Rattle.core_views.proofs.SameActor.{changed_here}
 use Rattle.spte_words.specs.declared.area.Area.{Area}
 use Rattle.spte_words.specs.declared.area.Area.TheVariants as area
 use Rattle.mmu_core.specs.lines.AccessSteps.{access_loads}
-use Rattle.mmu_laws.specs.flat.FlatInvariant.{FlatInvariant, Refines, UnderIs, SettingUnder}
+use Rattle.mmu_laws.specs.flat.FlatInvariant.{FlatInvariant, Refines, UnderIs}
 use Rattle.mmu_core.specs.invariant.Invariant.{Invariant}
 use Rattle.mmu_core.specs.lines.KnowsPart.{KnowsPart}
 use Rattle.mmu_core.specs.lines.Rests.{IsUnderWay}
@@ -38,16 +38,13 @@ use Rattle.mmu_core.specs.machine.Outcomes.{answering}
 use Rattle.mmu_core.specs.invariant.TopicsInvariant.{TopicsInvariant}
 use Rattle.mmu_core.specs.machine.View.{View, answer_in, hand_after, stepped, words_after}
 use Rattle.mmu_core.proofs.machine.Columns.{at_upd}
-use Rattle.mmu_laws.proofs.flat.FlatSteps.{Ready, StepGoes, UnderAt, under_at, under_is}
-use Rattle.mmu_laws.proofs.flat.SetSlotFlat.{set_slot_goes}
+use Rattle.mmu_laws.proofs.flat.FlatSteps.{Ready, StepGoes, UnderAt}
+use Rattle.mmu_laws.proofs.flat.Forms.{first_at, step_goes}
 use Rattle.mmu_core.proofs.machine.Which.{events_of_line, has_line_is}
+use Rattle.mmu_core.proofs.invariant.Kept.{MakesAt}
 use Rattle.mmu_core.proofs.machine.Stepping.{IsStep}
 use Rattle.mmu_laws.proofs.flat.Told.{line_behind, told, told_facts, told_lawful, told_line, told_others}
-use Rattle.mmu_laws.proofs.flat.FlatStill.{PartOf, line_held, under_still}
-use Rattle.core_views.specs.declared.answer.Refusal.{Refusal}
-use Rattle.core_views.specs.Refusals.{set_refusal}
-use Rattle.mmu_core.specs.lines.SetSlotSteps.{set_slot_first}
-use Rattle.mmu_laws.proofs.flat.AccessFlat.{access_goes}
+use Rattle.mmu_laws.proofs.flat.FlatStill.{line_held, under_still}
 
 -- what a step tells besides that its line begins
 abbrev pub told_kinds : View → ℕ → Line → Command → Place → List EventKind
@@ -63,14 +60,6 @@ told_events v a line command p = told (v.hand a).state.actor (beginning (v.hand 
 -- the events are lawful, and the words and hands after the step are flat memory behind them
 abbrev Meets : Sizes → View → Flat → ℕ → Line → Command → Place → List Event → Type 0
 Meets z v f a line command p es = IsLawful z f es × FlatInvariant z (stepped a line command p v) (after_all es f)
-
--- The step of each place, once its line has begun.
-step_goes : (z : Sizes) (v : View) (a : ℕ) (line : Line) (command : Command) (p : Place) (f : Flat) (u : LineUnderWay)
-    → IsStep z v a line command p → Invariant z v → TopicsInvariant z v → PartOf z v a command p → KnowsPart p command (v.hand a) → Ready z v line command p (v.hand a).topics f.facts u → StepGoes z v a line command p f.facts u
-step_goes z v a line command place.Between f u S I P part K R = absurd S.begun
-step_goes z v a line (Access gfn word op) (place.Access p) f u S I P part K R = access_goes z v a line gfn word f.facts u op p S I P part K R
-step_goes z v a line (SetSlot id slot) (place.SetSlot p) f u S I P part K R = set_slot_goes z v a line id slot f.facts u p S I P part R
-step_goes z v a line _ _ f u S I P part K R = absurd S.holds
 
 -- One actor has one place.
 pub same_index : (z : Sizes) (a b : Actor) → is_same a b ≡ true → index_of z a ≡ index_of z b
@@ -106,7 +95,7 @@ same_actor (place.Access p) (Access gfn word op) h x = access_actor p h gfn op x
 same_actor _ _ h x = refl
 
 -- Behind the begin of its line a step meets flat memory.
-meets_begun : (z : Sizes) (v : View) (f : Flat) (a : ℕ) (line : Line) (command : Command) (p : Place) → IsStep z v a line command p → Invariant z v → TopicsInvariant z v → PartOf z v a command p → KnowsPart p command (v.hand a)
+meets_begun : (z : Sizes) (v : View) (f : Flat) (a : ℕ) (line : Line) (command : Command) (p : Place) → IsStep z v a line command p → Invariant z v → TopicsInvariant z v → MakesAt z v a p command → KnowsPart p command (v.hand a)
     → Ready z v line command p (v.hand a).topics f.facts (f.under (v.hand a).state.actor) → Others z v a f → Meets z v f a line command p (told (v.hand a).state.actor (told_kinds v a line command p))
 meets_begun z v f a line command p S I P part K R others = (
   told_lawful z s.actor kinds f G.allowed,
@@ -143,22 +132,13 @@ meets_begun z v f a line command p S I P part K R others = (
         subst (λ k. UnderIs (words area.Pool) then_.state.place line.command then_ (behind.under k)) (sym (same_actor p command (v.hand a) x))
         (subst (λ c. UnderIs (words area.Pool) then_.state.place c then_ (behind.under s.actor)) (sym S.command_is)
         (subst (UnderIs (words area.Pool) then_.state.place command then_) (sym (told_line s.actor kinds f))
-        (under_is (words area.Pool) then_.state.place command then_ (line_behind kinds f.facts (f.under s.actor)) G.under)))
+        G.under))
 
     there : (i : ℕ) → i < actors_of z → i ≢ a → UnderIs (words area.Pool) (v.hand i).state.place (v.hand i).state.line.command (v.hand i) (behind.under (v.hand i).state.actor)
     there i i_in apart =
         subst (UnderIs (words area.Pool) (v.hand i).state.place (v.hand i).state.line.command (v.hand i))
         (sym (told_others s.actor (v.hand i).state.actor kinds f (other_actor z v a i I S.there i_in apart)))
         (under_still (v.words area.Pool) (words area.Pool) (v.hand i).state.place (v.hand i).state.line.command (v.hand i) (f.under (v.hand i).state.actor) (λ k held. line_held z v a command p P part i k i_in apart held) (others i i_in apart))
-
--- A line that begins is under way, and has done nothing.
-first_at : (pool : ℕ → ℕ) (z : Sizes) (slots : MemorySlots) (line : Line) (command : Command) (t : Topics) (u : LineUnderWay) → u.stage ≡ Fresh → u.line ≡ line → UnderAt pool (first_place z slots command) line command t u
-first_at pool z slots line (Access gfn word op) t u fresh is = (is, fresh)
-first_at pool z slots line (SetSlot id slot) t u fresh is = (is, first_set (set_refusal z.pages id slot slots))
-  where
-    first_set : (r : Option Refusal) → SettingUnder (set_slot_first r) u
-    first_set None = fresh
-    first_set (Some refusal) = fresh
 
 -- Where the pause's word is 0 nothing is paused.
 not_paused : (z : Sizes) (v : View) (f : Flat) → FlatInvariant z v f → v.words area.Pause 0 ≡ 0 → f.facts.paused ≡ false
@@ -205,7 +185,7 @@ ready_on z v f a line command p S F no_pause stands = record {
   under = subst (λ q. UnderAt (v.words area.Pool) q line command h.topics u) place_is
       (subst (λ c. UnderAt (v.words area.Pool) h.state.place line c h.topics u) (ap (λ (l : Line). l.command) (sym line_is) ∙ S.command_is)
       (subst (λ (l : Line). UnderAt (v.words area.Pool) h.state.place l h.state.line.command h.topics u) (sym line_is)
-      (under_at (v.words area.Pool) h.state.place h.state.line.command h u (F.under a S.there))));
+      (F.under a S.there)));
 }
   where
     h : Held
@@ -221,7 +201,7 @@ ready_on z v f a line command p S F no_pause stands = record {
     place_is = sym (stands_under h.state.place h.state.sizes h.slots (line_at h.state.place h).command stands) ∙ S.place_is
 
 pub flat_kept : (z : Sizes) (v : View) (f : Flat) (a : ℕ) (line : Line) (command : Command) (p : Place)
-    → IsStep z v a line command p → Invariant z v → TopicsInvariant z v → PartOf z v a command p → KnowsPart p command (v.hand a) → v.words area.Pause 0 ≡ 0 → FlatInvariant z v f
+    → IsStep z v a line command p → Invariant z v → TopicsInvariant z v → MakesAt z v a p command → KnowsPart p command (v.hand a) → v.words area.Pause 0 ≡ 0 → FlatInvariant z v f
     → IsLawful z f (told_events v a line command p) × FlatInvariant z (stepped a line command p v) (after_all (told_events v a line command p) f)
 flat_kept z v f a line command p S I P part K no_pause F = case (v.hand a).state.place refl
   where

@@ -7,7 +7,6 @@ use Rattle.core_views.specs.declared.place.Place.TheVariants as place
 use Rattle.core_views.specs.declared.sizes.Sizes.{Sizes}
 use Rattle.core_views.specs.declared.topics.Topics.{Topics}
 use Rattle.core_views.specs.declared.trace.Command.{Command}
-use Rattle.core_views.specs.declared.trace.Command.TheVariants.{Access, SetSlot}
 use Rattle.core_views.specs.declared.trace.Line.{Line}
 use Rattle.core_views.specs.Held.{Held}
 use Rattle.core_views.specs.SlotSets.{flat_slots}
@@ -23,7 +22,8 @@ use Rattle.mmu_core.specs.invariant.TopicsInvariant.{TopicsInvariant}
 use Rattle.part_steps.specs.TopicSteps.{topics_after}
 use Rattle.mmu_core.specs.machine.View.{View, answer_in, part_stepped, words_after}
 use Rattle.mmu_laws.proofs.flat.Told.{AreAllowed, facts_behind, line_behind}
-use Rattle.mmu_laws.specs.flat.FlatInvariant.{AccessUnder, Refines, SettingUnder, UnderIs}
+use Rattle.mmu_laws.specs.flat.FlatInvariant.{Refines}
+pub use Rattle.mmu_laws.specs.flat.FlatInvariant.{UnderAt}
 use Rattle.part_steps.specs.SlotWords.{memory_slots_below, slots_below}
 use Rattle.std.specs.Prelude.{◌==◌, false, not}
 use Rattle.mmu_core.proofs.slots.LiveStays.{SetStays, published_stays}
@@ -32,25 +32,6 @@ use Rattle.mmu_core.proofs.words.PartWords.{areas_stay, slots_are, slots_same}
 use Rattle.mmu_core.proofs.words.SlotLists.{flat_below}
 use Rattle.mmu_core.proofs.slots.SlotsStay.{memory_below_stay}
 use Rattle.core_views.specs.Flat.{Facts, LineUnderWay, Idle}
-
--- The line under way is this one, with this command, at this place, and its actor holds these topics.
-abbrev pub UnderAt : (ℕ → ℕ) → Place → Line → Command → Topics → LineUnderWay → Type 0
-UnderAt pool place.Between line command t u = u.stage ≡ Idle
-UnderAt pool (place.Access p) line (Access gfn word op) t u = (u.line ≡ line) × AccessUnder pool p gfn op t u
-UnderAt pool (place.SetSlot p) line (SetSlot id slot) t u = (u.line ≡ line) × SettingUnder p u
-UnderAt pool _ line command t u = ⊥
-
-pub under_is : (pool : ℕ → ℕ) (p : Place) (command : Command) (h : Held) (u : LineUnderWay) → UnderAt pool p h.state.line command h.topics u → UnderIs pool p command h u
-under_is pool place.Between command h u under = under
-under_is pool (place.Access p) (Access gfn word op) h u under = under
-under_is pool (place.SetSlot p) (SetSlot id slot) h u under = under
-under_is pool _ _ h u under = absurd under
-
-pub under_at : (pool : ℕ → ℕ) (p : Place) (command : Command) (h : Held) (u : LineUnderWay) → UnderIs pool p command h u → UnderAt pool p h.state.line command h.topics u
-under_at pool place.Between command h u under = under
-under_at pool (place.Access p) (Access gfn word op) h u under = under
-under_at pool (place.SetSlot p) (SetSlot id slot) h u under = under
-under_at pool _ _ h u under = absurd under
 
 -- The line has begun and stands at this place; the facts are what the words say, and nothing is paused.
 pub record Ready (z : Sizes) (v : View) (line : Line) (command : Command) (p : Place) (t : Topics) (facts : Facts) (u : LineUnderWay) : Type 0 where

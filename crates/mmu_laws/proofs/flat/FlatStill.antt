@@ -12,7 +12,7 @@ use Rattle.core_views.specs.declared.sizes.Sizes.{Sizes}
 use Rattle.core_views.specs.declared.topics.SlotSearch.{SlotSearch}
 use Rattle.core_views.specs.declared.topics.Topics.{Topics}
 use Rattle.core_views.specs.declared.trace.Command.{Command}
-use Rattle.core_views.specs.declared.trace.Command.TheVariants.{Access, SetSlot}
+use Rattle.core_views.specs.declared.trace.Command.TheVariants.{Access}
 use Rattle.core_views.specs.declared.trace.Op.{Op}
 use Rattle.core_views.specs.declared.trace.Slot.{Slot as SlotOf}
 use Rattle.core_views.specs.Flat.{LineUnderWay, Notes}
@@ -20,21 +20,20 @@ use Rattle.core_views.specs.Held.{Held}
 use Rattle.core_views.specs.Sizes.{actors_of}
 use Rattle.core_views.specs.Slots.{Slots, contains}
 use Rattle.spte_words.specs.declared.area.Area.TheVariants as area
-use Rattle.spte_words.specs.Areas.{content_index, pool_index}
-use Rattle.spte_words.specs.Entries.{frame_in}
+use Rattle.spte_words.specs.Areas.{pool_index}
 use Rattle.part_steps.specs.declared.part_step.PartStep.{PartStep}
-use Rattle.mmu_core.specs.lines.AccessSteps.{access_note, access_part, task_by, touch_of}
 use Rattle.mmu_laws.specs.flat.FlatInvariant.{AccessUnder, NotedAt, NotedSlots, UnderIs}
-use Rattle.mmu_core.specs.lines.SetSlotSteps.{set_slot_note, set_slot_part}
 use Rattle.part_steps.specs.SlotWords.{slots_below}
 use Rattle.mmu_core.specs.machine.Steps.{task_at}
-use Rattle.part_steps.specs.Tasks.{map_of}
+use Rattle.part_steps.specs.declared.task.Task.{Task}
 use Rattle.mmu_core.specs.invariant.TopicsInvariant.{TopicsInvariant}
 use Rattle.mmu_core.specs.machine.View.{View, part_stepped, words_after}
 use Rattle.mmu_laws.proofs.flat.AccessFlat.{IsPartOr}
 use Rattle.mmu_core.proofs.machine.Columns.{upd_other}
 use Rattle.mmu_core.proofs.slots.LiveStays.{SetStays, touch_leaves_pool}
 use Rattle.mmu_core.proofs.machine.PartStepping.{IsPart}
+use Rattle.mmu_core.proofs.invariant.Kept.{MakesAt}
+use Rattle.mmu_core.proofs.lines.StepIn.{StepIn, Makes, Touches, step_of}
 use Rattle.mmu_core.proofs.held.OldSets.{held_words_stay}
 use Rattle.mmu_core.proofs.slots.SlotsStay.{below_stay}
 
@@ -66,10 +65,9 @@ access_still pool other _ gfn op t u still under = under
 
 -- A line under way is flat's still.
 pub under_still : (pool other : ℕ → ℕ) (p : Place) (command : Command) (h : Held) (u : LineUnderWay) → HeldStays pool other h.topics.search → UnderIs pool p command h u → UnderIs other p command h u
-under_still pool other place.Between command h u still under = under
 under_still pool other (place.Access p) (Access gfn word op) h u still under = (under.0, access_still pool other p gfn op h.topics u still under.1)
-under_still pool other (place.SetSlot p) (SetSlot id slot) h u still under = under
-under_still pool other _ _ h u still under = absurd under
+under_still pool other _ (Access gfn word op) h u still under = under
+under_still pool other _ _ h u still under = under
 
 -- ---- Each step leaves the slot sets that other actors hold.
 
@@ -77,21 +75,15 @@ pub others_held : (z : Sizes) (v : View) (a : ℕ) (step : PartStep) (note : ℕ
     → SetStays k (v.words area.Pool) ((part_stepped a step note v).words area.Pool)
 others_held z v a step note S P i k lt ne held = held_words_stay z v a step note S P i k lt (ap (λ (g : Held). g.topics.search.set) (upd_other v.hand a i _ ne) ∙ held)
 
--- The actor's step is one of a part, if its line is a slot setting, or an access that isn't at its touch.
-abbrev pub PartOf : Sizes → View → ℕ → Command → Place → Type 0
-PartOf z v a (Access gfn word op) (place.Access p) = IsPartOr z v a (access_part p gfn (v.hand a).topics)
-PartOf z v a (SetSlot id slot) (place.SetSlot p) = IsPart z v a (set_slot_part p (v.hand a) id slot)
-PartOf z v a _ _ = Unit {0}
+-- A step of a line is one of a part that its actor may make, or none.
+pub part_or : (z : Sizes) (v : View) (a : ℕ) (o : Option PartStep) → ((step : PartStep) → o ≡ Some step → IsPart z v a step) → IsPartOr z v a o
+part_or z v a None makes = tt
+part_or z v a (Some step) makes = makes step refl
 
-pub line_held : (z : Sizes) (v : View) (a : ℕ) (command : Command) (p : Place) → TopicsInvariant z v → PartOf z v a command p → (i k : ℕ) → i < actors_of z → i ≢ a → (v.hand i).topics.search.set ≡ Some k
+held_by : (z : Sizes) (v : View) (a : ℕ) (task : Task) → StepIn z v a task → TopicsInvariant z v → (i k : ℕ) → i < actors_of z → i ≢ a → (v.hand i).topics.search.set ≡ Some k → SetStays k (v.words area.Pool) (words_after task v.words area.Pool)
+held_by z v a _ (Makes step note M) P i k lt ne held = others_held z v a step note M P i k lt ne held
+held_by z v a _ (Touches op index) P i k lt ne held = λ j low. ap (λ (pool : ℕ → ℕ). pool (pool_index k j)) (touch_leaves_pool v.words op index)
+
+pub line_held : (z : Sizes) (v : View) (a : ℕ) (command : Command) (p : Place) → TopicsInvariant z v → MakesAt z v a p command → (i k : ℕ) → i < actors_of z → i ≢ a → (v.hand i).topics.search.set ≡ Some k
     → SetStays k (v.words area.Pool) (words_after (task_at p command (v.hand a)) v.words area.Pool)
-line_held z v a (Access gfn word op) (place.Access p) P part i k lt ne held = by (access_part p gfn (v.hand a).topics) part
-  where
-    index : ℕ
-    index = content_index (map_of (v.hand a).state.sizes) (frame_in (v.hand a).state.leaf) word
-
-    by : (o : Option PartStep) → IsPartOr z v a o → SetStays k (v.words area.Pool) (words_after (task_by o (v.hand a) (access_note p) (touch_of op index)) v.words area.Pool)
-    by None part_ = λ j low. ap (λ (pool : ℕ → ℕ). pool (pool_index k j)) (touch_leaves_pool v.words op index)
-    by (Some step) part_ = others_held z v a step (access_note p) part_ P i k lt ne held
-line_held z v a (SetSlot id slot) (place.SetSlot p) P part i k lt ne held = others_held z v a (set_slot_part p (v.hand a) id slot) (set_slot_note p (v.hand a)) part P i k lt ne held
-line_held z v a _ _ P part i k lt ne held = λ j low. refl
+line_held z v a command p P makes i k lt ne held = held_by z v a (task_at p command (v.hand a)) (step_of z v a command p makes) P i k lt ne held

@@ -24,7 +24,8 @@ use Rattle.mmu_core.specs.machine.Outcomes.{answers_after, place_after}
 use Rattle.mmu_core.specs.machine.View.{View, answer_in, hand_after, upd}
 use Rattle.mmu_core.proofs.machine.Columns.{at_upd}
 use Rattle.mmu_laws.proofs.flat.FlatKept.{other_actor, same_actor, told_events}
-use Rattle.mmu_core.proofs.machine.HandAfter.{GoesUnderWay, outcome_goes}
+use Rattle.mmu_core.proofs.lines.Forms.{outcome_goes}
+use Rattle.mmu_core.proofs.machine.GoesOn.{GoesUnderWay}
 use Rattle.mmu_laws.proofs.flat.LineEvents.{tells_within}
 use Rattle.mmu_core.proofs.machine.Stepping.{IsStep}
 use Rattle.mmu_laws.proofs.flat.ToldOf.{answered_with, answers_by_more, answers_told, begins_told, begun_by, begun_by_append, begun_from, other_answers, other_begins, own_answers, own_begins}
@@ -77,8 +78,7 @@ answers_behind (Ends answer) line actor answers own = rw own refl
 
 begun_behind : (o : Outcome) (line : Line) (answers : List AnsweredLine) → GoesUnderWay o → begun_count (place_after o) (length (answers_after o line answers)) ≡ suc (length answers)
 begun_behind (Goes place.Between) line answers under = absurd under
-begun_behind (Goes (place.Access p)) line answers under = refl
-begun_behind (Goes (place.SetSlot p)) line answers under = refl
+begun_behind (Goes _) line answers under = refl
 begun_behind (Ends answer) line answers under = count_push answers (record { number = line.number; actor = line.actor; answer = answer })
 
 take_next : (lines : List Line) (n : ℕ) → n < length lines → take (suc n) lines ≡ take n lines ++ unwrap_or (slice_get lines n) no_line ∷ []

@@ -7,19 +7,10 @@ use Rattle.core_views.specs.declared.answer.Answer.{Answer}
 use Rattle.core_views.specs.declared.answer.AnsweredLine.{AnsweredLine}
 use Rattle.core_views.specs.declared.event.Event.{Event}
 use Rattle.core_views.specs.declared.event.EventKind.{EventKind}
-use Rattle.core_views.specs.declared.event.EventKind.TheVariants.{Begun, LookedAtSlots, Answered}
-use Rattle.core_views.specs.declared.place.AccessPlace.{AccessPlace}
-use Rattle.core_views.specs.declared.place.AccessPlace.TheVariants.{Pause, Touch, Fault}
-use Rattle.core_views.specs.declared.place.FaultPlace.TheVariants as fault
+use Rattle.core_views.specs.declared.event.EventKind.TheVariants.{Begun, Answered}
 use Rattle.core_views.specs.declared.place.Place.{Place}
 use Rattle.core_views.specs.declared.place.Place.TheVariants as place
-use Rattle.core_views.specs.declared.place.SetSlotPlace.{SetSlotPlace}
-use Rattle.core_views.specs.declared.place.SetSlotPlace.TheVariants.{Claim, Publish}
-use Rattle.core_views.specs.declared.trace.Command.{Command}
-use Rattle.core_views.specs.declared.trace.Command.TheVariants.{Access, SetSlot}
 use Rattle.core_views.specs.declared.trace.Line.{Line}
-use Rattle.core_views.specs.declared.trace.Op.{Op}
-use Rattle.core_views.specs.declared.trace.Slot as slots
 use Rattle.core_views.specs.Alone.{AreWithin, IsWithin, StandsAlone}
 use Rattle.core_views.specs.FlatHistory.{answers, by}
 use Rattle.core_views.specs.Held.{Held}
@@ -28,43 +19,10 @@ use Rattle.core_views.proofs.StandsAlone.{one_stands, within_append}
 use Rattle.core_views.proofs.Texts.{answers_append}
 use Rattle.mmu_core.specs.declared.outcome.Outcome.{Outcome}
 use Rattle.mmu_core.specs.declared.outcome.Outcome.TheVariants.{Goes, Ends}
-use Rattle.mmu_core.specs.lines.AccessSteps.{access_tells, exiting, fault_over}
-use Rattle.mmu_core.specs.lines.SetSlotSteps.{set_slot_outcome, set_slot_tells}
 use Rattle.mmu_core.proofs.machine.Which.{events_of_line}
+pub use Rattle.mmu_laws.proofs.flat.Forms.{AllWithin, tells_within}
 use Rattle.mmu_core.specs.machine.Steps.{beginning, event_kinds, events_of, has_line, line_at, outcome_at, place_at, tells_at}
 use Rattle.mmu_core.specs.machine.Outcomes.{answering}
-
--- Each of the events stands within a line.
-abbrev pub AllWithin : List EventKind → Type 0
-AllWithin [] = Unit {0}
-AllWithin (k ∷ ks) = IsWithin k × AllWithin ks
-
-exit_within : (o : Outcome) → AllWithin (exiting o)
-exit_within (Goes p) = tt
-exit_within (Ends answer) = (tt, tt)
-
-look_within : (begun : Bool) → AllWithin (if begun then [] else LookedAtSlots ∷ [])
-look_within true = tt
-look_within false = (tt, tt)
-
-access_within : (p : AccessPlace) (h : Held) (gfn word : ℕ) (op : Op) (v : ℕ) → AllWithin (access_tells p h gfn word op v)
-access_within (Pause again) h gfn word op v = (tt, tt)
-access_within Touch h gfn word op v = (tt, tt)
-access_within (Fault (fault.Find begun)) h gfn word op v = look_within begun
-access_within (Fault fault.Host) h gfn word op v = (tt, tt)
-access_within (Fault (fault.End e)) h gfn word op v = exit_within (fault_over e)
-access_within _ h gfn word op v = tt
-
-set_slot_within : (p : SetSlotPlace) (h : Held) (id : ℕ) (slot : slots.Slot) (v : ℕ) → AllWithin (set_slot_tells p h id slot v)
-set_slot_within (Claim begun) h id slot v = exit_within (set_slot_outcome (Claim begun) h v)
-set_slot_within Publish h id slot v = (tt, tt)
-set_slot_within _ h id slot v = tt
-
--- Besides its begin and its answer, a line tells only events that stand within it: a clause for each form of line.
-pub tells_within : (p : Place) (command : Command) (h : Held) (v : ℕ) → AllWithin (tells_at p command h v)
-tells_within (place.Access p) (Access gfn word op) h v = access_within p h gfn word op v
-tells_within (place.SetSlot p) (SetSlot id slot) h v = set_slot_within p h id slot v
-tells_within _ _ h v = tt
 
 abbrev told_by : Line → List EventKind → List Event
 told_by line kinds = map (λ kind. by line kind) kinds

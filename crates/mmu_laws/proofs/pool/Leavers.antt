@@ -3,15 +3,10 @@ use Rattle.std.proofs.Common.{◌≡◌, ◌<◌, ◌≤◌, ℕ, refl, sym, ap,
 use Rattle.std.specs.Prelude.{Bool, true, false, ◌==◌, Some}
 use Rattle.std.proofs.lemmas.Bool.Decides.{Decides-eqb}
 use Rattle.core_views.specs.declared.actor.Actor.TheVariants.{Manager}
-use Rattle.core_views.specs.declared.place.Place.{Place}
-use Rattle.core_views.specs.declared.place.Place.TheVariants as place
 use Rattle.core_views.specs.declared.sizes.Sizes.{Sizes}
-use Rattle.core_views.specs.declared.trace.Command.{Command}
-use Rattle.core_views.specs.declared.trace.Command.TheVariants.{Access, SetSlot}
 use Rattle.core_views.specs.Held.{Held}
 use Rattle.core_views.specs.Sizes.{actors_of, index_of}
 use Rattle.mmu_core.specs.machine.Enabled.{mmu}
-use Rattle.mmu_core.specs.invariant.Invariant.{KnowsPart, LeavesPart, OwnLines}
 use Rattle.mmu_core.specs.invariant.Laws.{IsSound}
 use Rattle.mmu_core.specs.machine.Machine.{World, hand_in}
 use Rattle.mmu_core.specs.machine.Sums.{one_if, sum_below}
@@ -19,7 +14,7 @@ use Rattle.mmu_core.specs.invariant.TreePart.{Use}
 use Rattle.mmu_core.specs.invariant.TreePart.Use.{OldSet}
 use Rattle.mmu_core.proofs.pages.PoolPages.{has_leaver}
 use Rattle.mmu_laws.proofs.pool.Pigeonhole.{count_le, pigeonhole}
-use Rattle.mmu_core.proofs.slots.SetSlotKept.{setting_hand}
+use Rattle.mmu_core.proofs.invariant.Kept.{leaver_is_manager}
 
 -- one place of a column at most is this one
 pub one_number : (n it : ℕ) → sum_below n (λ k. one_if (it == k)) ≤ 1
@@ -34,15 +29,6 @@ is_old _ = false
 old_of : (u : Use) → is_old u ≡ true → (i : ℕ) × (u ≡ OldSet i)
 old_of (OldSet i) is = (i, refl)
 old_of _ is = absurd (cc is)
-
--- The hand for which a page leaves is the manager's.
-leaver_is_manager : (z : Sizes) (i k : ℕ) (h : Held) → OwnLines z i h → KnowsPart h.state.place h.state.line.command h → LeavesPart h.state.place h.topics → h.topics.leaving ≡ Some k → h.state.actor ≡ Manager
-leaver_is_manager z i k h O K L leaves = by h.state.place h.state.line.command refl refl K L
-  where
-    by : (p : Place) (c : Command) → h.state.place ≡ p → h.state.line.command ≡ c → KnowsPart p c h → LeavesPart p h.topics → h.state.actor ≡ Manager
-    by (place.SetSlot p) (Access gfn word op) at is K L = absurd K
-    by (place.SetSlot p) (SetSlot id slot) at is K L = setting_hand z i h p id slot O at is
-    by _ c at is K L = let none = L refl in absurd (cc (none, leaves))
 
 -- One page of the pool leaves at most.
 pub one_left : (z : Sizes) (w : World Held) (G : IsSound z w) → sum_below z.pool (λ k. one_if (is_old (G.topics.up k))) ≤ 1

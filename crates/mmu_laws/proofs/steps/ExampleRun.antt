@@ -179,7 +179,7 @@ race_prints = simp (decimal_digit 0 (lit< tt), decimal_digit 1 (lit< tt), decima
 pub example_races : ExampleRaces
 example_races = (run_tells run_sizes race_lines race_order race_events run_in_range race_allowed race_distinct race_has_lines race_tale, race_prints)
 
--- ---- a slot setting beside a processor
+-- ---- a slot line beside a processor
 
 wait_tale : tale (start_view run_sizes wait_lines) wait_order ≡ wait_events
 unfolding flushed topics_after place kind_of level_span table_word frozen_word content_index pool_index absent_word frame_in leaf_word flags_live flags_read_only flags_word host_allows_write host_frame host_word can_write is_leaf_at flags_logged count_trailing_zeros

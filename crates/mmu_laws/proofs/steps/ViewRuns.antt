@@ -5,7 +5,7 @@ use Rattle.std.proofs.lemmas.Bool.Decides.{nat_tests}
 use Rattle.core_views.specs.declared.event.Event.{Event}
 use Rattle.core_views.specs.declared.sizes.Sizes.{Sizes}
 use Rattle.core_views.specs.declared.trace.Command.{Command}
-use Rattle.core_views.specs.declared.trace.Command.TheVariants.{Access, SetSlot}
+use Rattle.core_views.specs.declared.trace.Command.TheVariants.{Access}
 use Rattle.core_views.specs.declared.trace.Op.TheVariants.{Add, Read, Write}
 use Rattle.core_views.specs.Held.{Held}
 use Rattle.core_views.specs.Sizes.{actors_of}
@@ -44,7 +44,7 @@ abbrev writes_one_word : Command → Bool
 writes_one_word (Access gfn word Read) = true
 writes_one_word (Access gfn word (Write x)) = nat_lt x (2 ^ 64)
 writes_one_word (Access gfn word (Add x)) = nat_lt x (2 ^ 64)
-writes_one_word (SetSlot id slot) = true
+writes_one_word _ = true
 
 abbrev pub have_lines : Sizes → View → List ℕ → Bool
 have_lines z v [] = true
@@ -62,7 +62,7 @@ writes : (command : Command) → writes_one_word command ≡ true → WritesOneW
 writes (Access gfn word Read) e = tt
 writes (Access gfn word (Write x)) e = below x (2 ^ 64) e
 writes (Access gfn word (Add x)) e = below x (2 ^ 64) e
-writes (SetSlot id slot) e = tt
+writes _ e = tt
 
 pub have_lines_by : (z : Sizes) (v : View) (actors : List ℕ) → have_lines z v actors ≡ true → HaveLines z v actors
 have_lines_by z v [] e = tt

@@ -8,7 +8,7 @@ use Rattle.core_views.specs.declared.place.Place.{Place}
 use Rattle.core_views.specs.declared.place.Place.TheVariants as place
 use Rattle.core_views.specs.declared.sizes.Sizes.{Sizes}
 use Rattle.core_views.specs.declared.trace.Command.{Command}
-use Rattle.core_views.specs.declared.trace.Command.TheVariants.{Access, SetSlot}
+use Rattle.core_views.specs.declared.trace.Command.TheVariants.{Access}
 use Rattle.core_views.specs.declared.trace.Line.{Line}
 use Rattle.core_views.specs.declared.trace.Op.{Op}
 use Rattle.core_views.specs.Held.{Held}
@@ -56,12 +56,12 @@ leaves_is _ is = absurd (cc is)
 
 misses_at : (p : Place) (c : Command) (h : Held) (o : Outcome) → KnowsPart p c h → (walks_again p && leaves_to_fault o) ≡ true → Misses p c o
 misses_at (place.Access (Walk true)) (Access gfn word op) h o K is = record { gfn = gfn; word = word; op = op; at = refl; access_is = refl; leaves = leaves_is o is }
-misses_at (place.Access (Walk true)) (SetSlot id slot) h o K is = absurd K
+misses_at (place.Access (Walk true)) _ h o K is = absurd K
 misses_at _ c h o K is = absurd (cc is)
 
 standing_walks : (q : Place) (y : Sizes) (slots : MemorySlots) (c : Command) → standing q y slots c ≡ place.Access (Walk true) → q ≡ place.Access (Walk true)
 standing_walks place.Between y slots (Access gfn word op) is = absurd (cc is)
-standing_walks place.Between y slots (SetSlot id slot) is = absurd (cc is)
+standing_walks place.Between y slots _ is = absurd (cc is)
 standing_walks _ y slots c is = is
 
 walk_command : (q : Place) (h : Held) (c : Command) → q ≡ place.Access (Walk true) → (line_at q h).command ≡ c → h.state.line.command ≡ c

@@ -13,7 +13,7 @@ use Rattle.core_views.specs.declared.sizes.Sizes.{Sizes}
 use Rattle.core_views.specs.declared.topics.TableWalk.{TableWalk}
 use Rattle.core_views.specs.declared.topics.Topics.{Topics}
 use Rattle.core_views.specs.declared.trace.Command.{Command}
-use Rattle.core_views.specs.declared.trace.Command.TheVariants.{Access, SetSlot}
+use Rattle.core_views.specs.declared.trace.Command.TheVariants.{Access}
 use Rattle.core_views.specs.declared.trace.Line.{Line}
 use Rattle.core_views.specs.Held.{Held}
 use Rattle.core_views.specs.Sizes.{actors_of}
@@ -93,7 +93,7 @@ walks_installed (place.Access (Walk again)) (Access of_line word op) z w a gfn w
     let walk : TableWalk = (hand_in mmu w a).topics.walk in
     let L : Leads (word_in z w) of_line (is_write op) = subst (λ n. Leads (word_in z w) n (is_write op)) (sym stands_.1) (subst (Leads (word_in z w) gfn) (sym stands_.2) leads) in
     λ is. record { entry = L.entry; leads = (leads_down z w of_line (table_page walk) walk.level L.entry G (over_stands z w a of_line G there K.1)).below L.leads; leaf = L.leaf; allows = L.allows }
-walks_installed (place.Access (Walk again)) (SetSlot id slot) z w a gfn write G there K stands_ leads = tt
+walks_installed (place.Access (Walk again)) _ z w a gfn write G there K stands_ leads = tt
 walks_installed (place.Access (Enter again)) c z w a gfn write G there K stands_ leads = tt
 walks_installed (place.Access (Pause again)) c z w a gfn write G there K stands_ leads = tt
 walks_installed (place.Access (Root again)) c z w a gfn write G there K stands_ leads = tt

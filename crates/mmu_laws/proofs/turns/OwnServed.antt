@@ -15,9 +15,8 @@ use Rattle.core_views.specs.declared.place.Place.TheVariants as place
 use Rattle.core_views.specs.declared.sizes.Sizes.{Sizes}
 use Rattle.core_views.specs.declared.topics.Topics.{Topics}
 use Rattle.core_views.specs.declared.trace.Command.{Command}
-use Rattle.core_views.specs.declared.trace.Command.TheVariants.{Access, SetSlot}
+use Rattle.core_views.specs.declared.trace.Command.TheVariants.{Access}
 use Rattle.core_views.specs.declared.trace.Op.{Op}
-use Rattle.core_views.specs.declared.trace.Slot.{Slot}
 use Rattle.core_views.specs.Held.{Held}
 use Rattle.core_views.specs.SlotSets.{MemorySlots}
 use Rattle.core_views.specs.Slots.{is_write}
@@ -40,7 +39,6 @@ use Rattle.part_steps.specs.PartBounds.{PartRests}
 use Rattle.part_steps.specs.PartSteps.{IsVcpu, own_index}
 use Rattle.part_steps.specs.PartTopics.{part_topics}
 use Rattle.mmu_core.specs.lines.Rests.{IsUnderWay}
-use Rattle.mmu_core.specs.lines.SetSlotSteps.{set_slot_outcome, set_slot_task}
 use Rattle.mmu_core.specs.machine.Steps.{first_place, line_at, next_line, outcome_at, standing, task_at}
 use Rattle.part_steps.specs.Tasks.{map_of}
 use Rattle.mmu_core.specs.machine.Outcomes.{place_after}
@@ -64,8 +62,7 @@ Makes y pool gfn write t X = (q : FaultPlace) → ends_installed q ≡ true → 
 
 always : (X : Type 0) (o : Outcome) → X → WhereInstalled o X
 always X (Goes (place.Access q)) x = λ is. x
-always X (Goes place.Between) x = tt
-always X (Goes (place.SetSlot q)) x = tt
+always X (Goes _) x = tt
 always X (Ends answer) x = tt
 
 behind_fault_installed : (X : Type 0) (n : FaultNext) (y : Sizes) (gfn : ℕ) (write : Bool) (pool : ℕ → ℕ) (t : Topics) → SeesEntry n pool gfn t → KnowsNext n y gfn write t → Makes y pool gfn write t X → WhereInstalled (behind_fault n) X
@@ -121,13 +118,18 @@ Served _ _ X = Unit {0}
 
 where_installed : (o : Outcome) (gfn word : ℕ) (op : Op) (X : ℕ → Bool → Type 0) → WhereInstalled o (X gfn (is_write op)) → Served (place_after o) (Access gfn word op) X
 where_installed (Goes (place.Access q)) gfn word op X x = x
-where_installed (Goes place.Between) gfn word op X x = tt
-where_installed (Goes (place.SetSlot q)) gfn word op X x = tt
+where_installed (Goes _) gfn word op X x = tt
 where_installed (Ends answer) gfn word op X x = tt
 
-no_access : (q : Place) (id : ℕ) (slot : Slot) (X : ℕ → Bool → Type 0) → Served q (SetSlot id slot) X
-no_access place.Between id slot X = tt
-no_access _ id slot X = tt
+-- A line of another form is at no place of an access.
+abbrev IsNoAccess : Command → Type 0
+IsNoAccess (Access gfn word op) = ⊥
+IsNoAccess _ = Unit {0}
+
+no_access : (q : Place) (c : Command) (X : ℕ → Bool → Type 0) → IsNoAccess c → Served q c X
+no_access (place.Access q) (Access gfn word op) X other = absurd other
+no_access _ (Access gfn word op) X other = absurd other
+no_access _ _ X other = tt
 
 pub own_served : (p : Place) (c : Command) (z : Sizes) (h : Held) (words : Area → ℕ → ℕ) (X Y : ℕ → Bool → Type 0) → IsUnderWay p → IsCommandFor z h.state.actor c → PartRests h → KnowsPart p c h → Served p c X
     → ((gfn : ℕ) (write : Bool) → X gfn write → Y gfn write)
@@ -138,12 +140,12 @@ own_served (place.Access p) (Access gfn word op) z h words X Y begun may R K S s
     let V = access_vcpu z h.state.actor gfn word op may in
     where_installed (access_outcome p h gfn op (answer_in (access_task p h gfn word op) words)) gfn word op Y
     (access_installed (Y gfn (is_write op)) h gfn word op words V.0 V.1 R p (λ is. still gfn (is_write op) (S is)) K (make gfn (is_write op)))
-own_served (place.SetSlot p) (SetSlot id slot) z h words X Y begun may R K S still make = no_access (place_after (set_slot_outcome p h (answer_in (set_slot_task p h id slot) words))) id slot Y
-own_served _ _ z h words X Y begun may R K S still make = absurd K
+own_served _ (Access gfn word op) z h words X Y begun may R K S still make = absurd K
+own_served p c z h words X Y begun may R K S still make = no_access (place_after (outcome_at p c h (answer_in (task_at p c h) words))) c Y tt
 
 first_served : (y : Sizes) (slots : MemorySlots) (c : Command) (X : ℕ → Bool → Type 0) → Served (first_place y slots c) c X
 first_served y slots (Access gfn word op) X = λ is. absurd (cc is)
-first_served y slots (SetSlot id slot) X = tt
+first_served y slots _ X = tt
 
 pub standing_served : (q : Place) (y : Sizes) (slots : MemorySlots) (h : Held) (X : ℕ → Bool → Type 0) → Served q h.state.line.command X → Served (standing q y slots (line_at q h).command) (line_at q h).command X
 standing_served place.Between y slots h X S = first_served y slots (next_line h).command X

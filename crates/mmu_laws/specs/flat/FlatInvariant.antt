@@ -16,6 +16,7 @@ use Rattle.core_views.specs.declared.topics.SlotSearch.{SlotSearch}
 use Rattle.core_views.specs.declared.topics.Topics.{Topics}
 use Rattle.core_views.specs.declared.trace.Command.{Command}
 use Rattle.core_views.specs.declared.trace.Command.TheVariants.{Access, SetSlot}
+use Rattle.core_views.specs.declared.trace.Line.{Line}
 use Rattle.core_views.specs.declared.trace.Op.{Op}
 use Rattle.core_views.specs.Flat.{Facts, Flat, LineUnderWay, Notes, Fresh, HasAccessed, HasSetSlot, Idle}
 use Rattle.core_views.specs.Held.{Held}
@@ -90,12 +91,16 @@ SettingUnder Clear u = u.stage ≡ HasSetSlot
 SettingUnder Give u = u.stage ≡ HasSetSlot
 SettingUnder _ u = u.stage ≡ Fresh
 
+-- The line under way is this one, with this command, at this place, and its actor holds these topics.
+abbrev pub UnderAt : (ℕ → ℕ) → Place → Line → Command → Topics → LineUnderWay → Type 0
+UnderAt pool place.Between line command t u = u.stage ≡ Idle
+UnderAt pool (place.Access p) line (Access gfn word op) t u = (u.line ≡ line) × AccessUnder pool p gfn op t u
+UnderAt pool (place.SetSlot p) line (SetSlot id slot) t u = (u.line ≡ line) × SettingUnder p u
+UnderAt pool _ line command t u = ⊥
+
 -- The hand's line under way is the flat one.
 abbrev pub UnderIs : (ℕ → ℕ) → Place → Command → Held → LineUnderWay → Type 0
-UnderIs pool place.Between command h u = u.stage ≡ Idle
-UnderIs pool (place.Access p) (Access gfn word op) h u = (u.line ≡ h.state.line) × AccessUnder pool p gfn op h.topics u
-UnderIs pool (place.SetSlot p) (SetSlot id slot) h u = (u.line ≡ h.state.line) × SettingUnder p u
-UnderIs pool _ _ h u = ⊥
+UnderIs pool p command h u = UnderAt pool p h.state.line command h.topics u
 
 pub record FlatInvariant (z : Sizes) (v : View) (f : Flat) : Type 0 where
   pub refines : Refines z (v.words area.Slots 0) (v.words area.Pool) (v.words area.Content) (v.words area.Pause 0) f.facts

@@ -38,7 +38,7 @@ forbidden_line = access_line 10 0 17 0 (Write 7)
 abbrev pub run_lines : List Line
 run_lines = set_line ∷ set_read_only_line ∷ outside_line ∷ write_line ∷ read_line ∷ add_line ∷ sum_line ∷ other_slot_line ∷ forbidden_line ∷ []
 
--- A slot setting loads the word of the pool's map and claims a page, fills its 512 words and its role, takes the lock, finds no invalidation
+-- A slot line loads the word of the pool's map and claims a page, fills its 512 words and its role, takes the lock, finds no invalidation
 -- open, publishes the page, gives the lock back, looks at each of the three other actors, and takes the role from the old page and gives
 -- it back: 524 steps, for each of both slots.
 -- Then an access finds no entry, leaves, and its fault loads the words of all slots, up to its answer.

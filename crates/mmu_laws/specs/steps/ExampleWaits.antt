@@ -1,4 +1,4 @@
--- A run in which a slot setting waits beside a write.
+-- A run in which a slot line waits beside a write.
 use Rattle.std.specs.Prelude.{ℕ, List, [], ◌∷◌, ◌++◌, replicate, true, false}
 use Rattle.core_views.specs.declared.answer.Answer.TheVariants.{Done, Reached}
 use Rattle.core_views.specs.declared.event.Event.{Event}
@@ -9,9 +9,9 @@ use Rattle.core_views.specs.FlatHistory.{by}
 use Rattle.core_views.specs.Laws.{access_line, example_slot}
 use Rattle.mmu_laws.specs.steps.ExampleSteps.{RunDelays, run_sizes, set_line, set_read_only_line, unlogged}
 
--- A slot setting beside a write, which both claim a page from the same word of the map. The processor takes the page that the setting is about to
+-- A slot line beside a write, which both claim a page from the same word of the map. The processor takes the page that the slot line is about to
 -- try: it waits, and takes the next one. With its page filled it finds the lock shared by the processor's fault, and waits. Behind its publication
--- its watch finds the processor in the guest, where it touches, and waits. So it makes three steps more than the setting before it, which nobody was
+-- its watch finds the processor in the guest, where it touches, and waits. So it makes three steps more than the slot line before it, which nobody was
 -- beside: 527.
 abbrev pub beside_line : Line
 beside_line = access_line 4 1 6 0 (Write 7)

@@ -1,0 +1,80 @@
+-- A slot line at its places: where it goes on to, what it has loaded, what the manager's record accepts, and how many steps it has left.
+use Rattle.std.proofs.Common.{◌≡◌, ◌≤◌, ℕ, ◌∙◌, ◌+◌, arith}
+use Rattle.std.proofs.Props.{props}
+use Rattle.std.specs.Prelude.{Bool, true, false, ◌==◌, if◌then◌else◌, nat_lt, Option, Some, None}
+use Rattle.core_views.specs.declared.answer.Answer.TheVariants.{Starved}
+use Rattle.core_views.specs.declared.answer.Refusal.{Refusal}
+use Rattle.core_views.specs.declared.place.Place.TheVariants as place
+use Rattle.core_views.specs.declared.place.SetSlotPlace.{SetSlotPlace}
+use Rattle.core_views.specs.declared.place.SetSlotPlace.TheVariants.{Refuse, Claim, Publish, Release, Watch, Clear, Give}
+use Rattle.core_views.specs.declared.sizes.Sizes.{Sizes}
+use Rattle.core_views.specs.declared.topics.MapClaim.{MapClaim}
+use Rattle.core_views.specs.declared.topics.Topics.{Topics}
+use Rattle.core_views.specs.declared.trace.Command.TheVariants.{SetSlot}
+use Rattle.core_views.specs.declared.trace.Slot.{Slot as SlotOf}
+use Rattle.core_views.specs.Held.{Held}
+use Rattle.core_views.specs.Refusals.{set_refusal}
+use Rattle.core_views.specs.Sizes.{actors_of}
+use Rattle.core_views.specs.SlotSets.{MemorySlots}
+use Rattle.spte_words.specs.Areas.{words_of_bits}
+use Rattle.mmu_core.specs.declared.outcome.Outcome.TheVariants.{Goes, Ends}
+use Rattle.mmu_core.specs.invariant.LoadsPart.{FillsSet, Holds, SetSlotHolds}
+use Rattle.mmu_core.specs.lines.Bounds.{set_slot_left}
+use Rattle.mmu_core.specs.lines.FaultSteps.{at_map_word, tries_page}
+use Rattle.mmu_core.specs.lines.Rests.{RecordAccepts}
+use Rattle.mmu_core.specs.lines.SetSlotSteps.{claim_outcome, set_slot_first, set_slot_outcome}
+use Rattle.mmu_core.proofs.lines.AccessLeft.{claim_few}
+use Rattle.mmu_core.proofs.machine.GoesOn.{GoesToNoAccess, GoesUnderWay}
+use Rattle.mmu_core.proofs.slots.LiveStays.{OwnedStays}
+
+-- ---- where it goes on to
+
+claim_goes : (tries : Bool) (z : Sizes) (claim : MapClaim) (v : ℕ) → GoesUnderWay (claim_outcome tries z claim v) × GoesToNoAccess (claim_outcome tries z claim v)
+claim_goes true z claim v = (tt, tt)
+claim_goes false z claim v = by (nat_lt (claim.at + (if v == 0 then 1 else 0)) (words_of_bits z.pool))
+  where
+    by : (b : Bool) → GoesUnderWay (if b then Goes (place.SetSlot (Claim true)) else Ends Starved) × GoesToNoAccess (if b then Goes (place.SetSlot (Claim true)) else Ends Starved)
+    by true = (tt, tt)
+    by false = (tt, tt)
+
+pub set_slot_goes : (p : SetSlotPlace) (h : Held) (v : ℕ) → GoesUnderWay (set_slot_outcome p h v) × GoesToNoAccess (set_slot_outcome p h v)
+set_slot_goes (Claim begun) h v = claim_goes (tries_page begun h.topics.claim) h.state.sizes (at_map_word begun h.topics.claim) v
+set_slot_goes _ h v = (tt, tt)
+
+-- ---- what it has loaded
+
+-- Where it begins it has loaded nothing.
+pub set_slot_begins : (z : Sizes) (pool host : ℕ → ℕ) (set id : ℕ) (slot : SlotOf) (h : Held) (r : Option Refusal) → set_refusal z.pages id slot h.slots ≡ r → Holds z pool host set (place.SetSlot (set_slot_first r)) (SetSlot id slot) h
+set_slot_begins z pool host set id slot h None is = is
+set_slot_begins z pool host set id slot h (Some refusal) is = is
+
+-- What it has stored stays where the words of its own page do.
+module _ (z : Sizes) (before after : ℕ → ℕ) (h : Held) (own : OwnedStays before after h) where
+  fills_stay : (id : ℕ) (slot : SlotOf) → FillsSet z.pages before id slot h → FillsSet z.pages after id slot h
+  fills_stay id slot F = record { accepted = F.accepted; filled = λ o is j lt word. own o is j word ∙ F.filled o is j lt word }
+
+  pub set_slot_stays : (p : SetSlotPlace) (id : ℕ) (slot : SlotOf) → SetSlotHolds z before p id slot h → SetSlotHolds z after p id slot h
+  set_slot_stays (Refuse refusal) id slot e = e
+  set_slot_stays (Claim begun) id slot e = e
+  set_slot_stays Release id slot e = tt
+  set_slot_stays Watch id slot e = tt
+  set_slot_stays Clear id slot e = tt
+  set_slot_stays Give id slot e = tt
+  set_slot_stays _ id slot e = fills_stay id slot e
+
+-- ---- what the record accepts
+
+pub setting_accepts : (p : SetSlotPlace) (id : ℕ) (slot : SlotOf) (z : Sizes) (pool : ℕ → ℕ) (h : Held) → SetSlotHolds z pool p id slot h → RecordAccepts p z.pages id slot h.slots
+setting_accepts Publish id slot z pool h e = e.accepted
+setting_accepts _ id slot z pool h e = tt
+
+pub accepts_prop : (p : SetSlotPlace) (total id : ℕ) (slot : SlotOf) (slots : MemorySlots) → IsProp (RecordAccepts p total id slot slots)
+accepts_prop Publish total id slot slots = hlevel props
+accepts_prop _ total id slot slots = hlevel props
+
+-- ---- how many steps it has left
+
+-- Few beside those of a claim, of 64 pages a word, and other actors.
+pub set_slot_few : (p : SetSlotPlace) (z : Sizes) (t : Topics) → set_slot_left p z t ≤ 521 + actors_of z + words_of_bits z.pool
+set_slot_few (Claim begun) z t = let few = claim_few begun z t in omega (arith, few)
+set_slot_few _ z t = omega arith
