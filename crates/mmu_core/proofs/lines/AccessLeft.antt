@@ -18,7 +18,7 @@ use Rattle.core_views.specs.declared.topics.SlotSearch.{SlotSearch}
 use Rattle.core_views.specs.declared.topics.Topics.{Topics}
 use Rattle.spte_words.specs.Areas.{words_of_bits}
 use Rattle.mmu_core.specs.lines.Bounds.{access_left, stay_left}
-use Rattle.mmu_core.specs.lines.FaultSteps.{check_left, claim_left, fault_left, find_left, lock_left, map_word, table_left, tries_page}
+use Rattle.mmu_core.specs.lines.FaultSteps.{check_left, claim_left, fault_left, find_left, share_left, map_word, table_left, tries_page}
 use Rattle.mmu_core.specs.lines.SearchLeft.{look_left}
 
 tables_few : (z : Sizes) (level : ℕ) → level ≤ 4 → (level - 1) * table_left z ≤ 3 * table_left z
@@ -42,7 +42,7 @@ find_few : (b : Bool) (search : SlotSearch) → find_left b search ≤ 129
 find_few true search = let few = look_few search.next in omega (arith, few)
 find_few false search = omega arith
 
-lock_few : (k : Hold) → lock_left k ≤ 2
+lock_few : (k : Hold) → share_left k ≤ 2
 lock_few Loose = omega arith
 lock_few _ = omega arith
 
@@ -59,6 +59,7 @@ fault_few (fault.Walk true) z t most = let few = tables_few z t.walk.level most 
 fault_few (fault.Walk false) z t most = omega arith
 fault_few (fault.Claim b) z t most = let tables = more_tables_few z t.walk.level most in let few = claim_few b z t in omega (arith, few, tables)
 fault_few fault.Fill z t most = let tables = more_tables_few z t.walk.level most in omega (arith, tables)
+fault_few fault.Role z t most = let tables = more_tables_few z t.walk.level most in omega (arith, tables)
 fault_few fault.Link z t most = let tables = more_tables_few z t.walk.level most in omega (arith, tables)
 fault_few _ z t most = omega arith
 

@@ -20,25 +20,24 @@ use Rattle.spte_words.specs.Areas.{words_of_bits}
 use Rattle.mmu_core.specs.declared.outcome.Outcome.TheVariants.{Goes, Ends}
 use Rattle.mmu_core.specs.invariant.LoadsPart.{FillsSet, Holds, SetSlotHolds}
 use Rattle.mmu_core.specs.lines.Bounds.{set_slot_left}
-use Rattle.mmu_core.specs.lines.FaultSteps.{at_map_word, tries_page}
+use Rattle.mmu_core.specs.lines.FaultSteps.{tries_page}
 use Rattle.mmu_core.specs.lines.Rests.{RecordAccepts}
-use Rattle.mmu_core.specs.lines.SetSlotSteps.{claim_outcome, set_slot_first, set_slot_outcome}
+use Rattle.mmu_core.specs.declared.claim.ClaimNext.{ClaimNext}
+use Rattle.mmu_core.specs.declared.claim.ClaimNext.TheVariants as claims
+use Rattle.mmu_core.specs.lines.ClaimSteps.{claim_next}
+use Rattle.mmu_core.specs.lines.SetSlotSteps.{after_claim, set_slot_first, set_slot_outcome}
 use Rattle.mmu_core.proofs.lines.AccessLeft.{claim_few}
 use Rattle.mmu_core.proofs.machine.GoesOn.{GoesToNoAccess, GoesUnderWay}
 use Rattle.mmu_core.proofs.slots.LiveStays.{OwnedStays}
 
 -- ---- where it goes on to
 
-claim_goes : (tries : Bool) (z : Sizes) (claim : MapClaim) (v : ℕ) → GoesUnderWay (claim_outcome tries z claim v) × GoesToNoAccess (claim_outcome tries z claim v)
-claim_goes true z claim v = (tt, tt)
-claim_goes false z claim v = by (nat_lt (claim.at + (if v == 0 then 1 else 0)) (words_of_bits z.pool))
-  where
-    by : (b : Bool) → GoesUnderWay (if b then Goes (place.SetSlot (Claim true)) else Ends Starved) × GoesToNoAccess (if b then Goes (place.SetSlot (Claim true)) else Ends Starved)
-    by true = (tt, tt)
-    by false = (tt, tt)
+claim_goes : (next : ClaimNext) → GoesUnderWay (after_claim next) × GoesToNoAccess (after_claim next)
+claim_goes claims.Goes = (tt, tt)
+claim_goes _ = (tt, tt)
 
 pub set_slot_goes : (p : SetSlotPlace) (h : Held) (v : ℕ) → GoesUnderWay (set_slot_outcome p h v) × GoesToNoAccess (set_slot_outcome p h v)
-set_slot_goes (Claim begun) h v = claim_goes (tries_page begun h.topics.claim) h.state.sizes (at_map_word begun h.topics.claim) v
+set_slot_goes (Claim begun) h v = claim_goes (claim_next begun h.state.sizes h.topics.claim v)
 set_slot_goes _ h v = (tt, tt)
 
 -- ---- what it has loaded
