@@ -15,12 +15,13 @@ use Rattle.mmu_core.specs.lines.Delays.{begins_anew, line_waits}
 use Rattle.mmu_core.specs.machine.Enabled.{mmu}
 use Rattle.mmu_core.specs.machine.Machine.{Step, World, run}
 use Rattle.mmu_core.specs.machine.Steps.{has_line}
+use Rattle.mmu_core.specs.machine.Turns.{line_of}
 use Rattle.mmu_laws.proofs.causes.Causes.{faults_begin_anew_by_cause}
 use Rattle.mmu_laws.proofs.causes.EachFault.{is_access}
 use Rattle.mmu_core.proofs.start.Starts.{start_good}
 use Rattle.mmu_laws.proofs.turns.TurnsNearer.{delays_wait_or_begin_anew}
 use Rattle.mmu_laws.proofs.causes.StepWaits.{step_waits_are_by_cause}
-use Rattle.mmu_laws.proofs.causes.WaitsSame.{WaitsAs, line_waits_as}
+use Rattle.mmu_laws.proofs.causes.LineWaits.{WaitsAs, line_waits_as}
 use Rattle.mmu_core.proofs.machine.Which.{is_next}
 use Rattle.core_theorem.specs.Delays.{BeginsAnew, DelaysHaveCauses, StepWaits, answer_of, hand_of}
 use Rattle.core_theorem.specs.Runs.{IsRun}
@@ -83,8 +84,8 @@ module _ (z : Sizes) (lines : List Line) (w : World Held) (ss : List (Step Kind)
             faults_begin_anew_by_cause z w ss s.actor A.gfn A.word A.op N.cause (start_good z lines w R.start) (before z lines w ss s R).legal (starts_between z lines w ss s R) N.is A.command;
       }
 
-  by : has_line h ≡ true → (line_waits h.state.place h.topics v ≡ true) ⊎ (begins_anew h.state.place ≡ true) → BeginsAnew z w ss s ⊎ StepWaits z w ss s
-  by has (inl is) = inr (waiting (line_waits_as h s.kind v (is_next h s.kind (may_last z lines w ss s R).enabled has) ((sound z lines w ss (before z lines w ss s R)).holds.knows s.actor (last_actor z lines w ss s R)) is))
+  by : has_line h ≡ true → (line_waits h.state.place (line_of h).command h v ≡ true) ⊎ (begins_anew h.state.place ≡ true) → BeginsAnew z w ss s ⊎ StepWaits z w ss s
+  by has (inl is) = inr (waiting (line_waits_as h s.kind v (is_next h s.kind (may_last z lines w ss s R).enabled has) is))
   by has (inr is) = inl (beginning (new_beginning h.state.place is))
 
 pub delays_have_causes : DelaysHaveCauses

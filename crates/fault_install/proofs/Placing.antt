@@ -29,7 +29,9 @@ use Rattle.part_steps.specs.declared.part_step.PartStep.{PartStep}
 use Rattle.part_steps.specs.declared.part_step.PartStep.TheVariants as part
 use Rattle.mmu_core.specs.lines.FaultKnows.{CheckKnows}
 use Rattle.mmu_core.specs.lines.FaultLaws.{CanAnswer}
-use Rattle.mmu_core.specs.lines.FaultSteps.{at_map_word, check_next, check_part, claim_next, find_next, found_next, is_last_word, is_owing, map_word, share_next, share_part, snapshot_taken, tries_page, waits, word_owed}
+use Rattle.mmu_core.specs.lines.FaultSteps.{at_map_word, check_next, check_part, claim_next, fault_part, find_next, found_next, is_last_word, is_owing, map_word, share_next, share_part, snapshot_taken, tries_page, wait_seen, word_owed}
+use Rattle.mmu_core.specs.lines.PartWaits.{part_waits}
+use Rattle.mmu_core.proofs.lines.PartsWait.{neither_waits, share_waits}
 use Rattle.part_steps.specs.PartTopics.{part_topics, sequenced}
 use Rattle.part_steps.specs.PartSteps.{own_index, part_task}
 use Rattle.part_steps.specs.Tasks.{kind_of_task, map_of}
@@ -51,6 +53,9 @@ use Rattle.fault_install.proofs.Turning.{makes}
 
 not_true : false ≢ true
 not_true e = absurd (cc e)
+
+never_true : {b : Bool} → b ≡ false → b ≢ true
+never_true none is = absurd (cc (none, is))
 
 -- the search
 no_last : (f : SlotField) (b : Bool) → ((f ≡ field.Host) × (b ≡ true) → ⊥) → (is_last_word f && b) ≡ false
@@ -100,7 +105,8 @@ pub find_makes : (job : FaultJob) (begun : Bool) (answer : Turn (Option FoundSlo
     → MakesStep job (record job { place = after_search job.write answer }) More note a h g told tells
 find_makes job begun answer note a h g told tells is M begins searches =
     makes (at.Find begun) (after_search job.write answer) job More note M.found a h g told tells is.place M.made (can_find begun M.found)
-    (find_place begun job.write job.gfn M.found h.topics g.topics answer (λ e. (is.knows.1 e).0) M.made.topics begins searches) not_true
+    (find_place begun job.write job.gfn M.found h.topics g.topics answer (λ e. (is.knows.1 e).0) M.made.topics begins searches)
+    (never_true (neither_waits begun part.Slot part.Slots h.topics M.found refl refl))
 
 -- the lock
 same_try : (k : Hold) → shared_step k ≡ share_part k
@@ -157,7 +163,8 @@ share_makes job answer word note a h g told tells at_lock is M tried =
     let turn = try_turn h.topics.hold answer h.topics g.topics M.found word refl made.topics tried in
     let there = at_lock ∙ on_lock h.topics.hold (own_index h) h.topics h.state.sizes note in
     let waits_by = subst (λ n. WaitsBy (lock_turn word answer) (is_owing h.topics.hold) (record { word = n; value = word_owed h.topics.hold })) there turn.1 in
-    makes at.Share (after_try answer) job (lock_turn word answer) note M.found a h g told tells is.place made (can_share h.topics.hold M.found) turn.0 waits_by
+    makes at.Share (after_try answer) job (lock_turn word answer) note M.found a h g told tells is.place made (can_share h.topics.hold M.found) turn.0
+    (subst (λ b. WaitsBy (lock_turn word answer) b (wait_seen at.Share h job.gfn note M.found)) (share_waits h.topics.hold h.topics M.found refl) waits_by)
 
 -- the check
 same_check : (s : CheckStage) → step_of s ≡ check_part s
@@ -223,12 +230,16 @@ check_place stage.Seq next (Done (Moved old_ now_)) gfn v t u shares knows made 
     ∙ sym (ap (λ (b : Bool). if b then at.Walk false else at.Unshare (end_of.Retry (cause.Moved (snapshot_taken t.invalidations.snapshot) v))) other)
 check_place s next answer gfn v t u shares knows made answers = absurd answers
 
+check_never : (s : CheckStage) (t : Topics) (v : ℕ) → part_waits (check_part s) t v ≢ true
+check_never stage.Count t v is = cc is
+check_never _ t v is = cc is
+
 pub check_makes : (job : FaultJob) (s next : CheckStage) (answer : Turn Checked) (note a : ℕ) (h g : Held) (told tells : Told) → IsAt (at.Check s) job note h → MakesPart (step_of s) note a h g told tells → AnswersBy s answer next job.gfn g.topics.invalidations
     → MakesStep job (record job { place = after_check job.gfn next answer }) More note a h g told tells
 check_makes job s next answer note a h g told tells is M answers =
     let made : MadePart (check_part s) note M.found a h g told tells = subst (λ (x : PartStep). MadePart x note M.found a h g told tells) (same_check s) M.made in
     makes (at.Check s) (after_check job.gfn next answer) job More note M.found a h g told tells is.place made (can_check s M.found)
-    (check_place s next answer job.gfn M.found h.topics g.topics is.knows.0.shares is.knows.2 made.topics answers) not_true
+    (check_place s next answer job.gfn M.found h.topics g.topics is.knows.0.shares is.knows.2 made.topics answers) (check_never s h.topics M.found)
 
 -- the claim
 can_claim : (b : Bool) (word v : ℕ) → CanAnswer (if b then part.Claim else part.Map word) v
@@ -252,7 +263,7 @@ on_map true begun own t z note = refl
 on_map false begun own t z note = refl
 
 claim_turned : (b begun : Bool) (answer : Turn Claimed) (z : Sizes) (t u : Topics) (v : ℕ) → tries_page begun t.claim ≡ b → u ≡ part_topics (if b then part.Claim else part.Map (map_word begun t.claim)) t v → ClaimTurn z (record { begun = begun }) answer t u
-    → Turned (Goes (claim_next b z (at_map_word begun t.claim) v)) (claim_turn answer) (after_claim answer) × WaitsBy (claim_turn answer) (b && not (is_won t.claim v)) (record { word = claim_word b begun z t; value = v })
+    → Turned (Goes (claim_next b z (at_map_word begun t.claim) v)) (claim_turn answer) (after_claim answer) × WaitsBy (claim_turn answer) (part_waits (if b then part.Claim else part.Map (map_word begun t.claim)) t v) (record { word = claim_word b begun z t; value = v })
 claim_turned true begun More z t u v is made looks = absurd (cc (is, looks.loads))
 claim_turned true begun (Done Empty) z t u v is made none = absurd (cc (is, none.loads))
 claim_turned true begun (Done (Page page)) z t u v is made takes = won_turn (is_won t.claim v) _ _ (ap (λ (x : Topics). x.owned) (sym made ∙ takes.behind))
@@ -283,4 +294,4 @@ pub claim_makes : (job : FaultJob) (begun : Bool) (answer : Turn Claimed) (note 
 claim_makes job begun answer note a h g told tells is M turned =
     let turn = claim_turned (tries_page begun h.topics.claim) begun answer h.state.sizes h.topics g.topics M.found refl M.made.topics turned in
     makes (at.Claim begun) (after_claim answer) job (claim_turn answer) note M.found a h g told tells is.place M.made (can_claim (tries_page begun h.topics.claim) (map_word begun h.topics.claim) M.found) turn.0
-    (subst (λ n. WaitsBy (claim_turn answer) (waits (at.Claim begun) h.topics M.found) (record { word = n; value = M.found })) (on_map (tries_page begun h.topics.claim) begun (own_index h) h.topics h.state.sizes note) turn.1)
+    (subst (λ n. WaitsBy (claim_turn answer) (part_waits (fault_part (at.Claim begun) job.gfn h.topics) h.topics M.found) (record { word = n; value = M.found })) (on_map (tries_page begun h.topics.claim) begun (own_index h) h.topics h.state.sizes note) turn.1)

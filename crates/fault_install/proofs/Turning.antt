@@ -12,7 +12,8 @@ use Rattle.core_views.specs.declared.topics.Topics.{Topics}
 use Rattle.core_views.specs.Held.{Held}
 use Rattle.mmu_core.specs.lines.FaultKnows.{EndKnows, FaultKnows, KnowsNext}
 use Rattle.mmu_core.specs.lines.FaultLaws.{CanAnswer}
-use Rattle.mmu_core.specs.lines.FaultSteps.{fault_left, fault_next, fault_part, next_left, wait_seen, waits}
+use Rattle.mmu_core.specs.lines.FaultSteps.{fault_left, fault_next, fault_part, next_left, wait_seen}
+use Rattle.mmu_core.specs.lines.PartWaits.{part_waits}
 use Rattle.mmu_core.specs.machine.MayMake.{MayMake}
 use Rattle.part_steps.specs.PartBounds.{PartRests}
 use Rattle.part_steps.specs.PartSteps.{part_kind}
@@ -71,7 +72,7 @@ waits_not (Done answer) b way is never = absurd (cc is)
 pub nearer : (before after : FaultJob) (turn : Turn Faulted) (note a : ℕ) (h g : Held) (told tells : Told) → before.gfn < 2 ^ 36 → PartRests h → FaultKnows before.place h.state.sizes before.gfn before.write h.topics
     → MakesStep before after turn note a h g told tells → turn ≡ More → fault_left after.place g.state.sizes g.topics < fault_left before.place h.state.sizes h.topics
 nearer before after turn note a h g told tells small R known M is =
-    let go = waits_not turn (waits before.place h.topics M.found) (wait_seen before.place h before.gfn note M.found) is M.waits_by in
+    let go = waits_not turn (part_waits (fault_part before.place before.gfn h.topics) h.topics M.found) (wait_seen before.place h before.gfn note M.found) is M.waits_by in
     let falls = fault_falls before.place h before.gfn M.found before.write small R known go in
     let same : g.state.sizes ≡ h.state.sizes = ap (λ (x : Held). x.state.sizes) M.made.hand ∙ (next_same h (part_kind h (fault_part before.place before.gfn h.topics) note) M.found).sizes in
     subst (λ (z : Sizes). fault_left after.place z g.topics < fault_left before.place h.state.sizes h.topics) (sym same)
@@ -80,7 +81,7 @@ nearer before after turn note a h g told tells small R known M is =
 
 -- The step of a place was made: what the fault's turn is, with where it stands behind it.
 pub makes : (p next : FaultPlace) (job : FaultJob) (turn : Turn Faulted) (note v a : ℕ) (h g : Held) (told tells : Told) → job.place ≡ p → MadePart (fault_part p job.gfn h.topics) note v a h g told tells → CanAnswer (fault_part p job.gfn h.topics) v
-    → Turned (fault_next p h.state.sizes job.gfn job.write h.topics v) turn next → WaitsBy turn (waits p h.topics v) (wait_seen p h job.gfn note v)
+    → Turned (fault_next p h.state.sizes job.gfn job.write h.topics v) turn next → WaitsBy turn (part_waits (fault_part p job.gfn h.topics) h.topics v) (wait_seen p h job.gfn note v)
     → MakesStep job (record job { place = next }) turn note a h g told tells
 makes p next job turn note v a h g told tells at made can turned waits_by = record {
   found = v;
@@ -88,7 +89,7 @@ makes p next job turn note v a h g told tells at made can turned waits_by = reco
   can = subst (λ (x : FaultPlace). CanAnswer (fault_part x job.gfn h.topics) v) (sym at) can;
   work = (refl, refl);
   turned = subst (λ (x : FaultPlace). Turned (fault_next x h.state.sizes job.gfn job.write h.topics v) turn next) (sym at) turned;
-  waits_by = subst (λ (x : FaultPlace). WaitsBy turn (waits x h.topics v) (wait_seen x h job.gfn note v)) (sym at) waits_by;
+  waits_by = subst (λ (x : FaultPlace). WaitsBy turn (part_waits (fault_part x job.gfn h.topics) h.topics v) (wait_seen x h job.gfn note v)) (sym at) waits_by;
 }
 
 -- Where the fault goes on, it knows what its next place asks.

@@ -14,7 +14,8 @@ use Rattle.core_views.specs.Held.{Held}
 use Rattle.core_views.specs.Slots.{is_write}
 use Rattle.mmu_core.specs.lines.FaultKnows.{EndKnows, FaultKnows, KnowsNext}
 use Rattle.mmu_core.specs.lines.FaultLaws.{CanAnswer}
-use Rattle.mmu_core.specs.lines.FaultSteps.{fault_next, fault_part, wait_seen, waits}
+use Rattle.mmu_core.specs.lines.FaultSteps.{fault_next, fault_part, wait_seen}
+use Rattle.mmu_core.specs.lines.PartWaits.{part_waits}
 use Rattle.mmu_core.specs.machine.MayMake.{MayMake}
 use Rattle.mmu_core.specs.machine.Steps.{place_at}
 use Rattle.mmu_core.specs.machine.Turns.{line_of}
@@ -84,7 +85,7 @@ pub record MakesStep (before after : FaultJob) (turn : Turn Faulted) (note actor
   pub can : CanAnswer (fault_part before.place before.gfn h.topics) found
   pub work : (after.gfn ≡ before.gfn) × (after.write ≡ before.write)
   pub turned : Turned (fault_next before.place h.state.sizes before.gfn before.write h.topics found) turn after.place
-  pub waits_by : WaitsBy turn (waits before.place h.topics found) (wait_seen before.place h before.gfn note found)
+  pub waits_by : WaitsBy turn (part_waits (fault_part before.place before.gfn h.topics) h.topics found) (wait_seen before.place h before.gfn note found)
 
 -- One turn of the fault: its place's step was made, of which this was found; the fault stands where the order of steps leads from there,
 -- and knows what its next place asks; where it is over, its answer has its cause in what was loaded, and the actor holds nothing.
@@ -93,6 +94,6 @@ pub record TurnsFault (before after : FaultJob) (turn : Turn Faulted) (note acto
   pub made : MadePart (fault_part before.place before.gfn h.topics) note found actor h g told tells
   pub work : (after.gfn ≡ before.gfn) × (after.write ≡ before.write)
   pub turned : Turned (fault_next before.place h.state.sizes before.gfn before.write h.topics found) turn after.place
-  pub waits_by : WaitsBy turn (waits before.place h.topics found) (wait_seen before.place h before.gfn note found)
+  pub waits_by : WaitsBy turn (part_waits (fault_part before.place before.gfn h.topics) h.topics found) (wait_seen before.place h before.gfn note found)
   pub knows : KnowsNext (fault_next before.place h.state.sizes before.gfn before.write h.topics found) h.state.sizes before.gfn before.write g.topics
   pub ends_by : EndsBy turn (λ e. EndKnows e h.state.sizes before.gfn before.write h.topics)

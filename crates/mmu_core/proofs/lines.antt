@@ -12,3 +12,4 @@ pub mod KnowsStay
 pub mod LinesKept
 pub mod StepIn
 pub mod UsedTranslations
+pub mod PartsWait

@@ -4,7 +4,7 @@ ghost use Rattle.core_views.specs.declared.place.Cause.TheVariants.{Entry};
 ghost use Rattle.core_views.specs.declared.place.FaultEnd.TheVariants.{HostFault, Retry};
 ghost use Rattle.core_views.specs.declared.place.FaultPlace.TheVariants.{End, Find, Give, Host, Share, Unshare};
 ghost use Rattle.core_views.specs.Sizes.{AreSizes};
-ghost use Rattle.mmu_core.specs.lines.FaultSteps.{at_map_word, check_next, check_part, claim_next, claim_part, entry_word, fault_next, fault_part, find_next, is_owing, map_word, share_next, table_value, tries_page, waits, walk_next};
+ghost use Rattle.mmu_core.specs.lines.FaultSteps.{at_map_word, check_next, check_part, claim_next, claim_part, entry_word, fault_next, fault_part, find_next, map_word, share_next, table_value, tries_page, walk_next};
 ghost use Rattle.part_steps.specs.PartBounds.{PartRests};
 ghost use Rattle.part_steps.specs.PartSteps.{PartNeeds, table_page};
 ghost use Rattle.part_steps.specs.SlotWords.{page_of};
@@ -295,23 +295,4 @@ pub(crate) fn next(place: FaultPlace, hand: &Hand, gfn: u64, write: bool, found:
         FaultPlace::Unshare(end) => FaultPlace::End(end),
         FaultPlace::End(end) => return FaultNext::Ends(end),
     })
-}
-
-fn is_owing(hold: Hold) -> bool
-    ensures { result ≡ is_owing hold }
-{
-    matches!(hold, Hold::Owing(_))
-}
-
-/// The step leaves the fault where it was, since another actor is in the way.
-pub(crate) fn waits(place: FaultPlace, topics: &Topics, found: u64) -> bool
-    ensures { result ≡ waits place topics.now found }
-{
-    match place {
-        FaultPlace::Share => is_owing(topics.hold),
-        FaultPlace::Claim { begun } => {
-            tries_page(begun, &topics.claim) && !is_won(&topics.claim, found)
-        }
-        _ => false,
-    }
 }

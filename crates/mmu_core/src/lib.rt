@@ -10,6 +10,7 @@ mod outcome;
 mod parts;
 mod set_slot;
 mod step;
+mod waits;
 
 pub use access::{access_note, lookup};
 pub use fault::{entry_word, table_value};
@@ -21,5 +22,6 @@ pub use laws::{
 };
 pub use outcome::Outcome;
 pub use parts::{allows, may_make, part_rests};
-pub use set_slot::{setting_place, waits as setting_waits};
-pub use step::{advance, asks_flush, next_kind};
+pub use set_slot::setting_place;
+pub use step::{advance, asks_flush, next_kind, next_step};
+pub use waits::{part_waits, waits_by};

@@ -8,7 +8,7 @@ ghost use Rattle.mmu_core.specs.lines.FaultSteps.{at_map_word, tries_page};
 ghost use Rattle.part_steps.specs.PartBounds.{PartRests};
 ghost use Rattle.part_steps.specs.PartSteps.{PartNeeds};
 ghost use Rattle.mmu_core.specs.lines.Rests.{RecordAccepts, Rests};
-ghost use Rattle.mmu_core.specs.lines.SetSlotSteps.{claim_outcome, looked_at, set_slot_first, set_slot_note, set_slot_outcome, set_slot_part, set_slot_records, set_slot_task, set_slot_waits, watch_next};
+ghost use Rattle.mmu_core.specs.lines.SetSlotSteps.{claim_outcome, looked_at, set_slot_first, set_slot_note, set_slot_outcome, set_slot_part, set_slot_records, set_slot_task, watch_next};
 ghost use Rattle.mmu_core.specs.machine.Steps.{place_at};
 ghost use Rattle.part_steps.specs.Tasks.{map_of};
 ghost use Rattle.mmu_core.specs.machine.Turns.{line_of};
@@ -16,7 +16,7 @@ ghost use Rattle.spte_words.specs.Areas.{size_of};
 
 use crate::fault::{claim_part, map_word, tries_page};
 use crate::outcome::Outcome;
-use core_views::{Answer, Hand, MapClaim, Place, SetSlotPlace, Sizes, Slot, SlotSet, Topics};
+use core_views::{Answer, Hand, MapClaim, Place, SetSlotPlace, Sizes, Slot, SlotSet};
 use part_steps::{
     PartStep, Task, in_section, is_won, map_of, next_watched, part_task, set_value, words_filled,
 };
@@ -44,8 +44,8 @@ fn looked_at(hand: &Hand) -> u64
     next_watched(state.sizes.index_of(state.actor), hand.topics().watched)
 }
 
-// The step of this place.
-fn part(place: SetSlotPlace, hand: &Hand, id: u64, slot: &Slot) -> PartStep
+/// The step of this place.
+pub(crate) fn part(place: SetSlotPlace, hand: &Hand, id: u64, slot: &Slot) -> PartStep
     requires part { PartRests hand.now.core }
     ensures { result ≡ set_slot_part place hand.now.core id slot.now }
 {
@@ -188,20 +188,5 @@ pub fn setting_place(hand: &Hand, id: u64, slot: &Slot) -> SetSlotPlace
         Place::Between => first(&hand.state().sizes, hand.slots(), id, slot),
         Place::SetSlot(place) => place,
         Place::Access(_) => unreachable!(),
-    }
-}
-
-/// The step leaves the line where it was, since another actor is in the way.
-pub fn waits(place: SetSlotPlace, topics: &Topics, found: u64) -> bool
-    ensures { result ≡ set_slot_waits place topics.now found }
-{
-    match place {
-        SetSlotPlace::Claim { begun } => {
-            tries_page(begun, &topics.claim) && !is_won(&topics.claim, found)
-        }
-        SetSlotPlace::Exclude => found != 0,
-        SetSlotPlace::Close => true,
-        SetSlotPlace::Watch => in_section(found),
-        _ => false,
     }
 }

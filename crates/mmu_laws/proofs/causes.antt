@@ -14,4 +14,4 @@ pub mod MadeSteps
 pub mod ScanPlaces
 pub mod StarvedScan
 pub mod StepWaits
-pub mod WaitsSame
+pub mod LineWaits

@@ -1,5 +1,6 @@
 -- The step of a line is the step of a part, or a touch: the one place where it is told by the form of the line which.
-use Rattle.std.proofs.Common.{◌≡◌, ℕ, refl}
+use Rattle.std.proofs.Common.{◌≡◌, ℕ, refl, subst}
+use Rattle.std.specs.Option.{IfSome}
 use Rattle.std.specs.Prelude.{Option, Some, None}
 use Rattle.core_views.specs.declared.place.Place.{Place}
 use Rattle.core_views.specs.declared.place.Place.TheVariants as place
@@ -16,9 +17,10 @@ use Rattle.part_steps.specs.declared.task.Task.{Task}
 use Rattle.part_steps.specs.PartSteps.{PartNeeds, own_index, part_task}
 use Rattle.part_steps.specs.Tasks.{map_of}
 use Rattle.mmu_core.specs.lines.AccessSteps.{access_note, access_part, task_by, touch_of}
-use Rattle.mmu_core.specs.lines.PartAt.{task_at}
+use Rattle.mmu_core.specs.lines.PartAt.{part_at, task_at}
 use Rattle.mmu_core.specs.lines.Rests.{RestsAt, RestsOn, TouchNeeds}
 use Rattle.mmu_core.specs.lines.SetSlotSteps.{set_slot_note, set_slot_part}
+use Rattle.mmu_core.proofs.lines.UsedTranslations.{part_needs}
 
 pub data StepAt (command : Command) (h : Held) : Task → Type 0 where
   Makes : (step : PartStep) (note : ℕ) → PartNeeds step h → StepAt command h (part_task step (own_index h) h.topics note)
@@ -33,3 +35,13 @@ step_at place.Between command h R = Makes part.Seq 0 tt
 step_at (place.Access p) (Access gfn word op) h R = access_step (access_part p gfn h.topics) h (access_note p) gfn word op R
 step_at (place.SetSlot p) (SetSlot id slot) h R = Makes (set_slot_part p h id slot) (set_slot_note p h) R
 step_at _ _ h R = absurd R
+
+-- What the step of a part needs that a line is to make.
+pub step_needs : (p : Place) (command : Command) (h : Held) (step : PartStep) → RestsAt p command h → part_at p command h ≡ Some step → PartNeeds step h
+step_needs p command h step R is = subst (λ (s : Option PartStep). IfSome s (λ x. PartNeeds x h)) is (needs p command R)
+  where
+    needs : (q : Place) (c : Command) → RestsAt q c h → IfSome (part_at q c h) (λ x. PartNeeds x h)
+    needs place.Between c N = tt
+    needs (place.Access q) (Access gfn word op) N = part_needs (access_part q gfn h.topics) gfn (is_write op) h N
+    needs (place.SetSlot q) (SetSlot id slot) N = N
+    needs _ _ N = absurd N

@@ -28,7 +28,8 @@ use Rattle.spte_words.specs.HostWords.{host_allows_write}
 use Rattle.spte_words.proofs.ReadsEntries.{kind_of_table}
 use Rattle.part_steps.specs.declared.part_step.PartStep.TheVariants as part
 use Rattle.mmu_core.specs.lines.FaultKnows.{FaultKnows, is_trying}
-use Rattle.mmu_core.specs.lines.FaultSteps.{allows_access, at_map_word, check_left, check_next, claim_next, entering_left, entry_word, fault_left, fault_next, fault_part, find_next, is_owing, lock_left, map_word, next_left, share_next, share_part, snapshot_taken, table_left, tries_page, waits, walk_left, walk_next}
+use Rattle.mmu_core.specs.lines.FaultSteps.{allows_access, at_map_word, check_left, check_next, claim_next, entering_left, entry_word, fault_left, fault_next, fault_part, find_next, is_owing, lock_left, map_word, next_left, share_next, share_part, snapshot_taken, table_left, tries_page, walk_left, walk_next}
+use Rattle.mmu_core.specs.lines.PartWaits.{part_waits}
 use Rattle.part_steps.specs.PartBounds.{PartRests}
 use Rattle.part_steps.specs.PartSteps.{entry_index, link_written, page_owned, words_filled}
 use Rattle.part_steps.specs.PartTopics.{exchanged, part_topics}
@@ -37,6 +38,7 @@ use Rattle.part_steps.specs.TopicSteps.{filled_more, gone_down, has_writer, is_w
 use Rattle.mmu_core.proofs.lines.FaultKnown.{above_lowest}
 use Rattle.mmu_core.proofs.lines.FaultNeeds.{first_word}
 use Rattle.mmu_core.proofs.lines.FaultSame.{not_not}
+use Rattle.mmu_core.proofs.lines.PartsWait.{claim_waits, share_waits}
 
 -- the search
 search_falls : (b : Bool) (z : Sizes) (u : Topics) (n : ℕ) → (u.search.id == 32) ≡ b → (b ≡ false → 4 * (31 - u.search.id) + look_left u.search.next < n) → fault_left (if b then End Mmio else Find true) z u < entering_left z + 7 + n
@@ -189,16 +191,16 @@ leaf_put : (b : Bool) (z : Sizes) (word read v : ℕ) (u : Topics) → fault_lef
 leaf_put true z word read v u = omega arith
 leaf_put false z word read v u = omega arith
 
-pub fault_falls : (p : FaultPlace) (h : Held) (gfn v : ℕ) (write : Bool) → gfn < 2 ^ 36 → PartRests h → FaultKnows p h.state.sizes gfn write h.topics → waits p h.topics v ≡ false
+pub fault_falls : (p : FaultPlace) (h : Held) (gfn v : ℕ) (write : Bool) → gfn < 2 ^ 36 → PartRests h → FaultKnows p h.state.sizes gfn write h.topics → part_waits (fault_part p gfn h.topics) h.topics v ≡ false
     → next_left (fault_next p h.state.sizes gfn write h.topics v) h.state.sizes (part_topics (fault_part p gfn h.topics) h.topics v) < fault_left p h.state.sizes h.topics
 fault_falls (Find true) h gfn v write small R K goes = let set = K.1 refl in slot_falls (is_some h.topics.search.set) h.state.sizes gfn write h.topics v set.0 set.1
 fault_falls (Find false) h gfn v write small R K goes = omega arith
 fault_falls Host h gfn v write small R K goes = host_falls (write && not (host_allows_write v)) h.state.sizes (part_topics (fault_part Host gfn h.topics) h.topics v) K.0.loose
-fault_falls Share h gfn v write small R K goes = share_falls h.topics.hold h.state.sizes h.topics v K.1 goes
+fault_falls Share h gfn v write small R K goes = share_falls h.topics.hold h.state.sizes h.topics v K.1 (share_waits h.topics.hold h.topics v refl ∙ goes)
 fault_falls (Check at) h gfn v write small R K goes = check_falls at h.state.sizes gfn h.topics _ v
 fault_falls (Walk true) h gfn v write small R K goes = let over = K.2 refl in walk_falls (kind_of h.topics.walk.level v) h.state.sizes gfn write h.topics v refl over.there R.level
 fault_falls (Walk false) h gfn v write small R K goes = root_falls (may_walk h.topics.stay h.topics.hold) h.state.sizes
-fault_falls (Claim begun) h gfn v write small R K goes = claim_falls (tries_page begun h.topics.claim) begun h.state.sizes h.topics v goes (word_there begun h.state.sizes h.topics.claim R.sizes K.3)
+fault_falls (Claim begun) h gfn v write small R K goes = claim_falls (tries_page begun h.topics.claim) begun h.state.sizes h.topics v (claim_waits (tries_page begun h.topics.claim) (map_word begun h.topics.claim) h.topics v ∙ goes) (word_there begun h.state.sizes h.topics.claim R.sizes K.3)
 fault_falls Fill h gfn v write small R K goes = fill_falls h.state.sizes h.topics v K.2.owned K.2.is K.2.left
 fault_falls Link h gfn v write small R K goes =
     let low : K.2.owned.page < 2 ^ 32 = let page = R.page K.2.owned K.2.is in let most = R.sizes.pool.1 in omega (arith, page, most) in

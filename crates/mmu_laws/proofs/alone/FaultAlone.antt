@@ -43,6 +43,8 @@ use Rattle.mmu_core.proofs.invariant.AloneLaws.{lock_free}
 use Rattle.mmu_core.proofs.machine.Columns.{upd_same}
 use Rattle.mmu_core.proofs.lines.FaultKnown.{allowed_leaf}
 use Rattle.mmu_core.proofs.lines.FaultSame.{both}
+use Rattle.mmu_core.proofs.lines.PartsWait.{share_waits}
+use Rattle.mmu_core.specs.lines.PartWaits.{part_waits}
 use Rattle.mmu_laws.proofs.alone.FindAlone.{find_goes}
 use Rattle.mmu_laws.proofs.leaves.LeadsDown.{leads_same}
 use Rattle.mmu_core.proofs.slots.LiveStays.{LiveStays}
@@ -166,7 +168,7 @@ module _ (t : Topics) (words : Area → ℕ → ℕ) (a note : ℕ) (small : t.c
       let some : 0 < t.claim.seen = let more = B.1 in grind (arith, nat_tests) in
       ap (is_won t.claim) (seen B.0 some) ∙ saw_bit t.claim some small
 
-  pub claim_goes : (tries : Bool) → tries_page b t.claim ≡ tries → (tries && not (is_won t.claim (answer_in (part_task (if tries then part.Claim else part.Map (map_word b t.claim)) a t note) words))) ≡ false
+  pub claim_goes : (tries : Bool) → tries_page b t.claim ≡ tries → part_waits (if tries then part.Claim else part.Map (map_word b t.claim)) t (answer_in (part_task (if tries then part.Claim else part.Map (map_word b t.claim)) a t note) words) ≡ false
   claim_goes true is = ap not (tries_seen is)
   claim_goes false is = refl
 
@@ -293,7 +295,7 @@ goes_through z w a gfn note write Share R =
     let v : ℕ = answer_in task (word_in z w) in
     let behind : Area → ℕ → ℕ = words_after task (word_in z w) in
     record {
-      goes = ap (λ (x : Hold). is_owing x) R.alone;
+      goes = sym (share_waits t.hold t v refl) ∙ ap (λ (x : Hold). is_owing x) R.alone;
       next = share_alone (behind area.Root 0) (behind area.Slots 0) (behind area.PoolMap) (behind area.Pool) gfn write t.hold (word_in z w) a note t (part_topics (share_part t.hold) t v) R.alone (lock_free z w a R.sound R.there R.others R.alone);
     }
 goes_through z w a gfn note write (Check stage.Count) R =
@@ -359,4 +361,5 @@ goes_through z w a gfn note write Leaf R =
           leaf_alone (behind area.Root 0) (behind area.Slots 0) (behind area.PoolMap) (behind area.Pool) gfn write (v == t.walk.entry) (Unshare (Retry (Entry (entry_word z gfn t.walk) t.walk.entry v))) (part_topics (part.Leaf gfn) t v) (is_it v t.walk.entry R.alone)
           (leaf_leads z w a gfn note write Leaf R R.knows.0 R.knows.2 R.knows.3 R.alone);
     }
+goes_through z w a gfn note write (Unshare e) R = record { goes = ap (λ (x : Hold). is_owing x) R.knows.1; next = R.alone }
 goes_through z w a gfn note write _ R = record { goes = refl; next = R.alone }

@@ -6,7 +6,7 @@ use Rattle.std.proofs.lemmas.Bool.Decides.{nat_tests}
 use Rattle.core_views.specs.declared.answer.Answer.TheVariants.{Starved}
 use Rattle.core_views.specs.declared.place.Place.TheVariants as place
 use Rattle.core_views.specs.declared.place.SetSlotPlace.{SetSlotPlace}
-use Rattle.core_views.specs.declared.place.SetSlotPlace.TheVariants.{Refuse, Claim, Fill, Exclude, Count, Close, Publish, Watch, Clear, Give}
+use Rattle.core_views.specs.declared.place.SetSlotPlace.TheVariants.{Refuse, Claim, Fill, Exclude, Count, Close, Publish, Release, Watch, Clear, Give}
 use Rattle.core_views.specs.declared.sizes.Sizes.{Sizes}
 use Rattle.core_views.specs.declared.topics.Topics.{Topics}
 use Rattle.core_views.specs.declared.trace.Command.TheVariants.{SetSlot}
@@ -34,6 +34,7 @@ use Rattle.mmu_core.specs.machine.View.{answer_in, word_in, words_after}
 use Rattle.mmu_core.proofs.invariant.AloneLaws.{lock_free, outside_word}
 use Rattle.mmu_laws.proofs.alone.FaultAlone.{before_word, claim_goes, past_word, seen_stands, tries_seen}
 use Rattle.mmu_core.proofs.lines.FaultFalls.{seen_falls}
+use Rattle.mmu_core.proofs.lines.PartsWait.{none_open}
 use Rattle.mmu_laws.proofs.alone.GoesAlone.{GoesAlone, GoesOnAlone}
 
 is_zero : (v : ℕ) → v ≡ 0 → (v == 0) ≡ true
@@ -177,4 +178,5 @@ module _ (z : Sizes) (w : World Held) (a : ℕ) (sound : IsSound z w) (others : 
   setting_through Close K alone N = absurd alone
   setting_through Watch K alone N = watch_through K N
   setting_through Give K alone N = record { goes = refl; next = λ e. absurd (cc e) }
+  setting_through Release K alone N = record { goes = none_open h.topics.invalidations K.3; next = (tt, tt, omega arith) }
   setting_through _ K alone N = record { goes = refl; next = (tt, tt, omega arith) }

@@ -1,5 +1,5 @@
 -- Each step of a slot setting that doesn't wait leaves it fewer steps, beside other actors too.
-use Rattle.std.proofs.Common.{◌≡◌, ◌+◌, ◌-◌, ◌<◌, ℕ, refl, sym, subst, arith}
+use Rattle.std.proofs.Common.{◌≡◌, ◌+◌, ◌-◌, ◌<◌, ℕ, refl, sym, subst, ◌∙◌, arith}
 use Rattle.std.specs.Prelude.{Bool, true, false, ◌==◌, ◌&&◌, nat_lt, not, if◌then◌else◌, Option, Some, None}
 use Rattle.core_views.specs.declared.answer.Answer.TheVariants.{Starved}
 use Rattle.core_views.specs.declared.place.Place.TheVariants as place
@@ -17,11 +17,13 @@ use Rattle.mmu_core.specs.declared.outcome.Outcome.TheVariants.{Goes, Ends}
 use Rattle.part_steps.specs.declared.part_step.PartStep.TheVariants as part
 use Rattle.mmu_core.specs.lines.Bounds.{set_slot_left, steps_left}
 use Rattle.mmu_core.specs.lines.FaultSteps.{at_map_word, map_word, tries_page}
+use Rattle.mmu_core.specs.lines.PartWaits.{part_waits}
+use Rattle.mmu_core.proofs.lines.PartsWait.{claim_waits}
 use Rattle.part_steps.specs.PartBounds.{PartRests}
 use Rattle.part_steps.specs.PartSteps.{HasToFill, next_watched, own_index, words_filled}
 use Rattle.part_steps.specs.PartTopics.{part_topics}
 use Rattle.mmu_core.specs.lines.SetSlotKnows.{SetSlotKnows}
-use Rattle.mmu_core.specs.lines.SetSlotSteps.{claim_outcome, looked_at, set_slot_outcome, set_slot_part, set_slot_waits}
+use Rattle.mmu_core.specs.lines.SetSlotSteps.{claim_outcome, looked_at, set_slot_outcome, set_slot_part}
 use Rattle.part_steps.specs.TopicSteps.{filled_more, in_section, is_won}
 use Rattle.mmu_core.proofs.lines.FaultFalls.{seen_falls, word_there}
 
@@ -94,14 +96,14 @@ watched_nearer false h goes low =
     either (nat_lt (next_watched (own_index h) (looked_at h + 1)) (actors_of h.state.sizes)) Watch Clear h.state.sizes (record h.topics { watched = looked_at h + 1 }) (3 + (actors_of h.state.sizes - h.topics.watched))
     (watch_fewer (own_index h) h.topics.watched (actors_of h.state.sizes) low) (omega arith)
 
-pub set_slot_nearer : (p : SetSlotPlace) (h : Held) (id : ℕ) (slot : Slot) (v : ℕ) → PartRests h → SetSlotKnows p h → set_slot_waits p h.topics v ≡ false
+pub set_slot_nearer : (p : SetSlotPlace) (h : Held) (id : ℕ) (slot : Slot) (v : ℕ) → PartRests h → SetSlotKnows p h → part_waits (set_slot_part p h id slot) h.topics v ≡ false
     → Nearer (set_slot_outcome p h v) h.state.sizes (part_topics (set_slot_part p h id slot) h.topics v) (set_slot_left p h.state.sizes h.topics)
 set_slot_nearer (Refuse refusal) h id slot v R K goes = tt
-set_slot_nearer (Claim begun) h id slot v R K goes = claim_nearer (tries_page begun h.topics.claim) begun h.state.sizes h.topics v goes (word_there begun h.state.sizes h.topics.claim R.sizes K.1)
+set_slot_nearer (Claim begun) h id slot v R K goes = claim_nearer (tries_page begun h.topics.claim) begun h.state.sizes h.topics v (claim_waits (tries_page begun h.topics.claim) (map_word begun h.topics.claim) h.topics v ∙ goes) (word_there begun h.state.sizes h.topics.claim R.sizes K.1)
 set_slot_nearer Fill h id slot v R K goes = fill_nearer h.state.sizes h.topics v K.1
 set_slot_nearer Exclude h id slot v R K goes = excluded_nearer (v == 0) h.state.sizes (part_topics part.Exclude h.topics v) goes
 set_slot_nearer Count h id slot v R K goes = either (v == 0) Publish Close h.state.sizes (part_topics part.Count h.topics v) (6 + actors_of h.state.sizes) (omega arith) (omega arith)
-set_slot_nearer Close h id slot v R K goes = absurd (cc goes)
+set_slot_nearer Close h id slot v R K goes = let sees = K.2 in absurd (cc (goes, sees))
 set_slot_nearer Watch h id slot v R K goes = watched_nearer (in_section v) h goes K.2
 set_slot_nearer Give h id slot v R K goes = tt
 set_slot_nearer _ h id slot v R K goes = omega arith

@@ -8,7 +8,6 @@ use Rattle.core_views.specs.declared.place.AccessPlace.TheVariants.{Enter, Pause
 use Rattle.core_views.specs.declared.place.Place.{Place}
 use Rattle.core_views.specs.declared.place.Place.TheVariants as place
 use Rattle.core_views.specs.declared.sizes.Sizes.{Sizes}
-use Rattle.core_views.specs.declared.topics.Topics.{Topics}
 use Rattle.core_views.specs.declared.trace.Command.{Command}
 use Rattle.core_views.specs.declared.trace.Command.TheVariants.{Access, SetSlot}
 use Rattle.core_views.specs.declared.trace.Line.{Line}
@@ -17,6 +16,7 @@ use Rattle.core_views.specs.Refusals.{set_refusal}
 use Rattle.core_views.specs.Sizes.{AreSizes, actors_of}
 use Rattle.core_views.specs.SlotSets.{MemorySlots}
 use Rattle.core_views.specs.Slots.{is_write}
+use Rattle.core_views.specs.declared.trace.Slot.{Slot}
 use Rattle.core_views.specs.Traces.{IsCommandFor}
 use Rattle.spte_words.specs.declared.area.Area.{Area}
 use Rattle.spte_words.specs.declared.area.Area.TheVariants as area
@@ -40,7 +40,7 @@ use Rattle.mmu_core.specs.lines.SetSlotSteps.{set_slot_first}
 use Rattle.mmu_core.specs.machine.Steps.{delays_at, first_place, has_line, line_at, outcome_at, place_at, standing, task_at}
 use Rattle.mmu_core.specs.machine.Outcomes.{place_after}
 use Rattle.mmu_laws.specs.turns.TurnLaws.{DelaysWaitOrBeginAnew, StaysInstalled, WalksInstalled, begins_anew}
-use Rattle.mmu_core.specs.machine.Turns.{outcome_of}
+use Rattle.mmu_core.specs.machine.Turns.{line_of, outcome_of}
 use Rattle.mmu_core.specs.machine.View.{View, answer_in, hand_after, view, word_in}
 use Rattle.mmu_core.specs.machine.Worlds.{Reachable}
 use Rattle.mmu_laws.proofs.alone.AloneRuns.{standing_left}
@@ -91,25 +91,25 @@ one_of false true c is none = inr refl
 one_of false false c is none = absurd (cc (is, none))
 
 -- No line begins with a delay: what is so of the place of its first step is so of the one at which it stands.
-begins_at_once : (o : Option Refusal) (t : Topics) (v : ℕ) → line_waits (place.SetSlot (set_slot_first o)) t v ≡ true → ⊥
-begins_at_once (Some refusal) t v is = cc is
-begins_at_once None t v is = cc is
+begins_at_once : (o : Option Refusal) (id : ℕ) (slot : Slot) (h : Held) (v : ℕ) → line_waits (place.SetSlot (set_slot_first o)) (SetSlot id slot) h v ≡ true → ⊥
+begins_at_once (Some refusal) id slot h v is = cc is
+begins_at_once None id slot h v is = cc is
 
-first_goes : (y : Sizes) (slots : MemorySlots) (c : Command) (t : Topics) (v : ℕ) → line_waits (first_place y slots c) t v ≡ true → ⊥
-first_goes y slots (Access gfn word op) t v is = cc is
-first_goes y slots (SetSlot id slot) t v is = begins_at_once (set_refusal y.pages id slot slots) t v is
+first_goes : (y : Sizes) (slots : MemorySlots) (c : Command) (h : Held) (v : ℕ) → line_waits (first_place y slots c) c h v ≡ true → ⊥
+first_goes y slots (Access gfn word op) h v is = cc is
+first_goes y slots (SetSlot id slot) h v is = begins_at_once (set_refusal y.pages id slot slots) id slot h v is
 
 first_no_end : (y : Sizes) (slots : MemorySlots) (c : Command) → begins_anew (first_place y slots c) ≡ true → ⊥
 first_no_end y slots (Access gfn word op) is = cc is
 first_no_end y slots (SetSlot id slot) is = cc is
 
-abbrev WaitsOrBegins : Place → Topics → ℕ → Type 0
-WaitsOrBegins p t v = (line_waits p t v ≡ true) ⊎ (begins_anew p ≡ true)
+abbrev WaitsOrBegins : Place → Command → Held → ℕ → Type 0
+WaitsOrBegins p c h v = (line_waits p c h v ≡ true) ⊎ (begins_anew p ≡ true)
 
-where_it_stands : (q : Place) (y : Sizes) (slots : MemorySlots) (c : Command) (t : Topics) (v : ℕ) → WaitsOrBegins (standing q y slots c) t v → WaitsOrBegins q t v
-where_it_stands place.Between y slots c t v (inl waits) = absurd (first_goes y slots c t v waits)
-where_it_stands place.Between y slots c t v (inr anew) = absurd (first_no_end y slots c anew)
-where_it_stands _ y slots c t v is = is
+where_it_stands : (q : Place) (y : Sizes) (slots : MemorySlots) (c : Command) (h : Held) (v : ℕ) → WaitsOrBegins (standing q y slots c) c h v → WaitsOrBegins q c h v
+where_it_stands place.Between y slots c h v (inl waits) = absurd (first_goes y slots c h v waits)
+where_it_stands place.Between y slots c h v (inr anew) = absurd (first_no_end y slots c anew)
+where_it_stands _ y slots c h v is = is
 
 -- ---- from world to world
 
@@ -178,16 +178,16 @@ module _ (z : Sizes) (w : World Held) (s : Step Kind) (G : IsSound z w) (may : M
       let stays : StaysInstalled stood line.command words = standing_installed h.state.place h.state.sizes h.slots h words (A a there) in
       no_miss stood line.command h words (walks_installed stood line.command z w a G there (knows_at z (view z w) a G.holds there taken.is_step.left) stays)
 
-  delay_is : AllInstalled z (view z w) → delays_at stood line.command h (answered mmu w s.kind) ≡ true → WaitsOrBegins h.state.place h.topics (answered mmu w s.kind)
+  delay_is : AllInstalled z (view z w) → delays_at stood line.command h (answered mmu w s.kind) ≡ true → WaitsOrBegins h.state.place line.command h (answered mmu w s.kind)
   delay_is A delays =
-      where_it_stands h.state.place h.state.sizes h.slots line.command h.topics (answered mmu w s.kind)
-      (one_of (line_waits stood h.topics (answered mmu w s.kind)) (begins_anew stood) (walks_again stood && leaves_to_fault (outcome_at stood line.command h (answered mmu w s.kind))) delays
+      where_it_stands h.state.place h.state.sizes h.slots line.command h (answered mmu w s.kind)
+      (one_of (line_waits stood line.command h (answered mmu w s.kind)) (begins_anew stood) (walks_again stood && leaves_to_fault (outcome_at stood line.command h (answered mmu w s.kind))) delays
       (ap (λ v. walks_again stood && leaves_to_fault (outcome_at stood line.command h v)) taken.answers ∙ stay_finds A))
 
-  turn_nearer : AllInstalled z (view z w) → line_waits stood h.topics (answered mmu w s.kind) ≡ false → begins_anew stood ≡ false → (p : Place) → outcome_of h (answered mmu w s.kind) ≡ Goes p
+  turn_nearer : AllInstalled z (view z w) → line_waits stood line.command h (answered mmu w s.kind) ≡ false → begins_anew stood ≡ false → (p : Place) → outcome_of h (answered mmu w s.kind) ≡ Goes p
       → hand_left (hand_in mmu (effect mmu w s) a) < hand_left h
   turn_nearer A goes on p out =
-      let none : delays_at stood line.command h x ≡ false = none_of (line_waits stood h.topics x) (begins_anew stood) (walks_again stood && leaves_to_fault (outcome_at stood line.command h x)) (ap (line_waits stood h.topics) (sym taken.answers) ∙ goes) on (stay_finds A) in
+      let none : delays_at stood line.command h x ≡ false = none_of (line_waits stood line.command h x) (begins_anew stood) (walks_again stood && leaves_to_fault (outcome_at stood line.command h x)) (ap (line_waits stood line.command h) (sym taken.answers) ∙ goes) on (stay_finds A) in
       subst (λ (g : Held). hand_left g < hand_left h) (sym hand_behind)
       (nearer_hand after (outcome_at stood line.command h x) p h.state.sizes (steps_left stood h.state.sizes h.topics) (hand_left h) (ap (outcome_at stood line.command h) (sym taken.answers) ∙ out) refl same_sizes stood_left (nearer_here none))
 
@@ -195,7 +195,7 @@ pub reached_installed : (w : World Held) (r : Reachable w) → AllInstalled r.si
 reached_installed w r = subst (λ (u : World Held). AllInstalled r.sizes (view r.sizes u)) r.leads.ends (all_installed r.sizes r.lines r.start r.leads.steps r.is_start r.leads.legal)
 
 pub turns_nearer : (w : World Held) (s : Step Kind) → Reachable w → May mmu w s → has_line (hand_in mmu w s.actor) ≡ true
-    → line_waits (place_at (hand_in mmu w s.actor).state.place (hand_in mmu w s.actor)) (hand_in mmu w s.actor).topics (answered mmu w s.kind) ≡ false
+    → line_waits (place_at (hand_in mmu w s.actor).state.place (hand_in mmu w s.actor)) (line_of (hand_in mmu w s.actor)).command (hand_in mmu w s.actor) (answered mmu w s.kind) ≡ false
     → begins_anew (place_at (hand_in mmu w s.actor).state.place (hand_in mmu w s.actor)) ≡ false
     → (p : Place) → outcome_of (hand_in mmu w s.actor) (answered mmu w s.kind) ≡ Goes p
     → hand_left (hand_in mmu (effect mmu w s) s.actor) < hand_left (hand_in mmu w s.actor)

@@ -81,7 +81,7 @@ LeavesStay =
 abbrev pub TurnsComeNearer : Type 0
 TurnsComeNearer =
     (w : World Held) (s : Step Kind) → Reachable w → May mmu w s → has_line (hand_in mmu w s.actor) ≡ true
-    → line_waits (place_at (hand_in mmu w s.actor).state.place (hand_in mmu w s.actor)) (hand_in mmu w s.actor).topics (answered mmu w s.kind) ≡ false
+    → line_waits (place_at (hand_in mmu w s.actor).state.place (hand_in mmu w s.actor)) (line_of (hand_in mmu w s.actor)).command (hand_in mmu w s.actor) (answered mmu w s.kind) ≡ false
     → begins_anew (place_at (hand_in mmu w s.actor).state.place (hand_in mmu w s.actor)) ≡ false
     → (p : Place) → outcome_of (hand_in mmu w s.actor) (answered mmu w s.kind) ≡ Goes p
     → hand_left (hand_in mmu (effect mmu w s) s.actor) < hand_left (hand_in mmu w s.actor)
@@ -119,4 +119,4 @@ abbrev pub DelaysWaitOrBeginAnew : Type 0
 DelaysWaitOrBeginAnew =
     (w : World Held) (s : Step Kind) → Reachable w → May mmu w s → has_line (hand_in mmu w s.actor) ≡ true
     → delays_at (place_at (hand_in mmu w s.actor).state.place (hand_in mmu w s.actor)) (line_of (hand_in mmu w s.actor)).command (hand_in mmu w s.actor) (answered mmu w s.kind) ≡ true
-    → (line_waits (hand_in mmu w s.actor).state.place (hand_in mmu w s.actor).topics (answered mmu w s.kind) ≡ true) ⊎ (begins_anew (hand_in mmu w s.actor).state.place ≡ true)
+    → (line_waits (hand_in mmu w s.actor).state.place (line_of (hand_in mmu w s.actor)).command (hand_in mmu w s.actor) (answered mmu w s.kind) ≡ true) ⊎ (begins_anew (hand_in mmu w s.actor).state.place ≡ true)
