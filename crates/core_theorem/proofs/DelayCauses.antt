@@ -23,6 +23,7 @@ use Rattle.mmu_core.specs.lines.PartWaits.{part_waits}
 use Rattle.mmu_core.specs.machine.Steps.{has_line}
 use Rattle.mmu_laws.specs.causes.Waits.{SawNothing, StepWaitIsCaused}
 use Rattle.mmu_core.specs.machine.Worlds.{Reachable}
+use Rattle.mmu_core.specs.machine.Turns.{line_of}
 use Rattle.mmu_laws.proofs.causes.Causes.{faults_begin_anew_by_cause}
 use Rattle.mmu_laws.proofs.causes.EachFault.{is_access}
 use Rattle.mmu_core.proofs.machine.Extend.{leads_to_end, then}
@@ -31,7 +32,7 @@ use Rattle.mmu_laws.proofs.causes.StarvedScan.{legal_parts}
 use Rattle.mmu_core.proofs.start.Starts.{hand_is}
 use Rattle.mmu_laws.proofs.turns.DelayCases.{delays_wait_or_begin_anew}
 use Rattle.mmu_laws.proofs.causes.StepWaits.{step_waits_are_by_cause}
-use Rattle.mmu_laws.proofs.causes.WaitsSame.{WaitsAs, line_waits_as}
+use Rattle.mmu_core.proofs.lines.LineWaits.{WaitsAs, line_waits_as}
 use Rattle.mmu_core.proofs.machine.Which.{is_next}
 use Rattle.mmu_core.proofs.machine.Worlds.{good_run}
 use Rattle.core_theorem.specs.Delays.{BeginsAnew, BetweenLinesSawNothing, DelaysHaveCauses, StartsSawNothing, StepWaits, WaitsHaveCauses, answer_of, hand_of}
@@ -116,11 +117,11 @@ module _ (z : Sizes) (lines : List Line) (w : World Held) (ss ts : List (Step Ki
         caused = faults_begin_anew_by_cause z u ts s.actor A.gfn A.word A.op N.cause good since.0 idle N.is A.command;
       }
 
-  by : has_line h ≡ true → (hand_in mmu u s.actor).state.place ≡ place.Between → (line_waits h.state.place h.topics v ≡ true) ⊎ (begins_anew h.state.place ≡ true) → BeginsAnew z u ts s ⊎ StepWaits z u ts s
+  by : has_line h ≡ true → (hand_in mmu u s.actor).state.place ≡ place.Between → (line_waits h.state.place (line_of h).command h v ≡ true) ⊎ (begins_anew h.state.place ≡ true) → BeginsAnew z u ts s ⊎ StepWaits z u ts s
   by has idle (inl is) =
       let had = line_left_before z u ts s.actor good since.0 has in
       let N = between_lines_saw_nothing u s.actor (reached z lines w ss up_to) (subst (λ n. s.actor < n) (sym good.hands) there) had idle in
-      inr (waiting N (line_waits_as h s.kind v (is_next h s.kind may.enabled has) known is))
+      inr (waiting N (line_waits_as h s.kind v (is_next h s.kind may.enabled has) is))
   by has idle (inr is) = inl (beginning idle (new_beginning h.state.place is))
 
 pub waits_have_causes : WaitsHaveCauses

@@ -34,12 +34,12 @@ use Rattle.mmu_core.specs.lines.AccessSteps.{touch_of}
 use Rattle.mmu_core.specs.machine.Enabled.{mmu}
 use Rattle.mmu_core.specs.lines.ClaimSteps.{claim_next}
 use Rattle.mmu_core.specs.invariant.Invariant.{Invariant, KnowsPart, UnderWay, LeavesPart}
-use Rattle.mmu_core.specs.lines.FaultSteps.{at_map_word, tries_page}
+use Rattle.mmu_core.specs.lines.FaultSteps.{tries_page}
 use Rattle.mmu_core.specs.invariant.Laws.{IsSound}
 use Rattle.mmu_core.specs.machine.Machine.{May, Step, World, effect, hand_in, run}
 use Rattle.mmu_core.specs.machine.Outcomes.{place_after}
 use Rattle.mmu_core.specs.lines.PartAt.{task_at}
-use Rattle.mmu_core.specs.lines.SetSlotSteps.{after_claim, watch_next, set_slot_note, set_slot_outcome, set_slot_task, claim_outcome, looked_at}
+use Rattle.mmu_core.specs.lines.SetSlotSteps.{after_claim, watch_next, set_slot_note, set_slot_outcome, set_slot_task, looked_at}
 use Rattle.mmu_core.specs.machine.Steps.{has_line, line_at, place_at, task_of}
 use Rattle.mmu_core.specs.lines.SetSlotKnows.{SetSlotKnows}
 use Rattle.mmu_core.specs.invariant.TopicsInvariant.{TopicsInvariant}

@@ -17,3 +17,5 @@ pub mod UsedTranslations
 pub mod ClaimMade
 pub mod ShareMade
 pub mod WatchMade
+pub mod PartsWait
+pub mod LineWaits

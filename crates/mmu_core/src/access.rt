@@ -83,8 +83,8 @@ fn touch(op: Op, index: u64) -> Task
     }
 }
 
-// The step of this place, but for the touch.
-fn part(place: AccessPlace, gfn: u64, hand: &Hand) -> Option<PartStep>
+/// The step of this place, but for the touch.
+pub(crate) fn part(place: AccessPlace, gfn: u64, hand: &Hand) -> Option<PartStep>
     requires needs { IfSome (access_part place gfn hand.now.core.topics) (λ step. PartNeeds step hand.now.core) }
     requires part { PartRests hand.now.core }
     ensures { result ≡ access_part place gfn hand.now.core.topics }

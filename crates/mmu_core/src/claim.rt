@@ -2,7 +2,7 @@
 //! same order.
 ghost use Rattle.std.specs.Prelude.{◌≡◌, ◌<◌, ◌^◌, true};
 ghost use Rattle.core_views.specs.Sizes.{AreSizes};
-ghost use Rattle.mmu_core.specs.lines.ClaimSteps.{claim_next, claim_part, claim_waits, loads_last_word, map_word, tries_page};
+ghost use Rattle.mmu_core.specs.lines.ClaimSteps.{claim_next, claim_part, loads_last_word, map_word, tries_page};
 
 use core_views::{MapClaim, Sizes};
 use part_steps::{PartStep, is_won, map_of};
@@ -71,11 +71,4 @@ pub(crate) fn claim_next(begun: bool, sizes: &Sizes, claim: &MapClaim, found: u6
     } else {
         ClaimNext::Empty
     }
-}
-
-/// The step is a try for a page that another actor has taken.
-pub(crate) fn claim_waits(begun: bool, claim: &MapClaim, found: u64) -> bool
-    ensures { result ≡ claim_waits begun claim.now found }
-{
-    tries_page(begun, claim) && !is_won(claim, found)
 }

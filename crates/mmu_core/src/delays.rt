@@ -1,11 +1,33 @@
 //! What a line counts: its steps since it began or since its last delay, and
 //! its delays.
 ghost use Rattle.std.specs.Prelude.{◌≡◌};
-ghost use Rattle.mmu_core.specs.lines.Delays.{counted, delays_counted, is_delay, leaves_to_fault, one_more, steps_counted};
+ghost use Rattle.mmu_core.specs.lines.Delays.{begins_anew, counted, delays_counted, is_delay, leaves_to_fault, one_more, steps_counted, walks_again};
+ghost use Rattle.mmu_core.specs.lines.Rests.{RestsAt};
+ghost use Rattle.part_steps.specs.PartBounds.{PartRests};
 
 use crate::outcome::Outcome;
-use crate::{fault, set_slot};
-use core_views::{AccessPlace, FaultEnd, FaultPlace, Hand, Leaving, Place, Topics};
+use crate::waits::line_waits;
+use core_views::{AccessPlace, Command, FaultEnd, FaultPlace, Hand, Leaving, Place};
+
+// The line's fault ends with the step of this place, and begins anew.
+fn begins_anew(place: Place) -> bool
+    ensures { result ≡ begins_anew place }
+{
+    matches!(
+        place,
+        Place::Access(AccessPlace::Fault(FaultPlace::End(FaultEnd::Retry(_))))
+    )
+}
+
+// The access walks, in the stay after a fault that has installed an entry.
+fn walks_again(place: Place) -> bool
+    ensures { result ≡ walks_again place }
+{
+    match place {
+        Place::Access(AccessPlace::Walk { again }) => again,
+        _ => false,
+    }
+}
 
 // The line leaves the guest for a fault.
 fn leaves_to_fault(outcome: &Outcome) -> bool
@@ -19,16 +41,20 @@ fn leaves_to_fault(outcome: &Outcome) -> bool
 
 /// The step of this place is a delay of its line: the line waits, its fault
 /// begins anew, or the stay behind an installed entry finds no translation.
-pub(crate) fn is_delay(place: Place, topics: &Topics, outcome: &Outcome, found: u64) -> bool
-    ensures { result ≡ is_delay place topics.now outcome.now found }
+pub(crate) fn is_delay(
+    place: Place,
+    command: &Command,
+    hand: &Hand,
+    outcome: &Outcome,
+    found: u64,
+) -> bool
+    requires part { PartRests hand.now.core }
+    requires rests { RestsAt place command.now hand.now.core }
+    ensures { result ≡ is_delay place command.now hand.now.core outcome.now found }
 {
-    match place {
-        Place::Access(AccessPlace::Fault(FaultPlace::End(FaultEnd::Retry(_)))) => true,
-        Place::Access(AccessPlace::Fault(place)) => fault::waits(place, topics, found),
-        Place::Access(AccessPlace::Walk { again }) => again && leaves_to_fault(outcome),
-        Place::SetSlot(place) => set_slot::waits(place, topics, found),
-        _ => false,
-    }
+    line_waits(place, command, hand, found)
+        || begins_anew(place)
+        || walks_again(place) && leaves_to_fault(outcome)
 }
 
 // What has been counted where the line's next step comes.

@@ -4,7 +4,7 @@ ghost use Rattle.core_views.specs.declared.place.Cause.TheVariants.{Entry};
 ghost use Rattle.core_views.specs.declared.place.FaultEnd.TheVariants.{HostFault, Retry};
 ghost use Rattle.core_views.specs.declared.place.FaultPlace.TheVariants.{End, Find, Give, Host, Share, Unshare};
 ghost use Rattle.core_views.specs.Sizes.{AreSizes};
-ghost use Rattle.mmu_core.specs.lines.FaultSteps.{after_claim, after_share, check_next, check_part, entry_word, fault_next, fault_part, find_next, share_next, waits, walk_next};
+ghost use Rattle.mmu_core.specs.lines.FaultSteps.{after_claim, after_share, check_next, check_part, entry_word, fault_next, fault_part, find_next, share_next, walk_next};
 ghost use Rattle.part_steps.specs.PartBounds.{PartRests};
 ghost use Rattle.part_steps.specs.PartSteps.{PartNeeds, table_page};
 ghost use Rattle.part_steps.specs.SlotWords.{page_of};
@@ -12,7 +12,7 @@ ghost use Rattle.part_steps.specs.TopicSteps.{searched};
 ghost use Rattle.spte_words.specs.Entries.{kind_of};
 ghost use Rattle.spte_words.specs.HostWords.{host_allows_write};
 
-use crate::claim::{ClaimNext, claim_next, claim_part, claim_waits};
+use crate::claim::{ClaimNext, claim_next, claim_part};
 use crate::share::{ShareNext, is_owing, share_next, share_part};
 use core_views::{
     Cause, CheckStage, FaultEnd, FaultNext, FaultPlace, Hand, Sizes, SlotField, SlotSearch,
@@ -250,15 +250,4 @@ pub(crate) fn next(place: FaultPlace, hand: &Hand, gfn: u64, write: bool, found:
         FaultPlace::Unshare(end) => FaultPlace::End(end),
         FaultPlace::End(end) => return FaultNext::Ends(end),
     })
-}
-
-/// The step leaves the fault where it was, since another actor is in the way.
-pub(crate) fn waits(place: FaultPlace, topics: &Topics, found: u64) -> bool
-    ensures { result ≡ waits place topics.now found }
-{
-    match place {
-        FaultPlace::Share => is_owing(topics.hold),
-        FaultPlace::Claim { begun } => claim_waits(begun, &topics.claim, found),
-        _ => false,
-    }
 }

@@ -12,6 +12,7 @@ mod parts;
 mod set_slot;
 mod share;
 mod step;
+mod waits;
 mod watch;
 
 pub use access::{access_note, lookup};
@@ -20,7 +21,8 @@ pub use fault::entry_word;
 pub use laws::{knows, rests};
 pub use outcome::Outcome;
 pub use parts::{allows, may_make, part_rests};
-pub use set_slot::{setting_place, waits as setting_waits};
+pub use set_slot::setting_place;
 pub use share::ShareNext;
-pub use step::{advance, asks_flush, next_kind};
+pub use step::{advance, asks_flush, next_kind, next_step};
+pub use waits::{part_waits, waits_by};
 pub use watch::WatchNext;

@@ -6,13 +6,13 @@ ghost use Rattle.core_views.specs.Refusals.{set_refusal};
 ghost use Rattle.part_steps.specs.PartBounds.{PartRests};
 ghost use Rattle.part_steps.specs.PartSteps.{PartNeeds};
 ghost use Rattle.mmu_core.specs.lines.Rests.{RecordAccepts, Rests};
-ghost use Rattle.mmu_core.specs.lines.SetSlotSteps.{after_claim, after_watch, set_slot_first, set_slot_note, set_slot_outcome, set_slot_part, set_slot_records, set_slot_task, set_slot_waits};
+ghost use Rattle.mmu_core.specs.lines.SetSlotSteps.{after_claim, after_watch, set_slot_first, set_slot_note, set_slot_outcome, set_slot_part, set_slot_records, set_slot_task};
 ghost use Rattle.mmu_core.specs.machine.Steps.{place_at};
 ghost use Rattle.part_steps.specs.Tasks.{map_of};
 ghost use Rattle.mmu_core.specs.machine.Turns.{line_of};
 ghost use Rattle.spte_words.specs.Areas.{size_of};
 
-use crate::claim::{ClaimNext, claim_next, claim_part, claim_waits, loads_last_word};
+use crate::claim::{ClaimNext, claim_next, claim_part, loads_last_word};
 use crate::outcome::Outcome;
 use crate::watch::{WatchNext, looked_at, watch_next};
 use core_views::{Answer, Hand, Place, SetSlotPlace, Sizes, Slot, SlotSet, Topics};
@@ -31,8 +31,8 @@ pub(crate) fn first(sizes: &Sizes, slots: &SlotSet, id: u64, slot: &Slot) -> Set
     }
 }
 
-// The step of this place.
-fn part(place: SetSlotPlace, hand: &Hand, id: u64, slot: &Slot) -> PartStep
+/// The step of this place.
+pub(crate) fn part(place: SetSlotPlace, hand: &Hand, id: u64, slot: &Slot) -> PartStep
     requires part { PartRests hand.now.core }
     ensures { result ≡ set_slot_part place hand.now.core id slot.now }
 {
@@ -158,18 +158,5 @@ pub fn setting_place(hand: &Hand, id: u64, slot: &Slot) -> SetSlotPlace
         Place::Between => first(&hand.state().sizes, hand.slots(), id, slot),
         Place::SetSlot(place) => place,
         Place::Access(_) => unreachable!(),
-    }
-}
-
-/// The step leaves the line where it was, since another actor is in the way.
-pub fn waits(place: SetSlotPlace, topics: &Topics, found: u64) -> bool
-    ensures { result ≡ set_slot_waits place topics.now found }
-{
-    match place {
-        SetSlotPlace::Claim { begun } => claim_waits(begun, &topics.claim, found),
-        SetSlotPlace::Exclude => found != 0,
-        SetSlotPlace::Close => true,
-        SetSlotPlace::Watch => in_section(found),
-        _ => false,
     }
 }

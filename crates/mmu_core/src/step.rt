@@ -1,11 +1,13 @@
 //! The step that a hand allows, and the hand after it.
-ghost use Rattle.std.specs.Prelude.{◌≡◌, ◌<◌, ◌+◌, length, true, false};
+ghost use Rattle.std.specs.Prelude.{◌≡◌, ◌<◌, ◌+◌, Some, length, true, false};
 ghost use Rattle.core_views.specs.Sizes.{AreSizes};
 ghost use Rattle.core_views.specs.Traces.{IsCommandFor};
 ghost use Rattle.mmu_core.specs.lines.Rests.{AcceptsAt, IsUnderWay, Rests, RestsAt};
 ghost use Rattle.mmu_core.specs.machine.Enabled.{Enabled};
+ghost use Rattle.mmu_core.specs.lines.PartAt.{part_at};
 ghost use Rattle.mmu_core.specs.machine.Steps.{caches_at, first_place, has_line, line_after, line_at, loads_at, next, outcome_at, place_at, records_at, standing, task_at};
 ghost use Rattle.mmu_core.specs.lines.Cached.{asks_flush, flushed};
+ghost use Rattle.part_steps.specs.declared.part_step.PartStep.TheVariants.{Claim};
 ghost use Rattle.part_steps.specs.PartBounds.{PartRests};
 ghost use Rattle.core_views.specs.Kinds.{kind_named};
 ghost use Rattle.part_steps.specs.Tasks.{map_of};
@@ -18,7 +20,7 @@ use crate::{access, set_slot};
 use core_views::{
     AccessPlace, AnsweredLine, Command, Hand, Kind, Line, Place, Sizes, SlotSet, StepKind,
 };
-use part_steps::{Task, kind_of, step_topics};
+use part_steps::{PartStep, Task, kind_of, step_topics};
 
 // The line that the hand's next step is of: the one under way, or the next one.
 fn line_of(hand: &Hand) -> Line
@@ -91,6 +93,36 @@ pub fn next_kind(hand: &Hand) -> Kind
     kind_of(&hand.state().sizes, &task)
 }
 
+/// The step of a part that a line makes at this place; `None` where the guest
+/// touches a content word.
+#[tactic(auto, using(crate::proofs::lines::UsedTranslations::part_needs, crate::proofs::lines::LineWaits::claims_seen))]
+pub(crate) fn part_of(place: Place, command: &Command, hand: &Hand) -> Option<PartStep>
+    requires part { PartRests hand.now.core }
+    requires rests { RestsAt place command.now hand.now.core }
+    ensures step { result ≡ part_at place command.now hand.now.core }
+    ensures seen { result ≡ Some Claim → 0 < hand.now.core.topics.claim.seen }
+{
+    match (place, command) {
+        (Place::Access(place), Command::Access { gfn, .. }) => access::part(place, *gfn, hand),
+        (Place::SetSlot(place), Command::SetSlot { id, slot }) => {
+            Some(set_slot::part(place, hand, *id, slot))
+        }
+        _ => Some(PartStep::Seq),
+    }
+}
+
+/// The step of a part that the hand's next step is, in the order of its line's
+/// steps; `None` where the guest touches a content word.
+pub fn next_step(hand: &Hand) -> Option<PartStep>
+    requires left { length hand.now.core.answers < length hand.now.core.lines }
+    requires rests { Rests hand.now.core }
+    ensures step { result ≡ part_at (place_at hand.now.core.state.place hand.now.core) (line_at hand.now.core.state.place hand.now.core).command hand.now.core }
+    ensures seen { result ≡ Some Claim → 0 < hand.now.core.topics.claim.seen }
+{
+    let line = line_of(hand);
+    part_of(place_of(hand, &line), &line.command, hand)
+}
+
 // The leaf that the line uses behind the step of a place.
 fn leaf_behind(place: Place, command: &Command, hand: &Hand, found: u64) -> u64
     requires part { PartRests hand.now.core }
@@ -154,7 +186,7 @@ fn advance_line(hand: &mut Hand, line: &Line, place: Place, found: u64)
 {
     let outcome = outcome(place, &line.command, hand, found);
     let leaf = leaf_behind(place, &line.command, hand, found);
-    let delay = is_delay(place, hand.topics(), &outcome, found);
+    let delay = is_delay(place, &line.command, hand, &outcome, found);
     let steps = steps_behind(delay, hand);
     let delays = delays_behind(delay, hand);
     let sizes = hand.state().sizes;

@@ -14,6 +14,5 @@ pub mod MadeSteps
 pub mod ScanPlaces
 pub mod StarvedScan
 pub mod StepWaits
-pub mod WaitsSame
 pub mod NotOpen
 pub mod SawNothing

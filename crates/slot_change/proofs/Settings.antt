@@ -15,7 +15,7 @@ use Rattle.core_views.specs.Held.{Held}
 use Rattle.mmu_core.specs.declared.outcome.Outcome.{Outcome}
 use Rattle.mmu_core.specs.declared.outcome.Outcome.TheVariants.{Goes, Ends}
 use Rattle.mmu_core.specs.alone.LineAlone.{line_waits}
-use Rattle.mmu_core.specs.lines.SetSlotSteps.{set_slot_outcome, set_slot_seen, set_slot_task, set_slot_waits}
+use Rattle.mmu_core.specs.lines.SetSlotSteps.{set_slot_outcome, set_slot_seen, set_slot_task}
 use Rattle.mmu_core.specs.machine.Steps.{has_line, outcome_at, place_at, task_at}
 use Rattle.part_steps.specs.Tasks.{kind_of_task}
 use Rattle.mmu_core.specs.machine.Turns.{line_of, outcome_of}
@@ -40,29 +40,32 @@ module _ (actor : ℕ) (h g : Held) (told tells : Told) (p : SetSlotPlace) (id :
   outcome_is : outcome_of h M.found ≡ set_slot_outcome p h M.found
   outcome_is = ap (λ (q : Place). outcome_at q (line_of h).command h M.found) stands ∙ ap (λ (c : Command). outcome_at (place.SetSlot p) c h M.found) setting
 
-  turns : (turn : Turn Answer) → Gives turn (set_slot_waits p h.topics M.found) (set_slot_seen p h id slot M.found) (turn_of (set_slot_outcome p h M.found)) → TurnsLine turn actor h g told tells
+  waits_is : line_waits (place_at h.state.place h) (line_of h).command h M.found ≡ line_waits (place.SetSlot p) (SetSlot id slot) h M.found
+  waits_is = ap (λ (q : Place). line_waits q (line_of h).command h M.found) stands ∙ ap (λ (c : Command). line_waits (place.SetSlot p) c h M.found) setting
+
+  turns : (turn : Turn Answer) → Gives turn (line_waits (place.SetSlot p) (SetSlot id slot) h M.found) (set_slot_seen p h id slot M.found) (turn_of (set_slot_outcome p h M.found)) → TurnsLine turn actor h g told tells
   turns turn gives = record {
     makes = M;
-    gives = subst (λ (q : Place). Gives turn (line_waits q h.topics M.found) (line_seen q (line_of h).command h M.found) (line_turn q (line_of h).command h M.found)) (sym stands)
-        (subst (λ (c : Command). Gives turn (line_waits (place.SetSlot p) h.topics M.found) (line_seen (place.SetSlot p) c h M.found) (line_turn (place.SetSlot p) c h M.found)) (sym setting) gives);
+    gives = subst (λ (q : Place). Gives turn (line_waits q (line_of h).command h M.found) (line_seen q (line_of h).command h M.found) (line_turn q (line_of h).command h M.found)) (sym stands)
+        (subst (λ (c : Command). Gives turn (line_waits (place.SetSlot p) c h M.found) (line_seen (place.SetSlot p) c h M.found) (line_turn (place.SetSlot p) c h M.found)) (sym setting) gives);
   }
 
   pub setting_done : (answer : Answer) → Done answer ≡ turn_of (outcome_of h M.found) → TurnsLine (Done answer) actor h g told tells
   setting_done answer is =
       let same : Done answer ≡ turn_of (set_slot_outcome p h M.found) = is ∙ ap turn_of outcome_is in
-      turns (Done answer) (setting_free p h M.found answer (done_ends (set_slot_outcome p h M.found) answer same), same)
+      turns (Done answer) (setting_free p h id slot M.found answer (done_ends (set_slot_outcome p h M.found) answer same), same)
 
-  pub setting_more : More ≡ turn_of (outcome_of h M.found) → set_slot_waits p h.topics M.found ≡ false → TurnsLine More actor h g told tells
-  setting_more is goes = turns More (goes, is ∙ ap turn_of outcome_is)
+  pub setting_more : More ≡ turn_of (outcome_of h M.found) → line_waits (place_at h.state.place h) (line_of h).command h M.found ≡ false → TurnsLine More actor h g told tells
+  setting_more is goes = turns More (sym waits_is ∙ goes, is ∙ ap turn_of outcome_is)
 
   -- where it gives the lock back
-  pub setting_counts : p ≡ set_slot.Close → (seen : Seen) → seen ≡ set_slot_seen set_slot.Close h id slot 0 → TurnsLine (Wait seen) actor h g told tells
-  setting_counts at seen is =
-      turns (Wait seen) (subst (λ (q : SetSlotPlace). set_slot_waits q h.topics M.found ≡ true) (sym at) refl, is ∙ ap (λ (q : SetSlotPlace). set_slot_seen q h id slot M.found) (sym at))
+  pub setting_counts : p ≡ set_slot.Close → (seen : Seen) → seen ≡ set_slot_seen set_slot.Close h id slot 0 → line_waits (place_at h.state.place h) (line_of h).command h M.found ≡ true → TurnsLine (Wait seen) actor h g told tells
+  setting_counts at seen is waits =
+      turns (Wait seen) (sym waits_is ∙ waits, is ∙ ap (λ (q : SetSlotPlace). set_slot_seen q h id slot M.found) (sym at))
 
   -- and elsewhere
-  pub setting_waits : p ≢ set_slot.Close → set_slot_waits p h.topics M.found ≡ true → has_line h ≡ true → TurnsLine (Wait (record { word = M.kind.word; value = M.found })) actor h g told tells
-  setting_waits other waits left = turns (Wait (record { word = M.kind.word; value = M.found })) (waits, own_word p other h id slot (record { word = M.kind.word; value = M.found }) M.kind.word M.found (ap (λ (k : Kind). k.word) kind_is) refl)
+  pub setting_waits : p ≢ set_slot.Close → line_waits (place_at h.state.place h) (line_of h).command h M.found ≡ true → has_line h ≡ true → TurnsLine (Wait (record { word = M.kind.word; value = M.found })) actor h g told tells
+  setting_waits other waits left = turns (Wait (record { word = M.kind.word; value = M.found })) (sym waits_is ∙ waits, own_word p other h id slot (record { word = M.kind.word; value = M.found }) M.kind.word M.found (ap (λ (k : Kind). k.word) kind_is) refl)
     where
       kind_is : M.kind ≡ kind_of_task h.state.sizes (set_slot_task p h id slot)
       kind_is =

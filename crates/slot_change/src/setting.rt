@@ -8,7 +8,7 @@ ghost use Rattle.step_seats.specs.LineTurns.{Says, TurnsLine};
 ghost use Rattle.step_seats.specs.Moves.{KeepsRoom};
 
 use core_views::{Answer, Hand, Seen, SetSlotPlace, Slot};
-use mmu_core::{next_kind, rests, setting_place, setting_waits};
+use mmu_core::{next_kind, next_step, rests, setting_place, waits_by};
 use part_steps::map_of;
 use step_seats::{Stepper, Turn};
 
@@ -43,6 +43,7 @@ impl SlotJob {
         let hand = s.hand();
         rests(hand);
         let kind = next_kind(hand);
+        let step = next_step(hand);
         let place = setting_place(hand, self.id, &self.slot);
         let topics = *hand.topics();
         let counted = self.counted(hand);
@@ -50,7 +51,7 @@ impl SlotJob {
         if let Some(answered) = s.hand().answers().get(self.index) {
             return Turn::Done(answered.answer);
         }
-        if !setting_waits(place, &topics, found) {
+        if !waits_by(step, &topics, found) {
             return Turn::More;
         }
         match place {

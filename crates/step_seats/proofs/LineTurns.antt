@@ -1,6 +1,6 @@
 -- What a turn of a line answers is how its step goes: it is done where the line is answered, and has more to do where the line begins anew.
 use Rattle.std.proofs.Common.{◌≡◌, ◌≢◌, ◌⊎◌, inl, inr, ◌<◌, ℕ, length, refl, sym, subst, ap, ◌∙◌, arith}
-use Rattle.std.specs.Prelude.{Bool, true, false}
+use Rattle.std.specs.Prelude.{Bool, true, false, if◌then◌else◌}
 use Rattle.core_views.specs.declared.place.AccessPlace.TheVariants.{Enter, Pause, Root, Walk, Touch, Leave, Fault}
 use Rattle.core_views.specs.declared.answer.Answer.{Answer}
 use Rattle.core_views.specs.declared.answer.Answer.TheVariants as answers
@@ -18,6 +18,7 @@ use Rattle.mmu_core.specs.declared.outcome.Outcome.{Outcome}
 use Rattle.mmu_core.specs.declared.outcome.Outcome.TheVariants as outcome
 use Rattle.mmu_core.specs.declared.claim.ClaimNext.{ClaimNext}
 use Rattle.mmu_core.specs.lines.ClaimSteps.{claim_waits}
+use Rattle.mmu_core.specs.lines.FaultSteps.{at_map_word, map_word, tries_page}
 use Rattle.mmu_core.specs.lines.Bounds.{steps_left}
 use Rattle.mmu_core.specs.alone.LineAlone.{hand_left, line_waits}
 use Rattle.step_seats.specs.declared.turn.Turn.{Turn}
@@ -29,8 +30,10 @@ use Rattle.core_views.specs.declared.trace.Command.{Command}
 use Rattle.core_views.specs.declared.trace.Command.TheVariants.{Access, SetSlot}
 use Rattle.core_views.specs.declared.trace.Line.{Line}
 use Rattle.core_views.specs.declared.trace.Op.{Op}
+use Rattle.core_views.specs.declared.trace.Slot.{Slot}
 use Rattle.core_views.specs.Held.{Held}
 use Rattle.part_steps.specs.declared.part_step.PartStep.{PartStep}
+use Rattle.part_steps.specs.declared.part_step.PartStep.TheVariants as part
 use Rattle.mmu_core.specs.lines.AccessSteps.{behind_fault}
 use Rattle.mmu_core.specs.machine.MayMake.{MayMake}
 use Rattle.part_steps.specs.PartSteps.{part_kind}
@@ -44,7 +47,8 @@ use Rattle.step_seats.specs.Where.{Told}
 use Rattle.step_seats.specs.LineTurns.{Gives, MakesLine, Says, TurnsLine, fault_turn, line_seen, line_turn, turn_of}
 use Rattle.mmu_core.proofs.lines.ClaimMade.{ClaimMade, claim_made}
 use Rattle.mmu_core.proofs.lines.ClaimMade as made
-use Rattle.mmu_core.specs.lines.SetSlotSteps.{after_claim, set_slot_outcome, set_slot_waits}
+use Rattle.mmu_core.specs.lines.SetSlotSteps.{after_claim, set_slot_outcome, set_slot_waits, claim_outcome, set_slot_part}
+use Rattle.mmu_core.specs.lines.PartWaits.{part_waits}
 use Rattle.core_views.specs.declared.place.SetSlotPlace.{SetSlotPlace}
 use Rattle.core_views.specs.declared.place.SetSlotPlace.TheVariants as set_slot
 
@@ -69,15 +73,15 @@ plain_case (outcome.Goes q) waits free = inr (record { place = q; more = λ answ
 plain_case (outcome.Ends answer) waits free = inl (record { answer = answer; done = refl; free = free answer refl; is = refl })
 
 -- A slot setting that is answered doesn't wait.
-claim_free : (z : Sizes) (begun : Bool) (t : Topics) (v : ℕ) (step : PartStep) (next : ClaimNext) (u : Topics) → ClaimMade z begun t v step next u → (answer : Answer) → after_claim next ≡ outcome.Ends answer → claim_waits begun t.claim v ≡ false
-claim_free z begun t v _ _ _ (made.SawNone not_ le) answer e = rw not_ refl
+claim_free : (z : Sizes) (begun : Bool) (t : Topics) (v : ℕ) (step : PartStep) (next : ClaimNext) (u : Topics) → ClaimMade z begun t v step next u → (answer : Answer) → after_claim next ≡ outcome.Ends answer → part_waits step t v ≡ false
+claim_free z begun t v _ _ _ (made.SawNone not_ le) answer e = refl
 claim_free z begun t v _ _ _ _ answer e = absurd (cc e)
 
-pub setting_free : (p : SetSlotPlace) (h : Held) (v : ℕ) (answer : Answer) → set_slot_outcome p h v ≡ outcome.Ends answer → set_slot_waits p h.topics v ≡ false
-setting_free (set_slot.Claim begun) h v answer e = claim_free h.state.sizes begun h.topics v _ _ _ (claim_made h.state.sizes begun h.topics v) answer e
-setting_free (set_slot.Refuse refusal) h v answer e = refl
-setting_free set_slot.Give h v answer e = refl
-setting_free p h v answer e = absurd (cc e)
+pub setting_free : (p : SetSlotPlace) (h : Held) (id : ℕ) (slot : Slot) (v : ℕ) (answer : Answer) → set_slot_outcome p h v ≡ outcome.Ends answer → part_waits (set_slot_part p h id slot) h.topics v ≡ false
+setting_free (set_slot.Claim begun) h id slot v answer e = claim_free h.state.sizes begun h.topics v _ _ _ (claim_made h.state.sizes begun h.topics v) answer e
+setting_free (set_slot.Refuse refusal) h id slot v answer e = refl
+setting_free set_slot.Give h id slot v answer e = refl
+setting_free p h id slot v answer e = absurd (cc e)
 
 over_case : (e : FaultEnd) → EndsSo (fault_turn (Ends e)) false (behind_fault (Ends e)) ⊎ GoesSo (fault_turn (Ends e)) (behind_fault (Ends e))
 over_case end_of.Installed = inr (record { place = place.Access (Enter true); more = λ answer e. absurd (cc e); is = refl })
@@ -90,23 +94,21 @@ going : (n : FaultNext) (q : FaultPlace) → n ≡ Goes q → GoesSo (fault_turn
 going n q is = record { place = place.Access (Fault q); more = λ answer e. absurd (cc (ap fault_turn is, e)); is = ap behind_fault is }
 
 fault_case : (p : FaultPlace) (gfn word : ℕ) (op : Op) (h : Held) (v : ℕ)
-    → EndsSo (line_turn (place.Access (Fault p)) (Access gfn word op) h v) (line_waits (place.Access (Fault p)) h.topics v) (outcome_at (place.Access (Fault p)) (Access gfn word op) h v)
+    → EndsSo (line_turn (place.Access (Fault p)) (Access gfn word op) h v) (line_waits (place.Access (Fault p)) (Access gfn word op) h v) (outcome_at (place.Access (Fault p)) (Access gfn word op) h v)
     ⊎ GoesSo (line_turn (place.Access (Fault p)) (Access gfn word op) h v) (outcome_at (place.Access (Fault p)) (Access gfn word op) h v)
 fault_case (fault.End e) gfn word op h v = over_case e
 fault_case _ gfn word op h v = inr (going _ _ refl)
 
-pub line_case : (p : Place) (c : Command) (h : Held) (v : ℕ) → EndsSo (line_turn p c h v) (line_waits p h.topics v) (outcome_at p c h v) ⊎ GoesSo (line_turn p c h v) (outcome_at p c h v)
-line_case place.Between c h v = plain_case _ false (λ answer e. refl)
-line_case (place.SetSlot p) (Access gfn word op) h v = plain_case (outcome.Goes (place.SetSlot p)) (set_slot_waits p h.topics v) (λ answer e. absurd (cc e))
-line_case (place.SetSlot p) (SetSlot id slot) h v = plain_case (set_slot_outcome p h v) (set_slot_waits p h.topics v) (setting_free p h v)
+pub line_case : (p : Place) (c : Command) (h : Held) (v : ℕ) → EndsSo (line_turn p c h v) (line_waits p c h v) (outcome_at p c h v) ⊎ GoesSo (line_turn p c h v) (outcome_at p c h v)
 line_case (place.Access (Fault p)) (Access gfn word op) h v = fault_case p gfn word op h v
-line_case (place.Access (Fault p)) (SetSlot id slot) h v = inr (record { place = place.Access (Fault p); more = λ answer e. absurd (cc e); is = refl })
-line_case (place.Access (Enter again)) c h v = plain_case _ false (λ answer e. refl)
-line_case (place.Access (Pause again)) c h v = plain_case _ false (λ answer e. refl)
-line_case (place.Access (Root again)) c h v = plain_case _ false (λ answer e. refl)
-line_case (place.Access (Walk again)) c h v = plain_case _ false (λ answer e. refl)
-line_case (place.Access Touch) c h v = plain_case _ false (λ answer e. refl)
-line_case (place.Access (Leave how)) c h v = plain_case _ false (λ answer e. refl)
+line_case (place.SetSlot p) (SetSlot id slot) h v = plain_case (set_slot_outcome p h v) (part_waits (set_slot_part p h id slot) h.topics v) (setting_free p h id slot v)
+line_case (place.Access (Enter again)) (Access gfn word op) h v = plain_case _ false (λ answer e. refl)
+line_case (place.Access (Pause again)) (Access gfn word op) h v = plain_case _ false (λ answer e. refl)
+line_case (place.Access (Root again)) (Access gfn word op) h v = plain_case _ false (λ answer e. refl)
+line_case (place.Access (Walk again)) (Access gfn word op) h v = plain_case _ false (λ answer e. refl)
+line_case (place.Access Touch) (Access gfn word op) h v = plain_case _ false (λ answer e. refl)
+line_case (place.Access (Leave how)) (Access gfn word op) h v = plain_case _ false (λ answer e. refl)
+line_case _ _ h v = plain_case _ false (λ answer e. refl)
 
 -- What is said of the line follows from its turn.
 pub says_line : (turn : Turn Answer) (waits : Bool) (way : Seen) (t : Turn Answer) (o : Outcome) (line : Line) (h g : Held) → Gives turn waits way t → EndsSo t waits o ⊎ GoesSo t o → Comes o line h g → Says turn line h g
@@ -122,7 +124,7 @@ says_line (Done answer) waits way t o line h g gives (inr G) comes = absurd (G.m
 pub turns_say : (turn : Turn Answer) (actor : ℕ) (h g : Held) (told tells : Told) → length h.answers < length h.lines → TurnsLine turn actor h g told tells → Says turn (line_of h) h g
 turns_say turn actor h g told tells left T =
     let v : ℕ = T.makes.found in
-    says_line turn (line_waits (place_at h.state.place h) h.topics v) (line_seen (place_at h.state.place h) (line_of h).command h v) (line_turn (place_at h.state.place h) (line_of h).command h v) (outcome_of h v) (line_of h) h g T.gives (line_case (place_at h.state.place h) (line_of h).command h v)
+    says_line turn (line_waits (place_at h.state.place h) (line_of h).command h v) (line_seen (place_at h.state.place h) (line_of h).command h v) (line_turn (place_at h.state.place h) (line_of h).command h v) (outcome_of h v) (line_of h) h g T.gives (line_case (place_at h.state.place h) (line_of h).command h v)
     (subst (λ (x : Held). Comes (outcome_of h v) (line_of h) h x) (sym T.makes.hand) (next_comes h T.makes.kind v left))
 
 pub turns_same : (turn : Turn Answer) (actor : ℕ) (h g : Held) (told tells : Told) → TurnsLine turn actor h g told tells → IsSameHand h g
@@ -132,7 +134,7 @@ turns_same turn actor h g told tells T = subst (λ (x : Held). IsSameHand h x) (
 pub more_goes : (actor : ℕ) (h g : Held) (told tells : Told) (T : TurnsLine More actor h g told tells) → (q : Place) × (outcome_of h T.makes.found ≡ outcome.Goes q)
 more_goes actor h g told tells T = by (line_case (place_at h.state.place h) (line_of h).command h T.makes.found)
   where
-    by : EndsSo (line_turn (place_at h.state.place h) (line_of h).command h T.makes.found) (line_waits (place_at h.state.place h) h.topics T.makes.found) (outcome_of h T.makes.found)
+    by : EndsSo (line_turn (place_at h.state.place h) (line_of h).command h T.makes.found) (line_waits (place_at h.state.place h) (line_of h).command h T.makes.found) (outcome_of h T.makes.found)
         ⊎ GoesSo (line_turn (place_at h.state.place h) (line_of h).command h T.makes.found) (outcome_of h T.makes.found) → (q : Place) × (outcome_of h T.makes.found ≡ outcome.Goes q)
     by (inl E) = let done = E.done in let same = T.gives.1 in absurd (cc (same, done))
     by (inr G) = (G.place, G.is)
@@ -140,7 +142,7 @@ more_goes actor h g told tells T = by (line_case (place_at h.state.place h) (lin
 pub done_ends : (answer : Answer) (actor : ℕ) (h g : Held) (told tells : Told) (T : TurnsLine (Done answer) actor h g told tells) → outcome_of h T.makes.found ≡ outcome.Ends answer
 done_ends answer actor h g told tells T = by (line_case (place_at h.state.place h) (line_of h).command h T.makes.found)
   where
-    by : EndsSo (line_turn (place_at h.state.place h) (line_of h).command h T.makes.found) (line_waits (place_at h.state.place h) h.topics T.makes.found) (outcome_of h T.makes.found)
+    by : EndsSo (line_turn (place_at h.state.place h) (line_of h).command h T.makes.found) (line_waits (place_at h.state.place h) (line_of h).command h T.makes.found) (outcome_of h T.makes.found)
         ⊎ GoesSo (line_turn (place_at h.state.place h) (line_of h).command h T.makes.found) (outcome_of h T.makes.found) → outcome_of h T.makes.found ≡ outcome.Ends answer
     by (inl E) = let done = E.done in let same = T.gives.1 in let is : E.answer ≡ answer = cc (same, done) in E.is ∙ ap (λ (x : Answer). outcome.Ends x) is
     by (inr G) = absurd (G.more answer (sym T.gives.1))

@@ -71,7 +71,7 @@ pub record MakesLine (actor : ℕ) (before after : Held) (told tells : Told) : T
 -- The line's next step was made, and the turn answers by it.
 pub record TurnsLine (turn : Turn Answer) (actor : ℕ) (before after : Held) (told tells : Told) : Type 0 where
   pub makes : MakesLine actor before after told tells
-  pub gives : Gives turn (line_waits (place_at before.state.place before) before.topics makes.found) (line_seen (place_at before.state.place before) (line_of before).command before makes.found) (line_turn (place_at before.state.place before) (line_of before).command before makes.found)
+  pub gives : Gives turn (line_waits (place_at before.state.place before) (line_of before).command before makes.found) (line_seen (place_at before.state.place before) (line_of before).command before makes.found) (line_turn (place_at before.state.place before) (line_of before).command before makes.found)
 
 -- what a turn says of its line, and of the hand before and after it
 abbrev pub Says : Turn Answer → Line → Held → Held → Type 0

@@ -12,7 +12,6 @@ use Rattle.core_views.specs.declared.place.FaultEnd.TheVariants as end_of
 use Rattle.core_views.specs.declared.place.FaultNext.{FaultNext}
 use Rattle.core_views.specs.declared.place.FaultNext.TheVariants.{Goes, Ends}
 use Rattle.core_views.specs.declared.place.FaultPlace.{FaultPlace}
-use Rattle.core_views.specs.declared.topics.Topics.{Topics}
 use Rattle.core_views.specs.Slots.{is_write}
 use Rattle.fault_install.specs.declared.fault.FaultJob.{FaultJob}
 use Rattle.fault_install.specs.declared.fault.Faulted.{Faulted}
@@ -20,7 +19,8 @@ use Rattle.fault_install.specs.Faults.{AnswersBy, EndsBy, TurnsAt, TurnsFault, W
 use Rattle.mmu_core.specs.declared.outcome.Outcome.{Outcome}
 use Rattle.mmu_core.specs.declared.outcome.Outcome.TheVariants as outcome
 use Rattle.mmu_core.specs.lines.FaultKnows.{EndKnows}
-use Rattle.mmu_core.specs.lines.FaultSteps.{fault_next, fault_part, wait_seen, waits}
+use Rattle.mmu_core.specs.lines.FaultSteps.{fault_next, fault_part, wait_seen}
+use Rattle.mmu_core.specs.lines.PartWaits.{part_waits}
 use Rattle.mmu_core.specs.alone.LineAlone.{line_waits}
 use Rattle.step_seats.specs.declared.turn.Turn.{Turn}
 use Rattle.step_seats.specs.declared.turn.Turn.TheVariants.{More, Wait, Retry, Done}
@@ -189,20 +189,15 @@ turns_fault p job fault turn actor h g told tells S is T =
     let step : PartStep = fault_part p job.gfn h.topics in
     record {
       makes = made_line step (access_note (Fault p)) M.found actor h g told tells (may_make (Fault p) job h S step refl) M.made;
-      gives = subst (λ (c : Command). Gives (answer_of turn) (line_waits (place_at h.state.place h) h.topics M.found) (line_seen (place_at h.state.place h) c h M.found) (line_turn (place_at h.state.place h) c h M.found)) (sym S.command)
-          (subst (λ (q : Place). Gives (answer_of turn) (line_waits q h.topics M.found) (line_seen q (Access job.gfn job.word job.op) h M.found) (line_turn q (Access job.gfn job.word job.op) h M.found)) (sym S.stands)
-          (gives_fault turn (fault_next p h.state.sizes job.gfn (is_write job.op) h.topics M.found) (waits p h.topics M.found) (wait_seen p h job.gfn (access_note (Fault p)) M.found) M.turned M.waits_by));
+      gives = subst (λ (c : Command). Gives (answer_of turn) (line_waits (place_at h.state.place h) c h M.found) (line_seen (place_at h.state.place h) c h M.found) (line_turn (place_at h.state.place h) c h M.found)) (sym S.command)
+          (subst (λ (q : Place). Gives (answer_of turn) (line_waits q (Access job.gfn job.word job.op) h M.found) (line_seen q (Access job.gfn job.word job.op) h M.found) (line_turn q (Access job.gfn job.word job.op) h M.found)) (sym S.stands)
+          (gives_fault turn (fault_next p h.state.sizes job.gfn (is_write job.op) h.topics M.found) (part_waits step h.topics M.found) (wait_seen p h job.gfn (access_note (Fault p)) M.found) M.turned M.waits_by));
     }
 
 -- The turn of a stay answers by the answers of its hand.
-stay_waits : (p : AccessPlace) (t : Topics) (v : ℕ) → IsStay p → line_waits (place.Access p) t v ≡ false
-stay_waits (Enter again) t v stay = refl
-stay_waits (Pause again) t v stay = refl
-stay_waits (Root again) t v stay = refl
-stay_waits (Walk again) t v stay = refl
-stay_waits Touch t v stay = refl
-stay_waits (Leave how) t v stay = refl
-stay_waits (Fault p) t v stay = absurd stay
+stay_waits : (p : AccessPlace) (gfn word : ℕ) (op : Op) (h : Held) (v : ℕ) → IsStay p → line_waits (place.Access p) (Access gfn word op) h v ≡ false
+stay_waits (Fault p) gfn word op h v stay = absurd stay
+stay_waits _ gfn word op h v stay = refl
 
 stay_turn : (p : AccessPlace) (gfn word : ℕ) (op : Op) (h : Held) (v : ℕ) → IsStay p → line_turn (place.Access p) (Access gfn word op) h v ≡ turn_of (outcome_at (place.Access p) (Access gfn word op) h v)
 stay_turn (Enter again) gfn word op h v stay = refl
@@ -226,8 +221,8 @@ never_waits (outcome.Ends answer) turn is seen e = absurd (cc (is, e))
 pub turns_stay : (p : AccessPlace) (job : AccessJob) (turn : Turn Answer) (actor : ℕ) (h g : Held) (told tells : Told) → StandsAt p job h → IsStay p → (M : MakesLine actor h g told tells) → turn ≡ turn_of (outcome_of h M.found) → TurnsLine turn actor h g told tells
 turns_stay p job turn actor h g told tells S stay M is = record {
   makes = M;
-  gives = gives_plain turn (line_turn (place_at h.state.place h) (line_of h).command h M.found) (line_waits (place_at h.state.place h) h.topics M.found) (line_seen (place_at h.state.place h) (line_of h).command h M.found)
-      (ap (λ (q : Place). line_waits q h.topics M.found) S.stands ∙ stay_waits p h.topics M.found stay) (is ∙ same) (never_waits (outcome_of h M.found) turn is);
+  gives = gives_plain turn (line_turn (place_at h.state.place h) (line_of h).command h M.found) (line_waits (place_at h.state.place h) (line_of h).command h M.found) (line_seen (place_at h.state.place h) (line_of h).command h M.found)
+      (ap (λ (c : Command). line_waits (place_at h.state.place h) c h M.found) S.command ∙ ap (λ (q : Place). line_waits q (Access job.gfn job.word job.op) h M.found) S.stands ∙ stay_waits p job.gfn job.word job.op h M.found stay) (is ∙ same) (never_waits (outcome_of h M.found) turn is);
 }
   where
     same : turn_of (outcome_of h M.found) ≡ line_turn (place_at h.state.place h) (line_of h).command h M.found

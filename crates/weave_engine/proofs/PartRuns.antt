@@ -242,7 +242,7 @@ module _ (turn : Turn Answer) (line : Line) (actor : ℕ) (start a b : Held) (to
       }
 
   -- It never waits, and never begins anew.
-  goes_through : line_waits (place_at a.state.place a) a.topics S.found ≡ false
+  goes_through : line_waits (place_at a.state.place a) (line_of a).command a S.found ≡ false
   goes_through = (told_alone z here behind actor S.found S.kind a b part.alone part.has hand_is moved.0 moved.1 refl).0
 
 pub part_goes_on : (line : Line) (actor by : ℕ) (start a b : Held) (told mid tells : Told) → by ≡ actor → length a.answers < length a.lines → line.actor ≡ start.state.actor

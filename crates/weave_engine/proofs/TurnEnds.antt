@@ -34,7 +34,8 @@ use Rattle.step_seats.specs.declared.turn.Turn.TheVariants.{More, Wait, Retry, D
 use Rattle.step_seats.specs.LineTurns.{Gives, line_seen, line_turn, turn_of}
 use Rattle.weave_engine.specs.Turned.{is_stop, turn_text}
 use Rattle.weave_engine.specs.Turning.{begins_anew, hand_stops, is_ended}
-use Rattle.mmu_core.specs.lines.SetSlotSteps.{set_slot_outcome, set_slot_waits}
+use Rattle.mmu_core.specs.lines.SetSlotSteps.{set_slot_outcome, set_slot_part}
+use Rattle.mmu_core.specs.lines.PartWaits.{part_waits}
 use Rattle.step_seats.proofs.LineTurns.{setting_free}
 
 -- what is printed of a step, by where its line stands after it
@@ -78,7 +79,7 @@ module _ (number : ℕ) (actor : Actor) where
   retries (Done answer) way cause p gives = subst (λ (t : Turn Answer). TellsTurn number actor t true (Goes p)) (sym gives.1) (record { stops_ = refl; prints = refl })
 
   fault_ends : (e : FaultEnd) (turn : Turn Answer) (gfn word : ℕ) (op : Op) (h : Held) (v : ℕ)
-      → Gives turn (line_waits (place.Access (access.Fault (fault.End e))) h.topics v) (line_seen (place.Access (access.Fault (fault.End e))) (Access gfn word op) h v) (line_turn (place.Access (access.Fault (fault.End e))) (Access gfn word op) h v)
+      → Gives turn (line_waits (place.Access (access.Fault (fault.End e))) (Access gfn word op) h v) (line_seen (place.Access (access.Fault (fault.End e))) (Access gfn word op) h v) (line_turn (place.Access (access.Fault (fault.End e))) (Access gfn word op) h v)
       → TellsTurn number actor turn (false || (begins_anew (place.Access (access.Fault (fault.End e))) || is_ended (fault_over e))) (fault_over e)
   fault_ends end_of.Installed turn gfn word op h v gives = by_outcome turn _ (fault_over end_of.Installed) gives
   fault_ends end_of.Mmio turn gfn word op h v gives = by_outcome turn _ (fault_over end_of.Mmio) gives
@@ -88,7 +89,7 @@ module _ (number : ℕ) (actor : Actor) where
 
   abbrev Tells : Turn Answer → Place → Command → Held → ℕ → Type 0
   Tells turn p command h v =
-      Gives turn (line_waits p h.topics v) (line_seen p command h v) (line_turn p command h v) → TellsTurn number actor turn (line_waits p h.topics v || (begins_anew p || is_ended (outcome_at p command h v))) (outcome_at p command h v)
+      Gives turn (line_waits p command h v) (line_seen p command h v) (line_turn p command h v) → TellsTurn number actor turn (line_waits p command h v || (begins_anew p || is_ended (outcome_at p command h v))) (outcome_at p command h v)
 
   fault_tells : (p : FaultPlace) (turn : Turn Answer) (gfn word : ℕ) (op : Op) (h : Held) (v : ℕ) → Tells turn (place.Access (access.Fault p)) (Access gfn word op) h v
   fault_tells (fault.End e) turn gfn word op h v gives = fault_ends e turn gfn word op h v gives
@@ -113,7 +114,7 @@ module _ (number : ℕ) (actor : Actor) where
   line_tells place.Between command turn h v rests gives = by_outcome turn _ _ gives
   line_tells (place.Access p) (Access gfn word op) turn h v rests gives = access_tells_turn p turn gfn word op h v gives
   line_tells (place.Access p) (SetSlot id slot) turn h v rests gives = absurd rests
-  line_tells (place.SetSlot p) (SetSlot id slot) turn h v rests gives = setting_tells turn (set_slot_waits p h.topics v) _ (set_slot_outcome p h v) (setting_free p h v) gives
+  line_tells (place.SetSlot p) (SetSlot id slot) turn h v rests gives = setting_tells turn (part_waits (set_slot_part p h id slot) h.topics v) _ (set_slot_outcome p h v) (setting_free p h id slot v) gives
   line_tells (place.SetSlot p) (Access gfn word op) turn h v rests gives = absurd rests
 
 -- the text of a step's answers
@@ -135,7 +136,7 @@ pub record TurnIs (h : Held) (v : ℕ) (turn : Turn Answer) : Type 0 where
   pub prints : turn_text (line_of h).number h.state.actor turn ≡ text (events_of h v)
 
 pub turn_is : (h : Held) (v : ℕ) (turn : Turn Answer) → has_line h ≡ true → RestsAt (place_at h.state.place h) (line_of h).command h
-    → Gives turn (line_waits (place_at h.state.place h) h.topics v) (line_seen (place_at h.state.place h) (line_of h).command h v) (line_turn (place_at h.state.place h) (line_of h).command h v) → TurnIs h v turn
+    → Gives turn (line_waits (place_at h.state.place h) (line_of h).command h v) (line_seen (place_at h.state.place h) (line_of h).command h v) (line_turn (place_at h.state.place h) (line_of h).command h v) → TurnIs h v turn
 turn_is h v turn left rests gives =
     let T = line_tells (line_of h).number h.state.actor (place_at h.state.place h) (line_of h).command turn h v rests gives in
     record { stops_ = T.stops_; prints = T.prints ∙ sym (step_text h v left) }

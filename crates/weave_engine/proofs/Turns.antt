@@ -111,7 +111,7 @@ made_turn actor w h g tells steps adds line whose turn hand open_ own made =
 done_ends : (answer : Answer) (h : Held) (v : ℕ) → AnswersBy (Done answer) h v → is_ended (outcome_of h v) ≡ true
 done_ends answer h v answers = by (line_case (place_at h.state.place h) (line_of h).command h v)
   where
-    by : EndsSo (line_turn (place_at h.state.place h) (line_of h).command h v) (line_waits (place_at h.state.place h) h.topics v) (outcome_of h v)
+    by : EndsSo (line_turn (place_at h.state.place h) (line_of h).command h v) (line_waits (place_at h.state.place h) (line_of h).command h v) (outcome_of h v)
         ⊎ GoesSo (line_turn (place_at h.state.place h) (line_of h).command h v) (outcome_of h v) → is_ended (outcome_of h v) ≡ true
     by (inl E) = ap is_ended E.is
     by (inr G) = absurd (G.more answer (sym answers.1))

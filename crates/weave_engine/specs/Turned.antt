@@ -61,7 +61,7 @@ pub record MakesTurn (actor : ℕ) (before after : World Held) (stop : Bool) (by
 -- What a turn of the hand's line answers, by what its step found: a wait names the word that it has seen, a beginning anew its cause, and an
 -- end the answer.
 abbrev pub AnswersBy : Turn Answer → Held → ℕ → Type 0
-AnswersBy turn h v = Gives turn (line_waits (place_at h.state.place h) h.topics v) (line_seen (place_at h.state.place h) (line_of h).command h v) (line_turn (place_at h.state.place h) (line_of h).command h v)
+AnswersBy turn h v = Gives turn (line_waits (place_at h.state.place h) (line_of h).command h v) (line_seen (place_at h.state.place h) (line_of h).command h v) (line_turn (place_at h.state.place h) (line_of h).command h v)
 
 -- The turn was one of the line that the actor's hand had under way, or else of its next one. That line's next step was made, and the turn
 -- answers by it.

@@ -14,7 +14,7 @@ use Rattle.mmu_core.specs.machine.Enabled.{mmu}
 use Rattle.mmu_core.specs.alone.LineAlone.{line_waits}
 use Rattle.mmu_core.specs.machine.Machine.{Step, World, answered, effect, hand_in, run}
 use Rattle.mmu_core.specs.machine.Steps.{has_line, place_at}
-use Rattle.mmu_core.specs.machine.Turns.{outcome_of}
+use Rattle.mmu_core.specs.machine.Turns.{line_of, outcome_of}
 use Rattle.tdp_io.specs.declared.sink.Stop.{Stop}
 use Rattle.tdp_io.specs.declared.sink.Stop.TheVariants.{Failed, NoMemory}
 
@@ -31,7 +31,7 @@ is_ended (Ends answer) = true
 
 -- The turn answers its line, waits for another actor, or begins anew.
 abbrev pub hand_stops : Held → ℕ → Bool
-hand_stops h v = line_waits (place_at h.state.place h) h.topics v || (begins_anew (place_at h.state.place h) || is_ended (outcome_of h v))
+hand_stops h v = line_waits (place_at h.state.place h) (line_of h).command h v || (begins_anew (place_at h.state.place h) || is_ended (outcome_of h v))
 
 abbrev pub stops : World Held → Step Kind → Bool
 stops w s = hand_stops (hand_in mmu w s.actor) (answered mmu w s.kind)

@@ -1,5 +1,5 @@
 -- What a step of a claim comes to, in each of its cases: the step, the exit, and what is held after it.
-use Rattle.std.proofs.Common.{◌≡◌, inl, inr, ◌+◌, ◌-◌, ◌*◌, ◌^◌, ◌<◌, ◌≤◌, ℕ, refl, ap, arith, w64}
+use Rattle.std.proofs.Common.{◌≡◌, inl, inr, ◌+◌, ◌-◌, ◌*◌, ◌^◌, ◌<◌, ◌≤◌, ℕ, refl, ap, arith, w64, sym, ◌∙◌, not}
 use Rattle.std.specs.Prelude.{Bool, true, false, ◌==◌, nat_lt, if◌then◌else◌, Some, None}
 use Rattle.std.proofs.lemmas.Bool.Decides.{nat_tests}
 use Rattle.std.proofs.lemmas.Nat.Bits.{bit_at-trailing_zeros}
@@ -10,6 +10,7 @@ use Rattle.core_views.specs.declared.topics.Topics.{Topics}
 use Rattle.core_views.specs.Held.{Held}
 use Rattle.core_views.specs.Sizes.{AreSizes}
 use Rattle.spte_words.specs.Areas.{words_of_bits}
+use Rattle.mmu_core.specs.lines.PartWaits.{part_waits}
 use Rattle.part_steps.specs.declared.part_step.PartStep.{PartStep}
 use Rattle.part_steps.specs.declared.part_step.PartStep.TheVariants as part
 use Rattle.part_steps.specs.PartSteps.{PartNeeds}
@@ -17,7 +18,7 @@ use Rattle.part_steps.specs.PartTopics.{part_topics}
 use Rattle.part_steps.specs.TopicSteps.{is_won, tried_bit}
 use Rattle.mmu_core.specs.declared.claim.ClaimNext.{ClaimNext}
 use Rattle.mmu_core.specs.declared.claim.ClaimNext.TheVariants as claims
-use Rattle.mmu_core.specs.lines.ClaimSteps.{claim_left, claim_next, claim_part, claim_waits, map_word, tries_page, word_after_load}
+use Rattle.mmu_core.specs.lines.ClaimSteps.{claim_left, claim_next, claim_part, map_word, tries_page, word_after_load}
 use Rattle.mmu_core.proofs.lines.FaultSame.{both}
 use Rattle.mmu_core.proofs.machine.PartStepping.{is_publish}
 
@@ -102,9 +103,9 @@ seen_falls true words word v is low = let none : nat_lt 0 v ≡ false = grind (a
 seen_falls false words word v is low = let some : nat_lt 0 v ≡ true = grind (arith, nat_tests) in rw some (omega arith)
 
 -- A step that doesn't wait leaves it fewer.
-pub claim_falls : (z : Sizes) (begun : Bool) (t : Topics) (v : ℕ) (step : PartStep) (next : ClaimNext) (u : Topics) → ClaimMade z begun t v step next u → claim_waits begun t.claim v ≡ false
+pub claim_falls : (z : Sizes) (begun : Bool) (t : Topics) (v : ℕ) (step : PartStep) (next : ClaimNext) (u : Topics) → ClaimMade z begun t v step next u → part_waits step t v ≡ false
     → map_word begun t.claim < words_of_bits z.pool → claim_left_after next z u.claim < claim_left begun z t.claim
 claim_falls z begun t v _ _ _ (Won tries b some is) goes low = rw tries (omega arith)
-claim_falls z begun t v _ _ _ (Lost tries b some is) goes low = absurd (cc (tries, is, goes))
+claim_falls z begun t v _ _ _ (Lost tries b some is) goes low = absurd (cc (sym goes ∙ ap not is))
 claim_falls z begun t v _ _ _ (Saw not_ lt) goes low = rw not_ (seen_falls (v == 0) (words_of_bits z.pool) (map_word begun t.claim) v refl low)
 claim_falls z begun t v _ _ _ (SawNone not_ le) goes low = rw not_ (omega arith)

@@ -28,8 +28,10 @@ use Rattle.part_steps.specs.declared.part_step.PartStep.{PartStep}
 use Rattle.mmu_core.specs.declared.claim.ClaimNext.{ClaimNext}
 use Rattle.mmu_core.specs.declared.share.ShareNext.{ShareNext}
 use Rattle.mmu_core.specs.declared.share.ShareNext.TheVariants as shares
-use Rattle.mmu_core.specs.lines.FaultKnows.{FaultKnows}
-use Rattle.mmu_core.specs.lines.FaultSteps.{after_claim, after_share, allows_access, check_left, check_next, claim_left, entering_left, entry_word, fault_left, fault_next, fault_part, find_next, next_left, share_left, share_next, share_part, snapshot_taken, table_left, waits, walk_left, walk_next}
+use Rattle.mmu_core.specs.lines.FaultKnows.{FaultKnows, is_trying}
+use Rattle.mmu_core.specs.lines.FaultSteps.{after_claim, after_share, allows_access, check_left, check_next, claim_left, entering_left, entry_word, fault_left, fault_next, fault_part, find_next, next_left, share_left, share_next, share_part, snapshot_taken, table_left, walk_left, walk_next, claim_next, is_owing, map_word, tries_page}
+use Rattle.part_steps.specs.declared.part_step.PartStep.TheVariants as part
+use Rattle.mmu_core.specs.lines.PartWaits.{part_waits}
 use Rattle.part_steps.specs.PartBounds.{PartRests}
 use Rattle.part_steps.specs.PartSteps.{entry_index, link_written, page_owned, words_filled, HasToFill}
 use Rattle.part_steps.specs.PartTopics.{exchanged, part_topics}
@@ -40,6 +42,8 @@ use Rattle.mmu_core.proofs.lines.ClaimMade as made
 use Rattle.mmu_core.proofs.lines.FaultKnown.{above_lowest}
 use Rattle.mmu_core.proofs.pages.Owned.{more_filled, table_owned}
 use Rattle.mmu_core.proofs.lines.ShareMade.{share_falls, share_made, share_left_after}
+use Rattle.mmu_core.proofs.lines.FaultSame.{not_not}
+use Rattle.mmu_core.proofs.lines.PartsWait.{share_waits}
 
 -- the search
 search_falls : (b : Bool) (z : Sizes) (u : Topics) (n : ℕ) → (u.search.id == 32) ≡ b → (b ≡ false → 4 * (31 - u.search.id) + look_left u.search.next < n) → fault_left (if b then End Mmio else Find true) z u < entering_left z + 7 + n
@@ -156,7 +160,7 @@ leaf_put : (b : Bool) (z : Sizes) (word read v : ℕ) (u : Topics) → fault_lef
 leaf_put true z word read v u = omega arith
 leaf_put false z word read v u = omega arith
 
-pub fault_falls : (p : FaultPlace) (h : Held) (gfn v : ℕ) (write : Bool) → gfn < 2 ^ 36 → PartRests h → FaultKnows p h.state.sizes gfn write h.topics → waits p h.topics v ≡ false
+pub fault_falls : (p : FaultPlace) (h : Held) (gfn v : ℕ) (write : Bool) → gfn < 2 ^ 36 → PartRests h → FaultKnows p h.state.sizes gfn write h.topics → part_waits (fault_part p gfn h.topics) h.topics v ≡ false
     → next_left (fault_next p h.state.sizes gfn write h.topics v) h.state.sizes (part_topics (fault_part p gfn h.topics) h.topics v) < fault_left p h.state.sizes h.topics
 fault_falls (Find true) h gfn v write small R K goes = let set = K.1 refl in slot_falls (is_some h.topics.search.set) h.state.sizes gfn write h.topics v set.0 set.1
 fault_falls (Find false) h gfn v write small R K goes = omega arith

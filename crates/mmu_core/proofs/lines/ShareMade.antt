@@ -8,6 +8,7 @@ use Rattle.core_views.specs.declared.topics.Topics.{Topics}
 use Rattle.core_views.specs.Held.{Held}
 use Rattle.spte_words.specs.declared.area.Area.{Area}
 use Rattle.spte_words.specs.declared.area.Area.TheVariants as area
+use Rattle.mmu_core.specs.lines.PartWaits.{part_waits}
 use Rattle.part_steps.specs.declared.part_step.PartStep.{PartStep}
 use Rattle.part_steps.specs.declared.part_step.PartStep.TheVariants as part
 use Rattle.part_steps.specs.PartSteps.{PartNeeds, counts, part_task}
@@ -55,7 +56,7 @@ share_left_after shares.Tries k = share_left k
 share_left_after shares.Shares k = 0
 
 -- A step that doesn't wait leaves fewer.
-pub share_falls : (t : Topics) (v : ℕ) (step : PartStep) (next : ShareNext) (u : Topics) → ShareMade t v step next u → is_owing t.hold ≡ false → share_left_after next u.hold < share_left t.hold
+pub share_falls : (t : Topics) (v : ℕ) (step : PartStep) (next : ShareNext) (u : Topics) → ShareMade t v step next u → part_waits step t v ≡ false → share_left_after next u.hold < share_left t.hold
 share_falls t v _ _ _ (Got loose is) goes = rw loose (omega arith)
 share_falls t v _ _ _ (SawWriter loose is) goes = rw loose (omega arith)
 share_falls t v _ _ _ (TakesBack word is) goes = absurd (cc (ap is_owing is, goes))

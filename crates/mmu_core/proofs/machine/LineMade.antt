@@ -57,11 +57,11 @@ abbrev delays_behind : Held → Bool → ℕ
 delays_behind h delay = delays_counted delay (counted h.state.place h.state.delays)
 
 pub line_made : (h f : Held) (s : State) (line : Line) (p q : Place) (v leaf : ℕ) (slots : MemorySlots) (o : Outcome) (delay : Bool) (steps delays : ℕ) (answers : List AnsweredLine) → o ≡ outcome_at p line.command h v → leaf ≡ (loads_at p line.command h v).leaf
-    → delay ≡ is_delay p h.topics o v → steps ≡ steps_behind h delay → delays ≡ delays_behind h delay → slots ≡ records_at p line.command h.slots → f ≡ with_cached h (caches_at p line.command (with_slots h slots) v) slots → s ≡ f.state → q ≡ place_after o → answers ≡ answers_after o line h.answers
+    → delay ≡ is_delay p line.command h o v → steps ≡ steps_behind h delay → delays ≡ delays_behind h delay → slots ≡ records_at p line.command h.slots → f ≡ with_cached h (caches_at p line.command (with_slots h slots) v) slots → s ≡ f.state → q ≡ place_after o → answers ≡ answers_after o line h.answers
     → placed s q line leaf steps delays f answers ≡ line_after line p h v
 line_made h f s line p q v leaf slots o delay steps delays answers o_is leaf_is delay_is steps_is delays_is slots_is f_is s_is q_is answers_is =
     let same : IsSameState h.state (loads_at p line.command h v) = loads_same p line.command h v in
-    let same_delay : delay ≡ delays_at p line.command h v = delay_is ∙ ap (λ (x : Outcome). is_delay p h.topics x v) o_is in
+    let same_delay : delay ≡ delays_at p line.command h v = delay_is ∙ ap (λ (x : Outcome). is_delay p line.command h x v) o_is in
     ap (λ (x : State). placed x q line leaf steps delays f answers) s_is
     ∙ ap (λ x. placed f.state q line leaf x delays f answers) (steps_is ∙ ap (steps_behind h) same_delay)
     ∙ ap (λ x. placed f.state q line leaf made x f answers) (delays_is ∙ ap (delays_behind h) same_delay)

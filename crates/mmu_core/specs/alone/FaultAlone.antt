@@ -22,7 +22,8 @@ use Rattle.part_steps.specs.declared.task.Task.{Task}
 use Rattle.part_steps.specs.declared.part_step.PartStep.{PartStep}
 use Rattle.mmu_core.specs.machine.Enabled.{mmu}
 use Rattle.mmu_core.specs.lines.FaultKnows.{FaultKnows}
-use Rattle.mmu_core.specs.lines.FaultSteps.{allows_access, fault_next, fault_part, waits}
+use Rattle.mmu_core.specs.lines.FaultSteps.{allows_access, fault_next, fault_part}
+use Rattle.mmu_core.specs.lines.PartWaits.{part_waits}
 use Rattle.mmu_core.specs.invariant.Laws.{IsSound}
 use Rattle.mmu_core.specs.machine.Machine.{World, hand_in}
 use Rattle.mmu_core.specs.alone.OthersRest.{OthersRest}
@@ -103,7 +104,7 @@ pub record RunsAlone (z : Sizes) (w : World Held) (a : ℕ) (p : FaultPlace) (gf
 
 -- The step of its place doesn't wait for another actor, and behind it the fault knows of the words what its next place asks.
 pub record GoesThrough (z : Sizes) (words : Area → ℕ → ℕ) (a : ℕ) (t : Topics) (note : ℕ) (p : FaultPlace) (gfn : ℕ) (write : Bool) : Type 0 where
-  pub goes : waits p t (answer_in (part_task (fault_part p gfn t) a t note) words) ≡ false
+  pub goes : part_waits (fault_part p gfn t) t (answer_in (part_task (fault_part p gfn t) a t note) words) ≡ false
   pub next :
       let step : PartStep = fault_part p gfn t in
       let task : Task = part_task step a t note in

@@ -56,7 +56,7 @@ ComesNearer (Ends answer) z a before after = IsSound z after × AllRest after ×
 
 -- The step doesn't wait for another actor, and comes nearer to the line's answer.
 pub record StepsAlone (z : Sizes) (w : World Held) (s : Step Kind) : Type 0 where
-  pub goes : line_waits (place_at (hand_in mmu w s.actor).state.place (hand_in mmu w s.actor)) (hand_in mmu w s.actor).topics (answered mmu w s.kind) ≡ false
+  pub goes : line_waits (place_at (hand_in mmu w s.actor).state.place (hand_in mmu w s.actor)) (line_of (hand_in mmu w s.actor)).command (hand_in mmu w s.actor) (answered mmu w s.kind) ≡ false
   pub nearer : ComesNearer (outcome_of (hand_in mmu w s.actor) (answered mmu w s.kind)) z s.actor w (effect mmu w s)
 
 -- A line alone goes through: no step of it waits, none of its faults begins anew, and each step leaves it fewer steps, until it is answered.

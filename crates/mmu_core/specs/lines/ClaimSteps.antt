@@ -36,10 +36,6 @@ claim_next begun z claim v =
     if nat_lt (word_after_load begun claim v) (words_of_bits z.pool) then Goes else
     Empty
 
--- The step is a try for a page that another actor has taken.
-abbrev pub claim_waits : Bool → MapClaim → ℕ → Bool
-claim_waits begun claim v = tries_page begun claim && not (is_won claim v)
-
 -- the most steps that a claim has left, where no other actor is in its way: the words from this one on, and a try
 abbrev pub claim_left : Bool → Sizes → MapClaim → ℕ
 claim_left begun z claim = if tries_page begun claim then 1 else words_of_bits z.pool - map_word begun claim + 1

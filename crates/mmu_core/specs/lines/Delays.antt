@@ -1,5 +1,5 @@
 -- What a line counts: its steps since it began or since its last delay, and its delays.
-use Rattle.std.specs.Prelude.{◌+◌, ◌-◌, ◌^◌, ℕ, Bool, true, false, ◌&&◌, ◌||◌, nat_lt, if◌then◌else◌}
+use Rattle.std.specs.Prelude.{◌+◌, ◌-◌, ◌^◌, ℕ, Bool, true, false, ◌&&◌, ◌||◌, Option, Some, None, nat_lt, if◌then◌else◌}
 use Rattle.core_views.specs.declared.place.AccessPlace.TheVariants.{Walk, Leave, Fault}
 use Rattle.core_views.specs.declared.place.FaultEnd.TheVariants as end_of
 use Rattle.core_views.specs.declared.place.FaultPlace.TheVariants as fault
@@ -7,16 +7,22 @@ use Rattle.core_views.specs.declared.place.Leaving.TheVariants as leaving
 use Rattle.core_views.specs.declared.place.Place.{Place}
 use Rattle.core_views.specs.declared.place.Place.TheVariants as place
 use Rattle.core_views.specs.declared.topics.Topics.{Topics}
+use Rattle.core_views.specs.declared.trace.Command.{Command}
+use Rattle.core_views.specs.Held.{Held}
 use Rattle.mmu_core.specs.declared.outcome.Outcome.{Outcome}
 use Rattle.mmu_core.specs.declared.outcome.Outcome.TheVariants.{Goes}
-use Rattle.mmu_core.specs.lines.FaultSteps.{waits}
-use Rattle.mmu_core.specs.lines.SetSlotSteps.{set_slot_waits}
+use Rattle.part_steps.specs.declared.part_step.PartStep.{PartStep}
+use Rattle.mmu_core.specs.lines.PartAt.{part_at}
+use Rattle.mmu_core.specs.lines.PartWaits.{part_waits}
 
--- The step of a line's place leaves the line where it was, since another actor is in the way.
-abbrev pub line_waits : Place → Topics → ℕ → Bool
-line_waits (place.Access (Fault p)) t v = waits p t v
-line_waits (place.SetSlot p) t v = set_slot_waits p t v
-line_waits _ t v = false
+-- The touch of a content word never waits.
+abbrev pub waits_by : Option PartStep → Topics → ℕ → Bool
+waits_by (Some step) t v = part_waits step t v
+waits_by None t v = false
+
+-- The step of a line waits for another actor: it is the step of a part that waits, whatever the line is.
+abbrev pub line_waits : Place → Command → Held → ℕ → Bool
+line_waits p command h v = waits_by (part_at p command h) h.topics v
 
 -- The line's fault ends with this step and begins anew.
 abbrev pub begins_anew : Place → Bool
@@ -35,8 +41,8 @@ leaves_to_fault _ = false
 
 -- The step is a delay of its line: the line waits, its fault begins anew, or the stay behind an installed entry finds no translation that
 -- allows the access.
-abbrev pub is_delay : Place → Topics → Outcome → ℕ → Bool
-is_delay p t o v = line_waits p t v || (begins_anew p || (walks_again p && leaves_to_fault o))
+abbrev pub is_delay : Place → Command → Held → Outcome → ℕ → Bool
+is_delay p command h o v = line_waits p command h v || (begins_anew p || (walks_again p && leaves_to_fault o))
 
 -- What has been counted where a line's next step comes: nothing where this step begins the line.
 abbrev pub counted : Place → ℕ → ℕ

@@ -32,7 +32,7 @@ use Rattle.mmu_core.specs.declared.claim.ClaimNext.{ClaimNext}
 use Rattle.mmu_core.specs.declared.claim.ClaimNext.TheVariants as claims
 use Rattle.mmu_core.specs.declared.share.ShareNext.{ShareNext}
 use Rattle.mmu_core.specs.declared.share.ShareNext.TheVariants as shares
-pub use Rattle.mmu_core.specs.lines.ClaimSteps.{claim_left, claim_next, claim_part, claim_waits, map_word, tries_page}
+pub use Rattle.mmu_core.specs.lines.ClaimSteps.{claim_left, claim_next, claim_part, map_word, tries_page}
 pub use Rattle.mmu_core.specs.lines.PartWaits.{is_owing, word_owed}
 pub use Rattle.mmu_core.specs.lines.ShareSteps.{share_left, share_next, share_part}
 use Rattle.mmu_core.specs.lines.SearchLeft.{look_left}
@@ -137,16 +137,10 @@ fault_next Leaf z gfn write t v = Goes (if v == t.walk.entry then Unshare Instal
 fault_next (Unshare e) z gfn write t v = Goes (End e)
 fault_next (End e) z gfn write t v = Ends e
 
--- The step leaves the fault where it was, since another actor is in the way: it takes itself out of the lock's readers, where it saw a
--- writer, or another actor took the page that it tried.
-abbrev pub waits : FaultPlace → Topics → ℕ → Bool
-waits Share t v = is_owing t.hold
-waits (Claim begun) t v = claim_waits begun t.claim v
-waits _ t v = false
-
 -- What a step that waits has seen: of the lock the word that it found with the try which it takes back, and of the map what is there now.
 abbrev pub wait_value : FaultPlace → Topics → ℕ → ℕ
 wait_value Share t v = word_owed t.hold
+wait_value (Unshare e) t v = word_owed t.hold
 wait_value _ t v = v
 
 -- and which word this is: the one that the step of the place is on

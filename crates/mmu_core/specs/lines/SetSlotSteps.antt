@@ -11,6 +11,8 @@ use Rattle.core_views.specs.declared.place.SetSlotPlace.{SetSlotPlace}
 use Rattle.core_views.specs.declared.place.SetSlotPlace.TheVariants.{Refuse, Claim, Fill, Role, Exclude, Count, Close, Publish, Release, Watch, Clear, Give}
 use Rattle.core_views.specs.declared.place.Place.TheVariants.{SetSlot}
 use Rattle.core_views.specs.declared.topics.Topics.{Topics}
+use Rattle.core_views.specs.declared.sizes.Sizes.{Sizes}
+use Rattle.core_views.specs.declared.topics.MapClaim.{MapClaim}
 use Rattle.core_views.specs.declared.trace.Slot.{Slot}
 use Rattle.core_views.specs.Held.{Held}
 use Rattle.core_views.specs.Refusals.{after_set, is_logged}
@@ -26,7 +28,7 @@ use Rattle.mmu_core.specs.lines.AccessSteps.{exiting}
 use Rattle.mmu_core.specs.lines.FaultSteps.{claim_part}
 use Rattle.part_steps.specs.PartSteps.{own_index, part_kind, part_task, words_filled}
 use Rattle.part_steps.specs.SetWords.{set_role, set_word}
-use Rattle.mmu_core.specs.lines.ClaimSteps.{claim_next, claim_part, claim_waits, loads_last_word}
+use Rattle.mmu_core.specs.lines.ClaimSteps.{claim_next, claim_part, loads_last_word}
 use Rattle.mmu_core.specs.declared.claim.ClaimNext.{ClaimNext}
 use Rattle.mmu_core.specs.declared.claim.ClaimNext.TheVariants as claims
 use Rattle.mmu_core.specs.declared.watch.WatchNext.{WatchNext}
@@ -101,14 +103,6 @@ abbrev pub set_slot_tells : SetSlotPlace → Held → ℕ → Slot → ℕ → L
 set_slot_tells (Claim begun) h id slot v = exiting (set_slot_outcome (Claim begun) h v)
 set_slot_tells Publish h id slot v = SlotChanged id (Some (record { slot = slot; logged = is_logged id h.slots })) ∷ []
 set_slot_tells _ h id slot v = []
-
--- Another actor is in the way: it took the page that was tried, it has the lock, it has an invalidation open, or it is in a section.
-abbrev pub set_slot_waits : SetSlotPlace → Topics → ℕ → Bool
-set_slot_waits (Claim begun) t v = claim_waits begun t.claim v
-set_slot_waits Exclude t v = not (v == 0)
-set_slot_waits Close t v = true
-set_slot_waits Watch t v = in_section v
-set_slot_waits _ t v = false
 
 -- What a step that waits has seen: the number of open invalidations, for which it gives the lock back, and else what it found in its word.
 abbrev pub set_slot_seen : SetSlotPlace → Held → ℕ → Slot → ℕ → Seen

@@ -87,7 +87,7 @@ task_of h = task_at (place_at h.state.place h) (line_at h.state.place h).command
 
 -- The step is a delay of its line.
 abbrev pub delays_at : Place → Command → Held → ℕ → Bool
-delays_at p command h v = is_delay p h.topics (outcome_at p command h v) v
+delays_at p command h v = is_delay p command h (outcome_at p command h v) v
 
 -- what the state has loaded and counted after it
 abbrev pub state_at : Place → Command → Held → ℕ → State

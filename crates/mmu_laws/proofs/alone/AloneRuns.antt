@@ -216,7 +216,7 @@ module _ (z : Sizes) (w : World Held) (s : Step Kind) (L : LineAlone z w s.actor
 
   steps_alone_here : StepsAlone z w s
   steps_alone_here = record {
-    goes = ap (λ n. line_waits stood h.topics n) taken.answers ∙ stepped_alone.on.goes;
+    goes = ap (line_waits stood line.command h) taken.answers ∙ stepped_alone.on.goes;
     nearer = subst (λ n. ComesNearer (outcome_at stood line.command h n) z a w (effect mmu w s)) (sym taken.answers) nearer;
   }
 
@@ -241,12 +241,12 @@ nearer_told (Ends answer) z a w after N = N
 
 -- a step of a line alone, where the hands, its answer and the world behind it are told
 pub told_alone : (z : Sizes) (w after : World Held) (a v : ℕ) (k : Kind) (h g : Held) → LineAlone z w a → hand_in mmu w a ≡ h → hand_in mmu after a ≡ g → May mmu w (record { actor = a; kind = k }) → answered mmu w k ≡ v
-    → after ≡ effect mmu w (record { actor = a; kind = k }) → (line_waits (place_at h.state.place h) h.topics v ≡ false) × ToldAlone (outcome_of h v) z a h g after
+    → after ≡ effect mmu w (record { actor = a; kind = k }) → (line_waits (place_at h.state.place h) (line_of h).command h v ≡ false) × ToldAlone (outcome_of h v) z a h g after
 told_alone z w after a v k h g L has then_ may found is =
     let N = steps_alone z w (record { actor = a; kind = k }) L may in
     let o : Outcome = outcome_of (hand_in mmu w a) (answered mmu w k) in
     let told : ToldAlone o z a (hand_in mmu w a) (hand_in mmu after a) after = nearer_told o z a w after (subst (λ (u : World Held). ComesNearer o z a w u) (sym is) N.nearer) in (
-      subst (λ n. line_waits (place_at h.state.place h) h.topics n ≡ false) found (subst (λ (x : Held). line_waits (place_at x.state.place x) x.topics (answered mmu w k) ≡ false) has N.goes),
+      subst (λ n. line_waits (place_at h.state.place h) (line_of h).command h n ≡ false) found (subst (λ (x : Held). line_waits (place_at x.state.place x) (line_of x).command x (answered mmu w k) ≡ false) has N.goes),
       subst (λ (y : Held). ToldAlone (outcome_of h v) z a h y after) then_
           (subst (λ n. ToldAlone (outcome_of h n) z a h (hand_in mmu after a) after) found (subst (λ (x : Held). ToldAlone (outcome_of x (answered mmu w k)) z a x (hand_in mmu after a) after) has told)),
     )

@@ -11,9 +11,10 @@ use Rattle.spte_words.specs.Areas.{words_of_bits}
 use Rattle.part_steps.specs.declared.part_step.PartStep.{PartStep}
 use Rattle.part_steps.specs.PartSteps.{part_task}
 use Rattle.part_steps.specs.TopicSteps.{is_won}
+use Rattle.mmu_core.specs.lines.PartWaits.{part_waits}
 use Rattle.mmu_core.specs.declared.claim.ClaimNext.{ClaimNext}
 use Rattle.mmu_core.specs.declared.claim.ClaimNext.TheVariants as claims
-use Rattle.mmu_core.specs.lines.ClaimSteps.{claim_waits, map_word}
+use Rattle.mmu_core.specs.lines.ClaimSteps.{map_word}
 use Rattle.mmu_core.specs.alone.FaultAlone.{NoneFreeBefore, SeenStands}
 use Rattle.mmu_core.specs.machine.View.{answer_in, words_after}
 use Rattle.mmu_core.proofs.lines.ClaimMade.{ClaimMade, saw_bit}
@@ -51,11 +52,11 @@ module _ (z : Sizes) (begun : Bool) (t : Topics) (words : Area → ℕ → ℕ) 
   wins : begun ≡ true → 0 < t.claim.seen → is_won t.claim (words area.PoolMap t.claim.at) ≡ true
   wins b some = ap (is_won t.claim) (seen b some) ∙ saw_bit t.claim some small
 
-  pub claim_goes : (step : PartStep) (next : ClaimNext) (u : Topics) → ClaimMade z begun t (answer_in (part_task step a t note) words) step next u → claim_waits begun t.claim (answer_in (part_task step a t note) words) ≡ false
-  claim_goes _ _ _ (made.Won tries b some is) = rw tries (ap not is)
+  pub claim_goes : (step : PartStep) (next : ClaimNext) (u : Topics) → ClaimMade z begun t (answer_in (part_task step a t note) words) step next u → part_waits step t (answer_in (part_task step a t note) words) ≡ false
+  claim_goes _ _ _ (made.Won tries b some is) = ap not is
   claim_goes _ _ _ (made.Lost tries b some is) = absurd (cc (is, wins b some))
-  claim_goes _ _ _ (made.Saw not_ lt) = rw not_ refl
-  claim_goes _ _ _ (made.SawNone not_ le) = rw not_ refl
+  claim_goes _ _ _ (made.Saw not_ lt) = refl
+  claim_goes _ _ _ (made.SawNone not_ le) = refl
 
   pub claim_comes : (step : PartStep) (next : ClaimNext) (u : Topics) → ClaimMade z begun t (answer_in (part_task step a t note) words) step next u → (begun ≡ true → NoneFreeBefore (words area.PoolMap) t.claim.at)
       → ClaimComes next z (words_after (part_task step a t note) words area.PoolMap) u

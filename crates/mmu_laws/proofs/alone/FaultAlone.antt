@@ -48,6 +48,9 @@ use Rattle.mmu_core.proofs.lines.ClaimMade.{ClaimMade, claim_made}
 use Rattle.mmu_core.proofs.lines.ClaimMade as made
 use Rattle.mmu_core.proofs.machine.Columns.{upd_same}
 use Rattle.mmu_core.proofs.lines.FaultKnown.{allowed_leaf}
+use Rattle.mmu_core.proofs.lines.FaultSame.{both}
+use Rattle.mmu_core.proofs.lines.PartsWait.{share_waits}
+use Rattle.mmu_core.specs.lines.PartWaits.{part_waits}
 use Rattle.mmu_laws.proofs.alone.FindAlone.{find_goes}
 use Rattle.mmu_laws.proofs.leaves.LeadsDown.{leads_same}
 use Rattle.mmu_core.proofs.slots.LiveStays.{LiveStays}
@@ -247,7 +250,7 @@ goes_through z w a gfn note write Share R =
     let v : ℕ = answer_in task (word_in z w) in
     let behind : Area → ℕ → ℕ = words_after task (word_in z w) in
     record {
-      goes = ap (λ (x : Hold). is_owing x) R.alone;
+      goes = sym (share_waits t.hold t v refl) ∙ ap (λ (x : Hold). is_owing x) R.alone;
       next =
           share_alone (behind area.Root 0) (behind area.Slots 0) (behind area.PoolMap) (behind area.Pool) gfn write (share_next t.hold v) (part_topics (share_part t.hold) t v)
           (share_comes t (word_in z w) a note _ _ _ (share_made t v R.knows.1) R.alone (lock_free z w a R.sound R.there R.others R.alone));
@@ -323,4 +326,5 @@ goes_through z w a gfn note write Leaf R =
           leaf_alone (behind area.Root 0) (behind area.Slots 0) (behind area.PoolMap) (behind area.Pool) gfn write (v == t.walk.entry) (Unshare (Retry (Entry (entry_word z gfn t.walk) t.walk.entry v))) (part_topics (part.Leaf gfn) t v) (is_it v t.walk.entry R.alone)
           (leaf_leads z w a gfn note write Leaf R R.knows.0 R.knows.2 R.knows.3 R.alone);
     }
+goes_through z w a gfn note write (Unshare e) R = record { goes = ap (λ (x : Hold). is_owing x) R.knows.1; next = R.alone }
 goes_through z w a gfn note write _ R = record { goes = refl; next = R.alone }

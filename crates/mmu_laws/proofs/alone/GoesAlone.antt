@@ -24,5 +24,5 @@ GoesAlone (Ends answer) command y words t n = StarvedOnlyWithout answer y (words
 
 -- The step of a place goes through.
 pub record GoesOnAlone (p : Place) (command : Command) (h : Held) (words : Area → ℕ → ℕ) (u : Topics) : Type 0 where
-  pub goes : line_waits p h.topics (answer_in (task_at p command h) words) ≡ false
+  pub goes : line_waits p command h (answer_in (task_at p command h) words) ≡ false
   pub next : GoesAlone (outcome_at p command h (answer_in (task_at p command h) words)) command h.state.sizes (words_after (task_at p command h) words) u (steps_left p h.state.sizes h.topics)

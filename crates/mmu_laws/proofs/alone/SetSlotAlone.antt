@@ -5,7 +5,7 @@ use Rattle.std.specs.Prelude.{Bool, true, false, ◌==◌, not, nat_lt, if◌the
 use Rattle.std.proofs.lemmas.Bool.Decides.{nat_tests}
 use Rattle.core_views.specs.declared.place.Place.TheVariants as place
 use Rattle.core_views.specs.declared.place.SetSlotPlace.{SetSlotPlace}
-use Rattle.core_views.specs.declared.place.SetSlotPlace.TheVariants.{Refuse, Claim, Fill, Role, Exclude, Count, Close, Publish, Watch, Clear, Give}
+use Rattle.core_views.specs.declared.place.SetSlotPlace.TheVariants.{Refuse, Claim, Fill, Role, Exclude, Count, Close, Publish, Watch, Clear, Give, Release}
 use Rattle.core_views.specs.declared.sizes.Sizes.{Sizes}
 use Rattle.core_views.specs.declared.topics.Topics.{Topics}
 use Rattle.core_views.specs.declared.trace.Command.TheVariants.{SetSlot}
@@ -14,6 +14,7 @@ use Rattle.core_views.specs.Held.{Held}
 use Rattle.core_views.specs.Sizes.{AreSizes, actors_of}
 use Rattle.spte_words.specs.declared.area.Area.{Area}
 use Rattle.spte_words.specs.declared.area.Area.TheVariants as area
+use Rattle.mmu_core.specs.lines.PartWaits.{part_waits}
 use Rattle.mmu_core.specs.declared.outcome.Outcome.TheVariants.{Goes}
 use Rattle.part_steps.specs.declared.part_step.PartStep.TheVariants as part
 use Rattle.mmu_core.specs.declared.claim.ClaimNext.{ClaimNext}
@@ -22,7 +23,7 @@ use Rattle.mmu_core.specs.declared.watch.WatchNext.{WatchNext}
 use Rattle.mmu_core.specs.declared.watch.WatchNext.TheVariants as watches
 use Rattle.mmu_core.specs.alone.AloneKnows.{SetSlotAlone}
 use Rattle.mmu_core.specs.machine.Enabled.{mmu}
-use Rattle.mmu_core.specs.lines.ClaimSteps.{claim_left, claim_next, claim_part, claim_waits}
+use Rattle.mmu_core.specs.lines.ClaimSteps.{claim_left, claim_next, claim_part}
 use Rattle.mmu_core.specs.invariant.Laws.{IsSound}
 use Rattle.mmu_core.specs.machine.Machine.{World, hand_in}
 use Rattle.mmu_core.specs.alone.OthersRest.{OthersRest}
@@ -35,6 +36,7 @@ use Rattle.mmu_core.specs.machine.View.{answer_in, word_in, words_after}
 use Rattle.mmu_core.proofs.invariant.AloneLaws.{lock_free, outside_word}
 use Rattle.mmu_laws.proofs.alone.ClaimAlone.{ClaimComes, claim_comes, claim_goes}
 use Rattle.mmu_core.proofs.lines.ClaimMade.{ClaimMade, claim_falls, claim_made, claim_left_after, word_there}
+use Rattle.mmu_core.proofs.lines.PartsWait.{none_open}
 use Rattle.mmu_laws.proofs.alone.GoesAlone.{GoesAlone, GoesOnAlone}
 use Rattle.mmu_core.proofs.pages.Owned.{more_filled}
 use Rattle.mmu_core.proofs.lines.WatchMade.{watch_left_after, watch_falls, watch_made}
@@ -102,7 +104,7 @@ module _ (z : Sizes) (w : World Held) (a : ℕ) (sound : IsSound z w) (others : 
       M : ClaimMade h.state.sizes begun h.topics v (claim_part begun h.topics.claim) (claim_next begun h.state.sizes h.topics.claim v) (part_topics (claim_part begun h.topics.claim) h.topics v)
       M = claim_made h.state.sizes begun h.topics v
 
-      goes : claim_waits begun h.topics.claim v ≡ false
+      goes : part_waits (claim_part begun h.topics.claim) h.topics v ≡ false
       goes = claim_goes h.state.sizes begun h.topics words (own_index h) note small alone.0 _ _ _ M
 
   -- the lock is free
@@ -148,4 +150,5 @@ module _ (z : Sizes) (w : World Held) (a : ℕ) (sound : IsSound z w) (others : 
   setting_through Close K alone N = absurd alone
   setting_through Watch K alone N = watch_through K N
   setting_through Give K alone N = record { goes = refl; next = λ e. absurd (cc e) }
+  setting_through Release K alone N = record { goes = none_open h.topics.invalidations K.3; next = (tt, tt, omega arith) }
   setting_through _ K alone N = record { goes = refl; next = (tt, tt, omega arith) }

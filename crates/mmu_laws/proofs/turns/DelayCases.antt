@@ -27,7 +27,7 @@ use Rattle.mmu_core.specs.machine.Machine.{Legal, May, Step, World, answered, ef
 use Rattle.mmu_laws.specs.turns.Removal.{LeadsFromRoot, LostEntry, StandsAt, StayMisses, WalksInstalled, is_installed}
 use Rattle.mmu_core.specs.machine.Steps.{delays_at, has_line, line_at, outcome_at, place_at, standing, task_at}
 use Rattle.mmu_laws.specs.turns.TurnLaws.{DelaysWaitBeginAnewOrMiss, TurnsComeNearer, begins_anew, is_counted, stands_at}
-use Rattle.mmu_core.specs.machine.Turns.{outcome_of}
+use Rattle.mmu_core.specs.machine.Turns.{line_of, outcome_of}
 use Rattle.mmu_core.specs.machine.View.{answer_in, hand_after, view, word_in}
 use Rattle.mmu_core.specs.machine.Worlds.{IsStart, Reachable}
 use Rattle.mmu_core.proofs.machine.Extend.{legal-append}
@@ -133,30 +133,30 @@ module _ (z : Sizes) (lines : List Line) (start : World Held) (ss : List (Step K
       by (inr lost) = record { gfn = M.gfn; word = M.word; op = M.op; at = at; access_is = command; misses = M.leaves; lost = lost }
 
   -- It leaves fewer steps, where it finds a translation.
-  nearer : line_waits stood h.topics v ≡ false → begins_anew stood ≡ false → misses v ≡ false → (p : Place) → outcome_of h v ≡ Goes p → hand_left (hand_in mmu (effect mmu w s) s.actor) < hand_left h
+  nearer : line_waits stood line.command h v ≡ false → begins_anew stood ≡ false → misses v ≡ false → (p : Place) → outcome_of h v ≡ Goes p → hand_left (hand_in mmu (effect mmu w s) s.actor) < hand_left h
   nearer goes on finds p out =
-      let none : delays_at stood line.command h x ≡ false = none_of (line_waits stood h.topics x) (begins_anew stood) (misses x) (ap (line_waits stood h.topics) (sym T.answers) ∙ goes) on (ap misses (sym T.answers) ∙ finds) in
+      let none : delays_at stood line.command h x ≡ false = none_of (line_waits stood line.command h x) (begins_anew stood) (misses x) (ap (line_waits stood line.command h) (sym T.answers) ∙ goes) on (ap misses (sym T.answers) ∙ finds) in
       subst (λ (g : Held). hand_left g < hand_left h) (sym (hand_behind z w s G may has))
       (nearer_hand (hand_after line line.command stood h x) (outcome_at stood line.command h x) p h.state.sizes (steps_left stood h.state.sizes h.topics) (hand_left h) (ap (outcome_at stood line.command h) (sym T.answers) ∙ out) refl (same_sizes z w s G may has)
       (stood_left z w s G may has) (nearer_here z w s G may has none))
 
-  turn : line_waits stood h.topics v ≡ false → begins_anew stood ≡ false → (p : Place) → outcome_of h v ≡ Goes p → (hand_left (hand_in mmu (effect mmu w s) s.actor) < hand_left h) ⊎ StayMisses z start ss s
+  turn : line_waits stood line.command h v ≡ false → begins_anew stood ≡ false → (p : Place) → outcome_of h v ≡ Goes p → (hand_left (hand_in mmu (effect mmu w s) s.actor) < hand_left h) ⊎ StayMisses z start ss s
   turn goes on p out = by (misses v) refl
     where
       by : (b : Bool) → misses v ≡ b → (hand_left (hand_in mmu (effect mmu w s) s.actor) < hand_left h) ⊎ StayMisses z start ss s
       by true is = inr (miss_is is)
       by false is = inl (nearer goes on is p out)
 
-  delay : is_counted w s ≡ true → (line_waits h.state.place h.topics v ≡ true) ⊎ (begins_anew h.state.place ≡ true) ⊎ StayMisses z start ss s
-  delay counts = by (one_of (line_waits stood h.topics v) (begins_anew stood) (misses v) counts)
+  delay : is_counted w s ≡ true → (line_waits h.state.place line.command h v ≡ true) ⊎ (begins_anew h.state.place ≡ true) ⊎ StayMisses z start ss s
+  delay counts = by (one_of (line_waits stood line.command h v) (begins_anew stood) (misses v) counts)
     where
-      two : WaitsOrBegins h.state.place h.topics v → (line_waits h.state.place h.topics v ≡ true) ⊎ (begins_anew h.state.place ≡ true) ⊎ StayMisses z start ss s
+      two : WaitsOrBegins h.state.place line.command h v → (line_waits h.state.place line.command h v ≡ true) ⊎ (begins_anew h.state.place ≡ true) ⊎ StayMisses z start ss s
       two (inl waits) = inl waits
       two (inr anew) = inr (inl anew)
 
-      by : (line_waits stood h.topics v ≡ true) ⊎ (begins_anew stood ≡ true) ⊎ (misses v ≡ true) → (line_waits h.state.place h.topics v ≡ true) ⊎ (begins_anew h.state.place ≡ true) ⊎ StayMisses z start ss s
-      by (inl waits) = two (where_it_stands h.state.place h.state.sizes h.slots line.command h.topics v (inl waits))
-      by (inr (inl anew)) = two (where_it_stands h.state.place h.state.sizes h.slots line.command h.topics v (inr anew))
+      by : (line_waits stood line.command h v ≡ true) ⊎ (begins_anew stood ≡ true) ⊎ (misses v ≡ true) → (line_waits h.state.place line.command h v ≡ true) ⊎ (begins_anew h.state.place ≡ true) ⊎ StayMisses z start ss s
+      by (inl waits) = two (where_it_stands h.state.place h.state.sizes h.slots line.command h v (inl waits))
+      by (inr (inl anew)) = two (where_it_stands h.state.place h.state.sizes h.slots line.command h v (inr anew))
       by (inr (inr is)) = inr (inr (miss_is is))
 
 pub turns_come_nearer : TurnsComeNearer
@@ -176,7 +176,7 @@ of_reachable P so w s r may =
 
 abbrev ComesNearer : World Held → Step Kind → Type 0
 ComesNearer w s =
-    has_line (hand_in mmu w s.actor) ≡ true → line_waits (stands_at w s) (hand_in mmu w s.actor).topics (answered mmu w s.kind) ≡ false → begins_anew (stands_at w s) ≡ false
+    has_line (hand_in mmu w s.actor) ≡ true → line_waits (stands_at w s) (line_of (hand_in mmu w s.actor)).command (hand_in mmu w s.actor) (answered mmu w s.kind) ≡ false → begins_anew (stands_at w s) ≡ false
     → (p : Place) → outcome_of (hand_in mmu w s.actor) (answered mmu w s.kind) ≡ Goes p → hand_left (hand_in mmu (effect mmu w s) s.actor) < hand_left (hand_in mmu w s.actor)
 
 pub turns_nearer : (w : World Held) (s : Step Kind) → Reachable w → May mmu w s → ComesNearer w s
@@ -187,7 +187,7 @@ turns_nearer = of_reachable ComesNearer (λ z lines start ss s is_start legal ha
     by z start ss s (inr M) = absurd (no_stay_misses z start ss s M)
 
 abbrev WaitsOrBeginsAnew : World Held → Step Kind → Type 0
-WaitsOrBeginsAnew w s = has_line (hand_in mmu w s.actor) ≡ true → is_counted w s ≡ true → WaitsOrBegins (hand_in mmu w s.actor).state.place (hand_in mmu w s.actor).topics (answered mmu w s.kind)
+WaitsOrBeginsAnew w s = has_line (hand_in mmu w s.actor) ≡ true → is_counted w s ≡ true → WaitsOrBegins (hand_in mmu w s.actor).state.place (line_of (hand_in mmu w s.actor)).command (hand_in mmu w s.actor) (answered mmu w s.kind)
 
 pub delays_wait_or_begin_anew : (w : World Held) (s : Step Kind) → Reachable w → May mmu w s → WaitsOrBeginsAnew w s
 delays_wait_or_begin_anew = of_reachable WaitsOrBeginsAnew (λ z lines start ss s is_start legal has counts. by z start ss s (delays_wait_begin_anew_or_miss z lines start ss s is_start legal has counts))

@@ -1,5 +1,5 @@
 -- Each step of a slot setting that doesn't wait leaves it fewer steps, beside other actors too.
-use Rattle.std.proofs.Common.{◌≡◌, ◌+◌, ◌-◌, ◌<◌, ℕ, refl, arith, sym, subst}
+use Rattle.std.proofs.Common.{◌≡◌, ◌+◌, ◌-◌, ◌<◌, ℕ, refl, arith, sym, subst, ◌∙◌}
 use Rattle.std.specs.Prelude.{Bool, true, false, ◌==◌, ◌&&◌, nat_lt, not, if◌then◌else◌, Some, None, Option}
 use Rattle.core_views.specs.declared.answer.Answer.TheVariants.{Starved}
 use Rattle.core_views.specs.declared.place.Place.TheVariants as place
@@ -19,11 +19,13 @@ use Rattle.mmu_core.specs.declared.watch.WatchNext.{WatchNext}
 use Rattle.mmu_core.specs.declared.watch.WatchNext.TheVariants as watches
 use Rattle.mmu_core.specs.lines.Bounds.{set_slot_left, steps_left}
 use Rattle.mmu_core.specs.lines.ClaimSteps.{claim_left, claim_next, claim_part}
+use Rattle.mmu_core.specs.lines.FaultSteps.{map_word, tries_page}
+use Rattle.mmu_core.specs.lines.PartWaits.{part_waits}
 use Rattle.part_steps.specs.PartBounds.{PartRests}
 use Rattle.part_steps.specs.PartSteps.{HasToFill, own_index, words_filled}
 use Rattle.part_steps.specs.PartTopics.{part_topics}
 use Rattle.mmu_core.specs.lines.SetSlotKnows.{SetSlotKnows}
-use Rattle.mmu_core.specs.lines.SetSlotSteps.{looked_at, set_slot_outcome, set_slot_part, set_slot_waits, after_claim, after_watch, watch_next}
+use Rattle.mmu_core.specs.lines.SetSlotSteps.{looked_at, set_slot_outcome, set_slot_part, after_claim, after_watch, watch_next}
 use Rattle.part_steps.specs.TopicSteps.{filled_more, in_section, is_won}
 use Rattle.mmu_core.proofs.pages.Owned.{more_filled}
 use Rattle.mmu_core.proofs.lines.ClaimMade.{claim_falls, claim_made, claim_left_after, word_there}
@@ -63,7 +65,7 @@ watch_nearer : (next : WatchNext) (y : Sizes) (u : Topics) (n : ℕ) → watch_l
 watch_nearer watches.Last y u n less = omega arith
 watch_nearer _ y u n less = omega (arith, less)
 
-pub set_slot_nearer : (p : SetSlotPlace) (h : Held) (id : ℕ) (slot : Slot) (v : ℕ) → PartRests h → SetSlotKnows p h → set_slot_waits p h.topics v ≡ false
+pub set_slot_nearer : (p : SetSlotPlace) (h : Held) (id : ℕ) (slot : Slot) (v : ℕ) → PartRests h → SetSlotKnows p h → part_waits (set_slot_part p h id slot) h.topics v ≡ false
     → Nearer (set_slot_outcome p h v) h.state.sizes (part_topics (set_slot_part p h id slot) h.topics v) (set_slot_left p h.state.sizes h.topics)
 set_slot_nearer (Refuse refusal) h id slot v R K goes = tt
 set_slot_nearer (Claim begun) h id slot v R K goes =
@@ -72,7 +74,7 @@ set_slot_nearer (Claim begun) h id slot v R K goes =
 set_slot_nearer Fill h id slot v R K goes = fill_nearer (nat_lt (words_filled h.topics.owned + 1) 512) h.state.sizes h.topics v K.1
 set_slot_nearer Exclude h id slot v R K goes = excluded_nearer (v == 0) h.state.sizes (part_topics part.Exclude h.topics v) goes
 set_slot_nearer Count h id slot v R K goes = either (v == 0) Publish Close h.state.sizes (part_topics part.Count h.topics v) (6 + actors_of h.state.sizes) (omega arith) (omega arith)
-set_slot_nearer Close h id slot v R K goes = absurd (cc goes)
+set_slot_nearer Close h id slot v R K goes = let sees = K.2 in absurd (cc (goes, sees))
 set_slot_nearer Watch h id slot v R K goes =
     watch_nearer (watch_next h v) h.state.sizes (part_topics (part.Watch (looked_at h)) h.topics v) (actors_of h.state.sizes - h.topics.watched) (watch_falls (own_index h) (actors_of h.state.sizes) h.topics v _ _ (watch_made h v) goes K.2)
 set_slot_nearer Give h id slot v R K goes = tt

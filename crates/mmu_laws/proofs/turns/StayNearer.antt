@@ -32,14 +32,15 @@ use Rattle.mmu_core.specs.declared.outcome.Outcome.TheVariants.{Goes}
 use Rattle.mmu_core.specs.lines.AccessSteps.{access_note, access_outcome, access_part, access_task, behind_fault, pause_next, walk_next}
 use Rattle.mmu_core.specs.lines.Bounds.{access_left, set_slot_left, stay_left, steps_left}
 use Rattle.mmu_core.specs.lines.Cached.{first_usable}
-use Rattle.mmu_core.specs.lines.Delays.{begins_anew, is_delay, leaves_to_fault, line_waits, walks_again}
+use Rattle.mmu_core.specs.lines.Delays.{begins_anew, is_delay, leaves_to_fault, walks_again}
 use Rattle.mmu_core.specs.lines.FaultSteps.{allows_access, fault_left, fault_next, fault_part, next_left}
 use Rattle.mmu_core.specs.lines.KnowsPart.{AccessKnows, KnowsPart}
+use Rattle.mmu_core.specs.lines.PartWaits.{part_waits}
 use Rattle.part_steps.specs.PartBounds.{PartRests}
 use Rattle.part_steps.specs.PartSteps.{entry_index, own_index}
 use Rattle.part_steps.specs.PartTopics.{part_topics}
 use Rattle.mmu_core.specs.lines.Rests.{IsUnderWay}
-use Rattle.mmu_core.specs.lines.SetSlotSteps.{set_slot_note, set_slot_outcome, set_slot_part, set_slot_task, set_slot_waits}
+use Rattle.mmu_core.specs.lines.SetSlotSteps.{set_slot_note, set_slot_outcome, set_slot_part, set_slot_task}
 use Rattle.mmu_core.specs.machine.Steps.{delays_at, outcome_at, task_at}
 use Rattle.part_steps.specs.Tasks.{map_of}
 use Rattle.part_steps.specs.TopicSteps.{at_root, gone_down, linked_page, may_walk}
@@ -110,8 +111,8 @@ fault_nearer (next_of.Ends (end_of.Retry cause)) y u left on less = absurd on
 
 -- ---- each place
 
-module _ (h : Held) (gfn : ℕ) (op : Op) (v : ℕ) (small : gfn < 2 ^ 36) (R : PartRests h) where
-  access_nearer : (p : AccessPlace) → AccessKnows p gfn (is_write op) h → is_delay (place.Access p) h.topics (access_outcome p h gfn op v) v ≡ false
+module _ (h : Held) (gfn word : ℕ) (op : Op) (v : ℕ) (small : gfn < 2 ^ 36) (R : PartRests h) where
+  access_nearer : (p : AccessPlace) → AccessKnows p gfn (is_write op) h → is_delay (place.Access p) (Access gfn word op) h (access_outcome p h gfn op v) v ≡ false
       → Nearer (access_outcome p h gfn op v) h.state.sizes (behind_part (access_part p gfn h.topics) h.topics v) (access_left p h.state.sizes h.topics)
   access_nearer (Enter again) K on =
       let same : stay_left again h.state.sizes (behind_part (access_part (Enter again) gfn h.topics) h.topics v) ≡ stay_left again h.state.sizes h.topics = refl in
@@ -127,8 +128,8 @@ module _ (h : Held) (gfn : ℕ) (op : Op) (v : ℕ) (small : gfn < 2 ^ 36) (R : 
       omega (arith, same)
   access_nearer (Fault p) K on =
       let o : Outcome = access_outcome (Fault p) h gfn op v in
-      let goes = first_of_none (line_waits (place.Access (Fault p)) h.topics v) (begins_anew (place.Access (Fault p)) || (walks_again (place.Access (Fault p)) && leaves_to_fault o)) on in
-      let more = second_of_none (line_waits (place.Access (Fault p)) h.topics v) (begins_anew (place.Access (Fault p)) || (walks_again (place.Access (Fault p)) && leaves_to_fault o)) on in
+      let goes = first_of_none (part_waits (fault_part p gfn h.topics) h.topics v) (begins_anew (place.Access (Fault p)) || (walks_again (place.Access (Fault p)) && leaves_to_fault o)) on in
+      let more = second_of_none (part_waits (fault_part p gfn h.topics) h.topics v) (begins_anew (place.Access (Fault p)) || (walks_again (place.Access (Fault p)) && leaves_to_fault o)) on in
       fault_nearer (fault_next p h.state.sizes gfn (is_write op) h.topics v) h.state.sizes (part_topics (fault_part p gfn h.topics) h.topics v) (fault_left p h.state.sizes h.topics)
       (not_anew p h.state.sizes gfn (is_write op) h.topics v (first_of_none (begins_anew (place.Access (Fault p))) (walks_again (place.Access (Fault p)) && leaves_to_fault o) more)) (fault_falls p h gfn v (is_write op) small R K goes)
 
@@ -140,10 +141,10 @@ place_nearer (place.Access p) (Access gfn word op) z h words begun may R K needs
     let v : ℕ = answer_in (access_task p h gfn word op) words in
     let same : topics_at (place.Access p) (Access gfn word op) h words ≡ behind_part (access_part p gfn h.topics) h.topics v =
     task_topics (access_part p gfn h.topics) h (access_note p) op (content_index (map_of h.state.sizes) (frame_in h.state.leaf) word) v (access_needs p h gfn (is_write op) V.0 V.1 R K) in
-    subst (λ (t : Topics). Nearer (access_outcome p h gfn op v) h.state.sizes t (access_left p h.state.sizes h.topics)) (sym same) (access_nearer h gfn op v V.1 R p K on)
+    subst (λ (t : Topics). Nearer (access_outcome p h gfn op v) h.state.sizes t (access_left p h.state.sizes h.topics)) (sym same) (access_nearer h gfn word op v V.1 R p K on)
 place_nearer (place.SetSlot p) (SetSlot id slot) z h words begun may R K needs on =
     let step : PartStep = set_slot_part p h id slot in
     let v : ℕ = answer_in (set_slot_task p h id slot) words in
     subst (λ (t : Topics). Nearer (set_slot_outcome p h v) h.state.sizes t (set_slot_left p h.state.sizes h.topics))
-    (sym (part_topics_is h.state.sizes step (own_index h) h.topics (set_slot_note p h) v (is_there step h needs))) (set_slot_nearer p h id slot v R K (first_of_none (set_slot_waits p h.topics v) false on))
+    (sym (part_topics_is h.state.sizes step (own_index h) h.topics (set_slot_note p h) v (is_there step h needs))) (set_slot_nearer p h id slot v R K (first_of_none (part_waits step h.topics v) false on))
 place_nearer _ _ z h words begun may R K needs on = absurd K

@@ -8,7 +8,6 @@ use Rattle.core_views.specs.declared.place.AccessPlace.TheVariants.{Enter, Pause
 use Rattle.core_views.specs.declared.place.Place.{Place}
 use Rattle.core_views.specs.declared.place.Place.TheVariants as place
 use Rattle.core_views.specs.declared.sizes.Sizes.{Sizes}
-use Rattle.core_views.specs.declared.topics.Topics.{Topics}
 use Rattle.core_views.specs.declared.trace.Command.{Command}
 use Rattle.core_views.specs.declared.trace.Command.TheVariants.{Access, SetSlot}
 use Rattle.core_views.specs.declared.trace.Line.{Line}
@@ -17,6 +16,7 @@ use Rattle.core_views.specs.Refusals.{set_refusal}
 use Rattle.core_views.specs.Sizes.{AreSizes, actors_of}
 use Rattle.core_views.specs.SlotSets.{MemorySlots}
 use Rattle.core_views.specs.Slots.{is_write}
+use Rattle.core_views.specs.declared.trace.Slot.{Slot}
 use Rattle.core_views.specs.Traces.{IsCommandFor}
 use Rattle.spte_words.specs.declared.area.Area.{Area}
 use Rattle.spte_words.specs.declared.area.Area.TheVariants as area
@@ -41,6 +41,7 @@ use Rattle.mmu_core.specs.machine.Steps.{delays_at, first_place, has_line, line_
 use Rattle.mmu_core.specs.machine.Outcomes.{place_after}
 use Rattle.mmu_laws.specs.turns.Removal.{WalksInstalled}
 use Rattle.mmu_laws.specs.turns.TurnLaws.{begins_anew}
+use Rattle.mmu_core.specs.machine.Turns.{line_of, outcome_of}
 use Rattle.mmu_core.specs.machine.View.{View, answer_in, hand_after, view, word_in}
 use Rattle.mmu_laws.proofs.alone.AloneRuns.{standing_left}
 use Rattle.mmu_laws.proofs.alone.AloneStep.{is_leaf_here}
@@ -88,25 +89,25 @@ one_of false true c is = inr (inl refl)
 one_of false false c is = inr (inr is)
 
 -- No line begins with a delay: what is so of the place of its first step is so of the one at which it stands.
-begins_at_once : (o : Option Refusal) (t : Topics) (v : ℕ) → line_waits (place.SetSlot (set_slot_first o)) t v ≡ true → ⊥
-begins_at_once (Some refusal) t v is = cc is
-begins_at_once None t v is = cc is
+begins_at_once : (o : Option Refusal) (id : ℕ) (slot : Slot) (h : Held) (v : ℕ) → line_waits (place.SetSlot (set_slot_first o)) (SetSlot id slot) h v ≡ true → ⊥
+begins_at_once (Some refusal) id slot h v is = cc is
+begins_at_once None id slot h v is = cc is
 
-first_goes : (y : Sizes) (slots : MemorySlots) (c : Command) (t : Topics) (v : ℕ) → line_waits (first_place y slots c) t v ≡ true → ⊥
-first_goes y slots (Access gfn word op) t v is = cc is
-first_goes y slots (SetSlot id slot) t v is = begins_at_once (set_refusal y.pages id slot slots) t v is
+first_goes : (y : Sizes) (slots : MemorySlots) (c : Command) (h : Held) (v : ℕ) → line_waits (first_place y slots c) c h v ≡ true → ⊥
+first_goes y slots (Access gfn word op) h v is = cc is
+first_goes y slots (SetSlot id slot) h v is = begins_at_once (set_refusal y.pages id slot slots) id slot h v is
 
 first_no_end : (y : Sizes) (slots : MemorySlots) (c : Command) → begins_anew (first_place y slots c) ≡ true → ⊥
 first_no_end y slots (Access gfn word op) is = cc is
 first_no_end y slots (SetSlot id slot) is = cc is
 
-abbrev pub WaitsOrBegins : Place → Topics → ℕ → Type 0
-WaitsOrBegins p t v = (line_waits p t v ≡ true) ⊎ (begins_anew p ≡ true)
+abbrev pub WaitsOrBegins : Place → Command → Held → ℕ → Type 0
+WaitsOrBegins p c h v = (line_waits p c h v ≡ true) ⊎ (begins_anew p ≡ true)
 
-pub where_it_stands : (q : Place) (y : Sizes) (slots : MemorySlots) (c : Command) (t : Topics) (v : ℕ) → WaitsOrBegins (standing q y slots c) t v → WaitsOrBegins q t v
-where_it_stands place.Between y slots c t v (inl waits) = absurd (first_goes y slots c t v waits)
-where_it_stands place.Between y slots c t v (inr anew) = absurd (first_no_end y slots c anew)
-where_it_stands _ y slots c t v is = is
+pub where_it_stands : (q : Place) (y : Sizes) (slots : MemorySlots) (c : Command) (h : Held) (v : ℕ) → WaitsOrBegins (standing q y slots c) c h v → WaitsOrBegins q c h v
+where_it_stands place.Between y slots c h v (inl waits) = absurd (first_goes y slots c h v waits)
+where_it_stands place.Between y slots c h v (inr anew) = absurd (first_no_end y slots c anew)
+where_it_stands _ y slots c h v is = is
 
 -- ---- from world to world
 

@@ -1,0 +1,30 @@
+-- Which of a part's steps wait, where the step is one of two.
+use Rattle.std.proofs.Common.{◌≡◌, ℕ, refl, sym, ap, ◌∙◌}
+use Rattle.std.specs.Prelude.{Bool, true, false, ◌==◌, ◌&&◌, not, if◌then◌else◌}
+use Rattle.core_views.specs.declared.topics.Hold.{Hold}
+use Rattle.core_views.specs.declared.topics.Hold.TheVariants.{Owing}
+use Rattle.core_views.specs.declared.topics.Invalidations.{Invalidations}
+use Rattle.core_views.specs.declared.topics.Topics.{Topics}
+use Rattle.part_steps.specs.declared.part_step.PartStep.{PartStep}
+use Rattle.part_steps.specs.declared.part_step.PartStep.TheVariants as part
+use Rattle.part_steps.specs.TopicSteps.{is_won}
+use Rattle.mmu_core.specs.lines.FaultSteps.{share_part}
+use Rattle.mmu_core.specs.lines.PartWaits.{is_owing, part_waits, saw_open, was_counted}
+
+-- A try for the lock waits where it takes itself back.
+pub share_waits : (hold : Hold) (t : Topics) (v : ℕ) → t.hold ≡ hold → is_owing hold ≡ part_waits (share_part hold) t v
+share_waits (Owing word) t v is = sym (ap is_owing is)
+share_waits _ t v is = refl
+
+-- No step waits that is one of two which never wait.
+pub neither_waits : (b : Bool) (p q : PartStep) (t : Topics) (v : ℕ) → part_waits p t v ≡ false → part_waits q t v ≡ false → part_waits (if b then p else q) t v ≡ false
+neither_waits true p q t v one other = one
+neither_waits false p q t v one other = other
+
+-- The lock is given back for no invalidation where none was open.
+pub none_open : (n : Invalidations) → n.count ≡ 0 → saw_open n ≡ false
+none_open n none = ap (λ m. was_counted n.checked && not (m == 0)) none ∙ never (was_counted n.checked)
+  where
+    never : (b : Bool) → (b && false) ≡ false
+    never true = refl
+    never false = refl

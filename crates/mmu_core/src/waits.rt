@@ -1,0 +1,58 @@
+//! Which steps wait for another actor.
+ghost use Rattle.std.specs.Prelude.{◌≡◌, ◌<◌, Some};
+ghost use Rattle.mmu_core.specs.lines.Delays.{line_waits, waits_by};
+ghost use Rattle.mmu_core.specs.lines.PartWaits.{part_waits, saw_open};
+ghost use Rattle.mmu_core.specs.lines.Rests.{RestsAt};
+ghost use Rattle.part_steps.specs.declared.part_step.PartStep.TheVariants.{Claim};
+ghost use Rattle.part_steps.specs.PartBounds.{PartRests};
+
+use crate::step::part_of;
+use core_views::{Checked, Command, Hand, Hold, Invalidations, Place, Topics};
+use part_steps::{PartStep, in_section, is_won};
+
+// It saw that some are open.
+fn saw_open(invalidations: &Invalidations) -> bool
+    ensures { result ≡ saw_open invalidations.now }
+{
+    invalidations.checked == Checked::Count && invalidations.count != 0
+}
+
+/// The step waits for another actor: it takes back the try for the lock that
+/// found a writer, the page that it tries is gone, it finds the lock taken, it
+/// gives the lock back under which it saw invalidations open, or it finds another
+/// actor in the guest or in a section.
+pub fn part_waits(step: PartStep, topics: &Topics, found: u64) -> bool
+    requires seen { step ≡ Claim → 0 < topics.now.claim.seen }
+    ensures { result ≡ part_waits step topics.now found }
+{
+    match step {
+        PartStep::Unshare => matches!(topics.hold, Hold::Owing(_)),
+        PartStep::Claim => !is_won(&topics.claim, found),
+        PartStep::Exclude => found != 0,
+        PartStep::Release => saw_open(&topics.invalidations),
+        PartStep::Watch(_) => in_section(found),
+        _ => false,
+    }
+}
+
+/// The step of a line waits, which is the step of a part or none; the touch of a
+/// content word never does.
+pub fn waits_by(step: Option<PartStep>, topics: &Topics, found: u64) -> bool
+    requires seen { step ≡ Some Claim → 0 < topics.now.claim.seen }
+    ensures { result ≡ waits_by step topics.now found }
+{
+    match step {
+        Some(step) => part_waits(step, topics, found),
+        None => false,
+    }
+}
+
+/// The step of a line waits for another actor, where it found this: it is the
+/// step of a part that waits, whatever the line is.
+pub(crate) fn line_waits(place: Place, command: &Command, hand: &Hand, found: u64) -> bool
+    requires part { PartRests hand.now.core }
+    requires rests { RestsAt place command.now hand.now.core }
+    ensures { result ≡ line_waits place command.now hand.now.core found }
+{
+    waits_by(part_of(place, command, hand), hand.topics(), found)
+}
