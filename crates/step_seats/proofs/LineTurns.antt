@@ -17,8 +17,7 @@ use Rattle.core_views.specs.declared.topics.Topics.{Topics}
 use Rattle.mmu_core.specs.declared.outcome.Outcome.{Outcome}
 use Rattle.mmu_core.specs.declared.outcome.Outcome.TheVariants as outcome
 use Rattle.mmu_core.specs.declared.claim.ClaimNext.{ClaimNext}
-use Rattle.mmu_core.specs.lines.ClaimSteps.{claim_waits}
-use Rattle.mmu_core.specs.lines.FaultSteps.{at_map_word, map_word, tries_page}
+use Rattle.mmu_core.specs.lines.FaultSteps.{map_word, tries_page}
 use Rattle.mmu_core.specs.lines.Bounds.{steps_left}
 use Rattle.mmu_core.specs.alone.LineAlone.{hand_left, line_waits}
 use Rattle.step_seats.specs.declared.turn.Turn.{Turn}
@@ -47,7 +46,7 @@ use Rattle.step_seats.specs.Where.{Told}
 use Rattle.step_seats.specs.LineTurns.{Gives, MakesLine, Says, TurnsLine, fault_turn, line_seen, line_turn, turn_of}
 use Rattle.mmu_core.proofs.lines.ClaimMade.{ClaimMade, claim_made}
 use Rattle.mmu_core.proofs.lines.ClaimMade as made
-use Rattle.mmu_core.specs.lines.SetSlotSteps.{after_claim, set_slot_outcome, set_slot_waits, claim_outcome, set_slot_part}
+use Rattle.mmu_core.specs.lines.SetSlotSteps.{after_claim, set_slot_outcome, set_slot_part}
 use Rattle.mmu_core.specs.lines.PartWaits.{part_waits}
 use Rattle.core_views.specs.declared.place.SetSlotPlace.{SetSlotPlace}
 use Rattle.core_views.specs.declared.place.SetSlotPlace.TheVariants as set_slot
