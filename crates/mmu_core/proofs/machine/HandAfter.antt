@@ -15,7 +15,7 @@ use Rattle.core_views.specs.Held.{Held}
 use Rattle.mmu_core.specs.declared.outcome.Outcome.{Outcome}
 use Rattle.mmu_core.specs.declared.outcome.Outcome.TheVariants.{Goes, Ends}
 use Rattle.mmu_core.specs.lines.AccessSteps.{access_loads}
-use Rattle.mmu_core.specs.machine.Steps.{has_line, held_after, line_at, loads_at, next, next_by, outcome_at, place_at}
+use Rattle.mmu_core.specs.machine.Steps.{has_line, held_after, line_at, loads_at, next, next_by, place_at}
 use Rattle.mmu_core.proofs.lines.Forms.{outcome_goes}
 use Rattle.mmu_core.proofs.machine.GoesOn.{GoesUnderWay}
 use Rattle.mmu_core.proofs.machine.Stepping.{is_begun}

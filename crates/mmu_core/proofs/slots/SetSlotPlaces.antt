@@ -29,11 +29,13 @@ use Rattle.mmu_core.proofs.slots.LiveStays.{OwnedStays}
 
 -- ---- where it goes on to
 
-claim_goes : (tries : Bool) (z : Sizes) (claim : MapClaim) (v : ℕ) → GoesUnderWay (claim_outcome tries z claim v) × GoesToNoAccess (claim_outcome tries z claim v)
+claim_goes : (tries : Bool) (z : Sizes) (claim : MapClaim) (v : ℕ)
+    → GoesUnderWay (claim_outcome tries z claim v) × GoesToNoAccess (claim_outcome tries z claim v)
 claim_goes true z claim v = (tt, tt)
 claim_goes false z claim v = by (nat_lt (claim.at + (if v == 0 then 1 else 0)) (words_of_bits z.pool))
   where
-    by : (b : Bool) → GoesUnderWay (if b then Goes (place.SetSlot (Claim true)) else Ends Starved) × GoesToNoAccess (if b then Goes (place.SetSlot (Claim true)) else Ends Starved)
+    by : (b : Bool)
+        → GoesUnderWay (if b then Goes (place.SetSlot (Claim true)) else Ends Starved) × GoesToNoAccess (if b then Goes (place.SetSlot (Claim true)) else Ends Starved)
     by true = (tt, tt)
     by false = (tt, tt)
 
@@ -44,7 +46,8 @@ set_slot_goes _ h v = (tt, tt)
 -- ---- what it has loaded
 
 -- Where it begins it has loaded nothing.
-pub set_slot_begins : (z : Sizes) (pool host : ℕ → ℕ) (set id : ℕ) (slot : SlotOf) (h : Held) (r : Option Refusal) → set_refusal z.pages id slot h.slots ≡ r → Holds z pool host set (place.SetSlot (set_slot_first r)) (SetSlot id slot) h
+pub set_slot_begins : (z : Sizes) (pool host : ℕ → ℕ) (set id : ℕ) (slot : SlotOf) (h : Held) (r : Option Refusal) → set_refusal z.pages id slot h.slots ≡ r
+    → Holds z pool host set (place.SetSlot (set_slot_first r)) (SetSlot id slot) h
 set_slot_begins z pool host set id slot h None is = is
 set_slot_begins z pool host set id slot h (Some refusal) is = is
 
@@ -64,7 +67,8 @@ module _ (z : Sizes) (before after : ℕ → ℕ) (h : Held) (own : OwnedStays b
 
 -- ---- what the record accepts
 
-pub setting_accepts : (p : SetSlotPlace) (id : ℕ) (slot : SlotOf) (z : Sizes) (pool : ℕ → ℕ) (h : Held) → SetSlotHolds z pool p id slot h → RecordAccepts p z.pages id slot h.slots
+pub setting_accepts : (p : SetSlotPlace) (id : ℕ) (slot : SlotOf) (z : Sizes) (pool : ℕ → ℕ) (h : Held) → SetSlotHolds z pool p id slot h
+    → RecordAccepts p z.pages id slot h.slots
 setting_accepts Publish id slot z pool h e = e.accepted
 setting_accepts _ id slot z pool h e = tt
 
