@@ -8,7 +8,7 @@ use Rattle.core_views.specs.Sizes.{actors_of, index_of}
 use Rattle.spte_words.specs.declared.area.Area.TheVariants as area
 use Rattle.mmu_core.specs.machine.Enabled.{mmu}
 use Rattle.mmu_core.specs.invariant.Laws.{IsSound}
-use Rattle.mmu_core.specs.machine.Machine.{May, World, effect, hand_in, run, Step}
+use Rattle.mmu_core.specs.machine.Machine.{May, World, effect, hand_in, run}
 use Rattle.mmu_core.specs.invariant.PoolPart.{is_free}
 use Rattle.mmu_core.specs.machine.View.{word_in}
 use Rattle.mmu_core.specs.invariant.TopicsInvariant.{HoldsOld}
@@ -28,7 +28,6 @@ use Rattle.std.proofs.lemmas.Bool.Decides.{nat_tests}
 use Rattle.part_steps.specs.PartSteps.{MayGiveOld, next_watched, own_index}
 use Rattle.core_views.specs.Kinds.{code_of}
 use Rattle.core_views.specs.declared.kind.StepKind.TheVariants as kind
-use Rattle.core_views.specs.declared.kind.Kind.{Kind}
 
 module _ (z : Sizes) (u : World Held) (G : IsSound z u) where
   abbrev map : ℕ → ℕ

@@ -63,21 +63,25 @@ use Rattle.core_theorem.proofs.Runs.{before, last_actor, may_last, sound}
 -- ---- where a page is given back
 
 -- A page is given back while one is leaving: this one, at the last place of a slot line, after the watch.
-pub gives_old : (z : Sizes) (u : World Held) (G : IsSound z u) (s : Step Kind) (page : ℕ) → s.actor < actors_of z → May mmu u s → s.kind.code ≡ code_of kind.Give → (hand_in mmu u s.actor).topics.leaving ≡ Some page
+pub gives_old : (z : Sizes) (u : World Held) (G : IsSound z u) (s : Step Kind) (page : ℕ) → s.actor < actors_of z → May mmu u s
+    → s.kind.code ≡ code_of kind.Give → (hand_in mmu u s.actor).topics.leaving ≡ Some page
     → ((hand_in mmu u s.actor).state.place ≡ place.SetSlot Give) × MayGiveOld (hand_in mmu u s.actor)
-gives_old z u G s page there may gives left = by h.state.place h.state.line.command refl refl (G.holds.knows s.actor there) (G.holds.leaves s.actor there) (G.holds.lines s.actor there).under
+gives_old z u G s page there may gives left =
+    by h.state.place h.state.line.command refl refl (G.holds.knows s.actor there) (G.holds.leaves s.actor there) (G.holds.lines s.actor there).under
   where
     h : Held
     h = hand_in mmu u s.actor
 
-    old : (p : SetSlotPlace) (id : ℕ) (slot : Slot) → SetSlotKnows p h → LeavesPart (place.SetSlot p) h.topics → code_of (set_slot_task p h id slot).kind ≡ code_of kind.Give → (place.SetSlot p ≡ place.SetSlot Give) × MayGiveOld h
+    old : (p : SetSlotPlace) (id : ℕ) (slot : Slot) → SetSlotKnows p h → LeavesPart (place.SetSlot p) h.topics
+        → code_of (set_slot_task p h id slot).kind ≡ code_of kind.Give → (place.SetSlot p ≡ place.SetSlot Give) × MayGiveOld h
     old Give id slot K L e = (refl, K.1)
     old Release id slot K L e = absurd (omega (arith, e))
     old Watch id slot K L e = absurd (omega (arith, e))
     old Clear id slot K L e = absurd (omega (arith, e))
     old _ id slot K L e = let none = L refl in absurd (cc (none, left))
 
-    by : (p : Place) (c : Command) → h.state.place ≡ p → h.state.line.command ≡ c → KnowsPart p c h → LeavesPart p h.topics → UnderWay p h → (h.state.place ≡ place.SetSlot Give) × MayGiveOld h
+    by : (p : Place) (c : Command) → h.state.place ≡ p → h.state.line.command ≡ c → KnowsPart p c h → LeavesPart p h.topics → UnderWay p h
+        → (h.state.place ≡ place.SetSlot Give) × MayGiveOld h
     by (place.SetSlot p) (SetSlot id slot) at is K L U =
         let N = is_next h s.kind may.enabled (has_line_is h U.1) in
         let task : task_of h ≡ set_slot_task p h id slot = ap (λ q. task_at (place_at q h) (line_at q h).command h) at ∙ ap (λ c. task_at (place.SetSlot p) c h) is in
@@ -143,7 +147,8 @@ abbrev IsOfOtherForm : Command → Type 0
 IsOfOtherForm (SetSlot id slot) = ⊥
 IsOfOtherForm _ = Unit {0}
 
-other_cleared : (role : ℕ → ℕ) (p : Place) (c command : Command) (h : Held) → IsOfOtherForm command → c ≡ command → KnowsPart p c h → PlaceCleared role p h.topics
+other_cleared : (role : ℕ → ℕ) (p : Place) (c command : Command) (h : Held) → IsOfOtherForm command → c ≡ command → KnowsPart p c h
+    → PlaceCleared role p h.topics
 other_cleared role (place.SetSlot p) (SetSlot id slot) command h other is K = absurd (subst IsOfOtherForm (sym is) other)
 other_cleared role (place.SetSlot p) _ command h other is K = absurd K
 other_cleared role _ c command h other is K = tt

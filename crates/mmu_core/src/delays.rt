@@ -63,7 +63,7 @@ fn counted(place: Place, count: u64) -> u64
 {
     match place {
         Place::Between => 0,
-        Place::Access(_) | Place::SetSlot(_) => count,
+        _ => count,
     }
 }
 

@@ -157,6 +157,6 @@ pub fn setting_place(hand: &Hand, id: u64, slot: &Slot) -> SetSlotPlace
     match hand.state().place {
         Place::Between => first(&hand.state().sizes, hand.slots(), id, slot),
         Place::SetSlot(place) => place,
-        Place::Access(_) => unreachable!(),
+        _ => unreachable!(),
     }
 }

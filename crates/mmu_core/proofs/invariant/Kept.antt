@@ -28,10 +28,12 @@ use Rattle.mmu_core.proofs.machine.PartStepping.{IsPart}
 use Rattle.mmu_core.proofs.slots.SetFilled.{setting_replaces}
 
 -- The step of a part that a slot setting makes at its place is one that its actor may make.
-pub makes_setting : (z : Sizes) (v : View) (a : ℕ) (line : Line) (p : SetSlotPlace) (id : ℕ) (slot : Slot) → AreSmall v → IsStep z v a line (SetSlot id slot) (place.SetSlot p) → Invariant z v → TopicsInvariant z v
+pub makes_setting : (z : Sizes) (v : View) (a : ℕ) (line : Line) (p : SetSlotPlace) (id : ℕ) (slot : Slot) → AreSmall v
+    → IsStep z v a line (SetSlot id slot) (place.SetSlot p) → Invariant z v → TopicsInvariant z v
     → IsPart z v a (set_slot_part p (v.hand a) id slot)
 makes_setting z v a line p id slot small S I P =
-    may_make z v a (set_slot_part p (v.hand a) id slot) small I P S.there (needs_at z v a line (SetSlot id slot) (place.SetSlot p) S I P) (setting_replaces z v a line p id slot S I)
+    may_make z v a (set_slot_part p (v.hand a) id slot) small I P S.there (needs_at z v a line (SetSlot id slot) (place.SetSlot p) S I P)
+    (setting_replaces z v a line p id slot S I)
 
 -- The step of a part that a line makes at a place is one that its actor may make.
 abbrev pub MakesAt : Sizes → View → ℕ → Place → Command → Type 0
@@ -40,10 +42,12 @@ MakesAt z v a p command = (step : PartStep) → part_at p command (v.hand a) ≡
 same_step : {s step : PartStep} → Some s ≡ Some step → s ≡ step
 same_step e = cc e
 
-pub makes_at : (z : Sizes) (v : View) (a : ℕ) (line : Line) (command : Command) (p : Place) → AreSmall v → IsStep z v a line command p → Invariant z v → TopicsInvariant z v → MakesAt z v a p command
+pub makes_at : (z : Sizes) (v : View) (a : ℕ) (line : Line) (command : Command) (p : Place) → AreSmall v → IsStep z v a line command p → Invariant z v
+    → TopicsInvariant z v → MakesAt z v a p command
 makes_at z v a line command place.Between small S I P = absurd S.begun
 makes_at z v a line (Access gfn word op) (place.Access p) small S I P = makes_parts z v a line p gfn word op small S I P
-makes_at z v a line (SetSlot id slot) (place.SetSlot p) small S I P = λ step is. subst (IsPart z v a) (same_step is) (makes_setting z v a line p id slot small S I P)
+makes_at z v a line (SetSlot id slot) (place.SetSlot p) small S I P =
+    λ step is. subst (IsPart z v a) (same_step is) (makes_setting z v a line p id slot small S I P)
 makes_at z v a line _ _ small S I P = absurd S.holds
 
 -- At a place of another form than an access a line rests on what its step needs.
@@ -62,7 +66,8 @@ step_kept z v a line (SetSlot id slot) (place.SetSlot p) small S I P = set_slot_
 step_kept z v a line _ _ small S I P = absurd S.holds
 
 -- The hand for which a page leaves is the manager's.
-pub leaver_is_manager : (z : Sizes) (i k : ℕ) (h : Held) → OwnLines z i h → KnowsPart h.state.place h.state.line.command h → LeavesPart h.state.place h.topics → h.topics.leaving ≡ Some k → h.state.actor ≡ Manager
+pub leaver_is_manager : (z : Sizes) (i k : ℕ) (h : Held) → OwnLines z i h → KnowsPart h.state.place h.state.line.command h → LeavesPart h.state.place h.topics
+    → h.topics.leaving ≡ Some k → h.state.actor ≡ Manager
 leaver_is_manager z i k h O K L leaves = by h.state.place h.state.line.command refl refl K L
   where
     by : (p : Place) (c : Command) → h.state.place ≡ p → h.state.line.command ≡ c → KnowsPart p c h → LeavesPart p h.topics → h.state.actor ≡ Manager

@@ -6,7 +6,7 @@ use Rattle.std.proofs.Props.{props}
 use Rattle.std.proofs.lemmas.Bool.{cases_lt}
 use Rattle.std.proofs.lemmas.Bool.Decides.{nat_tests}
 use Rattle.core_views.specs.declared.actor.Actor.{Actor}
-use Rattle.core_views.specs.declared.actor.Actor.TheVariants.{Vcpu, Host, Manager, Worker}
+use Rattle.core_views.specs.declared.actor.Actor.TheVariants.{Vcpu, Host}
 use Rattle.core_views.specs.declared.place.AccessPlace.{AccessPlace}
 use Rattle.core_views.specs.declared.place.AccessPlace.TheVariants.{Enter, Walk, Touch, Leave, Fault}
 use Rattle.core_views.specs.declared.place.Place.{Place}
@@ -24,7 +24,6 @@ use Rattle.core_views.specs.declared.trace.Op.TheVariants.{Read}
 use Rattle.core_views.specs.declared.trace.Slot.{Slot as SlotOf}
 use Rattle.core_views.specs.Held.{Held}
 use Rattle.core_views.specs.Sizes.{AreSizes, actors_of}
-use Rattle.core_views.specs.SlotSets.{MemorySlots}
 use Rattle.core_views.specs.Slots.{is_write}
 use Rattle.core_views.specs.Traces.{IsCommandFor}
 use Rattle.spte_words.specs.declared.area.Area.TheVariants as area
@@ -108,7 +107,9 @@ hand_rests z v a I P there left =
       part = R;
       line = subst (λ (y : Sizes). IsCommandFor y line.actor line.command) (sym same) S.allowed;
       at = rests_at p line.command z v h I same (subst (λ (x : Actor). IsCommandFor z x line.command) S.own S.allowed) R (step_knows z v a line line.command p S I) S.holds (needs_at z v a line line.command p S I P);
-      accepts = subst (λ (y : Sizes). AcceptsAt p line.command y h.slots) (sym same) (accepts_at p line.command z (v.words area.Pool) (v.words area.Host) (v.words area.Slots 0) h S.holds);
+      accepts =
+          subst (λ (y : Sizes). AcceptsAt p line.command y h.slots) (sym same)
+          (accepts_at p line.command z (v.words area.Pool) (v.words area.Host) (v.words area.Slots 0) h S.holds);
     }
 
 -- What a line rests on holds where there merely is a world that shows it: each part of it has at most one proof, or can be decided.

@@ -30,9 +30,12 @@ access_step : (s : Option PartStep) (h : Held) (note gfn word : ℕ) (op : Op) �
 access_step None h note gfn word op R = Touches gfn word op refl R
 access_step (Some step) h note gfn word op R = Makes step note R
 
-other_step : (p : Place) (command : Command) (h : Held) → (RestsAt p command h → ⊥) ⊎ RestsOnPart p command h → RestsAt p command h → StepAt command h (task_at p command h)
+other_step : (p : Place) (command : Command) (h : Held) → (RestsAt p command h → ⊥) ⊎ RestsOnPart p command h → RestsAt p command h
+    → StepAt command h (task_at p command h)
 other_step p command h (inl never) R = absurd (never R)
-other_step p command h (inr P) R = subst (λ (s : Option PartStep). StepAt command h (task_by s h (note_at p command h) (touch_at command h))) (sym P.at) (Makes P.step (note_at p command h) (P.needs R))
+other_step p command h (inr P) R =
+    subst (λ (s : Option PartStep). StepAt command h (task_by s h (note_at p command h) (touch_at command h))) (sym P.at)
+    (Makes P.step (note_at p command h) (P.needs R))
 
 pub step_at : (p : Place) (command : Command) (h : Held) → RestsAt p command h → StepAt command h (task_at p command h)
 step_at (place.Access p) (Access gfn word op) h R = access_step (access_part p gfn h.topics) h (access_note p) gfn word op R

@@ -1,5 +1,5 @@
 -- What is so of the lines of every form: the one place where it is told by the form. A form of line writes a clause in each of these.
-use Rattle.std.proofs.Common.{◌≡◌, ◌⊎◌, inl, inr, ◌≤◌, ◌+◌, ℕ, refl, arith}
+use Rattle.std.proofs.Common.{◌≡◌, ◌⊎◌, inl, inr, ◌≤◌, ℕ, refl, arith}
 use Rattle.std.proofs.Props.{props}
 use Rattle.std.specs.Prelude.{Some}
 use Rattle.core_views.specs.declared.place.AccessPlace.{AccessPlace}
@@ -105,7 +105,8 @@ module _ (z : Sizes) (before : ℕ → ℕ) (set : ℕ) (after : ℕ → ℕ) (o
 
 -- ---- what the manager's record accepts
 
-pub accepts_at : (p : Place) (command : Command) (z : Sizes) (pool host : ℕ → ℕ) (set : ℕ) (h : Held) → Holds z pool host set p command h → AcceptsAt p command z h.slots
+pub accepts_at : (p : Place) (command : Command) (z : Sizes) (pool host : ℕ → ℕ) (set : ℕ) (h : Held) → Holds z pool host set p command h
+    → AcceptsAt p command z h.slots
 accepts_at (place.SetSlot p) (SetSlot id slot) z pool host set h e = setting_accepts p id slot z pool h e
 accepts_at _ _ z pool host set h e = tt
 

@@ -35,14 +35,16 @@ touched (place.Access p) (Access gfn word op) h none = (op, content_index (map_o
 touched _ (Access gfn word op) h none = absurd (cc none)
 touched _ _ h none = absurd (cc none)
 
-step_by : (z : Sizes) (v : View) (a : ℕ) (s : Option PartStep) (note : ℕ) (touch : Task) → ((step : PartStep) → s ≡ Some step → IsPart z v a step) → (s ≡ None → (op : Op) × (index : ℕ) × (touch ≡ touch_of op index))
+step_by : (z : Sizes) (v : View) (a : ℕ) (s : Option PartStep) (note : ℕ) (touch : Task) → ((step : PartStep) → s ≡ Some step → IsPart z v a step)
+    → (s ≡ None → (op : Op) × (index : ℕ) × (touch ≡ touch_of op index))
     → StepIn z v a (task_by s (v.hand a) note touch)
 step_by z v a None note touch makes touches = let T = touches refl in subst (StepIn z v a) (sym T.2) (Touches T.0 T.1)
 step_by z v a (Some step) note touch makes touches = Makes step note (makes step refl)
 
 -- It is the step of a part that its actor may make, where it is one of a part, and else a touch.
 pub step_of : (z : Sizes) (v : View) (a : ℕ) (command : Command) (p : Place) → MakesAt z v a p command → StepIn z v a (task_at p command (v.hand a))
-step_of z v a command p makes = step_by z v a (part_at p command (v.hand a)) (note_at p command (v.hand a)) (touch_at command (v.hand a)) makes (touched p command (v.hand a))
+step_of z v a command p makes =
+    step_by z v a (part_at p command (v.hand a)) (note_at p command (v.hand a)) (touch_at command (v.hand a)) makes (touched p command (v.hand a))
 
 pub step_in : (z : Sizes) (v : View) (a : ℕ) (line : Line) (command : Command) (p : Place) → AreSmall v → IsStep z v a line command p → Invariant z v → TopicsInvariant z v → StepIn z v a (task_at p command (v.hand a))
 step_in z v a line command p small S I P = step_of z v a command p (makes_at z v a line command p small S I P)

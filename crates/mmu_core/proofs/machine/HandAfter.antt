@@ -16,14 +16,8 @@ use Rattle.core_views.specs.declared.trace.Op.{Op}
 use Rattle.core_views.specs.Held.{Held}
 use Rattle.mmu_core.specs.declared.outcome.Outcome.{Outcome}
 use Rattle.mmu_core.specs.declared.outcome.Outcome.TheVariants.{Goes, Ends}
-use Rattle.mmu_core.specs.declared.claim.ClaimNext.{ClaimNext}
-use Rattle.mmu_core.specs.declared.claim.ClaimNext.TheVariants as claims
-use Rattle.mmu_core.specs.lines.AccessSteps.{access_loads, access_outcome, behind_fault, fault_over}
-use Rattle.mmu_core.specs.lines.ClaimSteps.{claim_next}
-use Rattle.mmu_core.specs.lines.FaultSteps.{fault_next}
-use Rattle.mmu_core.specs.lines.Rests.{IsUnderWay}
-use Rattle.mmu_core.specs.lines.SetSlotSteps.{after_claim, set_slot_outcome}
-use Rattle.mmu_core.specs.machine.Steps.{has_line, held_after, line_at, loads_at, next, next_by, outcome_at, place_at}
+use Rattle.mmu_core.specs.lines.AccessSteps.{access_loads}
+use Rattle.mmu_core.specs.machine.Steps.{has_line, held_after, line_at, loads_at, next, next_by, place_at}
 use Rattle.mmu_core.proofs.lines.Forms.{outcome_goes}
 use Rattle.mmu_core.proofs.machine.GoesOn.{GoesUnderWay}
 use Rattle.mmu_core.proofs.machine.Stepping.{is_begun}

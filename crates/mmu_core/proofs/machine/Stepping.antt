@@ -1,6 +1,6 @@
 -- A step of an actor, with what the invariant says of its hand.
 use Rattle.std.proofs.Common.{◌≡◌, ◌<◌, ℕ, zero, suc, List, [], ◌∷◌, length, refl, sym, subst, arith, ◌+◌, ◌∙◌, ap}
-use Rattle.std.specs.Prelude.{All, Option, Some, None, slice_get, unwrap_or, false, if◌then◌else◌}
+use Rattle.std.specs.Prelude.{All, slice_get, unwrap_or, false, if◌then◌else◌}
 use Rattle.core_views.specs.declared.place.Place.{Place}
 use Rattle.core_views.specs.declared.place.Place.TheVariants as place
 use Rattle.core_views.specs.declared.sizes.Sizes.{Sizes}

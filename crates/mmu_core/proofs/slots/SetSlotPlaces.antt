@@ -43,7 +43,8 @@ set_slot_goes _ h v = (tt, tt)
 -- ---- what it has loaded
 
 -- Where it begins it has loaded nothing.
-pub set_slot_begins : (z : Sizes) (pool host : ℕ → ℕ) (set id : ℕ) (slot : SlotOf) (h : Held) (r : Option Refusal) → set_refusal z.pages id slot h.slots ≡ r → Holds z pool host set (place.SetSlot (set_slot_first r)) (SetSlot id slot) h
+pub set_slot_begins : (z : Sizes) (pool host : ℕ → ℕ) (set id : ℕ) (slot : SlotOf) (h : Held) (r : Option Refusal) → set_refusal z.pages id slot h.slots ≡ r
+    → Holds z pool host set (place.SetSlot (set_slot_first r)) (SetSlot id slot) h
 set_slot_begins z pool host set id slot h None is = is
 set_slot_begins z pool host set id slot h (Some refusal) is = is
 
@@ -63,7 +64,8 @@ module _ (z : Sizes) (before after : ℕ → ℕ) (h : Held) (own : OwnedStays b
 
 -- ---- what the record accepts
 
-pub setting_accepts : (p : SetSlotPlace) (id : ℕ) (slot : SlotOf) (z : Sizes) (pool : ℕ → ℕ) (h : Held) → SetSlotHolds z pool p id slot h → RecordAccepts p z.pages id slot h.slots
+pub setting_accepts : (p : SetSlotPlace) (id : ℕ) (slot : SlotOf) (z : Sizes) (pool : ℕ → ℕ) (h : Held) → SetSlotHolds z pool p id slot h
+    → RecordAccepts p z.pages id slot h.slots
 setting_accepts Publish id slot z pool h e = e.accepted
 setting_accepts _ id slot z pool h e = tt
 

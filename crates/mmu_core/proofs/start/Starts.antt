@@ -124,7 +124,8 @@ all_behind : (P : ℕ → Type 0) (with_id : List ℕ → List ℕ) (ids : List 
 all_behind P _ ids NoId e = e
 all_behind P _ ids (OneId id) e = e.1
 
-all_with : (P : ℕ → Type 0) (with_id : List ℕ → List ℕ) (ids own : List ℕ) → AddsId with_id → (AllByRecursion P ids → AllByRecursion P own) → AllByRecursion P (with_id ids) → AllByRecursion P (with_id own)
+all_with : (P : ℕ → Type 0) (with_id : List ℕ → List ℕ) (ids own : List ℕ) → AddsId with_id → (AllByRecursion P ids → AllByRecursion P own)
+    → AllByRecursion P (with_id ids) → AllByRecursion P (with_id own)
 all_with P _ ids own NoId rest e = rest e
 all_with P _ ids own (OneId id) rest e = (e.0, rest e.1)
 
@@ -145,7 +146,8 @@ unfolding IsDistinct
 differ_behind _ ids NoId e = e
 differ_behind _ ids (OneId id) e = e.1
 
-differ_with : (with_id : List ℕ → List ℕ) (ids own : List ℕ) → AddsId with_id → ((P : ℕ → Type 0) → AllByRecursion P ids → AllByRecursion P own) → (Differ ids → Differ own) → Differ (with_id ids) → Differ (with_id own)
+differ_with : (with_id : List ℕ → List ℕ) (ids own : List ℕ) → AddsId with_id → ((P : ℕ → Type 0) → AllByRecursion P ids → AllByRecursion P own)
+    → (Differ ids → Differ own) → Differ (with_id ids) → Differ (with_id own)
 unfolding IsDistinct
 differ_with _ ids own NoId each rest e = rest e
 differ_with _ ids own (OneId id) each rest e = (each (λ j. (id == j) ≡ false) e.0, rest e.1)
@@ -155,7 +157,8 @@ chosen_distinct actor [] e = e
 chosen_distinct actor (line ∷ lines) e = by (is_same actor line.actor) (chosen_distinct actor lines)
   where
     by : (b : Bool) → (Differ (slot_ids lines) → Differ (slot_ids (lines_of actor lines))) → Differ (slot_ids (if b then line ∷ lines_of actor lines else lines_of actor lines))
-    by true rest = differ_with (or_slot_id line.command) (slot_ids lines) (slot_ids (lines_of actor lines)) (adds_id line.command) (λ P. chosen_ids P actor lines) rest e
+    by true rest =
+        differ_with (or_slot_id line.command) (slot_ids lines) (slot_ids (lines_of actor lines)) (adds_id line.command) (λ P. chosen_ids P actor lines) rest e
     by false rest = rest (differ_behind (or_slot_id line.command) (slot_ids lines) (adds_id line.command) e)
 
 first_lines : (z : Sizes) (lines : List Line) (w : World Held) (i : ℕ) → IsStart z lines w → i < actors_of z → OwnLines z i (first_held z (actor_at z i) (lines_of (actor_at z i) lines))

@@ -1,6 +1,6 @@
 -- Each step tells lawful events, and the words and hands are flat guest memory behind it.
 use Rattle.std.proofs.Common.{◌≡◌, ◌≢◌, ◌+◌, ◌<◌, ℕ, List, [], ◌∷◌, ◌++◌, refl, sym, subst, ap, ◌∙◌}
-use Rattle.std.specs.Prelude.{◌==◌, not, Bool, true, false, Option, Some, None}
+use Rattle.std.specs.Prelude.{◌==◌, not, Bool, true, false}
 use Rattle.std.proofs.lemmas.Bool.Decides.{Decides-eqb}
 use Rattle.core_views.specs.declared.actor.Actor.{Actor}
 use Rattle.core_views.specs.declared.actor.Actor.TheVariants as actor
@@ -13,14 +13,13 @@ use Rattle.core_views.specs.declared.place.AccessPlace.TheVariants as access
 use Rattle.core_views.specs.declared.place.Place.{Place}
 use Rattle.core_views.specs.declared.place.Place.TheVariants as place
 use Rattle.core_views.specs.declared.sizes.Sizes.{Sizes}
-use Rattle.core_views.specs.declared.topics.Topics.{Topics}
 use Rattle.core_views.specs.declared.trace.Command.{Command}
 use Rattle.core_views.specs.declared.trace.Command.TheVariants.{Access}
 use Rattle.core_views.specs.declared.trace.Line.{Line}
 use Rattle.core_views.specs.declared.trace.Op.{Op}
 use Rattle.core_views.specs.Actors.{changed_at, is_same}
 use Rattle.core_views.specs.Events.{after, after_all, line_after}
-use Rattle.core_views.specs.Flat.{Flat, LineUnderWay, Fresh, Idle}
+use Rattle.core_views.specs.Flat.{Flat, LineUnderWay, Idle}
 use Rattle.core_views.specs.Held.{Held}
 use Rattle.core_views.specs.Lawful.{IsLawful}
 use Rattle.core_views.specs.SlotSets.{MemorySlots}
@@ -43,7 +42,7 @@ use Rattle.mmu_laws.proofs.flat.Forms.{first_at, step_goes}
 use Rattle.mmu_core.proofs.machine.Which.{events_of_line, has_line_is}
 use Rattle.mmu_core.proofs.invariant.Kept.{MakesAt}
 use Rattle.mmu_core.proofs.machine.Stepping.{IsStep}
-use Rattle.mmu_laws.proofs.flat.Told.{line_behind, told, told_facts, told_lawful, told_line, told_others}
+use Rattle.mmu_laws.proofs.flat.Told.{told, told_facts, told_lawful, told_line, told_others}
 use Rattle.mmu_laws.proofs.flat.FlatStill.{line_held, under_still}
 
 -- what a step tells besides that its line begins
@@ -95,7 +94,8 @@ same_actor (place.Access p) (Access gfn word op) h x = access_actor p h gfn op x
 same_actor _ _ h x = refl
 
 -- Behind the begin of its line a step meets flat memory.
-meets_begun : (z : Sizes) (v : View) (f : Flat) (a : ℕ) (line : Line) (command : Command) (p : Place) → IsStep z v a line command p → Invariant z v → TopicsInvariant z v → MakesAt z v a p command → KnowsPart p command (v.hand a)
+meets_begun : (z : Sizes) (v : View) (f : Flat) (a : ℕ) (line : Line) (command : Command) (p : Place) → IsStep z v a line command p → Invariant z v
+    → TopicsInvariant z v → MakesAt z v a p command → KnowsPart p command (v.hand a)
     → Ready z v line command p (v.hand a).topics f.facts (f.under (v.hand a).state.actor) → Others z v a f → Meets z v f a line command p (told (v.hand a).state.actor (told_kinds v a line command p))
 meets_begun z v f a line command p S I P part K R others = (
   told_lawful z s.actor kinds f G.allowed,
@@ -201,7 +201,8 @@ ready_on z v f a line command p S F no_pause stands = record {
     place_is = sym (stands_under h.state.place h.state.sizes h.slots (line_at h.state.place h).command stands) ∙ S.place_is
 
 pub flat_kept : (z : Sizes) (v : View) (f : Flat) (a : ℕ) (line : Line) (command : Command) (p : Place)
-    → IsStep z v a line command p → Invariant z v → TopicsInvariant z v → MakesAt z v a p command → KnowsPart p command (v.hand a) → v.words area.Pause 0 ≡ 0 → FlatInvariant z v f
+    → IsStep z v a line command p → Invariant z v → TopicsInvariant z v → MakesAt z v a p command → KnowsPart p command (v.hand a) → v.words area.Pause 0 ≡ 0
+    → FlatInvariant z v f
     → IsLawful z f (told_events v a line command p) × FlatInvariant z (stepped a line command p v) (after_all (told_events v a line command p) f)
 flat_kept z v f a line command p S I P part K no_pause F = case (v.hand a).state.place refl
   where

@@ -31,7 +31,7 @@ use Rattle.mmu_core.proofs.machine.PartStepping.{IsPart, is_publish}
 use Rattle.mmu_core.proofs.words.PartWords.{areas_stay, slots_are, slots_same}
 use Rattle.mmu_core.proofs.words.SlotLists.{flat_below}
 use Rattle.mmu_core.proofs.slots.SlotsStay.{memory_below_stay}
-use Rattle.core_views.specs.Flat.{Facts, LineUnderWay, Idle}
+use Rattle.core_views.specs.Flat.{Facts, LineUnderWay}
 
 -- The line has begun and stands at this place; the facts are what the words say, and nothing is paused.
 pub record Ready (z : Sizes) (v : View) (line : Line) (command : Command) (p : Place) (t : Topics) (facts : Facts) (u : LineUnderWay) : Type 0 where

@@ -80,10 +80,12 @@ pub part_or : (z : Sizes) (v : View) (a : ℕ) (o : Option PartStep) → ((step 
 part_or z v a None makes = tt
 part_or z v a (Some step) makes = makes step refl
 
-held_by : (z : Sizes) (v : View) (a : ℕ) (task : Task) → StepIn z v a task → TopicsInvariant z v → (i k : ℕ) → i < actors_of z → i ≢ a → (v.hand i).topics.search.set ≡ Some k → SetStays k (v.words area.Pool) (words_after task v.words area.Pool)
+held_by : (z : Sizes) (v : View) (a : ℕ) (task : Task) → StepIn z v a task → TopicsInvariant z v → (i k : ℕ) → i < actors_of z → i ≢ a
+    → (v.hand i).topics.search.set ≡ Some k → SetStays k (v.words area.Pool) (words_after task v.words area.Pool)
 held_by z v a _ (Makes step note M) P i k lt ne held = others_held z v a step note M P i k lt ne held
 held_by z v a _ (Touches op index) P i k lt ne held = λ j low. ap (λ (pool : ℕ → ℕ). pool (pool_index k j)) (touch_leaves_pool v.words op index)
 
-pub line_held : (z : Sizes) (v : View) (a : ℕ) (command : Command) (p : Place) → TopicsInvariant z v → MakesAt z v a p command → (i k : ℕ) → i < actors_of z → i ≢ a → (v.hand i).topics.search.set ≡ Some k
+pub line_held : (z : Sizes) (v : View) (a : ℕ) (command : Command) (p : Place) → TopicsInvariant z v → MakesAt z v a p command → (i k : ℕ) → i < actors_of z
+    → i ≢ a → (v.hand i).topics.search.set ≡ Some k
     → SetStays k (v.words area.Pool) (words_after (task_at p command (v.hand a)) v.words area.Pool)
 line_held z v a command p P makes i k lt ne held = held_by z v a (task_at p command (v.hand a)) (step_of z v a command p makes) P i k lt ne held

@@ -74,14 +74,18 @@ tells_within _ _ h v = tt
 
 -- The step of each place, once its line has begun.
 pub step_goes : (z : Sizes) (v : View) (a : ℕ) (line : Line) (command : Command) (p : Place) (f : Flat) (u : LineUnderWay)
-    → IsStep z v a line command p → Invariant z v → TopicsInvariant z v → MakesAt z v a p command → KnowsPart p command (v.hand a) → Ready z v line command p (v.hand a).topics f.facts u → StepGoes z v a line command p f.facts u
+    → IsStep z v a line command p → Invariant z v → TopicsInvariant z v → MakesAt z v a p command → KnowsPart p command (v.hand a)
+    → Ready z v line command p (v.hand a).topics f.facts u → StepGoes z v a line command p f.facts u
 step_goes z v a line command place.Between f u S I P part K R = absurd S.begun
-step_goes z v a line (Access gfn word op) (place.Access p) f u S I P part K R = access_goes z v a line gfn word f.facts u op p S I P (part_or z v a (access_part p gfn (v.hand a).topics) part) K R
-step_goes z v a line (SetSlot id slot) (place.SetSlot p) f u S I P part K R = set_slot_goes z v a line id slot f.facts u p S I P (part (set_slot_part p (v.hand a) id slot) refl) R
+step_goes z v a line (Access gfn word op) (place.Access p) f u S I P part K R =
+    access_goes z v a line gfn word f.facts u op p S I P (part_or z v a (access_part p gfn (v.hand a).topics) part) K R
+step_goes z v a line (SetSlot id slot) (place.SetSlot p) f u S I P part K R =
+    set_slot_goes z v a line id slot f.facts u p S I P (part (set_slot_part p (v.hand a) id slot) refl) R
 step_goes z v a line _ _ f u S I P part K R = absurd S.holds
 
 -- A line that begins is under way, and has done nothing.
-pub first_at : (pool : ℕ → ℕ) (z : Sizes) (slots : MemorySlots) (line : Line) (command : Command) (t : Topics) (u : LineUnderWay) → u.stage ≡ Fresh → u.line ≡ line → UnderAt pool (first_place z slots command) line command t u
+pub first_at : (pool : ℕ → ℕ) (z : Sizes) (slots : MemorySlots) (line : Line) (command : Command) (t : Topics) (u : LineUnderWay) → u.stage ≡ Fresh
+    → u.line ≡ line → UnderAt pool (first_place z slots command) line command t u
 first_at pool z slots line (Access gfn word op) t u fresh is = (is, fresh)
 first_at pool z slots line (SetSlot id slot) t u fresh is = (is, first_set (set_refusal z.pages id slot slots))
   where

@@ -1,6 +1,6 @@
 -- What the steps of one line tell, one behind the other: its begin, events of its own, its answer.
 use Rattle.std.proofs.Common.{◌≡◌, ℕ, List, [], ◌∷◌, ◌++◌, map, refl, sym, ap, ◌∙◌, subst, append_assoc}
-use Rattle.std.specs.Prelude.{Bool, true, false, if◌then◌else◌}
+use Rattle.std.specs.Prelude.{true}
 use Rattle.std.proofs.lemmas.List.{append-nil, map-append}
 use Rattle.core_views.specs.declared.actor.Actor.{Actor}
 use Rattle.core_views.specs.declared.answer.Answer.{Answer}
