@@ -16,5 +16,5 @@ pub use fault::{entry_word, table_value};
 pub use laws::{knows, rests};
 pub use outcome::Outcome;
 pub use parts::{allows, may_make, part_rests};
-pub use set_slot::{setting_place, waits as setting_waits};
+pub use set_slot::{note as setting_note, setting_place};
 pub use step::{advance, asks_flush, next_kind};

@@ -66,8 +66,8 @@ fn part(place: SetSlotPlace, hand: &Hand, id: u64, slot: &Slot) -> PartStep
     }
 }
 
-// Whether the line may end with the step of this place.
-fn note(place: SetSlotPlace, hand: &Hand) -> u64
+/// 1 where the line may end with the step of this place, else 0.
+pub fn note(place: SetSlotPlace, hand: &Hand) -> u64
     requires { PartRests hand.now.core }
     ensures { result ≡ set_slot_note place hand.now.core }
 {
@@ -192,7 +192,7 @@ pub fn setting_place(hand: &Hand, id: u64, slot: &Slot) -> SetSlotPlace
 }
 
 /// The step leaves the line where it was, since another actor is in the way.
-pub fn waits(place: SetSlotPlace, topics: &Topics, found: u64) -> bool
+pub(crate) fn waits(place: SetSlotPlace, topics: &Topics, found: u64) -> bool
     ensures { result ≡ set_slot_waits place topics.now found }
 {
     match place {

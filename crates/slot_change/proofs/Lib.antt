@@ -1,1 +1,3 @@
+pub mod Waiting
+pub mod ByPlace
 pub mod Settings
