@@ -1,4 +1,3 @@
 pub mod Claiming
 pub mod Paging
 pub mod FirstSeen
-pub mod LostClaims
