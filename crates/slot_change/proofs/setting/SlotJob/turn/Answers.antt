@@ -1,20 +1,22 @@
 use Rattle.step_seats.specs.declared.turn.Turn.TheVariants.{Done, More, Wait}
 use Rattle.step_seats.proofs.LineTurns.{turns_same, turns_say}
-use Rattle.slot_change.proofs.Settings.{is_at, setting_done, setting_more, setting_waits}
+use Rattle.slot_change.proofs.Settings.{setting_done, setting_more, setting_waits, stands_in_line}
 use Rattle.slot_change.proofs.setting.SlotJob.turn.Goals as goal
 
 pub step-requires-clause-is_at : goal.step-requires-clause-is_at
 step-requires-clause-is_at g c =
-    is_at c.setting_place-place.result c.args.self.now c.note-note.result (g.S.Stepper.handful c.args.s.now).core c.requires.left (rw c.hand-hand.ensures.hand at c.rests.ensures) (rw c.hand-hand.ensures.hand at c.setting_place-place.ensures) c.requires.setting
-    (rw c.hand-hand.ensures.hand at c.knows.ensures) (rw c.hand-hand.ensures.hand at c.note-note.ensures)
+    let L =
+    stands_in_line c.setting_place-place.result c.args.self.now c.note-note.result (g.S.Stepper.handful c.args.s.now).core c.requires.left (rw c.hand-hand.ensures.hand at c.rests.ensures) (rw c.hand-hand.ensures.hand at c.setting_place-place.ensures)
+    c.requires.setting (rw c.hand-hand.ensures.hand at c.knows.ensures) (rw c.hand-hand.ensures.hand at c.note-note.ensures) in
+    L.is_at
 
 pub returns-in-Some-clause-turns : goal.returns-in-Some-clause-turns
 returns-in-Some-clause-turns g c =
-    setting_waits c.step.result c.setting_place-place.result c.args.self.now c.note-note.result (g.S.Stepper.actor c.args.s.now) (g.S.Stepper.handful c.args.s.now).core (g.S.Stepper.handful c.step.new.s).core (g.S.Stepper.tells c.args.s.now) (g.S.Stepper.tells c.step.new.s)
-    (rw c.hand-hand.ensures.hand at c.setting_place-place.ensures) c.requires.setting
-    (is_at c.setting_place-place.result c.args.self.now c.note-note.result (g.S.Stepper.handful c.args.s.now).core c.requires.left (rw c.hand-hand.ensures.hand at c.rests.ensures) (rw c.hand-hand.ensures.hand at c.setting_place-place.ensures) c.requires.setting
-    (rw c.hand-hand.ensures.hand at c.knows.ensures) (rw c.hand-hand.ensures.hand at c.note-note.ensures))
-    c.step.ensures.makes c.in-Some.seen c.in-Some.is
+    let L =
+    stands_in_line c.setting_place-place.result c.args.self.now c.note-note.result (g.S.Stepper.handful c.args.s.now).core c.requires.left (rw c.hand-hand.ensures.hand at c.rests.ensures) (rw c.hand-hand.ensures.hand at c.setting_place-place.ensures)
+    c.requires.setting (rw c.hand-hand.ensures.hand at c.knows.ensures) (rw c.hand-hand.ensures.hand at c.note-note.ensures) in
+    setting_waits c.step.result c.setting_place-place.result c.args.self.now c.note-note.result (g.S.Stepper.actor c.args.s.now) (g.S.Stepper.handful c.args.s.now).core (g.S.Stepper.handful c.step.new.s).core (g.S.Stepper.tells c.args.s.now) (g.S.Stepper.tells c.step.new.s) L c.step.ensures.makes
+    c.in-Some.seen c.in-Some.is
 
 pub returns-in-Some-clause-says : goal.returns-in-Some-clause-says
 returns-in-Some-clause-says g c = turns_say (Wait c.in-Some.seen) (g.S.Stepper.actor c.args.s.now) (g.S.Stepper.handful c.args.s.now).core (g.S.Stepper.handful c.step.new.s).core (g.S.Stepper.tells c.args.s.now) (g.S.Stepper.tells c.step.new.s) c.requires.left (returns-in-Some-clause-turns g c)
@@ -24,11 +26,11 @@ returns-in-Some-clause-hand g c = turns_same (Wait c.in-Some.seen) (g.S.Stepper.
 
 pub returns-in-Some-get-clause-turns : goal.returns-in-Some-get-clause-turns
 returns-in-Some-get-clause-turns g c =
-    setting_done c.step.result c.setting_place-place.result c.args.self.now c.note-note.result (g.S.Stepper.actor c.args.s.now) (g.S.Stepper.handful c.args.s.now).core (g.S.Stepper.handful c.step.new.s).core (g.S.Stepper.tells c.args.s.now) (g.S.Stepper.tells c.step.new.s)
-    (rw c.hand-hand.ensures.hand at c.setting_place-place.ensures) c.requires.setting
-    (is_at c.setting_place-place.result c.args.self.now c.note-note.result (g.S.Stepper.handful c.args.s.now).core c.requires.left (rw c.hand-hand.ensures.hand at c.rests.ensures) (rw c.hand-hand.ensures.hand at c.setting_place-place.ensures) c.requires.setting
-    (rw c.hand-hand.ensures.hand at c.knows.ensures) (rw c.hand-hand.ensures.hand at c.note-note.ensures))
-    c.step.ensures.makes c.args.self.now.index c.answers.result.now c.in-Some-get.answered.now c.in_default.is c.requires.left (rw c.hand.ensures.hand at c.answers.ensures) c.requires.next c.in-Some-get.ensures.lookup.3.0 c.in-Some-get.ensures.lookup.1
+    let L =
+    stands_in_line c.setting_place-place.result c.args.self.now c.note-note.result (g.S.Stepper.handful c.args.s.now).core c.requires.left (rw c.hand-hand.ensures.hand at c.rests.ensures) (rw c.hand-hand.ensures.hand at c.setting_place-place.ensures)
+    c.requires.setting (rw c.hand-hand.ensures.hand at c.knows.ensures) (rw c.hand-hand.ensures.hand at c.note-note.ensures) in
+    setting_done c.step.result c.setting_place-place.result c.args.self.now c.note-note.result (g.S.Stepper.actor c.args.s.now) (g.S.Stepper.handful c.args.s.now).core (g.S.Stepper.handful c.step.new.s).core (g.S.Stepper.tells c.args.s.now) (g.S.Stepper.tells c.step.new.s) L c.step.ensures.makes
+    c.args.self.now.index c.answers.result.now c.in-Some-get.answered.now c.in_default.is (rw c.hand.ensures.hand at c.answers.ensures) c.requires.next c.in-Some-get.ensures.lookup.3.0 c.in-Some-get.ensures.lookup.1
 
 pub returns-in-Some-get-clause-says : goal.returns-in-Some-get-clause-says
 returns-in-Some-get-clause-says g c = turns_say (Done c.in-Some-get.answered.now.answer) (g.S.Stepper.actor c.args.s.now) (g.S.Stepper.handful c.args.s.now).core (g.S.Stepper.handful c.step.new.s).core (g.S.Stepper.tells c.args.s.now) (g.S.Stepper.tells c.step.new.s) c.requires.left (returns-in-Some-get-clause-turns g c)
@@ -38,11 +40,11 @@ returns-in-Some-get-clause-hand g c = turns_same (Done c.in-Some-get.answered.no
 
 pub returns-in-None-clause-turns : goal.returns-in-None-clause-turns
 returns-in-None-clause-turns g c =
-    setting_more c.step.result c.setting_place-place.result c.args.self.now c.note-note.result (g.S.Stepper.actor c.args.s.now) (g.S.Stepper.handful c.args.s.now).core (g.S.Stepper.handful c.step.new.s).core (g.S.Stepper.tells c.args.s.now) (g.S.Stepper.tells c.step.new.s)
-    (rw c.hand-hand.ensures.hand at c.setting_place-place.ensures) c.requires.setting
-    (is_at c.setting_place-place.result c.args.self.now c.note-note.result (g.S.Stepper.handful c.args.s.now).core c.requires.left (rw c.hand-hand.ensures.hand at c.rests.ensures) (rw c.hand-hand.ensures.hand at c.setting_place-place.ensures) c.requires.setting
-    (rw c.hand-hand.ensures.hand at c.knows.ensures) (rw c.hand-hand.ensures.hand at c.note-note.ensures))
-    c.step.ensures.makes c.args.self.now.index c.answers.result.now c.in_default.is c.requires.left (rw c.hand.ensures.hand at c.answers.ensures) c.requires.next c.in-None.ensures.lookup.3
+    let L =
+    stands_in_line c.setting_place-place.result c.args.self.now c.note-note.result (g.S.Stepper.handful c.args.s.now).core c.requires.left (rw c.hand-hand.ensures.hand at c.rests.ensures) (rw c.hand-hand.ensures.hand at c.setting_place-place.ensures)
+    c.requires.setting (rw c.hand-hand.ensures.hand at c.knows.ensures) (rw c.hand-hand.ensures.hand at c.note-note.ensures) in
+    setting_more c.step.result c.setting_place-place.result c.args.self.now c.note-note.result (g.S.Stepper.actor c.args.s.now) (g.S.Stepper.handful c.args.s.now).core (g.S.Stepper.handful c.step.new.s).core (g.S.Stepper.tells c.args.s.now) (g.S.Stepper.tells c.step.new.s) L c.step.ensures.makes
+    c.args.self.now.index c.answers.result.now c.in_default.is (rw c.hand.ensures.hand at c.answers.ensures) c.requires.next c.in-None.ensures.lookup.3
 
 pub returns-in-None-clause-says : goal.returns-in-None-clause-says
 returns-in-None-clause-says g c = turns_say More (g.S.Stepper.actor c.args.s.now) (g.S.Stepper.handful c.args.s.now).core (g.S.Stepper.handful c.step.new.s).core (g.S.Stepper.tells c.args.s.now) (g.S.Stepper.tells c.step.new.s) c.requires.left (returns-in-None-clause-turns g c)
