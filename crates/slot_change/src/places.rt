@@ -106,7 +106,8 @@ impl SlotJob {
         watch.turn(s, note).in_way()
     }
 
-    // Makes the step of a place whose step no part makes.
+    // Makes a step that no part has a call for: the count, the publication, and the
+    // role and the page of the old set. It never waits.
     pub(crate) fn make<S: Stepper>(
         &self,
         s: &mut S,
