@@ -1,18 +1,15 @@
 -- The fault of a hand's line may make the step of its place, and knows what the place asks.
-use Rattle.std.proofs.Common.{◌≡◌, ◌<◌, ◌^◌, ℕ, sym, subst, ap, ◌∙◌}
+use Rattle.core_views.specs.declared.place.Place.TheVariants.{Access}
+use Rattle.std.proofs.Common.{◌≡◌, ◌<◌, ◌^◌, refl, subst}
 use Rattle.std.specs.Prelude.{Bool}
 use Rattle.core_views.specs.declared.place.AccessPlace.TheVariants.{Fault}
 use Rattle.core_views.specs.declared.place.FaultPlace.{FaultPlace}
 use Rattle.core_views.specs.declared.place.Place.{Place}
 use Rattle.core_views.specs.declared.place.Place.TheVariants as place
 use Rattle.core_views.specs.declared.trace.Command.{Command}
+use Rattle.core_views.specs.declared.trace.Command.TheVariants.{Access}
 use Rattle.core_views.specs.Held.{Held}
 use Rattle.core_views.specs.Traces.{IsCommandFor}
-use Rattle.spte_words.proofs.Places.{place_below}
-use Rattle.part_steps.specs.declared.part_step.PartStep.{PartStep}
-use Rattle.part_steps.specs.declared.task.Task.{Task}
-use Rattle.part_steps.specs.PartSteps.{PartNeeds, own_index, part_kind, part_task}
-use Rattle.part_steps.specs.Tasks.{kind_of_task, map_of}
 use Rattle.mmu_core.specs.lines.AccessSteps.{access_note}
 use Rattle.mmu_core.specs.lines.FaultKnows.{FaultKnows}
 use Rattle.mmu_core.specs.lines.FaultSteps.{fault_part}
@@ -24,36 +21,14 @@ use Rattle.mmu_core.specs.machine.Turns.{line_of}
 use Rattle.mmu_core.specs.machine.Worlds.{HandReached}
 use Rattle.mmu_core.proofs.lines.KnowsKept.{access_vcpu}
 use Rattle.mmu_core.proofs.lines.KnowsStay.{reached_knows}
-use Rattle.mmu_core.proofs.words.PartFits.{part_small, part_within_by}
 use Rattle.mmu_core.proofs.start.Starts.{reached_rests}
-use Rattle.mmu_core.proofs.machine.Which.{enabled_is}
+use Rattle.step_seats.proofs.LineParts.{place_may_make}
 use Rattle.fault_install.specs.declared.fault.FaultJob.{FaultJob}
 use Rattle.fault_install.specs.Faults.{IsAt, StandsInLine}
 
 module _ (p : FaultPlace) (job : FaultJob) (h : Held) (R : Rests h) (S : StandsInLine job h) (stands : place_at h.state.place h ≡ place.Access (Fault p)) where
-  abbrev here : PartStep
-  here = fault_part p job.gfn h.topics
-
-  abbrev note : ℕ
-  note = access_note (Fault p)
-
-  needs : PartNeeds here h
-  needs = subst (λ (c : Command). RestsAt (place.Access (Fault p)) c h) S.command (subst (λ (q : Place). RestsAt q (line_of h).command h) stands R.at)
-
-  task_is : task_of h ≡ part_task here (own_index h) h.topics note
-  task_is = ap (λ (q : Place). task_at q (line_of h).command h) stands ∙ ap (λ (c : Command). task_at (place.Access (Fault p)) c h) S.command
-
-  may_make : MayMake here note h
-  may_make = record {
-    needs = needs;
-    enabled = enabled_is h (part_kind h here note) (record {
-      left = S.left;
-      rests = R;
-      is = sym (ap (λ (t : Task). kind_of_task h.state.sizes t) task_is);
-      inside = place_below (map_of h.state.sizes) (part_task here (own_index h) h.topics note).area (part_task here (own_index h) h.topics note).index (part_within_by here h note needs R.part);
-      small = part_small here h note needs R.part;
-    });
-  }
+  may_make : MayMake (fault_part p job.gfn h.topics) (access_note (Fault p)) h
+  may_make = place_may_make (place.Access (Fault p)) (Access job.gfn S.word S.op) h S.left R stands S.command (fault_part p job.gfn h.topics) refl
 
   gfn_small : job.gfn < 2 ^ 36
   gfn_small = (access_vcpu h.state.sizes (line_of h).actor job.gfn S.word S.op (subst (λ (c : Command). IsCommandFor h.state.sizes (line_of h).actor c) S.command R.line)).1

@@ -25,7 +25,7 @@ use Rattle.mmu_core.specs.lines.AccessSteps.{access_note, behind_fault}
 use Rattle.mmu_core.specs.lines.Bounds.{steps_left}
 use Rattle.mmu_core.specs.lines.FaultKnows.{EndKnows, FaultKnows, KnowsNext}
 use Rattle.mmu_core.specs.lines.FaultLaws.{CanAnswer}
-use Rattle.mmu_core.specs.lines.FaultSteps.{fault_left, fault_next, fault_part, next_left, wait_seen, waits}
+use Rattle.mmu_core.specs.lines.FaultSteps.{fault_left, fault_next, fault_part, next_left, wait_seen}
 use Rattle.mmu_core.specs.machine.Enabled.{mmu}
 use Rattle.mmu_core.specs.machine.Machine.{World, answered}
 use Rattle.mmu_core.specs.machine.Outcomes.{place_after}
@@ -42,7 +42,7 @@ use Rattle.mmu_core.proofs.lines.FaultFalls.{fault_falls}
 use Rattle.mmu_core.proofs.lines.FaultKnown.{fault_known, parts_answer}
 use Rattle.mmu_core.proofs.machine.HandAfter.{next_same}
 use Rattle.mmu_core.proofs.machine.Which.{has_line_is, next_of_line}
-use Rattle.step_seats.specs.PartTurns.{MadePart}
+use Rattle.step_seats.specs.PartTurns.{MadePart, waits}
 use Rattle.step_seats.specs.Where.{IsMadeIn, OfWorld, Told}
 use Rattle.step_seats.specs.declared.turn.Turn.{Turn}
 use Rattle.step_seats.specs.declared.turn.Turn.TheVariants.{More, Wait, Retry, Done}
@@ -122,7 +122,7 @@ module _ (p : FaultPlace) (job : FaultJob) (turn : Turn Faulted) (a : ℕ) (h g 
 
   pub nearer : turn ≡ More → hand_left g < hand_left h
   nearer is =
-      let falls = fault_falls p h job.gfn M.found job.write I.gfn rests I.knows (waits_not turn (waits p h.topics M.found) (wait_seen p h job.gfn (access_note (Fault p)) M.found) is M.waits_by) in
+      let falls = fault_falls p h job.gfn M.found job.write I.gfn rests I.knows (waits_not turn (part_waits (fault_part p job.gfn h.topics) h.topics M.found) (wait_seen p h job.gfn (access_note (Fault p)) M.found) is M.waits_by) in
       let same : g.state.sizes ≡ h.state.sizes = ap (λ (x : Held). x.state.sizes) M.made.hand ∙ (next_same h (part_kind h (fault_part p job.gfn h.topics) (access_note (Fault p))) M.found).sizes in
       let before : hand_left h ≡ fault_left p h.state.sizes h.topics + 9 = left_at p h.state.place h.state.sizes h.slots (line_of h).command h.topics at in
       rw (before, stands, same, M.made.topics) (goes_nearer goes_to turn h.state.sizes _ _ is M.turned falls)

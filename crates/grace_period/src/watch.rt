@@ -42,6 +42,14 @@ impl Watch {
         Watch { has_looked: false }
     }
 
+    /// A watch that is under way: it goes on from the actors that its hand has
+    /// watched.
+    pub fn under_way() -> Self
+        ensures { result ≡ record { has_looked = true } }
+    {
+        Watch { has_looked: true }
+    }
+
     // The place of the actor that the next turn looks at.
     pub(crate) fn next_look(&self, hand: &Hand) -> u64
         requires { PartRests hand.now.core }

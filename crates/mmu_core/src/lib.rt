@@ -21,7 +21,7 @@ pub use fault::entry_word;
 pub use laws::{knows, rests};
 pub use outcome::Outcome;
 pub use parts::{allows, may_make, part_rests};
-pub use set_slot::setting_place;
+pub use set_slot::{note as setting_note, setting_place};
 pub use share::ShareNext;
 pub use step::{advance, asks_flush, next_kind, next_step};
 pub use waits::{part_waits, waits_by};

@@ -54,8 +54,8 @@ pub(crate) fn part(place: SetSlotPlace, hand: &Hand, id: u64, slot: &Slot) -> Pa
     }
 }
 
-// Whether the line may end with the step of this place.
-fn note(place: SetSlotPlace, hand: &Hand) -> u64
+/// 1 where the line may end with the step of this place, else 0.
+pub fn note(place: SetSlotPlace, hand: &Hand) -> u64
     requires { PartRests hand.now.core }
     ensures { result ≡ set_slot_note place hand.now.core }
 {

@@ -1,73 +1,82 @@
--- What the turn of a slot's setting answers: it waits exactly where its step does.
-use Rattle.std.proofs.Common.{◌≡◌, ◌≢◌, ℕ, refl, sym, subst, ap, ◌∙◌}
-use Rattle.std.specs.Prelude.{true, false}
+-- What the turn of a slot's setting answers, by the step of its place.
+use Rattle.std.proofs.Common.{◌≡◌, ◌≤◌, ◌<◌, ℕ, List, Option, Some, None, length, get_or, refl, sym, subst, ap, ◌∙◌}
+use Rattle.std.specs.Prelude.{false}
 use Rattle.core_views.specs.declared.answer.Answer.{Answer}
+use Rattle.core_views.specs.declared.answer.AnsweredLine.{AnsweredLine}
 use Rattle.core_views.specs.declared.hand.Seen.{Seen}
 use Rattle.core_views.specs.declared.kind.Kind.{Kind}
 use Rattle.core_views.specs.declared.place.Place.{Place}
 use Rattle.core_views.specs.declared.place.Place.TheVariants as place
 use Rattle.core_views.specs.declared.place.SetSlotPlace.{SetSlotPlace}
-use Rattle.core_views.specs.declared.place.SetSlotPlace.TheVariants as set_slot
 use Rattle.core_views.specs.declared.trace.Command.{Command}
 use Rattle.core_views.specs.declared.trace.Command.TheVariants.{SetSlot}
-use Rattle.core_views.specs.declared.trace.Slot.{Slot}
 use Rattle.core_views.specs.Held.{Held}
-use Rattle.mmu_core.specs.declared.outcome.Outcome.{Outcome}
-use Rattle.mmu_core.specs.declared.outcome.Outcome.TheVariants.{Goes, Ends}
+use Rattle.part_steps.specs.PartSteps.{part_kind}
 use Rattle.mmu_core.specs.alone.LineAlone.{line_waits}
-use Rattle.mmu_core.specs.lines.SetSlotSteps.{set_slot_outcome, set_slot_seen, set_slot_task}
+use Rattle.mmu_core.specs.lines.SetSlotSteps.{set_slot_outcome, set_slot_seen, set_slot_task, set_slot_note, set_slot_part}
 use Rattle.mmu_core.specs.machine.Steps.{has_line, outcome_at, place_at, task_at}
 use Rattle.part_steps.specs.Tasks.{kind_of_task}
+use Rattle.mmu_core.specs.lines.KnowsPart.{KnowsPart}
+use Rattle.mmu_core.specs.lines.PartWaits.{part_waits}
+use Rattle.mmu_core.specs.lines.Rests.{Rests}
+use Rattle.mmu_core.specs.machine.MayMake.{MayMake}
 use Rattle.mmu_core.specs.machine.Turns.{line_of, outcome_of}
-use Rattle.mmu_core.proofs.machine.Which.{is_next}
-use Rattle.step_seats.specs.Where.{Told}
+use Rattle.slot_change.specs.declared.setting.SlotJob.{SlotJob}
+use Rattle.slot_change.specs.Settings.{IsAt, MakesStep, ToldWay}
 use Rattle.step_seats.specs.declared.turn.Turn.{Turn}
 use Rattle.step_seats.specs.declared.turn.Turn.TheVariants.{More, Wait, Done}
-use Rattle.step_seats.specs.LineTurns.{Gives, MakesLine, TurnsLine, line_seen, line_turn, turn_of}
-use Rattle.step_seats.proofs.LineTurns.{setting_free}
+use Rattle.step_seats.specs.LineTurns.{Gives, TurnsLine, line_seen, line_turn, turn_of}
+use Rattle.step_seats.specs.Where.{Told}
+use Rattle.step_seats.proofs.Answering.{turn_is_done, turn_is_more}
+use Rattle.step_seats.proofs.LineParts.{place_may_make}
+use Rattle.step_seats.proofs.LineTurns.{made_line}
 
-done_ends : (o : Outcome) (answer : Answer) → Done answer ≡ turn_of o → o ≡ Ends answer
-done_ends (Goes q) answer is = absurd (cc is)
-done_ends (Ends other) answer is = let e : other ≡ answer = cc is in ap Ends e
+-- The hand's next line is this setting, which stands at this place.
+pub record StandsInLine (p : SetSlotPlace) (job : SlotJob) (note : ℕ) (h : Held) : Type 0 where
+  pub left : length h.answers < length h.lines
+  pub stands : place_at h.state.place h ≡ place.SetSlot p
+  pub command : (line_of h).command ≡ SetSlot job.id job.slot
+  pub is_at : IsAt p job note h
 
--- A step that waits has seen its own word, but where it gives the lock back.
-own_word : (p : SetSlotPlace) → p ≢ set_slot.Close → (h : Held) (id : ℕ) (slot : Slot) (seen : Seen) (word v : ℕ) → word ≡ (kind_of_task h.state.sizes (set_slot_task p h id slot)).word → seen ≡ record { word = word; value = v } → seen ≡ set_slot_seen p h id slot v
-own_word set_slot.Close other h id slot seen word v at is = absurd (other refl)
-own_word _ other h id slot seen word v at is = rw (is, at) refl
+pub stands_in_line : (p : SetSlotPlace) (job : SlotJob) (note : ℕ) (h : Held) → length h.answers < length h.lines → Rests h → place_at h.state.place h ≡ place.SetSlot p → (line_of h).command ≡ SetSlot job.id job.slot
+    → KnowsPart (place_at h.state.place h) (line_of h).command h → note ≡ set_slot_note p h → StandsInLine p job note h
+stands_in_line p job note h left rests stands command knows is = record {
+  left = left;
+  stands = stands;
+  command = command;
+  is_at = record {
+    may = subst (λ n. MayMake (set_slot_part p h job.id job.slot) n h) (sym is) (place_may_make (place.SetSlot p) (SetSlot job.id job.slot) h left rests stands command (set_slot_part p h job.id job.slot) refl);
+    knows = subst (λ (c : Command). KnowsPart (place.SetSlot p) c h) command (subst (λ (q : Place). KnowsPart q (line_of h).command h) stands knows);
+  };
+}
 
--- The setting stands at this place.
-module _ (actor : ℕ) (h g : Held) (told tells : Told) (p : SetSlotPlace) (id : ℕ) (slot : Slot) (stands : place_at h.state.place h ≡ place.SetSlot p) (setting : (line_of h).command ≡ SetSlot id slot) (M : MakesLine actor h g told tells) where
+-- The step of its place was made.
+module _ (way : Option Seen) (p : SetSlotPlace) (job : SlotJob) (note actor : ℕ) (h g : Held) (told tells : Told) (L : StandsInLine p job note h) (M : MakesStep way p job note actor h g told tells) where
   outcome_is : outcome_of h M.found ≡ set_slot_outcome p h M.found
-  outcome_is = ap (λ (q : Place). outcome_at q (line_of h).command h M.found) stands ∙ ap (λ (c : Command). outcome_at (place.SetSlot p) c h M.found) setting
+  outcome_is = ap (λ (q : Place). outcome_at q (line_of h).command h M.found) L.stands ∙ ap (λ (c : Command). outcome_at (place.SetSlot p) c h M.found) L.command
 
-  waits_is : line_waits (place_at h.state.place h) (line_of h).command h M.found ≡ line_waits (place.SetSlot p) (SetSlot id slot) h M.found
-  waits_is = ap (λ (q : Place). line_waits q (line_of h).command h M.found) stands ∙ ap (λ (c : Command). line_waits (place.SetSlot p) c h M.found) setting
-
-  turns : (turn : Turn Answer) → Gives turn (line_waits (place.SetSlot p) (SetSlot id slot) h M.found) (set_slot_seen p h id slot M.found) (turn_of (set_slot_outcome p h M.found)) → TurnsLine turn actor h g told tells
+  turns : (turn : Turn Answer) → Gives turn (part_waits (set_slot_part p h job.id job.slot) h.topics M.found) (set_slot_seen p h job.id job.slot M.found) (turn_of (set_slot_outcome p h M.found)) → TurnsLine turn actor h g told tells
+  unfolding made_line
   turns turn gives = record {
-    makes = M;
-    gives = subst (λ (q : Place). Gives turn (line_waits q (line_of h).command h M.found) (line_seen q (line_of h).command h M.found) (line_turn q (line_of h).command h M.found)) (sym stands)
-        (subst (λ (c : Command). Gives turn (line_waits (place.SetSlot p) c h M.found) (line_seen (place.SetSlot p) c h M.found) (line_turn (place.SetSlot p) c h M.found)) (sym setting) gives);
+    makes = made_line (set_slot_part p h job.id job.slot) note M.found actor h g told tells L.is_at.may M.made;
+    gives = subst (λ (q : Place). Gives turn (line_waits q (line_of h).command h M.found) (line_seen q (line_of h).command h M.found) (line_turn q (line_of h).command h M.found)) (sym L.stands)
+        (subst (λ (c : Command). Gives turn (line_waits (place.SetSlot p) c h M.found) (line_seen (place.SetSlot p) c h M.found) (line_turn (place.SetSlot p) c h M.found)) (sym L.command) gives);
   }
 
-  pub setting_done : (answer : Answer) → Done answer ≡ turn_of (outcome_of h M.found) → TurnsLine (Done answer) actor h g told tells
-  setting_done answer is =
-      let same : Done answer ≡ turn_of (set_slot_outcome p h M.found) = is ∙ ap turn_of outcome_is in
-      turns (Done answer) (setting_free p h id slot M.found answer (done_ends (set_slot_outcome p h M.found) answer same), same)
+  told_way : (x : Option Seen) → way ≡ x → ToldWay x (part_waits (set_slot_part p h job.id job.slot) h.topics M.found) (set_slot_seen p h job.id job.slot M.found)
+  told_way x is = subst (λ (y : Option Seen). ToldWay y (part_waits (set_slot_part p h job.id job.slot) h.topics M.found) (set_slot_seen p h job.id job.slot M.found)) is M.told_way
 
-  pub setting_more : More ≡ turn_of (outcome_of h M.found) → line_waits (place_at h.state.place h) (line_of h).command h M.found ≡ false → TurnsLine More actor h g told tells
-  setting_more is goes = turns More (sym waits_is ∙ goes, is ∙ ap turn_of outcome_is)
+  free : way ≡ None → part_waits (set_slot_part p h job.id job.slot) h.topics M.found ≡ false
+  free is = told_way None is
 
-  -- where it gives the lock back
-  pub setting_counts : p ≡ set_slot.Close → (seen : Seen) → seen ≡ set_slot_seen set_slot.Close h id slot 0 → line_waits (place_at h.state.place h) (line_of h).command h M.found ≡ true → TurnsLine (Wait seen) actor h g told tells
-  setting_counts at seen is waits =
-      turns (Wait seen) (sym waits_is ∙ waits, is ∙ ap (λ (q : SetSlotPlace). set_slot_seen q h id slot M.found) (sym at))
+  pub setting_waits : (seen : Seen) → way ≡ Some seen → TurnsLine (Wait seen) actor h g told tells
+  setting_waits seen is = let t = told_way (Some seen) is in turns (Wait seen) (t.0, t.1)
 
-  -- and elsewhere
-  pub setting_waits : p ≢ set_slot.Close → line_waits (place_at h.state.place h) (line_of h).command h M.found ≡ true → has_line h ≡ true → TurnsLine (Wait (record { word = M.kind.word; value = M.found })) actor h g told tells
-  setting_waits other waits left = turns (Wait (record { word = M.kind.word; value = M.found })) (sym waits_is ∙ waits, own_word p other h id slot (record { word = M.kind.word; value = M.found }) M.kind.word M.found (ap (λ (k : Kind). k.word) kind_is) refl)
-    where
-      kind_is : M.kind ≡ kind_of_task h.state.sizes (set_slot_task p h id slot)
-      kind_is =
-          (is_next h M.kind M.enabled left).is ∙ ap (λ (q : Place). kind_of_task h.state.sizes (task_at q (line_of h).command h)) stands
-          ∙ ap (λ (c : Command). kind_of_task h.state.sizes (task_at (place.SetSlot p) c h)) setting
+  abbrev kind : Kind
+  kind = part_kind h (set_slot_part p h job.id job.slot) note
+
+  pub setting_done : (i : ℕ) (seen : List AnsweredLine) (x : AnsweredLine) → way ≡ None → seen ≡ g.answers → i ≡ length h.answers → i < length seen → x ≡ get_or seen i x → TurnsLine (Done x.answer) actor h g told tells
+  setting_done i seen x is answers at below got = turns (Done x.answer) (free is, turn_is_done h g kind M.found i seen x L.left M.made.hand answers at below got ∙ ap turn_of outcome_is)
+
+  pub setting_more : (i : ℕ) (seen : List AnsweredLine) → way ≡ None → seen ≡ g.answers → i ≡ length h.answers → length seen ≤ i → TurnsLine More actor h g told tells
+  setting_more i seen is answers at few = turns More (free is, turn_is_more h g kind M.found i seen L.left M.made.hand answers at few ∙ ap turn_of outcome_is)

@@ -4,6 +4,7 @@
 //! is given back.
 #![tactic(auto)]
 
+mod places;
 mod setting;
 
 pub use setting::SlotJob;

@@ -1,15 +1,14 @@
 ghost use Rattle.std.specs.Prelude.{◌≡◌, ◌<◌, length};
-ghost use Rattle.core_views.specs.Sizes.{AreSizes};
-ghost use Rattle.core_views.specs.declared.place.SetSlotPlace.TheVariants.{Close};
 ghost use Rattle.core_views.specs.declared.trace.Command.TheVariants.{SetSlot};
-ghost use Rattle.mmu_core.specs.lines.SetSlotSteps.{set_slot_seen};
 ghost use Rattle.mmu_core.specs.machine.Turns.{IsSameHand, line_of};
+ghost use Rattle.slot_change.specs.Settings.{IsAt, MakesStep};
 ghost use Rattle.step_seats.specs.LineTurns.{Says, TurnsLine};
 ghost use Rattle.step_seats.specs.Moves.{KeepsRoom};
 
-use core_views::{Answer, Hand, Seen, SetSlotPlace, Slot};
-use mmu_core::{next_kind, next_step, rests, setting_place, waits_by};
-use part_steps::map_of;
+use core_views::{Answer, Seen, SetSlotPlace, Slot};
+use invalidate_seq::Snapshot;
+use mmu_core::{knows, rests, setting_note, setting_place};
+use part_steps::PartStep;
 use step_seats::{Stepper, Turn};
 
 /// The setting of a slot, a step a turn. Where it stands is kept in the
@@ -24,6 +23,33 @@ pub struct SlotJob {
 }
 
 impl SlotJob {
+    // Makes the step of this place, and says what is in its way.
+    fn step<S: Stepper>(&self, s: &mut S, place: SetSlotPlace, note: u64) -> Option<Seen>
+        requires is_at { IsAt place self.now note (S.handful s.old).core }
+        requires reserved { 0 < (S.handful s.old).room }
+        ensures makes { MakesStep result place self.now note (S.actor s.old) (S.handful s.old).core (S.handful s.new).core (S.tells s.old) (S.tells s.new) }
+        ensures room { KeepsRoom (S.handful s.old) (S.handful s.new) }
+        ensures same { (S.actor s.new ≡ S.actor s.old) × (S.frame s.new ≡ S.frame s.old) }
+    {
+        match place {
+            SetSlotPlace::Refuse(_) => {
+                let _ = Snapshot::new().turn(s, note);
+                None
+            }
+            SetSlotPlace::Claim { begun } => self.claim(s, begun, note),
+            SetSlotPlace::Fill => self.fill(s, note),
+            SetSlotPlace::Role => self.role(s, note),
+            SetSlotPlace::Exclude => self.exclude(s, note),
+            SetSlotPlace::Close => self.close(s, note),
+            SetSlotPlace::Release => self.release(s, note),
+            SetSlotPlace::Watch => self.watch(s, note),
+            SetSlotPlace::Count => self.make(s, place, PartStep::Count, note),
+            SetSlotPlace::Publish => self.make(s, place, PartStep::Publish, note),
+            SetSlotPlace::Clear => self.make(s, place, PartStep::Clear, note),
+            SetSlotPlace::Give => self.make(s, place, PartStep::GiveOld, note),
+        }
+    }
+
     /// Makes the next step of the line, and says whether it is answered: `Done`, with
     /// the answer, behind its last step. `Wait` where a page was claimed by another
     /// actor meanwhile, the lock's word isn't 0, an invalidation is open, or another
@@ -42,36 +68,15 @@ impl SlotJob {
     {
         let hand = s.hand();
         rests(hand);
-        let kind = next_kind(hand);
-        let step = next_step(hand);
+        knows(hand);
         let place = setting_place(hand, self.id, &self.slot);
-        let topics = *hand.topics();
-        let counted = self.counted(hand);
-        let found = s.act(kind);
-        if let Some(answered) = s.hand().answers().get(self.index) {
-            return Turn::Done(answered.answer);
+        let note = setting_note(place, hand);
+        if let Some(seen) = self.step(s, place, note) {
+            return Turn::Wait(seen);
         }
-        if !waits_by(step, &topics, found) {
-            return Turn::More;
-        }
-        match place {
-            SetSlotPlace::Close => Turn::Wait(counted),
-            _ => Turn::Wait(Seen {
-                word: kind.word,
-                value: found,
-            }),
-        }
-    }
-
-    // How many invalidations are open: what the step has seen that gives the lock
-    // back for them.
-    fn counted(&self, hand: &Hand) -> Seen
-        requires sizes { AreSizes hand.now.core.state.sizes }
-        ensures { result ≡ set_slot_seen Close hand.now.core self.now.id self.now.slot 0 }
-    {
-        Seen {
-            word: map_of(&hand.state().sizes).word_of_count(0),
-            value: hand.topics().invalidations.count,
+        match s.hand().answers().get(self.index) {
+            Some(answered) => Turn::Done(answered.answer),
+            None => Turn::More,
         }
     }
 }

@@ -6,5 +6,6 @@ pub mod Where
 pub mod AloneTold
 pub mod Found
 pub mod ToldWords
+pub mod LineParts
 pub mod LineTurns
 pub mod Answering

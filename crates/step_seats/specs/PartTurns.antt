@@ -1,5 +1,6 @@
 -- What one step of a part makes of the seat that makes it.
-use Rattle.std.specs.Prelude.{◌≡◌, ℕ, Bool, true, false, IfSome}
+use Rattle.std.specs.Prelude.{◌≡◌, ℕ, Bool, true, false, IfSome, Option, Some, None}
+use Rattle.core_views.specs.declared.hand.Seen.{Seen}
 use Rattle.core_views.specs.Held.{Held}
 use Rattle.part_steps.specs.declared.part_step.PartStep.{PartStep}
 use Rattle.part_steps.specs.PartSteps.{part_kind}
@@ -32,6 +33,13 @@ waits (Wait seen) = true
 waits More = false
 waits (Retry cause) = false
 waits (Done answer) = false
+
+-- what is in its way then
+abbrev pub in_way : {A : Type 0} → Turn A → Option Seen
+in_way (Wait seen) = Some seen
+in_way More = None
+in_way (Retry cause) = None
+in_way (Done answer) = None
 
 -- The actor made this step of a part with a turn that waits exactly where the step does, by what the actor held and what the step answered.
 pub record TurnsPart (turn_waits : Bool) (step : PartStep) (note actor : ℕ) (before after : Held) (told tells : Told) : Type 0 where

@@ -1,3 +1,6 @@
+ghost use Rattle.std.specs.Prelude.{◌≡◌};
+ghost use Rattle.step_seats.specs.PartTurns.{in_way};
+
 use core_views::{Cause, Seen};
 
 /// How a turn of a job or a part ended. A turn makes one step.
@@ -12,4 +15,16 @@ pub enum Turn<T> {
     Retry(Cause),
     /// It is done, with this answer.
     Done(T),
+}
+
+impl<T> Turn<T> {
+    /// What stands in the way, where the turn waits.
+    pub fn in_way(&self) -> Option<Seen>
+        ensures { result ≡ in_way self.now }
+    {
+        match self {
+            Turn::Wait(seen) => Some(*seen),
+            _ => None,
+        }
+    }
 }

@@ -1,6 +1,6 @@
 -- That an access may make the step of its place, and what this step makes of its hand.
 use Rattle.std.proofs.Common.{◌≡◌, ◌≢◌, ◌<◌, ◌^◌, ℕ, length, refl, sym, subst, ap, ◌∙◌}
-use Rattle.std.specs.Prelude.{Bool, true, false, Option, Some}
+use Rattle.std.specs.Prelude.{Bool, true, false, Some}
 use Rattle.core_views.specs.declared.actor.Actor.{Actor}
 use Rattle.core_views.specs.declared.actor.Actor.TheVariants.{Vcpu, Host, Manager, Worker}
 use Rattle.core_views.specs.declared.place.AccessPlace.{AccessPlace}
@@ -46,21 +46,20 @@ use Rattle.part_steps.specs.declared.part_step.PartStep.{PartStep}
 use Rattle.part_steps.specs.declared.part_step.PartStep.TheVariants as part
 use Rattle.part_steps.specs.TopicSteps.{may_walk}
 use Rattle.tdp_walk.specs.Walks.{walk_step}
-use Rattle.mmu_core.specs.lines.AccessSteps.{access_note, access_part, task_by, touch_of}
+use Rattle.mmu_core.specs.lines.AccessSteps.{access_note, access_part, touch_of}
 use Rattle.mmu_core.specs.machine.Enabled.{Enabled}
 use Rattle.mmu_core.specs.machine.MayMake.{MayMake}
-use Rattle.part_steps.specs.PartSteps.{PartNeeds, part_kind, part_task, own_index}
 use Rattle.mmu_core.specs.lines.KnowsPart.{KnowsPart}
-use Rattle.mmu_core.specs.lines.Rests.{Rests, RestsAt, RestsOn}
+use Rattle.mmu_core.specs.lines.Rests.{Rests, RestsOn}
 use Rattle.mmu_core.specs.machine.Steps.{outcome_at, place_at, task_at, task_of}
 use Rattle.part_steps.specs.Tasks.{kind_of_task, map_of}
 use Rattle.mmu_core.specs.machine.Turns.{line_of, outcome_of}
 use Rattle.mmu_core.proofs.lines.KnowsKept.{access_vcpu}
-use Rattle.mmu_core.proofs.words.PartFits.{part_small, part_within_by}
 use Rattle.mmu_core.proofs.machine.Which.{enabled_is}
 use Rattle.step_seats.specs.Where.{Told}
 use Rattle.vcpu_run.specs.declared.access.AccessJob.{AccessJob}
 use Rattle.step_seats.specs.LineTurns.{Gives, MakesLine, TurnsLine, fault_turn, line_seen, line_turn, turn_of}
+use Rattle.step_seats.proofs.LineParts.{place_may_make, place_rests, place_task}
 use Rattle.step_seats.proofs.LineTurns.{made_line}
 use Rattle.vcpu_run.specs.Accesses.{HasItsCause, IsStay, StandsAt, WalksAt, answer_of, walk_place}
 
@@ -73,29 +72,14 @@ word_of z (Worker n) gfn word op may = absurd may
 module _ (p : AccessPlace) (job : AccessJob) (h : Held) (S : StandsAt p job h) where
   -- what the step of its place needs
   rests_on : RestsOn (access_part p job.gfn h.topics) job.gfn (is_write job.op) h
-  rests_on = subst (λ (c : Command). RestsAt (place.Access p) c h) S.command (subst (λ (q : Place). RestsAt q (line_of h).command h) S.stands S.rests.at)
-
-  pub needs : (step : PartStep) → access_part p job.gfn h.topics ≡ Some step → PartNeeds step h
-  needs step is = subst (λ (x : Option PartStep). RestsOn x job.gfn (is_write job.op) h) is rests_on
+  rests_on = place_rests (place.Access p) (Access job.gfn job.word job.op) h S.left S.rests S.stands S.command
 
   task_is : task_of h ≡ task_at (place.Access p) (Access job.gfn job.word job.op) h
-  task_is = ap (λ (q : Place). task_at q (line_of h).command h) S.stands ∙ ap (λ (c : Command). task_at (place.Access p) c h) S.command
-
-  abbrev task : PartStep → Task
-  task s = part_task s (own_index h) h.topics (access_note p)
+  task_is = place_task (place.Access p) (Access job.gfn job.word job.op) h S.left S.rests S.stands S.command
 
   -- so its actor may make it
   pub may_make : (step : PartStep) → access_part p job.gfn h.topics ≡ Some step → MayMake step (access_note p) h
-  may_make step is = record {
-    needs = needs step is;
-    enabled = enabled_is h (part_kind h step (access_note p)) (record {
-      left = S.left;
-      rests = S.rests;
-      is = sym (ap (λ (t : Task). kind_of_task h.state.sizes t) (task_is ∙ ap (λ (x : Option PartStep). task_by x h (access_note p) (touch_of job.op (content_index (map_of h.state.sizes) (frame_in h.state.leaf) job.word))) is));
-      inside = place_below (map_of h.state.sizes) (task step).area (task step).index (part_within_by step h (access_note p) (needs step is) S.rests.part);
-      small = part_small step h (access_note p) (needs step is) S.rests.part;
-    });
-  }
+  may_make step is = place_may_make (place.Access p) (Access job.gfn job.word job.op) h S.left S.rests S.stands S.command step is
 
   pub command_for : IsCommandFor h.state.sizes (line_of h).actor (Access job.gfn job.word job.op)
   command_for = subst (λ (c : Command). IsCommandFor h.state.sizes (line_of h).actor c) S.command S.rests.line

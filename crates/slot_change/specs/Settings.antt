@@ -1,0 +1,46 @@
+-- What a slot's setting needs at each of its places, and what the step of its place makes.
+use Rattle.std.specs.Prelude.{◌≡◌, ℕ, Bool, true, false, Option, Some, None}
+use Rattle.core_views.specs.declared.hand.Seen.{Seen}
+use Rattle.core_views.specs.declared.place.SetSlotPlace.{SetSlotPlace}
+use Rattle.core_views.specs.declared.place.SetSlotPlace.TheVariants.{Count, Publish, Clear, Give}
+use Rattle.core_views.specs.Held.{Held}
+use Rattle.mmu_core.specs.lines.PartWaits.{part_waits}
+use Rattle.mmu_core.specs.lines.SetSlotKnows.{SetSlotKnows}
+use Rattle.mmu_core.specs.lines.SetSlotSteps.{set_slot_part, set_slot_seen}
+use Rattle.mmu_core.specs.machine.MayMake.{MayMake}
+use Rattle.mmu_lock.specs.declared.lock.Lock.{Lock}
+use Rattle.mmu_lock.specs.declared.lock.Lock.TheVariants.{Got, Held as HeldBy}
+use Rattle.part_steps.specs.declared.part_step.PartStep.{PartStep}
+use Rattle.part_steps.specs.declared.part_step.PartStep.TheVariants as part
+use Rattle.slot_change.specs.declared.setting.SlotJob.{SlotJob}
+use Rattle.step_seats.specs.PartTurns.{MadePart}
+use Rattle.step_seats.specs.Where.{Told}
+
+-- The setting is at this place, whose step its actor may make, and knows what the place asks.
+pub record IsAt (p : SetSlotPlace) (job : SlotJob) (note : ℕ) (h : Held) : Type 0 where
+  pub may : MayMake (set_slot_part p h job.id job.slot) note h
+  pub knows : SetSlotKnows p h
+
+-- Where the step waits, this is what it has seen in its way, and else there is nothing.
+abbrev pub ToldWay : Option Seen → Bool → Seen → Type 0
+ToldWay (Some seen) waits way = (waits ≡ true) × (seen ≡ way)
+ToldWay None waits way = waits ≡ false
+
+-- The step of the place was made, of which this was found (a fill: what it stored), and what is in its way is told.
+pub record MakesStep (way : Option Seen) (p : SetSlotPlace) (job : SlotJob) (note actor : ℕ) (h g : Held) (told tells : Told) : Type 0 where
+  pub found : ℕ
+  pub made : MadePart (set_slot_part p h job.id job.slot) note found actor h g told tells
+  pub told_way : ToldWay way (part_waits (set_slot_part p h job.id job.slot) h.topics found) (set_slot_seen p h job.id job.slot found)
+
+-- what is in the way of who tries to hold the lock alone, on the lock's word
+abbrev pub lock_way : ℕ → Lock → Option Seen
+lock_way word Got = None
+lock_way word (HeldBy value) = Some (record { word = word; value = value })
+
+-- The place's step is this one, which no part makes, and which never waits.
+abbrev pub IsPlain : SetSlotPlace → PartStep → Type 0
+IsPlain Count step = step ≡ part.Count
+IsPlain Publish step = step ≡ part.Publish
+IsPlain Clear step = step ≡ part.Clear
+IsPlain Give step = step ≡ part.GiveOld
+IsPlain _ step = ⊥

@@ -1,0 +1,153 @@
+//! The step of each place, by the call of its part.
+ghost use Rattle.std.specs.Prelude.{◌≡◌, ◌<◌};
+ghost use Rattle.core_views.specs.Sizes.{AreSizes};
+ghost use Rattle.core_views.specs.declared.place.SetSlotPlace.TheVariants as at;
+ghost use Rattle.mmu_core.specs.lines.SetSlotSteps.{set_slot_part, set_slot_seen};
+ghost use Rattle.slot_change.specs.Settings.{IsAt, IsPlain, MakesStep, lock_way};
+ghost use Rattle.step_seats.specs.Moves.{KeepsRoom};
+
+use crate::SlotJob;
+use core_views::{Hand, Seen, SetSlotPlace};
+use grace_period::Watch;
+use mmu_core::part_rests;
+use mmu_lock::{Lock, try_exclusive, unlock};
+use part_steps::{PartStep, SLOT_SET_ROLE, map_of, page_owned, set_word, words_filled};
+use spte_words::Area;
+use step_seats::{Stepper, make_part};
+use table_pool::{Claim, Fill};
+
+// What is in the way of a try for the lock, on the lock's word.
+fn lock_way(word: u32, lock: Lock) -> Option<Seen>
+    ensures { result ≡ lock_way word lock }
+{
+    match lock {
+        Lock::Got => None,
+        Lock::Held(value) => Some(Seen { word, value }),
+    }
+}
+
+impl SlotJob {
+    // Claims a page for the new slot set.
+    pub(crate) fn claim<S: Stepper>(&self, s: &mut S, begun: bool, note: u64) -> Option<Seen>
+        requires is_at { IsAt (at.Claim begun) self.now note (S.handful s.old).core }
+        requires reserved { 0 < (S.handful s.old).room }
+        ensures makes { MakesStep result (at.Claim begun) self.now note (S.actor s.old) (S.handful s.old).core (S.handful s.new).core (S.tells s.old) (S.tells s.new) }
+        ensures room { KeepsRoom (S.handful s.old) (S.handful s.new) }
+        ensures same { (S.actor s.new ≡ S.actor s.old) × (S.frame s.new ≡ S.frame s.old) }
+    {
+        let mut claim = Claim { begun };
+        claim.turn(s, note).in_way()
+    }
+
+    // Fills the next word of the new slot set's page. It never waits.
+    pub(crate) fn fill<S: Stepper>(&self, s: &mut S, note: u64) -> Option<Seen>
+        requires is_at { IsAt at.Fill self.now note (S.handful s.old).core }
+        requires reserved { 0 < (S.handful s.old).room }
+        ensures makes { MakesStep result at.Fill self.now note (S.actor s.old) (S.handful s.old).core (S.handful s.new).core (S.tells s.old) (S.tells s.new) }
+        ensures room { KeepsRoom (S.handful s.old) (S.handful s.new) }
+        ensures same { (S.actor s.new ≡ S.actor s.old) × (S.frame s.new ≡ S.frame s.old) }
+    {
+        let hand = s.hand();
+        let owned = hand.topics().owned;
+        let value = set_word(hand.slots(), self.id, &self.slot, words_filled(owned));
+        let mut fill = Fill::new(page_owned(owned));
+        let _ = fill.turn(s, value, note);
+        None
+    }
+
+    // Stores the role of the new slot set's page. It never waits.
+    pub(crate) fn role<S: Stepper>(&self, s: &mut S, note: u64) -> Option<Seen>
+        requires is_at { IsAt at.Role self.now note (S.handful s.old).core }
+        requires reserved { 0 < (S.handful s.old).room }
+        ensures makes { MakesStep result at.Role self.now note (S.actor s.old) (S.handful s.old).core (S.handful s.new).core (S.tells s.old) (S.tells s.new) }
+        ensures room { KeepsRoom (S.handful s.old) (S.handful s.new) }
+        ensures same { (S.actor s.new ≡ S.actor s.old) × (S.frame s.new ≡ S.frame s.old) }
+    {
+        let mut fill = Fill::new(page_owned(s.hand().topics().owned));
+        let _ = fill.turn(s, SLOT_SET_ROLE, note);
+        None
+    }
+
+    // Tries to hold the lock alone.
+    pub(crate) fn exclude<S: Stepper>(&self, s: &mut S, note: u64) -> Option<Seen>
+        requires is_at { IsAt at.Exclude self.now note (S.handful s.old).core }
+        requires reserved { 0 < (S.handful s.old).room }
+        ensures makes { MakesStep result at.Exclude self.now note (S.actor s.old) (S.handful s.old).core (S.handful s.new).core (S.tells s.old) (S.tells s.new) }
+        ensures room { KeepsRoom (S.handful s.old) (S.handful s.new) }
+        ensures same { (S.actor s.new ≡ S.actor s.old) × (S.frame s.new ≡ S.frame s.old) }
+    {
+        part_rests(s.hand());
+        let word = map_of(&s.hand().state().sizes).word_of(Area::Lock, 0);
+        lock_way(word, try_exclusive(s, note))
+    }
+
+    // Gives the lock back, since invalidations are open: their number is in its way.
+    pub(crate) fn close<S: Stepper>(&self, s: &mut S, note: u64) -> Option<Seen>
+        requires is_at { IsAt at.Close self.now note (S.handful s.old).core }
+        requires reserved { 0 < (S.handful s.old).room }
+        ensures makes { MakesStep result at.Close self.now note (S.actor s.old) (S.handful s.old).core (S.handful s.new).core (S.tells s.old) (S.tells s.new) }
+        ensures room { KeepsRoom (S.handful s.old) (S.handful s.new) }
+        ensures same { (S.actor s.new ≡ S.actor s.old) × (S.frame s.new ≡ S.frame s.old) }
+    {
+        part_rests(s.hand());
+        let counted = self.counted(s.hand());
+        unlock(s, note);
+        Some(counted)
+    }
+
+    // Gives the lock back.
+    pub(crate) fn release<S: Stepper>(&self, s: &mut S, note: u64) -> Option<Seen>
+        requires is_at { IsAt at.Release self.now note (S.handful s.old).core }
+        requires reserved { 0 < (S.handful s.old).room }
+        ensures makes { MakesStep result at.Release self.now note (S.actor s.old) (S.handful s.old).core (S.handful s.new).core (S.tells s.old) (S.tells s.new) }
+        ensures room { KeepsRoom (S.handful s.old) (S.handful s.new) }
+        ensures same { (S.actor s.new ≡ S.actor s.old) × (S.frame s.new ≡ S.frame s.old) }
+    {
+        unlock(s, note);
+        None
+    }
+
+    // Looks at the next actor.
+    pub(crate) fn watch<S: Stepper>(&self, s: &mut S, note: u64) -> Option<Seen>
+        requires is_at { IsAt at.Watch self.now note (S.handful s.old).core }
+        requires reserved { 0 < (S.handful s.old).room }
+        ensures makes { MakesStep result at.Watch self.now note (S.actor s.old) (S.handful s.old).core (S.handful s.new).core (S.tells s.old) (S.tells s.new) }
+        ensures room { KeepsRoom (S.handful s.old) (S.handful s.new) }
+        ensures same { (S.actor s.new ≡ S.actor s.old) × (S.frame s.new ≡ S.frame s.old) }
+    {
+        let mut watch = Watch::under_way();
+        watch.turn(s, note).in_way()
+    }
+
+    // Makes a step that no part has a call for: the count, the publication, and the
+    // role and the page of the old set. It never waits.
+    pub(crate) fn make<S: Stepper>(
+        &self,
+        s: &mut S,
+        place: SetSlotPlace,
+        step: PartStep,
+        note: u64,
+    ) -> Option<Seen>
+        requires is_at { IsAt place self.now note (S.handful s.old).core }
+        requires plain { IsPlain place step }
+        requires reserved { 0 < (S.handful s.old).room }
+        ensures makes { MakesStep result place self.now note (S.actor s.old) (S.handful s.old).core (S.handful s.new).core (S.tells s.old) (S.tells s.new) }
+        ensures room { KeepsRoom (S.handful s.old) (S.handful s.new) }
+        ensures same { (S.actor s.new ≡ S.actor s.old) × (S.frame s.new ≡ S.frame s.old) }
+    {
+        let _ = make_part(s, step, note);
+        None
+    }
+
+    // How many invalidations are open: what the step has seen that gives the lock
+    // back for them.
+    fn counted(&self, hand: &Hand) -> Seen
+        requires sizes { AreSizes hand.now.core.state.sizes }
+        ensures { result ≡ set_slot_seen at.Close hand.now.core self.now.id self.now.slot 0 }
+    {
+        Seen {
+            word: map_of(&hand.state().sizes).word_of_count(0),
+            value: hand.topics().invalidations.count,
+        }
+    }
+}
