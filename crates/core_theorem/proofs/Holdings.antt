@@ -13,7 +13,7 @@ use Rattle.mmu_core.specs.invariant.PoolPart.{is_free}
 use Rattle.mmu_core.specs.machine.View.{word_in}
 use Rattle.mmu_core.specs.invariant.TopicsInvariant.{HoldsOld}
 use Rattle.mmu_core.proofs.pages.PoolPages.{left_no_table, left_not_free, left_not_owned, left_not_slots, not_free, one_leaver, one_owner, owned_not_free, owned_not_slots, set_use, table_not_free, table_not_owned}
-use Rattle.mmu_core.proofs.held.Scanned.{others_hand}
+use Rattle.mmu_core.proofs.held.ClaimGoes.{others_hand}
 use Rattle.mmu_core.proofs.machine.Worlds.{good_step}
 use Rattle.core_theorem.specs.Holdings.{HeldSetsAreKnown, NoneHoldsFreePages, NoOtherHolds, WatchedHoldNoOldSet, OfEachHeld, PagesAreReusedAlone}
 use Rattle.core_theorem.specs.Pages.{Owns}
@@ -25,7 +25,8 @@ use Rattle.core_theorem.specs.Walks.{table_at, walk_of}
 use Rattle.mmu_core.specs.invariant.TreePart.{stands}
 use Rattle.mmu_core.specs.invariant.TreePart.Use.{SlotSet}
 use Rattle.std.proofs.lemmas.Bool.Decides.{nat_tests}
-use Rattle.part_steps.specs.PartSteps.{MayGiveOld, next_watched, own_index}
+use Rattle.part_steps.specs.PartTasks.{own_index}
+use Rattle.part_steps.specs.PartHoldings.{MayGiveOld, next_watched}
 use Rattle.core_views.specs.Kinds.{code_of}
 use Rattle.core_views.specs.declared.kind.StepKind.TheVariants as kind
 

@@ -16,7 +16,7 @@ use Rattle.mmu_core.specs.machine.Machine.{Legal, May, Step, World, answered, ef
 use Rattle.mmu_core.specs.machine.Steps.{has_line}
 use Rattle.mmu_core.specs.machine.Sums.{one_if}
 use Rattle.mmu_core.proofs.machine.Columns.{same_or}
-use Rattle.mmu_core.proofs.held.Scanned.{others_hand}
+use Rattle.mmu_core.proofs.held.ClaimGoes.{others_hand}
 use Rattle.mmu_laws.proofs.causes.StarvedScan.{legal_parts}
 use Rattle.core_theorem.specs.Turns.{LinesMakeFewSteps, delays_line, hand_delays, is_of, own_delays, own_steps}
 use Rattle.core_theorem.proofs.Turns.{Counts, CountsEnding, CountsGoing, IsReached, count_few, counted_in, part_still, reached_behind, reached_more, step_counts}

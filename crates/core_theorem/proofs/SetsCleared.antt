@@ -24,7 +24,8 @@ use Rattle.spte_words.specs.declared.area.Area.TheVariants as area
 use Rattle.part_steps.specs.declared.part_step.PartStep.{PartStep}
 use Rattle.part_steps.specs.declared.part_step.PartStep.TheVariants as part
 use Rattle.part_steps.specs.declared.task.Task.{Task}
-use Rattle.part_steps.specs.PartSteps.{next_watched, own_index, page_left, part_task, words_filled, table_page, MayGiveOld}
+use Rattle.part_steps.specs.PartTasks.{own_index, page_left, part_task, words_filled, table_page}
+use Rattle.part_steps.specs.PartHoldings.{next_watched, MayGiveOld}
 use Rattle.part_steps.specs.Tasks.{kind_of_task}
 use Rattle.part_steps.specs.TopicSteps.{topics_after}
 use Rattle.mmu_core.specs.declared.outcome.Outcome.TheVariants.{Goes}

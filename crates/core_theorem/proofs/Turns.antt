@@ -28,7 +28,7 @@ use Rattle.mmu_core.proofs.machine.Columns.{same_or}
 use Rattle.mmu_core.proofs.machine.Extend.{goes_on, leads_to_end}
 use Rattle.mmu_core.proofs.machine.HandAfter.{next_comes}
 use Rattle.mmu_core.proofs.machine.LineRuns.{own_hand}
-use Rattle.mmu_core.proofs.held.Scanned.{others_hand}
+use Rattle.mmu_core.proofs.held.ClaimGoes.{others_hand}
 use Rattle.mmu_core.proofs.start.Starts.{reached_good}
 use Rattle.mmu_laws.proofs.causes.StarvedScan.{legal_parts}
 use Rattle.mmu_laws.proofs.turns.StepsCounted.{counts_fit, steps_counted_on}

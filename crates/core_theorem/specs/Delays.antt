@@ -16,7 +16,8 @@ use Rattle.core_views.specs.Held.{Held}
 use Rattle.core_views.specs.Sizes.{actors_of}
 use Rattle.spte_words.specs.Areas.{words_of_bits}
 use Rattle.part_steps.specs.declared.part_step.PartStep.{PartStep}
-use Rattle.part_steps.specs.PartSteps.{PartNeeds, part_kind}
+use Rattle.part_steps.specs.PartTasks.{part_kind}
+use Rattle.part_steps.specs.PartSteps.{PartNeeds}
 use Rattle.mmu_core.specs.declared.outcome.Outcome.TheVariants.{Ends}
 use Rattle.mmu_laws.specs.causes.Causes.{IsCaused}
 use Rattle.mmu_core.specs.machine.Enabled.{mmu}

@@ -25,7 +25,8 @@ use Rattle.mmu_core.specs.lines.AccessSteps.{access_note, behind_fault}
 use Rattle.mmu_core.specs.lines.Bounds.{steps_left}
 use Rattle.mmu_core.specs.lines.FaultKnows.{EndKnows, FaultKnows, KnowsNext}
 use Rattle.mmu_core.specs.lines.FaultLaws.{CanAnswer}
-use Rattle.mmu_core.specs.lines.FaultSteps.{fault_left, fault_next, fault_part, next_left, wait_seen}
+use Rattle.mmu_core.specs.lines.FaultLeft.{fault_left, next_left}
+use Rattle.mmu_core.specs.lines.FaultSteps.{fault_next, fault_part, wait_seen}
 use Rattle.mmu_core.specs.machine.Enabled.{mmu}
 use Rattle.mmu_core.specs.machine.Machine.{World, answered}
 use Rattle.mmu_core.specs.machine.Outcomes.{place_after}
@@ -37,7 +38,8 @@ use Rattle.part_steps.specs.declared.part_step.PartStep.TheVariants as part
 use Rattle.mmu_core.specs.lines.PartWaits.{part_waits}
 use Rattle.mmu_core.specs.machine.MayMake.{MayMake}
 use Rattle.part_steps.specs.PartBounds.{PartRests}
-use Rattle.part_steps.specs.PartSteps.{PartNeeds, own_index, part_kind}
+use Rattle.part_steps.specs.PartTasks.{own_index, part_kind}
+use Rattle.part_steps.specs.PartSteps.{PartNeeds}
 use Rattle.mmu_core.proofs.lines.FaultFalls.{fault_falls}
 use Rattle.mmu_core.proofs.lines.FaultKnown.{fault_known, parts_answer}
 use Rattle.mmu_core.proofs.machine.HandAfter.{next_same}

@@ -14,9 +14,12 @@ use Rattle.part_steps.specs.declared.part_step.PartStep.TheVariants as part
 use Rattle.mmu_core.specs.machine.Machine.{World}
 use Rattle.mmu_core.specs.alone.OthersRest.{OthersRest}
 use Rattle.part_steps.specs.PartBounds.{PartRests}
-use Rattle.part_steps.specs.PartSteps.{PartNeeds, next_watched, own_index, part_kind}
+use Rattle.part_steps.specs.PartTasks.{own_index, part_kind}
+use Rattle.part_steps.specs.PartHoldings.{next_watched}
+use Rattle.part_steps.specs.PartSteps.{PartNeeds}
 use Rattle.mmu_core.specs.machine.Steps.{next}
-use Rattle.part_steps.specs.TopicSteps.{in_section, is_outside}
+use Rattle.part_steps.specs.StayTopics.{is_outside}
+use Rattle.part_steps.specs.ControlTopics.{in_section}
 use Rattle.mmu_core.specs.machine.View.{word_in}
 use Rattle.mmu_core.proofs.machine.HandAfter.{next_same}
 use Rattle.mmu_core.proofs.held.StateTells.{own_place, state_tells}

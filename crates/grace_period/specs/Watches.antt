@@ -6,9 +6,10 @@ use Rattle.core_views.specs.Sizes.{actors_of}
 use Rattle.spte_words.specs.declared.area.Area.TheVariants.{State}
 use Rattle.spte_words.specs.Areas.{place}
 use Rattle.part_steps.specs.declared.part_step.PartStep.TheVariants as part
-use Rattle.part_steps.specs.PartSteps.{next_watched, own_index}
+use Rattle.part_steps.specs.PartTasks.{own_index}
+use Rattle.part_steps.specs.PartHoldings.{next_watched}
 use Rattle.part_steps.specs.Tasks.{map_of}
-use Rattle.part_steps.specs.TopicSteps.{in_section}
+use Rattle.part_steps.specs.ControlTopics.{in_section}
 use Rattle.step_seats.specs.declared.turn.Turn.{Turn}
 use Rattle.step_seats.specs.declared.turn.Turn.TheVariants.{More, Wait, Retry, Done}
 use Rattle.step_seats.specs.PartTurns.{MadePart}

@@ -2,7 +2,7 @@ ghost use Rattle.std.specs.Prelude.{◌≡◌, ◌<◌};
 ghost use Rattle.core_views.specs.declared.topics.Stay.TheVariants.{Outside, Section};
 ghost use Rattle.grace_period.specs.Sections.{IsTold, IsUntold};
 ghost use Rattle.mmu_core.specs.machine.MayMake.{MayMake};
-ghost use Rattle.part_steps.specs.TopicSteps.{begun};
+ghost use Rattle.part_steps.specs.StayTopics.{begun};
 ghost use Rattle.part_steps.specs.declared.part_step.PartStep.TheVariants.{Begin, End};
 ghost use Rattle.step_seats.specs.Moves.{KeepsRoom};
 ghost use Rattle.step_seats.specs.PartTurns.{MakesPart, WherePartMade};

@@ -13,7 +13,8 @@ use Rattle.part_steps.specs.declared.part_step.PartStep.TheVariants as part
 use Rattle.mmu_core.specs.machine.Machine.{World}
 use Rattle.part_steps.specs.PartSteps.{PartNeeds}
 use Rattle.part_steps.specs.PartTopics.{part_topics, sequenced}
-use Rattle.part_steps.specs.TopicSteps.{has_lock, is_loose, seq_checked}
+use Rattle.part_steps.specs.StayTopics.{has_lock, is_loose}
+use Rattle.part_steps.specs.ControlTopics.{seq_checked}
 use Rattle.mmu_core.specs.machine.View.{word_in}
 use Rattle.step_seats.specs.PartTurns.{MadePart}
 use Rattle.step_seats.specs.Where.{Told}

@@ -1,6 +1,6 @@
 ghost use Rattle.std.specs.Prelude.{◌≡◌, ◌<◌, true, is_some};
 ghost use Rattle.mmu_core.specs.machine.MayMake.{MayMake};
-ghost use Rattle.part_steps.specs.TopicSteps.{has_lock};
+ghost use Rattle.part_steps.specs.StayTopics.{has_lock};
 ghost use Rattle.mmu_core.specs.machine.View.{word_in};
 ghost use Rattle.step_seats.specs.Moves.{KeepsRoom};
 ghost use Rattle.step_seats.specs.PartTurns.{MakesPart, WherePartMade};

@@ -7,9 +7,9 @@ use Rattle.core_views.specs.declared.topics.SlotSearch.{SlotSearch}
 use Rattle.core_views.specs.declared.trace.Slot.{Slot}
 use Rattle.core_views.specs.Slots.{contains}
 use Rattle.spte_words.specs.Flags.{flags_live, flags_logged, flags_read_only}
-use Rattle.part_steps.specs.PartSteps.{set_held}
+use Rattle.part_steps.specs.PartTasks.{set_held}
 use Rattle.part_steps.specs.SlotWords.{live_at, slot_at, slot_index}
-use Rattle.part_steps.specs.TopicSteps.{searched, searched_at}
+use Rattle.part_steps.specs.PageTopics.{searched, searched_at}
 use Rattle.mmu_core.proofs.machine.Columns.{same_or}
 use Rattle.step_seats.specs.declared.turn.Turn.{Turn}
 use Rattle.step_seats.specs.declared.turn.Turn.TheVariants.{More, Wait, Retry, Done}

@@ -12,10 +12,12 @@ use Rattle.part_steps.specs.declared.task.Task.{Task}
 use Rattle.part_steps.specs.declared.part_step.PartStep.TheVariants as part
 use Rattle.mmu_core.specs.machine.Enabled.{mmu}
 use Rattle.mmu_core.specs.machine.Machine.{World, effect, hand_in}
-use Rattle.part_steps.specs.PartSteps.{PartNeeds, own_index, part_kind, part_task, set_held}
+use Rattle.part_steps.specs.PartTasks.{own_index, part_kind, part_task, set_held}
+use Rattle.part_steps.specs.PartSteps.{PartNeeds}
 use Rattle.part_steps.specs.PartTopics.{part_topics}
 use Rattle.part_steps.specs.Tasks.{kind_of_task, map_of}
-use Rattle.part_steps.specs.TopicSteps.{may_search, searched}
+use Rattle.part_steps.specs.StayTopics.{may_search}
+use Rattle.part_steps.specs.PageTopics.{searched}
 use Rattle.mmu_core.specs.machine.View.{View, word_in}
 use Rattle.mmu_core.specs.machine.Worlds.{Reachable}
 use Rattle.mmu_core.proofs.invariant.PartRested.{part_within, rests_in}

@@ -7,7 +7,7 @@ use Rattle.spte_words.specs.Flags.{flags_logged}
 use Rattle.part_steps.specs.declared.part_step.PartStep.{PartStep}
 use Rattle.part_steps.specs.declared.part_step.PartStep.TheVariants as part
 use Rattle.mmu_core.specs.lines.Bounds.{look_left}
-use Rattle.part_steps.specs.PartSteps.{set_held}
+use Rattle.part_steps.specs.PartTasks.{set_held}
 pub use Rattle.mmu_core.specs.invariant.SearchPart.{HasFlags, HasLoaded}
 use Rattle.part_steps.specs.SlotWords.{live_at, slot_at, slot_index, slots_below}
 pub use Rattle.part_steps.specs.SlotWords.{NoneBelow}

@@ -1,7 +1,7 @@
 ghost use Rattle.std.specs.Prelude.{◌≡◌, ◌<◌, ◌≤◌, true, false, Some};
 ghost use Rattle.core_views.specs.declared.place.SlotField.TheVariants.{Host};
 ghost use Rattle.mmu_core.specs.machine.MayMake.{MayMake};
-ghost use Rattle.part_steps.specs.TopicSteps.{may_search};
+ghost use Rattle.part_steps.specs.StayTopics.{may_search};
 ghost use Rattle.mmu_core.specs.machine.View.{word_in};
 ghost use Rattle.spte_words.specs.declared.area.Area.TheVariants as Area;
 ghost use Rattle.step_seats.specs.Moves.{KeepsRoom};

@@ -1,4 +1,5 @@
 pub mod Grace
+pub mod CountersKept
 pub mod HeldKept
 pub mod LockKept
 pub mod OldSets
@@ -9,4 +10,5 @@ pub mod SetsKept
 pub mod StateTells
 pub mod StatesKept
 pub mod TopicsKept
+pub mod ClaimGoes
 pub mod Scanned

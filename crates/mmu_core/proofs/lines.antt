@@ -4,6 +4,7 @@ pub mod AccessParts
 pub mod ByStep
 pub mod CachedKept
 pub mod FaultFalls
+pub mod LookKnown
 pub mod FaultKnown
 pub mod FaultNeeds
 pub mod FaultSame

@@ -1,5 +1,6 @@
 pub mod Cached
 pub mod AccessSteps
+pub mod FaultLeft
 pub mod FaultSteps
 pub mod SetSlotSteps
 pub mod PartAt

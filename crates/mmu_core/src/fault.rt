@@ -6,9 +6,10 @@ ghost use Rattle.core_views.specs.declared.place.FaultPlace.TheVariants.{End, Fi
 ghost use Rattle.core_views.specs.Sizes.{AreSizes};
 ghost use Rattle.mmu_core.specs.lines.FaultSteps.{after_claim, after_share, check_next, check_part, entry_word, fault_next, fault_part, find_next, share_next, walk_next};
 ghost use Rattle.part_steps.specs.PartBounds.{PartRests};
-ghost use Rattle.part_steps.specs.PartSteps.{PartNeeds, table_page};
+ghost use Rattle.part_steps.specs.PartTasks.{table_page};
+ghost use Rattle.part_steps.specs.PartSteps.{PartNeeds};
 ghost use Rattle.part_steps.specs.SlotWords.{page_of};
-ghost use Rattle.part_steps.specs.TopicSteps.{searched};
+ghost use Rattle.part_steps.specs.PageTopics.{searched};
 ghost use Rattle.spte_words.specs.Entries.{kind_of};
 ghost use Rattle.spte_words.specs.HostWords.{host_allows_write};
 

@@ -8,8 +8,9 @@ use Rattle.core_views.specs.declared.topics.Topics.{Topics}
 use Rattle.core_views.specs.Held.{Held}
 use Rattle.part_steps.specs.declared.part_step.PartStep.TheVariants.{Share}
 use Rattle.mmu_core.specs.machine.MayMake.{MayMake}
-use Rattle.part_steps.specs.PartSteps.{PartNeeds, part_kind}
-use Rattle.part_steps.specs.TopicSteps.{has_writer}
+use Rattle.part_steps.specs.PartTasks.{part_kind}
+use Rattle.part_steps.specs.PartSteps.{PartNeeds}
+use Rattle.part_steps.specs.ControlTopics.{has_writer}
 use Rattle.mmu_core.specs.machine.Machine.{World}
 use Rattle.mmu_core.specs.alone.OthersRest.{OthersRest}
 use Rattle.part_steps.specs.declared.part_step.PartStep.{PartStep}

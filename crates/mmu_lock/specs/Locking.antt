@@ -5,7 +5,8 @@ use Rattle.core_views.specs.declared.topics.Hold.TheVariants.{Loose, Shared, Owi
 use Rattle.core_views.specs.declared.topics.Topics.{Topics}
 use Rattle.part_steps.specs.declared.part_step.PartStep.{PartStep}
 use Rattle.part_steps.specs.declared.part_step.PartStep.TheVariants.{Share, Unshare, Release}
-use Rattle.part_steps.specs.TopicSteps.{has_writer, let_go, unchecked}
+use Rattle.part_steps.specs.StayTopics.{let_go, unchecked}
+use Rattle.part_steps.specs.ControlTopics.{has_writer}
 use Rattle.mmu_lock.specs.declared.lock.Lock.{Lock}
 use Rattle.mmu_lock.specs.declared.lock.Lock.TheVariants.{Got, Held}
 use Rattle.step_seats.specs.declared.turn.Turn.{Turn}

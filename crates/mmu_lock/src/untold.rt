@@ -6,7 +6,7 @@ ghost use Rattle.mmu_core.specs.machine.Machine.{effect};
 ghost use Rattle.mmu_core.specs.machine.MayMake.{MayMake};
 ghost use Rattle.mmu_core.specs.alone.OthersRest.{NoOtherHasLock, OthersRest};
 ghost use Rattle.mmu_lock.specs.declared.lock.Lock.TheVariants.{Got};
-ghost use Rattle.part_steps.specs.PartSteps.{part_kind};
+ghost use Rattle.part_steps.specs.PartTasks.{part_kind};
 ghost use Rattle.part_steps.specs.declared.part_step.PartStep.TheVariants.{Exclude};
 ghost use Rattle.step_seats.specs.Frames.{frame_of};
 ghost use Rattle.step_seats.specs.Moves.{handful_in, step_by};

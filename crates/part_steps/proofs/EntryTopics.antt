@@ -14,8 +14,10 @@ use Rattle.core_views.specs.Held.{Held}
 use Rattle.core_views.specs.Kinds.{kind_named}
 use Rattle.spte_words.specs.HostWords.{host_frame}
 use Rattle.part_steps.specs.PartBounds.{PartRests}
-use Rattle.part_steps.specs.PartSteps.{LookedUp, word_looked}
-use Rattle.part_steps.specs.TopicSteps.{index_in_page, is_in_table, still_owned, swapped, topics_after, topics_by, walked}
+use Rattle.part_steps.specs.PartTasks.{word_looked}
+use Rattle.part_steps.specs.PartHoldings.{LookedUp}
+use Rattle.part_steps.specs.WalkTopics.{is_in_table, still_owned, swapped, walked}
+use Rattle.part_steps.specs.TopicSteps.{index_in_page, topics_after, topics_by}
 
 table_if : (walk : TableWalk) → 1 ≤ walk.level → is_in_table walk ≡ true
 table_if walk from = grind (arith, nat_tests)

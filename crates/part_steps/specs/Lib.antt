@@ -1,7 +1,13 @@
 pub mod Tasks
 pub mod SlotWords
 pub mod SetWords
+pub mod StayTopics
+pub mod WalkTopics
+pub mod PageTopics
+pub mod ControlTopics
 pub mod TopicSteps
+pub mod PartTasks
+pub mod PartHoldings
 pub mod PartSteps
 pub mod PartTopics
 pub mod PartBounds

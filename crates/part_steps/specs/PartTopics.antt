@@ -5,8 +5,11 @@ use Rattle.core_views.specs.declared.topics.Stay.TheVariants.{Outside, Guest, Se
 use Rattle.core_views.specs.declared.topics.Topics.{Topics}
 use Rattle.part_steps.specs.declared.part_step.PartStep.{PartStep}
 use Rattle.part_steps.specs.declared.part_step.PartStep.TheVariants as part
-use Rattle.part_steps.specs.PartSteps.{entry_index, leaf_written, link_written}
-use Rattle.part_steps.specs.TopicSteps.{at_root, at_set, begun, claimed, count_checked, filled_more, given_back, has_writer, in_section, is_loose, kept_search, let_go, may_search, may_walk, published, range_checked, searched, seq_checked, start_checked, still_owned, swapped, tried, unchecked, walked}
+use Rattle.part_steps.specs.PartTasks.{entry_index, leaf_written, link_written}
+use Rattle.part_steps.specs.StayTopics.{begun, is_loose, kept_search, let_go, may_search, may_walk, unchecked}
+use Rattle.part_steps.specs.WalkTopics.{still_owned, swapped, walked}
+use Rattle.part_steps.specs.PageTopics.{claimed, filled_more, given_back, published, searched, tried}
+use Rattle.part_steps.specs.ControlTopics.{at_root, at_set, count_checked, has_writer, in_section, range_checked, seq_checked, start_checked}
 
 -- The sequence number was loaded: without the lock it is the snapshot, with which a look-up begins; else the check's last word.
 abbrev pub sequenced : Bool → Topics → ℕ → Topics

@@ -6,12 +6,14 @@ ghost use Rattle.core_views.specs.declared.topics.OwnedPage.{OwnedPage};
 ghost use Rattle.spte_words.specs.declared.area.Area.TheVariants as Area;
 ghost use Rattle.spte_words.specs.Areas.{IsWordMap, pool_index, size_of};
 ghost use Rattle.part_steps.specs.PartBounds.{PartRests};
-ghost use Rattle.part_steps.specs.PartSteps.{PartNeeds, all_but, entry_index, entry_task, leaf_written, own_index, page_left, page_owned, part_kind, part_task, set_held, table_page, word_looked, words_filled, works};
+ghost use Rattle.part_steps.specs.PartTasks.{all_but, entry_index, entry_task, leaf_written, own_index, page_left, page_owned, part_kind, part_task, set_held, table_page, word_looked, words_filled, works};
+ghost use Rattle.part_steps.specs.PartSteps.{PartNeeds};
 ghost use Rattle.part_steps.specs.SlotWords.{slot_index};
 ghost use Rattle.spte_words.specs.Entries.{level_span, table_word};
 ghost use Rattle.spte_words.specs.HostWords.{host_frame};
 ghost use Rattle.part_steps.specs.Tasks.{loads, map_of};
-ghost use Rattle.part_steps.specs.TopicSteps.{guest_bits, section_bit, tried_bit};
+ghost use Rattle.part_steps.specs.PageTopics.{tried_bit};
+ghost use Rattle.part_steps.specs.ControlTopics.{guest_bits, section_bit};
 ghost use Rattle.part_steps.specs.declared.part_step.PartStep.TheVariants.{Enter, Leave, Begin, End, Clear};
 
 use crate::control_words::{GUEST_BITS, SECTION_BIT, WRITER};

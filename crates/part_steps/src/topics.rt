@@ -5,7 +5,11 @@ ghost use Rattle.core_views.specs.Kinds.{kind_named};
 ghost use Rattle.core_views.specs.Sizes.{AreSizes};
 ghost use Rattle.core_views.specs.declared.place.SlotField.TheVariants.{Flags};
 ghost use Rattle.core_views.specs.declared.kind.StepKind.TheVariants.{Walk, Swap};
-ghost use Rattle.part_steps.specs.TopicSteps.{HasRoom, at_word, begun, checked_after, claimed, controlled, count_checked, filled_more, gone_down, index_in_page, is_won, let_go, may_search, may_walk, noted, published, range_checked, searched, seq_checked, start_checked, still_owned, swapped, takes_snapshot, topics_after, tried, tried_bit, walked};
+ghost use Rattle.part_steps.specs.StayTopics.{begun, let_go, may_search, may_walk};
+ghost use Rattle.part_steps.specs.WalkTopics.{gone_down, still_owned, swapped, walked};
+ghost use Rattle.part_steps.specs.PageTopics.{claimed, filled_more, is_won, published, searched, tried, tried_bit};
+ghost use Rattle.part_steps.specs.ControlTopics.{at_word, checked_after, controlled, count_checked, noted, range_checked, seq_checked, start_checked, takes_snapshot};
+ghost use Rattle.part_steps.specs.TopicSteps.{HasRoom, index_in_page, topics_after};
 
 use crate::control_words::{has_lock, has_writer, in_section, is_word_of};
 use crate::task::map_of;

@@ -7,8 +7,9 @@ use Rattle.part_steps.specs.declared.part_step.PartStep.TheVariants as part
 use Rattle.mmu_core.specs.machine.Enabled.{mmu}
 use Rattle.mmu_core.specs.machine.Machine.{World, answered}
 use Rattle.mmu_core.specs.alone.OthersRest.{NoOtherHasLock, NoneHasLockAlone, OthersRest}
-use Rattle.part_steps.specs.PartSteps.{PartNeeds, part_kind}
-use Rattle.part_steps.specs.TopicSteps.{in_section}
+use Rattle.part_steps.specs.PartTasks.{part_kind}
+use Rattle.part_steps.specs.PartSteps.{PartNeeds}
+use Rattle.part_steps.specs.ControlTopics.{in_section}
 use Rattle.mmu_core.proofs.invariant.AloneLaws.{exclude_alone, exclusive_is_sole, share_alone, shared_has_no_writer, watch_alone}
 use Rattle.step_seats.specs.Moves.{Tells}
 use Rattle.step_seats.specs.Where.{HasHand}

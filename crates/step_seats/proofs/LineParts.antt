@@ -10,7 +10,8 @@ use Rattle.spte_words.proofs.Places.{place_below}
 use Rattle.part_steps.specs.declared.part_step.PartStep.{PartStep}
 use Rattle.part_steps.specs.declared.part_step.PartStep.TheVariants as part
 use Rattle.part_steps.specs.declared.task.Task.{Task}
-use Rattle.part_steps.specs.PartSteps.{PartNeeds, own_index, part_kind, part_task}
+use Rattle.part_steps.specs.PartTasks.{own_index, part_kind, part_task}
+use Rattle.part_steps.specs.PartSteps.{PartNeeds}
 use Rattle.part_steps.specs.Tasks.{kind_of_task, map_of}
 use Rattle.mmu_core.specs.lines.AccessSteps.{task_by}
 use Rattle.mmu_core.specs.lines.PartAt.{note_at, part_at, touch_at}

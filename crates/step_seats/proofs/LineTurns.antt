@@ -35,7 +35,7 @@ use Rattle.part_steps.specs.declared.part_step.PartStep.{PartStep}
 use Rattle.part_steps.specs.declared.part_step.PartStep.TheVariants as part
 use Rattle.mmu_core.specs.lines.AccessSteps.{behind_fault}
 use Rattle.mmu_core.specs.machine.MayMake.{MayMake}
-use Rattle.part_steps.specs.PartSteps.{part_kind}
+use Rattle.part_steps.specs.PartTasks.{part_kind}
 use Rattle.mmu_core.specs.machine.Steps.{outcome_at, place_at, standing}
 use Rattle.mmu_core.specs.machine.Outcomes.{place_after}
 use Rattle.mmu_core.specs.machine.Turns.{Comes, IsAnswered, IsSameHand, line_of, outcome_of}

@@ -5,7 +5,7 @@ use Rattle.core_views.specs.declared.kind.Kind.{Kind}
 use Rattle.core_views.specs.Held.{Held}
 use Rattle.part_steps.specs.declared.part_step.PartStep.{PartStep}
 use Rattle.mmu_core.specs.machine.MayMake.{MayMake}
-use Rattle.part_steps.specs.PartSteps.{part_kind}
+use Rattle.part_steps.specs.PartTasks.{part_kind}
 use Rattle.mmu_core.specs.machine.Steps.{next}
 use Rattle.mmu_core.proofs.machine.NextTopics.{topics_behind}
 use Rattle.step_seats.specs.Moves.{Adds, Tells}

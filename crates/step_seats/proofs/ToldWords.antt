@@ -11,7 +11,8 @@ use Rattle.part_steps.specs.declared.task.Task.{Task}
 use Rattle.part_steps.specs.declared.part_step.PartStep.{PartStep}
 use Rattle.mmu_core.specs.machine.Enabled.{mmu}
 use Rattle.mmu_core.specs.machine.Machine.{World, answered, effect, hand_in}
-use Rattle.part_steps.specs.PartSteps.{PartNeeds, own_index, part_kind, part_task}
+use Rattle.part_steps.specs.PartTasks.{own_index, part_kind, part_task}
+use Rattle.part_steps.specs.PartSteps.{PartNeeds}
 use Rattle.part_steps.specs.Tasks.{kind_of_task, map_of}
 use Rattle.mmu_core.specs.machine.View.{View, answer_in, word_in, words_after}
 use Rattle.mmu_core.specs.machine.Worlds.{Reachable}

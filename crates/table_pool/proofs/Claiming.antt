@@ -23,10 +23,11 @@ use Rattle.mmu_core.specs.invariant.Laws.{IsSound}
 use Rattle.mmu_core.specs.machine.Machine.{World, hand_in}
 use Rattle.mmu_core.specs.machine.MayMake.{MayMake}
 use Rattle.part_steps.specs.PartBounds.{PartRests}
-use Rattle.part_steps.specs.PartSteps.{PartNeeds, needs_line, own_index, page_owned, part_kind, part_task}
+use Rattle.part_steps.specs.PartTasks.{own_index, page_owned, part_kind, part_task}
+use Rattle.part_steps.specs.PartSteps.{PartNeeds, needs_line}
 use Rattle.mmu_core.specs.invariant.PoolPart.{UsePart, is_free, is_leaving, is_owned}
 use Rattle.mmu_core.specs.machine.Steps.{has_line}
-use Rattle.part_steps.specs.TopicSteps.{claimed, is_won, tried, tried_bit}
+use Rattle.part_steps.specs.PageTopics.{claimed, is_won, tried, tried_bit}
 use Rattle.mmu_core.specs.invariant.TreePart.{at, stands}
 use Rattle.mmu_core.specs.machine.View.{word_in}
 use Rattle.mmu_core.specs.machine.Worlds.{HandReached, Reachable}

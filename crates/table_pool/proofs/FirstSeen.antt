@@ -5,7 +5,7 @@ use Rattle.std.proofs.lemmas.Nat.Bits.{bit_at-trailing_zeros}
 use Rattle.core_views.specs.declared.topics.MapClaim.{MapClaim}
 use Rattle.core_views.specs.declared.topics.OwnedPage.{OwnedPage}
 use Rattle.spte_words.specs.Bits.{has_bit}
-use Rattle.part_steps.specs.TopicSteps.{claimed, is_won, tried_bit}
+use Rattle.part_steps.specs.PageTopics.{claimed, is_won, tried_bit}
 use Rattle.table_pool.specs.Claims.{IsFirstSeen}
 
 -- A page that was claimed is the first one of those that were seen free.

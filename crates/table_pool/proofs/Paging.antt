@@ -11,7 +11,8 @@ use Rattle.part_steps.specs.declared.part_step.PartStep.TheVariants as part
 use Rattle.mmu_core.specs.machine.Enabled.{mmu}
 use Rattle.mmu_core.specs.machine.Machine.{World, answered}
 use Rattle.core_views.specs.declared.kind.Kind.{Kind}
-use Rattle.part_steps.specs.PartSteps.{PartNeeds, own_index, page_owned, part_kind, part_task, words_filled}
+use Rattle.part_steps.specs.PartTasks.{own_index, page_owned, part_kind, part_task, words_filled}
+use Rattle.part_steps.specs.PartSteps.{PartNeeds}
 use Rattle.mmu_core.specs.invariant.PoolPart.{is_free}
 use Rattle.core_views.specs.declared.topics.Topics.{Topics}
 use Rattle.std.proofs.Math.Logic.{∥∥₁_elim}

@@ -10,8 +10,8 @@ use Rattle.spte_words.specs.Areas.{pool_index}
 use Rattle.mmu_core.specs.machine.Machine.{World}
 use Rattle.part_steps.specs.declared.part_step.PartStep.{PartStep}
 use Rattle.part_steps.specs.declared.part_step.PartStep.TheVariants as part
-use Rattle.part_steps.specs.PartSteps.{words_filled}
-use Rattle.part_steps.specs.TopicSteps.{unseen}
+use Rattle.part_steps.specs.PartTasks.{words_filled}
+use Rattle.part_steps.specs.PageTopics.{unseen}
 use Rattle.mmu_core.specs.invariant.PoolPart.{is_free}
 use Rattle.mmu_core.specs.machine.View.{word_in}
 use Rattle.step_seats.specs.declared.turn.Turn.{Turn}

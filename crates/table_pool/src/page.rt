@@ -1,6 +1,6 @@
 ghost use Rattle.std.specs.Prelude.{◌≡◌, ◌<◌, None};
 ghost use Rattle.mmu_core.specs.machine.MayMake.{MayMake};
-ghost use Rattle.part_steps.specs.PartSteps.{page_owned, words_filled};
+ghost use Rattle.part_steps.specs.PartTasks.{page_owned, words_filled};
 ghost use Rattle.part_steps.specs.declared.part_step.PartStep.TheVariants as part;
 ghost use Rattle.step_seats.specs.Moves.{KeepsRoom};
 ghost use Rattle.step_seats.specs.PartTurns.{MadePart, MakesPart, WherePartMade};

@@ -3,7 +3,7 @@
 ghost use Rattle.std.specs.Prelude.{◌≡◌, ◌<◌, [], ◌∷◌, IfOk, OnOk, length};
 ghost use Rattle.core_views.specs.Sizes.{index_of};
 ghost use Rattle.mmu_core.specs.machine.MayMake.{MayMake};
-ghost use Rattle.part_steps.specs.PartSteps.{page_owned};
+ghost use Rattle.part_steps.specs.PartTasks.{page_owned};
 ghost use Rattle.table_pool.specs.Claims.{claim_step};
 
 use crate::page::fill_step;

@@ -1,6 +1,6 @@
 ghost use Rattle.std.specs.Prelude.{◌≡◌, ◌<◌, ◌^◌, true, false};
 ghost use Rattle.mmu_core.specs.machine.MayMake.{MayMake};
-ghost use Rattle.part_steps.specs.TopicSteps.{may_walk};
+ghost use Rattle.part_steps.specs.StayTopics.{may_walk};
 ghost use Rattle.mmu_core.specs.machine.View.{word_in};
 ghost use Rattle.step_seats.specs.Moves.{KeepsRoom};
 ghost use Rattle.step_seats.specs.PartTurns.{MakesPart, WherePartMade};

@@ -1,3 +1,4 @@
 pub mod Output
+pub mod ExitCodes
 pub mod Run
 pub mod Steps

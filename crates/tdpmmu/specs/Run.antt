@@ -1,5 +1,5 @@
 -- What a run of the program does, by its status.
-use Rattle.std.specs.Prelude.{◌≡◌, ◌≤◌, ◌⊎◌, ℕ, List, [], ◌∷◌, ◌++◌, length, codes, Bool, true, false, if◌then◌else◌, Option, Some, None, Result, Ok, Err}
+use Rattle.std.specs.Prelude.{◌≡◌, ◌≤◌, ◌⊎◌, ℕ, List, [], ◌∷◌, ◌++◌, length, codes, Bool, true, if◌then◌else◌, Option, Some, None, Result, Ok, Err}
 use Rattle.std.specs.Str.{bytes_eq}
 use Rattle.std.specs.Io.KnownBytes.{Appends, Consumes, IsAtEnd}
 use Rattle.core_views.specs.declared.actor.Actor.{Actor}
@@ -10,7 +10,7 @@ use Rattle.core_views.specs.Need.{need}
 use Rattle.mmu_core.specs.machine.Machine.{World}
 use Rattle.tdp_io.specs.Ends.{Rose}
 use Rattle.tdp_io.specs.declared.sink.Stop.{Stop}
-use Rattle.tdp_io.specs.declared.sink.Stop.TheVariants.{Failed, NoMemory as Full}
+use Rattle.tdp_io.specs.declared.sink.Stop.TheVariants.{Failed}
 use Rattle.trace_reader.specs.declared.reason.Reason.{Reason}
 use Rattle.trace_reader.specs.Reading.{reading, IsTraceOf, IsRefusalOf}
 use Rattle.tdpmmu.specs.Output.{IsWrittenLine, check_text, refusal_text, usage_text}
@@ -135,17 +135,3 @@ WriteCause before now (Refused line reason) = now ≡ before
 WriteCause before now ReadFault = now ≡ before
 WriteCause before now (Unfinished actor line) = now ≡ before
 WriteCause before now NoMemory = now ≡ before
-
--- Writing failed.
-abbrev pub is_write_fault : Status → Bool
-is_write_fault WriteFault = true
-is_write_fault _ = false
-
-abbrev pub exit_code : Status → ℕ
-exit_code Done = 0
-exit_code Usage = 2
-exit_code (Refused line reason) = 3
-exit_code ReadFault = 4
-exit_code WriteFault = 5
-exit_code (Unfinished actor line) = 6
-exit_code NoMemory = 7

@@ -3,7 +3,8 @@ ghost use Rattle.core_views.specs.Need.{need as need_of};
 ghost use Rattle.core_views.specs.Traces.{IsTrace};
 ghost use Rattle.tdpmmu.specs.Output.{check_text, refusal_text};
 ghost use Rattle.tdp_io.specs.Ends.{Wrote, WroteFaults, is_failed};
-ghost use Rattle.tdpmmu.specs.Run.{command_named as named, command_of, Prints, ReadCause, RunsTo, WriteCause, is_write_fault};
+ghost use Rattle.tdpmmu.specs.ExitCodes.{is_write_fault};
+ghost use Rattle.tdpmmu.specs.Run.{command_named as named, command_of, Prints, ReadCause, RunsTo, WriteCause};
 ghost use Rattle.tdpmmu.specs.Steps.{WritesOutput, WritesRefusal, WritesUsage, status_by, status_ended};
 
 use crate::command::Command;

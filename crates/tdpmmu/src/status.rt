@@ -1,5 +1,5 @@
 ghost use Rattle.std.specs.Prelude.{◌≡◌};
-ghost use Rattle.tdpmmu.specs.Run.{exit_code};
+ghost use Rattle.tdpmmu.specs.ExitCodes.{exit_code};
 
 use core_views::Actor;
 use trace_reader::Reason;

@@ -14,7 +14,8 @@ use Rattle.trace_reader.specs.declared.saying.Saying.{Saying}
 use Rattle.trace_reader.specs.declared.saying.Saying.TheVariants.{Does, Go, Schedules}
 use Rattle.trace_reader.specs.Forms.{is_empty, words_of}
 use Rattle.trace_reader.specs.Sayings.{Seen, by_first, by_words, said}
-use Rattle.trace_reader.specs.Grammar.{AreWords, HasForm, IsActor, IsCommandForm, IsDeclared, IsFirstGo, IsItemForm, IsOfForm, SaysLine, SaysNothingFor, IsLineReason, item_words}
+use Rattle.trace_reader.specs.GrammarRefusals.{SaysNothingFor, IsLineReason}
+use Rattle.trace_reader.specs.Grammar.{AreWords, HasForm, IsActor, IsCommandForm, IsDeclared, IsFirstGo, IsItemForm, IsOfForm, SaysLine, item_words}
 use Rattle.trace_reader.proofs.Bytes.{none_empty, say_words, commanding, cut_words, says, only_said}
 use Rattle.trace_reader.proofs.Items.{has_declared, until_form}
 use Rattle.trace_reader.proofs.Names.{one_name}

@@ -11,7 +11,8 @@ use Rattle.trace_reader.specs.Sayings.{Seen, is_there}
 use Rattle.trace_reader.specs.Lines.{Raw, Told, none_seen, seen_with, sets_at}
 use Rattle.trace_reader.specs.Gathered.{Gathers}
 use Rattle.trace_reader.specs.Reading.{reading}
-use Rattle.trace_reader.specs.Grammar.{spaced, SaysLine, SaysNothingFor}
+use Rattle.trace_reader.specs.GrammarRefusals.{SaysNothingFor}
+use Rattle.trace_reader.specs.Grammar.{spaced, SaysLine}
 use Rattle.trace_reader.specs.HeaderGrammar.{IsHeaderSaid}
 
 -- the bytes of lines with these texts: LF stands behind each

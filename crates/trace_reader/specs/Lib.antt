@@ -10,5 +10,6 @@ pub mod Gathered
 pub mod Reading
 pub mod Runs
 pub mod Grammar
+pub mod GrammarRefusals
 pub mod HeaderGrammar
 pub mod InputGrammar

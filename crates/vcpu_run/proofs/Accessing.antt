@@ -44,7 +44,7 @@ use Rattle.part_steps.specs.declared.task.Task.{Task}
 use Rattle.core_views.specs.declared.topics.Stay.{Stay}
 use Rattle.part_steps.specs.declared.part_step.PartStep.{PartStep}
 use Rattle.part_steps.specs.declared.part_step.PartStep.TheVariants as part
-use Rattle.part_steps.specs.TopicSteps.{may_walk}
+use Rattle.part_steps.specs.StayTopics.{may_walk}
 use Rattle.tdp_walk.specs.Walks.{walk_step}
 use Rattle.mmu_core.specs.lines.AccessSteps.{access_note, access_part, touch_of}
 use Rattle.mmu_core.specs.machine.Enabled.{Enabled}

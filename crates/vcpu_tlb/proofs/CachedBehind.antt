@@ -18,7 +18,7 @@ use Rattle.mmu_core.specs.lines.AccessSteps.{access_caches, access_task}
 use Rattle.mmu_core.specs.lines.Cached.{asks_flush, flushed}
 use Rattle.mmu_core.specs.machine.Enabled.{Enabled, IsNext}
 use Rattle.mmu_core.specs.machine.MayMake.{MayMake}
-use Rattle.part_steps.specs.PartSteps.{own_index, part_kind, part_task}
+use Rattle.part_steps.specs.PartTasks.{own_index, part_kind, part_task}
 use Rattle.mmu_core.specs.machine.Steps.{caches_at, has_line, line_at, next, next_by, place_at, task_at}
 use Rattle.vcpu_tlb.specs.declared.guest.Entered.TheVariants.{In, Flushed}
 use Rattle.vcpu_tlb.specs.Entering.{answer_to, cached_behind}

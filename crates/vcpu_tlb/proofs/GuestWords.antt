@@ -20,7 +20,7 @@ use Rattle.part_steps.specs.declared.part_step.PartStep.TheVariants as part
 use Rattle.mmu_core.specs.machine.Enabled.{mmu}
 use Rattle.mmu_core.specs.invariant.Laws.{IsSound}
 use Rattle.mmu_core.specs.machine.Machine.{World, effect, hand_in}
-use Rattle.part_steps.specs.PartSteps.{all_but, own_index, part_kind, part_task, works}
+use Rattle.part_steps.specs.PartTasks.{all_but, own_index, part_kind, part_task, works}
 use Rattle.mmu_core.specs.invariant.StatesPart.{stay_bits}
 use Rattle.part_steps.specs.Tasks.{kind_of_task}
 use Rattle.mmu_core.specs.machine.View.{View, upd, word_in, words_after}

@@ -6,7 +6,7 @@ use Rattle.spte_words.specs.declared.area.Area.TheVariants as area
 use Rattle.part_steps.specs.declared.part_step.PartStep.TheVariants as part
 use Rattle.mmu_core.specs.lines.Cached.{asks_flush}
 use Rattle.mmu_core.specs.machine.Machine.{World}
-use Rattle.part_steps.specs.PartSteps.{own_index}
+use Rattle.part_steps.specs.PartTasks.{own_index}
 use Rattle.mmu_core.specs.machine.View.{word_in}
 use Rattle.step_seats.specs.PartTurns.{MadePart}
 use Rattle.step_seats.specs.Where.{Told}

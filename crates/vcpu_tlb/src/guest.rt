@@ -2,7 +2,7 @@ ghost use Rattle.std.specs.Prelude.{◌≡◌, ◌+◌, ◌%◌, ◌<◌, ◌==�
 ghost use Rattle.core_views.specs.declared.topics.Stay.TheVariants as Stay;
 ghost use Rattle.mmu_core.specs.lines.Cached.{asks_flush};
 ghost use Rattle.mmu_core.specs.machine.MayMake.{MayMake};
-ghost use Rattle.part_steps.specs.TopicSteps.{begun};
+ghost use Rattle.part_steps.specs.StayTopics.{begun};
 ghost use Rattle.part_steps.specs.declared.part_step.PartStep.TheVariants.{Enter, Leave, Pause};
 ghost use Rattle.step_seats.specs.Moves.{KeepsRoom};
 ghost use Rattle.step_seats.specs.PartTurns.{MadePart, MakesPart, WherePartMade};

@@ -43,7 +43,8 @@ use Rattle.core_theorem.proofs.Begins.{chosen_more, lines_are_open, sum_plus}
 use Rattle.core_theorem.proofs.Turns.{steps_are_few, sum_same}
 use Rattle.weave_engine.specs.Beside.{AreForDelays, delays_of}
 use Rattle.weave_engine.specs.Replays.{RunsLines}
-use Rattle.weave_engine.specs.Turning.{AreTurns, RunsItems, RunsRounds}
+use Rattle.weave_engine.specs.Rounds.{RunsRounds}
+use Rattle.weave_engine.specs.Turning.{AreTurns, RunsItems}
 use Rattle.weave_engine.specs.Weaves.{FollowsBoth, FollowsSoFar, lines_below}
 use Rattle.weave_engine.proofs.DelaysBelow.{AreBelow, delays_below, sum_bound}
 use Rattle.weave_engine.proofs.FileOrder.{maker_is, maker_there}

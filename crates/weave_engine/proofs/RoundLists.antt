@@ -11,7 +11,8 @@ use Rattle.mmu_core.specs.machine.Enabled.{mmu}
 use Rattle.mmu_core.specs.machine.Machine.{Step, World, run}
 use Rattle.tdp_io.specs.declared.sink.Stop.{Stop}
 use Rattle.weave_engine.specs.Turned.{MakesTurn, PutsRun, PutsTurn}
-use Rattle.weave_engine.specs.Turning.{AllAnswered, HasLineLeft, HasNoLineLeft, IsNextInRound, IsNextPlace, RunsRounds, place_behind}
+use Rattle.weave_engine.specs.Rounds.{AllAnswered, IsNextInRound, IsNextPlace, RunsRounds, place_behind}
+use Rattle.weave_engine.specs.Turning.{HasLineLeft, HasNoLineLeft}
 use Rattle.weave_engine.specs.Weaves.{RunsAllRounds, RunsSomeRounds}
 use Rattle.weave_engine.specs.Writes.{Buffers}
 use Rattle.weave_engine.proofs.Coming.{SoFar, puts_all, puts_stopped, puts_stopped_at, so_far_then, turn_there}

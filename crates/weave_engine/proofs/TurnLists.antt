@@ -8,7 +8,8 @@ use Rattle.core_views.specs.declared.trace.Until.TheVariants.{Turns}
 use Rattle.core_views.specs.Held.{Held}
 use Rattle.mmu_core.specs.machine.Enabled.{mmu}
 use Rattle.mmu_core.specs.machine.Machine.{Step, World, effect, run}
-use Rattle.weave_engine.specs.Turning.{AreTurns, HasNoLineLeft, IsNextInRound, IsOpenEnded, IsOver, IsTurn, IsWithin, LastEnds, NoneEndsBefore, RunsBy, RunsBySoFar, RunsRounds, ends_item}
+use Rattle.weave_engine.specs.Rounds.{IsNextInRound, RunsRounds}
+use Rattle.weave_engine.specs.Turning.{AreTurns, HasNoLineLeft, IsOpenEnded, IsOver, IsTurn, IsWithin, LastEnds, NoneEndsBefore, RunsBy, RunsBySoFar, ends_item}
 
 pub turns_more : (actor : ℕ) (w : World Held) (ss : List (Step Kind)) (s : Step Kind) → AreTurns actor w ss → IsTurn actor (run mmu w ss) s → AreTurns actor w (ss ++ s ∷ [])
 turns_more actor w [] s all turn = (turn, tt)

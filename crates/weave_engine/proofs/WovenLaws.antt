@@ -37,7 +37,8 @@ use Rattle.tdp_io.specs.declared.sink.Stop.TheVariants.{NoMemory as Full}
 use Rattle.weave_engine.specs.Pieces.{WritesMost}
 use Rattle.weave_engine.specs.Replays.{RunsLines}
 use Rattle.weave_engine.specs.Turned.{Comes, PutsRun}
-use Rattle.weave_engine.specs.Turning.{AllAnswered, HasNoLineLeft, IsWithin, MayStop, RunsItems, RunsItemsSoFar}
+use Rattle.weave_engine.specs.Rounds.{AllAnswered}
+use Rattle.weave_engine.specs.Turning.{HasNoLineLeft, IsWithin, MayStop, RunsItems, RunsItemsSoFar}
 use Rattle.weave_engine.specs.Weaves.{FirstOpen, FollowsBoth, FollowsSoFar, IsFirstOpen, RunsAllRounds, RunsSomeRounds, Weaves, WeavesAll, WeavesPart, WeavesSoFar, lines_above, open_text, unfinished_text}
 use Rattle.weave_engine.specs.Writes.{RunsAndPuts}
 use Rattle.weave_engine.specs.Woven.{WeavesUntil, WritesUntil, WritesWoven}

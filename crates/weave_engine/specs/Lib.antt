@@ -2,6 +2,7 @@ pub mod Replays
 pub mod Turns
 pub mod Writes
 pub mod Turning
+pub mod Rounds
 pub mod Turned
 pub mod Beside
 pub mod Weaves

@@ -1,12 +1,12 @@
 -- Turns of the actors: each is one step, and may be the last one of a schedule's item.
-use Rattle.std.specs.Prelude.{◌≡◌, ◌+◌, ◌-◌, ◌<◌, ◌≤◌, ◌⊎◌, ℕ, suc, List, [], ◌∷◌, ◌++◌, length, Bool, true, false, ◌==◌, ◌||◌, nat_lt, if◌then◌else◌}
+use Rattle.std.specs.Prelude.{◌≡◌, ◌+◌, ◌-◌, ◌≤◌, ◌⊎◌, ℕ, List, [], ◌∷◌, ◌++◌, length, Bool, true, false, ◌==◌, ◌||◌}
 use Rattle.core_views.specs.declared.kind.Kind.{Kind}
 use Rattle.core_views.specs.declared.sizes.Sizes.{Sizes}
 use Rattle.core_views.specs.declared.trace.Item.{Item}
 use Rattle.core_views.specs.declared.trace.Until.{Until}
 use Rattle.core_views.specs.declared.trace.Until.TheVariants.{Turns, Made}
 use Rattle.core_views.specs.Held.{Held}
-use Rattle.core_views.specs.Sizes.{actors_of, index_of}
+use Rattle.core_views.specs.Sizes.{index_of}
 use Rattle.mmu_core.specs.declared.outcome.Outcome.{Outcome}
 use Rattle.mmu_core.specs.declared.outcome.Outcome.TheVariants.{Goes, Ends}
 pub use Rattle.mmu_laws.specs.turns.TurnLaws.{begins_anew}
@@ -128,28 +128,3 @@ abbrev pub RunsItemsSoFar : Sizes → List Item → World Held → List (Step Ki
 RunsItemsSoFar z [] w ss = ss ≡ []
 RunsItemsSoFar z (item ∷ items) w ss =
     RunsItemSoFar z item w ss ⊎ ((own : List (Step Kind)) × (rest : List (Step Kind)) × (ss ≡ own ++ rest) × RunsItem z item w own × RunsItemsSoFar z items (run mmu w own) rest)
-
--- the place so far behind one among `count`, round the order
-abbrev pub place_behind : ℕ → ℕ → ℕ → ℕ
-place_behind count first far = if nat_lt (first + far) count then first + far else first + far - count
-
--- The next place behind one among `count` is the one after it, or 0 behind the last.
-abbrev pub IsNextPlace : ℕ → ℕ → ℕ → Type 0
-IsNextPlace count index next = ((index + 1 ≡ count) × (next ≡ 0)) ⊎ ((index + 1 < count) × (next ≡ index + 1))
-
--- The step is a turn of the first actor, from this place on and round the order of all actors, that has a line left.
-pub record IsNextInRound (z : Sizes) (first : ℕ) (w : World Held) (s : Step Kind) : Type 0 where
-  pub far : ℕ
-  pub within : far < actors_of z
-  pub is : s.actor ≡ place_behind (actors_of z) first far
-  pub left : HasLineLeft s.actor w
-  pub passed : (i : ℕ) → i < far → HasNoLineLeft (place_behind (actors_of z) first i) w
-
--- Turns in rounds from one place among the actors on, up to another.
-abbrev pub RunsRounds : Sizes → ℕ → ℕ → World Held → List (Step Kind) → Type 0
-RunsRounds z first next w [] = next ≡ first
-RunsRounds z first next w (s ∷ ss) = IsNextInRound z first w s × RunsRounds z (suc s.actor) next (effect mmu w s) ss
-
--- No actor has a line left.
-abbrev pub AllAnswered : Sizes → World Held → Type 0
-AllAnswered z w = (i : ℕ) → i < actors_of z → HasNoLineLeft i w

@@ -27,7 +27,8 @@ use Rattle.mmu_core.specs.machine.Worlds.{IsStart, history}
 use Rattle.core_theorem.specs.Delays.{answer_of, hand_of}
 use Rattle.weave_engine.specs.Beside.{AreForDelays}
 use Rattle.weave_engine.specs.Replays.{RunsLines}
-use Rattle.weave_engine.specs.Turning.{AllAnswered, HasLineLeft, RunsItems, RunsItemsSoFar, RunsRounds}
+use Rattle.weave_engine.specs.Rounds.{AllAnswered, RunsRounds}
+use Rattle.weave_engine.specs.Turning.{HasLineLeft, RunsItems, RunsItemsSoFar}
 
 -- how many of the trace's lines run alone: those above `go`
 abbrev pub lines_above : Option ℕ → ℕ

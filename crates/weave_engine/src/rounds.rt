@@ -4,7 +4,7 @@ ghost use Rattle.step_seats.specs.Machines.{world_in};
 ghost use Rattle.tdp_io.specs.Ends.{WroteFaults, is_failed};
 ghost use Rattle.weave_engine.specs.Pieces.{most_waiting};
 ghost use Rattle.weave_engine.specs.Turned.{PutsRun};
-ghost use Rattle.weave_engine.specs.Turning.{IsNextPlace};
+ghost use Rattle.weave_engine.specs.Rounds.{IsNextPlace};
 ghost use Rattle.weave_engine.specs.Weaves.{FirstOpen, RunsAllRounds, RunsSomeRounds, earlier_of};
 
 use crate::turning::{Turned, turn_and_put};

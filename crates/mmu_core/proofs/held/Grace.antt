@@ -22,11 +22,14 @@ use Rattle.mmu_core.specs.machine.Enabled.{mmu}
 use Rattle.mmu_core.specs.invariant.Grace.{BeganEmpty, BeginNoWatch, IsLook, SawOutside, SectionsBeginEmpty, WatchedWasOutside, topics_in}
 use Rattle.mmu_core.specs.invariant.Laws.{IsSound}
 use Rattle.mmu_core.specs.machine.Machine.{Legal, May, Step, World, answered, effect, hand_in, run}
-use Rattle.part_steps.specs.PartSteps.{PartNeeds, next_watched, own_index, part_kind, part_task}
+use Rattle.part_steps.specs.PartTasks.{own_index, part_kind, part_task}
+use Rattle.part_steps.specs.PartHoldings.{next_watched}
+use Rattle.part_steps.specs.PartSteps.{PartNeeds}
 use Rattle.part_steps.specs.PartTopics.{part_topics}
 use Rattle.mmu_core.specs.machine.Steps.{next, nobody}
 use Rattle.part_steps.specs.Tasks.{map_of}
-use Rattle.part_steps.specs.TopicSteps.{in_section, is_outside}
+use Rattle.part_steps.specs.StayTopics.{is_outside}
+use Rattle.part_steps.specs.ControlTopics.{in_section}
 use Rattle.mmu_core.specs.machine.View.{word_in}
 use Rattle.mmu_core.specs.machine.Worlds.{Reachable}
 use Rattle.mmu_core.proofs.invariant.AloneLaws.{part_found}

@@ -1,12 +1,11 @@
 -- Each step of a part keeps what is said of what actors hold of tables and slot sets, and of their counters.
-use Rattle.std.proofs.Common.{◌≡◌, inl, inr, ◌+◌, ◌-◌, ◌*◌, ◌/◌, ◌%◌, ◌^◌, ◌<◌, ◌≤◌, ℕ, zero, suc, refl, sym, subst, ap, ◌∙◌, arith}
+use Rattle.std.proofs.Common.{◌≡◌, inl, inr, ◌+◌, ◌-◌, ◌*◌, ◌^◌, ◌<◌, ◌≤◌, ℕ, zero, suc, refl, sym, subst, ap, ◌∙◌, arith}
 use Rattle.std.specs.Prelude.{Bool, true, false, ◌==◌, ◌||◌, if◌then◌else◌, Option, Some, None, is_some}
 use Rattle.core_views.specs.declared.place.SlotField.{SlotField}
 use Rattle.core_views.specs.declared.place.SlotField.TheVariants as field
 use Rattle.core_views.specs.declared.sizes.Sizes.{Sizes}
 use Rattle.core_views.specs.declared.topics.Hold.{Hold}
 use Rattle.core_views.specs.declared.topics.Hold.TheVariants.{Loose, Shared, Owing, Exclusive}
-use Rattle.core_views.specs.declared.topics.MapClaim.{MapClaim}
 use Rattle.core_views.specs.declared.topics.SlotSearch.{SlotSearch}
 use Rattle.core_views.specs.declared.topics.Stay.{Stay}
 use Rattle.core_views.specs.declared.topics.Stay.TheVariants.{Outside, Guest, Section}
@@ -15,20 +14,20 @@ use Rattle.core_views.specs.declared.topics.Topics.{Topics}
 use Rattle.core_views.specs.Held.{Held}
 use Rattle.core_views.specs.Sizes.{actors_of}
 use Rattle.spte_words.specs.declared.area.Area.TheVariants as area
-use Rattle.spte_words.specs.Areas.{pool_index, words_of_bits}
 use Rattle.spte_words.specs.declared.spte_kind.SpteKind.TheVariants.{Absent, Frozen, Leaf}
 use Rattle.spte_words.specs.Bits.{has_bit}
-use Rattle.spte_words.specs.Entries.{frozen_word, is_leaf_at, kind_of, level_span, table_word}
+use Rattle.spte_words.specs.Entries.{frozen_word, is_leaf_at, kind_of, table_word}
 use Rattle.spte_words.proofs.ReadsEntries.{kind_of_absent, kind_of_table}
-use Rattle.spte_words.specs.Flags.{flags_live}
 use Rattle.part_steps.specs.declared.part_step.PartStep.{PartStep}
 use Rattle.part_steps.specs.declared.part_step.PartStep.TheVariants as part
-use Rattle.part_steps.specs.PartBounds.{CountersPart}
 use Rattle.mmu_core.specs.invariant.HeldPart.{HeldPart}
-use Rattle.part_steps.specs.PartSteps.{IsOver, entry_index, leaf_written, link_written, page_owned, table_page}
+use Rattle.part_steps.specs.PartTasks.{entry_index, leaf_written, link_written, page_owned, table_page}
 use Rattle.part_steps.specs.PartTopics.{exchanged}
 use Rattle.mmu_core.specs.invariant.TopicsInvariant.{TopicsInvariant}
-use Rattle.part_steps.specs.TopicSteps.{at_root, at_set, gone_down, has_writer, in_section, is_loose, is_won, begun, kept_search, let_go, linked_page, may_search, may_walk, searched, searched_at, swapped, unchecked}
+use Rattle.part_steps.specs.StayTopics.{is_loose, begun, kept_search, let_go, may_search, may_walk, unchecked}
+use Rattle.part_steps.specs.WalkTopics.{gone_down, linked_page}
+use Rattle.part_steps.specs.PageTopics.{searched, searched_at}
+use Rattle.part_steps.specs.ControlTopics.{at_root, at_set, has_writer}
 use Rattle.mmu_core.specs.invariant.TreePart.{EntryPart, Position, TreePart, Use, at, stands}
 use Rattle.mmu_core.specs.invariant.TreePart.Use.{Under}
 use Rattle.mmu_core.specs.machine.View.{View, part_stepped, upd}
@@ -44,9 +43,6 @@ use Rattle.mmu_core.proofs.pages.Owned.{table_owned}
 -- what is said of what each hand holds, and of its counters, of a view
 abbrev pub HeldAt : Sizes → (ℕ → Option Position) → View → Type 0
 HeldAt z stands v = (i : ℕ) → i < actors_of z → HeldPart stands (v.hand i).topics
-
-abbrev pub CountersAt : Sizes → View → Type 0
-CountersAt z v = (i : ℕ) → i < actors_of z → CountersPart z (v.hand i).topics
 
 -- ---- Where the entries of tables lead to.
 
@@ -275,144 +271,3 @@ held_behind z v a note step = λ S I. still_held z v a step _ S I (same_held (st
 
 pub held_kept : (z : Sizes) (v : View) (a : ℕ) (step : PartStep) (note : ℕ) → IsPart z v a step → (I : TopicsInvariant z v) → HeldAt z (stands_after z v a step I) (part_stepped a step note v)
 held_kept z v a step note S I = behind_step (HeldAt z (stands_after z v a step I)) z v a step note S (held_behind z v a note step S I)
-
--- ---- The counters.
-searched_id : (f : SlotField) (s : SlotSearch) (v : ℕ) → s.id ≤ 31 → (searched_at f s v).id ≤ 32
-searched_id field.Flags s v le = by (flags_live v)
-  where
-    by : (b : Bool) → (if b then s.id else s.id + 1) ≤ 32
-    by true = omega (arith, le)
-    by false = omega (arith, le)
-searched_id _ s v le = omega (arith, le)
-
-slot_counts : (b : Bool) (s : SlotSearch) (v : ℕ) → s.id ≤ 31 → (if b then searched s v else s).id ≤ 32
-slot_counts true s v le = searched_id s.next s v le
-slot_counts false s v le = omega (arith, le)
-
-one_more : (b : Bool) (n most : ℕ) → n < most → n + (if b then 1 else 0) ≤ most
-one_more true n most lt = omega (arith, lt)
-one_more false n most lt = omega (arith, lt)
-
-one_more_unless : (b : Bool) (n most : ℕ) → n < most → n + (if b then 0 else 1) ≤ most
-one_more_unless true n most lt = omega (arith, lt)
-one_more_unless false n most lt = omega (arith, lt)
-
-tried_at : (b : Bool) (n most : ℕ) → n ≤ most → (if b then 0 else n) ≤ most
-tried_at true n most le = omega arith
-tried_at false n most le = omega (arith, le)
-
-tried_seen : (b : Bool) (n : ℕ) → n < 2 ^ 64 → (if b then 0 else n) < 2 ^ 64
-tried_seen true n lt = omega arith
-tried_seen false n lt = omega (arith, lt)
-
-pub all_count : (z : Sizes) (v : View) (a : ℕ) (h : Held) → TopicsInvariant z v → CountersPart z h.topics → (i : ℕ) → i < actors_of z → CountersPart z (upd v.hand a h i).topics
-all_count z v a h I here = at_upd (λ i (k : Held). i < actors_of z → CountersPart z k.topics) v.hand a h (λ lt. here) (λ i ne. I.counters i)
-
--- The run of a walk's table is one of those of its level.
-abbrev pub RunFits : TableWalk → Type 0
-RunFits walk = 1 ≤ walk.level → walk.prefix < 2 ^ 36
-
--- a hand that keeps its counters but the walk's
-walked_counts : (z : Sizes) (t s : Topics) → s.search.id ≡ t.search.id → s.claim ≡ t.claim → s.watched ≡ t.watched → RunFits s.walk → CountersPart z t → CountersPart z s
-walked_counts z t s id claim watched run C = record {
-  slots = omega (arith, id, C.slots);
-  claim = subst (λ (c : MapClaim). c.at ≤ words_of_bits z.pool) (sym claim) C.claim;
-  seen = subst (λ (c : MapClaim). c.seen < 2 ^ 64) (sym claim) C.seen;
-  watched = omega (arith, watched, C.watched);
-  run = run;
-}
-
--- a hand that keeps its counters
-same_counts : (z : Sizes) (t s : Topics) → s.search.id ≡ t.search.id → s.claim ≡ t.claim → s.watched ≡ t.watched → s.walk ≡ t.walk → CountersPart z t → CountersPart z s
-same_counts z t s id claim watched walk C = walked_counts z t s id claim watched (subst RunFits (sym walk) C.run) C
-
-abbrev CountersBehind : Sizes → View → ℕ → ℕ → PartStep → Type 0
-CountersBehind z v a note step = IsPart z v a step → TopicsInvariant z v → CountersAt z (part_behind a step note v)
-
-pool_of : (z : Sizes) (v : View) (a : ℕ) (step : PartStep) → IsPart z v a step → words_of_bits (v.hand a).state.sizes.pool ≡ words_of_bits z.pool
-pool_of z v a step S = ap (λ (y : Sizes). words_of_bits y.pool) S.sizes
-
-map_counts : (z : Sizes) (v : View) (a note word : ℕ) → CountersBehind z v a note (part.Map word)
-map_counts z v a note word S I =
-    let C = I.counters a S.there in
-    let lt : word < words_of_bits z.pool = subst (λ n. word < n) (pool_of z v a (part.Map word) S) S.needs.1 in
-    all_count z v a _ I (record {
-      slots = C.slots;
-      claim = one_more (v.words area.PoolMap word == 0) word (words_of_bits z.pool) lt;
-      seen = S.small area.PoolMap word;
-      watched = C.watched;
-      run = C.run;
-    })
-
-claim_counts : (z : Sizes) (v : View) (a note : ℕ) → CountersBehind z v a note part.Claim
-claim_counts z v a note S I =
-    let C = I.counters a S.there in
-    let claim : MapClaim = (v.hand a).topics.claim in
-    let found : ℕ = v.words area.PoolMap claim.at in
-    all_count z v a _ I (record {
-      slots = C.slots;
-      claim = tried_at (is_won claim found) claim.at (words_of_bits z.pool) C.claim;
-      seen = tried_seen (is_won claim found) found (S.small area.PoolMap claim.at);
-      watched = C.watched;
-      run = C.run;
-    })
-
-watch_counts : (z : Sizes) (v : View) (a note index : ℕ) → CountersBehind z v a note (part.Watch index)
-watch_counts z v a note index S I =
-    let C = I.counters a S.there in
-    let lt : index < actors_of z = subst (λ (y : Sizes). index < actors_of y) S.sizes S.needs.0 in
-    all_count z v a _ I (record { slots = C.slots; claim = C.claim; seen = C.seen; watched = one_more_unless (in_section (v.words area.State index)) index (actors_of z) lt; run = C.run })
-
-pub snapshot_id : (b : Bool) (s : SlotSearch) → (if b then kept_search false s else s).id ≡ s.id
-snapshot_id true s = refl
-snapshot_id false s = refl
-
--- A walk that is let go has no run.
-let_go_run : (stay : Stay) (t : Topics) → RunFits t.walk → RunFits (let_go (record t { stay = stay })).walk
-let_go_run Outside t run = λ from. absurd (omega (arith, from))
-let_go_run _ t run = run
-
-root_run : (b : Bool) (walk : TableWalk) (v : ℕ) → RunFits (at_root b walk v)
-root_run true walk v = λ from. omega arith
-root_run false walk v = λ from. absurd (omega (arith, from))
-
--- The guest frame's entry leads to a run that it is in itself, one level down.
-run_below : (gfn span prefix : ℕ) → gfn < 2 ^ 36 → gfn / span / 512 ≡ prefix → prefix * 512 + gfn / span % 512 < 2 ^ 36
-run_below gfn span prefix small is = let le : gfn / span ≤ gfn = grind arith in omega (arith, small, is, le)
-
-gone_run : (gfn v : ℕ) (walk : TableWalk) (o : Option ℕ) → IsOver gfn walk → RunFits (gone_down o walk (entry_index gfn walk.level) v)
-gone_run gfn v walk None over = λ from. omega (arith, run_below gfn (level_span walk.level) walk.prefix over.small over.run)
-gone_run gfn v walk (Some page) over = λ from. run_below gfn (level_span walk.level) walk.prefix over.small over.run
-
-exchanged_run : (gfn v new_ : ℕ) (walk : TableWalk) (won : Bool) → IsOver gfn walk → RunFits (swapped won walk (entry_index gfn walk.level) new_ v)
-exchanged_run gfn v new_ walk true over = gone_run gfn new_ walk (linked_page (kind_of walk.level new_)) over
-exchanged_run gfn v new_ walk false over = gone_run gfn v walk None over
-
-counters_behind : (z : Sizes) (v : View) (a note : ℕ) (step : PartStep) → CountersBehind z v a note step
-counters_behind z v a note (part.Map word) = map_counts z v a note word
-counters_behind z v a note part.Claim = claim_counts z v a note
-counters_behind z v a note part.Give = λ S I. let C = I.counters a S.there in all_count z v a _ I (record { slots = C.slots; claim = C.claim; seen = omega arith; watched = C.watched; run = C.run })
-counters_behind z v a note part.GiveOld = λ S I. let C = I.counters a S.there in all_count z v a _ I (record { slots = C.slots; claim = C.claim; seen = omega arith; watched = C.watched; run = C.run })
-counters_behind z v a note (part.Watch index) = watch_counts z v a note index
-counters_behind z v a note part.Slots = λ S I. let C = I.counters a S.there in all_count z v a _ I (record { slots = omega arith; claim = C.claim; seen = C.seen; watched = C.watched; run = C.run })
-counters_behind z v a note part.Slot = λ S I.
-    let C = I.counters a S.there in all_count z v a _ I (record { slots = slot_counts (is_some (v.hand a).topics.search.set) (v.hand a).topics.search _ S.needs.1; claim = C.claim; seen = C.seen; watched = C.watched; run = C.run })
-counters_behind z v a note part.Enter = λ S I. all_count z v a _ I (walked_counts z (v.hand a).topics _ refl refl refl (λ from. absurd (omega (arith, from))) (I.counters a S.there))
-counters_behind z v a note part.Leave = λ S I. all_count z v a _ I (walked_counts z (v.hand a).topics _ refl refl refl (λ from. absurd (omega (arith, from))) (I.counters a S.there))
-counters_behind z v a note part.Begin = λ S I. all_count z v a _ I (walked_counts z (v.hand a).topics _ refl refl refl (λ from. absurd (omega (arith, from))) (I.counters a S.there))
-counters_behind z v a note part.End = λ S I. all_count z v a _ I (walked_counts z (v.hand a).topics _ refl refl refl (λ from. absurd (omega (arith, from))) (I.counters a S.there))
-counters_behind z v a note part.Unshare = λ S I. all_count z v a _ I (walked_counts z (v.hand a).topics _ refl refl refl (let_go_run (v.hand a).topics.stay (v.hand a).topics (I.counters a S.there).run) (I.counters a S.there))
-counters_behind z v a note part.Release = λ S I. all_count z v a _ I (walked_counts z (v.hand a).topics _ refl refl refl (let_go_run (v.hand a).topics.stay (v.hand a).topics (I.counters a S.there).run) (I.counters a S.there))
-counters_behind z v a note part.Seq = λ S I. all_count z v a _ I (same_counts z (v.hand a).topics _ (snapshot_id (is_loose (v.hand a).topics.hold) (v.hand a).topics.search) refl refl refl (I.counters a S.there))
-counters_behind z v a note part.Publish = λ S I. let C = I.counters a S.there in all_count z v a _ I (record { slots = C.slots; claim = C.claim; seen = C.seen; watched = omega arith; run = C.run })
-counters_behind z v a note part.Root = λ S I. all_count z v a _ I (walked_counts z (v.hand a).topics _ refl refl refl (root_run (may_walk (v.hand a).topics.stay (v.hand a).topics.hold) (v.hand a).topics.walk (v.words area.Root 0)) (I.counters a S.there))
-counters_behind z v a note (part.Walk gfn) = λ S I.
-    let walk : TableWalk = (v.hand a).topics.walk in
-    let found : ℕ = v.words area.Pool (pool_index (table_page walk) (entry_index gfn walk.level)) in
-    all_count z v a _ I (walked_counts z (v.hand a).topics _ refl refl refl (gone_run gfn found walk (linked_page (kind_of walk.level found)) S.needs) (I.counters a S.there))
-counters_behind z v a note (part.Link gfn) = λ S I. all_count z v a _ I (walked_counts z (v.hand a).topics _ refl refl refl (exchanged_run gfn _ (link_written (v.hand a).topics) (v.hand a).topics.walk _ S.needs.0.saw.over) (I.counters a S.there))
-counters_behind z v a note (part.Leaf gfn) = λ S I. all_count z v a _ I (walked_counts z (v.hand a).topics _ refl refl refl (exchanged_run gfn _ (leaf_written (v.hand a).topics) (v.hand a).topics.walk _ S.needs.0.saw.over) (I.counters a S.there))
-counters_behind z v a note _ = λ S I. all_count z v a _ I (same_counts z (v.hand a).topics _ refl refl refl refl (I.counters a S.there))
-
-pub counters_kept : (z : Sizes) (v : View) (a : ℕ) (step : PartStep) (note : ℕ) → IsPart z v a step → TopicsInvariant z v → CountersAt z (part_stepped a step note v)
-counters_kept z v a step note S I = behind_step (CountersAt z) z v a step note S (counters_behind z v a note step S I)

@@ -15,7 +15,7 @@ use Rattle.mmu_core.specs.invariant.LockPart.{LockPart, is_shared, readers, shar
 use Rattle.part_steps.specs.PartSteps.{counts}
 use Rattle.mmu_core.specs.machine.Sums.{one_if, sum_below}
 use Rattle.mmu_core.specs.invariant.TopicsInvariant.{TopicsInvariant}
-use Rattle.part_steps.specs.TopicSteps.{is_alone}
+use Rattle.part_steps.specs.StayTopics.{is_alone}
 use Rattle.mmu_core.specs.machine.View.{View, part_stepped, upd}
 use Rattle.mmu_core.proofs.machine.PartStepping.{IsPart}
 use Rattle.mmu_core.proofs.words.PartTopics.{behind_step, part_behind}

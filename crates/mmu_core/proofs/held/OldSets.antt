@@ -10,10 +10,10 @@ use Rattle.spte_words.specs.declared.area.Area.TheVariants as area
 use Rattle.part_steps.specs.declared.part_step.PartStep.{PartStep}
 use Rattle.part_steps.specs.declared.part_step.PartStep.TheVariants as part
 use Rattle.mmu_core.specs.invariant.HeldPart.{HoldsOld, OldSetsPart}
-use Rattle.part_steps.specs.PartSteps.{own_index, page_owned, part_task, table_page}
+use Rattle.part_steps.specs.PartTasks.{own_index, page_owned, part_task, table_page}
 use Rattle.mmu_core.specs.invariant.SlotSetPart.{IsLiveIn}
 use Rattle.mmu_core.specs.invariant.TopicsInvariant.{TopicsInvariant}
-use Rattle.part_steps.specs.TopicSteps.{still_leaving}
+use Rattle.part_steps.specs.PageTopics.{still_leaving}
 use Rattle.mmu_core.specs.invariant.TreePart.{stands}
 use Rattle.mmu_core.specs.machine.View.{View, part_stepped, upd, answer_in}
 use Rattle.mmu_core.proofs.machine.Columns.{same_or, upd_other, upd_same}

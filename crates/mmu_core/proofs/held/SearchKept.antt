@@ -15,12 +15,14 @@ use Rattle.spte_words.specs.declared.area.Area.TheVariants as area
 use Rattle.spte_words.specs.Flags.{flags_live, flags_logged, flags_read_only}
 use Rattle.part_steps.specs.declared.part_step.PartStep.{PartStep}
 use Rattle.part_steps.specs.declared.part_step.PartStep.TheVariants as part
-use Rattle.part_steps.specs.PartSteps.{set_held}
+use Rattle.part_steps.specs.PartTasks.{set_held}
 use Rattle.part_steps.specs.PartTopics.{sequenced}
 use Rattle.mmu_core.specs.invariant.SearchPart.{HasFlags, HasLoaded, IsOnList, LookPart, SearchPart}
 use Rattle.part_steps.specs.SlotWords.{slot_at, slot_index}
 use Rattle.mmu_core.specs.invariant.TopicsInvariant.{TopicsInvariant}
-use Rattle.part_steps.specs.TopicSteps.{at_set, begun, is_loose, is_section, kept_search, may_search, searched, searched_at}
+use Rattle.part_steps.specs.StayTopics.{begun, is_loose, is_section, kept_search, may_search}
+use Rattle.part_steps.specs.PageTopics.{searched, searched_at}
+use Rattle.part_steps.specs.ControlTopics.{at_set}
 use Rattle.mmu_core.specs.invariant.TreePart.{IsLiveIn}
 use Rattle.mmu_core.specs.machine.View.{View, part_stepped, upd}
 use Rattle.mmu_core.proofs.words.SlotFields.{same_slot}

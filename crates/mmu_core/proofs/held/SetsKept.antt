@@ -16,9 +16,12 @@ use Rattle.spte_words.specs.declared.area.Area.TheVariants as area
 use Rattle.part_steps.specs.declared.part_step.PartStep.{PartStep}
 use Rattle.part_steps.specs.declared.part_step.PartStep.TheVariants as part
 use Rattle.mmu_core.specs.invariant.HeldPart.{HoldsOld, SetsPart}
-use Rattle.part_steps.specs.PartSteps.{next_watched, own_index, page_owned}
+use Rattle.part_steps.specs.PartTasks.{own_index, page_owned}
+use Rattle.part_steps.specs.PartHoldings.{next_watched}
 use Rattle.mmu_core.specs.invariant.TopicsInvariant.{TopicsInvariant}
-use Rattle.part_steps.specs.TopicSteps.{in_section, may_search, at_set, is_alone, is_loose, is_section, kept_search, still_leaving}
+use Rattle.part_steps.specs.StayTopics.{may_search, is_alone, is_loose, is_section, kept_search}
+use Rattle.part_steps.specs.PageTopics.{still_leaving}
+use Rattle.part_steps.specs.ControlTopics.{in_section, at_set}
 use Rattle.mmu_core.specs.machine.View.{View, part_stepped, upd}
 use Rattle.mmu_core.proofs.machine.Columns.{same_or, upd_other, upd_same}
 use Rattle.mmu_core.proofs.machine.PartStepping.{IsPart}

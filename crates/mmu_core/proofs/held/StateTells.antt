@@ -13,9 +13,10 @@ use Rattle.spte_words.specs.declared.area.Area.TheVariants as area
 use Rattle.mmu_core.specs.machine.Enabled.{mmu}
 use Rattle.mmu_core.specs.invariant.Laws.{IsSound}
 use Rattle.mmu_core.specs.machine.Machine.{World, hand_in}
-use Rattle.part_steps.specs.PartSteps.{own_index}
+use Rattle.part_steps.specs.PartTasks.{own_index}
 use Rattle.mmu_core.specs.invariant.StatesPart.{stay_bits}
-use Rattle.part_steps.specs.TopicSteps.{in_section, is_outside}
+use Rattle.part_steps.specs.StayTopics.{is_outside}
+use Rattle.part_steps.specs.ControlTopics.{in_section}
 use Rattle.mmu_core.specs.machine.View.{word_in}
 use Rattle.mmu_core.specs.machine.Worlds.{Reachable}
 use Rattle.mmu_core.proofs.start.Starts.{reached_good}

@@ -10,7 +10,7 @@ use Rattle.core_views.specs.Sizes.{actors_of}
 use Rattle.spte_words.specs.declared.area.Area.TheVariants as area
 use Rattle.part_steps.specs.declared.part_step.PartStep.{PartStep}
 use Rattle.part_steps.specs.declared.part_step.PartStep.TheVariants as part
-use Rattle.part_steps.specs.PartSteps.{all_but}
+use Rattle.part_steps.specs.PartTasks.{all_but}
 use Rattle.mmu_core.specs.invariant.StatesPart.{StatesPart, stay_bits}
 use Rattle.mmu_core.specs.invariant.TopicsInvariant.{TopicsInvariant}
 use Rattle.mmu_core.specs.machine.View.{View, part_stepped, upd}

@@ -19,7 +19,8 @@ use Rattle.mmu_core.specs.invariant.TopicsInvariant.{TopicsInvariant}
 use Rattle.mmu_core.specs.machine.View.{View, answer_in, hand_after, part_stepped, stepped, upd, words_after}
 use Rattle.mmu_core.proofs.lines.AccessParts.{AreSmall}
 use Rattle.mmu_core.proofs.pages.FilledKept.{filled_kept}
-use Rattle.mmu_core.proofs.held.HeldKept.{counters_kept, held_kept}
+use Rattle.mmu_core.proofs.held.CountersKept.{counters_kept}
+use Rattle.mmu_core.proofs.held.HeldKept.{held_kept}
 use Rattle.mmu_core.proofs.held.LockKept.{lock_kept}
 use Rattle.mmu_core.proofs.pages.LeavesOver.{leaves_kept}
 use Rattle.mmu_core.proofs.pages.Paths.{paths_kept}

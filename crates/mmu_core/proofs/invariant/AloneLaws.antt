@@ -19,11 +19,13 @@ use Rattle.mmu_core.specs.invariant.Laws.{IsSound}
 use Rattle.mmu_core.specs.invariant.LockPart.{is_shared}
 use Rattle.mmu_core.specs.machine.Machine.{World, answered, hand_in}
 use Rattle.mmu_core.specs.alone.OthersRest.{NoOtherHasLock, NoneHasLockAlone, OthersRest}
-use Rattle.part_steps.specs.PartSteps.{PartNeeds, counts, own_index, part_kind, part_task}
+use Rattle.part_steps.specs.PartTasks.{own_index, part_kind, part_task}
+use Rattle.part_steps.specs.PartSteps.{PartNeeds, counts}
 use Rattle.mmu_core.specs.invariant.StatesPart.{stay_bits}
 use Rattle.mmu_core.specs.machine.Sums.{one_if, sum_below}
 use Rattle.part_steps.specs.Tasks.{kind_of_task, map_of}
-use Rattle.part_steps.specs.TopicSteps.{has_lock, in_section, is_alone}
+use Rattle.part_steps.specs.StayTopics.{has_lock, is_alone}
+use Rattle.part_steps.specs.ControlTopics.{in_section}
 use Rattle.mmu_core.specs.machine.View.{answer_in, word_in}
 use Rattle.mmu_core.specs.machine.Worlds.{Reachable}
 use Rattle.mmu_core.proofs.machine.Columns.{same_or}

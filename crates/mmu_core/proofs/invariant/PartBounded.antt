@@ -18,7 +18,7 @@ use Rattle.mmu_core.specs.invariant.HeldPart.{HeldPart, HoldsOld}
 use Rattle.mmu_core.specs.invariant.Invariant.{HostWordsPart, Invariant, IsLeafFor, OwnLines}
 use Rattle.mmu_core.specs.invariant.LockPart.{SawWriter}
 use Rattle.part_steps.specs.PartBounds.{PartRests}
-use Rattle.part_steps.specs.PartSteps.{table_page}
+use Rattle.part_steps.specs.PartTasks.{table_page}
 use Rattle.mmu_core.specs.invariant.TopicsInvariant.{TopicsInvariant}
 use Rattle.mmu_core.specs.invariant.TreePart.{IsLiveIn, stands}
 use Rattle.mmu_core.proofs.pages.PoolPages.{left_there, owned_there, slots_there}

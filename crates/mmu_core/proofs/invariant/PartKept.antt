@@ -20,7 +20,8 @@ use Rattle.std.specs.Prelude.{false}
 use Rattle.core_views.specs.declared.trace.Command.{Command}
 use Rattle.core_views.specs.SlotSets.{MemorySlots}
 use Rattle.mmu_core.specs.invariant.Invariant.{CachedPart, Holds, Invariant, InvariantOf, IsLeafFor, OwnLines, RecordPart, UnderWay}
-use Rattle.part_steps.specs.PartSteps.{has_line, needs_line, own_index, part_task}
+use Rattle.part_steps.specs.PartTasks.{own_index, part_task}
+use Rattle.part_steps.specs.PartSteps.{has_line, needs_line}
 use Rattle.mmu_core.proofs.slots.LiveStay.{StayLive, set_stays, translations_stay}
 use Rattle.mmu_core.proofs.slots.LiveStays.{SetStays, published_stays}
 use Rattle.mmu_core.proofs.held.OthersStay.{leaves_none, owned_stays}

@@ -37,7 +37,9 @@ use Rattle.part_steps.specs.declared.part_step.PartStep.TheVariants as part
 use Rattle.mmu_core.specs.lines.AccessSteps.{access_part, touch_of}
 use Rattle.mmu_core.specs.lines.KnowsPart.{AccessKnows}
 use Rattle.part_steps.specs.PartBounds.{PartRests}
-use Rattle.part_steps.specs.PartSteps.{FoundSlot, GoesOnToWord, IsFresh, IsVcpu, LookedUp, MayEnter, PartNeeds, next_watched, own_index, HasToFill, OwnsTable, OwnsSet, MayPublish}
+use Rattle.part_steps.specs.PartTasks.{own_index}
+use Rattle.part_steps.specs.PartHoldings.{FoundSlot, IsFresh, LookedUp, MayEnter, next_watched, HasToFill, OwnsTable, OwnsSet, MayPublish}
+use Rattle.part_steps.specs.PartSteps.{GoesOnToWord, IsVcpu, PartNeeds}
 use Rattle.mmu_core.specs.lines.Rests.{AcceptsAt, RecordAccepts, Rests, RestsAt, RestsOn}
 use Rattle.mmu_core.specs.lines.SetSlotSteps.{set_slot_part}
 use Rattle.part_steps.specs.SlotWords.{may_write, page_of}

@@ -31,7 +31,7 @@ use Rattle.mmu_core.specs.lines.AccessSteps.{access_caches, access_loads, access
 use Rattle.mmu_core.specs.lines.Cached.{first_usable}
 use Rattle.mmu_core.specs.lines.FaultSteps.{allows_access, fault_next}
 use Rattle.mmu_core.specs.lines.KnowsPart.{AccessKnows}
-use Rattle.part_steps.specs.PartSteps.{entry_index, table_page}
+use Rattle.part_steps.specs.PartTasks.{entry_index, table_page}
 use Rattle.mmu_core.specs.machine.Outcomes.{place_after}
 use Rattle.mmu_core.specs.invariant.TopicsInvariant.{TopicsInvariant}
 use Rattle.mmu_core.specs.machine.Steps.{state_at}

@@ -1,4 +1,6 @@
 -- An access has no more steps left at any place than where it begins, nor has its fault.
+use Rattle.mmu_core.specs.lines.ShareSteps.{share_left}
+use Rattle.mmu_core.specs.lines.ClaimSteps.{claim_left, map_word, tries_page}
 use Rattle.std.proofs.Math.Nat.{mul-le-mul_right}
 use Rattle.std.proofs.Common.{◌+◌, ◌-◌, ◌*◌, ◌≤◌, ℕ, arith}
 use Rattle.std.specs.Prelude.{Bool, true, false, if◌then◌else◌}
@@ -18,7 +20,7 @@ use Rattle.core_views.specs.declared.topics.SlotSearch.{SlotSearch}
 use Rattle.core_views.specs.declared.topics.Topics.{Topics}
 use Rattle.spte_words.specs.Areas.{words_of_bits}
 use Rattle.mmu_core.specs.lines.Bounds.{access_left, stay_left}
-use Rattle.mmu_core.specs.lines.FaultSteps.{check_left, claim_left, fault_left, find_left, share_left, map_word, table_left, tries_page}
+use Rattle.mmu_core.specs.lines.FaultLeft.{check_left, fault_left, find_left, table_left}
 use Rattle.mmu_core.specs.lines.SearchLeft.{look_left}
 
 tables_few : (z : Sizes) (level : ℕ) → level ≤ 4 → (level - 1) * table_left z ≤ 3 * table_left z

@@ -32,7 +32,8 @@ use Rattle.mmu_core.specs.lines.Cached.{allows, asks_flush, covers, first_usable
 use Rattle.mmu_core.specs.lines.FaultSteps.{allows_access}
 use Rattle.mmu_core.specs.invariant.Invariant.{CachedPart, Invariant, IsLeafFor}
 use Rattle.mmu_core.specs.lines.KnowsPart.{AccessKnows}
-use Rattle.part_steps.specs.PartSteps.{IsOver, entry_index, table_page}
+use Rattle.part_steps.specs.PartTasks.{entry_index, table_page}
+use Rattle.part_steps.specs.PartHoldings.{IsOver}
 use Rattle.part_steps.specs.Tasks.{kind_of_task}
 use Rattle.mmu_core.specs.invariant.TopicsInvariant.{TopicsInvariant}
 use Rattle.mmu_core.proofs.pages.LeavesOver.{leaf_for}

@@ -15,7 +15,7 @@ use Rattle.part_steps.specs.declared.part_step.PartStep.{PartStep}
 use Rattle.part_steps.specs.declared.part_step.PartStep.TheVariants as part
 use Rattle.part_steps.specs.PartSteps.{PartNeeds}
 use Rattle.part_steps.specs.PartTopics.{part_topics}
-use Rattle.part_steps.specs.TopicSteps.{is_won, tried_bit}
+use Rattle.part_steps.specs.PageTopics.{is_won, tried_bit}
 use Rattle.mmu_core.specs.declared.claim.ClaimNext.{ClaimNext}
 use Rattle.mmu_core.specs.declared.claim.ClaimNext.TheVariants as claims
 use Rattle.mmu_core.specs.lines.ClaimSteps.{claim_left, claim_next, claim_part, map_word, tries_page, word_after_load}

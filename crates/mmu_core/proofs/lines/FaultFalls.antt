@@ -29,14 +29,18 @@ use Rattle.mmu_core.specs.declared.claim.ClaimNext.{ClaimNext}
 use Rattle.mmu_core.specs.declared.share.ShareNext.{ShareNext}
 use Rattle.mmu_core.specs.declared.share.ShareNext.TheVariants as shares
 use Rattle.mmu_core.specs.lines.FaultKnows.{FaultKnows, is_trying}
-use Rattle.mmu_core.specs.lines.FaultSteps.{after_claim, after_share, allows_access, check_left, check_next, claim_left, entering_left, entry_word, fault_left, fault_next, fault_part, find_next, next_left, share_left, share_next, share_part, snapshot_taken, table_left, walk_left, walk_next, claim_next, is_owing, map_word, tries_page}
+use Rattle.mmu_core.specs.lines.FaultLeft.{check_left, entering_left, fault_left, next_left, table_left, walk_left}
+use Rattle.mmu_core.specs.lines.FaultSteps.{after_claim, after_share, allows_access, check_next, entry_word, fault_next, fault_part, find_next, share_next, share_part, snapshot_taken, walk_next, claim_next, tries_page, claim_left, share_left}
 use Rattle.part_steps.specs.declared.part_step.PartStep.TheVariants as part
 use Rattle.mmu_core.specs.lines.PartWaits.{part_waits}
 use Rattle.part_steps.specs.PartBounds.{PartRests}
-use Rattle.part_steps.specs.PartSteps.{entry_index, link_written, page_owned, words_filled, HasToFill}
+use Rattle.part_steps.specs.PartTasks.{entry_index, link_written, page_owned, words_filled}
+use Rattle.part_steps.specs.PartHoldings.{HasToFill}
 use Rattle.part_steps.specs.PartTopics.{exchanged, part_topics}
 use Rattle.mmu_core.specs.lines.SearchLeft.{look_left}
-use Rattle.part_steps.specs.TopicSteps.{filled_more, gone_down, linked_page, may_walk, searched, searched_at}
+use Rattle.part_steps.specs.StayTopics.{may_walk}
+use Rattle.part_steps.specs.WalkTopics.{gone_down, linked_page}
+use Rattle.part_steps.specs.PageTopics.{filled_more, searched, searched_at}
 use Rattle.mmu_core.proofs.lines.ClaimMade.{ClaimMade, claim_falls, claim_made, claim_left_after, word_there}
 use Rattle.mmu_core.proofs.lines.ClaimMade as made
 use Rattle.mmu_core.proofs.lines.FaultKnown.{above_lowest}

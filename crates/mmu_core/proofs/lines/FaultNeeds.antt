@@ -11,7 +11,8 @@ use Rattle.core_views.specs.Held.{Held}
 use Rattle.mmu_core.specs.lines.FaultKnows.{Entering, FaultKnows}
 use Rattle.mmu_core.specs.lines.FaultSteps.{check_part, fault_part}
 use Rattle.part_steps.specs.PartBounds.{PartRests}
-use Rattle.part_steps.specs.PartSteps.{FoundSlot, MayEnter, PartNeeds, SawEntry, counts}
+use Rattle.part_steps.specs.PartHoldings.{FoundSlot, MayEnter, SawEntry}
+use Rattle.part_steps.specs.PartSteps.{PartNeeds, counts}
 use Rattle.part_steps.specs.SlotWords.{page_of}
 use Rattle.mmu_core.proofs.lines.ClaimMade.{claim_needs}
 use Rattle.mmu_core.proofs.lines.FaultSame.{over_it}

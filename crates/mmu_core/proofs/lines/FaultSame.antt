@@ -16,9 +16,9 @@ use Rattle.spte_words.specs.Areas.{words_of_bits}
 use Rattle.spte_words.specs.Entries.{kind_of}
 use Rattle.mmu_core.specs.lines.FaultKnows.{EndKnows, Entering, FoundNoPage, IsInTheWay, LookedFor, SawNone, Sharing, WithoutLock}
 use Rattle.mmu_core.specs.lines.FaultSteps.{allows_access}
-use Rattle.part_steps.specs.PartSteps.{FoundSlot, IsFresh, LookedUp, SawEntry}
+use Rattle.part_steps.specs.PartHoldings.{FoundSlot, IsFresh, LookedUp, SawEntry}
 use Rattle.part_steps.specs.SlotWords.{page_of}
-use Rattle.part_steps.specs.TopicSteps.{unchecked}
+use Rattle.part_steps.specs.StayTopics.{unchecked}
 
 -- Tests of two truths.
 pub both : (a b : Bool) → (a && b) ≡ true → (a ≡ true) × (b ≡ true)

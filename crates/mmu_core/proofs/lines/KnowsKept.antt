@@ -45,7 +45,9 @@ use Rattle.mmu_core.specs.lines.FaultSteps.{allows_access, fault_next}
 use Rattle.mmu_core.specs.invariant.Invariant.{Invariant, KnowsPart, UnderWay, LeavesPart}
 use Rattle.mmu_core.specs.lines.KnowsPart.{AccessKnows, InGuest, LeavesPart, may_leave}
 use Rattle.part_steps.specs.PartBounds.{PartRests}
-use Rattle.part_steps.specs.PartSteps.{IsAtRest, IsOver, IsVcpu, PartNeeds, entry_index, own_index, words_filled}
+use Rattle.part_steps.specs.PartTasks.{entry_index, own_index, words_filled}
+use Rattle.part_steps.specs.PartHoldings.{IsOver}
+use Rattle.part_steps.specs.PartSteps.{IsAtRest, IsVcpu, PartNeeds}
 use Rattle.part_steps.specs.PartTopics.{part_topics}
 use Rattle.mmu_core.specs.lines.SetSlotSteps.{set_slot_outcome, set_slot_task, set_slot_part, set_slot_first, set_slot_note}
 use Rattle.mmu_core.specs.lines.Rests.{IsUnderWay}
@@ -53,7 +55,10 @@ use Rattle.mmu_core.specs.machine.Steps.{caches_at, first_place, has_line, line_
 use Rattle.part_steps.specs.Tasks.{kind_of_task}
 use Rattle.mmu_core.specs.machine.Outcomes.{place_after}
 use Rattle.mmu_core.specs.invariant.TopicsInvariant.{TopicsInvariant}
-use Rattle.part_steps.specs.TopicSteps.{at_root, gone_down, linked_page, may_walk, topics_after}
+use Rattle.part_steps.specs.StayTopics.{may_walk}
+use Rattle.part_steps.specs.WalkTopics.{gone_down, linked_page}
+use Rattle.part_steps.specs.ControlTopics.{at_root}
+use Rattle.part_steps.specs.TopicSteps.{topics_after}
 use Rattle.mmu_core.specs.machine.View.{View, answer_in, hand_after, part_stepped, stepped}
 use Rattle.mmu_core.proofs.machine.Columns.{at_upd}
 use Rattle.mmu_core.proofs.lines.FaultKnown.{above_lowest, fault_known, gone_over, parts_answer, root_over}

@@ -34,7 +34,7 @@ use Rattle.spte_words.specs.Entries.{kind_of}
 use Rattle.spte_words.specs.HostWords.{host_allows_write}
 use Rattle.mmu_core.specs.lines.FaultKnows.{CheckKnows, EndKnows, Entering, FaultKnows, FoundNoPage, HasCause, HostForbids, IsInTheWay, LookedFor, Sharing}
 use Rattle.mmu_core.specs.lines.KnowsPart.{AccessKnows, KnowsPart}
-use Rattle.part_steps.specs.PartSteps.{LookedUp}
+use Rattle.part_steps.specs.PartHoldings.{LookedUp}
 use Rattle.mmu_core.specs.machine.Steps.{line_at, place_at}
 use Rattle.mmu_core.specs.machine.View.{view}
 use Rattle.mmu_core.specs.machine.Worlds.{HandReached}

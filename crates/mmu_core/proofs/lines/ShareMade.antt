@@ -11,9 +11,11 @@ use Rattle.spte_words.specs.declared.area.Area.TheVariants as area
 use Rattle.mmu_core.specs.lines.PartWaits.{part_waits}
 use Rattle.part_steps.specs.declared.part_step.PartStep.{PartStep}
 use Rattle.part_steps.specs.declared.part_step.PartStep.TheVariants as part
-use Rattle.part_steps.specs.PartSteps.{PartNeeds, counts, part_task}
+use Rattle.part_steps.specs.PartTasks.{part_task}
+use Rattle.part_steps.specs.PartSteps.{PartNeeds, counts}
 use Rattle.part_steps.specs.PartTopics.{part_topics}
-use Rattle.part_steps.specs.TopicSteps.{has_writer, let_go, unchecked}
+use Rattle.part_steps.specs.StayTopics.{let_go, unchecked}
+use Rattle.part_steps.specs.ControlTopics.{has_writer}
 use Rattle.mmu_core.specs.declared.share.ShareNext.{ShareNext}
 use Rattle.mmu_core.specs.declared.share.ShareNext.TheVariants as shares
 use Rattle.mmu_core.specs.lines.PartWaits.{is_owing}

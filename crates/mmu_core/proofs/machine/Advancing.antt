@@ -23,7 +23,9 @@ use Rattle.part_steps.specs.declared.part_step.PartStep.{PartStep}
 use Rattle.part_steps.specs.declared.part_step.PartStep.TheVariants as part
 use Rattle.mmu_core.specs.machine.Enabled.{Enabled, IsNext, IsPartStep}
 use Rattle.spte_words.specs.Entries.{level_span}
-use Rattle.part_steps.specs.PartSteps.{IsOver, PartNeeds, own_index, part_task, words_filled}
+use Rattle.part_steps.specs.PartTasks.{own_index, part_task, words_filled}
+use Rattle.part_steps.specs.PartHoldings.{IsOver}
+use Rattle.part_steps.specs.PartSteps.{PartNeeds}
 use Rattle.mmu_core.specs.lines.Rests.{AcceptsAt, Rests, RestsAt}
 use Rattle.mmu_core.specs.lines.Cached.{flushed}
 use Rattle.part_steps.specs.PartBounds.{PartRests}

@@ -16,7 +16,8 @@ use Rattle.part_steps.specs.declared.task.Task.{Task}
 use Rattle.part_steps.specs.declared.part_step.PartStep.{PartStep}
 use Rattle.mmu_core.specs.lines.AccessSteps.{touch_of}
 use Rattle.mmu_core.specs.machine.Enabled.{Enabled}
-use Rattle.part_steps.specs.PartSteps.{PartNeeds, part_kind}
+use Rattle.part_steps.specs.PartTasks.{part_kind}
+use Rattle.part_steps.specs.PartSteps.{PartNeeds}
 use Rattle.mmu_core.specs.lines.Rests.{RestsAt}
 use Rattle.mmu_core.specs.machine.Steps.{line_at, place_at, task_at}
 use Rattle.part_steps.specs.Tasks.{kind_of_task, map_of}

@@ -4,7 +4,8 @@ use Rattle.std.specs.Prelude.{Bool, true, false}
 use Rattle.core_views.specs.declared.kind.Kind.{Kind}
 use Rattle.core_views.specs.Held.{Held}
 use Rattle.part_steps.specs.declared.part_step.PartStep.{PartStep}
-use Rattle.part_steps.specs.PartSteps.{PartNeeds, own_index, part_kind}
+use Rattle.part_steps.specs.PartTasks.{own_index, part_kind}
+use Rattle.part_steps.specs.PartSteps.{PartNeeds}
 use Rattle.part_steps.specs.PartTopics.{part_topics}
 use Rattle.mmu_core.specs.machine.Steps.{has_line, next, next_by}
 use Rattle.part_steps.specs.TopicSteps.{topics_after}

@@ -8,7 +8,8 @@ use Rattle.spte_words.specs.declared.area.Area.{Area}
 use Rattle.spte_words.specs.declared.area.Area.TheVariants as area
 use Rattle.part_steps.specs.declared.part_step.PartStep.TheVariants as part
 use Rattle.part_steps.specs.declared.part_step.PartStep.{PartStep}
-use Rattle.part_steps.specs.PartSteps.{IsWithin, PartNeeds, needs_line, own_index, page_owned}
+use Rattle.part_steps.specs.PartTasks.{IsWithin, own_index, page_owned}
+use Rattle.part_steps.specs.PartSteps.{PartNeeds, needs_line}
 use Rattle.mmu_core.specs.invariant.SlotSetPart.{IsLiveIn}
 use Rattle.mmu_core.specs.machine.View.{View}
 

@@ -19,7 +19,7 @@ use Rattle.spte_words.specs.declared.area.Area.{Area}
 use Rattle.spte_words.specs.Areas.{size_of, total}
 use Rattle.spte_words.proofs.Places.{place_below}
 use Rattle.part_steps.specs.declared.task.Task.{Task}
-use Rattle.part_steps.specs.PartSteps.{own_index, part_task}
+use Rattle.part_steps.specs.PartTasks.{own_index, part_task}
 use Rattle.mmu_core.proofs.words.PartIndex.{index_same}
 use Rattle.mmu_core.specs.lines.AccessSteps.{access_loads}
 use Rattle.mmu_core.specs.machine.Enabled.{Enabled, IsNext, IsPartStep, mmu}

@@ -21,7 +21,8 @@ use Rattle.spte_words.specs.Areas.{place, size_of}
 use Rattle.mmu_core.specs.machine.Enabled.{IsNext, IsPartStep, mmu}
 use Rattle.mmu_core.specs.invariant.Invariant.{Invariant}
 use Rattle.mmu_core.specs.machine.Machine.{Legal, May, Step, World, answered, effect, hand_in, run}
-use Rattle.part_steps.specs.PartSteps.{needs_line, own_index, part_task}
+use Rattle.part_steps.specs.PartTasks.{own_index, part_task}
+use Rattle.part_steps.specs.PartSteps.{needs_line}
 use Rattle.mmu_core.specs.machine.Steps.{has_line, held_after, idle_after, line_at, next, place_at, task_of}
 use Rattle.part_steps.specs.Tasks.{kind_of_task, map_of}
 use Rattle.mmu_core.specs.invariant.TopicsInvariant.{TopicsInvariant}

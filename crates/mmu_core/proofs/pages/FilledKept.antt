@@ -12,9 +12,9 @@ use Rattle.spte_words.specs.declared.area.Area.TheVariants as area
 use Rattle.spte_words.specs.Areas.{pool_index}
 use Rattle.part_steps.specs.declared.part_step.PartStep.{PartStep}
 use Rattle.part_steps.specs.declared.part_step.PartStep.TheVariants as part
-use Rattle.part_steps.specs.PartSteps.{own_index, page_owned, part_task, words_filled}
+use Rattle.part_steps.specs.PartTasks.{own_index, page_owned, part_task, words_filled}
 use Rattle.mmu_core.specs.invariant.PoolPart.{FilledPart, IsFilled}
-use Rattle.part_steps.specs.TopicSteps.{claimed, filled_more, is_won, tried_bit}
+use Rattle.part_steps.specs.PageTopics.{claimed, filled_more, is_won, tried_bit}
 use Rattle.mmu_core.specs.invariant.TopicsInvariant.{TopicsInvariant}
 use Rattle.mmu_core.specs.machine.View.{View, answer_in, part_stepped, upd}
 use Rattle.mmu_core.proofs.machine.Columns.{at_upd, same_or, upd_same}

@@ -11,7 +11,7 @@ use Rattle.spte_words.proofs.ReadsEntries.{kind_of_absent, kind_of_table}
 use Rattle.spte_words.proofs.Spans.{span_1}
 use Rattle.part_steps.specs.declared.part_step.PartStep.{PartStep}
 use Rattle.part_steps.specs.declared.part_step.PartStep.TheVariants as part
-use Rattle.part_steps.specs.PartSteps.{leaf_written}
+use Rattle.part_steps.specs.PartTasks.{leaf_written}
 use Rattle.part_steps.specs.SlotWords.{leaf_of}
 use Rattle.mmu_core.specs.invariant.AllOver.{AllOver, LeafIsFor}
 use Rattle.mmu_core.specs.invariant.CachedPart.{IsLeafFor}

@@ -4,9 +4,10 @@ use Rattle.std.specs.Prelude.{Bool, true, false, ◌==◌, ◌&&◌, ◌||◌, n
 use Rattle.std.proofs.lemmas.Bool.Decides.{nat_tests}
 use Rattle.core_views.specs.declared.topics.OwnedPage.{OwnedPage}
 use Rattle.core_views.specs.declared.topics.Topics.{Topics}
-use Rattle.part_steps.specs.PartSteps.{OwnsSet, OwnsTable, is_absent, role_filled, words_filled}
+use Rattle.part_steps.specs.PartTasks.{is_absent, role_filled, words_filled}
+use Rattle.part_steps.specs.PartHoldings.{OwnsSet, OwnsTable}
 use Rattle.part_steps.specs.SetWords.{set_role}
-use Rattle.part_steps.specs.TopicSteps.{filled_more}
+use Rattle.part_steps.specs.PageTopics.{filled_more}
 
 -- the page
 pub owned_some : (t : Topics) → is_some t.owned ≡ true → (o : OwnedPage) × (t.owned ≡ Some o)

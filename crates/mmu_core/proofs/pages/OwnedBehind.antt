@@ -12,9 +12,11 @@ use Rattle.spte_words.specs.Entries.{frozen_word, is_leaf_at, kind_of}
 use Rattle.spte_words.proofs.ReadsEntries.{kind_of_table}
 use Rattle.part_steps.specs.declared.part_step.PartStep.{PartStep}
 use Rattle.part_steps.specs.declared.part_step.PartStep.TheVariants as part
-use Rattle.part_steps.specs.PartSteps.{leaf_written, link_written, own_index, page_owned, part_task}
+use Rattle.part_steps.specs.PartTasks.{leaf_written, link_written, own_index, page_owned, part_task}
 use Rattle.part_steps.specs.Tasks.{kind_of_task}
-use Rattle.part_steps.specs.TopicSteps.{claimed, filled_more, is_in_table, linked_page, still_owned, topics_after, unless_linked, still_leaving}
+use Rattle.part_steps.specs.WalkTopics.{is_in_table, linked_page, still_owned, unless_linked}
+use Rattle.part_steps.specs.PageTopics.{claimed, filled_more, still_leaving}
+use Rattle.part_steps.specs.TopicSteps.{topics_after}
 use Rattle.mmu_core.specs.machine.View.{View, answer_in, part_stepped, upd}
 use Rattle.mmu_core.proofs.machine.Columns.{upd_same}
 use Rattle.mmu_core.proofs.machine.SumsBelow.{column}

@@ -7,9 +7,10 @@ use Rattle.core_views.specs.declared.topics.Topics.{Topics}
 use Rattle.spte_words.specs.Entries.{kind_of}
 use Rattle.part_steps.specs.declared.part_step.PartStep.{PartStep}
 use Rattle.part_steps.specs.declared.part_step.PartStep.TheVariants as part
-use Rattle.part_steps.specs.PartSteps.{leaf_written, link_written}
+use Rattle.part_steps.specs.PartTasks.{leaf_written, link_written}
 use Rattle.part_steps.specs.PartTopics.{part_topics}
-use Rattle.part_steps.specs.TopicSteps.{gone_down, is_outside, linked_page, may_walk, swapped}
+use Rattle.part_steps.specs.StayTopics.{is_outside, may_walk}
+use Rattle.part_steps.specs.WalkTopics.{gone_down, linked_page, swapped}
 use Rattle.core_views.specs.declared.sizes.Sizes.{Sizes}
 use Rattle.core_views.specs.Held.{Held}
 use Rattle.core_views.specs.Sizes.{actors_of}
@@ -17,7 +18,7 @@ use Rattle.mmu_core.specs.invariant.HeldPart.{HeldPart, PathPart, run_at, table_
 use Rattle.mmu_core.specs.invariant.TopicsInvariant.{TopicsInvariant}
 use Rattle.mmu_core.specs.invariant.TreePart.{Position, at, stands}
 use Rattle.mmu_core.specs.machine.View.{View, answer_in, part_stepped}
-use Rattle.part_steps.specs.PartSteps.{part_task}
+use Rattle.part_steps.specs.PartTasks.{part_task}
 use Rattle.std.proofs.lemmas.Bool.{cases_lt}
 use Rattle.std.proofs.Common.{◌⊎◌, inl, inr, sym, subst}
 use Rattle.mmu_core.proofs.machine.Columns.{at_upd}

@@ -11,11 +11,11 @@ use Rattle.spte_words.specs.declared.area.Area.TheVariants as area
 use Rattle.part_steps.specs.declared.task.Task.{Task}
 use Rattle.part_steps.specs.declared.part_step.PartStep.{PartStep}
 use Rattle.part_steps.specs.declared.part_step.PartStep.TheVariants as part
-use Rattle.part_steps.specs.PartSteps.{own_index, page_owned, part_task, page_left, table_page, entry_index}
+use Rattle.part_steps.specs.PartTasks.{own_index, page_owned, part_task, page_left, table_page, entry_index}
 use Rattle.mmu_core.specs.invariant.PoolPart.{UsePart}
 use Rattle.mmu_core.specs.machine.Steps.{idle_after}
 use Rattle.part_steps.specs.Tasks.{kind_of_task}
-use Rattle.part_steps.specs.TopicSteps.{is_won, tried_bit, still_leaving}
+use Rattle.part_steps.specs.PageTopics.{is_won, tried_bit, still_leaving}
 use Rattle.mmu_core.specs.invariant.TopicsInvariant.{TopicsInvariant}
 use Rattle.mmu_core.specs.invariant.TreePart.{Use}
 use Rattle.mmu_core.specs.invariant.TreePart.Use.{Free, OldSet, SlotSet, Under}

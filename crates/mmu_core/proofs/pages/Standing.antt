@@ -6,8 +6,8 @@ use Rattle.spte_words.specs.declared.area.Area.TheVariants as area
 use Rattle.spte_words.specs.Areas.{pool_index}
 use Rattle.part_steps.specs.declared.part_step.PartStep.{PartStep}
 use Rattle.part_steps.specs.declared.part_step.PartStep.TheVariants as part
-use Rattle.part_steps.specs.PartSteps.{entry_index, page_left, page_owned, table_page}
-use Rattle.part_steps.specs.TopicSteps.{is_won, tried_bit}
+use Rattle.part_steps.specs.PartTasks.{entry_index, page_left, page_owned, table_page}
+use Rattle.part_steps.specs.PageTopics.{is_won, tried_bit}
 use Rattle.mmu_core.specs.invariant.TreePart.{Position, Use, at, is_table, stands}
 use Rattle.mmu_core.specs.invariant.TreePart.Use.{Free, OldSet, Owned, SlotSet, Under}
 use Rattle.mmu_core.specs.machine.View.{View, upd}

@@ -15,7 +15,8 @@ use Rattle.part_steps.specs.SlotWords.{may_write}
 use Rattle.spte_words.proofs.Spans.{span_1, span_above}
 use Rattle.part_steps.specs.declared.part_step.PartStep.{PartStep}
 use Rattle.part_steps.specs.declared.part_step.PartStep.TheVariants as part
-use Rattle.part_steps.specs.PartSteps.{FoundSlot, LookedUp, MayEnter, entry_index, is_absent, leaf_written, link_written, page_owned, table_page, word_looked}
+use Rattle.part_steps.specs.PartTasks.{entry_index, is_absent, leaf_written, link_written, page_owned, table_page, word_looked}
+use Rattle.part_steps.specs.PartHoldings.{FoundSlot, LookedUp, MayEnter}
 use Rattle.mmu_core.specs.invariant.PoolPart.{IsFilled}
 use Rattle.part_steps.specs.SlotWords.{page_of}
 use Rattle.mmu_core.specs.invariant.TopicsInvariant.{TopicsInvariant}

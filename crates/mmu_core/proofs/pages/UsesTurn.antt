@@ -6,7 +6,7 @@ use Rattle.core_views.specs.declared.topics.OwnedPage.{OwnedPage}
 use Rattle.core_views.specs.Held.{Held}
 use Rattle.spte_words.specs.Bits.{has_bit}
 use Rattle.mmu_core.specs.invariant.PoolPart.{UsePart, is_free, is_leaving, is_owned, is_use}
-use Rattle.part_steps.specs.TopicSteps.{filled_more}
+use Rattle.part_steps.specs.PageTopics.{filled_more}
 use Rattle.mmu_core.specs.invariant.TreePart.{Use}
 use Rattle.mmu_core.specs.invariant.TreePart.Use.{Free, OldSet, Outside, Owned, SlotSet, Under}
 use Rattle.mmu_core.specs.machine.View.{upd}

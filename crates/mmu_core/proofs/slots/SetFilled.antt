@@ -22,7 +22,8 @@ use Rattle.spte_words.specs.Flags.{flags_live, flags_logged, flags_read_only}
 use Rattle.spte_words.proofs.ReadsFlags.{flags_are_live, flags_are_logged, flags_are_read_only}
 use Rattle.mmu_core.specs.lines.FaultSteps.{claim_part}
 use Rattle.mmu_core.specs.invariant.Invariant.{Invariant, IsLiveIn, RecordPart}
-use Rattle.part_steps.specs.PartSteps.{OwnsSet, page_owned}
+use Rattle.part_steps.specs.PartTasks.{page_owned}
+use Rattle.part_steps.specs.PartHoldings.{OwnsSet}
 use Rattle.mmu_core.proofs.pages.Owned.{set_owned}
 use Rattle.mmu_core.specs.lines.SetSlotSteps.{set_slot_part}
 use Rattle.part_steps.specs.SetWords.{IsFilledWith, set_word, word_of_slot}

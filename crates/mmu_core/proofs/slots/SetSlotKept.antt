@@ -29,7 +29,7 @@ use Rattle.part_steps.specs.declared.part_step.PartStep.{PartStep}
 use Rattle.mmu_core.specs.lines.Cached.{flushed}
 use Rattle.mmu_core.specs.invariant.Invariant.{CachedPart, Holds, Invariant, InvariantOf, IsLeafFor, OwnLines, RecordPart, UnderWay, lines_done, IsSetBy}
 use Rattle.mmu_core.specs.lines.KnowsPart.{may_leave}
-use Rattle.part_steps.specs.PartSteps.{own_index, page_owned}
+use Rattle.part_steps.specs.PartTasks.{own_index, page_owned}
 use Rattle.mmu_core.specs.lines.SetSlotSteps.{set_slot_note, set_slot_outcome, set_slot_part, set_slot_records, set_slot_task, watch_next}
 use Rattle.part_steps.specs.SetWords.{set_role, set_word}
 use Rattle.mmu_core.specs.machine.Steps.{next_line, state_at}

@@ -24,13 +24,17 @@ use Rattle.mmu_core.specs.declared.claim.ClaimNext.{ClaimNext}
 use Rattle.mmu_core.specs.declared.watch.WatchNext.{WatchNext}
 use Rattle.mmu_core.specs.lines.FaultLaws.{CanAnswer}
 use Rattle.part_steps.specs.PartBounds.{PartRests}
-use Rattle.part_steps.specs.PartSteps.{HasRoleToSet, HasToFill, IsAtRest, OwnsSet, PartNeeds, next_watched, own_index, words_filled}
+use Rattle.part_steps.specs.PartTasks.{own_index, words_filled}
+use Rattle.part_steps.specs.PartHoldings.{HasRoleToSet, HasToFill, OwnsSet, next_watched}
+use Rattle.part_steps.specs.PartSteps.{IsAtRest, PartNeeds}
 use Rattle.part_steps.specs.PartTopics.{part_topics, sequenced}
 use Rattle.mmu_core.specs.lines.PartWaits.{was_counted}
 use Rattle.mmu_core.specs.lines.SetSlotKnows.{HasPublished, HoldsLock, SetSlotKnows}
 use Rattle.mmu_core.specs.lines.SetSlotSteps.{set_slot_outcome, set_slot_part, after_claim, after_watch}
 use Rattle.part_steps.specs.SetWords.{set_role, set_word}
-use Rattle.part_steps.specs.TopicSteps.{count_checked, filled_more, is_loose, is_outside, is_section, kept_search, kept_walk, let_go, unchecked}
+use Rattle.part_steps.specs.StayTopics.{is_loose, is_outside, is_section, kept_search, kept_walk, let_go, unchecked}
+use Rattle.part_steps.specs.PageTopics.{filled_more}
+use Rattle.part_steps.specs.ControlTopics.{count_checked}
 use Rattle.mmu_core.proofs.lines.ClaimMade.{ClaimMade, claim_made, claim_needs, page_won}
 use Rattle.mmu_core.proofs.lines.ClaimMade as made
 use Rattle.mmu_core.proofs.machine.HandWith.{hand_with}

@@ -20,7 +20,6 @@ use Rattle.spte_words.specs.Areas.{words_of_bits}
 use Rattle.mmu_core.specs.declared.outcome.Outcome.TheVariants.{Goes, Ends}
 use Rattle.mmu_core.specs.invariant.LoadsPart.{FillsSet, Holds, SetSlotHolds}
 use Rattle.mmu_core.specs.lines.Bounds.{set_slot_left}
-use Rattle.mmu_core.specs.lines.FaultSteps.{tries_page}
 use Rattle.mmu_core.specs.lines.Rests.{RecordAccepts}
 use Rattle.mmu_core.specs.declared.claim.ClaimNext.{ClaimNext}
 use Rattle.mmu_core.specs.declared.claim.ClaimNext.TheVariants as claims

@@ -23,7 +23,7 @@ use Rattle.mmu_core.specs.declared.watch.WatchNext.{WatchNext}
 use Rattle.mmu_core.specs.declared.watch.WatchNext.TheVariants as watches
 use Rattle.mmu_core.specs.lines.ClaimSteps.{map_word, tries_page}
 use Rattle.mmu_core.specs.invariant.Invariant.{FillsSet, Holds, LeavesPart, SetSlotHolds}
-use Rattle.part_steps.specs.PartSteps.{page_owned, words_filled}
+use Rattle.part_steps.specs.PartTasks.{page_owned, words_filled}
 use Rattle.mmu_core.specs.lines.SetSlotKnows.{SetSlotKnows}
 use Rattle.mmu_core.specs.lines.SetSlotSteps.{set_slot_outcome, set_slot_part, set_slot_task, after_claim, after_watch, watch_next}
 use Rattle.part_steps.specs.SetWords.{IsFilledWith, set_word}
@@ -35,7 +35,7 @@ use Rattle.mmu_core.proofs.lines.ClaimMade as made
 use Rattle.mmu_core.proofs.pages.OwnedBehind.{left_behind, owned_behind}
 use Rattle.mmu_core.proofs.words.PartWords.{fill_leaves}
 use Rattle.mmu_core.proofs.slots.SetFilled.{is_publication}
-use Rattle.part_steps.specs.TopicSteps.{claimed, filled_more, is_won, still_leaving, tried_bit}
+use Rattle.part_steps.specs.PageTopics.{claimed, filled_more, is_won, still_leaving, tried_bit}
 
 -- What is filled stays filled, where the page that is owned and the record stay.
 fills_still : (pages : ℕ) (pool : ℕ → ℕ) (id : ℕ) (slot : Slot) (h g : Held) → g.slots ≡ h.slots → g.topics.owned ≡ h.topics.owned → FillsSet pages pool id slot h → FillsSet pages pool id slot g

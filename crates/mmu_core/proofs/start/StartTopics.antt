@@ -24,7 +24,7 @@ use Rattle.mmu_core.specs.invariant.SearchPart.{LookPart, SearchPart}
 use Rattle.mmu_core.specs.invariant.StatesPart.{stay_bits}
 use Rattle.mmu_core.specs.machine.Sums.{one_if, sum_below}
 use Rattle.mmu_core.specs.invariant.TopicsInvariant.{TopicsInvariant}
-use Rattle.part_steps.specs.TopicSteps.{is_alone}
+use Rattle.part_steps.specs.StayTopics.{is_alone}
 use Rattle.mmu_core.specs.invariant.TreePart.{Position, TreePart, Use, at, is_table, stands}
 use Rattle.mmu_core.specs.invariant.TreePart.Use.{Free, OldSet, Outside, Owned, Root, SlotSet, Under}
 use Rattle.mmu_core.specs.machine.View.{view, word_in}

@@ -14,10 +14,12 @@ use Rattle.spte_words.proofs.ReadsEntries.{leaf_fits, table_fits}
 use Rattle.part_steps.specs.declared.part_step.PartStep.{PartStep}
 use Rattle.part_steps.specs.declared.part_step.PartStep.TheVariants as part
 use Rattle.part_steps.specs.PartBounds.{PartRests}
-use Rattle.part_steps.specs.PartSteps.{IsWithin, LookedUp, OwnsTable, PartNeeds, all_but, leaf_written, link_written, own_index, page_owned, part_kind, part_task, set_held, table_page, word_looked, words_filled, MayPublish, MayGiveOld, page_left}
+use Rattle.part_steps.specs.PartTasks.{IsWithin, all_but, leaf_written, link_written, own_index, page_owned, part_kind, part_task, set_held, table_page, word_looked, words_filled, page_left}
+use Rattle.part_steps.specs.PartHoldings.{LookedUp, OwnsTable, MayPublish, MayGiveOld}
+use Rattle.part_steps.specs.PartSteps.{PartNeeds}
 use Rattle.part_steps.specs.SlotWords.{field_number, leaf_of, may_write, slot_index}
 use Rattle.part_steps.specs.Tasks.{map_of}
-use Rattle.part_steps.specs.TopicSteps.{tried_bit}
+use Rattle.part_steps.specs.PageTopics.{tried_bit}
 use Rattle.mmu_core.proofs.pages.Owned.{owned_some, some_filled}
 
 pub is_number : (f : SlotField) → field_number f ≤ 3

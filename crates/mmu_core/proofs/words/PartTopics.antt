@@ -14,11 +14,15 @@ use Rattle.part_steps.specs.declared.task.Task.{Task}
 use Rattle.mmu_core.specs.lines.Cached.{flushed}
 use Rattle.part_steps.specs.declared.part_step.PartStep.{PartStep}
 use Rattle.part_steps.specs.declared.part_step.PartStep.TheVariants as part
-use Rattle.part_steps.specs.PartSteps.{PartNeeds, entry_index, entry_task, leaf_written, link_written, part_task, table_page}
+use Rattle.part_steps.specs.PartTasks.{entry_index, entry_task, leaf_written, link_written, part_task, table_page}
+use Rattle.part_steps.specs.PartSteps.{PartNeeds}
 use Rattle.part_steps.specs.PartTopics.{exchanged, part_topics}
 use Rattle.mmu_core.specs.machine.Steps.{idle_after}
 use Rattle.part_steps.specs.Tasks.{kind_of_task, map_of}
-use Rattle.part_steps.specs.TopicSteps.{at_root, at_set, at_word, controlled, count_checked, host_begins, in_section, index_in_page, is_in_table, is_loose, kept_search, map_begins, map_ends, may_search, may_walk, range_checked, seq_checked, start_checked, still_owned, swapped, topics_after, walked}
+use Rattle.part_steps.specs.StayTopics.{is_loose, kept_search, may_search, may_walk}
+use Rattle.part_steps.specs.WalkTopics.{is_in_table, still_owned, swapped, walked}
+use Rattle.part_steps.specs.ControlTopics.{at_root, at_set, at_word, controlled, count_checked, in_section, map_begins, map_ends, range_checked, seq_checked, start_checked}
+use Rattle.part_steps.specs.TopicSteps.{host_begins, index_in_page, topics_after}
 use Rattle.mmu_core.specs.machine.View.{View, answer_in, part_stepped, upd, words_after}
 use Rattle.mmu_core.proofs.machine.PartStepping.{IsPart}
 

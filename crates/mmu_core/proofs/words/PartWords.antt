@@ -12,7 +12,7 @@ use Rattle.spte_words.specs.Areas.{number_of, pool_index}
 use Rattle.spte_words.proofs.Indices.{same_pool_word}
 use Rattle.part_steps.specs.declared.part_step.PartStep.{PartStep}
 use Rattle.part_steps.specs.declared.part_step.PartStep.TheVariants as part
-use Rattle.part_steps.specs.PartSteps.{entry_index, entry_task, leaf_written, link_written, own_index, page_owned, part_task, table_page, words_filled, page_left}
+use Rattle.part_steps.specs.PartTasks.{entry_index, entry_task, leaf_written, link_written, own_index, page_owned, part_task, table_page, words_filled, page_left}
 use Rattle.mmu_core.specs.invariant.TopicsInvariant.{TopicsInvariant}
 use Rattle.mmu_core.specs.machine.View.{View, part_stepped, put, upd, words_after}
 use Rattle.mmu_core.proofs.machine.Columns.{upd_other}

@@ -13,7 +13,7 @@ use Rattle.core_views.specs.Slots.{is_write}
 use Rattle.spte_words.specs.declared.area.Area.{Area}
 use Rattle.spte_words.specs.declared.area.Area.TheVariants as area
 use Rattle.mmu_core.specs.alone.FaultAlone.{FaultAlone, LeadsToLeaf, NoneFreeBefore, SeenStands}
-use Rattle.part_steps.specs.PartSteps.{table_page}
+use Rattle.part_steps.specs.PartTasks.{table_page}
 
 -- In a stay behind a fault that has installed an entry, links lead from the root to a leaf that allows the access.
 abbrev pub StayAlone : Bool → ℕ → (ℕ → ℕ) → ℕ → Bool → Type 0

@@ -4,7 +4,7 @@ use Rattle.core_views.specs.Held.{Held}
 use Rattle.mmu_core.specs.machine.Enabled.{mmu}
 use Rattle.mmu_core.specs.machine.Machine.{World, hand_in}
 use Rattle.part_steps.specs.PartSteps.{IsAtRest}
-use Rattle.part_steps.specs.TopicSteps.{has_lock, is_alone}
+use Rattle.part_steps.specs.StayTopics.{has_lock, is_alone}
 use Rattle.core_views.specs.declared.topics.Topics.{Topics}
 
 -- The actor holds nothing, and no page leaves for it.

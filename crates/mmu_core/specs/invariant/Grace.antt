@@ -13,9 +13,9 @@ use Rattle.spte_words.specs.declared.area.Area.TheVariants.{State}
 use Rattle.spte_words.specs.Areas.{place}
 use Rattle.mmu_core.specs.machine.Enabled.{mmu}
 use Rattle.mmu_core.specs.machine.Machine.{Legal, Step, World, effect, hand_in, run}
-use Rattle.part_steps.specs.PartSteps.{next_watched}
+use Rattle.part_steps.specs.PartHoldings.{next_watched}
 use Rattle.part_steps.specs.Tasks.{map_of}
-use Rattle.part_steps.specs.TopicSteps.{is_outside}
+use Rattle.part_steps.specs.StayTopics.{is_outside}
 use Rattle.mmu_core.specs.machine.Worlds.{IsStart, Reachable}
 
 -- what the actor at a place holds in a world

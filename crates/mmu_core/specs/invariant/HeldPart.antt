@@ -3,10 +3,10 @@ use Rattle.std.specs.Prelude.{◌≡◌, ◌≢◌, ◌<◌, ◌≤◌, ◌⊎�
 use Rattle.core_views.specs.declared.topics.Stay.TheVariants.{Section}
 use Rattle.core_views.specs.declared.topics.TableWalk.{TableWalk}
 use Rattle.core_views.specs.declared.topics.Topics.{Topics}
-use Rattle.part_steps.specs.PartSteps.{table_page}
+use Rattle.part_steps.specs.PartTasks.{table_page}
 use Rattle.mmu_core.specs.invariant.SlotSetPart.{IsLiveIn}
 use Rattle.core_views.specs.declared.trace.Slot.{Slot as SlotOf}
-use Rattle.part_steps.specs.TopicSteps.{may_search, may_walk}
+use Rattle.part_steps.specs.StayTopics.{may_search, may_walk}
 use Rattle.mmu_core.specs.invariant.TreePart.{Position, at}
 
 -- The table that a walk has come to is one, at the walk's level and run; and neither a table nor a slot set is held outside of the

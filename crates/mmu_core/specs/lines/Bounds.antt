@@ -1,4 +1,5 @@
 -- How many steps a line makes at most.
+use Rattle.mmu_core.specs.lines.ClaimSteps.{claim_left}
 use Rattle.std.specs.Prelude.{◌+◌, ◌-◌, ℕ, Bool, if◌then◌else◌}
 use Rattle.core_views.specs.declared.place.AccessPlace.{AccessPlace}
 use Rattle.core_views.specs.declared.place.AccessPlace.TheVariants.{Enter, Pause, Root, Walk, Touch, Leave, Fault}
@@ -11,8 +12,8 @@ use Rattle.core_views.specs.declared.place.SetSlotPlace.TheVariants as set_slot
 use Rattle.core_views.specs.declared.sizes.Sizes.{Sizes}
 use Rattle.core_views.specs.declared.topics.Topics.{Topics}
 use Rattle.core_views.specs.Sizes.{actors_of}
-use Rattle.mmu_core.specs.lines.FaultSteps.{claim_left, fault_left}
-use Rattle.part_steps.specs.PartSteps.{words_filled}
+use Rattle.mmu_core.specs.lines.FaultLeft.{fault_left}
+use Rattle.part_steps.specs.PartTasks.{words_filled}
 pub use Rattle.mmu_core.specs.lines.SearchLeft.{look_left}
 
 -- An access that finds no translation faults once, and then finds the leaf in another stay: what is left of it from each place on. A

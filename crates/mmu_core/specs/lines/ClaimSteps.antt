@@ -6,7 +6,7 @@ use Rattle.core_views.specs.declared.topics.MapClaim.{MapClaim}
 use Rattle.spte_words.specs.Areas.{words_of_bits}
 use Rattle.part_steps.specs.declared.part_step.PartStep.{PartStep}
 use Rattle.part_steps.specs.declared.part_step.PartStep.TheVariants as part
-use Rattle.part_steps.specs.TopicSteps.{is_won}
+use Rattle.part_steps.specs.PageTopics.{is_won}
 use Rattle.mmu_core.specs.declared.claim.ClaimNext.{ClaimNext}
 use Rattle.mmu_core.specs.declared.claim.ClaimNext.TheVariants.{Goes, Got, Empty}
 

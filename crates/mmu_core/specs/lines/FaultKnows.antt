@@ -23,7 +23,9 @@ use Rattle.spte_words.specs.Entries.{kind_of}
 use Rattle.spte_words.specs.HostWords.{host_allows_write}
 pub use Rattle.mmu_core.specs.lines.ShareSteps.{is_trying}
 use Rattle.mmu_core.specs.lines.FaultSteps.{allows_access, entry_word}
-use Rattle.part_steps.specs.PartSteps.{FoundSlot, HasRoleToSet, HasToFill, HoldsSet, IsAtRest, IsFresh, IsOver, LookedUp, OwnsPage, OwnsTable, SawEntry, is_absent}
+use Rattle.part_steps.specs.PartTasks.{is_absent}
+use Rattle.part_steps.specs.PartHoldings.{FoundSlot, HasRoleToSet, HasToFill, HoldsSet, IsFresh, IsOver, LookedUp, OwnsPage, OwnsTable, SawEntry}
+use Rattle.part_steps.specs.PartSteps.{IsAtRest}
 
 -- In a section, with no page; without the lock, or sharing it.
 pub record InSection (t : Topics) : Type 0 where

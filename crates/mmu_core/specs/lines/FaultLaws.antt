@@ -14,13 +14,16 @@ use Rattle.spte_words.specs.Bits.{has_bit}
 use Rattle.part_steps.specs.declared.part_step.PartStep.{PartStep}
 use Rattle.part_steps.specs.declared.part_step.PartStep.TheVariants as part
 use Rattle.mmu_core.specs.lines.FaultKnows.{FaultKnows, KnowsNext}
-use Rattle.mmu_core.specs.lines.FaultSteps.{fault_left, fault_next, fault_part, next_left, wait_seen}
+use Rattle.mmu_core.specs.lines.FaultLeft.{fault_left, next_left}
+use Rattle.mmu_core.specs.lines.FaultSteps.{fault_next, fault_part, wait_seen}
 use Rattle.mmu_core.specs.lines.PartWaits.{part_waits}
 use Rattle.part_steps.specs.PartBounds.{PartRests}
-use Rattle.part_steps.specs.PartSteps.{PartNeeds, part_task}
+use Rattle.part_steps.specs.PartTasks.{part_task}
+use Rattle.part_steps.specs.PartSteps.{PartNeeds}
 use Rattle.part_steps.specs.PartTopics.{part_topics}
 use Rattle.part_steps.specs.Tasks.{map_of}
-use Rattle.part_steps.specs.TopicSteps.{has_writer, tried_bit}
+use Rattle.part_steps.specs.PageTopics.{tried_bit}
+use Rattle.part_steps.specs.ControlTopics.{has_writer}
 use Rattle.mmu_core.specs.machine.View.{answer_in}
 
 -- what a step of a part can answer: a fill what it stored, and every other step any word

@@ -1,7 +1,7 @@
 -- The order of steps of a fault (tdp_mmu.c, kvm_tdp_mmu_map; locking.rst): in a section the snapshot, the slot of the guest frame and the
 -- host word of its page; then, sharing the lock, the check of the snapshot, and from the root down each level's entry: a link leads
 -- down, an absent entry gets a table of its own, and at the lowest level the leaf.
-use Rattle.std.specs.Prelude.{◌+◌, ◌-◌, ◌*◌, ℕ, Bool, true, false, ◌==◌, ◌&&◌, ◌||◌, nat_le, nat_lt, not, if◌then◌else◌, Option, Some, None}
+use Rattle.std.specs.Prelude.{◌+◌, ◌-◌, ℕ, Bool, true, false, ◌==◌, ◌&&◌, ◌||◌, nat_le, nat_lt, not, if◌then◌else◌, Option, Some, None}
 use Rattle.core_views.specs.declared.hand.Seen.{Seen}
 use Rattle.core_views.specs.declared.place.Cause.TheVariants.{Open, Moved, Entry}
 use Rattle.core_views.specs.declared.place.CheckStage.{CheckStage}
@@ -22,24 +22,22 @@ use Rattle.core_views.specs.Slots.{contains}
 use Rattle.spte_words.specs.declared.area.Area.TheVariants as area
 use Rattle.spte_words.specs.declared.spte_kind.SpteKind.{SpteKind}
 use Rattle.spte_words.specs.declared.spte_kind.SpteKind.TheVariants as entry_kind
-use Rattle.spte_words.specs.Areas.{place, pool_index, words_of_bits}
+use Rattle.spte_words.specs.Areas.{place, pool_index}
 use Rattle.spte_words.specs.Entries.{can_write, kind_of}
 use Rattle.spte_words.specs.HostWords.{host_allows_write}
 use Rattle.part_steps.specs.declared.part_step.PartStep.{PartStep}
 use Rattle.part_steps.specs.declared.part_step.PartStep.TheVariants as part
-use Rattle.part_steps.specs.PartSteps.{entry_index, part_kind, table_page, words_filled}
+use Rattle.part_steps.specs.PartTasks.{entry_index, part_kind, table_page, words_filled}
 use Rattle.mmu_core.specs.declared.claim.ClaimNext.{ClaimNext}
 use Rattle.mmu_core.specs.declared.claim.ClaimNext.TheVariants as claims
 use Rattle.mmu_core.specs.declared.share.ShareNext.{ShareNext}
 use Rattle.mmu_core.specs.declared.share.ShareNext.TheVariants as shares
+use Rattle.part_steps.specs.SlotWords.{page_of}
+use Rattle.part_steps.specs.Tasks.{map_of}
+use Rattle.part_steps.specs.PageTopics.{searched}
 pub use Rattle.mmu_core.specs.lines.ClaimSteps.{claim_left, claim_next, claim_part, map_word, tries_page}
 pub use Rattle.mmu_core.specs.lines.PartWaits.{is_owing, word_owed}
 pub use Rattle.mmu_core.specs.lines.ShareSteps.{share_left, share_next, share_part}
-use Rattle.mmu_core.specs.lines.SearchLeft.{look_left}
-use Rattle.part_steps.specs.SlotWords.{page_of}
-use Rattle.part_steps.specs.Tasks.{map_of}
-use Rattle.part_steps.specs.TopicSteps.{searched}
-
 
 abbrev pub check_part : CheckStage → PartStep
 check_part stage.Count = part.Count
@@ -146,48 +144,3 @@ wait_value _ t v = v
 -- and which word this is: the one that the step of the place is on
 abbrev pub wait_seen : FaultPlace → Held → ℕ → ℕ → ℕ → Seen
 wait_seen p h gfn note v = record { word = (part_kind h (fault_part p gfn h.topics) note).word; value = wait_value p h.topics v }
-
--- the most steps from a table of the level on, whose entry comes next: for each table below it the entry, all words of the map and a
--- page seen there, the page's words and its role, and the link; and then an entry, the leaf, the lock and the section
-abbrev pub table_left : Sizes → ℕ
-table_left z = words_of_bits z.pool + 516
-
-abbrev pub walk_left : Sizes → ℕ → ℕ
-walk_left z level = (level - 1) * table_left z + 4
-
--- the most steps from the root's load on
-abbrev pub entering_left : Sizes → ℕ
-entering_left z = walk_left z 4 + 1
-
--- the words of the check, and the words of slots, from this one on
-abbrev pub check_left : CheckStage → ℕ
-check_left stage.Count = 4
-check_left stage.Start = 3
-check_left stage.End = 2
-check_left stage.Seq = 1
-
-abbrev pub find_left : Bool → SlotSearch → ℕ
-find_left begun search = if begun then 4 * (31 - search.id) + look_left search.next else 129
-
--- the most steps that a fault has left from a place on, where no other actor is in the way
-abbrev pub fault_left : FaultPlace → Sizes → Topics → ℕ
-fault_left Begin z t = entering_left z + 138
-fault_left Snapshot z t = entering_left z + 137
-fault_left (Find begun) z t = entering_left z + 7 + find_left begun t.search
-fault_left Host z t = entering_left z + 7
-fault_left Share z t = entering_left z + 4 + share_left t.hold
-fault_left (Check at) z t = entering_left z + check_left at
-fault_left (Walk rooted) z t = if rooted then walk_left z t.walk.level else entering_left z
-fault_left (Claim begun) z t = walk_left z (t.walk.level - 1) + 514 + claim_left begun z t.claim
-fault_left Fill z t = walk_left z (t.walk.level - 1) + 1 + (513 - words_filled t.owned)
-fault_left Role z t = walk_left z (t.walk.level - 1) + 2
-fault_left Link z t = walk_left z (t.walk.level - 1) + 1
-fault_left (Give e) z t = 3
-fault_left Leaf z t = 3
-fault_left (Unshare e) z t = 2
-fault_left (End e) z t = 1
-
--- the most steps left behind a step: none where the fault is over
-abbrev pub next_left : FaultNext → Sizes → Topics → ℕ
-next_left (Goes p) z t = fault_left p z t
-next_left (Ends e) z t = 0

@@ -14,7 +14,8 @@ use Rattle.core_views.specs.Held.{Held}
 use Rattle.core_views.specs.Slots.{is_write}
 use Rattle.mmu_core.specs.lines.Cached.{UsesTranslation}
 use Rattle.mmu_core.specs.lines.FaultKnows.{FaultKnows}
-use Rattle.part_steps.specs.PartSteps.{IsAtRest, IsOver}
+use Rattle.part_steps.specs.PartHoldings.{IsOver}
+use Rattle.part_steps.specs.PartSteps.{IsAtRest}
 use Rattle.mmu_core.specs.lines.SetSlotKnows.{SetSlotKnows}
 use Rattle.mmu_core.specs.machine.Steps.{has_line}
 

@@ -8,7 +8,8 @@ use Rattle.core_views.specs.declared.topics.Invalidations.{Invalidations}
 use Rattle.core_views.specs.declared.topics.Topics.{Topics}
 use Rattle.part_steps.specs.declared.part_step.PartStep.{PartStep}
 use Rattle.part_steps.specs.declared.part_step.PartStep.TheVariants as part
-use Rattle.part_steps.specs.TopicSteps.{in_section, is_won}
+use Rattle.part_steps.specs.PageTopics.{is_won}
+use Rattle.part_steps.specs.ControlTopics.{in_section}
 
 -- The actor is to take itself out of the lock's readers: it saw a writer, in this word of the lock.
 abbrev pub is_owing : Hold → Bool

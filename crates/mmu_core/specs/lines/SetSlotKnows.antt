@@ -9,7 +9,8 @@ use Rattle.core_views.specs.declared.topics.Topics.{Topics}
 use Rattle.core_views.specs.Held.{Held}
 use Rattle.core_views.specs.Sizes.{actors_of}
 use Rattle.spte_words.specs.Areas.{words_of_bits}
-use Rattle.part_steps.specs.PartSteps.{HasRoleToSet, HasToFill, IsAtRest, MayGiveOld, MayPublish, OwnsSet}
+use Rattle.part_steps.specs.PartHoldings.{HasRoleToSet, HasToFill, MayGiveOld, MayPublish, OwnsSet}
+use Rattle.part_steps.specs.PartSteps.{IsAtRest}
 use Rattle.mmu_core.specs.lines.PartWaits.{saw_open}
 use Rattle.mmu_core.specs.lines.SetSlotSteps.{looked_at}
 

@@ -26,7 +26,7 @@ use Rattle.part_steps.specs.declared.part_step.PartStep.{PartStep}
 use Rattle.part_steps.specs.declared.part_step.PartStep.TheVariants as part
 use Rattle.mmu_core.specs.lines.AccessSteps.{exiting}
 use Rattle.mmu_core.specs.lines.FaultSteps.{claim_part}
-use Rattle.part_steps.specs.PartSteps.{own_index, part_kind, part_task, words_filled}
+use Rattle.part_steps.specs.PartTasks.{own_index, part_kind, part_task, words_filled}
 use Rattle.part_steps.specs.SetWords.{set_role, set_word}
 use Rattle.mmu_core.specs.lines.ClaimSteps.{claim_next, claim_part, loads_last_word}
 use Rattle.mmu_core.specs.declared.claim.ClaimNext.{ClaimNext}
@@ -35,7 +35,7 @@ use Rattle.mmu_core.specs.declared.watch.WatchNext.{WatchNext}
 use Rattle.mmu_core.specs.declared.watch.WatchNext.TheVariants as watches
 pub use Rattle.mmu_core.specs.lines.WatchSteps.{looked_at, watch_next}
 use Rattle.part_steps.specs.Tasks.{map_of}
-use Rattle.part_steps.specs.TopicSteps.{in_section}
+use Rattle.part_steps.specs.ControlTopics.{in_section}
 
 -- where a setting begins
 abbrev pub set_slot_first : Option Refusal → SetSlotPlace

@@ -7,7 +7,8 @@ use Rattle.core_views.specs.Sizes.{AreSizes}
 use Rattle.spte_words.specs.Areas.{total}
 use Rattle.part_steps.specs.declared.part_step.PartStep.{PartStep}
 use Rattle.mmu_core.specs.machine.Machine.{Core}
-use Rattle.part_steps.specs.PartSteps.{IsWithin, PartNeeds, needs_line, part_kind}
+use Rattle.part_steps.specs.PartTasks.{IsWithin, part_kind}
+use Rattle.part_steps.specs.PartSteps.{PartNeeds, needs_line}
 use Rattle.mmu_core.specs.lines.Rests.{Rests}
 use Rattle.mmu_core.specs.machine.Steps.{has_line, next, nobody, task_of}
 use Rattle.part_steps.specs.Tasks.{kind_of_task, map_of}

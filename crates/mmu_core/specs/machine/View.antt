@@ -15,7 +15,7 @@ use Rattle.mmu_core.specs.lines.Cached.{flushed}
 use Rattle.mmu_core.specs.machine.Enabled.{mmu}
 use Rattle.mmu_core.specs.machine.Machine.{World, hand_in}
 use Rattle.mmu_core.specs.machine.Steps.{caches_at, idle_after, outcome_at, records_at, state_at, task_at}
-use Rattle.part_steps.specs.PartSteps.{own_index, part_task}
+use Rattle.part_steps.specs.PartTasks.{own_index, part_task}
 use Rattle.part_steps.specs.declared.part_step.PartStep.{PartStep}
 use Rattle.mmu_core.specs.machine.Outcomes.{answers_after, place_after}
 use Rattle.part_steps.specs.Tasks.{kind_of_task, map_of}

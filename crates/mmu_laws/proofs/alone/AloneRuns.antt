@@ -30,7 +30,7 @@ use Rattle.mmu_core.specs.alone.AloneKnows.{AloneKnows, SetSlotAlone}
 use Rattle.mmu_core.specs.lines.KnowsPart.{may_leave}
 use Rattle.mmu_core.specs.lines.Bounds.{access_left, most_steps, set_slot_left, steps_left}
 use Rattle.mmu_core.specs.machine.Enabled.{mmu}
-use Rattle.mmu_core.specs.lines.FaultSteps.{fault_left}
+use Rattle.mmu_core.specs.lines.FaultLeft.{fault_left}
 use Rattle.mmu_core.specs.invariant.Laws.{IsSound}
 use Rattle.mmu_core.specs.alone.LineAlone.{AllRest, ComesNearer, LineAlone, StarvedOnlyWithout, StepsAlone, hand_left, line_waits}
 use Rattle.mmu_core.specs.machine.Machine.{May, Step, World, answered, effect, hand_in}

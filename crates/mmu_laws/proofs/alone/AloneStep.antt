@@ -45,19 +45,24 @@ use Rattle.mmu_core.specs.lines.Cached.{first_usable}
 use Rattle.mmu_core.specs.machine.Enabled.{mmu}
 use Rattle.mmu_core.specs.alone.FaultAlone.{AloneNext, GoesThrough, LeadsTo, LeadsToLeaf, RunsAlone}
 use Rattle.mmu_core.specs.lines.FaultKnows.{EndKnows, FaultKnows}
-use Rattle.mmu_core.specs.lines.FaultSteps.{allows_access, fault_left, fault_next, fault_part, next_left}
+use Rattle.mmu_core.specs.lines.FaultLeft.{fault_left, next_left}
+use Rattle.mmu_core.specs.lines.FaultSteps.{allows_access, fault_next, fault_part}
 use Rattle.mmu_core.specs.lines.KnowsPart.{AccessKnows, KnowsPart, LeavesPart}
 use Rattle.mmu_core.specs.invariant.Laws.{IsSound}
 use Rattle.mmu_core.specs.machine.Machine.{World, hand_in}
 use Rattle.mmu_core.specs.alone.OthersRest.{OthersRest}
 use Rattle.part_steps.specs.PartBounds.{PartRests}
-use Rattle.part_steps.specs.PartSteps.{IsAtRest, PartNeeds, entry_index, own_index, table_page}
+use Rattle.part_steps.specs.PartTasks.{entry_index, own_index, table_page}
+use Rattle.part_steps.specs.PartSteps.{IsAtRest, PartNeeds}
 use Rattle.part_steps.specs.PartTopics.{part_topics}
 use Rattle.mmu_core.specs.lines.Rests.{IsUnderWay}
 use Rattle.mmu_core.specs.lines.SetSlotSteps.{set_slot_note, set_slot_outcome, set_slot_part, set_slot_task}
 use Rattle.mmu_core.specs.machine.Steps.{outcome_at, task_at}
 use Rattle.part_steps.specs.Tasks.{kind_of_task}
-use Rattle.part_steps.specs.TopicSteps.{at_root, gone_down, linked_page, may_walk, topics_after}
+use Rattle.part_steps.specs.StayTopics.{may_walk}
+use Rattle.part_steps.specs.WalkTopics.{gone_down, linked_page}
+use Rattle.part_steps.specs.ControlTopics.{at_root}
+use Rattle.part_steps.specs.TopicSteps.{topics_after}
 use Rattle.mmu_core.specs.machine.View.{answer_in, word_in, words_after}
 use Rattle.mmu_laws.proofs.alone.FaultAlone.{goes_through}
 use Rattle.mmu_core.proofs.lines.FaultFalls.{fault_falls}

@@ -9,8 +9,8 @@ use Rattle.spte_words.specs.declared.area.Area.{Area}
 use Rattle.spte_words.specs.declared.area.Area.TheVariants as area
 use Rattle.spte_words.specs.Areas.{words_of_bits}
 use Rattle.part_steps.specs.declared.part_step.PartStep.{PartStep}
-use Rattle.part_steps.specs.PartSteps.{part_task}
-use Rattle.part_steps.specs.TopicSteps.{is_won}
+use Rattle.part_steps.specs.PartTasks.{part_task}
+use Rattle.part_steps.specs.PageTopics.{is_won}
 use Rattle.mmu_core.specs.lines.PartWaits.{part_waits}
 use Rattle.mmu_core.specs.declared.claim.ClaimNext.{ClaimNext}
 use Rattle.mmu_core.specs.declared.claim.ClaimNext.TheVariants as claims

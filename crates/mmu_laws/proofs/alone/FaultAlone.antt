@@ -35,10 +35,12 @@ use Rattle.mmu_core.specs.alone.FaultAlone.{EntryStands, FaultAlone, GoesThrough
 use Rattle.mmu_core.specs.lines.FaultKnows.{Entering}
 use Rattle.mmu_core.specs.lines.FaultSteps.{allows_access, claim_next, entry_word, is_owing, map_word, share_next, share_part, snapshot_taken, tries_page, walk_next, after_claim, after_share, claim_part}
 use Rattle.mmu_core.specs.machine.Machine.{World, hand_in}
-use Rattle.part_steps.specs.PartSteps.{IsOver, LookedUp, SawEntry, entry_index, leaf_written, page_owned, part_task, table_page, word_looked, words_filled, HasToFill}
+use Rattle.part_steps.specs.PartTasks.{entry_index, leaf_written, page_owned, part_task, table_page, word_looked, words_filled}
+use Rattle.part_steps.specs.PartHoldings.{IsOver, LookedUp, SawEntry, HasToFill}
 use Rattle.part_steps.specs.PartTopics.{part_topics}
 use Rattle.part_steps.specs.SlotWords.{field_number, leaf_of, may_write, page_of}
-use Rattle.part_steps.specs.TopicSteps.{gone_down, linked_page, may_search}
+use Rattle.part_steps.specs.StayTopics.{may_search}
+use Rattle.part_steps.specs.WalkTopics.{gone_down, linked_page}
 use Rattle.mmu_core.specs.invariant.TreePart.{EntryPart, IsLeafAt, TreePart, at, stands}
 use Rattle.mmu_core.proofs.pages.TreePlaces.{all_reached, link_stands}
 use Rattle.mmu_core.specs.machine.View.{answer_in, upd, view, word_in, words_after}

@@ -21,12 +21,12 @@ use Rattle.mmu_core.specs.machine.Enabled.{mmu}
 use Rattle.mmu_core.specs.alone.FaultAlone.{FaultAlone, RunsAlone}
 use Rattle.mmu_core.specs.lines.FaultSteps.{find_next}
 use Rattle.mmu_core.specs.machine.Machine.{World, hand_in}
-use Rattle.part_steps.specs.PartSteps.{part_task, set_held}
+use Rattle.part_steps.specs.PartTasks.{part_task, set_held}
 use Rattle.part_steps.specs.PartTopics.{part_topics}
 use Rattle.mmu_core.specs.invariant.SearchPart.{HasLoaded}
 use Rattle.mmu_core.specs.invariant.SlotSetPart.{SlotSetPart}
 use Rattle.part_steps.specs.SlotWords.{NoneBelow, NoneHasPage, live_at, slot_at, slot_index}
-use Rattle.part_steps.specs.TopicSteps.{searched, searched_at}
+use Rattle.part_steps.specs.PageTopics.{searched, searched_at}
 use Rattle.mmu_core.specs.machine.View.{answer_in, word_in}
 use Rattle.mmu_core.proofs.machine.Columns.{same_or}
 

@@ -27,11 +27,14 @@ use Rattle.mmu_core.specs.lines.ClaimSteps.{claim_left, claim_next, claim_part}
 use Rattle.mmu_core.specs.invariant.Laws.{IsSound}
 use Rattle.mmu_core.specs.machine.Machine.{World, hand_in}
 use Rattle.mmu_core.specs.alone.OthersRest.{OthersRest}
-use Rattle.part_steps.specs.PartSteps.{HasToFill, PartNeeds, own_index, words_filled}
+use Rattle.part_steps.specs.PartTasks.{own_index, words_filled}
+use Rattle.part_steps.specs.PartHoldings.{HasToFill}
+use Rattle.part_steps.specs.PartSteps.{PartNeeds}
 use Rattle.part_steps.specs.PartTopics.{part_topics}
 use Rattle.mmu_core.specs.lines.SetSlotKnows.{SetSlotKnows}
 use Rattle.mmu_core.specs.lines.SetSlotSteps.{after_claim, after_watch, watch_next, looked_at, set_slot_note, set_slot_part, set_slot_task}
-use Rattle.part_steps.specs.TopicSteps.{filled_more, in_section}
+use Rattle.part_steps.specs.PageTopics.{filled_more}
+use Rattle.part_steps.specs.ControlTopics.{in_section}
 use Rattle.mmu_core.specs.machine.View.{answer_in, word_in, words_after}
 use Rattle.mmu_core.proofs.invariant.AloneLaws.{lock_free, outside_word}
 use Rattle.mmu_laws.proofs.alone.ClaimAlone.{ClaimComes, claim_comes, claim_goes}

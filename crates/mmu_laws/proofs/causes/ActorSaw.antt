@@ -14,10 +14,12 @@ use Rattle.spte_words.specs.Areas.{number_of, place, size_of, words_of_bits}
 use Rattle.spte_words.proofs.Places.{areas_apart, place_at, places_apart}
 use Rattle.part_steps.specs.declared.part_step.PartStep.{PartStep}
 use Rattle.part_steps.specs.declared.part_step.PartStep.TheVariants as part
-use Rattle.part_steps.specs.PartSteps.{own_index, part_task}
+use Rattle.part_steps.specs.PartTasks.{own_index, part_task}
 use Rattle.part_steps.specs.PartTopics.{part_topics}
 use Rattle.part_steps.specs.Tasks.{map_of}
-use Rattle.part_steps.specs.TopicSteps.{has_writer, is_won, topics_after}
+use Rattle.part_steps.specs.PageTopics.{is_won}
+use Rattle.part_steps.specs.ControlTopics.{has_writer}
+use Rattle.part_steps.specs.TopicSteps.{topics_after}
 use Rattle.mmu_laws.specs.causes.Causes.{Finds}
 use Rattle.mmu_core.specs.machine.Enabled.{mmu}
 use Rattle.mmu_core.specs.invariant.Laws.{IsSound}
@@ -34,7 +36,7 @@ use Rattle.mmu_laws.proofs.causes.MadeSteps.{Makes, load_finds, made_topics, own
 use Rattle.mmu_core.proofs.machine.NextTopics.{next_topics}
 use Rattle.mmu_laws.proofs.causes.NotOpen.{range_not_open, seq_not_open, start_not_open}
 use Rattle.mmu_core.proofs.words.PartFits.{part_within_by}
-use Rattle.mmu_core.proofs.held.Scanned.{others_hand}
+use Rattle.mmu_core.proofs.held.ClaimGoes.{others_hand}
 
 pub record ActorSaw (z : Sizes) (w : World Held) (actor : ℕ) (t : Topics) (ss : List (Step Kind)) (u : World Held) : Type 0 where
   pub owing : (word : ℕ) → t.hold ≡ Owing word → FoundWriter z actor word w ss

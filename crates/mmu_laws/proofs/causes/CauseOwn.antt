@@ -41,10 +41,13 @@ use Rattle.mmu_core.specs.lines.FaultSteps.{after_claim, after_share, allows_acc
 use Rattle.mmu_core.specs.invariant.Laws.{IsSound}
 use Rattle.mmu_core.specs.machine.Machine.{May, Step, World, answered, effect, found, hand_in, run}
 use Rattle.part_steps.specs.PartBounds.{PartRests}
-use Rattle.part_steps.specs.PartSteps.{entry_index, page_owned, table_page, words_filled, HasToFill}
+use Rattle.part_steps.specs.PartTasks.{entry_index, page_owned, table_page, words_filled}
+use Rattle.part_steps.specs.PartHoldings.{HasToFill}
 use Rattle.part_steps.specs.PartTopics.{part_topics, sequenced}
 use Rattle.part_steps.specs.Tasks.{map_of}
-use Rattle.part_steps.specs.TopicSteps.{gone_down, is_loose, linked_page, searched}
+use Rattle.part_steps.specs.StayTopics.{is_loose}
+use Rattle.part_steps.specs.WalkTopics.{gone_down, linked_page}
+use Rattle.part_steps.specs.PageTopics.{searched}
 use Rattle.mmu_core.specs.invariant.TreePart.{EntryPart, at}
 use Rattle.mmu_core.specs.machine.View.{view, word_in}
 use Rattle.mmu_core.proofs.invariant.AloneLaws.{part_found}

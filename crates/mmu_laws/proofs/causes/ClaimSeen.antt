@@ -17,9 +17,9 @@ use Rattle.part_steps.specs.declared.part_step.PartStep.TheVariants as part
 use Rattle.mmu_core.specs.machine.Enabled.{mmu}
 use Rattle.mmu_core.specs.invariant.Laws.{IsSound}
 use Rattle.mmu_core.specs.machine.Machine.{May, Step, World, answered, effect, found, hand_in, run}
-use Rattle.part_steps.specs.PartSteps.{all_but, part_kind}
+use Rattle.part_steps.specs.PartTasks.{all_but, part_kind}
 use Rattle.mmu_laws.specs.causes.Waits.{IsOffWord, PageIsTaken, pool_word}
-use Rattle.part_steps.specs.TopicSteps.{is_won, tried_bit}
+use Rattle.part_steps.specs.PageTopics.{is_won, tried_bit}
 use Rattle.mmu_laws.proofs.causes.Changes.{Knows, knows_now, was_changed}
 use Rattle.mmu_core.proofs.lines.ClaimMade.{saw_bit}
 use Rattle.mmu_core.proofs.lines.FaultSame.{is_not}

@@ -25,7 +25,7 @@ use Rattle.mmu_laws.proofs.causes.Changes.{of_each_list}
 use Rattle.mmu_core.proofs.machine.Columns.{same_or}
 use Rattle.mmu_core.proofs.lines.KnowsKept.{knows_at}
 use Rattle.mmu_core.proofs.machine.LineRuns.{own_hand}
-use Rattle.mmu_core.proofs.held.Scanned.{others_hand}
+use Rattle.mmu_core.proofs.held.ClaimGoes.{others_hand}
 use Rattle.mmu_core.proofs.machine.Which.{has_line_is, is_next, next_of_line, next_of_part}
 
 -- What lines have seen: of the actor, the place and the command of its line, what the actor holds, the steps so far and the world behind them.

@@ -15,7 +15,7 @@ use Rattle.core_views.specs.Held.{Held}
 use Rattle.core_views.specs.Sizes.{actors_of}
 use Rattle.core_views.specs.Slots.{is_write}
 use Rattle.part_steps.specs.PartBounds.{PartRests}
-use Rattle.part_steps.specs.PartSteps.{table_page}
+use Rattle.part_steps.specs.PartTasks.{table_page}
 use Rattle.mmu_laws.specs.causes.Causes.{IsEntryOf}
 use Rattle.mmu_core.specs.machine.Enabled.{mmu}
 use Rattle.mmu_core.specs.lines.FaultKnows.{FaultKnows, HasCause, IsInTheWay}

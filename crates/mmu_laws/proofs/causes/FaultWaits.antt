@@ -16,9 +16,10 @@ use Rattle.mmu_core.specs.lines.FaultLaws.{SawAnother}
 use Rattle.mmu_core.specs.lines.FaultSteps.{fault_part, is_owing, map_word, share_part, tries_page, wait_seen, word_owed}
 use Rattle.mmu_core.specs.lines.PartWaits.{part_waits}
 use Rattle.part_steps.specs.PartBounds.{PartRests}
-use Rattle.part_steps.specs.PartSteps.{part_kind}
+use Rattle.part_steps.specs.PartTasks.{part_kind}
 use Rattle.part_steps.specs.Tasks.{map_of}
-use Rattle.part_steps.specs.TopicSteps.{has_writer, is_won, tried_bit}
+use Rattle.part_steps.specs.PageTopics.{is_won, tried_bit}
+use Rattle.part_steps.specs.ControlTopics.{has_writer}
 use Rattle.mmu_core.proofs.lines.FaultSame.{both, is_not}
 use Rattle.mmu_core.proofs.lines.PartsWait.{neither_waits, share_waits}
 

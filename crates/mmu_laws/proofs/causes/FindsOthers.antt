@@ -15,9 +15,11 @@ use Rattle.mmu_core.specs.machine.Enabled.{mmu}
 use Rattle.mmu_core.specs.invariant.Laws.{IsSound}
 use Rattle.mmu_core.specs.invariant.LockPart.{readers, writers}
 use Rattle.mmu_core.specs.machine.Machine.{May, Step, World, answered, hand_in}
-use Rattle.part_steps.specs.PartSteps.{counts, own_index}
+use Rattle.part_steps.specs.PartTasks.{own_index}
+use Rattle.part_steps.specs.PartSteps.{counts}
 use Rattle.mmu_core.specs.machine.Sums.{one_if}
-use Rattle.part_steps.specs.TopicSteps.{has_writer, in_section, is_alone, is_outside}
+use Rattle.part_steps.specs.StayTopics.{is_alone, is_outside}
+use Rattle.part_steps.specs.ControlTopics.{has_writer, in_section}
 use Rattle.mmu_core.specs.machine.View.{word_in}
 use Rattle.mmu_laws.specs.causes.Waits.{FindsLockTaken, FindsOtherInside, FindsWriter}
 use Rattle.mmu_core.proofs.invariant.AloneLaws.{part_found}

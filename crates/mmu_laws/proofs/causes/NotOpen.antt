@@ -7,7 +7,7 @@ use Rattle.core_views.specs.declared.topics.Topics.{Topics}
 use Rattle.part_steps.specs.declared.part_step.PartStep.{PartStep}
 use Rattle.part_steps.specs.declared.part_step.PartStep.TheVariants as part
 use Rattle.part_steps.specs.PartTopics.{part_topics}
-use Rattle.part_steps.specs.TopicSteps.{range_checked, seq_checked, start_checked}
+use Rattle.part_steps.specs.ControlTopics.{range_checked, seq_checked, start_checked}
 use Rattle.mmu_core.specs.lines.PartWaits.{saw_open, was_counted}
 
 -- After a load of the range or of the sequence number the check is further than the count, or begins anew.

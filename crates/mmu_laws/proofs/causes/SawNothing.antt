@@ -35,10 +35,11 @@ use Rattle.spte_words.specs.Entries.{frame_in}
 use Rattle.part_steps.specs.declared.part_step.PartStep.{PartStep}
 use Rattle.part_steps.specs.declared.part_step.PartStep.TheVariants as part
 use Rattle.part_steps.specs.PartBounds.{PartRests}
-use Rattle.part_steps.specs.PartSteps.{PartNeeds, own_index}
+use Rattle.part_steps.specs.PartTasks.{own_index}
+use Rattle.part_steps.specs.PartSteps.{PartNeeds}
 use Rattle.part_steps.specs.PartTopics.{part_topics}
 use Rattle.part_steps.specs.Tasks.{map_of}
-use Rattle.part_steps.specs.TopicSteps.{is_won}
+use Rattle.part_steps.specs.PageTopics.{is_won}
 use Rattle.mmu_core.specs.declared.outcome.Outcome.TheVariants.{Goes, Ends}
 use Rattle.mmu_core.specs.lines.AccessSteps.{access_note, access_outcome, access_part, access_task, behind_fault}
 use Rattle.mmu_core.specs.machine.Enabled.{mmu}
@@ -68,7 +69,7 @@ use Rattle.mmu_core.proofs.machine.LineRuns.{own_hand}
 use Rattle.mmu_laws.proofs.causes.NotOpen.{closed_on, maps, unseen_on}
 use Rattle.mmu_core.proofs.invariant.PartBounded.{part_rests_at}
 use Rattle.mmu_core.proofs.words.PartTopics.{is_there, part_topics_is}
-use Rattle.mmu_core.proofs.held.Scanned.{others_hand}
+use Rattle.mmu_core.proofs.held.ClaimGoes.{others_hand}
 use Rattle.mmu_core.proofs.start.StartWords.{hand_is}
 use Rattle.mmu_core.proofs.start.Starts.{reached_good, start_good}
 use Rattle.mmu_laws.proofs.turns.TurnsNearer.{hand_behind}

@@ -47,14 +47,14 @@ use Rattle.mmu_core.specs.machine.Enabled.{IsNext, mmu}
 use Rattle.mmu_core.specs.lines.FaultSteps.{after_share, allows_access, check_next, fault_next, find_next, found_next, is_last_word, share_next, snapshot_taken, walk_next}
 use Rattle.mmu_core.specs.invariant.Laws.{IsSound}
 use Rattle.mmu_core.specs.machine.Machine.{May, Step, World, answered, effect, hand_in}
-use Rattle.part_steps.specs.PartSteps.{words_filled}
+use Rattle.part_steps.specs.PartTasks.{words_filled}
 use Rattle.mmu_core.specs.lines.Rests.{RestsAt}
 use Rattle.mmu_core.specs.invariant.Scans.{LoadsMap}
 use Rattle.mmu_core.specs.lines.SetSlotSteps.{set_slot_first, set_slot_outcome, set_slot_task, watch_next}
 use Rattle.mmu_core.specs.machine.Steps.{first_place, has_line, line_at, next, outcome_at, place_at, standing, task_at, task_of}
 use Rattle.part_steps.specs.Tasks.{map_of}
 use Rattle.mmu_core.specs.machine.Outcomes.{place_after}
-use Rattle.part_steps.specs.TopicSteps.{searched}
+use Rattle.part_steps.specs.PageTopics.{searched}
 use Rattle.mmu_core.proofs.machine.LineRuns.{own_hand}
 use Rattle.mmu_core.proofs.slots.SettingHolds.{each_watch}
 use Rattle.mmu_core.proofs.machine.Which.{is_next, next_of_line, next_of_part}

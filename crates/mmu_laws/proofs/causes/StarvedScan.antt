@@ -34,7 +34,8 @@ use Rattle.mmu_core.specs.lines.KnowsPart.{KnowsPart}
 use Rattle.mmu_core.specs.invariant.Laws.{IsSound}
 use Rattle.mmu_core.specs.invariant.LinesPart.{UnderWay}
 use Rattle.mmu_core.specs.machine.Machine.{Legal, May, Step, World, answered, effect, hand_in, run}
-use Rattle.part_steps.specs.PartSteps.{PartNeeds, own_index}
+use Rattle.part_steps.specs.PartTasks.{own_index}
+use Rattle.part_steps.specs.PartSteps.{PartNeeds}
 use Rattle.mmu_core.specs.lines.Rests.{RestsAt}
 use Rattle.mmu_core.specs.invariant.Scans.{EndsWithScan, LoadsMap, StarvedLinesScan}
 use Rattle.mmu_core.specs.lines.SetSlotSteps.{set_slot_first, set_slot_outcome, after_claim, set_slot_note, set_slot_part, set_slot_task}
@@ -48,7 +49,8 @@ use Rattle.mmu_core.proofs.machine.Columns.{same_or}
 use Rattle.mmu_core.proofs.machine.LineRuns.{run_one_more}
 use Rattle.mmu_core.proofs.machine.Advancing.{some_below}
 use Rattle.mmu_core.proofs.words.PartTopics.{is_there, part_topics_is}
-use Rattle.mmu_core.proofs.held.Scanned.{at_behind, at_in, begins_scan, others_hand, scan_kept, shorter}
+use Rattle.mmu_core.proofs.held.ClaimGoes.{at_behind, at_in, others_hand}
+use Rattle.mmu_core.proofs.held.Scanned.{begins_scan, scan_kept, shorter}
 use Rattle.mmu_core.proofs.machine.Which.{has_line_is, is_next}
 use Rattle.mmu_core.proofs.machine.Worlds.{good_run, good_step}
 use Rattle.part_steps.specs.declared.part_step.PartStep.{PartStep}

@@ -35,7 +35,7 @@ use Rattle.mmu_laws.proofs.flat.ToldOf.{answers_by_more, begun_by, begun_by_appe
 use Rattle.mmu_core.proofs.machine.Worlds.{Takes, TakesPart, good_step, takes}
 use Rattle.mmu_core.proofs.machine.Which.{events_of_part}
 use Rattle.mmu_core.proofs.machine.Columns.{at_upd}
-use Rattle.part_steps.specs.PartSteps.{own_index, part_task}
+use Rattle.part_steps.specs.PartTasks.{own_index, part_task}
 use Rattle.part_steps.specs.Tasks.{kind_of_task}
 
 -- what a step of a world tells, as its view has it

@@ -22,7 +22,8 @@ use Rattle.mmu_laws.specs.flat.FlatInvariant.{FlatInvariant, UnderIs}
 use Rattle.mmu_core.specs.invariant.Invariant.{Invariant, UnderWay}
 use Rattle.mmu_core.specs.invariant.Laws.{IsSound}
 use Rattle.mmu_core.specs.machine.Machine.{Legal, Step, World, answered, effect, hand_in, run}
-use Rattle.part_steps.specs.PartSteps.{needs_line, own_index, part_task}
+use Rattle.part_steps.specs.PartTasks.{own_index, part_task}
+use Rattle.part_steps.specs.PartSteps.{needs_line}
 use Rattle.mmu_core.specs.machine.Steps.{events_of, has_line, idle_after, line_at, place_at}
 use Rattle.part_steps.specs.SlotWords.{live_at, memory_slot_at}
 use Rattle.part_steps.specs.Tasks.{kind_of_task}

@@ -40,7 +40,7 @@ use Rattle.mmu_core.specs.lines.FaultKnows.{FaultKnows}
 use Rattle.mmu_core.specs.lines.FaultSteps.{after_claim, after_share, allows_access, check_next, claim_next, entry_word, fault_part, find_next, share_next, snapshot_taken, walk_next}
 use Rattle.mmu_laws.specs.flat.FlatInvariant.{NotedAt}
 use Rattle.mmu_core.specs.invariant.Invariant.{Invariant}
-use Rattle.part_steps.specs.PartSteps.{own_index, words_filled}
+use Rattle.part_steps.specs.PartTasks.{own_index, words_filled}
 use Rattle.part_steps.specs.Tasks.{kind_of_task}
 use Rattle.mmu_core.specs.invariant.TopicsInvariant.{TopicsInvariant}
 use Rattle.mmu_core.specs.machine.View.{View, answer_in, words_after}
@@ -51,7 +51,10 @@ use Rattle.mmu_core.proofs.machine.PartStepping.{IsPart}
 use Rattle.mmu_core.proofs.words.PartTopics.{part_topics_is}
 use Rattle.mmu_core.proofs.machine.Stepping.{IsStep}
 use Rattle.part_steps.specs.SlotWords.{page_of}
-use Rattle.part_steps.specs.TopicSteps.{at_set, may_search, searched, topics_after}
+use Rattle.part_steps.specs.StayTopics.{may_search}
+use Rattle.part_steps.specs.PageTopics.{searched}
+use Rattle.part_steps.specs.ControlTopics.{at_set}
+use Rattle.part_steps.specs.TopicSteps.{topics_after}
 use Rattle.core_views.specs.declared.topics.SlotSearch.{SlotSearch}
 use Rattle.core_views.specs.declared.topics.Stay.{Stay}
 use Rattle.mmu_core.proofs.slots.LiveStays.{access_never}

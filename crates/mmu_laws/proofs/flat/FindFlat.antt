@@ -17,14 +17,14 @@ use Rattle.mmu_core.specs.lines.FaultSteps.{find_next}
 use Rattle.mmu_laws.specs.flat.FlatInvariant.{NotedAt, NotedSlots}
 use Rattle.mmu_core.specs.invariant.Invariant.{IsLiveIn, SlotSetPart}
 use Rattle.mmu_core.specs.invariant.SearchPart.{HasLoaded}
-use Rattle.part_steps.specs.TopicSteps.{searched_at}
+use Rattle.part_steps.specs.PageTopics.{searched_at}
 use Rattle.mmu_core.proofs.machine.Columns.{same_or}
 use Rattle.std.proofs.Common.{◌⊎◌, inl, inr, ◌≢◌}
 use Rattle.std.specs.Prelude.{All, Bool, true, false, ◌==◌, ◌&&◌, if◌then◌else◌, Some}
 use Rattle.part_steps.specs.SlotWords.{page_of, slot_at, slot_index, slots_below}
 use Rattle.mmu_core.proofs.words.SlotLists.{each_is_live, no_page_behind, only_one_holds, page_allowed}
 use Rattle.mmu_core.proofs.slots.LiveStay.{StayLive}
-use Rattle.part_steps.specs.PartSteps.{set_held}
+use Rattle.part_steps.specs.PartTasks.{set_held}
 
 -- No pause was seen, what is noted are the slots of the slot set in this page, and those with IDs below this one don't hold the guest frame.
 record NotedTo (pool : ℕ → ℕ) (notes : Notes) (k id gfn : ℕ) : Type 0 where

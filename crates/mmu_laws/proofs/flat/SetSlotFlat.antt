@@ -25,7 +25,7 @@ use Rattle.mmu_core.specs.declared.watch.WatchNext.{WatchNext}
 use Rattle.mmu_core.specs.lines.AccessSteps.{exiting}
 use Rattle.mmu_core.specs.lines.ClaimSteps.{claim_next}
 use Rattle.mmu_core.specs.invariant.Invariant.{Invariant}
-use Rattle.part_steps.specs.PartSteps.{page_owned, words_filled}
+use Rattle.part_steps.specs.PartTasks.{page_owned, words_filled}
 use Rattle.mmu_core.specs.lines.SetSlotSteps.{after_claim, after_watch, watch_next, set_slot_note, set_slot_part, set_slot_task}
 use Rattle.mmu_core.specs.machine.Outcomes.{answering, place_after}
 use Rattle.part_steps.specs.Tasks.{kind_of_task}

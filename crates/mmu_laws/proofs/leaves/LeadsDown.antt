@@ -13,8 +13,8 @@ use Rattle.spte_words.proofs.Spans.{span_above}
 use Rattle.mmu_core.specs.alone.FaultAlone.{LeadSame, LeadsTo}
 use Rattle.mmu_core.specs.invariant.Laws.{IsSound}
 use Rattle.mmu_core.specs.machine.Machine.{World}
-use Rattle.part_steps.specs.PartSteps.{entry_index}
-use Rattle.part_steps.specs.TopicSteps.{linked_page}
+use Rattle.part_steps.specs.PartTasks.{entry_index}
+use Rattle.part_steps.specs.WalkTopics.{linked_page}
 use Rattle.mmu_core.specs.invariant.TreePart.{EntryPart, Position, Reaches, TreePart, Use, at, stands}
 use Rattle.mmu_core.specs.machine.View.{word_in}
 use Rattle.mmu_core.proofs.pages.Standing.{one_position}

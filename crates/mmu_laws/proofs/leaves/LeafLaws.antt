@@ -28,9 +28,10 @@ use Rattle.mmu_core.specs.invariant.Invariant.{Holds, HostWordsPart, IsLeafFor, 
 use Rattle.mmu_core.specs.invariant.Laws.{IsSound}
 use Rattle.mmu_laws.specs.leaves.LeafLaws.{LeafAgrees}
 use Rattle.mmu_core.specs.machine.Machine.{World, hand_in}
-use Rattle.part_steps.specs.PartSteps.{IsOver, entry_index, table_page}
+use Rattle.part_steps.specs.PartTasks.{entry_index, table_page}
+use Rattle.part_steps.specs.PartHoldings.{IsOver}
 use Rattle.part_steps.specs.SlotWords.{may_write, page_of, slot_at, slots_below}
-use Rattle.part_steps.specs.TopicSteps.{linked_page}
+use Rattle.part_steps.specs.WalkTopics.{linked_page}
 use Rattle.mmu_core.specs.invariant.TreePart.{Position, Reaches, TreePart, Use, at, stands}
 use Rattle.mmu_core.specs.machine.View.{view, word_in}
 use Rattle.mmu_core.specs.invariant.AllOver.{AllOver, LeafSays, LeavesSay}

@@ -14,11 +14,12 @@ use Rattle.part_steps.specs.declared.part_step.PartStep.TheVariants as part
 use Rattle.mmu_core.specs.declared.claim.ClaimNext.{ClaimNext}
 use Rattle.mmu_core.specs.declared.claim.ClaimNext.TheVariants as claims
 use Rattle.mmu_core.specs.lines.ClaimSteps.{claim_part, loads_last_word, map_word, tries_page}
-use Rattle.part_steps.specs.PartSteps.{PartNeeds, own_index, part_task}
+use Rattle.part_steps.specs.PartTasks.{own_index, part_task}
+use Rattle.part_steps.specs.PartSteps.{PartNeeds}
 use Rattle.mmu_core.specs.lines.SetSlotSteps.{after_claim, set_slot_outcome, set_slot_task}
 use Rattle.mmu_laws.specs.steps.StepLaws.{NoteTells}
 use Rattle.part_steps.specs.Tasks.{kind_of_task}
-use Rattle.part_steps.specs.TopicSteps.{map_ends}
+use Rattle.part_steps.specs.ControlTopics.{map_ends}
 use Rattle.mmu_core.proofs.lines.ClaimMade.{ClaimMade, claim_made}
 use Rattle.mmu_core.proofs.lines.ClaimMade as made
 use Rattle.mmu_core.proofs.words.PartTopics.{map_end, map_word_at}

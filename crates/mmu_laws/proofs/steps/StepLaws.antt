@@ -36,7 +36,8 @@ use Rattle.mmu_core.specs.lines.AccessSteps.{access_caches, access_note, access_
 use Rattle.mmu_core.specs.lines.Cached.{asks_flush, flushed, flushed_by, with_leaf}
 use Rattle.mmu_core.specs.machine.Enabled.{Enabled}
 use Rattle.mmu_core.specs.lines.FaultSteps.{allows_access, fault_next}
-use Rattle.part_steps.specs.PartSteps.{PartNeeds, own_index, part_task}
+use Rattle.part_steps.specs.PartTasks.{own_index, part_task}
+use Rattle.part_steps.specs.PartSteps.{PartNeeds}
 use Rattle.mmu_core.specs.lines.SetSlotSteps.{set_slot_outcome, set_slot_part, set_slot_task}
 use Rattle.mmu_laws.specs.steps.StepLaws.{CachesOneAtMost, IsOn, IsOnItsArea, NoteTells}
 use Rattle.mmu_core.specs.machine.Steps.{caches_at, has_line, next, next_by, outcome_at, place_at, task_at, task_of}

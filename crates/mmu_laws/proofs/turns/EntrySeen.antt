@@ -31,10 +31,12 @@ use Rattle.mmu_core.specs.declared.share.ShareNext.TheVariants as shares
 use Rattle.mmu_core.specs.alone.FaultAlone.{EntryStands}
 use Rattle.mmu_core.specs.lines.FaultKnows.{FaultKnows}
 use Rattle.mmu_core.specs.lines.FaultSteps.{after_claim, after_share, check_next, check_part, claim_next, claim_part, entry_word, fault_next, fault_part, find_next, is_last_word, share_next, share_part, snapshot_taken, walk_next}
-use Rattle.part_steps.specs.PartSteps.{entry_index, leaf_written, part_task, table_page, word_looked, words_filled}
+use Rattle.part_steps.specs.PartTasks.{entry_index, leaf_written, part_task, table_page, word_looked, words_filled}
 use Rattle.part_steps.specs.PartTopics.{exchanged, part_topics}
 use Rattle.part_steps.specs.SlotWords.{may_write, page_of}
-use Rattle.part_steps.specs.TopicSteps.{gone_down, has_writer, is_won, linked_page, searched, unless_linked}
+use Rattle.part_steps.specs.WalkTopics.{gone_down, linked_page, unless_linked}
+use Rattle.part_steps.specs.PageTopics.{is_won, searched}
+use Rattle.part_steps.specs.ControlTopics.{has_writer}
 use Rattle.mmu_laws.specs.turns.Removal.{ends_installed, has_installed}
 use Rattle.mmu_core.specs.machine.View.{answer_in, upd, words_after}
 use Rattle.mmu_core.proofs.machine.Columns.{upd_same}

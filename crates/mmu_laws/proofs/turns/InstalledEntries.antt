@@ -29,7 +29,8 @@ use Rattle.mmu_core.specs.lines.FaultKnows.{EndKnows, FaultKnows, HasEntry}
 use Rattle.mmu_core.specs.lines.KnowsPart.{KnowsPart}
 use Rattle.mmu_core.specs.invariant.Laws.{IsSound}
 use Rattle.mmu_core.specs.machine.Machine.{Legal, May, Step, World, effect, hand_in, run}
-use Rattle.part_steps.specs.PartSteps.{IsOver, entry_index, table_page}
+use Rattle.part_steps.specs.PartTasks.{entry_index, table_page}
+use Rattle.part_steps.specs.PartHoldings.{IsOver}
 use Rattle.mmu_core.specs.machine.Steps.{line_at, place_at, task_at}
 use Rattle.mmu_core.specs.invariant.TreePart.{at, stands}
 use Rattle.mmu_laws.specs.turns.Removal.{Breaks, InstalledEntriesServe, LeadsFromRoot, LostEntry, StandsInstalled, StandsAt, WalksInstalled, ends_installed, has_installed, is_installed}
@@ -42,7 +43,7 @@ use Rattle.mmu_laws.proofs.leaves.LeadsDown.{leads_down}
 use Rattle.mmu_laws.proofs.causes.Changes.{of_each_list}
 use Rattle.mmu_laws.proofs.turns.LeavesStay.{leaf_stays_or_breaks}
 use Rattle.mmu_laws.proofs.turns.Removal.{lost_longer, lost_now}
-use Rattle.mmu_core.proofs.held.Scanned.{others_hand}
+use Rattle.mmu_core.proofs.held.ClaimGoes.{others_hand}
 use Rattle.mmu_core.proofs.invariant.PartBounded.{part_rests_at}
 use Rattle.mmu_core.proofs.start.Starts.{start_good}
 use Rattle.mmu_core.proofs.start.StartWords.{hand_is}

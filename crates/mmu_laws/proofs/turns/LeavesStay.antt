@@ -29,11 +29,12 @@ use Rattle.mmu_core.specs.invariant.Invariant.{Invariant, IsLeafFor}
 use Rattle.mmu_core.specs.invariant.Laws.{IsSound}
 use Rattle.mmu_core.specs.machine.Machine.{May, Step, World, effect, hand_in}
 use Rattle.mmu_laws.specs.turns.Removal.{Breaks, LeadsFromRoot, LeavesStay}
-use Rattle.part_steps.specs.PartSteps.{MayEnter, entry_index, leaf_written, link_written, table_page}
+use Rattle.part_steps.specs.PartTasks.{entry_index, leaf_written, link_written, table_page}
+use Rattle.part_steps.specs.PartHoldings.{MayEnter}
 use Rattle.part_steps.specs.SlotWords.{leaf_of, page_of, slot_at}
 use Rattle.mmu_core.specs.machine.Steps.{line_at, place_at}
 use Rattle.mmu_core.specs.invariant.TopicsInvariant.{TopicsInvariant}
-use Rattle.part_steps.specs.TopicSteps.{linked_page}
+use Rattle.part_steps.specs.WalkTopics.{linked_page}
 use Rattle.mmu_core.specs.invariant.TreePart.{EntryPart, IsLiveIn, Position, TreePart, at, Use, stands}
 use Rattle.mmu_core.proofs.pages.TreePlaces.{root_stands}
 use Rattle.mmu_core.specs.machine.View.{View, part_stepped, stepped, upd, view, word_in, words_after}

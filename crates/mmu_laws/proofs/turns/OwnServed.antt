@@ -36,7 +36,8 @@ use Rattle.mmu_core.specs.lines.FaultKnows.{FaultKnows, KnowsNext}
 use Rattle.mmu_core.specs.lines.FaultSteps.{allows_access, fault_next, fault_part}
 use Rattle.mmu_core.specs.lines.KnowsPart.{AccessKnows, KnowsPart}
 use Rattle.part_steps.specs.PartBounds.{PartRests}
-use Rattle.part_steps.specs.PartSteps.{IsVcpu, own_index}
+use Rattle.part_steps.specs.PartTasks.{own_index}
+use Rattle.part_steps.specs.PartSteps.{IsVcpu}
 use Rattle.part_steps.specs.PartTopics.{part_topics}
 use Rattle.mmu_core.specs.lines.Rests.{IsUnderWay}
 use Rattle.mmu_core.specs.machine.Steps.{first_place, line_at, next_line, outcome_at, standing, task_at}

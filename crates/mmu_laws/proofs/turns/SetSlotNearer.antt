@@ -22,11 +22,13 @@ use Rattle.mmu_core.specs.lines.ClaimSteps.{claim_left, claim_next, claim_part}
 use Rattle.mmu_core.specs.lines.FaultSteps.{map_word, tries_page}
 use Rattle.mmu_core.specs.lines.PartWaits.{part_waits}
 use Rattle.part_steps.specs.PartBounds.{PartRests}
-use Rattle.part_steps.specs.PartSteps.{HasToFill, own_index, words_filled}
+use Rattle.part_steps.specs.PartTasks.{own_index, words_filled}
+use Rattle.part_steps.specs.PartHoldings.{HasToFill}
 use Rattle.part_steps.specs.PartTopics.{part_topics}
 use Rattle.mmu_core.specs.lines.SetSlotKnows.{SetSlotKnows}
 use Rattle.mmu_core.specs.lines.SetSlotSteps.{looked_at, set_slot_outcome, set_slot_part, after_claim, after_watch, watch_next}
-use Rattle.part_steps.specs.TopicSteps.{filled_more, in_section, is_won}
+use Rattle.part_steps.specs.PageTopics.{filled_more, is_won}
+use Rattle.part_steps.specs.ControlTopics.{in_section}
 use Rattle.mmu_core.proofs.pages.Owned.{more_filled}
 use Rattle.mmu_core.proofs.lines.ClaimMade.{claim_falls, claim_made, claim_left_after, word_there}
 use Rattle.mmu_core.proofs.lines.WatchMade.{watch_left_after, watch_falls, watch_made}

@@ -33,17 +33,20 @@ use Rattle.mmu_core.specs.lines.AccessSteps.{access_note, access_outcome, access
 use Rattle.mmu_core.specs.lines.Bounds.{access_left, set_slot_left, stay_left, steps_left}
 use Rattle.mmu_core.specs.lines.Cached.{first_usable}
 use Rattle.mmu_core.specs.lines.Delays.{begins_anew, is_delay, leaves_to_fault, walks_again}
-use Rattle.mmu_core.specs.lines.FaultSteps.{allows_access, fault_left, fault_next, fault_part, next_left}
+use Rattle.mmu_core.specs.lines.FaultLeft.{fault_left, next_left}
+use Rattle.mmu_core.specs.lines.FaultSteps.{allows_access, fault_next, fault_part}
 use Rattle.mmu_core.specs.lines.KnowsPart.{AccessKnows, KnowsPart}
 use Rattle.mmu_core.specs.lines.PartWaits.{part_waits}
 use Rattle.part_steps.specs.PartBounds.{PartRests}
-use Rattle.part_steps.specs.PartSteps.{entry_index, own_index}
+use Rattle.part_steps.specs.PartTasks.{entry_index, own_index}
 use Rattle.part_steps.specs.PartTopics.{part_topics}
 use Rattle.mmu_core.specs.lines.Rests.{IsUnderWay}
 use Rattle.mmu_core.specs.lines.SetSlotSteps.{set_slot_note, set_slot_outcome, set_slot_part, set_slot_task}
 use Rattle.mmu_core.specs.machine.Steps.{delays_at, outcome_at, task_at}
 use Rattle.part_steps.specs.Tasks.{map_of}
-use Rattle.part_steps.specs.TopicSteps.{at_root, gone_down, linked_page, may_walk}
+use Rattle.part_steps.specs.StayTopics.{may_walk}
+use Rattle.part_steps.specs.WalkTopics.{gone_down, linked_page}
+use Rattle.part_steps.specs.ControlTopics.{at_root}
 use Rattle.mmu_core.specs.machine.View.{answer_in}
 use Rattle.mmu_laws.proofs.alone.AloneStep.{topics_at, two_left}
 use Rattle.mmu_core.proofs.lines.FaultFalls.{fault_falls}

@@ -35,7 +35,7 @@ use Rattle.mmu_core.specs.lines.FaultSteps.{allows_access}
 use Rattle.mmu_core.specs.invariant.Laws.{IsSound}
 use Rattle.mmu_core.specs.alone.LineAlone.{hand_left, line_waits}
 use Rattle.mmu_core.specs.machine.Machine.{May, Step, World, effect, hand_in}
-use Rattle.part_steps.specs.PartSteps.{entry_index, table_page}
+use Rattle.part_steps.specs.PartTasks.{entry_index, table_page}
 use Rattle.mmu_core.specs.lines.SetSlotSteps.{set_slot_first}
 use Rattle.mmu_core.specs.machine.Steps.{delays_at, first_place, has_line, line_at, outcome_at, place_at, standing, task_at}
 use Rattle.mmu_core.specs.machine.Outcomes.{place_after}

@@ -18,7 +18,7 @@ use Rattle.spte_words.specs.Areas.{place as place_of, pool_index}
 use Rattle.mmu_core.specs.machine.Enabled.{mmu}
 use Rattle.mmu_core.specs.invariant.Laws.{IsSound}
 use Rattle.mmu_core.specs.machine.Machine.{Legal, Step, World, found, hand_in, run}
-use Rattle.part_steps.specs.PartSteps.{entry_index}
+use Rattle.part_steps.specs.PartTasks.{entry_index}
 use Rattle.part_steps.specs.Tasks.{map_of}
 
 -- The step is this actor's, and finds this number in this word.

@@ -18,7 +18,8 @@ use Rattle.mmu_core.specs.alone.FaultAlone.{LeadsTo}
 use Rattle.mmu_core.specs.lines.FaultSteps.{allows_access}
 use Rattle.mmu_core.specs.invariant.Laws.{IsSound}
 use Rattle.mmu_core.specs.machine.Machine.{World, hand_in}
-use Rattle.part_steps.specs.PartSteps.{IsOver, table_page}
+use Rattle.part_steps.specs.PartTasks.{table_page}
+use Rattle.part_steps.specs.PartHoldings.{IsOver}
 use Rattle.part_steps.specs.SlotWords.{slots_below}
 use Rattle.mmu_core.specs.machine.View.{word_in}
 

@@ -1,6 +1,6 @@
 use Rattle.std.proofs.Common.{◌≡◌, subst}
 use Rattle.core_views.specs.declared.kind.Kind.{Kind}
-use Rattle.part_steps.specs.PartSteps.{part_kind, words_filled}
+use Rattle.part_steps.specs.PartTasks.{part_kind, words_filled}
 use Rattle.part_steps.specs.declared.part_step.PartStep.{PartStep}
 use Rattle.step_seats.specs.PartTurns.{MadePart}
 use Rattle.step_seats.proofs.PartMade.{made_part}

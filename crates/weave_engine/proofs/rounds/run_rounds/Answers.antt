@@ -2,7 +2,7 @@ use Rattle.std.proofs.Common.{◌∙◌, ◌≡◌, ◌<◌, arith, refl, string
 use Rattle.std.proofs.lemmas.Result.{err_from_is_err_and}
 use Rattle.core_views.specs.Sizes.{actors_of}
 use Rattle.step_seats.specs.Machines.{world_in}
-use Rattle.weave_engine.specs.Turning.{IsNextPlace}
+use Rattle.weave_engine.specs.Rounds.{IsNextPlace}
 use Rattle.weave_engine.proofs.Coming.{so_far_none}
 use Rattle.weave_engine.proofs.ItemTurns.{made_one}
 use Rattle.weave_engine.proofs.RoundLists.{InRounds, none_made, passes, rounds_over, rounds_stop, turns}

@@ -2,7 +2,7 @@ use Rattle.std.proofs.Common.{ℕ, subst}
 use Rattle.part_steps.specs.declared.part_step.PartStep.{PartStep}
 use Rattle.table_pool.proofs.Paging.{fills_word}
 use Rattle.step_seats.specs.PartTurns.{MadePart}
-use Rattle.part_steps.specs.PartSteps.{words_filled}
+use Rattle.part_steps.specs.PartTasks.{words_filled}
 use Rattle.fault_install.proofs.fault.FaultJob.fill.Goals as goal
 
 -- The step of the fill is the one of the next word, since not all words are filled.

@@ -5,8 +5,10 @@ use Rattle.core_views.specs.declared.topics.Topics.{Topics}
 use Rattle.core_views.specs.Held.{Handful}
 use Rattle.part_steps.specs.declared.part_step.PartStep.TheVariants as part
 use Rattle.core_views.specs.Sizes.{actors_of, index_of}
-use Rattle.part_steps.specs.PartSteps.{PartNeeds, next_watched, own_index, part_kind}
-use Rattle.part_steps.specs.TopicSteps.{in_section}
+use Rattle.part_steps.specs.PartTasks.{own_index, part_kind}
+use Rattle.part_steps.specs.PartHoldings.{next_watched}
+use Rattle.part_steps.specs.PartSteps.{PartNeeds}
+use Rattle.part_steps.specs.ControlTopics.{in_section}
 use Rattle.grace_period.specs.Watches.{looked_at}
 use Rattle.grace_period.proofs.Looks.{fewer_left, look_free, more_needs, not_done, wait_needs}
 use Rattle.step_seats.proofs.Where.{where_made}

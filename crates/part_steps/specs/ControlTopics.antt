@@ -1,0 +1,118 @@
+-- What words of the machine tell an actor: the lock's, a state word, the pool's map, the root, the published set, the invalidations'.
+use Rattle.std.specs.Prelude.{◌+◌, ◌-◌, ◌^◌, ℕ, Bool, false, ◌==◌, ◌&&◌, nat_le, nat_lt, not, if◌then◌else◌, Some, None}
+use Rattle.core_views.specs.declared.place.SlotField.TheVariants as field
+use Rattle.core_views.specs.declared.sizes.Sizes.{Sizes}
+use Rattle.core_views.specs.declared.topics.Checked.{Checked}
+use Rattle.core_views.specs.declared.topics.Checked.TheVariants as checked
+use Rattle.core_views.specs.declared.topics.Hold.{Hold}
+use Rattle.core_views.specs.declared.topics.Invalidations.{Invalidations}
+use Rattle.core_views.specs.declared.topics.MapClaim.{MapClaim}
+use Rattle.core_views.specs.declared.topics.SlotSearch.{SlotSearch}
+use Rattle.core_views.specs.declared.topics.TableWalk.{TableWalk}
+use Rattle.core_views.specs.declared.topics.Topics.{Topics}
+use Rattle.spte_words.specs.declared.area.Area.{Area}
+use Rattle.spte_words.specs.declared.area.Area.TheVariants as area
+use Rattle.spte_words.specs.Areas.{number_of, place}
+use Rattle.spte_words.specs.Bits.{has_bit}
+use Rattle.part_steps.specs.Tasks.{map_of}
+use Rattle.part_steps.specs.StayTopics.{has_lock, is_loose, may_walk, may_search, kept_search}
+use Rattle.part_steps.specs.PageTopics.{published}
+
+-- Bit 63 of a lock word: a writer has it.
+abbrev pub writer : ℕ
+writer = 2 ^ 63
+
+abbrev pub has_writer : ℕ → Bool
+has_writer v = nat_le writer v
+
+-- Bit 1 of a state word: the actor is in the guest or in a section; with bit 0 it is in the guest.
+abbrev pub section_bit : ℕ
+section_bit = 2
+
+abbrev pub guest_bits : ℕ
+guest_bits = 3
+
+abbrev pub in_section : ℕ → Bool
+in_section v = has_bit 1 v
+
+-- the lone words of the machine's control stand first, each at the number of its area
+abbrev pub is_word_of : Area → ℕ → Bool
+is_word_of a word = word == number_of a
+
+-- where the words of the pool's map begin, and where they end
+abbrev pub map_begins : Sizes → ℕ
+map_begins z = place (map_of z) area.PoolMap 0
+
+abbrev pub map_ends : Sizes → ℕ
+map_ends z = place (map_of z) area.FrameMap 0
+
+abbrev pub is_pool_map : Sizes → ℕ → Bool
+is_pool_map z word = nat_le (map_begins z) word && nat_lt word (map_ends z)
+
+-- The root was loaded: a walk begins at it, where its page is held.
+abbrev pub at_root : Bool → TableWalk → ℕ → TableWalk
+at_root holds walk v = record walk { level = if holds then 4 else 0; prefix = 0; root = v; index = 512 }
+
+-- Which slot set is published was loaded: a search of it begins, where its page is held.
+abbrev pub at_set : Bool → SlotSearch → ℕ → SlotSearch
+at_set holds search v = record search { set = if holds then Some v else None; id = 0; next = field.Flags; whole = false }
+
+-- How far the check has come behind a load of the count, of the range's start, of its end, and of the sequence number.
+abbrev pub count_checked : Hold → Checked
+count_checked hold = if has_lock hold then checked.Count else checked.Nothing
+
+abbrev pub start_checked : Checked → Checked
+start_checked checked.Count = checked.Start
+start_checked _ = checked.Nothing
+
+abbrev pub range_checked : Checked → Checked
+range_checked checked.Start = checked.Range
+range_checked _ = checked.Nothing
+
+abbrev pub seq_checked : ℕ → Checked → Checked
+seq_checked count checked.Count = if count == 0 then checked.All else checked.Nothing
+seq_checked count checked.Range = checked.All
+seq_checked count _ = checked.Nothing
+
+-- How far the check has come behind the load of a control word.
+abbrev pub checked_after : ℕ → Hold → Invalidations → Checked
+checked_after word hold n =
+    if is_word_of area.Count word then count_checked hold else
+    if is_word_of area.RangeStart word then start_checked n.checked else
+    if is_word_of area.RangeEnd word then range_checked n.checked else
+    if is_word_of area.Seq word then seq_checked n.count n.checked else
+    n.checked
+
+-- A word of the invalidations was loaded; the sequence number is the snapshot where the actor doesn't have the lock.
+abbrev pub noted : ℕ → Hold → Invalidations → ℕ → Invalidations
+noted word hold n v = record {
+  snapshot = if is_word_of area.Seq word && is_loose hold then Some v else n.snapshot;
+  count = if is_word_of area.Count word then v else n.count;
+  start = if is_word_of area.RangeStart word then v else n.start;
+  end = if is_word_of area.RangeEnd word then v else n.end;
+  seq = if is_word_of area.Seq word && not (is_loose hold) then v else n.seq;
+  checked = checked_after word hold n;
+}
+
+-- A word of the pool's map was loaded: a claim has come to it, or to the next one where it is 0.
+abbrev pub at_word : Sizes → ℕ → MapClaim → ℕ → MapClaim
+at_word z word claim v = record {
+  at = if is_pool_map z word then (word - map_begins z) + (if v == 0 then 1 else 0) else claim.at;
+  seen = if is_pool_map z word then v else claim.seen;
+}
+
+-- The load takes the snapshot of a look-up, which begins with it.
+abbrev pub takes_snapshot : ℕ → Hold → Bool
+takes_snapshot word hold = is_word_of area.Seq word && is_loose hold
+
+-- A word of the machine's control was loaded: each of these words has a topic of its own that keeps what was found. What was looked up
+-- before a snapshot is let go.
+abbrev pub controlled : Sizes → ℕ → Topics → ℕ → Topics
+controlled z word t v = record t {
+  walk = if is_word_of area.Root word then at_root (may_walk t.stay t.hold) t.walk v else t.walk;
+  search = if is_word_of area.Slots word then at_set (may_search t.stay t.hold) t.search v else if takes_snapshot word t.hold then kept_search false t.search else t.search;
+  host = if takes_snapshot word t.hold then None else t.host;
+  invalidations = noted word t.hold t.invalidations v;
+  claim = at_word z word t.claim v;
+  pause = if is_word_of area.Pause word then v else t.pause;
+}

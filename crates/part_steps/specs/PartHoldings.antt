@@ -1,0 +1,96 @@
+-- What a hand holds that a step of a part needs: of pages, of the walk, of the look-up and of the invalidations.
+use Rattle.std.specs.Prelude.{◌≡◌, ◌+◌, ◌-◌, ◌/◌, ◌^◌, ◌<◌, ◌≤◌, ◌⊎◌, ℕ, true, ◌==◌, if◌then◌else◌, Some, None, is_some}
+use Rattle.core_views.specs.declared.topics.Checked.TheVariants as checked
+use Rattle.core_views.specs.declared.topics.Hold.TheVariants.{Shared, Exclusive}
+use Rattle.core_views.specs.declared.topics.Invalidations.{Invalidations}
+use Rattle.core_views.specs.declared.topics.Stay.TheVariants.{Section}
+use Rattle.core_views.specs.declared.topics.TableWalk.{TableWalk}
+use Rattle.core_views.specs.declared.topics.Topics.{Topics}
+use Rattle.core_views.specs.Held.{Held}
+use Rattle.core_views.specs.Sizes.{actors_of}
+use Rattle.core_views.specs.Slots.{contains}
+use Rattle.spte_words.specs.Entries.{level_span}
+use Rattle.part_steps.specs.SetWords.{set_role}
+use Rattle.part_steps.specs.SlotWords.{page_of}
+use Rattle.part_steps.specs.PartTasks.{entry_index, words_filled, is_absent, role_filled, own_index}
+
+-- the actor whose state word comes next, where those before this place were looked at: each but the own
+abbrev pub next_watched : ℕ → ℕ → ℕ
+next_watched own_ seen = if seen == own_ then seen + 1 else seen
+
+abbrev pub OwnsPage : Topics → Type 0
+OwnsPage t = is_some t.owned ≡ true
+
+-- A page is owned, and not all of its words are filled.
+abbrev pub HasToFill : Topics → Type 0
+HasToFill t = OwnsPage t × (words_filled t.owned < 512)
+
+-- All words of the page that is owned are filled, and its role comes next.
+abbrev pub HasRoleToSet : Topics → Type 0
+HasRoleToSet t = words_filled t.owned ≡ 512
+
+abbrev pub HoldsSet : Topics → Type 0
+HoldsSet t = is_some t.search.set ≡ true
+
+-- The walk has come to a table, and this table has the guest frame's entry of its level.
+pub record IsOver (gfn : ℕ) (walk : TableWalk) : Type 0 where
+  pub small : gfn < 2 ^ 36
+  pub there : 1 ≤ walk.level
+  pub run : gfn / level_span walk.level / 512 ≡ walk.prefix
+
+-- The guest frame's entry in the walk's table was loaded.
+pub record SawEntry (gfn : ℕ) (walk : TableWalk) : Type 0 where
+  pub over : IsOver gfn walk
+  pub loaded : walk.index ≡ entry_index gfn walk.level
+
+-- The page that is owned is filled whole, as a table of the level whose entries are absent.
+pub record OwnsTable (level : ℕ) (t : Topics) : Type 0 where
+  pub whole : words_filled t.owned ≡ 513
+  pub absent : is_absent t.owned ≡ true
+  pub role : role_filled t.owned ≡ level
+
+-- A slot with the guest frame was loaded whole.
+pub record FoundSlot (gfn : ℕ) (t : Topics) : Type 0 where
+  pub whole : t.search.whole ≡ true
+  pub holds : contains gfn t.search.slot ≡ true
+
+-- And the host word of the page behind the guest frame.
+pub record LookedUp (gfn : ℕ) (t : Topics) : Type 0 where
+  pub found : FoundSlot gfn t
+  pub word : ℕ
+  pub host : t.host ≡ Some (record { page = page_of t.search.slot gfn; word = word })
+
+-- The look-up is checked under the lock: its snapshot is the sequence number still, and no invalidation is open over the guest frame
+-- (locking.rst, mmu_invalidate_retry_gfn).
+pub record IsFresh (gfn : ℕ) (n : Invalidations) : Type 0 where
+  pub checked_all : n.checked ≡ checked.All
+  pub still : n.snapshot ≡ Some n.seq
+  pub none_over : (n.count ≡ 0) ⊎ (gfn < n.start) ⊎ (n.end ≤ gfn)
+
+-- A fault may store an entry of the guest frame's: it shares the lock, in a section, with a fresh look-up, and saw the entry.
+pub record MayEnter (gfn : ℕ) (t : Topics) : Type 0 where
+  pub shares : t.hold ≡ Shared
+  pub section : t.stay ≡ Section
+  pub fresh : IsFresh gfn t.invalidations
+  pub looked_up : LookedUp gfn t
+  pub saw : SawEntry gfn t.walk
+
+-- The page that is owned is filled whole, as a slot set.
+pub record OwnsSet (t : Topics) : Type 0 where
+  pub whole : words_filled t.owned ≡ 513
+  pub role : role_filled t.owned ≡ set_role
+
+-- A slot set may be published: it is owned and filled whole, the actor has the lock alone, under which it has seen that no invalidation is
+-- open, and no page is leaving yet.
+pub record MayPublish (t : Topics) : Type 0 where
+  pub owns : OwnsSet t
+  pub alone : t.hold ≡ Exclusive
+  pub looked : t.invalidations.checked ≡ checked.Count
+  pub none_open : t.invalidations.count ≡ 0
+  pub none_leaves : t.leaving ≡ None
+
+-- A page is leaving, and each other actor was watched since; the actor owns no page.
+pub record MayGiveOld (h : Held) : Type 0 where
+  pub leaves : is_some h.topics.leaving ≡ true
+  pub owns_none : h.topics.owned ≡ None
+  pub watched : actors_of h.state.sizes ≤ next_watched (own_index h) h.topics.watched

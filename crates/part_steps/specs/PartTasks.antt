@@ -1,0 +1,133 @@
+-- Which step of the machine each step of a part is: its kind, its word, what it expects there and what it writes.
+use Rattle.std.specs.Prelude.{◌-◌, ◌/◌, ◌%◌, ◌^◌, ◌<◌, ℕ, Bool, false, ◌==◌, if◌then◌else◌, Option, Some, None}
+use Rattle.std.specs.Int.{bit_not}
+use mir.Syntax.{w64}
+use Rattle.core_views.specs.declared.kind.Kind.{Kind}
+use Rattle.core_views.specs.declared.kind.StepKind.{StepKind}
+use Rattle.core_views.specs.declared.kind.StepKind.TheVariants as kind
+use Rattle.core_views.specs.declared.topics.HostLook.{HostLook}
+use Rattle.core_views.specs.declared.topics.OwnedPage.{OwnedPage}
+use Rattle.core_views.specs.declared.topics.TableWalk.{TableWalk}
+use Rattle.core_views.specs.declared.topics.Topics.{Topics}
+use Rattle.core_views.specs.Held.{Held}
+use Rattle.core_views.specs.Sizes.{index_of}
+use Rattle.spte_words.specs.declared.area.Area.{Area}
+use Rattle.spte_words.specs.declared.area.Area.TheVariants as area
+use Rattle.spte_words.specs.Areas.{pool_index, size_of}
+use Rattle.spte_words.specs.Entries.{level_span, table_word}
+use Rattle.part_steps.specs.declared.task.Task.{Task}
+use Rattle.part_steps.specs.declared.part_step.PartStep.{PartStep}
+use Rattle.part_steps.specs.declared.part_step.PartStep.TheVariants as part
+use Rattle.part_steps.specs.SlotWords.{leaf_of, slot_index}
+use Rattle.part_steps.specs.Tasks.{kind_of_task, loads, map_of}
+use Rattle.part_steps.specs.PageTopics.{tried_bit}
+use Rattle.part_steps.specs.ControlTopics.{guest_bits, section_bit, writer}
+
+-- the number that keeps all bits but these
+abbrev pub all_but : ℕ → ℕ
+all_but bits = bit_not w64 bits
+
+-- the page of the table that a walk has come to
+abbrev pub table_page : TableWalk → ℕ
+table_page walk =
+    if walk.level == 4 then walk.root else
+    if walk.level == 3 then walk.third else
+    if walk.level == 2 then walk.second else
+    walk.first
+
+-- the place of a guest frame's entry in a table of the level
+abbrev pub entry_index : ℕ → ℕ → ℕ
+entry_index gfn level = gfn / level_span level % 512
+
+-- the page that is owned, and how far it is filled
+abbrev pub page_owned : Option OwnedPage → ℕ
+page_owned None = 0
+page_owned (Some o) = o.page
+
+abbrev pub words_filled : Option OwnedPage → ℕ
+words_filled None = 0
+words_filled (Some o) = o.filled
+
+-- Each word that is filled so far is 0.
+abbrev pub is_absent : Option OwnedPage → Bool
+is_absent None = false
+is_absent (Some o) = o.absent
+
+-- the role that is stored for the page
+abbrev pub role_filled : Option OwnedPage → ℕ
+role_filled None = 0
+role_filled (Some o) = o.role
+
+-- the page that is leaving
+abbrev pub page_left : Option ℕ → ℕ
+page_left None = 0
+page_left (Some page) = page
+
+-- the pool page of the slot set that is held
+abbrev pub set_held : Option ℕ → ℕ
+set_held None = 0
+set_held (Some set) = set
+
+-- the host word that was loaded
+abbrev pub word_looked : Option HostLook → ℕ
+word_looked None = 0
+word_looked (Some look) = look.word
+
+-- what a link to the owned page is, and the leaf of the page that was looked up
+abbrev pub link_written : Topics → ℕ
+link_written t = table_word (page_owned t.owned)
+
+abbrev pub leaf_written : Topics → ℕ
+leaf_written t = leaf_of t.search.slot (word_looked t.host)
+
+-- an exchange of a guest frame's entry in the table that the walk has come to, where it is as it was loaded
+abbrev pub entry_task : ℕ → ℕ → TableWalk → ℕ → Task
+entry_task gfn new_ walk note = record { kind = kind.Swap; area = area.Pool; index = pool_index (table_page walk) (entry_index gfn walk.level); expected = walk.entry; written = new_; may_end = note }
+
+-- a step that stores, or an operation with this number
+abbrev pub works : StepKind → Area → ℕ → ℕ → ℕ → Task
+works k a index written note = record { kind = k; area = a; index = index; expected = 0; written = written; may_end = note }
+
+-- what the step does for the actor at a place, that holds these topics
+abbrev pub part_task : PartStep → ℕ → Topics → ℕ → Task
+part_task part.Enter own t note = works kind.Enter area.State own guest_bits note
+part_task part.Leave own t note = works kind.Leave area.State own (all_but guest_bits) note
+part_task part.Pause own t note = loads kind.Control area.Pause 0 note
+part_task part.Begin own t note = works kind.Begin area.State own section_bit note
+part_task part.End own t note = works kind.End area.State own (all_but section_bit) note
+part_task part.Share own t note = works kind.Share area.Lock 0 1 note
+part_task part.Unshare own t note = works kind.Unshare area.Lock 0 1 note
+part_task part.Exclude own t note = works kind.Exclude area.Lock 0 writer note
+part_task part.Release own t note = works kind.Release area.Lock 0 (all_but writer) note
+part_task (part.Map word) own t note = loads kind.Control area.PoolMap word note
+part_task part.Claim own t note = works kind.Claim area.PoolMap t.claim.at (all_but (2 ^ tried_bit t.claim)) note
+part_task (part.Fill value) own t note = works kind.Fill area.Pool (pool_index (page_owned t.owned) (words_filled t.owned)) value note
+part_task (part.Role value) own t note = works kind.Fill area.Role (page_owned t.owned) value note
+part_task part.Give own t note = works kind.Give area.PoolMap (page_owned t.owned / 64) (2 ^ (page_owned t.owned % 64)) note
+part_task part.Slots own t note = loads kind.Control area.Slots 0 note
+part_task part.Slot own t note = loads kind.Slot area.Pool (slot_index (set_held t.search.set) t.search.id t.search.next) note
+part_task part.Seq own t note = loads kind.Control area.Seq 0 note
+part_task part.Count own t note = loads kind.Control area.Count 0 note
+part_task part.RangeStart own t note = loads kind.Control area.RangeStart 0 note
+part_task part.RangeEnd own t note = loads kind.Control area.RangeEnd 0 note
+part_task part.Root own t note = loads kind.Control area.Root 0 note
+part_task (part.Walk gfn) own t note = loads kind.Walk area.Pool (pool_index (table_page t.walk) (entry_index gfn t.walk.level)) note
+part_task (part.Link gfn) own t note = entry_task gfn (link_written t) t.walk note
+part_task (part.Leaf gfn) own t note = entry_task gfn (leaf_written t) t.walk note
+part_task (part.Host page) own t note = loads kind.Host area.Host page note
+part_task (part.Watch index) own t note = loads kind.Watch area.State index note
+part_task part.Publish own t note = works kind.Publish area.Slots 0 (page_owned t.owned) note
+part_task part.Clear own t note = works kind.Fill area.Role (page_left t.leaving) 0 note
+part_task part.GiveOld own t note = works kind.Give area.PoolMap (page_left t.leaving / 64) (2 ^ (page_left t.leaving % 64)) note
+
+-- the place of the hand's actor
+abbrev pub own_index : Held → ℕ
+own_index h = index_of h.state.sizes h.state.actor
+
+-- the step as the words of the machine see it
+abbrev pub part_kind : Held → PartStep → ℕ → Kind
+part_kind h step note = kind_of_task h.state.sizes (part_task step (own_index h) h.topics note)
+
+-- The step's word is one of its area.
+abbrev pub IsWithin : Held → PartStep → Type 0
+IsWithin h step = (part_task step (own_index h) h.topics 0).index < size_of (map_of h.state.sizes) (part_task step (own_index h) h.topics 0).area
