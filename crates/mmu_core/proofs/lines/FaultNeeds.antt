@@ -28,7 +28,6 @@ check_needs : (at : CheckStage) (h : Held) → PartNeeds (check_part at) h
 check_needs stage.Count h = tt
 check_needs _ h = tt
 
-
 may_enter : (gfn : ℕ) (write : Bool) (t : Topics) → Entering gfn write t → SawEntry gfn t.walk → MayEnter gfn t
 may_enter gfn write t E S = record { shares = E.sharing.shares; section = E.sharing.section; fresh = E.fresh; looked_up = E.sharing.looked.looked_up; saw = S }
 

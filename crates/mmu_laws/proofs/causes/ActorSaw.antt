@@ -44,7 +44,6 @@ pub record ActorSaw (z : Sizes) (w : World Held) (actor : ℕ) (t : Topics) (ss 
   pub claim : 0 < t.claim.seen → Knows (IsOffWord actor (pool_word z t.claim.at)) actor (pool_word z t.claim.at) t.claim.seen w ss u
   pub alone : 0 < t.claim.seen → t.claim.at < words_of_bits z.pool
 
-
 module _ (z : Sizes) (w : World Held) (ss : List (Step Kind)) (s : Step Kind) (G : IsSound z (run mmu w ss)) (may : May mmu (run mmu w ss) s) where
   abbrev a : ℕ
   a = s.actor
