@@ -16,7 +16,6 @@ use Rattle.core_views.specs.Slots.{is_write}
 use Rattle.mmu_core.specs.lines.AccessSteps.{access_note, behind_fault}
 use Rattle.mmu_core.specs.lines.FaultKnows.{EndKnows, FaultKnows, KnowsNext}
 use Rattle.mmu_core.specs.lines.FaultSteps.{fault_next, fault_part, wait_seen}
-use Rattle.mmu_core.specs.lines.FaultLaws.{CanAnswer}
 use Rattle.mmu_core.specs.lines.PartWaits.{part_waits}
 use Rattle.mmu_core.specs.machine.MayMake.{MayMake}
 use Rattle.mmu_core.specs.machine.Outcomes.{place_after}
