@@ -15,8 +15,8 @@ use Rattle.mmu_core.specs.lines.FaultKnows.{FaultKnows}
 use Rattle.mmu_core.specs.lines.FaultSteps.{fault_part}
 use Rattle.mmu_core.specs.lines.KnowsPart.{KnowsPart}
 use Rattle.mmu_core.specs.machine.MayMake.{MayMake}
-use Rattle.mmu_core.specs.lines.Rests.{Rests, RestsAt}
-use Rattle.mmu_core.specs.machine.Steps.{place_at, task_at, task_of}
+use Rattle.mmu_core.specs.lines.Rests.{Rests}
+use Rattle.mmu_core.specs.machine.Steps.{place_at}
 use Rattle.mmu_core.specs.machine.Turns.{line_of}
 use Rattle.mmu_core.specs.machine.Worlds.{HandReached}
 use Rattle.mmu_core.proofs.lines.KnowsKept.{access_vcpu}

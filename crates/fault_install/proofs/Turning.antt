@@ -36,7 +36,6 @@ use Rattle.mmu_core.specs.machine.View.{word_in}
 use Rattle.part_steps.specs.declared.part_step.PartStep.{PartStep}
 use Rattle.part_steps.specs.declared.part_step.PartStep.TheVariants as part
 use Rattle.mmu_core.specs.lines.PartWaits.{part_waits}
-use Rattle.mmu_core.specs.machine.MayMake.{MayMake}
 use Rattle.part_steps.specs.PartBounds.{PartRests}
 use Rattle.part_steps.specs.PartTasks.{own_index, part_kind}
 use Rattle.part_steps.specs.PartSteps.{PartNeeds}
@@ -44,7 +43,7 @@ use Rattle.mmu_core.proofs.lines.FaultFalls.{fault_falls}
 use Rattle.mmu_core.proofs.lines.FaultKnown.{fault_known, parts_answer}
 use Rattle.mmu_core.proofs.machine.HandAfter.{next_same}
 use Rattle.mmu_core.proofs.machine.Which.{has_line_is, next_of_line}
-use Rattle.step_seats.specs.PartTurns.{MadePart, waits}
+use Rattle.step_seats.specs.PartTurns.{MadePart}
 use Rattle.step_seats.specs.Where.{IsMadeIn, OfWorld, Told}
 use Rattle.step_seats.specs.declared.turn.Turn.{Turn}
 use Rattle.step_seats.specs.declared.turn.Turn.TheVariants.{More, Wait, Retry, Done}

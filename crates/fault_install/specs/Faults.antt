@@ -6,7 +6,7 @@ use Rattle.core_views.specs.declared.place.FaultNext.{FaultNext}
 use Rattle.core_views.specs.declared.place.FaultNext.TheVariants.{Goes, Ends}
 use Rattle.core_views.specs.declared.hand.Seen.{Seen}
 use Rattle.core_views.specs.declared.place.FaultPlace.{FaultPlace}
-use Rattle.core_views.specs.declared.place.FaultPlace.TheVariants.{Begin, Snapshot, Find, Host, Share, Claim, End}
+use Rattle.core_views.specs.declared.place.FaultPlace.TheVariants.{Begin, Snapshot, Find, Host, Share, Check, Claim, End}
 use Rattle.core_views.specs.declared.place.AccessPlace.TheVariants.{Fault}
 use Rattle.core_views.specs.declared.place.Place.TheVariants as place
 use Rattle.core_views.specs.declared.trace.Command.TheVariants.{Access}
@@ -16,7 +16,6 @@ use Rattle.core_views.specs.Slots.{is_write}
 use Rattle.mmu_core.specs.lines.AccessSteps.{access_note, behind_fault}
 use Rattle.mmu_core.specs.lines.FaultKnows.{EndKnows, FaultKnows, KnowsNext}
 use Rattle.mmu_core.specs.lines.FaultSteps.{fault_next, fault_part, wait_seen}
-use Rattle.mmu_core.specs.lines.FaultLaws.{CanAnswer}
 use Rattle.mmu_core.specs.lines.PartWaits.{part_waits}
 use Rattle.mmu_core.specs.machine.MayMake.{MayMake}
 use Rattle.mmu_core.specs.machine.Outcomes.{place_after}
@@ -75,15 +74,16 @@ LeadsOn (Claim begun) = ⊥
 LeadsOn (End e) = ⊥
 LeadsOn _ = Unit {0}
 
--- The fault shares the lock at this place.
-abbrev pub SharesLock : FaultPlace → Type 0
-SharesLock Begin = ⊥
-SharesLock Snapshot = ⊥
-SharesLock (Find begun) = ⊥
-SharesLock Host = ⊥
-SharesLock Share = ⊥
-SharesLock (End e) = ⊥
-SharesLock _ = Unit {0}
+-- The place comes after the check of the look-up, while the fault shares the lock.
+abbrev pub ComesAfterCheck : FaultPlace → Type 0
+ComesAfterCheck Begin = ⊥
+ComesAfterCheck Snapshot = ⊥
+ComesAfterCheck (Find begun) = ⊥
+ComesAfterCheck Host = ⊥
+ComesAfterCheck Share = ⊥
+ComesAfterCheck (Check at) = ⊥
+ComesAfterCheck (End e) = ⊥
+ComesAfterCheck _ = Unit {0}
 
 -- The hand's next line is the access whose fault this is, and stands at this place of it.
 pub record StandsInLine (job : FaultJob) (h : Held) : Type 0 where

@@ -2,13 +2,12 @@ ghost use Rattle.std.specs.Prelude.{◌≡◌, ◌<◌};
 ghost use Rattle.core_views.specs.declared.place.AccessPlace.TheVariants.{Fault};
 ghost use Rattle.core_views.specs.declared.place.FaultPlace.TheVariants as at;
 ghost use Rattle.core_views.specs.declared.place.Place.TheVariants as Place;
-ghost use Rattle.fault_install.specs.Faults.{IsAt, LeadsOn, MakesStep, SharesLock, StandsInLine, TurnsFault};
+ghost use Rattle.fault_install.specs.Faults.{ComesAfterCheck, IsAt, LeadsOn, MakesStep, StandsInLine, TurnsFault};
 ghost use Rattle.mmu_core.specs.alone.LineAlone.{hand_left};
 ghost use Rattle.mmu_core.specs.lines.AccessSteps.{access_note};
 ghost use Rattle.mmu_core.specs.lines.FaultSteps.{fault_part};
 ghost use Rattle.mmu_core.specs.machine.Steps.{place_at};
 ghost use Rattle.mmu_core.specs.machine.Worlds.{HandReached};
-ghost use Rattle.part_steps.specs.declared.part_step.PartStep.TheVariants as part;
 ghost use Rattle.step_seats.specs.Moves.{KeepsRoom};
 ghost use Rattle.step_seats.specs.PartTurns.{MakesPart};
 ghost use Rattle.step_seats.specs.declared.turn.Turn.TheVariants.{More};
@@ -96,33 +95,36 @@ impl FaultJob {
                 let page = page_of(&s.hand().topics().search.slot, gfn);
                 let _ = look(s, page, note);
             }
+            FaultPlace::Check(stage) => {
+                let _ = Check { gfn, stage }.turn(s, note);
+            }
             _ => self.go_down(s, place, note),
         }
     }
 
-    // Makes the step of such a place where the fault shares the lock.
+    // Makes the step of such a place that comes after the check of the look-up.
     fn go_down<S: Stepper>(&self, s: &mut S, place: FaultPlace, note: u64)
         requires is_at { IsAt place self.now note (S.handful s.old).core }
         requires leads_on { LeadsOn place }
-        requires shares { SharesLock place }
+        requires checked { ComesAfterCheck place }
         requires reserved { 0 < (S.handful s.old).room }
         ensures makes { MakesPart (fault_part place self.now.gfn (S.handful s.old).core.topics) note (S.actor s.old) (S.handful s.old).core (S.handful s.new).core (S.tells s.old) (S.tells s.new) }
         ensures room { KeepsRoom (S.handful s.old) (S.handful s.new) }
         ensures same { (S.actor s.new ≡ S.actor s.old) × (S.frame s.new ≡ S.frame s.old) }
     {
         let gfn = self.gfn;
-        let page = page_owned(s.hand().topics().owned);
+        let topics = s.hand().topics();
+        let page = page_owned(topics.owned);
+        let below = topics.walk.level.saturating_sub(1) as u64;
         match place {
-            FaultPlace::Check(stage) => {
-                let _ = Check { gfn, stage }.turn(s, note);
-            }
             FaultPlace::Walk { rooted } => {
                 let _ = Walk { gfn, rooted }.turn(s, note);
             }
-            FaultPlace::Fill => self.fill(s, note),
+            FaultPlace::Fill => {
+                let _ = Fill::new(page).turn(s, 0, note);
+            }
             FaultPlace::Role => {
-                let level = s.hand().topics().walk.level.saturating_sub(1) as u64;
-                let _ = Fill::new(page).turn(s, level, note);
+                let _ = Fill::new(page).turn(s, below, note);
             }
             FaultPlace::Link => {
                 let _ = make_part(s, PartStep::Link(gfn), note);
@@ -138,19 +140,7 @@ impl FaultJob {
         }
     }
 
-    // Fills the next word of the page: the entries of a table are absent.
-    fn fill<S: Stepper>(&self, s: &mut S, note: u64)
-        requires is_at { IsAt at.Fill self.now note (S.handful s.old).core }
-        requires reserved { 0 < (S.handful s.old).room }
-        ensures makes { MakesPart (part.Fill 0) note (S.actor s.old) (S.handful s.old).core (S.handful s.new).core (S.tells s.old) (S.tells s.new) }
-        ensures room { KeepsRoom (S.handful s.old) (S.handful s.new) }
-        ensures same { (S.actor s.new ≡ S.actor s.old) × (S.frame s.new ≡ S.frame s.old) }
-    {
-        let mut fill = Fill::new(page_owned(s.hand().topics().owned));
-        let _ = fill.turn(s, 0, note);
-    }
-
-    // Tries to share the lock.
+    // Tries to share the lock, and waits once a try that found a writer is taken back.
     fn share<S: Stepper>(&self, s: &mut S, note: u64) -> Turn<Faulted>
         requires is_at { IsAt at.Share self.now note (S.handful s.old).core }
         requires reserved { 0 < (S.handful s.old).room }
@@ -163,7 +153,7 @@ impl FaultJob {
         lock_turn(word, try_shared(s, note))
     }
 
-    // Claims a page for a table.
+    // Claims a page for a table, and waits where the page that it tried was taken.
     fn claim<S: Stepper>(&self, s: &mut S, begun: bool, note: u64) -> Turn<Faulted>
         requires is_at { IsAt (at.Claim begun) self.now note (S.handful s.old).core }
         requires reserved { 0 < (S.handful s.old).room }
@@ -174,7 +164,7 @@ impl FaultJob {
         claim_turn(Claim { begun }.turn(s, note))
     }
 
-    // Ends the section.
+    // Ends the section, and the fault with it.
     fn end<S: Stepper>(&self, s: &mut S, ended: FaultEnd, note: u64) -> Turn<Faulted>
         requires is_at { IsAt (at.End ended) self.now note (S.handful s.old).core }
         requires reserved { 0 < (S.handful s.old).room }

@@ -1,5 +1,5 @@
 -- What a fill and a give leave in the words of the worlds that are told.
-use Rattle.std.proofs.Common.{Option, None, ◌≡◌, ◌≢◌, ◌<◌, ◌+◌, ◌*◌, ◌/◌, ◌%◌, ◌^◌, ℕ, Some, refl, sym, subst, ap, ◌∙◌, arith, bit_or}
+use Rattle.std.proofs.Common.{Option, None, ◌≡◌, ◌≢◌, ◌+◌, ◌*◌, ◌/◌, ◌%◌, ◌^◌, ℕ, Some, refl, sym, subst, ap, ◌∙◌, arith, bit_or}
 use Rattle.std.specs.Prelude.{Bool, true, false, ◌==◌, if◌then◌else◌}
 use Rattle.std.proofs.lemmas.Bool.Decides.{nat_tests}
 use Rattle.core_views.specs.Held.{Held}
@@ -112,10 +112,3 @@ fill_answers_value value note found a h g told N there = by told.world there
     by : (x : Option (World Held)) → OfWorld x (λ w. IsMadeIn k a h g w × (answered mmu w k ≡ found)) → found ≡ value
     by (Some w) p = answered_in w p.0 p.1
     by None p = ∥∥₁_elim p (hlevel props) (λ x. answered_in x.0 x.1.0 x.1.1)
-
--- The step of a fill, while there is a word of the page left, and once all of them are filled.
-pub fills_word : (filled value : ℕ) → filled < 512 → fill_step filled value ≡ part.Fill value
-fills_word filled value few = let no : (filled == 512) ≡ false = grind (arith, nat_tests, few) in ap (λ (b : Bool). if b then part.Role value else part.Fill value) no
-
-pub fills_role : (filled value : ℕ) → filled ≡ 512 → fill_step filled value ≡ part.Role value
-fills_role filled value all = ap (λ (n : ℕ). fill_step n value) all
