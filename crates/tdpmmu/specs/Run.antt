@@ -10,7 +10,7 @@ use Rattle.core_views.specs.Need.{need}
 use Rattle.mmu_core.specs.machine.Machine.{World}
 use Rattle.tdp_io.specs.Ends.{Rose}
 use Rattle.tdp_io.specs.declared.sink.Stop.{Stop}
-use Rattle.tdp_io.specs.declared.sink.Stop.TheVariants.{Failed}
+use Rattle.tdp_io.specs.declared.sink.Stop.TheVariants.{Failed, NoMemory as Full}
 use Rattle.trace_reader.specs.declared.reason.Reason.{Reason}
 use Rattle.trace_reader.specs.Reading.{reading, IsTraceOf, IsRefusalOf}
 use Rattle.tdpmmu.specs.Output.{IsWrittenLine, check_text, refusal_text, usage_text}
