@@ -30,16 +30,12 @@ use Rattle.mmu_core.specs.lines.AccessSteps.{access_outcome, behind_fault, pause
 use Rattle.mmu_core.specs.lines.Cached.{first_usable}
 use Rattle.mmu_laws.specs.causes.Causes.{HasMade}
 use Rattle.mmu_core.specs.machine.Enabled.{mmu}
-use Rattle.mmu_core.specs.declared.claim.ClaimNext.{ClaimNext}
-use Rattle.mmu_core.specs.declared.claim.ClaimNext.TheVariants as claims
-use Rattle.mmu_core.specs.lines.ClaimSteps.{claim_next}
 use Rattle.mmu_core.specs.lines.FaultSteps.{allows_access, fault_next}
 use Rattle.mmu_core.specs.invariant.Laws.{IsSound}
 use Rattle.mmu_core.specs.machine.Machine.{May, Step, World, answered, hand_in, run}
 use Rattle.mmu_core.specs.machine.Outcomes.{place_after}
 use Rattle.mmu_core.specs.declared.outcome.Outcome.{Outcome}
 use Rattle.mmu_core.specs.declared.outcome.Outcome.TheVariants.{Goes, Ends}
-use Rattle.mmu_core.specs.lines.SetSlotSteps.{after_claim, set_slot_outcome}
 use Rattle.mmu_core.specs.machine.Steps.{first_place, outcome_at}
 use Rattle.mmu_laws.proofs.causes.Changes.{made_longer, made_now}
 use Rattle.mmu_laws.proofs.causes.EachLine.{IsStepAt, LineSights, LinesSee, each_line}

@@ -1,7 +1,6 @@
 -- Where a slot line is about to give the old slot set's page back, the page's role is cleared.
-use Rattle.std.proofs.Common.{◌≡◌, ◌≢◌, ◌⊎◌, inl, inr, ◌<◌, ℕ, List, refl, sym, subst, ap, ◌∙◌, ◌≤◌, arith}
-use Rattle.std.specs.Prelude.{Bool, true, false, ◌+◌, ◌==◌, if◌then◌else◌, nat_lt, Option, Some, None, is_some}
-use Rattle.core_views.specs.declared.answer.Answer.TheVariants.{Starved}
+use Rattle.std.proofs.Common.{◌≡◌, ◌≢◌, ◌⊎◌, inl, inr, ◌<◌, ℕ, List, refl, sym, subst, ap, ◌∙◌, arith}
+use Rattle.std.specs.Prelude.{Bool, true, false, ◌+◌, ◌==◌, nat_lt, Option, Some, None, is_some}
 use Rattle.core_views.specs.declared.kind.Kind.{Kind}
 use Rattle.core_views.specs.declared.kind.StepKind.TheVariants as kind
 use Rattle.core_views.specs.Kinds.{code_of}
@@ -24,8 +23,8 @@ use Rattle.spte_words.specs.declared.area.Area.TheVariants as area
 use Rattle.part_steps.specs.declared.part_step.PartStep.{PartStep}
 use Rattle.part_steps.specs.declared.part_step.PartStep.TheVariants as part
 use Rattle.part_steps.specs.declared.task.Task.{Task}
-use Rattle.part_steps.specs.PartTasks.{own_index, page_left, part_task, words_filled, table_page}
-use Rattle.part_steps.specs.PartHoldings.{next_watched, MayGiveOld}
+use Rattle.part_steps.specs.PartTasks.{own_index, page_left, part_task, words_filled}
+use Rattle.part_steps.specs.PartHoldings.{MayGiveOld}
 use Rattle.part_steps.specs.Tasks.{kind_of_task}
 use Rattle.part_steps.specs.TopicSteps.{topics_after}
 use Rattle.mmu_core.specs.declared.outcome.Outcome.TheVariants.{Goes}
@@ -35,12 +34,11 @@ use Rattle.mmu_core.specs.lines.AccessSteps.{touch_of}
 use Rattle.mmu_core.specs.machine.Enabled.{mmu}
 use Rattle.mmu_core.specs.lines.ClaimSteps.{claim_next}
 use Rattle.mmu_core.specs.invariant.Invariant.{Invariant, KnowsPart, UnderWay, LeavesPart}
-use Rattle.mmu_core.specs.lines.FaultSteps.{tries_page}
 use Rattle.mmu_core.specs.invariant.Laws.{IsSound}
 use Rattle.mmu_core.specs.machine.Machine.{May, Step, World, effect, hand_in, run}
 use Rattle.mmu_core.specs.machine.Outcomes.{place_after}
 use Rattle.mmu_core.specs.lines.PartAt.{task_at}
-use Rattle.mmu_core.specs.lines.SetSlotSteps.{after_claim, watch_next, set_slot_note, set_slot_outcome, set_slot_task, looked_at}
+use Rattle.mmu_core.specs.lines.SetSlotSteps.{after_claim, watch_next, set_slot_note, set_slot_outcome, set_slot_task}
 use Rattle.mmu_core.specs.machine.Steps.{has_line, line_at, place_at, task_of}
 use Rattle.mmu_core.specs.lines.SetSlotKnows.{SetSlotKnows}
 use Rattle.mmu_core.specs.invariant.TopicsInvariant.{TopicsInvariant}
@@ -49,8 +47,8 @@ use Rattle.mmu_laws.proofs.causes.Changes.{of_each_list}
 use Rattle.mmu_core.proofs.machine.Columns.{same_or, upd_other, upd_same}
 use Rattle.mmu_core.proofs.pages.OwnedBehind.{left_is}
 use Rattle.mmu_core.proofs.machine.PartStepping.{IsPart}
-use Rattle.mmu_core.proofs.words.PartWords.{HasOtherRole, left_elsewhere, role_stays, IsElsewhere}
-use Rattle.mmu_core.proofs.pages.PoolPages.{left_not_owned, one_leaver, left_no_table}
+use Rattle.mmu_core.proofs.words.PartWords.{HasOtherRole, left_elsewhere, role_stays}
+use Rattle.mmu_core.proofs.pages.PoolPages.{left_not_owned, one_leaver}
 use Rattle.mmu_core.proofs.slots.SettingHolds.{either_place, each_watch}
 use Rattle.mmu_core.proofs.start.Starts.{hand_is, start_good}
 use Rattle.mmu_core.proofs.lines.StepIn.{StepIn, Makes, Touches, step_in}

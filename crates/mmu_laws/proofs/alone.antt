@@ -2,6 +2,7 @@ pub mod AloneEnds
 pub mod AloneEnough
 pub mod AloneRuns
 pub mod AloneStep
+pub mod FaultComes
 pub mod FaultAlone
 pub mod FindAlone
 pub mod GoesAlone

@@ -13,9 +13,8 @@ use Rattle.core_views.specs.declared.trace.Command.TheVariants.{SetSlot}
 use Rattle.core_views.specs.Held.{Held}
 use Rattle.part_steps.specs.PartTasks.{part_kind}
 use Rattle.mmu_core.specs.alone.LineAlone.{line_waits}
-use Rattle.mmu_core.specs.lines.SetSlotSteps.{set_slot_outcome, set_slot_seen, set_slot_task, set_slot_note, set_slot_part}
-use Rattle.mmu_core.specs.machine.Steps.{has_line, outcome_at, place_at, task_at}
-use Rattle.part_steps.specs.Tasks.{kind_of_task}
+use Rattle.mmu_core.specs.lines.SetSlotSteps.{set_slot_outcome, set_slot_seen, set_slot_note, set_slot_part}
+use Rattle.mmu_core.specs.machine.Steps.{outcome_at, place_at}
 use Rattle.mmu_core.specs.lines.KnowsPart.{KnowsPart}
 use Rattle.mmu_core.specs.lines.PartWaits.{part_waits}
 use Rattle.mmu_core.specs.lines.Rests.{Rests}

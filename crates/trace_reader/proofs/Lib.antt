@@ -21,4 +21,5 @@ pub mod HeaderSaid
 pub mod HeaderRefused
 pub mod Checks
 pub mod InputLines
+pub mod InputHeads
 pub mod Input

@@ -2,7 +2,6 @@
 use Rattle.std.specs.Prelude.{◌≡◌, ◌+◌, ◌-◌, ◌<◌, ◌⊎◌, ℕ, suc, List, [], ◌∷◌, nat_lt, if◌then◌else◌}
 use Rattle.core_views.specs.declared.kind.Kind.{Kind}
 use Rattle.core_views.specs.declared.sizes.Sizes.{Sizes}
-use Rattle.core_views.specs.declared.trace.Until.TheVariants.{Turns}
 use Rattle.core_views.specs.Held.{Held}
 use Rattle.core_views.specs.Sizes.{actors_of}
 use Rattle.mmu_core.specs.machine.Enabled.{mmu}

@@ -38,10 +38,9 @@ use Rattle.mmu_core.specs.lines.AccessSteps.{access_part, touch_of}
 use Rattle.mmu_core.specs.lines.KnowsPart.{AccessKnows}
 use Rattle.part_steps.specs.PartBounds.{PartRests}
 use Rattle.part_steps.specs.PartTasks.{own_index}
-use Rattle.part_steps.specs.PartHoldings.{FoundSlot, IsFresh, LookedUp, MayEnter, next_watched, HasToFill, OwnsTable, OwnsSet, MayPublish}
+use Rattle.part_steps.specs.PartHoldings.{FoundSlot, IsFresh, LookedUp, MayEnter, next_watched}
 use Rattle.part_steps.specs.PartSteps.{GoesOnToWord, IsVcpu, PartNeeds}
-use Rattle.mmu_core.specs.lines.Rests.{AcceptsAt, RecordAccepts, Rests, RestsAt, RestsOn}
-use Rattle.mmu_core.specs.lines.SetSlotSteps.{set_slot_part}
+use Rattle.mmu_core.specs.lines.Rests.{AcceptsAt, Rests, RestsAt, RestsOn}
 use Rattle.part_steps.specs.SlotWords.{may_write, page_of}
 use Rattle.mmu_core.specs.machine.Steps.{line_at, place_at, task_at, task_of}
 use Rattle.part_steps.specs.Tasks.{map_of}

@@ -20,7 +20,6 @@ use Rattle.mmu_core.specs.lines.AccessSteps.{access_note, access_part, task_by, 
 use Rattle.mmu_core.specs.lines.PartAt.{note_at, task_at, touch_at, part_at}
 use Rattle.mmu_core.specs.lines.Rests.{RestsAt, RestsOn, TouchNeeds}
 use Rattle.mmu_core.proofs.lines.Forms.{RestsOnPart, other_rests}
-use Rattle.mmu_core.specs.lines.SetSlotSteps.{set_slot_note, set_slot_part}
 use Rattle.mmu_core.proofs.lines.UsedTranslations.{part_needs}
 
 pub data StepAt (command : Command) (h : Held) : Task → Type 0 where

@@ -28,10 +28,9 @@ use Rattle.part_steps.specs.declared.part_step.PartStep.{PartStep}
 use Rattle.mmu_core.specs.declared.claim.ClaimNext.{ClaimNext}
 use Rattle.mmu_core.specs.declared.share.ShareNext.{ShareNext}
 use Rattle.mmu_core.specs.declared.share.ShareNext.TheVariants as shares
-use Rattle.mmu_core.specs.lines.FaultKnows.{FaultKnows, is_trying}
+use Rattle.mmu_core.specs.lines.FaultKnows.{FaultKnows}
 use Rattle.mmu_core.specs.lines.FaultLeft.{check_left, entering_left, fault_left, next_left, table_left, walk_left}
-use Rattle.mmu_core.specs.lines.FaultSteps.{after_claim, after_share, allows_access, check_next, entry_word, fault_next, fault_part, find_next, share_next, share_part, snapshot_taken, walk_next, claim_next, tries_page, claim_left, share_left}
-use Rattle.part_steps.specs.declared.part_step.PartStep.TheVariants as part
+use Rattle.mmu_core.specs.lines.FaultSteps.{after_claim, after_share, allows_access, check_next, entry_word, fault_next, fault_part, find_next, share_next, share_part, snapshot_taken, walk_next, claim_left, share_left}
 use Rattle.mmu_core.specs.lines.PartWaits.{part_waits}
 use Rattle.part_steps.specs.PartBounds.{PartRests}
 use Rattle.part_steps.specs.PartTasks.{entry_index, link_written, page_owned, words_filled}
@@ -46,8 +45,6 @@ use Rattle.mmu_core.proofs.lines.ClaimMade as made
 use Rattle.mmu_core.proofs.lines.FaultKnown.{above_lowest}
 use Rattle.mmu_core.proofs.pages.Owned.{more_filled, table_owned}
 use Rattle.mmu_core.proofs.lines.ShareMade.{share_falls, share_made, share_left_after}
-use Rattle.mmu_core.proofs.lines.FaultSame.{not_not}
-use Rattle.mmu_core.proofs.lines.PartsWait.{share_waits}
 
 -- the search
 search_falls : (b : Bool) (z : Sizes) (u : Topics) (n : ℕ) → (u.search.id == 32) ≡ b → (b ≡ false → 4 * (31 - u.search.id) + look_left u.search.next < n) → fault_left (if b then End Mmio else Find true) z u < entering_left z + 7 + n

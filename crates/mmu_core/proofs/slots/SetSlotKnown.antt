@@ -35,7 +35,7 @@ use Rattle.part_steps.specs.SetWords.{set_role, set_word}
 use Rattle.part_steps.specs.StayTopics.{is_loose, is_outside, is_section, kept_search, kept_walk, let_go, unchecked}
 use Rattle.part_steps.specs.PageTopics.{filled_more}
 use Rattle.part_steps.specs.ControlTopics.{count_checked}
-use Rattle.mmu_core.proofs.lines.ClaimMade.{ClaimMade, claim_made, claim_needs, page_won}
+use Rattle.mmu_core.proofs.lines.ClaimMade.{ClaimMade, claim_made, claim_needs}
 use Rattle.mmu_core.proofs.lines.ClaimMade as made
 use Rattle.mmu_core.proofs.machine.HandWith.{hand_with}
 use Rattle.mmu_core.proofs.lines.WatchMade.{WatchMade, never_own, watch_comes, watch_made}

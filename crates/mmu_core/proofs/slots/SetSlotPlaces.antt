@@ -1,14 +1,12 @@
 -- A slot line at its places: where it goes on to, what it has loaded, what the manager's record accepts, and how many steps it has left.
 use Rattle.std.proofs.Common.{◌≡◌, ◌≤◌, ℕ, ◌∙◌, ◌+◌, arith}
 use Rattle.std.proofs.Props.{props}
-use Rattle.std.specs.Prelude.{Bool, true, false, ◌==◌, if◌then◌else◌, nat_lt, Option, Some, None}
-use Rattle.core_views.specs.declared.answer.Answer.TheVariants.{Starved}
+use Rattle.std.specs.Prelude.{Option, Some, None}
 use Rattle.core_views.specs.declared.answer.Refusal.{Refusal}
 use Rattle.core_views.specs.declared.place.Place.TheVariants as place
 use Rattle.core_views.specs.declared.place.SetSlotPlace.{SetSlotPlace}
 use Rattle.core_views.specs.declared.place.SetSlotPlace.TheVariants.{Refuse, Claim, Publish, Release, Watch, Clear, Give}
 use Rattle.core_views.specs.declared.sizes.Sizes.{Sizes}
-use Rattle.core_views.specs.declared.topics.MapClaim.{MapClaim}
 use Rattle.core_views.specs.declared.topics.Topics.{Topics}
 use Rattle.core_views.specs.declared.trace.Command.TheVariants.{SetSlot}
 use Rattle.core_views.specs.declared.trace.Slot.{Slot as SlotOf}
@@ -17,7 +15,7 @@ use Rattle.core_views.specs.Refusals.{set_refusal}
 use Rattle.core_views.specs.Sizes.{actors_of}
 use Rattle.core_views.specs.SlotSets.{MemorySlots}
 use Rattle.spte_words.specs.Areas.{words_of_bits}
-use Rattle.mmu_core.specs.declared.outcome.Outcome.TheVariants.{Goes, Ends}
+use Rattle.mmu_core.specs.declared.outcome.Outcome.TheVariants.{Goes}
 use Rattle.mmu_core.specs.invariant.LoadsPart.{FillsSet, Holds, SetSlotHolds}
 use Rattle.mmu_core.specs.lines.Bounds.{set_slot_left}
 use Rattle.mmu_core.specs.lines.Rests.{RecordAccepts}

@@ -9,7 +9,7 @@ use Rattle.core_views.specs.declared.place.FaultPlace.TheVariants.{Begin, Snapsh
 use Rattle.core_views.specs.declared.sizes.Sizes.{Sizes}
 use Rattle.core_views.specs.declared.topics.SlotSearch.{SlotSearch}
 use Rattle.core_views.specs.declared.topics.Topics.{Topics}
-use Rattle.spte_words.specs.Areas.{place, words_of_bits}
+use Rattle.spte_words.specs.Areas.{words_of_bits}
 use Rattle.part_steps.specs.PartTasks.{words_filled}
 use Rattle.mmu_core.specs.lines.ClaimSteps.{claim_left}
 use Rattle.mmu_core.specs.lines.ShareSteps.{share_left}

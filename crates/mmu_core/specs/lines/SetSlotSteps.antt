@@ -1,7 +1,7 @@
 -- The order of steps of a slot setting (api.rst, KVM_SET_USER_MEMORY_REGION; kvm_main.c, `kvm_swap_active_memslots`): a refused one makes
 -- one load of the sequence. Else a page is claimed and filled with the new slot set; under the lock alone, with no invalidation open, it is
 -- published in place of the old one; and behind a watch of all other actors the old page is given back.
-use Rattle.std.specs.Prelude.{ℕ, Bool, true, false, List, [], ◌∷◌, Option, Some, None, ◌==◌, not, nat_lt, if◌then◌else◌, ◌+◌}
+use Rattle.std.specs.Prelude.{ℕ, true, false, List, [], ◌∷◌, Option, Some, None, ◌==◌, nat_lt, if◌then◌else◌, ◌+◌}
 use Rattle.core_views.specs.declared.answer.Answer.TheVariants.{Done, Refused, Starved}
 use Rattle.core_views.specs.declared.answer.Refusal.{Refusal}
 use Rattle.core_views.specs.declared.event.EventKind.{EventKind}
@@ -10,9 +10,6 @@ use Rattle.core_views.specs.declared.hand.Seen.{Seen}
 use Rattle.core_views.specs.declared.place.SetSlotPlace.{SetSlotPlace}
 use Rattle.core_views.specs.declared.place.SetSlotPlace.TheVariants.{Refuse, Claim, Fill, Role, Exclude, Count, Close, Publish, Release, Watch, Clear, Give}
 use Rattle.core_views.specs.declared.place.Place.TheVariants.{SetSlot}
-use Rattle.core_views.specs.declared.topics.Topics.{Topics}
-use Rattle.core_views.specs.declared.sizes.Sizes.{Sizes}
-use Rattle.core_views.specs.declared.topics.MapClaim.{MapClaim}
 use Rattle.core_views.specs.declared.trace.Slot.{Slot}
 use Rattle.core_views.specs.Held.{Held}
 use Rattle.core_views.specs.Refusals.{after_set, is_logged}
@@ -35,7 +32,6 @@ use Rattle.mmu_core.specs.declared.watch.WatchNext.{WatchNext}
 use Rattle.mmu_core.specs.declared.watch.WatchNext.TheVariants as watches
 pub use Rattle.mmu_core.specs.lines.WatchSteps.{looked_at, watch_next}
 use Rattle.part_steps.specs.Tasks.{map_of}
-use Rattle.part_steps.specs.ControlTopics.{in_section}
 
 -- where a setting begins
 abbrev pub set_slot_first : Option Refusal → SetSlotPlace

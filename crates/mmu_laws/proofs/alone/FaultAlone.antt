@@ -1,23 +1,18 @@
 -- A fault that runs while all other actors rest never waits and never begins anew.
-use Rattle.std.proofs.Common.{◌≡◌, ◌≢◌, inl, inr, ◌+◌, ◌*◌, ◌/◌, ◌^◌, ◌<◌, ◌≤◌, ℕ, refl, sym, subst, ap, ◌∙◌, arith}
+use Rattle.std.proofs.Common.{◌≡◌, ◌≢◌, inl, inr, ◌+◌, ◌*◌, ◌/◌, ◌^◌, ◌≤◌, ℕ, refl, sym, subst, ap, ◌∙◌, arith}
 use Rattle.std.specs.Prelude.{Bool, true, false, ◌==◌, ◌&&◌, nat_lt, not, if◌then◌else◌, Option, Some, None}
-use Rattle.std.proofs.lemmas.Bool.Decides.{nat_tests}
 use Rattle.core_views.specs.declared.place.Cause.TheVariants.{Entry, Moved}
 use Rattle.core_views.specs.declared.place.CheckStage.TheVariants as stage
-use Rattle.core_views.specs.declared.place.FaultEnd.TheVariants.{Installed, HostFault, Retry}
+use Rattle.core_views.specs.declared.place.FaultEnd.TheVariants.{Retry}
 use Rattle.core_views.specs.declared.place.FaultPlace.{FaultPlace}
 use Rattle.core_views.specs.declared.place.FaultPlace.TheVariants.{Begin, Snapshot, Find, Host, Share, Check, Walk, Claim, Fill, Role, Link, Give, Leaf, Unshare, End}
 use Rattle.core_views.specs.declared.sizes.Sizes.{Sizes}
 use Rattle.core_views.specs.declared.topics.Hold.{Hold}
-use Rattle.core_views.specs.declared.topics.Hold.TheVariants.{Loose}
 use Rattle.core_views.specs.declared.topics.HostLook.{HostLook}
-use Rattle.core_views.specs.declared.topics.MapClaim.{MapClaim}
-use Rattle.core_views.specs.declared.topics.OwnedPage.{OwnedPage}
 use Rattle.core_views.specs.declared.topics.Topics.{Topics}
 use Rattle.core_views.specs.Held.{Held}
 use Rattle.spte_words.specs.declared.area.Area.{Area}
 use Rattle.spte_words.specs.declared.area.Area.TheVariants as area
-use Rattle.spte_words.specs.declared.spte_kind.SpteKind.{SpteKind}
 use Rattle.spte_words.specs.declared.spte_kind.SpteKind.TheVariants as entry_kind
 use Rattle.spte_words.specs.Areas.{pool_index}
 use Rattle.spte_words.specs.Entries.{kind_of, level_span}
@@ -28,31 +23,25 @@ use Rattle.part_steps.specs.declared.part_step.PartStep.{PartStep}
 use Rattle.part_steps.specs.declared.part_step.PartStep.TheVariants as part
 use Rattle.mmu_core.specs.machine.Enabled.{mmu}
 use Rattle.mmu_core.specs.declared.claim.ClaimNext.{ClaimNext}
-use Rattle.mmu_core.specs.declared.claim.ClaimNext.TheVariants as claims
-use Rattle.mmu_core.specs.declared.share.ShareNext.{ShareNext}
-use Rattle.mmu_core.specs.declared.share.ShareNext.TheVariants as shares
-use Rattle.mmu_core.specs.alone.FaultAlone.{EntryStands, FaultAlone, GoesThrough, LeadsTo, LeadsToLeaf, RunsAlone}
+use Rattle.mmu_core.specs.alone.FaultAlone.{EntryStands, GoesThrough, LeadsTo, LeadsToLeaf, RunsAlone}
 use Rattle.mmu_core.specs.lines.FaultKnows.{Entering}
-use Rattle.mmu_core.specs.lines.FaultSteps.{allows_access, claim_next, entry_word, is_owing, map_word, share_next, share_part, snapshot_taken, tries_page, walk_next, after_claim, after_share, claim_part}
+use Rattle.mmu_core.specs.lines.FaultSteps.{allows_access, claim_next, entry_word, is_owing, share_next, share_part, snapshot_taken, claim_part}
 use Rattle.mmu_core.specs.machine.Machine.{World, hand_in}
 use Rattle.part_steps.specs.PartTasks.{entry_index, leaf_written, page_owned, part_task, table_page, word_looked, words_filled}
 use Rattle.part_steps.specs.PartHoldings.{IsOver, LookedUp, SawEntry, HasToFill}
 use Rattle.part_steps.specs.PartTopics.{part_topics}
 use Rattle.part_steps.specs.SlotWords.{field_number, leaf_of, may_write, page_of}
 use Rattle.part_steps.specs.StayTopics.{may_search}
-use Rattle.part_steps.specs.WalkTopics.{gone_down, linked_page}
 use Rattle.mmu_core.specs.invariant.TreePart.{EntryPart, IsLeafAt, TreePart, at, stands}
 use Rattle.mmu_core.proofs.pages.TreePlaces.{all_reached, link_stands}
 use Rattle.mmu_core.specs.machine.View.{answer_in, upd, view, word_in, words_after}
 use Rattle.mmu_core.proofs.invariant.AloneLaws.{lock_free}
-use Rattle.mmu_laws.proofs.alone.ClaimAlone.{ClaimComes, claim_comes, claim_goes}
+use Rattle.mmu_laws.proofs.alone.ClaimAlone.{claim_comes, claim_goes}
 use Rattle.mmu_core.proofs.lines.ClaimMade.{ClaimMade, claim_made}
 use Rattle.mmu_core.proofs.lines.ClaimMade as made
 use Rattle.mmu_core.proofs.machine.Columns.{upd_same}
 use Rattle.mmu_core.proofs.lines.FaultKnown.{allowed_leaf}
-use Rattle.mmu_core.proofs.lines.FaultSame.{both}
 use Rattle.mmu_core.proofs.lines.PartsWait.{share_waits}
-use Rattle.mmu_core.specs.lines.PartWaits.{part_waits}
 use Rattle.mmu_laws.proofs.alone.FindAlone.{find_goes}
 use Rattle.mmu_laws.proofs.leaves.LeadsDown.{leads_same}
 use Rattle.mmu_core.proofs.slots.LiveStays.{LiveStays}
@@ -63,81 +52,7 @@ use Rattle.mmu_core.proofs.words.SlotFields.{is_number}
 use Rattle.mmu_core.proofs.pages.TreeKept.{leaf_is}
 use Rattle.mmu_core.proofs.pages.TreeStored.{entry_stored}
 use Rattle.core_views.specs.declared.topics.Stay.{Stay}
-
--- ---- tests
-
-is_it : (v n : ℕ) → v ≡ n → (v == n) ≡ true
-is_it v n e = grind (arith, nat_tests)
-
-module _ (root set : ℕ) (map pool : ℕ → ℕ) (gfn : ℕ) (write : Bool) where
-  -- ---- the host word, the lock and the check
-
-  host_alone : (b : Bool) (t : Topics) → t.hold ≡ Loose → FaultAlone (if b then End HostFault else Share) root set map pool gfn write t
-  host_alone true t loose = tt
-  host_alone false t loose = loose
-
-  share_alone : (next : ShareNext) (u : Topics) → next ≡ shares.Shares → FaultAlone (after_share next) root set map pool gfn write u
-  share_alone shares.Shares u is = tt
-  share_alone shares.Tries u is = absurd (cc is)
-
-  count_alone : (v : ℕ) (u : Topics) → v ≡ 0 → FaultAlone (if v == 0 then Check stage.Seq else Check stage.Start) root set map pool gfn write u
-  count_alone v u none = subst (λ b. FaultAlone (if b then Check stage.Seq else Check stage.Start) root set map pool gfn write u) (sym (is_it v 0 none)) tt
-
-  seq_alone : (snapshot : Option ℕ) (v : ℕ) (end_ : FaultPlace) (u : Topics) → v ≡ 0 → ((s : ℕ) → snapshot ≡ Some s → s ≤ v) → FaultAlone (if v == snapshot_taken snapshot then Walk false else end_) root set map pool gfn write u
-  seq_alone None v end_ u none most = subst (λ b. FaultAlone (if b then Walk false else end_) root set map pool gfn write u) (sym (is_it v 0 none)) tt
-  seq_alone (Some s) v end_ u none most =
-      subst (λ b. FaultAlone (if b then Walk false else end_) root set map pool gfn write u) (sym (is_it v s (let le = most s refl in omega (arith, le, none)))) tt
-
-  -- ---- the walk
-
-  -- links lead to an entry of the walk's table, where this is of the lowest level
-  installed : (page level e : ℕ) → level ≡ 1 → (LeadsTo pool 1 page gfn e → LeadsTo pool 4 root gfn e) → pool (pool_index page (entry_index gfn level)) ≡ e → kind_of 1 e ≡ entry_kind.Leaf → allows_access write e ≡ true
-      → LeadsToLeaf pool 4 root gfn write
-  installed page level e low above is leaf allows = record { entry = e; leads = above (subst (λ l. pool (pool_index page (entry_index gfn l)) ≡ e) low is); leaf = leaf; allows = allows }
-
-  walk_leaf : (lowest allows : Bool) (z : Sizes) (t : Topics) (v : ℕ) (end_ : FaultPlace) → (t.walk.level == 1) ≡ lowest → allows_access write v ≡ allows → kind_of t.walk.level v ≡ entry_kind.Leaf → pool (pool_index (table_page t.walk) (entry_index gfn t.walk.level)) ≡ v
-      → (t.walk.level ≡ 1 → LeadsTo pool 1 (table_page t.walk) gfn v → LeadsTo pool 4 root gfn v) → (kind_of t.walk.level v ≡ entry_kind.Leaf → t.walk.level ≡ 1)
-      → FaultAlone (if lowest then (if allows then Unshare Installed else Leaf) else end_) root set map pool gfn write (record t { walk = gone_down None t.walk (entry_index gfn t.walk.level) v })
-  walk_leaf true true z t v end_ low may leaf is above only =
-      let one : t.walk.level ≡ 1 = grind (arith, nat_tests) in
-      installed (table_page t.walk) t.walk.level v one (above one) is (subst (λ l. kind_of l v ≡ entry_kind.Leaf) one leaf) may
-  walk_leaf true false z t v end_ low may leaf is above only = is
-  walk_leaf false allows z t v end_ low may leaf is above only = let one = only leaf in absurd (grind (arith, nat_tests))
-
-  walk_none : (lowest : Bool) (t : Topics) (v : ℕ) → pool (pool_index (table_page t.walk) (entry_index gfn t.walk.level)) ≡ v
-      → FaultAlone (if lowest then Leaf else Claim false) root set map pool gfn write (record t { walk = gone_down None t.walk (entry_index gfn t.walk.level) v })
-  walk_none true t v is = is
-  walk_none false t v is = (is, λ b. absurd (cc b), λ b. absurd (cc b))
-
-  walk_alone : (k : SpteKind) (z : Sizes) (t : Topics) (v : ℕ) → kind_of t.walk.level v ≡ k → pool (pool_index (table_page t.walk) (entry_index gfn t.walk.level)) ≡ v
-      → (t.walk.level ≡ 1 → LeadsTo pool 1 (table_page t.walk) gfn v → LeadsTo pool 4 root gfn v)
-      → (kind_of t.walk.level v ≡ entry_kind.Leaf → t.walk.level ≡ 1) → (kind_of t.walk.level v ≢ entry_kind.Frozen)
-      → FaultAlone (walk_next k z gfn write t.walk v) root set map pool gfn write (record t { walk = gone_down (linked_page k) t.walk (entry_index gfn t.walk.level) v })
-  walk_alone (entry_kind.Table page) z t v is here above only never = tt
-  walk_alone entry_kind.Leaf z t v is here above only never = walk_leaf (t.walk.level == 1) (allows_access write v) z t v _ refl refl is here above only
-  walk_alone entry_kind.Absent z t v is here above only never = walk_none (t.walk.level == 1) t v here
-  walk_alone entry_kind.Frozen z t v is here above only never = absurd (never is)
-
-  -- ---- the claim
-
-  claim_alone : (next : ClaimNext) (z : Sizes) (u : Topics) → EntryStands pool gfn u → ClaimComes next z map u → FaultAlone (after_claim next) root set map pool gfn write u
-  claim_alone claims.Goes z u still comes = (still, comes.0, λ e. comes.1)
-  claim_alone claims.Got z u still comes = still
-  claim_alone claims.Empty z u still comes = comes.0
-
-  -- ---- the stores
-
-  fill_alone : (few : Bool) (u : Topics) → EntryStands pool gfn u → FaultAlone (if few then Fill else Role) root set map pool gfn write u
-  fill_alone true u stands = stands
-  fill_alone false u stands = stands
-
-  link_alone : (won : Bool) (end_ : FaultPlace) (u : Topics) → won ≡ true → FaultAlone (if won then Walk true else end_) root set map pool gfn write u
-  link_alone true end_ u is = tt
-  link_alone false end_ u is = absurd (cc is)
-
-  leaf_alone : (won : Bool) (end_ : FaultPlace) (u : Topics) → won ≡ true → LeadsToLeaf pool 4 root gfn write → FaultAlone (if won then Unshare Installed else end_) root set map pool gfn write u
-  leaf_alone true end_ u is leads = leads
-  leaf_alone false end_ u is leads = absurd (cc is)
+use Rattle.mmu_laws.proofs.alone.FaultComes.{host_alone, share_alone, count_alone, seq_alone, installed, walk_alone, claim_alone, fill_alone, link_alone, leaf_alone, is_it}
 
 -- A step of the claim leaves the entry.
 entry_still : (z : Sizes) (gfn : ℕ) (begun : Bool) (t : Topics) (v : ℕ) (words : Area → ℕ → ℕ) (a note : ℕ) (step : PartStep) (next : ClaimNext) (u : Topics) → ClaimMade z begun t v step next u

@@ -1,6 +1,6 @@
 -- What a step of a fault has seen that waits.
 use Rattle.std.proofs.Common.{◌≡◌, ◌<◌, ℕ, refl, ◌∙◌, arith}
-use Rattle.std.specs.Prelude.{Bool, true, false, ◌&&◌, nat_lt, not, if◌then◌else◌}
+use Rattle.std.specs.Prelude.{Bool, true, false, nat_lt, if◌then◌else◌}
 use Rattle.std.proofs.lemmas.Bool.Decides.{nat_tests}
 use Rattle.core_views.specs.declared.place.CheckStage.TheVariants as stage
 use Rattle.core_views.specs.declared.place.FaultPlace.{FaultPlace}

@@ -35,8 +35,7 @@ use Rattle.part_steps.specs.PartTasks.{entry_index, leaf_written, part_task, tab
 use Rattle.part_steps.specs.PartTopics.{exchanged, part_topics}
 use Rattle.part_steps.specs.SlotWords.{may_write, page_of}
 use Rattle.part_steps.specs.WalkTopics.{gone_down, linked_page, unless_linked}
-use Rattle.part_steps.specs.PageTopics.{is_won, searched}
-use Rattle.part_steps.specs.ControlTopics.{has_writer}
+use Rattle.part_steps.specs.PageTopics.{searched}
 use Rattle.mmu_laws.specs.turns.Removal.{ends_installed, has_installed}
 use Rattle.mmu_core.specs.machine.View.{answer_in, upd, words_after}
 use Rattle.mmu_core.proofs.machine.Columns.{upd_same}

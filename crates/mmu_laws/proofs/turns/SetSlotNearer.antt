@@ -1,10 +1,9 @@
 -- Each step of a slot setting that doesn't wait leaves it fewer steps, beside other actors too.
-use Rattle.std.proofs.Common.{◌≡◌, ◌+◌, ◌-◌, ◌<◌, ℕ, refl, arith, sym, subst, ◌∙◌}
-use Rattle.std.specs.Prelude.{Bool, true, false, ◌==◌, ◌&&◌, nat_lt, not, if◌then◌else◌, Some, None, Option}
-use Rattle.core_views.specs.declared.answer.Answer.TheVariants.{Starved}
+use Rattle.std.proofs.Common.{◌≡◌, ◌+◌, ◌-◌, ◌<◌, ℕ, arith}
+use Rattle.std.specs.Prelude.{Bool, true, false, ◌==◌, nat_lt, not, if◌then◌else◌}
 use Rattle.core_views.specs.declared.place.Place.TheVariants as place
 use Rattle.core_views.specs.declared.place.SetSlotPlace.{SetSlotPlace}
-use Rattle.core_views.specs.declared.place.SetSlotPlace.TheVariants.{Refuse, Claim, Fill, Role, Exclude, Count, Close, Publish, Watch, Clear, Give}
+use Rattle.core_views.specs.declared.place.SetSlotPlace.TheVariants.{Refuse, Claim, Fill, Role, Exclude, Count, Close, Publish, Watch, Give}
 use Rattle.core_views.specs.declared.sizes.Sizes.{Sizes}
 use Rattle.core_views.specs.declared.topics.Topics.{Topics}
 use Rattle.core_views.specs.declared.trace.Slot.{Slot}
@@ -19,7 +18,6 @@ use Rattle.mmu_core.specs.declared.watch.WatchNext.{WatchNext}
 use Rattle.mmu_core.specs.declared.watch.WatchNext.TheVariants as watches
 use Rattle.mmu_core.specs.lines.Bounds.{set_slot_left, steps_left}
 use Rattle.mmu_core.specs.lines.ClaimSteps.{claim_left, claim_next, claim_part}
-use Rattle.mmu_core.specs.lines.FaultSteps.{map_word, tries_page}
 use Rattle.mmu_core.specs.lines.PartWaits.{part_waits}
 use Rattle.part_steps.specs.PartBounds.{PartRests}
 use Rattle.part_steps.specs.PartTasks.{own_index, words_filled}
@@ -27,8 +25,7 @@ use Rattle.part_steps.specs.PartHoldings.{HasToFill}
 use Rattle.part_steps.specs.PartTopics.{part_topics}
 use Rattle.mmu_core.specs.lines.SetSlotKnows.{SetSlotKnows}
 use Rattle.mmu_core.specs.lines.SetSlotSteps.{looked_at, set_slot_outcome, set_slot_part, after_claim, after_watch, watch_next}
-use Rattle.part_steps.specs.PageTopics.{filled_more, is_won}
-use Rattle.part_steps.specs.ControlTopics.{in_section}
+use Rattle.part_steps.specs.PageTopics.{filled_more}
 use Rattle.mmu_core.proofs.pages.Owned.{more_filled}
 use Rattle.mmu_core.proofs.lines.ClaimMade.{claim_falls, claim_made, claim_left_after, word_there}
 use Rattle.mmu_core.proofs.lines.WatchMade.{watch_left_after, watch_falls, watch_made}

@@ -4,8 +4,6 @@ use Rattle.std.specs.Prelude.{true}
 use Rattle.core_views.specs.Held.{Held}
 use Rattle.mmu_core.specs.lines.Bounds.{most_steps}
 use Rattle.mmu_core.specs.machine.Enabled.{mmu}
-use Rattle.mmu_core.specs.lines.FaultLeft.{check_left, fault_left, find_left, table_left}
-use Rattle.mmu_core.specs.lines.FaultSteps.{claim_left, map_word, share_left, tries_page}
 use Rattle.mmu_core.specs.alone.LineAlone.{hand_left}
 use Rattle.mmu_core.specs.machine.Machine.{World, hand_in}
 use Rattle.part_steps.specs.PartBounds.{PartRests}

@@ -41,7 +41,6 @@ use Rattle.mmu_core.specs.machine.Steps.{delays_at, first_place, has_line, line_
 use Rattle.mmu_core.specs.machine.Outcomes.{place_after}
 use Rattle.mmu_laws.specs.turns.Removal.{WalksInstalled}
 use Rattle.mmu_laws.specs.turns.TurnLaws.{begins_anew}
-use Rattle.mmu_core.specs.machine.Turns.{line_of, outcome_of}
 use Rattle.mmu_core.specs.machine.View.{View, answer_in, hand_after, view, word_in}
 use Rattle.mmu_laws.proofs.alone.AloneRuns.{standing_left}
 use Rattle.mmu_laws.proofs.alone.AloneStep.{is_leaf_here}
