@@ -41,8 +41,8 @@ ghost use Rattle.core_theorem.specs.Walks.{WalksHoldTables};
 /// word of the pool's map was found with no page free since the line began; `delays`: so
 /// it is with each step that is counted as a delay of its line, since that line began.
 /// `at_start`, `between_lines`: what a step waits for was seen since any moment at which
-/// the actor had seen nothing, as at the start and between its lines (tdp_mmu.c;
-/// locking.rst; mmu.rst).
+/// the actor had seen nothing, as at the start and, of an actor that has a line left,
+/// between its lines (tdp_mmu.c; locking.rst; mmu.rst).
 ///
 /// `counts`, `line_turns`: a line makes at most 8,192 steps, one for each pool page
 /// and one for each frame up to the end of its first delay, as many from there to the

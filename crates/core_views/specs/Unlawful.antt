@@ -50,9 +50,16 @@ outside_line = access_line 3 0 4 0 Read
 abbrev pub OutsideReachesNone : Type 0
 OutsideReachesNone = IsUnlawful outside_line (LookedAtPause ∷ LookedAtSlots ∷ Accessed 4 0 Read 4 0 ∷ []) (Reached 4 0)
 
--- It has seen no page, and so can't be given up for want of a pool page.
+-- The slots give it no page, and so it can't be given up for want of a pool page, whatever it has looked at.
 abbrev pub OutsideCannotStarve : Type 0
-OutsideCannotStarve = IsUnlawful outside_line (LookedAtPause ∷ LookedAtSlots ∷ Exited Starved ∷ []) Starved
+OutsideCannotStarve = IsUnlawful outside_line (LookedAtPause ∷ LookedAtSlots ∷ LookedAtHost 4 ∷ Exited Starved ∷ []) Starved
+
+-- Inside a slot it can't before it has looked at the pause, nor before it has looked at its page of the host.
+abbrev pub StarvedLooksAtPause : Type 0
+StarvedLooksAtPause = IsUnlawful inside_line (LookedAtSlots ∷ LookedAtHost 65 ∷ Exited Starved ∷ []) Starved
+
+abbrev pub StarvedLooksAtHost : Type 0
+StarvedLooksAtHost = IsUnlawful inside_line (LookedAtPause ∷ LookedAtSlots ∷ Exited Starved ∷ []) Starved
 
 -- Nor does it leave the guest before it has looked at the pause.
 abbrev pub ExitLooksAtPause : Type 0

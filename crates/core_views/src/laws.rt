@@ -1,6 +1,6 @@
 ghost use Rattle.core_views.specs.Laws.{FlatIsLawful, FlatIsWhole, FlatStandsAlone, FlatPrints, AloneIsFlat, AloneAnswersAsFlat, AloneIsWhole};
 ghost use Rattle.core_views.specs.Unlawful.{AccessLooksAtPause, AccessReachesItsFrame, ExitLooksAtPause};
-ghost use Rattle.core_views.specs.Unlawful.{OutsideCannotStarve, OutsideReachesNone, OverlapCannotStarve};
+ghost use Rattle.core_views.specs.Unlawful.{OutsideCannotStarve, OutsideReachesNone, OverlapCannotStarve, StarvedLooksAtHost, StarvedLooksAtPause};
 
 /// Laws about the definitions alone: the flat history of every list of lines
 /// is lawful, answers each line once, in its actor's order, and is made of
@@ -25,11 +25,14 @@ pub fn alone_is_flat()
 
 /// A law about closed histories that are not lawful: a slot line that is to be
 /// refused can't be given up for want of a pool page, nor can an access outside
-/// every slot. An access that reaches a frame or leaves the guest has looked at the
-/// pause, and it reaches the frame that slots and host name, or none.
+/// every slot, nor one that hasn't looked at its page of the host. An access that
+/// reaches a frame, leaves the guest or is given up has looked at the pause, and it
+/// reaches the frame that slots and host name, or none.
 pub fn unlawful_histories_are_refused()
     ensures starved { OverlapCannotStarve }
     ensures no_page { OutsideCannotStarve }
+    ensures unpaused { StarvedLooksAtPause }
+    ensures no_host { StarvedLooksAtHost }
     ensures pause { AccessLooksAtPause }
     ensures frame { AccessReachesItsFrame }
     ensures outside { OutsideReachesNone }

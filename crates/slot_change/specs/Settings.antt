@@ -26,7 +26,7 @@ abbrev pub ToldWay : Option Seen → Bool → Seen → Type 0
 ToldWay (Some seen) waits way = (waits ≡ true) × (seen ≡ way)
 ToldWay None waits way = waits ≡ false
 
--- The step of the place was made, of which this was found (a fill: what it stored), and what is in its way is told.
+-- The step of the place was made, of which this was found (a fill, or a role: what it stored), and what is in its way is told.
 pub record MakesStep (way : Option Seen) (p : SetSlotPlace) (job : SlotJob) (note actor : ℕ) (h g : Held) (told tells : Told) : Type 0 where
   pub found : ℕ
   pub made : MadePart (set_slot_part p h job.id job.slot) note found actor h g told tells

@@ -1,4 +1,5 @@
--- A line beside other actors, which stand anywhere in their lines: its turns come to an end between its waits and its new beginnings.
+-- A line beside other actors, which stand anywhere in their lines: its turns come to an end between its delays: its waits, its new
+-- beginnings, and its stays that miss.
 use Rattle.std.specs.Prelude.{◌≡◌, ◌⊎◌, ◌+◌, ◌<◌, ◌≤◌, ℕ, Bool, true, false, List, [], ◌∷◌, ◌++◌, length}
 use Rattle.core_views.specs.declared.kind.Kind.{Kind}
 use Rattle.core_views.specs.declared.place.Place.{Place}

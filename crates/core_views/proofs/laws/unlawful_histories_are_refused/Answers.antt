@@ -15,7 +15,13 @@ no_page : (slots noted : Slots) (gfn page : ℕ) (op : Op) → page_behind slots
 no_page slots noted gfn page op none is behind = let same : slots ≡ noted = same_Some slots noted is in let other = sym none ∙ ap (λ (xs : Slots). page_behind xs gfn op) same ∙ behind in absurd (cc other)
 
 pub returns-clause-no_page : goal.returns-clause-no_page
-returns-clause-no_page c lawful = let saw = lawful.1.1.1.1.1.1.0.1.1 in no_page _ saw.slots 4 saw.page Read refl saw.noted saw.behind
+returns-clause-no_page c lawful = let saw = lawful.1.1.1.1.1.1.1.0.1.1 in no_page _ saw.slots 4 saw.page Read refl saw.noted saw.behind
+
+pub returns-clause-unpaused : goal.returns-clause-unpaused
+returns-clause-unpaused c lawful = let saw = lawful.1.1.1.1.1.1.0.1.1 in absurd (cc saw.runs)
+
+pub returns-clause-no_host : goal.returns-clause-no_host
+returns-clause-no_host c lawful = let saw = lawful.1.1.1.1.1.1.0.1.1 in absurd (cc saw.looked)
 
 pub returns-clause-pause : goal.returns-clause-pause
 returns-clause-pause c lawful = absurd (cc lawful.1.1.1.1.1.1.0.2)
