@@ -17,13 +17,14 @@ use Rattle.part_steps.specs.declared.part_step.PartStep.{PartStep}
 use Rattle.step_seats.specs.PartTurns.{MadePart}
 use Rattle.step_seats.proofs.AloneTold.{share_free}
 use Rattle.step_seats.proofs.Where.{after_step, only}
-use Rattle.mmu_lock.specs.Locking.{holding, shared_step, tries_left}
+use Rattle.mmu_lock.specs.Locking.{holding}
+use Rattle.mmu_core.specs.lines.ShareSteps.{share_left, share_part}
 
 -- Who isn't owing wants to share, and holds nothing of the lock.
-pub wants_share : (h : Held) (note : ℕ) → ((w : ℕ) → h.topics.hold ≡ Owing w → ⊥) → MayMake (shared_step h.topics.hold) note h → (shared_step h.topics.hold ≡ Share) × (h.topics.hold ≡ Loose)
+pub wants_share : (h : Held) (note : ℕ) → ((w : ℕ) → h.topics.hold ≡ Owing w → ⊥) → MayMake (share_part h.topics.hold) note h → (share_part h.topics.hold ≡ Share) × (h.topics.hold ≡ Loose)
 wants_share h note never may = by h.topics.hold refl may.needs
   where
-    by : (x : Hold) → h.topics.hold ≡ x → PartNeeds (shared_step x) h → (shared_step x ≡ Share) × (h.topics.hold ≡ Loose)
+    by : (x : Hold) → h.topics.hold ≡ x → PartNeeds (share_part x) h → (share_part x ≡ Share) × (h.topics.hold ≡ Loose)
     by Loose is needs = (refl, needs)
     by Shared is needs = (refl, needs)
     by Exclusive is needs = (refl, needs)
@@ -46,7 +47,7 @@ pub not_free : (n : ℕ) → has_writer n ≡ true → n ≡ 0 → ⊥
 not_free n seen is = let none : has_writer n ≡ false = ap has_writer is in cc (seen, none)
 
 -- Who has yet to take itself out has one turn left.
-pub fewer_left : (before after : Hold) (word : ℕ) → before ≡ Loose → after ≡ Owing word → tries_left after < tries_left before
+pub fewer_left : (before after : Hold) (word : ℕ) → before ≡ Loose → after ≡ Owing word → share_left after < share_left before
 fewer_left before after word loose owes = rw (loose, owes) (omega arith)
 
 -- Where the others hold nothing, who shares the lock finds it free.

@@ -4,18 +4,13 @@ use Rattle.core_views.specs.declared.topics.Hold.{Hold}
 use Rattle.core_views.specs.declared.topics.Hold.TheVariants.{Loose, Shared, Owing, Exclusive}
 use Rattle.core_views.specs.declared.topics.Topics.{Topics}
 use Rattle.part_steps.specs.declared.part_step.PartStep.{PartStep}
-use Rattle.part_steps.specs.declared.part_step.PartStep.TheVariants.{Share, Unshare, Release}
+use Rattle.part_steps.specs.declared.part_step.PartStep.TheVariants.{Unshare, Release}
 use Rattle.part_steps.specs.StayTopics.{let_go, unchecked}
 use Rattle.part_steps.specs.ControlTopics.{has_writer}
 use Rattle.mmu_lock.specs.declared.lock.Lock.{Lock}
 use Rattle.mmu_lock.specs.declared.lock.Lock.TheVariants.{Got, Held}
 use Rattle.step_seats.specs.declared.turn.Turn.{Turn}
 use Rattle.step_seats.specs.declared.turn.Turn.TheVariants.{More, Wait, Retry, Done}
-
--- which step comes next for who wants the lock as a reader
-abbrev pub shared_step : Hold → PartStep
-shared_step (Owing word) = Unshare
-shared_step _ = Share
 
 -- which step gives the lock back
 abbrev pub unlock_step : Hold → PartStep
@@ -35,11 +30,6 @@ TriedShared (Done Got) before after = (before.hold ≡ Loose) × (after ≡ hold
 TriedShared (Done (Held word)) before after = (before.hold ≡ Owing word) × (has_writer word ≡ true) × (after ≡ let_go before)
 TriedShared (Wait seen) before after = ⊥
 TriedShared (Retry cause) before after = ⊥
-
--- the most turns that a reader's try takes from here
-abbrev pub tries_left : Hold → ℕ
-tries_left (Owing word) = 1
-tries_left _ = 2
 
 -- the word that a writer's try has found
 abbrev pub lock_found : Lock → ℕ

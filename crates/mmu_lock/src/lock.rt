@@ -3,7 +3,8 @@ ghost use Rattle.core_views.specs.declared.topics.Hold.TheVariants.{Loose, Share
 ghost use Rattle.mmu_core.specs.alone.OthersRest.{NoOtherHasLock, NoneHasLockAlone, OthersRest};
 ghost use Rattle.mmu_core.specs.machine.MayMake.{MayMake};
 ghost use Rattle.part_steps.specs.declared.part_step.PartStep.TheVariants.{Exclude};
-ghost use Rattle.mmu_lock.specs.Locking.{GaveBack, TriedExclusive, TriedShared, lock_found, shared_step, tries_left, unlock_step};
+ghost use Rattle.mmu_lock.specs.Locking.{GaveBack, TriedExclusive, TriedShared, lock_found, unlock_step};
+ghost use Rattle.mmu_core.specs.lines.ShareSteps.{share_left, share_part};
 ghost use Rattle.mmu_lock.specs.declared.lock.Lock.TheVariants.{Got, Held};
 ghost use Rattle.step_seats.specs.Moves.{KeepsRoom};
 ghost use Rattle.step_seats.specs.PartTurns.{MadePart, MakesPart, WherePartMade};
@@ -28,13 +29,13 @@ pub enum Lock {
 /// readers, and where a writer is found takes it out again, in a second turn.
 /// `Held` has the word that was found with the writer in it. It never waits.
 pub fn try_shared<S: Stepper>(s: &mut S, note: u64) -> Turn<Lock>
-    requires may { MayMake (shared_step (S.handful s.old).core.topics.hold) note (S.handful s.old).core }
+    requires may { MayMake (share_part (S.handful s.old).core.topics.hold) note (S.handful s.old).core }
     requires reserved { 0 < (S.handful s.old).room }
-    ensures step { MakesPart (shared_step (S.handful s.old).core.topics.hold) note (S.actor s.old) (S.handful s.old).core (S.handful s.new).core (S.tells s.old) (S.tells s.new) }
+    ensures step { MakesPart (share_part (S.handful s.old).core.topics.hold) note (S.actor s.old) (S.handful s.old).core (S.handful s.new).core (S.tells s.old) (S.tells s.new) }
     ensures tried { TriedShared result (S.handful s.old).core.topics (S.handful s.new).core.topics }
-    ensures nearer { result ≡ More → tries_left (S.handful s.new).core.topics.hold < tries_left (S.handful s.old).core.topics.hold }
-    ensures shared { result ≡ Done Got → WherePartMade (shared_step (S.handful s.old).core.topics.hold) note (S.actor s.old) (S.handful s.old).core (S.handful s.new).core (S.tells s.old) (λ w t. NoneHasLockAlone t) }
-    ensures alone { (S.handful s.old).core.topics.hold ≡ Loose → WherePartMade (shared_step (S.handful s.old).core.topics.hold) note (S.actor s.old) (S.handful s.old).core (S.handful s.new).core (S.tells s.old) (λ w t. OthersRest (S.actor s.old) w → result ≡ Done Got) }
+    ensures nearer { result ≡ More → share_left (S.handful s.new).core.topics.hold < share_left (S.handful s.old).core.topics.hold }
+    ensures shared { result ≡ Done Got → WherePartMade (share_part (S.handful s.old).core.topics.hold) note (S.actor s.old) (S.handful s.old).core (S.handful s.new).core (S.tells s.old) (λ w t. NoneHasLockAlone t) }
+    ensures alone { (S.handful s.old).core.topics.hold ≡ Loose → WherePartMade (share_part (S.handful s.old).core.topics.hold) note (S.actor s.old) (S.handful s.old).core (S.handful s.new).core (S.tells s.old) (λ w t. OthersRest (S.actor s.old) w → result ≡ Done Got) }
     ensures room { KeepsRoom (S.handful s.old) (S.handful s.new) }
     ensures same { (S.actor s.new ≡ S.actor s.old) × (S.frame s.new ≡ S.frame s.old) }
 {

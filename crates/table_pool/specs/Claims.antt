@@ -1,5 +1,5 @@
 -- Claims of pool pages: what comes next, and what each answer says.
-use Rattle.std.specs.Prelude.{◌≡◌, ◌≢◌, ◌+◌, ◌-◌, ◌*◌, ◌/◌, ◌%◌, ◌<◌, ◌⊎◌, ℕ, Bool, true, false, ◌&&◌, nat_lt, if◌then◌else◌, Some, None, length}
+use Rattle.std.specs.Prelude.{◌≡◌, ◌≢◌, ◌+◌, ◌*◌, ◌/◌, ◌%◌, ◌<◌, ◌⊎◌, ℕ, Bool, true, false, Some, None, length}
 use Rattle.core_views.specs.declared.hand.Seen.{Seen}
 use Rattle.core_views.specs.declared.sizes.Sizes.{Sizes}
 use Rattle.core_views.specs.declared.topics.MapClaim.{MapClaim}
@@ -13,6 +13,7 @@ use Rattle.part_steps.specs.declared.part_step.PartStep.TheVariants as part
 use Rattle.mmu_core.specs.machine.Enabled.{mmu}
 use Rattle.mmu_core.specs.machine.Machine.{World, hand_in}
 use Rattle.part_steps.specs.PartTopics.{part_topics}
+use Rattle.mmu_core.specs.lines.ClaimSteps.{claim_left, claim_part, map_word, tries_page}
 use Rattle.mmu_core.specs.invariant.PoolPart.{is_free, is_leaving, is_owned}
 use Rattle.part_steps.specs.Tasks.{map_of}
 use Rattle.part_steps.specs.PageTopics.{tried_bit}
@@ -25,15 +26,15 @@ use Rattle.table_pool.specs.declared.claim.Claimed.TheVariants.{Page, Empty}
 
 -- The claim has begun, and saw free pages in the word that it has come to.
 abbrev pub sees_pages : Claim → MapClaim → Bool
-sees_pages job claim = job.begun && nat_lt 0 claim.seen
+sees_pages job claim = tries_page job.begun claim
 
 -- the word of the map that a claim loads next: the first one, where it hasn't begun
 abbrev pub next_word : Claim → MapClaim → ℕ
-next_word job claim = if job.begun then claim.at else 0
+next_word job claim = map_word job.begun claim
 
 -- A claim tries the lowest page of those that it saw, and loads the next word where it saw none.
 abbrev pub claim_step : Claim → MapClaim → PartStep
-claim_step job claim = if sees_pages job claim then part.Claim else part.Map (next_word job claim)
+claim_step job claim = claim_part job.begun claim
 
 -- The claim has come to this word, and saw free pages in it.
 abbrev pub SawPages : ℕ → MapClaim → Type 0
@@ -114,4 +115,4 @@ SawStands z claim w = 0 < claim.seen → word_in z w area.PoolMap claim.at ≡ c
 
 -- at most so many turns until a claim is over, where none of them waits
 abbrev pub turns_left : Sizes → Claim → MapClaim → ℕ
-turns_left z job claim = if sees_pages job claim then 1 else words_of_bits z.pool - next_word job claim + 1
+turns_left z job claim = claim_left job.begun z claim
