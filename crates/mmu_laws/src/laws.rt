@@ -36,8 +36,9 @@ pub fn every_list_of_steps()
 /// where its actor, with its last step on the lock, found another actor having it
 /// alone; where the page that it tries was free at its actor's last step on this word
 /// of the pool's map, and another actor's step changed this word since; where it finds
-/// the lock held by another actor; where it gives the lock back, since its actor's last
-/// load of their count found invalidations open; and where it finds another actor in
+/// the lock held by another actor; where it gives the lock back, and its actor loaded
+/// the count of open invalidations while it had the lock alone, found some open, and made
+/// no step on the count or on the lock since; and where it finds another actor in
 /// the guest or in a section (tdp_mmu.c, `kvm_tdp_mmu_map`; kvm_main.c,
 /// `kvm_swap_active_memslots`; locking.rst). These causes lie in the steps since any
 /// moment at which the actor had seen nothing that a step waits for: so it is at a start,
