@@ -13,7 +13,8 @@ ghost use Rattle.mmu_laws.specs.leaves.LeafLaws.{CachedLeavesAgree, HeldLeavesAg
 ghost use Rattle.mmu_core.specs.alone.LineAlone.{LineBeginsAlone, LineEndsAlone, LineGoesThrough, NoneStarvedAlone};
 ghost use Rattle.mmu_core.specs.invariant.Scans.{StarvedLinesScan};
 ghost use Rattle.mmu_laws.specs.steps.StepLaws.{EnteringFlushes, NotesTellEnds, OthersCacheOneAtMost, StepsAreOnTheirAreas};
-ghost use Rattle.mmu_laws.specs.turns.Removal.{InstalledEntriesServe, LeavesStay, NoStepBreaks};
+ghost use Rattle.mmu_laws.specs.turns.Breaking.{BreakingChangesEntries, NoStepBreaks};
+ghost use Rattle.mmu_laws.specs.turns.Removal.{InstalledEntriesServe, LeavesStay};
 ghost use Rattle.mmu_laws.specs.turns.TurnLaws.{DelaysWaitBeginAnewOrMiss, StepsAreBounded, StepsAreCounted, TurnsAreBounded, TurnsComeNearer};
 ghost use Rattle.mmu_laws.specs.causes.Waits.{BetweenLinesSawNothing, StartsSawNothing, StepWaitsAreByCause};
 
@@ -173,13 +174,16 @@ pub fn a_line_alone_goes_through()
 /// from the root, and from the table that the line's walk has come to, to a leaf that
 /// allows the access, or a step since that fault began took an entry of the guest frame
 /// away; and where links lead to such a leaf once, they do so after every list of steps,
-/// or one of them took an entry of the guest frame away. No step of the machine does so
-/// yet (`unbroken`), so no stay misses (tdp_mmu.c, `kvm_tdp_mmu_map`; locking.rst).
+/// or one of them took an entry of the guest frame away. A step that takes an entry of
+/// the guest frame away is on the word of such an entry, which isn't absent, and leaves
+/// another number there (`breaking`). No step of the machine does so yet (`unbroken`), so
+/// no stay misses (tdp_mmu.c, `kvm_tdp_mmu_map`; locking.rst).
 pub fn turns_come_to_an_end()
     ensures nearer { TurnsComeNearer }
     ensures bounded { TurnsAreBounded }
     ensures installed { InstalledEntriesServe }
     ensures stay { LeavesStay }
+    ensures breaking { BreakingChangesEntries }
     ensures unbroken { NoStepBreaks }
 {}
 
