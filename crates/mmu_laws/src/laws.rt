@@ -13,7 +13,8 @@ ghost use Rattle.mmu_laws.specs.leaves.LeafLaws.{CachedLeavesAgree, HeldLeavesAg
 ghost use Rattle.mmu_core.specs.alone.LineAlone.{LineBeginsAlone, LineEndsAlone, LineGoesThrough, NoneStarvedAlone};
 ghost use Rattle.mmu_core.specs.invariant.Scans.{StarvedLinesScan};
 ghost use Rattle.mmu_laws.specs.steps.StepLaws.{EnteringFlushes, NotesTellEnds, OthersCacheOneAtMost, StepsAreOnTheirAreas};
-ghost use Rattle.mmu_laws.specs.turns.Removal.{InstalledEntriesServe, LeavesStay, NoStepBreaks};
+ghost use Rattle.mmu_laws.specs.turns.Breaking.{BreakingChangesEntries, NoStepBreaks};
+ghost use Rattle.mmu_laws.specs.turns.Removal.{InstalledEntriesServe, LeavesStay};
 ghost use Rattle.mmu_laws.specs.turns.TurnLaws.{DelaysWaitBeginAnewOrMiss, StepsAreBounded, StepsAreCounted, TurnsAreBounded, TurnsComeNearer};
 ghost use Rattle.mmu_laws.specs.causes.Waits.{BetweenLinesSawNothing, StartsSawNothing, StepWaitsAreByCause};
 
@@ -36,8 +37,9 @@ pub fn every_list_of_steps()
 /// where its actor, with its last step on the lock, found another actor having it
 /// alone; where the page that it tries was free at its actor's last step on this word
 /// of the pool's map, and another actor's step changed this word since; where it finds
-/// the lock held by another actor; where it gives the lock back, since its actor's last
-/// load of their count found invalidations open; and where it finds another actor in
+/// the lock held by another actor; where it gives the lock back, and its actor loaded
+/// the count of open invalidations while it had the lock alone, found some open, and made
+/// no step on the count or on the lock since; and where it finds another actor in
 /// the guest or in a section (tdp_mmu.c, `kvm_tdp_mmu_map`; kvm_main.c,
 /// `kvm_swap_active_memslots`; locking.rst). These causes lie in the steps since any
 /// moment at which the actor had seen nothing that a step waits for: so it is at a start,
@@ -172,13 +174,16 @@ pub fn a_line_alone_goes_through()
 /// from the root, and from the table that the line's walk has come to, to a leaf that
 /// allows the access, or a step since that fault began took an entry of the guest frame
 /// away; and where links lead to such a leaf once, they do so after every list of steps,
-/// or one of them took an entry of the guest frame away. No step of the machine does so
-/// yet (`unbroken`), so no stay misses (tdp_mmu.c, `kvm_tdp_mmu_map`; locking.rst).
+/// or one of them took an entry of the guest frame away. A step that takes an entry of
+/// the guest frame away is on the word of such an entry, which isn't absent, and leaves
+/// another number there (`breaking`). No step of the machine does so yet (`unbroken`), so
+/// no stay misses (tdp_mmu.c, `kvm_tdp_mmu_map`; locking.rst).
 pub fn turns_come_to_an_end()
     ensures nearer { TurnsComeNearer }
     ensures bounded { TurnsAreBounded }
     ensures installed { InstalledEntriesServe }
     ensures stay { LeavesStay }
+    ensures breaking { BreakingChangesEntries }
     ensures unbroken { NoStepBreaks }
 {}
 

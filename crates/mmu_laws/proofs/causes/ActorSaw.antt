@@ -25,7 +25,7 @@ use Rattle.mmu_core.specs.machine.Enabled.{mmu}
 use Rattle.mmu_core.specs.invariant.Laws.{IsSound}
 use Rattle.mmu_core.specs.machine.Machine.{Legal, May, Step, World, answered, effect, hand_in, run}
 use Rattle.mmu_core.specs.lines.PartWaits.{is_owing, saw_open}
-use Rattle.mmu_laws.specs.causes.Waits.{FindsWriter, FoundCount, FoundWriter, IsOffWord, SawNothing, count_word, lock_word, pool_word}
+use Rattle.mmu_laws.specs.causes.Waits.{FindsWriter, FoundCount, FoundWriter, IsOffLockAndCount, IsOffWord, LoadsCount, SawNothing, count_word, lock_word, pool_word}
 use Rattle.mmu_laws.proofs.causes.Changes.{Knows, knows_longer, made_longer, made_now, of_each_list}
 use Rattle.mmu_laws.proofs.causes.ClaimSeen.{mapped_saw, tried_saw}
 use Rattle.mmu_core.proofs.machine.Columns.{same_or}
@@ -40,7 +40,7 @@ use Rattle.mmu_core.proofs.held.ClaimGoes.{others_hand}
 
 pub record ActorSaw (z : Sizes) (w : World Held) (actor : ℕ) (t : Topics) (ss : List (Step Kind)) (u : World Held) : Type 0 where
   pub owing : (word : ℕ) → t.hold ≡ Owing word → FoundWriter z actor word w ss
-  pub counted : saw_open t.invalidations ≡ true → FoundCount z actor t.invalidations.count w ss
+  pub counted : saw_open t.invalidations ≡ true → FoundCount z actor t.hold t.invalidations.count w ss
   pub claim : 0 < t.claim.seen → Knows (IsOffWord actor (pool_word z t.claim.at)) actor (pool_word z t.claim.at) t.claim.seen w ss u
   pub alone : 0 < t.claim.seen → t.claim.at < words_of_bits z.pool
 
@@ -87,8 +87,9 @@ module _ (z : Sizes) (w : World Held) (ss : List (Step Kind)) (s : Step Kind) (G
   lock_longer : (step : PartStep) (M : Made step) → ((part_task step (own_index h) t M.note).area ≡ area.Lock → ⊥) → SeesHere t → (word : ℕ) → t.hold ≡ Owing word → FoundWriter z a word w Behind
   lock_longer step M apart S word is = made_longer (FindsWriter z a word) (IsOffWord a (lock_word z)) w ss s (lock_off step M apart) (S.owing word is)
 
-  count_longer : (step : PartStep) (M : Made step) → ((part_task step (own_index h) t M.note).area ≡ area.Count → ⊥) → SeesHere t → saw_open t.invalidations ≡ true → FoundCount z a t.invalidations.count w Behind
-  count_longer step M apart S is = made_longer (Finds a (count_word z) t.invalidations.count) (IsOffWord a (count_word z)) w ss s (count_off step M apart) (S.counted is)
+  count_longer : (step : PartStep) (M : Made step) → ((part_task step (own_index h) t M.note).area ≡ area.Lock → ⊥) → ((part_task step (own_index h) t M.note).area ≡ area.Count → ⊥) → SeesHere t → saw_open t.invalidations ≡ true
+      → FoundCount z a t.hold t.invalidations.count w Behind
+  count_longer step M no_lock no_count S is = made_longer (LoadsCount z a t.hold t.invalidations.count) (IsOffLockAndCount z a) w ss s (lock_off step M no_lock, count_off step M no_count) (S.counted is)
 
   abbrev ClaimSaw : ℕ → ℕ → Type 0
   ClaimSaw at seen = Knows (IsOffWord a (pool_word z at)) a (pool_word z at) seen w Behind (effect mmu u s)
@@ -117,9 +118,10 @@ module _ (z : Sizes) (w : World Held) (ss : List (Step Kind)) (s : Step Kind) (G
   owing_saw part.Release M S word is = absurd (cc is)
   owing_saw step M S word is = lock_longer step M (λ e. cc e) S word is
 
-  counted_saw : (step : PartStep) → Made step → SeesHere t → saw_open (part_topics step t v).invalidations ≡ true → FoundCount z a (part_topics step t v).invalidations.count w Behind
+  counted_saw : (step : PartStep) → Made step → SeesHere t → saw_open (part_topics step t v).invalidations ≡ true → FoundCount z a (part_topics step t v).hold (part_topics step t v).invalidations.count w Behind
   counted_saw part.Count M S is =
-      made_now (Finds a (count_word z) v) (IsOffWord a (count_word z)) w ss s (record { by_actor = refl; on = word_on z u s G may part.Count M; finds = load_finds z u s G may part.Count M tt })
+      let finds : Finds a (count_word z) v u s = record { by_actor = refl; on = word_on z u s G may part.Count M; finds = load_finds z u s G may part.Count M tt } in
+      made_now (LoadsCount z a t.hold v) (IsOffLockAndCount z a) w ss s (record { loads = ap (λ (k : Kind). k.code) M.is; finds = finds; under = refl })
   counted_saw part.RangeStart M S is = let none = start_not_open t.invalidations.checked (not (t.invalidations.count == 0)) in absurd (cc (none, is))
   counted_saw part.RangeEnd M S is = let none = range_not_open t.invalidations.checked (not (t.invalidations.count == 0)) in absurd (cc (none, is))
   counted_saw part.Seq M S is = let none = seq_not_open t.invalidations.count t.invalidations.checked (not (t.invalidations.count == 0)) in absurd (cc (none, is))
@@ -131,7 +133,7 @@ module _ (z : Sizes) (w : World Held) (ss : List (Step Kind)) (s : Step Kind) (G
   counted_saw part.Unshare M S is = absurd (cc is)
   counted_saw part.Exclude M S is = absurd (cc is)
   counted_saw part.Release M S is = absurd (cc is)
-  counted_saw step M S is = count_longer step M (λ e. cc e) S is
+  counted_saw step M S is = count_longer step M (λ e. cc e) (λ e. cc e) S is
 
   claim_saw : (step : PartStep) → Made step → SeesHere t → 0 < (part_topics step t v).claim.seen → ClaimSaw (part_topics step t v).claim.at (part_topics step t v).claim.seen
   claim_saw (part.Map word) M S some = mapped_saw z w ss s G may (v == 0) word refl M some
@@ -174,7 +176,7 @@ module _ (z : Sizes) (w : World Held) (ss : List (Step Kind)) (s : Step Kind) (G
       → ActorSaw z w actor t_ ss u → ActorSaw z w actor t_ Behind (effect mmu u s)
   same_saw actor t_ lock count map S = record {
     owing = λ word is. made_longer (FindsWriter z actor word) (IsOffWord actor (lock_word z)) w ss s (lock (lock_word z) refl) (S.owing word is);
-    counted = λ is. made_longer (Finds actor (count_word z) t_.invalidations.count) (IsOffWord actor (count_word z)) w ss s count (S.counted is);
+    counted = λ is. made_longer (LoadsCount z actor t_.hold t_.invalidations.count) (IsOffLockAndCount z actor) w ss s (lock (lock_word z) refl, count) (S.counted is);
     claim = λ some. let off : IsOffWord actor (pool_word z t_.claim.at) s = map t_.claim.at (S.alone some) in
         knows_longer (IsOffWord actor (pool_word z t_.claim.at)) actor (pool_word z t_.claim.at) t_.claim.seen w ss s may off (λ mine at. absurd (off mine at)) (S.claim some);
     alone = S.alone;

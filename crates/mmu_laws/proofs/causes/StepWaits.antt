@@ -5,7 +5,7 @@ use Rattle.std.proofs.lemmas.Bool.Decides.{nat_tests}
 use Rattle.core_views.specs.declared.kind.Kind.{Kind}
 use Rattle.core_views.specs.declared.sizes.Sizes.{Sizes}
 use Rattle.core_views.specs.declared.topics.Hold.{Hold}
-use Rattle.core_views.specs.declared.topics.Hold.TheVariants.{Owing}
+use Rattle.core_views.specs.declared.topics.Hold.TheVariants.{Exclusive, Owing}
 use Rattle.core_views.specs.declared.topics.Topics.{Topics}
 use Rattle.core_views.specs.Held.{Held}
 use Rattle.part_steps.specs.declared.part_step.PartStep.{PartStep}
@@ -40,8 +40,9 @@ module _ (z : Sizes) (w : World Held) (ss : List (Step Kind)) (s : Step Kind) (G
   owes (Owing word) is owing S = subst (λ m. FoundWriter z s.actor m w ss) (sym (ap word_owed is)) (S.owing word is)
   owes _ is owing S = absurd (cc owing)
 
-  saw_some : (was_counted h.topics.invalidations.checked && not (h.topics.invalidations.count == 0)) ≡ true → Saw h.topics → FoundCount z s.actor h.topics.invalidations.count w ss × (0 < h.topics.invalidations.count)
-  saw_some open_ S = let B = both (was_counted h.topics.invalidations.checked) (not (h.topics.invalidations.count == 0)) open_ in (S.counted open_, more h.topics.invalidations.count B.1)
+  saw_some : h.topics.hold ≡ Exclusive → (was_counted h.topics.invalidations.checked && not (h.topics.invalidations.count == 0)) ≡ true → Saw h.topics → FoundCount z s.actor Exclusive h.topics.invalidations.count w ss × (0 < h.topics.invalidations.count)
+  saw_some alone open_ S = let B = both (was_counted h.topics.invalidations.checked) (not (h.topics.invalidations.count == 0)) open_ in
+      (subst (λ hold. FoundCount z s.actor hold h.topics.invalidations.count w ss) alone (S.counted open_), more h.topics.invalidations.count B.1)
     where
       more : (n : ℕ) → not (n == 0) ≡ true → 0 < n
       more n is = grind (arith, nat_tests)
@@ -50,7 +51,7 @@ module _ (z : Sizes) (w : World Held) (ss : List (Step Kind)) (s : Step Kind) (G
   caused part.Unshare M is S = owes h.topics.hold refl is S
   caused part.Claim M is S = page_taken z w ss s G may is M (S.claim M.needs.1)
   caused part.Exclude M is S = lock_taken z u s G may M is
-  caused part.Release M is S = saw_some is S
+  caused part.Release M is S = saw_some M.needs is S
   caused (part.Watch index) M is S = other_inside z u s G may index M is
   caused _ M is S = absurd (cc is)
 

@@ -1,4 +1,5 @@
--- After a fault that has installed an entry, links lead from the root to a leaf that allows the access, or the entry was lost, whatever the other actors do.
+-- After a fault that has installed an entry, links lead from the root to a leaf that allows the access, or a step since it began took an entry away, whatever
+-- the other actors do.
 use Rattle.std.proofs.Common.{◌≡◌, ◌≢◌, ◌⊎◌, inl, inr, ◌/◌, ◌<◌, ℕ, List, [], ◌∷◌, ◌++◌, sym, subst, ap, ◌∙◌}
 use Rattle.std.specs.Prelude.{Bool, true, Some}
 use Rattle.core_views.specs.declared.kind.Kind.{Kind}
@@ -33,7 +34,8 @@ use Rattle.part_steps.specs.PartTasks.{entry_index, table_page}
 use Rattle.part_steps.specs.PartHoldings.{IsOver}
 use Rattle.mmu_core.specs.machine.Steps.{line_at, place_at, task_at}
 use Rattle.mmu_core.specs.invariant.TreePart.{at, stands}
-use Rattle.mmu_laws.specs.turns.Removal.{Breaks, InstalledEntriesServe, LeadsFromRoot, LostEntry, StandsInstalled, StandsAt, WalksInstalled, ends_installed, has_installed, is_installed}
+use Rattle.mmu_laws.specs.turns.Breaking.{Breaks}
+use Rattle.mmu_laws.specs.turns.Removal.{InstalledEntriesServe, LeadsFromRoot, LostEntry, StandsInstalled, StandsAt, WalksInstalled, ends_installed, has_installed, is_installed}
 use Rattle.mmu_core.specs.machine.View.{View, answer_in, hand_after, view, word_in, words_after}
 use Rattle.mmu_core.specs.machine.Worlds.{IsStart}
 use Rattle.mmu_laws.proofs.alone.AloneStep.{topics_at}
@@ -105,7 +107,7 @@ walks_installed _ c z w a gfn write G there K stands_ leads = tt
 
 -- ---- from world to world
 
--- An actor whose line stands after an installed entry is led to a leaf, or the entry was lost.
+-- An actor whose line stands after an installed entry is led to a leaf, or a step since its fault began took an entry away.
 abbrev LedOrLost : Sizes → World Held → ℕ → List (Step Kind) → World Held → ℕ → Bool → Type 0
 LedOrLost z w actor ss u gfn write = Leads (word_in z u) gfn write ⊎ LostEntry z actor gfn write w ss
 

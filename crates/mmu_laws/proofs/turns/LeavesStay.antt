@@ -3,6 +3,7 @@ use Rattle.std.proofs.Common.{◌≡◌, ◌≢◌, ◌⊎◌, inl, inr, ◌+◌
 use Rattle.std.specs.Prelude.{Bool, true, false, ◌-◌, ◌==◌, if◌then◌else◌, Option, Some, None}
 use Rattle.std.proofs.lemmas.Bool.Decides.{nat_tests}
 use Rattle.core_views.specs.declared.kind.Kind.{Kind}
+use Rattle.core_views.specs.declared.kind.StepKind.{StepKind}
 use Rattle.core_views.specs.declared.place.Place.{Place}
 use Rattle.core_views.specs.declared.sizes.Sizes.{Sizes}
 use Rattle.core_views.specs.declared.topics.Topics.{Topics}
@@ -12,6 +13,7 @@ use Rattle.core_views.specs.declared.trace.Slot.{Slot}
 use Rattle.core_views.specs.declared.trace.Op.{Op}
 use Rattle.core_views.specs.declared.trace.Op.TheVariants.{Read}
 use Rattle.core_views.specs.Held.{Held}
+use Rattle.core_views.specs.Kinds.{kind_named}
 use Rattle.core_views.specs.Slots.{contains}
 use Rattle.spte_words.specs.declared.area.Area.{Area}
 use Rattle.spte_words.specs.declared.area.Area.TheVariants as area
@@ -28,7 +30,8 @@ use Rattle.mmu_core.specs.alone.FaultAlone.{LeadsTo, LeadsToLeaf}
 use Rattle.mmu_core.specs.invariant.Invariant.{Invariant, IsLeafFor}
 use Rattle.mmu_core.specs.invariant.Laws.{IsSound}
 use Rattle.mmu_core.specs.machine.Machine.{May, Step, World, effect, hand_in}
-use Rattle.mmu_laws.specs.turns.Removal.{Breaks, LeadsFromRoot, LeavesStay}
+use Rattle.mmu_laws.specs.turns.Breaking.{BreakingChangesEntries, Breaks, ChangesEntry, TakesAway}
+use Rattle.mmu_laws.specs.turns.Removal.{LeadsFromRoot, LeavesStay}
 use Rattle.part_steps.specs.PartTasks.{entry_index, leaf_written, link_written, table_page}
 use Rattle.part_steps.specs.PartHoldings.{MayEnter}
 use Rattle.part_steps.specs.SlotWords.{leaf_of, page_of, slot_at}
@@ -197,7 +200,14 @@ leaf_stays z w s gfn write G may L =
     3 0 (words area.Root 0) L.leaf (root_stands I.tree) L.leads in
     record { entry = L.entry; leads = subst (λ k. LeadsTo (word_in z (effect mmu w s) area.Pool) 4 k gfn L.entry) (sym S.root) leads; leaf = L.leaf; allows = L.allows }
 
--- Each step keeps it so, or takes an entry of the guest frame away: a kind that does so has its case here.
+-- A step that takes an entry of the guest frame away changes such an entry, which isn't absent: a kind that does so has its case here.
+taken_changes : (kind : StepKind) (z : Sizes) (gfn : ℕ) (w : World Held) (s : Step Kind) → kind_named s.kind.code ≡ kind → IsSound z w → May mmu w s → TakesAway kind z gfn w s → ChangesEntry z gfn w s
+taken_changes _ z gfn w s is G may takes_ = absurd takes_
+
+pub breaking_changes_entries : BreakingChangesEntries
+breaking_changes_entries z gfn w s G may breaks = taken_changes (kind_named s.kind.code) z gfn w s refl G may breaks
+
+-- Each step keeps it so, or takes an entry of the guest frame away: a kind that does so has its case here, too.
 pub leaf_stays_or_breaks : (z : Sizes) (w : World Held) (s : Step Kind) (gfn : ℕ) (write : Bool) → IsSound z w → May mmu w s → LeadsFromRoot z w gfn write → LeadsFromRoot z (effect mmu w s) gfn write ⊎ Breaks z gfn w s
 leaf_stays_or_breaks z w s gfn write G may L = inl (leaf_stays z w s gfn write G may L)
 

@@ -12,7 +12,8 @@ use Rattle.core_views.specs.declared.sizes.Sizes.{Sizes}
 use Rattle.core_views.specs.Held.{Held}
 use Rattle.mmu_core.specs.machine.Enabled.{mmu}
 use Rattle.mmu_core.specs.machine.Machine.{Legal, May, Step, World, effect, hand_in, run}
-use Rattle.mmu_laws.specs.turns.Removal.{Breaks, LostEntry, NoStepBreaks, StandsAt, StandsInstalled, StandsSinceFault, StayMisses, Throughout, WasBroken, is_installed, is_since_fault}
+use Rattle.mmu_laws.specs.turns.Breaking.{Breaks, NoStepBreaks, WasBroken}
+use Rattle.mmu_laws.specs.turns.Removal.{LostEntry, StandsAt, StandsInstalled, StandsSinceFault, StayMisses, Throughout, is_installed, is_since_fault}
 use Rattle.mmu_core.proofs.machine.Extend.{run-append}
 use Rattle.mmu_core.proofs.machine.LineRuns.{run_one_more}
 
@@ -50,7 +51,7 @@ stands_since _ _ gfn write S = absurd S
 stands_since_fault : (actor gfn : ℕ) (write : Bool) (u : World Held) → StandsInstalled actor gfn write u → StandsSinceFault actor gfn write u
 stands_since_fault actor gfn write u S = stands_since (hand_in mmu u actor).state.place (hand_in mmu u actor).state.line.command gfn write S
 
--- An entry that was lost is lost after one more step, while the line stands there.
+-- A step that took an entry away since the fault began did so after one more step, too, while the line stands there.
 module _ (z : Sizes) (actor gfn : ℕ) (write : Bool) (w : World Held) (ss : List (Step Kind)) (s : Step Kind) (stands : StandsInstalled actor gfn write (effect mmu (run mmu w ss) s)) where
   pub lost_longer : LostEntry z actor gfn write w ss → LostEntry z actor gfn write w (ss ++ s ∷ [])
   lost_longer L =

@@ -5,6 +5,7 @@ use Rattle.core_views.specs.declared.kind.Kind.{Kind}
 use Rattle.core_views.specs.declared.kind.StepKind.TheVariants as kind
 use Rattle.core_views.specs.declared.place.Place.TheVariants.{Between}
 use Rattle.core_views.specs.declared.sizes.Sizes.{Sizes}
+use Rattle.core_views.specs.declared.topics.Hold.{Hold}
 use Rattle.core_views.specs.declared.topics.Hold.TheVariants.{Loose, Exclusive}
 use Rattle.core_views.specs.declared.topics.MapClaim.{MapClaim}
 use Rattle.core_views.specs.declared.topics.Stay.TheVariants.{Outside}
@@ -60,9 +61,20 @@ pub record FindsWriter (z : Sizes) (actor word : ℕ) (w : World Held) (s : Step
 abbrev pub FoundWriter : Sizes → ℕ → ℕ → World Held → List (Step Kind) → Type 0
 FoundWriter z actor word w ss = HasMade (FindsWriter z actor word) (IsOffWord actor (lock_word z)) w ss
 
--- With its last step on the count of open invalidations the actor found this number.
-abbrev pub FoundCount : Sizes → ℕ → ℕ → World Held → List (Step Kind) → Type 0
-FoundCount z actor count w ss = HasMade (Finds actor (count_word z) count) (IsOffWord actor (count_word z)) w ss
+-- It is this actor's load of the count of open invalidations, and finds this number. In this world the actor has this hold on the lock.
+pub record LoadsCount (z : Sizes) (actor : ℕ) (hold : Hold) (count : ℕ) (w : World Held) (s : Step Kind) : Type 0 where
+  pub loads : s.kind.code ≡ code_of kind.Control
+  pub finds : Finds actor (count_word z) count w s
+  pub under : (hand_in mmu w actor).topics.hold ≡ hold
+
+-- The step is none of this actor's on the lock, and none on the count.
+abbrev pub IsOffLockAndCount : Sizes → ℕ → Step Kind → Type 0
+IsOffLockAndCount z actor s = IsOffWord actor (lock_word z) s × IsOffWord actor (count_word z) s
+
+-- The actor found this number under the lock that it still has: it loaded the count with this hold on the lock, and made no step on the lock or on the
+-- count since.
+abbrev pub FoundCount : Sizes → ℕ → Hold → ℕ → World Held → List (Step Kind) → Type 0
+FoundCount z actor hold count w ss = HasMade (LoadsCount z actor hold count) (IsOffLockAndCount z actor) w ss
 
 -- The page that the actor's claim tries was free where its last step on this word of the map found it, another actor's step changed the word
 -- since, and the page isn't free now, where v is found.
@@ -99,7 +111,8 @@ StepWaitIsCaused part.Unshare z w ss s = FoundWriter z s.actor (word_owed (hand_
 StepWaitIsCaused part.Claim z w ss s = PageIsTaken z s.actor (hand_in mmu (run mmu w ss) s.actor).topics.claim (answered mmu (run mmu w ss) s.kind) w ss
 StepWaitIsCaused part.Exclude z w ss s = FindsLockTaken z (run mmu w ss) s
 StepWaitIsCaused part.Release z w ss s =
-    FoundCount z s.actor (hand_in mmu (run mmu w ss) s.actor).topics.invalidations.count w ss × (0 < (hand_in mmu (run mmu w ss) s.actor).topics.invalidations.count)
+    FoundCount z s.actor Exclusive (hand_in mmu (run mmu w ss) s.actor).topics.invalidations.count w ss
+    × (0 < (hand_in mmu (run mmu w ss) s.actor).topics.invalidations.count)
 StepWaitIsCaused (part.Watch index) z w ss s = FindsOtherInside z (run mmu w ss) s
 StepWaitIsCaused _ z w ss s = ⊥
 

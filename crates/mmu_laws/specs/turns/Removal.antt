@@ -1,7 +1,6 @@
--- Which steps take entries of the tables away, and what is so of the entry that a fault has installed while there may be such steps.
+-- What is so of the entry that a fault has installed, while there may be steps that take entries of the tables away.
 use Rattle.std.specs.Prelude.{◌≡◌, ◌⊎◌, ◌<◌, ℕ, Bool, true, false, List, [], ◌∷◌, ◌++◌}
 use Rattle.core_views.specs.declared.kind.Kind.{Kind}
-use Rattle.core_views.specs.declared.kind.StepKind.{StepKind}
 use Rattle.core_views.specs.declared.place.AccessPlace.{AccessPlace}
 use Rattle.core_views.specs.declared.place.AccessPlace.TheVariants.{Enter, Pause, Root, Walk, Leave, Fault}
 use Rattle.core_views.specs.declared.place.FaultEnd.{FaultEnd}
@@ -18,7 +17,6 @@ use Rattle.core_views.specs.declared.trace.Command.TheVariants.{Access}
 use Rattle.core_views.specs.declared.trace.Line.{Line}
 use Rattle.core_views.specs.declared.trace.Op.{Op}
 use Rattle.core_views.specs.Held.{Held}
-use Rattle.core_views.specs.Kinds.{kind_named}
 use Rattle.core_views.specs.Sizes.{actors_of}
 use Rattle.core_views.specs.Slots.{is_write}
 use Rattle.spte_words.specs.declared.area.Area.{Area}
@@ -32,25 +30,7 @@ use Rattle.mmu_core.specs.machine.Machine.{Legal, Step, World, answered, effect,
 use Rattle.mmu_core.specs.machine.Turns.{outcome_of}
 use Rattle.mmu_core.specs.machine.View.{word_in}
 use Rattle.mmu_core.specs.machine.Worlds.{IsStart}
-
--- A step of this kind takes an entry of the guest frame away. No kind does so yet: one that removes, freezes or protects entries has a row here.
-abbrev pub TakesAway : StepKind → Sizes → ℕ → World Held → Step Kind → Type 0
-TakesAway _ z gfn w s = ⊥
-
-abbrev pub Breaks : Sizes → ℕ → World Held → Step Kind → Type 0
-Breaks z gfn w s = TakesAway (kind_named s.kind.code) z gfn w s
-
--- So no step of the machine takes an entry away.
-abbrev pub NoStepBreaks : Type 0
-NoStepBreaks = (z : Sizes) (gfn : ℕ) (w : World Held) (s : Step Kind) → Breaks z gfn w s → ⊥
-
--- One of the steps, made from this world on, is such a step in its turn.
-pub record WasBroken (IsSuch : World Held → Step Kind → Type 0) (w : World Held) (ss : List (Step Kind)) : Type 0 where
-  pub earlier : List (Step Kind)
-  pub breaks : Step Kind
-  pub later : List (Step Kind)
-  pub are : ss ≡ earlier ++ breaks ∷ later
-  pub is : IsSuch (run mmu w earlier) breaks
+use Rattle.mmu_laws.specs.turns.Breaking.{Breaks, WasBroken}
 
 -- Links lead the guest frame from the root to a leaf that allows the access.
 abbrev pub LeadsFromRoot : Sizes → World Held → ℕ → Bool → Type 0
@@ -113,8 +93,8 @@ abbrev pub Throughout : (World Held → Type 0) → World Held → List (Step Ki
 Throughout IsSo w [] = IsSo w
 Throughout IsSo w (s ∷ ss) = IsSo w × Throughout IsSo (effect mmu w s) ss
 
--- The entry that the actor's fault has installed was lost: the line has stood in this fault, or in the stay after it, and one of the steps since took an
--- entry of the guest frame away. It may have done so before the fault ended, above a table to which the fault had walked.
+-- Since the actor's fault began, a step took an entry of the guest frame away: throughout the last of these steps the line stood in this fault, or in the
+-- stay after it, and one of them is such a step. It may be on any entry of the guest frame, and it may come before the fault ended.
 pub record LostEntry (z : Sizes) (actor gfn : ℕ) (write : Bool) (w : World Held) (ss : List (Step Kind)) : Type 0 where
   pub earlier : List (Step Kind)
   pub later : List (Step Kind)
@@ -122,15 +102,16 @@ pub record LostEntry (z : Sizes) (actor gfn : ℕ) (write : Bool) (w : World Hel
   pub stood : Throughout (StandsSinceFault actor gfn write) (run mmu w earlier) later
   pub broken : WasBroken (Breaks z gfn) (run mmu w earlier) later
 
--- After every list of steps of all actors, links lead each line that stands after an installed entry to a leaf that allows its access, or the entry was
--- lost.
+-- After every list of steps of all actors, links lead each line that stands after an installed entry to a leaf that allows its access, or a step since its
+-- fault began took an entry of the guest frame away.
 abbrev pub InstalledEntriesServe : Type 0
 InstalledEntriesServe =
     (z : Sizes) (lines : List Line) (start : World Held) (ss : List (Step Kind)) (a gfn : ℕ) (write : Bool) → IsStart z lines start → Legal mmu start ss
     → a < actors_of z → StandsInstalled a gfn write (run mmu start ss)
     → (LeadsFromRoot z (run mmu start ss) gfn write × LeadsFromWalk z (run mmu start ss) a) ⊎ LostEntry z a gfn write start ss
 
--- The step is one of the stay after an installed entry, and finds no translation that allows the access: the entry was lost.
+-- The step is one of the stay after an installed entry, and finds no translation that allows the access. A step since the fault began took an entry of the
+-- guest frame away; whether this is why the stay finds none isn't said.
 pub record StayMisses (z : Sizes) (w : World Held) (ss : List (Step Kind)) (s : Step Kind) : Type 0 where
   pub gfn : ℕ
   pub word : ℕ

@@ -1,5 +1,5 @@
 use Rattle.mmu_laws.proofs.turns.InstalledEntries.{installed_serve}
-use Rattle.mmu_laws.proofs.turns.LeavesStay.{leaves_stay}
+use Rattle.mmu_laws.proofs.turns.LeavesStay.{breaking_changes_entries, leaves_stay}
 use Rattle.mmu_laws.proofs.turns.StepsBounded.{turns_bounded}
 use Rattle.mmu_laws.proofs.turns.DelayCases.{turns_come_nearer}
 use Rattle.mmu_laws.proofs.turns.Removal.{no_step_breaks}
@@ -16,6 +16,9 @@ returns-clause-installed c = installed_serve
 
 pub returns-clause-stay : goal.returns-clause-stay
 returns-clause-stay c = leaves_stay
+
+pub returns-clause-breaking : goal.returns-clause-breaking
+returns-clause-breaking c = breaking_changes_entries
 
 pub returns-clause-unbroken : goal.returns-clause-unbroken
 returns-clause-unbroken c = no_step_breaks

@@ -1,0 +1,42 @@
+-- Which steps take entries of the tables away, and what such a step does.
+use Rattle.std.specs.Prelude.{◌≡◌, ◌≢◌, ℕ, List, ◌∷◌, ◌++◌}
+use Rattle.core_views.specs.declared.kind.Kind.{Kind}
+use Rattle.core_views.specs.declared.kind.StepKind.{StepKind}
+use Rattle.core_views.specs.declared.sizes.Sizes.{Sizes}
+use Rattle.core_views.specs.Held.{Held}
+use Rattle.core_views.specs.Kinds.{after, kind_named}
+use Rattle.spte_words.specs.declared.spte_kind.SpteKind.TheVariants.{Absent}
+use Rattle.spte_words.specs.Entries.{kind_of}
+use Rattle.mmu_core.specs.machine.Enabled.{mmu}
+use Rattle.mmu_core.specs.invariant.Laws.{IsSound}
+use Rattle.mmu_core.specs.machine.Machine.{May, Step, World, found, run}
+use Rattle.mmu_laws.specs.causes.Causes.{IsEntryOf}
+
+-- A step of this kind takes an entry of the guest frame away. No kind does so yet: one that removes, freezes or protects entries has a row here.
+abbrev pub TakesAway : StepKind → Sizes → ℕ → World Held → Step Kind → Type 0
+TakesAway _ z gfn w s = ⊥
+
+abbrev pub Breaks : Sizes → ℕ → World Held → Step Kind → Type 0
+Breaks z gfn w s = TakesAway (kind_named s.kind.code) z gfn w s
+
+-- So no step of the machine takes an entry away.
+abbrev pub NoStepBreaks : Type 0
+NoStepBreaks = (z : Sizes) (gfn : ℕ) (w : World Held) (s : Step Kind) → Breaks z gfn w s → ⊥
+
+-- The step is on the word of an entry of the guest frame. It finds an entry there that isn't absent, and leaves another number.
+pub record ChangesEntry (z : Sizes) (gfn : ℕ) (w : World Held) (s : Step Kind) : Type 0 where
+  pub entry : IsEntryOf z gfn s.kind.word
+  pub is_there : kind_of entry.level (found mmu w s.kind) ≢ Absent
+  pub changes : after s.kind (found mmu w s.kind) ≢ found mmu w s.kind
+
+-- A step that may be made, and takes an entry of the guest frame away, changes such an entry.
+abbrev pub BreakingChangesEntries : Type 0
+BreakingChangesEntries = (z : Sizes) (gfn : ℕ) (w : World Held) (s : Step Kind) → IsSound z w → May mmu w s → Breaks z gfn w s → ChangesEntry z gfn w s
+
+-- One of the steps, made from this world on, is such a step in its turn.
+pub record WasBroken (IsSuch : World Held → Step Kind → Type 0) (w : World Held) (ss : List (Step Kind)) : Type 0 where
+  pub earlier : List (Step Kind)
+  pub breaks : Step Kind
+  pub later : List (Step Kind)
+  pub are : ss ≡ earlier ++ breaks ∷ later
+  pub is : IsSuch (run mmu w earlier) breaks
