@@ -13,14 +13,12 @@ use Rattle.core_views.specs.declared.trace.Slot.{Slot}
 use Rattle.core_views.specs.declared.place.SetSlotPlace.{SetSlotPlace}
 use Rattle.part_steps.specs.declared.part_step.PartStep.{PartStep}
 use Rattle.mmu_core.specs.lines.PartAt.{part_at}
-use Rattle.mmu_core.specs.lines.Rests.{RestsAt}
-use Rattle.mmu_core.proofs.machine.GoesOn.{IsNoAccess}
 use Rattle.mmu_core.specs.lines.SetSlotSteps.{set_slot_part}
 use Rattle.mmu_core.specs.invariant.Invariant.{Invariant, KnowsPart, LeavesPart, OwnLines}
 use Rattle.mmu_core.specs.invariant.TopicsInvariant.{TopicsInvariant}
 use Rattle.mmu_core.specs.machine.View.{View, stepped}
 use Rattle.mmu_core.proofs.lines.AccessKept.{access_kept}
-use Rattle.mmu_core.proofs.lines.KnowsKept.{NeedsAt, knows_behind, needs_at, step_knows}
+use Rattle.mmu_core.proofs.lines.KnowsKept.{knows_behind, needs_at, step_knows}
 use Rattle.mmu_core.proofs.slots.SetSlotKept.{set_slot_kept, setting_hand}
 use Rattle.mmu_core.proofs.machine.Stepping.{IsStep}
 use Rattle.mmu_core.proofs.lines.AccessParts.{AreSmall, makes_parts, may_make}
@@ -49,13 +47,6 @@ makes_at z v a line (Access gfn word op) (place.Access p) small S I P = makes_pa
 makes_at z v a line (SetSlot id slot) (place.SetSlot p) small S I P =
     λ step is. subst (IsPart z v a) (same_step is) (makes_setting z v a line p id slot small S I P)
 makes_at z v a line _ _ small S I P = absurd S.holds
-
--- At a place of another form than an access a line rests on what its step needs.
-pub rests_by_needs : (p : Place) (command : Command) (h : Held) → IsNoAccess p → KnowsPart p command h → NeedsAt p command h → RestsAt p command h
-rests_by_needs (place.Access p) command h other K N = absurd other
-rests_by_needs place.Between command h other K N = tt
-rests_by_needs (place.SetSlot p) (SetSlot id slot) h other K N = N
-rests_by_needs _ _ h other K N = absurd K
 
 -- Each step keeps the invariant.
 pub step_kept : (z : Sizes) (v : View) (a : ℕ) (line : Line) (command : Command) (p : Place) → AreSmall v → IsStep z v a line command p → Invariant z v → TopicsInvariant z v → Invariant z (stepped a line command p v)

@@ -50,7 +50,7 @@ use Rattle.part_steps.specs.PartHoldings.{IsOver}
 use Rattle.part_steps.specs.PartSteps.{IsAtRest, IsVcpu, PartNeeds}
 use Rattle.part_steps.specs.PartTopics.{part_topics}
 use Rattle.mmu_core.specs.lines.SetSlotSteps.{set_slot_outcome, set_slot_task, set_slot_part, set_slot_first, set_slot_note}
-use Rattle.mmu_core.specs.lines.Rests.{IsUnderWay}
+use Rattle.mmu_core.specs.lines.Rests.{IsUnderWay, RestsAt}
 use Rattle.mmu_core.specs.machine.Steps.{caches_at, first_place, has_line, line_at, outcome_at, place_at, standing, task_at}
 use Rattle.part_steps.specs.Tasks.{kind_of_task}
 use Rattle.mmu_core.specs.machine.Outcomes.{place_after}
@@ -196,8 +196,7 @@ own_access p line h gfn word op words vcpu small R K =
 -- what a slot setting knows behind a step is what its next place asks
 setting_behind : (o : Outcome) (id : ℕ) (slot : Slot) (g : Held) → SettingKnows o g → KnowsBehind o (SetSlot id slot) g
 setting_behind (Goes (place.SetSlot p)) id slot g K = K
-setting_behind (Goes (place.Access p)) id slot g K = absurd K
-setting_behind (Goes place.Between) id slot g K = absurd K
+setting_behind (Goes _) id slot g K = absurd K
 setting_behind (Ends answer) id slot g K = K
 
 own_set_slot : (p : SetSlotPlace) (line : Line) (h : Held) (id : ℕ) (slot : Slot) (words : Area → ℕ → ℕ) → PartRests h → SetSlotKnows p h → (may_leave (place.SetSlot p) ≡ false → h.topics.leaving ≡ None) → PartNeeds (set_slot_part p h id slot) h
@@ -210,10 +209,10 @@ own_set_slot p line h id slot words R K left N =
     (sym (part_topics_is h.state.sizes step (own_index h) h.topics (set_slot_note p h) v (is_there step h N)))
     (setting_behind (set_slot_outcome p h v) id slot _ (set_slot_known line h id slot cached v R p K left (parts_answer step (own_index h) h.topics (set_slot_note p h) words)))
 
--- what the step of a slot setting needs, at its places
+-- what the step of a line needs at its places, but for those of an access, which knows it from its place
 abbrev pub NeedsAt : Place → Command → Held → Type 0
-NeedsAt (place.SetSlot p) (SetSlot id slot) h = PartNeeds (set_slot_part p h id slot) h
-NeedsAt _ command h = Unit {0}
+NeedsAt (place.Access p) command h = Unit {0}
+NeedsAt p command h = RestsAt p command h
 
 own_known : (p : Place) (line : Line) (command : Command) (z : Sizes) (h : Held) (words : Area → ℕ → ℕ) → IsUnderWay p → IsCommandFor z h.state.actor command → PartRests h → KnowsPart p command h → LeavesPart p h.topics → NeedsAt p command h
     → KnowsAfter line command p h (answer_in (task_at p command h) words)
@@ -269,8 +268,8 @@ setting_needs z v a line p id slot S I P =
 pub needs_at : (z : Sizes) (v : View) (a : ℕ) (line : Line) (command : Command) (p : Place) → IsStep z v a line command p → Invariant z v → TopicsInvariant z v → NeedsAt p command (v.hand a)
 needs_at z v a line command place.Between S I P = tt
 needs_at z v a line command (place.Access p) S I P = tt
-needs_at z v a line (Access gfn word op) (place.SetSlot p) S I P = tt
 needs_at z v a line (SetSlot id slot) (place.SetSlot p) S I P = setting_needs z v a line p id slot S I P
+needs_at z v a line _ _ S I P = absurd S.holds
 
 -- The step of a line leaves its actor with what its next place asks, or at rest where the line is answered.
 pub line_knows : (z : Sizes) (v : View) (a : ℕ) (line : Line) (command : Command) (p : Place) → IsStep z v a line command p → Invariant z v → TopicsInvariant z v → a < actors_of z

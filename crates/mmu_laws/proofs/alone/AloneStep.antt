@@ -73,6 +73,7 @@ use Rattle.mmu_core.proofs.words.PartTopics.{is_there, part_topics_is}
 use Rattle.mmu_laws.proofs.alone.SetSlotAlone.{setting_through}
 use Rattle.mmu_core.proofs.slots.SetSlotKnown.{SettingKnows, set_slot_known}
 use Rattle.mmu_core.specs.lines.SetSlotKnows.{SetSlotKnows}
+use Rattle.mmu_core.proofs.lines.AccessLeft.{two_left}
 use Rattle.mmu_core.proofs.lines.KnowsKept.{KnowsBehind, NeedsAt, access_known, access_needs, access_vcpu, behind_part, task_answers, task_topics}
 use Rattle.mmu_core.proofs.lines.UsedTranslations.{filled_behind}
 use Rattle.circular_buffer.specs.Buffer.{Buffer}
@@ -119,10 +120,6 @@ down_page page v index walk from most = by (walk.level == 2) (walk.level == 3) r
     by false false is other = let e : walk.level ≡ 4 = grind (arith, nat_tests) in rw e refl
 
 -- ---- the stay in the guest
-
-pub two_left : (again : Bool) (y : Sizes) (t : Topics) → 2 ≤ stay_left again y t
-two_left true y t = omega arith
-two_left false y t = omega arith
 
 pause_goes : (used : Option Translation) (again : Bool) (gfn word : ℕ) (op : Op) (y : Sizes) (words : Area → ℕ → ℕ) (t u : Topics) → StayAlone again (words area.Root 0) (words area.Pool) gfn (is_write op)
     → GoesAlone (Goes (place.Access (pause_next again used))) (Access gfn word op) y words u (6 + stay_left again y t)

@@ -1,6 +1,6 @@
 -- A line is answered starved only where its own claim saw each word of the pool's map with no free page.
 use Rattle.std.proofs.Common.{◌≡◌, ◌≢◌, ◌⊎◌, inl, inr, ◌<◌, ◌≤◌, ℕ, List, [], ◌∷◌, ◌++◌, length, refl, sym, subst, ap, append_assoc}
-use Rattle.std.specs.Prelude.{Bool, Option, Some, None, slice_get, unwrap_or, is_some, ◌+◌}
+use Rattle.std.specs.Prelude.{Bool, Option, Some, None, slice_get, unwrap_or, is_some}
 use Rattle.std.proofs.lemmas.List.{append-nil}
 use Rattle.core_views.specs.declared.answer.Answer.TheVariants as answer
 use Rattle.core_views.specs.declared.kind.Kind.{Kind}
@@ -144,8 +144,7 @@ starved_first z slots (SetSlot id slot) h v e R = starved_setting (set_slot_firs
 starved_line : (p : Place) (h : Held) (v : ℕ) → outcome_at (place_at p h) (line_at p h).command h v ≡ Ends answer.Starved → KnowsPart p h.state.line.command h → RestsAt (place_at p h) (line_at p h).command h
     → IsStarved (place_at p h) (task_at (place_at p h) (line_at p h).command h) h v
 starved_line place.Between h v e K R = starved_first h.state.sizes h.slots (line_at place.Between h).command h v e R
-starved_line (place.Access p) h v e K R = starved_by (place.Access p) h.state.line.command h v e K R
-starved_line (place.SetSlot p) h v e K R = starved_by (place.SetSlot p) h.state.line.command h v e K R
+starved_line p h v e K R = starved_by p h.state.line.command h v e K R
 
 -- A hand whose step answers a line starved has a line left.
 has_left : (p : Place) (h : Held) (v : ℕ) → UnderWay p h → outcome_at (place_at p h) (line_at p h).command h v ≡ Ends answer.Starved → length h.answers < length h.lines
