@@ -48,7 +48,8 @@ use Rattle.mmu_core.specs.invariant.TopicsInvariant.{TopicsInvariant}
 use Rattle.mmu_core.specs.machine.View.{View}
 use Rattle.mmu_core.proofs.machine.Columns.{same_or}
 use Rattle.part_steps.proofs.EntryTopics.{looked_at}
-use Rattle.mmu_core.proofs.lines.KnowsKept.{access_needs, access_vcpu, step_knows, NeedsAt, needs_at}
+use Rattle.mmu_core.proofs.lines.KnowsKept.{access_needs, access_vcpu, step_knows, NeedsAt}
+use Rattle.mmu_core.proofs.invariant.Kept.{needs_at}
 use Rattle.mmu_core.proofs.invariant.PartBounded.{part_rests_at}
 pub use Rattle.mmu_core.proofs.invariant.PartBounded.{host_at}
 use Rattle.mmu_core.proofs.words.PartFits.{part_within_by}

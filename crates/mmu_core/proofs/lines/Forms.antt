@@ -23,7 +23,8 @@ use Rattle.core_views.specs.SlotSets.{MemorySlots}
 use Rattle.core_views.specs.Slots.{is_write}
 use Rattle.part_steps.specs.declared.part_step.PartStep.{PartStep}
 use Rattle.part_steps.specs.declared.part_step.PartStep.TheVariants as part
-use Rattle.part_steps.specs.PartSteps.{PartNeeds}
+use Rattle.part_steps.specs.PartSteps.{IsAtRest, PartNeeds}
+use Rattle.mmu_core.specs.lines.KnowsPart.{KnowsPart}
 use Rattle.spte_words.specs.declared.area.Area.{Area}
 use Rattle.spte_words.specs.declared.area.Area.TheVariants as area
 use Rattle.mmu_core.specs.alone.AloneKnows.{AloneKnows}
@@ -40,7 +41,7 @@ use Rattle.mmu_core.proofs.lines.AccessLeft.{access_few, some_access_left}
 use Rattle.mmu_core.proofs.machine.GoesOn.{GoesToNoAccess, GoesUnderWay, IsNoAccess}
 use Rattle.mmu_core.proofs.slots.LiveStay.{StayLive, access_stays}
 use Rattle.mmu_core.proofs.slots.LiveStays.{OwnedStays}
-use Rattle.mmu_core.proofs.slots.SetSlotPlaces.{accepts_prop, begins_at_once, set_slot_begins, set_slot_begins_alone, set_slot_few, set_slot_goes, set_slot_stays, setting_accepts, some_setting_left}
+use Rattle.mmu_core.proofs.slots.SetSlotPlaces.{accepts_prop, begins_at_once, set_slot_begins, set_slot_begins_alone, set_slot_begins_known, set_slot_few, set_slot_goes, set_slot_knows_prop, set_slot_stays, setting_accepts, some_setting_left}
 
 -- ---- where a line goes on to
 
@@ -115,10 +116,23 @@ pub first_no_end : (z : Sizes) (slots : MemorySlots) (command : Command) → beg
 first_no_end z slots (Access gfn word op) is = cc is
 first_no_end z slots _ is = cc is
 
--- Alone, it knows what its first place asks.
+-- Its actor, which was at rest, knows what its first place asks.
+pub first_known : (z : Sizes) (command : Command) (h : Held) → IsAtRest h.topics → KnowsPart (first_place z h.slots command) command h
+first_known z (Access gfn word op) h R = R
+first_known z (SetSlot id slot) h R = set_slot_begins_known (set_refusal z.pages id slot h.slots) h R
+
+-- Alone, it knows what its first place asks of the words.
 pub first_alone : (z : Sizes) (slots : MemorySlots) (command : Command) (words : Area → ℕ → ℕ) (t : Topics) → AloneKnows (first_place z slots command) command words t
 first_alone z slots (Access gfn word op) words t = λ e. absurd (cc e)
 first_alone z slots (SetSlot id slot) words t = set_slot_begins_alone (set_refusal z.pages id slot slots) (words area.PoolMap) t
+
+-- ---- what it knows
+
+-- At a place of another form than an access this is a proposition.
+pub knows_prop : (p : Place) (command : Command) (h : Held) → IsNoAccess p → IsProp (KnowsPart p command h)
+knows_prop (place.Access p) command h other = absurd other
+knows_prop (place.SetSlot p) (SetSlot id slot) h other = set_slot_knows_prop p h
+knows_prop _ _ h other = hlevel props
 
 -- ---- what a line has loaded or stored
 

@@ -23,6 +23,8 @@ use Rattle.mmu_core.specs.lines.Rests.{RecordAccepts}
 use Rattle.mmu_core.specs.declared.claim.ClaimNext.{ClaimNext}
 use Rattle.mmu_core.specs.declared.claim.ClaimNext.TheVariants as claims
 use Rattle.mmu_core.specs.lines.ClaimSteps.{claim_next}
+use Rattle.part_steps.specs.PartSteps.{IsAtRest}
+use Rattle.mmu_core.specs.lines.SetSlotKnows.{SetSlotKnows}
 use Rattle.mmu_core.specs.lines.SetSlotSteps.{after_claim, set_slot_first, set_slot_outcome}
 use Rattle.mmu_core.proofs.lines.AccessLeft.{claim_few}
 use Rattle.mmu_core.proofs.machine.GoesOn.{GoesToNoAccess, GoesUnderWay}
@@ -93,3 +95,14 @@ begins_at_once None id slot h v is = cc is
 pub set_slot_begins_alone : (r : Option Refusal) (map : ℕ → ℕ) (t : Topics) → SetSlotAlone (set_slot_first r) map t
 set_slot_begins_alone None map t = (λ e. absurd (cc e), λ e. absurd (cc e))
 set_slot_begins_alone (Some refusal) map t = tt
+
+-- It knows what its first place asks, where its actor is at rest.
+pub set_slot_begins_known : (r : Option Refusal) (h : Held) → IsAtRest h.topics → SetSlotKnows (set_slot_first r) h
+set_slot_begins_known None h R = (R, λ e. absurd (cc e))
+set_slot_begins_known (Some refusal) h R = R
+
+-- ---- what it knows is a proposition
+
+pub set_slot_knows_prop : (p : SetSlotPlace) (h : Held) → IsProp (SetSlotKnows p h)
+set_slot_knows_prop (Refuse refusal) h = hlevel props
+set_slot_knows_prop _ h = hlevel props

@@ -35,7 +35,8 @@ use Rattle.mmu_laws.proofs.alone.GoesAlone.{GoesAlone}
 use Rattle.mmu_core.proofs.machine.Columns.{same_or, upd_other, upd_same}
 use Rattle.mmu_core.proofs.machine.Extend.{hands_of_effect}
 use Rattle.mmu_core.proofs.lines.Forms.{first_alone, first_left}
-use Rattle.mmu_core.proofs.lines.KnowsKept.{knows_at, needs_at, step_leaves}
+use Rattle.mmu_core.proofs.lines.KnowsKept.{knows_at, step_leaves}
+use Rattle.mmu_core.proofs.invariant.Kept.{needs_at}
 use Rattle.mmu_core.proofs.invariant.PartBounded.{part_rests_at}
 use Rattle.mmu_core.proofs.machine.Which.{has_line_is, is_next}
 use Rattle.mmu_core.proofs.machine.Worlds.{Takes, good_step, takes_line}

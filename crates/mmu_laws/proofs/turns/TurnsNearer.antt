@@ -42,7 +42,8 @@ use Rattle.mmu_laws.proofs.alone.AloneRuns.{standing_left}
 use Rattle.mmu_laws.proofs.alone.AloneStep.{is_leaf_here}
 use Rattle.mmu_core.proofs.machine.Columns.{upd_same}
 use Rattle.mmu_core.proofs.lines.Forms.{first_goes, first_no_end}
-use Rattle.mmu_core.proofs.lines.KnowsKept.{knows_at, needs_at}
+use Rattle.mmu_core.proofs.lines.KnowsKept.{knows_at}
+use Rattle.mmu_core.proofs.invariant.Kept.{needs_at}
 use Rattle.mmu_core.proofs.invariant.PartBounded.{part_rests_at}
 use Rattle.mmu_laws.proofs.turns.StayNearer.{Nearer, place_nearer}
 use Rattle.mmu_core.proofs.machine.Which.{is_next}
