@@ -30,13 +30,13 @@ use Rattle.mmu_core.specs.machine.Steps.{line_at, outcome_at, place_at, standing
 use Rattle.mmu_core.specs.machine.Outcomes.{answers_after, place_after}
 use Rattle.mmu_core.specs.machine.Turns.{line_of, outcome_of}
 use Rattle.mmu_core.specs.machine.View.{View, answer_in, hand_after, view, word_in, words_after}
-use Rattle.mmu_laws.proofs.alone.AloneStep.{AloneStep, RestsBehind, alone_step}
-use Rattle.mmu_laws.proofs.alone.GoesAlone.{GoesAlone}
+use Rattle.mmu_laws.proofs.alone.AloneStep.{alone_step, topics_at}
+use Rattle.mmu_laws.proofs.alone.GoesAlone.{GoesAlone, GoesOnAlone}
 use Rattle.mmu_core.proofs.machine.Columns.{same_or, upd_other, upd_same}
 use Rattle.mmu_core.proofs.machine.Extend.{hands_of_effect}
 use Rattle.mmu_core.proofs.lines.Forms.{first_alone, first_left}
-use Rattle.mmu_core.proofs.lines.KnowsKept.{knows_at, step_leaves}
-use Rattle.mmu_core.proofs.invariant.Kept.{needs_at}
+use Rattle.mmu_core.proofs.lines.KnowsKept.{KnowsBehind, knows_at}
+use Rattle.mmu_core.proofs.invariant.Kept.{line_knows, needs_at}
 use Rattle.mmu_core.proofs.invariant.PartBounded.{part_rests_at}
 use Rattle.mmu_core.proofs.machine.Which.{has_line_is, is_next}
 use Rattle.mmu_core.proofs.machine.Worlds.{Takes, good_step, takes_line}
@@ -99,7 +99,7 @@ goes_on q z w after a line g words sizes B H G =
     )
 
 comes_nearer : (o : Outcome) (z : Sizes) (w after : World Held) (a : ℕ) (line : Line) (g : Held) (words : Area → ℕ → ℕ) → (hand_in mmu w a).state.sizes ≡ z → Behind z a after g words → HandBy o line (hand_in mmu w a) g
-    → GoesAlone o line.command (hand_in mmu w a).state.sizes words g.topics (hand_left (hand_in mmu w a)) → RestsBehind o g.topics → ComesNearer o z a w after
+    → GoesAlone o line.command (hand_in mmu w a).state.sizes words g.topics (hand_left (hand_in mmu w a)) → KnowsBehind o line.command g → ComesNearer o z a w after
 comes_nearer (Goes q) z w after a line g words sizes B H G rests = goes_on q z w after a line g words sizes B H G
 comes_nearer (Ends answer) z w after a line g words sizes B H G rests = (B.sound, all, subst (λ (ws : Area → ℕ → ℕ). StarvedOnlyWithout answer z (ws area.PoolMap)) (sym B.words_are) (subst (λ y. StarvedOnlyWithout answer y (words area.PoolMap)) sizes G))
   where
@@ -142,12 +142,12 @@ module _ (z : Sizes) (w : World Held) (s : Step Kind) (L : LineAlone z w s.actor
   taken : Takes z w s h
   taken = takes_line z w s L.sound may (is_next h s.kind may.enabled (has_line_is h L.left))
 
-  stepped_alone : AloneStep stood line.command h words
+  stepped_alone : GoesOnAlone stood line.command h words (topics_at stood line.command h words)
   stepped_alone =
       let S = taken.is_step in
       alone_step z w a L.sound L.others L.there (part_rests_at z (view z w) a L.sound.holds L.sound.topics L.there) (ap (λ y. index_of y h.state.actor) sizes ∙ (L.sound.holds.lines a L.there).index) sizes
-      stood line line.command S.begun (subst (λ c. IsCommandFor z c line.command) S.own S.allowed) (knows_at z (view z w) a L.sound.holds L.there L.left)
-      (step_leaves z (view z w) a line line.command stood S L.sound.holds) (needs_at z (view z w) a line line.command stood S L.sound.holds L.sound.topics) (standing_alone h.state.place h.state.sizes h.slots line.command words h.topics L.knows)
+      stood line.command S.begun (subst (λ c. IsCommandFor z c line.command) S.own S.allowed) (knows_at z (view z w) a L.sound.holds L.there L.left)
+      (needs_at z (view z w) a line line.command stood S L.sound.holds L.sound.topics) (standing_alone h.state.place h.state.sizes h.slots line.command words h.topics L.knows)
 
   behind : Behind z a (effect mmu w s) (hand_after line line.command stood h x) (words_after (task_at stood line.command h) words)
   behind = record {
@@ -163,12 +163,12 @@ module _ (z : Sizes) (w : World Held) (s : Step Kind) (L : LineAlone z w s.actor
       comes_nearer (outcome_at stood line.command h x) z w (effect mmu w s) a line (hand_after line line.command stood h x) (words_after (task_at stood line.command h) words) sizes behind
       (record { stands = refl; line_is = refl; lines = refl; answers = refl; left = L.left })
       (goes_more (outcome_at stood line.command h x) line.command h.state.sizes (words_after (task_at stood line.command h) words) (hand_after line line.command stood h x).topics (steps_left stood h.state.sizes h.topics) (hand_left h)
-      (standing_left h.state.place h.state.sizes h.slots line.command h.topics (subst AreSizes (sym sizes) L.sound.holds.sizes)) stepped_alone.on.next)
-      stepped_alone.rests
+      (standing_left h.state.place h.state.sizes h.slots line.command h.topics (subst AreSizes (sym sizes) L.sound.holds.sizes)) stepped_alone.next)
+      (line_knows z (view z w) a line line.command stood taken.is_step L.sound.holds L.sound.topics L.there)
 
   steps_alone_here : StepsAlone z w s
   steps_alone_here = record {
-    goes = ap (line_waits stood line.command h) taken.answers ∙ stepped_alone.on.goes;
+    goes = ap (line_waits stood line.command h) taken.answers ∙ stepped_alone.goes;
     nearer = subst (λ n. ComesNearer (outcome_at stood line.command h n) z a w (effect mmu w s)) (sym taken.answers) nearer;
   }
 
