@@ -1,6 +1,6 @@
 -- An access that is about to touch has looked at the pause in this stay in the guest.
 use Rattle.std.proofs.Common.{◌≡◌, ◌≢◌, ℕ, List, [], ◌∷◌, ◌++◌, refl, sym, subst, ap, ◌∙◌, arith}
-use Rattle.std.specs.Prelude.{Bool, true, false, Option, Some, None, ◌+◌, slice_index}
+use Rattle.std.specs.Prelude.{Bool, true, false, Option, Some, None, slice_index}
 use Rattle.core_views.specs.declared.cache.Translation.{Translation}
 use Rattle.core_views.specs.declared.kind.Kind.{Kind}
 use Rattle.core_views.specs.declared.kind.StepKind.TheVariants as kind

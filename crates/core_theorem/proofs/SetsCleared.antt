@@ -27,7 +27,6 @@ use Rattle.part_steps.specs.PartTasks.{own_index, page_left, part_task, words_fi
 use Rattle.part_steps.specs.PartHoldings.{MayGiveOld}
 use Rattle.part_steps.specs.Tasks.{kind_of_task}
 use Rattle.part_steps.specs.TopicSteps.{topics_after}
-use Rattle.mmu_core.specs.declared.outcome.Outcome.TheVariants.{Goes}
 use Rattle.mmu_core.specs.declared.claim.ClaimNext.{ClaimNext}
 use Rattle.mmu_core.specs.declared.claim.ClaimNext.TheVariants as claims
 use Rattle.mmu_core.specs.lines.AccessSteps.{touch_of}

@@ -26,7 +26,7 @@ use Rattle.mmu_core.specs.lines.Bounds.{steps_left}
 use Rattle.mmu_core.specs.lines.FaultKnows.{EndKnows, FaultKnows, KnowsNext}
 use Rattle.mmu_core.specs.lines.FaultLaws.{CanAnswer}
 use Rattle.mmu_core.specs.lines.FaultLeft.{fault_left, next_left}
-use Rattle.mmu_core.specs.lines.FaultSteps.{fault_next, fault_part, wait_seen}
+use Rattle.mmu_core.specs.lines.FaultSteps.{fault_next, fault_part}
 use Rattle.mmu_core.specs.machine.Enabled.{mmu}
 use Rattle.mmu_core.specs.machine.Machine.{World, answered}
 use Rattle.mmu_core.specs.machine.Outcomes.{place_after}
@@ -35,7 +35,7 @@ use Rattle.mmu_core.specs.machine.Turns.{line_of}
 use Rattle.mmu_core.specs.machine.View.{word_in}
 use Rattle.part_steps.specs.declared.part_step.PartStep.{PartStep}
 use Rattle.part_steps.specs.declared.part_step.PartStep.TheVariants as part
-use Rattle.mmu_core.specs.lines.PartWaits.{part_waits}
+use Rattle.mmu_core.specs.lines.PartWaits.{part_seen, part_waits}
 use Rattle.part_steps.specs.PartBounds.{PartRests}
 use Rattle.part_steps.specs.PartTasks.{own_index, part_kind}
 use Rattle.part_steps.specs.PartSteps.{PartNeeds}
@@ -123,7 +123,7 @@ module _ (p : FaultPlace) (job : FaultJob) (turn : Turn Faulted) (a : ℕ) (h g 
 
   pub nearer : turn ≡ More → hand_left g < hand_left h
   nearer is =
-      let falls = fault_falls p h job.gfn M.found job.write I.gfn rests I.knows (waits_not turn (part_waits (fault_part p job.gfn h.topics) h.topics M.found) (wait_seen p h job.gfn (access_note (Fault p)) M.found) is M.waits_by) in
+      let falls = fault_falls p h job.gfn M.found job.write I.gfn rests I.knows (waits_not turn (part_waits (fault_part p job.gfn h.topics) h.topics M.found) (part_seen (fault_part p job.gfn h.topics) h M.found) is M.waits_by) in
       let same : g.state.sizes ≡ h.state.sizes = ap (λ (x : Held). x.state.sizes) M.made.hand ∙ (next_same h (part_kind h (fault_part p job.gfn h.topics) (access_note (Fault p))) M.found).sizes in
       let before : hand_left h ≡ fault_left p h.state.sizes h.topics + 9 = left_at p h.state.place h.state.sizes h.slots (line_of h).command h.topics at in
       rw (before, stands, same, M.made.topics) (goes_nearer goes_to turn h.state.sizes _ _ is M.turned falls)

@@ -15,8 +15,8 @@ use Rattle.core_views.specs.Held.{Held}
 use Rattle.core_views.specs.Slots.{is_write}
 use Rattle.mmu_core.specs.lines.AccessSteps.{access_note, behind_fault}
 use Rattle.mmu_core.specs.lines.FaultKnows.{EndKnows, FaultKnows, KnowsNext}
-use Rattle.mmu_core.specs.lines.FaultSteps.{fault_next, fault_part, wait_seen}
-use Rattle.mmu_core.specs.lines.PartWaits.{part_waits}
+use Rattle.mmu_core.specs.lines.FaultSteps.{fault_next, fault_part}
+use Rattle.mmu_core.specs.lines.PartWaits.{part_seen, part_waits}
 use Rattle.mmu_core.specs.machine.MayMake.{MayMake}
 use Rattle.mmu_core.specs.machine.Outcomes.{place_after}
 use Rattle.mmu_core.specs.machine.Steps.{place_at}
@@ -106,7 +106,7 @@ pub record MakesStep (p : FaultPlace) (job : FaultJob) (turn : Turn Faulted) (no
   pub found : ℕ
   pub made : MadePart (fault_part p job.gfn h.topics) note found actor h g told tells
   pub turned : AnswersBy turn (fault_next p h.state.sizes job.gfn job.write h.topics found)
-  pub waits_by : WaitsBy turn (part_waits (fault_part p job.gfn h.topics) h.topics found) (wait_seen p h job.gfn note found)
+  pub waits_by : WaitsBy turn (part_waits (fault_part p job.gfn h.topics) h.topics found) (part_seen (fault_part p job.gfn h.topics) h found)
 
 -- One turn of the fault at this place: the hand stands where the order of steps leads from there, and knows what its next place asks; where
 -- the fault is over, its answer has its cause in what was loaded, and the actor holds nothing.

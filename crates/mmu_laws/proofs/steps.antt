@@ -1,5 +1,5 @@
 pub mod CanStep
-pub mod ClaimNote
 pub mod ExampleRun
+pub mod Notes
 pub mod StepLaws
 pub mod ViewRuns

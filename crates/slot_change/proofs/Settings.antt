@@ -13,10 +13,10 @@ use Rattle.core_views.specs.declared.trace.Command.TheVariants.{SetSlot}
 use Rattle.core_views.specs.Held.{Held}
 use Rattle.part_steps.specs.PartTasks.{part_kind}
 use Rattle.mmu_core.specs.alone.LineAlone.{line_waits}
-use Rattle.mmu_core.specs.lines.SetSlotSteps.{set_slot_outcome, set_slot_seen, set_slot_note, set_slot_part}
+use Rattle.mmu_core.specs.lines.SetSlotSteps.{set_slot_outcome, set_slot_note, set_slot_part}
 use Rattle.mmu_core.specs.machine.Steps.{outcome_at, place_at}
 use Rattle.mmu_core.specs.lines.KnowsPart.{KnowsPart}
-use Rattle.mmu_core.specs.lines.PartWaits.{part_waits}
+use Rattle.mmu_core.specs.lines.PartWaits.{part_seen, part_waits}
 use Rattle.mmu_core.specs.lines.Rests.{Rests}
 use Rattle.mmu_core.specs.machine.MayMake.{MayMake}
 use Rattle.mmu_core.specs.machine.Turns.{line_of, outcome_of}
@@ -54,7 +54,7 @@ module _ (way : Option Seen) (p : SetSlotPlace) (job : SlotJob) (note actor : �
   outcome_is : outcome_of h M.found ≡ set_slot_outcome p h M.found
   outcome_is = ap (λ (q : Place). outcome_at q (line_of h).command h M.found) L.stands ∙ ap (λ (c : Command). outcome_at (place.SetSlot p) c h M.found) L.command
 
-  turns : (turn : Turn Answer) → Gives turn (part_waits (set_slot_part p h job.id job.slot) h.topics M.found) (set_slot_seen p h job.id job.slot M.found) (turn_of (set_slot_outcome p h M.found)) → TurnsLine turn actor h g told tells
+  turns : (turn : Turn Answer) → Gives turn (part_waits (set_slot_part p h job.id job.slot) h.topics M.found) (part_seen (set_slot_part p h job.id job.slot) h M.found) (turn_of (set_slot_outcome p h M.found)) → TurnsLine turn actor h g told tells
   unfolding made_line
   turns turn gives = record {
     makes = made_line (set_slot_part p h job.id job.slot) note M.found actor h g told tells L.is_at.may M.made;
@@ -62,8 +62,8 @@ module _ (way : Option Seen) (p : SetSlotPlace) (job : SlotJob) (note actor : �
         (subst (λ (c : Command). Gives turn (line_waits (place.SetSlot p) c h M.found) (line_seen (place.SetSlot p) c h M.found) (line_turn (place.SetSlot p) c h M.found)) (sym L.command) gives);
   }
 
-  told_way : (x : Option Seen) → way ≡ x → ToldWay x (part_waits (set_slot_part p h job.id job.slot) h.topics M.found) (set_slot_seen p h job.id job.slot M.found)
-  told_way x is = subst (λ (y : Option Seen). ToldWay y (part_waits (set_slot_part p h job.id job.slot) h.topics M.found) (set_slot_seen p h job.id job.slot M.found)) is M.told_way
+  told_way : (x : Option Seen) → way ≡ x → ToldWay x (part_waits (set_slot_part p h job.id job.slot) h.topics M.found) (part_seen (set_slot_part p h job.id job.slot) h M.found)
+  told_way x is = subst (λ (y : Option Seen). ToldWay y (part_waits (set_slot_part p h job.id job.slot) h.topics M.found) (part_seen (set_slot_part p h job.id job.slot) h M.found)) is M.told_way
 
   free : way ≡ None → part_waits (set_slot_part p h job.id job.slot) h.topics M.found ≡ false
   free is = told_way None is

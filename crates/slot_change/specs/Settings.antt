@@ -4,9 +4,9 @@ use Rattle.core_views.specs.declared.hand.Seen.{Seen}
 use Rattle.core_views.specs.declared.place.SetSlotPlace.{SetSlotPlace}
 use Rattle.core_views.specs.declared.place.SetSlotPlace.TheVariants.{Count, Publish, Clear, Give}
 use Rattle.core_views.specs.Held.{Held}
-use Rattle.mmu_core.specs.lines.PartWaits.{part_waits}
+use Rattle.mmu_core.specs.lines.PartWaits.{part_seen, part_waits}
 use Rattle.mmu_core.specs.lines.SetSlotKnows.{SetSlotKnows}
-use Rattle.mmu_core.specs.lines.SetSlotSteps.{set_slot_part, set_slot_seen}
+use Rattle.mmu_core.specs.lines.SetSlotSteps.{set_slot_part}
 use Rattle.mmu_core.specs.machine.MayMake.{MayMake}
 use Rattle.mmu_lock.specs.declared.lock.Lock.{Lock}
 use Rattle.mmu_lock.specs.declared.lock.Lock.TheVariants.{Got, Held as HeldBy}
@@ -30,7 +30,7 @@ ToldWay None waits way = waits ≡ false
 pub record MakesStep (way : Option Seen) (p : SetSlotPlace) (job : SlotJob) (note actor : ℕ) (h g : Held) (told tells : Told) : Type 0 where
   pub found : ℕ
   pub made : MadePart (set_slot_part p h job.id job.slot) note found actor h g told tells
-  pub told_way : ToldWay way (part_waits (set_slot_part p h job.id job.slot) h.topics found) (set_slot_seen p h job.id job.slot found)
+  pub told_way : ToldWay way (part_waits (set_slot_part p h job.id job.slot) h.topics found) (part_seen (set_slot_part p h job.id job.slot) h found)
 
 -- what is in the way of who tries to hold the lock alone, on the lock's word
 abbrev pub lock_way : ℕ → Lock → Option Seen

@@ -2,7 +2,8 @@
 ghost use Rattle.std.specs.Prelude.{◌≡◌, ◌<◌};
 ghost use Rattle.core_views.specs.Sizes.{AreSizes};
 ghost use Rattle.core_views.specs.declared.place.SetSlotPlace.TheVariants as at;
-ghost use Rattle.mmu_core.specs.lines.SetSlotSteps.{set_slot_part, set_slot_seen};
+ghost use Rattle.mmu_core.specs.lines.PartWaits.{part_seen};
+ghost use Rattle.part_steps.specs.declared.part_step.PartStep.TheVariants.{Release};
 ghost use Rattle.slot_change.specs.Settings.{IsAt, IsPlain, MakesStep, lock_way};
 ghost use Rattle.step_seats.specs.Moves.{KeepsRoom};
 
@@ -143,7 +144,7 @@ impl SlotJob {
     // back for them.
     fn counted(&self, hand: &Hand) -> Seen
         requires sizes { AreSizes hand.now.core.state.sizes }
-        ensures { result ≡ set_slot_seen at.Close hand.now.core self.now.id self.now.slot 0 }
+        ensures { result ≡ part_seen Release hand.now.core 0 }
     {
         Seen {
             word: map_of(&hand.state().sizes).word_of_count(0),

@@ -1,5 +1,5 @@
 -- What one turn of a line's job is: the line's next step, and what the turn answers of it.
-use Rattle.std.specs.Prelude.{◌≡◌, ℕ, Bool, true, false}
+use Rattle.std.specs.Prelude.{◌≡◌, ℕ, Bool, true, false, Option, Some, None}
 use Rattle.core_views.specs.declared.answer.Answer.{Answer}
 use Rattle.core_views.specs.declared.hand.Seen.{Seen}
 use Rattle.core_views.specs.declared.kind.Kind.{Kind}
@@ -10,17 +10,19 @@ use Rattle.core_views.specs.declared.place.FaultNext.TheVariants as next_of
 use Rattle.core_views.specs.declared.place.Place.{Place}
 use Rattle.core_views.specs.declared.place.Place.TheVariants as place
 use Rattle.core_views.specs.declared.trace.Command.{Command}
-use Rattle.core_views.specs.declared.trace.Command.TheVariants.{Access, SetSlot}
+use Rattle.core_views.specs.declared.trace.Command.TheVariants.{Access}
 use Rattle.core_views.specs.declared.trace.Line.{Line}
 use Rattle.core_views.specs.Held.{Held}
 use Rattle.core_views.specs.Slots.{is_write}
 use Rattle.mmu_core.specs.declared.outcome.Outcome.{Outcome}
 use Rattle.mmu_core.specs.declared.outcome.Outcome.TheVariants.{Goes, Ends}
-use Rattle.mmu_core.specs.lines.AccessSteps.{access_note, behind_fault}
+use Rattle.mmu_core.specs.lines.AccessSteps.{behind_fault}
 use Rattle.mmu_core.specs.machine.Enabled.{Enabled}
-use Rattle.mmu_core.specs.lines.FaultSteps.{fault_next, wait_seen}
+use Rattle.mmu_core.specs.lines.FaultSteps.{fault_next}
 use Rattle.mmu_core.specs.alone.LineAlone.{line_waits}
-use Rattle.mmu_core.specs.lines.SetSlotSteps.{set_slot_seen}
+use Rattle.mmu_core.specs.lines.PartAt.{part_at}
+use Rattle.mmu_core.specs.lines.PartWaits.{part_seen}
+use Rattle.part_steps.specs.declared.part_step.PartStep.{PartStep}
 use Rattle.mmu_core.specs.machine.Steps.{next, outcome_at, place_at}
 use Rattle.mmu_core.specs.machine.Turns.{GoesOn, IsAnswered, line_of}
 use Rattle.step_seats.specs.Moves.{Adds, Tells}
@@ -47,11 +49,14 @@ abbrev pub line_turn : Place → Command → Held → ℕ → Turn Answer
 line_turn (place.Access (Fault p)) (Access gfn word op) h v = fault_turn (fault_next p h.state.sizes gfn (is_write op) h.topics v)
 line_turn p command h v = turn_of (outcome_at p command h v)
 
--- what it has seen where one is: the word that its step is on, with what is in the way
+-- what the step of a line has seen that waits, which is the step of a part
+abbrev pub seen_by : Option PartStep → Held → ℕ → Seen
+seen_by (Some step) h v = part_seen step h v
+seen_by None h v = record { word = 0; value = 0 }
+
+-- what it has seen where an actor is in its way
 abbrev pub line_seen : Place → Command → Held → ℕ → Seen
-line_seen (place.Access (Fault p)) (Access gfn word op) h v = wait_seen p h gfn (access_note (Fault p)) v
-line_seen (place.SetSlot p) (SetSlot id slot) h v = set_slot_seen p h id slot v
-line_seen p command h v = record { word = 0; value = 0 }
+line_seen p command h v = seen_by (part_at p command h) h v
 
 -- The turn waits exactly where its step waits for another actor, and says what it has seen; where it doesn't wait it answers so.
 abbrev pub Gives : Turn Answer → Bool → Seen → Turn Answer → Type 0

@@ -19,8 +19,8 @@ use Rattle.fault_install.specs.Faults.{AnswersBy, EndsBy, TurnsAt, TurnsFault, W
 use Rattle.mmu_core.specs.declared.outcome.Outcome.{Outcome}
 use Rattle.mmu_core.specs.declared.outcome.Outcome.TheVariants as outcome
 use Rattle.mmu_core.specs.lines.FaultKnows.{EndKnows}
-use Rattle.mmu_core.specs.lines.FaultSteps.{fault_next, fault_part, wait_seen}
-use Rattle.mmu_core.specs.lines.PartWaits.{part_waits}
+use Rattle.mmu_core.specs.lines.FaultSteps.{fault_next, fault_part}
+use Rattle.mmu_core.specs.lines.PartWaits.{part_seen, part_waits}
 use Rattle.mmu_core.specs.alone.LineAlone.{line_waits}
 use Rattle.step_seats.specs.declared.turn.Turn.{Turn}
 use Rattle.step_seats.specs.declared.turn.Turn.TheVariants.{More, Wait, Retry, Done}
@@ -175,7 +175,7 @@ turns_fault p job fault turn actor h g told tells S is T =
       makes = made_line step (access_note (Fault p)) M.found actor h g told tells (may_make (Fault p) job h S step refl) M.made;
       gives = subst (λ (c : Command). Gives (answer_of turn) (line_waits (place_at h.state.place h) c h M.found) (line_seen (place_at h.state.place h) c h M.found) (line_turn (place_at h.state.place h) c h M.found)) (sym S.command)
           (subst (λ (q : Place). Gives (answer_of turn) (line_waits q (Access job.gfn job.word job.op) h M.found) (line_seen q (Access job.gfn job.word job.op) h M.found) (line_turn q (Access job.gfn job.word job.op) h M.found)) (sym S.stands)
-          (gives_fault turn (fault_next p h.state.sizes job.gfn (is_write job.op) h.topics M.found) (part_waits step h.topics M.found) (wait_seen p h job.gfn (access_note (Fault p)) M.found) M.turned M.waits_by));
+          (gives_fault turn (fault_next p h.state.sizes job.gfn (is_write job.op) h.topics M.found) (part_waits step h.topics M.found) (part_seen step h M.found) M.turned M.waits_by));
     }
 
 -- The turn of a stay answers by the answers of its hand.

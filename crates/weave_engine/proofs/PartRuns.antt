@@ -31,7 +31,8 @@ use Rattle.mmu_core.specs.machine.Steps.{events_of, has_line, line_at, next, pla
 use Rattle.mmu_core.specs.machine.View.{word_in}
 use Rattle.mmu_core.specs.machine.Turns.{GoesOn, IsSameHand, line_of, outcome_of}
 use Rattle.mmu_core.specs.machine.Worlds.{history}
-use Rattle.mmu_laws.proofs.alone.AloneRuns.{ToldAlone, some_left, steps_alone, told_alone}
+use Rattle.mmu_core.proofs.lines.Forms.{some_left}
+use Rattle.mmu_laws.proofs.alone.AloneRuns.{ToldAlone, steps_alone, told_alone}
 use Rattle.mmu_laws.proofs.flat.LineEvents as events
 use Rattle.mmu_laws.proofs.flat.LineEvents.{IsClosed, IsOpen, SoFar, step_tells}
 use Rattle.mmu_core.proofs.machine.LineRuns.{history_one_more, legal_one_more, own_hand, run_one_more}

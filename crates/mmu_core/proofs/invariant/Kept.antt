@@ -1,5 +1,5 @@
 -- The step of a line, by its form: a step of a part is one that its actor may make, and the invariant holds after it.
-use Rattle.std.proofs.Common.{◌≡◌, ℕ, refl, subst}
+use Rattle.std.proofs.Common.{◌≡◌, ℕ, refl, subst, sym, ◌<◌}
 use Rattle.std.specs.Prelude.{Some}
 use Rattle.core_views.specs.declared.actor.Actor.TheVariants.{Manager}
 use Rattle.core_views.specs.Held.{Held}
@@ -13,19 +13,56 @@ use Rattle.core_views.specs.declared.trace.Slot.{Slot}
 use Rattle.core_views.specs.declared.place.SetSlotPlace.{SetSlotPlace}
 use Rattle.part_steps.specs.declared.part_step.PartStep.{PartStep}
 use Rattle.mmu_core.specs.lines.PartAt.{part_at}
-use Rattle.mmu_core.specs.lines.Rests.{RestsAt}
-use Rattle.mmu_core.proofs.machine.GoesOn.{IsNoAccess}
 use Rattle.mmu_core.specs.lines.SetSlotSteps.{set_slot_part}
 use Rattle.mmu_core.specs.invariant.Invariant.{Invariant, KnowsPart, LeavesPart, OwnLines}
 use Rattle.mmu_core.specs.invariant.TopicsInvariant.{TopicsInvariant}
-use Rattle.mmu_core.specs.machine.View.{View, stepped}
+use Rattle.mmu_core.specs.machine.View.{View, stepped, hand_after, answer_in}
 use Rattle.mmu_core.proofs.lines.AccessKept.{access_kept}
-use Rattle.mmu_core.proofs.lines.KnowsKept.{NeedsAt, knows_behind, needs_at, step_knows}
-use Rattle.mmu_core.proofs.slots.SetSlotKept.{set_slot_kept, setting_hand}
+use Rattle.mmu_core.proofs.lines.KnowsKept.{KnowsAfter, KnowsBehind, NeedsAt, access_vcpu, knows_after, own_access, step_knows, step_leaves}
+use Rattle.mmu_core.proofs.slots.SetSlotKept.{own_set_slot, set_slot_kept, setting_hand, setting_needs}
 use Rattle.mmu_core.proofs.machine.Stepping.{IsStep}
 use Rattle.mmu_core.proofs.lines.AccessParts.{AreSmall, makes_parts, may_make}
 use Rattle.mmu_core.proofs.machine.PartStepping.{IsPart}
 use Rattle.mmu_core.proofs.slots.SetFilled.{setting_replaces}
+use Rattle.part_steps.specs.PartBounds.{PartRests}
+use Rattle.mmu_core.proofs.invariant.PartBounded.{part_rests_at}
+use Rattle.mmu_core.specs.lines.Rests.{IsUnderWay}
+use Rattle.mmu_core.proofs.machine.Columns.{at_upd}
+use Rattle.core_views.specs.Traces.{IsCommandFor}
+use Rattle.core_views.specs.Sizes.{actors_of}
+use Rattle.mmu_core.specs.machine.Outcomes.{place_after}
+use Rattle.mmu_core.specs.machine.Steps.{outcome_at, task_at}
+use Rattle.spte_words.specs.declared.area.Area.{Area}
+
+-- The step of a line has what it needs.
+pub needs_at : (z : Sizes) (v : View) (a : ℕ) (line : Line) (command : Command) (p : Place) → IsStep z v a line command p → Invariant z v → TopicsInvariant z v → NeedsAt p command (v.hand a)
+needs_at z v a line command place.Between S I P = tt
+needs_at z v a line command (place.Access p) S I P = tt
+needs_at z v a line (SetSlot id slot) (place.SetSlot p) S I P = setting_needs z v a line p id slot S I P
+needs_at z v a line _ _ S I P = absurd S.holds
+
+-- What its actor knows behind its step.
+own_known : (p : Place) (line : Line) (command : Command) (z : Sizes) (h : Held) (words : Area → ℕ → ℕ) → IsUnderWay p → IsCommandFor z h.state.actor command → PartRests h → KnowsPart p command h → LeavesPart p h.topics → NeedsAt p command h
+    → KnowsAfter line command p h (answer_in (task_at p command h) words)
+own_known place.Between line command z h words begun may R K left N = absurd begun
+own_known (place.Access p) line (Access gfn word op) z h words begun may R K left N = let V = access_vcpu z h.state.actor gfn word op may in own_access p line h gfn word op words V.0 V.1 R K
+own_known (place.SetSlot p) line (SetSlot id slot) z h words begun may R K left N = own_set_slot p line h id slot words R K left N
+own_known _ line _ z h words begun may R K left N = absurd K
+
+-- The step of a line leaves its actor with what its next place asks, or at rest where the line is answered.
+pub line_knows : (z : Sizes) (v : View) (a : ℕ) (line : Line) (command : Command) (p : Place) → IsStep z v a line command p → Invariant z v → TopicsInvariant z v → a < actors_of z
+    → KnowsBehind (outcome_at p command (v.hand a) (answer_in (task_at p command (v.hand a)) v.words)) command (hand_after line command p (v.hand a) (answer_in (task_at p command (v.hand a)) v.words))
+line_knows z v a line command p S I P there =
+    own_known p line command z (v.hand a) v.words S.begun (subst (λ x. IsCommandFor z x command) S.own S.allowed) (part_rests_at z v a I P there) (step_knows z v a line command p S I) (step_leaves z v a line command p S I) (needs_at z v a line command p S I P)
+
+-- Each step of a line leaves each actor with what its place asks.
+pub knows_behind : (z : Sizes) (v : View) (a : ℕ) (line : Line) (command : Command) (p : Place) → IsStep z v a line command p → Invariant z v → TopicsInvariant z v → (i : ℕ) → i < actors_of z
+    → KnowsPart ((stepped a line command p v).hand i).state.place ((stepped a line command p v).hand i).state.line.command ((stepped a line command p v).hand i)
+knows_behind z v a line command p S I P =
+    at_upd (λ i (h : Held). i < actors_of z → KnowsPart h.state.place h.state.line.command h) v.hand a (hand_after line command p (v.hand a) (answer_in (task_at p command (v.hand a)) v.words))
+    (λ there. subst (λ c. KnowsPart (place_after (outcome_at p command (v.hand a) (answer_in (task_at p command (v.hand a)) v.words))) c (hand_after line command p (v.hand a) (answer_in (task_at p command (v.hand a)) v.words))) (sym S.command_is)
+    (knows_after (outcome_at p command (v.hand a) (answer_in (task_at p command (v.hand a)) v.words)) command (hand_after line command p (v.hand a) (answer_in (task_at p command (v.hand a)) v.words)) (line_knows z v a line command p S I P there)))
+    (λ i ne. I.knows i)
 
 -- The step of a part that a slot setting makes at its place is one that its actor may make.
 pub makes_setting : (z : Sizes) (v : View) (a : ℕ) (line : Line) (p : SetSlotPlace) (id : ℕ) (slot : Slot) → AreSmall v
@@ -49,13 +86,6 @@ makes_at z v a line (Access gfn word op) (place.Access p) small S I P = makes_pa
 makes_at z v a line (SetSlot id slot) (place.SetSlot p) small S I P =
     λ step is. subst (IsPart z v a) (same_step is) (makes_setting z v a line p id slot small S I P)
 makes_at z v a line _ _ small S I P = absurd S.holds
-
--- At a place of another form than an access a line rests on what its step needs.
-pub rests_by_needs : (p : Place) (command : Command) (h : Held) → IsNoAccess p → KnowsPart p command h → NeedsAt p command h → RestsAt p command h
-rests_by_needs (place.Access p) command h other K N = absurd other
-rests_by_needs place.Between command h other K N = tt
-rests_by_needs (place.SetSlot p) (SetSlot id slot) h other K N = N
-rests_by_needs _ _ h other K N = absurd K
 
 -- Each step keeps the invariant.
 pub step_kept : (z : Sizes) (v : View) (a : ℕ) (line : Line) (command : Command) (p : Place) → AreSmall v → IsStep z v a line command p → Invariant z v → TopicsInvariant z v → Invariant z (stepped a line command p v)

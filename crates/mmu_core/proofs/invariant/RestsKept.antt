@@ -6,7 +6,7 @@ use Rattle.std.proofs.Props.{props}
 use Rattle.std.proofs.lemmas.Bool.{cases_lt}
 use Rattle.std.proofs.lemmas.Bool.Decides.{nat_tests}
 use Rattle.core_views.specs.declared.actor.Actor.{Actor}
-use Rattle.core_views.specs.declared.actor.Actor.TheVariants.{Vcpu, Host}
+use Rattle.core_views.specs.declared.actor.Actor.TheVariants.{Vcpu}
 use Rattle.core_views.specs.declared.place.AccessPlace.{AccessPlace}
 use Rattle.core_views.specs.declared.place.AccessPlace.TheVariants.{Enter, Walk, Touch, Leave, Fault}
 use Rattle.core_views.specs.declared.place.Place.{Place}
@@ -48,13 +48,13 @@ use Rattle.mmu_core.specs.invariant.TopicsInvariant.{TopicsInvariant}
 use Rattle.mmu_core.specs.machine.View.{View}
 use Rattle.mmu_core.proofs.machine.Columns.{same_or}
 use Rattle.part_steps.proofs.EntryTopics.{looked_at}
-use Rattle.mmu_core.proofs.lines.KnowsKept.{access_needs, access_vcpu, step_knows, NeedsAt, needs_at}
+use Rattle.mmu_core.proofs.lines.KnowsKept.{access_needs, access_vcpu, step_knows, NeedsAt}
+use Rattle.mmu_core.proofs.invariant.Kept.{needs_at}
 use Rattle.mmu_core.proofs.invariant.PartBounded.{part_rests_at}
 pub use Rattle.mmu_core.proofs.invariant.PartBounded.{host_at}
 use Rattle.mmu_core.proofs.words.PartFits.{part_within_by}
 use Rattle.mmu_core.proofs.machine.Stepping.{is_step}
 use Rattle.part_steps.specs.declared.task.Task.{Task}
-use Rattle.mmu_core.proofs.invariant.Kept.{rests_by_needs}
 use Rattle.mmu_core.proofs.lines.Forms.{RestsOnPart, accepts_at, accepts_at_prop, other_rests}
 use Rattle.mmu_core.proofs.lines.ByStep.{StepAt, step_at, Makes, Touches}
 use Rattle.mmu_core.specs.invariant.Invariant.{Holds, HostWordsPart, Invariant, IsLeafFor, KnowsPart, SlotSetPart}
@@ -94,7 +94,7 @@ rests_at : (p : Place) (command : Command) (z : Sizes) (v : View) (h : Held) →
     → Holds z (v.words area.Pool) (v.words area.Host) (v.words area.Slots 0) p command h → NeedsAt p command h → RestsAt p command h
 rests_at (place.Access p) (Access gfn word op) z v h I same may R K e N = access_rests p z v h gfn word op I same may R K e
 rests_at (place.Access p) _ z v h I same may R K e N = absurd K
-rests_at p command z v h I same may R K e N = rests_by_needs p command h tt K N
+rests_at p command z v h I same may R K e N = N
 
 pub hand_rests : (z : Sizes) (v : View) (a : ℕ) → Invariant z v → TopicsInvariant z v → a < actors_of z → length (v.hand a).answers < length (v.hand a).lines → Rests (v.hand a)
 hand_rests z v a I P there left =

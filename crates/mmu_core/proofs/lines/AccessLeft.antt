@@ -1,8 +1,8 @@
--- An access has no more steps left at any place than where it begins, nor has its fault.
+-- An access has no more steps left at any place than where it begins, nor has its fault; and at each place it has one.
 use Rattle.mmu_core.specs.lines.ShareSteps.{share_left}
 use Rattle.mmu_core.specs.lines.ClaimSteps.{claim_left, map_word, tries_page}
 use Rattle.std.proofs.Math.Nat.{mul-le-mul_right}
-use Rattle.std.proofs.Common.{◌+◌, ◌-◌, ◌*◌, ◌≤◌, ℕ, arith}
+use Rattle.std.proofs.Common.{◌+◌, ◌-◌, ◌*◌, ◌<◌, ◌≤◌, ℕ, arith}
 use Rattle.std.specs.Prelude.{Bool, true, false, if◌then◌else◌}
 use Rattle.core_views.specs.declared.place.AccessPlace.{AccessPlace}
 use Rattle.core_views.specs.declared.place.AccessPlace.TheVariants.{Enter, Pause, Root, Walk, Touch, Leave, Fault}
@@ -78,3 +78,21 @@ access_few Touch z t most = omega arith
 access_few (Leave (leaving.Reached frame value)) z t most = omega arith
 access_few (Leave leaving.Faults) z t most = omega arith
 access_few (Fault p) z t most = let few = fault_few p z t most in omega (arith, few)
+
+-- ---- it has a step left
+
+pub two_left : (again : Bool) (z : Sizes) (t : Topics) → 2 ≤ stay_left again z t
+two_left true z t = omega arith
+two_left false z t = omega arith
+
+some_fault_left : (p : FaultPlace) (z : Sizes) (t : Topics) → 0 < fault_left p z t
+some_fault_left (fault.Walk true) z t = omega arith
+some_fault_left (fault.Walk false) z t = omega arith
+some_fault_left _ z t = omega arith
+
+pub some_access_left : (p : AccessPlace) (z : Sizes) (t : Topics) → 0 < access_left p z t
+some_access_left (Walk again) z t = let two = two_left again z t in omega (arith, two)
+some_access_left (Leave (leaving.Reached frame value)) z t = omega arith
+some_access_left (Leave leaving.Faults) z t = omega arith
+some_access_left (Fault p) z t = let some = some_fault_left p z t in omega (arith, some)
+some_access_left _ z t = omega arith

@@ -1,7 +1,7 @@
 -- What is so of the lines of every form: the one place where it is told by the form. A form of line writes a clause in each of these.
-use Rattle.std.proofs.Common.{◌≡◌, ◌⊎◌, inl, inr, ◌≤◌, ℕ, refl, arith}
+use Rattle.std.proofs.Common.{◌≡◌, ◌⊎◌, inl, inr, ◌<◌, ◌≤◌, ℕ, refl, arith}
 use Rattle.std.proofs.Props.{props}
-use Rattle.std.specs.Prelude.{Some}
+use Rattle.std.specs.Prelude.{Some, true}
 use Rattle.core_views.specs.declared.place.AccessPlace.{AccessPlace}
 use Rattle.core_views.specs.declared.place.AccessPlace.TheVariants.{Leave, Fault}
 use Rattle.core_views.specs.declared.place.FaultEnd.{FaultEnd}
@@ -23,20 +23,25 @@ use Rattle.core_views.specs.SlotSets.{MemorySlots}
 use Rattle.core_views.specs.Slots.{is_write}
 use Rattle.part_steps.specs.declared.part_step.PartStep.{PartStep}
 use Rattle.part_steps.specs.declared.part_step.PartStep.TheVariants as part
-use Rattle.part_steps.specs.PartSteps.{PartNeeds}
+use Rattle.part_steps.specs.PartSteps.{IsAtRest, PartNeeds}
+use Rattle.mmu_core.specs.lines.KnowsPart.{KnowsPart}
+use Rattle.spte_words.specs.declared.area.Area.{Area}
+use Rattle.spte_words.specs.declared.area.Area.TheVariants as area
+use Rattle.mmu_core.specs.alone.AloneKnows.{AloneKnows}
 use Rattle.mmu_core.specs.invariant.LoadsPart.{Holds}
 use Rattle.mmu_core.specs.lines.AccessSteps.{access_outcome, behind_fault, fault_over}
 use Rattle.mmu_core.specs.lines.FaultSteps.{fault_next}
 use Rattle.mmu_core.specs.lines.Bounds.{most_steps, steps_left}
+use Rattle.mmu_core.specs.lines.Delays.{begins_anew, line_waits}
 use Rattle.mmu_core.specs.lines.PartAt.{part_at}
 use Rattle.mmu_core.specs.lines.Rests.{AcceptsAt, IsUnderWay, RestsAt}
-use Rattle.mmu_core.specs.lines.SetSlotSteps.{set_slot_part}
+use Rattle.mmu_core.specs.lines.SetSlotSteps.{set_slot_first, set_slot_part}
 use Rattle.mmu_core.specs.machine.Steps.{first_place, outcome_at}
-use Rattle.mmu_core.proofs.lines.AccessLeft.{access_few}
+use Rattle.mmu_core.proofs.lines.AccessLeft.{access_few, some_access_left}
 use Rattle.mmu_core.proofs.machine.GoesOn.{GoesToNoAccess, GoesUnderWay, IsNoAccess}
 use Rattle.mmu_core.proofs.slots.LiveStay.{StayLive, access_stays}
 use Rattle.mmu_core.proofs.slots.LiveStays.{OwnedStays}
-use Rattle.mmu_core.proofs.slots.SetSlotPlaces.{accepts_prop, set_slot_begins, set_slot_few, set_slot_goes, set_slot_stays, setting_accepts}
+use Rattle.mmu_core.proofs.slots.SetSlotPlaces.{accepts_prop, begins_at_once, set_slot_begins, set_slot_begins_alone, set_slot_begins_known, set_slot_few, set_slot_goes, set_slot_knows_prop, set_slot_stays, setting_accepts, some_setting_left}
 
 -- ---- where a line goes on to
 
@@ -87,6 +92,47 @@ pub place_few : (p : Place) (z : Sizes) (t : Topics) → AreSizes z → t.walk.l
 place_few place.Between z t S most = omega arith
 place_few (place.Access p) z t S most = let few = access_few p z t most in let pool = S.pool.1 in omega (arith, few, pool)
 place_few (place.SetSlot p) z t S most = let few = set_slot_few p z t in let actors = S.actors in let pool = S.pool.1 in omega (arith, few, actors, pool)
+
+-- At each place it has one.
+pub some_left : (p : Place) (z : Sizes) (t : Topics) → 0 < steps_left p z t
+some_left place.Between z t = omega arith
+some_left (place.Access p) z t = some_access_left p z t
+some_left (place.SetSlot p) z t = some_setting_left p z t
+
+-- ---- where it begins
+
+-- It has no more steps left than any line.
+pub first_left : (z : Sizes) (slots : MemorySlots) (command : Command) (t : Topics) → AreSizes z → steps_left (first_place z slots command) z t ≤ most_steps z
+first_left z slots (Access gfn word op) t S = let most = S.pool.1 in omega (arith, most)
+first_left z slots (SetSlot id slot) t S =
+    let few = set_slot_few (set_slot_first (set_refusal z.pages id slot slots)) z t in let actors = S.actors in let pool = S.pool.1 in omega (arith, few, actors, pool)
+
+-- Its first step doesn't wait, and is no end of a fault that begins anew.
+pub first_goes : (z : Sizes) (slots : MemorySlots) (command : Command) (h : Held) (v : ℕ) → line_waits (first_place z slots command) command h v ≡ true → ⊥
+first_goes z slots (Access gfn word op) h v is = cc is
+first_goes z slots (SetSlot id slot) h v is = begins_at_once (set_refusal z.pages id slot slots) id slot h v is
+
+pub first_no_end : (z : Sizes) (slots : MemorySlots) (command : Command) → begins_anew (first_place z slots command) ≡ true → ⊥
+first_no_end z slots (Access gfn word op) is = cc is
+first_no_end z slots _ is = cc is
+
+-- Its actor, which was at rest, knows what its first place asks.
+pub first_known : (z : Sizes) (command : Command) (h : Held) → IsAtRest h.topics → KnowsPart (first_place z h.slots command) command h
+first_known z (Access gfn word op) h R = R
+first_known z (SetSlot id slot) h R = set_slot_begins_known (set_refusal z.pages id slot h.slots) h R
+
+-- Alone, it knows what its first place asks of the words.
+pub first_alone : (z : Sizes) (slots : MemorySlots) (command : Command) (words : Area → ℕ → ℕ) (t : Topics) → AloneKnows (first_place z slots command) command words t
+first_alone z slots (Access gfn word op) words t = λ e. absurd (cc e)
+first_alone z slots (SetSlot id slot) words t = set_slot_begins_alone (set_refusal z.pages id slot slots) (words area.PoolMap) t
+
+-- ---- what it knows
+
+-- At a place of another form than an access this is a proposition.
+pub knows_prop : (p : Place) (command : Command) (h : Held) → IsNoAccess p → IsProp (KnowsPart p command h)
+knows_prop (place.Access p) command h other = absurd other
+knows_prop (place.SetSlot p) (SetSlot id slot) h other = set_slot_knows_prop p h
+knows_prop _ _ h other = hlevel props
 
 -- ---- what a line has loaded or stored
 

@@ -1,4 +1,4 @@
--- Each actor knows what its place asks, behind each step: of its own line, of a part, and of another actor.
+-- What an actor knows where its line stands, behind each step of an access, and behind a step of a part.
 use Rattle.std.proofs.Common.{◌≡◌, ◌^◌, ◌<◌, ◌≤◌, ℕ, length, refl, sym, subst, ap, ◌∙◌}
 use Rattle.std.specs.Prelude.{Bool, true, false, if◌then◌else◌, Option, Some, None}
 use Rattle.circular_buffer.specs.Buffer.{Buffer}
@@ -13,17 +13,15 @@ use Rattle.core_views.specs.declared.place.FaultNext.TheVariants as next_of
 use Rattle.core_views.specs.declared.place.Leaving.TheVariants as leaving
 use Rattle.core_views.specs.declared.place.Place.{Place}
 use Rattle.core_views.specs.declared.place.Place.TheVariants as place
-use Rattle.core_views.specs.declared.place.SetSlotPlace.{SetSlotPlace}
 use Rattle.core_views.specs.declared.sizes.Sizes.{Sizes}
 use Rattle.core_views.specs.declared.topics.Stay.{Stay}
 use Rattle.core_views.specs.declared.topics.Stay.TheVariants.{Guest}
 use Rattle.core_views.specs.declared.topics.Topics.{Topics}
 use Rattle.core_views.specs.declared.trace.Command.{Command}
-use Rattle.core_views.specs.declared.trace.Command.TheVariants.{Access, SetSlot}
+use Rattle.core_views.specs.declared.trace.Command.TheVariants.{Access}
 use Rattle.core_views.specs.declared.trace.Line.{Line}
 use Rattle.core_views.specs.declared.trace.Op.{Op}
 use Rattle.core_views.specs.declared.trace.Op.TheVariants.{Read}
-use Rattle.core_views.specs.declared.trace.Slot.{Slot}
 use Rattle.core_views.specs.Held.{Held}
 use Rattle.core_views.specs.Sizes.{actors_of}
 use Rattle.core_views.specs.Slots.{is_write}
@@ -43,38 +41,30 @@ use Rattle.mmu_core.specs.lines.FaultKnows.{KnowsNext}
 use Rattle.mmu_core.specs.lines.FaultLaws.{CanAnswer}
 use Rattle.mmu_core.specs.lines.FaultSteps.{allows_access, fault_next}
 use Rattle.mmu_core.specs.invariant.Invariant.{Invariant, KnowsPart, UnderWay, LeavesPart}
-use Rattle.mmu_core.specs.lines.KnowsPart.{AccessKnows, InGuest, LeavesPart, may_leave}
+use Rattle.mmu_core.specs.lines.KnowsPart.{AccessKnows, InGuest, LeavesPart}
 use Rattle.part_steps.specs.PartBounds.{PartRests}
-use Rattle.part_steps.specs.PartTasks.{entry_index, own_index, words_filled}
+use Rattle.part_steps.specs.PartTasks.{entry_index, own_index}
 use Rattle.part_steps.specs.PartHoldings.{IsOver}
 use Rattle.part_steps.specs.PartSteps.{IsAtRest, IsVcpu, PartNeeds}
 use Rattle.part_steps.specs.PartTopics.{part_topics}
-use Rattle.mmu_core.specs.lines.SetSlotSteps.{set_slot_outcome, set_slot_task, set_slot_part, set_slot_first, set_slot_note}
-use Rattle.mmu_core.specs.lines.Rests.{IsUnderWay}
-use Rattle.mmu_core.specs.machine.Steps.{caches_at, first_place, has_line, line_at, outcome_at, place_at, standing, task_at}
+use Rattle.mmu_core.specs.lines.Rests.{RestsAt}
+use Rattle.mmu_core.specs.machine.Steps.{caches_at, first_place, has_line, line_at, outcome_at, place_at, standing}
 use Rattle.part_steps.specs.Tasks.{kind_of_task}
 use Rattle.mmu_core.specs.machine.Outcomes.{place_after}
-use Rattle.mmu_core.specs.invariant.TopicsInvariant.{TopicsInvariant}
 use Rattle.part_steps.specs.StayTopics.{may_walk}
 use Rattle.part_steps.specs.WalkTopics.{gone_down, linked_page}
 use Rattle.part_steps.specs.ControlTopics.{at_root}
 use Rattle.part_steps.specs.TopicSteps.{topics_after}
-use Rattle.mmu_core.specs.machine.View.{View, answer_in, hand_after, part_stepped, stepped}
+use Rattle.mmu_core.specs.machine.View.{View, answer_in, hand_after, part_stepped}
 use Rattle.mmu_core.proofs.machine.Columns.{at_upd}
 use Rattle.mmu_core.proofs.lines.FaultKnown.{above_lowest, fault_known, gone_over, parts_answer, root_over}
 use Rattle.mmu_core.proofs.lines.FaultNeeds.{fault_needs}
+use Rattle.mmu_core.proofs.lines.Forms.{first_known}
 use Rattle.mmu_core.proofs.lines.UsedTranslations.{CachesBehind, flushed_behind, newest_filled}
-use Rattle.mmu_core.proofs.invariant.PartBounded.{part_rests_at}
 use Rattle.mmu_core.proofs.words.PartTopics.{is_there, part_topics_is}
 use Rattle.mmu_core.proofs.machine.Stepping.{IsStep}
 use Rattle.mmu_core.proofs.machine.Which.{has_line_is}
 use Rattle.mmu_core.proofs.machine.HandWith.{hand_with}
-use Rattle.mmu_core.proofs.slots.SetSlotKnown.{SettingKnows, set_slot_known, set_slot_needs}
-use Rattle.mmu_core.specs.lines.SetSlotKnows.{SetSlotKnows}
-use Rattle.part_steps.proofs.SetWords.{set_word_small}
-use Rattle.mmu_core.proofs.words.SmallSlots.{in_range, record_small}
-use Rattle.core_views.specs.declared.answer.Refusal.{Refusal}
-use Rattle.core_views.specs.Refusals.{set_refusal}
 use Rattle.core_views.specs.SlotSets.{MemorySlots}
 
 -- what is held behind the step of a part, or behind the touch
@@ -180,10 +170,10 @@ task_answers None h note touch words = tt
 task_answers (Some step) h note touch words = parts_answer step (own_index h) h.topics note words
 
 -- behind each step of a line, of the actor itself
-abbrev KnowsAfter : Line → Command → Place → Held → ℕ → Type 0
+abbrev pub KnowsAfter : Line → Command → Place → Held → ℕ → Type 0
 KnowsAfter line command p h v = KnowsBehind (outcome_at p command h v) command (hand_after line command p h v)
 
-own_access : (p : AccessPlace) (line : Line) (h : Held) (gfn word : ℕ) (op : Op) (words : Area → ℕ → ℕ) → IsVcpu h.state.actor → gfn < 2 ^ 36 → PartRests h → AccessKnows p gfn (is_write op) h
+pub own_access : (p : AccessPlace) (line : Line) (h : Held) (gfn word : ℕ) (op : Op) (words : Area → ℕ → ℕ) → IsVcpu h.state.actor → gfn < 2 ^ 36 → PartRests h → AccessKnows p gfn (is_write op) h
     → KnowsAfter line (Access gfn word op) (place.Access p) h (answer_in (access_task p h gfn word op) words)
 own_access p line h gfn word op words vcpu small R K =
     let v : ℕ = answer_in (access_task p h gfn word op) words in
@@ -193,44 +183,12 @@ own_access p line h gfn word op words vcpu small R K =
     (sym (task_topics s h (access_note p) op _ v (access_needs p h gfn (is_write op) vcpu small R K)))
     (access_known p line h gfn word op cached v (flushed_behind p h gfn word op v) small R K (task_answers s h (access_note p) _ words))
 
--- what a slot setting knows behind a step is what its next place asks
-setting_behind : (o : Outcome) (id : ℕ) (slot : Slot) (g : Held) → SettingKnows o g → KnowsBehind o (SetSlot id slot) g
-setting_behind (Goes (place.SetSlot p)) id slot g K = K
-setting_behind (Goes (place.Access p)) id slot g K = absurd K
-setting_behind (Goes place.Between) id slot g K = absurd K
-setting_behind (Ends answer) id slot g K = K
-
-own_set_slot : (p : SetSlotPlace) (line : Line) (h : Held) (id : ℕ) (slot : Slot) (words : Area → ℕ → ℕ) → PartRests h → SetSlotKnows p h → (may_leave (place.SetSlot p) ≡ false → h.topics.leaving ≡ None) → PartNeeds (set_slot_part p h id slot) h
-    → KnowsAfter line (SetSlot id slot) (place.SetSlot p) h (answer_in (set_slot_task p h id slot) words)
-own_set_slot p line h id slot words R K left N =
-    let v : ℕ = answer_in (set_slot_task p h id slot) words in
-    let step : PartStep = set_slot_part p h id slot in
-    let cached : Buffer Translation = flushed (kind_of_task h.state.sizes (set_slot_task p h id slot)) h.cached v in
-    subst (λ (t : Topics). KnowsBehind (set_slot_outcome p h v) (SetSlot id slot) (hand_with line (SetSlot id slot) (place.SetSlot p) h t cached v))
-    (sym (part_topics_is h.state.sizes step (own_index h) h.topics (set_slot_note p h) v (is_there step h N)))
-    (setting_behind (set_slot_outcome p h v) id slot _ (set_slot_known line h id slot cached v R p K left (parts_answer step (own_index h) h.topics (set_slot_note p h) words)))
-
--- what the step of a slot setting needs, at its places
+-- what the step of a line needs at its places, but for those of an access, which knows it from its place
 abbrev pub NeedsAt : Place → Command → Held → Type 0
-NeedsAt (place.SetSlot p) (SetSlot id slot) h = PartNeeds (set_slot_part p h id slot) h
-NeedsAt _ command h = Unit {0}
-
-own_known : (p : Place) (line : Line) (command : Command) (z : Sizes) (h : Held) (words : Area → ℕ → ℕ) → IsUnderWay p → IsCommandFor z h.state.actor command → PartRests h → KnowsPart p command h → LeavesPart p h.topics → NeedsAt p command h
-    → KnowsAfter line command p h (answer_in (task_at p command h) words)
-own_known place.Between line command z h words begun may R K left N = absurd begun
-own_known (place.Access p) line (Access gfn word op) z h words begun may R K left N = let V = access_vcpu z h.state.actor gfn word op may in own_access p line h gfn word op words V.0 V.1 R K
-own_known (place.SetSlot p) line (SetSlot id slot) z h words begun may R K left N = own_set_slot p line h id slot words R K left N
-own_known _ line _ z h words begun may R K left N = absurd K
+NeedsAt (place.Access p) command h = Unit {0}
+NeedsAt p command h = RestsAt p command h
 
 -- what a hand knows where its line stands, also where this is about to begin
-first_known : (z : Sizes) (command : Command) (h : Held) → IsAtRest h.topics → KnowsPart (first_place z h.slots command) command h
-first_known z (Access gfn word op) h R = R
-first_known z (SetSlot id slot) h R = by (set_refusal z.pages id slot h.slots)
-  where
-    by : (r : Option Refusal) → SetSlotKnows (set_slot_first r) h
-    by None = (R, λ e. absurd (cc e))
-    by (Some refusal) = R
-
 standing_known : (q : Place) (z : Sizes) (h : Held) → length h.answers < length h.lines → KnowsPart q h.state.line.command h → KnowsPart (standing q z h.slots (line_at q h).command) (line_at q h).command h
 standing_known place.Between z h left K = first_known z (line_at place.Between h).command h (K (has_line_is h left))
 standing_known _ z h left K = K
@@ -257,37 +215,7 @@ step_leaves z v a line command p S I =
     subst (λ q. LeavesPart q (v.hand a).topics) S.place_is
     (standing_leaves (v.hand a).state.place (v.hand a).state.sizes (v.hand a).slots (line_at (v.hand a).state.place (v.hand a)).command (v.hand a).topics (I.leaves a S.there))
 
--- The step of a slot setting has what it needs.
-setting_needs : (z : Sizes) (v : View) (a : ℕ) (line : Line) (p : SetSlotPlace) (id : ℕ) (slot : Slot) → IsStep z v a line (SetSlot id slot) (place.SetSlot p) → Invariant z v → TopicsInvariant z v
-    → PartNeeds (set_slot_part p (v.hand a) id slot) (v.hand a)
-setting_needs z v a line p id slot S I P =
-    let h : Held = v.hand a in
-    set_slot_needs p h id slot
-    (set_word_small id slot h.slots (words_filled h.topics.owned) (in_range z line.actor id slot S.allowed) (record_small z h.lines h.slots (I.lines a S.there).allowed (I.lines a S.there).set))
-    (part_rests_at z v a I P S.there) (step_knows z v a line (SetSlot id slot) (place.SetSlot p) S I)
-
-pub needs_at : (z : Sizes) (v : View) (a : ℕ) (line : Line) (command : Command) (p : Place) → IsStep z v a line command p → Invariant z v → TopicsInvariant z v → NeedsAt p command (v.hand a)
-needs_at z v a line command place.Between S I P = tt
-needs_at z v a line command (place.Access p) S I P = tt
-needs_at z v a line (Access gfn word op) (place.SetSlot p) S I P = tt
-needs_at z v a line (SetSlot id slot) (place.SetSlot p) S I P = setting_needs z v a line p id slot S I P
-
--- The step of a line leaves its actor with what its next place asks, or at rest where the line is answered.
-pub line_knows : (z : Sizes) (v : View) (a : ℕ) (line : Line) (command : Command) (p : Place) → IsStep z v a line command p → Invariant z v → TopicsInvariant z v → a < actors_of z
-    → KnowsBehind (outcome_at p command (v.hand a) (answer_in (task_at p command (v.hand a)) v.words)) command (hand_after line command p (v.hand a) (answer_in (task_at p command (v.hand a)) v.words))
-line_knows z v a line command p S I P there =
-    own_known p line command z (v.hand a) v.words S.begun (subst (λ x. IsCommandFor z x command) S.own S.allowed) (part_rests_at z v a I P there) (step_knows z v a line command p S I) (step_leaves z v a line command p S I) (needs_at z v a line command p S I P)
-
--- Each step of a line leaves each actor with what its place asks.
-pub knows_behind : (z : Sizes) (v : View) (a : ℕ) (line : Line) (command : Command) (p : Place) → IsStep z v a line command p → Invariant z v → TopicsInvariant z v → (i : ℕ) → i < actors_of z
-    → KnowsPart ((stepped a line command p v).hand i).state.place ((stepped a line command p v).hand i).state.line.command ((stepped a line command p v).hand i)
-knows_behind z v a line command p S I P =
-    at_upd (λ i (h : Held). i < actors_of z → KnowsPart h.state.place h.state.line.command h) v.hand a (hand_after line command p (v.hand a) (answer_in (task_at p command (v.hand a)) v.words))
-    (λ there. subst (λ c. KnowsPart (place_after (outcome_at p command (v.hand a) (answer_in (task_at p command (v.hand a)) v.words))) c (hand_after line command p (v.hand a) (answer_in (task_at p command (v.hand a)) v.words))) (sym S.command_is)
-    (knows_after (outcome_at p command (v.hand a) (answer_in (task_at p command (v.hand a)) v.words)) command (hand_after line command p (v.hand a) (answer_in (task_at p command (v.hand a)) v.words)) (line_knows z v a line command p S I P there)))
-    (λ i ne. I.knows i)
-
--- And so does each step of a part, by an actor with no line left.
+-- Each step of a part leaves each actor with what its place asks; its own actor has no line left.
 idle_knows : (q : Place) (command : Command) (h g : Held) → has_line h ≡ false → UnderWay q h → has_line g ≡ has_line h → KnowsPart q command g
 idle_knows place.Between command h g none under same = λ has. absurd (cc (none, same, has))
 idle_knows _ command h g none under same = let has = has_line_is h under.1 in absurd (cc (none, has))

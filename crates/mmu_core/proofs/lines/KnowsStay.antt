@@ -25,7 +25,7 @@ use Rattle.core_views.specs.declared.topics.Invalidations.{Invalidations}
 use Rattle.core_views.specs.declared.topics.TableWalk.{TableWalk}
 use Rattle.core_views.specs.declared.topics.Topics.{Topics}
 use Rattle.core_views.specs.declared.trace.Command.{Command}
-use Rattle.core_views.specs.declared.trace.Command.TheVariants.{Access, SetSlot}
+use Rattle.core_views.specs.declared.trace.Command.TheVariants.{Access}
 use Rattle.core_views.specs.Held.{Held}
 use Rattle.core_views.specs.Slots.{is_write}
 use Rattle.spte_words.specs.declared.spte_kind.SpteKind.{SpteKind}
@@ -39,12 +39,10 @@ use Rattle.mmu_core.specs.machine.Steps.{line_at, place_at}
 use Rattle.mmu_core.specs.machine.View.{view}
 use Rattle.mmu_core.specs.machine.Worlds.{HandReached}
 use Rattle.mmu_core.proofs.machine.Columns.{same_or}
+use Rattle.mmu_core.proofs.lines.Forms.{knows_prop}
 use Rattle.mmu_core.proofs.lines.KnowsKept.{knows_at}
 use Rattle.mmu_core.proofs.invariant.RestsKept.{either_stays, fresh_stays, looked_stays, or_not, prop_stays, same_look}
 use Rattle.mmu_core.proofs.start.Starts.{reached_good}
-use Rattle.core_views.specs.declared.place.SetSlotPlace.{SetSlotPlace}
-use Rattle.core_views.specs.declared.place.SetSlotPlace.TheVariants as set_slot
-use Rattle.mmu_core.specs.lines.SetSlotKnows.{SetSlotKnows}
 use Rattle.mmu_core.proofs.lines.UsedTranslations.{uses_stays}
 
 -- what can be decided of two facts, of how far a check has come, and of an entry
@@ -166,14 +164,10 @@ access_stays Touch gfn write h x = (∥∥₁_elim x (hlevel props) (λ K. K.0),
 access_stays (Fault p) gfn write h x = fault_stays p h.state.sizes gfn write h.topics x
 access_stays _ gfn write h x = prop_stays (hlevel props) x
 
-setting_stays : (p : SetSlotPlace) (h : Held) → ∥ SetSlotKnows p h ∥₁ → SetSlotKnows p h
-setting_stays (set_slot.Refuse refusal) h x = prop_stays (hlevel props) x
-setting_stays _ h x = prop_stays (hlevel props) x
-
 part_stays : (p : Place) (command : Command) (h : Held) → ∥ KnowsPart p command h ∥₁ → KnowsPart p command h
 part_stays (place.Access p) (Access gfn word op) h x = access_stays p gfn (is_write op) h x
-part_stays (place.SetSlot p) (SetSlot id slot) h x = setting_stays p h x
-part_stays _ _ h x = prop_stays (hlevel props) x
+part_stays (place.Access p) _ h x = prop_stays (hlevel props) x
+part_stays p command h x = prop_stays (knows_prop p command h tt) x
 
 -- what the place of the hand's next step asks
 abbrev pub KnowsNow : Held → Type 0

@@ -48,8 +48,7 @@ claims_seen p command h R is = (step_needs p command h part.Claim R is).1
 -- the place of a line that has yet to begin is no place of waiting
 at_its_place : (q : Place) (h : Held) (v : ℕ) → line_waits q (line_at q h).command h v ≡ true → RestsAt (place_at q h) (line_at q h).command h → WaitsAs h (kind_of_task h.state.sizes (task_at (place_at q h) (line_at q h).command h)) v
 at_its_place place.Between h v is R = absurd (cc is)
-at_its_place (place.Access p) h v is R = waits_as (place.Access p) h.state.line.command h v R is
-at_its_place (place.SetSlot p) h v is R = waits_as (place.SetSlot p) h.state.line.command h v R is
+at_its_place q h v is R = waits_as q h.state.line.command h v R is
 
 pub line_waits_as : (h : Held) (k : Kind) (v : ℕ) → IsNext h k → line_waits h.state.place (line_at h.state.place h).command h v ≡ true → WaitsAs h k v
 line_waits_as h k v N is = subst (λ (x : Kind). WaitsAs h x v) (sym N.is) (at_its_place h.state.place h v is N.rests.at)

@@ -4,7 +4,7 @@ use Rattle.std.proofs.lemmas.Map.Views.{All-keys-insert_entry}
 use Rattle.std.specs.List.{Contains}
 use Rattle.std.specs.Map.{keys_of}
 use Rattle.std.specs.Ordering.{nat_cmp}
-use Rattle.std.specs.Prelude.{All, Bool, true, false, if◌then◌else◌}
+use Rattle.std.specs.Prelude.{All, Bool, true, false, if◌then◌else◌, None}
 use Rattle.circular_buffer.specs.Buffer.{Buffer}
 use Rattle.core_views.specs.declared.actor.Actor.TheVariants.{Manager}
 use Rattle.core_views.specs.declared.cache.Translation.{Translation}
@@ -29,7 +29,7 @@ use Rattle.part_steps.specs.declared.part_step.PartStep.{PartStep}
 use Rattle.mmu_core.specs.lines.Cached.{flushed}
 use Rattle.mmu_core.specs.invariant.Invariant.{CachedPart, Holds, Invariant, InvariantOf, IsLeafFor, OwnLines, RecordPart, UnderWay, lines_done, IsSetBy}
 use Rattle.mmu_core.specs.lines.KnowsPart.{may_leave}
-use Rattle.part_steps.specs.PartTasks.{own_index, page_owned}
+use Rattle.part_steps.specs.PartTasks.{own_index, page_owned, words_filled}
 use Rattle.mmu_core.specs.lines.SetSlotSteps.{set_slot_note, set_slot_outcome, set_slot_part, set_slot_records, set_slot_task, watch_next}
 use Rattle.part_steps.specs.SetWords.{set_role, set_word}
 use Rattle.mmu_core.specs.machine.Steps.{next_line, state_at}
@@ -39,7 +39,7 @@ use Rattle.mmu_core.specs.invariant.TopicsInvariant.{TopicsInvariant}
 use Rattle.mmu_core.specs.machine.View.{View, answer_in, hand_after, stepped, upd}
 use Rattle.mmu_core.proofs.slots.Accepted.{MayBeSet, may_be_set, record_of, setting_is_managers}
 use Rattle.mmu_core.proofs.lines.CachedKept.{flushed_kept}
-use Rattle.mmu_core.proofs.lines.KnowsKept.{step_knows, step_leaves}
+use Rattle.mmu_core.proofs.lines.KnowsKept.{step_knows, step_leaves, KnowsAfter, KnowsBehind}
 use Rattle.mmu_core.proofs.lines.LinesKept.{answered_kept, answers_more, line_sets, lines_behind, set_by_with, set_here, answers_length, AreSetBy}
 use Rattle.mmu_core.proofs.slots.LiveStay.{StayLive, set_stays, translations_stay}
 use Rattle.mmu_core.proofs.slots.LiveStays.{SetStays, published_stays}
@@ -54,10 +54,20 @@ use Rattle.mmu_core.proofs.slots.SettingHolds.{each_watch, setting_holds, settin
 use Rattle.mmu_core.proofs.slots.SlotsStay.{AllKnow, hand_moved, is_live_stays, is_live_was, record_stays}
 use Rattle.mmu_core.proofs.machine.Stepping.{IsStep, next_has, none_done}
 use Rattle.core_views.specs.declared.answer.Answer.TheVariants.{Done}
-use Rattle.mmu_core.specs.declared.outcome.Outcome.TheVariants.{Goes}
+use Rattle.mmu_core.specs.declared.outcome.Outcome.TheVariants.{Goes, Ends}
 use Rattle.mmu_core.specs.lines.SetSlotKnows.{SetSlotKnows}
 use Rattle.spte_words.specs.Areas.{pool_index}
 use Rattle.mmu_core.proofs.lines.UsedTranslations.{flushed_room}
+use Rattle.part_steps.specs.PartBounds.{PartRests}
+use Rattle.mmu_core.proofs.invariant.PartBounded.{part_rests_at}
+use Rattle.mmu_core.proofs.words.SmallSlots.{in_range, record_small}
+use Rattle.mmu_core.proofs.machine.HandWith.{hand_with}
+use Rattle.mmu_core.proofs.slots.SetSlotKnown.{SettingKnows, set_slot_known, set_slot_needs}
+use Rattle.mmu_core.proofs.words.PartTopics.{is_there, part_topics_is}
+use Rattle.core_views.specs.declared.topics.Topics.{Topics}
+use Rattle.part_steps.specs.PartSteps.{PartNeeds}
+use Rattle.mmu_core.proofs.lines.FaultKnown.{parts_answer}
+use Rattle.part_steps.proofs.SetWords.{set_word_small}
 
 -- A hand that stands in a slot setting is the manager's.
 pub setting_hand : (z : Sizes) (i : ℕ) (h : Held) (p : SetSlotPlace) (id : ℕ) (slot : Slot) → OwnLines z i h → h.state.place ≡ place.SetSlot p → h.state.line.command ≡ SetSlot id slot → h.state.actor ≡ Manager
@@ -248,3 +258,30 @@ pub set_slot_kept : (z : Sizes) (v : View) (a : ℕ) (line : Line) (p : SetSlotP
     → IsPart z v a (set_slot_part p (v.hand a) id slot) → AllKnow z (stepped a line (SetSlot id slot) (place.SetSlot p) v).hand → Invariant z (stepped a line (SetSlot id slot) (place.SetSlot p) v)
 set_slot_kept z v a line Publish id slot S I P makes knows = published_kept z v a line id slot S I P knows
 set_slot_kept z v a line p id slot S I P makes knows = quiet_kept z v a line p id slot refl S I P makes knows
+
+-- ---- what it knows behind its step, and what its step needs
+
+-- what a slot setting knows behind a step is what its next place asks
+setting_behind : (o : Outcome) (id : ℕ) (slot : Slot) (g : Held) → SettingKnows o g → KnowsBehind o (SetSlot id slot) g
+setting_behind (Goes (place.SetSlot p)) id slot g K = K
+setting_behind (Goes _) id slot g K = absurd K
+setting_behind (Ends answer) id slot g K = K
+
+pub own_set_slot : (p : SetSlotPlace) (line : Line) (h : Held) (id : ℕ) (slot : Slot) (words : Area → ℕ → ℕ) → PartRests h → SetSlotKnows p h → (may_leave (place.SetSlot p) ≡ false → h.topics.leaving ≡ None) → PartNeeds (set_slot_part p h id slot) h
+    → KnowsAfter line (SetSlot id slot) (place.SetSlot p) h (answer_in (set_slot_task p h id slot) words)
+own_set_slot p line h id slot words R K left N =
+    let v : ℕ = answer_in (set_slot_task p h id slot) words in
+    let step : PartStep = set_slot_part p h id slot in
+    let cached : Buffer Translation = flushed (kind_of_task h.state.sizes (set_slot_task p h id slot)) h.cached v in
+    subst (λ (t : Topics). KnowsBehind (set_slot_outcome p h v) (SetSlot id slot) (hand_with line (SetSlot id slot) (place.SetSlot p) h t cached v))
+    (sym (part_topics_is h.state.sizes step (own_index h) h.topics (set_slot_note p h) v (is_there step h N)))
+    (setting_behind (set_slot_outcome p h v) id slot _ (set_slot_known line h id slot cached v R p K left (parts_answer step (own_index h) h.topics (set_slot_note p h) words)))
+
+-- The step of a slot setting has what it needs.
+pub setting_needs : (z : Sizes) (v : View) (a : ℕ) (line : Line) (p : SetSlotPlace) (id : ℕ) (slot : Slot) → IsStep z v a line (SetSlot id slot) (place.SetSlot p) → Invariant z v → TopicsInvariant z v
+    → PartNeeds (set_slot_part p (v.hand a) id slot) (v.hand a)
+setting_needs z v a line p id slot S I P =
+    let h : Held = v.hand a in
+    set_slot_needs p h id slot
+    (set_word_small id slot h.slots (words_filled h.topics.owned) (in_range z line.actor id slot S.allowed) (record_small z h.lines h.slots (I.lines a S.there).allowed (I.lines a S.there).set))
+    (part_rests_at z v a I P S.there) (step_knows z v a line (SetSlot id slot) (place.SetSlot p) S I)

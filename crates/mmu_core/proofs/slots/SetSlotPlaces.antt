@@ -1,7 +1,7 @@
--- A slot line at its places: where it goes on to, what it has loaded, what the manager's record accepts, and how many steps it has left.
-use Rattle.std.proofs.Common.{◌≡◌, ◌≤◌, ℕ, ◌∙◌, ◌+◌, arith}
+-- A slot line at its places: where it goes on to, what it has loaded, what the manager's record accepts, how many steps it has left, and that it begins with no wait.
+use Rattle.std.proofs.Common.{◌≡◌, ◌<◌, ◌≤◌, ℕ, ◌∙◌, ◌+◌, arith}
 use Rattle.std.proofs.Props.{props}
-use Rattle.std.specs.Prelude.{Option, Some, None}
+use Rattle.std.specs.Prelude.{true, Option, Some, None}
 use Rattle.core_views.specs.declared.answer.Refusal.{Refusal}
 use Rattle.core_views.specs.declared.place.Place.TheVariants as place
 use Rattle.core_views.specs.declared.place.SetSlotPlace.{SetSlotPlace}
@@ -15,13 +15,16 @@ use Rattle.core_views.specs.Refusals.{set_refusal}
 use Rattle.core_views.specs.Sizes.{actors_of}
 use Rattle.core_views.specs.SlotSets.{MemorySlots}
 use Rattle.spte_words.specs.Areas.{words_of_bits}
-use Rattle.mmu_core.specs.declared.outcome.Outcome.TheVariants.{Goes}
 use Rattle.mmu_core.specs.invariant.LoadsPart.{FillsSet, Holds, SetSlotHolds}
+use Rattle.mmu_core.specs.alone.AloneKnows.{SetSlotAlone}
 use Rattle.mmu_core.specs.lines.Bounds.{set_slot_left}
+use Rattle.mmu_core.specs.lines.Delays.{line_waits}
 use Rattle.mmu_core.specs.lines.Rests.{RecordAccepts}
 use Rattle.mmu_core.specs.declared.claim.ClaimNext.{ClaimNext}
 use Rattle.mmu_core.specs.declared.claim.ClaimNext.TheVariants as claims
 use Rattle.mmu_core.specs.lines.ClaimSteps.{claim_next}
+use Rattle.part_steps.specs.PartSteps.{IsAtRest}
+use Rattle.mmu_core.specs.lines.SetSlotKnows.{SetSlotKnows}
 use Rattle.mmu_core.specs.lines.SetSlotSteps.{after_claim, set_slot_first, set_slot_outcome}
 use Rattle.mmu_core.proofs.lines.AccessLeft.{claim_few}
 use Rattle.mmu_core.proofs.machine.GoesOn.{GoesToNoAccess, GoesUnderWay}
@@ -76,3 +79,30 @@ accepts_prop _ total id slot slots = hlevel props
 pub set_slot_few : (p : SetSlotPlace) (z : Sizes) (t : Topics) → set_slot_left p z t ≤ 521 + actors_of z + words_of_bits z.pool
 set_slot_few (Claim begun) z t = let few = claim_few begun z t in omega (arith, few)
 set_slot_few _ z t = omega arith
+
+pub some_setting_left : (p : SetSlotPlace) (z : Sizes) (t : Topics) → 0 < set_slot_left p z t
+some_setting_left (Refuse refusal) z t = omega arith
+some_setting_left _ z t = omega arith
+
+-- ---- where it begins
+
+-- Its first step doesn't wait.
+pub begins_at_once : (r : Option Refusal) (id : ℕ) (slot : SlotOf) (h : Held) (v : ℕ) → line_waits (place.SetSlot (set_slot_first r)) (SetSlot id slot) h v ≡ true → ⊥
+begins_at_once (Some refusal) id slot h v is = cc is
+begins_at_once None id slot h v is = cc is
+
+-- Alone, it has seen nothing yet that others could change.
+pub set_slot_begins_alone : (r : Option Refusal) (map : ℕ → ℕ) (t : Topics) → SetSlotAlone (set_slot_first r) map t
+set_slot_begins_alone None map t = (λ e. absurd (cc e), λ e. absurd (cc e))
+set_slot_begins_alone (Some refusal) map t = tt
+
+-- It knows what its first place asks, where its actor is at rest.
+pub set_slot_begins_known : (r : Option Refusal) (h : Held) → IsAtRest h.topics → SetSlotKnows (set_slot_first r) h
+set_slot_begins_known None h R = (R, λ e. absurd (cc e))
+set_slot_begins_known (Some refusal) h R = R
+
+-- ---- what it knows is a proposition
+
+pub set_slot_knows_prop : (p : SetSlotPlace) (h : Held) → IsProp (SetSlotKnows p h)
+set_slot_knows_prop (Refuse refusal) h = hlevel props
+set_slot_knows_prop _ h = hlevel props

@@ -22,7 +22,8 @@ use Rattle.mmu_core.specs.declared.claim.ClaimNext.{ClaimNext}
 use Rattle.mmu_core.specs.declared.watch.WatchNext.{WatchNext}
 use Rattle.mmu_core.specs.declared.watch.WatchNext.TheVariants as watches
 use Rattle.mmu_core.specs.lines.ClaimSteps.{map_word, tries_page}
-use Rattle.mmu_core.specs.invariant.Invariant.{FillsSet, Holds, LeavesPart, SetSlotHolds}
+use Rattle.mmu_core.specs.invariant.Invariant.{FillsSet, Holds, LeavesPart}
+use Rattle.mmu_core.specs.invariant.LoadsPart.{SetSlotHolds}
 use Rattle.part_steps.specs.PartTasks.{page_owned, words_filled}
 use Rattle.mmu_core.specs.lines.SetSlotKnows.{SetSlotKnows}
 use Rattle.mmu_core.specs.lines.SetSlotSteps.{set_slot_outcome, set_slot_part, set_slot_task, after_claim, after_watch, watch_next}

@@ -47,8 +47,7 @@ is_delay p command h o v = line_waits p command h v || (begins_anew p || (walks_
 -- What has been counted where a line's next step comes: nothing where this step begins the line.
 abbrev pub counted : Place → ℕ → ℕ
 counted place.Between n = 0
-counted (place.Access p) n = n
-counted (place.SetSlot p) n = n
+counted _ n = n
 
 -- one more, up to the last number of 64 bits
 abbrev pub one_more : ℕ → ℕ

@@ -15,8 +15,8 @@ use Rattle.part_steps.specs.declared.part_step.PartStep.{PartStep}
 use Rattle.part_steps.specs.declared.part_step.PartStep.TheVariants as part
 use Rattle.mmu_core.specs.lines.FaultKnows.{FaultKnows, KnowsNext}
 use Rattle.mmu_core.specs.lines.FaultLeft.{fault_left, next_left}
-use Rattle.mmu_core.specs.lines.FaultSteps.{fault_next, fault_part, wait_seen}
-use Rattle.mmu_core.specs.lines.PartWaits.{part_waits}
+use Rattle.mmu_core.specs.lines.FaultSteps.{fault_next, fault_part}
+use Rattle.mmu_core.specs.lines.PartWaits.{part_seen, part_waits}
 use Rattle.part_steps.specs.PartBounds.{PartRests}
 use Rattle.part_steps.specs.PartTasks.{part_task}
 use Rattle.part_steps.specs.PartSteps.{PartNeeds}
@@ -68,7 +68,7 @@ SawAnother (Claim begun) z t seen = (seen.word ≡ place (map_of z) area.PoolMap
 SawAnother _ z t seen = ⊥
 
 abbrev pub WaitsSeeAnother : Type 0
-WaitsSeeAnother = (p : FaultPlace) (h : Held) (gfn note v : ℕ) → PartRests h → part_waits (fault_part p gfn h.topics) h.topics v ≡ true → SawAnother p h.state.sizes h.topics (wait_seen p h gfn note v)
+WaitsSeeAnother = (p : FaultPlace) (h : Held) (gfn v : ℕ) → PartRests h → part_waits (fault_part p gfn h.topics) h.topics v ≡ true → SawAnother p h.state.sizes h.topics (part_seen (fault_part p gfn h.topics) h v)
 
 -- A fault has at most so many steps.
 abbrev pub FaultIsBounded : Type 0

@@ -2,7 +2,6 @@
 -- host word of its page; then, sharing the lock, the check of the snapshot, and from the root down each level's entry: a link leads
 -- down, an absent entry gets a table of its own, and at the lowest level the leaf.
 use Rattle.std.specs.Prelude.{◌+◌, ◌-◌, ℕ, Bool, true, false, ◌==◌, ◌&&◌, ◌||◌, nat_le, nat_lt, not, if◌then◌else◌, Option, Some, None}
-use Rattle.core_views.specs.declared.hand.Seen.{Seen}
 use Rattle.core_views.specs.declared.place.Cause.TheVariants.{Open, Moved, Entry}
 use Rattle.core_views.specs.declared.place.CheckStage.{CheckStage}
 use Rattle.core_views.specs.declared.place.CheckStage.TheVariants as stage
@@ -17,7 +16,6 @@ use Rattle.core_views.specs.declared.sizes.Sizes.{Sizes}
 use Rattle.core_views.specs.declared.topics.SlotSearch.{SlotSearch}
 use Rattle.core_views.specs.declared.topics.TableWalk.{TableWalk}
 use Rattle.core_views.specs.declared.topics.Topics.{Topics}
-use Rattle.core_views.specs.Held.{Held}
 use Rattle.core_views.specs.Slots.{contains}
 use Rattle.spte_words.specs.declared.area.Area.TheVariants as area
 use Rattle.spte_words.specs.declared.spte_kind.SpteKind.{SpteKind}
@@ -27,7 +25,7 @@ use Rattle.spte_words.specs.Entries.{can_write, kind_of}
 use Rattle.spte_words.specs.HostWords.{host_allows_write}
 use Rattle.part_steps.specs.declared.part_step.PartStep.{PartStep}
 use Rattle.part_steps.specs.declared.part_step.PartStep.TheVariants as part
-use Rattle.part_steps.specs.PartTasks.{entry_index, part_kind, table_page, words_filled}
+use Rattle.part_steps.specs.PartTasks.{entry_index, table_page, words_filled}
 use Rattle.mmu_core.specs.declared.claim.ClaimNext.{ClaimNext}
 use Rattle.mmu_core.specs.declared.claim.ClaimNext.TheVariants as claims
 use Rattle.mmu_core.specs.declared.share.ShareNext.{ShareNext}
@@ -36,7 +34,7 @@ use Rattle.part_steps.specs.SlotWords.{page_of}
 use Rattle.part_steps.specs.Tasks.{map_of}
 use Rattle.part_steps.specs.PageTopics.{searched}
 pub use Rattle.mmu_core.specs.lines.ClaimSteps.{claim_left, claim_next, claim_part, map_word, tries_page}
-pub use Rattle.mmu_core.specs.lines.PartWaits.{is_owing, word_owed}
+pub use Rattle.mmu_core.specs.lines.PartWaits.{is_owing}
 pub use Rattle.mmu_core.specs.lines.ShareSteps.{share_left, share_next, share_part}
 
 abbrev pub check_part : CheckStage → PartStep
@@ -134,13 +132,3 @@ fault_next (Give e) z gfn write t v = Goes (Unshare e)
 fault_next Leaf z gfn write t v = Goes (if v == t.walk.entry then Unshare Installed else Unshare (Retry (Entry (entry_word z gfn t.walk) t.walk.entry v)))
 fault_next (Unshare e) z gfn write t v = Goes (End e)
 fault_next (End e) z gfn write t v = Ends e
-
--- What a step that waits has seen: of the lock the word that it found with the try which it takes back, and of the map what is there now.
-abbrev pub wait_value : FaultPlace → Topics → ℕ → ℕ
-wait_value Share t v = word_owed t.hold
-wait_value (Unshare e) t v = word_owed t.hold
-wait_value _ t v = v
-
--- and which word this is: the one that the step of the place is on
-abbrev pub wait_seen : FaultPlace → Held → ℕ → ℕ → ℕ → Seen
-wait_seen p h gfn note v = record { word = (part_kind h (fault_part p gfn h.topics) note).word; value = wait_value p h.topics v }

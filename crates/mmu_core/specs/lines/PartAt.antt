@@ -29,7 +29,7 @@ note_at _ _ h = 0
 -- what the guest touches for the command, through the leaf that its access uses
 abbrev pub touch_at : Command → Held → Task
 touch_at (Access gfn word op) h = touch_of op (content_index (map_of h.state.sizes) (frame_in h.state.leaf) word)
-touch_at (SetSlot id slot) h = no_task
+touch_at _ h = no_task
 
 -- what the step of a place is to do for the command
 abbrev pub task_at : Place → Command → Held → Task

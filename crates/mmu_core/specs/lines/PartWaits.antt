@@ -1,14 +1,20 @@
--- Which steps of the parts wait for another actor, by what their actor holds and what they answer.
+-- Which steps of the parts wait for another actor, by what their actor holds and what they answer; and what such a step has seen.
 use Rattle.std.specs.Prelude.{ℕ, Bool, true, false, ◌==◌, ◌&&◌, not}
+use Rattle.core_views.specs.declared.hand.Seen.{Seen}
 use Rattle.core_views.specs.declared.topics.Checked.{Checked}
 use Rattle.core_views.specs.declared.topics.Checked.TheVariants.{Count}
 use Rattle.core_views.specs.declared.topics.Hold.{Hold}
 use Rattle.core_views.specs.declared.topics.Hold.TheVariants.{Owing}
 use Rattle.core_views.specs.declared.topics.Invalidations.{Invalidations}
 use Rattle.core_views.specs.declared.topics.Topics.{Topics}
+use Rattle.core_views.specs.Held.{Held}
+use Rattle.spte_words.specs.declared.area.Area.TheVariants as area
+use Rattle.spte_words.specs.Areas.{place}
 use Rattle.part_steps.specs.declared.part_step.PartStep.{PartStep}
 use Rattle.part_steps.specs.declared.part_step.PartStep.TheVariants as part
 use Rattle.part_steps.specs.PageTopics.{is_won}
+use Rattle.part_steps.specs.PartTasks.{part_kind}
+use Rattle.part_steps.specs.Tasks.{map_of}
 use Rattle.part_steps.specs.ControlTopics.{in_section}
 
 -- The actor is to take itself out of the lock's readers: it saw a writer, in this word of the lock.
@@ -38,3 +44,10 @@ part_waits part.Exclude t v = not (v == 0)
 part_waits part.Release t v = saw_open t.invalidations
 part_waits (part.Watch index) t v = in_section v
 part_waits _ t v = false
+
+-- What a step that waits has seen, and the word that it has seen it in: the lock's word with the writer, for which it takes itself out of the
+-- readers; the number of open invalidations, for which it gives the lock back; and else what it found in its own word.
+abbrev pub part_seen : PartStep → Held → ℕ → Seen
+part_seen part.Unshare h v = record { word = place (map_of h.state.sizes) area.Lock 0; value = word_owed h.topics.hold }
+part_seen part.Release h v = record { word = place (map_of h.state.sizes) area.Count 0; value = h.topics.invalidations.count }
+part_seen step h v = record { word = (part_kind h step 0).word; value = v }

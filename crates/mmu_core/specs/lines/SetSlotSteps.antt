@@ -6,7 +6,6 @@ use Rattle.core_views.specs.declared.answer.Answer.TheVariants.{Done, Refused, S
 use Rattle.core_views.specs.declared.answer.Refusal.{Refusal}
 use Rattle.core_views.specs.declared.event.EventKind.{EventKind}
 use Rattle.core_views.specs.declared.event.EventKind.TheVariants.{SlotChanged}
-use Rattle.core_views.specs.declared.hand.Seen.{Seen}
 use Rattle.core_views.specs.declared.place.SetSlotPlace.{SetSlotPlace}
 use Rattle.core_views.specs.declared.place.SetSlotPlace.TheVariants.{Refuse, Claim, Fill, Role, Exclude, Count, Close, Publish, Release, Watch, Clear, Give}
 use Rattle.core_views.specs.declared.place.Place.TheVariants.{SetSlot}
@@ -14,8 +13,6 @@ use Rattle.core_views.specs.declared.trace.Slot.{Slot}
 use Rattle.core_views.specs.Held.{Held}
 use Rattle.core_views.specs.Refusals.{after_set, is_logged}
 use Rattle.core_views.specs.SlotSets.{MemorySlots}
-use Rattle.spte_words.specs.declared.area.Area.TheVariants as area
-use Rattle.spte_words.specs.Areas.{place}
 use Rattle.mmu_core.specs.declared.outcome.Outcome.{Outcome}
 use Rattle.mmu_core.specs.declared.outcome.Outcome.TheVariants.{Goes, Ends}
 use Rattle.part_steps.specs.declared.task.Task.{Task}
@@ -23,7 +20,7 @@ use Rattle.part_steps.specs.declared.part_step.PartStep.{PartStep}
 use Rattle.part_steps.specs.declared.part_step.PartStep.TheVariants as part
 use Rattle.mmu_core.specs.lines.AccessSteps.{exiting}
 use Rattle.mmu_core.specs.lines.FaultSteps.{claim_part}
-use Rattle.part_steps.specs.PartTasks.{own_index, part_kind, part_task, words_filled}
+use Rattle.part_steps.specs.PartTasks.{own_index, part_task, words_filled}
 use Rattle.part_steps.specs.SetWords.{set_role, set_word}
 use Rattle.mmu_core.specs.lines.ClaimSteps.{claim_next, claim_part, loads_last_word}
 use Rattle.mmu_core.specs.declared.claim.ClaimNext.{ClaimNext}
@@ -31,7 +28,6 @@ use Rattle.mmu_core.specs.declared.claim.ClaimNext.TheVariants as claims
 use Rattle.mmu_core.specs.declared.watch.WatchNext.{WatchNext}
 use Rattle.mmu_core.specs.declared.watch.WatchNext.TheVariants as watches
 pub use Rattle.mmu_core.specs.lines.WatchSteps.{looked_at, watch_next}
-use Rattle.part_steps.specs.Tasks.{map_of}
 
 -- where a setting begins
 abbrev pub set_slot_first : Option Refusal → SetSlotPlace
@@ -99,8 +95,3 @@ abbrev pub set_slot_tells : SetSlotPlace → Held → ℕ → Slot → ℕ → L
 set_slot_tells (Claim begun) h id slot v = exiting (set_slot_outcome (Claim begun) h v)
 set_slot_tells Publish h id slot v = SlotChanged id (Some (record { slot = slot; logged = is_logged id h.slots })) ∷ []
 set_slot_tells _ h id slot v = []
-
--- What a step that waits has seen: the number of open invalidations, for which it gives the lock back, and else what it found in its word.
-abbrev pub set_slot_seen : SetSlotPlace → Held → ℕ → Slot → ℕ → Seen
-set_slot_seen Close h id slot v = record { word = place (map_of h.state.sizes) area.Count 0; value = h.topics.invalidations.count }
-set_slot_seen p h id slot v = record { word = (part_kind h (set_slot_part p h id slot) (set_slot_note p h)).word; value = v }

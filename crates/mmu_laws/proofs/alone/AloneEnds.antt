@@ -14,7 +14,8 @@ use Rattle.mmu_core.specs.machine.Machine.{May, Step, World, answered, effect, h
 use Rattle.mmu_core.specs.machine.Steps.{held_after, line_at, next_line, place_at}
 use Rattle.mmu_core.specs.machine.Outcomes.{answers_after}
 use Rattle.mmu_core.specs.machine.Turns.{line_of, outcome_of, with_answer}
-use Rattle.mmu_laws.proofs.alone.AloneRuns.{some_left, steps_alone}
+use Rattle.mmu_core.proofs.lines.Forms.{some_left}
+use Rattle.mmu_laws.proofs.alone.AloneRuns.{steps_alone}
 use Rattle.mmu_laws.proofs.steps.CanStep.{may_step}
 use Rattle.mmu_core.proofs.machine.LineRuns.{own_hand}
 use Rattle.mmu_core.proofs.machine.Which.{has_line_is, next_of_line}

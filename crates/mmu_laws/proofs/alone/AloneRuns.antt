@@ -1,24 +1,14 @@
 -- A line that runs while all other actors rest, from world to world: each step of it that may be made comes nearer to its answer.
 use Rattle.std.proofs.Common.{◌≡◌, ◌≢◌, ◌⊎◌, inl, inr, ◌<◌, ◌≤◌, ℕ, length, refl, sym, subst, ap, ◌∙◌, arith}
-use Rattle.std.specs.Prelude.{true, false, Option, Some, None}
-use Rattle.core_views.specs.declared.answer.Refusal.{Refusal}
+use Rattle.std.specs.Prelude.{false}
 use Rattle.core_views.specs.declared.kind.Kind.{Kind}
-use Rattle.core_views.specs.declared.place.AccessPlace.{AccessPlace}
-use Rattle.core_views.specs.declared.place.AccessPlace.TheVariants as access
-use Rattle.core_views.specs.declared.place.FaultPlace.{FaultPlace}
-use Rattle.core_views.specs.declared.place.FaultPlace.TheVariants.{Walk}
-use Rattle.core_views.specs.declared.place.Leaving.TheVariants as leaving
 use Rattle.core_views.specs.declared.place.Place.{Place}
 use Rattle.core_views.specs.declared.place.Place.TheVariants as place
-use Rattle.core_views.specs.declared.place.SetSlotPlace.{SetSlotPlace}
-use Rattle.core_views.specs.declared.place.SetSlotPlace.TheVariants as set_slot
 use Rattle.core_views.specs.declared.sizes.Sizes.{Sizes}
 use Rattle.core_views.specs.declared.topics.Topics.{Topics}
 use Rattle.core_views.specs.declared.trace.Command.{Command}
-use Rattle.core_views.specs.declared.trace.Command.TheVariants.{Access, SetSlot}
 use Rattle.core_views.specs.declared.trace.Line.{Line}
 use Rattle.core_views.specs.Held.{Held}
-use Rattle.core_views.specs.Refusals.{set_refusal}
 use Rattle.core_views.specs.Sizes.{AreSizes, actors_of, index_of}
 use Rattle.core_views.specs.SlotSets.{MemorySlots}
 use Rattle.core_views.specs.Traces.{IsCommandFor}
@@ -26,75 +16,37 @@ use Rattle.spte_words.specs.declared.area.Area.{Area}
 use Rattle.spte_words.specs.declared.area.Area.TheVariants as area
 use Rattle.mmu_core.specs.declared.outcome.Outcome.{Outcome}
 use Rattle.mmu_core.specs.declared.outcome.Outcome.TheVariants.{Goes, Ends}
-use Rattle.mmu_core.specs.alone.AloneKnows.{AloneKnows, SetSlotAlone}
+use Rattle.mmu_core.specs.alone.AloneKnows.{AloneKnows}
 use Rattle.mmu_core.specs.lines.KnowsPart.{may_leave}
-use Rattle.mmu_core.specs.lines.Bounds.{access_left, most_steps, set_slot_left, steps_left}
+use Rattle.mmu_core.specs.lines.Bounds.{most_steps, steps_left}
 use Rattle.mmu_core.specs.machine.Enabled.{mmu}
-use Rattle.mmu_core.specs.lines.FaultLeft.{fault_left}
 use Rattle.mmu_core.specs.invariant.Laws.{IsSound}
 use Rattle.mmu_core.specs.alone.LineAlone.{AllRest, ComesNearer, LineAlone, StarvedOnlyWithout, StepsAlone, hand_left, line_waits}
 use Rattle.mmu_core.specs.machine.Machine.{May, Step, World, answered, effect, hand_in}
 use Rattle.mmu_core.specs.alone.OthersRest.{HoldsNothing, OthersRest}
 use Rattle.part_steps.specs.PartSteps.{IsAtRest}
 use Rattle.mmu_core.specs.lines.Rests.{IsUnderWay}
-use Rattle.mmu_core.specs.lines.SetSlotSteps.{set_slot_first}
-use Rattle.mmu_core.specs.machine.Steps.{first_place, line_at, outcome_at, place_at, standing, task_at}
+use Rattle.mmu_core.specs.machine.Steps.{line_at, outcome_at, place_at, standing, task_at}
 use Rattle.mmu_core.specs.machine.Outcomes.{answers_after, place_after}
 use Rattle.mmu_core.specs.machine.Turns.{line_of, outcome_of}
 use Rattle.mmu_core.specs.machine.View.{View, answer_in, hand_after, view, word_in, words_after}
-use Rattle.mmu_laws.proofs.alone.AloneStep.{AloneStep, RestsBehind, alone_step, two_left}
-use Rattle.mmu_laws.proofs.alone.GoesAlone.{GoesAlone}
+use Rattle.mmu_laws.proofs.alone.AloneStep.{alone_step, topics_at}
+use Rattle.mmu_laws.proofs.alone.GoesAlone.{GoesAlone, GoesOnAlone}
 use Rattle.mmu_core.proofs.machine.Columns.{same_or, upd_other, upd_same}
 use Rattle.mmu_core.proofs.machine.Extend.{hands_of_effect}
-use Rattle.mmu_core.proofs.lines.KnowsKept.{knows_at, needs_at, step_leaves}
+use Rattle.mmu_core.proofs.lines.Forms.{first_alone, first_left}
+use Rattle.mmu_core.proofs.lines.KnowsKept.{KnowsBehind, knows_at}
+use Rattle.mmu_core.proofs.invariant.Kept.{line_knows, needs_at}
 use Rattle.mmu_core.proofs.invariant.PartBounded.{part_rests_at}
 use Rattle.mmu_core.proofs.machine.Which.{has_line_is, is_next}
 use Rattle.mmu_core.proofs.machine.Worlds.{Takes, good_step, takes_line}
 
--- A line that begins has no more steps left than any line.
-first_setting : (r : Option Refusal) (y : Sizes) (t : Topics) → AreSizes y → steps_left (place.SetSlot (set_slot_first r)) y t ≤ most_steps y
-first_setting None y t S = omega (arith, S.actors.vcpus, S.actors.hosts, S.actors.workers)
-first_setting (Some refusal) y t S = omega arith
-
-first_left : (y : Sizes) (slots : MemorySlots) (command : Command) (t : Topics) → AreSizes y → steps_left (first_place y slots command) y t ≤ most_steps y
-first_left y slots (Access gfn word op) t S = let most = S.pool.1 in omega (arith, most)
-first_left y slots (SetSlot id slot) t S = first_setting (set_refusal y.pages id slot slots) y t S
-
+-- Where a line is about to begin, its first place has no more steps left than this.
 pub standing_left : (q : Place) (y : Sizes) (slots : MemorySlots) (command : Command) (t : Topics) → AreSizes y → steps_left (standing q y slots command) y t ≤ steps_left q y t
 standing_left place.Between y slots command t S = first_left y slots command t S
 standing_left _ y slots command t S = omega arith
 
--- Each place of a line has a step left.
-some_fault_left : (p : FaultPlace) (y : Sizes) (t : Topics) → 0 < fault_left p y t
-some_fault_left (Walk true) y t = omega arith
-some_fault_left (Walk false) y t = omega arith
-some_fault_left _ y t = omega arith
-
-some_access_left : (p : AccessPlace) (y : Sizes) (t : Topics) → 0 < access_left p y t
-some_access_left (access.Walk again) y t = let two = two_left again y t in omega (arith, two)
-some_access_left (access.Leave (leaving.Reached frame value)) y t = omega arith
-some_access_left (access.Leave leaving.Faults) y t = omega arith
-some_access_left (access.Fault p) y t = let some = some_fault_left p y t in omega (arith, some)
-some_access_left _ y t = omega arith
-
-some_setting_left : (p : SetSlotPlace) (y : Sizes) (t : Topics) → 0 < set_slot_left p y t
-some_setting_left (set_slot.Refuse refusal) y t = omega arith
-some_setting_left _ y t = omega arith
-
-pub some_left : (p : Place) (y : Sizes) (t : Topics) → 0 < steps_left p y t
-some_left place.Between y t = omega arith
-some_left (place.Access p) y t = some_access_left p y t
-some_left (place.SetSlot p) y t = some_setting_left p y t
-
 -- and it knows what its first place asks
-first_setting_alone : (r : Option Refusal) (map : ℕ → ℕ) (t : Topics) → SetSlotAlone (set_slot_first r) map t
-first_setting_alone None map t = (λ e. absurd (cc e), λ e. absurd (cc e))
-first_setting_alone (Some refusal) map t = tt
-
-first_alone : (y : Sizes) (slots : MemorySlots) (command : Command) (words : Area → ℕ → ℕ) (t : Topics) → AloneKnows (first_place y slots command) command words t
-first_alone y slots (Access gfn word op) words t = λ e. absurd (cc e)
-first_alone y slots (SetSlot id slot) words t = first_setting_alone (set_refusal y.pages id slot slots) (words area.PoolMap) t
-
 standing_alone : (q : Place) (y : Sizes) (slots : MemorySlots) (command : Command) (words : Area → ℕ → ℕ) (t : Topics) → AloneKnows q command words t → AloneKnows (standing q y slots command) command words t
 standing_alone place.Between y slots command words t K = first_alone y slots command words t
 standing_alone _ y slots command words t K = K
@@ -147,7 +99,7 @@ goes_on q z w after a line g words sizes B H G =
     )
 
 comes_nearer : (o : Outcome) (z : Sizes) (w after : World Held) (a : ℕ) (line : Line) (g : Held) (words : Area → ℕ → ℕ) → (hand_in mmu w a).state.sizes ≡ z → Behind z a after g words → HandBy o line (hand_in mmu w a) g
-    → GoesAlone o line.command (hand_in mmu w a).state.sizes words g.topics (hand_left (hand_in mmu w a)) → RestsBehind o g.topics → ComesNearer o z a w after
+    → GoesAlone o line.command (hand_in mmu w a).state.sizes words g.topics (hand_left (hand_in mmu w a)) → KnowsBehind o line.command g → ComesNearer o z a w after
 comes_nearer (Goes q) z w after a line g words sizes B H G rests = goes_on q z w after a line g words sizes B H G
 comes_nearer (Ends answer) z w after a line g words sizes B H G rests = (B.sound, all, subst (λ (ws : Area → ℕ → ℕ). StarvedOnlyWithout answer z (ws area.PoolMap)) (sym B.words_are) (subst (λ y. StarvedOnlyWithout answer y (words area.PoolMap)) sizes G))
   where
@@ -190,12 +142,12 @@ module _ (z : Sizes) (w : World Held) (s : Step Kind) (L : LineAlone z w s.actor
   taken : Takes z w s h
   taken = takes_line z w s L.sound may (is_next h s.kind may.enabled (has_line_is h L.left))
 
-  stepped_alone : AloneStep stood line.command h words
+  stepped_alone : GoesOnAlone stood line.command h words (topics_at stood line.command h words)
   stepped_alone =
       let S = taken.is_step in
       alone_step z w a L.sound L.others L.there (part_rests_at z (view z w) a L.sound.holds L.sound.topics L.there) (ap (λ y. index_of y h.state.actor) sizes ∙ (L.sound.holds.lines a L.there).index) sizes
-      stood line line.command S.begun (subst (λ c. IsCommandFor z c line.command) S.own S.allowed) (knows_at z (view z w) a L.sound.holds L.there L.left)
-      (step_leaves z (view z w) a line line.command stood S L.sound.holds) (needs_at z (view z w) a line line.command stood S L.sound.holds L.sound.topics) (standing_alone h.state.place h.state.sizes h.slots line.command words h.topics L.knows)
+      stood line.command S.begun (subst (λ c. IsCommandFor z c line.command) S.own S.allowed) (knows_at z (view z w) a L.sound.holds L.there L.left)
+      (needs_at z (view z w) a line line.command stood S L.sound.holds L.sound.topics) (standing_alone h.state.place h.state.sizes h.slots line.command words h.topics L.knows)
 
   behind : Behind z a (effect mmu w s) (hand_after line line.command stood h x) (words_after (task_at stood line.command h) words)
   behind = record {
@@ -211,12 +163,12 @@ module _ (z : Sizes) (w : World Held) (s : Step Kind) (L : LineAlone z w s.actor
       comes_nearer (outcome_at stood line.command h x) z w (effect mmu w s) a line (hand_after line line.command stood h x) (words_after (task_at stood line.command h) words) sizes behind
       (record { stands = refl; line_is = refl; lines = refl; answers = refl; left = L.left })
       (goes_more (outcome_at stood line.command h x) line.command h.state.sizes (words_after (task_at stood line.command h) words) (hand_after line line.command stood h x).topics (steps_left stood h.state.sizes h.topics) (hand_left h)
-      (standing_left h.state.place h.state.sizes h.slots line.command h.topics (subst AreSizes (sym sizes) L.sound.holds.sizes)) stepped_alone.on.next)
-      stepped_alone.rests
+      (standing_left h.state.place h.state.sizes h.slots line.command h.topics (subst AreSizes (sym sizes) L.sound.holds.sizes)) stepped_alone.next)
+      (line_knows z (view z w) a line line.command stood taken.is_step L.sound.holds L.sound.topics L.there)
 
   steps_alone_here : StepsAlone z w s
   steps_alone_here = record {
-    goes = ap (line_waits stood line.command h) taken.answers ∙ stepped_alone.on.goes;
+    goes = ap (line_waits stood line.command h) taken.answers ∙ stepped_alone.goes;
     nearer = subst (λ n. ComesNearer (outcome_at stood line.command h n) z a w (effect mmu w s)) (sym taken.answers) nearer;
   }
 

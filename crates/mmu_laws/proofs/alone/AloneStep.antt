@@ -22,7 +22,6 @@ use Rattle.core_views.specs.declared.topics.TableWalk.{TableWalk}
 use Rattle.core_views.specs.declared.topics.Topics.{Topics}
 use Rattle.core_views.specs.declared.trace.Command.{Command}
 use Rattle.core_views.specs.declared.trace.Command.TheVariants.{Access, SetSlot}
-use Rattle.core_views.specs.declared.trace.Line.{Line}
 use Rattle.core_views.specs.declared.trace.Op.{Op}
 use Rattle.core_views.specs.declared.trace.Slot.{Slot}
 use Rattle.core_views.specs.Held.{Held}
@@ -35,10 +34,9 @@ use Rattle.spte_words.specs.declared.spte_kind.SpteKind.{SpteKind}
 use Rattle.spte_words.specs.declared.spte_kind.SpteKind.TheVariants as entry_kind
 use Rattle.spte_words.specs.Areas.{pool_index, words_of_bits}
 use Rattle.spte_words.specs.Entries.{kind_of}
-use Rattle.mmu_core.specs.declared.outcome.Outcome.{Outcome}
-use Rattle.mmu_core.specs.declared.outcome.Outcome.TheVariants.{Goes, Ends}
+use Rattle.mmu_core.specs.declared.outcome.Outcome.TheVariants.{Goes}
 use Rattle.part_steps.specs.declared.part_step.PartStep.{PartStep}
-use Rattle.mmu_core.specs.lines.AccessSteps.{access_caches, access_note, access_outcome, access_part, access_task, behind_fault, pause_next, walk_next}
+use Rattle.mmu_core.specs.lines.AccessSteps.{access_note, access_part, access_task, behind_fault, pause_next, walk_next}
 use Rattle.mmu_core.specs.alone.AloneKnows.{AccessAlone, AloneKnows, SetSlotAlone, StayAlone}
 use Rattle.mmu_core.specs.lines.Bounds.{stay_left}
 use Rattle.mmu_core.specs.lines.Cached.{first_usable}
@@ -47,17 +45,17 @@ use Rattle.mmu_core.specs.alone.FaultAlone.{AloneNext, GoesThrough, LeadsTo, Lea
 use Rattle.mmu_core.specs.lines.FaultKnows.{EndKnows, FaultKnows}
 use Rattle.mmu_core.specs.lines.FaultLeft.{fault_left, next_left}
 use Rattle.mmu_core.specs.lines.FaultSteps.{allows_access, fault_next, fault_part}
-use Rattle.mmu_core.specs.lines.KnowsPart.{AccessKnows, KnowsPart, LeavesPart}
+use Rattle.mmu_core.specs.lines.KnowsPart.{AccessKnows, KnowsPart}
 use Rattle.mmu_core.specs.invariant.Laws.{IsSound}
 use Rattle.mmu_core.specs.machine.Machine.{World, hand_in}
 use Rattle.mmu_core.specs.alone.OthersRest.{OthersRest}
 use Rattle.part_steps.specs.PartBounds.{PartRests}
 use Rattle.part_steps.specs.PartTasks.{entry_index, own_index, table_page}
-use Rattle.part_steps.specs.PartSteps.{IsAtRest, PartNeeds}
+use Rattle.part_steps.specs.PartSteps.{PartNeeds}
 use Rattle.part_steps.specs.PartTopics.{part_topics}
 use Rattle.mmu_core.specs.lines.Rests.{IsUnderWay}
-use Rattle.mmu_core.specs.lines.SetSlotSteps.{set_slot_note, set_slot_outcome, set_slot_part, set_slot_task}
-use Rattle.mmu_core.specs.machine.Steps.{outcome_at, task_at}
+use Rattle.mmu_core.specs.lines.SetSlotSteps.{set_slot_note, set_slot_part, set_slot_task}
+use Rattle.mmu_core.specs.machine.Steps.{task_at}
 use Rattle.part_steps.specs.Tasks.{kind_of_task}
 use Rattle.part_steps.specs.StayTopics.{may_walk}
 use Rattle.part_steps.specs.WalkTopics.{gone_down, linked_page}
@@ -66,16 +64,13 @@ use Rattle.part_steps.specs.TopicSteps.{topics_after}
 use Rattle.mmu_core.specs.machine.View.{answer_in, word_in, words_after}
 use Rattle.mmu_laws.proofs.alone.FaultAlone.{goes_through}
 use Rattle.mmu_core.proofs.lines.FaultFalls.{fault_falls}
-use Rattle.mmu_core.proofs.lines.FaultKnown.{above_lowest, parts_answer}
+use Rattle.mmu_core.proofs.lines.FaultKnown.{above_lowest}
 use Rattle.mmu_laws.proofs.alone.GoesAlone.{GoesAlone, GoesOnAlone}
-use Rattle.mmu_core.proofs.machine.HandWith.{hand_with}
 use Rattle.mmu_core.proofs.words.PartTopics.{is_there, part_topics_is}
 use Rattle.mmu_laws.proofs.alone.SetSlotAlone.{setting_through}
-use Rattle.mmu_core.proofs.slots.SetSlotKnown.{SettingKnows, set_slot_known}
 use Rattle.mmu_core.specs.lines.SetSlotKnows.{SetSlotKnows}
-use Rattle.mmu_core.proofs.lines.KnowsKept.{KnowsBehind, NeedsAt, access_known, access_needs, access_vcpu, behind_part, task_answers, task_topics}
-use Rattle.mmu_core.proofs.lines.UsedTranslations.{filled_behind}
-use Rattle.circular_buffer.specs.Buffer.{Buffer}
+use Rattle.mmu_core.proofs.lines.AccessLeft.{two_left}
+use Rattle.mmu_core.proofs.lines.KnowsKept.{NeedsAt, access_needs, access_vcpu, behind_part, task_topics}
 
 -- ---- where links lead
 
@@ -119,10 +114,6 @@ down_page page v index walk from most = by (walk.level == 2) (walk.level == 3) r
     by false false is other = let e : walk.level ≡ 4 = grind (arith, nat_tests) in rw e refl
 
 -- ---- the stay in the guest
-
-pub two_left : (again : Bool) (y : Sizes) (t : Topics) → 2 ≤ stay_left again y t
-two_left true y t = omega arith
-two_left false y t = omega arith
 
 pause_goes : (used : Option Translation) (again : Bool) (gfn word : ℕ) (op : Op) (y : Sizes) (words : Area → ℕ → ℕ) (t u : Topics) → StayAlone again (words area.Root 0) (words area.Pool) gfn (is_write op)
     → GoesAlone (Goes (place.Access (pause_next again used))) (Access gfn word op) y words u (6 + stay_left again y t)
@@ -233,66 +224,37 @@ module _ (z : Sizes) (w : World Held) (a : ℕ) (sound : IsSound z w) (others : 
       record { goes = refl; next = (tt, tt, omega (arith, same)) }
   access_goes (Fault p) gfn word op small K alone = fault_alone p gfn word op small K alone
 
--- Behind the step that answers the line its actor rests.
-abbrev pub RestsBehind : Outcome → Topics → Type 0
-RestsBehind (Goes p) t = Unit {0}
-RestsBehind (Ends answer) t = IsAtRest t
-
-rests_by : (o : Outcome) (command : Command) (g : Held) → KnowsBehind o command g → RestsBehind o g.topics
-rests_by (Goes p) command g K = tt
-rests_by (Ends answer) command g K = K
-
-setting_rests : (o : Outcome) (g : Held) → SettingKnows o g → RestsBehind o g.topics
-setting_rests (Goes p) g K = tt
-setting_rests (Ends answer) g K = K
-
 -- what is held behind the step of a place
 abbrev pub topics_at : Place → Command → Held → (Area → ℕ → ℕ) → Topics
 topics_at p command h words = topics_after h.state.sizes (kind_of_task h.state.sizes (task_at p command h)) h.topics (answer_in (task_at p command h) words)
 
 -- a clause for each form of line
-pub record AloneStep (p : Place) (command : Command) (h : Held) (words : Area → ℕ → ℕ) : Type 0 where
-  pub on : GoesOnAlone p command h words (topics_at p command h words)
-  pub rests : RestsBehind (outcome_at p command h (answer_in (task_at p command h) words)) (topics_at p command h words)
-
 access_step : (z : Sizes) (w : World Held) (a : ℕ) → IsSound z w → OthersRest a w → a < actors_of z → PartRests (hand_in mmu w a) → own_index (hand_in mmu w a) ≡ a → (hand_in mmu w a).state.sizes ≡ z
-    → (p : AccessPlace) (line : Line) (gfn word : ℕ) (op : Op) → IsCommandFor z (hand_in mmu w a).state.actor (Access gfn word op) → KnowsPart (place.Access p) (Access gfn word op) (hand_in mmu w a)
-    → AloneKnows (place.Access p) (Access gfn word op) (word_in z w) (hand_in mmu w a).topics → AloneStep (place.Access p) (Access gfn word op) (hand_in mmu w a) (word_in z w)
-access_step z w a sound others there R own sizes p line gfn word op may K alone =
+    → (p : AccessPlace) (gfn word : ℕ) (op : Op) → IsCommandFor z (hand_in mmu w a).state.actor (Access gfn word op) → KnowsPart (place.Access p) (Access gfn word op) (hand_in mmu w a)
+    → AloneKnows (place.Access p) (Access gfn word op) (word_in z w) (hand_in mmu w a).topics
+    → GoesOnAlone (place.Access p) (Access gfn word op) (hand_in mmu w a) (word_in z w) (topics_at (place.Access p) (Access gfn word op) (hand_in mmu w a) (word_in z w))
+access_step z w a sound others there R own sizes p gfn word op may K alone =
     let h : Held = hand_in mmu w a in
-    let words : Area → ℕ → ℕ = word_in z w in
-    let v : ℕ = answer_in (access_task p h gfn word op) words in
     let V = access_vcpu z h.state.actor gfn word op may in
-    let s : Option PartStep = access_part p gfn h.topics in
-    let t : Topics = behind_part s h.topics v in
-    let cached : Buffer Translation = access_caches p h gfn op v in
-    let is : topics_at (place.Access p) (Access gfn word op) h words ≡ t = task_topics s h (access_note p) op _ v (access_needs p h gfn (is_write op) V.0 V.1 R K) in
-    record {
-      on = subst (GoesOnAlone (place.Access p) (Access gfn word op) h words) (sym is) (access_goes z w a sound others there R own sizes p gfn word op V.1 K alone);
-      rests = subst (RestsBehind (access_outcome p h gfn op v)) (sym is)
-          (rests_by (access_outcome p h gfn op v) (Access gfn word op) (hand_with line (Access gfn word op) (place.Access p) h t cached v) (access_known p line h gfn word op cached v (filled_behind p h gfn op v) V.1 R K (task_answers s h (access_note p) _ words)));
-    }
+    subst (GoesOnAlone (place.Access p) (Access gfn word op) h (word_in z w))
+    (sym (task_topics (access_part p gfn h.topics) h (access_note p) op _ (answer_in (access_task p h gfn word op) (word_in z w)) (access_needs p h gfn (is_write op) V.0 V.1 R K)))
+    (access_goes z w a sound others there R own sizes p gfn word op V.1 K alone)
 
-setting_step : (z : Sizes) (w : World Held) (a : ℕ) → IsSound z w → OthersRest a w → a < actors_of z → PartRests (hand_in mmu w a) → own_index (hand_in mmu w a) ≡ a → (hand_in mmu w a).state.sizes ≡ z
-    → (p : SetSlotPlace) (line : Line) (id : ℕ) (slot : Slot) → SetSlotKnows p (hand_in mmu w a) → LeavesPart (place.SetSlot p) (hand_in mmu w a).topics → PartNeeds (set_slot_part p (hand_in mmu w a) id slot) (hand_in mmu w a)
-    → SetSlotAlone p (word_in z w area.PoolMap) (hand_in mmu w a).topics → AloneStep (place.SetSlot p) (SetSlot id slot) (hand_in mmu w a) (word_in z w)
-setting_step z w a sound others there R own sizes p line id slot K leaves needs alone =
+setting_step : (z : Sizes) (w : World Held) (a : ℕ) → IsSound z w → OthersRest a w → a < actors_of z → own_index (hand_in mmu w a) ≡ a → (hand_in mmu w a).state.sizes ≡ z
+    → (p : SetSlotPlace) (id : ℕ) (slot : Slot) → SetSlotKnows p (hand_in mmu w a) → PartNeeds (set_slot_part p (hand_in mmu w a) id slot) (hand_in mmu w a)
+    → SetSlotAlone p (word_in z w area.PoolMap) (hand_in mmu w a).topics
+    → GoesOnAlone (place.SetSlot p) (SetSlot id slot) (hand_in mmu w a) (word_in z w) (topics_at (place.SetSlot p) (SetSlot id slot) (hand_in mmu w a) (word_in z w))
+setting_step z w a sound others there own sizes p id slot K needs alone =
     let h : Held = hand_in mmu w a in
-    let words : Area → ℕ → ℕ = word_in z w in
     let step : PartStep = set_slot_part p h id slot in
-    let v : ℕ = answer_in (set_slot_task p h id slot) words in
-    let is : topics_at (place.SetSlot p) (SetSlot id slot) h words ≡ part_topics step h.topics v = part_topics_is h.state.sizes step (own_index h) h.topics (set_slot_note p h) v (is_there step h needs) in
-    record {
-      on = subst (GoesOnAlone (place.SetSlot p) (SetSlot id slot) h words) (sym is) (setting_through z w a sound others there own sizes id slot p K alone needs);
-      rests = subst (RestsBehind (set_slot_outcome p h v)) (sym is)
-          (setting_rests (set_slot_outcome p h v) (hand_with line (SetSlot id slot) (place.SetSlot p) h (part_topics step h.topics v) h.cached v)
-          (set_slot_known line h id slot h.cached v R p K leaves (parts_answer step (own_index h) h.topics (set_slot_note p h) words)));
-    }
+    subst (GoesOnAlone (place.SetSlot p) (SetSlot id slot) h (word_in z w))
+    (sym (part_topics_is h.state.sizes step (own_index h) h.topics (set_slot_note p h) (answer_in (set_slot_task p h id slot) (word_in z w)) (is_there step h needs)))
+    (setting_through z w a sound others there own sizes id slot p K alone needs)
 
 pub alone_step : (z : Sizes) (w : World Held) (a : ℕ) → IsSound z w → OthersRest a w → a < actors_of z → PartRests (hand_in mmu w a) → own_index (hand_in mmu w a) ≡ a → (hand_in mmu w a).state.sizes ≡ z
-    → (p : Place) (line : Line) (command : Command) → IsUnderWay p → IsCommandFor z (hand_in mmu w a).state.actor command → KnowsPart p command (hand_in mmu w a) → LeavesPart p (hand_in mmu w a).topics → NeedsAt p command (hand_in mmu w a) → AloneKnows p command (word_in z w) (hand_in mmu w a).topics
-    → AloneStep p command (hand_in mmu w a) (word_in z w)
-alone_step z w a sound others there R own sizes place.Between line command begun may K leaves needs alone = absurd begun
-alone_step z w a sound others there R own sizes (place.Access p) line (Access gfn word op) begun may K leaves needs alone = access_step z w a sound others there R own sizes p line gfn word op may K alone
-alone_step z w a sound others there R own sizes (place.SetSlot p) line (SetSlot id slot) begun may K leaves needs alone = setting_step z w a sound others there R own sizes p line id slot K leaves needs alone
-alone_step z w a sound others there R own sizes _ line _ begun may K leaves needs alone = absurd K
+    → (p : Place) (command : Command) → IsUnderWay p → IsCommandFor z (hand_in mmu w a).state.actor command → KnowsPart p command (hand_in mmu w a) → NeedsAt p command (hand_in mmu w a)
+    → AloneKnows p command (word_in z w) (hand_in mmu w a).topics → GoesOnAlone p command (hand_in mmu w a) (word_in z w) (topics_at p command (hand_in mmu w a) (word_in z w))
+alone_step z w a sound others there R own sizes place.Between command begun may K needs alone = absurd begun
+alone_step z w a sound others there R own sizes (place.Access p) (Access gfn word op) begun may K needs alone = access_step z w a sound others there R own sizes p gfn word op may K alone
+alone_step z w a sound others there R own sizes (place.SetSlot p) (SetSlot id slot) begun may K needs alone = setting_step z w a sound others there own sizes p id slot K needs alone
+alone_step z w a sound others there R own sizes _ _ begun may K needs alone = absurd K

@@ -37,7 +37,6 @@ use Rattle.part_steps.specs.PartTasks.{own_index}
 use Rattle.part_steps.specs.PartSteps.{PartNeeds}
 use Rattle.part_steps.specs.PartTopics.{part_topics}
 use Rattle.part_steps.specs.Tasks.{map_of}
-use Rattle.mmu_core.specs.declared.outcome.Outcome.TheVariants.{Goes}
 use Rattle.mmu_core.specs.lines.AccessSteps.{access_note, access_outcome, access_part, access_task, behind_fault}
 use Rattle.mmu_core.specs.machine.Enabled.{mmu}
 use Rattle.mmu_core.specs.declared.claim.ClaimNext.{ClaimNext}
@@ -61,7 +60,8 @@ use Rattle.mmu_core.specs.machine.Worlds.{IsStart}
 use Rattle.mmu_laws.proofs.alone.AloneStep.{topics_at}
 use Rattle.mmu_laws.proofs.causes.Changes.{of_each_list}
 use Rattle.mmu_core.proofs.machine.Columns.{same_or}
-use Rattle.mmu_core.proofs.lines.KnowsKept.{NeedsAt, NeedsOf, access_needs, access_vcpu, behind_part, knows_at, needs_at, task_topics}
+use Rattle.mmu_core.proofs.lines.KnowsKept.{NeedsAt, NeedsOf, access_needs, access_vcpu, behind_part, knows_at, task_topics}
+use Rattle.mmu_core.proofs.invariant.Kept.{needs_at}
 use Rattle.mmu_core.proofs.machine.LineRuns.{own_hand}
 use Rattle.mmu_laws.proofs.causes.NotOpen.{closed_on, maps, unseen_on}
 use Rattle.mmu_core.proofs.invariant.PartBounded.{part_rests_at}

@@ -1,6 +1,6 @@
 -- A line is answered starved only where its own claim saw each word of the pool's map with no free page.
 use Rattle.std.proofs.Common.{◌≡◌, ◌≢◌, ◌⊎◌, inl, inr, ◌<◌, ◌≤◌, ℕ, List, [], ◌∷◌, ◌++◌, length, refl, sym, subst, ap, append_assoc}
-use Rattle.std.specs.Prelude.{Bool, Option, Some, None, slice_get, unwrap_or, is_some, ◌+◌}
+use Rattle.std.specs.Prelude.{Bool, Option, Some, None, slice_get, unwrap_or, is_some}
 use Rattle.std.proofs.lemmas.List.{append-nil}
 use Rattle.core_views.specs.declared.answer.Answer.TheVariants as answer
 use Rattle.core_views.specs.declared.kind.Kind.{Kind}
@@ -20,9 +20,7 @@ use Rattle.core_views.specs.declared.trace.Command.{Command}
 use Rattle.core_views.specs.declared.trace.Command.TheVariants.{Access, SetSlot}
 use Rattle.core_views.specs.declared.trace.Op.{Op}
 use Rattle.core_views.specs.Held.{Held}
-use Rattle.core_views.specs.Refusals.{set_refusal}
 use Rattle.core_views.specs.Sizes.{actors_of}
-use Rattle.core_views.specs.SlotSets.{MemorySlots}
 use Rattle.spte_words.specs.Areas.{words_of_bits}
 use Rattle.mmu_core.specs.declared.outcome.Outcome.TheVariants.{Ends}
 use Rattle.part_steps.specs.declared.task.Task.{Task}
@@ -38,7 +36,7 @@ use Rattle.part_steps.specs.PartTasks.{own_index}
 use Rattle.part_steps.specs.PartSteps.{PartNeeds}
 use Rattle.mmu_core.specs.lines.Rests.{RestsAt}
 use Rattle.mmu_core.specs.invariant.Scans.{EndsWithScan, LoadsMap, StarvedLinesScan}
-use Rattle.mmu_core.specs.lines.SetSlotSteps.{set_slot_first, set_slot_outcome, after_claim, set_slot_note, set_slot_part, set_slot_task}
+use Rattle.mmu_core.specs.lines.SetSlotSteps.{set_slot_outcome, after_claim, set_slot_note, set_slot_part, set_slot_task}
 use Rattle.mmu_core.specs.machine.Steps.{first_place, line_at, outcome_at, place_at, task_at, task_of}
 use Rattle.part_steps.specs.Tasks.{kind_of_task}
 use Rattle.part_steps.specs.TopicSteps.{topics_after}
@@ -46,6 +44,8 @@ use Rattle.mmu_core.specs.machine.Turns.{outcome_of}
 use Rattle.mmu_core.proofs.lines.ClaimMade.{ClaimMade, claim_made}
 use Rattle.mmu_core.proofs.lines.ClaimMade as made
 use Rattle.mmu_core.proofs.machine.Columns.{same_or}
+use Rattle.mmu_core.specs.machine.View.{view}
+use Rattle.mmu_core.proofs.lines.KnowsKept.{knows_at}
 use Rattle.mmu_core.proofs.machine.LineRuns.{run_one_more}
 use Rattle.mmu_core.proofs.machine.Advancing.{some_below}
 use Rattle.mmu_core.proofs.words.PartTopics.{is_there, part_topics_is}
@@ -136,17 +136,6 @@ starved_by (place.SetSlot p) (SetSlot id slot) h v e K R = starved_setting p h i
 starved_by place.Between command h v e K R = absurd (cc e)
 starved_by _ _ h v e K R = absurd R
 
-starved_first : (z : Sizes) (slots : MemorySlots) (command : Command) (h : Held) (v : ℕ) → outcome_at (first_place z slots command) command h v ≡ Ends answer.Starved → RestsAt (first_place z slots command) command h
-    → IsStarved (first_place z slots command) (task_at (first_place z slots command) command h) h v
-starved_first z slots (Access gfn word op) h v e R = absurd (cc e)
-starved_first z slots (SetSlot id slot) h v e R = starved_setting (set_slot_first (set_refusal z.pages id slot slots)) h id slot v e R
-
-starved_line : (p : Place) (h : Held) (v : ℕ) → outcome_at (place_at p h) (line_at p h).command h v ≡ Ends answer.Starved → KnowsPart p h.state.line.command h → RestsAt (place_at p h) (line_at p h).command h
-    → IsStarved (place_at p h) (task_at (place_at p h) (line_at p h).command h) h v
-starved_line place.Between h v e K R = starved_first h.state.sizes h.slots (line_at place.Between h).command h v e R
-starved_line (place.Access p) h v e K R = starved_by (place.Access p) h.state.line.command h v e K R
-starved_line (place.SetSlot p) h v e K R = starved_by (place.SetSlot p) h.state.line.command h v e K R
-
 -- A hand whose step answers a line starved has a line left.
 has_left : (p : Place) (h : Held) (v : ℕ) → UnderWay p h → outcome_at (place_at p h) (line_at p h).command h v ≡ Ends answer.Starved → length h.answers < length h.lines
 has_left place.Between h v U e = by (slice_get h.lines (length h.answers)) refl e
@@ -180,11 +169,14 @@ last_scan z w ss s G may starved S = shorter z s.actor (at_in s.actor (effect mm
     same : h.state.sizes ≡ z
     same = (G.holds.lines s.actor there).sizes
 
+    left : length h.answers < length h.lines
+    left = has_left h.state.place h v (G.holds.lines s.actor there).under starved
+
     N : IsNext h s.kind
-    N = is_next h s.kind may.enabled (has_line_is h (has_left h.state.place h v (G.holds.lines s.actor there).under starved))
+    N = is_next h s.kind may.enabled (has_line_is h left)
 
     is : IsStarved (place_at h.state.place h) (task_of h) h v
-    is = starved_line h.state.place h v starved (G.holds.knows s.actor there) N.rests.at
+    is = starved_by (place_at h.state.place h) (line_at h.state.place h).command h v starved (knows_at z (view z u) s.actor G.holds there left) N.rests.at
 
     past : words_of_bits z.pool ≤ at_in s.actor (effect mmu u s)
     past =

@@ -1,4 +1,4 @@
--- Each step is on a word of its kind's area, its note tells whether its line ends with it, and it leaves at most one more translation.
+-- Each step is on a word of its kind's area, and it leaves at most one more translation.
 use Rattle.std.proofs.Common.{◌≡◌, inl, inr, ◌<◌, ℕ, refl, sym, subst, ap, ◌∙◌}
 use Rattle.std.specs.Prelude.{Bool, true, false, [], if◌then◌else◌, Option, Some, None}
 use Rattle.circular_buffer.specs.Buffer.{Buffer, buffer}
@@ -7,54 +7,43 @@ use Rattle.core_views.specs.declared.kind.Kind.{Kind}
 use Rattle.core_views.specs.declared.kind.StepKind.{StepKind}
 use Rattle.core_views.specs.declared.kind.StepKind.TheVariants as kind
 use Rattle.core_views.specs.declared.place.AccessPlace.{AccessPlace}
-use Rattle.core_views.specs.declared.place.AccessPlace.TheVariants.{Walk, Leave, Fault}
-use Rattle.core_views.specs.declared.place.FaultPlace.{FaultPlace}
-use Rattle.core_views.specs.declared.place.FaultPlace.TheVariants as fault
-use Rattle.core_views.specs.declared.place.Leaving.TheVariants as leaving
+use Rattle.core_views.specs.declared.place.AccessPlace.TheVariants.{Walk}
 use Rattle.core_views.specs.declared.place.Place.{Place}
 use Rattle.core_views.specs.declared.place.Place.TheVariants as place
-use Rattle.core_views.specs.declared.place.SetSlotPlace.{SetSlotPlace}
-use Rattle.core_views.specs.declared.place.SetSlotPlace.TheVariants.{Claim}
 use Rattle.core_views.specs.declared.sizes.Sizes.{Sizes}
 use Rattle.core_views.specs.declared.topics.Topics.{Topics}
 use Rattle.core_views.specs.declared.trace.Command.{Command}
-use Rattle.core_views.specs.declared.trace.Command.TheVariants.{Access, SetSlot}
+use Rattle.core_views.specs.declared.trace.Command.TheVariants.{Access}
 use Rattle.core_views.specs.declared.trace.Op.{Op}
 use Rattle.core_views.specs.declared.trace.Op.TheVariants.{Read}
-use Rattle.core_views.specs.declared.trace.Slot.{Slot}
 use Rattle.core_views.specs.Held.{Held}
 use Rattle.core_views.specs.Kinds.{kind_named}
 use Rattle.core_views.specs.Slots.{is_write}
 use Rattle.spte_words.specs.declared.area.Area.{Area}
 use Rattle.spte_words.specs.Areas.{size_of}
 use Rattle.spte_words.specs.Entries.{kind_of}
-use Rattle.mmu_core.specs.declared.outcome.Outcome.{Outcome}
 use Rattle.part_steps.specs.declared.task.Task.{Task}
 use Rattle.part_steps.specs.declared.part_step.PartStep.{PartStep}
 use Rattle.part_steps.specs.declared.part_step.PartStep.TheVariants as part
-use Rattle.mmu_core.specs.lines.AccessSteps.{access_caches, access_note, access_outcome, access_part, behind_fault, ends_with, is_found, task_by, touch_of}
+use Rattle.mmu_core.specs.lines.AccessSteps.{access_caches, is_found, task_by, touch_of}
 use Rattle.mmu_core.specs.lines.Cached.{asks_flush, flushed, flushed_by, with_leaf}
 use Rattle.mmu_core.specs.machine.Enabled.{Enabled}
-use Rattle.mmu_core.specs.lines.FaultSteps.{allows_access, fault_next}
+use Rattle.mmu_core.specs.lines.FaultSteps.{allows_access}
 use Rattle.part_steps.specs.PartTasks.{own_index, part_task}
-use Rattle.part_steps.specs.PartSteps.{PartNeeds}
-use Rattle.mmu_core.specs.lines.SetSlotSteps.{set_slot_outcome, set_slot_part, set_slot_task}
-use Rattle.mmu_laws.specs.steps.StepLaws.{CachesOneAtMost, IsOn, IsOnItsArea, NoteTells}
-use Rattle.mmu_core.specs.machine.Steps.{caches_at, has_line, next, next_by, outcome_at, place_at, task_at, task_of}
+use Rattle.mmu_laws.specs.steps.StepLaws.{CachesOneAtMost, IsOn, IsOnItsArea}
+use Rattle.mmu_core.specs.machine.Steps.{caches_at, has_line, next, next_by, place_at, task_at, task_of}
 use Rattle.part_steps.specs.Tasks.{kind_of_task, map_of}
-use Rattle.mmu_core.specs.machine.Turns.{line_of, outcome_of}
+use Rattle.mmu_core.specs.machine.Turns.{line_of}
 use Rattle.mmu_core.specs.lines.Rests.{RestsAt}
 use Rattle.mmu_core.proofs.machine.Advancing.{named_is}
-use Rattle.mmu_laws.proofs.steps.ClaimNote.{claim_tells}
 use Rattle.mmu_core.proofs.words.PartIndex.{index_same}
 use Rattle.mmu_core.proofs.invariant.RestsKept.{task_within}
 use Rattle.mmu_core.proofs.lines.ByStep.{StepAt, step_at, Makes, Touches}
-use Rattle.mmu_core.proofs.machine.Which.{is_next}
 
 -- What the step of a part is on, and its note.
-record TellsPart (note : ℕ) (t : Task) : Type 0 where
-  on : IsOn t.kind t.area
-  note_is : t.may_end ≡ note
+pub record TellsPart (note : ℕ) (t : Task) : Type 0 where
+  pub on : IsOn t.kind t.area
+  pub note_is : t.may_end ≡ note
 
 tells_part : (step : PartStep) (own : ℕ) (t : Topics) (note : ℕ) → TellsPart note (part_task step own t note)
 tells_part (part.Fill value) own t note = record { on = inl refl; note_is = refl }
@@ -75,39 +64,13 @@ tells_touch Read index = record { on = refl; note_is = refl }
 tells_touch _ index = record { on = refl; note_is = refl }
 
 -- the note that the step of a place has: the touch has 0
-abbrev note_by : Option PartStep → ℕ → ℕ
+abbrev pub note_by : Option PartStep → ℕ → ℕ
 note_by None note = 0
 note_by (Some step) note = note
 
-tells_by : (s : Option PartStep) (h : Held) (note index : ℕ) (op : Op) → TellsPart (note_by s note) (task_by s h note (touch_of op index))
+pub tells_by : (s : Option PartStep) (h : Held) (note index : ℕ) (op : Op) → TellsPart (note_by s note) (task_by s h note (touch_of op index))
 tells_by None h note index op = tells_touch op index
 tells_by (Some step) h note index op = tells_part step (own_index h) h.topics note
-
--- The note of an access is 1 where it is answered.
-fault_ends : (p : FaultPlace) (z : Sizes) (gfn : ℕ) (write : Bool) (t : Topics) (v : ℕ) → access_note (Fault p) ≡ ends_with (behind_fault (fault_next p z gfn write t v))
-fault_ends (fault.End e) z gfn write t v = refl
-fault_ends _ z gfn write t v = refl
-
-access_ends : (p : AccessPlace) (h : Held) (gfn : ℕ) (op : Op) (v : ℕ) → note_by (access_part p gfn h.topics) (access_note p) ≡ ends_with (access_outcome p h gfn op v)
-access_ends (Leave (leaving.Reached frame value)) h gfn op v = refl
-access_ends (Leave leaving.Faults) h gfn op v = refl
-access_ends (Fault p) h gfn op v = fault_ends p h.state.sizes gfn (is_write op) h.topics v
-access_ends _ h gfn op v = refl
-
--- The step of another place than a slot setting's claim.
-tells_exactly : (p : Place) (z : Sizes) (t : Task) (o : Outcome) (v : ℕ) → t.may_end ≡ ends_with o → ((begun : Bool) → p ≡ place.SetSlot (Claim begun) → ⊥) → NoteTells p z (kind_of_task z t) o v
-tells_exactly p z t o v is other = record { tells = inl is; last = λ L. absurd (other L.begun L.place_is) }
-
-setting_tells : (p : SetSlotPlace) (h : Held) (id : ℕ) (slot : Slot) (v : ℕ) → PartNeeds (set_slot_part p h id slot) h → NoteTells (place.SetSlot p) h.state.sizes (kind_of_task h.state.sizes (set_slot_task p h id slot)) (set_slot_outcome p h v) v
-setting_tells (Claim begun) h id slot v N = claim_tells begun h id slot v N
-setting_tells p h id slot v N = record { tells = inl refl; last = λ L. absurd (cc L.place_is) }
-
-line_tells : (p : Place) (command : Command) (h : Held) (v : ℕ) → RestsAt p command h → NoteTells p h.state.sizes (kind_of_task h.state.sizes (task_at p command h)) (outcome_at p command h v) v
-line_tells (place.Access p) (Access gfn word op) h v R =
-    tells_exactly (place.Access p) h.state.sizes (task_at (place.Access p) (Access gfn word op) h) (access_outcome p h gfn op v) v ((tells_by (access_part p gfn h.topics) h (access_note p) _ op).note_is ∙ access_ends p h gfn op v) (λ begun e. cc e)
-line_tells (place.SetSlot p) (SetSlot id slot) h v R = setting_tells p h id slot v R
-line_tells place.Between _ h v R = record { tells = inl refl; last = λ L. absurd (cc L.place_is) }
-line_tells _ _ h v R = absurd R
 
 -- What a line's step is on.
 on_by : (command : Command) (h : Held) (t : Task) → StepAt command h t → IsOn t.kind t.area
@@ -131,11 +94,6 @@ steps_are_on_their_areas h k (inr N) =
     let within : t.index < size_of (map_of h.state.sizes) t.area =
     subst (λ (b : Area). t.index < size_of (map_of h.state.sizes) b) (sym same.1) (subst (λ i. i < size_of (map_of h.state.sizes) (part_task N.step (own_index h) h.topics 0).area) (sym same.0) N.within) in
     subst (IsOnItsArea h.state.sizes) (sym N.is) (on_its_area h.state.sizes t within (tells_part N.step (own_index h) h.topics N.note).on)
-
-pub notes_tell_ends : (h : Held) (k : Kind) (v : ℕ) → Enabled h k → has_line h ≡ true → NoteTells (place_at h.state.place h) h.state.sizes k (outcome_of h v) v
-notes_tell_ends h k v enabled has =
-    let N = is_next h k enabled has in
-    subst (λ (x : Kind). NoteTells (place_at h.state.place h) h.state.sizes x (outcome_of h v) v) (sym N.is) (line_tells (place_at h.state.place h) (line_of h).command h v N.rests.at)
 
 -- ---- what a step leaves of what is cached
 

@@ -22,7 +22,8 @@ use Rattle.mmu_core.specs.machine.Steps.{has_line, line_at, outcome_at, place_at
 use Rattle.mmu_core.specs.machine.Turns.{outcome_of}
 use Rattle.mmu_core.specs.machine.View.{View, answer_in, hand_after, view, word_in}
 use Rattle.mmu_core.proofs.machine.Columns.{upd_same}
-use Rattle.mmu_core.proofs.lines.KnowsKept.{KnowsBehind, line_knows}
+use Rattle.mmu_core.proofs.lines.KnowsKept.{KnowsBehind}
+use Rattle.mmu_core.proofs.invariant.Kept.{line_knows}
 use Rattle.mmu_core.proofs.machine.Which.{is_next}
 use Rattle.mmu_core.proofs.machine.Worlds.{Takes, good_step, takes_line}
 

@@ -48,13 +48,14 @@ use Rattle.part_steps.specs.StayTopics.{may_walk}
 use Rattle.part_steps.specs.WalkTopics.{gone_down, linked_page}
 use Rattle.part_steps.specs.ControlTopics.{at_root}
 use Rattle.mmu_core.specs.machine.View.{answer_in}
-use Rattle.mmu_laws.proofs.alone.AloneStep.{topics_at, two_left}
+use Rattle.mmu_laws.proofs.alone.AloneStep.{topics_at}
 use Rattle.mmu_core.proofs.lines.FaultFalls.{fault_falls}
 pub use Rattle.mmu_laws.proofs.turns.SetSlotNearer.{Nearer}
 use Rattle.mmu_laws.proofs.turns.SetSlotNearer.{set_slot_nearer}
 use Rattle.mmu_core.proofs.words.PartTopics.{is_there, part_topics_is}
 use Rattle.part_steps.specs.declared.part_step.PartStep.{PartStep}
 use Rattle.mmu_core.proofs.lines.FaultKnown.{above_lowest}
+use Rattle.mmu_core.proofs.lines.AccessLeft.{two_left}
 use Rattle.mmu_core.proofs.lines.KnowsKept.{NeedsAt, access_needs, access_vcpu, behind_part, task_topics}
 
 -- what is no delay

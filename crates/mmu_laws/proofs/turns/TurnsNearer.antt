@@ -1,22 +1,19 @@
 -- What a step of a line leaves it, beside other actors too: fewer steps, where it is no delay. And which steps are delays.
 use Rattle.std.proofs.Common.{◌≡◌, ◌⊎◌, inl, inr, ◌<◌, ◌≤◌, ℕ, length, refl, sym, subst, ap, ◌∙◌, arith}
-use Rattle.std.specs.Prelude.{Bool, true, false, ◌&&◌, ◌||◌, Option, Some, None}
+use Rattle.std.specs.Prelude.{Bool, true, false, ◌&&◌, ◌||◌}
 use Rattle.std.proofs.lemmas.Bool.Decides.{nat_tests}
-use Rattle.core_views.specs.declared.answer.Refusal.{Refusal}
 use Rattle.core_views.specs.declared.kind.Kind.{Kind}
 use Rattle.core_views.specs.declared.place.AccessPlace.TheVariants.{Enter, Pause, Root, Walk, Touch, Leave, Fault}
 use Rattle.core_views.specs.declared.place.Place.{Place}
 use Rattle.core_views.specs.declared.place.Place.TheVariants as place
 use Rattle.core_views.specs.declared.sizes.Sizes.{Sizes}
 use Rattle.core_views.specs.declared.trace.Command.{Command}
-use Rattle.core_views.specs.declared.trace.Command.TheVariants.{Access, SetSlot}
+use Rattle.core_views.specs.declared.trace.Command.TheVariants.{Access}
 use Rattle.core_views.specs.declared.trace.Line.{Line}
 use Rattle.core_views.specs.Held.{Held}
-use Rattle.core_views.specs.Refusals.{set_refusal}
 use Rattle.core_views.specs.Sizes.{AreSizes, actors_of}
 use Rattle.core_views.specs.SlotSets.{MemorySlots}
 use Rattle.core_views.specs.Slots.{is_write}
-use Rattle.core_views.specs.declared.trace.Slot.{Slot}
 use Rattle.core_views.specs.Traces.{IsCommandFor}
 use Rattle.spte_words.specs.declared.area.Area.{Area}
 use Rattle.spte_words.specs.declared.area.Area.TheVariants as area
@@ -36,8 +33,7 @@ use Rattle.mmu_core.specs.invariant.Laws.{IsSound}
 use Rattle.mmu_core.specs.alone.LineAlone.{hand_left, line_waits}
 use Rattle.mmu_core.specs.machine.Machine.{May, Step, World, effect, hand_in}
 use Rattle.part_steps.specs.PartTasks.{entry_index, table_page}
-use Rattle.mmu_core.specs.lines.SetSlotSteps.{set_slot_first}
-use Rattle.mmu_core.specs.machine.Steps.{delays_at, first_place, has_line, line_at, outcome_at, place_at, standing, task_at}
+use Rattle.mmu_core.specs.machine.Steps.{delays_at, has_line, line_at, outcome_at, place_at, standing, task_at}
 use Rattle.mmu_core.specs.machine.Outcomes.{place_after}
 use Rattle.mmu_laws.specs.turns.Removal.{WalksInstalled}
 use Rattle.mmu_laws.specs.turns.TurnLaws.{begins_anew}
@@ -45,7 +41,9 @@ use Rattle.mmu_core.specs.machine.View.{View, answer_in, hand_after, view, word_
 use Rattle.mmu_laws.proofs.alone.AloneRuns.{standing_left}
 use Rattle.mmu_laws.proofs.alone.AloneStep.{is_leaf_here}
 use Rattle.mmu_core.proofs.machine.Columns.{upd_same}
-use Rattle.mmu_core.proofs.lines.KnowsKept.{knows_at, needs_at}
+use Rattle.mmu_core.proofs.lines.Forms.{first_goes, first_no_end}
+use Rattle.mmu_core.proofs.lines.KnowsKept.{knows_at}
+use Rattle.mmu_core.proofs.invariant.Kept.{needs_at}
 use Rattle.mmu_core.proofs.invariant.PartBounded.{part_rests_at}
 use Rattle.mmu_laws.proofs.turns.StayNearer.{Nearer, place_nearer}
 use Rattle.mmu_core.proofs.machine.Which.{is_next}
@@ -67,8 +65,8 @@ pub no_miss : (p : Place) (c : Command) (h : Held) (words : Area → ℕ → ℕ
 no_miss (place.Access (Walk again)) (Access gfn word op) h words walks =
     let v : ℕ = words area.Pool (pool_index (table_page h.topics.walk) (entry_index gfn h.topics.walk.level)) in
     misses_never (kind_of h.topics.walk.level v) (allows_access (is_write op) v) again (words area.Pool) h.topics.walk.level (table_page h.topics.walk) gfn (is_write op) v refl refl refl walks
-no_miss (place.Access (Walk true)) (SetSlot id slot) h words walks = refl
-no_miss (place.Access (Walk false)) (SetSlot id slot) h words walks = refl
+no_miss (place.Access (Walk true)) _ h words walks = refl
+no_miss (place.Access (Walk false)) _ h words walks = refl
 no_miss (place.Access (Enter again)) c h words walks = refl
 no_miss (place.Access (Pause again)) c h words walks = refl
 no_miss (place.Access (Root again)) c h words walks = refl
@@ -88,18 +86,6 @@ one_of false true c is = inr (inl refl)
 one_of false false c is = inr (inr is)
 
 -- No line begins with a delay: what is so of the place of its first step is so of the one at which it stands.
-begins_at_once : (o : Option Refusal) (id : ℕ) (slot : Slot) (h : Held) (v : ℕ) → line_waits (place.SetSlot (set_slot_first o)) (SetSlot id slot) h v ≡ true → ⊥
-begins_at_once (Some refusal) id slot h v is = cc is
-begins_at_once None id slot h v is = cc is
-
-first_goes : (y : Sizes) (slots : MemorySlots) (c : Command) (h : Held) (v : ℕ) → line_waits (first_place y slots c) c h v ≡ true → ⊥
-first_goes y slots (Access gfn word op) h v is = cc is
-first_goes y slots (SetSlot id slot) h v is = begins_at_once (set_refusal y.pages id slot slots) id slot h v is
-
-first_no_end : (y : Sizes) (slots : MemorySlots) (c : Command) → begins_anew (first_place y slots c) ≡ true → ⊥
-first_no_end y slots (Access gfn word op) is = cc is
-first_no_end y slots (SetSlot id slot) is = cc is
-
 abbrev pub WaitsOrBegins : Place → Command → Held → ℕ → Type 0
 WaitsOrBegins p c h v = (line_waits p c h v ≡ true) ⊎ (begins_anew p ≡ true)
 

@@ -1,4 +1,5 @@
-use Rattle.mmu_laws.proofs.steps.StepLaws.{entering_flushes, notes_tell_ends, others_cache_one, steps_are_on_their_areas}
+use Rattle.mmu_laws.proofs.steps.Notes.{notes_tell_ends}
+use Rattle.mmu_laws.proofs.steps.StepLaws.{entering_flushes, others_cache_one, steps_are_on_their_areas}
 use Rattle.mmu_laws.proofs.laws.steps_tell_what_they_are.Goals as goal
 
 pub returns-clause-areas : goal.returns-clause-areas
