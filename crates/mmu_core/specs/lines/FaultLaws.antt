@@ -2,7 +2,7 @@
 use Rattle.std.specs.Prelude.{◌≡◌, ◌+◌, ◌^◌, ◌<◌, ◌≤◌, ℕ, Bool, true, false}
 use Rattle.core_views.specs.declared.hand.Seen.{Seen}
 use Rattle.core_views.specs.declared.place.FaultPlace.{FaultPlace}
-use Rattle.core_views.specs.declared.place.FaultPlace.TheVariants.{Begin, Claim, Share, Unshare}
+use Rattle.core_views.specs.declared.place.FaultPlace.TheVariants.{Begin, Claim, Share}
 use Rattle.core_views.specs.declared.sizes.Sizes.{Sizes}
 use Rattle.core_views.specs.declared.topics.Topics.{Topics}
 use Rattle.core_views.specs.Held.{Held}
@@ -63,12 +63,15 @@ FaultStepsFall =
 -- it tried is free no more.
 abbrev pub SawAnother : FaultPlace → Sizes → Topics → Seen → Type 0
 SawAnother Share z t seen = (seen.word ≡ place (map_of z) area.Lock 0) × (has_writer seen.value ≡ true)
-SawAnother (Unshare e) z t seen = (seen.word ≡ place (map_of z) area.Lock 0) × (has_writer seen.value ≡ true)
 SawAnother (Claim begun) z t seen = (seen.word ≡ place (map_of z) area.PoolMap t.claim.at) × (0 < t.claim.seen) × (has_bit (tried_bit t.claim) seen.value ≡ false)
 SawAnother _ z t seen = ⊥
 
 abbrev pub WaitsSeeAnother : Type 0
-WaitsSeeAnother = (p : FaultPlace) (h : Held) (gfn v : ℕ) → PartRests h → part_waits (fault_part p gfn h.topics) h.topics v ≡ true → SawAnother p h.state.sizes h.topics (part_seen (fault_part p gfn h.topics) h v)
+WaitsSeeAnother =
+    (p : FaultPlace) (h : Held) (gfn v : ℕ) (write : Bool)
+    → PartRests h → FaultKnows p h.state.sizes gfn write h.topics
+    → part_waits (fault_part p gfn h.topics) h.topics v ≡ true
+    → SawAnother p h.state.sizes h.topics (part_seen (fault_part p gfn h.topics) h v)
 
 -- A fault has at most so many steps.
 abbrev pub FaultIsBounded : Type 0
