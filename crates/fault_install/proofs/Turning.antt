@@ -17,7 +17,7 @@ use Rattle.core_views.specs.declared.place.Place.TheVariants as place
 use Rattle.core_views.specs.declared.sizes.Sizes.{Sizes}
 use Rattle.core_views.specs.declared.topics.Topics.{Topics}
 use Rattle.core_views.specs.declared.trace.Command.{Command}
-use Rattle.core_views.specs.declared.trace.Command.TheVariants.{Access, SetSlot}
+use Rattle.core_views.specs.declared.trace.Command.TheVariants.{Access}
 use Rattle.core_views.specs.Held.{Held}
 use Rattle.core_views.specs.SlotSets.{MemorySlots}
 use Rattle.mmu_core.specs.alone.LineAlone.{hand_left}
@@ -96,9 +96,8 @@ goes_nearer (Ends e) turn z u m is by_ less = absurd (never e (sym is ∙ by_))
 
 left_at : (p : FaultPlace) (q : Place) (z : Sizes) (slots : MemorySlots) (c : Command) (t : Topics) → standing q z slots c ≡ place.Access (Fault p) → steps_left q z t ≡ fault_left p z t + 9
 left_at p place.Between z slots (Access gfn word op) t is = absurd (cc is)
-left_at p place.Between z slots (SetSlot id slot) t is = absurd (cc is)
 left_at p (place.Access q) z slots c t is = ap (λ (x : Place). steps_left x z t) is
-left_at p (place.SetSlot q) z slots c t is = absurd (cc is)
+left_at p _ z slots _ t is = absurd (cc is)
 
 -- The fault of the hand's line, at its place, whose step was made.
 module _ (p : FaultPlace) (job : FaultJob) (turn : Turn Faulted) (a : ℕ) (h g : Held) (told tells : Told) (rests : PartRests h) (S : StandsInLine job h) (at : place_at h.state.place h ≡ place.Access (Fault p))

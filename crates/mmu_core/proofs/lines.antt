@@ -1,3 +1,4 @@
+pub mod AccessEnds
 pub mod AccessKept
 pub mod AccessLeft
 pub mod AccessParts

@@ -1,34 +1,23 @@
 -- The step of a line at its place, where it is one of a part, is one that its actor may make.
 use Rattle.std.proofs.Common.{◌≡◌, ◌<◌, ℕ, Option, Some, length, sym, subst, ap, ◌∙◌}
 use Rattle.core_views.specs.declared.place.Place.{Place}
-use Rattle.core_views.specs.declared.place.Place.TheVariants as place
 use Rattle.core_views.specs.declared.trace.Command.{Command}
-use Rattle.core_views.specs.declared.trace.Command.TheVariants.{Access, SetSlot}
 use Rattle.core_views.specs.Held.{Held}
-use Rattle.core_views.specs.Slots.{is_write}
 use Rattle.spte_words.proofs.Places.{place_below}
 use Rattle.part_steps.specs.declared.part_step.PartStep.{PartStep}
-use Rattle.part_steps.specs.declared.part_step.PartStep.TheVariants as part
 use Rattle.part_steps.specs.declared.task.Task.{Task}
 use Rattle.part_steps.specs.PartTasks.{own_index, part_kind, part_task}
 use Rattle.part_steps.specs.PartSteps.{PartNeeds}
 use Rattle.part_steps.specs.Tasks.{kind_of_task, map_of}
 use Rattle.mmu_core.specs.lines.AccessSteps.{task_by}
 use Rattle.mmu_core.specs.lines.PartAt.{note_at, part_at, touch_at}
-use Rattle.mmu_core.specs.lines.Rests.{Rests, RestsAt, RestsOn}
-use Rattle.mmu_core.specs.lines.SetSlotSteps.{set_slot_part}
+use Rattle.mmu_core.specs.lines.Rests.{Rests, RestsAt}
 use Rattle.mmu_core.specs.machine.MayMake.{MayMake}
 use Rattle.mmu_core.specs.machine.Steps.{place_at, task_at, task_of}
 use Rattle.mmu_core.specs.machine.Turns.{line_of}
+use Rattle.mmu_core.proofs.lines.ByStep.{step_needs}
 use Rattle.mmu_core.proofs.machine.Which.{enabled_is}
 use Rattle.mmu_core.proofs.words.PartFits.{part_small, part_within_by}
-
--- The place's step has what it needs.
-rests_needs : (p : Place) (c : Command) (h : Held) (step : PartStep) → part_at p c h ≡ Some step → RestsAt p c h → PartNeeds step h
-rests_needs (place.Access p) (Access gfn word op) h step is rests = subst (λ (x : Option PartStep). RestsOn x gfn (is_write op) h) is rests
-rests_needs (place.SetSlot p) (SetSlot id slot) h step is rests = let at : set_slot_part p h id slot ≡ step = cc is in subst (λ (x : PartStep). PartNeeds x h) at rests
-rests_needs place.Between c h step is rests = let at : part.Seq ≡ step = cc is in subst (λ (x : PartStep). PartNeeds x h) at tt
-rests_needs _ _ h step is rests = absurd rests
 
 -- The hand's next line stands at this place.
 module _ (p : Place) (c : Command) (h : Held) (left : length h.answers < length h.lines) (rests : Rests h) (stands : place_at h.state.place h ≡ p) (command : (line_of h).command ≡ c) where
@@ -41,7 +30,7 @@ module _ (p : Place) (c : Command) (h : Held) (left : length h.answers < length 
   pub place_may_make : (step : PartStep) → part_at p c h ≡ Some step → MayMake step (note_at p c h) h
   place_may_make step is =
       let note : ℕ = note_at p c h in
-      let needs : PartNeeds step h = rests_needs p c h step is place_rests in
+      let needs : PartNeeds step h = step_needs p c h step place_rests is in
       let task : task_of h ≡ part_task step (own_index h) h.topics note = place_task ∙ ap (λ (x : Option PartStep). task_by x h note (touch_at c h)) is in
       record {
         needs = needs;

@@ -1,7 +1,7 @@
 -- What a turn of a line answers is how its step goes: it is done where the line is answered, and has more to do where the line begins anew.
 use Rattle.std.proofs.Common.{◌≡◌, ◌≢◌, ◌⊎◌, inl, inr, ◌<◌, ℕ, length, refl, sym, subst, ap, ◌∙◌, arith}
 use Rattle.std.specs.Prelude.{Bool, true, false}
-use Rattle.core_views.specs.declared.place.AccessPlace.TheVariants.{Enter, Pause, Root, Walk, Touch, Leave, Fault}
+use Rattle.core_views.specs.declared.place.AccessPlace.TheVariants.{Enter, Fault}
 use Rattle.core_views.specs.declared.answer.Answer.{Answer}
 use Rattle.core_views.specs.declared.answer.Answer.TheVariants as answers
 use Rattle.core_views.specs.declared.hand.Seen.{Seen}
@@ -16,7 +16,6 @@ use Rattle.core_views.specs.declared.place.FaultPlace.TheVariants as fault
 use Rattle.core_views.specs.declared.topics.Topics.{Topics}
 use Rattle.mmu_core.specs.declared.outcome.Outcome.{Outcome}
 use Rattle.mmu_core.specs.declared.outcome.Outcome.TheVariants as outcome
-use Rattle.mmu_core.specs.declared.claim.ClaimNext.{ClaimNext}
 use Rattle.mmu_core.specs.lines.Bounds.{steps_left}
 use Rattle.mmu_core.specs.alone.LineAlone.{hand_left, line_waits}
 use Rattle.step_seats.specs.declared.turn.Turn.{Turn}
@@ -25,10 +24,9 @@ use Rattle.core_views.specs.declared.place.Place.{Place}
 use Rattle.core_views.specs.declared.place.Place.TheVariants as place
 use Rattle.core_views.specs.declared.sizes.Sizes.{Sizes}
 use Rattle.core_views.specs.declared.trace.Command.{Command}
-use Rattle.core_views.specs.declared.trace.Command.TheVariants.{Access, SetSlot}
+use Rattle.core_views.specs.declared.trace.Command.TheVariants.{Access}
 use Rattle.core_views.specs.declared.trace.Line.{Line}
 use Rattle.core_views.specs.declared.trace.Op.{Op}
-use Rattle.core_views.specs.declared.trace.Slot.{Slot}
 use Rattle.core_views.specs.Held.{Held}
 use Rattle.part_steps.specs.declared.part_step.PartStep.{PartStep}
 use Rattle.mmu_core.specs.lines.AccessSteps.{behind_fault}
@@ -42,12 +40,7 @@ use Rattle.mmu_core.proofs.machine.Which.{has_line_is, next_of_line}
 use Rattle.step_seats.specs.PartTurns.{MadePart}
 use Rattle.step_seats.specs.Where.{Told}
 use Rattle.step_seats.specs.LineTurns.{Gives, MakesLine, Says, TurnsLine, fault_turn, line_seen, line_turn, turn_of}
-use Rattle.mmu_core.proofs.lines.ClaimMade.{ClaimMade, claim_made}
-use Rattle.mmu_core.proofs.lines.ClaimMade as made
-use Rattle.mmu_core.specs.lines.SetSlotSteps.{after_claim, set_slot_outcome, set_slot_part}
-use Rattle.mmu_core.specs.lines.PartWaits.{part_waits}
-use Rattle.core_views.specs.declared.place.SetSlotPlace.{SetSlotPlace}
-use Rattle.core_views.specs.declared.place.SetSlotPlace.TheVariants as set_slot
+use Rattle.mmu_core.proofs.lines.Forms.{ends_free}
 
 -- A part's step is the line's.
 unfoldable pub made_line : (step : PartStep) (note found actor : ℕ) (h g : Held) (told tells : Told) → MayMake step note h → MadePart step note found actor h g told tells → MakesLine actor h g told tells
@@ -69,17 +62,6 @@ plain_case : (o : Outcome) (waits : Bool) → ((answer : Answer) → o ≡ outco
 plain_case (outcome.Goes q) waits free = inr (record { place = q; more = λ answer e. absurd (cc e); is = refl })
 plain_case (outcome.Ends answer) waits free = inl (record { answer = answer; done = refl; free = free answer refl; is = refl })
 
--- A slot setting that is answered doesn't wait.
-claim_free : (z : Sizes) (begun : Bool) (t : Topics) (v : ℕ) (step : PartStep) (next : ClaimNext) (u : Topics) → ClaimMade z begun t v step next u → (answer : Answer) → after_claim next ≡ outcome.Ends answer → part_waits step t v ≡ false
-claim_free z begun t v _ _ _ (made.SawNone not_ le) answer e = refl
-claim_free z begun t v _ _ _ _ answer e = absurd (cc e)
-
-pub setting_free : (p : SetSlotPlace) (h : Held) (id : ℕ) (slot : Slot) (v : ℕ) (answer : Answer) → set_slot_outcome p h v ≡ outcome.Ends answer → part_waits (set_slot_part p h id slot) h.topics v ≡ false
-setting_free (set_slot.Claim begun) h id slot v answer e = claim_free h.state.sizes begun h.topics v _ _ _ (claim_made h.state.sizes begun h.topics v) answer e
-setting_free (set_slot.Refuse refusal) h id slot v answer e = refl
-setting_free set_slot.Give h id slot v answer e = refl
-setting_free p h id slot v answer e = absurd (cc e)
-
 over_case : (e : FaultEnd) → EndsSo (fault_turn (Ends e)) false (behind_fault (Ends e)) ⊎ GoesSo (fault_turn (Ends e)) (behind_fault (Ends e))
 over_case end_of.Installed = inr (record { place = place.Access (Enter true); more = λ answer e. absurd (cc e); is = refl })
 over_case end_of.Mmio = inl (record { answer = answers.Mmio; done = refl; free = refl; is = refl })
@@ -98,14 +80,7 @@ fault_case _ gfn word op h v = inr (going _ _ refl)
 
 pub line_case : (p : Place) (c : Command) (h : Held) (v : ℕ) → EndsSo (line_turn p c h v) (line_waits p c h v) (outcome_at p c h v) ⊎ GoesSo (line_turn p c h v) (outcome_at p c h v)
 line_case (place.Access (Fault p)) (Access gfn word op) h v = fault_case p gfn word op h v
-line_case (place.SetSlot p) (SetSlot id slot) h v = plain_case (set_slot_outcome p h v) (part_waits (set_slot_part p h id slot) h.topics v) (setting_free p h id slot v)
-line_case (place.Access (Enter again)) (Access gfn word op) h v = plain_case _ false (λ answer e. refl)
-line_case (place.Access (Pause again)) (Access gfn word op) h v = plain_case _ false (λ answer e. refl)
-line_case (place.Access (Root again)) (Access gfn word op) h v = plain_case _ false (λ answer e. refl)
-line_case (place.Access (Walk again)) (Access gfn word op) h v = plain_case _ false (λ answer e. refl)
-line_case (place.Access Touch) (Access gfn word op) h v = plain_case _ false (λ answer e. refl)
-line_case (place.Access (Leave how)) (Access gfn word op) h v = plain_case _ false (λ answer e. refl)
-line_case _ _ h v = plain_case _ false (λ answer e. refl)
+line_case p c h v = plain_case (outcome_at p c h v) (line_waits p c h v) (ends_free p c h v)
 
 -- What is said of the line follows from its turn.
 pub says_line : (turn : Turn Answer) (waits : Bool) (way : Seen) (t : Turn Answer) (o : Outcome) (line : Line) (h g : Held) → Gives turn waits way t → EndsSo t waits o ⊎ GoesSo t o → Comes o line h g → Says turn line h g
@@ -166,16 +141,8 @@ fault_anew (fault.End e) gfn word op h v cause is = over_anew e cause is
 fault_anew _ gfn word op h v cause is = absurd (cc is)
 
 anew : (p : Place) (c : Command) (h : Held) (v : ℕ) (cause : Cause) → line_turn p c h v ≡ Retry cause → BeginsAnew p (outcome_at p c h v)
-anew place.Between c h v cause is = plain_anew _ _ cause is
-anew (place.SetSlot p) c h v cause is = plain_anew _ _ cause is
 anew (place.Access (Fault p)) (Access gfn word op) h v cause is = fault_anew p gfn word op h v cause is
-anew (place.Access (Fault p)) (SetSlot id slot) h v cause is = absurd (cc is)
-anew (place.Access (Enter again)) c h v cause is = plain_anew _ _ cause is
-anew (place.Access (Pause again)) c h v cause is = plain_anew _ _ cause is
-anew (place.Access (Root again)) c h v cause is = plain_anew _ _ cause is
-anew (place.Access (Walk again)) c h v cause is = plain_anew _ _ cause is
-anew (place.Access Touch) c h v cause is = plain_anew _ _ cause is
-anew (place.Access (Leave how)) c h v cause is = plain_anew _ _ cause is
+anew p c h v cause is = plain_anew p (outcome_at p c h v) cause is
 
 pub retry_goes : (cause : Cause) (actor : ℕ) (h g : Held) (told tells : Told) (T : TurnsLine (Retry cause) actor h g told tells) → (q : Place) × (outcome_of h T.makes.found ≡ outcome.Goes q)
 retry_goes cause actor h g told tells T = (place.Access (Enter false), (anew (place_at h.state.place h) (line_of h).command h T.makes.found cause (sym T.gives.1)).is)
@@ -183,9 +150,8 @@ retry_goes cause actor h g told tells T = (place.Access (Enter false), (anew (pl
 -- Where it begins anew it has more steps left than before.
 at_end : (q : Place) (z : Sizes) (slots : MemorySlots) (c : Command) (e : FaultEnd) (t : Topics) → standing q z slots c ≡ place.Access (Fault (fault.End e)) → steps_left q z t ≡ 10
 at_end place.Between z slots (Access gfn word op) e t is = absurd (cc is)
-at_end place.Between z slots (SetSlot id slot) e t is = absurd (cc is)
 at_end (place.Access p) z slots c e t is = ap (λ (q : Place). steps_left q z t) is
-at_end (place.SetSlot p) z slots c e t is = absurd (cc is)
+at_end _ z slots _ e t is = absurd (cc is)
 
 pub retry_has_more : (cause : Cause) (actor : ℕ) (h g : Held) (told tells : Told) → length h.answers < length h.lines → TurnsLine (Retry cause) actor h g told tells → hand_left h < hand_left g
 retry_has_more cause actor h g told tells left T =

@@ -6,6 +6,8 @@ pub mod Names
 pub mod Items
 pub mod Said
 pub mod Refused
+pub mod PlainWords
+pub mod CommandForms
 pub mod Words
 pub mod Bytes
 pub mod Reasons

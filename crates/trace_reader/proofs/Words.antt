@@ -7,10 +7,8 @@ use Rattle.core_views.specs.Traces.{IsCommandOf, IsHeader}
 use Rattle.core_views.specs.declared.actor.Actor.{Actor}
 use Rattle.core_views.specs.declared.actor.Actor.TheVariants.{Vcpu, Host, Manager, Worker}
 use Rattle.core_views.specs.declared.trace.Command.{Command}
-use Rattle.core_views.specs.declared.trace.Command.TheVariants.{Access, SetSlot}
 use Rattle.core_views.specs.declared.trace.Header.{Header}
 use Rattle.core_views.specs.declared.trace.Item.{Item}
-use Rattle.core_views.specs.declared.trace.Op.TheVariants.{Read, Write, Add}
 use Rattle.trace_reader.specs.declared.reason.Reason.{Reason}
 use Rattle.trace_reader.specs.declared.reason.Reason.TheVariants as reason
 use Rattle.trace_reader.specs.declared.saying.Saying.{Saying}
@@ -19,6 +17,7 @@ use Rattle.trace_reader.specs.Forms.{◌>>=◌, Said, by_form}
 use Rattle.trace_reader.specs.Items.{item_said}
 use Rattle.trace_reader.specs.Sayings.{IsSayingOf, Seen, by_first, command_said, go_said, schedule_said}
 use Rattle.trace_reader.specs.Grammar.{AreCommandWords, AreWordsOf, HasForm, IsActor, IsCommandForm, IsDeclared, IsUntilForm, item_words}
+use Rattle.trace_reader.proofs.CommandForms.{command_form}
 use Rattle.trace_reader.proofs.Items.{ItemJudged, item_judged, item_read}
 use Rattle.trace_reader.proofs.Refused as commands
 use Rattle.trace_reader.proofs.Results.{heads_differ, is_word, other_word, word_is}
@@ -64,16 +63,6 @@ mark_no_command : (first : List ℕ) (rest : List (List ℕ)) (a : Actor) → fi
 mark_no_command first rest a mark form = let (more, e) = command_first (first ∷ rest) a form in not_mark a (let f : first ≡ actor_name a = same_first first (actor_name a) rest more e in cc)
 
 -- What the words of a form say is read.
-pub command_form : (ids : ℕ → Bool) (words : List (List ℕ)) (a : Actor) (c : Command) → AreCommandWords ids words a c → IsCommandForm words a
-command_form ids words (Vcpu i) (Access gfn word Read) (x, is, s) = inl (x, is)
-command_form ids words (Vcpu i) (Access gfn word (Write v)) (x, y, is, s, t) = inr (inl (x, y, is))
-command_form ids words (Vcpu i) (Access gfn word (Add v)) (x, y, is, s, t) = inr (inr (x, y, is))
-command_form ids words (Vcpu i) (SetSlot id slot) form = absurd form
-command_form ids words (Host i) c form = absurd form
-command_form ids words Manager (Access gfn word op) form = absurd form
-command_form ids words Manager (SetSlot id s) (i, x, y, z, first, is, n, a, b, c) = (i, x, y, z, s.read_only, is)
-command_form ids words (Worker i) c form = absurd form
-
 by_command : (h : Header) (seen : Seen) (first : List ℕ) (rest : List (List ℕ)) → (first ≡ codes "go" → ⊥) → (first ≡ codes ">" → ⊥) → by_first h seen (first ∷ rest) ≡ command_said h seen.ids (first ∷ rest)
 unfolding by_first
 by_command h seen first rest go mark = rw (other_word first (codes "go") go, other_word first (codes ">") mark) refl

@@ -43,7 +43,7 @@ fn place_of(hand: &Hand, job: &AccessJob) -> AccessPlace
     match hand.state().place {
         Place::Between => AccessPlace::Enter { again: false },
         Place::Access(place) => place,
-        Place::SetSlot(_) => unreachable!(),
+        _ => unreachable!(),
     }
 }
 

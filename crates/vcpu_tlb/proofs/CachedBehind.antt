@@ -8,7 +8,7 @@ use Rattle.core_views.specs.declared.place.AccessPlace.TheVariants.{Enter, Pause
 use Rattle.core_views.specs.declared.place.Place.{Place}
 use Rattle.core_views.specs.declared.place.Place.TheVariants as place
 use Rattle.core_views.specs.declared.trace.Command.{Command}
-use Rattle.core_views.specs.declared.trace.Command.TheVariants.{Access, SetSlot}
+use Rattle.core_views.specs.declared.trace.Command.TheVariants.{Access}
 use Rattle.core_views.specs.declared.trace.Op.{Op}
 use Rattle.core_views.specs.Held.{Held}
 use Rattle.core_views.specs.Kinds.{code_of}
@@ -35,11 +35,7 @@ access_fills_none (Fault p) h gfn word op v ne = refl
 
 fills_none : (p : Place) (c : Command) (h : Held) (v : ℕ) → code_of (task_at p c h).kind ≢ 3 → caches_at p c h v ≡ h.cached
 fills_none (place.Access p) (Access gfn word op) h v ne = access_fills_none p h gfn word op v ne
-fills_none (place.Access p) (SetSlot id slot) h v ne = refl
-fills_none (place.SetSlot p) (Access gfn word op) h v ne = refl
-fills_none (place.SetSlot p) (SetSlot id slot) h v ne = refl
-fills_none place.Between (Access gfn word op) h v ne = refl
-fills_none place.Between (SetSlot id slot) h v ne = refl
+fills_none _ _ h v ne = refl
 
 -- A step of a part that is no walk leaves what is cached, but for a flush, whether a line makes it or none.
 but_for_a_flush : (h : Held) (step : PartStep) (note v : ℕ) → MayMake step note h → code_of (part_task step (own_index h) h.topics note).kind ≢ 3 → (next h (part_kind h step note) v).cached ≡ flushed (part_kind h step note) h.cached v

@@ -83,9 +83,7 @@ rounds_of_lines z first next w (s ∷ ss) rounds = one_more_of_line w s ss round
 -- Where as many lines are begun as answered, none is under way.
 none_under_way : (p : Place) (h : Held) (own : List Line) (count : ℕ) → UnderWay p h → h.lines ≡ own → length h.answers ≡ count → length (take (begun_count p (length h.answers)) own) ≡ count → p ≡ place.Between
 none_under_way place.Between h own count under lines answers begun = refl
-none_under_way (place.Access p) h own count under lines answers begun =
-    let left = under.1 in let few = ap (λ (xs : List Line). length xs) lines in let taken = length-take (suc (length h.answers)) own in absurd (omega (arith, left, few, taken, answers, begun))
-none_under_way (place.SetSlot p) h own count under lines answers begun =
+none_under_way _ h own count under lines answers begun =
     let left = under.1 in let few = ap (λ (xs : List Line). length xs) lines in let taken = length-take (suc (length h.answers)) own in absurd (omega (arith, left, few, taken, answers, begun))
 
 -- The hand of an actor has no line under way, and has answered its lines among those that ran.

@@ -53,8 +53,7 @@ contained_few f xs x (k, lt, is) = subst (λ y. f y ≤ sum_by f xs) is (get_or-
 
 line_is : (p : Place) (h : Held) → UnderWay p h → line_at p h ≡ next_line h
 line_is place.Between h under = refl
-line_is (place.Access p) h under = under.0
-line_is (place.SetSlot p) h under = under.0
+line_is _ h under = under.0
 
 module _ (z : Sizes) (ran below : List Line) where
   -- Each hand has answered its lines among those that ran.

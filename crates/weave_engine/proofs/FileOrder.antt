@@ -7,10 +7,10 @@ use Rattle.std.proofs.lemmas.Option.{slice_get-get_or}
 use Rattle.std.proofs.lemmas.Bool.Decides.{nat_tests}
 use Rattle.std.specs.Prelude.{Bool, true, false, Some, ◌==◌, nat_lt, if◌then◌else◌, slice_get}
 use Rattle.core_views.specs.declared.actor.Actor.{Actor}
-use Rattle.core_views.specs.declared.actor.Actor.TheVariants.{Vcpu, Host, Manager, Worker}
+use Rattle.core_views.specs.declared.actor.Actor.TheVariants.{Vcpu, Manager}
 use Rattle.core_views.specs.declared.sizes.Sizes.{Sizes}
 use Rattle.core_views.specs.declared.trace.Command.{Command}
-use Rattle.core_views.specs.declared.trace.Command.TheVariants.{Access, SetSlot}
+use Rattle.core_views.specs.declared.trace.Command.TheVariants.{Access}
 use Rattle.core_views.specs.declared.trace.Line.{Line}
 use Rattle.core_views.specs.Actors.{is_same}
 use Rattle.core_views.specs.Sizes.{actor_at, actors_of, index_of}
@@ -59,13 +59,8 @@ next_is actor lines i d lt is =
 -- An actor that makes a line is one of the machine's.
 pub maker_there : (z : Sizes) (actor : Actor) (command : Command) → IsCommandFor z actor command → index_of z actor < actors_of z
 maker_there z (Vcpu n) (Access gfn word op) may = let lt = may.0 in omega (arith, lt)
-maker_there z (Vcpu n) (SetSlot id slot) may = absurd may
-maker_there z (Host n) (Access gfn word op) may = absurd may
-maker_there z (Host n) (SetSlot id slot) may = absurd may
-maker_there z Manager (Access gfn word op) may = absurd may
-maker_there z Manager (SetSlot id slot) may = omega arith
-maker_there z (Worker n) (Access gfn word op) may = absurd may
-maker_there z (Worker n) (SetSlot id slot) may = absurd may
+maker_there z Manager command may = omega arith
+maker_there z _ _ may = absurd may
 
 vcpu_at : (z : Sizes) (n : ℕ) → n < z.vcpus → actor_at z n ≡ Vcpu n
 vcpu_at z n lt = let e : nat_lt n z.vcpus ≡ true = grind (arith, nat_tests) in rw e refl
@@ -79,13 +74,8 @@ manager_at z =
 
 pub maker_is : (z : Sizes) (actor : Actor) (command : Command) → IsCommandFor z actor command → actor_at z (index_of z actor) ≡ actor
 maker_is z (Vcpu n) (Access gfn word op) may = vcpu_at z n may.0
-maker_is z (Vcpu n) (SetSlot id slot) may = absurd may
-maker_is z (Host n) (Access gfn word op) may = absurd may
-maker_is z (Host n) (SetSlot id slot) may = absurd may
-maker_is z Manager (Access gfn word op) may = absurd may
-maker_is z Manager (SetSlot id slot) may = manager_at z
-maker_is z (Worker n) (Access gfn word op) may = absurd may
-maker_is z (Worker n) (SetSlot id slot) may = absurd may
+maker_is z Manager command may = manager_at z
+maker_is z _ _ may = absurd may
 
 -- The actor at another place is another one.
 pub other_place : (z : Sizes) (i : ℕ) (actor : Actor) → i < actors_of z → i ≢ index_of z actor → is_same (actor_at z i) actor ≡ false

@@ -120,13 +120,11 @@ adds_on (Some ss) mid tells actor steps k part adds =
 -- the line under way
 under_line : (p : Place) (h : Held) → IsUnderWay p → line_at p h ≡ h.state.line
 under_line place.Between h under = absurd under
-under_line (place.Access p) h under = refl
-under_line (place.SetSlot p) h under = refl
+under_line _ h under = refl
 
 under_told : (p : Place) (line : Line) (h : List Event) → IsUnderWay p → IsOpen line h → SoFar p line h
 under_told place.Between line h under is = absurd under
-under_told (place.Access p) line h under is = is
-under_told (place.SetSlot p) line h under is = is
+under_told _ line h under is = is
 
 one_nearer : (z : Sizes) (w : World Held) (ss : List (Step Kind)) (s : Step Kind) → EachStepsAlone z w ss → StepsAlone z (run mmu w ss) s → EachStepsAlone z w (ss ++ s ∷ [])
 one_nearer z w [] s each last = (last, tt)

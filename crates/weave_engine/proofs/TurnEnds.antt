@@ -14,7 +14,7 @@ use Rattle.core_views.specs.declared.place.FaultPlace.TheVariants as fault
 use Rattle.core_views.specs.declared.place.Place.{Place}
 use Rattle.core_views.specs.declared.place.Place.TheVariants as place
 use Rattle.core_views.specs.declared.trace.Command.{Command}
-use Rattle.core_views.specs.declared.trace.Command.TheVariants.{Access, SetSlot}
+use Rattle.core_views.specs.declared.trace.Command.TheVariants.{Access}
 use Rattle.core_views.specs.declared.trace.Op.{Op}
 use Rattle.core_views.specs.declared.trace.Line.{Line}
 use Rattle.core_views.specs.Held.{Held}
@@ -34,9 +34,7 @@ use Rattle.step_seats.specs.declared.turn.Turn.TheVariants.{More, Wait, Retry, D
 use Rattle.step_seats.specs.LineTurns.{Gives, line_seen, line_turn, turn_of}
 use Rattle.weave_engine.specs.Turned.{is_stop, turn_text}
 use Rattle.weave_engine.specs.Turning.{begins_anew, hand_stops, is_ended}
-use Rattle.mmu_core.specs.lines.SetSlotSteps.{set_slot_outcome, set_slot_part}
-use Rattle.mmu_core.specs.lines.PartWaits.{part_waits}
-use Rattle.step_seats.proofs.LineTurns.{setting_free}
+use Rattle.mmu_core.proofs.lines.Forms.{ends_free}
 
 -- what is printed of a step, by where its line stands after it
 abbrev pub outcome_text : ℕ → Actor → Outcome → List ℕ
@@ -104,18 +102,17 @@ module _ (number : ℕ) (actor : Actor) where
   access_tells_turn access.Touch turn gfn word op h v gives = by_outcome turn _ _ gives
   access_tells_turn (access.Leave how) turn gfn word op h v gives = by_outcome turn _ _ gives
 
-  -- a step of a slot setting: where it waits, the line goes on
-  setting_tells : (turn : Turn Answer) (waits : Bool) (way : Seen) (o : Outcome) → ((answer : Answer) → o ≡ Ends answer → waits ≡ false) → Gives turn waits way (turn_of o) → TellsTurn number actor turn (waits || (false || is_ended o)) o
-  setting_tells turn false way o free gives = by_outcome turn way o gives
-  setting_tells turn true way (Goes p) free gives = waiting turn way (turn_of (Goes p)) p gives
-  setting_tells turn true way (Ends answer) free gives = let e = free answer refl in absurd (cc e)
+  -- a step of a line that begins nothing anew: where it waits, the line goes on
+  plain_tells : (turn : Turn Answer) (waits : Bool) (way : Seen) (o : Outcome) → ((answer : Answer) → o ≡ Ends answer → waits ≡ false) → Gives turn waits way (turn_of o) → TellsTurn number actor turn (waits || (false || is_ended o)) o
+  plain_tells turn false way o free gives = by_outcome turn way o gives
+  plain_tells turn true way (Goes p) free gives = waiting turn way (turn_of (Goes p)) p gives
+  plain_tells turn true way (Ends answer) free gives = let e = free answer refl in absurd (cc e)
 
   line_tells : (p : Place) (command : Command) (turn : Turn Answer) (h : Held) (v : ℕ) → RestsAt p command h → Tells turn p command h v
-  line_tells place.Between command turn h v rests gives = by_outcome turn _ _ gives
   line_tells (place.Access p) (Access gfn word op) turn h v rests gives = access_tells_turn p turn gfn word op h v gives
-  line_tells (place.Access p) (SetSlot id slot) turn h v rests gives = absurd rests
-  line_tells (place.SetSlot p) (SetSlot id slot) turn h v rests gives = setting_tells turn (part_waits (set_slot_part p h id slot) h.topics v) _ (set_slot_outcome p h v) (setting_free p h id slot v) gives
-  line_tells (place.SetSlot p) (Access gfn word op) turn h v rests gives = absurd rests
+  line_tells (place.Access p) _ turn h v rests gives = absurd rests
+  line_tells p command turn h v rests gives =
+      plain_tells turn (line_waits p command h v) (line_seen p command h v) (outcome_at p command h v) (ends_free p command h v) gives
 
 -- the text of a step's answers
 text_of : (number : ℕ) (actor : Actor) (line : Line) (o : Outcome) → number ≡ line.number → lines_text (answered_with actor line o) ≡ outcome_text number actor o

@@ -66,8 +66,7 @@ owned_next h left own = ap (λ (o : Option Line). (unwrap_or o no_line).actor) (
 
 owned_at : (p : Place) (h : Held) → length h.answers < length h.lines → UnderWay p h → All (λ line. line.actor ≡ h.state.actor) h.lines → (line_at p h).actor ≡ h.state.actor
 owned_at place.Between h left under own = owned_next h left own
-owned_at (place.Access p) h left under own = ap (λ (l : Line). l.actor) under.0 ∙ owned_next h left own
-owned_at (place.SetSlot p) h left under own = ap (λ (l : Line). l.actor) under.0 ∙ owned_next h left own
+owned_at _ h left under own = ap (λ (l : Line). l.actor) under.0 ∙ owned_next h left own
 
 own_line : (w : World Held) (actor : ℕ) → ∥ Reachable w ∥₁ → actor < length w.hands → has_line (hand_in mmu w actor) ≡ true → (line_of (hand_in mmu w actor)).actor ≡ (hand_in mmu w actor).state.actor
 own_line w actor reached there has = ∥∥₁_elim reached (hlevel props) (λ r.

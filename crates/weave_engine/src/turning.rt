@@ -45,7 +45,7 @@ fn line_of_hand(hand: &Hand) -> Option<Line>
     let next = hand.next_line()?;
     match hand.state().place {
         Place::Between => Some(next),
-        Place::Access(_) | Place::SetSlot(_) => Some(hand.state().line),
+        _ => Some(hand.state().line),
     }
 }
 

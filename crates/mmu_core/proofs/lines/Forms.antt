@@ -1,7 +1,9 @@
 -- What is so of the lines of every form: the one place where it is told by the form. A form of line writes a clause in each of these.
-use Rattle.std.proofs.Common.{◌≡◌, ◌⊎◌, inl, inr, ◌<◌, ◌≤◌, ℕ, refl, arith}
+use Rattle.std.proofs.Common.{◌≡◌, ◌⊎◌, inl, inr, ◌<◌, ◌≤◌, ℕ, refl, arith, ◌≢◌}
 use Rattle.std.proofs.Props.{props}
-use Rattle.std.specs.Prelude.{Some, true}
+use Rattle.std.specs.Prelude.{Some, true, Bool, false}
+use Rattle.core_views.specs.declared.answer.Answer.{Answer}
+use Rattle.core_views.specs.declared.answer.Answer.TheVariants.{Starved}
 use Rattle.core_views.specs.declared.place.AccessPlace.{AccessPlace}
 use Rattle.core_views.specs.declared.place.AccessPlace.TheVariants.{Leave, Fault}
 use Rattle.core_views.specs.declared.place.FaultEnd.{FaultEnd}
@@ -30,18 +32,20 @@ use Rattle.spte_words.specs.declared.area.Area.TheVariants as area
 use Rattle.mmu_core.specs.alone.AloneKnows.{AloneKnows}
 use Rattle.mmu_core.specs.invariant.LoadsPart.{Holds}
 use Rattle.mmu_core.specs.lines.AccessSteps.{access_outcome, behind_fault, fault_over}
+use Rattle.mmu_core.specs.declared.outcome.Outcome.TheVariants.{Ends}
+use Rattle.mmu_core.specs.lines.Delays.{line_waits, begins_anew}
 use Rattle.mmu_core.specs.lines.FaultSteps.{fault_next}
 use Rattle.mmu_core.specs.lines.Bounds.{most_steps, steps_left}
-use Rattle.mmu_core.specs.lines.Delays.{begins_anew, line_waits}
 use Rattle.mmu_core.specs.lines.PartAt.{part_at}
 use Rattle.mmu_core.specs.lines.Rests.{AcceptsAt, IsUnderWay, RestsAt}
 use Rattle.mmu_core.specs.lines.SetSlotSteps.{set_slot_first, set_slot_part}
-use Rattle.mmu_core.specs.machine.Steps.{first_place, outcome_at}
+use Rattle.mmu_core.specs.machine.Steps.{first_place, outcome_at, tells_at}
 use Rattle.mmu_core.proofs.lines.AccessLeft.{access_few, some_access_left}
 use Rattle.mmu_core.proofs.machine.GoesOn.{GoesToNoAccess, GoesUnderWay, IsNoAccess}
 use Rattle.mmu_core.proofs.slots.LiveStay.{StayLive, access_stays}
 use Rattle.mmu_core.proofs.slots.LiveStays.{OwnedStays}
-use Rattle.mmu_core.proofs.slots.SetSlotPlaces.{accepts_prop, begins_at_once, set_slot_begins, set_slot_begins_alone, set_slot_begins_known, set_slot_few, set_slot_goes, set_slot_knows_prop, set_slot_stays, setting_accepts, some_setting_left}
+use Rattle.mmu_core.proofs.slots.SetSlotPlaces.{accepts_prop, begins_at_once, set_slot_begins, set_slot_begins_alone, set_slot_begins_known, set_slot_few, set_slot_goes, set_slot_knows_prop, set_slot_stays, setting_accepts, some_setting_left, set_slot_fed, set_slot_free}
+use Rattle.mmu_core.proofs.lines.AccessEnds.{AreFed, access_fed, access_free}
 
 -- ---- where a line goes on to
 
@@ -159,3 +163,17 @@ accepts_at _ _ z pool host set h e = tt
 pub accepts_at_prop : (p : Place) (command : Command) (z : Sizes) (slots : MemorySlots) → IsProp (AcceptsAt p command z slots)
 accepts_at_prop (place.SetSlot p) (SetSlot id slot) z slots = accepts_prop p z.pages id slot slots
 accepts_at_prop _ _ z slots = hlevel props
+
+-- ---- how it ends
+
+-- The step that ends it doesn't wait.
+pub ends_free : (p : Place) (command : Command) (h : Held) (v : ℕ) (answer : Answer) → outcome_at p command h v ≡ Ends answer → line_waits p command h v ≡ false
+ends_free (place.Access p) (Access gfn word op) h v answer e = access_free p h gfn op v answer e
+ends_free (place.SetSlot p) (SetSlot id slot) h v answer e = set_slot_free p h id slot v answer e
+ends_free _ _ h v answer e = absurd (cc e)
+
+-- It tells an exit for want of a page only where it is answered so.
+pub tells_fed : (p : Place) (command : Command) (h : Held) (v : ℕ) → outcome_at p command h v ≢ Ends Starved → AreFed (tells_at p command h v)
+tells_fed (place.Access p) (Access gfn word op) h v other = access_fed p h gfn word op v other
+tells_fed (place.SetSlot p) (SetSlot id slot) h v other = set_slot_fed p h id slot v other
+tells_fed _ _ h v other = tt

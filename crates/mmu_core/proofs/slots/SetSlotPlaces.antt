@@ -1,7 +1,9 @@
--- A slot line at its places: where it goes on to, what it has loaded, what the manager's record accepts, how many steps it has left, and that it begins with no wait.
-use Rattle.std.proofs.Common.{◌≡◌, ◌<◌, ◌≤◌, ℕ, ◌∙◌, ◌+◌, arith}
+-- A slot line at its places: where it begins, goes on to and ends, what it has loaded, what the manager's record accepts, and how many steps it has left.
+use Rattle.std.proofs.Common.{◌≡◌, ◌<◌, ◌≤◌, ℕ, ◌∙◌, ◌+◌, arith, ◌≢◌, refl}
 use Rattle.std.proofs.Props.{props}
-use Rattle.std.specs.Prelude.{true, Option, Some, None}
+use Rattle.std.specs.Prelude.{true, Option, Some, None, Bool, false}
+use Rattle.core_views.specs.declared.answer.Answer.{Answer}
+use Rattle.core_views.specs.declared.answer.Answer.TheVariants.{Starved}
 use Rattle.core_views.specs.declared.answer.Refusal.{Refusal}
 use Rattle.core_views.specs.declared.place.Place.TheVariants as place
 use Rattle.core_views.specs.declared.place.SetSlotPlace.{SetSlotPlace}
@@ -15,6 +17,7 @@ use Rattle.core_views.specs.Refusals.{set_refusal}
 use Rattle.core_views.specs.Sizes.{actors_of}
 use Rattle.core_views.specs.SlotSets.{MemorySlots}
 use Rattle.spte_words.specs.Areas.{words_of_bits}
+use Rattle.mmu_core.specs.declared.outcome.Outcome.TheVariants.{Goes, Ends}
 use Rattle.mmu_core.specs.invariant.LoadsPart.{FillsSet, Holds, SetSlotHolds}
 use Rattle.mmu_core.specs.alone.AloneKnows.{SetSlotAlone}
 use Rattle.mmu_core.specs.lines.Bounds.{set_slot_left}
@@ -25,8 +28,13 @@ use Rattle.mmu_core.specs.declared.claim.ClaimNext.TheVariants as claims
 use Rattle.mmu_core.specs.lines.ClaimSteps.{claim_next}
 use Rattle.part_steps.specs.PartSteps.{IsAtRest}
 use Rattle.mmu_core.specs.lines.SetSlotKnows.{SetSlotKnows}
-use Rattle.mmu_core.specs.lines.SetSlotSteps.{after_claim, set_slot_first, set_slot_outcome}
+use Rattle.mmu_core.specs.lines.SetSlotSteps.{after_claim, set_slot_first, set_slot_outcome, set_slot_part, set_slot_tells}
+use Rattle.mmu_core.specs.lines.PartWaits.{part_waits}
+use Rattle.part_steps.specs.declared.part_step.PartStep.{PartStep}
+use Rattle.mmu_core.proofs.lines.AccessEnds.{AreFed, exit_fed}
 use Rattle.mmu_core.proofs.lines.AccessLeft.{claim_few}
+use Rattle.mmu_core.proofs.lines.ClaimMade.{ClaimMade, claim_made}
+use Rattle.mmu_core.proofs.lines.ClaimMade as made
 use Rattle.mmu_core.proofs.machine.GoesOn.{GoesToNoAccess, GoesUnderWay}
 use Rattle.mmu_core.proofs.slots.LiveStays.{OwnedStays}
 
@@ -106,3 +114,26 @@ set_slot_begins_known (Some refusal) h R = R
 pub set_slot_knows_prop : (p : SetSlotPlace) (h : Held) → IsProp (SetSlotKnows p h)
 set_slot_knows_prop (Refuse refusal) h = hlevel props
 set_slot_knows_prop _ h = hlevel props
+
+-- ---- how it ends
+
+-- The step that ends it doesn't wait.
+claim_free : (z : Sizes) (begun : Bool) (t : Topics) (v : ℕ) (step : PartStep) (next : ClaimNext) (u : Topics) → ClaimMade z begun t v step next u
+    → (answer : Answer) → after_claim next ≡ Ends answer → part_waits step t v ≡ false
+claim_free z begun t v _ _ _ (made.SawNone not_ le) answer e = refl
+claim_free z begun t v _ _ _ _ answer e = absurd (cc e)
+
+pub set_slot_free : (p : SetSlotPlace) (h : Held) (id : ℕ) (slot : SlotOf) (v : ℕ) (answer : Answer) → set_slot_outcome p h v ≡ Ends answer
+    → part_waits (set_slot_part p h id slot) h.topics v ≡ false
+set_slot_free (Claim begun) h id slot v answer e =
+    claim_free h.state.sizes begun h.topics v _ _ _ (claim_made h.state.sizes begun h.topics v) answer e
+set_slot_free (Refuse refusal) h id slot v answer e = refl
+set_slot_free Give h id slot v answer e = refl
+set_slot_free _ h id slot v answer e = absurd (cc e)
+
+-- It tells an exit for want of a page only where it is answered so.
+pub set_slot_fed : (p : SetSlotPlace) (h : Held) (id : ℕ) (slot : SlotOf) (v : ℕ) → set_slot_outcome p h v ≢ Ends Starved
+    → AreFed (set_slot_tells p h id slot v)
+set_slot_fed (Claim begun) h id slot v other = exit_fed (set_slot_outcome (Claim begun) h v) other
+set_slot_fed Publish h id slot v other = (λ e. absurd (cc e), tt)
+set_slot_fed _ h id slot v other = tt
