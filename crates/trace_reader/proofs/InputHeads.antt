@@ -1,7 +1,7 @@
 -- What the first line of an input says is read as its header, and only that.
 use Rattle.std.proofs.Common.{◌≡◌, inl, inr, ℕ, List, [], ◌∷◌, Result, Ok, Err, refl, sym, arith}
 use Rattle.std.specs.Prelude.{codes}
-use Rattle.std.specs.List.{AllZip, join_with_byte}
+use Rattle.std.specs.List.{AllZip}
 use Rattle.std.proofs.lemmas.List.Splits.{join_with_byte-slice_split}
 use Rattle.std.specs.declared.option.Option.{Option}
 use Rattle.std.specs.declared.option.Option.TheVariants.{Some, None}
@@ -15,7 +15,7 @@ use Rattle.trace_reader.specs.Reading.{head_of}
 use Rattle.trace_reader.specs.Grammar.{Spells, spaced, AreWords}
 use Rattle.trace_reader.specs.HeaderGrammar.{HeaderWords, labelled, SpellsHeader}
 use Rattle.trace_reader.specs.InputGrammar.{SaysHeader, PassesAll, HeaderFails}
-use Rattle.trace_reader.proofs.Bytes.{words_spaced, text_word, spelled_word}
+use Rattle.trace_reader.proofs.PlainWords.{words_spaced, text_word, spelled_word}
 use Rattle.trace_reader.proofs.HeaderSaid.{header_reads, header_only}
 use Rattle.trace_reader.proofs.HeaderRefused.{header_refuses}
 use Rattle.trace_reader.proofs.Checks.{Judged, judged, faultless, faulty}
