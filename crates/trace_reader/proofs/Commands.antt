@@ -3,14 +3,16 @@
 use Rattle.std.proofs.Common.{◌≡◌, ◌≤◌, inl, inr, ℕ, List, [], ◌∷◌, Bool, true, false, Ok, refl, arith}
 use Rattle.std.specs.Prelude.{codes}
 use Rattle.std.specs.Str.{bytes_eq}
+use Rattle.std.specs.declared.option.Option.{Option}
+use Rattle.std.specs.declared.option.Option.TheVariants.{Some, None}
 use Rattle.core_views.specs.Text.{actor_name}
-use Rattle.core_views.specs.Traces.{IsCommandOf}
+use Rattle.core_views.specs.Traces.{IsCommandOf, or_slot_id}
 use Rattle.core_views.specs.declared.actor.Actor.{Actor}
 use Rattle.core_views.specs.declared.actor.Actor.TheVariants.{Vcpu, Manager}
 use Rattle.core_views.specs.declared.trace.Command.{Command}
 use Rattle.core_views.specs.declared.trace.Command.TheVariants.{Access, SetSlot}
 use Rattle.core_views.specs.declared.trace.Header.{Header}
-use Rattle.trace_reader.specs.Forms.{by_command, by_form}
+use Rattle.trace_reader.specs.Forms.{by_command, by_form, slot_id}
 use Rattle.trace_reader.specs.Grammar.{AreCommandWords, AreWords, IsActor, IsCommandForm, IsDeclared}
 use Rattle.trace_reader.proofs.Accesses.{AreTwo, IsOne, IsVcpu, access_form, access_plain, access_reads, add_judged, read_judged, write_judged}
 use Rattle.trace_reader.proofs.Judged.{Judged, none, row}
@@ -94,3 +96,22 @@ pub commanding : (h : Header) (a : Actor) (c : Command) → h.vcpus ≤ 16 → I
 commanding h (Vcpu i) (Access gfn word op) few range = (omega (arith, range.0), range.0)
 commanding h Manager (SetSlot id s) few range = (tt, tt)
 commanding h _ _ few range = absurd range
+
+-- An ID that a slot was set at is none.
+abbrev pub IsNewId : (ℕ → Bool) → Option ℕ → Type 0
+IsNewId ids None = Unit {0}
+IsNewId ids (Some id) = ids id ≡ false
+
+pub new_id : (ids : ℕ → Bool) (words : List (List ℕ)) (a : Actor) (c : Command) → AreCommandWords ids words a c → IsNewId ids (slot_id c)
+new_id ids words Manager (SetSlot id s) are = are.4
+new_id ids words (Vcpu i) (Access gfn word op) are = tt
+new_id ids words _ _ are = absurd are
+
+-- this ID, if it is there, in front of these
+abbrev pub or_id : Option ℕ → List ℕ → List ℕ
+or_id None ids = ids
+or_id (Some id) ids = id ∷ ids
+
+pub slot_id_first : (c : Command) (ids : List ℕ) → or_slot_id c ids ≡ or_id (slot_id c) ids
+slot_id_first (SetSlot id s) ids = refl
+slot_id_first _ ids = refl

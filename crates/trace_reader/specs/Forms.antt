@@ -121,6 +121,20 @@ unfoldable pub by_form : Header → (ℕ → Bool) → List (List ℕ) → Said
 by_form h seen (who ∷ command ∷ rest) = by_command h seen who command rest
 by_form h seen _ = Err reason.Word
 
+-- the ID that the command sets a slot at, if it does
+abbrev pub slot_id : Command → Option ℕ
+slot_id (SetSlot id slot) = Some id
+slot_id _ = None
+
+-- There is an ID, and it is this one.
+abbrev pub has_id : Option ℕ → ℕ → Bool
+has_id None n = false
+has_id (Some m) n = m == n
+
+-- The command sets a slot at this ID.
+abbrev pub sets_at : ℕ → Command → Bool
+sets_at id command = has_id (slot_id command) id
+
 -- It has no bytes.
 abbrev pub is_empty : List ℕ → Bool
 is_empty w = length w == 0

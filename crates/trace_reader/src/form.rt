@@ -3,7 +3,7 @@ ghost use Rattle.std.specs.BTreeSet.{contains};
 ghost use Rattle.std.specs.Ordering.{nat_cmp};
 ghost use Rattle.std.specs.Str.{bytes_eq};
 ghost use Rattle.core_views.specs.Traces.{IsCommandOf, IsSlotInRange};
-ghost use Rattle.trace_reader.specs.Forms.{indexed, vcpu, address, new_number, number as number_word, slot, setting, read_form, write_form, add_form, slot_form, by_command, by_form};
+ghost use Rattle.trace_reader.specs.Forms.{indexed, vcpu, address, new_number, number as number_word, slot, setting, read_form, write_form, add_form, slot_form, by_command, by_form, slot_id as slot_id_of};
 
 use crate::Reason;
 use crate::number::{decimal, number};
@@ -232,5 +232,15 @@ pub fn form_said(
     match words {
         [who, command, rest @ ..] => command_said(header, seen, who, command, rest),
         _ => Err(Reason::Word),
+    }
+}
+
+/// The ID that the command sets a slot at, if it does.
+pub fn slot_id(command: &Command) -> Option<u64>
+    ensures { result ≡ slot_id_of command.now }
+{
+    match *command {
+        Command::SetSlot { id, .. } => Some(id),
+        _ => None,
     }
 }
