@@ -1,10 +1,9 @@
 -- The words of a line, and its bytes.
-use Rattle.std.proofs.Common.{◌≡◌, ◌≤◌, inl, inr, ℕ, List, [], ◌∷◌, true, false, All, length, refl, sym, ap, subst, ◌∙◌, arith, ◌==◌, ◌&&◌, nat_lt, not, Ok}
+use Rattle.std.proofs.Common.{◌≡◌, inl, inr, ℕ, List, [], ◌∷◌, length, refl, sym, subst, arith, ◌==◌, ◌&&◌, nat_lt, not, Ok}
 use Rattle.std.specs.Prelude.{codes}
 use Rattle.std.specs.List.{list_all, list_any}
 use Rattle.std.proofs.lemmas.Bool.Decides.{nat_tests}
-use Rattle.std.proofs.lemmas.List.Elements.{All-nil, All-cons}
-use Rattle.std.proofs.lemmas.List.Splits.{slice_split_none, slice_split_at, join_with_byte-slice_split}
+use Rattle.std.proofs.lemmas.List.Splits.{join_with_byte-slice_split}
 use Rattle.core_views.specs.Traces.{IsHeader}
 use Rattle.core_views.specs.declared.actor.Actor.{Actor}
 use Rattle.core_views.specs.declared.trace.Header.{Header}
@@ -17,30 +16,9 @@ use Rattle.trace_reader.specs.Sayings.{IsSayingOf, Seen, by_first, by_words, sai
 use Rattle.trace_reader.specs.Grammar.{spaced, AreWordsOf, SaysLine, SaysUntil, IsWord, AreWords, HasForm}
 use Rattle.trace_reader.proofs.Items.{has_declared, kind_passes, kind_read}
 use Rattle.trace_reader.proofs.Results.{branch, both}
-use Rattle.trace_reader.proofs.CommandForms.{command_form, command_words, commanding}
-use Rattle.trace_reader.proofs.PlainWords.{actor_word, spelled_word, text_word}
-use Rattle.trace_reader.proofs.Words.{WordsJudged, command_first, words_judged, words_read}
-
-no_space : (b : ℕ) → not (b == 32) ≡ true → (b == 32) ≡ false
-no_space b e = grind (arith, nat_tests)
-
-no_spaces : (w : List ℕ) → list_all (λ b. not (b == 32)) w ≡ true → All (λ b. (b == 32) ≡ false) w
-no_spaces [] e = All-nil (λ (b : ℕ). (b == 32) ≡ false)
-no_spaces (b ∷ bs) e =
-    let t = both (not (b == 32)) (list_all (λ x. not (x == 32)) bs) e in
-    All-cons (λ (x : ℕ). (x == 32) ≡ false) b bs (no_space b t.0) (no_spaces bs t.1)
-
-filled : (w : List ℕ) → 1 ≤ length w → is_empty w ≡ false
-filled w lt = grind (arith, nat_tests)
-
--- Words with one space between each two are cut into these words.
-pub words_spaced : (w : List ℕ) (ws : List (List ℕ)) → AreWords (w ∷ ws) → words_of (spaced (w ∷ ws)) ≡ w ∷ ws
-words_spaced w [] are = slice_split_none (λ (b : ℕ). b == 32) w (no_spaces w are.0.plain)
-words_spaced w (v ∷ ws) are = slice_split_at (λ (b : ℕ). b == 32) w 32 (spaced (v ∷ ws)) (no_spaces w are.0.plain) refl ∙ ap (λ (l : List (List ℕ)). w ∷ l) (words_spaced v ws are.1)
-
-pub none_empty : (ws : List (List ℕ)) → AreWords ws → list_any is_empty ws ≡ false
-none_empty [] are = refl
-none_empty (w ∷ ws) are = rw (filled w are.0.filled, none_empty ws are.1) refl
+use Rattle.trace_reader.proofs.Commands.{command_first, command_form, command_words, commanding}
+use Rattle.trace_reader.proofs.PlainWords.{actor_word, none_empty, spelled_word, text_word, words_spaced}
+use Rattle.trace_reader.proofs.Words.{WordsJudged, words_judged, words_read}
 
 until_word : (w : List ℕ) (u : Until) → SaysUntil w u → IsWord w
 until_word w (Turns n) s = spelled_word w n s

@@ -1,32 +1,38 @@
 -- The lines that are read set slots at IDs that differ.
-use Rattle.std.proofs.Common.{◌≡◌, ◌+◌, ℕ, List, [], ◌∷◌, length, refl, subst}
-use Rattle.std.specs.List.{IsDistinct}
-use Rattle.std.specs.Prelude.{Bool, true, false, if◌then◌else◌, Result, Ok, Err}
+use Rattle.std.proofs.Common.{◌≡◌, ◌+◌, ◌==◌, ℕ, List, [], ◌∷◌, length, refl, subst}
+use Rattle.std.proofs.lemmas.Bool.{eq-eqb, ne_eqb}
+use Rattle.std.specs.List.{AllByRecursion, IsDistinct}
+use Rattle.std.specs.Prelude.{Bool, true, false, ◌||◌, if◌then◌else◌, Result, Ok, Err}
 use Rattle.std.specs.declared.option.Option.{Option}
 use Rattle.std.specs.declared.option.Option.TheVariants.{Some, None}
+use Rattle.core_views.specs.declared.trace.Command.{Command}
 use Rattle.core_views.specs.declared.trace.Header.{Header}
 use Rattle.core_views.specs.declared.trace.Trace.{Trace}
-use Rattle.core_views.specs.Traces.{slot_ids}
+use Rattle.core_views.specs.Traces.{or_slot_id, slot_ids}
 use Rattle.trace_reader.specs.declared.reason.Reason.{Reason}
 use Rattle.trace_reader.specs.declared.saying.Saying.{Saying}
 use Rattle.trace_reader.specs.declared.saying.Saying.TheVariants.{Does, Go, Schedules}
-use Rattle.trace_reader.specs.Forms.{◌>>=◌, is_empty}
+use Rattle.trace_reader.specs.Forms.{◌>>=◌, has_id, is_empty, sets_at, slot_id}
 use Rattle.trace_reader.specs.Sayings.{Seen, said}
 use Rattle.trace_reader.specs.Gathered.{lines_in}
 use Rattle.trace_reader.specs.Grammar.{SaysLine}
 use Rattle.trace_reader.specs.Lines.{Raw, Told, after_checks, content, fault_of, is_skipped, line_of, lines_of, onto, none_seen, raw, seen_with, with_line}
 use Rattle.trace_reader.specs.Reading.{with_header}
 use Rattle.trace_reader.proofs.Bytes.{only_said}
-use Rattle.trace_reader.proofs.CommandForms.{AreApart, AreDistinct, IsNew, first_done, in_front}
+use Rattle.trace_reader.proofs.Commands.{IsNewId, new_id, or_id, slot_id_first}
 
--- A line's command sets no slot, or one at an ID that wasn't seen; and if it is `go`, that wasn't there.
+-- The command sets no slot, or one at an ID that wasn't seen.
+abbrev pub IsNew : (ℕ → Bool) → Command → Type 0
+IsNew ids command = IsNewId ids (slot_id command)
+
+-- So does the line; and if it is `go`, that wasn't there.
 abbrev pub IsNewLine : Seen → Saying → Type 0
 IsNewLine seen (Does actor command) = IsNew seen.ids command
 IsNewLine seen Go = seen.go ≡ false
 IsNewLine seen (Schedules item) = Unit {0}
 
 first_said : (h : Header) (seen : Seen) (bytes : List ℕ) (s : Saying) → SaysLine h seen bytes s → IsNewLine seen s
-first_said h seen bytes (Does actor command) (range, (words, e, are)) = first_done h seen.ids words actor command range are
+first_said h seen bytes (Does actor command) (range, (words, e, are)) = new_id seen.ids words actor command are
 first_said h seen bytes Go (range, (words, e, (first, is))) = first
 first_said h seen bytes (Schedules item) says = tt
 
@@ -53,9 +59,44 @@ line_first h seen line = by (fault_of line)
     by (Some r) = tt
     by None = content_first h seen line.bytes
 
+-- None of these IDs is this one.
+abbrev pub HasNone : ℕ → List ℕ → Type 0
+HasNone id ids = AllByRecursion (λ j. (id == j) ≡ false) ids
+
+-- No ID is there twice.
+abbrev AreDistinct : List ℕ → Type 0
+AreDistinct = IsDistinct (λ i j. i == j)
+
+-- The lines set slots at IDs that differ, and none of them was seen.
+pub record AreApart (seen : ℕ → Bool) (ids : List ℕ) : Type 0 where
+  pub distinct : AreDistinct ids
+  pub unseen : (id : ℕ) → seen id ≡ true → HasNone id ids
+
 abbrev AreNew : Seen → Result (List Told) (ℕ × Reason) → Type 0
 AreNew seen (Ok told) = AreApart seen.ids (slot_ids (lines_in told))
 AreNew seen (Err e) = Unit {0}
+
+or_first : (a b : Bool) → a ≡ true → (a || b) ≡ true
+or_first a b e = rw e refl
+
+or_second : (a b : Bool) → b ≡ true → (a || b) ≡ true
+or_second true b e = refl
+or_second false b e = e
+
+apart : (seen : ℕ → Bool) (i j : ℕ) → seen i ≡ true → seen j ≡ false → (i == j) ≡ false
+apart seen i j e f = ne_eqb i j (λ same. let g : seen j ≡ true = subst (λ k. seen k ≡ true) same e in cc)
+
+-- One more line, in front.
+id_in_front : (seen : ℕ → Bool) (o : Option ℕ) (ids : List ℕ) → IsNewId seen o → AreApart (λ id. seen id || has_id o id) ids → AreApart seen (or_id o ids)
+unfolding IsDistinct
+id_in_front seen None ids new rest = record { distinct = rest.distinct; unseen = λ id e. rest.unseen id (or_first (seen id) false e) }
+id_in_front seen (Some i) ids new rest = record {
+  distinct = (rest.unseen i (or_second (seen i) (i == i) (eq-eqb i i refl)), rest.distinct);
+  unseen = λ id e. (apart seen id i e new, rest.unseen id (or_first (seen id) (i == id) e));
+}
+
+in_front : (seen : ℕ → Bool) (command : Command) (ids : List ℕ) → IsNew seen command → AreApart (λ id. seen id || sets_at id command) ids → AreApart seen (or_slot_id command ids)
+in_front seen command ids new rest = rw (slot_id_first command ids) (id_in_front seen (slot_id command) ids new rest)
 
 in_front_of : (seen : Seen) (n : ℕ) (s : Saying) (told : List Told) → IsNewLine seen s → AreApart (seen_with seen s).ids (slot_ids (lines_in told)) → AreApart seen.ids (slot_ids (lines_in ((n, s) ∷ told)))
 in_front_of seen n (Does actor command) told new rest = in_front seen.ids command (slot_ids (lines_in told)) new rest

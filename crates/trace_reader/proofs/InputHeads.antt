@@ -15,8 +15,7 @@ use Rattle.trace_reader.specs.Reading.{head_of}
 use Rattle.trace_reader.specs.Grammar.{Spells, spaced, AreWords}
 use Rattle.trace_reader.specs.HeaderGrammar.{HeaderWords, labelled, SpellsHeader}
 use Rattle.trace_reader.specs.InputGrammar.{SaysHeader, PassesAll, HeaderFails}
-use Rattle.trace_reader.proofs.Bytes.{words_spaced}
-use Rattle.trace_reader.proofs.PlainWords.{spelled_word, text_word}
+use Rattle.trace_reader.proofs.PlainWords.{words_spaced, text_word, spelled_word}
 use Rattle.trace_reader.proofs.HeaderSaid.{header_reads, header_only}
 use Rattle.trace_reader.proofs.HeaderRefused.{header_refuses}
 use Rattle.trace_reader.proofs.Checks.{Judged, judged, faultless, faulty}

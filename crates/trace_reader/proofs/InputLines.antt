@@ -11,7 +11,8 @@ use Rattle.trace_reader.specs.declared.saying.Saying.{Saying}
 use Rattle.trace_reader.specs.declared.saying.Saying.TheVariants.{Does, Go, Schedules}
 use Rattle.trace_reader.specs.Forms.{◌>>=◌}
 use Rattle.trace_reader.specs.Sayings.{Seen, is_there, said}
-use Rattle.trace_reader.specs.Lines.{Raw, Told, fault_of, after_checks, is_skipped, content, line_of, with_line, onto, raw, lines_of, seen_with, sets_at}
+use Rattle.trace_reader.specs.Lines.{Raw, Told, fault_of, after_checks, is_skipped, content, line_of, with_line, onto, raw, lines_of, seen_with}
+use Rattle.trace_reader.specs.Forms.{sets_at}
 use Rattle.trace_reader.specs.Gathered.{go_in, lines_in, one_more}
 use Rattle.trace_reader.specs.Grammar.{SaysLine}
 use Rattle.trace_reader.specs.InputGrammar.{with_ends, IsText, IsSkipped, SayLines, PassesAll, LineFails, set_by}

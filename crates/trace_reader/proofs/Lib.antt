@@ -4,10 +4,12 @@ pub mod Results
 pub mod Spelled
 pub mod Names
 pub mod Items
-pub mod Said
-pub mod Refused
 pub mod PlainWords
-pub mod CommandForms
+pub mod Operands
+pub mod Judged
+pub mod Accesses
+pub mod SlotLines
+pub mod Commands
 pub mod Words
 pub mod Bytes
 pub mod Reasons

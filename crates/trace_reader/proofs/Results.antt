@@ -42,3 +42,10 @@ other_word w v never = by (bytes_eq w v) refl
     by : (b : Bool) → bytes_eq w v ≡ b → b ≡ false
     by true e = absurd (never (word_is w v e))
     by false e = refl
+
+pub differs : (w v : List ℕ) → bytes_eq w v ≡ false → w ≡ v → ⊥
+differs w v e same = let t : bytes_eq w v ≡ true = is_word w v same in cc
+
+-- Lists that are the same have the same first two elements, and the same after them.
+pub parts_same : {A : Type 0} (a b c d : A) (xs ys : List A) → a ∷ b ∷ xs ≡ c ∷ d ∷ ys → (a ≡ c) × (b ≡ d) × (xs ≡ ys)
+parts_same a b c d xs ys e = (cc, cc, cc)

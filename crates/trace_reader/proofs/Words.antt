@@ -17,20 +17,11 @@ use Rattle.trace_reader.specs.Forms.{◌>>=◌, Said, by_form}
 use Rattle.trace_reader.specs.Items.{item_said}
 use Rattle.trace_reader.specs.Sayings.{IsSayingOf, Seen, by_first, command_said, go_said, schedule_said}
 use Rattle.trace_reader.specs.Grammar.{AreCommandWords, AreWordsOf, HasForm, IsActor, IsCommandForm, IsDeclared, IsUntilForm, item_words}
-use Rattle.trace_reader.proofs.CommandForms.{command_form}
 use Rattle.trace_reader.proofs.Items.{ItemJudged, item_judged, item_read}
-use Rattle.trace_reader.proofs.Refused as commands
-use Rattle.trace_reader.proofs.Results.{heads_differ, is_word, other_word, word_is}
-use Rattle.trace_reader.proofs.Said.{only, reads, small_words}
-
--- The first word of an actor's line is its name.
-pub command_first : (words : List (List ℕ)) (a : Actor) → IsCommandForm words a → (rest : List (List ℕ)) × (words ≡ actor_name a ∷ rest)
-command_first words (Vcpu i) (inl (x, e)) = (_, e)
-command_first words (Vcpu i) (inr (inl (x, y, e))) = (_, e)
-command_first words (Vcpu i) (inr (inr (x, y, e))) = (_, e)
-command_first words (Host i) form = absurd form
-command_first words Manager (i, b, p, k, read_only, e) = (_, e)
-command_first words (Worker i) form = absurd form
+use Rattle.trace_reader.proofs.Commands.{by_form_judged, command_first, command_form, reads}
+use Rattle.trace_reader.proofs.Judged.{Judged, Why}
+use Rattle.trace_reader.proofs.Operands.{small_words}
+use Rattle.trace_reader.proofs.Results.{differs, heads_differ, other_word, word_is}
 
 -- No actor is named `go` or `>`.
 not_go : (a : Actor) → actor_name a ≡ codes "go" → ⊥
@@ -63,16 +54,16 @@ mark_no_command : (first : List ℕ) (rest : List (List ℕ)) (a : Actor) → fi
 mark_no_command first rest a mark form = let (more, e) = command_first (first ∷ rest) a form in not_mark a (let f : first ≡ actor_name a = same_first first (actor_name a) rest more e in cc)
 
 -- What the words of a form say is read.
-by_command : (h : Header) (seen : Seen) (first : List ℕ) (rest : List (List ℕ)) → (first ≡ codes "go" → ⊥) → (first ≡ codes ">" → ⊥) → by_first h seen (first ∷ rest) ≡ command_said h seen.ids (first ∷ rest)
+by_the_command : (h : Header) (seen : Seen) (first : List ℕ) (rest : List (List ℕ)) → (first ≡ codes "go" → ⊥) → (first ≡ codes ">" → ⊥) → by_first h seen (first ∷ rest) ≡ command_said h seen.ids (first ∷ rest)
 unfolding by_first
-by_command h seen first rest go mark = rw (other_word first (codes "go") go, other_word first (codes ">") mark) refl
+by_the_command h seen first rest go mark = rw (other_word first (codes "go") go, other_word first (codes ">") mark) refl
 
 command_read : (h : Header) (seen : Seen) (words : List (List ℕ)) (a : Actor) (c : Command) → IsHeader h → IsCommandOf h a c → AreCommandWords seen.ids words a c → by_first h seen words ≡ Ok (Does a c)
 unfolding command_said
 command_read h seen words a c header range are =
     let (rest, e) = command_first words a (command_form seen.ids words a c are) in
     let said : by_form h seen.ids words ≡ Ok (a, c) = reads h seen.ids words a c header.vcpus.1 (small_words h header) range are in
-    let first = by_command h seen (actor_name a) rest (not_go a) (not_mark a) in
+    let first = by_the_command h seen (actor_name a) rest (not_go a) (not_mark a) in
     rw e (first ∙ rw (← e, said) refl)
 
 pub words_read : (h : Header) (seen : Seen) (words : List (List ℕ)) (s : Saying) → IsHeader h → IsSayingOf h s → AreWordsOf seen words s → by_first h seen words ≡ Ok s
@@ -128,7 +119,7 @@ schedule_judged h seen first (who ∷ last ∷ []) mark = item_why h seen first 
 schedule_judged h seen first (w ∷ x ∷ y ∷ more) mark = not_item h seen first (w ∷ x ∷ y ∷ more) mark (λ a last e. cc)
 
 -- An actor's words.
-lifted : (h : Header) (seen : Seen) (first : List ℕ) (rest : List (List ℕ)) (r : Reason) → (first ≡ codes "go" → ⊥) → (first ≡ codes ">" → ⊥) → commands.Why h (first ∷ rest) r → WhyNot h seen (first ∷ rest) r
+lifted : (h : Header) (seen : Seen) (first : List ℕ) (rest : List (List ℕ)) (r : Reason) → (first ≡ codes "go" → ⊥) → (first ≡ codes ">" → ⊥) → Why h (first ∷ rest) r → WhyNot h seen (first ∷ rest) r
 lifted h seen first rest reason.Word go mark never = (
   (λ a form is. elim form [ inl f ↦ never a f is | inr f ↦ mark (same_first first (codes ">") rest _ f.1) ]),
   λ was is. go (one_word first rest is).0,
@@ -137,16 +128,13 @@ lifted h seen first rest reason.Actor go mark (a, form, is, never) = (a, inl for
 lifted h seen first rest reason.Number go mark (a, form, is, known) = (a, inl form, is, known)
 lifted h seen first rest _ go mark never = absurd never
 
-command_why : (h : Header) (seen : Seen) (first : List ℕ) (rest : List (List ℕ)) (x : Said) → by_form h seen.ids (first ∷ rest) ≡ x → (first ≡ codes "go" → ⊥) → (first ≡ codes ">" → ⊥) → commands.Tells h (first ∷ rest) x → WordsJudged h seen (first ∷ rest) (x >>= λ p. Ok (Does p.0 p.1))
-command_why h seen first rest (Ok p) e go mark tells = only h seen.ids (first ∷ rest) p e
-command_why h seen first rest (Err r) e go mark tells = lifted h seen first rest r go mark tells
+command_why : (h : Header) (seen : Seen) (first : List ℕ) (rest : List (List ℕ)) (x : Said) → (first ≡ codes "go" → ⊥) → (first ≡ codes ">" → ⊥) → Judged h seen.ids (first ∷ rest) x → WordsJudged h seen (first ∷ rest) (x >>= λ p. Ok (Does p.0 p.1))
+command_why h seen first rest (Ok p) go mark is = is
+command_why h seen first rest (Err r) go mark is = lifted h seen first rest r go mark is
 
 command_judged : (h : Header) (seen : Seen) (first : List ℕ) (rest : List (List ℕ)) → (first ≡ codes "go" → ⊥) → (first ≡ codes ">" → ⊥) → WordsJudged h seen (first ∷ rest) (command_said h seen.ids (first ∷ rest))
 unfolding command_said
-command_judged h seen first rest go mark = command_why h seen first rest (by_form h seen.ids (first ∷ rest)) refl go mark (commands.why h seen.ids (first ∷ rest))
-
-differs : (w v : List ℕ) → bytes_eq w v ≡ false → w ≡ v → ⊥
-differs w v e same = let t : bytes_eq w v ≡ true = is_word w v same in cc
+command_judged h seen first rest go mark = command_why h seen first rest (by_form h seen.ids (first ∷ rest)) go mark (by_form_judged h seen.ids (first ∷ rest))
 
 by_word : (h : Header) (seen : Seen) (first : List ℕ) (rest : List (List ℕ)) (b c : Bool) → bytes_eq first (codes "go") ≡ b → bytes_eq first (codes ">") ≡ c
     → WordsJudged h seen (first ∷ rest) (cond b (go_said seen.go rest) (cond c (schedule_said h rest) (command_said h seen.ids (first ∷ rest))))

@@ -1,4 +1,4 @@
--- What the words of an actor's line say: one function for each count of words, one case in it for each form.
+-- What the words of an actor's line say: a table by the command's word, one row and one function for each form.
 use Rattle.std.specs.Prelude.{◌*◌, ◌/◌, ◌%◌, ◌^◌, ℕ, List, [], ◌∷◌, Bool, true, false, ◌&&◌, nat_lt, nat_le, ◌==◌, if◌then◌else◌, codes, length, Result, Ok, Err}
 use Rattle.std.specs.List.{slice_split}
 use Rattle.std.specs.Str.{bytes_eq}
@@ -62,17 +62,19 @@ abbrev pub Said : Type 0
 Said = Result (Actor × Command) Reason
 
 -- `vN read A`
-unfoldable pub read_form : Header → List ℕ → List ℕ → List ℕ → Said
-read_form h who verb x =
-    if bytes_eq verb (codes "read") then (vcpu h who >>= λ n. address h x >>= λ a. Ok (Vcpu n, Access a.0 a.1 Read)) else
-    Err reason.Word
+unfoldable pub read_form : Header → List ℕ → List (List ℕ) → Said
+read_form h who (x ∷ []) = vcpu h who >>= λ n. address h x >>= λ a. Ok (Vcpu n, Access a.0 a.1 Read)
+read_form h who _ = Err reason.Word
 
--- `vN write A X` and `vN add A X`
-unfoldable pub store_form : Header → List ℕ → List ℕ → List ℕ → List ℕ → Said
-store_form h who verb x y =
-    if bytes_eq verb (codes "write") then (vcpu h who >>= λ n. address h x >>= λ a. number y >>= λ v. Ok (Vcpu n, Access a.0 a.1 (Write v))) else
-    if bytes_eq verb (codes "add") then (vcpu h who >>= λ n. address h x >>= λ a. number y >>= λ v. Ok (Vcpu n, Access a.0 a.1 (Add v))) else
-    Err reason.Word
+-- `vN write A X`
+unfoldable pub write_form : Header → List ℕ → List (List ℕ) → Said
+write_form h who (x ∷ y ∷ []) = vcpu h who >>= λ n. address h x >>= λ a. number y >>= λ v. Ok (Vcpu n, Access a.0 a.1 (Write v))
+write_form h who _ = Err reason.Word
+
+-- `vN add A X`
+unfoldable pub add_form : Header → List ℕ → List (List ℕ) → Said
+add_form h who (x ∷ y ∷ []) = vcpu h who >>= λ n. address h x >>= λ a. number y >>= λ v. Ok (Vcpu n, Access a.0 a.1 (Add v))
+add_form h who _ = Err reason.Word
 
 -- the ranges of a slot's numbers
 abbrev pub is_slot : ℕ → ℕ → ℕ → Bool
@@ -90,30 +92,48 @@ slot base pages host read_only = do
 abbrev pub new_number : Bool → ℕ → Result ℕ Reason
 new_number seen n = if seen then Err reason.Number else Ok n
 
--- `ID BASE PAGES HOST` behind `vm slot`: an ID that was seen can't be set again
+-- `ID BASE PAGES HOST`, after `vm slot`: an ID that was seen can't be set again
 unfoldable pub setting : (ℕ → Bool) → List ℕ → List ℕ → List ℕ → List ℕ → Bool → Said
 setting seen id base pages host read_only =
     number id >>= λ n. new_number (seen n) n >>= λ i. slot base pages host read_only >>= λ s. Ok (Manager, SetSlot i s)
 
--- `vm slot ID BASE PAGES HOST`
-unfoldable pub slot_form : (ℕ → Bool) → List ℕ → List ℕ → List ℕ → List ℕ → List ℕ → List ℕ → Said
-slot_form seen who verb id base pages host =
-    if bytes_eq who (codes "vm") && bytes_eq verb (codes "slot") then setting seen id base pages host false else
+-- `ID BASE PAGES HOST` and `ID BASE PAGES HOST ro`, after `vm slot`
+abbrev pub setting_form : (ℕ → Bool) → List (List ℕ) → Said
+setting_form seen (id ∷ base ∷ pages ∷ host ∷ []) = setting seen id base pages host false
+setting_form seen (id ∷ base ∷ pages ∷ host ∷ last ∷ []) = if bytes_eq last (codes "ro") then setting seen id base pages host true else Err reason.Word
+setting_form seen _ = Err reason.Word
+
+-- `vm slot ID BASE PAGES HOST [ro]`
+unfoldable pub slot_form : (ℕ → Bool) → List ℕ → List (List ℕ) → Said
+slot_form seen who rest = if bytes_eq who (codes "vm") then setting_form seen rest else Err reason.Word
+
+-- what the words after a command's word say: one row for each form; `seen`: the IDs that slot lines before name
+unfoldable pub by_command : Header → (ℕ → Bool) → List ℕ → List ℕ → List (List ℕ) → Said
+by_command h seen who command rest =
+    if bytes_eq command (codes "read") then read_form h who rest else
+    if bytes_eq command (codes "write") then write_form h who rest else
+    if bytes_eq command (codes "add") then add_form h who rest else
+    if bytes_eq command (codes "slot") then slot_form seen who rest else
     Err reason.Word
 
--- `vm slot ID BASE PAGES HOST ro`
-unfoldable pub read_only_slot_form : (ℕ → Bool) → List ℕ → List ℕ → List ℕ → List ℕ → List ℕ → List ℕ → List ℕ → Said
-read_only_slot_form seen who verb id base pages host last =
-    if bytes_eq who (codes "vm") && bytes_eq verb (codes "slot") && bytes_eq last (codes "ro") then setting seen id base pages host true else
-    Err reason.Word
-
--- what the words of an actor's command say, by their count; `seen`: the IDs that slot lines before name
+-- what the words of an actor's line say: its name, the command's word, and the words after it
 unfoldable pub by_form : Header → (ℕ → Bool) → List (List ℕ) → Said
-by_form h seen (who ∷ verb ∷ x ∷ []) = read_form h who verb x
-by_form h seen (who ∷ verb ∷ x ∷ y ∷ []) = store_form h who verb x y
-by_form h seen (who ∷ verb ∷ a ∷ b ∷ c ∷ d ∷ []) = slot_form seen who verb a b c d
-by_form h seen (who ∷ verb ∷ a ∷ b ∷ c ∷ d ∷ e ∷ []) = read_only_slot_form seen who verb a b c d e
+by_form h seen (who ∷ command ∷ rest) = by_command h seen who command rest
 by_form h seen _ = Err reason.Word
+
+-- the ID that the command sets a slot at, if it does
+abbrev pub slot_id : Command → Option ℕ
+slot_id (SetSlot id slot) = Some id
+slot_id _ = None
+
+-- There is an ID, and it is this one.
+abbrev pub has_id : Option ℕ → ℕ → Bool
+has_id None n = false
+has_id (Some m) n = m == n
+
+-- The command sets a slot at this ID.
+abbrev pub sets_at : ℕ → Command → Bool
+sets_at id command = has_id (slot_id command) id
 
 -- It has no bytes.
 abbrev pub is_empty : List ℕ → Bool

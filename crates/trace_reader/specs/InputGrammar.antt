@@ -8,7 +8,8 @@ use Rattle.trace_reader.specs.declared.reason.Reason.{Reason}
 use Rattle.trace_reader.specs.declared.reason.Reason.TheVariants as reason
 use Rattle.trace_reader.specs.declared.saying.Saying.{Saying}
 use Rattle.trace_reader.specs.Sayings.{Seen, is_there}
-use Rattle.trace_reader.specs.Lines.{Raw, Told, none_seen, seen_with, sets_at}
+use Rattle.trace_reader.specs.Lines.{Raw, Told, none_seen, seen_with}
+use Rattle.trace_reader.specs.Forms.{sets_at}
 use Rattle.trace_reader.specs.Gathered.{Gathers}
 use Rattle.trace_reader.specs.Reading.{reading}
 use Rattle.trace_reader.specs.GrammarRefusals.{SaysNothingFor}

@@ -3,14 +3,12 @@ use Rattle.std.specs.Prelude.{◌+◌, ℕ, List, [], ◌∷◌, Bool, true, fal
 use Rattle.std.specs.List.{slice_split, list_all}
 use Rattle.std.specs.declared.option.Option.{Option}
 use Rattle.std.specs.declared.option.Option.TheVariants.{Some, None}
-use Rattle.core_views.specs.declared.trace.Command.{Command}
-use Rattle.core_views.specs.declared.trace.Command.TheVariants.{Access, SetSlot}
 use Rattle.core_views.specs.declared.trace.Header.{Header}
 use Rattle.trace_reader.specs.declared.reason.Reason.{Reason}
 use Rattle.trace_reader.specs.declared.reason.Reason.TheVariants as reason
 use Rattle.trace_reader.specs.declared.saying.Saying.{Saying}
 use Rattle.trace_reader.specs.declared.saying.Saying.TheVariants.{Does, Go, Schedules}
-use Rattle.trace_reader.specs.Forms.{◌>>=◌, is_empty}
+use Rattle.trace_reader.specs.Forms.{◌>>=◌, is_empty, sets_at}
 use Rattle.trace_reader.specs.Sayings.{Seen, said}
 
 -- the parts of an input: LF ends each but the last
@@ -64,11 +62,6 @@ content h seen bytes = if is_skipped bytes then Ok None else (said h seen bytes 
 -- what a line behind the header says
 unfoldable pub line_of : Header → Seen → Raw → Result (Option Saying) Reason
 line_of h seen raw = after_checks (fault_of raw) (content h seen raw.bytes)
-
--- The command sets a slot at this ID.
-abbrev pub sets_at : ℕ → Command → Bool
-sets_at id (Access gfn word op) = false
-sets_at id (SetSlot i slot) = i == id
 
 -- what was seen, with what a line says
 abbrev pub seen_with : Seen → Saying → Seen

@@ -3,9 +3,10 @@ ghost use Rattle.std.specs.BTreeSet.{contains};
 ghost use Rattle.std.specs.Ordering.{nat_cmp};
 ghost use Rattle.trace_reader.specs.Steps.{Puts, trace_with};
 
+use crate::form::slot_id;
 use crate::refusal::ReadError;
 use crate::saying::Saying;
-use core_views::{Command, Header, Item, Items, Line, Lines, Trace};
+use core_views::{Header, Item, Items, Line, Lines, Trace};
 use std::alloc::Global;
 use std::collections::BTreeSet;
 
@@ -53,7 +54,7 @@ impl Body {
         match found {
             None => {}
             Some(Saying::Does { actor, command }) => {
-                if let Command::SetSlot { id, .. } = command {
+                if let Some(id) = slot_id(&command) {
                     self.before.ids.insert(id)?;
                 }
                 let line = Line {

@@ -3,7 +3,7 @@ ghost use Rattle.std.specs.BTreeSet.{contains};
 ghost use Rattle.std.specs.Ordering.{nat_cmp};
 ghost use Rattle.std.specs.Str.{bytes_eq};
 ghost use Rattle.core_views.specs.Traces.{IsCommandOf, IsSlotInRange};
-ghost use Rattle.trace_reader.specs.Forms.{indexed, vcpu, address, new_number, number as number_word, slot, setting, read_form, store_form, slot_form, read_only_slot_form, by_form};
+ghost use Rattle.trace_reader.specs.Forms.{indexed, vcpu, address, new_number, number as number_word, slot, setting, read_form, write_form, add_form, slot_form, by_command, by_form, slot_id as slot_id_of};
 
 use crate::Reason;
 use crate::number::{decimal, number};
@@ -74,50 +74,48 @@ fn vcpu_of(header: &Header, word: &[u8]) -> Result<u8, Reason>
 }
 
 #[tactic(auto, unfolding(crate::specs::Forms::read_form))]
-fn read_said(
-    header: &Header,
-    who: &[u8],
-    verb: &[u8],
-    word: &[u8],
-) -> Result<(Actor, Command), Reason>
+fn read_said(header: &Header, who: &[u8], rest: &[&[u8]]) -> Result<(Actor, Command), Reason>
     requires { header.now.words ≤ 8 }
-    ensures value { result ≡ read_form header.now who.now verb.now word.now }
+    ensures value { result ≡ read_form header.now who.now (map (λ w. w.now) rest.now) }
     ensures allowed { IfOk result (λ x. IsCommandOf header.now x.0 x.1) }
 {
-    if is(verb, "read") {
-        let index = vcpu_of(header, who)?;
-        let (gfn, word) = address_of(header, word)?;
-        let op = Op::Read;
-        return Ok((Actor::Vcpu(index), Command::Access { gfn, word, op }));
-    }
-    Err(Reason::Word)
+    let [address] = rest else {
+        return Err(Reason::Word);
+    };
+    let index = vcpu_of(header, who)?;
+    let (gfn, word) = address_of(header, address)?;
+    let op = Op::Read;
+    Ok((Actor::Vcpu(index), Command::Access { gfn, word, op }))
 }
 
-#[tactic(auto, unfolding(crate::specs::Forms::store_form))]
-fn store_said(
-    header: &Header,
-    who: &[u8],
-    verb: &[u8],
-    first: &[u8],
-    second: &[u8],
-) -> Result<(Actor, Command), Reason>
+#[tactic(auto, unfolding(crate::specs::Forms::write_form))]
+fn write_said(header: &Header, who: &[u8], rest: &[&[u8]]) -> Result<(Actor, Command), Reason>
     requires { header.now.words ≤ 8 }
-    ensures value { result ≡ store_form header.now who.now verb.now first.now second.now }
+    ensures value { result ≡ write_form header.now who.now (map (λ w. w.now) rest.now) }
     ensures allowed { IfOk result (λ x. IsCommandOf header.now x.0 x.1) }
 {
-    if is(verb, "write") {
-        let index = vcpu_of(header, who)?;
-        let (gfn, word) = address_of(header, first)?;
-        let op = Op::Write(number_of(second)?);
-        return Ok((Actor::Vcpu(index), Command::Access { gfn, word, op }));
-    }
-    if is(verb, "add") {
-        let index = vcpu_of(header, who)?;
-        let (gfn, word) = address_of(header, first)?;
-        let op = Op::Add(number_of(second)?);
-        return Ok((Actor::Vcpu(index), Command::Access { gfn, word, op }));
-    }
-    Err(Reason::Word)
+    let [address, value] = rest else {
+        return Err(Reason::Word);
+    };
+    let index = vcpu_of(header, who)?;
+    let (gfn, word) = address_of(header, address)?;
+    let op = Op::Write(number_of(value)?);
+    Ok((Actor::Vcpu(index), Command::Access { gfn, word, op }))
+}
+
+#[tactic(auto, unfolding(crate::specs::Forms::add_form))]
+fn add_said(header: &Header, who: &[u8], rest: &[&[u8]]) -> Result<(Actor, Command), Reason>
+    requires { header.now.words ≤ 8 }
+    ensures value { result ≡ add_form header.now who.now (map (λ w. w.now) rest.now) }
+    ensures allowed { IfOk result (λ x. IsCommandOf header.now x.0 x.1) }
+{
+    let [address, value] = rest else {
+        return Err(Reason::Word);
+    };
+    let index = vcpu_of(header, who)?;
+    let (gfn, word) = address_of(header, address)?;
+    let op = Op::Add(number_of(value)?);
+    Ok((Actor::Vcpu(index), Command::Access { gfn, word, op }))
 }
 
 #[tactic(auto, unfolding(crate::specs::Forms::slot))]
@@ -175,38 +173,47 @@ fn slot_said(
     header: &Header,
     seen: &BTreeSet<u64>,
     who: &[u8],
-    verb: &[u8],
-    id: &[u8],
-    base: &[u8],
-    pages: &[u8],
-    host: &[u8],
+    rest: &[&[u8]],
 ) -> Result<(Actor, Command), Reason>
-    ensures value { result ≡ slot_form (contains nat_cmp seen.now) who.now verb.now id.now base.now pages.now host.now }
+    ensures value { result ≡ slot_form (contains nat_cmp seen.now) who.now (map (λ w. w.now) rest.now) }
     ensures allowed { IfOk result (λ x. IsCommandOf header.now x.0 x.1) }
 {
-    if is(who, "vm") && is(verb, "slot") {
-        return setting_said(header, seen, id, base, pages, host, false);
+    if !is(who, "vm") {
+        return Err(Reason::Word);
     }
-    Err(Reason::Word)
+    match rest {
+        [id, base, pages, host] => setting_said(header, seen, id, base, pages, host, false),
+        [id, base, pages, host, last] if is(last, "ro") => {
+            setting_said(header, seen, id, base, pages, host, true)
+        }
+        _ => Err(Reason::Word),
+    }
 }
 
-#[tactic(auto, unfolding(crate::specs::Forms::read_only_slot_form))]
-fn read_only_slot_said(
+/// What the words after a command's word say: one row for each form.
+#[tactic(auto, unfolding(crate::specs::Forms::by_command))]
+fn command_said(
     header: &Header,
     seen: &BTreeSet<u64>,
     who: &[u8],
-    verb: &[u8],
-    id: &[u8],
-    base: &[u8],
-    pages: &[u8],
-    host: &[u8],
-    last: &[u8],
+    command: &[u8],
+    rest: &[&[u8]],
 ) -> Result<(Actor, Command), Reason>
-    ensures value { result ≡ read_only_slot_form (contains nat_cmp seen.now) who.now verb.now id.now base.now pages.now host.now last.now }
+    requires { header.now.words ≤ 8 }
+    ensures value { result ≡ by_command header.now (contains nat_cmp seen.now) who.now command.now (map (λ w. w.now) rest.now) }
     ensures allowed { IfOk result (λ x. IsCommandOf header.now x.0 x.1) }
 {
-    if is(who, "vm") && is(verb, "slot") && is(last, "ro") {
-        return setting_said(header, seen, id, base, pages, host, true);
+    if is(command, "read") {
+        return read_said(header, who, rest);
+    }
+    if is(command, "write") {
+        return write_said(header, who, rest);
+    }
+    if is(command, "add") {
+        return add_said(header, who, rest);
+    }
+    if is(command, "slot") {
+        return slot_said(header, seen, who, rest);
     }
     Err(Reason::Word)
 }
@@ -223,14 +230,17 @@ pub fn form_said(
     ensures allowed { IfOk result (λ x. IsCommandOf header.now x.0 x.1) }
 {
     match words {
-        [who, verb, word] => read_said(header, who, verb, word),
-        [who, verb, first, second] => store_said(header, who, verb, first, second),
-        [who, verb, id, base, pages, host] => {
-            slot_said(header, seen, who, verb, id, base, pages, host)
-        }
-        [who, verb, id, base, pages, host, last] => {
-            read_only_slot_said(header, seen, who, verb, id, base, pages, host, last)
-        }
+        [who, command, rest @ ..] => command_said(header, seen, who, command, rest),
         _ => Err(Reason::Word),
+    }
+}
+
+/// The ID that the command sets a slot at, if it does.
+pub fn slot_id(command: &Command) -> Option<u64>
+    ensures { result ≡ slot_id_of command.now }
+{
+    match *command {
+        Command::SetSlot { id, .. } => Some(id),
+        _ => None,
     }
 }

@@ -123,6 +123,13 @@ const TABLE: &str = "\
 2 word|&vm slot 0 0 1 0 ;\n\
 2 word|&vm slots 0 0 1 0;\n\
 2 word|&v0 slot 0 0 1 0;\n\
+2 word|&v0 slot 0 0 1 0 ro;\n\
+2 word|&v0 read 0 0 1 0;\n\
+2 word|&v9 write z z z z;\n\
+2 word|&vm add 0 0 1 0;\n\
+2 word|&v0 add 0 0 1 0 ro;\n\
+2 word|&vm read 0 0 1 0 ro;\n\
+2 word|&v9 look z z z z ro;\n\
 3 word|&%vm slot 0;\n\
 3 word|&%vm slot 0 0 1 0 rw;\n\
 3 number|&%vm slot 0 0 1 0;\n\

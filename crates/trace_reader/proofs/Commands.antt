@@ -1,0 +1,117 @@
+-- The forms of an actor's line, each with one clause or one row in each lemma: what every line says is read, and only that,
+-- and why it is refused.
+use Rattle.std.proofs.Common.{◌≡◌, ◌≤◌, inl, inr, ℕ, List, [], ◌∷◌, Bool, true, false, Ok, refl, arith}
+use Rattle.std.specs.Prelude.{codes}
+use Rattle.std.specs.Str.{bytes_eq}
+use Rattle.std.specs.declared.option.Option.{Option}
+use Rattle.std.specs.declared.option.Option.TheVariants.{Some, None}
+use Rattle.core_views.specs.Text.{actor_name}
+use Rattle.core_views.specs.Traces.{IsCommandOf, or_slot_id}
+use Rattle.core_views.specs.declared.actor.Actor.{Actor}
+use Rattle.core_views.specs.declared.actor.Actor.TheVariants.{Vcpu, Manager}
+use Rattle.core_views.specs.declared.trace.Command.{Command}
+use Rattle.core_views.specs.declared.trace.Command.TheVariants.{Access, SetSlot}
+use Rattle.core_views.specs.declared.trace.Header.{Header}
+use Rattle.trace_reader.specs.Forms.{by_command, by_form, slot_id}
+use Rattle.trace_reader.specs.Grammar.{AreCommandWords, AreWords, IsActor, IsCommandForm, IsDeclared}
+use Rattle.trace_reader.proofs.Accesses.{AreTwo, IsOne, IsVcpu, access_form, access_plain, access_reads, add_judged, read_judged, write_judged}
+use Rattle.trace_reader.proofs.Judged.{Judged, none, row}
+use Rattle.trace_reader.proofs.Results.{other_word, parts_same}
+use Rattle.trace_reader.proofs.SlotLines.{AreSetting, IsManager, slot_judged, slot_line_form, slot_plain, slot_reads}
+
+-- The first of two, or the second.
+abbrev Either : Bool → Type 0 → Type 0 → Type 0
+Either true A B = A
+Either false A B = B
+
+-- Who makes the command of this word, and which words stand after it.
+abbrev IsRow : List ℕ → Actor → List (List ℕ) → Type 0
+IsRow command a rest =
+    Either (bytes_eq command (codes "read")) (IsVcpu a × IsOne rest) (
+    Either (bytes_eq command (codes "write")) (IsVcpu a × AreTwo rest) (
+    Either (bytes_eq command (codes "add")) (IsVcpu a × AreTwo rest) (
+    Either (bytes_eq command (codes "slot")) (IsManager a × AreSetting rest) ⊥)))
+
+-- The words of a form are the actor's name, a command's word, and those of its row.
+abbrev HasRow : List (List ℕ) → Actor → Type 0
+HasRow words a = (command : List ℕ) × (rest : List (List ℕ)) × (words ≡ actor_name a ∷ command ∷ rest) × IsRow command a rest
+
+has_row : (words : List (List ℕ)) (a : Actor) → IsCommandForm words a → HasRow words a
+has_row words (Vcpu i) (inl (x, e)) = (codes "read", x ∷ [], e, (tt, (x, refl)))
+has_row words (Vcpu i) (inr (inl (x, y, e))) = (codes "write", x ∷ y ∷ [], e, (tt, (x, y, refl)))
+has_row words (Vcpu i) (inr (inr (x, y, e))) = (codes "add", x ∷ y ∷ [], e, (tt, (x, y, refl)))
+has_row words Manager (i, b, p, k, read_only, e) = (codes "slot", _, e, (tt, (i, b, p, k, read_only, refl)))
+has_row words _ form = absurd form
+
+-- The first word of an actor's line is its name.
+pub command_first : (words : List (List ℕ)) (a : Actor) → IsCommandForm words a → (rest : List (List ℕ)) × (words ≡ actor_name a ∷ rest)
+command_first words a form = let (command, rest, e, is) = has_row words a form in (command ∷ rest, e)
+
+row_same : (command other : List ℕ) (rest more : List (List ℕ)) (a : Actor) → command ≡ other → rest ≡ more → IsRow other a more → IsRow command a rest
+row_same command other rest more a same after is = rw (same, after) is
+
+only : (who command : List ℕ) (rest : List (List ℕ)) (a : Actor) → IsCommandForm (who ∷ command ∷ rest) a → (who ≡ actor_name a) × IsRow command a rest
+only who command rest a form =
+    let (other, more, e, is) = has_row (who ∷ command ∷ rest) a form in
+    let (name, same, after) = parts_same who command (actor_name a) other rest more e in
+    (name, row_same command other rest more a same after is)
+
+-- What words of an actor's line give is what they say, or why they say nothing.
+by_command_judged : (h : Header) (seen : ℕ → Bool) (who command : List ℕ) (rest : List (List ℕ)) → Judged h seen (who ∷ command ∷ rest) (by_command h seen who command rest)
+unfolding by_command
+by_command_judged h seen who command rest =
+    row (Judged h seen (who ∷ command ∷ rest)) command (codes "read") _ _ _ refl (λ is. rw is (read_judged h seen who rest (only who (codes "read") rest))) (λ read.
+    row (Judged h seen (who ∷ command ∷ rest)) command (codes "write") _ _ _ refl (λ is. rw is (write_judged h seen who rest (only who (codes "write") rest))) (λ write.
+    row (Judged h seen (who ∷ command ∷ rest)) command (codes "add") _ _ _ refl (λ is. rw is (add_judged h seen who rest (only who (codes "add") rest))) (λ add.
+    row (Judged h seen (who ∷ command ∷ rest)) command (codes "slot") _ _ _ refl (λ is. rw is (slot_judged h seen who rest (only who (codes "slot") rest))) (λ slot.
+    none h (who ∷ command ∷ rest) (λ a form. rw (other_word command (codes "read") read, other_word command (codes "write") write, other_word command (codes "add") add, other_word command (codes "slot") slot)
+    at (only who command rest a form).1)))))
+
+pub by_form_judged : (h : Header) (seen : ℕ → Bool) (words : List (List ℕ)) → Judged h seen words (by_form h seen words)
+unfolding by_form
+by_form_judged h seen [] = none h [] (λ a form. let (command, rest, e, is) = has_row [] a form in cc)
+by_form_judged h seen (w ∷ []) = none h (w ∷ []) (λ a form. let (command, rest, e, is) = has_row (w ∷ []) a form in cc)
+by_form_judged h seen (who ∷ command ∷ rest) = by_command_judged h seen who command rest
+
+-- What the words of a form say is read.
+pub reads : (h : Header) (seen : ℕ → Bool) (words : List (List ℕ)) (a : Actor) (c : Command) → h.vcpus ≤ 16 → h.words ≤ 8 → IsCommandOf h a c → AreCommandWords seen words a c → by_form h seen words ≡ Ok (a, c)
+reads h seen words (Vcpu i) (Access gfn word op) vcpus few range are = access_reads h seen words i gfn word op vcpus few range are
+reads h seen words Manager (SetSlot id s) vcpus few range are = slot_reads h seen words id s range are
+reads h seen words _ _ vcpus few range are = absurd are
+
+-- Words that say a command are of a form of its actor.
+pub command_form : (ids : ℕ → Bool) (words : List (List ℕ)) (a : Actor) (c : Command) → AreCommandWords ids words a c → IsCommandForm words a
+command_form ids words (Vcpu i) (Access gfn word op) are = access_form ids words i gfn word op are
+command_form ids words Manager (SetSlot id s) are = slot_line_form ids words id s are
+command_form ids words _ _ are = absurd are
+
+-- They are words.
+pub command_words : (ids : ℕ → Bool) (words : List (List ℕ)) (a : Actor) (c : Command) → IsActor a → AreCommandWords ids words a c → AreWords words
+command_words ids words (Vcpu i) (Access gfn word op) le are = access_plain ids words i gfn word op le are
+command_words ids words Manager (SetSlot id s) le are = slot_plain ids words id s are
+command_words ids words _ _ le are = absurd are
+
+-- An actor that makes a command is declared.
+pub commanding : (h : Header) (a : Actor) (c : Command) → h.vcpus ≤ 16 → IsCommandOf h a c → IsActor a × IsDeclared h a
+commanding h (Vcpu i) (Access gfn word op) few range = (omega (arith, range.0), range.0)
+commanding h Manager (SetSlot id s) few range = (tt, tt)
+commanding h _ _ few range = absurd range
+
+-- An ID that a slot was set at is none.
+abbrev pub IsNewId : (ℕ → Bool) → Option ℕ → Type 0
+IsNewId ids None = Unit {0}
+IsNewId ids (Some id) = ids id ≡ false
+
+pub new_id : (ids : ℕ → Bool) (words : List (List ℕ)) (a : Actor) (c : Command) → AreCommandWords ids words a c → IsNewId ids (slot_id c)
+new_id ids words Manager (SetSlot id s) are = are.4
+new_id ids words (Vcpu i) (Access gfn word op) are = tt
+new_id ids words _ _ are = absurd are
+
+-- this ID, if it is there, in front of these
+abbrev pub or_id : Option ℕ → List ℕ → List ℕ
+or_id None ids = ids
+or_id (Some id) ids = id ∷ ids
+
+pub slot_id_first : (c : Command) (ids : List ℕ) → or_slot_id c ids ≡ or_id (slot_id c) ids
+slot_id_first (SetSlot id s) ids = refl
+slot_id_first _ ids = refl

@@ -1,0 +1,55 @@
+-- The words of an actor's line judged: what they say, or why they say nothing.
+use Rattle.std.proofs.Common.{◌≡◌, ℕ, List, Bool, true, false, cond, Ok, Err, refl}
+use Rattle.std.specs.Str.{bytes_eq}
+use Rattle.core_views.specs.Traces.{IsCommandOf}
+use Rattle.core_views.specs.declared.actor.Actor.{Actor}
+use Rattle.core_views.specs.declared.trace.Command.{Command}
+use Rattle.core_views.specs.declared.trace.Header.{Header}
+use Rattle.trace_reader.specs.declared.reason.Reason.{Reason}
+use Rattle.trace_reader.specs.declared.reason.Reason.TheVariants as reason
+use Rattle.trace_reader.specs.Forms.{Said}
+use Rattle.trace_reader.specs.Grammar.{AreCommandWords, IsCommandForm, IsActor, IsDeclared}
+use Rattle.trace_reader.proofs.Operands.{IsNumber}
+use Rattle.trace_reader.proofs.Results.{differs, word_is}
+
+-- The words say this actor and command.
+abbrev pub IsPairSaid : Header → (ℕ → Bool) → List (List ℕ) → Actor × Command → Type 0
+IsPairSaid h seen words p = IsCommandOf h p.0 p.1 × AreCommandWords seen words p.0 p.1
+
+-- Why words say nothing.
+abbrev pub Why : Header → List (List ℕ) → Reason → Type 0
+Why h words reason.Word = (a : Actor) → IsCommandForm words a → IsActor a → ⊥
+Why h words reason.Actor = (a : Actor) × IsCommandForm words a × IsActor a × (IsDeclared h a → ⊥)
+Why h words reason.Number = (a : Actor) × IsCommandForm words a × IsActor a × IsDeclared h a
+Why h words _ = ⊥
+
+-- An error of it tells why the words say nothing.
+abbrev pub Tells : Header → List (List ℕ) → Said → Type 0
+Tells h words (Ok p) = Unit {0}
+Tells h words (Err r) = Why h words r
+
+-- The words are of no form.
+abbrev pub Formless : List (List ℕ) → Type 0
+Formless words = (a : Actor) → IsCommandForm words a → ⊥
+
+pub none : (h : Header) (words : List (List ℕ)) → Formless words → Tells h words (Err reason.Word)
+none h words never = λ a form is. never a form
+
+-- A declared actor's words of a form are refused for a number only.
+pub numbers : (h : Header) (words : List (List ℕ)) (a : Actor) (r : Said) → IsCommandForm words a → IsActor a → IsDeclared h a → IsNumber r → Tells h words r
+numbers h words a (Ok p) form is known number = tt
+numbers h words a (Err r) form is known number = rw number (a, form, is, known)
+
+-- What words say, or why they say nothing.
+abbrev pub Judged : Header → (ℕ → Bool) → List (List ℕ) → Said → Type 0
+Judged h seen words (Ok p) = IsPairSaid h seen words p
+Judged h seen words (Err r) = Why h words r
+
+pub judged : (h : Header) (seen : ℕ → Bool) (words : List (List ℕ)) (x : Said) → ((p : Actor × Command) → x ≡ Ok p → IsPairSaid h seen words p) → Tells h words x → Judged h seen words x
+judged h seen words (Ok p) found why = found p refl
+judged h seen words (Err r) found why = why
+
+-- A row of a table: what stands there where the word is its word, and else the rows after it.
+pub row : (P : Said → Type 0) (word name : List ℕ) (b : Bool) (x y : Said) → bytes_eq word name ≡ b → (word ≡ name → P x) → ((word ≡ name → ⊥) → P y) → P (cond b x y)
+row P word name true x y e is other = is (word_is word name e)
+row P word name false x y e is other = other (differs word name e)
