@@ -45,7 +45,8 @@ unnamed w (Worker i) never is vcpu le = vcpu
 
 -- Why an access is refused: its first word is looked at, then the numbers.
 access_why : (h : Header) (words : List (List ℕ)) (who : List ℕ) (r : Result ℕ Reason) (f : ℕ → Said) → Names 118 15 h.vcpus who r
-    → ((i : ℕ) → who ≡ 118 ∷ decimal i → IsCommandForm words (Vcpu i)) → ((a : Actor) → IsCommandForm words a → (who ≡ actor_name a) × IsVcpu a) → ((i : ℕ) → IsNumber (f i)) → Tells h words (r >>= f)
+    → ((i : ℕ) → who ≡ 118 ∷ decimal i → IsCommandForm words (Vcpu i)) → ((a : Actor) → IsCommandForm words a → (who ≡ actor_name a) × IsVcpu a)
+    → ((i : ℕ) → IsNumber (f i)) → Tells h words (r >>= f)
 access_why h words who (Ok i) f (le, lt, is) form only number = numbers h words (Vcpu i) (f i) (form i is) le lt (number i)
 access_why h words who (Err reason.Word) f never form only number = λ a has le. let (is, vcpu) = only a has in unnamed who a never is vcpu le
 access_why h words who (Err reason.Actor) f (i, le, never, is) form only number = (Vcpu i, form i is, le, never)
@@ -54,15 +55,18 @@ access_why h words who (Err _) f never form only number = absurd never
 read_why : (h : Header) (who : List ℕ) (rest : List (List ℕ)) → Only who (codes "read") rest IsOne → Tells h (who ∷ codes "read" ∷ rest) (read_form h who rest)
 unfolding read_form
 read_why h who (x ∷ []) only =
-    access_why h (who ∷ codes "read" ∷ x ∷ []) who (vcpu h who) _ (vcpu_names h who) (λ i name. inl (x, rw name refl)) (λ a form. let (is, (vcpu, (y, e))) = only a form in (is, vcpu))
+    access_why h (who ∷ codes "read" ∷ x ∷ []) who (vcpu h who) _ (vcpu_names h who) (λ i name. inl (x, rw name refl))
+    (λ a form. let (is, (vcpu, (y, e))) = only a form in (is, vcpu))
     (λ n. bound (address h x) _ (address_number h x) (λ a. tt))
 read_why h who [] only = none h (who ∷ codes "read" ∷ []) (λ a form. let (is, (vcpu, (y, e))) = only a form in cc)
 read_why h who (x ∷ y ∷ more) only = none h (who ∷ codes "read" ∷ x ∷ y ∷ more) (λ a form. let (is, (vcpu, (z, e))) = only a form in cc)
 
-write_why : (h : Header) (who : List ℕ) (rest : List (List ℕ)) → Only who (codes "write") rest AreTwo → Tells h (who ∷ codes "write" ∷ rest) (write_form h who rest)
+write_why : (h : Header) (who : List ℕ) (rest : List (List ℕ)) → Only who (codes "write") rest AreTwo
+    → Tells h (who ∷ codes "write" ∷ rest) (write_form h who rest)
 unfolding write_form
 write_why h who (x ∷ y ∷ []) only =
-    access_why h (who ∷ codes "write" ∷ x ∷ y ∷ []) who (vcpu h who) _ (vcpu_names h who) (λ i name. inr (inl (x, y, rw name refl))) (λ a form. let (is, (vcpu, (z, u, e))) = only a form in (is, vcpu))
+    access_why h (who ∷ codes "write" ∷ x ∷ y ∷ []) who (vcpu h who) _ (vcpu_names h who) (λ i name. inr (inl (x, y, rw name refl)))
+    (λ a form. let (is, (vcpu, (z, u, e))) = only a form in (is, vcpu))
     (λ n. bound (address h x) _ (address_number h x) (λ a. bound (number y) _ (number_number y) (λ v. tt)))
 write_why h who [] only = none h (who ∷ codes "write" ∷ []) (λ a form. let (is, (vcpu, (z, u, e))) = only a form in cc)
 write_why h who (x ∷ []) only = none h (who ∷ codes "write" ∷ x ∷ []) (λ a form. let (is, (vcpu, (z, u, e))) = only a form in cc)
@@ -71,14 +75,16 @@ write_why h who (x ∷ y ∷ v ∷ more) only = none h (who ∷ codes "write" �
 add_why : (h : Header) (who : List ℕ) (rest : List (List ℕ)) → Only who (codes "add") rest AreTwo → Tells h (who ∷ codes "add" ∷ rest) (add_form h who rest)
 unfolding add_form
 add_why h who (x ∷ y ∷ []) only =
-    access_why h (who ∷ codes "add" ∷ x ∷ y ∷ []) who (vcpu h who) _ (vcpu_names h who) (λ i name. inr (inr (x, y, rw name refl))) (λ a form. let (is, (vcpu, (z, u, e))) = only a form in (is, vcpu))
+    access_why h (who ∷ codes "add" ∷ x ∷ y ∷ []) who (vcpu h who) _ (vcpu_names h who) (λ i name. inr (inr (x, y, rw name refl)))
+    (λ a form. let (is, (vcpu, (z, u, e))) = only a form in (is, vcpu))
     (λ n. bound (address h x) _ (address_number h x) (λ a. bound (number y) _ (number_number y) (λ v. tt)))
 add_why h who [] only = none h (who ∷ codes "add" ∷ []) (λ a form. let (is, (vcpu, (z, u, e))) = only a form in cc)
 add_why h who (x ∷ []) only = none h (who ∷ codes "add" ∷ x ∷ []) (λ a form. let (is, (vcpu, (z, u, e))) = only a form in cc)
 add_why h who (x ∷ y ∷ v ∷ more) only = none h (who ∷ codes "add" ∷ x ∷ y ∷ v ∷ more) (λ a form. let (is, (vcpu, (z, u, e))) = only a form in cc)
 
 -- What is read is said.
-access_found : (h : Header) (seen : ℕ → Bool) (who x : List ℕ) (words : List (List ℕ)) (p : Actor × Command) (f : ℕ → ℕ × ℕ → Said) → (vcpu h who >>= λ n. address h x >>= λ a. f n a) ≡ Ok p
+access_found : (h : Header) (seen : ℕ → Bool) (who x : List ℕ) (words : List (List ℕ)) (p : Actor × Command) (f : ℕ → ℕ × ℕ → Said)
+    → (vcpu h who >>= λ n. address h x >>= λ a. f n a) ≡ Ok p
     → ((i gfn word : ℕ) → who ≡ 118 ∷ decimal i → i < h.vcpus → Spells x (4096 * gfn + 8 * word) → gfn < 2 ^ 36 → word < h.words → f i (gfn, word) ≡ Ok p → IsPairSaid h seen words p) → IsPairSaid h seen words p
 access_found h seen who x words p f e found =
     then_ok (vcpu h who) _ p e (λ i is_i e1.
@@ -87,7 +93,8 @@ access_found h seen who x words p f e found =
     let at = address_found h x a is_a in
     found i a.0 a.1 v.0 v.1 at.0 at.1 at.2 e2))
 
-read_found : (h : Header) (seen : ℕ → Bool) (who : List ℕ) (rest : List (List ℕ)) (p : Actor × Command) → read_form h who rest ≡ Ok p → IsPairSaid h seen (who ∷ codes "read" ∷ rest) p
+read_found : (h : Header) (seen : ℕ → Bool) (who : List ℕ) (rest : List (List ℕ)) (p : Actor × Command) → read_form h who rest ≡ Ok p
+    → IsPairSaid h seen (who ∷ codes "read" ∷ rest) p
 unfolding read_form
 read_found h seen who (x ∷ []) p e = access_found h seen who x (who ∷ codes "read" ∷ x ∷ []) p _ e (λ i gfn word name known s low small e1.
     let same : (Vcpu i, Access gfn word Read) ≡ p = cc in
@@ -95,7 +102,8 @@ read_found h seen who (x ∷ []) p e = access_found h seen who x (who ∷ codes 
 read_found h seen who [] p e = absurd (let no : ⊥ = cc in no)
 read_found h seen who (x ∷ y ∷ more) p e = absurd (let no : ⊥ = cc in no)
 
-write_found : (h : Header) (seen : ℕ → Bool) (who : List ℕ) (rest : List (List ℕ)) (p : Actor × Command) → write_form h who rest ≡ Ok p → IsPairSaid h seen (who ∷ codes "write" ∷ rest) p
+write_found : (h : Header) (seen : ℕ → Bool) (who : List ℕ) (rest : List (List ℕ)) (p : Actor × Command) → write_form h who rest ≡ Ok p
+    → IsPairSaid h seen (who ∷ codes "write" ∷ rest) p
 unfolding write_form
 write_found h seen who (x ∷ y ∷ []) p e = access_found h seen who x (who ∷ codes "write" ∷ x ∷ y ∷ []) p _ e (λ i gfn word name known s low small e1.
     then_ok (number y) _ p e1 (λ k is_k e2.
@@ -105,7 +113,8 @@ write_found h seen who [] p e = absurd (let no : ⊥ = cc in no)
 write_found h seen who (x ∷ []) p e = absurd (let no : ⊥ = cc in no)
 write_found h seen who (x ∷ y ∷ v ∷ more) p e = absurd (let no : ⊥ = cc in no)
 
-add_found : (h : Header) (seen : ℕ → Bool) (who : List ℕ) (rest : List (List ℕ)) (p : Actor × Command) → add_form h who rest ≡ Ok p → IsPairSaid h seen (who ∷ codes "add" ∷ rest) p
+add_found : (h : Header) (seen : ℕ → Bool) (who : List ℕ) (rest : List (List ℕ)) (p : Actor × Command) → add_form h who rest ≡ Ok p
+    → IsPairSaid h seen (who ∷ codes "add" ∷ rest) p
 unfolding add_form
 add_found h seen who (x ∷ y ∷ []) p e = access_found h seen who x (who ∷ codes "add" ∷ x ∷ y ∷ []) p _ e (λ i gfn word name known s low small e1.
     then_ok (number y) _ p e1 (λ k is_k e2.
@@ -115,17 +124,22 @@ add_found h seen who [] p e = absurd (let no : ⊥ = cc in no)
 add_found h seen who (x ∷ []) p e = absurd (let no : ⊥ = cc in no)
 add_found h seen who (x ∷ y ∷ v ∷ more) p e = absurd (let no : ⊥ = cc in no)
 
-pub read_judged : (h : Header) (seen : ℕ → Bool) (who : List ℕ) (rest : List (List ℕ)) → Only who (codes "read") rest IsOne → Judged h seen (who ∷ codes "read" ∷ rest) (read_form h who rest)
+pub read_judged : (h : Header) (seen : ℕ → Bool) (who : List ℕ) (rest : List (List ℕ)) → Only who (codes "read") rest IsOne
+    → Judged h seen (who ∷ codes "read" ∷ rest) (read_form h who rest)
 read_judged h seen who rest only = judged h seen (who ∷ codes "read" ∷ rest) (read_form h who rest) (read_found h seen who rest) (read_why h who rest only)
 
-pub write_judged : (h : Header) (seen : ℕ → Bool) (who : List ℕ) (rest : List (List ℕ)) → Only who (codes "write") rest AreTwo → Judged h seen (who ∷ codes "write" ∷ rest) (write_form h who rest)
+pub write_judged : (h : Header) (seen : ℕ → Bool) (who : List ℕ) (rest : List (List ℕ)) → Only who (codes "write") rest AreTwo
+    → Judged h seen (who ∷ codes "write" ∷ rest) (write_form h who rest)
 write_judged h seen who rest only = judged h seen (who ∷ codes "write" ∷ rest) (write_form h who rest) (write_found h seen who rest) (write_why h who rest only)
 
-pub add_judged : (h : Header) (seen : ℕ → Bool) (who : List ℕ) (rest : List (List ℕ)) → Only who (codes "add") rest AreTwo → Judged h seen (who ∷ codes "add" ∷ rest) (add_form h who rest)
+pub add_judged : (h : Header) (seen : ℕ → Bool) (who : List ℕ) (rest : List (List ℕ)) → Only who (codes "add") rest AreTwo
+    → Judged h seen (who ∷ codes "add" ∷ rest) (add_form h who rest)
 add_judged h seen who rest only = judged h seen (who ∷ codes "add" ∷ rest) (add_form h who rest) (add_found h seen who rest) (add_why h who rest only)
 
 -- What the words of an access say is read.
-pub access_reads : (h : Header) (seen : ℕ → Bool) (words : List (List ℕ)) (i gfn word : ℕ) (op : Op) → h.vcpus ≤ 16 → h.words ≤ 8 → IsCommandOf h (Vcpu i) (Access gfn word op) → AreCommandWords seen words (Vcpu i) (Access gfn word op) → by_form h seen words ≡ Ok (Vcpu i, Access gfn word op)
+pub access_reads : (h : Header) (seen : ℕ → Bool) (words : List (List ℕ)) (i gfn word : ℕ) (op : Op) → h.vcpus ≤ 16 → h.words ≤ 8
+    → IsCommandOf h (Vcpu i) (Access gfn word op) → AreCommandWords seen words (Vcpu i) (Access gfn word op)
+    → by_form h seen words ≡ Ok (Vcpu i, Access gfn word op)
 unfolding by_form by_command read_form write_form add_form
 access_reads h seen words i gfn word Read vcpus few (known, low, small) (x, e, s) =
     rw (e, vcpu_named h i known vcpus, address_spelled h x gfn word s low small few) refl
@@ -135,12 +149,14 @@ access_reads h seen words i gfn word (Add v) vcpus few (known, low, small) (x, y
     rw (e, vcpu_named h i known vcpus, address_spelled h x gfn word s low small few, number_spelled y v t) refl
 
 -- They are of its form, and words.
-pub access_form : (seen : ℕ → Bool) (words : List (List ℕ)) (i gfn word : ℕ) (op : Op) → AreCommandWords seen words (Vcpu i) (Access gfn word op) → IsAccessForm i words
+pub access_form : (seen : ℕ → Bool) (words : List (List ℕ)) (i gfn word : ℕ) (op : Op) → AreCommandWords seen words (Vcpu i) (Access gfn word op)
+    → IsAccessForm i words
 access_form seen words i gfn word Read (x, is, s) = inl (x, is)
 access_form seen words i gfn word (Write v) (x, y, is, s, t) = inr (inl (x, y, is))
 access_form seen words i gfn word (Add v) (x, y, is, s, t) = inr (inr (x, y, is))
 
-pub access_plain : (seen : ℕ → Bool) (words : List (List ℕ)) (i gfn word : ℕ) (op : Op) → i ≤ 15 → AreCommandWords seen words (Vcpu i) (Access gfn word op) → AreWords words
+pub access_plain : (seen : ℕ → Bool) (words : List (List ℕ)) (i gfn word : ℕ) (op : Op) → i ≤ 15 → AreCommandWords seen words (Vcpu i) (Access gfn word op)
+    → AreWords words
 access_plain seen words i gfn word Read le (x, is, s) =
     rw is (actor_word (Vcpu i) le, (text_word (codes "read") (omega arith) refl, (spelled_word x _ s, tt)))
 access_plain seen words i gfn word (Write v) le (x, y, is, s, t) =

@@ -57,15 +57,25 @@ only who command rest a form =
     (name, row_same command other rest more a same after is)
 
 -- What words of an actor's line give is what they say, or why they say nothing.
-by_command_judged : (h : Header) (seen : ℕ → Bool) (who command : List ℕ) (rest : List (List ℕ)) → Judged h seen (who ∷ command ∷ rest) (by_command h seen who command rest)
+by_command_judged : (h : Header) (seen : ℕ → Bool) (who command : List ℕ) (rest : List (List ℕ))
+    → Judged h seen (who ∷ command ∷ rest) (by_command h seen who command rest)
 unfolding by_command
 by_command_judged h seen who command rest =
-    row (Judged h seen (who ∷ command ∷ rest)) command (codes "read") _ _ _ refl (λ is. rw is (read_judged h seen who rest (only who (codes "read") rest))) (λ read.
-    row (Judged h seen (who ∷ command ∷ rest)) command (codes "write") _ _ _ refl (λ is. rw is (write_judged h seen who rest (only who (codes "write") rest))) (λ write.
-    row (Judged h seen (who ∷ command ∷ rest)) command (codes "add") _ _ _ refl (λ is. rw is (add_judged h seen who rest (only who (codes "add") rest))) (λ add.
-    row (Judged h seen (who ∷ command ∷ rest)) command (codes "slot") _ _ _ refl (λ is. rw is (slot_judged h seen who rest (only who (codes "slot") rest))) (λ slot.
-    none h (who ∷ command ∷ rest) (λ a form. rw (other_word command (codes "read") read, other_word command (codes "write") write, other_word command (codes "add") add, other_word command (codes "slot") slot)
-    at (only who command rest a form).1)))))
+    row (Judged h seen (who ∷ command ∷ rest)) command (codes "read") _ _ _ refl
+    (λ is. rw is (read_judged h seen who rest (only who (codes "read") rest))) (λ read.
+    row (Judged h seen (who ∷ command ∷ rest)) command (codes "write") _ _ _ refl
+    (λ is. rw is (write_judged h seen who rest (only who (codes "write") rest))) (λ write.
+    row (Judged h seen (who ∷ command ∷ rest)) command (codes "add") _ _ _ refl
+    (λ is. rw is (add_judged h seen who rest (only who (codes "add") rest))) (λ add.
+    row (Judged h seen (who ∷ command ∷ rest)) command (codes "slot") _ _ _ refl
+    (λ is. rw is (slot_judged h seen who rest (only who (codes "slot") rest))) (λ slot.
+    none h (who ∷ command ∷ rest) (λ a form.
+    let no : ⊥ = rw (
+      other_word command (codes "read") read,
+      other_word command (codes "write") write,
+      other_word command (codes "add") add,
+      other_word command (codes "slot") slot,
+    ) at (only who command rest a form).1 in no)))))
 
 pub by_form_judged : (h : Header) (seen : ℕ → Bool) (words : List (List ℕ)) → Judged h seen words (by_form h seen words)
 unfolding by_form
@@ -74,7 +84,8 @@ by_form_judged h seen (w ∷ []) = none h (w ∷ []) (λ a form. let (command, r
 by_form_judged h seen (who ∷ command ∷ rest) = by_command_judged h seen who command rest
 
 -- What the words of a form say is read.
-pub reads : (h : Header) (seen : ℕ → Bool) (words : List (List ℕ)) (a : Actor) (c : Command) → h.vcpus ≤ 16 → h.words ≤ 8 → IsCommandOf h a c → AreCommandWords seen words a c → by_form h seen words ≡ Ok (a, c)
+pub reads : (h : Header) (seen : ℕ → Bool) (words : List (List ℕ)) (a : Actor) (c : Command) → h.vcpus ≤ 16 → h.words ≤ 8 → IsCommandOf h a c
+    → AreCommandWords seen words a c → by_form h seen words ≡ Ok (a, c)
 reads h seen words (Vcpu i) (Access gfn word op) vcpus few range are = access_reads h seen words i gfn word op vcpus few range are
 reads h seen words Manager (SetSlot id s) vcpus few range are = slot_reads h seen words id s range are
 reads h seen words _ _ vcpus few range are = absurd are

@@ -45,11 +45,13 @@ abbrev pub Judged : Header → (ℕ → Bool) → List (List ℕ) → Said → T
 Judged h seen words (Ok p) = IsPairSaid h seen words p
 Judged h seen words (Err r) = Why h words r
 
-pub judged : (h : Header) (seen : ℕ → Bool) (words : List (List ℕ)) (x : Said) → ((p : Actor × Command) → x ≡ Ok p → IsPairSaid h seen words p) → Tells h words x → Judged h seen words x
+pub judged : (h : Header) (seen : ℕ → Bool) (words : List (List ℕ)) (x : Said) → ((p : Actor × Command) → x ≡ Ok p → IsPairSaid h seen words p)
+    → Tells h words x → Judged h seen words x
 judged h seen words (Ok p) found why = found p refl
 judged h seen words (Err r) found why = why
 
 -- A row of a table: what stands there where the word is its word, and else the rows after it.
-pub row : (P : Said → Type 0) (word name : List ℕ) (b : Bool) (x y : Said) → bytes_eq word name ≡ b → (word ≡ name → P x) → ((word ≡ name → ⊥) → P y) → P (cond b x y)
+pub row : (P : Said → Type 0) (word name : List ℕ) (b : Bool) (x y : Said) → bytes_eq word name ≡ b → (word ≡ name → P x) → ((word ≡ name → ⊥) → P y)
+    → P (cond b x y)
 row P word name true x y e is other = is (word_is word name e)
 row P word name false x y e is other = other (differs word name e)

@@ -24,13 +24,15 @@ pub number_spelled : (w : List ℕ) (n : ℕ) → Spells w n → number w ≡ Ok
 unfolding number
 number_spelled w n s = rw (spelled w n s) refl
 
-accessed : (words gfn word a : ℕ) → a ≡ 4096 * gfn + 8 * word → gfn < 2 ^ 36 → word < words → words ≤ 8 → (is_address words a ≡ true) × (a / 4096 ≡ gfn) × (a % 4096 / 8 ≡ word)
+accessed : (words gfn word a : ℕ) → a ≡ 4096 * gfn + 8 * word → gfn < 2 ^ 36 → word < words → words ≤ 8
+    → (is_address words a ≡ true) × (a / 4096 ≡ gfn) × (a % 4096 / 8 ≡ word)
 accessed words gfn word a is low known few =
     let rest : a % 4096 ≡ 8 * word = omega arith in
     let even : a % 8 ≡ 0 = omega arith in
     (grind (arith, nat_tests), omega arith, omega arith)
 
-pub address_spelled : (h : Header) (w : List ℕ) (gfn word : ℕ) → Spells w (4096 * gfn + 8 * word) → gfn < 2 ^ 36 → word < h.words → h.words ≤ 8 → address h w ≡ Ok (gfn, word)
+pub address_spelled : (h : Header) (w : List ℕ) (gfn word : ℕ) → Spells w (4096 * gfn + 8 * word) → gfn < 2 ^ 36 → word < h.words → h.words ≤ 8
+    → address h w ≡ Ok (gfn, word)
 unfolding address
 address_spelled h w gfn word s low known few =
     let a = accessed h.words gfn word (4096 * gfn + 8 * word) refl low known few in
@@ -61,7 +63,8 @@ pub number_found : (w : List ℕ) (n : ℕ) → number w ≡ Ok n → Spells w n
 unfolding number
 number_found w n e = spelling w n (some_number (number_of w) n e)
 
-split_address : (words a gfn word : ℕ) → is_address words a ≡ true → a / 4096 ≡ gfn → a % 4096 / 8 ≡ word → (a ≡ 4096 * gfn + 8 * word) × (gfn < 2 ^ 36) × (word < words)
+split_address : (words a gfn word : ℕ) → is_address words a ≡ true → a / 4096 ≡ gfn → a % 4096 / 8 ≡ word
+    → (a ≡ 4096 * gfn + 8 * word) × (gfn < 2 ^ 36) × (word < words)
 split_address words a gfn word is page at =
     let low : a < 2 ^ 48 = grind (arith, nat_tests, is) in
     let even : a % 8 ≡ 0 = grind (arith, nat_tests, is) in

@@ -31,7 +31,8 @@ filled w lt = grind (arith, nat_tests)
 -- Words with one space between each two are cut into these words.
 pub words_spaced : (w : List ℕ) (ws : List (List ℕ)) → AreWords (w ∷ ws) → words_of (spaced (w ∷ ws)) ≡ w ∷ ws
 words_spaced w [] are = slice_split_none (λ (b : ℕ). b == 32) w (no_spaces w are.0.plain)
-words_spaced w (v ∷ ws) are = slice_split_at (λ (b : ℕ). b == 32) w 32 (spaced (v ∷ ws)) (no_spaces w are.0.plain) refl ∙ ap (λ (l : List (List ℕ)). w ∷ l) (words_spaced v ws are.1)
+words_spaced w (v ∷ ws) are =
+    slice_split_at (λ (b : ℕ). b == 32) w 32 (spaced (v ∷ ws)) (no_spaces w are.0.plain) refl ∙ ap (λ (l : List (List ℕ)). w ∷ l) (words_spaced v ws are.1)
 
 pub none_empty : (ws : List (List ℕ)) → AreWords ws → list_any is_empty ws ≡ false
 none_empty [] are = refl

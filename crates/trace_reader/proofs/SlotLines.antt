@@ -34,14 +34,16 @@ Only who rest = (a : Actor) → IsCommandForm (who ∷ codes "slot" ∷ rest) a 
 
 slot_number : (x y z : List ℕ) (ro : Bool) → IsNumber (slot x y z ro)
 unfolding slot
-slot_number x y z ro = bound (number x) _ (number_number x) (λ b. bound (number y) _ (number_number y) (λ p. bound (number z) _ (number_number z) (λ k. fits (is_slot b p k) _)))
+slot_number x y z ro =
+    bound (number x) _ (number_number x) (λ b. bound (number y) _ (number_number y) (λ p. bound (number z) _ (number_number z) (λ k. fits (is_slot b p k) _)))
 
 new_or_number : (b : Bool) (n : ℕ) → IsNumber (new_number b n)
 new_or_number true n = refl
 new_or_number false n = tt
 
 -- A slot line's words: its numbers are looked at.
-setting_why : (h : Header) (seen : ℕ → Bool) (words : List (List ℕ)) (i x y z : List ℕ) (ro : Bool) → IsCommandForm words Manager → Tells h words (setting seen i x y z ro)
+setting_why : (h : Header) (seen : ℕ → Bool) (words : List (List ℕ)) (i x y z : List ℕ) (ro : Bool) → IsCommandForm words Manager
+    → Tells h words (setting seen i x y z ro)
 unfolding setting
 setting_why h seen words i x y z ro form =
     numbers h words Manager _ form tt tt
@@ -56,10 +58,13 @@ last_is : (i b p k last : List ℕ) → AreSetting (i ∷ b ∷ p ∷ k ∷ last
 last_is i b p k last (j, c, q, l, true, e) = cc
 last_is i b p k last (j, c, q, l, false, e) = absurd (let no : ⊥ = cc in no)
 
-other_count : (h : Header) (rest : List (List ℕ)) → Only (codes "vm") rest → (length rest ≡ 4 → ⊥) → (length rest ≡ 5 → ⊥) → Tells h (codes "vm" ∷ codes "slot" ∷ rest) (Err reason.Word)
-other_count h rest only four five = none h (codes "vm" ∷ codes "slot" ∷ rest) (λ a form. let (is, (manager, set)) = only a form in elim (counted rest set) [ inl n ↦ four n | inr n ↦ five n ])
+other_count : (h : Header) (rest : List (List ℕ)) → Only (codes "vm") rest → (length rest ≡ 4 → ⊥) → (length rest ≡ 5 → ⊥)
+    → Tells h (codes "vm" ∷ codes "slot" ∷ rest) (Err reason.Word)
+other_count h rest only four five =
+    none h (codes "vm" ∷ codes "slot" ∷ rest) (λ a form. let (is, (manager, set)) = only a form in elim (counted rest set) [ inl n ↦ four n | inr n ↦ five n ])
 
-setting_form_why : (h : Header) (seen : ℕ → Bool) (rest : List (List ℕ)) → Only (codes "vm") rest → Tells h (codes "vm" ∷ codes "slot" ∷ rest) (setting_form seen rest)
+setting_form_why : (h : Header) (seen : ℕ → Bool) (rest : List (List ℕ)) → Only (codes "vm") rest
+    → Tells h (codes "vm" ∷ codes "slot" ∷ rest) (setting_form seen rest)
 setting_form_why h seen (i ∷ b ∷ p ∷ k ∷ []) only = setting_why h seen (codes "vm" ∷ codes "slot" ∷ i ∷ b ∷ p ∷ k ∷ []) i b p k false (i, b, p, k, false, refl)
 setting_form_why h seen (i ∷ b ∷ p ∷ k ∷ last ∷ []) only =
     row (Tells h (codes "vm" ∷ codes "slot" ∷ i ∷ b ∷ p ∷ k ∷ last ∷ [])) last (codes "ro") (bytes_eq last (codes "ro")) _ _ refl
@@ -84,8 +89,12 @@ slot_why h seen who rest only = row (Tells h (who ∷ codes "slot" ∷ rest)) wh
     (λ other. none h (who ∷ codes "slot" ∷ rest) (λ a form. let (is, (manager, set)) = only a form in other (named_vm who a is manager)))
 
 -- What is read is said.
-slot_in_range : (base pages host : ℕ) (ro : Bool) → is_slot base pages host ≡ true → IsSlotInRange (record { base = base; pages = pages; host = host; read_only = ro })
-slot_in_range base pages host ro is = record { some = grind (arith, nat_tests, is); pages = grind (arith, nat_tests, is); base = grind (arith, nat_tests, is); host = grind (arith, nat_tests, is); aligned = grind (arith, nat_tests, is) }
+slot_in_range : (base pages host : ℕ) (ro : Bool) → is_slot base pages host ≡ true
+    → IsSlotInRange (record { base = base; pages = pages; host = host; read_only = ro })
+slot_in_range base pages host ro is =
+    let by : (1 ≤ pages) × (pages < 2 ^ 36) × (base < 2 ^ 36) × (host < 2 ^ 36) × (host % 64 ≡ 0) =
+    (grind (arith, nat_tests, is), grind (arith, nat_tests, is), grind (arith, nat_tests, is), grind (arith, nat_tests, is), grind (arith, nat_tests, is)) in
+    record { some = by.0; pages = by.1; base = by.2; host = by.3; aligned = by.4 }
 
 abbrev IsSlotSaid : List ℕ → List ℕ → List ℕ → Bool → Slot → Type 0
 IsSlotSaid x y z ro s = IsSlotInRange s × (s.read_only ≡ ro) × Spells x s.base × Spells y s.pages × Spells z s.host
@@ -120,7 +129,8 @@ setting_found seen i x y z ro p e =
     let same : p ≡ (Manager, SetSlot n s) = cc in
     (n, s, same, new.0, number_found i n is_n, slot_found x y z ro s is_s))))
 
-setting_form_found : (h : Header) (seen : ℕ → Bool) (rest : List (List ℕ)) (p : Actor × Command) → setting_form seen rest ≡ Ok p → IsPairSaid h seen (codes "vm" ∷ codes "slot" ∷ rest) p
+setting_form_found : (h : Header) (seen : ℕ → Bool) (rest : List (List ℕ)) (p : Actor × Command) → setting_form seen rest ≡ Ok p
+    → IsPairSaid h seen (codes "vm" ∷ codes "slot" ∷ rest) p
 setting_form_found h seen (i ∷ x ∷ y ∷ z ∷ []) p e =
     let (id, s, same, first, n, f) = setting_found seen i x y z false p e in
     rw same (f.0, (i, x, y, z, first, rw f.1 refl, n, f.2, f.3, f.4))
@@ -135,15 +145,18 @@ setting_form_found h seen (i ∷ x ∷ []) p e = absurd (let no : ⊥ = cc in no
 setting_form_found h seen (i ∷ x ∷ y ∷ []) p e = absurd (let no : ⊥ = cc in no)
 setting_form_found h seen (i ∷ x ∷ y ∷ z ∷ l ∷ m ∷ more) p e = absurd (let no : ⊥ = cc in no)
 
-slot_form_found : (h : Header) (seen : ℕ → Bool) (who : List ℕ) (rest : List (List ℕ)) (p : Actor × Command) → slot_form seen who rest ≡ Ok p → IsPairSaid h seen (who ∷ codes "slot" ∷ rest) p
+slot_form_found : (h : Header) (seen : ℕ → Bool) (who : List ℕ) (rest : List (List ℕ)) (p : Actor × Command) → slot_form seen who rest ≡ Ok p
+    → IsPairSaid h seen (who ∷ codes "slot" ∷ rest) p
 unfolding slot_form
 slot_form_found h seen who rest p e = elim (branch (bytes_eq who (codes "vm")) _ _ (Ok p) e) [
   | inl q ↦ rw (word_is who (codes "vm") q.0) (setting_form_found h seen rest p q.1)
   | inr q ↦ absurd (let no : ⊥ = cc in no)
 ]
 
-pub slot_judged : (h : Header) (seen : ℕ → Bool) (who : List ℕ) (rest : List (List ℕ)) → Only who rest → Judged h seen (who ∷ codes "slot" ∷ rest) (slot_form seen who rest)
-slot_judged h seen who rest only = judged h seen (who ∷ codes "slot" ∷ rest) (slot_form seen who rest) (slot_form_found h seen who rest) (slot_why h seen who rest only)
+pub slot_judged : (h : Header) (seen : ℕ → Bool) (who : List ℕ) (rest : List (List ℕ)) → Only who rest
+    → Judged h seen (who ∷ codes "slot" ∷ rest) (slot_form seen who rest)
+slot_judged h seen who rest only =
+    judged h seen (who ∷ codes "slot" ∷ rest) (slot_form seen who rest) (slot_form_found h seen who rest) (slot_why h seen who rest only)
 
 -- What its words say is read.
 slot_fits : (base pages host : ℕ) → 1 ≤ pages → pages < 2 ^ 36 → base < 2 ^ 36 → host < 2 ^ 36 → host % 64 ≡ 0 → is_slot base pages host ≡ true
@@ -154,16 +167,19 @@ unfolding slot
 slot_spelled x y z s a b c fits =
     rw (number_spelled x s.base a, number_spelled y s.pages b, number_spelled z s.host c, slot_fits s.base s.pages s.host fits.some fits.pages fits.base fits.host fits.aligned) refl
 
-setting_spelled : (seen : ℕ → Bool) (i x y z : List ℕ) (id : ℕ) (s : Slot) → seen id ≡ false → Spells i id → Spells x s.base → Spells y s.pages → Spells z s.host → IsSlotInRange s → setting seen i x y z s.read_only ≡ Ok (Manager, SetSlot id s)
+setting_spelled : (seen : ℕ → Bool) (i x y z : List ℕ) (id : ℕ) (s : Slot) → seen id ≡ false → Spells i id → Spells x s.base → Spells y s.pages
+    → Spells z s.host → IsSlotInRange s → setting seen i x y z s.read_only ≡ Ok (Manager, SetSlot id s)
 unfolding setting
 setting_spelled seen i x y z id s first n a b c fits = rw (number_spelled i id n, first, slot_spelled x y z s a b c fits) refl
 
-either_form : (h : Header) (seen : ℕ → Bool) (ro : Bool) (i x y z : List ℕ) → by_form h seen (codes "vm" ∷ codes "slot" ∷ i ∷ x ∷ y ∷ z ∷ ending ro) ≡ setting seen i x y z ro
+either_form : (h : Header) (seen : ℕ → Bool) (ro : Bool) (i x y z : List ℕ)
+    → by_form h seen (codes "vm" ∷ codes "slot" ∷ i ∷ x ∷ y ∷ z ∷ ending ro) ≡ setting seen i x y z ro
 unfolding by_form by_command slot_form
 either_form h seen true i x y z = refl
 either_form h seen false i x y z = refl
 
-pub slot_reads : (h : Header) (seen : ℕ → Bool) (words : List (List ℕ)) (id : ℕ) (s : Slot) → IsSlotInRange s → AreCommandWords seen words Manager (SetSlot id s) → by_form h seen words ≡ Ok (Manager, SetSlot id s)
+pub slot_reads : (h : Header) (seen : ℕ → Bool) (words : List (List ℕ)) (id : ℕ) (s : Slot) → IsSlotInRange s
+    → AreCommandWords seen words Manager (SetSlot id s) → by_form h seen words ≡ Ok (Manager, SetSlot id s)
 slot_reads h seen words id s range (i, x, y, z, first, e, n, a, b, c) =
     rw (e, either_form h seen s.read_only i x y z) (setting_spelled seen i x y z id s first n a b c range)
 
