@@ -8,6 +8,7 @@ pub mod ClaimSeen
 pub mod EachFault
 pub mod EachLine
 pub mod Entries
+pub mod FaultScans
 pub mod FaultWaits
 pub mod FindsOthers
 pub mod MadeSteps

@@ -1,28 +1,22 @@
--- The places at which a line has a scan of the pool's map behind it, and how it comes to one of them.
-use Rattle.std.proofs.Common.{◌≡◌, ◌⊎◌, inl, inr, ◌<◌, ℕ, refl, subst, ap, ◌∙◌}
-use Rattle.std.specs.Prelude.{◌+◌, Bool, true, false, ◌==◌, ◌&&◌, nat_le, nat_lt, not, if◌then◌else◌, Option, Some, None}
+-- The places at which a line has a scan of the pool's map behind it, how it comes to one of them, and that it is starved only there.
+use Rattle.std.proofs.Common.{◌≡◌, ◌⊎◌, inl, inr, ◌<◌, ℕ, refl, subst, ap, ◌∙◌, ◌≤◌, sym}
+use Rattle.std.specs.Prelude.{◌+◌, Bool, true, false, ◌==◌, nat_lt, if◌then◌else◌, Option, Some, None}
 use Rattle.core_views.specs.declared.cache.Translation.{Translation}
 use Rattle.core_views.specs.declared.kind.Kind.{Kind}
 use Rattle.core_views.specs.declared.kind.StepKind.TheVariants as kind
 use Rattle.core_views.specs.declared.place.AccessPlace.{AccessPlace}
 use Rattle.core_views.specs.declared.place.AccessPlace.TheVariants as access
-use Rattle.core_views.specs.declared.place.CheckStage.{CheckStage}
-use Rattle.core_views.specs.declared.place.CheckStage.TheVariants as stage
-use Rattle.core_views.specs.declared.place.FaultEnd.{FaultEnd}
 use Rattle.core_views.specs.declared.place.FaultEnd.TheVariants.{Installed, Mmio, HostFault, Starved, Retry}
 use Rattle.core_views.specs.declared.place.FaultNext.{FaultNext}
 use Rattle.core_views.specs.declared.place.FaultNext.TheVariants as next_of
 use Rattle.core_views.specs.declared.place.FaultPlace.{FaultPlace}
-use Rattle.core_views.specs.declared.place.FaultPlace.TheVariants.{Snapshot, Find, Host, Share, Check, Walk, Claim, Fill, Role, Link, Give, Leaf, Unshare, End}
+use Rattle.core_views.specs.declared.place.FaultPlace.TheVariants.{Claim, End}
 use Rattle.core_views.specs.declared.place.Leaving.TheVariants as leaving
 use Rattle.core_views.specs.declared.place.Place.{Place}
 use Rattle.core_views.specs.declared.place.Place.TheVariants as place
 use Rattle.core_views.specs.declared.place.SetSlotPlace.{SetSlotPlace}
 use Rattle.core_views.specs.declared.place.SetSlotPlace.TheVariants as set_slot
-use Rattle.core_views.specs.declared.place.SlotField.{SlotField}
 use Rattle.core_views.specs.declared.sizes.Sizes.{Sizes}
-use Rattle.core_views.specs.declared.topics.SlotSearch.{SlotSearch}
-use Rattle.core_views.specs.declared.topics.TableWalk.{TableWalk}
 use Rattle.core_views.specs.declared.topics.Topics.{Topics}
 use Rattle.core_views.specs.declared.trace.Command.{Command}
 use Rattle.core_views.specs.declared.trace.Command.TheVariants.{Access, SetSlot}
@@ -31,47 +25,43 @@ use Rattle.core_views.specs.Held.{Held}
 use Rattle.core_views.specs.Kinds.{code_of}
 use Rattle.core_views.specs.Refusals.{set_refusal}
 use Rattle.core_views.specs.SlotSets.{MemorySlots}
-use Rattle.core_views.specs.Slots.{contains, is_write}
+use Rattle.core_views.specs.Slots.{is_write}
 use Rattle.spte_words.specs.declared.area.Area.TheVariants as area
 use Rattle.spte_words.specs.declared.spte_kind.SpteKind.{SpteKind}
 use Rattle.spte_words.specs.declared.spte_kind.SpteKind.TheVariants as entry_kind
-use Rattle.spte_words.specs.Areas.{place as place_of}
+use Rattle.spte_words.specs.Areas.{place as place_of, words_of_bits}
 use Rattle.spte_words.specs.Entries.{kind_of}
-use Rattle.spte_words.specs.HostWords.{host_allows_write}
 use Rattle.part_steps.specs.declared.task.Task.{Task}
-use Rattle.mmu_core.specs.declared.share.ShareNext.{ShareNext}
-use Rattle.mmu_core.specs.declared.share.ShareNext.TheVariants as shares
 use Rattle.mmu_core.specs.lines.AccessSteps.{access_outcome, access_task, behind_fault, pause_next, walk_next as stay_next}
 use Rattle.mmu_core.specs.lines.Cached.{first_usable}
 use Rattle.mmu_core.specs.machine.Enabled.{IsNext, mmu}
-use Rattle.mmu_core.specs.lines.FaultSteps.{after_share, allows_access, check_next, fault_next, find_next, found_next, is_last_word, share_next, snapshot_taken, walk_next}
+use Rattle.mmu_core.specs.lines.FaultSteps.{allows_access, fault_next}
 use Rattle.mmu_core.specs.invariant.Laws.{IsSound}
 use Rattle.mmu_core.specs.machine.Machine.{May, Step, World, answered, effect, hand_in}
-use Rattle.part_steps.specs.PartTasks.{words_filled}
+use Rattle.part_steps.specs.PartTasks.{words_filled, own_index}
 use Rattle.mmu_core.specs.lines.Rests.{RestsAt}
 use Rattle.mmu_core.specs.invariant.Scans.{LoadsMap}
-use Rattle.mmu_core.specs.lines.SetSlotSteps.{set_slot_first, set_slot_outcome, set_slot_task, watch_next}
+use Rattle.mmu_core.specs.lines.SetSlotSteps.{set_slot_first, set_slot_outcome, set_slot_task, watch_next, after_claim, set_slot_note, set_slot_part}
 use Rattle.mmu_core.specs.machine.Steps.{first_place, has_line, line_at, next, outcome_at, place_at, standing, task_at, task_of}
-use Rattle.part_steps.specs.Tasks.{map_of}
+use Rattle.part_steps.specs.Tasks.{map_of, kind_of_task}
 use Rattle.mmu_core.specs.machine.Outcomes.{place_after}
-use Rattle.part_steps.specs.PageTopics.{searched}
 use Rattle.mmu_core.proofs.machine.LineRuns.{own_hand}
 use Rattle.mmu_core.proofs.slots.SettingHolds.{each_watch}
 use Rattle.mmu_core.proofs.machine.Which.{is_next, next_of_line, next_of_part}
 use Rattle.core_views.specs.declared.answer.Refusal.{Refusal}
 use Rattle.core_views.specs.declared.trace.Slot.{Slot}
-
-abbrev pub IsStarvedEnd : FaultEnd → Type 0
-IsStarvedEnd Starved = Unit {0}
-IsStarvedEnd _ = ⊥
-
--- The fault has loaded the first word of the map, and goes on with its claim, or is to be starved.
-abbrev pub HasBegun : FaultPlace → Type 0
-HasBegun (Claim begun) = begun ≡ true
-HasBegun (Give e) = IsStarvedEnd e
-HasBegun (Unshare e) = IsStarvedEnd e
-HasBegun (End e) = IsStarvedEnd e
-HasBegun _ = ⊥
+use Rattle.core_views.specs.declared.answer.Answer.TheVariants as answer
+use Rattle.mmu_core.specs.declared.outcome.Outcome.TheVariants.{Ends}
+use Rattle.mmu_core.specs.declared.claim.ClaimNext.{ClaimNext}
+use Rattle.mmu_core.specs.lines.ClaimSteps.{claim_part}
+use Rattle.mmu_core.specs.lines.KnowsPart.{KnowsPart}
+use Rattle.part_steps.specs.PartSteps.{PartNeeds}
+use Rattle.part_steps.specs.TopicSteps.{topics_after}
+use Rattle.mmu_core.proofs.lines.ClaimMade.{ClaimMade, claim_made}
+use Rattle.mmu_core.proofs.lines.ClaimMade as made
+use Rattle.mmu_core.proofs.words.PartTopics.{is_there, part_topics_is}
+use Rattle.part_steps.specs.declared.part_step.PartStep.{PartStep}
+use Rattle.mmu_laws.proofs.causes.FaultScans.{BegunNext, Claims, HasBegun, fault_claims}
 
 -- A slot setting has loaded it, and goes on with its claim.
 abbrev pub HasBegunSetting : SetSlotPlace → Type 0
@@ -82,65 +72,6 @@ abbrev pub HasScan : Place → Type 0
 HasScan (place.Access (access.Fault p)) = HasBegun p
 HasScan (place.SetSlot p) = HasBegunSetting p
 HasScan _ = ⊥
-
--- The fault is at a step of its claim, or is to be starved.
-abbrev Claims : FaultPlace → Type 0
-Claims (Claim begun) = Unit {0}
-Claims p = HasBegun p
-
--- It has begun so behind a step.
-abbrev BegunNext : FaultNext → Type 0
-BegunNext (next_of.Goes p) = HasBegun p
-BegunNext (next_of.Ends e) = ⊥
-
--- ---- which places lead to one of them
-
-abbrev NotBegun : FaultPlace → Type 0
-NotBegun p = HasBegun p → ⊥
-
-neither : (b : Bool) (p q : FaultPlace) → NotBegun p → NotBegun q → NotBegun (if b then p else q)
-neither true p q one other = one
-neither false p q one other = other
-
--- No other place leads to one of them.
-not_found : (write : Bool) (found : SlotSearch) → NotBegun (found_next write found)
-not_found write found = neither (write && found.slot.read_only) (End Mmio) Host (λ e. e) (λ e. e)
-
-not_by_find : (gfn : ℕ) (write : Bool) (loaded : SlotField) (found : SlotSearch) → NotBegun (find_next gfn write loaded found)
-not_by_find gfn write loaded found =
-    neither (is_last_word loaded && contains gfn found.slot) (found_next write found) (if found.id == 32 then End Mmio else Find true) (not_found write found)
-    (neither (found.id == 32) (End Mmio) (Find true) (λ e. e) (λ e. e))
-
-not_by_share : (next : ShareNext) → NotBegun (after_share next)
-not_by_share shares.Tries = λ e. e
-not_by_share _ = λ e. e
-
-not_by_check : (at : CheckStage) (gfn : ℕ) (t : Topics) (v : ℕ) → NotBegun (check_next at gfn t v)
-not_by_check stage.Count gfn t v = neither (v == 0) (Check stage.Seq) (Check stage.Start) (λ e. e) (λ e. e)
-not_by_check stage.Start gfn t v = λ e. e
-not_by_check stage.End gfn t v = neither (nat_le t.invalidations.start gfn && nat_lt gfn v) (Unshare (Retry _)) (Check stage.Seq) (λ e. e) (λ e. e)
-not_by_check stage.Seq gfn t v = neither (v == snapshot_taken t.invalidations.snapshot) (Walk false) (Unshare (Retry _)) (λ e. e) (λ e. e)
-
-not_by_walk : (k : SpteKind) (z : Sizes) (gfn : ℕ) (write : Bool) (walk : TableWalk) (v : ℕ) → NotBegun (walk_next k z gfn write walk v)
-not_by_walk entry_kind.Leaf z gfn write walk v =
-    neither (walk.level == 1) (if allows_access write v then Unshare Installed else Leaf) (Unshare (Retry _)) (neither (allows_access write v) (Unshare Installed) Leaf (λ e. e) (λ e. e)) (λ e. e)
-not_by_walk entry_kind.Absent z gfn write walk v = neither (walk.level == 1) Leaf (Claim false) (λ e. e) (λ e. absurd (cc e))
-not_by_walk _ z gfn write walk v = λ e. e
-
-fault_claims : (p : FaultPlace) (z : Sizes) (gfn : ℕ) (write : Bool) (t : Topics) (v : ℕ) → BegunNext (fault_next p z gfn write t v) → Claims p
-fault_claims Snapshot z gfn write t v e = absurd e
-fault_claims (Find begun) z gfn write t v e = neither begun (find_next gfn write t.search.next (searched t.search v)) (Find true) (not_by_find gfn write t.search.next (searched t.search v)) (λ x. x) e
-fault_claims Host z gfn write t v e = neither (write && not (host_allows_write v)) (End HostFault) Share (λ x. x) (λ x. x) e
-fault_claims Share z gfn write t v e = not_by_share (share_next t.hold v) e
-fault_claims (Check at) z gfn write t v e = not_by_check at gfn t v e
-fault_claims (Walk rooted) z gfn write t v e =
-    neither rooted (walk_next (kind_of t.walk.level v) z gfn write t.walk v) (Walk true) (not_by_walk (kind_of t.walk.level v) z gfn write t.walk v) (λ x. x) e
-fault_claims (Claim begun) z gfn write t v e = tt
-fault_claims Fill z gfn write t v e = neither (nat_lt (words_filled t.owned + 1) 512) Fill Role (λ x. x) (λ x. x) e
-fault_claims Link z gfn write t v e = neither (v == t.walk.entry) (Walk true) (Give (Retry _)) (λ x. x) (λ x. x) e
-fault_claims Leaf z gfn write t v e = neither (v == t.walk.entry) (Unshare Installed) (Unshare (Retry _)) (λ x. x) (λ x. x) e
-fault_claims (End end) z gfn write t v e = absurd e
-fault_claims _ z gfn write t v e = e
 
 over_begun : (n : FaultNext) → HasScan (place_after (behind_fault n)) → BegunNext n
 over_begun (next_of.Goes p) S = S
@@ -185,7 +116,7 @@ either true p q one other = one
 either false p q one other = other
 
 -- A claim goes on, or begins with the first word of the map.
-pub claim_begins : (begun : Bool) (h : Held) (id : ℕ) (slot : Slot) → HasScan (place.SetSlot (set_slot.Claim begun)) ⊎ LoadsFirst (set_slot_task (set_slot.Claim begun) h id slot)
+claim_begins : (begun : Bool) (h : Held) (id : ℕ) (slot : Slot) → HasScan (place.SetSlot (set_slot.Claim begun)) ⊎ LoadsFirst (set_slot_task (set_slot.Claim begun) h id slot)
 claim_begins true h id slot = inl refl
 claim_begins false h id slot = inr (record { loads = refl; of_map = refl; first = refl })
 
@@ -247,3 +178,51 @@ own_scans z u s G may scan = by (has_line h) refl
     by : (b : Bool) → has_line h ≡ b → HasScan h.state.place ⊎ LoadsMap z s.actor 0 s
     by true has = of_line has (is_next h s.kind may.enabled has)
     by false none = inl (subst (λ (x : Held). HasScan x.state.place) (next_of_part h s.kind v none) behind)
+
+-- ---- where a line is starved
+
+-- The line stands at such a place, or its step loads the first word; and behind the step the claim has come behind the last word.
+pub record IsStarved (p : Place) (t : Task) (h : Held) (v : ℕ) : Type 0 where
+  pub scans : HasScan p ⊎ LoadsFirst t
+  pub past : words_of_bits h.state.sizes.pool ≤ (topics_after h.state.sizes (kind_of_task h.state.sizes t) h.topics v).claim.at
+
+starved_at : (p : FaultPlace) (h : Held) (gfn word : ℕ) (op : Op) (v : ℕ) → access_outcome (access.Fault p) h gfn op v ≡ Ends answer.Starved → KnowsPart (place.Access (access.Fault p)) (Access gfn word op) h
+    → IsStarved (place.Access (access.Fault p)) (access_task (access.Fault p) h gfn word op) h v
+unfolding topics_after
+starved_at (End Starved) h gfn word op v e K = record { scans = inl tt; past = K.2 }
+starved_at (End Installed) h gfn word op v e K = absurd (cc e)
+starved_at (End Mmio) h gfn word op v e K = absurd (cc e)
+starved_at (End HostFault) h gfn word op v e K = absurd (cc e)
+starved_at (End (Retry cause)) h gfn word op v e K = absurd (cc e)
+starved_at p h gfn word op v e K = absurd (cc e)
+
+starved_access : (p : AccessPlace) (h : Held) (gfn word : ℕ) (op : Op) (v : ℕ) → access_outcome p h gfn op v ≡ Ends answer.Starved → KnowsPart (place.Access p) (Access gfn word op) h → IsStarved (place.Access p) (access_task p h gfn word op) h v
+starved_access (access.Fault p) h gfn word op v e K = starved_at p h gfn word op v e K
+starved_access (access.Leave (leaving.Reached frame value)) h gfn word op v e K = absurd (cc e)
+starved_access (access.Leave leaving.Faults) h gfn word op v e K = absurd (cc e)
+starved_access p h gfn word op v e K = absurd (cc e)
+
+-- A claim is answered starved with a load that leaves no word of the map to be loaded.
+past_words : (y : Sizes) (begun : Bool) (t : Topics) (v : ℕ) (step : PartStep) (next : ClaimNext) (u : Topics) → ClaimMade y begun t v step next u → after_claim next ≡ Ends answer.Starved → words_of_bits y.pool ≤ u.claim.at
+past_words y begun t v _ _ _ (made.SawNone not_ le) e = le
+past_words y begun t v _ _ _ _ e = absurd (cc e)
+
+starved_claim : (begun : Bool) (h : Held) (id : ℕ) (slot : Slot) (v : ℕ) → set_slot_outcome (set_slot.Claim begun) h v ≡ Ends answer.Starved → PartNeeds (claim_part begun h.topics.claim) h
+    → IsStarved (place.SetSlot (set_slot.Claim begun)) (set_slot_task (set_slot.Claim begun) h id slot) h v
+starved_claim begun h id slot v e N = record {
+  scans = claim_begins begun h id slot;
+  past =
+      subst (λ (t : Topics). words_of_bits h.state.sizes.pool ≤ t.claim.at)
+      (sym (part_topics_is h.state.sizes (claim_part begun h.topics.claim) (own_index h) h.topics (set_slot_note (set_slot.Claim begun) h) v (is_there (claim_part begun h.topics.claim) h N)))
+      (past_words h.state.sizes begun h.topics v _ _ _ (claim_made h.state.sizes begun h.topics v) e);
+}
+
+starved_setting : (p : SetSlotPlace) (h : Held) (id : ℕ) (slot : Slot) (v : ℕ) → set_slot_outcome p h v ≡ Ends answer.Starved → PartNeeds (set_slot_part p h id slot) h → IsStarved (place.SetSlot p) (set_slot_task p h id slot) h v
+starved_setting (set_slot.Claim begun) h id slot v e N = starved_claim begun h id slot v e N
+starved_setting p h id slot v e N = absurd (cc e)
+
+pub starved_by : (p : Place) (command : Command) (h : Held) (v : ℕ) → outcome_at p command h v ≡ Ends answer.Starved → KnowsPart p command h → RestsAt p command h → IsStarved p (task_at p command h) h v
+starved_by (place.Access p) (Access gfn word op) h v e K R = starved_access p h gfn word op v e K
+starved_by (place.SetSlot p) (SetSlot id slot) h v e K R = starved_setting p h id slot v e R
+starved_by place.Between command h v e K R = absurd (cc e)
+starved_by _ _ h v e K R = absurd R
