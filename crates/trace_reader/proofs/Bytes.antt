@@ -17,9 +17,9 @@ use Rattle.trace_reader.specs.Sayings.{IsSayingOf, Seen, by_first, by_words, sai
 use Rattle.trace_reader.specs.Grammar.{spaced, AreWordsOf, SaysLine, SaysUntil, IsWord, AreWords, HasForm}
 use Rattle.trace_reader.proofs.Items.{has_declared, kind_passes, kind_read}
 use Rattle.trace_reader.proofs.Results.{branch, both}
-use Rattle.trace_reader.proofs.CommandForms.{command_form, command_words, commanding}
+use Rattle.trace_reader.proofs.CommandForms.{command_first, command_form, command_words, commanding}
 use Rattle.trace_reader.proofs.PlainWords.{actor_word, spelled_word, text_word}
-use Rattle.trace_reader.proofs.Words.{WordsJudged, command_first, words_judged, words_read}
+use Rattle.trace_reader.proofs.Words.{WordsJudged, words_judged, words_read}
 
 no_space : (b : ℕ) → not (b == 32) ≡ true → (b == 32) ≡ false
 no_space b e = grind (arith, nat_tests)

@@ -1,10 +1,11 @@
 -- What is so of the commands of every form. A form of line writes a clause in each of these; `Said` and `Refused` have what is read of its words.
-use Rattle.std.proofs.Common.{◌≡◌, ◌≤◌, inl, inr, ℕ, List, Bool, true, false, refl, subst, arith, ◌==◌}
+use Rattle.std.proofs.Common.{◌≡◌, ◌≤◌, inl, inr, ℕ, List, ◌∷◌, Bool, true, false, refl, subst, arith, ◌==◌}
 use Rattle.std.specs.Prelude.{codes, ◌||◌}
 use Rattle.std.specs.List.{AllByRecursion, IsDistinct}
+use Rattle.core_views.specs.Text.{actor_name}
 use Rattle.core_views.specs.Traces.{IsCommandOf, or_slot_id}
 use Rattle.core_views.specs.declared.actor.Actor.{Actor}
-use Rattle.core_views.specs.declared.actor.Actor.TheVariants.{Vcpu, Manager}
+use Rattle.core_views.specs.declared.actor.Actor.TheVariants.{Vcpu, Host, Manager, Worker}
 use Rattle.core_views.specs.declared.trace.Command.{Command}
 use Rattle.core_views.specs.declared.trace.Command.TheVariants.{Access, SetSlot}
 use Rattle.core_views.specs.declared.trace.Op.TheVariants.{Read, Write, Add}
@@ -15,6 +16,15 @@ use Rattle.trace_reader.specs.Lines.{sets_at}
 use Rattle.trace_reader.proofs.PlainWords.{actor_word, spelled_word, text_word}
 
 -- ---- its words
+
+-- The first word of an actor's line is its name.
+pub command_first : (words : List (List ℕ)) (a : Actor) → IsCommandForm words a → (rest : List (List ℕ)) × (words ≡ actor_name a ∷ rest)
+command_first words (Vcpu i) (inl (x, e)) = (_, e)
+command_first words (Vcpu i) (inr (inl (x, y, e))) = (_, e)
+command_first words (Vcpu i) (inr (inr (x, y, e))) = (_, e)
+command_first words (Host i) form = absurd form
+command_first words Manager (i, b, p, k, read_only, e) = (_, e)
+command_first words (Worker i) form = absurd form
 
 -- The words of a command are of a form of its actor.
 pub command_form : (ids : ℕ → Bool) (words : List (List ℕ)) (a : Actor) (c : Command) → AreCommandWords ids words a c → IsCommandForm words a

@@ -17,10 +17,10 @@ use Rattle.trace_reader.specs.Sayings.{Seen, by_first, by_words, said}
 use Rattle.trace_reader.specs.GrammarRefusals.{SaysNothingFor, IsLineReason}
 use Rattle.trace_reader.specs.Grammar.{AreWords, HasForm, IsActor, IsCommandForm, IsDeclared, IsFirstGo, IsItemForm, IsOfForm, SaysLine, item_words}
 use Rattle.trace_reader.proofs.Bytes.{none_empty, say_words, cut_words, says, only_said}
-use Rattle.trace_reader.proofs.CommandForms.{command_form, commanding}
+use Rattle.trace_reader.proofs.CommandForms.{command_first, command_form, commanding}
 use Rattle.trace_reader.proofs.Items.{has_declared, until_form}
 use Rattle.trace_reader.proofs.Names.{one_name}
-use Rattle.trace_reader.proofs.Words.{WhyNot, WordsJudged, command_first, no_go_form, not_mark, words_judged}
+use Rattle.trace_reader.proofs.Words.{WhyNot, WordsJudged, no_go_form, not_mark, words_judged}
 
 -- What stands between spaces has no space.
 abbrev ArePlain : List (List ℕ) → Type 0

@@ -17,20 +17,11 @@ use Rattle.trace_reader.specs.Forms.{◌>>=◌, Said, by_form}
 use Rattle.trace_reader.specs.Items.{item_said}
 use Rattle.trace_reader.specs.Sayings.{IsSayingOf, Seen, by_first, command_said, go_said, schedule_said}
 use Rattle.trace_reader.specs.Grammar.{AreCommandWords, AreWordsOf, HasForm, IsActor, IsCommandForm, IsDeclared, IsUntilForm, item_words}
-use Rattle.trace_reader.proofs.CommandForms.{command_form}
+use Rattle.trace_reader.proofs.CommandForms.{command_first, command_form}
 use Rattle.trace_reader.proofs.Items.{ItemJudged, item_judged, item_read}
 use Rattle.trace_reader.proofs.Refused as commands
 use Rattle.trace_reader.proofs.Results.{heads_differ, is_word, other_word, word_is}
 use Rattle.trace_reader.proofs.Said.{only, reads, small_words}
-
--- The first word of an actor's line is its name.
-pub command_first : (words : List (List ℕ)) (a : Actor) → IsCommandForm words a → (rest : List (List ℕ)) × (words ≡ actor_name a ∷ rest)
-command_first words (Vcpu i) (inl (x, e)) = (_, e)
-command_first words (Vcpu i) (inr (inl (x, y, e))) = (_, e)
-command_first words (Vcpu i) (inr (inr (x, y, e))) = (_, e)
-command_first words (Host i) form = absurd form
-command_first words Manager (i, b, p, k, read_only, e) = (_, e)
-command_first words (Worker i) form = absurd form
 
 -- No actor is named `go` or `>`.
 not_go : (a : Actor) → actor_name a ≡ codes "go" → ⊥
