@@ -1,7 +1,7 @@
 -- What is so of the lines of every form: the one place where it is told by the form. A form of line writes a clause in each of these.
 use Rattle.std.proofs.Common.{◌≡◌, ◌≢◌, ◌⊎◌, inl, inr, ◌≤◌, ℕ, refl, arith}
 use Rattle.std.proofs.Props.{props}
-use Rattle.std.specs.Prelude.{Bool, Some, false}
+use Rattle.std.specs.Prelude.{Some, false}
 use Rattle.core_views.specs.declared.answer.Answer.{Answer}
 use Rattle.core_views.specs.declared.answer.Answer.TheVariants.{Starved}
 use Rattle.core_views.specs.declared.place.AccessPlace.{AccessPlace}
