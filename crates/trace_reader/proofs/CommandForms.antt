@@ -66,8 +66,8 @@ IsNew ids _ = Unit {0}
 -- It is new where it is said.
 pub first_done : (h : Header) (ids : ℕ → Bool) (words : List (List ℕ)) (actor : Actor) (command : Command) → IsCommandOf h actor command → AreCommandWords ids words actor command → IsNew ids command
 first_done h ids words Manager (SetSlot id slot) range are = are.4
-first_done h ids words actor (Access gfn word op) range are = tt
 first_done h ids words _ (SetSlot id slot) range are = absurd range
+first_done h ids words _ _ range are = tt
 
 -- None of these IDs is this one.
 abbrev pub HasNone : ℕ → List ℕ → Type 0
@@ -95,8 +95,8 @@ apart seen i j e f = ne_eqb i j (λ same. let g : seen j ≡ true = subst (λ k.
 -- One more line, in front.
 pub in_front : (seen : ℕ → Bool) (command : Command) (ids : List ℕ) → IsNew seen command → AreApart (λ id. seen id || sets_at id command) ids → AreApart seen (or_slot_id command ids)
 unfolding IsDistinct
-in_front seen (Access gfn word op) ids new rest = record { distinct = rest.distinct; unseen = λ id e. rest.unseen id (or_first (seen id) false e) }
 in_front seen (SetSlot i slot) ids new rest = record {
   distinct = (rest.unseen i (or_second (seen i) (i == i) (eq-eqb i i refl)), rest.distinct);
   unseen = λ id e. (apart seen id i e new, rest.unseen id (or_first (seen id) (i == id) e));
 }
+in_front seen _ ids new rest = record { distinct = rest.distinct; unseen = λ id e. rest.unseen id (or_first (seen id) false e) }

@@ -8,7 +8,7 @@ use Rattle.std.specs.declared.option.Option.{Option}
 use Rattle.std.specs.declared.option.Option.TheVariants.{Some, None}
 use Rattle.core_views.specs.Traces.{IsCommandOf, IsSlotInRange, IsHeader}
 use Rattle.core_views.specs.declared.actor.Actor.{Actor}
-use Rattle.core_views.specs.declared.actor.Actor.TheVariants.{Vcpu, Host, Manager, Worker}
+use Rattle.core_views.specs.declared.actor.Actor.TheVariants.{Vcpu, Manager}
 use Rattle.core_views.specs.declared.trace.Command.{Command}
 use Rattle.core_views.specs.declared.trace.Command.TheVariants.{Access, SetSlot}
 use Rattle.core_views.specs.declared.trace.Op.TheVariants.{Read, Write, Add}
@@ -77,12 +77,9 @@ reads h seen words (Vcpu i) (Access gfn word (Write v)) vcpus few (known, low, s
     rw (e, vcpu_named h i known vcpus, address_spelled h x gfn word s low small few, number_spelled y v t) refl
 reads h seen words (Vcpu i) (Access gfn word (Add v)) vcpus few (known, low, small) (x, y, e, s, t) =
     rw (e, vcpu_named h i known vcpus, address_spelled h x gfn word s low small few, number_spelled y v t) refl
-reads h seen words (Vcpu i) (SetSlot id slot) vcpus few in_range form = absurd form
-reads h seen words (Host i) c vcpus few in_range form = absurd form
-reads h seen words Manager (Access gfn word op) vcpus few in_range form = absurd form
 reads h seen words Manager (SetSlot id s) vcpus few in_range (i, x, y, z, first, e, n, a, b, c) =
     rw (e, either_form h seen s.read_only i x y z) (setting_spelled seen i x y z id s first n a b c in_range)
-reads h seen words (Worker i) c vcpus few in_range form = absurd form
+reads h seen words _ _ vcpus few in_range form = absurd form
 
 -- What is read is said.
 pub vcpu_names : (h : Header) (w : List ℕ) → Names 118 15 h.vcpus w (vcpu h w)

@@ -4,7 +4,7 @@ use Rattle.std.specs.List.{slice_split, list_all}
 use Rattle.std.specs.declared.option.Option.{Option}
 use Rattle.std.specs.declared.option.Option.TheVariants.{Some, None}
 use Rattle.core_views.specs.declared.trace.Command.{Command}
-use Rattle.core_views.specs.declared.trace.Command.TheVariants.{Access, SetSlot}
+use Rattle.core_views.specs.declared.trace.Command.TheVariants.{SetSlot}
 use Rattle.core_views.specs.declared.trace.Header.{Header}
 use Rattle.trace_reader.specs.declared.reason.Reason.{Reason}
 use Rattle.trace_reader.specs.declared.reason.Reason.TheVariants as reason
@@ -67,8 +67,8 @@ line_of h seen raw = after_checks (fault_of raw) (content h seen raw.bytes)
 
 -- The command sets a slot at this ID.
 abbrev pub sets_at : ℕ → Command → Bool
-sets_at id (Access gfn word op) = false
 sets_at id (SetSlot i slot) = i == id
+sets_at id _ = false
 
 -- what was seen, with what a line says
 abbrev pub seen_with : Seen → Saying → Seen
