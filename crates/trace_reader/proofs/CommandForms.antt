@@ -47,7 +47,8 @@ command_words ids words (Vcpu i) (Access gfn word (Write v)) le (x, y, is, s, t)
 command_words ids words (Vcpu i) (Access gfn word (Add v)) le (x, y, is, s, t) =
     rw is (actor_word (Vcpu i) le, (text_word (codes "add") (omega arith) refl, (spelled_word x _ s, (spelled_word y _ t, tt))))
 command_words ids words Manager (SetSlot id s) le (i, x, y, z, first, is, n, a, b, c) =
-    rw is (text_word (codes "vm") (omega arith) refl, (text_word (codes "slot") (omega arith) refl, (spelled_word i _ n, (spelled_word x _ a, (spelled_word y _ b, (spelled_word z _ c, last_word s.read_only))))))
+    rw is (text_word (codes "vm") (omega arith) refl, (text_word (codes "slot") (omega arith) refl,
+    (spelled_word i _ n, (spelled_word x _ a, (spelled_word y _ b, (spelled_word z _ c, last_word s.read_only))))))
 command_words ids words _ _ le form = absurd form
 
 -- An actor that makes a command is declared.
@@ -64,7 +65,8 @@ IsNew ids (SetSlot id slot) = ids id ≡ false
 IsNew ids _ = Unit {0}
 
 -- It is new where it is said.
-pub first_done : (h : Header) (ids : ℕ → Bool) (words : List (List ℕ)) (actor : Actor) (command : Command) → IsCommandOf h actor command → AreCommandWords ids words actor command → IsNew ids command
+pub first_done : (h : Header) (ids : ℕ → Bool) (words : List (List ℕ)) (actor : Actor) (command : Command) → IsCommandOf h actor command
+    → AreCommandWords ids words actor command → IsNew ids command
 first_done h ids words Manager (SetSlot id slot) range are = are.4
 first_done h ids words _ (SetSlot id slot) range are = absurd range
 first_done h ids words _ _ range are = tt
@@ -93,7 +95,8 @@ apart : (seen : ℕ → Bool) (i j : ℕ) → seen i ≡ true → seen j ≡ fal
 apart seen i j e f = ne_eqb i j (λ same. let g : seen j ≡ true = subst (λ k. seen k ≡ true) same e in cc)
 
 -- One more line, in front.
-pub in_front : (seen : ℕ → Bool) (command : Command) (ids : List ℕ) → IsNew seen command → AreApart (λ id. seen id || sets_at id command) ids → AreApart seen (or_slot_id command ids)
+pub in_front : (seen : ℕ → Bool) (command : Command) (ids : List ℕ) → IsNew seen command → AreApart (λ id. seen id || sets_at id command) ids
+    → AreApart seen (or_slot_id command ids)
 unfolding IsDistinct
 in_front seen (SetSlot i slot) ids new rest = record {
   distinct = (rest.unseen i (or_second (seen i) (i == i) (eq-eqb i i refl)), rest.distinct);
