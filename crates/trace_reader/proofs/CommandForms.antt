@@ -47,8 +47,13 @@ command_words ids words (Vcpu i) (Access gfn word (Write v)) le (x, y, is, s, t)
 command_words ids words (Vcpu i) (Access gfn word (Add v)) le (x, y, is, s, t) =
     rw is (actor_word (Vcpu i) le, (text_word (codes "add") (omega arith) refl, (spelled_word x _ s, (spelled_word y _ t, tt))))
 command_words ids words Manager (SetSlot id s) le (i, x, y, z, first, is, n, a, b, c) =
-    rw is (text_word (codes "vm") (omega arith) refl, (text_word (codes "slot") (omega arith) refl,
-    (spelled_word i _ n, (spelled_word x _ a, (spelled_word y _ b, (spelled_word z _ c, last_word s.read_only))))))
+    rw is (
+      text_word (codes "vm") (omega arith) refl,
+      (
+        text_word (codes "slot") (omega arith) refl,
+        (spelled_word i _ n, (spelled_word x _ a, (spelled_word y _ b, (spelled_word z _ c, last_word s.read_only)))),
+      ),
+    )
 command_words ids words _ _ le form = absurd form
 
 -- An actor that makes a command is declared.
