@@ -13,7 +13,7 @@ use Rattle.core_views.specs.declared.sizes.Sizes.{Sizes}
 use Rattle.core_views.specs.Actors.{is_same}
 use Rattle.core_views.specs.Host.{HostEntry, HostNotes, with_entry}
 use Rattle.core_views.specs.SlotSets.{flat_slots}
-use Rattle.core_views.specs.Flat.{Facts, Notes, LineUnderWay, Flat, Stage, Fresh, HasAccessed, HasLeft, HasSetSlot, no_notes}
+use Rattle.core_views.specs.Flat.{Facts, Notes, LineUnderWay, Flat, Stage, Fresh, HasAccessed, HasLeft, HasChanged, no_notes}
 use Rattle.core_views.specs.Events.{after, after_all, facts_after, facts_after_all, line_after}
 use Rattle.core_views.specs.Lawful.{IsLawful, IsAllowed}
 use Rattle.core_views.specs.FlatHistory.{by, answers, rest_of, one_by_one}
@@ -97,7 +97,7 @@ one_event z line rest es (Exited answer) within leads stage notes f is lawful fe
 one_event z line rest es (SlotChanged id slot) within leads stage notes f is lawful fed =
     let kind : EventKind = SlotChanged id slot in
     shown_event z line rest es stage notes f kind refl (slot_change_is_next z f.facts (under_way line stage notes) id slot (allowed z line stage notes f kind is lawful.0))
-    (leads HasSetSlot notes (after (by line kind) f) (record { at = next_at line stage notes f kind is; exact = λ fresh. absurd (cc fresh) }) lawful.1 fed.1)
+    (leads HasChanged notes (after (by line kind) f) (record { at = next_at line stage notes f kind is; exact = λ fresh. absurd (cc fresh) }) lawful.1 fed.1)
 one_event z line rest es (Answered number answer) within leads stage notes f is lawful fed = absurd within
 
 -- the answer, behind which no line is under way

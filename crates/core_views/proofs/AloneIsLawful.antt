@@ -9,22 +9,22 @@ use Rattle.core_views.specs.declared.event.Event.{Event}
 use Rattle.core_views.specs.declared.event.EventKind.{EventKind}
 use Rattle.core_views.specs.declared.event.EventKind.TheVariants.{Begun, LookedAtPause, LookedAtSlots, LookedAtHost, Accessed, Exited, SlotChanged, Answered}
 use Rattle.core_views.specs.declared.trace.Command.{Command}
-use Rattle.core_views.specs.declared.trace.Command.TheVariants.{Access, SetSlot}
+use Rattle.core_views.specs.declared.trace.Command.TheVariants.{Access}
 use Rattle.core_views.specs.declared.sizes.Sizes.{Sizes}
 use Rattle.core_views.specs.declared.trace.Line.{Line}
 use Rattle.core_views.specs.declared.trace.Op.{Op}
-use Rattle.core_views.specs.declared.trace.Slot.{Slot}
+use Rattle.core_views.specs.declared.slot_set.MemorySlot.{MemorySlot}
 use Rattle.core_views.specs.Actors.{is_same}
 use Rattle.core_views.specs.Slots.{page_behind}
 use Rattle.core_views.specs.SlotSets.{flat_slots}
-use Rattle.core_views.specs.Refusals.{is_logged}
 use Rattle.core_views.specs.Host.{HostEntry, HostNotes, is_denied, with_entry}
 use Rattle.core_views.specs.Names.{frame_at}
 use Rattle.core_views.specs.Flat.{Facts, LineUnderWay, Flat, Idle, Fresh, no_notes}
 use Rattle.core_views.specs.Events.{after, after_all, facts_after, facts_after_all, line_after}
-use Rattle.core_views.specs.Lawful.{HasWork, IsLawful, IsAllowed, SawForbidden, SawNoPage, Tells, answer_at_once}
-use Rattle.core_views.specs.FlatHistory.{by, answers, accessing, reaching, doing, doing_by, rest_of, looks, looks_behind, alone, one_by_one, setting}
+use Rattle.core_views.specs.Lawful.{HasWork, IsLawful, IsAllowed, SawForbidden, SawNoPage, Tells, answer_at_once, slot_change}
+use Rattle.core_views.specs.FlatHistory.{by, answers, accessing, reaching, doing, doing_by, rest_of, looks, looks_behind, alone, one_by_one, working}
 use Rattle.core_views.proofs.Looks.{facts_behind, still_paused}
+use Rattle.core_views.proofs.SlotChanges.{changes}
 use Rattle.core_views.proofs.SameActor.{changed_here}
 
 -- No line of another actor is under way.
@@ -111,15 +111,25 @@ access_closes z line gfn word op facts (Some page) f behind is runs at =
     (allowed z line.actor (LookedAtHost page) facts _ f at refl)
     (reaching_closes z line gfn word op facts page (is_denied op (facts.host page)) _ behind refl is runs (step line.actor (LookedAtHost page) facts _ f at))
 
-setting_closes : (z : Sizes) (line : Line) (id : ℕ) (slot : Slot) (facts : Facts) (f : Flat) → HasWork z facts (SetSlot id slot) → line.command ≡ SetSlot id slot
-    → IsAt line.actor facts (record { line = line; stage = Fresh; notes = no_notes }) f → Closes z (setting line id slot facts) f
-setting_closes z line id slot facts f works is at =
-    let change : EventKind = SlotChanged id (Some (record { slot = slot; logged = is_logged id facts.slots })) in
-    more z (by line change) (answers line Done) f
-    (allowed z line.actor change facts _ f at (refl, rw is works, rw is refl))
-    (answered z line Done (facts_after change facts) _ _ (step line.actor change facts _ f at) refl refl)
+change_closes : (z : Sizes) (line : Line) (command : Command) (facts : Facts) (f : Flat) (change : ℕ × Option MemorySlot) → slot_change facts.slots command ≡ Some change
+    → HasWork z facts command → line.command ≡ command → IsAt line.actor facts (record { line = line; stage = Fresh; notes = no_notes }) f
+    → Closes z (working line command facts) f
+change_closes z line command facts f change changed works is at =
+    let event : EventKind = SlotChanged change.0 change.1 in
+    subst (λ (es : List Event). Closes z es f) (sym (changes line command facts change changed))
+    (more z (by line event) (answers line Done) f
+    (allowed z line.actor event facts _ f at (refl, rw is works, rw is changed))
+    (answered z line Done (facts_after event facts) _ _ (step line.actor event facts _ f at) refl refl))
 
 -- A line that has nothing to do is answered at once.
+change_or_answer : (z : Sizes) (line : Line) (command : Command) (facts : Facts) (f : Flat) (change : ℕ × Option MemorySlot) → slot_change facts.slots command ≡ Some change
+    → line.command ≡ command → IsAt line.actor facts (record { line = line; stage = Fresh; notes = no_notes }) f → Closes z (doing z line command facts) f
+change_or_answer z line command facts f change changed is at = by_answer (answer_at_once z facts.slots command) refl
+  where
+    by_answer : (answer : Option Answer) → answer_at_once z facts.slots command ≡ answer → Closes z (doing_by line command facts answer) f
+    by_answer None works = change_closes z line command facts f change changed works is at
+    by_answer (Some answer) says = answered z line answer facts _ f at refl (rw is says)
+
 doing_closes : (z : Sizes) (line : Line) (command : Command) (facts : Facts) (f : Flat) → line.command ≡ command → facts.paused ≡ false
     → IsAt line.actor facts (record { line = line; stage = Fresh; notes = no_notes }) f → Closes z (looks line command facts ++ doing z line command facts) f
 doing_closes z line (Access gfn word op) facts f is runs at =
@@ -129,11 +139,7 @@ doing_closes z line (Access gfn word op) facts f is runs at =
     (more z (by line LookedAtSlots) (looks_behind line page ++ accessing line gfn word op facts page) _
     (allowed z line.actor LookedAtSlots facts _ _ (step line.actor LookedAtPause facts _ f at) refl)
     (access_closes z line gfn word op facts page _ refl is runs (step line.actor LookedAtSlots facts _ _ (step line.actor LookedAtPause facts _ f at))))
-doing_closes z line (SetSlot id slot) facts f is runs at = by_answer (answer_at_once z facts.slots (SetSlot id slot)) refl
-  where
-    by_answer : (answer : Option Answer) → answer_at_once z facts.slots (SetSlot id slot) ≡ answer → Closes z (doing_by line (SetSlot id slot) facts answer) f
-    by_answer None works = setting_closes z line id slot facts f works is at
-    by_answer (Some answer) says = answered z line answer facts _ f at refl (rw is says)
+doing_closes z line command facts f is runs at = change_or_answer z line command facts f _ refl is at
 
 alone_closes : (z : Sizes) (line : Line) (f : Flat) → AllIdle f → f.facts.paused ≡ false → Closes z (alone z line f.facts) f
 alone_closes z line f idle runs =

@@ -1,23 +1,24 @@
--- The flat history, but for what its lines look at. A clause for each form of line.
+-- The flat history, but for what its lines look at.
 use Rattle.std.proofs.Common.{◌≡◌, ℕ, List, ◌∷◌, ◌++◌, Bool, true, false, refl, ap, ◌∙◌}
 use Rattle.std.specs.Prelude.{Option, Some, None}
 use Rattle.core_views.specs.declared.event.Event.{Event}
 use Rattle.core_views.specs.declared.event.EventKind.TheVariants.{Begun}
 use Rattle.core_views.specs.declared.answer.Answer.{Answer}
 use Rattle.core_views.specs.declared.trace.Command.{Command}
-use Rattle.core_views.specs.declared.trace.Command.TheVariants.{Access, SetSlot}
+use Rattle.core_views.specs.declared.trace.Command.TheVariants.{Access}
 use Rattle.core_views.specs.declared.trace.Line.{Line}
 use Rattle.core_views.specs.declared.trace.Op.{Op}
-use Rattle.core_views.specs.declared.trace.Slot.{Slot}
+use Rattle.core_views.specs.declared.slot_set.MemorySlot.{MemorySlot}
 use Rattle.core_views.specs.declared.sizes.Sizes.{Sizes}
 use Rattle.core_views.specs.Host.{is_denied}
 use Rattle.core_views.specs.Slots.{page_behind}
 use Rattle.core_views.specs.SlotSets.{flat_slots}
 use Rattle.core_views.specs.Flat.{Facts, Fresh}
 use Rattle.core_views.specs.Events.{facts_after_all}
-use Rattle.core_views.specs.Lawful.{answer_at_once}
+use Rattle.core_views.specs.Lawful.{answer_at_once, slot_change}
 use Rattle.core_views.specs.FlatHistory.{by, accessing, reaching, doing, doing_by, rest_of, looks, looks_behind, alone, one_by_one}
 use Rattle.core_views.specs.Alone.{without_looks}
+use Rattle.core_views.proofs.SlotChanges.{changes}
 use Rattle.core_views.proofs.Looks.{without_looks_append, facts_without_looks}
 
 reaching_shows : (line : Line) (gfn word : ℕ) (op : Op) (f : Facts) (page : ℕ) (denied : Bool) → without_looks (reaching line gfn word op f page denied) ≡ reaching line gfn word op f page denied
@@ -28,13 +29,14 @@ accessing_shows : (line : Line) (gfn word : ℕ) (op : Op) (f : Facts) (page : O
 accessing_shows line gfn word op f None = refl
 accessing_shows line gfn word op f (Some page) = reaching_shows line gfn word op f page (is_denied op (f.host page))
 
-setting_shows : (line : Line) (id : ℕ) (slot : Slot) (f : Facts) (answer : Option Answer) → without_looks (doing_by line (SetSlot id slot) f answer) ≡ doing_by line (SetSlot id slot) f answer
-setting_shows line id slot f None = refl
-setting_shows line id slot f (Some answer) = refl
+change_shows : (line : Line) (command : Command) (f : Facts) (change : ℕ × Option MemorySlot) (answer : Option Answer) → slot_change f.slots command ≡ Some change
+    → without_looks (doing_by line command f answer) ≡ doing_by line command f answer
+change_shows line command f change None is = rw (changes line command f change is) refl
+change_shows line command f change (Some answer) is = refl
 
 doing_shows : (z : Sizes) (line : Line) (command : Command) (f : Facts) → without_looks (looks line command f ++ doing z line command f) ≡ doing z line command f
 doing_shows z line (Access gfn word op) f = accessing_shows line gfn word op f (page_behind (flat_slots f.slots) gfn op)
-doing_shows z line (SetSlot id slot) f = setting_shows line id slot f (answer_at_once z f.slots (SetSlot id slot))
+doing_shows z line command f = change_shows line command f _ (answer_at_once z f.slots command) refl
 
 alone_shows : (z : Sizes) (line : Line) (f : Facts) → without_looks (alone z line f) ≡ by line (Begun line) ∷ rest_of z line Fresh f
 alone_shows z line f = ap (λ (es : List Event). by line (Begun line) ∷ es) (doing_shows z line line.command f)

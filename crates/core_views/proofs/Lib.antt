@@ -1,4 +1,5 @@
 pub mod SameActor
+pub mod SlotChanges
 pub mod AloneIsLawful
 pub mod Texts
 pub mod AloneIsWhole

@@ -6,7 +6,7 @@ use Rattle.core_views.specs.declared.answer.Answer.TheVariants.{Reached, Mmio, H
 use Rattle.core_views.specs.declared.event.EventKind.{EventKind}
 use Rattle.core_views.specs.declared.event.EventKind.TheVariants.{Accessed, Exited, SlotChanged}
 use Rattle.core_views.specs.declared.trace.Command.{Command}
-use Rattle.core_views.specs.declared.trace.Command.TheVariants.{Access, SetSlot}
+use Rattle.core_views.specs.declared.trace.Command.TheVariants.{Access}
 use Rattle.core_views.specs.declared.trace.Line.{Line}
 use Rattle.core_views.specs.declared.trace.Op.{Op}
 use Rattle.core_views.specs.declared.sizes.Sizes.{Sizes}
@@ -14,12 +14,12 @@ use Rattle.core_views.specs.Host.{HostEntry, is_denied}
 use Rattle.core_views.specs.declared.slot_set.MemorySlot.{MemorySlot}
 use Rattle.core_views.specs.Slots.{Slots, page_behind}
 use Rattle.core_views.specs.SlotSets.{flat_slots}
-use Rattle.core_views.specs.Refusals.{is_logged}
 use Rattle.core_views.specs.Names.{frame_at}
-use Rattle.core_views.specs.Flat.{Facts, Notes, LineUnderWay, Stage, Idle, Fresh, HasAccessed, HasLeft, HasSetSlot}
+use Rattle.core_views.specs.Flat.{Facts, Notes, LineUnderWay, Stage, Idle, Fresh, HasAccessed, HasLeft, HasChanged}
 use Rattle.core_views.specs.Events.{facts_after, line_after}
 use Rattle.core_views.specs.Lawful.{HasWork, IsAllowed, MayLeave, SawForbidden, Tells, slot_change}
 use Rattle.core_views.specs.FlatHistory.{by, answers, accessing, reaching, doing, doing_by, rest_of}
+use Rattle.core_views.proofs.SlotChanges.{changes}
 
 -- What the line noted is so now.
 pub record AreExact (f : Facts) (notes : Notes) : Type 0 where
@@ -57,27 +57,22 @@ forbidden line gfn word op f notes exact saw =
     let denies : is_denied op (f.host saw.page) ≡ true = subst (λ (entry : HostEntry). is_denied op entry ≡ true) (exact.host saw.page saw.entry saw.looked) saw.forbids in
     ap (accessing line gfn word op f) behind ∙ ap (reaching line gfn word op f saw.page) denies
 
--- a clause for each command and answer with which it may leave
+-- a clause for each answer with which it may leave
 left : (z : Sizes) (line : Line) (command : Command) (f : Facts) (notes : Notes) (answer : Answer) → AreExact f notes → Exited answer ≢ Exited Starved → MayLeave z f command notes answer → doing z line command f ≡ by line (Exited answer) ∷ answers line answer
 left z line (Access gfn word op) f notes Mmio exact fed may =
     ap (accessing line gfn word op f) (subst (λ (slots : Slots). page_behind slots gfn op ≡ None) (exact.slots may.slots may.noted) may.none)
 left z line (Access gfn word op) f notes HostFault exact fed may = forbidden line gfn word op f notes exact may
-left z line (Access gfn word op) f notes Starved exact fed may = absurd (fed refl)
-left z line (SetSlot id slot) f notes Starved exact fed may = absurd (fed refl)
+left z line command f notes Starved exact fed may = absurd (fed refl)
 left z line _ f notes _ exact fed may = absurd may
 
 pub exit_is_next : (z : Sizes) (f : Facts) (u : LineUnderWay) (answer : Answer) → (u.stage ≡ Fresh → AreExact f u.notes) → Exited answer ≢ Exited Starved → IsAllowed z f u.line.actor u (Exited answer) → IsNext z f u (Exited answer)
 exit_is_next z f u answer exact fed may = rw (may.0) (left z u.line u.line.command f u.notes answer (exact may.0) fed may.1)
 
--- A slot line: the slot that it sets.
+-- A line that changes a slot: its change.
 
--- a clause for each command
 changed : (z : Sizes) (line : Line) (command : Command) (f : Facts) (id : ℕ) (slot : Option MemorySlot) → HasWork z f command → slot_change f.slots command ≡ Some (id, slot)
     → doing z line command f ≡ by line (SlotChanged id slot) ∷ answers line Done
-changed z line (Access gfn word op) f id slot works is = absurd (cc is)
-changed z line (SetSlot at new_) f id slot works is =
-    let same : (at, Some (record { slot = new_; logged = is_logged at f.slots })) ≡ (id, slot) = cc is in
-    ap (doing_by line (SetSlot at new_) f) works ∙ ap (λ (change : ℕ × Option MemorySlot). by line (SlotChanged change.0 change.1) ∷ answers line Done) same
+changed z line command f id slot works is = ap (doing_by line command f) works ∙ changes line command f (id, slot) is
 
 pub slot_change_is_next : (z : Sizes) (f : Facts) (u : LineUnderWay) (id : ℕ) (slot : Option MemorySlot) → IsAllowed z f u.line.actor u (SlotChanged id slot) → IsNext z f u (SlotChanged id slot)
 slot_change_is_next z f u id slot may = rw (may.0) (changed z u.line u.line.command f id slot may.1 may.2)
@@ -90,4 +85,4 @@ told z line Idle f answer tells = absurd tells
 told z line Fresh f answer tells = ap (doing_by line line.command f) tells
 told z line (HasAccessed frame value) f answer tells = ap (answers line) (sym tells)
 told z line (HasLeft how) f answer tells = ap (answers line) (sym tells)
-told z line HasSetSlot f answer tells = ap (answers line) (sym tells)
+told z line HasChanged f answer tells = ap (answers line) (sym tells)

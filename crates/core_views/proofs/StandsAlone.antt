@@ -6,20 +6,20 @@ use Rattle.core_views.specs.declared.answer.Answer.TheVariants.{Reached, Mmio, H
 use Rattle.core_views.specs.declared.event.Event.{Event}
 use Rattle.core_views.specs.declared.event.EventKind.TheVariants.{Begun, LookedAtPause, LookedAtSlots, LookedAtHost, Accessed, Exited, SlotChanged, Answered}
 use Rattle.core_views.specs.declared.trace.Command.{Command}
-use Rattle.core_views.specs.declared.trace.Command.TheVariants.{Access, SetSlot}
+use Rattle.core_views.specs.declared.trace.Command.TheVariants.{Access}
 use Rattle.core_views.specs.declared.trace.Line.{Line}
 use Rattle.core_views.specs.declared.trace.Op.{Op}
-use Rattle.core_views.specs.declared.trace.Slot.{Slot}
+use Rattle.core_views.specs.declared.slot_set.MemorySlot.{MemorySlot}
 use Rattle.core_views.specs.declared.sizes.Sizes.{Sizes}
 use Rattle.core_views.specs.Host.{is_denied}
 use Rattle.core_views.specs.Slots.{page_behind}
 use Rattle.core_views.specs.SlotSets.{flat_slots}
-use Rattle.core_views.specs.Refusals.{is_logged}
 use Rattle.core_views.specs.Flat.{Facts}
 use Rattle.core_views.specs.Events.{facts_after_all}
-use Rattle.core_views.specs.Lawful.{answer_at_once}
+use Rattle.core_views.specs.Lawful.{answer_at_once, slot_change}
 use Rattle.core_views.specs.FlatHistory.{by, answers, accessing, reaching, doing, doing_by, looks, looks_behind, alone, one_by_one}
 use Rattle.core_views.specs.Alone.{AreWithin, StandsAlone, StandsFirst}
+use Rattle.core_views.proofs.SlotChanges.{changes}
 
 -- events of one line, and further ones behind them
 pub within_append : (line : Line) (xs ys : List Event) → AreWithin line xs → AreWithin line ys → AreWithin line (xs ++ ys)
@@ -44,7 +44,7 @@ pub stands_append : (lines further : List Line) (h more : List Event) → Stands
 stands_append [] further h more stands then_ = rw stands then_
 stands_append (line ∷ lines) further h more stands then_ = (stands.0 ++ more, more_behind line h stands.0 more stands.1, stands_append lines further stands.0 more stands.2 then_)
 
--- The flat history: a clause for each form of line.
+-- The flat history: an access, and a line that changes a slot.
 
 record Closed (line : Line) (es : List Event) : Type 0 where
   within : List Event
@@ -70,18 +70,20 @@ accessing_closed : (line : Line) (gfn word : ℕ) (op : Op) (f : Facts) (page : 
 accessing_closed line gfn word op f None = record { within = by line LookedAtPause ∷ by line LookedAtSlots ∷ by line (Exited Mmio) ∷ []; answer = Mmio; are_within = (refl, tt, (refl, tt, (refl, tt, tt))); events_are = refl }
 accessing_closed line gfn word op f (Some page) = reaching_closed line gfn word op f page (is_denied op (f.host page))
 
-setting_closed : (line : Line) (id : ℕ) (slot : Slot) (f : Facts) (at_once : Option Answer) → Closed line (doing_by line (SetSlot id slot) f at_once)
-setting_closed line id slot f None = record {
-  within = by line (SlotChanged id (Some (record { slot = slot; logged = is_logged id f.slots }))) ∷ [];
+-- A line that changes a slot, or is answered at once.
+change_closed : (line : Line) (command : Command) (f : Facts) (change : ℕ × Option MemorySlot) (at_once : Option Answer) → slot_change f.slots command ≡ Some change
+    → Closed line (doing_by line command f at_once)
+change_closed line command f change None is = record {
+  within = by line (SlotChanged change.0 change.1) ∷ [];
   answer = Done;
   are_within = (refl, tt, tt);
-  events_are = refl;
+  events_are = changes line command f change is;
 }
-setting_closed line id slot f (Some answer) = record { within = []; answer = answer; are_within = tt; events_are = refl }
+change_closed line command f change (Some answer) is = record { within = []; answer = answer; are_within = tt; events_are = refl }
 
 doing_closed : (z : Sizes) (line : Line) (command : Command) (f : Facts) → Closed line (looks line command f ++ doing z line command f)
 doing_closed z line (Access gfn word op) f = accessing_closed line gfn word op f (page_behind (flat_slots f.slots) gfn op)
-doing_closed z line (SetSlot id slot) f = setting_closed line id slot f (answer_at_once z f.slots (SetSlot id slot))
+doing_closed z line command f = change_closed line command f _ (answer_at_once z f.slots command) refl
 
 alone_first : (z : Sizes) (line : Line) (f : Facts) (rest : List Event) → StandsFirst line (alone z line f ++ rest) rest
 alone_first z line f rest =

@@ -9,7 +9,7 @@ use Rattle.core_views.specs.Host.{with_entry}
 use Rattle.core_views.specs.Slots.{page_behind}
 use Rattle.core_views.specs.SlotSets.{changed_slots, flat_slots}
 use Rattle.core_views.specs.Memory.{Memory, with_word, stored}
-use Rattle.core_views.specs.Flat.{Facts, LineUnderWay, Flat, no_notes, Idle, Fresh, HasAccessed, HasLeft, HasSetSlot}
+use Rattle.core_views.specs.Flat.{Facts, LineUnderWay, Flat, no_notes, Idle, Fresh, HasAccessed, HasLeft, HasChanged}
 
 -- the memory after an access to a word of this host page
 abbrev pub touched : Option ℕ → ℕ → Op → Memory → Memory
@@ -30,7 +30,7 @@ line_after LookedAtSlots f u = record u { notes = record u.notes { slots = Some 
 line_after (LookedAtHost page) f u = record u { notes = record u.notes { host = with_entry page (f.host page) u.notes.host } }
 line_after (Accessed gfn word op frame before) f u = record u { stage = HasAccessed frame before }
 line_after (Exited answer) f u = record u { stage = HasLeft answer }
-line_after (SlotChanged id slot) f u = record u { stage = HasSetSlot }
+line_after (SlotChanged id slot) f u = record u { stage = HasChanged }
 line_after (Answered line answer) f u = record u { stage = Idle }
 
 abbrev pub after : Event → Flat → Flat

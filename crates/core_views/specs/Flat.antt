@@ -24,7 +24,7 @@ pub data Stage : Type 0 where
   Fresh : Stage  -- begun, and nothing done yet
   HasAccessed : (frame value : ℕ) → Stage  -- its access was made
   HasLeft : (answer : Answer) → Stage  -- it was given up: its access left the guest, or no page was free
-  HasSetSlot : Stage  -- its change took effect
+  HasChanged : Stage  -- its change took effect
 
 -- what the line looked at, as it last did: the pause, the slots, and the entry of each host page
 pub record Notes : Type 0 where

@@ -6,20 +6,19 @@ use Rattle.core_views.specs.declared.event.Event.{Event}
 use Rattle.core_views.specs.declared.event.EventKind.{EventKind}
 use Rattle.core_views.specs.declared.event.EventKind.TheVariants.{Begun, LookedAtPause, LookedAtSlots, LookedAtHost, Accessed, Exited, SlotChanged, Answered}
 use Rattle.core_views.specs.declared.trace.Command.{Command}
-use Rattle.core_views.specs.declared.trace.Command.TheVariants.{Access, SetSlot}
+use Rattle.core_views.specs.declared.trace.Command.TheVariants.{Access}
 use Rattle.core_views.specs.declared.sizes.Sizes.{Sizes}
 use Rattle.core_views.specs.Sizes.{sizes_of}
 use Rattle.core_views.specs.declared.trace.Line.{Line}
 use Rattle.core_views.specs.declared.trace.Op.{Op}
-use Rattle.core_views.specs.declared.trace.Slot.{Slot}
+use Rattle.core_views.specs.declared.slot_set.MemorySlot.{MemorySlot}
 use Rattle.core_views.specs.declared.trace.Trace.{Trace}
 use Rattle.core_views.specs.Host.{is_denied}
 use Rattle.core_views.specs.Slots.{page_behind}
 use Rattle.core_views.specs.SlotSets.{flat_slots}
-use Rattle.core_views.specs.Refusals.{is_logged}
-use Rattle.core_views.specs.Flat.{Facts, Stage, Idle, Fresh, HasAccessed, HasLeft, HasSetSlot, first_facts}
+use Rattle.core_views.specs.Flat.{Facts, Stage, Idle, Fresh, HasAccessed, HasLeft, HasChanged, first_facts}
 use Rattle.core_views.specs.Events.{facts_after_all}
-use Rattle.core_views.specs.Lawful.{answer_at_once}
+use Rattle.core_views.specs.Lawful.{answer_at_once, slot_change}
 
 abbrev pub by : Line → EventKind → Event
 by line kind = record { actor = line.actor; kind = kind }
@@ -37,14 +36,15 @@ abbrev pub accessing : Line → ℕ → ℕ → Op → Facts → Option ℕ → 
 accessing line gfn word op f None = by line (Exited Mmio) ∷ answers line Mmio
 accessing line gfn word op f (Some page) = reaching line gfn word op f page (is_denied op (f.host page))
 
--- A slot that is set keeps its dirty log.
-abbrev pub setting : Line → ℕ → Slot → Facts → List Event
-setting line id slot f = by line (SlotChanged id (Some (record { slot = slot; logged = is_logged id f.slots }))) ∷ answers line Done
+-- A line that changes the slot at an ID makes this change, and is done.
+abbrev pub changing : Line → Option (ℕ × Option MemorySlot) → List Event
+changing line None = []
+changing line (Some change) = by line (SlotChanged change.0 change.1) ∷ answers line Done
 
 -- what a line does that has something to do
 abbrev pub working : Line → Command → Facts → List Event
 working line (Access gfn word op) f = accessing line gfn word op f (page_behind (flat_slots f.slots) gfn op)
-working line (SetSlot id slot) f = setting line id slot f
+working line command f = changing line (slot_change f.slots command)
 
 -- A line that has nothing to do is answered at once, and changes nothing.
 abbrev pub doing_by : Line → Command → Facts → Option Answer → List Event
@@ -60,7 +60,7 @@ rest_of z line Idle f = []
 rest_of z line Fresh f = doing z line line.command f
 rest_of z line (HasAccessed frame value) f = answers line (Reached frame value)
 rest_of z line (HasLeft answer) f = answers line answer
-rest_of z line HasSetSlot f = answers line Done
+rest_of z line HasChanged f = answers line Done
 
 -- what a line looks at before it does anything: an access at the pause, at the slots, and at the host page that they give it
 abbrev pub looks_behind : Line → Option ℕ → List Event
@@ -69,7 +69,7 @@ looks_behind line (Some page) = by line (LookedAtHost page) ∷ []
 
 abbrev pub looks : Line → Command → Facts → List Event
 looks line (Access gfn word op) f = by line LookedAtPause ∷ by line LookedAtSlots ∷ looks_behind line (page_behind (flat_slots f.slots) gfn op)
-looks line (SetSlot id slot) f = []
+looks line _ f = []
 
 -- the whole line, alone
 abbrev pub alone : Sizes → Line → Facts → List Event

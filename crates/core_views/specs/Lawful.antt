@@ -17,7 +17,7 @@ use Rattle.core_views.specs.SlotSets.{MemorySlots, flat_slots}
 use Rattle.core_views.specs.Refusals.{is_logged, set_refusal}
 use Rattle.core_views.specs.Host.{HostEntry, is_denied}
 use Rattle.core_views.specs.Names.{names}
-use Rattle.core_views.specs.Flat.{Facts, Notes, LineUnderWay, Flat, Stage, Idle, Fresh, HasAccessed, HasLeft, HasSetSlot}
+use Rattle.core_views.specs.Flat.{Facts, Notes, LineUnderWay, Flat, Stage, Idle, Fresh, HasAccessed, HasLeft, HasChanged}
 use Rattle.core_views.specs.Events.{after}
 
 -- The access reaches the frame that slots and host name now, at a word that holds `before`.
@@ -83,7 +83,7 @@ MayLeave _ _ _ _ _ = ⊥
 abbrev pub Tells : Sizes → MemorySlots → Command → Stage → Answer → Type 0
 Tells z slots command (HasAccessed frame value) answer = answer ≡ Reached frame value
 Tells z slots command (HasLeft how) answer = answer ≡ how
-Tells z slots command HasSetSlot answer = answer ≡ Done
+Tells z slots command HasChanged answer = answer ≡ Done
 Tells z slots command Idle answer = ⊥
 Tells z slots command Fresh answer = answer_at_once z slots command ≡ Some answer
 

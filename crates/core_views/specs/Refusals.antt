@@ -15,7 +15,7 @@ moves_logged slot was = was.logged && not (was.slot.base == slot.base)
 abbrev pub slot_from : ℕ → ℕ → ℕ → Bool → Slot
 slot_from base pages host ro = record { base = base; pages = pages; host = host; read_only = ro }
 
--- why the setting of this slot is refused, on a machine of so many host pages
+-- why this slot is refused, on a machine of so many host pages
 abbrev pub set_refusal : ℕ → ℕ → Slot → MemorySlots → Option Refusal
 set_refusal total id slot slots = first_of (
     (nat_lt 31 id, BadId)

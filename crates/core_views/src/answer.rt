@@ -16,7 +16,7 @@ pub enum Answer {
     HostFault,
     /// No pool page was free for a table that the access needs.
     Starved,
-    /// A slot setting took effect.
+    /// The change of a slot took effect.
     Done,
     /// The line is refused, and nothing has changed.
     Refused(Refusal),

@@ -30,7 +30,7 @@ pub enum EventKind {
         before: u64,
     },
     /// The line is given up with no effect: an access leaves the guest without
-    /// touching memory, or a slot setting finds no free page for the new slot set.
+    /// touching memory, or a slot line finds no free page for the new slot set.
     Exited(Answer),
     /// From now on this is the memory slot with the ID, or there is none.
     SlotChanged {

@@ -52,7 +52,7 @@ fn word_of_slot(slot: &Option<MemorySlot>, i: u64) -> u64
     }
 }
 
-// The slot with this ID, behind the setting of a slot.
+// The slot with this ID, after a slot was set.
 #[tactic(auto, using(crate::proofs::SetWords::set_at))]
 fn slot_after(slots: &SlotSet, id: u64, slot: &Slot, here: u64) -> Option<MemorySlot>
     ensures { result ≡ slot_at here (after_set id slot.now slots.now) }

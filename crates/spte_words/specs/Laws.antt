@@ -44,7 +44,7 @@ KindsDiffer =
     × (table_word page ≢ frozen_word)
     × (2 ≤ level → leaf_word level frame w hw mw ≢ table_word page)
 
--- Setting or clearing write gives the leaf that is the same in all else.
+-- With write set or cleared it is the leaf that is the same in all else.
 abbrev pub WriteIsOneBit : Type 0
 WriteIsOneBit =
     (level frame : ℕ) (w hw mw : Bool)

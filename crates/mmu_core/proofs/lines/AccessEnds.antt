@@ -47,7 +47,8 @@ look_fed : (begun : Bool) → AreFed (if begun then [] else LookedAtSlots ∷ []
 look_fed true = tt
 look_fed false = (λ e. absurd (cc e), tt)
 
-pub access_fed : (p : AccessPlace) (h : Held) (gfn word : ℕ) (op : Op) (v : ℕ) → access_outcome p h gfn op v ≢ Ends Starved → AreFed (access_tells p h gfn word op v)
+pub access_fed : (p : AccessPlace) (h : Held) (gfn word : ℕ) (op : Op) (v : ℕ) → access_outcome p h gfn op v ≢ Ends Starved
+    → AreFed (access_tells p h gfn word op v)
 access_fed (Pause again) h gfn word op v other = (λ e. absurd (cc e), tt)
 access_fed Touch h gfn word op v other = (λ e. absurd (cc e), tt)
 access_fed (Fault (fault.Find begun)) h gfn word op v other = look_fed begun

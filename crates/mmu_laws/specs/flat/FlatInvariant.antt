@@ -18,7 +18,7 @@ use Rattle.core_views.specs.declared.trace.Command.{Command}
 use Rattle.core_views.specs.declared.trace.Command.TheVariants.{Access, SetSlot}
 use Rattle.core_views.specs.declared.trace.Line.{Line}
 use Rattle.core_views.specs.declared.trace.Op.{Op}
-use Rattle.core_views.specs.Flat.{Facts, Flat, LineUnderWay, Notes, Fresh, HasAccessed, HasSetSlot, Idle}
+use Rattle.core_views.specs.Flat.{Facts, Flat, LineUnderWay, Notes, Fresh, HasAccessed, HasChanged, Idle}
 use Rattle.core_views.specs.Held.{Held}
 use Rattle.core_views.specs.Host.{HostMap, own_frames}
 use Rattle.core_views.specs.Lawful.{SawForbidden, SawNoPage, SawPage}
@@ -85,10 +85,10 @@ AccessUnder pool _ gfn op t u = Runs u
 
 -- A slot setting has done nothing yet, up to its publication; behind it, it has set its slot.
 abbrev pub SettingUnder : SetSlotPlace → LineUnderWay → Type 0
-SettingUnder Release u = u.stage ≡ HasSetSlot
-SettingUnder Watch u = u.stage ≡ HasSetSlot
-SettingUnder Clear u = u.stage ≡ HasSetSlot
-SettingUnder Give u = u.stage ≡ HasSetSlot
+SettingUnder Release u = u.stage ≡ HasChanged
+SettingUnder Watch u = u.stage ≡ HasChanged
+SettingUnder Clear u = u.stage ≡ HasChanged
+SettingUnder Give u = u.stage ≡ HasChanged
 SettingUnder _ u = u.stage ≡ Fresh
 
 -- The line under way is this one, with this command, at this place, and its actor holds these topics.
