@@ -310,7 +310,7 @@ fn answers_the_table(rt: HostRuntime) -> Result<(), Fail> {
             cases = cases.saturating_add(1);
         }
     }
-    assert_eq!(rt; cases, 220);
+    assert_eq!(rt; cases, 227);
     Ok(())
 }
 
