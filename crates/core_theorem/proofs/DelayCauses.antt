@@ -14,15 +14,18 @@ use Rattle.core_views.specs.Held.{Held}
 use Rattle.core_views.specs.Sizes.{actors_of}
 use Rattle.part_steps.specs.declared.part_step.PartStep.{PartStep}
 use Rattle.part_steps.specs.PartTasks.{part_kind}
+use Rattle.part_steps.specs.PartBounds.{PartRests}
 use Rattle.part_steps.specs.PartSteps.{PartNeeds}
 use Rattle.mmu_core.specs.lines.Delays.{begins_anew, line_waits}
 use Rattle.mmu_core.specs.machine.Enabled.{mmu}
-use Rattle.mmu_core.specs.lines.KnowsPart.{KnowsPart}
+use Rattle.mmu_core.specs.lines.Forms.{KnowsPart}
 use Rattle.mmu_core.specs.invariant.Laws.{IsSound}
 use Rattle.mmu_core.specs.machine.Machine.{Legal, May, Step, World, hand_in, run}
 use Rattle.mmu_core.specs.lines.PartWaits.{part_waits}
 use Rattle.mmu_core.specs.machine.Steps.{has_line}
 use Rattle.mmu_laws.specs.causes.Waits.{SawNothing, StepWaitIsCaused}
+use Rattle.mmu_core.specs.machine.View.{view}
+use Rattle.mmu_core.proofs.invariant.PartBounded.{part_rests_at}
 use Rattle.mmu_core.specs.machine.Worlds.{Reachable}
 use Rattle.mmu_core.specs.machine.Turns.{line_of}
 use Rattle.mmu_laws.proofs.causes.Causes.{faults_begin_anew_by_cause}
@@ -33,12 +36,13 @@ use Rattle.mmu_laws.proofs.causes.StarvedScan.{legal_parts}
 use Rattle.mmu_core.proofs.start.Starts.{hand_is}
 use Rattle.mmu_laws.proofs.turns.DelayCases.{delays_wait_or_begin_anew}
 use Rattle.mmu_laws.proofs.causes.StepWaits.{step_waits_are_by_cause}
+use Rattle.mmu_laws.proofs.causes.WaitsSee.{waits_see_another as step_waits_see_another}
 use Rattle.mmu_core.proofs.lines.LineWaits.{WaitsAs, line_waits_as}
 use Rattle.mmu_core.proofs.machine.Which.{is_next}
 use Rattle.mmu_core.proofs.machine.Worlds.{good_run}
-use Rattle.core_theorem.specs.Delays.{BeginsAnew, BetweenLinesSawNothing, DelaysHaveCauses, StartsSawNothing, StepWaits, WaitsHaveCauses, answer_of, hand_of}
+use Rattle.core_theorem.specs.Delays.{BeginsAnew, BetweenLinesSawNothing, DelaysHaveCauses, StartsSawNothing, StepWaits, WaitsHaveCauses, WaitsSeeAnother, answer_of, hand_of}
 use Rattle.core_theorem.specs.Runs.{IsRun}
-use Rattle.core_theorem.proofs.Runs.{reached, sound}
+use Rattle.core_theorem.proofs.Runs.{before, may_last, reached, sound}
 
 -- The place is the end of a section that begins anew.
 record IsNewBeginning (p : Place) : Type 0 where
@@ -94,16 +98,19 @@ module _ (z : Sizes) (lines : List Line) (w : World Held) (ss ts : List (Step Ki
   there = subst (λ n. s.actor < n) last_good.hands may.there
 
   reached_last : Reachable (run mmu u ts)
-  reached_last = record { sizes = z; lines = lines; start = w; is_start = R.start; leads = then mmu w u (run mmu u ts) (leads_to_end mmu w ss parts.0) (leads_to_end mmu u ts since.0) }
+  reached_last =
+      record { sizes = z; lines = lines; start = w; is_start = R.start; leads = then mmu w u (run mmu u ts) (leads_to_end mmu w ss parts.0) (leads_to_end mmu u ts since.0) }
 
   known : KnowsPart h.state.place h.state.line.command h
   known = last_good.holds.knows s.actor there
 
-  pub wait_is_caused : (step : PartStep) (note : ℕ) → SawNothing (hand_in mmu u s.actor).topics → s.kind ≡ part_kind h step note → PartNeeds step h → part_waits step h.topics v ≡ true → StepWaitIsCaused step z u ts s
+  pub wait_is_caused : (step : PartStep) (note : ℕ) → SawNothing (hand_in mmu u s.actor).topics → s.kind ≡ part_kind h step note → PartNeeds step h
+      → part_waits step h.topics v ≡ true → StepWaitIsCaused step z u ts s
   wait_is_caused step note N is needs waits = step_waits_are_by_cause z u ts s step note good parts.1 N is needs waits
 
   waiting : SawNothing (hand_in mmu u s.actor).topics → WaitsAs h s.kind v → StepWaits z u ts s
-  waiting N W = record { step = W.step; note = W.note; is = W.is; needs = W.needs; waits = W.waits_; caused = wait_is_caused W.step W.note N W.is W.needs W.waits_ }
+  waiting N W =
+      record { step = W.step; note = W.note; is = W.is; needs = W.needs; waits = W.waits_; caused = wait_is_caused W.step W.note N W.is W.needs W.waits_ }
 
   beginning : (hand_in mmu u s.actor).state.place ≡ place.Between → IsNewBeginning h.state.place → BeginsAnew z u ts s
   beginning idle N =
@@ -118,7 +125,8 @@ module _ (z : Sizes) (lines : List Line) (w : World Held) (ss ts : List (Step Ki
         caused = faults_begin_anew_by_cause z u ts s.actor A.gfn A.word A.op N.cause good since.0 idle N.is A.command;
       }
 
-  by : has_line h ≡ true → (hand_in mmu u s.actor).state.place ≡ place.Between → (line_waits h.state.place (line_of h).command h v ≡ true) ⊎ (begins_anew h.state.place ≡ true) → BeginsAnew z u ts s ⊎ StepWaits z u ts s
+  by : has_line h ≡ true → (hand_in mmu u s.actor).state.place ≡ place.Between
+      → (line_waits h.state.place (line_of h).command h v ≡ true) ⊎ (begins_anew h.state.place ≡ true) → BeginsAnew z u ts s ⊎ StepWaits z u ts s
   by has idle (inl is) =
       let had = line_left_before z u ts s.actor good since.0 has in
       let N = between_lines_saw_nothing u s.actor (reached z lines w ss up_to) (subst (λ n. s.actor < n) (sym good.hands) there) had idle in
@@ -128,13 +136,23 @@ module _ (z : Sizes) (lines : List Line) (w : World Held) (ss ts : List (Step Ki
 pub waits_have_causes : WaitsHaveCauses
 waits_have_causes z lines w ss ts s step note R N is needs waits = wait_is_caused z lines w ss ts s R step note N is needs waits
 
+pub waits_see_another : WaitsSeeAnother
+waits_see_another z lines w ss s step note R is needs waits =
+    let G : IsSound z (run mmu w ss) = sound z lines w ss (before z lines w ss s R) in
+    let may : May mmu (run mmu w ss) s = may_last z lines w ss s R in
+    let rests : PartRests (hand_of w ss s) = part_rests_at z (view z (run mmu w ss)) s.actor G.holds G.topics (subst (λ n. s.actor < n) G.hands may.there) in
+    step_waits_see_another step (hand_of w ss s) (answer_of w ss s) rests needs waits
+
 pub delays_have_causes : DelaysHaveCauses
-delays_have_causes z lines w ss ts s R idle has delays = by z lines w ss ts s R has idle (delays_wait_or_begin_anew (run mmu (run mmu w ss) ts) s (reached_last z lines w ss ts s R) (may z lines w ss ts s R) has delays)
+delays_have_causes z lines w ss ts s R idle has delays =
+    by z lines w ss ts s R has idle (delays_wait_or_begin_anew (run mmu (run mmu w ss) ts) s (reached_last z lines w ss ts s R) (may z lines w ss ts s R) has delays)
 
 -- ---- what an actor has seen at the start, and between its lines
 
 pub starts_saw_nothing : StartsSawNothing
-starts_saw_nothing z lines w actor R there = (ap (λ (h : Held). h.state.place) (hand_is z lines w actor R.start there), seen_at_start z lines w actor R.start there)
+starts_saw_nothing z lines w actor R there =
+    (ap (λ (h : Held). h.state.place) (hand_is z lines w actor R.start there), seen_at_start z lines w actor R.start there)
 
 pub between_lines_see_nothing : BetweenLinesSawNothing
-between_lines_see_nothing z lines w ss actor R there has idle = between_lines_saw_nothing (run mmu w ss) actor (reached z lines w ss R) (subst (λ n. actor < n) (sym (sound z lines w ss R).hands) there) has idle
+between_lines_see_nothing z lines w ss actor R there has idle =
+    between_lines_saw_nothing (run mmu w ss) actor (reached z lines w ss R) (subst (λ n. actor < n) (sym (sound z lines w ss R).hands) there) has idle

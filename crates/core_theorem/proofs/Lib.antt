@@ -5,7 +5,10 @@ pub mod Holdings
 pub mod SetsCleared
 pub mod Runs
 pub mod Turns
+pub mod AllTurns
+pub mod LineCounts
 pub mod LineTurns
+pub mod ActorSums
 pub mod Begins
 pub mod DelayCauses
 pub mod PauseSeen

@@ -36,7 +36,7 @@ use Rattle.mmu_core.specs.machine.Machine.{May, Step, World, answered, hand_in, 
 use Rattle.mmu_core.specs.machine.Outcomes.{place_after}
 use Rattle.mmu_core.specs.declared.outcome.Outcome.{Outcome}
 use Rattle.mmu_core.specs.declared.outcome.Outcome.TheVariants.{Goes, Ends}
-use Rattle.mmu_core.specs.machine.Steps.{first_place, outcome_at}
+use Rattle.mmu_core.specs.lines.Forms.{first_place, outcome_at}
 use Rattle.mmu_laws.proofs.causes.Changes.{made_longer, made_now}
 use Rattle.mmu_laws.proofs.causes.EachLine.{IsStepAt, LineSights, LinesSee, each_line}
 use Rattle.mmu_laws.proofs.causes.MadeSteps.{Makes, word_on}
@@ -112,9 +112,12 @@ module _ (z : Sizes) (w : World Held) (ss : List (Step Kind)) (s : Step Kind) (G
   longer : (code : ℕ) → s.kind.code ≡ code → code ≢ code_of kind.Enter → code ≢ code_of kind.Leave → Saw z w a ss → Saw z w a (ss ++ s ∷ [])
   longer code is enters leaves saw = made_longer (FindsNoPause z a) (StaysInGuest a) w ss s (λ mine. (λ e. enters (sym is ∙ e), λ e. leaves (sym is ∙ e))) saw
 
-  access_saw : (p : AccessPlace) (gfn word : ℕ) (op : Op) → IsStepAt h s (place.Access p) (Access gfn word op) → AccessSaw z w a p ss → SawNow (place_after (access_outcome p h gfn op v))
-  access_saw (Pause again) gfn word op K S = looked again (first_usable gfn (is_write op) h.cached.items) (looks (record { note = 0; is = K.is; needs = K.rests }) K.knows.guest)
-  access_saw (Root again) gfn word op K S = longer (code_of kind.Control) (ap (λ (k : Kind). k.code) K.is) (λ e. absurd (omega (arith, e))) (λ e. absurd (omega (arith, e))) S
+  access_saw : (p : AccessPlace) (gfn word : ℕ) (op : Op) → IsStepAt h s (place.Access p) (Access gfn word op) → AccessSaw z w a p ss
+      → SawNow (place_after (access_outcome p h gfn op v))
+  access_saw (Pause again) gfn word op K S =
+      looked again (first_usable gfn (is_write op) h.cached.items) (looks (record { note = 0; is = K.is; needs = K.rests }) K.knows.guest)
+  access_saw (Root again) gfn word op K S =
+      longer (code_of kind.Control) (ap (λ (k : Kind). k.code) K.is) (λ e. absurd (omega (arith, e))) (λ e. absurd (omega (arith, e))) S
   access_saw (Walk again) gfn word op K S =
       walked again (kind_of h.topics.walk.level v) (allows_access (is_write op) v)
       (longer (code_of kind.Walk) (ap (λ (k : Kind). k.code) K.is) (λ e. absurd (omega (arith, e))) (λ e. absurd (omega (arith, e))) S)
@@ -140,7 +143,8 @@ module _ (z : Sizes) (w : World Held) where
   first_saw actor y slots _ ss = tt
 
   -- No other actor's step ends the stay.
-  others_access : (actor : ℕ) (p : AccessPlace) (ss : List (Step Kind)) (s : Step Kind) → s.actor ≢ actor → AccessSaw z w actor p ss → AccessSaw z w actor p (ss ++ s ∷ [])
+  others_access : (actor : ℕ) (p : AccessPlace) (ss : List (Step Kind)) (s : Step Kind) → s.actor ≢ actor → AccessSaw z w actor p ss
+      → AccessSaw z w actor p (ss ++ s ∷ [])
   others_access actor p ss s other S = by p S
     where
       more : Saw z w actor ss → Saw z w actor (ss ++ s ∷ [])

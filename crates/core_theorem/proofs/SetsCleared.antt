@@ -6,16 +6,15 @@ use Rattle.core_views.specs.declared.kind.StepKind.TheVariants as kind
 use Rattle.core_views.specs.Kinds.{code_of}
 use Rattle.core_views.specs.declared.place.Place.{Place}
 use Rattle.core_views.specs.declared.place.Place.TheVariants as place
-use Rattle.core_views.specs.declared.place.SetSlotPlace.{SetSlotPlace}
-use Rattle.core_views.specs.declared.place.SetSlotPlace.TheVariants.{Claim, Fill, Role, Exclude, Count, Close, Publish, Watch, Clear, Give, Release}
+use Rattle.core_views.specs.declared.place.SlotChangePlace.{SlotChangePlace}
+use Rattle.core_views.specs.declared.place.SlotChangePlace.TheVariants.{Claim, Fill, Role, Exclude, Count, Close, Publish, Watch, Clear, Give, Release}
 use Rattle.core_views.specs.declared.sizes.Sizes.{Sizes}
 use Rattle.core_views.specs.declared.topics.Topics.{Topics}
 use Rattle.core_views.specs.declared.trace.Command.{Command}
-use Rattle.core_views.specs.declared.trace.Command.TheVariants.{SetSlot}
+use Rattle.core_views.specs.declared.trace.Command.TheVariants.{Access}
 use Rattle.core_views.specs.declared.trace.Line.{Line}
 use Rattle.core_views.specs.declared.trace.Op.{Op}
 use Rattle.core_views.specs.declared.trace.Op.TheVariants.{Read}
-use Rattle.core_views.specs.declared.trace.Slot.{Slot}
 use Rattle.core_views.specs.Held.{Held}
 use Rattle.core_views.specs.Sizes.{actors_of}
 use Rattle.spte_words.specs.declared.area.Area.{Area}
@@ -37,9 +36,9 @@ use Rattle.mmu_core.specs.invariant.Laws.{IsSound}
 use Rattle.mmu_core.specs.machine.Machine.{May, Step, World, effect, hand_in, run}
 use Rattle.mmu_core.specs.machine.Outcomes.{place_after}
 use Rattle.mmu_core.specs.lines.PartAt.{task_at}
-use Rattle.mmu_core.specs.lines.SetSlotSteps.{after_claim, watch_next, set_slot_note, set_slot_outcome, set_slot_task}
+use Rattle.mmu_core.specs.lines.SlotChangeSteps.{after_claim, watch_next, slot_change_note, slot_change_outcome, slot_change_task}
 use Rattle.mmu_core.specs.machine.Steps.{has_line, line_at, place_at, task_of}
-use Rattle.mmu_core.specs.lines.SetSlotKnows.{SetSlotKnows}
+use Rattle.mmu_core.specs.lines.SlotChangeKnows.{SlotChangeKnows}
 use Rattle.mmu_core.specs.invariant.TopicsInvariant.{TopicsInvariant}
 use Rattle.mmu_core.specs.machine.View.{View, answer_in, part_stepped, stepped, upd, view, word_in, words_after}
 use Rattle.mmu_laws.proofs.causes.Changes.{of_each_list}
@@ -48,7 +47,7 @@ use Rattle.mmu_core.proofs.pages.OwnedBehind.{left_is}
 use Rattle.mmu_core.proofs.machine.PartStepping.{IsPart}
 use Rattle.mmu_core.proofs.words.PartWords.{HasOtherRole, left_elsewhere, role_stays}
 use Rattle.mmu_core.proofs.pages.PoolPages.{left_not_owned, one_leaver}
-use Rattle.mmu_core.proofs.slots.SettingHolds.{either_place, each_watch}
+use Rattle.mmu_core.proofs.slots.SlotChangePlaces.{either_place, each_watch}
 use Rattle.mmu_core.proofs.start.Starts.{hand_is, start_good}
 use Rattle.mmu_core.proofs.lines.StepIn.{StepIn, Makes, Touches, step_in}
 use Rattle.mmu_core.proofs.machine.Stepping.{IsStep}
@@ -63,40 +62,39 @@ use Rattle.core_theorem.proofs.Runs.{before, last_actor, may_last, sound}
 -- A page is given back while one is leaving: this one, at the last place of a slot line, after the watch.
 pub gives_old : (z : Sizes) (u : World Held) (G : IsSound z u) (s : Step Kind) (page : ℕ) → s.actor < actors_of z → May mmu u s
     → s.kind.code ≡ code_of kind.Give → (hand_in mmu u s.actor).topics.leaving ≡ Some page
-    → ((hand_in mmu u s.actor).state.place ≡ place.SetSlot Give) × MayGiveOld (hand_in mmu u s.actor)
+    → ((hand_in mmu u s.actor).state.place ≡ place.SlotChange Give) × MayGiveOld (hand_in mmu u s.actor)
 gives_old z u G s page there may gives left =
     by h.state.place h.state.line.command refl refl (G.holds.knows s.actor there) (G.holds.leaves s.actor there) (G.holds.lines s.actor there).under
   where
     h : Held
     h = hand_in mmu u s.actor
 
-    old : (p : SetSlotPlace) (id : ℕ) (slot : Slot) → SetSlotKnows p h → LeavesPart (place.SetSlot p) h.topics
-        → code_of (set_slot_task p h id slot).kind ≡ code_of kind.Give → (place.SetSlot p ≡ place.SetSlot Give) × MayGiveOld h
-    old Give id slot K L e = (refl, K.1)
-    old Release id slot K L e = absurd (omega (arith, e))
-    old Watch id slot K L e = absurd (omega (arith, e))
-    old Clear id slot K L e = absurd (omega (arith, e))
-    old _ id slot K L e = let none = L refl in absurd (cc (none, left))
+    old : (p : SlotChangePlace) (command : Command) → SlotChangeKnows p h → LeavesPart (place.SlotChange p) h.topics
+        → code_of (slot_change_task p h command).kind ≡ code_of kind.Give → (place.SlotChange p ≡ place.SlotChange Give) × MayGiveOld h
+    old Give command K L e = (refl, K.1)
+    old Release command K L e = absurd (omega (arith, e))
+    old Watch command K L e = absurd (omega (arith, e))
+    old Clear command K L e = absurd (omega (arith, e))
+    old _ command K L e = let none = L refl in absurd (cc (none, left))
 
     by : (p : Place) (c : Command) → h.state.place ≡ p → h.state.line.command ≡ c → KnowsPart p c h → LeavesPart p h.topics → UnderWay p h
-        → (h.state.place ≡ place.SetSlot Give) × MayGiveOld h
-    by (place.SetSlot p) (SetSlot id slot) at is K L U =
+        → (h.state.place ≡ place.SlotChange Give) × MayGiveOld h
+    by (place.SlotChange p) command at is K L U =
         let N = is_next h s.kind may.enabled (has_line_is h U.1) in
-        let task : task_of h ≡ set_slot_task p h id slot = ap (λ q. task_at (place_at q h) (line_at q h).command h) at ∙ ap (λ c. task_at (place.SetSlot p) c h) is in
-        let there_now = old p id slot K L (ap (λ (t : Task). code_of t.kind) (sym task) ∙ (sym (ap (λ (k : Kind). k.code) N.is) ∙ gives)) in
+        let task : task_of h ≡ slot_change_task p h command = ap (λ q. task_at (place_at q h) (line_at q h).command h) at ∙ ap (λ c. task_at (place.SlotChange p) c h) is in
+        let there_now = old p command K.1 L (ap (λ (t : Task). code_of t.kind) (sym task) ∙ (sym (ap (λ (k : Kind). k.code) N.is) ∙ gives)) in
         (at ∙ there_now.0, there_now.1)
-    by (place.SetSlot p) _ at is K L U = absurd K
     by _ c at is K L U = let none = L refl in absurd (cc (none, left))
 
 -- ---- its role
 
 -- Where the line is about to give the page back that is leaving, the page's role is 0.
-abbrev SettingCleared : (ℕ → ℕ) → SetSlotPlace → Topics → Type 0
-SettingCleared role Give t = role (page_left t.leaving) ≡ 0
-SettingCleared role _ t = Unit {0}
+abbrev SlotChangeCleared : (ℕ → ℕ) → SlotChangePlace → Topics → Type 0
+SlotChangeCleared role Give t = role (page_left t.leaving) ≡ 0
+SlotChangeCleared role _ t = Unit {0}
 
 abbrev PlaceCleared : (ℕ → ℕ) → Place → Topics → Type 0
-PlaceCleared role (place.SetSlot p) t = SettingCleared role p t
+PlaceCleared role (place.SlotChange p) t = SlotChangeCleared role p t
 PlaceCleared role _ t = Unit {0}
 
 abbrev HeldCleared : (ℕ → ℕ) → Held → Type 0
@@ -113,56 +111,50 @@ module _ (role : ℕ → ℕ) (x : ℕ) (t : Topics) where
   claim_cleared _ = tt
 
   -- The step of this place clears the role.
-  abbrev clears : SetSlotPlace → Bool
+  abbrev clears : SlotChangePlace → Bool
   clears Clear = true
   clears _ = false
 
   -- From no other place does a slot line come to give the page back.
-  no_give : (p : SetSlotPlace) (h : Held) → clears p ≡ false → PlaceCleared role (place_after (set_slot_outcome p h x)) t
+  no_give : (p : SlotChangePlace) (h : Held) → clears p ≡ false → PlaceCleared role (place_after (slot_change_outcome p h x)) t
   no_give (Claim begun) h never = claim_cleared (claim_next begun h.state.sizes h.topics.claim x)
-  no_give Fill h never = either_place (λ q. SettingCleared role q t) (nat_lt (words_filled h.topics.owned + 1) 512) Fill Role tt tt
-  no_give Exclude h never = either_place (λ q. SettingCleared role q t) (x == 0) Count Exclude tt tt
-  no_give Count h never = either_place (λ q. SettingCleared role q t) (x == 0) Publish Close tt tt
-  no_give Watch h never = each_watch (λ q. SettingCleared role q t) (watch_next h x) tt tt
+  no_give Fill h never = either_place (λ q. SlotChangeCleared role q t) (nat_lt (words_filled h.topics.owned + 1) 512) Fill Role tt tt
+  no_give Exclude h never = either_place (λ q. SlotChangeCleared role q t) (x == 0) Count Exclude tt tt
+  no_give Count h never = either_place (λ q. SlotChangeCleared role q t) (x == 0) Publish Close tt tt
+  no_give Watch h never = each_watch (λ q. SlotChangeCleared role q t) (watch_next h x) tt tt
   no_give Clear h never = absurd (cc never)
   no_give _ h never = tt
 
-module _ (words : Area → ℕ → ℕ) (h : Held) (id : ℕ) (slot : Slot) (x : ℕ) where
-  abbrev role_behind : SetSlotPlace → ℕ → ℕ
-  role_behind p = words_after (set_slot_task p h id slot) words area.Role
+module _ (words : Area → ℕ → ℕ) (h : Held) (command : Command) (x : ℕ) where
+  abbrev role_behind : SlotChangePlace → ℕ → ℕ
+  role_behind p = words_after (slot_change_task p h command) words area.Role
 
-  abbrev topics_behind : SetSlotPlace → Topics
-  topics_behind p = topics_after h.state.sizes (kind_of_task h.state.sizes (set_slot_task p h id slot)) h.topics x
+  abbrev topics_behind : SlotChangePlace → Topics
+  topics_behind p = topics_after h.state.sizes (kind_of_task h.state.sizes (slot_change_task p h command)) h.topics x
 
-  setting_cleared : (p : SetSlotPlace) → PlaceCleared (role_behind p) (place_after (set_slot_outcome p h x)) (topics_behind p)
-  setting_cleared Clear =
-      ap (λ l. role_behind Clear (page_left l)) (left_is part.Clear h.state.sizes (own_index h) h.topics (set_slot_note Clear h) x)
+  change_cleared : (p : SlotChangePlace) → PlaceCleared (role_behind p) (place_after (slot_change_outcome p h x)) (topics_behind p)
+  change_cleared Clear =
+      ap (λ l. role_behind Clear (page_left l)) (left_is part.Clear h.state.sizes (own_index h) h.topics (slot_change_note Clear h) x)
       ∙ upd_same (words area.Role) (page_left h.topics.leaving) 0
-  setting_cleared p = no_give (role_behind p) x (topics_behind p) p h refl
+  change_cleared p = no_give (role_behind p) x (topics_behind p) p h refl
 
--- A line of another form stands at no place of a slot line.
-abbrev IsOfOtherForm : Command → Type 0
-IsOfOtherForm (SetSlot id slot) = ⊥
-IsOfOtherForm _ = Unit {0}
-
-other_cleared : (role : ℕ → ℕ) (p : Place) (c command : Command) (h : Held) → IsOfOtherForm command → c ≡ command → KnowsPart p c h
-    → PlaceCleared role p h.topics
-other_cleared role (place.SetSlot p) (SetSlot id slot) command h other is K = absurd (subst IsOfOtherForm (sym is) other)
-other_cleared role (place.SetSlot p) _ command h other is K = absurd K
-other_cleared role _ c command h other is K = tt
+-- An access stands at no place of a slot line.
+access_cleared : (role : ℕ → ℕ) (q : Place) (gfn word : ℕ) (op : Op) (h : Held) → KnowsPart q (Access gfn word op) h → PlaceCleared role q h.topics
+access_cleared role (place.SlotChange q) gfn word op h K = absurd (cc K.0)
+access_cleared role _ gfn word op h K = tt
 
 own_cleared : (z : Sizes) (v : View) (a : ℕ) (line : Line) (c : Command) (p : Place) → IsStep z v a line c p → Invariant z (stepped a line c p v)
     → HandCleared (stepped a line c p v) a
-own_cleared z v a line (SetSlot id slot) (place.SetSlot p) S after =
-    let w : View = stepped a line (SetSlot id slot) (place.SetSlot p) v in
+own_cleared z v a line command (place.SlotChange p) S after =
+    let w : View = stepped a line command (place.SlotChange p) v in
     subst (HeldCleared (w.words area.Role)) (sym (upd_same v.hand a _))
-    (setting_cleared v.words (v.hand a) id slot (answer_in (set_slot_task p (v.hand a) id slot) v.words) p)
-own_cleared z v a line (SetSlot id slot) place.Between S after = absurd S.begun
-own_cleared z v a line (SetSlot id slot) _ S after = absurd S.holds
-own_cleared z v a line c p S after =
-    let w : View = stepped a line c p v in
-    let command : (w.hand a).state.line.command ≡ c = ap (λ (h : Held). h.state.line.command) (upd_same v.hand a _) ∙ S.command_is in
-    other_cleared (w.words area.Role) (w.hand a).state.place (w.hand a).state.line.command c (w.hand a) tt command (after.knows a S.there)
+    (change_cleared v.words (v.hand a) command (answer_in (slot_change_task p (v.hand a) command) v.words) p)
+own_cleared z v a line command place.Between S after = absurd S.begun
+own_cleared z v a line (Access gfn word op) (place.Access p) S after =
+    let w : View = stepped a line (Access gfn word op) (place.Access p) v in
+    let command : (w.hand a).state.line.command ≡ Access gfn word op = ap (λ (h : Held). h.state.line.command) (upd_same v.hand a _) ∙ S.command_is in
+    access_cleared (w.words area.Role) (w.hand a).state.place gfn word op (w.hand a) (subst (λ c. KnowsPart (w.hand a).state.place c (w.hand a)) command (after.knows a S.there))
+own_cleared z v a line _ _ S after = absurd S.holds
 
 -- ---- another actor's step
 
@@ -190,9 +182,8 @@ module _ (z : Sizes) (v : View) (a i : ℕ) (I : Invariant z v) (P : TopicsInvar
 
   still_cleared : (role after : ℕ → ℕ) (p : Place) (c : Command) (h : Held) → KnowsPart p c h → ((k : ℕ) → h.topics.leaving ≡ Some k → after k ≡ role k)
       → PlaceCleared role p h.topics → PlaceCleared after p h.topics
-  still_cleared role after (place.SetSlot Give) (SetSlot id slot) h K same C = same (page_left h.topics.leaving) (some_left h.topics.leaving K.1.leaves) ∙ C
-  still_cleared role after (place.SetSlot Give) _ h K same C = absurd K
-  still_cleared role after (place.SetSlot _) c h K same C = tt
+  still_cleared role after (place.SlotChange Give) command h K same C = same (page_left h.topics.leaving) (some_left h.topics.leaving K.1.1.leaves) ∙ C
+  still_cleared role after (place.SlotChange _) c h K same C = tt
   still_cleared role after _ c h K same C = tt
 
   others_cleared : (h : Held) (task : Task) → StepIn z v a task → HandCleared v i
@@ -206,7 +197,7 @@ module _ (z : Sizes) (v : View) (a i : ℕ) (I : Invariant z v) (P : TopicsInvar
 
 -- Who has no line left stands at no place of a slot line.
 idle_cleared : (role : ℕ → ℕ) (p : Place) (h : Held) (t : Topics) → has_line h ≡ false → UnderWay p h → PlaceCleared role p t
-idle_cleared role (place.SetSlot p) h t none U = let has = has_line_is h U.1 in absurd (cc (none, has))
+idle_cleared role (place.SlotChange p) h t none U = let has = has_line_is h U.1 in absurd (cc (none, has))
 idle_cleared role _ h t none U = tt
 
 module _ (z : Sizes) (u : World Held) (s : Step Kind) (G : IsSound z u) (may : May mmu u s) (i : ℕ) (lt : i < actors_of z) (C : HandCleared (view z u) i) where
@@ -278,5 +269,5 @@ returned_sets_are_cleared z lines w ss s R page gives left =
     there : s.actor < actors_of z
     there = last_actor z lines w ss s R
 
-    at : h.state.place ≡ place.SetSlot Give
+    at : h.state.place ≡ place.SlotChange Give
     at = (gives_old z u (sound z lines w ss earlier) s page there (may_last z lines w ss s R) gives.gives left).0

@@ -1,8 +1,8 @@
 -- What the steps of lines come to: what each hand has counted, a step longer; and the sum over all hands.
-use Rattle.std.proofs.Common.{◌≡◌, ◌≢◌, ◌⊎◌, inl, inr, ◌+◌, ◌*◌, ◌<◌, ◌≤◌, ℕ, zero, suc, List, [], ◌∷◌, length, length-append, refl, sym, subst, ap, ◌∙◌, arith}
+use Rattle.std.proofs.Common.{◌≡◌, ◌⊎◌, inl, inr, ◌+◌, ◌<◌, ◌≤◌, ℕ, List, [], ◌∷◌, length, length-append, refl, sym, subst, ap, ◌∙◌, arith}
 use Rattle.std.proofs.lemmas.Bool.{cases_Bool}
 use Rattle.std.proofs.lemmas.Bool.Decides.{nat_tests}
-use Rattle.std.specs.Prelude.{Bool, true, false, not, ◌&&◌}
+use Rattle.std.specs.Prelude.{Bool, true, false, not, ◌&&◌, if◌then◌else◌}
 use Rattle.core_views.specs.declared.answer.AnsweredLine.{AnsweredLine}
 use Rattle.core_views.specs.declared.kind.Kind.{Kind}
 use Rattle.core_views.specs.declared.place.Place.{Place}
@@ -19,22 +19,21 @@ use Rattle.mmu_core.specs.machine.Enabled.{mmu}
 use Rattle.mmu_core.specs.invariant.Laws.{IsSound}
 use Rattle.mmu_core.specs.machine.Machine.{Legal, May, Step, World, answered, effect, hand_in, run}
 use Rattle.mmu_core.specs.lines.Rests.{IsUnderWay}
-use Rattle.mmu_core.specs.machine.Steps.{has_line, idle_after}
-use Rattle.mmu_core.specs.machine.Sums.{one_if, sum_below}
+use Rattle.mmu_core.specs.machine.Steps.{has_line, idle_after, line_at}
+use Rattle.mmu_core.specs.machine.Sums.{one_if}
 use Rattle.mmu_laws.specs.turns.TurnLaws.{CountsOn}
 use Rattle.mmu_core.specs.machine.Turns.{Comes, line_of, outcome_of}
 use Rattle.mmu_core.specs.machine.Worlds.{Reachable}
-use Rattle.mmu_core.proofs.machine.Columns.{same_or}
 use Rattle.mmu_core.proofs.machine.Extend.{goes_on, leads_to_end}
 use Rattle.mmu_core.proofs.machine.HandAfter.{next_comes}
 use Rattle.mmu_core.proofs.machine.LineRuns.{own_hand}
-use Rattle.mmu_core.proofs.held.ClaimGoes.{others_hand}
 use Rattle.mmu_core.proofs.start.Starts.{reached_good}
 use Rattle.mmu_laws.proofs.causes.StarvedScan.{legal_parts}
-use Rattle.mmu_laws.proofs.turns.StepsCounted.{counts_fit, steps_counted_on}
+use Rattle.mmu_laws.proofs.turns.StepsCounted.{counts_fit, counts_have_room, steps_counted_on}
 use Rattle.mmu_core.proofs.machine.Which.{next_of_part}
 use Rattle.core_theorem.specs.Runs.{IsRun}
-use Rattle.core_theorem.specs.Turns.{CountsAreFew, StepsAreFew, begins_line, delays_line, hand_delays, how_many, is_of_line, is_under_way, lines_in, lines_under_way}
+use Rattle.core_theorem.proofs.ActorSums.{sum_few, sum_moves, sum_of}
+use Rattle.core_theorem.specs.Turns.{CountsAreFew, StepsAreFew, begins_line, bound_of, bound_under_way, bounds_in, bounds_of, delays_line, hand_delays, how_many, is_of_line, is_under_way}
 
 -- ---- worlds that are reached
 
@@ -53,15 +52,17 @@ reached_more z u s R may = record {
 }
 
 pub reached_behind : (z : Sizes) (lines : List Line) (w : World Held) (ss : List (Step Kind)) → IsRun z lines w ss → IsReached z (run mmu w ss)
-reached_behind z lines w ss R = record { reached = record { sizes = z; lines = lines; start = w; is_start = R.start; leads = leads_to_end mmu w ss R.legal }; sizes = refl }
+reached_behind z lines w ss R =
+    record { reached = record { sizes = z; lines = lines; start = w; is_start = R.start; leads = leads_to_end mmu w ss R.legal }; sizes = refl }
 
--- A hand has counted no more than the steps of any line.
-pub count_few : (z : Sizes) (u : World Held) (i : ℕ) → IsReached z u → i < actors_of z → (hand_in mmu u i).state.steps ≤ most_steps z
+-- A hand has counted no more than its line's command allows.
+pub count_few : (z : Sizes) (u : World Held) (i : ℕ) → IsReached z u → i < actors_of z
+    → (hand_in mmu u i).state.steps ≤ most_steps z (hand_in mmu u i).state.line.command
 count_few z u i R there =
     let G = reached_sound z u R in
     let same : (hand_in mmu u i).state.sizes ≡ z = (G.holds.lines i there).sizes in
     let few = (counts_fit u i R.reached (omega (arith, there, G.hands))).few in
-    subst (λ (y : Sizes). (hand_in mmu u i).state.steps ≤ most_steps y) same few
+    subst (λ (y : Sizes). (hand_in mmu u i).state.steps ≤ most_steps y (hand_in mmu u i).state.line.command) same few
 
 pub counts_are_few : CountsAreFew
 counts_are_few z lines w ss R actor there = count_few z (run mmu w ss) actor (reached_behind z lines w ss R) there
@@ -77,6 +78,7 @@ open_in h = one_if (is_under_way h.state.place)
 
 -- The line goes on: no delay is counted. Or it is answered: nothing is counted behind it.
 pub record CountsGoing (delay : Bool) (h g : Held) : Type 0 where
+  pub line_is : line_of g ≡ line_of h
   pub answers : length g.answers ≡ length h.answers
   pub is_open : open_in g ≡ 1
   pub one_more : delay ≡ false → counted_in g ≡ counted_in h + 1
@@ -95,26 +97,33 @@ under_open : (p : Place) → IsUnderWay p → one_if (is_under_way p) ≡ 1
 under_open place.Between under = absurd under
 under_open _ under = refl
 
+under_line : (p : Place) (h : Held) → IsUnderWay p → line_at p h ≡ h.state.line
+under_line place.Between h under = absurd under
+under_line _ h under = refl
+
 under_counted : (p : Place) (n : ℕ) → IsUnderWay p → counted p n ≡ n
 under_counted place.Between n under = absurd under
 under_counted _ n under = refl
 
--- what was counted is at most the hand's count, and nothing where no line is under way
-pub counted_few : (p : Place) (n most : ℕ) → n ≤ most → counted p n ≤ most * one_if (is_under_way p)
-counted_few place.Between n most few = omega arith
-counted_few _ n most few = omega (arith, few)
-
-room_by : (z : Sizes) (delay : Bool) (h g : Held) → CountsOn delay h g → h.state.sizes ≡ z → g.state.steps ≤ most_steps z → counted_in h + 1 ≤ most_steps z
-room_by z false h g C same few = let steps = C.0 in omega (arith, few, steps)
-room_by z true h g C same few = subst (λ (y : Sizes). counted_in h + 1 ≤ most_steps y) same C.0
+-- what was counted is at most what the command of the line under way allows, and nothing where none is under way
+counted_few : (z : Sizes) (p : Place) (h : Held) → h.state.steps ≤ most_steps z h.state.line.command
+    → counted p h.state.steps ≤ (if is_under_way p then most_steps z (line_at p h).command else 0)
+counted_few z place.Between h few = omega arith
+counted_few z _ h few = few
 
 going : (delay : Bool) (h g : Held) → CountsOn delay h g → IsUnderWay g.state.place → delay ≡ false → counted_in g ≡ counted_in h + 1
 going false h g C under no_ = under_counted g.state.place g.state.steps under ∙ C.0
 going true h g C under no_ = absurd (cc no_)
 
-behind_by : (o : Outcome) (line : Line) (delay : Bool) (h g : Held) → Comes o line h g → CountsOn delay h g → CountsGoing delay h g ⊎ CountsEnding h g
-behind_by (Goes p) line delay h g M C = inl (record { answers = ap (λ (xs : List AnsweredLine). length xs) M.answers; is_open = under_open g.state.place M.under_way; one_more = going delay h g C M.under_way })
-behind_by (Ends answer) line delay h g M C = inr (record {
+behind_by : (o : Outcome) (delay : Bool) (h g : Held) → Comes o (line_of h) h g → CountsOn delay h g → CountsGoing delay h g ⊎ CountsEnding h g
+behind_by (Goes p) delay h g M C =
+    inl (record {
+      line_is = under_line g.state.place g M.under_way ∙ M.line_is;
+      answers = ap (λ (xs : List AnsweredLine). length xs) M.answers;
+      is_open = under_open g.state.place M.under_way;
+      one_more = going delay h g C M.under_way;
+    })
+behind_by (Ends answer) delay h g M C = inr (record {
   answers = ap (λ (xs : List AnsweredLine). length xs) M.answers ∙ length-append h.answers _;
   is_open = ap (λ p. one_if (is_under_way p)) M.between;
   none = ap (λ p. counted p g.state.steps) M.between;
@@ -125,7 +134,9 @@ module _ (z : Sizes) (u : World Held) (s : Step Kind) (R : IsReached z u) (may :
   there = let hands = (reached_sound z u R).hands in let at = may.there in omega (arith, at, hands)
 
   -- A step of a line.
-  pub step_counts : has_line (hand_in mmu u s.actor) ≡ true → Counts (most_steps z) (hand_delays (hand_in mmu u s.actor) (answered mmu u s.kind)) (hand_in mmu u s.actor) (hand_in mmu (effect mmu u s) s.actor)
+  pub step_counts : has_line (hand_in mmu u s.actor) ≡ true
+      → Counts (bound_of z (hand_in mmu u s.actor)) (hand_delays (hand_in mmu u s.actor) (answered mmu u s.kind)) (hand_in mmu u s.actor)
+      (hand_in mmu (effect mmu u s) s.actor)
   step_counts has =
       let h : Held = hand_in mmu u s.actor in
       let v : ℕ = answered mmu u s.kind in
@@ -134,91 +145,82 @@ module _ (z : Sizes) (u : World Held) (s : Step Kind) (R : IsReached z u) (may :
       let left : length h.answers < length h.lines = grind (arith, nat_tests) in
       let comes : Comes (outcome_of h v) (line_of h) h g = subst (Comes (outcome_of h v) (line_of h) h) (sym (own_hand u s may.there)) (next_comes h s.kind v left) in
       record {
-        room = room_by z (hand_delays h v) h g C ((reached_sound z u R).holds.lines s.actor there).sizes (count_few z (effect mmu u s) s.actor (reached_more z u s R may) there);
-        behind = behind_by (outcome_of h v) (line_of h) (hand_delays h v) h g comes C;
+        room =
+            subst (λ (y : Sizes). counted_in h + 1 ≤ bound_of y h) ((reached_sound z u R).holds.lines s.actor there).sizes
+            (counts_have_room u s R.reached may has);
+        behind = behind_by (outcome_of h v) (hand_delays h v) h g comes C;
       }
 
   -- A step of a part leaves what is counted.
-  pub part_still : has_line (hand_in mmu u s.actor) ≡ false → hand_in mmu (effect mmu u s) s.actor ≡ idle_after (hand_in mmu u s.actor) s.kind (answered mmu u s.kind)
+  pub part_still : has_line (hand_in mmu u s.actor) ≡ false
+      → hand_in mmu (effect mmu u s) s.actor ≡ idle_after (hand_in mmu u s.actor) s.kind (answered mmu u s.kind)
   part_still none = own_hand u s may.there ∙ next_of_part (hand_in mmu u s.actor) s.kind (answered mmu u s.kind) none
 
 -- ---- all lines together
-
--- Where two columns differ at one place alone, so do their sums.
-pub sum_same : (n : ℕ) (f g : ℕ → ℕ) → ((i : ℕ) → i < n → g i ≡ f i) → sum_below n g ≡ sum_below n f
-sum_same zero f g same = refl
-sum_same (suc n) f g same = omega (arith, sum_same n f g (λ i lt. same i (omega (arith, lt))), same n (omega arith))
-
-pub sum_one : (n : ℕ) (f g : ℕ → ℕ) (a : ℕ) → a < n → ((i : ℕ) → i ≢ a → g i ≡ f i) → sum_below n g + f a ≡ sum_below n f + g a
-sum_one zero f g a lt same = absurd (omega (arith, lt))
-sum_one (suc n) f g a lt same = by (same_or n a) (λ below. sum_one n f g a below same)
-  where
-    by : (n ≡ a) ⊎ (n ≢ a) → (a < n → sum_below n g + f a ≡ sum_below n f + g a) → sum_below (suc n) g + f a ≡ sum_below (suc n) f + g a
-    by (inl e) ih =
-        let rest = sum_same n f g (λ i below. same i (λ is. omega (arith, below, is, e))) in
-        let at_f : f n ≡ f a = ap f e in
-        let at_g : g n ≡ g a = ap g e in
-        omega (arith, rest, at_f, at_g)
-    by (inr ne) ih = let rest = ih (omega (arith, lt, ne)) in let here = same n ne in omega (arith, rest, here)
-
-pub sum_times : (n most : ℕ) (f g : ℕ → ℕ) → ((i : ℕ) → i < n → f i ≤ most * g i) → sum_below n f ≤ most * sum_below n g
-sum_times zero most f g each = omega arith
-sum_times (suc n) most f g each =
-    let rest = sum_times n most f g (λ i lt. each i (omega (arith, lt))) in
-    let here = each n (omega arith) in
-    let both : most * (sum_below n g + g n) ≡ most * sum_below n g + most * g n = omega arith in
-    omega (arith, rest, here, both)
-
--- what the hands come to together
-abbrev pub sum_of : Sizes → (Held → ℕ) → World Held → ℕ
-sum_of z f u = sum_below (actors_of z) (λ i. f (hand_in mmu u i))
-
--- A step moves the sum by what it makes of its actor's hand.
-pub sum_moves : (z : Sizes) (f : Held → ℕ) (u : World Held) (s : Step Kind) → s.actor < actors_of z
-    → sum_of z f (effect mmu u s) + f (hand_in mmu u s.actor) ≡ sum_of z f u + f (hand_in mmu (effect mmu u s) s.actor)
-sum_moves z f u s there = sum_one (actors_of z) (λ i. f (hand_in mmu u i)) (λ i. f (hand_in mmu (effect mmu u s) i)) s.actor there (λ i ne. ap f (others_hand u s i ne))
 
 pub one_begins : (has under : Bool) → has ≡ true → one_if (has && not under) + one_if under ≡ 1
 one_begins true true is = refl
 one_begins true false is = refl
 one_begins false under is = absurd (cc is)
 
-one_also : (has b : Bool) → has ≡ true → one_if (has && b) ≡ one_if b
-one_also true b is = refl
-one_also false b is = absurd (cc is)
+-- What a line that is under way or begins comes to, and what a delay does.
+open_one : (under : Bool) (n : ℕ) → one_if under ≡ 1 → (if under then n else 0) ≡ n
+open_one true n one = refl
+open_one false n one = absurd (omega (arith, one))
 
--- What one step of a line takes, of a bound for each delay and each line.
-step_takes : (most : ℕ) (delay : Bool) (h g : Held) → Counts most delay h g → 1 + counted_in h + most * open_in g ≤ counted_in g + most * (one_if delay + 1)
-step_takes most delay h g C = by delay C.behind
+open_none : (under : Bool) (n : ℕ) → one_if under ≡ 0 → (if under then n else 0) ≡ 0
+open_none true n none = absurd (omega (arith, none))
+open_none false n none = refl
+
+begins_once : (has under : Bool) (n : ℕ) → has ≡ true → (if has && not under then n else 0) + (if under then n else 0) ≡ n
+begins_once true true n is = omega arith
+begins_once true false n is = omega arith
+begins_once false under n is = absurd (cc is)
+
+also : (has b : Bool) (n : ℕ) → has ≡ true → (if has && b then n else 0) ≡ (if b then n else 0)
+also true b n is = refl
+also false b n is = absurd (cc is)
+
+-- What one step of a line takes, of what its command allows: once for a delay, and once for the line.
+step_takes : (z : Sizes) (delay : Bool) (h g : Held) → Counts (bound_of z h) delay h g
+    → 1 + counted_in h + bound_under_way z g ≤ counted_in g + ((if delay then bound_of z h else 0) + bound_of z h)
+step_takes z delay h g C = by delay C.behind
   where
-    by : (d : Bool) → CountsGoing d h g ⊎ CountsEnding h g → 1 + counted_in h + most * open_in g ≤ counted_in g + most * (one_if d + 1)
-    by false (inl G) = let room = C.room in let more = G.one_more refl in rw G.is_open (omega (arith, room, more))
-    by true (inl G) = let room = C.room in rw G.is_open (omega (arith, room))
-    by false (inr E) = let room = C.room in rw E.is_open (omega (arith, room))
-    by true (inr E) = let room = C.room in rw E.is_open (omega (arith, room))
+    by : (d : Bool) → CountsGoing d h g ⊎ CountsEnding h g
+        → 1 + counted_in h + bound_under_way z g ≤ counted_in g + ((if d then bound_of z h else 0) + bound_of z h)
+    by d (inl G) = going_on d (open_one (is_under_way g.state.place) (bound_of z g) G.is_open ∙ ap (λ (l : Line). most_steps z l.command) G.line_is) G.one_more
+      where
+        going_on : (d : Bool) → bound_under_way z g ≡ bound_of z h → (d ≡ false → counted_in g ≡ counted_in h + 1)
+            → 1 + counted_in h + bound_under_way z g ≤ counted_in g + ((if d then bound_of z h else 0) + bound_of z h)
+        going_on false is more = let one = more refl in omega (arith, is, one)
+        going_on true is more = let room = C.room in omega (arith, is, room)
+    by d (inr E) =
+        let none = open_none (is_under_way g.state.place) (bound_of z g) E.is_open in
+        let room = C.room in
+        omega (arith, none, room)
 
-all_more : (most steps delays begun costs_before costs open_before open_ one delay begins counted_h counted_g open_h open_g : ℕ) → steps + costs ≤ most * (delays + (begun + open_)) → costs + counted_h ≡ costs_before + counted_g → open_ + open_h ≡ open_before + open_g
-    → one + counted_h + most * open_g ≤ counted_g + most * (delay + (begins + open_h)) → (one + steps) + costs_before ≤ most * ((delay + delays) + ((begins + begun) + open_before))
-all_more most steps delays begun costs_before costs open_before open_ one delay begins counted_h counted_g open_h open_g fits moved moved_open takes_ =
-    let a : most * (delays + (begun + open_)) ≡ most * delays + most * begun + most * open_ = omega arith in
-    let b : most * (delay + (begins + open_h)) ≡ most * delay + most * begins + most * open_h = omega arith in
-    let c : most * ((delay + delays) + ((begins + begun) + open_before)) ≡ most * delay + most * delays + most * begins + most * begun + most * open_before = omega arith in
-    let d : most * (open_ + open_h) ≡ most * (open_before + open_g) = ap (λ n. most * n) moved_open in
-    let e : most * (open_ + open_h) ≡ most * open_ + most * open_h = omega arith in
-    let f : most * (open_before + open_g) ≡ most * open_before + most * open_g = omega arith in
-    omega (arith, fits, moved, takes_, a, b, c, d, e, f)
+all_more : (steps delays begun costs_before costs open_before open_ one delay begins counted_h counted_g open_h open_g : ℕ)
+    → steps + costs ≤ delays + (begun + open_) → costs + counted_h ≡ costs_before + counted_g → open_ + open_h ≡ open_before + open_g
+    → one + counted_h + open_g ≤ counted_g + (delay + (begins + open_h)) → (one + steps) + costs_before ≤ (delay + delays) + ((begins + begun) + open_before)
+all_more steps delays begun costs_before costs open_before open_ one delay begins counted_h counted_g open_h open_g fits moved moved_open takes_ =
+    omega (arith, fits, moved, moved_open, takes_)
+
+-- A step of a part leaves the line that is under way.
+open_still : (z : Sizes) (p : Place) (h : Held) (k : Kind) (v : ℕ)
+    → (if is_under_way p then most_steps z (line_at p (idle_after h k v)).command else 0) ≡ (if is_under_way p then most_steps z (line_at p h).command else 0)
+open_still z place.Between h k v = refl
+open_still z _ h k v = refl
 
 -- The steps of lines, with what the hands have counted before, are within the bound.
 abbrev pub Fit : Sizes → World Held → List (Step Kind) → Type 0
-Fit z u ss = how_many is_of_line u ss + sum_of z counted_in u ≤ most_steps z * (how_many delays_line u ss + lines_in z u ss)
+Fit z u ss = how_many is_of_line u ss + sum_of z counted_in u ≤ bounds_of delays_line z u ss + bounds_in z u ss
 
 pub all_fit : (z : Sizes) (u : World Held) (ss : List (Step Kind)) → IsReached z u → Legal mmu u ss → Fit z u ss
 all_fit z u [] R legal =
-    let few = sum_times (actors_of z) (most_steps z) (λ i. counted_in (hand_in mmu u i)) (λ i. open_in (hand_in mmu u i)) (λ i lt. counted_few (hand_in mmu u i).state.place (hand_in mmu u i).state.steps (most_steps z) (count_few z u i R lt)) in
-    base (most_steps z) (sum_of z counted_in u) (lines_under_way z u) few
-  where
-    base : (most costs open_ : ℕ) → costs ≤ most * open_ → 0 + costs ≤ most * (0 + (0 + open_))
-    base most costs open_ few = let e : most * (0 + (0 + open_)) ≡ most * open_ = omega arith in omega (arith, few, e)
+    let few =
+    sum_few (actors_of z) (λ i. counted_in (hand_in mmu u i)) (λ i. bound_under_way z (hand_in mmu u i))
+    (λ i lt. counted_few z (hand_in mmu u i).state.place (hand_in mmu u i) (count_few z u i R lt)) in
+    omega (arith, few)
 all_fit z u (s ∷ ss) R legal = by (cases_Bool (has_line h)) (all_fit z (effect mmu u s) ss (reached_more z u s R legal.0) legal.1)
   where
     h : Held
@@ -233,23 +235,39 @@ all_fit z u (s ∷ ss) R legal = by (cases_Bool (has_line h)) (all_fit z (effect
     at : s.actor < actors_of z
     at = there z u s R legal.0
 
-    takes_ : (has_line h ≡ true) ⊎ (has_line h ≡ false) → one_if (has_line h) + counted_in h + most_steps z * open_in g ≤ counted_in g + most_steps z * (one_if (delays_line u s) + (one_if (begins_line u s) + open_in h))
+    delayed : ℕ
+    delayed = if delays_line u s then bound_of z h else 0
+
+    begun : ℕ
+    begun = if begins_line u s then bound_of z h else 0
+
+    takes_ : (has_line h ≡ true) ⊎ (has_line h ≡ false)
+        → one_if (has_line h) + counted_in h + bound_under_way z g ≤ counted_in g + (delayed + (begun + bound_under_way z h))
     takes_ (inl has) =
-        rw (ap one_if has, one_also (has_line h) delay has, one_begins (has_line h) (is_under_way h.state.place) has) (step_takes (most_steps z) delay h g (step_counts z u s R legal.0 has))
+        takes_by (one_if (has_line h)) (counted_in h) (bound_under_way z g) (counted_in g) (if delay then bound_of z h else 0) (bound_of z h) delayed begun
+        (bound_under_way z h)
+        (ap one_if has) (also (has_line h) delay (bound_of z h) has) (begins_once (has_line h) (is_under_way h.state.place) (bound_of z h) has)
+        (step_takes z delay h g (step_counts z u s R legal.0 has))
+      where
+        takes_by : (one ch og cg d most delayed begun oh : ℕ) → one ≡ 1 → delayed ≡ d → begun + oh ≡ most → 1 + ch + og ≤ cg + (d + most)
+            → one + ch + og ≤ cg + (delayed + (begun + oh))
+        takes_by one ch og cg d most delayed begun oh is delays once few = omega (arith, is, delays, once, few)
     takes_ (inr none) =
         let same = part_still z u s R legal.0 none in
-        let counted_same : counted_in g ≡ counted_in h = ap counted_in same in
-        let open_same : open_in g ≡ open_in h = ap open_in same in
-        rw (ap one_if none, counted_same, open_same) (still (counted_in h) (most_steps z) (open_in h) (one_if (delays_line u s)) (one_if (begins_line u s)))
+        still (one_if (has_line h)) (counted_in h) (counted_in g) (bound_under_way z h) (bound_under_way z g) delayed begun (ap one_if none)
+        (ap counted_in same)
+        (ap (bound_under_way z) same ∙ open_still z h.state.place h s.kind (answered mmu u s.kind))
       where
-        still : (n most open_ d b : ℕ) → 0 + n + most * open_ ≤ n + most * (d + (b + open_))
-        still n most open_ d b = let e : most * (d + (b + open_)) ≡ most * d + most * b + most * open_ = omega arith in omega (arith, e)
+        still : (one ch cg oh og d b : ℕ) → one ≡ 0 → cg ≡ ch → og ≡ oh → one + ch + og ≤ cg + (d + (b + oh))
+        still one ch cg oh og d b none same_count same_open = omega (arith, none, same_count, same_open)
 
     by : (has_line h ≡ true) ⊎ (has_line h ≡ false) → Fit z (effect mmu u s) ss → Fit z u (s ∷ ss)
     by has fits =
-        all_more (most_steps z) (how_many is_of_line (effect mmu u s) ss) (how_many delays_line (effect mmu u s) ss) (how_many begins_line (effect mmu u s) ss) (sum_of z counted_in u) (sum_of z counted_in (effect mmu u s))
-        (lines_under_way z u) (lines_under_way z (effect mmu u s)) (one_if (has_line h)) (one_if (delays_line u s)) (one_if (begins_line u s)) (counted_in h) (counted_in g) (open_in h) (open_in g)
-        fits (sum_moves z counted_in u s at) (sum_moves z open_in u s at) (takes_ has)
+        all_more (how_many is_of_line (effect mmu u s) ss) (bounds_of delays_line z (effect mmu u s) ss) (bounds_of begins_line z (effect mmu u s) ss)
+        (sum_of z counted_in u) (sum_of z counted_in (effect mmu u s))
+        (sum_of z (bound_under_way z) u) (sum_of z (bound_under_way z) (effect mmu u s)) (one_if (has_line h)) delayed begun (counted_in h) (counted_in g)
+        (bound_under_way z h) (bound_under_way z g)
+        fits (sum_moves z counted_in u s at) (sum_moves z (bound_under_way z) u s at) (takes_ has)
 
 pub steps_are_few : StepsAreFew
 steps_are_few z lines w ss ts R =

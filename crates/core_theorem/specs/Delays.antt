@@ -22,7 +22,7 @@ use Rattle.mmu_core.specs.declared.outcome.Outcome.TheVariants.{Ends}
 use Rattle.mmu_laws.specs.causes.Causes.{IsCaused}
 use Rattle.mmu_core.specs.machine.Enabled.{mmu}
 use Rattle.mmu_core.specs.machine.Machine.{Step, World, answered, hand_in, run}
-use Rattle.mmu_core.specs.lines.PartWaits.{part_waits}
+use Rattle.mmu_core.specs.lines.PartWaits.{SawAnother, part_seen, part_waits}
 use Rattle.mmu_core.specs.invariant.Scans.{EndsWithScan}
 use Rattle.mmu_core.specs.machine.Steps.{delays_at, has_line, place_at}
 use Rattle.mmu_core.specs.machine.Turns.{line_of, outcome_of}
@@ -66,6 +66,14 @@ WaitsHaveCauses =
     → part_waits step (hand_of (run mmu w ss) ts s).topics (answer_of (run mmu w ss) ts s) ≡ true
     → StepWaitIsCaused step z (run mmu w ss) ts s
 
+-- In every run each step of a part that waits, whoever makes it, has seen another actor.
+abbrev pub WaitsSeeAnother : Type 0
+WaitsSeeAnother =
+    (z : Sizes) (lines : List Line) (w : World Held) (ss : List (Step Kind)) (s : Step Kind) (step : PartStep) (note : ℕ) → IsRun z lines w (ss ++ s ∷ [])
+    → s.kind ≡ part_kind (hand_of w ss s) step note → PartNeeds step (hand_of w ss s)
+    → part_waits step (hand_of w ss s).topics (answer_of w ss s) ≡ true
+    → SawAnother step (hand_of w ss s) (part_seen step (hand_of w ss s) (answer_of w ss s))
+
 -- With the step the fault of the line ends its section, to begin anew, for this cause in the steps before it, in this section.
 pub record BeginsAnew (z : Sizes) (w : World Held) (ss : List (Step Kind)) (s : Step Kind) : Type 0 where
   pub cause : Cause
@@ -103,4 +111,5 @@ DelaysHaveCauses =
 abbrev pub StarvedLinesScanned : Type 0
 StarvedLinesScanned =
     (z : Sizes) (lines : List Line) (w : World Held) (ss ts : List (Step Kind)) (s : Step Kind) → IsRun z lines w (ss ++ (ts ++ s ∷ [])) → (hand_in mmu (run mmu w ss) s.actor).state.place ≡ Between
-    → outcome_of (hand_of (run mmu w ss) ts s) (answer_of (run mmu w ss) ts s) ≡ Ends Starved → EndsWithScan z s.actor (words_of_bits z.pool) (run mmu w ss) (ts ++ s ∷ [])
+    → outcome_of (hand_of (run mmu w ss) ts s) (answer_of (run mmu w ss) ts s) ≡ Ends Starved
+    → EndsWithScan z s.actor (words_of_bits z.pool) (run mmu w ss) (ts ++ s ∷ [])

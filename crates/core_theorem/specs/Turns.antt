@@ -1,10 +1,11 @@
 -- How many steps the lines of a run make: by how often they are delayed.
-use Rattle.std.specs.Prelude.{◌+◌, ◌*◌, ◌<◌, ◌≤◌, ℕ, List, [], ◌∷◌, ◌++◌, length, Bool, true, false, not, ◌&&◌, ◌==◌}
+use Rattle.std.specs.Prelude.{◌+◌, ◌*◌, ◌<◌, ◌≤◌, ℕ, List, [], ◌∷◌, ◌++◌, length, Bool, true, false, not, ◌&&◌, ◌==◌, if◌then◌else◌, slice_get, unwrap_or}
 use Rattle.core_views.specs.declared.kind.Kind.{Kind}
 use Rattle.core_views.specs.declared.place.Place.{Place}
 use Rattle.core_views.specs.declared.place.Place.TheVariants.{Between}
 use Rattle.core_views.specs.declared.sizes.Sizes.{Sizes}
 use Rattle.core_views.specs.declared.trace.Line.{Line}
+use Rattle.core_views.specs.Flat.{no_line}
 use Rattle.core_views.specs.Held.{Held}
 use Rattle.core_views.specs.Sizes.{actors_of}
 use Rattle.mmu_core.specs.lines.Bounds.{most_steps}
@@ -53,12 +54,18 @@ own_steps actor before w ss = how_many (is_of actor before) w ss
 abbrev pub own_delays : ℕ → ℕ → World Held → List (Step Kind) → ℕ
 own_delays actor before w ss = how_many (λ u s. is_of actor before u s && delays_line u s) w ss
 
--- From any moment on, and up to any step, a line makes at most `most_steps` steps for each of its delays before this step, and as many
--- besides: so at most as many up to the end of its first delay, from there to the end of the next one, and behind its last.
+-- the line itself
+abbrev pub own_line : ℕ → ℕ → World Held → Line
+own_line actor before w = unwrap_or (slice_get (hand_in mmu w actor).lines before) no_line
+
+-- From any moment on, and up to any step, a line makes for each of its delays before this step at most as many steps as its command allows
+-- (`most_steps`), and as many besides: so at most as many up to the end of its first delay, from there to the end of the next one, and after its
+-- last.
 abbrev pub LinesMakeFewSteps : Type 0
 LinesMakeFewSteps =
     (z : Sizes) (lines : List Line) (w : World Held) (ss ts : List (Step Kind)) (s : Step Kind) → IsRun z lines w (ss ++ (ts ++ s ∷ [])) → (actor before : ℕ) → actor < actors_of z
-    → own_steps actor before (run mmu w ss) (ts ++ s ∷ []) ≤ most_steps z * (own_delays actor before (run mmu w ss) ts + 1)
+    → own_steps actor before (run mmu w ss) (ts ++ s ∷ [])
+    ≤ most_steps z (own_line actor before (run mmu w ss)).command * (own_delays actor before (run mmu w ss) ts + 1)
 
 -- how many lines are under way
 abbrev pub lines_under_way : Sizes → World Held → ℕ
@@ -77,15 +84,41 @@ abbrev pub LinesAreOpen : Type 0
 LinesAreOpen =
     (z : Sizes) (lines : List Line) (w : World Held) (ss ts : List (Step Kind)) → IsRun z lines w (ss ++ ts) → lines_answered z (run mmu w ss) + lines_in z (run mmu w ss) ts ≤ length lines
 
--- So all lines together: from any moment on they make at most `most_steps` steps for each of their delays, and as many for each line that is
--- under way then or begins later.
+-- as many steps as the command of the hand's line allows
+abbrev pub bound_of : Sizes → Held → ℕ
+bound_of z h = most_steps z (line_of h).command
+
+-- what the steps that are so come to, where each counts as many as its line's command allows
+abbrev pub bounds_of : (World Held → Step Kind → Bool) → Sizes → World Held → List (Step Kind) → ℕ
+bounds_of is_so z w [] = 0
+bounds_of is_so z w (s ∷ ss) = (if is_so w s then bound_of z (hand_in mmu w s.actor) else 0) + bounds_of is_so z (effect mmu w s) ss
+
+-- what the lines that some steps are of come to, where each counts so: those that begin in them, and those that are under way before
+abbrev pub bound_under_way : Sizes → Held → ℕ
+bound_under_way z h = if is_under_way h.state.place then bound_of z h else 0
+
+abbrev pub bounds_in : Sizes → World Held → List (Step Kind) → ℕ
+bounds_in z w ss = bounds_of begins_line z w ss + sum_below (actors_of z) (λ i. bound_under_way z (hand_in mmu w i))
+
+-- So all lines together: from any moment on they make at most as many steps as its command allows for each delay of a line, and as many for each
+-- line that is under way then or begins later.
 abbrev pub StepsAreFew : Type 0
 StepsAreFew =
     (z : Sizes) (lines : List Line) (w : World Held) (ss ts : List (Step Kind)) → IsRun z lines w (ss ++ ts)
-    → how_many is_of_line (run mmu w ss) ts ≤ most_steps z * (how_many delays_line (run mmu w ss) ts + lines_in z (run mmu w ss) ts)
+    → how_many is_of_line (run mmu w ss) ts ≤ bounds_of delays_line z (run mmu w ss) ts + bounds_in z (run mmu w ss) ts
 
--- What a hand has counted of its line's steps, since the line began or since its last delay, is no more than this behind any run.
+-- No line's command allows more than this. So in numbers of delays and of lines, of which there are no more than have no answer yet:
+abbrev pub most_of_all : Sizes → ℕ
+most_of_all z = 8192 + z.pool + z.frames
+
+abbrev pub AllStepsAreFew : Type 0
+AllStepsAreFew =
+    (z : Sizes) (lines : List Line) (w : World Held) (ss ts : List (Step Kind)) → IsRun z lines w (ss ++ ts)
+    → how_many is_of_line (run mmu w ss) ts ≤ most_of_all z * (how_many delays_line (run mmu w ss) ts + lines_in z (run mmu w ss) ts)
+
+-- What a hand has counted of its line's steps, since the line began or since its last delay, is no more than the line's command allows, after any
+-- run.
 abbrev pub CountsAreFew : Type 0
 CountsAreFew =
     (z : Sizes) (lines : List Line) (w : World Held) (ss : List (Step Kind)) → IsRun z lines w ss → (actor : ℕ) → actor < actors_of z
-    → (hand_in mmu (run mmu w ss) actor).state.steps ≤ most_steps z
+    → (hand_in mmu (run mmu w ss) actor).state.steps ≤ most_steps z (hand_in mmu (run mmu w ss) actor).state.line.command

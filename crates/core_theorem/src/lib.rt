@@ -3,14 +3,14 @@
 #![tactic(auto)]
 
 ghost use Rattle.core_theorem.specs.Delays.{BetweenLinesSawNothing, StartsSawNothing};
-ghost use Rattle.core_theorem.specs.Delays.{DelaysHaveCauses, FaultsHaveCauses, StarvedLinesScanned, WaitsHaveCauses};
+ghost use Rattle.core_theorem.specs.Delays.{DelaysHaveCauses, FaultsHaveCauses, StarvedLinesScanned, WaitsHaveCauses, WaitsSeeAnother};
 ghost use Rattle.core_theorem.specs.Holdings.{AnsweredLinesRest, HeldSetsAreKnown, NoneHoldsFreePages, PagesAreReusedAlone, ReturnedSetsAreCleared, WatchedHoldNoOldSet};
 ghost use Rattle.core_theorem.specs.Leaves.{HeldLeavesAgree, LinkedLeavesAgree, TranslationsAgree, UsedLeavesAgree};
 ghost use Rattle.core_theorem.specs.Locks.{LockIsKept};
 ghost use Rattle.core_theorem.specs.Pages.{EachPageHasOneUse};
 ghost use Rattle.core_theorem.specs.Runs.{TellsLawfully, WordsStandForFacts};
 ghost use Rattle.core_theorem.specs.Stays.{PauseIsSeenInStay};
-ghost use Rattle.core_theorem.specs.Turns.{CountsAreFew, LinesAreOpen, LinesMakeFewSteps, StepsAreFew};
+ghost use Rattle.core_theorem.specs.Turns.{AllStepsAreFew, CountsAreFew, LinesAreOpen, LinesMakeFewSteps, StepsAreFew};
 ghost use Rattle.core_theorem.specs.Walks.{WalksHoldTables};
 
 /// Every run of the machine. `pages`: each page is exactly one of free, the root, owned
@@ -40,15 +40,20 @@ ghost use Rattle.core_theorem.specs.Walks.{WalksHoldTables};
 /// that waits, whoever makes it, was another actor's, an open invalidation, or that each
 /// word of the pool's map was found with no page free since the line began; `delays`: so
 /// it is with each step that is counted as a delay of its line, since that line began.
+/// `sees`: a step that waits has seen this: a writer in the lock's word, or that the lock
+/// isn't free, the map's word without the bit of the page that it tried, how many
+/// invalidations are open, or the state word of another actor in a section.
 /// `at_start`, `between_lines`: what a step waits for was seen since any moment at which
 /// the actor had seen nothing, as at the start and, of an actor that has a line left,
 /// between its lines (tdp_mmu.c; locking.rst; mmu.rst).
 ///
-/// `counts`, `line_turns`: a line makes at most 8,192 steps, one for each pool page
-/// and one for each frame up to the end of its first delay, as many from there to the
-/// end of the next, and as many behind its last. `turns`, `open_lines`: so all lines
-/// together make at most as many for each of their delays and for each line, of
-/// which there are no more than have no answer yet.
+/// `counts`, `line_turns`: a line makes no more steps than its command allows
+/// (`most_steps`: an access 8,192, one for each pool page and one for each frame; a slot
+/// line 1,024 and one for each word of the pool's map) up to the end of its first delay,
+/// as many from there to the end of the next, and as many after its last. `turns`: so
+/// all lines together make at most as many for each of their delays and for each line.
+/// `all_turns`, `open_lines`: no line makes more than 8,192, one for each pool page and
+/// one for each frame, and there are no more lines than have no answer yet.
 pub fn every_run()
     ensures pages { EachPageHasOneUse }
     ensures walks { WalksHoldTables }
@@ -69,9 +74,11 @@ pub fn every_run()
     ensures counts { CountsAreFew }
     ensures line_turns { LinesMakeFewSteps }
     ensures turns { StepsAreFew }
+    ensures all_turns { AllStepsAreFew }
     ensures open_lines { LinesAreOpen }
     ensures begins_anew { FaultsHaveCauses }
     ensures waits { WaitsHaveCauses }
+    ensures sees { WaitsSeeAnother }
     ensures at_start { StartsSawNothing }
     ensures between_lines { BetweenLinesSawNothing }
     ensures delays { DelaysHaveCauses }

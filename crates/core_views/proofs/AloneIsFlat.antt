@@ -46,14 +46,17 @@ record Ends (z : Sizes) (line : Line) (rest : List Event) (stage : Stage) (f : F
 abbrev Leads : Sizes → Line → List Event → List Event → Type 0
 Leads z line rest es = (stage : Stage) (notes : Notes) (f : Flat) → IsAlone line stage notes f → IsLawful z f es → NoneStarved es → Ends z line rest stage f es
 
-allowed : (z : Sizes) (line : Line) (stage : Stage) (notes : Notes) (f : Flat) (kind : EventKind) → IsAlone line stage notes f → IsAllowed z f.facts line.actor (f.under line.actor) kind → IsAllowed z f.facts line.actor (under_way line stage notes) kind
-allowed z line stage notes f kind is may = subst (λ (u : LineUnderWay). IsAllowed z f.facts line.actor u kind) is.at.line_is may
+allowed : (z : Sizes) (line : Line) (stage : Stage) (notes : Notes) (f : Flat) (kind : EventKind) → IsAlone line stage notes f
+    → IsAllowed z f.facts f.past line.actor (f.under line.actor) kind → IsAllowed z f.facts f.past line.actor (under_way line stage notes) kind
+allowed z line stage notes f kind is may = subst (λ (u : LineUnderWay). IsAllowed z f.facts f.past line.actor u kind) is.at.line_is may
 
-next_at : (line : Line) (stage : Stage) (notes : Notes) (f : Flat) (kind : EventKind) → IsAlone line stage notes f → IsAt line.actor (facts_after kind f.facts) (line_after kind f.facts (under_way line stage notes)) (after (by line kind) f)
+next_at : (line : Line) (stage : Stage) (notes : Notes) (f : Flat) (kind : EventKind) → IsAlone line stage notes f
+    → IsAt line.actor (facts_after kind f.facts) (line_after kind f.facts (under_way line stage notes)) (after (by line kind) f)
 next_at line stage notes f kind is = step line.actor kind f.facts (under_way line stage notes) f is.at
 
 -- an event that is shown, and the rest of the line
-shown_event : (z : Sizes) (line : Line) (rest es : List Event) (stage : Stage) (notes : Notes) (f : Flat) (kind : EventKind) → is_look kind ≡ false → IsNext z f.facts (under_way line stage notes) kind
+shown_event : (z : Sizes) (line : Line) (rest es : List Event) (stage : Stage) (notes : Notes) (f : Flat) (kind : EventKind) → is_look kind ≡ false
+    → IsNext z f.facts (under_way line stage notes) kind
     → Ends z line rest (line_after kind f.facts (under_way line stage notes)).stage (after (by line kind) f) es → Ends z line rest stage f (by line kind ∷ es)
 shown_event z line rest es stage notes f kind is_shown is ends = record {
   behind = ends.behind;
@@ -66,7 +69,8 @@ shown_event z line rest es stage notes f kind is_shown is ends = record {
 }
 
 -- Where one more host page was looked at, each that was is so still.
-noted_host : (f : Facts) (page : ℕ) (host : HostNotes) (other : ℕ) (entry : HostEntry) → (host other ≡ Some entry → entry ≡ f.host other) → with_entry page (f.host page) host other ≡ Some entry → entry ≡ f.host other
+noted_host : (f : Facts) (page : ℕ) (host : HostNotes) (other : ℕ) (entry : HostEntry) → (host other ≡ Some entry → entry ≡ f.host other)
+    → with_entry page (f.host page) host other ≡ Some entry → entry ≡ f.host other
 noted_host f page host other entry before noted = by_page (page == other) (eqb-true page other) noted
   where
     by_page : (b : Bool) → (b ≡ true → page ≡ other) → cond b (Some (f.host page)) (host other) ≡ Some entry → entry ≡ f.host other
@@ -88,15 +92,18 @@ one_event z line rest es (LookedAtHost page) within leads stage notes f is lawfu
     record { behind = ends.behind; reaches = ends.reaches; shown = ends.shown; facts_are = ends.facts_are; idle = ends.idle; lawful = ends.lawful; fed = ends.fed }
 one_event z line rest es (Accessed gfn word op frame before) within leads stage notes f is lawful fed =
     let kind : EventKind = Accessed gfn word op frame before in
-    shown_event z line rest es stage notes f kind refl (access_is_next z f.facts (under_way line stage notes) gfn word op frame before (allowed z line stage notes f kind is lawful.0))
+    shown_event z line rest es stage notes f kind refl
+    (access_is_next z f.facts f.past (under_way line stage notes) gfn word op frame before (allowed z line stage notes f kind is lawful.0))
     (leads (HasAccessed frame before) notes (after (by line kind) f) (record { at = next_at line stage notes f kind is; exact = λ fresh. absurd (cc fresh) }) lawful.1 fed.1)
 one_event z line rest es (Exited answer) within leads stage notes f is lawful fed =
     let kind : EventKind = Exited answer in
-    shown_event z line rest es stage notes f kind refl (exit_is_next z f.facts (under_way line stage notes) answer is.exact fed.0 (allowed z line stage notes f kind is lawful.0))
+    shown_event z line rest es stage notes f kind refl
+    (exit_is_next z f.facts f.past (under_way line stage notes) answer is.exact fed.0 (allowed z line stage notes f kind is lawful.0))
     (leads (HasLeft answer) notes (after (by line kind) f) (record { at = next_at line stage notes f kind is; exact = λ fresh. absurd (cc fresh) }) lawful.1 fed.1)
 one_event z line rest es (SlotChanged id slot) within leads stage notes f is lawful fed =
     let kind : EventKind = SlotChanged id slot in
-    shown_event z line rest es stage notes f kind refl (slot_change_is_next z f.facts (under_way line stage notes) id slot (allowed z line stage notes f kind is lawful.0))
+    shown_event z line rest es stage notes f kind refl
+    (slot_change_is_next z f.facts f.past (under_way line stage notes) id slot (allowed z line stage notes f kind is lawful.0))
     (leads HasChanged notes (after (by line kind) f) (record { at = next_at line stage notes f kind is; exact = λ fresh. absurd (cc fresh) }) lawful.1 fed.1)
 one_event z line rest es (Answered number answer) within leads stage notes f is lawful fed = absurd within
 
@@ -115,7 +122,8 @@ at_answer z line rest answer stage notes f is lawful fed =
       fed = fed.1;
     }
 
-whole_line : (z : Sizes) (line : Line) (within rest : List Event) (answer : Answer) → AreWithin line within → Leads z line rest (within ++ (by line (Answered line.number answer) ∷ rest))
+whole_line : (z : Sizes) (line : Line) (within rest : List Event) (answer : Answer) → AreWithin line within
+    → Leads z line rest (within ++ (by line (Answered line.number answer) ∷ rest))
 whole_line z line [] rest answer are = at_answer z line rest answer
 whole_line z line (e ∷ es) rest answer are =
     subst (λ (actor : Actor). Leads z line rest (record { actor = actor; kind = e.kind } ∷ (es ++ (by line (Answered line.number answer) ∷ rest)))) (sym are.0)
@@ -142,7 +150,8 @@ line_shows z line lines within rest answer f idle are further lawful fed =
     }
 
 shows : (z : Sizes) (lines : List Line) (h : List Event) (f : Flat) → AllIdle f → IsLawful z f h → StandsAlone h lines → NoneStarved h → Shows z lines f h
-shows z [] h f idle lawful stands fed = record { shown = ap without_looks stands; idle = subst (λ (es : List Event). AllIdle (after_all es f)) (sym stands) idle }
+shows z [] h f idle lawful stands fed =
+    record { shown = ap without_looks stands; idle = subst (λ (es : List Event). AllIdle (after_all es f)) (sym stands) idle }
 shows z (line ∷ lines) h f idle lawful stands fed =
     let first : StandsFirst line h stands.0 = stands.1 in
     subst (λ (es : List Event). IsLawful z f es → NoneStarved es → Shows z (line ∷ lines) f es) (sym first.history_is)
@@ -157,7 +166,8 @@ pub record GoesAsFlat (z : Sizes) (lines : List Line) (f : Flat) (h : List Event
   pub prints : text h ≡ text (one_by_one z lines f.facts)
 
 -- The law, from any state in which no line is under way.
-pub goes_as_flat : (z : Sizes) (lines : List Line) (h : List Event) (f : Flat) → AllIdle f → IsLawful z f h → StandsAlone h lines → NoneStarved h → GoesAsFlat z lines f h
+pub goes_as_flat : (z : Sizes) (lines : List Line) (h : List Event) (f : Flat) → AllIdle f → IsLawful z f h → StandsAlone h lines → NoneStarved h
+    → GoesAsFlat z lines f h
 goes_as_flat z lines h f idle lawful stands fed =
     let flat : List Event = one_by_one z lines f.facts in
     let is = shows z lines h f idle lawful stands fed in

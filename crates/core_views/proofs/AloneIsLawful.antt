@@ -46,14 +46,16 @@ unchanged true x y e idle = cc
 unchanged false x y e idle = idle
 
 -- An event of the actor leads on to what it makes of the line.
-pub step : (actor : Actor) (kind : EventKind) (facts : Facts) (u : LineUnderWay) (f : Flat) → IsAt actor facts u f → IsAt actor (facts_after kind facts) (line_after kind facts u) (after (record { actor = actor; kind = kind }) f)
+pub step : (actor : Actor) (kind : EventKind) (facts : Facts) (u : LineUnderWay) (f : Flat) → IsAt actor facts u f
+    → IsAt actor (facts_after kind facts) (line_after kind facts u) (after (record { actor = actor; kind = kind }) f)
 step actor kind facts u f at = record {
   facts_are = ap (facts_after kind) at.facts_are;
   line_is = changed_here actor (line_after kind f.facts (f.under actor)) f.under ∙ rw (at.facts_are, at.line_is) refl;
   others = λ i apart. unchanged (is_same actor i) (line_after kind f.facts (f.under actor)) (f.under i) apart (at.others i apart);
 }
 
-allowed : (z : Sizes) (actor : Actor) (kind : EventKind) (facts : Facts) (u : LineUnderWay) (f : Flat) → IsAt actor facts u f → IsAllowed z facts actor u kind → IsAllowed z f.facts actor (f.under actor) kind
+allowed : (z : Sizes) (actor : Actor) (kind : EventKind) (facts : Facts) (u : LineUnderWay) (f : Flat) → IsAt actor facts u f
+    → IsAllowed z facts f.past actor u kind → IsAllowed z f.facts f.past actor (f.under actor) kind
 allowed z actor kind facts u f at may = rw (at.facts_are, at.line_is) may
 
 pub at_end : (b : Bool) (x y : LineUnderWay) → x.stage ≡ Idle → (b ≡ false → y.stage ≡ Idle) → (cond b x y).stage ≡ Idle
@@ -66,14 +68,16 @@ record Closes (z : Sizes) (es : List Event) (f : Flat) : Type 0 where
   idle : AllIdle (after_all es f)
   facts_are : (after_all es f).facts ≡ facts_after_all es f.facts
 
-answered : (z : Sizes) (line : Line) (answer : Answer) (facts : Facts) (u : LineUnderWay) (f : Flat) → IsAt line.actor facts u f → u.line ≡ line → Tells z facts.slots u.line.command u.stage answer → Closes z (answers line answer) f
+answered : (z : Sizes) (line : Line) (answer : Answer) (facts : Facts) (u : LineUnderWay) (f : Flat) → IsAt line.actor facts u f → u.line ≡ line
+    → Tells z facts.slots u.line.command u.stage answer → Closes z (answers line answer) f
 answered z line answer facts u f at is tells = record {
   lawful = (allowed z line.actor (Answered line.number answer) facts u f at (ap (λ (l : Line). l.number) (sym is), tells), tt);
   idle = λ i. at_end (is_same line.actor i) (line_after (Answered line.number answer) f.facts (f.under line.actor)) (f.under i) refl (at.others i);
   facts_are = refl;
 }
 
-more : (z : Sizes) (e : Event) (es : List Event) (f : Flat) → IsAllowed z f.facts e.actor (f.under e.actor) e.kind → Closes z es (after e f) → Closes z (e ∷ es) f
+more : (z : Sizes) (e : Event) (es : List Event) (f : Flat) → IsAllowed z f.facts f.past e.actor (f.under e.actor) e.kind → Closes z es (after e f)
+    → Closes z (e ∷ es) f
 more z e es f may rest = record { lawful = (may, rest.lawful); idle = rest.idle; facts_are = rest.facts_are }
 
 -- An access looks at the pause, at the slots, and at the host page that they give it. It runs where nothing is paused.
@@ -84,8 +88,10 @@ noted line facts host = record { line = line; stage = Fresh; notes = record { pa
 seen : (page : ℕ) (entry : HostEntry) (host : HostNotes) → with_entry page entry host page ≡ Some entry
 seen page entry host = rw (eq-eqb page page refl) refl
 
-reaching_closes : (z : Sizes) (line : Line) (gfn word : ℕ) (op : Op) (facts : Facts) (page : ℕ) (denied : Bool) (f : Flat) → page_behind (flat_slots facts.slots) gfn op ≡ Some page → is_denied op (facts.host page) ≡ denied → line.command ≡ Access gfn word op
-    → facts.paused ≡ false → IsAt line.actor facts (noted line facts (with_entry page (facts.host page) no_notes.host)) f → Closes z (reaching line gfn word op facts page denied) f
+reaching_closes : (z : Sizes) (line : Line) (gfn word : ℕ) (op : Op) (facts : Facts) (page : ℕ) (denied : Bool) (f : Flat)
+    → page_behind (flat_slots facts.slots) gfn op ≡ Some page → is_denied op (facts.host page) ≡ denied → line.command ≡ Access gfn word op
+    → facts.paused ≡ false → IsAt line.actor facts (noted line facts (with_entry page (facts.host page) no_notes.host)) f
+    → Closes z (reaching line gfn word op facts page denied) f
 reaching_closes z line gfn word op facts page true f behind denies is runs at =
     let saw : SawForbidden (noted line facts (with_entry page (facts.host page) no_notes.host)).notes gfn op =
     record { runs = ap Some runs; slots = flat_slots facts.slots; noted = refl; page = page; behind = behind; entry = facts.host page; looked = seen page (facts.host page) no_notes.host; forbids = denies } in
@@ -99,8 +105,10 @@ reaching_closes z line gfn word op facts page false f behind denies is runs at =
     (allowed z line.actor access facts _ f at (refl, is, ap Some runs, record { named = ap (frame_at facts.host op) behind ∙ named; page = page; behind = behind; value_is = refl }))
     (answered z line (Reached (facts.host page).frame (facts.memory page word)) (facts_after access facts) _ _ (step line.actor access facts _ f at) refl refl)
 
-access_closes : (z : Sizes) (line : Line) (gfn word : ℕ) (op : Op) (facts : Facts) (page : Option ℕ) (f : Flat) → page_behind (flat_slots facts.slots) gfn op ≡ page → line.command ≡ Access gfn word op
-    → facts.paused ≡ false → IsAt line.actor facts (noted line facts no_notes.host) f → Closes z (looks_behind line page ++ accessing line gfn word op facts page) f
+access_closes : (z : Sizes) (line : Line) (gfn word : ℕ) (op : Op) (facts : Facts) (page : Option ℕ) (f : Flat)
+    → page_behind (flat_slots facts.slots) gfn op ≡ page → line.command ≡ Access gfn word op
+    → facts.paused ≡ false → IsAt line.actor facts (noted line facts no_notes.host) f
+    → Closes z (looks_behind line page ++ accessing line gfn word op facts page) f
 access_closes z line gfn word op facts None f none is runs at =
     let saw : SawNoPage (noted line facts no_notes.host).notes gfn op = record { runs = ap Some runs; slots = flat_slots facts.slots; noted = refl; none = none } in
     more z (by line (Exited Mmio)) (answers line Mmio) f
@@ -111,7 +119,8 @@ access_closes z line gfn word op facts (Some page) f behind is runs at =
     (allowed z line.actor (LookedAtHost page) facts _ f at refl)
     (reaching_closes z line gfn word op facts page (is_denied op (facts.host page)) _ behind refl is runs (step line.actor (LookedAtHost page) facts _ f at))
 
-change_closes : (z : Sizes) (line : Line) (command : Command) (facts : Facts) (f : Flat) (change : ℕ × Option MemorySlot) → slot_change facts.slots command ≡ Some change
+change_closes : (z : Sizes) (line : Line) (command : Command) (facts : Facts) (f : Flat) (change : ℕ × Option MemorySlot)
+    → slot_change facts.slots command ≡ Some change
     → HasWork z facts command → line.command ≡ command → IsAt line.actor facts (record { line = line; stage = Fresh; notes = no_notes }) f
     → Closes z (working line command facts) f
 change_closes z line command facts f change changed works is at =
@@ -122,7 +131,8 @@ change_closes z line command facts f change changed works is at =
     (answered z line Done (facts_after event facts) _ _ (step line.actor event facts _ f at) refl refl))
 
 -- A line that has nothing to do is answered at once.
-change_or_answer : (z : Sizes) (line : Line) (command : Command) (facts : Facts) (f : Flat) (change : ℕ × Option MemorySlot) → slot_change facts.slots command ≡ Some change
+change_or_answer : (z : Sizes) (line : Line) (command : Command) (facts : Facts) (f : Flat) (change : ℕ × Option MemorySlot)
+    → slot_change facts.slots command ≡ Some change
     → line.command ≡ command → IsAt line.actor facts (record { line = line; stage = Fresh; notes = no_notes }) f → Closes z (doing z line command facts) f
 change_or_answer z line command facts f change changed is at = by_answer (answer_at_once z facts.slots command) refl
   where

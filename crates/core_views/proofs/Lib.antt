@@ -13,3 +13,5 @@ pub mod Places
 pub mod Sound
 pub mod Holding
 pub mod FlatSlots
+pub mod Writes
+pub mod Written

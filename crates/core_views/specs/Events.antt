@@ -1,14 +1,16 @@
--- What an event does to the flat state: to the facts, and to the line under way of its actor.
+-- What an event does to the flat state: to the facts, to what is kept of what happened before, and to the line under way of its actor.
 use Rattle.std.specs.Prelude.{ℕ, List, [], ◌∷◌, Option, Some, None}
 use Rattle.core_views.specs.declared.event.Event.{Event}
 use Rattle.core_views.specs.declared.event.EventKind.{EventKind}
 use Rattle.core_views.specs.declared.event.EventKind.TheVariants.{Begun, LookedAtPause, LookedAtSlots, LookedAtHost, Accessed, Exited, SlotChanged, Answered}
 use Rattle.core_views.specs.declared.trace.Op.{Op}
+use Rattle.core_views.specs.declared.actor.Actor.{Actor}
 use Rattle.core_views.specs.Actors.{changed_at}
 use Rattle.core_views.specs.Host.{with_entry}
 use Rattle.core_views.specs.Slots.{page_behind}
 use Rattle.core_views.specs.SlotSets.{changed_slots, flat_slots}
 use Rattle.core_views.specs.Memory.{Memory, with_word, stored}
+use Rattle.core_views.specs.Past.{Past, counted_anew, of_others, past_begun, written_frame}
 use Rattle.core_views.specs.Flat.{Facts, LineUnderWay, Flat, no_notes, Idle, Fresh, HasAccessed, HasLeft, HasChanged}
 
 -- the memory after an access to a word of this host page
@@ -22,6 +24,14 @@ facts_after (Accessed gfn word op frame before) f = record f { memory = touched 
 facts_after (SlotChanged id slot) f = record f { slots = changed_slots id slot f.slots }
 facts_after _ f = f
 
+-- the past after an event of the actor: it moves where a line begins or is answered, and where a slot is set
+abbrev pub past_after : Actor → EventKind → Facts → Past → Past
+past_after actor (Begun line) f past = past_begun actor (written_frame line.command) past
+past_after actor (Answered line answer) f past = record past { writes = of_others actor past.writes }
+past_after actor (SlotChanged id slot) f past =
+    record past { recent = counted_anew slot past.writes past.recent; causes = counted_anew slot past.writes past.causes }
+past_after actor _ f past = past
+
 -- the line under way after an event of its actor
 abbrev pub line_after : EventKind → Facts → LineUnderWay → LineUnderWay
 line_after (Begun line) f u = record { line = line; stage = Fresh; notes = no_notes }
@@ -34,9 +44,13 @@ line_after (SlotChanged id slot) f u = record u { stage = HasChanged }
 line_after (Answered line answer) f u = record u { stage = Idle }
 
 abbrev pub after : Event → Flat → Flat
-after e f = record { facts = facts_after e.kind f.facts; under = changed_at e.actor (line_after e.kind f.facts (f.under e.actor)) f.under }
+after e f = record {
+  facts = facts_after e.kind f.facts;
+  past = past_after e.actor e.kind f.facts f.past;
+  under = changed_at e.actor (line_after e.kind f.facts (f.under e.actor)) f.under;
+}
 
--- the state, and the facts, behind a whole history
+-- the state, and the facts, after a whole history
 abbrev pub after_all : List Event → Flat → Flat
 after_all [] f = f
 after_all (e ∷ es) f = after_all es (after e f)

@@ -1,4 +1,4 @@
--- The state of flat guest memory: facts, and for each actor the line that it has under way.
+-- The state of flat guest memory: facts, what is kept of what happened before, and for each actor the line that it has under way.
 use Rattle.std.specs.Prelude.{ℕ, [], Bool, false, Option, None}
 use Rattle.core_views.specs.declared.actor.Actor.{Actor}
 use Rattle.core_views.specs.declared.actor.Actor.TheVariants.{Vcpu}
@@ -10,6 +10,7 @@ use Rattle.core_views.specs.Slots.{Slots}
 use Rattle.core_views.specs.SlotSets.{MemorySlots}
 use Rattle.core_views.specs.Host.{HostMap, HostNotes, own_frames}
 use Rattle.core_views.specs.Memory.{Memory, all_zero}
+use Rattle.core_views.specs.Past.{Past, first_past}
 
 -- what is true of guest memory now, one field a topic
 pub record Facts : Type 0 where
@@ -40,6 +41,7 @@ pub record LineUnderWay : Type 0 where
 
 pub record Flat : Type 0 where
   pub facts : Facts
+  pub past : Past
   pub under : Actor → LineUnderWay
 
 -- At the start there is no slot, each host page is at its own frame, all content is zero, and nothing is paused.
@@ -54,4 +56,4 @@ abbrev pub no_line : Line
 no_line = record { number = 0; actor = Vcpu 0; command = Access 0 0 Read }
 
 abbrev pub first_flat : Flat
-first_flat = record { facts = first_facts; under = λ actor. record { line = no_line; stage = Idle; notes = no_notes } }
+first_flat = record { facts = first_facts; past = first_past; under = λ actor. record { line = no_line; stage = Idle; notes = no_notes } }

@@ -11,12 +11,13 @@ use Rattle.core_views.specs.declared.trace.Command.{Command}
 use Rattle.core_views.specs.declared.trace.Command.TheVariants.{Access, SetSlot}
 use Rattle.core_views.specs.declared.sizes.Sizes.{Sizes}
 use Rattle.core_views.specs.declared.trace.Op.{Op}
-use Rattle.core_views.specs.declared.slot_set.MemorySlot.{MemorySlot}
 use Rattle.core_views.specs.Slots.{Slots, page_behind}
 use Rattle.core_views.specs.SlotSets.{MemorySlots, flat_slots}
-use Rattle.core_views.specs.Refusals.{is_logged, set_refusal}
+use Rattle.core_views.specs.SlotCommands.{change_refusal}
+pub use Rattle.core_views.specs.SlotCommands.{slot_change}
 use Rattle.core_views.specs.Host.{HostEntry, is_denied}
 use Rattle.core_views.specs.Names.{names}
+use Rattle.core_views.specs.Past.{Past}
 use Rattle.core_views.specs.Flat.{Facts, Notes, LineUnderWay, Flat, Stage, Idle, Fresh, HasAccessed, HasLeft, HasChanged}
 use Rattle.core_views.specs.Events.{after}
 
@@ -58,17 +59,11 @@ pub record SawPage (notes : Notes) (gfn : ℕ) (op : Op) : Type 0 where
 
 -- what a line is answered that has nothing to do on a machine with these slots: the refusal of a slot
 abbrev pub answer_at_once : Sizes → MemorySlots → Command → Option Answer
-answer_at_once z slots (Access gfn word op) = None
-answer_at_once z slots (SetSlot id slot) = option_map (λ refusal. Refused refusal) (set_refusal z.pages id slot slots)
+answer_at_once z slots command = option_map (λ refusal. Refused refusal) (change_refusal z command slots)
 
 -- The line has something to do.
 abbrev pub HasWork : Sizes → Facts → Command → Type 0
 HasWork z f command = answer_at_once z f.slots command ≡ None
-
--- the ID of which a line changes the slot, and the slot behind the change: it has a dirty log where the one that was there had one
-abbrev pub slot_change : MemorySlots → Command → Option (ℕ × Option MemorySlot)
-slot_change slots (Access gfn word op) = None
-slot_change slots (SetSlot id slot) = Some (id, Some (record { slot = slot; logged = is_logged id slots }))
 
 -- The line under way may be given up with this answer. That no pool page was free is no fact of flat memory. But a line that has nothing to do wants
 -- none, and an access wants one, for a table, only once it has seen its page.
@@ -87,19 +82,19 @@ Tells z slots command HasChanged answer = answer ≡ Done
 Tells z slots command Idle answer = ⊥
 Tells z slots command Fresh answer = answer_at_once z slots command ≡ Some answer
 
--- The actor, with this line under way, may do this next.
-abbrev pub IsAllowed : Sizes → Facts → Actor → LineUnderWay → EventKind → Type 0
-IsAllowed z f actor u (Begun line) = (u.stage ≡ Idle) × (line.actor ≡ actor)
-IsAllowed z f actor u LookedAtPause = u.stage ≡ Fresh
-IsAllowed z f actor u LookedAtSlots = u.stage ≡ Fresh
-IsAllowed z f actor u (LookedAtHost page) = u.stage ≡ Fresh
-IsAllowed z f actor u (Accessed gfn word op frame before) =
+-- The actor, with this line under way, may do this next. What is kept of the past forbids none of these.
+abbrev pub IsAllowed : Sizes → Facts → Past → Actor → LineUnderWay → EventKind → Type 0
+IsAllowed z f past actor u (Begun line) = (u.stage ≡ Idle) × (line.actor ≡ actor)
+IsAllowed z f past actor u LookedAtPause = u.stage ≡ Fresh
+IsAllowed z f past actor u LookedAtSlots = u.stage ≡ Fresh
+IsAllowed z f past actor u (LookedAtHost page) = u.stage ≡ Fresh
+IsAllowed z f past actor u (Accessed gfn word op frame before) =
     (u.stage ≡ Fresh) × (u.line.command ≡ Access gfn word op) × (u.notes.paused ≡ Some false) × Reaches f gfn word op frame before
-IsAllowed z f actor u (Exited answer) = (u.stage ≡ Fresh) × MayLeave z f u.line.command u.notes answer
-IsAllowed z f actor u (SlotChanged id slot) = (u.stage ≡ Fresh) × HasWork z f u.line.command × (slot_change f.slots u.line.command ≡ Some (id, slot))
-IsAllowed z f actor u (Answered line answer) = (line ≡ u.line.number) × Tells z f.slots u.line.command u.stage answer
+IsAllowed z f past actor u (Exited answer) = (u.stage ≡ Fresh) × MayLeave z f u.line.command u.notes answer
+IsAllowed z f past actor u (SlotChanged id slot) = (u.stage ≡ Fresh) × HasWork z f u.line.command × (slot_change f.slots u.line.command ≡ Some (id, slot))
+IsAllowed z f past actor u (Answered line answer) = (line ≡ u.line.number) × Tells z f.slots u.line.command u.stage answer
 
 -- Each event of the history is allowed in the state that the events before it give.
 abbrev pub IsLawful : Sizes → Flat → List Event → Type 0
 IsLawful z f [] = Unit {0}
-IsLawful z f (e ∷ es) = IsAllowed z f.facts e.actor (f.under e.actor) e.kind × IsLawful z (after e f) es
+IsLawful z f (e ∷ es) = IsAllowed z f.facts f.past e.actor (f.under e.actor) e.kind × IsLawful z (after e f) es

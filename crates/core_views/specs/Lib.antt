@@ -4,10 +4,12 @@ pub mod Traces
 pub mod Slots
 pub mod SlotSets
 pub mod Refusals
+pub mod SlotCommands
 pub mod Places
 pub mod Host
 pub mod Memory
 pub mod Names
+pub mod Past
 pub mod Flat
 pub mod Events
 pub mod Lawful
@@ -18,6 +20,7 @@ pub mod Alone
 pub mod Need
 pub mod Kinds
 pub mod Held
+pub mod Writes
 pub mod Laws
 pub mod Unlawful
 pub mod Rows

@@ -1,4 +1,4 @@
-ghost use Rattle.std.specs.Prelude.{◌≡◌, ◌≤◌, [], ◌∷◌, take, IfOk, length, slice_get};
+ghost use Rattle.std.specs.Prelude.{◌≡◌, ◌≤◌, [], ◌∷◌, ◌++◌, take, IfOk, length};
 ghost use Rattle.circular_buffer.specs.Buffer.{buffer};
 
 use crate::NoMemory;
@@ -42,11 +42,12 @@ impl Cache {
         Ok(Cache { translations })
     }
 
-    /// The translation at this place, the newest at 0.
-    pub fn get(&self, i: usize) -> Option<Translation>
-        ensures { result ≡ slice_get self.now.items i }
+    /// The translations in two runs: the newer ones, and then the older ones, each from
+    /// the newest on.
+    pub fn as_slices(&self) -> (&[Translation], &[Translation])
+        ensures { result.0.now ++ result.1.now ≡ self.now.items }
     {
-        self.translations.get(i).copied()
+        self.translations.as_slices()
     }
 
     /// How many translations are cached.

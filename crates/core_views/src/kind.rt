@@ -134,6 +134,7 @@ pub struct Kind {
 impl Kind {
     /// The kind of step that its number names; `Control`, a load, where the number
     /// is of none.
+    #[inline(always)]
     pub fn named(self) -> StepKind
         ensures { result ≡ kind_named self.code }
     {
@@ -163,6 +164,7 @@ impl Kind {
     }
 
     /// The operation on its word; a load where the code is of no kind.
+    #[inline(always)]
     pub fn operation(self) -> Operation
         ensures { result ≡ operation_of_code self.code }
     {
@@ -170,6 +172,7 @@ impl Kind {
     }
 
     /// What the word holds after it, where it held `found`.
+    #[inline(always)]
     #[tactic(auto, unfolding(crate::specs::Kinds::after))]
     pub fn after(self, found: u64) -> u64
         ensures { result ≡ after self found }
@@ -187,6 +190,7 @@ impl Kind {
 
     /// What it answers, where the word held `found`: a store finds nothing, and
     /// answers what it wrote.
+    #[inline(always)]
     #[tactic(auto, unfolding(crate::specs::Kinds::answer))]
     pub fn answer(self, found: u64) -> u64
         ensures { result ≡ answer self found }

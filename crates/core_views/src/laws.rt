@@ -1,4 +1,5 @@
 ghost use Rattle.core_views.specs.Laws.{FlatIsLawful, FlatIsWhole, FlatStandsAlone, FlatPrints, AloneIsFlat, AloneAnswersAsFlat, AloneIsWhole};
+ghost use Rattle.core_views.specs.Writes.{WritesAreBegun, WritesAreUnderWay, WrittenFramesAreKept};
 ghost use Rattle.core_views.specs.Unlawful.{AccessLooksAtPause, AccessReachesItsFrame, ExitLooksAtPause};
 ghost use Rattle.core_views.specs.Unlawful.{OutsideCannotStarve, OutsideReachesNone, OverlapCannotStarve, StarvedLooksAtHost, StarvedLooksAtPause};
 
@@ -37,4 +38,16 @@ pub fn unlawful_histories_are_refused()
     ensures frame { AccessReachesItsFrame }
     ensures outside { OutsideReachesNone }
     ensures exit { ExitLooksAtPause }
+{}
+
+/// A law about what the flat state keeps of a history's writes. An actor and a guest
+/// frame stand among those under way exactly while the actor has begun a line that
+/// writes the frame, and has not answered it (`begun`); after a lawful history that line
+/// is the actor's line under way (`under`). The frames that were written lately, and those
+/// that have a cause to stand in a log, are just those of the lines that were under way
+/// at some moment since the frame's slot was last set (`written`).
+pub fn writes_are_kept()
+    ensures begun { WritesAreBegun }
+    ensures under { WritesAreUnderWay }
+    ensures written { WrittenFramesAreKept }
 {}

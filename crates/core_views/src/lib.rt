@@ -13,6 +13,7 @@ mod no_memory;
 mod place;
 mod sequence;
 mod sizes;
+mod slot_commands;
 mod slot_set;
 mod topics;
 mod trace;
@@ -23,11 +24,13 @@ pub use cache::{Cache, Translation};
 pub use event::{Event, EventKind};
 pub use hand::{Closing, Hand, Hands, Seen, State};
 pub use kind::{Kind, Operation, StepKind};
-pub use laws::{alone_is_flat, flat_history_is_lawful, unlawful_histories_are_refused};
+pub use laws::{
+    alone_is_flat, flat_history_is_lawful, unlawful_histories_are_refused, writes_are_kept,
+};
 pub use no_memory::NoMemory;
 pub use place::{
-    AccessPlace, Cause, CheckStage, FaultEnd, FaultNext, FaultPlace, Leaving, Place, SetSlotPlace,
-    SlotField,
+    AccessPlace, Cause, CheckStage, FaultEnd, FaultNext, FaultPlace, Leaving, Place,
+    SlotChangePlace, SlotField,
 };
 pub use sequence::Sequence;
 pub use sizes::Sizes;

@@ -4,7 +4,7 @@ pub enum Place {
     /// No line is under way.
     Between,
     Access(AccessPlace),
-    SetSlot(SetSlotPlace),
+    SlotChange(SlotChangePlace),
 }
 
 /// A word of a slot in its slot set.
@@ -45,11 +45,11 @@ pub enum AccessPlace {
     Fault(FaultPlace),
 }
 
-/// The steps of a slot setting, in their order: a page of its own is filled with
-/// the new slot set, published by one exchange under the lock, and the old page
-/// given back behind a grace period (kvm_main.c, `kvm_swap_active_memslots`).
+/// The steps of a line that changes a slot, in their order: a page of its own is
+/// filled with the new slot set, published by one exchange under the lock, and the
+/// old page given back after a grace period (kvm_main.c, `kvm_swap_active_memslots`).
 #[derive(Clone, Copy, Debug, PartialEq, Eq, Drop)]
-pub enum SetSlotPlace {
+pub enum SlotChangePlace {
     /// It is refused, which is known before its first step.
     Refuse(crate::Refusal),
     /// Loads a word of the pool's map, or tries a page that it saw there.

@@ -13,7 +13,7 @@ use Rattle.core_views.specs.Traces.{IsCommandFor}
 use Rattle.mmu_core.specs.lines.AccessSteps.{access_note}
 use Rattle.mmu_core.specs.lines.FaultKnows.{FaultKnows}
 use Rattle.mmu_core.specs.lines.FaultSteps.{fault_part}
-use Rattle.mmu_core.specs.lines.KnowsPart.{KnowsPart}
+use Rattle.mmu_core.specs.lines.Forms.{KnowsPart}
 use Rattle.mmu_core.specs.machine.MayMake.{MayMake}
 use Rattle.mmu_core.specs.lines.Rests.{Rests}
 use Rattle.mmu_core.specs.machine.Steps.{place_at}
@@ -31,14 +31,16 @@ module _ (p : FaultPlace) (job : FaultJob) (h : Held) (R : Rests h) (S : StandsI
   may_make = place_may_make (place.Access (Fault p)) (Access job.gfn S.word S.op) h S.left R stands S.command (fault_part p job.gfn h.topics) refl
 
   gfn_small : job.gfn < 2 ^ 36
-  gfn_small = (access_vcpu h.state.sizes (line_of h).actor job.gfn S.word S.op (subst (λ (c : Command). IsCommandFor h.state.sizes (line_of h).actor c) S.command R.line)).1
+  gfn_small =
+      (access_vcpu h.state.sizes (line_of h).actor job.gfn S.word S.op (subst (λ (c : Command). IsCommandFor h.state.sizes (line_of h).actor c) S.command R.line)).1
 
   knows : KnowsPart (place_at h.state.place h) (line_of h).command h → FaultKnows p h.state.sizes job.gfn job.write h.topics
   knows K =
       subst (λ (write : Bool). FaultKnows p h.state.sizes job.gfn write h.topics) S.writes
       (subst (λ (c : Command). KnowsPart (place.Access (Fault p)) c h) S.command (subst (λ (q : Place). KnowsPart q (line_of h).command h) stands K))
 
-pub is_at : (p : FaultPlace) (job : FaultJob) (h : Held) → ∥ HandReached h ∥₁ → StandsInLine job h → place_at h.state.place h ≡ place.Access (Fault p) → IsAt p job (access_note (Fault p)) h
+pub is_at : (p : FaultPlace) (job : FaultJob) (h : Held) → ∥ HandReached h ∥₁ → StandsInLine job h → place_at h.state.place h ≡ place.Access (Fault p)
+    → IsAt p job (access_note (Fault p)) h
 is_at p job h reached S stands =
     let R : Rests h = reached_rests h reached S.left in
     record { may = may_make p job h R S stands; gfn = gfn_small p job h R S stands; knows = knows p job h R S stands (reached_knows h reached S.left) }

@@ -23,8 +23,8 @@ use Rattle.mmu_core.specs.machine.Steps.{place_at}
 use Rattle.mmu_core.specs.machine.Turns.{line_of}
 use Rattle.mmu_lock.specs.declared.lock.Lock.{Lock}
 use Rattle.mmu_lock.specs.declared.lock.Lock.TheVariants as lock
+use Rattle.step_seats.specs.Seats.{Seat}
 use Rattle.step_seats.specs.PartTurns.{MadePart}
-use Rattle.step_seats.specs.Where.{Told}
 use Rattle.step_seats.specs.declared.turn.Turn.{Turn}
 use Rattle.step_seats.specs.declared.turn.Turn.TheVariants.{More, Wait, Retry, Done}
 use Rattle.table_pool.specs.declared.claim.Claimed.{Claimed}
@@ -102,20 +102,25 @@ pub record IsAt (p : FaultPlace) (job : FaultJob) (note : ℕ) (h : Held) : Type
   pub knows : FaultKnows p h.state.sizes job.gfn job.write h.topics
 
 -- The step of this place was made, of which this was found, and the turn answers by what is next in the order of steps.
-pub record MakesStep (p : FaultPlace) (job : FaultJob) (turn : Turn Faulted) (note actor : ℕ) (h g : Held) (told tells : Told) : Type 0 where
+pub record MakesStep (p : FaultPlace) (job : FaultJob) (turn : Turn Faulted) (note : ℕ) (before after : Seat) : Type 0 where
   pub found : ℕ
-  pub made : MadePart (fault_part p job.gfn h.topics) note found actor h g told tells
-  pub turned : AnswersBy turn (fault_next p h.state.sizes job.gfn job.write h.topics found)
-  pub waits_by : WaitsBy turn (part_waits (fault_part p job.gfn h.topics) h.topics found) (part_seen (fault_part p job.gfn h.topics) h found)
+  pub made : MadePart (fault_part p job.gfn before.hand.topics) note found before after
+  pub turned : AnswersBy turn (fault_next p before.hand.state.sizes job.gfn job.write before.hand.topics found)
+  pub waits_by : WaitsBy turn (part_waits (fault_part p job.gfn before.hand.topics) before.hand.topics found)
+      (part_seen (fault_part p job.gfn before.hand.topics) before.hand found)
+
+-- what is next in the order of steps where the step of this place found v
+abbrev pub next_of : FaultPlace → FaultJob → Held → ℕ → FaultNext
+next_of p job h v = fault_next p h.state.sizes job.gfn job.write h.topics v
 
 -- One turn of the fault at this place: the hand stands where the order of steps leads from there, and knows what its next place asks; where
 -- the fault is over, its answer has its cause in what was loaded, and the actor holds nothing.
-pub record TurnsAt (p : FaultPlace) (job : FaultJob) (turn : Turn Faulted) (actor : ℕ) (h g : Held) (told tells : Told) : Type 0 where
-  pub step : MakesStep p job turn (access_note (Fault p)) actor h g told tells
-  pub stands : g.state.place ≡ place_after (behind_fault (fault_next p h.state.sizes job.gfn job.write h.topics step.found))
-  pub knows : KnowsNext (fault_next p h.state.sizes job.gfn job.write h.topics step.found) h.state.sizes job.gfn job.write g.topics
-  pub ends_by : EndsBy (fault_next p h.state.sizes job.gfn job.write h.topics step.found) (λ e. EndKnows e h.state.sizes job.gfn job.write h.topics)
+pub record TurnsAt (p : FaultPlace) (job : FaultJob) (turn : Turn Faulted) (before after : Seat) : Type 0 where
+  pub step : MakesStep p job turn (access_note (Fault p)) before after
+  pub stands : after.hand.state.place ≡ place_after (behind_fault (next_of p job before.hand step.found))
+  pub knows : KnowsNext (next_of p job before.hand step.found) before.hand.state.sizes job.gfn job.write after.hand.topics
+  pub ends_by : EndsBy (next_of p job before.hand step.found) (λ e. EndKnows e before.hand.state.sizes job.gfn job.write before.hand.topics)
 
 -- One turn of the fault, at the place where the hand's line stands.
-abbrev pub TurnsFault : FaultJob → Turn Faulted → ℕ → Held → Held → Told → Told → Type 0
-TurnsFault job turn actor h g told tells = (p : FaultPlace) → place_at h.state.place h ≡ place.Access (Fault p) → TurnsAt p job turn actor h g told tells
+abbrev pub TurnsFault : FaultJob → Turn Faulted → Seat → Seat → Type 0
+TurnsFault job turn before after = (p : FaultPlace) → place_at before.hand.state.place before.hand ≡ place.Access (Fault p) → TurnsAt p job turn before after

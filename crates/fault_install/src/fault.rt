@@ -74,12 +74,12 @@ impl FaultJob {
 
     // Makes the step of a place that always leads on to another one.
     fn go_on<S: Stepper>(&self, s: &mut S, place: FaultPlace, note: u64)
-        requires is_at { IsAt place self.now note (S.handful s.old).core }
+        requires is_at { IsAt place self.now note (S.seat s.old).hand }
         requires leads_on { LeadsOn place }
-        requires reserved { 0 < (S.handful s.old).room }
-        ensures makes { MakesPart (fault_part place self.now.gfn (S.handful s.old).core.topics) note (S.actor s.old) (S.handful s.old).core (S.handful s.new).core (S.tells s.old) (S.tells s.new) }
-        ensures room { KeepsRoom (S.handful s.old) (S.handful s.new) }
-        ensures same { (S.actor s.new ≡ S.actor s.old) × (S.frame s.new ≡ S.frame s.old) }
+        requires reserved { 0 < (S.seat s.old).room }
+        ensures makes { MakesPart (fault_part place self.now.gfn (S.seat s.old).hand.topics) note (S.seat s.old) (S.seat s.new) }
+        ensures room { KeepsRoom (S.seat s.old) (S.seat s.new) }
+        ensures same { ((S.seat s.new).actor ≡ (S.seat s.old).actor) × (S.frame s.new ≡ S.frame s.old) }
     {
         let gfn = self.gfn;
         match place {
@@ -104,13 +104,13 @@ impl FaultJob {
 
     // Makes the step of such a place that comes after the check of the look-up.
     fn go_down<S: Stepper>(&self, s: &mut S, place: FaultPlace, note: u64)
-        requires is_at { IsAt place self.now note (S.handful s.old).core }
+        requires is_at { IsAt place self.now note (S.seat s.old).hand }
         requires leads_on { LeadsOn place }
         requires checked { ComesAfterCheck place }
-        requires reserved { 0 < (S.handful s.old).room }
-        ensures makes { MakesPart (fault_part place self.now.gfn (S.handful s.old).core.topics) note (S.actor s.old) (S.handful s.old).core (S.handful s.new).core (S.tells s.old) (S.tells s.new) }
-        ensures room { KeepsRoom (S.handful s.old) (S.handful s.new) }
-        ensures same { (S.actor s.new ≡ S.actor s.old) × (S.frame s.new ≡ S.frame s.old) }
+        requires reserved { 0 < (S.seat s.old).room }
+        ensures makes { MakesPart (fault_part place self.now.gfn (S.seat s.old).hand.topics) note (S.seat s.old) (S.seat s.new) }
+        ensures room { KeepsRoom (S.seat s.old) (S.seat s.new) }
+        ensures same { ((S.seat s.new).actor ≡ (S.seat s.old).actor) × (S.frame s.new ≡ S.frame s.old) }
     {
         let gfn = self.gfn;
         let topics = s.hand().topics();
@@ -142,11 +142,11 @@ impl FaultJob {
 
     // Tries to share the lock, and waits once a try that found a writer is taken back.
     fn share<S: Stepper>(&self, s: &mut S, note: u64) -> Turn<Faulted>
-        requires is_at { IsAt at.Share self.now note (S.handful s.old).core }
-        requires reserved { 0 < (S.handful s.old).room }
-        ensures makes { MakesStep at.Share self.now result note (S.actor s.old) (S.handful s.old).core (S.handful s.new).core (S.tells s.old) (S.tells s.new) }
-        ensures room { KeepsRoom (S.handful s.old) (S.handful s.new) }
-        ensures same { (S.actor s.new ≡ S.actor s.old) × (S.frame s.new ≡ S.frame s.old) }
+        requires is_at { IsAt at.Share self.now note (S.seat s.old).hand }
+        requires reserved { 0 < (S.seat s.old).room }
+        ensures makes { MakesStep at.Share self.now result note (S.seat s.old) (S.seat s.new) }
+        ensures room { KeepsRoom (S.seat s.old) (S.seat s.new) }
+        ensures same { ((S.seat s.new).actor ≡ (S.seat s.old).actor) × (S.frame s.new ≡ S.frame s.old) }
     {
         part_rests(s.hand());
         let word = map_of(&s.hand().state().sizes).word_of(Area::Lock, 0);
@@ -155,22 +155,22 @@ impl FaultJob {
 
     // Claims a page for a table, and waits where the page that it tried was taken.
     fn claim<S: Stepper>(&self, s: &mut S, begun: bool, note: u64) -> Turn<Faulted>
-        requires is_at { IsAt (at.Claim begun) self.now note (S.handful s.old).core }
-        requires reserved { 0 < (S.handful s.old).room }
-        ensures makes { MakesStep (at.Claim begun) self.now result note (S.actor s.old) (S.handful s.old).core (S.handful s.new).core (S.tells s.old) (S.tells s.new) }
-        ensures room { KeepsRoom (S.handful s.old) (S.handful s.new) }
-        ensures same { (S.actor s.new ≡ S.actor s.old) × (S.frame s.new ≡ S.frame s.old) }
+        requires is_at { IsAt (at.Claim begun) self.now note (S.seat s.old).hand }
+        requires reserved { 0 < (S.seat s.old).room }
+        ensures makes { MakesStep (at.Claim begun) self.now result note (S.seat s.old) (S.seat s.new) }
+        ensures room { KeepsRoom (S.seat s.old) (S.seat s.new) }
+        ensures same { ((S.seat s.new).actor ≡ (S.seat s.old).actor) × (S.frame s.new ≡ S.frame s.old) }
     {
         claim_turn(Claim { begun }.turn(s, note))
     }
 
     // Ends the section, and the fault with it.
     fn end<S: Stepper>(&self, s: &mut S, ended: FaultEnd, note: u64) -> Turn<Faulted>
-        requires is_at { IsAt (at.End ended) self.now note (S.handful s.old).core }
-        requires reserved { 0 < (S.handful s.old).room }
-        ensures makes { MakesStep (at.End ended) self.now result note (S.actor s.old) (S.handful s.old).core (S.handful s.new).core (S.tells s.old) (S.tells s.new) }
-        ensures room { KeepsRoom (S.handful s.old) (S.handful s.new) }
-        ensures same { (S.actor s.new ≡ S.actor s.old) × (S.frame s.new ≡ S.frame s.old) }
+        requires is_at { IsAt (at.End ended) self.now note (S.seat s.old).hand }
+        requires reserved { 0 < (S.seat s.old).room }
+        ensures makes { MakesStep (at.End ended) self.now result note (S.seat s.old) (S.seat s.new) }
+        ensures room { KeepsRoom (S.seat s.old) (S.seat s.new) }
+        ensures same { ((S.seat s.new).actor ≡ (S.seat s.old).actor) × (S.frame s.new ≡ S.frame s.old) }
     {
         end(s, note);
         end_turn(ended)
@@ -179,11 +179,11 @@ impl FaultJob {
     // Makes the step of this place by the call of its part, and answers by what the
     // part answers.
     fn step<S: Stepper>(&self, s: &mut S, place: FaultPlace, note: u64) -> Turn<Faulted>
-        requires is_at { IsAt place self.now note (S.handful s.old).core }
-        requires reserved { 0 < (S.handful s.old).room }
-        ensures makes { MakesStep place self.now result note (S.actor s.old) (S.handful s.old).core (S.handful s.new).core (S.tells s.old) (S.tells s.new) }
-        ensures room { KeepsRoom (S.handful s.old) (S.handful s.new) }
-        ensures same { (S.actor s.new ≡ S.actor s.old) × (S.frame s.new ≡ S.frame s.old) }
+        requires is_at { IsAt place self.now note (S.seat s.old).hand }
+        requires reserved { 0 < (S.seat s.old).room }
+        ensures makes { MakesStep place self.now result note (S.seat s.old) (S.seat s.new) }
+        ensures room { KeepsRoom (S.seat s.old) (S.seat s.new) }
+        ensures same { ((S.seat s.new).actor ≡ (S.seat s.old).actor) × (S.frame s.new ≡ S.frame s.old) }
     {
         match place {
             FaultPlace::Share => self.share(s, note),
@@ -201,12 +201,12 @@ impl FaultJob {
     /// and `Retry` where the look-up holds no more or another actor's entry stood in
     /// the way: the section is over then, and the access is to begin anew.
     pub fn turn<S: Stepper>(&self, s: &mut S) -> Turn<Faulted>
-        requires stands { StandsInLine self.now (S.handful s.old).core }
-        requires reserved { 0 < (S.handful s.old).room }
-        ensures turned { TurnsFault self.now result (S.actor s.old) (S.handful s.old).core (S.handful s.new).core (S.tells s.old) (S.tells s.new) }
-        ensures nearer { result ≡ More → hand_left (S.handful s.new).core < hand_left (S.handful s.old).core }
-        ensures room { KeepsRoom (S.handful s.old) (S.handful s.new) }
-        ensures same { (S.actor s.new ≡ S.actor s.old) × (S.frame s.new ≡ S.frame s.old) }
+        requires stands { StandsInLine self.now (S.seat s.old).hand }
+        requires reserved { 0 < (S.seat s.old).room }
+        ensures turned { TurnsFault self.now result (S.seat s.old) (S.seat s.new) }
+        ensures nearer { result ≡ More → hand_left (S.seat s.new).hand < hand_left (S.seat s.old).hand }
+        ensures room { KeepsRoom (S.seat s.old) (S.seat s.new) }
+        ensures same { ((S.seat s.new).actor ≡ (S.seat s.old).actor) × (S.frame s.new ≡ S.frame s.old) }
     {
         let hand = s.hand();
         part_rests(hand);

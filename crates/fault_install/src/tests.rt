@@ -67,7 +67,7 @@ fn header(alloc: Global, pool: u32) -> Result<Header, NoMemory>
 
 // Makes the lines of the seat's actor, if it has any, up to so many steps.
 fn run_lines<S: Stepper>(s: &mut S, steps: u64) -> Result<(), NoMemory>
-    ensures same { (S.actor s.new ≡ S.actor s.old) × (S.frame s.new ≡ S.frame s.old) }
+    ensures same { ((S.seat s.new).actor ≡ (S.seat s.old).actor) × (S.frame s.new ≡ S.frame s.old) }
 {
     for _ in 0..steps {
         s.reserve(&LINE)?;
@@ -186,7 +186,7 @@ fn fault_of(hand: &Hand) -> Option<FaultJob>
 
 // Makes the steps of the seat's lines up to the next fault.
 fn go_to_fault<S: Stepper>(s: &mut S) -> Result<(), Fail>
-    ensures same { (S.actor s.new ≡ S.actor s.old) × (S.frame s.new ≡ S.frame s.old) }
+    ensures same { ((S.seat s.new).actor ≡ (S.seat s.old).actor) × (S.frame s.new ≡ S.frame s.old) }
 {
     for _ in 0..40 {
         if fault_of(s.hand()).is_some() {

@@ -10,10 +10,11 @@ use Rattle.part_steps.specs.PartTasks.{own_index}
 use Rattle.part_steps.specs.PartHoldings.{next_watched}
 use Rattle.part_steps.specs.Tasks.{map_of}
 use Rattle.part_steps.specs.ControlTopics.{in_section}
+use Rattle.step_seats.specs.Seats.{Seat}
 use Rattle.step_seats.specs.declared.turn.Turn.{Turn}
 use Rattle.step_seats.specs.declared.turn.Turn.TheVariants.{More, Wait, Retry, Done}
-use Rattle.step_seats.specs.PartTurns.{MadePart}
-use Rattle.step_seats.specs.Where.{Told}
+use Rattle.step_seats.specs.PartTurns.{MadePart, WherePartMade, waits}
+use Rattle.mmu_core.specs.alone.OthersRest.{OthersRest}
 
 -- what a watch keeps: whether it has looked at an actor yet
 pub record Watching : Type 0 where
@@ -42,7 +43,8 @@ is_done (Done answer) = true
 -- this word, and the watch stands at this actor still. Else it is behind this actor, and is done exactly where no other actor is left.
 -- No other topic has changed.
 abbrev pub Watched : Turn (Unit {0}) → ℕ → Held → Topics → Type 0
-Watched (Wait seen) index h after = (seen.word ≡ place (map_of h.state.sizes) State index) × (in_section seen.value ≡ true) × (after ≡ record h.topics { watched = index })
+Watched (Wait seen) index h after =
+    (seen.word ≡ place (map_of h.state.sizes) State index) × (in_section seen.value ≡ true) × (after ≡ record h.topics { watched = index })
 Watched (Retry cause) index h after = ⊥
 Watched More index h after = (next_behind h index < actors_of h.state.sizes) × (after ≡ record h.topics { watched = index + 1 })
 Watched (Done answer) index h after = (actors_of h.state.sizes ≤ next_behind h index) × (after ≡ record h.topics { watched = index + 1 })
@@ -55,7 +57,12 @@ MayBeFound More found = in_section found ≡ false
 MayBeFound (Done answer) found = in_section found ≡ false
 
 -- The look at the actor at this place found such a number.
-pub record IsFoundBy (turn : Turn (Unit {0})) (index note actor : ℕ) (before after : Held) (told tells : Told) : Type 0 where
+pub record IsFoundBy (turn : Turn (Unit {0})) (index note : ℕ) (before after : Seat) : Type 0 where
   pub found : ℕ
   pub may : MayBeFound turn found
-  pub made : MadePart (part.Watch index) note found actor before after told tells
+  pub made : MadePart (part.Watch index) note found before after
+
+-- Where the look was made while all other actors rest, it doesn't wait.
+abbrev pub GoesOnWhereOthersRest : Turn (Unit {0}) → Watching → ℕ → Seat → Seat → Type 0
+GoesOnWhereOthersRest turn watch note before after =
+    WherePartMade (part.Watch (looked_at watch before.hand)) note before after (λ w v. OthersRest before.actor w → waits turn ≡ false)

@@ -34,7 +34,7 @@ fn line_of(actor: Actor) -> Line {
 
 // The step on the actor's own state word, where it is allowed.
 fn go<S: Stepper>(seat: &mut S, actor: Actor, step: PartStep) -> Result<bool, NoMemory>
-    ensures same { (S.actor seat.new ≡ S.actor seat.old) × (S.frame seat.new ≡ S.frame seat.old) }
+    ensures same { ((S.seat seat.new).actor ≡ (S.seat seat.old).actor) × (S.frame seat.new ≡ S.frame seat.old) }
 {
     seat.reserve(&line_of(actor))?;
     if !allows(seat.hand(), step, 0) {
@@ -65,7 +65,7 @@ fn look<S: Stepper>(
     actor: Actor,
     watch: &mut Watch,
 ) -> Result<Option<Turn<()>>, NoMemory>
-    ensures same { (S.actor seat.new ≡ S.actor seat.old) × (S.frame seat.new ≡ S.frame seat.old) }
+    ensures same { ((S.seat seat.new).actor ≡ (S.seat seat.old).actor) × (S.frame seat.new ≡ S.frame seat.old) }
 {
     seat.reserve(&line_of(actor))?;
     let hand = seat.hand();

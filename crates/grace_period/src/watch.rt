@@ -1,12 +1,11 @@
 ghost use Rattle.std.specs.Prelude.{◌≡◌, ◌<◌, true, false};
-ghost use Rattle.grace_period.specs.Watches.{IsFoundBy, Watched, actors_left, is_done, looked_at};
-ghost use Rattle.mmu_core.specs.alone.OthersRest.{OthersRest};
+ghost use Rattle.grace_period.specs.Watches.{GoesOnWhereOthersRest, IsFoundBy, Watched, actors_left, is_done, looked_at};
 ghost use Rattle.mmu_core.specs.machine.MayMake.{MayMake};
 ghost use Rattle.part_steps.specs.PartBounds.{PartRests};
 ghost use Rattle.part_steps.specs.PartSteps.{PartNeeds};
 ghost use Rattle.part_steps.specs.declared.part_step.PartStep.TheVariants as part;
 ghost use Rattle.step_seats.specs.Moves.{KeepsRoom};
-ghost use Rattle.step_seats.specs.PartTurns.{TurnsPart, WherePartMade, waits};
+ghost use Rattle.step_seats.specs.PartTurns.{TurnsPart, waits};
 ghost use Rattle.step_seats.specs.declared.turn.Turn.TheVariants.{More};
 
 use core_views::{Hand, Seen};
@@ -70,17 +69,17 @@ impl Watch {
     /// the watch goes on to the next actor, and is done behind the last one. There
     /// must be an actor left to look at; of the first turn there always is.
     pub fn turn<S: Stepper>(&mut self, s: &mut S, note: u64) -> Turn<()>
-        requires may { MayMake (part.Watch (looked_at self.old (S.handful s.old).core)) note (S.handful s.old).core }
-        requires reserved { 0 < (S.handful s.old).room }
-        ensures step { TurnsPart (waits result) (part.Watch (looked_at self.old (S.handful s.old).core)) note (S.actor s.old) (S.handful s.old).core (S.handful s.new).core (S.tells s.old) (S.tells s.new) }
-        ensures found { IsFoundBy result (looked_at self.old (S.handful s.old).core) note (S.actor s.old) (S.handful s.old).core (S.handful s.new).core (S.tells s.old) (S.tells s.new) }
-        ensures watched { Watched result (looked_at self.old (S.handful s.old).core) (S.handful s.old).core (S.handful s.new).core.topics }
-        ensures goes_on { is_done result ≡ false → PartNeeds (part.Watch (looked_at self.new (S.handful s.new).core)) (S.handful s.new).core }
+        requires may { MayMake (part.Watch (looked_at self.old (S.seat s.old).hand)) note (S.seat s.old).hand }
+        requires reserved { 0 < (S.seat s.old).room }
+        ensures step { TurnsPart (waits result) (part.Watch (looked_at self.old (S.seat s.old).hand)) note (S.seat s.old) (S.seat s.new) }
+        ensures found { IsFoundBy result (looked_at self.old (S.seat s.old).hand) note (S.seat s.old) (S.seat s.new) }
+        ensures watched { Watched result (looked_at self.old (S.seat s.old).hand) (S.seat s.old).hand (S.seat s.new).hand.topics }
+        ensures goes_on { is_done result ≡ false → PartNeeds (part.Watch (looked_at self.new (S.seat s.new).hand)) (S.seat s.new).hand }
         ensures looked { self.new.has_looked ≡ true }
-        ensures nearer { result ≡ More → actors_left self.new (S.handful s.new).core < actors_left self.old (S.handful s.old).core }
-        ensures alone { WherePartMade (part.Watch (looked_at self.old (S.handful s.old).core)) note (S.actor s.old) (S.handful s.old).core (S.handful s.new).core (S.tells s.old) (λ w t. OthersRest (S.actor s.old) w → waits result ≡ false) }
-        ensures room { KeepsRoom (S.handful s.old) (S.handful s.new) }
-        ensures same { (S.actor s.new ≡ S.actor s.old) × (S.frame s.new ≡ S.frame s.old) }
+        ensures nearer { result ≡ More → actors_left self.new (S.seat s.new).hand < actors_left self.old (S.seat s.old).hand }
+        ensures alone { GoesOnWhereOthersRest result self.old note (S.seat s.old) (S.seat s.new) }
+        ensures room { KeepsRoom (S.seat s.old) (S.seat s.new) }
+        ensures same { ((S.seat s.new).actor ≡ (S.seat s.old).actor) × (S.frame s.new ≡ S.frame s.old) }
     {
         let hand = s.hand();
         part_rests(hand);

@@ -1,1 +1,2 @@
 pub mod ContentWords
+pub mod Touches

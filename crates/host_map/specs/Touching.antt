@@ -3,6 +3,7 @@ use Rattle.std.specs.Prelude.{◌≡◌, ◌≢◌, ℕ, slice_index}
 use Rattle.core_views.specs.declared.kind.Kind.{Kind}
 use Rattle.core_views.specs.declared.sizes.Sizes.{Sizes}
 use Rattle.core_views.specs.declared.trace.Op.{Op}
+use Rattle.core_views.specs.declared.trace.Op.TheVariants.{Read}
 use Rattle.core_views.specs.Held.{Held}
 use Rattle.core_views.specs.Memory.{stored}
 use Rattle.spte_words.specs.declared.area.Area.TheVariants as area
@@ -10,7 +11,12 @@ use Rattle.spte_words.specs.Areas.{content_index, place}
 use Rattle.mmu_core.specs.lines.AccessSteps.{touch_of}
 use Rattle.mmu_core.specs.machine.Machine.{World}
 use Rattle.part_steps.specs.Tasks.{kind_of_task, map_of}
+use Rattle.part_steps.specs.declared.part_step.PartStep.TheVariants.{Host}
 use Rattle.mmu_core.specs.machine.View.{word_in}
+use Rattle.step_seats.specs.Acts.{Acts}
+use Rattle.step_seats.specs.Seats.{Seat}
+use Rattle.step_seats.specs.Where.{WhereMade}
+use Rattle.step_seats.specs.PartTurns.{WherePartMade}
 
 -- the host word of a page
 abbrev pub host_in : Sizes → ℕ → World Held → ℕ
@@ -28,7 +34,22 @@ content_place z frame word = place (map_of z) area.Content (content_index (map_o
 abbrev pub touch_kind : Sizes → ℕ → ℕ → Op → ℕ → Kind
 touch_kind z frame word op note = kind_of_task z (record (touch_of op (content_index (map_of z) frame word)) { may_end = note })
 
--- Behind the operation the word holds what it stores there, and each other word of the machine what it held.
+-- After the operation the word holds what it stores there, and each other word of the machine what it held.
 pub record Touched (z : Sizes) (frame word : ℕ) (op : Op) (w v : World Held) : Type 0 where
   pub stores : content_in z frame word v ≡ stored op (content_in z frame word w)
   pub others : (i : ℕ) → i ≢ content_place z frame word → slice_index v.words i ≡ slice_index w.words i
+
+-- The seat's actor made the operation on this word of a frame. The answer is what the word held where it was made; there the operation
+-- stores what it stores, and nothing else.
+pub record Touches (frame word : ℕ) (op : Op) (note answer : ℕ) (before after : Seat) : Type 0 where
+  pub acts : Acts (touch_kind before.hand.state.sizes frame word op note) answer before after
+  pub found : WhereMade (touch_kind before.hand.state.sizes frame word op note) before after (λ w v. answer ≡ content_in before.hand.state.sizes frame word w)
+  pub leaves : WhereMade (touch_kind before.hand.state.sizes frame word op note) before after (Touched before.hand.state.sizes frame word op)
+
+-- Where a read of the word was made, it left all words of the machine as they were.
+abbrev pub LeavesWords : ℕ → ℕ → ℕ → Seat → Seat → Type 0
+LeavesWords frame word note before after = WhereMade (touch_kind before.hand.state.sizes frame word Read note) before after (λ w v. v.words ≡ w.words)
+
+-- The page's host word was this one where it was loaded.
+abbrev pub WasHostWord : ℕ → ℕ → ℕ → Seat → Seat → Type 0
+WasHostWord page note answer before after = WherePartMade (Host page) note before after (λ w v. answer ≡ host_in before.hand.state.sizes page w)

@@ -16,8 +16,8 @@ use Rattle.part_steps.specs.PartTopics.{part_topics, sequenced}
 use Rattle.part_steps.specs.StayTopics.{has_lock, is_loose}
 use Rattle.part_steps.specs.ControlTopics.{seq_checked}
 use Rattle.mmu_core.specs.machine.View.{word_in}
+use Rattle.step_seats.specs.Seats.{Seat}
 use Rattle.step_seats.specs.PartTurns.{MadePart}
-use Rattle.step_seats.specs.Where.{Told}
 use Rattle.invalidate_seq.specs.Checks.{LoadsOnly, area_of, loaded, step_of}
 use Rattle.step_seats.proofs.AloneTold.{if_some}
 use Rattle.step_seats.proofs.Found.{Answers, found_told}
@@ -33,15 +33,20 @@ seq_loaded : (before after : Topics) (v : ℕ) → has_lock before.hold ≡ true
     → after ≡ record before { invalidations = record before.invalidations { seq = v; checked = seq_checked before.invalidations.count before.invalidations.checked } }
 seq_loaded before after v lock made = made ∙ ap (λ (b : Bool). sequenced b before v) (locked before.hold lock)
 
-pub loads_only : (stage : CheckStage) (before after : Topics) (v : ℕ) → has_lock before.hold ≡ true → after ≡ part_topics (step_of stage) before v → LoadsOnly stage before after
-loads_only Count before after v lock made = made ∙ ap (λ (n : Invalidations). record before { invalidations = record before.invalidations { count = n.count; checked = n.checked } }) (sym (ap (λ (t : Topics). t.invalidations) made))
-loads_only Start before after v lock made = made ∙ ap (λ (n : Invalidations). record before { invalidations = record before.invalidations { start = n.start; checked = n.checked } }) (sym (ap (λ (t : Topics). t.invalidations) made))
-loads_only End before after v lock made = made ∙ ap (λ (n : Invalidations). record before { invalidations = record before.invalidations { end = n.end; checked = n.checked } }) (sym (ap (λ (t : Topics). t.invalidations) made))
+pub loads_only : (stage : CheckStage) (before after : Topics) (v : ℕ) → has_lock before.hold ≡ true → after ≡ part_topics (step_of stage) before v
+    → LoadsOnly stage before after
+loads_only Count before after v lock made =
+    made ∙ ap (λ (n : Invalidations). record before { invalidations = record before.invalidations { count = n.count; checked = n.checked } }) (sym (ap (λ (t : Topics). t.invalidations) made))
+loads_only Start before after v lock made =
+    made ∙ ap (λ (n : Invalidations). record before { invalidations = record before.invalidations { start = n.start; checked = n.checked } }) (sym (ap (λ (t : Topics). t.invalidations) made))
+loads_only End before after v lock made =
+    made ∙ ap (λ (n : Invalidations). record before { invalidations = record before.invalidations { end = n.end; checked = n.checked } }) (sym (ap (λ (t : Topics). t.invalidations) made))
 loads_only Seq before after v lock made =
     let is = seq_loaded before after v lock made in
     is ∙ ap (λ (n : Invalidations). record before { invalidations = record before.invalidations { seq = n.seq; checked = n.checked } }) (sym (ap (λ (t : Topics). t.invalidations) is))
 
-loaded_is : (stage : CheckStage) (before after : Topics) (v : ℕ) → has_lock before.hold ≡ true → after ≡ part_topics (step_of stage) before v → loaded stage after.invalidations ≡ v
+loaded_is : (stage : CheckStage) (before after : Topics) (v : ℕ) → has_lock before.hold ≡ true → after ≡ part_topics (step_of stage) before v
+    → loaded stage after.invalidations ≡ v
 loaded_is Count before after v lock made = ap (λ (t : Topics). t.invalidations.count) made
 loaded_is Start before after v lock made = ap (λ (t : Topics). t.invalidations.start) made
 loaded_is End before after v lock made = ap (λ (t : Topics). t.invalidations.end) made
@@ -53,26 +58,30 @@ needs_nothing Start h = tt
 needs_nothing End h = tt
 needs_nothing Seq h = tt
 
-stage_word : (stage : CheckStage) (note found : ℕ) (h : Held) (w : World Held) → Answers (step_of stage) note found h w → found ≡ word_in h.state.sizes w (area_of stage) 0
+stage_word : (stage : CheckStage) (note found : ℕ) (h : Held) (w : World Held) → Answers (step_of stage) note found h w
+    → found ≡ word_in h.state.sizes w (area_of stage) 0
 stage_word Count note found h w is = is
 stage_word Start note found h w is = is
 stage_word End note found h w is = is
 stage_word Seq note found h w is = is
 
-pub word_told : (stage : CheckStage) (note found a : ℕ) (before after : Held) (told tells : Told) → has_lock before.topics.hold ≡ true → MadePart (step_of stage) note found a before after told tells
-    → IfSome told.world (λ w. loaded stage after.topics.invalidations ≡ word_in before.state.sizes w (area_of stage) 0)
-word_told stage note found a before after told tells lock made =
-    if_some told.world (Answers (step_of stage) note found before) (λ w. loaded stage after.topics.invalidations ≡ word_in before.state.sizes w (area_of stage) 0)
-    (λ w is. loaded_is stage before.topics after.topics found lock made.topics ∙ stage_word stage note found before w is)
-    (found_told (step_of stage) note found a before after told tells made (needs_nothing stage before))
+pub word_told : (stage : CheckStage) (note found : ℕ) (before after : Seat) → has_lock before.hand.topics.hold ≡ true
+    → MadePart (step_of stage) note found before after
+    → IfSome before.tells.world (λ w. loaded stage after.hand.topics.invalidations ≡ word_in before.hand.state.sizes w (area_of stage) 0)
+word_told stage note found before after lock made =
+    if_some before.tells.world (Answers (step_of stage) note found before.hand)
+    (λ w. loaded stage after.hand.topics.invalidations ≡ word_in before.hand.state.sizes w (area_of stage) 0)
+    (λ w is. loaded_is stage before.hand.topics after.hand.topics found lock made.topics ∙ stage_word stage note found before.hand w is)
+    (found_told (step_of stage) note found before after made (needs_nothing stage before.hand))
 
 -- The sequence number is the snapshot where the lock isn't held.
 snapshot_taken : (before after : Topics) (v : ℕ) → before.hold ≡ Loose → after ≡ part_topics part.Seq before v → after ≡ sequenced true before v
 snapshot_taken before after v loose made = made ∙ ap (λ (h : Hold). sequenced (is_loose h) before v) loose
 
-pub snapshot_told : (note found a : ℕ) (before after : Held) (told tells : Told) → before.topics.hold ≡ Loose → MadePart part.Seq note found a before after told tells
-    → IfSome told.world (λ w. after.topics.invalidations.snapshot ≡ Some (word_in before.state.sizes w area.Seq 0))
-snapshot_told note found a before after told tells loose made =
-    if_some told.world (Answers part.Seq note found before) (λ w. after.topics.invalidations.snapshot ≡ Some (word_in before.state.sizes w area.Seq 0))
-    (λ w is. ap (λ (t : Topics). t.invalidations.snapshot) (snapshot_taken before.topics after.topics found loose made.topics) ∙ ap Some is)
-    (found_told part.Seq note found a before after told tells made tt)
+pub snapshot_told : (note found : ℕ) (before after : Seat) → before.hand.topics.hold ≡ Loose → MadePart part.Seq note found before after
+    → IfSome before.tells.world (λ w. after.hand.topics.invalidations.snapshot ≡ Some (word_in before.hand.state.sizes w area.Seq 0))
+snapshot_told note found before after loose made =
+    if_some before.tells.world (Answers part.Seq note found before.hand)
+    (λ w. after.hand.topics.invalidations.snapshot ≡ Some (word_in before.hand.state.sizes w area.Seq 0))
+    (λ w is. ap (λ (t : Topics). t.invalidations.snapshot) (snapshot_taken before.hand.topics after.hand.topics found loose made.topics) ∙ ap Some is)
+    (found_told part.Seq note found before after made tt)

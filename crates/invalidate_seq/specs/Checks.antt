@@ -15,11 +15,15 @@ use Rattle.step_seats.specs.declared.turn.Turn.{Turn}
 use Rattle.step_seats.specs.declared.turn.Turn.TheVariants.{More, Wait, Retry, Done}
 use Rattle.invalidate_seq.specs.declared.check.Checked.{Checked}
 use Rattle.invalidate_seq.specs.declared.check.Checked.TheVariants.{Fresh, Open, Moved}
+use Rattle.mmu_core.specs.machine.View.{word_in}
+use Rattle.step_seats.specs.PartTurns.{WherePartMade}
+use Rattle.step_seats.specs.Seats.{Seat}
 
 -- The number that was found is kept as the snapshot, with which a look-up begins: no slot set and no host word is held. Nothing else
 -- that the actor holds has changed, but how far a check has come.
 abbrev pub TakesSnapshot : Turn ℕ → Topics → Topics → Type 0
-TakesSnapshot (Done n) before after = after ≡ record before { search = record before.search { set = None; whole = false }; host = None; invalidations = record before.invalidations { snapshot = Some n; checked = after.invalidations.checked } }
+TakesSnapshot (Done n) before after =
+    after ≡ record before { search = record before.search { set = None; whole = false }; host = None; invalidations = record before.invalidations { snapshot = Some n; checked = after.invalidations.checked } }
 TakesSnapshot More before after = ⊥
 TakesSnapshot (Wait seen) before after = ⊥
 TakesSnapshot (Retry cause) before after = ⊥
@@ -45,10 +49,14 @@ loaded Seq kept = kept.seq
 
 -- The stage's word was loaded, and nothing else that the actor holds has changed, but how far the check has come.
 abbrev pub LoadsOnly : CheckStage → Topics → Topics → Type 0
-LoadsOnly Count before after = after ≡ record before { invalidations = record before.invalidations { count = after.invalidations.count; checked = after.invalidations.checked } }
-LoadsOnly Start before after = after ≡ record before { invalidations = record before.invalidations { start = after.invalidations.start; checked = after.invalidations.checked } }
-LoadsOnly End before after = after ≡ record before { invalidations = record before.invalidations { end = after.invalidations.end; checked = after.invalidations.checked } }
-LoadsOnly Seq before after = after ≡ record before { invalidations = record before.invalidations { seq = after.invalidations.seq; checked = after.invalidations.checked } }
+LoadsOnly Count before after =
+    after ≡ record before { invalidations = record before.invalidations { count = after.invalidations.count; checked = after.invalidations.checked } }
+LoadsOnly Start before after =
+    after ≡ record before { invalidations = record before.invalidations { start = after.invalidations.start; checked = after.invalidations.checked } }
+LoadsOnly End before after =
+    after ≡ record before { invalidations = record before.invalidations { end = after.invalidations.end; checked = after.invalidations.checked } }
+LoadsOnly Seq before after =
+    after ≡ record before { invalidations = record before.invalidations { seq = after.invalidations.seq; checked = after.invalidations.checked } }
 
 -- Some invalidation is open, and their range contains the guest frame.
 abbrev pub IsOpenOver : ℕ → Invalidations → Type 0
@@ -78,7 +86,8 @@ AnswersBy Start More next gfn kept = next ≡ End
 AnswersBy End More next gfn kept = (next ≡ Seq) × (IsOpenOver gfn kept → ⊥)
 AnswersBy End (Done (Open count start end)) next gfn kept = (next ≡ End) × IsOpenOver gfn kept × (count ≡ kept.count) × (start ≡ kept.start) × (end ≡ kept.end)
 AnswersBy Seq (Done Fresh) next gfn kept = (next ≡ Seq) × IsFresh gfn kept
-AnswersBy Seq (Done (Moved snapshot seq)) next gfn kept = (next ≡ Seq) × (IsOpenOver gfn kept → ⊥) × (kept.snapshot ≡ Some snapshot) × (kept.seq ≡ seq) × (seq ≢ snapshot)
+AnswersBy Seq (Done (Moved snapshot seq)) next gfn kept =
+    (next ≡ Seq) × (IsOpenOver gfn kept → ⊥) × (kept.snapshot ≡ Some snapshot) × (kept.seq ≡ seq) × (seq ≢ snapshot)
 AnswersBy stage answer next gfn kept = ⊥
 
 -- the most turns that are left from a stage on
@@ -87,3 +96,14 @@ turns_left Count = 4
 turns_left Start = 3
 turns_left End = 2
 turns_left Seq = 1
+
+-- The snapshot that is kept was the sequence number where it was loaded.
+abbrev pub WasSequence : ℕ → Seat → Seat → Type 0
+WasSequence note before after =
+    WherePartMade part.Seq note before after (λ w v. after.hand.topics.invalidations.snapshot ≡ Some (word_in before.hand.state.sizes w area.Seq 0))
+
+-- What is kept of the stage was its word where it was loaded.
+abbrev pub WasStageWord : CheckStage → ℕ → Seat → Seat → Type 0
+WasStageWord stage note before after =
+    WherePartMade (step_of stage) note before after
+    (λ w v. loaded stage after.hand.topics.invalidations ≡ word_in before.hand.state.sizes w (area_of stage) 0)

@@ -5,7 +5,7 @@ ghost use Rattle.mmu_core.specs.machine.View.{word_in};
 ghost use Rattle.step_seats.specs.Moves.{KeepsRoom};
 ghost use Rattle.step_seats.specs.PartTurns.{MakesPart, WherePartMade};
 ghost use Rattle.step_seats.specs.declared.turn.Turn.TheVariants.{More};
-ghost use Rattle.invalidate_seq.specs.Checks.{AnswersBy, LoadsOnly, Stands, StandsBehind, area_of, loaded, step_of, turns_left};
+ghost use Rattle.invalidate_seq.specs.Checks.{AnswersBy, LoadsOnly, Stands, StandsBehind, WasStageWord, step_of, turns_left};
 
 use core_views::{CheckStage, Invalidations};
 use part_steps::PartStep;
@@ -94,20 +94,20 @@ impl Check {
     /// how many invalidations are open, their range where some are, and the
     /// sequence number where none is open over the guest frame. It never waits.
     pub fn turn<S: Stepper>(&mut self, s: &mut S, note: u64) -> Turn<Checked>
-        requires may { MayMake (step_of self.old.stage) note (S.handful s.old).core }
-        requires reserved { 0 < (S.handful s.old).room }
-        requires locked { has_lock (S.handful s.old).core.topics.hold ≡ true }
-        requires taken { is_some (S.handful s.old).core.topics.invalidations.snapshot ≡ true }
-        requires stands { Stands self.old.stage self.old.gfn (S.handful s.old).core.topics.invalidations }
-        ensures step { MakesPart (step_of self.old.stage) note (S.actor s.old) (S.handful s.old).core (S.handful s.new).core (S.tells s.old) (S.tells s.new) }
-        ensures loads { LoadsOnly self.old.stage (S.handful s.old).core.topics (S.handful s.new).core.topics }
-        ensures word { WherePartMade (step_of self.old.stage) note (S.actor s.old) (S.handful s.old).core (S.handful s.new).core (S.tells s.old) (λ w t. loaded self.old.stage (S.handful s.new).core.topics.invalidations ≡ word_in (S.handful s.old).core.state.sizes w (area_of self.old.stage) 0) }
-        ensures answers { AnswersBy self.old.stage result self.new.stage self.old.gfn (S.handful s.new).core.topics.invalidations }
-        ensures stands { result ≡ More → Stands self.new.stage self.new.gfn (S.handful s.new).core.topics.invalidations }
+        requires may { MayMake (step_of self.old.stage) note (S.seat s.old).hand }
+        requires reserved { 0 < (S.seat s.old).room }
+        requires locked { has_lock (S.seat s.old).hand.topics.hold ≡ true }
+        requires taken { is_some (S.seat s.old).hand.topics.invalidations.snapshot ≡ true }
+        requires stands { Stands self.old.stage self.old.gfn (S.seat s.old).hand.topics.invalidations }
+        ensures step { MakesPart (step_of self.old.stage) note (S.seat s.old) (S.seat s.new) }
+        ensures loads { LoadsOnly self.old.stage (S.seat s.old).hand.topics (S.seat s.new).hand.topics }
+        ensures word { WasStageWord self.old.stage note (S.seat s.old) (S.seat s.new) }
+        ensures answers { AnswersBy self.old.stage result self.new.stage self.old.gfn (S.seat s.new).hand.topics.invalidations }
+        ensures stands { result ≡ More → Stands self.new.stage self.new.gfn (S.seat s.new).hand.topics.invalidations }
         ensures gfn { self.new.gfn ≡ self.old.gfn }
         ensures nearer { result ≡ More → turns_left self.new.stage < turns_left self.old.stage }
-        ensures room { KeepsRoom (S.handful s.old) (S.handful s.new) }
-        ensures same { (S.actor s.new ≡ S.actor s.old) × (S.frame s.new ≡ S.frame s.old) }
+        ensures room { KeepsRoom (S.seat s.old) (S.seat s.new) }
+        ensures same { ((S.seat s.new).actor ≡ (S.seat s.old).actor) × (S.frame s.new ≡ S.frame s.old) }
     {
         let _ = make_part(s, step(self.stage), note);
         let kept = s.hand().topics().invalidations;

@@ -23,14 +23,15 @@ use Rattle.mmu_core.specs.machine.Worlds.{Reachable}
 use Rattle.mmu_core.proofs.invariant.PartRested.{part_within, rests_in}
 use Rattle.mmu_core.proofs.start.Starts.{reached_good}
 use Rattle.mmu_core.proofs.machine.Views.{view_behind}
+use Rattle.step_seats.specs.Seats.{Seat}
 use Rattle.step_seats.specs.Moves.{step_by}
 use Rattle.step_seats.specs.PartTurns.{MadePart, WherePartMade}
-use Rattle.step_seats.specs.Where.{HasHand, Told}
+use Rattle.step_seats.specs.Where.{HasHand}
 use Rattle.step_seats.specs.declared.turn.Turn.{Turn}
 use Rattle.memslots.specs.declared.find.Find.{Find}
 use Rattle.memslots.specs.declared.find.FoundSlot.{FoundSlot}
-use Rattle.memslots.specs.Finding.{FindsIn, IsSearchFor, Searches, find_step, HasLoaded}
-use Rattle.step_seats.proofs.Where.{only, where_made}
+use Rattle.memslots.specs.Finding.{FindsIn, HasLoaded, IsPublished, IsSearchFor, Searches, SearchesIn, find_step}
+use Rattle.step_seats.proofs.Where.{telling, where_made}
 use Rattle.step_seats.proofs.Found.{Answers, found_told}
 use Rattle.memslots.proofs.Searching.{finds_by}
 use Rattle.step_seats.specs.declared.turn.Turn.TheVariants.{More}
@@ -50,22 +51,22 @@ stays_in w a note r there N =
     subst (λ (z : Sizes). word_in z (effect mmu w (step_by a (kind_of_task z t))) area.Pool ≡ word_in z w area.Pool) (sym same)
     (ap (λ (v : View). v.words area.Pool) (view_behind r.sizes w a t within G.words there))
 
-pool_stays : (w : World Held) (a note : ℕ) (h : Held) → HasHand a h w → PartNeeds part.Slot h → word_in h.state.sizes (effect mmu w (step_by a (part_kind h part.Slot note))) area.Pool ≡ word_in h.state.sizes w area.Pool
+pool_stays : (w : World Held) (a note : ℕ) (h : Held) → HasHand a h w → PartNeeds part.Slot h
+    → word_in h.state.sizes (effect mmu w (step_by a (part_kind h part.Slot note))) area.Pool ≡ word_in h.state.sizes w area.Pool
 pool_stays w a note h has N =
     let needs : PartNeeds part.Slot (hand_in mmu w a) = subst (λ (x : Held). PartNeeds part.Slot x) (sym has.is) N in
     subst (λ (x : Held). word_in x.state.sizes (effect mmu w (step_by a (part_kind x part.Slot note))) area.Pool ≡ word_in x.state.sizes w area.Pool) has.is
     (∥∥₁_elim has.reached (hlevel props) (λ r. stays_in w a note r has.there needs))
 
 -- the search behind a word of a slot set that is held
-behind_word : (before after : Topics) (v : ℕ) → is_some before.search.set ≡ true → after ≡ part_topics part.Slot before v → after.search ≡ searched before.search v
+behind_word : (before after : Topics) (v : ℕ) → is_some before.search.set ≡ true → after ≡ part_topics part.Slot before v
+    → after.search ≡ searched before.search v
 behind_word before after v held made = ap (λ (t : Topics). t.search) made ∙ ap (λ (b : Bool). if b then searched before.search v else before.search) held
 
--- what the turn says, of the world before its step and the one after it
-abbrev Says : Find → Held → Held → Turn (Option FoundSlot) → World Held → World Held → Type 0
-Says job before after result w t = (job.begun ≡ true → IsSearchFor job.gfn (word_in before.state.sizes w area.Pool) before.topics.search) → FindsIn job.gfn (word_in before.state.sizes t area.Pool) after.topics.search result
-
-says_at : (job : Find) (note found a : ℕ) (before after : Held) (result : Turn (Option FoundSlot)) (w : World Held) → job.begun ≡ true → PartNeeds part.Slot before → HasHand a before w → Answers part.Slot note found before w → after.topics ≡ part_topics part.Slot before.topics found
-    → Searches job.gfn result before.topics.search after.topics.search → Says job before after result w (effect mmu w (step_by a (part_kind before part.Slot note)))
+says_at : (job : Find) (note found a : ℕ) (before after : Held) (result : Turn (Option FoundSlot)) (w : World Held) → job.begun ≡ true
+    → PartNeeds part.Slot before → HasHand a before w → Answers part.Slot note found before w → after.topics ≡ part_topics part.Slot before.topics found
+    → Searches job.gfn result before.topics.search after.topics.search
+    → SearchesIn job before after result w (effect mmu w (step_by a (part_kind before part.Slot note)))
 says_at job note found a before after result w begun N has is made looks agrees =
     subst (λ (pool : ℕ → ℕ). FindsIn job.gfn pool after.topics.search result) (sym (pool_stays w a note before has N))
     (finds_by job.gfn (word_in before.state.sizes w area.Pool) before.topics.search after.topics.search found result (agrees begun) N.1 is (behind_word before.topics after.topics found N.0 made) looks)
@@ -73,29 +74,30 @@ says_at job note found a before after result w begun N has is made looks agrees 
 needs_slot : (job : Find) (h : Held) → job.begun ≡ true → PartNeeds (find_step job) h → PartNeeds part.Slot h
 needs_slot job h begun N = rw begun at N
 
-pub now_found : (job : Find) (note found a : ℕ) (before after : Held) (told tells : Told) (result : Turn (Option FoundSlot)) → job.begun ≡ true → PartNeeds (find_step job) before → MadePart part.Slot note found a before after told tells
-    → Searches job.gfn result before.topics.search after.topics.search
-    → WherePartMade (find_step job) note a before after told (Says job before after result)
-now_found job note found a before after told tells result begun needs made looks =
-    let N = needs_slot job before begun needs in
-    subst (λ (b : Bool). WherePartMade (if b then part.Slot else part.Slots) note a before after told (Says job before after result)) (sym begun)
-    (where_made made (λ w at has. says_at job note found a before after result w begun N at.has (found_told part.Slot note found a before after (only w) _ at N) made.topics looks))
+pub now_found : (job : Find) (note found : ℕ) (before after : Seat) (result : Turn (Option FoundSlot)) → job.begun ≡ true
+    → PartNeeds (find_step job) before.hand → MadePart part.Slot note found before after
+    → Searches job.gfn result before.hand.topics.search after.hand.topics.search
+    → WherePartMade (find_step job) note before after (SearchesIn job before.hand after.hand result)
+now_found job note found before after result begun needs made looks =
+    let N = needs_slot job before.hand begun needs in
+    subst (λ (b : Bool). WherePartMade (if b then part.Slot else part.Slots) note before after (SearchesIn job before.hand after.hand result)) (sym begun)
+    (where_made made (λ w at has. says_at job note found before.actor before.hand after.hand result w begun N at.has
+    (found_told part.Slot note found (telling w before) _ at N) made.topics looks))
 
 set_loaded : (before after : Topics) (v : ℕ) → may_search before.stay before.hold ≡ true → after ≡ part_topics part.Slots before v → after.search.set ≡ Some v
 set_loaded before after v held made = ap (λ (t : Topics). t.search.set) made ∙ ap (λ (b : Bool). if b then Some v else None) held
 
--- the published slot set's page, of the words of this world
-abbrev IsPublished : Held → Held → World Held → World Held → Type 0
-IsPublished before after w t = after.topics.search.set ≡ Some (word_in before.state.sizes w area.Slots 0)
-
-pub set_published : (job : Find) (note found a : ℕ) (before after : Held) (told tells : Told) → job.begun ≡ false → may_search before.topics.stay before.topics.hold ≡ true → MadePart part.Slots note found a before after told tells
-    → WherePartMade (find_step job) note a before after told (IsPublished before after)
-set_published job note found a before after told tells not_yet held made =
-    subst (λ (b : Bool). WherePartMade (if b then part.Slot else part.Slots) note a before after told (IsPublished before after)) (sym not_yet)
-    (where_made made (λ w at has. set_loaded before.topics after.topics found held made.topics ∙ ap Some (found_told part.Slots note found a before after (only w) _ at tt)))
+pub set_published : (job : Find) (note found : ℕ) (before after : Seat) → job.begun ≡ false
+    → may_search before.hand.topics.stay before.hand.topics.hold ≡ true → MadePart part.Slots note found before after
+    → WherePartMade (find_step job) note before after (IsPublished before.hand after.hand)
+set_published job note found before after not_yet held made =
+    subst (λ (b : Bool). WherePartMade (if b then part.Slot else part.Slots) note before after (IsPublished before.hand after.hand)) (sym not_yet)
+    (where_made made (λ w at has. set_loaded before.hand.topics after.hand.topics found held made.topics
+    ∙ ap Some (found_told part.Slots note found (telling w before) _ at tt)))
 
 -- A search that begins agrees with all words of the pool: nothing was loaded of them yet.
-search_begins : (gfn : ℕ) (pool : ℕ → ℕ) (before after : Topics) (v : ℕ) → may_search before.stay before.hold ≡ true → after ≡ part_topics part.Slots before v → IsSearchFor gfn pool after.search
+search_begins : (gfn : ℕ) (pool : ℕ → ℕ) (before after : Topics) (v : ℕ) → may_search before.stay before.hold ≡ true
+    → after ≡ part_topics part.Slots before v → IsSearchFor gfn pool after.search
 search_begins gfn pool before after v held made = record {
   held = ap is_some set;
   loaded = subst (λ (f : SlotField). HasLoaded f pool (set_held after.search.set) after.search) (sym (ap (λ (t : Topics). t.search.next) made)) tt;
@@ -105,8 +107,9 @@ search_begins gfn pool before after v held made = record {
     set : after.search.set ≡ Some v
     set = set_loaded before after v held made
 
-pub begins_found : (job : Find) (note found a : ℕ) (before after : Held) (told tells : Told) → job.begun ≡ false → may_search before.topics.stay before.topics.hold ≡ true → MadePart part.Slots note found a before after told tells
-    → WherePartMade (find_step job) note a before after told (Says job before after More)
-begins_found job note found a before after told tells not_yet held made =
-    subst (λ (b : Bool). WherePartMade (if b then part.Slot else part.Slots) note a before after told (Says job before after More)) (sym not_yet)
-    (where_made made (λ w at has agrees. search_begins job.gfn _ before.topics after.topics found held made.topics))
+pub begins_found : (job : Find) (note found : ℕ) (before after : Seat) → job.begun ≡ false → may_search before.hand.topics.stay before.hand.topics.hold ≡ true
+    → MadePart part.Slots note found before after
+    → WherePartMade (find_step job) note before after (SearchesIn job before.hand after.hand More)
+begins_found job note found before after not_yet held made =
+    subst (λ (b : Bool). WherePartMade (if b then part.Slot else part.Slots) note before after (SearchesIn job before.hand after.hand More)) (sym not_yet)
+    (where_made made (λ w at has agrees. search_begins job.gfn _ before.hand.topics after.hand.topics found held made.topics))

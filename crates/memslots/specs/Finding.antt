@@ -15,6 +15,12 @@ use Rattle.step_seats.specs.declared.turn.Turn.{Turn}
 use Rattle.step_seats.specs.declared.turn.Turn.TheVariants.{More, Wait, Retry, Done}
 use Rattle.memslots.specs.declared.find.Find.{Find}
 use Rattle.memslots.specs.declared.find.FoundSlot.{FoundSlot}
+use Rattle.core_views.specs.Held.{Held}
+use Rattle.mmu_core.specs.machine.Machine.{World}
+use Rattle.mmu_core.specs.machine.View.{word_in}
+use Rattle.spte_words.specs.declared.area.Area.TheVariants as area
+use Rattle.step_seats.specs.PartTurns.{WherePartMade}
+use Rattle.step_seats.specs.Seats.{Seat}
 
 -- the step of the next turn: which slot set is published is loaded first, and then the words of its slots
 abbrev pub find_step : Find → PartStep
@@ -35,7 +41,8 @@ Hits gfn before after = (before.next ≡ Host) × (contains gfn after.slot ≡ t
 -- loaded. Else it is none behind the last slot, and before it the search goes on.
 abbrev pub Searches : ℕ → Turn (Option FoundSlot) → SlotSearch → SlotSearch → Type 0
 Searches gfn More before after = (Hits gfn before after → ⊥) × (after.id ≤ 31)
-Searches gfn (Done (Some found)) before after = Hits gfn before after × (found ≡ record { id = before.id; slot = after.slot; logged = after.logged }) × (after.whole ≡ true)
+Searches gfn (Done (Some found)) before after =
+    Hits gfn before after × (found ≡ record { id = before.id; slot = after.slot; logged = after.logged }) × (after.whole ≡ true)
 Searches gfn (Done None) before after = (Hits gfn before after → ⊥) × (after.id ≡ 32)
 Searches gfn (Wait seen) before after = ⊥
 Searches gfn (Retry cause) before after = ⊥
@@ -67,3 +74,21 @@ FindsIn gfn pool so_far (Retry cause) = ⊥
 -- the most turns that are left: the words of the slot under search and of each one behind it, and the load of the slot set
 abbrev pub turns_left : Find → SlotSearch → ℕ
 turns_left job so_far = if job.begun then 4 * (31 - so_far.id) + look_left so_far.next else 129
+
+-- what a turn says of the words of the pool before its step and after it: it keeps a search that agrees with them, or answers by them
+abbrev pub SearchesIn : Find → Held → Held → Turn (Option FoundSlot) → World Held → World Held → Type 0
+SearchesIn job before after turn w v =
+    (job.begun ≡ true → IsSearchFor job.gfn (word_in before.state.sizes w area.Pool) before.topics.search)
+    → FindsIn job.gfn (word_in before.state.sizes v area.Pool) after.topics.search turn
+
+-- It says so where its step was made.
+abbrev pub SearchesWhereMade : Find → ℕ → Seat → Seat → Turn (Option FoundSlot) → Type 0
+SearchesWhereMade job note before after turn = WherePartMade (find_step job) note before after (SearchesIn job before.hand after.hand turn)
+
+-- The slot set that is held now is the one that is published in the world before the step.
+abbrev pub IsPublished : Held → Held → World Held → World Held → Type 0
+IsPublished before after w v = after.topics.search.set ≡ Some (word_in before.state.sizes w area.Slots 0)
+
+-- A search that begins holds the slot set that was published where its step was made.
+abbrev pub BeginsInPublished : Find → ℕ → Seat → Seat → Type 0
+BeginsInPublished job note before after = job.begun ≡ false → WherePartMade (find_step job) note before after (IsPublished before.hand after.hand)

@@ -2,12 +2,10 @@ ghost use Rattle.std.specs.Prelude.{◌≡◌, ◌<◌, ◌≤◌, true, false, 
 ghost use Rattle.core_views.specs.declared.place.SlotField.TheVariants.{Host};
 ghost use Rattle.mmu_core.specs.machine.MayMake.{MayMake};
 ghost use Rattle.part_steps.specs.StayTopics.{may_search};
-ghost use Rattle.mmu_core.specs.machine.View.{word_in};
-ghost use Rattle.spte_words.specs.declared.area.Area.TheVariants as Area;
 ghost use Rattle.step_seats.specs.Moves.{KeepsRoom};
-ghost use Rattle.step_seats.specs.PartTurns.{MakesPart, WherePartMade};
+ghost use Rattle.step_seats.specs.PartTurns.{MakesPart};
 ghost use Rattle.step_seats.specs.declared.turn.Turn.TheVariants.{More};
-ghost use Rattle.memslots.specs.Finding.{Begins, FindsIn, IsSearchFor, Searches, find_step, turns_left};
+ghost use Rattle.memslots.specs.Finding.{Begins, BeginsInPublished, Searches, SearchesWhereMade, find_step, turns_left};
 
 use core_views::{Slot, SlotField, SlotSearch};
 use mmu_core::part_rests;
@@ -71,19 +69,19 @@ impl Find {
     /// answer is the first live slot that contains the guest frame, or none
     /// where no slot does. It never waits.
     pub fn turn<S: Stepper>(&mut self, s: &mut S, note: u64) -> Turn<Option<FoundSlot>>
-        requires may { MayMake (find_step self.old) note (S.handful s.old).core }
-        requires reserved { 0 < (S.handful s.old).room }
-        requires held { self.old.begun ≡ false → may_search (S.handful s.old).core.topics.stay (S.handful s.old).core.topics.hold ≡ true }
-        ensures step { MakesPart (find_step self.old) note (S.actor s.old) (S.handful s.old).core (S.handful s.new).core (S.tells s.old) (S.tells s.new) }
-        ensures begins { self.old.begun ≡ false → Begins result (S.handful s.old).core.topics.search (S.handful s.new).core.topics.search }
-        ensures searches { self.old.begun ≡ true → Searches self.old.gfn result (S.handful s.old).core.topics.search (S.handful s.new).core.topics.search }
-        ensures others { (S.handful s.new).core.topics ≡ record (S.handful s.old).core.topics { search = (S.handful s.new).core.topics.search } }
-        ensures published { self.old.begun ≡ false → WherePartMade (find_step self.old) note (S.actor s.old) (S.handful s.old).core (S.handful s.new).core (S.tells s.old) (λ w t. (S.handful s.new).core.topics.search.set ≡ Some (word_in (S.handful s.old).core.state.sizes w Area.Slots 0)) }
-        ensures now { WherePartMade (find_step self.old) note (S.actor s.old) (S.handful s.old).core (S.handful s.new).core (S.tells s.old) (λ w t. (self.old.begun ≡ true → IsSearchFor self.old.gfn (word_in (S.handful s.old).core.state.sizes w Area.Pool) (S.handful s.old).core.topics.search) → FindsIn self.old.gfn (word_in (S.handful s.old).core.state.sizes t Area.Pool) (S.handful s.new).core.topics.search result) }
+        requires may { MayMake (find_step self.old) note (S.seat s.old).hand }
+        requires reserved { 0 < (S.seat s.old).room }
+        requires held { self.old.begun ≡ false → may_search (S.seat s.old).hand.topics.stay (S.seat s.old).hand.topics.hold ≡ true }
+        ensures step { MakesPart (find_step self.old) note (S.seat s.old) (S.seat s.new) }
+        ensures begins { self.old.begun ≡ false → Begins result (S.seat s.old).hand.topics.search (S.seat s.new).hand.topics.search }
+        ensures searches { self.old.begun ≡ true → Searches self.old.gfn result (S.seat s.old).hand.topics.search (S.seat s.new).hand.topics.search }
+        ensures others { (S.seat s.new).hand.topics ≡ record (S.seat s.old).hand.topics { search = (S.seat s.new).hand.topics.search } }
+        ensures published { BeginsInPublished self.old note (S.seat s.old) (S.seat s.new) }
+        ensures now { SearchesWhereMade self.old note (S.seat s.old) (S.seat s.new) result }
         ensures goes_on { self.new ≡ record { gfn = self.old.gfn; begun = true } }
-        ensures nearer { result ≡ More → turns_left self.new (S.handful s.new).core.topics.search < turns_left self.old (S.handful s.old).core.topics.search }
-        ensures room { KeepsRoom (S.handful s.old) (S.handful s.new) }
-        ensures same { (S.actor s.new ≡ S.actor s.old) × (S.frame s.new ≡ S.frame s.old) }
+        ensures nearer { result ≡ More → turns_left self.new (S.seat s.new).hand.topics.search < turns_left self.old (S.seat s.old).hand.topics.search }
+        ensures room { KeepsRoom (S.seat s.old) (S.seat s.new) }
+        ensures same { ((S.seat s.new).actor ≡ (S.seat s.old).actor) × (S.frame s.new ≡ S.frame s.old) }
     {
         if !self.begun {
             let _ = make_part(s, PartStep::Slots, note);

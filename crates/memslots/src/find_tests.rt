@@ -49,7 +49,7 @@ fn access() -> Line {
 
 // One step of the seat's line, where it has one left.
 fn step<S: Stepper>(seat: &mut S, line: &Line) -> Result<bool, NoMemory>
-    ensures same { (S.actor seat.new ≡ S.actor seat.old) × (S.frame seat.new ≡ S.frame seat.old) }
+    ensures same { ((S.seat seat.new).actor ≡ (S.seat seat.old).actor) × (S.frame seat.new ≡ S.frame seat.old) }
 {
     seat.reserve(line)?;
     if seat.hand().next_line().is_none() {

@@ -21,3 +21,8 @@ pub mod ShareMade
 pub mod WatchMade
 pub mod PartsWait
 pub mod LineWaits
+pub mod FaultScans
+pub mod ClaimPlaces
+pub mod NotOpen
+pub mod LineClaims
+pub mod AccessClaims

@@ -1,10 +1,11 @@
 pub mod Accepted
+pub mod Changes
 pub mod LiveStay
 pub mod LiveStays
 pub mod SetFilled
 pub mod SetPublished
-pub mod SetSlotKept
-pub mod SetSlotKnown
-pub mod SetSlotPlaces
-pub mod SettingHolds
+pub mod SlotChangeKept
+pub mod SlotChangeKnown
+pub mod SlotChangePlaces
 pub mod SlotsStay
+pub mod SlotChangeClaims

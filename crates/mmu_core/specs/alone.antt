@@ -2,3 +2,4 @@ pub mod OthersRest
 pub mod AloneKnows
 pub mod FaultAlone
 pub mod LineAlone
+pub mod SeenStands

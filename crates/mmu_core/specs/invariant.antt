@@ -5,7 +5,6 @@ pub mod HostWordsPart
 pub mod SlotSetPart
 pub mod CachedPart
 pub mod LinesPart
-pub mod LoadsPart
 pub mod RecordPart
 pub mod LockPart
 pub mod StatesPart

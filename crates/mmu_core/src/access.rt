@@ -1,67 +1,26 @@
 //! The steps of a guest access.
-ghost use Rattle.std.specs.Prelude.{◌≡◌, ◌<◌, All, IfSome};
+ghost use Rattle.std.specs.Prelude.{◌≡◌, ◌<◌, IfSome};
 ghost use Rattle.core_views.specs.Slots.{is_write};
 ghost use Rattle.mmu_core.specs.lines.FaultSteps.{allows_access};
 ghost use Rattle.spte_words.specs.Entries.{kind_of};
 ghost use Rattle.mmu_core.specs.lines.AccessSteps.{access_caches, access_loads, access_note, access_outcome, access_part, access_task, behind_fault, touch_of, walk_next};
-ghost use Rattle.part_steps.specs.PartBounds.{IsAtLeafLevel};
+ghost use Rattle.part_steps.specs.PartBounds.{IsAtLeafLevel, PartRests};
 ghost use Rattle.mmu_core.specs.lines.Cached.{allows, covers, first_usable, is_usable};
-ghost use Rattle.part_steps.specs.PartBounds.{PartRests};
 ghost use Rattle.part_steps.specs.PartSteps.{PartNeeds};
-ghost use Rattle.mmu_core.specs.lines.Rests.{RestsOn};
+ghost use Rattle.mmu_core.specs.lines.AccessKnows.{RestsOn};
 ghost use Rattle.part_steps.specs.Tasks.{map_of};
 ghost use Rattle.spte_words.specs.Areas.{size_of};
 ghost use Rattle.spte_words.specs.declared.area.Area.TheVariants.{Content};
 
+use crate::cached::lookup;
 use crate::fault;
 use crate::outcome::Outcome;
 use core_views::{
-    AccessPlace, Answer, Cache, FaultEnd, FaultNext, FaultPlace, Hand, Leaving, Op, Place,
-    StepKind, Translation,
+    AccessPlace, Answer, FaultEnd, FaultNext, FaultPlace, Hand, Leaving, Op, Place, StepKind,
+    Translation,
 };
 use part_steps::{PartStep, Task, map_of, part_task};
 use spte_words::{Area, Spte, SpteKind};
-
-// Whether the translation's leaf covers the guest frame.
-#[tactic(auto, using(spte_words::proofs::Spans::span_positive))]
-fn covers(gfn: u64, translation: &Translation) -> bool
-    requires { IsAtLeafLevel translation.now }
-    ensures { result ≡ covers gfn translation.now }
-{
-    let span = Spte::level_span(translation.level);
-    gfn / span == translation.gfn / span
-}
-
-// Whether it allows a read, or a write.
-fn allows(write: bool, translation: &Translation) -> bool
-    ensures { result ≡ allows write translation.now }
-{
-    !write || Spte::from_word(translation.leaf).is_writable()
-}
-
-// Whether an access of the guest frame may use it.
-fn is_usable(gfn: u64, write: bool, translation: &Translation) -> bool
-    requires { IsAtLeafLevel translation.now }
-    ensures { result ≡ is_usable gfn write translation.now }
-{
-    covers(gfn, translation) && allows(write, translation)
-}
-
-/// The newest translation that covers the guest frame and allows the access;
-/// `None` where there is none.
-pub fn lookup(cache: &Cache, gfn: u64, write: bool) -> Option<Translation>
-    requires { All IsAtLeafLevel cache.now.items }
-    ensures { result ≡ first_usable gfn write cache.now.items }
-{
-    for i in 0..cache.len() {
-        if let Some(translation) = cache.get(i) {
-            if is_usable(gfn, write, &translation) {
-                return Some(translation);
-            }
-        }
-    }
-    None
-}
 
 // The touch of a content word.
 fn touch(op: Op, index: u64) -> Task
@@ -131,21 +90,6 @@ pub(crate) fn task(place: AccessPlace, hand: &Hand, gfn: u64, word: u8, op: Op) 
     touch(op, map_of(&hand.state().sizes).content_index(frame, word))
 }
 
-/// The leaf that the access uses behind the step of this place.
-pub(crate) fn leaf_behind(place: AccessPlace, hand: &Hand, gfn: u64, op: Op, found: u64) -> u64
-    requires part { PartRests hand.now.core }
-    ensures { result ≡ (access_loads place hand.now.core gfn op found).leaf }
-{
-    match place {
-        AccessPlace::Pause { .. } => match lookup(hand.cache(), gfn, op.is_write()) {
-            Some(translation) => translation.leaf,
-            None => hand.state().leaf,
-        },
-        AccessPlace::Walk { .. } => found,
-        _ => hand.state().leaf,
-    }
-}
-
 /// Caches the leaf that the step of this place found, where it allows the access.
 pub(crate) fn fill_cache(place: AccessPlace, hand: &mut Hand, gfn: u64, op: Op, found: u64)
     ensures core { hand.new.core ≡ record hand.old.core { cached = access_caches place hand.old.core gfn op found } }
@@ -194,34 +138,45 @@ fn behind_fault(next: FaultNext) -> Outcome
     Outcome::Goes(Place::Access(AccessPlace::Enter { again }))
 }
 
-/// Where the line stands after the step of this place.
-pub(crate) fn outcome(place: AccessPlace, hand: &Hand, gfn: u64, op: Op, found: u64) -> Outcome
+/// Where the line stands after the step of this place, and the leaf that the access
+/// uses then.
+pub(crate) fn outcome(
+    place: AccessPlace,
+    hand: &Hand,
+    gfn: u64,
+    op: Op,
+    found: u64,
+) -> (Outcome, u64)
     requires rests { RestsOn (access_part place gfn hand.now.core.topics) gfn (is_write op) hand.now.core }
     requires part { PartRests hand.now.core }
-    ensures { result ≡ access_outcome place hand.now.core gfn op found }
+    ensures outcome { result.0 ≡ access_outcome place hand.now.core gfn op found }
+    ensures leaf { result.1 ≡ (access_loads place hand.now.core gfn op found).leaf }
 {
-    let next = match place {
-        AccessPlace::Enter { again } => AccessPlace::Pause { again },
+    let leaf = hand.state().leaf;
+    let (next, leaf) = match place {
+        AccessPlace::Enter { again } => (AccessPlace::Pause { again }, leaf),
         AccessPlace::Pause { again } => match lookup(hand.cache(), gfn, op.is_write()) {
-            Some(_) => AccessPlace::Touch,
-            None => AccessPlace::Root { again },
+            Some(translation) => (AccessPlace::Touch, translation.leaf),
+            None => (AccessPlace::Root { again }, leaf),
         },
-        AccessPlace::Root { again } => AccessPlace::Walk { again },
-        AccessPlace::Walk { again } => walk_next(again, hand.topics().walk.level, op, found),
+        AccessPlace::Root { again } => (AccessPlace::Walk { again }, leaf),
+        AccessPlace::Walk { again } => {
+            let level = hand.topics().walk.level;
+            (walk_next(again, level, op, found), found)
+        }
         AccessPlace::Touch => {
-            let frame = Spte::from_word(hand.state().leaf).frame();
-            AccessPlace::Leave(Leaving::Reached {
-                frame,
-                value: found,
-            })
+            let frame = Spte::from_word(leaf).frame();
+            let value = found;
+            (AccessPlace::Leave(Leaving::Reached { frame, value }), leaf)
         }
         AccessPlace::Leave(Leaving::Reached { frame, value }) => {
-            return Outcome::Ends(Answer::Reached { frame, value });
+            return (Outcome::Ends(Answer::Reached { frame, value }), leaf);
         }
-        AccessPlace::Leave(Leaving::Faults) => AccessPlace::Fault(FaultPlace::Begin),
+        AccessPlace::Leave(Leaving::Faults) => (AccessPlace::Fault(FaultPlace::Begin), leaf),
         AccessPlace::Fault(place) => {
-            return behind_fault(fault::next(place, hand, gfn, op.is_write(), found));
+            let next = fault::next(place, hand, gfn, op.is_write(), found);
+            return (behind_fault(next), leaf);
         }
     };
-    Outcome::Goes(Place::Access(next))
+    (Outcome::Goes(Place::Access(next)), leaf)
 }

@@ -2,7 +2,7 @@
 //! its delays.
 ghost use Rattle.std.specs.Prelude.{◌≡◌};
 ghost use Rattle.mmu_core.specs.lines.Delays.{begins_anew, counted, delays_counted, is_delay, leaves_to_fault, one_more, steps_counted, walks_again};
-ghost use Rattle.mmu_core.specs.lines.Rests.{RestsAt};
+ghost use Rattle.mmu_core.specs.lines.Forms.{RestsAt};
 ghost use Rattle.part_steps.specs.PartBounds.{PartRests};
 
 use crate::outcome::Outcome;

@@ -1,5 +1,5 @@
 ghost use Rattle.std.specs.Prelude.{◌<◌, length};
-ghost use Rattle.mmu_core.specs.lines.KnowsPart.{KnowsPart};
+ghost use Rattle.mmu_core.specs.lines.Forms.{KnowsPart};
 ghost use Rattle.mmu_core.specs.lines.Rests.{Rests};
 ghost use Rattle.mmu_core.specs.machine.Steps.{line_at, place_at};
 ghost use Rattle.mmu_core.specs.machine.Worlds.{HandReached};

@@ -3,26 +3,28 @@
 #![tactic(auto)]
 
 mod access;
+mod cached;
 mod claim;
 mod delays;
 mod fault;
 mod laws;
 mod outcome;
 mod parts;
-mod set_slot;
 mod share;
+mod slot_change;
 mod step;
 mod waits;
 mod watch;
 
-pub use access::{access_note, lookup};
+pub use access::access_note;
+pub use cached::lookup;
 pub use claim::ClaimNext;
 pub use fault::entry_word;
 pub use laws::{knows, rests};
 pub use outcome::Outcome;
 pub use parts::{allows, may_make, part_rests};
-pub use set_slot::{note as setting_note, setting_place};
 pub use share::ShareNext;
+pub use slot_change::{change_place, note as change_note};
 pub use step::{advance, asks_flush, next_kind, next_step};
 pub use waits::{part_waits, waits_by};
 pub use watch::WatchNext;

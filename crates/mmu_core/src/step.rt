@@ -2,10 +2,10 @@
 ghost use Rattle.std.specs.Prelude.{◌≡◌, ◌<◌, ◌+◌, Some, length, true, false};
 ghost use Rattle.core_views.specs.Sizes.{AreSizes};
 ghost use Rattle.core_views.specs.Traces.{IsCommandFor};
-ghost use Rattle.mmu_core.specs.lines.Rests.{AcceptsAt, IsUnderWay, Rests, RestsAt};
+ghost use Rattle.mmu_core.specs.lines.Forms.{AcceptsAt, RestsAt, part_at, caches_at, first_place, loads_at, outcome_at, records_at};
+ghost use Rattle.mmu_core.specs.lines.Rests.{IsUnderWay, Rests};
 ghost use Rattle.mmu_core.specs.machine.Enabled.{Enabled};
-ghost use Rattle.mmu_core.specs.lines.PartAt.{part_at};
-ghost use Rattle.mmu_core.specs.machine.Steps.{caches_at, first_place, has_line, line_after, line_at, loads_at, next, outcome_at, place_at, records_at, standing, task_at};
+ghost use Rattle.mmu_core.specs.machine.Steps.{has_line, line_after, line_at, next, place_at, standing, task_at};
 ghost use Rattle.mmu_core.specs.lines.Cached.{asks_flush, flushed};
 ghost use Rattle.part_steps.specs.declared.part_step.PartStep.TheVariants.{Claim};
 ghost use Rattle.part_steps.specs.PartBounds.{PartRests};
@@ -16,7 +16,7 @@ ghost use Rattle.spte_words.specs.Areas.{size_of};
 
 use crate::delays::{delays_behind, is_delay, steps_behind};
 use crate::outcome::Outcome;
-use crate::{access, set_slot};
+use crate::{access, slot_change};
 use core_views::{
     AccessPlace, AnsweredLine, Command, Hand, Kind, Line, Place, Sizes, SlotSet, StepKind,
 };
@@ -42,9 +42,9 @@ fn first(hand: &Hand, line: &Line) -> Place
 {
     match &line.command {
         Command::Access { .. } => Place::Access(AccessPlace::Enter { again: false }),
-        Command::SetSlot { id, slot } => {
+        command => {
             let sizes = &hand.state().sizes;
-            Place::SetSlot(set_slot::first(sizes, hand.slots(), *id, slot))
+            Place::SlotChange(slot_change::first(sizes, hand.slots(), command))
         }
     }
 }
@@ -73,9 +73,7 @@ fn task(place: Place, hand: &Hand, line: &Line) -> Task
         (Place::Access(place), Command::Access { gfn, word, op }) => {
             access::task(place, hand, *gfn, *word, *op)
         }
-        (Place::SetSlot(place), Command::SetSlot { id, slot }) => {
-            set_slot::task(place, hand, *id, slot)
-        }
+        (Place::SlotChange(place), command) => slot_change::task(place, hand, command),
         _ => unreachable!(),
     }
 }
@@ -104,9 +102,7 @@ pub(crate) fn part_of(place: Place, command: &Command, hand: &Hand) -> Option<Pa
 {
     match (place, command) {
         (Place::Access(place), Command::Access { gfn, .. }) => access::part(place, *gfn, hand),
-        (Place::SetSlot(place), Command::SetSlot { id, slot }) => {
-            Some(set_slot::part(place, hand, *id, slot))
-        }
+        (Place::SlotChange(place), command) => Some(slot_change::part(place, hand, command)),
         _ => Some(PartStep::Seq),
     }
 }
@@ -121,19 +117,6 @@ pub fn next_step(hand: &Hand) -> Option<PartStep>
 {
     let line = line_of(hand);
     part_of(place_of(hand, &line), &line.command, hand)
-}
-
-// The leaf that the line uses behind the step of a place.
-fn leaf_behind(place: Place, command: &Command, hand: &Hand, found: u64) -> u64
-    requires part { PartRests hand.now.core }
-    ensures { result ≡ (loads_at place command.now hand.now.core found).leaf }
-{
-    match (place, command) {
-        (Place::Access(place), Command::Access { gfn, op, .. }) => {
-            access::leaf_behind(place, hand, *gfn, *op, found)
-        }
-        _ => hand.state().leaf,
-    }
 }
 
 // What is cached behind the step of a place.
@@ -152,25 +135,26 @@ fn record_step(place: Place, line: &Line, sizes: &Sizes, slots: &mut SlotSet)
     requires accepts { AcceptsAt place line.now.command sizes.now slots.old }
     ensures { slots.new ≡ records_at place line.now.command slots.old }
 {
-    if let (Place::SetSlot(place), Command::SetSlot { id, slot }) = (place, &line.command) {
-        set_slot::record_slot(place, slots, *id, slot, sizes.pages);
+    if let Place::SlotChange(place) = place {
+        slot_change::record_change(place, slots, line, sizes);
     }
 }
 
-// Where the line stands after the step of a place.
-fn outcome(place: Place, command: &Command, hand: &Hand, found: u64) -> Outcome
+// Where the line stands after the step of a place, and the leaf that it uses then.
+fn outcome(place: Place, command: &Command, hand: &Hand, found: u64) -> (Outcome, u64)
     requires part { PartRests hand.now.core }
     requires rests { RestsAt place command.now hand.now.core }
-    ensures { result ≡ outcome_at place command.now hand.now.core found }
+    ensures outcome { result.0 ≡ outcome_at place command.now hand.now.core found }
+    ensures leaf { result.1 ≡ (loads_at place command.now hand.now.core found).leaf }
 {
     match (place, command) {
         (Place::Access(place), Command::Access { gfn, op, .. }) => {
             access::outcome(place, hand, *gfn, *op, found)
         }
-        (Place::SetSlot(place), Command::SetSlot { .. }) => {
-            set_slot::outcome(place, hand, found)
+        (Place::SlotChange(place), _) => {
+            (slot_change::outcome(place, hand, found), hand.state().leaf)
         }
-        _ => Outcome::Goes(place),
+        _ => (Outcome::Goes(place), hand.state().leaf),
     }
 }
 
@@ -184,8 +168,7 @@ fn advance_line(hand: &mut Hand, line: &Line, place: Place, found: u64)
     ensures core { hand.new.core ≡ line_after line.now place hand.old.core found }
     ensures room { length hand.new.core.answers + hand.new.room ≡ length hand.old.core.answers + hand.old.room }
 {
-    let outcome = outcome(place, &line.command, hand, found);
-    let leaf = leaf_behind(place, &line.command, hand, found);
+    let (outcome, leaf) = outcome(place, &line.command, hand, found);
     let delay = is_delay(place, &line.command, hand, &outcome, found);
     let steps = steps_behind(delay, hand);
     let delays = delays_behind(delay, hand);
@@ -211,6 +194,7 @@ fn advance_line(hand: &mut Hand, line: &Line, place: Place, found: u64)
 }
 
 // The step of the hand's line, where it has one left.
+#[inline(never)]
 fn step_line(hand: &mut Hand, found: u64)
     requires rests { has_line hand.old.core ≡ true → Rests hand.old.core }
     requires room { 0 < hand.old.room }
@@ -226,6 +210,7 @@ fn step_line(hand: &mut Hand, found: u64)
 }
 
 // The effect of a step on the topics of the hand.
+#[inline(always)]
 fn advance_topics(hand: &mut Hand, kind: Kind, found: u64)
     requires sizes { AreSizes hand.old.core.state.sizes }
     requires room { HasRoom (kind_named kind.code) hand.old.core.topics }
@@ -244,6 +229,7 @@ pub fn asks_flush(state: u64) -> bool
 }
 
 // The effect of a step on what is cached, where a flush was asked for.
+#[inline(always)]
 #[tactic(auto, unfolding(crate::specs::lines::Cached::flushed))]
 fn flush(hand: &mut Hand, kind: Kind, found: u64)
     ensures core { hand.new.core ≡ record hand.old.core { cached = flushed kind hand.old.core.cached found } }
@@ -255,6 +241,7 @@ fn flush(hand: &mut Hand, kind: Kind, found: u64)
 }
 
 /// Makes the effect of a step on the hand, where the step answered `found`.
+#[inline(always)]
 #[tactic(auto, unfolding(crate::specs::machine::Steps::next))]
 pub fn advance(hand: &mut Hand, kind: Kind, found: u64)
     requires enabled { Enabled hand.old.core kind }

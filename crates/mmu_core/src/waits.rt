@@ -2,7 +2,7 @@
 ghost use Rattle.std.specs.Prelude.{◌≡◌, ◌<◌, Some};
 ghost use Rattle.mmu_core.specs.lines.Delays.{line_waits, waits_by};
 ghost use Rattle.mmu_core.specs.lines.PartWaits.{part_waits, saw_open};
-ghost use Rattle.mmu_core.specs.lines.Rests.{RestsAt};
+ghost use Rattle.mmu_core.specs.lines.Forms.{RestsAt};
 ghost use Rattle.part_steps.specs.declared.part_step.PartStep.TheVariants.{Claim};
 ghost use Rattle.part_steps.specs.PartBounds.{PartRests};
 

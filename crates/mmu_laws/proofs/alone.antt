@@ -6,5 +6,5 @@ pub mod FaultComes
 pub mod FaultAlone
 pub mod FindAlone
 pub mod GoesAlone
-pub mod SetSlotAlone
-pub mod ClaimAlone
+pub mod PartAlone
+pub mod AccessAlone

@@ -8,12 +8,10 @@ pub mod ClaimSeen
 pub mod EachFault
 pub mod EachLine
 pub mod Entries
-pub mod FaultScans
-pub mod FaultWaits
 pub mod FindsOthers
 pub mod MadeSteps
 pub mod ScanPlaces
 pub mod StarvedScan
 pub mod StepWaits
-pub mod NotOpen
 pub mod SawNothing
+pub mod WaitsSee

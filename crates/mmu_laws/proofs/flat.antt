@@ -10,7 +10,7 @@ pub mod Followed
 pub mod Forms
 pub mod LineEvents
 pub mod PageFound
-pub mod SetSlotFlat
+pub mod SlotChangeFlat
 pub mod Told
 pub mod ToldOf
 pub mod WholeSoFar

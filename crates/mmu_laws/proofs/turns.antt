@@ -1,7 +1,7 @@
 pub mod EntrySeen
 pub mod InstalledEntries
 pub mod LeavesStay
-pub mod SetSlotNearer
+pub mod SlotChangeNearer
 pub mod StayNearer
 pub mod StepsBounded
 pub mod StepsCounted

@@ -6,7 +6,8 @@ ghost use Rattle.mmu_laws.specs.steps.ExampleRuns.{ExamplePrints, ExampleRuns};
 ghost use Rattle.mmu_laws.specs.steps.ExampleStarves.{ExampleStarves};
 ghost use Rattle.mmu_laws.specs.steps.ExampleWaits.{ExampleWaits};
 ghost use Rattle.mmu_core.specs.alone.FaultAlone.{FaultGoesThrough, LeadsDown};
-ghost use Rattle.mmu_core.specs.lines.FaultLaws.{FaultIsBounded, FaultMeetsNeeds, FaultStaysKnown, FaultStepsFall, PartsAnswer, WaitsSeeAnother};
+ghost use Rattle.mmu_core.specs.lines.FaultLaws.{FaultIsBounded, FaultMeetsNeeds, FaultStaysKnown, FaultStepsFall, PartsAnswer};
+ghost use Rattle.mmu_core.specs.lines.PartWaits.{WaitsSeeAnother};
 ghost use Rattle.mmu_laws.specs.flat.Histories.{AnswersAreTold, EndsWhole, StaysWhole};
 ghost use Rattle.mmu_core.specs.invariant.Laws.{StaysSound, TellsLawfully};
 ghost use Rattle.mmu_laws.specs.leaves.LeafLaws.{CachedLeavesAgree, HeldLeavesAgree, LeavesAgree, UsedLeavesAgree};
@@ -102,9 +103,11 @@ pub fn every_answer_is_told()
 /// at a place, with what every reachable hand rests on, is what the step of this
 /// place needs; whatever that step answers, the fault knows what its next place
 /// asks; each step that doesn't wait for another actor leaves it fewer steps, of
-/// which it has at most 8,192 and one for each pool page; and one that waits has
-/// seen another actor, in the word that it is on (tdp_mmu.c, `kvm_tdp_mmu_map`;
-/// locking.rst).
+/// which it has at most 8,192 and one for each pool page; and one that waits, as each
+/// step of a part that does, whoever makes it, has seen another actor: a writer in
+/// the lock's word, or that the lock isn't free; that the page which it tried is free no
+/// more; invalidations open; or another actor in a section (tdp_mmu.c,
+/// `kvm_tdp_mmu_map`; locking.rst).
 pub fn a_fault_goes_on()
     ensures needs { FaultMeetsNeeds }
     ensures answers { PartsAnswer }
@@ -154,9 +157,10 @@ pub fn a_fault_alone_goes_through()
 
 /// What a line comes to that runs while all other actors rest: no step of it
 /// waits, none of its faults begins anew, and each step leaves it fewer steps, of
-/// which it has at most 8,192, one for each pool page and one for each frame;
-/// where it is answered, all actors rest again, and it is starved only where no
-/// page of the pool is free, so never where the pool has as many pages as the
+/// which it has no more than its command allows (an access at most 8,192, one for each
+/// pool page and one for each frame; a slot line 1,024 and one for each word of the
+/// pool's map); where it is answered, all actors rest again, and it is starved only
+/// where no page of the pool is free, so never where the pool has as many pages as the
 /// trace needs at most. And its steps can be made, up to its answer (tdp_mmu.c,
 /// `kvm_tdp_mmu_map`; locking.rst).
 pub fn a_line_alone_goes_through()
@@ -169,15 +173,15 @@ pub fn a_line_alone_goes_through()
 /// A line's turns come to an end between its delays, beside other actors that stand
 /// anywhere in their lines: each step of it that neither waits nor begins a fault anew
 /// leaves it fewer steps, or answers it, or is one of a stay that misses, and it never
-/// has more left than 8,192, one for each pool page and one for each frame. For after a
-/// fault that ended with an entry installed, whatever the other actors do, links lead
-/// from the root, and from the table that the line's walk has come to, to a leaf that
-/// allows the access, or a step since that fault began took an entry of the guest frame
-/// away; and where links lead to such a leaf once, they do so after every list of steps,
-/// or one of them took an entry of the guest frame away. A step that takes an entry of
-/// the guest frame away is on the word of such an entry, which isn't absent, and leaves
-/// another number there (`breaking`). No step of the machine does so yet (`unbroken`), so
-/// no stay misses (tdp_mmu.c, `kvm_tdp_mmu_map`; locking.rst).
+/// has more left than its command allows (`most_steps`). For after a fault that ended
+/// with an entry installed, whatever the other actors do, links lead from the root, and
+/// from the table that the line's walk has come to, to a leaf that allows the access, or
+/// a step since that fault began took an entry of the guest frame away; and where links
+/// lead to such a leaf once, they do so after every list of steps, or one of them took an
+/// entry of the guest frame away. A step that takes an entry of the guest frame away is on
+/// the word of such an entry, which isn't absent, and leaves another number there
+/// (`breaking`). No step of the machine does so yet (`unbroken`), so no stay misses
+/// (tdp_mmu.c, `kvm_tdp_mmu_map`; locking.rst).
 pub fn turns_come_to_an_end()
     ensures nearer { TurnsComeNearer }
     ensures bounded { TurnsAreBounded }
@@ -191,8 +195,8 @@ pub fn turns_come_to_an_end()
 /// delay (a step with which it waits or begins a fault anew, or a stay behind an
 /// installed entry that finds no translation which allows the access), and its
 /// delays, of which it counts no more than 2^64 - 1. Behind every list of steps
-/// these steps are at most 8,192, one for each pool page and one for each frame,
-/// and while the line is under way, so they are together with those that it has left.
+/// these steps are at most as many as the line's command allows (`most_steps`), and
+/// while the line is under way, so they are together with those that it has left.
 pub fn steps_are_bounded()
     ensures bounded { StepsAreBounded }
     ensures counted { StepsAreCounted }

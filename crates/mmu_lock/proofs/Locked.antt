@@ -1,6 +1,6 @@
 -- What tries for the lock come to.
-use Rattle.std.proofs.Common.{Some, subst, ◌≡◌, ◌≢◌, ◌<◌, ℕ, refl, ap, ◌∙◌, arith}
-use Rattle.std.specs.Prelude.{Bool, true, false, ◌==◌, if◌then◌else◌}
+use Rattle.std.proofs.Common.{subst, ◌≡◌, ◌≢◌, ◌<◌, ℕ, refl, ap, ◌∙◌, arith}
+use Rattle.std.specs.Prelude.{Bool, IfSome, true, false, ◌==◌, if◌then◌else◌}
 use Rattle.std.proofs.lemmas.Bool.Decides.{nat_tests}
 use Rattle.core_views.specs.declared.topics.Hold.{Hold}
 use Rattle.core_views.specs.declared.topics.Hold.TheVariants.{Loose, Shared, Owing, Exclusive}
@@ -8,20 +8,19 @@ use Rattle.core_views.specs.declared.topics.Topics.{Topics}
 use Rattle.core_views.specs.Held.{Held}
 use Rattle.part_steps.specs.declared.part_step.PartStep.TheVariants.{Share}
 use Rattle.mmu_core.specs.machine.MayMake.{MayMake}
-use Rattle.part_steps.specs.PartTasks.{part_kind}
 use Rattle.part_steps.specs.PartSteps.{PartNeeds}
 use Rattle.part_steps.specs.ControlTopics.{has_writer}
-use Rattle.mmu_core.specs.machine.Machine.{World}
 use Rattle.mmu_core.specs.alone.OthersRest.{OthersRest}
 use Rattle.part_steps.specs.declared.part_step.PartStep.{PartStep}
 use Rattle.step_seats.specs.PartTurns.{MadePart}
+use Rattle.step_seats.specs.Seats.{Seat}
 use Rattle.step_seats.proofs.AloneTold.{share_free}
-use Rattle.step_seats.proofs.Where.{after_step, only}
 use Rattle.mmu_lock.specs.Locking.{holding}
 use Rattle.mmu_core.specs.lines.ShareSteps.{share_left, share_part}
 
 -- Who isn't owing wants to share, and holds nothing of the lock.
-pub wants_share : (h : Held) (note : ℕ) → ((w : ℕ) → h.topics.hold ≡ Owing w → ⊥) → MayMake (share_part h.topics.hold) note h → (share_part h.topics.hold ≡ Share) × (h.topics.hold ≡ Loose)
+pub wants_share : (h : Held) (note : ℕ) → ((w : ℕ) → h.topics.hold ≡ Owing w → ⊥) → MayMake (share_part h.topics.hold) note h
+    → (share_part h.topics.hold ≡ Share) × (h.topics.hold ≡ Loose)
 wants_share h note never may = by h.topics.hold refl may.needs
   where
     by : (x : Hold) → h.topics.hold ≡ x → PartNeeds (share_part x) h → (share_part x ≡ Share) × (h.topics.hold ≡ Loose)
@@ -30,18 +29,23 @@ wants_share h note never may = by h.topics.hold refl may.needs
     by Exclusive is needs = (refl, needs)
     by (Owing w) is needs = absurd (never w is)
 
-pub owes_behind : (before after : Topics) (found : ℕ) → after ≡ holding (if has_writer found then Owing found else Shared) before → has_writer found ≡ true → after ≡ holding (Owing found) before
+pub owes_behind : (before after : Topics) (found : ℕ) → after ≡ holding (if has_writer found then Owing found else Shared) before
+    → has_writer found ≡ true → after ≡ holding (Owing found) before
 owes_behind before after found is seen = is ∙ ap (λ (b : Bool). holding (if b then Owing found else Shared) before) seen
 
-pub shares_behind : (before after : Topics) (found : ℕ) → after ≡ holding (if has_writer found then Owing found else Shared) before → has_writer found ≡ false → after ≡ holding Shared before
+pub shares_behind : (before after : Topics) (found : ℕ) → after ≡ holding (if has_writer found then Owing found else Shared) before
+    → has_writer found ≡ false → after ≡ holding Shared before
 shares_behind before after found is none = is ∙ ap (λ (b : Bool). holding (if b then Owing found else Shared) before) none
 
 -- A writer's try, won or lost.
-pub excludes_behind : (before after : Topics) (found : ℕ) → after ≡ holding (if found == 0 then Exclusive else before.hold) before → found ≡ 0 → after ≡ holding Exclusive before
+pub excludes_behind : (before after : Topics) (found : ℕ) → after ≡ holding (if found == 0 then Exclusive else before.hold) before → found ≡ 0
+    → after ≡ holding Exclusive before
 excludes_behind before after found is free = is ∙ ap (λ n. holding (if n == 0 then Exclusive else before.hold) before) free
 
-pub keeps_behind : (before after : Topics) (found : ℕ) → after ≡ holding (if found == 0 then Exclusive else before.hold) before → found ≢ 0 → after ≡ holding before.hold before
-keeps_behind before after found is taken = let test : (found == 0) ≡ false = grind (arith, nat_tests) in is ∙ ap (λ (b : Bool). holding (if b then Exclusive else before.hold) before) test
+pub keeps_behind : (before after : Topics) (found : ℕ) → after ≡ holding (if found == 0 then Exclusive else before.hold) before → found ≢ 0
+    → after ≡ holding before.hold before
+keeps_behind before after found is taken =
+    let test : (found == 0) ≡ false = grind (arith, nat_tests) in is ∙ ap (λ (b : Bool). holding (if b then Exclusive else before.hold) before) test
 
 pub not_free : (n : ℕ) → has_writer n ≡ true → n ≡ 0 → ⊥
 not_free n seen is = let none : has_writer n ≡ false = ap has_writer is in cc (seen, none)
@@ -51,7 +55,9 @@ pub fewer_left : (before after : Hold) (word : ℕ) → before ≡ Loose → aft
 fewer_left before after word loose owes = rw (loose, owes) (omega arith)
 
 -- Where the others hold nothing, who shares the lock finds it free.
-pub free_where : (step : PartStep) (w : World Held) (note found actor : ℕ) (h g : Held) → step ≡ Share → MadePart step note found actor h g (only w) (only (after_step (part_kind h step note) actor w)) → h.topics.hold ≡ Loose → OthersRest actor w → found ≡ 0
-free_where step w note found actor h g is made loose others =
-    let shares : MadePart Share note found actor h g (only w) (only (after_step (part_kind h Share note) actor w)) = subst (λ (x : PartStep). MadePart x note found actor h g (only w) (only (after_step (part_kind h x note) actor w))) is made in
-    share_free (Some w) _ actor note found h shares.has shares.world loose others
+pub free_where : (step : PartStep) (note found : ℕ) (before after : Seat) → step ≡ Share → MadePart step note found before after
+    → before.hand.topics.hold ≡ Loose
+    → IfSome before.tells.world (λ w. OthersRest before.actor w → found ≡ 0)
+free_where step note found before after is made loose =
+    let shares : MadePart Share note found before after = subst (λ (x : PartStep). MadePart x note found before after) is made in
+    share_free before.tells.world after.tells.world before.actor note found before.hand shares.has shares.world loose

@@ -16,7 +16,6 @@ use Rattle.spte_words.specs.Areas.{number_of, place}
 use Rattle.spte_words.specs.Bits.{has_bit}
 use Rattle.part_steps.specs.Tasks.{map_of}
 use Rattle.part_steps.specs.StayTopics.{has_lock, is_loose, may_walk, may_search, kept_search}
-use Rattle.part_steps.specs.PageTopics.{published}
 
 -- Bit 63 of a lock word: a writer has it.
 abbrev pub writer : ℕ

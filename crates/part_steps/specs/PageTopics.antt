@@ -8,7 +8,6 @@ use Rattle.core_views.specs.declared.topics.MapClaim.{MapClaim}
 use Rattle.core_views.specs.declared.topics.OwnedPage.{OwnedPage}
 use Rattle.core_views.specs.declared.topics.SlotSearch.{SlotSearch}
 use Rattle.core_views.specs.declared.topics.Topics.{Topics}
-use Rattle.spte_words.specs.Areas.{place}
 use Rattle.spte_words.specs.Bits.{has_bit}
 use Rattle.spte_words.specs.Flags.{flags_live, flags_logged, flags_read_only}
 use Rattle.part_steps.specs.StayTopics.{kept_search}

@@ -2,7 +2,6 @@
 use Rattle.std.specs.Prelude.{◌≡◌, ◌≢◌, ◌-◌, ◌^◌, ◌<◌, ◌≤◌, ◌⊎◌, ℕ, Bool, true, false, None, length, nat_lt}
 use Rattle.core_views.specs.declared.actor.Actor.{Actor}
 use Rattle.core_views.specs.declared.actor.Actor.TheVariants.{Vcpu}
-use Rattle.core_views.specs.declared.kind.StepKind.TheVariants as kind
 use Rattle.core_views.specs.declared.topics.Hold.{Hold}
 use Rattle.core_views.specs.declared.topics.Hold.TheVariants.{Loose, Shared, Owing, Exclusive}
 use Rattle.core_views.specs.declared.topics.Stay.TheVariants.{Outside, Guest, Section}
@@ -70,10 +69,12 @@ PartNeeds part.RangeStart h = Unit {0}
 PartNeeds part.RangeEnd h = Unit {0}
 PartNeeds part.Root h = Unit {0}
 PartNeeds (part.Walk gfn) h = IsOver gfn h.topics.walk
-PartNeeds (part.Link gfn) h = MayEnter gfn h.topics × (2 ≤ h.topics.walk.level) × (kind_of h.topics.walk.level h.topics.walk.entry ≡ entry_kind.Absent) × OwnsTable (h.topics.walk.level - 1) h.topics
+PartNeeds (part.Link gfn) h =
+    MayEnter gfn h.topics × (2 ≤ h.topics.walk.level) × (kind_of h.topics.walk.level h.topics.walk.entry ≡ entry_kind.Absent) × OwnsTable (h.topics.walk.level - 1) h.topics
 PartNeeds (part.Leaf gfn) h = MayEnter gfn h.topics × (h.topics.walk.level ≡ 1)
 PartNeeds (part.Host page) h = page < h.state.sizes.pages
-PartNeeds (part.Watch index) h = (index < actors_of h.state.sizes) × (index ≢ own_index h) × ((index ≡ next_watched (own_index h) 0) ⊎ (index ≡ next_watched (own_index h) h.topics.watched))
+PartNeeds (part.Watch index) h =
+    (index < actors_of h.state.sizes) × (index ≢ own_index h) × ((index ≡ next_watched (own_index h) 0) ⊎ (index ≡ next_watched (own_index h) h.topics.watched))
 PartNeeds part.Publish h = MayPublish h.topics
 PartNeeds part.Clear h = MayGiveOld h
 PartNeeds part.GiveOld h = MayGiveOld h

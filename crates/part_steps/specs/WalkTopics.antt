@@ -1,6 +1,5 @@
 -- What an actor holds of a walk: behind each load of an entry, and each exchange of one.
 use Rattle.std.specs.Prelude.{◌+◌, ◌-◌, ◌*◌, ℕ, Bool, true, false, ◌==◌, nat_le, if◌then◌else◌, Option, Some, None}
-use Rattle.core_views.specs.declared.kind.StepKind.TheVariants as kind
 use Rattle.core_views.specs.declared.topics.OwnedPage.{OwnedPage}
 use Rattle.core_views.specs.declared.topics.TableWalk.{TableWalk}
 use Rattle.spte_words.specs.declared.spte_kind.SpteKind.{SpteKind}

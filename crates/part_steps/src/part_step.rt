@@ -328,6 +328,7 @@ fn own_task(step: PartStep, own: u64, note: u64) -> Task
 }
 
 /// What the step does.
+#[inline(always)]
 pub fn part_task(hand: &Hand, step: PartStep, note: u64) -> Task
     requires rests { PartRests hand.now.core }
     requires needs { PartNeeds step hand.now.core }
@@ -370,6 +371,7 @@ pub fn part_task(hand: &Hand, step: PartStep, note: u64) -> Task
 }
 
 /// The step of the part that this hand makes, as the words of the machine see it.
+#[inline(always)]
 pub fn part_kind(hand: &Hand, step: PartStep, note: u64) -> Kind
     requires rests { PartRests hand.now.core }
     requires needs { PartNeeds step hand.now.core }

@@ -2,13 +2,14 @@ ghost use Rattle.std.specs.Prelude.{◌≡◌, ◌≤◌, ◌<◌, ◌^◌};
 ghost use Rattle.part_steps.specs.SlotWords.{field_number, leaf_of, may_write, page_of, slot_index};
 ghost use Rattle.part_steps.specs.SetWords.{set_word, word_of_slot};
 ghost use Rattle.core_views.specs.Refusals.{after_set};
+ghost use Rattle.core_views.specs.SlotCommands.{slots_after};
 ghost use Rattle.core_views.specs.SlotSets.{slot_at};
 ghost use Rattle.core_views.specs.Traces.{IsSlotInRange};
 ghost use Rattle.spte_words.specs.HostWords.{host_frame};
 ghost use Rattle.spte_words.specs.Areas.{IsWordMap, size_of};
 ghost use Rattle.spte_words.specs.declared.area.Area.TheVariants as Area;
 
-use core_views::{MemorySlot, Slot, SlotField, SlotSet};
+use core_views::{Command, MemorySlot, Slot, SlotField, SlotSet};
 use spte_words::{HostWord, SlotFlags, Spte, WordMap};
 
 fn field_number(field: SlotField) -> u64
@@ -52,9 +53,9 @@ fn word_of_slot(slot: &Option<MemorySlot>, i: u64) -> u64
     }
 }
 
-// The slot with this ID, after a slot was set.
+// The slot with the ID `here`, after one was set.
 #[tactic(auto, using(crate::proofs::SetWords::set_at))]
-fn slot_after(slots: &SlotSet, id: u64, slot: &Slot, here: u64) -> Option<MemorySlot>
+fn slot_after_set(slots: &SlotSet, id: u64, slot: &Slot, here: u64) -> Option<MemorySlot>
     ensures { result ≡ slot_at here (after_set id slot.now slots.now) }
 {
     let was = slots.get(here);
@@ -68,11 +69,22 @@ fn slot_after(slots: &SlotSet, id: u64, slot: &Slot, here: u64) -> Option<Memory
     })
 }
 
-/// Word j of the page of a slot set that has these slots, and this one at the ID.
-pub fn set_word(slots: &SlotSet, id: u64, slot: &Slot, j: u64) -> u64
-    ensures { result ≡ set_word (after_set id slot.now slots.now) j }
+// The slot with the ID `here`, after the line has changed its slot.
+fn slot_after(slots: &SlotSet, command: &Command, here: u64) -> Option<MemorySlot>
+    ensures { result ≡ slot_at here (slots_after command.now slots.now) }
 {
-    let slot = slot_after(slots, id, slot, j / 4);
+    match command {
+        Command::SetSlot { id, slot } => slot_after_set(slots, *id, slot, here),
+        Command::Access { .. } => slots.get(here),
+    }
+}
+
+/// Word j of the page of the slot set that has these slots, after the line has
+/// changed its slot.
+pub fn set_word(slots: &SlotSet, command: &Command, j: u64) -> u64
+    ensures { result ≡ set_word (slots_after command.now slots.now) j }
+{
+    let slot = slot_after(slots, command, j / 4);
     word_of_slot(&slot, j % 4)
 }
 

@@ -7,6 +7,7 @@ use core_views::{Kind, Sizes, StepKind};
 use spte_words::{Area, WordMap};
 
 /// Where the words of a machine of these sizes stand.
+#[inline(always)]
 pub fn map_of(sizes: &Sizes) -> WordMap
     requires { AreSizes sizes.now }
     ensures is { result ≡ map_of sizes.now }
@@ -36,6 +37,7 @@ pub struct Task {
 
 impl Task {
     /// A load of a word.
+    #[inline(always)]
     pub fn load(kind: StepKind, area: Area, index: u64, may_end: u64) -> Self
         ensures { result ≡ loads kind area index may_end }
     {
@@ -51,6 +53,7 @@ impl Task {
 }
 
 /// The step as the words of the machine see it.
+#[inline(always)]
 pub fn kind_of(sizes: &Sizes, task: &Task) -> Kind
     requires sizes { AreSizes sizes.now }
     requires within { task.now.index < size_of (map_of sizes.now) task.now.area }

@@ -384,6 +384,7 @@ fn control(sizes: &Sizes, word: u32, topics: &mut Topics, found: u64)
 }
 
 /// What the actor holds after a step, which answered `found`.
+#[inline(always)]
 #[tactic(auto, unfolding(crate::specs::TopicSteps::topics_after))]
 pub fn step_topics(sizes: &Sizes, kind: Kind, topics: &mut Topics, found: u64)
     requires sizes { AreSizes sizes.now }

@@ -1,13 +1,13 @@
-//! One line of the manager: a slot is set (KVM's api.rst, KVM_SET_USER_MEMORY_REGION;
+//! One line of the manager: a slot is changed (KVM's api.rst, KVM_SET_USER_MEMORY_REGION;
 //! kvm_main.c, `kvm_set_memory_region` and `kvm_swap_active_memslots`), from the claim of
 //! a page for the new slot set through its publication to the page of the old one, which
 //! is given back.
 #![tactic(auto)]
 
+mod job;
 mod places;
-mod setting;
 
-pub use setting::SlotJob;
+pub use job::SlotJob;
 
 #[cfg(test)]
 mod tests;

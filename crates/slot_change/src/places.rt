@@ -1,14 +1,14 @@
 //! The step of each place, by the call of its part.
 ghost use Rattle.std.specs.Prelude.{◌≡◌, ◌<◌};
 ghost use Rattle.core_views.specs.Sizes.{AreSizes};
-ghost use Rattle.core_views.specs.declared.place.SetSlotPlace.TheVariants as at;
+ghost use Rattle.core_views.specs.declared.place.SlotChangePlace.TheVariants as at;
 ghost use Rattle.mmu_core.specs.lines.PartWaits.{part_seen};
 ghost use Rattle.part_steps.specs.declared.part_step.PartStep.TheVariants.{Release};
-ghost use Rattle.slot_change.specs.Settings.{IsAt, IsPlain, MakesStep, lock_way};
+ghost use Rattle.slot_change.specs.Places.{IsAt, IsPlain, MakesStep, lock_way};
 ghost use Rattle.step_seats.specs.Moves.{KeepsRoom};
 
 use crate::SlotJob;
-use core_views::{Hand, Seen, SetSlotPlace};
+use core_views::{Hand, Seen, SlotChangePlace};
 use grace_period::Watch;
 use mmu_core::part_rests;
 use mmu_lock::{Lock, try_exclusive, unlock};
@@ -30,11 +30,11 @@ fn lock_way(word: u32, lock: Lock) -> Option<Seen>
 impl SlotJob {
     // Claims a page for the new slot set.
     pub(crate) fn claim<S: Stepper>(&self, s: &mut S, begun: bool, note: u64) -> Option<Seen>
-        requires is_at { IsAt (at.Claim begun) self.now note (S.handful s.old).core }
-        requires reserved { 0 < (S.handful s.old).room }
-        ensures makes { MakesStep result (at.Claim begun) self.now note (S.actor s.old) (S.handful s.old).core (S.handful s.new).core (S.tells s.old) (S.tells s.new) }
-        ensures room { KeepsRoom (S.handful s.old) (S.handful s.new) }
-        ensures same { (S.actor s.new ≡ S.actor s.old) × (S.frame s.new ≡ S.frame s.old) }
+        requires is_at { IsAt (at.Claim begun) self.now note (S.seat s.old).hand }
+        requires reserved { 0 < (S.seat s.old).room }
+        ensures makes { MakesStep result (at.Claim begun) self.now note (S.seat s.old) (S.seat s.new) }
+        ensures room { KeepsRoom (S.seat s.old) (S.seat s.new) }
+        ensures same { ((S.seat s.new).actor ≡ (S.seat s.old).actor) × (S.frame s.new ≡ S.frame s.old) }
     {
         let mut claim = Claim { begun };
         claim.turn(s, note).in_way()
@@ -42,15 +42,15 @@ impl SlotJob {
 
     // Fills the next word of the new slot set's page. It never waits.
     pub(crate) fn fill<S: Stepper>(&self, s: &mut S, note: u64) -> Option<Seen>
-        requires is_at { IsAt at.Fill self.now note (S.handful s.old).core }
-        requires reserved { 0 < (S.handful s.old).room }
-        ensures makes { MakesStep result at.Fill self.now note (S.actor s.old) (S.handful s.old).core (S.handful s.new).core (S.tells s.old) (S.tells s.new) }
-        ensures room { KeepsRoom (S.handful s.old) (S.handful s.new) }
-        ensures same { (S.actor s.new ≡ S.actor s.old) × (S.frame s.new ≡ S.frame s.old) }
+        requires is_at { IsAt at.Fill self.now note (S.seat s.old).hand }
+        requires reserved { 0 < (S.seat s.old).room }
+        ensures makes { MakesStep result at.Fill self.now note (S.seat s.old) (S.seat s.new) }
+        ensures room { KeepsRoom (S.seat s.old) (S.seat s.new) }
+        ensures same { ((S.seat s.new).actor ≡ (S.seat s.old).actor) × (S.frame s.new ≡ S.frame s.old) }
     {
         let hand = s.hand();
         let owned = hand.topics().owned;
-        let value = set_word(hand.slots(), self.id, &self.slot, words_filled(owned));
+        let value = set_word(hand.slots(), &self.command, words_filled(owned));
         let mut fill = Fill::new(page_owned(owned));
         let _ = fill.turn(s, value, note);
         None
@@ -58,11 +58,11 @@ impl SlotJob {
 
     // Stores the role of the new slot set's page. It never waits.
     pub(crate) fn role<S: Stepper>(&self, s: &mut S, note: u64) -> Option<Seen>
-        requires is_at { IsAt at.Role self.now note (S.handful s.old).core }
-        requires reserved { 0 < (S.handful s.old).room }
-        ensures makes { MakesStep result at.Role self.now note (S.actor s.old) (S.handful s.old).core (S.handful s.new).core (S.tells s.old) (S.tells s.new) }
-        ensures room { KeepsRoom (S.handful s.old) (S.handful s.new) }
-        ensures same { (S.actor s.new ≡ S.actor s.old) × (S.frame s.new ≡ S.frame s.old) }
+        requires is_at { IsAt at.Role self.now note (S.seat s.old).hand }
+        requires reserved { 0 < (S.seat s.old).room }
+        ensures makes { MakesStep result at.Role self.now note (S.seat s.old) (S.seat s.new) }
+        ensures room { KeepsRoom (S.seat s.old) (S.seat s.new) }
+        ensures same { ((S.seat s.new).actor ≡ (S.seat s.old).actor) × (S.frame s.new ≡ S.frame s.old) }
     {
         let mut fill = Fill::new(page_owned(s.hand().topics().owned));
         let _ = fill.turn(s, SLOT_SET_ROLE, note);
@@ -71,11 +71,11 @@ impl SlotJob {
 
     // Tries to hold the lock alone.
     pub(crate) fn exclude<S: Stepper>(&self, s: &mut S, note: u64) -> Option<Seen>
-        requires is_at { IsAt at.Exclude self.now note (S.handful s.old).core }
-        requires reserved { 0 < (S.handful s.old).room }
-        ensures makes { MakesStep result at.Exclude self.now note (S.actor s.old) (S.handful s.old).core (S.handful s.new).core (S.tells s.old) (S.tells s.new) }
-        ensures room { KeepsRoom (S.handful s.old) (S.handful s.new) }
-        ensures same { (S.actor s.new ≡ S.actor s.old) × (S.frame s.new ≡ S.frame s.old) }
+        requires is_at { IsAt at.Exclude self.now note (S.seat s.old).hand }
+        requires reserved { 0 < (S.seat s.old).room }
+        ensures makes { MakesStep result at.Exclude self.now note (S.seat s.old) (S.seat s.new) }
+        ensures room { KeepsRoom (S.seat s.old) (S.seat s.new) }
+        ensures same { ((S.seat s.new).actor ≡ (S.seat s.old).actor) × (S.frame s.new ≡ S.frame s.old) }
     {
         part_rests(s.hand());
         let word = map_of(&s.hand().state().sizes).word_of(Area::Lock, 0);
@@ -84,11 +84,11 @@ impl SlotJob {
 
     // Gives the lock back, since invalidations are open: their number is in its way.
     pub(crate) fn close<S: Stepper>(&self, s: &mut S, note: u64) -> Option<Seen>
-        requires is_at { IsAt at.Close self.now note (S.handful s.old).core }
-        requires reserved { 0 < (S.handful s.old).room }
-        ensures makes { MakesStep result at.Close self.now note (S.actor s.old) (S.handful s.old).core (S.handful s.new).core (S.tells s.old) (S.tells s.new) }
-        ensures room { KeepsRoom (S.handful s.old) (S.handful s.new) }
-        ensures same { (S.actor s.new ≡ S.actor s.old) × (S.frame s.new ≡ S.frame s.old) }
+        requires is_at { IsAt at.Close self.now note (S.seat s.old).hand }
+        requires reserved { 0 < (S.seat s.old).room }
+        ensures makes { MakesStep result at.Close self.now note (S.seat s.old) (S.seat s.new) }
+        ensures room { KeepsRoom (S.seat s.old) (S.seat s.new) }
+        ensures same { ((S.seat s.new).actor ≡ (S.seat s.old).actor) × (S.frame s.new ≡ S.frame s.old) }
     {
         part_rests(s.hand());
         let counted = self.counted(s.hand());
@@ -98,11 +98,11 @@ impl SlotJob {
 
     // Gives the lock back.
     pub(crate) fn release<S: Stepper>(&self, s: &mut S, note: u64) -> Option<Seen>
-        requires is_at { IsAt at.Release self.now note (S.handful s.old).core }
-        requires reserved { 0 < (S.handful s.old).room }
-        ensures makes { MakesStep result at.Release self.now note (S.actor s.old) (S.handful s.old).core (S.handful s.new).core (S.tells s.old) (S.tells s.new) }
-        ensures room { KeepsRoom (S.handful s.old) (S.handful s.new) }
-        ensures same { (S.actor s.new ≡ S.actor s.old) × (S.frame s.new ≡ S.frame s.old) }
+        requires is_at { IsAt at.Release self.now note (S.seat s.old).hand }
+        requires reserved { 0 < (S.seat s.old).room }
+        ensures makes { MakesStep result at.Release self.now note (S.seat s.old) (S.seat s.new) }
+        ensures room { KeepsRoom (S.seat s.old) (S.seat s.new) }
+        ensures same { ((S.seat s.new).actor ≡ (S.seat s.old).actor) × (S.frame s.new ≡ S.frame s.old) }
     {
         unlock(s, note);
         None
@@ -110,11 +110,11 @@ impl SlotJob {
 
     // Looks at the next actor.
     pub(crate) fn watch<S: Stepper>(&self, s: &mut S, note: u64) -> Option<Seen>
-        requires is_at { IsAt at.Watch self.now note (S.handful s.old).core }
-        requires reserved { 0 < (S.handful s.old).room }
-        ensures makes { MakesStep result at.Watch self.now note (S.actor s.old) (S.handful s.old).core (S.handful s.new).core (S.tells s.old) (S.tells s.new) }
-        ensures room { KeepsRoom (S.handful s.old) (S.handful s.new) }
-        ensures same { (S.actor s.new ≡ S.actor s.old) × (S.frame s.new ≡ S.frame s.old) }
+        requires is_at { IsAt at.Watch self.now note (S.seat s.old).hand }
+        requires reserved { 0 < (S.seat s.old).room }
+        ensures makes { MakesStep result at.Watch self.now note (S.seat s.old) (S.seat s.new) }
+        ensures room { KeepsRoom (S.seat s.old) (S.seat s.new) }
+        ensures same { ((S.seat s.new).actor ≡ (S.seat s.old).actor) × (S.frame s.new ≡ S.frame s.old) }
     {
         let mut watch = Watch::under_way();
         watch.turn(s, note).in_way()
@@ -125,16 +125,16 @@ impl SlotJob {
     pub(crate) fn make<S: Stepper>(
         &self,
         s: &mut S,
-        place: SetSlotPlace,
+        place: SlotChangePlace,
         step: PartStep,
         note: u64,
     ) -> Option<Seen>
-        requires is_at { IsAt place self.now note (S.handful s.old).core }
+        requires is_at { IsAt place self.now note (S.seat s.old).hand }
         requires plain { IsPlain place step }
-        requires reserved { 0 < (S.handful s.old).room }
-        ensures makes { MakesStep result place self.now note (S.actor s.old) (S.handful s.old).core (S.handful s.new).core (S.tells s.old) (S.tells s.new) }
-        ensures room { KeepsRoom (S.handful s.old) (S.handful s.new) }
-        ensures same { (S.actor s.new ≡ S.actor s.old) × (S.frame s.new ≡ S.frame s.old) }
+        requires reserved { 0 < (S.seat s.old).room }
+        ensures makes { MakesStep result place self.now note (S.seat s.old) (S.seat s.new) }
+        ensures room { KeepsRoom (S.seat s.old) (S.seat s.new) }
+        ensures same { ((S.seat s.new).actor ≡ (S.seat s.old).actor) × (S.frame s.new ≡ S.frame s.old) }
     {
         let _ = make_part(s, step, note);
         None

@@ -102,7 +102,7 @@ fn line_left(hand: &Hand) -> Option<Line>
     let next = hand.next_line()?;
     match hand.state().place {
         Place::Between => Some(next),
-        Place::Access(_) | Place::SetSlot(_) => Some(hand.state().line),
+        Place::Access(_) | Place::SlotChange(_) => Some(hand.state().line),
     }
 }
 
@@ -112,11 +112,14 @@ fn turn<S: Stepper>(s: &mut S) -> Result<Turn<Answer>, Fail> {
     let Some(line) = line_left(s.hand()) else {
         return Err(Fail::new("no line is left"));
     };
-    let Command::SetSlot { id, slot } = line.command else {
+    let Command::SetSlot { .. } = line.command else {
         return Err(Fail::new("it sets no slot"));
     };
     let index = s.hand().answers().len();
-    let mut job = SlotJob { index, id, slot };
+    let mut job = SlotJob {
+        index,
+        command: line.command,
+    };
     Ok(job.turn(s))
 }
 

@@ -121,6 +121,7 @@ impl WordMap {
     }
 
     // Where the area begins.
+    #[inline(always)]
     fn begin_of(&self, area: Area) -> u64
         requires { IsWordMap self.now }
         ensures { result ≡ place self.now area 0 }
@@ -146,6 +147,7 @@ impl WordMap {
     }
 
     /// Where word `i` of the area is.
+    #[inline(always)]
     #[tactic(auto, using(crate::proofs::Places::place_at))]
     pub fn word_of(&self, area: Area, i: u64) -> u32
         requires map { IsWordMap self.now }

@@ -16,13 +16,15 @@ use Rattle.mmu_core.proofs.invariant.AloneLaws.{part_found}
 use Rattle.mmu_core.proofs.start.Starts.{reached_good}
 use Rattle.step_seats.specs.Moves.{Tells}
 use Rattle.step_seats.specs.PartTurns.{MadePart}
-use Rattle.step_seats.specs.Where.{HasHand, Told}
+use Rattle.step_seats.specs.Seats.{Seat}
+use Rattle.step_seats.specs.Where.{HasHand}
 
 -- what the step answers of the words of the world
 abbrev pub Answers : PartStep → ℕ → ℕ → Held → World Held → Type 0
 Answers step note found h w = found ≡ answer_in (part_task step (own_index h) h.topics note) (word_in h.state.sizes w)
 
-answers_in : (w : World Held) (a note : ℕ) (step : PartStep) → Reachable w → a < length w.hands → PartNeeds step (hand_in mmu w a) → Answers step note (answered mmu w (part_kind (hand_in mmu w a) step note)) (hand_in mmu w a) w
+answers_in : (w : World Held) (a note : ℕ) (step : PartStep) → Reachable w → a < length w.hands → PartNeeds step (hand_in mmu w a)
+    → Answers step note (answered mmu w (part_kind (hand_in mmu w a) step note)) (hand_in mmu w a) w
 answers_in w a note step r there N =
     let G = reached_good w r in
     let lt = subst (λ n. a < n) G.hands there in
@@ -30,15 +32,19 @@ answers_in w a note step r there N =
     let same : h.state.sizes ≡ r.sizes = (G.holds.lines a lt).sizes in
     part_found r.sizes w a step note G lt N ∙ ap (λ (z : Sizes). answer_in (part_task step (own_index h) h.topics note) (word_in z w)) (sym same)
 
-pub answers : (w : World Held) (a note found : ℕ) (step : PartStep) (h : Held) → HasHand a h w → PartNeeds step h → answered mmu w (part_kind h step note) ≡ found → Answers step note found h w
+pub answers : (w : World Held) (a note found : ℕ) (step : PartStep) (h : Held) → HasHand a h w → PartNeeds step h
+    → answered mmu w (part_kind h step note) ≡ found → Answers step note found h w
 answers w a note found step h has N is =
     let needs : PartNeeds step (hand_in mmu w a) = subst (λ (x : Held). PartNeeds step x) (sym has.is) N in
     let of_its : Answers step note (answered mmu w (part_kind (hand_in mmu w a) step note)) (hand_in mmu w a) w = ∥∥₁_elim has.reached (hlevel props) (λ r. answers_in w a note step r has.there needs) in
     sym is ∙ subst (λ (x : Held). Answers step note (answered mmu w (part_kind x step note)) x w) has.is of_its
 
-answers_told : (before : Option (World Held)) (a note found : ℕ) (step : PartStep) (h : Held) (after : Option (World Held)) → IfSome before (HasHand a h) → Tells before a (part_kind h step note) found after → PartNeeds step h → IfSome before (Answers step note found h)
+answers_told : (before : Option (World Held)) (a note found : ℕ) (step : PartStep) (h : Held) (after : Option (World Held))
+    → IfSome before (HasHand a h) → Tells before a (part_kind h step note) found after → PartNeeds step h → IfSome before (Answers step note found h)
 answers_told None a note found step h after has tells N = tt
 answers_told (Some w) a note found step h after has tells N = answers w a note found step h has N tells.1
 
-pub found_told : (step : PartStep) (note found a : ℕ) (before after : Held) (told tells : Told) → MadePart step note found a before after told tells → PartNeeds step before → IfSome told.world (Answers step note found before)
-found_told step note found a before after told tells made N = answers_told told.world a note found step before tells.world made.has made.world N
+pub found_told : (step : PartStep) (note found : ℕ) (before after : Seat) → MadePart step note found before after → PartNeeds step before.hand
+    → IfSome before.tells.world (Answers step note found before.hand)
+found_told step note found before after made N =
+    answers_told before.tells.world before.actor note found step before.hand after.tells.world made.has made.world N

@@ -1,3 +1,4 @@
+pub mod Rooms
 pub mod Worlds
 pub mod Starts
 pub mod Told

@@ -10,8 +10,9 @@ use Rattle.part_steps.specs.PartTasks.{own_index, part_kind, part_task}
 use Rattle.part_steps.specs.PartSteps.{PartNeeds}
 use Rattle.part_steps.specs.Tasks.{kind_of_task, map_of}
 use Rattle.mmu_core.specs.lines.AccessSteps.{task_by}
-use Rattle.mmu_core.specs.lines.PartAt.{note_at, part_at, touch_at}
-use Rattle.mmu_core.specs.lines.Rests.{Rests, RestsAt}
+use Rattle.mmu_core.specs.lines.Forms.{note_at, part_at, RestsAt}
+use Rattle.mmu_core.specs.lines.PartAt.{touch_at}
+use Rattle.mmu_core.specs.lines.Rests.{Rests}
 use Rattle.mmu_core.specs.machine.MayMake.{MayMake}
 use Rattle.mmu_core.specs.machine.Steps.{place_at, task_at, task_of}
 use Rattle.mmu_core.specs.machine.Turns.{line_of}

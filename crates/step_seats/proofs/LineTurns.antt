@@ -7,22 +7,19 @@ use Rattle.core_views.specs.declared.answer.Answer.TheVariants as answers
 use Rattle.core_views.specs.declared.hand.Seen.{Seen}
 use Rattle.core_views.specs.declared.place.Cause.{Cause}
 use Rattle.core_views.specs.declared.place.FaultEnd.{FaultEnd}
-use Rattle.core_views.specs.SlotSets.{MemorySlots}
 use Rattle.core_views.specs.declared.place.FaultEnd.TheVariants as end_of
 use Rattle.core_views.specs.declared.place.FaultNext.{FaultNext}
 use Rattle.core_views.specs.declared.place.FaultNext.TheVariants.{Goes, Ends}
 use Rattle.core_views.specs.declared.place.FaultPlace.{FaultPlace}
 use Rattle.core_views.specs.declared.place.FaultPlace.TheVariants as fault
-use Rattle.core_views.specs.declared.topics.Topics.{Topics}
 use Rattle.mmu_core.specs.declared.outcome.Outcome.{Outcome}
 use Rattle.mmu_core.specs.declared.outcome.Outcome.TheVariants as outcome
-use Rattle.mmu_core.specs.lines.Bounds.{steps_left}
+use Rattle.mmu_core.specs.lines.Forms.{steps_left, outcome_at}
 use Rattle.mmu_core.specs.alone.LineAlone.{hand_left, line_waits}
 use Rattle.step_seats.specs.declared.turn.Turn.{Turn}
 use Rattle.step_seats.specs.declared.turn.Turn.TheVariants.{More, Wait, Retry, Done}
 use Rattle.core_views.specs.declared.place.Place.{Place}
 use Rattle.core_views.specs.declared.place.Place.TheVariants as place
-use Rattle.core_views.specs.declared.sizes.Sizes.{Sizes}
 use Rattle.core_views.specs.declared.trace.Command.{Command}
 use Rattle.core_views.specs.declared.trace.Command.TheVariants.{Access}
 use Rattle.core_views.specs.declared.trace.Line.{Line}
@@ -32,19 +29,29 @@ use Rattle.part_steps.specs.declared.part_step.PartStep.{PartStep}
 use Rattle.mmu_core.specs.lines.AccessSteps.{behind_fault}
 use Rattle.mmu_core.specs.machine.MayMake.{MayMake}
 use Rattle.part_steps.specs.PartTasks.{part_kind}
-use Rattle.mmu_core.specs.machine.Steps.{outcome_at, place_at, standing}
+use Rattle.mmu_core.specs.machine.Steps.{place_at}
 use Rattle.mmu_core.specs.machine.Outcomes.{place_after}
 use Rattle.mmu_core.specs.machine.Turns.{Comes, IsAnswered, IsSameHand, line_of, outcome_of}
 use Rattle.mmu_core.proofs.machine.HandAfter.{next_comes, next_same}
 use Rattle.mmu_core.proofs.machine.Which.{has_line_is, next_of_line}
 use Rattle.step_seats.specs.PartTurns.{MadePart}
-use Rattle.step_seats.specs.Where.{Told}
+use Rattle.step_seats.specs.Seats.{Seat}
 use Rattle.step_seats.specs.LineTurns.{Gives, MakesLine, Says, TurnsLine, fault_turn, line_seen, line_turn, turn_of}
 use Rattle.mmu_core.proofs.lines.Forms.{ends_free}
 
 -- A part's step is the line's.
-unfoldable pub made_line : (step : PartStep) (note found actor : ℕ) (h g : Held) (told tells : Told) → MayMake step note h → MadePart step note found actor h g told tells → MakesLine actor h g told tells
-made_line step note found actor h g told tells may made = record { kind = part_kind h step note; found = found; enabled = may.enabled; hand = made.hand; world = made.world; steps = made.steps; answers = made.answers }
+unfoldable pub made_line : (step : PartStep) (note found : ℕ) (before after : Seat) → MayMake step note before.hand → MadePart step note found before after
+    → MakesLine before after
+made_line step note found before after may made =
+    record {
+      kind = part_kind before.hand step note;
+      found = found;
+      enabled = may.enabled;
+      hand = made.hand;
+      world = made.world;
+      steps = made.steps;
+      answers = made.answers;
+    }
 
 -- A line's turn is done where its line is answered, and goes on where it isn't.
 pub record EndsSo (turn : Turn Answer) (waits : Bool) (o : Outcome) : Type 0 where
@@ -78,44 +85,60 @@ fault_case : (p : FaultPlace) (gfn word : ℕ) (op : Op) (h : Held) (v : ℕ)
 fault_case (fault.End e) gfn word op h v = over_case e
 fault_case _ gfn word op h v = inr (going _ _ refl)
 
-pub line_case : (p : Place) (c : Command) (h : Held) (v : ℕ) → EndsSo (line_turn p c h v) (line_waits p c h v) (outcome_at p c h v) ⊎ GoesSo (line_turn p c h v) (outcome_at p c h v)
+pub line_case : (p : Place) (c : Command) (h : Held) (v : ℕ)
+    → EndsSo (line_turn p c h v) (line_waits p c h v) (outcome_at p c h v) ⊎ GoesSo (line_turn p c h v) (outcome_at p c h v)
 line_case (place.Access (Fault p)) (Access gfn word op) h v = fault_case p gfn word op h v
 line_case p c h v = plain_case (outcome_at p c h v) (line_waits p c h v) (ends_free p c h v)
 
 -- What is said of the line follows from its turn.
-pub says_line : (turn : Turn Answer) (waits : Bool) (way : Seen) (t : Turn Answer) (o : Outcome) (line : Line) (h g : Held) → Gives turn waits way t → EndsSo t waits o ⊎ GoesSo t o → Comes o line h g → Says turn line h g
+pub says_line : (turn : Turn Answer) (waits : Bool) (way : Seen) (t : Turn Answer) (o : Outcome) (line : Line) (h g : Held) → Gives turn waits way t
+    → EndsSo t waits o ⊎ GoesSo t o → Comes o line h g → Says turn line h g
 says_line (Wait seen) waits way t o line h g gives (inl E) comes = let free = E.free in let waited = gives.0 in absurd (cc (waited, free))
 says_line (Wait seen) waits way t o line h g gives (inr G) comes = subst (λ (x : Outcome). Comes x line h g) G.is comes
 says_line More waits way t o line h g gives (inl E) comes = let done = E.done in let same = gives.1 in absurd (cc (same, done))
 says_line More waits way t o line h g gives (inr G) comes = subst (λ (x : Outcome). Comes x line h g) G.is comes
 says_line (Retry cause) waits way t o line h g gives (inl E) comes = let done = E.done in let same = gives.1 in absurd (cc (same, done))
 says_line (Retry cause) waits way t o line h g gives (inr G) comes = subst (λ (x : Outcome). Comes x line h g) G.is comes
-says_line (Done answer) waits way t o line h g gives (inl E) comes = let done = E.done in let same = gives.1 in let is : E.answer ≡ answer = cc (same, done) in subst (λ (x : Answer). IsAnswered line x h g) is (subst (λ (x : Outcome). Comes x line h g) E.is comes)
+says_line (Done answer) waits way t o line h g gives (inl E) comes =
+    let done = E.done in let same = gives.1 in let is : E.answer ≡ answer = cc (same, done) in subst (λ (x : Answer). IsAnswered line x h g) is (subst (λ (x : Outcome). Comes x line h g) E.is comes)
 says_line (Done answer) waits way t o line h g gives (inr G) comes = absurd (G.more answer (sym gives.1))
 
-pub turns_say : (turn : Turn Answer) (actor : ℕ) (h g : Held) (told tells : Told) → length h.answers < length h.lines → TurnsLine turn actor h g told tells → Says turn (line_of h) h g
-turns_say turn actor h g told tells left T =
+pub turns_say : (turn : Turn Answer) (before after : Seat) → length before.hand.answers < length before.hand.lines → TurnsLine turn before after
+    → Says turn (line_of before.hand) before.hand after.hand
+turns_say turn before after left T =
+    let h : Held = before.hand in
+    let g : Held = after.hand in
     let v : ℕ = T.makes.found in
-    says_line turn (line_waits (place_at h.state.place h) (line_of h).command h v) (line_seen (place_at h.state.place h) (line_of h).command h v) (line_turn (place_at h.state.place h) (line_of h).command h v) (outcome_of h v) (line_of h) h g T.gives (line_case (place_at h.state.place h) (line_of h).command h v)
+    let p : Place = place_at h.state.place h in
+    let c : Command = (line_of h).command in
+    says_line turn (line_waits p c h v) (line_seen p c h v) (line_turn p c h v) (outcome_of h v) (line_of h) h g T.gives (line_case p c h v)
     (subst (λ (x : Held). Comes (outcome_of h v) (line_of h) h x) (sym T.makes.hand) (next_comes h T.makes.kind v left))
 
-pub turns_same : (turn : Turn Answer) (actor : ℕ) (h g : Held) (told tells : Told) → TurnsLine turn actor h g told tells → IsSameHand h g
-turns_same turn actor h g told tells T = subst (λ (x : Held). IsSameHand h x) (sym T.makes.hand) (next_same h T.makes.kind T.makes.found)
+pub turns_same : (turn : Turn Answer) (before after : Seat) → TurnsLine turn before after → IsSameHand before.hand after.hand
+turns_same turn before after T =
+    subst (λ (x : Held). IsSameHand before.hand x) (sym T.makes.hand) (next_same before.hand T.makes.kind T.makes.found)
+
+-- how the turn of the hand's line goes whose step found v
+abbrev Cases : Held → ℕ → Type 0
+Cases h v =
+    EndsSo (line_turn (place_at h.state.place h) (line_of h).command h v) (line_waits (place_at h.state.place h) (line_of h).command h v) (outcome_of h v)
+    ⊎ GoesSo (line_turn (place_at h.state.place h) (line_of h).command h v) (outcome_of h v)
+
+cases : (h : Held) (v : ℕ) → Cases h v
+cases h v = line_case (place_at h.state.place h) (line_of h).command h v
 
 -- A turn that says More leaves its line under way, and one that is done ends it with this answer.
-pub more_goes : (actor : ℕ) (h g : Held) (told tells : Told) (T : TurnsLine More actor h g told tells) → (q : Place) × (outcome_of h T.makes.found ≡ outcome.Goes q)
-more_goes actor h g told tells T = by (line_case (place_at h.state.place h) (line_of h).command h T.makes.found)
+pub more_goes : (before after : Seat) (T : TurnsLine More before after) → (q : Place) × (outcome_of before.hand T.makes.found ≡ outcome.Goes q)
+more_goes before after T = by (cases before.hand T.makes.found)
   where
-    by : EndsSo (line_turn (place_at h.state.place h) (line_of h).command h T.makes.found) (line_waits (place_at h.state.place h) (line_of h).command h T.makes.found) (outcome_of h T.makes.found)
-        ⊎ GoesSo (line_turn (place_at h.state.place h) (line_of h).command h T.makes.found) (outcome_of h T.makes.found) → (q : Place) × (outcome_of h T.makes.found ≡ outcome.Goes q)
+    by : Cases before.hand T.makes.found → (q : Place) × (outcome_of before.hand T.makes.found ≡ outcome.Goes q)
     by (inl E) = let done = E.done in let same = T.gives.1 in absurd (cc (same, done))
     by (inr G) = (G.place, G.is)
 
-pub done_ends : (answer : Answer) (actor : ℕ) (h g : Held) (told tells : Told) (T : TurnsLine (Done answer) actor h g told tells) → outcome_of h T.makes.found ≡ outcome.Ends answer
-done_ends answer actor h g told tells T = by (line_case (place_at h.state.place h) (line_of h).command h T.makes.found)
+pub done_ends : (answer : Answer) (before after : Seat) (T : TurnsLine (Done answer) before after) → outcome_of before.hand T.makes.found ≡ outcome.Ends answer
+done_ends answer before after T = by (cases before.hand T.makes.found)
   where
-    by : EndsSo (line_turn (place_at h.state.place h) (line_of h).command h T.makes.found) (line_waits (place_at h.state.place h) (line_of h).command h T.makes.found) (outcome_of h T.makes.found)
-        ⊎ GoesSo (line_turn (place_at h.state.place h) (line_of h).command h T.makes.found) (outcome_of h T.makes.found) → outcome_of h T.makes.found ≡ outcome.Ends answer
+    by : Cases before.hand T.makes.found → outcome_of before.hand T.makes.found ≡ outcome.Ends answer
     by (inl E) = let done = E.done in let same = T.gives.1 in let is : E.answer ≡ answer = cc (same, done) in E.is ∙ ap (λ (x : Answer). outcome.Ends x) is
     by (inr G) = absurd (G.more answer (sym T.gives.1))
 
@@ -136,7 +159,9 @@ plain_anew : (p : Place) (o : Outcome) (cause : Cause) → turn_of o ≡ Retry c
 plain_anew p (outcome.Goes q) cause is = absurd (cc is)
 plain_anew p (outcome.Ends answer) cause is = absurd (cc is)
 
-fault_anew : (p : FaultPlace) (gfn word : ℕ) (op : Op) (h : Held) (v : ℕ) (cause : Cause) → line_turn (place.Access (Fault p)) (Access gfn word op) h v ≡ Retry cause → BeginsAnew (place.Access (Fault p)) (outcome_at (place.Access (Fault p)) (Access gfn word op) h v)
+fault_anew : (p : FaultPlace) (gfn word : ℕ) (op : Op) (h : Held) (v : ℕ) (cause : Cause)
+    → line_turn (place.Access (Fault p)) (Access gfn word op) h v ≡ Retry cause
+    → BeginsAnew (place.Access (Fault p)) (outcome_at (place.Access (Fault p)) (Access gfn word op) h v)
 fault_anew (fault.End e) gfn word op h v cause is = over_anew e cause is
 fault_anew _ gfn word op h v cause is = absurd (cc is)
 
@@ -144,20 +169,40 @@ anew : (p : Place) (c : Command) (h : Held) (v : ℕ) (cause : Cause) → line_t
 anew (place.Access (Fault p)) (Access gfn word op) h v cause is = fault_anew p gfn word op h v cause is
 anew p c h v cause is = plain_anew p (outcome_at p c h v) cause is
 
-pub retry_goes : (cause : Cause) (actor : ℕ) (h g : Held) (told tells : Told) (T : TurnsLine (Retry cause) actor h g told tells) → (q : Place) × (outcome_of h T.makes.found ≡ outcome.Goes q)
-retry_goes cause actor h g told tells T = (place.Access (Enter false), (anew (place_at h.state.place h) (line_of h).command h T.makes.found cause (sym T.gives.1)).is)
+pub retry_goes : (cause : Cause) (before after : Seat) (T : TurnsLine (Retry cause) before after)
+    → (q : Place) × (outcome_of before.hand T.makes.found ≡ outcome.Goes q)
+retry_goes cause before after T =
+    let h : Held = before.hand in
+    (place.Access (Enter false), (anew (place_at h.state.place h) (line_of h).command h T.makes.found cause (sym T.gives.1)).is)
 
 -- Where it begins anew it has more steps left than before.
-at_end : (q : Place) (z : Sizes) (slots : MemorySlots) (c : Command) (e : FaultEnd) (t : Topics) → standing q z slots c ≡ place.Access (Fault (fault.End e)) → steps_left q z t ≡ 10
-at_end place.Between z slots (Access gfn word op) e t is = absurd (cc is)
-at_end (place.Access p) z slots c e t is = ap (λ (q : Place). steps_left q z t) is
-at_end _ z slots _ e t is = absurd (cc is)
-
-pub retry_has_more : (cause : Cause) (actor : ℕ) (h g : Held) (told tells : Told) → length h.answers < length h.lines → TurnsLine (Retry cause) actor h g told tells → hand_left h < hand_left g
-retry_has_more cause actor h g told tells left T =
+pub retry_has_more : (cause : Cause) (before after : Seat) → length before.hand.answers < length before.hand.lines → TurnsLine (Retry cause) before after
+    → hand_left before.hand < hand_left after.hand
+retry_has_more cause before after left T =
+    let h : Held = before.hand in
+    let g : Held = after.hand in
     let v : ℕ = T.makes.found in
     let B = anew (place_at h.state.place h) (line_of h).command h v cause (sym T.gives.1) in
-    let few : hand_left h ≡ 10 = at_end h.state.place h.state.sizes h.slots (line_of h).command B.end h.topics B.at in
+    let few : hand_left h ≡ 10 = ap (λ (q : Place). steps_left q h.state.sizes h.topics) B.at in
     let at : g.state.place ≡ place.Access (Enter false) = ap (λ (x : Held). x.state.place) (T.makes.hand ∙ next_of_line h T.makes.kind v (has_line_is h left)) ∙ ap place_after B.is in
-    let many : hand_left g ≡ steps_left (place.Access (Enter false)) g.state.sizes g.topics = ap (λ (q : Place). steps_left q g.state.sizes g.topics) at in
+    let many : hand_left g ≡ steps_left (place.Access (Enter false)) g.state.sizes g.topics =
+    ap (λ (q : Place). steps_left (place_at q g) g.state.sizes g.topics) at in
     omega (arith, few, many)
+
+-- What a turn made of a seat it made of one whose actor, hand and world are the same, whatever its room.
+pub turns_from : (turn : Turn Answer) (before here after : Seat) → here.actor ≡ before.actor → here.hand ≡ before.hand → here.tells ≡ before.tells
+    → TurnsLine turn here after → TurnsLine turn before after
+turns_from turn before here after actor hand tells T =
+    let M = T.makes in
+    record {
+      makes = record {
+        kind = M.kind;
+        found = M.found;
+        enabled = rw hand at M.enabled;
+        hand = rw hand at M.hand;
+        world = rw (tells, actor) at M.world;
+        steps = rw (tells, actor) at M.steps;
+        answers = rw (tells, actor, hand) at M.answers;
+      };
+      gives = rw hand at T.gives;
+    }

@@ -6,22 +6,21 @@ use Rattle.core_views.specs.Held.{Held}
 use Rattle.part_steps.specs.declared.part_step.PartStep.{PartStep}
 use Rattle.mmu_core.specs.machine.MayMake.{MayMake}
 use Rattle.part_steps.specs.PartTasks.{part_kind}
-use Rattle.mmu_core.specs.machine.Steps.{next}
 use Rattle.mmu_core.proofs.machine.NextTopics.{topics_behind}
-use Rattle.step_seats.specs.Moves.{Adds, Tells}
+use Rattle.step_seats.specs.Acts.{Acts}
 use Rattle.step_seats.specs.PartTurns.{MadePart}
-use Rattle.step_seats.specs.Where.{AnsweredThere, HasHand, Told}
+use Rattle.step_seats.specs.Seats.{Seat}
+use Rattle.step_seats.specs.Where.{HasHand}
 
-pub made_part : (step : PartStep) (note found actor : ℕ) (before after : Held) (told tells : Told) (k : Kind) → k ≡ part_kind before step note → MayMake step note before → after ≡ next before k found
-    → IfSome told.world (HasHand actor before) → Tells told.world actor k found tells.world → Adds told.steps actor k tells.steps → AnsweredThere k found actor before after told
-    → MadePart step note found actor before after told tells
-made_part step note found actor before after told tells k is may made has world steps answers =
-    let hand : after ≡ next before (part_kind before step note) found = made ∙ ap (λ (x : Kind). next before x found) is in
+pub made_part : (step : PartStep) (note found : ℕ) (before after : Seat) (k : Kind) → k ≡ part_kind before.hand step note → MayMake step note before.hand
+    → IfSome before.tells.world (HasHand before.actor before.hand) → Acts k found before after → MadePart step note found before after
+made_part step note found before after k is may has acts =
+    let A : Acts (part_kind before.hand step note) found before after = subst (λ (x : Kind). Acts x found before after) is acts in
     record {
-      hand = hand;
-      topics = ap (λ (h : Held). h.topics) hand ∙ topics_behind before step note found may.needs;
+      hand = A.hand;
+      topics = ap (λ (h : Held). h.topics) A.hand ∙ topics_behind before.hand step note found may.needs;
       has = has;
-      world = subst (λ (x : Kind). Tells told.world actor x found tells.world) is world;
-      steps = subst (λ (x : Kind). Adds told.steps actor x tells.steps) is steps;
-      answers = subst (λ (x : Kind). AnsweredThere x found actor before after told) is answers;
+      world = A.world;
+      steps = A.steps;
+      answers = A.answers;
     }

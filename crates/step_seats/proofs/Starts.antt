@@ -2,7 +2,7 @@
 use Rattle.std.proofs.Common.{refl, zero, suc, slice_index_or, All, ◌≡◌, ◌<◌, ◌≤◌, ◌+◌, ◌++◌, ◌⊎◌, inl, inr, ℕ, List, [], ◌∷◌, length, length-append, slice_index, ◌∙◌, ap, sym, subst, arith}
 use Rattle.std.specs.Prelude.{◌==◌}
 use Rattle.std.specs.List.{IsDistinct}
-use Rattle.std.proofs.Math.ListN.{get_or-append}
+use Rattle.std.proofs.Math.ListN.{get_or-append, length-map}
 use Rattle.std.proofs.Math.Seq.{get_or-append_seam}
 use Rattle.std.proofs.lemmas.Bool.{cases_lt}
 use Rattle.std.proofs.lemmas.Bool.Decides.{nat_tests}
@@ -10,6 +10,8 @@ use Rattle.core_views.specs.declared.sizes.Sizes.{Sizes}
 use Rattle.core_views.specs.declared.trace.Line.{Line}
 use Rattle.core_views.specs.declared.trace.Trace.{Trace}
 use Rattle.core_views.specs.Held.{Held, Handful, first_held}
+use Rattle.core_views.specs.declared.place.Place.TheVariants.{Between}
+use Rattle.mmu_core.specs.lines.Rests.{IsUnderWay}
 use Rattle.core_views.specs.Sizes.{AreSizes, actor_at, actors_of, sizes_of}
 use Rattle.core_views.specs.Traces.{IsCommandFor, IsTrace}
 use Rattle.core_views.specs.Whole.{lines_of}
@@ -26,7 +28,7 @@ use Rattle.spte_words.specs.declared.word_map.WordMap.{WordMap}
 use Rattle.spte_words.specs.Areas.{place, size_of, total}
 use Rattle.spte_words.proofs.Places.{place_below, places_apart}
 use Rattle.step_seats.specs.Machines.{IsMachine}
-use Rattle.step_seats.specs.Moves.{core_of, cores_of, handful_in, world_of}
+use Rattle.step_seats.specs.Moves.{EachHasRoom, core_of, cores_of, handful_in, world_of}
 
 pub least_rises : (n a b : ℕ) → a ≤ b → least n a ≤ least n b
 least_rises n a b le = grind (arith, nat_tests)
@@ -34,12 +36,14 @@ least_rises n a b le = grind (arith, nat_tests)
 -- The words below a place are those of the start, and there are no others.
 pub record StartsBelow (z : Sizes) (word : ℕ) (words : List ℕ) : Type 0 where
   pub count : length words ≡ word
-  pub each : (area : Area) (i : ℕ) → i < size_of (map_of z) area → place (map_of z) area i < word → slice_index words (place (map_of z) area i) ≡ start_word z area i
+  pub each : (area : Area) (i : ℕ) → i < size_of (map_of z) area → place (map_of z) area i < word
+      → slice_index words (place (map_of z) area i) ≡ start_word z area i
 
 pub none_below : (z : Sizes) → StartsBelow z 0 []
 none_below z = record { count = cc; each = λ area i within below. absurd (omega arith) }
 
-pub one_more : (z : Sizes) (word : ℕ) (words : List ℕ) (area : Area) (i n : ℕ) → StartsBelow z word words → i < size_of (map_of z) area → place (map_of z) area i ≡ word → n ≡ start_word z area i → StartsBelow z (word + 1) (words ++ n ∷ [])
+pub one_more : (z : Sizes) (word : ℕ) (words : List ℕ) (area : Area) (i n : ℕ) → StartsBelow z word words → i < size_of (map_of z) area
+    → place (map_of z) area i ≡ word → n ≡ start_word z area i → StartsBelow z (word + 1) (words ++ n ∷ [])
 one_more z word words area i n made within at is = record { count = omega (arith, length-append words (n ∷ []), made.count); each = each }
   where
     m : WordMap
@@ -62,9 +66,11 @@ one_more z word words area i n made within at is = record { count = omega (arith
         order (inr le) = same (places_apart m a area j i inside within (omega (arith, le, below, at)))
 
 pub all_made : (z : Sizes) (word : ℕ) (words : List ℕ) → word ≡ total (map_of z) → StartsBelow z word words → AreStartWords z words
-all_made z word words all made = record { count = made.count ∙ all; each = λ area i within. made.each area i within (omega (arith, all, place_below (map_of z) area i within)) }
+all_made z word words all made =
+    record { count = made.count ∙ all; each = λ area i within. made.each area i within (omega (arith, all, place_below (map_of z) area i within)) }
 
-hand_among : (z : Sizes) (lines : List Line) (n i : ℕ) (d : Held) → i < n → slice_index_or (start_hands z lines n) i d ≡ first_held z (actor_at z i) (lines_of (actor_at z i) lines)
+hand_among : (z : Sizes) (lines : List Line) (n i : ℕ) (d : Held) → i < n
+    → slice_index_or (start_hands z lines n) i d ≡ first_held z (actor_at z i) (lines_of (actor_at z i) lines)
 hand_among z lines zero i d lt = absurd (omega arith)
 hand_among z lines (suc n) i d lt = order (λ below. hand_among z lines n i d below) (cases_lt i n)
   where
@@ -84,8 +90,10 @@ hand_among z lines (suc n) i d lt = order (λ below. hand_among z lines n i d be
         last (omega (arith, same, count_at_start z lines n)) ∙ ap hand_at (sym same)
 
 -- At the start each actor holds its lines, and nothing else.
-pub hand_at_start : (z : Sizes) (lines : List Line) (words : List ℕ) (hands : List Handful) (i : ℕ) → IsStart z lines (world_of words hands) → i < actors_of z → core_of (handful_in hands i) ≡ first_held z (actor_at z i) (lines_of (actor_at z i) lines)
-hand_at_start z lines words hands i start there = core_at words hands i ∙ (ap (λ (x : List Held). slice_index_or x i nobody) start.hands ∙ hand_among z lines (actors_of z) i nobody there)
+pub hand_at_start : (z : Sizes) (lines : List Line) (words : List ℕ) (hands : List Handful) (i : ℕ) → IsStart z lines (world_of words hands)
+    → i < actors_of z → core_of (handful_in hands i) ≡ first_held z (actor_at z i) (lines_of (actor_at z i) lines)
+hand_at_start z lines words hands i start there =
+    core_at words hands i ∙ (ap (λ (x : List Held). slice_index_or x i nobody) start.hands ∙ hand_among z lines (actors_of z) i nobody there)
 
 -- Of one ID at most none is there twice.
 pub one_is_distinct : (ids : List ℕ) → length ids ≤ 1 → IsDistinct (λ i j. i == j) ids
@@ -94,21 +102,29 @@ one_is_distinct [] few = tt
 one_is_distinct (i ∷ []) few = (tt, tt)
 one_is_distinct (i ∷ j ∷ ids) few = absurd (omega (arith, few))
 
+-- At the start no line is under way.
+none_under_way : (z : Sizes) (lines : List Line) (words : List ℕ) (hands : List Handful) → IsStart z lines (world_of words hands) → EachHasRoom hands
+none_under_way z lines words hands start = λ i there.
+    let count : length hands ≡ actors_of z =
+    sym (length-map hands core_of) ∙ ap (λ (hs : List Held). length hs) start.hands ∙ count_at_start z lines (actors_of z) in
+    let idle : (handful_in hands i).core.state.place ≡ Between =
+    ap (λ (h : Held). h.state.place) (hand_at_start z lines words hands i start (omega (arith, count, there))) in
+    λ under. absurd (subst IsUnderWay idle under)
+
 -- The words and hands of a trace's start are a machine.
-pub machine_at_start : (t : Trace) (z : Sizes) (words : List ℕ) (hands : List Handful) → IsTrace t → z ≡ sizes_of t.header → AreStartWords z words → cores_of hands ≡ start_hands z t.lines (actors_of z) → IsMachine z words hands
+pub machine_at_start : (t : Trace) (z : Sizes) (words : List ℕ) (hands : List Handful) → IsTrace t → z ≡ sizes_of t.header → AreStartWords z words
+    → cores_of hands ≡ start_hands z t.lines (actors_of z) → IsMachine z words hands
 machine_at_start t z words hands trace sizes made dealt = record {
-  reached = record {
-    sizes = z;
-    lines = t.lines;
-    start = world_of words hands;
-    is_start = record {
+  reached = record { sizes = z; lines = t.lines; start = world_of words hands; is_start = starts; leads = stays mmu (world_of words hands) };
+  sizes = refl;
+  room = none_under_way z t.lines words hands starts;
+}
+  where
+    starts : IsStart z t.lines (world_of words hands)
+    starts = record {
       sizes = subst AreSizes (sym sizes) (header_sizes t.header trace.header);
       allowed = subst (λ x. All (λ line. IsCommandFor x line.actor line.command) t.lines) (sym sizes) trace.lines;
       distinct = trace.distinct;
       words = made;
       hands = dealt;
-    };
-    leads = stays mmu (world_of words hands);
-  };
-  sizes = refl;
-}
+    }

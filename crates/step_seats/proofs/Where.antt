@@ -13,7 +13,8 @@ use Rattle.mmu_core.proofs.machine.Extend.{goes_on, hands_of_effect}
 use Rattle.mmu_core.proofs.machine.LineRuns.{own_hand}
 use Rattle.step_seats.specs.Moves.{Tells, step_by}
 use Rattle.step_seats.specs.PartTurns.{MadePart}
-use Rattle.step_seats.specs.Where.{AnsweredThere, HasHand, IsMadeIn, OfMade, OfWorld, Told, WhereMade}
+use Rattle.step_seats.specs.Seats.{Seat}
+use Rattle.step_seats.specs.Where.{AnsweredThere, HasHand, IsMadeIn, OfMade, OfWorld, WhereMade}
 
 -- the world that a step leads to from one in which it may be made
 abbrev pub after_step : Kind → ℕ → World Held → World Held
@@ -27,50 +28,58 @@ has_after k a h g w M = record {
   is = own_hand w (step_by a k) M.has.there ∙ ap (λ (x : Held). next x k (answered mmu w k)) M.has.is ∙ sym M.hand;
 }
 
--- the seat that tells this world alone
-abbrev pub only : World Held → Told
-only w = record { world = Some w; steps = None }
+-- the seat, if it told this world alone
+abbrev pub telling : World Held → Seat → Seat
+telling w s = record s { tells = record { world = Some w; steps = None } }
 
 -- What follows from the step and its answer, of each world in which it may have been made, holds where the step was made.
-pub where_answered : (k : Kind) (found a : ℕ) (h g : Held) (told : Told) {Q : World Held → Type 0} → AnsweredThere k found a h g told
-    → ((w : World Held) → IsMadeIn k a h g w → answered mmu w k ≡ found → Q w) → OfMade told.world k a h g Q
-where_answered k found a h g told {Q = Q} there each = of_made told.world there
+pub where_answered : (k : Kind) (found : ℕ) (before after : Seat) {Q : World Held → Type 0} → AnsweredThere k found before after
+    → ((w : World Held) → IsMadeIn k before.actor before.hand after.hand w → answered mmu w k ≡ found → Q w)
+    → OfMade before.tells.world k before.actor before.hand after.hand Q
+where_answered k found before after {Q = Q} there each = of_made before.tells.world there
   where
-    of_made : (x : Option (World Held)) → OfWorld x (λ w. IsMadeIn k a h g w × (answered mmu w k ≡ found)) → OfMade x k a h g Q
+    of_made : (x : Option (World Held)) → OfWorld x (λ w. IsMadeIn k before.actor before.hand after.hand w × (answered mmu w k ≡ found))
+        → OfMade x k before.actor before.hand after.hand Q
     of_made (Some w) p = (p.0, each w p.0 p.1)
     of_made None p = record { found = found; some = p; each = each }
 
-pub where_made : {step : PartStep} {note found a : ℕ} {h g : Held} {told tells : Told} {Q : World Held → Type 0} → MadePart step note found a h g told tells
-    → ((w : World Held) → MadePart step note found a h g (only w) (only (after_step (part_kind h step note) a w)) → HasHand a g (after_step (part_kind h step note) a w) → Q w)
-    → OfMade told.world (part_kind h step note) a h g Q
-where_made {step = step} {note = note} {found = found} {a = a} {h = h} {g = g} {told = told} {Q = Q} made each =
-    where_answered (part_kind h step note) found a h g told {Q = Q} made.answers
+pub where_made : {step : PartStep} {note found : ℕ} {before after : Seat} {Q : World Held → Type 0} → MadePart step note found before after
+    → ((w : World Held) → MadePart step note found (telling w before) (telling (after_step (part_kind before.hand step note) before.actor w) after)
+    → HasHand before.actor after.hand (after_step (part_kind before.hand step note) before.actor w) → Q w)
+    → OfMade before.tells.world (part_kind before.hand step note) before.actor before.hand after.hand Q
+where_made {step = step} {note = note} {found = found} {before = before} {after = after} {Q = Q} made each =
+    where_answered (part_kind before.hand step note) found before after {Q = Q} made.answers
     (λ w there is. each w
     (record { hand = made.hand; topics = made.topics; has = there.has; world = (there.may, is, refl); steps = refl; answers = (there, is) })
-    (has_after (part_kind h step note) a h g w there))
+    (has_after (part_kind before.hand step note) before.actor before.hand after.hand w there))
 
 -- a fact of the world that was told before a step and of the one that is told after it, where both are told
 abbrev pub ToldBoth : Option (World Held) → Option (World Held) → (World Held → World Held → Type 0) → Type 0
 ToldBoth before after P = IfSome before (λ w. IfSome after (λ t. P w t))
 
 -- Where the worlds are told, what holds where the step was made holds of them.
-pub where_told : (k : Kind) (a found : ℕ) (h g : Held) (told tells : Told) (P : World Held → World Held → Type 0) → Tells told.world a k found tells.world → WhereMade k a h g told P → ToldBoth told.world tells.world P
-where_told k a found h g told tells P moves holds = both told.world tells.world moves holds
+pub where_told : (k : Kind) (found : ℕ) (before after : Seat) (P : World Held → World Held → Type 0)
+    → Tells before.tells.world before.actor k found after.tells.world
+    → WhereMade k before after P → ToldBoth before.tells.world after.tells.world P
+where_told k found before after P moves holds = both before.tells.world after.tells.world moves holds
   where
-    both : (x y : Option (World Held)) → Tells x a k found y → OfMade x k a h g (λ w. P w (after_step k a w)) → ToldBoth x y P
+    both : (x y : Option (World Held)) → Tells x before.actor k found y
+        → OfMade x k before.actor before.hand after.hand (λ w. P w (after_step k before.actor w)) → ToldBoth x y P
     both None y m p = tt
     both (Some w) y m p = subst (λ o. IfSome o (P w)) (sym m.2) p.1
 
-pub where_told_before : (k : Kind) (a : ℕ) (h g : Held) (told : Told) (P : World Held → Type 0) → WhereMade k a h g told (λ w t. P w) → IfSome told.world P
-where_told_before k a h g told P holds = before told.world holds
+pub where_told_before : (k : Kind) (before after : Seat) (P : World Held → Type 0) → WhereMade k before after (λ w t. P w) → IfSome before.tells.world P
+where_told_before k before after P holds = there before.tells.world holds
   where
-    before : (x : Option (World Held)) → OfMade x k a h g P → IfSome x P
-    before None p = tt
-    before (Some w) p = p.1
+    there : (x : Option (World Held)) → OfMade x k before.actor before.hand after.hand P → IfSome x P
+    there None p = tt
+    there (Some w) p = p.1
 
-pub where_told_after : (k : Kind) (a found : ℕ) (h g : Held) (told tells : Told) (P : World Held → Type 0) → Tells told.world a k found tells.world → WhereMade k a h g told (λ w t. P t) → IfSome tells.world P
-where_told_after k a found h g told tells P moves holds = after told.world tells.world moves holds
+pub where_told_after : (k : Kind) (found : ℕ) (before after : Seat) (P : World Held → Type 0) → Tells before.tells.world before.actor k found after.tells.world
+    → WhereMade k before after (λ w t. P t) → IfSome after.tells.world P
+where_told_after k found before after P moves holds = there before.tells.world after.tells.world moves holds
   where
-    after : (x y : Option (World Held)) → Tells x a k found y → OfMade x k a h g (λ w. P (after_step k a w)) → IfSome y P
-    after None y m p = subst (λ o. IfSome o P) (sym m) tt
-    after (Some w) y m p = subst (λ o. IfSome o P) (sym m.2) p.1
+    there : (x y : Option (World Held)) → Tells x before.actor k found y
+        → OfMade x k before.actor before.hand after.hand (λ w. P (after_step k before.actor w)) → IfSome y P
+    there None y m p = subst (λ o. IfSome o P) (sym m) tt
+    there (Some w) y m p = subst (λ o. IfSome o P) (sym m.2) p.1

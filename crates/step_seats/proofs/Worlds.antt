@@ -18,7 +18,8 @@ use Rattle.step_seats.specs.Machines.{IsMachine, Machine, world_in}
 use Rattle.std.proofs.lemmas.Grind.{merely}
 use Rattle.step_seats.specs.Frames.{frame_of, other_rooms, room_of}
 use Rattle.step_seats.specs.Where.{HasHand, IsMadeIn}
-use Rattle.step_seats.specs.Moves.{core_of, handful_in, no_hand, step_by, world_of}
+use Rattle.step_seats.specs.Moves.{HasItsRoom, core_of, handful_in, no_hand, step_by, world_of}
+use Rattle.step_seats.proofs.Rooms.{set_has_room}
 
 pub core_at : (words : List ℕ) (hands : List Handful) (i : ℕ) → core_of (handful_in hands i) ≡ hand_in mmu (world_of words hands) i
 core_at words hands i = sym (get_or-map core_of hands i no_hand)
@@ -31,14 +32,18 @@ cores_set [] i h = refl
 cores_set (x ∷ hands) zero h = refl
 cores_set (x ∷ hands) (suc i) h = ap (λ t. core_of x ∷ t) (cores_set hands i h)
 
-may_step : (z : Sizes) (words : List ℕ) (hands : List Handful) (i : ℕ) (k : Kind) → IsMachine z words hands → i < length hands → Enabled (core_of (handful_in hands i)) k → May mmu (world_of words hands) (step_by i k)
+may_step : (z : Sizes) (words : List ℕ) (hands : List Handful) (i : ℕ) (k : Kind) → IsMachine z words hands → i < length hands
+    → Enabled (core_of (handful_in hands i)) k → May mmu (world_of words hands) (step_by i k)
 may_step z words hands i k machine there enabled =
     let can : Enabled (hand_in mmu (world_of words hands) i) k = subst (λ h. Enabled h k) (core_at words hands i) enabled in
     record { there = there_too hands i there; enabled = can; inside = enabled_inside (world_of words hands) machine.reached i k (there_too hands i there) can }
 
-world_after : (words : List ℕ) (hands : List Handful) (i : ℕ) (k : Kind) (h : Handful) → core_of h ≡ next (hand_in mmu (world_of words hands) i) k (answer k (slice_index words k.word)) → world_of (slice_set words k.word (after k (slice_index words k.word))) (slice_set hands i h) ≡ effect mmu (world_of words hands) (step_by i k)
+world_after : (words : List ℕ) (hands : List Handful) (i : ℕ) (k : Kind) (h : Handful)
+    → core_of h ≡ next (hand_in mmu (world_of words hands) i) k (answer k (slice_index words k.word))
+    → world_of (slice_set words k.word (after k (slice_index words k.word))) (slice_set hands i h) ≡ effect mmu (world_of words hands) (step_by i k)
 unfolding effect
-world_after words hands i k h made = ap (λ t. record { words = slice_set words k.word (after k (slice_index words k.word)); hands = t }) (cores_set hands i h ∙ ap (slice_set (map core_of hands) i) made)
+world_after words hands i k h made =
+    ap (λ t. record { words = slice_set words k.word (after k (slice_index words k.word)); hands = t }) (cores_set hands i h ∙ ap (slice_set (map core_of hands) i) made)
 
 -- the value of a machine with these fields
 abbrev pub machine_of : Sizes → List ℕ → List Handful → Machine
@@ -78,14 +83,17 @@ stepped_inside z words hands i k was n v before h machine there enabled read han
       };
     }
 
-pub there_inside : (z : Sizes) (words : List ℕ) (hands : List Handful) (m : Machine) (i : ℕ) → machine_of z words hands ≡ m → i < length m.hands → i < length hands
+pub there_inside : (z : Sizes) (words : List ℕ) (hands : List Handful) (m : Machine) (i : ℕ) → machine_of z words hands ≡ m → i < length m.hands
+    → i < length hands
 there_inside z words hands m i view there = subst (λ (x : Machine). i < length x.hands) (sym view) there
 
-enabled_in : (z : Sizes) (words : List ℕ) (hands : List Handful) (m : Machine) (i : ℕ) (k : Kind) → machine_of z words hands ≡ m → Enabled (core_of (handful_in m.hands i)) k → Enabled (core_of (handful_in hands i)) k
+enabled_in : (z : Sizes) (words : List ℕ) (hands : List Handful) (m : Machine) (i : ℕ) (k : Kind) → machine_of z words hands ≡ m
+    → Enabled (core_of (handful_in m.hands i)) k → Enabled (core_of (handful_in hands i)) k
 enabled_in z words hands m i k view enabled = subst (λ (x : Machine). Enabled (core_of (handful_in x.hands i)) k) (sym view) enabled
 
 -- The step that a hand of the machine m allows is at one of its words.
-pub word_inside : (z : Sizes) (words : List ℕ) (hands : List Handful) (m : Machine) (i : ℕ) (k : Kind) → IsMachine z words hands → machine_of z words hands ≡ m → i < length m.hands → Enabled (core_of (handful_in m.hands i)) k → k.word < length words
+pub word_inside : (z : Sizes) (words : List ℕ) (hands : List Handful) (m : Machine) (i : ℕ) (k : Kind) → IsMachine z words hands
+    → machine_of z words hands ≡ m → i < length m.hands → Enabled (core_of (handful_in m.hands i)) k → k.word < length words
 word_inside z words hands m i k machine view there enabled =
     let may = may_step z words hands i k machine (there_inside z words hands m i view there) (enabled_in z words hands m i k view enabled) in
     may.inside
@@ -110,45 +118,63 @@ step_made z words hands m i k was n v before h machine view there enabled read h
     subst (λ x. Stepped x words hands i k n v h) view (stepped_inside z words hands i k was n v before h machine lt (enabled_in z words hands m i k view enabled) word old_ stored told made)
 
 -- A step leaves a machine.
-pub machine_after : (z : Sizes) (words : List ℕ) (hands : List Handful) (m : Machine) (i : ℕ) (k : Kind) (n v : ℕ) (h : Handful) → IsMachine z words hands → machine_of z words hands ≡ m → Stepped m words hands i k n v h → IsMachine z (slice_set words k.word n) (slice_set hands i h)
-machine_after z words hands m i k n v h machine view s =
+pub machine_after : (z : Sizes) (words : List ℕ) (hands : List Handful) (m : Machine) (i : ℕ) (k : Kind) (n v : ℕ) (h : Handful) → IsMachine z words hands
+    → machine_of z words hands ≡ m
+    → i < length m.hands → HasItsRoom h.core h.room → Stepped m words hands i k n v h → IsMachine z (slice_set words k.word n) (slice_set hands i h)
+machine_after z words hands m i k n v h machine view there room s =
     let r = machine.reached in
     let before : Leads mmu r.start (world_in m) = subst (λ (x : Machine). Leads mmu r.start (world_in x)) view r.leads in
     let further = goes_on mmu r.start (world_in m) (step_by i k) before s.may in
     record {
       reached = record { sizes = r.sizes; lines = r.lines; start = r.start; is_start = r.is_start; leads = subst (λ w. Leads mmu r.start w) (sym s.leaves) further };
       sizes = machine.sizes;
+      room = set_has_room hands i h (there_inside z words hands m i view there) machine.room room;
     }
 
 -- A hand of a machine is reached.
-pub hand_reached : (z : Sizes) (words : List ℕ) (hands : List Handful) (m : Machine) (i : ℕ) → IsMachine z words hands → machine_of z words hands ≡ m → i < length m.hands → HandReached (core_of (handful_in m.hands i))
+pub hand_reached : (z : Sizes) (words : List ℕ) (hands : List Handful) (m : Machine) (i : ℕ) → IsMachine z words hands → machine_of z words hands ≡ m
+    → i < length m.hands → HandReached (core_of (handful_in m.hands i))
 hand_reached z words hands m i machine view there =
     let inside : HandReached (core_of (handful_in hands i)) = record { world = world_of words hands; actor = i; reached = machine.reached; there = there_too hands i (there_inside z words hands m i view there); has = sym (core_at words hands i) } in
     subst (λ (x : Machine). HandReached (core_of (handful_in x.hands i))) view inside
 
+-- What the hand at a place has under way has its room.
+pub has_room : (z : Sizes) (words : List ℕ) (hands : List Handful) (m : Machine) (i : ℕ) → IsMachine z words hands → machine_of z words hands ≡ m
+    → i < length m.hands
+    → HasItsRoom (handful_in m.hands i).core (handful_in m.hands i).room
+has_room z words hands m i machine view there =
+    subst (λ (x : Machine). HasItsRoom (handful_in x.hands i).core (handful_in x.hands i).room) view
+    (machine.room i (there_inside z words hands m i view there))
+
 -- The machine's world is reached, and has this hand.
-pub has_hand : (z : Sizes) (words : List ℕ) (hands : List Handful) (m : Machine) (i : ℕ) → IsMachine z words hands → machine_of z words hands ≡ m → i < length m.hands → HasHand i (core_of (handful_in m.hands i)) (world_in m)
+pub has_hand : (z : Sizes) (words : List ℕ) (hands : List Handful) (m : Machine) (i : ℕ) → IsMachine z words hands → machine_of z words hands ≡ m
+    → i < length m.hands → HasHand i (core_of (handful_in m.hands i)) (world_in m)
 has_hand z words hands m i machine view there =
     let inside : HasHand i (core_of (handful_in hands i)) (world_of words hands) = record { reached = merely machine.reached; there = there_too hands i (there_inside z words hands m i view there); is = sym (core_at words hands i) } in
     subst (λ (x : Machine). HasHand i (core_of (handful_in x.hands i)) (world_in x)) view inside
 
 -- The world is as it was where a hand takes the place of one that holds the same.
-pub world_same : (z : Sizes) (words : List ℕ) (hands : List Handful) (m : Machine) (i : ℕ) (before h : Handful) → machine_of z words hands ≡ m → i < length m.hands → before ≡ slice_index_or hands i before → core_of h ≡ core_of before → world_of words (slice_set hands i h) ≡ world_in m
+pub world_same : (z : Sizes) (words : List ℕ) (hands : List Handful) (m : Machine) (i : ℕ) (before h : Handful) → machine_of z words hands ≡ m
+    → i < length m.hands → before ≡ slice_index_or hands i before → core_of h ≡ core_of before → world_of words (slice_set hands i h) ≡ world_in m
 world_same z words hands m i before h view there hand same =
     let old_ : before ≡ handful_in hands i = get_or_read hands i before (there_inside z words hands m i view there) hand no_hand in
     ap (λ t. record { words = words; hands = t }) (map-set_same core_of hands i h no_hand (same ∙ ap core_of old_)) ∙ ap world_in view
 
-pub machine_same : (z : Sizes) (words : List ℕ) (hands : List Handful) (m : Machine) (i : ℕ) (h : Handful) → IsMachine z words hands → machine_of z words hands ≡ m → world_of words (slice_set hands i h) ≡ world_in m → IsMachine z words (slice_set hands i h)
-machine_same z words hands m i h machine view same =
+pub machine_same : (z : Sizes) (words : List ℕ) (hands : List Handful) (m : Machine) (i : ℕ) (h : Handful) → IsMachine z words hands
+    → machine_of z words hands ≡ m
+    → i < length m.hands → HasItsRoom h.core h.room → world_of words (slice_set hands i h) ≡ world_in m → IsMachine z words (slice_set hands i h)
+machine_same z words hands m i h machine view there room same =
     let r = machine.reached in
     let before : Leads mmu r.start (world_in m) = subst (λ (x : Machine). Leads mmu r.start (world_in x)) view r.leads in
     record {
       reached = record { sizes = r.sizes; lines = r.lines; start = r.start; is_start = r.is_start; leads = subst (λ w. Leads mmu r.start w) (sym same) before };
       sizes = machine.sizes;
+      room = set_has_room hands i h (there_inside z words hands m i view there) machine.room room;
     }
 
 -- A machine has a hand for each of its actors.
-pub count_of_hands : (z : Sizes) (words : List ℕ) (hands : List Handful) (m : Machine) → IsMachine z words hands → machine_of z words hands ≡ m → length m.hands ≡ actors_of m.sizes
+pub count_of_hands : (z : Sizes) (words : List ℕ) (hands : List Handful) (m : Machine) → IsMachine z words hands → machine_of z words hands ≡ m
+    → length m.hands ≡ actors_of m.sizes
 count_of_hands z words hands m machine view =
     let r = machine.reached in
     let count = as_many_as_actors r.sizes r.lines r.start (world_of words hands) r.is_start r.leads in
@@ -164,9 +190,11 @@ other_rooms_same hands behind i h is = ap (λ (hs : List Handful). other_rooms h
     set_again (x ∷ hs) zero = refl
     set_again (x ∷ hs) (suc k) = ap (λ t. room_of x ∷ t) (set_again hs k)
 
-pub frame_same : (name : ℕ) (before behind : Machine) (i : ℕ) (h : Handful) → behind.sizes ≡ before.sizes → behind.hands ≡ slice_set before.hands i h → frame_of name behind i ≡ frame_of name before i
+pub frame_same : (name : ℕ) (before behind : Machine) (i : ℕ) (h : Handful) → behind.sizes ≡ before.sizes → behind.hands ≡ slice_set before.hands i h
+    → frame_of name behind i ≡ frame_of name before i
 frame_same name before behind i h sizes hands = λ t. record { borrowed = name; sizes = sizes t; rooms = other_rooms_same before.hands behind.hands i h hands t }
 
 -- the invariant, of the machine as it is seen
-pub machine_reached : (z : Sizes) (words : List ℕ) (hands : List Handful) (m : Machine) → IsMachine z words hands → machine_of z words hands ≡ m → IsMachine m.sizes m.words m.hands
+pub machine_reached : (z : Sizes) (words : List ℕ) (hands : List Handful) (m : Machine) → IsMachine z words hands → machine_of z words hands ≡ m
+    → IsMachine m.sizes m.words m.hands
 machine_reached z words hands m machine view = subst (λ (x : Machine). IsMachine x.sizes x.words x.hands) view machine

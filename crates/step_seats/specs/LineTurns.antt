@@ -20,13 +20,14 @@ use Rattle.mmu_core.specs.lines.AccessSteps.{behind_fault}
 use Rattle.mmu_core.specs.machine.Enabled.{Enabled}
 use Rattle.mmu_core.specs.lines.FaultSteps.{fault_next}
 use Rattle.mmu_core.specs.alone.LineAlone.{line_waits}
-use Rattle.mmu_core.specs.lines.PartAt.{part_at}
+use Rattle.mmu_core.specs.lines.Forms.{part_at, outcome_at}
 use Rattle.mmu_core.specs.lines.PartWaits.{part_seen}
 use Rattle.part_steps.specs.declared.part_step.PartStep.{PartStep}
-use Rattle.mmu_core.specs.machine.Steps.{next, outcome_at, place_at}
+use Rattle.mmu_core.specs.machine.Steps.{next, place_at}
 use Rattle.mmu_core.specs.machine.Turns.{GoesOn, IsAnswered, line_of}
 use Rattle.step_seats.specs.Moves.{Adds, Tells}
-use Rattle.step_seats.specs.Where.{AnsweredThere, Told}
+use Rattle.step_seats.specs.Seats.{Seat}
+use Rattle.step_seats.specs.Where.{AnsweredThere}
 use Rattle.step_seats.specs.declared.turn.Turn.{Turn}
 use Rattle.step_seats.specs.declared.turn.Turn.TheVariants.{More, Wait, Retry, Done}
 
@@ -64,19 +65,26 @@ Gives (Wait seen) waits way t = (waits ≡ true) × (seen ≡ way)
 Gives turn waits way t = (waits ≡ false) × (turn ≡ t)
 
 -- One step that the hand allows takes the actor's hand, and what its seat tells, to the next, and it answered this where it was made.
-pub record MakesLine (actor : ℕ) (before after : Held) (told tells : Told) : Type 0 where
+pub record MakesLine (before after : Seat) : Type 0 where
   pub kind : Kind
   pub found : ℕ
-  pub enabled : Enabled before kind
-  pub hand : after ≡ next before kind found
-  pub world : Tells told.world actor kind found tells.world
-  pub steps : Adds told.steps actor kind tells.steps
-  pub answers : AnsweredThere kind found actor before after told
+  pub enabled : Enabled before.hand kind
+  pub hand : after.hand ≡ next before.hand kind found
+  pub world : Tells before.tells.world before.actor kind found after.tells.world
+  pub steps : Adds before.tells.steps before.actor kind after.tells.steps
+  pub answers : AnsweredThere kind found before after
+
+-- The turn of a hand's next line answers so of a step that found v.
+abbrev pub AnswersBy : Turn Answer → Held → ℕ → Type 0
+AnswersBy turn h v =
+    Gives turn (line_waits (place_at h.state.place h) (line_of h).command h v)
+    (line_seen (place_at h.state.place h) (line_of h).command h v)
+    (line_turn (place_at h.state.place h) (line_of h).command h v)
 
 -- The line's next step was made, and the turn answers by it.
-pub record TurnsLine (turn : Turn Answer) (actor : ℕ) (before after : Held) (told tells : Told) : Type 0 where
-  pub makes : MakesLine actor before after told tells
-  pub gives : Gives turn (line_waits (place_at before.state.place before) (line_of before).command before makes.found) (line_seen (place_at before.state.place before) (line_of before).command before makes.found) (line_turn (place_at before.state.place before) (line_of before).command before makes.found)
+pub record TurnsLine (turn : Turn Answer) (before after : Seat) : Type 0 where
+  pub makes : MakesLine before after
+  pub gives : AnswersBy turn before.hand makes.found
 
 -- what a turn says of its line, and of the hand before and after it
 abbrev pub Says : Turn Answer → Line → Held → Held → Type 0

@@ -1,10 +1,11 @@
 -- The plain machine: its sizes, words and hands, which some steps of its actors lead to from a start.
-use Rattle.std.specs.Prelude.{◌≡◌, ℕ, List}
+use Rattle.std.specs.Prelude.{◌≡◌, ℕ, List, Some, None}
 use Rattle.core_views.specs.declared.sizes.Sizes.{Sizes}
 use Rattle.core_views.specs.Held.{Held, Handful}
 use Rattle.mmu_core.specs.machine.Machine.{World}
 use Rattle.mmu_core.specs.machine.Worlds.{Reachable}
-use Rattle.step_seats.specs.Moves.{world_of}
+use Rattle.step_seats.specs.Moves.{EachHasRoom, handful_in, world_of}
+use Rattle.step_seats.specs.Seats.{Seat}
 
 pub record Machine : Type 0 where
   pub sizes : Sizes
@@ -15,7 +16,18 @@ pub record Machine : Type 0 where
 abbrev pub world_in : Machine → World Held
 world_in m = world_of m.words m.hands
 
--- Some list of steps leads from a start of these sizes to these words and hands.
+-- the seat of the actor at a place: it tells the machine's world, and no steps
+abbrev pub seat_in : Machine → ℕ → Seat
+seat_in m actor =
+    record {
+      actor = actor;
+      hand = (handful_in m.hands actor).core;
+      room = (handful_in m.hands actor).room;
+      tells = record { world = Some (world_in m); steps = None };
+    }
+
+-- Some list of steps leads from a start of these sizes to these words and hands, and what a line under way needs was taken as it began.
 pub record IsMachine (z : Sizes) (words : List ℕ) (hands : List Handful) : Type 0 where
   pub reached : Reachable (world_of words hands)
   pub sizes : reached.sizes ≡ z
+  pub room : EachHasRoom hands

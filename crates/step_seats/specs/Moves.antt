@@ -1,10 +1,12 @@
 -- What one act of a seat does to the world that it tells, and to the steps that it tells.
-use Rattle.std.specs.Prelude.{◌≡◌, ◌+◌, ℕ, List, [], ◌∷◌, ◌++◌, length, map, slice_index_or, Option, Some, None}
+use Rattle.std.specs.Prelude.{◌≡◌, ◌<◌, ◌+◌, ℕ, List, [], ◌∷◌, ◌++◌, length, map, slice_index_or, Option, Some, None}
 use Rattle.core_views.specs.declared.kind.Kind.{Kind}
 use Rattle.core_views.specs.Held.{Held, Handful}
 use Rattle.mmu_core.specs.machine.Machine.{Step, World, May, answered, effect}
 use Rattle.mmu_core.specs.machine.Enabled.{mmu}
 use Rattle.mmu_core.specs.machine.Steps.{nobody}
+use Rattle.mmu_core.specs.lines.Rests.{IsUnderWay}
+use Rattle.step_seats.specs.Seats.{Seat}
 
 abbrev pub step_by : ℕ → Kind → Step Kind
 step_by actor kind = record { actor = actor; kind = kind }
@@ -12,7 +14,8 @@ step_by actor kind = record { actor = actor; kind = kind }
 -- Where the world was told, the actor may make this step there, which answers so, and the world after it is told. Where none was told,
 -- none is told after the step.
 abbrev pub Tells : Option (World Held) → ℕ → Kind → ℕ → Option (World Held) → Type 0
-Tells (Some w) actor kind answer after = May mmu w (step_by actor kind) × (answered mmu w kind ≡ answer) × (after ≡ Some (effect mmu w (step_by actor kind)))
+Tells (Some w) actor kind answer after =
+    May mmu w (step_by actor kind) × (answered mmu w kind ≡ answer) × (after ≡ Some (effect mmu w (step_by actor kind)))
 Tells None actor kind answer after = after ≡ None
 
 -- Where the steps so far were told, they are told with this one. Where none were told, none are told after the step.
@@ -21,8 +24,12 @@ Adds (Some ss) actor kind after = after ≡ Some (ss ++ step_by actor kind ∷ [
 Adds None actor kind after = after ≡ None
 
 -- An answer takes the room of one.
-abbrev pub KeepsRoom : Handful → Handful → Type 0
-KeepsRoom before after = length after.core.answers + after.room ≡ length before.core.answers + before.room
+abbrev pub KeepsRoom : Seat → Seat → Type 0
+KeepsRoom before after = length after.hand.answers + after.room ≡ length before.hand.answers + before.room
+
+-- A line that is under way has the room for its answer.
+abbrev pub HasItsRoom : Held → ℕ → Type 0
+HasItsRoom hand room = IsUnderWay hand.state.place → 0 < room
 
 -- a hand without its room
 abbrev pub core_of : Handful → Held
@@ -41,3 +48,7 @@ no_hand = record { core = nobody; room = 0 }
 -- the hand of the actor at a place
 abbrev pub handful_in : List Handful → ℕ → Handful
 handful_in hands actor = slice_index_or hands actor no_hand
+
+-- Each hand has the room for the answer of the line that it has under way.
+abbrev pub EachHasRoom : List Handful → Type 0
+EachHasRoom hands = (i : ℕ) → i < length hands → HasItsRoom (handful_in hands i).core (handful_in hands i).room

@@ -9,23 +9,24 @@ use Rattle.mmu_core.specs.machine.Machine.{World}
 use Rattle.mmu_core.specs.lines.PartWaits.{part_waits}
 use Rattle.mmu_core.specs.machine.Steps.{next}
 use Rattle.step_seats.specs.Moves.{Adds, Tells}
-use Rattle.step_seats.specs.Where.{AnsweredThere, HasHand, Told, WhereMade}
+use Rattle.step_seats.specs.Seats.{Seat}
+use Rattle.step_seats.specs.Where.{AnsweredThere, HasHand, WhereMade}
 use Rattle.step_seats.specs.declared.turn.Turn.{Turn}
 use Rattle.step_seats.specs.declared.turn.Turn.TheVariants.{More, Wait, Retry, Done}
 
 -- It holds where the step of a part was made.
-abbrev pub WherePartMade : PartStep → ℕ → ℕ → Held → Held → Told → (World Held → World Held → Type 0) → Type 0
-WherePartMade step note actor before after told P = WhereMade (part_kind before step note) actor before after told P
+abbrev pub WherePartMade : PartStep → ℕ → Seat → Seat → (World Held → World Held → Type 0) → Type 0
+WherePartMade step note before after P = WhereMade (part_kind before.hand step note) before after P
 
 -- The actor made this step of a part, which answered so: its hand is the next one, it holds what the part says, what its seat
 -- tells goes on by this step, and the step answers so where it was made.
-pub record MadePart (step : PartStep) (note found actor : ℕ) (before after : Held) (told tells : Told) : Type 0 where
-  pub hand : after ≡ next before (part_kind before step note) found
-  pub topics : after.topics ≡ part_topics step before.topics found
-  pub has : IfSome told.world (HasHand actor before)
-  pub world : Tells told.world actor (part_kind before step note) found tells.world
-  pub steps : Adds told.steps actor (part_kind before step note) tells.steps
-  pub answers : AnsweredThere (part_kind before step note) found actor before after told
+pub record MadePart (step : PartStep) (note found : ℕ) (before after : Seat) : Type 0 where
+  pub hand : after.hand ≡ next before.hand (part_kind before.hand step note) found
+  pub topics : after.hand.topics ≡ part_topics step before.hand.topics found
+  pub has : IfSome before.tells.world (HasHand before.actor before.hand)
+  pub world : Tells before.tells.world before.actor (part_kind before.hand step note) found after.tells.world
+  pub steps : Adds before.tells.steps before.actor (part_kind before.hand step note) after.tells.steps
+  pub answers : AnsweredThere (part_kind before.hand step note) found before after
 
 -- The turn is to be made again: another actor is in its way.
 abbrev pub waits : {A : Type 0} → Turn A → Bool
@@ -42,12 +43,12 @@ in_way (Retry cause) = None
 in_way (Done answer) = None
 
 -- The actor made this step of a part with a turn that waits exactly where the step does, by what the actor held and what the step answered.
-pub record TurnsPart (turn_waits : Bool) (step : PartStep) (note actor : ℕ) (before after : Held) (told tells : Told) : Type 0 where
+pub record TurnsPart (turn_waits : Bool) (step : PartStep) (note : ℕ) (before after : Seat) : Type 0 where
   pub found : ℕ
-  pub made : MadePart step note found actor before after told tells
-  pub waits_as : turn_waits ≡ part_waits step before.topics found
+  pub made : MadePart step note found before after
+  pub waits_as : turn_waits ≡ part_waits step before.hand.topics found
 
 -- The actor made this step of a part, whatever it answered.
-pub record MakesPart (step : PartStep) (note actor : ℕ) (before after : Held) (told tells : Told) : Type 0 where
+pub record MakesPart (step : PartStep) (note : ℕ) (before after : Seat) : Type 0 where
   pub found : ℕ
-  pub made : MadePart step note found actor before after told tells
+  pub made : MadePart step note found before after

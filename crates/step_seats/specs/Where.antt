@@ -1,17 +1,13 @@
 -- The world in which a step is made, as far as a seat tells it: what holds there, and in the world after the step.
-use Rattle.std.specs.Prelude.{◌≡◌, ◌<◌, ℕ, List, Option, Some, None, length}
+use Rattle.std.specs.Prelude.{◌≡◌, ◌<◌, ℕ, Option, Some, None, length}
 use Rattle.core_views.specs.declared.kind.Kind.{Kind}
 use Rattle.core_views.specs.Held.{Held}
 use Rattle.mmu_core.specs.machine.Enabled.{mmu}
-use Rattle.mmu_core.specs.machine.Machine.{May, Step, World, answered, effect, hand_in}
+use Rattle.mmu_core.specs.machine.Machine.{May, World, answered, effect, hand_in}
 use Rattle.mmu_core.specs.machine.Steps.{next}
 use Rattle.mmu_core.specs.machine.Worlds.{Reachable}
 use Rattle.step_seats.specs.Moves.{step_by}
-
--- all that a seat tells: the world, and the steps made so far
-pub record Told : Type 0 where
-  pub world : Option (World Held)
-  pub steps : Option (List (Step Kind))
+use Rattle.step_seats.specs.Seats.{Seat}
 
 -- The world is one that steps lead to from a start, and this is its hand of the actor at this place.
 pub record HasHand (actor : ℕ) (hand : Held) (w : World Held) : Type 0 where
@@ -33,8 +29,9 @@ OfWorld None P = ∥ ((w : World Held) × P w) ∥₁
 
 -- The step answered this where it was made: in the world that the seat told before the step, or in some world in which the step may
 -- have been made.
-abbrev pub AnsweredThere : Kind → ℕ → ℕ → Held → Held → Told → Type 0
-AnsweredThere kind found actor before after told = OfWorld told.world (λ w. IsMadeIn kind actor before after w × (answered mmu w kind ≡ found))
+abbrev pub AnsweredThere : Kind → ℕ → Seat → Seat → Type 0
+AnsweredThere kind found before after =
+    OfWorld before.tells.world (λ w. IsMadeIn kind before.actor before.hand after.hand w × (answered mmu w kind ≡ found))
 
 -- The step was made in a world that isn't told. There is an answer that it gives in some world in which it may have been made, and of each
 -- such world in which it gives this answer this holds.
@@ -50,5 +47,6 @@ OfMade (Some w) kind actor before after P = IsMadeIn kind actor before after w �
 OfMade None kind actor before after P = OfEachWorld kind actor before after P
 
 -- It holds where the step was made, of the world before the step and the world that the step leads to.
-abbrev pub WhereMade : Kind → ℕ → Held → Held → Told → (World Held → World Held → Type 0) → Type 0
-WhereMade kind actor before after told P = OfMade told.world kind actor before after (λ w. P w (effect mmu w (step_by actor kind)))
+abbrev pub WhereMade : Kind → Seat → Seat → (World Held → World Held → Type 0) → Type 0
+WhereMade kind before after P =
+    OfMade before.tells.world kind before.actor before.hand after.hand (λ w. P w (effect mmu w (step_by before.actor kind)))

@@ -10,13 +10,14 @@ use part_steps::{PartStep, part_kind};
 
 /// Makes this step of a part of the machine, and answers what it found in its
 /// word (a store: what it wrote).
+#[inline(always)]
 pub fn make_part<S: Stepper>(s: &mut S, step: PartStep, note: u64) -> u64
-    requires may { MayMake step note (S.handful s.old).core }
-    requires reserved { 0 < (S.handful s.old).room }
-    ensures made { MadePart step note result (S.actor s.old) (S.handful s.old).core (S.handful s.new).core (S.tells s.old) (S.tells s.new) }
-    ensures has { IfSome (S.tells s.new).world (HasHand (S.actor s.new) (S.handful s.new).core) }
-    ensures room { KeepsRoom (S.handful s.old) (S.handful s.new) }
-    ensures same { (S.actor s.new ≡ S.actor s.old) × (S.frame s.new ≡ S.frame s.old) }
+    requires may { MayMake step note (S.seat s.old).hand }
+    requires reserved { 0 < (S.seat s.old).room }
+    ensures made { MadePart step note result (S.seat s.old) (S.seat s.new) }
+    ensures has { IfSome (S.seat s.new).tells.world (HasHand (S.seat s.new).actor (S.seat s.new).hand) }
+    ensures room { KeepsRoom (S.seat s.old) (S.seat s.new) }
+    ensures same { ((S.seat s.new).actor ≡ (S.seat s.old).actor) × (S.frame s.new ≡ S.frame s.old) }
 {
     let hand = s.hand();
     part_rests(hand);

@@ -6,8 +6,8 @@ ghost use Rattle.mmu_core.specs.machine.Enabled.{Enabled, mmu};
 ghost use Rattle.mmu_core.specs.machine.Machine.{May, answered, effect};
 ghost use Rattle.mmu_core.specs.machine.Steps.{next};
 ghost use Rattle.mmu_core.specs.machine.Worlds.{HandReached, IsStart};
-ghost use Rattle.step_seats.specs.Machines.{IsMachine, world_in};
-ghost use Rattle.step_seats.specs.Moves.{KeepsRoom, handful_in, step_by};
+ghost use Rattle.step_seats.specs.Machines.{IsMachine, seat_in, world_in};
+ghost use Rattle.step_seats.specs.Moves.{HasItsRoom, KeepsRoom, handful_in, step_by};
 ghost use Rattle.step_seats.specs.Where.{HasHand, IsMadeIn};
 
 use crate::ActorSeat;
@@ -54,6 +54,7 @@ impl PlainMachine {
     }
 
     // Makes one step of the actor at this place.
+    #[inline(always)]
     pub(crate) fn make_step(&mut self, index: usize, kind: Kind) -> u64
         requires there { index < length self.old.hands }
         requires enabled { Enabled (handful_in self.old.hands index).core kind }
@@ -62,7 +63,7 @@ impl PlainMachine {
         ensures answer { answered mmu (world_in self.old) kind ≡ result }
         ensures world { world_in self.new ≡ effect mmu (world_in self.old) (step_by index kind) }
         ensures hand { (handful_in self.new.hands index).core ≡ next (handful_in self.old.hands index).core kind result }
-        ensures room { KeepsRoom (handful_in self.old.hands index) (handful_in self.new.hands index) }
+        ensures room { KeepsRoom (seat_in self.old index) (seat_in self.new index) }
         ensures made { IsMadeIn kind index (handful_in self.old.hands index).core (handful_in self.new.hands index).core (world_in self.old) }
         ensures has { HasHand index (handful_in self.new.hands index).core (world_in self.new) }
         ensures others { self.new.hands ≡ slice_set self.old.hands index (handful_in self.new.hands index) }
@@ -81,6 +82,7 @@ impl PlainMachine {
     pub fn hand(&self, index: usize) -> &Hand
         requires there { index < length self.now.hands }
         ensures hand { result.now ≡ handful_in self.now.hands index }
+        ensures room { HasItsRoom (handful_in self.now.hands index).core (handful_in self.now.hands index).room }
         ensures reached { ∥ HandReached (handful_in self.now.hands index).core ∥₁ }
         ensures has { HasHand index (handful_in self.now.hands index).core (world_in self.now) }
     {

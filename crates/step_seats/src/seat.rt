@@ -1,8 +1,7 @@
 //! The seat of one actor at a plain machine.
-ghost use Rattle.std.specs.Prelude.{Some, None, ◌<◌, length};
+ghost use Rattle.std.specs.Prelude.{◌<◌, length};
 ghost use Rattle.step_seats.specs.Frames.{frame_of};
-ghost use Rattle.step_seats.specs.Machines.{world_in};
-ghost use Rattle.step_seats.specs.Moves.{handful_in};
+ghost use Rattle.step_seats.specs.Machines.{seat_in};
 
 use crate::{PlainMachine, Stepper};
 use core_views::{Hand, Kind, Line, NoMemory};
@@ -33,14 +32,11 @@ pub struct ActorSeat<'a> {
 impl Stepper for ActorSeat<'_> {
     type Frame = MachineFrame;
 
-    ghost actor = { λ s. s.index };
-
-    ghost handful = { λ s. handful_in s.machine.now.hands s.index };
+    ghost seat = { λ s. seat_in s.machine.now s.index };
 
     ghost frame = { λ s. frame_of s.machine.ghost_name s.machine.now s.index };
 
-    ghost tells = { λ s. record { world = Some (world_in s.machine.now); steps = None } };
-
+    #[inline(always)]
     fn act(&mut self, kind: Kind) -> u64 {
         self.machine.make_step(self.index, kind)
     }

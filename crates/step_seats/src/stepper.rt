@@ -1,9 +1,9 @@
 ghost use Rattle.std.specs.Prelude.{◌≡◌, ◌<◌, IfSome, OnErr, OnOk};
 ghost use Rattle.mmu_core.specs.machine.Enabled.{Enabled};
-ghost use Rattle.mmu_core.specs.machine.Steps.{next};
 ghost use Rattle.mmu_core.specs.machine.Worlds.{HandReached};
-ghost use Rattle.step_seats.specs.Moves.{Adds, KeepsRoom, Tells};
-ghost use Rattle.step_seats.specs.Where.{AnsweredThere, HasHand};
+ghost use Rattle.step_seats.specs.Acts.{Acts};
+ghost use Rattle.step_seats.specs.Moves.{HasItsRoom, KeepsRoom};
+ghost use Rattle.step_seats.specs.Where.{HasHand};
 
 use core_views::{Hand, Kind, Line, NoMemory};
 
@@ -14,46 +14,36 @@ pub trait Stepper {
     /// pass. No value of it is made.
     type Frame;
 
-    ghost use Rattle.std.specs.Prelude.{ℕ};
-    ghost use Rattle.core_views.specs.Held.{Handful};
-    ghost use Rattle.step_seats.specs.Where.{Told};
+    ghost use Rattle.step_seats.specs.Seats.{Seat};
 
-    // The place of its actor among all actors.
-    ghost actor: { Self → ℕ };
-
-    // Its actor's hand.
-    ghost handful: { Self → Handful };
+    // Its actor and this actor's hand, and what it tells.
+    ghost seat: { Self → Seat };
 
     ghost frame: { Self → Self.Frame };
-
-    // All words and hands, and the steps made so far, where the seat tells them.
-    ghost tells: { Self → Told };
 
     /// Makes one step, and answers what it found in its word (a store: what it
     /// wrote). It takes no memory and never waits.
     fn act(&mut self, kind: Kind) -> u64
-        requires enabled { Enabled (handful self.old).core kind }
-        requires reserved { 0 < (handful self.old).room }
-        ensures hand { (handful self.new).core ≡ next (handful self.old).core kind result }
-        ensures room { KeepsRoom (handful self.old) (handful self.new) }
-        ensures told { Tells (tells self.old).world (actor self.old) kind result (tells self.new).world }
-        ensures steps { Adds (tells self.old).steps (actor self.old) kind (tells self.new).steps }
-        ensures answers { AnsweredThere kind result (actor self.old) (handful self.old).core (handful self.new).core (tells self.old) }
-        ensures has { IfSome (tells self.new).world (HasHand (actor self.new) (handful self.new).core) }
-        ensures same { (actor self.new ≡ actor self.old) × (frame self.new ≡ frame self.old) };
+        requires enabled { Enabled (seat self.old).hand kind }
+        requires reserved { 0 < (seat self.old).room }
+        ensures acts { Acts kind result (seat self.old) (seat self.new) }
+        ensures room { KeepsRoom (seat self.old) (seat self.new) }
+        ensures same { ((seat self.new).actor ≡ (seat self.old).actor) × (frame self.new ≡ frame self.old) };
 
-    /// The hand as it is.
+    /// The hand as it is. What its line needs was taken as this line began.
     fn hand(&self) -> &Hand
-        ensures hand { result.now ≡ handful self.now }
-        ensures reached { ∥ HandReached (handful self.now).core ∥₁ }
-        ensures has { IfSome (tells self.now).world (HasHand (actor self.now) (handful self.now).core) };
+        ensures hand { result.now.core ≡ (seat self.now).hand }
+        ensures room { result.now.room ≡ (seat self.now).room }
+        ensures reserved { HasItsRoom (seat self.now).hand (seat self.now).room }
+        ensures reached { ∥ HandReached (seat self.now).hand ∥₁ }
+        ensures has { IfSome (seat self.now).tells.world (HasHand (seat self.now).actor (seat self.now).hand) };
 
     /// Takes the room that this line needs in the hand. It changes no word and
     /// no hand, whatever it answers; where it is refused, no room either.
     fn reserve(&mut self, line: &Line) -> Result<(), NoMemory>
-        ensures hand { (handful self.new).core ≡ (handful self.old).core }
-        ensures room { OnOk result (0 < (handful self.new).room) }
-        ensures refused { OnErr result (handful self.new ≡ handful self.old) }
-        ensures told { tells self.new ≡ tells self.old }
-        ensures same { (actor self.new ≡ actor self.old) × (frame self.new ≡ frame self.old) };
+        ensures hand { (seat self.new).hand ≡ (seat self.old).hand }
+        ensures room { OnOk result (0 < (seat self.new).room) }
+        ensures refused { OnErr result ((seat self.new).room ≡ (seat self.old).room) }
+        ensures told { (seat self.new).tells ≡ (seat self.old).tells }
+        ensures same { ((seat self.new).actor ≡ (seat self.old).actor) × (frame self.new ≡ frame self.old) };
 }

@@ -18,8 +18,8 @@ use std::test::Fail;
 
 // The next step of the seat's line, through the bound, where it has one left.
 fn step<S: Stepper>(seat: &mut S, line: &Line) -> Result<Option<u64>, NoMemory>
-    ensures told { LeadsOn (S.tells seat.old).world (S.tells seat.new).world }
-    ensures same { (S.actor seat.new ≡ S.actor seat.old) × (S.frame seat.new ≡ S.frame seat.old) }
+    ensures told { LeadsOn (S.seat seat.old).tells.world (S.seat seat.new).tells.world }
+    ensures same { ((S.seat seat.new).actor ≡ (S.seat seat.old).actor) × (S.frame seat.new ≡ S.frame seat.old) }
 {
     seat.reserve(line)?;
     let hand = seat.hand();

@@ -1,7 +1,5 @@
 -- What a claim's step says of the worlds that are told before it and behind it.
-use Rattle.std.proofs.Common.{◌≡◌, ◌≢◌, inl, inr, ◌+◌, ◌*◌, ◌/◌, ◌%◌, ◌^◌, ◌<◌, ◌≤◌, ℕ, Option, Some, None, length, refl, sym, subst, ap, ◌∙◌, arith, bit_and, w64}
-use Rattle.std.proofs.Math.Logic.{∥∥₁_elim}
-use Rattle.std.proofs.Props.{props}
+use Rattle.std.proofs.Common.{◌≡◌, ◌≢◌, inl, inr, ◌+◌, ◌*◌, ◌/◌, ◌%◌, ◌^◌, ◌<◌, ◌≤◌, ℕ, Option, Some, None, refl, sym, subst, ap, ◌∙◌, arith, bit_and, w64}
 use Rattle.std.specs.Prelude.{Bool, true, false, ◌==◌, ◌&&◌, nat_lt, IfSome, if◌then◌else◌}
 use Rattle.std.specs.Int.{bit_not}
 use Rattle.std.proofs.lemmas.Bool.Decides.{nat_tests}
@@ -9,45 +7,37 @@ use Rattle.std.proofs.lemmas.Nat.{and-not, and_comm}
 use Rattle.std.proofs.lemmas.Nat.Bits.{and_pow, bit_at-trailing_zeros}
 use Rattle.std.proofs.Math.Pow.{pow-lt}
 use Rattle.core_views.specs.declared.hand.Seen.{Seen}
-use Rattle.core_views.specs.declared.sizes.Sizes.{Sizes}
 use Rattle.core_views.specs.declared.topics.MapClaim.{MapClaim}
 use Rattle.core_views.specs.declared.topics.OwnedPage.{OwnedPage}
 use Rattle.core_views.specs.Held.{Held}
-use Rattle.core_views.specs.Sizes.{actors_of}
 use Rattle.spte_words.specs.declared.area.Area.TheVariants as area
 use Rattle.spte_words.specs.Areas.{words_of_bits}
 use Rattle.spte_words.specs.Bits.{has_bit}
 use Rattle.part_steps.specs.declared.part_step.PartStep.TheVariants as part
-use Rattle.mmu_core.specs.machine.Enabled.{mmu}
-use Rattle.mmu_core.specs.invariant.Laws.{IsSound}
-use Rattle.mmu_core.specs.machine.Machine.{World, hand_in}
+use Rattle.mmu_core.specs.machine.Machine.{World}
 use Rattle.mmu_core.specs.machine.MayMake.{MayMake}
 use Rattle.part_steps.specs.PartBounds.{PartRests}
 use Rattle.part_steps.specs.PartTasks.{own_index, page_owned, part_kind, part_task}
 use Rattle.part_steps.specs.PartSteps.{PartNeeds, needs_line}
-use Rattle.mmu_core.specs.invariant.PoolPart.{UsePart, is_free, is_leaving, is_owned}
+use Rattle.mmu_core.specs.invariant.PoolPart.{is_free}
 use Rattle.mmu_core.specs.machine.Steps.{has_line}
 use Rattle.part_steps.specs.PageTopics.{claimed, is_won, tried, tried_bit}
-use Rattle.mmu_core.specs.invariant.TreePart.{at, stands}
 use Rattle.mmu_core.specs.machine.View.{word_in}
-use Rattle.mmu_core.specs.machine.Worlds.{HandReached, Reachable}
+use Rattle.mmu_core.specs.machine.Worlds.{HandReached}
 use Rattle.mmu_core.proofs.machine.Columns.{upd_same}
 use Rattle.mmu_core.proofs.invariant.PartRested.{may_make, reached_part_rests}
 use Rattle.mmu_core.proofs.words.PoolBits.{page_free}
-use Rattle.mmu_core.proofs.pages.PoolPages.{left_not_owned, one_owner, owned_no_table, owned_not_free, owned_not_slots, owned_there}
-use Rattle.mmu_core.proofs.pages.TreePlaces.{root_stands}
-use Rattle.mmu_core.proofs.start.Starts.{reached_good}
+use Rattle.step_seats.specs.Seats.{Seat}
 use Rattle.step_seats.specs.PartTurns.{MadePart, WherePartMade}
-use Rattle.step_seats.specs.Where.{HasHand, Told}
-use Rattle.table_pool.specs.Claims.{IsClaimersAlone, IsFreePage, SawStands, claim_step, next_word, sees_pages}
+use Rattle.step_seats.specs.Where.{HasHand}
+use Rattle.table_pool.specs.Claims.{IsFreePage, SawStands, claim_step, next_word, sees_pages}
 use Rattle.table_pool.specs.declared.claim.Claim.{Claim}
 use Rattle.table_pool.specs.declared.claim.Claimed.{Claimed}
 use Rattle.table_pool.specs.declared.claim.Claimed.TheVariants.{Page, Empty}
 use Rattle.step_seats.specs.declared.turn.Turn.{Turn}
 use Rattle.step_seats.specs.declared.turn.Turn.TheVariants.{More, Wait, Retry, Done}
-use Rattle.mmu_core.proofs.machine.Sized.{next_keeps_sizes}
 use Rattle.step_seats.proofs.ToldWords.{StepsTo, told_before, told_both}
-use Rattle.step_seats.proofs.Where.{ToldBoth, after_step, only, where_made}
+use Rattle.step_seats.proofs.Where.{ToldBoth, after_step, telling, where_made}
 use Rattle.part_steps.specs.declared.part_step.PartStep.{PartStep}
 
 -- The bit that a claim tries is one of the word's, and stands in what it saw.
@@ -70,23 +60,29 @@ still n j low small clear =
 pub claims : (job : Claim) (claim : MapClaim) → job.begun ≡ true → 0 < claim.seen → claim_step job claim ≡ part.Claim
 claims job claim begun some = let saw : nat_lt 0 claim.seen ≡ true = grind (arith, nat_tests, some) in rw (begun, saw) refl
 
-pub claim_needs : (job : Claim) (note : ℕ) (h : Held) → job.begun ≡ true → 0 < h.topics.claim.seen → MayMake (claim_step job h.topics.claim) note h → PartNeeds part.Claim h
+pub claim_needs : (job : Claim) (note : ℕ) (h : Held) → job.begun ≡ true → 0 < h.topics.claim.seen → MayMake (claim_step job h.topics.claim) note h
+    → PartNeeds part.Claim h
 claim_needs job note h begun some may = subst (λ s. PartNeeds s h) (claims job h.topics.claim begun some) may.needs
 
 pub loads : (job : Claim) (word : ℕ) (claim : MapClaim) → sees_pages job claim ≡ false → word ≡ next_word job claim → claim_step job claim ≡ part.Map word
 loads job word claim none is = ap (λ (b : Bool). if b then part.Claim else part.Map (next_word job claim)) none ∙ ap part.Map (sym is)
 
-pub load_needs : (job : Claim) (word note : ℕ) (h : Held) → sees_pages job h.topics.claim ≡ false → word ≡ next_word job h.topics.claim → MayMake (claim_step job h.topics.claim) note h → PartNeeds (part.Map word) h
+pub load_needs : (job : Claim) (word note : ℕ) (h : Held) → sees_pages job h.topics.claim ≡ false → word ≡ next_word job h.topics.claim
+    → MayMake (claim_step job h.topics.claim) note h → PartNeeds (part.Map word) h
 load_needs job word note h none is may = subst (λ s. PartNeeds s h) (loads job word h.topics.claim none is) may.needs
 
 -- What holds where the part's step was made holds where the claim's was: it is that one.
-pub where_claimed : (job : Claim) (step : PartStep) (note found a : ℕ) (before after : Held) (told tells : Told) (P : World Held → World Held → Type 0) → claim_step job before.topics.claim ≡ step → MadePart step note found a before after told tells
-    → ((w : World Held) → MadePart step note found a before after (only w) (only (after_step (part_kind before step note) a w)) → HasHand a after (after_step (part_kind before step note) a w) → P w (after_step (part_kind before step note) a w))
-    → WherePartMade (claim_step job before.topics.claim) note a before after told P
-where_claimed job step note found a before after told tells P is made each = subst (λ (s : PartStep). WherePartMade s note a before after told P) (sym is) (where_made made each)
+pub where_claimed : (job : Claim) (step : PartStep) (note found : ℕ) (before after : Seat) (P : World Held → World Held → Type 0)
+    → claim_step job before.hand.topics.claim ≡ step → MadePart step note found before after
+    → ((w : World Held) → MadePart step note found (telling w before) (telling (after_step (part_kind before.hand step note) before.actor w) after)
+    → HasHand before.actor after.hand (after_step (part_kind before.hand step note) before.actor w)
+    → P w (after_step (part_kind before.hand step note) before.actor w))
+    → WherePartMade (claim_step job before.hand.topics.claim) note before after P
+where_claimed job step note found before after P is made each = subst (λ (s : PartStep). WherePartMade s note before after P) (sym is) (where_made made each)
 
 -- A claim that isn't over may go on.
-going : (job : Claim) (h : Held) → PartRests h → h.topics.owned ≡ None → (job.begun ≡ true → h.topics.claim.at < words_of_bits h.state.sizes.pool) → PartNeeds (claim_step job h.topics.claim) h
+going : (job : Claim) (h : Held) → PartRests h → h.topics.owned ≡ None → (job.begun ≡ true → h.topics.claim.at < words_of_bits h.state.sizes.pool)
+    → PartNeeds (claim_step job h.topics.claim) h
 going job h R none before = by job.begun refl (nat_lt 0 claim.seen) (λ e. grind (arith, nat_tests)) (λ e. grind (arith, nat_tests))
   where
     claim : MapClaim
@@ -95,7 +91,8 @@ going job h R none before = by job.begun refl (nat_lt 0 claim.seen) (λ e. grind
     words : 0 < words_of_bits h.state.sizes.pool
     words = let pool = R.sizes.pool.0 in omega (arith, pool)
 
-    by : (b : Bool) → job.begun ≡ b → (saw : Bool) → (saw ≡ true → 0 < claim.seen) → (saw ≡ false → claim.seen ≡ 0) → PartNeeds (if b && saw then part.Claim else part.Map (if b then claim.at else 0)) h
+    by : (b : Bool) → job.begun ≡ b → (saw : Bool) → (saw ≡ true → 0 < claim.seen) → (saw ≡ false → claim.seen ≡ 0)
+        → PartNeeds (if b && saw then part.Claim else part.Map (if b then claim.at else 0)) h
     by true is true some zero_ = (none, some refl, before is)
     by true is false some zero_ = (none, before is, inr (refl, zero_ refl))
     by false is saw some zero_ = (none, words, inl refl)
@@ -105,7 +102,8 @@ claims_free : (sees : Bool) (word : ℕ) → needs_line (if sees then part.Claim
 claims_free true word = refl
 claims_free false word = refl
 
-pub may_claim : (job : Claim) (note : ℕ) (h : Held) → ∥ HandReached h ∥₁ → has_line h ≡ false → h.topics.owned ≡ None → (job.begun ≡ true → h.topics.claim.at < words_of_bits h.state.sizes.pool) → MayMake (claim_step job h.topics.claim) note h
+pub may_claim : (job : Claim) (note : ℕ) (h : Held) → ∥ HandReached h ∥₁ → has_line h ≡ false → h.topics.owned ≡ None
+    → (job.begun ≡ true → h.topics.claim.at < words_of_bits h.state.sizes.pool) → MayMake (claim_step job h.topics.claim) note h
 may_claim job note h reached idle none before =
     let R : PartRests h = reached_part_rests h reached in
     may_make h (claim_step job h.topics.claim) note R idle (claims_free (sees_pages job h.topics.claim) (next_word job h.topics.claim)) (going job h R none before)
@@ -133,22 +131,26 @@ page_in (Done (Page page)) = page
 page_in (Done Empty) = 0
 
 -- A turn that answers a page doesn't wait; nor does one that cannot be lost.
-pub won_waits_not : (told : Option (World Held)) (P : World Held → Type 0) (result : Turn Claimed) (page : ℕ) → result ≡ Done (Page page) → IfSome told (λ w. P w → (seen : Seen) → result ≢ Wait seen)
+pub won_waits_not : (told : Option (World Held)) (P : World Held → Type 0) (result : Turn Claimed) (page : ℕ) → result ≡ Done (Page page)
+    → IfSome told (λ w. P w → (seen : Seen) → result ≢ Wait seen)
 won_waits_not None P result page is = tt
 won_waits_not (Some w) P result page is = λ p seen waits. cc (is, waits)
 
-pub never_waits : (told : Option (World Held)) (P : World Held → Type 0) (result : Turn Claimed) → IfSome told (λ w. P w → ⊥) → IfSome told (λ w. P w → (seen : Seen) → result ≢ Wait seen)
+pub never_waits : (told : Option (World Held)) (P : World Held → Type 0) (result : Turn Claimed) → IfSome told (λ w. P w → ⊥)
+    → IfSome told (λ w. P w → (seen : Seen) → result ≢ Wait seen)
 never_waits None P result none = tt
 never_waits (Some w) P result none = λ p seen waits. none p
 
 -- Whether a claim owns a page says whether it was won, and which page it is.
-won_if : (claim : MapClaim) (found : ℕ) (o : OwnedPage) → claimed claim found ≡ Some o → (is_won claim found ≡ true) × (o.page ≡ 64 * claim.at + tried_bit claim)
+won_if : (claim : MapClaim) (found : ℕ) (o : OwnedPage) → claimed claim found ≡ Some o
+    → (is_won claim found ≡ true) × (o.page ≡ 64 * claim.at + tried_bit claim)
 won_if claim found o is = by (is_won claim found) refl is
   where
     made : OwnedPage
     made = record { page = 64 * claim.at + tried_bit claim; filled = 0; absent = true; role = 0 }
 
-    by : (b : Bool) → is_won claim found ≡ b → (if b then Some made else None) ≡ Some o → (is_won claim found ≡ true) × (o.page ≡ 64 * claim.at + tried_bit claim)
+    by : (b : Bool) → is_won claim found ≡ b → (if b then Some made else None) ≡ Some o
+        → (is_won claim found ≡ true) × (o.page ≡ 64 * claim.at + tried_bit claim)
     by true won e = (won, ap page_owned (sym e))
     by false lost e = absurd (cc e)
 
@@ -162,133 +164,85 @@ lost_if claim found is = by (is_won claim found) is
     by true e = absurd (cc e)
     by false e = refl
 
-module _ (note found a : ℕ) (before after : Held) (told tells : Told) (N : PartNeeds part.Claim before) (small : before.topics.claim.seen < 2 ^ 64) (M : MadePart part.Claim note found a before after told tells) where
+module _ (note found : ℕ) (before after : Seat) (N : PartNeeds part.Claim before.hand) (small : before.hand.topics.claim.seen < 2 ^ 64)
+    (M : MadePart part.Claim note found before after) where
   -- A page that was claimed stood free in the world.
-  pub claimed_free : (o : OwnedPage) → after.topics.owned ≡ Some o → IfSome told.world (IsFreePage before.state.sizes o.page)
+  pub claimed_free : (o : OwnedPage) → after.hand.topics.owned ≡ Some o → IfSome before.tells.world (IsFreePage before.hand.state.sizes o.page)
   claimed_free o is =
-      let claim : MapClaim = before.topics.claim in
+      let claim : MapClaim = before.hand.topics.claim in
       let won = won_if claim found o (ap (λ x. x.owned) (sym M.topics) ∙ is) in
-      told_before told.world tells.world a note found part.Claim before (IsFreePage before.state.sizes o.page) N M.has M.world
-      (λ w finds. ap (is_free (word_in before.state.sizes w area.PoolMap)) won.1 ∙ page_free (word_in before.state.sizes w area.PoolMap) claim.at (tried_bit claim) (low_bit claim N.1 small) ∙ ap (has_bit (tried_bit claim)) (sym finds) ∙ won.0)
+      told_before before.tells.world after.tells.world before.actor note found part.Claim before.hand (IsFreePage before.hand.state.sizes o.page) N M.has
+      M.world
+      (λ w finds. ap (is_free (word_in before.hand.state.sizes w area.PoolMap)) won.1
+      ∙ page_free (word_in before.hand.state.sizes w area.PoolMap) claim.at (tried_bit claim) (low_bit claim N.1 small)
+      ∙ ap (has_bit (tried_bit claim)) (sym finds) ∙ won.0)
 
   -- Where what the claim saw stands in the world, the claim is won.
-  pub claim_alone : after.topics.owned ≡ None → IfSome told.world (λ w. SawStands before.state.sizes before.topics.claim w → ⊥)
+  pub claim_alone : after.hand.topics.owned ≡ None → IfSome before.tells.world (λ w. SawStands before.hand.state.sizes before.hand.topics.claim w → ⊥)
   claim_alone is =
-      let claim : MapClaim = before.topics.claim in
+      let claim : MapClaim = before.hand.topics.claim in
       let lost : has_bit (tried_bit claim) found ≡ false = lost_if claim found (ap (λ x. x.owned) (sym M.topics) ∙ is) in
-      told_before told.world tells.world a note found part.Claim before (λ w. SawStands before.state.sizes claim w → ⊥) N M.has M.world
+      told_before before.tells.world after.tells.world before.actor note found part.Claim before.hand (λ w. SawStands before.hand.state.sizes claim w → ⊥) N
+      M.has M.world
       (λ w finds stands. let seen : found ≡ claim.seen = finds ∙ stands N.1 in let bit = saw_bit claim N.1 small in let clear = ap (has_bit (tried_bit claim)) (sym seen) ∙ lost in cc (bit, clear))
 
-  -- Behind a claim that was lost, what was seen stands in the world.
-  pub claim_stands : found < 2 ^ 64 → ToldBoth told.world tells.world (λ w t. SawStands before.state.sizes after.topics.claim t)
-  claim_stands fits = told_both told.world tells.world a note found part.Claim before (λ w t. SawStands before.state.sizes after.topics.claim t) N M.has M.world each
+  -- After a claim that was lost, what was seen stands in the world.
+  pub claim_stands : found < 2 ^ 64 → ToldBoth before.tells.world after.tells.world (λ w t. SawStands before.hand.state.sizes after.hand.topics.claim t)
+  claim_stands fits = told_both before.tells.world after.tells.world before.actor note found part.Claim before.hand
+      (λ w t. SawStands before.hand.state.sizes after.hand.topics.claim t) N M.has M.world each
     where
       claim : MapClaim
-      claim = before.topics.claim
+      claim = before.hand.topics.claim
 
-      is : after.topics.claim ≡ tried claim found
+      is : after.hand.topics.claim ≡ tried claim found
       is = ap (λ x. x.claim) M.topics
 
       low : tried_bit claim < 64
       low = low_bit claim N.1 small
 
-      each : (w u : World Held) → StepsTo before.state.sizes (part_task part.Claim (own_index before) before.topics note) found w u → SawStands before.state.sizes after.topics.claim u
-      each w u moved = subst (λ (c : MapClaim). SawStands before.state.sizes c u) (sym is) (by (is_won claim found) refl)
+      each : (w u : World Held) → StepsTo before.hand.state.sizes (part_task part.Claim (own_index before.hand) before.hand.topics note) found w u
+          → SawStands before.hand.state.sizes after.hand.topics.claim u
+      each w u moved = subst (λ (c : MapClaim). SawStands before.hand.state.sizes c u) (sym is) (by (is_won claim found) refl)
         where
-          by : (b : Bool) → is_won claim found ≡ b → SawStands before.state.sizes (record { at = if b then 0 else claim.at; seen = if b then 0 else found }) u
+          by : (b : Bool) → is_won claim found ≡ b
+              → SawStands before.hand.state.sizes (record { at = if b then 0 else claim.at; seen = if b then 0 else found }) u
           by true won some = absurd (omega (arith, some))
           by false lost some =
-              moved.leaves area.PoolMap claim.at ∙ upd_same (word_in before.state.sizes w area.PoolMap) claim.at _
+              moved.leaves area.PoolMap claim.at ∙ upd_same (word_in before.hand.state.sizes w area.PoolMap) claim.at _
               ∙ ap (λ n. bit_and n (bit_not w64 (2 ^ tried_bit claim))) (sym moved.finds) ∙ still found (tried_bit claim) low fits lost
 
 -- A word that was loaded stands in the world.
-pub load_stands : (word note found a : ℕ) (before after : Held) (told tells : Told) → PartNeeds (part.Map word) before → MadePart (part.Map word) note found a before after told tells → ToldBoth told.world tells.world (λ w t. SawStands before.state.sizes after.topics.claim t)
-load_stands word note found a before after told tells N M = told_both told.world tells.world a note found (part.Map word) before (λ w t. SawStands before.state.sizes after.topics.claim t) N M.has M.world each
+pub load_stands : (word note found : ℕ) (before after : Seat) → PartNeeds (part.Map word) before.hand → MadePart (part.Map word) note found before after
+    → ToldBoth before.tells.world after.tells.world (λ w t. SawStands before.hand.state.sizes after.hand.topics.claim t)
+load_stands word note found before after N M =
+    told_both before.tells.world after.tells.world before.actor note found (part.Map word) before.hand
+    (λ w t. SawStands before.hand.state.sizes after.hand.topics.claim t) N M.has M.world each
   where
-    is : after.topics.claim ≡ record { at = word + (if found == 0 then 1 else 0); seen = found }
+    is : after.hand.topics.claim ≡ record { at = word + (if found == 0 then 1 else 0); seen = found }
     is = ap (λ x. x.claim) M.topics
 
-    each : (w u : World Held) → StepsTo before.state.sizes (part_task (part.Map word) (own_index before) before.topics note) found w u → SawStands before.state.sizes after.topics.claim u
-    each w u moved = subst (λ (c : MapClaim). SawStands before.state.sizes c u) (sym is) (by (found == 0) (λ e. grind (arith, nat_tests)))
+    each : (w u : World Held) → StepsTo before.hand.state.sizes (part_task (part.Map word) (own_index before.hand) before.hand.topics note) found w u
+        → SawStands before.hand.state.sizes after.hand.topics.claim u
+    each w u moved = subst (λ (c : MapClaim). SawStands before.hand.state.sizes c u) (sym is) (by (found == 0) (λ e. grind (arith, nat_tests)))
       where
-        by : (b : Bool) → (b ≡ true → found ≡ 0) → SawStands before.state.sizes (record { at = word + (if b then 1 else 0); seen = found }) u
+        by : (b : Bool) → (b ≡ true → found ≡ 0) → SawStands before.hand.state.sizes (record { at = word + (if b then 1 else 0); seen = found }) u
         by true none some = let zero_ = none refl in absurd (omega (arith, some, zero_))
-        by false none some = ap (word_in before.state.sizes u area.PoolMap) (omega arith) ∙ (moved.leaves area.PoolMap word ∙ sym moved.finds)
+        by false none some = ap (word_in before.hand.state.sizes u area.PoolMap) (omega arith) ∙ (moved.leaves area.PoolMap word ∙ sym moved.finds)
 
 -- what a load says where its step was made: what was seen stands there, and the turn doesn't wait
-module _ (job : Claim) (word note found a : ℕ) (before after : Held) (told tells : Told) (none : sees_pages job before.topics.claim ≡ false) (next : word ≡ next_word job before.topics.claim) (may : MayMake (claim_step job before.topics.claim) note before) (M : MadePart (part.Map word) note found a before after told tells) where
-  pub load_stands_there : WherePartMade (claim_step job before.topics.claim) note a before after told (λ w t. SawStands before.state.sizes after.topics.claim t)
-  load_stands_there = where_claimed job (part.Map word) note found a before after told tells (λ w t. SawStands before.state.sizes after.topics.claim t) (loads job word before.topics.claim none next) M
-      (λ w at has. load_stands word _ _ _ _ _ (only w) (only _) (load_needs job word note before none next may) at)
+module _ (job : Claim) (word note found : ℕ) (before after : Seat) (none : sees_pages job before.hand.topics.claim ≡ false)
+    (next : word ≡ next_word job before.hand.topics.claim) (may : MayMake (claim_step job before.hand.topics.claim) note before.hand)
+    (M : MadePart (part.Map word) note found before after) where
+  pub load_stands_there : WherePartMade (claim_step job before.hand.topics.claim) note before after
+      (λ w t. SawStands before.hand.state.sizes after.hand.topics.claim t)
+  load_stands_there = where_claimed job (part.Map word) note found before after (λ w t. SawStands before.hand.state.sizes after.hand.topics.claim t)
+      (loads job word before.hand.topics.claim none next) M
+      (λ w at has. load_stands word _ _ (telling w before) _ (load_needs job word note before.hand none next may) at)
 
-  pub load_waits_not : (result : Turn Claimed) → ((seen : Seen) → result ≢ Wait seen) → WherePartMade (claim_step job before.topics.claim) note a before after told (λ w t. SawStands before.state.sizes before.topics.claim w → (seen : Seen) → result ≢ Wait seen)
-  load_waits_not result never = where_claimed job (part.Map word) note found a before after told tells (λ w t. SawStands before.state.sizes before.topics.claim w → (seen : Seen) → result ≢ Wait seen)
-      (loads job word before.topics.claim none next) M (λ w at has stands. never)
-
--- What an actor owns in a world that steps lead to is its own alone.
-sole_in : (w : World Held) (a : ℕ) (o : OwnedPage) (r : Reachable w) → a < length w.hands → (hand_in mmu w a).topics.owned ≡ Some o → IsClaimersAlone (hand_in mmu w a).state.sizes a o.page w
-sole_in w a o r there mine = subst (λ (y : Sizes). IsClaimersAlone y a o.page w) (sym (G.holds.lines a lt).sizes) alone
-  where
-    z : Sizes
-    z = r.sizes
-
-    G : IsSound z w
-    G = reached_good w r
-
-    lt : a < actors_of z
-    lt = subst (λ n. a < n) G.hands there
-
-    owned : ℕ → Option OwnedPage
-    owned i = (hand_in mmu w i).topics.owned
-
-    leaving : ℕ → Option ℕ
-    leaving i = (hand_in mmu w i).topics.leaving
-
-    P : UsePart (actors_of z) z.pool (word_in z w area.Slots 0) (word_in z w area.PoolMap) owned leaving G.topics.up
-    P = G.topics.uses
-
-    itself : (o.page == o.page) ≡ true
-    itself = grind (arith, nat_tests)
-
-    other : (i : ℕ) → i < actors_of z → i ≢ a → (x : Option OwnedPage) → owned i ≡ x → is_owned x o.page ≡ false
-    other i i_lt apart None is = refl
-    other i i_lt apart (Some p) is = by (p.page == o.page) (λ e. grind (arith, nat_tests))
-      where
-        by : (b : Bool) → (b ≡ true → p.page ≡ o.page) → b ≡ false
-        by true same = absurd (apart (sym (one_owner P a i o p lt i_lt mine is (same refl))))
-        by false same = refl
-
-    stays : (i : ℕ) → i < actors_of z → (x : Option ℕ) → leaving i ≡ x → is_leaving x o.page ≡ false
-    stays i i_lt None is = refl
-    stays i i_lt (Some k) is = by (k == o.page) (λ e. grind (arith, nat_tests))
-      where
-        by : (b : Bool) → (b ≡ true → k ≡ o.page) → b ≡ false
-        by true same = absurd (left_not_owned P i k i_lt is a o lt mine (sym (same refl)))
-        by false same = refl
-
-    alone : IsClaimersAlone z a o.page w
-    alone = record {
-      there = owned_there P a o lt mine;
-      owned = ap (λ x. is_owned x o.page) mine ∙ itself;
-      others = λ i i_in apart. other i (subst (λ n. i < n) G.hands i_in) apart (owned i) refl;
-      not_free = owned_not_free P a o lt mine;
-      not_root = λ e. owned_no_table P G.topics.spot a o (at 4 0) lt mine (sym (ap (stands G.topics.up G.topics.spot) e) ∙ root_stands G.topics.tree);
-      not_slots = λ e. owned_not_slots P a o lt mine (sym e);
-      not_leaving = λ i i_in. stays i (subst (λ n. i < n) G.hands i_in) (leaving i) refl;
-    }
-
-sole_prop : (z : Sizes) (a page : ℕ) (w : World Held) → IsProp (IsClaimersAlone z a page w)
-sole_prop z a page w = hlevel props
-
-alone_in : (told : Option (World Held)) (a : ℕ) (h : Held) (o : OwnedPage) → IfSome told (HasHand a h) → h.topics.owned ≡ Some o → IfSome told (IsClaimersAlone h.state.sizes a o.page)
-alone_in None a h o has mine = tt
-alone_in (Some w) a h o has mine =
-    subst (λ (x : Held). IsClaimersAlone x.state.sizes a o.page w) has.is
-    (∥∥₁_elim has.reached (sole_prop (hand_in mmu w a).state.sizes a o.page w) (λ r. sole_in w a o r has.there (subst (λ (x : Held). x.topics.owned ≡ Some o) (sym has.is) mine)))
-
--- A page that was claimed is the claimer's alone.
-pub claimed_alone : (note found a : ℕ) (before after : Held) (told tells : Told) (a_behind : ℕ) (o : OwnedPage) → MadePart part.Claim note found a before after told tells → IfSome tells.world (HasHand a_behind after) → after.topics.owned ≡ Some o
-    → IfSome tells.world (IsClaimersAlone before.state.sizes a_behind o.page)
-claimed_alone note found a before after told tells a_behind o M has mine =
-    let same : after.state.sizes ≡ before.state.sizes = ap (λ (h : Held). h.state.sizes) M.hand ∙ next_keeps_sizes before (part_kind before part.Claim note) found in
-    subst (λ (y : Sizes). IfSome tells.world (IsClaimersAlone y a_behind o.page)) same (alone_in tells.world a_behind after o has mine)
+  pub load_waits_not : (result : Turn Claimed) → ((seen : Seen) → result ≢ Wait seen)
+      → WherePartMade (claim_step job before.hand.topics.claim) note before after
+      (λ w t. SawStands before.hand.state.sizes before.hand.topics.claim w → (seen : Seen) → result ≢ Wait seen)
+  load_waits_not result never =
+      where_claimed job (part.Map word) note found before after
+      (λ w t. SawStands before.hand.state.sizes before.hand.topics.claim w → (seen : Seen) → result ≢ Wait seen)
+      (loads job word before.hand.topics.claim none next) M (λ w at has stands. never)

@@ -1,3 +1,4 @@
 pub mod Claiming
+pub mod ClaimedAlone
 pub mod Paging
 pub mod FirstSeen

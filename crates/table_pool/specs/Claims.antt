@@ -23,6 +23,8 @@ use Rattle.step_seats.specs.declared.turn.Turn.TheVariants.{More, Wait, Retry, D
 use Rattle.table_pool.specs.declared.claim.Claim.{Claim}
 use Rattle.table_pool.specs.declared.claim.Claimed.{Claimed}
 use Rattle.table_pool.specs.declared.claim.Claimed.TheVariants.{Page, Empty}
+use Rattle.step_seats.specs.PartTurns.{WherePartMade}
+use Rattle.step_seats.specs.Seats.{Seat}
 
 -- The claim has begun, and saw free pages in the word that it has come to.
 abbrev pub sees_pages : Claim → MapClaim → Bool
@@ -116,3 +118,31 @@ SawStands z claim w = 0 < claim.seen → word_in z w area.PoolMap claim.at ≡ c
 -- at most so many turns until a claim is over, where none of them waits
 abbrev pub turns_left : Sizes → Claim → MapClaim → ℕ
 turns_left z job claim = claim_left job.begun z claim
+
+-- It holds where the next step of the claim was made.
+abbrev pub WhereClaimed : Claim → ℕ → Seat → Seat → (World Held → World Held → Type 0) → Type 0
+WhereClaimed job note before after P = WherePartMade (claim_step job before.hand.topics.claim) note before after P
+
+-- A page that the turn answers was free where its claim was made.
+abbrev pub WasFree : Turn Claimed → Claim → ℕ → Seat → Seat → Type 0
+WasFree turn job note before after =
+    (page : ℕ) → turn ≡ Done (Page page) → WhereClaimed job note before after (λ w v. IsFreePage before.hand.state.sizes page w)
+
+-- It is the claimer's alone then.
+abbrev pub IsItsAlone : Turn Claimed → Claim → ℕ → Seat → Seat → Type 0
+IsItsAlone turn job note before after =
+    (page : ℕ) → turn ≡ Done (Page page) → WhereClaimed job note before after (λ w v. IsClaimersAlone before.hand.state.sizes before.actor page v)
+
+-- Where the step was made, what the claim saw stands in the map then.
+abbrev pub SawWhatStands : Claim → ℕ → Seat → Seat → Type 0
+SawWhatStands job note before after = WhereClaimed job note before after (λ w v. SawStands before.hand.state.sizes after.hand.topics.claim v)
+
+-- Where the step was made while what the claim saw stood in the map, the turn doesn't wait.
+abbrev pub GoesOnWhereSawStands : Turn Claimed → Claim → ℕ → Seat → Seat → Type 0
+GoesOnWhereSawStands turn job note before after =
+    WhereClaimed job note before after (λ w v. SawStands before.hand.state.sizes before.hand.topics.claim w → (seen : Seen) → turn ≢ Wait seen)
+
+-- Fewer turns are left than before.
+abbrev pub IsNearer : Claim → Claim → Seat → Seat → Type 0
+IsNearer job next before after =
+    turns_left before.hand.state.sizes next after.hand.topics.claim < turns_left before.hand.state.sizes job before.hand.topics.claim

@@ -16,6 +16,8 @@ use Rattle.mmu_core.specs.invariant.PoolPart.{is_free}
 use Rattle.mmu_core.specs.machine.View.{word_in}
 use Rattle.step_seats.specs.declared.turn.Turn.{Turn}
 use Rattle.step_seats.specs.declared.turn.Turn.TheVariants.{More, Wait, Retry, Done}
+use Rattle.step_seats.specs.PartTurns.{WherePartMade}
+use Rattle.step_seats.specs.Seats.{Seat}
 
 -- The step of a fill of a page of which so many words are filled: the next word, and the role where all 512 are.
 abbrev pub fill_step : ℕ → ℕ → PartStep
@@ -62,3 +64,9 @@ GivesPage (Retry cause) before after = ⊥
 pub record FreesPage (z : Sizes) (page : ℕ) (w t : World Held) : Type 0 where
   pub free : is_free (word_in z t area.PoolMap) page ≡ true
   pub others : (k : ℕ) → k ≢ page → is_free (word_in z t area.PoolMap) k ≡ is_free (word_in z w area.PoolMap) k
+
+-- Where the next word of the page was filled, or its role, it holds the value then, and nothing else has changed.
+abbrev pub FillsWhereMade : ℕ → ℕ → ℕ → Seat → Seat → Type 0
+FillsWhereMade page value note before after =
+    WherePartMade (fill_step (words_filled before.hand.topics.owned) value) note before after
+    (StoresNext before.hand.state.sizes page (words_filled before.hand.topics.owned) value)

@@ -1,13 +1,21 @@
-ghost use Rattle.std.specs.Prelude.{◌≡◌, ◌≢◌, ◌<◌, ℕ, true, false, None};
-ghost use Rattle.core_views.specs.declared.hand.Seen.{Seen};
+ghost use Rattle.std.specs.Prelude.{◌≡◌, ◌<◌, ℕ, true, false, None};
 ghost use Rattle.mmu_core.specs.machine.MayMake.{MayMake};
 ghost use Rattle.mmu_core.specs.machine.Steps.{has_line};
 ghost use Rattle.mmu_core.specs.machine.Worlds.{HandReached};
 ghost use Rattle.spte_words.specs.Areas.{words_of_bits};
 ghost use Rattle.step_seats.specs.Moves.{KeepsRoom};
-ghost use Rattle.step_seats.specs.PartTurns.{TurnsPart, WherePartMade, waits};
-ghost use Rattle.step_seats.specs.declared.turn.Turn.TheVariants.{More, Wait, Done};
-ghost use Rattle.table_pool.specs.Claims.{ClaimTurn, IsClaimersAlone, IsFirstSeen, IsFreePage, SawStands, claim_step, turns_left};
+ghost use Rattle.step_seats.specs.PartTurns.{TurnsPart, waits};
+ghost use Rattle.step_seats.specs.declared.turn.Turn.TheVariants.{More, Done};
+ghost use Rattle.table_pool.specs.Claims.{
+  ClaimTurn,
+  GoesOnWhereSawStands,
+  IsFirstSeen,
+  IsItsAlone,
+  IsNearer,
+  SawWhatStands,
+  WasFree,
+  claim_step,
+};
 ghost use Rattle.table_pool.specs.declared.claim.Claimed.TheVariants.{Page};
 
 use core_views::{Hand, Seen};
@@ -56,19 +64,19 @@ impl Claim {
     /// `Wait` exactly where its step waits, since another actor took the page
     /// meanwhile: what was seen then is what the claim goes on with.
     pub fn turn<S: Stepper>(&mut self, s: &mut S, note: u64) -> Turn<Claimed>
-        requires may { MayMake (claim_step self.old (S.handful s.old).core.topics.claim) note (S.handful s.old).core }
-        requires reserved { 0 < (S.handful s.old).room }
-        ensures step { TurnsPart (waits result) (claim_step self.old (S.handful s.old).core.topics.claim) note (S.actor s.old) (S.handful s.old).core (S.handful s.new).core (S.tells s.old) (S.tells s.new) }
-        ensures turned { ClaimTurn (S.handful s.old).core.state.sizes self.old result (S.handful s.old).core.topics (S.handful s.new).core.topics }
+        requires may { MayMake (claim_step self.old (S.seat s.old).hand.topics.claim) note (S.seat s.old).hand }
+        requires reserved { 0 < (S.seat s.old).room }
+        ensures step { TurnsPart (waits result) (claim_step self.old (S.seat s.old).hand.topics.claim) note (S.seat s.old) (S.seat s.new) }
+        ensures turned { ClaimTurn (S.seat s.old).hand.state.sizes self.old result (S.seat s.old).hand.topics (S.seat s.new).hand.topics }
         ensures begun { self.new.begun ≡ true }
-        ensures first { (page : ℕ) → result ≡ Done (Page page) → IsFirstSeen page (S.handful s.old).core.topics.claim }
-        ensures free { (page : ℕ) → result ≡ Done (Page page) → WherePartMade (claim_step self.old (S.handful s.old).core.topics.claim) note (S.actor s.old) (S.handful s.old).core (S.handful s.new).core (S.tells s.old) (λ w t. IsFreePage (S.handful s.old).core.state.sizes page w) }
-        ensures sole { (page : ℕ) → result ≡ Done (Page page) → WherePartMade (claim_step self.old (S.handful s.old).core.topics.claim) note (S.actor s.old) (S.handful s.old).core (S.handful s.new).core (S.tells s.old) (λ w t. IsClaimersAlone (S.handful s.old).core.state.sizes (S.actor s.old) page t) }
-        ensures stands { WherePartMade (claim_step self.old (S.handful s.old).core.topics.claim) note (S.actor s.old) (S.handful s.old).core (S.handful s.new).core (S.tells s.old) (λ w t. SawStands (S.handful s.old).core.state.sizes (S.handful s.new).core.topics.claim t) }
-        ensures alone { WherePartMade (claim_step self.old (S.handful s.old).core.topics.claim) note (S.actor s.old) (S.handful s.old).core (S.handful s.new).core (S.tells s.old) (λ w t. SawStands (S.handful s.old).core.state.sizes (S.handful s.old).core.topics.claim w → (seen : Seen) → result ≢ Wait seen) }
-        ensures nearer { result ≡ More → turns_left (S.handful s.old).core.state.sizes self.new (S.handful s.new).core.topics.claim < turns_left (S.handful s.old).core.state.sizes self.old (S.handful s.old).core.topics.claim }
-        ensures room { KeepsRoom (S.handful s.old) (S.handful s.new) }
-        ensures same { (S.actor s.new ≡ S.actor s.old) × (S.frame s.new ≡ S.frame s.old) }
+        ensures first { (page : ℕ) → result ≡ Done (Page page) → IsFirstSeen page (S.seat s.old).hand.topics.claim }
+        ensures free { WasFree result self.old note (S.seat s.old) (S.seat s.new) }
+        ensures sole { IsItsAlone result self.old note (S.seat s.old) (S.seat s.new) }
+        ensures stands { SawWhatStands self.old note (S.seat s.old) (S.seat s.new) }
+        ensures alone { GoesOnWhereSawStands result self.old note (S.seat s.old) (S.seat s.new) }
+        ensures nearer { result ≡ More → IsNearer self.old self.new (S.seat s.old) (S.seat s.new) }
+        ensures room { KeepsRoom (S.seat s.old) (S.seat s.new) }
+        ensures same { ((S.seat s.new).actor ≡ (S.seat s.old).actor) × (S.frame s.new ≡ S.frame s.old) }
     {
         part_rests(s.hand());
         let map = map_of(&s.hand().state().sizes);

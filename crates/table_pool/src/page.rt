@@ -5,7 +5,7 @@ ghost use Rattle.part_steps.specs.declared.part_step.PartStep.TheVariants as par
 ghost use Rattle.step_seats.specs.Moves.{KeepsRoom};
 ghost use Rattle.step_seats.specs.PartTurns.{MadePart, MakesPart, WherePartMade};
 ghost use Rattle.step_seats.specs.declared.turn.Turn.TheVariants.{More, Done};
-ghost use Rattle.table_pool.specs.Pages.{FillTurn, FreesPage, GivesPage, StoresNext, fill_step, words_left};
+ghost use Rattle.table_pool.specs.Pages.{FillTurn, FillsWhereMade, FreesPage, GivesPage, fill_step, words_left};
 
 use mmu_core::part_rests;
 use part_steps::{PartStep, part_kind, words_filled};
@@ -28,11 +28,11 @@ pub(crate) fn fill_step(filled: u64, value: u64) -> PartStep
 // Writes this value in the word of the owned page that is next, or in its role:
 // a store answers what it wrote.
 fn fill_next<S: Stepper>(s: &mut S, value: u64, note: u64)
-    requires may { MayMake (fill_step (words_filled (S.handful s.old).core.topics.owned) value) note (S.handful s.old).core }
-    requires reserved { 0 < (S.handful s.old).room }
-    ensures made { MadePart (fill_step (words_filled (S.handful s.old).core.topics.owned) value) note value (S.actor s.old) (S.handful s.old).core (S.handful s.new).core (S.tells s.old) (S.tells s.new) }
-    ensures room { KeepsRoom (S.handful s.old) (S.handful s.new) }
-    ensures same { (S.actor s.new ≡ S.actor s.old) × (S.frame s.new ≡ S.frame s.old) }
+    requires may { MayMake (fill_step (words_filled (S.seat s.old).hand.topics.owned) value) note (S.seat s.old).hand }
+    requires reserved { 0 < (S.seat s.old).room }
+    ensures made { MadePart (fill_step (words_filled (S.seat s.old).hand.topics.owned) value) note value (S.seat s.old) (S.seat s.new) }
+    ensures room { KeepsRoom (S.seat s.old) (S.seat s.new) }
+    ensures same { ((S.seat s.new).actor ≡ (S.seat s.old).actor) × (S.frame s.new ≡ S.frame s.old) }
 {
     let hand = s.hand();
     part_rests(hand);
@@ -61,16 +61,16 @@ impl Fill {
     /// where all 512 are written. `Done` once the role is written. It never
     /// waits.
     pub fn turn<S: Stepper>(&mut self, s: &mut S, value: u64, note: u64) -> Turn<()>
-        requires may { MayMake (fill_step (words_filled (S.handful s.old).core.topics.owned) value) note (S.handful s.old).core }
-        requires page { page_owned (S.handful s.old).core.topics.owned ≡ self.old.page }
-        requires reserved { 0 < (S.handful s.old).room }
-        ensures made { MadePart (fill_step (words_filled (S.handful s.old).core.topics.owned) value) note value (S.actor s.old) (S.handful s.old).core (S.handful s.new).core (S.tells s.old) (S.tells s.new) }
-        ensures turned { FillTurn self.old.page value result (S.handful s.old).core.topics (S.handful s.new).core.topics }
-        ensures writes { WherePartMade (fill_step (words_filled (S.handful s.old).core.topics.owned) value) note (S.actor s.old) (S.handful s.old).core (S.handful s.new).core (S.tells s.old) (StoresNext (S.handful s.old).core.state.sizes self.old.page (words_filled (S.handful s.old).core.topics.owned) value) }
+        requires may { MayMake (fill_step (words_filled (S.seat s.old).hand.topics.owned) value) note (S.seat s.old).hand }
+        requires page { page_owned (S.seat s.old).hand.topics.owned ≡ self.old.page }
+        requires reserved { 0 < (S.seat s.old).room }
+        ensures made { MadePart (fill_step (words_filled (S.seat s.old).hand.topics.owned) value) note value (S.seat s.old) (S.seat s.new) }
+        ensures turned { FillTurn self.old.page value result (S.seat s.old).hand.topics (S.seat s.new).hand.topics }
+        ensures writes { FillsWhereMade self.old.page value note (S.seat s.old) (S.seat s.new) }
         ensures page { self.new ≡ self.old }
-        ensures nearer { result ≡ More → words_left (S.handful s.new).core.topics < words_left (S.handful s.old).core.topics }
-        ensures room { KeepsRoom (S.handful s.old) (S.handful s.new) }
-        ensures same { (S.actor s.new ≡ S.actor s.old) × (S.frame s.new ≡ S.frame s.old) }
+        ensures nearer { result ≡ More → words_left (S.seat s.new).hand.topics < words_left (S.seat s.old).hand.topics }
+        ensures room { KeepsRoom (S.seat s.old) (S.seat s.new) }
+        ensures same { ((S.seat s.new).actor ≡ (S.seat s.old).actor) × (S.frame s.new ≡ S.frame s.old) }
     {
         let filled = words_filled(s.hand().topics().owned);
         fill_next(s, value, note);
@@ -99,15 +99,15 @@ impl Give {
 
     /// Puts the page's bit back into the map. It is done in one turn.
     pub fn turn<S: Stepper>(&mut self, s: &mut S, note: u64) -> Turn<()>
-        requires may { MayMake part.Give note (S.handful s.old).core }
-        requires page { page_owned (S.handful s.old).core.topics.owned ≡ self.old.page }
-        requires reserved { 0 < (S.handful s.old).room }
-        ensures step { MakesPart part.Give note (S.actor s.old) (S.handful s.old).core (S.handful s.new).core (S.tells s.old) (S.tells s.new) }
-        ensures turned { GivesPage result (S.handful s.old).core.topics (S.handful s.new).core.topics }
-        ensures frees { WherePartMade part.Give note (S.actor s.old) (S.handful s.old).core (S.handful s.new).core (S.tells s.old) (FreesPage (S.handful s.old).core.state.sizes self.old.page) }
+        requires may { MayMake part.Give note (S.seat s.old).hand }
+        requires page { page_owned (S.seat s.old).hand.topics.owned ≡ self.old.page }
+        requires reserved { 0 < (S.seat s.old).room }
+        ensures step { MakesPart part.Give note (S.seat s.old) (S.seat s.new) }
+        ensures turned { GivesPage result (S.seat s.old).hand.topics (S.seat s.new).hand.topics }
+        ensures frees { WherePartMade part.Give note (S.seat s.old) (S.seat s.new) (FreesPage (S.seat s.old).hand.state.sizes self.old.page) }
         ensures page { self.new ≡ self.old }
-        ensures room { KeepsRoom (S.handful s.old) (S.handful s.new) }
-        ensures same { (S.actor s.new ≡ S.actor s.old) × (S.frame s.new ≡ S.frame s.old) }
+        ensures room { KeepsRoom (S.seat s.old) (S.seat s.new) }
+        ensures same { ((S.seat s.new).actor ≡ (S.seat s.old).actor) × (S.frame s.new ≡ S.frame s.old) }
     {
         let _ = make_part(s, PartStep::Give, note);
         Turn::Done(())

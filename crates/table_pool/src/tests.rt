@@ -63,9 +63,9 @@ fn start(alloc: Global) -> Result<PlainMachine, NoMemory> {
 
 // Takes room for a step, and looks whether the hand allows it.
 fn make_ready<S: Stepper>(seat: &mut S, step: PartStep) -> Result<(), Fail>
-    ensures may { OnOk result (MayMake step 0 (S.handful seat.new).core) }
-    ensures room { OnOk result (0 < (S.handful seat.new).room) }
-    ensures hand { (S.handful seat.new).core ≡ (S.handful seat.old).core }
+    ensures may { OnOk result (MayMake step 0 (S.seat seat.new).hand) }
+    ensures room { OnOk result (0 < (S.seat seat.new).room) }
+    ensures hand { (S.seat seat.new).hand ≡ (S.seat seat.old).hand }
 {
     seat.reserve(&LINE)?;
     if !allows(seat.hand(), step, 0) {
@@ -77,7 +77,7 @@ fn make_ready<S: Stepper>(seat: &mut S, step: PartStep) -> Result<(), Fail>
 // Looks whether the claim may go on: the hand has no line left and owns no page,
 // and the claim isn't over.
 fn expect_claim<S: Stepper>(seat: &S, job: &Claim) -> Result<(), Fail>
-    ensures { OnOk result (MayMake (claim_step job.now (S.handful seat.now).core.topics.claim) 0 (S.handful seat.now).core) }
+    ensures { OnOk result (MayMake (claim_step job.now (S.seat seat.now).hand.topics.claim) 0 (S.seat seat.now).hand) }
 {
     let hand = seat.hand();
     part_rests(hand);
@@ -98,7 +98,7 @@ fn claim_by<S: Stepper>(seat: &mut S, job: &mut Claim) -> Result<Turn<Claimed>, 
 
 // Looks whether the seat owns the page.
 fn expect_owned<S: Stepper>(seat: &S, page: u64) -> Result<(), Fail>
-    ensures { OnOk result (page_owned (S.handful seat.now).core.topics.owned ≡ page) }
+    ensures { OnOk result (page_owned (S.seat seat.now).hand.topics.owned ≡ page) }
 {
     match seat.hand().topics().owned {
         Some(owned) if owned.page == page => Ok(()),

@@ -18,22 +18,22 @@ use Rattle.part_steps.specs.PartTopics.{part_topics}
 use Rattle.part_steps.specs.StayTopics.{may_walk}
 use Rattle.part_steps.specs.WalkTopics.{gone_down, linked_page}
 use Rattle.part_steps.specs.ControlTopics.{at_root}
-use Rattle.mmu_core.specs.machine.View.{word_in}
+use Rattle.step_seats.specs.Seats.{Seat}
 use Rattle.step_seats.specs.PartTurns.{MadePart, WherePartMade}
-use Rattle.step_seats.specs.Where.{Told}
 use Rattle.tdp_walk.specs.declared.walk.Walk.{Walk}
-use Rattle.tdp_walk.specs.Walks.{GoesDown, StandsAtRoot, StopsAt, found_last, walk_step, word_next}
+use Rattle.tdp_walk.specs.Walks.{FoundNext, GoesDown, StandsAtRoot, StopsAt, walk_step}
 use Rattle.mmu_core.proofs.held.HeldKept.{page_below}
-use Rattle.step_seats.proofs.Where.{only, where_made}
+use Rattle.step_seats.proofs.Where.{telling, where_made}
 use Rattle.step_seats.proofs.Found.{found_told}
-use Rattle.mmu_core.specs.machine.Machine.{World}
 
 -- At level 1 no entry is a link.
 lowest : (v page : ℕ) → kind_of 1 v ≡ entry_kind.Table page → ⊥
 unfolding kind_of is_leaf_at
 lowest v page is = by (v == frozen_word) (has_bit 11 v) is
   where
-    by : (a b : Bool) → (if a then entry_kind.Frozen else if b then (if true then entry_kind.Leaf else entry_kind.Table (frame_in v % 2 ^ 32)) else entry_kind.Absent) ≡ entry_kind.Table page → ⊥
+    by : (a b : Bool)
+        → (if a then entry_kind.Frozen else if b then (if true then entry_kind.Leaf else entry_kind.Table (frame_in v % 2 ^ 32)) else entry_kind.Absent) ≡ entry_kind.Table page
+        → ⊥
     by true b e = absurd (cc e)
     by false true e = absurd (cc e)
     by false false e = absurd (cc e)
@@ -46,7 +46,8 @@ above level v page is from = by (level == 1) (λ e. grind (arith, nat_tests)) (�
     by false one more = more refl
 
 -- The guest frame's run one level down: its number among the runs of this level, and its place in that one.
-run_below : (level gfn prefix : ℕ) → 2 ≤ level → level ≤ 4 → gfn / level_span level / 512 ≡ prefix → gfn / level_span (level - 1) / 512 ≡ prefix * 512 + gfn / level_span level % 512
+run_below : (level gfn prefix : ℕ) → 2 ≤ level → level ≤ 4 → gfn / level_span level / 512 ≡ prefix
+    → gfn / level_span (level - 1) / 512 ≡ prefix * 512 + gfn / level_span level % 512
 run_below zero gfn prefix from to is = absurd (omega arith)
 run_below (suc zero) gfn prefix from to is = absurd (omega arith)
 run_below (suc (suc zero)) gfn prefix from to is =
@@ -64,7 +65,8 @@ run_below (suc (suc (suc (suc zero)))) gfn prefix from to is =
 run_below (suc (suc (suc (suc (suc level))))) gfn prefix from to is = absurd (omega arith)
 
 -- The root is over every guest frame below 2 ^ 36.
-pub stands_at_root : (before after : Topics) (gfn v : ℕ) → gfn < 2 ^ 36 → may_walk before.stay before.hold ≡ true → after ≡ part_topics part.Root before v → StandsAtRoot gfn before after
+pub stands_at_root : (before after : Topics) (gfn v : ℕ) → gfn < 2 ^ 36 → may_walk before.stay before.hold ≡ true
+    → after ≡ part_topics part.Root before v → StandsAtRoot gfn before after
 stands_at_root before after gfn v small may made = record { over = subst (IsOver gfn) (sym walk) over; others = same ∙ ap (λ root. record before { walk = record before.walk { level = 4; prefix = 0; root = root; index = 512 } }) (sym (ap (λ (x : TableWalk). x.root) walk)) }
   where
     same : after ≡ record before { walk = at_root true before.walk v }
@@ -76,7 +78,8 @@ stands_at_root before after gfn v small may made = record { over = subst (IsOver
     over : IsOver gfn (at_root true before.walk v)
     over = record { small = small; there = omega arith; run = ap (λ n. gfn / n / 512) span_4 ∙ omega (arith, small) }
 
-pub goes_down : (before after : Topics) (gfn v page : ℕ) → IsOver gfn before.walk → before.walk.level ≤ 4 → kind_of before.walk.level v ≡ entry_kind.Table page → after ≡ part_topics (part.Walk gfn) before v → GoesDown gfn before after
+pub goes_down : (before after : Topics) (gfn v page : ℕ) → IsOver gfn before.walk → before.walk.level ≤ 4
+    → kind_of before.walk.level v ≡ entry_kind.Table page → after ≡ part_topics (part.Walk gfn) before v → GoesDown gfn before after
 goes_down before after gfn v page over to is made =
     let two = above before.walk.level v page is over.there in
     let j : ℕ = entry_index gfn before.walk.level in
@@ -93,7 +96,9 @@ goes_down before after gfn v page over to is made =
     }
 
 -- Where the entry is no link the walk stays, and has seen it.
-pub stops_at : (kind : SpteKind) (before after : Topics) (gfn v level : ℕ) → linked_page kind ≡ None → IsOver gfn before.walk → level ≡ before.walk.level → kind_of level v ≡ kind → after ≡ part_topics (part.Walk gfn) before v → (v ≡ after.walk.entry) × StopsAt kind level gfn before after
+pub stops_at : (kind : SpteKind) (before after : Topics) (gfn v level : ℕ) → linked_page kind ≡ None → IsOver gfn before.walk
+    → level ≡ before.walk.level → kind_of level v ≡ kind → after ≡ part_topics (part.Walk gfn) before v
+    → (v ≡ after.walk.entry) × StopsAt kind level gfn before after
 stops_at kind before after gfn v level none over here is made = (
   sym entry,
   record {
@@ -114,23 +119,25 @@ keeps_entry : (to : Option ℕ) (w : TableWalk) (j v : ℕ) → (gone_down to w 
 keeps_entry None w j v = refl
 keeps_entry (Some page) w j v = refl
 
--- What was loaded last is the word that the walk came to next, of the words of this world.
-abbrev FoundNext : Walk → Held → Held → World Held → Type 0
-FoundNext walk before after w = found_last walk after.topics.walk ≡ word_next walk before.topics.walk (word_in before.state.sizes w)
-
-pub root_found : (walk : Walk) (note found a : ℕ) (before after : Held) (told tells : Told) → walk.rooted ≡ false → MadePart part.Root note found a before after told tells
-    → WherePartMade (walk_step walk) note a before after told (λ w t. FoundNext walk before after w)
-root_found walk note found a before after told tells not_yet made =
-    subst (λ (b : Bool). WherePartMade (if b then part.Walk walk.gfn else part.Root) note a before after told (λ w t. FoundNext walk before after w)) (sym not_yet)
-    (where_made made (λ w at has. rw (not_yet) (ap (λ (t : Topics). t.walk.root) made.topics ∙ found_told part.Root note found a before after (only w) _ at tt)))
+pub root_found : (walk : Walk) (note found : ℕ) (before after : Seat) → walk.rooted ≡ false → MadePart part.Root note found before after
+    → WherePartMade (walk_step walk) note before after (λ w t. FoundNext walk before.hand after.hand w)
+root_found walk note found before after not_yet made =
+    subst (λ (b : Bool). WherePartMade (if b then part.Walk walk.gfn else part.Root) note before after (λ w t. FoundNext walk before.hand after.hand w))
+    (sym not_yet)
+    (where_made made (λ w at has. rw (not_yet) (ap (λ (t : Topics). t.walk.root) made.topics ∙ found_told part.Root note found (telling w before) _ at tt)))
 
 -- the walk has come to a table with the guest frame's entry
 pub is_over : (walk : Walk) (h : Held) → walk.rooted ≡ true → PartNeeds (walk_step walk) h → IsOver walk.gfn h.topics.walk
 is_over walk h already needs = rw already at needs
 
-pub entry_found : (walk : Walk) (note found a : ℕ) (before after : Held) (told tells : Told) → walk.rooted ≡ true → PartNeeds (walk_step walk) before → MadePart (part.Walk walk.gfn) note found a before after told tells
-    → WherePartMade (walk_step walk) note a before after told (λ w t. FoundNext walk before after w)
-entry_found walk note found a before after told tells already needs made =
-    let loaded = keeps_entry (linked_page (kind_of before.topics.walk.level found)) before.topics.walk (entry_index walk.gfn before.topics.walk.level) found in
-    subst (λ (b : Bool). WherePartMade (if b then part.Walk walk.gfn else part.Root) note a before after told (λ w t. FoundNext walk before after w)) (sym already)
-    (where_made made (λ w at has. rw (already) (ap (λ (t : Topics). t.walk.entry) made.topics ∙ loaded ∙ found_told (part.Walk walk.gfn) note found a before after (only w) _ at (is_over walk before already needs))))
+pub entry_found : (walk : Walk) (note found : ℕ) (before after : Seat) → walk.rooted ≡ true → PartNeeds (walk_step walk) before.hand
+    → MadePart (part.Walk walk.gfn) note found before after
+    → WherePartMade (walk_step walk) note before after (λ w t. FoundNext walk before.hand after.hand w)
+entry_found walk note found before after already needs made =
+    let loaded = keeps_entry (linked_page (kind_of before.hand.topics.walk.level found)) before.hand.topics.walk
+    (entry_index walk.gfn before.hand.topics.walk.level) found in
+    subst (λ (b : Bool). WherePartMade (if b then part.Walk walk.gfn else part.Root) note before after (λ w t. FoundNext walk before.hand after.hand w))
+    (sym already)
+    (where_made made (λ w at has. rw (already)
+    (ap (λ (t : Topics). t.walk.entry) made.topics ∙ loaded
+    ∙ found_told (part.Walk walk.gfn) note found (telling w before) _ at (is_over walk before.hand already needs))))

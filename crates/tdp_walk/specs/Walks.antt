@@ -17,6 +17,11 @@ use Rattle.step_seats.specs.declared.turn.Turn.TheVariants.{More, Wait, Retry, D
 use Rattle.tdp_walk.specs.declared.walk.Walk.{Walk}
 use Rattle.tdp_walk.specs.declared.walk.Walked.{Walked}
 use Rattle.tdp_walk.specs.declared.walk.Walked.TheVariants.{Leaf, Absent, Frozen}
+use Rattle.core_views.specs.Held.{Held}
+use Rattle.mmu_core.specs.machine.Machine.{World}
+use Rattle.mmu_core.specs.machine.View.{word_in}
+use Rattle.step_seats.specs.PartTurns.{WherePartMade}
+use Rattle.step_seats.specs.Seats.{Seat}
 
 -- the step of the next turn: the root is loaded first, and then the frame's entry in the table that the walk has come to
 abbrev pub walk_step : Walk → PartStep
@@ -72,3 +77,11 @@ word_next walk at words = if walk.rooted then words area.Pool (pool_index (table
 -- the most turns that are left
 abbrev pub turns_left : Walk → TableWalk → ℕ
 turns_left walk at = if walk.rooted then at.level else 5
+
+-- What was loaded last is the word that the walk came to next, of the words of this world.
+abbrev pub FoundNext : Walk → Held → Held → World Held → Type 0
+FoundNext walk before after w = found_last walk after.topics.walk ≡ word_next walk before.topics.walk (word_in before.state.sizes w)
+
+-- It is, of the words of the world in which the step was made.
+abbrev pub WasNextWord : Walk → ℕ → Seat → Seat → Type 0
+WasNextWord walk note before after = WherePartMade (walk_step walk) note before after (λ w v. FoundNext walk before.hand after.hand w)

@@ -1,11 +1,10 @@
 ghost use Rattle.std.specs.Prelude.{◌≡◌, ◌<◌, ◌^◌, true, false};
 ghost use Rattle.mmu_core.specs.machine.MayMake.{MayMake};
 ghost use Rattle.part_steps.specs.StayTopics.{may_walk};
-ghost use Rattle.mmu_core.specs.machine.View.{word_in};
 ghost use Rattle.step_seats.specs.Moves.{KeepsRoom};
-ghost use Rattle.step_seats.specs.PartTurns.{MakesPart, WherePartMade};
+ghost use Rattle.step_seats.specs.PartTurns.{MakesPart};
 ghost use Rattle.step_seats.specs.declared.turn.Turn.TheVariants.{More};
-ghost use Rattle.tdp_walk.specs.Walks.{FindsRoot, Looks, found_last, turns_left, walk_step, word_next};
+ghost use Rattle.tdp_walk.specs.Walks.{FindsRoot, Looks, WasNextWord, turns_left, walk_step};
 
 use mmu_core::part_rests;
 use part_steps::PartStep;
@@ -47,18 +46,18 @@ impl Walk {
     /// table that it comes to is for a run of frames that this one is in. It
     /// never waits.
     pub fn turn<S: Stepper>(&mut self, s: &mut S, note: u64) -> Turn<Walked>
-        requires may { MayMake (walk_step self.old) note (S.handful s.old).core }
-        requires reserved { 0 < (S.handful s.old).room }
+        requires may { MayMake (walk_step self.old) note (S.seat s.old).hand }
+        requires reserved { 0 < (S.seat s.old).room }
         requires gfn { self.old.gfn < 2 ^ 36 }
-        requires held { self.old.rooted ≡ false → may_walk (S.handful s.old).core.topics.stay (S.handful s.old).core.topics.hold ≡ true }
-        ensures step { MakesPart (walk_step self.old) note (S.actor s.old) (S.handful s.old).core (S.handful s.new).core (S.tells s.old) (S.tells s.new) }
-        ensures root { self.old.rooted ≡ false → FindsRoot result self.old.gfn (S.handful s.old).core.topics (S.handful s.new).core.topics }
-        ensures entry { self.old.rooted ≡ true → Looks result self.old.gfn (S.handful s.old).core.topics (S.handful s.new).core.topics }
-        ensures word { WherePartMade (walk_step self.old) note (S.actor s.old) (S.handful s.old).core (S.handful s.new).core (S.tells s.old) (λ w t. found_last self.old (S.handful s.new).core.topics.walk ≡ word_next self.old (S.handful s.old).core.topics.walk (word_in (S.handful s.old).core.state.sizes w)) }
+        requires held { self.old.rooted ≡ false → may_walk (S.seat s.old).hand.topics.stay (S.seat s.old).hand.topics.hold ≡ true }
+        ensures step { MakesPart (walk_step self.old) note (S.seat s.old) (S.seat s.new) }
+        ensures root { self.old.rooted ≡ false → FindsRoot result self.old.gfn (S.seat s.old).hand.topics (S.seat s.new).hand.topics }
+        ensures entry { self.old.rooted ≡ true → Looks result self.old.gfn (S.seat s.old).hand.topics (S.seat s.new).hand.topics }
+        ensures word { WasNextWord self.old note (S.seat s.old) (S.seat s.new) }
         ensures goes_on { self.new ≡ record { gfn = self.old.gfn; rooted = true } }
-        ensures nearer { result ≡ More → turns_left self.new (S.handful s.new).core.topics.walk < turns_left self.old (S.handful s.old).core.topics.walk }
-        ensures room { KeepsRoom (S.handful s.old) (S.handful s.new) }
-        ensures same { (S.actor s.new ≡ S.actor s.old) × (S.frame s.new ≡ S.frame s.old) }
+        ensures nearer { result ≡ More → turns_left self.new (S.seat s.new).hand.topics.walk < turns_left self.old (S.seat s.old).hand.topics.walk }
+        ensures room { KeepsRoom (S.seat s.old) (S.seat s.new) }
+        ensures same { ((S.seat s.new).actor ≡ (S.seat s.old).actor) × (S.frame s.new ≡ S.frame s.old) }
     {
         if !self.rooted {
             let _ = make_part(s, PartStep::Root, note);

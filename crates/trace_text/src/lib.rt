@@ -1,7 +1,7 @@
 //! Answered lines as text: what a run prints of them, one after the other.
 #![tactic(auto)]
 
-ghost use Rattle.std.specs.Prelude.{◌≡◌, IfOk, string_bytes};
+ghost use Rattle.std.specs.Prelude.{◌≡◌, ◌++◌, IfOk, OnOk, string_bytes};
 ghost use Rattle.core_views.specs.Text.{line_text, lines_text};
 ghost use Rattle.trace_text.specs.Laws.{LinesTell};
 
@@ -11,8 +11,21 @@ use std::alloc::Global;
 #[cfg(test)]
 mod tests;
 
-/// One answered line as it is printed, with its LF.
+/// Puts one answered line after a text, as it is printed, with its LF.
 #[tactic(auto, unfolding(core_views::specs::Text::line_text))]
+pub fn push_line(
+    text: &mut String,
+    number: u32,
+    actor: Actor,
+    answer: &Answer,
+) -> Result<(), NoMemory>
+    ensures { OnOk result (string_bytes text.new ≡ string_bytes text.old ++ line_text number actor answer.now) }
+{
+    write!(text, "{number} {actor} {answer}\n")?;
+    Ok(())
+}
+
+/// One answered line as it is printed, with its LF.
 pub fn answer_line(
     alloc: Global,
     number: u32,
@@ -21,7 +34,9 @@ pub fn answer_line(
 ) -> Result<String, NoMemory>
     ensures { IfOk result (λ t. string_bytes t ≡ line_text number actor answer.now) }
 {
-    Ok(format!(in alloc; "{number} {actor} {answer}\n")?)
+    let mut line = String::new(alloc);
+    push_line(&mut line, number, actor, answer)?;
+    Ok(line)
 }
 
 /// Answered lines as they are printed, one after the other.
@@ -31,7 +46,7 @@ pub fn text(alloc: Global, answers: &Answered) -> Result<String, NoMemory>
     let mut text = String::new(alloc);
     let mut rest = answers.as_slice();
     while let [line, more @ ..] = rest {
-        text.push_str(&answer_line(alloc, line.number, line.actor, &line.answer)?)?;
+        push_line(&mut text, line.number, line.actor, &line.answer)?;
         rest = more;
     }
     Ok(text)

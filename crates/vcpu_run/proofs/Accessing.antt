@@ -22,6 +22,7 @@ use Rattle.mmu_core.specs.lines.FaultKnows.{EndKnows}
 use Rattle.mmu_core.specs.lines.FaultSteps.{fault_next, fault_part}
 use Rattle.mmu_core.specs.lines.PartWaits.{part_seen, part_waits}
 use Rattle.mmu_core.specs.alone.LineAlone.{line_waits}
+use Rattle.step_seats.specs.Seats.{Seat}
 use Rattle.step_seats.specs.declared.turn.Turn.{Turn}
 use Rattle.step_seats.specs.declared.turn.Turn.TheVariants.{More, Wait, Retry, Done}
 use Rattle.core_views.specs.declared.place.Leaving.TheVariants as leaving
@@ -49,14 +50,14 @@ use Rattle.tdp_walk.specs.Walks.{walk_step}
 use Rattle.mmu_core.specs.lines.AccessSteps.{access_note, access_part, touch_of}
 use Rattle.mmu_core.specs.machine.Enabled.{Enabled}
 use Rattle.mmu_core.specs.machine.MayMake.{MayMake}
-use Rattle.mmu_core.specs.lines.KnowsPart.{KnowsPart}
-use Rattle.mmu_core.specs.lines.Rests.{Rests, RestsOn}
-use Rattle.mmu_core.specs.machine.Steps.{outcome_at, place_at, task_at, task_of}
+use Rattle.mmu_core.specs.lines.Forms.{KnowsPart, outcome_at}
+use Rattle.mmu_core.specs.lines.Rests.{Rests}
+use Rattle.mmu_core.specs.lines.AccessKnows.{RestsOn}
+use Rattle.mmu_core.specs.machine.Steps.{place_at, task_at, task_of}
 use Rattle.part_steps.specs.Tasks.{kind_of_task, map_of}
 use Rattle.mmu_core.specs.machine.Turns.{line_of, outcome_of}
 use Rattle.mmu_core.proofs.lines.KnowsKept.{access_vcpu}
 use Rattle.mmu_core.proofs.machine.Which.{enabled_is}
-use Rattle.step_seats.specs.Where.{Told}
 use Rattle.vcpu_run.specs.declared.access.AccessJob.{AccessJob}
 use Rattle.step_seats.specs.LineTurns.{Gives, MakesLine, TurnsLine, fault_turn, line_seen, line_turn, turn_of}
 use Rattle.step_seats.proofs.LineParts.{place_may_make, place_rests, place_task}
@@ -96,7 +97,8 @@ touch_same Read i = refl
 touch_same (Write x) i = refl
 touch_same (Add x) i = refl
 
-pub touches : (job : AccessJob) (h : Held) → StandsAt Touch job h → (touch_of job.op 0).written < 2 ^ 64 → (frame_in h.state.leaf < h.state.sizes.frames) × (job.word < h.state.sizes.words) × Enabled h (touch_kind h.state.sizes (frame_in h.state.leaf) job.word job.op 0)
+pub touches : (job : AccessJob) (h : Held) → StandsAt Touch job h → (touch_of job.op 0).written < 2 ^ 64
+    → (frame_in h.state.leaf < h.state.sizes.frames) × (job.word < h.state.sizes.words) × Enabled h (touch_kind h.state.sizes (frame_in h.state.leaf) job.word job.op 0)
 touches job h S small =
     let z : Sizes = h.state.sizes in
     let frame : ℕ = frame_in h.state.leaf in
@@ -113,7 +115,8 @@ touches job h S small =
       }),
     )
   where
-    inside_of : (op : Op) (z : Sizes) (i : ℕ) → place (map_of z) area.Content i < total (map_of z) → (kind_of_task z (record (touch_of op i) { may_end = 0 })).word < total (map_of z)
+    inside_of : (op : Op) (z : Sizes) (i : ℕ) → place (map_of z) area.Content i < total (map_of z)
+        → (kind_of_task z (record (touch_of op i) { may_end = 0 })).word < total (map_of z)
     inside_of Read z i lt = lt
     inside_of (Write x) z i lt = lt
     inside_of (Add x) z i lt = lt
@@ -124,7 +127,8 @@ touches job h S small =
     small_of (Add x) z i lt = lt
 
 -- Where the access of the hand stands.
-pub stands : (p : AccessPlace) (job : AccessJob) (h : Held) → length h.answers < length h.lines → Rests h → place_at h.state.place h ≡ place.Access p → (line_of h).command ≡ Access job.gfn job.word job.op → KnowsPart (place_at h.state.place h) (line_of h).command h → StandsAt p job h
+pub stands : (p : AccessPlace) (job : AccessJob) (h : Held) → length h.answers < length h.lines → Rests h → place_at h.state.place h ≡ place.Access p
+    → (line_of h).command ≡ Access job.gfn job.word job.op → KnowsPart (place_at h.state.place h) (line_of h).command h → StandsAt p job h
 stands p job h left rests at command knows = record {
   left = left;
   rests = rests;
@@ -154,25 +158,29 @@ over_gives end_of.HostFault waits way by_ = (not_true waits by_, refl)
 over_gives end_of.Starved waits way by_ = (not_true waits by_, refl)
 over_gives (end_of.Retry cause) waits way by_ = (not_true waits by_, refl)
 
-gives_fault : (turn : Turn Faulted) (next : FaultNext) (waits : Bool) (way : Seen) → AnswersBy turn next → WaitsBy turn waits way → Gives (answer_of turn) waits way (fault_turn next)
+gives_fault : (turn : Turn Faulted) (next : FaultNext) (waits : Bool) (way : Seen) → AnswersBy turn next → WaitsBy turn waits way
+    → Gives (answer_of turn) waits way (fault_turn next)
 gives_fault More (Goes p) waits way is by_ = (not_true waits by_, refl)
 gives_fault (Wait seen) (Goes p) waits way is by_ = by_
 gives_fault (Done answer) (Goes p) waits way is by_ = absurd is
 gives_fault (Retry cause) (Goes p) waits way is by_ = absurd is
-gives_fault turn (Ends e) waits way is by_ = subst (λ (t : Turn Faulted). Gives (answer_of t) waits way (fault_turn (Ends e))) (sym is) (over_gives e waits way (subst (λ (t : Turn Faulted). WaitsBy t waits way) is by_))
+gives_fault turn (Ends e) waits way is by_ =
+    subst (λ (t : Turn Faulted). Gives (answer_of t) waits way (fault_turn (Ends e))) (sym is) (over_gives e waits way (subst (λ (t : Turn Faulted). WaitsBy t waits way) is by_))
 
 -- what the fault of the access is
 abbrev pub fault_of : AccessJob → FaultJob
 fault_of job = record { gfn = job.gfn; write = is_write job.op }
 
 -- The turn of a fault is the line's.
-pub turns_fault : (p : FaultPlace) (job : AccessJob) (fault : FaultJob) (turn : Turn Faulted) (actor : ℕ) (h g : Held) (told tells : Told) → StandsAt (Fault p) job h → fault ≡ fault_of job → TurnsFault fault turn actor h g told tells → TurnsLine (answer_of turn) actor h g told tells
+pub turns_fault : (p : FaultPlace) (job : AccessJob) (fault : FaultJob) (turn : Turn Faulted) (before after : Seat) → StandsAt (Fault p) job before.hand
+    → fault ≡ fault_of job → TurnsFault fault turn before after → TurnsLine (answer_of turn) before after
 unfolding made_line
-turns_fault p job fault turn actor h g told tells S is T =
-    let M = (subst (λ (j : FaultJob). TurnsAt p j turn actor h g told tells) is (T p S.stands)).step in
+turns_fault p job fault turn before after S is T =
+    let h : Held = before.hand in
+    let M = (subst (λ (j : FaultJob). TurnsAt p j turn before after) is (T p S.stands)).step in
     let step : PartStep = fault_part p job.gfn h.topics in
     record {
-      makes = made_line step (access_note (Fault p)) M.found actor h g told tells (may_make (Fault p) job h S step refl) M.made;
+      makes = made_line step (access_note (Fault p)) M.found before after (may_make (Fault p) job h S step refl) M.made;
       gives = subst (λ (c : Command). Gives (answer_of turn) (line_waits (place_at h.state.place h) c h M.found) (line_seen (place_at h.state.place h) c h M.found) (line_turn (place_at h.state.place h) c h M.found)) (sym S.command)
           (subst (λ (q : Place). Gives (answer_of turn) (line_waits q (Access job.gfn job.word job.op) h M.found) (line_seen q (Access job.gfn job.word job.op) h M.found) (line_turn q (Access job.gfn job.word job.op) h M.found)) (sym S.stands)
           (gives_fault turn (fault_next p h.state.sizes job.gfn (is_write job.op) h.topics M.found) (part_waits step h.topics M.found) (part_seen step h M.found) M.turned M.waits_by));
@@ -183,7 +191,8 @@ stay_waits : (p : AccessPlace) (gfn word : ℕ) (op : Op) (h : Held) (v : ℕ) �
 stay_waits (Fault p) gfn word op h v stay = absurd stay
 stay_waits _ gfn word op h v stay = refl
 
-stay_turn : (p : AccessPlace) (gfn word : ℕ) (op : Op) (h : Held) (v : ℕ) → IsStay p → line_turn (place.Access p) (Access gfn word op) h v ≡ turn_of (outcome_at (place.Access p) (Access gfn word op) h v)
+stay_turn : (p : AccessPlace) (gfn word : ℕ) (op : Op) (h : Held) (v : ℕ) → IsStay p
+    → line_turn (place.Access p) (Access gfn word op) h v ≡ turn_of (outcome_at (place.Access p) (Access gfn word op) h v)
 stay_turn (Enter again) gfn word op h v stay = refl
 stay_turn (Pause again) gfn word op h v stay = refl
 stay_turn (Root again) gfn word op h v stay = refl
@@ -202,21 +211,37 @@ pub never_waits : (o : Outcome) (turn : Turn Answer) → turn ≡ turn_of o → 
 never_waits (outcome.Goes p) turn is seen e = absurd (cc (is, e))
 never_waits (outcome.Ends answer) turn is seen e = absurd (cc (is, e))
 
-pub turns_stay : (p : AccessPlace) (job : AccessJob) (turn : Turn Answer) (actor : ℕ) (h g : Held) (told tells : Told) → StandsAt p job h → IsStay p → (M : MakesLine actor h g told tells) → turn ≡ turn_of (outcome_of h M.found) → TurnsLine turn actor h g told tells
-turns_stay p job turn actor h g told tells S stay M is = record {
+pub turns_stay : (p : AccessPlace) (job : AccessJob) (turn : Turn Answer) (before after : Seat) → StandsAt p job before.hand → IsStay p
+    → (M : MakesLine before after)
+    → turn ≡ turn_of (outcome_of before.hand M.found) → TurnsLine turn before after
+turns_stay p job turn before after S stay M is = record {
   makes = M;
-  gives = gives_plain turn (line_turn (place_at h.state.place h) (line_of h).command h M.found) (line_waits (place_at h.state.place h) (line_of h).command h M.found) (line_seen (place_at h.state.place h) (line_of h).command h M.found)
-      (ap (λ (c : Command). line_waits (place_at h.state.place h) c h M.found) S.command ∙ ap (λ (q : Place). line_waits q (Access job.gfn job.word job.op) h M.found) S.stands ∙ stay_waits p job.gfn job.word job.op h M.found stay) (is ∙ same) (never_waits (outcome_of h M.found) turn is);
+  gives = gives_plain turn (line_turn q (line_of h).command h v) (line_waits q (line_of h).command h v) (line_seen q (line_of h).command h v)
+      (ap (λ (c : Command). line_waits q c h v) S.command ∙ ap (λ (x : Place). line_waits x own h v) S.stands ∙ stay_waits p job.gfn job.word job.op h v stay)
+      (is ∙ same) (never_waits (outcome_of h v) turn is);
 }
   where
-    same : turn_of (outcome_of h M.found) ≡ line_turn (place_at h.state.place h) (line_of h).command h M.found
+    h : Held
+    h = before.hand
+
+    v : ℕ
+    v = M.found
+
+    q : Place
+    q = place_at h.state.place h
+
+    own : Command
+    own = Access job.gfn job.word job.op
+
+    same : turn_of (outcome_of h v) ≡ line_turn q (line_of h).command h v
     same =
-        ap (λ (c : Command). turn_of (outcome_at (place_at h.state.place h) c h M.found)) S.command ∙ ap (λ (q : Place). turn_of (outcome_at q (Access job.gfn job.word job.op) h M.found)) S.stands
-        ∙ sym (stay_turn p job.gfn job.word job.op h M.found stay)
-        ∙ sym (ap (λ (q : Place). line_turn q (Access job.gfn job.word job.op) h M.found) S.stands) ∙ sym (ap (λ (c : Command). line_turn (place_at h.state.place h) c h M.found) S.command)
+        ap (λ (c : Command). turn_of (outcome_at q c h v)) S.command ∙ ap (λ (x : Place). turn_of (outcome_at x own h v)) S.stands
+        ∙ sym (stay_turn p job.gfn job.word job.op h v stay)
+        ∙ sym (ap (λ (x : Place). line_turn x own h v) S.stands) ∙ sym (ap (λ (c : Command). line_turn q c h v) S.command)
 
 -- A load of its walk.
-walk_at : (again rooted : Bool) (job : AccessJob) (h : Held) → StandsAt (walk_place again rooted) job h → MayMake (walk_step (record { gfn = job.gfn; rooted = rooted })) 0 h
+walk_at : (again rooted : Bool) (job : AccessJob) (h : Held) → StandsAt (walk_place again rooted) job h
+    → MayMake (walk_step (record { gfn = job.gfn; rooted = rooted })) 0 h
 walk_at again true job h S = may_make (Walk again) job h S (part.Walk job.gfn) refl
 walk_at again false job h S = may_make (Root again) job h S part.Root refl
 
@@ -232,27 +257,32 @@ walk_held true job h W root = absurd (cc root)
 walk_held false job h W root = ap (λ (s : Stay). may_walk s h.topics.hold) W.stands.knows.guest
 
 -- An exit, or a begin anew, has its cause: what its fault's turn says of it.
-over_cause : (e : FaultEnd) (job : AccessJob) (h : Held) → EndKnows e h.state.sizes job.gfn (is_write job.op) h.topics → HasItsCause (answer_of (end_turn e)) job h
+over_cause : (e : FaultEnd) (job : AccessJob) (h : Held) → EndKnows e h.state.sizes job.gfn (is_write job.op) h.topics
+    → HasItsCause (answer_of (end_turn e)) job h
 over_cause end_of.Installed job h K = tt
 over_cause end_of.Mmio job h K = K
 over_cause end_of.HostFault job h K = K
 over_cause end_of.Starved job h K = K
 over_cause (end_of.Retry cause) job h K = K
 
-next_cause : (turn : Turn Faulted) (next : FaultNext) (job : AccessJob) (h : Held) → AnswersBy turn next → EndsBy next (λ e. EndKnows e h.state.sizes job.gfn (is_write job.op) h.topics) → HasItsCause (answer_of turn) job h
+next_cause : (turn : Turn Faulted) (next : FaultNext) (job : AccessJob) (h : Held) → AnswersBy turn next
+    → EndsBy next (λ e. EndKnows e h.state.sizes job.gfn (is_write job.op) h.topics) → HasItsCause (answer_of turn) job h
 next_cause More (Goes p) job h is K = tt
 next_cause (Wait seen) (Goes p) job h is K = tt
 next_cause (Done answer) (Goes p) job h is K = absurd is
 next_cause (Retry cause) (Goes p) job h is K = absurd is
 next_cause turn (Ends e) job h is K = subst (λ (t : Turn Faulted). HasItsCause (answer_of t) job h) (sym is) (over_cause e job h K)
 
-pub fault_cause : (p : FaultPlace) (job : AccessJob) (fault : FaultJob) (turn : Turn Faulted) (actor : ℕ) (h g : Held) (told tells : Told) → StandsAt (Fault p) job h → fault ≡ fault_of job → TurnsFault fault turn actor h g told tells → HasItsCause (answer_of turn) job h
-fault_cause p job fault turn actor h g told tells S is T =
-    let turns : TurnsAt p (fault_of job) turn actor h g told tells = subst (λ (j : FaultJob). TurnsAt p j turn actor h g told tells) is (T p S.stands) in
-    next_cause turn (fault_next p h.state.sizes job.gfn (is_write job.op) h.topics turns.step.found) job h turns.step.turned turns.ends_by
+pub fault_cause : (p : FaultPlace) (job : AccessJob) (fault : FaultJob) (turn : Turn Faulted) (before after : Seat) → StandsAt (Fault p) job before.hand
+    → fault ≡ fault_of job → TurnsFault fault turn before after → HasItsCause (answer_of turn) job before.hand
+fault_cause p job fault turn before after S is T =
+    let turns : TurnsAt p (fault_of job) turn before after = subst (λ (j : FaultJob). TurnsAt p j turn before after) is (T p S.stands) in
+    next_cause turn (fault_next p before.hand.state.sizes job.gfn (is_write job.op) before.hand.topics turns.step.found) job before.hand turns.step.turned
+    turns.ends_by
 
 -- A stay in the guest ends with what it reached.
-stay_outcome : (p : AccessPlace) (gfn word : ℕ) (op : Op) (h : Held) (v : ℕ) (turn : Turn Answer) (job : AccessJob) → IsStay p → turn ≡ turn_of (outcome_at (place.Access p) (Access gfn word op) h v) → HasItsCause turn job h
+stay_outcome : (p : AccessPlace) (gfn word : ℕ) (op : Op) (h : Held) (v : ℕ) (turn : Turn Answer) (job : AccessJob) → IsStay p
+    → turn ≡ turn_of (outcome_at (place.Access p) (Access gfn word op) h v) → HasItsCause turn job h
 stay_outcome (Enter again) gfn word op h v turn job stay is = subst (λ (t : Turn Answer). HasItsCause t job h) (sym is) tt
 stay_outcome (Pause again) gfn word op h v turn job stay is = subst (λ (t : Turn Answer). HasItsCause t job h) (sym is) tt
 stay_outcome (Root again) gfn word op h v turn job stay is = subst (λ (t : Turn Answer). HasItsCause t job h) (sym is) tt
@@ -262,6 +292,7 @@ stay_outcome (Leave (leaving.Reached frame value)) gfn word op h v turn job stay
 stay_outcome (Leave leaving.Faults) gfn word op h v turn job stay is = subst (λ (t : Turn Answer). HasItsCause t job h) (sym is) tt
 stay_outcome (Fault p) gfn word op h v turn job stay is = absurd stay
 
-pub stay_cause : (p : AccessPlace) (job : AccessJob) (turn : Turn Answer) (h : Held) (v : ℕ) → StandsAt p job h → IsStay p → turn ≡ turn_of (outcome_of h v) → HasItsCause turn job h
+pub stay_cause : (p : AccessPlace) (job : AccessJob) (turn : Turn Answer) (h : Held) (v : ℕ) → StandsAt p job h → IsStay p
+    → turn ≡ turn_of (outcome_of h v) → HasItsCause turn job h
 stay_cause p job turn h v S stay is =
     stay_outcome p job.gfn job.word job.op h v turn job stay (is ∙ ap (λ (c : Command). turn_of (outcome_at (place_at h.state.place h) c h v)) S.command ∙ ap (λ (q : Place). turn_of (outcome_at q (Access job.gfn job.word job.op) h v)) S.stands)

@@ -13,7 +13,7 @@ use Rattle.core_views.specs.Slots.{is_write}
 use Rattle.fault_install.specs.declared.fault.Faulted.{Faulted}
 use Rattle.fault_install.specs.declared.fault.Faulted.TheVariants as faulted
 use Rattle.mmu_core.specs.lines.FaultKnows.{EndKnows}
-use Rattle.mmu_core.specs.lines.KnowsPart.{KnowsPart}
+use Rattle.mmu_core.specs.lines.Forms.{KnowsPart}
 use Rattle.mmu_core.specs.lines.Rests.{Rests}
 use Rattle.mmu_core.specs.machine.Steps.{place_at}
 use Rattle.mmu_core.specs.machine.Turns.{line_of}

@@ -72,12 +72,12 @@ impl AccessJob {
 
     // Makes the step of a stay in the guest.
     fn stay<S: Stepper>(&self, s: &mut S, place: AccessPlace)
-        requires stands { StandsAt place self.now (S.handful s.old).core }
+        requires stands { StandsAt place self.now (S.seat s.old).hand }
         requires stay { IsStay place }
-        requires reserved { 0 < (S.handful s.old).room }
-        ensures makes { MakesLine (S.actor s.old) (S.handful s.old).core (S.handful s.new).core (S.tells s.old) (S.tells s.new) }
-        ensures room { KeepsRoom (S.handful s.old) (S.handful s.new) }
-        ensures same { (S.actor s.new ≡ S.actor s.old) × (S.frame s.new ≡ S.frame s.old) }
+        requires reserved { 0 < (S.seat s.old).room }
+        ensures makes { MakesLine (S.seat s.old) (S.seat s.new) }
+        ensures room { KeepsRoom (S.seat s.old) (S.seat s.new) }
+        ensures same { ((S.seat s.new).actor ≡ (S.seat s.old).actor) × (S.frame s.new ≡ S.frame s.old) }
     {
         match place {
             AccessPlace::Enter { .. } => {
@@ -99,11 +99,11 @@ impl AccessJob {
 
     // Loads the root, or the next entry of the walk.
     fn walk<S: Stepper>(&self, s: &mut S, rooted: bool)
-        requires stands { WalksAt rooted self.now (S.handful s.old).core }
-        requires reserved { 0 < (S.handful s.old).room }
-        ensures makes { MakesLine (S.actor s.old) (S.handful s.old).core (S.handful s.new).core (S.tells s.old) (S.tells s.new) }
-        ensures room { KeepsRoom (S.handful s.old) (S.handful s.new) }
-        ensures same { (S.actor s.new ≡ S.actor s.old) × (S.frame s.new ≡ S.frame s.old) }
+        requires stands { WalksAt rooted self.now (S.seat s.old).hand }
+        requires reserved { 0 < (S.seat s.old).room }
+        ensures makes { MakesLine (S.seat s.old) (S.seat s.new) }
+        ensures room { KeepsRoom (S.seat s.old) (S.seat s.new) }
+        ensures same { ((S.seat s.new).actor ≡ (S.seat s.old).actor) × (S.frame s.new ≡ S.frame s.old) }
     {
         let mut walk = Walk {
             gfn: self.gfn,
@@ -114,12 +114,12 @@ impl AccessJob {
 
     // Makes the step of its fault.
     fn fault<S: Stepper>(&self, s: &mut S) -> Turn<Answer>
-        requires stands { IsInFault self.now (S.handful s.old).core }
-        requires reserved { 0 < (S.handful s.old).room }
-        ensures turns { TurnsLine result (S.actor s.old) (S.handful s.old).core (S.handful s.new).core (S.tells s.old) (S.tells s.new) }
-        ensures cause { HasItsCause result self.now (S.handful s.old).core }
-        ensures room { KeepsRoom (S.handful s.old) (S.handful s.new) }
-        ensures same { (S.actor s.new ≡ S.actor s.old) × (S.frame s.new ≡ S.frame s.old) }
+        requires stands { IsInFault self.now (S.seat s.old).hand }
+        requires reserved { 0 < (S.seat s.old).room }
+        ensures turns { TurnsLine result (S.seat s.old) (S.seat s.new) }
+        ensures cause { HasItsCause result self.now (S.seat s.old).hand }
+        ensures room { KeepsRoom (S.seat s.old) (S.seat s.new) }
+        ensures same { ((S.seat s.new).actor ≡ (S.seat s.old).actor) × (S.frame s.new ≡ S.frame s.old) }
     {
         let job = FaultJob {
             gfn: self.gfn,
@@ -134,17 +134,17 @@ impl AccessJob {
     /// actor's entry stood in its way: the access begins anew then, from outside
     /// the guest.
     pub fn turn<S: Stepper>(&mut self, s: &mut S) -> Turn<Answer>
-        requires left { length (S.handful s.old).core.answers < length (S.handful s.old).core.lines }
-        requires next { self.old.index ≡ length (S.handful s.old).core.answers }
-        requires access { (line_of (S.handful s.old).core).command ≡ Access self.old.gfn self.old.word self.old.op }
-        requires reserved { 0 < (S.handful s.old).room }
-        ensures turns { TurnsLine result (S.actor s.old) (S.handful s.old).core (S.handful s.new).core (S.tells s.old) (S.tells s.new) }
-        ensures cause { HasItsCause result self.old (S.handful s.old).core }
-        ensures says { Says result (line_of (S.handful s.old).core) (S.handful s.old).core (S.handful s.new).core }
-        ensures hand { IsSameHand (S.handful s.old).core (S.handful s.new).core }
-        ensures room { KeepsRoom (S.handful s.old) (S.handful s.new) }
+        requires left { length (S.seat s.old).hand.answers < length (S.seat s.old).hand.lines }
+        requires next { self.old.index ≡ length (S.seat s.old).hand.answers }
+        requires access { (line_of (S.seat s.old).hand).command ≡ Access self.old.gfn self.old.word self.old.op }
+        requires reserved { 0 < (S.seat s.old).room }
+        ensures turns { TurnsLine result (S.seat s.old) (S.seat s.new) }
+        ensures cause { HasItsCause result self.old (S.seat s.old).hand }
+        ensures says { Says result (line_of (S.seat s.old).hand) (S.seat s.old).hand (S.seat s.new).hand }
+        ensures hand { IsSameHand (S.seat s.old).hand (S.seat s.new).hand }
+        ensures room { KeepsRoom (S.seat s.old) (S.seat s.new) }
         ensures job { self.new ≡ self.old }
-        ensures same { (S.actor s.new ≡ S.actor s.old) × (S.frame s.new ≡ S.frame s.old) }
+        ensures same { ((S.seat s.new).actor ≡ (S.seat s.old).actor) × (S.frame s.new ≡ S.frame s.old) }
     {
         let hand = s.hand();
         rests(hand);

@@ -195,7 +195,7 @@ fn line_left(hand: &Hand) -> Option<Line>
     let next = hand.next_line()?;
     match hand.state().place {
         Place::Between => Some(next),
-        Place::Access(_) | Place::SetSlot(_) => Some(hand.state().line),
+        Place::Access(_) | Place::SlotChange(_) => Some(hand.state().line),
     }
 }
 

@@ -19,12 +19,14 @@ use Rattle.mmu_core.specs.lines.Cached.{asks_flush, flushed}
 use Rattle.mmu_core.specs.machine.Enabled.{Enabled, IsNext}
 use Rattle.mmu_core.specs.machine.MayMake.{MayMake}
 use Rattle.part_steps.specs.PartTasks.{own_index, part_kind, part_task}
-use Rattle.mmu_core.specs.machine.Steps.{caches_at, has_line, line_at, next, next_by, place_at, task_at}
+use Rattle.mmu_core.specs.lines.Forms.{caches_at}
+use Rattle.mmu_core.specs.machine.Steps.{has_line, line_at, next, next_by, place_at, task_at}
 use Rattle.vcpu_tlb.specs.declared.guest.Entered.TheVariants.{In, Flushed}
 use Rattle.vcpu_tlb.specs.Entering.{answer_to, cached_behind}
 
 -- A line's step that is no walk fills nothing.
-access_fills_none : (p : AccessPlace) (h : Held) (gfn word : ℕ) (op : Op) (v : ℕ) → code_of (access_task p h gfn word op).kind ≢ 3 → access_caches p h gfn op v ≡ h.cached
+access_fills_none : (p : AccessPlace) (h : Held) (gfn word : ℕ) (op : Op) (v : ℕ) → code_of (access_task p h gfn word op).kind ≢ 3
+    → access_caches p h gfn op v ≡ h.cached
 access_fills_none (Enter again) h gfn word op v ne = refl
 access_fills_none (Pause again) h gfn word op v ne = refl
 access_fills_none (Root again) h gfn word op v ne = refl
@@ -38,7 +40,8 @@ fills_none (place.Access p) (Access gfn word op) h v ne = access_fills_none p h 
 fills_none _ _ h v ne = refl
 
 -- A step of a part that is no walk leaves what is cached, but for a flush, whether a line makes it or none.
-but_for_a_flush : (h : Held) (step : PartStep) (note v : ℕ) → MayMake step note h → code_of (part_task step (own_index h) h.topics note).kind ≢ 3 → (next h (part_kind h step note) v).cached ≡ flushed (part_kind h step note) h.cached v
+but_for_a_flush : (h : Held) (step : PartStep) (note v : ℕ) → MayMake step note h → code_of (part_task step (own_index h) h.topics note).kind ≢ 3
+    → (next h (part_kind h step note) v).cached ≡ flushed (part_kind h step note) h.cached v
 unfolding next Enabled
 but_for_a_flush h step note v may ne = of_either may.enabled
   where
@@ -55,7 +58,8 @@ but_for_a_flush h step note v may ne = of_either may.enabled
     of_either (inr p) = ap (λ b. (next_by b h k v).cached) p.none_left
 
 -- what is cached behind an entry into the guest
-pub entered_cached : (h g : Held) (note v : ℕ) → MayMake part.Enter note h → g ≡ next h (part_kind h part.Enter note) v → g.cached ≡ cached_behind (answer_to v) h.cached
+pub entered_cached : (h g : Held) (note v : ℕ) → MayMake part.Enter note h → g ≡ next h (part_kind h part.Enter note) v
+    → g.cached ≡ cached_behind (answer_to v) h.cached
 unfolding flushed
 entered_cached h g note v may is =
     ap (λ (x : Held). x.cached) is ∙ but_for_a_flush h part.Enter note v may (λ e. absurd (omega (arith, e))) ∙ by (asks_flush v)

@@ -1,11 +1,10 @@
 -- The lines below `go`: their turns, by their delays.
 use Rattle.std.proofs.Common.{◌≡◌, ◌+◌, ◌*◌, ◌<◌, ◌≤◌, ℕ, suc, List, [], ◌∷◌, ◌++◌, drop, length, length-append, take, refl, sym, subst, ap, ◌∙◌, arith}
 use Rattle.std.proofs.Math.ListN.{length-map}
-use Rattle.std.proofs.Math.Nat.{mul-le-mul_left}
 use Rattle.std.specs.List.{sum_by}
 use Rattle.std.proofs.lemmas.List.{length-take, take-append-drop}
-use Rattle.std.proofs.lemmas.List.Elements.{All-head, All-tail, All-take}
-use Rattle.std.specs.Prelude.{All, Bool, true}
+use Rattle.std.proofs.lemmas.List.Elements.{All-head, All-tail, All-take, filter-append}
+use Rattle.std.specs.Prelude.{All, Bool, true, if◌then◌else◌}
 use Rattle.core_views.specs.declared.answer.AnsweredLine.{AnsweredLine}
 use Rattle.core_views.specs.declared.event.Event.{Event}
 use Rattle.core_views.specs.declared.kind.Kind.{Kind}
@@ -38,9 +37,10 @@ use Rattle.mmu_laws.proofs.causes.StarvedScan.{legal_parts}
 use Rattle.mmu_core.proofs.machine.SumsBelow.{sum_ge, sum_none}
 use Rattle.mmu_core.proofs.machine.Worlds.{good_run}
 use Rattle.core_theorem.specs.Runs.{IsRun}
-use Rattle.core_theorem.specs.Turns.{begins_line, delays_line, how_many, is_of_line, is_under_way, lines_answered, lines_in, lines_under_way}
-use Rattle.core_theorem.proofs.Begins.{chosen_more, lines_are_open, sum_plus}
-use Rattle.core_theorem.proofs.Turns.{steps_are_few, sum_same}
+use Rattle.core_theorem.specs.Turns.{begins_line, bound_of, bound_under_way, bounds_in, bounds_of, delays_line, how_many, is_of_line, is_under_way, lines_answered, lines_in}
+use Rattle.core_theorem.proofs.ActorSums.{sum_plus, sum_same}
+use Rattle.core_theorem.proofs.Begins.{begins_bounded, begun_in, bounds_left, chosen_bounded, chosen_more, lines_are_open}
+use Rattle.core_theorem.proofs.Turns.{IsReached, open_in, reached_behind, steps_are_few}
 use Rattle.weave_engine.specs.Beside.{AreForDelays, delays_of}
 use Rattle.weave_engine.specs.Replays.{RunsLines}
 use Rattle.weave_engine.specs.Rounds.{RunsRounds}
@@ -55,7 +55,8 @@ use Rattle.weave_engine.proofs.FileOrder.{maker_is, maker_there}
 abbrev pub AreOfLines : World Held → List (Step Kind) → Type 0
 AreOfLines w ss = how_many is_of_line w ss ≡ length ss
 
-how_many_append : (is_so : World Held → Step Kind → Bool) (w : World Held) (ss ts : List (Step Kind)) → how_many is_so w (ss ++ ts) ≡ how_many is_so w ss + how_many is_so (run mmu w ss) ts
+how_many_append : (is_so : World Held → Step Kind → Bool) (w : World Held) (ss ts : List (Step Kind))
+    → how_many is_so w (ss ++ ts) ≡ how_many is_so w ss + how_many is_so (run mmu w ss) ts
 how_many_append is_so w [] ts = omega arith
 how_many_append is_so w (s ∷ ss) ts = let rest = how_many_append is_so (effect mmu w s) ss ts in omega (arith, rest)
 
@@ -67,7 +68,8 @@ one_more_of_line w s ss own rest = let one : one_if (is_of_line w s) ≡ 1 = ap 
 
 own_of_lines : (actor : ℕ) (w : World Held) (ss : List (Step Kind)) → AreTurns actor w ss → AreOfLines w ss
 own_of_lines actor w [] turns = refl
-own_of_lines actor w (s ∷ ss) turns = one_more_of_line w s ss (subst (λ i. is_of_line w (record { actor = i; kind = s.kind }) ≡ true) (sym turns.0.own) turns.0.left) (own_of_lines actor (effect mmu w s) ss turns.1)
+own_of_lines actor w (s ∷ ss) turns =
+    one_more_of_line w s ss (subst (λ i. is_of_line w (record { actor = i; kind = s.kind }) ≡ true) (sym turns.0.own) turns.0.left) (own_of_lines actor (effect mmu w s) ss turns.1)
 
 pub items_of_lines : (z : Sizes) (items : List Item) (w : World Held) (ss : List (Step Kind)) → RunsItems z items w ss → AreOfLines w ss
 items_of_lines z [] w ss none = subst (AreOfLines w) (sym none) refl
@@ -81,7 +83,8 @@ rounds_of_lines z first next w (s ∷ ss) rounds = one_more_of_line w s ss round
 -- ---- the world behind the lines above `go`
 
 -- Where as many lines are begun as answered, none is under way.
-none_under_way : (p : Place) (h : Held) (own : List Line) (count : ℕ) → UnderWay p h → h.lines ≡ own → length h.answers ≡ count → length (take (begun_count p (length h.answers)) own) ≡ count → p ≡ place.Between
+none_under_way : (p : Place) (h : Held) (own : List Line) (count : ℕ) → UnderWay p h → h.lines ≡ own → length h.answers ≡ count
+    → length (take (begun_count p (length h.answers)) own) ≡ count → p ≡ place.Between
 none_under_way place.Between h own count under lines answers begun = refl
 none_under_way _ h own count under lines answers begun =
     let left = under.1 in let few = ap (λ (xs : List Line). length xs) lines in let taken = length-take (suc (length h.answers)) own in absurd (omega (arith, left, few, taken, answers, begun))
@@ -125,7 +128,8 @@ module _ (z : Sizes) (lines : List Line) (start : World Held) (is_start : IsStar
           omega (arith, a, b, c, d)
 
 -- Each line is one of some actor's lines.
-all_chosen : (z : Sizes) (ran : List Line) → All (λ line. IsCommandFor z line.actor line.command) ran → length ran ≤ sum_below (actors_of z) (λ i. length (lines_of (actor_at z i) ran))
+all_chosen : (z : Sizes) (ran : List Line) → All (λ line. IsCommandFor z line.actor line.command) ran
+    → length ran ≤ sum_below (actors_of z) (λ i. length (lines_of (actor_at z i) ran))
 all_chosen z [] each = omega arith
 all_chosen z (line ∷ ran) each =
     let may : IsCommandFor z line.actor line.command = All-head (λ (l : Line). IsCommandFor z l.actor l.command) line ran each in
@@ -143,20 +147,51 @@ module _ (z : Sizes) (lines : List Line) (start : World Held) (is_start : IsStar
   is_run : IsRun z lines start (r.steps ++ ss)
   is_run = record { start = is_start; legal = legal-append mmu start r.steps ss r.legal (subst (λ (w : World Held). Legal mmu w ss) (sym r.ends) legal) }
 
-  none_open : lines_under_way z behind ≡ 0
-  none_open = sum_none (actors_of z) (λ i. one_if (is_under_way (hand_in mmu behind i).state.place)) (λ i lt. ap (λ p. one_if (is_under_way p)) (hands_done z lines start is_start ran behind r i lt).between)
+  none_open : sum_below (actors_of z) (λ i. bound_under_way z (hand_in mmu behind i)) ≡ 0
+  none_open =
+      sum_none (actors_of z) (λ i. bound_under_way z (hand_in mmu behind i))
+      (λ i lt. ap (λ p. if is_under_way p then bound_of z (hand_in mmu behind i) else 0) (hands_done z lines start is_start ran behind r i lt).between)
 
-  -- Their turns are within the bound of their delays.
-  pub few_turns : AreOfLines behind ss → length ss ≤ most_steps z * (how_many delays_line behind ss + how_many begins_line behind ss)
+  -- Their turns are within the bounds of their delays.
+  pub few_turns : AreOfLines behind ss → length ss ≤ bounds_of delays_line z behind ss + bounds_of begins_line z behind ss
   few_turns own =
-      let few = subst (λ (w : World Held). how_many is_of_line w ss ≤ most_steps z * (how_many delays_line w ss + lines_in z w ss)) r.ends (steps_are_few z lines start r.steps ss is_run) in
-      fewer (length ss) (how_many is_of_line behind ss) (most_steps z) (how_many delays_line behind ss) (how_many begins_line behind ss) (lines_under_way z behind) own none_open few
+      let few =
+      subst (λ (w : World Held). how_many is_of_line w ss ≤ bounds_of delays_line z w ss + bounds_in z w ss) r.ends
+      (steps_are_few z lines start r.steps ss is_run) in
+      omega (arith, few, own, none_open)
+
+  -- The lines that begin there come to no more than those that stand there.
+  pub bounded_begin : bounds_of begins_line z behind ss ≤ sum_by (λ line. most_steps z line.command) (drop above lines)
+  bounded_begin =
+      let reached : IsReached z behind = subst (IsReached z) r.ends (reached_behind z lines start r.steps (record { start = is_start; legal = r.legal })) in
+      let few = begins_bounded z behind ss reached legal in
+      let each =
+      sum_same (actors_of z) (λ i. sum_by f (lines_of (actor_at z i) (drop above lines))) (λ i. bounds_left z (hand_in mmu behind i))
+      (λ i lt. left_of i lt) in
+      let all = chosen_bounded z f (drop above lines) in
+      omega (arith, few, each, all)
     where
-      fewer : (turns steps most delays begins open_ : ℕ) → steps ≡ turns → open_ ≡ 0 → steps ≤ most * (delays + (begins + open_)) → turns ≤ most * (delays + begins)
-      fewer turns steps most delays begins open_ same none few =
-          let e : delays + (begins + open_) ≡ delays + begins = omega (arith, none) in
-          let f : most * (delays + (begins + open_)) ≡ most * (delays + begins) = ap (λ n. most * n) e in
-          omega (arith, same, few, f)
+      f : Line → ℕ
+      f = λ line. most_steps z line.command
+
+      drop_front : (xs ys : List Line) → drop (length xs) (xs ++ ys) ≡ ys
+      drop_front [] ys = refl
+      drop_front (x ∷ xs) ys = drop_front xs ys
+
+      left_of : (i : ℕ) → i < actors_of z → bounds_left z (hand_in mmu behind i) ≡ sum_by f (lines_of (actor_at z i) (drop above lines))
+      left_of i lt =
+          let D = hands_done z lines start is_start ran behind r i lt in
+          let front : List Line = lines_of (actor_at z i) ran in
+          let count : begun_in (hand_in mmu behind i) ≡ length front =
+          (let none : open_in (hand_in mmu behind i) ≡ 0 = ap (λ p. one_if (is_under_way p)) D.between in let answered = D.answered in omega
+          (arith, none, answered)) in
+          let own : (hand_in mmu behind i).lines ≡ front ++ lines_of (actor_at z i) (drop above lines) =
+          subst (λ (w : World Held). (hand_in mmu w i).lines ≡ lines_of (actor_at z i) lines) r.ends
+          (start_follows z lines start r.steps i is_start r.legal lt).lines
+          ∙ ap (lines_of (actor_at z i)) (sym (take-append-drop above lines))
+          ∙ filter-append (λ (l : Line). is_same (actor_at z i) l.actor) ran (drop above lines) in
+          ap (λ n. sum_by f (drop n (hand_in mmu behind i).lines)) count ∙ ap (λ (xs : List Line). sum_by f (drop (length front) xs)) own
+          ∙ ap (sum_by f) (drop_front front (lines_of (actor_at z i) (drop above lines)))
 
   -- No more lines begin there than stand there.
   pub few_begin : how_many begins_line behind ss ≤ length (drop above lines)
@@ -169,15 +204,19 @@ module _ (z : Sizes) (lines : List Line) (start : World Held) (is_start : IsStar
       omega (arith, few, answers, all, front, whole)
 
 -- So the delays of the lines below account for the turns.
-pub beside_delayed : (z : Sizes) (lines : List Line) (start : World Held) → IsStart z lines start → (above : ℕ) (behind : World Held) → RunsLines z start (take above lines) behind → (ss : List (Step Kind)) → Legal mmu behind ss → AreOfLines behind ss
+pub beside_delayed : (z : Sizes) (lines : List Line) (start : World Held) → IsStart z lines start → (above : ℕ) (behind : World Held)
+    → RunsLines z start (take above lines) behind → (ss : List (Step Kind)) → Legal mmu behind ss → AreOfLines behind ss
     → AreForDelays z (drop above lines) (length ss) behind ss
 beside_delayed z lines start is_start above behind r ss legal own = record {
-  over_lines = subst (λ n. length ss ≤ n) (sym (sum_bound (most_steps z) (λ line. delays_of line.number behind ss) below)) (fewer (length ss) (most_steps z) _ _ _ _ turns begin delays);
+  over_lines =
+      let all = sum_bound (λ line. most_steps z line.command) (λ line. delays_of line.number behind ss) below in
+      let begun = bounded_begin z lines start is_start above behind r ss legal in
+      omega (arith, all, turns, delays, begun);
   over_steps = turns;
   few_begin = begin;
 }
   where
-    turns : length ss ≤ most_steps z * (how_many delays_line behind ss + how_many begins_line behind ss)
+    turns : length ss ≤ bounds_of delays_line z behind ss + bounds_of begins_line z behind ss
     turns = few_turns z lines start is_start above behind r ss legal own
 
     begin : how_many begins_line behind ss ≤ length (drop above lines)
@@ -198,17 +237,12 @@ beside_delayed z lines start is_start above behind r ss legal own = record {
       past = λ i lt. let same = (hands_done z lines start is_start ran behind r i lt).answered in omega (arith, same);
     }
 
-    delays : how_many delays_line behind ss ≤ sum_by (λ line. delays_of line.number behind ss) below
+    delays : bounds_of delays_line z behind ss ≤ sum_by (λ line. most_steps z line.command * delays_of line.number behind ss) below
     delays = delays_below z ran below behind ss sound legal stand
 
-    fewer : (turns most delays begins own_ count : ℕ) → turns ≤ most * (delays + begins) → begins ≤ count → delays ≤ own_ → turns ≤ most * (own_ + count)
-    fewer turns most delays begins own_ count few few_begins few_delays = let more = mul-le-mul_left most (both delays begins own_ count few_begins few_delays) in omega (arith, few, more)
-      where
-        both : (delays begins own_ count : ℕ) → begins ≤ count → delays ≤ own_ → delays + begins ≤ own_ + count
-        both delays begins own_ count a b = omega (arith, a, b)
-
 -- So it is with the turns of a weave whose rounds are used up.
-pub turns_delayed : (trace : Trace) (limit : ℕ) (start : World Held) (steps : List (Step Kind)) → IsStart (sizes_of trace.header) trace.lines start → Legal mmu start steps → (S : FollowsSoFar trace limit start steps) → FollowsBoth trace limit start steps S → length S.rounds ≡ limit
+pub turns_delayed : (trace : Trace) (limit : ℕ) (start : World Held) (steps : List (Step Kind)) → IsStart (sizes_of trace.header) trace.lines start
+    → Legal mmu start steps → (S : FollowsSoFar trace limit start steps) → FollowsBoth trace limit start steps S → length S.rounds ≡ limit
     → AreForDelays (sizes_of trace.header) (lines_below trace) (length S.scheduled + limit) S.behind (S.scheduled ++ S.rounds)
 turns_delayed trace limit start steps is_start legal S F used_up =
     subst (λ turns. AreForDelays z (lines_below trace) turns S.behind all) (length-append S.scheduled S.rounds ∙ ap (λ n. length S.scheduled + n) used_up)
@@ -224,4 +258,5 @@ turns_delayed trace limit start steps is_start legal S F used_up =
     legal_behind = subst (λ (w : World Held). Legal mmu w all) S.alone.ends (legal_parts start S.alone.steps all (subst (Legal mmu start) S.are legal)).1
 
     own : AreOfLines S.behind all
-    own = both_of_lines S.behind S.scheduled S.rounds (items_of_lines z trace.items S.behind S.scheduled F.all_items) (rounds_of_lines z 0 S.in_rounds.next (run mmu S.behind S.scheduled) S.rounds S.in_rounds.rounds)
+    own =
+        both_of_lines S.behind S.scheduled S.rounds (items_of_lines z trace.items S.behind S.scheduled F.all_items) (rounds_of_lines z 0 S.in_rounds.next (run mmu S.behind S.scheduled) S.rounds S.in_rounds.rounds)

@@ -6,12 +6,10 @@ use Rattle.std.proofs.lemmas.List.Elements.{All-contains, All-contains_itself, A
 use Rattle.std.proofs.lemmas.List.Sums.{get_or-le-sum_by, sum_by-cons}
 use Rattle.std.proofs.lemmas.Option.{slice_get-get_or}
 use Rattle.std.specs.List.{Contains, sum_by}
-use Rattle.std.specs.Prelude.{Bool, true, false, ◌&&◌, ◌==◌, nat_lt, unwrap_or}
+use Rattle.std.specs.Prelude.{Bool, true, false, ◌&&◌, ◌==◌, if◌then◌else◌, nat_lt, unwrap_or}
 use Rattle.std.specs.declared.option.Option.{Option}
 use Rattle.core_views.specs.declared.answer.AnsweredLine.{AnsweredLine}
 use Rattle.core_views.specs.declared.kind.Kind.{Kind}
-use Rattle.core_views.specs.declared.place.Place.{Place}
-use Rattle.core_views.specs.declared.place.Place.TheVariants as place
 use Rattle.core_views.specs.declared.sizes.Sizes.{Sizes}
 use Rattle.core_views.specs.declared.trace.Line.{Line}
 use Rattle.core_views.specs.Actors.{is_same}
@@ -19,41 +17,44 @@ use Rattle.core_views.specs.Flat.{no_line}
 use Rattle.core_views.specs.Held.{Held}
 use Rattle.core_views.specs.Sizes.{actor_at, actors_of}
 use Rattle.core_views.specs.Whole.{lines_of}
+use Rattle.mmu_core.specs.lines.Bounds.{most_steps}
 use Rattle.mmu_core.specs.machine.Enabled.{mmu}
-use Rattle.mmu_core.specs.invariant.Invariant.{UnderWay}
 use Rattle.mmu_core.specs.invariant.Laws.{IsSound}
 use Rattle.mmu_core.specs.machine.Machine.{Legal, May, Step, World, answered, effect, hand_in}
-use Rattle.mmu_core.specs.machine.Steps.{has_line, line_at, next_line}
+use Rattle.mmu_core.specs.machine.Steps.{has_line, next_line}
 use Rattle.mmu_core.specs.machine.Sums.{one_if}
 use Rattle.mmu_core.specs.machine.Turns.{line_of}
 use Rattle.mmu_laws.proofs.flat.EveryAnswer.{run_follows}
+use Rattle.mmu_core.proofs.machine.Stepping.{line_is_next}
 use Rattle.mmu_core.proofs.machine.Worlds.{good_step}
-use Rattle.core_theorem.specs.Turns.{delays_line, hand_delays, how_many}
+use Rattle.core_theorem.specs.Turns.{bound_of, bounds_of, delays_line, hand_delays}
 use Rattle.weave_engine.specs.Beside.{delays_of, is_numbered}
 
 -- ---- sums over lines
 
-sum_plus : (f g : Line → ℕ) (xs : List Line) → sum_by (λ x. f x + g x) xs ≡ sum_by f xs + sum_by g xs
-sum_plus f g [] = refl
-sum_plus f g (x ∷ xs) = let a = sum_by-cons (λ y. f y + g y) x xs in let b = sum_by-cons f x xs in let c = sum_by-cons g x xs in omega (arith, a, b, c, sum_plus f g xs)
+sum_plus : (most f g : Line → ℕ) (xs : List Line) → sum_by (λ x. most x * (f x + g x)) xs ≡ sum_by (λ x. most x * f x) xs + sum_by (λ x. most x * g x) xs
+sum_plus most f g [] = refl
+sum_plus most f g (x ∷ xs) =
+    let a = sum_by-cons (λ y. most y * (f y + g y)) x xs in
+    let b = sum_by-cons (λ y. most y * f y) x xs in
+    let c = sum_by-cons (λ y. most y * g y) x xs in
+    let here : most x * (f x + g x) ≡ most x * f x + most x * g x = omega arith in
+    omega (arith, a, b, c, here, sum_plus most f g xs)
 
--- A bound for each line once, and for each of its delays.
-pub sum_bound : (most : ℕ) (f : Line → ℕ) (xs : List Line) → sum_by (λ x. most * (f x + 1)) xs ≡ most * (sum_by f xs + length xs)
-sum_bound most f [] = omega arith
+-- A bound of each line once, and for each of its delays.
+pub sum_bound : (most f : Line → ℕ) (xs : List Line) → sum_by (λ x. most x * (f x + 1)) xs ≡ sum_by (λ x. most x * f x) xs + sum_by most xs
+sum_bound most f [] = refl
 sum_bound most f (x ∷ xs) =
-    let a = sum_by-cons (λ y. most * (f y + 1)) x xs in
-    let b = sum_by-cons f x xs in
-    let c : most * ((f x + sum_by f xs) + (length xs + 1)) ≡ most * (f x + 1) + most * (sum_by f xs + length xs) = omega arith in
-    a ∙ ap (λ n. most * (f x + 1) + n) (sum_bound most f xs) ∙ sym c ∙ ap (λ n. most * n) (omega (arith, b))
+    let a = sum_by-cons (λ y. most y * (f y + 1)) x xs in
+    let b = sum_by-cons (λ y. most y * f y) x xs in
+    let c = sum_by-cons most x xs in
+    let here : most x * (f x + 1) ≡ most x * f x + most x = omega arith in
+    omega (arith, a, b, c, here, sum_bound most f xs)
 
 contained_few : (f : Line → ℕ) (xs : List Line) (x : Line) → Contains xs x → f x ≤ sum_by f xs
 contained_few f xs x (k, lt, is) = subst (λ y. f y ≤ sum_by f xs) is (get_or-le-sum_by f xs k x lt)
 
 -- ---- the line of a step
-
-line_is : (p : Place) (h : Held) → UnderWay p h → line_at p h ≡ next_line h
-line_is place.Between h under = refl
-line_is _ h under = under.0
 
 module _ (z : Sizes) (ran below : List Line) where
   -- Each hand has answered its lines among those that ran.
@@ -68,10 +69,12 @@ module _ (z : Sizes) (ran below : List Line) where
   }
     where
       grown : (after before more : List AnsweredLine) (n : ℕ) → after ≡ before ++ more → n ≤ length before → n ≤ length after
-      grown after before more n are few = let a = ap (λ (xs : List AnsweredLine). length xs) are in let b = length-append before more in omega (arith, few, a, b)
+      grown after before more n are few =
+          let a = ap (λ (xs : List AnsweredLine). length xs) are in let b = length-append before more in omega (arith, few, a, b)
 
   -- The next line of a hand is one of these.
-  next_below : (u : World Held) (i : ℕ) → i < actors_of z → AreBelow u → length (hand_in mmu u i).answers < length (hand_in mmu u i).lines → Contains below (next_line (hand_in mmu u i))
+  next_below : (u : World Held) (i : ℕ) → i < actors_of z → AreBelow u → length (hand_in mmu u i).answers < length (hand_in mmu u i).lines
+      → Contains below (next_line (hand_in mmu u i))
   next_below u i lt B left = subst (Contains below) (sym next_is) (All-contains (Contains below) own line (All-filter (λ (l : Line). is_same (actor_at z i) l.actor) (Contains below) below (All-contains_itself below)) (Contains-get_or own (n - length front) no_line within))
     where
       h : Held
@@ -100,7 +103,13 @@ module _ (z : Sizes) (ran below : List Line) where
           ap (λ (o : Option Line). unwrap_or o no_line) (slice_get-get_or h.lines n no_line left) ∙ ap (λ (xs : List Line). get_or xs n no_line) are
           ∙ get_or-append_right front own (length front) n no_line refl (B.past i lt)
 
-  one_below : (u : World Held) (s : Step Kind) → IsSound z u → May mmu u s → AreBelow u → one_if (delays_line u s) ≤ sum_by (λ line. one_if (is_numbered line.number u s && delays_line u s)) below
+  -- what a line's command allows, where the step is a delay of this line
+  abbrev delay_bound : World Held → Step Kind → Line → ℕ
+  delay_bound u s line = most_steps z line.command * one_if (is_numbered line.number u s && delays_line u s)
+
+  one_below : (u : World Held) (s : Step Kind) → IsSound z u → May mmu u s → AreBelow u
+      → (if delays_line u s then bound_of z (hand_in mmu u s.actor) else 0) ≤ sum_by (λ line. most_steps z line.command * one_if
+      (is_numbered line.number u s && delays_line u s)) below
   one_below u s G may B = by (cases_Bool (has_line h))
     where
       h : Held
@@ -118,21 +127,35 @@ module _ (z : Sizes) (ran below : List Line) where
       own_number : (n : ℕ) (b : Bool) → one_if ((n == n) && b) ≡ one_if b
       own_number n b = let e : (n == n) ≡ true = eq-eqb n n refl in ap (λ x. one_if (x && b)) e
 
-      of_line : length h.answers < length h.lines → one_if (delays_line u s) ≤ sum_by (λ line. one_if (is_numbered line.number u s && delays_line u s)) below
+      times : (b : Bool) (n : ℕ) → (if b then n else 0) ≡ n * one_if b
+      times true n = omega arith
+      times false n = omega arith
+
+      of_line : length h.answers < length h.lines
+          → (if delays_line u s then bound_of z h else 0) ≤ sum_by (delay_bound u s) below
       of_line left =
-          let is : line_of h ≡ next_line h = line_is h.state.place h (G.holds.lines s.actor there).under in
-          let few = contained_few (λ line. one_if (is_numbered line.number u s && delays_line u s)) below (line_of h) (subst (Contains below) (sym is) (next_below u s.actor there B left)) in
-          let own = own_number (line_of h).number (delays_line u s) in
+          let is : line_of h ≡ next_line h = line_is_next h.state.place h (G.holds.lines s.actor there).under refl in
+          let few =
+          contained_few (delay_bound u s) below (line_of h)
+          (subst (Contains below) (sym is) (next_below u s.actor there B left)) in
+          let own : (if delays_line u s then bound_of z h else 0) ≡ bound_of z h * one_if (is_numbered (line_of h).number u s && delays_line u s) =
+          times (delays_line u s) (bound_of z h) ∙ ap (λ n. bound_of z h * n) (sym (own_number (line_of h).number (delays_line u s))) in
           omega (arith, few, own)
 
-      by : (has_line h ≡ true) ⊎ (has_line h ≡ false) → one_if (delays_line u s) ≤ sum_by (λ line. one_if (is_numbered line.number u s && delays_line u s)) below
+      by : (has_line h ≡ true) ⊎ (has_line h ≡ false)
+          → (if delays_line u s then bound_of z h else 0) ≤ sum_by (delay_bound u s) below
       by (inl has) = of_line (left_of (length h.answers) (length h.lines) has)
-      by (inr no_line_) = none_few (one_if (delays_line u s)) _ (ap (λ b. one_if (b && hand_delays h (answered mmu u s.kind))) no_line_)
+      by (inr no_line_) =
+          none_few (if delays_line u s then bound_of z h else 0) _
+          (ap (λ b. if b && hand_delays h (answered mmu u s.kind) then bound_of z h else 0) no_line_)
 
-  pub delays_below : (u : World Held) (ss : List (Step Kind)) → IsSound z u → Legal mmu u ss → AreBelow u → how_many delays_line u ss ≤ sum_by (λ line. delays_of line.number u ss) below
+  pub delays_below : (u : World Held) (ss : List (Step Kind)) → IsSound z u → Legal mmu u ss → AreBelow u
+      → bounds_of delays_line z u ss ≤ sum_by (λ line. most_steps z line.command * delays_of line.number u ss) below
   delays_below u [] G legal B = omega arith
   delays_below u (s ∷ ss) G legal B =
       let here = one_below u s G legal.0 B in
       let rest = delays_below (effect mmu u s) ss (good_step z u s G legal.0) legal.1 (below_more u s G legal.0 B) in
-      let both = sum_plus (λ line. one_if (is_numbered line.number u s && delays_line u s)) (λ line. delays_of line.number (effect mmu u s) ss) below in
+      let both =
+      sum_plus (λ line. most_steps z line.command) (λ line. one_if (is_numbered line.number u s && delays_line u s))
+      (λ line. delays_of line.number (effect mmu u s) ss) below in
       omega (arith, here, rest, both)

@@ -12,7 +12,8 @@ use Rattle.core_views.specs.Alone.{NoneStarved}
 use Rattle.core_views.specs.Held.{Held}
 use Rattle.mmu_core.specs.declared.outcome.Outcome.{Outcome}
 use Rattle.mmu_core.specs.declared.outcome.Outcome.TheVariants.{Goes, Ends}
-use Rattle.mmu_core.specs.machine.Steps.{beginning, event_kinds, events_by, events_of, has_line, line_at, outcome_at, place_at, tells_at}
+use Rattle.mmu_core.specs.machine.Steps.{beginning, event_kinds, events_by, events_of, has_line, line_at, place_at}
+use Rattle.mmu_core.specs.lines.Forms.{outcome_at, tells_at}
 use Rattle.mmu_core.specs.machine.Outcomes.{answering}
 use Rattle.mmu_core.specs.machine.Turns.{outcome_of}
 use Rattle.mmu_core.proofs.lines.AccessEnds.{AreFed}

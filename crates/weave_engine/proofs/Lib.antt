@@ -2,6 +2,7 @@ pub mod Writes
 pub mod Stopping
 pub mod Fed
 pub mod PartRuns
+pub mod PartEnds
 pub mod FileOrder
 pub mod LinesRun
 pub mod LinesPut

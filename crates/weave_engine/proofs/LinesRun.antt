@@ -1,9 +1,9 @@
 -- A replay, line by line: the list of steps goes on, the hands come behind the lines, and all actors rest between them.
-use Rattle.std.proofs.Common.{◌≡◌, ◌≢◌, ◌⊎◌, inl, inr, ◌<◌, ◌≤◌, ◌+◌, ◌*◌, ℕ, suc, List, [], ◌∷◌, ◌++◌, length, length-append, take, get_or, refl, sym, ap, subst, ◌∙◌, append_assoc, arith}
+use Rattle.std.proofs.Common.{◌≡◌, ◌≢◌, ◌⊎◌, inl, inr, ◌<◌, ◌≤◌, ◌+◌, ℕ, suc, List, [], ◌∷◌, ◌++◌, length, length-append, take, get_or, refl, sym, ap, subst, ◌∙◌, append_assoc, arith}
 use Rattle.std.proofs.Math.ListN.{length-map}
 use Rattle.std.proofs.lemmas.List.{append-nil, get_or-set_other, take_all}
 use Rattle.std.proofs.lemmas.Option.{slice_get_within}
-use Rattle.std.specs.Prelude.{All, IfOk, Some, None, Result, Ok, Err, slice_get}
+use Rattle.std.specs.Prelude.{All, IfOk, Some, Result, Ok, Err, slice_get}
 use Rattle.core_views.specs.declared.answer.Answer.{Answer}
 use Rattle.core_views.specs.declared.answer.AnsweredLine.{AnsweredLine}
 use Rattle.core_views.specs.declared.event.Event.{Event}
@@ -21,6 +21,8 @@ use Rattle.core_views.specs.Traces.{IsCommandFor}
 use Rattle.core_views.specs.Whole.{lines_of}
 use Rattle.core_views.proofs.StandsAlone.{stands_append}
 use Rattle.core_views.proofs.Texts.{text_append}
+use Rattle.std.proofs.lemmas.List.Sums.{sum_by-append, sum_by-cons}
+use Rattle.std.specs.List.{sum_by}
 use Rattle.mmu_core.specs.lines.Bounds.{most_steps}
 use Rattle.mmu_core.specs.machine.Enabled.{mmu}
 use Rattle.mmu_core.specs.invariant.Laws.{IsSound}
@@ -36,7 +38,7 @@ use Rattle.mmu_core.proofs.machine.Extend.{legal-append, run-append}
 use Rattle.mmu_core.proofs.machine.LineRuns.{history_append}
 use Rattle.mmu_core.proofs.start.Starts.{hand_is, start_good}
 use Rattle.mmu_core.proofs.machine.Worlds.{good_run}
-use Rattle.step_seats.specs.Machines.{Machine, world_in}
+use Rattle.step_seats.specs.Machines.{Machine, seat_in, world_in}
 use Rattle.step_seats.specs.Moves.{core_of, handful_in}
 use Rattle.step_seats.proofs.Worlds.{core_at}
 use Rattle.weave_engine.specs.Replays.{EachRunsAlone, RanOn, RunsAlone, RunsLines}
@@ -57,7 +59,8 @@ abbrev pub AreBehind : Sizes → List Line → ℕ → World Held → Type 0
 AreBehind z lines done w = (actor : ℕ) → actor < actors_of z → IsBehind z lines done actor (hand_in mmu w actor)
 
 -- One line more has run.
-each_more : (z : Sizes) (start : World Held) (done : List Line) (ss : List (Step Kind)) (line : Line) (answer : Answer) (own : List (Step Kind)) → EachRunsAlone z start done ss → RunsAlone z (index_of z line.actor) line answer own (run mmu start ss)
+each_more : (z : Sizes) (start : World Held) (done : List Line) (ss : List (Step Kind)) (line : Line) (answer : Answer) (own : List (Step Kind))
+    → EachRunsAlone z start done ss → RunsAlone z (index_of z line.actor) line answer own (run mmu start ss)
     → EachRunsAlone z start (done ++ line ∷ []) (ss ++ own)
 each_more z start [] ss line answer own none ran =
     (own, [], answer, ap (λ (l : List (Step Kind)). l ++ own) none ∙ sym (append-nil own), subst (λ (l : List (Step Kind)). RunsAlone z (index_of z line.actor) line answer own (run mmu start l)) none ran, refl)
@@ -70,7 +73,8 @@ each_more z start (first ∷ done) ss line answer own (front, rest, given, are, 
   each_more z (run mmu start front) done rest line answer own each (subst (λ (w : World Held). RunsAlone z (index_of z line.actor) line answer own w) (ap (run mmu start) are ∙ run-append mmu start front rest) ran),
 )
 
-runs_more : (z : Sizes) (start w t : World Held) (done more : List Line) (line : Line) (answer : Answer) → more ≡ done ++ line ∷ [] → RunsLines z start done w → RanOn z line answer (index_of z line.actor) w t → RunsLines z start more t
+runs_more : (z : Sizes) (start w t : World Held) (done more : List Line) (line : Line) (answer : Answer) → more ≡ done ++ line ∷ []
+    → RunsLines z start done w → RanOn z line answer (index_of z line.actor) w t → RunsLines z start more t
 runs_more z start w t done more line answer are r ran = record {
   steps = r.steps ++ ran.steps;
   legal = legal-append mmu start r.steps ran.steps r.legal (subst (λ x. Legal mmu x ran.steps) (sym r.ends) ran.alone.runs.legal);
@@ -79,14 +83,15 @@ runs_more z start w t done more line answer are r ran = record {
   alone = subst (λ ls. StandsAlone (history start (r.steps ++ ran.steps)) ls) (sym are)
       (subst (λ es. StandsAlone es (done ++ line ∷ [])) (sym (history_append start r.steps ran.steps ∙ ap (λ x. history start r.steps ++ history x ran.steps) r.ends))
       (stands_append done (line ∷ []) (history start r.steps) (history w ran.steps) r.alone ran.alone.runs.alone));
-  few = let a = length-append r.steps ran.steps in let b = length-append done (line ∷ []) in let c = r.few in let d = ran.alone.few in let n = ap (λ (ls : List Line). length ls) are in few_more (length r.steps) (length ran.steps) (length (r.steps ++ ran.steps)) (most_steps z) (length done) (length more) c d a (n ∙ b);
+  few =
+      let f : Line → ℕ = λ l. most_steps z l.command in
+      let count = length-append r.steps ran.steps in
+      let before = r.few in
+      let one = ran.alone.few in
+      let all : sum_by f more ≡ sum_by f done + sum_by f (line ∷ []) = ap (sum_by f) are ∙ sum_by-append f done (line ∷ []) in
+      let last : sum_by f (line ∷ []) ≡ most_steps z line.command + 0 = sum_by-cons f line [] in
+      omega (arith, count, before, one, all, last);
 }
-  where
-    few_more : (a b both most lines more : ℕ) → a ≤ most * lines → b ≤ most → both ≡ a + b → more ≡ lines + 1 → both ≤ most * more
-    few_more a b both most lines more few one sum count = rw (sum, count) (nlinear a b most lines few one)
-      where
-        nlinear : (a b most lines : ℕ) → a ≤ most * lines → b ≤ most → a + b ≤ most * (lines + 1)
-        nlinear a b most lines few one = let e : most * (lines + 1) ≡ most * lines + most = omega arith in omega (arith, few, one, e)
 
 -- What it tells is printed behind what was printed before.
 prints_more : (z : Sizes) (start w t : World Held) (done : List Line) (line : Line) (answer : Answer) (r : RunsLines z start done w) (ran : RanOn z line answer (index_of z line.actor) w t)
@@ -101,7 +106,8 @@ runs_none : (z : Sizes) (start : World Held) → RunsLines z start [] start
 runs_none z start = record { steps = []; legal = tt; ends = refl; each = refl; alone = refl; few = omega arith }
 
 pub behind_none : (z : Sizes) (lines : List Line) (w : World Held) → IsStart z lines w → AreBehind z lines 0 w
-behind_none z lines w start = λ i lt. subst (IsBehind z lines 0 i) (sym (hand_is z lines w i start lt)) (record { between = refl; whose = refl; lines_are = refl; answered = refl })
+behind_none z lines w start =
+    λ i lt. subst (IsBehind z lines 0 i) (sym (hand_is z lines w i start lt)) (record { between = refl; whose = refl; lines_are = refl; answered = refl })
 
 -- Steps of one actor leave the hands of the others.
 other_hand : (w : World Held) (s : Step Kind) (b : ℕ) → b ≢ s.actor → hand_in mmu (effect mmu w s) b ≡ hand_in mmu w b
@@ -114,7 +120,8 @@ other_hands w (s ∷ ss) a b ne all =
     let here : s.actor ≡ a = all 0 s (omega arith) in
     other_hands (effect mmu w s) ss a b ne (λ k d lt. all (suc k) d (omega arith)) ∙ other_hand w s b (λ e. ne (e ∙ here))
 
-pub hands_more : (z : Sizes) (lines : List Line) (i : ℕ) (w t : World Held) (answer : Answer) → i < length lines → IsCommandFor z (get_or lines i no_line).actor (get_or lines i no_line).command
+pub hands_more : (z : Sizes) (lines : List Line) (i : ℕ) (w t : World Held) (answer : Answer) → i < length lines
+    → IsCommandFor z (get_or lines i no_line).actor (get_or lines i no_line).command
     → RanOn z (get_or lines i no_line) answer (index_of z (get_or lines i no_line).actor) w t → AreBehind z lines i w → AreBehind z lines (i + 1) t
 hands_more z lines i w t answer lt may ran behind b below = by (same_or b a)
   where
@@ -157,7 +164,8 @@ pub record IsReady (z : Sizes) (line : Line) (w : World Held) : Type 0 where
   pub next : slice_get (hand_in mmu w (index_of z line.actor)).lines (length (hand_in mmu w (index_of z line.actor)).answers) ≡ Some line
   pub own : line.actor ≡ (hand_in mmu w (index_of z line.actor)).state.actor
 
-pub is_ready : (z : Sizes) (lines : List Line) (i : ℕ) (w : World Held) → i < length lines → IsCommandFor z (get_or lines i no_line).actor (get_or lines i no_line).command → AreBehind z lines i w → IsReady z (get_or lines i no_line) w
+pub is_ready : (z : Sizes) (lines : List Line) (i : ℕ) (w : World Held) → i < length lines
+    → IsCommandFor z (get_or lines i no_line).actor (get_or lines i no_line).command → AreBehind z lines i w → IsReady z (get_or lines i no_line) w
 is_ready z lines i w lt may behind =
     let line : Line = get_or lines i no_line in
     let there = maker_there z line.actor line.command may in
@@ -183,7 +191,8 @@ pub hands_at_start : (z : Sizes) (lines : List Line) (m : Machine) → IsStart z
 hands_at_start z lines m start = sym (length-map m.hands core_of) ∙ (start_good z lines (world_in m) start).hands
 
 pub ready_on : (z : Sizes) (lines : List Line) (i : ℕ) (m : Machine) → m.sizes ≡ z → length m.hands ≡ actors_of z → i < length lines
-    → IsCommandFor z (get_or lines i no_line).actor (get_or lines i no_line).command → AreBehind z lines i (world_in m) → IsSound z (world_in m) → AllRest (world_in m) → IsReadyOn m (get_or lines i no_line)
+    → IsCommandFor z (get_or lines i no_line).actor (get_or lines i no_line).command → AreBehind z lines i (world_in m) → IsSound z (world_in m)
+    → AllRest (world_in m) → IsReadyOn m (get_or lines i no_line)
 ready_on z lines i m same count lt may behind sound rest =
     let line : Line = get_or lines i no_line in
     let R = is_ready z lines i (world_in m) lt may behind in
@@ -195,13 +204,15 @@ ready_on z lines i m same count lt may behind sound rest =
       idle = subst (λ (h : Held). h.state.place ≡ Between) core R.idle;
       next = subst (λ (h : Held). slice_get h.lines (length h.answers) ≡ Some line) core R.next;
       own = subst (λ (h : Held). line.actor ≡ h.state.actor) core R.own;
-      alone = subst (λ y. LineAlone y (world_in m) (index_of y line.actor)) (sym same) (begins_alone z (world_in m) (index_of z line.actor) sound (λ j there apart. rest j there) R.there
+      alone =
+          subst (λ y. LineAlone y (world_in m) (index_of y line.actor)) (sym same) (begins_alone z (world_in m) (index_of z line.actor) sound (λ j there apart. rest j there) R.there
           (slice_get_within (hand_in mmu (world_in m) (index_of z line.actor)).lines (length (hand_in mmu (world_in m) (index_of z line.actor)).answers) line R.next) R.idle).0;
     }
 
 -- All actors rest at the start, and behind each line.
 pub rest_at_start : (z : Sizes) (lines : List Line) (w : World Held) → IsStart z lines w → AllRest w
-rest_at_start z lines w start = λ i lt. subst (λ (h : Held). HoldsNothing h.topics) (sym (hand_is z lines w i start (subst (λ n. i < n) (start_good z lines w start).hands lt)))
+rest_at_start z lines w start =
+    λ i lt. subst (λ (h : Held). HoldsNothing h.topics) (sym (hand_is z lines w i start (subst (λ n. i < n) (start_good z lines w start).hands lt)))
     (record { rests = record { outside = refl; loose = refl; owns_none = refl; no_table = refl; no_set = refl }; leaves_none = refl })
 
 -- Between lines: the first lines of a trace have run, and print this; the hands are behind them, and all actors rest.
@@ -215,11 +226,13 @@ pub between_at_start : (z : Sizes) (lines : List Line) (w : World Held) → IsSt
 unfolding runs_none
 between_at_start z lines w start = record { ran = runs_none z w; prints = refl; behind = behind_none z lines w start; rest = rest_at_start z lines w start }
 
-pub sound_between : (z : Sizes) (lines : List Line) (i : ℕ) (start w : World Held) (printed : List ℕ) → IsStart z lines start → IsBetween z lines i start w printed → IsSound z w
+pub sound_between : (z : Sizes) (lines : List Line) (i : ℕ) (start w : World Held) (printed : List ℕ) → IsStart z lines start
+    → IsBetween z lines i start w printed → IsSound z w
 sound_between z lines i start w printed is_start B = subst (IsSound z) B.ran.ends (good_run z start B.ran.steps (start_good z lines start is_start) B.ran.legal)
 
 -- One line more, which the last step answers.
-pub between_more : (z : Sizes) (lines : List Line) (i : ℕ) (start w t : World Held) (printed : List ℕ) (answer : Answer) → i < length lines → IsCommandFor z (get_or lines i no_line).actor (get_or lines i no_line).command
+pub between_more : (z : Sizes) (lines : List Line) (i : ℕ) (start w t : World Held) (printed : List ℕ) (answer : Answer) → i < length lines
+    → IsCommandFor z (get_or lines i no_line).actor (get_or lines i no_line).command
     → RanOn z (get_or lines i no_line) answer (index_of z (get_or lines i no_line).actor) w t → IsBetween z lines i start w printed
     → (more : IsBetween z lines (i + 1) start t (printed ++ line_text (get_or lines i no_line).number (get_or lines i no_line).actor answer)) × EndsWithAnswer start more.ran.steps
 unfolding runs_more
@@ -235,23 +248,30 @@ between_more z lines i start w t printed answer lt may ran B =
     )
 
 -- so many lines as were looked at, with what they print
-pub ran_first : (z : Sizes) (lines : List Line) (i : ℕ) (start w : World Held) (printed : List ℕ) → IsBetween z lines i start w printed → (r : RunsLines z start (take i lines) w) × (printed ≡ text (history start r.steps))
+pub ran_first : (z : Sizes) (lines : List Line) (i : ℕ) (start w : World Held) (printed : List ℕ) → IsBetween z lines i start w printed
+    → (r : RunsLines z start (take i lines) w) × (printed ≡ text (history start r.steps))
 ran_first z lines i start w printed B = (B.ran, B.prints)
 
-pub ran_all : (z : Sizes) (lines : List Line) (i : ℕ) (start w : World Held) (printed : List ℕ) → length lines ≤ i → IsBetween z lines i start w printed → (r : RunsLines z start lines w) × (printed ≡ text (history start r.steps))
-ran_all z lines i start w printed le B = subst (λ ls. (r : RunsLines z start ls w) × (printed ≡ text (history start r.steps))) (take_all i lines le) (B.ran, B.prints)
+pub ran_all : (z : Sizes) (lines : List Line) (i : ℕ) (start w : World Held) (printed : List ℕ) → length lines ≤ i
+    → IsBetween z lines i start w printed → (r : RunsLines z start lines w) × (printed ≡ text (history start r.steps))
+ran_all z lines i start w printed le B =
+    subst (λ ls. (r : RunsLines z start ls w) × (printed ≡ text (history start r.steps))) (take_all i lines le) (B.ran, B.prints)
 
 -- A line that ran from a seat of the machine ran on the machine.
-pub ran_on : (r : Result Answer NoMemory) (line : Line) (z : Sizes) (actor by : ℕ) (h g : Held) (w t : World Held) → LineAlone z w actor → by ≡ actor → h ≡ hand_in mmu w actor → g ≡ hand_in mmu t actor
-    → IfOk r (λ answer. IsAnswered line answer h g) → IfOk r (λ answer. RanAlone h.state.sizes line answer by (record { world = Some w; steps = None }) (record { world = Some t; steps = None })) → IsSameHand h g
-    → IfOk r (λ answer. RanOn z line answer actor w t)
-ran_on (Err e) line z actor by h g w t alone same before after answered ran kept = tt
-ran_on (Ok answer) line z actor by h g w t alone same before after answered ran kept =
+pub ran_on : (r : Result Answer NoMemory) (line : Line) (z : Sizes) (actor : ℕ) (m n : Machine) (at to : ℕ) → LineAlone z (world_in m) actor → at ≡ actor
+    → (seat_in m at).hand ≡ hand_in mmu (world_in m) actor → (seat_in n to).hand ≡ hand_in mmu (world_in n) actor
+    → IfOk r (λ answer. IsAnswered line answer (seat_in m at).hand (seat_in n to).hand) → IfOk r (λ answer. RanAlone line answer (seat_in m at) (seat_in n to))
+    → IsSameHand (seat_in m at).hand (seat_in n to).hand → IfOk r (λ answer. RanOn z line answer actor (world_in m) (world_in n))
+ran_on (Err e) line z actor m n at to alone same before after answered ran kept = tt
+ran_on (Ok answer) line z actor m n at to alone same before after answered ran kept =
+    let h : Held = (seat_in m at).hand in
     let sizes : h.state.sizes ≡ z = ap (λ (x : Held). x.state.sizes) before ∙ (alone.sound.holds.lines actor alone.there).sizes in
     record {
       steps = ran.steps;
-      alone = subst (λ (y : Sizes). RunsAlone y actor line answer ran.steps w) sizes (subst (λ (a : ℕ). RunsAlone h.state.sizes a line answer ran.steps w) same ran.world.0);
-      ends = let e : Some t ≡ Some (run mmu w ran.steps) = ran.world.1 in sym (cc e);
-      answered = subst (λ (x : Held). IsAnswered line answer x (hand_in mmu t actor)) before (subst (λ (x : Held). IsAnswered line answer h x) after answered);
-      same = subst (λ (x : Held). IsSameHand x (hand_in mmu t actor)) before (subst (λ (x : Held). IsSameHand h x) after kept);
+      alone = subst (λ (y : Sizes). RunsAlone y actor line answer ran.steps (world_in m)) sizes
+          (subst (λ (a : ℕ). RunsAlone h.state.sizes a line answer ran.steps (world_in m)) same ran.world.0);
+      ends = let e : Some (world_in n) ≡ Some (run mmu (world_in m) ran.steps) = ran.world.1 in sym (cc e);
+      answered = subst (λ (x : Held). IsAnswered line answer x (hand_in mmu (world_in n) actor)) before
+          (subst (λ (x : Held). IsAnswered line answer h x) after answered);
+      same = subst (λ (x : Held). IsSameHand x (hand_in mmu (world_in n) actor)) before (subst (λ (x : Held). IsSameHand h x) after kept);
     }

@@ -23,8 +23,8 @@ use Rattle.mmu_core.specs.declared.outcome.Outcome.{Outcome}
 use Rattle.mmu_core.specs.declared.outcome.Outcome.TheVariants.{Goes, Ends}
 use Rattle.mmu_core.specs.lines.AccessSteps.{fault_over}
 use Rattle.mmu_core.specs.alone.LineAlone.{line_waits}
-use Rattle.mmu_core.specs.lines.Rests.{RestsAt}
-use Rattle.mmu_core.specs.machine.Steps.{events_of, has_line, line_at, outcome_at, place_at, tells_at}
+use Rattle.mmu_core.specs.lines.Forms.{RestsAt, outcome_at, tells_at}
+use Rattle.mmu_core.specs.machine.Steps.{events_of, has_line, line_at, place_at}
 use Rattle.mmu_core.specs.machine.Turns.{line_of, outcome_of}
 use Rattle.mmu_laws.proofs.flat.LineEvents.{tells_within}
 use Rattle.mmu_laws.proofs.flat.ToldOf.{answered_with, answers_told}
@@ -66,7 +66,8 @@ module _ (number : ℕ) (actor : Actor) where
   waiting (Done answer) way t p gives = let e : true ≡ false = gives.0 in absurd (cc e)
 
   -- a step of a fault that isn't its last
-  goes_or_waits : (turn : Turn Answer) (waits : Bool) (way : Seen) (p : Place) → Gives turn waits way More → TellsTurn number actor turn (waits || (false || false)) (Goes p)
+  goes_or_waits : (turn : Turn Answer) (waits : Bool) (way : Seen) (p : Place) → Gives turn waits way More
+      → TellsTurn number actor turn (waits || (false || false)) (Goes p)
   goes_or_waits turn true way p gives = waiting turn way More p gives
   goes_or_waits turn false way p gives = by_outcome turn way (Goes p) gives
 
@@ -74,7 +75,8 @@ module _ (number : ℕ) (actor : Actor) where
   retries (Wait seen) way cause p gives = let e : false ≡ true = gives.0 in absurd (cc e)
   retries More way cause p gives = subst (λ (t : Turn Answer). TellsTurn number actor t true (Goes p)) (sym gives.1) (record { stops_ = refl; prints = refl })
   retries (Retry c) way cause p gives = record { stops_ = refl; prints = refl }
-  retries (Done answer) way cause p gives = subst (λ (t : Turn Answer). TellsTurn number actor t true (Goes p)) (sym gives.1) (record { stops_ = refl; prints = refl })
+  retries (Done answer) way cause p gives =
+      subst (λ (t : Turn Answer). TellsTurn number actor t true (Goes p)) (sym gives.1) (record { stops_ = refl; prints = refl })
 
   fault_ends : (e : FaultEnd) (turn : Turn Answer) (gfn word : ℕ) (op : Op) (h : Held) (v : ℕ)
       → Gives turn (line_waits (place.Access (access.Fault (fault.End e))) (Access gfn word op) h v) (line_seen (place.Access (access.Fault (fault.End e))) (Access gfn word op) h v) (line_turn (place.Access (access.Fault (fault.End e))) (Access gfn word op) h v)
@@ -89,7 +91,8 @@ module _ (number : ℕ) (actor : Actor) where
   Tells turn p command h v =
       Gives turn (line_waits p command h v) (line_seen p command h v) (line_turn p command h v) → TellsTurn number actor turn (line_waits p command h v || (begins_anew p || is_ended (outcome_at p command h v))) (outcome_at p command h v)
 
-  fault_tells : (p : FaultPlace) (turn : Turn Answer) (gfn word : ℕ) (op : Op) (h : Held) (v : ℕ) → Tells turn (place.Access (access.Fault p)) (Access gfn word op) h v
+  fault_tells : (p : FaultPlace) (turn : Turn Answer) (gfn word : ℕ) (op : Op) (h : Held) (v : ℕ)
+      → Tells turn (place.Access (access.Fault p)) (Access gfn word op) h v
   fault_tells (fault.End e) turn gfn word op h v gives = fault_ends e turn gfn word op h v gives
   fault_tells _ turn gfn word op h v gives = goes_or_waits turn _ _ _ gives
 
@@ -103,7 +106,8 @@ module _ (number : ℕ) (actor : Actor) where
   access_tells_turn (access.Leave how) turn gfn word op h v gives = by_outcome turn _ _ gives
 
   -- a step of a line that begins nothing anew: where it waits, the line goes on
-  plain_tells : (turn : Turn Answer) (waits : Bool) (way : Seen) (o : Outcome) → ((answer : Answer) → o ≡ Ends answer → waits ≡ false) → Gives turn waits way (turn_of o) → TellsTurn number actor turn (waits || (false || is_ended o)) o
+  plain_tells : (turn : Turn Answer) (waits : Bool) (way : Seen) (o : Outcome) → ((answer : Answer) → o ≡ Ends answer → waits ≡ false)
+      → Gives turn waits way (turn_of o) → TellsTurn number actor turn (waits || (false || is_ended o)) o
   plain_tells turn false way o free gives = by_outcome turn way o gives
   plain_tells turn true way (Goes p) free gives = waiting turn way (turn_of (Goes p)) p gives
   plain_tells turn true way (Ends answer) free gives = let e = free answer refl in absurd (cc e)
@@ -115,7 +119,8 @@ module _ (number : ℕ) (actor : Actor) where
       plain_tells turn (line_waits p command h v) (line_seen p command h v) (outcome_at p command h v) (ends_free p command h v) gives
 
 -- the text of a step's answers
-text_of : (number : ℕ) (actor : Actor) (line : Line) (o : Outcome) → number ≡ line.number → lines_text (answered_with actor line o) ≡ outcome_text number actor o
+text_of : (number : ℕ) (actor : Actor) (line : Line) (o : Outcome) → number ≡ line.number
+    → lines_text (answered_with actor line o) ≡ outcome_text number actor o
 text_of number actor line (Goes p) same = refl
 text_of number actor line (Ends answer) same = append-nil (line_text line.number actor answer) ∙ ap (λ (n : ℕ). line_text n actor answer) (sym same)
 
@@ -133,7 +138,8 @@ pub record TurnIs (h : Held) (v : ℕ) (turn : Turn Answer) : Type 0 where
   pub prints : turn_text (line_of h).number h.state.actor turn ≡ text (events_of h v)
 
 pub turn_is : (h : Held) (v : ℕ) (turn : Turn Answer) → has_line h ≡ true → RestsAt (place_at h.state.place h) (line_of h).command h
-    → Gives turn (line_waits (place_at h.state.place h) (line_of h).command h v) (line_seen (place_at h.state.place h) (line_of h).command h v) (line_turn (place_at h.state.place h) (line_of h).command h v) → TurnIs h v turn
+    → Gives turn (line_waits (place_at h.state.place h) (line_of h).command h v) (line_seen (place_at h.state.place h) (line_of h).command h v) (line_turn (place_at h.state.place h) (line_of h).command h v)
+    → TurnIs h v turn
 turn_is h v turn left rests gives =
     let T = line_tells (line_of h).number h.state.actor (place_at h.state.place h) (line_of h).command turn h v rests gives in
     record { stops_ = T.stops_; prints = T.prints ∙ sym (step_text h v left) }

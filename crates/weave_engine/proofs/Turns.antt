@@ -29,15 +29,16 @@ use Rattle.mmu_core.specs.machine.Turns.{line_of, outcome_of}
 use Rattle.mmu_core.specs.machine.Worlds.{Reachable}
 use Rattle.mmu_core.proofs.start.Starts.{reached_good}
 use Rattle.mmu_core.proofs.machine.Which.{is_next}
-use Rattle.step_seats.specs.Moves.{step_by}
-use Rattle.step_seats.specs.Where.{HasHand, Told}
+use Rattle.step_seats.specs.Seats.{Seat}
+use Rattle.step_seats.specs.Moves.{Tells, step_by}
+use Rattle.step_seats.specs.Where.{HasHand}
 use Rattle.step_seats.specs.declared.turn.Turn.{Turn}
 use Rattle.step_seats.specs.declared.turn.Turn.TheVariants.{Done, Retry, Wait}
 use Rattle.tdp_io.specs.declared.sink.Stop.{Stop}
-use Rattle.step_seats.specs.LineTurns.{TurnsLine, line_turn}
+use Rattle.step_seats.specs.LineTurns.{AnswersBy, TurnsLine, line_turn}
 use Rattle.step_seats.proofs.LineTurns.{EndsSo, GoesSo, line_case}
 use Rattle.weave_engine.specs.Pieces.{most_waiting}
-use Rattle.weave_engine.specs.Turned.{AnswersBy, Comes, IsTurnOf, MakesTurn, PutsTurn, TurnedOn, TurnedTold, is_stop, next_code_in, open_line, turn_text}
+use Rattle.weave_engine.specs.Turned.{Comes, IsTurnOf, MakesTurn, PutsTurn, TurnedOn, TurnedTold, is_stop, next_code_in, open_line, turn_text}
 use Rattle.weave_engine.specs.Writes.{Buffers}
 use Rattle.weave_engine.specs.declared.turning.Turned.TheVariants.{Stopped}
 use Rattle.weave_engine.specs.Turning.{AnswersLine, is_ended}
@@ -62,32 +63,42 @@ none_open h is = at (has_line h) refl is
 
 -- The line that an actor has left is its own.
 owned_next : (h : Held) → length h.answers < length h.lines → All (λ line. line.actor ≡ h.state.actor) h.lines → (next_line h).actor ≡ h.state.actor
-owned_next h left own = ap (λ (o : Option Line). (unwrap_or o no_line).actor) (slice_get-get_or h.lines (length h.answers) no_line left) ∙ All-get_or (λ line. line.actor ≡ h.state.actor) h.lines (length h.answers) no_line left own
+owned_next h left own =
+    ap (λ (o : Option Line). (unwrap_or o no_line).actor) (slice_get-get_or h.lines (length h.answers) no_line left) ∙ All-get_or (λ line. line.actor ≡ h.state.actor) h.lines (length h.answers) no_line left own
 
-owned_at : (p : Place) (h : Held) → length h.answers < length h.lines → UnderWay p h → All (λ line. line.actor ≡ h.state.actor) h.lines → (line_at p h).actor ≡ h.state.actor
+owned_at : (p : Place) (h : Held) → length h.answers < length h.lines → UnderWay p h → All (λ line. line.actor ≡ h.state.actor) h.lines
+    → (line_at p h).actor ≡ h.state.actor
 owned_at place.Between h left under own = owned_next h left own
 owned_at _ h left under own = ap (λ (l : Line). l.actor) under.0 ∙ owned_next h left own
 
-own_line : (w : World Held) (actor : ℕ) → ∥ Reachable w ∥₁ → actor < length w.hands → has_line (hand_in mmu w actor) ≡ true → (line_of (hand_in mmu w actor)).actor ≡ (hand_in mmu w actor).state.actor
+own_line : (w : World Held) (actor : ℕ) → ∥ Reachable w ∥₁ → actor < length w.hands → has_line (hand_in mmu w actor) ≡ true
+    → (line_of (hand_in mmu w actor)).actor ≡ (hand_in mmu w actor).state.actor
 own_line w actor reached there has = ∥∥₁_elim reached (hlevel props) (λ r.
     let G = reached_good w r in
     let O = G.holds.lines actor (subst (λ n. actor < n) G.hands there) in
     owned_at (hand_in mmu w actor).state.place (hand_in mmu w actor) (grind (arith, nat_tests)) O.under O.own)
 
-made_turn : (actor : ℕ) (w : World Held) (h g : Held) (tells : Option (World Held)) (steps adds : Option (List (Step Kind))) (line : Line) (whose : Actor) (turn : Turn Answer) → HasHand actor h w → open_line h ≡ Some line → whose ≡ h.state.actor
-    → TurnsLine turn actor h g (record { world = Some w; steps = steps }) (record { world = tells; steps = adds }) → (t : World Held) × (tells ≡ Some t) × IsTurnOf (record { number = line.number; actor = whose; turn = turn }) actor w t
-made_turn actor w h g tells steps adds line whose turn hand open_ own made =
+made_turn : (before after : Seat) (w : World Held) (line : Line) (whose : Actor) (turn : Turn Answer) → before.tells.world ≡ Some w
+    → HasHand before.actor before.hand w
+    → open_line before.hand ≡ Some line → whose ≡ before.hand.state.actor → TurnsLine turn before after
+    → (t : World Held) × (after.tells.world ≡ Some t) × IsTurnOf (record { number = line.number; actor = whose; turn = turn }) before.actor w t
+made_turn before after w line whose turn is hand open_ own made =
+    let h : Held = before.hand in
+    let actor : ℕ = before.actor in
     let has = hand.is in
     let L = open_is h line open_ in
     let M = made.makes in
     let s : Step Kind = step_by actor M.kind in
+    let moves : Tells (Some w) actor M.kind M.found after.tells.world =
+    subst (λ (o : Option (World Held)). Tells o actor M.kind M.found after.tells.world) is M.world in
     let rests = (is_next h M.kind M.enabled L.0).rests in
     let T = turn_is h M.found turn L.0 rests.at made.gives in
-    let found : answered mmu w s.kind ≡ M.found = M.world.1 in
+    let found : answered mmu w s.kind ≡ M.found = moves.1 in
     let left : has_line (hand_in mmu w actor) ≡ true = ap (λ (x : Held). has_line x) has ∙ L.0 in
-    let told : text (events_of h M.found) ≡ text (events_of (hand_in mmu w actor) (answered mmu w s.kind)) = ap (λ (x : Held). text (events_of x M.found)) (sym has) ∙ ap (λ (n : ℕ). text (events_of (hand_in mmu w actor) n)) (sym found) in (
+    let told : text (events_of h M.found) ≡ text (events_of (hand_in mmu w actor) (answered mmu w s.kind)) =
+    ap (λ (x : Held). text (events_of x M.found)) (sym has) ∙ ap (λ (n : ℕ). text (events_of (hand_in mmu w actor) n)) (sym found) in (
       effect mmu w s,
-      M.world.2,
+      moves.2,
       record {
         number = ap (λ (l : Line). l.number) L.1 ∙ ap (λ (x : Held). (line_of x).number) (sym has);
         whose = own ∙ ap (λ (x : Held). x.state.actor) (sym has) ∙ sym (own_line w actor hand.reached hand.there left);
@@ -96,9 +107,10 @@ made_turn actor w h g tells steps adds line whose turn hand open_ own made =
           turn = record { own = refl; left = left };
           stops_ = rw (has, found) T.stops_;
           comes = record {
-            legal = (M.world.0, tt);
+            legal = (moves.0, tt);
             ends = refl;
-            prints = ap (λ (n : ℕ). turn_text n whose turn) (ap (λ (l : Line). l.number) L.1) ∙ ap (λ (a : Actor). turn_text (line_of h).number a turn) own ∙ T.prints ∙ told
+            prints =
+                ap (λ (n : ℕ). turn_text n whose turn) (ap (λ (l : Line). l.number) L.1) ∙ ap (λ (a : Actor). turn_text (line_of h).number a turn) own ∙ T.prints ∙ told
                 ∙ ap (λ (es : List Event). text es) (sym (append-nil (events_of (hand_in mmu w actor) (answered mmu w s.kind))));
           };
         };
@@ -115,7 +127,8 @@ done_ends answer h v answers = by (line_case (place_at h.state.place h) (line_of
     by (inl E) = ap is_ended E.is
     by (inr G) = absurd (G.more answer (sym answers.1))
 
-pub answers_line : (made : TurnMade) (actor : ℕ) (w t : World Held) (answer : Answer) → made.turn ≡ Done answer → (T : IsTurnOf made actor w t) → AnswersLine w T.makes.step
+pub answers_line : (made : TurnMade) (actor : ℕ) (w t : World Held) (answer : Answer) → made.turn ≡ Done answer → (T : IsTurnOf made actor w t)
+    → AnswersLine w T.makes.step
 answers_line made actor w t answer is T =
     let v : ℕ = answered mmu w T.makes.step.kind in
     let ends : is_ended (outcome_of (hand_in mmu w actor) v) ≡ true = done_ends answer (hand_in mmu w actor) v (subst (λ (x : Turn Answer). AnswersBy x (hand_in mmu w actor) v) is T.answers) in
@@ -125,12 +138,15 @@ answers_line made actor w t answer is T =
     }
 
 -- What such a turn puts, where the writing stops.
-pub stops_done : (made : TurnMade) (actor : ℕ) (w t : World Held) (answer : Answer) (before after : Option (List ℕ)) (waited waits : List ℕ) (stop : Stop) → made.turn ≡ Done answer → TurnedOn (Some made) actor w t
-    → length waited ≤ most_waiting → Buffers before after waited waits (Err stop) (line_text made.number made.actor answer) → PutsTurn actor w t before after waited waits (Err stop)
+pub stops_done : (made : TurnMade) (actor : ℕ) (w t : World Held) (answer : Answer) (before after : Option (List ℕ)) (waited waits : List ℕ) (stop : Stop)
+    → made.turn ≡ Done answer → TurnedOn (Some made) actor w t
+    → length waited ≤ most_waiting → Buffers before after waited waits (Err stop) (line_text made.number made.actor answer)
+    → PutsTurn actor w t before after waited waits (Err stop)
 stops_done made actor w t answer before after waited waits stop is T few prefix =
     at (turn_text made.number made.actor made.turn) (ap (λ (x : Turn Answer). turn_text made.number made.actor x) is) (is_stop made.turn) (ap is_stop is) T.makes (answers_line made actor w t answer is T)
   where
-    at : (bytes : List ℕ) → bytes ≡ line_text made.number made.actor answer → (stopped : Bool) → stopped ≡ true → (M : MakesTurn actor w t stopped bytes) → AnswersLine w M.step → PutsTurn actor w t before after waited waits (Err stop)
+    at : (bytes : List ℕ) → bytes ≡ line_text made.number made.actor answer → (stopped : Bool) → stopped ≡ true
+        → (M : MakesTurn actor w t stopped bytes) → AnswersLine w M.step → PutsTurn actor w t before after waited waits (Err stop)
     at bytes same stopped stops_ M A = inr (
       line_text made.number made.actor answer,
       record { step = M.step; turn = M.turn; stops_ = M.stops_ ∙ stops_; comes = subst (λ (x : List ℕ). Comes w (M.step ∷ []) t x) same M.comes },
@@ -139,7 +155,8 @@ stops_done made actor w t answer before after waited waits stop is T few prefix 
     )
 
 -- A turn that waits, or begins anew, puts nothing.
-pub puts_waiting : (made : TurnMade) (actor : ℕ) (w t : World Held) (written : Option (List ℕ)) (waited : List ℕ) → length waited ≤ most_waiting → ((seen : Seen) × (made.turn ≡ Wait seen)) ⊎ ((cause : Cause) × (made.turn ≡ Retry cause)) → TurnedOn (Some made) actor w t
+pub puts_waiting : (made : TurnMade) (actor : ℕ) (w t : World Held) (written : Option (List ℕ)) (waited : List ℕ) → length waited ≤ most_waiting
+    → ((seen : Seen) × (made.turn ≡ Wait seen)) ⊎ ((cause : Cause) × (made.turn ≡ Retry cause)) → TurnedOn (Some made) actor w t
     → PutsTurn actor w t written written waited waited (Ok Stopped)
 puts_waiting made actor w t written waited few (inl (seen, is)) T =
     ([], subst (λ (x : Turn Answer). MakesTurn actor w t (is_stop x) (turn_text made.number made.actor x)) is T.makes, ([], Appends-nil written, sym (append-nil waited), few))
@@ -147,18 +164,20 @@ puts_waiting made actor w t written waited few (inr (cause, is)) T =
     ([], subst (λ (x : Turn Answer). MakesTurn actor w t (is_stop x) (turn_text made.number made.actor x)) is T.makes, ([], Appends-nil written, sym (append-nil waited), few))
 
 -- The turn of a seat, in the world that it tells.
-pub turned_told : (actor : ℕ) (h g : Held) (told tells : Told) (line : Line) (whose : Actor) (turn : Turn Answer) → IfSome told.world (HasHand actor h) → open_line h ≡ Some line → whose ≡ h.state.actor → TurnsLine turn actor h g told tells
-    → TurnedTold (Some (record { number = line.number; actor = whose; turn = turn })) actor told.world tells.world
-turned_told actor h g told tells line whose turn has open_ own made = at told.world refl
+pub turned_told : (before after : Seat) (line : Line) (whose : Actor) (turn : Turn Answer) → IfSome before.tells.world (HasHand before.actor before.hand)
+    → open_line before.hand ≡ Some line → whose ≡ before.hand.state.actor → TurnsLine turn before after
+    → TurnedTold (Some (record { number = line.number; actor = whose; turn = turn })) before.actor before.tells.world after.tells.world
+turned_told before after line whose turn has open_ own made = at before.tells.world refl
   where
-    at : (o : Option (World Held)) → told.world ≡ o → TurnedTold (Some (record { number = line.number; actor = whose; turn = turn })) actor o tells.world
+    at : (o : Option (World Held)) → before.tells.world ≡ o
+        → TurnedTold (Some (record { number = line.number; actor = whose; turn = turn })) before.actor o after.tells.world
     at None is = tt
     at (Some w) is =
-        made_turn actor w h g tells.world told.steps tells.steps line whose turn (subst (λ (o : Option (World Held)). IfSome o (HasHand actor h)) is has) open_ own
-        (subst (λ (o : Option (World Held)). TurnsLine turn actor h g (record { world = o; steps = told.steps }) tells) is made)
+        made_turn before after w line whose turn is (subst (λ (o : Option (World Held)). IfSome o (HasHand before.actor before.hand)) is has) open_ own made
 
 -- No turn is made where no line is left.
-pub none_told : (actor : ℕ) (h : Held) (told tells : Option (World Held)) → IfSome told (HasHand actor h) → open_line h ≡ None → tells ≡ told → TurnedTold None actor told tells
+pub none_told : (actor : ℕ) (h : Held) (told tells : Option (World Held)) → IfSome told (HasHand actor h) → open_line h ≡ None → tells ≡ told
+    → TurnedTold None actor told tells
 none_told actor h None tells has none same = tt
 none_told actor h (Some w) tells has none same = (w, same, (ap (λ (x : Held). has_line x) has.is ∙ none_open h none, refl))
 

@@ -1,5 +1,6 @@
 -- What a replay over the machine's words is: a list of steps in which each line runs alone, in file order.
-use Rattle.std.specs.Prelude.{◌≡◌, ◌≢◌, ◌≤◌, ◌⊎◌, ◌*◌, ℕ, List, [], ◌∷◌, ◌++◌, All, length, take, Some}
+use Rattle.std.specs.Prelude.{◌≡◌, ◌≢◌, ◌≤◌, ◌⊎◌, ℕ, List, [], ◌∷◌, ◌++◌, All, length, take, Some}
+use Rattle.std.specs.List.{sum_by}
 use Rattle.core_views.specs.declared.answer.Answer.{Answer}
 use Rattle.core_views.specs.declared.answer.Answer.TheVariants.{Starved}
 use Rattle.core_views.specs.declared.event.Event.{Event}
@@ -35,13 +36,13 @@ abbrev pub EachStepsAlone : Sizes → World Held → List (Step Kind) → Type 0
 EachStepsAlone z before [] = Unit {0}
 EachStepsAlone z before (s ∷ steps) = StepsAlone z before s × EachStepsAlone z (effect mmu before s) steps
 
--- The steps run the line alone: they are of its actor alone, at most `most_steps`, none of them waits or leads away from the line's
--- answer; the last one answers it, and they tell the line from its begin to this answer. Behind them all actors rest. Where the line is starved no page of the
--- pool is free then, and its claim found each word of the pool's map 0; where it is answered otherwise, no access of it left for want of
--- a page.
+-- The steps run the line alone: they are of its actor alone, at most as many as its command allows, none of them waits or leads away from the
+-- line's answer; the last one answers it, and they tell the line from its begin to this answer. After them all actors rest. Where the line is
+-- starved no page of the pool is free then, and its claim found each word of the pool's map 0; where it is answered otherwise, no access of it
+-- left for want of a page.
 pub record RunsAlone (z : Sizes) (actor : ℕ) (line : Line) (answer : Answer) (steps : List (Step Kind)) (before : World Held) : Type 0 where
   pub own : All (λ s. s.actor ≡ actor) steps
-  pub few : length steps ≤ most_steps z
+  pub few : length steps ≤ most_steps z line.command
   pub nearer : EachStepsAlone z before steps
   pub last : EndsWithAnswer before steps
   pub runs : RunsLine line answer steps before (Some (run mmu before steps))
@@ -64,7 +65,7 @@ pub record RunsLines (z : Sizes) (start : World Held) (lines : List Line) (end_ 
   pub ends : run mmu start steps ≡ end_
   pub each : EachRunsAlone z start lines steps
   pub alone : StandsAlone (history start steps) lines
-  pub few : length steps ≤ most_steps z * length lines
+  pub few : length steps ≤ sum_by (λ line. most_steps z line.command) lines
 
 -- The line ran alone on the machine, and the actor's hand has the answer.
 pub record RanOn (z : Sizes) (line : Line) (answer : Answer) (actor : ℕ) (before after : World Held) : Type 0 where

@@ -7,9 +7,8 @@ use Rattle.core_views.specs.declared.trace.Line.{Line}
 use Rattle.core_views.specs.Held.{Held}
 use Rattle.core_views.specs.Text.{line_text, text}
 use Rattle.mmu_core.specs.machine.Enabled.{mmu}
-use Rattle.mmu_core.specs.alone.LineAlone.{line_waits}
 use Rattle.mmu_core.specs.machine.Machine.{Legal, Step, World, answered, hand_in, run}
-use Rattle.mmu_core.specs.machine.Steps.{has_line, place_at, task_of}
+use Rattle.mmu_core.specs.machine.Steps.{has_line, task_of}
 use Rattle.part_steps.specs.Tasks.{kind_of_task}
 use Rattle.mmu_core.specs.machine.Turns.{line_of}
 use Rattle.mmu_core.specs.machine.Worlds.{history}
@@ -17,7 +16,7 @@ use Rattle.step_seats.specs.declared.turn.Turn.{Turn}
 use Rattle.step_seats.specs.declared.turn.Turn.TheVariants.{More, Wait, Retry, Done}
 use Rattle.tdp_io.specs.declared.sink.Stop.{Stop}
 use Rattle.tdp_io.specs.declared.sink.Stop.TheVariants.{NoMemory as Full}
-use Rattle.step_seats.specs.LineTurns.{Gives, line_seen, line_turn}
+use Rattle.step_seats.specs.LineTurns.{AnswersBy}
 use Rattle.weave_engine.specs.Pieces.{WritesMost}
 use Rattle.weave_engine.specs.Turning.{AnswersLine, HasNoLineLeft, IsTurn, MayStop, stops}
 use Rattle.weave_engine.specs.Writes.{Buffers}
@@ -58,11 +57,6 @@ pub record MakesTurn (actor : ℕ) (before after : World Held) (stop : Bool) (by
   pub stops_ : stops before step ≡ stop
   pub comes : Comes before (step ∷ []) after bytes
 
--- What a turn of the hand's line answers, by what its step found: a wait names the word that it has seen, a beginning anew its cause, and an
--- end the answer.
-abbrev pub AnswersBy : Turn Answer → Held → ℕ → Type 0
-AnswersBy turn h v = Gives turn (line_waits (place_at h.state.place h) (line_of h).command h v) (line_seen (place_at h.state.place h) (line_of h).command h v) (line_turn (place_at h.state.place h) (line_of h).command h v)
-
 -- The turn was one of the line that the actor's hand had under way, or else of its next one. That line's next step was made, and the turn
 -- answers by it.
 pub record IsTurnOf (made : TurnMade) (actor : ℕ) (before after : World Held) : Type 0 where
@@ -82,9 +76,12 @@ TurnedTold made actor told tells = IfSome told (λ w. (t : World Held) × (tells
 -- The actor's turn was made, and what it prints was put behind what waited to be written. Where that stopped, either memory was refused
 -- and no step was made; or the turn answered its line. What waited, and what the turn prints, was written but for little.
 abbrev pub PutsTurn : ℕ → World Held → World Held → Option (List ℕ) → Option (List ℕ) → List ℕ → List ℕ → Result Turned Stop → Type 0
-PutsTurn actor before after written writes waited waits (Ok NoLine) = HasNoLineLeft actor before × (after ≡ before) × Buffers written writes waited waits (Ok tt) []
-PutsTurn actor before after written writes waited waits (Ok Went) = (bytes : List ℕ) × MakesTurn actor before after false bytes × Buffers written writes waited waits (Ok tt) bytes
-PutsTurn actor before after written writes waited waits (Ok Stopped) = (bytes : List ℕ) × MakesTurn actor before after true bytes × Buffers written writes waited waits (Ok tt) bytes
+PutsTurn actor before after written writes waited waits (Ok NoLine) =
+    HasNoLineLeft actor before × (after ≡ before) × Buffers written writes waited waits (Ok tt) []
+PutsTurn actor before after written writes waited waits (Ok Went) =
+    (bytes : List ℕ) × MakesTurn actor before after false bytes × Buffers written writes waited waits (Ok tt) bytes
+PutsTurn actor before after written writes waited waits (Ok Stopped) =
+    (bytes : List ℕ) × MakesTurn actor before after true bytes × Buffers written writes waited waits (Ok tt) bytes
 PutsTurn actor before after written writes waited waits (Err stop) =
     ((stop ≡ Full) × (after ≡ before) × WritesMost written writes waited)
     ⊎ ((bytes : List ℕ) × (M : MakesTurn actor before after true bytes) × AnswersLine before M.step × WritesMost written writes (waited ++ bytes))

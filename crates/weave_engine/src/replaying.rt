@@ -20,7 +20,6 @@ use tdp_io::{Sink, Stop, write_all};
 /// Runs the first lines one after another, each alone, and puts what they are
 /// answered.
 pub fn run_lines<K: Sink>(
-    alloc: Global,
     machine: &mut PlainMachine,
     lines: &[Line],
     count: usize,
@@ -31,7 +30,8 @@ pub fn run_lines<K: Sink>(
     requires count { count ≤ length lines.now }
     requires unfailed { K.failed out.old ≡ false }
     requires waiting { length (string_bytes waiting.old) ≤ most_waiting }
-    ensures puts { RunsAndPuts machine.old.sizes (world_in machine.old) lines.now count (world_in machine.new) (K.written out.old) (K.written out.new) (string_bytes waiting.old) (string_bytes waiting.new) result }
+    ensures puts { RunsAndPuts machine.old.sizes (world_in machine.old) lines.now count (world_in machine.new) (K.written out.old) (K.written out.new)
+        (string_bytes waiting.old) (string_bytes waiting.new) result }
     ensures faults { WroteFaults (K.faults out.old) (K.faults out.new) result }
     ensures failed { K.failed out.new ≡ is_failed result }
     ensures same { (machine.new.sizes ≡ machine.old.sizes) × (length machine.new.hands ≡ length machine.old.hands) }
@@ -41,7 +41,7 @@ pub fn run_lines<K: Sink>(
         let Ok(answer) = run_on(machine, line) else {
             return Err(Stop::NoMemory);
         };
-        put_answer(alloc, line.number, line.actor, &answer, out, waiting)?;
+        put_answer(line.number, line.actor, &answer, out, waiting)?;
     }
     Ok(())
 }
@@ -63,7 +63,7 @@ fn replay_on<K: Sink>(
 {
     let mut waiting = String::new(alloc);
     let lines = trace.lines.as_slice();
-    run_lines(alloc, machine, lines, lines.len(), out, &mut waiting)?;
+    run_lines(machine, lines, lines.len(), out, &mut waiting)?;
     write_all(out, waiting.as_bytes())?;
     Ok(None)
 }

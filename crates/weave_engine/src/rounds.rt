@@ -9,7 +9,6 @@ ghost use Rattle.weave_engine.specs.Weaves.{FirstOpen, RunsAllRounds, RunsSomeRo
 
 use crate::turning::{Turned, turn_and_put};
 use core_views::Line;
-use std::alloc::Global;
 use step_seats::PlainMachine;
 use tdp_io::{Sink, Stop};
 
@@ -24,7 +23,6 @@ fn next_place(index: usize, count: usize) -> usize
 /// Turns of all actors in their order, one each, round and round, those without a
 /// line left out, until no line is left or `limit` turns were made.
 pub fn run_rounds<K: Sink>(
-    alloc: Global,
     machine: &mut PlainMachine,
     limit: u64,
     out: &mut K,
@@ -32,7 +30,8 @@ pub fn run_rounds<K: Sink>(
 ) -> Result<(), Stop>
     requires unfailed { K.failed out.old ≡ false }
     requires waiting { length (string_bytes waiting.old) ≤ most_waiting }
-    ensures puts { PutsRun (RunsAllRounds machine.old.sizes limit) (RunsSomeRounds machine.old.sizes limit) (world_in machine.old) (world_in machine.new) (K.written out.old) (K.written out.new) (string_bytes waiting.old) (string_bytes waiting.new) result }
+    ensures puts { PutsRun (RunsAllRounds machine.old.sizes limit) (RunsSomeRounds machine.old.sizes limit) (world_in machine.old) (world_in machine.new)
+        (K.written out.old) (K.written out.new) (string_bytes waiting.old) (string_bytes waiting.new) result }
     ensures faults { WroteFaults (K.faults out.old) (K.faults out.new) result }
     ensures failed { K.failed out.new ≡ is_failed result }
     ensures same { (machine.new.sizes ≡ machine.old.sizes) × (length machine.new.hands ≡ length machine.old.hands) }
@@ -44,7 +43,7 @@ pub fn run_rounds<K: Sink>(
     while passed < count && made < limit {
         let actor = index;
         index = next_place(index, count);
-        match turn_and_put(alloc, machine, actor, out, waiting)? {
+        match turn_and_put(machine, actor, out, waiting)? {
             Turned::NoLine => passed += 1,
             Turned::Went | Turned::Stopped => {
                 passed = 0;

@@ -18,10 +18,12 @@ use step_seats::PlainMachine;
 pub fn run_on(machine: &mut PlainMachine, line: &Line) -> Result<Answer, NoMemory>
     requires there { index_of machine.old.sizes line.now.actor < length machine.old.hands }
     requires idle { (handful_in machine.old.hands (index_of machine.old.sizes line.now.actor)).core.state.place ≡ Between }
-    requires next { slice_get (handful_in machine.old.hands (index_of machine.old.sizes line.now.actor)).core.lines (length (handful_in machine.old.hands (index_of machine.old.sizes line.now.actor)).core.answers) ≡ Some line.now }
+    requires next { slice_get (handful_in machine.old.hands (index_of machine.old.sizes line.now.actor)).core.lines
+        (length (handful_in machine.old.hands (index_of machine.old.sizes line.now.actor)).core.answers) ≡ Some line.now }
     requires own { line.now.actor ≡ (handful_in machine.old.hands (index_of machine.old.sizes line.now.actor)).core.state.actor }
     requires alone { LineAlone machine.old.sizes (world_in machine.old) (index_of machine.old.sizes line.now.actor) }
-    ensures ran { IfOk result (λ answer. RanOn machine.old.sizes line.now answer (index_of machine.old.sizes line.now.actor) (world_in machine.old) (world_in machine.new)) }
+    ensures ran { IfOk result
+        (λ answer. RanOn machine.old.sizes line.now answer (index_of machine.old.sizes line.now.actor) (world_in machine.old) (world_in machine.new)) }
     ensures refused { OnErr result (world_in machine.new ≡ world_in machine.old) }
     ensures same { (machine.new.sizes ≡ machine.old.sizes) × (length machine.new.hands ≡ length machine.old.hands) }
 {

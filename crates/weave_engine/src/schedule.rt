@@ -14,13 +14,11 @@ ghost use Rattle.weave_engine.specs.Turning.{IsOpenEnded, RunsBy, RunsBySoFar, R
 
 use crate::turning::{Turned, next_code, turn_and_put};
 use core_views::{Item, Until};
-use std::alloc::Global;
 use step_seats::PlainMachine;
 use tdp_io::{Sink, Stop};
 
 // So many turns of the actor, or as many as it has lines for.
 fn run_turns<K: Sink>(
-    alloc: Global,
     machine: &mut PlainMachine,
     index: usize,
     count: u32,
@@ -30,13 +28,14 @@ fn run_turns<K: Sink>(
     requires there { index < length machine.old.hands }
     requires unfailed { K.failed out.old ≡ false }
     requires waiting { length (string_bytes waiting.old) ≤ most_waiting }
-    ensures puts { PutsRun (RunsBy (Turns count) index) (RunsBySoFar (Turns count) index) (world_in machine.old) (world_in machine.new) (K.written out.old) (K.written out.new) (string_bytes waiting.old) (string_bytes waiting.new) result }
+    ensures puts { PutsRun (RunsBy (Turns count) index) (RunsBySoFar (Turns count) index) (world_in machine.old) (world_in machine.new) (K.written out.old)
+        (K.written out.new) (string_bytes waiting.old) (string_bytes waiting.new) result }
     ensures faults { WroteFaults (K.faults out.old) (K.faults out.new) result }
     ensures failed { K.failed out.new ≡ is_failed result }
     ensures same { (machine.new.sizes ≡ machine.old.sizes) × (length machine.new.hands ≡ length machine.old.hands) }
 {
     for _made in 0..count {
-        match turn_and_put(alloc, machine, index, out, waiting)? {
+        match turn_and_put(machine, index, out, waiting)? {
             Turned::NoLine => return Ok(()),
             Turned::Went | Turned::Stopped => {}
         }
@@ -57,7 +56,6 @@ fn is_named(machine: &PlainMachine, index: usize, until: Until) -> bool
 
 // Turns of the actor until one ends the item, which names no count.
 fn run_until<K: Sink>(
-    alloc: Global,
     machine: &mut PlainMachine,
     index: usize,
     until: Until,
@@ -68,7 +66,8 @@ fn run_until<K: Sink>(
     requires until { IsOpenEnded until }
     requires unfailed { K.failed out.old ≡ false }
     requires waiting { length (string_bytes waiting.old) ≤ most_waiting }
-    ensures puts { PutsRun (RunsBy until index) (RunsBySoFar until index) (world_in machine.old) (world_in machine.new) (K.written out.old) (K.written out.new) (string_bytes waiting.old) (string_bytes waiting.new) result }
+    ensures puts { PutsRun (RunsBy until index) (RunsBySoFar until index) (world_in machine.old) (world_in machine.new) (K.written out.old)
+        (K.written out.new) (string_bytes waiting.old) (string_bytes waiting.new) result }
     ensures faults { WroteFaults (K.faults out.old) (K.faults out.new) result }
     ensures failed { K.failed out.new ≡ is_failed result }
     ensures same { (machine.new.sizes ≡ machine.old.sizes) × (length machine.new.hands ≡ length machine.old.hands) }
@@ -76,7 +75,7 @@ fn run_until<K: Sink>(
     loop {
         let _ = machine.sizes();
         let named = is_named(machine, index, until);
-        match turn_and_put(alloc, machine, index, out, waiting)? {
+        match turn_and_put(machine, index, out, waiting)? {
             Turned::NoLine | Turned::Stopped => return Ok(()),
             Turned::Went if named => return Ok(()),
             Turned::Went => {}
@@ -86,7 +85,6 @@ fn run_until<K: Sink>(
 
 // The turns of one item.
 fn run_item<K: Sink>(
-    alloc: Global,
     machine: &mut PlainMachine,
     item: &Item,
     out: &mut K,
@@ -95,21 +93,21 @@ fn run_item<K: Sink>(
     requires actor { HasActor machine.old.sizes item.now.actor }
     requires unfailed { K.failed out.old ≡ false }
     requires waiting { length (string_bytes waiting.old) ≤ most_waiting }
-    ensures puts { PutsRun (RunsItem machine.old.sizes item.now) (RunsItemSoFar machine.old.sizes item.now) (world_in machine.old) (world_in machine.new) (K.written out.old) (K.written out.new) (string_bytes waiting.old) (string_bytes waiting.new) result }
+    ensures puts { PutsRun (RunsItem machine.old.sizes item.now) (RunsItemSoFar machine.old.sizes item.now) (world_in machine.old) (world_in machine.new)
+        (K.written out.old) (K.written out.new) (string_bytes waiting.old) (string_bytes waiting.new) result }
     ensures faults { WroteFaults (K.faults out.old) (K.faults out.new) result }
     ensures failed { K.failed out.new ≡ is_failed result }
     ensures same { (machine.new.sizes ≡ machine.old.sizes) × (length machine.new.hands ≡ length machine.old.hands) }
 {
     let index = machine.sizes().index_of(item.actor) as usize;
     match item.until {
-        Until::Turns(count) => run_turns(alloc, machine, index, count, out, waiting),
-        until => run_until(alloc, machine, index, until, out, waiting),
+        Until::Turns(count) => run_turns(machine, index, count, out, waiting),
+        until => run_until(machine, index, until, out, waiting),
     }
 }
 
 /// The turns of all items, one item after another.
 pub fn run_items<K: Sink>(
-    alloc: Global,
     machine: &mut PlainMachine,
     items: &[Item],
     out: &mut K,
@@ -118,13 +116,14 @@ pub fn run_items<K: Sink>(
     requires actors { All (λ item. HasActor machine.old.sizes item.actor) items.now }
     requires unfailed { K.failed out.old ≡ false }
     requires waiting { length (string_bytes waiting.old) ≤ most_waiting }
-    ensures puts { PutsRun (RunsItems machine.old.sizes items.now) (RunsItemsSoFar machine.old.sizes items.now) (world_in machine.old) (world_in machine.new) (K.written out.old) (K.written out.new) (string_bytes waiting.old) (string_bytes waiting.new) result }
+    ensures puts { PutsRun (RunsItems machine.old.sizes items.now) (RunsItemsSoFar machine.old.sizes items.now) (world_in machine.old) (world_in machine.new)
+        (K.written out.old) (K.written out.new) (string_bytes waiting.old) (string_bytes waiting.new) result }
     ensures faults { WroteFaults (K.faults out.old) (K.faults out.new) result }
     ensures failed { K.failed out.new ≡ is_failed result }
     ensures same { (machine.new.sizes ≡ machine.old.sizes) × (length machine.new.hands ≡ length machine.old.hands) }
 {
     for item in items {
-        run_item(alloc, machine, item, out, waiting)?;
+        run_item(machine, item, out, waiting)?;
     }
     Ok(())
 }

@@ -1,20 +1,20 @@
 //! One turn of an actor of the machine: the next step of its line.
 ghost use Rattle.std.specs.Prelude.{◌≡◌, ◌<◌, ◌≤◌, IfOk, OnErr, false, length, string_bytes, true};
+ghost use Rattle.core_views.specs.declared.place.Place.TheVariants.{Between};
 ghost use Rattle.mmu_core.specs.machine.Enabled.{mmu};
 ghost use Rattle.mmu_core.specs.machine.Machine.{hand_in};
 ghost use Rattle.mmu_core.specs.machine.Steps.{has_line};
 ghost use Rattle.mmu_core.specs.machine.Turns.{IsSameHand, line_of};
-ghost use Rattle.step_seats.specs.Machines.{world_in};
+ghost use Rattle.step_seats.specs.Machines.{seat_in, world_in};
 ghost use Rattle.tdp_io.specs.Ends.{WroteFaults, is_failed};
 ghost use Rattle.step_seats.specs.LineTurns.{Says, TurnsLine};
 ghost use Rattle.weave_engine.specs.Pieces.{most_waiting};
 ghost use Rattle.weave_engine.specs.Turned.{PutsTurn, TurnedOn, TurnedTold, next_code_in, open_line};
 
-use crate::job::start_line;
+use crate::job::next_job;
 use crate::writing::put_answer;
 use core_views::{Actor, Answer, Hand, Line, NoMemory, Place};
 use mmu_core::{next_kind, rests};
-use std::alloc::Global;
 use step_seats::{ActorSeat, PlainMachine, Stepper, Turn};
 use tdp_io::{Sink, Stop};
 
@@ -50,26 +50,28 @@ fn line_of_hand(hand: &Hand) -> Option<Line>
 }
 
 /// Makes the actor's next turn, which is one of this line. Where memory is
-/// refused no step is made.
+/// refused no step is made; a turn of a line that is under way takes none.
 pub fn take_turn<S: Stepper>(s: &mut S, line: &Line) -> Result<Turn<Answer>, NoMemory>
-    requires left { length (S.handful s.old).core.answers < length (S.handful s.old).core.lines }
-    requires line { line.now ≡ line_of (S.handful s.old).core }
-    ensures turns { IfOk result (λ turn. TurnsLine turn (S.actor s.old) (S.handful s.old).core (S.handful s.new).core (S.tells s.old) (S.tells s.new)) }
-    ensures says { IfOk result (λ turn. Says turn line.now (S.handful s.old).core (S.handful s.new).core) }
-    ensures hand { IsSameHand (S.handful s.old).core (S.handful s.new).core }
-    ensures refused { OnErr result (((S.handful s.new).core ≡ (S.handful s.old).core) × (S.tells s.new ≡ S.tells s.old)) }
-    ensures same { (S.actor s.new ≡ S.actor s.old) × (S.frame s.new ≡ S.frame s.old) }
+    requires left { length (S.seat s.old).hand.answers < length (S.seat s.old).hand.lines }
+    requires line { line.now ≡ line_of (S.seat s.old).hand }
+    ensures turns { IfOk result (λ turn. TurnsLine turn (S.seat s.old) (S.seat s.new)) }
+    ensures says { IfOk result (λ turn. Says turn line.now (S.seat s.old).hand (S.seat s.new).hand) }
+    ensures hand { IsSameHand (S.seat s.old).hand (S.seat s.new).hand }
+    ensures begins { OnErr result ((S.seat s.old).hand.state.place ≡ Between) }
+    ensures refused { OnErr result (((S.seat s.new).hand ≡ (S.seat s.old).hand) × ((S.seat s.new).tells ≡ (S.seat s.old).tells)) }
+    ensures same { ((S.seat s.new).actor ≡ (S.seat s.old).actor) × (S.frame s.new ≡ S.frame s.old) }
 {
-    let mut job = start_line(s, line)?;
+    let mut job = next_job(s, line)?;
     Ok(job.turn(s))
 }
 
-// Makes the actor's next turn, where it has a line left. Where memory is refused
-// no step is made.
+// Makes the actor's next turn, where it has a line left. Memory is refused only
+// where this line begins; then no step is made.
 fn next_turn<S: Stepper>(s: &mut S) -> Result<Option<TurnMade>, NoMemory>
-    ensures turned { IfOk result (λ made. TurnedTold made (S.actor s.old) (S.tells s.old).world (S.tells s.new).world) }
-    ensures refused { OnErr result (S.tells s.new ≡ S.tells s.old) }
-    ensures same { (S.actor s.new ≡ S.actor s.old) × (S.frame s.new ≡ S.frame s.old) }
+    ensures turned { IfOk result (λ made. TurnedTold made (S.seat s.old).actor (S.seat s.old).tells.world (S.seat s.new).tells.world) }
+    ensures begins { OnErr result ((S.seat s.old).hand.state.place ≡ Between) }
+    ensures refused { OnErr result ((S.seat s.new).tells ≡ (S.seat s.old).tells) }
+    ensures same { ((S.seat s.new).actor ≡ (S.seat s.old).actor) × (S.frame s.new ≡ S.frame s.old) }
 {
     let hand = s.hand();
     let actor = hand.state().actor;
@@ -85,10 +87,11 @@ fn next_turn<S: Stepper>(s: &mut S) -> Result<Option<TurnMade>, NoMemory>
 }
 
 /// Makes the next turn of the actor at this place, where it has a line left.
-/// Where memory is refused nothing has changed.
+/// Memory is refused only where this line begins; then nothing has changed.
 pub fn turn_on(machine: &mut PlainMachine, index: usize) -> Result<Option<TurnMade>, NoMemory>
     requires there { index < length machine.old.hands }
     ensures turned { IfOk result (λ made. TurnedOn made index (world_in machine.old) (world_in machine.new)) }
+    ensures begins { OnErr result ((seat_in machine.old index).hand.state.place ≡ Between) }
     ensures refused { OnErr result (world_in machine.new ≡ world_in machine.old) }
     ensures same { (machine.new.sizes ≡ machine.old.sizes) × (length machine.new.hands ≡ length machine.old.hands) }
 {
@@ -99,7 +102,6 @@ pub fn turn_on(machine: &mut PlainMachine, index: usize) -> Result<Option<TurnMa
 /// Makes the next turn of the actor at this place, where it has a line left, and
 /// puts what the line is answered.
 pub fn turn_and_put<K: Sink>(
-    alloc: Global,
     machine: &mut PlainMachine,
     index: usize,
     out: &mut K,
@@ -108,7 +110,8 @@ pub fn turn_and_put<K: Sink>(
     requires there { index < length machine.old.hands }
     requires unfailed { K.failed out.old ≡ false }
     requires waiting { length (string_bytes waiting.old) ≤ most_waiting }
-    ensures puts { PutsTurn index (world_in machine.old) (world_in machine.new) (K.written out.old) (K.written out.new) (string_bytes waiting.old) (string_bytes waiting.new) result }
+    ensures puts { PutsTurn index (world_in machine.old) (world_in machine.new)
+        (K.written out.old) (K.written out.new) (string_bytes waiting.old) (string_bytes waiting.new) result }
     ensures faults { WroteFaults (K.faults out.old) (K.faults out.new) result }
     ensures failed { K.failed out.new ≡ is_failed result }
     ensures same { (machine.new.sizes ≡ machine.old.sizes) × (length machine.new.hands ≡ length machine.old.hands) }
@@ -123,7 +126,7 @@ pub fn turn_and_put<K: Sink>(
         Turn::More => Ok(Turned::Went),
         Turn::Wait(_) | Turn::Retry(_) => Ok(Turned::Stopped),
         Turn::Done(answer) => {
-            put_answer(alloc, made.number, made.actor, &answer, out, waiting)?;
+            put_answer(made.number, made.actor, &answer, out, waiting)?;
             Ok(Turned::Stopped)
         }
     }

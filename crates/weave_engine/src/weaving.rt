@@ -80,9 +80,9 @@ fn weave_on<K: Sink>(
     let mut waiting = String::new(alloc);
     let lines = trace.lines.as_slice();
     let above = trace.go.unwrap_or(0) as usize;
-    run_lines(alloc, machine, lines, above, out, &mut waiting)?;
-    run_items(alloc, machine, trace.items.as_slice(), out, &mut waiting)?;
-    run_rounds(alloc, machine, limit, out, &mut waiting)?;
+    run_lines(machine, lines, above, out, &mut waiting)?;
+    run_items(machine, trace.items.as_slice(), out, &mut waiting)?;
+    run_rounds(machine, limit, out, &mut waiting)?;
     let first = first_open(machine);
     finish(alloc, first, out, &mut waiting)?;
     Ok(first)

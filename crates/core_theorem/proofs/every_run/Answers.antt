@@ -11,9 +11,10 @@ use Rattle.mmu_laws.proofs.leaves.LeafLaws.{cached_leaves_agree, leaves_agree, u
 use Rattle.mmu_laws.proofs.causes.StarvedScan.{legal_parts, starved_lines_scan}
 use Rattle.mmu_core.proofs.start.Starts.{start_good}
 use Rattle.core_theorem.proofs.Begins.{lines_are_open}
-use Rattle.core_theorem.proofs.DelayCauses.{between_lines_see_nothing, delays_have_causes, starts_saw_nothing, waits_have_causes}
+use Rattle.core_theorem.proofs.DelayCauses.{between_lines_see_nothing, delays_have_causes, starts_saw_nothing, waits_have_causes, waits_see_another}
 use Rattle.core_theorem.proofs.Holdings.{held_sets_are_known, none_holds_free_pages, pages_are_reused_alone, watched_hold_no_old_set}
 use Rattle.core_theorem.proofs.LineTurns.{lines_make_few_steps}
+use Rattle.core_theorem.proofs.AllTurns.{all_steps_are_few}
 use Rattle.core_theorem.proofs.Turns.{counts_are_few, steps_are_few}
 use Rattle.core_theorem.proofs.Pages.{pages_are_used}
 use Rattle.core_theorem.proofs.PauseSeen.{pause_is_seen_in_stay}
@@ -35,7 +36,8 @@ pub returns-clause-translations : goal.returns-clause-translations
 returns-clause-translations c z lines w ss R actor there = cached_leaves_agree z _ actor (sound z lines w ss R) there
 
 pub returns-clause-used : goal.returns-clause-used
-returns-clause-used c z lines w ss R actor gfn word op there stands command = used_leaves_agree z _ actor gfn word op (sound z lines w ss R) there stands command
+returns-clause-used c z lines w ss R actor gfn word op there stands command =
+    used_leaves_agree z _ actor gfn word op (sound z lines w ss R) there stands command
 
 pub returns-clause-lock : goal.returns-clause-lock
 returns-clause-lock c z lines w ss R = (sound z lines w ss R).topics.lock_part
@@ -69,7 +71,8 @@ returns-clause-facts c z lines w ss R =
     }
 
 pub returns-clause-rest : goal.returns-clause-rest
-returns-clause-rest c z lines w ss s answer R has ends = answered_rests z (run mmu w ss) s (sound z lines w ss (before z lines w ss s R)) (may_last z lines w ss s R) has answer ends
+returns-clause-rest c z lines w ss s answer R has ends =
+    answered_rests z (run mmu w ss) s (sound z lines w ss (before z lines w ss s R)) (may_last z lines w ss s R) has answer ends
 
 pub returns-clause-pause : goal.returns-clause-pause
 returns-clause-pause c = pause_is_seen_in_stay
@@ -83,6 +86,9 @@ returns-clause-line_turns c = lines_make_few_steps
 pub returns-clause-turns : goal.returns-clause-turns
 returns-clause-turns c = steps_are_few
 
+pub returns-clause-all_turns : goal.returns-clause-all_turns
+returns-clause-all_turns c = all_steps_are_few
+
 pub returns-clause-open_lines : goal.returns-clause-open_lines
 returns-clause-open_lines c = lines_are_open
 
@@ -92,6 +98,9 @@ returns-clause-begins_anew c z lines w ss s cause gfn word op R stands command =
 
 pub returns-clause-waits : goal.returns-clause-waits
 returns-clause-waits c = waits_have_causes
+
+pub returns-clause-sees : goal.returns-clause-sees
+returns-clause-sees c = waits_see_another
 
 pub returns-clause-at_start : goal.returns-clause-at_start
 returns-clause-at_start c = starts_saw_nothing

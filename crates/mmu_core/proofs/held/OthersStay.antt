@@ -3,15 +3,12 @@ use Rattle.std.proofs.Common.{◌≡◌, ◌≢◌, ◌<◌, ℕ, refl, ap, ◌�
 use Rattle.std.specs.Prelude.{false, Option, Some, None}
 use Rattle.core_views.specs.declared.place.AccessPlace.{AccessPlace}
 use Rattle.core_views.specs.declared.sizes.Sizes.{Sizes}
-use Rattle.core_views.specs.declared.trace.Command.TheVariants.{Access}
-use Rattle.core_views.specs.declared.trace.Line.{Line}
 use Rattle.core_views.specs.declared.trace.Op.{Op}
 use Rattle.core_views.specs.declared.topics.Topics.{Topics}
-use Rattle.core_views.specs.declared.place.Place.TheVariants as place
 use Rattle.core_views.specs.Held.{Held}
 use Rattle.core_views.specs.Sizes.{actors_of}
 use Rattle.spte_words.specs.declared.area.Area.TheVariants as area
-use Rattle.spte_words.specs.Areas.{content_index, pool_index}
+use Rattle.spte_words.specs.Areas.{content_index}
 use Rattle.spte_words.specs.Entries.{frame_in}
 use Rattle.part_steps.specs.declared.part_step.PartStep.{PartStep}
 use Rattle.mmu_core.specs.lines.AccessSteps.{access_note, access_part, access_task, task_by, touch_of}
@@ -19,10 +16,10 @@ use Rattle.part_steps.specs.PartTasks.{own_index, part_task}
 use Rattle.part_steps.specs.Tasks.{kind_of_task, map_of}
 use Rattle.mmu_core.specs.invariant.TopicsInvariant.{TopicsInvariant}
 use Rattle.part_steps.specs.TopicSteps.{topics_after}
-use Rattle.mmu_core.specs.machine.View.{View, part_stepped, stepped}
+use Rattle.mmu_core.specs.machine.View.{View, part_stepped}
 use Rattle.mmu_core.proofs.pages.FilledKept.{others_elsewhere}
 use Rattle.mmu_core.proofs.lines.KnowsKept.{touch_topics}
-use Rattle.mmu_core.proofs.slots.LiveStays.{MakesParts, access_never, behind_access, touch_leaves_pool}
+use Rattle.mmu_core.proofs.slots.LiveStays.{access_never}
 use Rattle.mmu_core.proofs.pages.OwnedBehind.{left_behind, left_is}
 use Rattle.mmu_core.proofs.machine.PartStepping.{IsPart, is_publish}
 use Rattle.mmu_core.proofs.words.PartWords.{page_stays}
@@ -34,21 +31,17 @@ pub owned_stays : (z : Sizes) (v : View) (a : ℕ) (step : PartStep) (note : ℕ
     → OwnedStays (v.words area.Pool) ((part_stepped a step note v).words area.Pool) (v.hand i)
 owned_stays z v a step note S P i lt ne = λ o is j low. page_stays z v a step note S o.page (others_elsewhere z v a step S P i o lt ne is) j low
 
-pub access_owned_stays : (z : Sizes) (v : View) (a : ℕ) (line : Line) (p : AccessPlace) (gfn word : ℕ) (op : Op) → MakesParts z v a p gfn → TopicsInvariant z v → (i : ℕ) → i < actors_of z → i ≢ a
-    → OwnedStays (v.words area.Pool) ((stepped a line (Access gfn word op) (place.Access p) v).words area.Pool) (v.hand i)
-access_owned_stays z v a line p gfn word op makes P i lt ne =
-    behind_access (λ words. OwnedStays (v.words area.Pool) (words area.Pool) (v.hand i)) v a line p gfn word op (λ step note at. owned_stays z v a step note (makes step at) P i lt ne)
-    (λ index o is j low. ap (λ (pool : ℕ → ℕ). pool (pool_index o.page j)) (touch_leaves_pool v.words op index))
-
 -- Where no page leaves, none does behind a step that publishes none.
-pub leaves_none : (step : PartStep) (z : Sizes) (own : ℕ) (t : Topics) (note v : ℕ) → is_publish step ≡ false → t.leaving ≡ None → (topics_after z (kind_of_task z (part_task step own t note)) t v).leaving ≡ None
+pub leaves_none : (step : PartStep) (z : Sizes) (own : ℕ) (t : Topics) (note v : ℕ) → is_publish step ≡ false → t.leaving ≡ None
+    → (topics_after z (kind_of_task z (part_task step own t note)) t v).leaving ≡ None
 leaves_none step z own t note v never none = left_is step z own t note v ∙ by (left_behind step t v) refl
   where
     by : (x : Option ℕ) → left_behind step t v ≡ x → left_behind step t v ≡ None
     by None e = e
     by (Some k) e = let was = was_leaving step t v k never e in absurd (cc (was, none))
 
-pub access_leaves_none : (h : Held) (p : AccessPlace) (gfn word : ℕ) (op : Op) (v : ℕ) → h.topics.leaving ≡ None → (topics_after h.state.sizes (kind_of_task h.state.sizes (access_task p h gfn word op)) h.topics v).leaving ≡ None
+pub access_leaves_none : (h : Held) (p : AccessPlace) (gfn word : ℕ) (op : Op) (v : ℕ) → h.topics.leaving ≡ None
+    → (topics_after h.state.sizes (kind_of_task h.state.sizes (access_task p h gfn word op)) h.topics v).leaving ≡ None
 access_leaves_none h p gfn word op v none = by (access_part p gfn h.topics) (λ step is. access_never p gfn h.topics step is)
   where
     index : ℕ

@@ -7,23 +7,21 @@ use Rattle.core_views.specs.declared.place.Place.{Place}
 use Rattle.core_views.specs.declared.place.Place.TheVariants as place
 use Rattle.core_views.specs.declared.sizes.Sizes.{Sizes}
 use Rattle.core_views.specs.declared.trace.Command.{Command}
-use Rattle.core_views.specs.declared.trace.Command.TheVariants.{Access, SetSlot}
+use Rattle.core_views.specs.declared.trace.Command.TheVariants.{Access}
 use Rattle.core_views.specs.declared.trace.Line.{Line}
-use Rattle.core_views.specs.declared.trace.Slot.{Slot}
-use Rattle.core_views.specs.declared.place.SetSlotPlace.{SetSlotPlace}
-use Rattle.part_steps.specs.declared.part_step.PartStep.{PartStep}
-use Rattle.mmu_core.specs.lines.PartAt.{part_at}
-use Rattle.mmu_core.specs.lines.SetSlotSteps.{set_slot_part}
+use Rattle.core_views.specs.declared.place.SlotChangePlace.{SlotChangePlace}
+use Rattle.mmu_core.specs.lines.Forms.{outcome_at}
+use Rattle.mmu_core.specs.lines.SlotChangeSteps.{slot_change_part}
 use Rattle.mmu_core.specs.invariant.Invariant.{Invariant, KnowsPart, LeavesPart, OwnLines}
 use Rattle.mmu_core.specs.invariant.TopicsInvariant.{TopicsInvariant}
 use Rattle.mmu_core.specs.machine.View.{View, stepped, hand_after, answer_in}
 use Rattle.mmu_core.proofs.lines.AccessKept.{access_kept}
 use Rattle.mmu_core.proofs.lines.KnowsKept.{KnowsAfter, KnowsBehind, NeedsAt, access_vcpu, knows_after, own_access, step_knows, step_leaves}
-use Rattle.mmu_core.proofs.slots.SetSlotKept.{own_set_slot, set_slot_kept, setting_hand, setting_needs}
+pub use Rattle.mmu_core.proofs.invariant.QuietKept.{MakesAt}
+use Rattle.mmu_core.proofs.slots.SlotChangeKept.{change_hand, change_needs, change_replaces, own_slot_change, same_step, slot_change_kept}
 use Rattle.mmu_core.proofs.machine.Stepping.{IsStep}
 use Rattle.mmu_core.proofs.lines.AccessParts.{AreSmall, makes_parts, may_make}
 use Rattle.mmu_core.proofs.machine.PartStepping.{IsPart}
-use Rattle.mmu_core.proofs.slots.SetFilled.{setting_replaces}
 use Rattle.part_steps.specs.PartBounds.{PartRests}
 use Rattle.mmu_core.proofs.invariant.PartBounded.{part_rests_at}
 use Rattle.mmu_core.specs.lines.Rests.{IsUnderWay}
@@ -31,32 +29,36 @@ use Rattle.mmu_core.proofs.machine.Columns.{at_upd}
 use Rattle.core_views.specs.Traces.{IsCommandFor}
 use Rattle.core_views.specs.Sizes.{actors_of}
 use Rattle.mmu_core.specs.machine.Outcomes.{place_after}
-use Rattle.mmu_core.specs.machine.Steps.{outcome_at, task_at}
+use Rattle.mmu_core.specs.machine.Steps.{task_at}
 use Rattle.spte_words.specs.declared.area.Area.{Area}
 
 -- The step of a line has what it needs.
-pub needs_at : (z : Sizes) (v : View) (a : ℕ) (line : Line) (command : Command) (p : Place) → IsStep z v a line command p → Invariant z v → TopicsInvariant z v → NeedsAt p command (v.hand a)
+pub needs_at : (z : Sizes) (v : View) (a : ℕ) (line : Line) (command : Command) (p : Place) → IsStep z v a line command p → Invariant z v
+    → TopicsInvariant z v → NeedsAt p command (v.hand a)
 needs_at z v a line command place.Between S I P = tt
 needs_at z v a line command (place.Access p) S I P = tt
-needs_at z v a line (SetSlot id slot) (place.SetSlot p) S I P = setting_needs z v a line p id slot S I P
-needs_at z v a line _ _ S I P = absurd S.holds
+needs_at z v a line command (place.SlotChange p) S I P = ((step_knows z v a line command (place.SlotChange p) S I).0, change_needs z v a line p command S I P)
 
 -- What its actor knows behind its step.
-own_known : (p : Place) (line : Line) (command : Command) (z : Sizes) (h : Held) (words : Area → ℕ → ℕ) → IsUnderWay p → IsCommandFor z h.state.actor command → PartRests h → KnowsPart p command h → LeavesPart p h.topics → NeedsAt p command h
+own_known : (p : Place) (line : Line) (command : Command) (z : Sizes) (h : Held) (words : Area → ℕ → ℕ) → IsUnderWay p
+    → IsCommandFor z h.state.actor command → PartRests h → KnowsPart p command h → LeavesPart p h.topics → NeedsAt p command h
     → KnowsAfter line command p h (answer_in (task_at p command h) words)
 own_known place.Between line command z h words begun may R K left N = absurd begun
-own_known (place.Access p) line (Access gfn word op) z h words begun may R K left N = let V = access_vcpu z h.state.actor gfn word op may in own_access p line h gfn word op words V.0 V.1 R K
-own_known (place.SetSlot p) line (SetSlot id slot) z h words begun may R K left N = own_set_slot p line h id slot words R K left N
+own_known (place.Access p) line (Access gfn word op) z h words begun may R K left N =
+    let V = access_vcpu z h.state.actor gfn word op may in own_access p line h gfn word op words V.0 V.1 R K
+own_known (place.SlotChange p) line command z h words begun may R K left N = own_slot_change p line h command words R K left N.1
 own_known _ line _ z h words begun may R K left N = absurd K
 
 -- The step of a line leaves its actor with what its next place asks, or at rest where the line is answered.
-pub line_knows : (z : Sizes) (v : View) (a : ℕ) (line : Line) (command : Command) (p : Place) → IsStep z v a line command p → Invariant z v → TopicsInvariant z v → a < actors_of z
+pub line_knows : (z : Sizes) (v : View) (a : ℕ) (line : Line) (command : Command) (p : Place) → IsStep z v a line command p → Invariant z v
+    → TopicsInvariant z v → a < actors_of z
     → KnowsBehind (outcome_at p command (v.hand a) (answer_in (task_at p command (v.hand a)) v.words)) command (hand_after line command p (v.hand a) (answer_in (task_at p command (v.hand a)) v.words))
 line_knows z v a line command p S I P there =
     own_known p line command z (v.hand a) v.words S.begun (subst (λ x. IsCommandFor z x command) S.own S.allowed) (part_rests_at z v a I P there) (step_knows z v a line command p S I) (step_leaves z v a line command p S I) (needs_at z v a line command p S I P)
 
 -- Each step of a line leaves each actor with what its place asks.
-pub knows_behind : (z : Sizes) (v : View) (a : ℕ) (line : Line) (command : Command) (p : Place) → IsStep z v a line command p → Invariant z v → TopicsInvariant z v → (i : ℕ) → i < actors_of z
+pub knows_behind : (z : Sizes) (v : View) (a : ℕ) (line : Line) (command : Command) (p : Place) → IsStep z v a line command p → Invariant z v
+    → TopicsInvariant z v → (i : ℕ) → i < actors_of z
     → KnowsPart ((stepped a line command p v).hand i).state.place ((stepped a line command p v).hand i).state.line.command ((stepped a line command p v).hand i)
 knows_behind z v a line command p S I P =
     at_upd (λ i (h : Held). i < actors_of z → KnowsPart h.state.place h.state.line.command h) v.hand a (hand_after line command p (v.hand a) (answer_in (task_at p command (v.hand a)) v.words))
@@ -64,35 +66,30 @@ knows_behind z v a line command p S I P =
     (knows_after (outcome_at p command (v.hand a) (answer_in (task_at p command (v.hand a)) v.words)) command (hand_after line command p (v.hand a) (answer_in (task_at p command (v.hand a)) v.words)) (line_knows z v a line command p S I P there)))
     (λ i ne. I.knows i)
 
--- The step of a part that a slot setting makes at its place is one that its actor may make.
-pub makes_setting : (z : Sizes) (v : View) (a : ℕ) (line : Line) (p : SetSlotPlace) (id : ℕ) (slot : Slot) → AreSmall v
-    → IsStep z v a line (SetSlot id slot) (place.SetSlot p) → Invariant z v → TopicsInvariant z v
-    → IsPart z v a (set_slot_part p (v.hand a) id slot)
-makes_setting z v a line p id slot small S I P =
-    may_make z v a (set_slot_part p (v.hand a) id slot) small I P S.there (needs_at z v a line (SetSlot id slot) (place.SetSlot p) S I P)
-    (setting_replaces z v a line p id slot S I)
-
--- The step of a part that a line makes at a place is one that its actor may make.
-abbrev pub MakesAt : Sizes → View → ℕ → Place → Command → Type 0
-MakesAt z v a p command = (step : PartStep) → part_at p command (v.hand a) ≡ Some step → IsPart z v a step
-
-same_step : {s step : PartStep} → Some s ≡ Some step → s ≡ step
-same_step e = cc e
+-- The step of a part that a line that changes a slot makes at its place is one that its actor may make.
+pub makes_slot_change : (z : Sizes) (v : View) (a : ℕ) (line : Line) (p : SlotChangePlace) (command : Command) → AreSmall v
+    → IsStep z v a line command (place.SlotChange p) → Invariant z v → TopicsInvariant z v
+    → IsPart z v a (slot_change_part p (v.hand a) command)
+makes_slot_change z v a line p command small S I P =
+    may_make z v a (slot_change_part p (v.hand a) command) small I P S.there (change_needs z v a line p command S I P)
+    (change_replaces z v a line p command S I)
 
 pub makes_at : (z : Sizes) (v : View) (a : ℕ) (line : Line) (command : Command) (p : Place) → AreSmall v → IsStep z v a line command p → Invariant z v
     → TopicsInvariant z v → MakesAt z v a p command
 makes_at z v a line command place.Between small S I P = absurd S.begun
 makes_at z v a line (Access gfn word op) (place.Access p) small S I P = makes_parts z v a line p gfn word op small S I P
-makes_at z v a line (SetSlot id slot) (place.SetSlot p) small S I P =
-    λ step is. subst (IsPart z v a) (same_step is) (makes_setting z v a line p id slot small S I P)
+makes_at z v a line command (place.SlotChange p) small S I P =
+    λ step is. subst (IsPart z v a) (same_step is) (makes_slot_change z v a line p command small S I P)
 makes_at z v a line _ _ small S I P = absurd S.holds
 
 -- Each step keeps the invariant.
-pub step_kept : (z : Sizes) (v : View) (a : ℕ) (line : Line) (command : Command) (p : Place) → AreSmall v → IsStep z v a line command p → Invariant z v → TopicsInvariant z v → Invariant z (stepped a line command p v)
+pub step_kept : (z : Sizes) (v : View) (a : ℕ) (line : Line) (command : Command) (p : Place) → AreSmall v → IsStep z v a line command p
+    → Invariant z v → TopicsInvariant z v → Invariant z (stepped a line command p v)
 step_kept z v a line command place.Between small S I P = absurd S.begun
 step_kept z v a line (Access gfn word op) (place.Access p) small S I P =
     access_kept z v a line p gfn word op S I P (step_knows z v a line (Access gfn word op) (place.Access p) S I) (makes_parts z v a line p gfn word op small S I P) (knows_behind z v a line (Access gfn word op) (place.Access p) S I P)
-step_kept z v a line (SetSlot id slot) (place.SetSlot p) small S I P = set_slot_kept z v a line p id slot S I P (makes_setting z v a line p id slot small S I P) (knows_behind z v a line (SetSlot id slot) (place.SetSlot p) S I P)
+step_kept z v a line command (place.SlotChange p) small S I P =
+    slot_change_kept z v a line p command S I P (makes_slot_change z v a line p command small S I P) (knows_behind z v a line command (place.SlotChange p) S I P)
 step_kept z v a line _ _ small S I P = absurd S.holds
 
 -- The hand for which a page leaves is the manager's.
@@ -101,6 +98,5 @@ pub leaver_is_manager : (z : Sizes) (i k : ℕ) (h : Held) → OwnLines z i h �
 leaver_is_manager z i k h O K L leaves = by h.state.place h.state.line.command refl refl K L
   where
     by : (p : Place) (c : Command) → h.state.place ≡ p → h.state.line.command ≡ c → KnowsPart p c h → LeavesPart p h.topics → h.state.actor ≡ Manager
-    by (place.SetSlot p) (SetSlot id slot) at is K L = setting_hand z i h p id slot O at is
-    by (place.SetSlot p) _ at is K L = absurd K
+    by (place.SlotChange p) command at is K L = change_hand z i h p command O at is K.0
     by _ c at is K L = let none = L refl in absurd (cc (none, leaves))

@@ -35,12 +35,13 @@ use Rattle.spte_words.proofs.ReadsEntries.{leaf_frame}
 use Rattle.part_steps.specs.declared.part_step.PartStep.{PartStep}
 use Rattle.part_steps.specs.declared.part_step.PartStep.TheVariants as part
 use Rattle.mmu_core.specs.lines.AccessSteps.{access_part, touch_of}
-use Rattle.mmu_core.specs.lines.KnowsPart.{AccessKnows}
+use Rattle.mmu_core.specs.lines.AccessKnows.{AccessKnows, RestsOn}
 use Rattle.part_steps.specs.PartBounds.{PartRests}
 use Rattle.part_steps.specs.PartTasks.{own_index}
 use Rattle.part_steps.specs.PartHoldings.{FoundSlot, IsFresh, LookedUp, MayEnter, next_watched}
 use Rattle.part_steps.specs.PartSteps.{GoesOnToWord, IsVcpu, PartNeeds}
-use Rattle.mmu_core.specs.lines.Rests.{AcceptsAt, Rests, RestsAt, RestsOn}
+use Rattle.mmu_core.specs.lines.Forms.{AcceptsAt, RestsAt}
+use Rattle.mmu_core.specs.lines.Rests.{Rests}
 use Rattle.part_steps.specs.SlotWords.{may_write, page_of}
 use Rattle.mmu_core.specs.machine.Steps.{line_at, place_at, task_at, task_of}
 use Rattle.part_steps.specs.Tasks.{map_of}
@@ -61,7 +62,8 @@ use Rattle.mmu_core.specs.invariant.Invariant.{Holds, HostWordsPart, Invariant, 
 use Rattle.mmu_core.proofs.lines.UsedTranslations.{uses_stays}
 
 -- The leaf that an access uses is at a frame of the machine.
-leaf_there : (z : Sizes) (set : ℕ) (role pool host : ℕ → ℕ) (gfn leaf : ℕ) → AreSizes z → SlotSetPart z set role pool → HostWordsPart z host → IsLeafFor pool host set gfn leaf → frame_in leaf < z.frames
+leaf_there : (z : Sizes) (set : ℕ) (role pool host : ℕ → ℕ) (gfn leaf : ℕ) → AreSizes z → SlotSetPart z set role pool → HostWordsPart z host
+    → IsLeafFor pool host set gfn leaf → frame_in leaf < z.frames
 leaf_there z set role pool host gfn leaf sizes part hosts L =
     let w : ℕ = host (page_of L.slot gfn) in
     let h : host_frame w < z.frames = host_at z host (page_of L.slot gfn) sizes hosts page in
@@ -77,26 +79,32 @@ leaf_there z set role pool host gfn leaf sizes part hosts L =
         omega (arith, fits, inside.0, inside.1)
 
 -- The next step of a line finds what it needs.
-access_rests : (p : AccessPlace) (z : Sizes) (v : View) (h : Held) (gfn word : ℕ) (op : Op) → Invariant z v → h.state.sizes ≡ z → IsCommandFor z h.state.actor (Access gfn word op) → PartRests h → AccessKnows p gfn (is_write op) h
-    → Holds z (v.words area.Pool) (v.words area.Host) (v.words area.Slots 0) (place.Access p) (Access gfn word op) h → RestsOn (access_part p gfn h.topics) gfn (is_write op) h
+access_rests : (p : AccessPlace) (z : Sizes) (v : View) (h : Held) (gfn word : ℕ) (op : Op) → Invariant z v → h.state.sizes ≡ z
+    → IsCommandFor z h.state.actor (Access gfn word op) → PartRests h → AccessKnows p gfn (is_write op) h
+    → Holds z (v.words area.Pool) (v.words area.Host) (v.words area.Slots 0) (place.Access p) (Access gfn word op) h
+    → RestsOn (access_part p gfn h.topics) gfn (is_write op) h
 access_rests Touch z v h gfn word op I same may R K e = record {
   guest = K.0.guest;
   uses = K.1;
   frame = subst (λ (y : Sizes). frame_in h.state.leaf < y.frames) (sym same) (leaf_there z (v.words area.Slots 0) (v.words area.Role) (v.words area.Pool) (v.words area.Host) gfn h.state.leaf I.sizes I.set_part I.hosts e);
 }
-access_rests (Enter again) z v h gfn word op I same may R K e = let V = access_vcpu z h.state.actor gfn word op may in access_needs (Enter again) h gfn (is_write op) V.0 V.1 R K
+access_rests (Enter again) z v h gfn word op I same may R K e =
+    let V = access_vcpu z h.state.actor gfn word op may in access_needs (Enter again) h gfn (is_write op) V.0 V.1 R K
 access_rests (Walk again) z v h gfn word op I same may R K e = K.1
 access_rests (Leave how) z v h gfn word op I same may R K e = K.guest
-access_rests (Fault p) z v h gfn word op I same may R K e = let V = access_vcpu z h.state.actor gfn word op may in access_needs (Fault p) h gfn (is_write op) V.0 V.1 R K
+access_rests (Fault p) z v h gfn word op I same may R K e =
+    let V = access_vcpu z h.state.actor gfn word op may in access_needs (Fault p) h gfn (is_write op) V.0 V.1 R K
 access_rests _ z v h gfn word op I same may R K e = tt
 
-rests_at : (p : Place) (command : Command) (z : Sizes) (v : View) (h : Held) → Invariant z v → h.state.sizes ≡ z → IsCommandFor z h.state.actor command → PartRests h → KnowsPart p command h
+rests_at : (p : Place) (command : Command) (z : Sizes) (v : View) (h : Held) → Invariant z v → h.state.sizes ≡ z
+    → IsCommandFor z h.state.actor command → PartRests h → KnowsPart p command h
     → Holds z (v.words area.Pool) (v.words area.Host) (v.words area.Slots 0) p command h → NeedsAt p command h → RestsAt p command h
 rests_at (place.Access p) (Access gfn word op) z v h I same may R K e N = access_rests p z v h gfn word op I same may R K e
 rests_at (place.Access p) _ z v h I same may R K e N = absurd K
 rests_at p command z v h I same may R K e N = N
 
-pub hand_rests : (z : Sizes) (v : View) (a : ℕ) → Invariant z v → TopicsInvariant z v → a < actors_of z → length (v.hand a).answers < length (v.hand a).lines → Rests (v.hand a)
+pub hand_rests : (z : Sizes) (v : View) (a : ℕ) → Invariant z v → TopicsInvariant z v → a < actors_of z
+    → length (v.hand a).answers < length (v.hand a).lines → Rests (v.hand a)
 hand_rests z v a I P there left =
     let h : Held = v.hand a in
     let line : Line = line_at h.state.place h in
@@ -130,7 +138,8 @@ or_not a b (inl lt) = inl lt
 or_not a b (inr le) = inr (λ lt. absurd (omega (arith, le, lt)))
 
 none_over_stays : (gfn : ℕ) (n : Invalidations) → ∥ (n.count ≡ 0) ⊎ (gfn < n.start) ⊎ (n.end ≤ gfn) ∥₁ → (n.count ≡ 0) ⊎ (gfn < n.start) ⊎ (n.end ≤ gfn)
-none_over_stays gfn n x = either_stays (same_or n.count 0) (λ y. either_stays (or_not gfn n.start (cases_lt gfn n.start)) (λ b. prop_stays (hlevel props) b) y) x
+none_over_stays gfn n x =
+    either_stays (same_or n.count 0) (λ y. either_stays (or_not gfn n.start (cases_lt gfn n.start)) (λ b. prop_stays (hlevel props) b) y) x
 
 pub fresh_stays : (gfn : ℕ) (n : Invalidations) → ∥ IsFresh gfn n ∥₁ → IsFresh gfn n
 fresh_stays gfn n x = record {
@@ -155,7 +164,8 @@ looked_stays gfn t x =
 
     by : (o : Option HostLook) → t.host ≡ o → (word : ℕ) × (t.host ≡ Some (record { page = page_of t.search.slot gfn; word = word }))
     by None is = absurd (∥∥₁_elim x (hlevel props) (λ L. let e = L.host in cc (e, is)))
-    by (Some look) is = looked_at t.host look (page_of t.search.slot gfn) is (∥∥₁_elim x (hlevel props) (λ L. ap (λ (l : HostLook). l.page) (same_look (sym is ∙ L.host))))
+    by (Some look) is =
+        looked_at t.host look (page_of t.search.slot gfn) is (∥∥₁_elim x (hlevel props) (λ L. ap (λ (l : HostLook). l.page) (same_look (sym is ∙ L.host))))
 
 enter_stays : (gfn : ℕ) (t : Topics) → ∥ MayEnter gfn t ∥₁ → MayEnter gfn t
 enter_stays gfn t x = record {
@@ -191,7 +201,8 @@ needs_stay (part.Watch index) h x = (
 needs_stay _ h x = prop_stays (hlevel props) x
 
 on_stays : (s : Option PartStep) (gfn : ℕ) (write : Bool) (h : Held) → ∥ RestsOn s gfn write h ∥₁ → RestsOn s gfn write h
-on_stays None gfn write h x = record { guest = ∥∥₁_elim x (hlevel props) (λ N. N.guest); uses = uses_stays gfn write h (∥∥₁_map x (λ N. N.uses)); frame = ∥∥₁_elim x (hlevel props) (λ N. N.frame) }
+on_stays None gfn write h x =
+    record { guest = ∥∥₁_elim x (hlevel props) (λ N. N.guest); uses = uses_stays gfn write h (∥∥₁_map x (λ N. N.uses)); frame = ∥∥₁_elim x (hlevel props) (λ N. N.frame) }
 on_stays (Some step) gfn write h x = needs_stay step h x
 
 other_stays : (p : Place) (command : Command) (h : Held) → (RestsAt p command h → ⊥) ⊎ RestsOnPart p command h → ∥ RestsAt p command h ∥₁ → RestsAt p command h
@@ -223,7 +234,8 @@ rests_stay h x =
     }
 
 -- The word of the next step is one of its area.
-touch_within : (z : Sizes) (op : Op) (frame word : ℕ) → frame < z.frames → word < z.words → (touch_of op (content_index (map_of z) frame word)).index < size_of (map_of z) (touch_of op (content_index (map_of z) frame word)).area
+touch_within : (z : Sizes) (op : Op) (frame word : ℕ) → frame < z.frames → word < z.words
+    → (touch_of op (content_index (map_of z) frame word)).index < size_of (map_of z) (touch_of op (content_index (map_of z) frame word)).area
 touch_within z Read frame word a b = content_within (map_of z) frame word a b
 touch_within z _ frame word a b = content_within (map_of z) frame word a b
 
@@ -231,11 +243,14 @@ command_word : (z : Sizes) (actor : Actor) (gfn word : ℕ) (op : Op) → IsComm
 command_word z (Vcpu n) gfn word op e = e.2
 command_word z _ gfn word op e = absurd e
 
-within_by : (actor : Actor) (command : Command) (h : Held) (t : Task) → IsCommandFor h.state.sizes actor command → PartRests h → StepAt command h t → t.index < size_of (map_of h.state.sizes) t.area
+within_by : (actor : Actor) (command : Command) (h : Held) (t : Task) → IsCommandFor h.state.sizes actor command → PartRests h → StepAt command h t
+    → t.index < size_of (map_of h.state.sizes) t.area
 within_by actor command h _ may R (Makes step note N) = part_within_by step h note N R
-within_by actor command h _ may R (Touches gfn word op is N) = touch_within h.state.sizes op (frame_in h.state.leaf) word N.frame (command_word h.state.sizes actor gfn word op (subst (IsCommandFor h.state.sizes actor) is may))
+within_by actor command h _ may R (Touches gfn word op is N) =
+    touch_within h.state.sizes op (frame_in h.state.leaf) word N.frame (command_word h.state.sizes actor gfn word op (subst (IsCommandFor h.state.sizes actor) is may))
 
-within_at : (p : Place) (actor : Actor) (command : Command) (h : Held) → IsCommandFor h.state.sizes actor command → PartRests h → RestsAt p command h → (task_at p command h).index < size_of (map_of h.state.sizes) (task_at p command h).area
+within_at : (p : Place) (actor : Actor) (command : Command) (h : Held) → IsCommandFor h.state.sizes actor command → PartRests h → RestsAt p command h
+    → (task_at p command h).index < size_of (map_of h.state.sizes) (task_at p command h).area
 within_at p actor command h may R e = within_by actor command h (task_at p command h) may R (step_at p command h e)
 
 pub task_within : (h : Held) → Rests h → (task_of h).index < size_of (map_of h.state.sizes) (task_of h).area

@@ -17,16 +17,19 @@ use Rattle.part_steps.specs.PartTasks.{own_index, part_task}
 use Rattle.part_steps.specs.PartSteps.{PartNeeds}
 use Rattle.part_steps.specs.Tasks.{map_of}
 use Rattle.mmu_core.specs.lines.AccessSteps.{access_note, access_part, task_by, touch_of}
-use Rattle.mmu_core.specs.lines.PartAt.{note_at, task_at, touch_at, part_at}
-use Rattle.mmu_core.specs.lines.Rests.{RestsAt, RestsOn, TouchNeeds}
+use Rattle.mmu_core.specs.lines.Forms.{note_at, part_at, RestsAt}
+use Rattle.mmu_core.specs.lines.PartAt.{task_at, touch_at}
+use Rattle.mmu_core.specs.lines.AccessKnows.{RestsOn, TouchNeeds}
 use Rattle.mmu_core.proofs.lines.Forms.{RestsOnPart, other_rests}
 use Rattle.mmu_core.proofs.lines.UsedTranslations.{part_needs}
 
 pub data StepAt (command : Command) (h : Held) : Task → Type 0 where
   Makes : (step : PartStep) (note : ℕ) → PartNeeds step h → StepAt command h (part_task step (own_index h) h.topics note)
-  Touches : (gfn word : ℕ) (op : Op) → command ≡ Access gfn word op → TouchNeeds gfn (is_write op) h → StepAt command h (touch_of op (content_index (map_of h.state.sizes) (frame_in h.state.leaf) word))
+  Touches : (gfn word : ℕ) (op : Op) → command ≡ Access gfn word op → TouchNeeds gfn (is_write op) h
+      → StepAt command h (touch_of op (content_index (map_of h.state.sizes) (frame_in h.state.leaf) word))
 
-access_step : (s : Option PartStep) (h : Held) (note gfn word : ℕ) (op : Op) → RestsOn s gfn (is_write op) h → StepAt (Access gfn word op) h (task_by s h note (touch_of op (content_index (map_of h.state.sizes) (frame_in h.state.leaf) word)))
+access_step : (s : Option PartStep) (h : Held) (note gfn word : ℕ) (op : Op) → RestsOn s gfn (is_write op) h
+    → StepAt (Access gfn word op) h (task_by s h note (touch_of op (content_index (map_of h.state.sizes) (frame_in h.state.leaf) word)))
 access_step None h note gfn word op R = Touches gfn word op refl R
 access_step (Some step) h note gfn word op R = Makes step note R
 

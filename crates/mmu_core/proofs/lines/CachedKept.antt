@@ -2,7 +2,7 @@
 use Rattle.std.proofs.Common.{◌≡◌, ◌/◌, ◌<◌, ℕ, List, [], ◌∷◌, refl, sym, subst, ap, ◌∙◌, arith}
 use Rattle.std.proofs.lemmas.Bool.Decides.{nat_tests}
 use Rattle.std.proofs.lemmas.List.Elements.{All-cons, All-head, All-nil, All-tail, All-take}
-use Rattle.std.specs.Prelude.{All, Bool, true, false, ◌==◌, ◌&&◌, find, if◌then◌else◌, Some}
+use Rattle.std.specs.Prelude.{All, Bool, true, false, ◌≢◌, ◌==◌, ◌&&◌, find, if◌then◌else◌, Some}
 use Rattle.circular_buffer.specs.Buffer.{Buffer, buffer}
 use Rattle.core_views.specs.declared.cache.Translation.{Translation}
 use Rattle.core_views.specs.declared.kind.Kind.{Kind}
@@ -31,7 +31,7 @@ use Rattle.mmu_core.specs.lines.AccessSteps.{access_caches, access_task, is_foun
 use Rattle.mmu_core.specs.lines.Cached.{allows, asks_flush, covers, first_usable, flushed, flushed_by, is_usable, with_leaf}
 use Rattle.mmu_core.specs.lines.FaultSteps.{allows_access}
 use Rattle.mmu_core.specs.invariant.Invariant.{CachedPart, Invariant, IsLeafFor}
-use Rattle.mmu_core.specs.lines.KnowsPart.{AccessKnows}
+use Rattle.mmu_core.specs.lines.AccessKnows.{AccessKnows}
 use Rattle.part_steps.specs.PartTasks.{entry_index, table_page}
 use Rattle.part_steps.specs.PartHoldings.{IsOver}
 use Rattle.part_steps.specs.Tasks.{kind_of_task}
@@ -39,7 +39,8 @@ use Rattle.mmu_core.specs.invariant.TopicsInvariant.{TopicsInvariant}
 use Rattle.mmu_core.proofs.pages.LeavesOver.{leaf_for}
 use Rattle.mmu_core.specs.machine.View.{View, answer_in, hand_after, stepped}
 pub use Rattle.mmu_core.proofs.slots.LiveStay.{leaf_stays, translations_stay}
-use Rattle.mmu_core.proofs.slots.LiveStays.{MakesParts, access_set_stays}
+use Rattle.mmu_core.proofs.slots.LiveStays.{MakesParts}
+use Rattle.mmu_core.proofs.invariant.QuietKept.{access_sets_stay}
 use Rattle.mmu_core.proofs.slots.SlotsStay.{is_live_stays}
 
 -- A step leaves what is cached, or flushes it.
@@ -72,7 +73,8 @@ found_is_leaf entry_kind.Leaf allowed is = refl
 found_is_leaf _ allowed is = absurd (cc is)
 
 -- A leaf that agrees is cached before all others.
-with_leaf_kept : (pool host : ℕ → ℕ) (set gfn level leaf : ℕ) (c : Buffer Translation) → level ≡ 1 → IsLeafFor pool host set gfn leaf → CachedPart pool host set c.items → CachedPart pool host set (with_leaf gfn level leaf c).items
+with_leaf_kept : (pool host : ℕ → ℕ) (set gfn level leaf : ℕ) (c : Buffer Translation) → level ≡ 1 → IsLeafFor pool host set gfn leaf
+    → CachedPart pool host set c.items → CachedPart pool host set (with_leaf gfn level leaf c).items
 with_leaf_kept pool host set gfn level leaf c lowest agrees each =
     All-take (λ (t : Translation). (t.level ≡ 1) × IsLeafFor pool host set t.gfn t.leaf) c.capacity (record { gfn = gfn; level = level; leaf = leaf } ∷ c.items)
     (All-cons (λ (t : Translation). (t.level ≡ 1) × IsLeafFor pool host set t.gfn t.leaf) (record { gfn = gfn; level = level; leaf = leaf }) c.items (lowest, agrees) each)
@@ -80,7 +82,8 @@ with_leaf_kept pool host set gfn level leaf c lowest agrees each =
 -- ---- a translation that is used
 
 -- What is found in a list passes the test, and has what all have.
-found_has : (P : Translation → Type 0) (test : Translation → Bool) (ts : List Translation) (t : Translation) → All P ts → find test ts ≡ Some t → P t × (test t ≡ true)
+found_has : (P : Translation → Type 0) (test : Translation → Bool) (ts : List Translation) (t : Translation) → All P ts → find test ts ≡ Some t
+    → P t × (test t ≡ true)
 found_has P test [] t all is = absurd (cc is)
 found_has P test (x ∷ xs) t all is = by (test x) refl (found_has P test xs t (All-tail P x xs all)) is
   where
@@ -97,12 +100,20 @@ covers_one gfn other level lowest is =
     let its : other / level_span level ≡ other = ap (λ n. other / n) span ∙ omega arith in
     omega (arith, same, own, its)
 
+pub covers_not : (gfn : ℕ) (t : Translation) → t.level ≡ 1 → gfn ≢ t.gfn → false ≡ covers gfn t
+covers_not gfn t lowest apart = by (covers gfn t) refl
+  where
+    by : (b : Bool) → covers gfn t ≡ b → false ≡ covers gfn t
+    by true is = absurd (apart (sym (covers_one gfn t.gfn t.level lowest is)))
+    by false is = sym is
+
 first_of : (a b : Bool) → (a && b) ≡ true → a ≡ true
 first_of true b e = refl
 first_of false b e = absurd (cc e)
 
 -- The cached translation that an access uses is the leaf of its guest frame.
-pub used_leaf : (pool host : ℕ → ℕ) (set gfn : ℕ) (write : Bool) (ts : List Translation) (t : Translation) → CachedPart pool host set ts → first_usable gfn write ts ≡ Some t → IsLeafFor pool host set gfn t.leaf
+pub used_leaf : (pool host : ℕ → ℕ) (set gfn : ℕ) (write : Bool) (ts : List Translation) (t : Translation) → CachedPart pool host set ts
+    → first_usable gfn write ts ≡ Some t → IsLeafFor pool host set gfn t.leaf
 used_leaf pool host set gfn write ts t each is =
     let F = found_has (λ (t : Translation). (t.level ≡ 1) × IsLeafFor pool host set t.gfn t.leaf) (is_usable gfn write) ts t each is in
     subst (λ n. IsLeafFor pool host set n t.leaf) (covers_one gfn t.gfn t.level F.0.0 (first_of (covers gfn t) (allows write t) F.1)) F.0.1
@@ -110,9 +121,11 @@ used_leaf pool host set gfn write ts t each is =
 -- ---- behind a step of an access
 
 -- What an access caches, where it stands so: a leaf that its walk found, before what was cached.
-pub caches_kept : (z : Sizes) (v : View) (a : ℕ) (p : AccessPlace) (gfn word : ℕ) (op : Op) → a < actors_of z → Invariant z v → TopicsInvariant z v → AccessKnows p gfn (is_write op) (v.hand a)
+pub caches_kept : (z : Sizes) (v : View) (a : ℕ) (p : AccessPlace) (gfn word : ℕ) (op : Op) → a < actors_of z → Invariant z v → TopicsInvariant z v
+    → AccessKnows p gfn (is_write op) (v.hand a)
     → CachedPart (v.words area.Pool) (v.words area.Host) (v.words area.Slots 0) (access_caches p (v.hand a) gfn op (answer_in (access_task p (v.hand a) gfn word op) v.words)).items
-caches_kept z v a (Walk again) gfn word op lt I P K = by (is_found (kind_of level w) (allows_access (is_write op) w)) (λ e. found_is_leaf (kind_of level w) (allows_access (is_write op) w) e)
+caches_kept z v a (Walk again) gfn word op lt I P K =
+    by (is_found (kind_of level w) (allows_access (is_write op) w)) (λ e. found_is_leaf (kind_of level w) (allows_access (is_write op) w) e)
   where
     h : Held
     h = v.hand a
@@ -123,13 +136,16 @@ caches_kept z v a (Walk again) gfn word op lt I P K = by (is_found (kind_of leve
     w : ℕ
     w = v.words area.Pool (pool_index (table_page h.topics.walk) (entry_index gfn level))
 
-    by : (b : Bool) → (b ≡ true → kind_of level w ≡ entry_kind.Leaf) → CachedPart (v.words area.Pool) (v.words area.Host) (v.words area.Slots 0) (if b then with_leaf gfn level w h.cached else h.cached).items
-    by true leaf = let found = leaf_found z v a gfn lt I P K.1 (leaf refl) in with_leaf_kept (v.words area.Pool) (v.words area.Host) (v.words area.Slots 0) gfn level w h.cached found.0 found.1 (I.cached a lt)
+    by : (b : Bool) → (b ≡ true → kind_of level w ≡ entry_kind.Leaf)
+        → CachedPart (v.words area.Pool) (v.words area.Host) (v.words area.Slots 0) (if b then with_leaf gfn level w h.cached else h.cached).items
+    by true leaf =
+        let found = leaf_found z v a gfn lt I P K.1 (leaf refl) in with_leaf_kept (v.words area.Pool) (v.words area.Host) (v.words area.Slots 0) gfn level w h.cached found.0 found.1 (I.cached a lt)
     by false leaf = I.cached a lt
 caches_kept z v a _ gfn word op lt I P K = I.cached a lt
 
 -- All that the actor has cached behind its step agrees.
-pub cached_kept : (z : Sizes) (v : View) (a : ℕ) (line : Line) (p : AccessPlace) (gfn word : ℕ) (op : Op) → a < actors_of z → Invariant z v → TopicsInvariant z v → AccessKnows p gfn (is_write op) (v.hand a) → MakesParts z v a p gfn
+pub cached_kept : (z : Sizes) (v : View) (a : ℕ) (line : Line) (p : AccessPlace) (gfn word : ℕ) (op : Op) → a < actors_of z → Invariant z v
+    → TopicsInvariant z v → AccessKnows p gfn (is_write op) (v.hand a) → MakesParts z v a p gfn
     → CachedPart ((stepped a line (Access gfn word op) (place.Access p) v).words area.Pool) (v.words area.Host) (v.words area.Slots 0) (hand_after line (Access gfn word op) (place.Access p) (v.hand a) (answer_in (access_task p (v.hand a) gfn word op) v.words)).cached.items
 cached_kept z v a line p gfn word op lt I P K makes =
     let h : Held = v.hand a in
@@ -137,6 +153,6 @@ cached_kept z v a line p gfn word op lt I P K makes =
     let x : ℕ = answer_in t v.words in
     let after : ℕ → ℕ = (stepped a line (Access gfn word op) (place.Access p) v).words area.Pool in
     let set : ℕ = v.words area.Slots 0 in
-    let stays = is_live_stays set (v.words area.Pool) after (access_set_stays z v a line p gfn word op makes P) in
+    let stays = is_live_stays set (v.words area.Pool) after (access_sets_stay z v a p gfn word op makes P).pool in
     flushed_kept (λ (y : Translation). (y.level ≡ 1) × IsLeafFor after (v.words area.Host) set y.gfn y.leaf) (kind_of_task h.state.sizes t) (access_caches p h gfn op x) x
     (translations_stay (v.words area.Pool) set after set stays (v.words area.Host) (access_caches p h gfn op x).items (caches_kept z v a p gfn word op lt I P K))

@@ -51,7 +51,8 @@ use Rattle.mmu_core.proofs.lines.LookKnown.{snapshot_known, slots_known, slot_kn
 down_run : (gfn level : ℕ) → 2 ≤ level → level ≤ 4 → gfn / level_span (level - 1) / 512 ≡ gfn / level_span level / 512 * 512 + gfn / level_span level % 512
 down_run gfn level from to = by (level == 2) (level == 3) refl refl
   where
-    by : (two three : Bool) → (level == 2) ≡ two → (level == 3) ≡ three → gfn / level_span (level - 1) / 512 ≡ gfn / level_span level / 512 * 512 + gfn / level_span level % 512
+    by : (two three : Bool) → (level == 2) ≡ two → (level == 3) ≡ three
+        → gfn / level_span (level - 1) / 512 ≡ gfn / level_span level / 512 * 512 + gfn / level_span level % 512
     by true three is other = let e : level ≡ 2 = grind (arith, nat_tests) in rw e (rw (span_1, span_2) (omega arith))
     by false true is other = let e : level ≡ 3 = grind (arith, nat_tests) in rw e (rw (span_2, span_3) (omega arith))
     by false false is other = let e : level ≡ 4 = grind (arith, nat_tests) in rw e (rw (span_3, span_4) (omega arith))
@@ -73,7 +74,8 @@ above_lowest level w page from e = by (level == 1) refl
     by true is = let one : level ≡ 1 = grind (arith, nat_tests) in absurd (no_link w page (subst (λ l. kind_of l w ≡ entry_kind.Table page) one e))
     by false is = grind (arith, nat_tests)
 
-pub gone_over : (gfn page v : ℕ) (walk : TableWalk) → 2 ≤ walk.level → walk.level ≤ 4 → IsOver gfn walk → IsOver gfn (gone_down (Some page) walk (entry_index gfn walk.level) v)
+pub gone_over : (gfn page v : ℕ) (walk : TableWalk) → 2 ≤ walk.level → walk.level ≤ 4 → IsOver gfn walk
+    → IsOver gfn (gone_down (Some page) walk (entry_index gfn walk.level) v)
 gone_over gfn page v walk from to O = record {
   small = O.small;
   there = omega arith;
@@ -92,7 +94,8 @@ root_known false z gfn write t v is small E none = absurd (cc is)
 saw_it : (gfn v : ℕ) (walk : TableWalk) → IsOver gfn walk → SawEntry gfn (gone_down None walk (entry_index gfn walk.level) v)
 saw_it gfn v walk O = record { over = record { small = O.small; there = O.there; run = O.run }; loaded = refl }
 
-leaf_seen : (lowest allows : Bool) (z : Sizes) (gfn : ℕ) (write : Bool) (t : Topics) (v : ℕ) → (t.walk.level == 1) ≡ lowest → allows_access write v ≡ allows → kind_of t.walk.level v ≡ entry_kind.Leaf
+leaf_seen : (lowest allows : Bool) (z : Sizes) (gfn : ℕ) (write : Bool) (t : Topics) (v : ℕ) → (t.walk.level == 1) ≡ lowest
+    → allows_access write v ≡ allows → kind_of t.walk.level v ≡ entry_kind.Leaf
     → Entering gfn write t → t.owned ≡ None → IsOver gfn t.walk
     → FaultKnows (if lowest then (if allows then Unshare Installed else Leaf) else Unshare (Retry (Entry (entry_word z gfn t.walk) v v))) z gfn write (record t { walk = gone_down None t.walk (entry_index gfn t.walk.level) v })
 leaf_seen true true z gfn write t v low may is E none O =
@@ -104,31 +107,39 @@ leaf_seen false allows z gfn write t v low may is E none O =
     let from : 1 ≤ t.walk.level = O.there in
     (record { section = E.sharing.section; owns_none = none }, E.sharing.shares, record { saw = saw_it gfn v t.walk O; is_entry = refl; holds = refl; why = inr (inr (is, grind (arith, nat_tests))) })
 
-none_seen : (lowest : Bool) (z : Sizes) (gfn : ℕ) (write : Bool) (t : Topics) (v : ℕ) → (t.walk.level == 1) ≡ lowest → kind_of t.walk.level v ≡ entry_kind.Absent → Entering gfn write t → t.owned ≡ None → IsOver gfn t.walk
+none_seen : (lowest : Bool) (z : Sizes) (gfn : ℕ) (write : Bool) (t : Topics) (v : ℕ) → (t.walk.level == 1) ≡ lowest
+    → kind_of t.walk.level v ≡ entry_kind.Absent → Entering gfn write t → t.owned ≡ None → IsOver gfn t.walk
     → FaultKnows (if lowest then Leaf else Claim false) z gfn write (record t { walk = gone_down None t.walk (entry_index gfn t.walk.level) v })
 none_seen true z gfn write t v low is E none O = (same_entering gfn write t _ refl refl refl refl refl E, none, saw_it gfn v t.walk O, grind (arith, nat_tests))
 none_seen false z gfn write t v low is E none O =
     let from : 1 ≤ t.walk.level = O.there in
     (same_entering gfn write t _ refl refl refl refl refl E, none, record { saw = saw_it gfn v t.walk O; upper = grind (arith, nat_tests); absent = is }, λ e. absurd (cc e))
 
-walk_known : (k : SpteKind) (z : Sizes) (gfn : ℕ) (write : Bool) (t : Topics) (v : ℕ) → kind_of t.walk.level v ≡ k → t.walk.level ≤ 4 → Entering gfn write t → t.owned ≡ None → IsOver gfn t.walk
+walk_known : (k : SpteKind) (z : Sizes) (gfn : ℕ) (write : Bool) (t : Topics) (v : ℕ) → kind_of t.walk.level v ≡ k → t.walk.level ≤ 4
+    → Entering gfn write t → t.owned ≡ None → IsOver gfn t.walk
     → FaultKnows (walk_next k z gfn write t.walk v) z gfn write (record t { walk = gone_down (linked_page k) t.walk (entry_index gfn t.walk.level) v })
 walk_known (entry_kind.Table page) z gfn write t v is most E none O =
     (same_entering gfn write t _ refl refl refl refl refl E, none, λ _. gone_over gfn page v t.walk (above_lowest t.walk.level v page O.there is) most O)
 walk_known entry_kind.Leaf z gfn write t v is most E none O = leaf_seen (t.walk.level == 1) (allows_access write v) z gfn write t v refl refl is E none O
 walk_known entry_kind.Absent z gfn write t v is most E none O = none_seen (t.walk.level == 1) z gfn write t v refl is E none O
-walk_known entry_kind.Frozen z gfn write t v is most E none O = (record { section = E.sharing.section; owns_none = none }, E.sharing.shares, record { saw = saw_it gfn v t.walk O; is_entry = refl; holds = refl; why = inr (inl is) })
+walk_known entry_kind.Frozen z gfn write t v is most E none O =
+    (record { section = E.sharing.section; owns_none = none }, E.sharing.shares, record { saw = saw_it gfn v t.walk O; is_entry = refl; holds = refl; why = inr (inl is) })
 
 -- the claim
-claim_known : (z : Sizes) (gfn : ℕ) (write begun : Bool) (t : Topics) (v : ℕ) (step : PartStep) (next : ClaimNext) (u : Topics) → ClaimMade z begun t v step next u → Entering gfn write t → t.owned ≡ None → SawNone gfn t
+claim_known : (z : Sizes) (gfn : ℕ) (write begun : Bool) (t : Topics) (v : ℕ) (step : PartStep) (next : ClaimNext) (u : Topics)
+    → ClaimMade z begun t v step next u → Entering gfn write t → t.owned ≡ None → SawNone gfn t
     → (begun ≡ true → t.claim.at < words_of_bits z.pool) → FaultKnows (after_claim next) z gfn write u
-claim_known z gfn write begun t v _ _ _ (made.Won tries b some is) E none S low = (same_entering gfn write t _ refl refl refl refl refl E, same_none gfn t _ refl S, (refl, omega arith), refl)
-claim_known z gfn write begun t v _ _ _ (made.Lost tries b some is) E none S low = (same_entering gfn write t _ refl refl refl refl refl E, refl, same_none gfn t _ refl S, λ _. low b)
-claim_known z gfn write begun t v _ _ _ (made.Saw not_ lt) E none S low = (same_entering gfn write t _ refl refl refl refl refl E, none, same_none gfn t _ refl S, λ _. lt)
+claim_known z gfn write begun t v _ _ _ (made.Won tries b some is) E none S low =
+    (same_entering gfn write t _ refl refl refl refl refl E, same_none gfn t _ refl S, (refl, omega arith), refl)
+claim_known z gfn write begun t v _ _ _ (made.Lost tries b some is) E none S low =
+    (same_entering gfn write t _ refl refl refl refl refl E, refl, same_none gfn t _ refl S, λ _. low b)
+claim_known z gfn write begun t v _ _ _ (made.Saw not_ lt) E none S low =
+    (same_entering gfn write t _ refl refl refl refl refl E, none, same_none gfn t _ refl S, λ _. lt)
 claim_known z gfn write begun t v _ _ _ (made.SawNone not_ le) E none S low = (record { section = E.sharing.section; owns_none = none }, E.sharing.shares, le)
 
 -- the page's words, and its role
-fill_known : (more : Bool) (z : Sizes) (gfn : ℕ) (write : Bool) (t : Topics) (v : ℕ) → nat_lt (words_filled t.owned + 1) 512 ≡ more → v ≡ 0 → Entering gfn write t → SawNone gfn t → HasToFill t → is_absent t.owned ≡ true
+fill_known : (more : Bool) (z : Sizes) (gfn : ℕ) (write : Bool) (t : Topics) (v : ℕ) → nat_lt (words_filled t.owned + 1) 512 ≡ more → v ≡ 0
+    → Entering gfn write t → SawNone gfn t → HasToFill t → is_absent t.owned ≡ true
     → FaultKnows (if more then Fill else Role) z gfn write (record t { owned = filled_more t.owned v })
 fill_known true z gfn write t v is zero_ E S F absent =
     let few : words_filled t.owned + 1 < 512 = grind (arith, nat_tests) in
@@ -137,7 +148,8 @@ fill_known false z gfn write t v is zero_ E S F absent =
     let all : 512 ≤ words_filled t.owned + 1 = grind (arith, nat_tests) in
     (same_entering gfn write t _ refl refl refl refl refl E, same_none gfn t _ refl S, omega (arith, all, F.1, more_filled t.owned v F.0), more_absent t.owned v absent (inl zero_))
 
-role_known : (z : Sizes) (gfn : ℕ) (write : Bool) (t : Topics) (v : ℕ) → v ≡ t.walk.level - 1 → Entering gfn write t → SawNone gfn t → HasRoleToSet t → is_absent t.owned ≡ true
+role_known : (z : Sizes) (gfn : ℕ) (write : Bool) (t : Topics) (v : ℕ) → v ≡ t.walk.level - 1 → Entering gfn write t → SawNone gfn t → HasRoleToSet t
+    → is_absent t.owned ≡ true
     → FaultKnows Link z gfn write (record t { owned = filled_more t.owned v })
 role_known z gfn write t v value E S full absent = (
   same_entering gfn write t _ refl refl refl refl refl E,
@@ -150,7 +162,8 @@ role_known z gfn write t v value E S full absent = (
 )
 
 -- the link
-link_won : (z : Sizes) (gfn : ℕ) (write : Bool) (t : Topics) (v : ℕ) → t.walk.level ≤ 4 → Entering gfn write t → SawNone gfn t → (o : OwnedPage) → t.owned ≡ Some o → o.page < 2 ^ 32
+link_won : (z : Sizes) (gfn : ℕ) (write : Bool) (t : Topics) (v : ℕ) → t.walk.level ≤ 4 → Entering gfn write t → SawNone gfn t → (o : OwnedPage)
+    → t.owned ≡ Some o → o.page < 2 ^ 32
     → FaultKnows (Walk true) z gfn write (exchanged true (entry_index gfn t.walk.level) (link_written t) t v)
 link_won z gfn write t v most E S o is small =
     subst (λ (k : SpteKind). FaultKnows (Walk true) z gfn write (record t { walk = gone_down (linked_page k) t.walk (entry_index gfn t.walk.level) (link_written t); owned = unless_linked (linked_page k) t.owned }))
@@ -160,14 +173,21 @@ link_won z gfn write t v most E S o is small =
     linked : kind_of t.walk.level (link_written t) ≡ entry_kind.Table o.page
     linked = ap (λ (x : Option OwnedPage). kind_of t.walk.level (table_word (page_owned x))) is ∙ kind_of_table t.walk.level o.page S.upper small
 
-link_known : (b : Bool) (z : Sizes) (gfn : ℕ) (write : Bool) (t : Topics) (v : ℕ) → (v == t.walk.entry) ≡ b → t.walk.level ≤ 4 → Entering gfn write t → SawNone gfn t → (o : OwnedPage) → t.owned ≡ Some o → o.page < 2 ^ 32
+link_known : (b : Bool) (z : Sizes) (gfn : ℕ) (write : Bool) (t : Topics) (v : ℕ) → (v == t.walk.entry) ≡ b → t.walk.level ≤ 4 → Entering gfn write t
+    → SawNone gfn t → (o : OwnedPage) → t.owned ≡ Some o → o.page < 2 ^ 32
     → FaultKnows (if b then Walk true else Give (Retry (Entry (entry_word z gfn t.walk) t.walk.entry v))) z gfn write (exchanged b (entry_index gfn t.walk.level) (link_written t) t v)
 link_known true z gfn write t v is most E S o owned small = link_won z gfn write t v most E S o owned small
-link_known false z gfn write t v is most E S o owned small =
-    (E.sharing.section, E.sharing.shares, ap (λ (x : Option OwnedPage). is_some x) owned, record { saw = saw_it gfn v t.walk S.saw.over; is_entry = refl; holds = refl; why = inl (grind (arith, nat_tests)) })
+link_known false z gfn write t v is most E S o owned small = (
+  E.sharing.section,
+  E.sharing.shares,
+  ap (λ (x : Option OwnedPage). is_some x) owned,
+  record { saw = saw_it gfn v t.walk S.saw.over; is_entry = refl; holds = refl; why = inl (grind (arith, nat_tests)) },
+  tt,
+)
 
 -- the leaf
-pub allowed_leaf : (write : Bool) (slot : Slot) (word : ℕ) → (write ≡ true → (slot.read_only ≡ false) × (host_allows_write word ≡ true)) → allows_access write (leaf_of slot word) ≡ true
+pub allowed_leaf : (write : Bool) (slot : Slot) (word : ℕ) → (write ≡ true → (slot.read_only ≡ false) × (host_allows_write word ≡ true))
+    → allows_access write (leaf_of slot word) ≡ true
 allowed_leaf false slot word may = refl
 allowed_leaf true slot word may =
     let M = may refl in
@@ -184,46 +204,55 @@ leaf_won z gfn write t v E none S low =
     L = E.sharing.looked.looked_up
 
     leaf : kind_of 1 (leaf_written t) ≡ entry_kind.Leaf
-    leaf = kind_of_leaf 1 (host_frame (word_looked t.host)) (may_write t.search.slot (word_looked t.host)) (host_allows_write (word_looked t.host)) (may_write t.search.slot (word_looked t.host)) (omega arith) (omega arith)
+    leaf =
+        kind_of_leaf 1 (host_frame (word_looked t.host)) (may_write t.search.slot (word_looked t.host)) (host_allows_write (word_looked t.host)) (may_write t.search.slot (word_looked t.host)) (omega arith) (omega arith)
 
     stays : kind_of t.walk.level (leaf_written t) ≡ entry_kind.Leaf
     stays = ap (λ l. kind_of l (leaf_written t)) low ∙ leaf
 
     allows : allows_access write (leaf_written t) ≡ true
-    allows = ap (λ (x : Option HostLook). allows_access write (leaf_of t.search.slot (word_looked x))) L.host ∙ allowed_leaf write t.search.slot L.word E.sharing.looked.allowed
+    allows =
+        ap (λ (x : Option HostLook). allows_access write (leaf_of t.search.slot (word_looked x))) L.host ∙ allowed_leaf write t.search.slot L.word E.sharing.looked.allowed
 
-leaf_known : (b : Bool) (z : Sizes) (gfn : ℕ) (write : Bool) (t : Topics) (v : ℕ) → (v == t.walk.entry) ≡ b → Entering gfn write t → t.owned ≡ None → SawEntry gfn t.walk → t.walk.level ≡ 1
+leaf_known : (b : Bool) (z : Sizes) (gfn : ℕ) (write : Bool) (t : Topics) (v : ℕ) → (v == t.walk.entry) ≡ b → Entering gfn write t → t.owned ≡ None
+    → SawEntry gfn t.walk → t.walk.level ≡ 1
     → FaultKnows (if b then Unshare Installed else Unshare (Retry (Entry (entry_word z gfn t.walk) t.walk.entry v))) z gfn write (exchanged b (entry_index gfn t.walk.level) (leaf_written t) t v)
 leaf_known true z gfn write t v is E none S low = leaf_won z gfn write t v E none S low
 leaf_known false z gfn write t v is E none S low =
     (record { section = E.sharing.section; owns_none = none }, E.sharing.shares, record { saw = saw_it gfn v t.walk S.over; is_entry = refl; holds = refl; why = inl (grind (arith, nat_tests)) })
 
 -- the lock given back, and the section's end
-unshare_known : (e : FaultEnd) (z : Sizes) (gfn : ℕ) (write : Bool) (t : Topics) → InSection t → EndKnows e z gfn write t → FaultKnows (End e) z gfn write (let_go t)
+unshare_known : (e : FaultEnd) (z : Sizes) (gfn : ℕ) (write : Bool) (t : Topics) → InSection t → EndKnows e z gfn write t
+    → FaultKnows (End e) z gfn write (let_go t)
 unshare_known e z gfn write t I K =
     (record { section = I.section; owns_none = I.owns_none }, refl, ends_same e z gfn write t _ (kept_table t I.section) (kept t I.section) refl refl refl K)
 
-pub fault_known : (p : FaultPlace) (h : Held) (gfn v : ℕ) (write : Bool) → gfn < 2 ^ 36 → PartRests h → FaultKnows p h.state.sizes gfn write h.topics → CanAnswer (fault_part p gfn h.topics) v
+pub fault_known : (p : FaultPlace) (h : Held) (gfn v : ℕ) (write : Bool) → gfn < 2 ^ 36 → PartRests h → FaultKnows p h.state.sizes gfn write h.topics
+    → CanAnswer (fault_part p gfn h.topics) v
     → KnowsNext (fault_next p h.state.sizes gfn write h.topics v) h.state.sizes gfn write (part_topics (fault_part p gfn h.topics) h.topics v)
 fault_known Begin h gfn v write small R K A = (record { section = refl; owns_none = K.owns_none }, K.loose)
 fault_known Snapshot h gfn v write small R K A = (snapshot_known h.topics v K.0 K.1, λ e. absurd (cc e))
-fault_known (Find true) h gfn v write small R K A = let set = K.1 refl in slot_known h.state.sizes gfn write (is_some h.topics.search.set) h.topics v set.0 set.1 K.0 set.0
+fault_known (Find true) h gfn v write small R K A =
+    let set = K.1 refl in slot_known h.state.sizes gfn write (is_some h.topics.search.set) h.topics v set.0 set.1 K.0 set.0
 fault_known (Find false) h gfn v write small R K A =
     slots_known h.state.sizes gfn write (may_search h.topics.stay h.topics.hold) h.topics v (ap (λ (s : Stay). may_search s h.topics.hold) K.0.inside.section) K.0
 fault_known Host h gfn v write small R K A = host_known (write && not (host_allows_write v)) h.state.sizes gfn write h.topics v refl K.0 K.1 K.2
 fault_known Share h gfn v write small R K A = share_known h.state.sizes gfn write h.topics v _ _ _ (share_made h.topics v K.1) K.0 K.2
 fault_known (Check at) h gfn v write small R K A = check_known at h.state.sizes gfn write h.topics v K.0 K.1 K.2
-fault_known (Walk true) h gfn v write small R K A = walk_known (kind_of h.topics.walk.level v) h.state.sizes gfn write h.topics v refl R.level K.0 K.1 (K.2 refl)
+fault_known (Walk true) h gfn v write small R K A =
+    walk_known (kind_of h.topics.walk.level v) h.state.sizes gfn write h.topics v refl R.level K.0 K.1 (K.2 refl)
 fault_known (Walk false) h gfn v write small R K A =
     root_known (may_walk h.topics.stay h.topics.hold) h.state.sizes gfn write h.topics v (ap (λ (s : Stay). may_walk s h.topics.hold) K.0.sharing.section) small K.0 K.1
-fault_known (Claim begun) h gfn v write small R K A = claim_known h.state.sizes gfn write begun h.topics v _ _ _ (claim_made h.state.sizes begun h.topics v) K.0 K.1 K.2 K.3
+fault_known (Claim begun) h gfn v write small R K A =
+    claim_known h.state.sizes gfn write begun h.topics v _ _ _ (claim_made h.state.sizes begun h.topics v) K.0 K.1 K.2 K.3
 fault_known Fill h gfn v write small R K A = fill_known (nat_lt (words_filled h.topics.owned + 1) 512) h.state.sizes gfn write h.topics v refl A K.0 K.1 K.2 K.3
 fault_known Role h gfn v write small R K A = role_known h.state.sizes gfn write h.topics v A K.0 K.1 K.2 K.3
 fault_known Link h gfn v write small R K A =
     let O = table_owned (h.topics.walk.level - 1) h.topics K.2 in
     let low : O.owned.page < 2 ^ 32 = let page = R.page O.owned O.is in let most = R.sizes.pool.1 in omega (arith, page, most) in
     link_known (v == h.topics.walk.entry) h.state.sizes gfn write h.topics v refl R.level K.0 K.1 O.owned O.is low
-fault_known (Give e) h gfn v write small R K A = (record { section = K.0; owns_none = refl }, K.1, ends_same e h.state.sizes gfn write h.topics _ refl refl refl refl refl K.3)
+fault_known (Give e) h gfn v write small R K A =
+    (record { section = K.0; owns_none = refl }, K.1, ends_same e h.state.sizes gfn write h.topics _ refl refl refl refl refl K.3)
 fault_known Leaf h gfn v write small R K A = leaf_known (v == h.topics.walk.entry) h.state.sizes gfn write h.topics v refl K.0 K.1 K.2 K.3
 fault_known (Unshare e) h gfn v write small R K A = unshare_known e h.state.sizes gfn write h.topics K.0 K.2
 fault_known (End e) h gfn v write small R K A = record { outside = refl; loose = K.1; owns_none = K.0.owns_none; no_table = refl; no_set = refl }

@@ -1,7 +1,7 @@
 -- What is so of the lines of every form: the one place where it is told by the form. A form of line writes a clause in each of these.
-use Rattle.std.proofs.Common.{◌≡◌, ◌⊎◌, inl, inr, ◌<◌, ◌≤◌, ℕ, refl, arith, ◌≢◌}
+use Rattle.std.proofs.Common.{◌≡◌, ◌⊎◌, inl, inr, ◌<◌, ◌≤◌, ℕ, refl, arith, ◌≢◌, Bool, ◌+◌}
 use Rattle.std.proofs.Props.{props}
-use Rattle.std.specs.Prelude.{Some, true, Bool, false}
+use Rattle.std.specs.Prelude.{Some, true, false}
 use Rattle.core_views.specs.declared.answer.Answer.{Answer}
 use Rattle.core_views.specs.declared.answer.Answer.TheVariants.{Starved}
 use Rattle.core_views.specs.declared.place.AccessPlace.{AccessPlace}
@@ -16,35 +16,31 @@ use Rattle.core_views.specs.declared.place.Place.TheVariants as place
 use Rattle.core_views.specs.declared.sizes.Sizes.{Sizes}
 use Rattle.core_views.specs.declared.topics.Topics.{Topics}
 use Rattle.core_views.specs.declared.trace.Command.{Command}
-use Rattle.core_views.specs.declared.trace.Command.TheVariants.{Access, SetSlot}
+use Rattle.core_views.specs.declared.trace.Command.TheVariants.{Access}
 use Rattle.core_views.specs.declared.trace.Op.{Op}
 use Rattle.core_views.specs.Held.{Held}
-use Rattle.core_views.specs.Refusals.{set_refusal}
+use Rattle.core_views.specs.SlotCommands.{change_refusal, changes_slot}
 use Rattle.core_views.specs.Sizes.{AreSizes}
 use Rattle.core_views.specs.SlotSets.{MemorySlots}
 use Rattle.core_views.specs.Slots.{is_write}
 use Rattle.part_steps.specs.declared.part_step.PartStep.{PartStep}
 use Rattle.part_steps.specs.declared.part_step.PartStep.TheVariants as part
 use Rattle.part_steps.specs.PartSteps.{IsAtRest, PartNeeds}
-use Rattle.mmu_core.specs.lines.KnowsPart.{KnowsPart}
+use Rattle.mmu_core.specs.lines.Forms.{KnowsPart, Holds, steps_left, part_at, AcceptsAt, RestsAt, first_place, outcome_at, tells_at}
 use Rattle.spte_words.specs.declared.area.Area.{Area}
-use Rattle.spte_words.specs.declared.area.Area.TheVariants as area
-use Rattle.mmu_core.specs.alone.AloneKnows.{AloneKnows}
-use Rattle.mmu_core.specs.invariant.LoadsPart.{Holds}
+use Rattle.mmu_core.specs.alone.AloneKnows.{FormAlone}
 use Rattle.mmu_core.specs.lines.AccessSteps.{access_outcome, behind_fault, fault_over}
 use Rattle.mmu_core.specs.declared.outcome.Outcome.TheVariants.{Ends}
 use Rattle.mmu_core.specs.lines.Delays.{line_waits, begins_anew}
 use Rattle.mmu_core.specs.lines.FaultSteps.{fault_next}
-use Rattle.mmu_core.specs.lines.Bounds.{most_steps, steps_left}
-use Rattle.mmu_core.specs.lines.PartAt.{part_at}
-use Rattle.mmu_core.specs.lines.Rests.{AcceptsAt, IsUnderWay, RestsAt}
-use Rattle.mmu_core.specs.lines.SetSlotSteps.{set_slot_first, set_slot_part}
-use Rattle.mmu_core.specs.machine.Steps.{first_place, outcome_at, tells_at}
+use Rattle.mmu_core.specs.lines.Bounds.{most_steps}
+use Rattle.mmu_core.specs.lines.Rests.{IsUnderWay}
+use Rattle.mmu_core.specs.lines.SlotChangeSteps.{slot_change_part}
 use Rattle.mmu_core.proofs.lines.AccessLeft.{access_few, some_access_left}
 use Rattle.mmu_core.proofs.machine.GoesOn.{GoesToNoAccess, GoesUnderWay, IsNoAccess}
 use Rattle.mmu_core.proofs.slots.LiveStay.{StayLive, access_stays}
 use Rattle.mmu_core.proofs.slots.LiveStays.{OwnedStays}
-use Rattle.mmu_core.proofs.slots.SetSlotPlaces.{accepts_prop, begins_at_once, set_slot_begins, set_slot_begins_alone, set_slot_begins_known, set_slot_few, set_slot_goes, set_slot_knows_prop, set_slot_stays, setting_accepts, some_setting_left, set_slot_fed, set_slot_free}
+use Rattle.mmu_core.proofs.slots.SlotChangePlaces.{accepts_prop, begins_at_once, slot_change_begins, slot_change_begins_known, slot_change_few, slot_change_goes, slot_change_knows_prop, slot_change_stays, change_accepts, some_change_left, slot_change_fed, slot_change_free}
 use Rattle.mmu_core.proofs.lines.AccessEnds.{AreFed, access_fed, access_free}
 
 -- ---- where a line goes on to
@@ -66,12 +62,12 @@ access_goes _ h gfn op v = tt
 pub outcome_goes : (p : Place) (command : Command) (h : Held) (v : ℕ) → IsUnderWay p → GoesUnderWay (outcome_at p command h v)
 outcome_goes place.Between command h v begun = absurd begun
 outcome_goes (place.Access p) (Access gfn word op) h v begun = access_goes p h gfn op v
-outcome_goes (place.SetSlot p) (SetSlot id slot) h v begun = (set_slot_goes p h v).0
+outcome_goes (place.SlotChange p) command h v begun = (slot_change_goes p h v).0
 outcome_goes _ _ h v begun = tt
 
 pub outcome_apart : (p : Place) (command : Command) (h : Held) (v : ℕ) → IsNoAccess p → GoesToNoAccess (outcome_at p command h v)
 outcome_apart (place.Access p) command h v other = absurd other
-outcome_apart (place.SetSlot p) (SetSlot id slot) h v other = (set_slot_goes p h v).1
+outcome_apart (place.SlotChange p) command h v other = (slot_change_goes p h v).1
 outcome_apart _ _ h v other = tt
 
 -- ---- what its step needs
@@ -87,34 +83,43 @@ pub record RestsOnPart (p : Place) (command : Command) (h : Held) : Type 0 where
 pub other_rests : (p : Place) (command : Command) (h : Held) → IsNoAccess p → (RestsAt p command h → ⊥) ⊎ RestsOnPart p command h
 other_rests (place.Access p) command h other = absurd other
 other_rests place.Between command h other = inr (record { step = part.Seq; at = refl; needs = λ R. tt; rests = λ N. tt })
-other_rests (place.SetSlot p) (SetSlot id slot) h other = inr (record { step = set_slot_part p h id slot; at = refl; needs = λ R. R; rests = λ N. N })
-other_rests _ _ h other = inl (λ R. R)
+other_rests (place.SlotChange p) command h other = by (changes_slot command) refl
+  where
+    by : (b : Bool) → changes_slot command ≡ b → (RestsAt (place.SlotChange p) command h → ⊥) ⊎ RestsOnPart (place.SlotChange p) command h
+    by true is = inr (record { step = slot_change_part p h command; at = refl; needs = λ R. R.1; rests = λ N. (is, N) })
+    by false is = inl (λ R. let changes = R.0 in cc (changes, is))
 
 -- ---- how many steps it has left
 
-pub place_few : (p : Place) (z : Sizes) (t : Topics) → AreSizes z → t.walk.level ≤ 4 → steps_left p z t ≤ most_steps z
-place_few place.Between z t S most = omega arith
-place_few (place.Access p) z t S most = let few = access_few p z t most in let pool = S.pool.1 in omega (arith, few, pool)
-place_few (place.SetSlot p) z t S most = let few = set_slot_few p z t in let actors = S.actors in let pool = S.pool.1 in omega (arith, few, actors, pool)
+-- No more than its command allows.
+pub place_few : (p : Place) (command : Command) (y z : Sizes) (pool host : ℕ → ℕ) (set : ℕ) (h : Held) (t : Topics) → Holds y pool host set p command h
+    → AreSizes z → t.walk.level ≤ 4 → steps_left p z t ≤ most_steps z command
+place_few place.Between command y z pool host set h t holds S most = omega arith
+place_few (place.Access p) (Access gfn word op) y z pool host set h t holds S most =
+    let few = access_few p z t most in let pool = S.pool.1 in omega (arith, few, pool)
+place_few (place.SlotChange p) (Access gfn word op) y z pool host set h t holds S most =
+    let few = slot_change_few p z t in let actors = S.actors in let pages = S.pool.1 in omega (arith, few, actors, pages)
+place_few (place.SlotChange p) command y z pool host set h t holds S most =
+    let few = slot_change_few p z t in let actors = S.actors in omega (arith, few, actors)
+place_few _ _ y z pool host set h t holds S most = absurd holds
+
+-- A slot line makes no more than an access.
+pub most_small : (z : Sizes) (command : Command) → most_steps z command ≤ 8192 + z.pool + z.frames
+most_small z (Access gfn word op) = omega arith
+most_small z _ = omega arith
 
 -- At each place it has one.
-pub some_left : (p : Place) (z : Sizes) (t : Topics) → 0 < steps_left p z t
-some_left place.Between z t = omega arith
-some_left (place.Access p) z t = some_access_left p z t
-some_left (place.SetSlot p) z t = some_setting_left p z t
+pub some_left : (p : Place) (z : Sizes) (t : Topics) → IsUnderWay p → 0 < steps_left p z t
+some_left place.Between z t under = absurd under
+some_left (place.Access p) z t under = some_access_left p z t
+some_left (place.SlotChange p) z t under = some_change_left p z t
 
 -- ---- where it begins
-
--- It has no more steps left than any line.
-pub first_left : (z : Sizes) (slots : MemorySlots) (command : Command) (t : Topics) → AreSizes z → steps_left (first_place z slots command) z t ≤ most_steps z
-first_left z slots (Access gfn word op) t S = let most = S.pool.1 in omega (arith, most)
-first_left z slots (SetSlot id slot) t S =
-    let few = set_slot_few (set_slot_first (set_refusal z.pages id slot slots)) z t in let actors = S.actors in let pool = S.pool.1 in omega (arith, few, actors, pool)
 
 -- Its first step doesn't wait, and is no end of a fault that begins anew.
 pub first_goes : (z : Sizes) (slots : MemorySlots) (command : Command) (h : Held) (v : ℕ) → line_waits (first_place z slots command) command h v ≡ true → ⊥
 first_goes z slots (Access gfn word op) h v is = cc is
-first_goes z slots (SetSlot id slot) h v is = begins_at_once (set_refusal z.pages id slot slots) id slot h v is
+first_goes z slots command h v is = begins_at_once (change_refusal z command slots) command h v is
 
 pub first_no_end : (z : Sizes) (slots : MemorySlots) (command : Command) → begins_anew (first_place z slots command) ≡ true → ⊥
 first_no_end z slots (Access gfn word op) is = cc is
@@ -123,45 +128,52 @@ first_no_end z slots _ is = cc is
 -- Its actor, which was at rest, knows what its first place asks.
 pub first_known : (z : Sizes) (command : Command) (h : Held) → IsAtRest h.topics → KnowsPart (first_place z h.slots command) command h
 first_known z (Access gfn word op) h R = R
-first_known z (SetSlot id slot) h R = set_slot_begins_known (set_refusal z.pages id slot h.slots) h R
+first_known z command h R = (refl, slot_change_begins_known (change_refusal z command h.slots) h R)
 
 -- Alone, it knows what its first place asks of the words.
-pub first_alone : (z : Sizes) (slots : MemorySlots) (command : Command) (words : Area → ℕ → ℕ) (t : Topics) → AloneKnows (first_place z slots command) command words t
+pub first_alone : (z : Sizes) (slots : MemorySlots) (command : Command) (words : Area → ℕ → ℕ) (t : Topics)
+    → FormAlone (first_place z slots command) command words t
 first_alone z slots (Access gfn word op) words t = λ e. absurd (cc e)
-first_alone z slots (SetSlot id slot) words t = set_slot_begins_alone (set_refusal z.pages id slot slots) (words area.PoolMap) t
+first_alone z slots _ words t = tt
 
 -- ---- what it knows
 
 -- At a place of another form than an access this is a proposition.
 pub knows_prop : (p : Place) (command : Command) (h : Held) → IsNoAccess p → IsProp (KnowsPart p command h)
 knows_prop (place.Access p) command h other = absurd other
-knows_prop (place.SetSlot p) (SetSlot id slot) h other = set_slot_knows_prop p h
+knows_prop (place.SlotChange p) command h other = slot_change_knows_prop p command h
 knows_prop _ _ h other = hlevel props
+
+-- No access stands at the place of another form.
+pub other_knows : (p : Place) (gfn word : ℕ) (op : Op) (h : Held) → IsNoAccess p → IsUnderWay p → KnowsPart p (Access gfn word op) h → ⊥
+other_knows (place.Access p) gfn word op h other begun K = absurd other
+other_knows place.Between gfn word op h other begun K = absurd begun
+other_knows (place.SlotChange p) gfn word op h other begun K = cc K.0
 
 -- ---- what a line has loaded or stored
 
 -- Where it begins: nothing.
 pub first_holds : (z : Sizes) (pool host : ℕ → ℕ) (set : ℕ) (command : Command) (h : Held) → Holds z pool host set (first_place z h.slots command) command h
 first_holds z pool host set (Access gfn word op) h = tt
-first_holds z pool host set (SetSlot id slot) h = set_slot_begins z pool host set id slot h (set_refusal z.pages id slot h.slots) refl
+first_holds z pool host set command h = slot_change_begins z pool host set command h (change_refusal z command h.slots) refl
 
 -- It stays, where live slots and the words of the line's own page do.
 module _ (z : Sizes) (before : ℕ → ℕ) (set : ℕ) (after : ℕ → ℕ) (other : ℕ) (host : ℕ → ℕ) (h : Held) (stay : StayLive before set after other) (own : OwnedStays before after h) where
   pub loads_stay : (p : Place) (command : Command) → Holds z before host set p command h → Holds z after host other p command h
   loads_stay place.Between command e = tt
   loads_stay (place.Access p) (Access gfn word op) e = access_stays before set after other stay host p gfn h e
-  loads_stay (place.SetSlot p) (SetSlot id slot) e = set_slot_stays z before after h own p id slot e
+  loads_stay (place.SlotChange p) command e = slot_change_stays z before after h own p command e
   loads_stay _ _ e = absurd e
 
 -- ---- what the manager's record accepts
 
 pub accepts_at : (p : Place) (command : Command) (z : Sizes) (pool host : ℕ → ℕ) (set : ℕ) (h : Held) → Holds z pool host set p command h
     → AcceptsAt p command z h.slots
-accepts_at (place.SetSlot p) (SetSlot id slot) z pool host set h e = setting_accepts p id slot z pool h e
+accepts_at (place.SlotChange p) command z pool host set h e = change_accepts p command z pool h e
 accepts_at _ _ z pool host set h e = tt
 
 pub accepts_at_prop : (p : Place) (command : Command) (z : Sizes) (slots : MemorySlots) → IsProp (AcceptsAt p command z slots)
-accepts_at_prop (place.SetSlot p) (SetSlot id slot) z slots = accepts_prop p z.pages id slot slots
+accepts_at_prop (place.SlotChange p) command z slots = accepts_prop p z command slots
 accepts_at_prop _ _ z slots = hlevel props
 
 -- ---- how it ends
@@ -169,11 +181,11 @@ accepts_at_prop _ _ z slots = hlevel props
 -- The step that ends it doesn't wait.
 pub ends_free : (p : Place) (command : Command) (h : Held) (v : ℕ) (answer : Answer) → outcome_at p command h v ≡ Ends answer → line_waits p command h v ≡ false
 ends_free (place.Access p) (Access gfn word op) h v answer e = access_free p h gfn op v answer e
-ends_free (place.SetSlot p) (SetSlot id slot) h v answer e = set_slot_free p h id slot v answer e
+ends_free (place.SlotChange p) command h v answer e = slot_change_free p h command v answer e
 ends_free _ _ h v answer e = absurd (cc e)
 
 -- It tells an exit for want of a page only where it is answered so.
 pub tells_fed : (p : Place) (command : Command) (h : Held) (v : ℕ) → outcome_at p command h v ≢ Ends Starved → AreFed (tells_at p command h v)
 tells_fed (place.Access p) (Access gfn word op) h v other = access_fed p h gfn word op v other
-tells_fed (place.SetSlot p) (SetSlot id slot) h v other = set_slot_fed p h id slot v other
+tells_fed (place.SlotChange p) command h v other = slot_change_fed p h command v other
 tells_fed _ _ h v other = tt

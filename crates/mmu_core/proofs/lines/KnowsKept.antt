@@ -41,14 +41,14 @@ use Rattle.mmu_core.specs.lines.FaultKnows.{KnowsNext}
 use Rattle.mmu_core.specs.lines.FaultLaws.{CanAnswer}
 use Rattle.mmu_core.specs.lines.FaultSteps.{allows_access, fault_next}
 use Rattle.mmu_core.specs.invariant.Invariant.{Invariant, KnowsPart, UnderWay, LeavesPart}
-use Rattle.mmu_core.specs.lines.KnowsPart.{AccessKnows, InGuest, LeavesPart}
+use Rattle.mmu_core.specs.lines.AccessKnows.{AccessKnows, InGuest}
+use Rattle.mmu_core.specs.lines.Forms.{LeavesPart, RestsAt, caches_at, first_place, outcome_at}
 use Rattle.part_steps.specs.PartBounds.{PartRests}
 use Rattle.part_steps.specs.PartTasks.{entry_index, own_index}
 use Rattle.part_steps.specs.PartHoldings.{IsOver}
 use Rattle.part_steps.specs.PartSteps.{IsAtRest, IsVcpu, PartNeeds}
 use Rattle.part_steps.specs.PartTopics.{part_topics}
-use Rattle.mmu_core.specs.lines.Rests.{RestsAt}
-use Rattle.mmu_core.specs.machine.Steps.{caches_at, first_place, has_line, line_at, outcome_at, place_at, standing}
+use Rattle.mmu_core.specs.machine.Steps.{has_line, line_at, place_at, standing}
 use Rattle.part_steps.specs.Tasks.{kind_of_task}
 use Rattle.mmu_core.specs.machine.Outcomes.{place_after}
 use Rattle.part_steps.specs.StayTopics.{may_walk}
@@ -95,7 +95,8 @@ abbrev pub NeedsOf : Option PartStep → Held → Type 0
 NeedsOf None h = h.topics.stay ≡ Guest
 NeedsOf (Some step) h = PartNeeds step h
 
-pub access_needs : (p : AccessPlace) (h : Held) (gfn : ℕ) (write : Bool) → IsVcpu h.state.actor → gfn < 2 ^ 36 → PartRests h → AccessKnows p gfn write h → NeedsOf (access_part p gfn h.topics) h
+pub access_needs : (p : AccessPlace) (h : Held) (gfn : ℕ) (write : Bool) → IsVcpu h.state.actor → gfn < 2 ^ 36 → PartRests h
+    → AccessKnows p gfn write h → NeedsOf (access_part p gfn h.topics) h
 access_needs (Enter again) h gfn write vcpu small R K = (vcpu, K.outside)
 access_needs (Walk again) h gfn write vcpu small R K = K.1
 access_needs Touch h gfn write vcpu small R K = K.0.guest
@@ -104,14 +105,20 @@ access_needs (Fault p) h gfn write vcpu small R K = fault_needs p h gfn write sm
 access_needs _ h gfn write vcpu small R K = tt
 
 -- The access uses a translation that it has cached, or walks.
-pause_known : (f : Option Translation) (again : Bool) (gfn : ℕ) (write : Bool) (h g : Held) → first_usable gfn write h.cached.items ≡ f → g.cached ≡ h.cached → InGuest g.topics → g.state.leaf ≡ leaf_used f h.state.leaf → AccessKnows (pause_next again f) gfn write g
+pause_known : (f : Option Translation) (again : Bool) (gfn : ℕ) (write : Bool) (h g : Held) → first_usable gfn write h.cached.items ≡ f
+    → g.cached ≡ h.cached → InGuest g.topics → g.state.leaf ≡ leaf_used f h.state.leaf → AccessKnows (pause_next again f) gfn write g
 pause_known None again gfn write h g is same I leaf = I
-pause_known (Some t) again gfn write h g is same I leaf = (I, record { translation = t; newest = ap (λ (c : Buffer Translation). first_usable gfn write c.items) same ∙ is; leaf = leaf })
+pause_known (Some t) again gfn write h g is same I leaf =
+    (I, record { translation = t; newest = ap (λ (c : Buffer Translation). first_usable gfn write c.items) same ∙ is; leaf = leaf })
 
 -- The walk of a stay goes down by a link, and ends at every other entry; a leaf that allows the access is cached, and used.
-walk_known : (k : SpteKind) (allowed again : Bool) (gfn : ℕ) (write : Bool) (v : ℕ) (t : Topics) (c : Buffer Translation) (g : Held) → 1 ≤ c.capacity → g.cached ≡ (if is_found k allowed then with_leaf gfn t.walk.level v c else c) → kind_of t.walk.level v ≡ k → allows_access write v ≡ allowed → t.walk.level ≤ 4 → IsOver gfn t.walk
-    → InGuest g.topics → g.topics.walk ≡ gone_down (linked_page k) t.walk (entry_index gfn t.walk.level) v → g.state.leaf ≡ v → AccessKnows (walk_next again k allowed) gfn write g
-walk_known (entry_kind.Table page) allowed again gfn write v t c g room cached is may most O I walk leaf = (I, subst (IsOver gfn) (sym walk) (gone_over gfn page v t.walk (above_lowest t.walk.level v page O.there is) most O))
+walk_known : (k : SpteKind) (allowed again : Bool) (gfn : ℕ) (write : Bool) (v : ℕ) (t : Topics) (c : Buffer Translation) (g : Held) → 1 ≤ c.capacity
+    → g.cached ≡ (if is_found k allowed then with_leaf gfn t.walk.level v c else c) → kind_of t.walk.level v ≡ k → allows_access write v ≡ allowed
+    → t.walk.level ≤ 4 → IsOver gfn t.walk
+    → InGuest g.topics → g.topics.walk ≡ gone_down (linked_page k) t.walk (entry_index gfn t.walk.level) v → g.state.leaf ≡ v
+    → AccessKnows (walk_next again k allowed) gfn write g
+walk_known (entry_kind.Table page) allowed again gfn write v t c g room cached is may most O I walk leaf =
+    (I, subst (IsOver gfn) (sym walk) (gone_over gfn page v t.walk (above_lowest t.walk.level v page O.there is) most O))
 walk_known entry_kind.Leaf true again gfn write v t c g room cached is may most O I walk leaf = (
   I,
   record {
@@ -123,7 +130,8 @@ walk_known entry_kind.Leaf true again gfn write v t c g room cached is may most 
 walk_known _ _ again gfn write v t c g room cached is may most O I walk leaf = I
 
 -- A fault goes on, or the access is at rest again.
-fault_over_known : (n : FaultNext) (gfn word : ℕ) (op : Op) (g : Held) → KnowsNext n g.state.sizes gfn (is_write op) g.topics → KnowsBehind (behind_fault n) (Access gfn word op) g
+fault_over_known : (n : FaultNext) (gfn word : ℕ) (op : Op) (g : Held) → KnowsNext n g.state.sizes gfn (is_write op) g.topics
+    → KnowsBehind (behind_fault n) (Access gfn word op) g
 fault_over_known (next_of.Goes p) gfn word op g K = K
 fault_over_known (next_of.Ends end_of.Installed) gfn word op g K = K
 fault_over_known (next_of.Ends end_of.Mmio) gfn word op g K = K
@@ -132,7 +140,8 @@ fault_over_known (next_of.Ends end_of.Starved) gfn word op g K = K
 fault_over_known (next_of.Ends (end_of.Retry cause)) gfn word op g K = K
 
 -- behind each step of an access
-pub access_known : (p : AccessPlace) (line : Line) (h : Held) (gfn word : ℕ) (op : Op) (cached : Buffer Translation) (v : ℕ) → CachesBehind p h gfn op v cached → gfn < 2 ^ 36 → PartRests h → AccessKnows p gfn (is_write op) h → CanAnswerBy (access_part p gfn h.topics) v
+pub access_known : (p : AccessPlace) (line : Line) (h : Held) (gfn word : ℕ) (op : Op) (cached : Buffer Translation) (v : ℕ)
+    → CachesBehind p h gfn op v cached → gfn < 2 ^ 36 → PartRests h → AccessKnows p gfn (is_write op) h → CanAnswerBy (access_part p gfn h.topics) v
     → KnowsBehind (access_outcome p h gfn op v) (Access gfn word op) (hand_with line (Access gfn word op) (place.Access p) h (behind_part (access_part p gfn h.topics) h.topics v) cached v)
 access_known (Enter again) line h gfn word op cached v C small R K A = record { guest = refl; loose = K.loose; owns_none = K.owns_none; no_set = refl }
 access_known (Pause again) line h gfn word op cached v C small R K A =
@@ -148,8 +157,10 @@ access_known (Walk again) line h gfn word op cached v C small R K A =
     (hand_with line (Access gfn word op) (place.Access (Walk again)) h (part_topics (part.Walk gfn) h.topics v) cached v) R.cache C refl refl R.level K.1
     (record { guest = K.0.guest; loose = K.0.loose; owns_none = K.0.owns_none; no_set = K.0.no_set }) refl refl
 access_known Touch line h gfn word op cached v C small R K A = K.0
-access_known (Leave (leaving.Reached frame value)) line h gfn word op cached v C small R K A = record { outside = refl; loose = K.loose; owns_none = K.owns_none; no_table = refl; no_set = refl }
-access_known (Leave leaving.Faults) line h gfn word op cached v C small R K A = record { outside = refl; loose = K.loose; owns_none = K.owns_none; no_table = refl; no_set = refl }
+access_known (Leave (leaving.Reached frame value)) line h gfn word op cached v C small R K A =
+    record { outside = refl; loose = K.loose; owns_none = K.owns_none; no_table = refl; no_set = refl }
+access_known (Leave leaving.Faults) line h gfn word op cached v C small R K A =
+    record { outside = refl; loose = K.loose; owns_none = K.owns_none; no_table = refl; no_set = refl }
 access_known (Fault p) line h gfn word op cached v C small R K A =
     fault_over_known (fault_next p h.state.sizes gfn (is_write op) h.topics v) gfn word op
     (hand_with line (Access gfn word op) (place.Access (Fault p)) h (behind_part (access_part (Fault p) gfn h.topics) h.topics v) cached v)
@@ -161,7 +172,8 @@ unfolding topics_after
 touch_topics z Read index t v = refl
 touch_topics z _ index t v = refl
 
-pub task_topics : (s : Option PartStep) (h : Held) (note : ℕ) (op : Op) (index v : ℕ) → NeedsOf s h → topics_after h.state.sizes (kind_of_task h.state.sizes (task_by s h note (touch_of op index))) h.topics v ≡ behind_part s h.topics v
+pub task_topics : (s : Option PartStep) (h : Held) (note : ℕ) (op : Op) (index v : ℕ) → NeedsOf s h
+    → topics_after h.state.sizes (kind_of_task h.state.sizes (task_by s h note (touch_of op index))) h.topics v ≡ behind_part s h.topics v
 task_topics None h note op index v N = touch_topics h.state.sizes op index h.topics v
 task_topics (Some step) h note op index v N = part_topics_is h.state.sizes step (own_index h) h.topics note v (is_there step h N)
 
@@ -173,7 +185,8 @@ task_answers (Some step) h note touch words = parts_answer step (own_index h) h.
 abbrev pub KnowsAfter : Line → Command → Place → Held → ℕ → Type 0
 KnowsAfter line command p h v = KnowsBehind (outcome_at p command h v) command (hand_after line command p h v)
 
-pub own_access : (p : AccessPlace) (line : Line) (h : Held) (gfn word : ℕ) (op : Op) (words : Area → ℕ → ℕ) → IsVcpu h.state.actor → gfn < 2 ^ 36 → PartRests h → AccessKnows p gfn (is_write op) h
+pub own_access : (p : AccessPlace) (line : Line) (h : Held) (gfn word : ℕ) (op : Op) (words : Area → ℕ → ℕ) → IsVcpu h.state.actor → gfn < 2 ^ 36
+    → PartRests h → AccessKnows p gfn (is_write op) h
     → KnowsAfter line (Access gfn word op) (place.Access p) h (answer_in (access_task p h gfn word op) words)
 own_access p line h gfn word op words vcpu small R K =
     let v : ℕ = answer_in (access_task p h gfn word op) words in
@@ -189,7 +202,8 @@ NeedsAt (place.Access p) command h = Unit {0}
 NeedsAt p command h = RestsAt p command h
 
 -- what a hand knows where its line stands, also where this is about to begin
-standing_known : (q : Place) (z : Sizes) (h : Held) → length h.answers < length h.lines → KnowsPart q h.state.line.command h → KnowsPart (standing q z h.slots (line_at q h).command) (line_at q h).command h
+standing_known : (q : Place) (z : Sizes) (h : Held) → length h.answers < length h.lines → KnowsPart q h.state.line.command h
+    → KnowsPart (standing q z h.slots (line_at q h).command) (line_at q h).command h
 standing_known place.Between z h left K = first_known z (line_at place.Between h).command h (K (has_line_is h left))
 standing_known _ z h left K = K
 
@@ -197,7 +211,8 @@ pub knows_at : (z : Sizes) (v : View) (a : ℕ) → Invariant z v → a < actors
     → KnowsPart (place_at (v.hand a).state.place (v.hand a)) (line_at (v.hand a).state.place (v.hand a)).command (v.hand a)
 knows_at z v a I there left = standing_known (v.hand a).state.place (v.hand a).state.sizes (v.hand a) left (I.knows a there)
 
-pub step_knows : (z : Sizes) (v : View) (a : ℕ) (line : Line) (command : Command) (p : Place) → IsStep z v a line command p → Invariant z v → KnowsPart p command (v.hand a)
+pub step_knows : (z : Sizes) (v : View) (a : ℕ) (line : Line) (command : Command) (p : Place) → IsStep z v a line command p → Invariant z v
+    → KnowsPart p command (v.hand a)
 step_knows z v a line command p S I =
     subst (λ q. KnowsPart q command (v.hand a)) S.place_is
     (subst (λ c. KnowsPart (place_at (v.hand a).state.place (v.hand a)) c (v.hand a)) (ap (λ (l : Line). l.command) (sym S.line_is) ∙ S.command_is) (knows_at z v a I S.there S.left))
@@ -210,7 +225,8 @@ standing_leaves : (q : Place) (z : Sizes) (slots : MemorySlots) (command : Comma
 standing_leaves place.Between z slots command t L = first_leaves z command slots t (L refl)
 standing_leaves _ z slots command t L = L
 
-pub step_leaves : (z : Sizes) (v : View) (a : ℕ) (line : Line) (command : Command) (p : Place) → IsStep z v a line command p → Invariant z v → LeavesPart p (v.hand a).topics
+pub step_leaves : (z : Sizes) (v : View) (a : ℕ) (line : Line) (command : Command) (p : Place) → IsStep z v a line command p → Invariant z v
+    → LeavesPart p (v.hand a).topics
 step_leaves z v a line command p S I =
     subst (λ q. LeavesPart q (v.hand a).topics) S.place_is
     (standing_leaves (v.hand a).state.place (v.hand a).state.sizes (v.hand a).slots (line_at (v.hand a).state.place (v.hand a)).command (v.hand a).topics (I.leaves a S.there))

@@ -32,8 +32,9 @@ use Rattle.spte_words.specs.declared.spte_kind.SpteKind.{SpteKind}
 use Rattle.spte_words.specs.declared.spte_kind.SpteKind.TheVariants as entry_kind
 use Rattle.spte_words.specs.Entries.{kind_of}
 use Rattle.spte_words.specs.HostWords.{host_allows_write}
-use Rattle.mmu_core.specs.lines.FaultKnows.{CheckKnows, EndKnows, Entering, FaultKnows, FoundNoPage, HasCause, HostForbids, IsInTheWay, LookedFor, Sharing}
-use Rattle.mmu_core.specs.lines.KnowsPart.{AccessKnows, KnowsPart}
+use Rattle.mmu_core.specs.lines.FaultKnows.{CheckKnows, EndKnows, Entering, FaultKnows, FoundNoPage, HasCause, HostForbids, IsInTheWay, LookedFor, Sharing, IsRetry}
+use Rattle.mmu_core.specs.lines.AccessKnows.{AccessKnows}
+use Rattle.mmu_core.specs.lines.Forms.{KnowsPart}
 use Rattle.part_steps.specs.PartHoldings.{LookedUp}
 use Rattle.mmu_core.specs.machine.Steps.{line_at, place_at}
 use Rattle.mmu_core.specs.machine.View.{view}
@@ -80,17 +81,22 @@ sharing_stays gfn write t x = record {
 }
 
 entering_stays : (gfn : ℕ) (write : Bool) (t : Topics) → ∥ Entering gfn write t ∥₁ → Entering gfn write t
-entering_stays gfn write t x = record { sharing = sharing_stays gfn write t (∥∥₁_map x (λ E. E.sharing)); fresh = fresh_stays gfn t.invalidations (∥∥₁_map x (λ E. E.fresh)) }
+entering_stays gfn write t x =
+    record { sharing = sharing_stays gfn write t (∥∥₁_map x (λ E. E.sharing)); fresh = fresh_stays gfn t.invalidations (∥∥₁_map x (λ E. E.fresh)) }
 
 entering_two : (gfn : ℕ) (write : Bool) (t : Topics) {A B : Type 0} → ∥ Entering gfn write t × A × B ∥₁ → IsProp A → IsProp B → Entering gfn write t × A × B
 entering_two gfn write t x a b = (entering_stays gfn write t (∥∥₁_map x (λ K. K.0)), ∥∥₁_elim x a (λ K. K.1), ∥∥₁_elim x b (λ K. K.2))
 
-entering_three : (gfn : ℕ) (write : Bool) (t : Topics) {A B C : Type 0} → ∥ Entering gfn write t × A × B × C ∥₁ → IsProp A → IsProp B → IsProp C → Entering gfn write t × A × B × C
-entering_three gfn write t x a b c = (entering_stays gfn write t (∥∥₁_map x (λ K. K.0)), ∥∥₁_elim x a (λ K. K.1), ∥∥₁_elim x b (λ K. K.2), ∥∥₁_elim x c (λ K. K.3))
+entering_three : (gfn : ℕ) (write : Bool) (t : Topics) {A B C : Type 0} → ∥ Entering gfn write t × A × B × C ∥₁ → IsProp A → IsProp B → IsProp C
+    → Entering gfn write t × A × B × C
+entering_three gfn write t x a b c =
+    (entering_stays gfn write t (∥∥₁_map x (λ K. K.0)), ∥∥₁_elim x a (λ K. K.1), ∥∥₁_elim x b (λ K. K.2), ∥∥₁_elim x c (λ K. K.3))
 
 -- how far the check has come
-range_stays : (gfn : ℕ) (n : Invalidations) → ∥ (n.checked ≡ checked.Range) × ((gfn < n.start) ⊎ (n.end ≤ gfn)) ∥₁ → (n.checked ≡ checked.Range) × ((gfn < n.start) ⊎ (n.end ≤ gfn))
-range_stays gfn n x = (∥∥₁_elim x (hlevel props) (λ R. R.0), either_stays (or_not gfn n.start (cases_lt gfn n.start)) (λ y. prop_stays (hlevel props) y) (∥∥₁_map x (λ R. R.1)))
+range_stays : (gfn : ℕ) (n : Invalidations) → ∥ (n.checked ≡ checked.Range) × ((gfn < n.start) ⊎ (n.end ≤ gfn)) ∥₁
+    → (n.checked ≡ checked.Range) × ((gfn < n.start) ⊎ (n.end ≤ gfn))
+range_stays gfn n x =
+    (∥∥₁_elim x (hlevel props) (λ R. R.0), either_stays (or_not gfn n.start (cases_lt gfn n.start)) (λ y. prop_stays (hlevel props) y) (∥∥₁_map x (λ R. R.1)))
 
 check_stays : (at : CheckStage) (gfn : ℕ) (n : Invalidations) → ∥ CheckKnows at gfn n ∥₁ → CheckKnows at gfn n
 check_stays stage.Count gfn n x = tt
@@ -139,10 +145,16 @@ end_stays HostFault z gfn write t x = forbids_stays gfn write t x
 end_stays (Retry cause) z gfn write t x = cause_stays cause z gfn t x
 end_stays _ z gfn write t x = prop_stays (hlevel props) x
 
+retry_stays : (e : FaultEnd) → ∥ IsRetry e ∥₁ → IsRetry e
+retry_stays (Retry cause) x = tt
+retry_stays _ x = prop_stays (hlevel props) x
+
 -- each place of a fault, of an access, and of a line
 fault_stays : (p : FaultPlace) (z : Sizes) (gfn : ℕ) (write : Bool) (t : Topics) → ∥ FaultKnows p z gfn write t ∥₁ → FaultKnows p z gfn write t
-fault_stays fault.Share z gfn write t x = (∥∥₁_elim x (hlevel props) (λ K. K.0), ∥∥₁_elim x (hlevel props) (λ K. K.1), looked_for_stays gfn write t (∥∥₁_map x (λ K. K.2)))
-fault_stays (fault.Check at) z gfn write t x = (sharing_stays gfn write t (∥∥₁_map x (λ K. K.0)), ∥∥₁_elim x (hlevel props) (λ K. K.1), check_stays at gfn t.invalidations (∥∥₁_map x (λ K. K.2)))
+fault_stays fault.Share z gfn write t x =
+    (∥∥₁_elim x (hlevel props) (λ K. K.0), ∥∥₁_elim x (hlevel props) (λ K. K.1), looked_for_stays gfn write t (∥∥₁_map x (λ K. K.2)))
+fault_stays (fault.Check at) z gfn write t x =
+    (sharing_stays gfn write t (∥∥₁_map x (λ K. K.0)), ∥∥₁_elim x (hlevel props) (λ K. K.1), check_stays at gfn t.invalidations (∥∥₁_map x (λ K. K.2)))
 fault_stays (fault.Walk rooted) z gfn write t x = entering_two gfn write t x (hlevel props) (hlevel props)
 fault_stays (fault.Claim begun) z gfn write t x = entering_three gfn write t x (hlevel props) (hlevel props) (hlevel props)
 fault_stays fault.Fill z gfn write t x = entering_three gfn write t x (hlevel props) (hlevel props) (hlevel props)
@@ -154,9 +166,12 @@ fault_stays (fault.Give e) z gfn write t x = (
   ∥∥₁_elim x (hlevel props) (λ K. K.1),
   ∥∥₁_elim x (hlevel props) (λ K. K.2),
   end_stays e z gfn write t (∥∥₁_map x (λ K. K.3)),
+  retry_stays e (∥∥₁_map x (λ K. K.4)),
 )
-fault_stays (fault.Unshare e) z gfn write t x = (∥∥₁_elim x (hlevel props) (λ K. K.0), ∥∥₁_elim x (hlevel props) (λ K. K.1), end_stays e z gfn write t (∥∥₁_map x (λ K. K.2)))
-fault_stays (fault.End e) z gfn write t x = (∥∥₁_elim x (hlevel props) (λ K. K.0), ∥∥₁_elim x (hlevel props) (λ K. K.1), end_stays e z gfn write t (∥∥₁_map x (λ K. K.2)))
+fault_stays (fault.Unshare e) z gfn write t x =
+    (∥∥₁_elim x (hlevel props) (λ K. K.0), ∥∥₁_elim x (hlevel props) (λ K. K.1), end_stays e z gfn write t (∥∥₁_map x (λ K. K.2)))
+fault_stays (fault.End e) z gfn write t x =
+    (∥∥₁_elim x (hlevel props) (λ K. K.0), ∥∥₁_elim x (hlevel props) (λ K. K.1), end_stays e z gfn write t (∥∥₁_map x (λ K. K.2)))
 fault_stays _ z gfn write t x = prop_stays (hlevel props) x
 
 access_stays : (p : AccessPlace) (gfn : ℕ) (write : Bool) (h : Held) → ∥ AccessKnows p gfn write h ∥₁ → AccessKnows p gfn write h

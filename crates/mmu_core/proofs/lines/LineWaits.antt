@@ -14,9 +14,9 @@ use Rattle.part_steps.specs.Tasks.{kind_of_task}
 use Rattle.mmu_core.specs.lines.AccessSteps.{task_by}
 use Rattle.mmu_core.specs.lines.Delays.{line_waits, waits_by}
 use Rattle.mmu_core.specs.machine.Enabled.{IsNext}
-use Rattle.mmu_core.specs.lines.PartAt.{note_at, part_at, touch_at}
+use Rattle.mmu_core.specs.lines.Forms.{note_at, part_at, RestsAt}
+use Rattle.mmu_core.specs.lines.PartAt.{touch_at}
 use Rattle.mmu_core.specs.lines.PartWaits.{part_waits}
-use Rattle.mmu_core.specs.lines.Rests.{RestsAt}
 use Rattle.mmu_core.specs.machine.Steps.{line_at, place_at, task_at}
 use Rattle.mmu_core.proofs.lines.ByStep.{step_needs}
 
@@ -28,7 +28,8 @@ pub record WaitsAs (h : Held) (k : Kind) (v : ℕ) : Type 0 where
   pub needs : PartNeeds step h
   pub waits_ : part_waits step h.topics v ≡ true
 
-waits_as : (p : Place) (command : Command) (h : Held) (v : ℕ) → RestsAt p command h → line_waits p command h v ≡ true → WaitsAs h (kind_of_task h.state.sizes (task_at p command h)) v
+waits_as : (p : Place) (command : Command) (h : Held) (v : ℕ) → RestsAt p command h → line_waits p command h v ≡ true
+    → WaitsAs h (kind_of_task h.state.sizes (task_at p command h)) v
 waits_as p command h v R is = by (part_at p command h) refl is
   where
     by : (s : Option PartStep) → part_at p command h ≡ s → waits_by s h.topics v ≡ true → WaitsAs h (kind_of_task h.state.sizes (task_at p command h)) v
@@ -46,7 +47,8 @@ pub claims_seen : (p : Place) (command : Command) (h : Held) → RestsAt p comma
 claims_seen p command h R is = (step_needs p command h part.Claim R is).1
 
 -- the place of a line that has yet to begin is no place of waiting
-at_its_place : (q : Place) (h : Held) (v : ℕ) → line_waits q (line_at q h).command h v ≡ true → RestsAt (place_at q h) (line_at q h).command h → WaitsAs h (kind_of_task h.state.sizes (task_at (place_at q h) (line_at q h).command h)) v
+at_its_place : (q : Place) (h : Held) (v : ℕ) → line_waits q (line_at q h).command h v ≡ true → RestsAt (place_at q h) (line_at q h).command h
+    → WaitsAs h (kind_of_task h.state.sizes (task_at (place_at q h) (line_at q h).command h)) v
 at_its_place place.Between h v is R = absurd (cc is)
 at_its_place q h v is R = waits_as q h.state.line.command h v R is
 

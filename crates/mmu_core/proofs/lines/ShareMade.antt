@@ -25,7 +25,8 @@ use Rattle.mmu_core.proofs.machine.PartStepping.{is_publish}
 
 pub data ShareMade (t : Topics) (v : ℕ) : PartStep → ShareNext → Topics → Type 0 where
   Got : t.hold ≡ Loose → has_writer v ≡ false → ShareMade t v part.Share shares.Shares (record t { hold = Shared; invalidations = unchecked t.invalidations })
-  SawWriter : t.hold ≡ Loose → has_writer v ≡ true → ShareMade t v part.Share shares.Tries (record t { hold = Owing v; invalidations = unchecked t.invalidations })
+  SawWriter : t.hold ≡ Loose → has_writer v ≡ true
+      → ShareMade t v part.Share shares.Tries (record t { hold = Owing v; invalidations = unchecked t.invalidations })
   TakesBack : (word : ℕ) → t.hold ≡ Owing word → ShareMade t v part.Unshare shares.Tries (let_go t)
 
 pub share_made : (t : Topics) (v : ℕ) → is_trying t.hold ≡ true → ShareMade t v (share_part t.hold) (share_next t.hold v) (part_topics (share_part t.hold) t v)
@@ -58,17 +59,19 @@ share_left_after shares.Tries k = share_left k
 share_left_after shares.Shares k = 0
 
 -- A step that doesn't wait leaves fewer.
-pub share_falls : (t : Topics) (v : ℕ) (step : PartStep) (next : ShareNext) (u : Topics) → ShareMade t v step next u → part_waits step t v ≡ false → share_left_after next u.hold < share_left t.hold
+pub share_falls : (t : Topics) (v : ℕ) (step : PartStep) (next : ShareNext) (u : Topics) → ShareMade t v step next u → part_waits step t v ≡ false
+    → share_left_after next u.hold < share_left t.hold
 share_falls t v _ _ _ (Got loose is) goes = rw loose (omega arith)
 share_falls t v _ _ _ (SawWriter loose is) goes = rw loose (omega arith)
 share_falls t v _ _ _ (TakesBack word is) goes = absurd (cc (ap is_owing is, goes))
 
+pub no_writer : (v : ℕ) → v ≡ 0 → has_writer v ≡ false
+no_writer v e = grind (arith, nat_tests)
+
 -- Where the lock is free the try is the last step.
-pub share_comes : (t : Topics) (words : Area → ℕ → ℕ) (a note : ℕ) (step : PartStep) (next : ShareNext) (u : Topics) → ShareMade t (answer_in (part_task step a t note) words) step next u → t.hold ≡ Loose → words area.Lock 0 ≡ 0
+pub share_comes : (t : Topics) (words : Area → ℕ → ℕ) (a note : ℕ) (step : PartStep) (next : ShareNext) (u : Topics)
+    → ShareMade t (answer_in (part_task step a t note) words) step next u → t.hold ≡ Loose → words area.Lock 0 ≡ 0
     → next ≡ shares.Shares
 share_comes t words a note _ _ _ (Got loose is) held free = refl
-share_comes t words a note _ _ _ (SawWriter loose is) held free = absurd (no_writer (words area.Lock 0) free is)
-  where
-    no_writer : (v : ℕ) → v ≡ 0 → has_writer v ≡ true → ⊥
-    no_writer v e is = grind (arith, nat_tests)
+share_comes t words a note _ _ _ (SawWriter loose is) held free = let none = no_writer (words area.Lock 0) free in absurd (cc (none, is))
 share_comes t words a note _ _ _ (TakesBack word is) held free = absurd (cc (is, held))

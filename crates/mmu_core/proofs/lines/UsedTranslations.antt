@@ -19,7 +19,7 @@ use Rattle.spte_words.specs.Entries.{kind_of, level_span}
 use Rattle.mmu_core.specs.lines.AccessSteps.{access_caches, access_task, is_found}
 use Rattle.mmu_core.specs.lines.Cached.{UsesTranslation, allows, asks_flush, covers, first_usable, flushed, flushed_by, is_usable, with_leaf}
 use Rattle.mmu_core.specs.lines.FaultSteps.{allows_access}
-use Rattle.mmu_core.specs.lines.Rests.{RestsOn}
+use Rattle.mmu_core.specs.lines.AccessKnows.{RestsOn}
 use Rattle.part_steps.specs.declared.part_step.PartStep.{PartStep}
 use Rattle.part_steps.specs.PartSteps.{PartNeeds}
 use Rattle.part_steps.specs.Tasks.{kind_of_task}
@@ -37,7 +37,8 @@ pub found_allows : (gfn : ℕ) (write : Bool) (ts : List Translation) (t : Trans
 found_allows gfn write [] t is = absurd (cc is)
 found_allows gfn write (x ∷ xs) t is = by (is_usable gfn write x) (found_allows gfn write xs t) refl is
   where
-    by : (b : Bool) → (first_usable gfn write xs ≡ Some t → allows_access write t.leaf ≡ true) → is_usable gfn write x ≡ b → (if b then Some x else first_usable gfn write xs) ≡ Some t → allows_access write t.leaf ≡ true
+    by : (b : Bool) → (first_usable gfn write xs ≡ Some t → allows_access write t.leaf ≡ true) → is_usable gfn write x ≡ b
+        → (if b then Some x else first_usable gfn write xs) ≡ Some t → allows_access write t.leaf ≡ true
     by true rest usable e = ap (λ (y : Translation). allows_access write y.leaf) (sym (one e)) ∙ last (covers gfn x) (allows write x) usable
     by false rest usable e = rest e
 
@@ -49,23 +50,27 @@ uses_stays gfn write h x = by (first_usable gfn write h.cached.items) refl
   where
     by : (o : Option Translation) → first_usable gfn write h.cached.items ≡ o → UsesTranslation gfn write h
     by None is = absurd (∥∥₁_elim x (hlevel props) (λ U. let e = U.newest in cc (e, is)))
-    by (Some t) is = record { translation = t; newest = is; leaf = ∥∥₁_elim x (hlevel props) (λ U. U.leaf ∙ ap (λ (y : Translation). y.leaf) (one (sym U.newest ∙ is))) }
+    by (Some t) is =
+        record { translation = t; newest = is; leaf = ∥∥₁_elim x (hlevel props) (λ U. U.leaf ∙ ap (λ (y : Translation). y.leaf) (one (sym U.newest ∙ is))) }
 
 -- ---- A leaf that a walk finds, which is cached before all others, is the newest.
 
 same_run : (n : ℕ) → (n == n) ≡ true
 same_run n = grind (arith, nat_tests)
 
-own_usable : (gfn level leaf : ℕ) (write : Bool) → allows_access write leaf ≡ true → is_usable gfn write (record { gfn = gfn; level = level; leaf = leaf }) ≡ true
+own_usable : (gfn level leaf : ℕ) (write : Bool) → allows_access write leaf ≡ true
+    → is_usable gfn write (record { gfn = gfn; level = level; leaf = leaf }) ≡ true
 own_usable gfn level leaf write may = ap (λ (b : Bool). b && allows_access write leaf) (same_run (gfn / level_span level)) ∙ may
 
-first_fits : (gfn : ℕ) (write : Bool) (room : ℕ) (t : Translation) (ts : List Translation) → 1 ≤ room → is_usable gfn write t ≡ true → first_usable gfn write (take room (t ∷ ts)) ≡ Some t
+first_fits : (gfn : ℕ) (write : Bool) (room : ℕ) (t : Translation) (ts : List Translation) → 1 ≤ room → is_usable gfn write t ≡ true
+    → first_usable gfn write (take room (t ∷ ts)) ≡ Some t
 first_fits gfn write zero t ts some usable = absurd (omega (arith, some))
 first_fits gfn write (suc n) t ts some usable = ap (λ (b : Bool). if b then Some t else first_usable gfn write (take n ts)) usable
 
 pub newest_filled : (gfn level leaf : ℕ) (write : Bool) (c : Buffer Translation) → 1 ≤ c.capacity → allows_access write leaf ≡ true
     → first_usable gfn write (with_leaf gfn level leaf c).items ≡ Some (record { gfn = gfn; level = level; leaf = leaf })
-newest_filled gfn level leaf write c some may = first_fits gfn write c.capacity (record { gfn = gfn; level = level; leaf = leaf }) c.items some (own_usable gfn level leaf write may)
+newest_filled gfn level leaf write c some may =
+    first_fits gfn write c.capacity (record { gfn = gfn; level = level; leaf = leaf }) c.items some (own_usable gfn level leaf write may)
 
 -- ---- What is cached where the access is to touch: after the pause what was cached before, and after the walk's last entry the leaf, too.
 
@@ -79,7 +84,8 @@ filled_behind (Pause again) h gfn op v = refl
 filled_behind (Walk again) h gfn op v = refl
 filled_behind _ h gfn op v = tt
 
-pub flushed_behind : (p : AccessPlace) (h : Held) (gfn word : ℕ) (op : Op) (v : ℕ) → CachesBehind p h gfn op v (flushed (kind_of_task h.state.sizes (access_task p h gfn word op)) (access_caches p h gfn op v) v)
+pub flushed_behind : (p : AccessPlace) (h : Held) (gfn word : ℕ) (op : Op) (v : ℕ)
+    → CachesBehind p h gfn op v (flushed (kind_of_task h.state.sizes (access_task p h gfn word op)) (access_caches p h gfn op v) v)
 unfolding flushed
 flushed_behind (Pause again) h gfn word op v = refl
 flushed_behind (Walk again) h gfn word op v = refl

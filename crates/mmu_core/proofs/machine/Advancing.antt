@@ -26,7 +26,8 @@ use Rattle.spte_words.specs.Entries.{level_span}
 use Rattle.part_steps.specs.PartTasks.{own_index, part_task, words_filled}
 use Rattle.part_steps.specs.PartHoldings.{IsOver}
 use Rattle.part_steps.specs.PartSteps.{PartNeeds}
-use Rattle.mmu_core.specs.lines.Rests.{AcceptsAt, Rests, RestsAt}
+use Rattle.mmu_core.specs.lines.Forms.{AcceptsAt, RestsAt}
+use Rattle.mmu_core.specs.lines.Rests.{Rests}
 use Rattle.mmu_core.specs.lines.Cached.{flushed}
 use Rattle.part_steps.specs.PartBounds.{PartRests}
 use Rattle.core_views.specs.declared.sizes.Sizes.{Sizes}
@@ -54,7 +55,8 @@ pub named_is : (k : StepKind) → kind_named (code_of k) ≡ k
 named_is kind.Enter = refl
 named_is _ = refl
 
-part_room : (step : PartStep) (h : Held) (note : ℕ) → AreSizes h.state.sizes → PartNeeds step h → HasRoom (part_task step (own_index h) h.topics note).kind h.topics
+part_room : (step : PartStep) (h : Held) (note : ℕ) → AreSizes h.state.sizes → PartNeeds step h
+    → HasRoom (part_task step (own_index h) h.topics note).kind h.topics
 part_room (part.Fill value) h note z N = λ o is. let filled : words_filled h.topics.owned ≡ o.filled = ap words_filled is in omega (arith, filled, N.0.1)
 part_room (part.Role value) h note z N = λ o is. let filled : words_filled h.topics.owned ≡ o.filled = ap words_filled is in omega (arith, filled, N.0)
 part_room part.Slot h note z N = λ some. N.1
@@ -114,19 +116,23 @@ module _ (h : Held) (rests : has_line h ≡ true → Rests h) (some : is_some (s
   pub command_here : (line : Line) → line ≡ line_at h.state.place h → IsCommandFor h.state.sizes line.actor line.command
   command_here line line_is = subst (λ (l : Line). IsCommandFor h.state.sizes l.actor l.command) (sym line_is) rests_here.line
 
-  place_here : (line : Line) (p : Place) → line ≡ line_at h.state.place h → p ≡ standing h.state.place h.state.sizes h.slots line.command → p ≡ place_at h.state.place h
+  place_here : (line : Line) (p : Place) → line ≡ line_at h.state.place h → p ≡ standing h.state.place h.state.sizes h.slots line.command
+      → p ≡ place_at h.state.place h
   place_here line p line_is place_is = place_is ∙ ap (λ (l : Line). standing h.state.place h.state.sizes h.slots l.command) line_is
 
-  pub rests_at_here : (line : Line) (p : Place) → line ≡ line_at h.state.place h → p ≡ standing h.state.place h.state.sizes h.slots line.command → RestsAt p line.command h
+  pub rests_at_here : (line : Line) (p : Place) → line ≡ line_at h.state.place h → p ≡ standing h.state.place h.state.sizes h.slots line.command
+      → RestsAt p line.command h
   rests_at_here line p line_is place_is =
       subst (λ q. RestsAt q line.command h) (sym (place_here line p line_is place_is)) (subst (λ (l : Line). RestsAt (place_at h.state.place h) l.command h) (sym line_is) rests_here.at)
 
-  pub accepts_here : (line : Line) (p : Place) → line ≡ line_at h.state.place h → p ≡ standing h.state.place h.state.sizes h.slots line.command → AcceptsAt p line.command h.state.sizes h.slots
+  pub accepts_here : (line : Line) (p : Place) → line ≡ line_at h.state.place h → p ≡ standing h.state.place h.state.sizes h.slots line.command
+      → AcceptsAt p line.command h.state.sizes h.slots
   accepts_here line p line_is place_is =
       subst (λ q. AcceptsAt q line.command h.state.sizes h.slots) (sym (place_here line p line_is place_is))
       (subst (λ (l : Line). AcceptsAt (place_at h.state.place h) l.command h.state.sizes h.slots) (sym line_is) rests_here.accepts)
 
-  pub made_here : (x : Held) (line : Line) (p : Place) (v : ℕ) → line ≡ line_at h.state.place h → p ≡ standing h.state.place h.state.sizes h.slots line.command → x ≡ line_after line p h v
+  pub made_here : (x : Held) (line : Line) (p : Place) (v : ℕ) → line ≡ line_at h.state.place h
+      → p ≡ standing h.state.place h.state.sizes h.slots line.command → x ≡ line_after line p h v
       → x ≡ line_after (line_at h.state.place h) (place_at h.state.place h) h v
   made_here x line p v line_is place_is made =
       made ∙ ap (λ (q : Place). line_after line q h v) (place_here line p line_is place_is) ∙ ap (λ (l : Line). line_after l (place_at h.state.place h) h v) line_is
@@ -140,7 +146,8 @@ module _ (h g : Held) (k : Kind) (v : ℕ) (enabled : Enabled h k) (line : has_l
   still = by (has_line h) refl
     where
       by : (b : Bool) → has_line h ≡ b → (g.state.sizes ≡ h.state.sizes) × (g.topics ≡ h.topics)
-      by true has = (ap (λ (y : Held). y.state.sizes) (line has) ∙ loads_keep_sizes (place_at h.state.place h) (line_at h.state.place h).command h v, ap (λ (y : Held). y.topics) (line has))
+      by true has =
+          (ap (λ (y : Held). y.state.sizes) (line has) ∙ loads_keep_sizes (place_at h.state.place h) (line_at h.state.place h).command h v, ap (λ (y : Held). y.topics) (line has))
       by false no_ = (ap (λ (y : Held). y.state.sizes) (none no_), ap (λ (y : Held). y.topics) (none no_))
 
   pub sizes_still : (x : Held) → x ≡ record g { cached = flushed k g.cached v } → AreSizes x.state.sizes
@@ -159,5 +166,6 @@ module _ (h g : Held) (k : Kind) (v : ℕ) (enabled : Enabled h k) (line : has_l
           ∙ sym (next_of_line h k v has)
       by false no_ = ap (λ (y : Held). idle_after y k v) (none no_) ∙ sym (next_of_part h k v no_)
 
-  pub advanced : (x y : Held) → x ≡ record g { cached = flushed k g.cached v } → y ≡ record x { topics = topics_after x.state.sizes k x.topics v } → y ≡ next h k v
+  pub advanced : (x y : Held) → x ≡ record g { cached = flushed k g.cached v } → y ≡ record x { topics = topics_after x.state.sizes k x.topics v }
+      → y ≡ next h k v
   advanced x y flush_is is = is ∙ ap (λ (q : Held). record q { topics = topics_after q.state.sizes k q.topics v }) flush_is ∙ finished

@@ -15,7 +15,8 @@ use Rattle.core_views.specs.Held.{Held}
 use Rattle.mmu_core.specs.declared.outcome.Outcome.{Outcome}
 use Rattle.mmu_core.specs.declared.outcome.Outcome.TheVariants.{Goes, Ends}
 use Rattle.mmu_core.specs.lines.AccessSteps.{access_loads}
-use Rattle.mmu_core.specs.machine.Steps.{has_line, held_after, line_at, loads_at, next, next_by, place_at}
+use Rattle.mmu_core.specs.machine.Steps.{has_line, held_after, line_at, next, next_by, place_at}
+use Rattle.mmu_core.specs.lines.Forms.{loads_at}
 use Rattle.mmu_core.proofs.lines.Forms.{outcome_goes}
 use Rattle.mmu_core.proofs.machine.GoesOn.{GoesUnderWay}
 use Rattle.mmu_core.proofs.machine.Stepping.{is_begun}
@@ -44,7 +45,8 @@ next_same h k v = by (has_line h)
     by true = let same = loads_same (place_at h.state.place h) (line_of h).command h v in record { actor = same.actor; sizes = same.sizes; lines = refl }
     by false = record { actor = refl; sizes = refl; lines = refl }
 
-comes : (o : Outcome) (line : Line) (h g : Held) → GoesUnderWay o → g.state.place ≡ place_after o → g.state.line ≡ line → g.answers ≡ answers_after o line h.answers → Comes o line h g
+comes : (o : Outcome) (line : Line) (h g : Held) → GoesUnderWay o → g.state.place ≡ place_after o → g.state.line ≡ line
+    → g.answers ≡ answers_after o line h.answers → Comes o line h g
 comes (Goes p) line h g goes stands line_is answers = record { under_way = rw stands goes; line_is = line_is; answers = answers }
 comes (Ends answer) line h g goes stands line_is answers = record { between = stands; answers = answers }
 

@@ -7,7 +7,8 @@ use Rattle.core_views.specs.declared.topics.Topics.{Topics}
 use Rattle.core_views.specs.declared.trace.Command.{Command}
 use Rattle.core_views.specs.declared.trace.Line.{Line}
 use Rattle.core_views.specs.Held.{Held}
-use Rattle.mmu_core.specs.machine.Steps.{outcome_at, records_at, state_at}
+use Rattle.mmu_core.specs.lines.Forms.{outcome_at, records_at}
+use Rattle.mmu_core.specs.machine.Steps.{state_at}
 use Rattle.mmu_core.specs.machine.Outcomes.{answers_after, place_after}
 
 -- the hand behind a step of this line, that holds these topics and has this cached

@@ -20,7 +20,8 @@ use Rattle.core_views.specs.SlotSets.{MemorySlots}
 use Rattle.mmu_core.specs.declared.outcome.Outcome.{Outcome}
 use Rattle.mmu_core.specs.lines.AccessSteps.{access_caches}
 use Rattle.mmu_core.specs.lines.Delays.{counted, delays_counted, is_delay, steps_counted}
-use Rattle.mmu_core.specs.machine.Steps.{delays_at, caches_at, line_after, loads_at, outcome_at, records_at}
+use Rattle.mmu_core.specs.machine.Steps.{delays_at, line_after}
+use Rattle.mmu_core.specs.lines.Forms.{caches_at, loads_at, outcome_at, records_at}
 use Rattle.mmu_core.specs.machine.Outcomes.{answers_after, place_after}
 use Rattle.mmu_core.proofs.machine.HandAfter.{IsSameState, loads_same}
 
@@ -28,7 +29,8 @@ use Rattle.mmu_core.proofs.machine.HandAfter.{IsSameState, loads_same}
 abbrev with_slots : Held → MemorySlots → Held
 with_slots h slots = record { state = h.state; topics = h.topics; cached = h.cached; slots = slots; lines = h.lines; answers = h.answers }
 
-access_caches_same : (p : AccessPlace) (h : Held) (slots : MemorySlots) (gfn : ℕ) (op : Op) (v : ℕ) → access_caches p (with_slots h slots) gfn op v ≡ access_caches p h gfn op v
+access_caches_same : (p : AccessPlace) (h : Held) (slots : MemorySlots) (gfn : ℕ) (op : Op) (v : ℕ)
+    → access_caches p (with_slots h slots) gfn op v ≡ access_caches p h gfn op v
 access_caches_same (Enter again) h slots gfn op v = refl
 access_caches_same _ h slots gfn op v = refl
 
@@ -56,8 +58,11 @@ steps_behind h delay = steps_counted delay (counted h.state.place h.state.steps)
 abbrev delays_behind : Held → Bool → ℕ
 delays_behind h delay = delays_counted delay (counted h.state.place h.state.delays)
 
-pub line_made : (h f : Held) (s : State) (line : Line) (p q : Place) (v leaf : ℕ) (slots : MemorySlots) (o : Outcome) (delay : Bool) (steps delays : ℕ) (answers : List AnsweredLine) → o ≡ outcome_at p line.command h v → leaf ≡ (loads_at p line.command h v).leaf
-    → delay ≡ is_delay p line.command h o v → steps ≡ steps_behind h delay → delays ≡ delays_behind h delay → slots ≡ records_at p line.command h.slots → f ≡ with_cached h (caches_at p line.command (with_slots h slots) v) slots → s ≡ f.state → q ≡ place_after o → answers ≡ answers_after o line h.answers
+pub line_made : (h f : Held) (s : State) (line : Line) (p q : Place) (v leaf : ℕ) (slots : MemorySlots) (o : Outcome) (delay : Bool) (steps delays : ℕ) (answers : List AnsweredLine)
+    → o ≡ outcome_at p line.command h v → leaf ≡ (loads_at p line.command h v).leaf
+    → delay ≡ is_delay p line.command h o v → steps ≡ steps_behind h delay → delays ≡ delays_behind h delay
+    → slots ≡ records_at p line.command h.slots → f ≡ with_cached h (caches_at p line.command (with_slots h slots) v) slots → s ≡ f.state
+    → q ≡ place_after o → answers ≡ answers_after o line h.answers
     → placed s q line leaf steps delays f answers ≡ line_after line p h v
 line_made h f s line p q v leaf slots o delay steps delays answers o_is leaf_is delay_is steps_is delays_is slots_is f_is s_is q_is answers_is =
     let same : IsSameState h.state (loads_at p line.command h v) = loads_same p line.command h v in

@@ -18,7 +18,7 @@ use Rattle.mmu_core.specs.lines.AccessSteps.{touch_of}
 use Rattle.mmu_core.specs.machine.Enabled.{Enabled}
 use Rattle.part_steps.specs.PartTasks.{part_kind}
 use Rattle.part_steps.specs.PartSteps.{PartNeeds}
-use Rattle.mmu_core.specs.lines.Rests.{RestsAt}
+use Rattle.mmu_core.specs.lines.Forms.{RestsAt}
 use Rattle.mmu_core.specs.machine.Steps.{line_at, place_at, task_at}
 use Rattle.part_steps.specs.Tasks.{kind_of_task, map_of}
 use Rattle.part_steps.specs.TopicSteps.{topics_after}
@@ -54,5 +54,6 @@ line_kind p command h R = part_or_quiet command h (task_at p command h) (step_at
 
 pub step_kind : (h : Held) (k : Kind) → Enabled h k → IsPartKind h k ⊎ IsQuiet h.state.sizes h.topics k
 unfolding Enabled
-step_kind h k (inl e) = subst (λ (x : Kind). IsPartKind h x ⊎ IsQuiet h.state.sizes h.topics x) (sym e.is) (line_kind (place_at h.state.place h) (line_at h.state.place h).command h e.rests.at)
+step_kind h k (inl e) =
+    subst (λ (x : Kind). IsPartKind h x ⊎ IsQuiet h.state.sizes h.topics x) (sym e.is) (line_kind (place_at h.state.place h) (line_at h.state.place h).command h e.rests.at)
 step_kind h k (inr e) = inl (record { step = e.step; note = e.note; is = e.is; needs = e.needs })

@@ -24,7 +24,8 @@ use Rattle.mmu_core.proofs.words.PartIndex.{index_same}
 use Rattle.mmu_core.specs.lines.AccessSteps.{access_loads}
 use Rattle.mmu_core.specs.machine.Enabled.{Enabled, IsNext, IsPartStep, mmu}
 use Rattle.mmu_core.specs.machine.Machine.{World, Step, effect, run, hand_in, May, Legal, Leads}
-use Rattle.mmu_core.specs.machine.Steps.{has_line, line_at, loads_at, next, next_by, place_at}
+use Rattle.mmu_core.specs.machine.Steps.{has_line, line_at, next, next_by, place_at}
+use Rattle.mmu_core.specs.lines.Forms.{loads_at}
 use Rattle.part_steps.specs.Tasks.{map_of}
 use Rattle.mmu_core.specs.machine.Worlds.{IsStart, Reachable, start_hands}
 use Rattle.mmu_core.proofs.machine.Extend.{as_many_hands, as_many_words}
@@ -52,7 +53,8 @@ HasSizes z h = h.state.sizes ≡ z
 
 effect_keeps_sizes : (z : Sizes) (w : World Held) (s : Step Kind) → May mmu w s → All (HasSizes z) w.hands → All (HasSizes z) (effect mmu w s).hands
 unfolding effect
-effect_keeps_sizes z w s may all = All-set (HasSizes z) w.hands s.actor _ (next_keeps_sizes (hand_in mmu w s.actor) s.kind _ ∙ All-get_or (HasSizes z) w.hands s.actor mmu.nobody may.there all) all
+effect_keeps_sizes z w s may all =
+    All-set (HasSizes z) w.hands s.actor _ (next_keeps_sizes (hand_in mmu w s.actor) s.kind _ ∙ All-get_or (HasSizes z) w.hands s.actor mmu.nobody may.there all) all
 
 run_keeps_sizes : (z : Sizes) (w : World Held) (ss : List (Step Kind)) → Legal mmu w ss → All (HasSizes z) w.hands → All (HasSizes z) (run mmu w ss).hands
 run_keeps_sizes z w [] legal all = all
@@ -64,7 +66,8 @@ hand_at z lines i = first_held z (actor_at z i) (lines_of (actor_at z i) lines)
 
 start_has_sizes : (z : Sizes) (lines : List Line) (n : ℕ) → All (HasSizes z) (start_hands z lines n)
 start_has_sizes z lines zero = All-nil (HasSizes z)
-start_has_sizes z lines (suc n) = All-append (HasSizes z) (start_hands z lines n) _ (start_has_sizes z lines n) (All-cons (HasSizes z) (hand_at z lines n) [] refl (All-nil (HasSizes z)))
+start_has_sizes z lines (suc n) =
+    All-append (HasSizes z) (start_hands z lines n) _ (start_has_sizes z lines n) (All-cons (HasSizes z) (hand_at z lines n) [] refl (All-nil (HasSizes z)))
 
 -- There is a hand for each actor at the start.
 pub count_at_start : (z : Sizes) (lines : List Line) (n : ℕ) → length (start_hands z lines n) ≡ n
@@ -94,13 +97,15 @@ part_inside h k N =
     subst (λ (x : Kind). x.word < total (map_of h.state.sizes)) (sym N.is) (place_below (map_of h.state.sizes) t.area t.index within)
 
 -- A step that a reachable world's hand allows is at one of its words.
-pub enabled_inside : (w : World Held) (r : Reachable w) (actor : ℕ) (k : Kind) → actor < length w.hands → Enabled (hand_in mmu w actor) k → k.word < length w.words
+pub enabled_inside : (w : World Held) (r : Reachable w) (actor : ℕ) (k : Kind) → actor < length w.hands → Enabled (hand_in mmu w actor) k
+    → k.word < length w.words
 unfolding Enabled
 enabled_inside w r actor k there enabled =
     let size = ap (λ z. total (map_of z)) (reached_has_sizes w r actor there) in
     let count = as_many_as_mapped r.sizes r.lines r.start w r.is_start r.leads in
     by enabled size count
   where
-    by : IsNext (hand_in mmu w actor) k ⊎ IsPartStep (hand_in mmu w actor) k → total (map_of (hand_in mmu w actor).state.sizes) ≡ total (map_of r.sizes) → length w.words ≡ total (map_of r.sizes) → k.word < length w.words
+    by : IsNext (hand_in mmu w actor) k ⊎ IsPartStep (hand_in mmu w actor) k
+        → total (map_of (hand_in mmu w actor).state.sizes) ≡ total (map_of r.sizes) → length w.words ≡ total (map_of r.sizes) → k.word < length w.words
     by (inl e) size count = omega (arith, e.inside, size, count)
     by (inr e) size count = let inside = part_inside (hand_in mmu w actor) k e in omega (arith, inside, size, count)

@@ -15,9 +15,9 @@ use Rattle.core_views.specs.Traces.{IsCommandFor}
 use Rattle.spte_words.specs.declared.area.Area.TheVariants as area
 use Rattle.mmu_core.specs.invariant.Invariant.{Holds, Invariant, UnderWay}
 use Rattle.mmu_core.specs.lines.Rests.{IsUnderWay}
-use Rattle.mmu_core.specs.machine.Steps.{first_place, line_at, next_line, place_at, standing}
+use Rattle.mmu_core.specs.lines.Forms.{first_place, may_leave}
+use Rattle.mmu_core.specs.machine.Steps.{line_at, next_line, place_at, standing}
 use Rattle.mmu_core.specs.machine.View.{View}
-use Rattle.mmu_core.specs.lines.KnowsPart.{may_leave}
 use Rattle.mmu_core.specs.invariant.LinesPart.{lines_done}
 use Rattle.mmu_core.proofs.lines.Forms.{first_holds}
 
@@ -34,7 +34,7 @@ pub record IsStep (z : Sizes) (v : View) (a : ℕ) (line : Line) (command : Comm
   pub own : line.actor ≡ (v.hand a).state.actor
   pub holds : Holds z (v.words area.Pool) (v.words area.Host) (v.words area.Slots 0) p command (v.hand a)
 
-line_is_next : (p : Place) (h : Held) → UnderWay p h → h.state.place ≡ p → line_at p h ≡ next_line h
+pub line_is_next : (p : Place) (h : Held) → UnderWay p h → h.state.place ≡ p → line_at p h ≡ next_line h
 line_is_next place.Between h under is = refl
 line_is_next _ h under is = under.0
 
@@ -46,7 +46,8 @@ pub is_begun : (p : Place) (z : Sizes) (slots : MemorySlots) (command : Command)
 is_begun place.Between z slots command = first_is_begun z slots command
 is_begun _ z slots command = tt
 
-standing_holds : (z : Sizes) (pool host : ℕ → ℕ) (set : ℕ) (q : Place) (h : Held) → h.state.place ≡ q → Holds z pool host set q h.state.line.command h → Holds z pool host set (standing q z h.slots (line_at q h).command) (line_at q h).command h
+standing_holds : (z : Sizes) (pool host : ℕ → ℕ) (set : ℕ) (q : Place) (h : Held) → h.state.place ≡ q → Holds z pool host set q h.state.line.command h
+    → Holds z pool host set (standing q z h.slots (line_at q h).command) (line_at q h).command h
 standing_holds z pool host set place.Between h is holds = first_holds z pool host set (next_line h).command h
 standing_holds z pool host set _ h is holds = holds
 
@@ -76,16 +77,19 @@ is_step z v a I there left =
       begun = is_begun h.state.place h.state.sizes h.slots (line_at h.state.place h).command;
       allowed = subst (λ l. IsCommandFor z l.actor l.command) (sym next) (next_has (λ l. IsCommandFor z l.actor l.command) h O.allowed left);
       own = subst (λ (l : Line). l.actor ≡ h.state.actor) (sym next) (next_has (λ l. l.actor ≡ h.state.actor) h O.own left);
-      holds = subst (λ y. Holds z (v.words area.Pool) (v.words area.Host) (v.words area.Slots 0) (standing h.state.place y h.slots (line_at h.state.place h).command) (line_at h.state.place h).command h) (sym O.sizes)
+      holds =
+          subst (λ y. Holds z (v.words area.Pool) (v.words area.Host) (v.words area.Slots 0) (standing h.state.place y h.slots (line_at h.state.place h).command) (line_at h.state.place h).command h) (sym O.sizes)
           (standing_holds z (v.words area.Pool) (v.words area.Host) (v.words area.Slots 0) h.state.place h refl (I.loads a there));
     }
 
 -- Where the step's place isn't behind a publication, the hand's isn't either.
-before_published : (q : Place) (z : Sizes) (slots : MemorySlots) (command : Command) (p : Place) → standing q z slots command ≡ p → may_leave p ≡ false → may_leave q ≡ false
+before_published : (q : Place) (z : Sizes) (slots : MemorySlots) (command : Command) (p : Place) → standing q z slots command ≡ p
+    → may_leave p ≡ false → may_leave q ≡ false
 before_published place.Between z slots command p is not_yet = refl
 before_published _ z slots command p is not_yet = ap may_leave is ∙ not_yet
 
-pub none_done : (z : Sizes) (v : View) (a : ℕ) (line : Line) (command : Command) (p : Place) → IsStep z v a line command p → may_leave p ≡ false → lines_done (v.hand a) ≡ length (v.hand a).answers
+pub none_done : (z : Sizes) (v : View) (a : ℕ) (line : Line) (command : Command) (p : Place) → IsStep z v a line command p → may_leave p ≡ false
+    → lines_done (v.hand a) ≡ length (v.hand a).answers
 none_done z v a line command p S not_yet =
     let h : Held = v.hand a in
     ap (λ b. length h.answers + (if b then 1 else 0)) (before_published h.state.place h.state.sizes h.slots (line_at h.state.place h).command p S.place_is not_yet) ∙ omega arith

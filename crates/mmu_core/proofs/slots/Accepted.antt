@@ -10,10 +10,8 @@ use Rattle.std.proofs.lemmas.Map.Keys.{apart_from_distinct}
 use Rattle.std.specs.Prelude.{Bool, true, false, not, nat_le, nat_lt, if◌then◌else◌, None, slice_get, unwrap_or, All}
 use Rattle.std.specs.List.{Contains, IsDistinct, list_any}
 use Rattle.std.specs.Map.{keys_of}
-use Rattle.core_views.specs.declared.actor.Actor.{Actor}
-use Rattle.core_views.specs.declared.actor.Actor.TheVariants.{Manager}
-use Rattle.core_views.specs.declared.place.Place.TheVariants as place
-use Rattle.core_views.specs.declared.place.SetSlotPlace.{SetSlotPlace}
+use Rattle.core_views.specs.declared.place.Place.{Place}
+use Rattle.mmu_core.specs.lines.Forms.{may_leave}
 use Rattle.core_views.specs.declared.sizes.Sizes.{Sizes}
 use Rattle.core_views.specs.declared.trace.Command.{Command}
 use Rattle.core_views.specs.declared.trace.Command.TheVariants.{Access, SetSlot}
@@ -24,7 +22,7 @@ use Rattle.core_views.specs.Held.{Held}
 use Rattle.core_views.specs.Refusals.{set_refusal}
 use Rattle.core_views.specs.SlotSets.{MemorySlots, flat_slots}
 use Rattle.core_views.specs.Slots.{Slots, contains, has_host_page, share_guest_frames, share_host_pages}
-use Rattle.core_views.specs.Traces.{IsCommandFor, or_slot_id, slot_ids}
+use Rattle.core_views.specs.Traces.{or_slot_id, slot_ids}
 use Rattle.core_views.proofs.Sound.{Passes, passes}
 use Rattle.spte_words.specs.declared.area.Area.TheVariants as area
 use Rattle.mmu_core.specs.invariant.Invariant.{Invariant, OwnLines, RecordPart}
@@ -36,25 +34,23 @@ use Rattle.mmu_core.proofs.machine.Columns.{same_or}
 use Rattle.mmu_core.proofs.words.SlotLists.{flat_below}
 use Rattle.mmu_core.proofs.machine.Stepping.{IsStep, none_done}
 use Rattle.mmu_core.specs.invariant.LinesPart.{lines_done}
-use Rattle.mmu_core.specs.lines.KnowsPart.{may_leave}
-
--- The manager alone sets slots.
-pub setting_is_managers : (z : Sizes) (actor : Actor) (id : ℕ) (slot : Slot) → IsCommandFor z actor (SetSlot id slot) → actor ≡ Manager
-setting_is_managers z Manager id slot may = refl
-setting_is_managers z _ id slot may = absurd may
 
 -- the IDs that the lines set, cut at a line that sets one
-ids_here : (n : ℕ) (lines : List Line) (id : ℕ) (slot : Slot) → n < length lines → (unwrap_or (slice_get lines n) no_line).command ≡ SetSlot id slot → (ids : List ℕ) × (slot_ids lines ≡ slot_ids (take n lines) ++ id ∷ ids)
+ids_here : (n : ℕ) (lines : List Line) (id : ℕ) (slot : Slot) → n < length lines → (unwrap_or (slice_get lines n) no_line).command ≡ SetSlot id slot
+    → (ids : List ℕ) × (slot_ids lines ≡ slot_ids (take n lines) ++ id ∷ ids)
 ids_here n [] id slot lt is = absurd (omega arith)
 ids_here zero (line ∷ lines) id slot lt is = (slot_ids lines, ap (λ c. or_slot_id c (slot_ids lines)) is)
 ids_here (suc n) (line ∷ lines) id slot lt is = let rest = ids_here n lines id slot (omega arith) is in (rest.0, by line.command rest.0 rest.1)
   where
-    by : (c : Command) (ids : List ℕ) → slot_ids lines ≡ slot_ids (take n lines) ++ id ∷ ids → or_slot_id c (slot_ids lines) ≡ or_slot_id c (slot_ids (take n lines)) ++ id ∷ ids
+    by : (c : Command) (ids : List ℕ) → slot_ids lines ≡ slot_ids (take n lines) ++ id ∷ ids
+        → or_slot_id c (slot_ids lines) ≡ or_slot_id c (slot_ids (take n lines)) ++ id ∷ ids
     by (Access gfn word op) ids rest = rest
     by (SetSlot i s) ids rest = ap (λ (xs : List ℕ). i ∷ xs) rest
 
 -- No line before this one has set a slot at its ID.
-not_set_before : (n : ℕ) (lines : List Line) (id : ℕ) (slot : Slot) → n < length lines → (unwrap_or (slice_get lines n) no_line).command ≡ SetSlot id slot → IsDistinct (λ i j. i == j) (slot_ids lines) → Contains (slot_ids (take n lines)) id → ⊥
+not_set_before : (n : ℕ) (lines : List Line) (id : ℕ) (slot : Slot) → n < length lines
+    → (unwrap_or (slice_get lines n) no_line).command ≡ SetSlot id slot → IsDistinct (λ i j. i == j) (slot_ids lines)
+    → Contains (slot_ids (take n lines)) id → ⊥
 not_set_before n lines id slot lt is distinct has =
     let at = ids_here n lines id slot lt is in
     let before : List ℕ = slot_ids (take n lines) in
@@ -74,7 +70,8 @@ same_keys (e ∷ es) = ap (λ (ids : List ℕ). e.0 ∷ ids) (same_keys es)
 -- A live slot is on the list.
 live_is_listed : (pool : ℕ → ℕ) (set n id : ℕ) → id < n → live_at pool set id ≡ true → Contains (keys_of (slots_below pool set n)) id
 live_is_listed pool set zero id lt live = absurd (omega arith)
-live_is_listed pool set (suc n) id lt live = subst (λ (ids : List ℕ). Contains ids id) (sym (map-append (λ (e : ℕ × Slot). e.0) (slots_below pool set n) (last (live_at pool set n)))) (case (same_or id n) (λ less. live_is_listed pool set n id less live))
+live_is_listed pool set (suc n) id lt live =
+    subst (λ (ids : List ℕ). Contains ids id) (sym (map-append (λ (e : ℕ × Slot). e.0) (slots_below pool set n) (last (live_at pool set n)))) (case (same_or id n) (λ less. live_is_listed pool set n id less live))
   where
     last : Bool → Slots
     last b = if b then (n, slot_at pool set n) ∷ [] else []
@@ -83,12 +80,15 @@ live_is_listed pool set (suc n) id lt live = subst (λ (ids : List ℕ). Contain
     here e true on = (0, omega arith, sym e)
     here e false on = absurd (cc on)
 
-    case : (id ≡ n) ⊎ (id ≢ n) → (id < n → Contains (keys_of (slots_below pool set n)) id) → Contains (keys_of (slots_below pool set n) ++ keys_of (last (live_at pool set n))) id
-    case (inl e) before = Contains-append_right (keys_of (slots_below pool set n)) (keys_of (last (live_at pool set n))) id (here e (live_at pool set n) (ap (live_at pool set) (sym e) ∙ live))
+    case : (id ≡ n) ⊎ (id ≢ n) → (id < n → Contains (keys_of (slots_below pool set n)) id)
+        → Contains (keys_of (slots_below pool set n) ++ keys_of (last (live_at pool set n))) id
+    case (inl e) before =
+        Contains-append_right (keys_of (slots_below pool set n)) (keys_of (last (live_at pool set n))) id (here e (live_at pool set n) (ap (live_at pool set) (sym e) ∙ live))
     case (inr apart) before = Contains-append_left (keys_of (slots_below pool set n)) (keys_of (last (live_at pool set n))) id (before (omega arith))
 
 -- What no slot of the list passes, no live slot does.
-none_listed : (test : ℕ × Slot → Bool) (pool : ℕ → ℕ) (set n j : ℕ) → j < n → live_at pool set j ≡ true → list_any test (slots_below pool set n) ≡ false → test (j, slot_at pool set j) ≡ false
+none_listed : (test : ℕ × Slot → Bool) (pool : ℕ → ℕ) (set n j : ℕ) → j < n → live_at pool set j ≡ true
+    → list_any test (slots_below pool set n) ≡ false → test (j, slot_at pool set j) ≡ false
 none_listed test pool set zero j lt live none = absurd (omega arith)
 none_listed test pool set (suc n) j lt live none = case (same_or j n) (or_parts (list_any test (slots_below pool set n)) (list_any test (last (live_at pool set n))) (sym (list_any-append test (slots_below pool set n) (last (live_at pool set n))) ∙ none)) (λ less before. none_listed test pool set n j less live before)
   where
@@ -99,12 +99,15 @@ none_listed test pool set (suc n) j lt live none = case (same_or j n) (or_parts 
     here true on none = (or_parts (test (n, slot_at pool set n)) false none).0
     here false on none = absurd (cc on)
 
-    case : (j ≡ n) ⊎ (j ≢ n) → (list_any test (slots_below pool set n) ≡ false) × (list_any test (last (live_at pool set n)) ≡ false) → (j < n → list_any test (slots_below pool set n) ≡ false → test (j, slot_at pool set j) ≡ false) → test (j, slot_at pool set j) ≡ false
-    case (inl e) both before = subst (λ k. test (k, slot_at pool set k) ≡ false) (sym e) (here (live_at pool set n) (ap (live_at pool set) (sym e) ∙ live) both.1)
+    case : (j ≡ n) ⊎ (j ≢ n) → (list_any test (slots_below pool set n) ≡ false) × (list_any test (last (live_at pool set n)) ≡ false)
+        → (j < n → list_any test (slots_below pool set n) ≡ false → test (j, slot_at pool set j) ≡ false) → test (j, slot_at pool set j) ≡ false
+    case (inl e) both before =
+        subst (λ k. test (k, slot_at pool set k) ≡ false) (sym e) (here (live_at pool set n) (ap (live_at pool set) (sym e) ∙ live) both.1)
     case (inr apart) both before = before (omega arith) both.0
 
 -- A number in two ranges is between the first of one and the end of the other.
-in_both : (a b c d x : ℕ) → (nat_le a x && nat_lt x b) ≡ true → (nat_le c x && nat_lt x d) ≡ true → ((nat_le c a && nat_lt a d) || (nat_le a c && nat_lt c b)) ≡ false → ⊥
+in_both : (a b c d x : ℕ) → (nat_le a x && nat_lt x b) ≡ true → (nat_le c x && nat_lt x d) ≡ true
+    → ((nat_le c a && nat_lt a d) || (nat_le a c && nat_lt c b)) ≡ false → ⊥
 in_both a b c d x one two none = grind (arith, nat_tests)
 
 other : (i j : ℕ) (s : Bool) → i ≢ j → (not (i == j) && s) ≡ false → s ≡ false
@@ -118,7 +121,8 @@ pub record MayBeSet (z : Sizes) (pool : ℕ → ℕ) (set id : ℕ) (slot : Slot
   pub guest_apart : (gfn j : ℕ) → j ≤ 31 → live_at pool set j ≡ true → contains gfn (slot_at pool set j) ≡ true → contains gfn slot ≡ true → ⊥
   pub host_apart : (page j : ℕ) → j ≤ 31 → live_at pool set j ≡ true → has_host_page page (slot_at pool set j) ≡ true → has_host_page page slot ≡ true → ⊥
 
-may_be : (z : Sizes) (pool : ℕ → ℕ) (set id : ℕ) (slot : Slot) → Passes z.pages id slot (slots_below pool set 32) → live_at pool set id ≡ false → MayBeSet z pool set id slot
+may_be : (z : Sizes) (pool : ℕ → ℕ) (set id : ℕ) (slot : Slot) → Passes z.pages id slot (slots_below pool set 32) → live_at pool set id ≡ false
+    → MayBeSet z pool set id slot
 may_be z pool set id slot P not_live = record {
   low = P.low;
   not_live = not_live;
@@ -139,15 +143,12 @@ may_be z pool set id slot P not_live = record {
 pub accepted_id : (total id : ℕ) (slot : Slot) (slots : MemorySlots) → set_refusal total id slot slots ≡ None → id ≤ 31
 accepted_id total id slot slots e = (passes total id slot slots e).low
 
--- the manager's record, where its hand makes a step of a setting
-pub record_of : (z : Sizes) (v : View) (a : ℕ) (line : Line) (id : ℕ) (slot : Slot) (p : SetSlotPlace) → IsStep z v a line (SetSlot id slot) (place.SetSlot p) → Invariant z v → RecordPart (v.words area.Pool) (v.words area.Slots 0) (v.hand a).slots
-record_of z v a line id slot p S I = I.recorded a S.there (sym S.own ∙ setting_is_managers z line.actor id slot S.allowed)
-
 -- Without their dirty logs the slots of the record are those of the set.
 pub record_flat : (pool : ℕ → ℕ) (set : ℕ) (slots : MemorySlots) → RecordPart pool set slots → flat_slots slots ≡ slots_below pool set 32
 record_flat pool set slots R = ap flat_slots R.same ∙ flat_below pool set 32
 
-not_live_yet : (z : Sizes) (pool : ℕ → ℕ) (set i : ℕ) (h : Held) (id : ℕ) (slot : Slot) → OwnLines z i h → length h.answers < length h.lines → (next_line h).command ≡ SetSlot id slot → RecordPart pool set h.slots → id ≤ 31 → lines_done h ≡ length h.answers → live_at pool set id ≡ false
+not_live_yet : (z : Sizes) (pool : ℕ → ℕ) (set i : ℕ) (h : Held) (id : ℕ) (slot : Slot) → OwnLines z i h → length h.answers < length h.lines
+    → (next_line h).command ≡ SetSlot id slot → RecordPart pool set h.slots → id ≤ 31 → lines_done h ≡ length h.answers → live_at pool set id ≡ false
 not_live_yet z pool set i h id slot O left is R low done = case (live_at pool set id) refl
   where
     case : (b : Bool) → live_at pool set id ≡ b → live_at pool set id ≡ false
@@ -156,11 +157,13 @@ not_live_yet z pool set i h id slot O left is R low done = case (live_at pool se
         absurd (not_set_before (length h.answers) h.lines id slot left is O.distinct (All-contains (Contains (slot_ids (take (length h.answers) h.lines))) (keys_of h.slots) id (subst (λ n. All (Contains (slot_ids (take n h.lines))) (keys_of h.slots)) done O.answered) listed))
     case false e = e
 
-pub may_be_set : (z : Sizes) (v : View) (a : ℕ) (line : Line) (id : ℕ) (slot : Slot) (p : SetSlotPlace) → IsStep z v a line (SetSlot id slot) (place.SetSlot p) → Invariant z v → may_leave (place.SetSlot p) ≡ false → set_refusal z.pages id slot (v.hand a).slots ≡ None
+-- A line whose set isn't published yet, and that the record accepts, may set its slot.
+pub may_be_set : (z : Sizes) (v : View) (a : ℕ) (line : Line) (id : ℕ) (slot : Slot) (p : Place) → IsStep z v a line (SetSlot id slot) p
+    → may_leave p ≡ false → Invariant z v → RecordPart (v.words area.Pool) (v.words area.Slots 0) (v.hand a).slots
+    → set_refusal z.pages id slot (v.hand a).slots ≡ None
     → MayBeSet z (v.words area.Pool) (v.words area.Slots 0) id slot
-may_be_set z v a line id slot p S I not_yet accepts =
+may_be_set z v a line id slot p S not_yet I R accepts =
     let h : Held = v.hand a in
-    let R = record_of z v a line id slot p S I in
     let P = passes z.pages id slot h.slots accepts in
     may_be z (v.words area.Pool) (v.words area.Slots 0) id slot (subst (Passes z.pages id slot) (record_flat (v.words area.Pool) (v.words area.Slots 0) h.slots R) P)
-    (not_live_yet z (v.words area.Pool) (v.words area.Slots 0) a h id slot (I.lines a S.there) S.left (ap (λ (l : Line). l.command) (sym S.next) ∙ S.command_is) R P.low (none_done z v a line (SetSlot id slot) (place.SetSlot p) S not_yet))
+    (not_live_yet z (v.words area.Pool) (v.words area.Slots 0) a h id slot (I.lines a S.there) S.left (ap (λ (l : Line). l.command) (sym S.next) ∙ S.command_is) R P.low (none_done z v a line (SetSlot id slot) p S not_yet))

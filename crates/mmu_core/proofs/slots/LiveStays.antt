@@ -34,7 +34,7 @@ use Rattle.mmu_core.specs.invariant.TreePart.{IsLiveIn}
 use Rattle.mmu_core.specs.machine.View.{View, part_stepped, stepped, words_after}
 use Rattle.mmu_core.proofs.lines.ClaimMade.{claim_never}
 use Rattle.mmu_core.proofs.machine.PartStepping.{IsPart, is_publish}
-use Rattle.mmu_core.proofs.words.PartWords.{areas_stay, fill_elsewhere, role_stays, slots_are, slots_other_role, slots_same}
+use Rattle.mmu_core.proofs.words.PartWords.{fill_elsewhere}
 use Rattle.mmu_core.proofs.lines.ShareMade.{share_never}
 use Rattle.mmu_core.proofs.words.SlotFields.{is_number, same_slot}
 
@@ -48,10 +48,13 @@ module _ (set : ℕ) (before after : ℕ → ℕ) (id : ℕ) (stays : LiveStays 
   still_live = ap flags_live (stays.each id Flags low live) ∙ live
 
   pub slot_stays : slot_at after set id ≡ slot_at before set id
-  slot_stays = same_slot (slot_at after set id) (slot_at before set id) (stays.each id Base low live) (stays.each id Pages low live) (stays.each id Host low live) (ap flags_read_only (stays.each id Flags low live))
+  slot_stays =
+      same_slot (slot_at after set id) (slot_at before set id) (stays.each id Base low live) (stays.each id Pages low live) (stays.each id Host low live) (ap flags_read_only (stays.each id Flags low live))
 
-pub live_in_stays : (set : ℕ) (before after : ℕ → ℕ) (id : ℕ) (slot : SlotOf) → LiveStays set before after → IsLiveIn before set id slot → IsLiveIn after set id slot
-live_in_stays set before after id slot stays L = record { low = L.low; live = still_live set before after id stays L.low L.live; is = slot_stays set before after id stays L.low L.live ∙ L.is }
+pub live_in_stays : (set : ℕ) (before after : ℕ → ℕ) (id : ℕ) (slot : SlotOf) → LiveStays set before after → IsLiveIn before set id slot
+    → IsLiveIn after set id slot
+live_in_stays set before after id slot stays L =
+    record { low = L.low; live = still_live set before after id stays L.low L.live; is = slot_stays set before after id stays L.low L.live ∙ L.is }
 
 -- Each word of a page is as it was.
 abbrev pub SetStays : ℕ → (ℕ → ℕ) → (ℕ → ℕ) → Type 0
@@ -65,11 +68,14 @@ abbrev pub OwnedStays : (ℕ → ℕ) → (ℕ → ℕ) → Held → Type 0
 OwnedStays before after h = (o : OwnedPage) → h.topics.owned ≡ Some o → SetStays o.page before after
 
 -- No step of a part stores in the published slot set.
-pub published_stays : (z : Sizes) (v : View) (a : ℕ) (step : PartStep) (note : ℕ) → IsPart z v a step → TopicsInvariant z v → SetStays (v.words area.Slots 0) (v.words area.Pool) ((part_stepped a step note v).words area.Pool)
+pub published_stays : (z : Sizes) (v : View) (a : ℕ) (step : PartStep) (note : ℕ) → IsPart z v a step → TopicsInvariant z v
+    → SetStays (v.words area.Slots 0) (v.words area.Pool) ((part_stepped a step note v).words area.Pool)
 published_stays z v a step note S I = fill_elsewhere z v a step note S I
 
-pub part_live_stays : (z : Sizes) (v : View) (a : ℕ) (step : PartStep) (note : ℕ) → IsPart z v a step → TopicsInvariant z v → LiveStays (v.words area.Slots 0) (v.words area.Pool) ((part_stepped a step note v).words area.Pool)
-part_live_stays z v a step note S I = words_live (v.words area.Slots 0) (v.words area.Pool) ((part_stepped a step note v).words area.Pool) (published_stays z v a step note S I)
+pub part_live_stays : (z : Sizes) (v : View) (a : ℕ) (step : PartStep) (note : ℕ) → IsPart z v a step → TopicsInvariant z v
+    → LiveStays (v.words area.Slots 0) (v.words area.Pool) ((part_stepped a step note v).words area.Pool)
+part_live_stays z v a step note S I =
+    words_live (v.words area.Slots 0) (v.words area.Pool) ((part_stepped a step note v).words area.Pool) (published_stays z v a step note S I)
 
 -- The step of a part that an access makes at a place, if it makes one, is one that its actor may make.
 abbrev pub MakesParts : Sizes → View → ℕ → AccessPlace → ℕ → Type 0
@@ -88,7 +94,8 @@ behind_access P v a line p gfn word op part touch = by (access_part p gfn h.topi
     index : ℕ
     index = content_index (map_of h.state.sizes) (frame_in h.state.leaf) word
 
-    by : (o : Option PartStep) → ((step : PartStep) → o ≡ Some step → P (part_stepped a step (access_note p) v).words) → P (words_after (task_by o h (access_note p) (touch_of op index)) v.words)
+    by : (o : Option PartStep) → ((step : PartStep) → o ≡ Some step → P (part_stepped a step (access_note p) v).words)
+        → P (words_after (task_by o h (access_note p) (touch_of op index)) v.words)
     by None each = touch index
     by (Some step) each = each step refl
 
@@ -97,15 +104,15 @@ pub touch_leaves_pool : (words : Area → ℕ → ℕ) (op : Op) (index : ℕ) �
 touch_leaves_pool words Read index = refl
 touch_leaves_pool words _ index = refl
 
-touch_leaves_slots : (words : Area → ℕ → ℕ) (op : Op) (index : ℕ) → words_after (touch_of op index) words area.Slots ≡ words area.Slots
+pub touch_leaves_slots : (words : Area → ℕ → ℕ) (op : Op) (index : ℕ) → words_after (touch_of op index) words area.Slots ≡ words area.Slots
 touch_leaves_slots words Read index = refl
 touch_leaves_slots words _ index = refl
 
-touch_leaves_role : (words : Area → ℕ → ℕ) (op : Op) (index : ℕ) → words_after (touch_of op index) words area.Role ≡ words area.Role
+pub touch_leaves_role : (words : Area → ℕ → ℕ) (op : Op) (index : ℕ) → words_after (touch_of op index) words area.Role ≡ words area.Role
 touch_leaves_role words Read index = refl
 touch_leaves_role words _ index = refl
 
-touch_leaves_host : (words : Area → ℕ → ℕ) (op : Op) (index : ℕ) → words_after (touch_of op index) words area.Host ≡ words area.Host
+pub touch_leaves_host : (words : Area → ℕ → ℕ) (op : Op) (index : ℕ) → words_after (touch_of op index) words area.Host ≡ words area.Host
 touch_leaves_host words Read index = refl
 touch_leaves_host words _ index = refl
 
@@ -142,32 +149,3 @@ access_never p gfn t step is = by (access_part p gfn t) step is (none p)
     none : (p : AccessPlace) → never (access_part p gfn t) ≡ false
     none (access.Fault p) = never_by_fault p gfn t
     none _ = refl
-
-module _ (z : Sizes) (v : View) (a : ℕ) (line : Line) (p : AccessPlace) (gfn word : ℕ) (op : Op) (makes : MakesParts z v a p gfn) (I : TopicsInvariant z v) where
-  abbrev behind : Area → ℕ → ℕ
-  behind = (stepped a line (Access gfn word op) (place.Access p) v).words
-
-  pub access_set_stays : SetStays (v.words area.Slots 0) (v.words area.Pool) (behind area.Pool)
-  access_set_stays =
-      behind_access (λ words. SetStays (v.words area.Slots 0) (v.words area.Pool) (words area.Pool)) v a line p gfn word op (λ step note at. published_stays z v a step note (makes step at) I)
-      (λ index j low. ap (λ (pool : ℕ → ℕ). pool (pool_index (v.words area.Slots 0) j)) (touch_leaves_pool v.words op index))
-
-  pub access_live_stays : LiveStays (v.words area.Slots 0) (v.words area.Pool) (behind area.Pool)
-  access_live_stays =
-      behind_access (λ words. LiveStays (v.words area.Slots 0) (v.words area.Pool) (words area.Pool)) v a line p gfn word op (λ step note at. part_live_stays z v a step note (makes step at) I)
-      (λ index. record { each = λ id f low live. ap (λ (pool : ℕ → ℕ). pool (slot_index (v.words area.Slots 0) id f)) (touch_leaves_pool v.words op index) })
-
-  pub access_slots_stay : behind area.Slots 0 ≡ v.words area.Slots 0
-  access_slots_stay =
-      behind_access (λ words. words area.Slots 0 ≡ v.words area.Slots 0) v a line p gfn word op
-      (λ step note at. slots_are v a step note ∙ slots_same step (v.hand a).topics (v.words area.Slots 0) (access_never p gfn (v.hand a).topics step at))
-      (λ index. ap (λ (slots : ℕ → ℕ). slots 0) (touch_leaves_slots v.words op index))
-
-  pub access_role_stays : behind area.Role (v.words area.Slots 0) ≡ v.words area.Role (v.words area.Slots 0)
-  access_role_stays =
-      behind_access (λ words. words area.Role (v.words area.Slots 0) ≡ v.words area.Role (v.words area.Slots 0)) v a line p gfn word op
-      (λ step note at. role_stays z v a step note (makes step at) (v.words area.Slots 0) (slots_other_role z v a step (makes step at) I))
-      (λ index. ap (λ (role : ℕ → ℕ). role (v.words area.Slots 0)) (touch_leaves_role v.words op index))
-
-  pub access_host_stays : ◌≡◌ {A = ℕ → ℕ} (behind area.Host) (v.words area.Host)
-  access_host_stays = behind_access (λ words. ◌≡◌ {A = ℕ → ℕ} (words area.Host) (v.words area.Host)) v a line p gfn word op (λ step note at. areas_stay v a step note area.Host refl) (touch_leaves_host v.words op)

@@ -2,42 +2,26 @@
 use Rattle.std.proofs.Common.{◌≡◌, ◌≢◌, ◌⊎◌, inl, inr, ◌<◌, ◌≤◌, ◌+◌, ◌*◌, ◌/◌, ◌%◌, ℕ, zero, suc, [], ◌∷◌, ◌++◌, refl, sym, ap, ◌∙◌, arith}
 use Rattle.std.proofs.lemmas.Bool.Decides.{nat_tests}
 use Rattle.std.specs.Prelude.{Bool, true, false, ◌==◌, if◌then◌else◌, Option, Some, None}
-use Rattle.core_views.specs.declared.place.Place.TheVariants as place
-use Rattle.core_views.specs.declared.place.SetSlotPlace.{SetSlotPlace}
-use Rattle.core_views.specs.declared.place.SetSlotPlace.TheVariants.{Claim, Publish}
 use Rattle.core_views.specs.declared.place.SlotField.{SlotField}
 use Rattle.core_views.specs.declared.place.SlotField.TheVariants as field
-use Rattle.core_views.specs.declared.sizes.Sizes.{Sizes}
 use Rattle.core_views.specs.declared.slot_set.MemorySlot.{MemorySlot}
 use Rattle.core_views.specs.declared.topics.Topics.{Topics}
-use Rattle.core_views.specs.declared.trace.Command.TheVariants.{SetSlot}
-use Rattle.core_views.specs.declared.trace.Line.{Line}
 use Rattle.core_views.specs.declared.trace.Slot.{Slot}
-use Rattle.core_views.specs.Held.{Held}
 use Rattle.core_views.specs.Refusals.{after_set, is_logged}
 use Rattle.core_views.specs.SlotSets.{MemorySlots, slot_at as recorded_at, with_slot_at}
-use Rattle.spte_words.specs.declared.area.Area.TheVariants as area
 use Rattle.spte_words.specs.Areas.{pool_index}
 use Rattle.spte_words.specs.Flags.{flags_live, flags_logged, flags_read_only}
 use Rattle.spte_words.proofs.ReadsFlags.{flags_are_live, flags_are_logged, flags_are_read_only}
-use Rattle.mmu_core.specs.lines.FaultSteps.{claim_part}
-use Rattle.mmu_core.specs.invariant.Invariant.{Invariant, IsLiveIn, RecordPart}
+use Rattle.mmu_core.specs.invariant.Invariant.{IsLiveIn, RecordPart}
 use Rattle.part_steps.specs.PartTasks.{page_owned}
 use Rattle.part_steps.specs.PartHoldings.{OwnsSet}
 use Rattle.mmu_core.proofs.pages.Owned.{set_owned}
-use Rattle.mmu_core.specs.lines.SetSlotSteps.{set_slot_part}
 use Rattle.part_steps.specs.SetWords.{IsFilledWith, set_word, word_of_slot}
 use Rattle.part_steps.specs.SlotWords.{field_number, live_at, memory_slot_at, memory_slots_below, slot_at, slot_index}
-use Rattle.mmu_core.specs.machine.View.{View}
-use Rattle.mmu_core.proofs.slots.Accepted.{may_be_set, record_of}
 use Rattle.mmu_core.proofs.machine.Columns.{same_or}
-use Rattle.mmu_core.proofs.lines.KnowsKept.{step_knows}
-use Rattle.mmu_core.proofs.lines.ClaimMade.{claim_never}
-use Rattle.mmu_core.proofs.machine.PartStepping.{Replaces, is_publish, replaces_none}
 use Rattle.part_steps.proofs.SetWords.{set_at}
 use Rattle.mmu_core.proofs.words.SlotFields.{is_number, same_slot}
 use Rattle.mmu_core.proofs.words.SlotLists.{one_more_live}
-use Rattle.mmu_core.proofs.machine.Stepping.{IsStep}
 
 -- ---- The record has a slot where the published set has it live.
 
@@ -53,15 +37,18 @@ live_slot pool set id = if live_at pool set id then Some (memory_slot_at pool se
 
 none_from : (pool : ℕ → ℕ) (set n id : ℕ) → n ≤ id → recorded_at id (memory_slots_below pool set n) ≡ None
 none_from pool set zero id le = refl
-none_from pool set (suc n) id le = not_last n id (memory_slot_at pool set n) (memory_slots_below pool set n) (live_at pool set n) (λ e. absurd (omega arith)) ∙ none_from pool set n id (omega arith)
+none_from pool set (suc n) id le =
+    not_last n id (memory_slot_at pool set n) (memory_slots_below pool set n) (live_at pool set n) (λ e. absurd (omega arith)) ∙ none_from pool set n id (omega arith)
 
 -- the last slot of a list, where the others have other IDs
-is_last : (id : ℕ) (m : MemorySlot) (xs : MemorySlots) (b : Bool) → recorded_at id xs ≡ None → recorded_at id (xs ++ (if b then (id, m) ∷ [] else [])) ≡ (if b then Some m else None)
+is_last : (id : ℕ) (m : MemorySlot) (xs : MemorySlots) (b : Bool) → recorded_at id xs ≡ None
+    → recorded_at id (xs ++ (if b then (id, m) ∷ [] else [])) ≡ (if b then Some m else None)
 is_last id m [] true none = grind (arith, nat_tests)
 is_last id m [] false none = refl
 is_last id m (x ∷ xs) b none = by (x.0 == id) none (is_last id m xs b)
   where
-    by : (here : Bool) → (if here then Some x.1 else recorded_at id xs) ≡ None → (recorded_at id xs ≡ None → recorded_at id (xs ++ (if b then (id, m) ∷ [] else [])) ≡ (if b then Some m else None))
+    by : (here : Bool) → (if here then Some x.1 else recorded_at id xs) ≡ None
+        → (recorded_at id xs ≡ None → recorded_at id (xs ++ (if b then (id, m) ∷ [] else [])) ≡ (if b then Some m else None))
         → (if here then Some x.1 else recorded_at id (xs ++ (if b then (id, m) ∷ [] else []))) ≡ (if b then Some m else None)
     by true none rest = absurd (cc none)
     by false none rest = rest none
@@ -70,7 +57,8 @@ listed_at : (pool : ℕ → ℕ) (set n id : ℕ) → id < n → recorded_at id 
 listed_at pool set zero id lt = absurd (omega arith)
 listed_at pool set (suc n) id lt = case (same_or n id) (λ less. listed_at pool set n id less)
   where
-    case : (n ≡ id) ⊎ (n ≢ id) → (id < n → recorded_at id (memory_slots_below pool set n) ≡ live_slot pool set id) → recorded_at id (memory_slots_below pool set (suc n)) ≡ live_slot pool set id
+    case : (n ≡ id) ⊎ (n ≢ id) → (id < n → recorded_at id (memory_slots_below pool set n) ≡ live_slot pool set id)
+        → recorded_at id (memory_slots_below pool set (suc n)) ≡ live_slot pool set id
     case (inl e) before =
         ap (λ k. recorded_at id (memory_slots_below pool set (suc k))) e
         ∙ is_last id (memory_slot_at pool set id) (memory_slots_below pool set id) (live_at pool set id) (none_from pool set id id (omega arith))
@@ -150,7 +138,8 @@ module _ (pool : ℕ → ℕ) (set page id : ℕ) (slot : Slot) (slots : MemoryS
   new_memory_slot = some_memory_slot pool page (after_set id slot slots) filled id low new_one at_id
 
   -- another one is live where it was, and the same
-  as_before : (i : ℕ) → i ≤ 31 → i ≢ id → (live_at pool page i ≡ live_at pool set i) × (live_at pool set i ≡ true → memory_slot_at pool page i ≡ memory_slot_at pool set i)
+  as_before : (i : ℕ) → i ≤ 31 → i ≢ id
+      → (live_at pool page i ≡ live_at pool set i) × (live_at pool set i ≡ true → memory_slot_at pool page i ≡ memory_slot_at pool set i)
   as_before i below apart = by (recorded_at i slots) refl (live_at pool set i) refl (record_at pool set i slots R below)
     where
       same : {x y : MemorySlot} → Some x ≡ Some y → x ≡ y
@@ -159,7 +148,8 @@ module _ (pool : ℕ → ℕ) (set page id : ℕ) (slot : Slot) (slots : MemoryS
       by : (m : Option MemorySlot) → recorded_at i slots ≡ m → (live : Bool) → live_at pool set i ≡ live → recorded_at i slots ≡ live_slot pool set i
           → (live_at pool page i ≡ live_at pool set i) × (live_at pool set i ≡ true → memory_slot_at pool page i ≡ memory_slot_at pool set i)
       by None none true live is = let bad : None ≡ Some (memory_slot_at pool set i) = rw (none, live) at is in absurd (cc bad)
-      by None none false live is = (none_live pool page (after_set id slot slots) filled i below (at_other i apart ∙ none) ∙ sym live, λ on. absurd (cc (on, live)))
+      by None none false live is =
+          (none_live pool page (after_set id slot slots) filled i below (at_other i apart ∙ none) ∙ sym live, λ on. absurd (cc (on, live)))
       by (Some m) some true live is =
           let one : Some m ≡ Some (memory_slot_at pool set i) = rw (some, live) at is in (
             some_live pool page (after_set id slot slots) filled i below m (at_other i apart ∙ some) ∙ sym live,
@@ -187,42 +177,11 @@ module _ (pool : ℕ → ℕ) (set page id : ℕ) (slot : Slot) (slots : MemoryS
       (λ i lt apart. others_live i (omega arith) apart) (λ i lt apart live. (as_before i (omega arith) apart).1 live)
       ∙ ap (λ m. with_slot_at id m (memory_slots_below pool set 32)) new_memory_slot
 
--- ---- A setting that is to publish its page.
+-- ---- A line that is to publish its page.
 
 -- The words of the page that is owned and filled whole.
-pub filled_page : (pool : ℕ → ℕ) (slots : MemorySlots) (t : Topics) → OwnsSet t → IsFilledWith pool slots t.owned → (j : ℕ) → j < 512 → pool (pool_index (page_owned t.owned) j) ≡ set_word slots j
+pub filled_page : (pool : ℕ → ℕ) (slots : MemorySlots) (t : Topics) → OwnsSet t → IsFilledWith pool slots t.owned → (j : ℕ) → j < 512
+    → pool (pool_index (page_owned t.owned) j) ≡ set_word slots j
 filled_page pool slots t O filled j lt =
     let owns = set_owned t O in
     ap (λ k. pool (pool_index k j)) (ap page_owned owns.is) ∙ filled owns.owned owns.is j (omega (arith, owns.whole, lt)) lt
-
-pub setting_filled : (z : Sizes) (v : View) (a : ℕ) (line : Line) (id : ℕ) (slot : Slot) → IsStep z v a line (SetSlot id slot) (place.SetSlot Publish) → Invariant z v
-    → (j : ℕ) → j < 512 → v.words area.Pool (pool_index (page_owned (v.hand a).topics.owned) j) ≡ set_word (after_set id slot (v.hand a).slots) j
-setting_filled z v a line id slot S I =
-    filled_page (v.words area.Pool) (after_set id slot (v.hand a).slots) (v.hand a).topics
-    (step_knows z v a line (SetSlot id slot) (place.SetSlot Publish) S I).1.owns S.holds.filled
-
-publish_replaces : (z : Sizes) (v : View) (a : ℕ) (line : Line) (id : ℕ) (slot : Slot) → IsStep z v a line (SetSlot id slot) (place.SetSlot Publish) → Invariant z v
-    → (i : ℕ) (s : Slot) → IsLiveIn (v.words area.Pool) (v.words area.Slots 0) i s → IsLiveIn (v.words area.Pool) (page_owned (v.hand a).topics.owned) i s
-publish_replaces z v a line id slot S I =
-    let may = may_be_set z v a line id slot Publish S I refl S.holds.accepted in
-    has_each (v.words area.Pool) (v.words area.Slots 0) (page_owned (v.hand a).topics.owned) id slot (v.hand a).slots (record_of z v a line id slot Publish S I) may.low may.not_live
-    (setting_filled z v a line id slot S I)
-
--- A setting publishes at one place alone.
-abbrev pub is_publication : SetSlotPlace → Bool
-is_publication Publish = true
-is_publication _ = false
-
-pub setting_never : (p : SetSlotPlace) (h : Held) (id : ℕ) (slot : Slot) → is_publication p ≡ false → is_publish (set_slot_part p h id slot) ≡ false
-setting_never Publish h id slot other = absurd (cc other)
-setting_never (Claim begun) h id slot other = claim_never begun h.topics.claim
-setting_never _ h id slot other = refl
-
--- A slot set that a setting publishes has each slot of the one before it.
-pub setting_replaces : (z : Sizes) (v : View) (a : ℕ) (line : Line) (p : SetSlotPlace) (id : ℕ) (slot : Slot) → IsStep z v a line (SetSlot id slot) (place.SetSlot p) → Invariant z v
-    → Replaces (set_slot_part p (v.hand a) id slot) (v.words area.Pool) (v.words area.Slots 0) (v.hand a).topics
-setting_replaces z v a line Publish id slot S I = publish_replaces z v a line id slot S I
-setting_replaces z v a line (Claim begun) id slot S I =
-    let t : Topics = (v.hand a).topics in
-    replaces_none (claim_part begun t.claim) (v.words area.Pool) (v.words area.Slots 0) t (claim_never begun t.claim)
-setting_replaces z v a line _ id slot S I = tt

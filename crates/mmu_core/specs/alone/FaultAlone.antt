@@ -1,15 +1,14 @@
--- A fault that runs while all other actors rest: what it knows of the words at each place, so that it never waits and never begins
--- anew, and what stands where it ends.
+-- A fault that runs while all other actors rest: what it knows of the words at each place, so that it never begins anew, and what
+-- stands where it ends.
 use Rattle.std.specs.Prelude.{◌≡◌, ◌/◌, ◌^◌, ◌<◌, ℕ, zero, suc, Bool, true, false, Some}
 use Rattle.core_views.specs.declared.place.CheckStage.TheVariants as stage
 use Rattle.core_views.specs.declared.place.FaultEnd.{FaultEnd}
-use Rattle.core_views.specs.declared.place.FaultEnd.TheVariants.{Installed, Mmio, Starved, Retry}
+use Rattle.core_views.specs.declared.place.FaultEnd.TheVariants.{Installed, Mmio, Retry}
 use Rattle.core_views.specs.declared.place.FaultNext.{FaultNext}
 use Rattle.core_views.specs.declared.place.FaultNext.TheVariants.{Goes, Ends}
 use Rattle.core_views.specs.declared.place.FaultPlace.{FaultPlace}
-use Rattle.core_views.specs.declared.place.FaultPlace.TheVariants.{Find, Share, Check, Claim, Fill, Role, Link, Give, Leaf, Unshare, End}
+use Rattle.core_views.specs.declared.place.FaultPlace.TheVariants.{Find, Check, Claim, Fill, Role, Link, Give, Leaf, Unshare, End}
 use Rattle.core_views.specs.declared.sizes.Sizes.{Sizes}
-use Rattle.core_views.specs.declared.topics.Hold.TheVariants.{Loose}
 use Rattle.core_views.specs.declared.topics.Topics.{Topics}
 use Rattle.core_views.specs.Held.{Held}
 use Rattle.core_views.specs.Sizes.{actors_of}
@@ -27,6 +26,8 @@ use Rattle.mmu_core.specs.lines.PartWaits.{part_waits}
 use Rattle.mmu_core.specs.invariant.Laws.{IsSound}
 use Rattle.mmu_core.specs.machine.Machine.{World, hand_in}
 use Rattle.mmu_core.specs.alone.OthersRest.{OthersRest}
+use Rattle.mmu_core.specs.alone.SeenStands.{SeenStands}
+use Rattle.mmu_core.specs.lines.ScanPlaces.{BegunNext, HasBegun}
 use Rattle.part_steps.specs.PartTasks.{entry_index, part_task, table_page}
 use Rattle.part_steps.specs.PartTopics.{part_topics}
 use Rattle.part_steps.specs.SlotWords.{NoneBelow, NoneHasPage}
@@ -52,68 +53,64 @@ pub record LeadsToLeaf (pool : ℕ → ℕ) (level page gfn : ℕ) (write : Bool
 abbrev pub EntryStands : (ℕ → ℕ) → ℕ → Topics → Type 0
 EntryStands pool gfn t = pool (pool_index (table_page t.walk) (entry_index gfn t.walk.level)) ≡ t.walk.entry
 
--- The pages that the claim saw free in its word are free still.
-abbrev pub SeenStands : Bool → (ℕ → ℕ) → Topics → Type 0
-SeenStands begun map t = begun ≡ true → 0 < t.claim.seen → map t.claim.at ≡ t.claim.seen
+-- Where a fault has installed an entry, links lead to a leaf that allows the access; where it ends with MMIO, no live slot of the published
+-- set has a page for the access; no fault begins anew.
+abbrev pub EndAlone : FaultEnd → ℕ → ℕ → (ℕ → ℕ) → ℕ → Bool → Type 0
+EndAlone Installed root set pool gfn write = LeadsToLeaf pool 4 root gfn write
+EndAlone Mmio root set pool gfn write = NoneHasPage gfn write pool set
+EndAlone (Retry cause) root set pool gfn write = ⊥
+EndAlone _ root set pool gfn write = Unit {0}
 
--- The words of the map up to this one are 0: no page of theirs is free.
-abbrev pub NoneFreeBefore : (ℕ → ℕ) → ℕ → Type 0
-NoneFreeBefore map word = (i : ℕ) → i < word → map i ≡ 0
+-- What a fault knows of the words at each place, where no other actor is in its way: the slots before its search don't have the guest
+-- frame; the entry that it saw is as it saw it. It never comes to a range of guest frames, since no invalidation is open, and never gives
+-- a page back.
+abbrev pub FaultAlone : FaultPlace → ℕ → ℕ → (ℕ → ℕ) → ℕ → Bool → Topics → Type 0
+FaultAlone (Find begun) root set pool gfn write t = begun ≡ true → (t.search.set ≡ Some set) × NoneBelow gfn pool set t.search.id
+FaultAlone (Check stage.Start) root set pool gfn write t = ⊥
+FaultAlone (Check stage.End) root set pool gfn write t = ⊥
+FaultAlone (Claim begun) root set pool gfn write t = EntryStands pool gfn t
+FaultAlone Fill root set pool gfn write t = EntryStands pool gfn t
+FaultAlone Role root set pool gfn write t = EntryStands pool gfn t
+FaultAlone Link root set pool gfn write t = EntryStands pool gfn t
+FaultAlone Leaf root set pool gfn write t = EntryStands pool gfn t
+FaultAlone (Give e) root set pool gfn write t = ⊥
+FaultAlone (Unshare e) root set pool gfn write t = EndAlone e root set pool gfn write
+FaultAlone (End e) root set pool gfn write t = EndAlone e root set pool gfn write
+FaultAlone _ root set pool gfn write t = Unit {0}
 
--- Behind a fault that has installed an entry, links lead to a leaf that allows the access; one that ends with MMIO leaves no live slot of
--- the published set that has a page for the access; one that is starved saw each word of the map 0, up to where its claim came, and each
--- is; no fault begins anew.
-abbrev pub EndAlone : FaultEnd → ℕ → ℕ → (ℕ → ℕ) → (ℕ → ℕ) → ℕ → Bool → ℕ → Type 0
-EndAlone Installed root set map pool gfn write came = LeadsToLeaf pool 4 root gfn write
-EndAlone Mmio root set map pool gfn write came = NoneHasPage gfn write pool set
-EndAlone Starved root set map pool gfn write came = NoneFreeBefore map came
-EndAlone (Retry cause) root set map pool gfn write came = ⊥
-EndAlone _ root set map pool gfn write came = Unit {0}
+-- what it knows of the words after a step
+abbrev pub AloneNext : FaultNext → ℕ → ℕ → (ℕ → ℕ) → ℕ → Bool → Topics → Type 0
+AloneNext (Goes p) root set pool gfn write t = FaultAlone p root set pool gfn write t
+AloneNext (Ends e) root set pool gfn write t = EndAlone e root set pool gfn write
 
--- What a fault knows of the words at each place, where no other actor is in its way: the slots behind its search don't have the guest
--- frame; the entry and the pages that it saw are as it saw them. It never comes to a range of guest frames, since
--- no invalidation is open, and never gives a page back.
-abbrev pub FaultAlone : FaultPlace → ℕ → ℕ → (ℕ → ℕ) → (ℕ → ℕ) → ℕ → Bool → Topics → Type 0
-FaultAlone (Find begun) root set map pool gfn write t = begun ≡ true → (t.search.set ≡ Some set) × NoneBelow gfn pool set t.search.id
-FaultAlone Share root set map pool gfn write t = t.hold ≡ Loose
-FaultAlone (Check stage.Start) root set map pool gfn write t = ⊥
-FaultAlone (Check stage.End) root set map pool gfn write t = ⊥
-FaultAlone (Claim begun) root set map pool gfn write t = EntryStands pool gfn t × SeenStands begun map t × (begun ≡ true → NoneFreeBefore map t.claim.at)
-FaultAlone Fill root set map pool gfn write t = EntryStands pool gfn t
-FaultAlone Role root set map pool gfn write t = EntryStands pool gfn t
-FaultAlone Link root set map pool gfn write t = EntryStands pool gfn t
-FaultAlone Leaf root set map pool gfn write t = EntryStands pool gfn t
-FaultAlone (Give e) root set map pool gfn write t = ⊥
-FaultAlone (Unshare e) root set map pool gfn write t = EndAlone e root set map pool gfn write t.claim.at
-FaultAlone (End e) root set map pool gfn write t = EndAlone e root set map pool gfn write t.claim.at
-FaultAlone _ root set map pool gfn write t = Unit {0}
-
--- what it knows of the words behind a step
-abbrev pub AloneNext : FaultNext → ℕ → ℕ → (ℕ → ℕ) → (ℕ → ℕ) → ℕ → Bool → Topics → Type 0
-AloneNext (Goes p) root set map pool gfn write t = FaultAlone p root set map pool gfn write t
-AloneNext (Ends e) root set map pool gfn write t = EndAlone e root set map pool gfn write t.claim.at
-
--- A fault of the actor at place a stands at this place of its order, while all other actors rest.
+-- A fault of the actor at place a stands at this place of its order, while all other actors rest; what its actor has seen stands.
 pub record RunsAlone (z : Sizes) (w : World Held) (a : ℕ) (p : FaultPlace) (gfn : ℕ) (write : Bool) : Type 0 where
   pub sound : IsSound z w
   pub others : OthersRest a w
   pub there : a < actors_of z
   pub small : gfn < 2 ^ 36
   pub knows : FaultKnows p z gfn write (hand_in mmu w a).topics
-  pub alone : FaultAlone p (word_in z w area.Root 0) (word_in z w area.Slots 0) (word_in z w area.PoolMap) (word_in z w area.Pool) gfn write (hand_in mmu w a).topics
+  pub seen : SeenStands (HasBegun p) (word_in z w area.PoolMap) (hand_in mmu w a).topics
+  pub alone : FaultAlone p (word_in z w area.Root 0) (word_in z w area.Slots 0) (word_in z w area.Pool) gfn write (hand_in mmu w a).topics
 
--- The step of its place doesn't wait for another actor, and behind it the fault knows of the words what its next place asks.
+-- The step of its place doesn't wait for another actor; after it the fault knows of the words what its next place asks, and what its actor has
+-- seen stands: so where it is starved, each word of the map up to where its claim came is 0.
 pub record GoesThrough (z : Sizes) (words : Area → ℕ → ℕ) (a : ℕ) (t : Topics) (note : ℕ) (p : FaultPlace) (gfn : ℕ) (write : Bool) : Type 0 where
   pub goes : part_waits (fault_part p gfn t) t (answer_in (part_task (fault_part p gfn t) a t note) words) ≡ false
   pub next :
       let step : PartStep = fault_part p gfn t in
       let task : Task = part_task step a t note in
       let found : ℕ = answer_in task words in
-      let behind : Area → ℕ → ℕ = words_after task words in
-      AloneNext (fault_next p z gfn write t found) (behind area.Root 0) (behind area.Slots 0) (behind area.PoolMap) (behind area.Pool) gfn write (part_topics step t found)
+      let after : Area → ℕ → ℕ = words_after task words in
+      AloneNext (fault_next p z gfn write t found) (after area.Root 0) (after area.Slots 0) (after area.Pool) gfn write (part_topics step t found)
+  pub seen :
+      let step : PartStep = fault_part p gfn t in
+      let task : Task = part_task step a t note in
+      let found : ℕ = answer_in task words in
+      SeenStands (BegunNext (fault_next p z gfn write t found)) (words_after task words area.PoolMap) (part_topics step t found)
 
--- A fault alone goes through: no step of it waits, it never begins anew, where it ends with an entry installed, links lead from the root to
--- a leaf that allows the access, and where it ends with MMIO, no slot has a page for the access.
+-- A fault alone goes through: no step of it waits, it never begins anew; where it ends with an entry installed, links lead from the root to
+-- a leaf that allows the access; where it ends with MMIO, no slot has a page for the access; and it is starved only where no page is free.
 abbrev pub FaultGoesThrough : Type 0
 FaultGoesThrough =
     (z : Sizes) (w : World Held) (a gfn note : ℕ) (write : Bool) (p : FaultPlace) → RunsAlone z w a p gfn write

@@ -15,11 +15,12 @@ use Rattle.spte_words.specs.Areas.{words_of_bits}
 use Rattle.mmu_core.specs.declared.outcome.Outcome.{Outcome}
 use Rattle.mmu_core.specs.declared.outcome.Outcome.TheVariants.{Goes, Ends}
 use Rattle.mmu_core.specs.alone.AloneKnows.{AloneKnows}
-use Rattle.mmu_core.specs.lines.Bounds.{most_steps, steps_left}
+use Rattle.mmu_core.specs.lines.Bounds.{most_steps}
+use Rattle.mmu_core.specs.lines.Forms.{steps_left}
 pub use Rattle.mmu_core.specs.lines.Delays.{line_waits}
 use Rattle.mmu_core.specs.machine.Enabled.{mmu}
 use Rattle.mmu_core.specs.machine.NextSteps.{HasLineThatFits}
-use Rattle.mmu_core.specs.alone.FaultAlone.{NoneFreeBefore}
+use Rattle.mmu_core.specs.alone.SeenStands.{NoneFreeBefore}
 use Rattle.mmu_core.specs.invariant.Laws.{IsSound}
 use Rattle.mmu_core.specs.machine.Machine.{Legal, May, Step, World, answered, effect, hand_in, run}
 use Rattle.mmu_core.specs.alone.OthersRest.{OthersRest, HoldsNothing}
@@ -28,9 +29,9 @@ use Rattle.mmu_core.specs.machine.Turns.{line_of, outcome_of}
 use Rattle.mmu_core.specs.machine.View.{word_in}
 use Rattle.mmu_core.specs.machine.Worlds.{IsStart}
 
--- the most steps that the hand's line has left, where nobody is in its way
+-- the most steps that the hand's line has left, where nobody is in its way: those from its first place on, where it hasn't begun
 abbrev pub hand_left : Held → ℕ
-hand_left h = steps_left h.state.place h.state.sizes h.topics
+hand_left h = steps_left (place_at h.state.place h) h.state.sizes h.topics
 
 -- The actor at place a has a line left, all other actors rest, and the line knows what its place asks.
 pub record LineAlone (z : Sizes) (w : World Held) (a : ℕ) : Type 0 where
@@ -48,7 +49,7 @@ AllRest w = (i : ℕ) → i < length w.hands → HoldsNothing (hand_in mmu w i).
 abbrev pub StarvedOnlyWithout : Answer → Sizes → (ℕ → ℕ) → Type 0
 StarvedOnlyWithout answer z map = answer ≡ Starved → NoneFreeBefore map (words_of_bits z.pool)
 
--- Behind a step the line is alone still, with fewer steps left; or it is answered, all actors rest, and it is starved only where no
+-- After a step the line is alone still, with fewer steps left; or it is answered, all actors rest, and it is starved only where no
 -- page is free.
 abbrev pub ComesNearer : Outcome → Sizes → ℕ → World Held → World Held → Type 0
 ComesNearer (Goes p) z a before after = LineAlone z after a × (hand_left (hand_in mmu after a) < hand_left (hand_in mmu before a))
@@ -67,7 +68,8 @@ LineGoesThrough = (z : Sizes) (w : World Held) (s : Step Kind) → LineAlone z w
 abbrev pub LineBeginsAlone : Type 0
 LineBeginsAlone =
     (z : Sizes) (w : World Held) (a : ℕ) → IsSound z w → OthersRest a w → a < actors_of z → length (hand_in mmu w a).answers < length (hand_in mmu w a).lines
-    → (hand_in mmu w a).state.place ≡ Between → LineAlone z w a × (hand_left (hand_in mmu w a) ≤ most_steps z)
+    → (hand_in mmu w a).state.place ≡ Between
+    → LineAlone z w a × (hand_left (hand_in mmu w a) ≤ most_steps z (line_of (hand_in mmu w a)).command)
 
 -- Some steps of the actor alone, no more than its line has left, lead to a world in which the line is answered and all actors rest.
 pub record EndsAlone (z : Sizes) (w : World Held) (a : ℕ) : Type 0 where
@@ -87,4 +89,5 @@ LineEndsAlone = (z : Sizes) (w : World Held) (a : ℕ) → LineAlone z w a → H
 abbrev pub NoneStarvedAlone : Type 0
 NoneStarvedAlone =
     (h : Header) (lines : List Line) (w : World Held) (ss : List (Step Kind)) (s : Step Kind) (answer : Answer) → IsStart (sizes_of h) lines w → Legal mmu w ss → need h lines ≤ h.pool
-    → LineAlone (sizes_of h) (run mmu w ss) s.actor → May mmu (run mmu w ss) s → outcome_of (hand_in mmu (run mmu w ss) s.actor) (answered mmu (run mmu w ss) s.kind) ≡ Ends answer → answer ≢ Starved
+    → LineAlone (sizes_of h) (run mmu w ss) s.actor → May mmu (run mmu w ss) s
+    → outcome_of (hand_in mmu (run mmu w ss) s.actor) (answered mmu (run mmu w ss) s.kind) ≡ Ends answer → answer ≢ Starved

@@ -9,9 +9,9 @@ use Rattle.mmu_core.specs.machine.View.{View}
 pub use Rattle.mmu_core.specs.invariant.HostWordsPart.{HostWordsPart}
 pub use Rattle.mmu_core.specs.invariant.SlotSetPart.{SlotSetPart, IsLiveIn}
 pub use Rattle.mmu_core.specs.invariant.CachedPart.{CachedPart, IsLeafFor}
-pub use Rattle.mmu_core.specs.lines.KnowsPart.{KnowsPart, LeavesPart}
+pub use Rattle.mmu_core.specs.lines.Forms.{KnowsPart, LeavesPart, Holds}
 pub use Rattle.mmu_core.specs.invariant.LinesPart.{IsSetBy, UnderWay, OwnLines, lines_done}
-pub use Rattle.mmu_core.specs.invariant.LoadsPart.{AccessHolds, FillsSet, Holds}
+pub use Rattle.mmu_core.specs.lines.AccessKnows.{AccessHolds}
 pub use Rattle.mmu_core.specs.invariant.RecordPart.{RecordPart}
 
 -- All parts, of the columns of words and the column of hands; the published slot set stands in this page.

@@ -11,7 +11,7 @@ use Rattle.core_views.specs.declared.trace.Line.{Line}
 use Rattle.core_views.specs.Held.{Held}
 use Rattle.core_views.specs.Sizes.{index_of}
 use Rattle.core_views.specs.Traces.{IsCommandFor, slot_ids}
-use Rattle.mmu_core.specs.lines.KnowsPart.{may_leave}
+use Rattle.mmu_core.specs.lines.Forms.{may_leave}
 use Rattle.mmu_core.specs.machine.Steps.{next_line}
 
 -- A line is under way: it is the hand's next line, which has no answer yet.

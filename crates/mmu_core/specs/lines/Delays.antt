@@ -12,7 +12,7 @@ use Rattle.core_views.specs.Held.{Held}
 use Rattle.mmu_core.specs.declared.outcome.Outcome.{Outcome}
 use Rattle.mmu_core.specs.declared.outcome.Outcome.TheVariants.{Goes}
 use Rattle.part_steps.specs.declared.part_step.PartStep.{PartStep}
-use Rattle.mmu_core.specs.lines.PartAt.{part_at}
+use Rattle.mmu_core.specs.lines.Forms.{part_at}
 use Rattle.mmu_core.specs.lines.PartWaits.{part_waits}
 
 -- The touch of a content word never waits.

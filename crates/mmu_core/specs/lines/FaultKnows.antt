@@ -94,7 +94,8 @@ pub record IsInTheWay (word read seen : ℕ) (z : Sizes) (gfn : ℕ) (walk : Tab
 
 -- Why it is to begin anew: by the words that it loaded.
 abbrev pub HasCause : Cause → Sizes → ℕ → Topics → Type 0
-HasCause (Open count start end_ at) z gfn t = (at ≡ gfn) × (0 < count) × (start ≤ gfn) × (gfn < end_) × (t.invalidations.count ≡ count) × (t.invalidations.start ≡ start) × (t.invalidations.end ≡ end_)
+HasCause (Open count start end_ at) z gfn t =
+    (at ≡ gfn) × (0 < count) × (start ≤ gfn) × (gfn < end_) × (t.invalidations.count ≡ count) × (t.invalidations.start ≡ start) × (t.invalidations.end ≡ end_)
 HasCause (Moved old_ now_) z gfn t = (t.invalidations.snapshot ≡ Some old_) × (t.invalidations.seq ≡ now_) × (now_ ≢ old_)
 HasCause (Entry word read seen) z gfn t = IsInTheWay word read seen z gfn t.walk
 
@@ -105,6 +106,11 @@ EndKnows Mmio z gfn write t = FoundNoPage gfn write t
 EndKnows HostFault z gfn write t = HostForbids gfn write t
 EndKnows Starved z gfn write t = words_of_bits z.pool ≤ t.claim.at
 EndKnows (Retry cause) z gfn write t = HasCause cause z gfn t
+
+-- A page is given back only where the fault is to begin anew.
+abbrev pub IsRetry : FaultEnd → Type 0
+IsRetry (Retry cause) = Unit {0}
+IsRetry _ = ⊥
 
 -- what a fault knows at each place
 abbrev pub FaultKnows : FaultPlace → Sizes → ℕ → Bool → Topics → Type 0
@@ -120,7 +126,7 @@ FaultKnows Fill z gfn write t = Entering gfn write t × SawNone gfn t × HasToFi
 FaultKnows Role z gfn write t = Entering gfn write t × SawNone gfn t × HasRoleToSet t × (is_absent t.owned ≡ true)
 FaultKnows Link z gfn write t = Entering gfn write t × SawNone gfn t × OwnsTable (t.walk.level - 1) t
 FaultKnows Leaf z gfn write t = Entering gfn write t × (t.owned ≡ None) × SawEntry gfn t.walk × (t.walk.level ≡ 1)
-FaultKnows (Give e) z gfn write t = (t.stay ≡ Section) × (t.hold ≡ Shared) × OwnsPage t × EndKnows e z gfn write t
+FaultKnows (Give e) z gfn write t = (t.stay ≡ Section) × (t.hold ≡ Shared) × OwnsPage t × EndKnows e z gfn write t × IsRetry e
 FaultKnows (Unshare e) z gfn write t = InSection t × (t.hold ≡ Shared) × EndKnows e z gfn write t
 FaultKnows (End e) z gfn write t = InSection t × (t.hold ≡ Loose) × EndKnows e z gfn write t
 

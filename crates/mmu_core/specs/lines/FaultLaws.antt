@@ -1,29 +1,22 @@
 -- The order of a fault's steps can be kept, and comes to an end.
-use Rattle.std.specs.Prelude.{◌≡◌, ◌+◌, ◌^◌, ◌<◌, ◌≤◌, ℕ, Bool, true, false}
-use Rattle.core_views.specs.declared.hand.Seen.{Seen}
+use Rattle.std.specs.Prelude.{◌≡◌, ◌+◌, ◌^◌, ◌<◌, ◌≤◌, ℕ, Bool, false}
 use Rattle.core_views.specs.declared.place.FaultPlace.{FaultPlace}
-use Rattle.core_views.specs.declared.place.FaultPlace.TheVariants.{Begin, Claim, Share}
+use Rattle.core_views.specs.declared.place.FaultPlace.TheVariants.{Begin}
 use Rattle.core_views.specs.declared.sizes.Sizes.{Sizes}
 use Rattle.core_views.specs.declared.topics.Topics.{Topics}
 use Rattle.core_views.specs.Held.{Held}
 use Rattle.core_views.specs.Sizes.{AreSizes}
 use Rattle.spte_words.specs.declared.area.Area.{Area}
-use Rattle.spte_words.specs.declared.area.Area.TheVariants as area
-use Rattle.spte_words.specs.Areas.{place}
-use Rattle.spte_words.specs.Bits.{has_bit}
 use Rattle.part_steps.specs.declared.part_step.PartStep.{PartStep}
 use Rattle.part_steps.specs.declared.part_step.PartStep.TheVariants as part
 use Rattle.mmu_core.specs.lines.FaultKnows.{FaultKnows, KnowsNext}
 use Rattle.mmu_core.specs.lines.FaultLeft.{fault_left, next_left}
 use Rattle.mmu_core.specs.lines.FaultSteps.{fault_next, fault_part}
-use Rattle.mmu_core.specs.lines.PartWaits.{part_seen, part_waits}
+use Rattle.mmu_core.specs.lines.PartWaits.{part_waits}
 use Rattle.part_steps.specs.PartBounds.{PartRests}
 use Rattle.part_steps.specs.PartTasks.{part_task}
 use Rattle.part_steps.specs.PartSteps.{PartNeeds}
 use Rattle.part_steps.specs.PartTopics.{part_topics}
-use Rattle.part_steps.specs.Tasks.{map_of}
-use Rattle.part_steps.specs.PageTopics.{tried_bit}
-use Rattle.part_steps.specs.ControlTopics.{has_writer}
 use Rattle.mmu_core.specs.machine.View.{answer_in}
 
 -- what a step of a part can answer: a fill what it stored, and every other step any word
@@ -58,20 +51,6 @@ FaultStepsFall =
     → gfn < 2 ^ 36 → PartRests h → FaultKnows p h.state.sizes gfn write h.topics
     → part_waits (fault_part p gfn h.topics) h.topics v ≡ false
     → next_left (fault_next p h.state.sizes gfn write h.topics v) h.state.sizes (part_topics (fault_part p gfn h.topics) h.topics v) < fault_left p h.state.sizes h.topics
-
--- A step that waits has seen another actor: a writer in the lock's word, or in the word of the map where its claim is that the page which
--- it tried is free no more.
-abbrev pub SawAnother : FaultPlace → Sizes → Topics → Seen → Type 0
-SawAnother Share z t seen = (seen.word ≡ place (map_of z) area.Lock 0) × (has_writer seen.value ≡ true)
-SawAnother (Claim begun) z t seen = (seen.word ≡ place (map_of z) area.PoolMap t.claim.at) × (0 < t.claim.seen) × (has_bit (tried_bit t.claim) seen.value ≡ false)
-SawAnother _ z t seen = ⊥
-
-abbrev pub WaitsSeeAnother : Type 0
-WaitsSeeAnother =
-    (p : FaultPlace) (h : Held) (gfn v : ℕ) (write : Bool)
-    → PartRests h → FaultKnows p h.state.sizes gfn write h.topics
-    → part_waits (fault_part p gfn h.topics) h.topics v ≡ true
-    → SawAnother p h.state.sizes h.topics (part_seen (fault_part p gfn h.topics) h v)
 
 -- A fault has at most so many steps.
 abbrev pub FaultIsBounded : Type 0

@@ -1,5 +1,5 @@
 -- Which steps of the parts wait for another actor, by what their actor holds and what they answer; and what such a step has seen.
-use Rattle.std.specs.Prelude.{ℕ, Bool, true, false, ◌==◌, ◌&&◌, not}
+use Rattle.std.specs.Prelude.{◌≡◌, ◌≢◌, ◌<◌, ℕ, Bool, true, false, ◌==◌, ◌&&◌, not}
 use Rattle.core_views.specs.declared.hand.Seen.{Seen}
 use Rattle.core_views.specs.declared.topics.Checked.{Checked}
 use Rattle.core_views.specs.declared.topics.Checked.TheVariants.{Count}
@@ -10,12 +10,15 @@ use Rattle.core_views.specs.declared.topics.Topics.{Topics}
 use Rattle.core_views.specs.Held.{Held}
 use Rattle.spte_words.specs.declared.area.Area.TheVariants as area
 use Rattle.spte_words.specs.Areas.{place}
+use Rattle.spte_words.specs.Bits.{has_bit}
 use Rattle.part_steps.specs.declared.part_step.PartStep.{PartStep}
 use Rattle.part_steps.specs.declared.part_step.PartStep.TheVariants as part
-use Rattle.part_steps.specs.PageTopics.{is_won}
-use Rattle.part_steps.specs.PartTasks.{part_kind}
+use Rattle.part_steps.specs.PageTopics.{is_won, tried_bit}
+use Rattle.part_steps.specs.PartBounds.{PartRests}
+use Rattle.part_steps.specs.PartSteps.{PartNeeds}
+use Rattle.part_steps.specs.PartTasks.{own_index, part_kind}
 use Rattle.part_steps.specs.Tasks.{map_of}
-use Rattle.part_steps.specs.ControlTopics.{in_section}
+use Rattle.part_steps.specs.ControlTopics.{has_writer, in_section}
 
 -- The actor is to take itself out of the lock's readers: it saw a writer, in this word of the lock.
 abbrev pub is_owing : Hold → Bool
@@ -51,3 +54,26 @@ abbrev pub part_seen : PartStep → Held → ℕ → Seen
 part_seen part.Unshare h v = record { word = place (map_of h.state.sizes) area.Lock 0; value = word_owed h.topics.hold }
 part_seen part.Release h v = record { word = place (map_of h.state.sizes) area.Count 0; value = h.topics.invalidations.count }
 part_seen step h v = record { word = (part_kind h step 0).word; value = v }
+
+-- What a step that waits has seen of another actor: taking itself out of the lock's readers, the lock's word with a writer; a claim, the map's word
+-- without the bit of the page that it tried, which was free; having the lock alone, the lock's word, which isn't 0; giving it back, how many
+-- invalidations are open, above 0; and a watch, the state word of another actor in a section.
+abbrev pub SawAnother : PartStep → Held → Seen → Type 0
+SawAnother part.Unshare h seen = (seen.word ≡ place (map_of h.state.sizes) area.Lock 0) × (has_writer seen.value ≡ true)
+SawAnother part.Claim h seen =
+    (seen.word ≡ place (map_of h.state.sizes) area.PoolMap h.topics.claim.at)
+    × (0 < h.topics.claim.seen)
+    × (has_bit (tried_bit h.topics.claim) seen.value ≡ false)
+SawAnother part.Exclude h seen = (seen.word ≡ place (map_of h.state.sizes) area.Lock 0) × (seen.value ≢ 0)
+SawAnother part.Release h seen = (seen.word ≡ place (map_of h.state.sizes) area.Count 0) × (0 < seen.value)
+SawAnother (part.Watch index) h seen =
+    (seen.word ≡ place (map_of h.state.sizes) area.State index)
+    × (index ≢ own_index h)
+    × (in_section seen.value ≡ true)
+SawAnother _ h seen = ⊥
+
+-- So does each step of a part that waits, whoever makes it, for a line of any form or for none.
+abbrev pub WaitsSeeAnother : Type 0
+WaitsSeeAnother =
+    (step : PartStep) (h : Held) (v : ℕ) → PartRests h → PartNeeds step h → part_waits step h.topics v ≡ true
+    → SawAnother step h (part_seen step h v)

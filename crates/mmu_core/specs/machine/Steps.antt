@@ -1,8 +1,6 @@
 -- What each form of line does, put together: the step that a hand allows, and the hand after it.
 use Rattle.std.specs.Prelude.{ℕ, Bool, true, false, List, [], ◌∷◌, ◌++◌, length, map, slice_get, unwrap_or}
-use Rattle.circular_buffer.specs.Buffer.{Buffer}
 use Rattle.core_views.specs.declared.actor.Actor.TheVariants.{Manager}
-use Rattle.core_views.specs.declared.cache.Translation.{Translation}
 use Rattle.core_views.specs.declared.event.Event.{Event}
 use Rattle.core_views.specs.declared.event.EventKind.{EventKind}
 use Rattle.core_views.specs.declared.event.EventKind.TheVariants.{Begun}
@@ -10,23 +8,17 @@ use Rattle.core_views.specs.declared.hand.State.{State}
 use Rattle.core_views.specs.declared.kind.Kind.{Kind}
 use Rattle.core_views.specs.declared.place.Place.{Place}
 use Rattle.core_views.specs.declared.place.Place.TheVariants as place
-use Rattle.core_views.specs.declared.place.AccessPlace.TheVariants.{Enter}
 use Rattle.core_views.specs.declared.sizes.Sizes.{Sizes}
 use Rattle.core_views.specs.declared.trace.Command.{Command}
-use Rattle.core_views.specs.declared.trace.Command.TheVariants.{Access, SetSlot}
 use Rattle.core_views.specs.declared.trace.Line.{Line}
 use Rattle.core_views.specs.Flat.{no_line}
 use Rattle.core_views.specs.Held.{Held, first_held}
-use Rattle.core_views.specs.Refusals.{set_refusal}
 use Rattle.core_views.specs.SlotSets.{MemorySlots}
-use Rattle.mmu_core.specs.declared.outcome.Outcome.{Outcome}
-use Rattle.mmu_core.specs.declared.outcome.Outcome.TheVariants.{Goes}
 use Rattle.part_steps.specs.declared.task.Task.{Task}
-use Rattle.mmu_core.specs.lines.AccessSteps.{access_caches, access_loads, access_outcome, access_tells}
 use Rattle.mmu_core.specs.lines.Cached.{flushed}
 pub use Rattle.part_steps.specs.PartSteps.{has_line}
 use Rattle.mmu_core.specs.lines.Delays.{counted, delays_counted, is_delay, steps_counted}
-use Rattle.mmu_core.specs.lines.SetSlotSteps.{set_slot_first, set_slot_outcome, set_slot_records, set_slot_tells}
+use Rattle.mmu_core.specs.lines.Forms.{caches_at, first_place, loads_at, outcome_at, records_at, tells_at}
 pub use Rattle.mmu_core.specs.lines.PartAt.{task_at}
 use Rattle.mmu_core.specs.machine.Outcomes.{answering, answers_after, place_after}
 use Rattle.part_steps.specs.TopicSteps.{topics_after}
@@ -40,11 +32,6 @@ abbrev pub line_at : Place → Held → Line
 line_at place.Between h = next_line h
 line_at _ h = h.state.line
 
--- where a line begins
-abbrev pub first_place : Sizes → MemorySlots → Command → Place
-first_place z slots (Access gfn word op) = place.Access (Enter false)
-first_place z slots (SetSlot id slot) = place.SetSlot (set_slot_first (set_refusal z.pages id slot slots))
-
 -- where a line with this command stands, which is at its first place where it hasn't begun
 abbrev pub standing : Place → Sizes → MemorySlots → Command → Place
 standing place.Between z slots command = first_place z slots command
@@ -53,33 +40,6 @@ standing p z slots command = p
 -- where the line of the hand's next step stands
 abbrev pub place_at : Place → Held → Place
 place_at p h = standing p h.state.sizes h.slots (line_at p h).command
-
--- what the state has loaded after it
-abbrev pub loads_at : Place → Command → Held → ℕ → State
-loads_at (place.Access p) (Access gfn word op) h v = access_loads p h gfn op v
-loads_at _ _ h v = h.state
-
--- what is cached after it
-abbrev pub caches_at : Place → Command → Held → ℕ → Buffer Translation
-caches_at (place.Access p) (Access gfn word op) h v = access_caches p h gfn op v
-caches_at _ _ h v = h.cached
-
--- the manager's own record of the slots after it
-abbrev pub records_at : Place → Command → MemorySlots → MemorySlots
-records_at (place.SetSlot p) (SetSlot id slot) slots = set_slot_records p id slot slots
-records_at _ _ slots = slots
-
--- where the line stands after it
-abbrev pub outcome_at : Place → Command → Held → ℕ → Outcome
-outcome_at (place.Access p) (Access gfn word op) h v = access_outcome p h gfn op v
-outcome_at (place.SetSlot p) (SetSlot id slot) h v = set_slot_outcome p h v
-outcome_at p _ h v = Goes p
-
--- what it tells of the line, besides its begin and its answer
-abbrev pub tells_at : Place → Command → Held → ℕ → List EventKind
-tells_at (place.Access p) (Access gfn word op) h v = access_tells p h gfn word op v
-tells_at (place.SetSlot p) (SetSlot id slot) h v = set_slot_tells p h id slot v
-tells_at _ _ h v = []
 
 -- what the hand's next step is to do
 abbrev pub task_of : Held → Task
@@ -120,7 +80,8 @@ held_after line p h k v = record {
 
 -- the hand after a step of a part, which is no line's
 abbrev pub idle_after : Held → Kind → ℕ → Held
-idle_after h k v = record { state = h.state; topics = topics_after h.state.sizes k h.topics v; cached = flushed k h.cached v; slots = h.slots; lines = h.lines; answers = h.answers }
+idle_after h k v =
+    record { state = h.state; topics = topics_after h.state.sizes k h.topics v; cached = flushed k h.cached v; slots = h.slots; lines = h.lines; answers = h.answers }
 
 -- the hand after this step, which answered v: its line's next step where it has a line left, else a step of a part
 abbrev pub next_by : Bool → Held → Kind → ℕ → Held
@@ -140,7 +101,8 @@ event_kinds stood line p h v = beginning stood line ++ (tells_at p line.command 
 
 -- what the hand's next step tells, where it answered v; a step of a part tells nothing
 abbrev pub events_by : Bool → Held → ℕ → List Event
-events_by true h v = map (λ kind. record { actor = h.state.actor; kind = kind }) (event_kinds h.state.place (line_at h.state.place h) (place_at h.state.place h) h v)
+events_by true h v =
+    map (λ kind. record { actor = h.state.actor; kind = kind }) (event_kinds h.state.place (line_at h.state.place h) (place_at h.state.place h) h v)
 events_by false h v = []
 
 unfoldable pub events_of : Held → ℕ → List Event

@@ -8,7 +8,8 @@ use Rattle.core_views.specs.Held.{Held}
 use Rattle.mmu_core.specs.declared.outcome.Outcome.{Outcome}
 use Rattle.mmu_core.specs.declared.outcome.Outcome.TheVariants.{Goes, Ends}
 use Rattle.mmu_core.specs.lines.Rests.{IsUnderWay}
-use Rattle.mmu_core.specs.machine.Steps.{line_at, outcome_at, place_at}
+use Rattle.mmu_core.specs.machine.Steps.{line_at, place_at}
+use Rattle.mmu_core.specs.lines.Forms.{outcome_at}
 
 -- the line that the hand's next step is of
 abbrev pub line_of : Held → Line

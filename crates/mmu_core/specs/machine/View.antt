@@ -14,7 +14,8 @@ use Rattle.part_steps.specs.declared.task.Task.{Task}
 use Rattle.mmu_core.specs.lines.Cached.{flushed}
 use Rattle.mmu_core.specs.machine.Enabled.{mmu}
 use Rattle.mmu_core.specs.machine.Machine.{World, hand_in}
-use Rattle.mmu_core.specs.machine.Steps.{caches_at, idle_after, outcome_at, records_at, state_at, task_at}
+use Rattle.mmu_core.specs.lines.Forms.{caches_at, outcome_at, records_at}
+use Rattle.mmu_core.specs.machine.Steps.{idle_after, state_at, task_at}
 use Rattle.part_steps.specs.PartTasks.{own_index, part_task}
 use Rattle.part_steps.specs.declared.part_step.PartStep.{PartStep}
 use Rattle.mmu_core.specs.machine.Outcomes.{answers_after, place_after}
@@ -47,7 +48,8 @@ stores _ = true
 
 -- the words after a step's task, and what the step answers
 abbrev pub words_after : Task → (Area → ℕ → ℕ) → Area → ℕ → ℕ
-words_after t words = if stores (operation_of t.kind) then put words t.area t.index (word_after (operation_of t.kind) t.expected t.written (words t.area t.index)) else words
+words_after t words =
+    if stores (operation_of t.kind) then put words t.area t.index (word_after (operation_of t.kind) t.expected t.written (words t.area t.index)) else words
 
 abbrev pub answer_in : Task → (Area → ℕ → ℕ) → ℕ
 answer_in t words = word_answered (operation_of t.kind) t.written (words t.area t.index)

@@ -14,7 +14,7 @@ use Rattle.mmu_core.specs.machine.Machine.{May, Step, World, answered, effect, h
 use Rattle.mmu_core.specs.machine.Steps.{held_after, line_at, next_line, place_at}
 use Rattle.mmu_core.specs.machine.Outcomes.{answers_after}
 use Rattle.mmu_core.specs.machine.Turns.{line_of, outcome_of, with_answer}
-use Rattle.mmu_core.proofs.lines.Forms.{some_left}
+use Rattle.mmu_core.proofs.invariant.HandLeft.{hand_some}
 use Rattle.mmu_laws.proofs.alone.AloneRuns.{steps_alone}
 use Rattle.mmu_laws.proofs.steps.CanStep.{may_step}
 use Rattle.mmu_core.proofs.machine.LineRuns.{own_hand}
@@ -48,7 +48,8 @@ module _ (z : Sizes) (w : World Held) (a : ℕ) (L : LineAlone z w a) (has : Has
       let lines : (hand_in mmu after a).lines ≡ h.lines = ap (λ (g : Held). g.lines) hand_is in
       rw (same, lines) has.fits
 
-  ends_on : (o : Outcome) → outcome_of h v ≡ o → ComesNearer o z a w after → ((u : World Held) → hand_left (hand_in mmu u a) < hand_left h → LineAlone z u a → HasLineThatFits (hand_in mmu u a) → EndsAlone z u a) → EndsAlone z w a
+  ends_on : (o : Outcome) → outcome_of h v ≡ o → ComesNearer o z a w after
+      → ((u : World Held) → hand_left (hand_in mmu u a) < hand_left h → LineAlone z u a → HasLineThatFits (hand_in mmu u a) → EndsAlone z u a) → EndsAlone z w a
   ends_on (Goes p) is N further =
       let same : (hand_in mmu after a).answers ≡ h.answers = answers_are (Goes p) is in
       let E : EndsAlone z after a = further after N.1 N.0 (record { left = N.0.left; fits = fits_on same }) in
@@ -64,7 +65,7 @@ module _ (z : Sizes) (w : World Held) (a : ℕ) (L : LineAlone z w a) (has : Has
   ends_on (Ends answer) is N further = record {
     steps = step ∷ [];
     own = All-cons (λ s. s.actor ≡ a) step [] refl (All-nil (λ s. s.actor ≡ a));
-    few = let some = some_left h.state.place h.state.sizes h.topics in omega (arith, some);
+    few = let some = hand_some h in omega (arith, some);
     legal = (may, tt);
     answered = ap (λ (xs : List AnsweredLine). length xs) (answers_are (Ends answer) is) ∙ length-append h.answers (with_answer (line_of h) answer ∷ []);
     sound = N.0;
@@ -72,7 +73,7 @@ module _ (z : Sizes) (w : World Held) (a : ℕ) (L : LineAlone z w a) (has : Has
   }
 
 ends_by : (n : ℕ) (z : Sizes) (w : World Held) (a : ℕ) → hand_left (hand_in mmu w a) ≤ n → LineAlone z w a → HasLineThatFits (hand_in mmu w a) → EndsAlone z w a
-ends_by zero z w a le L has = let some = some_left (hand_in mmu w a).state.place (hand_in mmu w a).state.sizes (hand_in mmu w a).topics in absurd (omega (arith, le, some))
+ends_by zero z w a le L has = let some = hand_some (hand_in mmu w a) in absurd (omega (arith, le, some))
 ends_by (suc n) z w a le L has =
     ends_on z w a L has (outcome_of (hand_in mmu w a) (answered mmu w (next_step z w a).kind)) refl (steps_alone z w (next_step z w a) L (may z w a L has)).nearer (λ u less M more. ends_by n z u a (omega (arith, le, less)) M more)
 

@@ -18,7 +18,7 @@ use Rattle.mmu_core.specs.declared.outcome.Outcome.{Outcome}
 use Rattle.mmu_core.specs.declared.outcome.Outcome.TheVariants.{Ends}
 use Rattle.mmu_core.specs.machine.Enabled.{mmu}
 use Rattle.mmu_laws.specs.pool.Enough.{HasFreePage}
-use Rattle.mmu_core.specs.alone.FaultAlone.{NoneFreeBefore}
+use Rattle.mmu_core.specs.alone.SeenStands.{NoneFreeBefore}
 use Rattle.mmu_core.specs.alone.LineAlone.{ComesNearer, LineAlone}
 use Rattle.mmu_core.specs.machine.Machine.{Legal, May, Step, World, answered, effect, hand_in, run}
 use Rattle.mmu_core.specs.machine.Turns.{outcome_of}
@@ -37,8 +37,10 @@ none_free pages map none F =
     let set = F.free in
     cc (unset, set)
 
-pub none_starved : (h : Header) (lines : List Line) (w : World Held) (ss : List (Step Kind)) (s : Step Kind) (answer : Answer) → IsStart (sizes_of h) lines w → Legal mmu w ss → need h lines ≤ h.pool
-    → LineAlone (sizes_of h) (run mmu w ss) s.actor → May mmu (run mmu w ss) s → outcome_of (hand_in mmu (run mmu w ss) s.actor) (answered mmu (run mmu w ss) s.kind) ≡ Ends answer → answer ≢ Starved
+pub none_starved : (h : Header) (lines : List Line) (w : World Held) (ss : List (Step Kind)) (s : Step Kind) (answer : Answer)
+    → IsStart (sizes_of h) lines w → Legal mmu w ss → need h lines ≤ h.pool
+    → LineAlone (sizes_of h) (run mmu w ss) s.actor → May mmu (run mmu w ss) s
+    → outcome_of (hand_in mmu (run mmu w ss) s.actor) (answered mmu (run mmu w ss) s.kind) ≡ Ends answer → answer ≢ Starved
 none_starved h lines w ss s answer start legal enough L may is starved =
     let z : Sizes = sizes_of h in
     let N : ComesNearer (Ends answer) z s.actor (run mmu w ss) (effect mmu (run mmu w ss) s) = subst (λ (o : Outcome). ComesNearer o z s.actor (run mmu w ss) (effect mmu (run mmu w ss) s)) is (steps_alone z (run mmu w ss) s L may).nearer in

@@ -23,9 +23,9 @@ use Rattle.part_steps.specs.declared.part_step.PartStep.{PartStep}
 use Rattle.part_steps.specs.declared.part_step.PartStep.TheVariants as part
 use Rattle.mmu_core.specs.machine.Enabled.{mmu}
 use Rattle.mmu_core.specs.declared.claim.ClaimNext.{ClaimNext}
-use Rattle.mmu_core.specs.alone.FaultAlone.{EntryStands, GoesThrough, LeadsTo, LeadsToLeaf, RunsAlone}
-use Rattle.mmu_core.specs.lines.FaultKnows.{Entering}
-use Rattle.mmu_core.specs.lines.FaultSteps.{allows_access, claim_next, entry_word, is_owing, share_next, share_part, snapshot_taken, claim_part}
+use Rattle.mmu_core.specs.alone.FaultAlone.{AloneNext, EntryStands, GoesThrough, LeadsTo, LeadsToLeaf, RunsAlone}
+use Rattle.mmu_core.specs.lines.FaultKnows.{Entering, FaultKnows}
+use Rattle.mmu_core.specs.lines.FaultSteps.{allows_access, claim_next, entry_word, fault_next, fault_part, is_owing, share_next, share_part, snapshot_taken, claim_part}
 use Rattle.mmu_core.specs.machine.Machine.{World, hand_in}
 use Rattle.part_steps.specs.PartTasks.{entry_index, leaf_written, page_owned, part_task, table_page, word_looked, words_filled}
 use Rattle.part_steps.specs.PartHoldings.{IsOver, LookedUp, SawEntry, HasToFill}
@@ -36,12 +36,18 @@ use Rattle.mmu_core.specs.invariant.TreePart.{EntryPart, IsLeafAt, TreePart, at,
 use Rattle.mmu_core.proofs.pages.TreePlaces.{all_reached, link_stands}
 use Rattle.mmu_core.specs.machine.View.{answer_in, upd, view, word_in, words_after}
 use Rattle.mmu_core.proofs.invariant.AloneLaws.{lock_free}
-use Rattle.mmu_laws.proofs.alone.ClaimAlone.{claim_comes, claim_goes}
+use Rattle.core_views.specs.declared.topics.Hold.TheVariants.{Loose, Owing}
+use Rattle.mmu_core.proofs.invariant.PartRested.{rests_in}
+use Rattle.mmu_core.proofs.lines.FaultNeeds.{fault_needs}
+use Rattle.mmu_core.proofs.lines.FaultScans.{fault_keeps, fault_tries}
+use Rattle.mmu_core.specs.lines.ScanPlaces.{BegunNext, HasBegun}
+use Rattle.mmu_core.specs.lines.ShareSteps.{is_trying}
+use Rattle.part_steps.specs.PartSteps.{PartNeeds}
+use Rattle.mmu_laws.proofs.alone.PartAlone.{part_goes_alone, seen_on}
 use Rattle.mmu_core.proofs.lines.ClaimMade.{ClaimMade, claim_made}
 use Rattle.mmu_core.proofs.lines.ClaimMade as made
 use Rattle.mmu_core.proofs.machine.Columns.{upd_same}
 use Rattle.mmu_core.proofs.lines.FaultKnown.{allowed_leaf}
-use Rattle.mmu_core.proofs.lines.PartsWait.{share_waits}
 use Rattle.mmu_laws.proofs.alone.FindAlone.{find_goes}
 use Rattle.mmu_laws.proofs.leaves.LeadsDown.{leads_same}
 use Rattle.mmu_core.proofs.slots.LiveStays.{LiveStays}
@@ -55,7 +61,8 @@ use Rattle.core_views.specs.declared.topics.Stay.{Stay}
 use Rattle.mmu_laws.proofs.alone.FaultComes.{host_alone, share_alone, count_alone, seq_alone, installed, walk_alone, claim_alone, fill_alone, link_alone, leaf_alone, is_it}
 
 -- A step of the claim leaves the entry.
-entry_still : (z : Sizes) (gfn : ℕ) (begun : Bool) (t : Topics) (v : ℕ) (words : Area → ℕ → ℕ) (a note : ℕ) (step : PartStep) (next : ClaimNext) (u : Topics) → ClaimMade z begun t v step next u
+entry_still : (z : Sizes) (gfn : ℕ) (begun : Bool) (t : Topics) (v : ℕ) (words : Area → ℕ → ℕ) (a note : ℕ) (step : PartStep) (next : ClaimNext) (u : Topics)
+    → ClaimMade z begun t v step next u
     → EntryStands (words area.Pool) gfn t → EntryStands (words_after (part_task step a t note) words area.Pool) gfn u
 entry_still z gfn begun t v words a note _ _ _ (made.Won tries b some is) stands = stands
 entry_still z gfn begun t v words a note _ _ _ _ stands = stands
@@ -106,19 +113,21 @@ module _ (z : Sizes) (w : World Held) (a gfn note : ℕ) (write : Bool) (p : Fau
       (leads_same R.sound.topics.tree few gfn e 1 page (all_reached R.sound.topics.tree page _ (lowest_over over one)) (lowest_over over one)).above leads
 
   -- a fill leaves the entry
-  fill_leaves_entry : (value : ℕ) → 1 ≤ t.walk.level → HasToFill t → words_after (part_task (part.Fill value) a t note) words area.Pool (pool_index page index) ≡ words area.Pool (pool_index page index)
+  fill_leaves_entry : (value : ℕ) → 1 ≤ t.walk.level → HasToFill t
+      → words_after (part_task (part.Fill value) a t note) words area.Pool (pool_index page index) ≡ words area.Pool (pool_index page index)
   fill_leaves_entry value from F =
       let o = owned_some t F.0 in
       fill_leaves (page_owned t.owned) (words_filled t.owned) value (words area.Pool) page index F.1 (omega arith)
       (λ e d. walks_unowned z (view z w) a R.there R.sound.topics from a o.0 R.there o.1 (sym (ap page_owned o.1) ∙ e))
 
-  -- behind the leaf's exchange
+  -- after the leaf's exchange
   abbrev leafed : ℕ → ℕ
   leafed = words_after (part_task (part.Leaf gfn) a t note) words area.Pool
 
   module _ (E : Entering gfn write t) (saw : SawEntry gfn t.walk) (low : t.walk.level ≡ 1) (stands : EntryStands (words area.Pool) gfn t) where
     stored : leafed ≡ upd (words area.Pool) (pool_index page index) (leaf_written t)
-    stored = ap (λ (b : Bool). upd (words area.Pool) (pool_index page index) (if b then leaf_written t else words area.Pool (pool_index page index))) (is_it (words area.Pool (pool_index page index)) t.walk.entry stands)
+    stored =
+        ap (λ (b : Bool). upd (words area.Pool) (pool_index page index) (if b then leaf_written t else words area.Pool (pool_index page index))) (is_it (words area.Pool (pool_index page index)) t.walk.entry stands)
 
     slots_stay : LiveStays (words area.Slots 0) (words area.Pool) leafed
     slots_stay = record {
@@ -138,7 +147,7 @@ module _ (z : Sizes) (w : World Held) (a gfn note : ℕ) (write : Bool) (p : Fau
 
     leaf_leads : LeadsToLeaf leafed 4 (words area.Root 0) gfn write
     leaf_leads =
-        installed (words area.Root 0) (words area.Slots 0) (words area.PoolMap) leafed gfn write page t.walk.level (leaf_written t) low
+        installed (words area.Root 0) (words area.Slots 0) leafed gfn write page t.walk.level (leaf_written t) low
         (leads_same tree_leafed few gfn (leaf_written t) 1 page (all_reached R.sound.topics.tree page _ (lowest_over saw.over low)) (lowest_over saw.over low)).above
         (ap (λ (pool : ℕ → ℕ). pool (pool_index page index)) stored ∙ upd_same (words area.Pool) (pool_index page index) (leaf_written t))
         (kind_of_leaf 1 (host_frame (word_looked t.host)) (may_write t.search.slot (word_looked t.host)) (host_allows_write (word_looked t.host)) (may_write t.search.slot (word_looked t.host)) (omega arith) (omega arith))
@@ -149,99 +158,119 @@ module _ (z : Sizes) (w : World Held) (a gfn note : ℕ) (write : Bool) (p : Fau
 
 -- ---- each place
 
-pub goes_through : (z : Sizes) (w : World Held) (a gfn note : ℕ) (write : Bool) (p : FaultPlace) → RunsAlone z w a p gfn write → GoesThrough z (word_in z w) a (hand_in mmu w a).topics note p gfn write
-goes_through z w a gfn note write Begin R = record { goes = refl; next = tt }
-goes_through z w a gfn note write Snapshot R = record { goes = refl; next = λ b. absurd (cc b) }
-goes_through z w a gfn note write (Find true) R = record { goes = refl; next = find_goes z w a gfn note write R }
-goes_through z w a gfn note write (Find false) R =
+-- what the fault knows after the step of its place
+abbrev KnowsNext : Sizes → World Held → ℕ → ℕ → ℕ → Bool → FaultPlace → Type 0
+KnowsNext z w a gfn note write p =
+    let t : Topics = (hand_in mmu w a).topics in
+    let task : Task = part_task (fault_part p gfn t) a t note in
+    let found : ℕ = answer_in task (word_in z w) in
+    let after : Area → ℕ → ℕ = words_after task (word_in z w) in
+    AloneNext (fault_next p z gfn write t found) (after area.Root 0) (after area.Slots 0) (after area.Pool) gfn write (part_topics (fault_part p gfn t) t found)
+
+trying_loose : (hold : Hold) → is_trying hold ≡ true → is_owing hold ≡ false → hold ≡ Loose
+trying_loose Loose try_ owes = refl
+trying_loose (Owing word) try_ owes = absurd (cc owes)
+trying_loose _ try_ owes = absurd (cc try_)
+
+next_alone : (z : Sizes) (w : World Held) (a gfn note : ℕ) (write : Bool) (p : FaultPlace) → RunsAlone z w a p gfn write → KnowsNext z w a gfn note write p
+next_alone z w a gfn note write Begin R = tt
+next_alone z w a gfn note write Snapshot R = λ b. absurd (cc b)
+next_alone z w a gfn note write (Find true) R = find_goes z w a gfn note write R
+next_alone z w a gfn note write (Find false) R =
     let hold : Hold = (hand_in mmu w a).topics.hold in
-    record { goes = refl; next = λ b. (ap (λ (x : Stay). if may_search x hold then Some (word_in z w area.Slots 0) else None) R.knows.0.inside.section, λ i lt. absurd (omega (arith, lt))) }
-goes_through z w a gfn note write Host R =
+    λ b. (ap (λ (x : Stay). if may_search x hold then Some (word_in z w area.Slots 0) else None) R.knows.0.inside.section, λ i lt. absurd (omega (arith, lt)))
+next_alone z w a gfn note write Host R =
     let t : Topics = (hand_in mmu w a).topics in
     let step : PartStep = part.Host (page_of t.search.slot gfn) in
     let v : ℕ = answer_in (part_task step a t note) (word_in z w) in
-    record { goes = refl; next = host_alone (word_in z w area.Root 0) (word_in z w area.Slots 0) (word_in z w area.PoolMap) (word_in z w area.Pool) gfn write (write && not (host_allows_write v)) (part_topics step t v) R.knows.0.loose }
-goes_through z w a gfn note write Share R =
+    host_alone (word_in z w area.Root 0) (word_in z w area.Slots 0) (word_in z w area.Pool) gfn write (write && not (host_allows_write v))
+    (part_topics step t v)
+next_alone z w a gfn note write Share R =
     let t : Topics = (hand_in mmu w a).topics in
     let task : Task = part_task (share_part t.hold) a t note in
     let v : ℕ = answer_in task (word_in z w) in
-    let behind : Area → ℕ → ℕ = words_after task (word_in z w) in
-    record {
-      goes = sym (share_waits t.hold t v refl) ∙ ap (λ (x : Hold). is_owing x) R.alone;
-      next =
-          share_alone (behind area.Root 0) (behind area.Slots 0) (behind area.PoolMap) (behind area.Pool) gfn write (share_next t.hold v) (part_topics (share_part t.hold) t v)
-          (share_comes t (word_in z w) a note _ _ _ (share_made t v R.knows.1) R.alone (lock_free z w a R.sound R.there R.others R.alone));
-    }
-goes_through z w a gfn note write (Check stage.Count) R =
+    let after : Area → ℕ → ℕ = words_after task (word_in z w) in
+    let loose : t.hold ≡ Loose = trying_loose t.hold R.knows.1 R.seen.owes_none in
+    share_alone (after area.Root 0) (after area.Slots 0) (after area.Pool) gfn write (share_next t.hold v) (part_topics (share_part t.hold) t v)
+    (share_comes t (word_in z w) a note _ _ _ (share_made t v R.knows.1) loose (lock_free z w a R.sound R.there R.others loose))
+next_alone z w a gfn note write (Check stage.Count) R =
     let t : Topics = (hand_in mmu w a).topics in
     let v : ℕ = word_in z w area.Count 0 in
-    record { goes = refl; next = count_alone (word_in z w area.Root 0) (word_in z w area.Slots 0) (word_in z w area.PoolMap) (word_in z w area.Pool) gfn write v (part_topics part.Count t v) R.sound.none_opened.count }
-goes_through z w a gfn note write (Check stage.Start) R = absurd R.alone
-goes_through z w a gfn note write (Check stage.End) R = absurd R.alone
-goes_through z w a gfn note write (Check stage.Seq) R =
+    count_alone (word_in z w area.Root 0) (word_in z w area.Slots 0) (word_in z w area.Pool) gfn write v (part_topics part.Count t v) R.sound.none_opened.count
+next_alone z w a gfn note write (Check stage.Start) R = absurd R.alone
+next_alone z w a gfn note write (Check stage.End) R = absurd R.alone
+next_alone z w a gfn note write (Check stage.Seq) R =
     let t : Topics = (hand_in mmu w a).topics in
     let v : ℕ = word_in z w area.Seq 0 in
     let snapshot : Option ℕ = t.invalidations.snapshot in
-    record {
-      goes = refl;
-      next =
-          seq_alone (word_in z w area.Root 0) (word_in z w area.Slots 0) (word_in z w area.PoolMap) (word_in z w area.Pool) gfn write snapshot v (Unshare (Retry (Moved (snapshot_taken snapshot) v))) (part_topics part.Seq t v) R.sound.none_opened.seq
-          (R.sound.topics.looks a R.there).snapshot;
-    }
-goes_through z w a gfn note write (Walk false) R = record { goes = refl; next = tt }
-goes_through z w a gfn note write (Walk true) R =
+    seq_alone (word_in z w area.Root 0) (word_in z w area.Slots 0) (word_in z w area.Pool) gfn write snapshot v
+    (Unshare (Retry (Moved (snapshot_taken snapshot) v))) (part_topics part.Seq t v)
+    R.sound.none_opened.seq (R.sound.topics.looks a R.there).snapshot
+next_alone z w a gfn note write (Walk false) R = tt
+next_alone z w a gfn note write (Walk true) R =
     let t : Topics = (hand_in mmu w a).topics in
     let over : IsOver gfn t.walk = R.knows.2 refl in
     let v : ℕ = word_in z w area.Pool (pool_index (table_page t.walk) (entry_index gfn t.walk.level)) in
     let k = kinds z w a gfn note write (Walk true) R (entry_is z w a gfn note write (Walk true) R over.there) in
-    record {
-      goes = refl;
-      next = walk_alone (word_in z w area.Root 0) (word_in z w area.Slots 0) (word_in z w area.PoolMap) (word_in z w area.Pool) gfn write (kind_of t.walk.level v) z t v refl refl (above_now z w a gfn note write (Walk true) R over v) k.0 k.1;
-    }
-goes_through z w a gfn note write (Claim begun) R =
+    walk_alone (word_in z w area.Root 0) (word_in z w area.Slots 0) (word_in z w area.Pool) gfn write (kind_of t.walk.level v) z t v refl refl
+    (above_now z w a gfn note write (Walk true) R over v) k.0 k.1
+next_alone z w a gfn note write (Claim begun) R =
     let t : Topics = (hand_in mmu w a).topics in
-    let small = (R.sound.topics.counters a R.there).seen in
     let step : PartStep = claim_part begun t.claim in
     let task : Task = part_task step a t note in
     let v : ℕ = answer_in task (word_in z w) in
     let after : Area → ℕ → ℕ = words_after task (word_in z w) in
-    let M = claim_made z begun t v in
-    record {
-      goes = claim_goes z begun t (word_in z w) a note small R.alone.1 _ _ _ M;
-      next =
-          claim_alone (after area.Root 0) (after area.Slots 0) (after area.PoolMap) (after area.Pool) gfn write (claim_next begun z t.claim v) z (part_topics step t v) (entry_still z gfn begun t v (word_in z w) a note _ _ _ M R.alone.0)
-          (claim_comes z begun t (word_in z w) a note small R.alone.1 _ _ _ M R.alone.2);
-    }
-goes_through z w a gfn note write Fill R =
+    claim_alone (after area.Root 0) (after area.Slots 0) (after area.Pool) gfn write (claim_next begun z t.claim v) (part_topics step t v)
+    (entry_still z gfn begun t v (word_in z w) a note _ _ _ (claim_made z begun t v) R.alone)
+next_alone z w a gfn note write Fill R =
     let t : Topics = (hand_in mmu w a).topics in
     let step : PartStep = part.Fill 0 in
     let task : Task = part_task step a t note in
-    let behind : Area → ℕ → ℕ = words_after task (word_in z w) in
-    record {
-      goes = refl;
-      next =
-          fill_alone (behind area.Root 0) (behind area.Slots 0) (behind area.PoolMap) (behind area.Pool) gfn write (nat_lt (words_filled t.owned + 1) 512) (part_topics step t (answer_in task (word_in z w)))
-          (fill_leaves_entry z w a gfn note write Fill R 0 R.knows.1.saw.over.there R.knows.2 ∙ R.alone);
-    }
-goes_through z w a gfn note write Role R = record { goes = refl; next = R.alone }
-goes_through z w a gfn note write Link R =
+    let after : Area → ℕ → ℕ = words_after task (word_in z w) in
+    fill_alone (after area.Root 0) (after area.Slots 0) (after area.Pool) gfn write (nat_lt (words_filled t.owned + 1) 512)
+    (part_topics step t (answer_in task (word_in z w)))
+    (fill_leaves_entry z w a gfn note write Fill R 0 R.knows.1.saw.over.there R.knows.2 ∙ R.alone)
+next_alone z w a gfn note write Role R = R.alone
+next_alone z w a gfn note write Link R =
     let t : Topics = (hand_in mmu w a).topics in
     let v : ℕ = word_in z w area.Pool (pool_index (table_page t.walk) (entry_index gfn t.walk.level)) in
-    let behind : Area → ℕ → ℕ = words_after (part_task (part.Link gfn) a t note) (word_in z w) in
-    record {
-      goes = refl;
-      next = link_alone (behind area.Root 0) (behind area.Slots 0) (behind area.PoolMap) (behind area.Pool) gfn write (v == t.walk.entry) (Give (Retry (Entry (entry_word z gfn t.walk) t.walk.entry v))) (part_topics (part.Link gfn) t v) (is_it v t.walk.entry R.alone);
-    }
-goes_through z w a gfn note write (Give e) R = absurd R.alone
-goes_through z w a gfn note write Leaf R =
+    let after : Area → ℕ → ℕ = words_after (part_task (part.Link gfn) a t note) (word_in z w) in
+    link_alone (after area.Root 0) (after area.Slots 0) (after area.Pool) gfn write (v == t.walk.entry)
+    (Give (Retry (Entry (entry_word z gfn t.walk) t.walk.entry v))) (part_topics (part.Link gfn) t v)
+    (is_it v t.walk.entry R.alone)
+next_alone z w a gfn note write (Give e) R = absurd R.alone
+next_alone z w a gfn note write Leaf R =
     let t : Topics = (hand_in mmu w a).topics in
     let v : ℕ = word_in z w area.Pool (pool_index (table_page t.walk) (entry_index gfn t.walk.level)) in
-    let behind : Area → ℕ → ℕ = words_after (part_task (part.Leaf gfn) a t note) (word_in z w) in
-    record {
-      goes = refl;
-      next =
-          leaf_alone (behind area.Root 0) (behind area.Slots 0) (behind area.PoolMap) (behind area.Pool) gfn write (v == t.walk.entry) (Unshare (Retry (Entry (entry_word z gfn t.walk) t.walk.entry v))) (part_topics (part.Leaf gfn) t v) (is_it v t.walk.entry R.alone)
-          (leaf_leads z w a gfn note write Leaf R R.knows.0 R.knows.2 R.knows.3 R.alone);
-    }
-goes_through z w a gfn note write (Unshare e) R = record { goes = ap (λ (x : Hold). is_owing x) R.knows.1; next = R.alone }
-goes_through z w a gfn note write _ R = record { goes = refl; next = R.alone }
+    let after : Area → ℕ → ℕ = words_after (part_task (part.Leaf gfn) a t note) (word_in z w) in
+    leaf_alone (after area.Root 0) (after area.Slots 0) (after area.Pool) gfn write (v == t.walk.entry)
+    (Unshare (Retry (Entry (entry_word z gfn t.walk) t.walk.entry v))) (part_topics (part.Leaf gfn) t v)
+    (is_it v t.walk.entry R.alone) (leaf_leads z w a gfn note write Leaf R R.knows.0 R.knows.2 R.knows.3 R.alone)
+next_alone z w a gfn note write _ R = R.alone
+
+pub goes_through : (z : Sizes) (w : World Held) (a gfn note : ℕ) (write : Bool) (p : FaultPlace) → RunsAlone z w a p gfn write
+    → GoesThrough z (word_in z w) a (hand_in mmu w a).topics note p gfn write
+goes_through z w a gfn note write p R = record {
+  goes = part_goes_alone z w a note R.sound R.others R.there (HasBegun p) R.seen step needs (fault_tries p gfn t);
+  next = next_alone z w a gfn note write p R;
+  seen =
+      seen_on z w a note R.sound R.others R.there (HasBegun p) R.seen (BegunNext (fault_next p z gfn write t v)) step needs (fault_tries p gfn t)
+      (fault_keeps p z gfn write t v R.knows);
+}
+  where
+    h : Held
+    h = hand_in mmu w a
+
+    t : Topics
+    t = h.topics
+
+    step : PartStep
+    step = fault_part p gfn t
+
+    v : ℕ
+    v = answer_in (part_task step a t note) (word_in z w)
+
+    needs : PartNeeds step h
+    needs =
+        fault_needs p h gfn write R.small (rests_in z w a R.sound R.there)
+        (subst (λ (y : Sizes). FaultKnows p y gfn write t) (sym (R.sound.holds.lines a R.there).sizes) R.knows)

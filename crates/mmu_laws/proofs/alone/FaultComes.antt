@@ -7,7 +7,6 @@ use Rattle.core_views.specs.declared.place.FaultEnd.TheVariants.{Installed, Host
 use Rattle.core_views.specs.declared.place.FaultPlace.{FaultPlace}
 use Rattle.core_views.specs.declared.place.FaultPlace.TheVariants.{Share, Check, Walk, Claim, Fill, Role, Leaf, Unshare, End}
 use Rattle.core_views.specs.declared.sizes.Sizes.{Sizes}
-use Rattle.core_views.specs.declared.topics.Hold.TheVariants.{Loose}
 use Rattle.core_views.specs.declared.topics.Topics.{Topics}
 use Rattle.spte_words.specs.declared.spte_kind.SpteKind.{SpteKind}
 use Rattle.spte_words.specs.declared.spte_kind.SpteKind.TheVariants as entry_kind
@@ -22,42 +21,47 @@ use Rattle.mmu_core.specs.lines.FaultSteps.{allows_access, snapshot_taken, walk_
 use Rattle.part_steps.specs.PartTasks.{entry_index, table_page}
 use Rattle.part_steps.specs.WalkTopics.{gone_down, linked_page}
 use Rattle.mmu_core.specs.invariant.TreePart.{stands}
-use Rattle.mmu_laws.proofs.alone.ClaimAlone.{ClaimComes}
 
 -- ---- tests
 
 pub is_it : (v n : ℕ) → v ≡ n → (v == n) ≡ true
 is_it v n e = grind (arith, nat_tests)
 
-module _ (root set : ℕ) (map pool : ℕ → ℕ) (gfn : ℕ) (write : Bool) where
+module _ (root set : ℕ) (pool : ℕ → ℕ) (gfn : ℕ) (write : Bool) where
   -- ---- the host word, the lock and the check
 
-  pub host_alone : (b : Bool) (t : Topics) → t.hold ≡ Loose → FaultAlone (if b then End HostFault else Share) root set map pool gfn write t
-  host_alone true t loose = tt
-  host_alone false t loose = loose
+  pub host_alone : (b : Bool) (t : Topics) → FaultAlone (if b then End HostFault else Share) root set pool gfn write t
+  host_alone true t = tt
+  host_alone false t = tt
 
-  pub share_alone : (next : ShareNext) (u : Topics) → next ≡ shares.Shares → FaultAlone (after_share next) root set map pool gfn write u
+  pub share_alone : (next : ShareNext) (u : Topics) → next ≡ shares.Shares → FaultAlone (after_share next) root set pool gfn write u
   share_alone shares.Shares u is = tt
   share_alone shares.Tries u is = absurd (cc is)
 
-  pub count_alone : (v : ℕ) (u : Topics) → v ≡ 0 → FaultAlone (if v == 0 then Check stage.Seq else Check stage.Start) root set map pool gfn write u
-  count_alone v u none = subst (λ b. FaultAlone (if b then Check stage.Seq else Check stage.Start) root set map pool gfn write u) (sym (is_it v 0 none)) tt
+  pub count_alone : (v : ℕ) (u : Topics) → v ≡ 0 → FaultAlone (if v == 0 then Check stage.Seq else Check stage.Start) root set pool gfn write u
+  count_alone v u none = subst (λ b. FaultAlone (if b then Check stage.Seq else Check stage.Start) root set pool gfn write u) (sym (is_it v 0 none)) tt
 
-  pub seq_alone : (snapshot : Option ℕ) (v : ℕ) (end_ : FaultPlace) (u : Topics) → v ≡ 0 → ((s : ℕ) → snapshot ≡ Some s → s ≤ v) → FaultAlone (if v == snapshot_taken snapshot then Walk false else end_) root set map pool gfn write u
-  seq_alone None v end_ u none most = subst (λ b. FaultAlone (if b then Walk false else end_) root set map pool gfn write u) (sym (is_it v 0 none)) tt
+  pub seq_alone : (snapshot : Option ℕ) (v : ℕ) (end_ : FaultPlace) (u : Topics) → v ≡ 0 → ((s : ℕ) → snapshot ≡ Some s → s ≤ v)
+      → FaultAlone (if v == snapshot_taken snapshot then Walk false else end_) root set pool gfn write u
+  seq_alone None v end_ u none most = subst (λ b. FaultAlone (if b then Walk false else end_) root set pool gfn write u) (sym (is_it v 0 none)) tt
   seq_alone (Some s) v end_ u none most =
-      subst (λ b. FaultAlone (if b then Walk false else end_) root set map pool gfn write u) (sym (is_it v s (let le = most s refl in omega (arith, le, none)))) tt
+      subst (λ b. FaultAlone (if b then Walk false else end_) root set pool gfn write u) (sym (is_it v s (let le = most s refl in omega (arith, le, none)))) tt
 
   -- ---- the walk
 
   -- links lead to an entry of the walk's table, where this is of the lowest level
-  pub installed : (page level e : ℕ) → level ≡ 1 → (LeadsTo pool 1 page gfn e → LeadsTo pool 4 root gfn e) → pool (pool_index page (entry_index gfn level)) ≡ e → kind_of 1 e ≡ entry_kind.Leaf → allows_access write e ≡ true
+  pub installed : (page level e : ℕ) → level ≡ 1 → (LeadsTo pool 1 page gfn e → LeadsTo pool 4 root gfn e)
+      → pool (pool_index page (entry_index gfn level)) ≡ e → kind_of 1 e ≡ entry_kind.Leaf → allows_access write e ≡ true
       → LeadsToLeaf pool 4 root gfn write
-  installed page level e low above is leaf allows = record { entry = e; leads = above (subst (λ l. pool (pool_index page (entry_index gfn l)) ≡ e) low is); leaf = leaf; allows = allows }
+  installed page level e low above is leaf allows =
+      record { entry = e; leads = above (subst (λ l. pool (pool_index page (entry_index gfn l)) ≡ e) low is); leaf = leaf; allows = allows }
 
-  pub walk_leaf : (lowest allows : Bool) (z : Sizes) (t : Topics) (v : ℕ) (end_ : FaultPlace) → (t.walk.level == 1) ≡ lowest → allows_access write v ≡ allows → kind_of t.walk.level v ≡ entry_kind.Leaf → pool (pool_index (table_page t.walk) (entry_index gfn t.walk.level)) ≡ v
-      → (t.walk.level ≡ 1 → LeadsTo pool 1 (table_page t.walk) gfn v → LeadsTo pool 4 root gfn v) → (kind_of t.walk.level v ≡ entry_kind.Leaf → t.walk.level ≡ 1)
-      → FaultAlone (if lowest then (if allows then Unshare Installed else Leaf) else end_) root set map pool gfn write (record t { walk = gone_down None t.walk (entry_index gfn t.walk.level) v })
+  pub walk_leaf : (lowest allows : Bool) (z : Sizes) (t : Topics) (v : ℕ) (end_ : FaultPlace) → (t.walk.level == 1) ≡ lowest
+      → allows_access write v ≡ allows → kind_of t.walk.level v ≡ entry_kind.Leaf → pool (pool_index (table_page t.walk) (entry_index gfn t.walk.level)) ≡ v
+      → (t.walk.level ≡ 1 → LeadsTo pool 1 (table_page t.walk) gfn v → LeadsTo pool 4 root gfn v)
+      → (kind_of t.walk.level v ≡ entry_kind.Leaf → t.walk.level ≡ 1)
+      → FaultAlone (if lowest then (if allows then Unshare Installed else Leaf) else end_) root set pool gfn write
+      (record t { walk = gone_down None t.walk (entry_index gfn t.walk.level) v })
   walk_leaf true true z t v end_ low may leaf is above only =
       let one : t.walk.level ≡ 1 = grind (arith, nat_tests) in
       installed (table_page t.walk) t.walk.level v one (above one) is (subst (λ l. kind_of l v ≡ entry_kind.Leaf) one leaf) may
@@ -65,14 +69,16 @@ module _ (root set : ℕ) (map pool : ℕ → ℕ) (gfn : ℕ) (write : Bool) wh
   walk_leaf false allows z t v end_ low may leaf is above only = let one = only leaf in absurd (grind (arith, nat_tests))
 
   pub walk_none : (lowest : Bool) (t : Topics) (v : ℕ) → pool (pool_index (table_page t.walk) (entry_index gfn t.walk.level)) ≡ v
-      → FaultAlone (if lowest then Leaf else Claim false) root set map pool gfn write (record t { walk = gone_down None t.walk (entry_index gfn t.walk.level) v })
+      → FaultAlone (if lowest then Leaf else Claim false) root set pool gfn write (record t { walk = gone_down None t.walk (entry_index gfn t.walk.level) v })
   walk_none true t v is = is
-  walk_none false t v is = (is, λ b. absurd (cc b), λ b. absurd (cc b))
+  walk_none false t v is = is
 
-  pub walk_alone : (k : SpteKind) (z : Sizes) (t : Topics) (v : ℕ) → kind_of t.walk.level v ≡ k → pool (pool_index (table_page t.walk) (entry_index gfn t.walk.level)) ≡ v
+  pub walk_alone : (k : SpteKind) (z : Sizes) (t : Topics) (v : ℕ) → kind_of t.walk.level v ≡ k
+      → pool (pool_index (table_page t.walk) (entry_index gfn t.walk.level)) ≡ v
       → (t.walk.level ≡ 1 → LeadsTo pool 1 (table_page t.walk) gfn v → LeadsTo pool 4 root gfn v)
       → (kind_of t.walk.level v ≡ entry_kind.Leaf → t.walk.level ≡ 1) → (kind_of t.walk.level v ≢ entry_kind.Frozen)
-      → FaultAlone (walk_next k z gfn write t.walk v) root set map pool gfn write (record t { walk = gone_down (linked_page k) t.walk (entry_index gfn t.walk.level) v })
+      → FaultAlone (walk_next k z gfn write t.walk v) root set pool gfn write
+      (record t { walk = gone_down (linked_page k) t.walk (entry_index gfn t.walk.level) v })
   walk_alone (entry_kind.Table page) z t v is here above only never = tt
   walk_alone entry_kind.Leaf z t v is here above only never = walk_leaf (t.walk.level == 1) (allows_access write v) z t v _ refl refl is here above only
   walk_alone entry_kind.Absent z t v is here above only never = walk_none (t.walk.level == 1) t v here
@@ -80,21 +86,22 @@ module _ (root set : ℕ) (map pool : ℕ → ℕ) (gfn : ℕ) (write : Bool) wh
 
   -- ---- the claim
 
-  pub claim_alone : (next : ClaimNext) (z : Sizes) (u : Topics) → EntryStands pool gfn u → ClaimComes next z map u → FaultAlone (after_claim next) root set map pool gfn write u
-  claim_alone claims.Goes z u still comes = (still, comes.0, λ e. comes.1)
-  claim_alone claims.Got z u still comes = still
-  claim_alone claims.Empty z u still comes = comes.0
+  pub claim_alone : (next : ClaimNext) (u : Topics) → EntryStands pool gfn u → FaultAlone (after_claim next) root set pool gfn write u
+  claim_alone claims.Goes u still = still
+  claim_alone claims.Got u still = still
+  claim_alone claims.Empty u still = tt
 
   -- ---- the stores
 
-  pub fill_alone : (few : Bool) (u : Topics) → EntryStands pool gfn u → FaultAlone (if few then Fill else Role) root set map pool gfn write u
+  pub fill_alone : (few : Bool) (u : Topics) → EntryStands pool gfn u → FaultAlone (if few then Fill else Role) root set pool gfn write u
   fill_alone true u stands = stands
   fill_alone false u stands = stands
 
-  pub link_alone : (won : Bool) (end_ : FaultPlace) (u : Topics) → won ≡ true → FaultAlone (if won then Walk true else end_) root set map pool gfn write u
+  pub link_alone : (won : Bool) (end_ : FaultPlace) (u : Topics) → won ≡ true → FaultAlone (if won then Walk true else end_) root set pool gfn write u
   link_alone true end_ u is = tt
   link_alone false end_ u is = absurd (cc is)
 
-  pub leaf_alone : (won : Bool) (end_ : FaultPlace) (u : Topics) → won ≡ true → LeadsToLeaf pool 4 root gfn write → FaultAlone (if won then Unshare Installed else end_) root set map pool gfn write u
+  pub leaf_alone : (won : Bool) (end_ : FaultPlace) (u : Topics) → won ≡ true → LeadsToLeaf pool 4 root gfn write
+      → FaultAlone (if won then Unshare Installed else end_) root set pool gfn write u
   leaf_alone true end_ u is leads = leads
   leaf_alone false end_ u is leads = absurd (cc is)

@@ -34,7 +34,7 @@ use Rattle.mmu_core.proofs.machine.LineParts.{IsPartKind, IsQuiet, step_kind}
 use Rattle.mmu_core.proofs.machine.LineRuns.{own_hand}
 use Rattle.mmu_laws.proofs.causes.MadeSteps.{Makes, load_finds, made_topics, own_rests, own_sizes, word_on}
 use Rattle.mmu_core.proofs.machine.NextTopics.{next_topics}
-use Rattle.mmu_laws.proofs.causes.NotOpen.{range_not_open, seq_not_open, start_not_open}
+use Rattle.mmu_core.proofs.lines.NotOpen.{range_not_open, seq_not_open, start_not_open}
 use Rattle.mmu_core.proofs.words.PartFits.{part_within_by}
 use Rattle.mmu_core.proofs.held.ClaimGoes.{others_hand}
 
@@ -71,7 +71,8 @@ module _ (z : Sizes) (w : World Held) (ss : List (Step Kind)) (s : Step Kind) (G
 
   -- ---- a step on another area
 
-  off_word : (step : PartStep) (M : Made step) (b : Area) (i : ℕ) → i < size_of (map_of z) b → ((part_task step (own_index h) t M.note).area ≡ b → ⊥) → s.kind.word ≢ place (map_of z) b i
+  off_word : (step : PartStep) (M : Made step) (b : Area) (i : ℕ) → i < size_of (map_of z) b → ((part_task step (own_index h) t M.note).area ≡ b → ⊥)
+      → s.kind.word ≢ place (map_of z) b i
   off_word step M b i inside apart at =
       let same : h.state.sizes ≡ z = own_sizes z u s G may in
       let here : (part_task step (own_index h) t M.note).index < size_of (map_of z) (part_task step (own_index h) t M.note).area =
@@ -84,24 +85,29 @@ module _ (z : Sizes) (w : World Held) (ss : List (Step Kind)) (s : Step Kind) (G
   count_off : (step : PartStep) (M : Made step) → ((part_task step (own_index h) t M.note).area ≡ area.Count → ⊥) → IsOffWord a (count_word z) s
   count_off step M apart mine = off_word step M area.Count 0 (omega arith) apart
 
-  lock_longer : (step : PartStep) (M : Made step) → ((part_task step (own_index h) t M.note).area ≡ area.Lock → ⊥) → SeesHere t → (word : ℕ) → t.hold ≡ Owing word → FoundWriter z a word w Behind
+  lock_longer : (step : PartStep) (M : Made step) → ((part_task step (own_index h) t M.note).area ≡ area.Lock → ⊥) → SeesHere t → (word : ℕ)
+      → t.hold ≡ Owing word → FoundWriter z a word w Behind
   lock_longer step M apart S word is = made_longer (FindsWriter z a word) (IsOffWord a (lock_word z)) w ss s (lock_off step M apart) (S.owing word is)
 
-  count_longer : (step : PartStep) (M : Made step) → ((part_task step (own_index h) t M.note).area ≡ area.Lock → ⊥) → ((part_task step (own_index h) t M.note).area ≡ area.Count → ⊥) → SeesHere t → saw_open t.invalidations ≡ true
+  count_longer : (step : PartStep) (M : Made step) → ((part_task step (own_index h) t M.note).area ≡ area.Lock → ⊥)
+      → ((part_task step (own_index h) t M.note).area ≡ area.Count → ⊥) → SeesHere t → saw_open t.invalidations ≡ true
       → FoundCount z a t.hold t.invalidations.count w Behind
-  count_longer step M no_lock no_count S is = made_longer (LoadsCount z a t.hold t.invalidations.count) (IsOffLockAndCount z a) w ss s (lock_off step M no_lock, count_off step M no_count) (S.counted is)
+  count_longer step M no_lock no_count S is =
+      made_longer (LoadsCount z a t.hold t.invalidations.count) (IsOffLockAndCount z a) w ss s (lock_off step M no_lock, count_off step M no_count) (S.counted is)
 
   abbrev ClaimSaw : ℕ → ℕ → Type 0
   ClaimSaw at seen = Knows (IsOffWord a (pool_word z at)) a (pool_word z at) seen w Behind (effect mmu u s)
 
-  claim_longer : (step : PartStep) (M : Made step) → ((part_task step (own_index h) t M.note).area ≡ area.PoolMap → ⊥) → SeesHere t → 0 < t.claim.seen → ClaimSaw t.claim.at t.claim.seen
+  claim_longer : (step : PartStep) (M : Made step) → ((part_task step (own_index h) t M.note).area ≡ area.PoolMap → ⊥) → SeesHere t → 0 < t.claim.seen
+      → ClaimSaw t.claim.at t.claim.seen
   claim_longer step M apart S some =
       let off : s.kind.word ≢ pool_word z t.claim.at = off_word step M area.PoolMap t.claim.at (S.alone some) apart in
       knows_longer (IsOffWord a (pool_word z t.claim.at)) a (pool_word z t.claim.at) t.claim.seen w ss s may (λ mine. off) (λ mine at. absurd (off at)) (S.claim some)
 
   -- ---- what an actor has seen after a step of a part
 
-  shared_saw : (found_one : Bool) → has_writer v ≡ found_one → Made part.Share → (word : ℕ) → (if found_one then Owing v else Shared) ≡ Owing word → FoundWriter z a word w Behind
+  shared_saw : (found_one : Bool) → has_writer v ≡ found_one → Made part.Share → (word : ℕ) → (if found_one then Owing v else Shared) ≡ Owing word
+      → FoundWriter z a word w Behind
   shared_saw true tells M word is =
       let same : v ≡ word = cc is in
       subst (λ m. FoundWriter z a m w Behind) same (made_now (FindsWriter z a v) (IsOffWord a (lock_word z)) w ss s (writer_found z u s G may M tells))
@@ -118,13 +124,15 @@ module _ (z : Sizes) (w : World Held) (ss : List (Step Kind)) (s : Step Kind) (G
   owing_saw part.Release M S word is = absurd (cc is)
   owing_saw step M S word is = lock_longer step M (λ e. cc e) S word is
 
-  counted_saw : (step : PartStep) → Made step → SeesHere t → saw_open (part_topics step t v).invalidations ≡ true → FoundCount z a (part_topics step t v).hold (part_topics step t v).invalidations.count w Behind
+  counted_saw : (step : PartStep) → Made step → SeesHere t → saw_open (part_topics step t v).invalidations ≡ true
+      → FoundCount z a (part_topics step t v).hold (part_topics step t v).invalidations.count w Behind
   counted_saw part.Count M S is =
       let finds : Finds a (count_word z) v u s = record { by_actor = refl; on = word_on z u s G may part.Count M; finds = load_finds z u s G may part.Count M tt } in
       made_now (LoadsCount z a t.hold v) (IsOffLockAndCount z a) w ss s (record { loads = ap (λ (k : Kind). k.code) M.is; finds = finds; under = refl })
   counted_saw part.RangeStart M S is = let none = start_not_open t.invalidations.checked (not (t.invalidations.count == 0)) in absurd (cc (none, is))
   counted_saw part.RangeEnd M S is = let none = range_not_open t.invalidations.checked (not (t.invalidations.count == 0)) in absurd (cc (none, is))
-  counted_saw part.Seq M S is = let none = seq_not_open t.invalidations.count t.invalidations.checked (not (t.invalidations.count == 0)) in absurd (cc (none, is))
+  counted_saw part.Seq M S is =
+      let none = seq_not_open t.invalidations.count t.invalidations.checked (not (t.invalidations.count == 0)) in absurd (cc (none, is))
   counted_saw part.Enter M S is = absurd (cc is)
   counted_saw part.Leave M S is = absurd (cc is)
   counted_saw part.Begin M S is = absurd (cc is)
@@ -135,7 +143,8 @@ module _ (z : Sizes) (w : World Held) (ss : List (Step Kind)) (s : Step Kind) (G
   counted_saw part.Release M S is = absurd (cc is)
   counted_saw step M S is = count_longer step M (λ e. cc e) (λ e. cc e) S is
 
-  claim_saw : (step : PartStep) → Made step → SeesHere t → 0 < (part_topics step t v).claim.seen → ClaimSaw (part_topics step t v).claim.at (part_topics step t v).claim.seen
+  claim_saw : (step : PartStep) → Made step → SeesHere t → 0 < (part_topics step t v).claim.seen
+      → ClaimSaw (part_topics step t v).claim.at (part_topics step t v).claim.seen
   claim_saw (part.Map word) M S some = mapped_saw z w ss s G may (v == 0) word refl M some
   claim_saw part.Claim M S some = tried_saw z w ss s G may (is_won t.claim v) refl M some
   claim_saw part.Give M S some = absurd (omega (arith, some))
@@ -165,14 +174,16 @@ module _ (z : Sizes) (w : World Held) (ss : List (Step Kind)) (s : Step Kind) (G
 
   -- ---- and after a touch, and another actor's step
 
-  far : (b : Area) (i : ℕ) → number_of b < number_of area.Content → i < size_of (map_of z) b → place (map_of z) area.Content 0 ≤ s.kind.word → s.kind.word ≢ place (map_of z) b i
+  far : (b : Area) (i : ℕ) → number_of b < number_of area.Content → i < size_of (map_of z) b → place (map_of z) area.Content 0 ≤ s.kind.word
+      → s.kind.word ≢ place (map_of z) b i
   far b i before inside from at =
       let ends = areas_apart (map_of z) b area.Content before in
       let here = place_at (map_of z) b i in
       let last = place_at (map_of z) b (size_of (map_of z) b) in
       omega (arith, ends, here, last, inside, from, at)
 
-  same_saw : (actor : ℕ) (t_ : Topics) → ((word : ℕ) → word ≡ lock_word z → IsOffWord actor word s) → IsOffWord actor (count_word z) s → ((i : ℕ) → i < words_of_bits z.pool → IsOffWord actor (pool_word z i) s)
+  same_saw : (actor : ℕ) (t_ : Topics) → ((word : ℕ) → word ≡ lock_word z → IsOffWord actor word s) → IsOffWord actor (count_word z) s
+      → ((i : ℕ) → i < words_of_bits z.pool → IsOffWord actor (pool_word z i) s)
       → ActorSaw z w actor t_ ss u → ActorSaw z w actor t_ Behind (effect mmu u s)
   same_saw actor t_ lock count map S = record {
     owing = λ word is. made_longer (FindsWriter z actor word) (IsOffWord actor (lock_word z)) w ss s (lock (lock_word z) refl) (S.owing word is);
@@ -204,7 +215,8 @@ module _ (z : Sizes) (w : World Held) (ss : List (Step Kind)) (s : Step Kind) (G
       by (inl N) =
           let M : Made N.step = record { note = N.note; is = N.is; needs = N.needs } in
           subst SeesBehind (sym (behind ∙ made_topics h s v N.step M)) (part_saw N.step M S)
-      by (inr Q) = subst SeesBehind (sym (behind ∙ Q.topics v)) (touch_saw (subst (λ (y : Sizes). place (map_of y) area.Content 0 ≤ s.kind.word) (own_sizes z u s G may) Q.content) S)
+      by (inr Q) =
+          subst SeesBehind (sym (behind ∙ Q.topics v)) (touch_saw (subst (λ (y : Sizes). place (map_of y) area.Content 0 ≤ s.kind.word) (own_sizes z u s G may) Q.content) S)
 
   saw_more : (actor : ℕ) → HandSaw actor ss u → HandSaw actor Behind (effect mmu u s)
   saw_more actor S = by (same_or actor s.actor)

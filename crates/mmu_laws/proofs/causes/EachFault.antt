@@ -24,16 +24,16 @@ use Rattle.core_views.specs.Slots.{is_write}
 use Rattle.spte_words.specs.declared.spte_kind.SpteKind.{SpteKind}
 use Rattle.spte_words.specs.declared.spte_kind.SpteKind.TheVariants as entry_kind
 use Rattle.spte_words.specs.Entries.{kind_of}
+use Rattle.mmu_core.proofs.lines.Forms.{other_knows}
 use Rattle.mmu_core.specs.lines.AccessSteps.{access_note, access_outcome, behind_fault, pause_next, walk_next as stay_next}
 use Rattle.mmu_core.specs.lines.Cached.{first_usable}
 use Rattle.mmu_core.specs.machine.Enabled.{IsNext, mmu}
 use Rattle.mmu_core.specs.lines.FaultKnows.{FaultKnows}
 use Rattle.mmu_core.specs.lines.FaultSteps.{allows_access, fault_next, fault_part}
-use Rattle.mmu_core.specs.lines.KnowsPart.{KnowsPart}
+use Rattle.mmu_core.specs.lines.Forms.{KnowsPart, first_place, outcome_at}
 use Rattle.mmu_core.specs.invariant.Laws.{IsSound}
 use Rattle.mmu_core.specs.machine.Machine.{Legal, May, Step, World, answered, effect, hand_in, run}
 use Rattle.part_steps.specs.PartTopics.{part_topics}
-use Rattle.mmu_core.specs.machine.Steps.{first_place, outcome_at}
 use Rattle.mmu_core.specs.machine.Outcomes.{place_after}
 use Rattle.part_steps.specs.TopicSteps.{topics_after}
 use Rattle.mmu_laws.proofs.causes.EachLine.{IsStepAt, LineSights, LinesSee, each_line, step_there}
@@ -52,7 +52,8 @@ NextIs Saw actor (next_of.Ends e) gfn t ss u = Unit {0}
 pub record AreSeen (z : Sizes) (w : World Held) (Saw : Sights) : Type 0 where
   pub begins : (actor gfn : ℕ) (t : Topics) (ss : List (Step Kind)) (u : World Held) → Saw actor Begin gfn t ss u
   pub own : (ss : List (Step Kind)) (s : Step Kind) → IsSound z (run mmu w ss) → May mmu (run mmu w ss) s → (p : FaultPlace) (gfn : ℕ) (write : Bool)
-      → Makes (hand_in mmu (run mmu w ss) s.actor) s (fault_part p gfn (hand_in mmu (run mmu w ss) s.actor).topics) → FaultKnows p z gfn write (hand_in mmu (run mmu w ss) s.actor).topics
+      → Makes (hand_in mmu (run mmu w ss) s.actor) s (fault_part p gfn (hand_in mmu (run mmu w ss) s.actor).topics)
+      → FaultKnows p z gfn write (hand_in mmu (run mmu w ss) s.actor).topics
       → Saw s.actor p gfn (hand_in mmu (run mmu w ss) s.actor).topics ss (run mmu w ss)
       → NextIs Saw s.actor (fault_next p z gfn write (hand_in mmu (run mmu w ss) s.actor).topics (answered mmu (run mmu w ss) s.kind)) gfn
       (part_topics (fault_part p gfn (hand_in mmu (run mmu w ss) s.actor).topics) (hand_in mmu (run mmu w ss) s.actor).topics (answered mmu (run mmu w ss) s.kind)) (ss ++ s ∷ []) (effect mmu (run mmu w ss) s)
@@ -91,7 +92,8 @@ module _ (z : Sizes) (w : World Held) (Saw : Sights) (A : AreSeen z w Saw) (ss :
   same : h.state.sizes ≡ z
   same = own_sizes z u s G may
 
-  over_saw : (n : FaultNext) (gfn word : ℕ) (op : Op) (t : Topics) → NextIs Saw s.actor n gfn t (ss ++ s ∷ []) (effect mmu u s) → SawNow (place_after (behind_fault n)) (Access gfn word op) t
+  over_saw : (n : FaultNext) (gfn word : ℕ) (op : Op) (t : Topics) → NextIs Saw s.actor n gfn t (ss ++ s ∷ []) (effect mmu u s)
+      → SawNow (place_after (behind_fault n)) (Access gfn word op) t
   over_saw (next_of.Goes p) gfn word op t S = S
   over_saw (next_of.Ends Installed) gfn word op t S = tt
   over_saw (next_of.Ends Mmio) gfn word op t S = tt
@@ -116,12 +118,14 @@ module _ (z : Sizes) (w : World Held) (Saw : Sights) (A : AreSeen z w Saw) (ss :
   pause_saw again None gfn word op t = tt
   pause_saw again (Some x) gfn word op t = tt
 
-  stay_saw : (again : Bool) (k : SpteKind) (allowed : Bool) (gfn word : ℕ) (op : Op) (t : Topics) → SawNow (place.Access (stay_next again k allowed)) (Access gfn word op) t
+  stay_saw : (again : Bool) (k : SpteKind) (allowed : Bool) (gfn word : ℕ) (op : Op) (t : Topics)
+      → SawNow (place.Access (stay_next again k allowed)) (Access gfn word op) t
   stay_saw again (entry_kind.Table page) allowed gfn word op t = tt
   stay_saw again entry_kind.Leaf true gfn word op t = tt
   stay_saw again _ _ gfn word op t = tt
 
-  access_saw : (p : AccessPlace) (gfn word : ℕ) (op : Op) → IsStepAt h s (place.Access p) (Access gfn word op) → LineSaw Saw s.actor (place.Access p) (Access gfn word op) h.topics ss u
+  access_saw : (p : AccessPlace) (gfn word : ℕ) (op : Op) → IsStepAt h s (place.Access p) (Access gfn word op)
+      → LineSaw Saw s.actor (place.Access p) (Access gfn word op) h.topics ss u
       → SawNow (place_after (access_outcome p h gfn op v)) (Access gfn word op) behind
   access_saw (access.Pause again) gfn word op K S = pause_saw again (first_usable gfn (is_write op) h.cached.items) gfn word op behind
   access_saw (access.Walk again) gfn word op K S = stay_saw again (kind_of h.topics.walk.level v) (allows_access (is_write op) v) gfn word op behind
@@ -133,7 +137,7 @@ module _ (z : Sizes) (w : World Held) (Saw : Sights) (A : AreSeen z w Saw) (ss :
   line_saw : (p : Place) (c : Command) → IsStepAt h s p c → LineSaw Saw s.actor p c h.topics ss u → SawNow (place_after (outcome_at p c h v)) c behind
   line_saw (place.Access p) (Access gfn word op) K S = access_saw p gfn word op K S
   line_saw place.Between (Access gfn word op) K S = tt
-  line_saw _ (Access gfn word op) K S = absurd K.knows
+  line_saw p (Access gfn word op) K S = absurd (other_knows p gfn word op h tt tt K.knows)
   line_saw _ _ K S = tt
 
 module _ (z : Sizes) (w : World Held) (Saw : Sights) where
@@ -141,11 +145,13 @@ module _ (z : Sizes) (w : World Held) (Saw : Sights) where
   between_saw actor (Access gfn word op) t ss u = tt
   between_saw actor _ t ss u = tt
 
-  first_saw : (actor : ℕ) (y : Sizes) (slots : MemorySlots) (c : Command) (t : Topics) (ss : List (Step Kind)) (u : World Held) → LineSaw Saw actor (first_place y slots c) c t ss u
+  first_saw : (actor : ℕ) (y : Sizes) (slots : MemorySlots) (c : Command) (t : Topics) (ss : List (Step Kind)) (u : World Held)
+      → LineSaw Saw actor (first_place y slots c) c t ss u
   first_saw actor y slots (Access gfn word op) t ss u = tt
   first_saw actor y slots _ t ss u = tt
 
-  others_saw : AreSeen z w Saw → (actor : ℕ) (p : Place) (c : Command) (t : Topics) (ss : List (Step Kind)) (s : Step Kind) → May mmu (run mmu w ss) s → s.actor ≢ actor
+  others_saw : AreSeen z w Saw → (actor : ℕ) (p : Place) (c : Command) (t : Topics) (ss : List (Step Kind)) (s : Step Kind) → May mmu (run mmu w ss) s
+      → s.actor ≢ actor
       → LineSaw Saw actor p c t ss (run mmu w ss) → LineSaw Saw actor p c t (ss ++ s ∷ []) (effect mmu (run mmu w ss) s)
   others_saw A actor (place.Access (access.Fault p)) (Access gfn word op) t ss s may other S = A.others actor p gfn t ss s may other S
   others_saw A actor _ (Access gfn word op) t ss s may other S = tt
@@ -155,8 +161,10 @@ module _ (z : Sizes) (w : World Held) (Saw : Sights) where
   lines_see A = record { between = between_saw; first = first_saw; own = λ ss s G may p c K S. line_saw z w Saw A ss s G may p c K S; others = others_saw A }
 
 -- From every sound world in which no line of the actor is under way: wherever its fault stands behind some steps, it has seen it.
-pub each_fault : (z : Sizes) (w : World Held) (Saw : Sights) → AreSeen z w Saw → (ss : List (Step Kind)) (actor gfn word : ℕ) (op : Op) (p : FaultPlace) → IsSound z w → Legal mmu w ss
-    → (hand_in mmu w actor).state.place ≡ place.Between → (hand_in mmu (run mmu w ss) actor).state.place ≡ place.Access (access.Fault p) → (hand_in mmu (run mmu w ss) actor).state.line.command ≡ Access gfn word op
+pub each_fault : (z : Sizes) (w : World Held) (Saw : Sights) → AreSeen z w Saw
+    → (ss : List (Step Kind)) (actor gfn word : ℕ) (op : Op) (p : FaultPlace) → IsSound z w → Legal mmu w ss
+    → (hand_in mmu w actor).state.place ≡ place.Between → (hand_in mmu (run mmu w ss) actor).state.place ≡ place.Access (access.Fault p)
+    → (hand_in mmu (run mmu w ss) actor).state.line.command ≡ Access gfn word op
     → Saw actor p gfn (hand_in mmu (run mmu w ss) actor).topics ss (run mmu w ss)
 each_fault z w Saw A ss actor gfn word op p G legal idle stands command =
     subst (λ (q : Place). LineSaw Saw actor q (Access gfn word op) (hand_in mmu (run mmu w ss) actor).topics ss (run mmu w ss)) stands
@@ -180,7 +188,8 @@ is_access h q stands K = by h.state.line.command refl (subst (λ (p : Place). Kn
     by _ e K = absurd K
 
 -- The next step of a line at a fault's place is the step of this place.
-pub fault_makes : (h : Held) (s : Step Kind) (p : FaultPlace) (gfn word : ℕ) (op : Op) → IsNext h s.kind → h.state.place ≡ place.Access (access.Fault p) → h.state.line.command ≡ Access gfn word op → Makes h s (fault_part p gfn h.topics)
+pub fault_makes : (h : Held) (s : Step Kind) (p : FaultPlace) (gfn word : ℕ) (op : Op) → IsNext h s.kind
+    → h.state.place ≡ place.Access (access.Fault p) → h.state.line.command ≡ Access gfn word op → Makes h s (fault_part p gfn h.topics)
 fault_makes h s p gfn word op N stands command =
     let S = step_there h s (place.Access (access.Fault p)) (Access gfn word op) N stands command tt in
     record { note = access_note (access.Fault p); is = S.0; needs = S.1 }

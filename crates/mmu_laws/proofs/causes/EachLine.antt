@@ -11,12 +11,12 @@ use Rattle.core_views.specs.Held.{Held}
 use Rattle.core_views.specs.Sizes.{actors_of}
 use Rattle.core_views.specs.SlotSets.{MemorySlots}
 use Rattle.mmu_core.specs.machine.Enabled.{IsNext, mmu}
-use Rattle.mmu_core.specs.lines.KnowsPart.{KnowsPart}
+use Rattle.mmu_core.specs.lines.Forms.{KnowsPart, RestsAt, first_place, outcome_at}
 use Rattle.mmu_core.specs.invariant.Laws.{IsSound}
 use Rattle.mmu_core.specs.invariant.LinesPart.{UnderWay}
 use Rattle.mmu_core.specs.machine.Machine.{Legal, May, Step, World, answered, effect, hand_in, run}
-use Rattle.mmu_core.specs.lines.Rests.{IsUnderWay, RestsAt}
-use Rattle.mmu_core.specs.machine.Steps.{first_place, has_line, line_at, next, outcome_at, place_at, task_at}
+use Rattle.mmu_core.specs.lines.Rests.{IsUnderWay}
+use Rattle.mmu_core.specs.machine.Steps.{has_line, line_at, next, place_at, task_at}
 use Rattle.part_steps.specs.Tasks.{kind_of_task}
 use Rattle.mmu_core.specs.machine.Outcomes.{place_after}
 use Rattle.part_steps.specs.TopicSteps.{topics_after}
@@ -41,8 +41,10 @@ pub record IsStepAt (h : Held) (s : Step Kind) (p : Place) (c : Command) : Type 
 -- Between lines and where a line begins nothing is to be seen; behind its own step a line has seen it; and no other actor's step takes it away.
 pub record LinesSee (z : Sizes) (w : World Held) (Saw : LineSights) : Type 0 where
   pub between : (actor : ℕ) (c : Command) (t : Topics) (ss : List (Step Kind)) (u : World Held) → Saw actor place.Between c t ss u
-  pub first : (actor : ℕ) (y : Sizes) (slots : MemorySlots) (c : Command) (t : Topics) (ss : List (Step Kind)) (u : World Held) → Saw actor (first_place y slots c) c t ss u
-  pub own : (ss : List (Step Kind)) (s : Step Kind) → IsSound z (run mmu w ss) → May mmu (run mmu w ss) s → (p : Place) (c : Command) → IsStepAt (hand_in mmu (run mmu w ss) s.actor) s p c
+  pub first : (actor : ℕ) (y : Sizes) (slots : MemorySlots) (c : Command) (t : Topics) (ss : List (Step Kind)) (u : World Held)
+      → Saw actor (first_place y slots c) c t ss u
+  pub own : (ss : List (Step Kind)) (s : Step Kind) → IsSound z (run mmu w ss) → May mmu (run mmu w ss) s → (p : Place) (c : Command)
+      → IsStepAt (hand_in mmu (run mmu w ss) s.actor) s p c
       → Saw s.actor p c (hand_in mmu (run mmu w ss) s.actor).topics ss (run mmu w ss)
       → Saw s.actor (place_after (outcome_at p c (hand_in mmu (run mmu w ss) s.actor) (answered mmu (run mmu w ss) s.kind))) c
       (topics_after (hand_in mmu (run mmu w ss) s.actor).state.sizes s.kind (hand_in mmu (run mmu w ss) s.actor).topics (answered mmu (run mmu w ss) s.kind)) (ss ++ s ∷ []) (effect mmu (run mmu w ss) s)
@@ -93,7 +95,8 @@ module _ (z : Sizes) (w : World Held) (Saw : LineSights) (L : LinesSee z w Saw) 
 
       by : (b : Bool) → has_line h ≡ b → HandSaw Saw s.actor (ss ++ s ∷ []) (effect mmu u s)
       by true has = of_line has (is_next h s.kind may.enabled has)
-      by false none = to _ (next_of_part h s.kind v none) (idle_saw h.state.place h.state.line.command (topics_after h.state.sizes s.kind h.topics v) none (G.holds.lines s.actor there).under)
+      by false none =
+          to _ (next_of_part h s.kind v none) (idle_saw h.state.place h.state.line.command (topics_after h.state.sizes s.kind h.topics v) none (G.holds.lines s.actor there).under)
 
   one_more : (actor : ℕ) → HandSaw Saw actor ss u → HandSaw Saw actor (ss ++ s ∷ []) (effect mmu u s)
   one_more actor S = by (same_or actor s.actor)
@@ -105,7 +108,8 @@ module _ (z : Sizes) (w : World Held) (Saw : LineSights) (L : LinesSee z w Saw) 
           (L.others actor (hand_in mmu u actor).state.place (hand_in mmu u actor).state.line.command (hand_in mmu u actor).topics ss s may (λ e. apart (sym e)) S)
 
 -- From every sound world in which no line of the actor is under way: wherever its line stands behind some steps, it has seen it.
-pub each_line : (z : Sizes) (w : World Held) (Saw : LineSights) → LinesSee z w Saw → (ss : List (Step Kind)) (actor : ℕ) → IsSound z w → Legal mmu w ss → (hand_in mmu w actor).state.place ≡ place.Between
+pub each_line : (z : Sizes) (w : World Held) (Saw : LineSights) → LinesSee z w Saw → (ss : List (Step Kind)) (actor : ℕ) → IsSound z w
+    → Legal mmu w ss → (hand_in mmu w actor).state.place ≡ place.Between
     → HandSaw Saw actor ss (run mmu w ss)
 each_line z w Saw L ss actor G legal idle =
     of_each_list z w (HandSaw Saw actor) (λ ts s sound may S. one_more z w Saw L ts s sound may actor S) ss G legal
@@ -120,7 +124,8 @@ abbrev IsStepFrom : Held → Step Kind → Place → Type 0
 IsStepFrom h s p = IsStepOf h s (place_at p h) (line_at p h).command
 
 -- It is the step of the line's place.
-pub step_there : (h : Held) (s : Step Kind) (q : Place) (c : Command) → IsNext h s.kind → h.state.place ≡ q → h.state.line.command ≡ c → IsUnderWay q → IsStepOf h s q c
+pub step_there : (h : Held) (s : Step Kind) (q : Place) (c : Command) → IsNext h s.kind → h.state.place ≡ q → h.state.line.command ≡ c → IsUnderWay q
+    → IsStepOf h s q c
 step_there h s q c N stands command under = subst (IsStepOf h s q) command (by q under (subst (IsStepFrom h s) stands (N.is, N.rests.at)))
   where
     by : (p : Place) → IsUnderWay p → IsStepFrom h s p → IsStepOf h s p h.state.line.command

@@ -19,7 +19,7 @@ use Rattle.part_steps.specs.PartTasks.{table_page}
 use Rattle.mmu_laws.specs.causes.Causes.{IsEntryOf}
 use Rattle.mmu_core.specs.machine.Enabled.{mmu}
 use Rattle.mmu_core.specs.lines.FaultKnows.{FaultKnows, HasCause, IsInTheWay}
-use Rattle.mmu_core.specs.lines.KnowsPart.{KnowsPart}
+use Rattle.mmu_core.specs.lines.Forms.{KnowsPart}
 use Rattle.mmu_core.specs.invariant.Laws.{IsSound}
 use Rattle.mmu_core.specs.machine.Machine.{World, hand_in}
 use Rattle.mmu_core.proofs.invariant.PartRested.{rests_in}
@@ -29,7 +29,8 @@ abbrev pub IsOfFrame : Cause → Sizes → ℕ → Type 0
 IsOfFrame (Entry word read seen) z gfn = IsEntryOf z gfn word
 IsOfFrame _ z gfn = Unit {0}
 
-entry_of : (z : Sizes) (h : Held) (word read seen gfn : ℕ) → h.state.sizes ≡ z → PartRests h → IsInTheWay word read seen z gfn h.topics.walk → IsEntryOf z gfn word
+entry_of : (z : Sizes) (h : Held) (word read seen gfn : ℕ) → h.state.sizes ≡ z → PartRests h → IsInTheWay word read seen z gfn h.topics.walk
+    → IsEntryOf z gfn word
 entry_of z h word read seen gfn same R K = record {
   level = h.topics.walk.level;
   from = K.saw.over.there;
@@ -45,7 +46,8 @@ frame_of z gfn (Moved old_ now_) h same R K = tt
 frame_of z gfn (Entry word read seen) h same R K = entry_of z h word read seen gfn same R K
 
 -- So it is with each fault that is about to end its section to begin anew.
-pub cause_of_frame : (z : Sizes) (u : World Held) (actor gfn word : ℕ) (op : Op) (cause : Cause) → IsSound z u → actor < actors_of z → (hand_in mmu u actor).state.place ≡ place.Access (access.Fault (End (Retry cause)))
+pub cause_of_frame : (z : Sizes) (u : World Held) (actor gfn word : ℕ) (op : Op) (cause : Cause) → IsSound z u → actor < actors_of z
+    → (hand_in mmu u actor).state.place ≡ place.Access (access.Fault (End (Retry cause)))
     → (hand_in mmu u actor).state.line.command ≡ Access gfn word op → IsOfFrame cause z gfn
 cause_of_frame z u actor gfn word op cause G there ends command =
     let h : Held = hand_in mmu u actor in

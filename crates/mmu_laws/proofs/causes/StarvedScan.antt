@@ -16,7 +16,8 @@ use Rattle.mmu_core.specs.invariant.Laws.{IsSound}
 use Rattle.mmu_core.specs.invariant.LinesPart.{UnderWay}
 use Rattle.mmu_core.specs.machine.Machine.{Legal, May, Step, World, answered, effect, hand_in, run}
 use Rattle.mmu_core.specs.invariant.Scans.{EndsWithScan, LoadsMap, StarvedLinesScan}
-use Rattle.mmu_core.specs.machine.Steps.{first_place, line_at, outcome_at, place_at, task_of}
+use Rattle.mmu_core.specs.lines.Forms.{first_place, outcome_at}
+use Rattle.mmu_core.specs.machine.Steps.{line_at, place_at, task_of}
 use Rattle.part_steps.specs.Tasks.{kind_of_task}
 use Rattle.part_steps.specs.TopicSteps.{topics_after}
 use Rattle.mmu_core.specs.machine.Turns.{outcome_of}
@@ -31,7 +32,8 @@ use Rattle.mmu_core.proofs.machine.Which.{has_line_is, is_next}
 use Rattle.mmu_core.proofs.machine.Worlds.{good_run, good_step}
 use Rattle.core_views.specs.declared.trace.Line.{Line}
 use Rattle.core_views.specs.Flat.{no_line}
-use Rattle.mmu_laws.proofs.causes.ScanPlaces.{HasScan, IsStarved, own_scans, stands_or_loads, starved_by}
+use Rattle.mmu_core.specs.lines.ScanPlaces.{HasScan}
+use Rattle.mmu_laws.proofs.causes.ScanPlaces.{IsStarved, own_scans, stands_or_loads, starved_by}
 
 -- ---- what is shown of each list of steps
 
@@ -40,13 +42,15 @@ module _ (z : Sizes) (actor : ℕ) where
   abbrev ScanAtPlace : World Held → List (Step Kind) → World Held → Type 0
   ScanAtPlace w ss u = HasScan (hand_in mmu u actor).state.place → EndsWithScan z actor (at_in actor u) w ss
 
-  one_more : (w : World Held) (ss : List (Step Kind)) (s : Step Kind) → IsSound z (run mmu w ss) → May mmu (run mmu w ss) s → ScanAtPlace w ss (run mmu w ss) → ScanAtPlace w (ss ++ s ∷ []) (effect mmu (run mmu w ss) s)
+  one_more : (w : World Held) (ss : List (Step Kind)) (s : Step Kind) → IsSound z (run mmu w ss) → May mmu (run mmu w ss) s
+      → ScanAtPlace w ss (run mmu w ss) → ScanAtPlace w (ss ++ s ∷ []) (effect mmu (run mmu w ss) s)
   one_more w ss s G may S scan = by (same_or actor s.actor)
     where
       u : World Held
       u = run mmu w ss
 
-      of_own : actor ≡ s.actor → HasScan (hand_in mmu u s.actor).state.place ⊎ LoadsMap z s.actor 0 s → EndsWithScan z actor (at_in actor (effect mmu u s)) w (ss ++ s ∷ [])
+      of_own : actor ≡ s.actor → HasScan (hand_in mmu u s.actor).state.place ⊎ LoadsMap z s.actor 0 s
+          → EndsWithScan z actor (at_in actor (effect mmu u s)) w (ss ++ s ∷ [])
       of_own own (inl before) = scan_kept z actor w ss s G may (S (subst (λ i. HasScan (hand_in mmu u i).state.place) (sym own) before))
       of_own own (inr L) = begins_scan z actor w ss s G may (subst (λ i. LoadsMap z i 0 s) (sym own) L)
 
@@ -54,7 +58,8 @@ module _ (z : Sizes) (actor : ℕ) where
       by (inl own) = of_own own (own_scans z u s G may (subst (λ i. HasScan (hand_in mmu (effect mmu u s) i).state.place) own scan))
       by (inr apart) = scan_kept z actor w ss s G may (S (subst (λ (x : Held). HasScan x.state.place) (others_hand u s actor apart) scan))
 
-  all_more : (w : World Held) (ss ts : List (Step Kind)) → IsSound z (run mmu w ss) → Legal mmu (run mmu w ss) ts → ScanAtPlace w ss (run mmu w ss) → ScanAtPlace w (ss ++ ts) (run mmu w (ss ++ ts))
+  all_more : (w : World Held) (ss ts : List (Step Kind)) → IsSound z (run mmu w ss) → Legal mmu (run mmu w ss) ts → ScanAtPlace w ss (run mmu w ss)
+      → ScanAtPlace w (ss ++ ts) (run mmu w (ss ++ ts))
   all_more w ss [] G legal S = subst (λ (l : List (Step Kind)). ScanAtPlace w l (run mmu w l)) (sym (append-nil ss)) S
   all_more w ss (s ∷ ts) G legal S =
       let here : run mmu w (ss ++ s ∷ []) ≡ effect mmu (run mmu w ss) s = run_one_more w ss s in
@@ -65,10 +70,13 @@ module _ (z : Sizes) (actor : ℕ) where
 -- ---- where a line is starved
 
 -- A hand whose step answers a line starved has a line left.
-has_left : (p : Place) (h : Held) (v : ℕ) → UnderWay p h → outcome_at (place_at p h) (line_at p h).command h v ≡ Ends answer.Starved → length h.answers < length h.lines
+has_left : (p : Place) (h : Held) (v : ℕ) → UnderWay p h → outcome_at (place_at p h) (line_at p h).command h v ≡ Ends answer.Starved
+    → length h.answers < length h.lines
 has_left place.Between h v U e = by (slice_get h.lines (length h.answers)) refl e
   where
-    by : (o : Option Line) → slice_get h.lines (length h.answers) ≡ o → outcome_at (first_place h.state.sizes h.slots (unwrap_or o no_line).command) (unwrap_or o no_line).command h v ≡ Ends answer.Starved → length h.answers < length h.lines
+    by : (o : Option Line) → slice_get h.lines (length h.answers) ≡ o
+        → outcome_at (first_place h.state.sizes h.slots (unwrap_or o no_line).command) (unwrap_or o no_line).command h v ≡ Ends answer.Starved
+        → length h.answers < length h.lines
     by None is e = absurd (cc e)
     by (Some line) is e = some_below h.lines (length h.answers) (ap is_some is)
 has_left _ h v U e = U.1
@@ -78,9 +86,11 @@ legal_parts w [] ts legal = (tt, legal)
 legal_parts w (s ∷ ss) ts legal = let more = legal_parts (effect mmu w s) ss ts legal.1 in ((legal.0, more.0), more.1)
 
 -- The step that answers a line starved ends the scan of its claim.
-last_scan : (z : Sizes) (w : World Held) (ss : List (Step Kind)) (s : Step Kind) → IsSound z (run mmu w ss) → May mmu (run mmu w ss) s → outcome_of (hand_in mmu (run mmu w ss) s.actor) (answered mmu (run mmu w ss) s.kind) ≡ Ends answer.Starved
+last_scan : (z : Sizes) (w : World Held) (ss : List (Step Kind)) (s : Step Kind) → IsSound z (run mmu w ss) → May mmu (run mmu w ss) s
+    → outcome_of (hand_in mmu (run mmu w ss) s.actor) (answered mmu (run mmu w ss) s.kind) ≡ Ends answer.Starved
     → ScanAtPlace z s.actor w ss (run mmu w ss) → EndsWithScan z s.actor (words_of_bits z.pool) w (ss ++ s ∷ [])
-last_scan z w ss s G may starved S = shorter z s.actor (at_in s.actor (effect mmu u s)) (words_of_bits z.pool) w (ss ++ s ∷ []) past (scan (stands_or_loads z s h same N is.scans))
+last_scan z w ss s G may starved S =
+    shorter z s.actor (at_in s.actor (effect mmu u s)) (words_of_bits z.pool) w (ss ++ s ∷ []) past (scan (stands_or_loads z s h same N is.scans))
   where
     u : World Held
     u = run mmu w ss

@@ -19,6 +19,7 @@ use Rattle.core_views.specs.declared.trace.Op.{Op}
 use Rattle.core_views.specs.declared.trace.Op.TheVariants.{Read, Write, Add}
 use Rattle.core_views.specs.Events.{touched}
 use Rattle.core_views.specs.Flat.{Facts, LineUnderWay, Stage}
+use Rattle.core_views.specs.Past.{Past}
 use Rattle.core_views.specs.Host.{HostMap, own_frames}
 use Rattle.core_views.specs.Lawful.{Tells}
 use Rattle.core_views.specs.Memory.{Memory, stored, with_word}
@@ -39,7 +40,7 @@ use Rattle.mmu_core.specs.lines.Cached.{first_usable}
 use Rattle.mmu_core.specs.lines.FaultSteps.{allows_access}
 use Rattle.mmu_laws.specs.flat.FlatInvariant.{AccessUnder, Runs}
 use Rattle.mmu_core.specs.invariant.Invariant.{Invariant, IsLeafFor}
-use Rattle.mmu_core.specs.lines.KnowsPart.{AccessKnows}
+use Rattle.mmu_core.specs.lines.AccessKnows.{AccessKnows}
 use Rattle.part_steps.specs.SlotWords.{page_of}
 use Rattle.part_steps.specs.Tasks.{kind_of_task, map_of}
 use Rattle.mmu_core.specs.invariant.TopicsInvariant.{TopicsInvariant}
@@ -60,15 +61,18 @@ IsPartOr z v a None = Unit {0}
 IsPartOr z v a (Some step) = IsPart z v a step
 
 -- Where a stay goes on, nothing is done yet.
-pause_under : (pool : ℕ → ℕ) (gfn : ℕ) (op : Op) (t : Topics) (u : LineUnderWay) (again : Bool) (found : Option Translation) → Runs u → AccessUnder pool (pause_next again found) gfn op t u
+pause_under : (pool : ℕ → ℕ) (gfn : ℕ) (op : Op) (t : Topics) (u : LineUnderWay) (again : Bool) (found : Option Translation) → Runs u
+    → AccessUnder pool (pause_next again found) gfn op t u
 pause_under pool gfn op t u again None runs = runs
 pause_under pool gfn op t u again (Some found) runs = runs
 
-leaf_under : (pool : ℕ → ℕ) (gfn : ℕ) (op : Op) (t : Topics) (u : LineUnderWay) (allowed : Bool) → Runs u → AccessUnder pool (if allowed then Touch else Leave leaving.Faults) gfn op t u
+leaf_under : (pool : ℕ → ℕ) (gfn : ℕ) (op : Op) (t : Topics) (u : LineUnderWay) (allowed : Bool) → Runs u
+    → AccessUnder pool (if allowed then Touch else Leave leaving.Faults) gfn op t u
 leaf_under pool gfn op t u true runs = runs
 leaf_under pool gfn op t u false runs = runs
 
-walk_under : (pool : ℕ → ℕ) (gfn : ℕ) (op : Op) (t : Topics) (u : LineUnderWay) (again : Bool) (k : SpteKind) (allowed : Bool) → Runs u → AccessUnder pool (walk_next again k allowed) gfn op t u
+walk_under : (pool : ℕ → ℕ) (gfn : ℕ) (op : Op) (t : Topics) (u : LineUnderWay) (again : Bool) (k : SpteKind) (allowed : Bool) → Runs u
+    → AccessUnder pool (walk_next again k allowed) gfn op t u
 walk_under pool gfn op t u again entry_kind.Leaf allowed runs = leaf_under pool gfn op t u allowed runs
 walk_under pool gfn op t u again _ allowed runs = runs
 
@@ -116,7 +120,8 @@ record Touches (z : Sizes) (s : State) (gfn word : ℕ) (op : Op) (facts : Facts
   index : content_index (map_of s.sizes) (frame_in s.leaf) word ≡ content_index (map_of z) page word
 
 touches : (z : Sizes) (v : View) (a : ℕ) (line : Line) (gfn word : ℕ) (op : Op) (facts : Facts) (u : LineUnderWay)
-    → IsStep z v a line (Access gfn word op) (place.Access Touch) → Invariant z v → AccessKnows Touch gfn (is_write op) (v.hand a) → Ready z v line (Access gfn word op) (place.Access Touch) (v.hand a).topics facts u
+    → IsStep z v a line (Access gfn word op) (place.Access Touch) → Invariant z v → AccessKnows Touch gfn (is_write op) (v.hand a)
+    → Ready z v line (Access gfn word op) (place.Access Touch) (v.hand a).topics facts u
     → Touches z (v.hand a).state gfn word op facts
 touches z v a line gfn word op facts u S I K R =
     let s : State = (v.hand a).state in
@@ -134,14 +139,17 @@ touches z v a line gfn word op facts u S I K R =
       index = rw ((I.lines a S.there).sizes, frame) refl;
     }
 
-touch_goes : (z : Sizes) (v : View) (a : ℕ) (line : Line) (gfn word : ℕ) (op : Op) (facts : Facts) (u : LineUnderWay) (after : Area → ℕ → ℕ) (t : Topics)
-    → IsStep z v a line (Access gfn word op) (place.Access Touch) → Ready z v line (Access gfn word op) (place.Access Touch) (v.hand a).topics facts u → (T : Touches z (v.hand a).state gfn word op facts)
+touch_goes : (z : Sizes) (v : View) (a : ℕ) (line : Line) (gfn word : ℕ) (op : Op) (facts : Facts) (past : Past) (u : LineUnderWay)
+    (after : Area → ℕ → ℕ) (t : Topics)
+    → IsStep z v a line (Access gfn word op) (place.Access Touch) → Ready z v line (Access gfn word op) (place.Access Touch) (v.hand a).topics facts u
+    → (T : Touches z (v.hand a).state gfn word op facts)
     → after area.Slots ≡ v.words area.Slots → after area.Pool ≡ v.words area.Pool → after area.Pause ≡ v.words area.Pause
     → after area.Content (content_index (map_of (v.hand a).state.sizes) (frame_in (v.hand a).state.leaf) word) ≡ stored op (v.words area.Content (content_index (map_of (v.hand a).state.sizes) (frame_in (v.hand a).state.leaf) word))
     → ((i : ℕ) → i ≢ content_index (map_of (v.hand a).state.sizes) (frame_in (v.hand a).state.leaf) word → after area.Content i ≡ v.words area.Content i)
     → let x : ℕ = v.words area.Content (content_index (map_of (v.hand a).state.sizes) (frame_in (v.hand a).state.leaf) word) in
-    Goes z (v.hand a).state.actor line (Access gfn word op) after (place.Access (Leave (leaving.Reached (frame_in (v.hand a).state.leaf) x))) t (Accessed gfn word op (frame_in (v.hand a).state.leaf) x ∷ []) facts u
-touch_goes z v a line gfn word op facts u after t S R T slots_is pool_is pause_is here there = record {
+    Goes z (v.hand a).state.actor line (Access gfn word op) after (place.Access (Leave (leaving.Reached (frame_in (v.hand a).state.leaf) x))) t
+    (Accessed gfn word op (frame_in (v.hand a).state.leaf) x ∷ []) facts past u
+touch_goes z v a line gfn word op facts past u after t S R T slots_is pool_is pause_is here there = record {
   allowed = (
     (
       R.under.1.0,
@@ -159,7 +167,8 @@ touch_goes z v a line gfn word op facts u after t S R T slots_is pool_is pause_i
   refines = record {
     slots = R.refines.slots ∙ rw (slots_is, pool_is) refl;
     host = R.refines.host;
-    memory = subst (λ page. (p j : ℕ) → p < z.pages → j < z.words → touched page word op facts.memory p j ≡ after area.Content (content_index (map_of z) p j)) (sym T.behind_is)
+    memory =
+        subst (λ page. (p j : ℕ) → p < z.pages → j < z.words → touched page word op facts.memory p j ≡ after area.Content (content_index (map_of z) p j)) (sym T.behind_is)
         (memory_behind z T.page word op facts.memory (v.words area.Content) (after area.Content) T.page_in T.word_in R.refines.memory (rw T.index at here) (rw T.index at there));
     paused = R.refines.paused ∙ ap (λ (g : ℕ → ℕ). not (g 0 == 0)) (sym pause_is);
   };
@@ -170,12 +179,12 @@ touch_goes z v a line gfn word op facts u after t S R T slots_is pool_is pause_i
 abbrev pub touched_index : State → ℕ → ℕ
 touched_index s word = content_index (map_of s.sizes) (frame_in s.leaf) word
 
-module _ (z : Sizes) (v : View) (a : ℕ) (line : Line) (gfn word : ℕ) (facts : Facts) (u : LineUnderWay) where
+module _ (z : Sizes) (v : View) (a : ℕ) (line : Line) (gfn word : ℕ) (facts : Facts) (past : Past) (u : LineUnderWay) where
   -- what a step of the access owes, from what its actor knows
   abbrev Owes : Op → AccessPlace → Type 0
   Owes op p =
       IsStep z v a line (Access gfn word op) (place.Access p) → Invariant z v → TopicsInvariant z v → IsPartOr z v a (access_part p gfn (v.hand a).topics) → AccessKnows p gfn (is_write op) (v.hand a)
-      → Ready z v line (Access gfn word op) (place.Access p) (v.hand a).topics facts u → StepGoes z v a line (Access gfn word op) (place.Access p) facts u
+      → Ready z v line (Access gfn word op) (place.Access p) (v.hand a).topics facts u → StepGoes z v a line (Access gfn word op) (place.Access p) facts past u
 
   abbrev words_behind : Op → AccessPlace → Area → ℕ → ℕ
   words_behind op p = words_after (access_task p (v.hand a) gfn word op) v.words
@@ -184,22 +193,29 @@ module _ (z : Sizes) (v : View) (a : ℕ) (line : Line) (gfn word : ℕ) (facts 
   answered op p = answer_in (access_task p (v.hand a) gfn word op) v.words
 
   abbrev held_behind : Op → AccessPlace → Topics
-  held_behind op p = topics_after (v.hand a).state.sizes (kind_of_task (v.hand a).state.sizes (access_task p (v.hand a) gfn word op)) (v.hand a).topics (answered op p)
+  held_behind op p =
+      topics_after (v.hand a).state.sizes (kind_of_task (v.hand a).state.sizes (access_task p (v.hand a) gfn word op)) (v.hand a).topics (answered op p)
 
   touch_owes : (op : Op) → Owes op Touch
-  touch_owes Read S I P part_ K R = touch_goes z v a line gfn word Read facts u v.words (held_behind Read Touch) S R (touches z v a line gfn word Read facts u S I K R) refl refl refl refl (λ i apart. refl)
+  touch_owes Read S I P part_ K R =
+      touch_goes z v a line gfn word Read facts past u v.words (held_behind Read Touch) S R
+      (touches z v a line gfn word Read facts u S I K R) refl refl refl refl (λ i apart. refl)
   touch_owes (Write x) S I P part_ K R =
-      touch_goes z v a line gfn word (Write x) facts u (put v.words area.Content (touched_index (v.hand a).state word) x) (held_behind (Write x) Touch) S R (touches z v a line gfn word (Write x) facts u S I K R) refl refl refl
+      touch_goes z v a line gfn word (Write x) facts past u (put v.words area.Content (touched_index (v.hand a).state word) x)
+      (held_behind (Write x) Touch) S R (touches z v a line gfn word (Write x) facts u S I K R) refl refl refl
       (upd_same (v.words area.Content) (touched_index (v.hand a).state word) x) (λ i apart. upd_other (v.words area.Content) (touched_index (v.hand a).state word) i x apart)
   touch_owes (Add x) S I P part_ K R =
       let sum : ℕ = stored (Add x) (v.words area.Content (touched_index (v.hand a).state word)) in
-      touch_goes z v a line gfn word (Add x) facts u (put v.words area.Content (touched_index (v.hand a).state word) sum) (held_behind (Add x) Touch) S R (touches z v a line gfn word (Add x) facts u S I K R) refl refl refl
+      touch_goes z v a line gfn word (Add x) facts past u (put v.words area.Content (touched_index (v.hand a).state word) sum)
+      (held_behind (Add x) Touch) S R (touches z v a line gfn word (Add x) facts u S I K R) refl refl refl
       (upd_same (v.words area.Content) (touched_index (v.hand a).state word) sum) (λ i apart. upd_other (v.words area.Content) (touched_index (v.hand a).state word) i sum apart)
 
   -- A step of a stay that tells nothing.
-  quiet : (op : Op) (p next : AccessPlace) (step : PartStep) → access_part p gfn (v.hand a).topics ≡ Some step → IsPart z v a step → Invariant z v → TopicsInvariant z v
-      → Ready z v line (Access gfn word op) (place.Access p) (v.hand a).topics facts u → (u.line ≡ line) × AccessUnder (words_behind op p area.Pool) next gfn op (held_behind op p) u
-      → Goes z (v.hand a).state.actor line (Access gfn word op) (words_behind op p) (place.Access next) (held_behind op p) [] facts u
+  quiet : (op : Op) (p next : AccessPlace) (step : PartStep) → access_part p gfn (v.hand a).topics ≡ Some step → IsPart z v a step → Invariant z v
+      → TopicsInvariant z v
+      → Ready z v line (Access gfn word op) (place.Access p) (v.hand a).topics facts u
+      → (u.line ≡ line) × AccessUnder (words_behind op p area.Pool) next gfn op (held_behind op p) u
+      → Goes z (v.hand a).state.actor line (Access gfn word op) (words_behind op p) (place.Access next) (held_behind op p) [] facts past u
   quiet op p next step is S I P R under = record { allowed = tt; refines = refines_stay z v.words (words_behind op p) facts L R.refines; under = under }
     where
       L : Leaves v.words (words_behind op p)
@@ -217,8 +233,9 @@ module _ (z : Sizes) (v : View) (a : ℕ) (line : Line) (gfn word : ℕ) (facts 
       L = part_leaves z v a part.Leave 1 part_ P refl
 
   -- The line looks at the pause, which isn't set.
-  looks_at_pause : (op : Op) (again : Bool) → IsPart z v a part.Pause → TopicsInvariant z v → Ready z v line (Access gfn word op) (place.Access (Pause again)) (v.hand a).topics facts u
-      → StepGoes z v a line (Access gfn word op) (place.Access (Pause again)) facts u
+  looks_at_pause : (op : Op) (again : Bool) → IsPart z v a part.Pause → TopicsInvariant z v
+      → Ready z v line (Access gfn word op) (place.Access (Pause again)) (v.hand a).topics facts u
+      → StepGoes z v a line (Access gfn word op) (place.Access (Pause again)) facts past u
   looks_at_pause op again S P R = record {
     allowed = (R.under.1, tt);
     refines = refines_stay z v.words (words_behind op (Pause again)) facts (part_leaves z v a part.Pause 0 S P refl) R.refines;
@@ -239,5 +256,6 @@ module _ (z : Sizes) (v : View) (a : ℕ) (line : Line) (gfn word : ℕ) (facts 
       quiet op (Walk again) (walk_next again k allowed) (part.Walk gfn) refl part_ I P R (R.under.0, walk_under (words_behind op (Walk again) area.Pool) gfn op (held_behind op (Walk again)) u again k allowed R.under.1)
   access_goes op Touch S I P part_ K R = touch_owes op S I P part_ K R
   access_goes op (Leave (leaving.Reached frame value)) S I P part_ K R = reached_owes op frame value S I P part_ K R
-  access_goes op (Leave leaving.Faults) S I P part_ K R = quiet op (Leave leaving.Faults) (Fault fault.Begin) part.Leave refl part_ I P R (R.under.0, (R.under.1, tt))
-  access_goes op (Fault p) S I P part_ K R = fault_goes z v a line gfn word op facts u p S part_ I P K R
+  access_goes op (Leave leaving.Faults) S I P part_ K R =
+      quiet op (Leave leaving.Faults) (Fault fault.Begin) part.Leave refl part_ I P R (R.under.0, (R.under.1, tt))
+  access_goes op (Fault p) S I P part_ K R = fault_goes z v a line gfn word op facts past u p S part_ I P K R

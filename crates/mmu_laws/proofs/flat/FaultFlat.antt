@@ -21,6 +21,7 @@ use Rattle.core_views.specs.declared.trace.Command.TheVariants.{Access}
 use Rattle.core_views.specs.declared.trace.Line.{Line}
 use Rattle.core_views.specs.declared.trace.Op.{Op}
 use Rattle.core_views.specs.Flat.{Facts, LineUnderWay, Notes}
+use Rattle.core_views.specs.Past.{Past}
 use Rattle.core_views.specs.Host.{HostEntry, HostMap, HostNotes, is_denied, own_frames, with_entry}
 use Rattle.core_views.specs.Lawful.{MayLeave, SawPage}
 use Rattle.core_views.specs.Slots.{is_write}
@@ -94,7 +95,8 @@ module _ (pool : ℕ → ℕ) (gfn : ℕ) (op : Op) (t : Topics) (notes : Notes)
   claim_noted saw _ = saw
 
   -- The host allows the access.
-  host_noted : SawPage notes gfn op → (write : Bool) (x : ℕ) → host_allows_write x ≡ true → Noted (if write && not (host_allows_write x) then End HostFault else Share)
+  host_noted : SawPage notes gfn op → (write : Bool) (x : ℕ) → host_allows_write x ≡ true
+      → Noted (if write && not (host_allows_write x) then End HostFault else Share)
   host_noted saw true x allows = rw allows saw
   host_noted saw false x allows = saw
 
@@ -108,7 +110,7 @@ never_denied op page = by (is_write op)
 entry_noted : (page : ℕ) (entry : HostEntry) (host : HostNotes) → with_entry page entry host page ≡ Some entry
 entry_noted page entry host = rw (eq-eqb page page refl) refl
 
-module _ (z : Sizes) (v : View) (a : ℕ) (line : Line) (gfn word : ℕ) (op : Op) (facts : Facts) (u : LineUnderWay) where
+module _ (z : Sizes) (v : View) (a : ℕ) (line : Line) (gfn word : ℕ) (op : Op) (facts : Facts) (past : Past) (u : LineUnderWay) where
   abbrev held : Topics
   held = (v.hand a).topics
 
@@ -123,9 +125,10 @@ module _ (z : Sizes) (v : View) (a : ℕ) (line : Line) (gfn word : ℕ) (op : O
   held_behind p = topics_after (v.hand a).state.sizes (kind_of_task (v.hand a).state.sizes (access_task (Fault p) (v.hand a) gfn word op)) held (answered p)
 
   -- A step that tells nothing, behind which the line has noted what its next place asks.
-  quiet : (p next : FaultPlace) → IsPart z v a (fault_part p gfn held) → Invariant z v → TopicsInvariant z v → Ready z v line (Access gfn word op) (place.Access (Fault p)) held facts u
+  quiet : (p next : FaultPlace) → IsPart z v a (fault_part p gfn held) → Invariant z v → TopicsInvariant z v
+      → Ready z v line (Access gfn word op) (place.Access (Fault p)) held facts u
       → NotedAt (words_behind p area.Pool) next gfn op (held_behind p) u.notes
-      → Goes z (v.hand a).state.actor line (Access gfn word op) (words_behind p) (place.Access (Fault next)) (held_behind p) [] facts u
+      → Goes z (v.hand a).state.actor line (Access gfn word op) (words_behind p) (place.Access (Fault next)) (held_behind p) [] facts past u
   quiet p next S I P R noted =
       let L = part_leaves z v a (fault_part p gfn held) (access_note (Fault p)) S P (access_never (Fault p) gfn held (fault_part p gfn held) refl) in
       record {
@@ -135,7 +138,9 @@ module _ (z : Sizes) (v : View) (a : ℕ) (line : Line) (gfn word : ℕ) (op : O
       }
 
   -- The line looks at the slots: those of the published set, which its search holds now, and none of them is passed yet.
-  looks : FaultKnows (Find false) (v.hand a).state.sizes gfn (is_write op) held → Ready z v line (Access gfn word op) (place.Access (Fault (Find false))) held facts u → StepGoes z v a line (Access gfn word op) (place.Access (Fault (Find false))) facts u
+  looks : FaultKnows (Find false) (v.hand a).state.sizes gfn (is_write op) held
+      → Ready z v line (Access gfn word op) (place.Access (Fault (Find false))) held facts u
+      → StepGoes z v a line (Access gfn word op) (place.Access (Fault (Find false))) facts past u
   looks K R = record {
     allowed = (R.under.1.0.0, tt);
     refines = R.refines;
@@ -155,8 +160,10 @@ module _ (z : Sizes) (v : View) (a : ℕ) (line : Line) (gfn word : ℕ) (op : O
       set_is = ap (λ (s : SlotSearch). s.set) behind ∙ ap (λ b. (at_set b held.search (v.words area.Slots 0)).set) may
 
   -- The search loads the next word of a slot.
-  searches : IsStep z v a line (Access gfn word op) (place.Access (Fault (Find true))) → IsPart z v a part.Slot → Invariant z v → TopicsInvariant z v → FaultKnows (Find true) (v.hand a).state.sizes gfn (is_write op) held
-      → Ready z v line (Access gfn word op) (place.Access (Fault (Find true))) held facts u → StepGoes z v a line (Access gfn word op) (place.Access (Fault (Find true))) facts u
+  searches : IsStep z v a line (Access gfn word op) (place.Access (Fault (Find true))) → IsPart z v a part.Slot → Invariant z v → TopicsInvariant z v
+      → FaultKnows (Find true) (v.hand a).state.sizes gfn (is_write op) held
+      → Ready z v line (Access gfn word op) (place.Access (Fault (Find true))) held facts u
+      → StepGoes z v a line (Access gfn word op) (place.Access (Fault (Find true))) facts past u
   searches S part_ I P K R =
       quiet (Find true) (find_next gfn (is_write op) held.search.next (searched held.search (answered (Find true)))) part_ I P R
       (find_noted z (v.words area.Slots 0) (v.words area.Role) (v.words area.Pool) gfn (answered (Find true)) op held.search.next held.search (held_behind (Find true)) u.notes I.set_part
@@ -184,8 +191,9 @@ module _ (z : Sizes) (v : View) (a : ℕ) (line : Line) (gfn word : ℕ) (op : O
       }
 
   -- The line looks at the host word of the page, which allows writes.
-  looks_at_host : IsPart z v a (part.Host (page_of held.search.slot gfn)) → Invariant z v → Ready z v line (Access gfn word op) (place.Access (Fault Host)) held facts u
-      → StepGoes z v a line (Access gfn word op) (place.Access (Fault Host)) facts u
+  looks_at_host : IsPart z v a (part.Host (page_of held.search.slot gfn)) → Invariant z v
+      → Ready z v line (Access gfn word op) (place.Access (Fault Host)) held facts u
+      → StepGoes z v a line (Access gfn word op) (place.Access (Fault Host)) facts past u
   looks_at_host S I R = record {
     allowed = (R.under.1.0.0, tt);
     refines = R.refines;
@@ -200,9 +208,11 @@ module _ (z : Sizes) (v : View) (a : ℕ) (line : Line) (gfn word : ℕ) (op : O
   }
 
   -- The line leaves the guest with what its fault ends with.
-  leaves_with : (how : Answer) → line.command ≡ Access gfn word op → IsPart z v a part.End → Invariant z v → TopicsInvariant z v → (e : FaultEnd) → Ready z v line (Access gfn word op) (place.Access (Fault (End e))) held facts u
+  leaves_with : (how : Answer) → line.command ≡ Access gfn word op → IsPart z v a part.End → Invariant z v → TopicsInvariant z v → (e : FaultEnd)
+      → Ready z v line (Access gfn word op) (place.Access (Fault (End e))) held facts u
       → MayLeave z facts (Access gfn word op) u.notes how
-      → Goes z (v.hand a).state.actor line (Access gfn word op) (words_behind (End e)) place.Between (held_behind (End e)) (Exited how ∷ Answered line.number how ∷ []) facts u
+      → Goes z (v.hand a).state.actor line (Access gfn word op) (words_behind (End e)) place.Between (held_behind (End e))
+      (Exited how ∷ Answered line.number how ∷ []) facts past u
   leaves_with how is S I P e R may =
       let L = part_leaves z v a part.End (access_note (Fault (End e))) S P refl in
       record {
@@ -212,8 +222,9 @@ module _ (z : Sizes) (v : View) (a : ℕ) (line : Line) (gfn word : ℕ) (op : O
       }
 
   -- Or it enters the guest again.
-  goes_back : (again : Bool) (e : FaultEnd) → IsPart z v a part.End → Invariant z v → TopicsInvariant z v → Ready z v line (Access gfn word op) (place.Access (Fault (End e))) held facts u
-      → Goes z (v.hand a).state.actor line (Access gfn word op) (words_behind (End e)) (place.Access (Enter again)) (held_behind (End e)) [] facts u
+  goes_back : (again : Bool) (e : FaultEnd) → IsPart z v a part.End → Invariant z v → TopicsInvariant z v
+      → Ready z v line (Access gfn word op) (place.Access (Fault (End e))) held facts u
+      → Goes z (v.hand a).state.actor line (Access gfn word op) (words_behind (End e)) (place.Access (Enter again)) (held_behind (End e)) [] facts past u
   goes_back again e S I P R =
       let L = part_leaves z v a part.End (access_note (Fault (End e))) S P refl in
       record {
@@ -222,16 +233,19 @@ module _ (z : Sizes) (v : View) (a : ℕ) (line : Line) (gfn word : ℕ) (op : O
         under = (R.under.0, R.under.1.0.0);
       }
 
-  ends : (e : FaultEnd) → line.command ≡ Access gfn word op → IsPart z v a part.End → Invariant z v → TopicsInvariant z v → Ready z v line (Access gfn word op) (place.Access (Fault (End e))) held facts u
-      → StepGoes z v a line (Access gfn word op) (place.Access (Fault (End e))) facts u
+  ends : (e : FaultEnd) → line.command ≡ Access gfn word op → IsPart z v a part.End → Invariant z v → TopicsInvariant z v
+      → Ready z v line (Access gfn word op) (place.Access (Fault (End e))) held facts u
+      → StepGoes z v a line (Access gfn word op) (place.Access (Fault (End e))) facts past u
   ends Installed is S I P R = goes_back true Installed S I P R
   ends Mmio is S I P R = leaves_with answer.Mmio is S I P Mmio R R.under.1.1
   ends HostFault is S I P R = leaves_with answer.HostFault is S I P HostFault R R.under.1.1
   ends Starved is S I P R = leaves_with answer.Starved is S I P Starved R (refl, R.under.1.1)
   ends (Retry cause) is S I P R = goes_back false (Retry cause) S I P R
 
-  pub fault_goes : (p : FaultPlace) → IsStep z v a line (Access gfn word op) (place.Access (Fault p)) → IsPart z v a (fault_part p gfn held) → Invariant z v → TopicsInvariant z v
-      → FaultKnows p (v.hand a).state.sizes gfn (is_write op) held → Ready z v line (Access gfn word op) (place.Access (Fault p)) held facts u → StepGoes z v a line (Access gfn word op) (place.Access (Fault p)) facts u
+  pub fault_goes : (p : FaultPlace) → IsStep z v a line (Access gfn word op) (place.Access (Fault p)) → IsPart z v a (fault_part p gfn held)
+      → Invariant z v → TopicsInvariant z v
+      → FaultKnows p (v.hand a).state.sizes gfn (is_write op) held → Ready z v line (Access gfn word op) (place.Access (Fault p)) held facts u
+      → StepGoes z v a line (Access gfn word op) (place.Access (Fault p)) facts past u
   fault_goes Begin S part_ I P K R = quiet Begin Snapshot part_ I P R tt
   fault_goes Snapshot S part_ I P K R = quiet Snapshot (Find false) part_ I P R tt
   fault_goes (Find false) S part_ I P K R = looks K R

@@ -30,9 +30,9 @@ use Rattle.spte_words.specs.declared.area.Area.TheVariants as area
 use Rattle.mmu_core.specs.lines.AccessSteps.{access_loads}
 use Rattle.mmu_laws.specs.flat.FlatInvariant.{FlatInvariant, Refines, UnderIs}
 use Rattle.mmu_core.specs.invariant.Invariant.{Invariant}
-use Rattle.mmu_core.specs.lines.KnowsPart.{KnowsPart}
+use Rattle.mmu_core.specs.lines.Forms.{KnowsPart, first_place, outcome_at, tells_at, loads_at}
 use Rattle.mmu_core.specs.lines.Rests.{IsUnderWay}
-use Rattle.mmu_core.specs.machine.Steps.{beginning, event_kinds, events_of, first_place, line_at, next_line, outcome_at, standing, task_at, tells_at, loads_at}
+use Rattle.mmu_core.specs.machine.Steps.{beginning, event_kinds, events_of, line_at, next_line, standing, task_at}
 use Rattle.mmu_core.specs.machine.Outcomes.{answering}
 use Rattle.mmu_core.specs.invariant.TopicsInvariant.{TopicsInvariant}
 use Rattle.mmu_core.specs.machine.View.{View, answer_in, hand_after, stepped, words_after}
@@ -78,10 +78,13 @@ apart_actors z a b apart = case (is_same a b) refl
 
 -- the lines of the other hands are flat's
 abbrev Others : Sizes → View → ℕ → Flat → Type 0
-Others z v a f = (i : ℕ) → i < actors_of z → i ≢ a → UnderIs (v.words area.Pool) (v.hand i).state.place (v.hand i).state.line.command (v.hand i) (f.under (v.hand i).state.actor)
+Others z v a f =
+    (i : ℕ) → i < actors_of z → i ≢ a → UnderIs (v.words area.Pool) (v.hand i).state.place (v.hand i).state.line.command (v.hand i) (f.under (v.hand i).state.actor)
 
-pub other_actor : (z : Sizes) (v : View) (a i : ℕ) → Invariant z v → a < actors_of z → i < actors_of z → i ≢ a → is_same (v.hand a).state.actor (v.hand i).state.actor ≡ false
-other_actor z v a i I a_in i_in apart = apart_actors z (v.hand a).state.actor (v.hand i).state.actor (λ e. apart (sym (sym (I.lines a a_in).index ∙ e ∙ (I.lines i i_in).index)))
+pub other_actor : (z : Sizes) (v : View) (a i : ℕ) → Invariant z v → a < actors_of z → i < actors_of z → i ≢ a
+    → is_same (v.hand a).state.actor (v.hand i).state.actor ≡ false
+other_actor z v a i I a_in i_in apart =
+    apart_actors z (v.hand a).state.actor (v.hand i).state.actor (λ e. apart (sym (sym (I.lines a a_in).index ∙ e ∙ (I.lines i i_in).index)))
 
 -- The step's actor is its hand's, whatever it loads.
 access_actor : (p : AccessPlace) (h : Held) (gfn : ℕ) (op : Op) (x : ℕ) → (access_loads p h gfn op x).actor ≡ h.state.actor
@@ -96,12 +99,14 @@ same_actor _ _ h x = refl
 -- Behind the begin of its line a step meets flat memory.
 meets_begun : (z : Sizes) (v : View) (f : Flat) (a : ℕ) (line : Line) (command : Command) (p : Place) → IsStep z v a line command p → Invariant z v
     → TopicsInvariant z v → MakesAt z v a p command → KnowsPart p command (v.hand a)
-    → Ready z v line command p (v.hand a).topics f.facts (f.under (v.hand a).state.actor) → Others z v a f → Meets z v f a line command p (told (v.hand a).state.actor (told_kinds v a line command p))
+    → Ready z v line command p (v.hand a).topics f.facts (f.under (v.hand a).state.actor) → Others z v a f
+    → Meets z v f a line command p (told (v.hand a).state.actor (told_kinds v a line command p))
 meets_begun z v f a line command p S I P part K R others = (
   told_lawful z s.actor kinds f G.allowed,
   record {
     refines = subst (Refines z (words area.Slots 0) (words area.Pool) (words area.Content) (words area.Pause 0)) (sym (told_facts s.actor kinds f)) G.refines;
-    under = at_upd (λ i (h : Held). i < actors_of z → UnderIs (words area.Pool) h.state.place h.state.line.command h (behind.under h.state.actor)) v.hand a then_
+    under =
+        at_upd (λ i (h : Held). i < actors_of z → UnderIs (words area.Pool) h.state.place h.state.line.command h (behind.under h.state.actor)) v.hand a then_
         (λ a_in. here) (λ i apart i_in. there i i_in apart);
   },
 )
@@ -124,7 +129,7 @@ meets_begun z v f a line command p S I P part K R others = (
     then_ : Held
     then_ = hand_after line command p (v.hand a) x
 
-    G : StepGoes z v a line command p f.facts (f.under s.actor)
+    G : StepGoes z v a line command p f.facts f.past (f.under s.actor)
     G = step_goes z v a line command p f (f.under s.actor) S I P part K R
 
     here : UnderIs (words area.Pool) then_.state.place then_.state.line.command then_ (behind.under then_.state.actor)
@@ -134,7 +139,8 @@ meets_begun z v f a line command p S I P part K R others = (
         (subst (UnderIs (words area.Pool) then_.state.place command then_) (sym (told_line s.actor kinds f))
         G.under))
 
-    there : (i : ℕ) → i < actors_of z → i ≢ a → UnderIs (words area.Pool) (v.hand i).state.place (v.hand i).state.line.command (v.hand i) (behind.under (v.hand i).state.actor)
+    there : (i : ℕ) → i < actors_of z → i ≢ a
+        → UnderIs (words area.Pool) (v.hand i).state.place (v.hand i).state.line.command (v.hand i) (behind.under (v.hand i).state.actor)
     there i i_in apart =
         subst (UnderIs (words area.Pool) (v.hand i).state.place (v.hand i).state.line.command (v.hand i))
         (sym (told_others s.actor (v.hand i).state.actor kinds f (other_actor z v a i I S.there i_in apart)))
@@ -144,8 +150,10 @@ meets_begun z v f a line command p S I P part K R others = (
 not_paused : (z : Sizes) (v : View) (f : Flat) → FlatInvariant z v f → v.words area.Pause 0 ≡ 0 → f.facts.paused ≡ false
 not_paused z v f F no_pause = F.refines.paused ∙ ap (λ n. not (n == 0)) no_pause
 
-ready_first : (z : Sizes) (v : View) (f : Flat) (a : ℕ) (line : Line) (command : Command) (p : Place) → IsStep z v a line command p → FlatInvariant z v f → v.words area.Pause 0 ≡ 0 → (v.hand a).state.place ≡ place.Between
-    → let begun : Flat = after (record { actor = (v.hand a).state.actor; kind = Begun line }) f in Ready z v line command p (v.hand a).topics begun.facts (begun.under (v.hand a).state.actor)
+ready_first : (z : Sizes) (v : View) (f : Flat) (a : ℕ) (line : Line) (command : Command) (p : Place) → IsStep z v a line command p
+    → FlatInvariant z v f → v.words area.Pause 0 ≡ 0 → (v.hand a).state.place ≡ place.Between
+    → let begun : Flat =
+    after (record { actor = (v.hand a).state.actor; kind = Begun line }) f in Ready z v line command p (v.hand a).topics begun.facts (begun.under (v.hand a).state.actor)
 ready_first z v f a line command p S F no_pause e = record {
   runs = not_paused z v f F no_pause;
   refines = F.refines;
@@ -177,7 +185,8 @@ line_under : (q : Place) (h : Held) → IsUnderWay q → line_at q h ≡ h.state
 line_under place.Between h under = absurd under
 line_under _ h under = refl
 
-ready_on : (z : Sizes) (v : View) (f : Flat) (a : ℕ) (line : Line) (command : Command) (p : Place) → IsStep z v a line command p → FlatInvariant z v f → v.words area.Pause 0 ≡ 0 → IsUnderWay (v.hand a).state.place
+ready_on : (z : Sizes) (v : View) (f : Flat) (a : ℕ) (line : Line) (command : Command) (p : Place) → IsStep z v a line command p → FlatInvariant z v f
+    → v.words area.Pause 0 ≡ 0 → IsUnderWay (v.hand a).state.place
     → Ready z v line command p (v.hand a).topics f.facts (f.under (v.hand a).state.actor)
 ready_on z v f a line command p S F no_pause stands = record {
   runs = not_paused z v f F no_pause;
@@ -220,7 +229,8 @@ flat_kept z v f a line command p S I P part K no_pause F = case (v.hand a).state
     on : IsUnderWay (v.hand a).state.place → Meets z v f a line command p (told actor (told_kinds v a line command p))
     on stands = meets_begun z v f a line command p S I P part K (ready_on z v f a line command p S F no_pause stands) (λ i i_in apart. F.under i i_in)
 
-    case : (q : Place) → (v.hand a).state.place ≡ q → Meets z v f a line command p (told (v.hand a).state.actor (beginning q line ++ told_kinds v a line command p))
+    case : (q : Place) → (v.hand a).state.place ≡ q
+        → Meets z v f a line command p (told (v.hand a).state.actor (beginning q line ++ told_kinds v a line command p))
     case place.Between e =
         let idle : (f.under actor).stage ≡ Idle = subst (λ q. UnderIs (v.words area.Pool) q (v.hand a).state.line.command (v.hand a) (f.under actor)) e (F.under a S.there) in
         let rest = meets_begun z v begun a line command p S I P part K (ready_first z v f a line command p S F no_pause e) others in

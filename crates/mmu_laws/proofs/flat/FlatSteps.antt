@@ -14,7 +14,8 @@ use Rattle.spte_words.specs.declared.area.Area.TheVariants as area
 use Rattle.spte_words.specs.Areas.{content_index}
 use Rattle.part_steps.specs.declared.task.Task.{Task}
 use Rattle.part_steps.specs.declared.part_step.PartStep.{PartStep}
-use Rattle.mmu_core.specs.machine.Steps.{outcome_at, task_at, tells_at}
+use Rattle.mmu_core.specs.lines.Forms.{outcome_at, tells_at}
+use Rattle.mmu_core.specs.machine.Steps.{task_at}
 use Rattle.mmu_core.specs.machine.Outcomes.{answering, place_after}
 use Rattle.part_steps.specs.Tasks.{kind_of_task, map_of}
 use Rattle.mmu_core.specs.invariant.TopicsInvariant.{TopicsInvariant}
@@ -31,6 +32,7 @@ use Rattle.mmu_core.proofs.words.PartWords.{areas_stay, slots_are, slots_same}
 use Rattle.mmu_core.proofs.words.SlotLists.{flat_below}
 use Rattle.mmu_core.proofs.slots.SlotsStay.{memory_below_stay}
 use Rattle.core_views.specs.Flat.{Facts, LineUnderWay}
+use Rattle.core_views.specs.Past.{Past}
 
 -- The line has begun and stands at this place; the facts are what the words say, and nothing is paused.
 pub record Ready (z : Sizes) (v : View) (line : Line) (command : Command) (p : Place) (t : Topics) (facts : Facts) (u : LineUnderWay) : Type 0 where
@@ -39,19 +41,21 @@ pub record Ready (z : Sizes) (v : View) (line : Line) (command : Command) (p : P
   pub under : UnderAt (v.words area.Pool) p line command t u
 
 -- What the step tells is allowed; behind it the facts are what the words say, and the line stands at this place.
-pub record Goes (z : Sizes) (actor : Actor) (line : Line) (command : Command) (after : Area → ℕ → ℕ) (p : Place) (t : Topics) (kinds : List EventKind) (facts : Facts) (u : LineUnderWay) : Type 0 where
-  pub allowed : AreAllowed z actor kinds facts u
+pub record Goes (z : Sizes) (actor : Actor) (line : Line) (command : Command) (after : Area → ℕ → ℕ) (p : Place) (t : Topics) (kinds : List EventKind)
+    (facts : Facts) (past : Past)
+    (u : LineUnderWay) : Type 0 where
+  pub allowed : AreAllowed z actor kinds facts past u
   pub refines : Refines z (after area.Slots 0) (after area.Pool) (after area.Content) (after area.Pause 0) (facts_behind kinds facts)
   pub under : UnderAt (after area.Pool) p line command t (line_behind kinds facts u)
 
 -- the same of the actor's step, once its line has begun
-abbrev pub StepGoes : Sizes → View → ℕ → Line → Command → Place → Facts → LineUnderWay → Type 0
-StepGoes z v a line command p facts u =
+abbrev pub StepGoes : Sizes → View → ℕ → Line → Command → Place → Facts → Past → LineUnderWay → Type 0
+StepGoes z v a line command p facts past u =
     let h : Held = v.hand a in
     let task : Task = task_at p command h in
     let x : ℕ = answer_in task v.words in
     Goes z h.state.actor line command (words_after task v.words) (place_after (outcome_at p command h x)) (topics_after h.state.sizes (kind_of_task h.state.sizes task) h.topics x)
-    (tells_at p command h x ++ answering (outcome_at p command h x) line) facts u
+    (tells_at p command h x ++ answering (outcome_at p command h x) line) facts past u
 
 -- A step leaves which slot set is published, the words of its page, all content, and the pause.
 pub record Leaves (before after : Area → ℕ → ℕ) : Type 0 where
@@ -61,7 +65,8 @@ pub record Leaves (before after : Area → ℕ → ℕ) : Type 0 where
   pub pause : after area.Pause ≡ before area.Pause
 
 -- So does each step of a part but a publication.
-pub part_leaves : (z : Sizes) (v : View) (a : ℕ) (step : PartStep) (note : ℕ) → IsPart z v a step → TopicsInvariant z v → is_publish step ≡ false → Leaves v.words ((part_stepped a step note v).words)
+pub part_leaves : (z : Sizes) (v : View) (a : ℕ) (step : PartStep) (note : ℕ) → IsPart z v a step → TopicsInvariant z v → is_publish step ≡ false
+    → Leaves v.words ((part_stepped a step note v).words)
 part_leaves z v a step note S P never = record {
   slots = slots_are v a step note ∙ slots_same step (v.hand a).topics (v.words area.Slots 0) never;
   pool = published_stays z v a step note S P;
@@ -70,11 +75,13 @@ part_leaves z v a step note S P never = record {
 }
 
 -- The facts' slots, without their dirty logs, are those of the set.
-pub refined_slots : (z : Sizes) (set : ℕ) (pool content : ℕ → ℕ) (pause : ℕ) (facts : Facts) → Refines z set pool content pause facts → flat_slots facts.slots ≡ slots_below pool set 32
+pub refined_slots : (z : Sizes) (set : ℕ) (pool content : ℕ → ℕ) (pause : ℕ) (facts : Facts) → Refines z set pool content pause facts
+    → flat_slots facts.slots ≡ slots_below pool set 32
 refined_slots z set pool content pause facts R = ap flat_slots R.slots ∙ flat_below pool set 32
 
 -- The words behind it still stand for the same facts.
-pub refines_stay : (z : Sizes) (before after : Area → ℕ → ℕ) (facts : Facts) → Leaves before after → Refines z (before area.Slots 0) (before area.Pool) (before area.Content) (before area.Pause 0) facts
+pub refines_stay : (z : Sizes) (before after : Area → ℕ → ℕ) (facts : Facts) → Leaves before after
+    → Refines z (before area.Slots 0) (before area.Pool) (before area.Content) (before area.Pause 0) facts
     → Refines z (after area.Slots 0) (after area.Pool) (after area.Content) (after area.Pause 0) facts
 refines_stay z before after facts L R = record {
   slots = R.slots ∙ sym (memory_below_stay (before area.Slots 0) (before area.Pool) (after area.Pool) L.pool 32 (omega arith)) ∙ ap (λ k. memory_slots_below (after area.Pool) k 32) (sym L.slots);

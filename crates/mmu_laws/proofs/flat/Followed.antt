@@ -19,7 +19,8 @@ use Rattle.mmu_core.specs.declared.outcome.Outcome.{Outcome}
 use Rattle.mmu_core.specs.declared.outcome.Outcome.TheVariants.{Goes, Ends}
 pub use Rattle.mmu_laws.specs.flat.Histories.{answers_by, begun_count, begun_lines}
 use Rattle.mmu_core.specs.invariant.Invariant.{Invariant}
-use Rattle.mmu_core.specs.machine.Steps.{outcome_at, task_at, tells_at}
+use Rattle.mmu_core.specs.lines.Forms.{outcome_at, tells_at}
+use Rattle.mmu_core.specs.machine.Steps.{task_at}
 use Rattle.mmu_core.specs.machine.Outcomes.{answers_after, place_after}
 use Rattle.mmu_core.specs.machine.View.{View, answer_in, hand_after, upd}
 use Rattle.mmu_core.proofs.machine.Columns.{at_upd}
@@ -72,11 +73,13 @@ follows_more h g k es fs F G = record {
 count_push : (answers : List AnsweredLine) (x : AnsweredLine) → length (answers ++ x ∷ []) ≡ suc (length answers)
 count_push answers x = length-append answers (x ∷ []) ∙ omega arith
 
-answers_behind : (o : Outcome) (line : Line) (actor : Actor) (answers : List AnsweredLine) → line.actor ≡ actor → answers_after o line answers ≡ answers ++ answered_with actor line o
+answers_behind : (o : Outcome) (line : Line) (actor : Actor) (answers : List AnsweredLine) → line.actor ≡ actor
+    → answers_after o line answers ≡ answers ++ answered_with actor line o
 answers_behind (Goes p) line actor answers own = sym (append-nil answers)
 answers_behind (Ends answer) line actor answers own = rw own refl
 
-begun_behind : (o : Outcome) (line : Line) (answers : List AnsweredLine) → GoesUnderWay o → begun_count (place_after o) (length (answers_after o line answers)) ≡ suc (length answers)
+begun_behind : (o : Outcome) (line : Line) (answers : List AnsweredLine) → GoesUnderWay o
+    → begun_count (place_after o) (length (answers_after o line answers)) ≡ suc (length answers)
 begun_behind (Goes place.Between) line answers under = absurd under
 begun_behind (Goes _) line answers under = refl
 begun_behind (Ends answer) line answers under = count_push answers (record { number = line.number; actor = line.actor; answer = answer })
@@ -86,11 +89,13 @@ take_next [] n lt = absurd (omega arith)
 take_next (line ∷ lines) zero lt = refl
 take_next (line ∷ lines) (suc n) lt = ap (λ (xs : List Line). line ∷ xs) (take_next lines n (omega arith))
 
-take_begun : (stood : Place) (line : Line) (lines : List Line) (n : ℕ) → n < length lines → line ≡ unwrap_or (slice_get lines n) no_line → take (suc n) lines ≡ take (begun_count stood n) lines ++ begun_from stood line
+take_begun : (stood : Place) (line : Line) (lines : List Line) (n : ℕ) → n < length lines → line ≡ unwrap_or (slice_get lines n) no_line
+    → take (suc n) lines ≡ take (begun_count stood n) lines ++ begun_from stood line
 take_begun place.Between line lines n lt is = take_next lines n lt ∙ ap (λ (l : Line). take n lines ++ l ∷ []) (sym is)
 take_begun _ line lines n lt is = sym (append-nil (take (suc n) lines))
 
-numbers_behind : (o : Outcome) (line : Line) (lines : List Line) (answers : List AnsweredLine) → length answers < length lines → line ≡ unwrap_or (slice_get lines (length answers)) no_line → Numbered answers lines → Numbered (answers_after o line answers) lines
+numbers_behind : (o : Outcome) (line : Line) (lines : List Line) (answers : List AnsweredLine) → length answers < length lines
+    → line ≡ unwrap_or (slice_get lines (length answers)) no_line → Numbered answers lines → Numbered (answers_after o line answers) lines
 numbers_behind (Goes p) line lines answers lt is numbers = numbers
 numbers_behind (Ends answer) line lines answers lt is numbers =
     let x : AnsweredLine = record { number = line.number; actor = line.actor; answer = answer } in
@@ -108,10 +113,12 @@ module _ (z : Sizes) (v : View) (a : ℕ) (line : Line) (p : Place) where
   outcome = outcome_at p line.command (v.hand a) found
 
   step_answers : answers_of (told_events v a line line.command p) ≡ answered_with (v.hand a).state.actor line outcome
-  step_answers = answers_told (v.hand a).state.actor (v.hand a).state.place line (tells_at p line.command (v.hand a) found) outcome (tells_within p line.command (v.hand a) found)
+  step_answers =
+      answers_told (v.hand a).state.actor (v.hand a).state.place line (tells_at p line.command (v.hand a) found) outcome (tells_within p line.command (v.hand a) found)
 
   step_begins : lines_begun (told_events v a line line.command p) ≡ begun_from (v.hand a).state.place line
-  step_begins = begins_told (v.hand a).state.actor (v.hand a).state.place line (tells_at p line.command (v.hand a) found) outcome (tells_within p line.command (v.hand a) found)
+  step_begins =
+      begins_told (v.hand a).state.actor (v.hand a).state.place line (tells_at p line.command (v.hand a) found) outcome (tells_within p line.command (v.hand a) found)
 
   own_follows : IsStep z v a line line.command p → Follows (v.hand a) (hand_after line line.command p (v.hand a) found) (told_events v a line line.command p)
   own_follows S = record {
@@ -126,9 +133,11 @@ module _ (z : Sizes) (v : View) (a : ℕ) (line : Line) (p : Place) where
   }
 
   pub silent_answers : (other : Actor) → is_same other (v.hand a).state.actor ≡ false → answers_by other (told_events v a line line.command p) ≡ []
-  silent_answers other apart = ap (filter (λ (x : AnsweredLine). is_same other x.actor)) step_answers ∙ other_answers (v.hand a).state.actor other line outcome apart
+  silent_answers other apart =
+      ap (filter (λ (x : AnsweredLine). is_same other x.actor)) step_answers ∙ other_answers (v.hand a).state.actor other line outcome apart
 
-  pub silent_begins : (other : Actor) → line.actor ≡ (v.hand a).state.actor → is_same other (v.hand a).state.actor ≡ false → begun_by other (told_events v a line line.command p) ≡ []
+  pub silent_begins : (other : Actor) → line.actor ≡ (v.hand a).state.actor → is_same other (v.hand a).state.actor ≡ false
+      → begun_by other (told_events v a line line.command p) ≡ []
   silent_begins other own apart = ap (lines_of other) step_begins ∙ other_begins other (v.hand a).state.place line (ap (is_same other) own ∙ apart)
 
   pub view_follows : (i : ℕ) → IsStep z v a line line.command p → Invariant z v → i < actors_of z

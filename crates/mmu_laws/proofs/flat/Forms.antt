@@ -9,36 +9,36 @@ use Rattle.core_views.specs.declared.place.AccessPlace.TheVariants.{Pause, Touch
 use Rattle.core_views.specs.declared.place.FaultPlace.TheVariants as fault
 use Rattle.core_views.specs.declared.place.Place.{Place}
 use Rattle.core_views.specs.declared.place.Place.TheVariants as place
-use Rattle.core_views.specs.declared.place.SetSlotPlace.{SetSlotPlace}
-use Rattle.core_views.specs.declared.place.SetSlotPlace.TheVariants.{Claim, Publish}
+use Rattle.core_views.specs.declared.place.SlotChangePlace.{SlotChangePlace}
+use Rattle.core_views.specs.declared.place.SlotChangePlace.TheVariants.{Claim, Publish}
 use Rattle.core_views.specs.declared.sizes.Sizes.{Sizes}
 use Rattle.core_views.specs.declared.topics.Topics.{Topics}
 use Rattle.core_views.specs.declared.trace.Command.{Command}
-use Rattle.core_views.specs.declared.trace.Command.TheVariants.{Access, SetSlot}
+use Rattle.core_views.specs.declared.trace.Command.TheVariants.{Access}
 use Rattle.core_views.specs.declared.trace.Line.{Line}
 use Rattle.core_views.specs.declared.trace.Op.{Op}
 use Rattle.core_views.specs.declared.trace.Slot as slots
 use Rattle.core_views.specs.Alone.{IsWithin}
 use Rattle.core_views.specs.Flat.{Flat, Fresh, LineUnderWay}
 use Rattle.core_views.specs.Held.{Held}
-use Rattle.core_views.specs.Refusals.{set_refusal}
+use Rattle.core_views.specs.SlotCommands.{change_refusal, slot_change}
+use Rattle.core_views.specs.declared.slot_set.MemorySlot.{MemorySlot}
 use Rattle.core_views.specs.SlotSets.{MemorySlots}
 use Rattle.mmu_core.specs.declared.outcome.Outcome.{Outcome}
 use Rattle.mmu_core.specs.declared.outcome.Outcome.TheVariants.{Goes, Ends}
 use Rattle.mmu_core.specs.invariant.Invariant.{Invariant}
 use Rattle.mmu_core.specs.invariant.TopicsInvariant.{TopicsInvariant}
 use Rattle.mmu_core.specs.lines.AccessSteps.{access_part, access_tells, exiting, fault_over}
-use Rattle.mmu_core.specs.lines.KnowsPart.{KnowsPart}
-use Rattle.mmu_core.specs.lines.SetSlotSteps.{set_slot_first, set_slot_outcome, set_slot_part, set_slot_tells}
-use Rattle.mmu_core.specs.machine.Steps.{first_place, tells_at}
+use Rattle.mmu_core.specs.lines.Forms.{KnowsPart, first_place, tells_at}
+use Rattle.mmu_core.specs.lines.SlotChangeSteps.{slot_change_first, slot_change_outcome, slot_change_part, slot_change_tells, changed}
 use Rattle.mmu_core.specs.machine.View.{View}
 use Rattle.mmu_core.proofs.invariant.Kept.{MakesAt}
 use Rattle.mmu_core.proofs.machine.Stepping.{IsStep}
-use Rattle.mmu_laws.specs.flat.FlatInvariant.{SettingUnder}
+use Rattle.mmu_laws.specs.flat.FlatInvariant.{SlotChangeUnder}
 use Rattle.mmu_laws.proofs.flat.AccessFlat.{access_goes}
 use Rattle.mmu_laws.proofs.flat.FlatSteps.{Ready, StepGoes, UnderAt}
 use Rattle.mmu_laws.proofs.flat.FlatStill.{part_or}
-use Rattle.mmu_laws.proofs.flat.SetSlotFlat.{set_slot_goes}
+use Rattle.mmu_laws.proofs.flat.SlotChangeFlat.{slot_change_goes}
 
 -- Each of the events stands within a line.
 abbrev pub AllWithin : List EventKind → Type 0
@@ -61,34 +61,38 @@ access_within (Fault fault.Host) h gfn word op v = (tt, tt)
 access_within (Fault (fault.End e)) h gfn word op v = exit_within (fault_over e)
 access_within _ h gfn word op v = tt
 
-set_slot_within : (p : SetSlotPlace) (h : Held) (id : ℕ) (slot : slots.Slot) (v : ℕ) → AllWithin (set_slot_tells p h id slot v)
-set_slot_within (Claim begun) h id slot v = exit_within (set_slot_outcome (Claim begun) h v)
-set_slot_within Publish h id slot v = (tt, tt)
-set_slot_within _ h id slot v = tt
+change_within : (change : Option (ℕ × Option MemorySlot)) → AllWithin (changed change)
+change_within None = tt
+change_within (Some (id, slot)) = (tt, tt)
+
+slot_change_within : (p : SlotChangePlace) (h : Held) (command : Command) (v : ℕ) → AllWithin (slot_change_tells p h command v)
+slot_change_within (Claim begun) h command v = exit_within (slot_change_outcome (Claim begun) h v)
+slot_change_within Publish h command v = change_within (slot_change h.slots command)
+slot_change_within _ h command v = tt
 
 -- Besides its begin and its answer, a line tells only events that stand within it: a clause for each form of line.
 pub tells_within : (p : Place) (command : Command) (h : Held) (v : ℕ) → AllWithin (tells_at p command h v)
 tells_within (place.Access p) (Access gfn word op) h v = access_within p h gfn word op v
-tells_within (place.SetSlot p) (SetSlot id slot) h v = set_slot_within p h id slot v
+tells_within (place.SlotChange p) command h v = slot_change_within p h command v
 tells_within _ _ h v = tt
 
 -- The step of each place, once its line has begun.
 pub step_goes : (z : Sizes) (v : View) (a : ℕ) (line : Line) (command : Command) (p : Place) (f : Flat) (u : LineUnderWay)
     → IsStep z v a line command p → Invariant z v → TopicsInvariant z v → MakesAt z v a p command → KnowsPart p command (v.hand a)
-    → Ready z v line command p (v.hand a).topics f.facts u → StepGoes z v a line command p f.facts u
+    → Ready z v line command p (v.hand a).topics f.facts u → StepGoes z v a line command p f.facts f.past u
 step_goes z v a line command place.Between f u S I P part K R = absurd S.begun
 step_goes z v a line (Access gfn word op) (place.Access p) f u S I P part K R =
-    access_goes z v a line gfn word f.facts u op p S I P (part_or z v a (access_part p gfn (v.hand a).topics) part) K R
-step_goes z v a line (SetSlot id slot) (place.SetSlot p) f u S I P part K R =
-    set_slot_goes z v a line id slot f.facts u p S I P (part (set_slot_part p (v.hand a) id slot) refl) R
+    access_goes z v a line gfn word f.facts f.past u op p S I P (part_or z v a (access_part p gfn (v.hand a).topics) part) K R
+step_goes z v a line command (place.SlotChange p) f u S I P part K R =
+    slot_change_goes z v a line command f.facts f.past u p K.0 S I P (part (slot_change_part p (v.hand a) command) refl) R
 step_goes z v a line _ _ f u S I P part K R = absurd S.holds
 
 -- A line that begins is under way, and has done nothing.
 pub first_at : (pool : ℕ → ℕ) (z : Sizes) (slots : MemorySlots) (line : Line) (command : Command) (t : Topics) (u : LineUnderWay) → u.stage ≡ Fresh
     → u.line ≡ line → UnderAt pool (first_place z slots command) line command t u
 first_at pool z slots line (Access gfn word op) t u fresh is = (is, fresh)
-first_at pool z slots line (SetSlot id slot) t u fresh is = (is, first_set (set_refusal z.pages id slot slots))
+first_at pool z slots line command t u fresh is = (is, first_set (change_refusal z command slots))
   where
-    first_set : (r : Option Refusal) → SettingUnder (set_slot_first r) u
+    first_set : (r : Option Refusal) → SlotChangeUnder (slot_change_first r) u
     first_set None = fresh
     first_set (Some refusal) = fresh

@@ -21,7 +21,8 @@ use Rattle.mmu_core.specs.declared.outcome.Outcome.{Outcome}
 use Rattle.mmu_core.specs.declared.outcome.Outcome.TheVariants.{Goes, Ends}
 use Rattle.mmu_core.proofs.machine.Which.{events_of_line}
 pub use Rattle.mmu_laws.proofs.flat.Forms.{AllWithin, tells_within}
-use Rattle.mmu_core.specs.machine.Steps.{beginning, event_kinds, events_of, has_line, line_at, outcome_at, place_at, tells_at}
+use Rattle.mmu_core.specs.machine.Steps.{beginning, event_kinds, events_of, has_line, line_at, place_at}
+use Rattle.mmu_core.specs.lines.Forms.{outcome_at, tells_at}
 use Rattle.mmu_core.specs.machine.Outcomes.{answering}
 
 abbrev told_by : Line → List EventKind → List Event
@@ -57,7 +58,8 @@ begins line h kinds all none = record {
   history_is = ap (λ (es : List Event). es ++ told_by line (Begun line ∷ kinds)) none;
 }
 
-tells_more : (stood : Place) (line : Line) (h : List Event) (kinds : List EventKind) → AllWithin kinds → SoFar stood line h → IsOpen line (h ++ told_by line (beginning stood line ++ kinds))
+tells_more : (stood : Place) (line : Line) (h : List Event) (kinds : List EventKind) → AllWithin kinds → SoFar stood line h
+    → IsOpen line (h ++ told_by line (beginning stood line ++ kinds))
 tells_more place.Between line h kinds all so_far = begins line h kinds all so_far
 tells_more _ line h kinds all so_far = opens line h kinds all so_far
 
@@ -86,7 +88,8 @@ closes line answer h is = record {
 }
 
 -- what a step tells, in its three parts
-regroup : (line : Line) (h : List Event) (front kinds back : List EventKind) → h ++ told_by line (front ++ (kinds ++ back)) ≡ (h ++ told_by line (front ++ kinds)) ++ told_by line back
+regroup : (line : Line) (h : List Event) (front kinds back : List EventKind)
+    → h ++ told_by line (front ++ (kinds ++ back)) ≡ (h ++ told_by line (front ++ kinds)) ++ told_by line back
 regroup line h front kinds back =
     ap (λ (ks : List EventKind). h ++ told_by line ks) (sym (append_assoc front kinds back))
     ∙ ap (λ (es : List Event). h ++ es) (map-append (λ kind. by line kind) (front ++ kinds) back)
@@ -97,7 +100,8 @@ abbrev pub Tells : Outcome → Line → List Event → Type 0
 Tells (Goes p) line h = IsOpen line h
 Tells (Ends answer) line h = IsClosed line answer h
 
-tells_by : (o : Outcome) (stood : Place) (line : Line) (h : List Event) (kinds : List EventKind) → AllWithin kinds → SoFar stood line h → Tells o line (h ++ told_by line (beginning stood line ++ (kinds ++ answering o line)))
+tells_by : (o : Outcome) (stood : Place) (line : Line) (h : List Event) (kinds : List EventKind) → AllWithin kinds → SoFar stood line h
+    → Tells o line (h ++ told_by line (beginning stood line ++ (kinds ++ answering o line)))
 tells_by (Goes p) stood line h kinds all so_far =
     subst (λ (ks : List EventKind). IsOpen line (h ++ told_by line (beginning stood line ++ ks))) (sym (append-nil kinds)) (tells_more stood line h kinds all so_far)
 tells_by (Ends answer) stood line h kinds all so_far =
@@ -108,7 +112,8 @@ tells_by (Ends answer) stood line h kinds all so_far =
 abbrev told_as : Actor → Place → Line → Place → Held → ℕ → List Event
 told_as actor stood line p hand v = map (λ kind. record { actor = actor; kind = kind }) (event_kinds stood line p hand v)
 
-step_tells_at : (stood : Place) (line other : Line) (actor : Actor) (p : Place) (hand : Held) (v : ℕ) (told : List Event) → other ≡ line → actor ≡ line.actor → SoFar stood line told
+step_tells_at : (stood : Place) (line other : Line) (actor : Actor) (p : Place) (hand : Held) (v : ℕ) (told : List Event) → other ≡ line
+    → actor ≡ line.actor → SoFar stood line told
     → Tells (outcome_at p other.command hand v) line (told ++ told_as actor stood other p hand v)
 step_tells_at stood line other actor p hand v told is own so_far =
     subst (λ (l : Line). Tells (outcome_at p l.command hand v) line (told ++ told_as actor stood l p hand v)) (sym is)
@@ -116,7 +121,8 @@ step_tells_at stood line other actor p hand v told is own so_far =
     (tells_by (outcome_at p line.command hand v) stood line told (tells_at p line.command hand v) (tells_within p line.command hand v) so_far))
 
 -- A step of a hand's line: from its begin on the line tells events of its own, and with the step that ends it, its answer.
-pub step_tells : (hand : Held) (line : Line) (v : ℕ) (told : List Event) → has_line hand ≡ true → line_at hand.state.place hand ≡ line → hand.state.actor ≡ line.actor → SoFar hand.state.place line told
+pub step_tells : (hand : Held) (line : Line) (v : ℕ) (told : List Event) → has_line hand ≡ true → line_at hand.state.place hand ≡ line
+    → hand.state.actor ≡ line.actor → SoFar hand.state.place line told
     → Tells (outcome_at (place_at hand.state.place hand) (line_at hand.state.place hand).command hand v) line (told ++ events_of hand v)
 step_tells hand line v told has is own so_far =
     subst (λ (es : List Event). Tells (outcome_at (place_at hand.state.place hand) (line_at hand.state.place hand).command hand v) line (told ++ es)) (sym (events_of_line hand v has))

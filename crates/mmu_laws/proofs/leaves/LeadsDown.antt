@@ -1,7 +1,11 @@
--- Links lead from the root to an entry exactly where they do so from a table that stands over the guest frame.
+-- Links lead from the root to an entry exactly where they do so from a table that stands over the guest frame; and what they come to next.
 use Rattle.std.proofs.Math.Nat.{div-div-eq-div-mul}
-use Rattle.std.proofs.Common.{◌≡◌, ◌⊎◌, inl, inr, ◌+◌, ◌-◌, ◌*◌, ◌/◌, ◌%◌, ◌^◌, ◌<◌, ◌≤◌, ℕ, zero, suc, sym, subst, ap, ◌∙◌, arith}
-use Rattle.std.specs.Prelude.{Some, None}
+use Rattle.std.proofs.Common.{◌≡◌, ◌⊎◌, inl, inr, ◌+◌, ◌-◌, ◌*◌, ◌/◌, ◌%◌, ◌^◌, ◌<◌, ◌≤◌, ℕ, zero, suc, refl, sym, subst, ap, ◌∙◌, arith}
+use Rattle.std.specs.Prelude.{Bool, true, false, ◌==◌, Some, None}
+use Rattle.std.proofs.lemmas.Bool.Decides.{nat_tests}
+use Rattle.core_views.specs.declared.topics.TableWalk.{TableWalk}
+use Rattle.spte_words.specs.declared.spte_kind.SpteKind.TheVariants as entry_kind
+use Rattle.mmu_core.specs.lines.FaultSteps.{allows_access}
 use Rattle.core_views.specs.declared.sizes.Sizes.{Sizes}
 use Rattle.core_views.specs.Held.{Held}
 use Rattle.spte_words.specs.declared.area.Area.TheVariants as area
@@ -10,11 +14,11 @@ use Rattle.spte_words.specs.Areas.{pool_index}
 use Rattle.spte_words.specs.Entries.{kind_of, level_span}
 use Rattle.spte_words.proofs.ReadsEntries.{kind_of_absent, kind_of_table}
 use Rattle.spte_words.proofs.Spans.{span_above}
-use Rattle.mmu_core.specs.alone.FaultAlone.{LeadSame, LeadsTo}
+use Rattle.mmu_core.specs.alone.FaultAlone.{LeadSame, LeadsTo, LeadsToLeaf}
 use Rattle.mmu_core.specs.invariant.Laws.{IsSound}
 use Rattle.mmu_core.specs.machine.Machine.{World}
-use Rattle.part_steps.specs.PartTasks.{entry_index}
-use Rattle.part_steps.specs.WalkTopics.{linked_page}
+use Rattle.part_steps.specs.PartTasks.{entry_index, table_page}
+use Rattle.part_steps.specs.WalkTopics.{gone_down, linked_page}
 use Rattle.mmu_core.specs.invariant.TreePart.{EntryPart, Position, Reaches, TreePart, Use, at, stands}
 use Rattle.mmu_core.specs.machine.View.{word_in}
 use Rattle.mmu_core.proofs.pages.Standing.{one_position}
@@ -29,7 +33,8 @@ run_above gfn level from = div-div-eq-div-mul gfn (level_span level) 512 ∙ ap 
 
 module _ {pages root set : ℕ} {role pool : ℕ → ℕ} {up : ℕ → Use} {spot : ℕ → Position} (T : TreePart pages root set role pool up spot) (few : pages ≤ 2 ^ 32) (gfn entry : ℕ) where
   -- Behind a link of a table stands a table, one level below, at the run of this entry.
-  pub below_stands : (level prefix page below : ℕ) → stands up spot page ≡ Some (at (suc (suc level)) prefix) → linked_page (kind_of (suc (suc level)) (pool (pool_index page (entry_index gfn (suc (suc level)))))) ≡ Some below
+  pub below_stands : (level prefix page below : ℕ) → stands up spot page ≡ Some (at (suc (suc level)) prefix)
+      → linked_page (kind_of (suc (suc level)) (pool (pool_index page (entry_index gfn (suc (suc level)))))) ≡ Some below
       → stands up spot below ≡ Some (at (suc level) (prefix * 512 + entry_index gfn (suc (suc level))))
   below_stands level prefix page below at_page link = by (T.entries page (at (suc (suc level)) prefix) at_page j (omega arith))
     where
@@ -58,19 +63,22 @@ module _ {pages root set : ℕ} {role pool : ℕ → ℕ} {up : ℕ → Use} {sp
   }
 
   -- So it is with each table over the guest frame, from the top level down.
-  leads_at_root : (level page : ℕ) → stands up spot page ≡ Some (at (suc level) (gfn / level_span (suc level) / 512)) → page ≡ root → LeadSame pool root (suc level) page gfn entry
+  leads_at_root : (level page : ℕ) → stands up spot page ≡ Some (at (suc level) (gfn / level_span (suc level) / 512)) → page ≡ root
+      → LeadSame pool root (suc level) page gfn entry
   leads_at_root level page at_page e =
       let top : suc level ≡ 4 = ap (λ (p : Position). p.level) (one_position (sym at_page ∙ ap (stands up spot) e ∙ root_stands T)) in
       subst (λ l. LeadSame pool root l page gfn entry) (sym top) (subst (λ k. LeadSame pool root 4 k gfn entry) (sym e) (record { below = λ leads. leads; above = λ leads. leads }))
 
   -- the table's parent stands over the guest frame too, and its entry there is the link
-  parent_over : (level page links : ℕ) (L : IsLinked pool up spot root links page (at (suc level) (gfn / level_span (suc level) / 512))) → stands up spot L.parent ≡ Some (at (suc (suc level)) (gfn / level_span (suc (suc level)) / 512))
+  parent_over : (level page links : ℕ) (L : IsLinked pool up spot root links page (at (suc level) (gfn / level_span (suc level) / 512)))
+      → stands up spot L.parent ≡ Some (at (suc (suc level)) (gfn / level_span (suc (suc level)) / 512))
   parent_over level page links L =
       let one : suc level + 1 ≡ suc (suc level) = omega arith in
       let run : gfn / level_span (suc level) / 512 ≡ gfn / level_span (suc (suc level)) = run_above gfn (suc level) (omega arith) ∙ ap (λ n. gfn / level_span n) one in
       L.above ∙ ap (λ n. Some (at n (gfn / level_span (suc level) / 512 / 512))) one ∙ ap (λ n. Some (at (suc (suc level)) (n / 512))) run
 
-  parent_links : (level page links : ℕ) → stands up spot page ≡ Some (at (suc level) (gfn / level_span (suc level) / 512)) → (L : IsLinked pool up spot root links page (at (suc level) (gfn / level_span (suc level) / 512)))
+  parent_links : (level page links : ℕ) → stands up spot page ≡ Some (at (suc level) (gfn / level_span (suc level) / 512))
+      → (L : IsLinked pool up spot root links page (at (suc level) (gfn / level_span (suc level) / 512)))
       → linked_page (kind_of (suc (suc level)) (pool (pool_index L.parent (entry_index gfn (suc (suc level)))))) ≡ Some page
   parent_links level page links at_page L =
       let one : suc level + 1 ≡ suc (suc level) = omega arith in
@@ -85,20 +93,69 @@ module _ {pages root set : ℕ} {role pool : ℕ → ℕ} {up : ℕ → Use} {sp
       → LeadSame pool root (suc level) page gfn entry
   leads_from level page R at_page over = by (linked T page _ R at_page)
     where
-      by : (page ≡ root) ⊎ ((links : ℕ) × IsLinked pool up spot root links page (at (suc level) (gfn / level_span (suc level) / 512))) → LeadSame pool root (suc level) page gfn entry
+      by : (page ≡ root) ⊎ ((links : ℕ) × IsLinked pool up spot root links page (at (suc level) (gfn / level_span (suc level) / 512)))
+          → LeadSame pool root (suc level) page gfn entry
       by (inl e) = leads_at_root level page at_page e
-      by (inr found) = let L = found.1 in one_down level L.parent page (parent_links level page found.0 at_page L) (over L.parent L.lower (found.0, L.chain) (parent_over level page found.0 L))
+      by (inr found) =
+          let L = found.1 in one_down level L.parent page (parent_links level page found.0 at_page L) (over L.parent L.lower (found.0, L.chain) (parent_over level page found.0 L))
 
-  leads_by : (above level page : ℕ) → level + above ≡ 3 → Reaches up root page → stands up spot page ≡ Some (at (suc level) (gfn / level_span (suc level) / 512)) → LeadSame pool root (suc level) page gfn entry
+  leads_by : (above level page : ℕ) → level + above ≡ 3 → Reaches up root page
+      → stands up spot page ≡ Some (at (suc level) (gfn / level_span (suc level) / 512)) → LeadSame pool root (suc level) page gfn entry
   leads_by zero level page levels R at_page = leads_from level page R at_page (λ k lower reached at_k. absurd (omega (arith, levels, lower)))
-  leads_by (suc n) level page levels R at_page = leads_from level page R at_page (λ k lower reached at_k. leads_by n (suc level) k (omega (arith, levels)) reached at_k)
+  leads_by (suc n) level page levels R at_page =
+      leads_from level page R at_page (λ k lower reached at_k. leads_by n (suc level) k (omega (arith, levels)) reached at_k)
 
-  pub leads_same : (level page : ℕ) → Reaches up root page → stands up spot page ≡ Some (at level (gfn / level_span level / 512)) → LeadSame pool root level page gfn entry
+  pub leads_same : (level page : ℕ) → Reaches up root page → stands up spot page ≡ Some (at level (gfn / level_span level / 512))
+      → LeadSame pool root level page gfn entry
   leads_same zero page R at_page = absurd (let low = (T.there page _ at_page).1 in omega (arith, low))
   leads_same (suc level) page R at_page = leads_by (3 - level) level page (let most = (T.there page _ at_page).2 in omega (arith, most)) R at_page
 
-pub leads_down : (z : Sizes) (w : World Held) (gfn page level entry : ℕ) (sound : IsSound z w) → stands sound.topics.up sound.topics.spot page ≡ Some (at level (gfn / level_span level / 512))
+pub leads_down : (z : Sizes) (w : World Held) (gfn page level entry : ℕ) (sound : IsSound z w)
+    → stands sound.topics.up sound.topics.spot page ≡ Some (at level (gfn / level_span level / 512))
     → LeadSame (word_in z w area.Pool) (word_in z w area.Root 0) level page gfn entry
 leads_down z w gfn page level entry sound at_page =
     let I = sound.topics in
     leads_same I.tree (let most = sound.holds.sizes.pool.1 in omega (arith, most)) gfn entry level page (all_reached I.tree page _ at_page) at_page
+
+-- ---- the next entry on the way
+
+-- through a link, one level down
+leads_below : (pool : ℕ → ℕ) (level page gfn e below : ℕ) → 2 ≤ level
+    → linked_page (kind_of level (pool (pool_index page (entry_index gfn level)))) ≡ Some below
+    → LeadsTo pool level page gfn e → LeadsTo pool (level - 1) below gfn e
+leads_below pool zero page gfn e below upper link leads = absurd (omega (arith, upper))
+leads_below pool (suc zero) page gfn e below upper link leads = absurd (omega (arith, upper))
+leads_below pool (suc (suc level)) page gfn e below upper link leads =
+    let down : suc level ≡ suc (suc level) - 1 = omega arith in
+    subst (λ l. LeadsTo pool l below gfn e) down (subst (λ k. LeadsTo pool (suc level) k gfn e) (same_page (sym leads.1 ∙ link)) leads.2)
+
+pub leaf_below : (pool : ℕ → ℕ) (level page gfn below : ℕ) (write : Bool) → 2 ≤ level
+    → linked_page (kind_of level (pool (pool_index page (entry_index gfn level)))) ≡ Some below
+    → LeadsToLeaf pool level page gfn write → LeadsToLeaf pool (level - 1) below gfn write
+leaf_below pool level page gfn below write upper link L =
+    record { entry = L.entry; leads = leads_below pool level page gfn L.entry below upper link L.leads; leaf = L.leaf; allows = L.allows }
+
+-- an entry that is no link is the leaf
+leads_here : (pool : ℕ → ℕ) (level page gfn e v : ℕ) → pool (pool_index page (entry_index gfn level)) ≡ v → linked_page (kind_of level v) ≡ None
+    → LeadsTo pool level page gfn e → (level ≡ 1) × (v ≡ e)
+leads_here pool zero page gfn e v here none leads = absurd leads
+leads_here pool (suc zero) page gfn e v here none leads = (refl, sym here ∙ leads)
+leads_here pool (suc (suc level)) page gfn e v here none leads =
+    let some : Some leads.0 ≡ None = sym leads.1 ∙ ap (λ n. linked_page (kind_of (suc (suc level)) n)) here ∙ none in
+    absurd (cc some)
+
+pub is_leaf_here : (pool : ℕ → ℕ) (level page gfn v : ℕ) (write : Bool) (k : SpteKind) → pool (pool_index page (entry_index gfn level)) ≡ v
+    → kind_of level v ≡ k → linked_page k ≡ None
+    → LeadsToLeaf pool level page gfn write → (k ≡ entry_kind.Leaf) × (allows_access write v ≡ true)
+is_leaf_here pool level page gfn v write k here is none L =
+    let E = leads_here pool level page gfn L.entry v here (ap (λ (x : SpteKind). linked_page x) is ∙ none) L.leads in
+    (sym is ∙ ap (λ l. kind_of l v) E.0 ∙ ap (kind_of 1) E.1 ∙ L.leaf, ap (allows_access write) E.1 ∙ L.allows)
+
+-- the page of the table one level down
+pub down_page : (page v index : ℕ) (walk : TableWalk) → 2 ≤ walk.level → walk.level ≤ 4 → table_page (gone_down (Some page) walk index v) ≡ page
+down_page page v index walk from most = by (walk.level == 2) (walk.level == 3) refl refl
+  where
+    by : (two three : Bool) → (walk.level == 2) ≡ two → (walk.level == 3) ≡ three → table_page (gone_down (Some page) walk index v) ≡ page
+    by true three is other = let e : walk.level ≡ 2 = grind (arith, nat_tests) in rw e refl
+    by false true is other = let e : walk.level ≡ 3 = grind (arith, nat_tests) in rw e refl
+    by false false is other = let e : walk.level ≡ 4 = grind (arith, nat_tests) in rw e refl

@@ -18,7 +18,8 @@ use Rattle.mmu_core.specs.invariant.Laws.{IsSound}
 use Rattle.part_steps.specs.PartBounds.{PartRests}
 use Rattle.mmu_core.proofs.words.PartFits.{part_small}
 use Rattle.mmu_core.specs.machine.Machine.{May, World, hand_in}
-use Rattle.mmu_core.specs.lines.Rests.{Rests, RestsAt}
+use Rattle.mmu_core.specs.lines.Rests.{Rests}
+use Rattle.mmu_core.specs.lines.Forms.{RestsAt}
 use Rattle.mmu_core.specs.machine.Steps.{line_at, place_at, task_at, task_of}
 use Rattle.part_steps.specs.Tasks.{kind_of_task, map_of}
 use Rattle.mmu_core.specs.machine.View.{view}
@@ -67,4 +68,5 @@ may_step z w a G there has = record {
     S = is_step z (view z w) a G.holds there has.left
 
     below : word_place (map_of z) (task_of h).area (task_of h).index < total (map_of z)
-    below = place_below (map_of z) (task_of h).area (task_of h).index (subst (λ y. (task_of h).index < size_of (map_of y) (task_of h).area) same (task_within h R))
+    below =
+        place_below (map_of z) (task_of h).area (task_of h).index (subst (λ y. (task_of h).index < size_of (map_of y) (task_of h).area) same (task_within h R))

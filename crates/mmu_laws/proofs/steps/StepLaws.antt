@@ -1,6 +1,6 @@
 -- Each step is on a word of its kind's area, and it leaves at most one more translation.
 use Rattle.std.proofs.Common.{◌≡◌, inl, inr, ◌<◌, ℕ, refl, sym, subst, ap, ◌∙◌}
-use Rattle.std.specs.Prelude.{Bool, true, false, [], if◌then◌else◌, Option, Some, None}
+use Rattle.std.specs.Prelude.{Bool, true, false, [], if◌then◌else◌}
 use Rattle.circular_buffer.specs.Buffer.{Buffer, buffer}
 use Rattle.core_views.specs.declared.cache.Translation.{Translation}
 use Rattle.core_views.specs.declared.kind.Kind.{Kind}
@@ -25,16 +25,16 @@ use Rattle.spte_words.specs.Entries.{kind_of}
 use Rattle.part_steps.specs.declared.task.Task.{Task}
 use Rattle.part_steps.specs.declared.part_step.PartStep.{PartStep}
 use Rattle.part_steps.specs.declared.part_step.PartStep.TheVariants as part
-use Rattle.mmu_core.specs.lines.AccessSteps.{access_caches, is_found, task_by, touch_of}
+use Rattle.mmu_core.specs.lines.AccessSteps.{access_caches, is_found, touch_of}
 use Rattle.mmu_core.specs.lines.Cached.{asks_flush, flushed, flushed_by, with_leaf}
 use Rattle.mmu_core.specs.machine.Enabled.{Enabled}
 use Rattle.mmu_core.specs.lines.FaultSteps.{allows_access}
 use Rattle.part_steps.specs.PartTasks.{own_index, part_task}
 use Rattle.mmu_laws.specs.steps.StepLaws.{CachesOneAtMost, IsOn, IsOnItsArea}
-use Rattle.mmu_core.specs.machine.Steps.{caches_at, has_line, next, next_by, place_at, task_at, task_of}
+use Rattle.mmu_core.specs.lines.Forms.{caches_at, RestsAt}
+use Rattle.mmu_core.specs.machine.Steps.{has_line, next, next_by, place_at, task_at, task_of}
 use Rattle.part_steps.specs.Tasks.{kind_of_task, map_of}
 use Rattle.mmu_core.specs.machine.Turns.{line_of}
-use Rattle.mmu_core.specs.lines.Rests.{RestsAt}
 use Rattle.mmu_core.proofs.machine.Advancing.{named_is}
 use Rattle.mmu_core.proofs.words.PartIndex.{index_same}
 use Rattle.mmu_core.proofs.invariant.RestsKept.{task_within}
@@ -45,7 +45,7 @@ pub record TellsPart (note : ℕ) (t : Task) : Type 0 where
   pub on : IsOn t.kind t.area
   pub note_is : t.may_end ≡ note
 
-tells_part : (step : PartStep) (own : ℕ) (t : Topics) (note : ℕ) → TellsPart note (part_task step own t note)
+pub tells_part : (step : PartStep) (own : ℕ) (t : Topics) (note : ℕ) → TellsPart note (part_task step own t note)
 tells_part (part.Fill value) own t note = record { on = inl refl; note_is = refl }
 tells_part (part.Role value) own t note = record { on = inr refl; note_is = refl }
 tells_part part.Pause own t note = record { on = tt; note_is = refl }
@@ -59,18 +59,9 @@ tells_part part.Root own t note = record { on = tt; note_is = refl }
 tells_part part.Clear own t note = record { on = inr refl; note_is = refl }
 tells_part _ own t note = record { on = refl; note_is = refl }
 
-tells_touch : (op : Op) (index : ℕ) → TellsPart 0 (touch_of op index)
+pub tells_touch : (op : Op) (index : ℕ) → TellsPart 0 (touch_of op index)
 tells_touch Read index = record { on = refl; note_is = refl }
 tells_touch _ index = record { on = refl; note_is = refl }
-
--- the note that the step of a place has: the touch has 0
-abbrev pub note_by : Option PartStep → ℕ → ℕ
-note_by None note = 0
-note_by (Some step) note = note
-
-pub tells_by : (s : Option PartStep) (h : Held) (note index : ℕ) (op : Op) → TellsPart (note_by s note) (task_by s h note (touch_of op index))
-tells_by None h note index op = tells_touch op index
-tells_by (Some step) h note index op = tells_part step (own_index h) h.topics note
 
 -- What a line's step is on.
 on_by : (command : Command) (h : Held) (t : Task) → StepAt command h t → IsOn t.kind t.area
@@ -82,7 +73,8 @@ line_on p command h R = on_by command h (task_at p command h) (step_at p command
 
 -- a task's numbers
 on_its_area : (z : Sizes) (t : Task) → t.index < size_of (map_of z) t.area → IsOn t.kind t.area → IsOnItsArea z (kind_of_task z t)
-on_its_area z t within on = record { area = t.area; index = t.index; there = within; at = refl; of_kind = subst (λ (k : StepKind). IsOn k t.area) (sym (named_is t.kind)) on }
+on_its_area z t within on =
+    record { area = t.area; index = t.index; there = within; at = refl; of_kind = subst (λ (k : StepKind). IsOn k t.area) (sym (named_is t.kind)) on }
 
 pub steps_are_on_their_areas : (h : Held) (k : Kind) → Enabled h k → IsOnItsArea h.state.sizes k
 unfolding Enabled
@@ -129,7 +121,8 @@ line_caches_one : (p : Place) (command : Command) (h : Held) (v : ℕ) → Cache
 line_caches_one (place.Access p) (Access gfn word op) h v = access_caches_one p h gfn op v
 line_caches_one _ _ h v = inl refl
 
-pub others_cache_one : (h : Held) (k : Kind) (v : ℕ) → Enabled h k → (kind_named k.code ≡ kind.Enter → asks_flush v ≡ false) → CachesOneAtMost h.cached (next h k v).cached
+pub others_cache_one : (h : Held) (k : Kind) (v : ℕ) → Enabled h k → (kind_named k.code ≡ kind.Enter → asks_flush v ≡ false)
+    → CachesOneAtMost h.cached (next h k v).cached
 unfolding next
 others_cache_one h k v enabled unasked = by (has_line h)
   where

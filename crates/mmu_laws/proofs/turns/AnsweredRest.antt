@@ -13,12 +13,12 @@ use Rattle.part_steps.specs.PartSteps.{IsAtRest}
 use Rattle.mmu_core.specs.declared.outcome.Outcome.{Outcome}
 use Rattle.mmu_core.specs.declared.outcome.Outcome.TheVariants.{Ends}
 use Rattle.mmu_core.specs.machine.Enabled.{mmu}
-use Rattle.mmu_core.specs.lines.KnowsPart.{may_leave}
+use Rattle.mmu_core.specs.lines.Forms.{may_leave, outcome_at}
 use Rattle.mmu_core.specs.invariant.Laws.{IsSound}
 use Rattle.mmu_core.specs.machine.Machine.{May, Step, World, answered, effect, hand_in}
 use Rattle.mmu_core.specs.alone.OthersRest.{HoldsNothing}
 use Rattle.mmu_core.specs.machine.Outcomes.{place_after}
-use Rattle.mmu_core.specs.machine.Steps.{has_line, line_at, outcome_at, place_at, task_at}
+use Rattle.mmu_core.specs.machine.Steps.{has_line, line_at, place_at, task_at}
 use Rattle.mmu_core.specs.machine.Turns.{outcome_of}
 use Rattle.mmu_core.specs.machine.View.{View, answer_in, hand_after, view, word_in}
 use Rattle.mmu_core.proofs.machine.Columns.{upd_same}
@@ -53,7 +53,8 @@ module _ (z : Sizes) (w : World Held) (s : Step Kind) (G : IsSound z w) (may : M
   hand_is = ap (λ (v : View). v.hand s.actor) taken.leads ∙ upd_same (hand_in mmu w) s.actor behind
 
   -- the topics rest, and no page leaves where no line is under way
-  rests_where : (o : Outcome) (answer : Answer) → outcome_at stood line.command h x ≡ o → o ≡ Ends answer → KnowsBehind o line.command behind → HoldsNothing (hand_in mmu (effect mmu w s) s.actor).topics
+  rests_where : (o : Outcome) (answer : Answer) → outcome_at stood line.command h x ≡ o → o ≡ Ends answer → KnowsBehind o line.command behind
+      → HoldsNothing (hand_in mmu (effect mmu w s) s.actor).topics
   rests_where o answer is ends knows =
       let stands : behind.state.place ≡ place.Between = ap place_after (is ∙ ends) in
       record {

@@ -17,15 +17,14 @@ use Rattle.core_views.specs.Slots.{is_write}
 use Rattle.spte_words.specs.declared.area.Area.{Area}
 use Rattle.mmu_core.specs.declared.outcome.Outcome.{Outcome}
 use Rattle.mmu_core.specs.declared.outcome.Outcome.TheVariants.{Goes}
-use Rattle.mmu_core.specs.lines.Bounds.{steps_left}
+use Rattle.mmu_core.specs.lines.Forms.{KnowsPart, outcome_at}
 use Rattle.mmu_core.specs.lines.Delays.{leaves_to_fault, walks_again}
 use Rattle.mmu_core.specs.machine.Enabled.{mmu}
-use Rattle.mmu_core.specs.lines.KnowsPart.{KnowsPart}
 use Rattle.mmu_core.specs.invariant.Laws.{IsSound}
 use Rattle.mmu_core.specs.alone.LineAlone.{hand_left, line_waits}
 use Rattle.mmu_core.specs.machine.Machine.{Legal, May, Step, World, answered, effect, hand_in, run}
 use Rattle.mmu_laws.specs.turns.Removal.{LeadsFromRoot, LostEntry, StandsAt, StayMisses, WalksInstalled, is_installed}
-use Rattle.mmu_core.specs.machine.Steps.{delays_at, has_line, line_at, outcome_at, place_at, standing, task_at}
+use Rattle.mmu_core.specs.machine.Steps.{delays_at, has_line, line_at, place_at, standing, task_at}
 use Rattle.mmu_laws.specs.turns.TurnLaws.{DelaysWaitBeginAnewOrMiss, TurnsComeNearer, begins_anew, is_counted, stands_at}
 use Rattle.mmu_core.specs.machine.Turns.{line_of, outcome_of}
 use Rattle.mmu_core.specs.machine.View.{answer_in, hand_after, view, word_in}
@@ -36,7 +35,8 @@ use Rattle.mmu_core.proofs.lines.KnowsKept.{knows_at}
 use Rattle.mmu_laws.proofs.turns.Removal.{no_stay_misses}
 use Rattle.mmu_laws.proofs.causes.StarvedScan.{legal_parts}
 use Rattle.mmu_core.proofs.start.Starts.{start_good}
-use Rattle.mmu_laws.proofs.turns.TurnsNearer.{WaitsOrBegins, hand_behind, nearer_hand, nearer_here, no_miss, none_of, one_of, same_sizes, stood_left, taken, where_it_stands}
+use Rattle.mmu_core.proofs.lines.Forms.{outcome_goes}
+use Rattle.mmu_laws.proofs.turns.TurnsNearer.{WaitsOrBegins, hand_behind, nearer_hand, nearer_here, no_miss, none_of, one_of, same_sizes, taken, where_it_stands}
 use Rattle.mmu_core.proofs.machine.Worlds.{Takes, good_run}
 
 -- ---- a stay that misses
@@ -55,7 +55,8 @@ leaves_is (Goes (place.Access (Leave leaving.Faults))) is = refl
 leaves_is _ is = absurd (cc is)
 
 misses_at : (p : Place) (c : Command) (h : Held) (o : Outcome) → KnowsPart p c h → (walks_again p && leaves_to_fault o) ≡ true → Misses p c o
-misses_at (place.Access (Walk true)) (Access gfn word op) h o K is = record { gfn = gfn; word = word; op = op; at = refl; access_is = refl; leaves = leaves_is o is }
+misses_at (place.Access (Walk true)) (Access gfn word op) h o K is =
+    record { gfn = gfn; word = word; op = op; at = refl; access_is = refl; leaves = leaves_is o is }
 misses_at (place.Access (Walk true)) _ h o K is = absurd K
 misses_at _ c h o K is = absurd (cc is)
 
@@ -128,19 +129,23 @@ module _ (z : Sizes) (lines : List Line) (start : World Held) (ss : List (Step K
           let of_access = subst (λ (c : Command). WalksInstalled (place.Access (Walk true)) c words h.topics) (command ∙ sym M.access_is) there in
           no_miss stood line.command h words (subst (λ (q : Place). WalksInstalled q line.command words h.topics) (sym M.at) of_access)
 
-      by : (LeadsFromRoot z w M.gfn (is_write M.op) × WalksInstalled h.state.place h.state.line.command words h.topics) ⊎ LostEntry z s.actor M.gfn (is_write M.op) start ss → StayMisses z start ss s
+      by : (LeadsFromRoot z w M.gfn (is_write M.op) × WalksInstalled h.state.place h.state.line.command words h.topics) ⊎ LostEntry z s.actor M.gfn (is_write M.op) start ss
+          → StayMisses z start ss s
       by (inl L) = let found = ap misses T.answers ∙ finds L.1 in absurd (cc (is, found))
       by (inr lost) = record { gfn = M.gfn; word = M.word; op = M.op; at = at; access_is = command; misses = M.leaves; lost = lost }
 
   -- It leaves fewer steps, where it finds a translation.
-  nearer : line_waits stood line.command h v ≡ false → begins_anew stood ≡ false → misses v ≡ false → (p : Place) → outcome_of h v ≡ Goes p → hand_left (hand_in mmu (effect mmu w s) s.actor) < hand_left h
+  nearer : line_waits stood line.command h v ≡ false → begins_anew stood ≡ false → misses v ≡ false → (p : Place) → outcome_of h v ≡ Goes p
+      → hand_left (hand_in mmu (effect mmu w s) s.actor) < hand_left h
   nearer goes on finds p out =
       let none : delays_at stood line.command h x ≡ false = none_of (line_waits stood line.command h x) (begins_anew stood) (misses x) (ap (line_waits stood line.command h) (sym T.answers) ∙ goes) on (ap misses (sym T.answers) ∙ finds) in
       subst (λ (g : Held). hand_left g < hand_left h) (sym (hand_behind z w s G may has))
-      (nearer_hand (hand_after line line.command stood h x) (outcome_at stood line.command h x) p h.state.sizes (steps_left stood h.state.sizes h.topics) (hand_left h) (ap (outcome_at stood line.command h) (sym T.answers) ∙ out) refl (same_sizes z w s G may has)
-      (stood_left z w s G may has) (nearer_here z w s G may has none))
+      (nearer_hand (hand_after line line.command stood h x) (outcome_at stood line.command h x) p h.state.sizes (hand_left h)
+      (ap (outcome_at stood line.command h) (sym T.answers) ∙ out)
+      (outcome_goes stood line.command h x T.is_step.begun) refl (same_sizes z w s G may has) (nearer_here z w s G may has none))
 
-  turn : line_waits stood line.command h v ≡ false → begins_anew stood ≡ false → (p : Place) → outcome_of h v ≡ Goes p → (hand_left (hand_in mmu (effect mmu w s) s.actor) < hand_left h) ⊎ StayMisses z start ss s
+  turn : line_waits stood line.command h v ≡ false → begins_anew stood ≡ false → (p : Place) → outcome_of h v ≡ Goes p
+      → (hand_left (hand_in mmu (effect mmu w s) s.actor) < hand_left h) ⊎ StayMisses z start ss s
   turn goes on p out = by (misses v) refl
     where
       by : (b : Bool) → misses v ≡ b → (hand_left (hand_in mmu (effect mmu w s) s.actor) < hand_left h) ⊎ StayMisses z start ss s
@@ -150,11 +155,13 @@ module _ (z : Sizes) (lines : List Line) (start : World Held) (ss : List (Step K
   delay : is_counted w s ≡ true → (line_waits h.state.place line.command h v ≡ true) ⊎ (begins_anew h.state.place ≡ true) ⊎ StayMisses z start ss s
   delay counts = by (one_of (line_waits stood line.command h v) (begins_anew stood) (misses v) counts)
     where
-      two : WaitsOrBegins h.state.place line.command h v → (line_waits h.state.place line.command h v ≡ true) ⊎ (begins_anew h.state.place ≡ true) ⊎ StayMisses z start ss s
+      two : WaitsOrBegins h.state.place line.command h v
+          → (line_waits h.state.place line.command h v ≡ true) ⊎ (begins_anew h.state.place ≡ true) ⊎ StayMisses z start ss s
       two (inl waits) = inl waits
       two (inr anew) = inr (inl anew)
 
-      by : (line_waits stood line.command h v ≡ true) ⊎ (begins_anew stood ≡ true) ⊎ (misses v ≡ true) → (line_waits h.state.place line.command h v ≡ true) ⊎ (begins_anew h.state.place ≡ true) ⊎ StayMisses z start ss s
+      by : (line_waits stood line.command h v ≡ true) ⊎ (begins_anew stood ≡ true) ⊎ (misses v ≡ true)
+          → (line_waits h.state.place line.command h v ≡ true) ⊎ (begins_anew h.state.place ≡ true) ⊎ StayMisses z start ss s
       by (inl waits) = two (where_it_stands h.state.place h.state.sizes h.slots line.command h v (inl waits))
       by (inr (inl anew)) = two (where_it_stands h.state.place h.state.sizes h.slots line.command h v (inr anew))
       by (inr (inr is)) = inr (inr (miss_is is))
@@ -168,7 +175,8 @@ delays_wait_begin_anew_or_miss z lines start ss s is_start legal has counts = de
 -- ---- with no kind of step that takes entries away, no stay misses
 
 -- What is so of each step after a list of steps from a start is so of each step in a reachable world.
-of_reachable : (P : World Held → Step Kind → Type 0) → ((z : Sizes) (lines : List Line) (start : World Held) (ss : List (Step Kind)) (s : Step Kind) → IsStart z lines start → Legal mmu start (ss ++ s ∷ []) → P (run mmu start ss) s)
+of_reachable : (P : World Held → Step Kind → Type 0)
+    → ((z : Sizes) (lines : List Line) (start : World Held) (ss : List (Step Kind)) (s : Step Kind) → IsStart z lines start → Legal mmu start (ss ++ s ∷ []) → P (run mmu start ss) s)
     → (w : World Held) (s : Step Kind) → Reachable w → May mmu w s → P w s
 of_reachable P so w s r may =
     subst (λ (u : World Held). P u s) r.leads.ends
@@ -177,20 +185,24 @@ of_reachable P so w s r may =
 abbrev ComesNearer : World Held → Step Kind → Type 0
 ComesNearer w s =
     has_line (hand_in mmu w s.actor) ≡ true → line_waits (stands_at w s) (line_of (hand_in mmu w s.actor)).command (hand_in mmu w s.actor) (answered mmu w s.kind) ≡ false → begins_anew (stands_at w s) ≡ false
-    → (p : Place) → outcome_of (hand_in mmu w s.actor) (answered mmu w s.kind) ≡ Goes p → hand_left (hand_in mmu (effect mmu w s) s.actor) < hand_left (hand_in mmu w s.actor)
+    → (p : Place) → outcome_of (hand_in mmu w s.actor) (answered mmu w s.kind) ≡ Goes p
+    → hand_left (hand_in mmu (effect mmu w s) s.actor) < hand_left (hand_in mmu w s.actor)
 
 pub turns_nearer : (w : World Held) (s : Step Kind) → Reachable w → May mmu w s → ComesNearer w s
-turns_nearer = of_reachable ComesNearer (λ z lines start ss s is_start legal has goes on p out. by z start ss s (turns_come_nearer z lines start ss s is_start legal has goes on p out))
+turns_nearer =
+    of_reachable ComesNearer (λ z lines start ss s is_start legal has goes on p out. by z start ss s (turns_come_nearer z lines start ss s is_start legal has goes on p out))
   where
     by : (z : Sizes) (start : World Held) (ss : List (Step Kind)) (s : Step Kind) {X : Type 0} → X ⊎ StayMisses z start ss s → X
     by z start ss s (inl less) = less
     by z start ss s (inr M) = absurd (no_stay_misses z start ss s M)
 
 abbrev WaitsOrBeginsAnew : World Held → Step Kind → Type 0
-WaitsOrBeginsAnew w s = has_line (hand_in mmu w s.actor) ≡ true → is_counted w s ≡ true → WaitsOrBegins (hand_in mmu w s.actor).state.place (line_of (hand_in mmu w s.actor)).command (hand_in mmu w s.actor) (answered mmu w s.kind)
+WaitsOrBeginsAnew w s =
+    has_line (hand_in mmu w s.actor) ≡ true → is_counted w s ≡ true → WaitsOrBegins (hand_in mmu w s.actor).state.place (line_of (hand_in mmu w s.actor)).command (hand_in mmu w s.actor) (answered mmu w s.kind)
 
 pub delays_wait_or_begin_anew : (w : World Held) (s : Step Kind) → Reachable w → May mmu w s → WaitsOrBeginsAnew w s
-delays_wait_or_begin_anew = of_reachable WaitsOrBeginsAnew (λ z lines start ss s is_start legal has counts. by z start ss s (delays_wait_begin_anew_or_miss z lines start ss s is_start legal has counts))
+delays_wait_or_begin_anew =
+    of_reachable WaitsOrBeginsAnew (λ z lines start ss s is_start legal has counts. by z start ss s (delays_wait_begin_anew_or_miss z lines start ss s is_start legal has counts))
   where
     by : (z : Sizes) (start : World Held) (ss : List (Step Kind)) (s : Step Kind) {X Y : Type 0} → X ⊎ Y ⊎ StayMisses z start ss s → X ⊎ Y
     by z start ss s (inl waits) = inl waits

@@ -27,7 +27,7 @@ use Rattle.spte_words.specs.Entries.{level_span}
 use Rattle.mmu_core.specs.machine.Enabled.{mmu}
 use Rattle.mmu_core.specs.alone.FaultAlone.{EntryStands, LeadsTo, LeadsToLeaf}
 use Rattle.mmu_core.specs.lines.FaultKnows.{EndKnows, FaultKnows, HasEntry}
-use Rattle.mmu_core.specs.lines.KnowsPart.{KnowsPart}
+use Rattle.mmu_core.specs.lines.Forms.{KnowsPart}
 use Rattle.mmu_core.specs.invariant.Laws.{IsSound}
 use Rattle.mmu_core.specs.machine.Machine.{Legal, May, Step, World, effect, hand_in, run}
 use Rattle.part_steps.specs.PartTasks.{entry_index, table_page}
@@ -38,7 +38,7 @@ use Rattle.mmu_laws.specs.turns.Breaking.{Breaks}
 use Rattle.mmu_laws.specs.turns.Removal.{InstalledEntriesServe, LeadsFromRoot, LostEntry, StandsInstalled, StandsAt, WalksInstalled, ends_installed, has_installed, is_installed}
 use Rattle.mmu_core.specs.machine.View.{View, answer_in, hand_after, view, word_in, words_after}
 use Rattle.mmu_core.specs.machine.Worlds.{IsStart}
-use Rattle.mmu_laws.proofs.alone.AloneStep.{topics_at}
+use Rattle.mmu_laws.proofs.alone.GoesAlone.{topics_at}
 use Rattle.mmu_core.proofs.machine.Columns.{same_or, upd_same}
 use Rattle.mmu_core.proofs.lines.KnowsKept.{knows_at}
 use Rattle.mmu_laws.proofs.leaves.LeadsDown.{leads_down}
@@ -76,7 +76,8 @@ entry_known (fault.End e) y gfn write t is K = has_entry e y gfn write t is K.2
 entry_known _ y gfn write t is K = absurd (cc is)
 
 -- Links lead from the root to the entry that the walk saw.
-entry_leads : (z : Sizes) (w : World Held) (a gfn : ℕ) (write : Bool) → IsSound z w → a < actors_of z → HasEntry gfn write (hand_in mmu w a).topics → EntryStands (word_in z w area.Pool) gfn (hand_in mmu w a).topics → Leads (word_in z w) gfn write
+entry_leads : (z : Sizes) (w : World Held) (a gfn : ℕ) (write : Bool) → IsSound z w → a < actors_of z → HasEntry gfn write (hand_in mmu w a).topics
+    → EntryStands (word_in z w area.Pool) gfn (hand_in mmu w a).topics → Leads (word_in z w) gfn write
 entry_leads z w a gfn write G there H stands =
     let walk : TableWalk = (hand_in mmu w a).topics.walk in
     let pool : ℕ → ℕ = word_in z w area.Pool in
@@ -90,7 +91,8 @@ entry_leads z w a gfn write G there H stands =
     }
 
 -- From the table of a walk links lead where they do from the root.
-walks_installed : (q : Place) (c : Command) (z : Sizes) (w : World Held) (a gfn : ℕ) (write : Bool) → IsSound z w → a < actors_of z → KnowsPart q c (hand_in mmu w a) → StandsAt is_installed q c gfn write → Leads (word_in z w) gfn write
+walks_installed : (q : Place) (c : Command) (z : Sizes) (w : World Held) (a gfn : ℕ) (write : Bool) → IsSound z w → a < actors_of z
+    → KnowsPart q c (hand_in mmu w a) → StandsAt is_installed q c gfn write → Leads (word_in z w) gfn write
     → WalksInstalled q c (word_in z w) (hand_in mmu w a).topics
 walks_installed (place.Access (Walk again)) (Access of_line word op) z w a gfn write G there K stands_ leads =
     let walk : TableWalk = (hand_in mmu w a).topics.walk in
@@ -154,22 +156,26 @@ module _ (z : Sizes) (w : World Held) (ss : List (Step Kind)) (s : Step Kind) (G
       by (inl led) = still (leaf_stays_or_breaks z u s gfn write G may led)
       by (inr lost) = inr (inl lost)
 
-  ends : (actor gfn : ℕ) (write : Bool) → StandsInstalled actor gfn write next_world → After actor gfn write → LedOrLost z w actor (ss ++ s ∷ []) next_world gfn write
+  ends : (actor gfn : ℕ) (write : Bool) → StandsInstalled actor gfn write next_world → After actor gfn write
+      → LedOrLost z w actor (ss ++ s ∷ []) next_world gfn write
   ends actor gfn write there (inl leads) = inl leads
   ends actor gfn write there (inr (inl lost)) = inr (lost_longer z actor gfn write w ss s there lost)
   ends actor gfn write there (inr (inr B)) = inr (lost_now z actor gfn write w ss s there B.0 B.1)
 
   before : (actor : ℕ) → HandServed z w actor ss u → Served (hand_in mmu u actor).state.place (hand_in mmu u actor).state.line.command (Before actor)
-  before actor S = served_on (hand_in mmu u actor).state.place (hand_in mmu u actor).state.line.command (LedOrLost z w actor ss u) (Before actor) (λ gfn write there x. (there, x)) S
+  before actor S =
+      served_on (hand_in mmu u actor).state.place (hand_in mmu u actor).state.line.command (LedOrLost z w actor ss u) (Before actor) (λ gfn write there x. (there, x)) S
 
   abbrev ServedAfter : ℕ → Held → Type 0
   ServedAfter actor g = Served g.state.place g.state.line.command (After actor)
 
   after_is : (actor : ℕ) → ServedAfter actor (hand_in mmu next_world actor) → HandServed z w actor (ss ++ s ∷ []) next_world
-  after_is actor S = served_on (hand_in mmu next_world actor).state.place (hand_in mmu next_world actor).state.line.command (After actor) (LedOrLost z w actor (ss ++ s ∷ []) next_world) (ends actor) S
+  after_is actor S =
+      served_on (hand_in mmu next_world actor).state.place (hand_in mmu next_world actor).state.line.command (After actor) (LedOrLost z w actor (ss ++ s ∷ []) next_world) (ends actor) S
 
   same_place : (actor : ℕ) → HandServed z w actor ss u → ServedAfter actor (hand_in mmu u actor)
-  same_place actor S = served_on (hand_in mmu u actor).state.place (hand_in mmu u actor).state.line.command (Before actor) (After actor) (λ gfn write there x. goes_on actor gfn write x) (before actor S)
+  same_place actor S =
+      served_on (hand_in mmu u actor).state.place (hand_in mmu u actor).state.line.command (Before actor) (After actor) (λ gfn write there x. goes_on actor gfn write x) (before actor S)
 
   module _ (T : Takes z u s h) where
     abbrev after : Held
@@ -212,7 +218,8 @@ module _ (z : Sizes) (w : World Held) (ss : List (Step Kind)) (s : Step Kind) (G
       by (inl is) = subst (λ i. HandServed z w i (ss ++ s ∷ []) next_world) (sym is) (own (takes z u s G may) (subst (λ i. HandServed z w i ss u) is S))
       by (inr apart) = after_is actor (subst (ServedAfter actor) (sym (others_hand u s actor apart)) (same_place actor S))
 
-hand_served : (z : Sizes) (lines : List Line) (start : World Held) (ss : List (Step Kind)) (a : ℕ) → IsStart z lines start → Legal mmu start ss → a < actors_of z → HandServed z start a ss (run mmu start ss)
+hand_served : (z : Sizes) (lines : List Line) (start : World Held) (ss : List (Step Kind)) (a : ℕ) → IsStart z lines start → Legal mmu start ss
+    → a < actors_of z → HandServed z start a ss (run mmu start ss)
 hand_served z lines start ss a is legal there =
     of_each_list z start (HandServed z start a) (λ ts s G may S. served_more z start ts s G may a S) ss (start_good z lines start is) legal
     (subst (λ (g : Held). Served g.state.place g.state.line.command (LedOrLost z start a [] start)) (sym (hand_is z lines start a is there)) tt)
@@ -230,6 +237,7 @@ installed_serve z lines start ss a gfn write is legal there stands_ =
     G : IsSound z u
     G = good_run z start ss (start_good z lines start is) legal
 
-    by : LedOrLost z start a ss u gfn write → (LeadsFromRoot z u gfn write × WalksInstalled h.state.place h.state.line.command (word_in z u) h.topics) ⊎ LostEntry z a gfn write start ss
+    by : LedOrLost z start a ss u gfn write
+        → (LeadsFromRoot z u gfn write × WalksInstalled h.state.place h.state.line.command (word_in z u) h.topics) ⊎ LostEntry z a gfn write start ss
     by (inl leads) = inl (leads, walks_installed h.state.place h.state.line.command z u a gfn write G there (G.holds.knows a there) stands_ leads)
     by (inr lost) = inr lost

@@ -27,6 +27,7 @@ use Rattle.spte_words.specs.declared.spte_kind.SpteKind.{SpteKind}
 use Rattle.spte_words.specs.declared.spte_kind.SpteKind.TheVariants as entry_kind
 use Rattle.spte_words.specs.Areas.{content_index}
 use Rattle.spte_words.specs.Entries.{frame_in, kind_of}
+use Rattle.mmu_core.proofs.lines.Forms.{other_knows}
 use Rattle.mmu_core.specs.declared.outcome.Outcome.{Outcome}
 use Rattle.mmu_core.specs.declared.outcome.Outcome.TheVariants.{Goes, Ends}
 use Rattle.mmu_core.specs.lines.AccessSteps.{access_note, access_outcome, access_part, access_task, behind_fault, pause_next, walk_next as stay_walk_next}
@@ -34,18 +35,19 @@ use Rattle.mmu_core.specs.lines.Cached.{first_usable}
 use Rattle.mmu_core.specs.alone.FaultAlone.{EntryStands}
 use Rattle.mmu_core.specs.lines.FaultKnows.{FaultKnows, KnowsNext}
 use Rattle.mmu_core.specs.lines.FaultSteps.{allows_access, fault_next, fault_part}
-use Rattle.mmu_core.specs.lines.KnowsPart.{AccessKnows, KnowsPart}
+use Rattle.mmu_core.specs.lines.AccessKnows.{AccessKnows}
+use Rattle.mmu_core.specs.lines.Forms.{KnowsPart, first_place, outcome_at}
 use Rattle.part_steps.specs.PartBounds.{PartRests}
 use Rattle.part_steps.specs.PartTasks.{own_index}
 use Rattle.part_steps.specs.PartSteps.{IsVcpu}
 use Rattle.part_steps.specs.PartTopics.{part_topics}
 use Rattle.mmu_core.specs.lines.Rests.{IsUnderWay}
-use Rattle.mmu_core.specs.machine.Steps.{first_place, line_at, next_line, outcome_at, standing, task_at}
+use Rattle.mmu_core.specs.machine.Steps.{line_at, next_line, standing, task_at}
 use Rattle.part_steps.specs.Tasks.{map_of}
 use Rattle.mmu_core.specs.machine.Outcomes.{place_after}
 use Rattle.mmu_laws.specs.turns.Removal.{StandsAt, ends_installed, is_installed}
 use Rattle.mmu_core.specs.machine.View.{answer_in, words_after}
-use Rattle.mmu_laws.proofs.alone.AloneStep.{topics_at}
+use Rattle.mmu_laws.proofs.alone.GoesAlone.{topics_at}
 use Rattle.mmu_laws.proofs.turns.EntrySeen.{SeesEntry, fault_sees}
 use Rattle.mmu_core.proofs.lines.FaultKnown.{fault_known, parts_answer}
 use Rattle.mmu_core.proofs.lines.KnowsKept.{access_needs, access_vcpu, task_topics}
@@ -66,7 +68,8 @@ always X (Goes (place.Access q)) x = λ is. x
 always X (Goes _) x = tt
 always X (Ends answer) x = tt
 
-behind_fault_installed : (X : Type 0) (n : FaultNext) (y : Sizes) (gfn : ℕ) (write : Bool) (pool : ℕ → ℕ) (t : Topics) → SeesEntry n pool gfn t → KnowsNext n y gfn write t → Makes y pool gfn write t X → WhereInstalled (behind_fault n) X
+behind_fault_installed : (X : Type 0) (n : FaultNext) (y : Sizes) (gfn : ℕ) (write : Bool) (pool : ℕ → ℕ) (t : Topics) → SeesEntry n pool gfn t
+    → KnowsNext n y gfn write t → Makes y pool gfn write t X → WhereInstalled (behind_fault n) X
 behind_fault_installed X (next_of.Goes q) y gfn write pool t sees K make = λ is. make q is K (sees is)
 behind_fault_installed X (next_of.Ends end_of.Installed) y gfn write pool t sees K make = absurd (cc sees)
 behind_fault_installed X (next_of.Ends end_of.Mmio) y gfn write pool t sees K make = tt
@@ -78,7 +81,8 @@ pause_installed : (X : Type 0) (used : Option Translation) (again : Bool) → (a
 pause_installed X None again still = still
 pause_installed X (Some t) again still = λ is. absurd (cc is)
 
-walk_installed : (X : Type 0) (k : SpteKind) (again allowed : Bool) → (again ≡ true → X) → WhereInstalled (Goes (place.Access (stay_walk_next again k allowed))) X
+walk_installed : (X : Type 0) (k : SpteKind) (again allowed : Bool) → (again ≡ true → X)
+    → WhereInstalled (Goes (place.Access (stay_walk_next again k allowed))) X
 walk_installed X (entry_kind.Table page) again allowed still = still
 walk_installed X entry_kind.Leaf again true still = λ is. absurd (cc is)
 walk_installed X _ again _ still = λ is. absurd (cc is)
@@ -117,7 +121,8 @@ abbrev pub Served : Place → Command → (ℕ → Bool → Type 0) → Type 0
 Served (place.Access p) (Access gfn word op) X = is_installed p ≡ true → X gfn (is_write op)
 Served _ _ X = Unit {0}
 
-where_installed : (o : Outcome) (gfn word : ℕ) (op : Op) (X : ℕ → Bool → Type 0) → WhereInstalled o (X gfn (is_write op)) → Served (place_after o) (Access gfn word op) X
+where_installed : (o : Outcome) (gfn word : ℕ) (op : Op) (X : ℕ → Bool → Type 0) → WhereInstalled o (X gfn (is_write op))
+    → Served (place_after o) (Access gfn word op) X
 where_installed (Goes (place.Access q)) gfn word op X x = x
 where_installed (Goes _) gfn word op X x = tt
 where_installed (Ends answer) gfn word op X x = tt
@@ -132,7 +137,8 @@ no_access (place.Access q) (Access gfn word op) X other = absurd other
 no_access _ (Access gfn word op) X other = absurd other
 no_access _ _ X other = tt
 
-pub own_served : (p : Place) (c : Command) (z : Sizes) (h : Held) (words : Area → ℕ → ℕ) (X Y : ℕ → Bool → Type 0) → IsUnderWay p → IsCommandFor z h.state.actor c → PartRests h → KnowsPart p c h → Served p c X
+pub own_served : (p : Place) (c : Command) (z : Sizes) (h : Held) (words : Area → ℕ → ℕ) (X Y : ℕ → Bool → Type 0) → IsUnderWay p
+    → IsCommandFor z h.state.actor c → PartRests h → KnowsPart p c h → Served p c X
     → ((gfn : ℕ) (write : Bool) → X gfn write → Y gfn write)
     → ((gfn : ℕ) (write : Bool) → Makes h.state.sizes (words_after (task_at p c h) words area.Pool) gfn write (topics_at p c h words) (Y gfn write))
     → Served (place_after (outcome_at p c h (answer_in (task_at p c h) words))) c Y
@@ -141,19 +147,21 @@ own_served (place.Access p) (Access gfn word op) z h words X Y begun may R K S s
     let V = access_vcpu z h.state.actor gfn word op may in
     where_installed (access_outcome p h gfn op (answer_in (access_task p h gfn word op) words)) gfn word op Y
     (access_installed (Y gfn (is_write op)) h gfn word op words V.0 V.1 R p (λ is. still gfn (is_write op) (S is)) K (make gfn (is_write op)))
-own_served _ (Access gfn word op) z h words X Y begun may R K S still make = absurd K
+own_served p (Access gfn word op) z h words X Y begun may R K S still make = absurd (other_knows p gfn word op h tt begun K)
 own_served p c z h words X Y begun may R K S still make = no_access (place_after (outcome_at p c h (answer_in (task_at p c h) words))) c Y tt
 
 first_served : (y : Sizes) (slots : MemorySlots) (c : Command) (X : ℕ → Bool → Type 0) → Served (first_place y slots c) c X
 first_served y slots (Access gfn word op) X = λ is. absurd (cc is)
 first_served y slots _ X = tt
 
-pub standing_served : (q : Place) (y : Sizes) (slots : MemorySlots) (h : Held) (X : ℕ → Bool → Type 0) → Served q h.state.line.command X → Served (standing q y slots (line_at q h).command) (line_at q h).command X
+pub standing_served : (q : Place) (y : Sizes) (slots : MemorySlots) (h : Held) (X : ℕ → Bool → Type 0) → Served q h.state.line.command X
+    → Served (standing q y slots (line_at q h).command) (line_at q h).command X
 standing_served place.Between y slots h X S = first_served y slots (next_line h).command X
 standing_served _ y slots h X S = S
 
 -- One thing follows from the other, where the line stands there.
-pub served_on : (q : Place) (c : Command) (X Y : ℕ → Bool → Type 0) → ((gfn : ℕ) (write : Bool) → StandsAt is_installed q c gfn write → X gfn write → Y gfn write) → Served q c X → Served q c Y
+pub served_on : (q : Place) (c : Command) (X Y : ℕ → Bool → Type 0)
+    → ((gfn : ℕ) (write : Bool) → StandsAt is_installed q c gfn write → X gfn write → Y gfn write) → Served q c X → Served q c Y
 served_on (place.Access p) (Access gfn word op) X Y on S = λ is. on gfn (is_write op) (is, refl, refl) (S is)
 served_on _ _ X Y on S = tt
 

@@ -17,7 +17,7 @@ use Rattle.core_views.specs.declared.sizes.Sizes.{Sizes}
 use Rattle.core_views.specs.declared.topics.Stay.{Stay}
 use Rattle.core_views.specs.declared.topics.Topics.{Topics}
 use Rattle.core_views.specs.declared.trace.Command.{Command}
-use Rattle.core_views.specs.declared.trace.Command.TheVariants.{Access, SetSlot}
+use Rattle.core_views.specs.declared.trace.Command.TheVariants.{Access}
 use Rattle.core_views.specs.declared.trace.Op.{Op}
 use Rattle.core_views.specs.Held.{Held}
 use Rattle.core_views.specs.Slots.{is_write}
@@ -25,38 +25,36 @@ use Rattle.core_views.specs.Traces.{IsCommandFor}
 use Rattle.spte_words.specs.declared.area.Area.{Area}
 use Rattle.spte_words.specs.declared.spte_kind.SpteKind.{SpteKind}
 use Rattle.spte_words.specs.declared.spte_kind.SpteKind.TheVariants as entry_kind
-use Rattle.spte_words.specs.Areas.{content_index}
-use Rattle.spte_words.specs.Entries.{frame_in, kind_of}
+use Rattle.spte_words.specs.Entries.{kind_of}
 use Rattle.mmu_core.specs.declared.outcome.Outcome.{Outcome}
 use Rattle.mmu_core.specs.declared.outcome.Outcome.TheVariants.{Goes}
-use Rattle.mmu_core.specs.lines.AccessSteps.{access_note, access_outcome, access_part, access_task, behind_fault, pause_next, walk_next}
-use Rattle.mmu_core.specs.lines.Bounds.{access_left, set_slot_left, stay_left, steps_left}
+use Rattle.mmu_core.specs.lines.AccessSteps.{access_outcome, access_part, behind_fault, pause_next, walk_next}
+use Rattle.mmu_core.specs.lines.Bounds.{access_left, stay_left}
+use Rattle.mmu_core.specs.lines.Forms.{steps_left, KnowsPart, outcome_at, RestsAt, part_at}
+use Rattle.mmu_core.specs.lines.SlotChangeSteps.{slot_change_part}
 use Rattle.mmu_core.specs.lines.Cached.{first_usable}
 use Rattle.mmu_core.specs.lines.Delays.{begins_anew, is_delay, leaves_to_fault, walks_again}
 use Rattle.mmu_core.specs.lines.FaultLeft.{fault_left, next_left}
 use Rattle.mmu_core.specs.lines.FaultSteps.{allows_access, fault_next, fault_part}
-use Rattle.mmu_core.specs.lines.KnowsPart.{AccessKnows, KnowsPart}
+use Rattle.mmu_core.specs.lines.AccessKnows.{AccessKnows}
 use Rattle.mmu_core.specs.lines.PartWaits.{part_waits}
 use Rattle.part_steps.specs.PartBounds.{PartRests}
-use Rattle.part_steps.specs.PartTasks.{entry_index, own_index}
+use Rattle.part_steps.specs.PartTasks.{entry_index}
 use Rattle.part_steps.specs.PartTopics.{part_topics}
 use Rattle.mmu_core.specs.lines.Rests.{IsUnderWay}
-use Rattle.mmu_core.specs.lines.SetSlotSteps.{set_slot_note, set_slot_outcome, set_slot_part, set_slot_task}
-use Rattle.mmu_core.specs.machine.Steps.{delays_at, outcome_at, task_at}
-use Rattle.part_steps.specs.Tasks.{map_of}
+use Rattle.mmu_core.specs.machine.Steps.{delays_at, task_at}
+use Rattle.mmu_core.proofs.lines.StepIn.{topics_of_step}
 use Rattle.part_steps.specs.StayTopics.{may_walk}
 use Rattle.part_steps.specs.WalkTopics.{gone_down, linked_page}
 use Rattle.part_steps.specs.ControlTopics.{at_root}
 use Rattle.mmu_core.specs.machine.View.{answer_in}
-use Rattle.mmu_laws.proofs.alone.AloneStep.{topics_at}
+use Rattle.mmu_laws.proofs.alone.GoesAlone.{topics_at}
 use Rattle.mmu_core.proofs.lines.FaultFalls.{fault_falls}
-pub use Rattle.mmu_laws.proofs.turns.SetSlotNearer.{Nearer}
-use Rattle.mmu_laws.proofs.turns.SetSlotNearer.{set_slot_nearer}
-use Rattle.mmu_core.proofs.words.PartTopics.{is_there, part_topics_is}
-use Rattle.part_steps.specs.declared.part_step.PartStep.{PartStep}
+pub use Rattle.mmu_laws.proofs.turns.SlotChangeNearer.{Nearer}
+use Rattle.mmu_laws.proofs.turns.SlotChangeNearer.{slot_change_nearer}
 use Rattle.mmu_core.proofs.lines.FaultKnown.{above_lowest}
 use Rattle.mmu_core.proofs.lines.AccessLeft.{two_left}
-use Rattle.mmu_core.proofs.lines.KnowsKept.{NeedsAt, access_needs, access_vcpu, behind_part, task_topics}
+use Rattle.mmu_core.proofs.lines.KnowsKept.{access_vcpu, behind_part}
 
 -- what is no delay
 first_of_none : (a b : Bool) → (a || b) ≡ false → a ≡ false
@@ -69,27 +67,32 @@ second_of_none false b is = is
 
 -- ---- the stay in the guest
 
-pause_nearer : (used : Option Translation) (again : Bool) (y : Sizes) (t u : Topics) → Nearer (Goes (place.Access (pause_next again used))) y u (6 + stay_left again y t)
+pause_nearer : (used : Option Translation) (again : Bool) (y : Sizes) (t u : Topics)
+    → Nearer (Goes (place.Access (pause_next again used))) y u (6 + stay_left again y t)
 pause_nearer None again y t u = let same : stay_left again y u ≡ stay_left again y t = refl in omega (arith, same)
 pause_nearer (Some used) again y t u = omega arith
 
-root_nearer : (again holds : Bool) (y : Sizes) (t : Topics) (v : ℕ) → holds ≡ true → Nearer (Goes (place.Access (Walk again))) y (record t { walk = at_root holds t.walk v }) (5 + stay_left again y t)
+root_nearer : (again holds : Bool) (y : Sizes) (t : Topics) (v : ℕ) → holds ≡ true
+    → Nearer (Goes (place.Access (Walk again))) y (record t { walk = at_root holds t.walk v }) (5 + stay_left again y t)
 root_nearer again true y t v is = let same : stay_left again y (record t { walk = at_root true t.walk v }) ≡ stay_left again y t = refl in omega (arith, same)
 root_nearer again false y t v is = absurd (cc is)
 
 -- It leaves for a fault in the first stay alone, but for a delay.
-leaves_nearer : (again : Bool) (level : ℕ) (y : Sizes) (t u : Topics) → (again && true) ≡ false → 1 ≤ level → Nearer (Goes (place.Access (Leave leaving.Faults))) y u (level + stay_left again y t)
+leaves_nearer : (again : Bool) (level : ℕ) (y : Sizes) (t u : Topics) → (again && true) ≡ false → 1 ≤ level
+    → Nearer (Goes (place.Access (Leave leaving.Faults))) y u (level + stay_left again y t)
 leaves_nearer true level y t u on from = absurd (cc on)
 leaves_nearer false level y t u on from = let same : fault_left fault.Begin y u ≡ fault_left fault.Begin y t = refl in omega (arith, same, from)
 
-walk_nearer : (k : SpteKind) (allowed again : Bool) (gfn : ℕ) (y : Sizes) (t : Topics) (v : ℕ) → kind_of t.walk.level v ≡ k → 1 ≤ t.walk.level → (again && leaves_to_fault (Goes (place.Access (walk_next again k allowed)))) ≡ false
+walk_nearer : (k : SpteKind) (allowed again : Bool) (gfn : ℕ) (y : Sizes) (t : Topics) (v : ℕ) → kind_of t.walk.level v ≡ k → 1 ≤ t.walk.level
+    → (again && leaves_to_fault (Goes (place.Access (walk_next again k allowed)))) ≡ false
     → Nearer (Goes (place.Access (walk_next again k allowed))) y (record t { walk = gone_down (linked_page k) t.walk (entry_index gfn t.walk.level) v }) (t.walk.level + stay_left again y t)
 walk_nearer (entry_kind.Table page) allowed again gfn y t v is from on =
     let same : stay_left again y (record t { walk = gone_down (Some page) t.walk (entry_index gfn t.walk.level) v }) ≡ stay_left again y t = refl in
     let upper : 2 ≤ t.walk.level = above_lowest t.walk.level v page from is in
     omega (arith, same, upper)
 walk_nearer entry_kind.Leaf true again gfn y t v is from on = let two = two_left again y t in omega (arith, from, two)
-walk_nearer _ _ again gfn y t v is from on = leaves_nearer again t.walk.level y t (record t { walk = gone_down None t.walk (entry_index gfn t.walk.level) v }) on from
+walk_nearer _ _ again gfn y t v is from on =
+    leaves_nearer again t.walk.level y t (record t { walk = gone_down None t.walk (entry_index gfn t.walk.level) v }) on from
 
 -- ---- the fault
 
@@ -101,7 +104,8 @@ ends_not_anew : (e : FaultEnd) → begins_anew (place.Access (Fault (fault.End e
 ends_not_anew (end_of.Retry cause) is = absurd (cc is)
 ends_not_anew _ is = tt
 
-not_anew : (p : FaultPlace) (z : Sizes) (gfn : ℕ) (write : Bool) (t : Topics) (v : ℕ) → begins_anew (place.Access (Fault p)) ≡ false → NotAnew (fault_next p z gfn write t v)
+not_anew : (p : FaultPlace) (z : Sizes) (gfn : ℕ) (write : Bool) (t : Topics) (v : ℕ) → begins_anew (place.Access (Fault p)) ≡ false
+    → NotAnew (fault_next p z gfn write t v)
 not_anew (fault.End e) z gfn write t v is = ends_not_anew e is
 not_anew _ z gfn write t v is = tt
 
@@ -116,14 +120,17 @@ fault_nearer (next_of.Ends (end_of.Retry cause)) y u left on less = absurd on
 -- ---- each place
 
 module _ (h : Held) (gfn word : ℕ) (op : Op) (v : ℕ) (small : gfn < 2 ^ 36) (R : PartRests h) where
-  access_nearer : (p : AccessPlace) → AccessKnows p gfn (is_write op) h → is_delay (place.Access p) (Access gfn word op) h (access_outcome p h gfn op v) v ≡ false
+  access_nearer : (p : AccessPlace) → AccessKnows p gfn (is_write op) h
+      → is_delay (place.Access p) (Access gfn word op) h (access_outcome p h gfn op v) v ≡ false
       → Nearer (access_outcome p h gfn op v) h.state.sizes (behind_part (access_part p gfn h.topics) h.topics v) (access_left p h.state.sizes h.topics)
   access_nearer (Enter again) K on =
       let same : stay_left again h.state.sizes (behind_part (access_part (Enter again) gfn h.topics) h.topics v) ≡ stay_left again h.state.sizes h.topics = refl in
       omega (arith, same)
   access_nearer (Pause again) K on = pause_nearer (first_usable gfn (is_write op) h.cached.items) again h.state.sizes h.topics _
-  access_nearer (Root again) K on = root_nearer again (may_walk h.topics.stay h.topics.hold) h.state.sizes h.topics v (ap (λ (s : Stay). may_walk s h.topics.hold) K.guest)
-  access_nearer (Walk again) K on = walk_nearer (kind_of h.topics.walk.level v) (allows_access (is_write op) v) again gfn h.state.sizes h.topics v refl K.1.there on
+  access_nearer (Root again) K on =
+      root_nearer again (may_walk h.topics.stay h.topics.hold) h.state.sizes h.topics v (ap (λ (s : Stay). may_walk s h.topics.hold) K.guest)
+  access_nearer (Walk again) K on =
+      walk_nearer (kind_of h.topics.walk.level v) (allows_access (is_write op) v) again gfn h.state.sizes h.topics v refl K.1.there on
   access_nearer Touch K on = omega arith
   access_nearer (Leave (leaving.Reached frame value)) K on = tt
   access_nearer (Leave leaving.Faults) K on =
@@ -137,18 +144,21 @@ module _ (h : Held) (gfn word : ℕ) (op : Op) (v : ℕ) (small : gfn < 2 ^ 36) 
       fault_nearer (fault_next p h.state.sizes gfn (is_write op) h.topics v) h.state.sizes (part_topics (fault_part p gfn h.topics) h.topics v) (fault_left p h.state.sizes h.topics)
       (not_anew p h.state.sizes gfn (is_write op) h.topics v (first_of_none (begins_anew (place.Access (Fault p))) (walks_again (place.Access (Fault p)) && leaves_to_fault o) more)) (fault_falls p h gfn v (is_write op) small R K goes)
 
-pub place_nearer : (p : Place) (c : Command) (z : Sizes) (h : Held) (words : Area → ℕ → ℕ) → IsUnderWay p → IsCommandFor z h.state.actor c → PartRests h → KnowsPart p c h → NeedsAt p c h → delays_at p c h (answer_in (task_at p c h) words) ≡ false
+-- a clause for each form of line
+form_nearer : (p : Place) (c : Command) (z : Sizes) (h : Held) (v : ℕ) → IsUnderWay p → IsCommandFor z h.state.actor c → PartRests h → KnowsPart p c h
+    → delays_at p c h v ≡ false → Nearer (outcome_at p c h v) h.state.sizes (behind_part (part_at p c h) h.topics v) (steps_left p h.state.sizes h.topics)
+form_nearer place.Between c z h v begun may rests K on = absurd begun
+form_nearer (place.Access p) (Access gfn word op) z h v begun may rests K on =
+    let V = access_vcpu z h.state.actor gfn word op may in access_nearer h gfn word op v V.1 rests p K on
+form_nearer (place.SlotChange p) command z h v begun may rests K on =
+    slot_change_nearer p h command v rests K.1 (first_of_none (part_waits (slot_change_part p h command) h.topics v) false on)
+form_nearer _ _ z h v begun may rests K on = absurd K
+
+pub place_nearer : (p : Place) (c : Command) (z : Sizes) (h : Held) (words : Area → ℕ → ℕ) → IsUnderWay p → IsCommandFor z h.state.actor c → PartRests h
+    → RestsAt p c h
+    → KnowsPart p c h → delays_at p c h (answer_in (task_at p c h) words) ≡ false
     → Nearer (outcome_at p c h (answer_in (task_at p c h) words)) h.state.sizes (topics_at p c h words) (steps_left p h.state.sizes h.topics)
-place_nearer place.Between c z h words begun may R K needs on = absurd begun
-place_nearer (place.Access p) (Access gfn word op) z h words begun may R K needs on =
-    let V = access_vcpu z h.state.actor gfn word op may in
-    let v : ℕ = answer_in (access_task p h gfn word op) words in
-    let same : topics_at (place.Access p) (Access gfn word op) h words ≡ behind_part (access_part p gfn h.topics) h.topics v =
-    task_topics (access_part p gfn h.topics) h (access_note p) op (content_index (map_of h.state.sizes) (frame_in h.state.leaf) word) v (access_needs p h gfn (is_write op) V.0 V.1 R K) in
-    subst (λ (t : Topics). Nearer (access_outcome p h gfn op v) h.state.sizes t (access_left p h.state.sizes h.topics)) (sym same) (access_nearer h gfn word op v V.1 R p K on)
-place_nearer (place.SetSlot p) (SetSlot id slot) z h words begun may R K needs on =
-    let step : PartStep = set_slot_part p h id slot in
-    let v : ℕ = answer_in (set_slot_task p h id slot) words in
-    subst (λ (t : Topics). Nearer (set_slot_outcome p h v) h.state.sizes t (set_slot_left p h.state.sizes h.topics))
-    (sym (part_topics_is h.state.sizes step (own_index h) h.topics (set_slot_note p h) v (is_there step h needs))) (set_slot_nearer p h id slot v R K (first_of_none (part_waits step h.topics v) false on))
-place_nearer _ _ z h words begun may R K needs on = absurd K
+place_nearer p c z h words begun may rests R K on =
+    let v : ℕ = answer_in (task_at p c h) words in
+    subst (λ (t : Topics). Nearer (outcome_at p c h v) h.state.sizes t (steps_left p h.state.sizes h.topics)) (sym (topics_of_step p c h v R))
+    (form_nearer p c z h v begun may rests K on)

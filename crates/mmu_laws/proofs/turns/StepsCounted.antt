@@ -1,4 +1,4 @@
--- What a line has counted since it began or since its last delay, and what it has left, are together no more than any line's steps.
+-- What a line has counted since it began or since its last delay, and what it has left, are together no more than its command allows.
 use Rattle.std.proofs.Common.{◌≡◌, ◌⊎◌, inl, inr, ◌+◌, ◌<◌, ◌≤◌, ℕ, List, [], ◌∷◌, length, refl, sym, subst, ap, ◌∙◌, arith}
 use Rattle.std.specs.Prelude.{Bool, true, false, ◌-◌, ◌^◌, nat_lt, if◌then◌else◌}
 use Rattle.std.proofs.lemmas.Bool.Decides.{nat_tests}
@@ -7,34 +7,37 @@ use Rattle.core_views.specs.declared.place.Place.{Place}
 use Rattle.core_views.specs.declared.place.Place.TheVariants as place
 use Rattle.core_views.specs.declared.sizes.Sizes.{Sizes}
 use Rattle.core_views.specs.declared.topics.Topics.{Topics}
+use Rattle.core_views.specs.declared.trace.Command.{Command}
 use Rattle.core_views.specs.declared.trace.Line.{Line}
 use Rattle.core_views.specs.Held.{Held}
 use Rattle.core_views.specs.Sizes.{AreSizes, actors_of}
+use Rattle.spte_words.specs.declared.area.Area.TheVariants as area
 use Rattle.mmu_core.specs.declared.outcome.Outcome.{Outcome}
 use Rattle.mmu_core.specs.declared.outcome.Outcome.TheVariants.{Goes, Ends}
-use Rattle.mmu_core.specs.lines.Bounds.{most_steps, steps_left}
+use Rattle.mmu_core.specs.lines.Bounds.{most_steps}
+use Rattle.mmu_core.specs.lines.Forms.{steps_left, outcome_at}
 use Rattle.mmu_core.specs.lines.Delays.{counted, delays_counted, one_more, steps_counted}
 use Rattle.mmu_core.specs.machine.Enabled.{mmu}
-use Rattle.mmu_core.specs.invariant.Invariant.{UnderWay}
+use Rattle.mmu_core.specs.invariant.Invariant.{Holds, UnderWay}
 use Rattle.mmu_core.specs.invariant.Laws.{IsSound}
 use Rattle.mmu_core.specs.alone.LineAlone.{hand_left}
 use Rattle.mmu_core.specs.machine.Machine.{answered, Legal, May, Step, World, effect, hand_in, run}
 use Rattle.part_steps.specs.PartBounds.{PartRests}
 use Rattle.mmu_core.specs.lines.Rests.{IsUnderWay}
-use Rattle.mmu_core.specs.machine.Steps.{delays_at, has_line, line_at, outcome_at, place_at, task_at}
+use Rattle.mmu_core.specs.machine.Steps.{delays_at, has_line, line_at, place_at, task_at}
 use Rattle.mmu_core.specs.machine.Outcomes.{place_after}
 use Rattle.mmu_laws.specs.turns.TurnLaws.{CountFits, CountsOn}
 use Rattle.mmu_core.specs.machine.Turns.{line_of}
 use Rattle.mmu_core.specs.machine.View.{View, answer_in, hand_after, view, word_in}
 use Rattle.mmu_core.specs.machine.Worlds.{IsStart, Reachable}
-use Rattle.mmu_core.proofs.lines.Forms.{some_left}
+use Rattle.mmu_core.proofs.invariant.HandLeft.{hand_few, hand_some, left_there}
+use Rattle.mmu_core.proofs.lines.Forms.{most_small, place_few}
 use Rattle.mmu_core.proofs.machine.Columns.{at_upd}
 use Rattle.mmu_core.proofs.invariant.PartBounded.{part_rests_at}
 use Rattle.mmu_core.proofs.start.StartWords.{hand_is}
 use Rattle.mmu_core.proofs.start.Starts.{reached_good, start_good}
 use Rattle.mmu_laws.proofs.turns.StayNearer.{Nearer}
-use Rattle.mmu_laws.proofs.turns.StepsBounded.{place_few}
-use Rattle.mmu_laws.proofs.turns.TurnsNearer.{hand_behind, nearer_here, same_sizes, stood_left}
+use Rattle.mmu_laws.proofs.turns.TurnsNearer.{hand_behind, nearer_here, same_sizes}
 use Rattle.mmu_core.proofs.machine.Which.{has_line_is, is_next}
 use Rattle.mmu_core.proofs.machine.Worlds.{Takes, TakesPart, good_run, good_step, takes, takes_line}
 
@@ -48,38 +51,50 @@ one_more_few n = by (nat_lt n (2 ^ 64 - 1))
     by false = omega arith
 
 -- What was counted where a line's step comes fits with what it has left there.
-stood_fits : (q : Place) (n left most : ℕ) → n ≤ most → left ≤ most → (IsUnderWay q → n + left ≤ most) → counted q n + left ≤ most
-stood_fits place.Between n left most few bounded under = omega (arith, bounded)
-stood_fits _ n left most few bounded under = under tt
+stood_fits : (q : Place) (h : Held) (n left : ℕ) → left ≤ most_steps h.state.sizes (line_at q h).command
+    → (IsUnderWay q → n + left ≤ most_steps h.state.sizes h.state.line.command) → counted q n + left ≤ most_steps h.state.sizes (line_at q h).command
+stood_fits place.Between h n left bounded under = omega (arith, bounded)
+stood_fits _ h n left bounded under = under tt
 
 -- Behind a delay nothing is counted, and else one step more, of which there was one left.
-delay_fits : (delay : Bool) (o : Outcome) (y : Sizes) (u : Topics) (n left most : ℕ) → n + left ≤ most → 0 < left → (delay ≡ false → Nearer o y u left) → ((p : Place) → steps_left p y u ≤ most)
+delay_fits : (delay : Bool) (o : Outcome) (y : Sizes) (u : Topics) (n left most : ℕ) → n + left ≤ most → 0 < left → (delay ≡ false → Nearer o y u left)
+    → (IsUnderWay (place_after o) → steps_left (place_after o) y u ≤ most)
     → (steps_counted delay n ≤ most) × (IsUnderWay (place_after o) → steps_counted delay n + steps_left (place_after o) y u ≤ most)
-delay_fits true o y u n left most fits some nearer bounded = let few = bounded (place_after o) in (omega (arith, fits), λ under. omega (arith, few))
+delay_fits true o y u n left most fits some nearer bounded = (omega (arith, fits), λ under. let few = bounded under in omega (arith, few))
 delay_fits false (Goes p) y u n left most fits some nearer bounded =
     let less : steps_left p y u < left = nearer refl in
     let more = one_more_few n in
     (omega (arith, fits, some, more), λ under. omega (arith, fits, less, more))
 delay_fits false (Ends answer) y u n left most fits some nearer bounded = let more = one_more_few n in (omega (arith, fits, some, more), λ under. absurd under)
 
-fits_by : (g : Held) (q : Place) (y : Sizes) (n : ℕ) → g.state.place ≡ q → g.state.sizes ≡ y → g.state.steps ≡ n → (n ≤ most_steps y) × (IsUnderWay q → n + steps_left q y g.topics ≤ most_steps y) → CountFits g
-fits_by g q y n stands sizes steps fits =
-    let most : most_steps g.state.sizes ≡ most_steps y = ap most_steps sizes in
-    let left : hand_left g ≡ steps_left q y g.topics = ap (λ p. steps_left p g.state.sizes g.topics) stands ∙ ap (λ (x : Sizes). steps_left q x g.topics) sizes in
+fits_by : (g : Held) (q : Place) (y : Sizes) (command : Command) (n : ℕ) → g.state.place ≡ q → g.state.sizes ≡ y → g.state.line.command ≡ command
+    → g.state.steps ≡ n
+    → (n ≤ most_steps y command) × (IsUnderWay q → n + steps_left q y g.topics ≤ most_steps y command) → CountFits g
+fits_by g q y command n stands sizes is steps fits =
+    let most : most_steps g.state.sizes g.state.line.command ≡ most_steps y command =
+    ap (λ x. most_steps x g.state.line.command) sizes ∙ ap (most_steps y) is in
     record {
       few = let few = fits.0 in omega (arith, few, most, steps);
-      with_left = λ under. let both = fits.1 (subst IsUnderWay stands under) in omega (arith, both, most, left, steps);
+      with_left = λ under.
+          let there : IsUnderWay q = subst IsUnderWay stands under in
+          let both = fits.1 there in
+          let left : hand_left g ≡ steps_left q y g.topics = left_there q g stands there ∙ ap (λ (x : Sizes). steps_left q x g.topics) sizes in
+          omega (arith, both, most, left, steps);
     }
 
 -- The count is below the last number of 64 bits, so it goes on.
-goes_one_more : (n : ℕ) (y : Sizes) → AreSizes y → n < most_steps y → one_more n ≡ n + 1
-goes_one_more n y S few =
-    let small : nat_lt n (2 ^ 64 - 1) ≡ true = let low : n < 2 ^ 64 - 1 = omega (arith, few, S.pool.1, S.frames.1) in grind (arith, nat_tests) in
+goes_one_more : (n : ℕ) (y : Sizes) (command : Command) → AreSizes y → n < most_steps y command → one_more n ≡ n + 1
+goes_one_more n y command S few =
+    let most = most_small y command in
+    let small : nat_lt n (2 ^ 64 - 1) ≡ true = let low : n < 2 ^ 64 - 1 = omega (arith, few, most, S.pool.1, S.frames.1) in grind (arith, nat_tests) in
     ap (λ b. if b then n + 1 else n) small
 
-counts_by : (delay : Bool) (h g : Held) (left : ℕ) → AreSizes h.state.sizes → counted h.state.place h.state.steps + left ≤ most_steps h.state.sizes → 0 < left
-    → g.state.steps ≡ steps_counted delay (counted h.state.place h.state.steps) → g.state.delays ≡ delays_counted delay (counted h.state.place h.state.delays) → CountsOn delay h g
-counts_by false h g left S fits some steps delays = (steps ∙ goes_one_more (counted h.state.place h.state.steps) h.state.sizes S (omega (arith, fits, some)), delays)
+counts_by : (delay : Bool) (h g : Held) (left : ℕ) → AreSizes h.state.sizes
+    → counted h.state.place h.state.steps + left ≤ most_steps h.state.sizes (line_of h).command → 0 < left
+    → g.state.steps ≡ steps_counted delay (counted h.state.place h.state.steps)
+    → g.state.delays ≡ delays_counted delay (counted h.state.place h.state.delays) → CountsOn delay h g
+counts_by false h g left S fits some steps delays =
+    (steps ∙ goes_one_more (counted h.state.place h.state.steps) h.state.sizes (line_of h).command S (omega (arith, fits, some)), delays)
 counts_by true h g left S fits some steps delays = (omega (arith, fits, some), steps, delays)
 
 -- A hand with no line left has none under way.
@@ -118,33 +133,41 @@ module _ (z : Sizes) (w : World Held) (s : Step Kind) (G : IsSound z w) (may : M
     R : PartRests h
     R = part_rests_at z (view z w) a G.holds G.topics there
 
-    abbrev left : ℕ
-    left = steps_left stood h.state.sizes h.topics
-
     -- what the line has counted fits with what it has left where it stands
-    here_fits : counted h.state.place h.state.steps + left ≤ most_steps h.state.sizes
-    here_fits =
-        let mine = A a there in
-        let bounded : hand_left h ≤ most_steps h.state.sizes = place_few h.state.place h.state.sizes h.topics R.sizes R.level in
-        let few : left ≤ hand_left h = stood_left z w s G may T.has in
-        stood_fits h.state.place h.state.steps left (most_steps h.state.sizes) mine.few (omega (arith, bounded, few)) (λ under. let both = mine.with_left under in omega (arith, both, few))
+    pub here_fits : counted h.state.place h.state.steps + hand_left h ≤ most_steps h.state.sizes line.command
+    here_fits = stood_fits h.state.place h h.state.steps (hand_left h) (hand_few z (view z w) a G.holds G.topics there T.is_step.left) (A a there).with_left
+
+    -- where it goes on to, it has no more left than its command allows
+    next_few : IsUnderWay (place_after (outcome_at stood line.command h x))
+        → steps_left (place_after (outcome_at stood line.command h x)) h.state.sizes after.topics ≤ most_steps h.state.sizes line.command
+    next_few under =
+        let next = good_step z w s G may in
+        let u : View = view z (effect mmu w s) in
+        let here : u.hand a ≡ after = hand_behind z w s G may T.has in
+        let level : after.topics.walk.level ≤ 4 = subst (λ (g : Held). g.topics.walk.level ≤ 4) here (part_rests_at z u a next.holds next.topics there).level in
+        place_few (place_after (outcome_at stood line.command h x)) line.command z h.state.sizes (u.words area.Pool) (u.words area.Host)
+        (u.words area.Slots 0) after after.topics
+        (subst (λ (g : Held). Holds z (u.words area.Pool) (u.words area.Host) (u.words area.Slots 0) g.state.place g.state.line.command g) here
+        (next.holds.loads a there)) R.sizes level
 
     own_fits : CountFits after
     own_fits =
-        let next = good_step z w s G may in
-        let level : after.topics.walk.level ≤ 4 = subst (λ (g : Held). g.topics.walk.level ≤ 4) (hand_behind z w s G may T.has) (part_rests_at z (view z (effect mmu w s)) a next.holds next.topics there).level in
-        fits_by after (place_after (outcome_at stood line.command h x)) h.state.sizes (steps_counted (delays_at stood line.command h x) (counted h.state.place h.state.steps)) refl (same_sizes z w s G may T.has) refl
-        (delay_fits (delays_at stood line.command h x) (outcome_at stood line.command h x) h.state.sizes after.topics (counted h.state.place h.state.steps) left (most_steps h.state.sizes) here_fits (some_left stood h.state.sizes h.topics)
-        (nearer_here z w s G may T.has) (λ p. place_few p h.state.sizes after.topics R.sizes level))
+        fits_by after (place_after (outcome_at stood line.command h x)) h.state.sizes line.command
+        (steps_counted (delays_at stood line.command h x) (counted h.state.place h.state.steps))
+        refl (same_sizes z w s G may T.has) refl refl
+        (delay_fits (delays_at stood line.command h x) (outcome_at stood line.command h x) h.state.sizes after.topics (counted h.state.place h.state.steps)
+        (hand_left h)
+        (most_steps h.state.sizes line.command) here_fits (hand_some h) (nearer_here z w s G may T.has) next_few)
 
     own_counts : CountsOn (delays_at stood line.command h (answered mmu w s.kind)) h (hand_in mmu (effect mmu w s) a)
     own_counts =
         subst (λ n. CountsOn (delays_at stood line.command h n) h (hand_in mmu (effect mmu w s) a)) (sym T.answers)
         (subst (λ (g : Held). CountsOn (delays_at stood line.command h x) h g) (sym (hand_behind z w s G may T.has))
-        (counts_by (delays_at stood line.command h x) h after left R.sizes here_fits (some_left stood h.state.sizes h.topics) refl refl))
+        (counts_by (delays_at stood line.command h x) h after (hand_left h) R.sizes here_fits (hand_some h) refl refl))
 
     line_fits : AllFit z (effect mmu w s)
-    line_fits = subst (λ (v : View). (i : ℕ) → i < actors_of z → CountFits (v.hand i)) (sym T.leads) (at_upd (λ i (g : Held). i < actors_of z → CountFits g) (hand_in mmu w) a after (λ lt. own_fits) (λ i ne. A i))
+    line_fits =
+        subst (λ (v : View). (i : ℕ) → i < actors_of z → CountFits (v.hand i)) (sym T.leads) (at_upd (λ i (g : Held). i < actors_of z → CountFits g) (hand_in mmu w) a after (λ lt. own_fits) (λ i ne. A i))
 
   part_fits : TakesPart z w s h → AllFit z (effect mmu w s)
   part_fits T =
@@ -179,3 +202,15 @@ steps_counted_on w s r may has =
     let G = reached_good w r in
     let fits : AllFit r.sizes w = λ i lt. counts_fit w i r (omega (arith, lt, G.hands)) in
     own_counts r.sizes w s G may fits (takes_line r.sizes w s G may (is_next (hand_in mmu w s.actor) s.kind may.enabled has))
+
+-- Where a line makes a step, it has counted fewer than its command allows.
+pub counts_have_room : (w : World Held) (s : Step Kind) → Reachable w → May mmu w s → has_line (hand_in mmu w s.actor) ≡ true
+    → counted (hand_in mmu w s.actor).state.place (hand_in mmu w s.actor).state.steps + 1
+    ≤ most_steps (hand_in mmu w s.actor).state.sizes (line_of (hand_in mmu w s.actor)).command
+counts_have_room w s r may has =
+    let h : Held = hand_in mmu w s.actor in
+    let G = reached_good w r in
+    let fits : AllFit r.sizes w = λ i lt. counts_fit w i r (omega (arith, lt, G.hands)) in
+    let room = here_fits r.sizes w s G may fits (takes_line r.sizes w s G may (is_next h s.kind may.enabled has)) in
+    let some = hand_some h in
+    omega (arith, room, some)

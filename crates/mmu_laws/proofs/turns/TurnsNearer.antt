@@ -1,5 +1,5 @@
 -- What a step of a line leaves it, beside other actors too: fewer steps, where it is no delay. And which steps are delays.
-use Rattle.std.proofs.Common.{◌≡◌, ◌⊎◌, inl, inr, ◌<◌, ◌≤◌, ℕ, length, refl, sym, subst, ap, ◌∙◌, arith}
+use Rattle.std.proofs.Common.{◌≡◌, ◌⊎◌, inl, inr, ◌<◌, ℕ, length, refl, sym, subst, ap, ◌∙◌, arith}
 use Rattle.std.specs.Prelude.{Bool, true, false, ◌&&◌, ◌||◌}
 use Rattle.std.proofs.lemmas.Bool.Decides.{nat_tests}
 use Rattle.core_views.specs.declared.kind.Kind.{Kind}
@@ -11,7 +11,7 @@ use Rattle.core_views.specs.declared.trace.Command.{Command}
 use Rattle.core_views.specs.declared.trace.Command.TheVariants.{Access}
 use Rattle.core_views.specs.declared.trace.Line.{Line}
 use Rattle.core_views.specs.Held.{Held}
-use Rattle.core_views.specs.Sizes.{AreSizes, actors_of}
+use Rattle.core_views.specs.Sizes.{actors_of}
 use Rattle.core_views.specs.SlotSets.{MemorySlots}
 use Rattle.core_views.specs.Slots.{is_write}
 use Rattle.core_views.specs.Traces.{IsCommandFor}
@@ -24,7 +24,7 @@ use Rattle.spte_words.specs.Entries.{kind_of}
 use Rattle.mmu_core.specs.declared.outcome.Outcome.{Outcome}
 use Rattle.mmu_core.specs.declared.outcome.Outcome.TheVariants.{Goes}
 use Rattle.mmu_core.specs.lines.AccessSteps.{walk_next}
-use Rattle.mmu_core.specs.lines.Bounds.{steps_left}
+use Rattle.mmu_core.specs.lines.Forms.{steps_left, outcome_at}
 use Rattle.mmu_core.specs.lines.Delays.{leaves_to_fault, walks_again}
 use Rattle.mmu_core.specs.alone.FaultAlone.{LeadsToLeaf}
 use Rattle.mmu_core.specs.machine.Enabled.{mmu}
@@ -33,35 +33,40 @@ use Rattle.mmu_core.specs.invariant.Laws.{IsSound}
 use Rattle.mmu_core.specs.alone.LineAlone.{hand_left, line_waits}
 use Rattle.mmu_core.specs.machine.Machine.{May, Step, World, effect, hand_in}
 use Rattle.part_steps.specs.PartTasks.{entry_index, table_page}
-use Rattle.mmu_core.specs.machine.Steps.{delays_at, has_line, line_at, outcome_at, place_at, standing, task_at}
+use Rattle.mmu_core.specs.machine.Steps.{delays_at, has_line, line_at, place_at, standing, task_at}
 use Rattle.mmu_core.specs.machine.Outcomes.{place_after}
 use Rattle.mmu_laws.specs.turns.Removal.{WalksInstalled}
 use Rattle.mmu_laws.specs.turns.TurnLaws.{begins_anew}
 use Rattle.mmu_core.specs.machine.View.{View, answer_in, hand_after, view, word_in}
-use Rattle.mmu_laws.proofs.alone.AloneRuns.{standing_left}
-use Rattle.mmu_laws.proofs.alone.AloneStep.{is_leaf_here}
+use Rattle.mmu_laws.proofs.leaves.LeadsDown.{is_leaf_here}
 use Rattle.mmu_core.proofs.machine.Columns.{upd_same}
+use Rattle.mmu_core.proofs.invariant.HandLeft.{left_there}
 use Rattle.mmu_core.proofs.lines.Forms.{first_goes, first_no_end}
+use Rattle.mmu_core.proofs.machine.GoesOn.{GoesUnderWay}
 use Rattle.mmu_core.proofs.lines.KnowsKept.{knows_at}
-use Rattle.mmu_core.proofs.invariant.Kept.{needs_at}
 use Rattle.mmu_core.proofs.invariant.PartBounded.{part_rests_at}
 use Rattle.mmu_laws.proofs.turns.StayNearer.{Nearer, place_nearer}
 use Rattle.mmu_core.proofs.machine.Which.{is_next}
 use Rattle.mmu_core.proofs.machine.Worlds.{Takes, good_step, takes_line}
 
--- ---- a stay behind an installed entry finds it
+-- ---- a stay after an installed entry finds it
 
-misses_never : (k : SpteKind) (allowed again : Bool) (pool : ℕ → ℕ) (level page gfn : ℕ) (write : Bool) (v : ℕ) → pool (pool_index page (entry_index gfn level)) ≡ v → kind_of level v ≡ k → allows_access write v ≡ allowed
+misses_never : (k : SpteKind) (allowed again : Bool) (pool : ℕ → ℕ) (level page gfn : ℕ) (write : Bool) (v : ℕ)
+    → pool (pool_index page (entry_index gfn level)) ≡ v → kind_of level v ≡ k → allows_access write v ≡ allowed
     → (again ≡ true → LeadsToLeaf pool level page gfn write) → (again && leaves_to_fault (Goes (place.Access (walk_next again k allowed)))) ≡ false
 misses_never k allowed false pool level page gfn write v here is may leads = refl
 misses_never (entry_kind.Table below) allowed true pool level page gfn write v here is may leads = refl
 misses_never entry_kind.Leaf true true pool level page gfn write v here is may leads = refl
-misses_never entry_kind.Leaf false true pool level page gfn write v here is may leads = let allows = (is_leaf_here pool level page gfn v write entry_kind.Leaf here is refl (leads refl)).1 in absurd (cc (may, allows))
-misses_never entry_kind.Absent allowed true pool level page gfn write v here is may leads = let leaf = (is_leaf_here pool level page gfn v write entry_kind.Absent here is refl (leads refl)).0 in absurd (cc leaf)
-misses_never entry_kind.Frozen allowed true pool level page gfn write v here is may leads = let leaf = (is_leaf_here pool level page gfn v write entry_kind.Frozen here is refl (leads refl)).0 in absurd (cc leaf)
+misses_never entry_kind.Leaf false true pool level page gfn write v here is may leads =
+    let allows = (is_leaf_here pool level page gfn v write entry_kind.Leaf here is refl (leads refl)).1 in absurd (cc (may, allows))
+misses_never entry_kind.Absent allowed true pool level page gfn write v here is may leads =
+    let leaf = (is_leaf_here pool level page gfn v write entry_kind.Absent here is refl (leads refl)).0 in absurd (cc leaf)
+misses_never entry_kind.Frozen allowed true pool level page gfn write v here is may leads =
+    let leaf = (is_leaf_here pool level page gfn v write entry_kind.Frozen here is refl (leads refl)).0 in absurd (cc leaf)
 
 -- So a step is a delay only where it waits or begins anew.
-pub no_miss : (p : Place) (c : Command) (h : Held) (words : Area → ℕ → ℕ) → WalksInstalled p c words h.topics → (walks_again p && leaves_to_fault (outcome_at p c h (answer_in (task_at p c h) words))) ≡ false
+pub no_miss : (p : Place) (c : Command) (h : Held) (words : Area → ℕ → ℕ) → WalksInstalled p c words h.topics
+    → (walks_again p && leaves_to_fault (outcome_at p c h (answer_in (task_at p c h) words))) ≡ false
 no_miss (place.Access (Walk again)) (Access gfn word op) h words walks =
     let v : ℕ = words area.Pool (pool_index (table_page h.topics.walk) (entry_index gfn h.topics.walk.level)) in
     misses_never (kind_of h.topics.walk.level v) (allows_access (is_write op) v) again (words area.Pool) h.topics.walk.level (table_page h.topics.walk) gfn (is_write op) v refl refl refl walks
@@ -89,24 +94,27 @@ one_of false false c is = inr (inr is)
 abbrev pub WaitsOrBegins : Place → Command → Held → ℕ → Type 0
 WaitsOrBegins p c h v = (line_waits p c h v ≡ true) ⊎ (begins_anew p ≡ true)
 
-pub where_it_stands : (q : Place) (y : Sizes) (slots : MemorySlots) (c : Command) (h : Held) (v : ℕ) → WaitsOrBegins (standing q y slots c) c h v → WaitsOrBegins q c h v
+pub where_it_stands : (q : Place) (y : Sizes) (slots : MemorySlots) (c : Command) (h : Held) (v : ℕ) → WaitsOrBegins (standing q y slots c) c h v
+    → WaitsOrBegins q c h v
 where_it_stands place.Between y slots c h v (inl waits) = absurd (first_goes y slots c h v waits)
 where_it_stands place.Between y slots c h v (inr anew) = absurd (first_no_end y slots c anew)
 where_it_stands _ y slots c h v is = is
 
 -- ---- from world to world
 
-has_left : (h : Held) → has_line h ≡ true → length h.answers < length h.lines
+pub has_left : (h : Held) → has_line h ≡ true → length h.answers < length h.lines
 has_left h has = grind (arith, nat_tests)
 
 -- The hand behind a step stands there, with these topics.
-pub nearer_hand : (g : Held) (o : Outcome) (p : Place) (y : Sizes) (n m : ℕ) → o ≡ Goes p → g.state.place ≡ place_after o → g.state.sizes ≡ y → n ≤ m → Nearer o y g.topics n → hand_left g < m
-nearer_hand g o p y n m is stands sizes le N =
+pub nearer_hand : (g : Held) (o : Outcome) (p : Place) (y : Sizes) (n : ℕ) → o ≡ Goes p → GoesUnderWay o → g.state.place ≡ place_after o → g.state.sizes ≡ y
+    → Nearer o y g.topics n → hand_left g < n
+nearer_hand g o p y n is under stands sizes N =
     let less : steps_left p y g.topics < n = subst (λ (q : Outcome). Nearer q y g.topics n) is N in
-    let left : hand_left g ≡ steps_left p y g.topics = ap (λ q. steps_left q g.state.sizes g.topics) (stands ∙ ap place_after is) ∙ ap (λ (x : Sizes). steps_left p x g.topics) sizes in
-    omega (arith, less, left, le)
+    let left : hand_left g ≡ steps_left p y g.topics =
+    left_there p g (stands ∙ ap place_after is) (subst GoesUnderWay is under) ∙ ap (λ (x : Sizes). steps_left p x g.topics) sizes in
+    omega (arith, less, left)
 
--- A step of a line that may be made, and the hand behind it.
+-- A step of a line that may be made, and the hand after it.
 module _ (z : Sizes) (w : World Held) (s : Step Kind) (G : IsSound z w) (may : May mmu w s) (has : has_line (hand_in mmu w s.actor) ≡ true) where
   abbrev a : ℕ
   a = s.actor
@@ -144,13 +152,10 @@ module _ (z : Sizes) (w : World Held) (s : Step Kind) (G : IsSound z w) (may : M
   pub same_sizes : after.state.sizes ≡ h.state.sizes
   same_sizes = sym (ap (λ (g : Held). g.state.sizes) hand_behind) ∙ ((good_step z w s G may).holds.lines a there).sizes ∙ sym sizes
 
-  -- where the line stands it has no more left than the hand
-  pub stood_left : steps_left stood h.state.sizes h.topics ≤ hand_left h
-  stood_left = standing_left h.state.place h.state.sizes h.slots line.command h.topics (subst AreSizes (sym sizes) G.holds.sizes)
-
   -- What is no delay leaves fewer steps.
-  pub nearer_here : delays_at stood line.command h x ≡ false → Nearer (outcome_at stood line.command h x) h.state.sizes after.topics (steps_left stood h.state.sizes h.topics)
+  pub nearer_here : delays_at stood line.command h x ≡ false → Nearer (outcome_at stood line.command h x) h.state.sizes after.topics (hand_left h)
   nearer_here on =
       let S = taken.is_step in
-      place_nearer stood line.command z h words S.begun (subst (λ y. IsCommandFor z y line.command) S.own S.allowed) (part_rests_at z (view z w) a G.holds G.topics there) (knows_at z (view z w) a G.holds there S.left)
-      (needs_at z (view z w) a line line.command stood S G.holds G.topics) on
+      place_nearer stood line.command z h words S.begun (subst (λ y. IsCommandFor z y line.command) S.own S.allowed)
+      (part_rests_at z (view z w) a G.holds G.topics there)
+      (is_next h s.kind may.enabled has).rests.at (knows_at z (view z w) a G.holds there S.left) on

@@ -9,13 +9,13 @@ use Rattle.core_views.specs.declared.place.FaultPlace.TheVariants as fault
 use Rattle.core_views.specs.declared.place.Leaving.TheVariants as leaving
 use Rattle.core_views.specs.declared.place.Place.{Place}
 use Rattle.core_views.specs.declared.place.Place.TheVariants as place
-use Rattle.core_views.specs.declared.place.SetSlotPlace.{SetSlotPlace}
-use Rattle.core_views.specs.declared.place.SetSlotPlace.TheVariants.{Release, Watch, Clear, Give}
+use Rattle.core_views.specs.declared.place.SlotChangePlace.{SlotChangePlace}
+use Rattle.core_views.specs.declared.place.SlotChangePlace.TheVariants.{Release, Watch, Clear, Give}
 use Rattle.core_views.specs.declared.sizes.Sizes.{Sizes}
 use Rattle.core_views.specs.declared.topics.SlotSearch.{SlotSearch}
 use Rattle.core_views.specs.declared.topics.Topics.{Topics}
 use Rattle.core_views.specs.declared.trace.Command.{Command}
-use Rattle.core_views.specs.declared.trace.Command.TheVariants.{Access, SetSlot}
+use Rattle.core_views.specs.declared.trace.Command.TheVariants.{Access}
 use Rattle.core_views.specs.declared.trace.Line.{Line}
 use Rattle.core_views.specs.declared.trace.Op.{Op}
 use Rattle.core_views.specs.Flat.{Facts, Flat, LineUnderWay, Notes, Fresh, HasAccessed, HasChanged, Idle}
@@ -83,19 +83,19 @@ AccessUnder pool (access.Fault p) gfn op t u = Runs u × NotedAt pool p gfn op t
 AccessUnder pool (access.Leave (leaving.Reached frame value)) gfn op t u = u.stage ≡ HasAccessed frame value
 AccessUnder pool _ gfn op t u = Runs u
 
--- A slot setting has done nothing yet, up to its publication; behind it, it has set its slot.
-abbrev pub SettingUnder : SetSlotPlace → LineUnderWay → Type 0
-SettingUnder Release u = u.stage ≡ HasChanged
-SettingUnder Watch u = u.stage ≡ HasChanged
-SettingUnder Clear u = u.stage ≡ HasChanged
-SettingUnder Give u = u.stage ≡ HasChanged
-SettingUnder _ u = u.stage ≡ Fresh
+-- A slot line has done nothing yet, up to its publication; after it, it has changed its slot.
+abbrev pub SlotChangeUnder : SlotChangePlace → LineUnderWay → Type 0
+SlotChangeUnder Release u = u.stage ≡ HasChanged
+SlotChangeUnder Watch u = u.stage ≡ HasChanged
+SlotChangeUnder Clear u = u.stage ≡ HasChanged
+SlotChangeUnder Give u = u.stage ≡ HasChanged
+SlotChangeUnder _ u = u.stage ≡ Fresh
 
 -- The line under way is this one, with this command, at this place, and its actor holds these topics.
 abbrev pub UnderAt : (ℕ → ℕ) → Place → Line → Command → Topics → LineUnderWay → Type 0
 UnderAt pool place.Between line command t u = u.stage ≡ Idle
 UnderAt pool (place.Access p) line (Access gfn word op) t u = (u.line ≡ line) × AccessUnder pool p gfn op t u
-UnderAt pool (place.SetSlot p) line (SetSlot id slot) t u = (u.line ≡ line) × SettingUnder p u
+UnderAt pool (place.SlotChange p) line command t u = (u.line ≡ line) × SlotChangeUnder p u
 UnderAt pool _ line command t u = ⊥
 
 -- The hand's line under way is the flat one.
@@ -104,4 +104,5 @@ UnderIs pool p command h u = UnderAt pool p h.state.line command h.topics u
 
 pub record FlatInvariant (z : Sizes) (v : View) (f : Flat) : Type 0 where
   pub refines : Refines z (v.words area.Slots 0) (v.words area.Pool) (v.words area.Content) (v.words area.Pause 0) f.facts
-  pub under : (i : ℕ) → i < actors_of z → UnderIs (v.words area.Pool) (v.hand i).state.place (v.hand i).state.line.command (v.hand i) (f.under (v.hand i).state.actor)
+  pub under : (i : ℕ) → i < actors_of z
+      → UnderIs (v.words area.Pool) (v.hand i).state.place (v.hand i).state.line.command (v.hand i) (f.under (v.hand i).state.actor)

@@ -1,13 +1,11 @@
 -- What the numbers of a step tell: of which area its word is, whether its line ends with it, and what it leaves of what is cached.
-use Rattle.std.specs.Prelude.{◌≡◌, ◌<◌, ◌+◌, ◌⊎◌, ℕ, Bool, true, false, [], ◌==◌, if◌then◌else◌}
+use Rattle.std.specs.Prelude.{◌≡◌, ◌<◌, ◌+◌, ◌⊎◌, ℕ, true, false, [], ◌==◌, if◌then◌else◌}
 use Rattle.circular_buffer.specs.Buffer.{Buffer}
 use Rattle.core_views.specs.declared.cache.Translation.{Translation}
 use Rattle.core_views.specs.declared.kind.Kind.{Kind}
 use Rattle.core_views.specs.declared.kind.StepKind.{StepKind}
 use Rattle.core_views.specs.declared.kind.StepKind.TheVariants as kind
 use Rattle.core_views.specs.declared.place.Place.{Place}
-use Rattle.core_views.specs.declared.place.Place.TheVariants.{SetSlot}
-use Rattle.core_views.specs.declared.place.SetSlotPlace.TheVariants.{Claim}
 use Rattle.core_views.specs.declared.sizes.Sizes.{Sizes}
 use Rattle.core_views.specs.Held.{Held}
 use Rattle.core_views.specs.Kinds.{kind_named}
@@ -17,6 +15,7 @@ use Rattle.spte_words.specs.Areas.{place, size_of}
 use Rattle.mmu_core.specs.declared.outcome.Outcome.{Outcome}
 use Rattle.mmu_core.specs.lines.AccessSteps.{ends_with}
 use Rattle.mmu_core.specs.lines.Cached.{asks_flush, with_leaf}
+use Rattle.mmu_core.specs.lines.ScanPlaces.{ends_with_claim}
 use Rattle.mmu_core.specs.machine.Enabled.{Enabled}
 use Rattle.mmu_core.specs.machine.Steps.{has_line, next, place_at}
 use Rattle.part_steps.specs.Tasks.{map_of}
@@ -71,10 +70,9 @@ pub record IsOnItsArea (z : Sizes) (k : Kind) : Type 0 where
 abbrev pub StepsAreOnTheirAreas : Type 0
 StepsAreOnTheirAreas = (h : Held) (k : Kind) → Enabled h k → IsOnItsArea h.state.sizes k
 
--- The step of this place is a slot setting's load of the last word of the pool's map.
+-- The step of this place loads the last word of the pool's map, for a claim with which its line may end.
 pub record LoadsLastWord (p : Place) (z : Sizes) (k : Kind) : Type 0 where
-  pub begun : Bool
-  pub place_is : p ≡ SetSlot (Claim begun)
+  pub ends : ends_with_claim p ≡ true
   pub loads : kind_named k.code ≡ kind.Control
   pub last : k.word + 1 ≡ map_ends z
 
@@ -88,7 +86,7 @@ pub record NoteTells (p : Place) (z : Sizes) (k : Kind) (o : Outcome) (v : ℕ) 
 abbrev pub NotesTellEnds : Type 0
 NotesTellEnds = (h : Held) (k : Kind) (v : ℕ) → Enabled h k → has_line h ≡ true → NoteTells (place_at h.state.place h) h.state.sizes k (outcome_of h v) v
 
--- Who enters the guest with a flush asked for has nothing cached behind that step.
+-- Who enters the guest with a flush asked for has nothing cached after that step.
 abbrev pub EnteringFlushes : Type 0
 EnteringFlushes = (h : Held) (k : Kind) (v : ℕ) → Enabled h k → kind_named k.code ≡ kind.Enter → asks_flush v ≡ true → (next h k v).cached.items ≡ []
 
@@ -98,4 +96,5 @@ CachesOneAtMost before after = (after ≡ before) ⊎ ((t : Translation) × (aft
 
 -- Each other step leaves at most one more translation.
 abbrev pub OthersCacheOneAtMost : Type 0
-OthersCacheOneAtMost = (h : Held) (k : Kind) (v : ℕ) → Enabled h k → (kind_named k.code ≡ kind.Enter → asks_flush v ≡ false) → CachesOneAtMost h.cached (next h k v).cached
+OthersCacheOneAtMost =
+    (h : Held) (k : Kind) (v : ℕ) → Enabled h k → (kind_named k.code ≡ kind.Enter → asks_flush v ≡ false) → CachesOneAtMost h.cached (next h k v).cached

@@ -37,26 +37,30 @@ TurnsComeNearer =
     → (p : Place) → outcome_of (hand_in mmu (run mmu start ss) s.actor) (answered mmu (run mmu start ss) s.kind) ≡ Goes p
     → (hand_left (hand_in mmu (effect mmu (run mmu start ss) s) s.actor) < hand_left (hand_in mmu (run mmu start ss) s.actor)) ⊎ StayMisses z start ss s
 
--- A line that has no answer has no more steps left than this, wherever it stands.
+-- A line that has no answer has no more steps left than its command allows, wherever it stands.
 abbrev pub TurnsAreBounded : Type 0
-TurnsAreBounded = (w : World Held) (a : ℕ) → Reachable w → a < length w.hands → has_line (hand_in mmu w a) ≡ true → hand_left (hand_in mmu w a) ≤ most_steps (hand_in mmu w a).state.sizes
+TurnsAreBounded =
+    (w : World Held) (a : ℕ) → Reachable w → a < length w.hands → has_line (hand_in mmu w a) ≡ true
+    → hand_left (hand_in mmu w a) ≤ most_steps (hand_in mmu w a).state.sizes (line_of (hand_in mmu w a)).command
 
--- The steps that a hand has counted since its line began, or since the line's last delay, are no more than this; and while the line is under
--- way, so are they together with those that it has left.
+-- The steps that a hand has counted since its line began, or since the line's last delay, are no more than the line's command allows; and while
+-- the line is under way, so are they together with those that it has left.
 pub record CountFits (h : Held) : Type 0 where
-  pub few : h.state.steps ≤ most_steps h.state.sizes
-  pub with_left : IsUnderWay h.state.place → h.state.steps + hand_left h ≤ most_steps h.state.sizes
+  pub few : h.state.steps ≤ most_steps h.state.sizes h.state.line.command
+  pub with_left : IsUnderWay h.state.place → h.state.steps + hand_left h ≤ most_steps h.state.sizes h.state.line.command
 
 -- So it is with every hand, behind every list of steps of all actors.
 abbrev pub StepsAreBounded : Type 0
 StepsAreBounded = (w : World Held) (a : ℕ) → Reachable w → a < length w.hands → CountFits (hand_in mmu w a)
 
--- What a hand has counted before and behind a step of its line: a step that is no delay is one step more; with a delay the line has made no
--- more steps since its last one than any line, it counts anew, and there is one delay more.
+-- What a hand has counted before and after a step of its line: a step that is no delay is one step more; with a delay the line has made no
+-- more steps since its last one than its command allows, it counts anew, and there is one delay more.
 abbrev pub CountsOn : Bool → Held → Held → Type 0
-CountsOn false before after = (after.state.steps ≡ counted before.state.place before.state.steps + 1) × (after.state.delays ≡ counted before.state.place before.state.delays)
+CountsOn false before after =
+    (after.state.steps ≡ counted before.state.place before.state.steps + 1) × (after.state.delays ≡ counted before.state.place before.state.delays)
 CountsOn true before after =
-    (counted before.state.place before.state.steps + 1 ≤ most_steps before.state.sizes) × (after.state.steps ≡ 0) × (after.state.delays ≡ one_more (counted before.state.place before.state.delays))
+    (counted before.state.place before.state.steps + 1 ≤ most_steps before.state.sizes (line_of before).command)
+    × (after.state.steps ≡ 0) × (after.state.delays ≡ one_more (counted before.state.place before.state.delays))
 
 -- So each step of each line is counted.
 abbrev pub StepsAreCounted : Type 0

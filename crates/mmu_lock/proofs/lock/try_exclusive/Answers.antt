@@ -10,14 +10,21 @@ use Rattle.mmu_lock.proofs.lock.try_exclusive.Goals as goal
 pub returns-then-word-eq0-clause-sole : goal.returns-then-word-eq0-clause-sole
 returns-then-word-eq0-clause-sole g c = λ e.
     let made = c.make_part-word.ensures.made in
-    let alone = ap (λ (t : Topics). t.hold) made.topics ∙ ap (λ n. if n == 0 then Exclusive else (g.S.Stepper.handful c.args.s.now).core.topics.hold) c.if-word-eq0.true in
+    let alone = ap (λ (t : Topics). t.hold) made.topics
+    ∙ ap (λ n. if n == 0 then Exclusive else (g.S.Stepper.seat c.args.s.now).hand.topics.hold) c.if-word-eq0.true in
     where_made made (λ w at has. sole_told (Some _) _ _ has alone)
 
 pub returns-then-word-eq0-clause-tried : goal.returns-then-word-eq0-clause-tried
-returns-then-word-eq0-clause-tried g c = excludes_behind (g.S.Stepper.handful c.args.s.now).core.topics (g.S.Stepper.handful c.make_part-word.new.s).core.topics c.make_part-word.result c.make_part-word.ensures.made.topics c.if-word-eq0.true
+returns-then-word-eq0-clause-tried g c =
+    excludes_behind (g.S.Stepper.seat c.args.s.now).hand.topics (g.S.Stepper.seat c.make_part-word.new.s).hand.topics c.make_part-word.result
+    c.make_part-word.ensures.made.topics c.if-word-eq0.true
 
 pub returns-else-word-eq0-clause-tried : goal.returns-else-word-eq0-clause-tried
-returns-else-word-eq0-clause-tried g c = (c.if-word-eq0.false, keeps_behind (g.S.Stepper.handful c.args.s.now).core.topics (g.S.Stepper.handful c.make_part-word.new.s).core.topics c.make_part-word.result c.make_part-word.ensures.made.topics c.if-word-eq0.false)
+returns-else-word-eq0-clause-tried g c = (
+  c.if-word-eq0.false,
+  keeps_behind (g.S.Stepper.seat c.args.s.now).hand.topics (g.S.Stepper.seat c.make_part-word.new.s).hand.topics
+      c.make_part-word.result c.make_part-word.ensures.made.topics c.if-word-eq0.false,
+)
 
 pub returns-else-word-eq0-clause-alone : goal.returns-else-word-eq0-clause-alone
 returns-else-word-eq0-clause-alone g c =

@@ -15,4 +15,6 @@ returns-clause-asked g c =
     where_made c.make_part.ensures.made (λ w at has. flush_kept (Some w) (Some _) _ _ _ _ _ at.has at.world has)
 
 pub returns-clause-cached : goal.returns-clause-cached
-returns-clause-cached g c = left_cached (g.S.Stepper.handful c.args.s.now).core (g.S.Stepper.handful c.make_part.new.s).core c.args.note c.make_part.result c.requires.may c.make_part.ensures.made.hand
+returns-clause-cached g c =
+    left_cached (g.S.Stepper.seat c.args.s.now).hand (g.S.Stepper.seat c.make_part.new.s).hand c.args.note c.make_part.result c.requires.may
+    c.make_part.ensures.made.hand

@@ -1,15 +1,18 @@
 use Rattle.std.proofs.Common.{List, length, ap, ◌∙◌, arith}
 use Rattle.std.proofs.lemmas.Option.{slice_get_within}
 use Rattle.core_views.specs.declared.answer.AnsweredLine.{AnsweredLine}
-use Rattle.weave_engine.proofs.PartRuns.{part_ends, part_goes_on, part_goes_through, part_starts}
+use Rattle.weave_engine.proofs.PartEnds.{part_ends, part_goes_on, part_goes_through}
+use Rattle.weave_engine.proofs.PartRuns.{part_starts}
 use Rattle.weave_engine.proofs.job.run_line.Goals as goal
 
 pub loop-answer-init : goal.loop-answer-init
 loop-answer-init g c =
     let e = c.in_ok-job.ensures in
-    let below = slice_get_within (g.S.Stepper.handful c.args.s.now).core.lines (length (g.S.Stepper.handful c.args.s.now).core.answers) c.args.line.now c.requires.next in
+    let below = slice_get_within (g.S.Stepper.seat c.args.s.now).hand.lines (length (g.S.Stepper.seat c.args.s.now).hand.answers) c.args.line.now
+    c.requires.next in
     record {
-      part = rw (e.hand, e.told) (part_starts c.args.line.now (g.S.Stepper.actor c.args.s.now) (g.S.Stepper.handful c.args.s.now).core (g.S.Stepper.tells c.args.s.now) c.requires.idle c.requires.next c.requires.alone);
+      part = part_starts c.args.line.now (g.S.Stepper.seat c.args.s.now) _ e.hand e.told
+          c.requires.idle c.requires.next c.requires.alone;
       reserved = e.reserved;
       job = rw e.hand e.job;
       left = rw e.hand below;
@@ -22,8 +25,7 @@ loop-answer-preserved g c =
     let i = c.loop-answer.invariant in
     let e = c.in-More.ensures in
     record {
-      part = (part_goes_on c.args.line.now (g.S.Stepper.actor c.args.s.now) (g.S.Stepper.actor c.loop-answer.s) (g.S.Stepper.handful c.args.s.now).core (g.S.Stepper.handful c.loop-answer.s).core (g.S.Stepper.handful c.turn.new.s).core
-          (g.S.Stepper.tells c.args.s.now) (g.S.Stepper.tells c.loop-answer.s) (g.S.Stepper.tells c.turn.new.s)
+      part = (part_goes_on c.args.line.now (g.S.Stepper.seat c.args.s.now) (g.S.Stepper.seat c.loop-answer.s) (g.S.Stepper.seat c.turn.new.s)
           i.actor i.left c.requires.own i.part e.turns e.says e.hand).0;
       reserved = omega (arith, e.room, ap (λ (xs : List AnsweredLine). length xs) e.says.answers, i.reserved);
       job = rw (e.job, e.says.answers) i.job;
@@ -36,16 +38,14 @@ pub returns-in-Done-clause-alone : goal.returns-in-Done-clause-alone
 returns-in-Done-clause-alone g c =
     let i = c.loop-answer.invariant in
     let e = c.in-Done.ensures in
-    part_ends c.args.line.now c.in-Done.answer (g.S.Stepper.actor c.args.s.now) (g.S.Stepper.actor c.loop-answer.s) (g.S.Stepper.handful c.args.s.now).core (g.S.Stepper.handful c.loop-answer.s).core (g.S.Stepper.handful c.turn.new.s).core
-    (g.S.Stepper.tells c.args.s.now) (g.S.Stepper.tells c.loop-answer.s) (g.S.Stepper.tells c.turn.new.s)
-    i.actor i.left c.requires.own i.part e.turns
+    part_ends c.args.line.now (g.S.Stepper.seat c.args.s.now) (g.S.Stepper.seat c.loop-answer.s) (g.S.Stepper.seat c.turn.new.s)
+    i.actor i.left c.requires.own i.part c.in-Done.answer e.turns
 
 pub loop-answer-smaller : goal.loop-answer-smaller
 loop-answer-smaller g c =
     let i = c.loop-answer.invariant in
     let e = c.in-More.ensures in
-    (part_goes_on c.args.line.now (g.S.Stepper.actor c.args.s.now) (g.S.Stepper.actor c.loop-answer.s) (g.S.Stepper.handful c.args.s.now).core (g.S.Stepper.handful c.loop-answer.s).core (g.S.Stepper.handful c.turn.new.s).core
-    (g.S.Stepper.tells c.args.s.now) (g.S.Stepper.tells c.loop-answer.s) (g.S.Stepper.tells c.turn.new.s)
+    (part_goes_on c.args.line.now (g.S.Stepper.seat c.args.s.now) (g.S.Stepper.seat c.loop-answer.s) (g.S.Stepper.seat c.turn.new.s)
     i.actor i.left c.requires.own i.part e.turns e.says e.hand).1
 
 pub turn-requires-clause-line : goal.turn-requires-clause-line
@@ -54,6 +54,5 @@ turn-requires-clause-line g c = rw c.loop-answer.invariant.part.line_is c.loop-a
 pub unreachable-requires : goal.unreachable-requires
 unreachable-requires g c =
     let i = c.loop-answer.invariant in
-    part_goes_through c.args.line.now (g.S.Stepper.actor c.args.s.now) (g.S.Stepper.actor c.loop-answer.s) (g.S.Stepper.handful c.args.s.now).core (g.S.Stepper.handful c.loop-answer.s).core (g.S.Stepper.handful c.turn.new.s).core
-    (g.S.Stepper.tells c.args.s.now) (g.S.Stepper.tells c.loop-answer.s) (g.S.Stepper.tells c.turn.new.s)
-    c.turn.result i.actor i.left c.requires.own i.part c.turn.ensures.turns c.in-Wait.is
+    part_goes_through c.args.line.now (g.S.Stepper.seat c.args.s.now) (g.S.Stepper.seat c.loop-answer.s) (g.S.Stepper.seat c.turn.new.s)
+    i.actor i.left c.requires.own i.part c.turn.result c.turn.ensures.turns c.in-Wait.is

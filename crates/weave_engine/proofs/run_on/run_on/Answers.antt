@@ -2,15 +2,13 @@ use Rattle.std.proofs.Common.{◌≡◌, ◌∙◌, ℕ, List, length, map, ap, 
 use Rattle.core_views.specs.Sizes.{index_of}
 use Rattle.std.proofs.Math.ListN.{length-map}
 use Rattle.std.proofs.lemmas.List.{length-set}
-use Rattle.std.specs.Prelude.{Some}
 use Rattle.core_views.specs.declared.sizes.Sizes.{Sizes}
 use Rattle.core_views.specs.Held.{Handful, Held}
 use Rattle.mmu_core.specs.machine.Enabled.{mmu}
 use Rattle.mmu_core.specs.alone.LineAlone.{LineAlone}
 use Rattle.mmu_core.specs.machine.Machine.{hand_in}
 use Rattle.step_seats.specs.Frames.{Frame, other_rooms, room_of}
-use Rattle.step_seats.specs.Machines.{Machine, world_in}
-use Rattle.step_seats.specs.Moves.{handful_in}
+use Rattle.step_seats.specs.Machines.{Machine, seat_in, world_in}
 use Rattle.step_seats.proofs.Worlds.{core_at}
 use Rattle.weave_engine.specs.Turns.{IsAlone}
 use Rattle.weave_engine.proofs.LinesRun.{ran_on}
@@ -23,13 +21,14 @@ returns-clause-ran c =
     let m = c.args.machine.now in
     let n = c.run_line.new.s.machine.now in
     let at = c.as_actor-seat.result.index in
-    let ran = ran_on c.run_line.result c.args.line.now m.sizes (index_of m.sizes c.args.line.now.actor) at (handful_in m.hands at).core (handful_in n.hands c.run_line.new.s.index).core (world_in m) (world_in n) c.requires.alone i.index
-    (core_at m.words m.hands at ∙ ap (λ (k : ℕ). hand_in mmu (world_in m) k) i.index) (core_at n.words n.hands c.run_line.new.s.index ∙ ap (λ (k : ℕ). hand_in mmu (world_in n) k) (e.same.0 ∙ i.index))
+    let ran = ran_on c.run_line.result c.args.line.now m.sizes (index_of m.sizes c.args.line.now.actor) m n at c.run_line.new.s.index c.requires.alone i.index
+    (core_at m.words m.hands at ∙ ap (λ (k : ℕ). hand_in mmu (world_in m) k) i.index)
+    (core_at n.words n.hands c.run_line.new.s.index ∙ ap (λ (k : ℕ). hand_in mmu (world_in n) k) (e.same.0 ∙ i.index))
     (rw i.machine at e.answered) (rw i.machine at e.alone) (rw i.machine at e.hand) in
     search (rules, ran)
 
 -- What a line that runs alone is given, as its seat asks it.
-alone_at : (m : Machine) (i : ℕ) → LineAlone m.sizes (world_in m) i → IsAlone i (handful_in m.hands i).core (Some (world_in m))
+alone_at : (m : Machine) (i : ℕ) → LineAlone m.sizes (world_in m) i → IsAlone (seat_in m i)
 alone_at m i A = record {
   world = world_in m;
   is = refl;

@@ -1,6 +1,14 @@
 use Rattle.std.proofs.lemmas.Grind.{merely}
+use Rattle.std.proofs.Common.{refl}
 use Rattle.step_seats.specs.Machines.{world_in}
 use Rattle.mmu_lock.proofs.untold.UntoldSeatStepper.act.Goals as goal
 
-pub returns-clause-answers : goal.returns-clause-answers
-returns-clause-answers c = merely (world_in c.args.self.now.seat.machine.now, c.act.ensures.answers)
+pub returns-clause-acts : goal.returns-clause-acts
+returns-clause-acts c =
+    record {
+      hand = c.act.ensures.acts.hand;
+      world = refl;
+      steps = refl;
+      answers = merely (world_in c.args.self.now.seat.machine.now, c.act.ensures.acts.answers);
+      has = tt;
+    }

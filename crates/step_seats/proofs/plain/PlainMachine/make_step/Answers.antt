@@ -1,10 +1,11 @@
-use Rattle.std.proofs.Common.{arith, refl, subst, sym}
+use Rattle.std.proofs.Common.{◌<◌, arith, refl, subst, sym}
 use Rattle.std.proofs.Math.ListN.{length-set}
-use Rattle.std.proofs.lemmas.List.{get_or-set_same}
+use Rattle.std.proofs.lemmas.List.{get_or-set_same, get_or_read}
 use Rattle.core_views.specs.Held.{Handful}
-use Rattle.step_seats.specs.Machines.{world_in}
+use Rattle.step_seats.specs.Machines.{Machine, world_in}
 use Rattle.step_seats.specs.Moves.{core_of, handful_in, no_hand}
 use Rattle.step_seats.specs.Where.{IsMadeIn}
+use Rattle.step_seats.proofs.Rooms.{next_has_room}
 use Rattle.step_seats.proofs.Worlds.{has_hand, machine_after, step_made, there_inside, word_inside}
 use Rattle.step_seats.proofs.plain.PlainMachine.make_step.Goals as goal
 
@@ -47,11 +48,27 @@ pub invariant_of-self : goal.invariant_of-self
 invariant_of-self c =
     let m = c.self.inside in
     let made = step_made m.sizes m.words.items m.hands.items c.args.self.now c.args.index c.args.kind c.index-found.result.now c.after.result c.answer-answer.result c.index_mut-hand.result.now c.advance.new.hand c.self.invariant c.self.view_is c.requires.there c.requires.enabled c.index-found.ensures c.index_mut-hand.ensures.value c.after.ensures c.answer-answer.ensures c.advance.ensures.core in
-    machine_after m.sizes m.words.items m.hands.items c.args.self.now c.args.index c.args.kind c.after.result c.answer-answer.result c.advance.new.hand c.self.invariant c.self.view_is made
+    let there = there_inside m.sizes m.words.items m.hands.items c.args.self.now c.args.index c.self.view_is c.requires.there in
+    let was = get_or_read m.hands.items c.args.index c.index_mut-hand.result.now there c.index_mut-hand.ensures.value no_hand in
+    let taken : 0 < (handful_in m.hands.items c.args.index).room =
+    subst (λ (x : Machine). 0 < (handful_in x.hands c.args.index).room) (sym c.self.view_is) c.requires.reserved in
+    let some : 0 < c.index_mut-hand.result.now.room = subst (λ (x : Handful). 0 < x.room) (sym was) taken in
+    let room = next_has_room c.index_mut-hand.result.now.core c.advance.new.hand.core c.args.kind c.answer-answer.result c.index_mut-hand.result.now.room
+    c.advance.new.hand.room c.advance.ensures.core c.advance.ensures.room some in
+    machine_after m.sizes m.words.items m.hands.items c.args.self.now c.args.index c.args.kind c.after.result c.answer-answer.result c.advance.new.hand
+    c.self.invariant c.self.view_is c.requires.there room made
 
 pub returns-clause-has : goal.returns-clause-has
 returns-clause-has c =
     let m = c.self.inside in
     let made = step_made m.sizes m.words.items m.hands.items c.args.self.now c.args.index c.args.kind c.index-found.result.now c.after.result c.answer-answer.result c.index_mut-hand.result.now c.advance.new.hand c.self.invariant c.self.view_is c.requires.there c.requires.enabled c.index-found.ensures c.index_mut-hand.ensures.value c.after.ensures c.answer-answer.ensures c.advance.ensures.core in
-    let after_ = machine_after m.sizes m.words.items m.hands.items c.args.self.now c.args.index c.args.kind c.after.result c.answer-answer.result c.advance.new.hand c.self.invariant c.self.view_is made in
+    let there = there_inside m.sizes m.words.items m.hands.items c.args.self.now c.args.index c.self.view_is c.requires.there in
+    let was = get_or_read m.hands.items c.args.index c.index_mut-hand.result.now there c.index_mut-hand.ensures.value no_hand in
+    let taken : 0 < (handful_in m.hands.items c.args.index).room =
+    subst (λ (x : Machine). 0 < (handful_in x.hands c.args.index).room) (sym c.self.view_is) c.requires.reserved in
+    let some : 0 < c.index_mut-hand.result.now.room = subst (λ (x : Handful). 0 < x.room) (sym was) taken in
+    let room = next_has_room c.index_mut-hand.result.now.core c.advance.new.hand.core c.args.kind c.answer-answer.result c.index_mut-hand.result.now.room
+    c.advance.new.hand.room c.advance.ensures.core c.advance.ensures.room some in
+    let after_ = machine_after m.sizes m.words.items m.hands.items c.args.self.now c.args.index c.args.kind c.after.result c.answer-answer.result
+    c.advance.new.hand c.self.invariant c.self.view_is c.requires.there room made in
     has_hand _ _ _ _ c.args.index after_ refl (omega (arith, length-set m.hands.items c.args.index c.advance.new.hand, there_inside m.sizes m.words.items m.hands.items c.args.self.now c.args.index c.self.view_is c.requires.there))

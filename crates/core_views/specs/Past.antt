@@ -1,0 +1,58 @@
+-- What is kept of what happened before, for the laws on dirty logs: which lines write under way, and which frames were written.
+use Rattle.std.specs.Prelude.{ℕ, List, [], ◌∷◌, Bool, false, not, ◌==◌, ◌||◌, if◌then◌else◌, filter, Option, Some, None}
+use Rattle.std.specs.List.{list_any}
+use Rattle.core_views.specs.declared.actor.Actor.{Actor}
+use Rattle.core_views.specs.declared.slot_set.MemorySlot.{MemorySlot}
+use Rattle.core_views.specs.declared.trace.Command.{Command}
+use Rattle.core_views.specs.declared.trace.Command.TheVariants.{Access}
+use Rattle.core_views.specs.Actors.{is_same}
+use Rattle.core_views.specs.Slots.{contains, is_write}
+
+-- a set of guest frames
+abbrev pub Frames : Type 0
+Frames = ℕ → Bool
+
+-- A write that is under way may still reach its frame, or have done so. No log is read yet, and so `recent` and `causes` are the same frames.
+pub record Past : Type 0 where
+  pub writes : List (Actor × ℕ)  -- the lines under way that write: the actor of each, and its guest frame
+  pub recent : Frames  -- Such a line was under way at some moment since a log was last read, and since the frame's slot was last set.
+  pub causes : Frames  -- One was since the log was last read that gave the frame, and since the frame's slot was last set.
+
+-- At the start no line is under way.
+abbrev pub first_past : Past
+first_past = record { writes = []; recent = λ gfn. false; causes = λ gfn. false }
+
+-- the guest frame that a line with this command writes, or none
+abbrev pub written_frame : Command → Option ℕ
+written_frame (Access gfn word op) = if is_write op then Some gfn else None
+written_frame _ = None
+
+-- A line under way writes the frame.
+abbrev pub is_being_written : List (Actor × ℕ) → ℕ → Bool
+is_being_written writes gfn = list_any (λ write. write.1 == gfn) writes
+
+-- the writes of other actors
+abbrev pub of_others : Actor → List (Actor × ℕ) → List (Actor × ℕ)
+of_others actor writes = filter (λ write. not (is_same actor write.0)) writes
+
+-- these frames, and one more
+abbrev pub with_frame : ℕ → Frames → Frames
+with_frame gfn frames = λ other. gfn == other || frames other
+
+-- A line begins that writes this frame, or none. Its actor's last line is over.
+abbrev pub past_begun : Actor → Option ℕ → Past → Past
+past_begun actor None past = record past { writes = of_others actor past.writes }
+past_begun actor (Some gfn) past = record {
+  writes = (actor, gfn) ∷ of_others actor past.writes;
+  recent = with_frame gfn past.recent;
+  causes = with_frame gfn past.causes;
+}
+
+-- The slot, if it is one, has the guest frame.
+abbrev pub is_frame_of : Option MemorySlot → ℕ → Bool
+is_frame_of None gfn = false
+is_frame_of (Some slot) gfn = contains gfn slot.slot
+
+-- these frames, where each frame of the slot counts anew: from now on, with the writes that are under way now
+abbrev pub counted_anew : Option MemorySlot → List (Actor × ℕ) → Frames → Frames
+counted_anew slot writes frames = λ gfn. if is_frame_of slot gfn then is_being_written writes gfn else frames gfn

@@ -1,0 +1,169 @@
+-- How a fault comes to the places at which it has a scan of the pool's map: by a step of its claim alone; and which of its steps claim.
+use Rattle.std.proofs.Common.{◌≡◌, ℕ, refl, ap}
+use Rattle.std.specs.Prelude.{◌+◌, Bool, true, false, ◌==◌, ◌&&◌, nat_le, nat_lt, not, if◌then◌else◌}
+use Rattle.core_views.specs.declared.place.CheckStage.{CheckStage}
+use Rattle.core_views.specs.declared.place.CheckStage.TheVariants as stage
+use Rattle.core_views.specs.declared.place.FaultEnd.TheVariants.{Installed, Mmio, HostFault, Retry}
+use Rattle.core_views.specs.declared.place.FaultPlace.{FaultPlace}
+use Rattle.core_views.specs.declared.place.FaultPlace.TheVariants.{Find, Host, Share, Check, Walk, Claim, Fill, Role, Link, Give, Leaf, Unshare, End}
+use Rattle.core_views.specs.declared.place.SlotField.{SlotField}
+use Rattle.core_views.specs.declared.sizes.Sizes.{Sizes}
+use Rattle.core_views.specs.declared.topics.SlotSearch.{SlotSearch}
+use Rattle.core_views.specs.declared.topics.TableWalk.{TableWalk}
+use Rattle.core_views.specs.declared.topics.Topics.{Topics}
+use Rattle.core_views.specs.Slots.{contains}
+use Rattle.spte_words.specs.declared.spte_kind.SpteKind.{SpteKind}
+use Rattle.spte_words.specs.declared.spte_kind.SpteKind.TheVariants as entry_kind
+use Rattle.spte_words.specs.Entries.{kind_of}
+use Rattle.spte_words.specs.HostWords.{host_allows_write}
+use Rattle.mmu_core.specs.declared.share.ShareNext.{ShareNext}
+use Rattle.mmu_core.specs.declared.share.ShareNext.TheVariants as shares
+use Rattle.mmu_core.specs.lines.FaultSteps.{after_share, allows_access, check_next, check_part, fault_next, fault_part, find_next, found_next, is_last_word, share_next, share_part, snapshot_taken, walk_next}
+use Rattle.mmu_core.specs.lines.ClaimSteps.{claim_part, map_word, tries_page}
+use Rattle.mmu_core.specs.lines.ScanPlaces.{BegunNext, HasBegun, IsStarvedEnd}
+use Rattle.mmu_core.specs.lines.FaultKnows.{FaultKnows, IsRetry}
+use Rattle.core_views.specs.declared.place.FaultEnd.{FaultEnd}
+use Rattle.mmu_core.proofs.lines.FaultSame.{both}
+use Rattle.core_views.specs.declared.topics.Hold.{Hold}
+use Rattle.core_views.specs.declared.topics.Hold.TheVariants.{Owing}
+use Rattle.core_views.specs.declared.topics.MapClaim.{MapClaim}
+use Rattle.part_steps.specs.declared.part_step.PartStep.{PartStep}
+use Rattle.part_steps.specs.declared.part_step.PartStep.TheVariants as part
+use Rattle.part_steps.specs.PartTasks.{words_filled}
+use Rattle.part_steps.specs.PageTopics.{searched}
+
+-- The fault is at a step of its claim, or is to be starved.
+abbrev pub ClaimsOrStarves : FaultPlace → Type 0
+ClaimsOrStarves (Claim begun) = Unit {0}
+ClaimsOrStarves p = HasBegun p
+
+-- ---- which places lead to one of them
+
+abbrev NotBegun : FaultPlace → Type 0
+NotBegun p = HasBegun p → ⊥
+
+neither : (b : Bool) (p q : FaultPlace) → NotBegun p → NotBegun q → NotBegun (if b then p else q)
+neither true p q one other = one
+neither false p q one other = other
+
+-- No other place leads to one of them.
+not_found : (write : Bool) (found : SlotSearch) → NotBegun (found_next write found)
+not_found write found = neither (write && found.slot.read_only) (End Mmio) Host (λ e. e) (λ e. e)
+
+not_by_find : (gfn : ℕ) (write : Bool) (loaded : SlotField) (found : SlotSearch) → NotBegun (find_next gfn write loaded found)
+not_by_find gfn write loaded found =
+    neither (is_last_word loaded && contains gfn found.slot) (found_next write found) (if found.id == 32 then End Mmio else Find true) (not_found write found)
+    (neither (found.id == 32) (End Mmio) (Find true) (λ e. e) (λ e. e))
+
+not_by_share : (next : ShareNext) → NotBegun (after_share next)
+not_by_share shares.Tries = λ e. e
+not_by_share _ = λ e. e
+
+not_by_check : (at : CheckStage) (gfn : ℕ) (t : Topics) (v : ℕ) → NotBegun (check_next at gfn t v)
+not_by_check stage.Count gfn t v = neither (v == 0) (Check stage.Seq) (Check stage.Start) (λ e. e) (λ e. e)
+not_by_check stage.Start gfn t v = λ e. e
+not_by_check stage.End gfn t v = neither (nat_le t.invalidations.start gfn && nat_lt gfn v) (Unshare (Retry _)) (Check stage.Seq) (λ e. e) (λ e. e)
+not_by_check stage.Seq gfn t v = neither (v == snapshot_taken t.invalidations.snapshot) (Walk false) (Unshare (Retry _)) (λ e. e) (λ e. e)
+
+not_by_walk : (k : SpteKind) (z : Sizes) (gfn : ℕ) (write : Bool) (walk : TableWalk) (v : ℕ) → NotBegun (walk_next k z gfn write walk v)
+not_by_walk entry_kind.Leaf z gfn write walk v =
+    neither (walk.level == 1) (if allows_access write v then Unshare Installed else Leaf) (Unshare (Retry _))
+    (neither (allows_access write v) (Unshare Installed) Leaf (λ e. e) (λ e. e)) (λ e. e)
+not_by_walk entry_kind.Absent z gfn write walk v = neither (walk.level == 1) Leaf (Claim false) (λ e. e) (λ e. absurd (cc e))
+not_by_walk _ z gfn write walk v = λ e. e
+
+retry_starves_not : (e : FaultEnd) → IsRetry e → IsStarvedEnd e → ⊥
+retry_starves_not (Retry cause) retry starved = starved
+retry_starves_not _ retry starved = retry
+
+pub fault_claims : (p : FaultPlace) (z : Sizes) (gfn : ℕ) (write : Bool) (t : Topics) (v : ℕ) → FaultKnows p z gfn write t
+    → BegunNext (fault_next p z gfn write t v) → ClaimsOrStarves p
+fault_claims (Find begun) z gfn write t v K e =
+    neither begun (find_next gfn write t.search.next (searched t.search v)) (Find true) (not_by_find gfn write t.search.next (searched t.search v)) (λ x. x) e
+fault_claims Host z gfn write t v K e = neither (write && not (host_allows_write v)) (End HostFault) Share (λ x. x) (λ x. x) e
+fault_claims Share z gfn write t v K e = not_by_share (share_next t.hold v) e
+fault_claims (Check at) z gfn write t v K e = not_by_check at gfn t v e
+fault_claims (Walk rooted) z gfn write t v K e =
+    neither rooted (walk_next (kind_of t.walk.level v) z gfn write t.walk v) (Walk true) (not_by_walk (kind_of t.walk.level v) z gfn write t.walk v) (λ x. x) e
+fault_claims (Claim begun) z gfn write t v K e = tt
+fault_claims Fill z gfn write t v K e = neither (nat_lt (words_filled t.owned + 1) 512) Fill Role (λ x. x) (λ x. x) e
+fault_claims Link z gfn write t v K e = neither (v == t.walk.entry) (Walk true) (Give (Retry _)) (λ x. x) (λ x. x) e
+fault_claims Leaf z gfn write t v K e = neither (v == t.walk.entry) (Unshare Installed) (Unshare (Retry _)) (λ x. x) (λ x. x) e
+fault_claims (Give end) z gfn write t v K e = absurd (retry_starves_not end K.4 e)
+fault_claims _ z gfn write t v K e = e
+
+-- ---- which steps claim
+
+-- The step loads a word of the pool's map, or tries for a page there; and it gives a page back.
+abbrev pub maps : PartStep → Bool
+maps (part.Map word) = true
+maps part.Claim = true
+maps _ = false
+
+abbrev pub gives : PartStep → Bool
+gives part.Give = true
+gives part.GiveOld = true
+gives _ = false
+
+-- A claim tries a page only after it has begun, and gives none back.
+pub claim_tries : (begun : Bool) (claim : MapClaim) → claim_part begun claim ≡ part.Claim → begun ≡ true
+claim_tries begun claim is = by (tries_page begun claim) refl is
+  where
+    by : (tries : Bool) → tries_page begun claim ≡ tries → (if tries then part.Claim else part.Map (map_word begun claim)) ≡ part.Claim → begun ≡ true
+    by true tries e = (both begun (nat_lt 0 claim.seen) tries).0
+    by false not_ e = absurd (cc e)
+
+pub claim_gives_none : (begun : Bool) (claim : MapClaim) → gives (claim_part begun claim) ≡ false
+claim_gives_none begun claim = by (tries_page begun claim)
+  where
+    by : (tries : Bool) → gives (if tries then part.Claim else part.Map (map_word begun claim)) ≡ false
+    by true = refl
+    by false = refl
+
+-- A step that gives no page back keeps the scan; the load of the map's first word begins one.
+pub data KeepsScan (scan : Type 0) : PartStep → Type 0 where
+  Keeps : (step : PartStep) → scan → gives step ≡ false → KeepsScan scan step
+  Begins : KeepsScan scan (part.Map 0)
+
+-- A claim goes on with its scan, or begins one.
+pub claim_keeps : (begun : Bool) (claim : MapClaim) (scan : Type 0) → (begun ≡ true → scan) → KeepsScan scan (claim_part begun claim)
+claim_keeps true claim scan S = Keeps (claim_part true claim) (S refl) (claim_gives_none true claim)
+claim_keeps false claim scan S = Begins
+
+one_maps_not : (b : Bool) (p q : PartStep) → maps p ≡ false → maps q ≡ false → maps (if b then p else q) ≡ false
+one_maps_not true p q one other = one
+one_maps_not false p q one other = other
+
+share_maps_not : (hold : Hold) → maps (share_part hold) ≡ false
+share_maps_not (Owing word) = refl
+share_maps_not _ = refl
+
+check_maps_not : (at : CheckStage) → maps (check_part at) ≡ false
+check_maps_not stage.Count = refl
+check_maps_not _ = refl
+
+-- Whether the fault stands at its claim.
+abbrev pub is_claim : FaultPlace → Bool
+is_claim (Claim begun) = true
+is_claim _ = false
+
+pub fault_maps_not : (p : FaultPlace) (gfn : ℕ) (t : Topics) → is_claim p ≡ false → maps (fault_part p gfn t) ≡ false
+fault_maps_not (Claim begun) gfn t is = absurd (cc is)
+fault_maps_not (Find begun) gfn t is = one_maps_not begun part.Slot part.Slots refl refl
+fault_maps_not Share gfn t is = share_maps_not t.hold
+fault_maps_not (Check at) gfn t is = check_maps_not at
+fault_maps_not (Walk rooted) gfn t is = one_maps_not rooted (part.Walk gfn) part.Root refl refl
+fault_maps_not _ gfn t is = refl
+
+-- A fault tries a page only with a scan.
+pub fault_tries : (p : FaultPlace) (gfn : ℕ) (t : Topics) → fault_part p gfn t ≡ part.Claim → HasBegun p
+fault_tries (Claim begun) gfn t is = claim_tries begun t.claim is
+fault_tries p gfn t is = let maps_one = ap maps is in absurd (cc (fault_maps_not p gfn t refl, maps_one))
+
+-- A step to a place with a scan keeps the scan, or begins it.
+pub fault_keeps : (p : FaultPlace) (z : Sizes) (gfn : ℕ) (write : Bool) (t : Topics) (v : ℕ) → FaultKnows p z gfn write t
+    → BegunNext (fault_next p z gfn write t v) → KeepsScan (HasBegun p) (fault_part p gfn t)
+fault_keeps (Claim begun) z gfn write t v K e = claim_keeps begun t.claim (begun ≡ true) (λ b. b)
+fault_keeps (Unshare end) z gfn write t v K e = Keeps part.Unshare e refl
+fault_keeps (End end) z gfn write t v K e = Keeps part.End e refl
+fault_keeps p z gfn write t v K e = absurd (fault_claims p z gfn write t v K e)

@@ -1,0 +1,120 @@
+-- What a line makes of the slots that it is to change: a clause for each command that changes one.
+use Rattle.std.proofs.Common.{◌≡◌, ◌<◌, ◌^◌, ◌+◌, ℕ, List, suc, length, take, refl, sym, subst, ap, ◌∙◌, arith}
+use Rattle.std.proofs.lemmas.Map.Views.{All-keys-insert_entry}
+use Rattle.std.specs.List.{Contains}
+use Rattle.std.specs.Map.{keys_of}
+use Rattle.std.specs.Ordering.{nat_cmp}
+use Rattle.std.specs.Prelude.{All, is_some, true}
+use Rattle.core_views.specs.declared.actor.Actor.{Actor}
+use Rattle.core_views.specs.declared.actor.Actor.TheVariants.{Manager}
+use Rattle.core_views.specs.declared.place.Place.TheVariants as place
+use Rattle.core_views.specs.declared.place.SlotChangePlace.{SlotChangePlace}
+use Rattle.core_views.specs.declared.place.SlotChangePlace.TheVariants.{Publish}
+use Rattle.core_views.specs.declared.sizes.Sizes.{Sizes}
+use Rattle.core_views.specs.declared.slot_set.MemorySlot.{MemorySlot}
+use Rattle.core_views.specs.declared.trace.Command.{Command}
+use Rattle.core_views.specs.declared.trace.Command.TheVariants.{Access, SetSlot}
+use Rattle.core_views.specs.declared.trace.Line.{Line}
+use Rattle.core_views.specs.declared.trace.Slot.{Slot}
+use Rattle.core_views.specs.Held.{Held}
+use Rattle.core_views.specs.Refusals.{is_logged}
+use Rattle.core_views.specs.SlotCommands.{changes_slot, slot_change, slots_after}
+use Rattle.core_views.specs.SlotSets.{MemorySlots, with_slot_at}
+use Rattle.core_views.specs.Traces.{IsCommandFor, slot_ids}
+use Rattle.spte_words.specs.declared.area.Area.TheVariants as area
+use Rattle.spte_words.specs.Areas.{pool_index}
+use Rattle.part_steps.proofs.SetWords.{set_word_small}
+use Rattle.part_steps.specs.PartTasks.{page_owned}
+use Rattle.part_steps.specs.SetWords.{set_role, set_word}
+use Rattle.part_steps.specs.SlotWords.{memory_slots_below}
+use Rattle.mmu_core.specs.invariant.Invariant.{Invariant, IsSetBy, RecordPart}
+use Rattle.mmu_core.specs.invariant.SlotSetPart.{SlotSetPart}
+use Rattle.mmu_core.specs.machine.Steps.{next_line}
+use Rattle.mmu_core.specs.machine.View.{View}
+use Rattle.mmu_core.proofs.lines.KnowsKept.{step_knows}
+use Rattle.mmu_core.proofs.lines.LinesKept.{AreSetBy, line_sets, set_by_with, set_here}
+use Rattle.mmu_core.proofs.machine.Stepping.{IsStep}
+use Rattle.mmu_core.proofs.slots.Accepted.{MayBeSet, may_be_set}
+use Rattle.mmu_core.proofs.slots.LiveStay.{StayLive}
+use Rattle.mmu_core.proofs.slots.SetFilled.{filled_page, has_each, list_with, new_slot, others_live, others_same}
+use Rattle.mmu_core.proofs.slots.SetPublished.{set_with}
+use Rattle.mmu_core.proofs.words.SmallSlots.{in_range, record_small}
+
+-- The manager alone changes slots.
+pub change_is_managers : (z : Sizes) (actor : Actor) (command : Command) → changes_slot command ≡ true → IsCommandFor z actor command → actor ≡ Manager
+change_is_managers z Manager command is may = refl
+change_is_managers z _ (Access gfn word op) is may = absurd (cc is)
+change_is_managers z _ _ is may = absurd may
+
+-- It has a change.
+pub is_change : (command : Command) (slots : MemorySlots) → changes_slot command ≡ true → is_some (slot_change slots command) ≡ true
+is_change (Access gfn word op) slots is = is
+is_change (SetSlot id slot) slots is = refl
+
+-- The words of the set that it fills are below 2 ^ 64.
+pub change_small : (z : Sizes) (lines : List Line) (actor : Actor) (command : Command) (slots : MemorySlots) → changes_slot command ≡ true
+    → IsCommandFor z actor command
+    → All (λ line. IsCommandFor z line.actor line.command) lines → All (IsSetBy lines) slots → (j : ℕ) → set_word (slots_after command slots) j < 2 ^ 64
+change_small z lines actor (Access gfn word op) slots is may allowed set j = absurd (cc is)
+change_small z lines actor (SetSlot id slot) slots is may allowed set j =
+    set_word_small id slot slots j (in_range z actor id slot may) (record_small z lines slots allowed set)
+
+-- The manager's own record, where its hand makes a step of such a line.
+pub record_of : (z : Sizes) (v : View) (a : ℕ) (line : Line) (command : Command) (p : SlotChangePlace)
+    → IsStep z v a line command (place.SlotChange p) → Invariant z v
+    → RecordPart (v.words area.Pool) (v.words area.Slots 0) (v.hand a).slots
+record_of z v a line command p S I =
+    I.recorded a S.there (sym S.own ∙ change_is_managers z line.actor command (step_knows z v a line command (place.SlotChange p) S I).0 S.allowed)
+
+-- A page with the record's slots after the line's change may be published in place of the set: what is live stays live, no two slots meet, and
+-- its slots are those.
+pub record Publishes (z : Sizes) (pool : ℕ → ℕ) (set page : ℕ) (command : Command) (slots : MemorySlots) : Type 0 where
+  pub stay : StayLive pool set pool page
+  pub set_part : (role : ℕ → ℕ) → role page ≡ set_role → SlotSetPart z set role pool → SlotSetPart z page role pool
+  pub list : slots_after command slots ≡ memory_slots_below pool page 32
+
+-- the words of the page that is to be published
+pub page_filled : (z : Sizes) (v : View) (a : ℕ) (line : Line) (command : Command) → IsStep z v a line command (place.SlotChange Publish) → Invariant z v
+    → (j : ℕ) → j < 512 → v.words area.Pool (pool_index (page_owned (v.hand a).topics.owned) j) ≡ set_word (slots_after command (v.hand a).slots) j
+page_filled z v a line command S I =
+    filled_page (v.words area.Pool) (slots_after command (v.hand a).slots) (v.hand a).topics
+    (step_knows z v a line command (place.SlotChange Publish) S I).1.1.owns S.holds.filled
+
+slot_published : (z : Sizes) (pool : ℕ → ℕ) (set page id : ℕ) (slot : Slot) (slots : MemorySlots) → RecordPart pool set slots → MayBeSet z pool set id slot
+    → ((j : ℕ) → j < 512 → pool (pool_index page j) ≡ set_word (slots_after (SetSlot id slot) slots) j) → Publishes z pool set page (SetSlot id slot) slots
+slot_published z pool set page id slot slots R may filled = record {
+  stay = has_each pool set page id slot slots R may.low may.not_live filled;
+  set_part = λ role role_is part.
+      set_with z pool set page id slot may (new_slot pool set page id slot slots R may.low may.not_live filled) (others_live pool set page id slot slots R may.low may.not_live filled)
+      (others_same pool set page id slot slots R may.low may.not_live filled) role role role_is part;
+  list = ap (with_slot_at id (record { slot = slot; logged = is_logged id slots })) R.same ∙ sym (list_with pool set page id slot slots R may.low may.not_live filled);
+}
+
+pub change_published : (z : Sizes) (v : View) (a : ℕ) (line : Line) (command : Command) → IsStep z v a line command (place.SlotChange Publish) → Invariant z v
+    → Publishes z (v.words area.Pool) (v.words area.Slots 0) (page_owned (v.hand a).topics.owned) command (v.hand a).slots
+change_published z v a line (Access gfn word op) S I = absurd (cc (step_knows z v a line (Access gfn word op) (place.SlotChange Publish) S I).0)
+change_published z v a line (SetSlot id slot) S I =
+    let R = record_of z v a line (SetSlot id slot) Publish S I in
+    slot_published z (v.words area.Pool) (v.words area.Slots 0) (page_owned (v.hand a).topics.owned) id slot (v.hand a).slots R
+    (may_be_set z v a line id slot (place.SlotChange Publish) S refl I R S.holds.accepted) (page_filled z v a line (SetSlot id slot) S I)
+
+-- The slots after the change were set by the lines up to this one.
+pub record AreRecorded (h : Held) (slots : MemorySlots) : Type 0 where
+  pub answered : AreSetBy h.lines (length h.answers + 1) (keys_of slots)
+  pub set : All (IsSetBy h.lines) slots
+
+pub change_recorded : (h : Held) (command : Command) → length h.answers < length h.lines → (next_line h).command ≡ command → AreRecorded h h.slots
+    → AreRecorded h (slots_after command h.slots)
+change_recorded h (Access gfn word op) left is R = R
+change_recorded h (SetSlot id slot) left is R = record {
+  answered =
+      All-keys-insert_entry nat_cmp id new_one (Contains (slot_ids (take (length h.answers + 1) h.lines))) h.slots R.answered
+      (subst (λ n. Contains (slot_ids (take n h.lines)) id) one (set_here (length h.answers) h.lines id slot left is));
+  set = set_by_with h.lines id new_one h.slots (line_sets (length h.answers) h.lines id slot left is) R.set;
+}
+  where
+    new_one : MemorySlot
+    new_one = record { slot = slot; logged = is_logged id h.slots }
+
+    one : suc (length h.answers) ≡ length h.answers + 1
+    one = omega arith

@@ -1,0 +1,21 @@
+-- What an actor has seen of the words stands still, while all other actors rest: so none of its steps waits, whatever its line is.
+use Rattle.std.specs.Prelude.{◌≡◌, ◌<◌, ℕ, true, false}
+use Rattle.core_views.specs.declared.topics.MapClaim.{MapClaim}
+use Rattle.core_views.specs.declared.topics.Topics.{Topics}
+use Rattle.part_steps.specs.StayTopics.{has_lock}
+use Rattle.mmu_core.specs.lines.PartWaits.{is_owing, saw_open}
+
+-- The words of the map up to this one are 0: no page of theirs is free.
+abbrev pub NoneFreeBefore : (ℕ → ℕ) → ℕ → Type 0
+NoneFreeBefore map word = (i : ℕ) → i < word → map i ≡ 0
+
+-- No page is free in the words before the one that the claim has come to, and the pages that it saw free in this one are free still.
+pub record ScanStands (map : ℕ → ℕ) (claim : MapClaim) : Type 0 where
+  pub before : NoneFreeBefore map claim.at
+  pub seen : 0 < claim.seen → map claim.at ≡ claim.seen
+
+-- The actor owes the lock no reader; under the lock it saw no invalidation open; and where it has a scan of the map, this stands.
+pub record SeenStands (has_scan : Type 0) (map : ℕ → ℕ) (t : Topics) : Type 0 where
+  pub owes_none : is_owing t.hold ≡ false
+  pub saw_closed : has_lock t.hold ≡ true → saw_open t.invalidations ≡ false
+  pub scan : has_scan → ScanStands map t.claim

@@ -1,0 +1,121 @@
+-- What each form of line says at its places: a clause a form in each table. The tables are filled in by the form's own files.
+use Rattle.std.specs.Prelude.{◌≡◌, ℕ, List, [], Option, Some, None, true, false, Bool}
+use Rattle.circular_buffer.specs.Buffer.{Buffer}
+use Rattle.core_views.specs.declared.cache.Translation.{Translation}
+use Rattle.core_views.specs.declared.event.EventKind.{EventKind}
+use Rattle.core_views.specs.declared.hand.State.{State}
+use Rattle.core_views.specs.declared.place.AccessPlace.TheVariants.{Enter}
+use Rattle.core_views.specs.declared.place.Place.{Place}
+use Rattle.core_views.specs.declared.place.Place.TheVariants as place
+use Rattle.core_views.specs.declared.place.SlotChangePlace.TheVariants as change
+use Rattle.core_views.specs.declared.sizes.Sizes.{Sizes}
+use Rattle.core_views.specs.declared.topics.Topics.{Topics}
+use Rattle.core_views.specs.declared.trace.Command.{Command}
+use Rattle.core_views.specs.declared.trace.Command.TheVariants.{Access}
+use Rattle.core_views.specs.Held.{Held}
+use Rattle.core_views.specs.SlotCommands.{change_refusal, changes_slot}
+use Rattle.core_views.specs.Slots.{is_write}
+use Rattle.core_views.specs.SlotSets.{MemorySlots}
+use Rattle.part_steps.specs.declared.part_step.PartStep.{PartStep}
+use Rattle.part_steps.specs.declared.part_step.PartStep.TheVariants as part
+use Rattle.part_steps.specs.PartSteps.{IsAtRest, PartNeeds, has_line}
+use Rattle.mmu_core.specs.declared.outcome.Outcome.{Outcome}
+use Rattle.mmu_core.specs.declared.outcome.Outcome.TheVariants.{Goes}
+use Rattle.mmu_core.specs.lines.AccessKnows.{AccessHolds, AccessKnows, RestsOn}
+use Rattle.mmu_core.specs.lines.AccessSteps.{access_caches, access_loads, access_note, access_outcome, access_part, access_tells}
+use Rattle.mmu_core.specs.lines.Bounds.{access_left}
+use Rattle.mmu_core.specs.lines.SlotChangeKnows.{RecordAccepts, SlotChangeHolds, SlotChangeKnows}
+use Rattle.mmu_core.specs.lines.SlotChangeSteps.{slot_change_first, slot_change_left, slot_change_note, slot_change_outcome, slot_change_part, slot_change_records, slot_change_tells}
+
+-- ---- the order of its steps
+
+-- where a line begins
+abbrev pub first_place : Sizes → MemorySlots → Command → Place
+first_place z slots (Access gfn word op) = place.Access (Enter false)
+first_place z slots command = place.SlotChange (slot_change_first (change_refusal z command slots))
+
+-- the step of a part at each place; none where the guest touches
+abbrev pub part_at : Place → Command → Held → Option PartStep
+part_at (place.Access p) (Access gfn word op) h = access_part p gfn h.topics
+part_at (place.SlotChange p) command h = Some (slot_change_part p h command)
+part_at _ _ h = Some part.Seq
+
+-- 1 where the line may end with it
+abbrev pub note_at : Place → Command → Held → ℕ
+note_at (place.Access p) (Access gfn word op) h = access_note p
+note_at (place.SlotChange p) command h = slot_change_note p h
+note_at _ _ h = 0
+
+-- where the line stands after it
+abbrev pub outcome_at : Place → Command → Held → ℕ → Outcome
+outcome_at (place.Access p) (Access gfn word op) h v = access_outcome p h gfn op v
+outcome_at (place.SlotChange p) command h v = slot_change_outcome p h v
+outcome_at p _ h v = Goes p
+
+-- the most steps that a line has left where it stands, where nobody is in its way
+abbrev pub steps_left : Place → Sizes → Topics → ℕ
+steps_left place.Between z t = 0
+steps_left (place.Access p) z t = access_left p z t
+steps_left (place.SlotChange p) z t = slot_change_left p z t
+
+-- ---- what a step makes besides
+
+-- what the state has loaded after it
+abbrev pub loads_at : Place → Command → Held → ℕ → State
+loads_at (place.Access p) (Access gfn word op) h v = access_loads p h gfn op v
+loads_at _ _ h v = h.state
+
+-- what is cached after it
+abbrev pub caches_at : Place → Command → Held → ℕ → Buffer Translation
+caches_at (place.Access p) (Access gfn word op) h v = access_caches p h gfn op v
+caches_at _ _ h v = h.cached
+
+-- the manager's own record of the slots after it
+abbrev pub records_at : Place → Command → MemorySlots → MemorySlots
+records_at (place.SlotChange p) command slots = slot_change_records p command slots
+records_at _ _ slots = slots
+
+-- what it tells of the line, besides its begin and its answer
+abbrev pub tells_at : Place → Command → Held → ℕ → List EventKind
+tells_at (place.Access p) (Access gfn word op) h v = access_tells p h gfn word op v
+tells_at (place.SlotChange p) command h v = slot_change_tells p h command v
+tells_at _ _ h v = []
+
+-- ---- what its actor knows there
+
+-- what the step needs: a step of a part its needs, and the touch its own
+abbrev pub RestsAt : Place → Command → Held → Type 0
+RestsAt (place.Access p) (Access gfn word op) h = RestsOn (access_part p gfn h.topics) gfn (is_write op) h
+RestsAt (place.SlotChange p) command h = (changes_slot command ≡ true) × PartNeeds (slot_change_part p h command) h
+RestsAt place.Between command h = Unit {0}
+RestsAt _ _ h = ⊥
+
+-- what the manager's own record accepts
+abbrev pub AcceptsAt : Place → Command → Sizes → MemorySlots → Type 0
+AcceptsAt (place.SlotChange p) command z slots = RecordAccepts p z command slots
+AcceptsAt _ _ z slots = Unit {0}
+
+-- What an actor holds at each place of its line, from its hand alone. Between lines, where one is left, it holds nothing.
+abbrev pub KnowsPart : Place → Command → Held → Type 0
+KnowsPart place.Between command h = has_line h ≡ true → IsAtRest h.topics
+KnowsPart (place.Access p) (Access gfn word op) h = AccessKnows p gfn (is_write op) h
+KnowsPart (place.SlotChange p) command h = (changes_slot command ≡ true) × SlotChangeKnows p h
+KnowsPart _ _ h = ⊥
+
+-- A page leaves its use only after a publication, up to the end of the line.
+abbrev pub may_leave : Place → Bool
+may_leave (place.SlotChange change.Release) = true
+may_leave (place.SlotChange change.Watch) = true
+may_leave (place.SlotChange change.Clear) = true
+may_leave (place.SlotChange change.Give) = true
+may_leave _ = false
+
+abbrev pub LeavesPart : Place → Topics → Type 0
+LeavesPart p t = may_leave p ≡ false → t.leaving ≡ None
+
+-- Loads: what the line under way has loaded or stored agrees with the words of the pool and of the host, and with the published set.
+abbrev pub Holds : Sizes → (ℕ → ℕ) → (ℕ → ℕ) → ℕ → Place → Command → Held → Type 0
+Holds z pool host set (place.Access p) (Access gfn word op) h = AccessHolds pool host set p gfn h
+Holds z pool host set (place.SlotChange p) command h = SlotChangeHolds z pool p command h
+Holds z pool host set place.Between command h = Unit {0}
+Holds z pool host set _ _ h = ⊥

@@ -1,0 +1,69 @@
+-- What a line that changes a slot knows at each of its places, from what its actor holds alone.
+use Rattle.std.specs.Prelude.{◌≡◌, ◌<◌, ℕ, Some, true, None, is_some}
+use Rattle.core_views.specs.declared.place.SlotChangePlace.{SlotChangePlace}
+use Rattle.core_views.specs.declared.place.SlotChangePlace.TheVariants.{Refuse, Claim, Fill, Role, Exclude, Count, Close, Publish, Release, Watch, Clear, Give}
+use Rattle.core_views.specs.declared.topics.Hold.{Hold}
+use Rattle.core_views.specs.declared.topics.Hold.TheVariants.{Loose, Exclusive}
+use Rattle.core_views.specs.declared.topics.Stay.TheVariants.{Outside}
+use Rattle.core_views.specs.declared.topics.Topics.{Topics}
+use Rattle.core_views.specs.declared.sizes.Sizes.{Sizes}
+use Rattle.core_views.specs.declared.trace.Command.{Command}
+use Rattle.core_views.specs.Held.{Held}
+use Rattle.core_views.specs.SlotCommands.{change_refusal, slots_after}
+use Rattle.core_views.specs.SlotSets.{MemorySlots}
+use Rattle.core_views.specs.Sizes.{actors_of}
+use Rattle.spte_words.specs.Areas.{words_of_bits}
+use Rattle.part_steps.specs.PartHoldings.{HasRoleToSet, HasToFill, MayGiveOld, MayPublish, OwnsSet}
+use Rattle.part_steps.specs.PartSteps.{IsAtRest}
+use Rattle.part_steps.specs.SetWords.{IsFilledWith}
+use Rattle.mmu_core.specs.lines.PartWaits.{saw_open}
+use Rattle.mmu_core.specs.lines.SlotChangeSteps.{looked_at}
+
+-- Outside, with no table and no slot set, holding the lock so.
+pub record HoldsLock (hold : Hold) (t : Topics) : Type 0 where
+  pub outside : t.stay ≡ Outside
+  pub holds : t.hold ≡ hold
+  pub no_table : t.walk.level ≡ 0
+  pub no_set : t.search.set ≡ None
+
+-- The page of the old slot set is leaving, and no page is owned.
+pub record HasPublished (t : Topics) : Type 0 where
+  pub leaves : is_some t.leaving ≡ true
+  pub owns_none : t.owned ≡ None
+
+-- what it knows at each place
+abbrev pub SlotChangeKnows : SlotChangePlace → Held → Type 0
+SlotChangeKnows (Refuse refusal) h = IsAtRest h.topics
+SlotChangeKnows (Claim begun) h = IsAtRest h.topics × (begun ≡ true → h.topics.claim.at < words_of_bits h.state.sizes.pool)
+SlotChangeKnows Fill h = HoldsLock Loose h.topics × HasToFill h.topics
+SlotChangeKnows Role h = HoldsLock Loose h.topics × HasRoleToSet h.topics
+SlotChangeKnows Exclude h = HoldsLock Loose h.topics × OwnsSet h.topics
+SlotChangeKnows Count h = HoldsLock Exclusive h.topics × OwnsSet h.topics
+SlotChangeKnows Close h = HoldsLock Exclusive h.topics × OwnsSet h.topics × (saw_open h.topics.invalidations ≡ true)
+SlotChangeKnows Publish h = HoldsLock Exclusive h.topics × MayPublish h.topics
+SlotChangeKnows Release h = HoldsLock Exclusive h.topics × HasPublished h.topics × (h.topics.watched ≡ 0) × (h.topics.invalidations.count ≡ 0)
+SlotChangeKnows Watch h = HoldsLock Loose h.topics × HasPublished h.topics × (looked_at h < actors_of h.state.sizes)
+SlotChangeKnows Clear h = HoldsLock Loose h.topics × MayGiveOld h
+SlotChangeKnows Give h = HoldsLock Loose h.topics × MayGiveOld h
+
+-- The manager's own record accepts the change whose set is published.
+abbrev pub RecordAccepts : SlotChangePlace → Sizes → Command → MemorySlots → Type 0
+RecordAccepts Publish z command slots = change_refusal z command slots ≡ None
+RecordAccepts _ z command slots = Unit {0}
+
+-- The manager's record accepts the change, and what is filled of the page that is owned is the set of the record's slots after it.
+pub record FillsSet (z : Sizes) (pool : ℕ → ℕ) (command : Command) (h : Held) : Type 0 where
+  pub accepted : change_refusal z command h.slots ≡ None
+  pub filled : IsFilledWith pool (slots_after command h.slots) h.topics.owned
+
+-- Up to the publication a slot line is one that the record accepts, and fills the set after its change.
+abbrev pub SlotChangeHolds : Sizes → (ℕ → ℕ) → SlotChangePlace → Command → Held → Type 0
+SlotChangeHolds z pool (Refuse refusal) command h = change_refusal z command h.slots ≡ Some refusal
+SlotChangeHolds z pool (Claim begun) command h = change_refusal z command h.slots ≡ None
+SlotChangeHolds z pool Fill command h = FillsSet z pool command h
+SlotChangeHolds z pool Role command h = FillsSet z pool command h
+SlotChangeHolds z pool Exclude command h = FillsSet z pool command h
+SlotChangeHolds z pool Count command h = FillsSet z pool command h
+SlotChangeHolds z pool Close command h = FillsSet z pool command h
+SlotChangeHolds z pool Publish command h = FillsSet z pool command h
+SlotChangeHolds z pool _ command h = Unit {0}

@@ -1,0 +1,122 @@
+-- The order of steps of each line that changes a slot (api.rst, KVM_SET_USER_MEMORY_REGION; kvm_main.c, `kvm_swap_active_memslots`): a refused
+-- one makes one load of the sequence. Else a page is claimed and filled with the new slot set; under the lock alone, with no invalidation open, it
+-- is published in place of the old one; and after a watch of all other actors the old page is given back.
+use Rattle.std.specs.Prelude.{ℕ, true, false, List, [], ◌∷◌, Option, Some, None, ◌==◌, nat_lt, if◌then◌else◌, ◌+◌, ◌-◌}
+use Rattle.core_views.specs.declared.answer.Answer.TheVariants.{Done, Refused, Starved}
+use Rattle.core_views.specs.declared.answer.Refusal.{Refusal}
+use Rattle.core_views.specs.declared.event.EventKind.{EventKind}
+use Rattle.core_views.specs.declared.event.EventKind.TheVariants.{SlotChanged}
+use Rattle.core_views.specs.declared.place.SlotChangePlace.{SlotChangePlace}
+use Rattle.core_views.specs.declared.place.SlotChangePlace.TheVariants.{Refuse, Claim, Fill, Role, Exclude, Count, Close, Publish, Release, Watch, Clear, Give}
+use Rattle.core_views.specs.declared.place.Place.TheVariants.{SlotChange}
+use Rattle.core_views.specs.declared.trace.Command.{Command}
+use Rattle.core_views.specs.declared.slot_set.MemorySlot.{MemorySlot}
+use Rattle.core_views.specs.declared.sizes.Sizes.{Sizes}
+use Rattle.core_views.specs.declared.topics.Topics.{Topics}
+use Rattle.core_views.specs.Held.{Held}
+use Rattle.core_views.specs.Sizes.{actors_of}
+use Rattle.core_views.specs.SlotCommands.{slot_change, slots_after}
+use Rattle.core_views.specs.SlotSets.{MemorySlots}
+use Rattle.mmu_core.specs.declared.outcome.Outcome.{Outcome}
+use Rattle.mmu_core.specs.declared.outcome.Outcome.TheVariants.{Goes, Ends}
+use Rattle.part_steps.specs.declared.task.Task.{Task}
+use Rattle.part_steps.specs.declared.part_step.PartStep.{PartStep}
+use Rattle.part_steps.specs.declared.part_step.PartStep.TheVariants as part
+use Rattle.mmu_core.specs.lines.AccessSteps.{exiting}
+use Rattle.mmu_core.specs.lines.FaultSteps.{claim_part}
+use Rattle.part_steps.specs.PartTasks.{own_index, part_task, words_filled}
+use Rattle.part_steps.specs.SetWords.{set_role, set_word}
+use Rattle.mmu_core.specs.lines.ClaimSteps.{claim_left, claim_next, claim_part, loads_last_word}
+use Rattle.mmu_core.specs.declared.claim.ClaimNext.{ClaimNext}
+use Rattle.mmu_core.specs.declared.claim.ClaimNext.TheVariants as claims
+use Rattle.mmu_core.specs.declared.watch.WatchNext.{WatchNext}
+use Rattle.mmu_core.specs.declared.watch.WatchNext.TheVariants as watches
+pub use Rattle.mmu_core.specs.lines.WatchSteps.{looked_at, watch_next}
+
+-- where the line begins
+abbrev pub slot_change_first : Option Refusal → SlotChangePlace
+slot_change_first (Some refusal) = Refuse refusal
+slot_change_first None = Claim false
+
+-- the step of each place
+abbrev pub slot_change_part : SlotChangePlace → Held → Command → PartStep
+slot_change_part (Refuse refusal) h command = part.Seq
+slot_change_part (Claim begun) h command = claim_part begun h.topics.claim
+slot_change_part Fill h command = part.Fill (set_word (slots_after command h.slots) (words_filled h.topics.owned))
+slot_change_part Role h command = part.Role set_role
+slot_change_part Exclude h command = part.Exclude
+slot_change_part Count h command = part.Count
+slot_change_part Close h command = part.Release
+slot_change_part Publish h command = part.Publish
+slot_change_part Release h command = part.Release
+slot_change_part Watch h command = part.Watch (looked_at h)
+slot_change_part Clear h command = part.Clear
+slot_change_part Give h command = part.GiveOld
+
+-- 1 where the line may end with the step
+abbrev pub slot_change_note : SlotChangePlace → Held → ℕ
+slot_change_note (Refuse refusal) h = 1
+slot_change_note (Claim begun) h = if loads_last_word begun h.state.sizes h.topics.claim then 1 else 0
+slot_change_note Give h = 1
+slot_change_note _ h = 0
+
+abbrev pub slot_change_task : SlotChangePlace → Held → Command → Task
+slot_change_task p h command = part_task (slot_change_part p h command) (own_index h) h.topics (slot_change_note p h)
+
+-- the manager's record of the slots after a step: it has the change once its set is published
+abbrev pub slot_change_records : SlotChangePlace → Command → MemorySlots → MemorySlots
+slot_change_records Publish command slots = slots_after command slots
+slot_change_records _ command slots = slots
+
+-- after a step of its claim: the page is to be filled, or the line is answered, since no page is free
+abbrev pub after_claim : ClaimNext → Outcome
+after_claim claims.Goes = Goes (SlotChange (Claim true))
+after_claim claims.Got = Goes (SlotChange Fill)
+after_claim claims.Empty = Ends Starved
+
+-- after a look of its watch
+abbrev pub after_watch : WatchNext → SlotChangePlace
+after_watch watches.Last = Clear
+after_watch _ = Watch
+
+-- where the line stands after the step of its place, which found v
+abbrev pub slot_change_outcome : SlotChangePlace → Held → ℕ → Outcome
+slot_change_outcome (Refuse refusal) h v = Ends (Refused refusal)
+slot_change_outcome (Claim begun) h v = after_claim (claim_next begun h.state.sizes h.topics.claim v)
+slot_change_outcome Fill h v = Goes (SlotChange (if nat_lt (words_filled h.topics.owned + 1) 512 then Fill else Role))
+slot_change_outcome Role h v = Goes (SlotChange Exclude)
+slot_change_outcome Exclude h v = Goes (SlotChange (if v == 0 then Count else Exclude))
+slot_change_outcome Count h v = Goes (SlotChange (if v == 0 then Publish else Close))
+slot_change_outcome Close h v = Goes (SlotChange Exclude)
+slot_change_outcome Publish h v = Goes (SlotChange Release)
+slot_change_outcome Release h v = Goes (SlotChange Watch)
+slot_change_outcome Watch h v = Goes (SlotChange (after_watch (watch_next h v)))
+slot_change_outcome Clear h v = Goes (SlotChange Give)
+slot_change_outcome Give h v = Ends Done
+
+-- the event of a change
+abbrev pub changed : Option (ℕ × Option MemorySlot) → List EventKind
+changed None = []
+changed (Some (id, slot)) = SlotChanged id slot ∷ []
+
+-- What a step tells besides that its line begins or is answered: the slot is changed where its set is published.
+abbrev pub slot_change_tells : SlotChangePlace → Held → Command → ℕ → List EventKind
+slot_change_tells (Claim begun) h command v = exiting (slot_change_outcome (Claim begun) h v)
+slot_change_tells Publish h command v = changed (slot_change h.slots command)
+slot_change_tells _ h command v = []
+
+-- How many steps it has left: the words of the map, those of the new set's page and its role, the lock, the publication, each other actor, and the old
+-- page. What follows a step that waits, as the one that gives the lock back with an invalidation open, isn't counted there.
+abbrev pub slot_change_left : SlotChangePlace → Sizes → Topics → ℕ
+slot_change_left (Refuse refusal) z t = 1
+slot_change_left (Claim begun) z t = 520 + actors_of z + claim_left begun z t.claim
+slot_change_left Fill z t = 7 + actors_of z + (513 - words_filled t.owned)
+slot_change_left Role z t = 8 + actors_of z
+slot_change_left Close z t = 5 + actors_of z
+slot_change_left Exclude z t = 7 + actors_of z
+slot_change_left Count z t = 6 + actors_of z
+slot_change_left Publish z t = 5 + actors_of z
+slot_change_left Release z t = 4 + actors_of z
+slot_change_left Watch z t = 3 + (actors_of z - t.watched)
+slot_change_left Clear z t = 2
+slot_change_left Give z t = 1

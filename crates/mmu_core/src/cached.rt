@@ -1,0 +1,65 @@
+//! Which cached translation an access uses.
+ghost use Rattle.std.specs.Prelude.{◌≡◌, All};
+ghost use Rattle.mmu_core.specs.lines.Cached.{allows, covers, first_usable, is_usable};
+ghost use Rattle.part_steps.specs.PartBounds.{IsAtLeafLevel};
+
+use core_views::{Cache, Translation};
+use spte_words::Spte;
+
+// Whether the translation's leaf covers the guest frame. Most cached leaves are of
+// level 1, each for one frame.
+#[tactic(auto, using(spte_words::proofs::Spans::span_positive))]
+fn covers(gfn: u64, translation: &Translation) -> bool
+    requires { IsAtLeafLevel translation.now }
+    ensures { result ≡ covers gfn translation.now }
+{
+    if gfn == translation.gfn {
+        return true;
+    }
+    if translation.level == 1 {
+        return false;
+    }
+    let span = Spte::level_span(translation.level);
+    gfn / span == translation.gfn / span
+}
+
+// Whether it allows a read, or a write.
+fn allows(write: bool, translation: &Translation) -> bool
+    ensures { result ≡ allows write translation.now }
+{
+    !write || Spte::from_word(translation.leaf).is_writable()
+}
+
+// Whether an access of the guest frame may use it.
+fn is_usable(gfn: u64, write: bool, translation: &Translation) -> bool
+    requires { IsAtLeafLevel translation.now }
+    ensures { result ≡ is_usable gfn write translation.now }
+{
+    covers(gfn, translation) && allows(write, translation)
+}
+
+// The first translation that covers the guest frame and allows the access.
+fn first_usable(gfn: u64, write: bool, translations: &[Translation]) -> Option<Translation>
+    requires { All IsAtLeafLevel translations.now }
+    ensures { result ≡ first_usable gfn write translations.now }
+{
+    for translation in translations {
+        if is_usable(gfn, write, translation) {
+            return Some(*translation);
+        }
+    }
+    None
+}
+
+/// The newest translation that covers the guest frame and allows the access;
+/// `None` where there is none.
+pub fn lookup(cache: &Cache, gfn: u64, write: bool) -> Option<Translation>
+    requires { All IsAtLeafLevel cache.now.items }
+    ensures { result ≡ first_usable gfn write cache.now.items }
+{
+    let (newer, older) = cache.as_slices();
+    match first_usable(gfn, write, newer) {
+        Some(translation) => Some(translation),
+        None => first_usable(gfn, write, older),
+    }
+}

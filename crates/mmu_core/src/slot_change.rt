@@ -1,0 +1,156 @@
+//! The steps of a line that changes a slot.
+ghost use Rattle.std.specs.Prelude.{◌≡◌, ◌<◌, true};
+ghost use Rattle.core_views.specs.declared.place.Place.TheVariants as place;
+ghost use Rattle.core_views.specs.SlotCommands.{change_refusal, changes_slot};
+ghost use Rattle.core_views.specs.Traces.{IsCommandFor};
+ghost use Rattle.part_steps.specs.PartBounds.{PartRests};
+ghost use Rattle.part_steps.specs.PartSteps.{PartNeeds};
+ghost use Rattle.mmu_core.specs.lines.SlotChangeKnows.{RecordAccepts};
+ghost use Rattle.mmu_core.specs.lines.Rests.{Rests};
+ghost use Rattle.mmu_core.specs.lines.SlotChangeSteps.{after_claim, after_watch, slot_change_first, slot_change_note, slot_change_outcome, slot_change_part, slot_change_records, slot_change_task};
+ghost use Rattle.mmu_core.specs.machine.Steps.{place_at};
+ghost use Rattle.part_steps.specs.Tasks.{map_of};
+ghost use Rattle.mmu_core.specs.machine.Turns.{line_of};
+ghost use Rattle.spte_words.specs.Areas.{size_of};
+
+use crate::claim::{ClaimNext, claim_next, claim_part, loads_last_word};
+use crate::outcome::Outcome;
+use crate::watch::{WatchNext, looked_at, watch_next};
+use core_views::{Answer, Command, Hand, Line, Place, Sizes, SlotChangePlace, SlotSet, Topics};
+use part_steps::{PartStep, SLOT_SET_ROLE, Task, in_section, part_task, set_word, words_filled};
+
+/// How many words of a slot set's page are filled.
+const WORDS: u64 = 512;
+
+/// Where the line begins, by the manager's own record of the slots.
+pub(crate) fn first(sizes: &Sizes, slots: &SlotSet, command: &Command) -> SlotChangePlace
+    ensures { result ≡ slot_change_first (change_refusal sizes.now command.now slots.now) }
+{
+    match slots.refusal(command, sizes) {
+        Some(refusal) => SlotChangePlace::Refuse(refusal),
+        None => SlotChangePlace::Claim { begun: false },
+    }
+}
+
+/// The step of this place.
+pub(crate) fn part(place: SlotChangePlace, hand: &Hand, command: &Command) -> PartStep
+    requires part { PartRests hand.now.core }
+    ensures { result ≡ slot_change_part place hand.now.core command.now }
+{
+    let topics = hand.topics();
+    match place {
+        SlotChangePlace::Refuse(_) => PartStep::Seq,
+        SlotChangePlace::Claim { begun } => claim_part(begun, &topics.claim),
+        SlotChangePlace::Fill => {
+            PartStep::Fill(set_word(hand.slots(), command, words_filled(topics.owned)))
+        }
+        SlotChangePlace::Role => PartStep::Role(SLOT_SET_ROLE),
+        SlotChangePlace::Exclude => PartStep::Exclude,
+        SlotChangePlace::Count => PartStep::Count,
+        SlotChangePlace::Close | SlotChangePlace::Release => PartStep::Release,
+        SlotChangePlace::Publish => PartStep::Publish,
+        SlotChangePlace::Watch => PartStep::Watch(looked_at(hand)),
+        SlotChangePlace::Clear => PartStep::Clear,
+        SlotChangePlace::Give => PartStep::GiveOld,
+    }
+}
+
+/// 1 where the line may end with the step of this place, else 0.
+pub fn note(place: SlotChangePlace, hand: &Hand) -> u64
+    requires { PartRests hand.now.core }
+    ensures { result ≡ slot_change_note place hand.now.core }
+{
+    match place {
+        SlotChangePlace::Refuse(_) | SlotChangePlace::Give => 1,
+        SlotChangePlace::Claim { begun } => {
+            let last = loads_last_word(begun, &hand.state().sizes, &hand.topics().claim);
+            if last { 1 } else { 0 }
+        }
+        _ => 0,
+    }
+}
+
+/// What the step of this place is to do.
+pub(crate) fn task(place: SlotChangePlace, hand: &Hand, command: &Command) -> Task
+    requires part { PartRests hand.now.core }
+    requires needs { PartNeeds (slot_change_part place hand.now.core command.now) hand.now.core }
+    ensures task { result ≡ slot_change_task place hand.now.core command.now }
+    ensures within { result.index < size_of (map_of hand.now.core.state.sizes) result.area }
+{
+    part_task(hand, part(place, hand, command), note(place, hand))
+}
+
+/// The manager's own record of the slots after the step of this place.
+pub(crate) fn record_change(place: SlotChangePlace, slots: &mut SlotSet, line: &Line, sizes: &Sizes)
+    requires line { IsCommandFor sizes.now line.now.actor line.now.command }
+    requires accepts { RecordAccepts place sizes.now line.now.command slots.old }
+    ensures { slots.new ≡ slot_change_records place line.now.command slots.old }
+{
+    if let SlotChangePlace::Publish = place {
+        slots.change(line, sizes);
+    }
+}
+
+// After a step of its claim.
+fn after_claim(next: ClaimNext) -> Outcome
+    ensures { result ≡ after_claim next }
+{
+    match next {
+        ClaimNext::Goes => Outcome::Goes(Place::SlotChange(SlotChangePlace::Claim { begun: true })),
+        ClaimNext::Got => Outcome::Goes(Place::SlotChange(SlotChangePlace::Fill)),
+        ClaimNext::Empty => Outcome::Ends(Answer::Starved),
+    }
+}
+
+// After a look of its watch.
+fn after_watch(next: WatchNext) -> SlotChangePlace
+    ensures { result ≡ after_watch next }
+{
+    match next {
+        WatchNext::Last => SlotChangePlace::Clear,
+        WatchNext::Again | WatchNext::Next => SlotChangePlace::Watch,
+    }
+}
+
+/// Where the line stands after the step of this place, which answered `found`.
+pub(crate) fn outcome(place: SlotChangePlace, hand: &Hand, found: u64) -> Outcome
+    requires rests { PartRests hand.now.core }
+    ensures { result ≡ slot_change_outcome place hand.now.core found }
+{
+    let topics = hand.topics();
+    Outcome::Goes(Place::SlotChange(match place {
+        SlotChangePlace::Refuse(refusal) => return Outcome::Ends(Answer::Refused(refusal)),
+        SlotChangePlace::Claim { begun } => {
+            let sizes = &hand.state().sizes;
+            return after_claim(claim_next(begun, sizes, &topics.claim, found));
+        }
+        SlotChangePlace::Fill if words_filled(topics.owned) + 1 < WORDS => SlotChangePlace::Fill,
+        SlotChangePlace::Fill => SlotChangePlace::Role,
+        SlotChangePlace::Role | SlotChangePlace::Close => SlotChangePlace::Exclude,
+        SlotChangePlace::Exclude if found == 0 => SlotChangePlace::Count,
+        SlotChangePlace::Exclude => SlotChangePlace::Exclude,
+        SlotChangePlace::Count if found == 0 => SlotChangePlace::Publish,
+        SlotChangePlace::Count => SlotChangePlace::Close,
+        SlotChangePlace::Publish => SlotChangePlace::Release,
+        SlotChangePlace::Release => SlotChangePlace::Watch,
+        SlotChangePlace::Watch => after_watch(watch_next(hand, found)),
+        SlotChangePlace::Clear => SlotChangePlace::Give,
+        SlotChangePlace::Give => return Outcome::Ends(Answer::Done),
+    }))
+}
+
+/// Where the line that changes a slot and is the hand's next one stands.
+pub fn change_place(hand: &Hand) -> SlotChangePlace
+    requires rests { Rests hand.now.core }
+    requires changes { changes_slot (line_of hand.now.core).command ≡ true }
+    ensures { place_at hand.now.core.state.place hand.now.core ≡ place.SlotChange result }
+{
+    match hand.state().place {
+        Place::Between => match hand.next_line() {
+            Some(line) => first(&hand.state().sizes, hand.slots(), &line.command),
+            None => unreachable!(),
+        },
+        Place::SlotChange(place) => place,
+        _ => unreachable!(),
+    }
+}

@@ -1,0 +1,151 @@
+-- No step of a part waits while all other actors rest, whatever line it is of; and what its actor has seen of the words stands after it.
+use Rattle.std.proofs.Common.{◌≡◌, inl, inr, ◌+◌, ◌<◌, ℕ, refl, sym, subst, ap, ◌∙◌, arith}
+use Rattle.std.specs.Prelude.{Bool, true, false, ◌==◌, nat_lt, not, if◌then◌else◌}
+use Rattle.std.proofs.lemmas.Bool.Decides.{nat_tests}
+use Rattle.core_views.specs.declared.sizes.Sizes.{Sizes}
+use Rattle.core_views.specs.declared.topics.Hold.{Hold}
+use Rattle.core_views.specs.declared.topics.Hold.TheVariants.{Shared, Owing, Exclusive}
+use Rattle.core_views.specs.declared.topics.MapClaim.{MapClaim}
+use Rattle.core_views.specs.declared.topics.Topics.{Topics}
+use Rattle.core_views.specs.Held.{Held}
+use Rattle.core_views.specs.Sizes.{actors_of, index_of}
+use Rattle.spte_words.specs.declared.area.Area.{Area}
+use Rattle.spte_words.specs.declared.area.Area.TheVariants as area
+use Rattle.part_steps.specs.declared.part_step.PartStep.{PartStep}
+use Rattle.part_steps.specs.declared.part_step.PartStep.TheVariants as part
+use Rattle.part_steps.specs.PartTasks.{own_index, part_task}
+use Rattle.part_steps.specs.PartSteps.{GoesOnToWord, PartNeeds}
+use Rattle.part_steps.specs.PartTopics.{part_topics}
+use Rattle.part_steps.specs.PageTopics.{is_won}
+use Rattle.part_steps.specs.ControlTopics.{has_writer}
+use Rattle.part_steps.specs.StayTopics.{has_lock}
+use Rattle.mmu_core.specs.alone.OthersRest.{OthersRest}
+use Rattle.mmu_core.specs.alone.SeenStands.{NoneFreeBefore, ScanStands, SeenStands}
+use Rattle.mmu_core.specs.invariant.Laws.{IsSound}
+use Rattle.mmu_core.specs.lines.PartWaits.{is_owing, part_waits, saw_open}
+use Rattle.mmu_core.specs.machine.Enabled.{mmu}
+use Rattle.mmu_core.specs.machine.Machine.{World, hand_in}
+use Rattle.mmu_core.specs.machine.View.{answer_in, word_in, words_after}
+use Rattle.mmu_core.proofs.invariant.AloneLaws.{lock_free, outside_word}
+use Rattle.mmu_core.proofs.lines.ClaimMade.{saw_bit}
+use Rattle.mmu_core.proofs.lines.FaultScans.{KeepsScan, gives}
+use Rattle.mmu_core.proofs.lines.FaultScans as scans
+use Rattle.mmu_core.proofs.lines.PartsWait.{none_open}
+use Rattle.mmu_core.proofs.lines.ShareMade.{no_writer}
+use Rattle.mmu_laws.proofs.alone.FaultComes.{is_it}
+use Rattle.mmu_core.proofs.lines.NotOpen.{closed_on}
+
+-- ---- a scan of the map
+
+-- the words up to the next one, after a load of this one
+past_word : (map : ℕ → ℕ) (zero_ : Bool) (word : ℕ) → (map word == 0) ≡ zero_ → NoneFreeBefore map word → NoneFreeBefore map (word + (if zero_ then 1 else 0))
+past_word map false word none before i lt = before i (omega (arith, lt))
+past_word map true word none before i lt = by (nat_lt i word) refl
+  where
+    by : (b : Bool) → nat_lt i word ≡ b → map i ≡ 0
+    by true low = before i (grind (arith, nat_tests))
+    by false low = let here : i ≡ word = grind (arith, nat_tests) in ap map here ∙ grind (arith, nat_tests)
+
+-- the claim stays at this one, where it saw a page free in it
+at_word : (map : ℕ → ℕ) (zero_ : Bool) (word : ℕ) → (map word == 0) ≡ zero_ → 0 < map word → map (word + (if zero_ then 1 else 0)) ≡ map word
+at_word map true word is some = absurd (grind (arith, nat_tests))
+at_word map false word is some = ap map (omega arith)
+
+-- After a load of a word, where no page is free in the words before it.
+scan_loaded : (map : ℕ → ℕ) (word : ℕ) → NoneFreeBefore map word → ScanStands map (record { at = word + (if map word == 0 then 1 else 0); seen = map word })
+scan_loaded map word before = record { before = past_word map (map word == 0) word refl before; seen = at_word map (map word == 0) word refl }
+
+-- A claim goes on to its next word, or begins anew.
+before_next : (map : ℕ → ℕ) (word : ℕ) (t : Topics) → ScanStands map t.claim → GoesOnToWord word t → NoneFreeBefore map word
+before_next map word t S (inl first) i lt = absurd (omega (arith, first, lt))
+before_next map word t S (inr goes) i lt = S.before i (subst (λ n. i < n) goes.0 lt)
+
+-- A claim that has won its page has no scan yet.
+scan_won : (map : ℕ → ℕ) (won : Bool) (claim : MapClaim) (v : ℕ) → won ≡ true
+    → ScanStands map (record { at = if won then 0 else claim.at; seen = if won then 0 else v })
+scan_won map true claim v is = record { before = λ i lt. absurd (omega (arith, lt)); seen = λ some. absurd (omega (arith, some)) }
+scan_won map false claim v is = absurd (cc is)
+
+-- ---- the lock
+
+tries_owing : (writer : Bool) (v : ℕ) → writer ≡ false → is_owing (if writer then Owing v else Shared) ≡ false
+tries_owing true v is = absurd (cc is)
+tries_owing false v is = refl
+
+excludes_owing : (free : Bool) (hold : Hold) → is_owing hold ≡ false → is_owing (if free then Exclusive else hold) ≡ false
+excludes_owing true hold owes = refl
+excludes_owing false hold owes = owes
+
+-- ---- in a sound world
+
+module _ (z : Sizes) (w : World Held) (a note : ℕ) (sound : IsSound z w) (others : OthersRest a w) (there : a < actors_of z) where
+  abbrev h : Held
+  h = hand_in mmu w a
+
+  abbrev t : Topics
+  t = h.topics
+
+  abbrev words : Area → ℕ → ℕ
+  words = word_in z w
+
+  abbrev found : PartStep → ℕ
+  found step = answer_in (part_task step a t note) words
+
+  abbrev map_after : PartStep → ℕ → ℕ
+  map_after step = words_after (part_task step a t note) words area.PoolMap
+
+  own : own_index h ≡ a
+  own = ap (λ (y : Sizes). index_of y h.state.actor) (sound.holds.lines a there).sizes ∙ (sound.holds.lines a there).index
+
+  module _ (has_scan : Type 0) (S : SeenStands has_scan (words area.PoolMap) t) where
+    -- The lock is free, nobody else is in a section, and the page that is tried is there still.
+    pub part_goes_alone : (step : PartStep) → PartNeeds step h → (step ≡ part.Claim → has_scan) → part_waits step t (found step) ≡ false
+    part_goes_alone part.Unshare N tries = S.owes_none
+    part_goes_alone part.Claim N tries =
+        ap not (ap (is_won t.claim) ((S.scan (tries refl)).seen N.1) ∙ saw_bit t.claim N.1 (sound.topics.counters a there).seen)
+    part_goes_alone part.Exclude N tries = ap not (is_it (found part.Exclude) 0 (lock_free z w a sound there others N))
+    part_goes_alone part.Release N tries = S.saw_closed (ap (λ (x : Hold). has_lock x) N)
+    part_goes_alone (part.Watch index) N tries =
+        outside_word z w a index sound others (subst (λ (y : Sizes). index < actors_of y) (sound.holds.lines a there).sizes N.0) (λ e. N.1 (e ∙ sym own))
+    part_goes_alone _ N tries = refl
+
+    -- The actor comes to owe no reader, since the lock is free.
+    owes_on : (step : PartStep) → PartNeeds step h → is_owing (part_topics step t (found step)).hold ≡ false
+    owes_on part.Share N = tries_owing (has_writer (found part.Share)) (found part.Share) (no_writer (found part.Share) (lock_free z w a sound there others N))
+    owes_on part.Unshare N = refl
+    owes_on part.Exclude N = excludes_owing (found part.Exclude == 0) t.hold S.owes_none
+    owes_on part.Release N = refl
+    owes_on _ N = S.owes_none
+
+    -- It sees no invalidation open, since none is.
+    closed_after : (step : PartStep) → has_lock (part_topics step t (found step)).hold ≡ true → saw_open (part_topics step t (found step)).invalidations ≡ false
+    closed_after part.Count has = none_open (part_topics part.Count t (found part.Count)).invalidations sound.none_opened.count
+    closed_after part.Share has = refl
+    closed_after part.Unshare has = refl
+    closed_after part.Exclude has = refl
+    closed_after part.Release has = refl
+    closed_after step has = closed_on step t (found step) refl (S.saw_closed has)
+
+    -- A scan stands, as long as the actor gives no page back.
+    scan_on : (step : PartStep) → PartNeeds step h → ScanStands (words area.PoolMap) t.claim → gives step ≡ false → part_waits step t (found step) ≡ false
+        → ScanStands (map_after step) (part_topics step t (found step)).claim
+    scan_on (part.Map word) N scan none goes = scan_loaded (words area.PoolMap) word (before_next (words area.PoolMap) word t scan N.2)
+    scan_on part.Claim N scan none goes =
+        scan_won (map_after part.Claim) (is_won t.claim (found part.Claim)) t.claim (found part.Claim) (won (is_won t.claim (found part.Claim)) goes)
+      where
+        won : (b : Bool) → not b ≡ false → b ≡ true
+        won true is = refl
+        won false is = absurd (cc is)
+    scan_on part.Give N scan none goes = absurd (cc none)
+    scan_on part.GiveOld N scan none goes = absurd (cc none)
+    scan_on _ N scan none goes = scan
+
+    pub scan_kept : (step : PartStep) → PartNeeds step h → (step ≡ part.Claim → has_scan) → KeepsScan has_scan step
+        → ScanStands (map_after step) (part_topics step t (found step)).claim
+    scan_kept _ N tries (scans.Keeps step has none) = scan_on step N (S.scan has) none (part_goes_alone step N tries)
+    scan_kept _ N tries scans.Begins = scan_loaded (words area.PoolMap) 0 (λ i lt. absurd (omega (arith, lt)))
+
+    -- So what it has seen stands after the step.
+    pub seen_on : (next : Type 0) (step : PartStep) → PartNeeds step h → (step ≡ part.Claim → has_scan) → (next → KeepsScan has_scan step)
+        → SeenStands next (map_after step) (part_topics step t (found step))
+    seen_on next step N tries keeps = record { owes_none = owes_on step N; saw_closed = closed_after step; scan = λ has. scan_kept step N tries (keeps has) }
