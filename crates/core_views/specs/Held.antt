@@ -1,10 +1,11 @@
 -- What one actor holds, as contracts see it.
-use Rattle.std.specs.Prelude.{ℕ, List, [], false, None}
+use Rattle.std.specs.Prelude.{ℕ, Bool, List, [], ◌∷◌, ◌++◌, false, None, length, nat_lt, slice_get, unwrap_or}
 use Rattle.circular_buffer.specs.Buffer.{Buffer, buffer}
 use Rattle.core_views.specs.declared.actor.Actor.{Actor}
 use Rattle.core_views.specs.declared.answer.AnsweredLine.{AnsweredLine}
 use Rattle.core_views.specs.declared.cache.Translation.{Translation}
-use Rattle.core_views.specs.declared.hand.State.{State}
+use Rattle.core_views.specs.declared.hand.Progress.{Progress}
+use Rattle.core_views.specs.declared.place.Place.{Place}
 use Rattle.core_views.specs.declared.place.Place.TheVariants.{Between}
 use Rattle.core_views.specs.declared.place.SlotField.TheVariants.{Flags}
 use Rattle.core_views.specs.declared.sizes.Sizes.{Sizes}
@@ -20,6 +21,16 @@ use Rattle.core_views.specs.declared.trace.Line.{Line}
 use Rattle.core_views.specs.declared.trace.Slot.{Slot}
 use Rattle.core_views.specs.Flat.{no_line}
 use Rattle.core_views.specs.SlotSets.{MemorySlots}
+
+-- where an actor's line stands, and what it loaded and counted
+pub record State : Type 0 where
+  pub sizes : Sizes
+  pub actor : Actor
+  pub place : Place
+  pub line : Line  -- the line under way, or the last one
+  pub used : Translation  -- the translation that the access uses
+  pub steps : ℕ
+  pub delays : ℕ
 
 -- what steps read and change: all but the room that was taken
 pub record Held : Type 0 where
@@ -38,9 +49,59 @@ pub record Handful : Type 0 where
 abbrev pub no_slot : Slot
 no_slot = record { base = 0; pages = 0; host = 0; read_only = false }
 
+-- the first of a hand's lines that has no answer
+abbrev pub next_line : Held → Line
+next_line h = unwrap_or (slice_get h.lines (length h.answers)) no_line
+
+-- the line that the hand's next step is of: the one under way, or the next one
+abbrev pub line_at : Place → Held → Line
+line_at Between h = next_line h
+line_at _ h = h.state.line
+
+-- A line is left that has no answer.
+abbrev pub has_line : Held → Bool
+has_line h = nat_lt (length h.answers) (length h.lines)
+
+-- A hand keeps its lines and how many are answered, and no line apart: under way is the first that isn't answered, and between lines the
+-- last one was the one before it.
+abbrev pub line_under : Place → List Line → ℕ → Line
+line_under Between lines n = unwrap_or (slice_get (no_line ∷ lines) n) no_line
+line_under _ lines n = unwrap_or (slice_get lines n) no_line
+
+abbrev pub state_of : Progress → List Line → ℕ → State
+state_of p lines n = record {
+  sizes = p.sizes;
+  actor = p.actor;
+  place = p.place;
+  line = line_under p.place lines n;
+  used = p.used;
+  steps = p.steps;
+  delays = p.delays;
+}
+
+abbrev pub progress_of : State → Progress
+progress_of s = record { sizes = s.sizes; actor = s.actor; place = s.place; used = s.used; steps = s.steps; delays = s.delays }
+
+-- the hand with one more answer
+abbrev pub answered : AnsweredLine → Held → Held
+answered answer h = record {
+  state = state_of (progress_of h.state) h.lines (length (h.answers ++ answer ∷ []));
+  topics = h.topics;
+  cached = h.cached;
+  slots = h.slots;
+  lines = h.lines;
+  answers = h.answers ++ answer ∷ [];
+}
+
+abbrev pub no_translation : Translation
+no_translation = record { gfn = 0; level = 1; leaf = 0 }
+
 -- what an actor holds before its first line
+abbrev pub first_progress : Sizes → Actor → Progress
+first_progress z actor = record { sizes = z; actor = actor; place = Between; used = no_translation; steps = 0; delays = 0 }
+
 abbrev pub first_state : Sizes → Actor → State
-first_state z actor = record { sizes = z; actor = actor; place = Between; line = no_line; leaf = 0; steps = 0; delays = 0 }
+first_state z actor = record { sizes = z; actor = actor; place = Between; line = no_line; used = no_translation; steps = 0; delays = 0 }
 
 abbrev pub no_search : SlotSearch
 no_search = record { set = None; id = 0; next = Flags; slot = no_slot; logged = false; whole = false }

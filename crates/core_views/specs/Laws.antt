@@ -3,6 +3,7 @@ use Rattle.std.specs.Prelude.{◌≡◌, ◌-◌, ◌^◌, ℕ, List, [], ◌∷
 use Rattle.core_views.specs.declared.actor.Actor.TheVariants.{Vcpu, Manager}
 use Rattle.core_views.specs.declared.event.Event.{Event}
 use Rattle.core_views.specs.declared.trace.Command.TheVariants.{Access, SetSlot}
+use Rattle.core_views.specs.declared.sizes.LogMode.TheVariants.{Automatic}
 use Rattle.core_views.specs.declared.sizes.Sizes.{Sizes}
 use Rattle.core_views.specs.declared.trace.Line.{Line}
 use Rattle.core_views.specs.declared.trace.Op.{Op}
@@ -41,7 +42,18 @@ abbrev pub AloneIsWhole : Type 0
 AloneIsWhole = (lines : List Line) (h : List Event) → StandsAlone h lines → IsWhole h lines
 
 abbrev pub example_sizes : Sizes
-example_sizes = record { pages = 128; frames = 128; words = 2; pool = 4; cache = 64; vcpus = 2; hosts = 1; workers = 0 }
+example_sizes = record {
+  pages = 128;
+  frames = 128;
+  words = 2;
+  pool = 4;
+  cache = 64;
+  vcpus = 2;
+  hosts = 1;
+  workers = 0;
+  mode = Automatic;
+  first_pages = 0 ∷ 128 ∷ 128 ∷ 128 ∷ [];
+}
 
 abbrev pub example_slot : ℕ → ℕ → Bool → Slot
 example_slot base host read_only = record { base = base; pages = 3; host = host; read_only = read_only }

@@ -1,12 +1,42 @@
 -- The sizes of a machine, and its actors in their order.
-use Rattle.std.specs.Prelude.{◌+◌, ◌-◌, ◌*◌, ◌≤◌, ℕ, ◌==◌, nat_lt, if◌then◌else◌, length}
+use Rattle.std.specs.Prelude.{◌+◌, ◌-◌, ◌*◌, ◌≤◌, ℕ, Bool, List, [], ◌∷◌, ◌==◌, ◌&&◌, nat_le, nat_lt, if◌then◌else◌, length, slice_get, unwrap_or}
 use Rattle.core_views.specs.declared.actor.Actor.{Actor}
 use Rattle.core_views.specs.declared.actor.Actor.TheVariants.{Vcpu, Host, Manager, Worker}
+use Rattle.core_views.specs.declared.sizes.LogMode.{LogMode}
+use Rattle.core_views.specs.declared.sizes.LogMode.TheVariants.{Automatic, Manual, ManualAllSet}
 use Rattle.core_views.specs.declared.sizes.Sizes.{Sizes}
 use Rattle.core_views.specs.declared.trace.Header.{Header}
 
+-- how dirty logs are taken, by the header's number
+abbrev pub mode_of : ℕ → LogMode
+mode_of manual = if manual == 0 then Automatic else if manual == 1 then Manual else ManualAllSet
+
+-- the first page of a host thread, of those whose first pages are listed; the number of pages where there is no such thread
+abbrev pub first_page_in : List ℕ → ℕ → ℕ → ℕ
+first_page_in firsts pages host = unwrap_or (slice_get firsts host) pages
+
 abbrev pub sizes_of : Header → Sizes
-sizes_of h = record { pages = h.pages; frames = h.frames; words = h.words; pool = h.pool; cache = h.cache; vcpus = h.vcpus; hosts = length h.hosts; workers = h.workers }
+sizes_of h = record {
+  pages = h.pages;
+  frames = h.frames;
+  words = h.words;
+  pool = h.pool;
+  cache = h.cache;
+  vcpus = h.vcpus;
+  hosts = length h.hosts;
+  workers = h.workers;
+  mode = mode_of h.manual;
+  first_pages =
+      first_page_in h.hosts h.pages 0 ∷ first_page_in h.hosts h.pages 1 ∷ first_page_in h.hosts h.pages 2 ∷ first_page_in h.hosts h.pages 3 ∷ [];
+}
+
+-- the sizes of no machine
+abbrev pub no_sizes : Sizes
+no_sizes = record { pages = 0; frames = 0; words = 0; pool = 0; cache = 0; vcpus = 0; hosts = 0; workers = 0; mode = Automatic; first_pages = [] }
+
+-- The host page is one of this host thread's own: from the thread's first page up to the next thread's.
+abbrev pub owns : Sizes → ℕ → ℕ → Bool
+owns z host page = nat_le (first_page_in z.first_pages z.pages host) page && nat_lt page (first_page_in z.first_pages z.pages (host + 1))
 
 -- how many actors there are: virtual processors, host threads, the manager, workers
 abbrev pub actors_of : Sizes → ℕ

@@ -1,14 +1,14 @@
 use crate::{Actor, Answer, Line, MemorySlot, Op};
 
 /// One event of a history: what an actor did to, or saw of, flat guest memory.
-#[derive(Clone, Copy, Debug, PartialEq, Eq, Drop)]
+#[derive(Debug, Drop)]
 pub struct Event {
     pub actor: Actor,
     pub kind: EventKind,
 }
 
 /// What happened in an event.
-#[derive(Clone, Copy, Debug, PartialEq, Eq, Drop)]
+#[derive(Debug, Drop)]
 pub enum EventKind {
     /// The actor began this line.
     Begun(Line),

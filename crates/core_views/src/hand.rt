@@ -1,9 +1,12 @@
-ghost use Rattle.std.specs.Prelude.{◌≤◌, IfOk, ◌≡◌, ◌+◌, ◌-◌, ◌<◌, ◌++◌, ◌∷◌, [], OnErr, OnOk, length, slice_get};
-ghost use Rattle.core_views.specs.Held.{first_held, first_state};
+ghost use Rattle.std.specs.Prelude.{◌≤◌, IfOk, None, ◌≡◌, ◌-◌, ◌<◌, OnErr, OnOk, length, slice_get};
+ghost use Rattle.std.specs.Option.{option_copied};
+ghost use Rattle.core_views.specs.SlotCommands.{change_refusal, slots_after};
+ghost use Rattle.core_views.specs.Traces.{IsCommandFor};
+ghost use Rattle.core_views.specs.Held.{answered, first_held, first_progress, has_line, line_at, next_line, progress_of, state_of};
 
 use crate::{
-    Actor, AnsweredLine, Cache, Command, Line, NoMemory, Op, Place, Sequence, Sizes, SlotSet,
-    Topics,
+    Actor, AnsweredLine, Cache, Line, NoMemory, Place, Sequence, Sizes, SlotSet, Topics,
+    Translation,
 };
 use std::alloc::Global;
 use std::marker::Model;
@@ -15,46 +18,38 @@ pub struct Seen {
     pub value: u64,
 }
 
-/// What an actor holds besides its lines and their answers. Each field is a
-/// topic of its own, which few kinds of step write.
+/// How far an actor has come with its line, and what this line loaded and counted. Each
+/// field is a topic of its own, which few kinds of step write.
 #[derive(Clone, Copy, Debug, PartialEq, Eq, Drop)]
-pub struct State {
+pub struct Progress {
     /// The sizes of the machine.
     pub sizes: Sizes,
     /// Whose hand it is.
     pub actor: Actor,
     /// Where the line stands in the order of its steps.
     pub place: Place,
-    /// The line under way, or the last one.
-    pub line: Line,
-    /// The leaf of the translation that the access uses.
-    pub leaf: u64,
+    /// The translation that the access uses.
+    pub used: Translation,
     /// The steps of this line since it began, or since its last delay.
     pub steps: u64,
     /// The delays of this line: at 2^64 - 1 it counts no more.
     pub delays: u64,
 }
 
-impl State {
+impl Progress {
     /// What an actor holds before its first line.
     pub fn first(sizes: Sizes, actor: Actor) -> Self
-        ensures { result ≡ first_state sizes actor }
+        ensures { result ≡ first_progress sizes actor }
     {
-        let command = Command::Access {
-            gfn: 0,
-            word: 0,
-            op: Op::Read,
-        };
-        State {
+        Progress {
             sizes,
             actor,
             place: Place::Between,
-            line: Line {
-                number: 0,
-                actor: Actor::Vcpu(0),
-                command,
+            used: Translation {
+                gfn: 0,
+                level: 1,
+                leaf: 0,
             },
-            leaf: 0,
             steps: 0,
             delays: 0,
         }
@@ -66,7 +61,7 @@ impl State {
 /// lines of the trace, and the answers that it has given them, with room for more.
 #[derive(Debug, Drop)]
 pub struct Hand {
-    state: State,
+    progress: Progress,
     topics: Topics,
     cache: Cache,
     slots: SlotSet,
@@ -76,12 +71,12 @@ pub struct Hand {
 }
 
 impl Model for Hand {
-    ghost use Rattle.std.specs.Prelude.{◌≤◌, ◌+◌, vec_len, vec_capacity};
-    ghost use Rattle.core_views.specs.Held.{Handful};
+    ghost use Rattle.std.specs.Prelude.{◌≤◌, ◌+◌, length, vec_len, vec_capacity};
+    ghost use Rattle.core_views.specs.Held.{Handful, state_of};
 
     ghost Value = { Handful };
 
-    ghost view = { λ h. record { core = record { state = h.state; topics = h.topics; cached = h.cache; slots = h.slots; lines = h.lines.items; answers = h.answers.items }; room = h.room } };
+    ghost view = { λ h. record { core = record { state = state_of h.progress h.lines.items (length h.answers.items); topics = h.topics; cached = h.cache; slots = h.slots; lines = h.lines.items; answers = h.answers.items }; room = h.room } };
 
     ghost invariant = { λ h. vec_len h.answers + h.room ≤ vec_capacity h.answers };
 }
@@ -89,7 +84,7 @@ impl Model for Hand {
 impl Hand {
     ghost use Rattle.std.specs.Borrow.{Lends, sem};
     ghost use Rattle.core_views.specs.contracts.hand.Hand.{the_row};
-    ghost use Rattle.core_views.specs.Rows.{cache_row, slots_row, state_row, topics_row};
+    ghost use Rattle.core_views.specs.Rows.{cache_row, slots_row, progress_row, topics_row};
 
     /// The hand of an actor before its first line.
     pub fn new(
@@ -102,7 +97,7 @@ impl Hand {
         ensures { IfOk result (λ h. h.core ≡ first_held sizes actor lines.items) }
     {
         Ok(Hand {
-            state: State::first(sizes, actor),
+            progress: Progress::first(sizes, actor),
             topics: Topics::first(),
             cache: Cache::new(alloc, sizes.cache as u8)?,
             slots: SlotSet::empty(),
@@ -113,10 +108,10 @@ impl Hand {
     }
 
     /// Where the line stands, and what it loaded.
-    pub fn state(&self) -> &State
-        ensures { result.now ≡ self.now.core.state }
+    pub fn progress(&self) -> &Progress
+        ensures { result.now ≡ progress_of self.now.core.state }
     {
-        &self.state
+        &self.progress
     }
 
     /// What is held of each part of the machine.
@@ -134,14 +129,27 @@ impl Hand {
     }
 
     /// The first line that has no answer.
-    pub fn next_line(&self) -> Option<Line>
-        ensures { result ≡ slice_get self.now.core.lines (length self.now.core.answers) }
+    pub fn next_line(&self) -> Option<&Line>
+        ensures { option_copied result ≡ slice_get self.now.core.lines (length self.now.core.answers) }
     {
-        if self.answers.len() < self.lines.len() {
-            Some(self.lines[self.answers.len()])
-        } else {
-            None
-        }
+        self.lines.get(self.answers.len())
+    }
+
+    /// Whether a line is left that has no answer.
+    pub fn has_line(&self) -> bool
+        ensures { result ≡ has_line self.now.core }
+    {
+        self.answers.len() < self.lines.len()
+    }
+
+    /// The line that the next step is of: the one under way, or the next one. Where none
+    /// is left, no call can be made.
+    pub fn line(&self) -> &Line
+        requires { length self.now.core.answers < length self.now.core.lines }
+        ensures next { result.now ≡ next_line self.now.core }
+        ensures line { result.now ≡ line_at self.now.core.state.place self.now.core }
+    {
+        &self.lines[self.answers.len()]
     }
 
     /// The lines that are answered, in the order of their answers.
@@ -152,11 +160,11 @@ impl Hand {
     }
 
     /// Where the line stands and what it loaded, to be changed in place.
-    pub fn state_mut(&mut self) -> &mut State
-        ensures value { result.now ≡ self.old.core.state }
-        ensures* lends { sem 𝓛 (Lends the_row state_row self.entry result (λ s. record { core = record { state = s; topics = self.old.core.topics; cached = self.old.core.cached; slots = self.old.core.slots; lines = self.old.core.lines; answers = self.old.core.answers }; room = self.old.room })) }
+    pub fn progress_mut(&mut self) -> &mut Progress
+        ensures value { result.now ≡ progress_of self.old.core.state }
+        ensures* lends { sem 𝓛 (Lends the_row progress_row self.entry result (λ p. record { core = record { state = state_of p self.old.core.lines (length self.old.core.answers); topics = self.old.core.topics; cached = self.old.core.cached; slots = self.old.core.slots; lines = self.old.core.lines; answers = self.old.core.answers }; room = self.old.room })) }
     {
-        &mut self.state
+        &mut self.progress
     }
 
     /// What is held of each part of the machine, to be changed in place.
@@ -190,6 +198,19 @@ impl Hand {
         &mut self.slots
     }
 
+    /// Makes the change of the line that the next step is of in the manager's own record,
+    /// where it isn't refused.
+    pub fn change_slots(&mut self)
+        requires left { length self.old.core.answers < length self.old.core.lines }
+        requires allowed { IsCommandFor self.old.core.state.sizes (next_line self.old.core).actor (next_line self.old.core).command }
+        requires accepted { change_refusal self.old.core.state.sizes (next_line self.old.core).command self.old.core.slots ≡ None }
+        ensures core { self.new.core ≡ record self.old.core { slots = slots_after (next_line self.old.core).command self.old.core.slots } }
+        ensures room { self.new.room ≡ self.old.room }
+    {
+        let line = &self.lines[self.answers.len()];
+        self.slots.change(line, &self.progress.sizes);
+    }
+
     /// Takes room for one more answer. Where it is refused nothing has changed.
     pub fn reserve(&mut self) -> Result<(), NoMemory>
         ensures core { self.new.core ≡ self.old.core }
@@ -204,7 +225,7 @@ impl Hand {
     /// Adds an answer, for which there is room.
     pub fn answer(&mut self, answer: AnsweredLine)
         requires { 0 < self.old.room }
-        ensures { self.new ≡ record { core = record { state = self.old.core.state; topics = self.old.core.topics; cached = self.old.core.cached; slots = self.old.core.slots; lines = self.old.core.lines; answers = self.old.core.answers ++ answer ∷ [] }; room = self.old.room - 1 } }
+        ensures { self.new ≡ record { core = answered answer self.old.core; room = self.old.room - 1 } }
     {
         self.room -= 1;
         match self.answers.push(answer) {

@@ -22,7 +22,7 @@ pub use actor::Actor;
 pub use answer::{Answer, Answered, AnsweredLine, Refusal};
 pub use cache::{Cache, Translation};
 pub use event::{Event, EventKind};
-pub use hand::{Closing, Hand, Hands, Seen, State};
+pub use hand::{Closing, Hand, Hands, Progress, Seen};
 pub use kind::{Kind, Operation, StepKind};
 pub use laws::{
     alone_is_flat, flat_history_is_lawful, unlawful_histories_are_refused, writes_are_kept,
@@ -33,7 +33,7 @@ pub use place::{
     SlotChangePlace, SlotField,
 };
 pub use sequence::Sequence;
-pub use sizes::Sizes;
+pub use sizes::{LogMode, Sizes};
 pub use slot_set::{MemorySlot, SlotSet};
 pub use topics::{
     Checked, Hold, HostLook, Invalidations, MapClaim, OwnedPage, SlotSearch, Stay, TableWalk,

@@ -1,7 +1,18 @@
 ghost use Rattle.std.specs.Prelude.{◌≡◌, ◌<◌};
-ghost use Rattle.core_views.specs.Sizes.{AreFewActors, actor_at, actors_of, index_of, sizes_of};
+ghost use Rattle.core_views.specs.Sizes.{AreFewActors, actor_at, actors_of, first_page_in, index_of, mode_of, owns, sizes_of};
 
 use crate::{Actor, Header};
+
+/// How dirty logs are taken (api.rst, `KVM_CAP_MANUAL_DIRTY_LOG_PROTECT2`).
+#[derive(Clone, Copy, Debug, PartialEq, Eq, Drop)]
+pub enum LogMode {
+    /// A get takes the bits out and protects their pages.
+    Automatic,
+    /// A get only looks; a clear takes out and protects.
+    Manual,
+    /// The same, and a new log has every bit set.
+    ManualAllSet,
+}
 
 /// The sizes of a machine, from a trace's header.
 #[derive(Clone, Copy, Debug, PartialEq, Eq, Drop)]
@@ -22,6 +33,32 @@ pub struct Sizes {
     pub hosts: u64,
     /// Workers.
     pub workers: u64,
+    /// How dirty logs are taken.
+    pub mode: LogMode,
+    /// The first host page of each host thread, which owns the pages up to the next
+    /// one's; `pages` where there is no such thread.
+    pub first_pages: [u64; 4],
+}
+
+// How dirty logs are taken, by the header's number.
+fn mode_of(manual: u8) -> LogMode
+    ensures { result ≡ mode_of manual }
+{
+    match manual {
+        0 => LogMode::Automatic,
+        1 => LogMode::Manual,
+        _ => LogMode::ManualAllSet,
+    }
+}
+
+// The first page of the host thread, if it is there.
+fn first_page(header: &Header, host: usize) -> u64
+    ensures { result ≡ first_page_in header.now.hosts header.now.pages host }
+{
+    match header.hosts.as_slice().get(host) {
+        Some(first) => *first,
+        None => header.pages,
+    }
 }
 
 impl Sizes {
@@ -38,7 +75,22 @@ impl Sizes {
             vcpus: header.vcpus as u64,
             hosts: header.hosts.as_slice().len() as u64,
             workers: header.workers as u64,
+            mode: mode_of(header.manual),
+            first_pages: [
+                first_page(header, 0),
+                first_page(header, 1),
+                first_page(header, 2),
+                first_page(header, 3),
+            ],
         }
+    }
+
+    /// Whether the page is one of this host thread's own.
+    pub fn owns(&self, host: u8, page: u64) -> bool
+        ensures { result ≡ owns self.now host page }
+    {
+        let first_of = |host: usize| self.first_pages.get(host).copied().unwrap_or(self.pages);
+        first_of(host as usize) <= page && page < first_of(host as usize + 1)
     }
 
     /// How many actors the machine has: virtual processors, host threads, the

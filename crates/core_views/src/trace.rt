@@ -68,7 +68,7 @@ impl Slot {
 }
 
 /// What a line asks for: one variant for each form of line.
-#[derive(Clone, Copy, Debug, PartialEq, Eq, Drop)]
+#[derive(Clone, Debug, PartialEq, Eq, Drop)]
 pub enum Command {
     /// A guest access to content word `word` of guest frame `gfn`: one aligned
     /// 8-byte read, write or add at byte address `4096 * gfn + 8 * word`.
@@ -79,7 +79,7 @@ pub enum Command {
 
 /// A line of the trace: its number in the file (the header is line 1), its
 /// actor, and what it asks for.
-#[derive(Clone, Copy, Debug, PartialEq, Eq, Drop)]
+#[derive(Clone, Debug, PartialEq, Eq, Drop)]
 pub struct Line {
     pub number: u32,
     pub actor: Actor,

@@ -56,7 +56,7 @@ fn place_of(hand: &Hand, job: &FaultJob) -> FaultPlace
     requires stands { StandsInLine job.now hand.now.core }
     ensures { place_at hand.now.core.state.place hand.now.core ≡ Place.Access (Fault result) }
 {
-    match hand.state().place {
+    match hand.progress().place {
         Place::Access(AccessPlace::Fault(place)) => place,
         _ => unreachable!(),
     }
@@ -149,7 +149,7 @@ impl FaultJob {
         ensures same { ((S.seat s.new).actor ≡ (S.seat s.old).actor) × (S.frame s.new ≡ S.frame s.old) }
     {
         part_rests(s.hand());
-        let word = map_of(&s.hand().state().sizes).word_of(Area::Lock, 0);
+        let word = map_of(&s.hand().progress().sizes).word_of(Area::Lock, 0);
         lock_turn(word, try_shared(s, note))
     }
 

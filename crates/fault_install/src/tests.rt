@@ -171,7 +171,7 @@ fn fault_of(hand: &Hand) -> Option<FaultJob>
     ensures { IfSome result (λ job. StandsInLine job hand.now.core) }
 {
     let _next = hand.next_line()?;
-    let state = hand.state();
+    let state = hand.progress();
     let Place::Access(AccessPlace::Fault(_)) = state.place else {
         return None;
     };
@@ -206,7 +206,7 @@ fn run<S: Stepper>(s: &mut S, stops: bool) -> Result<(u64, Turn<Faulted>), Fail>
         let Some(job) = fault_of(s.hand()) else {
             return Err(Fail::new("the line stands in no fault"));
         };
-        if stops && s.hand().state().place == link {
+        if stops && s.hand().progress().place == link {
             return Ok((turns, Turn::More));
         }
         let last = job.turn(s);

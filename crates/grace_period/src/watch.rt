@@ -54,7 +54,7 @@ impl Watch {
         requires { PartRests hand.now.core }
         ensures { result ≡ looked_at self.now hand.now.core }
     {
-        let state = hand.state();
+        let state = hand.progress();
         let own = state.sizes.index_of(state.actor);
         let seen = if self.has_looked {
             hand.topics().watched
@@ -83,8 +83,8 @@ impl Watch {
     {
         let hand = s.hand();
         part_rests(hand);
-        let sizes = hand.state().sizes;
-        let own = sizes.index_of(hand.state().actor);
+        let sizes = hand.progress().sizes;
+        let own = sizes.index_of(hand.progress().actor);
         let index = self.next_look(hand);
         self.has_looked = true;
         let value = make_part(s, PartStep::Watch(index), note);

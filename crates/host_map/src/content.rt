@@ -46,7 +46,7 @@ pub fn touch<S: Stepper>(s: &mut S, frame: u64, word: u8, op: Op, note: u64) -> 
 {
     let hand = s.hand();
     part_rests(hand);
-    let kind = touch_kind(&hand.state().sizes, frame, word, op, note);
+    let kind = touch_kind(&hand.progress().sizes, frame, word, op, note);
     s.act(kind)
 }
 

@@ -97,7 +97,7 @@ fn touch_next<S: Stepper>(
         }
         rests(hand);
         part_rests(hand);
-        let sizes = hand.state().sizes;
+        let sizes = hand.progress().sizes;
         if frame >= sizes.frames || word as u64 >= sizes.words {
             break;
         }

@@ -5,7 +5,7 @@ ghost use Rattle.mmu_core.specs.lines.FaultSteps.{allows_access};
 ghost use Rattle.spte_words.specs.Entries.{kind_of};
 ghost use Rattle.mmu_core.specs.lines.AccessSteps.{access_caches, access_loads, access_note, access_outcome, access_part, access_task, behind_fault, touch_of, walk_next};
 ghost use Rattle.part_steps.specs.PartBounds.{IsAtLeafLevel, PartRests};
-ghost use Rattle.mmu_core.specs.lines.Cached.{allows, covers, first_usable, is_usable};
+ghost use Rattle.mmu_core.specs.lines.Cached.{allows, covers, first_usable, frame_used, is_usable};
 ghost use Rattle.part_steps.specs.PartSteps.{PartNeeds};
 ghost use Rattle.mmu_core.specs.lines.AccessKnows.{RestsOn};
 ghost use Rattle.part_steps.specs.Tasks.{map_of};
@@ -40,6 +40,15 @@ fn touch(op: Op, index: u64) -> Task
         written,
         may_end: 0,
     }
+}
+
+// The frame of the guest frame by the translation in use.
+fn frame_used(hand: &Hand, gfn: u64) -> u64
+    requires { IsAtLeafLevel hand.now.core.state.used }
+    ensures { result ≡ frame_used gfn hand.now.core.state }
+{
+    let used = hand.progress().used;
+    Spte::from_word(used.leaf).mapped_frame(used.level, gfn)
 }
 
 /// The step of this place, but for the touch.
@@ -86,8 +95,8 @@ pub(crate) fn task(place: AccessPlace, hand: &Hand, gfn: u64, word: u8, op: Op) 
     if let Some(step) = part(place, gfn, hand) {
         return part_task(hand, step, access_note(place));
     }
-    let frame = Spte::from_word(hand.state().leaf).frame();
-    touch(op, map_of(&hand.state().sizes).content_index(frame, word))
+    let frame = frame_used(hand, gfn);
+    touch(op, map_of(&hand.progress().sizes).content_index(frame, word))
 }
 
 /// Caches the leaf that the step of this place found, where it allows the access.
@@ -138,45 +147,46 @@ fn behind_fault(next: FaultNext) -> Outcome
     Outcome::Goes(Place::Access(AccessPlace::Enter { again }))
 }
 
-/// Where the line stands after the step of this place, and the leaf that the access
-/// uses then.
+/// Where the line stands after the step of this place, and the translation that the
+/// access uses then.
 pub(crate) fn outcome(
     place: AccessPlace,
     hand: &Hand,
     gfn: u64,
     op: Op,
     found: u64,
-) -> (Outcome, u64)
+) -> (Outcome, Translation)
     requires rests { RestsOn (access_part place gfn hand.now.core.topics) gfn (is_write op) hand.now.core }
     requires part { PartRests hand.now.core }
     ensures outcome { result.0 ≡ access_outcome place hand.now.core gfn op found }
-    ensures leaf { result.1 ≡ (access_loads place hand.now.core gfn op found).leaf }
+    ensures used { result.1 ≡ (access_loads place hand.now.core gfn op found).used }
 {
-    let leaf = hand.state().leaf;
-    let (next, leaf) = match place {
-        AccessPlace::Enter { again } => (AccessPlace::Pause { again }, leaf),
+    let used = hand.progress().used;
+    let (next, used) = match place {
+        AccessPlace::Enter { again } => (AccessPlace::Pause { again }, used),
         AccessPlace::Pause { again } => match lookup(hand.cache(), gfn, op.is_write()) {
-            Some(translation) => (AccessPlace::Touch, translation.leaf),
-            None => (AccessPlace::Root { again }, leaf),
+            Some(translation) => (AccessPlace::Touch, translation),
+            None => (AccessPlace::Root { again }, used),
         },
-        AccessPlace::Root { again } => (AccessPlace::Walk { again }, leaf),
+        AccessPlace::Root { again } => (AccessPlace::Walk { again }, used),
         AccessPlace::Walk { again } => {
             let level = hand.topics().walk.level;
-            (walk_next(again, level, op, found), found)
+            let leaf = found;
+            (walk_next(again, level, op, found), Translation { gfn, level, leaf })
         }
         AccessPlace::Touch => {
-            let frame = Spte::from_word(leaf).frame();
+            let frame = frame_used(hand, gfn);
             let value = found;
-            (AccessPlace::Leave(Leaving::Reached { frame, value }), leaf)
+            (AccessPlace::Leave(Leaving::Reached { frame, value }), used)
         }
         AccessPlace::Leave(Leaving::Reached { frame, value }) => {
-            return (Outcome::Ends(Answer::Reached { frame, value }), leaf);
+            return (Outcome::Ends(Answer::Reached { frame, value }), used);
         }
-        AccessPlace::Leave(Leaving::Faults) => (AccessPlace::Fault(FaultPlace::Begin), leaf),
+        AccessPlace::Leave(Leaving::Faults) => (AccessPlace::Fault(FaultPlace::Begin), used),
         AccessPlace::Fault(place) => {
             let next = fault::next(place, hand, gfn, op.is_write(), found);
-            return (behind_fault(next), leaf);
+            return (behind_fault(next), used);
         }
     };
-    (Outcome::Goes(Place::Access(next)), leaf)
+    (Outcome::Goes(Place::Access(next)), used)
 }

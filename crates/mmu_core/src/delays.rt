@@ -77,7 +77,7 @@ fn one_more(count: u64) -> u64
 pub(crate) fn steps_behind(delay: bool, hand: &Hand) -> u64
     ensures { result ≡ steps_counted delay (counted hand.now.core.state.place hand.now.core.state.steps) }
 {
-    let state = hand.state();
+    let state = hand.progress();
     if delay {
         0
     } else {
@@ -89,7 +89,7 @@ pub(crate) fn steps_behind(delay: bool, hand: &Hand) -> u64
 pub(crate) fn delays_behind(delay: bool, hand: &Hand) -> u64
     ensures { result ≡ delays_counted delay (counted hand.now.core.state.place hand.now.core.state.delays) }
 {
-    let state = hand.state();
+    let state = hand.progress();
     let delays = counted(state.place, state.delays);
     if delay { one_more(delays) } else { delays }
 }

@@ -186,7 +186,7 @@ fn exchange_next(hand: &Hand, gfn: u64, found: u64, won: FaultPlace, link: bool)
     if found == walk.entry {
         return won;
     }
-    let word = entry_word(&hand.state().sizes, gfn, walk);
+    let word = entry_word(&hand.progress().sizes, gfn, walk);
     let end = changed(word, walk.entry, found);
     if link {
         FaultPlace::Give(end)
@@ -223,7 +223,7 @@ pub(crate) fn next(place: FaultPlace, hand: &Hand, gfn: u64, write: bool, found:
     requires needs { PartNeeds (fault_part place gfn hand.now.core.topics) hand.now.core }
     ensures { result ≡ fault_next place hand.now.core.state.sizes gfn write hand.now.core.topics found }
 {
-    let sizes = &hand.state().sizes;
+    let sizes = &hand.progress().sizes;
     let topics = hand.topics();
     FaultNext::Goes(match place {
         FaultPlace::Begin => FaultPlace::Snapshot,

@@ -1,7 +1,7 @@
 use core_views::{Answer, Place};
 
 /// Where a line stands after a step.
-#[derive(Clone, Copy)]
+#[derive(Drop)]
 pub enum Outcome {
     /// It goes on with the step of this place.
     Goes(Place),

@@ -1,5 +1,5 @@
 //! The steps of a line that changes a slot.
-ghost use Rattle.std.specs.Prelude.{◌≡◌, ◌<◌, true};
+ghost use Rattle.std.specs.Prelude.{◌≡◌, ◌<◌, length, true};
 ghost use Rattle.core_views.specs.declared.place.Place.TheVariants as place;
 ghost use Rattle.core_views.specs.SlotCommands.{change_refusal, changes_slot};
 ghost use Rattle.core_views.specs.Traces.{IsCommandFor};
@@ -8,7 +8,7 @@ ghost use Rattle.part_steps.specs.PartSteps.{PartNeeds};
 ghost use Rattle.mmu_core.specs.lines.SlotChangeKnows.{RecordAccepts};
 ghost use Rattle.mmu_core.specs.lines.Rests.{Rests};
 ghost use Rattle.mmu_core.specs.lines.SlotChangeSteps.{after_claim, after_watch, slot_change_first, slot_change_note, slot_change_outcome, slot_change_part, slot_change_records, slot_change_task};
-ghost use Rattle.mmu_core.specs.machine.Steps.{place_at};
+ghost use Rattle.mmu_core.specs.machine.Steps.{next_line, place_at};
 ghost use Rattle.part_steps.specs.Tasks.{map_of};
 ghost use Rattle.mmu_core.specs.machine.Turns.{line_of};
 ghost use Rattle.spte_words.specs.Areas.{size_of};
@@ -16,7 +16,7 @@ ghost use Rattle.spte_words.specs.Areas.{size_of};
 use crate::claim::{ClaimNext, claim_next, claim_part, loads_last_word};
 use crate::outcome::Outcome;
 use crate::watch::{WatchNext, looked_at, watch_next};
-use core_views::{Answer, Command, Hand, Line, Place, Sizes, SlotChangePlace, SlotSet, Topics};
+use core_views::{Answer, Command, Hand, Place, Sizes, SlotChangePlace, SlotSet};
 use part_steps::{PartStep, SLOT_SET_ROLE, Task, in_section, part_task, set_word, words_filled};
 
 /// How many words of a slot set's page are filled.
@@ -63,7 +63,7 @@ pub fn note(place: SlotChangePlace, hand: &Hand) -> u64
     match place {
         SlotChangePlace::Refuse(_) | SlotChangePlace::Give => 1,
         SlotChangePlace::Claim { begun } => {
-            let last = loads_last_word(begun, &hand.state().sizes, &hand.topics().claim);
+            let last = loads_last_word(begun, &hand.progress().sizes, &hand.topics().claim);
             if last { 1 } else { 0 }
         }
         _ => 0,
@@ -80,14 +80,16 @@ pub(crate) fn task(place: SlotChangePlace, hand: &Hand, command: &Command) -> Ta
     part_task(hand, part(place, hand, command), note(place, hand))
 }
 
-/// The manager's own record of the slots after the step of this place.
-pub(crate) fn record_change(place: SlotChangePlace, slots: &mut SlotSet, line: &Line, sizes: &Sizes)
-    requires line { IsCommandFor sizes.now line.now.actor line.now.command }
-    requires accepts { RecordAccepts place sizes.now line.now.command slots.old }
-    ensures { slots.new ≡ slot_change_records place line.now.command slots.old }
+/// Makes in the manager's own record what the step of this place changes there.
+pub(crate) fn record_change(place: SlotChangePlace, hand: &mut Hand)
+    requires left { length hand.old.core.answers < length hand.old.core.lines }
+    requires line { IsCommandFor hand.old.core.state.sizes (next_line hand.old.core).actor (next_line hand.old.core).command }
+    requires accepts { RecordAccepts place hand.old.core.state.sizes (next_line hand.old.core).command hand.old.core.slots }
+    ensures core { hand.new.core ≡ record hand.old.core { slots = slot_change_records place (next_line hand.old.core).command hand.old.core.slots } }
+    ensures room { hand.new.room ≡ hand.old.room }
 {
     if let SlotChangePlace::Publish = place {
-        slots.change(line, sizes);
+        hand.change_slots();
     }
 }
 
@@ -121,7 +123,7 @@ pub(crate) fn outcome(place: SlotChangePlace, hand: &Hand, found: u64) -> Outcom
     Outcome::Goes(Place::SlotChange(match place {
         SlotChangePlace::Refuse(refusal) => return Outcome::Ends(Answer::Refused(refusal)),
         SlotChangePlace::Claim { begun } => {
-            let sizes = &hand.state().sizes;
+            let sizes = &hand.progress().sizes;
             return after_claim(claim_next(begun, sizes, &topics.claim, found));
         }
         SlotChangePlace::Fill if words_filled(topics.owned) + 1 < WORDS => SlotChangePlace::Fill,
@@ -145,9 +147,9 @@ pub fn change_place(hand: &Hand) -> SlotChangePlace
     requires changes { changes_slot (line_of hand.now.core).command ≡ true }
     ensures { place_at hand.now.core.state.place hand.now.core ≡ place.SlotChange result }
 {
-    match hand.state().place {
+    match hand.progress().place {
         Place::Between => match hand.next_line() {
-            Some(line) => first(&hand.state().sizes, hand.slots(), &line.command),
+            Some(line) => first(&hand.progress().sizes, hand.slots(), &line.command),
             None => unreachable!(),
         },
         Place::SlotChange(place) => place,

@@ -5,7 +5,7 @@ ghost use Rattle.core_views.specs.Traces.{IsCommandFor};
 ghost use Rattle.mmu_core.specs.lines.Forms.{AcceptsAt, RestsAt, part_at, caches_at, first_place, loads_at, outcome_at, records_at};
 ghost use Rattle.mmu_core.specs.lines.Rests.{IsUnderWay, Rests};
 ghost use Rattle.mmu_core.specs.machine.Enabled.{Enabled};
-ghost use Rattle.mmu_core.specs.machine.Steps.{has_line, line_after, line_at, next, place_at, standing, task_at};
+ghost use Rattle.mmu_core.specs.machine.Steps.{has_line, line_after, line_at, next, next_line, place_at, standing, task_at};
 ghost use Rattle.mmu_core.specs.lines.Cached.{asks_flush, flushed};
 ghost use Rattle.part_steps.specs.declared.part_step.PartStep.TheVariants.{Claim};
 ghost use Rattle.part_steps.specs.PartBounds.{PartRests};
@@ -18,23 +18,9 @@ use crate::delays::{delays_behind, is_delay, steps_behind};
 use crate::outcome::Outcome;
 use crate::{access, slot_change};
 use core_views::{
-    AccessPlace, AnsweredLine, Command, Hand, Kind, Line, Place, Sizes, SlotSet, StepKind,
+    AccessPlace, AnsweredLine, Command, Hand, Kind, Line, Place, StepKind, Translation,
 };
 use part_steps::{PartStep, Task, kind_of, step_topics};
-
-// The line that the hand's next step is of: the one under way, or the next one.
-fn line_of(hand: &Hand) -> Line
-    requires { length hand.now.core.answers < length hand.now.core.lines }
-    ensures { result ≡ line_at hand.now.core.state.place hand.now.core }
-{
-    match hand.state().place {
-        Place::Between => match hand.next_line() {
-            Some(line) => line,
-            None => unreachable!(),
-        },
-        _ => hand.state().line,
-    }
-}
 
 // Where a line begins.
 fn first(hand: &Hand, line: &Line) -> Place
@@ -43,7 +29,7 @@ fn first(hand: &Hand, line: &Line) -> Place
     match &line.command {
         Command::Access { .. } => Place::Access(AccessPlace::Enter { again: false }),
         command => {
-            let sizes = &hand.state().sizes;
+            let sizes = &hand.progress().sizes;
             Place::SlotChange(slot_change::first(sizes, hand.slots(), command))
         }
     }
@@ -53,7 +39,7 @@ fn first(hand: &Hand, line: &Line) -> Place
 fn place_of(hand: &Hand, line: &Line) -> Place
     ensures { result ≡ standing hand.now.core.state.place hand.now.core.state.sizes hand.now.core.slots line.now.command }
 {
-    let place = hand.state().place;
+    let place = hand.progress().place;
     match place {
         Place::Between => first(hand, line),
         _ => place,
@@ -86,9 +72,9 @@ pub fn next_kind(hand: &Hand) -> Kind
     requires rests { Rests hand.now.core }
     ensures { Enabled hand.now.core result }
 {
-    let line = line_of(hand);
-    let task = task(place_of(hand, &line), hand, &line);
-    kind_of(&hand.state().sizes, &task)
+    let line = hand.line();
+    let task = task(place_of(hand, line), hand, line);
+    kind_of(&hand.progress().sizes, &task)
 }
 
 /// The step of a part that a line makes at this place; `None` where the guest
@@ -115,78 +101,84 @@ pub fn next_step(hand: &Hand) -> Option<PartStep>
     ensures step { result ≡ part_at (place_at hand.now.core.state.place hand.now.core) (line_at hand.now.core.state.place hand.now.core).command hand.now.core }
     ensures seen { result ≡ Some Claim → 0 < hand.now.core.topics.claim.seen }
 {
-    let line = line_of(hand);
-    part_of(place_of(hand, &line), &line.command, hand)
+    let line = hand.line();
+    part_of(place_of(hand, line), &line.command, hand)
 }
 
-// What is cached behind the step of a place.
-fn fill_cache(place: Place, command: &Command, hand: &mut Hand, found: u64)
-    ensures core { hand.new.core ≡ record hand.old.core { cached = caches_at place command.now hand.old.core found } }
+// What is cached after the step of a place.
+fn fill_cache(place: Place, hand: &mut Hand, found: u64)
+    requires { length hand.old.core.answers < length hand.old.core.lines }
+    ensures core { hand.new.core ≡ record hand.old.core { cached = caches_at place (next_line hand.old.core).command hand.old.core found } }
     ensures room { hand.new.room ≡ hand.old.room }
 {
-    if let (Place::Access(place), Command::Access { gfn, op, .. }) = (place, command) {
-        access::fill_cache(place, hand, *gfn, *op, found);
+    if let (Place::Access(place), Command::Access { gfn, op, .. }) = (place, &hand.line().command) {
+        let (gfn, op) = (*gfn, *op);
+        access::fill_cache(place, hand, gfn, op, found);
     }
 }
 
 // The manager's own record of the slots after the step of a place.
-fn record_step(place: Place, line: &Line, sizes: &Sizes, slots: &mut SlotSet)
-    requires line { IsCommandFor sizes.now line.now.actor line.now.command }
-    requires accepts { AcceptsAt place line.now.command sizes.now slots.old }
-    ensures { slots.new ≡ records_at place line.now.command slots.old }
+fn record_step(place: Place, hand: &mut Hand)
+    requires left { length hand.old.core.answers < length hand.old.core.lines }
+    requires line { IsCommandFor hand.old.core.state.sizes (next_line hand.old.core).actor (next_line hand.old.core).command }
+    requires accepts { AcceptsAt place (next_line hand.old.core).command hand.old.core.state.sizes hand.old.core.slots }
+    ensures core { hand.new.core ≡ record hand.old.core { slots = records_at place (next_line hand.old.core).command hand.old.core.slots } }
+    ensures room { hand.new.room ≡ hand.old.room }
 {
     if let Place::SlotChange(place) = place {
-        slot_change::record_change(place, slots, line, sizes);
+        slot_change::record_change(place, hand);
     }
 }
 
-// Where the line stands after the step of a place, and the leaf that it uses then.
-fn outcome(place: Place, command: &Command, hand: &Hand, found: u64) -> (Outcome, u64)
+// Where the line stands after the step of a place, and the translation that it uses then.
+fn outcome(place: Place, command: &Command, hand: &Hand, found: u64) -> (Outcome, Translation)
     requires part { PartRests hand.now.core }
     requires rests { RestsAt place command.now hand.now.core }
     ensures outcome { result.0 ≡ outcome_at place command.now hand.now.core found }
-    ensures leaf { result.1 ≡ (loads_at place command.now hand.now.core found).leaf }
+    ensures used { result.1 ≡ (loads_at place command.now hand.now.core found).used }
 {
     match (place, command) {
         (Place::Access(place), Command::Access { gfn, op, .. }) => {
             access::outcome(place, hand, *gfn, *op, found)
         }
         (Place::SlotChange(place), _) => {
-            (slot_change::outcome(place, hand, found), hand.state().leaf)
+            (slot_change::outcome(place, hand, found), hand.progress().used)
         }
-        _ => (Outcome::Goes(place), hand.state().leaf),
+        _ => (Outcome::Goes(place), hand.progress().used),
     }
 }
 
 // The effect of a line's step on the hand, but for its topics and for a flush.
-fn advance_line(hand: &mut Hand, line: &Line, place: Place, found: u64)
+fn advance_line(hand: &mut Hand, place: Place, found: u64)
+    requires left { length hand.old.core.answers < length hand.old.core.lines }
     requires part { PartRests hand.old.core }
-    requires line { IsCommandFor hand.old.core.state.sizes line.now.actor line.now.command }
-    requires rests { RestsAt place line.now.command hand.old.core }
-    requires accepts { AcceptsAt place line.now.command hand.old.core.state.sizes hand.old.core.slots }
+    requires line { IsCommandFor hand.old.core.state.sizes (next_line hand.old.core).actor (next_line hand.old.core).command }
+    requires rests { RestsAt place (next_line hand.old.core).command hand.old.core }
+    requires begun { IsUnderWay place }
+    requires accepts { AcceptsAt place (next_line hand.old.core).command hand.old.core.state.sizes hand.old.core.slots }
     requires room { 0 < hand.old.room }
-    ensures core { hand.new.core ≡ line_after line.now place hand.old.core found }
+    ensures core { hand.new.core ≡ line_after (next_line hand.old.core) place hand.old.core found }
     ensures room { length hand.new.core.answers + hand.new.room ≡ length hand.old.core.answers + hand.old.room }
 {
-    let (outcome, leaf) = outcome(place, &line.command, hand, found);
+    let line = hand.line();
+    let (number, actor) = (line.number, line.actor);
+    let (outcome, used) = outcome(place, &line.command, hand, found);
     let delay = is_delay(place, &line.command, hand, &outcome, found);
     let steps = steps_behind(delay, hand);
     let delays = delays_behind(delay, hand);
-    let sizes = hand.state().sizes;
-    record_step(place, line, &sizes, hand.slots_mut());
-    fill_cache(place, &line.command, hand, found);
-    let state = hand.state_mut();
-    state.leaf = leaf;
-    state.line = *line;
-    state.steps = steps;
-    state.delays = delays;
+    record_step(place, hand);
+    fill_cache(place, hand, found);
+    let progress = hand.progress_mut();
+    progress.used = used;
+    progress.steps = steps;
+    progress.delays = delays;
     match outcome {
-        Outcome::Goes(place) => state.place = place,
+        Outcome::Goes(place) => progress.place = place,
         Outcome::Ends(answer) => {
-            state.place = Place::Between;
+            progress.place = Place::Between;
             hand.answer(AnsweredLine {
-                number: line.number,
-                actor: line.actor,
+                number,
+                actor,
                 answer,
             });
         }
@@ -202,10 +194,9 @@ fn step_line(hand: &mut Hand, found: u64)
     ensures none { has_line hand.old.core ≡ false → hand.new.core ≡ hand.old.core }
     ensures room { length hand.new.core.answers + hand.new.room ≡ length hand.old.core.answers + hand.old.room }
 {
-    if hand.next_line().is_some() {
-        let line = line_of(hand);
-        let place = place_of(hand, &line);
-        advance_line(hand, &line, place, found);
+    if hand.has_line() {
+        let place = place_of(hand, hand.line());
+        advance_line(hand, place, found);
     }
 }
 
@@ -217,7 +208,7 @@ fn advance_topics(hand: &mut Hand, kind: Kind, found: u64)
     ensures core { hand.new.core ≡ record hand.old.core { topics = topics_after hand.old.core.state.sizes kind hand.old.core.topics found } }
     ensures room { hand.new.room ≡ hand.old.room }
 {
-    let sizes = hand.state().sizes;
+    let sizes = hand.progress().sizes;
     step_topics(&sizes, kind, hand.topics_mut(), found);
 }
 

@@ -23,7 +23,7 @@ pub(crate) fn looked_at(hand: &Hand) -> u64
     requires { PartRests hand.now.core }
     ensures { result ≡ looked_at hand.now.core }
 {
-    let state = hand.state();
+    let state = hand.progress();
     next_watched(state.sizes.index_of(state.actor), hand.topics().watched)
 }
 
@@ -32,7 +32,7 @@ pub(crate) fn watch_next(hand: &Hand, found: u64) -> WatchNext
     requires rests { PartRests hand.now.core }
     ensures { result ≡ watch_next hand.now.core found }
 {
-    let state = hand.state();
+    let state = hand.progress();
     let own = state.sizes.index_of(state.actor);
     if in_section(found) {
         WatchNext::Again

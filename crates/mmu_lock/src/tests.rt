@@ -49,7 +49,7 @@ fn any_line() -> Line {
 
 // A turn of a reader's try, where the hand allows its step.
 fn shared<S: Stepper>(s: &mut S) -> Result<Option<Turn<Lock>>, NoMemory> {
-    s.reserve(&any_line())?;
+    s.reserve()?;
     match s.hand().topics().hold {
         Hold::Loose => {
             if allows(s.hand(), PartStep::Share, 0) {
@@ -68,7 +68,7 @@ fn shared<S: Stepper>(s: &mut S) -> Result<Option<Turn<Lock>>, NoMemory> {
 
 // A writer's try, where the hand allows its step.
 fn exclusive<S: Stepper>(s: &mut S) -> Result<Option<Lock>, NoMemory> {
-    s.reserve(&any_line())?;
+    s.reserve()?;
     if allows(s.hand(), PartStep::Exclude, 0) {
         Ok(Some(try_exclusive(s, 0)))
     } else {
@@ -78,7 +78,7 @@ fn exclusive<S: Stepper>(s: &mut S) -> Result<Option<Lock>, NoMemory> {
 
 // Gives the lock back, where it is held, and says whether it was.
 fn given_back<S: Stepper>(s: &mut S) -> Result<bool, NoMemory> {
-    s.reserve(&any_line())?;
+    s.reserve()?;
     match s.hand().topics().hold {
         Hold::Shared => {
             if allows(s.hand(), PartStep::Unshare, 0) {
@@ -187,7 +187,7 @@ fn exclusive_untold_by(machine: &mut PlainMachine, actor: Actor) -> Result<Optio
     let mut seat = UntoldSeat {
         seat: machine.as_actor(actor),
     };
-    seat.reserve(&any_line())?;
+    seat.reserve()?;
     if allows(seat.hand(), PartStep::Exclude, 0) {
         Ok(Some(exclusive_untold(&mut seat)))
     } else {

@@ -31,8 +31,8 @@ impl Stepper for UntoldSeat<'_> {
         self.seat.hand()
     }
 
-    fn reserve(&mut self, line: &Line) -> Result<(), NoMemory> {
-        self.seat.reserve(line)
+    fn reserve(&mut self) -> Result<(), NoMemory> {
+        self.seat.reserve()
     }
 }
 

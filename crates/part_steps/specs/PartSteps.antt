@@ -1,5 +1,5 @@
 -- The steps of the machine's parts: what each needs of the hand, and which word it is on.
-use Rattle.std.specs.Prelude.{◌≡◌, ◌≢◌, ◌-◌, ◌^◌, ◌<◌, ◌≤◌, ◌⊎◌, ℕ, Bool, true, false, None, length, nat_lt}
+use Rattle.std.specs.Prelude.{◌≡◌, ◌≢◌, ◌-◌, ◌^◌, ◌<◌, ◌≤◌, ◌⊎◌, ℕ, Bool, true, false, None}
 use Rattle.core_views.specs.declared.actor.Actor.{Actor}
 use Rattle.core_views.specs.declared.actor.Actor.TheVariants.{Vcpu}
 use Rattle.core_views.specs.declared.topics.Hold.{Hold}
@@ -7,6 +7,7 @@ use Rattle.core_views.specs.declared.topics.Hold.TheVariants.{Loose, Shared, Owi
 use Rattle.core_views.specs.declared.topics.Stay.TheVariants.{Outside, Guest, Section}
 use Rattle.core_views.specs.declared.topics.Topics.{Topics}
 use Rattle.core_views.specs.Held.{Held}
+pub use Rattle.core_views.specs.Held.{has_line}
 use Rattle.core_views.specs.Sizes.{actors_of}
 use Rattle.spte_words.specs.declared.spte_kind.SpteKind.TheVariants as entry_kind
 use Rattle.spte_words.specs.Areas.{words_of_bits}
@@ -30,10 +31,6 @@ counts Exclusive = false
 -- A claim begins with the first word of the map, and goes on to the next one where it saw 0.
 abbrev pub GoesOnToWord : ℕ → Topics → Type 0
 GoesOnToWord word t = (word ≡ 0) ⊎ ((word ≡ t.claim.at) × (t.claim.seen ≡ 0))
-
--- The hand has a line that has no answer.
-abbrev pub has_line : Held → Bool
-has_line h = nat_lt (length h.answers) (length h.lines)
 
 -- The step is one of lines alone, in their order: it exchanges an entry of the tables, or is of a publication. No actor makes it that has
 -- no line left.

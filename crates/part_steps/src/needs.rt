@@ -124,9 +124,9 @@ fn may_give_old(hand: &Hand) -> bool
     requires { PartRests hand.now.core }
     ensures { result ≡ true → MayGiveOld hand.now.core }
 {
-    let sizes = &hand.state().sizes;
+    let sizes = &hand.progress().sizes;
     let topics = hand.topics();
-    let own = sizes.index_of(hand.state().actor);
+    let own = sizes.index_of(hand.progress().actor);
     topics.leaving.is_some()
         && topics.owned.is_none()
         && sizes.actors() <= next_watched(own, topics.watched)
@@ -149,14 +149,14 @@ pub fn has_needs(hand: &Hand, step: PartStep) -> bool
     requires { PartRests hand.now.core }
     ensures { result ≡ true → PartNeeds step hand.now.core }
 {
-    let sizes = &hand.state().sizes;
+    let sizes = &hand.progress().sizes;
     let map = map_of(sizes);
     let topics = hand.topics();
     let claim = &topics.claim;
-    let own = sizes.index_of(hand.state().actor);
+    let own = sizes.index_of(hand.progress().actor);
     match step {
         PartStep::Enter => {
-            matches!(hand.state().actor, Actor::Vcpu(_)) && topics.stay == Stay::Outside
+            matches!(hand.progress().actor, Actor::Vcpu(_)) && topics.stay == Stay::Outside
         }
         PartStep::Leave => topics.stay == Stay::Guest,
         PartStep::Begin => topics.stay == Stay::Outside,

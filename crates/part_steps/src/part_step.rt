@@ -335,10 +335,10 @@ pub fn part_task(hand: &Hand, step: PartStep, note: u64) -> Task
     ensures task { result ≡ part_task step (own_index hand.now.core) hand.now.core.topics note }
     ensures within { result.index < size_of (map_of hand.now.core.state.sizes) result.area }
 {
-    let sizes = &hand.state().sizes;
+    let sizes = &hand.progress().sizes;
     let map = &map_of(sizes);
     let topics = hand.topics();
-    let own = sizes.index_of(hand.state().actor);
+    let own = sizes.index_of(hand.progress().actor);
     match step {
         PartStep::Enter | PartStep::Leave | PartStep::Begin | PartStep::End => {
             own_task(step, own, note)
@@ -377,5 +377,5 @@ pub fn part_kind(hand: &Hand, step: PartStep, note: u64) -> Kind
     requires needs { PartNeeds step hand.now.core }
     ensures { result ≡ part_kind hand.now.core step note }
 {
-    kind_of(&hand.state().sizes, &part_task(hand, step, note))
+    kind_of(&hand.progress().sizes, &part_task(hand, step, note))
 }

@@ -8,7 +8,6 @@ use Rattle.core_views.specs.declared.kind.Kind.{Kind}
 use Rattle.core_views.specs.declared.place.Place.{Place}
 use Rattle.core_views.specs.declared.place.Place.TheVariants as place
 use Rattle.core_views.specs.declared.place.SlotChangePlace.{SlotChangePlace}
-use Rattle.core_views.specs.declared.trace.Command.{Command}
 use Rattle.core_views.specs.Held.{Held}
 use Rattle.part_steps.specs.PartTasks.{part_kind}
 use Rattle.mmu_core.specs.alone.LineAlone.{line_waits}
@@ -19,7 +18,7 @@ use Rattle.mmu_core.specs.lines.PartWaits.{part_seen, part_waits}
 use Rattle.mmu_core.specs.lines.Rests.{Rests}
 use Rattle.mmu_core.specs.machine.MayMake.{MayMake}
 use Rattle.mmu_core.specs.machine.Turns.{line_of, outcome_of}
-use Rattle.slot_change.specs.declared.job.SlotJob.{SlotJob}
+use Rattle.part_steps.specs.declared.part_step.PartStep.{PartStep}
 use Rattle.slot_change.specs.Places.{IsAt, MakesStep, ToldWay}
 use Rattle.step_seats.specs.Seats.{Seat}
 use Rattle.step_seats.specs.declared.turn.Turn.{Turn}
@@ -29,67 +28,63 @@ use Rattle.step_seats.proofs.Answering.{turn_is_done, turn_is_more}
 use Rattle.step_seats.proofs.LineParts.{place_may_make}
 use Rattle.step_seats.proofs.LineTurns.{made_line}
 
--- The hand's next line is this one, which stands at this place.
-pub record StandsInLine (p : SlotChangePlace) (job : SlotJob) (note : ℕ) (h : Held) : Type 0 where
-  pub left : length h.answers < length h.lines
+-- The hand's next line stands at this place.
+pub record StandsInLine (p : SlotChangePlace) (note : ℕ) (h : Held) : Type 0 where
   pub stands : place_at h.state.place h ≡ place.SlotChange p
-  pub command : (line_of h).command ≡ job.command
-  pub is_at : IsAt p job note h
+  pub is_at : IsAt p note h
 
-pub stands_in_line : (p : SlotChangePlace) (job : SlotJob) (note : ℕ) (h : Held) → length h.answers < length h.lines → Rests h
-    → place_at h.state.place h ≡ place.SlotChange p → (line_of h).command ≡ job.command
-    → KnowsPart (place_at h.state.place h) (line_of h).command h → note ≡ slot_change_note p h → StandsInLine p job note h
-stands_in_line p job note h left rests stands command knows is = record {
-  left = left;
-  stands = stands;
-  command = command;
-  is_at = record {
-    may = subst (λ n. MayMake (slot_change_part p h job.command) n h) (sym is) (place_may_make (place.SlotChange p) job.command h left rests stands command (slot_change_part p h job.command) refl);
-    knows = (subst (λ (q : Place). KnowsPart q (line_of h).command h) stands knows).1;
-  };
-}
+pub stands_in_line : (p : SlotChangePlace) (note : ℕ) (h : Held) → length h.answers < length h.lines → Rests h
+    → place_at h.state.place h ≡ place.SlotChange p → KnowsPart (place_at h.state.place h) (line_of h).command h → note ≡ slot_change_note p h
+    → StandsInLine p note h
+stands_in_line p note h left rests stands knows is =
+    let step : PartStep = slot_change_part p h (line_of h).command in
+    record {
+      stands = stands;
+      is_at = record {
+        left = left;
+        may = subst (λ n. MayMake step n h) (sym is) (place_may_make (place.SlotChange p) (line_of h).command h left rests stands refl step refl);
+        knows = (subst (λ (q : Place). KnowsPart q (line_of h).command h) stands knows).1;
+      };
+    }
 
 -- The step of its place was made.
-module _ (way : Option Seen) (p : SlotChangePlace) (job : SlotJob) (note : ℕ) (before after : Seat) (L : StandsInLine p job note before.hand)
-    (M : MakesStep way p job note before after) where
+module _ (way : Option Seen) (p : SlotChangePlace) (note : ℕ) (before after : Seat) (L : StandsInLine p note before.hand)
+    (M : MakesStep way p note before after) where
   outcome_is : outcome_of before.hand M.found ≡ slot_change_outcome p before.hand M.found
   outcome_is = ap (λ (q : Place). outcome_at q (line_of before.hand).command before.hand M.found) L.stands
-      ∙ ap (λ (c : Command). outcome_at (place.SlotChange p) c before.hand M.found) L.command
 
   turns : (turn : Turn Answer)
-      → Gives turn (part_waits (slot_change_part p before.hand job.command) before.hand.topics M.found)
-      (part_seen (slot_change_part p before.hand job.command) before.hand M.found) (turn_of (slot_change_outcome p before.hand M.found))
+      → Gives turn (part_waits (slot_change_part p before.hand (line_of before.hand).command) before.hand.topics M.found)
+      (part_seen (slot_change_part p before.hand (line_of before.hand).command) before.hand M.found) (turn_of (slot_change_outcome p before.hand M.found))
       → TurnsLine turn before after
   unfolding made_line
   turns turn gives = record {
-    makes = made_line (slot_change_part p before.hand job.command) note M.found before after L.is_at.may M.made;
+    makes = made_line (slot_change_part p before.hand (line_of before.hand).command) note M.found before after L.is_at.may M.made;
     gives = subst (λ (q : Place). Gives turn (line_waits q (line_of before.hand).command before.hand M.found)
-        (line_seen q (line_of before.hand).command before.hand M.found) (line_turn q (line_of before.hand).command before.hand M.found)) (sym L.stands)
-        (subst (λ (c : Command). Gives turn (line_waits (place.SlotChange p) c before.hand M.found) (line_seen (place.SlotChange p) c before.hand M.found)
-        (line_turn (place.SlotChange p) c before.hand M.found)) (sym L.command) gives);
+        (line_seen q (line_of before.hand).command before.hand M.found) (line_turn q (line_of before.hand).command before.hand M.found)) (sym L.stands) gives;
   }
 
   told_way : (x : Option Seen) → way ≡ x
-      → ToldWay x (part_waits (slot_change_part p before.hand job.command) before.hand.topics M.found)
-      (part_seen (slot_change_part p before.hand job.command) before.hand M.found)
-  told_way x is = subst (λ (y : Option Seen). ToldWay y (part_waits (slot_change_part p before.hand job.command) before.hand.topics M.found)
-      (part_seen (slot_change_part p before.hand job.command) before.hand M.found)) is M.told_way
+      → ToldWay x (part_waits (slot_change_part p before.hand (line_of before.hand).command) before.hand.topics M.found)
+      (part_seen (slot_change_part p before.hand (line_of before.hand).command) before.hand M.found)
+  told_way x is = subst (λ (y : Option Seen). ToldWay y (part_waits (slot_change_part p before.hand (line_of before.hand).command) before.hand.topics M.found)
+      (part_seen (slot_change_part p before.hand (line_of before.hand).command) before.hand M.found)) is M.told_way
 
-  free : way ≡ None → part_waits (slot_change_part p before.hand job.command) before.hand.topics M.found ≡ false
+  free : way ≡ None → part_waits (slot_change_part p before.hand (line_of before.hand).command) before.hand.topics M.found ≡ false
   free is = told_way None is
 
   pub change_waits : (seen : Seen) → way ≡ Some seen → TurnsLine (Wait seen) before after
   change_waits seen is = let t = told_way (Some seen) is in turns (Wait seen) (t.0, t.1)
 
   abbrev kind : Kind
-  kind = part_kind before.hand (slot_change_part p before.hand job.command) note
+  kind = part_kind before.hand (slot_change_part p before.hand (line_of before.hand).command) note
 
   pub change_done : (i : ℕ) (seen : List AnsweredLine) (x : AnsweredLine) → way ≡ None → seen ≡ after.hand.answers → i ≡ length before.hand.answers
       → i < length seen → x ≡ get_or seen i x → TurnsLine (Done x.answer) before after
   change_done i seen x is answers at below got =
-      turns (Done x.answer) (free is, turn_is_done before.hand after.hand kind M.found i seen x L.left M.made.hand answers at below got ∙ ap turn_of outcome_is)
+      turns (Done x.answer) (free is, turn_is_done before.hand after.hand kind M.found i seen x L.is_at.left M.made.hand answers at below got ∙ ap turn_of outcome_is)
 
   pub change_more : (i : ℕ) (seen : List AnsweredLine) → way ≡ None → seen ≡ after.hand.answers → i ≡ length before.hand.answers → length seen ≤ i
       → TurnsLine More before after
   change_more i seen is answers at few =
-      turns More (free is, turn_is_more before.hand after.hand kind M.found i seen L.left M.made.hand answers at few ∙ ap turn_of outcome_is)
+      turns More (free is, turn_is_more before.hand after.hand kind M.found i seen L.is_at.left M.made.hand answers at few ∙ ap turn_of outcome_is)

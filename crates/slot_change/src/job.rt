@@ -5,7 +5,8 @@ ghost use Rattle.slot_change.specs.Places.{IsAt, MakesStep};
 ghost use Rattle.step_seats.specs.LineTurns.{Says, TurnsLine};
 ghost use Rattle.step_seats.specs.Moves.{KeepsRoom};
 
-use core_views::{Answer, Command, Seen, SlotChangePlace};
+use crate::places;
+use core_views::{Answer, Seen, SlotChangePlace};
 use invalidate_seq::Snapshot;
 use mmu_core::{change_note, change_place, knows, rests};
 use part_steps::PartStep;
@@ -15,40 +16,12 @@ use step_seats::{Stepper, Turn};
 /// hand, which drives the job.
 #[derive(Clone, Copy, Debug, PartialEq, Eq, Drop)]
 pub struct SlotJob {
-    /// The place of the line among the lines of its actor, from 0.
+    /// The place of the line among the lines of its actor, from 0. The line itself is
+    /// the hand's.
     pub index: usize,
-    /// The line's command, one that changes a slot.
-    pub command: Command,
 }
 
 impl SlotJob {
-    // Makes the step of this place, and says what is in its way.
-    fn step<S: Stepper>(&self, s: &mut S, place: SlotChangePlace, note: u64) -> Option<Seen>
-        requires is_at { IsAt place self.now note (S.seat s.old).hand }
-        requires reserved { 0 < (S.seat s.old).room }
-        ensures makes { MakesStep result place self.now note (S.seat s.old) (S.seat s.new) }
-        ensures room { KeepsRoom (S.seat s.old) (S.seat s.new) }
-        ensures same { ((S.seat s.new).actor ≡ (S.seat s.old).actor) × (S.frame s.new ≡ S.frame s.old) }
-    {
-        match place {
-            SlotChangePlace::Refuse(_) => {
-                let _ = Snapshot::new().turn(s, note);
-                None
-            }
-            SlotChangePlace::Claim { begun } => self.claim(s, begun, note),
-            SlotChangePlace::Fill => self.fill(s, note),
-            SlotChangePlace::Role => self.role(s, note),
-            SlotChangePlace::Exclude => self.exclude(s, note),
-            SlotChangePlace::Close => self.close(s, note),
-            SlotChangePlace::Release => self.release(s, note),
-            SlotChangePlace::Watch => self.watch(s, note),
-            SlotChangePlace::Count => self.make(s, place, PartStep::Count, note),
-            SlotChangePlace::Publish => self.make(s, place, PartStep::Publish, note),
-            SlotChangePlace::Clear => self.make(s, place, PartStep::Clear, note),
-            SlotChangePlace::Give => self.make(s, place, PartStep::GiveOld, note),
-        }
-    }
-
     /// Makes the next step of the line, and says whether it is answered: `Done`, with
     /// the answer, behind its last step. `Wait` where a page was claimed by another
     /// actor meanwhile, the lock's word isn't 0, an invalidation is open, or another
@@ -56,8 +29,7 @@ impl SlotJob {
     pub fn turn<S: Stepper>(&mut self, s: &mut S) -> Turn<Answer>
         requires left { length (S.seat s.old).hand.answers < length (S.seat s.old).hand.lines }
         requires next { self.old.index ≡ length (S.seat s.old).hand.answers }
-        requires line { (line_of (S.seat s.old).hand).command ≡ self.old.command }
-        requires changes { changes_slot self.old.command ≡ true }
+        requires changes { changes_slot (line_of (S.seat s.old).hand).command ≡ true }
         requires reserved { 0 < (S.seat s.old).room }
         ensures turns { TurnsLine result (S.seat s.old) (S.seat s.new) }
         ensures says { Says result (line_of (S.seat s.old).hand) (S.seat s.old).hand (S.seat s.new).hand }
@@ -71,12 +43,39 @@ impl SlotJob {
         knows(hand);
         let place = change_place(hand);
         let note = change_note(place, hand);
-        if let Some(seen) = self.step(s, place, note) {
+        if let Some(seen) = step(s, place, note) {
             return Turn::Wait(seen);
         }
         match s.hand().answers().get(self.index) {
             Some(answered) => Turn::Done(answered.answer),
             None => Turn::More,
         }
+    }
+}
+
+// Makes the step of this place, and says what is in its way.
+fn step<S: Stepper>(s: &mut S, place: SlotChangePlace, note: u64) -> Option<Seen>
+    requires is_at { IsAt place note (S.seat s.old).hand }
+    requires reserved { 0 < (S.seat s.old).room }
+    ensures makes { MakesStep result place note (S.seat s.old) (S.seat s.new) }
+    ensures room { KeepsRoom (S.seat s.old) (S.seat s.new) }
+    ensures same { ((S.seat s.new).actor ≡ (S.seat s.old).actor) × (S.frame s.new ≡ S.frame s.old) }
+{
+    match place {
+        SlotChangePlace::Refuse(_) => {
+            let _ = Snapshot::new().turn(s, note);
+            None
+        }
+        SlotChangePlace::Claim { begun } => places::claim(s, begun, note),
+        SlotChangePlace::Fill => places::fill(s, note),
+        SlotChangePlace::Role => places::role(s, note),
+        SlotChangePlace::Exclude => places::exclude(s, note),
+        SlotChangePlace::Close => places::close(s, note),
+        SlotChangePlace::Release => places::release(s, note),
+        SlotChangePlace::Watch => places::watch(s, note),
+        SlotChangePlace::Count => places::make(s, place, PartStep::Count, note),
+        SlotChangePlace::Publish => places::make(s, place, PartStep::Publish, note),
+        SlotChangePlace::Clear => places::make(s, place, PartStep::Clear, note),
+        SlotChangePlace::Give => places::make(s, place, PartStep::GiveOld, note),
     }
 }

@@ -7,7 +7,6 @@ ghost use Rattle.part_steps.specs.declared.part_step.PartStep.TheVariants.{Relea
 ghost use Rattle.slot_change.specs.Places.{IsAt, IsPlain, MakesStep, lock_way};
 ghost use Rattle.step_seats.specs.Moves.{KeepsRoom};
 
-use crate::SlotJob;
 use core_views::{Hand, Seen, SlotChangePlace};
 use grace_period::Watch;
 use mmu_core::part_rests;
@@ -27,128 +26,125 @@ fn lock_way(word: u32, lock: Lock) -> Option<Seen>
     }
 }
 
-impl SlotJob {
-    // Claims a page for the new slot set.
-    pub(crate) fn claim<S: Stepper>(&self, s: &mut S, begun: bool, note: u64) -> Option<Seen>
-        requires is_at { IsAt (at.Claim begun) self.now note (S.seat s.old).hand }
-        requires reserved { 0 < (S.seat s.old).room }
-        ensures makes { MakesStep result (at.Claim begun) self.now note (S.seat s.old) (S.seat s.new) }
-        ensures room { KeepsRoom (S.seat s.old) (S.seat s.new) }
-        ensures same { ((S.seat s.new).actor ≡ (S.seat s.old).actor) × (S.frame s.new ≡ S.frame s.old) }
-    {
-        let mut claim = Claim { begun };
-        claim.turn(s, note).in_way()
-    }
+// Claims a page for the new slot set.
+pub(crate) fn claim<S: Stepper>(s: &mut S, begun: bool, note: u64) -> Option<Seen>
+    requires is_at { IsAt (at.Claim begun) note (S.seat s.old).hand }
+    requires reserved { 0 < (S.seat s.old).room }
+    ensures makes { MakesStep result (at.Claim begun) note (S.seat s.old) (S.seat s.new) }
+    ensures room { KeepsRoom (S.seat s.old) (S.seat s.new) }
+    ensures same { ((S.seat s.new).actor ≡ (S.seat s.old).actor) × (S.frame s.new ≡ S.frame s.old) }
+{
+    let mut claim = Claim { begun };
+    claim.turn(s, note).in_way()
+}
 
-    // Fills the next word of the new slot set's page. It never waits.
-    pub(crate) fn fill<S: Stepper>(&self, s: &mut S, note: u64) -> Option<Seen>
-        requires is_at { IsAt at.Fill self.now note (S.seat s.old).hand }
-        requires reserved { 0 < (S.seat s.old).room }
-        ensures makes { MakesStep result at.Fill self.now note (S.seat s.old) (S.seat s.new) }
-        ensures room { KeepsRoom (S.seat s.old) (S.seat s.new) }
-        ensures same { ((S.seat s.new).actor ≡ (S.seat s.old).actor) × (S.frame s.new ≡ S.frame s.old) }
-    {
-        let hand = s.hand();
-        let owned = hand.topics().owned;
-        let value = set_word(hand.slots(), &self.command, words_filled(owned));
-        let mut fill = Fill::new(page_owned(owned));
-        let _ = fill.turn(s, value, note);
-        None
-    }
+// Fills the next word of the new slot set's page. It never waits.
+pub(crate) fn fill<S: Stepper>(s: &mut S, note: u64) -> Option<Seen>
+    requires is_at { IsAt at.Fill note (S.seat s.old).hand }
+    requires reserved { 0 < (S.seat s.old).room }
+    ensures makes { MakesStep result at.Fill note (S.seat s.old) (S.seat s.new) }
+    ensures room { KeepsRoom (S.seat s.old) (S.seat s.new) }
+    ensures same { ((S.seat s.new).actor ≡ (S.seat s.old).actor) × (S.frame s.new ≡ S.frame s.old) }
+{
+    let hand = s.hand();
+    let owned = hand.topics().owned;
+    let value = set_word(hand.slots(), &hand.line().command, words_filled(owned));
+    let mut fill = Fill::new(page_owned(owned));
+    let _ = fill.turn(s, value, note);
+    None
+}
 
-    // Stores the role of the new slot set's page. It never waits.
-    pub(crate) fn role<S: Stepper>(&self, s: &mut S, note: u64) -> Option<Seen>
-        requires is_at { IsAt at.Role self.now note (S.seat s.old).hand }
-        requires reserved { 0 < (S.seat s.old).room }
-        ensures makes { MakesStep result at.Role self.now note (S.seat s.old) (S.seat s.new) }
-        ensures room { KeepsRoom (S.seat s.old) (S.seat s.new) }
-        ensures same { ((S.seat s.new).actor ≡ (S.seat s.old).actor) × (S.frame s.new ≡ S.frame s.old) }
-    {
-        let mut fill = Fill::new(page_owned(s.hand().topics().owned));
-        let _ = fill.turn(s, SLOT_SET_ROLE, note);
-        None
-    }
+// Stores the role of the new slot set's page. It never waits.
+pub(crate) fn role<S: Stepper>(s: &mut S, note: u64) -> Option<Seen>
+    requires is_at { IsAt at.Role note (S.seat s.old).hand }
+    requires reserved { 0 < (S.seat s.old).room }
+    ensures makes { MakesStep result at.Role note (S.seat s.old) (S.seat s.new) }
+    ensures room { KeepsRoom (S.seat s.old) (S.seat s.new) }
+    ensures same { ((S.seat s.new).actor ≡ (S.seat s.old).actor) × (S.frame s.new ≡ S.frame s.old) }
+{
+    let mut fill = Fill::new(page_owned(s.hand().topics().owned));
+    let _ = fill.turn(s, SLOT_SET_ROLE, note);
+    None
+}
 
-    // Tries to hold the lock alone.
-    pub(crate) fn exclude<S: Stepper>(&self, s: &mut S, note: u64) -> Option<Seen>
-        requires is_at { IsAt at.Exclude self.now note (S.seat s.old).hand }
-        requires reserved { 0 < (S.seat s.old).room }
-        ensures makes { MakesStep result at.Exclude self.now note (S.seat s.old) (S.seat s.new) }
-        ensures room { KeepsRoom (S.seat s.old) (S.seat s.new) }
-        ensures same { ((S.seat s.new).actor ≡ (S.seat s.old).actor) × (S.frame s.new ≡ S.frame s.old) }
-    {
-        part_rests(s.hand());
-        let word = map_of(&s.hand().state().sizes).word_of(Area::Lock, 0);
-        lock_way(word, try_exclusive(s, note))
-    }
+// Tries to hold the lock alone.
+pub(crate) fn exclude<S: Stepper>(s: &mut S, note: u64) -> Option<Seen>
+    requires is_at { IsAt at.Exclude note (S.seat s.old).hand }
+    requires reserved { 0 < (S.seat s.old).room }
+    ensures makes { MakesStep result at.Exclude note (S.seat s.old) (S.seat s.new) }
+    ensures room { KeepsRoom (S.seat s.old) (S.seat s.new) }
+    ensures same { ((S.seat s.new).actor ≡ (S.seat s.old).actor) × (S.frame s.new ≡ S.frame s.old) }
+{
+    part_rests(s.hand());
+    let word = map_of(&s.hand().progress().sizes).word_of(Area::Lock, 0);
+    lock_way(word, try_exclusive(s, note))
+}
 
-    // Gives the lock back, since invalidations are open: their number is in its way.
-    pub(crate) fn close<S: Stepper>(&self, s: &mut S, note: u64) -> Option<Seen>
-        requires is_at { IsAt at.Close self.now note (S.seat s.old).hand }
-        requires reserved { 0 < (S.seat s.old).room }
-        ensures makes { MakesStep result at.Close self.now note (S.seat s.old) (S.seat s.new) }
-        ensures room { KeepsRoom (S.seat s.old) (S.seat s.new) }
-        ensures same { ((S.seat s.new).actor ≡ (S.seat s.old).actor) × (S.frame s.new ≡ S.frame s.old) }
-    {
-        part_rests(s.hand());
-        let counted = self.counted(s.hand());
-        unlock(s, note);
-        Some(counted)
-    }
+// Gives the lock back, since invalidations are open: their number is in its way.
+pub(crate) fn close<S: Stepper>(s: &mut S, note: u64) -> Option<Seen>
+    requires is_at { IsAt at.Close note (S.seat s.old).hand }
+    requires reserved { 0 < (S.seat s.old).room }
+    ensures makes { MakesStep result at.Close note (S.seat s.old) (S.seat s.new) }
+    ensures room { KeepsRoom (S.seat s.old) (S.seat s.new) }
+    ensures same { ((S.seat s.new).actor ≡ (S.seat s.old).actor) × (S.frame s.new ≡ S.frame s.old) }
+{
+    part_rests(s.hand());
+    let counted = counted(s.hand());
+    unlock(s, note);
+    Some(counted)
+}
 
-    // Gives the lock back.
-    pub(crate) fn release<S: Stepper>(&self, s: &mut S, note: u64) -> Option<Seen>
-        requires is_at { IsAt at.Release self.now note (S.seat s.old).hand }
-        requires reserved { 0 < (S.seat s.old).room }
-        ensures makes { MakesStep result at.Release self.now note (S.seat s.old) (S.seat s.new) }
-        ensures room { KeepsRoom (S.seat s.old) (S.seat s.new) }
-        ensures same { ((S.seat s.new).actor ≡ (S.seat s.old).actor) × (S.frame s.new ≡ S.frame s.old) }
-    {
-        unlock(s, note);
-        None
-    }
+// Gives the lock back.
+pub(crate) fn release<S: Stepper>(s: &mut S, note: u64) -> Option<Seen>
+    requires is_at { IsAt at.Release note (S.seat s.old).hand }
+    requires reserved { 0 < (S.seat s.old).room }
+    ensures makes { MakesStep result at.Release note (S.seat s.old) (S.seat s.new) }
+    ensures room { KeepsRoom (S.seat s.old) (S.seat s.new) }
+    ensures same { ((S.seat s.new).actor ≡ (S.seat s.old).actor) × (S.frame s.new ≡ S.frame s.old) }
+{
+    unlock(s, note);
+    None
+}
 
-    // Looks at the next actor.
-    pub(crate) fn watch<S: Stepper>(&self, s: &mut S, note: u64) -> Option<Seen>
-        requires is_at { IsAt at.Watch self.now note (S.seat s.old).hand }
-        requires reserved { 0 < (S.seat s.old).room }
-        ensures makes { MakesStep result at.Watch self.now note (S.seat s.old) (S.seat s.new) }
-        ensures room { KeepsRoom (S.seat s.old) (S.seat s.new) }
-        ensures same { ((S.seat s.new).actor ≡ (S.seat s.old).actor) × (S.frame s.new ≡ S.frame s.old) }
-    {
-        let mut watch = Watch::under_way();
-        watch.turn(s, note).in_way()
-    }
+// Looks at the next actor.
+pub(crate) fn watch<S: Stepper>(s: &mut S, note: u64) -> Option<Seen>
+    requires is_at { IsAt at.Watch note (S.seat s.old).hand }
+    requires reserved { 0 < (S.seat s.old).room }
+    ensures makes { MakesStep result at.Watch note (S.seat s.old) (S.seat s.new) }
+    ensures room { KeepsRoom (S.seat s.old) (S.seat s.new) }
+    ensures same { ((S.seat s.new).actor ≡ (S.seat s.old).actor) × (S.frame s.new ≡ S.frame s.old) }
+{
+    let mut watch = Watch::under_way();
+    watch.turn(s, note).in_way()
+}
 
-    // Makes a step that no part has a call for: the count, the publication, and the
-    // role and the page of the old set. It never waits.
-    pub(crate) fn make<S: Stepper>(
-        &self,
-        s: &mut S,
-        place: SlotChangePlace,
-        step: PartStep,
-        note: u64,
-    ) -> Option<Seen>
-        requires is_at { IsAt place self.now note (S.seat s.old).hand }
-        requires plain { IsPlain place step }
-        requires reserved { 0 < (S.seat s.old).room }
-        ensures makes { MakesStep result place self.now note (S.seat s.old) (S.seat s.new) }
-        ensures room { KeepsRoom (S.seat s.old) (S.seat s.new) }
-        ensures same { ((S.seat s.new).actor ≡ (S.seat s.old).actor) × (S.frame s.new ≡ S.frame s.old) }
-    {
-        let _ = make_part(s, step, note);
-        None
-    }
+// Makes a step that no part has a call for: the count, the publication, and the
+// role and the page of the old set. It never waits.
+pub(crate) fn make<S: Stepper>(
+    s: &mut S,
+    place: SlotChangePlace,
+    step: PartStep,
+    note: u64,
+) -> Option<Seen>
+    requires is_at { IsAt place note (S.seat s.old).hand }
+    requires plain { IsPlain place step }
+    requires reserved { 0 < (S.seat s.old).room }
+    ensures makes { MakesStep result place note (S.seat s.old) (S.seat s.new) }
+    ensures room { KeepsRoom (S.seat s.old) (S.seat s.new) }
+    ensures same { ((S.seat s.new).actor ≡ (S.seat s.old).actor) × (S.frame s.new ≡ S.frame s.old) }
+{
+    let _ = make_part(s, step, note);
+    None
+}
 
-    // How many invalidations are open: what the step has seen that gives the lock
-    // back for them.
-    fn counted(&self, hand: &Hand) -> Seen
-        requires sizes { AreSizes hand.now.core.state.sizes }
-        ensures { result ≡ part_seen Release hand.now.core 0 }
-    {
-        Seen {
-            word: map_of(&hand.state().sizes).word_of_count(0),
-            value: hand.topics().invalidations.count,
-        }
+// How many invalidations are open: what the step has seen that gives the lock
+// back for them.
+fn counted(hand: &Hand) -> Seen
+    requires sizes { AreSizes hand.now.core.state.sizes }
+    ensures { result ≡ part_seen Release hand.now.core 0 }
+{
+    Seen {
+        word: map_of(&hand.progress().sizes).word_of_count(0),
+        value: hand.topics().invalidations.count,
     }
 }

@@ -86,7 +86,7 @@ fn expect_actor(machine: &PlainMachine, actor: Actor) -> Result<(), Fail>
 fn processor_makes(machine: &mut PlainMachine, step: PartStep) -> Result<(), Fail> {
     expect_actor(machine, Actor::Vcpu(0))?;
     let mut seat = machine.as_actor(Actor::Vcpu(0));
-    seat.reserve(&setting(0))?;
+    seat.reserve()?;
     if !allows(seat.hand(), step, 0) {
         return Err(Fail::new("the processor may not make it"));
     }
@@ -100,15 +100,15 @@ fn line_left(hand: &Hand) -> Option<Line>
     ensures line { IfSome result (λ line. line ≡ line_of hand.now.core) }
 {
     let next = hand.next_line()?;
-    match hand.state().place {
+    match hand.progress().place {
         Place::Between => Some(next),
-        Place::Access(_) | Place::SlotChange(_) => Some(hand.state().line),
+        Place::Access(_) | Place::SlotChange(_) => Some(hand.progress().line),
     }
 }
 
 // Makes a turn of the next line of the seat, where it sets a slot.
 fn turn<S: Stepper>(s: &mut S) -> Result<Turn<Answer>, Fail> {
-    s.reserve(&setting(0))?;
+    s.reserve()?;
     let Some(line) = line_left(s.hand()) else {
         return Err(Fail::new("no line is left"));
     };

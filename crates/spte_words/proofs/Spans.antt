@@ -1,7 +1,7 @@
 -- The runs of the levels: their numbers, and how far a child lies from its leaf's first frame.
-use Rattle.std.proofs.Common.{◌≡◌, ◌+◌, ◌*◌, ◌-◌, ◌^◌, ◌<◌, ◌≤◌, ℕ, refl, arith}
-use Rattle.std.proofs.lemmas.Nat.{pow-add}
-use Rattle.spte_words.specs.Entries.{level_span}
+use Rattle.std.proofs.Common.{◌≡◌, ◌+◌, ◌*◌, ◌-◌, ◌^◌, ◌<◌, ◌≤◌, ◌%◌, ℕ, refl, arith}
+use Rattle.std.proofs.lemmas.Nat.{mod_below, pow-add}
+use Rattle.spte_words.specs.Entries.{mapped_frame, frame_in, level_span}
 
 -- the four levels
 pub span_1 : level_span 1 ≡ 1
@@ -37,3 +37,15 @@ child_within level i from to small = grind (arith, spans)
 -- Each run has a page.
 pub span_positive : (level : ℕ) → 1 ≤ level → level ≤ 4 → 0 < level_span level
 span_positive level from to = grind (arith, spans)
+
+-- A place in a run is below the greatest run's end.
+pub offset_small : (level gfn : ℕ) → 1 ≤ level → level ≤ 4 → gfn % level_span level < 134217728
+offset_small level gfn from to =
+    let least : 0 < level_span level = span_positive level from to in
+    let most : level_span level ≤ 134217728 = grind (arith, spans) in
+    omega (arith, mod_below gfn (level_span level) least, most)
+
+-- A leaf of level 1 has the frame of one guest frame, its own.
+pub mapped_frame_1 : (leaf gfn : ℕ) → mapped_frame 1 leaf gfn ≡ frame_in leaf
+unfolding mapped_frame level_span
+mapped_frame_1 leaf gfn = let least : gfn % 1 < 1 = mod_below gfn 1 (omega arith) in omega (arith, least)

@@ -28,6 +28,10 @@ leaf_word level frame w hw mw = 2 ^ 0 + bit_if 1 w + 2 ^ 2 + bit_if 7 (nat_lt 1 
 unfoldable pub frame_in : ℕ → ℕ
 frame_in word = word / 2 ^ 12 % 2 ^ 40
 
+-- the frame of a guest frame that is in the run of a leaf at this level: the leaf's own is that of the run's first
+unfoldable pub mapped_frame : ℕ → ℕ → ℕ → ℕ
+mapped_frame level leaf gfn = frame_in leaf + gfn % level_span level
+
 unfoldable pub can_write : ℕ → Bool
 can_write word = has_bit 1 word
 

@@ -1,5 +1,5 @@
 ghost use Rattle.std.specs.Prelude.{◌≡◌, ℕ, ◌+◌, ◌<◌, ◌≤◌, ◌^◌};
-ghost use Rattle.spte_words.specs.Entries.{absent_word, frozen_word, table_word, leaf_word, frame_in, can_write, host_writable, mmu_writable, kind_of, with_write, without_write, child_word, level_span};
+ghost use Rattle.spte_words.specs.Entries.{absent_word, frozen_word, table_word, leaf_word, mapped_frame, frame_in, can_write, host_writable, mmu_writable, kind_of, with_write, without_write, child_word, level_span};
 
 use crate::SpteKind;
 use crate::bit::bit_if;
@@ -109,6 +109,17 @@ impl Spte {
         ensures { result ≡ frame_in self }
     {
         self.word / FRAME % (1 << 40)
+    }
+
+    /// The frame of this guest frame, which is in the run of the leaf, of level 1 to 3:
+    /// the leaf's own frame is that of the first guest frame of its run.
+    #[tactic(auto, unfolding(crate::specs::Entries::mapped_frame, crate::specs::Entries::frame_in), using(crate::proofs::Spans::span_positive, crate::proofs::Spans::offset_small))]
+    pub fn mapped_frame(self, level: u8, gfn: u64) -> u64
+        requires level_from { 1 ≤ level }
+        requires level_to { level ≤ 4 }
+        ensures { result ≡ mapped_frame level self gfn }
+    {
+        self.frame() + gfn % Spte::level_span(level)
     }
 
     /// Whether the guest may write through it.

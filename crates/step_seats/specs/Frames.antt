@@ -2,6 +2,7 @@
 use Rattle.std.specs.Prelude.{ℕ, List, [], map, slice_set}
 use Rattle.core_views.specs.declared.sizes.Sizes.{Sizes}
 use Rattle.core_views.specs.Held.{Handful}
+use Rattle.core_views.specs.Sizes.{no_sizes}
 use Rattle.step_seats.specs.Machines.{Machine}
 
 -- Which machine it borrows, its sizes, and the room that was taken in each of the other hands; 0 stands at its own place.
@@ -22,4 +23,4 @@ frame_of name m own_place = record { borrowed = name; sizes = m.sizes; rooms = o
 
 -- the frame of no machine
 abbrev pub no_frame : Frame
-no_frame = record { borrowed = 0; sizes = record { pages = 0; frames = 0; words = 0; pool = 0; cache = 0; vcpus = 0; hosts = 0; workers = 0 }; rooms = [] }
+no_frame = record { borrowed = 0; sizes = no_sizes; rooms = [] }

@@ -4,7 +4,7 @@ ghost use Rattle.step_seats.specs.Frames.{frame_of};
 ghost use Rattle.step_seats.specs.Machines.{seat_in};
 
 use crate::{PlainMachine, Stepper};
-use core_views::{Hand, Kind, Line, NoMemory};
+use core_views::{Hand, Kind, NoMemory};
 use std::marker::{Model, PhantomData};
 
 /// What the steps of a seat at a plain machine leave as it is: which machine it
@@ -45,7 +45,7 @@ impl Stepper for ActorSeat<'_> {
         self.machine.hand(self.index)
     }
 
-    fn reserve(&mut self, _line: &Line) -> Result<(), NoMemory> {
+    fn reserve(&mut self) -> Result<(), NoMemory> {
         self.machine.reserve(self.index)
     }
 }

@@ -94,11 +94,13 @@ fn is_same(actor: Actor, other: Actor) -> bool
 fn lines_of(alloc: Global, actor: Actor, lines: &[Line]) -> Result<Vec<Line>, NoMemory>
     ensures { IfOk result (λ v. v.items ≡ lines_of actor lines.now) }
 {
-    let own = lines
-        .iter()
-        .copied()
-        .filter(|line| is_same(actor, line.actor));
-    Ok(own.collect(alloc)?)
+    let mut own = Vec::new(alloc);
+    for line in lines {
+        if is_same(actor, line.actor) {
+            own.push(line.clone()?)?;
+        }
+    }
+    Ok(own)
 }
 
 /// The hands of a machine of these sizes at its start, each with its actor's

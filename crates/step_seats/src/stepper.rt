@@ -5,7 +5,7 @@ ghost use Rattle.step_seats.specs.Acts.{Acts};
 ghost use Rattle.step_seats.specs.Moves.{HasItsRoom, KeepsRoom};
 ghost use Rattle.step_seats.specs.Where.{HasHand};
 
-use core_views::{Hand, Kind, Line, NoMemory};
+use core_views::{Hand, Kind, NoMemory};
 
 /// The seat of one actor at the words of the machine: it makes the steps of
 /// its actor's hand, one word at a time.
@@ -38,9 +38,9 @@ pub trait Stepper {
         ensures reached { ∥ HandReached (seat self.now).hand ∥₁ }
         ensures has { IfSome (seat self.now).tells.world (HasHand (seat self.now).actor (seat self.now).hand) };
 
-    /// Takes the room that this line needs in the hand. It changes no word and
+    /// Takes the room that the hand's next line needs in it. It changes no word and
     /// no hand, whatever it answers; where it is refused, no room either.
-    fn reserve(&mut self, line: &Line) -> Result<(), NoMemory>
+    fn reserve(&mut self) -> Result<(), NoMemory>
         ensures hand { (seat self.new).hand ≡ (seat self.old).hand }
         ensures room { OnOk result (0 < (seat self.new).room) }
         ensures refused { OnErr result ((seat self.new).room ≡ (seat self.old).room) }

@@ -21,7 +21,7 @@ fn step<S: Stepper>(seat: &mut S, line: &Line) -> Result<Option<u64>, NoMemory>
     ensures told { LeadsOn (S.seat seat.old).tells.world (S.seat seat.new).tells.world }
     ensures same { ((S.seat seat.new).actor ≡ (S.seat seat.old).actor) × (S.frame seat.new ≡ S.frame seat.old) }
 {
-    seat.reserve(line)?;
+    seat.reserve()?;
     let hand = seat.hand();
     if hand.next_line().is_none() {
         return Ok(None);

@@ -79,7 +79,7 @@ impl Claim {
         ensures same { ((S.seat s.new).actor ≡ (S.seat s.old).actor) × (S.frame s.new ≡ S.frame s.old) }
     {
         part_rests(s.hand());
-        let map = map_of(&s.hand().state().sizes);
+        let map = map_of(&s.hand().progress().sizes);
         let claim = s.hand().topics().claim;
         if self.begun && claim.seen > 0 {
             let word = map.word_of(Area::PoolMap, claim.at);

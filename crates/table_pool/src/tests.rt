@@ -81,7 +81,7 @@ fn expect_claim<S: Stepper>(seat: &S, job: &Claim) -> Result<(), Fail>
 {
     let hand = seat.hand();
     part_rests(hand);
-    let words = map_of(&hand.state().sizes).size_of(Area::PoolMap);
+    let words = map_of(&hand.progress().sizes).size_of(Area::PoolMap);
     let is_over = job.begun && hand.topics().claim.at >= words as u64;
     if hand.next_line().is_some() || hand.topics().owned.is_some() || is_over {
         return Err(Fail::new("the claim may not go on"));

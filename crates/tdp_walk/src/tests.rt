@@ -54,17 +54,17 @@ fn ends_at_the_empty_root(rt: HostRuntime) -> Result<(), Fail> {
             op: Op::Read,
         },
     };
-    seat.reserve(&line)?;
+    seat.reserve()?;
     assert!(rt; allows(seat.hand(), PartStep::Begin, 0));
     let _ = make_part(&mut seat, PartStep::Begin, 0);
     let mut walk = Walk::new(5);
-    seat.reserve(&line)?;
+    seat.reserve()?;
     assert!(rt; allows(seat.hand(), PartStep::Root, 0));
     assert!(rt; seat.hand().topics().stay == Stay::Section);
     assert_eq!(rt; walk.turn(&mut seat, 0), Turn::More);
     assert_eq!(rt; seat.hand().topics().walk.level, 4);
     assert_eq!(rt; seat.hand().topics().walk.root, 0);
-    seat.reserve(&line)?;
+    seat.reserve()?;
     assert!(rt; allows(seat.hand(), PartStep::Walk(5), 0));
     assert_eq!(rt;
         walk.turn(&mut seat, 0),

@@ -16,6 +16,7 @@ use Rattle.core_views.specs.Slots.{is_write}
 use Rattle.fault_install.specs.declared.fault.FaultJob.{FaultJob}
 use Rattle.fault_install.specs.declared.fault.Faulted.{Faulted}
 use Rattle.fault_install.specs.Faults.{AnswersBy, EndsBy, TurnsAt, TurnsFault, WaitsBy, end_turn}
+use Rattle.mmu_core.specs.lines.Cached.{frame_used}
 use Rattle.mmu_core.specs.declared.outcome.Outcome.{Outcome}
 use Rattle.mmu_core.specs.declared.outcome.Outcome.TheVariants as outcome
 use Rattle.mmu_core.specs.lines.FaultKnows.{EndKnows}
@@ -37,10 +38,10 @@ use Rattle.core_views.specs.Held.{Held}
 use Rattle.core_views.specs.Traces.{IsCommandFor}
 use Rattle.spte_words.specs.declared.area.Area.TheVariants as area
 use Rattle.spte_words.specs.Areas.{content_index, place, total}
-use Rattle.spte_words.specs.Entries.{frame_in}
 use Rattle.spte_words.proofs.Indices.{content_within}
 use Rattle.spte_words.proofs.Places.{place_below}
 use Rattle.host_map.specs.Touching.{touch_kind}
+use Rattle.part_steps.specs.PartBounds.{IsAtLeafLevel}
 use Rattle.part_steps.specs.declared.task.Task.{Task}
 use Rattle.core_views.specs.declared.topics.Stay.{Stay}
 use Rattle.part_steps.specs.declared.part_step.PartStep.{PartStep}
@@ -97,11 +98,14 @@ touch_same Read i = refl
 touch_same (Write x) i = refl
 touch_same (Add x) i = refl
 
+pub touch_level : (job : AccessJob) (h : Held) → StandsAt Touch job h → IsAtLeafLevel h.state.used
+touch_level job h S = (rests_on Touch job h S).level
+
 pub touches : (job : AccessJob) (h : Held) → StandsAt Touch job h → (touch_of job.op 0).written < 2 ^ 64
-    → (frame_in h.state.leaf < h.state.sizes.frames) × (job.word < h.state.sizes.words) × Enabled h (touch_kind h.state.sizes (frame_in h.state.leaf) job.word job.op 0)
+    → (frame_used job.gfn h.state < h.state.sizes.frames) × (job.word < h.state.sizes.words) × Enabled h (touch_kind h.state.sizes (frame_used job.gfn h.state) job.word job.op 0)
 touches job h S small =
     let z : Sizes = h.state.sizes in
-    let frame : ℕ = frame_in h.state.leaf in
+    let frame : ℕ = frame_used job.gfn h.state in
     let there = rests_on Touch job h S in
     let index : ℕ = content_index (map_of z) frame job.word in (
       there.frame,

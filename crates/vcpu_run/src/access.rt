@@ -40,7 +40,7 @@ fn place_of(hand: &Hand, job: &AccessJob) -> AccessPlace
     requires access { (line_of hand.now.core).command ≡ Access job.now.gfn job.now.word job.now.op }
     ensures { place_at hand.now.core.state.place hand.now.core ≡ place.Access result }
 {
-    match hand.state().place {
+    match hand.progress().place {
         Place::Between => AccessPlace::Enter { again: false },
         Place::Access(place) => place,
         _ => unreachable!(),
@@ -67,7 +67,8 @@ impl AccessJob {
         ensures enabled { Enabled hand.now.core (touch_kind hand.now.core.state.sizes result self.now.word self.now.op 0) }
     {
         let _ = operand(self.op);
-        Spte::from_word(hand.state().leaf).frame()
+        let used = hand.progress().used;
+        Spte::from_word(used.leaf).mapped_frame(used.level, self.gfn)
     }
 
     // Makes the step of a stay in the guest.

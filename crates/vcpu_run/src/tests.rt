@@ -193,9 +193,9 @@ fn line_left(hand: &Hand) -> Option<Line>
     ensures line { IfSome result (λ line. line ≡ line_of hand.now.core) }
 {
     let next = hand.next_line()?;
-    match hand.state().place {
+    match hand.progress().place {
         Place::Between => Some(next),
-        Place::Access(_) | Place::SlotChange(_) => Some(hand.state().line),
+        Place::Access(_) | Place::SlotChange(_) => Some(hand.progress().line),
     }
 }
 

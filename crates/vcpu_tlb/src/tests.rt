@@ -58,15 +58,15 @@ fn enters_and_leaves(rt: HostRuntime) -> Result<(), Fail> {
     let mut machine = PlainMachine::new(alloc, &trace)?;
     let _sizes = machine.sizes();
     let mut seat = machine.as_actor(Actor::Vcpu(0));
-    seat.reserve(&line())?;
+    seat.reserve()?;
     assert!(rt; allows(seat.hand(), PartStep::Pause, 0));
     assert!(rt; !paused(&mut seat, 0));
-    seat.reserve(&line())?;
+    seat.reserve()?;
     assert!(rt; !allows(seat.hand(), PartStep::Leave, 0));
     assert!(rt; allows(seat.hand(), PartStep::Enter, 1));
     assert_eq!(rt; enter(&mut seat, 1), Entered::In);
     assert_eq!(rt; seat.hand().cache().len(), 0);
-    seat.reserve(&line())?;
+    seat.reserve()?;
     assert!(rt; !allows(seat.hand(), PartStep::Enter, 0));
     assert!(rt; allows(seat.hand(), PartStep::Leave, 0));
     leave(&mut seat, 0);

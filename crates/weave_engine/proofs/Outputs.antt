@@ -42,6 +42,7 @@ use Rattle.weave_engine.specs.Replays.{EachRunsAlone, Replays, ReplaysUntil, Run
 use Rattle.weave_engine.specs.Turning.{MayStop}
 use Rattle.weave_engine.specs.Writes.{Buffers, ReplaysBy, RunsAndPuts, WritesLines}
 use Rattle.weave_engine.specs.Woven.{how_ended}
+use Rattle.weave_engine.specs.declared.ran.OpenLine.{OpenLine}
 use Rattle.weave_engine.specs.declared.ran.How.{How}
 use Rattle.weave_engine.specs.declared.ran.How.TheVariants.{Done, WriteFault}
 use Rattle.weave_engine.proofs.Fed.{fed_append}
@@ -140,13 +141,13 @@ writes_all trace z lines count start end_ before here after waited waits piece r
 
 -- How a replay ended says what it wrote.
 module _ (trace : Trace) (closing : World Held) (before after : Option (List ℕ)) where
-  pub replays_by : (came : Result (Option Line) Stop) (how : How) → how_ended came ≡ Some how → WritesLines trace closing before after came → ReplaysBy trace closing before after how
+  pub replays_by : (came : Result (Option OpenLine) Stop) (how : How) → how_ended came ≡ Some how → WritesLines trace closing before after came → ReplaysBy trace closing before after how
   replays_by (Ok None) how is writes = let e : Done ≡ how = cc is in subst (ReplaysBy trace closing before after) e writes
   replays_by (Ok (Some line)) how is writes = absurd writes
   replays_by (Err Failed) how is writes = let e : WriteFault ≡ how = cc is in subst (ReplaysBy trace closing before after) e writes
   replays_by (Err NoMemory) how is writes = absurd (cc is)
 
-  pub replay_refused : (came : Result (Option Line) Stop) → how_ended came ≡ None → WritesLines trace closing before after came → WritesLines trace closing before after (Err NoMemory)
+  pub replay_refused : (came : Result (Option OpenLine) Stop) → how_ended came ≡ None → WritesLines trace closing before after came → WritesLines trace closing before after (Err NoMemory)
   replay_refused (Ok None) is writes = absurd (cc is)
   replay_refused (Ok (Some line)) is writes = absurd writes
   replay_refused (Err Failed) is writes = absurd (cc is)

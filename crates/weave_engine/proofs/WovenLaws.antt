@@ -3,6 +3,7 @@ use Rattle.std.proofs.Common.{◌≡◌, ◌⊎◌, inl, inr, ◌<◌, ◌≤◌
 use Rattle.std.proofs.Math.ListN.{length-map}
 use Rattle.std.proofs.lemmas.Bool.Decides.{nat_tests}
 use Rattle.std.proofs.lemmas.List.{append-nil, length-take}
+use Rattle.std.specs.Option.{option_map}
 use Rattle.std.specs.Prelude.{false, Some, None, map, take}
 use Rattle.std.specs.declared.option.Option.{Option}
 use Rattle.std.specs.List.Sorted.{IsStrictlyIncreasing}
@@ -41,7 +42,7 @@ use Rattle.weave_engine.specs.Rounds.{AllAnswered}
 use Rattle.weave_engine.specs.Turning.{HasNoLineLeft, IsWithin, MayStop, RunsItems, RunsItemsSoFar}
 use Rattle.weave_engine.specs.Weaves.{FirstOpen, FollowsBoth, FollowsSoFar, IsFirstOpen, RunsAllRounds, RunsSomeRounds, Weaves, WeavesAll, WeavesPart, WeavesSoFar, lines_above, open_text, unfinished_text}
 use Rattle.weave_engine.specs.Writes.{RunsAndPuts}
-use Rattle.weave_engine.specs.Woven.{WeavesUntil, WritesUntil, WritesWoven}
+use Rattle.weave_engine.specs.Woven.{WeavesUntil, WritesUntil, WritesWoven, open_of}
 use Rattle.weave_engine.proofs.Beside.{turns_delayed}
 use Rattle.weave_engine.proofs.Coming.{comes_then}
 use Rattle.weave_engine.proofs.FirstInFile.{first_in_file}
@@ -250,12 +251,12 @@ module _ (trace : Trace) (limit : ℕ) (start : World Held) (is_start : IsStart 
             by (inr all) = absurd (absurd_line t open_.actor open_.left (subst (λ (x : World Held). HasNoLineLeft open_.actor x) R.3.ends (all open_.actor open_.there)))
 
         -- All is written: each line is answered, or this is the first that isn't.
-        pub ends_open : IsStrictlyIncreasing (map (λ (l : Line). l.number) trace.lines) → (open_ : Option Line) (after : Option (List ℕ)) → FirstOpen z t open_ → Appends at after (waits_at ++ open_text open_) → WritesWoven trace limit t before after (Ok open_)
+        pub ends_open : IsStrictlyIncreasing (map (λ (l : Line). l.number) trace.lines) → (open_ : Option Line) (after : Option (List ℕ)) → FirstOpen z t open_ → Appends at after (waits_at ++ open_text open_) → WritesWoven trace limit t before after (Ok (option_map open_of open_))
         ends_open up None after none wrote = (all_text, all_answered none, ends before at after waits_at all_text (Ok (tt {0})) all_put (subst (Appends at after) (append-nil waits_at) wrote))
         ends_open up (Some line) after open_ wrote =
             let u : List ℕ = unfinished_text line in
             let whole : all_put.0 ++ (waits_at ++ u) ≡ all_text ++ u = sym (append_assoc all_put.0 waits_at u) ∙ ap (λ (x : List ℕ). x ++ u) all_put.2 in
-            (all_text, used_up up line open_, subst (Appends before after) whole (Appends-trans before at after all_put.0 (waits_at ++ u) all_put.1 wrote))
+            (line, refl, (all_text, used_up up line open_, subst (Appends before after) whole (Appends-trans before at after all_put.0 (waits_at ++ u) all_put.1 wrote)))
 
         -- The writing stopped behind all turns.
         pub stops_open : IsStrictlyIncreasing (map (λ (l : Line). l.number) trace.lines) → (stop : Stop) (open_ : Option Line) (after : Option (List ℕ)) → FirstOpen z t open_ → AppendsPrefix at after (waits_at ++ open_text open_) → WritesUntil stop trace limit t before after

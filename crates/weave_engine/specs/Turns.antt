@@ -17,7 +17,7 @@ use Rattle.weave_engine.specs.declared.job.LineJob.TheVariants.{Access, SlotChan
 -- The job is for this line, which so many lines of its actor come before.
 abbrev pub IsJobOf : LineJob → Line → ℕ → Type 0
 IsJobOf (Access job) line before = (job.index ≡ before) × (line.command ≡ command.Access job.gfn job.word job.op)
-IsJobOf (SlotChange job) line before = (job.index ≡ before) × (line.command ≡ job.command) × (changes_slot job.command ≡ true)
+IsJobOf (SlotChange job) line before = (job.index ≡ before) × (changes_slot line.command ≡ true)
 
 -- The seat tells a world, whose hand its actor has, and in it the actor's line is alone.
 pub record IsAlone (seat : Seat) : Type 0 where

@@ -15,6 +15,7 @@ use Rattle.weave_engine.specs.Turning.{MayStop}
 use Rattle.weave_engine.specs.Weaves.{WeavesAll, WeavesPart, WeavesSoFar, unfinished_text}
 use Rattle.weave_engine.specs.declared.ran.How.{How}
 use Rattle.weave_engine.specs.declared.ran.How.TheVariants.{Done, WriteFault, Unfinished}
+use Rattle.weave_engine.specs.declared.ran.OpenLine.{OpenLine}
 use Rattle.weave_engine.specs.declared.ran.Ran.{Ran}
 
 -- The whole text of a weave that is over in this world: each line is answered, or its last line names the first one without an answer.
@@ -25,6 +26,10 @@ IsWholeText trace limit closing text =
 -- A weave came to this world, where it printed this text, and stopped for this: behind some of its steps, or at the end, when it was over.
 abbrev pub WeavesUntil : Stop → Trace → ℕ → World Held → List ℕ → Type 0
 WeavesUntil stop trace limit closing text = ((W : WeavesSoFar trace limit text closing) × MayStop stop W.start W.steps) ⊎ IsWholeText trace limit closing text
+
+-- the actor and the number of a line
+abbrev pub open_of : Line → OpenLine
+open_of line = record { actor = line.actor; number = line.number }
 
 -- That text was written but for little.
 abbrev pub WritesUntil : Stop → Trace → ℕ → World Held → Option (List ℕ) → Option (List ℕ) → Type 0
@@ -38,13 +43,17 @@ WritesAll trace limit closing before after = (bytes : List ℕ) × WeavesAll tra
 abbrev pub WritesPart : Trace → ℕ → World Held → Option (List ℕ) → Option (List ℕ) → Line → Type 0
 WritesPart trace limit closing before after line = (bytes : List ℕ) × WeavesPart trace limit bytes closing line × Appends before after (bytes ++ unfinished_text line)
 
-abbrev pub WritesWoven : Trace → ℕ → World Held → Option (List ℕ) → Option (List ℕ) → Result (Option Line) Stop → Type 0
+-- The rounds ended before this line was answered, of which this is the actor and the number.
+abbrev pub WritesOpen : Trace → ℕ → World Held → Option (List ℕ) → Option (List ℕ) → OpenLine → Type 0
+WritesOpen trace limit closing before after open_ = (line : Line) × (open_of line ≡ open_) × WritesPart trace limit closing before after line
+
+abbrev pub WritesWoven : Trace → ℕ → World Held → Option (List ℕ) → Option (List ℕ) → Result (Option OpenLine) Stop → Type 0
 WritesWoven trace limit closing before after (Ok None) = WritesAll trace limit closing before after
-WritesWoven trace limit closing before after (Ok (Some line)) = WritesPart trace limit closing before after line
+WritesWoven trace limit closing before after (Ok (Some open_)) = WritesOpen trace limit closing before after open_
 WritesWoven trace limit closing before after (Err stop) = WritesUntil stop trace limit closing before after
 
 -- how a run ended that came to this, where no memory was refused
-abbrev pub how_ended : Result (Option Line) Stop → Option How
+abbrev pub how_ended : Result (Option OpenLine) Stop → Option How
 how_ended (Ok None) = Some Done
 how_ended (Ok (Some line)) = Some (Unfinished line.actor line.number)
 how_ended (Err Failed) = Some WriteFault
@@ -53,7 +62,7 @@ how_ended (Err Full) = None
 -- how a run of the engine ended, with this world
 abbrev pub WritesBy : Trace → ℕ → World Held → Option (List ℕ) → Option (List ℕ) → How → Type 0
 WritesBy trace limit closing before after Done = WritesAll trace limit closing before after
-WritesBy trace limit closing before after (Unfinished actor number) = (line : Line) × (line.actor ≡ actor) × (line.number ≡ number) × WritesPart trace limit closing before after line
+WritesBy trace limit closing before after (Unfinished actor number) = WritesOpen trace limit closing before after (record { actor = actor; number = number })
 WritesBy trace limit closing before after WriteFault = WritesUntil Failed trace limit closing before after
 
 abbrev pub WritesWeave : Trace → ℕ → Option (List ℕ) → Option (List ℕ) → Result Ran NoMemory → Type 0

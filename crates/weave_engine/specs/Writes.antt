@@ -18,6 +18,7 @@ use Rattle.weave_engine.specs.Replays.{Replays, ReplaysUntil, RunsLines}
 use Rattle.weave_engine.specs.Turning.{MayStop}
 use Rattle.weave_engine.specs.declared.ran.How.{How}
 use Rattle.weave_engine.specs.declared.ran.How.TheVariants.{Done, WriteFault, Unfinished}
+use Rattle.weave_engine.specs.declared.ran.OpenLine.{OpenLine}
 use Rattle.weave_engine.specs.declared.ran.Ran.{Ran}
 
 -- A text was put: what was written by it, and what waits after it, are what waited before and the text, and at most 8,192 bytes wait. Where the writing stopped, a prefix of what waited and of the text was written.
@@ -26,7 +27,7 @@ Buffers before after waited waits (Ok u) text = (written : List ℕ) × Appends 
 Buffers before after waited waits (Err e) text = AppendsPrefix before after (waited ++ text)
 
 -- What a replay of all lines prints was written, and no line is open; or, where it stopped, what it had printed but for little.
-abbrev pub WritesLines : Trace → World Held → Option (List ℕ) → Option (List ℕ) → Result (Option Line) Stop → Type 0
+abbrev pub WritesLines : Trace → World Held → Option (List ℕ) → Option (List ℕ) → Result (Option OpenLine) Stop → Type 0
 WritesLines trace closing before after (Ok (Some line)) = ⊥
 WritesLines trace closing before after (Ok None) = (bytes : List ℕ) × Replays trace trace.lines bytes closing × Appends before after bytes
 WritesLines trace closing before after (Err stop) = (bytes : List ℕ) × ReplaysUntil stop trace closing bytes × WritesMost before after bytes

@@ -1,11 +1,11 @@
-ghost use Rattle.std.specs.Prelude.{◌≡◌, ◌<◌, IfOk, OnErr, OnOk, Some, length, slice_get};
+ghost use Rattle.std.specs.Prelude.{◌≡◌, ◌≢◌, ◌<◌, IfOk, OnErr, OnOk, Some, length, slice_get};
 ghost use Rattle.core_views.specs.declared.place.Place.TheVariants.{Between};
 ghost use Rattle.mmu_core.specs.machine.Turns.{IsAnswered, IsSameHand, line_of};
 ghost use Rattle.step_seats.specs.Moves.{KeepsRoom};
 ghost use Rattle.weave_engine.specs.Turns.{IsAlone, IsJobOf, RanAlone};
 ghost use Rattle.step_seats.specs.LineTurns.{Says, TurnsLine};
 
-use core_views::{Answer, Command, Line, NoMemory, Place};
+use core_views::{Answer, Command, Hand, Line, NoMemory, Place};
 use slot_change::SlotJob;
 use step_seats::{Stepper, Turn};
 use vcpu_run::AccessJob;
@@ -18,18 +18,20 @@ pub enum LineJob {
 }
 
 impl LineJob {
-    /// The work on this line, which so many lines of its actor come before.
-    fn of(line: &Line, index: usize) -> LineJob
-        ensures { IsJobOf result line.now index }
+    /// The work on the hand's next line.
+    fn of(hand: &Hand) -> LineJob
+        requires { length hand.now.core.answers < length hand.now.core.lines }
+        ensures { IsJobOf result (line_of hand.now.core) (length hand.now.core.answers) }
     {
-        match line.command {
+        let index = hand.answers().len();
+        match &hand.line().command {
             Command::Access { gfn, word, op } => LineJob::Access(AccessJob {
                 index,
-                gfn,
-                word,
-                op,
+                gfn: *gfn,
+                word: *word,
+                op: *op,
             }),
-            command => LineJob::SlotChange(SlotJob { index, command }),
+            _ => LineJob::SlotChange(SlotJob { index }),
         }
     }
 
@@ -55,35 +57,38 @@ impl LineJob {
 /// The job of the actor's next line, which begins now. It takes all the memory
 /// that the line needs, which is room for its answer, and changes no word and
 /// nothing that the hand holds, whatever it answers.
-pub fn start_line<S: Stepper>(s: &mut S, line: &Line) -> Result<LineJob, NoMemory>
+pub fn start_line<S: Stepper>(s: &mut S) -> Result<LineJob, NoMemory>
+    requires left { length (S.seat s.old).hand.answers < length (S.seat s.old).hand.lines }
     requires idle { (S.seat s.old).hand.state.place ≡ Between }
-    ensures job { IfOk result (λ job. IsJobOf job line.now (length (S.seat s.old).hand.answers)) }
+    ensures job { IfOk result (λ job. IsJobOf job (line_of (S.seat s.old).hand) (length (S.seat s.old).hand.answers)) }
     ensures reserved { OnOk result (0 < (S.seat s.new).room) }
     ensures refused { OnErr result ((S.seat s.new).room ≡ (S.seat s.old).room) }
     ensures hand { (S.seat s.new).hand ≡ (S.seat s.old).hand }
     ensures told { (S.seat s.new).tells ≡ (S.seat s.old).tells }
     ensures same { ((S.seat s.new).actor ≡ (S.seat s.old).actor) × (S.frame s.new ≡ S.frame s.old) }
 {
-    s.reserve(line)?;
-    Ok(LineJob::of(line, s.hand().answers().len()))
+    s.reserve()?;
+    Ok(LineJob::of(s.hand()))
 }
 
 /// The job of the line that the hand's next step is of. One that is under way has
 /// its memory: none is taken, and none can be refused, but where the line begins.
-pub fn next_job<S: Stepper>(s: &mut S, line: &Line) -> Result<LineJob, NoMemory>
-    ensures job { IfOk result (λ job. IsJobOf job line.now (length (S.seat s.old).hand.answers)) }
+pub fn next_job<S: Stepper>(s: &mut S) -> Result<LineJob, NoMemory>
+    requires left { length (S.seat s.old).hand.answers < length (S.seat s.old).hand.lines }
+    ensures job { IfOk result (λ job. IsJobOf job (line_of (S.seat s.old).hand) (length (S.seat s.old).hand.answers)) }
     ensures reserved { OnOk result (0 < (S.seat s.new).room) }
     ensures begins { OnErr result ((S.seat s.old).hand.state.place ≡ Between) }
     ensures refused { OnErr result ((S.seat s.new).room ≡ (S.seat s.old).room) }
+    ensures under_way { (S.seat s.old).hand.state.place ≢ Between → (S.seat s.new).room ≡ (S.seat s.old).room }
     ensures hand { (S.seat s.new).hand ≡ (S.seat s.old).hand }
     ensures told { (S.seat s.new).tells ≡ (S.seat s.old).tells }
     ensures same { ((S.seat s.new).actor ≡ (S.seat s.old).actor) × (S.frame s.new ≡ S.frame s.old) }
 {
     let hand = s.hand();
-    if let Place::Between = hand.state().place {
-        return start_line(s, line);
+    if let Place::Between = hand.progress().place {
+        return start_line(s);
     }
-    Ok(LineJob::of(line, hand.answers().len()))
+    Ok(LineJob::of(hand))
 }
 
 /// Runs the actor's next line to its answer, while all other actors rest. Where
@@ -99,7 +104,7 @@ pub fn run_line<S: Stepper>(s: &mut S, line: &Line) -> Result<Answer, NoMemory>
     ensures refused { OnErr result (((S.seat s.new).hand ≡ (S.seat s.old).hand) × ((S.seat s.new).tells ≡ (S.seat s.old).tells)) }
     ensures same { ((S.seat s.new).actor ≡ (S.seat s.old).actor) × (S.frame s.new ≡ S.frame s.old) }
 {
-    let mut job = start_line(s, line)?;
+    let mut job = start_line(s)?;
     loop {
         match job.turn(s) {
             Turn::More => {}

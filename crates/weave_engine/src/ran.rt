@@ -1,6 +1,7 @@
 //! How a run of the engine ends, and what it leaves.
 ghost use Rattle.std.specs.Prelude.{◌≡◌, IfOk, OnErr, Some, None};
-ghost use Rattle.weave_engine.specs.Woven.{how_ended};
+ghost use Rattle.std.specs.Option.{option_copied, option_map};
+ghost use Rattle.weave_engine.specs.Woven.{how_ended, open_of};
 
 use core_views::{Actor, Closing, Line, NoMemory};
 use tdp_io::Stop;
@@ -24,9 +25,29 @@ pub struct Ran {
     pub closing: Closing,
 }
 
+/// A line that has no answer: its actor, and its number in the file.
+#[derive(Clone, Copy, Debug, PartialEq, Eq, Drop)]
+pub struct OpenLine {
+    pub actor: Actor,
+    pub number: u32,
+}
+
+/// The actor and the number of this line, if there is one.
+pub fn open_line(line: Option<&Line>) -> Option<OpenLine>
+    ensures { result ≡ option_map open_of (option_copied line.entry) }
+{
+    match line {
+        Some(line) => Some(OpenLine {
+            actor: line.actor,
+            number: line.number,
+        }),
+        None => None,
+    }
+}
+
 /// How a run ended that came to this: the first line without an answer, if there is
 /// one, or why it stopped.
-pub fn how_of(came: Result<Option<Line>, Stop>) -> Result<How, NoMemory>
+pub fn how_of(came: Result<Option<OpenLine>, Stop>) -> Result<How, NoMemory>
     ensures ran { IfOk result (λ how. how_ended came ≡ Some how) }
     ensures refused { OnErr result (how_ended came ≡ None) }
 {

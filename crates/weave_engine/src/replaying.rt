@@ -9,7 +9,7 @@ ghost use Rattle.weave_engine.specs.Pieces.{most_waiting};
 ghost use Rattle.weave_engine.specs.Writes.{RunsAndPuts, WritesLines, WritesReplay};
 ghost use Rattle.weave_engine.specs.Woven.{RanFaults, ran_failed};
 
-use crate::ran::{Ran, how_of};
+use crate::ran::{OpenLine, Ran, how_of};
 use crate::run_on::run_on;
 use crate::writing::put_answer;
 use core_views::{Line, NoMemory, Trace};
@@ -53,7 +53,7 @@ fn replay_on<K: Sink>(
     machine: &mut PlainMachine,
     trace: &Trace,
     out: &mut K,
-) -> Result<Option<Line>, Stop>
+) -> Result<Option<OpenLine>, Stop>
     requires sizes { machine.old.sizes ≡ sizes_of trace.now.header }
     requires start { IsStart (sizes_of trace.now.header) trace.now.lines (world_in machine.old) }
     requires unfailed { K.failed out.old ≡ false }

@@ -1,5 +1,6 @@
 //! Turns in rounds, once the schedule is over, and the line that they come to.
 ghost use Rattle.std.specs.Prelude.{◌≡◌, ◌<◌, ◌≤◌, false, length, string_bytes};
+ghost use Rattle.std.specs.Option.{option_copied};
 ghost use Rattle.step_seats.specs.Machines.{world_in};
 ghost use Rattle.tdp_io.specs.Ends.{WroteFaults, is_failed};
 ghost use Rattle.weave_engine.specs.Pieces.{most_waiting};
@@ -55,10 +56,10 @@ pub fn run_rounds<K: Sink>(
 }
 
 /// The first line of the file that has no answer.
-pub fn first_open(machine: &PlainMachine) -> Option<Line>
-    ensures { FirstOpen machine.now.sizes (world_in machine.now) result }
+pub fn first_open(machine: &PlainMachine) -> Option<&Line>
+    ensures { FirstOpen machine.now.sizes (world_in machine.now) (option_copied result) }
 {
-    let mut first: Option<Line> = None;
+    let mut first: Option<&Line> = None;
     for index in 0..machine.sizes().actors() as usize {
         first = earlier(first, machine.hand(index).next_line());
     }
@@ -66,8 +67,8 @@ pub fn first_open(machine: &PlainMachine) -> Option<Line>
 }
 
 // The line that stands first in the file, of those that there are.
-fn earlier(first: Option<Line>, next: Option<Line>) -> Option<Line>
-    ensures { result ≡ earlier_of first next }
+fn earlier<'a>(first: Option<&'a Line>, next: Option<&'a Line>) -> Option<&'a Line>
+    ensures { option_copied result ≡ earlier_of (option_copied first.entry) (option_copied next.entry) }
 {
     match (first, next) {
         (Some(line), Some(other)) if other.number < line.number => Some(other),

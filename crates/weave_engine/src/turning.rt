@@ -9,11 +9,11 @@ ghost use Rattle.step_seats.specs.Machines.{seat_in, world_in};
 ghost use Rattle.tdp_io.specs.Ends.{WroteFaults, is_failed};
 ghost use Rattle.step_seats.specs.LineTurns.{Says, TurnsLine};
 ghost use Rattle.weave_engine.specs.Pieces.{most_waiting};
-ghost use Rattle.weave_engine.specs.Turned.{PutsTurn, TurnedOn, TurnedTold, next_code_in, open_line};
+ghost use Rattle.weave_engine.specs.Turned.{PutsTurn, TurnedOn, TurnedTold, next_code_in};
 
 use crate::job::next_job;
 use crate::writing::put_answer;
-use core_views::{Actor, Answer, Hand, Line, NoMemory, Place};
+use core_views::{Actor, Answer, NoMemory};
 use mmu_core::{next_kind, rests};
 use step_seats::{ActorSeat, PlainMachine, Stepper, Turn};
 use tdp_io::{Sink, Stop};
@@ -37,31 +37,18 @@ pub enum Turned {
     Stopped,
 }
 
-// The line that the hand's next step is of: the one under way, or the first one
-// that has no answer.
-fn line_of_hand(hand: &Hand) -> Option<Line>
-    ensures { result ≡ open_line hand.now.core }
-{
-    let next = hand.next_line()?;
-    match hand.state().place {
-        Place::Between => Some(next),
-        _ => Some(hand.state().line),
-    }
-}
-
-/// Makes the actor's next turn, which is one of this line. Where memory is
+/// Makes the actor's next turn, which is one of the hand's next line. Where memory is
 /// refused no step is made; a turn of a line that is under way takes none.
-pub fn take_turn<S: Stepper>(s: &mut S, line: &Line) -> Result<Turn<Answer>, NoMemory>
+pub fn take_turn<S: Stepper>(s: &mut S) -> Result<Turn<Answer>, NoMemory>
     requires left { length (S.seat s.old).hand.answers < length (S.seat s.old).hand.lines }
-    requires line { line.now ≡ line_of (S.seat s.old).hand }
     ensures turns { IfOk result (λ turn. TurnsLine turn (S.seat s.old) (S.seat s.new)) }
-    ensures says { IfOk result (λ turn. Says turn line.now (S.seat s.old).hand (S.seat s.new).hand) }
+    ensures says { IfOk result (λ turn. Says turn (line_of (S.seat s.old).hand) (S.seat s.old).hand (S.seat s.new).hand) }
     ensures hand { IsSameHand (S.seat s.old).hand (S.seat s.new).hand }
     ensures begins { OnErr result ((S.seat s.old).hand.state.place ≡ Between) }
     ensures refused { OnErr result (((S.seat s.new).hand ≡ (S.seat s.old).hand) × ((S.seat s.new).tells ≡ (S.seat s.old).tells)) }
     ensures same { ((S.seat s.new).actor ≡ (S.seat s.old).actor) × (S.frame s.new ≡ S.frame s.old) }
 {
-    let mut job = next_job(s, line)?;
+    let mut job = next_job(s)?;
     Ok(job.turn(s))
 }
 
@@ -74,13 +61,14 @@ fn next_turn<S: Stepper>(s: &mut S) -> Result<Option<TurnMade>, NoMemory>
     ensures same { ((S.seat s.new).actor ≡ (S.seat s.old).actor) × (S.frame s.new ≡ S.frame s.old) }
 {
     let hand = s.hand();
-    let actor = hand.state().actor;
-    let Some(line) = line_of_hand(hand) else {
+    if !hand.has_line() {
         return Ok(None);
-    };
-    let turn = take_turn(s, &line)?;
+    }
+    let number = hand.line().number;
+    let actor = hand.progress().actor;
+    let turn = take_turn(s)?;
     Ok(Some(TurnMade {
-        number: line.number,
+        number,
         actor,
         turn,
     }))
@@ -139,7 +127,7 @@ pub fn next_code(machine: &PlainMachine, index: usize) -> u8
     ensures { has_line (hand_in mmu (world_in machine.now) index) ≡ true → result ≡ next_code_in (hand_in mmu (world_in machine.now) index) }
 {
     let hand = machine.hand(index);
-    if hand.next_line().is_none() {
+    if !hand.has_line() {
         return 0;
     }
     rests(hand);

@@ -1,6 +1,7 @@
 //! The command `weave`: the lines above `go` alone, then the turns of the
 //! schedule, then rounds.
 ghost use Rattle.std.specs.Prelude.{◌≡◌, ◌++◌, IfOk, false, string_bytes};
+ghost use Rattle.std.specs.Option.{option_copied};
 ghost use Rattle.core_views.specs.Sizes.{sizes_of};
 ghost use Rattle.core_views.specs.Traces.{IsTrace};
 ghost use Rattle.mmu_core.specs.machine.Worlds.{IsStart};
@@ -9,7 +10,7 @@ ghost use Rattle.tdp_io.specs.Ends.{Wrote, WroteFaults, is_failed};
 ghost use Rattle.weave_engine.specs.Weaves.{open_text, unfinished_text};
 ghost use Rattle.weave_engine.specs.Woven.{RanFaults, WritesWeave, WritesWoven, ran_failed};
 
-use crate::ran::{Ran, how_of};
+use crate::ran::{OpenLine, Ran, how_of, open_line};
 use crate::replaying::run_lines;
 use crate::rounds::{first_open, run_rounds};
 use crate::schedule::run_items;
@@ -45,17 +46,17 @@ fn tell<K: Sink>(alloc: Global, line: &Line, out: &mut K, waiting: &mut String) 
 // Writes what waits, and where a line has no answer, which is the first one.
 fn finish<K: Sink>(
     alloc: Global,
-    first: Option<Line>,
+    first: Option<&Line>,
     out: &mut K,
     waiting: &mut String,
 ) -> Result<(), Stop>
     requires unfailed { K.failed out.old ≡ false }
-    ensures bytes { Wrote (K.written out.old) (K.written out.new) result (string_bytes waiting.old ++ open_text first) }
+    ensures bytes { Wrote (K.written out.old) (K.written out.new) result (string_bytes waiting.old ++ open_text (option_copied first.entry)) }
     ensures faults { WroteFaults (K.faults out.old) (K.faults out.new) result }
     ensures failed { K.failed out.new ≡ is_failed result }
 {
     match first {
-        Some(line) => tell(alloc, &line, out, waiting),
+        Some(line) => tell(alloc, line, out, waiting),
         None => write_all(out, waiting.as_bytes()),
     }
 }
@@ -68,7 +69,7 @@ fn weave_on<K: Sink>(
     trace: &Trace,
     limit: u64,
     out: &mut K,
-) -> Result<Option<Line>, Stop>
+) -> Result<Option<OpenLine>, Stop>
     requires trace { IsTrace trace.now }
     requires sizes { machine.old.sizes ≡ sizes_of trace.now.header }
     requires start { IsStart (sizes_of trace.now.header) trace.now.lines (world_in machine.old) }
@@ -85,7 +86,7 @@ fn weave_on<K: Sink>(
     run_rounds(machine, limit, out, &mut waiting)?;
     let first = first_open(machine);
     finish(alloc, first, out, &mut waiting)?;
-    Ok(first)
+    Ok(open_line(first))
 }
 
 /// Runs the trace a step a turn: the lines above `go` one after another, each

@@ -9,8 +9,8 @@ use Rattle.core_views.specs.Held.{Held}
 use Rattle.core_views.specs.Sizes.{actors_of}
 use Rattle.spte_words.specs.declared.area.Area.TheVariants as area
 use Rattle.spte_words.specs.Areas.{content_index}
-use Rattle.spte_words.specs.Entries.{frame_in}
 use Rattle.part_steps.specs.declared.part_step.PartStep.{PartStep}
+use Rattle.mmu_core.specs.lines.Cached.{frame_used}
 use Rattle.mmu_core.specs.lines.AccessSteps.{access_note, access_part, access_task, task_by, touch_of}
 use Rattle.part_steps.specs.PartTasks.{own_index, part_task}
 use Rattle.part_steps.specs.Tasks.{kind_of_task, map_of}
@@ -45,7 +45,7 @@ pub access_leaves_none : (h : Held) (p : AccessPlace) (gfn word : ℕ) (op : Op)
 access_leaves_none h p gfn word op v none = by (access_part p gfn h.topics) (λ step is. access_never p gfn h.topics step is)
   where
     index : ℕ
-    index = content_index (map_of h.state.sizes) (frame_in h.state.leaf) word
+    index = content_index (map_of h.state.sizes) (frame_used gfn h.state) word
 
     by : (o : Option PartStep) → ((step : PartStep) → o ≡ Some step → is_publish step ≡ false)
         → (topics_after h.state.sizes (kind_of_task h.state.sizes (task_by o h (access_note p) (touch_of op index))) h.topics v).leaving ≡ None

@@ -14,12 +14,12 @@ use Rattle.core_views.specs.Held.{Held}
 use Rattle.core_views.specs.Sizes.{actors_of}
 use Rattle.core_views.specs.SlotSets.{MemorySlots}
 use Rattle.spte_words.specs.Areas.{content_index, pool_index}
-use Rattle.spte_words.specs.Entries.{frame_in}
 use Rattle.spte_words.specs.declared.area.Area.{Area}
 use Rattle.spte_words.specs.declared.area.Area.TheVariants as area
 use Rattle.part_steps.specs.declared.part_step.PartStep.{PartStep}
 use Rattle.part_steps.specs.declared.task.Task.{Task}
 use Rattle.part_steps.specs.Tasks.{kind_of_task, map_of}
+use Rattle.mmu_core.specs.lines.Cached.{frame_used}
 use Rattle.mmu_core.specs.declared.outcome.Outcome.{Outcome}
 use Rattle.mmu_core.specs.invariant.Invariant.{CachedPart, Holds, Invariant, InvariantOf, IsSetBy, LeavesPart, OwnLines, RecordPart, lines_done}
 use Rattle.mmu_core.specs.invariant.TopicsInvariant.{TopicsInvariant}
@@ -49,7 +49,7 @@ NeverPublishes v a p command = (step : PartStep) → part_at p command (v.hand a
 
 -- A place that names no step of a part is one where the guest touches for its access.
 pub touched : (p : Place) (command : Command) (h : Held) → part_at p command h ≡ None → (op : Op) × (index : ℕ) × (touch_at command h ≡ touch_of op index)
-touched (place.Access p) (Access gfn word op) h none = (op, content_index (map_of h.state.sizes) (frame_in h.state.leaf) word, refl)
+touched (place.Access p) (Access gfn word op) h none = (op, content_index (map_of h.state.sizes) (frame_used gfn h.state) word, refl)
 touched _ (Access gfn word op) h none = absurd (cc none)
 touched _ _ h none = absurd (cc none)
 

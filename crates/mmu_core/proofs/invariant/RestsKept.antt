@@ -34,6 +34,7 @@ use Rattle.spte_words.proofs.Indices.{content_within}
 use Rattle.spte_words.proofs.ReadsEntries.{leaf_frame}
 use Rattle.part_steps.specs.declared.part_step.PartStep.{PartStep}
 use Rattle.part_steps.specs.declared.part_step.PartStep.TheVariants as part
+use Rattle.mmu_core.specs.lines.Cached.{frame_used}
 use Rattle.mmu_core.specs.lines.AccessSteps.{access_part, touch_of}
 use Rattle.mmu_core.specs.lines.AccessKnows.{AccessKnows, RestsOn}
 use Rattle.part_steps.specs.PartBounds.{PartRests}
@@ -59,7 +60,7 @@ use Rattle.part_steps.specs.declared.task.Task.{Task}
 use Rattle.mmu_core.proofs.lines.Forms.{RestsOnPart, accepts_at, accepts_at_prop, other_rests}
 use Rattle.mmu_core.proofs.lines.ByStep.{StepAt, step_at, Makes, Touches}
 use Rattle.mmu_core.specs.invariant.Invariant.{Holds, HostWordsPart, Invariant, IsLeafFor, KnowsPart, SlotSetPart}
-use Rattle.mmu_core.proofs.lines.UsedTranslations.{uses_stays}
+use Rattle.mmu_core.proofs.lines.UsedTranslations.{lowest_frame, uses_stays}
 
 -- The leaf that an access uses is at a frame of the machine.
 leaf_there : (z : Sizes) (set : ℕ) (role pool host : ℕ → ℕ) (gfn leaf : ℕ) → AreSizes z → SlotSetPart z set role pool → HostWordsPart z host
@@ -86,7 +87,11 @@ access_rests : (p : AccessPlace) (z : Sizes) (v : View) (h : Held) (gfn word : �
 access_rests Touch z v h gfn word op I same may R K e = record {
   guest = K.0.guest;
   uses = K.1;
-  frame = subst (λ (y : Sizes). frame_in h.state.leaf < y.frames) (sym same) (leaf_there z (v.words area.Slots 0) (v.words area.Role) (v.words area.Pool) (v.words area.Host) gfn h.state.leaf I.sizes I.set_part I.hosts e);
+  level = (omega (arith, e.0), omega (arith, e.0));
+  frame =
+      let leaf_in : frame_in h.state.used.leaf < z.frames =
+          leaf_there z (v.words area.Slots 0) (v.words area.Role) (v.words area.Pool) (v.words area.Host) gfn h.state.used.leaf I.sizes I.set_part I.hosts e.1 in
+      subst (λ (y : Sizes). frame_used gfn h.state < y.frames) (sym same) (subst (λ n. n < z.frames) (sym (lowest_frame gfn h.state e.0)) leaf_in);
 }
 access_rests (Enter again) z v h gfn word op I same may R K e =
     let V = access_vcpu z h.state.actor gfn word op may in access_needs (Enter again) h gfn (is_write op) V.0 V.1 R K
@@ -202,7 +207,7 @@ needs_stay _ h x = prop_stays (hlevel props) x
 
 on_stays : (s : Option PartStep) (gfn : ℕ) (write : Bool) (h : Held) → ∥ RestsOn s gfn write h ∥₁ → RestsOn s gfn write h
 on_stays None gfn write h x =
-    record { guest = ∥∥₁_elim x (hlevel props) (λ N. N.guest); uses = uses_stays gfn write h (∥∥₁_map x (λ N. N.uses)); frame = ∥∥₁_elim x (hlevel props) (λ N. N.frame) }
+    record { guest = ∥∥₁_elim x (hlevel props) (λ N. N.guest); uses = uses_stays gfn write h (∥∥₁_map x (λ N. N.uses)); level = (∥∥₁_elim x (hlevel props) (λ N. N.level.0), ∥∥₁_elim x (hlevel props) (λ N. N.level.1)); frame = ∥∥₁_elim x (hlevel props) (λ N. N.frame) }
 on_stays (Some step) gfn write h x = needs_stay step h x
 
 other_stays : (p : Place) (command : Command) (h : Held) → (RestsAt p command h → ⊥) ⊎ RestsOnPart p command h → ∥ RestsAt p command h ∥₁ → RestsAt p command h
@@ -247,7 +252,7 @@ within_by : (actor : Actor) (command : Command) (h : Held) (t : Task) → IsComm
     → t.index < size_of (map_of h.state.sizes) t.area
 within_by actor command h _ may R (Makes step note N) = part_within_by step h note N R
 within_by actor command h _ may R (Touches gfn word op is N) =
-    touch_within h.state.sizes op (frame_in h.state.leaf) word N.frame (command_word h.state.sizes actor gfn word op (subst (IsCommandFor h.state.sizes actor) is may))
+    touch_within h.state.sizes op (frame_used gfn h.state) word N.frame (command_word h.state.sizes actor gfn word op (subst (IsCommandFor h.state.sizes actor) is may))
 
 within_at : (p : Place) (actor : Actor) (command : Command) (h : Held) → IsCommandFor h.state.sizes actor command → PartRests h → RestsAt p command h
     → (task_at p command h).index < size_of (map_of h.state.sizes) (task_at p command h).area

@@ -23,7 +23,7 @@ use Rattle.spte_words.specs.declared.spte_kind.SpteKind.TheVariants as entry_kin
 use Rattle.spte_words.specs.Areas.{pool_index}
 use Rattle.spte_words.specs.Entries.{kind_of}
 use Rattle.mmu_core.specs.declared.outcome.Outcome.{Outcome}
-use Rattle.mmu_core.specs.lines.AccessSteps.{access_loads, access_outcome, access_task, behind_fault, leaf_used, pause_next, walk_next}
+use Rattle.mmu_core.specs.lines.AccessSteps.{access_loads, access_outcome, access_task, behind_fault, use_found, pause_next, walk_next}
 use Rattle.mmu_core.specs.lines.Cached.{first_usable}
 use Rattle.mmu_core.specs.lines.FaultSteps.{allows_access, fault_next}
 use Rattle.mmu_core.specs.lines.AccessKnows.{AccessKnows}
@@ -47,22 +47,24 @@ abbrev HoldsBehind : Sizes → View → ℕ → Line → Place → ℕ → ℕ �
 HoldsBehind z v a line p gfn word op o g =
     Holds z ((stepped a line (Access gfn word op) p v).words area.Pool) (v.words area.Host) (v.words area.Slots 0) (place_after o) (Access gfn word op) g
 
--- behind the pause: a translation that is used is cached
+-- after the pause: a translation that is used is cached
 pause_holds : (z : Sizes) (v : View) (a : ℕ) (again : Bool) (gfn : ℕ) (op : Op) (g : Held) (used : Option Translation) → a < actors_of z → Invariant z v
-    → first_usable gfn (is_write op) (v.hand a).cached.items ≡ used → g.state.leaf ≡ leaf_used used (v.hand a).state.leaf
+    → first_usable gfn (is_write op) (v.hand a).cached.items ≡ used → g.state.used ≡ use_found used (v.hand a).state.used
     → AccessHolds (v.words area.Pool) (v.words area.Host) (v.words area.Slots 0) (pause_next again used) gfn g
-pause_holds z v a again gfn op g None lt I is leaf = tt
-pause_holds z v a again gfn op g (Some t) lt I is leaf =
-    subst (IsLeafFor (v.words area.Pool) (v.words area.Host) (v.words area.Slots 0) gfn) (sym leaf)
+pause_holds z v a again gfn op g None lt I is same = tt
+pause_holds z v a again gfn op g (Some t) lt I is same =
+    subst (λ (t : Translation). (t.level ≡ 1) × IsLeafFor (v.words area.Pool) (v.words area.Host) (v.words area.Slots 0) gfn t.leaf) (sym same)
     (used_leaf (v.words area.Pool) (v.words area.Host) (v.words area.Slots 0) gfn (is_write op) (v.hand a).cached.items t (I.cached a lt) is)
 
--- behind an entry: a leaf that allows the access is used
-walk_holds : (v : View) (again : Bool) (gfn w : ℕ) (g : Held) (k : SpteKind) (allowed : Bool) → g.state.leaf ≡ w
-    → (k ≡ entry_kind.Leaf → IsLeafFor (v.words area.Pool) (v.words area.Host) (v.words area.Slots 0) gfn w)
+-- after an entry: a leaf that allows the access is used
+walk_holds : (v : View) (again : Bool) (gfn level w : ℕ) (g : Held) (k : SpteKind) (allowed : Bool)
+    → g.state.used ≡ record { gfn = gfn; level = level; leaf = w }
+    → (k ≡ entry_kind.Leaf → IsLeafFor (v.words area.Pool) (v.words area.Host) (v.words area.Slots 0) gfn w × (level ≡ 1))
     → AccessHolds (v.words area.Pool) (v.words area.Host) (v.words area.Slots 0) (walk_next again k allowed) gfn g
-walk_holds v again gfn w g entry_kind.Leaf true leaf found =
-    subst (IsLeafFor (v.words area.Pool) (v.words area.Host) (v.words area.Slots 0) gfn) (sym leaf) (found refl)
-walk_holds v again gfn w g _ _ leaf found = tt
+walk_holds v again gfn level w g entry_kind.Leaf true same found =
+    subst (λ (t : Translation). (t.level ≡ 1) × IsLeafFor (v.words area.Pool) (v.words area.Host) (v.words area.Slots 0) gfn t.leaf) (sym same)
+    ((found refl).1, (found refl).0)
+walk_holds v again gfn level w g _ _ same found = tt
 
 -- behind a fault: nothing
 fault_holds : (z : Sizes) (pool host : ℕ → ℕ) (set : ℕ) (n : FaultNext) (gfn word : ℕ) (op : Op) (g : Held)
@@ -76,14 +78,15 @@ fault_holds z pool host set (next_of.Ends (end_of.Retry cause)) gfn word op g = 
 
 access_holds : (z : Sizes) (v : View) (a : ℕ) (line : Line) (p : AccessPlace) (gfn word : ℕ) (op : Op) (g : Held) → a < actors_of z → Invariant z v
     → TopicsInvariant z v → AccessKnows p gfn (is_write op) (v.hand a)
-    → g.state.leaf ≡ (access_loads p (v.hand a) gfn op (answer_in (access_task p (v.hand a) gfn word op) v.words)).leaf
+    → g.state.used ≡ (access_loads p (v.hand a) gfn op (answer_in (access_task p (v.hand a) gfn word op) v.words)).used
     → HoldsBehind z v a line (place.Access p) gfn word op (access_outcome p (v.hand a) gfn op (answer_in (access_task p (v.hand a) gfn word op) v.words)) g
 access_holds z v a line (Pause again) gfn word op g lt I P K leaf =
     pause_holds z v a again gfn op g (first_usable gfn (is_write op) (v.hand a).cached.items) lt I refl leaf
 access_holds z v a line (Walk again) gfn word op g lt I P K leaf =
     let h : Held = v.hand a in
     let w : ℕ = v.words area.Pool (pool_index (table_page h.topics.walk) (entry_index gfn h.topics.walk.level)) in
-    walk_holds v again gfn w g (kind_of h.topics.walk.level w) (allows_access (is_write op) w) leaf (λ is. (leaf_found z v a gfn lt I P K.1 is).1)
+    walk_holds v again gfn h.topics.walk.level w g (kind_of h.topics.walk.level w) (allows_access (is_write op) w) leaf
+    (λ is. let found = leaf_found z v a gfn lt I P K.1 is in (found.1, found.0))
 access_holds z v a line (Leave (leaving.Reached frame value)) gfn word op g lt I P K leaf = tt
 access_holds z v a line (Leave leaving.Faults) gfn word op g lt I P K leaf = tt
 access_holds z v a line (Fault q) gfn word op g lt I P K leaf =

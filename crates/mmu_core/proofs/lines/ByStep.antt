@@ -10,12 +10,12 @@ use Rattle.core_views.specs.declared.trace.Op.{Op}
 use Rattle.core_views.specs.Held.{Held}
 use Rattle.core_views.specs.Slots.{is_write}
 use Rattle.spte_words.specs.Areas.{content_index}
-use Rattle.spte_words.specs.Entries.{frame_in}
 use Rattle.part_steps.specs.declared.part_step.PartStep.{PartStep}
 use Rattle.part_steps.specs.declared.task.Task.{Task}
 use Rattle.part_steps.specs.PartTasks.{own_index, part_task}
 use Rattle.part_steps.specs.PartSteps.{PartNeeds}
 use Rattle.part_steps.specs.Tasks.{map_of}
+use Rattle.mmu_core.specs.lines.Cached.{frame_used}
 use Rattle.mmu_core.specs.lines.AccessSteps.{access_note, access_part, task_by, touch_of}
 use Rattle.mmu_core.specs.lines.Forms.{note_at, part_at, RestsAt}
 use Rattle.mmu_core.specs.lines.PartAt.{task_at, touch_at}
@@ -26,10 +26,10 @@ use Rattle.mmu_core.proofs.lines.UsedTranslations.{part_needs}
 pub data StepAt (command : Command) (h : Held) : Task → Type 0 where
   Makes : (step : PartStep) (note : ℕ) → PartNeeds step h → StepAt command h (part_task step (own_index h) h.topics note)
   Touches : (gfn word : ℕ) (op : Op) → command ≡ Access gfn word op → TouchNeeds gfn (is_write op) h
-      → StepAt command h (touch_of op (content_index (map_of h.state.sizes) (frame_in h.state.leaf) word))
+      → StepAt command h (touch_of op (content_index (map_of h.state.sizes) (frame_used gfn h.state) word))
 
 access_step : (s : Option PartStep) (h : Held) (note gfn word : ℕ) (op : Op) → RestsOn s gfn (is_write op) h
-    → StepAt (Access gfn word op) h (task_by s h note (touch_of op (content_index (map_of h.state.sizes) (frame_in h.state.leaf) word)))
+    → StepAt (Access gfn word op) h (task_by s h note (touch_of op (content_index (map_of h.state.sizes) (frame_used gfn h.state) word)))
 access_step None h note gfn word op R = Touches gfn word op refl R
 access_step (Some step) h note gfn word op R = Makes step note R
 

@@ -111,12 +111,12 @@ first_of : (a b : Bool) → (a && b) ≡ true → a ≡ true
 first_of true b e = refl
 first_of false b e = absurd (cc e)
 
--- The cached translation that an access uses is the leaf of its guest frame.
+-- The cached translation that an access uses is of the lowest level, and its leaf is that of the guest frame.
 pub used_leaf : (pool host : ℕ → ℕ) (set gfn : ℕ) (write : Bool) (ts : List Translation) (t : Translation) → CachedPart pool host set ts
-    → first_usable gfn write ts ≡ Some t → IsLeafFor pool host set gfn t.leaf
+    → first_usable gfn write ts ≡ Some t → (t.level ≡ 1) × IsLeafFor pool host set gfn t.leaf
 used_leaf pool host set gfn write ts t each is =
     let F = found_has (λ (t : Translation). (t.level ≡ 1) × IsLeafFor pool host set t.gfn t.leaf) (is_usable gfn write) ts t each is in
-    subst (λ n. IsLeafFor pool host set n t.leaf) (covers_one gfn t.gfn t.level F.0.0 (first_of (covers gfn t) (allows write t) F.1)) F.0.1
+    (F.0.0, subst (λ n. IsLeafFor pool host set n t.leaf) (covers_one gfn t.gfn t.level F.0.0 (first_of (covers gfn t) (allows write t) F.1)) F.0.1)
 
 -- ---- behind a step of an access
 

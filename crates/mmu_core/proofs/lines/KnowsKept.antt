@@ -35,7 +35,7 @@ use Rattle.mmu_core.specs.declared.outcome.Outcome.TheVariants.{Goes, Ends}
 use Rattle.part_steps.specs.declared.task.Task.{Task}
 use Rattle.part_steps.specs.declared.part_step.PartStep.{PartStep}
 use Rattle.part_steps.specs.declared.part_step.PartStep.TheVariants as part
-use Rattle.mmu_core.specs.lines.AccessSteps.{access_note, access_outcome, access_part, access_task, behind_fault, is_found, leaf_used, pause_next, task_by, touch_of, walk_next}
+use Rattle.mmu_core.specs.lines.AccessSteps.{access_note, access_outcome, access_part, access_task, behind_fault, is_found, use_found, pause_next, task_by, touch_of, walk_next}
 use Rattle.mmu_core.specs.lines.Cached.{first_usable, flushed, with_leaf}
 use Rattle.mmu_core.specs.lines.FaultKnows.{KnowsNext}
 use Rattle.mmu_core.specs.lines.FaultLaws.{CanAnswer}
@@ -106,26 +106,22 @@ access_needs _ h gfn write vcpu small R K = tt
 
 -- The access uses a translation that it has cached, or walks.
 pause_known : (f : Option Translation) (again : Bool) (gfn : ℕ) (write : Bool) (h g : Held) → first_usable gfn write h.cached.items ≡ f
-    → g.cached ≡ h.cached → InGuest g.topics → g.state.leaf ≡ leaf_used f h.state.leaf → AccessKnows (pause_next again f) gfn write g
-pause_known None again gfn write h g is same I leaf = I
-pause_known (Some t) again gfn write h g is same I leaf =
-    (I, record { translation = t; newest = ap (λ (c : Buffer Translation). first_usable gfn write c.items) same ∙ is; leaf = leaf })
+    → g.cached ≡ h.cached → InGuest g.topics → g.state.used ≡ use_found f h.state.used → AccessKnows (pause_next again f) gfn write g
+pause_known None again gfn write h g is same I used = I
+pause_known (Some t) again gfn write h g is same I used =
+    (I, ap (λ (c : Buffer Translation). first_usable gfn write c.items) same ∙ (is ∙ ap Some (sym used)))
 
 -- The walk of a stay goes down by a link, and ends at every other entry; a leaf that allows the access is cached, and used.
 walk_known : (k : SpteKind) (allowed again : Bool) (gfn : ℕ) (write : Bool) (v : ℕ) (t : Topics) (c : Buffer Translation) (g : Held) → 1 ≤ c.capacity
     → g.cached ≡ (if is_found k allowed then with_leaf gfn t.walk.level v c else c) → kind_of t.walk.level v ≡ k → allows_access write v ≡ allowed
     → t.walk.level ≤ 4 → IsOver gfn t.walk
-    → InGuest g.topics → g.topics.walk ≡ gone_down (linked_page k) t.walk (entry_index gfn t.walk.level) v → g.state.leaf ≡ v
+    → InGuest g.topics → g.topics.walk ≡ gone_down (linked_page k) t.walk (entry_index gfn t.walk.level) v → g.state.used ≡ record { gfn = gfn; level = t.walk.level; leaf = v }
     → AccessKnows (walk_next again k allowed) gfn write g
 walk_known (entry_kind.Table page) allowed again gfn write v t c g room cached is may most O I walk leaf =
     (I, subst (IsOver gfn) (sym walk) (gone_over gfn page v t.walk (above_lowest t.walk.level v page O.there is) most O))
-walk_known entry_kind.Leaf true again gfn write v t c g room cached is may most O I walk leaf = (
+walk_known entry_kind.Leaf true again gfn write v t c g room cached is may most O I walk used = (
   I,
-  record {
-    translation = record { gfn = gfn; level = t.walk.level; leaf = v };
-    newest = ap (λ (x : Buffer Translation). first_usable gfn write x.items) cached ∙ newest_filled gfn t.walk.level v write c room may;
-    leaf = leaf;
-  },
+  ap (λ (x : Buffer Translation). first_usable gfn write x.items) cached ∙ (newest_filled gfn t.walk.level v write c room may ∙ ap Some (sym used)),
 )
 walk_known _ _ again gfn write v t c g room cached is may most O I walk leaf = I
 

@@ -27,13 +27,14 @@ use Rattle.part_steps.specs.PartTasks.{own_index, part_task, words_filled}
 use Rattle.part_steps.specs.PartHoldings.{IsOver}
 use Rattle.part_steps.specs.PartSteps.{PartNeeds}
 use Rattle.mmu_core.specs.lines.Forms.{AcceptsAt, RestsAt}
-use Rattle.mmu_core.specs.lines.Rests.{Rests}
+use Rattle.mmu_core.specs.lines.Rests.{IsUnderWay, Rests}
+use Rattle.mmu_core.proofs.machine.Stepping.{is_begun}
 use Rattle.mmu_core.specs.lines.Cached.{flushed}
 use Rattle.part_steps.specs.PartBounds.{PartRests}
 use Rattle.core_views.specs.declared.sizes.Sizes.{Sizes}
 use Rattle.mmu_core.proofs.lines.ByStep.{StepAt, step_at, Makes, Touches}
 use Rattle.mmu_core.proofs.machine.Sized.{loads_keep_sizes}
-use Rattle.mmu_core.specs.machine.Steps.{has_line, held_after, idle_after, line_after, line_at, next, place_at, standing, task_at, task_of}
+use Rattle.mmu_core.specs.machine.Steps.{has_line, held_after, idle_after, line_after, line_at, next, next_line, place_at, standing, task_at, task_of}
 use Rattle.part_steps.specs.TopicSteps.{HasRoom, topics_after}
 use Rattle.mmu_core.proofs.machine.Which.{has_line_is, next_of_line, next_of_part}
 
@@ -88,57 +89,38 @@ pub enabled_room : (h : Held) (k : Kind) → Enabled h k → HasRoom (kind_named
 unfolding Enabled
 enabled_room h k e = room_of h k e
 
--- a place of a list that has something
-pub some_below : {X : Type 0} (xs : List X) (n : ℕ) → is_some (slice_get xs n) ≡ true → n < length xs
-some_below [] n is = absurd (cc is)
-some_below (x ∷ xs) zero is = omega arith
-some_below (x ∷ xs) (suc n) is = omega (arith, some_below xs n is)
-
-pub none_below : {X : Type 0} (xs : List X) (n : ℕ) → is_some (slice_get xs n) ≡ false → length xs ≤ n
-none_below [] n is = omega arith
-none_below (x ∷ xs) zero is = absurd (cc is)
-none_below (x ∷ xs) (suc n) is = omega (arith, none_below xs n is)
-
--- A hand with a line left takes its next step.
-module _ (h : Held) (rests : has_line h ≡ true → Rests h) (some : is_some (slice_get h.lines (length h.answers)) ≡ true) where
+-- A hand with a line left takes the next step of this line, at this place.
+module _ (h : Held) (rests : has_line h ≡ true → Rests h) (has : has_line h ≡ true) (line : Line) (next_is : line ≡ next_line h)
+    (line_is : line ≡ line_at h.state.place h) (p : Place) (place_is : p ≡ standing h.state.place h.state.sizes h.slots line.command) where
   pub left_here : length h.answers < length h.lines
-  left_here = some_below h.lines (length h.answers) some
-
-  pub has_here : has_line h ≡ true
-  has_here = has_line_is h left_here
-
-  pub rests_here : Rests h
-  rests_here = rests has_here
+  left_here = grind (arith, nat_tests)
 
   pub part_here : PartRests h
-  part_here = rests_here.part
+  part_here = (rests has).part
 
-  pub command_here : (line : Line) → line ≡ line_at h.state.place h → IsCommandFor h.state.sizes line.actor line.command
-  command_here line line_is = subst (λ (l : Line). IsCommandFor h.state.sizes l.actor l.command) (sym line_is) rests_here.line
+  same_line : line_at h.state.place h ≡ next_line h
+  same_line = sym line_is ∙ next_is
 
-  place_here : (line : Line) (p : Place) → line ≡ line_at h.state.place h → p ≡ standing h.state.place h.state.sizes h.slots line.command
-      → p ≡ place_at h.state.place h
-  place_here line p line_is place_is = place_is ∙ ap (λ (l : Line). standing h.state.place h.state.sizes h.slots l.command) line_is
+  place_here : place_at h.state.place h ≡ p
+  place_here = sym (place_is ∙ ap (λ (l : Line). standing h.state.place h.state.sizes h.slots l.command) line_is)
 
-  pub rests_at_here : (line : Line) (p : Place) → line ≡ line_at h.state.place h → p ≡ standing h.state.place h.state.sizes h.slots line.command
-      → RestsAt p line.command h
-  rests_at_here line p line_is place_is =
-      subst (λ q. RestsAt q line.command h) (sym (place_here line p line_is place_is)) (subst (λ (l : Line). RestsAt (place_at h.state.place h) l.command h) (sym line_is) rests_here.at)
+  pub begun_here : IsUnderWay p
+  begun_here = subst IsUnderWay (sym place_is) (is_begun h.state.place h.state.sizes h.slots line.command)
 
-  pub accepts_here : (line : Line) (p : Place) → line ≡ line_at h.state.place h → p ≡ standing h.state.place h.state.sizes h.slots line.command
-      → AcceptsAt p line.command h.state.sizes h.slots
-  accepts_here line p line_is place_is =
-      subst (λ q. AcceptsAt q line.command h.state.sizes h.slots) (sym (place_here line p line_is place_is))
-      (subst (λ (l : Line). AcceptsAt (place_at h.state.place h) l.command h.state.sizes h.slots) (sym line_is) rests_here.accepts)
+  pub command_here : IsCommandFor h.state.sizes (next_line h).actor (next_line h).command
+  command_here = subst (λ (l : Line). IsCommandFor h.state.sizes l.actor l.command) same_line (rests has).line
 
-  pub made_here : (x : Held) (line : Line) (p : Place) (v : ℕ) → line ≡ line_at h.state.place h
-      → p ≡ standing h.state.place h.state.sizes h.slots line.command → x ≡ line_after line p h v
-      → x ≡ line_after (line_at h.state.place h) (place_at h.state.place h) h v
-  made_here x line p v line_is place_is made =
-      made ∙ ap (λ (q : Place). line_after line q h v) (place_here line p line_is place_is) ∙ ap (λ (l : Line). line_after l (place_at h.state.place h) h v) line_is
+  pub rests_at_here : RestsAt p (next_line h).command h
+  rests_at_here = subst (λ q. RestsAt q (next_line h).command h) place_here (subst (λ (l : Line). RestsAt (place_at h.state.place h) l.command h) same_line (rests has).at)
 
-pub none_here : (h : Held) → is_some (slice_get h.lines (length h.answers)) ≡ false → has_line h ≡ false
-none_here h none = let few = none_below h.lines (length h.answers) none in grind (arith, nat_tests)
+  pub accepts_here : AcceptsAt p (next_line h).command h.state.sizes h.slots
+  accepts_here =
+      subst (λ q. AcceptsAt q (next_line h).command h.state.sizes h.slots) place_here
+      (subst (λ (l : Line). AcceptsAt (place_at h.state.place h) l.command h.state.sizes h.slots) same_line (rests has).accepts)
+
+  pub made_here : (x : Held) (v : ℕ) → x ≡ line_after (next_line h) p h v → x ≡ line_after (line_at h.state.place h) (place_at h.state.place h) h v
+  made_here x v made =
+      made ∙ ap (λ (q : Place). line_after (next_line h) q h v) (sym place_here) ∙ ap (λ (l : Line). line_after l (place_at h.state.place h) h v) (sym same_line)
 
 -- Behind the line's step, where a line is left, come the flush and the topics, and make the hand that the step leads to.
 module _ (h g : Held) (k : Kind) (v : ℕ) (enabled : Enabled h k) (line : has_line h ≡ true → g ≡ line_after (line_at h.state.place h) (place_at h.state.place h) h v) (none : has_line h ≡ false → g ≡ h) where

@@ -1,11 +1,11 @@
 -- The hand that a line's step makes, field by field.
 use Rattle.std.specs.Prelude.{Bool}
-use Rattle.std.proofs.Common.{◌≡◌, ℕ, List, refl, sym, ap, ◌∙◌}
+use Rattle.std.proofs.Common.{◌≡◌, ℕ, suc, List, [], ◌∷◌, ◌++◌, length, refl, sym, ap, ◌∙◌, arith}
+use Rattle.std.proofs.lemmas.List.{length_push}
 use Rattle.circular_buffer.specs.Buffer.{Buffer}
 use Rattle.core_views.specs.declared.actor.Actor.{Actor}
 use Rattle.core_views.specs.declared.answer.AnsweredLine.{AnsweredLine}
 use Rattle.core_views.specs.declared.cache.Translation.{Translation}
-use Rattle.core_views.specs.declared.hand.State.{State}
 use Rattle.core_views.specs.declared.place.AccessPlace.{AccessPlace}
 use Rattle.core_views.specs.declared.place.AccessPlace.TheVariants.{Enter}
 use Rattle.core_views.specs.declared.place.Place.{Place}
@@ -15,11 +15,13 @@ use Rattle.core_views.specs.declared.trace.Command.{Command}
 use Rattle.core_views.specs.declared.trace.Command.TheVariants.{Access}
 use Rattle.core_views.specs.declared.trace.Line.{Line}
 use Rattle.core_views.specs.declared.trace.Op.{Op}
-use Rattle.core_views.specs.Held.{Held}
+use Rattle.core_views.specs.declared.hand.Progress.{Progress}
+use Rattle.core_views.specs.Held.{Held, State, line_under, next_line, progress_of}
 use Rattle.core_views.specs.SlotSets.{MemorySlots}
 use Rattle.mmu_core.specs.declared.outcome.Outcome.{Outcome}
 use Rattle.mmu_core.specs.lines.AccessSteps.{access_caches}
 use Rattle.mmu_core.specs.lines.Delays.{counted, delays_counted, is_delay, steps_counted}
+use Rattle.mmu_core.specs.lines.Rests.{IsUnderWay}
 use Rattle.mmu_core.specs.machine.Steps.{delays_at, line_after}
 use Rattle.mmu_core.specs.lines.Forms.{caches_at, loads_at, outcome_at, records_at}
 use Rattle.mmu_core.specs.machine.Outcomes.{answers_after, place_after}
@@ -38,9 +40,9 @@ caches_same : (p : Place) (command : Command) (h : Held) (slots : MemorySlots) (
 caches_same (place.Access p) (Access gfn word op) h slots v = access_caches_same p h slots gfn op v
 caches_same _ _ h slots v = refl
 
-abbrev placed : State → Place → Line → ℕ → ℕ → ℕ → Held → List AnsweredLine → Held
-placed s q line leaf steps delays f answers = record {
-  state = record { sizes = s.sizes; actor = s.actor; place = q; line = line; leaf = leaf; steps = steps; delays = delays };
+abbrev placed : Progress → Place → Line → Translation → ℕ → ℕ → Held → List AnsweredLine → Held
+placed s q line used steps delays f answers = record {
+  state = record { sizes = s.sizes; actor = s.actor; place = q; line = line; used = used; steps = steps; delays = delays };
   topics = f.topics;
   cached = f.cached;
   slots = f.slots;
@@ -58,26 +60,27 @@ steps_behind h delay = steps_counted delay (counted h.state.place h.state.steps)
 abbrev delays_behind : Held → Bool → ℕ
 delays_behind h delay = delays_counted delay (counted h.state.place h.state.delays)
 
-pub line_made : (h f : Held) (s : State) (line : Line) (p q : Place) (v leaf : ℕ) (slots : MemorySlots) (o : Outcome) (delay : Bool) (steps delays : ℕ) (answers : List AnsweredLine)
-    → o ≡ outcome_at p line.command h v → leaf ≡ (loads_at p line.command h v).leaf
+pub line_made : (h f : Held) (s : Progress) (line : Line) (p q : Place) (l : Line) (v : ℕ) (used : Translation) (slots : MemorySlots) (o : Outcome) (delay : Bool) (steps delays : ℕ) (answers : List AnsweredLine)
+    → o ≡ outcome_at p line.command h v → used ≡ (loads_at p line.command h v).used
     → delay ≡ is_delay p line.command h o v → steps ≡ steps_behind h delay → delays ≡ delays_behind h delay
-    → slots ≡ records_at p line.command h.slots → f ≡ with_cached h (caches_at p line.command (with_slots h slots) v) slots → s ≡ f.state
-    → q ≡ place_after o → answers ≡ answers_after o line h.answers
-    → placed s q line leaf steps delays f answers ≡ line_after line p h v
-line_made h f s line p q v leaf slots o delay steps delays answers o_is leaf_is delay_is steps_is delays_is slots_is f_is s_is q_is answers_is =
+    → slots ≡ records_at p line.command h.slots → f ≡ with_cached h (caches_at p line.command (with_slots h slots) v) slots → s ≡ progress_of f.state
+    → q ≡ place_after o → answers ≡ answers_after o line h.answers → l ≡ line
+    → placed s q l used steps delays f answers ≡ line_after line p h v
+line_made h f s line p q l v used slots o delay steps delays answers o_is used_is delay_is steps_is delays_is slots_is f_is s_is q_is answers_is line_is =
     let same : IsSameState h.state (loads_at p line.command h v) = loads_same p line.command h v in
     let same_delay : delay ≡ delays_at p line.command h v = delay_is ∙ ap (λ (x : Outcome). is_delay p line.command h x v) o_is in
-    ap (λ (x : State). placed x q line leaf steps delays f answers) s_is
-    ∙ ap (λ x. placed f.state q line leaf x delays f answers) (steps_is ∙ ap (steps_behind h) same_delay)
-    ∙ ap (λ x. placed f.state q line leaf made x f answers) (delays_is ∙ ap (delays_behind h) same_delay)
-    ∙ ap (λ (x : Held). placed x.state q line leaf made waits x answers) f_is
-    ∙ ap (λ (c : Buffer Translation). placed h.state q line leaf made waits (with_cached h c slots) answers) (caches_same p line.command h slots v)
-    ∙ ap (λ (x : MemorySlots). placed h.state q line leaf made waits (with_cached h (caches_at p line.command h v) x) answers) slots_is
-    ∙ ap (λ x. placed h.state q line x made waits cached answers) leaf_is
-    ∙ ap (λ (x : Sizes). placed (record h.state { sizes = x }) q line (loads_at p line.command h v).leaf made waits cached answers) (sym same.sizes)
-    ∙ ap (λ (x : Actor). placed (record (loads_at p line.command h v) { actor = x }) q line (loads_at p line.command h v).leaf made waits cached answers) (sym same.actor)
-    ∙ ap (λ (x : Place). placed (loads_at p line.command h v) x line (loads_at p line.command h v).leaf made waits cached answers) (q_is ∙ ap place_after o_is)
-    ∙ ap (λ (x : List AnsweredLine). placed (loads_at p line.command h v) (place_after (outcome_at p line.command h v)) line (loads_at p line.command h v).leaf made waits cached x)
+    ap (λ (x : Line). placed s q x used steps delays f answers) line_is
+    ∙ ap (λ (x : Progress). placed x q line used steps delays f answers) s_is
+    ∙ ap (λ x. placed (progress_of f.state) q line used x delays f answers) (steps_is ∙ ap (steps_behind h) same_delay)
+    ∙ ap (λ x. placed (progress_of f.state) q line used made x f answers) (delays_is ∙ ap (delays_behind h) same_delay)
+    ∙ ap (λ (x : Held). placed (progress_of x.state) q line used made waits x answers) f_is
+    ∙ ap (λ (c : Buffer Translation). placed (progress_of h.state) q line used made waits (with_cached h c slots) answers) (caches_same p line.command h slots v)
+    ∙ ap (λ (x : MemorySlots). placed (progress_of h.state) q line used made waits (with_cached h (caches_at p line.command h v) x) answers) slots_is
+    ∙ ap (λ (x : Translation). placed (progress_of h.state) q line x made waits cached answers) used_is
+    ∙ ap (λ (x : Sizes). placed (progress_of (record h.state { sizes = x })) q line (loads_at p line.command h v).used made waits cached answers) (sym same.sizes)
+    ∙ ap (λ (x : Actor). placed (progress_of (record (loads_at p line.command h v) { actor = x })) q line (loads_at p line.command h v).used made waits cached answers) (sym same.actor)
+    ∙ ap (λ (x : Place). placed (progress_of (loads_at p line.command h v)) x line (loads_at p line.command h v).used made waits cached answers) (q_is ∙ ap place_after o_is)
+    ∙ ap (λ (x : List AnsweredLine). placed (progress_of (loads_at p line.command h v)) (place_after (outcome_at p line.command h v)) line (loads_at p line.command h v).used made waits cached x)
     (answers_is ∙ ap (λ (x : Outcome). answers_after x line h.answers) o_is)
   where
     made : ℕ
@@ -88,3 +91,21 @@ line_made h f s line p q v leaf slots o delay steps delays answers o_is leaf_is 
 
     cached : Held
     cached = with_cached h (caches_at p line.command h v) (records_at p line.command h.slots)
+
+-- The line that a hand has under way, or has answered last, is the one that the step was of.
+pub line_goes : (q : Place) (h : Held) → IsUnderWay q → line_under q h.lines (length h.answers) ≡ next_line h
+line_goes place.Between h under = absurd under
+line_goes _ h under = refl
+
+pub line_ends : (h : Held) (answer : AnsweredLine) → line_under place.Between h.lines (length (h.answers ++ answer ∷ [])) ≡ next_line h
+line_ends h answer = 
+    let more : length (h.answers ++ answer ∷ []) ≡ suc (length h.answers) = length_push h.answers answer ∙ omega arith in
+    ap (λ n. line_under place.Between h.lines n) more
+
+-- The hand once its record and its cache have changed, which it has line by line.
+pub filled_is : (h g f : Held) (line : Line) (p : Place) (v : ℕ) → line ≡ next_line h
+    → g ≡ record h { slots = records_at p (next_line h).command h.slots } → f ≡ record g { cached = caches_at p (next_line g).command g v }
+    → f ≡ with_cached h (caches_at p line.command (with_slots h (records_at p line.command h.slots)) v) (records_at p line.command h.slots)
+filled_is h g f line p v line_is recorded filled =
+    filled ∙ (ap (λ (x : Held). record x { cached = caches_at p (next_line x).command x v }) recorded
+    ∙ ap (λ (l : Line). with_cached h (caches_at p l.command (with_slots h (records_at p l.command h.slots)) v) (records_at p l.command h.slots)) (sym line_is))

@@ -34,7 +34,7 @@ module _ (before : ℕ → ℕ) (set : ℕ) (after : ℕ → ℕ) (other : ℕ) 
       (λ t is. (is.0, leaf_stays host t.gfn t.leaf is.1)) ts each
 
   pub access_stays : (host : ℕ → ℕ) (p : AccessPlace) (gfn : ℕ) (h : Held) → AccessHolds before host set p gfn h → AccessHolds after host other p gfn h
-  access_stays host Touch gfn h leaf = leaf_stays host gfn h.state.leaf leaf
+  access_stays host Touch gfn h leaf = (leaf.0, leaf_stays host gfn h.state.used.leaf leaf.1)
   access_stays host _ gfn h none = tt
 
 -- Each live slot was live, and the same: the set is one still.

@@ -22,9 +22,9 @@ use Rattle.core_views.specs.Held.{Held}
 use Rattle.spte_words.specs.declared.area.Area.{Area}
 use Rattle.spte_words.specs.declared.area.Area.TheVariants as area
 use Rattle.spte_words.specs.Areas.{content_index, pool_index}
-use Rattle.spte_words.specs.Entries.{frame_in}
 use Rattle.spte_words.specs.Flags.{flags_live, flags_read_only}
 use Rattle.part_steps.specs.declared.part_step.PartStep.{PartStep}
+use Rattle.mmu_core.specs.lines.Cached.{frame_used}
 use Rattle.mmu_core.specs.lines.AccessSteps.{access_note, access_part, task_by, touch_of}
 use Rattle.mmu_core.specs.lines.FaultSteps.{fault_part}
 use Rattle.part_steps.specs.SlotWords.{field_number, live_at, slot_at, slot_index}
@@ -92,7 +92,7 @@ behind_access P v a line p gfn word op part touch = by (access_part p gfn h.topi
     h = v.hand a
 
     index : ℕ
-    index = content_index (map_of h.state.sizes) (frame_in h.state.leaf) word
+    index = content_index (map_of h.state.sizes) (frame_used gfn h.state) word
 
     by : (o : Option PartStep) → ((step : PartStep) → o ≡ Some step → P (part_stepped a step (access_note p) v).words)
         → P (words_after (task_by o h (access_note p) (touch_of op index)) v.words)

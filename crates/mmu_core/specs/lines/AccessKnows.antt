@@ -6,12 +6,12 @@ use Rattle.core_views.specs.declared.topics.Hold.TheVariants.{Loose}
 use Rattle.core_views.specs.declared.topics.Stay.TheVariants.{Guest}
 use Rattle.core_views.specs.declared.topics.Topics.{Topics}
 use Rattle.core_views.specs.Held.{Held}
-use Rattle.spte_words.specs.Entries.{frame_in}
 use Rattle.part_steps.specs.declared.part_step.PartStep.{PartStep}
+use Rattle.part_steps.specs.PartBounds.{IsAtLeafLevel}
 use Rattle.part_steps.specs.PartHoldings.{IsOver}
 use Rattle.part_steps.specs.PartSteps.{IsAtRest, PartNeeds}
 use Rattle.mmu_core.specs.invariant.CachedPart.{IsLeafFor}
-use Rattle.mmu_core.specs.lines.Cached.{UsesTranslation}
+use Rattle.mmu_core.specs.lines.Cached.{UsesTranslation, frame_used}
 use Rattle.mmu_core.specs.lines.FaultKnows.{FaultKnows}
 
 -- What a touch needs: the actor is in the guest, and uses a translation that it has cached, which covers the guest frame and allows the
@@ -19,7 +19,8 @@ use Rattle.mmu_core.specs.lines.FaultKnows.{FaultKnows}
 pub record TouchNeeds (gfn : ℕ) (write : Bool) (h : Held) : Type 0 where
   pub guest : h.topics.stay ≡ Guest
   pub uses : UsesTranslation gfn write h
-  pub frame : frame_in h.state.leaf < h.state.sizes.frames
+  pub level : IsAtLeafLevel h.state.used
+  pub frame : frame_used gfn h.state < h.state.sizes.frames
 
 -- what the next step of an access needs: a step of a part its needs, and the touch its own
 abbrev pub RestsOn : Option PartStep → ℕ → Bool → Held → Type 0
@@ -43,7 +44,7 @@ AccessKnows Touch gfn write h = InGuest h.topics × UsesTranslation gfn write h
 AccessKnows (Leave how) gfn write h = InGuest h.topics
 AccessKnows (Fault p) gfn write h = FaultKnows p h.state.sizes gfn write h.topics
 
--- The leaf that an access uses agrees with slots and host, at its touch.
+-- The translation that an access uses is one of level 1, whose leaf agrees with slots and host, at its touch.
 abbrev pub AccessHolds : (ℕ → ℕ) → (ℕ → ℕ) → ℕ → AccessPlace → ℕ → Held → Type 0
-AccessHolds pool host set Touch gfn h = IsLeafFor pool host set gfn h.state.leaf
+AccessHolds pool host set Touch gfn h = (h.state.used.level ≡ 1) × IsLeafFor pool host set gfn h.state.used.leaf
 AccessHolds pool host set _ gfn h = Unit {0}

@@ -6,7 +6,6 @@ use Rattle.core_views.specs.declared.answer.Answer.TheVariants.{Mmio, HostFault,
 use Rattle.core_views.specs.declared.cache.Translation.{Translation}
 use Rattle.core_views.specs.declared.event.EventKind.{EventKind}
 use Rattle.core_views.specs.declared.event.EventKind.TheVariants.{Accessed, Exited, LookedAtHost, LookedAtPause, LookedAtSlots}
-use Rattle.core_views.specs.declared.hand.State.{State}
 use Rattle.core_views.specs.declared.kind.StepKind.TheVariants as kind
 use Rattle.core_views.specs.declared.place.AccessPlace.{AccessPlace}
 use Rattle.core_views.specs.declared.place.AccessPlace.TheVariants.{Enter, Pause, Root, Walk, Touch, Leave, Fault}
@@ -20,19 +19,19 @@ use Rattle.core_views.specs.declared.place.Place.TheVariants.{Access}
 use Rattle.core_views.specs.declared.topics.Topics.{Topics}
 use Rattle.core_views.specs.declared.trace.Op.{Op}
 use Rattle.core_views.specs.declared.trace.Op.TheVariants.{Read, Write, Add}
-use Rattle.core_views.specs.Held.{Held}
+use Rattle.core_views.specs.Held.{Held, State}
 use Rattle.core_views.specs.Slots.{is_write}
 use Rattle.spte_words.specs.declared.area.Area.TheVariants as area
 use Rattle.spte_words.specs.declared.spte_kind.SpteKind.{SpteKind}
 use Rattle.spte_words.specs.declared.spte_kind.SpteKind.TheVariants as entry_kind
 use Rattle.spte_words.specs.Areas.{content_index}
-use Rattle.spte_words.specs.Entries.{frame_in, kind_of}
+use Rattle.spte_words.specs.Entries.{kind_of}
 use Rattle.mmu_core.specs.declared.outcome.Outcome.{Outcome}
 use Rattle.mmu_core.specs.declared.outcome.Outcome.TheVariants.{Goes, Ends}
 use Rattle.part_steps.specs.declared.task.Task.{Task}
 use Rattle.part_steps.specs.declared.part_step.PartStep.{PartStep}
 use Rattle.part_steps.specs.declared.part_step.PartStep.TheVariants as part
-use Rattle.mmu_core.specs.lines.Cached.{first_usable, with_leaf}
+use Rattle.mmu_core.specs.lines.Cached.{first_usable, frame_used, with_leaf}
 use Rattle.mmu_core.specs.lines.FaultSteps.{allows_access, fault_next, fault_part}
 use Rattle.part_steps.specs.PartTasks.{own_index, part_task}
 use Rattle.part_steps.specs.SlotWords.{page_of}
@@ -77,7 +76,7 @@ task_by None h note touch = touch
 task_by (Some step) h note touch = part_task step (own_index h) h.topics note
 
 abbrev pub access_task : AccessPlace → Held → ℕ → ℕ → Op → Task
-access_task p h gfn word op = task_by (access_part p gfn h.topics) h (access_note p) (touch_of op (content_index (map_of h.state.sizes) (frame_in h.state.leaf) word))
+access_task p h gfn word op = task_by (access_part p gfn h.topics) h (access_note p) (touch_of op (content_index (map_of h.state.sizes) (frame_used gfn h.state) word))
 
 -- behind the pause: the touch through a cached translation, or a walk
 abbrev pub pause_next : Bool → Option Translation → AccessPlace
@@ -100,19 +99,19 @@ access_outcome (Enter again) h gfn op v = Goes (Access (Pause again))
 access_outcome (Pause again) h gfn op v = Goes (Access (pause_next again (first_usable gfn (is_write op) h.cached.items)))
 access_outcome (Root again) h gfn op v = Goes (Access (Walk again))
 access_outcome (Walk again) h gfn op v = Goes (Access (walk_next again (kind_of h.topics.walk.level v) (allows_access (is_write op) v)))
-access_outcome Touch h gfn op v = Goes (Access (Leave (leaving.Reached (frame_in h.state.leaf) v)))
+access_outcome Touch h gfn op v = Goes (Access (Leave (leaving.Reached (frame_used gfn h.state) v)))
 access_outcome (Leave (leaving.Reached frame value)) h gfn op v = Ends (Reached frame value)
 access_outcome (Leave leaving.Faults) h gfn op v = Goes (Access (Fault fault.Begin))
 access_outcome (Fault p) h gfn op v = behind_fault (fault_next p h.state.sizes gfn (is_write op) h.topics v)
 
--- the leaf that the access uses
-abbrev pub leaf_used : Option Translation → ℕ → ℕ
-leaf_used None leaf = leaf
-leaf_used (Some t) leaf = t.leaf
+-- the translation that the access uses: the one that was found, where one was
+abbrev pub use_found : Option Translation → Translation → Translation
+use_found None used = used
+use_found (Some t) used = t
 
 abbrev pub access_loads : AccessPlace → Held → ℕ → Op → ℕ → State
-access_loads (Pause again) h gfn op v = record h.state { leaf = leaf_used (first_usable gfn (is_write op) h.cached.items) h.state.leaf }
-access_loads (Walk again) h gfn op v = record h.state { leaf = v }
+access_loads (Pause again) h gfn op v = record h.state { used = use_found (first_usable gfn (is_write op) h.cached.items) h.state.used }
+access_loads (Walk again) h gfn op v = record h.state { used = record { gfn = gfn; level = h.topics.walk.level; leaf = v } }
 access_loads _ h gfn op v = h.state
 
 -- A leaf that the walk of a stay finds is cached, where it allows the access.
@@ -132,7 +131,7 @@ exiting (Ends answer) = Exited answer ∷ []
 -- what a step tells, besides that its line begins or is answered
 abbrev pub access_tells : AccessPlace → Held → ℕ → ℕ → Op → ℕ → List EventKind
 access_tells (Pause again) h gfn word op v = LookedAtPause ∷ []
-access_tells Touch h gfn word op v = Accessed gfn word op (frame_in h.state.leaf) v ∷ []
+access_tells Touch h gfn word op v = Accessed gfn word op (frame_used gfn h.state) v ∷ []
 access_tells (Fault (fault.Find begun)) h gfn word op v = if begun then [] else LookedAtSlots ∷ []
 access_tells (Fault fault.Host) h gfn word op v = LookedAtHost (page_of h.topics.search.slot gfn) ∷ []
 access_tells (Fault (fault.End e)) h gfn word op v = exiting (fault_over e)

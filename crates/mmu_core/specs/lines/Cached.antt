@@ -5,10 +5,10 @@ use Rattle.core_views.specs.declared.cache.Translation.{Translation}
 use Rattle.core_views.specs.declared.kind.Kind.{Kind}
 use Rattle.core_views.specs.declared.kind.StepKind.{StepKind}
 use Rattle.core_views.specs.declared.kind.StepKind.TheVariants as kind
-use Rattle.core_views.specs.Held.{Held}
+use Rattle.core_views.specs.Held.{Held, State}
 use Rattle.core_views.specs.Kinds.{kind_named}
 use Rattle.spte_words.specs.Bits.{has_bit}
-use Rattle.spte_words.specs.Entries.{can_write, level_span}
+use Rattle.spte_words.specs.Entries.{can_write, mapped_frame, level_span}
 
 -- The leaf's run holds the guest frame, as it holds the one that the walk was for.
 abbrev pub covers : ℕ → Translation → Bool
@@ -26,12 +26,13 @@ is_usable gfn write t = covers gfn t && allows write t
 abbrev pub first_usable : ℕ → Bool → List Translation → Option Translation
 first_usable gfn write ts = find (is_usable gfn write) ts
 
--- The leaf that the actor uses is that of a translation that it has cached: of the newest one that covers the guest frame and allows the
--- access.
-pub record UsesTranslation (gfn : ℕ) (write : Bool) (h : Held) : Type 0 where
-  pub translation : Translation
-  pub newest : first_usable gfn write h.cached.items ≡ Some translation
-  pub leaf : h.state.leaf ≡ translation.leaf
+-- The translation that the actor uses is the newest one in its cache that covers the guest frame and allows the access.
+abbrev pub UsesTranslation : ℕ → Bool → Held → Type 0
+UsesTranslation gfn write h = first_usable gfn write h.cached.items ≡ Some h.state.used
+
+-- the frame that a guest frame has by the translation in use
+abbrev pub frame_used : ℕ → State → ℕ
+frame_used gfn s = mapped_frame s.used.level s.used.leaf gfn
 
 -- Bit 2 of a state word: a flush is asked for (vcpu-requests.rst, KVM_REQ_TLB_FLUSH).
 abbrev pub asks_flush : ℕ → Bool

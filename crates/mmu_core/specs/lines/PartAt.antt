@@ -4,15 +4,15 @@ use Rattle.core_views.specs.declared.trace.Command.{Command}
 use Rattle.core_views.specs.declared.trace.Command.TheVariants.{Access}
 use Rattle.core_views.specs.Held.{Held}
 use Rattle.spte_words.specs.Areas.{content_index}
-use Rattle.spte_words.specs.Entries.{frame_in}
 use Rattle.part_steps.specs.declared.task.Task.{Task}
 use Rattle.part_steps.specs.Tasks.{map_of, no_task}
 use Rattle.mmu_core.specs.lines.AccessSteps.{task_by, touch_of}
+use Rattle.mmu_core.specs.lines.Cached.{frame_used}
 use Rattle.mmu_core.specs.lines.Forms.{note_at, part_at}
 
 -- what the guest touches for the command, through the leaf that its access uses
 abbrev pub touch_at : Command → Held → Task
-touch_at (Access gfn word op) h = touch_of op (content_index (map_of h.state.sizes) (frame_in h.state.leaf) word)
+touch_at (Access gfn word op) h = touch_of op (content_index (map_of h.state.sizes) (frame_used gfn h.state) word)
 touch_at _ h = no_task
 
 -- what the step of a place is to do for the command

@@ -4,7 +4,6 @@ use Rattle.core_views.specs.declared.actor.Actor.TheVariants.{Manager}
 use Rattle.core_views.specs.declared.event.Event.{Event}
 use Rattle.core_views.specs.declared.event.EventKind.{EventKind}
 use Rattle.core_views.specs.declared.event.EventKind.TheVariants.{Begun}
-use Rattle.core_views.specs.declared.hand.State.{State}
 use Rattle.core_views.specs.declared.kind.Kind.{Kind}
 use Rattle.core_views.specs.declared.place.Place.{Place}
 use Rattle.core_views.specs.declared.place.Place.TheVariants as place
@@ -12,7 +11,9 @@ use Rattle.core_views.specs.declared.sizes.Sizes.{Sizes}
 use Rattle.core_views.specs.declared.trace.Command.{Command}
 use Rattle.core_views.specs.declared.trace.Line.{Line}
 use Rattle.core_views.specs.Flat.{no_line}
-use Rattle.core_views.specs.Held.{Held, first_held}
+use Rattle.core_views.specs.Held.{Held, State, first_held}
+pub use Rattle.core_views.specs.Held.{line_at, next_line}
+use Rattle.core_views.specs.Sizes.{no_sizes}
 use Rattle.core_views.specs.SlotSets.{MemorySlots}
 use Rattle.part_steps.specs.declared.task.Task.{Task}
 use Rattle.mmu_core.specs.lines.Cached.{flushed}
@@ -22,15 +23,6 @@ use Rattle.mmu_core.specs.lines.Forms.{caches_at, first_place, loads_at, outcome
 pub use Rattle.mmu_core.specs.lines.PartAt.{task_at}
 use Rattle.mmu_core.specs.machine.Outcomes.{answering, answers_after, place_after}
 use Rattle.part_steps.specs.TopicSteps.{topics_after}
-
--- the first of a hand's lines that has no answer
-abbrev pub next_line : Held → Line
-next_line h = unwrap_or (slice_get h.lines (length h.answers)) no_line
-
--- the line that the hand's next step is of: the one under way, or the next one
-abbrev pub line_at : Place → Held → Line
-line_at place.Between h = next_line h
-line_at _ h = h.state.line
 
 -- where a line with this command stands, which is at its first place where it hasn't begun
 abbrev pub standing : Place → Sizes → MemorySlots → Command → Place
@@ -110,4 +102,4 @@ events_of h v = events_by (has_line h) h v
 
 -- the hand of an actor that is none
 abbrev pub nobody : Held
-nobody = first_held (record { pages = 0; frames = 0; words = 0; pool = 0; cache = 0; vcpus = 0; hosts = 0; workers = 0 }) Manager []
+nobody = first_held (no_sizes) Manager []

@@ -2,6 +2,7 @@
 use Rattle.std.proofs.Common.{◌≡◌, ◌≢◌, ◌⊎◌, inl, inr, ◌<◌, ◌≤◌, ℕ, List, [], ◌∷◌, ◌++◌, length, refl, sym, subst, ap, append_assoc}
 use Rattle.std.specs.Prelude.{Option, Some, None, slice_get, unwrap_or, is_some}
 use Rattle.std.proofs.lemmas.List.{append-nil}
+use Rattle.std.proofs.lemmas.Option.{slice_get_within}
 use Rattle.core_views.specs.declared.answer.Answer.TheVariants as answer
 use Rattle.core_views.specs.declared.kind.Kind.{Kind}
 use Rattle.core_views.specs.declared.place.Place.{Place}
@@ -25,7 +26,6 @@ use Rattle.mmu_core.proofs.machine.Columns.{same_or}
 use Rattle.mmu_core.specs.machine.View.{view}
 use Rattle.mmu_core.proofs.lines.KnowsKept.{knows_at}
 use Rattle.mmu_core.proofs.machine.LineRuns.{run_one_more}
-use Rattle.mmu_core.proofs.machine.Advancing.{some_below}
 use Rattle.mmu_core.proofs.held.ClaimGoes.{at_behind, at_in, others_hand}
 use Rattle.mmu_core.proofs.held.Scanned.{begins_scan, scan_kept, shorter}
 use Rattle.mmu_core.proofs.machine.Which.{has_line_is, is_next}
@@ -78,7 +78,7 @@ has_left place.Between h v U e = by (slice_get h.lines (length h.answers)) refl 
         → outcome_at (first_place h.state.sizes h.slots (unwrap_or o no_line).command) (unwrap_or o no_line).command h v ≡ Ends answer.Starved
         → length h.answers < length h.lines
     by None is e = absurd (cc e)
-    by (Some line) is e = some_below h.lines (length h.answers) (ap is_some is)
+    by (Some line) is e = slice_get_within h.lines (length h.answers) line is
 has_left _ h v U e = U.1
 
 pub legal_parts : (w : World Held) (ss ts : List (Step Kind)) → Legal mmu w (ss ++ ts) → Legal mmu w ss × Legal mmu (run mmu w ss) ts

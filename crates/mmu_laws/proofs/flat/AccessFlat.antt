@@ -1,11 +1,11 @@
 -- What the steps of an access owe flat memory.
+use Rattle.core_views.specs.Held.{State}
 use Rattle.std.proofs.Common.{◌≡◌, ◌≢◌, ◌<◌, ◌⊎◌, inl, inr, ℕ, [], ◌∷◌, refl, sym, subst, ap, ◌∙◌, arith}
 use Rattle.std.specs.Prelude.{Bool, true, false, ◌==◌, ◌&&◌, not, if◌then◌else◌, Option, Some, None}
 use Rattle.std.proofs.lemmas.Bool.Decides.{nat_tests}
 use Rattle.core_views.specs.declared.answer.Answer.TheVariants.{Reached}
 use Rattle.core_views.specs.declared.cache.Translation.{Translation}
 use Rattle.core_views.specs.declared.event.EventKind.TheVariants.{Accessed}
-use Rattle.core_views.specs.declared.hand.State.{State}
 use Rattle.core_views.specs.declared.place.AccessPlace.{AccessPlace}
 use Rattle.core_views.specs.declared.place.AccessPlace.TheVariants.{Enter, Pause, Root, Walk, Touch, Leave, Fault}
 use Rattle.core_views.specs.declared.place.FaultPlace.TheVariants as fault
@@ -36,7 +36,7 @@ use Rattle.spte_words.proofs.Indices.{same_content}
 use Rattle.part_steps.specs.declared.part_step.PartStep.{PartStep}
 use Rattle.part_steps.specs.declared.part_step.PartStep.TheVariants as part
 use Rattle.mmu_core.specs.lines.AccessSteps.{access_note, access_part, access_task, pause_next, task_by, touch_of, walk_next}
-use Rattle.mmu_core.specs.lines.Cached.{first_usable}
+use Rattle.mmu_core.specs.lines.Cached.{frame_used, first_usable}
 use Rattle.mmu_core.specs.lines.FaultSteps.{allows_access}
 use Rattle.mmu_laws.specs.flat.FlatInvariant.{AccessUnder, Runs}
 use Rattle.mmu_core.specs.invariant.Invariant.{Invariant, IsLeafFor}
@@ -53,7 +53,7 @@ use Rattle.mmu_laws.proofs.flat.PageFound.{frame_of_leaf, leaf_allows, page_in_m
 use Rattle.mmu_core.proofs.machine.PartStepping.{IsPart}
 use Rattle.mmu_core.proofs.machine.Stepping.{IsStep}
 use Rattle.mmu_core.proofs.slots.LiveStays.{access_never}
-use Rattle.mmu_core.proofs.lines.UsedTranslations.{uses_allows}
+use Rattle.mmu_core.proofs.lines.UsedTranslations.{lowest_frame, uses_allows}
 
 -- The step is one of a part, if it isn't the touch.
 abbrev pub IsPartOr : Sizes → View → ℕ → Option PartStep → Type 0
@@ -115,9 +115,9 @@ record Touches (z : Sizes) (s : State) (gfn word : ℕ) (op : Op) (facts : Facts
   page : ℕ
   page_in : page < z.pages
   word_in : word < z.words
-  frame : frame_in s.leaf ≡ page
+  frame : frame_used gfn s ≡ page
   behind_is : page_behind (flat_slots facts.slots) gfn op ≡ Some page
-  index : content_index (map_of s.sizes) (frame_in s.leaf) word ≡ content_index (map_of z) page word
+  index : content_index (map_of s.sizes) (frame_used gfn s) word ≡ content_index (map_of z) page word
 
 touches : (z : Sizes) (v : View) (a : ℕ) (line : Line) (gfn word : ℕ) (op : Op) (facts : Facts) (u : LineUnderWay)
     → IsStep z v a line (Access gfn word op) (place.Access Touch) → Invariant z v → AccessKnows Touch gfn (is_write op) (v.hand a)
@@ -125,11 +125,11 @@ touches : (z : Sizes) (v : View) (a : ℕ) (line : Line) (gfn word : ℕ) (op : 
     → Touches z (v.hand a).state gfn word op facts
 touches z v a line gfn word op facts u S I K R =
     let s : State = (v.hand a).state in
-    let F : IsLeafFor (v.words area.Pool) (v.words area.Host) (v.words area.Slots 0) gfn s.leaf = S.holds in
+    let F : IsLeafFor (v.words area.Pool) (v.words area.Host) (v.words area.Slots 0) gfn s.used.leaf = S.holds.1 in
     let page : ℕ = page_of F.slot gfn in
     let page_in : page < z.pages = page_in_machine z (v.words area.Slots 0) (v.words area.Role) (v.words area.Pool) F.id gfn F.slot I.set_part F.live F.holds in
-    let frame : frame_in s.leaf ≡ page = ap frame_in F.is ∙ frame_of_leaf z (v.words area.Host) F.slot page I.sizes I.hosts page_in in
-    let allowed : (is_write op && F.slot.read_only) ≡ false = leaf_allows op F.slot (v.words area.Host page) s.leaf F.is (uses_allows gfn (is_write op) (v.hand a) K.1) in
+    let frame : frame_used gfn s ≡ page = lowest_frame gfn s S.holds.0 ∙ ap frame_in F.is ∙ frame_of_leaf z (v.words area.Host) F.slot page I.sizes I.hosts page_in in
+    let allowed : (is_write op && F.slot.read_only) ≡ false = leaf_allows op F.slot (v.words area.Host page) s.used.leaf F.is (uses_allows gfn (is_write op) (v.hand a) K.1) in
     record {
       page = page;
       page_in = page_in;
@@ -144,11 +144,11 @@ touch_goes : (z : Sizes) (v : View) (a : ℕ) (line : Line) (gfn word : ℕ) (op
     → IsStep z v a line (Access gfn word op) (place.Access Touch) → Ready z v line (Access gfn word op) (place.Access Touch) (v.hand a).topics facts u
     → (T : Touches z (v.hand a).state gfn word op facts)
     → after area.Slots ≡ v.words area.Slots → after area.Pool ≡ v.words area.Pool → after area.Pause ≡ v.words area.Pause
-    → after area.Content (content_index (map_of (v.hand a).state.sizes) (frame_in (v.hand a).state.leaf) word) ≡ stored op (v.words area.Content (content_index (map_of (v.hand a).state.sizes) (frame_in (v.hand a).state.leaf) word))
-    → ((i : ℕ) → i ≢ content_index (map_of (v.hand a).state.sizes) (frame_in (v.hand a).state.leaf) word → after area.Content i ≡ v.words area.Content i)
-    → let x : ℕ = v.words area.Content (content_index (map_of (v.hand a).state.sizes) (frame_in (v.hand a).state.leaf) word) in
-    Goes z (v.hand a).state.actor line (Access gfn word op) after (place.Access (Leave (leaving.Reached (frame_in (v.hand a).state.leaf) x))) t
-    (Accessed gfn word op (frame_in (v.hand a).state.leaf) x ∷ []) facts past u
+    → after area.Content (content_index (map_of (v.hand a).state.sizes) (frame_used gfn (v.hand a).state) word) ≡ stored op (v.words area.Content (content_index (map_of (v.hand a).state.sizes) (frame_used gfn (v.hand a).state) word))
+    → ((i : ℕ) → i ≢ content_index (map_of (v.hand a).state.sizes) (frame_used gfn (v.hand a).state) word → after area.Content i ≡ v.words area.Content i)
+    → let x : ℕ = v.words area.Content (content_index (map_of (v.hand a).state.sizes) (frame_used gfn (v.hand a).state) word) in
+    Goes z (v.hand a).state.actor line (Access gfn word op) after (place.Access (Leave (leaving.Reached (frame_used gfn (v.hand a).state) x))) t
+    (Accessed gfn word op (frame_used gfn (v.hand a).state) x ∷ []) facts past u
 touch_goes z v a line gfn word op facts past u after t S R T slots_is pool_is pause_is here there = record {
   allowed = (
     (
@@ -176,8 +176,8 @@ touch_goes z v a line gfn word op facts past u after t S R T slots_is pool_is pa
 }
 
 -- the index of the word that the access touches
-abbrev pub touched_index : State → ℕ → ℕ
-touched_index s word = content_index (map_of s.sizes) (frame_in s.leaf) word
+abbrev pub touched_index : ℕ → State → ℕ → ℕ
+touched_index gfn s word = content_index (map_of s.sizes) (frame_used gfn s) word
 
 module _ (z : Sizes) (v : View) (a : ℕ) (line : Line) (gfn word : ℕ) (facts : Facts) (past : Past) (u : LineUnderWay) where
   -- what a step of the access owes, from what its actor knows
@@ -201,14 +201,14 @@ module _ (z : Sizes) (v : View) (a : ℕ) (line : Line) (gfn word : ℕ) (facts 
       touch_goes z v a line gfn word Read facts past u v.words (held_behind Read Touch) S R
       (touches z v a line gfn word Read facts u S I K R) refl refl refl refl (λ i apart. refl)
   touch_owes (Write x) S I P part_ K R =
-      touch_goes z v a line gfn word (Write x) facts past u (put v.words area.Content (touched_index (v.hand a).state word) x)
+      touch_goes z v a line gfn word (Write x) facts past u (put v.words area.Content (touched_index gfn (v.hand a).state word) x)
       (held_behind (Write x) Touch) S R (touches z v a line gfn word (Write x) facts u S I K R) refl refl refl
-      (upd_same (v.words area.Content) (touched_index (v.hand a).state word) x) (λ i apart. upd_other (v.words area.Content) (touched_index (v.hand a).state word) i x apart)
+      (upd_same (v.words area.Content) (touched_index gfn (v.hand a).state word) x) (λ i apart. upd_other (v.words area.Content) (touched_index gfn (v.hand a).state word) i x apart)
   touch_owes (Add x) S I P part_ K R =
-      let sum : ℕ = stored (Add x) (v.words area.Content (touched_index (v.hand a).state word)) in
-      touch_goes z v a line gfn word (Add x) facts past u (put v.words area.Content (touched_index (v.hand a).state word) sum)
+      let sum : ℕ = stored (Add x) (v.words area.Content (touched_index gfn (v.hand a).state word)) in
+      touch_goes z v a line gfn word (Add x) facts past u (put v.words area.Content (touched_index gfn (v.hand a).state word) sum)
       (held_behind (Add x) Touch) S R (touches z v a line gfn word (Add x) facts u S I K R) refl refl refl
-      (upd_same (v.words area.Content) (touched_index (v.hand a).state word) sum) (λ i apart. upd_other (v.words area.Content) (touched_index (v.hand a).state word) i sum apart)
+      (upd_same (v.words area.Content) (touched_index gfn (v.hand a).state word) sum) (λ i apart. upd_other (v.words area.Content) (touched_index gfn (v.hand a).state word) i sum apart)
 
   -- A step of a stay that tells nothing.
   quiet : (op : Op) (p next : AccessPlace) (step : PartStep) → access_part p gfn (v.hand a).topics ≡ Some step → IsPart z v a step → Invariant z v
@@ -219,7 +219,7 @@ module _ (z : Sizes) (v : View) (a : ℕ) (line : Line) (gfn word : ℕ) (facts 
   quiet op p next step is S I P R under = record { allowed = tt; refines = refines_stay z v.words (words_behind op p) facts L R.refines; under = under }
     where
       L : Leaves v.words (words_behind op p)
-      L = subst (λ o. Leaves v.words (words_after (task_by o (v.hand a) (access_note p) (touch_of op (touched_index (v.hand a).state word))) v.words)) (sym is) (part_leaves z v a step (access_note p) S P (access_never p gfn (v.hand a).topics step is))
+      L = subst (λ o. Leaves v.words (words_after (task_by o (v.hand a) (access_note p) (touch_of op (touched_index gfn (v.hand a).state word))) v.words)) (sym is) (part_leaves z v a step (access_note p) S P (access_never p gfn (v.hand a).topics step is))
 
   -- The access is answered.
   reached_owes : (op : Op) (frame value : ℕ) → Owes op (Leave (leaving.Reached frame value))

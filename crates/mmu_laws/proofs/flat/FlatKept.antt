@@ -7,7 +7,6 @@ use Rattle.core_views.specs.declared.actor.Actor.TheVariants as actor
 use Rattle.core_views.specs.declared.event.Event.{Event}
 use Rattle.core_views.specs.declared.event.EventKind.{EventKind}
 use Rattle.core_views.specs.declared.event.EventKind.TheVariants.{Begun}
-use Rattle.core_views.specs.declared.hand.State.{State}
 use Rattle.core_views.specs.declared.place.AccessPlace.{AccessPlace}
 use Rattle.core_views.specs.declared.place.AccessPlace.TheVariants as access
 use Rattle.core_views.specs.declared.place.Place.{Place}
@@ -20,7 +19,7 @@ use Rattle.core_views.specs.declared.trace.Op.{Op}
 use Rattle.core_views.specs.Actors.{changed_at, is_same}
 use Rattle.core_views.specs.Events.{after, after_all, line_after}
 use Rattle.core_views.specs.Flat.{Flat, LineUnderWay, Idle}
-use Rattle.core_views.specs.Held.{Held}
+use Rattle.core_views.specs.Held.{Held, State}
 use Rattle.core_views.specs.Lawful.{IsLawful}
 use Rattle.core_views.specs.SlotSets.{MemorySlots}
 use Rattle.core_views.specs.Sizes.{actors_of, index_of}

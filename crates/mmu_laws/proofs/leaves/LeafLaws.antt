@@ -180,17 +180,17 @@ cached_leaves_agree z w actor sound lt =
 
 -- at the touch
 at_touch : (z : Sizes) (pool host : ℕ → ℕ) (set : ℕ) (h : Held) (p : Place) (c : Command) (gfn word : ℕ) (op : Op) → p ≡ place.Access Touch → c ≡ Access gfn word op → Holds z pool host set p c h → KnowsPart p c h
-    → IsLeafFor pool host set gfn h.state.leaf × (allows_access (is_write op) h.state.leaf ≡ true)
+    → IsLeafFor pool host set gfn h.state.used.leaf × (allows_access (is_write op) h.state.used.leaf ≡ true)
 at_touch z pool host set h p c gfn word op at is holds knows =
     let here : Holds z pool host set (place.Access Touch) (Access gfn word op) h = subst (λ (d : Command). Holds z pool host set (place.Access Touch) d h) is (subst (λ (q : Place). Holds z pool host set q c h) at holds) in
     let knows_here : KnowsPart (place.Access Touch) (Access gfn word op) h = subst (λ (d : Command). KnowsPart (place.Access Touch) d h) is (subst (λ (q : Place). KnowsPart q c h) at knows) in
-    (here, uses_allows gfn (is_write op) h knows_here.1)
+    (here.1, uses_allows gfn (is_write op) h knows_here.1)
 
 pub used_leaves_agree : (z : Sizes) (w : World Held) (actor gfn word : ℕ) (op : Op) → IsSound z w → actor < actors_of z → (hand_in mmu w actor).state.place ≡ place.Access Touch
     → (hand_in mmu w actor).state.line.command ≡ Access gfn word op
-    → LeafAgrees (word_in z w area.Slots 0) (word_in z w area.Pool) (word_in z w area.Host) gfn (hand_in mmu w actor).state.leaf × (allows_access (is_write op) (hand_in mmu w actor).state.leaf ≡ true)
+    → LeafAgrees (word_in z w area.Slots 0) (word_in z w area.Pool) (word_in z w area.Host) gfn (hand_in mmu w actor).state.used.leaf × (allows_access (is_write op) (hand_in mmu w actor).state.used.leaf ≡ true)
 used_leaves_agree z w actor gfn word op sound lt at is =
     let I = sound.holds in
     let h : Held = hand_in mmu w actor in
     let T = at_touch z (word_in z w area.Pool) (word_in z w area.Host) (word_in z w area.Slots 0) h h.state.place h.state.line.command gfn word op at is (I.loads actor lt) (I.knows actor lt) in
-    (leaf_agrees z (word_in z w area.Slots 0) (word_in z w area.Role) (word_in z w area.Pool) (word_in z w area.Host) gfn h.state.leaf I.sizes I.hosts I.set_part T.0, T.1)
+    (leaf_agrees z (word_in z w area.Slots 0) (word_in z w area.Role) (word_in z w area.Pool) (word_in z w area.Host) gfn h.state.used.leaf I.sizes I.hosts I.set_part T.0, T.1)

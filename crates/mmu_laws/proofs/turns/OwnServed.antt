@@ -26,12 +26,12 @@ use Rattle.spte_words.specs.declared.area.Area.TheVariants as area
 use Rattle.spte_words.specs.declared.spte_kind.SpteKind.{SpteKind}
 use Rattle.spte_words.specs.declared.spte_kind.SpteKind.TheVariants as entry_kind
 use Rattle.spte_words.specs.Areas.{content_index}
-use Rattle.spte_words.specs.Entries.{frame_in, kind_of}
+use Rattle.spte_words.specs.Entries.{kind_of}
 use Rattle.mmu_core.proofs.lines.Forms.{other_knows}
 use Rattle.mmu_core.specs.declared.outcome.Outcome.{Outcome}
 use Rattle.mmu_core.specs.declared.outcome.Outcome.TheVariants.{Goes, Ends}
 use Rattle.mmu_core.specs.lines.AccessSteps.{access_note, access_outcome, access_part, access_task, behind_fault, pause_next, walk_next as stay_walk_next}
-use Rattle.mmu_core.specs.lines.Cached.{first_usable}
+use Rattle.mmu_core.specs.lines.Cached.{frame_used, first_usable}
 use Rattle.mmu_core.specs.alone.FaultAlone.{EntryStands}
 use Rattle.mmu_core.specs.lines.FaultKnows.{FaultKnows, KnowsNext}
 use Rattle.mmu_core.specs.lines.FaultSteps.{allows_access, fault_next, fault_part}
@@ -112,7 +112,7 @@ module _ (X : Type 0) (h : Held) (gfn word : ℕ) (op : Op) (words : Area → �
   access_installed (Fault p) still K make =
       let v : ℕ = answer_in (access_task (Fault p) h gfn word op) words in
       let same : topics_at (place.Access (Fault p)) (Access gfn word op) h words ≡ part_topics (fault_part p gfn h.topics) h.topics v =
-      task_topics (access_part (Fault p) gfn h.topics) h (access_note (Fault p)) op (content_index (map_of h.state.sizes) (frame_in h.state.leaf) word) v (access_needs (Fault p) h gfn (is_write op) vcpu small R K) in
+      task_topics (access_part (Fault p) gfn h.topics) h (access_note (Fault p)) op (content_index (map_of h.state.sizes) (frame_used gfn h.state) word) v (access_needs (Fault p) h gfn (is_write op) vcpu small R K) in
       fault_installed p (ends_installed p) refl still K (subst (λ (t : Topics). Makes h.state.sizes (words_after (access_task (Fault p) h gfn word op) words area.Pool) gfn (is_write op) t X) same make)
   access_installed _ still K make = still
 

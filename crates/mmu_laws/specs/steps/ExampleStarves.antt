@@ -7,14 +7,14 @@ use Rattle.core_views.specs.declared.sizes.Sizes.{Sizes}
 use Rattle.core_views.specs.declared.trace.Line.{Line}
 use Rattle.core_views.specs.declared.trace.Op.TheVariants.{Write}
 use Rattle.core_views.specs.FlatHistory.{by}
-use Rattle.core_views.specs.Laws.{access_line, example_slot, manager_line}
+use Rattle.core_views.specs.Laws.{access_line, example_sizes, example_slot, manager_line}
 use Rattle.core_views.specs.Text.{text}
 use Rattle.mmu_laws.specs.steps.ExampleSteps.{RunTells, set_line, unlogged}
 
 -- The same machine with a pool of four pages: the root, the slot set, and two more. A write's fault fills and links two tables, and finds no
 -- page for the third one; nor does a slot line behind it find one for its set.
 abbrev pub small_sizes : Sizes
-small_sizes = record { pages = 128; frames = 128; words = 2; pool = 4; cache = 64; vcpus = 2; hosts = 1; workers = 0 }
+small_sizes = example_sizes
 
 abbrev pub starved_line : Line
 starved_line = access_line 3 0 6 0 (Write 7)

@@ -8,7 +8,7 @@ use Rattle.core_views.specs.declared.trace.Line.{Line}
 use Rattle.core_views.specs.declared.slot_set.MemorySlot.{MemorySlot}
 use Rattle.core_views.specs.declared.trace.Slot.{Slot}
 use Rattle.core_views.specs.Held.{Held}
-use Rattle.core_views.specs.Laws.{example_slot, manager_line}
+use Rattle.core_views.specs.Laws.{example_sizes, example_slot, manager_line}
 use Rattle.mmu_core.specs.machine.Enabled.{mmu}
 use Rattle.mmu_core.specs.machine.Machine.{Legal, Step, World, effect, hand_in, run}
 use Rattle.mmu_core.specs.machine.Worlds.{IsStart, history}
@@ -33,7 +33,7 @@ pub record RunDelays (z : Sizes) (lines : List Line) (order : List ℕ) (events 
 
 -- A machine whose pool has as many pages as the lines below need: four, and one for a table of each level below the root.
 abbrev pub run_sizes : Sizes
-run_sizes = record { pages = 128; frames = 128; words = 2; pool = 7; cache = 64; vcpus = 2; hosts = 1; workers = 0 }
+run_sizes = record example_sizes { pool = 7 }
 
 -- this slot, which has no dirty log
 abbrev pub unlogged : Slot → Option MemorySlot

@@ -1,6 +1,12 @@
-use Rattle.std.proofs.Common.{List, length, ap, ◌∙◌, arith}
+use Rattle.std.proofs.Common.{List, length, ap, subst, ◌∙◌, arith}
 use Rattle.std.proofs.lemmas.Option.{slice_get_within}
+use Rattle.std.specs.Prelude.{Option, unwrap_or}
 use Rattle.core_views.specs.declared.answer.AnsweredLine.{AnsweredLine}
+use Rattle.core_views.specs.declared.place.Place.{Place}
+use Rattle.core_views.specs.declared.trace.Line.{Line}
+use Rattle.core_views.specs.Flat.{no_line}
+use Rattle.core_views.specs.Held.{line_at}
+use Rattle.weave_engine.specs.Turns.{IsJobOf}
 use Rattle.weave_engine.proofs.PartEnds.{part_ends, part_goes_on, part_goes_through}
 use Rattle.weave_engine.proofs.PartRuns.{part_starts}
 use Rattle.weave_engine.proofs.job.run_line.Goals as goal
@@ -14,7 +20,9 @@ loop-answer-init g c =
       part = part_starts c.args.line.now (g.S.Stepper.seat c.args.s.now) _ e.hand e.told
           c.requires.idle c.requires.next c.requires.alone;
       reserved = e.reserved;
-      job = rw e.hand e.job;
+      job =
+          let next = ap (λ (p : Place). line_at p (g.S.Stepper.seat c.args.s.now).hand) c.requires.idle ∙ ap (λ (o : Option Line). unwrap_or o no_line) c.requires.next in
+          rw e.hand (subst (λ (l : Line). IsJobOf c.in_ok-job.job l (length (g.S.Stepper.seat c.args.s.now).hand.answers)) next e.job);
       left = rw e.hand below;
       actor = e.same.0;
       frame = e.same.1;

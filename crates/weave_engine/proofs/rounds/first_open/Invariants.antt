@@ -1,4 +1,5 @@
 use Rattle.std.proofs.Common.{◌≤◌}
+use Rattle.std.specs.Option.{option_copied}
 use Rattle.core_views.specs.Sizes.{actors_of}
 use Rattle.step_seats.specs.Machines.{world_in}
 use Rattle.weave_engine.proofs.FirstLines.{FirstBefore}
@@ -6,6 +7,6 @@ use Rattle.weave_engine.proofs.rounds.first_open.Given as goal
 
 abbrev pub invariant-loop-index : goal.invariant-loop-index
 invariant-loop-index l = record {
-  first : FirstBefore (world_in l.fn.machine) l.index l.first;
+  first : FirstBefore (world_in l.fn.machine) l.index (option_copied l.first);
   within : l.index ≤ actors_of l.fn.machine.sizes;
 }

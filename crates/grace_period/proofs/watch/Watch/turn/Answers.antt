@@ -1,7 +1,7 @@
 use Rattle.std.proofs.Common.{arith, ◌≡◌, ◌+◌, ◌-◌, ◌<◌, ℕ, sym, subst, ap, ◌∙◌, Some}
 use Rattle.std.specs.Prelude.{true, false, if◌then◌else◌}
-use Rattle.core_views.specs.declared.hand.State.{State}
 use Rattle.core_views.specs.declared.topics.Topics.{Topics}
+use Rattle.core_views.specs.declared.hand.Progress.{Progress}
 use Rattle.core_views.specs.Held.{Held}
 use Rattle.part_steps.specs.declared.part_step.PartStep.TheVariants as part
 use Rattle.core_views.specs.Sizes.{actors_of, index_of}
@@ -60,11 +60,11 @@ returns-clause-goes_on g c = λ again.
     let found : in_section c.make_part-value.result ≡ false = sym c.in_section.ensures ∙ c.if-in_section.false in
     let watched = ap (λ (t : Topics). t.watched) made.topics ∙ ap (λ b. c.next_look-index.result + (if b then 0 else 1)) found in
     let own : c.index_of-own.result ≡ own_index h =
-    c.index_of-own.ensures ∙ ap (λ (x : State). index_of x.sizes c.state-2.result.now.actor) c.state.ensures
-    ∙ ap (λ (x : State). index_of c.hand-hand.result.now.core.state.sizes x.actor) c.state-2.ensures
+    c.index_of-own.ensures ∙ ap (λ (x : Progress). index_of x.sizes c.progress-2.result.now.actor) c.progress.ensures
+    ∙ ap (λ (x : Progress). index_of c.hand-hand.result.now.core.state.sizes x.actor) c.progress-2.ensures
     ∙ ap (λ (x : Held). own_index x) c.hand-hand.ensures.hand in
     let actors : c.actors.result ≡ actors_of h.state.sizes =
-    c.actors.ensures ∙ ap (λ (x : State). actors_of x.sizes) c.state.ensures ∙ ap (λ (x : Held). actors_of x.state.sizes) c.hand-hand.ensures.hand in
+    c.actors.ensures ∙ ap (λ (x : Progress). actors_of x.sizes) c.progress.ensures ∙ ap (λ (x : Held). actors_of x.state.sizes) c.hand-hand.ensures.hand in
     let next_ : c.next_watched.result ≡ next_watched (own_index h) (c.next_look-index.result + 1) = c.next_watched.ensures ∙ ap (λ n. next_watched n (c.next_look-index.result + 1)) own in
     let left : next_watched (own_index h) (c.next_look-index.result + 1) < actors_of h.state.sizes = elim c.if-next_watched-actors.branch [ then-next_watched-actors w ↦ omega (arith, w.if-next_watched-actors, next_, actors) | else-next_watched-actors w ↦ absurd (not_done c.if-next_watched-actors.result tt w.result-is again) ] in
     more_needs h g_ (part_kind h (part.Watch c.next_look-index.result) c.args.note) c.next_look-index.result c.make_part-value.result made.hand watched left

@@ -6,18 +6,18 @@ use Rattle.slot_change.proofs.job.SlotJob.turn.Goals as goal
 pub step-requires-clause-is_at : goal.step-requires-clause-is_at
 step-requires-clause-is_at g c =
     let L =
-    stands_in_line c.change_place-place.result c.args.self.now c.note-note.result (g.S.Stepper.seat c.args.s.now).hand c.requires.left
+    stands_in_line c.change_place-place.result c.note-note.result (g.S.Stepper.seat c.args.s.now).hand c.requires.left
     (rw c.hand-hand.ensures.hand at c.rests.ensures) (rw c.hand-hand.ensures.hand at c.change_place-place.ensures)
-    c.requires.line (rw c.hand-hand.ensures.hand at c.knows.ensures) (rw c.hand-hand.ensures.hand at c.note-note.ensures) in
+    (rw c.hand-hand.ensures.hand at c.knows.ensures) (rw c.hand-hand.ensures.hand at c.note-note.ensures) in
     L.is_at
 
 pub returns-in-Some-clause-turns : goal.returns-in-Some-clause-turns
 returns-in-Some-clause-turns g c =
     let L =
-    stands_in_line c.change_place-place.result c.args.self.now c.note-note.result (g.S.Stepper.seat c.args.s.now).hand c.requires.left
+    stands_in_line c.change_place-place.result c.note-note.result (g.S.Stepper.seat c.args.s.now).hand c.requires.left
     (rw c.hand-hand.ensures.hand at c.rests.ensures) (rw c.hand-hand.ensures.hand at c.change_place-place.ensures)
-    c.requires.line (rw c.hand-hand.ensures.hand at c.knows.ensures) (rw c.hand-hand.ensures.hand at c.note-note.ensures) in
-    change_waits c.step.result c.change_place-place.result c.args.self.now c.note-note.result (g.S.Stepper.seat c.args.s.now)
+    (rw c.hand-hand.ensures.hand at c.knows.ensures) (rw c.hand-hand.ensures.hand at c.note-note.ensures) in
+    change_waits c.step.result c.change_place-place.result c.note-note.result (g.S.Stepper.seat c.args.s.now)
     (g.S.Stepper.seat c.step.new.s) L c.step.ensures.makes
     c.in-Some.seen c.in-Some.is
 
@@ -32,10 +32,10 @@ returns-in-Some-clause-hand g c =
 pub returns-in-Some-get-clause-turns : goal.returns-in-Some-get-clause-turns
 returns-in-Some-get-clause-turns g c =
     let L =
-    stands_in_line c.change_place-place.result c.args.self.now c.note-note.result (g.S.Stepper.seat c.args.s.now).hand c.requires.left
+    stands_in_line c.change_place-place.result c.note-note.result (g.S.Stepper.seat c.args.s.now).hand c.requires.left
     (rw c.hand-hand.ensures.hand at c.rests.ensures) (rw c.hand-hand.ensures.hand at c.change_place-place.ensures)
-    c.requires.line (rw c.hand-hand.ensures.hand at c.knows.ensures) (rw c.hand-hand.ensures.hand at c.note-note.ensures) in
-    change_done c.step.result c.change_place-place.result c.args.self.now c.note-note.result (g.S.Stepper.seat c.args.s.now) (g.S.Stepper.seat c.step.new.s)
+    (rw c.hand-hand.ensures.hand at c.knows.ensures) (rw c.hand-hand.ensures.hand at c.note-note.ensures) in
+    change_done c.step.result c.change_place-place.result c.note-note.result (g.S.Stepper.seat c.args.s.now) (g.S.Stepper.seat c.step.new.s)
     L c.step.ensures.makes
     c.args.self.now.index c.answers.result.now c.in-Some-get.answered.now c.in_default.is (rw c.hand.ensures.hand at c.answers.ensures) c.requires.next c.in-Some-get.ensures.lookup.3.0 c.in-Some-get.ensures.lookup.1
 
@@ -51,10 +51,10 @@ returns-in-Some-get-clause-hand g c =
 pub returns-in-None-clause-turns : goal.returns-in-None-clause-turns
 returns-in-None-clause-turns g c =
     let L =
-    stands_in_line c.change_place-place.result c.args.self.now c.note-note.result (g.S.Stepper.seat c.args.s.now).hand c.requires.left
+    stands_in_line c.change_place-place.result c.note-note.result (g.S.Stepper.seat c.args.s.now).hand c.requires.left
     (rw c.hand-hand.ensures.hand at c.rests.ensures) (rw c.hand-hand.ensures.hand at c.change_place-place.ensures)
-    c.requires.line (rw c.hand-hand.ensures.hand at c.knows.ensures) (rw c.hand-hand.ensures.hand at c.note-note.ensures) in
-    change_more c.step.result c.change_place-place.result c.args.self.now c.note-note.result (g.S.Stepper.seat c.args.s.now) (g.S.Stepper.seat c.step.new.s)
+    (rw c.hand-hand.ensures.hand at c.knows.ensures) (rw c.hand-hand.ensures.hand at c.note-note.ensures) in
+    change_more c.step.result c.change_place-place.result c.note-note.result (g.S.Stepper.seat c.args.s.now) (g.S.Stepper.seat c.step.new.s)
     L c.step.ensures.makes
     c.args.self.now.index c.answers.result.now c.in_default.is (rw c.hand.ensures.hand at c.answers.ensures) c.requires.next c.in-None.ensures.lookup.3
 
