@@ -46,7 +46,7 @@ use Rattle.part_steps.specs.Tasks.{kind_of_task}
 use Rattle.mmu_core.specs.invariant.TopicsInvariant.{TopicsInvariant}
 use Rattle.mmu_core.specs.machine.View.{View, answer_in, words_after}
 use Rattle.mmu_laws.proofs.flat.FindFlat.{find_noted}
-use Rattle.mmu_laws.proofs.flat.FlatSteps.{Goes, Ready, StepGoes, part_leaves, refined_slots, refines_stay}
+use Rattle.mmu_laws.proofs.flat.FlatSteps.{Goes, Ready, StepGoes, part_goes, part_leaves, refined_slots, refines_stay}
 use Rattle.mmu_laws.proofs.flat.PageFound.{host_writable}
 use Rattle.mmu_core.proofs.machine.PartStepping.{IsPart}
 use Rattle.mmu_core.proofs.words.PartTopics.{part_topics_is}
@@ -130,12 +130,8 @@ module _ (z : Sizes) (v : View) (a : ℕ) (line : Line) (gfn word : ℕ) (op : O
       → NotedAt (words_behind p area.Pool) next gfn op (held_behind p) u.notes
       → Goes z (v.hand a).state.actor line (Access gfn word op) (words_behind p) (place.Access (Fault next)) (held_behind p) [] facts past u
   quiet p next S I P R noted =
-      let L = part_leaves z v a (fault_part p gfn held) (access_note (Fault p)) S P (access_never (Fault p) gfn held (fault_part p gfn held) refl) in
-      record {
-        allowed = tt;
-        refines = refines_stay z v.words (words_behind p) facts L R.refines;
-        under = (R.under.0, (R.under.1.0, noted));
-      }
+      part_goes z v a line (Access gfn word op) (place.Access (Fault p)) (place.Access (Fault next)) facts past u (fault_part p gfn held) (access_note (Fault p)) S P
+      (access_never (Fault p) gfn held (fault_part p gfn held) refl) R (R.under.0, (R.under.1.0, noted))
 
   -- The line looks at the slots: those of the published set, which its search holds now, and none of them is passed yet.
   looks : FaultKnows (Find false) (v.hand a).state.sizes gfn (is_write op) held

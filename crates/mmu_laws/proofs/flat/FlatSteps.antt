@@ -1,5 +1,5 @@
 -- What a step owes the flat side: its events are allowed, and words and its hand are flat memory behind them.
-use Rattle.std.proofs.Common.{◌≡◌, ℕ, List, ◌++◌, refl, sym, ap, ◌∙◌, arith}
+use Rattle.std.proofs.Common.{◌≡◌, ℕ, List, [], ◌++◌, refl, sym, ap, ◌∙◌, arith}
 use Rattle.core_views.specs.declared.actor.Actor.{Actor}
 use Rattle.core_views.specs.declared.event.EventKind.{EventKind}
 use Rattle.core_views.specs.declared.place.Place.{Place}
@@ -17,6 +17,7 @@ use Rattle.part_steps.specs.declared.part_step.PartStep.{PartStep}
 use Rattle.mmu_core.specs.lines.Forms.{outcome_at, tells_at}
 use Rattle.mmu_core.specs.machine.Steps.{task_at}
 use Rattle.mmu_core.specs.machine.Outcomes.{answering, place_after}
+use Rattle.part_steps.specs.PartTasks.{own_index, part_task}
 use Rattle.part_steps.specs.Tasks.{kind_of_task, map_of}
 use Rattle.mmu_core.specs.invariant.TopicsInvariant.{TopicsInvariant}
 use Rattle.part_steps.specs.TopicSteps.{topics_after}
@@ -89,3 +90,24 @@ refines_stay z before after facts L R = record {
   memory = λ p j lt below. R.memory p j lt below ∙ sym (ap (λ (g : ℕ → ℕ). g (content_index (map_of z) p j)) L.content);
   paused = R.paused ∙ ap (λ (g : ℕ → ℕ). not (g 0 == 0)) (sym L.pause);
 }
+
+-- So they do after a step of a part that publishes nothing.
+pub part_refines : (z : Sizes) (v : View) (a : ℕ) (step : PartStep) (note : ℕ) (facts : Facts) → IsPart z v a step → TopicsInvariant z v → is_publish step ≡ false
+    → Refines z (v.words area.Slots 0) (v.words area.Pool) (v.words area.Content) (v.words area.Pause 0) facts
+    → let w : View = part_stepped a step note v in Refines z (w.words area.Slots 0) (w.words area.Pool) (w.words area.Content) (w.words area.Pause 0) facts
+part_refines z v a step note facts S P never R = refines_stay z v.words ((part_stepped a step note v).words) facts (part_leaves z v a step note S P never) R
+
+-- what a step that does this owes, after which the line stands at this place, where it tells these events
+abbrev pub GoesBy : Sizes → View → ℕ → Line → Command → Task → Place → List EventKind → Facts → Past → LineUnderWay → Type 0
+GoesBy z v a line command task next kinds facts past u =
+    let h : Held = v.hand a in
+    let x : ℕ = answer_in task v.words in
+    Goes z h.state.actor line command (words_after task v.words) next (topics_after h.state.sizes (kind_of_task h.state.sizes task) h.topics x) kinds facts past u
+
+-- A step of a part that publishes nothing may tell nothing, where the line is under way as its next place asks.
+pub part_goes : (z : Sizes) (v : View) (a : ℕ) (line : Line) (command : Command) (p next : Place) (facts : Facts) (past : Past) (u : LineUnderWay) (step : PartStep) (note : ℕ)
+    → IsPart z v a step → TopicsInvariant z v → is_publish step ≡ false → Ready z v line command p (v.hand a).topics facts u
+    → let task : Task = part_task step (own_index (v.hand a)) (v.hand a).topics note in
+      UnderAt (words_after task v.words area.Pool) next line command (topics_after (v.hand a).state.sizes (kind_of_task (v.hand a).state.sizes task) (v.hand a).topics (answer_in task v.words)) u
+      → GoesBy z v a line command task next [] facts past u
+part_goes z v a line command p next facts past u step note S P never R under = record { allowed = tt; refines = part_refines z v a step note facts S P never R.refines; under = under }

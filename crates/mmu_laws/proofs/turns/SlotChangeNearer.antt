@@ -9,15 +9,13 @@ use Rattle.core_views.specs.declared.topics.Topics.{Topics}
 use Rattle.core_views.specs.declared.trace.Command.{Command}
 use Rattle.core_views.specs.Held.{Held}
 use Rattle.core_views.specs.Sizes.{actors_of}
-use Rattle.mmu_core.specs.declared.outcome.Outcome.{Outcome}
-use Rattle.mmu_core.specs.declared.outcome.Outcome.TheVariants.{Goes, Ends}
+use Rattle.mmu_core.specs.declared.outcome.Outcome.TheVariants.{Goes}
 use Rattle.part_steps.specs.declared.part_step.PartStep.TheVariants as part
 use Rattle.mmu_core.specs.declared.claim.ClaimNext.{ClaimNext}
 use Rattle.mmu_core.specs.declared.claim.ClaimNext.TheVariants as claims
 use Rattle.mmu_core.specs.declared.watch.WatchNext.{WatchNext}
 use Rattle.mmu_core.specs.declared.watch.WatchNext.TheVariants as watches
 use Rattle.mmu_core.specs.lines.SlotChangeSteps.{slot_change_left, looked_at, slot_change_outcome, slot_change_part, after_claim, after_watch, watch_next}
-use Rattle.mmu_core.specs.lines.Forms.{steps_left}
 use Rattle.mmu_core.specs.lines.ClaimSteps.{claim_left, claim_next, claim_part}
 use Rattle.mmu_core.specs.lines.PartWaits.{part_waits}
 use Rattle.part_steps.specs.PartBounds.{PartRests}
@@ -26,22 +24,15 @@ use Rattle.part_steps.specs.PartHoldings.{HasToFill}
 use Rattle.part_steps.specs.PartTopics.{part_topics}
 use Rattle.mmu_core.specs.lines.SlotChangeKnows.{SlotChangeKnows}
 use Rattle.part_steps.specs.PageTopics.{filled_more}
+use Rattle.mmu_core.proofs.lines.EitherPlace.{either_place}
 use Rattle.mmu_core.proofs.pages.Owned.{more_filled}
+use Rattle.mmu_laws.proofs.turns.Nearer.{Nearer}
 use Rattle.mmu_core.proofs.lines.ClaimMade.{claim_falls, claim_made, claim_left_after, word_there}
 use Rattle.mmu_core.proofs.lines.WatchMade.{watch_left_after, watch_falls, watch_made}
 
--- Where the line goes on it has fewer than n steps left.
-abbrev pub Nearer : Outcome → Sizes → Topics → ℕ → Type 0
-Nearer (Goes p) y u n = steps_left p y u < n
-Nearer (Ends answer) y u n = Unit {0}
-
--- the same of a place of a slot line
+-- where it goes on at a place of a slot line
 abbrev At : SlotChangePlace → Sizes → Topics → ℕ → Type 0
 At p y u n = Nearer (Goes (place.SlotChange p)) y u n
-
-either : (b : Bool) (p q : SlotChangePlace) (y : Sizes) (u : Topics) (n : ℕ) → At p y u n → At q y u n → At (if b then p else q) y u n
-either true p q y u n first second = first
-either false p q y u n first second = second
 
 -- the claim
 pub claim_nearer : (next : ClaimNext) (y : Sizes) (u : Topics) (n : ℕ) → claim_left_after next y u.claim < n
@@ -76,7 +67,7 @@ slot_change_nearer (Claim begun) h command v R K goes =
 slot_change_nearer Fill h command v R K goes = fill_nearer (nat_lt (words_filled h.topics.owned + 1) 512) h.state.sizes h.topics v K.1
 slot_change_nearer Exclude h command v R K goes = excluded_nearer (v == 0) h.state.sizes (part_topics part.Exclude h.topics v) goes
 slot_change_nearer Count h command v R K goes =
-    either (v == 0) Publish Close h.state.sizes (part_topics part.Count h.topics v) (6 + actors_of h.state.sizes) (omega arith) (omega arith)
+    either_place (λ q. At q h.state.sizes (part_topics part.Count h.topics v) (6 + actors_of h.state.sizes)) (v == 0) Publish Close (omega arith) (omega arith)
 slot_change_nearer Close h command v R K goes = let sees = K.2 in absurd (cc (goes, sees))
 slot_change_nearer Watch h command v R K goes =
     watch_nearer (watch_next h v) h.state.sizes (part_topics (part.Watch (looked_at h)) h.topics v) (actors_of h.state.sizes - h.topics.watched) (watch_falls (own_index h) (actors_of h.state.sizes) h.topics v _ _ (watch_made h v) goes K.2)
