@@ -1,11 +1,11 @@
 -- What the line holds after it has filled one more word of its page, or stored the page's role.
-use Rattle.std.proofs.Common.{◌≡◌, ◌+◌, ◌<◌, ◌≤◌, ◌∙◌, ℕ, arith}
+use Rattle.std.proofs.Common.{◌≡◌, ◌+◌, ◌<◌, ◌≤◌, ◌∙◌, ℕ, ap, arith}
 use Rattle.std.specs.Prelude.{true, false, nat_lt}
 use Rattle.std.proofs.lemmas.Bool.Decides.{nat_tests}
 use Rattle.core_views.specs.declared.topics.Topics.{Topics}
 use Rattle.part_steps.specs.PageTopics.{filled_more}
 use Rattle.part_steps.specs.PartHoldings.{HasRoleToSet, HasToFill, OwnsSet}
-use Rattle.part_steps.specs.PartTasks.{words_filled}
+use Rattle.part_steps.specs.PartTasks.{role_filled, words_filled}
 use Rattle.part_steps.specs.SetWords.{set_role}
 use Rattle.mmu_core.proofs.pages.Owned.{more_filled, more_role, more_some, some_filled}
 
@@ -28,3 +28,7 @@ whole_filled t v full = omega (arith, full, more_filled t.owned v (some_filled t
 -- It is filled whole as a slot set.
 pub set_whole : (t : Topics) (v : ℕ) → HasRoleToSet t → v ≡ set_role → OwnsSet (record t { owned = filled_more t.owned v })
 set_whole t v full is = record { whole = whole_filled t v full; role = more_role t.owned v full ∙ is }
+
+-- It is owned still after a step that leaves the page.
+pub same_set : (t u : Topics) → u.owned ≡ t.owned → OwnsSet t → OwnsSet u
+same_set t u same O = record { whole = ap words_filled same ∙ O.whole; role = ap role_filled same ∙ O.role }

@@ -1,14 +1,13 @@
 -- A line that changes a slot has what each of its steps needs, and knows after it what its next place asks, and what it has filled then.
-use Rattle.std.proofs.Common.{◌≡◌, inr, ◌<◌, ◌^◌, ◌+◌, ◌==◌, ℕ, refl, sym, subst, ap, ◌∙◌, arith}
-use Rattle.std.specs.Prelude.{Bool, true, false, ◌&&◌, not, if◌then◌else◌, nat_lt, None}
-use Rattle.std.proofs.lemmas.Bool.Decides.{nat_tests}
+use Rattle.std.proofs.Common.{◌≡◌, inr, ◌<◌, ◌^◌, ◌+◌, ◌==◌, ℕ, refl, ap, ◌∙◌, arith}
+use Rattle.std.specs.Prelude.{Bool, true, false, nat_lt, None}
+use Rattle.std.proofs.lemmas.Bool.{eqb-true}
 use Rattle.circular_buffer.specs.Buffer.{Buffer}
 use Rattle.core_views.specs.declared.cache.Translation.{Translation}
 use Rattle.core_views.specs.declared.place.Place.TheVariants as place
 use Rattle.core_views.specs.declared.place.SlotChangePlace.{SlotChangePlace}
 use Rattle.core_views.specs.declared.place.SlotChangePlace.TheVariants.{Refuse, Claim, Fill, Role, Exclude, Count, Close, Publish, Release, Watch, Clear, Give}
 use Rattle.core_views.specs.declared.sizes.Sizes.{Sizes}
-use Rattle.core_views.specs.declared.topics.Hold.{Hold}
 use Rattle.core_views.specs.declared.topics.Hold.TheVariants.{Exclusive}
 use Rattle.core_views.specs.declared.topics.Topics.{Topics}
 use Rattle.core_views.specs.declared.trace.Command.{Command}
@@ -23,29 +22,27 @@ use Rattle.part_steps.specs.declared.part_step.PartStep.TheVariants as part
 use Rattle.part_steps.specs.ControlTopics.{count_checked}
 use Rattle.part_steps.specs.PageTopics.{filled_more, still_leaving}
 use Rattle.part_steps.specs.PartBounds.{PartRests}
-use Rattle.part_steps.specs.PartHoldings.{OwnsSet, next_watched}
+use Rattle.part_steps.specs.PartHoldings.{OwnsSet}
 use Rattle.part_steps.specs.PartSteps.{PartNeeds}
 use Rattle.part_steps.specs.PartTasks.{own_index, words_filled}
 use Rattle.part_steps.specs.PartTopics.{part_topics}
 use Rattle.part_steps.specs.SetWords.{set_word}
-use Rattle.part_steps.specs.StayTopics.{unchecked}
 use Rattle.mmu_core.specs.declared.claim.ClaimNext.{ClaimNext}
 use Rattle.mmu_core.specs.declared.claim.ClaimNext.TheVariants as claims
 use Rattle.mmu_core.specs.declared.watch.WatchNext.{WatchNext}
 use Rattle.mmu_core.specs.lines.FaultLaws.{CanAnswer}
 use Rattle.mmu_core.specs.lines.Forms.{Holds, KnowsPart, LeavesPart}
-use Rattle.mmu_core.specs.lines.PartWaits.{was_counted}
-use Rattle.mmu_core.specs.lines.SlotChangeKnows.{FillsSet, SlotChangeHolds, SlotChangeKnows}
+use Rattle.mmu_core.specs.lines.SlotChangeKnows.{FillsSet, HoldsLock, SlotChangeHolds, SlotChangeKnows}
 use Rattle.mmu_core.specs.lines.SlotChangeSteps.{after_claim, after_watch, looked_at, slot_change_outcome, slot_change_part, slot_change_task, watch_next}
 use Rattle.mmu_core.specs.machine.Outcomes.{place_after}
 use Rattle.mmu_core.specs.machine.View.{words_after}
 use Rattle.mmu_core.proofs.lines.ClaimMade.{ClaimMade, RestsAfterClaim, claim_leaves, claim_made, claim_needs, claim_rests, page_won}
 use Rattle.mmu_core.proofs.lines.ClaimMade as made
 use Rattle.mmu_core.proofs.lines.EitherPlace.{each_watch, either_place, one_place}
-use Rattle.mmu_core.proofs.lines.FillMade.{fill_ends, fill_goes, set_whole}
+use Rattle.mmu_core.proofs.lines.FillMade.{fill_ends, fill_goes, same_set, set_whole}
 use Rattle.mmu_core.proofs.lines.KnowsKept.{KnowsBehind}
-use Rattle.mmu_core.proofs.lines.LockHeld.{lock_let_go, rests_by_seq}
-use Rattle.mmu_core.proofs.lines.WatchMade.{WatchMade, first_watched, never_own, watch_comes, watch_made}
+use Rattle.mmu_core.proofs.lines.LockHeld.{lock_let_go, lock_taken, lock_tried, rests_by_seq, sees_open}
+use Rattle.mmu_core.proofs.lines.WatchMade.{WatchMade, never_own, watch_begins, watch_comes, watch_made}
 use Rattle.mmu_core.proofs.lines.WatchMade as watch
 use Rattle.mmu_core.proofs.machine.HandWith.{hand_with}
 use Rattle.mmu_core.proofs.pages.WordsFilled.{all_filled, none_filled, one_more}
@@ -76,26 +73,11 @@ module _ (line : Line) (h : Held) (command : Command) (cached : Buffer Translati
   abbrev Knows : SlotChangePlace → Held → Type 0
   Knows p g = KnowsPart (place.SlotChange p) command g
 
-  claim_known : (p : SlotChangePlace) (next : ClaimNext) (u : Topics) → RestsAfterClaim next h.state.sizes u → KnowsBehind (after_claim next) command (behind p u)
+  claim_known : (p : SlotChangePlace) (next : ClaimNext) (u : Topics) → RestsAfterClaim next h.state.sizes u
+      → KnowsBehind (after_claim next) command (behind p u)
   claim_known p claims.Goes u C = (changes, (C.0, λ b. C.1))
   claim_known p claims.Got u C = (changes, C)
   claim_known p claims.Empty u C = C
-
-  exclude_known : (free : Bool) → SlotChangeKnows Exclude h
-      → Knows (if free then Count else Exclude) (behind Exclude (record h.topics { hold = if free then Exclusive else h.topics.hold; invalidations = unchecked h.topics.invalidations }))
-  exclude_known true K =
-      (changes, (record { outside = K.0.outside; holds = refl; no_table = K.0.no_table; no_set = K.0.no_set }, record { whole = K.1.whole; role = K.1.role }))
-  exclude_known false K = (changes, (K.0, record { whole = K.1.whole; role = K.1.role }))
-
-  count_known : (none : Bool) → (v == 0) ≡ none → SlotChangeKnows Count h → h.topics.leaving ≡ None
-      → Knows (if none then Publish else Close) (behind Count (part_topics part.Count h.topics v))
-  count_known true is K left =
-      let owns : OwnsSet (part_topics part.Count h.topics v) = record { whole = K.1.whole; role = K.1.role } in
-      let none : v ≡ 0 = grind (arith, nat_tests) in
-      (changes, (K.0, record { owns = owns; alone = K.0.holds; looked = ap count_checked K.0.holds; none_open = none; none_leaves = left }))
-  count_known false is K left =
-      let owns : OwnsSet (part_topics part.Count h.topics v) = record { whole = K.1.whole; role = K.1.role } in
-      (changes, (K.0, owns, ap (λ (k : Hold). was_counted (count_checked k) && not (v == 0)) K.0.holds ∙ ap not is))
 
   watch_known : (next : WatchNext) (u : Topics) → WatchMade (own_index h) (actors_of h.state.sizes) h.topics v next u → SlotChangeKnows Watch h
       → Knows (after_watch next) (behind Watch u)
@@ -111,16 +93,25 @@ module _ (line : Line) (h : Held) (command : Command) (cached : Buffer Translati
   slot_change_known (Claim begun) R K left A =
       claim_known (Claim begun) _ _ (claim_rests h.state.sizes begun h.topics v _ _ _ (claim_made h.state.sizes begun h.topics v) K.0 K.1)
   slot_change_known Fill R K left A =
-      one_place (λ q. Knows q (behind Fill (record h.topics { owned = filled_more h.topics.owned v }))) (nat_lt (words_filled h.topics.owned + 1) 512) Fill Role
+      one_place (λ q. Knows q (behind Fill (record h.topics { owned = filled_more h.topics.owned v })))
+      (nat_lt (words_filled h.topics.owned + 1) 512) Fill Role
       (λ e. (changes, (K.0, fill_goes h.topics v K.1 e))) (λ e. (changes, (K.0, fill_ends h.topics v K.1 e)))
   slot_change_known Role R K left A = (changes, (K.0, set_whole h.topics v K.1 A))
-  slot_change_known Exclude R K left A = exclude_known (v == 0) K
-  slot_change_known Count R K left A = count_known (v == 0) refl K (left refl)
-  slot_change_known Close R K left A = (changes, (lock_let_go Exclusive h.topics K.0, record { whole = K.1.whole; role = K.1.role }))
+  slot_change_known Exclude R K left A =
+      one_place (λ q. Knows q (behind Exclude (part_topics part.Exclude h.topics v))) (v == 0) Count Exclude
+      (λ e. (changes, (lock_taken h.topics v K.0 e, same_set h.topics _ refl K.1))) (λ e. (changes, (lock_tried h.topics v K.0 e, same_set h.topics _ refl K.1)))
+  slot_change_known Count R K left A =
+      let owns : OwnsSet (part_topics part.Count h.topics v) = same_set h.topics _ refl K.1 in
+      let alone : h.topics.hold ≡ Exclusive = K.0.holds in
+      one_place (λ q. Knows q (behind Count (part_topics part.Count h.topics v))) (v == 0) Publish Close
+      (λ e. (changes, (K.0, record { owns = owns; alone = alone; looked = ap count_checked alone; none_open = eqb-true v 0 e; none_leaves = left refl })))
+      (λ e. (changes, (K.0, owns, sees_open h.topics v K.0 e)))
+  slot_change_known Close R K left A = (changes, (lock_let_go Exclusive h.topics K.0, same_set h.topics _ refl K.1))
   slot_change_known Publish R K left A =
-      (changes, (record { outside = K.0.outside; holds = K.0.holds; no_table = K.0.no_table; no_set = refl }, record { leaves = refl; owns_none = refl }, refl, K.1.none_open))
+      let lock : HoldsLock Exclusive (part_topics part.Publish h.topics v) = record { outside = K.0.outside; holds = K.0.holds; no_table = K.0.no_table; no_set = refl } in
+      (changes, (lock, record { leaves = refl; owns_none = refl }, refl, K.1.none_open))
   slot_change_known Release R K left A =
-      (changes, (lock_let_go Exclusive h.topics K.0, K.1, subst (λ w. next_watched (own_index h) w < actors_of h.state.sizes) (sym K.2) (first_watched (own_index h) h.state.sizes R.sizes)))
+      (changes, (lock_let_go Exclusive h.topics K.0, K.1, watch_begins h K.2 R.sizes))
   slot_change_known Watch R K left A = watch_known _ _ (watch_made h v) K
   slot_change_known Clear R K left A =
       (changes, (K.0, record { leaves = K.1.leaves; owns_none = ap (λ o. filled_more o v) K.1.owns_none; watched = K.1.watched }))
@@ -139,13 +130,16 @@ module _ (line : Line) (h : Held) (command : Command) (cached : Buffer Translati
 
   pub change_holds : (z : Sizes) (words : Area → ℕ → ℕ) (host : ℕ → ℕ) (set : ℕ) (p : SlotChangePlace) → SlotChangeKnows p h
       → SlotChangeHolds z (words area.Pool) p command h
-      → Holds z (words_after (slot_change_task p h command) words area.Pool) host set (place_after (slot_change_outcome p h v)) command (behind p (part_topics (slot_change_part p h command) h.topics v))
+      → Holds z (words_after (slot_change_task p h command) words area.Pool) host set (place_after (slot_change_outcome p h v)) command
+      (behind p (part_topics (slot_change_part p h command) h.topics v))
   change_holds z words host set (Claim begun) K e =
       claim_holds z (words_after (slot_change_task (Claim begun) h command) words area.Pool) host set begun _ _ _ (claim_made h.state.sizes begun h.topics v) e
   change_holds z words host set Fill K e =
       let pool : ℕ → ℕ = words_after (slot_change_task Fill h command) words area.Pool in
-      let F : FillsSet z pool command h.slots (filled_more h.topics.owned v) = record { accepted = e.accepted; filled = one_more (words area.Pool) (set_word (slots_after command h.slots)) h.topics.owned v K.1.1 e.filled } in
-      either_place (λ q. SlotChangeHolds z pool q command (behind Fill (part_topics (slot_change_part Fill h command) h.topics v))) (nat_lt (words_filled h.topics.owned + 1) 512) Fill Role F F
+      let filled = one_more (words area.Pool) (set_word (slots_after command h.slots)) h.topics.owned v K.1.1 e.filled in
+      let F : FillsSet z pool command h.slots (filled_more h.topics.owned v) = record { accepted = e.accepted; filled = filled } in
+      either_place (λ q. SlotChangeHolds z pool q command (behind Fill (record h.topics { owned = filled_more h.topics.owned v })))
+      (nat_lt (words_filled h.topics.owned + 1) 512) Fill Role F F
   change_holds z words host set Role K e =
       record { accepted = e.accepted; filled = all_filled (words area.Pool) (set_word (slots_after command h.slots)) h.topics.owned v K.1 e.filled }
   change_holds z words host set Exclude K e =
@@ -154,7 +148,8 @@ module _ (line : Line) (h : Held) (command : Command) (cached : Buffer Translati
       either_place (λ q. SlotChangeHolds z (words area.Pool) q command (behind Count (part_topics part.Count h.topics v))) (v == 0) Publish Close e e
   change_holds z words host set Close K e = e
   change_holds z words host set Watch K e =
-      each_watch (λ q. SlotChangeHolds z (words area.Pool) q command (behind Watch (part_topics (part.Watch (looked_at h)) h.topics v))) (watch_next h v) Watch Clear tt tt
+      each_watch (λ q. SlotChangeHolds z (words area.Pool) q command (behind Watch (part_topics (part.Watch (looked_at h)) h.topics v)))
+      (watch_next h v) Watch Clear tt tt
   change_holds z words host set _ K e = tt
 
   -- ---- which page leaves: after a step up to the publication none, and after the last one none any more

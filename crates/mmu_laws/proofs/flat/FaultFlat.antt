@@ -46,7 +46,7 @@ use Rattle.part_steps.specs.Tasks.{kind_of_task}
 use Rattle.mmu_core.specs.invariant.TopicsInvariant.{TopicsInvariant}
 use Rattle.mmu_core.specs.machine.View.{View, answer_in, words_after}
 use Rattle.mmu_laws.proofs.flat.FindFlat.{find_noted}
-use Rattle.mmu_laws.proofs.flat.FlatSteps.{Goes, Ready, StepGoes, part_goes, part_leaves, refined_slots, refines_stay}
+use Rattle.mmu_laws.proofs.flat.FlatSteps.{Goes, Ready, StepGoes, goes_by, leaves_by, part_leaves, part_refines, refined_slots, refines_stay}
 use Rattle.mmu_laws.proofs.flat.PageFound.{host_writable}
 use Rattle.mmu_core.proofs.machine.PartStepping.{IsPart}
 use Rattle.mmu_core.proofs.words.PartTopics.{part_topics_is}
@@ -130,8 +130,9 @@ module _ (z : Sizes) (v : View) (a : ℕ) (line : Line) (gfn word : ℕ) (op : O
       → NotedAt (words_behind p area.Pool) next gfn op (held_behind p) u.notes
       → Goes z (v.hand a).state.actor line (Access gfn word op) (words_behind p) (place.Access (Fault next)) (held_behind p) [] facts past u
   quiet p next S I P R noted =
-      part_goes z v a line (Access gfn word op) (place.Access (Fault p)) (place.Access (Fault next)) facts past u (fault_part p gfn held) (access_note (Fault p)) S P
-      (access_never (Fault p) gfn held (fault_part p gfn held) refl) R (R.under.0, (R.under.1.0, noted))
+      goes_by z v a line (Access gfn word op) (access_task (Fault p) (v.hand a) gfn word op) facts past u
+      (part_refines z v a (fault_part p gfn held) (access_note (Fault p)) facts S P (access_never (Fault p) gfn held (fault_part p gfn held) refl) R.refines)
+      (place.Access (Fault next)) (R.under.0, (R.under.1.0, noted))
 
   -- The line looks at the slots: those of the published set, which its search holds now, and none of them is passed yet.
   looks : FaultKnows (Find false) (v.hand a).state.sizes gfn (is_write op) held
@@ -210,24 +211,18 @@ module _ (z : Sizes) (v : View) (a : ℕ) (line : Line) (gfn word : ℕ) (op : O
       → Goes z (v.hand a).state.actor line (Access gfn word op) (words_behind (End e)) place.Between (held_behind (End e))
       (Exited how ∷ Answered line.number how ∷ []) facts past u
   leaves_with how is S I P e R may =
-      let L = part_leaves z v a part.End (access_note (Fault (End e))) S P refl in
-      record {
-        allowed = ((R.under.1.0.0, subst (λ c. MayLeave z facts c u.notes how) (sym (ap (λ (l : Line). l.command) R.under.0 ∙ is)) may), ((ap (λ (l : Line). l.number) (sym R.under.0), refl), tt));
-        refines = refines_stay z v.words (words_behind (End e)) facts L R.refines;
-        under = refl;
-      }
+      let own : u.line.command ≡ Access gfn word op = ap (λ (l : Line). l.command) R.under.0 ∙ is in
+      leaves_by z v a line (Access gfn word op) (access_task (Fault (End e)) (v.hand a) gfn word op) facts past u
+      (part_refines z v a part.End (access_note (Fault (End e))) facts S P refl R.refines) how R.under.0 R.under.1.0.0
+      (subst (λ c. MayLeave z facts c u.notes how) (sym own) may)
 
   -- Or it enters the guest again.
   goes_back : (again : Bool) (e : FaultEnd) → IsPart z v a part.End → Invariant z v → TopicsInvariant z v
       → Ready z v line (Access gfn word op) (place.Access (Fault (End e))) held facts u
       → Goes z (v.hand a).state.actor line (Access gfn word op) (words_behind (End e)) (place.Access (Enter again)) (held_behind (End e)) [] facts past u
   goes_back again e S I P R =
-      let L = part_leaves z v a part.End (access_note (Fault (End e))) S P refl in
-      record {
-        allowed = tt;
-        refines = refines_stay z v.words (words_behind (End e)) facts L R.refines;
-        under = (R.under.0, R.under.1.0.0);
-      }
+      goes_by z v a line (Access gfn word op) (access_task (Fault (End e)) (v.hand a) gfn word op) facts past u
+      (part_refines z v a part.End (access_note (Fault (End e))) facts S P refl R.refines) (place.Access (Enter again)) (R.under.0, R.under.1.0.0)
 
   ends : (e : FaultEnd) → line.command ≡ Access gfn word op → IsPart z v a part.End → Invariant z v → TopicsInvariant z v
       → Ready z v line (Access gfn word op) (place.Access (Fault (End e))) held facts u

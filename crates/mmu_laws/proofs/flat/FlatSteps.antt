@@ -1,8 +1,11 @@
 -- What a step owes the flat side: its events are allowed, and words and its hand are flat memory behind them.
-use Rattle.std.proofs.Common.{◌≡◌, ℕ, List, [], ◌++◌, refl, sym, ap, ◌∙◌, arith}
+use Rattle.std.proofs.Common.{◌≡◌, ℕ, List, [], ◌∷◌, ◌++◌, refl, sym, ap, ◌∙◌, arith}
 use Rattle.core_views.specs.declared.actor.Actor.{Actor}
+use Rattle.core_views.specs.declared.answer.Answer.{Answer}
 use Rattle.core_views.specs.declared.event.EventKind.{EventKind}
+use Rattle.core_views.specs.declared.event.EventKind.TheVariants.{Answered, Exited}
 use Rattle.core_views.specs.declared.place.Place.{Place}
+use Rattle.core_views.specs.declared.place.Place.TheVariants as place
 use Rattle.core_views.specs.declared.sizes.Sizes.{Sizes}
 use Rattle.core_views.specs.declared.topics.Topics.{Topics}
 use Rattle.core_views.specs.declared.trace.Command.{Command}
@@ -32,7 +35,8 @@ use Rattle.mmu_core.proofs.machine.PartStepping.{IsPart, is_publish}
 use Rattle.mmu_core.proofs.words.PartWords.{areas_stay, slots_are, slots_same}
 use Rattle.mmu_core.proofs.words.SlotLists.{flat_below}
 use Rattle.mmu_core.proofs.slots.SlotsStay.{memory_below_stay}
-use Rattle.core_views.specs.Flat.{Facts, LineUnderWay}
+use Rattle.core_views.specs.Flat.{Facts, Fresh, LineUnderWay}
+use Rattle.core_views.specs.Lawful.{MayLeave, Tells}
 use Rattle.core_views.specs.Past.{Past}
 
 -- The line has begun and stands at this place; the facts are what the words say, and nothing is paused.
@@ -91,23 +95,44 @@ refines_stay z before after facts L R = record {
   paused = R.paused ∙ ap (λ (g : ℕ → ℕ). not (g 0 == 0)) (sym L.pause);
 }
 
--- So they do after a step of a part that publishes nothing.
-pub part_refines : (z : Sizes) (v : View) (a : ℕ) (step : PartStep) (note : ℕ) (facts : Facts) → IsPart z v a step → TopicsInvariant z v → is_publish step ≡ false
-    → Refines z (v.words area.Slots 0) (v.words area.Pool) (v.words area.Content) (v.words area.Pause 0) facts
-    → let w : View = part_stepped a step note v in Refines z (w.words area.Slots 0) (w.words area.Pool) (w.words area.Content) (w.words area.Pause 0) facts
-part_refines z v a step note facts S P never R = refines_stay z v.words ((part_stepped a step note v).words) facts (part_leaves z v a step note S P never) R
+-- ---- a step that does this task
 
--- what a step that does this owes, after which the line stands at this place, where it tells these events
+-- The words after it stand for these facts.
+abbrev pub RefinesBy : Sizes → View → Task → Facts → Type 0
+RefinesBy z v task facts =
+    let after : Area → ℕ → ℕ = words_after task v.words in
+    Refines z (after area.Slots 0) (after area.Pool) (after area.Content) (after area.Pause 0) facts
+
+-- A step of a part that publishes nothing leaves them as they were.
+pub part_refines : (z : Sizes) (v : View) (a : ℕ) (step : PartStep) (note : ℕ) (facts : Facts) → IsPart z v a step → TopicsInvariant z v
+    → is_publish step ≡ false → Refines z (v.words area.Slots 0) (v.words area.Pool) (v.words area.Content) (v.words area.Pause 0) facts
+    → RefinesBy z v (part_task step (own_index (v.hand a)) (v.hand a).topics note) facts
+part_refines z v a step note facts S P never R =
+    refines_stay z v.words ((part_stepped a step note v).words) facts (part_leaves z v a step note S P never) R
+
+-- what its actor holds after it
+abbrev pub topics_by : View → ℕ → Task → Topics
+topics_by v a task = topics_after (v.hand a).state.sizes (kind_of_task (v.hand a).state.sizes task) (v.hand a).topics (answer_in task v.words)
+
+-- what it owes where its line stands at this place then, and it tells these events
 abbrev pub GoesBy : Sizes → View → ℕ → Line → Command → Task → Place → List EventKind → Facts → Past → LineUnderWay → Type 0
 GoesBy z v a line command task next kinds facts past u =
-    let h : Held = v.hand a in
-    let x : ℕ = answer_in task v.words in
-    Goes z h.state.actor line command (words_after task v.words) next (topics_after h.state.sizes (kind_of_task h.state.sizes task) h.topics x) kinds facts past u
+    Goes z (v.hand a).state.actor line command (words_after task v.words) next (topics_by v a task) kinds facts past u
 
--- A step of a part that publishes nothing may tell nothing, where the line is under way as its next place asks.
-pub part_goes : (z : Sizes) (v : View) (a : ℕ) (line : Line) (command : Command) (p next : Place) (facts : Facts) (past : Past) (u : LineUnderWay) (step : PartStep) (note : ℕ)
-    → IsPart z v a step → TopicsInvariant z v → is_publish step ≡ false → Ready z v line command p (v.hand a).topics facts u
-    → let task : Task = part_task step (own_index (v.hand a)) (v.hand a).topics note in
-      UnderAt (words_after task v.words area.Pool) next line command (topics_after (v.hand a).state.sizes (kind_of_task (v.hand a).state.sizes task) (v.hand a).topics (answer_in task v.words)) u
+module _ (z : Sizes) (v : View) (a : ℕ) (line : Line) (command : Command) (task : Task) (facts : Facts) (past : Past) (u : LineUnderWay)
+  (R : RefinesBy z v task facts) where
+  -- It tells nothing, where the line is under way as its next place asks.
+  pub goes_by : (next : Place) → UnderAt (words_after task v.words area.Pool) next line command (topics_by v a task) u
       → GoesBy z v a line command task next [] facts past u
-part_goes z v a line command p next facts past u step note S P never R under = record { allowed = tt; refines = part_refines z v a step note facts S P never R.refines; under = under }
+  goes_by next under = record { allowed = tt; refines = R; under = under }
+
+  -- The line is answered, where its stage allows this answer.
+  pub answers_by : (answer : Answer) → u.line ≡ line → Tells z facts.slots u.line.command u.stage answer
+      → GoesBy z v a line command task place.Between (Answered line.number answer ∷ []) facts past u
+  answers_by answer own tells = record { allowed = ((ap (λ (l : Line). l.number) (sym own), tells), tt); refines = R; under = refl }
+
+  -- Or it is given up, before it has done anything.
+  pub leaves_by : (answer : Answer) → u.line ≡ line → u.stage ≡ Fresh → MayLeave z facts u.line.command u.notes answer
+      → GoesBy z v a line command task place.Between (Exited answer ∷ Answered line.number answer ∷ []) facts past u
+  leaves_by answer own fresh may =
+      record { allowed = ((fresh, may), ((ap (λ (l : Line). l.number) (sym own), refl), tt)); refines = R; under = refl }

@@ -40,7 +40,7 @@ use Rattle.mmu_core.specs.lines.SlotChangeSteps.{after_claim, changed, slot_chan
 use Rattle.mmu_core.specs.machine.View.{View, answer_in, words_after}
 use Rattle.mmu_core.proofs.lines.EitherPlace.{each_watch, either_place}
 use Rattle.mmu_laws.specs.flat.FlatInvariant.{SlotChangeUnder}
-use Rattle.mmu_laws.proofs.flat.FlatSteps.{GoesBy, Ready, StepGoes, part_refines}
+use Rattle.mmu_laws.proofs.flat.FlatSteps.{GoesBy, Ready, RefinesBy, StepGoes, answers_by, goes_by, leaves_by, part_refines}
 
 module _ (z : Sizes) (v : View) (a : ℕ) (line : Line) (command : Command) (facts : Facts) (past : Past) (u : LineUnderWay) where
   abbrev task : SlotChangePlace → Task
@@ -70,16 +70,14 @@ module _ (z : Sizes) (v : View) (a : ℕ) (line : Line) (command : Command) (fac
       ∙ ap (option_map (λ r. Refused r)) is
 
   -- After a step that publishes nothing the words stand for the same facts.
-  still : (p : SlotChangePlace) → is_publication p ≡ false → MakesAt p → TopicsInvariant z v → ReadyAt p
-      → let after : Area → ℕ → ℕ = words_after (task p) v.words in
-        Refines z (after area.Slots 0) (after area.Pool) (after area.Content) (after area.Pause 0) facts
+  still : (p : SlotChangePlace) → is_publication p ≡ false → MakesAt p → TopicsInvariant z v → ReadyAt p → RefinesBy z v (task p) facts
   still p never S P R =
       part_refines z v a (slot_change_part p (v.hand a) command) (slot_change_note p (v.hand a)) facts S P (change_never p (v.hand a) command never) R.refines
 
-  -- A step that tells nothing, and goes on at this place.
+  -- It tells nothing, where it goes on at this place.
   quiet : (p next : SlotChangePlace) → is_publication p ≡ false → MakesAt p → TopicsInvariant z v → ReadyAt p → Under next
       → GoesBy z v a line command (task p) (place.SlotChange next) [] facts past u
-  quiet p next never S P R under = record { allowed = tt; refines = still p never S P R; under = under }
+  quiet p next never S P R under = goes_by z v a line command (task p) facts past u (still p never S P R) (place.SlotChange next) under
 
   -- A line that has something to do may be given up where no page is free.
   gives_up : (c : Command) (notes : Notes) → changes_slot c ≡ true → HasWork z facts c → MayLeave z facts c notes Starved
@@ -89,31 +87,18 @@ module _ (z : Sizes) (v : View) (a : ℕ) (line : Line) (command : Command) (fac
   -- A claim goes on, or there is no page free.
   claim_goes : (begun : Bool) (next : ClaimNext) → changes_slot u.line.command ≡ true → HasWork z facts u.line.command → MakesAt (Claim begun)
       → TopicsInvariant z v → ReadyAt (Claim begun)
-      → GoesBy z v a line command (task (Claim begun)) (place_after (after_claim next)) (exiting (after_claim next) ++ answering (after_claim next) line) facts past u
+      → GoesBy z v a line command (task (Claim begun)) (place_after (after_claim next)) (exiting (after_claim next) ++ answering (after_claim next) line)
+      facts past u
   claim_goes begun claims.Goes is works S P R = quiet (Claim begun) (Claim true) refl S P R R.under
   claim_goes begun claims.Got is works S P R = quiet (Claim begun) Fill refl S P R R.under
-  claim_goes begun claims.Empty is works S P R = record {
-    allowed = ((R.under.1, gives_up u.line.command u.notes is works), ((ap (λ (l : Line). l.number) (sym R.under.0), refl), tt));
-    refines = still (Claim begun) refl S P R;
-    under = refl;
-  }
-
-  -- A line whose stage allows this answer is answered.
-  answered : (p : SlotChangePlace) (answer : Answer) (stage : Stage) → is_publication p ≡ false → MakesAt p → TopicsInvariant z v → ReadyAt p
-      → u.stage ≡ stage → Tells z facts.slots u.line.command stage answer
-      → GoesBy z v a line command (task p) place.Between (Answered line.number answer ∷ []) facts past u
-  answered p answer stage never S P R is tells = record {
-    allowed = ((ap (λ (l : Line). l.number) (sym R.under.0), subst (λ s. Tells z facts.slots u.line.command s answer) (sym is) tells), tt);
-    refines = still p never S P R;
-    under = refl;
-  }
+  claim_goes begun claims.Empty is works S P R =
+      leaves_by z v a line command (task (Claim begun)) facts past u (still (Claim begun) refl S P R) Starved R.under.0 R.under.1
+      (gives_up u.line.command u.notes is works)
 
   -- The set is published: flat memory has the change too.
   change_told : (change : Option (ℕ × Option MemorySlot)) → is_some change ≡ true → slot_change facts.slots u.line.command ≡ change → u.stage ≡ stage.Fresh
       → HasWork z facts u.line.command
-      → let after : Area → ℕ → ℕ = words_after (task Publish) v.words in
-        Refines z (after area.Slots 0) (after area.Pool) (after area.Content) (after area.Pause 0) (record facts { slots = after_change change facts.slots })
-      → u.line ≡ line → GoesBy z v a line command (task Publish) (place.SlotChange Release) (changed change ++ []) facts past u
+      → RefinesBy z v (task Publish) (record facts { slots = after_change change facts.slots }) → u.line ≡ line → GoesBy z v a line command (task Publish) (place.SlotChange Release) (changed change ++ []) facts past u
   change_told None some is fresh works refines own = absurd (cc some)
   change_told (Some (id, slot)) some is fresh works refines own = record { allowed = ((fresh, works, is), tt); refines = refines; under = (own, refl) }
 
@@ -134,7 +119,8 @@ module _ (z : Sizes) (v : View) (a : ℕ) (line : Line) (command : Command) (fac
   pub slot_change_goes : (p : SlotChangePlace) → changes_slot command ≡ true → IsStep z v a line command (place.SlotChange p) → Invariant z v
       → TopicsInvariant z v → MakesAt p → ReadyAt p → GoesAt p
   slot_change_goes (Refuse refusal) changes S I P M R =
-      answered (Refuse refusal) (Refused refusal) stage.Fresh refl M P R R.under.1 (at_once (Refuse refusal) (Some refusal) S I R S.holds)
+      answers_by z v a line command (task (Refuse refusal)) facts past u (still (Refuse refusal) refl M P R) (Refused refusal) R.under.0
+      (subst (λ s. Tells z facts.slots u.line.command s (Refused refusal)) (sym R.under.1) (at_once (Refuse refusal) (Some refusal) S I R S.holds))
   slot_change_goes (Claim begun) changes S I P M R =
       claim_goes begun (claim_next begun (v.hand a).state.sizes (v.hand a).topics.claim (answer_in (task (Claim begun)) v.words))
       (ap changes_slot (ap (λ (l : Line). l.command) R.under.0 ∙ S.command_is) ∙ changes) (at_once (Claim begun) None S I R S.holds) M P R
@@ -147,5 +133,7 @@ module _ (z : Sizes) (v : View) (a : ℕ) (line : Line) (command : Command) (fac
   slot_change_goes Publish changes S I P M R = publish_goes changes S I R
   slot_change_goes Watch changes S I P M R =
       quiet Watch _ refl M P R (each_watch Under (watch_next (v.hand a) (answer_in (task Watch) v.words)) Watch Clear R.under R.under)
-  slot_change_goes Give changes S I P M R = answered Give Done stage.HasChanged refl M P R R.under.1 refl
+  slot_change_goes Give changes S I P M R =
+      answers_by z v a line command (task Give) facts past u (still Give refl M P R) Done R.under.0
+      (subst (λ s. Tells z facts.slots u.line.command s Done) (sym R.under.1) refl)
   slot_change_goes p changes S I P M R = quiet p _ refl M P R R.under
