@@ -90,7 +90,8 @@ step_kept z v a line command place.Between small S I P = absurd S.begun
 step_kept z v a line (Access gfn word op) (place.Access p) small S I P =
     access_kept z v a line p gfn word op S I P (step_knows z v a line (Access gfn word op) (place.Access p) S I) (makes_parts z v a line p gfn word op small S I P) (knows_behind z v a line (Access gfn word op) (place.Access p) S I P)
 step_kept z v a line command (place.SlotChange p) small S I P =
-    slot_change_kept z v a line p command S I P (makes_at z v a line command (place.SlotChange p) small S I P) (knows_behind z v a line command (place.SlotChange p) S I P)
+    slot_change_kept z v a line p command S I P (makes_at z v a line command (place.SlotChange p) small S I P)
+    (knows_behind z v a line command (place.SlotChange p) S I P)
 step_kept z v a line _ _ small S I P = absurd S.holds
 
 -- The hand for which a page leaves is the manager's.

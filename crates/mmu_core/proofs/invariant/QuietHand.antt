@@ -33,10 +33,10 @@ use Rattle.mmu_core.proofs.machine.Stepping.{IsStep, none_done}
 use Rattle.mmu_core.proofs.slots.LiveStay.{StayLive, translations_stay}
 use Rattle.mmu_core.proofs.slots.SlotsStay.{AllKnow, is_live_stays}
 
--- What holds of the one step of a part that a place names holds of each.
 same_step : {s step : PartStep} → Some s ≡ Some step → s ≡ step
 same_step e = cc e
 
+-- A place names one step of a part: what holds of this one holds of each.
 pub one_step : (P : PartStep → Type 0) (step : PartStep) → P step → (s : PartStep) → Some step ≡ Some s → P s
 one_step P step so s is = subst P (same_step is) so
 
@@ -44,39 +44,40 @@ one_step P step so s is = subst P (same_step is) so
 pub still_cached : (before : ℕ → ℕ) (set : ℕ) (after : ℕ → ℕ) (other : ℕ) (host : ℕ → ℕ) (k : Kind) (c : Buffer Translation) (x : ℕ)
     → StayLive before set after other → CachedPart before host set c.items → CachedPart after host other (flushed k c x).items
 still_cached before set after other host k c x stay each =
-    flushed_kept (λ (t : Translation). (t.level ≡ 1) × IsLeafFor after host other t.gfn t.leaf) k c x (translations_stay before set after other stay host c.items each)
+    flushed_kept (λ (t : Translation). (t.level ≡ 1) × IsLeafFor after host other t.gfn t.leaf) k c x
+    (translations_stay before set after other stay host c.items each)
 
 -- ---- how many of the hand's lines have done what they do
 
+-- how many have after the step
+abbrev pub done_by : Place → Command → Held → Line → ℕ → ℕ
+done_by p command h line x =
+    let o : Outcome = outcome_at p command h x in
+    length (answers_after o line h.answers) + (if may_leave (place_after o) then 1 else 0)
+
 -- Where a page may leave, it may after the step, or the line is answered.
 abbrev pub CountsMore : Place → Command → Held → Line → ℕ → Type 0
-CountsMore p command h line x =
-    may_leave p ≡ true
-    → length h.answers + 1 ≤ length (answers_after (outcome_at p command h x) line h.answers) + (if may_leave (place_after (outcome_at p command h x)) then 1 else 0)
+CountsMore p command h line x = may_leave p ≡ true → length h.answers + 1 ≤ done_by p command h line x
 
--- So no fewer have after it.
+-- So no fewer have than before.
 pub lines_more : (z : Sizes) (v : View) (a : ℕ) (line : Line) (command : Command) (p : Place) (x : ℕ) → IsStep z v a line command p
-    → CountsMore p command (v.hand a) line x
-    → lines_done (v.hand a) ≤ length (answers_after (outcome_at p command (v.hand a) x) line (v.hand a).answers) + (if may_leave (place_after (outcome_at p command (v.hand a) x)) then 1 else 0)
+    → CountsMore p command (v.hand a) line x → lines_done (v.hand a) ≤ done_by p command (v.hand a) line x
 lines_more z v a line command p x S counts = by (may_leave p) refl
   where
     h : Held
     h = v.hand a
 
-    o : Outcome
-    o = outcome_at p command h x
-
     one_at_most : (b : Bool) → length h.answers + (if b then 1 else 0) ≤ length h.answers + 1
     one_at_most true = omega arith
     one_at_most false = omega arith
 
-    by : (b : Bool) → may_leave p ≡ b → lines_done h ≤ length (answers_after o line h.answers) + (if may_leave (place_after o) then 1 else 0)
+    by : (b : Bool) → may_leave p ≡ b → lines_done h ≤ done_by p command h line x
     by true may = omega (arith, one_at_most (may_leave h.state.place), counts may)
-    by false may = omega (arith, none_done z v a line command p S may, answers_more o line h.answers)
+    by false may = omega (arith, none_done z v a line command p S may, answers_more (outcome_at p command h x) line h.answers)
 
 -- ---- the step
 
--- What a form says of the step, which answered x, of the hand that holds what the step of the part says.
+-- What a form says of a step that answered x, of the hand that holds after it what the step of the part says.
 pub record OfHand (z : Sizes) (v : View) (a : ℕ) (line : Line) (command : Command) (p : Place) (x : ℕ) : Type 0 where
   pub never : NeverPublishes v a p command
   pub same : records_at p command (v.hand a).slots ≡ (v.hand a).slots
@@ -84,7 +85,9 @@ pub record OfHand (z : Sizes) (v : View) (a : ℕ) (line : Line) (command : Comm
   pub counts : CountsMore p command (v.hand a) line x
   pub leaves : LeavesPart (place_after (outcome_at p command (v.hand a) x)) (behind_part (part_at p command (v.hand a)) (v.hand a).topics x)
   pub holds : (cached : Buffer Translation)
-      → Holds z (words_after (task_at p command (v.hand a)) v.words area.Pool) (v.words area.Host) (v.words area.Slots 0) (place_after (outcome_at p command (v.hand a) x)) command (hand_with line command p (v.hand a) (behind_part (part_at p command (v.hand a)) (v.hand a).topics x) cached x)
+      → Holds z (words_after (task_at p command (v.hand a)) v.words area.Pool) (v.words area.Host) (v.words area.Slots 0)
+      (place_after (outcome_at p command (v.hand a) x)) command
+      (hand_with line command p (v.hand a) (behind_part (part_at p command (v.hand a)) (v.hand a).topics x) cached x)
 
 pub quiet_hand : (z : Sizes) (v : View) (a : ℕ) (line : Line) (command : Command) (p : Place) → IsStep z v a line command p → Invariant z v
     → TopicsInvariant z v → MakesAt z v a p command → RestsAt p command (v.hand a)
@@ -95,10 +98,10 @@ quiet_hand z v a line command p S I P makes R Q knows =
       same = Q.same;
       more = lines_more z v a line command p x S Q.counts;
       room = ap (λ (c : Buffer Translation). c.capacity) Q.caches;
-      leaves = subst (LeavesPart (place_after (outcome_at p command h x))) (sym held) Q.leaves;
+      leaves = subst (LeavesPart (place_after o)) (sym held) Q.leaves;
       holds =
-          subst (λ (t : Topics). Holds z (words area.Pool) (v.words area.Host) set (place_after (outcome_at p command h x)) command (hand_with line command p h t cached x)) (sym held)
-          (Q.holds cached);
+          subst (λ (t : Topics). Holds z (words area.Pool) (v.words area.Host) set (place_after o) command (hand_with line command p h t cached x))
+          (sym held) (Q.holds cached);
       cached =
           still_cached (v.words area.Pool) set (words area.Pool) set (v.words area.Host) kind_ (caches_at p command h x) x
           (is_live_stays set (v.words area.Pool) (words area.Pool) W.pool)
@@ -113,6 +116,9 @@ quiet_hand z v a line command p S I P makes R Q knows =
 
     x : ℕ
     x = answer_in (task_at p command h) v.words
+
+    o : Outcome
+    o = outcome_at p command h x
 
     words : Area → ℕ → ℕ
     words = words_after (task_at p command h) v.words

@@ -123,7 +123,8 @@ claim_leaves z begun t v _ _ _ (Won tries b some is) = refl
 claim_leaves z begun t v _ _ _ _ = refl
 
 -- The walk stays.
-pub claim_walk : (z : Sizes) (begun : Bool) (t : Topics) (v : ℕ) (step : PartStep) (next : ClaimNext) (u : Topics) → ClaimMade z begun t v step next u → u.walk ≡ t.walk
+pub claim_walk : (z : Sizes) (begun : Bool) (t : Topics) (v : ℕ) (step : PartStep) (next : ClaimNext) (u : Topics) → ClaimMade z begun t v step next u
+    → u.walk ≡ t.walk
 claim_walk z begun t v _ _ _ (Won tries b some is) = refl
 claim_walk z begun t v _ _ _ _ = refl
 

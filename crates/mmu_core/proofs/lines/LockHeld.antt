@@ -30,6 +30,10 @@ rests_by_seq t v K = by (is_loose t.hold)
     by true = record { outside = K.outside; loose = K.loose; owns_none = K.owns_none; no_table = K.no_table; no_set = refl }
     by false = record { outside = K.outside; loose = K.loose; owns_none = K.owns_none; no_table = K.no_table; no_set = K.no_set }
 
+-- Who publishes a slot set holds it as before.
+pub lock_publishes : (hold : Hold) (t : Topics) (v : ℕ) → HoldsLock hold t → HoldsLock hold (part_topics part.Publish t v)
+lock_publishes hold t v K = record { outside = K.outside; holds = K.holds; no_table = K.no_table; no_set = refl }
+
 -- Who tries to have the lock alone has it where nobody held it, and else holds what it held.
 pub lock_taken : (t : Topics) (v : ℕ) → HoldsLock Loose t → (v == 0) ≡ true → HoldsLock Exclusive (part_topics part.Exclude t v)
 lock_taken t v K free =

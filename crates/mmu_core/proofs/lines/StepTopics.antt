@@ -41,8 +41,10 @@ topics_of_step p command h v R =
 
 -- What it knows of the hand that holds this, it knows of its hand.
 pub knows_by : (p : Place) (line : Line) (command : Command) (h : Held) (v : ℕ) → RestsAt p command h
-    → ((cached : Buffer Translation) → KnowsBehind (outcome_at p command h v) command (hand_with line command p h (behind_part (part_at p command h) h.topics v) cached v))
+    → ((cached : Buffer Translation)
+    → KnowsBehind (outcome_at p command h v) command (hand_with line command p h (behind_part (part_at p command h) h.topics v) cached v))
     → KnowsAfter line command p h v
 knows_by p line command h v R knows =
     let cached : Buffer Translation = flushed (kind_of_task h.state.sizes (task_at p command h)) (caches_at p command h v) v in
-    subst (λ (t : Topics). KnowsBehind (outcome_at p command h v) command (hand_with line command p h t cached v)) (sym (topics_of_step p command h v R)) (knows cached)
+    subst (λ (t : Topics). KnowsBehind (outcome_at p command h v) command (hand_with line command p h t cached v))
+    (sym (topics_of_step p command h v R)) (knows cached)

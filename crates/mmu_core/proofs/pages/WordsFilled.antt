@@ -1,4 +1,4 @@
--- What an actor has filled of its page, where each word is to hold what a function says: nothing of a page that it claims, and one word more after each fill.
+-- What an actor has filled of its page, each word as a function says: nothing of a page that it claims, and one word more after each fill.
 use Rattle.std.proofs.Common.{◌≡◌, ◌≢◌, ◌⊎◌, inl, inr, ◌+◌, ◌<◌, ℕ, refl, sym, ap, ◌∙◌, arith}
 use Rattle.std.specs.Prelude.{Option, Some, None}
 use Rattle.core_views.specs.declared.topics.OwnedPage.{OwnedPage}
@@ -32,7 +32,8 @@ one_more pool word (Some p) v few F o is j lt low =
 
     by : (j ≡ p.filled) ⊎ (j ≢ p.filled) → upd pool (pool_index p.page p.filled) (word p.filled) (pool_index p.page j) ≡ word j
     by (inl e) =
-        ap (λ k. upd pool (pool_index p.page p.filled) (word p.filled) (pool_index p.page k)) e ∙ upd_same pool (pool_index p.page p.filled) (word p.filled) ∙ ap word (sym e)
+        ap (λ k. upd pool (pool_index p.page p.filled) (word p.filled) (pool_index p.page k)) e
+        ∙ upd_same pool (pool_index p.page p.filled) (word p.filled) ∙ ap word (sym e)
     by (inr ne) =
         fill_leaves p.page p.filled (word p.filled) pool p.page j few low (λ same d. ne (sym d)) ∙ F p refl j (omega (arith, lt, filled, ne)) low
 

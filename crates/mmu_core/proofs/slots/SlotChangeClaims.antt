@@ -1,8 +1,7 @@
 -- Which steps of a line that changes a slot claim: those of its claim, with the last of which it may be starved.
 use Rattle.std.proofs.Common.{◌≡◌, ◌⊎◌, inl, ◌+◌, ℕ, refl}
-use Rattle.std.specs.Prelude.{true, false, ◌==◌, nat_lt, Option, Some, None}
+use Rattle.std.specs.Prelude.{true, ◌==◌, nat_lt, Option, Some, None}
 use Rattle.core_views.specs.declared.answer.Refusal.{Refusal}
-use Rattle.core_views.specs.declared.place.Place.{Place}
 use Rattle.core_views.specs.declared.place.Place.TheVariants as place
 use Rattle.core_views.specs.declared.place.SlotChangePlace.{SlotChangePlace}
 use Rattle.core_views.specs.declared.place.SlotChangePlace.TheVariants.{Claim, Fill, Role, Exclude, Count, Close, Publish, Watch, Clear}
@@ -36,9 +35,14 @@ module _ (command : Command) (h : Held) (v : ℕ) where
   pub change_claims_or_not : (p : SlotChangePlace) → OfPlace p
   change_claims_or_not (Claim begun) =
       let next : ClaimNext = claim_next begun h.state.sizes h.topics.claim v in
-      let on : Place = place.SlotChange (Claim true) in
-      let got : Place = place.SlotChange Fill in
-      inl (record { begun = begun; at = refl; step = refl; scan = λ b. b; leads = claim_leads on got next refl (λ S. S); note = (refl, claim_notes on got next) })
+      inl (record {
+        begun = begun;
+        at = refl;
+        step = refl;
+        scan = λ b. b;
+        leads = claim_leads (place.SlotChange (Claim true)) (place.SlotChange Fill) next refl (λ S. S);
+        note = (refl, claim_notes (place.SlotChange (Claim true)) (place.SlotChange Fill) next);
+      })
   change_claims_or_not p = to_no_scan (place.SlotChange p) command h v refl refl refl (no_scan p refl) (λ e. cc e)
 
 -- It begins with no scan.

@@ -1,11 +1,8 @@
 -- The steps of a line that changes a slot keep the invariant.
-use Rattle.std.proofs.Common.{◌≡◌, ◌<◌, ◌≤◌, ◌+◌, ℕ, length, refl, sym, subst, ap, ◌∙◌, arith}
+use Rattle.std.proofs.Common.{◌≡◌, ◌≤◌, ◌+◌, ℕ, length, refl, sym, subst, ap, ◌∙◌, arith}
 use Rattle.std.specs.Map.{keys_of}
-use Rattle.std.specs.Prelude.{Bool, true, false, if◌then◌else◌, None, Some}
-use Rattle.circular_buffer.specs.Buffer.{Buffer}
+use Rattle.std.specs.Prelude.{true, false, if◌then◌else◌}
 use Rattle.core_views.specs.declared.actor.Actor.TheVariants.{Manager}
-use Rattle.core_views.specs.declared.cache.Translation.{Translation}
-use Rattle.core_views.specs.declared.kind.Kind.{Kind}
 use Rattle.core_views.specs.declared.place.Place.TheVariants as place
 use Rattle.core_views.specs.declared.place.SlotChangePlace.{SlotChangePlace}
 use Rattle.core_views.specs.declared.place.SlotChangePlace.TheVariants.{Publish, Release, Watch, Clear, Give}
@@ -18,25 +15,21 @@ use Rattle.core_views.specs.SlotSets.{MemorySlots}
 use Rattle.core_views.specs.Traces.{IsCommandFor}
 use Rattle.spte_words.specs.declared.area.Area.{Area}
 use Rattle.spte_words.specs.declared.area.Area.TheVariants as area
-use Rattle.part_steps.specs.declared.part_step.PartStep.{PartStep}
-use Rattle.mmu_core.specs.lines.Cached.{flushed}
 use Rattle.part_steps.specs.PartTasks.{own_index, page_owned, words_filled}
-use Rattle.mmu_core.specs.lines.SlotChangeSteps.{slot_change_note, slot_change_outcome, slot_change_part, slot_change_records, slot_change_task, watch_next}
+use Rattle.mmu_core.specs.lines.SlotChangeSteps.{slot_change_note, slot_change_part, slot_change_records, slot_change_task, watch_next}
 use Rattle.part_steps.specs.SetWords.{set_role}
-use Rattle.mmu_core.specs.machine.Steps.{next_line, state_at}
+use Rattle.mmu_core.specs.machine.Steps.{state_at}
 use Rattle.part_steps.specs.Tasks.{kind_of_task}
 use Rattle.mmu_core.specs.invariant.TopicsInvariant.{TopicsInvariant}
 use Rattle.mmu_core.specs.machine.View.{View, answer_in, hand_after, stepped}
 use Rattle.mmu_core.proofs.slots.Changes.{AreRecorded, Publishes, change_is_managers, change_published, change_recorded, change_small}
-use Rattle.mmu_core.proofs.machine.PartStepping.{IsPart, Replaces, is_publish, replaces_none}
+use Rattle.mmu_core.proofs.machine.PartStepping.{Replaces, is_publish, replaces_none}
 use Rattle.mmu_core.proofs.pages.Owned.{OwnsWhole, set_owned}
 use Rattle.core_views.specs.declared.answer.Answer.TheVariants.{Done}
-use Rattle.mmu_core.specs.declared.outcome.Outcome.TheVariants.{Goes, Ends}
-use Rattle.mmu_core.specs.lines.SlotChangeKnows.{SlotChangeKnows}
+use Rattle.mmu_core.specs.declared.outcome.Outcome.TheVariants.{Goes}
 use Rattle.mmu_core.proofs.lines.UsedTranslations.{flushed_room}
 use Rattle.part_steps.specs.PartBounds.{PartRests}
 use Rattle.mmu_core.proofs.invariant.PartBounded.{part_rests_at}
-use Rattle.core_views.specs.declared.topics.Topics.{Topics}
 use Rattle.part_steps.specs.PartSteps.{PartNeeds}
 use Rattle.mmu_core.proofs.lines.FaultKnown.{parts_answer}
 use Rattle.mmu_core.specs.invariant.Invariant.{Holds, Invariant, KnowsPart, LeavesPart, OwnLines, lines_done}
@@ -62,7 +55,8 @@ change_hand z i h p command O is said changes =
 counts_more : (p : SlotChangePlace) (command : Command) (h : Held) (line : Line) (v : ℕ) → CountsMore (place.SlotChange p) command h line v
 counts_more Release command h line v may = omega arith
 counts_more Watch command h line v may =
-    each_watch (λ q. length h.answers + 1 ≤ length h.answers + (if may_leave (place.SlotChange q) then 1 else 0)) (watch_next h v) Watch Clear (omega arith) (omega arith)
+    each_watch (λ q. length h.answers + 1 ≤ length h.answers + (if may_leave (place.SlotChange q) then 1 else 0)) (watch_next h v) Watch Clear
+    (omega arith) (omega arith)
 counts_more Clear command h line v may = omega arith
 counts_more Give command h line v may =
     let n = answers_length h.answers (record { number = line.number; actor = line.actor; answer = Done }) in omega (arith, n)
@@ -94,13 +88,15 @@ quiet_change z v a line p command never S I P makes knows =
 -- ---- The publication: the set with the change is in use, and the record has it.
 
 published_kept : (z : Sizes) (v : View) (a : ℕ) (line : Line) (command : Command) → IsStep z v a line command (place.SlotChange Publish)
-    → Invariant z v → TopicsInvariant z v → AllKnow z (stepped a line command (place.SlotChange Publish) v).hand → Invariant z (stepped a line command (place.SlotChange Publish) v)
+    → Invariant z v → TopicsInvariant z v → AllKnow z (stepped a line command (place.SlotChange Publish) v).hand
+    → Invariant z (stepped a line command (place.SlotChange Publish) v)
 published_kept z v a line command S I P knows =
     hand_moved z set page (v.words area.Role) (v.words area.Role) pool pool (v.words area.Host) v.hand a after new_set.stay
     (new_set.set_part (v.words area.Role) role_is I.set_part)
     (λ i lt ne own is j low. refl) (λ i lt ne is. absurd (ne (one_manager z i a (v.hand i) h (I.lines i lt) O is manager))) own
     (subst (λ c. Holds z pool (v.words area.Host) page (place.SlotChange Release) c after) (sym S.command_is) tt) (λ may. absurd (cc may))
-    (still_cached pool set pool page (v.words area.Host) (kind_of_task h.state.sizes (slot_change_task Publish h command)) h.cached set new_set.stay (I.cached a S.there))
+    (still_cached pool set pool page (v.words area.Host) (kind_of_task h.state.sizes (slot_change_task Publish h command)) h.cached set new_set.stay
+    (I.cached a S.there))
     (λ is. record { same = new_set.list }) knows I
   where
     h : Held
@@ -136,15 +132,19 @@ published_kept z v a line command S I P knows =
     role_is : v.words area.Role page ≡ set_role
     role_is = ap (v.words area.Role) (ap page_owned owns.is) ∙ (P.filled a owns.owned S.there owns.is).role_is owns.whole ∙ owns.role
 
+    more : lines_done h ≤ length h.answers + 1
+    more = lines_more z v a line command (place.SlotChange Publish) set S (counts_more Publish command h line set)
+
     recorded : AreRecorded h (slots_after command h.slots)
     recorded = change_recorded h command S.left (ap (λ (l : Line). l.command) (sym S.next) ∙ S.command_is) (record {
-      answered = answered_kept (lines_done h) (length h.answers + 1) h.lines (keys_of h.slots) (lines_more z v a line command (place.SlotChange Publish) set S (counts_more Publish command h line set)) O.answered;
+      answered = answered_kept (lines_done h) (length h.answers + 1) h.lines (keys_of h.slots) more O.answered;
       set = O.set;
     })
 
     own : OwnLines z a after
     own =
-        lines_behind z a h line (state_at (place.SlotChange Publish) command h set) (Goes (place.SlotChange Release)) after.topics after.cached (slots_after command h.slots) O S.next S.left O.sizes refl
+        lines_behind z a h line (state_at (place.SlotChange Publish) command h set) (Goes (place.SlotChange Release)) after.topics after.cached
+        (slots_after command h.slots) O S.next S.left O.sizes refl
         (flushed_room (kind_of_task h.state.sizes (slot_change_task Publish h command)) h.cached set) recorded.answered recorded.set
 
 -- The invariant after each of its steps, where each actor knows after it what its place asks.
@@ -169,8 +169,8 @@ pub own_slot_change : (p : SlotChangePlace) (line : Line) (h : Held) (command : 
     → KnowsAfter line command (place.SlotChange p) h (answer_in (slot_change_task p h command) words)
 own_slot_change p line h command words R K left N =
     let v : ℕ = answer_in (slot_change_task p h command) words in
-    knows_by (place.SlotChange p) line command h v (K.0, N)
-    (λ cached. slot_change_known line h command cached v K.0 p R K.1 left (parts_answer (slot_change_part p h command) (own_index h) h.topics (slot_change_note p h) words))
+    let A = parts_answer (slot_change_part p h command) (own_index h) h.topics (slot_change_note p h) words in
+    knows_by (place.SlotChange p) line command h v (K.0, N) (λ cached. slot_change_known line h command cached v K.0 p R K.1 left A)
 
 -- Its step has what it needs.
 pub change_needs : (z : Sizes) (v : View) (a : ℕ) (line : Line) (p : SlotChangePlace) (command : Command)

@@ -1,6 +1,6 @@
 -- A line that changes a slot has what each of its steps needs, and knows after it what its next place asks, and what it has filled then.
 use Rattle.std.proofs.Common.{◌≡◌, inr, ◌<◌, ◌^◌, ◌+◌, ◌==◌, ℕ, refl, ap, ◌∙◌, arith}
-use Rattle.std.specs.Prelude.{Bool, true, false, nat_lt, None}
+use Rattle.std.specs.Prelude.{Bool, true, nat_lt, None}
 use Rattle.std.proofs.lemmas.Bool.{eqb-true}
 use Rattle.circular_buffer.specs.Buffer.{Buffer}
 use Rattle.core_views.specs.declared.cache.Translation.{Translation}
@@ -32,7 +32,7 @@ use Rattle.mmu_core.specs.declared.claim.ClaimNext.TheVariants as claims
 use Rattle.mmu_core.specs.declared.watch.WatchNext.{WatchNext}
 use Rattle.mmu_core.specs.lines.FaultLaws.{CanAnswer}
 use Rattle.mmu_core.specs.lines.Forms.{Holds, KnowsPart, LeavesPart}
-use Rattle.mmu_core.specs.lines.SlotChangeKnows.{FillsSet, HoldsLock, SlotChangeHolds, SlotChangeKnows}
+use Rattle.mmu_core.specs.lines.SlotChangeKnows.{FillsSet, SlotChangeHolds, SlotChangeKnows}
 use Rattle.mmu_core.specs.lines.SlotChangeSteps.{after_claim, after_watch, looked_at, slot_change_outcome, slot_change_part, slot_change_task, watch_next}
 use Rattle.mmu_core.specs.machine.Outcomes.{place_after}
 use Rattle.mmu_core.specs.machine.View.{words_after}
@@ -41,7 +41,7 @@ use Rattle.mmu_core.proofs.lines.ClaimMade as made
 use Rattle.mmu_core.proofs.lines.EitherPlace.{each_watch, either_place, one_place}
 use Rattle.mmu_core.proofs.lines.FillMade.{fill_ends, fill_goes, same_set, set_whole}
 use Rattle.mmu_core.proofs.lines.KnowsKept.{KnowsBehind}
-use Rattle.mmu_core.proofs.lines.LockHeld.{lock_let_go, lock_taken, lock_tried, rests_by_seq, sees_open}
+use Rattle.mmu_core.proofs.lines.LockHeld.{lock_let_go, lock_publishes, lock_taken, lock_tried, rests_by_seq, sees_open}
 use Rattle.mmu_core.proofs.lines.WatchMade.{WatchMade, never_own, watch_begins, watch_comes, watch_made}
 use Rattle.mmu_core.proofs.lines.WatchMade as watch
 use Rattle.mmu_core.proofs.machine.HandWith.{hand_with}
@@ -99,7 +99,8 @@ module _ (line : Line) (h : Held) (command : Command) (cached : Buffer Translati
   slot_change_known Role R K left A = (changes, (K.0, set_whole h.topics v K.1 A))
   slot_change_known Exclude R K left A =
       one_place (λ q. Knows q (behind Exclude (part_topics part.Exclude h.topics v))) (v == 0) Count Exclude
-      (λ e. (changes, (lock_taken h.topics v K.0 e, same_set h.topics _ refl K.1))) (λ e. (changes, (lock_tried h.topics v K.0 e, same_set h.topics _ refl K.1)))
+      (λ e. (changes, (lock_taken h.topics v K.0 e, same_set h.topics _ refl K.1)))
+      (λ e. (changes, (lock_tried h.topics v K.0 e, same_set h.topics _ refl K.1)))
   slot_change_known Count R K left A =
       let owns : OwnsSet (part_topics part.Count h.topics v) = same_set h.topics _ refl K.1 in
       let alone : h.topics.hold ≡ Exclusive = K.0.holds in
@@ -108,8 +109,7 @@ module _ (line : Line) (h : Held) (command : Command) (cached : Buffer Translati
       (λ e. (changes, (K.0, owns, sees_open h.topics v K.0 e)))
   slot_change_known Close R K left A = (changes, (lock_let_go Exclusive h.topics K.0, same_set h.topics _ refl K.1))
   slot_change_known Publish R K left A =
-      let lock : HoldsLock Exclusive (part_topics part.Publish h.topics v) = record { outside = K.0.outside; holds = K.0.holds; no_table = K.0.no_table; no_set = refl } in
-      (changes, (lock, record { leaves = refl; owns_none = refl }, refl, K.1.none_open))
+      (changes, (lock_publishes Exclusive h.topics v K.0, record { leaves = refl; owns_none = refl }, refl, K.1.none_open))
   slot_change_known Release R K left A =
       (changes, (lock_let_go Exclusive h.topics K.0, K.1, watch_begins h K.2 R.sizes))
   slot_change_known Watch R K left A = watch_known _ _ (watch_made h v) K

@@ -1,4 +1,4 @@
--- A line that changes a slot at its places: where it begins, goes on to and ends, what it has loaded, what the manager's record accepts, and how many steps it has left.
+-- A line that changes a slot at its places: where it begins, goes on to and ends, what it has loaded, what the record accepts, and how many steps it has left.
 use Rattle.std.proofs.Common.{◌≡◌, ◌<◌, ◌≤◌, ℕ, ◌∙◌, ◌+◌, arith, ◌≢◌, refl}
 use Rattle.std.proofs.Props.{props}
 use Rattle.std.specs.Prelude.{true, Option, Some, None, Bool, false}
@@ -47,7 +47,8 @@ change_never _ h command other = refl
 
 pub slot_change_goes : (p : SlotChangePlace) (h : Held) (v : ℕ) → GoesUnderWay (slot_change_outcome p h v) × GoesToNoAccess (slot_change_outcome p h v)
 slot_change_goes (Claim begun) h v =
-    each_claim (λ o. GoesUnderWay o × GoesToNoAccess o) (claim_next begun h.state.sizes h.topics.claim v) (place.SlotChange (Claim true)) (place.SlotChange Fill) (tt, tt) (tt, tt) (tt, tt)
+    each_claim (λ o. GoesUnderWay o × GoesToNoAccess o) (claim_next begun h.state.sizes h.topics.claim v)
+    (place.SlotChange (Claim true)) (place.SlotChange Fill) (tt, tt) (tt, tt) (tt, tt)
 slot_change_goes _ h v = (tt, tt)
 
 -- ---- what it has loaded

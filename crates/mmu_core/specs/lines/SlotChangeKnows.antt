@@ -33,7 +33,8 @@ SlotChangeKnows Exclude h = HoldsLock Loose h.topics × OwnsSet h.topics
 SlotChangeKnows Count h = HoldsLock Exclusive h.topics × OwnsSet h.topics
 SlotChangeKnows Close h = HoldsLock Exclusive h.topics × OwnsSet h.topics × (saw_open h.topics.invalidations ≡ true)
 SlotChangeKnows Publish h = HoldsLock Exclusive h.topics × MayPublish h.topics
-SlotChangeKnows Release h = HoldsLock Exclusive h.topics × HasPublished h.topics.leaving h.topics.owned × (h.topics.watched ≡ 0) × (h.topics.invalidations.count ≡ 0)
+SlotChangeKnows Release h =
+    HoldsLock Exclusive h.topics × HasPublished h.topics.leaving h.topics.owned × (h.topics.watched ≡ 0) × (h.topics.invalidations.count ≡ 0)
 SlotChangeKnows Watch h = HoldsLock Loose h.topics × HasPublished h.topics.leaving h.topics.owned × (looked_at h < actors_of h.state.sizes)
 SlotChangeKnows Clear h = HoldsLock Loose h.topics × MayGiveOld h
 SlotChangeKnows Give h = HoldsLock Loose h.topics × MayGiveOld h

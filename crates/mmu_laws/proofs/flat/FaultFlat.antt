@@ -46,7 +46,7 @@ use Rattle.part_steps.specs.Tasks.{kind_of_task}
 use Rattle.mmu_core.specs.invariant.TopicsInvariant.{TopicsInvariant}
 use Rattle.mmu_core.specs.machine.View.{View, answer_in, words_after}
 use Rattle.mmu_laws.proofs.flat.FindFlat.{find_noted}
-use Rattle.mmu_laws.proofs.flat.FlatSteps.{Goes, Ready, StepGoes, goes_by, leaves_by, part_leaves, part_refines, refined_slots, refines_stay}
+use Rattle.mmu_laws.proofs.flat.FlatSteps.{Goes, Ready, StepGoes, goes_by, leaves_by, part_refines, refined_slots}
 use Rattle.mmu_laws.proofs.flat.PageFound.{host_writable}
 use Rattle.mmu_core.proofs.machine.PartStepping.{IsPart}
 use Rattle.mmu_core.proofs.words.PartTopics.{part_topics_is}

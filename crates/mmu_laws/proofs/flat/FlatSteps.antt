@@ -1,4 +1,4 @@
--- What a step owes the flat side: its events are allowed, and words and its hand are flat memory behind them.
+-- What a step owes the flat side: its events are allowed, and words and its hand are flat memory after them.
 use Rattle.std.proofs.Common.{◌≡◌, ℕ, List, [], ◌∷◌, ◌++◌, refl, sym, ap, ◌∙◌, arith}
 use Rattle.core_views.specs.declared.actor.Actor.{Actor}
 use Rattle.core_views.specs.declared.answer.Answer.{Answer}
@@ -45,7 +45,7 @@ pub record Ready (z : Sizes) (v : View) (line : Line) (command : Command) (p : P
   pub refines : Refines z (v.words area.Slots 0) (v.words area.Pool) (v.words area.Content) (v.words area.Pause 0) facts
   pub under : UnderAt (v.words area.Pool) p line command t u
 
--- What the step tells is allowed; behind it the facts are what the words say, and the line stands at this place.
+-- What the step tells is allowed; after it the facts are what the words say, and the line stands at this place.
 pub record Goes (z : Sizes) (actor : Actor) (line : Line) (command : Command) (after : Area → ℕ → ℕ) (p : Place) (t : Topics) (kinds : List EventKind)
     (facts : Facts) (past : Past)
     (u : LineUnderWay) : Type 0 where
@@ -84,7 +84,7 @@ pub refined_slots : (z : Sizes) (set : ℕ) (pool content : ℕ → ℕ) (pause 
     → flat_slots facts.slots ≡ slots_below pool set 32
 refined_slots z set pool content pause facts R = ap flat_slots R.slots ∙ flat_below pool set 32
 
--- The words behind it still stand for the same facts.
+-- The words after it still stand for the same facts.
 pub refines_stay : (z : Sizes) (before after : Area → ℕ → ℕ) (facts : Facts) → Leaves before after
     → Refines z (before area.Slots 0) (before area.Pool) (before area.Content) (before area.Pause 0) facts
     → Refines z (after area.Slots 0) (after area.Pool) (after area.Content) (after area.Pause 0) facts
@@ -120,7 +120,7 @@ GoesBy z v a line command task next kinds facts past u =
     Goes z (v.hand a).state.actor line command (words_after task v.words) next (topics_by v a task) kinds facts past u
 
 module _ (z : Sizes) (v : View) (a : ℕ) (line : Line) (command : Command) (task : Task) (facts : Facts) (past : Past) (u : LineUnderWay)
-  (R : RefinesBy z v task facts) where
+    (R : RefinesBy z v task facts) where
   -- It tells nothing, where the line is under way as its next place asks.
   pub goes_by : (next : Place) → UnderAt (words_after task v.words area.Pool) next line command (topics_by v a task) u
       → GoesBy z v a line command task next [] facts past u

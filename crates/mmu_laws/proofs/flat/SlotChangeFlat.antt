@@ -1,5 +1,5 @@
 -- What the steps of a slot line owe flat memory.
-use Rattle.std.proofs.Common.{◌≡◌, ◌+◌, ℕ, [], ◌∷◌, ◌++◌, refl, sym, subst, ap, ◌∙◌}
+use Rattle.std.proofs.Common.{◌≡◌, ◌+◌, ℕ, [], ◌++◌, refl, sym, subst, ap, ◌∙◌}
 use Rattle.std.specs.Option.{option_map}
 use Rattle.std.specs.Prelude.{Bool, true, false, ◌==◌, nat_lt, Option, Some, None, is_some}
 use Rattle.core_views.specs.declared.answer.Answer.TheVariants.{Refused, Starved, Done}
@@ -14,13 +14,10 @@ use Rattle.core_views.specs.declared.trace.Command.{Command}
 use Rattle.core_views.specs.Flat.{Facts, LineUnderWay, Notes, Stage}
 use Rattle.core_views.specs.Flat as stage
 use Rattle.core_views.specs.declared.slot_set.MemorySlot.{MemorySlot}
-use Rattle.mmu_laws.specs.flat.FlatInvariant.{Refines}
 use Rattle.core_views.specs.Lawful.{HasWork, MayLeave, Tells, answer_at_once, slot_change}
 use Rattle.core_views.specs.SlotCommands.{after_change, change_refusal, changes_slot, slot_change}
 use Rattle.core_views.specs.SlotSets.{MemorySlots}
 use Rattle.core_views.specs.Past.{Past}
-use Rattle.spte_words.specs.declared.area.Area.{Area}
-use Rattle.spte_words.specs.declared.area.Area.TheVariants as area
 use Rattle.mmu_core.specs.declared.claim.ClaimNext.{ClaimNext}
 use Rattle.mmu_core.specs.declared.claim.ClaimNext.TheVariants as claims
 use Rattle.mmu_core.specs.lines.AccessSteps.{exiting}
@@ -33,11 +30,9 @@ use Rattle.mmu_core.proofs.slots.Changes.{change_published, is_change, record_of
 use Rattle.mmu_core.proofs.machine.PartStepping.{IsPart}
 use Rattle.mmu_core.proofs.slots.SlotChangePlaces.{is_publication, change_never}
 use Rattle.mmu_core.proofs.machine.Stepping.{IsStep}
-use Rattle.core_views.specs.declared.answer.Answer.{Answer}
-use Rattle.core_views.specs.declared.event.EventKind.TheVariants.{Answered}
 use Rattle.part_steps.specs.declared.task.Task.{Task}
 use Rattle.mmu_core.specs.lines.SlotChangeSteps.{after_claim, changed, slot_change_note, slot_change_part, slot_change_task, watch_next}
-use Rattle.mmu_core.specs.machine.View.{View, answer_in, words_after}
+use Rattle.mmu_core.specs.machine.View.{View, answer_in}
 use Rattle.mmu_core.proofs.lines.EitherPlace.{each_watch, either_place}
 use Rattle.mmu_laws.specs.flat.FlatInvariant.{SlotChangeUnder}
 use Rattle.mmu_laws.proofs.flat.FlatSteps.{GoesBy, Ready, RefinesBy, StepGoes, answers_by, goes_by, leaves_by, part_refines}
@@ -98,7 +93,8 @@ module _ (z : Sizes) (v : View) (a : ℕ) (line : Line) (command : Command) (fac
   -- The set is published: flat memory has the change too.
   change_told : (change : Option (ℕ × Option MemorySlot)) → is_some change ≡ true → slot_change facts.slots u.line.command ≡ change → u.stage ≡ stage.Fresh
       → HasWork z facts u.line.command
-      → RefinesBy z v (task Publish) (record facts { slots = after_change change facts.slots }) → u.line ≡ line → GoesBy z v a line command (task Publish) (place.SlotChange Release) (changed change ++ []) facts past u
+      → RefinesBy z v (task Publish) (record facts { slots = after_change change facts.slots }) → u.line ≡ line
+      → GoesBy z v a line command (task Publish) (place.SlotChange Release) (changed change ++ []) facts past u
   change_told None some is fresh works refines own = absurd (cc some)
   change_told (Some (id, slot)) some is fresh works refines own = record { allowed = ((fresh, works, is), tt); refines = refines; under = (own, refl) }
 
