@@ -46,6 +46,7 @@ use Rattle.part_steps.specs.Tasks.{kind_of_task}
 use Rattle.mmu_core.specs.invariant.TopicsInvariant.{TopicsInvariant}
 use Rattle.mmu_core.specs.machine.View.{View, answer_in, words_after}
 use Rattle.mmu_laws.proofs.flat.FindFlat.{find_noted}
+use Rattle.mmu_core.proofs.lines.EitherPlace.{either_place}
 use Rattle.mmu_laws.proofs.flat.FlatSteps.{Goes, Ready, StepGoes, goes_by, leaves_by, part_refines, refined_slots}
 use Rattle.mmu_laws.proofs.flat.PageFound.{host_writable}
 use Rattle.mmu_core.proofs.machine.PartStepping.{IsPart}
@@ -66,27 +67,25 @@ module _ (pool : ℕ → ℕ) (gfn : ℕ) (op : Op) (t : Topics) (notes : Notes)
   abbrev Noted : FaultPlace → Type 0
   Noted p = NotedAt pool p gfn op t notes
 
-  either : (b : Bool) (p q : FaultPlace) → Noted p → Noted q → Noted (if b then p else q)
-  either true p q first second = first
-  either false p q first second = second
-
   share_noted : SawPage notes gfn op → (next : ShareNext) → Noted (after_share next)
   share_noted saw shares.Tries = saw
   share_noted saw _ = saw
 
   check_noted : SawPage notes gfn op → (at : CheckStage) (h : Topics) (x : ℕ) → Noted (check_next at gfn h x)
-  check_noted saw stage.Count h x = either (x == 0) (Check stage.Seq) (Check stage.Start) saw saw
+  check_noted saw stage.Count h x = either_place Noted (x == 0) (Check stage.Seq) (Check stage.Start) saw saw
   check_noted saw stage.Start h x = saw
   check_noted saw stage.End h x =
-      either (nat_le h.invalidations.start gfn && nat_lt gfn x) (Unshare (Retry (Open h.invalidations.count h.invalidations.start x gfn))) (Check stage.Seq) tt saw
+      either_place Noted (nat_le h.invalidations.start gfn && nat_lt gfn x) (Unshare (Retry (Open h.invalidations.count h.invalidations.start x gfn)))
+      (Check stage.Seq) tt saw
   check_noted saw stage.Seq h x =
-      either (x == snapshot_taken h.invalidations.snapshot) (Walk false) (Unshare (Retry (Moved (snapshot_taken h.invalidations.snapshot) x))) saw tt
+      either_place Noted (x == snapshot_taken h.invalidations.snapshot) (Walk false)
+      (Unshare (Retry (Moved (snapshot_taken h.invalidations.snapshot) x))) saw tt
 
   walk_noted : SawPage notes gfn op → (k : SpteKind) (z : Sizes) (write : Bool) (walk : TableWalk) (x : ℕ) → Noted (walk_next k z gfn write walk x)
   walk_noted saw entry_kind.Leaf z write walk x =
-      either (walk.level == 1) (if allows_access write x then Unshare Installed else Leaf) (Unshare (Retry (Entry (entry_word z gfn walk) x x)))
-      (either (allows_access write x) (Unshare Installed) Leaf tt saw) tt
-  walk_noted saw entry_kind.Absent z write walk x = either (walk.level == 1) Leaf (Claim false) saw saw
+      either_place Noted (walk.level == 1) (if allows_access write x then Unshare Installed else Leaf) (Unshare (Retry (Entry (entry_word z gfn walk) x x)))
+      (either_place Noted (allows_access write x) (Unshare Installed) Leaf tt saw) tt
+  walk_noted saw entry_kind.Absent z write walk x = either_place Noted (walk.level == 1) Leaf (Claim false) saw saw
   walk_noted saw (entry_kind.Table page) z write walk x = saw
   walk_noted saw entry_kind.Frozen z write walk x = tt
 
@@ -256,16 +255,18 @@ module _ (z : Sizes) (v : View) (a : ℕ) (line : Line) (gfn word : ℕ) (op : O
       quiet (Claim begun) (after_claim next) part_ I P R (claim_noted (words_behind (Claim begun) area.Pool) gfn op (held_behind (Claim begun)) u.notes R.under.1.1 next)
   fault_goes Fill S part_ I P K R =
       quiet Fill (if nat_lt (words_filled held.owned + 1) 512 then Fill else Role) part_ I P R
-      (either (words_behind Fill area.Pool) gfn op (held_behind Fill) u.notes (nat_lt (words_filled held.owned + 1) 512) Fill Role R.under.1.1 R.under.1.1)
+      (either_place (Noted (words_behind Fill area.Pool) gfn op (held_behind Fill) u.notes) (nat_lt (words_filled held.owned + 1) 512) Fill Role R.under.1.1 R.under.1.1)
   fault_goes Role S part_ I P K R = quiet Role Link part_ I P R R.under.1.1
   fault_goes Link S part_ I P K R =
       let x : ℕ = answered Link in
       let lost : FaultPlace = Give (Retry (Entry (entry_word (v.hand a).state.sizes gfn held.walk) held.walk.entry x)) in
-      quiet Link (if x == held.walk.entry then Walk true else lost) part_ I P R (either (words_behind Link area.Pool) gfn op (held_behind Link) u.notes (x == held.walk.entry) (Walk true) lost R.under.1.1 tt)
+      quiet Link (if x == held.walk.entry then Walk true else lost) part_ I P R
+      (either_place (Noted (words_behind Link area.Pool) gfn op (held_behind Link) u.notes) (x == held.walk.entry) (Walk true) lost R.under.1.1 tt)
   fault_goes (Give e) S part_ I P K R = quiet (Give e) (Unshare e) part_ I P R R.under.1.1
   fault_goes Leaf S part_ I P K R =
       let x : ℕ = answered Leaf in
       let lost : FaultPlace = Unshare (Retry (Entry (entry_word (v.hand a).state.sizes gfn held.walk) held.walk.entry x)) in
-      quiet Leaf (if x == held.walk.entry then Unshare Installed else lost) part_ I P R (either (words_behind Leaf area.Pool) gfn op (held_behind Leaf) u.notes (x == held.walk.entry) (Unshare Installed) lost tt tt)
+      quiet Leaf (if x == held.walk.entry then Unshare Installed else lost) part_ I P R
+      (either_place (Noted (words_behind Leaf area.Pool) gfn op (held_behind Leaf) u.notes) (x == held.walk.entry) (Unshare Installed) lost tt tt)
   fault_goes (Unshare e) S part_ I P K R = quiet (Unshare e) (End e) part_ I P R R.under.1.1
   fault_goes (End e) S part_ I P K R = ends e S.command_is part_ I P R
