@@ -47,7 +47,7 @@ use Rattle.mmu_core.proofs.pages.OwnedBehind.{left_is}
 use Rattle.mmu_core.proofs.machine.PartStepping.{IsPart}
 use Rattle.mmu_core.proofs.words.PartWords.{HasOtherRole, left_elsewhere, role_stays}
 use Rattle.mmu_core.proofs.pages.PoolPages.{left_not_owned, one_leaver}
-use Rattle.mmu_core.proofs.slots.SlotChangePlaces.{either_place, each_watch}
+use Rattle.mmu_core.proofs.lines.EitherPlace.{each_watch, either_place}
 use Rattle.mmu_core.proofs.start.Starts.{hand_is, start_good}
 use Rattle.mmu_core.proofs.lines.StepIn.{StepIn, Makes, Touches, step_in}
 use Rattle.mmu_core.proofs.machine.Stepping.{IsStep}
@@ -121,7 +121,7 @@ module _ (role : ℕ → ℕ) (x : ℕ) (t : Topics) where
   no_give Fill h never = either_place (λ q. SlotChangeCleared role q t) (nat_lt (words_filled h.topics.owned + 1) 512) Fill Role tt tt
   no_give Exclude h never = either_place (λ q. SlotChangeCleared role q t) (x == 0) Count Exclude tt tt
   no_give Count h never = either_place (λ q. SlotChangeCleared role q t) (x == 0) Publish Close tt tt
-  no_give Watch h never = each_watch (λ q. SlotChangeCleared role q t) (watch_next h x) tt tt
+  no_give Watch h never = each_watch (λ q. SlotChangeCleared role q t) (watch_next h x) Watch Clear tt tt
   no_give Clear h never = absurd (cc never)
   no_give _ h never = tt
 

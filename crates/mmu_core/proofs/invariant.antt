@@ -6,3 +6,4 @@ pub mod PartKept
 pub mod PartRested
 pub mod QuietKept
 pub mod RestsKept
+pub mod QuietHand

@@ -26,3 +26,7 @@ pub mod ClaimPlaces
 pub mod NotOpen
 pub mod LineClaims
 pub mod AccessClaims
+pub mod EitherPlace
+pub mod FillMade
+pub mod LockHeld
+pub mod StepTopics

@@ -12,3 +12,4 @@ pub mod UsesStay
 pub mod UsesTurn
 pub mod Paths
 pub mod Owned
+pub mod WordsFilled

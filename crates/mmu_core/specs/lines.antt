@@ -8,6 +8,7 @@ pub mod PartWaits
 pub mod Delays
 pub mod Rests
 pub mod FaultKnows
+pub mod LockKnows
 pub mod SlotChangeKnows
 pub mod AccessKnows
 pub mod Forms

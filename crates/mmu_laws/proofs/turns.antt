@@ -10,3 +10,4 @@ pub mod AnsweredRest
 pub mod DelayCases
 pub mod OwnServed
 pub mod Removal
+pub mod Nearer

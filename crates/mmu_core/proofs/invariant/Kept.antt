@@ -18,7 +18,8 @@ use Rattle.mmu_core.specs.machine.View.{View, stepped, hand_after, answer_in}
 use Rattle.mmu_core.proofs.lines.AccessKept.{access_kept}
 use Rattle.mmu_core.proofs.lines.KnowsKept.{KnowsAfter, KnowsBehind, NeedsAt, access_vcpu, knows_after, own_access, step_knows, step_leaves}
 pub use Rattle.mmu_core.proofs.invariant.QuietKept.{MakesAt}
-use Rattle.mmu_core.proofs.slots.SlotChangeKept.{change_hand, change_needs, change_replaces, own_slot_change, same_step, slot_change_kept}
+use Rattle.mmu_core.proofs.slots.SlotChangeKept.{change_hand, change_needs, change_replaces, own_slot_change, slot_change_kept}
+use Rattle.mmu_core.proofs.invariant.QuietHand.{one_step}
 use Rattle.mmu_core.proofs.machine.Stepping.{IsStep}
 use Rattle.mmu_core.proofs.lines.AccessParts.{AreSmall, makes_parts, may_make}
 use Rattle.mmu_core.proofs.machine.PartStepping.{IsPart}
@@ -79,7 +80,7 @@ pub makes_at : (z : Sizes) (v : View) (a : ℕ) (line : Line) (command : Command
 makes_at z v a line command place.Between small S I P = absurd S.begun
 makes_at z v a line (Access gfn word op) (place.Access p) small S I P = makes_parts z v a line p gfn word op small S I P
 makes_at z v a line command (place.SlotChange p) small S I P =
-    λ step is. subst (IsPart z v a) (same_step is) (makes_slot_change z v a line p command small S I P)
+    one_step (IsPart z v a) (slot_change_part p (v.hand a) command) (makes_slot_change z v a line p command small S I P)
 makes_at z v a line _ _ small S I P = absurd S.holds
 
 -- Each step keeps the invariant.
@@ -89,7 +90,8 @@ step_kept z v a line command place.Between small S I P = absurd S.begun
 step_kept z v a line (Access gfn word op) (place.Access p) small S I P =
     access_kept z v a line p gfn word op S I P (step_knows z v a line (Access gfn word op) (place.Access p) S I) (makes_parts z v a line p gfn word op small S I P) (knows_behind z v a line (Access gfn word op) (place.Access p) S I P)
 step_kept z v a line command (place.SlotChange p) small S I P =
-    slot_change_kept z v a line p command S I P (makes_slot_change z v a line p command small S I P) (knows_behind z v a line command (place.SlotChange p) S I P)
+    slot_change_kept z v a line p command S I P (makes_at z v a line command (place.SlotChange p) small S I P)
+    (knows_behind z v a line command (place.SlotChange p) S I P)
 step_kept z v a line _ _ small S I P = absurd S.holds
 
 -- The hand for which a page leaves is the manager's.

@@ -1,5 +1,5 @@
 -- The steps of an access keep the invariant.
-use Rattle.std.proofs.Common.{◌≡◌, ◌<◌, ℕ, refl, sym, subst, ◌∙◌, arith}
+use Rattle.std.proofs.Common.{◌≡◌, ◌<◌, ℕ, refl, sym, subst, arith}
 use Rattle.std.specs.Prelude.{Bool, true, Option, Some, None}
 use Rattle.core_views.specs.declared.cache.Translation.{Translation}
 use Rattle.core_views.specs.declared.place.AccessPlace.{AccessPlace}

@@ -3,7 +3,10 @@ use Rattle.std.proofs.Common.{◌≡◌, inl, inr, ◌+◌, ◌-◌, ◌*◌, �
 use Rattle.std.specs.Prelude.{Bool, true, false, ◌==◌, nat_lt, if◌then◌else◌, Some, None}
 use Rattle.std.proofs.lemmas.Bool.Decides.{nat_tests}
 use Rattle.std.proofs.lemmas.Nat.Bits.{bit_at-trailing_zeros}
+use Rattle.core_views.specs.declared.answer.Answer.{Answer}
+use Rattle.core_views.specs.declared.place.Place.{Place}
 use Rattle.core_views.specs.declared.sizes.Sizes.{Sizes}
+use Rattle.core_views.specs.declared.topics.Hold.TheVariants.{Loose}
 use Rattle.core_views.specs.declared.topics.MapClaim.{MapClaim}
 use Rattle.core_views.specs.declared.topics.OwnedPage.{OwnedPage}
 use Rattle.core_views.specs.declared.topics.Topics.{Topics}
@@ -13,12 +16,15 @@ use Rattle.spte_words.specs.Areas.{words_of_bits}
 use Rattle.mmu_core.specs.lines.PartWaits.{part_waits}
 use Rattle.part_steps.specs.declared.part_step.PartStep.{PartStep}
 use Rattle.part_steps.specs.declared.part_step.PartStep.TheVariants as part
-use Rattle.part_steps.specs.PartSteps.{PartNeeds}
+use Rattle.part_steps.specs.PartHoldings.{HasToFill}
+use Rattle.part_steps.specs.PartSteps.{IsAtRest, PartNeeds}
 use Rattle.part_steps.specs.PartTopics.{part_topics}
 use Rattle.part_steps.specs.PageTopics.{is_won, tried_bit}
 use Rattle.mmu_core.specs.declared.claim.ClaimNext.{ClaimNext}
 use Rattle.mmu_core.specs.declared.claim.ClaimNext.TheVariants as claims
-use Rattle.mmu_core.specs.lines.ClaimSteps.{claim_left, claim_next, claim_part, map_word, tries_page, word_after_load}
+use Rattle.mmu_core.specs.declared.outcome.Outcome.TheVariants.{Ends}
+use Rattle.mmu_core.specs.lines.LockKnows.{HoldsLock}
+use Rattle.mmu_core.specs.lines.ClaimSteps.{claim_left, claim_next, claim_outcome, claim_part, map_word, tries_page, word_after_load}
 use Rattle.mmu_core.proofs.lines.FaultSame.{both}
 use Rattle.mmu_core.proofs.machine.PartStepping.{is_publish}
 
@@ -87,8 +93,38 @@ claim_never begun claim = by (tries_page begun claim)
 pub saw_bit : (claim : MapClaim) → 0 < claim.seen → claim.seen < 2 ^ 64 → is_won claim claim.seen ≡ true
 saw_bit claim some small = ap (λ b. b == 1) (bit_at-trailing_zeros w64 claim.seen some small).1
 
+-- A line at rest is at rest after it, and has come to a word of the map, or owns a page to be filled.
+abbrev pub RestsAfterClaim : ClaimNext → Sizes → Topics → Type 0
+RestsAfterClaim claims.Goes z u = IsAtRest u × (u.claim.at < words_of_bits z.pool)
+RestsAfterClaim claims.Got z u = HoldsLock Loose u × HasToFill u
+RestsAfterClaim claims.Empty z u = IsAtRest u
+
+pub claim_rests : (z : Sizes) (begun : Bool) (t : Topics) (v : ℕ) (step : PartStep) (next : ClaimNext) (u : Topics) → ClaimMade z begun t v step next u
+    → IsAtRest t → (begun ≡ true → t.claim.at < words_of_bits z.pool) → RestsAfterClaim next z u
+claim_rests z begun t v _ _ _ (Won tries b some is) K low =
+    (record { outside = K.outside; holds = K.loose; no_table = K.no_table; no_set = K.no_set }, (refl, omega arith))
+claim_rests z begun t v _ _ _ (Lost tries b some is) K low =
+    (record { outside = K.outside; loose = K.loose; owns_none = refl; no_table = K.no_table; no_set = K.no_set }, low b)
+claim_rests z begun t v _ _ _ (Saw not_ lt) K low =
+    (record { outside = K.outside; loose = K.loose; owns_none = K.owns_none; no_table = K.no_table; no_set = K.no_set }, lt)
+claim_rests z begun t v _ _ _ (SawNone not_ le) K low =
+    record { outside = K.outside; loose = K.loose; owns_none = K.owns_none; no_table = K.no_table; no_set = K.no_set }
+
+-- The step with which a line is answered for want of a page doesn't wait.
+pub claim_free : (z : Sizes) (begun : Bool) (t : Topics) (v : ℕ) (step : PartStep) (next : ClaimNext) (u : Topics) → ClaimMade z begun t v step next u
+    → (on got : Place) (answer : Answer) → claim_outcome on got next ≡ Ends answer → part_waits step t v ≡ false
+claim_free z begun t v _ _ _ (SawNone not_ le) on got answer e = refl
+claim_free z begun t v _ _ _ _ on got answer e = absurd (cc e)
+
+-- Which page leaves stays.
+pub claim_leaves : (z : Sizes) (begun : Bool) (t : Topics) (v : ℕ) (step : PartStep) (next : ClaimNext) (u : Topics) → ClaimMade z begun t v step next u
+    → u.leaving ≡ t.leaving
+claim_leaves z begun t v _ _ _ (Won tries b some is) = refl
+claim_leaves z begun t v _ _ _ _ = refl
+
 -- The walk stays.
-pub claim_walk : (z : Sizes) (begun : Bool) (t : Topics) (v : ℕ) (step : PartStep) (next : ClaimNext) (u : Topics) → ClaimMade z begun t v step next u → u.walk ≡ t.walk
+pub claim_walk : (z : Sizes) (begun : Bool) (t : Topics) (v : ℕ) (step : PartStep) (next : ClaimNext) (u : Topics) → ClaimMade z begun t v step next u
+    → u.walk ≡ t.walk
 claim_walk z begun t v _ _ _ (Won tries b some is) = refl
 claim_walk z begun t v _ _ _ _ = refl
 

@@ -40,7 +40,8 @@ use Rattle.part_steps.specs.WalkTopics.{gone_down, linked_page, unless_linked}
 use Rattle.part_steps.specs.PageTopics.{filled_more}
 use Rattle.part_steps.specs.ControlTopics.{at_root}
 use Rattle.mmu_core.specs.machine.View.{answer_in}
-use Rattle.mmu_core.proofs.pages.Owned.{more_absent, more_filled, more_role, more_some, some_filled, table_owned}
+use Rattle.mmu_core.proofs.lines.FillMade.{fill_ends, fill_goes, whole_filled}
+use Rattle.mmu_core.proofs.pages.Owned.{more_absent, more_role, table_owned}
 use Rattle.mmu_core.proofs.lines.ClaimMade.{ClaimMade, claim_made}
 use Rattle.mmu_core.proofs.lines.ClaimMade as made
 use Rattle.mmu_core.proofs.lines.ShareMade.{share_made}
@@ -142,11 +143,9 @@ fill_known : (more : Bool) (z : Sizes) (gfn : ℕ) (write : Bool) (t : Topics) (
     → Entering gfn write t → SawNone gfn t → HasToFill t → is_absent t.owned ≡ true
     → FaultKnows (if more then Fill else Role) z gfn write (record t { owned = filled_more t.owned v })
 fill_known true z gfn write t v is zero_ E S F absent =
-    let few : words_filled t.owned + 1 < 512 = grind (arith, nat_tests) in
-    (same_entering gfn write t _ refl refl refl refl refl E, same_none gfn t _ refl S, (more_some t.owned v F.0, omega (arith, few, more_filled t.owned v F.0)), more_absent t.owned v absent (inl zero_))
+    (same_entering gfn write t _ refl refl refl refl refl E, same_none gfn t _ refl S, fill_goes t v F is, more_absent t.owned v absent (inl zero_))
 fill_known false z gfn write t v is zero_ E S F absent =
-    let all : 512 ≤ words_filled t.owned + 1 = grind (arith, nat_tests) in
-    (same_entering gfn write t _ refl refl refl refl refl E, same_none gfn t _ refl S, omega (arith, all, F.1, more_filled t.owned v F.0), more_absent t.owned v absent (inl zero_))
+    (same_entering gfn write t _ refl refl refl refl refl E, same_none gfn t _ refl S, fill_ends t v F is, more_absent t.owned v absent (inl zero_))
 
 role_known : (z : Sizes) (gfn : ℕ) (write : Bool) (t : Topics) (v : ℕ) → v ≡ t.walk.level - 1 → Entering gfn write t → SawNone gfn t → HasRoleToSet t
     → is_absent t.owned ≡ true
@@ -155,7 +154,7 @@ role_known z gfn write t v value E S full absent = (
   same_entering gfn write t _ refl refl refl refl refl E,
   same_none gfn t _ refl S,
   record {
-    whole = omega (arith, full, more_filled t.owned v (some_filled t.owned 512 full (omega arith)));
+    whole = whole_filled t v full;
     absent = more_absent t.owned v absent (inr full);
     role = more_role t.owned v full ∙ value;
   },

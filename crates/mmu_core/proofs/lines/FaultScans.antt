@@ -23,6 +23,7 @@ use Rattle.mmu_core.specs.lines.ClaimSteps.{claim_part, map_word, tries_page}
 use Rattle.mmu_core.specs.lines.ScanPlaces.{BegunNext, HasBegun, IsStarvedEnd}
 use Rattle.mmu_core.specs.lines.FaultKnows.{FaultKnows, IsRetry}
 use Rattle.core_views.specs.declared.place.FaultEnd.{FaultEnd}
+use Rattle.mmu_core.proofs.lines.EitherPlace.{either_place}
 use Rattle.mmu_core.proofs.lines.FaultSame.{both}
 use Rattle.core_views.specs.declared.topics.Hold.{Hold}
 use Rattle.core_views.specs.declared.topics.Hold.TheVariants.{Owing}
@@ -42,34 +43,31 @@ ClaimsOrStarves p = HasBegun p
 abbrev NotBegun : FaultPlace → Type 0
 NotBegun p = HasBegun p → ⊥
 
-neither : (b : Bool) (p q : FaultPlace) → NotBegun p → NotBegun q → NotBegun (if b then p else q)
-neither true p q one other = one
-neither false p q one other = other
-
 -- No other place leads to one of them.
 not_found : (write : Bool) (found : SlotSearch) → NotBegun (found_next write found)
-not_found write found = neither (write && found.slot.read_only) (End Mmio) Host (λ e. e) (λ e. e)
+not_found write found = either_place NotBegun (write && found.slot.read_only) (End Mmio) Host (λ e. e) (λ e. e)
 
 not_by_find : (gfn : ℕ) (write : Bool) (loaded : SlotField) (found : SlotSearch) → NotBegun (find_next gfn write loaded found)
 not_by_find gfn write loaded found =
-    neither (is_last_word loaded && contains gfn found.slot) (found_next write found) (if found.id == 32 then End Mmio else Find true) (not_found write found)
-    (neither (found.id == 32) (End Mmio) (Find true) (λ e. e) (λ e. e))
+    either_place NotBegun (is_last_word loaded && contains gfn found.slot) (found_next write found) (if found.id == 32 then End Mmio else Find true)
+    (not_found write found)
+    (either_place NotBegun (found.id == 32) (End Mmio) (Find true) (λ e. e) (λ e. e))
 
 not_by_share : (next : ShareNext) → NotBegun (after_share next)
 not_by_share shares.Tries = λ e. e
 not_by_share _ = λ e. e
 
 not_by_check : (at : CheckStage) (gfn : ℕ) (t : Topics) (v : ℕ) → NotBegun (check_next at gfn t v)
-not_by_check stage.Count gfn t v = neither (v == 0) (Check stage.Seq) (Check stage.Start) (λ e. e) (λ e. e)
+not_by_check stage.Count gfn t v = either_place NotBegun (v == 0) (Check stage.Seq) (Check stage.Start) (λ e. e) (λ e. e)
 not_by_check stage.Start gfn t v = λ e. e
-not_by_check stage.End gfn t v = neither (nat_le t.invalidations.start gfn && nat_lt gfn v) (Unshare (Retry _)) (Check stage.Seq) (λ e. e) (λ e. e)
-not_by_check stage.Seq gfn t v = neither (v == snapshot_taken t.invalidations.snapshot) (Walk false) (Unshare (Retry _)) (λ e. e) (λ e. e)
+not_by_check stage.End gfn t v = either_place NotBegun (nat_le t.invalidations.start gfn && nat_lt gfn v) (Unshare (Retry _)) (Check stage.Seq) (λ e. e) (λ e. e)
+not_by_check stage.Seq gfn t v = either_place NotBegun (v == snapshot_taken t.invalidations.snapshot) (Walk false) (Unshare (Retry _)) (λ e. e) (λ e. e)
 
 not_by_walk : (k : SpteKind) (z : Sizes) (gfn : ℕ) (write : Bool) (walk : TableWalk) (v : ℕ) → NotBegun (walk_next k z gfn write walk v)
 not_by_walk entry_kind.Leaf z gfn write walk v =
-    neither (walk.level == 1) (if allows_access write v then Unshare Installed else Leaf) (Unshare (Retry _))
-    (neither (allows_access write v) (Unshare Installed) Leaf (λ e. e) (λ e. e)) (λ e. e)
-not_by_walk entry_kind.Absent z gfn write walk v = neither (walk.level == 1) Leaf (Claim false) (λ e. e) (λ e. absurd (cc e))
+    either_place NotBegun (walk.level == 1) (if allows_access write v then Unshare Installed else Leaf) (Unshare (Retry _))
+    (either_place NotBegun (allows_access write v) (Unshare Installed) Leaf (λ e. e) (λ e. e)) (λ e. e)
+not_by_walk entry_kind.Absent z gfn write walk v = either_place NotBegun (walk.level == 1) Leaf (Claim false) (λ e. e) (λ e. absurd (cc e))
 not_by_walk _ z gfn write walk v = λ e. e
 
 retry_starves_not : (e : FaultEnd) → IsRetry e → IsStarvedEnd e → ⊥
@@ -79,16 +77,18 @@ retry_starves_not _ retry starved = retry
 pub fault_claims : (p : FaultPlace) (z : Sizes) (gfn : ℕ) (write : Bool) (t : Topics) (v : ℕ) → FaultKnows p z gfn write t
     → BegunNext (fault_next p z gfn write t v) → ClaimsOrStarves p
 fault_claims (Find begun) z gfn write t v K e =
-    neither begun (find_next gfn write t.search.next (searched t.search v)) (Find true) (not_by_find gfn write t.search.next (searched t.search v)) (λ x. x) e
-fault_claims Host z gfn write t v K e = neither (write && not (host_allows_write v)) (End HostFault) Share (λ x. x) (λ x. x) e
+    either_place NotBegun begun (find_next gfn write t.search.next (searched t.search v)) (Find true)
+    (not_by_find gfn write t.search.next (searched t.search v)) (λ x. x) e
+fault_claims Host z gfn write t v K e = either_place NotBegun (write && not (host_allows_write v)) (End HostFault) Share (λ x. x) (λ x. x) e
 fault_claims Share z gfn write t v K e = not_by_share (share_next t.hold v) e
 fault_claims (Check at) z gfn write t v K e = not_by_check at gfn t v e
 fault_claims (Walk rooted) z gfn write t v K e =
-    neither rooted (walk_next (kind_of t.walk.level v) z gfn write t.walk v) (Walk true) (not_by_walk (kind_of t.walk.level v) z gfn write t.walk v) (λ x. x) e
+    either_place NotBegun rooted (walk_next (kind_of t.walk.level v) z gfn write t.walk v) (Walk true)
+    (not_by_walk (kind_of t.walk.level v) z gfn write t.walk v) (λ x. x) e
 fault_claims (Claim begun) z gfn write t v K e = tt
-fault_claims Fill z gfn write t v K e = neither (nat_lt (words_filled t.owned + 1) 512) Fill Role (λ x. x) (λ x. x) e
-fault_claims Link z gfn write t v K e = neither (v == t.walk.entry) (Walk true) (Give (Retry _)) (λ x. x) (λ x. x) e
-fault_claims Leaf z gfn write t v K e = neither (v == t.walk.entry) (Unshare Installed) (Unshare (Retry _)) (λ x. x) (λ x. x) e
+fault_claims Fill z gfn write t v K e = either_place NotBegun (nat_lt (words_filled t.owned + 1) 512) Fill Role (λ x. x) (λ x. x) e
+fault_claims Link z gfn write t v K e = either_place NotBegun (v == t.walk.entry) (Walk true) (Give (Retry _)) (λ x. x) (λ x. x) e
+fault_claims Leaf z gfn write t v K e = either_place NotBegun (v == t.walk.entry) (Unshare Installed) (Unshare (Retry _)) (λ x. x) (λ x. x) e
 fault_claims (Give end) z gfn write t v K e = absurd (retry_starves_not end K.4 e)
 fault_claims _ z gfn write t v K e = e
 

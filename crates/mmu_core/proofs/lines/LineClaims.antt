@@ -1,5 +1,5 @@
 -- The step of a line is one of its claim of a page, or another one; and what follows of its scan of the pool's map, whatever its form is.
-use Rattle.std.proofs.Common.{◌≡◌, ◌≢◌, ◌⊎◌, inl, inr, ◌≤◌, ℕ, sym, subst, ap, ◌∙◌}
+use Rattle.std.proofs.Common.{◌≡◌, ◌≢◌, ◌⊎◌, inl, inr, ◌≤◌, ℕ, refl, sym, subst, ap, ◌∙◌}
 use Rattle.std.specs.Prelude.{Bool, true, false, Option, Some, None, if◌then◌else◌}
 use Rattle.core_views.specs.declared.answer.Answer.TheVariants.{Starved}
 use Rattle.core_views.specs.declared.place.Place.{Place}
@@ -15,7 +15,7 @@ use Rattle.mmu_core.specs.declared.outcome.Outcome.{Outcome}
 use Rattle.mmu_core.specs.declared.outcome.Outcome.TheVariants.{Ends}
 use Rattle.mmu_core.specs.declared.claim.ClaimNext.{ClaimNext}
 use Rattle.mmu_core.specs.declared.claim.ClaimNext.TheVariants as claims
-use Rattle.mmu_core.specs.lines.ClaimSteps.{claim_next, claim_part, loads_last_word}
+use Rattle.mmu_core.specs.lines.ClaimSteps.{claim_next, claim_outcome, claim_part, loads_last_word}
 use Rattle.mmu_core.specs.lines.Forms.{note_at, part_at, KnowsPart, outcome_at}
 use Rattle.mmu_core.specs.lines.AccessSteps.{ends_with}
 use Rattle.mmu_core.specs.lines.ScanPlaces.{ends_with_claim, HasScan, claim_at}
@@ -46,10 +46,20 @@ abbrev pub note_by : Option PartStep → ℕ → ℕ
 note_by None note = 0
 note_by (Some step) note = note
 
+-- So does a step of a claim with which the line is answered where no page is free.
+pub claim_leads : (on got : Place) (next : ClaimNext) → claim_at on ≡ Some true → (HasScan got → ⊥) → LeadsFromClaim next (claim_outcome on got next)
+claim_leads on got claims.Goes at none = at
+claim_leads on got claims.Got at none = (none, λ e. cc e)
+claim_leads on got claims.Empty at none = tt
+
 -- 1 where a claim ends with no page
 abbrev pub ends_after : ClaimNext → ℕ
 ends_after claims.Empty = 1
 ends_after _ = 0
+
+pub claim_notes : (on got : Place) (next : ClaimNext) → ends_with (claim_outcome on got next) ≡ ends_after next
+claim_notes on got claims.Empty = refl
+claim_notes on got _ = refl
 
 -- The note of a step of a claim: where the line may end with it 1 at the last word of the map, and else 1 where the line ends.
 abbrev pub HasNote : Bool → Bool → ClaimNext → ℕ → Outcome → Type 0

@@ -11,6 +11,7 @@ use Rattle.std.specs.Map.{keys_of}
 use Rattle.circular_buffer.specs.Buffer.{Buffer}
 use Rattle.std.proofs.lemmas.List.Elements.{All-cons, All-head, All-tail, All-weaker, Contains-append_right}
 use Rattle.core_views.specs.declared.slot_set.MemorySlot.{MemorySlot}
+use Rattle.core_views.specs.declared.actor.Actor.TheVariants.{Manager}
 use Rattle.core_views.specs.declared.answer.AnsweredLine.{AnsweredLine}
 use Rattle.core_views.specs.declared.cache.Translation.{Translation}
 use Rattle.core_views.specs.declared.place.Place.{Place}
@@ -144,3 +145,7 @@ lines_behind z a h line s (Ends answer) t c slots O is left same actor room answ
   answered = answered;
   set = set;
 }
+
+-- One hand alone is the manager's.
+pub one_manager : (z : Sizes) (i a : ℕ) (h g : Held) → OwnLines z i h → OwnLines z a g → h.state.actor ≡ Manager → g.state.actor ≡ Manager → i ≡ a
+one_manager z i a h g O P is be = sym O.index ∙ (ap (index_of z) (is ∙ sym be) ∙ P.index)

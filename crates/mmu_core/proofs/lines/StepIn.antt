@@ -1,22 +1,16 @@
 -- The step of a line, in a view where the invariant holds: a step of a part that its actor may make, or a touch.
-use Rattle.std.proofs.Common.{◌≡◌, ℕ, refl, sym, subst, ap, ◌∙◌}
+use Rattle.std.proofs.Common.{◌≡◌, ℕ, refl, sym, subst}
 use Rattle.std.specs.Prelude.{Option, Some, None}
 use Rattle.core_views.specs.declared.place.Place.{Place}
 use Rattle.core_views.specs.declared.sizes.Sizes.{Sizes}
 use Rattle.core_views.specs.declared.trace.Command.{Command}
 use Rattle.core_views.specs.declared.trace.Line.{Line}
 use Rattle.core_views.specs.declared.trace.Op.{Op}
-use Rattle.core_views.specs.Held.{Held}
 use Rattle.part_steps.specs.declared.part_step.PartStep.{PartStep}
 use Rattle.part_steps.specs.declared.task.Task.{Task}
 use Rattle.part_steps.specs.PartTasks.{own_index, part_task}
-use Rattle.part_steps.specs.Tasks.{kind_of_task}
-use Rattle.part_steps.specs.PartSteps.{PartNeeds}
-use Rattle.part_steps.specs.TopicSteps.{topics_after}
-use Rattle.mmu_core.specs.lines.Forms.{RestsAt, note_at, part_at}
-use Rattle.mmu_core.proofs.lines.ByStep.{step_needs}
-use Rattle.mmu_core.proofs.lines.KnowsKept.{behind_part, touch_topics}
-use Rattle.mmu_core.proofs.words.PartTopics.{is_there, part_topics_is}
+use Rattle.mmu_core.specs.lines.Forms.{note_at, part_at}
+pub use Rattle.mmu_core.proofs.lines.StepTopics.{topics_of_step}
 use Rattle.mmu_core.specs.lines.AccessSteps.{task_by, touch_of}
 use Rattle.mmu_core.specs.invariant.Invariant.{Invariant}
 use Rattle.mmu_core.specs.lines.PartAt.{task_at, touch_at}
@@ -46,17 +40,3 @@ step_of z v a command p makes =
 pub step_in : (z : Sizes) (v : View) (a : ℕ) (line : Line) (command : Command) (p : Place) → AreSmall v → IsStep z v a line command p → Invariant z v
     → TopicsInvariant z v → StepIn z v a (task_at p command (v.hand a))
 step_in z v a line command p small S I P = step_of z v a command p (makes_at z v a line command p small S I P)
-
--- What its actor holds after it is as the step of the part says, or as it was before the touch.
-topics_by_step : (s : Option PartStep) (h : Held) (note : ℕ) (touch : Task) (v : ℕ) → ((step : PartStep) → s ≡ Some step → PartNeeds step h)
-    → (s ≡ None → (op : Op) × (index : ℕ) × (touch ≡ touch_of op index))
-    → topics_after h.state.sizes (kind_of_task h.state.sizes (task_by s h note touch)) h.topics v ≡ behind_part s h.topics v
-topics_by_step None h note touch v needs touches =
-    let T = touches refl in
-    ap (λ (x : Task). topics_after h.state.sizes (kind_of_task h.state.sizes x) h.topics v) T.2 ∙ touch_topics h.state.sizes T.0 T.1 h.topics v
-topics_by_step (Some step) h note touch v needs touches = part_topics_is h.state.sizes step (own_index h) h.topics note v (is_there step h (needs step refl))
-
-pub topics_of_step : (p : Place) (command : Command) (h : Held) (v : ℕ) → RestsAt p command h
-    → topics_after h.state.sizes (kind_of_task h.state.sizes (task_at p command h)) h.topics v ≡ behind_part (part_at p command h) h.topics v
-topics_of_step p command h v R =
-    topics_by_step (part_at p command h) h (note_at p command h) (touch_at command h) v (λ step is. step_needs p command h step R is) (touched p command h)

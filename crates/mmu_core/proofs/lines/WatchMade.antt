@@ -1,10 +1,11 @@
 -- What a look of a watch comes to, in each of its cases: the exit, and what is held after it.
-use Rattle.std.proofs.Common.{◌≡◌, ◌≢◌, ◌+◌, ◌-◌, ◌<◌, ◌≤◌, ℕ, refl, ap, ◌∙◌, arith}
+use Rattle.std.proofs.Common.{◌≡◌, ◌≢◌, ◌+◌, ◌-◌, ◌<◌, ◌≤◌, ℕ, refl, sym, subst, ap, ◌∙◌, arith}
 use Rattle.std.specs.Prelude.{Bool, true, false, ◌==◌, nat_lt, if◌then◌else◌}
 use Rattle.std.proofs.lemmas.Bool.Decides.{nat_tests}
+use Rattle.core_views.specs.declared.sizes.Sizes.{Sizes}
 use Rattle.core_views.specs.declared.topics.Topics.{Topics}
 use Rattle.core_views.specs.Held.{Held}
-use Rattle.core_views.specs.Sizes.{actors_of}
+use Rattle.core_views.specs.Sizes.{AreSizes, actors_of}
 use Rattle.part_steps.specs.declared.part_step.PartStep.TheVariants as part
 use Rattle.part_steps.specs.PartTasks.{own_index}
 use Rattle.part_steps.specs.PartHoldings.{next_watched}
@@ -66,3 +67,14 @@ pub watch_falls : (own n : ℕ) (t : Topics) (v : ℕ) (next : WatchNext) (u : T
 watch_falls own n t v _ _ (Again is) goes low = absurd (cc (is, goes))
 watch_falls own n t v _ _ (Next is lt) goes low = omega (arith, low, from_there own t.watched)
 watch_falls own n t v _ _ (Last is le) goes low = omega (arith, low, from_there own t.watched)
+
+-- There is another actor to look at first, where the watch begins.
+first_watched : (own : ℕ) (z : Sizes) → AreSizes z → next_watched own 0 < actors_of z
+first_watched own z S = by (0 == own)
+  where
+    by : (b : Bool) → (if b then 0 + 1 else 0) < actors_of z
+    by true = omega (arith, S.some)
+    by false = omega (arith, S.some)
+
+pub watch_begins : (h : Held) → h.topics.watched ≡ 0 → AreSizes h.state.sizes → looked_at h < actors_of h.state.sizes
+watch_begins h none S = subst (λ seen. next_watched (own_index h) seen < actors_of h.state.sizes) (sym none) (first_watched (own_index h) h.state.sizes S)

@@ -13,7 +13,7 @@ use Rattle.core_views.specs.Sizes.{actors_of}
 use Rattle.core_views.specs.SlotSets.{MemorySlots}
 use Rattle.core_views.specs.Traces.{IsCommandFor}
 use Rattle.spte_words.specs.declared.area.Area.TheVariants as area
-use Rattle.mmu_core.specs.invariant.Invariant.{Holds, Invariant, UnderWay}
+use Rattle.mmu_core.specs.invariant.Invariant.{Holds, Invariant, OwnLines, UnderWay}
 use Rattle.mmu_core.specs.lines.Rests.{IsUnderWay}
 use Rattle.mmu_core.specs.lines.Forms.{first_place, may_leave}
 use Rattle.mmu_core.specs.machine.Steps.{line_at, next_line, place_at, standing}
@@ -59,6 +59,16 @@ next_has P h all left = in_list h.lines (length h.answers) all left
     in_list [] n all lt = absurd (omega arith)
     in_list (line ∷ lines) zero all lt = all 0 line (omega arith)
     in_list (line ∷ lines) (suc n) all lt = in_list lines n (λ k d h. all (suc k) d (omega arith)) (omega arith)
+
+-- A line under way is one that its actor may have.
+pub line_allowed : (z : Sizes) (i : ℕ) (h : Held) (p : Place) → OwnLines z i h → h.state.place ≡ p → IsUnderWay p
+    → IsCommandFor z h.state.actor h.state.line.command
+line_allowed z i h place.Between O is begun = absurd begun
+line_allowed z i h p O is begun =
+    let under = subst (λ q. UnderWay q h) is O.under in
+    let allowed : IsCommandFor z (next_line h).actor (next_line h).command = next_has (λ l. IsCommandFor z l.actor l.command) h O.allowed under.1 in
+    let own : (next_line h).actor ≡ h.state.actor = next_has (λ l. l.actor ≡ h.state.actor) h O.own under.1 in
+    subst (λ x. IsCommandFor z x h.state.line.command) own (subst (λ (l : Line). IsCommandFor z (next_line h).actor l.command) (sym under.0) allowed)
 
 -- the step that a hand is about to make
 pub is_step : (z : Sizes) (v : View) (a : ℕ) → Invariant z v → a < actors_of z → length (v.hand a).answers < length (v.hand a).lines

@@ -85,9 +85,12 @@ slot_published : (z : Sizes) (pool : ℕ → ℕ) (set page id : ℕ) (slot : Sl
 slot_published z pool set page id slot slots R may filled = record {
   stay = has_each pool set page id slot slots R may.low may.not_live filled;
   set_part = λ role role_is part.
-      set_with z pool set page id slot may (new_slot pool set page id slot slots R may.low may.not_live filled) (others_live pool set page id slot slots R may.low may.not_live filled)
+      set_with z pool set page id slot may (new_slot pool set page id slot slots R may.low may.not_live filled)
+      (others_live pool set page id slot slots R may.low may.not_live filled)
       (others_same pool set page id slot slots R may.low may.not_live filled) role role role_is part;
-  list = ap (with_slot_at id (record { slot = slot; logged = is_logged id slots })) R.same ∙ sym (list_with pool set page id slot slots R may.low may.not_live filled);
+  list =
+      ap (with_slot_at id (record { slot = slot; logged = is_logged id slots })) R.same
+      ∙ sym (list_with pool set page id slot slots R may.low may.not_live filled);
 }
 
 pub change_published : (z : Sizes) (v : View) (a : ℕ) (line : Line) (command : Command) → IsStep z v a line command (place.SlotChange Publish) → Invariant z v

@@ -1,49 +1,51 @@
--- A line that changes a slot has what each of its steps needs, and knows after it what its next place asks.
-use Rattle.std.proofs.Common.{◌≡◌, inr, ◌<◌, ◌≤◌, ◌^◌, ◌+◌, ◌==◌, ℕ, refl, sym, subst, ap, ◌∙◌, arith}
-use Rattle.std.specs.Prelude.{Bool, true, false, ◌&&◌, not, if◌then◌else◌, nat_lt, None}
-use Rattle.std.proofs.lemmas.Bool.Decides.{nat_tests}
+-- A line that changes a slot has what each of its steps needs, and knows after it what its next place asks, and what it has filled then.
+use Rattle.std.proofs.Common.{◌≡◌, inr, ◌<◌, ◌^◌, ◌+◌, ◌==◌, ℕ, refl, ap, ◌∙◌, arith}
+use Rattle.std.specs.Prelude.{Bool, true, nat_lt, None}
+use Rattle.std.proofs.lemmas.Bool.{eqb-true}
 use Rattle.circular_buffer.specs.Buffer.{Buffer}
 use Rattle.core_views.specs.declared.cache.Translation.{Translation}
 use Rattle.core_views.specs.declared.place.Place.TheVariants as place
 use Rattle.core_views.specs.declared.place.SlotChangePlace.{SlotChangePlace}
 use Rattle.core_views.specs.declared.place.SlotChangePlace.TheVariants.{Refuse, Claim, Fill, Role, Exclude, Count, Close, Publish, Release, Watch, Clear, Give}
-use Rattle.core_views.specs.declared.topics.Hold.{Hold}
-use Rattle.core_views.specs.declared.topics.Hold.TheVariants.{Loose, Exclusive}
-use Rattle.core_views.specs.declared.topics.Stay.{Stay}
-use Rattle.core_views.specs.declared.topics.Stay.TheVariants.{Outside}
+use Rattle.core_views.specs.declared.sizes.Sizes.{Sizes}
+use Rattle.core_views.specs.declared.topics.Hold.TheVariants.{Exclusive}
 use Rattle.core_views.specs.declared.topics.Topics.{Topics}
 use Rattle.core_views.specs.declared.trace.Command.{Command}
 use Rattle.core_views.specs.declared.trace.Line.{Line}
 use Rattle.core_views.specs.Held.{Held}
-use Rattle.core_views.specs.SlotCommands.{slots_after}
 use Rattle.core_views.specs.Sizes.{actors_of}
-use Rattle.spte_words.specs.Areas.{words_of_bits}
+use Rattle.core_views.specs.SlotCommands.{change_refusal, changes_slot, slots_after}
+use Rattle.spte_words.specs.declared.area.Area.{Area}
+use Rattle.spte_words.specs.declared.area.Area.TheVariants as area
 use Rattle.part_steps.specs.declared.part_step.PartStep.{PartStep}
+use Rattle.part_steps.specs.declared.part_step.PartStep.TheVariants as part
+use Rattle.part_steps.specs.ControlTopics.{count_checked}
+use Rattle.part_steps.specs.PageTopics.{filled_more, still_leaving}
+use Rattle.part_steps.specs.PartBounds.{PartRests}
+use Rattle.part_steps.specs.PartHoldings.{OwnsSet}
+use Rattle.part_steps.specs.PartSteps.{PartNeeds}
+use Rattle.part_steps.specs.PartTasks.{own_index, words_filled}
+use Rattle.part_steps.specs.PartTopics.{part_topics}
+use Rattle.part_steps.specs.SetWords.{set_word}
 use Rattle.mmu_core.specs.declared.claim.ClaimNext.{ClaimNext}
+use Rattle.mmu_core.specs.declared.claim.ClaimNext.TheVariants as claims
 use Rattle.mmu_core.specs.declared.watch.WatchNext.{WatchNext}
 use Rattle.mmu_core.specs.lines.FaultLaws.{CanAnswer}
-use Rattle.part_steps.specs.PartBounds.{PartRests}
-use Rattle.part_steps.specs.PartTasks.{own_index, words_filled}
-use Rattle.part_steps.specs.PartHoldings.{HasRoleToSet, HasToFill, OwnsSet, next_watched}
-use Rattle.part_steps.specs.PartSteps.{IsAtRest, PartNeeds}
-use Rattle.part_steps.specs.PartTopics.{part_topics, sequenced}
-use Rattle.mmu_core.specs.lines.PartWaits.{was_counted}
-use Rattle.mmu_core.specs.lines.SlotChangeKnows.{HasPublished, HoldsLock, SlotChangeKnows}
-use Rattle.mmu_core.specs.lines.SlotChangeSteps.{slot_change_outcome, slot_change_part, after_claim, after_watch}
-use Rattle.part_steps.specs.SetWords.{set_role, set_word}
-use Rattle.part_steps.specs.StayTopics.{is_loose, is_outside, is_section, kept_search, kept_walk, let_go, unchecked}
-use Rattle.part_steps.specs.PageTopics.{filled_more}
-use Rattle.part_steps.specs.ControlTopics.{count_checked}
-use Rattle.mmu_core.proofs.lines.ClaimMade.{ClaimMade, claim_made, claim_needs}
+use Rattle.mmu_core.specs.lines.Forms.{Holds, KnowsPart, LeavesPart}
+use Rattle.mmu_core.specs.lines.SlotChangeKnows.{FillsSet, SlotChangeHolds, SlotChangeKnows}
+use Rattle.mmu_core.specs.lines.SlotChangeSteps.{after_claim, after_watch, looked_at, slot_change_outcome, slot_change_part, slot_change_task, watch_next}
+use Rattle.mmu_core.specs.machine.Outcomes.{place_after}
+use Rattle.mmu_core.specs.machine.View.{words_after}
+use Rattle.mmu_core.proofs.lines.ClaimMade.{ClaimMade, RestsAfterClaim, claim_leaves, claim_made, claim_needs, claim_rests, page_won}
 use Rattle.mmu_core.proofs.lines.ClaimMade as made
-use Rattle.mmu_core.proofs.machine.HandWith.{hand_with}
-use Rattle.mmu_core.proofs.lines.WatchMade.{WatchMade, never_own, watch_comes, watch_made}
+use Rattle.mmu_core.proofs.lines.EitherPlace.{each_watch, either_place, one_place}
+use Rattle.mmu_core.proofs.lines.FillMade.{fill_ends, fill_goes, same_set, set_whole}
+use Rattle.mmu_core.proofs.lines.KnowsKept.{KnowsBehind}
+use Rattle.mmu_core.proofs.lines.LockHeld.{lock_let_go, lock_publishes, lock_taken, lock_tried, rests_by_seq, sees_open}
+use Rattle.mmu_core.proofs.lines.WatchMade.{WatchMade, never_own, watch_begins, watch_comes, watch_made}
 use Rattle.mmu_core.proofs.lines.WatchMade as watch
-use Rattle.core_views.specs.declared.answer.Refusal.{Refusal}
-use Rattle.mmu_core.specs.declared.outcome.Outcome.{Outcome}
-use Rattle.mmu_core.specs.declared.outcome.Outcome.TheVariants.{Goes, Ends}
-use Rattle.mmu_core.specs.lines.Forms.{may_leave}
-use Rattle.mmu_core.proofs.pages.Owned.{more_filled, more_role, more_some, some_filled}
+use Rattle.mmu_core.proofs.machine.HandWith.{hand_with}
+use Rattle.mmu_core.proofs.pages.WordsFilled.{all_filled, none_filled, one_more}
 
 -- ---- What each step needs.
 
@@ -61,132 +63,105 @@ slot_change_needs Clear h command small R K = K.1
 slot_change_needs Give h command small R K = K.1
 slot_change_needs _ h command small R K = K.0.holds
 
--- ---- What is known behind each step: the place that comes next, or rest where the line is answered.
+-- ---- What is known after each step: what the next place asks, or rest where the line is answered.
 
-abbrev pub KnowsNext : Outcome → Held → Type 0
-KnowsNext (Goes (place.SlotChange p)) h = SlotChangeKnows p h
-KnowsNext (Goes _) h = ⊥
-KnowsNext (Ends answer) h = IsAtRest h.topics
-
--- Where it goes on by a test, it knows what either place asks.
-module _ (g : Held) where
-  abbrev Knows : SlotChangePlace → Type 0
-  Knows p = KnowsNext (Goes (place.SlotChange p)) g
-
-  either : (b : Bool) (p q : SlotChangePlace) → (b ≡ true → SlotChangeKnows p g) → (b ≡ false → SlotChangeKnows q g) → Knows (if b then p else q)
-  either true p q first second = first refl
-  either false p q first second = second refl
-
-below : (n m : ℕ) → nat_lt n m ≡ true → n < m
-below n m e = grind (arith, nat_tests)
-
-reaches : (n m : ℕ) → nat_lt n m ≡ false → m ≤ n
-reaches n m e = grind (arith, nat_tests)
-
-zero_is : (n : ℕ) → (n == 0) ≡ true → n ≡ 0
-zero_is n e = grind (arith, nat_tests)
-
--- who let the lock go outside holds nothing by it
-let_go_lock : (t : Topics) → t.stay ≡ Outside → HoldsLock Loose (let_go t)
-let_go_lock t outside = record {
-  outside = outside;
-  holds = refl;
-  no_table = ap (λ (s : Stay). (kept_walk (not (is_outside s)) t.walk).level) outside;
-  no_set = ap (λ (s : Stay). (kept_search (is_section s) t.search).set) outside;
-}
-
-module _ (line : Line) (h : Held) (command : Command) (cached : Buffer Translation) (v : ℕ) (R : PartRests h) where
-  -- the hand behind the step of a place, with these topics
+module _ (line : Line) (h : Held) (command : Command) (cached : Buffer Translation) (v : ℕ) (changes : changes_slot command ≡ true) where
+  -- the hand after the step of a place, with these topics
   abbrev behind : SlotChangePlace → Topics → Held
   behind p t = hand_with line command (place.SlotChange p) h t cached v
 
-  refused_known : (refusal : Refusal) → IsAtRest h.topics → IsAtRest (sequenced (is_loose h.topics.hold) h.topics v)
-  refused_known refusal K = by (is_loose h.topics.hold)
-    where
-      by : (b : Bool) → IsAtRest (sequenced b h.topics v)
-      by true = record { outside = K.outside; loose = K.loose; owns_none = K.owns_none; no_table = K.no_table; no_set = refl }
-      by false = record { outside = K.outside; loose = K.loose; owns_none = K.owns_none; no_table = K.no_table; no_set = K.no_set }
+  abbrev Knows : SlotChangePlace → Held → Type 0
+  Knows p g = KnowsPart (place.SlotChange p) command g
 
-  -- a step of the claim
-  claim_known : (p : SlotChangePlace) (begun : Bool) (t : Topics) (step : PartStep) (next : ClaimNext) (u : Topics)
-      → ClaimMade h.state.sizes begun t v step next u → IsAtRest t → (begun ≡ true → t.claim.at < words_of_bits h.state.sizes.pool)
-      → KnowsNext (after_claim next) (behind p u)
-  claim_known p begun t _ _ _ (made.Won tries b some is) K low =
-      (record { outside = K.outside; holds = K.loose; no_table = K.no_table; no_set = K.no_set }, (refl, omega arith))
-  claim_known p begun t _ _ _ (made.Lost tries b some is) K low =
-      (record { outside = K.outside; loose = K.loose; owns_none = refl; no_table = K.no_table; no_set = K.no_set }, λ _. low b)
-  claim_known p begun t _ _ _ (made.Saw not_ lt) K low =
-      (record { outside = K.outside; loose = K.loose; owns_none = K.owns_none; no_table = K.no_table; no_set = K.no_set }, λ _. lt)
-  claim_known p begun t _ _ _ (made.SawNone not_ le) K low =
-      record { outside = K.outside; loose = K.loose; owns_none = K.owns_none; no_table = K.no_table; no_set = K.no_set }
+  claim_known : (p : SlotChangePlace) (next : ClaimNext) (u : Topics) → RestsAfterClaim next h.state.sizes u
+      → KnowsBehind (after_claim next) command (behind p u)
+  claim_known p claims.Goes u C = (changes, (C.0, λ b. C.1))
+  claim_known p claims.Got u C = (changes, C)
+  claim_known p claims.Empty u C = C
 
-  -- one more word of the page is filled, or its role is stored
-  fill_known : (p : SlotChangePlace) → HoldsLock Loose h.topics → HasToFill h.topics
-      → Knows (behind p (record h.topics { owned = filled_more h.topics.owned v })) (if nat_lt (words_filled h.topics.owned + 1) 512 then Fill else Role)
-  fill_known p K F =
-      let filled = more_filled h.topics.owned v F.0 in
-      let lock : HoldsLock Loose (record h.topics { owned = filled_more h.topics.owned v }) = record { outside = K.outside; holds = K.holds; no_table = K.no_table; no_set = K.no_set } in
-      either (behind p (record h.topics { owned = filled_more h.topics.owned v })) (nat_lt (words_filled h.topics.owned + 1) 512) Fill Role
-      (λ e. (lock, (more_some h.topics.owned v F.0, omega (arith, filled, below (words_filled h.topics.owned + 1) 512 e)))) (λ e. (lock, omega (arith, filled, reaches (words_filled h.topics.owned + 1) 512 e, F.1)))
+  watch_known : (next : WatchNext) (u : Topics) → WatchMade (own_index h) (actors_of h.state.sizes) h.topics v next u → SlotChangeKnows Watch h
+      → Knows (after_watch next) (behind Watch u)
+  watch_known _ _ (watch.Again is) K =
+      (changes, (K.0, K.1, watch_comes (own_index h) (actors_of h.state.sizes) h.topics v _ _ (watch.Again is) K.2))
+  watch_known _ _ (watch.Next is lt) K = (changes, (K.0, K.1, lt))
+  watch_known _ _ (watch.Last is le) K = (changes, (K.0, record { leaves = K.1.leaves; owns_none = K.1.owns_none; watched = le }))
 
-  role_known : (p : SlotChangePlace) → HoldsLock Loose h.topics → HasRoleToSet h.topics → v ≡ set_role
-      → Knows (behind p (record h.topics { owned = filled_more h.topics.owned v })) Exclude
-  role_known p K full A = (
-    record { outside = K.outside; holds = K.holds; no_table = K.no_table; no_set = K.no_set },
-    record { whole = omega (arith, full, more_filled h.topics.owned v (some_filled h.topics.owned 512 full (omega arith))); role = more_role h.topics.owned v full ∙ A },
-  )
-
-  exclude_known : (p : SlotChangePlace) (free : Bool) → HoldsLock Loose h.topics → OwnsSet h.topics
-      → Knows (behind p (record h.topics { hold = if free then Exclusive else h.topics.hold; invalidations = unchecked h.topics.invalidations })) (if free then Count else Exclude)
-  exclude_known p true K O = (record { outside = K.outside; holds = refl; no_table = K.no_table; no_set = K.no_set }, record { whole = O.whole; role = O.role })
-  exclude_known p false K O =
-      (record { outside = K.outside; holds = K.holds; no_table = K.no_table; no_set = K.no_set }, record { whole = O.whole; role = O.role })
-
-  count_known : (p : SlotChangePlace) → HoldsLock Exclusive h.topics → OwnsSet h.topics → h.topics.leaving ≡ None
-      → Knows (behind p (record h.topics { invalidations = record h.topics.invalidations { count = v; checked = count_checked h.topics.hold } })) (if v == 0 then Publish else Close)
-  count_known p K O left =
-      let counted : Topics = record h.topics { invalidations = record h.topics.invalidations { count = v; checked = count_checked h.topics.hold } } in
-      let lock : HoldsLock Exclusive counted = record { outside = K.outside; holds = K.holds; no_table = K.no_table; no_set = K.no_set } in
-      let owns : OwnsSet counted = record { whole = O.whole; role = O.role } in
-      either (behind p (record h.topics { invalidations = record h.topics.invalidations { count = v; checked = count_checked h.topics.hold } })) (v == 0) Publish Close
-      (λ e. (lock, record { owns = owns; alone = K.holds; looked = ap count_checked K.holds; none_open = zero_is v e; none_leaves = left }))
-      (λ e. (lock, owns, ap (λ (k : Hold). was_counted (count_checked k) && not (v == 0)) K.holds ∙ ap not e))
-
-  watch_known : (p : SlotChangePlace) (t : Topics) (next : WatchNext) (u : Topics) → WatchMade (own_index h) (actors_of h.state.sizes) t v next u
-      → next_watched (own_index h) t.watched < actors_of h.state.sizes → HoldsLock Loose t → HasPublished t
-      → Knows (behind p u) (after_watch next)
-  watch_known p t _ _ (watch.Again is) low K H =
-      (record { outside = K.outside; holds = K.holds; no_table = K.no_table; no_set = K.no_set }, record { leaves = H.leaves; owns_none = H.owns_none }, watch_comes (own_index h) (actors_of h.state.sizes) t v _ _ (watch.Again is) low)
-  watch_known p t _ _ (watch.Next is lt) low K H =
-      (record { outside = K.outside; holds = K.holds; no_table = K.no_table; no_set = K.no_set }, record { leaves = H.leaves; owns_none = H.owns_none }, lt)
-  watch_known p t _ _ (watch.Last is le) low K H =
-      (record { outside = K.outside; holds = K.holds; no_table = K.no_table; no_set = K.no_set }, record { leaves = H.leaves; owns_none = H.owns_none; watched = le })
-
-  -- there is another actor to look at: the first one, or the one behind it
-  first_look : next_watched (own_index h) 0 < actors_of h.state.sizes
-  first_look = by (0 == own_index h)
-    where
-      by : (b : Bool) → (if b then 0 + 1 else 0) < actors_of h.state.sizes
-      by true = omega (arith, R.sizes.some)
-      by false = omega (arith, R.sizes.some)
-
-  pub slot_change_known : (p : SlotChangePlace) → SlotChangeKnows p h → (may_leave (place.SlotChange p) ≡ false → h.topics.leaving ≡ None)
+  pub slot_change_known : (p : SlotChangePlace) → PartRests h → SlotChangeKnows p h → LeavesPart (place.SlotChange p) h.topics
       → CanAnswer (slot_change_part p h command) v
-      → KnowsNext (slot_change_outcome p h v) (behind p (part_topics (slot_change_part p h command) h.topics v))
-  slot_change_known (Refuse refusal) K left A = refused_known refusal K
-  slot_change_known (Claim begun) K left A = claim_known (Claim begun) begun h.topics _ _ _ (claim_made h.state.sizes begun h.topics v) K.0 K.1
-  slot_change_known Fill K left A = fill_known Fill K.0 K.1
-  slot_change_known Role K left A = role_known Role K.0 K.1 A
-  slot_change_known Exclude K left A = exclude_known Exclude (v == 0) K.0 K.1
-  slot_change_known Count K left A = count_known Count K.0 K.1 (left refl)
-  slot_change_known Close K left A = (let_go_lock h.topics K.0.outside, record { whole = K.1.whole; role = K.1.role })
-  slot_change_known Publish K left A =
-      (record { outside = K.0.outside; holds = K.0.holds; no_table = K.0.no_table; no_set = refl }, record { leaves = refl; owns_none = refl }, refl, K.1.none_open)
-  slot_change_known Release K left A =
-      (let_go_lock h.topics K.0.outside, record { leaves = K.1.leaves; owns_none = K.1.owns_none }, subst (λ w. next_watched (own_index h) w < actors_of h.state.sizes) (sym K.2) first_look)
-  slot_change_known Watch K left A = watch_known Watch h.topics _ _ (watch_made h v) K.2 K.0 K.1
-  slot_change_known Clear K left A = (
-    record { outside = K.0.outside; holds = K.0.holds; no_table = K.0.no_table; no_set = K.0.no_set },
-    record { leaves = K.1.leaves; owns_none = ap (λ o. filled_more o v) K.1.owns_none; watched = K.1.watched },
-  )
-  slot_change_known Give K left A = record { outside = K.0.outside; loose = K.0.holds; owns_none = refl; no_table = K.0.no_table; no_set = K.0.no_set }
+      → KnowsBehind (slot_change_outcome p h v) command (behind p (part_topics (slot_change_part p h command) h.topics v))
+  slot_change_known (Refuse refusal) R K left A = rests_by_seq h.topics v K
+  slot_change_known (Claim begun) R K left A =
+      claim_known (Claim begun) _ _ (claim_rests h.state.sizes begun h.topics v _ _ _ (claim_made h.state.sizes begun h.topics v) K.0 K.1)
+  slot_change_known Fill R K left A =
+      one_place (λ q. Knows q (behind Fill (record h.topics { owned = filled_more h.topics.owned v })))
+      (nat_lt (words_filled h.topics.owned + 1) 512) Fill Role
+      (λ e. (changes, (K.0, fill_goes h.topics v K.1 e))) (λ e. (changes, (K.0, fill_ends h.topics v K.1 e)))
+  slot_change_known Role R K left A = (changes, (K.0, set_whole h.topics v K.1 A))
+  slot_change_known Exclude R K left A =
+      one_place (λ q. Knows q (behind Exclude (part_topics part.Exclude h.topics v))) (v == 0) Count Exclude
+      (λ e. (changes, (lock_taken h.topics v K.0 e, same_set h.topics _ refl K.1)))
+      (λ e. (changes, (lock_tried h.topics v K.0 e, same_set h.topics _ refl K.1)))
+  slot_change_known Count R K left A =
+      let owns : OwnsSet (part_topics part.Count h.topics v) = same_set h.topics _ refl K.1 in
+      let alone : h.topics.hold ≡ Exclusive = K.0.holds in
+      one_place (λ q. Knows q (behind Count (part_topics part.Count h.topics v))) (v == 0) Publish Close
+      (λ e. (changes, (K.0, record { owns = owns; alone = alone; looked = ap count_checked alone; none_open = eqb-true v 0 e; none_leaves = left refl })))
+      (λ e. (changes, (K.0, owns, sees_open h.topics v K.0 e)))
+  slot_change_known Close R K left A = (changes, (lock_let_go Exclusive h.topics K.0, same_set h.topics _ refl K.1))
+  slot_change_known Publish R K left A =
+      (changes, (lock_publishes Exclusive h.topics v K.0, record { leaves = refl; owns_none = refl }, refl, K.1.none_open))
+  slot_change_known Release R K left A =
+      (changes, (lock_let_go Exclusive h.topics K.0, K.1, watch_begins h K.2 R.sizes))
+  slot_change_known Watch R K left A = watch_known _ _ (watch_made h v) K
+  slot_change_known Clear R K left A =
+      (changes, (K.0, record { leaves = K.1.leaves; owns_none = ap (λ o. filled_more o v) K.1.owns_none; watched = K.1.watched }))
+  slot_change_known Give R K left A =
+      record { outside = K.0.outside; loose = K.0.holds; owns_none = refl; no_table = K.0.no_table; no_set = K.0.no_set }
+
+  -- ---- what it has filled of the page
+
+  claim_holds : (z : Sizes) (pool host : ℕ → ℕ) (set : ℕ) (begun : Bool) (step : PartStep) (next : ClaimNext) (u : Topics)
+      → ClaimMade h.state.sizes begun h.topics v step next u → change_refusal z command h.slots ≡ None
+      → Holds z pool host set (place_after (after_claim next)) command (behind (Claim begun) u)
+  claim_holds z pool host set begun _ _ _ (made.Won tries b some is) e =
+      record { accepted = e; filled = none_filled pool (set_word (slots_after command h.slots)) (page_won h.topics.claim) refl }
+  claim_holds z pool host set begun _ _ _ (made.SawNone not_ le) e = tt
+  claim_holds z pool host set begun _ _ _ _ e = e
+
+  pub change_holds : (z : Sizes) (words : Area → ℕ → ℕ) (host : ℕ → ℕ) (set : ℕ) (p : SlotChangePlace) → SlotChangeKnows p h
+      → SlotChangeHolds z (words area.Pool) p command h
+      → Holds z (words_after (slot_change_task p h command) words area.Pool) host set (place_after (slot_change_outcome p h v)) command
+      (behind p (part_topics (slot_change_part p h command) h.topics v))
+  change_holds z words host set (Claim begun) K e =
+      claim_holds z (words_after (slot_change_task (Claim begun) h command) words area.Pool) host set begun _ _ _ (claim_made h.state.sizes begun h.topics v) e
+  change_holds z words host set Fill K e =
+      let pool : ℕ → ℕ = words_after (slot_change_task Fill h command) words area.Pool in
+      let filled = one_more (words area.Pool) (set_word (slots_after command h.slots)) h.topics.owned v K.1.1 e.filled in
+      let F : FillsSet z pool command h.slots (filled_more h.topics.owned v) = record { accepted = e.accepted; filled = filled } in
+      either_place (λ q. SlotChangeHolds z pool q command (behind Fill (record h.topics { owned = filled_more h.topics.owned v })))
+      (nat_lt (words_filled h.topics.owned + 1) 512) Fill Role F F
+  change_holds z words host set Role K e =
+      record { accepted = e.accepted; filled = all_filled (words area.Pool) (set_word (slots_after command h.slots)) h.topics.owned v K.1 e.filled }
+  change_holds z words host set Exclude K e =
+      either_place (λ q. SlotChangeHolds z (words area.Pool) q command (behind Exclude (part_topics part.Exclude h.topics v))) (v == 0) Count Exclude e e
+  change_holds z words host set Count K e =
+      either_place (λ q. SlotChangeHolds z (words area.Pool) q command (behind Count (part_topics part.Count h.topics v))) (v == 0) Publish Close e e
+  change_holds z words host set Close K e = e
+  change_holds z words host set Watch K e =
+      each_watch (λ q. SlotChangeHolds z (words area.Pool) q command (behind Watch (part_topics (part.Watch (looked_at h)) h.topics v)))
+      (watch_next h v) Watch Clear tt tt
+  change_holds z words host set _ K e = tt
+
+  -- ---- which page leaves: after a step up to the publication none, and after the last one none any more
+
+  pub change_leaves : (p : SlotChangePlace) → SlotChangeKnows p h → LeavesPart (place.SlotChange p) h.topics
+      → LeavesPart (place_after (slot_change_outcome p h v)) (part_topics (slot_change_part p h command) h.topics v)
+  change_leaves (Claim begun) K left =
+      λ may. claim_leaves h.state.sizes begun h.topics v _ _ _ (claim_made h.state.sizes begun h.topics v) ∙ left refl
+  change_leaves Publish K left = λ may. absurd (cc may)
+  change_leaves Release K left = left
+  change_leaves Watch K left =
+      each_watch (λ q. LeavesPart (place.SlotChange q) (part_topics (part.Watch (looked_at h)) h.topics v)) (watch_next h v) Watch Clear left left
+  change_leaves Clear K left = left
+  change_leaves Give K left = λ may. ap (λ x. still_leaving x h.topics.leaving) K.1.owns_none
+  change_leaves _ K left = λ may. left refl

@@ -1,6 +1,8 @@
 -- The order of steps of a claim, by which a line gets a page of the pool: it loads the words of the pool's map from the first one on, and tries
 -- the lowest page that it saw free in the last one.
 use Rattle.std.specs.Prelude.{◌+◌, ◌-◌, ℕ, Bool, ◌==◌, ◌&&◌, not, nat_lt, if◌then◌else◌}
+use Rattle.core_views.specs.declared.answer.Answer.TheVariants.{Starved}
+use Rattle.core_views.specs.declared.place.Place.{Place}
 use Rattle.core_views.specs.declared.sizes.Sizes.{Sizes}
 use Rattle.core_views.specs.declared.topics.MapClaim.{MapClaim}
 use Rattle.spte_words.specs.Areas.{words_of_bits}
@@ -9,6 +11,8 @@ use Rattle.part_steps.specs.declared.part_step.PartStep.TheVariants as part
 use Rattle.part_steps.specs.PageTopics.{is_won}
 use Rattle.mmu_core.specs.declared.claim.ClaimNext.{ClaimNext}
 use Rattle.mmu_core.specs.declared.claim.ClaimNext.TheVariants.{Goes, Got, Empty}
+use Rattle.mmu_core.specs.declared.outcome.Outcome.{Outcome}
+use Rattle.mmu_core.specs.declared.outcome.Outcome.TheVariants as outcome
 
 -- the word of the map that the claim has come to: the first one where it begins
 abbrev pub map_word : Bool → MapClaim → ℕ
@@ -39,3 +43,9 @@ claim_next begun z claim v =
 -- the most steps that a claim has left, where no other actor is in its way: the words from this one on, and a try
 abbrev pub claim_left : Bool → Sizes → MapClaim → ℕ
 claim_left begun z claim = if tries_page begun claim then 1 else words_of_bits z.pool - map_word begun claim + 1
+
+-- where a line stands after a step of a claim that it answers for want of a page: where it goes on with the claim, or where it fills the page
+abbrev pub claim_outcome : Place → Place → ClaimNext → Outcome
+claim_outcome on got Goes = outcome.Goes on
+claim_outcome on got Got = outcome.Goes got
+claim_outcome on got Empty = outcome.Ends Starved

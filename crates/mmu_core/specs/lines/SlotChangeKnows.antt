@@ -1,11 +1,9 @@
 -- What a line that changes a slot knows at each of its places, from what its actor holds alone.
-use Rattle.std.specs.Prelude.{◌≡◌, ◌<◌, ℕ, Some, true, None, is_some}
+use Rattle.std.specs.Prelude.{◌≡◌, ◌<◌, ℕ, Option, Some, true, None, is_some}
 use Rattle.core_views.specs.declared.place.SlotChangePlace.{SlotChangePlace}
 use Rattle.core_views.specs.declared.place.SlotChangePlace.TheVariants.{Refuse, Claim, Fill, Role, Exclude, Count, Close, Publish, Release, Watch, Clear, Give}
-use Rattle.core_views.specs.declared.topics.Hold.{Hold}
 use Rattle.core_views.specs.declared.topics.Hold.TheVariants.{Loose, Exclusive}
-use Rattle.core_views.specs.declared.topics.Stay.TheVariants.{Outside}
-use Rattle.core_views.specs.declared.topics.Topics.{Topics}
+use Rattle.core_views.specs.declared.topics.OwnedPage.{OwnedPage}
 use Rattle.core_views.specs.declared.sizes.Sizes.{Sizes}
 use Rattle.core_views.specs.declared.trace.Command.{Command}
 use Rattle.core_views.specs.Held.{Held}
@@ -16,20 +14,14 @@ use Rattle.spte_words.specs.Areas.{words_of_bits}
 use Rattle.part_steps.specs.PartHoldings.{HasRoleToSet, HasToFill, MayGiveOld, MayPublish, OwnsSet}
 use Rattle.part_steps.specs.PartSteps.{IsAtRest}
 use Rattle.part_steps.specs.SetWords.{IsFilledWith}
+pub use Rattle.mmu_core.specs.lines.LockKnows.{HoldsLock}
 use Rattle.mmu_core.specs.lines.PartWaits.{saw_open}
 use Rattle.mmu_core.specs.lines.SlotChangeSteps.{looked_at}
 
--- Outside, with no table and no slot set, holding the lock so.
-pub record HoldsLock (hold : Hold) (t : Topics) : Type 0 where
-  pub outside : t.stay ≡ Outside
-  pub holds : t.hold ≡ hold
-  pub no_table : t.walk.level ≡ 0
-  pub no_set : t.search.set ≡ None
-
 -- The page of the old slot set is leaving, and no page is owned.
-pub record HasPublished (t : Topics) : Type 0 where
-  pub leaves : is_some t.leaving ≡ true
-  pub owns_none : t.owned ≡ None
+pub record HasPublished (leaving : Option ℕ) (owned : Option OwnedPage) : Type 0 where
+  pub leaves : is_some leaving ≡ true
+  pub owns_none : owned ≡ None
 
 -- what it knows at each place
 abbrev pub SlotChangeKnows : SlotChangePlace → Held → Type 0
@@ -41,8 +33,9 @@ SlotChangeKnows Exclude h = HoldsLock Loose h.topics × OwnsSet h.topics
 SlotChangeKnows Count h = HoldsLock Exclusive h.topics × OwnsSet h.topics
 SlotChangeKnows Close h = HoldsLock Exclusive h.topics × OwnsSet h.topics × (saw_open h.topics.invalidations ≡ true)
 SlotChangeKnows Publish h = HoldsLock Exclusive h.topics × MayPublish h.topics
-SlotChangeKnows Release h = HoldsLock Exclusive h.topics × HasPublished h.topics × (h.topics.watched ≡ 0) × (h.topics.invalidations.count ≡ 0)
-SlotChangeKnows Watch h = HoldsLock Loose h.topics × HasPublished h.topics × (looked_at h < actors_of h.state.sizes)
+SlotChangeKnows Release h =
+    HoldsLock Exclusive h.topics × HasPublished h.topics.leaving h.topics.owned × (h.topics.watched ≡ 0) × (h.topics.invalidations.count ≡ 0)
+SlotChangeKnows Watch h = HoldsLock Loose h.topics × HasPublished h.topics.leaving h.topics.owned × (looked_at h < actors_of h.state.sizes)
 SlotChangeKnows Clear h = HoldsLock Loose h.topics × MayGiveOld h
 SlotChangeKnows Give h = HoldsLock Loose h.topics × MayGiveOld h
 
@@ -52,18 +45,16 @@ RecordAccepts Publish z command slots = change_refusal z command slots ≡ None
 RecordAccepts _ z command slots = Unit {0}
 
 -- The manager's record accepts the change, and what is filled of the page that is owned is the set of the record's slots after it.
-pub record FillsSet (z : Sizes) (pool : ℕ → ℕ) (command : Command) (h : Held) : Type 0 where
-  pub accepted : change_refusal z command h.slots ≡ None
-  pub filled : IsFilledWith pool (slots_after command h.slots) h.topics.owned
+pub record FillsSet (z : Sizes) (pool : ℕ → ℕ) (command : Command) (slots : MemorySlots) (owned : Option OwnedPage) : Type 0 where
+  pub accepted : change_refusal z command slots ≡ None
+  pub filled : IsFilledWith pool (slots_after command slots) owned
 
 -- Up to the publication a slot line is one that the record accepts, and fills the set after its change.
 abbrev pub SlotChangeHolds : Sizes → (ℕ → ℕ) → SlotChangePlace → Command → Held → Type 0
 SlotChangeHolds z pool (Refuse refusal) command h = change_refusal z command h.slots ≡ Some refusal
 SlotChangeHolds z pool (Claim begun) command h = change_refusal z command h.slots ≡ None
-SlotChangeHolds z pool Fill command h = FillsSet z pool command h
-SlotChangeHolds z pool Role command h = FillsSet z pool command h
-SlotChangeHolds z pool Exclude command h = FillsSet z pool command h
-SlotChangeHolds z pool Count command h = FillsSet z pool command h
-SlotChangeHolds z pool Close command h = FillsSet z pool command h
-SlotChangeHolds z pool Publish command h = FillsSet z pool command h
-SlotChangeHolds z pool _ command h = Unit {0}
+SlotChangeHolds z pool Release command h = Unit {0}
+SlotChangeHolds z pool Watch command h = Unit {0}
+SlotChangeHolds z pool Clear command h = Unit {0}
+SlotChangeHolds z pool Give command h = Unit {0}
+SlotChangeHolds z pool _ command h = FillsSet z pool command h.slots h.topics.owned

@@ -2,7 +2,7 @@
 -- one makes one load of the sequence. Else a page is claimed and filled with the new slot set; under the lock alone, with no invalidation open, it
 -- is published in place of the old one; and after a watch of all other actors the old page is given back.
 use Rattle.std.specs.Prelude.{ℕ, true, false, List, [], ◌∷◌, Option, Some, None, ◌==◌, nat_lt, if◌then◌else◌, ◌+◌, ◌-◌}
-use Rattle.core_views.specs.declared.answer.Answer.TheVariants.{Done, Refused, Starved}
+use Rattle.core_views.specs.declared.answer.Answer.TheVariants.{Done, Refused}
 use Rattle.core_views.specs.declared.answer.Refusal.{Refusal}
 use Rattle.core_views.specs.declared.event.EventKind.{EventKind}
 use Rattle.core_views.specs.declared.event.EventKind.TheVariants.{SlotChanged}
@@ -23,15 +23,13 @@ use Rattle.part_steps.specs.declared.task.Task.{Task}
 use Rattle.part_steps.specs.declared.part_step.PartStep.{PartStep}
 use Rattle.part_steps.specs.declared.part_step.PartStep.TheVariants as part
 use Rattle.mmu_core.specs.lines.AccessSteps.{exiting}
-use Rattle.mmu_core.specs.lines.FaultSteps.{claim_part}
 use Rattle.part_steps.specs.PartTasks.{own_index, part_task, words_filled}
 use Rattle.part_steps.specs.SetWords.{set_role, set_word}
-use Rattle.mmu_core.specs.lines.ClaimSteps.{claim_left, claim_next, claim_part, loads_last_word}
+use Rattle.mmu_core.specs.lines.ClaimSteps.{claim_left, claim_next, claim_outcome, claim_part, loads_last_word}
 use Rattle.mmu_core.specs.declared.claim.ClaimNext.{ClaimNext}
-use Rattle.mmu_core.specs.declared.claim.ClaimNext.TheVariants as claims
 use Rattle.mmu_core.specs.declared.watch.WatchNext.{WatchNext}
-use Rattle.mmu_core.specs.declared.watch.WatchNext.TheVariants as watches
 pub use Rattle.mmu_core.specs.lines.WatchSteps.{looked_at, watch_next}
+use Rattle.mmu_core.specs.lines.WatchSteps.{watch_place}
 
 -- where the line begins
 abbrev pub slot_change_first : Option Refusal → SlotChangePlace
@@ -70,14 +68,11 @@ slot_change_records _ command slots = slots
 
 -- after a step of its claim: the page is to be filled, or the line is answered, since no page is free
 abbrev pub after_claim : ClaimNext → Outcome
-after_claim claims.Goes = Goes (SlotChange (Claim true))
-after_claim claims.Got = Goes (SlotChange Fill)
-after_claim claims.Empty = Ends Starved
+after_claim next = claim_outcome (SlotChange (Claim true)) (SlotChange Fill) next
 
 -- after a look of its watch
 abbrev pub after_watch : WatchNext → SlotChangePlace
-after_watch watches.Last = Clear
-after_watch _ = Watch
+after_watch next = watch_place Watch Clear next
 
 -- where the line stands after the step of its place, which found v
 abbrev pub slot_change_outcome : SlotChangePlace → Held → ℕ → Outcome

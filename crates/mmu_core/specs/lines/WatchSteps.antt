@@ -19,3 +19,8 @@ watch_next h v =
     if in_section v then Again else
     if nat_lt (next_watched (own_index h) (looked_at h + 1)) (actors_of h.state.sizes) then Next else
     Last
+
+-- where a line stands after a look: where it looks, or where it goes on to after the last one
+abbrev pub watch_place : {A : Type 0} → A → A → WatchNext → A
+watch_place looks over Last = over
+watch_place looks over _ = looks

@@ -48,7 +48,7 @@ use Rattle.part_steps.specs.TopicSteps.{topics_after}
 use Rattle.mmu_core.specs.machine.View.{View, answer_in, put, words_after}
 use Rattle.mmu_core.proofs.machine.Columns.{same_or, upd_same, upd_other}
 use Rattle.mmu_laws.proofs.flat.FaultFlat.{fault_goes}
-use Rattle.mmu_laws.proofs.flat.FlatSteps.{Goes, Leaves, Ready, StepGoes, part_leaves, refined_slots, refines_stay}
+use Rattle.mmu_laws.proofs.flat.FlatSteps.{Goes, Leaves, Ready, StepGoes, answers_by, part_leaves, part_refines, refined_slots, refines_stay}
 use Rattle.mmu_laws.proofs.flat.PageFound.{frame_of_leaf, leaf_allows, page_in_machine, page_is_behind, word_in_page}
 use Rattle.mmu_core.proofs.machine.PartStepping.{IsPart}
 use Rattle.mmu_core.proofs.machine.Stepping.{IsStep}
@@ -223,14 +223,10 @@ module _ (z : Sizes) (v : View) (a : ℕ) (line : Line) (gfn word : ℕ) (facts 
 
   -- The access is answered.
   reached_owes : (op : Op) (frame value : ℕ) → Owes op (Leave (leaving.Reached frame value))
-  reached_owes op frame value S I P part_ K R = record {
-    allowed = ((ap (λ (l : Line). l.number) (sym R.under.0), subst (λ (stage : Stage). Tells z facts.slots u.line.command stage (Reached frame value)) (sym R.under.1) refl), tt);
-    refines = refines_stay z v.words (words_behind op (Leave (leaving.Reached frame value))) facts L R.refines;
-    under = refl;
-  }
-    where
-      L : Leaves v.words (words_behind op (Leave (leaving.Reached frame value)))
-      L = part_leaves z v a part.Leave 1 part_ P refl
+  reached_owes op frame value S I P part_ K R =
+      answers_by z v a line (Access gfn word op) (access_task (Leave (leaving.Reached frame value)) (v.hand a) gfn word op) facts past u
+      (part_refines z v a part.Leave 1 facts part_ P refl R.refines) (Reached frame value) R.under.0
+      (subst (λ (stage : Stage). Tells z facts.slots u.line.command stage (Reached frame value)) (sym R.under.1) refl)
 
   -- The line looks at the pause, which isn't set.
   looks_at_pause : (op : Op) (again : Bool) → IsPart z v a part.Pause → TopicsInvariant z v

@@ -46,7 +46,8 @@ use Rattle.part_steps.specs.Tasks.{kind_of_task}
 use Rattle.mmu_core.specs.invariant.TopicsInvariant.{TopicsInvariant}
 use Rattle.mmu_core.specs.machine.View.{View, answer_in, words_after}
 use Rattle.mmu_laws.proofs.flat.FindFlat.{find_noted}
-use Rattle.mmu_laws.proofs.flat.FlatSteps.{Goes, Ready, StepGoes, part_leaves, refined_slots, refines_stay}
+use Rattle.mmu_core.proofs.lines.EitherPlace.{either_place}
+use Rattle.mmu_laws.proofs.flat.FlatSteps.{Goes, Ready, StepGoes, goes_by, leaves_by, part_refines, refined_slots}
 use Rattle.mmu_laws.proofs.flat.PageFound.{host_writable}
 use Rattle.mmu_core.proofs.machine.PartStepping.{IsPart}
 use Rattle.mmu_core.proofs.words.PartTopics.{part_topics_is}
@@ -66,27 +67,25 @@ module _ (pool : ℕ → ℕ) (gfn : ℕ) (op : Op) (t : Topics) (notes : Notes)
   abbrev Noted : FaultPlace → Type 0
   Noted p = NotedAt pool p gfn op t notes
 
-  either : (b : Bool) (p q : FaultPlace) → Noted p → Noted q → Noted (if b then p else q)
-  either true p q first second = first
-  either false p q first second = second
-
   share_noted : SawPage notes gfn op → (next : ShareNext) → Noted (after_share next)
   share_noted saw shares.Tries = saw
   share_noted saw _ = saw
 
   check_noted : SawPage notes gfn op → (at : CheckStage) (h : Topics) (x : ℕ) → Noted (check_next at gfn h x)
-  check_noted saw stage.Count h x = either (x == 0) (Check stage.Seq) (Check stage.Start) saw saw
+  check_noted saw stage.Count h x = either_place Noted (x == 0) (Check stage.Seq) (Check stage.Start) saw saw
   check_noted saw stage.Start h x = saw
   check_noted saw stage.End h x =
-      either (nat_le h.invalidations.start gfn && nat_lt gfn x) (Unshare (Retry (Open h.invalidations.count h.invalidations.start x gfn))) (Check stage.Seq) tt saw
+      either_place Noted (nat_le h.invalidations.start gfn && nat_lt gfn x) (Unshare (Retry (Open h.invalidations.count h.invalidations.start x gfn)))
+      (Check stage.Seq) tt saw
   check_noted saw stage.Seq h x =
-      either (x == snapshot_taken h.invalidations.snapshot) (Walk false) (Unshare (Retry (Moved (snapshot_taken h.invalidations.snapshot) x))) saw tt
+      either_place Noted (x == snapshot_taken h.invalidations.snapshot) (Walk false)
+      (Unshare (Retry (Moved (snapshot_taken h.invalidations.snapshot) x))) saw tt
 
   walk_noted : SawPage notes gfn op → (k : SpteKind) (z : Sizes) (write : Bool) (walk : TableWalk) (x : ℕ) → Noted (walk_next k z gfn write walk x)
   walk_noted saw entry_kind.Leaf z write walk x =
-      either (walk.level == 1) (if allows_access write x then Unshare Installed else Leaf) (Unshare (Retry (Entry (entry_word z gfn walk) x x)))
-      (either (allows_access write x) (Unshare Installed) Leaf tt saw) tt
-  walk_noted saw entry_kind.Absent z write walk x = either (walk.level == 1) Leaf (Claim false) saw saw
+      either_place Noted (walk.level == 1) (if allows_access write x then Unshare Installed else Leaf) (Unshare (Retry (Entry (entry_word z gfn walk) x x)))
+      (either_place Noted (allows_access write x) (Unshare Installed) Leaf tt saw) tt
+  walk_noted saw entry_kind.Absent z write walk x = either_place Noted (walk.level == 1) Leaf (Claim false) saw saw
   walk_noted saw (entry_kind.Table page) z write walk x = saw
   walk_noted saw entry_kind.Frozen z write walk x = tt
 
@@ -130,12 +129,9 @@ module _ (z : Sizes) (v : View) (a : ℕ) (line : Line) (gfn word : ℕ) (op : O
       → NotedAt (words_behind p area.Pool) next gfn op (held_behind p) u.notes
       → Goes z (v.hand a).state.actor line (Access gfn word op) (words_behind p) (place.Access (Fault next)) (held_behind p) [] facts past u
   quiet p next S I P R noted =
-      let L = part_leaves z v a (fault_part p gfn held) (access_note (Fault p)) S P (access_never (Fault p) gfn held (fault_part p gfn held) refl) in
-      record {
-        allowed = tt;
-        refines = refines_stay z v.words (words_behind p) facts L R.refines;
-        under = (R.under.0, (R.under.1.0, noted));
-      }
+      goes_by z v a line (Access gfn word op) (access_task (Fault p) (v.hand a) gfn word op) facts past u
+      (part_refines z v a (fault_part p gfn held) (access_note (Fault p)) facts S P (access_never (Fault p) gfn held (fault_part p gfn held) refl) R.refines)
+      (place.Access (Fault next)) (R.under.0, (R.under.1.0, noted))
 
   -- The line looks at the slots: those of the published set, which its search holds now, and none of them is passed yet.
   looks : FaultKnows (Find false) (v.hand a).state.sizes gfn (is_write op) held
@@ -214,24 +210,18 @@ module _ (z : Sizes) (v : View) (a : ℕ) (line : Line) (gfn word : ℕ) (op : O
       → Goes z (v.hand a).state.actor line (Access gfn word op) (words_behind (End e)) place.Between (held_behind (End e))
       (Exited how ∷ Answered line.number how ∷ []) facts past u
   leaves_with how is S I P e R may =
-      let L = part_leaves z v a part.End (access_note (Fault (End e))) S P refl in
-      record {
-        allowed = ((R.under.1.0.0, subst (λ c. MayLeave z facts c u.notes how) (sym (ap (λ (l : Line). l.command) R.under.0 ∙ is)) may), ((ap (λ (l : Line). l.number) (sym R.under.0), refl), tt));
-        refines = refines_stay z v.words (words_behind (End e)) facts L R.refines;
-        under = refl;
-      }
+      let own : u.line.command ≡ Access gfn word op = ap (λ (l : Line). l.command) R.under.0 ∙ is in
+      leaves_by z v a line (Access gfn word op) (access_task (Fault (End e)) (v.hand a) gfn word op) facts past u
+      (part_refines z v a part.End (access_note (Fault (End e))) facts S P refl R.refines) how R.under.0 R.under.1.0.0
+      (subst (λ c. MayLeave z facts c u.notes how) (sym own) may)
 
   -- Or it enters the guest again.
   goes_back : (again : Bool) (e : FaultEnd) → IsPart z v a part.End → Invariant z v → TopicsInvariant z v
       → Ready z v line (Access gfn word op) (place.Access (Fault (End e))) held facts u
       → Goes z (v.hand a).state.actor line (Access gfn word op) (words_behind (End e)) (place.Access (Enter again)) (held_behind (End e)) [] facts past u
   goes_back again e S I P R =
-      let L = part_leaves z v a part.End (access_note (Fault (End e))) S P refl in
-      record {
-        allowed = tt;
-        refines = refines_stay z v.words (words_behind (End e)) facts L R.refines;
-        under = (R.under.0, R.under.1.0.0);
-      }
+      goes_by z v a line (Access gfn word op) (access_task (Fault (End e)) (v.hand a) gfn word op) facts past u
+      (part_refines z v a part.End (access_note (Fault (End e))) facts S P refl R.refines) (place.Access (Enter again)) (R.under.0, R.under.1.0.0)
 
   ends : (e : FaultEnd) → line.command ≡ Access gfn word op → IsPart z v a part.End → Invariant z v → TopicsInvariant z v
       → Ready z v line (Access gfn word op) (place.Access (Fault (End e))) held facts u
@@ -265,16 +255,18 @@ module _ (z : Sizes) (v : View) (a : ℕ) (line : Line) (gfn word : ℕ) (op : O
       quiet (Claim begun) (after_claim next) part_ I P R (claim_noted (words_behind (Claim begun) area.Pool) gfn op (held_behind (Claim begun)) u.notes R.under.1.1 next)
   fault_goes Fill S part_ I P K R =
       quiet Fill (if nat_lt (words_filled held.owned + 1) 512 then Fill else Role) part_ I P R
-      (either (words_behind Fill area.Pool) gfn op (held_behind Fill) u.notes (nat_lt (words_filled held.owned + 1) 512) Fill Role R.under.1.1 R.under.1.1)
+      (either_place (Noted (words_behind Fill area.Pool) gfn op (held_behind Fill) u.notes) (nat_lt (words_filled held.owned + 1) 512) Fill Role R.under.1.1 R.under.1.1)
   fault_goes Role S part_ I P K R = quiet Role Link part_ I P R R.under.1.1
   fault_goes Link S part_ I P K R =
       let x : ℕ = answered Link in
       let lost : FaultPlace = Give (Retry (Entry (entry_word (v.hand a).state.sizes gfn held.walk) held.walk.entry x)) in
-      quiet Link (if x == held.walk.entry then Walk true else lost) part_ I P R (either (words_behind Link area.Pool) gfn op (held_behind Link) u.notes (x == held.walk.entry) (Walk true) lost R.under.1.1 tt)
+      quiet Link (if x == held.walk.entry then Walk true else lost) part_ I P R
+      (either_place (Noted (words_behind Link area.Pool) gfn op (held_behind Link) u.notes) (x == held.walk.entry) (Walk true) lost R.under.1.1 tt)
   fault_goes (Give e) S part_ I P K R = quiet (Give e) (Unshare e) part_ I P R R.under.1.1
   fault_goes Leaf S part_ I P K R =
       let x : ℕ = answered Leaf in
       let lost : FaultPlace = Unshare (Retry (Entry (entry_word (v.hand a).state.sizes gfn held.walk) held.walk.entry x)) in
-      quiet Leaf (if x == held.walk.entry then Unshare Installed else lost) part_ I P R (either (words_behind Leaf area.Pool) gfn op (held_behind Leaf) u.notes (x == held.walk.entry) (Unshare Installed) lost tt tt)
+      quiet Leaf (if x == held.walk.entry then Unshare Installed else lost) part_ I P R
+      (either_place (Noted (words_behind Leaf area.Pool) gfn op (held_behind Leaf) u.notes) (x == held.walk.entry) (Unshare Installed) lost tt tt)
   fault_goes (Unshare e) S part_ I P K R = quiet (Unshare e) (End e) part_ I P R R.under.1.1
   fault_goes (End e) S part_ I P K R = ends e S.command_is part_ I P R

@@ -1,8 +1,11 @@
--- What a step owes the flat side: its events are allowed, and words and its hand are flat memory behind them.
-use Rattle.std.proofs.Common.{◌≡◌, ℕ, List, ◌++◌, refl, sym, ap, ◌∙◌, arith}
+-- What a step owes the flat side: its events are allowed, and words and its hand are flat memory after them.
+use Rattle.std.proofs.Common.{◌≡◌, ℕ, List, [], ◌∷◌, ◌++◌, refl, sym, ap, ◌∙◌, arith}
 use Rattle.core_views.specs.declared.actor.Actor.{Actor}
+use Rattle.core_views.specs.declared.answer.Answer.{Answer}
 use Rattle.core_views.specs.declared.event.EventKind.{EventKind}
+use Rattle.core_views.specs.declared.event.EventKind.TheVariants.{Answered, Exited}
 use Rattle.core_views.specs.declared.place.Place.{Place}
+use Rattle.core_views.specs.declared.place.Place.TheVariants as place
 use Rattle.core_views.specs.declared.sizes.Sizes.{Sizes}
 use Rattle.core_views.specs.declared.topics.Topics.{Topics}
 use Rattle.core_views.specs.declared.trace.Command.{Command}
@@ -17,6 +20,7 @@ use Rattle.part_steps.specs.declared.part_step.PartStep.{PartStep}
 use Rattle.mmu_core.specs.lines.Forms.{outcome_at, tells_at}
 use Rattle.mmu_core.specs.machine.Steps.{task_at}
 use Rattle.mmu_core.specs.machine.Outcomes.{answering, place_after}
+use Rattle.part_steps.specs.PartTasks.{own_index, part_task}
 use Rattle.part_steps.specs.Tasks.{kind_of_task, map_of}
 use Rattle.mmu_core.specs.invariant.TopicsInvariant.{TopicsInvariant}
 use Rattle.part_steps.specs.TopicSteps.{topics_after}
@@ -31,7 +35,8 @@ use Rattle.mmu_core.proofs.machine.PartStepping.{IsPart, is_publish}
 use Rattle.mmu_core.proofs.words.PartWords.{areas_stay, slots_are, slots_same}
 use Rattle.mmu_core.proofs.words.SlotLists.{flat_below}
 use Rattle.mmu_core.proofs.slots.SlotsStay.{memory_below_stay}
-use Rattle.core_views.specs.Flat.{Facts, LineUnderWay}
+use Rattle.core_views.specs.Flat.{Facts, Fresh, LineUnderWay}
+use Rattle.core_views.specs.Lawful.{MayLeave, Tells}
 use Rattle.core_views.specs.Past.{Past}
 
 -- The line has begun and stands at this place; the facts are what the words say, and nothing is paused.
@@ -40,7 +45,7 @@ pub record Ready (z : Sizes) (v : View) (line : Line) (command : Command) (p : P
   pub refines : Refines z (v.words area.Slots 0) (v.words area.Pool) (v.words area.Content) (v.words area.Pause 0) facts
   pub under : UnderAt (v.words area.Pool) p line command t u
 
--- What the step tells is allowed; behind it the facts are what the words say, and the line stands at this place.
+-- What the step tells is allowed; after it the facts are what the words say, and the line stands at this place.
 pub record Goes (z : Sizes) (actor : Actor) (line : Line) (command : Command) (after : Area → ℕ → ℕ) (p : Place) (t : Topics) (kinds : List EventKind)
     (facts : Facts) (past : Past)
     (u : LineUnderWay) : Type 0 where
@@ -79,7 +84,7 @@ pub refined_slots : (z : Sizes) (set : ℕ) (pool content : ℕ → ℕ) (pause 
     → flat_slots facts.slots ≡ slots_below pool set 32
 refined_slots z set pool content pause facts R = ap flat_slots R.slots ∙ flat_below pool set 32
 
--- The words behind it still stand for the same facts.
+-- The words after it still stand for the same facts.
 pub refines_stay : (z : Sizes) (before after : Area → ℕ → ℕ) (facts : Facts) → Leaves before after
     → Refines z (before area.Slots 0) (before area.Pool) (before area.Content) (before area.Pause 0) facts
     → Refines z (after area.Slots 0) (after area.Pool) (after area.Content) (after area.Pause 0) facts
@@ -89,3 +94,45 @@ refines_stay z before after facts L R = record {
   memory = λ p j lt below. R.memory p j lt below ∙ sym (ap (λ (g : ℕ → ℕ). g (content_index (map_of z) p j)) L.content);
   paused = R.paused ∙ ap (λ (g : ℕ → ℕ). not (g 0 == 0)) (sym L.pause);
 }
+
+-- ---- a step that does this task
+
+-- The words after it stand for these facts.
+abbrev pub RefinesBy : Sizes → View → Task → Facts → Type 0
+RefinesBy z v task facts =
+    let after : Area → ℕ → ℕ = words_after task v.words in
+    Refines z (after area.Slots 0) (after area.Pool) (after area.Content) (after area.Pause 0) facts
+
+-- A step of a part that publishes nothing leaves them as they were.
+pub part_refines : (z : Sizes) (v : View) (a : ℕ) (step : PartStep) (note : ℕ) (facts : Facts) → IsPart z v a step → TopicsInvariant z v
+    → is_publish step ≡ false → Refines z (v.words area.Slots 0) (v.words area.Pool) (v.words area.Content) (v.words area.Pause 0) facts
+    → RefinesBy z v (part_task step (own_index (v.hand a)) (v.hand a).topics note) facts
+part_refines z v a step note facts S P never R =
+    refines_stay z v.words ((part_stepped a step note v).words) facts (part_leaves z v a step note S P never) R
+
+-- what its actor holds after it
+abbrev pub topics_by : View → ℕ → Task → Topics
+topics_by v a task = topics_after (v.hand a).state.sizes (kind_of_task (v.hand a).state.sizes task) (v.hand a).topics (answer_in task v.words)
+
+-- what it owes where its line stands at this place then, and it tells these events
+abbrev pub GoesBy : Sizes → View → ℕ → Line → Command → Task → Place → List EventKind → Facts → Past → LineUnderWay → Type 0
+GoesBy z v a line command task next kinds facts past u =
+    Goes z (v.hand a).state.actor line command (words_after task v.words) next (topics_by v a task) kinds facts past u
+
+module _ (z : Sizes) (v : View) (a : ℕ) (line : Line) (command : Command) (task : Task) (facts : Facts) (past : Past) (u : LineUnderWay)
+    (R : RefinesBy z v task facts) where
+  -- It tells nothing, where the line is under way as its next place asks.
+  pub goes_by : (next : Place) → UnderAt (words_after task v.words area.Pool) next line command (topics_by v a task) u
+      → GoesBy z v a line command task next [] facts past u
+  goes_by next under = record { allowed = tt; refines = R; under = under }
+
+  -- The line is answered, where its stage allows this answer.
+  pub answers_by : (answer : Answer) → u.line ≡ line → Tells z facts.slots u.line.command u.stage answer
+      → GoesBy z v a line command task place.Between (Answered line.number answer ∷ []) facts past u
+  answers_by answer own tells = record { allowed = ((ap (λ (l : Line). l.number) (sym own), tells), tt); refines = R; under = refl }
+
+  -- Or it is given up, before it has done anything.
+  pub leaves_by : (answer : Answer) → u.line ≡ line → u.stage ≡ Fresh → MayLeave z facts u.line.command u.notes answer
+      → GoesBy z v a line command task place.Between (Exited answer ∷ Answered line.number answer ∷ []) facts past u
+  leaves_by answer own fresh may =
+      record { allowed = ((fresh, may), ((ap (λ (l : Line). l.number) (sym own), refl), tt)); refines = R; under = refl }

@@ -17,7 +17,6 @@ use Rattle.core_views.specs.declared.trace.Command.{Command}
 use Rattle.core_views.specs.declared.trace.Command.TheVariants.{Access}
 use Rattle.core_views.specs.declared.trace.Line.{Line}
 use Rattle.core_views.specs.declared.trace.Op.{Op}
-use Rattle.core_views.specs.declared.trace.Slot as slots
 use Rattle.core_views.specs.Alone.{IsWithin}
 use Rattle.core_views.specs.Flat.{Flat, Fresh, LineUnderWay}
 use Rattle.core_views.specs.Held.{Held}

@@ -34,7 +34,6 @@ use Rattle.mmu_core.proofs.lines.ClaimMade as made
 use Rattle.mmu_core.proofs.words.PartTopics.{map_end, map_word_at}
 use Rattle.mmu_core.proofs.machine.Which.{is_next}
 use Rattle.mmu_laws.proofs.steps.StepLaws.{tells_part, tells_touch}
-use Rattle.core_views.specs.declared.trace.Command.TheVariants.{Access}
 use Rattle.core_views.specs.declared.place.Place.TheVariants as place
 use Rattle.mmu_core.proofs.lines.ClaimPlaces.{claims_or_not}
 use Rattle.mmu_core.proofs.lines.LineClaims.{Claims, ClaimsNot, HasNote, ends_after, note_by}

@@ -1,84 +1,59 @@
 -- Each step of a slot line that doesn't wait leaves it fewer steps, beside other actors too.
-use Rattle.std.proofs.Common.{◌≡◌, ◌+◌, ◌-◌, ◌<◌, ℕ, arith}
-use Rattle.std.specs.Prelude.{Bool, true, false, ◌==◌, nat_lt, not, if◌then◌else◌}
+use Rattle.std.proofs.Common.{◌≡◌, ◌+◌, ◌-◌, ℕ, refl, ap, arith}
+use Rattle.std.specs.Prelude.{true, false, ◌==◌, nat_lt, not}
 use Rattle.core_views.specs.declared.place.Place.TheVariants as place
 use Rattle.core_views.specs.declared.place.SlotChangePlace.{SlotChangePlace}
-use Rattle.core_views.specs.declared.place.SlotChangePlace.TheVariants.{Refuse, Claim, Fill, Role, Exclude, Count, Close, Publish, Watch, Give}
+use Rattle.core_views.specs.declared.place.SlotChangePlace.TheVariants.{Refuse, Claim, Fill, Role, Exclude, Count, Close, Publish, Watch, Give, Clear}
 use Rattle.core_views.specs.declared.sizes.Sizes.{Sizes}
 use Rattle.core_views.specs.declared.topics.Topics.{Topics}
 use Rattle.core_views.specs.declared.trace.Command.{Command}
 use Rattle.core_views.specs.Held.{Held}
 use Rattle.core_views.specs.Sizes.{actors_of}
-use Rattle.mmu_core.specs.declared.outcome.Outcome.{Outcome}
-use Rattle.mmu_core.specs.declared.outcome.Outcome.TheVariants.{Goes, Ends}
+use Rattle.mmu_core.specs.declared.outcome.Outcome.TheVariants.{Goes}
 use Rattle.part_steps.specs.declared.part_step.PartStep.TheVariants as part
-use Rattle.mmu_core.specs.declared.claim.ClaimNext.{ClaimNext}
-use Rattle.mmu_core.specs.declared.claim.ClaimNext.TheVariants as claims
-use Rattle.mmu_core.specs.declared.watch.WatchNext.{WatchNext}
-use Rattle.mmu_core.specs.declared.watch.WatchNext.TheVariants as watches
-use Rattle.mmu_core.specs.lines.SlotChangeSteps.{slot_change_left, looked_at, slot_change_outcome, slot_change_part, after_claim, after_watch, watch_next}
-use Rattle.mmu_core.specs.lines.Forms.{steps_left}
+use Rattle.mmu_core.specs.lines.SlotChangeSteps.{slot_change_left, looked_at, slot_change_outcome, slot_change_part, watch_next}
 use Rattle.mmu_core.specs.lines.ClaimSteps.{claim_left, claim_next, claim_part}
 use Rattle.mmu_core.specs.lines.PartWaits.{part_waits}
 use Rattle.part_steps.specs.PartBounds.{PartRests}
 use Rattle.part_steps.specs.PartTasks.{own_index, words_filled}
-use Rattle.part_steps.specs.PartHoldings.{HasToFill}
 use Rattle.part_steps.specs.PartTopics.{part_topics}
 use Rattle.mmu_core.specs.lines.SlotChangeKnows.{SlotChangeKnows}
 use Rattle.part_steps.specs.PageTopics.{filled_more}
+use Rattle.mmu_core.proofs.lines.EitherPlace.{either_place, one_place}
 use Rattle.mmu_core.proofs.pages.Owned.{more_filled}
-use Rattle.mmu_core.proofs.lines.ClaimMade.{claim_falls, claim_made, claim_left_after, word_there}
-use Rattle.mmu_core.proofs.lines.WatchMade.{watch_left_after, watch_falls, watch_made}
+use Rattle.mmu_laws.proofs.turns.Nearer.{Nearer, claim_nearer, watch_nearer}
+use Rattle.mmu_core.proofs.lines.ClaimMade.{claim_falls, claim_made, word_there}
+use Rattle.mmu_core.proofs.lines.WatchMade.{watch_falls, watch_made}
 
--- Where the line goes on it has fewer than n steps left.
-abbrev pub Nearer : Outcome → Sizes → Topics → ℕ → Type 0
-Nearer (Goes p) y u n = steps_left p y u < n
-Nearer (Ends answer) y u n = Unit {0}
-
--- the same of a place of a slot line
+-- where it goes on at a place of a slot line
 abbrev At : SlotChangePlace → Sizes → Topics → ℕ → Type 0
 At p y u n = Nearer (Goes (place.SlotChange p)) y u n
-
-either : (b : Bool) (p q : SlotChangePlace) (y : Sizes) (u : Topics) (n : ℕ) → At p y u n → At q y u n → At (if b then p else q) y u n
-either true p q y u n first second = first
-either false p q y u n first second = second
-
--- the claim
-pub claim_nearer : (next : ClaimNext) (y : Sizes) (u : Topics) (n : ℕ) → claim_left_after next y u.claim < n
-    → Nearer (after_claim next) y u (520 + actors_of y + n)
-claim_nearer claims.Goes y u n less = omega (arith, less)
-claim_nearer claims.Got y u n less = omega (arith, less)
-claim_nearer claims.Empty y u n less = tt
-
--- the page's words
-fill_nearer : (more : Bool) (y : Sizes) (t : Topics) (v : ℕ) → HasToFill t
-    → At (if more then Fill else Role) y (record t { owned = filled_more t.owned v }) (7 + actors_of y + (513 - words_filled t.owned))
-fill_nearer true y t v F = omega (arith, F.1, more_filled t.owned v F.0)
-fill_nearer false y t v F = omega (arith, F.1)
-
--- the lock
-excluded_nearer : (free : Bool) (y : Sizes) (u : Topics) → not free ≡ false → At (if free then Count else Exclude) y u (7 + actors_of y)
-excluded_nearer true y u goes = omega arith
-excluded_nearer false y u goes = absurd (cc goes)
-
--- the watch
-watch_nearer : (next : WatchNext) (y : Sizes) (u : Topics) (n : ℕ) → watch_left_after next (actors_of y) u < n → At (after_watch next) y u (3 + n)
-watch_nearer watches.Last y u n less = omega arith
-watch_nearer _ y u n less = omega (arith, less)
 
 pub slot_change_nearer : (p : SlotChangePlace) (h : Held) (command : Command) (v : ℕ) → PartRests h → SlotChangeKnows p h
     → part_waits (slot_change_part p h command) h.topics v ≡ false
     → Nearer (slot_change_outcome p h v) h.state.sizes (part_topics (slot_change_part p h command) h.topics v) (slot_change_left p h.state.sizes h.topics)
 slot_change_nearer (Refuse refusal) h command v R K goes = tt
 slot_change_nearer (Claim begun) h command v R K goes =
-    claim_nearer (claim_next begun h.state.sizes h.topics.claim v) h.state.sizes (part_topics (claim_part begun h.topics.claim) h.topics v) (claim_left begun h.state.sizes h.topics.claim)
-    (claim_falls h.state.sizes begun h.topics v _ _ _ (claim_made h.state.sizes begun h.topics v) goes (word_there begun h.state.sizes h.topics.claim R.sizes K.1))
-slot_change_nearer Fill h command v R K goes = fill_nearer (nat_lt (words_filled h.topics.owned + 1) 512) h.state.sizes h.topics v K.1
-slot_change_nearer Exclude h command v R K goes = excluded_nearer (v == 0) h.state.sizes (part_topics part.Exclude h.topics v) goes
+    let low = word_there begun h.state.sizes h.topics.claim R.sizes K.1 in
+    let less = claim_falls h.state.sizes begun h.topics v _ _ _ (claim_made h.state.sizes begun h.topics v) goes low in
+    let left = claim_left begun h.state.sizes h.topics.claim in
+    claim_nearer (claim_next begun h.state.sizes h.topics.claim v) (place.SlotChange (Claim true)) (place.SlotChange Fill) h.state.sizes
+    (part_topics (claim_part begun h.topics.claim) h.topics v) (520 + actors_of h.state.sizes) left less refl (omega arith)
+slot_change_nearer Fill h command v R K goes =
+    let room = K.1.1 in
+    let more = more_filled h.topics.owned v K.1.0 in
+    one_place (λ q. At q h.state.sizes (record h.topics { owned = filled_more h.topics.owned v }) (slot_change_left Fill h.state.sizes h.topics))
+    (nat_lt (words_filled h.topics.owned + 1) 512) Fill Role (λ e. omega (arith, room, more)) (λ e. omega (arith, room))
+slot_change_nearer Exclude h command v R K goes =
+    one_place (λ q. At q h.state.sizes (part_topics part.Exclude h.topics v) (7 + actors_of h.state.sizes)) (v == 0) Count Exclude (λ e. omega arith)
+    (λ e. absurd (cc (goes, ap not e)))
 slot_change_nearer Count h command v R K goes =
-    either (v == 0) Publish Close h.state.sizes (part_topics part.Count h.topics v) (6 + actors_of h.state.sizes) (omega arith) (omega arith)
+    either_place (λ q. At q h.state.sizes (part_topics part.Count h.topics v) (6 + actors_of h.state.sizes)) (v == 0) Publish Close (omega arith) (omega arith)
 slot_change_nearer Close h command v R K goes = let sees = K.2 in absurd (cc (goes, sees))
 slot_change_nearer Watch h command v R K goes =
-    watch_nearer (watch_next h v) h.state.sizes (part_topics (part.Watch (looked_at h)) h.topics v) (actors_of h.state.sizes - h.topics.watched) (watch_falls (own_index h) (actors_of h.state.sizes) h.topics v _ _ (watch_made h v) goes K.2)
+    let less = watch_falls (own_index h) (actors_of h.state.sizes) h.topics v _ _ (watch_made h v) goes K.2 in
+    let left = actors_of h.state.sizes - h.topics.watched in
+    watch_nearer (λ q. place.SlotChange q) (watch_next h v) Watch Clear h.state.sizes (part_topics (part.Watch (looked_at h)) h.topics v) 3 left less
+    refl (omega arith)
 slot_change_nearer Give h command v R K goes = tt
 slot_change_nearer _ h command v R K goes = omega arith

@@ -50,7 +50,7 @@ use Rattle.part_steps.specs.ControlTopics.{at_root}
 use Rattle.mmu_core.specs.machine.View.{answer_in}
 use Rattle.mmu_laws.proofs.alone.GoesAlone.{topics_at}
 use Rattle.mmu_core.proofs.lines.FaultFalls.{fault_falls}
-pub use Rattle.mmu_laws.proofs.turns.SlotChangeNearer.{Nearer}
+pub use Rattle.mmu_laws.proofs.turns.Nearer.{Nearer}
 use Rattle.mmu_laws.proofs.turns.SlotChangeNearer.{slot_change_nearer}
 use Rattle.mmu_core.proofs.lines.FaultKnown.{above_lowest}
 use Rattle.mmu_core.proofs.lines.AccessLeft.{two_left}
