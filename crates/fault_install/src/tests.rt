@@ -37,17 +37,6 @@ const PAGE_5: usize = 2656;
 // the page of the set before. The set stands in page 2 then, and page 1 is free.
 const SETTING: u64 = 524;
 
-// Any line: each takes the same room.
-const LINE: Line = Line {
-    number: 3,
-    actor: Actor::Vcpu(0),
-    command: Command::Access {
-        gfn: 0,
-        word: 0,
-        op: Op::Read,
-    },
-};
-
 fn header(alloc: Global, pool: u32) -> Result<Header, NoMemory>
     ensures { IfOk result (λ h. h ≡ record { version = 1; vcpus = 2; workers = 0; pages = 70; frames = 130; words = 2; pool = pool; cache = 64; manual = 0; hosts = 0 ∷ [] }) }
 {
@@ -70,7 +59,7 @@ fn run_lines<S: Stepper>(s: &mut S, steps: u64) -> Result<(), NoMemory>
     ensures same { ((S.seat s.new).actor ≡ (S.seat s.old).actor) × (S.frame s.new ≡ S.frame s.old) }
 {
     for _ in 0..steps {
-        s.reserve(&LINE)?;
+        s.reserve()?;
         if s.hand().next_line().is_some() {
             rests(s.hand());
             let kind = next_kind(s.hand());
@@ -170,16 +159,17 @@ fn start(alloc: Global, trace: &Trace) -> Result<PlainMachine, Fail>
 fn fault_of(hand: &Hand) -> Option<FaultJob>
     ensures { IfSome result (λ job. StandsInLine job hand.now.core) }
 {
-    let _next = hand.next_line()?;
-    let state = hand.progress();
-    let Place::Access(AccessPlace::Fault(_)) = state.place else {
+    if !hand.has_line() {
+        return None;
+    }
+    let Place::Access(AccessPlace::Fault(_)) = hand.progress().place else {
         return None;
     };
-    let Command::Access { gfn, op, .. } = state.line.command else {
+    let Command::Access { gfn, op, .. } = &hand.line().command else {
         return None;
     };
     Some(FaultJob {
-        gfn,
+        gfn: *gfn,
         write: op.is_write(),
     })
 }
@@ -202,7 +192,7 @@ fn go_to_fault<S: Stepper>(s: &mut S) -> Result<(), Fail>
 fn run<S: Stepper>(s: &mut S, stops: bool) -> Result<(u64, Turn<Faulted>), Fail> {
     let link = Place::Access(AccessPlace::Fault(FaultPlace::Link));
     for turns in 0..9000 {
-        s.reserve(&LINE)?;
+        s.reserve()?;
         let Some(job) = fault_of(s.hand()) else {
             return Err(Fail::new("the line stands in no fault"));
         };

@@ -4,7 +4,7 @@ ghost use Rattle.std.specs.Prelude.{◌≡◌, ◌<◌, [], ◌∷◌, IfOk, len
 ghost use Rattle.core_views.specs.Sizes.{index_of, sizes_of};
 
 use crate::{Watch, begin, end};
-use core_views::{Actor, Command, Header, Line, Lines, NoMemory, Op, Seen, Trace, Words};
+use core_views::{Actor, Header, Lines, NoMemory, Seen, Trace, Words};
 use mmu_core::{allows, part_rests};
 use part_steps::PartStep;
 use std::alloc::Global;
@@ -19,24 +19,11 @@ const H0: Actor = Actor::Host(0);
 
 const VM: Actor = Actor::Manager;
 
-// Some line of the actor, for which room is taken.
-fn line_of(actor: Actor) -> Line {
-    Line {
-        number: 2,
-        actor,
-        command: Command::Access {
-            gfn: 0,
-            word: 0,
-            op: Op::Read,
-        },
-    }
-}
-
 // The step on the actor's own state word, where it is allowed.
 fn go<S: Stepper>(seat: &mut S, actor: Actor, step: PartStep) -> Result<bool, NoMemory>
     ensures same { ((S.seat seat.new).actor ≡ (S.seat seat.old).actor) × (S.frame seat.new ≡ S.frame seat.old) }
 {
-    seat.reserve(&line_of(actor))?;
+    seat.reserve()?;
     if !allows(seat.hand(), step, 0) {
         return Ok(false);
     }
@@ -67,7 +54,7 @@ fn look<S: Stepper>(
 ) -> Result<Option<Turn<()>>, NoMemory>
     ensures same { ((S.seat seat.new).actor ≡ (S.seat seat.old).actor) × (S.frame seat.new ≡ S.frame seat.old) }
 {
-    seat.reserve(&line_of(actor))?;
+    seat.reserve()?;
     let hand = seat.hand();
     part_rests(hand);
     let index = watch.next_look(hand);

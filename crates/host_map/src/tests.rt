@@ -66,9 +66,9 @@ fn access_line(number: u32, op: Op) -> Line
 }
 
 // Makes the steps of the seat's lines until none is left.
-fn run<S: Stepper>(seat: &mut S, line: &Line) -> Result<(), NoMemory> {
+fn run<S: Stepper>(seat: &mut S) -> Result<(), NoMemory> {
     for _ in 0..600 {
-        seat.reserve(line)?;
+        seat.reserve()?;
         let hand = seat.hand();
         if hand.next_line().is_none() {
             break;
@@ -84,13 +84,12 @@ fn run<S: Stepper>(seat: &mut S, line: &Line) -> Result<(), NoMemory> {
 // makes it: a read by `load`, the others by `touch`. `None` where none is.
 fn touch_next<S: Stepper>(
     seat: &mut S,
-    line: &Line,
     frame: u64,
     word: u8,
     op: Op,
 ) -> Result<Option<u64>, NoMemory> {
     for _ in 0..2000 {
-        seat.reserve(line)?;
+        seat.reserve()?;
         let hand = seat.hand();
         if hand.next_line().is_none() {
             break;
@@ -148,7 +147,7 @@ fn looks_at_a_page(rt: HostRuntime) -> Result<(), Fail> {
     let _sizes = machine.sizes();
     let mut seat = machine.as_actor(Actor::Vcpu(1));
     for (page, word) in [(0, 7), (66, 4096 * 66 + 7), (69, 4096 * 69 + 7)] {
-        seat.reserve(&slot_line())?;
+        seat.reserve()?;
         assert!(rt; allows(seat.hand(), PartStep::Host(page), 0));
         assert_eq!(rt; look(&mut seat, page, 0), word);
         assert_eq!(rt; seat.hand().topics().host, Some(HostLook { page, word }));
@@ -171,20 +170,20 @@ fn touches_a_word(rt: HostRuntime) -> Result<(), Fail> {
     let mut machine = PlainMachine::new(alloc, &trace)?;
     let _sizes = machine.sizes();
     let mut manager = machine.as_actor(Actor::Manager);
-    run(&mut manager, &slot_line())?;
+    run(&mut manager)?;
     drop(manager);
     let _sizes = machine.sizes();
     let mut vcpu = machine.as_actor(Actor::Vcpu(0));
     assert_eq!(rt;
-        touch_next(&mut vcpu, &write, 66, 1, Op::Write(77))?,
+        touch_next(&mut vcpu, 66, 1, Op::Write(77))?,
         Some(0)
     );
     assert_eq!(rt;
-        touch_next(&mut vcpu, &add, 66, 1, Op::Add(u64::MAX - 1))?,
+        touch_next(&mut vcpu, 66, 1, Op::Add(u64::MAX - 1))?,
         Some(77)
     );
-    assert_eq!(rt; touch_next(&mut vcpu, &read, 66, 1, Op::Read)?, Some(75));
-    assert_eq!(rt; touch_next(&mut vcpu, &read, 66, 1, Op::Read)?, None);
+    assert_eq!(rt; touch_next(&mut vcpu, 66, 1, Op::Read)?, Some(75));
+    assert_eq!(rt; touch_next(&mut vcpu, 66, 1, Op::Read)?, None);
     drop(vcpu);
     let closing = machine.into_closing();
     let words = closing.words.as_slice();

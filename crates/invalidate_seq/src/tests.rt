@@ -4,7 +4,7 @@ ghost use Rattle.core_views.specs.Traces.{IsTrace};
 
 use crate::{Check, Checked, Snapshot};
 use core_views::{
-    Actor, CheckStage, Command, Header, Hold, Invalidations, Line, Lines, NoMemory, Op, Trace,
+    Actor, CheckStage, Header, Hold, Invalidations, Lines, NoMemory, Trace,
     Words,
 };
 use mmu_core::allows;
@@ -48,24 +48,15 @@ fn finds_nothing_at_the_start(rt: HostRuntime) -> Result<(), Fail> {
     let mut machine = PlainMachine::new(alloc, &trace)?;
     let _sizes = machine.sizes();
     let mut seat = machine.as_actor(Actor::Vcpu(0));
-    let line = Line {
-        number: 2,
-        actor: Actor::Vcpu(0),
-        command: Command::Access {
-            gfn: 5,
-            word: 1,
-            op: Op::Read,
-        },
-    };
-    seat.reserve(&line)?;
+    seat.reserve()?;
     assert!(rt; allows(seat.hand(), PartStep::Seq, 0));
     assert!(rt; seat.hand().topics().hold == Hold::Loose);
     assert_eq!(rt; Snapshot::new().turn(&mut seat, 0), Turn::Done(0));
-    seat.reserve(&line)?;
+    seat.reserve()?;
     assert!(rt; allows(seat.hand(), PartStep::Share, 0));
     let _ = make_part(&mut seat, PartStep::Share, 0);
     let mut check = Check::new(5);
-    seat.reserve(&line)?;
+    seat.reserve()?;
     assert!(rt; allows(seat.hand(), PartStep::Count, 0));
     assert!(rt; seat.hand().topics().hold == Hold::Shared);
     assert!(rt; seat.hand().topics().invalidations.snapshot.is_some());
@@ -77,7 +68,7 @@ fn finds_nothing_at_the_start(rt: HostRuntime) -> Result<(), Fail> {
             stage: CheckStage::Seq
         }
     );
-    seat.reserve(&line)?;
+    seat.reserve()?;
     assert!(rt; allows(seat.hand(), PartStep::Seq, 0));
     assert_eq!(rt; check.turn(&mut seat, 0), Turn::Done(Checked::Fresh));
     Ok(())

@@ -5,7 +5,7 @@ ghost use Rattle.core_views.specs.declared.actor.Actor.TheVariants.{Manager};
 ghost use Rattle.core_views.specs.declared.trace.Command.TheVariants.{SetSlot};
 
 use crate::{Find, FoundSlot};
-use core_views::{Actor, Command, Header, Line, Lines, NoMemory, Op, Slot, Stay, Trace, Words};
+use core_views::{Actor, Command, Header, Line, Lines, NoMemory, Slot, Stay, Trace, Words};
 use mmu_core::{allows, next_kind, rests};
 use part_steps::PartStep;
 use std::alloc::Global;
@@ -34,24 +34,11 @@ fn header(alloc: Global) -> Result<Header, NoMemory>
 // the page of the set before.
 const SETTING: u64 = 524;
 
-// An access, for whose answer room is taken.
-fn access() -> Line {
-    Line {
-        number: 3,
-        actor: Actor::Vcpu(0),
-        command: Command::Access {
-            gfn: 5,
-            word: 1,
-            op: Op::Read,
-        },
-    }
-}
-
 // One step of the seat's line, where it has one left.
-fn step<S: Stepper>(seat: &mut S, line: &Line) -> Result<bool, NoMemory>
+fn step<S: Stepper>(seat: &mut S) -> Result<bool, NoMemory>
     ensures same { ((S.seat seat.new).actor ≡ (S.seat seat.old).actor) × (S.frame seat.new ≡ S.frame seat.old) }
 {
-    seat.reserve(line)?;
+    seat.reserve()?;
     if seat.hand().next_line().is_none() {
         return Ok(false);
     }
@@ -62,9 +49,9 @@ fn step<S: Stepper>(seat: &mut S, line: &Line) -> Result<bool, NoMemory>
 }
 
 // The steps of the seat's lines until none is left: how many they were.
-fn run<S: Stepper>(seat: &mut S, line: &Line) -> Result<u64, NoMemory> {
+fn run<S: Stepper>(seat: &mut S) -> Result<u64, NoMemory> {
     for made in 0..600 {
-        if !step(seat, line)? {
+        if !step(seat)? {
             return Ok(made);
         }
     }
@@ -73,7 +60,7 @@ fn run<S: Stepper>(seat: &mut S, line: &Line) -> Result<u64, NoMemory> {
 
 // Begins a section, where the hand allows it.
 fn begin<S: Stepper>(seat: &mut S) -> Result<bool, NoMemory> {
-    seat.reserve(&access())?;
+    seat.reserve()?;
     let allowed = allows(seat.hand(), PartStep::Begin, 0);
     if allowed {
         let _ = make_part(seat, PartStep::Begin, 0);
@@ -86,7 +73,7 @@ fn turn<S: Stepper>(
     find: &mut Find,
     seat: &mut S,
 ) -> Result<Option<Turn<Option<FoundSlot>>>, NoMemory> {
-    seat.reserve(&access())?;
+    seat.reserve()?;
     let in_section = seat.hand().topics().stay == Stay::Section;
     let allowed = if find.begun {
         allows(seat.hand(), PartStep::Slot, 0)
@@ -161,7 +148,7 @@ fn finds_the_slot_of_a_frame(rt: HostRuntime) -> Result<(), Fail> {
     let mut machine = PlainMachine::new(alloc, &trace)?;
     let _sizes = machine.sizes();
     let mut manager = machine.as_actor(Actor::Manager);
-    assert_eq!(rt; run(&mut manager, &line)?, SETTING);
+    assert_eq!(rt; run(&mut manager)?, SETTING);
     drop(manager);
     let _sizes = machine.sizes();
     let found = FoundSlot {

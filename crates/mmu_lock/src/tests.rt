@@ -4,7 +4,7 @@ ghost use Rattle.core_views.specs.Sizes.{index_of};
 
 use crate::untold::{UntoldSeat, exclusive_untold};
 use crate::{Lock, try_exclusive, try_shared, unlock};
-use core_views::{Actor, Command, Header, Hold, Line, Lines, NoMemory, Op, Trace, Words};
+use core_views::{Actor, Header, Hold, Lines, NoMemory, Trace, Words};
 use mmu_core::allows;
 use part_steps::{PartStep, WRITER};
 use std::alloc::Global;
@@ -32,19 +32,6 @@ fn header(alloc: Global) -> Result<Header, NoMemory>
 fn machine(alloc: Global) -> Result<PlainMachine, NoMemory> {
     let trace = Trace::unscheduled(alloc, header(alloc)?, Lines::from_vec(Vec::new(alloc)));
     PlainMachine::new(alloc, &trace)
-}
-
-// A line to take room for.
-fn any_line() -> Line {
-    Line {
-        number: 2,
-        actor: Actor::Manager,
-        command: Command::Access {
-            gfn: 0,
-            word: 0,
-            op: Op::Read,
-        },
-    }
 }
 
 // A turn of a reader's try, where the hand allows its step.

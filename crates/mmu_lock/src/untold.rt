@@ -7,7 +7,7 @@ ghost use Rattle.part_steps.specs.declared.part_step.PartStep.TheVariants.{Exclu
 ghost use Rattle.step_seats.specs.Frames.{frame_of};
 
 use crate::{Lock, try_exclusive};
-use core_views::{Hand, Kind, Line, NoMemory};
+use core_views::{Hand, Kind, NoMemory};
 use step_seats::{ActorSeat, MachineFrame, Stepper};
 
 /// The seat of an actor, which tells neither the world nor the steps.

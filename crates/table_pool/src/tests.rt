@@ -8,7 +8,7 @@ ghost use Rattle.table_pool.specs.Claims.{claim_step};
 
 use crate::page::fill_step;
 use crate::{Claim, Claimed, Fill, Give};
-use core_views::{Actor, Command, Header, Line, Lines, NoMemory, Op, Seen, Trace, Words};
+use core_views::{Actor, Header, Lines, NoMemory, Seen, Trace, Words};
 use mmu_core::{allows, part_rests};
 use part_steps::{PartStep, map_of, words_filled};
 use spte_words::Area;
@@ -25,17 +25,6 @@ const MAP: usize = 12;
 const ROLE: usize = 90;
 
 const PAGE: usize = 1116;
-
-// Any line: each takes the same room.
-const LINE: Line = Line {
-    number: 1,
-    actor: Actor::Vcpu(0),
-    command: Command::Access {
-        gfn: 0,
-        word: 0,
-        op: Op::Read,
-    },
-};
 
 fn header(alloc: Global) -> Result<Header, NoMemory>
     ensures { IfOk result (λ h. h ≡ record { version = 1; vcpus = 2; workers = 0; pages = 70; frames = 130; words = 2; pool = 4; cache = 64; manual = 0; hosts = 0 ∷ [] }) }
@@ -67,7 +56,7 @@ fn make_ready<S: Stepper>(seat: &mut S, step: PartStep) -> Result<(), Fail>
     ensures room { OnOk result (0 < (S.seat seat.new).room) }
     ensures hand { (S.seat seat.new).hand ≡ (S.seat seat.old).hand }
 {
-    seat.reserve(&LINE)?;
+    seat.reserve()?;
     if !allows(seat.hand(), step, 0) {
         return Err(Fail::new("the hand allows no such step"));
     }
@@ -91,7 +80,7 @@ fn expect_claim<S: Stepper>(seat: &S, job: &Claim) -> Result<(), Fail>
 }
 
 fn claim_by<S: Stepper>(seat: &mut S, job: &mut Claim) -> Result<Turn<Claimed>, Fail> {
-    seat.reserve(&LINE)?;
+    seat.reserve()?;
     expect_claim(seat, job)?;
     Ok(job.turn(seat, 0))
 }

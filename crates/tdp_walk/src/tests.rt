@@ -3,7 +3,7 @@ ghost use Rattle.std.specs.Prelude.{◌≡◌, [], ◌∷◌, IfOk};
 ghost use Rattle.core_views.specs.Traces.{IsTrace};
 
 use crate::{Walk, Walked};
-use core_views::{Actor, Command, Header, Line, Lines, NoMemory, Op, Stay, Trace, Words};
+use core_views::{Actor, Header, Lines, NoMemory, Stay, Trace, Words};
 use mmu_core::allows;
 use part_steps::PartStep;
 use std::alloc::Global;
@@ -45,15 +45,6 @@ fn ends_at_the_empty_root(rt: HostRuntime) -> Result<(), Fail> {
     let mut machine = PlainMachine::new(alloc, &trace)?;
     let _sizes = machine.sizes();
     let mut seat = machine.as_actor(Actor::Vcpu(0));
-    let line = Line {
-        number: 2,
-        actor: Actor::Vcpu(0),
-        command: Command::Access {
-            gfn: 5,
-            word: 1,
-            op: Op::Read,
-        },
-    };
     seat.reserve()?;
     assert!(rt; allows(seat.hand(), PartStep::Begin, 0));
     let _ = make_part(&mut seat, PartStep::Begin, 0);

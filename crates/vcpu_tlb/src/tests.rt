@@ -3,7 +3,7 @@ ghost use Rattle.std.specs.Prelude.{◌≡◌, ◌<◌, [], ◌∷◌, IfOk, len
 ghost use Rattle.core_views.specs.Traces.{IsTrace};
 
 use crate::{Entered, enter, leave, paused};
-use core_views::{Actor, Command, Header, Line, Lines, NoMemory, Op, Trace, Words};
+use core_views::{Actor, Header, Lines, NoMemory, Trace, Words};
 use mmu_core::allows;
 use part_steps::PartStep;
 use std::alloc::Global;
@@ -34,19 +34,6 @@ fn trace(alloc: Global) -> Result<Trace, NoMemory>
     ensures vcpus { IfOk result (λ t. t.header.vcpus ≡ 2) }
 {
     Ok(Trace::unscheduled(alloc, header(alloc)?, Lines::from_vec(Vec::new(alloc))))
-}
-
-// A line to reserve room with.
-fn line() -> Line {
-    Line {
-        number: 2,
-        actor: Actor::Vcpu(0),
-        command: Command::Access {
-            gfn: 5,
-            word: 1,
-            op: Op::Read,
-        },
-    }
 }
 
 // Virtual processor 0 looks at the pause, enters, leaves and enters anew. No step
