@@ -1,5 +1,5 @@
 -- What a run of the engine wrote is what the program owes, by how it ended.
-use Rattle.std.proofs.Common.{◌≡◌, ◌⊎◌, inl, inr, ℕ, List, [], ◌++◌, Result, Ok, Err, refl}
+use Rattle.std.proofs.Common.{◌≡◌, ◌⊎◌, inl, inr, ℕ, List, [], ◌++◌, Result, Ok, Err, ap, refl}
 use Rattle.std.specs.declared.option.Option.{Option}
 use Rattle.core_views.specs.declared.no_memory.NoMemory.{NoMemory}
 use Rattle.core_views.specs.declared.trace.Trace.{Trace}
@@ -12,6 +12,7 @@ use Rattle.weave_engine.specs.Writes.{ReplaysBy, WritesReplay}
 use Rattle.weave_engine.specs.Woven.{RanFaults, RoseBy, WritesBy, WritesWeave}
 use Rattle.weave_engine.specs.declared.ran.How.{How}
 use Rattle.weave_engine.specs.declared.ran.How.TheVariants.{Done, Unfinished, WriteFault}
+use Rattle.weave_engine.specs.declared.ran.OpenLine.{OpenLine}
 use Rattle.weave_engine.specs.declared.ran.Ran.{Ran}
 use Rattle.tdpmmu.specs.Output.{IsWrittenLine}
 use Rattle.tdpmmu.specs.Run.{WriteCause, rounds_limit}
@@ -29,8 +30,8 @@ most_written before after text L = record { earlier = L.earlier; last = L.last; 
 weave_by : (trace : Trace) (closing : World Held) (before after : Option (List ℕ)) (how : How) → WritesBy trace rounds_limit closing before after how → WritesOutput Weave trace before after (status_how how)
 weave_by trace closing before after Done (bytes, all, writes) = (bytes, (closing, all), writes)
 weave_by trace closing before after WriteFault (text, so_far, most) = (text, (closing, so_far), most_written before after text most)
-weave_by trace closing before after (Unfinished actor number) (line, whose, which, (bytes, part, writes)) =
-    (bytes ++ unfinished_text line, (closing, bytes, line, part, whose, which, refl), writes)
+weave_by trace closing before after (Unfinished actor number) (line, is, (bytes, part, writes)) =
+    (bytes ++ unfinished_text line, (closing, bytes, line, part, ap (λ (x : OpenLine). x.actor) is, ap (λ (x : OpenLine). x.number) is, refl), writes)
 
 pub weave_writes : (trace : Trace) (before after : Option (List ℕ)) (ran : Result Ran NoMemory) → WritesWeave trace rounds_limit before after ran → WritesOutput Weave trace before after (status_by ran)
 weave_writes trace before after (Ok ran) writes = weave_by trace (world_of ran.closing.words ran.closing.hands) before after ran.how writes
