@@ -3,7 +3,7 @@ ghost use Rattle.std.specs.Prelude.{◌≡◌, ◌<◌, IfSome};
 ghost use Rattle.core_views.specs.Slots.{is_write};
 ghost use Rattle.mmu_core.specs.lines.FaultSteps.{allows_access};
 ghost use Rattle.spte_words.specs.Entries.{kind_of};
-ghost use Rattle.mmu_core.specs.lines.AccessSteps.{access_caches, access_loads, access_note, access_outcome, access_part, access_task, behind_fault, touch_of, walk_next};
+ghost use Rattle.mmu_core.specs.lines.AccessSteps.{access_caches, access_loads, access_note, access_outcome, access_part, access_task, behind_fault, touch_of, use_found, walk_next};
 ghost use Rattle.part_steps.specs.PartBounds.{IsAtLeafLevel, PartRests};
 ghost use Rattle.mmu_core.specs.lines.Cached.{allows, covers, first_usable, frame_used, is_usable};
 ghost use Rattle.part_steps.specs.PartSteps.{PartNeeds};
@@ -148,44 +148,44 @@ fn behind_fault(next: FaultNext) -> Outcome
 }
 
 /// Where the line stands after the step of this place, and the translation that the
-/// access uses then.
+/// access uses from now on, where the step found one.
 pub(crate) fn outcome(
     place: AccessPlace,
     hand: &Hand,
     gfn: u64,
     op: Op,
     found: u64,
-) -> (Outcome, Translation)
+) -> (Outcome, Option<Translation>)
     requires rests { RestsOn (access_part place gfn hand.now.core.topics) gfn (is_write op) hand.now.core }
     requires part { PartRests hand.now.core }
     ensures outcome { result.0 ≡ access_outcome place hand.now.core gfn op found }
-    ensures used { result.1 ≡ (access_loads place hand.now.core gfn op found).used }
+    ensures used { use_found result.1 hand.now.core.state.used ≡ (access_loads place hand.now.core gfn op found).used }
 {
-    let used = hand.progress().used;
     let (next, used) = match place {
-        AccessPlace::Enter { again } => (AccessPlace::Pause { again }, used),
+        AccessPlace::Enter { again } => (AccessPlace::Pause { again }, None),
         AccessPlace::Pause { again } => match lookup(hand.cache(), gfn, op.is_write()) {
-            Some(translation) => (AccessPlace::Touch, translation),
-            None => (AccessPlace::Root { again }, used),
+            Some(translation) => (AccessPlace::Touch, Some(translation)),
+            None => (AccessPlace::Root { again }, None),
         },
-        AccessPlace::Root { again } => (AccessPlace::Walk { again }, used),
+        AccessPlace::Root { again } => (AccessPlace::Walk { again }, None),
         AccessPlace::Walk { again } => {
             let level = hand.topics().walk.level;
             let leaf = found;
-            (walk_next(again, level, op, found), Translation { gfn, level, leaf })
+            let used = Translation { gfn, level, leaf };
+            (walk_next(again, level, op, found), Some(used))
         }
         AccessPlace::Touch => {
             let frame = frame_used(hand, gfn);
             let value = found;
-            (AccessPlace::Leave(Leaving::Reached { frame, value }), used)
+            (AccessPlace::Leave(Leaving::Reached { frame, value }), None)
         }
         AccessPlace::Leave(Leaving::Reached { frame, value }) => {
-            return (Outcome::Ends(Answer::Reached { frame, value }), used);
+            return (Outcome::Ends(Answer::Reached { frame, value }), None);
         }
-        AccessPlace::Leave(Leaving::Faults) => (AccessPlace::Fault(FaultPlace::Begin), used),
+        AccessPlace::Leave(Leaving::Faults) => (AccessPlace::Fault(FaultPlace::Begin), None),
         AccessPlace::Fault(place) => {
             let next = fault::next(place, hand, gfn, op.is_write(), found);
-            return (behind_fault(next), used);
+            return (behind_fault(next), None);
         }
     };
     (Outcome::Goes(Place::Access(next)), used)

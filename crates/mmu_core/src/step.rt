@@ -3,6 +3,7 @@ ghost use Rattle.std.specs.Prelude.{◌≡◌, ◌<◌, ◌+◌, Some, length, t
 ghost use Rattle.core_views.specs.Sizes.{AreSizes};
 ghost use Rattle.core_views.specs.Traces.{IsCommandFor};
 ghost use Rattle.mmu_core.specs.lines.Forms.{AcceptsAt, RestsAt, part_at, caches_at, first_place, loads_at, outcome_at, records_at};
+ghost use Rattle.mmu_core.specs.lines.AccessSteps.{use_found};
 ghost use Rattle.mmu_core.specs.lines.Rests.{IsUnderWay, Rests};
 ghost use Rattle.mmu_core.specs.machine.Enabled.{Enabled};
 ghost use Rattle.mmu_core.specs.machine.Steps.{has_line, line_after, line_at, next, next_line, place_at, standing, task_at};
@@ -18,7 +19,7 @@ use crate::delays::{delays_behind, is_delay, steps_behind};
 use crate::outcome::Outcome;
 use crate::{access, slot_change};
 use core_views::{
-    AccessPlace, AnsweredLine, Command, Hand, Kind, Line, Place, StepKind, Translation,
+    AccessPlace, AnsweredLine, Command, Hand, Kind, Line, Place, Progress, StepKind, Translation,
 };
 use part_steps::{PartStep, Task, kind_of, step_topics};
 
@@ -111,9 +112,12 @@ fn fill_cache(place: Place, hand: &mut Hand, found: u64)
     ensures core { hand.new.core ≡ record hand.old.core { cached = caches_at place (next_line hand.old.core).command hand.old.core found } }
     ensures room { hand.new.room ≡ hand.old.room }
 {
-    if let (Place::Access(place), Command::Access { gfn, op, .. }) = (place, &hand.line().command) {
+    let Place::Access(AccessPlace::Walk { again }) = place else {
+        return;
+    };
+    if let Command::Access { gfn, op, .. } = &hand.line().command {
         let (gfn, op) = (*gfn, *op);
-        access::fill_cache(place, hand, gfn, op, found);
+        access::fill_cache(AccessPlace::Walk { again }, hand, gfn, op, found);
     }
 }
 
@@ -130,21 +134,36 @@ fn record_step(place: Place, hand: &mut Hand)
     }
 }
 
-// Where the line stands after the step of a place, and the translation that it uses then.
-fn outcome(place: Place, command: &Command, hand: &Hand, found: u64) -> (Outcome, Translation)
+// Where the line stands after the step of a place, and the translation that it uses from
+// now on, where the step found one.
+fn outcome(
+    place: Place,
+    command: &Command,
+    hand: &Hand,
+    found: u64,
+) -> (Outcome, Option<Translation>)
     requires part { PartRests hand.now.core }
     requires rests { RestsAt place command.now hand.now.core }
     ensures outcome { result.0 ≡ outcome_at place command.now hand.now.core found }
-    ensures used { result.1 ≡ (loads_at place command.now hand.now.core found).used }
+    ensures used { use_found result.1 hand.now.core.state.used ≡ (loads_at place command.now hand.now.core found).used }
 {
     match (place, command) {
         (Place::Access(place), Command::Access { gfn, op, .. }) => {
             access::outcome(place, hand, *gfn, *op, found)
         }
         (Place::SlotChange(place), _) => {
-            (slot_change::outcome(place, hand, found), hand.progress().used)
+            (slot_change::outcome(place, hand, found), None)
         }
-        _ => (Outcome::Goes(place), hand.progress().used),
+        _ => (Outcome::Goes(place), None),
+    }
+}
+
+// The translation is used from now on, if there is one.
+fn use_translation(progress: &mut Progress, found: Option<Translation>)
+    ensures { progress.new ≡ record progress.old { used = use_found found progress.old.used } }
+{
+    if let Some(translation) = found {
+        progress.used = translation;
     }
 }
 
@@ -169,7 +188,7 @@ fn advance_line(hand: &mut Hand, place: Place, found: u64)
     record_step(place, hand);
     fill_cache(place, hand, found);
     let progress = hand.progress_mut();
-    progress.used = used;
+    use_translation(progress, used);
     progress.steps = steps;
     progress.delays = delays;
     match outcome {

@@ -1,5 +1,5 @@
 -- The hand that a line's step makes, field by field.
-use Rattle.std.specs.Prelude.{Bool}
+use Rattle.std.specs.Prelude.{Bool, Option}
 use Rattle.std.proofs.Common.{◌≡◌, ℕ, suc, List, [], ◌∷◌, ◌++◌, length, refl, sym, ap, ◌∙◌, arith}
 use Rattle.std.proofs.lemmas.List.{length_push}
 use Rattle.circular_buffer.specs.Buffer.{Buffer}
@@ -19,7 +19,7 @@ use Rattle.core_views.specs.declared.hand.Progress.{Progress}
 use Rattle.core_views.specs.Held.{Held, State, line_under, next_line, progress_of}
 use Rattle.core_views.specs.SlotSets.{MemorySlots}
 use Rattle.mmu_core.specs.declared.outcome.Outcome.{Outcome}
-use Rattle.mmu_core.specs.lines.AccessSteps.{access_caches}
+use Rattle.mmu_core.specs.lines.AccessSteps.{access_caches, use_found}
 use Rattle.mmu_core.specs.lines.Delays.{counted, delays_counted, is_delay, steps_counted}
 use Rattle.mmu_core.specs.lines.Rests.{IsUnderWay}
 use Rattle.mmu_core.specs.machine.Steps.{delays_at, line_after}
@@ -28,7 +28,7 @@ use Rattle.mmu_core.specs.machine.Outcomes.{answers_after, place_after}
 use Rattle.mmu_core.proofs.machine.HandAfter.{IsSameState, loads_same}
 
 -- What is cached doesn't hang on the record of slots.
-abbrev with_slots : Held → MemorySlots → Held
+abbrev pub with_slots : Held → MemorySlots → Held
 with_slots h slots = record { state = h.state; topics = h.topics; cached = h.cached; slots = slots; lines = h.lines; answers = h.answers }
 
 access_caches_same : (p : AccessPlace) (h : Held) (slots : MemorySlots) (gfn : ℕ) (op : Op) (v : ℕ)
@@ -40,7 +40,7 @@ caches_same : (p : Place) (command : Command) (h : Held) (slots : MemorySlots) (
 caches_same (place.Access p) (Access gfn word op) h slots v = access_caches_same p h slots gfn op v
 caches_same _ _ h slots v = refl
 
-abbrev placed : Progress → Place → Line → Translation → ℕ → ℕ → Held → List AnsweredLine → Held
+abbrev pub placed : Progress → Place → Line → Translation → ℕ → ℕ → Held → List AnsweredLine → Held
 placed s q line used steps delays f answers = record {
   state = record { sizes = s.sizes; actor = s.actor; place = q; line = line; used = used; steps = steps; delays = delays };
   topics = f.topics;
@@ -50,7 +50,7 @@ placed s q line used steps delays f answers = record {
   answers = answers;
 }
 
-abbrev with_cached : Held → Buffer Translation → MemorySlots → Held
+abbrev pub with_cached : Held → Buffer Translation → MemorySlots → Held
 with_cached h c slots = record { state = h.state; topics = h.topics; cached = c; slots = slots; lines = h.lines; answers = h.answers }
 
 -- what was counted behind a step that is a delay, or none
@@ -109,3 +109,8 @@ pub filled_is : (h g f : Held) (line : Line) (p : Place) (v : ℕ) → line ≡ 
 filled_is h g f line p v line_is recorded filled =
     filled ∙ (ap (λ (x : Held). record x { cached = caches_at p (next_line x).command x v }) recorded
     ∙ ap (λ (l : Line). with_cached h (caches_at p l.command (with_slots h (records_at p l.command h.slots)) v) (records_at p l.command h.slots)) (sym line_is))
+
+-- What its step found is used from then on.
+pub used_behind : (h f : Held) (found : Option Translation) (p : Progress) {c : Buffer Translation} {slots : MemorySlots} → f ≡ with_cached h c slots
+    → p ≡ progress_of f.state → use_found found p.used ≡ use_found found h.state.used
+used_behind h f found p f_is p_is = ap (λ (x : Progress). use_found found x.used) p_is ∙ ap (λ (x : Held). use_found found x.state.used) f_is
