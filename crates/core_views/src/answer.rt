@@ -5,7 +5,7 @@ use crate::{Actor, Sequence};
 use std::fmt;
 
 /// What a line of the trace is answered.
-#[derive(Clone, Copy, Debug, PartialEq, Eq, Drop)]
+#[derive(Clone, Debug, PartialEq, Eq, Drop)]
 pub enum Answer {
     /// An access reached this host frame; `value` is the content word before it.
     Reached { frame: u64, value: u64 },
@@ -67,7 +67,7 @@ impl Refusal {
 }
 
 /// A line that was answered: its number in the file, its actor, its answer.
-#[derive(Clone, Copy, Debug, PartialEq, Eq, Drop)]
+#[derive(Clone, Debug, PartialEq, Eq, Drop)]
 pub struct AnsweredLine {
     pub number: u32,
     pub actor: Actor,

@@ -23,10 +23,10 @@ use Rattle.slot_change.specs.Places.{IsAt, MakesStep, ToldWay}
 use Rattle.step_seats.specs.Seats.{Seat}
 use Rattle.step_seats.specs.declared.turn.Turn.{Turn}
 use Rattle.step_seats.specs.declared.turn.Turn.TheVariants.{More, Wait, Done}
-use Rattle.step_seats.specs.LineTurns.{Gives, TurnsLine, line_seen, line_turn, turn_of}
+use Rattle.step_seats.specs.LineTurns.{Gives, TurnsLine, line_seen, line_turn, turn_of, turn_told}
 use Rattle.step_seats.proofs.Answering.{turn_is_done, turn_is_more}
 use Rattle.step_seats.proofs.LineParts.{place_may_make}
-use Rattle.step_seats.proofs.LineTurns.{made_line}
+use Rattle.step_seats.proofs.LineTurns.{made_line, turns_told}
 
 -- The hand's next line stands at this place.
 pub record StandsInLine (p : SlotChangePlace) (note : ℕ) (h : Held) : Type 0 where
@@ -80,9 +80,10 @@ module _ (way : Option Seen) (p : SlotChangePlace) (note : ℕ) (before after : 
   kind = part_kind before.hand (slot_change_part p before.hand (line_of before.hand).command) note
 
   pub change_done : (i : ℕ) (seen : List AnsweredLine) (x : AnsweredLine) → way ≡ None → seen ≡ after.hand.answers → i ≡ length before.hand.answers
-      → i < length seen → x ≡ get_or seen i x → TurnsLine (Done x.answer) before after
+      → i < length seen → x ≡ get_or seen i x → TurnsLine (turn_told (Done tt) before.hand after.hand) before after
   change_done i seen x is answers at below got =
-      turns (Done x.answer) (free is, turn_is_done before.hand after.hand kind M.found i seen x L.is_at.left M.made.hand answers at below got ∙ ap turn_of outcome_is)
+      turns_told (Done x.answer) before after L.is_at.left
+      (turns (Done x.answer) (free is, turn_is_done before.hand after.hand kind M.found i seen x L.is_at.left M.made.hand answers at below got ∙ ap turn_of outcome_is))
 
   pub change_more : (i : ℕ) (seen : List AnsweredLine) → way ≡ None → seen ≡ after.hand.answers → i ≡ length before.hand.answers → length seen ≤ i
       → TurnsLine More before after

@@ -2,11 +2,11 @@ ghost use Rattle.std.specs.Prelude.{◌≡◌, ◌<◌, length, true};
 ghost use Rattle.core_views.specs.SlotCommands.{changes_slot};
 ghost use Rattle.mmu_core.specs.machine.Turns.{IsSameHand, line_of};
 ghost use Rattle.slot_change.specs.Places.{IsAt, MakesStep};
-ghost use Rattle.step_seats.specs.LineTurns.{Says, TurnsLine};
+ghost use Rattle.step_seats.specs.LineTurns.{Says, TurnsLine, turn_told};
 ghost use Rattle.step_seats.specs.Moves.{KeepsRoom};
 
 use crate::places;
-use core_views::{Answer, Seen, SlotChangePlace};
+use core_views::{Seen, SlotChangePlace};
 use invalidate_seq::Snapshot;
 use mmu_core::{change_note, change_place, knows, rests};
 use part_steps::PartStep;
@@ -22,17 +22,17 @@ pub struct SlotJob {
 }
 
 impl SlotJob {
-    /// Makes the next step of the line, and says whether it is answered: `Done`, with
-    /// the answer, behind its last step. `Wait` where a page was claimed by another
-    /// actor meanwhile, the lock's word isn't 0, an invalidation is open, or another
+    /// Makes the next step of the line, and says whether it is answered: `Done` after
+    /// its last step, where the hand has the answer. `Wait` where a page was claimed by
+    /// another actor meanwhile, the lock's word isn't 0, an invalidation is open, or another
     /// actor that the watch looks at is in a section or in the guest; never `Retry`.
-    pub fn turn<S: Stepper>(&mut self, s: &mut S) -> Turn<Answer>
+    pub fn turn<S: Stepper>(&mut self, s: &mut S) -> Turn<()>
         requires left { length (S.seat s.old).hand.answers < length (S.seat s.old).hand.lines }
         requires next { self.old.index ≡ length (S.seat s.old).hand.answers }
         requires changes { changes_slot (line_of (S.seat s.old).hand).command ≡ true }
         requires reserved { 0 < (S.seat s.old).room }
-        ensures turns { TurnsLine result (S.seat s.old) (S.seat s.new) }
-        ensures says { Says result (line_of (S.seat s.old).hand) (S.seat s.old).hand (S.seat s.new).hand }
+        ensures turns { TurnsLine (turn_told result (S.seat s.old).hand (S.seat s.new).hand) (S.seat s.old) (S.seat s.new) }
+        ensures says { Says (turn_told result (S.seat s.old).hand (S.seat s.new).hand) (line_of (S.seat s.old).hand) (S.seat s.old).hand (S.seat s.new).hand }
         ensures hand { IsSameHand (S.seat s.old).hand (S.seat s.new).hand }
         ensures room { KeepsRoom (S.seat s.old) (S.seat s.new) }
         ensures job { self.new ≡ self.old }
@@ -47,7 +47,7 @@ impl SlotJob {
             return Turn::Wait(seen);
         }
         match s.hand().answers().get(self.index) {
-            Some(answered) => Turn::Done(answered.answer),
+            Some(_) => Turn::Done(()),
             None => Turn::More,
         }
     }

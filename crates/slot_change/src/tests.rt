@@ -1,17 +1,15 @@
 //! The manager's line at a machine of one virtual processor and one host thread: its
 //! state words are 8 to 10, and the lock is word 6. The slot is guest frames 0 to 15,
 //! at host pages 0 to 15.
-ghost use Rattle.std.specs.Prelude.{◌≡◌, ◌<◌, false, [], ◌∷◌, IfOk, IfSome, OnOk, length};
+ghost use Rattle.std.specs.Prelude.{◌≡◌, ◌<◌, false, [], ◌∷◌, IfOk, OnOk, length};
 ghost use Rattle.core_views.specs.Sizes.{index_of};
 ghost use Rattle.core_views.specs.Traces.{IsTrace};
 ghost use Rattle.core_views.specs.declared.actor.Actor.TheVariants.{Manager};
 ghost use Rattle.core_views.specs.declared.trace.Command.TheVariants.{SetSlot};
-ghost use Rattle.mmu_core.specs.machine.Turns.{line_of};
 
 use crate::SlotJob;
 use core_views::{
-    Actor, Answer, Command, Hand, Header, Line, Lines, NoMemory, Place, Refusal, Seen, Slot, Trace,
-    Words,
+    Actor, Answer, Command, Hand, Header, Line, Lines, NoMemory, Refusal, Seen, Slot, Trace, Words,
 };
 use mmu_core::allows;
 use part_steps::PartStep;
@@ -94,33 +92,36 @@ fn processor_makes(machine: &mut PlainMachine, step: PartStep) -> Result<(), Fai
     Ok(())
 }
 
-// The line that is under way, or the next one.
-fn line_left(hand: &Hand) -> Option<Line>
-    ensures left { IfSome result (λ line. length hand.now.core.answers < length hand.now.core.lines) }
-    ensures line { IfSome result (λ line. line ≡ line_of hand.now.core) }
-{
-    let next = hand.next_line()?;
-    match hand.progress().place {
-        Place::Between => Some(next),
-        Place::Access(_) | Place::SlotChange(_) => Some(hand.progress().line),
-    }
+// What a turn of the hand's line told: where the line is answered, what the hand has.
+fn told(said: Turn<()>, hand: &Hand) -> Result<Turn<Answer>, Fail> {
+    Ok(match said {
+        Turn::More => Turn::More,
+        Turn::Wait(seen) => Turn::Wait(seen),
+        Turn::Retry(cause) => Turn::Retry(cause),
+        Turn::Done(()) => {
+            let Some(last) = hand.answers().last() else {
+                return Err(Fail::new("the hand has no answer"));
+            };
+            Turn::Done(last.answer.clone()?)
+        }
+    })
 }
 
 // Makes a turn of the next line of the seat, where it sets a slot.
 fn turn<S: Stepper>(s: &mut S) -> Result<Turn<Answer>, Fail> {
     s.reserve()?;
-    let Some(line) = line_left(s.hand()) else {
+    let hand = s.hand();
+    if !hand.has_line() {
         return Err(Fail::new("no line is left"));
-    };
-    let Command::SetSlot { .. } = line.command else {
+    }
+    let Command::SetSlot { .. } = &hand.line().command else {
         return Err(Fail::new("it sets no slot"));
     };
-    let index = s.hand().answers().len();
     let mut job = SlotJob {
-        index,
-        command: line.command,
+        index: hand.answers().len(),
     };
-    Ok(job.turn(s))
+    let said = job.turn(s);
+    told(said, s.hand())
 }
 
 // Makes turns of one line, up to one that says something else than that there is
@@ -167,7 +168,7 @@ fn waits_for_a_reader_and_for_a_section(rt: HostRuntime) -> Result<(), Fail> {
     processor_makes(&mut machine, PartStep::Begin)?;
     processor_makes(&mut machine, PartStep::Share)?;
     let reader = Turn::Wait(Seen { word: 6, value: 1 });
-    assert_eq!(rt; set_slot(&mut machine)?, (FILLED + 1, reader));
+    assert_eq!(rt; set_slot(&mut machine)?, (FILLED + 1, reader.clone()?));
     assert_eq!(rt; set_slot(&mut machine)?, (1, reader));
     processor_makes(&mut machine, PartStep::Unshare)?;
     let section = Turn::Wait(Seen { word: 8, value: 2 });

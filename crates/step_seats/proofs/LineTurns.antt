@@ -1,9 +1,12 @@
 -- What a turn of a line answers is how its step goes: it is done where the line is answered, and has more to do where the line begins anew.
-use Rattle.std.proofs.Common.{◌≡◌, ◌≢◌, ◌⊎◌, inl, inr, ◌<◌, ℕ, length, refl, sym, subst, ap, ◌∙◌, arith}
-use Rattle.std.specs.Prelude.{Bool, true, false}
+use Rattle.std.proofs.Common.{◌≡◌, ◌≢◌, ◌⊎◌, inl, inr, ◌<◌, ◌++◌, ◌∷◌, [], ℕ, List, length, refl, sym, subst, ap, ◌∙◌, arith}
+use Rattle.std.proofs.lemmas.List.{get_or_push}
+use Rattle.std.proofs.lemmas.Option.{unwrap_or-slice_get}
+use Rattle.std.specs.Prelude.{Bool, true, false, slice_get, unwrap_or}
 use Rattle.core_views.specs.declared.place.AccessPlace.TheVariants.{Enter, Fault}
 use Rattle.core_views.specs.declared.answer.Answer.{Answer}
 use Rattle.core_views.specs.declared.answer.Answer.TheVariants as answers
+use Rattle.core_views.specs.declared.answer.AnsweredLine.{AnsweredLine}
 use Rattle.core_views.specs.declared.hand.Seen.{Seen}
 use Rattle.core_views.specs.declared.place.Cause.{Cause}
 use Rattle.core_views.specs.declared.place.FaultEnd.{FaultEnd}
@@ -31,12 +34,12 @@ use Rattle.mmu_core.specs.machine.MayMake.{MayMake}
 use Rattle.part_steps.specs.PartTasks.{part_kind}
 use Rattle.mmu_core.specs.machine.Steps.{place_at}
 use Rattle.mmu_core.specs.machine.Outcomes.{place_after}
-use Rattle.mmu_core.specs.machine.Turns.{Comes, IsAnswered, IsSameHand, line_of, outcome_of}
+use Rattle.mmu_core.specs.machine.Turns.{Comes, IsAnswered, IsSameHand, line_of, outcome_of, with_answer}
 use Rattle.mmu_core.proofs.machine.HandAfter.{next_comes, next_same}
 use Rattle.mmu_core.proofs.machine.Which.{has_line_is, next_of_line}
 use Rattle.step_seats.specs.PartTurns.{MadePart}
 use Rattle.step_seats.specs.Seats.{Seat}
-use Rattle.step_seats.specs.LineTurns.{Gives, MakesLine, Says, TurnsLine, fault_turn, line_seen, line_turn, turn_of}
+use Rattle.step_seats.specs.LineTurns.{Gives, MakesLine, Says, TurnsLine, answer_given, fault_turn, line_seen, line_turn, no_answer, turn_of, turn_told, untold}
 use Rattle.mmu_core.proofs.lines.Forms.{ends_free}
 
 -- A part's step is the line's.
@@ -117,6 +120,27 @@ turns_say turn before after left T =
 pub turns_same : (turn : Turn Answer) (before after : Seat) → TurnsLine turn before after → IsSameHand before.hand after.hand
 turns_same turn before after T =
     subst (λ (x : Held). IsSameHand before.hand x) (sym T.makes.hand) (next_same before.hand T.makes.kind T.makes.found)
+
+-- What the hand holds where one answer more was given is this answer.
+pub given_is : (line : Line) (answer : Answer) (h g : Held) → IsAnswered line answer h g → answer_given h g ≡ answer
+given_is line answer h g A =
+    ap (λ (xs : List AnsweredLine). (unwrap_or (slice_get xs (length h.answers)) no_answer).answer) A.answers
+    ∙ ap (λ (x : AnsweredLine). x.answer)
+    (unwrap_or-slice_get (h.answers ++ with_answer line answer ∷ []) (length h.answers) no_answer
+    ∙ get_or_push h.answers (with_answer line answer) no_answer (length h.answers) refl)
+
+-- With what the hand holds after it, it tells the whole.
+pub told_is : (turn : Turn Answer) (line : Line) (h g : Held) → Says turn line h g → turn_told (untold turn) h g ≡ turn
+told_is More line h g says = refl
+told_is (Wait seen) line h g says = refl
+told_is (Retry cause) line h g says = refl
+told_is (Done answer) line h g says = ap (λ (x : Answer). Done x) (given_is line answer h g says)
+
+pub turns_told : (turn : Turn Answer) (before after : Seat) → length before.hand.answers < length before.hand.lines → TurnsLine turn before after
+    → TurnsLine (turn_told (untold turn) before.hand after.hand) before after
+turns_told turn before after left T =
+    subst (λ (x : Turn Answer). TurnsLine x before after)
+    (sym (told_is turn (line_of before.hand) before.hand after.hand (turns_say turn before after left T))) T
 
 -- how the turn of the hand's line goes whose step found v
 abbrev Cases : Held → ℕ → Type 0

@@ -1,6 +1,9 @@
 -- What one turn of a line's job is: the line's next step, and what the turn answers of it.
-use Rattle.std.specs.Prelude.{◌≡◌, ℕ, Bool, true, false, Option, Some, None}
+use Rattle.std.specs.Prelude.{◌≡◌, ℕ, Bool, true, false, Option, Some, None, length, slice_get, unwrap_or}
+use Rattle.core_views.specs.declared.actor.Actor.TheVariants.{Manager}
 use Rattle.core_views.specs.declared.answer.Answer.{Answer}
+use Rattle.core_views.specs.declared.answer.Answer.TheVariants.{Mmio}
+use Rattle.core_views.specs.declared.answer.AnsweredLine.{AnsweredLine}
 use Rattle.core_views.specs.declared.hand.Seen.{Seen}
 use Rattle.core_views.specs.declared.kind.Kind.{Kind}
 use Rattle.core_views.specs.declared.place.AccessPlace.TheVariants.{Fault}
@@ -30,6 +33,28 @@ use Rattle.step_seats.specs.Seats.{Seat}
 use Rattle.step_seats.specs.Where.{AnsweredThere}
 use Rattle.step_seats.specs.declared.turn.Turn.{Turn}
 use Rattle.step_seats.specs.declared.turn.Turn.TheVariants.{More, Wait, Retry, Done}
+
+-- what stands where no line is answered
+abbrev pub no_answer : AnsweredLine
+no_answer = record { number = 0; actor = Manager; answer = Mmio }
+
+-- what the hand's next line was answered, by the hand that has one answer more
+abbrev pub answer_given : Held → Held → Answer
+answer_given before after = (unwrap_or (slice_get after.answers (length before.answers)) no_answer).answer
+
+-- What a turn answers: it says itself that its line is answered, and the hand after it with what.
+abbrev pub turn_told : Turn (Unit {0}) → Held → Held → Turn Answer
+turn_told More before after = More
+turn_told (Wait seen) before after = Wait seen
+turn_told (Retry cause) before after = Retry cause
+turn_told (Done u) before after = Done (answer_given before after)
+
+-- what it says itself
+abbrev pub untold : Turn Answer → Turn (Unit {0})
+untold More = More
+untold (Wait seen) = Wait seen
+untold (Retry cause) = Retry cause
+untold (Done answer) = Done tt
 
 -- what a turn answers, by where the line stands behind its step
 abbrev pub turn_of : Outcome → Turn Answer

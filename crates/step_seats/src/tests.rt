@@ -17,7 +17,7 @@ use std::alloc::Global;
 use std::test::Fail;
 
 // The next step of the seat's line, through the bound, where it has one left.
-fn step<S: Stepper>(seat: &mut S, line: &Line) -> Result<Option<u64>, NoMemory>
+fn step<S: Stepper>(seat: &mut S) -> Result<Option<u64>, NoMemory>
     ensures told { LeadsOn (S.seat seat.old).tells.world (S.seat seat.new).tells.world }
     ensures same { ((S.seat seat.new).actor ≡ (S.seat seat.old).actor) × (S.frame seat.new ≡ S.frame seat.old) }
 {
@@ -39,7 +39,7 @@ fn step_of(machine: &mut PlainMachine, line: &Line) -> Result<Option<u64>, NoMem
     ensures count { length machine.new.hands ≡ length machine.old.hands }
 {
     let mut seat = machine.as_actor(line.actor);
-    step(&mut seat, line)
+    step(&mut seat)
 }
 
 // What the steps of the line find, 64 of them at most.
@@ -74,17 +74,31 @@ fn header(alloc: Global) -> Result<Header, NoMemory>
     })
 }
 
-// A trace of this line of the first virtual processor's.
+// A read by the first virtual processor.
+fn reading() -> Line
+    ensures { result ≡ record { number = 2; actor = Vcpu 0; command = Access 5 1 Read } }
+{
+    Line {
+        number: 2,
+        actor: Actor::Vcpu(0),
+        command: Command::Access {
+            gfn: 5,
+            word: 1,
+            op: Op::Read,
+        },
+    }
+}
+
+// A trace of this line.
 #[tactic(auto, using(crate::proofs::Starts::one_is_distinct))]
-fn trace(alloc: Global, line: Line) -> Result<Trace, NoMemory>
-    requires line { line ≡ record { number = 2; actor = Vcpu 0; command = Access 5 1 Read } }
+fn trace(alloc: Global) -> Result<Trace, NoMemory>
     ensures trace { IfOk result (λ t. IsTrace t) }
     ensures vcpus { IfOk result (λ t. 0 < t.header.vcpus) }
 {
     Ok(Trace::unscheduled(
         alloc,
         header(alloc)?,
-        Lines::from_vec(vec![in alloc; line]?),
+        Lines::from_vec(vec![in alloc; reading()]?),
     ))
 }
 
@@ -94,19 +108,10 @@ fn trace(alloc: Global, line: Line) -> Result<Trace, NoMemory>
 #[test]
 fn an_access_without_a_slot(rt: HostRuntime) -> Result<(), Fail> {
     let alloc = rt.alloc();
-    let line = Line {
-        number: 2,
-        actor: Actor::Vcpu(0),
-        command: Command::Access {
-            gfn: 5,
-            word: 1,
-            op: Op::Read,
-        },
-    };
-    let trace = trace(alloc, line)?;
+    let trace = trace(alloc)?;
     let mut machine = PlainMachine::new(alloc, &trace)?;
     assert_eq!(rt; machine.sizes().actors(), 4);
-    let found = run_line(alloc, &mut machine, &line)?;
+    let found = run_line(alloc, &mut machine, &reading())?;
     let stay = [0, 0, 0, 0, 3];
     let begins = [0, 0, 1];
     let flags = [0; 32];

@@ -9,10 +9,10 @@ ghost use Rattle.mmu_core.specs.lines.Rests.{Rests};
 ghost use Rattle.mmu_core.specs.machine.Steps.{place_at};
 ghost use Rattle.mmu_core.specs.machine.Turns.{IsSameHand, line_of};
 ghost use Rattle.step_seats.specs.Moves.{KeepsRoom};
-ghost use Rattle.step_seats.specs.LineTurns.{MakesLine, Says, TurnsLine};
+ghost use Rattle.step_seats.specs.LineTurns.{MakesLine, Says, TurnsLine, turn_told, untold};
 ghost use Rattle.vcpu_run.specs.Accesses.{HasItsCause, IsInFault, IsStay, StandsAt, WalksAt, answer_of};
 
-use core_views::{AccessPlace, Answer, Hand, Op, Place};
+use core_views::{AccessPlace, Hand, Op, Place};
 use fault_install::{FaultJob, Faulted};
 use host_map::touch;
 use mmu_core::{access_note, knows, rests};
@@ -114,11 +114,11 @@ impl AccessJob {
     }
 
     // Makes the step of its fault.
-    fn fault<S: Stepper>(&self, s: &mut S) -> Turn<Answer>
+    fn fault<S: Stepper>(&self, s: &mut S) -> Turn<()>
         requires stands { IsInFault self.now (S.seat s.old).hand }
         requires reserved { 0 < (S.seat s.old).room }
-        ensures turns { TurnsLine result (S.seat s.old) (S.seat s.new) }
-        ensures cause { HasItsCause result self.now (S.seat s.old).hand }
+        ensures turns { TurnsLine (turn_told result (S.seat s.old).hand (S.seat s.new).hand) (S.seat s.old) (S.seat s.new) }
+        ensures cause { HasItsCause (turn_told result (S.seat s.old).hand (S.seat s.new).hand) self.now (S.seat s.old).hand }
         ensures room { KeepsRoom (S.seat s.old) (S.seat s.new) }
         ensures same { ((S.seat s.new).actor ≡ (S.seat s.old).actor) × (S.frame s.new ≡ S.frame s.old) }
     {
@@ -126,22 +126,22 @@ impl AccessJob {
             gfn: self.gfn,
             write: self.op.is_write(),
         };
-        answer_of(job.turn(s))
+        said_of(job.turn(s))
     }
 
-    /// Makes the next step of the line, and says whether it is answered. `Wait`
-    /// where a writer has the lock, or a page was claimed by another actor
+    /// Makes the next step of the line, and says whether it is answered: the hand has
+    /// the answer then. `Wait` where a writer has the lock, or a page was claimed by another actor
     /// meanwhile; `Retry` where the fault's look-up holds no more, or another
     /// actor's entry stood in its way: the access begins anew then, from outside
     /// the guest.
-    pub fn turn<S: Stepper>(&mut self, s: &mut S) -> Turn<Answer>
+    pub fn turn<S: Stepper>(&mut self, s: &mut S) -> Turn<()>
         requires left { length (S.seat s.old).hand.answers < length (S.seat s.old).hand.lines }
         requires next { self.old.index ≡ length (S.seat s.old).hand.answers }
         requires access { (line_of (S.seat s.old).hand).command ≡ Access self.old.gfn self.old.word self.old.op }
         requires reserved { 0 < (S.seat s.old).room }
-        ensures turns { TurnsLine result (S.seat s.old) (S.seat s.new) }
-        ensures cause { HasItsCause result self.old (S.seat s.old).hand }
-        ensures says { Says result (line_of (S.seat s.old).hand) (S.seat s.old).hand (S.seat s.new).hand }
+        ensures turns { TurnsLine (turn_told result (S.seat s.old).hand (S.seat s.new).hand) (S.seat s.old) (S.seat s.new) }
+        ensures cause { HasItsCause (turn_told result (S.seat s.old).hand (S.seat s.new).hand) self.old (S.seat s.old).hand }
+        ensures says { Says (turn_told result (S.seat s.old).hand (S.seat s.new).hand) (line_of (S.seat s.old).hand) (S.seat s.old).hand (S.seat s.new).hand }
         ensures hand { IsSameHand (S.seat s.old).hand (S.seat s.new).hand }
         ensures room { KeepsRoom (S.seat s.old) (S.seat s.new) }
         ensures job { self.new ≡ self.old }
@@ -156,22 +156,20 @@ impl AccessJob {
         }
         self.stay(s, place);
         match s.hand().answers().get(self.index) {
-            Some(answered) => Turn::Done(answered.answer),
+            Some(_) => Turn::Done(()),
             None => Turn::More,
         }
     }
 }
 
-// What a turn of the access answers, by the answer of its fault's turn.
-fn answer_of(turn: Turn<Faulted>) -> Turn<Answer>
-    ensures { result ≡ answer_of turn }
+// What a turn of the access says, by the answer of its fault's turn.
+fn said_of(turn: Turn<Faulted>) -> Turn<()>
+    ensures { result ≡ untold (answer_of turn) }
 {
     match turn {
         Turn::More | Turn::Done(Faulted::Installed) => Turn::More,
         Turn::Wait(seen) => Turn::Wait(seen),
         Turn::Retry(cause) => Turn::Retry(cause),
-        Turn::Done(Faulted::Mmio) => Turn::Done(Answer::Mmio),
-        Turn::Done(Faulted::HostFault) => Turn::Done(Answer::HostFault),
-        Turn::Done(Faulted::Starved) => Turn::Done(Answer::Starved),
+        Turn::Done(Faulted::Mmio | Faulted::HostFault | Faulted::Starved) => Turn::Done(()),
     }
 }

@@ -1,17 +1,16 @@
 //! Accesses of two processors, beside a manager that sets slot 0: guest frames 0 to
 //! 5 are host pages 64 to 69, at frames 64 to 69.
-ghost use Rattle.std.specs.Prelude.{◌≡◌, ◌<◌, ◌≤◌, ◌^◌, false, [], ◌∷◌, IfOk, IfSome, OnOk, length};
+ghost use Rattle.std.specs.Prelude.{◌≡◌, ◌<◌, ◌≤◌, ◌^◌, false, [], ◌∷◌, IfOk, OnOk, length};
 ghost use Rattle.core_views.specs.Sizes.{index_of};
 ghost use Rattle.core_views.specs.Traces.{IsTrace};
 ghost use Rattle.core_views.specs.declared.actor.Actor.TheVariants.{Manager, Vcpu};
 ghost use Rattle.core_views.specs.declared.trace.Command.TheVariants.{Access, SetSlot};
 ghost use Rattle.core_views.specs.declared.trace.Op.TheVariants.{Read, Write};
-ghost use Rattle.mmu_core.specs.machine.Turns.{line_of};
 
 use crate::AccessJob;
 use core_views::{
-    Actor, Answer, Cause, Command, Hand, Header, Line, Lines, NoMemory, Op, Place, Seen, Slot,
-    Trace, Words,
+    Actor, Answer, Cause, Command, Hand, Header, Line, Lines, NoMemory, Op, Seen, Slot, Trace,
+    Words,
 };
 use mmu_core::{allows, next_kind, rests};
 use part_steps::{PartStep, WRITER};
@@ -150,7 +149,7 @@ fn expect_actor(machine: &PlainMachine, actor: Actor) -> Result<(), Fail>
 // Makes the steps of the manager's line.
 fn set_slot<S: Stepper>(s: &mut S) -> Result<(), NoMemory> {
     for _ in 0..SETTING {
-        s.reserve(&setting())?;
+        s.reserve()?;
         if s.hand().next_line().is_some() {
             rests(s.hand());
             let kind = next_kind(s.hand());
@@ -179,7 +178,7 @@ fn start(alloc: Global, pool: u32, gfn: u64) -> Result<PlainMachine, Fail>
 fn manager_makes(machine: &mut PlainMachine, step: PartStep) -> Result<(), Fail> {
     expect_actor(machine, Actor::Manager)?;
     let mut seat = machine.as_actor(Actor::Manager);
-    seat.reserve(&setting())?;
+    seat.reserve()?;
     if !allows(seat.hand(), step, 0) {
         return Err(Fail::new("the manager may not make it"));
     }
@@ -187,34 +186,39 @@ fn manager_makes(machine: &mut PlainMachine, step: PartStep) -> Result<(), Fail>
     Ok(())
 }
 
-// The line that is under way, or the next one.
-fn line_left(hand: &Hand) -> Option<Line>
-    ensures left { IfSome result (λ line. length hand.now.core.answers < length hand.now.core.lines) }
-    ensures line { IfSome result (λ line. line ≡ line_of hand.now.core) }
-{
-    let next = hand.next_line()?;
-    match hand.progress().place {
-        Place::Between => Some(next),
-        Place::Access(_) | Place::SlotChange(_) => Some(hand.progress().line),
-    }
+// What a turn of the hand's line told: where the line is answered, what the hand has.
+fn told(said: Turn<()>, hand: &Hand) -> Result<Turn<Answer>, Fail> {
+    Ok(match said {
+        Turn::More => Turn::More,
+        Turn::Wait(seen) => Turn::Wait(seen),
+        Turn::Retry(cause) => Turn::Retry(cause),
+        Turn::Done(()) => {
+            let Some(last) = hand.answers().last() else {
+                return Err(Fail::new("the hand has no answer"));
+            };
+            Turn::Done(last.answer.clone()?)
+        }
+    })
 }
 
 // Makes a turn of the next line of the seat, where it is an access.
 fn turn<S: Stepper>(s: &mut S) -> Result<Turn<Answer>, Fail> {
-    s.reserve(&setting())?;
-    let Some(line) = line_left(s.hand()) else {
+    s.reserve()?;
+    let hand = s.hand();
+    if !hand.has_line() {
         return Err(Fail::new("no line is left"));
-    };
-    let Command::Access { gfn, word, op } = line.command else {
+    }
+    let Command::Access { gfn, word, op } = &hand.line().command else {
         return Err(Fail::new("it is no access"));
     };
     let mut job = AccessJob {
-        index: s.hand().answers().len(),
-        gfn,
-        word,
-        op,
+        index: hand.answers().len(),
+        gfn: *gfn,
+        word: *word,
+        op: *op,
     };
-    Ok(job.turn(s))
+    let said = job.turn(s);
+    told(said, s.hand())
 }
 
 // Makes turns of one line, up to one that says something else than that there is
@@ -312,7 +316,10 @@ fn waits_for_a_writer(rt: HostRuntime) -> Result<(), Fail> {
         word: LOCK,
         value: WRITER,
     });
-    assert_eq!(rt; access(&mut machine, 0, 9000)?, (COLD + FOUND + 2, wait));
+    assert_eq!(rt;
+        access(&mut machine, 0, 9000)?,
+        (COLD + FOUND + 2, wait.clone()?)
+    );
     assert_eq!(rt; access(&mut machine, 0, 9000)?, (2, wait));
     manager_makes(&mut machine, PartStep::Release)?;
     assert_eq!(rt;

@@ -41,6 +41,8 @@ use Rattle.mmu_core.proofs.machine.Worlds.{good_run}
 use Rattle.step_seats.specs.Machines.{Machine, seat_in, world_in}
 use Rattle.step_seats.specs.Moves.{core_of, handful_in}
 use Rattle.step_seats.proofs.Worlds.{core_at}
+use Rattle.step_seats.specs.LineTurns.{answer_given}
+use Rattle.weave_engine.specs.Given.{given_in}
 use Rattle.weave_engine.specs.Replays.{EachRunsAlone, RanOn, RunsAlone, RunsLines}
 use Rattle.weave_engine.specs.Turning.{EndsWithAnswer}
 use Rattle.weave_engine.specs.Turns.{RanAlone}
@@ -258,12 +260,11 @@ ran_all z lines i start w printed le B =
     subst (λ ls. (r : RunsLines z start ls w) × (printed ≡ text (history start r.steps))) (take_all i lines le) (B.ran, B.prints)
 
 -- A line that ran from a seat of the machine ran on the machine.
-pub ran_on : (r : Result Answer NoMemory) (line : Line) (z : Sizes) (actor : ℕ) (m n : Machine) (at to : ℕ) → LineAlone z (world_in m) actor → at ≡ actor
+ran_so : (answer : Answer) (line : Line) (z : Sizes) (actor : ℕ) (m n : Machine) (at to : ℕ) → LineAlone z (world_in m) actor → at ≡ actor
     → (seat_in m at).hand ≡ hand_in mmu (world_in m) actor → (seat_in n to).hand ≡ hand_in mmu (world_in n) actor
-    → IfOk r (λ answer. IsAnswered line answer (seat_in m at).hand (seat_in n to).hand) → IfOk r (λ answer. RanAlone line answer (seat_in m at) (seat_in n to))
-    → IsSameHand (seat_in m at).hand (seat_in n to).hand → IfOk r (λ answer. RanOn z line answer actor (world_in m) (world_in n))
-ran_on (Err e) line z actor m n at to alone same before after answered ran kept = tt
-ran_on (Ok answer) line z actor m n at to alone same before after answered ran kept =
+    → IsAnswered line answer (seat_in m at).hand (seat_in n to).hand → RanAlone line answer (seat_in m at) (seat_in n to)
+    → IsSameHand (seat_in m at).hand (seat_in n to).hand → RanOn z line answer actor (world_in m) (world_in n)
+ran_so answer line z actor m n at to alone same before after answered ran kept =
     let h : Held = (seat_in m at).hand in
     let sizes : h.state.sizes ≡ z = ap (λ (x : Held). x.state.sizes) before ∙ (alone.sound.holds.lines actor alone.there).sizes in
     record {
@@ -275,3 +276,15 @@ ran_on (Ok answer) line z actor m n at to alone same before after answered ran k
           (subst (λ (x : Held). IsAnswered line answer h x) after answered);
       same = subst (λ (x : Held). IsSameHand x (hand_in mmu (world_in n) actor)) before (subst (λ (x : Held). IsSameHand h x) after kept);
     }
+
+pub ran_on : (r : Result (Unit {0}) NoMemory) (line : Line) (z : Sizes) (actor : ℕ) (m n : Machine) (at to : ℕ) → LineAlone z (world_in m) actor → at ≡ actor
+    → (seat_in m at).hand ≡ hand_in mmu (world_in m) actor → (seat_in n to).hand ≡ hand_in mmu (world_in n) actor
+    → IfOk r (λ done. IsAnswered line (answer_given (seat_in m at).hand (seat_in n to).hand) (seat_in m at).hand (seat_in n to).hand)
+    → IfOk r (λ done. RanAlone line (answer_given (seat_in m at).hand (seat_in n to).hand) (seat_in m at) (seat_in n to))
+    → IsSameHand (seat_in m at).hand (seat_in n to).hand
+    → IfOk r (λ done. RanOn z line (given_in actor (world_in m) (world_in n)) actor (world_in m) (world_in n))
+ran_on (Err e) line z actor m n at to alone same before after answered ran kept = tt
+ran_on (Ok done) line z actor m n at to alone same before after answered ran kept =
+    subst (λ (a : Answer). RanOn z line a actor (world_in m) (world_in n))
+    (ap (λ (x : Held). answer_given x (seat_in n to).hand) before ∙ ap (λ (x : Held). answer_given (hand_in mmu (world_in m) actor) x) after)
+    (ran_so (answer_given (seat_in m at).hand (seat_in n to).hand) line z actor m n at to alone same before after answered ran kept)

@@ -1,6 +1,8 @@
 -- What a line that runs alone comes to: its turns go on until it is answered.
-use Rattle.std.proofs.Common.{◌≡◌, ◌⊎◌, inl, inr, ◌<◌, ℕ, List, [], ◌∷◌, ◌++◌, Some, IfSome, length, sym, subst, arith}
+use Rattle.std.proofs.Common.{◌≡◌, ◌⊎◌, inl, inr, ◌<◌, ◌∙◌, ℕ, List, [], ◌∷◌, ◌++◌, Some, IfSome, ap, length, sym, subst, arith}
+use Rattle.std.specs.Prelude.{slice_get, unwrap_or}
 use Rattle.core_views.specs.declared.answer.Answer.{Answer}
+use Rattle.core_views.specs.declared.answer.AnsweredLine.{AnsweredLine}
 use Rattle.core_views.specs.declared.hand.Seen.{Seen}
 use Rattle.core_views.specs.declared.kind.Kind.{Kind}
 use Rattle.core_views.specs.declared.place.Cause.{Cause}
@@ -12,7 +14,7 @@ use Rattle.mmu_core.specs.declared.outcome.Outcome.TheVariants.{Goes}
 use Rattle.mmu_core.specs.machine.Enabled.{mmu}
 use Rattle.mmu_core.specs.alone.LineAlone.{hand_left}
 use Rattle.mmu_core.specs.machine.Machine.{Step, World, effect, run}
-use Rattle.mmu_core.specs.machine.Turns.{GoesOn, IsSameHand, line_of}
+use Rattle.mmu_core.specs.machine.Turns.{GoesOn, IsAnswered, IsSameHand, line_of, with_answer}
 use Rattle.mmu_laws.proofs.alone.AloneRuns.{ToldAlone}
 use Rattle.step_seats.specs.Seats.{Seat}
 use Rattle.step_seats.specs.Moves.{step_by}
@@ -20,7 +22,7 @@ use Rattle.step_seats.specs.declared.turn.Turn.{Turn}
 use Rattle.step_seats.specs.declared.turn.Turn.TheVariants.{More, Wait, Retry, Done}
 use Rattle.weave_engine.specs.Replays.{RunsAlone}
 use Rattle.weave_engine.specs.Turns.{RanAlone}
-use Rattle.step_seats.specs.LineTurns.{TurnsLine}
+use Rattle.step_seats.specs.LineTurns.{TurnsLine, answer_given, no_answer, turn_told}
 use Rattle.step_seats.proofs.LineTurns.{done_ends, more_goes, retry_goes, retry_has_more}
 use Rattle.weave_engine.proofs.PartRuns.{PartRun, adds_on, comes, ends_by, ends_on, goes_by, goes_through}
 
@@ -28,6 +30,26 @@ ran_by : (start : Seat) (line : Line) (answer : Answer) (to : Seat) (steps : Lis
     → RunsAlone start.hand.state.sizes start.actor line answer steps before → to.tells.world ≡ Some (run mmu before steps)
     → IfSome start.tells.world (λ w. RunsAlone start.hand.state.sizes start.actor line answer steps w × (to.tells.world ≡ Some (run mmu w steps)))
 ran_by start line answer to steps before is ran ends = rw is (ran, ends)
+
+-- What the line is answered is the same of its start, which has as many answers.
+pub given_since : (start from to : Held) → from.answers ≡ start.answers → answer_given from to ≡ answer_given start to
+given_since start from to same = ap (λ (xs : List AnsweredLine). (unwrap_or (slice_get to.answers (length xs)) no_answer).answer) same
+
+pub answered_since : (line : Line) (start from to : Held) → line_of from ≡ line → from.answers ≡ start.answers
+    → IsAnswered (line_of from) (answer_given from to) from to → IsAnswered line (answer_given start to) start to
+answered_since line start from to is same A = record {
+  between = A.between;
+  answers =
+      A.answers ∙ ap (λ (l : Line). from.answers ++ with_answer l (answer_given from to) ∷ []) is
+      ∙ ap (λ (a : Answer). from.answers ++ with_answer line a ∷ []) (given_since start from to same)
+      ∙ ap (λ (xs : List AnsweredLine). xs ++ with_answer line (answer_given start to) ∷ []) same;
+}
+
+-- A turn that says that it waits, or begins anew, does so.
+pub stops_told : (turn : Turn (Unit {0})) (before after : Held) → ((seen : Seen) × (turn ≡ Wait seen)) ⊎ ((cause : Cause) × (turn ≡ Retry cause))
+    → ((seen : Seen) × (turn_told turn before after ≡ Wait seen)) ⊎ ((cause : Cause) × (turn_told turn before after ≡ Retry cause))
+stops_told turn before after (inl (seen, is)) = inl (seen, ap (λ (t : Turn (Unit {0})). turn_told t before after) is)
+stops_told turn before after (inr (cause, is)) = inr (cause, ap (λ (t : Turn (Unit {0})). turn_told t before after) is)
 
 -- The seat's actor is the one with which the line was begun.
 begun_by : (line : Line) (own : ℕ) (start here : Seat) → here.actor ≡ own → PartRun line own start here → PartRun line here.actor start here

@@ -1,15 +1,16 @@
 -- A turn on the machine is one step of the actor's line.
-use Rattle.std.proofs.Common.{◌≡◌, ◌<◌, ◌≤◌, ◌⊎◌, inl, inr, ℕ, List, [], ◌∷◌, Ok, Err, length, refl, sym, ap, subst, ◌∙◌, arith}
+use Rattle.std.proofs.Common.{◌≡◌, ◌<◌, ◌≤◌, ◌⊎◌, ◌++◌, ◌-◌, inl, inr, ℕ, List, [], ◌∷◌, Ok, Err, get_or, length, refl, sym, ap, subst, ◌∙◌, arith}
 use Rattle.std.proofs.Math.Logic.{∥∥₁_elim}
 use Rattle.std.proofs.Props.{props}
 use Rattle.std.proofs.KnownBytes.{Appends-nil}
 use Rattle.std.proofs.lemmas.Bool.Decides.{nat_tests}
-use Rattle.std.proofs.lemmas.List.{append-nil}
+use Rattle.std.proofs.lemmas.List.{append-nil, get_or_push, length_push}
 use Rattle.std.proofs.lemmas.List.Elements.{All-get_or}
 use Rattle.std.proofs.lemmas.Option.{slice_get-get_or}
 use Rattle.std.specs.Prelude.{All, Bool, true, false, Option, Some, None, IfSome, if◌then◌else◌, unwrap_or}
 use Rattle.core_views.specs.declared.actor.Actor.{Actor}
 use Rattle.core_views.specs.declared.answer.Answer.{Answer}
+use Rattle.core_views.specs.declared.answer.AnsweredLine.{AnsweredLine}
 use Rattle.core_views.specs.declared.event.Event.{Event}
 use Rattle.core_views.specs.declared.hand.Seen.{Seen}
 use Rattle.core_views.specs.declared.kind.Kind.{Kind}
@@ -23,11 +24,12 @@ use Rattle.core_views.specs.Text.{line_text, text}
 use Rattle.mmu_core.specs.machine.Enabled.{Enabled, mmu}
 use Rattle.mmu_core.specs.machine.Machine.{Step, World, answered, effect, hand_in}
 use Rattle.mmu_core.specs.invariant.Invariant.{UnderWay}
-use Rattle.mmu_core.specs.machine.Steps.{events_of, has_line, line_at, next_line, place_at}
+use Rattle.mmu_core.specs.machine.Steps.{events_of, has_line, line_at, next, next_line, place_at}
 use Rattle.mmu_core.specs.alone.LineAlone.{line_waits}
-use Rattle.mmu_core.specs.machine.Turns.{line_of, outcome_of}
+use Rattle.mmu_core.specs.machine.Turns.{IsAnswered, line_of, outcome_of, with_answer}
 use Rattle.mmu_core.specs.machine.Worlds.{Reachable}
 use Rattle.mmu_core.proofs.start.Starts.{reached_good}
+use Rattle.mmu_core.proofs.machine.LineRuns.{own_hand}
 use Rattle.mmu_core.proofs.machine.Which.{is_next}
 use Rattle.step_seats.specs.Seats.{Seat}
 use Rattle.step_seats.specs.Moves.{Tells, step_by}
@@ -35,8 +37,9 @@ use Rattle.step_seats.specs.Where.{HasHand}
 use Rattle.step_seats.specs.declared.turn.Turn.{Turn}
 use Rattle.step_seats.specs.declared.turn.Turn.TheVariants.{Done, Retry, Wait}
 use Rattle.tdp_io.specs.declared.sink.Stop.{Stop}
-use Rattle.step_seats.specs.LineTurns.{AnswersBy, TurnsLine, line_turn}
-use Rattle.step_seats.proofs.LineTurns.{EndsSo, GoesSo, line_case}
+use Rattle.step_seats.specs.LineTurns.{AnswersBy, Says, TurnsLine, line_turn, turn_told}
+use Rattle.step_seats.proofs.LineTurns.{EndsSo, GoesSo, line_case, turns_say}
+use Rattle.weave_engine.specs.Given.{IsLastAnswer, given_in, told_in}
 use Rattle.weave_engine.specs.Pieces.{most_waiting}
 use Rattle.weave_engine.specs.Turned.{Comes, IsTurnOf, MakesTurn, PutsTurn, TurnedOn, TurnedTold, is_stop, next_code_in, open_line, turn_text}
 use Rattle.weave_engine.specs.Writes.{Buffers}
@@ -71,6 +74,9 @@ owned_at : (p : Place) (h : Held) → length h.answers < length h.lines → Unde
 owned_at place.Between h left under own = owned_next h left own
 owned_at _ h left under own = ap (λ (l : Line). l.actor) under.0 ∙ owned_next h left own
 
+has_left : (h : Held) → has_line h ≡ true → length h.answers < length h.lines
+has_left h has = grind (arith, nat_tests)
+
 own_line : (w : World Held) (actor : ℕ) → ∥ Reachable w ∥₁ → actor < length w.hands → has_line (hand_in mmu w actor) ≡ true
     → (line_of (hand_in mmu w actor)).actor ≡ (hand_in mmu w actor).state.actor
 own_line w actor reached there has = ∥∥₁_elim reached (hlevel props) (λ r.
@@ -78,10 +84,16 @@ own_line w actor reached there has = ∥∥₁_elim reached (hlevel props) (λ r
     let O = G.holds.lines actor (subst (λ n. actor < n) G.hands there) in
     owned_at (hand_in mmu w actor).state.place (hand_in mmu w actor) (grind (arith, nat_tests)) O.under O.own)
 
+-- The turn of a hand is the one that its worlds tell.
+told_here : (turn : Turn (Unit {0})) (h g : Held) (actor : ℕ) (w t : World Held) → hand_in mmu w actor ≡ h → hand_in mmu t actor ≡ g
+    → turn_told turn h g ≡ told_in turn actor w t
+told_here turn h g actor w t before after =
+    sym (ap (λ (x : Held). turn_told turn x (hand_in mmu t actor)) before ∙ ap (λ (x : Held). turn_told turn h x) after)
+
 made_turn : (before after : Seat) (w : World Held) (line : Line) (whose : Actor) (turn : Turn Answer) → before.tells.world ≡ Some w
     → HasHand before.actor before.hand w
     → open_line before.hand ≡ Some line → whose ≡ before.hand.state.actor → TurnsLine turn before after
-    → (t : World Held) × (after.tells.world ≡ Some t) × IsTurnOf (record { number = line.number; actor = whose; turn = turn }) before.actor w t
+    → (t : World Held) × (after.tells.world ≡ Some t) × IsTurnOf line.number whose turn before.actor w t × (hand_in mmu t before.actor ≡ after.hand)
 made_turn before after w line whose turn is hand open_ own made =
     let h : Held = before.hand in
     let actor : ℕ = before.actor in
@@ -95,13 +107,16 @@ made_turn before after w line whose turn is hand open_ own made =
     let T = turn_is h M.found turn L.0 rests.at made.gives in
     let found : answered mmu w s.kind ≡ M.found = moves.1 in
     let left : has_line (hand_in mmu w actor) ≡ true = ap (λ (x : Held). has_line x) has ∙ L.0 in
+    let some : length h.answers < length h.lines = has_left h L.0 in
+    let comes_to : hand_in mmu (effect mmu w s) actor ≡ after.hand =
+    own_hand w s moves.0.there ∙ (ap (λ (x : Held). next x M.kind (answered mmu w M.kind)) has ∙ (ap (λ (n : ℕ). next h M.kind n) found ∙ sym M.hand)) in
     let told : text (events_of h M.found) ≡ text (events_of (hand_in mmu w actor) (answered mmu w s.kind)) =
     ap (λ (x : Held). text (events_of x M.found)) (sym has) ∙ ap (λ (n : ℕ). text (events_of (hand_in mmu w actor) n)) (sym found) in (
       effect mmu w s,
       moves.2,
       record {
-        number = ap (λ (l : Line). l.number) L.1 ∙ ap (λ (x : Held). (line_of x).number) (sym has);
-        whose = own ∙ ap (λ (x : Held). x.state.actor) (sym has) ∙ sym (own_line w actor hand.reached hand.there left);
+        number_is = ap (λ (l : Line). l.number) L.1 ∙ ap (λ (x : Held). (line_of x).number) (sym has);
+        whose_is = own ∙ ap (λ (x : Held). x.state.actor) (sym has) ∙ sym (own_line w actor hand.reached hand.there left);
         makes = record {
           step = s;
           turn = record { own = refl; left = left };
@@ -115,7 +130,10 @@ made_turn before after w line whose turn is hand open_ own made =
           };
         };
         answers = subst (λ (n : ℕ). AnswersBy turn (hand_in mmu w actor) n) (sym found) (subst (λ (x : Held). AnswersBy turn x M.found) (sym has) made.gives);
+        says = subst (λ (x : Held). Says turn (line_of (hand_in mmu w actor)) (hand_in mmu w actor) x) (sym comes_to)
+            (subst (λ (x : Held). Says turn (line_of x) x after.hand) (sym has) (turns_say turn before after some made));
       },
+      comes_to,
     )
 
 -- A turn that is done answers its line.
@@ -127,9 +145,9 @@ done_ends answer h v answers = by (line_case (place_at h.state.place h) (line_of
     by (inl E) = ap is_ended E.is
     by (inr G) = absurd (G.more answer (sym answers.1))
 
-pub answers_line : (made : TurnMade) (actor : ℕ) (w t : World Held) (answer : Answer) → made.turn ≡ Done answer → (T : IsTurnOf made actor w t)
-    → AnswersLine w T.makes.step
-answers_line made actor w t answer is T =
+pub answers_line : (number : ℕ) (whose : Actor) (turn : Turn Answer) (actor : ℕ) (w t : World Held) (answer : Answer) → turn ≡ Done answer
+    → (T : IsTurnOf number whose turn actor w t) → AnswersLine w T.makes.step
+answers_line number whose turn actor w t answer is T =
     let v : ℕ = answered mmu w T.makes.step.kind in
     let ends : is_ended (outcome_of (hand_in mmu w actor) v) ≡ true = done_ends answer (hand_in mmu w actor) v (subst (λ (x : Turn Answer). AnswersBy x (hand_in mmu w actor) v) is T.answers) in
     record {
@@ -137,13 +155,56 @@ answers_line made actor w t answer is T =
       ends = subst (λ (a : ℕ). is_ended (outcome_of (hand_in mmu w a) v) ≡ true) (sym T.makes.turn.own) ends;
     }
 
--- What such a turn puts, where the writing stops.
+-- What it is answered the actor's hand has.
+done_says : (made : TurnMade) (actor : ℕ) (w t : World Held) → made.turn ≡ Done tt → TurnedOn (Some made) actor w t
+    → IsAnswered (line_of (hand_in mmu w actor)) (given_in actor w t) (hand_in mmu w actor) (hand_in mmu t actor)
+done_says made actor w t done T =
+    subst (λ (x : Turn (Unit {0})). Says (told_in x actor w t) (line_of (hand_in mmu w actor)) (hand_in mmu w actor) (hand_in mmu t actor)) done T.says
+
+done_so : (made : TurnMade) (actor : ℕ) (w t : World Held) (answer : Answer) → made.turn ≡ Done tt → TurnedOn (Some made) actor w t
+    → IsLastAnswer answer (hand_in mmu t actor) → told_in made.turn actor w t ≡ Done answer
+done_so made actor w t answer done T last =
+    ap (λ (x : Turn (Unit {0})). told_in x actor w t) done
+    ∙ ap (λ (a : Answer). Done a) (sym (last (line_of (hand_in mmu w actor)) (given_in actor w t) (hand_in mmu w actor) (done_says made actor w t done T)))
+
+pub some_answer : (line : Line) (answer : Answer) (h g : Held) → IsAnswered line answer h g → 0 < length g.answers
+some_answer line answer h g A =
+    let count = ap (λ (xs : List AnsweredLine). length xs) A.answers in
+    omega (arith, count, length_push h.answers (with_answer line answer))
+
+-- The last of the hand's answers is what its last line was answered.
+pub last_is : (h : Held) (answers : List AnsweredLine) (x : AnsweredLine) → answers ≡ h.answers → x ≡ get_or answers (length answers - 1) x
+    → IsLastAnswer x.answer h
+last_is h answers x are got line given before A =
+    let count = length_push before.answers (with_answer line given) in
+    ap (λ (a : AnsweredLine). a.answer) (got ∙ ap (λ (xs : List AnsweredLine). get_or xs (length xs - 1) x) (are ∙ A.answers)
+    ∙ get_or_push before.answers (with_answer line given) x (length (before.answers ++ with_answer line given ∷ []) - 1) (omega (arith, count)))
+
+pub done_has : (made : TurnMade) (actor : ℕ) (w t : World Held) → made.turn ≡ Done tt → TurnedOn (Some made) actor w t
+    → 0 < length (hand_in mmu t actor).answers
+done_has made actor w t done T =
+    some_answer (line_of (hand_in mmu w actor)) (given_in actor w t) (hand_in mmu w actor) (hand_in mmu t actor) (done_says made actor w t done T)
+
+-- What such a turn puts.
+pub puts_done : (made : TurnMade) (actor : ℕ) (w t : World Held) (answer : Answer) (before after : Option (List ℕ)) (waited waits : List ℕ)
+    → made.turn ≡ Done tt → TurnedOn (Some made) actor w t → IsLastAnswer answer (hand_in mmu t actor)
+    → Buffers before after waited waits (Ok tt) (line_text made.number made.actor answer) → PutsTurn actor w t before after waited waits (Ok Stopped)
+puts_done made actor w t answer before after waited waits done T last puts = (
+  line_text made.number made.actor answer,
+  subst (λ (x : Turn Answer). MakesTurn actor w t (is_stop x) (turn_text made.number made.actor x)) (done_so made actor w t answer done T last) T.makes,
+  puts,
+)
+
+-- And where the writing stops.
 pub stops_done : (made : TurnMade) (actor : ℕ) (w t : World Held) (answer : Answer) (before after : Option (List ℕ)) (waited waits : List ℕ) (stop : Stop)
-    → made.turn ≡ Done answer → TurnedOn (Some made) actor w t
+    → made.turn ≡ Done tt → TurnedOn (Some made) actor w t → IsLastAnswer answer (hand_in mmu t actor)
     → length waited ≤ most_waiting → Buffers before after waited waits (Err stop) (line_text made.number made.actor answer)
     → PutsTurn actor w t before after waited waits (Err stop)
-stops_done made actor w t answer before after waited waits stop is T few prefix =
-    at (turn_text made.number made.actor made.turn) (ap (λ (x : Turn Answer). turn_text made.number made.actor x) is) (is_stop made.turn) (ap is_stop is) T.makes (answers_line made actor w t answer is T)
+stops_done made actor w t answer before after waited waits stop done T last few prefix =
+    let turn : Turn Answer = told_in made.turn actor w t in
+    let is : turn ≡ Done answer = done_so made actor w t answer done T last in
+    at (turn_text made.number made.actor turn) (ap (λ (x : Turn Answer). turn_text made.number made.actor x) is) (is_stop turn) (ap is_stop is) T.makes
+    (answers_line made.number made.actor turn actor w t answer is T)
   where
     at : (bytes : List ℕ) → bytes ≡ line_text made.number made.actor answer → (stopped : Bool) → stopped ≡ true
         → (M : MakesTurn actor w t stopped bytes) → AnswersLine w M.step → PutsTurn actor w t before after waited waits (Err stop)
@@ -159,13 +220,13 @@ pub puts_waiting : (made : TurnMade) (actor : ℕ) (w t : World Held) (written :
     → ((seen : Seen) × (made.turn ≡ Wait seen)) ⊎ ((cause : Cause) × (made.turn ≡ Retry cause)) → TurnedOn (Some made) actor w t
     → PutsTurn actor w t written written waited waited (Ok Stopped)
 puts_waiting made actor w t written waited few (inl (seen, is)) T =
-    ([], subst (λ (x : Turn Answer). MakesTurn actor w t (is_stop x) (turn_text made.number made.actor x)) is T.makes, ([], Appends-nil written, sym (append-nil waited), few))
+    ([], subst (λ (x : Turn (Unit {0})). MakesTurn actor w t (is_stop (told_in x actor w t)) (turn_text made.number made.actor (told_in x actor w t))) is T.makes, ([], Appends-nil written, sym (append-nil waited), few))
 puts_waiting made actor w t written waited few (inr (cause, is)) T =
-    ([], subst (λ (x : Turn Answer). MakesTurn actor w t (is_stop x) (turn_text made.number made.actor x)) is T.makes, ([], Appends-nil written, sym (append-nil waited), few))
+    ([], subst (λ (x : Turn (Unit {0})). MakesTurn actor w t (is_stop (told_in x actor w t)) (turn_text made.number made.actor (told_in x actor w t))) is T.makes, ([], Appends-nil written, sym (append-nil waited), few))
 
 -- The turn of a seat, in the world that it tells.
-pub turned_told : (before after : Seat) (line : Line) (whose : Actor) (turn : Turn Answer) → IfSome before.tells.world (HasHand before.actor before.hand)
-    → open_line before.hand ≡ Some line → whose ≡ before.hand.state.actor → TurnsLine turn before after
+pub turned_told : (before after : Seat) (line : Line) (whose : Actor) (turn : Turn (Unit {0})) → IfSome before.tells.world (HasHand before.actor before.hand)
+    → open_line before.hand ≡ Some line → whose ≡ before.hand.state.actor → TurnsLine (turn_told turn before.hand after.hand) before after
     → TurnedTold (Some (record { number = line.number; actor = whose; turn = turn })) before.actor before.tells.world after.tells.world
 turned_told before after line whose turn has open_ own made = at before.tells.world refl
   where
@@ -173,7 +234,13 @@ turned_told before after line whose turn has open_ own made = at before.tells.wo
         → TurnedTold (Some (record { number = line.number; actor = whose; turn = turn })) before.actor o after.tells.world
     at None is = tt
     at (Some w) is =
-        made_turn before after w line whose turn is (subst (λ (o : Option (World Held)). IfSome o (HasHand before.actor before.hand)) is has) open_ own made
+        let hand : HasHand before.actor before.hand w = subst (λ (o : Option (World Held)). IfSome o (HasHand before.actor before.hand)) is has in
+        let T = made_turn before after w line whose (turn_told turn before.hand after.hand) is hand open_ own made in (
+          T.0,
+          T.1,
+          subst (λ (x : Turn Answer). IsTurnOf line.number whose x before.actor w T.0)
+              (told_here turn before.hand after.hand before.actor w T.0 hand.is T.3) T.2,
+        )
 
 -- No turn is made where no line is left.
 pub none_told : (actor : ℕ) (h : Held) (told tells : Option (World Held)) → IfSome told (HasHand actor h) → open_line h ≡ None → tells ≡ told

@@ -1,3 +1,4 @@
+pub mod Given
 pub mod Replays
 pub mod Turns
 pub mod Writes

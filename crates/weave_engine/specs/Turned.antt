@@ -16,7 +16,8 @@ use Rattle.step_seats.specs.declared.turn.Turn.{Turn}
 use Rattle.step_seats.specs.declared.turn.Turn.TheVariants.{More, Wait, Retry, Done}
 use Rattle.tdp_io.specs.declared.sink.Stop.{Stop}
 use Rattle.tdp_io.specs.declared.sink.Stop.TheVariants.{NoMemory as Full}
-use Rattle.step_seats.specs.LineTurns.{AnswersBy}
+use Rattle.step_seats.specs.LineTurns.{AnswersBy, Says}
+use Rattle.weave_engine.specs.Given.{told_in}
 use Rattle.weave_engine.specs.Pieces.{WritesMost}
 use Rattle.weave_engine.specs.Turning.{AnswersLine, HasNoLineLeft, IsTurn, MayStop, stops}
 use Rattle.weave_engine.specs.Writes.{Buffers}
@@ -57,17 +58,18 @@ pub record MakesTurn (actor : ℕ) (before after : World Held) (stop : Bool) (by
   pub stops_ : stops before step ≡ stop
   pub comes : Comes before (step ∷ []) after bytes
 
--- The turn was one of the line that the actor's hand had under way, or else of its next one. That line's next step was made, and the turn
--- answers by it.
-pub record IsTurnOf (made : TurnMade) (actor : ℕ) (before after : World Held) : Type 0 where
-  pub number : made.number ≡ (line_of (hand_in mmu before actor)).number
-  pub whose : made.actor ≡ (line_of (hand_in mmu before actor)).actor
-  pub makes : MakesTurn actor before after (is_stop made.turn) (turn_text made.number made.actor made.turn)
-  pub answers : AnswersBy made.turn (hand_in mmu before actor) (answered mmu before makes.step.kind)
+-- The turn was one of the line that the actor's hand had under way, or else of its next one, which has this number and is this actor's. That
+-- line's next step was made, and the turn answers by it: the line goes on, or the hand has its answer.
+pub record IsTurnOf (number : ℕ) (whose : Actor) (turn : Turn Answer) (actor : ℕ) (before after : World Held) : Type 0 where
+  pub number_is : number ≡ (line_of (hand_in mmu before actor)).number
+  pub whose_is : whose ≡ (line_of (hand_in mmu before actor)).actor
+  pub makes : MakesTurn actor before after (is_stop turn) (turn_text number whose turn)
+  pub answers : AnswersBy turn (hand_in mmu before actor) (answered mmu before makes.step.kind)
+  pub says : Says turn (line_of (hand_in mmu before actor)) (hand_in mmu before actor) (hand_in mmu after actor)
 
 abbrev pub TurnedOn : Option TurnMade → ℕ → World Held → World Held → Type 0
 TurnedOn None actor before after = HasNoLineLeft actor before × (after ≡ before)
-TurnedOn (Some made) actor before after = IsTurnOf made actor before after
+TurnedOn (Some made) actor before after = IsTurnOf made.number made.actor (told_in made.turn actor before after) actor before after
 
 -- the same of the worlds that a seat tells, before the turn and behind it
 abbrev pub TurnedTold : Option TurnMade → ℕ → Option (World Held) → Option (World Held) → Type 0

@@ -3,9 +3,9 @@ ghost use Rattle.core_views.specs.declared.place.Place.TheVariants.{Between};
 ghost use Rattle.mmu_core.specs.machine.Turns.{IsAnswered, IsSameHand, line_of};
 ghost use Rattle.step_seats.specs.Moves.{KeepsRoom};
 ghost use Rattle.weave_engine.specs.Turns.{IsAlone, IsJobOf, RanAlone};
-ghost use Rattle.step_seats.specs.LineTurns.{Says, TurnsLine};
+ghost use Rattle.step_seats.specs.LineTurns.{Says, TurnsLine, answer_given, turn_told};
 
-use core_views::{Answer, Command, Hand, Line, NoMemory, Place};
+use core_views::{Command, Hand, Line, NoMemory, Place};
 use slot_change::SlotJob;
 use step_seats::{Stepper, Turn};
 use vcpu_run::AccessJob;
@@ -35,13 +35,14 @@ impl LineJob {
         }
     }
 
-    /// Makes the next step of the line, and says whether it is answered.
-    pub fn turn<S: Stepper>(&mut self, s: &mut S) -> Turn<Answer>
+    /// Makes the next step of the line, and says whether it is answered: the hand has
+    /// the answer then.
+    pub fn turn<S: Stepper>(&mut self, s: &mut S) -> Turn<()>
         requires left { length (S.seat s.old).hand.answers < length (S.seat s.old).hand.lines }
         requires line { IsJobOf self.old (line_of (S.seat s.old).hand) (length (S.seat s.old).hand.answers) }
         requires reserved { 0 < (S.seat s.old).room }
-        ensures turns { TurnsLine result (S.seat s.old) (S.seat s.new) }
-        ensures says { Says result (line_of (S.seat s.old).hand) (S.seat s.old).hand (S.seat s.new).hand }
+        ensures turns { TurnsLine (turn_told result (S.seat s.old).hand (S.seat s.new).hand) (S.seat s.old) (S.seat s.new) }
+        ensures says { Says (turn_told result (S.seat s.old).hand (S.seat s.new).hand) (line_of (S.seat s.old).hand) (S.seat s.old).hand (S.seat s.new).hand }
         ensures hand { IsSameHand (S.seat s.old).hand (S.seat s.new).hand }
         ensures room { KeepsRoom (S.seat s.old) (S.seat s.new) }
         ensures job { self.new ≡ self.old }
@@ -91,15 +92,15 @@ pub fn next_job<S: Stepper>(s: &mut S) -> Result<LineJob, NoMemory>
     Ok(LineJob::of(hand))
 }
 
-/// Runs the actor's next line to its answer, while all other actors rest. Where
-/// the memory that it needs is refused, nothing has changed.
-pub fn run_line<S: Stepper>(s: &mut S, line: &Line) -> Result<Answer, NoMemory>
+/// Runs the actor's next line to its answer, which the hand has then, while all other
+/// actors rest. Where the memory that it needs is refused, nothing has changed.
+pub fn run_line<S: Stepper>(s: &mut S, line: &Line) -> Result<(), NoMemory>
     requires idle { (S.seat s.old).hand.state.place ≡ Between }
     requires next { slice_get (S.seat s.old).hand.lines (length (S.seat s.old).hand.answers) ≡ Some line.now }
     requires own { line.now.actor ≡ (S.seat s.old).hand.state.actor }
     requires alone { IsAlone (S.seat s.old) }
-    ensures answered { IfOk result (λ answer. IsAnswered line.now answer (S.seat s.old).hand (S.seat s.new).hand) }
-    ensures alone { IfOk result (λ answer. RanAlone line.now answer (S.seat s.old) (S.seat s.new)) }
+    ensures answered { IfOk result (λ done. IsAnswered line.now (answer_given (S.seat s.old).hand (S.seat s.new).hand) (S.seat s.old).hand (S.seat s.new).hand) }
+    ensures alone { IfOk result (λ done. RanAlone line.now (answer_given (S.seat s.old).hand (S.seat s.new).hand) (S.seat s.old) (S.seat s.new)) }
     ensures hand { IsSameHand (S.seat s.old).hand (S.seat s.new).hand }
     ensures refused { OnErr result (((S.seat s.new).hand ≡ (S.seat s.old).hand) × ((S.seat s.new).tells ≡ (S.seat s.old).tells)) }
     ensures same { ((S.seat s.new).actor ≡ (S.seat s.old).actor) × (S.frame s.new ≡ S.frame s.old) }
@@ -109,7 +110,7 @@ pub fn run_line<S: Stepper>(s: &mut S, line: &Line) -> Result<Answer, NoMemory>
         match job.turn(s) {
             Turn::More => {}
             Turn::Wait(_) | Turn::Retry(_) => unreachable!(),
-            Turn::Done(answer) => return Ok(answer),
+            Turn::Done(()) => return Ok(()),
         }
     }
 }

@@ -10,7 +10,7 @@ ghost use Rattle.weave_engine.specs.Writes.{RunsAndPuts, WritesLines, WritesRepl
 ghost use Rattle.weave_engine.specs.Woven.{RanFaults, ran_failed};
 
 use crate::ran::{OpenLine, Ran, how_of};
-use crate::run_on::run_on;
+use crate::run_on::{answer_to, run_on};
 use crate::writing::put_answer;
 use core_views::{Line, NoMemory, Trace};
 use std::alloc::Global;
@@ -38,10 +38,11 @@ pub fn run_lines<K: Sink>(
 {
     for index in 0..count {
         let line = &lines[index];
-        let Ok(answer) = run_on(machine, line) else {
+        let Ok(()) = run_on(machine, line) else {
             return Err(Stop::NoMemory);
         };
-        put_answer(line.number, line.actor, &answer, out, waiting)?;
+        let answer = answer_to(machine, line.actor);
+        put_answer(line.number, line.actor, answer, out, waiting)?;
     }
     Ok(())
 }

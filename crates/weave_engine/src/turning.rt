@@ -7,23 +7,25 @@ ghost use Rattle.mmu_core.specs.machine.Steps.{has_line};
 ghost use Rattle.mmu_core.specs.machine.Turns.{IsSameHand, line_of};
 ghost use Rattle.step_seats.specs.Machines.{seat_in, world_in};
 ghost use Rattle.tdp_io.specs.Ends.{WroteFaults, is_failed};
-ghost use Rattle.step_seats.specs.LineTurns.{Says, TurnsLine};
+ghost use Rattle.step_seats.specs.LineTurns.{Says, TurnsLine, turn_told};
 ghost use Rattle.weave_engine.specs.Pieces.{most_waiting};
 ghost use Rattle.weave_engine.specs.Turned.{PutsTurn, TurnedOn, TurnedTold, next_code_in};
 
 use crate::job::next_job;
+use crate::run_on::last_answer;
 use crate::writing::put_answer;
-use core_views::{Actor, Answer, NoMemory};
+use core_views::{Actor, NoMemory};
 use mmu_core::{next_kind, rests};
 use step_seats::{ActorSeat, PlainMachine, Stepper, Turn};
 use tdp_io::{Sink, Stop};
 
-/// A turn that an actor has made: of which line, and how it ended.
+/// A turn that an actor has made: of which line, and how it ended. Where the line is
+/// answered, the actor's hand has the answer.
 #[derive(Clone, Copy, Debug, PartialEq, Eq, Drop)]
 pub struct TurnMade {
     pub number: u32,
     pub actor: Actor,
-    pub turn: Turn<Answer>,
+    pub turn: Turn<()>,
 }
 
 /// What became of an actor's turn.
@@ -39,10 +41,10 @@ pub enum Turned {
 
 /// Makes the actor's next turn, which is one of the hand's next line. Where memory is
 /// refused no step is made; a turn of a line that is under way takes none.
-pub fn take_turn<S: Stepper>(s: &mut S) -> Result<Turn<Answer>, NoMemory>
+pub fn take_turn<S: Stepper>(s: &mut S) -> Result<Turn<()>, NoMemory>
     requires left { length (S.seat s.old).hand.answers < length (S.seat s.old).hand.lines }
-    ensures turns { IfOk result (λ turn. TurnsLine turn (S.seat s.old) (S.seat s.new)) }
-    ensures says { IfOk result (λ turn. Says turn (line_of (S.seat s.old).hand) (S.seat s.old).hand (S.seat s.new).hand) }
+    ensures turns { IfOk result (λ turn. TurnsLine (turn_told turn (S.seat s.old).hand (S.seat s.new).hand) (S.seat s.old) (S.seat s.new)) }
+    ensures says { IfOk result (λ turn. Says (turn_told turn (S.seat s.old).hand (S.seat s.new).hand) (line_of (S.seat s.old).hand) (S.seat s.old).hand (S.seat s.new).hand) }
     ensures hand { IsSameHand (S.seat s.old).hand (S.seat s.new).hand }
     ensures begins { OnErr result ((S.seat s.old).hand.state.place ≡ Between) }
     ensures refused { OnErr result (((S.seat s.new).hand ≡ (S.seat s.old).hand) × ((S.seat s.new).tells ≡ (S.seat s.old).tells)) }
@@ -113,8 +115,9 @@ pub fn turn_and_put<K: Sink>(
     match made.turn {
         Turn::More => Ok(Turned::Went),
         Turn::Wait(_) | Turn::Retry(_) => Ok(Turned::Stopped),
-        Turn::Done(answer) => {
-            put_answer(made.number, made.actor, &answer, out, waiting)?;
+        Turn::Done(()) => {
+            let answer = last_answer(machine, index);
+            put_answer(made.number, made.actor, answer, out, waiting)?;
             Ok(Turned::Stopped)
         }
     }

@@ -1,18 +1,20 @@
 use Rattle.std.proofs.Common.{List, length, ap, subst, ◌∙◌, arith}
 use Rattle.std.proofs.lemmas.Option.{slice_get_within}
 use Rattle.std.specs.Prelude.{Option, unwrap_or}
+use Rattle.core_views.specs.declared.answer.Answer.{Answer}
 use Rattle.core_views.specs.declared.answer.AnsweredLine.{AnsweredLine}
 use Rattle.core_views.specs.declared.place.Place.{Place}
 use Rattle.core_views.specs.declared.trace.Line.{Line}
 use Rattle.core_views.specs.Flat.{no_line}
 use Rattle.core_views.specs.Held.{line_at}
-use Rattle.weave_engine.specs.Turns.{IsJobOf}
-use Rattle.weave_engine.proofs.PartEnds.{part_ends, part_goes_on, part_goes_through}
+use Rattle.step_seats.specs.LineTurns.{answer_given, turn_told}
+use Rattle.weave_engine.specs.Turns.{IsJobOf, RanAlone}
+use Rattle.weave_engine.proofs.PartEnds.{answered_since, given_since, part_ends, part_goes_on, part_goes_through, stops_told}
 use Rattle.weave_engine.proofs.PartRuns.{part_starts}
 use Rattle.weave_engine.proofs.job.run_line.Goals as goal
 
-pub loop-answer-init : goal.loop-answer-init
-loop-answer-init g c =
+pub loop-init : goal.loop-init
+loop-init g c =
     let e = c.in_ok-job.ensures in
     let below = slice_get_within (g.S.Stepper.seat c.args.s.now).hand.lines (length (g.S.Stepper.seat c.args.s.now).hand.answers) c.args.line.now
     c.requires.next in
@@ -28,12 +30,12 @@ loop-answer-init g c =
       frame = e.same.1;
     }
 
-pub loop-answer-preserved : goal.loop-answer-preserved
-loop-answer-preserved g c =
-    let i = c.loop-answer.invariant in
+pub loop-preserved : goal.loop-preserved
+loop-preserved g c =
+    let i = c.loop.invariant in
     let e = c.in-More.ensures in
     record {
-      part = (part_goes_on c.args.line.now (g.S.Stepper.seat c.args.s.now) (g.S.Stepper.seat c.loop-answer.s) (g.S.Stepper.seat c.turn.new.s)
+      part = (part_goes_on c.args.line.now (g.S.Stepper.seat c.args.s.now) (g.S.Stepper.seat c.loop.s) (g.S.Stepper.seat c.turn.new.s)
           i.actor i.left c.requires.own i.part e.turns e.says e.hand).0;
       reserved = omega (arith, e.room, ap (λ (xs : List AnsweredLine). length xs) e.says.answers, i.reserved);
       job = rw (e.job, e.says.answers) i.job;
@@ -44,23 +46,33 @@ loop-answer-preserved g c =
 
 pub returns-in-Done-clause-alone : goal.returns-in-Done-clause-alone
 returns-in-Done-clause-alone g c =
-    let i = c.loop-answer.invariant in
+    let i = c.loop.invariant in
     let e = c.in-Done.ensures in
-    part_ends c.args.line.now (g.S.Stepper.seat c.args.s.now) (g.S.Stepper.seat c.loop-answer.s) (g.S.Stepper.seat c.turn.new.s)
-    i.actor i.left c.requires.own i.part c.in-Done.answer e.turns
+    subst (λ (a : Answer). RanAlone c.args.line.now a (g.S.Stepper.seat c.args.s.now) (g.S.Stepper.seat c.turn.new.s))
+    (given_since (g.S.Stepper.seat c.args.s.now).hand (g.S.Stepper.seat c.loop.s).hand (g.S.Stepper.seat c.turn.new.s).hand i.part.answers)
+    (part_ends c.args.line.now (g.S.Stepper.seat c.args.s.now) (g.S.Stepper.seat c.loop.s) (g.S.Stepper.seat c.turn.new.s)
+    i.actor i.left c.requires.own i.part (answer_given (g.S.Stepper.seat c.loop.s).hand (g.S.Stepper.seat c.turn.new.s).hand) e.turns)
 
-pub loop-answer-smaller : goal.loop-answer-smaller
-loop-answer-smaller g c =
-    let i = c.loop-answer.invariant in
+pub returns-in-Done-clause-answered : goal.returns-in-Done-clause-answered
+returns-in-Done-clause-answered g c =
+    let i = c.loop.invariant in
+    answered_since c.args.line.now (g.S.Stepper.seat c.args.s.now).hand (g.S.Stepper.seat c.loop.s).hand (g.S.Stepper.seat c.turn.new.s).hand
+    i.part.line_is i.part.answers c.in-Done.ensures.says
+
+pub loop-smaller : goal.loop-smaller
+loop-smaller g c =
+    let i = c.loop.invariant in
     let e = c.in-More.ensures in
-    (part_goes_on c.args.line.now (g.S.Stepper.seat c.args.s.now) (g.S.Stepper.seat c.loop-answer.s) (g.S.Stepper.seat c.turn.new.s)
+    (part_goes_on c.args.line.now (g.S.Stepper.seat c.args.s.now) (g.S.Stepper.seat c.loop.s) (g.S.Stepper.seat c.turn.new.s)
     i.actor i.left c.requires.own i.part e.turns e.says e.hand).1
 
 pub turn-requires-clause-line : goal.turn-requires-clause-line
-turn-requires-clause-line g c = rw c.loop-answer.invariant.part.line_is c.loop-answer.invariant.job
+turn-requires-clause-line g c = rw c.loop.invariant.part.line_is c.loop.invariant.job
 
 pub unreachable-requires : goal.unreachable-requires
 unreachable-requires g c =
-    let i = c.loop-answer.invariant in
-    part_goes_through c.args.line.now (g.S.Stepper.seat c.args.s.now) (g.S.Stepper.seat c.loop-answer.s) (g.S.Stepper.seat c.turn.new.s)
-    i.actor i.left c.requires.own i.part c.turn.result c.turn.ensures.turns c.in-Wait.is
+    let i = c.loop.invariant in
+    part_goes_through c.args.line.now (g.S.Stepper.seat c.args.s.now) (g.S.Stepper.seat c.loop.s) (g.S.Stepper.seat c.turn.new.s)
+    i.actor i.left c.requires.own i.part
+    (turn_told c.turn.result (g.S.Stepper.seat c.loop.s).hand (g.S.Stepper.seat c.turn.new.s).hand) c.turn.ensures.turns
+    (stops_told c.turn.result (g.S.Stepper.seat c.loop.s).hand (g.S.Stepper.seat c.turn.new.s).hand c.in-Wait.is)

@@ -4,8 +4,8 @@ use Rattle.weave_engine.specs.Turns.{IsJobOf}
 use Rattle.weave_engine.proofs.PartRuns.{PartRun}
 use Rattle.weave_engine.proofs.job.run_line.Given as goal
 
-abbrev pub invariant-loop-answer : goal.invariant-loop-answer
-invariant-loop-answer g l = record {
+abbrev pub invariant-loop : goal.invariant-loop
+invariant-loop g l = record {
   part : PartRun l.line (g.S.Stepper.seat l.fn.s).actor (g.S.Stepper.seat l.fn.s) (g.S.Stepper.seat l.s);
   reserved : 0 < (g.S.Stepper.seat l.s).room;
   job : IsJobOf l.job l.line (length (g.S.Stepper.seat l.s).hand.answers);
@@ -14,5 +14,5 @@ invariant-loop-answer g l = record {
   frame : g.S.Stepper.frame l.s ≡ g.S.Stepper.frame l.fn.s;
 }
 
-abbrev pub decreases-loop-answer : goal.decreases-loop-answer
-decreases-loop-answer g l = hand_left (g.S.Stepper.seat l.s).hand
+abbrev pub decreases-loop : goal.decreases-loop
+decreases-loop g l = hand_left (g.S.Stepper.seat l.s).hand

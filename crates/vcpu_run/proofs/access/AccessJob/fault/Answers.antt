@@ -1,15 +1,24 @@
 use Rattle.std.proofs.Common.{ap}
-use Rattle.vcpu_run.proofs.Accessing.{fault_cause, turns_fault}
+use Rattle.step_seats.proofs.LineTurns.{turns_told}
+use Rattle.fault_install.specs.declared.fault.FaultJob.{FaultJob}
+use Rattle.vcpu_run.specs.Accesses.{answer_of}
+use Rattle.vcpu_run.proofs.Accessing.{fault_cause, told_cause, turns_fault}
 use Rattle.vcpu_run.proofs.access.AccessJob.fault.Goals as goal
 
 pub returns-clause-turns : goal.returns-clause-turns
 returns-clause-turns g c =
-    rw c.answer_of.ensures (turns_fault c.requires.stands.at c.args.self.now (record { gfn = c.args.self.now.gfn; write = c.is_write.result }) c.turn.result
+    rw c.said_of.ensures (turns_told (answer_of c.turn.result) (g.S.Stepper.seat c.args.s.now) (g.S.Stepper.seat c.turn.new.s) c.requires.stands.stands.left
+    (turns_fault c.requires.stands.at c.args.self.now (record { gfn = c.args.self.now.gfn; write = c.is_write.result }) c.turn.result
     (g.S.Stepper.seat c.args.s.now) (g.S.Stepper.seat c.turn.new.s) c.requires.stands.stands
-    (ap (λ w. record { gfn = c.args.self.now.gfn; write = w }) c.is_write.ensures) c.turn.ensures.turned)
+    (ap (λ w. record { gfn = c.args.self.now.gfn; write = w }) c.is_write.ensures) c.turn.ensures.turned))
 
 pub returns-clause-cause : goal.returns-clause-cause
 returns-clause-cause g c =
-    rw c.answer_of.ensures (fault_cause c.requires.stands.at c.args.self.now (record { gfn = c.args.self.now.gfn; write = c.is_write.result }) c.turn.result
-    (g.S.Stepper.seat c.args.s.now) (g.S.Stepper.seat c.turn.new.s) c.requires.stands.stands
-    (ap (λ w. record { gfn = c.args.self.now.gfn; write = w }) c.is_write.ensures) c.turn.ensures.turned)
+    let fault : FaultJob = record { gfn = c.args.self.now.gfn; write = c.is_write.result } in
+    let same = ap (λ w. record { gfn = c.args.self.now.gfn; write = w }) c.is_write.ensures in
+    rw c.said_of.ensures (told_cause (answer_of c.turn.result) c.args.self.now (g.S.Stepper.seat c.args.s.now) (g.S.Stepper.seat c.turn.new.s)
+    c.requires.stands.stands.left
+    (turns_fault c.requires.stands.at c.args.self.now fault c.turn.result
+    (g.S.Stepper.seat c.args.s.now) (g.S.Stepper.seat c.turn.new.s) c.requires.stands.stands same c.turn.ensures.turned)
+    (fault_cause c.requires.stands.at c.args.self.now fault c.turn.result
+    (g.S.Stepper.seat c.args.s.now) (g.S.Stepper.seat c.turn.new.s) c.requires.stands.stands same c.turn.ensures.turned))
