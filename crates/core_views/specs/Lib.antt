@@ -21,6 +21,7 @@ pub mod Need
 pub mod Kinds
 pub mod Held
 pub mod Writes
+pub mod ReachedWrites
 pub mod Laws
 pub mod Unlawful
 pub mod Rows

@@ -1,4 +1,5 @@
 ghost use Rattle.core_views.specs.Laws.{FlatIsLawful, FlatIsWhole, FlatStandsAlone, FlatPrints, AloneIsFlat, AloneAnswersAsFlat, AloneIsWhole};
+ghost use Rattle.core_views.specs.ReachedWrites.{OnlyWritesChange, OnlyWritesCount, ReachedFramesAreKept};
 ghost use Rattle.core_views.specs.Writes.{WritesAreBegun, WritesAreUnderWay, WrittenFramesAreKept};
 ghost use Rattle.core_views.specs.Unlawful.{AccessLooksAtPause, AccessReachesItsFrame, ExitLooksAtPause};
 ghost use Rattle.core_views.specs.Unlawful.{OutsideCannotStarve, OutsideReachesNone, OverlapCannotStarve, StarvedLooksAtHost, StarvedLooksAtPause};
@@ -45,9 +46,21 @@ pub fn unlawful_histories_are_refused()
 /// writes the frame, and has not answered it (`begun`); after a lawful history that line
 /// is the actor's line under way (`under`). The frames that were written lately, and those
 /// that have a cause to stand in a log, are just those of the lines that were under way
-/// at some moment since the frame's slot was last set (`written`).
+/// at some moment since the frame's slot was last changed (`written`): a change counts that
+/// has the frame in the slot before it or after it.
 pub fn writes_are_kept()
     ensures begun { WritesAreBegun }
     ensures under { WritesAreUnderWay }
     ensures written { WrittenFramesAreKept }
+{}
+
+/// A law about the accesses that reach memory, whatever their lines were taken to write.
+/// After every lawful history each frame that a write or an add has reached, and whose
+/// slot was not changed since, is among those that were written lately, and among those
+/// that have a cause to stand in a log (`reached`). Any other access leaves its word as it
+/// was (`others`), and no other line is taken to write a frame (`only`).
+pub fn reached_writes_are_kept()
+    ensures reached { ReachedFramesAreKept }
+    ensures others { OnlyWritesChange }
+    ensures only { OnlyWritesCount }
 {}
