@@ -24,4 +24,5 @@ pub mod Writes
 pub mod ReachedWrites
 pub mod Laws
 pub mod Unlawful
+pub mod SlotLines
 pub mod Rows

@@ -1,5 +1,6 @@
 ghost use Rattle.core_views.specs.Laws.{FlatIsLawful, FlatIsWhole, FlatStandsAlone, FlatPrints, AloneIsFlat, AloneAnswersAsFlat, AloneIsWhole};
 ghost use Rattle.core_views.specs.ReachedWrites.{OnlyWritesChange, OnlyWritesCount, ReachedFramesAreKept};
+ghost use Rattle.core_views.specs.SlotLines.{FittingPrints, KeepsOtherIds, SetsAsRecord, SetsAtItsId};
 ghost use Rattle.core_views.specs.Writes.{WritesAreBegun, WritesAreUnderWay, WrittenFramesAreKept};
 ghost use Rattle.core_views.specs.Unlawful.{AccessLooksAtPause, AccessReachesItsFrame, ExitLooksAtPause};
 ghost use Rattle.core_views.specs.Unlawful.{OutsideCannotStarve, OutsideReachesNone, OverlapCannotStarve, StarvedLooksAtHost, StarvedLooksAtPause};
@@ -63,4 +64,16 @@ pub fn reached_writes_are_kept()
     ensures reached { ReachedFramesAreKept }
     ensures others { OnlyWritesChange }
     ensures only { OnlyWritesCount }
+{}
+
+/// A law about what a slot line makes of flat memory's slots: what the manager's record
+/// makes of them (`record`); the slot stands at its ID, with a dirty log where the one that
+/// was there had one (`set`), and at each other ID what stood there (`others`). The last
+/// clause is one closed trace of slots that just fit, and of slots one page larger, with
+/// the bytes that it prints.
+pub fn slot_lines_set_slots()
+    ensures record { SetsAsRecord }
+    ensures set { SetsAtItsId }
+    ensures others { KeepsOtherIds }
+    ensures fits { FittingPrints }
 {}
