@@ -142,7 +142,10 @@ fn outcome(place: Place, command: &Command, hand: &Hand, found: u64) -> (Outcome
             access::outcome(place, hand, *gfn, *op, found)
         }
         (Place::SlotChange(place), _) => {
-            (slot_change::outcome(place, hand, found), hand.progress().used)
+            (
+                slot_change::outcome(place, hand, found),
+                hand.progress().used,
+            )
         }
         _ => (Outcome::Goes(place), hand.progress().used),
     }

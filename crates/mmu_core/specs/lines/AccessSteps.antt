@@ -84,11 +84,11 @@ pause_next again None = Root again
 pause_next again (Some t) = Touch
 
 -- behind an entry: a link leads down, a leaf that allows the access is used, and else the access leaves and faults
-abbrev pub walk_next : Bool → SpteKind → Bool → AccessPlace
-walk_next again (entry_kind.Table page) allowed = Walk again
-walk_next again entry_kind.Leaf allowed = if allowed then Touch else Leave leaving.Faults
-walk_next again entry_kind.Absent allowed = Leave leaving.Faults
-walk_next again entry_kind.Frozen allowed = Leave leaving.Faults
+abbrev pub stay_next : Bool → SpteKind → Bool → AccessPlace
+stay_next again (entry_kind.Table page) allowed = Walk again
+stay_next again entry_kind.Leaf allowed = if allowed then Touch else Leave leaving.Faults
+stay_next again entry_kind.Absent allowed = Leave leaving.Faults
+stay_next again entry_kind.Frozen allowed = Leave leaving.Faults
 
 abbrev pub behind_fault : FaultNext → Outcome
 behind_fault (next_of.Goes p) = Goes (Access (Fault p))
@@ -98,7 +98,7 @@ abbrev pub access_outcome : AccessPlace → Held → ℕ → Op → ℕ → Outc
 access_outcome (Enter again) h gfn op v = Goes (Access (Pause again))
 access_outcome (Pause again) h gfn op v = Goes (Access (pause_next again (first_usable gfn (is_write op) h.cached.items)))
 access_outcome (Root again) h gfn op v = Goes (Access (Walk again))
-access_outcome (Walk again) h gfn op v = Goes (Access (walk_next again (kind_of h.topics.walk.level v) (allows_access (is_write op) v)))
+access_outcome (Walk again) h gfn op v = Goes (Access (stay_next again (kind_of h.topics.walk.level v) (allows_access (is_write op) v)))
 access_outcome Touch h gfn op v = Goes (Access (Leave (leaving.Reached (frame_used gfn h.state) v)))
 access_outcome (Leave (leaving.Reached frame value)) h gfn op v = Ends (Reached frame value)
 access_outcome (Leave leaving.Faults) h gfn op v = Goes (Access (Fault fault.Begin))
