@@ -103,7 +103,7 @@ fn an_access_without_a_slot(rt: HostRuntime) -> Result<(), Fail> {
             op: Op::Read,
         },
     };
-    let trace = trace(alloc, line)?;
+    let trace = trace(alloc, line.clone()?)?;
     let mut machine = PlainMachine::new(alloc, &trace)?;
     assert_eq!(rt; machine.sizes().actors(), 4);
     let found = run_line(alloc, &mut machine, &line)?;
