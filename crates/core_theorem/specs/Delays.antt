@@ -29,7 +29,7 @@ use Rattle.mmu_core.specs.machine.Turns.{line_of, outcome_of}
 use Rattle.mmu_laws.specs.causes.Waits.{SawNothing, StepWaitIsCaused}
 use Rattle.core_theorem.specs.Runs.{IsRun}
 
--- the hand that makes a step behind a run, and what the step answers
+-- the hand that makes a step after a run, and what the step answers
 abbrev pub hand_of : World Held → List (Step Kind) → Step Kind → Held
 hand_of w ss s = hand_in mmu (run mmu w ss) s.actor
 

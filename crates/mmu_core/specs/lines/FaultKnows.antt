@@ -130,7 +130,7 @@ FaultKnows (Give e) z gfn write t = (t.stay ≡ Section) × (t.hold ≡ Shared) 
 FaultKnows (Unshare e) z gfn write t = InSection t × (t.hold ≡ Shared) × EndKnows e z gfn write t
 FaultKnows (End e) z gfn write t = InSection t × (t.hold ≡ Loose) × EndKnows e z gfn write t
 
--- what it knows behind a step: where it is over it holds nothing
+-- what it knows after a step: where it is over it holds nothing
 abbrev pub KnowsNext : FaultNext → Sizes → ℕ → Bool → Topics → Type 0
 KnowsNext (Goes p) z gfn write t = FaultKnows p z gfn write t
 KnowsNext (Ends e) z gfn write t = IsAtRest t
