@@ -40,7 +40,7 @@ use Rattle.mmu_laws.proofs.causes.WaitsSee.{waits_see_another as step_waits_see_
 use Rattle.mmu_core.proofs.lines.LineWaits.{WaitsAs, line_waits_as}
 use Rattle.mmu_core.proofs.machine.Which.{is_next}
 use Rattle.mmu_core.proofs.machine.Worlds.{good_run}
-use Rattle.core_theorem.specs.Delays.{BeginsAnew, BetweenLinesSawNothing, DelaysHaveCauses, StartsSawNothing, StepWaits, WaitsHaveCauses, WaitsSeeAnother, answer_of, hand_of}
+use Rattle.core_theorem.specs.Delays.{BeginsAnew, BetweenLinesSawNothing, DelaysHaveCauses, StartsSawNothing, StepWaits, WaitsHaveCauses, WaitsInRunsSeeAnother, answer_of, hand_of}
 use Rattle.core_theorem.specs.Runs.{IsRun}
 use Rattle.core_theorem.proofs.Runs.{before, may_last, reached, sound}
 
@@ -136,7 +136,7 @@ module _ (z : Sizes) (lines : List Line) (w : World Held) (ss ts : List (Step Ki
 pub waits_have_causes : WaitsHaveCauses
 waits_have_causes z lines w ss ts s step note R N is needs waits = wait_is_caused z lines w ss ts s R step note N is needs waits
 
-pub waits_see_another : WaitsSeeAnother
+pub waits_see_another : WaitsInRunsSeeAnother
 waits_see_another z lines w ss s step note R is needs waits =
     let G : IsSound z (run mmu w ss) = sound z lines w ss (before z lines w ss s R) in
     let may : May mmu (run mmu w ss) s = may_last z lines w ss s R in

@@ -26,7 +26,7 @@ use Rattle.spte_words.specs.declared.spte_kind.SpteKind.{SpteKind}
 use Rattle.spte_words.specs.declared.spte_kind.SpteKind.TheVariants as entry_kind
 use Rattle.spte_words.specs.Entries.{kind_of}
 use Rattle.part_steps.specs.declared.part_step.PartStep.TheVariants as part
-use Rattle.mmu_core.specs.lines.AccessSteps.{access_outcome, behind_fault, pause_next, walk_next}
+use Rattle.mmu_core.specs.lines.AccessSteps.{access_outcome, behind_fault, pause_next, stay_next}
 use Rattle.mmu_core.specs.lines.Cached.{first_usable}
 use Rattle.mmu_laws.specs.causes.Causes.{HasMade}
 use Rattle.mmu_core.specs.machine.Enabled.{mmu}
@@ -93,7 +93,7 @@ module _ (z : Sizes) (w : World Held) (ss : List (Step Kind)) (s : Step Kind) (G
   looked again None saw = saw
   looked again (Some found) saw = saw
 
-  walked : (again : Bool) (k : SpteKind) (allowed : Bool) → Saw z w a (ss ++ s ∷ []) → AccessSaw z w a (walk_next again k allowed) (ss ++ s ∷ [])
+  walked : (again : Bool) (k : SpteKind) (allowed : Bool) → Saw z w a (ss ++ s ∷ []) → AccessSaw z w a (stay_next again k allowed) (ss ++ s ∷ [])
   walked again (entry_kind.Table page) allowed saw = saw
   walked again entry_kind.Leaf true saw = saw
   walked again entry_kind.Leaf false saw = tt

@@ -36,7 +36,7 @@ use Rattle.mmu_core.specs.invariant.Laws.{IsSound}
 use Rattle.mmu_core.specs.machine.Machine.{May, Step, World, effect, hand_in, run}
 use Rattle.mmu_core.specs.machine.Outcomes.{place_after}
 use Rattle.mmu_core.specs.lines.PartAt.{task_at}
-use Rattle.mmu_core.specs.lines.SlotChangeSteps.{after_claim, watch_next, slot_change_note, slot_change_outcome, slot_change_task}
+use Rattle.mmu_core.specs.lines.SlotChangeSteps.{after_set_claim, watch_next, slot_change_note, slot_change_outcome, slot_change_task}
 use Rattle.mmu_core.specs.machine.Steps.{has_line, line_at, place_at, task_of}
 use Rattle.mmu_core.specs.lines.SlotChangeKnows.{SlotChangeKnows}
 use Rattle.mmu_core.specs.invariant.TopicsInvariant.{TopicsInvariant}
@@ -106,7 +106,7 @@ HandCleared v i = HeldCleared (v.words area.Role) (v.hand i)
 -- ---- a line's own step
 
 module _ (role : ℕ → ℕ) (x : ℕ) (t : Topics) where
-  claim_cleared : (next : ClaimNext) → PlaceCleared role (place_after (after_claim next)) t
+  claim_cleared : (next : ClaimNext) → PlaceCleared role (place_after (after_set_claim next)) t
   claim_cleared claims.Goes = tt
   claim_cleared _ = tt
 

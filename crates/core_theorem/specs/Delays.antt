@@ -29,7 +29,7 @@ use Rattle.mmu_core.specs.machine.Turns.{line_of, outcome_of}
 use Rattle.mmu_laws.specs.causes.Waits.{SawNothing, StepWaitIsCaused}
 use Rattle.core_theorem.specs.Runs.{IsRun}
 
--- the hand that makes a step behind a run, and what the step answers
+-- the hand that makes a step after a run, and what the step answers
 abbrev pub hand_of : World Held → List (Step Kind) → Step Kind → Held
 hand_of w ss s = hand_in mmu (run mmu w ss) s.actor
 
@@ -67,8 +67,8 @@ WaitsHaveCauses =
     → StepWaitIsCaused step z (run mmu w ss) ts s
 
 -- In every run each step of a part that waits, whoever makes it, has seen another actor.
-abbrev pub WaitsSeeAnother : Type 0
-WaitsSeeAnother =
+abbrev pub WaitsInRunsSeeAnother : Type 0
+WaitsInRunsSeeAnother =
     (z : Sizes) (lines : List Line) (w : World Held) (ss : List (Step Kind)) (s : Step Kind) (step : PartStep) (note : ℕ) → IsRun z lines w (ss ++ s ∷ [])
     → s.kind ≡ part_kind (hand_of w ss s) step note → PartNeeds step (hand_of w ss s)
     → part_waits step (hand_of w ss s).topics (answer_of w ss s) ≡ true

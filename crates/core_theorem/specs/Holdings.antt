@@ -1,4 +1,4 @@
--- What actors hold of pool pages behind a run: nothing that is free, no slot set that was taken out of use by an actor whose watch has
+-- What actors hold of pool pages after a run: nothing that is free, no slot set that was taken out of use by an actor whose watch has
 -- passed them since, and nothing that another actor takes or gives back.
 use Rattle.std.specs.Prelude.{◌≡◌, ◌≢◌, ◌⊎◌, ◌<◌, ℕ, List, [], ◌∷◌, ◌++◌, false, true, Some}
 use Rattle.core_views.specs.declared.answer.Answer.{Answer}
@@ -78,7 +78,7 @@ ReturnedSetsAreCleared =
     (z : Sizes) (lines : List Line) (w : World Held) (ss : List (Step Kind)) (s : Step Kind) → IsRun z lines w (ss ++ s ∷ []) → (page : ℕ)
     → GivesBack page (run mmu w ss) s → (hand_in mmu (run mmu w ss) s.actor).topics.leaving ≡ Some page → word_in z (run mmu w ss) area.Role page ≡ 0
 
--- Where a step answers a line, also its actor's last one, the actor holds nothing behind it: it is out of the guest and of every section,
+-- Where a step answers a line, also its actor's last one, the actor holds nothing after it: it is out of the guest and of every section,
 -- has no lock, no page and no slot set, and no page leaves for it.
 abbrev pub AnsweredLinesRest : Type 0
 AnsweredLinesRest =

@@ -1,4 +1,4 @@
--- Leaves behind a run: what is linked, what walks come to, what is cached and what an access uses agrees with slots and host.
+-- Leaves after a run: what is linked, what walks come to, what is cached and what an access uses agrees with slots and host.
 use Rattle.std.specs.Prelude.{◌≡◌, ◌/◌, ◌^◌, ◌<◌, ℕ, List, All, true}
 use Rattle.core_views.specs.declared.kind.Kind.{Kind}
 use Rattle.core_views.specs.declared.place.AccessPlace.TheVariants.{Touch}

@@ -1,4 +1,4 @@
--- The MMU lock behind a run.
+-- The MMU lock after a run.
 use Rattle.std.specs.Prelude.{List}
 use Rattle.core_views.specs.declared.kind.Kind.{Kind}
 use Rattle.core_views.specs.declared.sizes.Sizes.{Sizes}

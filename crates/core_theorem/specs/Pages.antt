@@ -1,4 +1,4 @@
--- Pool pages: what each of them is used for behind a run.
+-- Pool pages: what each of them is used for after a run.
 use Rattle.std.specs.Prelude.{◌≡◌, ◌<◌, ◌≤◌, ℕ, List, true, Some}
 use Rattle.core_views.specs.declared.kind.Kind.{Kind}
 use Rattle.core_views.specs.declared.sizes.Sizes.{Sizes}

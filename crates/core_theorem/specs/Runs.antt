@@ -15,7 +15,7 @@ use Rattle.mmu_core.specs.machine.Machine.{Legal, Step, World, run}
 use Rattle.mmu_core.specs.machine.View.{word_in}
 use Rattle.mmu_core.specs.machine.Worlds.{IsStart, history}
 
--- The steps are made one behind the other from the start of a machine of these sizes with these lines, and each may be made in its turn.
+-- The steps are made one after the other from the start of a machine of these sizes with these lines, and each may be made in its turn.
 pub record IsRun (z : Sizes) (lines : List Line) (w : World Held) (ss : List (Step Kind)) : Type 0 where
   pub start : IsStart z lines w
   pub legal : Legal mmu w ss

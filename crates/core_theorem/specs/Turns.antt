@@ -29,7 +29,7 @@ is_of_line w s = has_line (hand_in mmu w s.actor)
 abbrev pub begins_line : World Held → Step Kind → Bool
 begins_line w s = is_of_line w s && not (is_under_way (hand_in mmu w s.actor).state.place)
 
--- The hand's next step, where it answers v, is a delay of its line: the line waits, its fault begins anew, or the stay behind an installed
+-- The hand's next step, where it answers v, is a delay of its line: the line waits, its fault begins anew, or the stay after an installed
 -- entry finds no translation that allows the access.
 abbrev pub hand_delays : Held → ℕ → Bool
 hand_delays h v = delays_at (place_at h.state.place h) (line_of h).command h v
@@ -42,7 +42,7 @@ delays_line w s = is_of_line w s && hand_delays (hand_in mmu w s.actor) (answere
 abbrev pub is_of : ℕ → ℕ → World Held → Step Kind → Bool
 is_of actor before w s = is_of_line w s && (s.actor == actor && length (hand_in mmu w s.actor).answers == before)
 
--- how many of the steps are so, each in the world that it is made in, one behind the other from this world on
+-- how many of the steps are so, each in the world that it is made in, one after the other from this world on
 abbrev pub how_many : (World Held → Step Kind → Bool) → World Held → List (Step Kind) → ℕ
 how_many is_so w [] = 0
 how_many is_so w (s ∷ ss) = one_if (is_so w s) + how_many is_so (effect mmu w s) ss

@@ -1,4 +1,4 @@
--- The tables that a walk holds behind a run: those that it has gone through, and the one that it has come to.
+-- The tables that a walk holds after a run: those that it has gone through, and the one that it has come to.
 use Rattle.std.specs.Prelude.{◌≡◌, ◌<◌, ◌≤◌, ℕ, List, Some}
 use Rattle.core_views.specs.declared.kind.Kind.{Kind}
 use Rattle.core_views.specs.declared.sizes.Sizes.{Sizes}

@@ -3,7 +3,7 @@
 #![tactic(auto)]
 
 ghost use Rattle.core_theorem.specs.Delays.{BetweenLinesSawNothing, StartsSawNothing};
-ghost use Rattle.core_theorem.specs.Delays.{DelaysHaveCauses, FaultsHaveCauses, StarvedLinesScanned, WaitsHaveCauses, WaitsSeeAnother};
+ghost use Rattle.core_theorem.specs.Delays.{DelaysHaveCauses, FaultsHaveCauses, StarvedLinesScanned, WaitsHaveCauses, WaitsInRunsSeeAnother};
 ghost use Rattle.core_theorem.specs.Holdings.{AnsweredLinesRest, HeldSetsAreKnown, NoneHoldsFreePages, PagesAreReusedAlone, ReturnedSetsAreCleared, WatchedHoldNoOldSet};
 ghost use Rattle.core_theorem.specs.Leaves.{HeldLeavesAgree, LinkedLeavesAgree, TranslationsAgree, UsedLeavesAgree};
 ghost use Rattle.core_theorem.specs.Locks.{LockIsKept};
@@ -78,7 +78,7 @@ pub fn every_run()
     ensures open_lines { LinesAreOpen }
     ensures begins_anew { FaultsHaveCauses }
     ensures waits { WaitsHaveCauses }
-    ensures sees { WaitsSeeAnother }
+    ensures sees { WaitsInRunsSeeAnother }
     ensures at_start { StartsSawNothing }
     ensures between_lines { BetweenLinesSawNothing }
     ensures delays { DelaysHaveCauses }

@@ -15,3 +15,4 @@ pub mod Holding
 pub mod FlatSlots
 pub mod Writes
 pub mod Written
+pub mod SlotLines

@@ -10,7 +10,7 @@ use Rattle.core_views.specs.declared.sizes.Sizes.{Sizes}
 use Rattle.core_views.specs.declared.trace.Line.{Line}
 use Rattle.core_views.specs.Actors.{is_same}
 use Rattle.core_views.specs.Past.{Past, of_others, past_begun, written_frame}
-use Rattle.core_views.specs.Flat.{Facts, Flat, LineUnderWay}
+use Rattle.core_views.specs.Flat.{Facts, Flat, LineUnderWay, first_flat}
 use Rattle.core_views.specs.Events.{after, after_all, line_after, past_after}
 use Rattle.core_views.specs.Lawful.{IsAllowed, IsLawful}
 use Rattle.core_views.specs.Alone.{IsWithin}
@@ -255,3 +255,10 @@ are_after z e f may are = record {
 pub all_of_lines : (z : Sizes) (es : List Event) (f : Flat) → IsLawful z f es → AreOfLines f → AreOfLines (after_all es f)
 all_of_lines z [] f lawful are = are
 all_of_lines z (e ∷ es) f lawful are = all_of_lines z es (after e f) lawful.1 (are_after z e f lawful.0 are)
+
+-- At the start no line is under way.
+pub none_at_first : {X : Type 0} (actor : Actor) (gfn : ℕ) → Contains first_flat.past.writes (actor, gfn) → X
+none_at_first actor gfn has = absurd (omega (arith, has.1))
+
+pub first_of_lines : AreOfLines first_flat
+first_of_lines = record { is_writing = λ actor gfn has. none_at_first actor gfn has; is_in = λ actor gfn writes. absurd (writes.0 refl) }

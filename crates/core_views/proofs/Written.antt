@@ -1,15 +1,17 @@
 -- The frames that were written are those of the writes that were under way: one event at a time, of any set of frames that moves as the past's do.
 use Rattle.std.proofs.Common.{◌≡◌, ◌⊎◌, inl, inr, ℕ, List, [], ◌∷◌, ◌++◌, Bool, true, false, refl, sym, ap, ◌∙◌, subst, arith}
 use Rattle.std.specs.Prelude.{Contains, ◌==◌, ◌||◌, Option, Some, None, if◌then◌else◌}
-use Rattle.std.proofs.lemmas.Bool.{eq-eqb, eqb-true}
+use Rattle.std.proofs.lemmas.Bool.{eq-eqb, eqb-true, or_from, or_parts}
 use Rattle.core_views.specs.declared.actor.Actor.{Actor}
 use Rattle.core_views.specs.declared.event.Event.{Event}
 use Rattle.core_views.specs.declared.event.EventKind.{EventKind}
 use Rattle.core_views.specs.declared.event.EventKind.TheVariants.{Begun, SlotChanged, Answered}
+use Rattle.core_views.specs.declared.slot_set.MemorySlot.{MemorySlot}
+use Rattle.core_views.specs.SlotSets.{slot_at}
 use Rattle.core_views.specs.Past.{Frames, Past, counted_anew, is_being_written, is_frame_of, of_others, past_begun, with_frame, written_frame}
 use Rattle.core_views.specs.Flat.{Facts, Flat}
 use Rattle.core_views.specs.Events.{after, after_all, past_after}
-use Rattle.core_views.specs.Writes.{KeepsSlot, SlotKept}
+use Rattle.core_views.specs.Writes.{IsOutside, KeepsSlot, SlotKept}
 use Rattle.core_views.proofs.Writes.{cons_cases, first_in, later_in, of_another}
 
 -- what an event makes of such frames
@@ -17,13 +19,13 @@ abbrev pub begun_frames : Option ℕ → Frames → Frames
 begun_frames None frames = frames
 begun_frames (Some gfn) frames = with_frame gfn frames
 
-abbrev pub moved : EventKind → List (Actor × ℕ) → Frames → Frames
-moved (Begun line) writes frames = begun_frames (written_frame line.command) frames
-moved (SlotChanged id slot) writes frames = counted_anew slot writes frames
-moved _ writes frames = frames
+abbrev pub moved : EventKind → Facts → List (Actor × ℕ) → Frames → Frames
+moved (Begun line) f writes frames = begun_frames (written_frame line.command) frames
+moved (SlotChanged id slot) f writes frames = counted_anew (slot_at id f.slots) slot writes frames
+moved _ f writes frames = frames
 
 pub recent_moves : (a : Actor) (kind : EventKind) (f : Facts) (past : Past)
-    → ◌≡◌ {A = Frames} (past_after a kind f past).recent (moved kind past.writes past.recent)
+    → ◌≡◌ {A = Frames} (past_after a kind f past).recent (moved kind f past.writes past.recent)
 recent_moves a (Begun line) f past = by (written_frame line.command)
   where
     by : (frame : Option ℕ) → ◌≡◌ {A = Frames} (past_begun a frame past).recent (begun_frames frame past.recent)
@@ -34,7 +36,7 @@ recent_moves a (Answered number answer) f past = refl
 recent_moves a _ f past = refl
 
 pub causes_move : (a : Actor) (kind : EventKind) (f : Facts) (past : Past)
-    → ◌≡◌ {A = Frames} (past_after a kind f past).causes (moved kind past.writes past.causes)
+    → ◌≡◌ {A = Frames} (past_after a kind f past).causes (moved kind f past.writes past.causes)
 causes_move a (Begun line) f past = by (written_frame line.command)
   where
     by : (frame : Option ℕ) → ◌≡◌ {A = Frames} (past_begun a frame past).causes (begun_frames frame past.causes)
@@ -87,11 +89,21 @@ begun_keep : (frame : Option ℕ) (frames : Frames) (gfn : ℕ) → frames gfn �
 begun_keep None frames gfn is = is
 begun_keep (Some first) frames gfn is = or_second (first == gfn) (frames gfn) is
 
-moved_keeps : (kind : EventKind) (writes : List (Actor × ℕ)) (frames : Frames) (gfn : ℕ) → KeepsSlot gfn kind → frames gfn ≡ true
-    → moved kind writes frames gfn ≡ true
-moved_keeps (Begun line) writes frames gfn keeps is = begun_keep (written_frame line.command) frames gfn is
-moved_keeps (SlotChanged id slot) writes frames gfn keeps is = ap (λ b. if b then is_being_written writes gfn else frames gfn) keeps ∙ is
-moved_keeps _ writes frames gfn keeps is = is
+out_is : (slot : Option MemorySlot) (gfn : ℕ) → IsOutside gfn slot → is_frame_of slot gfn ≡ false
+out_is None gfn out = refl
+out_is (Some slot) gfn out = out
+
+is_out : (slot : Option MemorySlot) (gfn : ℕ) → is_frame_of slot gfn ≡ false → IsOutside gfn slot
+is_out None gfn is = tt
+is_out (Some slot) gfn is = is
+
+moved_keeps : (kind : EventKind) (f : Facts) (writes : List (Actor × ℕ)) (frames : Frames) (gfn : ℕ) → KeepsSlot gfn f kind → frames gfn ≡ true
+    → moved kind f writes frames gfn ≡ true
+moved_keeps (Begun line) f writes frames gfn keeps is = begun_keep (written_frame line.command) frames gfn is
+moved_keeps (SlotChanged id slot) f writes frames gfn keeps is =
+    let none = or_from (is_frame_of (slot_at id f.slots) gfn) (is_frame_of slot gfn) (out_is (slot_at id f.slots) gfn keeps.0) (out_is slot gfn keeps.1) in
+    ap (λ b. if b then is_being_written writes gfn else frames gfn) none ∙ is
+moved_keeps _ f writes frames gfn keeps is = is
 
 -- It was there, or a write of it is under way.
 begun_was : (a : Actor) (frame : Option ℕ) (past : Past) (frames : Frames) (gfn : ℕ) → begun_frames frame frames gfn ≡ true
@@ -104,20 +116,22 @@ begun_was a (Some first) past frames gfn is = by (or_either (first == gfn) (fram
         inl (record { actor = a; has = subst (λ n. Contains (past_begun a (Some first) past).writes (a, n)) (eqb-true first gfn same) (first_in (a, first) _) })
     by (inr there) = inr there
 
-moved_was : (a : Actor) (kind : EventKind) (f : Facts) (past : Past) (frames : Frames) (gfn : ℕ) → moved kind past.writes frames gfn ≡ true
-    → WritesNow (past_after a kind f past).writes gfn ⊎ ((frames gfn ≡ true) × KeepsSlot gfn kind)
+moved_was : (a : Actor) (kind : EventKind) (f : Facts) (past : Past) (frames : Frames) (gfn : ℕ) → moved kind f past.writes frames gfn ≡ true
+    → WritesNow (past_after a kind f past).writes gfn ⊎ ((frames gfn ≡ true) × KeepsSlot gfn f kind)
 moved_was a (Begun line) f past frames gfn is = by (begun_was a (written_frame line.command) past frames gfn is)
   where
     by : WritesNow (past_begun a (written_frame line.command) past).writes gfn ⊎ (frames gfn ≡ true)
         → WritesNow (past_begun a (written_frame line.command) past).writes gfn ⊎ ((frames gfn ≡ true) × Unit {0})
     by (inl now_) = inl now_
     by (inr there) = inr (there, tt)
-moved_was a (SlotChanged id slot) f past frames gfn is = by (is_frame_of slot gfn) refl is
+moved_was a (SlotChanged id slot) f past frames gfn is = by (is_frame_of (slot_at id f.slots) gfn || is_frame_of slot gfn) refl is
   where
-    by : (b : Bool) → is_frame_of slot gfn ≡ b → (if b then is_being_written past.writes gfn else frames gfn) ≡ true
-        → WritesNow past.writes gfn ⊎ ((frames gfn ≡ true) × (is_frame_of slot gfn ≡ false))
+    by : (b : Bool) → (is_frame_of (slot_at id f.slots) gfn || is_frame_of slot gfn) ≡ b → (if b then is_being_written past.writes gfn else frames gfn) ≡ true
+        → WritesNow past.writes gfn ⊎ ((frames gfn ≡ true) × (IsOutside gfn (slot_at id f.slots) × IsOutside gfn slot))
     by true holds is = inl (some_writes past.writes gfn is)
-    by false apart is = inr (is, apart)
+    by false apart is =
+        let both = or_parts (is_frame_of (slot_at id f.slots) gfn) (is_frame_of slot gfn) apart in
+        inr (is, (is_out (slot_at id f.slots) gfn both.0, is_out slot gfn both.1))
 moved_was a (Answered number answer) f past frames gfn is = inr (is, tt)
 moved_was a _ f past frames gfn is = inr (is, tt)
 
@@ -135,9 +149,9 @@ begun_written a (Some first) past frames gfn all actor has = by (cons_cases (a, 
     by (inr later) = or_second (first == gfn) (frames gfn) (all actor (of_another a actor past.writes gfn later).0)
 
 moved_written : (a : Actor) (kind : EventKind) (f : Facts) (past : Past) (frames : Frames) (gfn : ℕ) → AllWritten past.writes frames gfn
-    → AllWritten (past_after a kind f past).writes (moved kind past.writes frames) gfn
+    → AllWritten (past_after a kind f past).writes (moved kind f past.writes frames) gfn
 moved_written a (Begun line) f past frames gfn all actor has = begun_written a (written_frame line.command) past frames gfn all actor has
-moved_written a (SlotChanged id slot) f past frames gfn all actor has = by (is_frame_of slot gfn)
+moved_written a (SlotChanged id slot) f past frames gfn all actor has = by (is_frame_of (slot_at id f.slots) gfn || is_frame_of slot gfn)
   where
     by : (b : Bool) → (if b then is_being_written past.writes gfn else frames gfn) ≡ true
     by true = is_written past.writes actor gfn has
@@ -148,7 +162,8 @@ moved_written a _ f past frames gfn all actor has = all actor has
 -- ---- a list of events, from any state
 
 module _ (pick : Past → Frames)
-    (moves : (a : Actor) (kind : EventKind) (f : Facts) (past : Past) → ◌≡◌ {A = Frames} (pick (past_after a kind f past)) (moved kind past.writes (pick past)))
+    (moves : (a : Actor) (kind : EventKind) (f : Facts) (past : Past)
+    → ◌≡◌ {A = Frames} (pick (past_after a kind f past)) (moved kind f past.writes (pick past)))
     (gfn : ℕ) where
   -- At some moment among these events the frame was being written, and its slot is kept since.
   pub record WasSince (es : List Event) (f : Flat) : Type 0 where
@@ -157,19 +172,19 @@ module _ (pick : Past → Frames)
     pub are : es ≡ before ++ since
     pub actor : Actor
     pub writes : Contains (after_all before f).past.writes (actor, gfn)
-    pub kept : SlotKept gfn since
+    pub kept : SlotKept gfn (after_all before f).facts since
 
-  pub was_or_stood : (es : List Event) (f : Flat) → pick (after_all es f).past gfn ≡ true → WasSince es f ⊎ ((pick f.past gfn ≡ true) × SlotKept gfn es)
+  pub was_or_stood : (es : List Event) (f : Flat) → pick (after_all es f).past gfn ≡ true → WasSince es f ⊎ ((pick f.past gfn ≡ true) × SlotKept gfn f.facts es)
   was_or_stood [] f is = inr (is, tt)
   was_or_stood (e ∷ es) f is = by (was_or_stood es (after e f) is)
     where
-      here : SlotKept gfn es → WritesNow (after e f).past.writes gfn ⊎ ((pick f.past gfn ≡ true) × KeepsSlot gfn e.kind)
-          → WasSince (e ∷ es) f ⊎ ((pick f.past gfn ≡ true) × SlotKept gfn (e ∷ es))
+      here : SlotKept gfn (after e f).facts es → WritesNow (after e f).past.writes gfn ⊎ ((pick f.past gfn ≡ true) × KeepsSlot gfn f.facts e.kind)
+          → WasSince (e ∷ es) f ⊎ ((pick f.past gfn ≡ true) × SlotKept gfn f.facts (e ∷ es))
       here kept (inl W) = inl (record { before = e ∷ []; since = es; are = refl; actor = W.actor; writes = W.has; kept = kept })
       here kept (inr stood) = inr (stood.0, (stood.1, kept))
 
-      by : WasSince es (after e f) ⊎ ((pick (after e f).past gfn ≡ true) × SlotKept gfn es)
-          → WasSince (e ∷ es) f ⊎ ((pick f.past gfn ≡ true) × SlotKept gfn (e ∷ es))
+      by : WasSince es (after e f) ⊎ ((pick (after e f).past gfn ≡ true) × SlotKept gfn (after e f).facts es)
+          → WasSince (e ∷ es) f ⊎ ((pick f.past gfn ≡ true) × SlotKept gfn f.facts (e ∷ es))
       by (inl W) =
           inl (record {
             before = e ∷ W.before;
@@ -184,14 +199,14 @@ module _ (pick : Past → Frames)
           (moved_was e.actor e.kind f.facts f.past (pick f.past) gfn
           (ap (λ (frames : Frames). frames gfn) (sym (moves e.actor e.kind f.facts f.past)) ∙ stood.0))
 
-  stays : (es : List Event) (f : Flat) → SlotKept gfn es → pick f.past gfn ≡ true → pick (after_all es f).past gfn ≡ true
+  stays : (es : List Event) (f : Flat) → SlotKept gfn f.facts es → pick f.past gfn ≡ true → pick (after_all es f).past gfn ≡ true
   stays [] f kept is = is
   stays (e ∷ es) f kept is =
       stays es (after e f) kept.1
-      (ap (λ (frames : Frames). frames gfn) (moves e.actor e.kind f.facts f.past) ∙ moved_keeps e.kind f.past.writes (pick f.past) gfn kept.0 is)
+      (ap (λ (frames : Frames). frames gfn) (moves e.actor e.kind f.facts f.past) ∙ moved_keeps e.kind f.facts f.past.writes (pick f.past) gfn kept.0 is)
 
   was_from : (before since : List Event) (f : Flat) (actor : Actor) → AllWritten f.past.writes (pick f.past) gfn
-      → Contains (after_all before f).past.writes (actor, gfn) → SlotKept gfn since
+      → Contains (after_all before f).past.writes (actor, gfn) → SlotKept gfn (after_all before f).facts since
       → pick (after_all (before ++ since) f).past gfn ≡ true
   was_from [] since f actor all has kept = stays since f kept (all actor has)
   was_from (e ∷ es) since f actor all has kept =

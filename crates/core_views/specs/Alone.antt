@@ -31,7 +31,7 @@ abbrev pub AreWithin : Line → List Event → Type 0
 AreWithin line [] = Unit {0}
 AreWithin line (e ∷ es) = (e.actor ≡ line.actor) × IsWithin e.kind × AreWithin line es
 
--- The history starts with the whole of this line: its begin, events of its own, its answer; the rest comes behind.
+-- The history starts with the whole of this line: its begin, events of its own, its answer; the rest comes after.
 pub record StandsFirst (line : Line) (history rest : List Event) : Type 0 where
   pub within : List Event
   pub answer : Answer

@@ -8,7 +8,7 @@ use Rattle.core_views.specs.declared.actor.Actor.{Actor}
 use Rattle.core_views.specs.Actors.{changed_at}
 use Rattle.core_views.specs.Host.{with_entry}
 use Rattle.core_views.specs.Slots.{page_behind}
-use Rattle.core_views.specs.SlotSets.{changed_slots, flat_slots}
+use Rattle.core_views.specs.SlotSets.{changed_slots, flat_slots, slot_at}
 use Rattle.core_views.specs.Memory.{Memory, with_word, stored}
 use Rattle.core_views.specs.Past.{Past, counted_anew, of_others, past_begun, written_frame}
 use Rattle.core_views.specs.Flat.{Facts, LineUnderWay, Flat, no_notes, Idle, Fresh, HasAccessed, HasLeft, HasChanged}
@@ -24,12 +24,15 @@ facts_after (Accessed gfn word op frame before) f = record f { memory = touched 
 facts_after (SlotChanged id slot) f = record f { slots = changed_slots id slot f.slots }
 facts_after _ f = f
 
--- the past after an event of the actor: it moves where a line begins or is answered, and where a slot is set
+-- the past after an event of the actor: it moves where a line begins or is answered, and where a slot is changed
 abbrev pub past_after : Actor → EventKind → Facts → Past → Past
 past_after actor (Begun line) f past = past_begun actor (written_frame line.command) past
 past_after actor (Answered line answer) f past = record past { writes = of_others actor past.writes }
 past_after actor (SlotChanged id slot) f past =
-    record past { recent = counted_anew slot past.writes past.recent; causes = counted_anew slot past.writes past.causes }
+    record past {
+      recent = counted_anew (slot_at id f.slots) slot past.writes past.recent;
+      causes = counted_anew (slot_at id f.slots) slot past.writes past.causes;
+    }
 past_after actor _ f past = past
 
 -- the line under way after an event of its actor

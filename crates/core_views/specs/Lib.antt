@@ -21,6 +21,8 @@ pub mod Need
 pub mod Kinds
 pub mod Held
 pub mod Writes
+pub mod ReachedWrites
 pub mod Laws
 pub mod Unlawful
+pub mod SlotLines
 pub mod Rows

@@ -15,8 +15,8 @@ Frames = ℕ → Bool
 -- A write that is under way may still reach its frame, or have done so. No log is read yet, and so `recent` and `causes` are the same frames.
 pub record Past : Type 0 where
   pub writes : List (Actor × ℕ)  -- the lines under way that write: the actor of each, and its guest frame
-  pub recent : Frames  -- Such a line was under way at some moment since a log was last read, and since the frame's slot was last set.
-  pub causes : Frames  -- One was since the log was last read that gave the frame, and since the frame's slot was last set.
+  pub recent : Frames  -- Such a line was under way at some moment since a log was last read, and since the frame's slot was last changed.
+  pub causes : Frames  -- One was since the log was last read that gave the frame, and since the frame's slot was last changed.
 
 -- At the start no line is under way.
 abbrev pub first_past : Past
@@ -48,11 +48,12 @@ past_begun actor (Some gfn) past = record {
   causes = with_frame gfn past.causes;
 }
 
--- The slot, if it is one, has the guest frame.
+-- The slot, if there is one, has the guest frame.
 abbrev pub is_frame_of : Option MemorySlot → ℕ → Bool
 is_frame_of None gfn = false
 is_frame_of (Some slot) gfn = contains gfn slot.slot
 
--- these frames, where each frame of the slot counts anew: from now on, with the writes that are under way now
-abbrev pub counted_anew : Option MemorySlot → List (Actor × ℕ) → Frames → Frames
-counted_anew slot writes frames = λ gfn. if is_frame_of slot gfn then is_being_written writes gfn else frames gfn
+-- these frames, where the slot at an ID is changed: each frame of the one that was there, and of the one that is there now, counts anew, from now on, with
+-- the writes that are under way now
+abbrev pub counted_anew : Option MemorySlot → Option MemorySlot → List (Actor × ℕ) → Frames → Frames
+counted_anew was slot writes frames = λ gfn. if is_frame_of was gfn || is_frame_of slot gfn then is_being_written writes gfn else frames gfn

@@ -1,15 +1,18 @@
 -- What the flat state keeps of the past, in words over the list of events and over the lines under way: which writes are under way, and which frames
 -- were written.
-use Rattle.std.specs.Prelude.{◌≡◌, ◌≢◌, ◌↔◌, ℕ, List, [], ◌∷◌, ◌++◌, Contains, Some, true, false}
+use Rattle.std.specs.Prelude.{◌≡◌, ◌≢◌, ◌↔◌, ℕ, List, [], ◌∷◌, ◌++◌, Contains, Option, Some, None, true, false}
 use Rattle.core_views.specs.declared.actor.Actor.{Actor}
 use Rattle.core_views.specs.declared.event.Event.{Event}
 use Rattle.core_views.specs.declared.event.EventKind.{EventKind}
 use Rattle.core_views.specs.declared.event.EventKind.TheVariants.{Begun, SlotChanged}
 use Rattle.core_views.specs.declared.sizes.Sizes.{Sizes}
+use Rattle.core_views.specs.declared.slot_set.MemorySlot.{MemorySlot}
 use Rattle.core_views.specs.declared.trace.Line.{Line}
-use Rattle.core_views.specs.Past.{is_frame_of, written_frame}
-use Rattle.core_views.specs.Flat.{LineUnderWay, Idle, first_flat}
-use Rattle.core_views.specs.Events.{after_all}
+use Rattle.core_views.specs.Slots.{contains}
+use Rattle.core_views.specs.SlotSets.{slot_at}
+use Rattle.core_views.specs.Past.{written_frame}
+use Rattle.core_views.specs.Flat.{Facts, LineUnderWay, Idle, first_flat}
+use Rattle.core_views.specs.Events.{after_all, facts_after}
 use Rattle.core_views.specs.Lawful.{IsLawful}
 use Rattle.core_views.specs.Alone.{IsWithin}
 
@@ -43,23 +46,29 @@ WritesAreUnderWay =
     (z : Sizes) (history : List Event) → IsLawful z first_flat history → (actor : Actor) (gfn : ℕ)
     → Contains (after_all history first_flat).past.writes (actor, gfn) ↔ IsWriting ((after_all history first_flat).under actor) gfn
 
--- The event sets no slot that has the frame.
-abbrev pub KeepsSlot : ℕ → EventKind → Type 0
-KeepsSlot gfn (SlotChanged id slot) = is_frame_of slot gfn ≡ false
-KeepsSlot _ _ = Unit {0}
+-- There is no slot, or the slot doesn't contain the frame.
+abbrev pub IsOutside : ℕ → Option MemorySlot → Type 0
+IsOutside gfn None = Unit {0}
+IsOutside gfn (Some slot) = contains gfn slot.slot ≡ false
 
-abbrev pub SlotKept : ℕ → List Event → Type 0
-SlotKept gfn [] = Unit {0}
-SlotKept gfn (e ∷ es) = KeepsSlot gfn e.kind × SlotKept gfn es
+-- The event, with these facts before it, changes no slot that contains the frame before or after it.
+abbrev pub KeepsSlot : ℕ → Facts → EventKind → Type 0
+KeepsSlot gfn f (SlotChanged id slot) = IsOutside gfn (slot_at id f.slots) × IsOutside gfn slot
+KeepsSlot _ _ _ = Unit {0}
 
--- At some moment of the history a line that writes the frame was under way, and the frame's slot was not set since.
+-- None of the events does, where the facts before them are these.
+abbrev pub SlotKept : ℕ → Facts → List Event → Type 0
+SlotKept gfn f [] = Unit {0}
+SlotKept gfn f (e ∷ es) = KeepsSlot gfn f e.kind × SlotKept gfn (facts_after e.kind f) es
+
+-- At some moment of the history a line that writes the frame was under way, and the frame's slot was not changed since.
 pub record WasWritten (history : List Event) (gfn : ℕ) : Type 0 where
   pub before : List Event
   pub since : List Event
   pub history_is : history ≡ before ++ since
   pub actor : Actor
   pub begun : HasBegunWrite before actor gfn
-  pub kept : SlotKept gfn since
+  pub kept : SlotKept gfn (after_all before first_flat).facts since
 
 -- After every history, lawful or not, those are the frames that were written lately, and the ones that have a cause to stand in a log.
 abbrev pub WrittenFramesAreKept : Type 0

@@ -1,4 +1,6 @@
 ghost use Rattle.core_views.specs.Laws.{FlatIsLawful, FlatIsWhole, FlatStandsAlone, FlatPrints, AloneIsFlat, AloneAnswersAsFlat, AloneIsWhole};
+ghost use Rattle.core_views.specs.ReachedWrites.{OnlyWritesChange, OnlyWritesCount, ReachedFramesAreKept};
+ghost use Rattle.core_views.specs.SlotLines.{FittingPrints, KeepsOtherIds, SetsAsRecord, SetsAtItsId};
 ghost use Rattle.core_views.specs.Writes.{WritesAreBegun, WritesAreUnderWay, WrittenFramesAreKept};
 ghost use Rattle.core_views.specs.Unlawful.{AccessLooksAtPause, AccessReachesItsFrame, ExitLooksAtPause};
 ghost use Rattle.core_views.specs.Unlawful.{OutsideCannotStarve, OutsideReachesNone, OverlapCannotStarve, StarvedLooksAtHost, StarvedLooksAtPause};
@@ -45,9 +47,33 @@ pub fn unlawful_histories_are_refused()
 /// writes the frame, and has not answered it (`begun`); after a lawful history that line
 /// is the actor's line under way (`under`). The frames that were written lately, and those
 /// that have a cause to stand in a log, are just those of the lines that were under way
-/// at some moment since the frame's slot was last set (`written`).
+/// at some moment since the frame's slot was last changed (`written`): a change counts that
+/// has the frame in the slot before it or after it.
 pub fn writes_are_kept()
     ensures begun { WritesAreBegun }
     ensures under { WritesAreUnderWay }
     ensures written { WrittenFramesAreKept }
+{}
+
+/// A law about the accesses that reach memory, whatever their lines were taken to write.
+/// After every lawful history each frame that a write or an add has reached, and whose
+/// slot was not changed since, is among those that were written lately, and among those
+/// that have a cause to stand in a log (`reached`). Any other access leaves its word as it
+/// was (`others`), and no other line is taken to write a frame (`only`).
+pub fn reached_writes_are_kept()
+    ensures reached { ReachedFramesAreKept }
+    ensures others { OnlyWritesChange }
+    ensures only { OnlyWritesCount }
+{}
+
+/// A law about what a slot line makes of flat memory's slots: what the manager's record
+/// makes of them (`record`); the slot stands at its ID, with a dirty log where the one that
+/// was there had one (`set`), and at each other ID what stood there (`others`). The last
+/// clause is one closed trace of slots that just fit, and of slots one page larger, with
+/// the bytes that it prints.
+pub fn slot_lines_set_slots()
+    ensures record { SetsAsRecord }
+    ensures set { SetsAtItsId }
+    ensures others { KeepsOtherIds }
+    ensures fits { FittingPrints }
 {}

@@ -25,7 +25,8 @@ pub use event::{Event, EventKind};
 pub use hand::{Closing, Hand, Hands, Progress, Seen};
 pub use kind::{Kind, Operation, StepKind};
 pub use laws::{
-    alone_is_flat, flat_history_is_lawful, unlawful_histories_are_refused, writes_are_kept,
+    alone_is_flat, flat_history_is_lawful, reached_writes_are_kept, slot_lines_set_slots,
+    unlawful_histories_are_refused, writes_are_kept,
 };
 pub use no_memory::NoMemory;
 pub use place::{

@@ -16,7 +16,7 @@ pub enum SlotField {
     Flags,
 }
 
-/// What becomes of an access behind its stay in the guest.
+/// What becomes of an access after its stay in the guest.
 #[derive(Clone, Copy, Debug, PartialEq, Eq, Drop)]
 pub enum Leaving {
     /// It reached its word, and is answered so.
@@ -166,7 +166,7 @@ pub enum FaultPlace {
     End(FaultEnd),
 }
 
-/// Where a fault stands behind a step.
+/// Where a fault stands after a step.
 #[derive(Clone, Copy, Debug, PartialEq, Eq, Drop)]
 pub enum FaultNext {
     /// It goes on with the step of this place.

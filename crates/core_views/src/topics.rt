@@ -37,7 +37,7 @@ pub struct SlotSearch {
     pub id: u64,
     /// The word that is next.
     pub next: SlotField,
-    /// The slot whose words are loaded; behind it, the one that was loaded last.
+    /// The slot whose words are loaded; after it, the one that was loaded last.
     pub slot: Slot,
     /// Whether the flags that were loaded last have a dirty log in them.
     pub logged: bool,
@@ -64,7 +64,7 @@ pub enum Checked {
     Start,
     /// And the guest frame behind it.
     Range,
-    /// And, behind the count where it was 0, or behind the range, the sequence
+    /// And, after the count where it was 0, or after the range, the sequence
     /// number.
     All,
 }

@@ -13,7 +13,7 @@ use std::alloc::Global;
 use std::collections::HashMap;
 use std::marker::Model;
 
-/// Flat guest memory, as it is behind some lines of a trace: its slots,
+/// Flat guest memory, as it is after some lines of a trace: its slots,
 /// and the content words that were written, by host page and word.
 #[derive(Drop)]
 pub struct Plain {

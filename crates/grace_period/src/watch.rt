@@ -66,7 +66,7 @@ impl Watch {
 
     /// Looks at the next actor. Where this one is in a section or in the guest,
     /// the turn waits, as its step does, and the next turn looks at it again; else
-    /// the watch goes on to the next actor, and is done behind the last one. There
+    /// the watch goes on to the next actor, and is done after the last one. There
     /// must be an actor left to look at; of the first turn there always is.
     pub fn turn<S: Stepper>(&mut self, s: &mut S, note: u64) -> Turn<()>
         requires may { MayMake (part.Watch (looked_at self.old (S.seat s.old).hand)) note (S.seat s.old).hand }

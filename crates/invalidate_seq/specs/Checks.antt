@@ -63,14 +63,14 @@ abbrev pub IsOpenOver : ℕ → Invalidations → Type 0
 IsOpenOver gfn kept = (0 < kept.count) × (kept.start ≤ gfn) × (gfn < kept.end)
 
 -- What the words that were loaded before a stage have told: the range is looked at where some invalidation is open, and the sequence
--- number where none is open, or behind a range that doesn't contain the guest frame.
+-- number where none is open, or after a range that doesn't contain the guest frame.
 abbrev pub Stands : CheckStage → ℕ → Invalidations → Type 0
 Stands Count gfn kept = Unit {0}
 Stands Start gfn kept = (kept.checked ≡ checked.Count) × (0 < kept.count)
 Stands End gfn kept = (kept.checked ≡ checked.Start) × (0 < kept.count)
 Stands Seq gfn kept = ((kept.checked ≡ checked.Count) × (kept.count ≡ 0)) ⊎ ((kept.checked ≡ checked.Range) × ((gfn < kept.start) ⊎ (kept.end ≤ gfn)))
 
--- The same behind the load of the stage's word.
+-- The same after the load of the stage's word.
 abbrev pub StandsBehind : CheckStage → ℕ → Invalidations → Type 0
 StandsBehind Count gfn kept = kept.checked ≡ checked.Count
 StandsBehind Start gfn kept = (kept.checked ≡ checked.Start) × (0 < kept.count)
@@ -78,8 +78,8 @@ StandsBehind End gfn kept = (kept.checked ≡ checked.Range) × (0 < kept.count)
 StandsBehind Seq gfn kept = (kept.checked ≡ checked.All) × ((kept.count ≡ 0) ⊎ (gfn < kept.start) ⊎ (kept.end ≤ gfn))
 
 -- What a turn says by the stage whose word it loaded, and the stage that it leaves the check at: the range comes next exactly where some
--- invalidation is open, and the sequence number where none is, or behind a range that doesn't contain the guest frame. A check ends with
--- Open behind the range alone, and with Fresh or Moved behind the sequence number alone: with Fresh where the look-up is fresh.
+-- invalidation is open, and the sequence number where none is, or after a range that doesn't contain the guest frame. A check ends with
+-- Open after the range alone, and with Fresh or Moved after the sequence number alone: with Fresh where the look-up is fresh.
 abbrev pub AnswersBy : CheckStage → Turn Checked → CheckStage → ℕ → Invalidations → Type 0
 AnswersBy Count More next gfn kept = next ≡ (if kept.count == 0 then Seq else Start)
 AnswersBy Start More next gfn kept = next ≡ End

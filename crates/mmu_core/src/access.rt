@@ -3,7 +3,7 @@ ghost use Rattle.std.specs.Prelude.{◌≡◌, ◌<◌, IfSome};
 ghost use Rattle.core_views.specs.Slots.{is_write};
 ghost use Rattle.mmu_core.specs.lines.FaultSteps.{allows_access};
 ghost use Rattle.spte_words.specs.Entries.{kind_of};
-ghost use Rattle.mmu_core.specs.lines.AccessSteps.{access_caches, access_loads, access_note, access_outcome, access_part, access_task, behind_fault, touch_of, use_found, walk_next};
+ghost use Rattle.mmu_core.specs.lines.AccessSteps.{access_caches, access_loads, access_note, access_outcome, access_part, access_task, behind_fault, touch_of, use_found, stay_next};
 ghost use Rattle.part_steps.specs.PartBounds.{IsAtLeafLevel, PartRests};
 ghost use Rattle.mmu_core.specs.lines.Cached.{allows, covers, first_usable, frame_used, is_usable};
 ghost use Rattle.part_steps.specs.PartSteps.{PartNeeds};
@@ -96,7 +96,10 @@ pub(crate) fn task(place: AccessPlace, hand: &Hand, gfn: u64, word: u8, op: Op) 
         return part_task(hand, step, access_note(place));
     }
     let frame = frame_used(hand, gfn);
-    touch(op, map_of(&hand.progress().sizes).content_index(frame, word))
+    touch(
+        op,
+        map_of(&hand.progress().sizes).content_index(frame, word),
+    )
 }
 
 /// Caches the leaf that the step of this place found, where it allows the access.
@@ -118,8 +121,8 @@ pub(crate) fn fill_cache(place: AccessPlace, hand: &mut Hand, gfn: u64, op: Op, 
 }
 
 // Behind an entry of the walk's table.
-fn walk_next(again: bool, level: u8, op: Op, found: u64) -> AccessPlace
-    ensures { result ≡ walk_next again (kind_of level found) (allows_access (is_write op) found) }
+fn stay_next(again: bool, level: u8, op: Op, found: u64) -> AccessPlace
+    ensures { result ≡ stay_next again (kind_of level found) (allows_access (is_write op) found) }
 {
     let entry = Spte::from_word(found);
     match entry.kind(level) {
@@ -172,7 +175,7 @@ pub(crate) fn outcome(
             let level = hand.topics().walk.level;
             let leaf = found;
             let used = Translation { gfn, level, leaf };
-            (walk_next(again, level, op, found), Some(used))
+            (stay_next(again, level, op, found), Some(used))
         }
         AccessPlace::Touch => {
             let frame = frame_used(hand, gfn);

@@ -40,7 +40,7 @@ fn leaves_to_fault(outcome: &Outcome) -> bool
 }
 
 /// The step of this place is a delay of its line: the line waits, its fault
-/// begins anew, or the stay behind an installed entry finds no translation.
+/// begins anew, or the stay after an installed entry finds no translation.
 pub(crate) fn is_delay(
     place: Place,
     command: &Command,
@@ -73,7 +73,7 @@ fn one_more(count: u64) -> u64
     if count < u64::MAX { count + 1 } else { count }
 }
 
-/// The steps that are counted behind a step.
+/// The steps that are counted after a step.
 pub(crate) fn steps_behind(delay: bool, hand: &Hand) -> u64
     ensures { result ≡ steps_counted delay (counted hand.now.core.state.place hand.now.core.state.steps) }
 {
@@ -85,7 +85,7 @@ pub(crate) fn steps_behind(delay: bool, hand: &Hand) -> u64
     }
 }
 
-/// The delays that are counted behind it.
+/// The delays that are counted after it.
 pub(crate) fn delays_behind(delay: bool, hand: &Hand) -> u64
     ensures { result ≡ delays_counted delay (counted hand.now.core.state.place hand.now.core.state.delays) }
 {

@@ -217,7 +217,7 @@ fn looked_next(place: FaultPlace, gfn: u64, write: bool, topics: &Topics, found:
     }
 }
 
-/// Where the fault stands behind the step of this place, which answered `found`.
+/// Where the fault stands after the step of this place, which answered `found`.
 pub(crate) fn next(place: FaultPlace, hand: &Hand, gfn: u64, write: bool, found: u64) -> FaultNext
     requires rests { PartRests hand.now.core }
     requires needs { PartNeeds (fault_part place gfn hand.now.core.topics) hand.now.core }

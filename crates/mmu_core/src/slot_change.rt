@@ -7,7 +7,7 @@ ghost use Rattle.part_steps.specs.PartBounds.{PartRests};
 ghost use Rattle.part_steps.specs.PartSteps.{PartNeeds};
 ghost use Rattle.mmu_core.specs.lines.SlotChangeKnows.{RecordAccepts};
 ghost use Rattle.mmu_core.specs.lines.Rests.{Rests};
-ghost use Rattle.mmu_core.specs.lines.SlotChangeSteps.{after_claim, after_watch, slot_change_first, slot_change_note, slot_change_outcome, slot_change_part, slot_change_records, slot_change_task};
+ghost use Rattle.mmu_core.specs.lines.SlotChangeSteps.{after_set_claim, after_watch, slot_change_first, slot_change_note, slot_change_outcome, slot_change_part, slot_change_records, slot_change_task};
 ghost use Rattle.mmu_core.specs.machine.Steps.{next_line, place_at};
 ghost use Rattle.part_steps.specs.Tasks.{map_of};
 ghost use Rattle.mmu_core.specs.machine.Turns.{line_of};
@@ -94,8 +94,8 @@ pub(crate) fn record_change(place: SlotChangePlace, hand: &mut Hand)
 }
 
 // After a step of its claim.
-fn after_claim(next: ClaimNext) -> Outcome
-    ensures { result ≡ after_claim next }
+fn after_set_claim(next: ClaimNext) -> Outcome
+    ensures { result ≡ after_set_claim next }
 {
     match next {
         ClaimNext::Goes => Outcome::Goes(Place::SlotChange(SlotChangePlace::Claim { begun: true })),
@@ -124,7 +124,7 @@ pub(crate) fn outcome(place: SlotChangePlace, hand: &Hand, found: u64) -> Outcom
         SlotChangePlace::Refuse(refusal) => return Outcome::Ends(Answer::Refused(refusal)),
         SlotChangePlace::Claim { begun } => {
             let sizes = &hand.progress().sizes;
-            return after_claim(claim_next(begun, sizes, &topics.claim, found));
+            return after_set_claim(claim_next(begun, sizes, &topics.claim, found));
         }
         SlotChangePlace::Fill if words_filled(topics.owned) + 1 < WORDS => SlotChangePlace::Fill,
         SlotChangePlace::Fill => SlotChangePlace::Role,

@@ -33,7 +33,7 @@ pub fn every_list_of_steps()
 /// What stands in an actor's way is another actor's, in every list of steps. A fault
 /// begins anew only where in this section it found an invalidation open over its
 /// guest frame, or found another number in a word of which it knew the number, since
-/// another actor's step changed it: in the sequence number behind its snapshot, or in
+/// another actor's step changed it: in the sequence number after its snapshot, or in
 /// an entry of its guest frame after its load. A step waits, whoever makes it, only
 /// where its actor, with its last step on the lock, found another actor having it
 /// alone; where the page that it tries was free at its actor's last step on this word
@@ -62,7 +62,7 @@ pub fn each_delay_has_its_cause()
 /// whose fault fills and links three tables and puts the leaf; then accesses that
 /// walk to this leaf or go by what is cached, and a write that a read-only slot
 /// refuses. In a pool that is too small an access is starved, and a slot line
-/// behind it; where two processors write to one guest frame at a time, one
+/// after it; where two processors write to one guest frame at a time, one
 /// waits and begins anew; and a slot line beside a write waits for the page that the
 /// processor takes, for the lock that it shares, and until it has left the guest.
 pub fn the_steps_can_be_made()
@@ -79,7 +79,7 @@ pub fn the_steps_can_be_made()
 /// the area that its kind is for, and the note of a line's step says whether the
 /// line is answered with it, whatever the step finds; but a slot line's load of
 /// the last word of the pool's map has note 1, and is its answer exactly where it
-/// finds 0. Who enters the guest with a flush asked for has nothing cached behind
+/// finds 0. Who enters the guest with a flush asked for has nothing cached after
 /// that step; each other step leaves at most one more translation
 /// (vcpu-requests.rst, KVM_REQ_TLB_FLUSH).
 pub fn steps_tell_what_they_are()
@@ -89,7 +89,7 @@ pub fn steps_tell_what_they_are()
     ensures caches { OthersCacheOneAtMost }
 {}
 
-/// What each hand has answered behind a list of steps is what the history tells
+/// What each hand has answered after a list of steps is what the history tells
 /// of its actor; the history begins the first lines of each actor, in their order,
 /// and answers them, each once, but for perhaps the last one; and where each hand has
 /// answered all its lines, the history answers the whole trace.
@@ -192,7 +192,7 @@ pub fn turns_come_to_an_end()
 {}
 
 /// A hand counts the steps of its line since it began, or since the end of its last
-/// delay (a step with which it waits or begins a fault anew, or a stay behind an
+/// delay (a step with which it waits or begins a fault anew, or a stay after an
 /// installed entry that finds no translation which allows the access), and its
 /// delays, of which it counts no more than 2^64 - 1. Behind every list of steps
 /// these steps are at most as many as the line's command allows (`most_steps`), and

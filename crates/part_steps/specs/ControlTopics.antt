@@ -56,7 +56,7 @@ at_root holds walk v = record walk { level = if holds then 4 else 0; prefix = 0;
 abbrev pub at_set : Bool → SlotSearch → ℕ → SlotSearch
 at_set holds search v = record search { set = if holds then Some v else None; id = 0; next = field.Flags; whole = false }
 
--- How far the check has come behind a load of the count, of the range's start, of its end, and of the sequence number.
+-- How far the check has come after a load of the count, of the range's start, of its end, and of the sequence number.
 abbrev pub count_checked : Hold → Checked
 count_checked hold = if has_lock hold then checked.Count else checked.Nothing
 
@@ -73,7 +73,7 @@ seq_checked count checked.Count = if count == 0 then checked.All else checked.No
 seq_checked count checked.Range = checked.All
 seq_checked count _ = checked.Nothing
 
--- How far the check has come behind the load of a control word.
+-- How far the check has come after the load of a control word.
 abbrev pub checked_after : ℕ → Hold → Invalidations → Checked
 checked_after word hold n =
     if is_word_of area.Count word then count_checked hold else

@@ -1,4 +1,4 @@
--- What an actor holds behind each step of a part.
+-- What an actor holds after each step of a part.
 use Rattle.std.specs.Prelude.{◌+◌, ℕ, Bool, false, ◌==◌, not, if◌then◌else◌, Some, None, is_some}
 use Rattle.core_views.specs.declared.topics.Hold.TheVariants.{Owing, Shared, Exclusive}
 use Rattle.core_views.specs.declared.topics.Stay.TheVariants.{Outside, Guest, Section}
@@ -27,7 +27,7 @@ sequenced without_lock t v = record t {
 abbrev pub exchanged : Bool → ℕ → ℕ → Topics → ℕ → Topics
 exchanged won index new_ t v = record t { walk = swapped won t.walk index new_ v; owned = still_owned won t.walk new_ t.owned }
 
--- what is held behind the step, which answered v
+-- what is held after the step, which answered v
 abbrev pub part_topics : PartStep → Topics → ℕ → Topics
 part_topics part.Enter t v = begun Guest t
 part_topics part.Leave t v = begun Outside t

@@ -1,4 +1,4 @@
--- What an actor holds of a walk: behind each load of an entry, and each exchange of one.
+-- What an actor holds of a walk: after each load of an entry, and each exchange of one.
 use Rattle.std.specs.Prelude.{◌+◌, ◌-◌, ◌*◌, ℕ, Bool, true, false, ◌==◌, nat_le, if◌then◌else◌, Option, Some, None}
 use Rattle.core_views.specs.declared.topics.OwnedPage.{OwnedPage}
 use Rattle.core_views.specs.declared.topics.TableWalk.{TableWalk}

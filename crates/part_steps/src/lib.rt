@@ -1,5 +1,5 @@
 //! The steps of the machine's parts: which word each is on and what it does there,
-//! what it needs of the hand that makes it, and what this hand holds behind it.
+//! what it needs of the hand that makes it, and what this hand holds after it.
 #![tactic(auto)]
 
 mod control_words;

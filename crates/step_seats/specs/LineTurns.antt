@@ -56,7 +56,7 @@ untold (Wait seen) = Wait seen
 untold (Retry cause) = Retry cause
 untold (Done answer) = Done tt
 
--- what a turn answers, by where the line stands behind its step
+-- what a turn answers, by where the line stands after its step
 abbrev pub turn_of : Outcome → Turn Answer
 turn_of (Goes place) = More
 turn_of (Ends answer) = Done answer
@@ -66,7 +66,7 @@ abbrev pub or_anew : FaultNext → Turn Answer → Turn Answer
 or_anew (next_of.Ends (end_of.Retry cause)) turn = Retry cause
 or_anew _ turn = turn
 
--- what the turn of an access's fault answers, by what is next behind its step
+-- what the turn of an access's fault answers, by what is next after its step
 abbrev pub fault_turn : FaultNext → Turn Answer
 fault_turn next = or_anew next (turn_of (behind_fault next))
 

@@ -5,7 +5,7 @@ use Rattle.mmu_core.specs.machine.Enabled.{mmu}
 use Rattle.mmu_core.specs.machine.Machine.{World, Leads}
 
 -- Where a world was told, one is told that some list of steps leads to from there.
-abbrev pub LeadsOn : Option (World Held) → Option (World Held) → Type 0
-LeadsOn None after = Unit {0}
-LeadsOn (Some w) None = ⊥
-LeadsOn (Some w) (Some t) = Leads mmu w t
+abbrev pub WorldLeadsOn : Option (World Held) → Option (World Held) → Type 0
+WorldLeadsOn None after = Unit {0}
+WorldLeadsOn (Some w) None = ⊥
+WorldLeadsOn (Some w) (Some t) = Leads mmu w t

@@ -8,7 +8,7 @@ ghost use Rattle.core_views.specs.declared.trace.Op.TheVariants.{Read};
 ghost use Rattle.mmu_core.specs.machine.Enabled.{mmu};
 ghost use Rattle.mmu_core.specs.machine.Machine.{Leads};
 ghost use Rattle.step_seats.specs.Machines.{world_in};
-ghost use Rattle.step_seats.specs.Told.{LeadsOn};
+ghost use Rattle.step_seats.specs.Told.{WorldLeadsOn};
 
 use crate::{PlainMachine, Stepper};
 use core_views::{Actor, Answer, Command, Header, Line, Lines, NoMemory, Op, Trace, Words};
@@ -18,7 +18,7 @@ use std::test::Fail;
 
 // The next step of the seat's line, through the bound, where it has one left.
 fn step<S: Stepper>(seat: &mut S) -> Result<Option<u64>, NoMemory>
-    ensures told { LeadsOn (S.seat seat.old).tells.world (S.seat seat.new).tells.world }
+    ensures told { WorldLeadsOn (S.seat seat.old).tells.world (S.seat seat.new).tells.world }
     ensures same { ((S.seat seat.new).actor ≡ (S.seat seat.old).actor) × (S.frame seat.new ≡ S.frame seat.old) }
 {
     seat.reserve()?;

@@ -88,7 +88,7 @@ pub record FindsNone (z : Sizes) (job : Claim) (before after : Topics) : Type 0 
   pub owns_none : after.owned ≡ None
   pub behind : after ≡ record before { claim = record { at = words_of_bits z.pool; seen = 0 } }
 
--- what each answer of a claim's turn says of what the actor held before and holds behind it
+-- what each answer of a claim's turn says of what the actor held before and holds after it
 abbrev pub ClaimTurn : Sizes → Claim → Turn Claimed → Topics → Topics → Type 0
 ClaimTurn z job More before after = LooksOn z job before after
 ClaimTurn z job (Wait seen) before after = LosesPage z job seen before after

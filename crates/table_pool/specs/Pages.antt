@@ -23,7 +23,7 @@ use Rattle.step_seats.specs.Seats.{Seat}
 abbrev pub fill_step : ℕ → ℕ → PartStep
 fill_step filled value = if filled == 512 then part.Role value else part.Fill value
 
--- The page, which is owned, has one more of its words filled, or its role behind the last of them; it still counts as absent where all
+-- The page, which is owned, has one more of its words filled, or its role after the last of them; it still counts as absent where all
 -- words so far hold 0, and its role is remembered. Nothing else that the actor holds has changed.
 pub record FillsNext (page value : ℕ) (was : OwnedPage) (before after : Topics) : Type 0 where
   pub owned : before.owned ≡ Some was

@@ -24,7 +24,7 @@ pub record Enters (note : ℕ) (answer : Entered) (before after : Seat) : Type 0
   pub made : MadePart part.Enter note found before after
   pub answers : answer ≡ answer_to found
 
--- what is cached behind the answer: what was, or nothing
+-- what is cached after the answer: what was, or nothing
 abbrev pub cached_behind : Entered → Buffer Translation → Buffer Translation
 cached_behind In cached = cached
 cached_behind Flushed cached = buffer [] cached.capacity

@@ -90,7 +90,7 @@ access_rests Touch z v h gfn word op I same may R K e = record {
   level = (omega (arith, e.0), omega (arith, e.0));
   frame =
       let leaf_in : frame_in h.state.used.leaf < z.frames =
-          leaf_there z (v.words area.Slots 0) (v.words area.Role) (v.words area.Pool) (v.words area.Host) gfn h.state.used.leaf I.sizes I.set_part I.hosts e.1 in
+      leaf_there z (v.words area.Slots 0) (v.words area.Role) (v.words area.Pool) (v.words area.Host) gfn h.state.used.leaf I.sizes I.set_part I.hosts e.1 in
       subst (λ (y : Sizes). frame_used gfn h.state < y.frames) (sym same) (subst (λ n. n < z.frames) (sym (lowest_frame gfn h.state e.0)) leaf_in);
 }
 access_rests (Enter again) z v h gfn word op I same may R K e =

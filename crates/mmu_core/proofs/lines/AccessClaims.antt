@@ -28,7 +28,7 @@ use Rattle.part_steps.specs.PartTopics.{part_topics}
 use Rattle.mmu_core.specs.declared.outcome.Outcome.TheVariants.{Ends}
 use Rattle.mmu_core.specs.declared.claim.ClaimNext.{ClaimNext}
 use Rattle.mmu_core.specs.declared.claim.ClaimNext.TheVariants as claims
-use Rattle.mmu_core.specs.lines.AccessSteps.{access_note, ends_with, behind_fault, pause_next, walk_next}
+use Rattle.mmu_core.specs.lines.AccessSteps.{access_note, ends_with, behind_fault, pause_next, stay_next}
 use Rattle.mmu_core.specs.lines.Cached.{first_usable}
 use Rattle.mmu_core.specs.lines.ClaimSteps.{claim_next}
 use Rattle.mmu_core.specs.lines.FaultSteps as fault_steps
@@ -79,7 +79,7 @@ not_by_pause : (again : Bool) (f : Option Translation) → HasScan (place.Access
 not_by_pause again None S = S
 not_by_pause again (Some t) S = S
 
-not_by_stay : (again : Bool) (k : SpteKind) (allowed : Bool) → HasScan (place.Access (walk_next again k allowed)) → ⊥
+not_by_stay : (again : Bool) (k : SpteKind) (allowed : Bool) → HasScan (place.Access (stay_next again k allowed)) → ⊥
 not_by_stay again (entry_kind.Table page) allowed S = S
 not_by_stay again entry_kind.Leaf true S = S
 not_by_stay again _ _ S = S

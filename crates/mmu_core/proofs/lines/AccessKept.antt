@@ -23,7 +23,7 @@ use Rattle.spte_words.specs.declared.spte_kind.SpteKind.TheVariants as entry_kin
 use Rattle.spte_words.specs.Areas.{pool_index}
 use Rattle.spte_words.specs.Entries.{kind_of}
 use Rattle.mmu_core.specs.declared.outcome.Outcome.{Outcome}
-use Rattle.mmu_core.specs.lines.AccessSteps.{access_loads, access_outcome, access_task, behind_fault, use_found, pause_next, walk_next}
+use Rattle.mmu_core.specs.lines.AccessSteps.{access_loads, access_outcome, access_task, behind_fault, use_found, pause_next, stay_next}
 use Rattle.mmu_core.specs.lines.Cached.{first_usable}
 use Rattle.mmu_core.specs.lines.FaultSteps.{allows_access, fault_next}
 use Rattle.mmu_core.specs.lines.AccessKnows.{AccessKnows}
@@ -60,7 +60,7 @@ pause_holds z v a again gfn op g (Some t) lt I is same =
 walk_holds : (v : View) (again : Bool) (gfn level w : ℕ) (g : Held) (k : SpteKind) (allowed : Bool)
     → g.state.used ≡ record { gfn = gfn; level = level; leaf = w }
     → (k ≡ entry_kind.Leaf → IsLeafFor (v.words area.Pool) (v.words area.Host) (v.words area.Slots 0) gfn w × (level ≡ 1))
-    → AccessHolds (v.words area.Pool) (v.words area.Host) (v.words area.Slots 0) (walk_next again k allowed) gfn g
+    → AccessHolds (v.words area.Pool) (v.words area.Host) (v.words area.Slots 0) (stay_next again k allowed) gfn g
 walk_holds v again gfn level w g entry_kind.Leaf true same found =
     subst (λ (t : Translation). (t.level ≡ 1) × IsLeafFor (v.words area.Pool) (v.words area.Host) (v.words area.Slots 0) gfn t.leaf) (sym same)
     ((found refl).1, (found refl).0)

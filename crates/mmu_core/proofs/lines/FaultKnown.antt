@@ -26,7 +26,7 @@ use Rattle.spte_words.proofs.ReadsEntries.{kind_of_leaf, kind_of_table, leaf_can
 use Rattle.spte_words.proofs.Spans.{span_1, span_2, span_3, span_4}
 use Rattle.part_steps.specs.declared.part_step.PartStep.{PartStep}
 use Rattle.part_steps.specs.declared.part_step.PartStep.TheVariants as part
-use Rattle.mmu_core.specs.lines.FaultKnows.{EndKnows, Entering, FaultKnows, InSection, KnowsNext, SawNone}
+use Rattle.mmu_core.specs.lines.FaultKnows.{EndKnows, Entering, FaultKnows, InSection, KnowsNext, SawAbsentEntry}
 use Rattle.mmu_core.specs.lines.FaultLaws.{CanAnswer}
 use Rattle.mmu_core.specs.lines.FaultSteps.{allows_access, entry_word, fault_next, fault_part, walk_next, after_claim}
 use Rattle.mmu_core.specs.declared.claim.ClaimNext.{ClaimNext}
@@ -128,7 +128,7 @@ walk_known entry_kind.Frozen z gfn write t v is most E none O =
 
 -- the claim
 claim_known : (z : Sizes) (gfn : ℕ) (write begun : Bool) (t : Topics) (v : ℕ) (step : PartStep) (next : ClaimNext) (u : Topics)
-    → ClaimMade z begun t v step next u → Entering gfn write t → t.owned ≡ None → SawNone gfn t
+    → ClaimMade z begun t v step next u → Entering gfn write t → t.owned ≡ None → SawAbsentEntry gfn t
     → (begun ≡ true → t.claim.at < words_of_bits z.pool) → FaultKnows (after_claim next) z gfn write u
 claim_known z gfn write begun t v _ _ _ (made.Won tries b some is) E none S low =
     (same_entering gfn write t _ refl refl refl refl refl E, same_none gfn t _ refl S, (refl, omega arith), refl)
@@ -140,14 +140,14 @@ claim_known z gfn write begun t v _ _ _ (made.SawNone not_ le) E none S low = (r
 
 -- the page's words, and its role
 fill_known : (more : Bool) (z : Sizes) (gfn : ℕ) (write : Bool) (t : Topics) (v : ℕ) → nat_lt (words_filled t.owned + 1) 512 ≡ more → v ≡ 0
-    → Entering gfn write t → SawNone gfn t → HasToFill t → is_absent t.owned ≡ true
+    → Entering gfn write t → SawAbsentEntry gfn t → HasToFill t → is_absent t.owned ≡ true
     → FaultKnows (if more then Fill else Role) z gfn write (record t { owned = filled_more t.owned v })
 fill_known true z gfn write t v is zero_ E S F absent =
     (same_entering gfn write t _ refl refl refl refl refl E, same_none gfn t _ refl S, fill_goes t v F is, more_absent t.owned v absent (inl zero_))
 fill_known false z gfn write t v is zero_ E S F absent =
     (same_entering gfn write t _ refl refl refl refl refl E, same_none gfn t _ refl S, fill_ends t v F is, more_absent t.owned v absent (inl zero_))
 
-role_known : (z : Sizes) (gfn : ℕ) (write : Bool) (t : Topics) (v : ℕ) → v ≡ t.walk.level - 1 → Entering gfn write t → SawNone gfn t → HasRoleToSet t
+role_known : (z : Sizes) (gfn : ℕ) (write : Bool) (t : Topics) (v : ℕ) → v ≡ t.walk.level - 1 → Entering gfn write t → SawAbsentEntry gfn t → HasRoleToSet t
     → is_absent t.owned ≡ true
     → FaultKnows Link z gfn write (record t { owned = filled_more t.owned v })
 role_known z gfn write t v value E S full absent = (
@@ -161,7 +161,7 @@ role_known z gfn write t v value E S full absent = (
 )
 
 -- the link
-link_won : (z : Sizes) (gfn : ℕ) (write : Bool) (t : Topics) (v : ℕ) → t.walk.level ≤ 4 → Entering gfn write t → SawNone gfn t → (o : OwnedPage)
+link_won : (z : Sizes) (gfn : ℕ) (write : Bool) (t : Topics) (v : ℕ) → t.walk.level ≤ 4 → Entering gfn write t → SawAbsentEntry gfn t → (o : OwnedPage)
     → t.owned ≡ Some o → o.page < 2 ^ 32
     → FaultKnows (Walk true) z gfn write (exchanged true (entry_index gfn t.walk.level) (link_written t) t v)
 link_won z gfn write t v most E S o is small =
@@ -173,7 +173,7 @@ link_won z gfn write t v most E S o is small =
     linked = ap (λ (x : Option OwnedPage). kind_of t.walk.level (table_word (page_owned x))) is ∙ kind_of_table t.walk.level o.page S.upper small
 
 link_known : (b : Bool) (z : Sizes) (gfn : ℕ) (write : Bool) (t : Topics) (v : ℕ) → (v == t.walk.entry) ≡ b → t.walk.level ≤ 4 → Entering gfn write t
-    → SawNone gfn t → (o : OwnedPage) → t.owned ≡ Some o → o.page < 2 ^ 32
+    → SawAbsentEntry gfn t → (o : OwnedPage) → t.owned ≡ Some o → o.page < 2 ^ 32
     → FaultKnows (if b then Walk true else Give (Retry (Entry (entry_word z gfn t.walk) t.walk.entry v))) z gfn write (exchanged b (entry_index gfn t.walk.level) (link_written t) t v)
 link_known true z gfn write t v is most E S o owned small = link_won z gfn write t v most E S o owned small
 link_known false z gfn write t v is most E S o owned small = (

@@ -14,7 +14,7 @@ use Rattle.core_views.specs.declared.topics.Topics.{Topics}
 use Rattle.core_views.specs.Slots.{contains}
 use Rattle.spte_words.specs.Areas.{words_of_bits}
 use Rattle.spte_words.specs.Entries.{kind_of}
-use Rattle.mmu_core.specs.lines.FaultKnows.{EndKnows, Entering, FoundNoPage, IsInTheWay, LookedFor, SawNone, Sharing, WithoutLock}
+use Rattle.mmu_core.specs.lines.FaultKnows.{EndKnows, Entering, FoundNoPage, IsInTheWay, LookedFor, SawAbsentEntry, Sharing, WithoutLock}
 use Rattle.mmu_core.specs.lines.FaultSteps.{allows_access}
 use Rattle.part_steps.specs.PartHoldings.{FoundSlot, IsFresh, LookedUp, SawEntry}
 use Rattle.part_steps.specs.SlotWords.{page_of}
@@ -72,7 +72,7 @@ same_entering gfn write t u stay hold search host n E = record {
   fresh = subst (IsFresh gfn) (sym n) E.fresh;
 }
 
-pub same_none : (gfn : ℕ) (t u : Topics) → u.walk ≡ t.walk → SawNone gfn t → SawNone gfn u
+pub same_none : (gfn : ℕ) (t u : Topics) → u.walk ≡ t.walk → SawAbsentEntry gfn t → SawAbsentEntry gfn u
 same_none gfn t u walk S = record {
   saw = subst (SawEntry gfn) (sym walk) S.saw;
   upper = subst (λ (w : TableWalk). 2 ≤ w.level) (sym walk) S.upper;

@@ -98,7 +98,7 @@ line_goes place.Between h under = absurd under
 line_goes _ h under = refl
 
 pub line_ends : (h : Held) (answer : AnsweredLine) → line_under place.Between h.lines (length (h.answers ++ answer ∷ [])) ≡ next_line h
-line_ends h answer = 
+line_ends h answer =
     let more : length (h.answers ++ answer ∷ []) ≡ suc (length h.answers) = length_push h.answers answer ∙ omega arith in
     ap (λ n. line_under place.Between h.lines n) more
 

@@ -33,7 +33,7 @@ use Rattle.mmu_core.specs.declared.watch.WatchNext.{WatchNext}
 use Rattle.mmu_core.specs.lines.FaultLaws.{CanAnswer}
 use Rattle.mmu_core.specs.lines.Forms.{Holds, KnowsPart, LeavesPart}
 use Rattle.mmu_core.specs.lines.SlotChangeKnows.{FillsSet, SlotChangeHolds, SlotChangeKnows}
-use Rattle.mmu_core.specs.lines.SlotChangeSteps.{after_claim, after_watch, looked_at, slot_change_outcome, slot_change_part, slot_change_task, watch_next}
+use Rattle.mmu_core.specs.lines.SlotChangeSteps.{after_set_claim, after_watch, looked_at, slot_change_outcome, slot_change_part, slot_change_task, watch_next}
 use Rattle.mmu_core.specs.machine.Outcomes.{place_after}
 use Rattle.mmu_core.specs.machine.View.{words_after}
 use Rattle.mmu_core.proofs.lines.ClaimMade.{ClaimMade, RestsAfterClaim, claim_leaves, claim_made, claim_needs, claim_rests, page_won}
@@ -74,7 +74,7 @@ module _ (line : Line) (h : Held) (command : Command) (cached : Buffer Translati
   Knows p g = KnowsPart (place.SlotChange p) command g
 
   claim_known : (p : SlotChangePlace) (next : ClaimNext) (u : Topics) → RestsAfterClaim next h.state.sizes u
-      → KnowsBehind (after_claim next) command (behind p u)
+      → KnowsBehind (after_set_claim next) command (behind p u)
   claim_known p claims.Goes u C = (changes, (C.0, λ b. C.1))
   claim_known p claims.Got u C = (changes, C)
   claim_known p claims.Empty u C = C
@@ -122,7 +122,7 @@ module _ (line : Line) (h : Held) (command : Command) (cached : Buffer Translati
 
   claim_holds : (z : Sizes) (pool host : ℕ → ℕ) (set : ℕ) (begun : Bool) (step : PartStep) (next : ClaimNext) (u : Topics)
       → ClaimMade h.state.sizes begun h.topics v step next u → change_refusal z command h.slots ≡ None
-      → Holds z pool host set (place_after (after_claim next)) command (behind (Claim begun) u)
+      → Holds z pool host set (place_after (after_set_claim next)) command (behind (Claim begun) u)
   claim_holds z pool host set begun _ _ _ (made.Won tries b some is) e =
       record { accepted = e; filled = none_filled pool (set_word (slots_after command h.slots)) (page_won h.topics.claim) refl }
   claim_holds z pool host set begun _ _ _ (made.SawNone not_ le) e = tt

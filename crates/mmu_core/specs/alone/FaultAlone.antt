@@ -84,7 +84,7 @@ AloneNext (Goes p) root set pool gfn write t = FaultAlone p root set pool gfn wr
 AloneNext (Ends e) root set pool gfn write t = EndAlone e root set pool gfn write
 
 -- A fault of the actor at place a stands at this place of its order, while all other actors rest; what its actor has seen stands.
-pub record RunsAlone (z : Sizes) (w : World Held) (a : ℕ) (p : FaultPlace) (gfn : ℕ) (write : Bool) : Type 0 where
+pub record FaultRunsAlone (z : Sizes) (w : World Held) (a : ℕ) (p : FaultPlace) (gfn : ℕ) (write : Bool) : Type 0 where
   pub sound : IsSound z w
   pub others : OthersRest a w
   pub there : a < actors_of z
@@ -113,7 +113,7 @@ pub record GoesThrough (z : Sizes) (words : Area → ℕ → ℕ) (a : ℕ) (t :
 -- a leaf that allows the access; where it ends with MMIO, no slot has a page for the access; and it is starved only where no page is free.
 abbrev pub FaultGoesThrough : Type 0
 FaultGoesThrough =
-    (z : Sizes) (w : World Held) (a gfn note : ℕ) (write : Bool) (p : FaultPlace) → RunsAlone z w a p gfn write
+    (z : Sizes) (w : World Held) (a gfn note : ℕ) (write : Bool) (p : FaultPlace) → FaultRunsAlone z w a p gfn write
     → GoesThrough z (word_in z w) a (hand_in mmu w a).topics note p gfn write
 
 -- Links lead from the root to an entry exactly where they do so from this table.

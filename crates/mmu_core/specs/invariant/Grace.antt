@@ -1,4 +1,4 @@
--- Grace periods (locking.rst): whom a watch has behind it was seen outside, and who comes from outside holds nothing that was loaded before.
+-- Grace periods (locking.rst): whom a watch has passed was seen outside, and who comes from outside holds nothing that was loaded before.
 use Rattle.std.specs.Prelude.{◌≡◌, ◌≢◌, ◌<◌, ℕ, List, [], ◌∷◌, ◌++◌, length, false, None}
 use Rattle.core_views.specs.declared.kind.Kind.{Kind}
 use Rattle.core_views.specs.declared.kind.StepKind.TheVariants as kind
@@ -33,7 +33,7 @@ abbrev pub BeginNoWatch : Sizes → ℕ → List (Step Kind) → Type 0
 BeginNoWatch z actor [] = Unit {0}
 BeginNoWatch z actor (s ∷ ss) = (IsLook z actor (next_watched actor 0) s → ⊥) × BeginNoWatch z actor ss
 
--- One of these steps, made from this world on, is the actor's look at the actor at place i, which was outside at that moment; and behind
+-- One of these steps, made from this world on, is the actor's look at the actor at place i, which was outside at that moment; and after
 -- this look the actor began no other watch.
 pub record SawOutside (z : Sizes) (w : World Held) (actor i : ℕ) (ss : List (Step Kind)) : Type 0 where
   pub before : List (Step Kind)
@@ -44,12 +44,12 @@ pub record SawOutside (z : Sizes) (w : World Held) (actor i : ℕ) (ss : List (S
   pub outside : (topics_in (run mmu w before) i).stay ≡ Outside
   pub same_watch : BeginNoWatch z actor later
 
--- Behind every list of steps from a start, each other actor that a watch has behind it was seen outside in this very watch.
+-- After every list of steps from a start, each other actor that a watch has passed was seen outside in this very watch.
 abbrev pub WatchedWasOutside : Type 0
 WatchedWasOutside = (z : Sizes) (lines : List Line) (w : World Held) (ss : List (Step Kind)) (actor i : ℕ) → IsStart z lines w → Legal mmu w ss → actor < actors_of z
     → i < (topics_in (run mmu w ss) actor).watched → i ≢ actor → SawOutside z w actor i ss
 
--- One of these steps, made from this world on, is the actor's own: right before it the actor was outside, and right behind it the actor is in
+-- One of these steps, made from this world on, is the actor's own: right before it the actor was outside, and right after it the actor is in
 -- the guest or in a section, and holds no table and no slot set.
 pub record BeganEmpty (w : World Held) (actor : ℕ) (ss : List (Step Kind)) : Type 0 where
   pub before : List (Step Kind)

@@ -34,7 +34,7 @@ pub record IsSound (z : Sizes) (w : World Held) : Type 0 where
   pub holds : Invariant z (view z w)
   pub topics : TopicsInvariant z (view z w)
 
--- The world behind every list of steps is sound.
+-- The world after every list of steps is sound.
 abbrev pub StaysSound : Type 0
 StaysSound = (z : Sizes) (lines : List Line) (w : World Held) (ss : List (Step Kind)) → IsStart z lines w → Legal mmu w ss → IsSound z (run mmu w ss)
 

@@ -23,7 +23,7 @@ UnderWay _ h = (h.state.line ≡ next_line h) × (length h.answers < length h.li
 abbrev pub IsSetBy : List Line → ℕ × MemorySlot → Type 0
 IsSetBy lines entry = Contains (map (λ line. line.command) lines) (SetSlot entry.0 entry.1.slot)
 
--- how many of the hand's lines have done what they do: those that are answered, and behind its publication the one under way
+-- how many of the hand's lines have done what they do: those that are answered, and after its publication the one under way
 abbrev pub lines_done : Held → ℕ
 lines_done h = length h.answers + (if may_leave h.state.place then 1 else 0)
 

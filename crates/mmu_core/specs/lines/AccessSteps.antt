@@ -53,7 +53,7 @@ touch_of Read index = loads kind.Read area.Content index 0
 touch_of (Write x) index = record { kind = kind.Write; area = area.Content; index = index; expected = 0; written = x; may_end = 0 }
 touch_of (Add x) index = record { kind = kind.Add; area = area.Content; index = index; expected = 0; written = x; may_end = 0 }
 
--- what becomes of the access behind its fault: an exit, or another stay in the guest
+-- what becomes of the access after its fault: an exit, or another stay in the guest
 abbrev pub fault_over : FaultEnd → Outcome
 fault_over end_of.Installed = Goes (Access (Enter true))
 fault_over end_of.Mmio = Ends Mmio
@@ -78,17 +78,17 @@ task_by (Some step) h note touch = part_task step (own_index h) h.topics note
 abbrev pub access_task : AccessPlace → Held → ℕ → ℕ → Op → Task
 access_task p h gfn word op = task_by (access_part p gfn h.topics) h (access_note p) (touch_of op (content_index (map_of h.state.sizes) (frame_used gfn h.state) word))
 
--- behind the pause: the touch through a cached translation, or a walk
+-- after the pause: the touch through a cached translation, or a walk
 abbrev pub pause_next : Bool → Option Translation → AccessPlace
 pause_next again None = Root again
 pause_next again (Some t) = Touch
 
--- behind an entry: a link leads down, a leaf that allows the access is used, and else the access leaves and faults
-abbrev pub walk_next : Bool → SpteKind → Bool → AccessPlace
-walk_next again (entry_kind.Table page) allowed = Walk again
-walk_next again entry_kind.Leaf allowed = if allowed then Touch else Leave leaving.Faults
-walk_next again entry_kind.Absent allowed = Leave leaving.Faults
-walk_next again entry_kind.Frozen allowed = Leave leaving.Faults
+-- after an entry: a link leads down, a leaf that allows the access is used, and else the access leaves and faults
+abbrev pub stay_next : Bool → SpteKind → Bool → AccessPlace
+stay_next again (entry_kind.Table page) allowed = Walk again
+stay_next again entry_kind.Leaf allowed = if allowed then Touch else Leave leaving.Faults
+stay_next again entry_kind.Absent allowed = Leave leaving.Faults
+stay_next again entry_kind.Frozen allowed = Leave leaving.Faults
 
 abbrev pub behind_fault : FaultNext → Outcome
 behind_fault (next_of.Goes p) = Goes (Access (Fault p))
@@ -98,7 +98,7 @@ abbrev pub access_outcome : AccessPlace → Held → ℕ → Op → ℕ → Outc
 access_outcome (Enter again) h gfn op v = Goes (Access (Pause again))
 access_outcome (Pause again) h gfn op v = Goes (Access (pause_next again (first_usable gfn (is_write op) h.cached.items)))
 access_outcome (Root again) h gfn op v = Goes (Access (Walk again))
-access_outcome (Walk again) h gfn op v = Goes (Access (walk_next again (kind_of h.topics.walk.level v) (allows_access (is_write op) v)))
+access_outcome (Walk again) h gfn op v = Goes (Access (stay_next again (kind_of h.topics.walk.level v) (allows_access (is_write op) v)))
 access_outcome Touch h gfn op v = Goes (Access (Leave (leaving.Reached (frame_used gfn h.state) v)))
 access_outcome (Leave (leaving.Reached frame value)) h gfn op v = Ends (Reached frame value)
 access_outcome (Leave leaving.Faults) h gfn op v = Goes (Access (Fault fault.Begin))

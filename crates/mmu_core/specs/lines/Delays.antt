@@ -29,7 +29,7 @@ abbrev pub begins_anew : Place → Bool
 begins_anew (place.Access (Fault (fault.End (end_of.Retry cause)))) = true
 begins_anew _ = false
 
--- The access walks, in the stay behind a fault that has installed an entry.
+-- The access walks, in the stay after a fault that has installed an entry.
 abbrev pub walks_again : Place → Bool
 walks_again (place.Access (Walk again)) = again
 walks_again _ = false
@@ -39,7 +39,7 @@ abbrev pub leaves_to_fault : Outcome → Bool
 leaves_to_fault (Goes (place.Access (Leave leaving.Faults))) = true
 leaves_to_fault _ = false
 
--- The step is a delay of its line: the line waits, its fault begins anew, or the stay behind an installed entry finds no translation that
+-- The step is a delay of its line: the line waits, its fault begins anew, or the stay after an installed entry finds no translation that
 -- allows the access.
 abbrev pub is_delay : Place → Command → Held → Outcome → ℕ → Bool
 is_delay p command h o v = line_waits p command h v || (begins_anew p || (walks_again p && leaves_to_fault o))
@@ -53,7 +53,7 @@ counted _ n = n
 abbrev pub one_more : ℕ → ℕ
 one_more n = if nat_lt n (2 ^ 64 - 1) then n + 1 else n
 
--- the counts behind a step, which is a delay or none
+-- the counts after a step, which is a delay or none
 abbrev pub steps_counted : Bool → ℕ → ℕ
 steps_counted delay n = if delay then 0 else one_more n
 

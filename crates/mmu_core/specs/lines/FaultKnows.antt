@@ -62,7 +62,7 @@ pub record Entering (gfn : ℕ) (write : Bool) (t : Topics) : Type 0 where
   pub fresh : IsFresh gfn t.invalidations
 
 -- The guest frame's entry in a table above the lowest level was loaded, and is absent.
-pub record SawNone (gfn : ℕ) (t : Topics) : Type 0 where
+pub record SawAbsentEntry (gfn : ℕ) (t : Topics) : Type 0 where
   pub saw : SawEntry gfn t.walk
   pub upper : 2 ≤ t.walk.level
   pub absent : kind_of t.walk.level t.walk.entry ≡ entry_kind.Absent
@@ -121,16 +121,16 @@ FaultKnows Host z gfn write t = WithoutLock t × FoundSlot gfn t × ((write && t
 FaultKnows Share z gfn write t = InSection t × (is_trying t.hold ≡ true) × LookedFor gfn write t
 FaultKnows (Check at) z gfn write t = Sharing gfn write t × (t.owned ≡ None) × CheckKnows at gfn t.invalidations
 FaultKnows (Walk rooted) z gfn write t = Entering gfn write t × (t.owned ≡ None) × (rooted ≡ true → IsOver gfn t.walk)
-FaultKnows (Claim begun) z gfn write t = Entering gfn write t × (t.owned ≡ None) × SawNone gfn t × (begun ≡ true → t.claim.at < words_of_bits z.pool)
-FaultKnows Fill z gfn write t = Entering gfn write t × SawNone gfn t × HasToFill t × (is_absent t.owned ≡ true)
-FaultKnows Role z gfn write t = Entering gfn write t × SawNone gfn t × HasRoleToSet t × (is_absent t.owned ≡ true)
-FaultKnows Link z gfn write t = Entering gfn write t × SawNone gfn t × OwnsTable (t.walk.level - 1) t
+FaultKnows (Claim begun) z gfn write t = Entering gfn write t × (t.owned ≡ None) × SawAbsentEntry gfn t × (begun ≡ true → t.claim.at < words_of_bits z.pool)
+FaultKnows Fill z gfn write t = Entering gfn write t × SawAbsentEntry gfn t × HasToFill t × (is_absent t.owned ≡ true)
+FaultKnows Role z gfn write t = Entering gfn write t × SawAbsentEntry gfn t × HasRoleToSet t × (is_absent t.owned ≡ true)
+FaultKnows Link z gfn write t = Entering gfn write t × SawAbsentEntry gfn t × OwnsTable (t.walk.level - 1) t
 FaultKnows Leaf z gfn write t = Entering gfn write t × (t.owned ≡ None) × SawEntry gfn t.walk × (t.walk.level ≡ 1)
 FaultKnows (Give e) z gfn write t = (t.stay ≡ Section) × (t.hold ≡ Shared) × OwnsPage t × EndKnows e z gfn write t × IsRetry e
 FaultKnows (Unshare e) z gfn write t = InSection t × (t.hold ≡ Shared) × EndKnows e z gfn write t
 FaultKnows (End e) z gfn write t = InSection t × (t.hold ≡ Loose) × EndKnows e z gfn write t
 
--- what it knows behind a step: where it is over it holds nothing
+-- what it knows after a step: where it is over it holds nothing
 abbrev pub KnowsNext : FaultNext → Sizes → ℕ → Bool → Topics → Type 0
 KnowsNext (Goes p) z gfn write t = FaultKnows p z gfn write t
 KnowsNext (Ends e) z gfn write t = IsAtRest t

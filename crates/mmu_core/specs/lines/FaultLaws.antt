@@ -36,7 +36,7 @@ FaultMeetsNeeds =
     → gfn < 2 ^ 36 → PartRests h → FaultKnows p h.state.sizes gfn write h.topics
     → PartNeeds (fault_part p gfn h.topics) h
 
--- Whatever the step answers, the fault knows behind it what its next place asks.
+-- Whatever the step answers, the fault knows after it what its next place asks.
 abbrev pub FaultStaysKnown : Type 0
 FaultStaysKnown =
     (p : FaultPlace) (h : Held) (gfn v : ℕ) (write : Bool)

@@ -55,7 +55,7 @@ fault_left Leaf z t = 3
 fault_left (Unshare e) z t = 2
 fault_left (End e) z t = 1
 
--- the most steps left behind a step: none where the fault is over
+-- the most steps left after a step: none where the fault is over
 abbrev pub next_left : FaultNext → Sizes → Topics → ℕ
 next_left (Goes p) z t = fault_left p z t
 next_left (Ends e) z t = 0

@@ -61,7 +61,7 @@ fault_part Leaf gfn t = part.Leaf gfn
 fault_part (Unshare e) gfn t = part.Unshare
 fault_part (End e) gfn t = part.End
 
--- behind a word of the slots: the slot with the guest frame is found, none has it, or the search goes on
+-- after a word of the slots: the slot with the guest frame is found, none has it, or the search goes on
 abbrev pub is_last_word : SlotField → Bool
 is_last_word field.Host = true
 is_last_word _ = false
@@ -101,7 +101,7 @@ entry_word z gfn walk = place (map_of z) area.Pool (pool_index (table_page walk)
 abbrev pub allows_access : Bool → ℕ → Bool
 allows_access write w = not write || can_write w
 
--- behind an entry v of the walk's table: no leaf stands above the lowest level yet
+-- after an entry v of the walk's table: no leaf stands above the lowest level yet
 abbrev pub walk_next : SpteKind → Sizes → ℕ → Bool → TableWalk → ℕ → FaultPlace
 walk_next (entry_kind.Table page) z gfn write walk v = Walk true
 walk_next entry_kind.Leaf z gfn write walk v =
@@ -115,7 +115,7 @@ after_claim claims.Goes = Claim true
 after_claim claims.Got = Fill
 after_claim claims.Empty = Unshare Starved
 
--- where the fault stands behind the step of its place, which found v
+-- where the fault stands after the step of its place, which found v
 abbrev pub fault_next : FaultPlace → Sizes → ℕ → Bool → Topics → ℕ → FaultNext
 fault_next Begin z gfn write t v = Goes Snapshot
 fault_next Snapshot z gfn write t v = Goes (Find false)

@@ -67,8 +67,8 @@ slot_change_records Publish command slots = slots_after command slots
 slot_change_records _ command slots = slots
 
 -- after a step of its claim: the page is to be filled, or the line is answered, since no page is free
-abbrev pub after_claim : ClaimNext → Outcome
-after_claim next = claim_outcome (SlotChange (Claim true)) (SlotChange Fill) next
+abbrev pub after_set_claim : ClaimNext → Outcome
+after_set_claim next = claim_outcome (SlotChange (Claim true)) (SlotChange Fill) next
 
 -- after a look of its watch
 abbrev pub after_watch : WatchNext → SlotChangePlace
@@ -77,7 +77,7 @@ after_watch next = watch_place Watch Clear next
 -- where the line stands after the step of its place, which found v
 abbrev pub slot_change_outcome : SlotChangePlace → Held → ℕ → Outcome
 slot_change_outcome (Refuse refusal) h v = Ends (Refused refusal)
-slot_change_outcome (Claim begun) h v = after_claim (claim_next begun h.state.sizes h.topics.claim v)
+slot_change_outcome (Claim begun) h v = after_set_claim (claim_next begun h.state.sizes h.topics.claim v)
 slot_change_outcome Fill h v = Goes (SlotChange (if nat_lt (words_filled h.topics.owned + 1) 512 then Fill else Role))
 slot_change_outcome Role h v = Goes (SlotChange Exclude)
 slot_change_outcome Exclude h v = Goes (SlotChange (if v == 0 then Count else Exclude))

@@ -35,7 +35,7 @@ pub record GoesOn (line : Line) (before after : Held) : Type 0 where
   pub line_is : after.state.line ≡ line
   pub answers : after.answers ≡ before.answers
 
--- The line is answered so, behind the answers before it, and no line is under way.
+-- The line is answered so, after the answers before it, and no line is under way.
 pub record IsAnswered (line : Line) (answer : Answer) (before after : Held) : Type 0 where
   pub between : after.state.place ≡ Between
   pub answers : after.answers ≡ before.answers ++ with_answer line answer ∷ []

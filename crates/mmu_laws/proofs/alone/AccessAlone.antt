@@ -32,12 +32,12 @@ use Rattle.part_steps.specs.PartTopics.{part_topics}
 use Rattle.part_steps.specs.StayTopics.{may_walk}
 use Rattle.part_steps.specs.WalkTopics.{gone_down, linked_page}
 use Rattle.mmu_core.specs.alone.AloneKnows.{AloneKnows, FormAlone, StayAlone}
-use Rattle.mmu_core.specs.alone.FaultAlone.{AloneNext, GoesThrough, LeadsToLeaf, RunsAlone}
+use Rattle.mmu_core.specs.alone.FaultAlone.{AloneNext, GoesThrough, LeadsToLeaf, FaultRunsAlone}
 use Rattle.mmu_core.specs.alone.OthersRest.{OthersRest}
 use Rattle.mmu_core.specs.declared.outcome.Outcome.{Outcome}
 use Rattle.mmu_core.specs.declared.outcome.Outcome.TheVariants.{Goes, Ends}
 use Rattle.mmu_core.specs.invariant.Laws.{IsSound}
-use Rattle.mmu_core.specs.lines.AccessSteps.{access_note, access_task, behind_fault, pause_next, walk_next}
+use Rattle.mmu_core.specs.lines.AccessSteps.{access_note, access_task, behind_fault, pause_next, stay_next}
 use Rattle.mmu_core.specs.lines.Cached.{first_usable}
 use Rattle.mmu_core.specs.lines.FaultKnows.{FaultKnows}
 use Rattle.mmu_core.specs.lines.FaultSteps.{allows_access, fault_next, fault_part}
@@ -74,7 +74,7 @@ module _ (gfn word : ℕ) (op : Op) (words : Area → ℕ → ℕ) where
   walk_form : (k : SpteKind) (allowed again : Bool) (t : Topics) (v : ℕ) → kind_of t.walk.level v ≡ k → 1 ≤ t.walk.level → t.walk.level ≤ 4
       → words area.Pool (pool_index (table_page t.walk) (entry_index gfn t.walk.level)) ≡ v
       → (again ≡ true → LeadsToLeaf (words area.Pool) t.walk.level (table_page t.walk) gfn (is_write op))
-      → Next (Goes (place.Access (walk_next again k allowed))) (record t { walk = gone_down (linked_page k) t.walk (entry_index gfn t.walk.level) v })
+      → Next (Goes (place.Access (stay_next again k allowed))) (record t { walk = gone_down (linked_page k) t.walk (entry_index gfn t.walk.level) v })
   walk_form (entry_kind.Table page) allowed again t v is from most here stay =
       let pool : ℕ → ℕ = words area.Pool in
       let index : ℕ = entry_index gfn t.walk.level in
@@ -129,7 +129,7 @@ module _ (z : Sizes) (w : World Held) (a : ℕ) (sound : IsSound z w) (others : 
       let note : ℕ = access_note (Fault p) in
       let v : ℕ = answer_in (access_task (Fault p) h gfn word op) words in
       let same = (sound.holds.lines a there).sizes in
-      let runs : RunsAlone z w a p gfn (is_write op) =
+      let runs : FaultRunsAlone z w a p gfn (is_write op) =
       record {
         sound = sound;
         others = others;

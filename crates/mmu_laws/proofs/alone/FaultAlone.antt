@@ -23,7 +23,7 @@ use Rattle.part_steps.specs.declared.part_step.PartStep.{PartStep}
 use Rattle.part_steps.specs.declared.part_step.PartStep.TheVariants as part
 use Rattle.mmu_core.specs.machine.Enabled.{mmu}
 use Rattle.mmu_core.specs.declared.claim.ClaimNext.{ClaimNext}
-use Rattle.mmu_core.specs.alone.FaultAlone.{AloneNext, EntryStands, GoesThrough, LeadsTo, LeadsToLeaf, RunsAlone}
+use Rattle.mmu_core.specs.alone.FaultAlone.{AloneNext, EntryStands, GoesThrough, LeadsTo, LeadsToLeaf, FaultRunsAlone}
 use Rattle.mmu_core.specs.lines.FaultKnows.{Entering, FaultKnows}
 use Rattle.mmu_core.specs.lines.FaultSteps.{allows_access, claim_next, entry_word, fault_next, fault_part, is_owing, share_next, share_part, snapshot_taken, claim_part}
 use Rattle.mmu_core.specs.machine.Machine.{World, hand_in}
@@ -69,7 +69,7 @@ entry_still z gfn begun t v words a note _ _ _ _ stands = stands
 
 -- ---- in a sound world
 
-module _ (z : Sizes) (w : World Held) (a gfn note : ℕ) (write : Bool) (p : FaultPlace) (R : RunsAlone z w a p gfn write) where
+module _ (z : Sizes) (w : World Held) (a gfn note : ℕ) (write : Bool) (p : FaultPlace) (R : FaultRunsAlone z w a p gfn write) where
   abbrev t : Topics
   t = (hand_in mmu w a).topics
 
@@ -172,7 +172,7 @@ trying_loose Loose try_ owes = refl
 trying_loose (Owing word) try_ owes = absurd (cc owes)
 trying_loose _ try_ owes = absurd (cc try_)
 
-next_alone : (z : Sizes) (w : World Held) (a gfn note : ℕ) (write : Bool) (p : FaultPlace) → RunsAlone z w a p gfn write → KnowsNext z w a gfn note write p
+next_alone : (z : Sizes) (w : World Held) (a gfn note : ℕ) (write : Bool) (p : FaultPlace) → FaultRunsAlone z w a p gfn write → KnowsNext z w a gfn note write p
 next_alone z w a gfn note write Begin R = tt
 next_alone z w a gfn note write Snapshot R = λ b. absurd (cc b)
 next_alone z w a gfn note write (Find true) R = find_goes z w a gfn note write R
@@ -248,7 +248,7 @@ next_alone z w a gfn note write Leaf R =
     (is_it v t.walk.entry R.alone) (leaf_leads z w a gfn note write Leaf R R.knows.0 R.knows.2 R.knows.3 R.alone)
 next_alone z w a gfn note write _ R = R.alone
 
-pub goes_through : (z : Sizes) (w : World Held) (a gfn note : ℕ) (write : Bool) (p : FaultPlace) → RunsAlone z w a p gfn write
+pub goes_through : (z : Sizes) (w : World Held) (a gfn note : ℕ) (write : Bool) (p : FaultPlace) → FaultRunsAlone z w a p gfn write
     → GoesThrough z (word_in z w) a (hand_in mmu w a).topics note p gfn write
 goes_through z w a gfn note write p R = record {
   goes = part_goes_alone z w a note R.sound R.others R.there (HasBegun p) R.seen step needs (fault_tries p gfn t);

@@ -18,7 +18,7 @@ use Rattle.spte_words.specs.declared.area.Area.TheVariants as area
 use Rattle.spte_words.specs.Flags.{flags_live}
 use Rattle.part_steps.specs.declared.part_step.PartStep.TheVariants as part
 use Rattle.mmu_core.specs.machine.Enabled.{mmu}
-use Rattle.mmu_core.specs.alone.FaultAlone.{FaultAlone, RunsAlone}
+use Rattle.mmu_core.specs.alone.FaultAlone.{FaultAlone, FaultRunsAlone}
 use Rattle.mmu_core.specs.lines.FaultSteps.{find_next}
 use Rattle.mmu_core.specs.machine.Machine.{World, hand_in}
 use Rattle.part_steps.specs.PartTasks.{part_task, set_held}
@@ -94,7 +94,7 @@ module _ (root set : ℕ) (pool : ℕ → ℕ) (gfn : ℕ) (write : Bool) where
       goes_on s.id t (ap (λ (r : SlotSearch). r.set) search ∙ held) (ap (λ (r : SlotSearch). r.id) search) none
 
 -- the search's step in a sound world
-pub find_goes : (z : Sizes) (w : World Held) (a gfn note : ℕ) (write : Bool) → RunsAlone z w a (Find true) gfn write
+pub find_goes : (z : Sizes) (w : World Held) (a gfn note : ℕ) (write : Bool) → FaultRunsAlone z w a (Find true) gfn write
     → FaultAlone
     (find_next gfn write (hand_in mmu w a).topics.search.next (searched (hand_in mmu w a).topics.search (answer_in (part_task part.Slot a (hand_in mmu w a).topics note) (word_in z w))))
     (word_in z w area.Root 0) (word_in z w area.Slots 0) (word_in z w area.Pool) gfn write

@@ -25,7 +25,7 @@ use Rattle.spte_words.specs.declared.spte_kind.SpteKind.{SpteKind}
 use Rattle.spte_words.specs.declared.spte_kind.SpteKind.TheVariants as entry_kind
 use Rattle.spte_words.specs.Entries.{kind_of}
 use Rattle.mmu_core.proofs.lines.Forms.{other_knows}
-use Rattle.mmu_core.specs.lines.AccessSteps.{access_note, access_outcome, behind_fault, pause_next, walk_next as stay_next}
+use Rattle.mmu_core.specs.lines.AccessSteps.{access_note, access_outcome, behind_fault, pause_next, stay_next}
 use Rattle.mmu_core.specs.lines.Cached.{first_usable}
 use Rattle.mmu_core.specs.machine.Enabled.{IsNext, mmu}
 use Rattle.mmu_core.specs.lines.FaultKnows.{FaultKnows}

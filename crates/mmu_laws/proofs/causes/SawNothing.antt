@@ -54,11 +54,11 @@ use Rattle.mmu_core.proofs.machine.Which.{is_next, next_of_part}
 use Rattle.mmu_core.proofs.machine.Worlds.{Takes, takes_line}
 
 -- But at its claim the line has seen no page; and without the lock the actor has seen no invalidation open.
-pub record SawNone (p : Place) (t : Topics) : Type 0 where
+pub record SawNothingAt (p : Place) (t : Topics) : Type 0 where
   pub claims : claim_at p ≡ None → t.claim.seen ≡ 0
   pub closed : has_lock t.hold ≡ false → saw_open t.invalidations ≡ false
 
-none_where : (q : Place) (y : Sizes) (slots : MemorySlots) (c : Command) (t : Topics) → SawNone q t → SawNone (standing q y slots c) t
+none_where : (q : Place) (y : Sizes) (slots : MemorySlots) (c : Command) (t : Topics) → SawNothingAt q t → SawNothingAt (standing q y slots c) t
 none_where place.Between y slots c t S = record { claims = λ is. S.claims refl; closed = S.closed }
 none_where _ y slots c t S = S
 
@@ -100,7 +100,7 @@ closed_by : (s : Option PartStep) (t : Topics) (v : ℕ) → (has_lock t.hold �
 closed_by None t v closed none = closed none
 closed_by (Some step) t v closed none = closed_without step t v closed none
 
-module _ (p : Place) (c : Command) (h : Held) (v : ℕ) (R : RestsAt p c h) (S : SawNone p h.topics) where
+module _ (p : Place) (c : Command) (h : Held) (v : ℕ) (R : RestsAt p c h) (S : SawNothingAt p h.topics) where
   claims_none : Claims p c h v ⊎ ClaimsNot p c h v → claim_at (place_after (outcome_at p c h v)) ≡ None
       → (behind_part (part_at p c h) h.topics v).claim.seen ≡ 0
   claims_none (inl C) is =
@@ -109,14 +109,14 @@ module _ (p : Place) (c : Command) (h : Held) (v : ℕ) (R : RestsAt p c h) (S :
       (goes_not (claim_next C.begun h.state.sizes h.topics.claim v) (outcome_at p c h v) C.leads is))
   claims_none (inr N) is = unseen_by (part_at p c h) h.topics v N.step (S.claims N.at)
 
-  none_after : SawNone (place_after (outcome_at p c h v)) (behind_part (part_at p c h) h.topics v)
+  none_after : SawNothingAt (place_after (outcome_at p c h v)) (behind_part (part_at p c h) h.topics v)
   none_after = record { claims = claims_none (claims_or_not p c h v R); closed = closed_by (part_at p c h) h.topics v S.closed }
 
-place_none : (p : Place) (c : Command) (h : Held) (words : Area → ℕ → ℕ) → RestsAt p c h → SawNone p h.topics
-    → SawNone (place_after (outcome_at p c h (answer_in (task_at p c h) words))) (topics_at p c h words)
+place_none : (p : Place) (c : Command) (h : Held) (words : Area → ℕ → ℕ) → RestsAt p c h → SawNothingAt p h.topics
+    → SawNothingAt (place_after (outcome_at p c h (answer_in (task_at p c h) words))) (topics_at p c h words)
 place_none p c h words R S =
     let v : ℕ = answer_in (task_at p c h) words in
-    subst (SawNone (place_after (outcome_at p c h v))) (sym (topics_of_step p c h v R)) (none_after p c h v R S)
+    subst (SawNothingAt (place_after (outcome_at p c h v))) (sym (topics_of_step p c h v R)) (none_after p c h v R S)
 
 -- While an actor has a line left, its steps are those of its lines.
 had_line : (h : Held) (k : Kind) (v : ℕ) (b : Bool) → has_line h ≡ b → has_line (next h k v) ≡ true → has_line h ≡ true
@@ -124,13 +124,13 @@ had_line h k v true is has = is
 had_line h k v false is has = sym (ap has_line (next_of_part h k v is)) ∙ has
 
 abbrev HandNone : Held → Type 0
-HandNone h = has_line h ≡ true → SawNone h.state.place h.topics
+HandNone h = has_line h ≡ true → SawNothingAt h.state.place h.topics
 
 module _ (z : Sizes) (w : World Held) (s : Step Kind) (G : IsSound z w) (may : May mmu w s) where
   abbrev h : Held
   h = hand_in mmu w s.actor
 
-  of_line : has_line h ≡ true → SawNone h.state.place h.topics → HandNone (hand_in mmu (effect mmu w s) s.actor)
+  of_line : has_line h ≡ true → SawNothingAt h.state.place h.topics → HandNone (hand_in mmu (effect mmu w s) s.actor)
   of_line has S =
       let T : Takes z w s h = takes_line z w s G may (is_next h s.kind may.enabled has) in
       let I = T.is_step in
@@ -154,11 +154,11 @@ module _ (z : Sizes) (w : World Held) (s : Step Kind) (G : IsSound z w) (may : M
       had : has_line (hand_in mmu w actor) ≡ true
       had = line_was_left actor has
 
-      by : (actor ≡ s.actor) ⊎ (actor ≢ s.actor) → SawNone (hand_in mmu (effect mmu w s) actor).state.place (hand_in mmu (effect mmu w s) actor).topics
+      by : (actor ≡ s.actor) ⊎ (actor ≢ s.actor) → SawNothingAt (hand_in mmu (effect mmu w s) actor).state.place (hand_in mmu (effect mmu w s) actor).topics
       by (inl own) =
-          subst (λ i. SawNone (hand_in mmu (effect mmu w s) i).state.place (hand_in mmu (effect mmu w s) i).topics) (sym own)
-          (of_line (subst (λ i. has_line (hand_in mmu w i) ≡ true) own had) (subst (λ i. SawNone (hand_in mmu w i).state.place (hand_in mmu w i).topics) own (S had)) (subst (λ i. has_line (hand_in mmu (effect mmu w s) i) ≡ true) own has))
-      by (inr apart) = subst (λ (x : Held). SawNone x.state.place x.topics) (sym (others_hand w s actor apart)) (S had)
+          subst (λ i. SawNothingAt (hand_in mmu (effect mmu w s) i).state.place (hand_in mmu (effect mmu w s) i).topics) (sym own)
+          (of_line (subst (λ i. has_line (hand_in mmu w i) ≡ true) own had) (subst (λ i. SawNothingAt (hand_in mmu w i).state.place (hand_in mmu w i).topics) own (S had)) (subst (λ i. has_line (hand_in mmu (effect mmu w s) i) ≡ true) own has))
+      by (inr apart) = subst (λ (x : Held). SawNothingAt x.state.place x.topics) (sym (others_hand w s actor apart)) (S had)
 
 -- An actor that has a line left had one before.
 pub line_left_before : (z : Sizes) (w : World Held) (ss : List (Step Kind)) (actor : ℕ) → IsSound z w → Legal mmu w ss
@@ -183,6 +183,6 @@ between_lines_saw_nothing w actor R there has idle =
     let G : IsSound R.sizes w = reached_good w R in
     let inside : actor < actors_of R.sizes = subst (λ n. actor < n) G.hands there in
     let S = subst (λ (x : World Held). HandNone (hand_in mmu x actor)) R.leads.ends (run_none R.sizes R.lines R.start R.leads.steps actor R.is_start R.leads.legal inside) has in
-    let here : SawNone place.Between (hand_in mmu w actor).topics = subst (λ (q : Place). SawNone q (hand_in mmu w actor).topics) idle S in
+    let here : SawNothingAt place.Between (hand_in mmu w actor).topics = subst (λ (q : Place). SawNothingAt q (hand_in mmu w actor).topics) idle S in
     let rests = subst (λ (q : Place). KnowsPart q (hand_in mmu w actor).state.line.command (hand_in mmu w actor)) idle (G.holds.knows actor inside) has in
     record { owes = ap is_owing rests.loose; closed = here.closed (ap has_lock rests.loose); claims = here.claims refl }

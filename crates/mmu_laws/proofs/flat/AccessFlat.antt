@@ -35,7 +35,7 @@ use Rattle.spte_words.specs.Entries.{frame_in, kind_of}
 use Rattle.spte_words.proofs.Indices.{same_content}
 use Rattle.part_steps.specs.declared.part_step.PartStep.{PartStep}
 use Rattle.part_steps.specs.declared.part_step.PartStep.TheVariants as part
-use Rattle.mmu_core.specs.lines.AccessSteps.{access_note, access_part, access_task, pause_next, task_by, touch_of, walk_next}
+use Rattle.mmu_core.specs.lines.AccessSteps.{access_note, access_part, access_task, pause_next, task_by, touch_of, stay_next}
 use Rattle.mmu_core.specs.lines.Cached.{frame_used, first_usable}
 use Rattle.mmu_core.specs.lines.FaultSteps.{allows_access}
 use Rattle.mmu_laws.specs.flat.FlatInvariant.{AccessUnder, Runs}
@@ -72,7 +72,7 @@ leaf_under pool gfn op t u true runs = runs
 leaf_under pool gfn op t u false runs = runs
 
 walk_under : (pool : ℕ → ℕ) (gfn : ℕ) (op : Op) (t : Topics) (u : LineUnderWay) (again : Bool) (k : SpteKind) (allowed : Bool) → Runs u
-    → AccessUnder pool (walk_next again k allowed) gfn op t u
+    → AccessUnder pool (stay_next again k allowed) gfn op t u
 walk_under pool gfn op t u again entry_kind.Leaf allowed runs = leaf_under pool gfn op t u allowed runs
 walk_under pool gfn op t u again _ allowed runs = runs
 
@@ -249,7 +249,7 @@ module _ (z : Sizes) (v : View) (a : ℕ) (line : Line) (gfn word : ℕ) (facts 
   access_goes op (Walk again) S I P part_ K R =
       let k : SpteKind = kind_of (v.hand a).topics.walk.level (answered op (Walk again)) in
       let allowed : Bool = allows_access (is_write op) (answered op (Walk again)) in
-      quiet op (Walk again) (walk_next again k allowed) (part.Walk gfn) refl part_ I P R (R.under.0, walk_under (words_behind op (Walk again) area.Pool) gfn op (held_behind op (Walk again)) u again k allowed R.under.1)
+      quiet op (Walk again) (stay_next again k allowed) (part.Walk gfn) refl part_ I P R (R.under.0, walk_under (words_behind op (Walk again) area.Pool) gfn op (held_behind op (Walk again)) u again k allowed R.under.1)
   access_goes op Touch S I P part_ K R = touch_owes op S I P part_ K R
   access_goes op (Leave (leaving.Reached frame value)) S I P part_ K R = reached_owes op frame value S I P part_ K R
   access_goes op (Leave leaving.Faults) S I P part_ K R =

@@ -31,7 +31,7 @@ use Rattle.mmu_core.proofs.machine.PartStepping.{IsPart}
 use Rattle.mmu_core.proofs.slots.SlotChangePlaces.{is_publication, change_never}
 use Rattle.mmu_core.proofs.machine.Stepping.{IsStep}
 use Rattle.part_steps.specs.declared.task.Task.{Task}
-use Rattle.mmu_core.specs.lines.SlotChangeSteps.{after_claim, changed, slot_change_note, slot_change_part, slot_change_task, watch_next}
+use Rattle.mmu_core.specs.lines.SlotChangeSteps.{after_set_claim, changed, slot_change_note, slot_change_part, slot_change_task, watch_next}
 use Rattle.mmu_core.specs.machine.View.{View, answer_in}
 use Rattle.mmu_core.proofs.lines.EitherPlace.{each_watch, either_place}
 use Rattle.mmu_laws.specs.flat.FlatInvariant.{SlotChangeUnder}
@@ -82,7 +82,7 @@ module _ (z : Sizes) (v : View) (a : ℕ) (line : Line) (command : Command) (fac
   -- A claim goes on, or there is no page free.
   claim_goes : (begun : Bool) (next : ClaimNext) → changes_slot u.line.command ≡ true → HasWork z facts u.line.command → MakesAt (Claim begun)
       → TopicsInvariant z v → ReadyAt (Claim begun)
-      → GoesBy z v a line command (task (Claim begun)) (place_after (after_claim next)) (exiting (after_claim next) ++ answering (after_claim next) line)
+      → GoesBy z v a line command (task (Claim begun)) (place_after (after_set_claim next)) (exiting (after_set_claim next) ++ answering (after_set_claim next) line)
       facts past u
   claim_goes begun claims.Goes is works S P R = quiet (Claim begun) (Claim true) refl S P R R.under
   claim_goes begun claims.Got is works S P R = quiet (Claim begun) Fill refl S P R R.under

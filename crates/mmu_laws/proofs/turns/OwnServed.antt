@@ -30,7 +30,7 @@ use Rattle.spte_words.specs.Entries.{kind_of}
 use Rattle.mmu_core.proofs.lines.Forms.{other_knows}
 use Rattle.mmu_core.specs.declared.outcome.Outcome.{Outcome}
 use Rattle.mmu_core.specs.declared.outcome.Outcome.TheVariants.{Goes, Ends}
-use Rattle.mmu_core.specs.lines.AccessSteps.{access_note, access_outcome, access_part, access_task, behind_fault, pause_next, walk_next as stay_walk_next}
+use Rattle.mmu_core.specs.lines.AccessSteps.{access_note, access_outcome, access_part, access_task, behind_fault, pause_next, stay_next as stay_walk_next}
 use Rattle.mmu_core.specs.lines.Cached.{frame_used, first_usable}
 use Rattle.mmu_core.specs.alone.FaultAlone.{EntryStands}
 use Rattle.mmu_core.specs.lines.FaultKnows.{FaultKnows, KnowsNext}

@@ -28,7 +28,7 @@ use Rattle.spte_words.specs.declared.spte_kind.SpteKind.TheVariants as entry_kin
 use Rattle.spte_words.specs.Entries.{kind_of}
 use Rattle.mmu_core.specs.declared.outcome.Outcome.{Outcome}
 use Rattle.mmu_core.specs.declared.outcome.Outcome.TheVariants.{Goes}
-use Rattle.mmu_core.specs.lines.AccessSteps.{access_outcome, access_part, behind_fault, pause_next, walk_next}
+use Rattle.mmu_core.specs.lines.AccessSteps.{access_outcome, access_part, behind_fault, pause_next, stay_next}
 use Rattle.mmu_core.specs.lines.Bounds.{access_left, stay_left}
 use Rattle.mmu_core.specs.lines.Forms.{steps_left, KnowsPart, outcome_at, RestsAt, part_at}
 use Rattle.mmu_core.specs.lines.SlotChangeSteps.{slot_change_part}
@@ -84,8 +84,8 @@ leaves_nearer true level y t u on from = absurd (cc on)
 leaves_nearer false level y t u on from = let same : fault_left fault.Begin y u ≡ fault_left fault.Begin y t = refl in omega (arith, same, from)
 
 walk_nearer : (k : SpteKind) (allowed again : Bool) (gfn : ℕ) (y : Sizes) (t : Topics) (v : ℕ) → kind_of t.walk.level v ≡ k → 1 ≤ t.walk.level
-    → (again && leaves_to_fault (Goes (place.Access (walk_next again k allowed)))) ≡ false
-    → Nearer (Goes (place.Access (walk_next again k allowed))) y (record t { walk = gone_down (linked_page k) t.walk (entry_index gfn t.walk.level) v }) (t.walk.level + stay_left again y t)
+    → (again && leaves_to_fault (Goes (place.Access (stay_next again k allowed)))) ≡ false
+    → Nearer (Goes (place.Access (stay_next again k allowed))) y (record t { walk = gone_down (linked_page k) t.walk (entry_index gfn t.walk.level) v }) (t.walk.level + stay_left again y t)
 walk_nearer (entry_kind.Table page) allowed again gfn y t v is from on =
     let same : stay_left again y (record t { walk = gone_down (Some page) t.walk (entry_index gfn t.walk.level) v }) ≡ stay_left again y t = refl in
     let upper : 2 ≤ t.walk.level = above_lowest t.walk.level v page from is in

@@ -23,7 +23,7 @@ use Rattle.spte_words.specs.Areas.{pool_index}
 use Rattle.spte_words.specs.Entries.{kind_of}
 use Rattle.mmu_core.specs.declared.outcome.Outcome.{Outcome}
 use Rattle.mmu_core.specs.declared.outcome.Outcome.TheVariants.{Goes}
-use Rattle.mmu_core.specs.lines.AccessSteps.{walk_next}
+use Rattle.mmu_core.specs.lines.AccessSteps.{stay_next}
 use Rattle.mmu_core.specs.lines.Forms.{steps_left, outcome_at}
 use Rattle.mmu_core.specs.lines.Delays.{leaves_to_fault, walks_again}
 use Rattle.mmu_core.specs.alone.FaultAlone.{LeadsToLeaf}
@@ -53,7 +53,7 @@ use Rattle.mmu_core.proofs.machine.Worlds.{Takes, good_step, takes_line}
 
 misses_never : (k : SpteKind) (allowed again : Bool) (pool : ℕ → ℕ) (level page gfn : ℕ) (write : Bool) (v : ℕ)
     → pool (pool_index page (entry_index gfn level)) ≡ v → kind_of level v ≡ k → allows_access write v ≡ allowed
-    → (again ≡ true → LeadsToLeaf pool level page gfn write) → (again && leaves_to_fault (Goes (place.Access (walk_next again k allowed)))) ≡ false
+    → (again ≡ true → LeadsToLeaf pool level page gfn write) → (again && leaves_to_fault (Goes (place.Access (stay_next again k allowed)))) ≡ false
 misses_never k allowed false pool level page gfn write v here is may leads = refl
 misses_never (entry_kind.Table below) allowed true pool level page gfn write v here is may leads = refl
 misses_never entry_kind.Leaf true true pool level page gfn write v here is may leads = refl

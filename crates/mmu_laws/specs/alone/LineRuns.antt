@@ -11,7 +11,7 @@ use Rattle.mmu_core.specs.machine.Machine.{Legal, Step, World, run}
 use Rattle.mmu_core.specs.machine.Turns.{with_answer}
 use Rattle.mmu_core.specs.machine.Worlds.{history}
 
--- The steps may be made from this world on, and lead to the world behind; they tell this line from its begin to its answer, and
+-- The steps may be made from this world on, and lead to the world after; they tell this line from its begin to its answer, and
 -- nothing else, and the answer is this one.
 pub record RunsLine (line : Line) (answer : Answer) (steps : List (Step Kind)) (before : World Held) (behind : Option (World Held)) : Type 0 where
   pub legal : Legal mmu before steps

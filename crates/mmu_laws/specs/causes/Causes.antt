@@ -43,7 +43,7 @@ pub record OtherChanges (actor word : ℕ) (w : World Held) (s : Step Kind) : Ty
 abbrev pub StaysInSection : ℕ → Step Kind → Type 0
 StaysInSection actor s = s.actor ≡ actor → (s.kind.code ≢ code_of kind.Begin) × (s.kind.code ≢ code_of kind.End)
 
--- One of the steps, made from this world on, is such a step in its turn; and each step behind it is so.
+-- One of the steps, made from this world on, is such a step in its turn; and each step after it is so.
 pub record HasMade (IsSuch : World Held → Step Kind → Type 0) (IsSo : Step Kind → Type 0) (w : World Held) (ss : List (Step Kind)) : Type 0 where
   pub earlier : List (Step Kind)
   pub made : Step Kind
@@ -53,7 +53,7 @@ pub record HasMade (IsSuch : World Held → Step Kind → Type 0) (IsSo : Step K
   pub since : All IsSo later
 
 -- One of the steps, made from this world on, is the actor's and leaves this number in this word; a later one is another actor's and
--- changes the word; and each step behind the first of these two is so.
+-- changes the word; and each step after the first of these two is so.
 pub record WasChanged (IsSo : Step Kind → Type 0) (actor word number : ℕ) (w : World Held) (ss : List (Step Kind)) : Type 0 where
   pub earlier : List (Step Kind)
   pub reads : Step Kind
@@ -97,7 +97,7 @@ pub record IsEntryOf (z : Sizes) (gfn word : ℕ) : Type 0 where
   pub is : word ≡ place_of (map_of z) area.Pool (pool_index page (entry_index gfn level))
 
 -- Why the actor's fault of a guest frame begins anew: an invalidation was open over the guest frame, another actor's step moved the
--- sequence number behind the snapshot, or another actor's step changed an entry of the guest frame after its load.
+-- sequence number after the snapshot, or another actor's step changed an entry of the guest frame after its load.
 abbrev pub IsCaused : Cause → Sizes → ℕ → ℕ → World Held → List (Step Kind) → Type 0
 IsCaused (Open count start end_ at) z actor gfn w ss = (at ≡ gfn) × SawOpen z actor gfn count start end_ w ss
 IsCaused (Moved old_ now_) z actor gfn w ss = SawChange actor (place_of (map_of z) area.Seq 0) old_ now_ w ss

@@ -1,4 +1,4 @@
--- What the history of a list of steps says beside what the hands hold behind it.
+-- What the history of a list of steps says beside what the hands hold after it.
 use Rattle.std.specs.Prelude.{◌≡◌, ◌<◌, ℕ, suc, List, filter, length}
 use Rattle.core_views.specs.declared.actor.Actor.{Actor}
 use Rattle.core_views.specs.declared.answer.AnsweredLine.{AnsweredLine}

@@ -51,7 +51,7 @@ TablesAreForTheirRuns =
     → (sound : IsSound (sizes_of h) (run mmu w ss)) (k level prefix : ℕ) → stands sound.topics.up sound.topics.spot k ≡ Some (at level prefix) → level < 4
     → (some_line_wants h lines level prefix ≡ true) × (word_in (sizes_of h) (run mmu w ss) area.Role k ≡ level)
 
--- Where the pool has as many pages as the trace needs at most, and no actor owns one, some page is free behind every list of steps.
+-- Where the pool has as many pages as the trace needs at most, and no actor owns one, some page is free after every list of steps.
 abbrev pub EnoughPages : Type 0
 EnoughPages =
     (h : Header) (lines : List Line) (w : World Held) (ss : List (Step Kind)) → IsStart (sizes_of h) lines w → Legal mmu w ss → need h lines ≤ h.pool

@@ -11,7 +11,7 @@ use Rattle.core_views.specs.Text.{text}
 use Rattle.mmu_laws.specs.steps.ExampleSteps.{RunTells, run_sizes, set_line, unlogged}
 
 -- Two processors write to one guest frame, a step each in turn. Both see the same free pages: the second one loses its first try to the first
--- one, waits, and takes the next page. It then loses the link of each level to the first one, gives its page back, and begins anew behind it:
+-- one, waits, and takes the next page. It then loses the link of each level to the first one, gives its page back, and begins anew after it:
 -- three times, until it walks to the leaf that the first one has put, in its fourth stay in the guest.
 abbrev pub first_line : Line
 first_line = access_line 3 0 6 0 (Write 7)

@@ -45,7 +45,7 @@ run_lines = set_line ∷ set_read_only_line ∷ outside_line ∷ write_line ∷ 
 -- The write finds no entry either. Its fault claims a page for a table of each level below the root, fills its 512 entries and its role,
 -- and links it; it puts the leaf; and in another stay in the guest the processor walks to this leaf, touches, and leaves.
 -- The read walks to the same leaf: 9 steps. The addition and the second read go by what is cached: 4 steps each.
--- The read of the other slot finds the tables, and its fault puts a leaf alone. It is cached, but doesn't allow the write behind it, which
+-- The read of the other slot finds the tables, and its fault puts a leaf alone. It is cached, but doesn't allow the write after it, which
 -- walks, leaves, and finds in its fault that the slot is read-only.
 abbrev pub run_order : List ℕ
 run_order = replicate 1048 3 ++ (replicate 47 0 ++ (replicate 1581 1 ++ (replicate 13 0 ++ (replicate 4 1 ++ (replicate 40 0 ++ replicate 20 0)))))

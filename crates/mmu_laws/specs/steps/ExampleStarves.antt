@@ -12,7 +12,7 @@ use Rattle.core_views.specs.Text.{text}
 use Rattle.mmu_laws.specs.steps.ExampleSteps.{RunTells, set_line, unlogged}
 
 -- The same machine with a pool of four pages: the root, the slot set, and two more. A write's fault fills and links two tables, and finds no
--- page for the third one; nor does a slot line behind it find one for its set.
+-- page for the third one; nor does a slot line after it find one for its set.
 abbrev pub small_sizes : Sizes
 small_sizes = example_sizes
 

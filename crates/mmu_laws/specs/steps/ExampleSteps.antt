@@ -26,7 +26,7 @@ pub record RunTells (z : Sizes) (lines : List Line) (order : List ℕ) (events :
   pub legal : Legal mmu start (turns z start order)
   pub tells : history start (turns z start order) ≡ events
 
--- Such a run tells this, and behind it the actor at this place has counted so many delays of its last line.
+-- Such a run tells this, and after it the actor at this place has counted so many delays of its last line.
 pub record RunDelays (z : Sizes) (lines : List Line) (order : List ℕ) (events : List Event) (actor delays : ℕ) : Type 0 where
   pub tells : RunTells z lines order events
   pub counts : (hand_in mmu (run mmu tells.start (turns z tells.start order)) actor).state.delays ≡ delays

@@ -49,7 +49,7 @@ pub record CountFits (h : Held) : Type 0 where
   pub few : h.state.steps ≤ most_steps h.state.sizes h.state.line.command
   pub with_left : IsUnderWay h.state.place → h.state.steps + hand_left h ≤ most_steps h.state.sizes h.state.line.command
 
--- So it is with every hand, behind every list of steps of all actors.
+-- So it is with every hand, after every list of steps of all actors.
 abbrev pub StepsAreBounded : Type 0
 StepsAreBounded = (w : World Held) (a : ℕ) → Reachable w → a < length w.hands → CountFits (hand_in mmu w a)
 

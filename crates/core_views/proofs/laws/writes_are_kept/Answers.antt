@@ -1,4 +1,4 @@
-use Rattle.std.proofs.Common.{◌≡◌, ◌⊎◌, inl, inr, ℕ, List, refl, arith}
+use Rattle.std.proofs.Common.{◌≡◌, ◌⊎◌, inl, inr, ℕ, List, refl}
 use Rattle.std.specs.Prelude.{◌↔◌, Contains, false, true}
 use Rattle.core_views.specs.declared.actor.Actor.{Actor}
 use Rattle.core_views.specs.declared.event.Event.{Event}
@@ -8,11 +8,8 @@ use Rattle.core_views.specs.Events.{after_all, past_after}
 use Rattle.core_views.specs.Past.{Frames, Past}
 use Rattle.core_views.specs.Writes.{StaysWithin, HasBegunWrite, SlotKept, WasWritten}
 use Rattle.core_views.proofs.Written.{WasSince, causes_move, moved, recent_moves, was_or_stood, was_stands}
-use Rattle.core_views.proofs.Writes.{AreOfLines, all_of_lines, begun_is_in, begun_or_stood}
+use Rattle.core_views.proofs.Writes.{all_of_lines, begun_is_in, begun_or_stood, first_of_lines, none_at_first}
 use Rattle.core_views.proofs.laws.writes_are_kept.Goals as goal
-
-none_at_first : {X : Type 0} (actor : Actor) (gfn : ℕ) → Contains first_flat.past.writes (actor, gfn) → X
-none_at_first actor gfn has = absurd (omega (arith, has.1))
 
 only_begun : (history : List Event) (actor : Actor) (gfn : ℕ)
     → HasBegunWrite history actor gfn ⊎ (Contains first_flat.past.writes (actor, gfn) × StaysWithin actor history) → HasBegunWrite history actor gfn
@@ -23,19 +20,16 @@ pub returns-clause-begun : goal.returns-clause-begun
 returns-clause-begun c history actor gfn =
     (λ has. only_begun history actor gfn (begun_or_stood actor gfn history first_flat has), begun_is_in history actor gfn first_flat)
 
--- At the start no line is under way.
-first_of_lines : AreOfLines first_flat
-first_of_lines = record { is_writing = λ actor gfn has. none_at_first actor gfn has; is_in = λ actor gfn writes. absurd (writes.0 refl) }
-
 pub returns-clause-under : goal.returns-clause-under
 returns-clause-under c z history lawful actor gfn =
     let are = all_of_lines z history first_flat lawful first_of_lines in (are.is_writing actor gfn, are.is_in actor gfn)
 
 -- Such frames of the past, of which there is none at the start.
 module _ (pick : Past → Frames)
-    (moves : (a : Actor) (kind : EventKind) (f : Facts) (past : Past) → ◌≡◌ {A = Frames} (pick (past_after a kind f past)) (moved kind past.writes (pick past)))
+    (moves : (a : Actor) (kind : EventKind) (f : Facts) (past : Past)
+    → ◌≡◌ {A = Frames} (pick (past_after a kind f past)) (moved kind f past.writes (pick past)))
     (none : (gfn : ℕ) → pick first_flat.past gfn ≡ false) (history : List Event) (gfn : ℕ) where
-  written : WasSince pick moves gfn history first_flat ⊎ ((pick first_flat.past gfn ≡ true) × SlotKept gfn history) → WasWritten history gfn
+  written : WasSince pick moves gfn history first_flat ⊎ ((pick first_flat.past gfn ≡ true) × SlotKept gfn first_flat.facts history) → WasWritten history gfn
   written (inl W) = record {
     before = W.before;
     since = W.since;

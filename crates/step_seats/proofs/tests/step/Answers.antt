@@ -1,5 +1,5 @@
 use Rattle.std.proofs.Common.{subst}
-use Rattle.step_seats.specs.Told.{LeadsOn}
+use Rattle.step_seats.specs.Told.{WorldLeadsOn}
 use Rattle.step_seats.specs.Seats.{Told}
 use Rattle.step_seats.proofs.Told.{told_goes_on}
 use Rattle.step_seats.proofs.tests.step.Goals as goal
@@ -8,4 +8,4 @@ pub returns-clause-told : goal.returns-clause-told
 returns-clause-told g c =
     let on = told_goes_on (g.S.Stepper.seat c.reserve.new.self).tells.world (g.S.Stepper.seat c.act.new.self).tells.world
     (g.S.Stepper.seat c.reserve.new.self).actor c.next_kind-kind.result c.act.result c.act.ensures.acts.world in
-    subst (λ (x : Told). LeadsOn x.world (g.S.Stepper.seat c.act.new.self).tells.world) c.reserve.ensures.told on
+    subst (λ (x : Told). WorldLeadsOn x.world (g.S.Stepper.seat c.act.new.self).tells.world) c.reserve.ensures.told on
