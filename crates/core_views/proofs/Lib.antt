@@ -15,3 +15,5 @@ pub mod Holding
 pub mod FlatSlots
 pub mod Writes
 pub mod Written
+pub mod HostLines
+pub mod FallsAsFlat

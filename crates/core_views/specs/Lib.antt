@@ -7,6 +7,7 @@ pub mod Refusals
 pub mod SlotCommands
 pub mod Places
 pub mod Host
+pub mod HostChanges
 pub mod Memory
 pub mod Names
 pub mod Past
@@ -23,4 +24,5 @@ pub mod Held
 pub mod Writes
 pub mod Laws
 pub mod Unlawful
+pub mod HostExamples
 pub mod Rows
