@@ -4,12 +4,16 @@ use Rattle.std.proofs.lemmas.Bool.{eq-eqb}
 use Rattle.std.specs.Prelude.{Option, Some, None}
 use Rattle.core_views.specs.declared.actor.Actor.{Actor}
 use Rattle.core_views.specs.declared.answer.Answer.{Answer}
-use Rattle.core_views.specs.declared.answer.Answer.TheVariants.{Reached, Mmio, HostFault, Done}
+use Rattle.core_views.specs.declared.answer.Answer.TheVariants.{Reached, Mmio, HostFault, Done, Refused}
+use Rattle.core_views.specs.declared.answer.Refusal.TheVariants.{NoFrame, OutOfRange}
+use Rattle.core_views.specs.declared.host.HostEntry.{HostEntry}
 use Rattle.core_views.specs.declared.event.Event.{Event}
 use Rattle.core_views.specs.declared.event.EventKind.{EventKind}
-use Rattle.core_views.specs.declared.event.EventKind.TheVariants.{Begun, LookedAtPause, LookedAtSlots, LookedAtHost, Accessed, Exited, SlotChanged, Answered}
+use Rattle.core_views.specs.declared.event.EventKind.TheVariants.{Begun, LookedAtPause, LookedAtSlots, LookedAtHost, BroughtIn, Accessed, Exited, SlotChanged, HostChanged, Answered}
 use Rattle.core_views.specs.declared.trace.Command.{Command}
-use Rattle.core_views.specs.declared.trace.Command.TheVariants.{Access}
+use Rattle.core_views.specs.declared.trace.Command.TheVariants.{Access, ChangeHost}
+use Rattle.core_views.specs.declared.trace.HostChange.{HostChange}
+use Rattle.core_views.specs.declared.trace.HostChange.TheVariants.{Move, Evict, Protect, Allow}
 use Rattle.core_views.specs.declared.sizes.Sizes.{Sizes}
 use Rattle.core_views.specs.declared.trace.Line.{Line}
 use Rattle.core_views.specs.declared.trace.Op.{Op}
@@ -17,13 +21,15 @@ use Rattle.core_views.specs.declared.slot_set.MemorySlot.{MemorySlot}
 use Rattle.core_views.specs.Actors.{is_same}
 use Rattle.core_views.specs.Slots.{page_behind}
 use Rattle.core_views.specs.SlotSets.{flat_slots}
-use Rattle.core_views.specs.Host.{HostEntry, HostNotes, is_denied, with_entry}
-use Rattle.core_views.specs.Names.{frame_at}
+use Rattle.core_views.specs.Host.{HostNotes, brought_in, is_denied, mapping, with_entry}
+use Rattle.core_views.specs.HostChanges.{Changes, host_answer, is_own, lowest_free}
+use Rattle.core_views.specs.Names.{frame_at, frame_for}
 use Rattle.core_views.specs.Flat.{Facts, LineUnderWay, Flat, Idle, Fresh, no_notes}
 use Rattle.core_views.specs.Events.{after, after_all, facts_after, facts_after_all, line_after}
-use Rattle.core_views.specs.Lawful.{HasWork, IsLawful, IsAllowed, SawForbidden, SawNoPage, Tells, answer_at_once, slot_change}
-use Rattle.core_views.specs.FlatHistory.{by, answers, accessing, reaching, doing, doing_by, rest_of, looks, looks_behind, alone, one_by_one, working}
+use Rattle.core_views.specs.Lawful.{HasWork, IsLawful, IsAllowed, MayChangeHost, SawAbsent, SawForbidden, SawNoPage, Tells, answer_at_once, slot_change}
+use Rattle.core_views.specs.FlatHistory.{by, answers, accessing, bringing, changing_host, moving, reaching, doing, doing_by, rest_of, looks, looks_behind, alone, one_by_one, working}
 use Rattle.core_views.proofs.Looks.{facts_behind, still_paused}
+use Rattle.core_views.proofs.HostLines.{owned_answer, free_is, mapped}
 use Rattle.core_views.proofs.SlotChanges.{changes}
 use Rattle.core_views.proofs.SameActor.{changed_here}
 
@@ -69,7 +75,7 @@ record Closes (z : Sizes) (es : List Event) (f : Flat) : Type 0 where
   facts_are : (after_all es f).facts ≡ facts_after_all es f.facts
 
 answered : (z : Sizes) (line : Line) (answer : Answer) (facts : Facts) (u : LineUnderWay) (f : Flat) → IsAt line.actor facts u f → u.line ≡ line
-    → Tells z facts.slots u.line.command u.stage answer → Closes z (answers line answer) f
+    → Tells z facts.slots line.actor u.line.command u.stage answer → Closes z (answers line answer) f
 answered z line answer facts u f at is tells = record {
   lawful = (allowed z line.actor (Answered line.number answer) facts u f at (ap (λ (l : Line). l.number) (sym is), tells), tt);
   idle = λ i. at_end (is_same line.actor i) (line_after (Answered line.number answer) f.facts (f.under line.actor)) (f.under i) refl (at.others i);
@@ -88,6 +94,50 @@ noted line facts host = record { line = line; stage = Fresh; notes = record { pa
 seen : (page : ℕ) (entry : HostEntry) (host : HostNotes) → with_entry page entry host page ≡ Some entry
 seen page entry host = rw (eq-eqb page page refl) refl
 
+-- It reaches the page's word, where the page is present and nothing forbids it.
+access_at : (z : Sizes) (line : Line) (gfn word : ℕ) (op : Op) (facts : Facts) (page frame : ℕ) (u : LineUnderWay) (f : Flat)
+    → page_behind (flat_slots facts.slots) gfn op ≡ Some page → frame_for op (facts.host page) ≡ Some frame → line.command ≡ Access gfn word op
+    → u.line ≡ line → u.stage ≡ Fresh → u.notes.paused ≡ Some false → IsAt line.actor facts u f
+    → Closes z (by line (Accessed gfn word op frame (facts.memory page word)) ∷ answers line (Reached frame (facts.memory page word))) f
+access_at z line gfn word op facts page frame u f behind named is own fresh runs at =
+    let access : EventKind = Accessed gfn word op frame (facts.memory page word) in
+    more z (by line access) (answers line (Reached frame (facts.memory page word))) f
+    (allowed z line.actor access facts u f at (
+      fresh,
+      ap (λ (l : Line). l.command) own ∙ is,
+      runs,
+      record { named = ap (frame_at facts.host op) behind ∙ named; page = page; behind = behind; value_is = refl },
+    ))
+    (answered z line (Reached frame (facts.memory page word)) (facts_after access facts) _ _ (step line.actor access facts u f at) own refl)
+
+-- It brings its page in first, if that isn't present.
+reached_closes : (z : Sizes) (line : Line) (gfn word : ℕ) (op : Op) (facts : Facts) (page : ℕ) (present : Bool) (f : Flat)
+    → page_behind (flat_slots facts.slots) gfn op ≡ Some page → is_denied op (facts.host page) ≡ false → (facts.host page).present ≡ present
+    → line.command ≡ Access gfn word op → facts.paused ≡ false
+    → IsAt line.actor facts (noted line facts (with_entry page (facts.host page) no_notes.host)) f
+    → Closes z (bringing line page present ++ (by line (Accessed gfn word op (facts.host page).frame (facts.memory page word))
+    ∷ answers line (Reached (facts.host page).frame (facts.memory page word)))) f
+reached_closes z line gfn word op facts page true f behind allows here is runs at =
+    access_at z line gfn word op facts page (facts.host page).frame _ f behind (rw (allows, here) refl) is refl refl (ap Some runs) at
+reached_closes z line gfn word op facts page false f behind allows absent is runs at =
+    let saw : SawAbsent facts (noted line facts (with_entry page (facts.host page) no_notes.host)).notes gfn op page =
+    record {
+      runs = ap Some runs;
+      slots = flat_slots facts.slots;
+      noted = refl;
+      behind = behind;
+      looked = seen page (facts.host page) no_notes.host;
+      absent = absent;
+      allows = allows;
+    } in
+    let brought : EventKind = BroughtIn page in
+    let named : frame_for op (mapping page (brought_in (facts.host page)) facts.host page) ≡ Some (facts.host page).frame =
+    ap (frame_for op) (mapped page (brought_in (facts.host page)) facts.host) ∙ rw allows refl in
+    more z (by line brought) _ f
+    (allowed z line.actor brought facts _ f at (refl, rw is saw))
+    (access_at z line gfn word op (facts_after brought facts) page (facts.host page).frame _ _ behind named is refl refl (ap Some runs)
+    (step line.actor brought facts _ f at))
+
 reaching_closes : (z : Sizes) (line : Line) (gfn word : ℕ) (op : Op) (facts : Facts) (page : ℕ) (denied : Bool) (f : Flat)
     → page_behind (flat_slots facts.slots) gfn op ≡ Some page → is_denied op (facts.host page) ≡ denied → line.command ≡ Access gfn word op
     → facts.paused ≡ false → IsAt line.actor facts (noted line facts (with_entry page (facts.host page) no_notes.host)) f
@@ -99,11 +149,7 @@ reaching_closes z line gfn word op facts page true f behind denies is runs at =
     (allowed z line.actor (Exited HostFault) facts _ f at (refl, rw is saw))
     (answered z line HostFault facts _ _ (step line.actor (Exited HostFault) facts _ f at) refl refl)
 reaching_closes z line gfn word op facts page false f behind denies is runs at =
-    let access : EventKind = Accessed gfn word op (facts.host page).frame (facts.memory page word) in
-    let named : frame_at facts.host op (Some page) ≡ Some (facts.host page).frame = ap (λ (b : Bool). cond b None (Some (facts.host page).frame)) denies in
-    more z (by line access) (answers line (Reached (facts.host page).frame (facts.memory page word))) f
-    (allowed z line.actor access facts _ f at (refl, is, ap Some runs, record { named = ap (frame_at facts.host op) behind ∙ named; page = page; behind = behind; value_is = refl }))
-    (answered z line (Reached (facts.host page).frame (facts.memory page word)) (facts_after access facts) _ _ (step line.actor access facts _ f at) refl refl)
+    reached_closes z line gfn word op facts page (facts.host page).present f behind denies refl is runs at
 
 access_closes : (z : Sizes) (line : Line) (gfn word : ℕ) (op : Op) (facts : Facts) (page : Option ℕ) (f : Flat)
     → page_behind (flat_slots facts.slots) gfn op ≡ page → line.command ≡ Access gfn word op
@@ -121,11 +167,11 @@ access_closes z line gfn word op facts (Some page) f behind is runs at =
 
 change_closes : (z : Sizes) (line : Line) (command : Command) (facts : Facts) (f : Flat) (change : ℕ × Option MemorySlot)
     → slot_change facts.slots command ≡ Some change
-    → HasWork z facts command → line.command ≡ command → IsAt line.actor facts (record { line = line; stage = Fresh; notes = no_notes }) f
-    → Closes z (working line command facts) f
+    → HasWork z facts line.actor command → line.command ≡ command → IsAt line.actor facts (record { line = line; stage = Fresh; notes = no_notes }) f
+    → Closes z (working z line command facts) f
 change_closes z line command facts f change changed works is at =
     let event : EventKind = SlotChanged change.0 change.1 in
-    subst (λ (es : List Event). Closes z es f) (sym (changes line command facts change changed))
+    subst (λ (es : List Event). Closes z es f) (sym (changes z line command facts change changed))
     (more z (by line event) (answers line Done) f
     (allowed z line.actor event facts _ f at (refl, rw is works, rw is changed))
     (answered z line Done (facts_after event facts) _ _ (step line.actor event facts _ f at) refl refl))
@@ -134,14 +180,69 @@ change_closes z line command facts f change changed works is at =
 change_or_answer : (z : Sizes) (line : Line) (command : Command) (facts : Facts) (f : Flat) (change : ℕ × Option MemorySlot)
     → slot_change facts.slots command ≡ Some change
     → line.command ≡ command → IsAt line.actor facts (record { line = line; stage = Fresh; notes = no_notes }) f → Closes z (doing z line command facts) f
-change_or_answer z line command facts f change changed is at = by_answer (answer_at_once z facts.slots command) refl
+change_or_answer z line command facts f change changed is at = by_answer (answer_at_once z facts.slots line.actor command) refl
   where
-    by_answer : (answer : Option Answer) → answer_at_once z facts.slots command ≡ answer → Closes z (doing_by line command facts answer) f
+    by_answer : (answer : Option Answer) → answer_at_once z facts.slots line.actor command ≡ answer → Closes z (doing_by z line command facts answer) f
     by_answer None works = change_closes z line command facts f change changed works is at
     by_answer (Some answer) says = answered z line answer facts _ f at refl (rw is says)
 
+-- A host line looks at its page, and changes it.
+
+abbrev looked : Line → Facts → ℕ → LineUnderWay
+looked line facts page = record { line = line; stage = Fresh; notes = record no_notes { host = with_entry page (facts.host page) no_notes.host } }
+
+may_change : (z : Sizes) (line : Line) (page : ℕ) (change : HostChange) (facts : Facts) (entry : HostEntry) → is_own z line.actor page ≡ true
+    → Changes z facts.host page change entry → MayChangeHost z facts line.actor (ChangeHost page change) (looked line facts page).notes page entry
+may_change z line page change facts entry own changed = record {
+  change = change;
+  asked = refl;
+  works = rw own refl;
+  seen = facts.host page;
+  looked = seen page (facts.host page) no_notes.host;
+  agrees = (refl, refl);
+  changes = changed;
+}
+
+changed_closes : (z : Sizes) (line : Line) (page : ℕ) (change : HostChange) (facts : Facts) (entry : HostEntry) (f : Flat) → is_own z line.actor page ≡ true
+    → line.command ≡ ChangeHost page change → Changes z facts.host page change entry → IsAt line.actor facts (looked line facts page) f
+    → Closes z (by line (HostChanged page entry) ∷ answers line (host_answer (ChangeHost page change) entry)) f
+changed_closes z line page change facts entry f own is changed at =
+    let event : EventKind = HostChanged page entry in
+    more z (by line event) (answers line (host_answer (ChangeHost page change) entry)) f
+    (allowed z line.actor event facts _ f at (refl, rw is (may_change z line page change facts entry own changed)))
+    (answered z line (host_answer (ChangeHost page change) entry) (facts_after event facts) _ _ (step line.actor event facts _ f at) refl (rw is refl))
+
+move_closes : (z : Sizes) (line : Line) (page : ℕ) (facts : Facts) (free : Option ℕ) (f : Flat) → lowest_free z facts.host ≡ free
+    → is_own z line.actor page ≡ true → line.command ≡ ChangeHost page Move → IsAt line.actor facts (looked line facts page) f
+    → Closes z (moving line page facts free) f
+move_closes z line page facts None f none own is at =
+    more z (by line (Exited (Refused NoFrame))) (answers line (Refused NoFrame)) f
+    (allowed z line.actor (Exited (Refused NoFrame)) facts _ f at (refl, rw is (rw own refl)))
+    (answered z line (Refused NoFrame) facts _ _ (step line.actor (Exited (Refused NoFrame)) facts _ f at) refl refl)
+move_closes z line page facts (Some frame) f found own is at =
+    let free = free_is z facts.host frame found in
+    changed_closes z line page Move facts (record (facts.host page) { frame = frame }) f own is (refl, free.0, free.1) at
+
+change_closes_host : (z : Sizes) (line : Line) (page : ℕ) (change : HostChange) (facts : Facts) (f : Flat) → is_own z line.actor page ≡ true
+    → line.command ≡ ChangeHost page change → IsAt line.actor facts (looked line facts page) f → Closes z (changing_host z line page change facts) f
+change_closes_host z line page Move facts f own is at = move_closes z line page facts (lowest_free z facts.host) f refl own is at
+change_closes_host z line page Evict facts f own is at = changed_closes z line page Evict facts _ f own is refl at
+change_closes_host z line page Protect facts f own is at = changed_closes z line page Protect facts _ f own is refl at
+change_closes_host z line page Allow facts f own is at = changed_closes z line page Allow facts _ f own is refl at
+
+-- the whole of a host line behind its begin, by whether the page is the actor's own
+host_closes : (z : Sizes) (line : Line) (page : ℕ) (change : HostChange) (facts : Facts) (f : Flat) (own : Bool) → is_own z line.actor page ≡ own
+    → line.command ≡ ChangeHost page change → IsAt line.actor facts (record { line = line; stage = Fresh; notes = no_notes }) f
+    → Closes z (cond own (by line (LookedAtHost page) ∷ []) []
+    ++ doing_by z line (ChangeHost page change) facts (owned_answer own)) f
+host_closes z line page change facts f true own is at =
+    more z (by line (LookedAtHost page)) (changing_host z line page change facts) f
+    (allowed z line.actor (LookedAtHost page) facts _ f at refl)
+    (change_closes_host z line page change facts _ own is (step line.actor (LookedAtHost page) facts _ f at))
+host_closes z line page change facts f false own is at = answered z line (Refused OutOfRange) facts _ f at refl (rw (is, own) refl)
+
 doing_closes : (z : Sizes) (line : Line) (command : Command) (facts : Facts) (f : Flat) → line.command ≡ command → facts.paused ≡ false
-    → IsAt line.actor facts (record { line = line; stage = Fresh; notes = no_notes }) f → Closes z (looks line command facts ++ doing z line command facts) f
+    → IsAt line.actor facts (record { line = line; stage = Fresh; notes = no_notes }) f → Closes z (looks z line command facts ++ doing z line command facts) f
 doing_closes z line (Access gfn word op) facts f is runs at =
     let page : Option ℕ = page_behind (flat_slots facts.slots) gfn op in
     more z (by line LookedAtPause) (by line LookedAtSlots ∷ (looks_behind line page ++ accessing line gfn word op facts page)) f
@@ -149,12 +250,13 @@ doing_closes z line (Access gfn word op) facts f is runs at =
     (more z (by line LookedAtSlots) (looks_behind line page ++ accessing line gfn word op facts page) _
     (allowed z line.actor LookedAtSlots facts _ _ (step line.actor LookedAtPause facts _ f at) refl)
     (access_closes z line gfn word op facts page _ refl is runs (step line.actor LookedAtSlots facts _ _ (step line.actor LookedAtPause facts _ f at))))
+doing_closes z line (ChangeHost page change) facts f is runs at = host_closes z line page change facts f (is_own z line.actor page) refl is at
 doing_closes z line command facts f is runs at = change_or_answer z line command facts f _ refl is at
 
 alone_closes : (z : Sizes) (line : Line) (f : Flat) → AllIdle f → f.facts.paused ≡ false → Closes z (alone z line f.facts) f
 alone_closes z line f idle runs =
     let start : IsAt line.actor f.facts (f.under line.actor) f = record { facts_are = refl; line_is = refl; others = λ i apart. idle i } in
-    more z (by line (Begun line)) (looks line line.command f.facts ++ rest_of z line Fresh f.facts) f (idle line.actor, refl)
+    more z (by line (Begun line)) (looks z line line.command f.facts ++ rest_of z line Fresh f.facts) f (idle line.actor, refl)
     (doing_closes z line line.command f.facts (after (by line (Begun line)) f) refl runs (step line.actor (Begun line) f.facts (f.under line.actor) f start))
 
 pub lawful_append : (z : Sizes) (xs ys : List Event) (f : Flat) → IsLawful z f xs → IsLawful z (after_all xs f) ys → IsLawful z f (xs ++ ys)

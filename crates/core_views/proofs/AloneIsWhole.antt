@@ -40,7 +40,7 @@ first_begun line h rest first =
 first_answered : (line : Line) (h rest : List Event) (first : StandsFirst line h rest) → answers_of h ≡ with_answer line first.answer ∷ answers_of rest
 first_answered line h rest first = ap answers_of first.history_is ∙ answers_behind line first.within _ first.are_within
 
-all_begun : (lines : List Line) (h : List Event) → StandsAlone h lines → lines_begun h ≡ lines
+pub all_begun : (lines : List Line) (h : List Event) → StandsAlone h lines → lines_begun h ≡ lines
 all_begun [] h stands = ap lines_begun stands
 all_begun (line ∷ lines) h stands = first_begun line h stands.0 stands.1 ∙ ap (λ (ls : List Line). line ∷ ls) (all_begun lines stands.0 stands.2)
 

@@ -1,42 +1,73 @@
 -- The flat history, but for what its lines look at.
-use Rattle.std.proofs.Common.{◌≡◌, ℕ, List, ◌∷◌, ◌++◌, Bool, true, false, refl, ap, ◌∙◌}
+use Rattle.std.proofs.Common.{◌≡◌, ℕ, List, [], ◌∷◌, ◌++◌, Bool, true, false, cond, refl, ap, ◌∙◌}
 use Rattle.std.specs.Prelude.{Option, Some, None}
 use Rattle.core_views.specs.declared.event.Event.{Event}
-use Rattle.core_views.specs.declared.event.EventKind.TheVariants.{Begun}
+use Rattle.core_views.specs.declared.event.EventKind.TheVariants.{Begun, LookedAtHost}
 use Rattle.core_views.specs.declared.answer.Answer.{Answer}
 use Rattle.core_views.specs.declared.trace.Command.{Command}
-use Rattle.core_views.specs.declared.trace.Command.TheVariants.{Access}
+use Rattle.core_views.specs.declared.trace.Command.TheVariants.{Access, ChangeHost}
+use Rattle.core_views.specs.declared.trace.HostChange.{HostChange}
+use Rattle.core_views.specs.declared.trace.HostChange.TheVariants.{Move, Evict, Protect, Allow}
 use Rattle.core_views.specs.declared.trace.Line.{Line}
 use Rattle.core_views.specs.declared.trace.Op.{Op}
 use Rattle.core_views.specs.declared.slot_set.MemorySlot.{MemorySlot}
 use Rattle.core_views.specs.declared.sizes.Sizes.{Sizes}
 use Rattle.core_views.specs.Host.{is_denied}
+use Rattle.core_views.specs.HostChanges.{is_own, lowest_free}
 use Rattle.core_views.specs.Slots.{page_behind}
 use Rattle.core_views.specs.SlotSets.{flat_slots}
 use Rattle.core_views.specs.Flat.{Facts, Fresh}
 use Rattle.core_views.specs.Events.{facts_after_all}
 use Rattle.core_views.specs.Lawful.{answer_at_once, slot_change}
-use Rattle.core_views.specs.FlatHistory.{by, accessing, reaching, doing, doing_by, rest_of, looks, looks_behind, alone, one_by_one}
+use Rattle.core_views.specs.FlatHistory.{by, accessing, bringing, changing_host, moving, reaching, doing, doing_by, rest_of, looks, looks_behind, alone, one_by_one}
 use Rattle.core_views.specs.Alone.{without_looks}
+use Rattle.core_views.proofs.HostLines.{owned_answer}
 use Rattle.core_views.proofs.SlotChanges.{changes}
 use Rattle.core_views.proofs.Looks.{without_looks_append, facts_without_looks}
 
+-- An access is shown, whether it brings its page in or not.
+bringing_shows : (line : Line) (page : ℕ) (present : Bool) (es : List Event) → without_looks es ≡ es
+    → without_looks (bringing line page present ++ es) ≡ bringing line page present ++ es
+bringing_shows line page true es is = is
+bringing_shows line page false es is = ap (λ (xs : List Event). bringing line page false ++ xs) is
+
 reaching_shows : (line : Line) (gfn word : ℕ) (op : Op) (f : Facts) (page : ℕ) (denied : Bool) → without_looks (reaching line gfn word op f page denied) ≡ reaching line gfn word op f page denied
 reaching_shows line gfn word op f page true = refl
-reaching_shows line gfn word op f page false = refl
+reaching_shows line gfn word op f page false = bringing_shows line page (f.host page).present _ refl
 
 accessing_shows : (line : Line) (gfn word : ℕ) (op : Op) (f : Facts) (page : Option ℕ) → without_looks (looks_behind line page ++ accessing line gfn word op f page) ≡ accessing line gfn word op f page
 accessing_shows line gfn word op f None = refl
 accessing_shows line gfn word op f (Some page) = reaching_shows line gfn word op f page (is_denied op (f.host page))
 
-change_shows : (line : Line) (command : Command) (f : Facts) (change : ℕ × Option MemorySlot) (answer : Option Answer) → slot_change f.slots command ≡ Some change
-    → without_looks (doing_by line command f answer) ≡ doing_by line command f answer
-change_shows line command f change None is = rw (changes line command f change is) refl
-change_shows line command f change (Some answer) is = refl
+change_shows : (z : Sizes) (line : Line) (command : Command) (f : Facts) (change : ℕ × Option MemorySlot) (answer : Option Answer)
+    → slot_change f.slots command ≡ Some change
+    → without_looks (doing_by z line command f answer) ≡ doing_by z line command f answer
+change_shows z line command f change None is = rw (changes z line command f change is) refl
+change_shows z line command f change (Some answer) is = refl
 
-doing_shows : (z : Sizes) (line : Line) (command : Command) (f : Facts) → without_looks (looks line command f ++ doing z line command f) ≡ doing z line command f
+moving_shows : (line : Line) (page : ℕ) (f : Facts) (free : Option ℕ) → without_looks (moving line page f free) ≡ moving line page f free
+moving_shows line page f None = refl
+moving_shows line page f (Some frame) = refl
+
+host_shows : (z : Sizes) (line : Line) (page : ℕ) (change : HostChange) (f : Facts)
+    → without_looks (changing_host z line page change f) ≡ changing_host z line page change f
+host_shows z line page Move f = moving_shows line page f (lowest_free z f.host)
+host_shows z line page Evict f = refl
+host_shows z line page Protect f = refl
+host_shows z line page Allow f = refl
+
+-- by whether the page is the actor's own
+owned_shows : (z : Sizes) (line : Line) (page : ℕ) (change : HostChange) (f : Facts) (own : Bool)
+    → without_looks (cond own (by line (LookedAtHost page) ∷ []) [] ++ doing_by z line (ChangeHost page change) f (owned_answer own))
+    ≡ doing_by z line (ChangeHost page change) f (owned_answer own)
+owned_shows z line page change f true = host_shows z line page change f
+owned_shows z line page change f false = refl
+
+doing_shows : (z : Sizes) (line : Line) (command : Command) (f : Facts)
+    → without_looks (looks z line command f ++ doing z line command f) ≡ doing z line command f
 doing_shows z line (Access gfn word op) f = accessing_shows line gfn word op f (page_behind (flat_slots f.slots) gfn op)
-doing_shows z line command f = change_shows line command f _ (answer_at_once z f.slots command) refl
+doing_shows z line (ChangeHost page change) f = owned_shows z line page change f (is_own z line.actor page)
+doing_shows z line command f = change_shows z line command f _ (answer_at_once z f.slots line.actor command) refl
 
 alone_shows : (z : Sizes) (line : Line) (f : Facts) → without_looks (alone z line f) ≡ by line (Begun line) ∷ rest_of z line Fresh f
 alone_shows z line f = ap (λ (es : List Event). by line (Begun line) ∷ es) (doing_shows z line line.command f)

@@ -16,3 +16,5 @@ pub mod FlatSlots
 pub mod Writes
 pub mod Written
 pub mod SlotLines
+pub mod HostLines
+pub mod FallsAsFlat

@@ -1,24 +1,30 @@
 -- Histories of lines that stand alone: one line, such histories one behind the other, and the flat history.
-use Rattle.std.proofs.Common.{◌≡◌, ℕ, List, [], ◌∷◌, ◌++◌, Bool, true, false, refl, ap, ◌∙◌, append_assoc}
+use Rattle.std.proofs.Common.{◌≡◌, ℕ, List, [], ◌∷◌, ◌++◌, Bool, true, false, cond, refl, ap, ◌∙◌, append_assoc}
 use Rattle.std.specs.Prelude.{Option, Some, None}
 use Rattle.core_views.specs.declared.answer.Answer.{Answer}
-use Rattle.core_views.specs.declared.answer.Answer.TheVariants.{Reached, Mmio, HostFault, Done}
+use Rattle.core_views.specs.declared.answer.Answer.TheVariants.{Reached, Mmio, HostFault, Done, Moved, Refused}
+use Rattle.core_views.specs.declared.answer.Refusal.TheVariants.{NoFrame, OutOfRange}
 use Rattle.core_views.specs.declared.event.Event.{Event}
-use Rattle.core_views.specs.declared.event.EventKind.TheVariants.{Begun, LookedAtPause, LookedAtSlots, LookedAtHost, Accessed, Exited, SlotChanged, Answered}
+use Rattle.core_views.specs.declared.event.EventKind.{EventKind}
+use Rattle.core_views.specs.declared.event.EventKind.TheVariants.{Begun, LookedAtPause, LookedAtSlots, LookedAtHost, BroughtIn, Accessed, Exited, SlotChanged, HostChanged, Answered}
 use Rattle.core_views.specs.declared.trace.Command.{Command}
-use Rattle.core_views.specs.declared.trace.Command.TheVariants.{Access}
+use Rattle.core_views.specs.declared.trace.Command.TheVariants.{Access, ChangeHost}
+use Rattle.core_views.specs.declared.trace.HostChange.{HostChange}
+use Rattle.core_views.specs.declared.trace.HostChange.TheVariants.{Move, Evict, Protect, Allow}
 use Rattle.core_views.specs.declared.trace.Line.{Line}
 use Rattle.core_views.specs.declared.trace.Op.{Op}
 use Rattle.core_views.specs.declared.slot_set.MemorySlot.{MemorySlot}
 use Rattle.core_views.specs.declared.sizes.Sizes.{Sizes}
 use Rattle.core_views.specs.Host.{is_denied}
+use Rattle.core_views.specs.HostChanges.{is_own, lowest_free}
 use Rattle.core_views.specs.Slots.{page_behind}
 use Rattle.core_views.specs.SlotSets.{flat_slots}
 use Rattle.core_views.specs.Flat.{Facts}
 use Rattle.core_views.specs.Events.{facts_after_all}
 use Rattle.core_views.specs.Lawful.{answer_at_once, slot_change}
-use Rattle.core_views.specs.FlatHistory.{by, answers, accessing, reaching, doing, doing_by, looks, looks_behind, alone, one_by_one}
-use Rattle.core_views.specs.Alone.{AreWithin, StandsAlone, StandsFirst}
+use Rattle.core_views.specs.FlatHistory.{by, answers, accessing, bringing, changing_host, moving, reaching, doing, doing_by, looks, looks_behind, alone, one_by_one}
+use Rattle.core_views.specs.Alone.{AreWithin, IsWithin, StandsAlone, StandsFirst}
+use Rattle.core_views.proofs.HostLines.{owned_answer}
 use Rattle.core_views.proofs.SlotChanges.{changes}
 
 -- events of one line, and further ones behind them
@@ -59,31 +65,73 @@ reaching_closed line gfn word op f page true = record {
   are_within = (refl, tt, (refl, tt, (refl, tt, (refl, tt, tt))));
   events_are = refl;
 }
-reaching_closed line gfn word op f page false = record {
-  within = by line LookedAtPause ∷ by line LookedAtSlots ∷ by line (LookedAtHost page) ∷ by line (Accessed gfn word op (f.host page).frame (f.memory page word)) ∷ [];
-  answer = Reached (f.host page).frame (f.memory page word);
-  are_within = (refl, tt, (refl, tt, (refl, tt, (refl, tt, tt))));
-  events_are = refl;
-}
+reaching_closed line gfn word op f page false = by_present (f.host page).present
+  where
+    access : Event
+    access = by line (Accessed gfn word op (f.host page).frame (f.memory page word))
+
+    by_present : (present : Bool)
+        → Closed line (by line LookedAtPause ∷ by line LookedAtSlots ∷ by line (LookedAtHost page) ∷ (bringing line page present
+        ++ (access ∷ answers line (Reached (f.host page).frame (f.memory page word)))))
+    by_present true = record {
+      within = by line LookedAtPause ∷ by line LookedAtSlots ∷ by line (LookedAtHost page) ∷ access ∷ [];
+      answer = Reached (f.host page).frame (f.memory page word);
+      are_within = (refl, tt, (refl, tt, (refl, tt, (refl, tt, tt))));
+      events_are = refl;
+    }
+    by_present false = record {
+      within = by line LookedAtPause ∷ by line LookedAtSlots ∷ by line (LookedAtHost page) ∷ by line (BroughtIn page) ∷ access ∷ [];
+      answer = Reached (f.host page).frame (f.memory page word);
+      are_within = (refl, tt, (refl, tt, (refl, tt, (refl, tt, (refl, tt, tt)))));
+      events_are = refl;
+    }
 
 accessing_closed : (line : Line) (gfn word : ℕ) (op : Op) (f : Facts) (page : Option ℕ) → Closed line (by line LookedAtPause ∷ by line LookedAtSlots ∷ (looks_behind line page ++ accessing line gfn word op f page))
 accessing_closed line gfn word op f None = record { within = by line LookedAtPause ∷ by line LookedAtSlots ∷ by line (Exited Mmio) ∷ []; answer = Mmio; are_within = (refl, tt, (refl, tt, (refl, tt, tt))); events_are = refl }
 accessing_closed line gfn word op f (Some page) = reaching_closed line gfn word op f page (is_denied op (f.host page))
 
 -- A line that changes a slot, or is answered at once.
-change_closed : (line : Line) (command : Command) (f : Facts) (change : ℕ × Option MemorySlot) (at_once : Option Answer) → slot_change f.slots command ≡ Some change
-    → Closed line (doing_by line command f at_once)
-change_closed line command f change None is = record {
+change_closed : (z : Sizes) (line : Line) (command : Command) (f : Facts) (change : ℕ × Option MemorySlot) (at_once : Option Answer)
+    → slot_change f.slots command ≡ Some change
+    → Closed line (doing_by z line command f at_once)
+change_closed z line command f change None is = record {
   within = by line (SlotChanged change.0 change.1) ∷ [];
   answer = Done;
   are_within = (refl, tt, tt);
-  events_are = changes line command f change is;
+  events_are = changes z line command f change is;
 }
-change_closed line command f change (Some answer) is = record { within = []; answer = answer; are_within = tt; events_are = refl }
+change_closed z line command f change (Some answer) is = record { within = []; answer = answer; are_within = tt; events_are = refl }
 
-doing_closed : (z : Sizes) (line : Line) (command : Command) (f : Facts) → Closed line (looks line command f ++ doing z line command f)
+-- A line that changes a host page: it looks at it, and makes one event; or it is answered at once.
+looked_closed : (line : Line) (page : ℕ) (kind : EventKind) (answer : Answer) → IsWithin kind
+    → Closed line (by line (LookedAtHost page) ∷ by line kind ∷ answers line answer)
+looked_closed line page kind answer within = record {
+  within = by line (LookedAtHost page) ∷ by line kind ∷ [];
+  answer = answer;
+  are_within = (refl, tt, (refl, within, tt));
+  events_are = refl;
+}
+
+moving_closed : (line : Line) (page : ℕ) (f : Facts) (free : Option ℕ) → Closed line (by line (LookedAtHost page) ∷ moving line page f free)
+moving_closed line page f None = looked_closed line page (Exited (Refused NoFrame)) (Refused NoFrame) tt
+moving_closed line page f (Some frame) = looked_closed line page (HostChanged page (record (f.host page) { frame = frame })) (Moved frame) tt
+
+host_closed : (z : Sizes) (line : Line) (page : ℕ) (change : HostChange) (f : Facts)
+    → Closed line (by line (LookedAtHost page) ∷ changing_host z line page change f)
+host_closed z line page Move f = moving_closed line page f (lowest_free z f.host)
+host_closed z line page Evict f = looked_closed line page _ Done tt
+host_closed z line page Protect f = looked_closed line page _ Done tt
+host_closed z line page Allow f = looked_closed line page _ Done tt
+
+owned_closed : (z : Sizes) (line : Line) (page : ℕ) (change : HostChange) (f : Facts) (own : Bool)
+    → Closed line (cond own (by line (LookedAtHost page) ∷ []) [] ++ doing_by z line (ChangeHost page change) f (owned_answer own))
+owned_closed z line page change f true = host_closed z line page change f
+owned_closed z line page change f false = record { within = []; answer = Refused OutOfRange; are_within = tt; events_are = refl }
+
+doing_closed : (z : Sizes) (line : Line) (command : Command) (f : Facts) → Closed line (looks z line command f ++ doing z line command f)
 doing_closed z line (Access gfn word op) f = accessing_closed line gfn word op f (page_behind (flat_slots f.slots) gfn op)
-doing_closed z line command f = change_closed line command f _ (answer_at_once z f.slots command) refl
+doing_closed z line (ChangeHost page change) f = owned_closed z line page change f (is_own z line.actor page)
+doing_closed z line command f = change_closed z line command f _ (answer_at_once z f.slots line.actor command) refl
 
 alone_first : (z : Sizes) (line : Line) (f : Facts) (rest : List Event) → StandsFirst line (alone z line f ++ rest) rest
 alone_first z line f rest =

@@ -5,7 +5,7 @@ use Rattle.std.proofs.lemmas.List.Elements.{All-contains, All-contains_itself, A
 use Rattle.core_views.specs.declared.actor.Actor.{Actor}
 use Rattle.core_views.specs.declared.event.Event.{Event}
 use Rattle.core_views.specs.declared.event.EventKind.{EventKind}
-use Rattle.core_views.specs.declared.event.EventKind.TheVariants.{Begun, Accessed, Exited, SlotChanged, Answered}
+use Rattle.core_views.specs.declared.event.EventKind.TheVariants.{Begun, Accessed, Exited, SlotChanged, HostChanged, Answered}
 use Rattle.core_views.specs.declared.sizes.Sizes.{Sizes}
 use Rattle.core_views.specs.declared.trace.Line.{Line}
 use Rattle.core_views.specs.Actors.{is_same}
@@ -195,6 +195,7 @@ line_writes z f past actor u (Answered number answer) gfn may stands = absurd st
 line_writes z f past actor u (Accessed g word op frame before) gfn may stands = (λ e. absurd (cc e), stands.1)
 line_writes z f past actor u (Exited answer) gfn may stands = (λ e. absurd (cc e), stands.1)
 line_writes z f past actor u (SlotChanged id slot) gfn may stands = (λ e. absurd (cc e), stands.1)
+line_writes z f past actor u (HostChanged page entry) gfn may stands = (λ e. absurd (cc e), stands.1)
 line_writes z f past actor u _ gfn may stands = stands
 
 line_wrote : (z : Sizes) (f : Facts) (past : Past) (actor : Actor) (u : LineUnderWay) (kind : EventKind) (gfn : ℕ) → IsAllowed z f past actor u kind
@@ -204,6 +205,7 @@ line_wrote z f past actor u (Answered number answer) gfn may writes = writes.0 r
 line_wrote z f past actor u (Accessed g word op frame before) gfn may writes = (λ idle. let fresh = may.0 in absurd (cc (fresh, idle)), writes.1)
 line_wrote z f past actor u (Exited answer) gfn may writes = (λ idle. let fresh = may.0 in absurd (cc (fresh, idle)), writes.1)
 line_wrote z f past actor u (SlotChanged id slot) gfn may writes = (λ idle. let fresh = may.0 in absurd (cc (fresh, idle)), writes.1)
+line_wrote z f past actor u (HostChanged page entry) gfn may writes = (λ idle. let fresh = may.0 in absurd (cc (fresh, idle)), writes.1)
 line_wrote z f past actor u _ gfn may writes = writes
 
 -- An event of the actor itself: what stands after it is in the list.

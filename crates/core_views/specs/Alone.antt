@@ -1,11 +1,19 @@
 -- Histories in which each line stands alone: between its begin and its answer there is nothing of another line. And what such a history shows, beside what its lines looked at.
-use Rattle.std.specs.Prelude.{◌≡◌, ◌≢◌, List, [], ◌∷◌, ◌++◌, Bool, true, false, if◌then◌else◌}
+use Rattle.std.specs.Prelude.{◌≡◌, ◌≢◌, List, [], ◌∷◌, ◌++◌, Bool, true, false, if◌then◌else◌, Some, None}
 use Rattle.core_views.specs.declared.answer.Answer.{Answer}
-use Rattle.core_views.specs.declared.answer.Answer.TheVariants.{Starved}
+use Rattle.core_views.specs.declared.answer.Answer.TheVariants.{Refused, Starved}
+use Rattle.core_views.specs.declared.answer.Refusal.TheVariants.{NoFrame}
 use Rattle.core_views.specs.declared.event.Event.{Event}
 use Rattle.core_views.specs.declared.event.EventKind.{EventKind}
-use Rattle.core_views.specs.declared.event.EventKind.TheVariants.{Begun, LookedAtPause, LookedAtSlots, LookedAtHost, Exited, Answered}
+use Rattle.core_views.specs.declared.event.EventKind.TheVariants.{Begun, LookedAtPause, LookedAtSlots, LookedAtHost, Exited, HostChanged, Answered}
+use Rattle.core_views.specs.declared.sizes.Sizes.{Sizes}
+use Rattle.core_views.specs.declared.trace.Command.{Command}
+use Rattle.core_views.specs.declared.trace.Command.TheVariants.{ChangeHost}
+use Rattle.core_views.specs.declared.trace.HostChange.TheVariants.{Move}
 use Rattle.core_views.specs.declared.trace.Line.{Line}
+use Rattle.core_views.specs.HostChanges.{lowest_free}
+use Rattle.core_views.specs.Flat.{Facts, Flat}
+use Rattle.core_views.specs.Events.{after}
 use Rattle.core_views.specs.FlatHistory.{by}
 
 -- The event only notes what is true: it changes no fact and is nobody's answer.
@@ -42,6 +50,19 @@ pub record StandsFirst (line : Line) (history rest : List Event) : Type 0 where
 abbrev pub StandsAlone : List Event → List Line → Type 0
 StandsAlone history [] = history ≡ []
 StandsAlone history (line ∷ lines) = (rest : List Event) × StandsFirst line history rest × StandsAlone rest lines
+
+-- Where flat memory leaves an event of such a line open, it falls as the flat history's does: no line is given up for want of a pool page, a move takes the
+-- lowest frame that no page names, and it is refused a frame only where there is none.
+abbrev pub FallsAsFlat : Sizes → Facts → Command → EventKind → Type 0
+FallsAsFlat z f command (Exited Starved) = ⊥
+FallsAsFlat z f command (Exited (Refused NoFrame)) = lowest_free z f.host ≡ None
+FallsAsFlat z f (ChangeHost page Move) (HostChanged other entry) = lowest_free z f.host ≡ Some entry.frame
+FallsAsFlat _ _ _ _ = Unit {0}
+
+-- So falls each event of the history, in the state that the events before it give.
+abbrev pub FallAsFlat : Sizes → Flat → List Event → Type 0
+FallAsFlat z f [] = Unit {0}
+FallAsFlat z f (e ∷ es) = FallsAsFlat z f.facts (f.under e.actor).line.command e.kind × FallAsFlat z (after e f) es
 
 -- No line of the history is given up for want of a pool page.
 abbrev pub NoneStarved : List Event → Type 0

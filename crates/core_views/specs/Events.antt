@@ -2,26 +2,28 @@
 use Rattle.std.specs.Prelude.{ℕ, List, [], ◌∷◌, Option, Some, None}
 use Rattle.core_views.specs.declared.event.Event.{Event}
 use Rattle.core_views.specs.declared.event.EventKind.{EventKind}
-use Rattle.core_views.specs.declared.event.EventKind.TheVariants.{Begun, LookedAtPause, LookedAtSlots, LookedAtHost, Accessed, Exited, SlotChanged, Answered}
+use Rattle.core_views.specs.declared.event.EventKind.TheVariants.{Begun, LookedAtPause, LookedAtSlots, LookedAtHost, BroughtIn, Accessed, Exited, SlotChanged, HostChanged, Answered}
 use Rattle.core_views.specs.declared.trace.Op.{Op}
 use Rattle.core_views.specs.declared.actor.Actor.{Actor}
 use Rattle.core_views.specs.Actors.{changed_at}
-use Rattle.core_views.specs.Host.{with_entry}
+use Rattle.core_views.specs.Host.{brought_in, mapping, with_entry}
 use Rattle.core_views.specs.Slots.{page_behind}
 use Rattle.core_views.specs.SlotSets.{changed_slots, flat_slots, slot_at}
 use Rattle.core_views.specs.Memory.{Memory, with_word, stored}
 use Rattle.core_views.specs.Past.{Past, counted_anew, of_others, past_begun, written_frame}
-use Rattle.core_views.specs.Flat.{Facts, LineUnderWay, Flat, no_notes, Idle, Fresh, HasAccessed, HasLeft, HasChanged}
+use Rattle.core_views.specs.Flat.{Facts, LineUnderWay, Flat, no_notes, Idle, Fresh, HasAccessed, HasLeft, HasChanged, HasChangedHost}
 
 -- the memory after an access to a word of this host page
 abbrev pub touched : Option ℕ → ℕ → Op → Memory → Memory
 touched None word op memory = memory
 touched (Some page) word op memory = with_word page word (stored op (memory page word)) memory
 
--- the facts after the event: only an access changes memory, only a slot change the slots, and nothing the host and the pause
+-- the facts after the event: only an access changes memory, only a slot change the slots, only a host change and an access the host, and nothing the pause
 abbrev pub facts_after : EventKind → Facts → Facts
+facts_after (BroughtIn page) f = record f { host = mapping page (brought_in (f.host page)) f.host }
 facts_after (Accessed gfn word op frame before) f = record f { memory = touched (page_behind (flat_slots f.slots) gfn op) word op f.memory }
 facts_after (SlotChanged id slot) f = record f { slots = changed_slots id slot f.slots }
+facts_after (HostChanged page entry) f = record f { host = mapping page entry f.host }
 facts_after _ f = f
 
 -- the past after an event of the actor: it moves where a line begins or is answered, and where a slot is changed
@@ -41,9 +43,11 @@ line_after (Begun line) f u = record { line = line; stage = Fresh; notes = no_no
 line_after LookedAtPause f u = record u { notes = record u.notes { paused = Some f.paused } }
 line_after LookedAtSlots f u = record u { notes = record u.notes { slots = Some (flat_slots f.slots) } }
 line_after (LookedAtHost page) f u = record u { notes = record u.notes { host = with_entry page (f.host page) u.notes.host } }
+line_after (BroughtIn page) f u = u
 line_after (Accessed gfn word op frame before) f u = record u { stage = HasAccessed frame before }
 line_after (Exited answer) f u = record u { stage = HasLeft answer }
 line_after (SlotChanged id slot) f u = record u { stage = HasChanged }
+line_after (HostChanged page entry) f u = record u { stage = HasChangedHost entry }
 line_after (Answered line answer) f u = record u { stage = Idle }
 
 abbrev pub after : Event → Flat → Flat

@@ -3,6 +3,7 @@ use Rattle.std.specs.Prelude.{ℕ, [], Bool, false, Option, None}
 use Rattle.core_views.specs.declared.actor.Actor.{Actor}
 use Rattle.core_views.specs.declared.actor.Actor.TheVariants.{Vcpu}
 use Rattle.core_views.specs.declared.answer.Answer.{Answer}
+use Rattle.core_views.specs.declared.host.HostEntry.{HostEntry}
 use Rattle.core_views.specs.declared.trace.Command.TheVariants.{Access}
 use Rattle.core_views.specs.declared.trace.Op.TheVariants.{Read}
 use Rattle.core_views.specs.declared.trace.Line.{Line}
@@ -24,8 +25,9 @@ pub data Stage : Type 0 where
   Idle : Stage  -- no line is under way
   Fresh : Stage  -- begun, and nothing done yet
   HasAccessed : (frame value : ℕ) → Stage  -- its access was made
-  HasLeft : (answer : Answer) → Stage  -- it was given up: its access left the guest, or no page was free
-  HasChanged : Stage  -- its change took effect
+  HasLeft : (answer : Answer) → Stage  -- it was given up: its access left the guest, or no pool page or frame was free
+  HasChanged : Stage  -- its change of a slot took effect
+  HasChangedHost : (entry : HostEntry) → Stage  -- its change of a host page took effect: this is the page's entry since
 
 -- what the line looked at, as it last did: the pause, the slots, and the entry of each host page
 pub record Notes : Type 0 where
@@ -44,7 +46,7 @@ pub record Flat : Type 0 where
   pub past : Past
   pub under : Actor → LineUnderWay
 
--- At the start there is no slot, each host page is at its own frame, all content is zero, and nothing is paused.
+-- At the start there is no slot, each host page is present and writable at its own frame, all content is zero, and nothing is paused.
 abbrev pub first_facts : Facts
 first_facts = record { slots = []; host = own_frames; memory = all_zero; paused = false }
 

@@ -1,12 +1,15 @@
 -- The flat history of a trace: each line runs alone, in file order.
-use Rattle.std.specs.Prelude.{ℕ, List, [], ◌∷◌, ◌++◌, Bool, true, false, Option, Some, None}
+use Rattle.std.specs.Prelude.{ℕ, List, [], ◌∷◌, ◌++◌, Bool, true, false, Option, Some, None, if◌then◌else◌}
 use Rattle.core_views.specs.declared.answer.Answer.{Answer}
-use Rattle.core_views.specs.declared.answer.Answer.TheVariants.{Reached, Mmio, HostFault, Done}
+use Rattle.core_views.specs.declared.answer.Answer.TheVariants.{Reached, Mmio, HostFault, Done, Moved, Refused}
+use Rattle.core_views.specs.declared.answer.Refusal.TheVariants.{NoFrame}
 use Rattle.core_views.specs.declared.event.Event.{Event}
 use Rattle.core_views.specs.declared.event.EventKind.{EventKind}
-use Rattle.core_views.specs.declared.event.EventKind.TheVariants.{Begun, LookedAtPause, LookedAtSlots, LookedAtHost, Accessed, Exited, SlotChanged, Answered}
+use Rattle.core_views.specs.declared.event.EventKind.TheVariants.{Begun, LookedAtPause, LookedAtSlots, LookedAtHost, BroughtIn, Accessed, Exited, SlotChanged, HostChanged, Answered}
 use Rattle.core_views.specs.declared.trace.Command.{Command}
-use Rattle.core_views.specs.declared.trace.Command.TheVariants.{Access}
+use Rattle.core_views.specs.declared.trace.Command.TheVariants.{Access, ChangeHost}
+use Rattle.core_views.specs.declared.trace.HostChange.{HostChange}
+use Rattle.core_views.specs.declared.trace.HostChange.TheVariants.{Move, Evict, Protect, Allow}
 use Rattle.core_views.specs.declared.sizes.Sizes.{Sizes}
 use Rattle.core_views.specs.Sizes.{sizes_of}
 use Rattle.core_views.specs.declared.trace.Line.{Line}
@@ -14,9 +17,10 @@ use Rattle.core_views.specs.declared.trace.Op.{Op}
 use Rattle.core_views.specs.declared.slot_set.MemorySlot.{MemorySlot}
 use Rattle.core_views.specs.declared.trace.Trace.{Trace}
 use Rattle.core_views.specs.Host.{is_denied}
+use Rattle.core_views.specs.HostChanges.{host_answer, is_own, lowest_free}
 use Rattle.core_views.specs.Slots.{page_behind}
 use Rattle.core_views.specs.SlotSets.{flat_slots}
-use Rattle.core_views.specs.Flat.{Facts, Stage, Idle, Fresh, HasAccessed, HasLeft, HasChanged, first_facts}
+use Rattle.core_views.specs.Flat.{Facts, Stage, Idle, Fresh, HasAccessed, HasLeft, HasChanged, HasChangedHost, first_facts}
 use Rattle.core_views.specs.Events.{facts_after_all}
 use Rattle.core_views.specs.Lawful.{answer_at_once, slot_change}
 
@@ -26,10 +30,17 @@ by line kind = record { actor = line.actor; kind = kind }
 abbrev pub answers : Line → Answer → List Event
 answers line answer = by line (Answered line.number answer) ∷ []
 
--- An access of a page leaves the guest where the host forbids it, and else reaches the page's word.
+-- An access brings its page in that isn't present.
+abbrev pub bringing : Line → ℕ → Bool → List Event
+bringing line page true = []
+bringing line page false = by line (BroughtIn page) ∷ []
+
+-- An access of a page leaves the guest where the host forbids it, and else reaches the page's word, once the page is present.
 abbrev pub reaching : Line → ℕ → ℕ → Op → Facts → ℕ → Bool → List Event
 reaching line gfn word op f page true = by line (Exited HostFault) ∷ answers line HostFault
-reaching line gfn word op f page false = by line (Accessed gfn word op (f.host page).frame (f.memory page word)) ∷ answers line (Reached (f.host page).frame (f.memory page word))
+reaching line gfn word op f page false =
+    bringing line page (f.host page).present
+    ++ (by line (Accessed gfn word op (f.host page).frame (f.memory page word)) ∷ answers line (Reached (f.host page).frame (f.memory page word)))
 
 -- An access leaves the guest where no page is behind its frame.
 abbrev pub accessing : Line → ℕ → ℕ → Op → Facts → Option ℕ → List Event
@@ -41,18 +52,31 @@ abbrev pub changing : Line → Option (ℕ × Option MemorySlot) → List Event
 changing line None = []
 changing line (Some change) = by line (SlotChanged change.0 change.1) ∷ answers line Done
 
+-- A move gives the page the lowest frame that no page names, and is refused where there is none.
+abbrev pub moving : Line → ℕ → Facts → Option ℕ → List Event
+moving line page f None = by line (Exited (Refused NoFrame)) ∷ answers line (Refused NoFrame)
+moving line page f (Some frame) = by line (HostChanged page (record (f.host page) { frame = frame })) ∷ answers line (Moved frame)
+
+-- A line that changes a host page makes this change, and is done.
+abbrev pub changing_host : Sizes → Line → ℕ → HostChange → Facts → List Event
+changing_host z line page Move f = moving line page f (lowest_free z f.host)
+changing_host z line page Evict f = by line (HostChanged page (record (f.host page) { present = false })) ∷ answers line Done
+changing_host z line page Protect f = by line (HostChanged page (record (f.host page) { writable = false })) ∷ answers line Done
+changing_host z line page Allow f = by line (HostChanged page (record (f.host page) { writable = true })) ∷ answers line Done
+
 -- what a line does that has something to do
-abbrev pub working : Line → Command → Facts → List Event
-working line (Access gfn word op) f = accessing line gfn word op f (page_behind (flat_slots f.slots) gfn op)
-working line command f = changing line (slot_change f.slots command)
+abbrev pub working : Sizes → Line → Command → Facts → List Event
+working z line (Access gfn word op) f = accessing line gfn word op f (page_behind (flat_slots f.slots) gfn op)
+working z line (ChangeHost page change) f = changing_host z line page change f
+working z line command f = changing line (slot_change f.slots command)
 
 -- A line that has nothing to do is answered at once, and changes nothing.
-abbrev pub doing_by : Line → Command → Facts → Option Answer → List Event
-doing_by line command f None = working line command f
-doing_by line command f (Some answer) = answers line answer
+abbrev pub doing_by : Sizes → Line → Command → Facts → Option Answer → List Event
+doing_by z line command f None = working z line command f
+doing_by z line command f (Some answer) = answers line answer
 
 abbrev pub doing : Sizes → Line → Command → Facts → List Event
-doing z line command f = doing_by line command f (answer_at_once z f.slots command)
+doing z line command f = doing_by z line command f (answer_at_once z f.slots line.actor command)
 
 -- what is left of a line, from each stage on
 abbrev pub rest_of : Sizes → Line → Stage → Facts → List Event
@@ -61,19 +85,22 @@ rest_of z line Fresh f = doing z line line.command f
 rest_of z line (HasAccessed frame value) f = answers line (Reached frame value)
 rest_of z line (HasLeft answer) f = answers line answer
 rest_of z line HasChanged f = answers line Done
+rest_of z line (HasChangedHost entry) f = answers line (host_answer line.command entry)
 
--- what a line looks at before it does anything: an access at the pause, at the slots, and at the host page that they give it
+-- what a line looks at before it does anything: an access at the pause, at the slots, and at the host page that they give it; a host line at its page,
+-- where it is the actor's own
 abbrev pub looks_behind : Line → Option ℕ → List Event
 looks_behind line None = []
 looks_behind line (Some page) = by line (LookedAtHost page) ∷ []
 
-abbrev pub looks : Line → Command → Facts → List Event
-looks line (Access gfn word op) f = by line LookedAtPause ∷ by line LookedAtSlots ∷ looks_behind line (page_behind (flat_slots f.slots) gfn op)
-looks line _ f = []
+abbrev pub looks : Sizes → Line → Command → Facts → List Event
+looks z line (Access gfn word op) f = by line LookedAtPause ∷ by line LookedAtSlots ∷ looks_behind line (page_behind (flat_slots f.slots) gfn op)
+looks z line (ChangeHost page change) f = if is_own z line.actor page then by line (LookedAtHost page) ∷ [] else []
+looks z line _ f = []
 
 -- the whole line, alone
 abbrev pub alone : Sizes → Line → Facts → List Event
-alone z line f = by line (Begun line) ∷ (looks line line.command f ++ rest_of z line Fresh f)
+alone z line f = by line (Begun line) ∷ (looks z line line.command f ++ rest_of z line Fresh f)
 
 -- the lines one after another, each alone
 abbrev pub one_by_one : Sizes → List Line → Facts → List Event

@@ -1,12 +1,8 @@
 -- The host's mapping of its pages to frames (mmu.rst, "Translation": a host virtual page to a page of physical memory).
 use Rattle.std.specs.Prelude.{ℕ, Bool, true, ◌==◌, ◌&&◌, not, if◌then◌else◌, Option, Some}
+use Rattle.core_views.specs.declared.host.HostEntry.{HostEntry}
 use Rattle.core_views.specs.declared.trace.Op.{Op}
 use Rattle.core_views.specs.Slots.{is_write}
-
--- what the host maps a page to, and whether it allows writes
-pub record HostEntry : Type 0 where
-  pub frame : ℕ
-  pub writable : Bool
 
 -- The host forbids the operation on a page that it maps so.
 abbrev pub is_denied : Op → HostEntry → Bool
@@ -23,6 +19,14 @@ HostNotes = ℕ → Option HostEntry
 abbrev pub with_entry : ℕ → HostEntry → HostNotes → HostNotes
 with_entry page entry noted other = if page == other then Some entry else noted other
 
--- At the start each page is writable, at the frame of its own number.
+-- At the start each page is present and writable, at the frame of its own number.
 abbrev pub own_frames : HostMap
-own_frames page = record { frame = page; writable = true }
+own_frames page = record { frame = page; present = true; writable = true }
+
+-- the map that maps this page so, and each other one as before
+abbrev pub mapping : ℕ → HostEntry → HostMap → HostMap
+mapping page entry host other = if page == other then entry else host other
+
+-- the entry of a page that was brought in: it is present, at its frame, and what the host allows is as before
+abbrev pub brought_in : HostEntry → HostEntry
+brought_in entry = record entry { present = true }

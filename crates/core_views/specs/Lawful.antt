@@ -4,21 +4,27 @@ use Rattle.std.specs.Option.{option_map}
 use Rattle.core_views.specs.declared.actor.Actor.{Actor}
 use Rattle.core_views.specs.declared.answer.Answer.{Answer}
 use Rattle.core_views.specs.declared.answer.Answer.TheVariants.{Reached, Mmio, HostFault, Starved, Done, Refused}
+use Rattle.core_views.specs.declared.answer.Refusal.{Refusal}
+use Rattle.core_views.specs.declared.answer.Refusal.TheVariants.{NoFrame}
 use Rattle.core_views.specs.declared.event.Event.{Event}
 use Rattle.core_views.specs.declared.event.EventKind.{EventKind}
-use Rattle.core_views.specs.declared.event.EventKind.TheVariants.{Begun, LookedAtPause, LookedAtSlots, LookedAtHost, Accessed, Exited, SlotChanged, Answered}
+use Rattle.core_views.specs.declared.event.EventKind.TheVariants.{Begun, LookedAtPause, LookedAtSlots, LookedAtHost, BroughtIn, Accessed, Exited, SlotChanged, HostChanged, Answered}
 use Rattle.core_views.specs.declared.trace.Command.{Command}
-use Rattle.core_views.specs.declared.trace.Command.TheVariants.{Access, SetSlot}
+use Rattle.core_views.specs.declared.trace.Command.TheVariants.{Access, ChangeHost, SetSlot}
+use Rattle.core_views.specs.declared.trace.HostChange.{HostChange}
+use Rattle.core_views.specs.declared.trace.HostChange.TheVariants.{Move}
+use Rattle.core_views.specs.declared.host.HostEntry.{HostEntry}
 use Rattle.core_views.specs.declared.sizes.Sizes.{Sizes}
 use Rattle.core_views.specs.declared.trace.Op.{Op}
 use Rattle.core_views.specs.Slots.{Slots, page_behind}
 use Rattle.core_views.specs.SlotSets.{MemorySlots, flat_slots}
 use Rattle.core_views.specs.SlotCommands.{change_refusal}
 pub use Rattle.core_views.specs.SlotCommands.{slot_change}
-use Rattle.core_views.specs.Host.{HostEntry, is_denied}
+use Rattle.core_views.specs.Host.{is_denied}
+use Rattle.core_views.specs.HostChanges.{Agree, Changes, host_answer, host_refusal}
 use Rattle.core_views.specs.Names.{names}
 use Rattle.core_views.specs.Past.{Past}
-use Rattle.core_views.specs.Flat.{Facts, Notes, LineUnderWay, Flat, Stage, Idle, Fresh, HasAccessed, HasLeft, HasChanged}
+use Rattle.core_views.specs.Flat.{Facts, Notes, LineUnderWay, Flat, Stage, Idle, Fresh, HasAccessed, HasLeft, HasChanged, HasChangedHost}
 use Rattle.core_views.specs.Events.{after}
 
 -- The access reaches the frame that slots and host name now, at a word that holds `before`.
@@ -57,30 +63,64 @@ pub record SawPage (notes : Notes) (gfn : ℕ) (op : Op) : Type 0 where
   pub looked : notes.host page ≡ Some entry
   pub allows : is_denied op entry ≡ false
 
--- what a line is answered that has nothing to do on a machine with these slots: the refusal of a slot
-abbrev pub answer_at_once : Sizes → MemorySlots → Command → Option Answer
-answer_at_once z slots command = option_map (λ refusal. Refused refusal) (change_refusal z command slots)
+-- It saw no pause, the slots that it looked at give this page, and the page is now as the line looked at it: it isn't present, and the host allows
+-- the operation.
+pub record SawAbsent (f : Facts) (notes : Notes) (gfn : ℕ) (op : Op) (page : ℕ) : Type 0 where
+  pub runs : notes.paused ≡ Some false
+  pub slots : Slots
+  pub noted : notes.slots ≡ Some slots
+  pub behind : page_behind slots gfn op ≡ Some page
+  pub looked : notes.host page ≡ Some (f.host page)
+  pub absent : (f.host page).present ≡ false
+  pub allows : is_denied op (f.host page) ≡ false
 
--- The line has something to do.
-abbrev pub HasWork : Sizes → Facts → Command → Type 0
-HasWork z f command = answer_at_once z f.slots command ≡ None
+-- The line under way may bring this host page in.
+abbrev pub BringsIn : Facts → Command → Notes → ℕ → Type 0
+BringsIn f (Access gfn word op) notes page = SawAbsent f notes gfn op page
+BringsIn _ _ _ _ = ⊥
 
--- The line under way may be given up with this answer. That no pool page was free is no fact of flat memory. But a line that has nothing to do wants
--- none, and an access wants one, for a table, only once it has seen its page.
-abbrev pub MayLeave : Sizes → Facts → Command → Notes → Answer → Type 0
-MayLeave z f (Access gfn word op) notes Mmio = SawNoPage notes gfn op
-MayLeave z f (Access gfn word op) notes HostFault = SawForbidden notes gfn op
-MayLeave z f (Access gfn word op) notes Starved = HasWork z f (Access gfn word op) × SawPage notes gfn op
-MayLeave z f (SetSlot id slot) notes Starved = HasWork z f (SetSlot id slot)
-MayLeave _ _ _ _ _ = ⊥
+-- why the actor's line is refused on a machine with these slots, whatever it looks at
+abbrev pub line_refusal : Sizes → MemorySlots → Actor → Command → Option Refusal
+line_refusal z slots actor (ChangeHost page change) = host_refusal z actor page
+line_refusal z slots actor command = change_refusal z command slots
+
+-- what the actor's line is answered that has nothing to do on a machine with these slots: its refusal
+abbrev pub answer_at_once : Sizes → MemorySlots → Actor → Command → Option Answer
+answer_at_once z slots actor command = option_map (λ refusal. Refused refusal) (line_refusal z slots actor command)
+
+-- The actor's line has something to do.
+abbrev pub HasWork : Sizes → Facts → Actor → Command → Type 0
+HasWork z f actor command = answer_at_once z f.slots actor command ≡ None
+
+-- The line is one of the page's owner and asks for this change of it, has something to do, and looked at the page, which has since been brought in
+-- at most.
+pub record MayChangeHost (z : Sizes) (f : Facts) (actor : Actor) (command : Command) (notes : Notes) (page : ℕ) (entry : HostEntry) : Type 0 where
+  pub change : HostChange
+  pub asked : command ≡ ChangeHost page change
+  pub works : HasWork z f actor command
+  pub seen : HostEntry
+  pub looked : notes.host page ≡ Some seen
+  pub agrees : Agree seen (f.host page)
+  pub changes : Changes z f.host page change entry
+
+-- The actor's line under way may be given up with this answer. That no pool page was free is no fact of flat memory, nor that no free frame was found for
+-- a move. But a line that has nothing to do wants none, and an access wants a pool page, for a table, only once it has seen its page.
+abbrev pub MayLeave : Sizes → Facts → Actor → Command → Notes → Answer → Type 0
+MayLeave z f actor (Access gfn word op) notes Mmio = SawNoPage notes gfn op
+MayLeave z f actor (Access gfn word op) notes HostFault = SawForbidden notes gfn op
+MayLeave z f actor (Access gfn word op) notes Starved = HasWork z f actor (Access gfn word op) × SawPage notes gfn op
+MayLeave z f actor (SetSlot id slot) notes Starved = HasWork z f actor (SetSlot id slot)
+MayLeave z f actor (ChangeHost page Move) notes (Refused NoFrame) = HasWork z f actor (ChangeHost page Move)
+MayLeave _ _ _ _ _ _ = ⊥
 
 -- The line's own events tell this answer, or it has none, and is answered so at once.
-abbrev pub Tells : Sizes → MemorySlots → Command → Stage → Answer → Type 0
-Tells z slots command (HasAccessed frame value) answer = answer ≡ Reached frame value
-Tells z slots command (HasLeft how) answer = answer ≡ how
-Tells z slots command HasChanged answer = answer ≡ Done
-Tells z slots command Idle answer = ⊥
-Tells z slots command Fresh answer = answer_at_once z slots command ≡ Some answer
+abbrev pub Tells : Sizes → MemorySlots → Actor → Command → Stage → Answer → Type 0
+Tells z slots actor command (HasAccessed frame value) answer = answer ≡ Reached frame value
+Tells z slots actor command (HasLeft how) answer = answer ≡ how
+Tells z slots actor command HasChanged answer = answer ≡ Done
+Tells z slots actor command (HasChangedHost entry) answer = answer ≡ host_answer command entry
+Tells z slots actor command Idle answer = ⊥
+Tells z slots actor command Fresh answer = answer_at_once z slots actor command ≡ Some answer
 
 -- The actor, with this line under way, may do this next. What is kept of the past forbids none of these.
 abbrev pub IsAllowed : Sizes → Facts → Past → Actor → LineUnderWay → EventKind → Type 0
@@ -88,11 +128,14 @@ IsAllowed z f past actor u (Begun line) = (u.stage ≡ Idle) × (line.actor ≡ 
 IsAllowed z f past actor u LookedAtPause = u.stage ≡ Fresh
 IsAllowed z f past actor u LookedAtSlots = u.stage ≡ Fresh
 IsAllowed z f past actor u (LookedAtHost page) = u.stage ≡ Fresh
+IsAllowed z f past actor u (BroughtIn page) = (u.stage ≡ Fresh) × BringsIn f u.line.command u.notes page
 IsAllowed z f past actor u (Accessed gfn word op frame before) =
     (u.stage ≡ Fresh) × (u.line.command ≡ Access gfn word op) × (u.notes.paused ≡ Some false) × Reaches f gfn word op frame before
-IsAllowed z f past actor u (Exited answer) = (u.stage ≡ Fresh) × MayLeave z f u.line.command u.notes answer
-IsAllowed z f past actor u (SlotChanged id slot) = (u.stage ≡ Fresh) × HasWork z f u.line.command × (slot_change f.slots u.line.command ≡ Some (id, slot))
-IsAllowed z f past actor u (Answered line answer) = (line ≡ u.line.number) × Tells z f.slots u.line.command u.stage answer
+IsAllowed z f past actor u (Exited answer) = (u.stage ≡ Fresh) × MayLeave z f actor u.line.command u.notes answer
+IsAllowed z f past actor u (SlotChanged id slot) =
+    (u.stage ≡ Fresh) × HasWork z f actor u.line.command × (slot_change f.slots u.line.command ≡ Some (id, slot))
+IsAllowed z f past actor u (HostChanged page entry) = (u.stage ≡ Fresh) × MayChangeHost z f actor u.line.command u.notes page entry
+IsAllowed z f past actor u (Answered line answer) = (line ≡ u.line.number) × Tells z f.slots actor u.line.command u.stage answer
 
 -- Each event of the history is allowed in the state that the events before it give.
 abbrev pub IsLawful : Sizes → Flat → List Event → Type 0

@@ -13,7 +13,7 @@ use Rattle.core_views.specs.Flat.{first_facts, first_flat}
 use Rattle.core_views.specs.Lawful.{IsLawful}
 use Rattle.core_views.specs.Whole.{IsWhole}
 use Rattle.core_views.specs.FlatHistory.{one_by_one}
-use Rattle.core_views.specs.Alone.{NoneStarved, StandsAlone, without_looks}
+use Rattle.core_views.specs.Alone.{FallAsFlat, StandsAlone, without_looks}
 use Rattle.core_views.specs.Text.{text, answers_of}
 
 -- Lines that run alone, one after another, are lawful.
@@ -28,16 +28,17 @@ FlatIsWhole = (z : Sizes) (lines : List Line) → IsWhole (one_by_one z lines fi
 abbrev pub FlatStandsAlone : Type 0
 FlatStandsAlone = (z : Sizes) (lines : List Line) → StandsAlone (one_by_one z lines first_facts) lines
 
--- A lawful history in which each line stands alone, and none is starved, is the flat history, but for what the lines looked at.
+-- A lawful history in which each line stands alone, and the open choices fall as the flat history's do, is the flat history, but for what the lines looked at.
 abbrev pub AloneIsFlat : Type 0
-AloneIsFlat = (z : Sizes) (lines : List Line) (h : List Event) → IsLawful z first_flat h → StandsAlone h lines → NoneStarved h → without_looks h ≡ without_looks (one_by_one z lines first_facts)
+AloneIsFlat = (z : Sizes) (lines : List Line) (h : List Event) → IsLawful z first_flat h → StandsAlone h lines → FallAsFlat z first_flat h
+    → without_looks h ≡ without_looks (one_by_one z lines first_facts)
 
 -- So it answers and prints the same.
 abbrev pub AloneAnswersAsFlat : Type 0
-AloneAnswersAsFlat = (z : Sizes) (lines : List Line) (h : List Event) → IsLawful z first_flat h → StandsAlone h lines → NoneStarved h
+AloneAnswersAsFlat = (z : Sizes) (lines : List Line) (h : List Event) → IsLawful z first_flat h → StandsAlone h lines → FallAsFlat z first_flat h
     → (answers_of h ≡ answers_of (one_by_one z lines first_facts)) × (text h ≡ text (one_by_one z lines first_facts))
 
--- Where each line stands alone, each is begun and answered, once, in the order of its actor, whether some are starved or not.
+-- Where each line stands alone, each is begun and answered, once, in the order of its actor, however the choices fall.
 abbrev pub AloneIsWhole : Type 0
 AloneIsWhole = (lines : List Line) (h : List Event) → StandsAlone h lines → IsWhole h lines
 

@@ -7,6 +7,7 @@ pub mod Refusals
 pub mod SlotCommands
 pub mod Places
 pub mod Host
+pub mod HostChanges
 pub mod Memory
 pub mod Names
 pub mod Past
@@ -25,4 +26,5 @@ pub mod ReachedWrites
 pub mod Laws
 pub mod Unlawful
 pub mod SlotLines
+pub mod HostExamples
 pub mod Rows

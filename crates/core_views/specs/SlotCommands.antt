@@ -4,18 +4,20 @@ use Rattle.core_views.specs.declared.answer.Refusal.{Refusal}
 use Rattle.core_views.specs.declared.slot_set.MemorySlot.{MemorySlot}
 use Rattle.core_views.specs.declared.sizes.Sizes.{Sizes}
 use Rattle.core_views.specs.declared.trace.Command.{Command}
-use Rattle.core_views.specs.declared.trace.Command.TheVariants.{Access, SetSlot}
+use Rattle.core_views.specs.declared.trace.Command.TheVariants.{Access, ChangeHost, SetSlot}
 use Rattle.core_views.specs.Refusals.{is_logged, set_refusal}
 use Rattle.core_views.specs.SlotSets.{MemorySlots, changed_slots}
 
 -- The command is one that changes a slot.
 abbrev pub changes_slot : Command → Bool
 changes_slot (Access gfn word op) = false
+changes_slot (ChangeHost page change) = false
 changes_slot _ = true
 
 -- the ID of which a line changes the slot, and the slot after the change: it has a dirty log where the one that was there had one
 abbrev pub slot_change : MemorySlots → Command → Option (ℕ × Option MemorySlot)
 slot_change slots (Access gfn word op) = None
+slot_change slots (ChangeHost page change) = None
 slot_change slots (SetSlot id slot) = Some (id, Some (record { slot = slot; logged = is_logged id slots }))
 
 -- the slots after such a change
@@ -30,4 +32,5 @@ slots_after command slots = after_change (slot_change slots command) slots
 -- why the line is refused, on a machine of these sizes with these slots
 abbrev pub change_refusal : Sizes → Command → MemorySlots → Option Refusal
 change_refusal z (Access gfn word op) slots = None
+change_refusal z (ChangeHost page change) slots = None
 change_refusal z (SetSlot id slot) slots = set_refusal z.pages id slot slots

@@ -5,9 +5,9 @@ use Rattle.core_views.specs.declared.actor.Actor.{Actor}
 use Rattle.core_views.specs.declared.actor.Actor.TheVariants.{Vcpu, Host, Manager, Worker}
 use Rattle.core_views.specs.declared.answer.Answer.{Answer}
 use Rattle.core_views.specs.declared.answer.AnsweredLine.{AnsweredLine}
-use Rattle.core_views.specs.declared.answer.Answer.TheVariants.{Reached, Mmio, HostFault, Starved, Done, Refused}
+use Rattle.core_views.specs.declared.answer.Answer.TheVariants.{Reached, Mmio, HostFault, Starved, Done, Moved, Refused}
 use Rattle.core_views.specs.declared.answer.Refusal.{Refusal}
-use Rattle.core_views.specs.declared.answer.Refusal.TheVariants.{BadId, TooLarge, Missing, Logged, NoLog, Resize, Fixed, Overlap, HostOverlap}
+use Rattle.core_views.specs.declared.answer.Refusal.TheVariants.{BadId, TooLarge, Missing, Logged, NoLog, Resize, Fixed, Overlap, HostOverlap, OutOfRange, NoFrame}
 use Rattle.core_views.specs.declared.event.Event.{Event}
 use Rattle.core_views.specs.declared.event.EventKind.{EventKind}
 use Rattle.core_views.specs.declared.event.EventKind.TheVariants.{Answered}
@@ -28,6 +28,8 @@ refusal_name Resize = codes "resize"
 refusal_name Fixed = codes "fixed"
 refusal_name Overlap = codes "overlap"
 refusal_name HostOverlap = codes "host-overlap"
+refusal_name OutOfRange = codes "out-of-range"
+refusal_name NoFrame = codes "no-frame"
 
 abbrev pub answer_text : Answer → List ℕ
 answer_text (Reached frame value) = codes "frame " ++ (decimal frame ++ (codes " value " ++ decimal value))
@@ -35,6 +37,7 @@ answer_text Mmio = codes "mmio"
 answer_text HostFault = codes "hostfault"
 answer_text Starved = codes "starved"
 answer_text Done = codes "done"
+answer_text (Moved frame) = codes "frame " ++ decimal frame
 answer_text (Refused refusal) = codes "refused " ++ refusal_name refusal
 
 -- a line's number, its actor, its answer, and LF

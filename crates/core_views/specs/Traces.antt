@@ -5,7 +5,7 @@ use Rattle.std.specs.List.Sorted.{IsStrictlyIncreasing}
 use Rattle.core_views.specs.declared.actor.Actor.{Actor}
 use Rattle.core_views.specs.declared.actor.Actor.TheVariants.{Vcpu, Host, Manager, Worker}
 use Rattle.core_views.specs.declared.trace.Command.{Command}
-use Rattle.core_views.specs.declared.trace.Command.TheVariants.{Access, SetSlot}
+use Rattle.core_views.specs.declared.trace.Command.TheVariants.{Access, ChangeHost, SetSlot}
 use Rattle.core_views.specs.declared.trace.Header.{Header}
 use Rattle.core_views.specs.declared.trace.Item.{Item}
 use Rattle.core_views.specs.declared.trace.Line.{Line}
@@ -44,6 +44,7 @@ AreLinesOf h lines = All (IsLineOf h) lines
 -- before these IDs the one that the command sets a slot at, if it sets one
 abbrev pub or_slot_id : Command → List ℕ → List ℕ
 or_slot_id (Access gfn word op) ids = ids
+or_slot_id (ChangeHost page change) ids = ids
 or_slot_id (SetSlot id slot) ids = id ∷ ids
 
 -- the IDs that the lines set slots at, in their order

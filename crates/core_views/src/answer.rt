@@ -16,8 +16,10 @@ pub enum Answer {
     HostFault,
     /// No pool page was free for a table that the access needs.
     Starved,
-    /// The change of a slot took effect.
+    /// The change took effect: of a slot, or of a host page that wasn't moved.
     Done,
+    /// The host page was moved to this frame.
+    Moved(u64),
     /// The line is refused, and nothing has changed.
     Refused(Refusal),
 }
@@ -45,6 +47,10 @@ pub enum Refusal {
     Overlap,
     /// Another slot has one of the host pages.
     HostOverlap,
+    /// The page isn't one of the host thread's own.
+    OutOfRange,
+    /// Each frame is named by some page, so none is free for a move.
+    NoFrame,
 }
 
 impl Refusal {
@@ -62,6 +68,8 @@ impl Refusal {
             Refusal::Fixed => "fixed",
             Refusal::Overlap => "overlap",
             Refusal::HostOverlap => "host-overlap",
+            Refusal::OutOfRange => "out-of-range",
+            Refusal::NoFrame => "no-frame",
         }
     }
 }
@@ -88,6 +96,7 @@ impl fmt::Display for Answer {
             Answer::HostFault => write!(f, "hostfault"),
             Answer::Starved => write!(f, "starved"),
             Answer::Done => write!(f, "done"),
+            Answer::Moved(frame) => write!(f, "frame {frame}"),
             Answer::Refused(refusal) => {
                 let name = refusal.name();
                 write!(f, "refused {name}")

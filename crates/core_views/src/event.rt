@@ -1,4 +1,4 @@
-use crate::{Actor, Answer, Line, MemorySlot, Op};
+use crate::{Actor, Answer, HostEntry, Line, MemorySlot, Op};
 
 /// One event of a history: what an actor did to, or saw of, flat guest memory.
 #[derive(Debug, Drop)]
@@ -20,6 +20,10 @@ pub enum EventKind {
     LookedAtHost {
         page: u64,
     },
+    /// The host page wasn't present, and is from now on: an access brings it in.
+    BroughtIn {
+        page: u64,
+    },
     /// The access itself: `word` is the index of the content word in its page,
     /// `before` its value before the access.
     Accessed {
@@ -30,12 +34,19 @@ pub enum EventKind {
         before: u64,
     },
     /// The line is given up with no effect: an access leaves the guest without
-    /// touching memory, or a slot line finds no free page for the new slot set.
+    /// touching memory, a slot line finds no free page for the new slot set, or a move
+    /// of a host page finds no free frame.
     Exited(Answer),
     /// From now on this is the memory slot with the ID, or there is none.
     SlotChanged {
         id: u64,
         slot: Option<MemorySlot>,
+    },
+    /// From now on the host maps the page so. Where it was mapped so before, this
+    /// is told too.
+    HostChanged {
+        page: u64,
+        entry: HostEntry,
     },
     /// The line with this number is answered.
     Answered {

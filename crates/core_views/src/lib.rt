@@ -7,6 +7,7 @@ mod answer;
 mod cache;
 mod event;
 mod hand;
+mod host;
 mod kind;
 mod laws;
 mod no_memory;
@@ -23,6 +24,7 @@ pub use answer::{Answer, Answered, AnsweredLine, Refusal};
 pub use cache::{Cache, Translation};
 pub use event::{Event, EventKind};
 pub use hand::{Closing, Hand, Hands, Progress, Seen};
+pub use host::HostEntry;
 pub use kind::{Kind, Operation, StepKind};
 pub use laws::{
     alone_is_flat, flat_history_is_lawful, reached_writes_are_kept, slot_lines_set_slots,
@@ -40,7 +42,9 @@ pub use topics::{
     Checked, Hold, HostLook, Invalidations, MapClaim, OwnedPage, SlotSearch, Stay, TableWalk,
     Topics,
 };
-pub use trace::{Command, Header, Item, Items, Line, Lines, Op, Slot, Trace, Until, Words};
+pub use trace::{
+    Command, Header, HostChange, Item, Items, Line, Lines, Op, Slot, Trace, Until, Words,
+};
 
 #[cfg(test)]
 mod slot_set_tests;

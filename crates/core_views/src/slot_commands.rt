@@ -14,7 +14,7 @@ impl SlotSet {
     {
         match command {
             Command::SetSlot { id, slot } => self.check_set(*id, slot, sizes.pages).err(),
-            Command::Access { .. } => None,
+            Command::Access { .. } | Command::ChangeHost { .. } => None,
         }
     }
 

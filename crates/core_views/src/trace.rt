@@ -67,6 +67,21 @@ impl Slot {
     }
 }
 
+/// What a host thread does to one of its pages. It is what KVM's MMU notifiers tell of
+/// (api.rst, `KVM_CAP_SYNC_MMU`: changes in the backing of a slot are reflected into
+/// the guest).
+#[derive(Clone, Copy, Debug, PartialEq, Eq, Drop)]
+pub enum HostChange {
+    /// Copies it to a frame that no page names, and names that.
+    Move,
+    /// Takes it away; its content stays in its frame.
+    Evict,
+    /// Forbids writes to it.
+    Protect,
+    /// Allows writes to it.
+    Allow,
+}
+
 /// What a line asks for: one variant for each form of line.
 #[derive(Clone, Debug, PartialEq, Eq, Drop)]
 pub enum Command {
@@ -75,6 +90,8 @@ pub enum Command {
     Access { gfn: u64, word: u8, op: Op },
     /// Sets the memory slot with this ID, which may be any number.
     SetSlot { id: u64, slot: Slot },
+    /// Changes what the host maps this page to, which may be any number.
+    ChangeHost { page: u64, change: HostChange },
 }
 
 /// A line of the trace: its number in the file (the header is line 1), its

@@ -31,10 +31,11 @@ slot_line line id slot before after answer is sets = by_refusal (set_refusal bef
     f : Facts
     f = facts_of before
 
-    whole : (r : Option Refusal) → set_refusal before.sizes.pages id slot before.slots ≡ r → alone before.sizes line f ≡ by line (Begun line) ∷ doing_by line (SetSlot id slot) f (at_once r)
+    whole : (r : Option Refusal) → set_refusal before.sizes.pages id slot before.slots ≡ r
+        → alone before.sizes line f ≡ by line (Begun line) ∷ doing_by before.sizes line (SetSlot id slot) f (at_once r)
     whole r why =
-        ap (λ (command : Command). by line (Begun line) ∷ (looks line command f ++ doing before.sizes line command f)) is
-        ∙ ap (λ (x : Option Refusal). by line (Begun line) ∷ doing_by line (SetSlot id slot) f (at_once x)) why
+        ap (λ (command : Command). by line (Begun line) ∷ (looks before.sizes line command f ++ doing before.sizes line command f)) is
+        ∙ ap (λ (x : Option Refusal). by line (Begun line) ∷ doing_by before.sizes line (SetSlot id slot) f (at_once x)) why
 
     answered : Answer → List AnsweredLine
     answered x = record { number = line.number; actor = line.actor; answer = x } ∷ []

@@ -3,7 +3,7 @@ use Rattle.std.specs.Prelude.{◌≡◌, ℕ, List, [], ◌∷◌, Bool, false, 
 use Rattle.std.specs.Map.{lookup}
 use Rattle.core_views.specs.declared.answer.Answer.{Answer}
 use Rattle.core_views.specs.declared.trace.Command.{Command}
-use Rattle.core_views.specs.declared.trace.Command.TheVariants.{Access, SetSlot}
+use Rattle.core_views.specs.declared.trace.Command.TheVariants.{Access, ChangeHost, SetSlot}
 use Rattle.core_views.specs.declared.trace.Line.{Line}
 use Rattle.core_views.specs.Traces.{IsSlotInRange}
 use Rattle.core_views.specs.declared.sizes.Sizes.{Sizes}
@@ -32,10 +32,11 @@ memory_of words page word = unwrap_or (lookup (is_place (page, word)) words) 0
 abbrev pub facts_of : Kept → Facts
 facts_of kept = record { slots = kept.slots; host = own_frames; memory = memory_of kept.words; paused = false }
 
--- The command's numbers are in the ranges of a line.
+-- The command is one of a line of a trace, and its numbers are in their ranges: no trace has lines of hosts.
 abbrev pub IsInRange : Command → Type 0
 IsInRange (Access gfn word op) = Unit {0}
 IsInRange (SetSlot id slot) = IsSlotInRange slot
+IsInRange (ChangeHost page change) = ⊥
 
 -- The line, alone on a machine of these sizes, leads from these facts to those, and is answered so.
 pub record GivesLine (z : Sizes) (line : Line) (before after : Facts) (answer : Answer) : Type 0 where

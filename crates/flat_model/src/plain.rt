@@ -59,6 +59,7 @@ impl Plain {
         match line.command {
             Command::Access { gfn, word, op } => self.access(gfn, word, op),
             Command::SetSlot { id, slot } => Ok(self.set_slot(id, slot)),
+            Command::ChangeHost { .. } => unreachable!(),
         }
     }
 

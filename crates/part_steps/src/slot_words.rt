@@ -75,7 +75,7 @@ fn slot_after(slots: &SlotSet, command: &Command, here: u64) -> Option<MemorySlo
 {
     match command {
         Command::SetSlot { id, slot } => slot_after_set(slots, *id, slot, here),
-        Command::Access { .. } => slots.get(here),
+        Command::Access { .. } | Command::ChangeHost { .. } => slots.get(here),
     }
 }
 

@@ -9,9 +9,9 @@ use Rattle.core_views.specs.Text.{actor_name, answer_text, line_text}
 use Rattle.core_views.specs.declared.actor.Actor.{Actor}
 use Rattle.core_views.specs.declared.actor.Actor.TheVariants.{Vcpu, Host, Manager, Worker}
 use Rattle.core_views.specs.declared.answer.Answer.{Answer}
-use Rattle.core_views.specs.declared.answer.Answer.TheVariants.{Reached, Mmio, HostFault, Starved, Done, Refused}
+use Rattle.core_views.specs.declared.answer.Answer.TheVariants.{Reached, Mmio, HostFault, Starved, Done, Moved, Refused}
 use Rattle.core_views.specs.declared.answer.Refusal.{Refusal}
-use Rattle.core_views.specs.declared.answer.Refusal.TheVariants.{BadId, TooLarge, Missing, Logged, NoLog, Resize, Fixed, Overlap, HostOverlap}
+use Rattle.core_views.specs.declared.answer.Refusal.TheVariants.{BadId, TooLarge, Missing, Logged, NoLog, Resize, Fixed, Overlap, HostOverlap, OutOfRange, NoFrame}
 use Rattle.trace_text.specs.Laws.{IsPrintable, AreNumbers, LinesTell}
 
 -- The first items of equal lists, and what is behind them.
@@ -86,20 +86,27 @@ reached f v = decimal f ++ 32 ∷ (codes "value " ++ (decimal v ++ 10 ∷ []))
 reached_is : (f v : ℕ) → drop 6 (answer_text (Reached f v) ++ 10 ∷ []) ≡ reached f v
 reached_is f v = append_assoc (decimal f) (codes " value " ++ decimal v) (10 ∷ [])
 
--- The refusal whose name begins with the letter.
-by_letter : ℕ → Refusal
-by_letter c =
-    if c == 98 then BadId else
-    if c == 116 then TooLarge else
-    if c == 109 then Missing else
-    if c == 108 then Logged else
-    if c == 110 then NoLog else
-    if c == 114 then Resize else
-    if c == 102 then Fixed else
-    if c == 111 then Overlap else
+-- A page's new frame and the LF behind it are no frame and value.
+moved_apart : (f g w : ℕ) → f < 2 ^ 64 → g < 2 ^ 64 → decimal f ++ 10 ∷ [] ≡ reached g w → ⊥
+moved_apart f g w fb gb e =
+    let behind : List ℕ = codes "value " ++ (decimal w ++ 10 ∷ []) in
+    let p = parts (decimal f) (decimal g) [] behind 10 32 (decimal_is_IsNumeral f fb).0.1 (decimal_is_IsNumeral g gb).0.1 (omega arith) space e in
+    differ 10 32 (omega arith) (heads 10 32 [] behind p.1)
+
+-- The refusal whose name has these letters: the first one tells it, or the second or the fourth does.
+by_letter : List ℕ → Refusal
+by_letter l =
+    if get_or l 8 0 == 98 then BadId else
+    if get_or l 8 0 == 116 then TooLarge else
+    if get_or l 8 0 == 109 then Missing else
+    if get_or l 8 0 == 108 then Logged else
+    if get_or l 8 0 == 110 then (if get_or l 11 0 == 108 then NoLog else NoFrame) else
+    if get_or l 8 0 == 114 then Resize else
+    if get_or l 8 0 == 102 then Fixed else
+    if get_or l 8 0 == 111 then (if get_or l 9 0 == 118 then Overlap else OutOfRange) else
     HostOverlap
 
-letter_tells : (r : Refusal) → by_letter (get_or (answer_text (Refused r) ++ 10 ∷ []) 8 0) ≡ r
+letter_tells : (r : Refusal) → by_letter (answer_text (Refused r) ++ 10 ∷ []) ≡ r
 unfolding by_letter
 letter_tells BadId = refl
 letter_tells TooLarge = refl
@@ -110,6 +117,8 @@ letter_tells Resize = refl
 letter_tells Fixed = refl
 letter_tells Overlap = refl
 letter_tells HostOverlap = refl
+letter_tells OutOfRange = refl
+letter_tells NoFrame = refl
 
 -- An answer and its LF.
 answer : (x y : Answer) → AreNumbers x → AreNumbers y → answer_text x ++ 10 ∷ [] ≡ answer_text y ++ 10 ∷ [] → x ≡ y
@@ -122,7 +131,10 @@ answer Mmio Mmio xb yb e = refl
 answer HostFault HostFault xb yb e = refl
 answer Starved Starved xb yb e = refl
 answer Done Done xb yb e = refl
-answer (Refused r) (Refused s) xb yb e = ap Refused (sym (letter_tells r) ∙ ap (λ (l : List ℕ). by_letter (get_or l 8 0)) e ∙ letter_tells s)
+answer (Moved f) (Moved g) xb yb e = ap Moved (number f g 10 10 [] [] xb yb (omega arith) (omega arith) (ap (drop 6) e)).0
+answer (Moved f) (Reached g w) xb yb e = absurd (moved_apart f g w xb yb.0 (ap (drop 6) e ∙ reached_is g w))
+answer (Reached f v) (Moved g) xb yb e = absurd (moved_apart g f v yb xb.0 (sym (ap (drop 6) e) ∙ reached_is f v))
+answer (Refused r) (Refused s) xb yb e = ap Refused (sym (letter_tells r) ∙ ap by_letter e ∙ letter_tells s)
 answer (Reached f v) Mmio xb yb e = absurd (differ 102 109 (omega arith) (ap (λ (l : List ℕ). get_or l 0 0) e))
 answer (Reached f v) HostFault xb yb e = absurd (differ 102 104 (omega arith) (ap (λ (l : List ℕ). get_or l 0 0) e))
 answer (Reached f v) Starved xb yb e = absurd (differ 102 115 (omega arith) (ap (λ (l : List ℕ). get_or l 0 0) e))
@@ -153,6 +165,16 @@ answer (Refused r) Mmio xb yb e = absurd (differ 114 109 (omega arith) (ap (λ (
 answer (Refused r) HostFault xb yb e = absurd (differ 114 104 (omega arith) (ap (λ (l : List ℕ). get_or l 0 0) e))
 answer (Refused r) Starved xb yb e = absurd (differ 114 115 (omega arith) (ap (λ (l : List ℕ). get_or l 0 0) e))
 answer (Refused r) Done xb yb e = absurd (differ 114 100 (omega arith) (ap (λ (l : List ℕ). get_or l 0 0) e))
+answer (Moved f) Mmio xb yb e = absurd (differ 102 109 (omega arith) (ap (λ (l : List ℕ). get_or l 0 0) e))
+answer Mmio (Moved f) xb yb e = absurd (differ 109 102 (omega arith) (ap (λ (l : List ℕ). get_or l 0 0) e))
+answer (Moved f) HostFault xb yb e = absurd (differ 102 104 (omega arith) (ap (λ (l : List ℕ). get_or l 0 0) e))
+answer HostFault (Moved f) xb yb e = absurd (differ 104 102 (omega arith) (ap (λ (l : List ℕ). get_or l 0 0) e))
+answer (Moved f) Starved xb yb e = absurd (differ 102 115 (omega arith) (ap (λ (l : List ℕ). get_or l 0 0) e))
+answer Starved (Moved f) xb yb e = absurd (differ 115 102 (omega arith) (ap (λ (l : List ℕ). get_or l 0 0) e))
+answer (Moved f) Done xb yb e = absurd (differ 102 100 (omega arith) (ap (λ (l : List ℕ). get_or l 0 0) e))
+answer Done (Moved f) xb yb e = absurd (differ 100 102 (omega arith) (ap (λ (l : List ℕ). get_or l 0 0) e))
+answer (Moved f) (Refused r) xb yb e = absurd (differ 102 114 (omega arith) (ap (λ (l : List ℕ). get_or l 0 0) e))
+answer (Refused r) (Moved f) xb yb e = absurd (differ 114 102 (omega arith) (ap (λ (l : List ℕ). get_or l 0 0) e))
 
 pub tells : LinesTell
 unfolding line_text

@@ -4,7 +4,7 @@ use Rattle.core_views.specs.Text.{line_text}
 use Rattle.core_views.specs.declared.actor.Actor.{Actor}
 use Rattle.core_views.specs.declared.actor.Actor.TheVariants.{Vcpu, Host, Manager, Worker}
 use Rattle.core_views.specs.declared.answer.Answer.{Answer}
-use Rattle.core_views.specs.declared.answer.Answer.TheVariants.{Reached, Mmio, HostFault, Starved, Done, Refused}
+use Rattle.core_views.specs.declared.answer.Answer.TheVariants.{Reached, Mmio, HostFault, Starved, Done, Moved, Refused}
 
 -- The actor's index is a number of 8 bits.
 abbrev pub IsPrintable : Actor → Type 0
@@ -20,6 +20,7 @@ AreNumbers Mmio = Unit {0}
 AreNumbers HostFault = Unit {0}
 AreNumbers Starved = Unit {0}
 AreNumbers Done = Unit {0}
+AreNumbers (Moved frame) = frame < 2 ^ 64
 AreNumbers (Refused refusal) = Unit {0}
 
 -- Lines that are printed alike have the same number, the same actor and the same answer.

@@ -22,3 +22,4 @@ pub mod WeaveEnds
 pub mod Nearer
 pub mod Outputs
 pub mod StarvedScans
+pub mod NoHostLines

@@ -1,5 +1,5 @@
 -- What the replay of a trace prints, from the lines that ran: lawful, whole, and flat where the pool is large enough.
-use Rattle.std.proofs.Common.{◌≡◌, ◌≢◌, ◌<◌, ◌≤◌, arith, inl, ℕ, List, [], ◌∷◌, ◌++◌, Result, Ok, Err, length, take, refl, sym, ap, subst, ◌∙◌}
+use Rattle.std.proofs.Common.{◌≡◌, ◌≢◌, ◌<◌, ◌≤◌, arith, inl, ℕ, All, List, [], ◌∷◌, ◌++◌, Result, Ok, Err, length, take, refl, sym, ap, subst, ◌∙◌}
 use Rattle.std.proofs.Math.Seq.{take-length}
 use Rattle.std.specs.declared.option.Option.{Option}
 use Rattle.std.specs.Prelude.{Some, None}
@@ -11,13 +11,15 @@ use Rattle.core_views.specs.declared.sizes.Sizes.{Sizes}
 use Rattle.core_views.specs.declared.trace.Line.{Line}
 use Rattle.core_views.specs.declared.trace.Trace.{Trace}
 use Rattle.core_views.specs.Alone.{NoneStarved}
+use Rattle.core_views.proofs.FallsAsFlat.{trace_falls}
+use Rattle.std.proofs.lemmas.List.Elements.{All-take}
 use Rattle.core_views.specs.Flat.{first_flat}
 use Rattle.core_views.specs.Held.{Held}
 use Rattle.core_views.specs.Lawful.{IsLawful}
 use Rattle.core_views.specs.Need.{need}
 use Rattle.core_views.specs.Sizes.{index_of, sizes_of}
 use Rattle.core_views.specs.Text.{text}
-use Rattle.core_views.specs.Traces.{IsTrace}
+use Rattle.core_views.specs.Traces.{IsCommandFor, IsTrace}
 use Rattle.core_views.proofs.AloneIsFlat.{goes_as_flat}
 use Rattle.core_views.proofs.AloneIsWhole.{stands_whole}
 use Rattle.core_views.proofs.HeaderSizes.{header_sizes}
@@ -75,9 +77,11 @@ module _ (trace : Trace) (start : World Held) (is_start : IsStart (sizes_of trac
       subst (λ (es : List Event). NoneStarved es) (sym (ap (history w) are ∙ history_append w own rest)) (fed_append (history w own) (history (run mmu w own) rest) (ran.none_starved (not_starved done own line answer legal ran)) later)
 
 -- Lines that ran alone from a trace's start are a replay of them.
-pub replays : (trace : Trace) (lines : List Line) (start end_ : World Held) (printed : List ℕ) → IsStart (sizes_of trace.header) trace.lines start → (r : RunsLines (sizes_of trace.header) start lines end_) → printed ≡ text (history start r.steps)
+pub replays : (trace : Trace) (lines : List Line) (start end_ : World Held) (printed : List ℕ) → IsStart (sizes_of trace.header) trace.lines start
+    → All (λ line. IsCommandFor (sizes_of trace.header) line.actor line.command) lines → (r : RunsLines (sizes_of trace.header) start lines end_)
+    → printed ≡ text (history start r.steps)
     → Replays trace lines printed end_
-replays trace lines start end_ printed is_start r prints =
+replays trace lines start end_ printed is_start may_have r prints =
     let z : Sizes = sizes_of trace.header in
     let lawful = every_history z trace.lines start r.steps is_start r.legal in
     record {
@@ -92,7 +96,8 @@ replays trace lines start end_ printed is_start r prints =
   where
     as_flat : IsLawful (sizes_of trace.header) first_flat (history start r.steps) → NoneStarved (history start r.steps) → RunsAsFlat (sizes_of trace.header) lines printed (history start r.steps)
     as_flat lawful fed =
-        let G = goes_as_flat (sizes_of trace.header) lines (history start r.steps) first_flat (λ i. refl) lawful r.alone fed in
+        let G = goes_as_flat (sizes_of trace.header) lines (history start r.steps) first_flat (λ i. refl) lawful r.alone
+            (trace_falls (sizes_of trace.header) lines (history start r.steps) may_have lawful r.alone fed) in
         record { none_starved = fed; same = G.shown; prints = prints ∙ G.prints }
 
 -- The machine of a trace wasn't made: nothing ran, and nothing was written.
@@ -101,13 +106,14 @@ writes_none trace before good =
     let z : Sizes = sizes_of trace.header in
     let made = a_start z trace.lines (header_sizes trace.header good.header) good.lines good.distinct in
     let none = ran_first z trace.lines 0 made.0 made.0 [] (between_at_start z trace.lines made.0 made.1) in
-    (made.0, ([], inl (0, replays trace (take 0 trace.lines) made.0 made.0 [] made.1 none.0 none.1, tt), so_far_most before before [] [] (none_put before [] (omega arith))))
+    (made.0, ([], inl (0, replays trace (take 0 trace.lines) made.0 made.0 [] made.1 (All-take (λ line. IsCommandFor z line.actor line.command) 0 trace.lines good.lines) none.0 none.1, tt), so_far_most before before [] [] (none_put before [] (omega arith))))
 
 -- It stopped behind some of the lines.
 stopped_replay : (trace : Trace) (count : ℕ) (start end_ : World Held) (stop : Stop) → IsStart (sizes_of trace.header) trace.lines start → (r : RunsLines (sizes_of trace.header) start (take count trace.lines) end_) → MayStop stop start r.steps
     → ReplaysUntil stop trace end_ (text (history start r.steps))
 unfolding replays
-stopped_replay trace count start end_ stop is_start r may = inl (count, replays trace (take count trace.lines) start end_ (text (history start r.steps)) is_start r refl, may)
+stopped_replay trace count start end_ stop is_start r may = inl (count, replays trace (take count trace.lines) start end_ (text (history start r.steps)) is_start
+    (All-take (λ line. IsCommandFor (sizes_of trace.header) line.actor line.command) count trace.lines is_start.allowed) r refl, may)
 
 -- The writing stopped at a line.
 pub writes_first : (trace : Trace) (z : Sizes) (lines : List Line) (count : ℕ) (start end_ : World Held) (before after : Option (List ℕ)) (waited waits : List ℕ) (stop : Stop) → z ≡ sizes_of trace.header → lines ≡ trace.lines → waited ≡ []
@@ -137,7 +143,7 @@ writes_all trace z lines count start end_ before here after waited waits piece r
     Put ls = (ran : RunsLines (sizes_of trace.header) start ls end_) × Buffers before here [] waits (Ok tt) (text (history start ran.steps))
 
     all : Put trace.lines → (bytes : List ℕ) × Replays trace trace.lines bytes end_ × WroteMost before after r bytes
-    all (ran, put) = (text (history start ran.steps), replays trace trace.lines start end_ (text (history start ran.steps)) is_start ran refl, ends_most before here after waits (text (history start ran.steps)) r put (subst (Wrote here after r) same wrote))
+    all (ran, put) = (text (history start ran.steps), replays trace trace.lines start end_ (text (history start ran.steps)) is_start is_start.allowed ran refl, ends_most before here after waits (text (history start ran.steps)) r put (subst (Wrote here after r) same wrote))
 
 -- How a replay ended says what it wrote.
 module _ (trace : Trace) (closing : World Held) (before after : Option (List ℕ)) where

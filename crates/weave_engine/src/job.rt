@@ -1,11 +1,13 @@
 ghost use Rattle.std.specs.Prelude.{◌≡◌, ◌≢◌, ◌<◌, IfOk, OnErr, OnOk, Some, length, slice_get};
 ghost use Rattle.core_views.specs.declared.place.Place.TheVariants.{Between};
+ghost use Rattle.mmu_core.specs.machine.Worlds.{HandReached};
 ghost use Rattle.mmu_core.specs.machine.Turns.{IsAnswered, IsSameHand, line_of};
 ghost use Rattle.step_seats.specs.Moves.{KeepsRoom};
 ghost use Rattle.weave_engine.specs.Turns.{IsAlone, IsJobOf, RanAlone};
 ghost use Rattle.step_seats.specs.LineTurns.{Says, TurnsLine, answer_given, turn_told};
 
 use core_views::{Command, Hand, Line, NoMemory, Place};
+use mmu_core::knows;
 use slot_change::SlotJob;
 use step_seats::{Stepper, Turn};
 use vcpu_run::AccessJob;
@@ -20,9 +22,11 @@ pub enum LineJob {
 impl LineJob {
     /// The work on the hand's next line.
     fn of(hand: &Hand) -> LineJob
-        requires { length hand.now.core.answers < length hand.now.core.lines }
+        requires left { length hand.now.core.answers < length hand.now.core.lines }
+        requires reached { ∥ HandReached hand.now.core ∥₁ }
         ensures { IsJobOf result (line_of hand.now.core) (length hand.now.core.answers) }
     {
+        knows(hand);
         let index = hand.answers().len();
         match &hand.line().command {
             Command::Access { gfn, word, op } => LineJob::Access(AccessJob {
@@ -31,7 +35,8 @@ impl LineJob {
                 word: *word,
                 op: *op,
             }),
-            _ => LineJob::SlotChange(SlotJob { index }),
+            Command::ChangeHost { .. } => unreachable!(),
+            Command::SetSlot { .. } => LineJob::SlotChange(SlotJob { index }),
         }
     }
 

@@ -16,8 +16,9 @@ use Rattle.core_views.specs.declared.place.Place.TheVariants as place
 use Rattle.core_views.specs.declared.sizes.Sizes.{Sizes}
 use Rattle.core_views.specs.declared.topics.Topics.{Topics}
 use Rattle.core_views.specs.declared.trace.Command.{Command}
-use Rattle.core_views.specs.declared.trace.Command.TheVariants.{Access}
+use Rattle.core_views.specs.declared.trace.Command.TheVariants.{Access, ChangeHost}
 use Rattle.core_views.specs.declared.trace.Op.{Op}
+use Rattle.core_views.specs.HostChanges.{changes_host}
 use Rattle.core_views.specs.Held.{Held}
 use Rattle.core_views.specs.SlotCommands.{change_refusal, changes_slot}
 use Rattle.core_views.specs.Sizes.{AreSizes}
@@ -126,9 +127,10 @@ first_no_end z slots (Access gfn word op) is = cc is
 first_no_end z slots _ is = cc is
 
 -- Its actor, which was at rest, knows what its first place asks.
-pub first_known : (z : Sizes) (command : Command) (h : Held) → IsAtRest h.topics → KnowsPart (first_place z h.slots command) command h
-first_known z (Access gfn word op) h R = R
-first_known z command h R = (refl, slot_change_begins_known (change_refusal z command h.slots) h R)
+pub first_known : (z : Sizes) (command : Command) (h : Held) → changes_host command ≡ false → IsAtRest h.topics → KnowsPart (first_place z h.slots command) command h
+first_known z (Access gfn word op) h none R = R
+first_known z (ChangeHost page change) h none R = absurd (cc none)
+first_known z command h none R = (refl, slot_change_begins_known (change_refusal z command h.slots) h R)
 
 -- Alone, it knows what its first place asks of the words.
 pub first_alone : (z : Sizes) (slots : MemorySlots) (command : Command) (words : Area → ℕ → ℕ) (t : Topics)

@@ -62,7 +62,9 @@ use Rattle.mmu_core.proofs.lines.FaultNeeds.{fault_needs}
 use Rattle.mmu_core.proofs.lines.Forms.{first_known}
 use Rattle.mmu_core.proofs.lines.UsedTranslations.{CachesBehind, flushed_behind, newest_filled}
 use Rattle.mmu_core.proofs.words.PartTopics.{is_there, part_topics_is}
-use Rattle.mmu_core.proofs.machine.Stepping.{IsStep}
+use Rattle.mmu_core.proofs.machine.Stepping.{IsStep, is_step}
+use Rattle.core_views.specs.HostChanges.{changes_host}
+use Rattle.core_views.proofs.FallsAsFlat.{no_host}
 use Rattle.mmu_core.proofs.machine.Which.{has_line_is}
 use Rattle.mmu_core.proofs.machine.HandWith.{hand_with}
 use Rattle.core_views.specs.SlotSets.{MemorySlots}
@@ -198,14 +200,17 @@ NeedsAt (place.Access p) command h = Unit {0}
 NeedsAt p command h = RestsAt p command h
 
 -- what a hand knows where its line stands, also where this is about to begin
-standing_known : (q : Place) (z : Sizes) (h : Held) → length h.answers < length h.lines → KnowsPart q h.state.line.command h
-    → KnowsPart (standing q z h.slots (line_at q h).command) (line_at q h).command h
-standing_known place.Between z h left K = first_known z (line_at place.Between h).command h (K (has_line_is h left))
-standing_known _ z h left K = K
+standing_known : (q : Place) (z : Sizes) (h : Held) → length h.answers < length h.lines → changes_host (line_at q h).command ≡ false
+    → KnowsPart q h.state.line.command h → KnowsPart (standing q z h.slots (line_at q h).command) (line_at q h).command h
+standing_known place.Between z h left none K = first_known z (line_at place.Between h).command h none (K (has_line_is h left))
+standing_known _ z h left none K = K
 
 pub knows_at : (z : Sizes) (v : View) (a : ℕ) → Invariant z v → a < actors_of z → length (v.hand a).answers < length (v.hand a).lines
     → KnowsPart (place_at (v.hand a).state.place (v.hand a)) (line_at (v.hand a).state.place (v.hand a)).command (v.hand a)
-knows_at z v a I there left = standing_known (v.hand a).state.place (v.hand a).state.sizes (v.hand a) left (I.knows a there)
+knows_at z v a I there left =
+    let line : Line = line_at (v.hand a).state.place (v.hand a) in
+    standing_known (v.hand a).state.place (v.hand a).state.sizes (v.hand a) left (no_host z line.actor line.command (is_step z v a I there left).allowed)
+    (I.knows a there)
 
 pub step_knows : (z : Sizes) (v : View) (a : ℕ) (line : Line) (command : Command) (p : Place) → IsStep z v a line command p → Invariant z v
     → KnowsPart p command (v.hand a)

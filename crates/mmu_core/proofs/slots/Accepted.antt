@@ -14,7 +14,7 @@ use Rattle.core_views.specs.declared.place.Place.{Place}
 use Rattle.mmu_core.specs.lines.Forms.{may_leave}
 use Rattle.core_views.specs.declared.sizes.Sizes.{Sizes}
 use Rattle.core_views.specs.declared.trace.Command.{Command}
-use Rattle.core_views.specs.declared.trace.Command.TheVariants.{Access, SetSlot}
+use Rattle.core_views.specs.declared.trace.Command.TheVariants.{Access, ChangeHost, SetSlot}
 use Rattle.core_views.specs.declared.trace.Line.{Line}
 use Rattle.core_views.specs.declared.trace.Slot.{Slot}
 use Rattle.core_views.specs.Flat.{no_line}
@@ -45,6 +45,7 @@ ids_here (suc n) (line ∷ lines) id slot lt is = let rest = ids_here n lines id
     by : (c : Command) (ids : List ℕ) → slot_ids lines ≡ slot_ids (take n lines) ++ id ∷ ids
         → or_slot_id c (slot_ids lines) ≡ or_slot_id c (slot_ids (take n lines)) ++ id ∷ ids
     by (Access gfn word op) ids rest = rest
+    by (ChangeHost page change) ids rest = rest
     by (SetSlot i s) ids rest = ap (λ (xs : List ℕ). i ∷ xs) rest
 
 -- No line before this one has set a slot at its ID.

@@ -13,7 +13,7 @@ use Rattle.core_views.specs.declared.place.SlotChangePlace.TheVariants.{Publish}
 use Rattle.core_views.specs.declared.sizes.Sizes.{Sizes}
 use Rattle.core_views.specs.declared.slot_set.MemorySlot.{MemorySlot}
 use Rattle.core_views.specs.declared.trace.Command.{Command}
-use Rattle.core_views.specs.declared.trace.Command.TheVariants.{Access, SetSlot}
+use Rattle.core_views.specs.declared.trace.Command.TheVariants.{Access, ChangeHost, SetSlot}
 use Rattle.core_views.specs.declared.trace.Line.{Line}
 use Rattle.core_views.specs.declared.trace.Slot.{Slot}
 use Rattle.core_views.specs.Held.{Held}
@@ -44,11 +44,13 @@ use Rattle.mmu_core.proofs.words.SmallSlots.{in_range, record_small}
 pub change_is_managers : (z : Sizes) (actor : Actor) (command : Command) → changes_slot command ≡ true → IsCommandFor z actor command → actor ≡ Manager
 change_is_managers z Manager command is may = refl
 change_is_managers z _ (Access gfn word op) is may = absurd (cc is)
+change_is_managers z _ (ChangeHost page change) is may = absurd (cc is)
 change_is_managers z _ _ is may = absurd may
 
 -- It has a change.
 pub is_change : (command : Command) (slots : MemorySlots) → changes_slot command ≡ true → is_some (slot_change slots command) ≡ true
 is_change (Access gfn word op) slots is = is
+is_change (ChangeHost page change) slots is = is
 is_change (SetSlot id slot) slots is = refl
 
 -- The words of the set that it fills are below 2 ^ 64.
@@ -56,6 +58,7 @@ pub change_small : (z : Sizes) (lines : List Line) (actor : Actor) (command : Co
     → IsCommandFor z actor command
     → All (λ line. IsCommandFor z line.actor line.command) lines → All (IsSetBy lines) slots → (j : ℕ) → set_word (slots_after command slots) j < 2 ^ 64
 change_small z lines actor (Access gfn word op) slots is may allowed set j = absurd (cc is)
+change_small z lines actor (ChangeHost page change) slots is may allowed set j = absurd (cc is)
 change_small z lines actor (SetSlot id slot) slots is may allowed set j =
     set_word_small id slot slots j (in_range z actor id slot may) (record_small z lines slots allowed set)
 
@@ -96,6 +99,8 @@ slot_published z pool set page id slot slots R may filled = record {
 pub change_published : (z : Sizes) (v : View) (a : ℕ) (line : Line) (command : Command) → IsStep z v a line command (place.SlotChange Publish) → Invariant z v
     → Publishes z (v.words area.Pool) (v.words area.Slots 0) (page_owned (v.hand a).topics.owned) command (v.hand a).slots
 change_published z v a line (Access gfn word op) S I = absurd (cc (step_knows z v a line (Access gfn word op) (place.SlotChange Publish) S I).0)
+change_published z v a line (ChangeHost page change) S I =
+    absurd (cc (step_knows z v a line (ChangeHost page change) (place.SlotChange Publish) S I).0)
 change_published z v a line (SetSlot id slot) S I =
     let R = record_of z v a line (SetSlot id slot) Publish S I in
     slot_published z (v.words area.Pool) (v.words area.Slots 0) (page_owned (v.hand a).topics.owned) id slot (v.hand a).slots R
@@ -109,6 +114,7 @@ pub record AreRecorded (h : Held) (slots : MemorySlots) : Type 0 where
 pub change_recorded : (h : Held) (command : Command) → length h.answers < length h.lines → (next_line h).command ≡ command → AreRecorded h h.slots
     → AreRecorded h (slots_after command h.slots)
 change_recorded h (Access gfn word op) left is R = R
+change_recorded h (ChangeHost page change) left is R = R
 change_recorded h (SetSlot id slot) left is R = record {
   answered =
       All-keys-insert_entry nat_cmp id new_one (Contains (slot_ids (take (length h.answers + 1) h.lines))) h.slots R.answered

@@ -1,7 +1,7 @@
 -- What the steps of an access owe flat memory.
 use Rattle.core_views.specs.Held.{State}
 use Rattle.std.proofs.Common.{◌≡◌, ◌≢◌, ◌<◌, ◌⊎◌, inl, inr, ℕ, [], ◌∷◌, refl, sym, subst, ap, ◌∙◌, arith}
-use Rattle.std.specs.Prelude.{Bool, true, false, ◌==◌, ◌&&◌, not, if◌then◌else◌, Option, Some, None}
+use Rattle.std.specs.Prelude.{Bool, true, false, ◌==◌, ◌&&◌, ◌||◌, not, if◌then◌else◌, Option, Some, None}
 use Rattle.std.proofs.lemmas.Bool.Decides.{nat_tests}
 use Rattle.core_views.specs.declared.answer.Answer.TheVariants.{Reached}
 use Rattle.core_views.specs.declared.cache.Translation.{Translation}
@@ -102,11 +102,11 @@ memory_behind z page word op memory content after page_in word_in is here there 
     case (inr e) f = other (λ same _. e same)
     case (inl e) (inr f) = other (λ _ same. f same)
 
--- The host forbids nothing.
+-- Each page is present, and the host forbids nothing.
 frame_named : (op : Op) (page : ℕ) → frame_at own_frames op (Some page) ≡ Some page
 frame_named op page = by (is_write op)
   where
-    by : (write : Bool) → (if write && not true then None else Some page) ≡ Some page
+    by : (write : Bool) → (if (write && not true) || not true then None else Some page) ≡ Some page
     by true = refl
     by false = refl
 
@@ -226,7 +226,7 @@ module _ (z : Sizes) (v : View) (a : ℕ) (line : Line) (gfn word : ℕ) (facts 
   reached_owes op frame value S I P part_ K R =
       answers_by z v a line (Access gfn word op) (access_task (Leave (leaving.Reached frame value)) (v.hand a) gfn word op) facts past u
       (part_refines z v a part.Leave 1 facts part_ P refl R.refines) (Reached frame value) R.under.0
-      (subst (λ (stage : Stage). Tells z facts.slots u.line.command stage (Reached frame value)) (sym R.under.1) refl)
+      (subst (λ (stage : Stage). Tells z facts.slots (v.hand a).state.actor u.line.command stage (Reached frame value)) (sym R.under.1) refl)
 
   -- The line looks at the pause, which isn't set.
   looks_at_pause : (op : Op) (again : Bool) → IsPart z v a part.Pause → TopicsInvariant z v

@@ -22,7 +22,8 @@ use Rattle.core_views.specs.declared.trace.Line.{Line}
 use Rattle.core_views.specs.declared.trace.Op.{Op}
 use Rattle.core_views.specs.Flat.{Facts, LineUnderWay, Notes}
 use Rattle.core_views.specs.Past.{Past}
-use Rattle.core_views.specs.Host.{HostEntry, HostMap, HostNotes, is_denied, own_frames, with_entry}
+use Rattle.core_views.specs.declared.host.HostEntry.{HostEntry}
+use Rattle.core_views.specs.Host.{HostMap, HostNotes, is_denied, own_frames, with_entry}
 use Rattle.core_views.specs.Lawful.{MayLeave, SawPage}
 use Rattle.core_views.specs.Slots.{is_write}
 use Rattle.spte_words.specs.declared.area.Area.{Area}
@@ -206,14 +207,14 @@ module _ (z : Sizes) (v : View) (a : ℕ) (line : Line) (gfn word : ℕ) (op : O
   -- The line leaves the guest with what its fault ends with.
   leaves_with : (how : Answer) → line.command ≡ Access gfn word op → IsPart z v a part.End → Invariant z v → TopicsInvariant z v → (e : FaultEnd)
       → Ready z v line (Access gfn word op) (place.Access (Fault (End e))) held facts u
-      → MayLeave z facts (Access gfn word op) u.notes how
+      → MayLeave z facts (v.hand a).state.actor (Access gfn word op) u.notes how
       → Goes z (v.hand a).state.actor line (Access gfn word op) (words_behind (End e)) place.Between (held_behind (End e))
       (Exited how ∷ Answered line.number how ∷ []) facts past u
   leaves_with how is S I P e R may =
       let own : u.line.command ≡ Access gfn word op = ap (λ (l : Line). l.command) R.under.0 ∙ is in
       leaves_by z v a line (Access gfn word op) (access_task (Fault (End e)) (v.hand a) gfn word op) facts past u
       (part_refines z v a part.End (access_note (Fault (End e))) facts S P refl R.refines) how R.under.0 R.under.1.0.0
-      (subst (λ c. MayLeave z facts c u.notes how) (sym own) may)
+      (subst (λ c. MayLeave z facts (v.hand a).state.actor c u.notes how) (sym own) may)
 
   -- Or it enters the guest again.
   goes_back : (again : Bool) (e : FaultEnd) → IsPart z v a part.End → Invariant z v → TopicsInvariant z v

@@ -127,12 +127,12 @@ module _ (z : Sizes) (v : View) (a : ℕ) (line : Line) (command : Command) (tas
   goes_by next under = record { allowed = tt; refines = R; under = under }
 
   -- The line is answered, where its stage allows this answer.
-  pub answers_by : (answer : Answer) → u.line ≡ line → Tells z facts.slots u.line.command u.stage answer
+  pub answers_by : (answer : Answer) → u.line ≡ line → Tells z facts.slots (v.hand a).state.actor u.line.command u.stage answer
       → GoesBy z v a line command task place.Between (Answered line.number answer ∷ []) facts past u
   answers_by answer own tells = record { allowed = ((ap (λ (l : Line). l.number) (sym own), tells), tt); refines = R; under = refl }
 
   -- Or it is given up, before it has done anything.
-  pub leaves_by : (answer : Answer) → u.line ≡ line → u.stage ≡ Fresh → MayLeave z facts u.line.command u.notes answer
+  pub leaves_by : (answer : Answer) → u.line ≡ line → u.stage ≡ Fresh → MayLeave z facts (v.hand a).state.actor u.line.command u.notes answer
       → GoesBy z v a line command task place.Between (Exited answer ∷ Answered line.number answer ∷ []) facts past u
   leaves_by answer own fresh may =
       record { allowed = ((fresh, may), ((ap (λ (l : Line). l.number) (sym own), refl), tt)); refines = R; under = refl }

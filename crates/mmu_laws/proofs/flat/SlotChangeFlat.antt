@@ -8,7 +8,7 @@ use Rattle.core_views.specs.declared.place.Place.TheVariants as place
 use Rattle.core_views.specs.declared.place.SlotChangePlace.{SlotChangePlace}
 use Rattle.core_views.specs.declared.place.SlotChangePlace.TheVariants.{Refuse, Claim, Fill, Role, Exclude, Count, Close, Publish, Release, Watch, Clear, Give}
 use Rattle.core_views.specs.declared.sizes.Sizes.{Sizes}
-use Rattle.core_views.specs.declared.trace.Command.TheVariants.{Access}
+use Rattle.core_views.specs.declared.trace.Command.TheVariants.{Access, ChangeHost}
 use Rattle.core_views.specs.declared.trace.Line.{Line}
 use Rattle.core_views.specs.declared.trace.Command.{Command}
 use Rattle.core_views.specs.Flat.{Facts, LineUnderWay, Notes, Stage}
@@ -18,6 +18,7 @@ use Rattle.core_views.specs.Lawful.{HasWork, MayLeave, Tells, answer_at_once, sl
 use Rattle.core_views.specs.SlotCommands.{after_change, change_refusal, changes_slot, slot_change}
 use Rattle.core_views.specs.SlotSets.{MemorySlots}
 use Rattle.core_views.specs.Past.{Past}
+use Rattle.core_views.proofs.SlotChanges.{refused_by_slots}
 use Rattle.mmu_core.specs.declared.claim.ClaimNext.{ClaimNext}
 use Rattle.mmu_core.specs.declared.claim.ClaimNext.TheVariants as claims
 use Rattle.mmu_core.specs.lines.AccessSteps.{exiting}
@@ -57,11 +58,13 @@ module _ (z : Sizes) (v : View) (a : ℕ) (line : Line) (command : Command) (fac
   same_record : (p : SlotChangePlace) → IsStep z v a line command (place.SlotChange p) → Invariant z v → ReadyAt p → facts.slots ≡ (v.hand a).slots
   same_record p S I R = R.refines.slots ∙ sym (record_of z v a line command p S I).same
 
-  at_once : (p : SlotChangePlace) (refusal : Option Refusal) → IsStep z v a line command (place.SlotChange p) → Invariant z v → ReadyAt p
-      → change_refusal z command (v.hand a).slots ≡ refusal → answer_at_once z facts.slots u.line.command ≡ option_map (λ r. Refused r) refusal
-  at_once p refusal S I R is =
-      ap (answer_at_once z facts.slots) (ap (λ (l : Line). l.command) R.under.0 ∙ S.command_is)
-      ∙ ap (λ (slots : MemorySlots). answer_at_once z slots command) (same_record p S I R)
+  at_once : (p : SlotChangePlace) (refusal : Option Refusal) → changes_slot command ≡ true
+      → IsStep z v a line command (place.SlotChange p) → Invariant z v → ReadyAt p → change_refusal z command (v.hand a).slots ≡ refusal
+      → answer_at_once z facts.slots (v.hand a).state.actor u.line.command ≡ option_map (λ r. Refused r) refusal
+  at_once p refusal changes S I R is =
+      ap (answer_at_once z facts.slots (v.hand a).state.actor) (ap (λ (l : Line). l.command) R.under.0 ∙ S.command_is)
+      ∙ ap (λ (slots : MemorySlots). answer_at_once z slots (v.hand a).state.actor command) (same_record p S I R)
+      ∙ ap (option_map (λ r. Refused r)) (refused_by_slots z (v.hand a).slots (v.hand a).state.actor command changes)
       ∙ ap (option_map (λ r. Refused r)) is
 
   -- After a step that publishes nothing the words stand for the same facts.
@@ -75,12 +78,15 @@ module _ (z : Sizes) (v : View) (a : ℕ) (line : Line) (command : Command) (fac
   quiet p next never S P R under = goes_by z v a line command (task p) facts past u (still p never S P R) (place.SlotChange next) under
 
   -- A line that has something to do may be given up where no page is free.
-  gives_up : (c : Command) (notes : Notes) → changes_slot c ≡ true → HasWork z facts c → MayLeave z facts c notes Starved
+  gives_up : (c : Command) (notes : Notes) → changes_slot c ≡ true → HasWork z facts (v.hand a).state.actor c
+      → MayLeave z facts (v.hand a).state.actor c notes Starved
   gives_up (Access gfn word op) notes is works = absurd (cc is)
+  gives_up (ChangeHost page change) notes is works = absurd (cc is)
   gives_up _ notes is works = works
 
   -- A claim goes on, or there is no page free.
-  claim_goes : (begun : Bool) (next : ClaimNext) → changes_slot u.line.command ≡ true → HasWork z facts u.line.command → MakesAt (Claim begun)
+  claim_goes : (begun : Bool) (next : ClaimNext) → changes_slot u.line.command ≡ true → HasWork z facts (v.hand a).state.actor u.line.command
+      → MakesAt (Claim begun)
       → TopicsInvariant z v → ReadyAt (Claim begun)
       → GoesBy z v a line command (task (Claim begun)) (place_after (after_set_claim next)) (exiting (after_set_claim next) ++ answering (after_set_claim next) line)
       facts past u
@@ -92,7 +98,7 @@ module _ (z : Sizes) (v : View) (a : ℕ) (line : Line) (command : Command) (fac
 
   -- The set is published: flat memory has the change too.
   change_told : (change : Option (ℕ × Option MemorySlot)) → is_some change ≡ true → slot_change facts.slots u.line.command ≡ change → u.stage ≡ stage.Fresh
-      → HasWork z facts u.line.command
+      → HasWork z facts (v.hand a).state.actor u.line.command
       → RefinesBy z v (task Publish) (record facts { slots = after_change change facts.slots }) → u.line ≡ line
       → GoesBy z v a line command (task Publish) (place.SlotChange Release) (changed change ++ []) facts past u
   change_told None some is fresh works refines own = absurd (cc some)
@@ -103,7 +109,7 @@ module _ (z : Sizes) (v : View) (a : ℕ) (line : Line) (command : Command) (fac
       let same = same_record Publish S I R in
       change_told (slot_change (v.hand a).slots command) (is_change command (v.hand a).slots changes)
       (ap (slot_change facts.slots) (ap (λ (l : Line). l.command) R.under.0 ∙ S.command_is) ∙ ap (λ (slots : MemorySlots). slot_change slots command) same)
-      R.under.1 (at_once Publish None S I R S.holds.accepted)
+      R.under.1 (at_once Publish None changes S I R S.holds.accepted)
       (record {
         slots = ap (after_change (slot_change (v.hand a).slots command)) same ∙ (change_published z v a line command S I).list;
         host = R.refines.host;
@@ -116,10 +122,11 @@ module _ (z : Sizes) (v : View) (a : ℕ) (line : Line) (command : Command) (fac
       → TopicsInvariant z v → MakesAt p → ReadyAt p → GoesAt p
   slot_change_goes (Refuse refusal) changes S I P M R =
       answers_by z v a line command (task (Refuse refusal)) facts past u (still (Refuse refusal) refl M P R) (Refused refusal) R.under.0
-      (subst (λ s. Tells z facts.slots u.line.command s (Refused refusal)) (sym R.under.1) (at_once (Refuse refusal) (Some refusal) S I R S.holds))
+      (subst (λ s. Tells z facts.slots (v.hand a).state.actor u.line.command s (Refused refusal)) (sym R.under.1)
+      (at_once (Refuse refusal) (Some refusal) changes S I R S.holds))
   slot_change_goes (Claim begun) changes S I P M R =
       claim_goes begun (claim_next begun (v.hand a).state.sizes (v.hand a).topics.claim (answer_in (task (Claim begun)) v.words))
-      (ap changes_slot (ap (λ (l : Line). l.command) R.under.0 ∙ S.command_is) ∙ changes) (at_once (Claim begun) None S I R S.holds) M P R
+      (ap changes_slot (ap (λ (l : Line). l.command) R.under.0 ∙ S.command_is) ∙ changes) (at_once (Claim begun) None changes S I R S.holds) M P R
   slot_change_goes Fill changes S I P M R =
       quiet Fill _ refl M P R (either_place Under (nat_lt (words_filled (v.hand a).topics.owned + 1) 512) Fill Role R.under R.under)
   slot_change_goes Exclude changes S I P M R =
@@ -131,5 +138,5 @@ module _ (z : Sizes) (v : View) (a : ℕ) (line : Line) (command : Command) (fac
       quiet Watch _ refl M P R (each_watch Under (watch_next (v.hand a) (answer_in (task Watch) v.words)) Watch Clear R.under R.under)
   slot_change_goes Give changes S I P M R =
       answers_by z v a line command (task Give) facts past u (still Give refl M P R) Done R.under.0
-      (subst (λ s. Tells z facts.slots u.line.command s Done) (sym R.under.1) refl)
+      (subst (λ s. Tells z facts.slots (v.hand a).state.actor u.line.command s Done) (sym R.under.1) refl)
   slot_change_goes p changes S I P M R = quiet p _ refl M P R R.under

@@ -1,6 +1,6 @@
 use Rattle.std.proofs.Common.{◌≡◌, ◌+◌, ◌/◌, ◌%◌, ◌<◌, ◌≤◌, ◌++◌, ℕ, List, [], ◌∷◌, refl, ap, ◌∙◌, arith, lit<, lit≤}
 use Rattle.std.specs.Prelude.{codes}
-use Rattle.std.specs.Fmt.{decimal}
+use Rattle.std.specs.Fmt.{decimal, digits}
 use Rattle.std.proofs.lemmas.Fmt.{decimal_digit, decimal_step}
 use Rattle.core_views.specs.Flat.{first_facts, first_flat}
 use Rattle.core_views.specs.declared.actor.Actor.{Actor}
@@ -74,3 +74,13 @@ accesses_print = simp (decimal_digit 0 (lit< tt), decimal_digit 1 (lit< tt), dec
 
 pub returns-clause-prints : goal.returns-clause-prints
 returns-clause-prints c = ap lines_text answers_are ∙ (lines_text_append slot_answers access_answers ∙ (ap (λ (t : List ℕ). t ++ lines_text access_answers) slots_print ∙ ap (λ (t : List ℕ). codes "2 vm refused too-large\n3 vm refused bad-id\n4 vm done\n5 v0 mmio\n6 v0 frame 65 value 0\n7 vm refused overlap\n8 vm refused host-overlap\n9 vm done\n" ++ t) accesses_print))
+
+-- Of the other two the bytes are computed.
+
+pub returns-clause-hosts : goal.returns-clause-hosts
+unfolding line_text digits
+returns-clause-hosts c = refl
+
+pub returns-clause-full : goal.returns-clause-full
+unfolding line_text digits
+returns-clause-full c = refl

@@ -1,8 +1,15 @@
-use Rattle.std.proofs.Common.{◌≡◌, ℕ, refl, sym, ap, ◌∙◌, arith}
+use Rattle.std.proofs.Common.{◌≡◌, ℕ, true, refl, subst, sym, ap, ◌∙◌, arith}
 use Rattle.std.proofs.lemmas.Option.{same_Some}
 use Rattle.std.specs.Prelude.{Option, Some, None}
 use Rattle.core_views.specs.declared.trace.Op.{Op}
 use Rattle.core_views.specs.declared.trace.Op.TheVariants.{Read}
+use Rattle.core_views.specs.declared.trace.Command.{Command}
+use Rattle.core_views.specs.declared.trace.Command.TheVariants.{ChangeHost}
+use Rattle.core_views.specs.declared.trace.HostChange.{HostChange}
+use Rattle.core_views.specs.declared.trace.HostChange.TheVariants.{Move}
+use Rattle.core_views.specs.Host.{own_frames}
+use Rattle.core_views.specs.HostChanges.{Changes}
+use Rattle.core_views.specs.HostExamples.{host_sizes}
 use Rattle.core_views.specs.Slots.{Slots, page_behind}
 use Rattle.core_views.proofs.laws.unlawful_histories_are_refused.Goals as goal
 
@@ -37,3 +44,36 @@ returns-clause-outside c lawful = absurd (cc lawful.1.1.1.1.1.1.0.3.named)
 
 pub returns-clause-exit : goal.returns-clause-exit
 returns-clause-exit c lawful = absurd (cc lawful.1.1.1.1.1.0.1.runs)
+
+-- Lines run alone; then the other line begins.
+
+pub returns-clause-present : goal.returns-clause-present
+returns-clause-present c lawful = absurd (cc lawful.1.1.1.1.1.1.1.0.1.absent)
+
+pub returns-clause-absent : goal.returns-clause-absent
+returns-clause-absent c lawful = absurd (cc lawful.1.1.1.1.1.1.1.1.1.1.1.0.3.named)
+
+pub returns-clause-denied : goal.returns-clause-denied
+returns-clause-denied c lawful = absurd (cc lawful.1.1.1.1.1.1.1.1.1.1.1.1.1.1.1.0.1.allows)
+
+asked_change : Command → HostChange
+asked_change (ChangeHost page change) = change
+asked_change _ = Move
+
+-- Frame 2 is named by page 2.
+no_move : (change : HostChange) → ChangeHost 1 Move ≡ ChangeHost 1 change
+    → Changes host_sizes own_frames 1 change (record { frame = 2; present = true; writable = true }) → ⊥
+unfolding asked_change
+no_move change asked is =
+    let taken =
+    subst (λ (x : HostChange). Changes host_sizes own_frames 1 x (record { frame = 2; present = true; writable = true })) (sym (ap asked_change asked)) is in
+    absurd (cc taken.2)
+
+pub returns-clause-named : goal.returns-clause-named
+returns-clause-named c lawful = let may = lawful.1.1.0.1 in no_move may.change may.asked may.changes
+
+pub returns-clause-others : goal.returns-clause-others
+returns-clause-others c lawful = absurd (cc lawful.1.1.0.1.works)
+
+pub returns-clause-unseen : goal.returns-clause-unseen
+returns-clause-unseen c lawful = absurd (cc lawful.1.1.0.1.looked)
