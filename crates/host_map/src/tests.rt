@@ -174,10 +174,7 @@ fn touches_a_word(rt: HostRuntime) -> Result<(), Fail> {
     drop(manager);
     let _sizes = machine.sizes();
     let mut vcpu = machine.as_actor(Actor::Vcpu(0));
-    assert_eq!(rt;
-        touch_next(&mut vcpu, 66, 1, Op::Write(77))?,
-        Some(0)
-    );
+    assert_eq!(rt; touch_next(&mut vcpu, 66, 1, Op::Write(77))?, Some(0));
     assert_eq!(rt;
         touch_next(&mut vcpu, 66, 1, Op::Add(u64::MAX - 1))?,
         Some(77)

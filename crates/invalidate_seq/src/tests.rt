@@ -3,10 +3,7 @@ ghost use Rattle.std.specs.Prelude.{◌≡◌, [], ◌∷◌, IfOk};
 ghost use Rattle.core_views.specs.Traces.{IsTrace};
 
 use crate::{Check, Checked, Snapshot};
-use core_views::{
-    Actor, CheckStage, Header, Hold, Invalidations, Lines, NoMemory, Trace,
-    Words,
-};
+use core_views::{Actor, CheckStage, Header, Hold, Invalidations, Lines, NoMemory, Trace, Words};
 use mmu_core::allows;
 use part_steps::PartStep;
 use std::alloc::Global;

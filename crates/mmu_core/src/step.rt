@@ -151,9 +151,7 @@ fn outcome(
         (Place::Access(place), Command::Access { gfn, op, .. }) => {
             access::outcome(place, hand, *gfn, *op, found)
         }
-        (Place::SlotChange(place), _) => {
-            (slot_change::outcome(place, hand, found), None)
-        }
+        (Place::SlotChange(place), _) => { (slot_change::outcome(place, hand, found), None) }
         _ => (Outcome::Goes(place), None),
     }
 }

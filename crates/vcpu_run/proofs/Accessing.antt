@@ -60,9 +60,9 @@ use Rattle.mmu_core.specs.machine.Turns.{line_of, outcome_of}
 use Rattle.mmu_core.proofs.lines.KnowsKept.{access_vcpu}
 use Rattle.mmu_core.proofs.machine.Which.{enabled_is}
 use Rattle.vcpu_run.specs.declared.access.AccessJob.{AccessJob}
-use Rattle.step_seats.specs.LineTurns.{Gives, MakesLine, TurnsLine, fault_turn, line_seen, line_turn, turn_of, turn_told, untold}
+use Rattle.step_seats.specs.LineTurns.{Gives, MakesLine, TurnsLine, fault_turn, line_seen, line_turn, turn_of}
 use Rattle.step_seats.proofs.LineParts.{place_may_make, place_rests, place_task}
-use Rattle.step_seats.proofs.LineTurns.{made_line, told_is, turns_say}
+use Rattle.step_seats.proofs.LineTurns.{made_line}
 use Rattle.vcpu_run.specs.Accesses.{HasItsCause, IsStay, StandsAt, WalksAt, answer_of, walk_place}
 
 word_of : (z : Sizes) (actor : Actor) (gfn word : ℕ) (op : Op) → IsCommandFor z actor (Access gfn word op) → word < z.words
@@ -287,23 +287,12 @@ fault_cause p job fault turn before after S is T =
 -- A stay in the guest ends with what it reached.
 stay_outcome : (p : AccessPlace) (gfn word : ℕ) (op : Op) (h : Held) (v : ℕ) (turn : Turn Answer) (job : AccessJob) → IsStay p
     → turn ≡ turn_of (outcome_at (place.Access p) (Access gfn word op) h v) → HasItsCause turn job h
-stay_outcome (Enter again) gfn word op h v turn job stay is = subst (λ (t : Turn Answer). HasItsCause t job h) (sym is) tt
-stay_outcome (Pause again) gfn word op h v turn job stay is = subst (λ (t : Turn Answer). HasItsCause t job h) (sym is) tt
-stay_outcome (Root again) gfn word op h v turn job stay is = subst (λ (t : Turn Answer). HasItsCause t job h) (sym is) tt
-stay_outcome (Walk again) gfn word op h v turn job stay is = subst (λ (t : Turn Answer). HasItsCause t job h) (sym is) tt
-stay_outcome Touch gfn word op h v turn job stay is = subst (λ (t : Turn Answer). HasItsCause t job h) (sym is) tt
 stay_outcome (Leave (leaving.Reached frame value)) gfn word op h v turn job stay is = subst (λ (t : Turn Answer). HasItsCause t job h) (sym is) tt
 stay_outcome (Leave leaving.Faults) gfn word op h v turn job stay is = subst (λ (t : Turn Answer). HasItsCause t job h) (sym is) tt
 stay_outcome (Fault p) gfn word op h v turn job stay is = absurd stay
+stay_outcome _ gfn word op h v turn job stay is = subst (λ (t : Turn Answer). HasItsCause t job h) (sym is) tt
 
 pub stay_cause : (p : AccessPlace) (job : AccessJob) (turn : Turn Answer) (h : Held) (v : ℕ) → StandsAt p job h → IsStay p
     → turn ≡ turn_of (outcome_of h v) → HasItsCause turn job h
 stay_cause p job turn h v S stay is =
     stay_outcome p job.gfn job.word job.op h v turn job stay (is ∙ ap (λ (c : Command). turn_of (outcome_at (place_at h.state.place h) c h v)) S.command ∙ ap (λ (q : Place). turn_of (outcome_at q (Access job.gfn job.word job.op) h v)) S.stands)
-
--- So has the turn that says it is answered, with what its hand holds.
-pub told_cause : (turn : Turn Answer) (job : AccessJob) (before after : Seat) → length before.hand.answers < length before.hand.lines
-    → TurnsLine turn before after → HasItsCause turn job before.hand → HasItsCause (turn_told (untold turn) before.hand after.hand) job before.hand
-told_cause turn job before after left T cause =
-    subst (λ (t : Turn Answer). HasItsCause t job before.hand)
-    (sym (told_is turn (line_of before.hand) before.hand after.hand (turns_say turn before after left T))) cause

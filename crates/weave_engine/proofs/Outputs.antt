@@ -97,7 +97,7 @@ replays trace lines start end_ printed is_start may_have r prints =
     as_flat : IsLawful (sizes_of trace.header) first_flat (history start r.steps) → NoneStarved (history start r.steps) → RunsAsFlat (sizes_of trace.header) lines printed (history start r.steps)
     as_flat lawful fed =
         let G = goes_as_flat (sizes_of trace.header) lines (history start r.steps) first_flat (λ i. refl) lawful r.alone
-            (trace_falls (sizes_of trace.header) lines (history start r.steps) may_have lawful r.alone fed) in
+        (trace_falls (sizes_of trace.header) lines (history start r.steps) may_have lawful r.alone fed) in
         record { none_starved = fed; same = G.shown; prints = prints ∙ G.prints }
 
 -- The machine of a trace wasn't made: nothing ran, and nothing was written.
@@ -112,8 +112,12 @@ writes_none trace before good =
 stopped_replay : (trace : Trace) (count : ℕ) (start end_ : World Held) (stop : Stop) → IsStart (sizes_of trace.header) trace.lines start → (r : RunsLines (sizes_of trace.header) start (take count trace.lines) end_) → MayStop stop start r.steps
     → ReplaysUntil stop trace end_ (text (history start r.steps))
 unfolding replays
-stopped_replay trace count start end_ stop is_start r may = inl (count, replays trace (take count trace.lines) start end_ (text (history start r.steps)) is_start
-    (All-take (λ line. IsCommandFor (sizes_of trace.header) line.actor line.command) count trace.lines is_start.allowed) r refl, may)
+stopped_replay trace count start end_ stop is_start r may = inl (
+  count,
+  replays trace (take count trace.lines) start end_ (text (history start r.steps)) is_start
+      (All-take (λ line. IsCommandFor (sizes_of trace.header) line.actor line.command) count trace.lines is_start.allowed) r refl,
+  may,
+)
 
 -- The writing stopped at a line.
 pub writes_first : (trace : Trace) (z : Sizes) (lines : List Line) (count : ℕ) (start end_ : World Held) (before after : Option (List ℕ)) (waited waits : List ℕ) (stop : Stop) → z ≡ sizes_of trace.header → lines ≡ trace.lines → waited ≡ []

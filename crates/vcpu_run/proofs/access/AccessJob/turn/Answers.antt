@@ -1,7 +1,8 @@
 use Rattle.step_seats.specs.declared.turn.Turn.TheVariants.{Done, More}
 use Rattle.step_seats.specs.LineTurns.{turn_told}
 use Rattle.step_seats.proofs.LineTurns.{turns_same, turns_say, turns_told}
-use Rattle.vcpu_run.proofs.Accessing.{is_stay, stands, stay_cause, told_cause, turns_stay}
+use Rattle.vcpu_run.proofs.Accessing.{is_stay, stands, stay_cause, turns_stay}
+use Rattle.vcpu_run.proofs.ToldCauses.{told_cause}
 use Rattle.step_seats.proofs.Answering.{turn_is_done, turn_is_more}
 use Rattle.vcpu_run.proofs.access.AccessJob.turn.Goals as goal
 
