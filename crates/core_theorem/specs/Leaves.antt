@@ -51,4 +51,5 @@ abbrev pub UsedLeavesAgree : Type 0
 UsedLeavesAgree =
     (z : Sizes) (lines : List Line) (w : World Held) (ss : List (Step Kind)) → IsRun z lines w ss → (actor gfn word : ℕ) (op : Op) → actor < actors_of z
     → (hand_in mmu (run mmu w ss) actor).state.place ≡ place.Access Touch → (hand_in mmu (run mmu w ss) actor).state.line.command ≡ Access gfn word op
-    → Agrees z (run mmu w ss) gfn (hand_in mmu (run mmu w ss) actor).state.used.leaf × (allows_access (is_write op) (hand_in mmu (run mmu w ss) actor).state.used.leaf ≡ true)
+    → Agrees z (run mmu w ss) gfn (hand_in mmu (run mmu w ss) actor).state.used.leaf
+    × (allows_access (is_write op) (hand_in mmu (run mmu w ss) actor).state.used.leaf ≡ true)

@@ -7,7 +7,8 @@ use Rattle.core_views.specs.declared.actor.Actor.{Actor}
 use Rattle.core_views.specs.declared.answer.Answer.{Answer}
 use Rattle.core_views.specs.declared.event.Event.{Event}
 use Rattle.core_views.specs.declared.event.EventKind.{EventKind}
-use Rattle.core_views.specs.declared.event.EventKind.TheVariants.{Begun, LookedAtPause, LookedAtSlots, LookedAtHost, BroughtIn, Accessed, Exited, SlotChanged, HostChanged, Answered}
+use Rattle.core_views.specs.declared.event.EventKind.TheVariants.{Begun, LookedAtPause, LookedAtSlots, LookedAtHost, BroughtIn, Accessed, Exited, SlotChanged}
+use Rattle.core_views.specs.declared.event.EventKind.TheVariants.{HostChanged, Answered}
 use Rattle.core_views.specs.declared.trace.Line.{Line}
 use Rattle.core_views.specs.declared.sizes.Sizes.{Sizes}
 use Rattle.core_views.specs.declared.host.HostEntry.{HostEntry}
@@ -88,15 +89,66 @@ noted_host f page host other entry before noted = by_page (page == other) (eqb-t
 one_event : (z : Sizes) (line : Line) (rest es : List Event) (kind : EventKind) → IsWithin kind → Leads z line rest es → Leads z line rest (by line kind ∷ es)
 one_event z line rest es (Begun other) within leads stage notes f is lawful falls = absurd within
 one_event z line rest es LookedAtPause within leads stage notes f is lawful falls =
-    let ends = leads stage (record notes { paused = Some f.facts.paused }) (after (by line LookedAtPause) f) (record { at = next_at line stage notes f LookedAtPause is; exact = λ fresh. record { slots = (is.exact fresh).slots; host = (is.exact fresh).host } }) lawful.1 falls.1 in
-    record { behind = ends.behind; reaches = ends.reaches; shown = ends.shown; facts_are = ends.facts_are; idle = ends.idle; lawful = ends.lawful; falls = ends.falls }
+    let ends = leads stage (record notes { paused = Some f.facts.paused }) (after (by line LookedAtPause) f) (record {
+      at =
+          next_at line stage notes f LookedAtPause is;
+      exact = λ fresh. record {
+        slots = (is.exact fresh).slots;
+        host =
+            (is.exact fresh).host;
+      };
+    }) lawful.1 falls.1 in
+    record {
+      behind = ends.behind;
+      reaches = ends.reaches;
+      shown = ends.shown;
+      facts_are = ends.facts_are;
+      idle = ends.idle;
+      lawful = ends.lawful;
+      falls =
+          ends.falls;
+    }
 one_event z line rest es LookedAtSlots within leads stage notes f is lawful falls =
-    let ends = leads stage (record notes { slots = Some (flat_slots f.facts.slots) }) (after (by line LookedAtSlots) f) (record { at = next_at line stage notes f LookedAtSlots is; exact = λ fresh. record { slots = λ slots noted. cc noted; host = (is.exact fresh).host } }) lawful.1 falls.1 in
-    record { behind = ends.behind; reaches = ends.reaches; shown = ends.shown; facts_are = ends.facts_are; idle = ends.idle; lawful = ends.lawful; falls = ends.falls }
+    let ends = leads stage (record notes { slots = Some (flat_slots f.facts.slots) }) (after (by line LookedAtSlots) f) (record {
+      at =
+          next_at line stage notes f LookedAtSlots is;
+      exact = λ fresh. record {
+        slots = λ slots noted. cc noted;
+        host =
+            (is.exact fresh).host;
+      };
+    }) lawful.1 falls.1 in
+    record {
+      behind = ends.behind;
+      reaches = ends.reaches;
+      shown = ends.shown;
+      facts_are = ends.facts_are;
+      idle = ends.idle;
+      lawful = ends.lawful;
+      falls =
+          ends.falls;
+    }
 one_event z line rest es (LookedAtHost page) within leads stage notes f is lawful falls =
     let kind : EventKind = LookedAtHost page in
-    let ends = leads stage (record notes { host = with_entry page (f.facts.host page) notes.host }) (after (by line kind) f) (record { at = next_at line stage notes f kind is; exact = λ fresh. record { slots = (is.exact fresh).slots; host = λ other entry noted. noted_host f.facts page notes.host other entry ((is.exact fresh).host other entry) noted } }) lawful.1 falls.1 in
-    record { behind = ends.behind; reaches = ends.reaches; shown = ends.shown; facts_are = ends.facts_are; idle = ends.idle; lawful = ends.lawful; falls = ends.falls }
+    let ends = leads stage (record notes { host = with_entry page (f.facts.host page) notes.host }) (after (by line kind) f) (record {
+      at =
+          next_at line stage notes f kind is;
+      exact = λ fresh. record {
+        slots = (is.exact fresh).slots;
+        host =
+            λ other entry noted. noted_host f.facts page notes.host other entry ((is.exact fresh).host other entry) noted;
+      };
+    }) lawful.1 falls.1 in
+    record {
+      behind = ends.behind;
+      reaches = ends.reaches;
+      shown = ends.shown;
+      facts_are = ends.facts_are;
+      idle = ends.idle;
+      lawful = ends.lawful;
+      falls =
+          ends.falls;
+    }
 one_event z line rest es (BroughtIn page) within leads stage notes f is lawful falls =
     let kind : EventKind = BroughtIn page in
     let exact_then : stage ≡ Fresh → AreExact (facts_after kind f.facts) notes = λ fresh. record {
@@ -110,13 +162,21 @@ one_event z line rest es (Accessed gfn word op frame before) within leads stage 
     let kind : EventKind = Accessed gfn word op frame before in
     shown_event z line rest es stage notes f kind refl
     (access_is_next z f.facts f.past (under_way line stage notes) gfn word op frame before (allowed z line stage notes f kind is lawful.0))
-    (leads (HasAccessed frame before) notes (after (by line kind) f) (record { at = next_at line stage notes f kind is; exact = λ fresh. absurd (cc fresh) }) lawful.1 falls.1)
+    (leads (HasAccessed frame before) notes (after (by line kind) f) (record {
+      at = next_at line stage notes f kind is;
+      exact =
+          λ fresh. absurd (cc fresh);
+    }) lawful.1 falls.1)
 one_event z line rest es (Exited answer) within leads stage notes f is lawful falls =
     let kind : EventKind = Exited answer in
     shown_event z line rest es stage notes f kind refl
     (exit_is_next z f.facts f.past (under_way line stage notes) answer is.exact (falls_at z line stage notes f kind is falls.0)
     (allowed z line stage notes f kind is lawful.0))
-    (leads (HasLeft answer) notes (after (by line kind) f) (record { at = next_at line stage notes f kind is; exact = λ fresh. absurd (cc fresh) }) lawful.1 falls.1)
+    (leads (HasLeft answer) notes (after (by line kind) f) (record {
+      at = next_at line stage notes f kind is;
+      exact =
+          λ fresh. absurd (cc fresh);
+    }) lawful.1 falls.1)
 one_event z line rest es (SlotChanged id slot) within leads stage notes f is lawful falls =
     let kind : EventKind = SlotChanged id slot in
     shown_event z line rest es stage notes f kind refl
@@ -179,7 +239,8 @@ shows z [] h f idle lawful stands falls =
 shows z (line ∷ lines) h f idle lawful stands falls =
     let first : StandsFirst line h stands.0 = stands.1 in
     subst (λ (es : List Event). IsLawful z f es → FallAsFlat z f es → Shows z (line ∷ lines) f es) (sym first.history_is)
-    (line_shows z line lines first.within stands.0 first.answer f idle first.are_within (λ g idle_then lawful_then falls_then. shows z lines stands.0 g idle_then lawful_then stands.2 falls_then)) lawful falls
+    (line_shows z line lines first.within stands.0 first.answer f idle first.are_within
+    (λ g idle_then lawful_then falls_then. shows z lines stands.0 g idle_then lawful_then stands.2 falls_then)) lawful falls
 
 -- From this state on, the history is the flat one of these lines: in what it shows, answers and prints, in the facts behind it, and in that no line is under way then.
 pub record GoesAsFlat (z : Sizes) (lines : List Line) (f : Flat) (h : List Event) : Type 0 where

@@ -9,7 +9,8 @@ use Rattle.core_views.specs.declared.answer.Refusal.TheVariants.{NoFrame, OutOfR
 use Rattle.core_views.specs.declared.host.HostEntry.{HostEntry}
 use Rattle.core_views.specs.declared.event.Event.{Event}
 use Rattle.core_views.specs.declared.event.EventKind.{EventKind}
-use Rattle.core_views.specs.declared.event.EventKind.TheVariants.{Begun, LookedAtPause, LookedAtSlots, LookedAtHost, BroughtIn, Accessed, Exited, SlotChanged, HostChanged, Answered}
+use Rattle.core_views.specs.declared.event.EventKind.TheVariants.{Begun, LookedAtPause, LookedAtSlots, LookedAtHost, BroughtIn, Accessed, Exited, SlotChanged}
+use Rattle.core_views.specs.declared.event.EventKind.TheVariants.{HostChanged, Answered}
 use Rattle.core_views.specs.declared.trace.Command.{Command}
 use Rattle.core_views.specs.declared.trace.Command.TheVariants.{Access, ChangeHost}
 use Rattle.core_views.specs.declared.trace.HostChange.{HostChange}
@@ -27,7 +28,8 @@ use Rattle.core_views.specs.Names.{frame_at, frame_for}
 use Rattle.core_views.specs.Flat.{Facts, LineUnderWay, Flat, Idle, Fresh, no_notes}
 use Rattle.core_views.specs.Events.{after, after_all, facts_after, facts_after_all, line_after}
 use Rattle.core_views.specs.Lawful.{HasWork, IsLawful, IsAllowed, MayChangeHost, SawAbsent, SawForbidden, SawNoPage, Tells, answer_at_once, slot_change}
-use Rattle.core_views.specs.FlatHistory.{by, answers, accessing, bringing, changing_host, moving, reaching, doing, doing_by, rest_of, looks, looks_behind, alone, one_by_one, working}
+use Rattle.core_views.specs.FlatHistory.{by, answers, accessing, bringing, changing_host, moving, reaching, doing, doing_by, rest_of, looks, looks_behind}
+use Rattle.core_views.specs.FlatHistory.{alone, one_by_one, working}
 use Rattle.core_views.proofs.Looks.{facts_behind, still_paused}
 use Rattle.core_views.proofs.HostLines.{owned_answer, free_is, mapped}
 use Rattle.core_views.proofs.SlotChanges.{changes}

@@ -19,7 +19,8 @@ use Rattle.core_views.specs.SlotSets.{flat_slots}
 use Rattle.core_views.specs.Flat.{Facts, Fresh}
 use Rattle.core_views.specs.Events.{facts_after_all}
 use Rattle.core_views.specs.Lawful.{answer_at_once, slot_change}
-use Rattle.core_views.specs.FlatHistory.{by, accessing, bringing, changing_host, moving, reaching, doing, doing_by, rest_of, looks, looks_behind, alone, one_by_one}
+use Rattle.core_views.specs.FlatHistory.{by, accessing, bringing, changing_host, moving, reaching, doing, doing_by, rest_of, looks, looks_behind, alone}
+use Rattle.core_views.specs.FlatHistory.{one_by_one}
 use Rattle.core_views.specs.Alone.{without_looks}
 use Rattle.core_views.proofs.HostLines.{owned_answer}
 use Rattle.core_views.proofs.SlotChanges.{changes}

@@ -8,7 +8,8 @@ use Rattle.core_views.specs.declared.answer.Refusal.{Refusal}
 use Rattle.core_views.specs.declared.answer.Refusal.TheVariants.{NoFrame}
 use Rattle.core_views.specs.declared.event.Event.{Event}
 use Rattle.core_views.specs.declared.event.EventKind.{EventKind}
-use Rattle.core_views.specs.declared.event.EventKind.TheVariants.{Begun, LookedAtPause, LookedAtSlots, LookedAtHost, BroughtIn, Accessed, Exited, SlotChanged, HostChanged, Answered}
+use Rattle.core_views.specs.declared.event.EventKind.TheVariants.{Begun, LookedAtPause, LookedAtSlots, LookedAtHost, BroughtIn, Accessed, Exited, SlotChanged}
+use Rattle.core_views.specs.declared.event.EventKind.TheVariants.{HostChanged, Answered}
 use Rattle.core_views.specs.declared.trace.Command.{Command}
 use Rattle.core_views.specs.declared.trace.Command.TheVariants.{Access, ChangeHost, SetSlot}
 use Rattle.core_views.specs.declared.trace.HostChange.{HostChange}

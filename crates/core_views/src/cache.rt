@@ -7,11 +7,12 @@ use std::alloc::Global;
 use std::marker::Model;
 
 /// A cached translation: the guest frame that a walk was for, and the leaf that
-/// it met, at its level, 1 to 3.
+/// it met, at its level, 1 to 3. Its fields are of one width, so that a copy of it
+/// is a copy of three words.
 #[derive(Clone, Copy, Debug, PartialEq, Eq, Drop)]
 pub struct Translation {
     pub gfn: u64,
-    pub level: u8,
+    pub level: u64,
     pub leaf: u64,
 }
 

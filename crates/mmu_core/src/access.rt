@@ -42,13 +42,13 @@ fn touch(op: Op, index: u64) -> Task
     }
 }
 
-// The frame of the guest frame by the translation in use.
-fn frame_used(hand: &Hand, gfn: u64) -> u64
+/// The frame of the guest frame by the translation in use.
+pub fn frame_used(hand: &Hand, gfn: u64) -> u64
     requires { IsAtLeafLevel hand.now.core.state.used }
     ensures { result ≡ frame_used gfn hand.now.core.state }
 {
     let used = hand.progress().used;
-    Spte::from_word(used.leaf).mapped_frame(used.level, gfn)
+    Spte::from_word(used.leaf).mapped_frame(used.level as u8, gfn)
 }
 
 /// The step of this place, but for the touch.
@@ -113,7 +113,7 @@ pub(crate) fn fill_cache(place: AccessPlace, hand: &mut Hand, gfn: u64, op: Op, 
         if entry.kind(level) == SpteKind::Leaf && (!op.is_write() || entry.is_writable()) {
             hand.cache_mut().fill(Translation {
                 gfn,
-                level,
+                level: level as u64,
                 leaf: found,
             });
         }
@@ -173,8 +173,11 @@ pub(crate) fn outcome(
         AccessPlace::Root { again } => (AccessPlace::Walk { again }, None),
         AccessPlace::Walk { again } => {
             let level = hand.topics().walk.level;
-            let leaf = found;
-            let used = Translation { gfn, level, leaf };
+            let used = Translation {
+                gfn,
+                level: level as u64,
+                leaf: found,
+            };
             (stay_next(again, level, op, found), Some(used))
         }
         AccessPlace::Touch => {

@@ -19,7 +19,7 @@ fn covers(gfn: u64, translation: &Translation) -> bool
     if translation.level == 1 {
         return false;
     }
-    let span = Spte::level_span(translation.level);
+    let span = Spte::level_span(translation.level as u8);
     gfn / span == translation.gfn / span
 }
 

@@ -16,7 +16,7 @@ mod step;
 mod waits;
 mod watch;
 
-pub use access::access_note;
+pub use access::{access_note, frame_used};
 pub use cached::lookup;
 pub use claim::ClaimNext;
 pub use fault::entry_word;

@@ -83,7 +83,11 @@ module _ (way : Option Seen) (p : SlotChangePlace) (note : ℕ) (before after : 
       → i < length seen → x ≡ get_or seen i x → TurnsLine (turn_told (Done tt) before.hand after.hand) before after
   change_done i seen x is answers at below got =
       turns_told (Done x.answer) before after L.is_at.left
-      (turns (Done x.answer) (free is, turn_is_done before.hand after.hand kind M.found i seen x L.is_at.left M.made.hand answers at below got ∙ ap turn_of outcome_is))
+      (turns (Done x.answer) (
+        free is,
+        turn_is_done before.hand after.hand kind M.found i seen x L.is_at.left M.made.hand answers at below got
+            ∙ ap turn_of outcome_is,
+      ))
 
   pub change_more : (i : ℕ) (seen : List AnsweredLine) → way ≡ None → seen ≡ after.hand.answers → i ≡ length before.hand.answers → length seen ≤ i
       → TurnsLine More before after

@@ -102,7 +102,8 @@ pub touch_level : (job : AccessJob) (h : Held) → StandsAt Touch job h → IsAt
 touch_level job h S = (rests_on Touch job h S).level
 
 pub touches : (job : AccessJob) (h : Held) → StandsAt Touch job h → (touch_of job.op 0).written < 2 ^ 64
-    → (frame_used job.gfn h.state < h.state.sizes.frames) × (job.word < h.state.sizes.words) × Enabled h (touch_kind h.state.sizes (frame_used job.gfn h.state) job.word job.op 0)
+    → (frame_used job.gfn h.state < h.state.sizes.frames) × (job.word < h.state.sizes.words)
+    × Enabled h (touch_kind h.state.sizes (frame_used job.gfn h.state) job.word job.op 0)
 touches job h S small =
     let z : Sizes = h.state.sizes in
     let frame : ℕ = frame_used job.gfn h.state in

@@ -15,8 +15,7 @@ ghost use Rattle.vcpu_run.specs.Accesses.{HasItsCause, IsInFault, IsStay, Stands
 use core_views::{AccessPlace, Hand, Op, Place};
 use fault_install::{FaultJob, Faulted};
 use host_map::touch;
-use mmu_core::{access_note, knows, rests};
-use spte_words::Spte;
+use mmu_core::{access_note, frame_used, knows, rests};
 use step_seats::{Stepper, Turn};
 use tdp_walk::Walk;
 use vcpu_tlb::{enter, leave, paused};
@@ -67,8 +66,7 @@ impl AccessJob {
         ensures enabled { Enabled hand.now.core (touch_kind hand.now.core.state.sizes result self.now.word self.now.op 0) }
     {
         let _ = operand(self.op);
-        let used = hand.progress().used;
-        Spte::from_word(used.leaf).mapped_frame(used.level, self.gfn)
+        frame_used(hand, self.gfn)
     }
 
     // Makes the step of a stay in the guest.

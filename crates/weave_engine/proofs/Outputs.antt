@@ -105,8 +105,20 @@ pub writes_none : (trace : Trace) (before : Option (List ℕ)) → IsTrace trace
 writes_none trace before good =
     let z : Sizes = sizes_of trace.header in
     let made = a_start z trace.lines (header_sizes trace.header good.header) good.lines good.distinct in
-    let none = ran_first z trace.lines 0 made.0 made.0 [] (between_at_start z trace.lines made.0 made.1) in
-    (made.0, ([], inl (0, replays trace (take 0 trace.lines) made.0 made.0 [] made.1 (All-take (λ line. IsCommandFor z line.actor line.command) 0 trace.lines good.lines) none.0 none.1, tt), so_far_most before before [] [] (none_put before [] (omega arith))))
+    let none = ran_first z trace.lines 0 made.0 made.0 [] (between_at_start z trace.lines made.0 made.1) in (
+      made.0,
+      (
+        [],
+        inl (
+          0,
+          replays trace (take 0 trace.lines) made.0 made.0 [] made.1
+              (All-take (λ line. IsCommandFor z line.actor line.command) 0 trace.lines good.lines) none.0 none.1,
+          tt,
+        ),
+        so_far_most before before [] []
+            (none_put before [] (omega arith)),
+      ),
+    )
 
 -- It stopped behind some of the lines.
 stopped_replay : (trace : Trace) (count : ℕ) (start end_ : World Held) (stop : Stop) → IsStart (sizes_of trace.header) trace.lines start → (r : RunsLines (sizes_of trace.header) start (take count trace.lines) end_) → MayStop stop start r.steps
@@ -147,17 +159,23 @@ writes_all trace z lines count start end_ before here after waited waits piece r
     Put ls = (ran : RunsLines (sizes_of trace.header) start ls end_) × Buffers before here [] waits (Ok tt) (text (history start ran.steps))
 
     all : Put trace.lines → (bytes : List ℕ) × Replays trace trace.lines bytes end_ × WroteMost before after r bytes
-    all (ran, put) = (text (history start ran.steps), replays trace trace.lines start end_ (text (history start ran.steps)) is_start is_start.allowed ran refl, ends_most before here after waits (text (history start ran.steps)) r put (subst (Wrote here after r) same wrote))
+    all (ran, put) = (
+      text (history start ran.steps),
+      replays trace trace.lines start end_ (text (history start ran.steps)) is_start is_start.allowed ran refl,
+      ends_most before here after waits (text (history start ran.steps)) r put (subst (Wrote here after r) same wrote),
+    )
 
 -- How a replay ended says what it wrote.
 module _ (trace : Trace) (closing : World Held) (before after : Option (List ℕ)) where
-  pub replays_by : (came : Result (Option OpenLine) Stop) (how : How) → how_ended came ≡ Some how → WritesLines trace closing before after came → ReplaysBy trace closing before after how
+  pub replays_by : (came : Result (Option OpenLine) Stop) (how : How) → how_ended came ≡ Some how → WritesLines trace closing before after came
+      → ReplaysBy trace closing before after how
   replays_by (Ok None) how is writes = let e : Done ≡ how = cc is in subst (ReplaysBy trace closing before after) e writes
   replays_by (Ok (Some line)) how is writes = absurd writes
   replays_by (Err Failed) how is writes = let e : WriteFault ≡ how = cc is in subst (ReplaysBy trace closing before after) e writes
   replays_by (Err NoMemory) how is writes = absurd (cc is)
 
-  pub replay_refused : (came : Result (Option OpenLine) Stop) → how_ended came ≡ None → WritesLines trace closing before after came → WritesLines trace closing before after (Err NoMemory)
+  pub replay_refused : (came : Result (Option OpenLine) Stop) → how_ended came ≡ None → WritesLines trace closing before after came
+      → WritesLines trace closing before after (Err NoMemory)
   replay_refused (Ok None) is writes = absurd (cc is)
   replay_refused (Ok (Some line)) is writes = absurd writes
   replay_refused (Err Failed) is writes = absurd (cc is)

@@ -219,10 +219,18 @@ stops_done made actor w t answer before after waited waits stop done T last few 
 pub puts_waiting : (made : TurnMade) (actor : ℕ) (w t : World Held) (written : Option (List ℕ)) (waited : List ℕ) → length waited ≤ most_waiting
     → ((seen : Seen) × (made.turn ≡ Wait seen)) ⊎ ((cause : Cause) × (made.turn ≡ Retry cause)) → TurnedOn (Some made) actor w t
     → PutsTurn actor w t written written waited waited (Ok Stopped)
-puts_waiting made actor w t written waited few (inl (seen, is)) T =
-    ([], subst (λ (x : Turn (Unit {0})). MakesTurn actor w t (is_stop (told_in x actor w t)) (turn_text made.number made.actor (told_in x actor w t))) is T.makes, ([], Appends-nil written, sym (append-nil waited), few))
-puts_waiting made actor w t written waited few (inr (cause, is)) T =
-    ([], subst (λ (x : Turn (Unit {0})). MakesTurn actor w t (is_stop (told_in x actor w t)) (turn_text made.number made.actor (told_in x actor w t))) is T.makes, ([], Appends-nil written, sym (append-nil waited), few))
+puts_waiting made actor w t written waited few (inl (seen, is)) T = (
+  [],
+  subst (λ (x : Turn (Unit {0})). MakesTurn actor w t (is_stop (told_in x actor w t)) (turn_text made.number made.actor (told_in x actor w t))) is
+      T.makes,
+  ([], Appends-nil written, sym (append-nil waited), few),
+)
+puts_waiting made actor w t written waited few (inr (cause, is)) T = (
+  [],
+  subst (λ (x : Turn (Unit {0})). MakesTurn actor w t (is_stop (told_in x actor w t)) (turn_text made.number made.actor (told_in x actor w t))) is
+      T.makes,
+  ([], Appends-nil written, sym (append-nil waited), few),
+)
 
 -- The turn of a seat, in the world that it tells.
 pub turned_told : (before after : Seat) (line : Line) (whose : Actor) (turn : Turn (Unit {0})) → IfSome before.tells.world (HasHand before.actor before.hand)

@@ -15,19 +15,22 @@ use Rattle.weave_engine.specs.declared.ran.How.{How}
 use Rattle.weave_engine.specs.declared.ran.How.TheVariants.{Done, Unfinished, WriteFault}
 
 module _ (trace : Trace) (limit : ℕ) (closing : World Held) (before after : Option (List ℕ)) where
-  pub ends_by : (came : Result (Option OpenLine) Stop) (how : How) → how_ended came ≡ Some how → WritesWoven trace limit closing before after came → WritesBy trace limit closing before after how
+  pub ends_by : (came : Result (Option OpenLine) Stop) (how : How) → how_ended came ≡ Some how → WritesWoven trace limit closing before after came
+      → WritesBy trace limit closing before after how
   ends_by (Ok None) how is writes = let e : Done ≡ how = cc is in subst (WritesBy trace limit closing before after) e writes
   ends_by (Ok (Some line)) how is writes = let e : Unfinished line.actor line.number ≡ how = cc is in subst (WritesBy trace limit closing before after) e writes
   ends_by (Err Failed) how is writes = let e : WriteFault ≡ how = cc is in subst (WritesBy trace limit closing before after) e writes
   ends_by (Err NoMemory) how is writes = absurd (cc is)
 
-  pub ends_refused : (came : Result (Option OpenLine) Stop) → how_ended came ≡ None → WritesWoven trace limit closing before after came → WritesUntil NoMemory trace limit closing before after
+  pub ends_refused : (came : Result (Option OpenLine) Stop) → how_ended came ≡ None → WritesWoven trace limit closing before after came
+      → WritesUntil NoMemory trace limit closing before after
   ends_refused (Ok None) is writes = absurd (cc is)
   ends_refused (Ok (Some line)) is writes = absurd (cc is)
   ends_refused (Err Failed) is writes = absurd (cc is)
   ends_refused (Err NoMemory) is writes = writes
 
-pub rose_by : (before now : ℕ) (came : Result (Option OpenLine) Stop) (how : How) → how_ended came ≡ Some how → WroteFaults before now came → RoseBy before now how
+pub rose_by : (before now : ℕ) (came : Result (Option OpenLine) Stop) (how : How) → how_ended came ≡ Some how → WroteFaults before now came
+    → RoseBy before now how
 rose_by before now (Ok None) how is faults = let e : Done ≡ how = cc is in subst (RoseBy before now) e faults
 rose_by before now (Ok (Some line)) how is faults = let e : Unfinished line.actor line.number ≡ how = cc is in subst (RoseBy before now) e faults
 rose_by before now (Err Failed) how is faults = let e : WriteFault ≡ how = cc is in subst (RoseBy before now) e faults

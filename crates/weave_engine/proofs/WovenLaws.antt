@@ -251,12 +251,21 @@ module _ (trace : Trace) (limit : ℕ) (start : World Held) (is_start : IsStart 
             by (inr all) = absurd (absurd_line t open_.actor open_.left (subst (λ (x : World Held). HasNoLineLeft open_.actor x) R.3.ends (all open_.actor open_.there)))
 
         -- All is written: each line is answered, or this is the first that isn't.
-        pub ends_open : IsStrictlyIncreasing (map (λ (l : Line). l.number) trace.lines) → (open_ : Option Line) (after : Option (List ℕ)) → FirstOpen z t open_ → Appends at after (waits_at ++ open_text open_) → WritesWoven trace limit t before after (Ok (option_map open_of open_))
+        pub ends_open : IsStrictlyIncreasing (map (λ (l : Line). l.number) trace.lines) → (open_ : Option Line) (after : Option (List ℕ)) → FirstOpen z t open_
+            → Appends at after (waits_at ++ open_text open_) → WritesWoven trace limit t before after (Ok (option_map open_of open_))
         ends_open up None after none wrote = (all_text, all_answered none, ends before at after waits_at all_text (Ok (tt {0})) all_put (subst (Appends at after) (append-nil waits_at) wrote))
         ends_open up (Some line) after open_ wrote =
             let u : List ℕ = unfinished_text line in
-            let whole : all_put.0 ++ (waits_at ++ u) ≡ all_text ++ u = sym (append_assoc all_put.0 waits_at u) ∙ ap (λ (x : List ℕ). x ++ u) all_put.2 in
-            (line, refl, (all_text, used_up up line open_, subst (Appends before after) whole (Appends-trans before at after all_put.0 (waits_at ++ u) all_put.1 wrote)))
+            let whole : all_put.0 ++ (waits_at ++ u) ≡ all_text ++ u = sym (append_assoc all_put.0 waits_at u) ∙ ap (λ (x : List ℕ). x ++ u) all_put.2 in (
+              line,
+              refl,
+              (
+                all_text,
+                used_up up line open_,
+                subst (Appends before after) whole
+                    (Appends-trans before at after all_put.0 (waits_at ++ u) all_put.1 wrote),
+              ),
+            )
 
         -- The writing stopped behind all turns.
         pub stops_open : IsStrictlyIncreasing (map (λ (l : Line). l.number) trace.lines) → (stop : Stop) (open_ : Option Line) (after : Option (List ℕ)) → FirstOpen z t open_ → AppendsPrefix at after (waits_at ++ open_text open_) → WritesUntil stop trace limit t before after

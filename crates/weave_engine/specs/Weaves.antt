@@ -106,9 +106,8 @@ StarvedLinesScan z start steps =
     → outcome_of (hand_of (run mmu start earlier) own s) (answer_of (run mmu start earlier) own s) ≡ Ends Starved
     → EndsWithScan z s.actor (words_of_bits z.pool) (run mmu start earlier) (own ++ s ∷ [])
 
--- One list of steps, that may be made one after another, leads from the trace's start to this world, and follows the trace so far. What it
--- tells is lawful, begins and answers the first lines of each actor, as many as its hand has in this world, and its text is the bytes. Each line
--- that is starved has looked through the whole map.
+-- One list of enabled steps leads from the trace's start to this world, and follows the trace so far. What it tells is lawful, begins and answers
+-- the first lines of each actor, as many as its hand has here, and has these bytes as its text. Each starved line has looked through the whole map.
 pub record WeavesSoFar (trace : Trace) (limit : ℕ) (bytes : List ℕ) (closing : World Held) : Type 0 where
   pub start : World Held
   pub is_start : IsStart (sizes_of trace.header) trace.lines start

@@ -207,7 +207,13 @@ needs_stay _ h x = prop_stays (hlevel props) x
 
 on_stays : (s : Option PartStep) (gfn : ℕ) (write : Bool) (h : Held) → ∥ RestsOn s gfn write h ∥₁ → RestsOn s gfn write h
 on_stays None gfn write h x =
-    record { guest = ∥∥₁_elim x (hlevel props) (λ N. N.guest); uses = uses_stays gfn write h (∥∥₁_map x (λ N. N.uses)); level = (∥∥₁_elim x (hlevel props) (λ N. N.level.0), ∥∥₁_elim x (hlevel props) (λ N. N.level.1)); frame = ∥∥₁_elim x (hlevel props) (λ N. N.frame) }
+    record {
+      guest = ∥∥₁_elim x (hlevel props) (λ N. N.guest);
+      uses = uses_stays gfn write h (∥∥₁_map x (λ N. N.uses));
+      level =
+          (∥∥₁_elim x (hlevel props) (λ N. N.level.0), ∥∥₁_elim x (hlevel props) (λ N. N.level.1));
+      frame = ∥∥₁_elim x (hlevel props) (λ N. N.frame);
+    }
 on_stays (Some step) gfn write h x = needs_stay step h x
 
 other_stays : (p : Place) (command : Command) (h : Held) → (RestsAt p command h → ⊥) ⊎ RestsOnPart p command h → ∥ RestsAt p command h ∥₁ → RestsAt p command h
@@ -252,7 +258,8 @@ within_by : (actor : Actor) (command : Command) (h : Held) (t : Task) → IsComm
     → t.index < size_of (map_of h.state.sizes) t.area
 within_by actor command h _ may R (Makes step note N) = part_within_by step h note N R
 within_by actor command h _ may R (Touches gfn word op is N) =
-    touch_within h.state.sizes op (frame_used gfn h.state) word N.frame (command_word h.state.sizes actor gfn word op (subst (IsCommandFor h.state.sizes actor) is may))
+    touch_within h.state.sizes op (frame_used gfn h.state) word N.frame
+    (command_word h.state.sizes actor gfn word op (subst (IsCommandFor h.state.sizes actor) is may))
 
 within_at : (p : Place) (actor : Actor) (command : Command) (h : Held) → IsCommandFor h.state.sizes actor command → PartRests h → RestsAt p command h
     → (task_at p command h).index < size_of (map_of h.state.sizes) (task_at p command h).area

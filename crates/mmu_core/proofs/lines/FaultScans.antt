@@ -60,7 +60,8 @@ not_by_share _ = λ e. e
 not_by_check : (at : CheckStage) (gfn : ℕ) (t : Topics) (v : ℕ) → NotBegun (check_next at gfn t v)
 not_by_check stage.Count gfn t v = either_place NotBegun (v == 0) (Check stage.Seq) (Check stage.Start) (λ e. e) (λ e. e)
 not_by_check stage.Start gfn t v = λ e. e
-not_by_check stage.End gfn t v = either_place NotBegun (nat_le t.invalidations.start gfn && nat_lt gfn v) (Unshare (Retry _)) (Check stage.Seq) (λ e. e) (λ e. e)
+not_by_check stage.End gfn t v = either_place NotBegun (nat_le t.invalidations.start gfn && nat_lt gfn v) (Unshare (Retry _)) (Check stage.Seq) (λ e. e)
+    (λ e. e)
 not_by_check stage.Seq gfn t v = either_place NotBegun (v == snapshot_taken t.invalidations.snapshot) (Walk false) (Unshare (Retry _)) (λ e. e) (λ e. e)
 
 not_by_walk : (k : SpteKind) (z : Sizes) (gfn : ℕ) (write : Bool) (walk : TableWalk) (v : ℕ) → NotBegun (walk_next k z gfn write walk v)

@@ -127,7 +127,8 @@ first_no_end z slots (Access gfn word op) is = cc is
 first_no_end z slots _ is = cc is
 
 -- Its actor, which was at rest, knows what its first place asks.
-pub first_known : (z : Sizes) (command : Command) (h : Held) → changes_host command ≡ false → IsAtRest h.topics → KnowsPart (first_place z h.slots command) command h
+pub first_known : (z : Sizes) (command : Command) (h : Held) → changes_host command ≡ false → IsAtRest h.topics
+    → KnowsPart (first_place z h.slots command) command h
 first_known z (Access gfn word op) h none R = R
 first_known z (ChangeHost page change) h none R = absurd (cc none)
 first_known z command h none R = (refl, slot_change_begins_known (change_refusal z command h.slots) h R)

@@ -35,7 +35,8 @@ use Rattle.mmu_core.specs.declared.outcome.Outcome.TheVariants.{Goes, Ends}
 use Rattle.part_steps.specs.declared.task.Task.{Task}
 use Rattle.part_steps.specs.declared.part_step.PartStep.{PartStep}
 use Rattle.part_steps.specs.declared.part_step.PartStep.TheVariants as part
-use Rattle.mmu_core.specs.lines.AccessSteps.{access_note, access_outcome, access_part, access_task, behind_fault, is_found, use_found, pause_next, task_by, touch_of, stay_next}
+use Rattle.mmu_core.specs.lines.AccessSteps.{access_note, access_outcome, access_part, access_task, behind_fault, is_found, use_found, pause_next, task_by}
+use Rattle.mmu_core.specs.lines.AccessSteps.{touch_of, stay_next}
 use Rattle.mmu_core.specs.lines.Cached.{first_usable, flushed, with_leaf}
 use Rattle.mmu_core.specs.lines.FaultKnows.{KnowsNext}
 use Rattle.mmu_core.specs.lines.FaultLaws.{CanAnswer}
@@ -117,7 +118,8 @@ pause_known (Some t) again gfn write h g is same I used =
 walk_known : (k : SpteKind) (allowed again : Bool) (gfn : ℕ) (write : Bool) (v : ℕ) (t : Topics) (c : Buffer Translation) (g : Held) → 1 ≤ c.capacity
     → g.cached ≡ (if is_found k allowed then with_leaf gfn t.walk.level v c else c) → kind_of t.walk.level v ≡ k → allows_access write v ≡ allowed
     → t.walk.level ≤ 4 → IsOver gfn t.walk
-    → InGuest g.topics → g.topics.walk ≡ gone_down (linked_page k) t.walk (entry_index gfn t.walk.level) v → g.state.used ≡ record { gfn = gfn; level = t.walk.level; leaf = v }
+    → InGuest g.topics → g.topics.walk ≡ gone_down (linked_page k) t.walk (entry_index gfn t.walk.level) v
+    → g.state.used ≡ record { gfn = gfn; level = t.walk.level; leaf = v }
     → AccessKnows (stay_next again k allowed) gfn write g
 walk_known (entry_kind.Table page) allowed again gfn write v t c g room cached is may most O I walk leaf =
     (I, subst (IsOver gfn) (sym walk) (gone_over gfn page v t.walk (above_lowest t.walk.level v page O.there is) most O))

@@ -111,7 +111,8 @@ module _ (h : Held) (rests : has_line h ≡ true → Rests h) (has : has_line h 
   command_here = subst (λ (l : Line). IsCommandFor h.state.sizes l.actor l.command) same_line (rests has).line
 
   pub rests_at_here : RestsAt p (next_line h).command h
-  rests_at_here = subst (λ q. RestsAt q (next_line h).command h) place_here (subst (λ (l : Line). RestsAt (place_at h.state.place h) l.command h) same_line (rests has).at)
+  rests_at_here = subst (λ q. RestsAt q (next_line h).command h) place_here
+      (subst (λ (l : Line). RestsAt (place_at h.state.place h) l.command h) same_line (rests has).at)
 
   pub accepts_here : AcceptsAt p (next_line h).command h.state.sizes h.slots
   accepts_here =
@@ -120,7 +121,8 @@ module _ (h : Held) (rests : has_line h ≡ true → Rests h) (has : has_line h 
 
   pub made_here : (x : Held) (v : ℕ) → x ≡ line_after (next_line h) p h v → x ≡ line_after (line_at h.state.place h) (place_at h.state.place h) h v
   made_here x v made =
-      made ∙ ap (λ (q : Place). line_after (next_line h) q h v) (sym place_here) ∙ ap (λ (l : Line). line_after l (place_at h.state.place h) h v) (sym same_line)
+      made ∙ ap (λ (q : Place). line_after (next_line h) q h v) (sym place_here)
+      ∙ ap (λ (l : Line). line_after l (place_at h.state.place h) h v) (sym same_line)
 
 -- Behind the line's step, where a line is left, come the flush and the topics, and make the hand that the step leads to.
 module _ (h g : Held) (k : Kind) (v : ℕ) (enabled : Enabled h k) (line : has_line h ≡ true → g ≡ line_after (line_at h.state.place h) (place_at h.state.place h) h v) (none : has_line h ≡ false → g ≡ h) where

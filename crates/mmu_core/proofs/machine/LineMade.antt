@@ -60,7 +60,8 @@ steps_behind h delay = steps_counted delay (counted h.state.place h.state.steps)
 abbrev delays_behind : Held → Bool → ℕ
 delays_behind h delay = delays_counted delay (counted h.state.place h.state.delays)
 
-pub line_made : (h f : Held) (s : Progress) (line : Line) (p q : Place) (l : Line) (v : ℕ) (used : Translation) (slots : MemorySlots) (o : Outcome) (delay : Bool) (steps delays : ℕ) (answers : List AnsweredLine)
+pub line_made : (h f : Held) (s : Progress) (line : Line) (p q : Place) (l : Line) (v : ℕ) (used : Translation) (slots : MemorySlots) (o : Outcome)
+    (delay : Bool) (steps delays : ℕ) (answers : List AnsweredLine)
     → o ≡ outcome_at p line.command h v → used ≡ (loads_at p line.command h v).used
     → delay ≡ is_delay p line.command h o v → steps ≡ steps_behind h delay → delays ≡ delays_behind h delay
     → slots ≡ records_at p line.command h.slots → f ≡ with_cached h (caches_at p line.command (with_slots h slots) v) slots → s ≡ progress_of f.state
@@ -74,13 +75,18 @@ line_made h f s line p q l v used slots o delay steps delays answers o_is used_i
     ∙ ap (λ x. placed (progress_of f.state) q line used x delays f answers) (steps_is ∙ ap (steps_behind h) same_delay)
     ∙ ap (λ x. placed (progress_of f.state) q line used made x f answers) (delays_is ∙ ap (delays_behind h) same_delay)
     ∙ ap (λ (x : Held). placed (progress_of x.state) q line used made waits x answers) f_is
-    ∙ ap (λ (c : Buffer Translation). placed (progress_of h.state) q line used made waits (with_cached h c slots) answers) (caches_same p line.command h slots v)
+    ∙ ap (λ (c : Buffer Translation). placed (progress_of h.state) q line used made waits (with_cached h c slots) answers)
+    (caches_same p line.command h slots v)
     ∙ ap (λ (x : MemorySlots). placed (progress_of h.state) q line used made waits (with_cached h (caches_at p line.command h v) x) answers) slots_is
     ∙ ap (λ (x : Translation). placed (progress_of h.state) q line x made waits cached answers) used_is
-    ∙ ap (λ (x : Sizes). placed (progress_of (record h.state { sizes = x })) q line (loads_at p line.command h v).used made waits cached answers) (sym same.sizes)
-    ∙ ap (λ (x : Actor). placed (progress_of (record (loads_at p line.command h v) { actor = x })) q line (loads_at p line.command h v).used made waits cached answers) (sym same.actor)
-    ∙ ap (λ (x : Place). placed (progress_of (loads_at p line.command h v)) x line (loads_at p line.command h v).used made waits cached answers) (q_is ∙ ap place_after o_is)
-    ∙ ap (λ (x : List AnsweredLine). placed (progress_of (loads_at p line.command h v)) (place_after (outcome_at p line.command h v)) line (loads_at p line.command h v).used made waits cached x)
+    ∙ ap (λ (x : Sizes). placed (progress_of (record h.state { sizes = x })) q line (loads_at p line.command h v).used made waits cached answers)
+    (sym same.sizes)
+    ∙ ap (λ (x : Actor). placed (progress_of (record (loads_at p line.command h v) { actor = x })) q line (loads_at p line.command h v).used made waits cached
+    answers) (sym same.actor)
+    ∙ ap (λ (x : Place). placed (progress_of (loads_at p line.command h v)) x line (loads_at p line.command h v).used made waits cached answers) (q_is
+    ∙ ap place_after o_is)
+    ∙ ap (λ (x : List AnsweredLine). placed (progress_of (loads_at p line.command h v)) (place_after (outcome_at p line.command h v)) line
+    (loads_at p line.command h v).used made waits cached x)
     (answers_is ∙ ap (λ (x : Outcome). answers_after x line h.answers) o_is)
   where
     made : ℕ

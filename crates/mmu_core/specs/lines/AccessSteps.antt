@@ -76,7 +76,8 @@ task_by None h note touch = touch
 task_by (Some step) h note touch = part_task step (own_index h) h.topics note
 
 abbrev pub access_task : AccessPlace → Held → ℕ → ℕ → Op → Task
-access_task p h gfn word op = task_by (access_part p gfn h.topics) h (access_note p) (touch_of op (content_index (map_of h.state.sizes) (frame_used gfn h.state) word))
+access_task p h gfn word op = task_by (access_part p gfn h.topics) h (access_note p)
+    (touch_of op (content_index (map_of h.state.sizes) (frame_used gfn h.state) word))
 
 -- after the pause: the touch through a cached translation, or a walk
 abbrev pub pause_next : Bool → Option Translation → AccessPlace

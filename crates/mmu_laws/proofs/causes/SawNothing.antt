@@ -157,7 +157,9 @@ module _ (z : Sizes) (w : World Held) (s : Step Kind) (G : IsSound z w) (may : M
       by : (actor ≡ s.actor) ⊎ (actor ≢ s.actor) → SawNothingAt (hand_in mmu (effect mmu w s) actor).state.place (hand_in mmu (effect mmu w s) actor).topics
       by (inl own) =
           subst (λ i. SawNothingAt (hand_in mmu (effect mmu w s) i).state.place (hand_in mmu (effect mmu w s) i).topics) (sym own)
-          (of_line (subst (λ i. has_line (hand_in mmu w i) ≡ true) own had) (subst (λ i. SawNothingAt (hand_in mmu w i).state.place (hand_in mmu w i).topics) own (S had)) (subst (λ i. has_line (hand_in mmu (effect mmu w s) i) ≡ true) own has))
+          (of_line (subst (λ i. has_line (hand_in mmu w i) ≡ true) own had)
+          (subst (λ i. SawNothingAt (hand_in mmu w i).state.place (hand_in mmu w i).topics) own (S had))
+          (subst (λ i. has_line (hand_in mmu (effect mmu w s) i) ≡ true) own has))
       by (inr apart) = subst (λ (x : Held). SawNothingAt x.state.place x.topics) (sym (others_hand w s actor apart)) (S had)
 
 -- An actor that has a line left had one before.

@@ -128,8 +128,10 @@ touches z v a line gfn word op facts u S I K R =
     let F : IsLeafFor (v.words area.Pool) (v.words area.Host) (v.words area.Slots 0) gfn s.used.leaf = S.holds.1 in
     let page : ℕ = page_of F.slot gfn in
     let page_in : page < z.pages = page_in_machine z (v.words area.Slots 0) (v.words area.Role) (v.words area.Pool) F.id gfn F.slot I.set_part F.live F.holds in
-    let frame : frame_used gfn s ≡ page = lowest_frame gfn s S.holds.0 ∙ ap frame_in F.is ∙ frame_of_leaf z (v.words area.Host) F.slot page I.sizes I.hosts page_in in
-    let allowed : (is_write op && F.slot.read_only) ≡ false = leaf_allows op F.slot (v.words area.Host page) s.used.leaf F.is (uses_allows gfn (is_write op) (v.hand a) K.1) in
+    let frame : frame_used gfn s ≡ page = lowest_frame gfn s S.holds.0 ∙ ap frame_in F.is
+    ∙ frame_of_leaf z (v.words area.Host) F.slot page I.sizes I.hosts page_in in
+    let allowed : (is_write op && F.slot.read_only) ≡ false = leaf_allows op F.slot (v.words area.Host page) s.used.leaf F.is
+    (uses_allows gfn (is_write op) (v.hand a) K.1) in
     record {
       page = page;
       page_in = page_in;
@@ -144,7 +146,8 @@ touch_goes : (z : Sizes) (v : View) (a : ℕ) (line : Line) (gfn word : ℕ) (op
     → IsStep z v a line (Access gfn word op) (place.Access Touch) → Ready z v line (Access gfn word op) (place.Access Touch) (v.hand a).topics facts u
     → (T : Touches z (v.hand a).state gfn word op facts)
     → after area.Slots ≡ v.words area.Slots → after area.Pool ≡ v.words area.Pool → after area.Pause ≡ v.words area.Pause
-    → after area.Content (content_index (map_of (v.hand a).state.sizes) (frame_used gfn (v.hand a).state) word) ≡ stored op (v.words area.Content (content_index (map_of (v.hand a).state.sizes) (frame_used gfn (v.hand a).state) word))
+    → after area.Content (content_index (map_of (v.hand a).state.sizes) (frame_used gfn (v.hand a).state) word) ≡ stored op
+    (v.words area.Content (content_index (map_of (v.hand a).state.sizes) (frame_used gfn (v.hand a).state) word))
     → ((i : ℕ) → i ≢ content_index (map_of (v.hand a).state.sizes) (frame_used gfn (v.hand a).state) word → after area.Content i ≡ v.words area.Content i)
     → let x : ℕ = v.words area.Content (content_index (map_of (v.hand a).state.sizes) (frame_used gfn (v.hand a).state) word) in
     Goes z (v.hand a).state.actor line (Access gfn word op) after (place.Access (Leave (leaving.Reached (frame_used gfn (v.hand a).state) x))) t
@@ -203,12 +206,14 @@ module _ (z : Sizes) (v : View) (a : ℕ) (line : Line) (gfn word : ℕ) (facts 
   touch_owes (Write x) S I P part_ K R =
       touch_goes z v a line gfn word (Write x) facts past u (put v.words area.Content (touched_index gfn (v.hand a).state word) x)
       (held_behind (Write x) Touch) S R (touches z v a line gfn word (Write x) facts u S I K R) refl refl refl
-      (upd_same (v.words area.Content) (touched_index gfn (v.hand a).state word) x) (λ i apart. upd_other (v.words area.Content) (touched_index gfn (v.hand a).state word) i x apart)
+      (upd_same (v.words area.Content) (touched_index gfn (v.hand a).state word) x)
+      (λ i apart. upd_other (v.words area.Content) (touched_index gfn (v.hand a).state word) i x apart)
   touch_owes (Add x) S I P part_ K R =
       let sum : ℕ = stored (Add x) (v.words area.Content (touched_index gfn (v.hand a).state word)) in
       touch_goes z v a line gfn word (Add x) facts past u (put v.words area.Content (touched_index gfn (v.hand a).state word) sum)
       (held_behind (Add x) Touch) S R (touches z v a line gfn word (Add x) facts u S I K R) refl refl refl
-      (upd_same (v.words area.Content) (touched_index gfn (v.hand a).state word) sum) (λ i apart. upd_other (v.words area.Content) (touched_index gfn (v.hand a).state word) i sum apart)
+      (upd_same (v.words area.Content) (touched_index gfn (v.hand a).state word) sum)
+      (λ i apart. upd_other (v.words area.Content) (touched_index gfn (v.hand a).state word) i sum apart)
 
   -- A step of a stay that tells nothing.
   quiet : (op : Op) (p next : AccessPlace) (step : PartStep) → access_part p gfn (v.hand a).topics ≡ Some step → IsPart z v a step → Invariant z v
@@ -219,7 +224,8 @@ module _ (z : Sizes) (v : View) (a : ℕ) (line : Line) (gfn word : ℕ) (facts 
   quiet op p next step is S I P R under = record { allowed = tt; refines = refines_stay z v.words (words_behind op p) facts L R.refines; under = under }
     where
       L : Leaves v.words (words_behind op p)
-      L = subst (λ o. Leaves v.words (words_after (task_by o (v.hand a) (access_note p) (touch_of op (touched_index gfn (v.hand a).state word))) v.words)) (sym is) (part_leaves z v a step (access_note p) S P (access_never p gfn (v.hand a).topics step is))
+      L = subst (λ o. Leaves v.words (words_after (task_by o (v.hand a) (access_note p) (touch_of op (touched_index gfn (v.hand a).state word))) v.words))
+          (sym is) (part_leaves z v a step (access_note p) S P (access_never p gfn (v.hand a).topics step is))
 
   -- The access is answered.
   reached_owes : (op : Op) (frame value : ℕ) → Owes op (Leave (leaving.Reached frame value))
@@ -249,7 +255,8 @@ module _ (z : Sizes) (v : View) (a : ℕ) (line : Line) (gfn word : ℕ) (facts 
   access_goes op (Walk again) S I P part_ K R =
       let k : SpteKind = kind_of (v.hand a).topics.walk.level (answered op (Walk again)) in
       let allowed : Bool = allows_access (is_write op) (answered op (Walk again)) in
-      quiet op (Walk again) (stay_next again k allowed) (part.Walk gfn) refl part_ I P R (R.under.0, walk_under (words_behind op (Walk again) area.Pool) gfn op (held_behind op (Walk again)) u again k allowed R.under.1)
+      quiet op (Walk again) (stay_next again k allowed) (part.Walk gfn) refl part_ I P R
+      (R.under.0, walk_under (words_behind op (Walk again) area.Pool) gfn op (held_behind op (Walk again)) u again k allowed R.under.1)
   access_goes op Touch S I P part_ K R = touch_owes op S I P part_ K R
   access_goes op (Leave (leaving.Reached frame value)) S I P part_ K R = reached_owes op frame value S I P part_ K R
   access_goes op (Leave leaving.Faults) S I P part_ K R =

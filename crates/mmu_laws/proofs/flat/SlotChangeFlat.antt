@@ -88,7 +88,8 @@ module _ (z : Sizes) (v : View) (a : ℕ) (line : Line) (command : Command) (fac
   claim_goes : (begun : Bool) (next : ClaimNext) → changes_slot u.line.command ≡ true → HasWork z facts (v.hand a).state.actor u.line.command
       → MakesAt (Claim begun)
       → TopicsInvariant z v → ReadyAt (Claim begun)
-      → GoesBy z v a line command (task (Claim begun)) (place_after (after_set_claim next)) (exiting (after_set_claim next) ++ answering (after_set_claim next) line)
+      → GoesBy z v a line command (task (Claim begun)) (place_after (after_set_claim next))
+      (exiting (after_set_claim next) ++ answering (after_set_claim next) line)
       facts past u
   claim_goes begun claims.Goes is works S P R = quiet (Claim begun) (Claim true) refl S P R R.under
   claim_goes begun claims.Got is works S P R = quiet (Claim begun) Fill refl S P R R.under

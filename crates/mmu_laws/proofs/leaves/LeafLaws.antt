@@ -188,9 +188,13 @@ at_touch z pool host set h p c gfn word op at is holds knows =
 
 pub used_leaves_agree : (z : Sizes) (w : World Held) (actor gfn word : ℕ) (op : Op) → IsSound z w → actor < actors_of z → (hand_in mmu w actor).state.place ≡ place.Access Touch
     → (hand_in mmu w actor).state.line.command ≡ Access gfn word op
-    → LeafAgrees (word_in z w area.Slots 0) (word_in z w area.Pool) (word_in z w area.Host) gfn (hand_in mmu w actor).state.used.leaf × (allows_access (is_write op) (hand_in mmu w actor).state.used.leaf ≡ true)
+    → LeafAgrees (word_in z w area.Slots 0) (word_in z w area.Pool) (word_in z w area.Host) gfn (hand_in mmu w actor).state.used.leaf
+    × (allows_access (is_write op) (hand_in mmu w actor).state.used.leaf ≡ true)
 used_leaves_agree z w actor gfn word op sound lt at is =
     let I = sound.holds in
     let h : Held = hand_in mmu w actor in
-    let T = at_touch z (word_in z w area.Pool) (word_in z w area.Host) (word_in z w area.Slots 0) h h.state.place h.state.line.command gfn word op at is (I.loads actor lt) (I.knows actor lt) in
-    (leaf_agrees z (word_in z w area.Slots 0) (word_in z w area.Role) (word_in z w area.Pool) (word_in z w area.Host) gfn h.state.used.leaf I.sizes I.hosts I.set_part T.0, T.1)
+    let T = at_touch z (word_in z w area.Pool) (word_in z w area.Host) (word_in z w area.Slots 0) h h.state.place h.state.line.command gfn word op at is (I.loads actor lt) (I.knows actor lt) in (
+      leaf_agrees z (word_in z w area.Slots 0) (word_in z w area.Role) (word_in z w area.Pool) (word_in z w area.Host) gfn h.state.used.leaf I.sizes I.hosts
+          I.set_part T.0,
+      T.1,
+    )

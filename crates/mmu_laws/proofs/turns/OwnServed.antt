@@ -112,7 +112,8 @@ module _ (X : Type 0) (h : Held) (gfn word : ℕ) (op : Op) (words : Area → �
   access_installed (Fault p) still K make =
       let v : ℕ = answer_in (access_task (Fault p) h gfn word op) words in
       let same : topics_at (place.Access (Fault p)) (Access gfn word op) h words ≡ part_topics (fault_part p gfn h.topics) h.topics v =
-      task_topics (access_part (Fault p) gfn h.topics) h (access_note (Fault p)) op (content_index (map_of h.state.sizes) (frame_used gfn h.state) word) v (access_needs (Fault p) h gfn (is_write op) vcpu small R K) in
+      task_topics (access_part (Fault p) gfn h.topics) h (access_note (Fault p)) op (content_index (map_of h.state.sizes) (frame_used gfn h.state) word) v
+      (access_needs (Fault p) h gfn (is_write op) vcpu small R K) in
       fault_installed p (ends_installed p) refl still K (subst (λ (t : Topics). Makes h.state.sizes (words_after (access_task (Fault p) h gfn word op) words area.Pool) gfn (is_write op) t X) same make)
   access_installed _ still K make = still
 

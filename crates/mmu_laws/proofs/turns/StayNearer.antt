@@ -85,7 +85,10 @@ leaves_nearer false level y t u on from = let same : fault_left fault.Begin y u 
 
 walk_nearer : (k : SpteKind) (allowed again : Bool) (gfn : ℕ) (y : Sizes) (t : Topics) (v : ℕ) → kind_of t.walk.level v ≡ k → 1 ≤ t.walk.level
     → (again && leaves_to_fault (Goes (place.Access (stay_next again k allowed)))) ≡ false
-    → Nearer (Goes (place.Access (stay_next again k allowed))) y (record t { walk = gone_down (linked_page k) t.walk (entry_index gfn t.walk.level) v }) (t.walk.level + stay_left again y t)
+    → Nearer (Goes (place.Access (stay_next again k allowed))) y (record t {
+      walk =
+          gone_down (linked_page k) t.walk (entry_index gfn t.walk.level) v;
+    }) (t.walk.level + stay_left again y t)
 walk_nearer (entry_kind.Table page) allowed again gfn y t v is from on =
     let same : stay_left again y (record t { walk = gone_down (Some page) t.walk (entry_index gfn t.walk.level) v }) ≡ stay_left again y t = refl in
     let upper : 2 ≤ t.walk.level = above_lowest t.walk.level v page from is in

@@ -58,4 +58,5 @@ abbrev pub UsedLeavesAgree : Type 0
 UsedLeavesAgree =
     (z : Sizes) (w : World Held) (actor gfn word : ℕ) (op : Op) → IsSound z w → actor < actors_of z
     → (hand_in mmu w actor).state.place ≡ place.Access Touch → (hand_in mmu w actor).state.line.command ≡ Access gfn word op
-    → LeafAgrees (word_in z w area.Slots 0) (word_in z w area.Pool) (word_in z w area.Host) gfn (hand_in mmu w actor).state.used.leaf × (allows_access (is_write op) (hand_in mmu w actor).state.used.leaf ≡ true)
+    → LeafAgrees (word_in z w area.Slots 0) (word_in z w area.Pool) (word_in z w area.Host) gfn (hand_in mmu w actor).state.used.leaf
+    × (allows_access (is_write op) (hand_in mmu w actor).state.used.leaf ≡ true)

@@ -23,7 +23,8 @@ loop-init g c =
           c.requires.idle c.requires.next c.requires.alone;
       reserved = e.reserved;
       job =
-          let next = ap (λ (p : Place). line_at p (g.S.Stepper.seat c.args.s.now).hand) c.requires.idle ∙ ap (λ (o : Option Line). unwrap_or o no_line) c.requires.next in
+          let next = ap (λ (p : Place). line_at p (g.S.Stepper.seat c.args.s.now).hand) c.requires.idle
+          ∙ ap (λ (o : Option Line). unwrap_or o no_line) c.requires.next in
           rw e.hand (subst (λ (l : Line). IsJobOf c.in_ok-job.job l (length (g.S.Stepper.seat c.args.s.now).hand.answers)) next e.job);
       left = rw e.hand below;
       actor = e.same.0;

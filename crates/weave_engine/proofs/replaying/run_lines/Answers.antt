@@ -80,7 +80,9 @@ answer_to-answer-requires-clause-there g c =
     let lines = c.args.lines.now in
     let i = c.loop-index.invariant in
     let B = i.so_far.1 in
-    let there = (ready_on z lines c.loop-index.index c.loop-index.machine i.sizes (i.count ∙ hands_at_start z lines c.args.machine.now c.requires.start) (omega (arith, c.loop-index-test.true, c.requires.count)) (c.requires.start.allowed c.loop-index.index no_line (omega (arith, c.loop-index-test.true, c.requires.count))) B.behind
+    let there = (ready_on z lines c.loop-index.index c.loop-index.machine i.sizes (i.count
+    ∙ hands_at_start z lines c.args.machine.now c.requires.start) (omega (arith, c.loop-index-test.true, c.requires.count))
+    (c.requires.start.allowed c.loop-index.index no_line (omega (arith, c.loop-index-test.true, c.requires.count))) B.behind
     (sound_between z lines c.loop-index.index (world_in c.args.machine.now) (world_in c.loop-index.machine) i.so_far.0 c.requires.start B) B.rest).there in
     rw (c.in-Ok.ensures.same.0, c.in-Ok.ensures.same.1) there
 
@@ -114,16 +116,19 @@ returns-in_err-put_answer-clause-puts g c =
     let own : RanOn z line (given_in (index_of z line.actor) here behind) (index_of z line.actor) here behind =
     subst (λ (y : Sizes). RanOn y line (given_in (index_of y line.actor) here behind) (index_of y line.actor) here behind) i.sizes c.in-Ok.ensures.ran in
     let last : IsLastAnswer c.answer_to-answer.result.now (hand_in mmu behind (index_of z line.actor)) =
-    subst (λ (y : Sizes). IsLastAnswer c.answer_to-answer.result.now (hand_in mmu behind (index_of y line.actor))) (c.in-Ok.ensures.same.0 ∙ i.sizes) c.answer_to-answer.ensures in
+    subst (λ (y : Sizes). IsLastAnswer c.answer_to-answer.result.now (hand_in mmu behind (index_of y line.actor))) (c.in-Ok.ensures.same.0
+    ∙ i.sizes) c.answer_to-answer.ensures in
     let ran : RanOn z line c.answer_to-answer.result.now (index_of z line.actor) here behind =
     subst (λ (a : Answer). RanOn z line a (index_of z line.actor) here behind)
     (sym (last line (given_in (index_of z line.actor) here behind) (hand_in mmu here (index_of z line.actor)) own.answered)) own in
-    let more = between_more z lines n start here behind put c.answer_to-answer.result.now (omega (arith, c.loop-index-test.true, c.requires.count)) (c.requires.start.allowed n no_line (omega (arith, c.loop-index-test.true, c.requires.count))) ran i.so_far.1 in
+    let more = between_more z lines n start here behind put c.answer_to-answer.result.now (omega (arith, c.loop-index-test.true, c.requires.count))
+    (c.requires.start.allowed n no_line (omega (arith, c.loop-index-test.true, c.requires.count))) ran i.so_far.1 in
     let text_ = line_text line.number line.actor c.answer_to-answer.result.now in
     let p = err_from_is_err_and c.from_residual.result c.from_residual.ensures.1 in
     let stopped : WritesMost (g.K.Sink.written c.args.out.now) (g.K.Sink.written c.put_answer.new.out) ((string_bytes c.args.waiting.now ++ put) ++ text_) =
     stops (g.K.Sink.written c.args.out.now) (g.K.Sink.written c.loop-index.out) (g.K.Sink.written c.put_answer.new.out) (string_bytes c.loop-index.waiting) text_ (string_bytes c.args.waiting.now ++ put) i.so_far.2
-    (few_last (g.K.Sink.written c.loop-index.out) (g.K.Sink.written c.put_answer.new.out) (string_bytes c.loop-index.waiting) text_ i.so_far.2.3 (inr (inl (line.number, line.actor, c.answer_to-answer.result.now, refl))) c.in_err-put_answer.ensures.bytes) in
+    (few_last (g.K.Sink.written c.loop-index.out) (g.K.Sink.written c.put_answer.new.out) (string_bytes c.loop-index.waiting) text_ i.so_far.2.3
+    (inr (inl (line.number, line.actor, c.answer_to-answer.result.now, refl))) c.in_err-put_answer.ensures.bytes) in
     rw (p.1, p.2) (lines_stop z start lines (g.K.Sink.written c.args.out.now) (g.K.Sink.written c.put_answer.new.out) (string_bytes c.args.waiting.now) (string_bytes c.put_answer.new.waiting) (n + 1) c.args.count behind behind (put ++ text_) c.in_err-put_answer.field-0.0 refl
     (omega (arith, c.loop-index-test.true)) more.0 (stops_at_answer c.in_err-put_answer.field-0.0 start more.0.ran.steps more.1) (subst (WritesMost (g.K.Sink.written c.args.out.now) (g.K.Sink.written c.put_answer.new.out)) (append_assoc (string_bytes c.args.waiting.now) put text_) stopped))
 
@@ -141,11 +146,13 @@ loop-index-preserved g c =
     let own : RanOn z line (given_in (index_of z line.actor) here behind) (index_of z line.actor) here behind =
     subst (λ (y : Sizes). RanOn y line (given_in (index_of y line.actor) here behind) (index_of y line.actor) here behind) i.sizes c.in-Ok.ensures.ran in
     let last : IsLastAnswer c.answer_to-answer.result.now (hand_in mmu behind (index_of z line.actor)) =
-    subst (λ (y : Sizes). IsLastAnswer c.answer_to-answer.result.now (hand_in mmu behind (index_of y line.actor))) (c.in-Ok.ensures.same.0 ∙ i.sizes) c.answer_to-answer.ensures in
+    subst (λ (y : Sizes). IsLastAnswer c.answer_to-answer.result.now (hand_in mmu behind (index_of y line.actor))) (c.in-Ok.ensures.same.0
+    ∙ i.sizes) c.answer_to-answer.ensures in
     let ran : RanOn z line c.answer_to-answer.result.now (index_of z line.actor) here behind =
     subst (λ (a : Answer). RanOn z line a (index_of z line.actor) here behind)
     (sym (last line (given_in (index_of z line.actor) here behind) (hand_in mmu here (index_of z line.actor)) own.answered)) own in
-    let more = between_more z lines n start here behind put c.answer_to-answer.result.now (omega (arith, c.loop-index-test.true, c.requires.count)) (c.requires.start.allowed n no_line (omega (arith, c.loop-index-test.true, c.requires.count))) ran i.so_far.1 in
+    let more = between_more z lines n start here behind put c.answer_to-answer.result.now (omega (arith, c.loop-index-test.true, c.requires.count))
+    (c.requires.start.allowed n no_line (omega (arith, c.loop-index-test.true, c.requires.count))) ran i.so_far.1 in
     let text_ = line_text line.number line.actor c.answer_to-answer.result.now in
     record {
       so_far = (

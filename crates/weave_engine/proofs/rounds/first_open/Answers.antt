@@ -14,8 +14,10 @@ loop-index-preserved c =
     let w = world_in c.args.machine.now in
     let i = c.loop-index.index in
     let count : c.actors-index-end.result ≡ actors_of c.args.machine.now.sizes = rw c.sizes.ensures.is at c.actors-index-end.ensures in
-    let next : option_copied c.next_line.result ≡ open_next (hand_in mmu w i) = c.next_line.ensures ∙ ap (λ (x : Handful). open_next x.core) c.hand.ensures.hand ∙ ap (λ (x : Held). open_next x) (sym c.hand.ensures.has.is) in
+    let next : option_copied c.next_line.result ≡ open_next (hand_in mmu w i) = c.next_line.ensures
+    ∙ ap (λ (x : Handful). open_next x.core) c.hand.ensures.hand ∙ ap (λ (x : Held). open_next x) (sym c.hand.ensures.has.is) in
     record {
-      first = subst (FirstBefore w (i + 1)) (sym (c.earlier-first.ensures ∙ ap (earlier_of (option_copied c.loop-index.first)) next)) (looks_at w i (option_copied c.loop-index.first) c.loop-index.invariant.first);
+      first = subst (FirstBefore w (i + 1)) (sym (c.earlier-first.ensures ∙ ap (earlier_of (option_copied c.loop-index.first)) next))
+          (looks_at w i (option_copied c.loop-index.first) c.loop-index.invariant.first);
       within = omega (arith, count, c.loop-index-test.true);
     }

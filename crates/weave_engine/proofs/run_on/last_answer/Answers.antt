@@ -9,4 +9,5 @@ last_of-requires c =
 
 pub returns : goal.returns
 returns c =
-    subst (λ (h : Held). IsLastAnswer c.last_of.result.now h) (sym (c.hand.ensures.has.is ∙ ap (λ (x : Handful). x.core) (sym c.hand.ensures.hand))) c.last_of.ensures
+    subst (λ (h : Held). IsLastAnswer c.last_of.result.now h) (sym (c.hand.ensures.has.is ∙ ap (λ (x : Handful). x.core) (sym c.hand.ensures.hand)))
+    c.last_of.ensures

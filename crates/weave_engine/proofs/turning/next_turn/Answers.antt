@@ -15,4 +15,5 @@ returns-clause-turned g c =
     let is : line ≡ line_of h = c.line.ensures.line ∙ ap (λ (x : Held). line_of x) c.hand-hand.ensures.hand in
     let open_ : open_line h ≡ Some line = ap (λ (b : Bool). if b then Some (line_of h) else None) has ∙ ap Some (sym is) in
     turned_told (g.S.Stepper.seat c.args.s.now) (g.S.Stepper.seat c.take_turn.new.s)
-    line c.progress.result.now.actor c.in_ok-turn.turn c.hand-hand.ensures.has open_ (rw (c.progress.ensures, c.hand-hand.ensures.hand) refl) c.in_ok-turn.ensures.turns
+    line c.progress.result.now.actor c.in_ok-turn.turn c.hand-hand.ensures.has open_ (rw (c.progress.ensures, c.hand-hand.ensures.hand) refl)
+    c.in_ok-turn.ensures.turns

@@ -12,12 +12,15 @@ last_answer-answer-requires-clause-answered g c =
 pub returns-in_err-put_answer-in-Done-clause-puts : goal.returns-in_err-put_answer-in-Done-clause-puts
 returns-in_err-put_answer-in-Done-clause-puts g c =
     let p = err_from_is_err_and c.from_residual.result c.from_residual.ensures.1 in
-    rw (p.1, p.2) (stops_done c.in-Some.made c.args.index (world_in c.args.machine.now) (world_in c.turn_on.new.machine) c.last_answer-answer.result.now (g.K.Sink.written c.args.out.now) (g.K.Sink.written c.put_answer.new.out) (string_bytes c.args.waiting.now) (string_bytes c.put_answer.new.waiting)
-    c.in_err-put_answer-in-Done.field-0.0 c.in-Done.is (rw c.in-Some.is at c.in-Ok.ensures.turned) c.last_answer-answer.ensures c.requires.waiting c.in_err-put_answer-in-Done.ensures.bytes)
+    rw (p.1, p.2) (stops_done c.in-Some.made c.args.index (world_in c.args.machine.now) (world_in c.turn_on.new.machine) c.last_answer-answer.result.now
+    (g.K.Sink.written c.args.out.now) (g.K.Sink.written c.put_answer.new.out) (string_bytes c.args.waiting.now) (string_bytes c.put_answer.new.waiting)
+    c.in_err-put_answer-in-Done.field-0.0 c.in-Done.is (rw c.in-Some.is at c.in-Ok.ensures.turned) c.last_answer-answer.ensures c.requires.waiting
+    c.in_err-put_answer-in-Done.ensures.bytes)
 
 pub returns-in_ok-put_answer-in-Done-clause-puts : goal.returns-in_ok-put_answer-in-Done-clause-puts
 returns-in_ok-put_answer-in-Done-clause-puts g c =
-    puts_done c.in-Some.made c.args.index (world_in c.args.machine.now) (world_in c.turn_on.new.machine) c.last_answer-answer.result.now (g.K.Sink.written c.args.out.now) (g.K.Sink.written c.put_answer.new.out) (string_bytes c.args.waiting.now) (string_bytes c.put_answer.new.waiting)
+    puts_done c.in-Some.made c.args.index (world_in c.args.machine.now) (world_in c.turn_on.new.machine) c.last_answer-answer.result.now
+    (g.K.Sink.written c.args.out.now) (g.K.Sink.written c.put_answer.new.out) (string_bytes c.args.waiting.now) (string_bytes c.put_answer.new.waiting)
     c.in-Done.is (rw c.in-Some.is at c.in-Ok.ensures.turned) c.last_answer-answer.ensures c.in_ok-put_answer-in-Done.ensures.bytes
 
 pub returns-in-Wait-clause-puts : goal.returns-in-Wait-clause-puts

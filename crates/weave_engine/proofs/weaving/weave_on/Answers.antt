@@ -33,15 +33,20 @@ returns-in_err-finish-clause-writes g c =
     (rw (c.requires.sizes, c.as_slice-lines.ensures, c.unwrap_or-above.ensures, c.new-waiting.ensures.bytes) at c.in_ok-run_lines.ensures.puts)
     (world_in c.run_items.new.machine) (g.K.Sink.written c.run_items.new.out) (string_bytes c.run_items.new.waiting) (rw (c.run_lines.ensures.same.0, c.requires.sizes, c.as_slice.ensures) at c.in_ok-run_items.ensures.puts)
     (world_in c.run_rounds.new.machine) (g.K.Sink.written c.run_rounds.new.out) (string_bytes c.run_rounds.new.waiting) (rw (c.run_items.ensures.same.0, c.run_lines.ensures.same.0, c.requires.sizes) at c.in_ok-run_rounds.ensures.puts)
-    c.requires.trace.rising c.in_err-finish.field-0.0 (option_copied c.first_open-first.result) (g.K.Sink.written c.finish.new.out) (rw (c.run_rounds.ensures.same.0, c.run_items.ensures.same.0, c.run_lines.ensures.same.0, c.requires.sizes) at c.first_open-first.ensures) c.in_err-finish.ensures.bytes)
+    c.requires.trace.rising c.in_err-finish.field-0.0 (option_copied c.first_open-first.result) (g.K.Sink.written c.finish.new.out)
+    (rw (c.run_rounds.ensures.same.0, c.run_items.ensures.same.0, c.run_lines.ensures.same.0, c.requires.sizes) at c.first_open-first.ensures)
+    c.in_err-finish.ensures.bytes)
 
 pub returns-clause-writes : goal.returns-clause-writes
 returns-clause-writes g c =
-    rw c.open_line.ensures (ends_open c.args.trace.now c.args.limit (world_in c.args.machine.now) c.requires.start (world_in c.run_lines.new.machine) (g.K.Sink.written c.args.out.now) (g.K.Sink.written c.run_lines.new.out) (string_bytes c.run_lines.new.waiting)
+    rw c.open_line.ensures (ends_open c.args.trace.now c.args.limit (world_in c.args.machine.now) c.requires.start (world_in c.run_lines.new.machine)
+    (g.K.Sink.written c.args.out.now) (g.K.Sink.written c.run_lines.new.out) (string_bytes c.run_lines.new.waiting)
     (rw (c.requires.sizes, c.as_slice-lines.ensures, c.unwrap_or-above.ensures, c.new-waiting.ensures.bytes) at c.in_ok-run_lines.ensures.puts)
     (world_in c.run_items.new.machine) (g.K.Sink.written c.run_items.new.out) (string_bytes c.run_items.new.waiting) (rw (c.run_lines.ensures.same.0, c.requires.sizes, c.as_slice.ensures) at c.in_ok-run_items.ensures.puts)
     (world_in c.run_rounds.new.machine) (g.K.Sink.written c.run_rounds.new.out) (string_bytes c.run_rounds.new.waiting) (rw (c.run_items.ensures.same.0, c.run_lines.ensures.same.0, c.requires.sizes) at c.in_ok-run_rounds.ensures.puts)
-    c.requires.trace.rising (option_copied c.first_open-first.result) (g.K.Sink.written c.finish.new.out) (rw (c.run_rounds.ensures.same.0, c.run_items.ensures.same.0, c.run_lines.ensures.same.0, c.requires.sizes) at c.first_open-first.ensures) c.in_ok-finish.ensures.bytes)
+    c.requires.trace.rising (option_copied c.first_open-first.result) (g.K.Sink.written c.finish.new.out)
+    (rw (c.run_rounds.ensures.same.0, c.run_items.ensures.same.0, c.run_lines.ensures.same.0, c.requires.sizes) at c.first_open-first.ensures)
+    c.in_ok-finish.ensures.bytes)
 
 pub run_items-requires-clause-waiting : goal.run_items-requires-clause-waiting
 run_items-requires-clause-waiting g c = c.in_ok-run_lines.ensures.puts.1.3

@@ -38,16 +38,19 @@ returns-in-Some-get-clause-turns g c =
     (rw c.hand-hand.ensures.hand at c.knows.ensures) (rw c.hand-hand.ensures.hand at c.note-note.ensures) in
     change_done c.step.result c.change_place-place.result c.note-note.result (g.S.Stepper.seat c.args.s.now) (g.S.Stepper.seat c.step.new.s)
     L c.step.ensures.makes
-    c.args.self.now.index c.answers.result.now c.in-Some-get.field-0.now c.in_default.is (rw c.hand.ensures.hand at c.answers.ensures) c.requires.next c.in-Some-get.ensures.lookup.3.0 c.in-Some-get.ensures.lookup.1
+    c.args.self.now.index c.answers.result.now c.in-Some-get.field-0.now c.in_default.is (rw c.hand.ensures.hand at c.answers.ensures) c.requires.next
+    c.in-Some-get.ensures.lookup.3.0 c.in-Some-get.ensures.lookup.1
 
 pub returns-in-Some-get-clause-says : goal.returns-in-Some-get-clause-says
 returns-in-Some-get-clause-says g c =
-    turns_say (turn_told (Done tt) (g.S.Stepper.seat c.args.s.now).hand (g.S.Stepper.seat c.step.new.s).hand) (g.S.Stepper.seat c.args.s.now) (g.S.Stepper.seat c.step.new.s) c.requires.left
+    turns_say (turn_told (Done tt) (g.S.Stepper.seat c.args.s.now).hand (g.S.Stepper.seat c.step.new.s).hand) (g.S.Stepper.seat c.args.s.now)
+    (g.S.Stepper.seat c.step.new.s) c.requires.left
     (returns-in-Some-get-clause-turns g c)
 
 pub returns-in-Some-get-clause-hand : goal.returns-in-Some-get-clause-hand
 returns-in-Some-get-clause-hand g c =
-    turns_same (turn_told (Done tt) (g.S.Stepper.seat c.args.s.now).hand (g.S.Stepper.seat c.step.new.s).hand) (g.S.Stepper.seat c.args.s.now) (g.S.Stepper.seat c.step.new.s) (returns-in-Some-get-clause-turns g c)
+    turns_same (turn_told (Done tt) (g.S.Stepper.seat c.args.s.now).hand (g.S.Stepper.seat c.step.new.s).hand) (g.S.Stepper.seat c.args.s.now)
+    (g.S.Stepper.seat c.step.new.s) (returns-in-Some-get-clause-turns g c)
 
 pub returns-in-None-clause-turns : goal.returns-in-None-clause-turns
 returns-in-None-clause-turns g c =
