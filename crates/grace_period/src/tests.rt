@@ -2,6 +2,7 @@
 //! and the manager: their state words are 8 to 11.
 ghost use Rattle.std.specs.Prelude.{◌≡◌, ◌<◌, [], ◌∷◌, IfOk, length};
 ghost use Rattle.core_views.specs.Sizes.{index_of, sizes_of};
+ghost use Rattle.core_views.specs.declared.sizes.LogMode.TheVariants.{Automatic};
 
 use crate::{Watch, begin, end};
 use core_views::{Actor, Header, Lines, NoMemory, Seen, Trace, Words};
@@ -97,7 +98,18 @@ fn header(alloc: Global) -> Result<Header, NoMemory>
 // A machine at its start, with no line.
 #[tactic(auto, using(step_seats::proofs::Starts::one_is_distinct))]
 fn machine(alloc: Global) -> Result<PlainMachine, NoMemory>
-    ensures sizes { IfOk result (λ m. m.sizes ≡ record { pages = 70; frames = 130; words = 2; pool = 4; cache = 64; vcpus = 2; hosts = 1; workers = 0 }) }
+    ensures sizes { IfOk result (λ m. m.sizes ≡ record {
+      pages = 70;
+      frames = 130;
+      words = 2;
+      pool = 4;
+      cache = 64;
+      vcpus = 2;
+      hosts = 1;
+      workers = 0;
+      mode = Automatic;
+      first_pages = 0 ∷ 70 ∷ 70 ∷ 70 ∷ [];
+    }) }
     ensures count { IfOk result (λ m. length m.hands ≡ 4) }
 {
     let trace = Trace::unscheduled(alloc, header(alloc)?, Lines::from_vec(Vec::new(alloc)));
