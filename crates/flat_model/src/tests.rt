@@ -35,6 +35,9 @@ fn answers_line_by_line(rt: HostRuntime) -> Result<(), Fail> {
         (0, 16, 64, false, Answer::Refused(Refusal::Fixed)),
         (31, 32, 64, true, Answer::Done),
     ] {
+        if base >= 1 << 36 || host >= 1 << 36 || host % 64 != 0 {
+            return Err(Fail::new("the slot is out of range"));
+        }
         let slot = Slot {
             base,
             pages: 16,
