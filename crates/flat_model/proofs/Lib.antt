@@ -1,3 +1,8 @@
 pub mod Finds
-pub mod Words
+pub mod Frames
+pub mod HostChangeLines
+pub mod HostFrames
+pub mod HostLines
+pub mod Ranges
 pub mod SlotLines
+pub mod Words

@@ -8,17 +8,19 @@ use Rattle.core_views.specs.declared.trace.Line.{Line}
 use Rattle.core_views.specs.Traces.{IsSlotInRange}
 use Rattle.core_views.specs.declared.sizes.Sizes.{Sizes}
 use Rattle.core_views.specs.SlotSets.{MemorySlots}
-use Rattle.core_views.specs.Host.{own_frames}
 use Rattle.core_views.specs.Memory.{Memory}
 use Rattle.core_views.specs.Flat.{Facts}
 use Rattle.core_views.specs.Events.{facts_after_all}
 use Rattle.core_views.specs.FlatHistory.{alone}
 use Rattle.core_views.specs.Text.{answers_of}
+use Rattle.flat_model.specs.HostPages.{Changed, host_of}
 
--- the machine's sizes, the slots by rising ID, and the words that were written, each at its host page and word
+-- the machine's sizes, the slots by rising ID, the entries of the host pages that a line has changed, and the words that were written, each at its host
+-- page and word
 pub record Kept : Type 0 where
   pub sizes : Sizes
   pub slots : MemorySlots
+  pub changed : Changed
   pub words : List ((ℕ × ℕ) × ℕ)
 
 abbrev pub is_place : ℕ × ℕ → ℕ × ℕ → Bool
@@ -28,15 +30,15 @@ is_place x y = (x.0 == y.0) && (x.1 == y.1)
 abbrev pub memory_of : List ((ℕ × ℕ) × ℕ) → Memory
 memory_of words page word = unwrap_or (lookup (is_place (page, word)) words) 0
 
--- the flat facts that this stands for; each host page is at its own frame, and nothing is paused
+-- the flat facts that this stands for; nothing is paused
 abbrev pub facts_of : Kept → Facts
-facts_of kept = record { slots = kept.slots; host = own_frames; memory = memory_of kept.words; paused = false }
+facts_of kept = record { slots = kept.slots; host = host_of kept.changed; memory = memory_of kept.words; paused = false }
 
--- The command is one of a line of a trace, and its numbers are in their ranges: no trace has lines of hosts.
+-- The command's numbers are in the ranges of a line of a trace, as far as it matters here.
 abbrev pub IsInRange : Command → Type 0
 IsInRange (Access gfn word op) = Unit {0}
 IsInRange (SetSlot id slot) = IsSlotInRange slot
-IsInRange (ChangeHost page change) = ⊥
+IsInRange (ChangeHost page change) = Unit {0}
 
 -- The line, alone on a machine of these sizes, leads from these facts to those, and is answered so.
 pub record GivesLine (z : Sizes) (line : Line) (before after : Facts) (answer : Answer) : Type 0 where

@@ -1,2 +1,4 @@
+pub mod Frames
+pub mod HostPages
 pub mod Kept
 pub mod Steps

@@ -1,16 +1,21 @@
 -- What the interpreter's own steps promise each other.
-use Rattle.std.specs.Prelude.{◌≡◌, ◌+◌, ◌≤◌, ℕ, All, Option, Some, None}
+use Rattle.std.specs.Prelude.{◌≡◌, ◌+◌, ◌≤◌, ℕ, Bool, true, false, All, Option, Some, None}
 use Rattle.std.specs.Map.{values_of}
 use Rattle.core_views.specs.declared.answer.Answer.{Answer}
-use Rattle.core_views.specs.declared.answer.Answer.TheVariants.{Reached, Mmio, Done, Refused}
+use Rattle.core_views.specs.declared.answer.Answer.TheVariants.{Reached, Mmio, HostFault, Done, Refused}
 use Rattle.core_views.specs.declared.answer.Refusal.{Refusal}
+use Rattle.core_views.specs.declared.answer.Refusal.TheVariants.{OutOfRange}
+use Rattle.core_views.specs.declared.host.HostEntry.{HostEntry}
+use Rattle.core_views.specs.declared.trace.HostChange.{HostChange}
 use Rattle.core_views.specs.declared.trace.Op.{Op}
 use Rattle.core_views.specs.declared.trace.Slot.{Slot}
+use Rattle.core_views.specs.Host.{brought_in, is_denied}
 use Rattle.core_views.specs.Memory.{stored, with_word}
 use Rattle.core_views.specs.Slots.{Slots, page_behind}
 use Rattle.core_views.specs.SlotSets.{flat_slots}
 use Rattle.core_views.specs.Refusals.{after_set}
 use Rattle.flat_model.specs.Kept.{Kept, memory_of}
+use Rattle.flat_model.specs.HostPages.{Changes, Maps, host_of}
 
 -- The slot's host pages are among so many.
 pub record IsSlotOf (pages : ℕ) (slot : Slot) : Type 0 where
@@ -25,12 +30,26 @@ abbrev pub SetsSlot : ℕ → Slot → Kept → Kept → Answer → Option Refus
 SetsSlot id slot before after answer (Some refusal) = (answer ≡ Refused refusal) × (after ≡ before)
 SetsSlot id slot before after answer None = (answer ≡ Done) × (after ≡ record before { slots = after_set id slot before.slots })
 
--- An access without its page is an MMIO exit and changes nothing; one with its page gives that word, and a write changes that word alone.
+-- An access of a page that the host forbids leaves the guest and changes nothing; any other gives that word and brings the page in, and a write changes that
+-- word alone.
+abbrev pub AccessesEntry : ℕ → ℕ → Op → Kept → Kept → Answer → HostEntry → Bool → Type 0
+AccessesEntry page word op before after answer entry true = (answer ≡ HostFault) × (after ≡ before)
+AccessesEntry page word op before after answer entry false =
+    (answer ≡ Reached entry.frame (memory_of before.words page word)) × (after.slots ≡ before.slots)
+    × Maps page (brought_in entry) before.changed after.changed
+    × ((p w : ℕ) → memory_of after.words p w ≡ with_word page word (stored op (memory_of before.words page word)) (memory_of before.words) p w)
+
+-- An access without its page is an MMIO exit and changes nothing.
 abbrev pub AccessesPage : ℕ → Op → Kept → Kept → Answer → Option ℕ → Type 0
 AccessesPage word op before after answer None = (answer ≡ Mmio) × (after ≡ before)
 AccessesPage word op before after answer (Some page) =
-    (answer ≡ Reached page (memory_of before.words page word)) × (after.slots ≡ before.slots)
-    × ((p w : ℕ) → memory_of after.words p w ≡ with_word page word (stored op (memory_of before.words page word)) (memory_of before.words) p w)
+    AccessesEntry page word op before after answer (host_of before.changed page) (is_denied op (host_of before.changed page))
 
 abbrev pub Accesses : ℕ → ℕ → Op → Kept → Kept → Answer → Type 0
 Accesses gfn word op before after answer = AccessesPage word op before after answer (page_behind (flat_slots before.slots) gfn op)
+
+-- A change of a page that isn't the actor's own is refused and changes nothing; any other changes that page alone.
+abbrev pub ChangesHost : ℕ → HostChange → Kept → Kept → Answer → Bool → Type 0
+ChangesHost page change before after answer false = (answer ≡ Refused OutOfRange) × (after ≡ before)
+ChangesHost page change before after answer true =
+    Changes before.sizes page change before.changed after.changed answer × (after.slots ≡ before.slots) × (after.words ≡ before.words)

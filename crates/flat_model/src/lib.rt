@@ -2,9 +2,13 @@
 //! the flat history, line by line.
 #![tactic(auto)]
 
+mod free_frames;
+mod host_pages;
 mod plain;
 
 pub use plain::Plain;
 
+#[cfg(test)]
+mod host_tests;
 #[cfg(test)]
 mod tests;

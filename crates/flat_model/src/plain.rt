@@ -1,24 +1,29 @@
 ghost use Rattle.std.specs.Prelude.{◌≡◌, IfOk, OnErr};
 ghost use Rattle.core_views.specs.Sizes.{sizes_of};
 ghost use Rattle.core_views.specs.Flat.{first_facts};
+ghost use Rattle.core_views.specs.HostChanges.{is_own};
 ghost use Rattle.core_views.specs.Refusals.{set_refusal};
 ghost use Rattle.core_views.specs.Slots.{page_behind};
 ghost use Rattle.core_views.specs.SlotSets.{flat_slots};
 ghost use Rattle.core_views.specs.Traces.{IsSlotInRange};
 ghost use Rattle.flat_model.specs.Kept.{GivesLine, IsInRange, facts_of};
-ghost use Rattle.flat_model.specs.Steps.{Accesses, SetsSlot};
+ghost use Rattle.flat_model.specs.Steps.{Accesses, ChangesHost, SetsSlot};
 
-use core_views::{Answer, Command, Line, NoMemory, Op, Sizes, Slot, SlotSet, Trace};
+use crate::host_pages::HostPages;
+use core_views::{
+    Actor, Answer, Command, HostChange, Line, NoMemory, Op, Refusal, Sizes, Slot, SlotSet, Trace,
+};
 use std::alloc::Global;
 use std::collections::HashMap;
 use std::marker::Model;
 
-/// Flat guest memory, as it is after some lines of a trace: its slots,
-/// and the content words that were written, by host page and word.
+/// Flat guest memory, as it is after some lines of a trace: its slots, what the
+/// host maps its pages to, and the content words that were written, by host page
+/// and word.
 #[derive(Drop)]
 pub struct Plain {
-    sizes: Sizes,
     slots: SlotSet,
+    host: HostPages,
     memory: HashMap<(u64, u8), u64>,
 }
 
@@ -30,9 +35,9 @@ impl Model for Plain {
 
     ghost Value = { Kept };
 
-    ghost view = { λ p. record { sizes = p.sizes; slots = p.slots; words = p.memory.entries } };
+    ghost view = { λ p. record { sizes = p.host.sizes; slots = p.slots; changed = p.host.changed; words = p.memory.entries } };
 
-    ghost invariant = { λ p. (p.sizes.pages < 2 ^ 64) × AreSlotsOf p.sizes.pages (flat_slots p.slots) };
+    ghost invariant = { λ p. (p.host.sizes.pages < 2 ^ 64) × AreSlotsOf p.host.sizes.pages (flat_slots p.slots) };
 }
 
 impl Plain {
@@ -42,8 +47,8 @@ impl Plain {
         ensures sizes { IfOk result (λ plain. plain.sizes ≡ sizes_of trace.now.header) }
     {
         Ok(Plain {
-            sizes: Sizes::of(&trace.header),
             slots: SlotSet::empty(),
+            host: HostPages::at_start(alloc, Sizes::of(&trace.header)),
             memory: HashMap::new(alloc),
         })
     }
@@ -59,7 +64,7 @@ impl Plain {
         match line.command {
             Command::Access { gfn, word, op } => self.access(gfn, word, op),
             Command::SetSlot { id, slot } => Ok(self.set_slot(id, slot)),
-            Command::ChangeHost { .. } => unreachable!(),
+            Command::ChangeHost { page, change } => self.change_host(line.actor, page, change),
         }
     }
 
@@ -74,7 +79,7 @@ impl Plain {
             host,
             read_only,
         } = slot;
-        let total = self.sizes.pages;
+        let total = self.host.sizes().pages;
         if let Err(refusal) = self.slots.set(id, base, pages, host, read_only, total) {
             return Answer::Refused(refusal);
         }
@@ -89,11 +94,38 @@ impl Plain {
         let Some(page) = self.page_behind(gfn, op) else {
             return Ok(Answer::Mmio);
         };
+        let entry = self.host.entry_of(page);
+        if op.is_write() && !entry.writable {
+            return Ok(Answer::HostFault);
+        }
         let value = self.memory.get(&(page, word)).copied().unwrap_or(0);
         if op.is_write() {
             self.memory.insert((page, word), op.stored(value))?;
         }
-        Ok(Answer::Reached { frame: page, value })
+        self.host.bring_in(page);
+        Ok(Answer::Reached {
+            frame: entry.frame,
+            value,
+        })
+    }
+
+    // Changes the host page, if it is one of the actor's own.
+    fn change_host(
+        &mut self,
+        actor: Actor,
+        page: u64,
+        change: HostChange,
+    ) -> Result<Answer, NoMemory>
+        ensures changes { IfOk result (λ answer. ChangesHost page change self.old self.new answer (is_own self.old.sizes actor page)) }
+        ensures kept { OnErr result (self.new ≡ self.old) }
+        ensures sizes { self.new.sizes ≡ self.old.sizes }
+    {
+        match actor {
+            Actor::Host(host) if self.host.sizes().owns(host, page) => {
+                self.host.change(page, change)
+            }
+            _ => Ok(Answer::Refused(Refusal::OutOfRange)),
+        }
     }
 
     // The host page that the slots give the guest frame for this operation.

@@ -1,24 +1,36 @@
-use Rattle.std.proofs.Common.{◌≡◌, ◌∙◌, ℕ, Some, ap, subst, refl, rules}
+use Rattle.std.proofs.Common.{◌≡◌, ◌∙◌, ◌&&◌, not, ℕ, Some, false, ap, ap₂, subst, sym, refl, rules}
+use Rattle.core_views.specs.Host.{is_denied}
 use Rattle.core_views.specs.Memory.{stored, with_word}
 use Rattle.core_views.specs.Slots.{page_behind}
-use Rattle.core_views.specs.declared.answer.Answer.TheVariants.{Reached}
 use Rattle.core_views.specs.SlotSets.{flat_slots}
 use Rattle.flat_model.specs.Kept.{Kept, memory_of}
-use Rattle.flat_model.specs.Steps.{Accesses}
-use Rattle.flat_model.proofs.Words.{reached, written}
+use Rattle.flat_model.proofs.Words.{reached, unwritten, written}
 use Rattle.flat_model.proofs.plain.Plain.access.Goals as goal
+use Rattle.flat_model.proofs.plain.Plain.access.Goals.{else-is_write-via-then-is_write+else-not-entry, else-is_write-via-else-is_write, then-is_write-2+in_ok-insert, else-is_write-2}
 
-pub returns-in_ok-insert-clause-reached : goal.returns-in_ok-insert-clause-reached
-returns-in_ok-insert-clause-reached c =
+pub returns-clause-reached : goal.returns-clause-reached
+returns-clause-reached c =
     let page = c.in-Some.page in
     let word = c.args.word in
     let op = c.args.op in
-    let before : Kept = record { sizes = c.self.inside.sizes; slots = c.self.inside.slots; words = c.self.inside.memory.entries } in
-    let after : Kept = record before { words = c.insert.new.self.entries } in
+    let entry = c.entry_of-entry.result in
+    let value = c.unwrap_or-value.result in
+    let before : Kept = record { sizes = c.self.inside.host.sizes; slots = c.self.inside.slots; changed = c.self.inside.host.changed; words = c.self.inside.memory.entries } in
     let behind : Some page ≡ page_behind (flat_slots before.slots) c.args.gfn op = rw (← c.self.view_is) at c.in-Some.ensures in
-    let value : c.unwrap_or-value.result ≡ memory_of before.words page word = search rules in
-    let new : c.stored.result ≡ stored op (memory_of before.words page word) = c.stored.ensures ∙ ap (stored op) value in
-    let words = subst (λ (x : ℕ). (p w : ℕ) → memory_of after.words p w ≡ with_word page word x (memory_of before.words) p w) new
-    (written page word c.stored.result before.words after.words c.in_ok-insert.ensures.updates.0) in
-    subst (λ (k : Kept). Accesses c.args.gfn word op k after (Reached page c.unwrap_or-value.result)) c.self.view_is
-    (reached c.args.gfn word op before after page c.unwrap_or-value.result behind value refl words)
+    let value_is : value ≡ memory_of before.words page word = search rules in
+    let allows : is_denied op entry ≡ false = elim c.else-is_write.branch [
+      | else-is_write-via-then-is_write+else-not-entry w ↦ ap₂ (λ a b. a && b) (sym w.if-is_write.ensures) w.if-not-entry.false
+      | else-is_write-via-else-is_write w ↦ ap (λ a. a && not entry.writable) (sym w.if-is_write.ensures)
+    ] in
+    rw (← c.self.view_is) (elim c.if-is_write-2.branch [
+      | then-is_write-2+in_ok-insert w ↦
+          let new : w.stored.result ≡ stored op (memory_of before.words page word) = w.stored.ensures ∙ ap (stored op) value_is in
+          let words = subst (λ (x : ℕ). (p q : ℕ) → memory_of w.insert.new.self.entries p q ≡ with_word page word x (memory_of before.words) p q) new
+          (written page word w.stored.result before.words w.insert.new.self.entries w.in_ok-insert.ensures.updates.0) in
+          rw w.self-inside-is (reached c.args.gfn word op before _ page value entry behind c.entry_of-entry.ensures allows value_is refl
+          (rw w.self-inside-is at c.bring_in.ensures.present) words)
+      | else-is_write-2 w ↦
+          rw w.self-inside-is (reached c.args.gfn word op before _ page value entry behind c.entry_of-entry.ensures allows value_is refl
+          (rw w.self-inside-is at c.bring_in.ensures.present)
+          (unwritten op (memory_of before.words) page word (sym w.if-is_write-2.ensures)))
+    ])

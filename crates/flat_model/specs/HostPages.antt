@@ -1,0 +1,53 @@
+-- What the host maps its pages to, as the interpreter keeps it, and what changes it.
+use Rattle.std.specs.Prelude.{◌≡◌, ◌<◌, ◌==◌, ℕ, List, true, false, not, Option, Some, None, unwrap_or}
+use Rattle.std.specs.Map.{lookup}
+use Rattle.std.specs.Option.{option_map}
+use Rattle.core_views.specs.declared.answer.Answer.{Answer}
+use Rattle.core_views.specs.declared.answer.Answer.TheVariants.{Refused}
+use Rattle.core_views.specs.declared.answer.Refusal.TheVariants.{NoFrame}
+use Rattle.core_views.specs.declared.host.HostEntry.{HostEntry}
+use Rattle.core_views.specs.declared.sizes.Sizes.{Sizes}
+use Rattle.core_views.specs.declared.trace.Command.TheVariants.{ChangeHost}
+use Rattle.core_views.specs.declared.trace.HostChange.{HostChange}
+use Rattle.core_views.specs.declared.trace.HostChange.TheVariants.{Move, Evict, Protect, Allow}
+use Rattle.core_views.specs.Host.{HostMap, mapping, own_frames}
+use Rattle.core_views.specs.HostChanges.{host_answer, is_taken, lowest_free}
+use Rattle.flat_model.specs.Frames.{Frames, is_free}
+
+-- the entries of the pages that a line has changed
+abbrev pub Changed : Type 0
+Changed = List (ℕ × HostEntry)
+
+-- the machine's sizes, and those entries
+pub record HostKept : Type 0 where
+  pub sizes : Sizes
+  pub changed : Changed
+
+-- A page that no line has changed is mapped as at the start.
+abbrev pub host_of : Changed → HostMap
+host_of changed page = unwrap_or (lookup (λ other. page == other) changed) (own_frames page)
+
+-- Those frames are free that none of the machine's pages names, and no two of its pages name one.
+pub record AreFree (pages : ℕ) (host : HostMap) (frames : Frames) : Type 0 where
+  pub free : (frame : ℕ) → is_free frames frame ≡ not (is_taken pages host frame)
+  pub apart : (page other : ℕ) → page < pages → other < pages → (host page).frame ≡ (host other).frame → page ≡ other
+
+-- The page has this entry then, and each other page the one that it had.
+abbrev pub Maps : ℕ → HostEntry → Changed → Changed → Type 0
+Maps page entry before after = (other : ℕ) → host_of after other ≡ mapping page entry (host_of before) other
+
+-- the entry that the change gives the page: none where a move finds no frame
+abbrev pub entry_after : Sizes → HostMap → ℕ → HostChange → Option HostEntry
+entry_after z host page Move = option_map (λ frame. record (host page) { frame = frame }) (lowest_free z host)
+entry_after z host page Evict = Some (record (host page) { present = false })
+entry_after z host page Protect = Some (record (host page) { writable = false })
+entry_after z host page Allow = Some (record (host page) { writable = true })
+
+-- The page gets this entry, and the change is answered so; without one it is refused, and changes nothing.
+abbrev pub ChangesTo : ℕ → HostChange → Changed → Changed → Answer → Option HostEntry → Type 0
+ChangesTo page change before after answer None = (answer ≡ Refused NoFrame) × (after ≡ before)
+ChangesTo page change before after answer (Some entry) = (answer ≡ host_answer (ChangeHost page change) entry) × Maps page entry before after
+
+-- On a machine of these sizes the change of the page leads from these entries to those, and is answered so.
+abbrev pub Changes : Sizes → ℕ → HostChange → Changed → Changed → Answer → Type 0
+Changes z page change before after answer = ChangesTo page change before after answer (entry_after z (host_of before) page change)
