@@ -1,4 +1,4 @@
--- Each delay of a line has its cause: it waits or begins its fault anew, and each of these has one.
+-- Each delay of a line has its cause: it waits, begins its fault anew or misses an installed entry, and each of these has one.
 use Rattle.std.proofs.Common.{◌≡◌, ◌⊎◌, inl, inr, ◌<◌, ℕ, List, [], ◌∷◌, ◌++◌, refl, sym, subst, ap}
 use Rattle.std.specs.Prelude.{true}
 use Rattle.core_views.specs.declared.kind.Kind.{Kind}
@@ -26,21 +26,22 @@ use Rattle.mmu_core.specs.machine.Steps.{has_line}
 use Rattle.mmu_laws.specs.causes.Waits.{SawNothing, StepWaitIsCaused}
 use Rattle.mmu_core.specs.machine.View.{view}
 use Rattle.mmu_core.proofs.invariant.PartBounded.{part_rests_at}
-use Rattle.mmu_core.specs.machine.Worlds.{Reachable}
 use Rattle.mmu_core.specs.machine.Turns.{line_of}
+use Rattle.mmu_laws.specs.turns.Removal.{StayMisses}
+use Rattle.mmu_laws.specs.turns.TurnLaws.{is_counted}
+use Rattle.core_theorem.proofs.TakenAway.{misses_entry}
 use Rattle.mmu_laws.proofs.causes.Causes.{faults_begin_anew_by_cause}
 use Rattle.mmu_laws.proofs.causes.EachFault.{is_access}
-use Rattle.mmu_core.proofs.machine.Extend.{leads_to_end, then}
 use Rattle.mmu_laws.proofs.causes.SawNothing.{between_lines_saw_nothing, line_left_before, starts_saw_nothing as seen_at_start}
 use Rattle.mmu_laws.proofs.causes.StarvedScan.{legal_parts}
 use Rattle.mmu_core.proofs.start.Starts.{hand_is}
-use Rattle.mmu_laws.proofs.turns.DelayCases.{delays_wait_or_begin_anew}
+use Rattle.mmu_laws.proofs.turns.DelayCases.{delays_since}
 use Rattle.mmu_laws.proofs.causes.StepWaits.{step_waits_are_by_cause}
 use Rattle.mmu_laws.proofs.causes.WaitsSee.{waits_see_another as step_waits_see_another}
 use Rattle.mmu_core.proofs.lines.LineWaits.{WaitsAs, line_waits_as}
 use Rattle.mmu_core.proofs.machine.Which.{is_next}
 use Rattle.mmu_core.proofs.machine.Worlds.{good_run}
-use Rattle.core_theorem.specs.Delays.{BeginsAnew, BetweenLinesSawNothing, DelaysHaveCauses, StartsSawNothing, StepWaits, WaitsHaveCauses, WaitsInRunsSeeAnother}
+use Rattle.core_theorem.specs.Delays.{BeginsAnew, BetweenLinesSawNothing, DelaysHaveCauses, MissesEntry, StartsSawNothing, StepWaits, WaitsHaveCauses, WaitsInRunsSeeAnother}
 use Rattle.core_theorem.specs.Delays.{answer_of, hand_of}
 use Rattle.core_theorem.specs.Runs.{IsRun}
 use Rattle.core_theorem.proofs.Runs.{before, may_last, reached, sound}
@@ -98,10 +99,6 @@ module _ (z : Sizes) (lines : List Line) (w : World Held) (ss ts : List (Step Ki
   there : s.actor < actors_of z
   there = subst (λ n. s.actor < n) last_good.hands may.there
 
-  reached_last : Reachable (run mmu u ts)
-  reached_last =
-      record { sizes = z; lines = lines; start = w; is_start = R.start; leads = then mmu w u (run mmu u ts) (leads_to_end mmu w ss parts.0) (leads_to_end mmu u ts since.0) }
-
   known : KnowsPart h.state.place h.state.line.command h
   known = last_good.holds.knows s.actor there
 
@@ -126,13 +123,20 @@ module _ (z : Sizes) (lines : List Line) (w : World Held) (ss ts : List (Step Ki
         caused = faults_begin_anew_by_cause z u ts s.actor A.gfn A.word A.op N.cause good since.0 idle N.is A.command;
       }
 
+  abbrev pub Caused : Type 0
+  Caused = BeginsAnew z u ts s ⊎ StepWaits z u ts s ⊎ MissesEntry z u ts s
+
   by : has_line h ≡ true → (hand_in mmu u s.actor).state.place ≡ place.Between
-      → (line_waits h.state.place (line_of h).command h v ≡ true) ⊎ (begins_anew h.state.place ≡ true) → BeginsAnew z u ts s ⊎ StepWaits z u ts s
+      → (line_waits h.state.place (line_of h).command h v ≡ true) ⊎ (begins_anew h.state.place ≡ true) ⊎ StayMisses z u ts s → Caused
   by has idle (inl is) =
       let had = line_left_before z u ts s.actor good since.0 has in
       let N = between_lines_saw_nothing u s.actor (reached z lines w ss up_to) (subst (λ n. s.actor < n) (sym good.hands) there) had idle in
-      inr (waiting N (line_waits_as h s.kind v (is_next h s.kind may.enabled has) is))
-  by has idle (inr is) = inl (beginning idle (new_beginning h.state.place is))
+      inr (inl (waiting N (line_waits_as h s.kind v (is_next h s.kind may.enabled has) is)))
+  by has idle (inr (inl is)) = inl (beginning idle (new_beginning h.state.place is))
+  by has idle (inr (inr M)) = inr (inr (misses_entry z u ts s good since.0 M))
+
+  pub is_caused : (hand_in mmu u s.actor).state.place ≡ place.Between → has_line h ≡ true → is_counted (run mmu u ts) s ≡ true → Caused
+  is_caused idle has delays = by has idle (delays_since z u ts s good idle parts.1 has delays)
 
 pub waits_have_causes : WaitsHaveCauses
 waits_have_causes z lines w ss ts s step note R N is needs waits = wait_is_caused z lines w ss ts s R step note N is needs waits
@@ -145,8 +149,7 @@ waits_see_another z lines w ss s step note R is needs waits =
     step_waits_see_another step (hand_of w ss s) (answer_of w ss s) rests needs waits
 
 pub delays_have_causes : DelaysHaveCauses
-delays_have_causes z lines w ss ts s R idle has delays =
-    by z lines w ss ts s R has idle (delays_wait_or_begin_anew (run mmu (run mmu w ss) ts) s (reached_last z lines w ss ts s R) (may z lines w ss ts s R) has delays)
+delays_have_causes z lines w ss ts s R idle has delays = is_caused z lines w ss ts s R idle has delays
 
 -- ---- what an actor has seen at the start, and between its lines
 

@@ -4,6 +4,7 @@ pub mod SamePages
 pub mod Holdings
 pub mod SetsCleared
 pub mod Runs
+pub mod TakenAway
 pub mod Turns
 pub mod AllTurns
 pub mod LineCounts

@@ -1,4 +1,5 @@
 -- Where a slot line is about to give the old slot set's page back, the page's role is cleared.
+use Rattle.core_views.specs.SlotCommands.{changes_slot}
 use Rattle.std.proofs.Common.{◌≡◌, ◌≢◌, ◌⊎◌, inl, inr, ◌<◌, ℕ, List, refl, sym, subst, ap, ◌∙◌, arith}
 use Rattle.std.specs.Prelude.{Bool, true, false, ◌+◌, ◌==◌, nat_lt, Option, Some, None, is_some}
 use Rattle.core_views.specs.declared.kind.Kind.{Kind}
@@ -11,7 +12,7 @@ use Rattle.core_views.specs.declared.place.SlotChangePlace.TheVariants.{Claim, F
 use Rattle.core_views.specs.declared.sizes.Sizes.{Sizes}
 use Rattle.core_views.specs.declared.topics.Topics.{Topics}
 use Rattle.core_views.specs.declared.trace.Command.{Command}
-use Rattle.core_views.specs.declared.trace.Command.TheVariants.{Access}
+use Rattle.core_views.specs.declared.trace.Command.TheVariants.{Access, ChangeHost}
 use Rattle.core_views.specs.declared.trace.Line.{Line}
 use Rattle.core_views.specs.declared.trace.Op.{Op}
 use Rattle.core_views.specs.declared.trace.Op.TheVariants.{Read}
@@ -40,7 +41,7 @@ use Rattle.mmu_core.specs.lines.SlotChangeSteps.{after_set_claim, watch_next, sl
 use Rattle.mmu_core.specs.machine.Steps.{has_line, line_at, place_at, task_of}
 use Rattle.mmu_core.specs.lines.SlotChangeKnows.{SlotChangeKnows}
 use Rattle.mmu_core.specs.invariant.TopicsInvariant.{TopicsInvariant}
-use Rattle.mmu_core.specs.machine.View.{View, answer_in, part_stepped, stepped, upd, view, word_in, words_after}
+use Rattle.mmu_core.specs.machine.View.{View, answer_in, part_stepped, stepped, upd, view, word_in, words_after, hand_after}
 use Rattle.mmu_laws.proofs.causes.Changes.{of_each_list}
 use Rattle.mmu_core.proofs.machine.Columns.{same_or, upd_other, upd_same}
 use Rattle.mmu_core.proofs.pages.OwnedBehind.{left_is}
@@ -52,7 +53,7 @@ use Rattle.mmu_core.proofs.start.Starts.{hand_is, start_good}
 use Rattle.mmu_core.proofs.lines.StepIn.{StepIn, Makes, Touches, step_in}
 use Rattle.mmu_core.proofs.machine.Stepping.{IsStep}
 use Rattle.mmu_core.proofs.machine.Which.{has_line_is, is_next}
-use Rattle.mmu_core.proofs.machine.Worlds.{Takes, TakesPart, good_step, takes, view_small}
+use Rattle.mmu_core.proofs.machine.Worlds.{Takes, TakesPart, good_step, takes, are_small}
 use Rattle.core_theorem.specs.Holdings.{ReturnedSetsAreCleared}
 use Rattle.core_theorem.specs.Runs.{IsRun}
 use Rattle.core_theorem.proofs.Runs.{before, last_actor, may_last, sound}
@@ -75,7 +76,7 @@ gives_old z u G s page there may gives left =
     old Release command K L e = absurd (omega (arith, e))
     old Watch command K L e = absurd (omega (arith, e))
     old Clear command K L e = absurd (omega (arith, e))
-    old _ command K L e = let none = L refl in absurd (cc (none, left))
+    old _ command K L e = let none = L.leaves refl in absurd (cc (none, left))
 
     by : (p : Place) (c : Command) → h.state.place ≡ p → h.state.line.command ≡ c → KnowsPart p c h → LeavesPart p h.topics → UnderWay p h
         → (h.state.place ≡ place.SlotChange Give) × MayGiveOld h
@@ -84,7 +85,7 @@ gives_old z u G s page there may gives left =
         let task : task_of h ≡ slot_change_task p h command = ap (λ q. task_at (place_at q h) (line_at q h).command h) at ∙ ap (λ c. task_at (place.SlotChange p) c h) is in
         let there_now = old p command K.1 L (ap (λ (t : Task). code_of t.kind) (sym task) ∙ (sym (ap (λ (k : Kind). k.code) N.is) ∙ gives)) in
         (at ∙ there_now.0, there_now.1)
-    by _ c at is K L U = let none = L refl in absurd (cc (none, left))
+    by _ c at is K L U = let none = L.leaves refl in absurd (cc (none, left))
 
 -- ---- its role
 
@@ -138,10 +139,19 @@ module _ (words : Area → ℕ → ℕ) (h : Held) (command : Command) (x : ℕ)
       ∙ upd_same (words area.Role) (page_left h.topics.leaving) 0
   change_cleared p = no_give (role_behind p) x (topics_behind p) p h refl
 
--- An access stands at no place of a slot line.
-access_cleared : (role : ℕ → ℕ) (q : Place) (gfn word : ℕ) (op : Op) (h : Held) → KnowsPart q (Access gfn word op) h → PlaceCleared role q h.topics
-access_cleared role (place.SlotChange q) gfn word op h K = absurd (cc K.0)
-access_cleared role _ gfn word op h K = tt
+-- A line that changes no slot stands at no place of a slot line.
+other_cleared : (role : ℕ → ℕ) (q : Place) (c : Command) (h : Held) → changes_slot c ≡ false → KnowsPart q c h → PlaceCleared role q h.topics
+other_cleared role (place.SlotChange q) c h none K = let changes = K.0 in absurd (cc (changes, none))
+other_cleared role _ c h none K = tt
+
+-- So it is after its step.
+not_cleared : (z : Sizes) (v : View) (a : ℕ) (line : Line) (c : Command) (p : Place) → changes_slot c ≡ false → IsStep z v a line c p
+    → Invariant z (stepped a line c p v) → (stepped a line c p v).hand a ≡ hand_after line c p (v.hand a) (answer_in (task_at p c (v.hand a)) v.words)
+    → HandCleared (stepped a line c p v) a
+not_cleared z v a line c p none S after same =
+    let w : View = stepped a line c p v in
+    let command : (w.hand a).state.line.command ≡ c = ap (λ (h : Held). h.state.line.command) same ∙ S.command_is in
+    other_cleared (w.words area.Role) (w.hand a).state.place c (w.hand a) none (subst (λ c. KnowsPart (w.hand a).state.place c (w.hand a)) command (after.knows a S.there))
 
 own_cleared : (z : Sizes) (v : View) (a : ℕ) (line : Line) (c : Command) (p : Place) → IsStep z v a line c p → Invariant z (stepped a line c p v)
     → HandCleared (stepped a line c p v) a
@@ -151,9 +161,9 @@ own_cleared z v a line command (place.SlotChange p) S after =
     (change_cleared v.words (v.hand a) command (answer_in (slot_change_task p (v.hand a) command) v.words) p)
 own_cleared z v a line command place.Between S after = absurd S.begun
 own_cleared z v a line (Access gfn word op) (place.Access p) S after =
-    let w : View = stepped a line (Access gfn word op) (place.Access p) v in
-    let command : (w.hand a).state.line.command ≡ Access gfn word op = ap (λ (h : Held). h.state.line.command) (upd_same v.hand a _) ∙ S.command_is in
-    access_cleared (w.words area.Role) (w.hand a).state.place gfn word op (w.hand a) (subst (λ c. KnowsPart (w.hand a).state.place c (w.hand a)) command (after.knows a S.there))
+    not_cleared z v a line (Access gfn word op) (place.Access p) refl S after (upd_same v.hand a _)
+own_cleared z v a line (ChangeHost page change) (place.Host p) S after =
+    not_cleared z v a line (ChangeHost page change) (place.Host p) refl S after (upd_same v.hand a _)
 own_cleared z v a line _ _ S after = absurd S.holds
 
 -- ---- another actor's step
@@ -217,7 +227,7 @@ module _ (z : Sizes) (u : World Held) (s : Step Kind) (G : IsSound z u) (may : M
       after = stepped s.actor line line.command p (view z u)
 
       makes : StepIn z (view z u) s.actor (task_at p line.command h)
-      makes = step_in z (view z u) s.actor line line.command p (view_small z u G.small) T.is_step G.holds G.topics
+      makes = step_in z (view z u) s.actor line line.command p (are_small z u G) T.is_step G.holds G.topics
 
       by : (i ≡ s.actor) ⊎ (i ≢ s.actor) → HandCleared after i
       by (inl own) =

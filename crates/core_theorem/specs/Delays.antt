@@ -1,10 +1,11 @@
 -- Why a fault begins anew, why a step waits and why a line is starved, in every run.
-use Rattle.std.specs.Prelude.{◌≡◌, ◌⊎◌, ◌<◌, ℕ, List, [], ◌∷◌, ◌++◌, true}
+use Rattle.std.specs.Prelude.{◌≡◌, ◌≢◌, ◌⊎◌, ◌<◌, ℕ, Bool, List, [], ◌∷◌, ◌++◌, true}
 use Rattle.core_views.specs.declared.answer.Answer.TheVariants.{Starved}
 use Rattle.core_views.specs.declared.kind.Kind.{Kind}
 use Rattle.core_views.specs.declared.place.AccessPlace.TheVariants as access
 use Rattle.core_views.specs.declared.place.Cause.{Cause}
 use Rattle.core_views.specs.declared.place.FaultEnd.TheVariants.{Retry}
+use Rattle.core_views.specs.declared.place.Leaving.TheVariants as leaving
 use Rattle.core_views.specs.declared.place.FaultPlace.TheVariants.{End}
 use Rattle.core_views.specs.declared.place.Place.TheVariants.{Between}
 use Rattle.core_views.specs.declared.place.Place.TheVariants as place
@@ -14,11 +15,12 @@ use Rattle.core_views.specs.declared.trace.Line.{Line}
 use Rattle.core_views.specs.declared.trace.Op.{Op}
 use Rattle.core_views.specs.Held.{Held}
 use Rattle.core_views.specs.Sizes.{actors_of}
+use Rattle.core_views.specs.Slots.{is_write}
 use Rattle.spte_words.specs.Areas.{words_of_bits}
 use Rattle.part_steps.specs.declared.part_step.PartStep.{PartStep}
 use Rattle.part_steps.specs.PartTasks.{part_kind}
 use Rattle.part_steps.specs.PartSteps.{PartNeeds}
-use Rattle.mmu_core.specs.declared.outcome.Outcome.TheVariants.{Ends}
+use Rattle.mmu_core.specs.declared.outcome.Outcome.TheVariants.{Ends, Goes}
 use Rattle.mmu_laws.specs.causes.Causes.{IsCaused}
 use Rattle.mmu_core.specs.machine.Enabled.{mmu}
 use Rattle.mmu_core.specs.machine.Machine.{Step, World, answered, hand_in, run}
@@ -26,6 +28,8 @@ use Rattle.mmu_core.specs.lines.PartWaits.{SawAnother, part_seen, part_waits}
 use Rattle.mmu_core.specs.invariant.Scans.{EndsWithScan}
 use Rattle.mmu_core.specs.machine.Steps.{delays_at, has_line, place_at}
 use Rattle.mmu_core.specs.machine.Turns.{line_of, outcome_of}
+use Rattle.mmu_laws.specs.turns.Breaking.{TakesLeaf}
+use Rattle.mmu_laws.specs.turns.Removal.{StandsSinceFault, Throughout}
 use Rattle.mmu_laws.specs.causes.Waits.{SawNothing, StepWaitIsCaused}
 use Rattle.core_theorem.specs.Runs.{IsRun}
 
@@ -93,6 +97,28 @@ pub record StepWaits (z : Sizes) (w : World Held) (ss : List (Step Kind)) (s : S
   pub waits : part_waits step (hand_of w ss s).topics (answer_of w ss s) ≡ true
   pub caused : StepWaitIsCaused step z w ss s
 
+-- Since the fault of the actor's access of this guest frame began, another actor took an entry of the guest frame away: with this step it found a leaf
+-- there and left none. From before it on, up to the last of the steps, the actor's line stood in this fault, or in the stay in the guest after it.
+pub record WasTakenAway (z : Sizes) (actor gfn : ℕ) (write : Bool) (w : World Held) (ss : List (Step Kind)) : Type 0 where
+  pub earlier : List (Step Kind)
+  pub takes : Step Kind
+  pub later : List (Step Kind)
+  pub are : ss ≡ earlier ++ takes ∷ later
+  pub by_other : takes.actor ≢ actor
+  pub is : TakesLeaf z gfn (run mmu w earlier) takes
+  pub stood : Throughout (StandsSinceFault actor gfn write) (run mmu w earlier) (takes ∷ later)
+
+-- The step is one of the stay after a fault that has installed an entry, and finds no translation that allows the access: it leaves the guest for another
+-- fault. Since the fault began, in the steps before it, an entry of the guest frame was taken away; whether this is why the stay finds none isn't said.
+pub record MissesEntry (z : Sizes) (w : World Held) (ss : List (Step Kind)) (s : Step Kind) : Type 0 where
+  pub gfn : ℕ
+  pub word : ℕ
+  pub op : Op
+  pub at : (hand_of w ss s).state.place ≡ place.Access (access.Walk true)
+  pub access_is : (hand_of w ss s).state.line.command ≡ Access gfn word op
+  pub misses : outcome_of (hand_of w ss s) (answer_of w ss s) ≡ Goes (place.Access (access.Leave leaving.Faults))
+  pub taken : WasTakenAway z s.actor gfn (is_write op) w ss
+
 -- The hand counts its step, with this answer, as a delay of its line.
 abbrev pub IsDelay : Held → ℕ → Type 0
 IsDelay h v = delays_at (place_at h.state.place h) (line_of h).command h v ≡ true
@@ -104,7 +130,7 @@ DelaysHaveCauses =
     (z : Sizes) (lines : List Line) (w : World Held) (ss ts : List (Step Kind)) (s : Step Kind) → IsRun z lines w (ss ++ (ts ++ s ∷ []))
     → (hand_in mmu (run mmu w ss) s.actor).state.place ≡ Between → has_line (hand_of (run mmu w ss) ts s) ≡ true
     → IsDelay (hand_of (run mmu w ss) ts s) (answer_of (run mmu w ss) ts s)
-    → BeginsAnew z (run mmu w ss) ts s ⊎ StepWaits z (run mmu w ss) ts s
+    → BeginsAnew z (run mmu w ss) ts s ⊎ StepWaits z (run mmu w ss) ts s ⊎ MissesEntry z (run mmu w ss) ts s
 
 -- From any moment on in which no line of an actor is under way, so from the one at which its line begins: a step that answers the line
 -- starved ends a scan of the whole map by the line's actor since that moment, which found no page free in any of its words.

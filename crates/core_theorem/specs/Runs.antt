@@ -1,5 +1,5 @@
 -- A run of the machine: what it tells, and what its words stand for.
-use Rattle.std.specs.Prelude.{◌≡◌, ◌<◌, ℕ, List, true}
+use Rattle.std.specs.Prelude.{◌≡◌, ◌<◌, ℕ, List}
 use Rattle.core_views.specs.declared.kind.Kind.{Kind}
 use Rattle.core_views.specs.declared.sizes.Sizes.{Sizes}
 use Rattle.core_views.specs.declared.trace.Line.{Line}
@@ -28,7 +28,7 @@ TellsLawfully = (z : Sizes) (lines : List Line) (w : World Held) (ss : List (Ste
 -- the host maps its page to.
 pub record StandsForFacts (z : Sizes) (w : World Held) (f : Facts) : Type 0 where
   pub refines : Refines z (word_in z w area.Slots 0) (word_in z w area.Pool) (word_in z w area.Content) (word_in z w area.Pause 0) f
-  pub host : (page : ℕ) → page < z.pages → word_in z w area.Host page ≡ host_word (f.host page).frame true (f.host page).writable 1
+  pub host : (page : ℕ) → page < z.pages → word_in z w area.Host page ≡ host_word (f.host page).frame (f.host page).present (f.host page).writable 1
 
 -- The words after a run stand for the facts that its history gives.
 abbrev pub WordsStandForFacts : Type 0

@@ -39,16 +39,20 @@ ghost use Rattle.core_theorem.specs.Walks.{WalksHoldTables};
 /// `begins_anew`, `waits`, `starved`: what stood in the way of a fault, and of each step
 /// that waits, whoever makes it, was another actor's, an open invalidation, or that each
 /// word of the pool's map was found with no page free since the line began; `delays`: so
-/// it is with each step that is counted as a delay of its line, since that line began.
+/// it is with each step that is counted as a delay of its line, since that line began, or
+/// this step is one of the stay in the guest after a fault that installed an entry, and
+/// finds no translation: since that fault began another actor took an entry of the guest
+/// frame away.
 /// `sees`: a step that waits has seen this: a writer in the lock's word, or that the lock
 /// isn't free, the map's word without the bit of the page that it tried, how many
-/// invalidations are open, or the state word of another actor in a section.
+/// invalidations are open, the state word of another actor in a section, or that of a
+/// virtual processor in the guest that has yet to flush.
 /// `at_start`, `between_lines`: what a step waits for was seen since any moment at which
 /// the actor had seen nothing, as at the start and, of an actor that has a line left,
 /// between its lines (tdp_mmu.c; locking.rst; mmu.rst).
 ///
 /// `counts`, `line_turns`: a line makes no more steps than its command allows
-/// (`most_steps`: an access 8,192, one for each pool page and one for each frame; a slot
+/// (`most_steps`: an access 8,192, one for each pool page and one for each frame; each other
 /// line 1,024 and one for each word of the pool's map) up to the end of its first delay,
 /// as many from there to the end of the next, and as many after its last. `turns`: so
 /// all lines together make at most as many for each of their delays and for each line.

@@ -23,6 +23,11 @@ abbrev pub changes_host : Command → Bool
 changes_host (ChangeHost page change) = true
 changes_host _ = false
 
+-- The command is one that moves a host page to another frame.
+abbrev pub moves_page : Command → Bool
+moves_page (ChangeHost page Move) = true
+moves_page _ = false
+
 -- The host page is one of the actor's own.
 abbrev pub is_own : Sizes → Actor → ℕ → Bool
 is_own z (Host host) page = owns z host page

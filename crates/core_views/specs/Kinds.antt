@@ -5,7 +5,7 @@ use Rattle.core_views.specs.declared.kind.Kind.{Kind}
 use Rattle.core_views.specs.declared.kind.Operation.{Operation}
 use Rattle.core_views.specs.declared.kind.Operation.TheVariants as operation
 use Rattle.core_views.specs.declared.kind.StepKind.{StepKind}
-use Rattle.core_views.specs.declared.kind.StepKind.TheVariants.{Enter, Leave, Walk, Read, Write, Add, Begin, End, Control, Slot, Host, Swap, Share, Unshare, Exclude, Release, Claim, Fill, Give, Publish, Watch}
+use Rattle.core_views.specs.declared.kind.StepKind.TheVariants.{Enter, Leave, Walk, Read, Write, Add, Begin, End, Control, Slot, Host, Swap, Share, Unshare, Exclude, Release, Claim, Fill, Give, Set, Zap, Ask, Await, Change, Publish, Watch}
 
 -- the number of a kind
 abbrev pub code_of : StepKind → ℕ
@@ -28,6 +28,11 @@ code_of Release = 18
 code_of Claim = 19
 code_of Fill = 20
 code_of Give = 21
+code_of Set = 22
+code_of Zap = 23
+code_of Ask = 24
+code_of Await = 25
+code_of Change = 26
 code_of Publish = 30
 code_of Watch = 31
 
@@ -52,6 +57,11 @@ kind_named code =
     if code == code_of Claim then Claim else
     if code == code_of Fill then Fill else
     if code == code_of Give then Give else
+    if code == code_of Set then Set else
+    if code == code_of Zap then Zap else
+    if code == code_of Ask then Ask else
+    if code == code_of Await then Await else
+    if code == code_of Change then Change else
     if code == code_of Publish then Publish else
     if code == code_of Watch then Watch else
     Control
@@ -76,6 +86,11 @@ operation_of Release = operation.FetchAnd
 operation_of Claim = operation.FetchAnd
 operation_of Fill = operation.Store
 operation_of Give = operation.FetchOr
+operation_of Set = operation.Store
+operation_of Zap = operation.Swap
+operation_of Ask = operation.FetchOr
+operation_of Await = operation.Load
+operation_of Change = operation.CompareExchange
 operation_of Publish = operation.Swap
 operation_of Watch = operation.Load
 

@@ -1,5 +1,5 @@
 -- The sizes of a machine, and its actors in their order.
-use Rattle.std.specs.Prelude.{◌+◌, ◌-◌, ◌*◌, ◌≤◌, ℕ, Bool, List, [], ◌∷◌, ◌==◌, ◌&&◌, nat_le, nat_lt, if◌then◌else◌, length, slice_get, unwrap_or}
+use Rattle.std.specs.Prelude.{◌+◌, ◌-◌, ◌*◌, ◌≤◌, ℕ, All, Bool, List, [], ◌∷◌, ◌==◌, ◌&&◌, nat_le, nat_lt, if◌then◌else◌, length, slice_get, unwrap_or}
 use Rattle.core_views.specs.declared.actor.Actor.{Actor}
 use Rattle.core_views.specs.declared.actor.Actor.TheVariants.{Vcpu, Host, Manager, Worker}
 use Rattle.core_views.specs.declared.sizes.LogMode.{LogMode}
@@ -73,3 +73,4 @@ pub record AreSizes (z : Sizes) : Type 0 where
   pub content : z.frames * z.words ≤ 8388608
   pub pool : (4 ≤ z.pool) × (z.pool ≤ 16384)
   pub cache : (1 ≤ z.cache) × (z.cache ≤ 64)
+  pub firsts : All (λ page. page ≤ z.pages) z.first_pages

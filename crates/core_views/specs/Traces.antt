@@ -7,6 +7,7 @@ use Rattle.core_views.specs.declared.actor.Actor.TheVariants.{Vcpu, Host, Manage
 use Rattle.core_views.specs.declared.trace.Command.{Command}
 use Rattle.core_views.specs.declared.trace.Command.TheVariants.{Access, ChangeHost, SetSlot}
 use Rattle.core_views.specs.declared.trace.Header.{Header}
+use Rattle.core_views.specs.declared.trace.HostChange.TheVariants.{Allow}
 use Rattle.core_views.specs.declared.trace.Item.{Item}
 use Rattle.core_views.specs.declared.trace.Line.{Line}
 use Rattle.core_views.specs.declared.trace.Slot.{Slot}
@@ -28,6 +29,7 @@ pub record IsSlotInRange (slot : Slot) : Type 0 where
 abbrev pub IsCommandFor : Sizes → Actor → Command → Type 0
 IsCommandFor z (Vcpu n) (Access gfn word op) = (n < z.vcpus) × (gfn < 2 ^ 36) × (word < z.words)
 IsCommandFor z Manager (SetSlot id slot) = IsSlotInRange slot
+IsCommandFor z (Host n) (ChangeHost page Allow) = n < z.hosts
 IsCommandFor z _ _ = ⊥
 
 -- The same of the machine of a header.
@@ -91,11 +93,13 @@ pub record IsItemOf (h : Header) (item : Item) : Type 0 where
   pub actor : HasActor (sizes_of h) item.actor
   pub until : IsUntilInRange item.until
 
--- All numbers of the trace are in their ranges, its lines stand in the order of their numbers, which differ, and no two of them set a slot at one ID.
+-- All numbers of the trace are in their ranges, its lines stand in the order of their numbers, which differ, and are 1,000,000 at most; no two of them set a
+-- slot at one ID.
 pub record IsTrace (t : Trace) : Type 0 where
   pub header : IsHeader t.header
   pub lines : AreLinesOf t.header t.lines
   pub rising : IsStrictlyIncreasing (map (λ line. line.number) t.lines)
   pub distinct : IsDistinct (λ i j. i == j) (slot_ids t.lines)
+  pub few : length t.lines ≤ 1000000
   pub go : IfSome t.go (λ above. above ≤ length t.lines)
   pub items : All (IsItemOf t.header) t.items

@@ -43,6 +43,17 @@ pub enum StepKind {
     Fill,
     /// Puts the bit of a free page into the pool's map.
     Give,
+    /// Stores a word of the invalidations: their sequence number, how many are open, or
+    /// an end of their range.
+    Set,
+    /// Swaps a leaf of the second-stage table for an absent entry.
+    Zap,
+    /// Asks a virtual processor to flush its cached translations, in its state word.
+    Ask,
+    /// Loads the state word of a virtual processor that was asked.
+    Await,
+    /// Exchanges a host word, where it is as it was seen.
+    Change,
     /// Swaps the published slot set for a page that the actor owns.
     Publish,
     /// Loads the state word of another actor.
@@ -92,6 +103,11 @@ impl StepKind {
             StepKind::Claim => 19,
             StepKind::Fill => 20,
             StepKind::Give => 21,
+            StepKind::Set => 22,
+            StepKind::Zap => 23,
+            StepKind::Ask => 24,
+            StepKind::Await => 25,
+            StepKind::Change => 26,
             StepKind::Publish => 30,
             StepKind::Watch => 31,
         }
@@ -105,16 +121,18 @@ impl StepKind {
             StepKind::Walk | StepKind::Read | StepKind::Control | StepKind::Slot => {
                 Operation::Load
             }
-            StepKind::Host | StepKind::Watch => Operation::Load,
-            StepKind::Fill => Operation::Store,
-            StepKind::Enter | StepKind::Write | StepKind::Publish => Operation::Swap,
+            StepKind::Host | StepKind::Await | StepKind::Watch => Operation::Load,
+            StepKind::Fill | StepKind::Set => Operation::Store,
+            StepKind::Enter | StepKind::Write | StepKind::Zap | StepKind::Publish => {
+                Operation::Swap
+            }
             StepKind::Add | StepKind::Share => Operation::FetchAdd,
             StepKind::Unshare => Operation::FetchSub,
             StepKind::Leave | StepKind::End | StepKind::Release | StepKind::Claim => {
                 Operation::FetchAnd
             }
-            StepKind::Begin | StepKind::Give => Operation::FetchOr,
-            StepKind::Swap | StepKind::Exclude => Operation::CompareExchange,
+            StepKind::Begin | StepKind::Give | StepKind::Ask => Operation::FetchOr,
+            StepKind::Swap | StepKind::Exclude | StepKind::Change => Operation::CompareExchange,
         }
     }
 }
@@ -157,6 +175,11 @@ impl Kind {
             19 => StepKind::Claim,
             20 => StepKind::Fill,
             21 => StepKind::Give,
+            22 => StepKind::Set,
+            23 => StepKind::Zap,
+            24 => StepKind::Ask,
+            25 => StepKind::Await,
+            26 => StepKind::Change,
             30 => StepKind::Publish,
             31 => StepKind::Watch,
             _ => StepKind::Control,

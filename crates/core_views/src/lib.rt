@@ -32,15 +32,15 @@ pub use laws::{
 };
 pub use no_memory::NoMemory;
 pub use place::{
-    AccessPlace, Cause, CheckStage, FaultEnd, FaultNext, FaultPlace, Leaving, Place,
-    SlotChangePlace, SlotField,
+    AccessPlace, BeginPlace, Cause, CheckStage, EndPlace, FaultEnd, FaultNext, FaultPlace,
+    HostPlace, Leaving, Place, SlotChangePlace, SlotField,
 };
 pub use sequence::Sequence;
 pub use sizes::{LogMode, Sizes};
 pub use slot_set::{MemorySlot, SlotSet};
 pub use topics::{
-    Checked, Hold, HostLook, Invalidations, MapClaim, OwnedPage, SlotSearch, Stay, TableWalk,
-    Topics,
+    Checked, Flush, Hold, HostLook, Invalidations, MapClaim, OwnedPage, SlotSearch, Stay,
+    TableWalk, Topics,
 };
 pub use trace::{
     Command, Header, HostChange, Item, Items, Line, Lines, Op, Slot, Trace, Until, Words,

@@ -5,6 +5,7 @@ pub enum Place {
     Between,
     Access(AccessPlace),
     SlotChange(SlotChangePlace),
+    Host(HostPlace),
 }
 
 /// A word of a slot in its slot set.
@@ -74,6 +75,76 @@ pub enum SlotChangePlace {
     Clear,
     /// Gives this page back.
     Give,
+}
+
+/// The steps that begin an invalidation, in their order (mmu_notifier.rst;
+/// kvm_main.c, `kvm_mmu_invalidate_begin`; tdp_mmu.c, `kvm_tdp_mmu_unmap_gfn_range`): under the
+/// lock alone it is counted among the open ones, the leaves of its range are zapped, and
+/// what virtual processors have cached is flushed.
+#[derive(Clone, Copy, Debug, PartialEq, Eq, Drop)]
+pub enum BeginPlace {
+    /// Tries to take the lock alone.
+    Exclude,
+    /// Loads which slot set is published, or, once begun, the next word of the search for
+    /// the slot with the host page.
+    Find { begun: bool },
+    /// Loads how many invalidations are open.
+    Count,
+    /// Loads the first guest frame of their range, where some are open.
+    RangeStart,
+    /// Loads the guest frame after it.
+    RangeEnd,
+    /// Stores the first guest frame of the range that holds its own, too.
+    SetStart,
+    /// Stores the guest frame after it.
+    SetEnd,
+    /// Stores that one more is open.
+    SetCount,
+    /// Loads the root, or, once rooted, the entry in the table that the walk has come to.
+    Walk { rooted: bool },
+    /// Zaps the leaf.
+    Zap,
+    /// Asks the next virtual processor for a flush.
+    Ask,
+    /// Looks at the next one that was asked, until it is seen outside of the guest or flushed.
+    Await,
+    /// Gives the lock back.
+    Release,
+}
+
+/// The steps that end an invalidation, in their order (kvm_main.c,
+/// `kvm_mmu_invalidate_end`): under the lock alone the sequence number is raised, and then
+/// one less is open.
+#[derive(Clone, Copy, Debug, PartialEq, Eq, Drop)]
+pub enum EndPlace {
+    /// Tries to take the lock alone.
+    Exclude,
+    /// Loads the sequence number.
+    Seq,
+    /// Stores the next one.
+    SetSeq,
+    /// Loads how many are open.
+    Count,
+    /// Stores that one less is open.
+    SetCount,
+    /// Gives the lock back.
+    Release,
+}
+
+/// The steps of a line that changes a host page, in their order: it looks at the page's
+/// host word, and changes it within an invalidation of the guest frames that slots give
+/// to the page.
+#[derive(Clone, Copy, Debug, PartialEq, Eq, Drop)]
+pub enum HostPlace {
+    /// Loads the host word of the page; where the page isn't the actor's own, the line is
+    /// refused with this step.
+    Look,
+    /// A step that begins its invalidation.
+    Begin(BeginPlace),
+    /// Exchanges the host word.
+    Change,
+    /// A step that ends its invalidation.
+    End(EndPlace),
 }
 
 /// Why a fault is to begin anew (locking.rst; tdp_mmu.c, `RET_PF_RETRY`).

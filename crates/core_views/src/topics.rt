@@ -67,10 +67,13 @@ pub enum Checked {
     /// And, after the count where it was 0, or after the range, the sequence
     /// number.
     All,
+    /// The sequence number alone.
+    Seq,
 }
 
-/// What an actor loaded of the invalidations: their sequence number before it
-/// looked up and since, how many are open, and the range of guest frames of these.
+/// What an actor loaded or stored of the invalidations: their sequence number before it
+/// looked up and since, how many are open, and the range of guest frames of these; and
+/// whether it has one open itself.
 #[derive(Clone, Copy, Debug, PartialEq, Eq, Drop)]
 pub struct Invalidations {
     /// The sequence number before the look-up of this section, where it was taken.
@@ -85,6 +88,19 @@ pub struct Invalidations {
     pub seq: u64,
     /// Which of them were loaded since the actor has the lock.
     pub checked: Checked,
+    /// Whether one of the actor's own is among the open ones.
+    pub opened: bool,
+}
+
+/// A flush of what all virtual processors have cached (vcpu-requests.rst,
+/// `KVM_REQ_TLB_FLUSH`): in the order of their places each is asked for it, and then each
+/// awaited.
+#[derive(Clone, Copy, Debug, PartialEq, Eq, Drop)]
+pub struct Flush {
+    /// How many were asked since the actor took the lock alone.
+    pub asked: u64,
+    /// How many of these were seen outside of the guest, or with nothing asked of them, since.
+    pub awaited: u64,
 }
 
 /// A walk from the root down to an entry: the tables that it has come through
@@ -151,6 +167,8 @@ pub struct Topics {
     pub host: Option<HostLook>,
     /// The pause word that was loaded last.
     pub pause: u64,
+    /// The flush that the actor has asked for.
+    pub flush: Flush,
 }
 
 impl Topics {
@@ -185,6 +203,7 @@ impl Topics {
                 end: 0,
                 seq: 0,
                 checked: Checked::Nothing,
+                opened: false,
             },
             walk: TableWalk {
                 level: 0,
@@ -202,6 +221,10 @@ impl Topics {
             watched: 0,
             host: None,
             pause: 0,
+            flush: Flush {
+                asked: 0,
+                awaited: 0,
+            },
         }
     }
 }

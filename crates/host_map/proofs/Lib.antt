@@ -1,2 +1,3 @@
 pub mod ContentWords
 pub mod Touches
+pub mod Changing

@@ -1,5 +1,6 @@
 -- Host words, and the guest's operations on the words of frames (mmu.rst, "Memory").
-use Rattle.std.specs.Prelude.{◌≡◌, ◌≢◌, ℕ, slice_index}
+use Rattle.std.specs.Prelude.{◌≡◌, ◌≢◌, ℕ, Some, slice_index}
+use Rattle.core_views.specs.declared.topics.Topics.{Topics}
 use Rattle.core_views.specs.declared.kind.Kind.{Kind}
 use Rattle.core_views.specs.declared.sizes.Sizes.{Sizes}
 use Rattle.core_views.specs.declared.trace.Op.{Op}
@@ -12,11 +13,15 @@ use Rattle.mmu_core.specs.lines.AccessSteps.{touch_of}
 use Rattle.mmu_core.specs.machine.Machine.{World}
 use Rattle.part_steps.specs.Tasks.{kind_of_task, map_of}
 use Rattle.part_steps.specs.declared.part_step.PartStep.TheVariants.{Host}
+use Rattle.part_steps.specs.declared.part_step.PartStep.TheVariants as part
+use Rattle.part_steps.specs.PartTasks.{page_looked, word_looked}
+use Rattle.host_map.specs.declared.host.Changed.{Changed}
+use Rattle.host_map.specs.declared.host.Changed.TheVariants.{Set, Lost}
 use Rattle.mmu_core.specs.machine.View.{word_in}
 use Rattle.step_seats.specs.Acts.{Acts}
 use Rattle.step_seats.specs.Seats.{Seat}
 use Rattle.step_seats.specs.Where.{WhereMade}
-use Rattle.step_seats.specs.PartTurns.{WherePartMade}
+use Rattle.step_seats.specs.PartTurns.{MadePart, WherePartMade}
 
 -- the host word of a page
 abbrev pub host_in : Sizes → ℕ → World Held → ℕ
@@ -53,3 +58,34 @@ LeavesWords frame word note before after = WhereMade (touch_kind before.hand.sta
 -- The page's host word was this one where it was loaded.
 abbrev pub WasHostWord : ℕ → ℕ → ℕ → Seat → Seat → Type 0
 WasHostWord page note answer before after = WherePartMade (Host page) note before after (λ w v. answer ≡ host_in before.hand.state.sizes page w)
+
+-- What came of an exchange of the host word that was looked up: it stands in the map where the word was still this one, and else another word was seen.
+abbrev pub change_found : ℕ → Changed → ℕ
+change_found was Set = was
+change_found was (Lost seen) = seen
+
+-- the host word that is held after it, for the same page
+abbrev pub word_held : ℕ → Changed → ℕ
+word_held new_ Set = new_
+word_held new_ (Lost seen) = seen
+
+-- what is held then: nothing else has changed
+abbrev pub holding_word : ℕ → Changed → Topics → Topics
+holding_word new_ answer t = record t { host = Some (record { page = page_looked t.host; word = word_held new_ answer }) }
+
+-- Another word than the one that was looked up was found.
+abbrev pub WasAnother : ℕ → Changed → Type 0
+WasAnother was Set = Unit {0}
+WasAnother was (Lost seen) = seen ≢ was
+
+-- The exchange was made, and answers by what it found.
+pub record Changes (new_ note : ℕ) (answer : Changed) (before after : Seat) : Type 0 where
+  pub made : MadePart (part.Change new_) note (change_found (word_looked before.hand.topics.host) answer) before after
+  pub differs : WasAnother (word_looked before.hand.topics.host) answer
+
+-- Where it was made, the page's host word is the new one after it, if it won, and else the one that it saw, as before.
+abbrev pub LeavesHostWord : Changed → ℕ → ℕ → Seat → Seat → Type 0
+LeavesHostWord answer new_ note before after =
+    WherePartMade (part.Change new_) note before after
+    (λ w v. (host_in before.hand.state.sizes (page_looked before.hand.topics.host) w ≡ change_found (word_looked before.hand.topics.host) answer)
+    × (host_in before.hand.state.sizes (page_looked before.hand.topics.host) v ≡ word_held new_ answer))

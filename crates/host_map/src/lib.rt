@@ -7,7 +7,7 @@ mod content;
 mod host;
 
 pub use content::{load, touch};
-pub use host::look;
+pub use host::{Changed, change, look};
 
 #[cfg(test)]
 mod tests;

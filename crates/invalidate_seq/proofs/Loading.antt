@@ -29,8 +29,8 @@ locked (Owing word) is = refl
 locked Exclusive is = refl
 
 -- Under the lock the sequence number is no snapshot, and the look-up goes on.
-seq_loaded : (before after : Topics) (v : ℕ) → has_lock before.hold ≡ true → after ≡ part_topics part.Seq before v
-    → after ≡ record before { invalidations = record before.invalidations { seq = v; checked = seq_checked before.invalidations.count before.invalidations.checked } }
+pub seq_loaded : (before after : Topics) (v : ℕ) → has_lock before.hold ≡ true → after ≡ part_topics part.Seq before v
+    → after ≡ record before { invalidations = record before.invalidations { seq = v; checked = seq_checked (has_lock before.hold) before.invalidations.count before.invalidations.checked } }
 seq_loaded before after v lock made = made ∙ ap (λ (b : Bool). sequenced b before v) (locked before.hold lock)
 
 pub loads_only : (stage : CheckStage) (before after : Topics) (v : ℕ) → has_lock before.hold ≡ true → after ≡ part_topics (step_of stage) before v

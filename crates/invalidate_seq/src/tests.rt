@@ -81,6 +81,7 @@ fn answers_by_the_numbers_kept(rt: HostRuntime) {
         end: 9,
         seq: 8,
         checked: core_views::Checked::Range,
+        opened: false,
     };
     let open = Turn::Done(Checked::Open {
         count: 2,

@@ -13,7 +13,7 @@ use part_steps::PartStep;
 use step_seats::{Stepper, Turn, make_part};
 
 /// How many IDs there are.
-const IDS: u64 = 32;
+pub(crate) const IDS: u64 = 32;
 
 /// The slot that contains a guest frame.
 #[derive(Clone, Copy, Debug, PartialEq, Eq, Drop)]

@@ -1,11 +1,13 @@
 //! The memory slots of the machine: the manager's own record of a slot set, and
-//! the slot of a guest frame in the published slot set.
+//! the slot of a guest frame, or of a host page, in the published slot set.
 #![tactic(auto)]
 
 mod find;
+mod page;
 
 pub use core_views::{MemorySlot, SlotSet};
 pub use find::{Find, FoundSlot};
+pub use page::FindPage;
 
 #[cfg(test)]
 mod find_tests;

@@ -1,6 +1,7 @@
 pub mod Grace
 pub mod CountersKept
 pub mod HeldKept
+pub mod InvalidationsKept
 pub mod LockKept
 pub mod OldSets
 pub mod OthersStay

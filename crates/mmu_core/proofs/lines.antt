@@ -20,6 +20,7 @@ pub mod ClaimMade
 pub mod ShareMade
 pub mod WatchMade
 pub mod PartsWait
+pub mod Raised
 pub mod LineWaits
 pub mod FaultScans
 pub mod ClaimPlaces
@@ -30,3 +31,11 @@ pub mod EitherPlace
 pub mod FillMade
 pub mod LockHeld
 pub mod StepTopics
+pub mod InvalidateNeeds
+pub mod InvalidateKnown
+pub mod HostPlaces
+pub mod HostKnown
+pub mod HostKept
+pub mod HostClaims
+pub mod HostMakes
+pub mod OpenedStays

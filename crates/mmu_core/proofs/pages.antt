@@ -1,6 +1,7 @@
 pub mod AllOver
 pub mod FilledKept
 pub mod LeavesOver
+pub mod LoadedKept
 pub mod OwnedBehind
 pub mod PoolKept
 pub mod PoolPages

@@ -1,4 +1,5 @@
 pub mod Control
+pub mod HostStays
 pub mod PartFits
 pub mod PartIndex
 pub mod PartTopics

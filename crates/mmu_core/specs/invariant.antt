@@ -7,6 +7,7 @@ pub mod CachedPart
 pub mod LinesPart
 pub mod RecordPart
 pub mod LockPart
+pub mod InvalidationsPart
 pub mod StatesPart
 pub mod TreePart
 pub mod AllOver

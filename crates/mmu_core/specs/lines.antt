@@ -3,6 +3,9 @@ pub mod AccessSteps
 pub mod FaultLeft
 pub mod FaultSteps
 pub mod SlotChangeSteps
+pub mod InvalidateRange
+pub mod InvalidateSteps
+pub mod HostSteps
 pub mod PartAt
 pub mod PartWaits
 pub mod Delays
@@ -10,6 +13,8 @@ pub mod Rests
 pub mod FaultKnows
 pub mod LockKnows
 pub mod SlotChangeKnows
+pub mod InvalidateKnows
+pub mod HostKnows
 pub mod AccessKnows
 pub mod Forms
 pub mod FaultLaws

@@ -17,9 +17,10 @@ ghost use Rattle.spte_words.specs.Areas.{size_of};
 
 use crate::delays::{delays_behind, is_delay, steps_behind};
 use crate::outcome::Outcome;
-use crate::{access, slot_change};
+use crate::{access, host, slot_change};
 use core_views::{
-    AccessPlace, AnsweredLine, Command, Hand, Kind, Line, Place, Progress, StepKind, Translation,
+    AccessPlace, AnsweredLine, Command, Hand, HostPlace, Kind, Line, Place, Progress, StepKind,
+    Translation,
 };
 use part_steps::{PartStep, Task, kind_of, step_topics};
 
@@ -29,6 +30,7 @@ fn first(hand: &Hand, line: &Line) -> Place
 {
     match &line.command {
         Command::Access { .. } => Place::Access(AccessPlace::Enter { again: false }),
+        Command::ChangeHost { .. } => Place::Host(HostPlace::Look),
         command => {
             let sizes = &hand.progress().sizes;
             Place::SlotChange(slot_change::first(sizes, hand.slots(), command))
@@ -61,6 +63,7 @@ fn task(place: Place, hand: &Hand, line: &Line) -> Task
             access::task(place, hand, *gfn, *word, *op)
         }
         (Place::SlotChange(place), command) => slot_change::task(place, hand, command),
+        (Place::Host(place), Command::ChangeHost { page, .. }) => host::task(place, *page, hand),
         _ => unreachable!(),
     }
 }
@@ -90,6 +93,9 @@ pub(crate) fn part_of(place: Place, command: &Command, hand: &Hand) -> Option<Pa
     match (place, command) {
         (Place::Access(place), Command::Access { gfn, .. }) => access::part(place, *gfn, hand),
         (Place::SlotChange(place), command) => Some(slot_change::part(place, hand, command)),
+        (Place::Host(place), Command::ChangeHost { page, .. }) => {
+            Some(host::part(place, *page, hand))
+        }
         _ => Some(PartStep::Seq),
     }
 }
@@ -152,6 +158,9 @@ fn outcome(
             access::outcome(place, hand, *gfn, *op, found)
         }
         (Place::SlotChange(place), _) => { (slot_change::outcome(place, hand, found), None) }
+        (Place::Host(place), Command::ChangeHost { page, .. }) => {
+            (host::outcome(place, *page, hand, found), None)
+        }
         _ => (Outcome::Goes(place), None),
     }
 }

@@ -8,19 +8,20 @@ ghost use Rattle.part_steps.specs.PartBounds.{PartRests};
 
 use crate::step::part_of;
 use core_views::{Checked, Command, Hand, Hold, Invalidations, Place, Topics};
-use part_steps::{PartStep, in_section, is_won};
+use part_steps::{PartStep, has_to_flush, in_section, is_won};
 
-// It saw that some are open.
+// It saw that others are open.
 fn saw_open(invalidations: &Invalidations) -> bool
     ensures { result ≡ saw_open invalidations.now }
 {
-    invalidations.checked == Checked::Count && invalidations.count != 0
+    let own = if invalidations.opened { 1 } else { 0 };
+    invalidations.checked == Checked::Count && own < invalidations.count
 }
 
 /// The step waits for another actor: it takes back the try for the lock that
 /// found a writer, the page that it tries is gone, it finds the lock taken, it
-/// gives the lock back under which it saw invalidations open, or it finds another
-/// actor in the guest or in a section.
+/// gives the lock back under which it saw invalidations of others open, it finds another
+/// actor in the guest or in a section, or a virtual processor that has yet to flush.
 pub fn part_waits(step: PartStep, topics: &Topics, found: u64) -> bool
     requires seen { step ≡ Claim → 0 < topics.now.claim.seen }
     ensures { result ≡ part_waits step topics.now found }
@@ -31,6 +32,7 @@ pub fn part_waits(step: PartStep, topics: &Topics, found: u64) -> bool
         PartStep::Exclude => found != 0,
         PartStep::Release => saw_open(&topics.invalidations),
         PartStep::Watch(_) => in_section(found),
+        PartStep::Await(_) => has_to_flush(found),
         _ => false,
     }
 }

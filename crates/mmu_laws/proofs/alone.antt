@@ -6,5 +6,6 @@ pub mod FaultComes
 pub mod FaultAlone
 pub mod FindAlone
 pub mod GoesAlone
+pub mod OthersOpen
 pub mod PartAlone
 pub mod AccessAlone

@@ -14,3 +14,4 @@ pub mod SlotChangeFlat
 pub mod Told
 pub mod ToldOf
 pub mod WholeSoFar
+pub mod HostFlat

@@ -2,4 +2,8 @@ pub mod CanStep
 pub mod ExampleRun
 pub mod Notes
 pub mod StepLaws
+pub mod AllowedWords
+pub mod EventLaws
+pub mod InvalidationLaws
 pub mod ViewRuns
+pub mod ExampleHostRun

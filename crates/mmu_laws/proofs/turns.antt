@@ -1,4 +1,8 @@
+pub mod EntriesTaken
+pub mod EntryLeads
+pub mod EntryLost
 pub mod EntrySeen
+pub mod HostNearer
 pub mod InstalledEntries
 pub mod LeavesStay
 pub mod SlotChangeNearer
@@ -9,5 +13,7 @@ pub mod TurnsNearer
 pub mod AnsweredRest
 pub mod DelayCases
 pub mod OwnServed
+pub mod OwnTakesNone
+pub mod OwnTurns
 pub mod Removal
 pub mod Nearer

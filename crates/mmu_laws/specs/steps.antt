@@ -1,7 +1,10 @@
 pub mod StepLaws
+pub mod EventLaws
+pub mod InvalidationLaws
 pub mod CanStep
 pub mod ExampleSteps
 pub mod ExampleRuns
 pub mod ExampleStarves
 pub mod ExampleRaces
 pub mod ExampleWaits
+pub mod ExampleHost

@@ -1,6 +1,7 @@
 ghost use Rattle.mmu_laws.specs.causes.Causes.{FaultsBeginAnewByCause};
 ghost use Rattle.mmu_laws.specs.pool.Enough.{EachTableIsWanted, EnoughPages, TablesAreForTheirRuns};
 ghost use Rattle.mmu_laws.specs.steps.CanStep.{EachMayStep, EveryMachineStarts};
+ghost use Rattle.mmu_laws.specs.steps.ExampleHost.{ExampleHost};
 ghost use Rattle.mmu_laws.specs.steps.ExampleRaces.{ExampleRaces};
 ghost use Rattle.mmu_laws.specs.steps.ExampleRuns.{ExamplePrints, ExampleRuns};
 ghost use Rattle.mmu_laws.specs.steps.ExampleStarves.{ExampleStarves};
@@ -13,8 +14,10 @@ ghost use Rattle.mmu_core.specs.invariant.Laws.{StaysSound, TellsLawfully};
 ghost use Rattle.mmu_laws.specs.leaves.LeafLaws.{CachedLeavesAgree, HeldLeavesAgree, LeavesAgree, UsedLeavesAgree};
 ghost use Rattle.mmu_core.specs.alone.LineAlone.{LineBeginsAlone, LineEndsAlone, LineGoesThrough, NoneStarvedAlone};
 ghost use Rattle.mmu_core.specs.invariant.Scans.{StarvedLinesScan};
-ghost use Rattle.mmu_laws.specs.steps.StepLaws.{EnteringFlushes, NotesTellEnds, OthersCacheOneAtMost, StepsAreOnTheirAreas};
-ghost use Rattle.mmu_laws.specs.turns.Breaking.{BreakingChangesEntries, NoStepBreaks};
+ghost use Rattle.mmu_laws.specs.steps.EventLaws.{EventsAreOfTheirSteps};
+ghost use Rattle.mmu_laws.specs.steps.InvalidationLaws.{InvalidationsAreCounted, SequenceIsRaised};
+ghost use Rattle.mmu_laws.specs.steps.StepLaws.{AllowedWordsTell, EnteringFlushes, NotesTellEnds, OthersCacheOneAtMost, StepsAreOnTheirAreas};
+ghost use Rattle.mmu_laws.specs.turns.Breaking.{BreakingChangesEntries};
 ghost use Rattle.mmu_laws.specs.turns.Removal.{InstalledEntriesServe, LeavesStay};
 ghost use Rattle.mmu_laws.specs.turns.TurnLaws.{DelaysWaitBeginAnewOrMiss, StepsAreBounded, StepsAreCounted, TurnsAreBounded, TurnsComeNearer};
 ghost use Rattle.mmu_laws.specs.causes.Waits.{BetweenLinesSawNothing, StartsSawNothing, StepWaitsAreByCause};
@@ -40,9 +43,10 @@ pub fn every_list_of_steps()
 /// of the pool's map, and another actor's step changed this word since; where it finds
 /// the lock held by another actor; where it gives the lock back, and its actor loaded
 /// the count of open invalidations while it had the lock alone, found some open, and made
-/// no step on the count or on the lock since; and where it finds another actor in
-/// the guest or in a section (tdp_mmu.c, `kvm_tdp_mmu_map`; kvm_main.c,
-/// `kvm_swap_active_memslots`; locking.rst). These causes lie in the steps since any
+/// no step on the count or on the lock since; where it finds another actor in
+/// the guest or in a section; and where it finds a virtual processor in the guest that was
+/// asked for a flush since it came in (tdp_mmu.c, `kvm_tdp_mmu_map`; kvm_main.c,
+/// `kvm_swap_active_memslots`; locking.rst; vcpu-requests.rst, `KVM_REQUEST_WAIT`). These causes lie in the steps since any
 /// moment at which the actor had seen nothing that a step waits for: so it is at a start,
 /// and between the lines of an actor that has one left. And a line counts no other step
 /// as a delay than one with which it waits or begins its fault anew, or one of the stay
@@ -64,7 +68,9 @@ pub fn each_delay_has_its_cause()
 /// refuses. In a pool that is too small an access is starved, and a slot line
 /// after it; where two processors write to one guest frame at a time, one
 /// waits and begins anew; and a slot line beside a write waits for the page that the
-/// processor takes, for the lock that it shares, and until it has left the guest.
+/// processor takes, for the lock that it shares, and until it has left the guest. A host
+/// thread's line zaps the leaf that a processor has cached, waits until this one has left the
+/// guest, and makes the fault of another processor begin anew.
 pub fn the_steps_can_be_made()
     ensures starts { EveryMachineStarts }
     ensures goes_on { EachMayStep }
@@ -73,6 +79,7 @@ pub fn the_steps_can_be_made()
     ensures starves { ExampleStarves }
     ensures races { ExampleRaces }
     ensures slot_waits { ExampleWaits }
+    ensures host { ExampleHost }
 {}
 
 /// What a step's numbers tell of it: each step that a hand allows is on a word of
@@ -81,12 +88,22 @@ pub fn the_steps_can_be_made()
 /// the last word of the pool's map has note 1, and is its answer exactly where it
 /// finds 0. Who enters the guest with a flush asked for has nothing cached after
 /// that step; each other step leaves at most one more translation
-/// (vcpu-requests.rst, KVM_REQ_TLB_FLUSH).
+/// (vcpu-requests.rst, KVM_REQ_TLB_FLUSH). The host word that allows writes is of the same
+/// frame and level as the one before it, and present where that was. And each event that a
+/// step tells of the pause, of slots, host pages or memory is of the word that the step is on,
+/// and of what it found and left there. The sequence number of invalidations is raised by one,
+/// and only by an actor that has the lock alone and an invalidation open; how many are open
+/// rises by one with such an actor's own one, and falls by one with it (kvm_main.c,
+/// `kvm_mmu_invalidate_begin`, `kvm_mmu_invalidate_end`).
 pub fn steps_tell_what_they_are()
     ensures areas { StepsAreOnTheirAreas }
     ensures notes { NotesTellEnds }
     ensures flushes { EnteringFlushes }
     ensures caches { OthersCacheOneAtMost }
+    ensures allowed { AllowedWordsTell }
+    ensures events { EventsAreOfTheirSteps }
+    ensures raised { SequenceIsRaised }
+    ensures counted { InvalidationsAreCounted }
 {}
 
 /// What each hand has answered after a list of steps is what the history tells
@@ -106,8 +123,8 @@ pub fn every_answer_is_told()
 /// which it has at most 8,192 and one for each pool page; and one that waits, as each
 /// step of a part that does, whoever makes it, has seen another actor: a writer in
 /// the lock's word, or that the lock isn't free; that the page which it tried is free no
-/// more; invalidations open; or another actor in a section (tdp_mmu.c,
-/// `kvm_tdp_mmu_map`; locking.rst).
+/// more; invalidations open; another actor in a section; or a virtual processor that has yet
+/// to flush (tdp_mmu.c, `kvm_tdp_mmu_map`; locking.rst).
 pub fn a_fault_goes_on()
     ensures needs { FaultMeetsNeeds }
     ensures answers { PartsAnswer }
@@ -144,8 +161,8 @@ pub fn leaves_agree()
     ensures used { UsedLeavesAgree }
 {}
 
-/// What a fault comes to that runs while all other actors rest: no step of it
-/// waits, it never begins anew, where it ends with an entry installed, links lead
+/// What a fault comes to that runs while all other actors rest, and no invalidation of
+/// its own actor is open: no step of it waits, it never begins anew, where it ends with an entry installed, links lead
 /// from the root to a leaf that allows the access, where it ends with MMIO, no slot
 /// has a page for the access, and where it is starved, each word of the pool's map
 /// is 0, up to where its claim came (tdp_mmu.c, `kvm_tdp_mmu_map`; locking.rst). And from each table over a guest frame links
@@ -180,15 +197,14 @@ pub fn a_line_alone_goes_through()
 /// lead to such a leaf once, they do so after every list of steps, or one of them took an
 /// entry of the guest frame away. A step that takes an entry of the guest frame away is on
 /// the word of such an entry, which isn't absent, and leaves another number there
-/// (`breaking`). No step of the machine does so yet (`unbroken`), so no stay misses
-/// (tdp_mmu.c, `kvm_tdp_mmu_map`; locking.rst).
+/// (`breaking`): it is one with which a host thread zaps a leaf (tdp_mmu.c,
+/// `kvm_tdp_mmu_map`, `kvm_tdp_mmu_unmap_gfn_range`; locking.rst).
 pub fn turns_come_to_an_end()
     ensures nearer { TurnsComeNearer }
     ensures bounded { TurnsAreBounded }
     ensures installed { InstalledEntriesServe }
     ensures stay { LeavesStay }
     ensures breaking { BreakingChangesEntries }
-    ensures unbroken { NoStepBreaks }
 {}
 
 /// A hand counts the steps of its line since it began, or since the end of its last

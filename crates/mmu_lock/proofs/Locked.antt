@@ -10,12 +10,13 @@ use Rattle.part_steps.specs.declared.part_step.PartStep.TheVariants.{Share}
 use Rattle.mmu_core.specs.machine.MayMake.{MayMake}
 use Rattle.part_steps.specs.PartSteps.{PartNeeds}
 use Rattle.part_steps.specs.ControlTopics.{has_writer}
+use Rattle.part_steps.specs.StayTopics.{no_flush, unchecked}
 use Rattle.mmu_core.specs.alone.OthersRest.{OthersRest}
 use Rattle.part_steps.specs.declared.part_step.PartStep.{PartStep}
 use Rattle.step_seats.specs.PartTurns.{MadePart}
 use Rattle.step_seats.specs.Seats.{Seat}
 use Rattle.step_seats.proofs.AloneTold.{share_free}
-use Rattle.mmu_lock.specs.Locking.{holding}
+use Rattle.mmu_lock.specs.Locking.{alone, holding}
 use Rattle.mmu_core.specs.lines.ShareSteps.{share_left, share_part}
 
 -- Who isn't owing wants to share, and holds nothing of the lock.
@@ -37,15 +38,17 @@ pub shares_behind : (before after : Topics) (found : ℕ) → after ≡ holding 
     → has_writer found ≡ false → after ≡ holding Shared before
 shares_behind before after found is none = is ∙ ap (λ (b : Bool). holding (if b then Owing found else Shared) before) none
 
--- A writer's try, won or lost.
-pub excludes_behind : (before after : Topics) (found : ℕ) → after ≡ holding (if found == 0 then Exclusive else before.hold) before → found ≡ 0
-    → after ≡ holding Exclusive before
-excludes_behind before after found is free = is ∙ ap (λ n. holding (if n == 0 then Exclusive else before.hold) before) free
+-- what is held after a writer's try, which got the lock or didn't
+abbrev pub tried : Bool → Topics → Topics
+tried got t = record t { hold = if got then Exclusive else t.hold; invalidations = unchecked t.invalidations; flush = if got then no_flush else t.flush }
 
-pub keeps_behind : (before after : Topics) (found : ℕ) → after ≡ holding (if found == 0 then Exclusive else before.hold) before → found ≢ 0
-    → after ≡ holding before.hold before
+-- A writer's try, won or lost.
+pub excludes_behind : (before after : Topics) (found : ℕ) → after ≡ tried (found == 0) before → found ≡ 0 → after ≡ alone before
+excludes_behind before after found is free = is ∙ ap (λ n. tried (n == 0) before) free
+
+pub keeps_behind : (before after : Topics) (found : ℕ) → after ≡ tried (found == 0) before → found ≢ 0 → after ≡ holding before.hold before
 keeps_behind before after found is taken =
-    let test : (found == 0) ≡ false = grind (arith, nat_tests) in is ∙ ap (λ (b : Bool). holding (if b then Exclusive else before.hold) before) test
+    let test : (found == 0) ≡ false = grind (arith, nat_tests) in is ∙ ap (λ (b : Bool). tried b before) test
 
 pub not_free : (n : ℕ) → has_writer n ≡ true → n ≡ 0 → ⊥
 not_free n seen is = let none : has_writer n ≡ false = ap has_writer is in cc (seen, none)

@@ -1,11 +1,12 @@
 -- What comes of trying for the lock, and of giving it back (locking.rst, mmu_lock).
-use Rattle.std.specs.Prelude.{◌≡◌, ◌≢◌, ℕ, true, None}
+use Rattle.std.specs.Prelude.{◌≡◌, ◌≢◌, ℕ, true, Option, Some, None}
+use Rattle.core_views.specs.declared.hand.Seen.{Seen}
 use Rattle.core_views.specs.declared.topics.Hold.{Hold}
 use Rattle.core_views.specs.declared.topics.Hold.TheVariants.{Loose, Shared, Owing, Exclusive}
 use Rattle.core_views.specs.declared.topics.Topics.{Topics}
 use Rattle.part_steps.specs.declared.part_step.PartStep.{PartStep}
 use Rattle.part_steps.specs.declared.part_step.PartStep.TheVariants.{Exclude, Release, Unshare}
-use Rattle.part_steps.specs.StayTopics.{let_go, unchecked}
+use Rattle.part_steps.specs.StayTopics.{let_go, no_flush, unchecked}
 use Rattle.part_steps.specs.ControlTopics.{has_writer}
 use Rattle.mmu_core.specs.alone.OthersRest.{NoOtherHasLock, NoneHasLockAlone, OthersRest}
 use Rattle.mmu_core.specs.lines.ShareSteps.{share_part}
@@ -32,6 +33,10 @@ unlock_step _ = Unshare
 abbrev pub holding : Hold → Topics → Topics
 holding hold t = record t { hold = hold; invalidations = unchecked t.invalidations }
 
+-- what is held where the actor has the lock alone from now on: no virtual processor was asked for a flush since
+abbrev pub alone : Topics → Topics
+alone t = record (holding Exclusive t) { flush = no_flush }
+
 -- A reader's try: it goes on where a writer was found, which is then remembered; it is over where the actor shares the lock, or where it
 -- has taken itself out again, with the word that it had found, which has a writer in it. Nothing else that the actor holds has changed,
 -- but for what it held of tables and slot sets under the lock alone.
@@ -49,8 +54,13 @@ lock_found (lock.Held word) = word
 
 -- A writer's try: the actor has the lock alone, or the word that was found isn't 0 and it holds the lock as before.
 abbrev pub TriedExclusive : Lock → Topics → Topics → Type 0
-TriedExclusive lock.Got before after = after ≡ holding Exclusive before
+TriedExclusive lock.Got before after = after ≡ alone before
 TriedExclusive (lock.Held word) before after = (word ≢ 0) × (after ≡ holding before.hold before)
+
+-- what is in the way of a writer's try, in this word of the machine
+abbrev pub lock_way : ℕ → Lock → Option Seen
+lock_way word lock.Got = None
+lock_way word (lock.Held value) = Some (record { word = word; value = value })
 
 -- The lock is given back: the actor doesn't hold it any more, nor what it held of tables and slot sets under the lock alone.
 abbrev pub GaveBack : Topics → Topics → Type 0

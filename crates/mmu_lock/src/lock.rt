@@ -10,6 +10,7 @@ ghost use Rattle.mmu_lock.specs.Locking.{
   TriedExclusive,
   TriedShared,
   lock_found,
+  lock_way,
   unlock_step,
 };
 ghost use Rattle.mmu_core.specs.lines.ShareSteps.{share_left, share_part};
@@ -17,7 +18,7 @@ ghost use Rattle.step_seats.specs.Moves.{KeepsRoom};
 ghost use Rattle.step_seats.specs.PartTurns.{MadePart, MakesPart};
 ghost use Rattle.step_seats.specs.declared.turn.Turn.TheVariants.{More};
 
-use core_views::Hold;
+use core_views::{Hold, Seen};
 use mmu_core::part_rests;
 use part_steps::{PartStep, has_writer};
 use step_seats::{Stepper, Turn, make_part};
@@ -30,6 +31,22 @@ pub enum Lock {
     /// Others hold it, or have yet to take themselves out of its readers: its
     /// word as it was found.
     Held(u64),
+}
+
+impl Lock {
+    /// What is in the way of who tries to hold the lock alone: its word, which stands
+    /// at this place among all words of the machine, as it was found.
+    pub fn in_way(&self, word: u32) -> Option<Seen>
+        ensures { result ≡ lock_way word self.now }
+    {
+        match self {
+            Lock::Got => None,
+            Lock::Held(value) => Some(Seen {
+                word,
+                value: *value,
+            }),
+        }
+    }
 }
 
 /// Tries to hold the lock as a reader, a step a turn: adds the actor to the

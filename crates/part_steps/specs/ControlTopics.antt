@@ -1,5 +1,5 @@
 -- What words of the machine tell an actor: the lock's, a state word, the pool's map, the root, the published set, the invalidations'.
-use Rattle.std.specs.Prelude.{◌+◌, ◌-◌, ◌^◌, ℕ, Bool, false, ◌==◌, ◌&&◌, nat_le, nat_lt, not, if◌then◌else◌, Some, None}
+use Rattle.std.specs.Prelude.{◌+◌, ◌-◌, ◌^◌, ℕ, Bool, false, ◌==◌, ◌&&◌, ◌||◌, nat_le, nat_lt, not, if◌then◌else◌, Some, None}
 use Rattle.core_views.specs.declared.place.SlotField.TheVariants as field
 use Rattle.core_views.specs.declared.sizes.Sizes.{Sizes}
 use Rattle.core_views.specs.declared.topics.Checked.{Checked}
@@ -33,6 +33,14 @@ guest_bits = 3
 
 abbrev pub in_section : ℕ → Bool
 in_section v = has_bit 1 v
+
+-- Bit 2: a flush is asked for (vcpu-requests.rst, KVM_REQ_TLB_FLUSH).
+abbrev pub request_bit : ℕ
+request_bit = 4
+
+-- The actor is in the guest, and has yet to make the flush that is asked for.
+abbrev pub has_to_flush : ℕ → Bool
+has_to_flush v = has_bit 0 v && has_bit 2 v
 
 -- the lone words of the machine's control stand first, each at the number of its area
 abbrev pub is_word_of : Area → ℕ → Bool
@@ -68,10 +76,11 @@ abbrev pub range_checked : Checked → Checked
 range_checked checked.Start = checked.Range
 range_checked _ = checked.Nothing
 
-abbrev pub seq_checked : ℕ → Checked → Checked
-seq_checked count checked.Count = if count == 0 then checked.All else checked.Nothing
-seq_checked count checked.Range = checked.All
-seq_checked count _ = checked.Nothing
+abbrev pub seq_checked : Bool → ℕ → Checked → Checked
+seq_checked locked count checked.Count = if count == 0 then checked.All else checked.Nothing
+seq_checked locked count checked.Range = checked.All
+seq_checked locked count checked.Nothing = if locked then checked.Seq else checked.Nothing
+seq_checked locked count _ = checked.Nothing
 
 -- How far the check has come after the load of a control word.
 abbrev pub checked_after : ℕ → Hold → Invalidations → Checked
@@ -79,7 +88,7 @@ checked_after word hold n =
     if is_word_of area.Count word then count_checked hold else
     if is_word_of area.RangeStart word then start_checked n.checked else
     if is_word_of area.RangeEnd word then range_checked n.checked else
-    if is_word_of area.Seq word then seq_checked n.count n.checked else
+    if is_word_of area.Seq word then seq_checked (has_lock hold) n.count n.checked else
     n.checked
 
 -- A word of the invalidations was loaded; the sequence number is the snapshot where the actor doesn't have the lock.
@@ -91,6 +100,19 @@ noted word hold n v = record {
   end = if is_word_of area.RangeEnd word then v else n.end;
   seq = if is_word_of area.Seq word && not (is_loose hold) then v else n.seq;
   checked = checked_after word hold n;
+  opened = n.opened;
+}
+
+-- A word of the invalidations was stored: where it is their count, one of the actor's own is open from then on if it rose. What was loaded of count
+-- and sequence number before either is stored is known no more.
+abbrev pub stored : ℕ → Invalidations → ℕ → Invalidations
+stored word n v = record n {
+  count = if is_word_of area.Count word then v else n.count;
+  start = if is_word_of area.RangeStart word then v else n.start;
+  end = if is_word_of area.RangeEnd word then v else n.end;
+  seq = if is_word_of area.Seq word then v else n.seq;
+  checked = if is_word_of area.Count word || is_word_of area.Seq word then checked.Nothing else n.checked;
+  opened = if is_word_of area.Count word then nat_lt n.count v else n.opened;
 }
 
 -- A word of the pool's map was loaded: a claim has come to it, or to the next one where it is 0.

@@ -24,6 +24,10 @@ pub record CountersPart (z : Sizes) (t : Topics) : Type 0 where
   pub seen : t.claim.seen < 2 ^ 64
   pub watched : t.watched ≤ actors_of z
   pub run : 1 ≤ t.walk.level → t.walk.prefix < 2 ^ 36
+  pub counted : t.invalidations.count ≤ actors_of z
+  pub seq : t.invalidations.seq < 2 ^ 40
+  pub asked : t.flush.asked ≤ z.vcpus
+  pub range : (t.invalidations.start < 2 ^ 64) × (t.invalidations.end < 2 ^ 64)
 
 -- What holds of every hand that some world has: its actor is one of the machine's, its pages are pages of the pool, its counters
 -- stay within what they count, its cache has room for a translation, and where it has yet to take itself out of the lock's readers it saw a writer.
@@ -38,6 +42,7 @@ pub record PartRests (h : Held) : Type 0 where
   pub filled : (o : OwnedPage) → h.topics.owned ≡ Some o → o.filled ≤ 513
   pub counters : CountersPart h.state.sizes h.topics
   pub found : h.topics.search.whole ≡ true → h.topics.search.slot.host + h.topics.search.slot.pages ≤ h.state.sizes.pages
+  pub frames : h.topics.search.whole ≡ true → h.topics.search.slot.base + h.topics.search.slot.pages ≤ 2 ^ 36
   pub cache : 1 ≤ h.cached.capacity
   pub levels : All IsAtLeafLevel h.cached.items
   pub looked : (look : HostLook) → h.topics.host ≡ Some look → (look.page < h.state.sizes.pages) × (host_frame look.word < h.state.sizes.frames)

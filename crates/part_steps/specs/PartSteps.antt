@@ -1,5 +1,5 @@
 -- The steps of the machine's parts: what each needs of the hand, and which word it is on.
-use Rattle.std.specs.Prelude.{◌≡◌, ◌≢◌, ◌-◌, ◌^◌, ◌<◌, ◌≤◌, ◌⊎◌, ℕ, Bool, true, false, None}
+use Rattle.std.specs.Prelude.{◌≡◌, ◌≢◌, ◌-◌, ◌^◌, ◌<◌, ◌≤◌, ◌⊎◌, ℕ, Bool, true, false, None, ◌+◌}
 use Rattle.core_views.specs.declared.actor.Actor.{Actor}
 use Rattle.core_views.specs.declared.actor.Actor.TheVariants.{Vcpu}
 use Rattle.core_views.specs.declared.topics.Hold.{Hold}
@@ -14,8 +14,9 @@ use Rattle.spte_words.specs.Areas.{words_of_bits}
 use Rattle.spte_words.specs.Entries.{kind_of}
 use Rattle.part_steps.specs.declared.part_step.PartStep.{PartStep}
 use Rattle.part_steps.specs.declared.part_step.PartStep.TheVariants as part
-use Rattle.part_steps.specs.PartTasks.{own_index}
-use Rattle.part_steps.specs.PartHoldings.{next_watched, OwnsPage, HasToFill, HasRoleToSet, HoldsSet, IsOver, OwnsTable, MayEnter, MayPublish, MayGiveOld}
+use Rattle.spte_words.specs.HostWords.{with_writes_allowed}
+use Rattle.part_steps.specs.PartTasks.{own_index, word_looked}
+use Rattle.part_steps.specs.PartHoldings.{next_watched, OwnsPage, HasToFill, HasRoleToSet, HoldsSet, IsOver, OwnsTable, SawEntry, MayChange, MayCount, MayEndInvalidation, MayEnter, MayPublish, MayGiveOld}
 
 abbrev pub IsVcpu : Actor → Type 0
 IsVcpu (Vcpu n) = Unit {0}
@@ -32,14 +33,22 @@ counts Exclusive = false
 abbrev pub GoesOnToWord : ℕ → Topics → Type 0
 GoesOnToWord word t = (word ≡ 0) ⊎ ((word ≡ t.claim.at) × (t.claim.seen ≡ 0))
 
--- The step is one of lines alone, in their order: it exchanges an entry of the tables, or is of a publication. No actor makes it that has
--- no line left.
+-- The step is one of lines alone, in their order: it changes an entry of the tables, or is of a publication, of an invalidation or of a change
+-- of a host page. No actor makes it that has no line left.
 abbrev pub needs_line : PartStep → Bool
 needs_line (part.Link gfn) = true
 needs_line (part.Leaf gfn) = true
 needs_line part.Publish = true
 needs_line part.Clear = true
 needs_line part.GiveOld = true
+needs_line (part.SetStart gfn) = true
+needs_line (part.SetEnd gfn) = true
+needs_line (part.SetCount count) = true
+needs_line (part.SetSeq seq) = true
+needs_line (part.Zap gfn) = true
+needs_line (part.Ask index) = true
+needs_line (part.Await index) = true
+needs_line (part.Change new_) = true
 needs_line _ = false
 
 -- what a step needs of the hand
@@ -75,6 +84,14 @@ PartNeeds (part.Watch index) h =
 PartNeeds part.Publish h = MayPublish h.topics
 PartNeeds part.Clear h = MayGiveOld h
 PartNeeds part.GiveOld h = MayGiveOld h
+PartNeeds (part.SetStart gfn) h = (h.topics.hold ≡ Exclusive) × (gfn < 2 ^ 64)
+PartNeeds (part.SetEnd gfn) h = (h.topics.hold ≡ Exclusive) × (gfn < 2 ^ 64)
+PartNeeds (part.SetCount count) h = MayCount count h.topics
+PartNeeds (part.SetSeq seq) h = MayEndInvalidation h.topics × (seq ≡ h.topics.invalidations.seq + 1)
+PartNeeds (part.Zap gfn) h = (h.topics.hold ≡ Exclusive) × (h.topics.stay ≡ Outside) × SawEntry gfn h.topics.walk × (kind_of h.topics.walk.level h.topics.walk.entry ≡ entry_kind.Leaf)
+PartNeeds (part.Ask index) h = (index < h.state.sizes.vcpus) × (index ≡ h.topics.flush.asked)
+PartNeeds (part.Await index) h = (index < h.topics.flush.asked) × (index ≡ h.topics.flush.awaited) × (h.topics.stay ≡ Outside)
+PartNeeds (part.Change new_) h = MayChange h × (new_ ≡ with_writes_allowed (word_looked h.topics.host))
 
 -- The actor holds nothing: it is outside, and has no lock, no page, no table and no slot set.
 pub record IsAtRest (t : Topics) : Type 0 where

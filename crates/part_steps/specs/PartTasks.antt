@@ -1,5 +1,5 @@
 -- Which step of the machine each step of a part is: its kind, its word, what it expects there and what it writes.
-use Rattle.std.specs.Prelude.{◌-◌, ◌/◌, ◌%◌, ◌^◌, ◌<◌, ℕ, Bool, false, ◌==◌, if◌then◌else◌, Option, Some, None}
+use Rattle.std.specs.Prelude.{◌/◌, ◌%◌, ◌^◌, ◌<◌, ℕ, Bool, false, ◌==◌, if◌then◌else◌, Option, Some, None}
 use Rattle.std.specs.Int.{bit_not}
 use mir.Syntax.{w64}
 use Rattle.core_views.specs.declared.kind.Kind.{Kind}
@@ -21,7 +21,7 @@ use Rattle.part_steps.specs.declared.part_step.PartStep.TheVariants as part
 use Rattle.part_steps.specs.SlotWords.{leaf_of, slot_index}
 use Rattle.part_steps.specs.Tasks.{kind_of_task, loads, map_of}
 use Rattle.part_steps.specs.PageTopics.{tried_bit}
-use Rattle.part_steps.specs.ControlTopics.{guest_bits, section_bit, writer}
+use Rattle.part_steps.specs.ControlTopics.{guest_bits, request_bit, section_bit, writer}
 
 -- the number that keeps all bits but these
 abbrev pub all_but : ℕ → ℕ
@@ -73,6 +73,10 @@ abbrev pub word_looked : Option HostLook → ℕ
 word_looked None = 0
 word_looked (Some look) = look.word
 
+abbrev pub page_looked : Option HostLook → ℕ
+page_looked None = 0
+page_looked (Some look) = look.page
+
 -- what a link to the owned page is, and the leaf of the page that was looked up
 abbrev pub link_written : Topics → ℕ
 link_written t = table_word (page_owned t.owned)
@@ -119,6 +123,14 @@ part_task (part.Watch index) own t note = loads kind.Watch area.State index note
 part_task part.Publish own t note = works kind.Publish area.Slots 0 (page_owned t.owned) note
 part_task part.Clear own t note = works kind.Fill area.Role (page_left t.leaving) 0 note
 part_task part.GiveOld own t note = works kind.Give area.PoolMap (page_left t.leaving / 64) (2 ^ (page_left t.leaving % 64)) note
+part_task (part.SetStart gfn) own t note = works kind.Set area.RangeStart 0 gfn note
+part_task (part.SetEnd gfn) own t note = works kind.Set area.RangeEnd 0 gfn note
+part_task (part.SetCount count) own t note = works kind.Set area.Count 0 count note
+part_task (part.SetSeq seq) own t note = works kind.Set area.Seq 0 seq note
+part_task (part.Zap gfn) own t note = works kind.Zap area.Pool (pool_index (table_page t.walk) (entry_index gfn t.walk.level)) 0 note
+part_task (part.Ask index) own t note = works kind.Ask area.State index request_bit note
+part_task (part.Await index) own t note = loads kind.Await area.State index note
+part_task (part.Change new_) own t note = record { kind = kind.Change; area = area.Host; index = page_looked t.host; expected = word_looked t.host; written = new_; may_end = note }
 
 -- the place of the hand's actor
 abbrev pub own_index : Held → ℕ

@@ -1,15 +1,16 @@
 -- What an actor holds after each step of a part.
-use Rattle.std.specs.Prelude.{◌+◌, ℕ, Bool, false, ◌==◌, not, if◌then◌else◌, Some, None, is_some}
+use Rattle.std.specs.Prelude.{◌+◌, ℕ, Bool, false, ◌==◌, not, if◌then◌else◌, nat_lt, Some, None, is_some}
+use Rattle.core_views.specs.declared.topics.Checked.TheVariants as checked
 use Rattle.core_views.specs.declared.topics.Hold.TheVariants.{Owing, Shared, Exclusive}
 use Rattle.core_views.specs.declared.topics.Stay.TheVariants.{Outside, Guest, Section}
 use Rattle.core_views.specs.declared.topics.Topics.{Topics}
 use Rattle.part_steps.specs.declared.part_step.PartStep.{PartStep}
 use Rattle.part_steps.specs.declared.part_step.PartStep.TheVariants as part
-use Rattle.part_steps.specs.PartTasks.{entry_index, leaf_written, link_written}
-use Rattle.part_steps.specs.StayTopics.{begun, is_loose, kept_search, let_go, may_search, may_walk, unchecked}
-use Rattle.part_steps.specs.WalkTopics.{still_owned, swapped, walked}
+use Rattle.part_steps.specs.PartTasks.{entry_index, leaf_written, link_written, page_looked, word_looked}
+use Rattle.part_steps.specs.StayTopics.{begun, has_lock, is_loose, kept_search, let_go, may_search, may_walk, no_flush, unchecked}
+use Rattle.part_steps.specs.WalkTopics.{gone_down, still_owned, swapped, walked}
 use Rattle.part_steps.specs.PageTopics.{claimed, filled_more, given_back, published, searched, tried}
-use Rattle.part_steps.specs.ControlTopics.{at_root, at_set, count_checked, has_writer, in_section, range_checked, seq_checked, start_checked}
+use Rattle.part_steps.specs.ControlTopics.{at_root, at_set, count_checked, has_to_flush, has_writer, in_section, range_checked, seq_checked, start_checked}
 
 -- The sequence number was loaded: without the lock it is the snapshot, with which a look-up begins; else the check's last word.
 abbrev pub sequenced : Bool → Topics → ℕ → Topics
@@ -19,7 +20,7 @@ sequenced without_lock t v = record t {
   invalidations = record t.invalidations {
     snapshot = if without_lock then Some v else t.invalidations.snapshot;
     seq = if not without_lock then v else t.invalidations.seq;
-    checked = seq_checked t.invalidations.count t.invalidations.checked;
+    checked = seq_checked (has_lock t.hold) t.invalidations.count t.invalidations.checked;
   };
 }
 
@@ -36,7 +37,7 @@ part_topics part.Begin t v = begun Section t
 part_topics part.End t v = begun Outside t
 part_topics part.Share t v = record t { hold = if has_writer v then Owing v else Shared; invalidations = unchecked t.invalidations }
 part_topics part.Unshare t v = let_go t
-part_topics part.Exclude t v = record t { hold = if v == 0 then Exclusive else t.hold; invalidations = unchecked t.invalidations }
+part_topics part.Exclude t v = record t { hold = if v == 0 then Exclusive else t.hold; invalidations = unchecked t.invalidations; flush = if v == 0 then no_flush else t.flush }
 part_topics part.Release t v = let_go t
 part_topics (part.Map word) t v = record t { claim = record { at = word + (if v == 0 then 1 else 0); seen = v } }
 part_topics part.Claim t v = record t { owned = claimed t.claim v; claim = tried t.claim v }
@@ -58,3 +59,12 @@ part_topics (part.Watch index) t v = record t { watched = index + (if in_section
 part_topics part.Publish t v = published t v
 part_topics part.Clear t v = record t { owned = filled_more t.owned v }
 part_topics part.GiveOld t v = given_back t
+part_topics (part.SetStart gfn) t v = record t { invalidations = record t.invalidations { start = v } }
+part_topics (part.SetEnd gfn) t v = record t { invalidations = record t.invalidations { end = v } }
+part_topics (part.SetCount count) t v =
+    record t { invalidations = record t.invalidations { count = v; checked = checked.Nothing; opened = nat_lt t.invalidations.count v } }
+part_topics (part.SetSeq seq) t v = record t { invalidations = record t.invalidations { seq = v; checked = checked.Nothing } }
+part_topics (part.Zap gfn) t v = record t { walk = gone_down None t.walk (entry_index gfn t.walk.level) 0 }
+part_topics (part.Ask index) t v = record t { flush = record t.flush { asked = index + 1 } }
+part_topics (part.Await index) t v = record t { flush = record t.flush { awaited = index + (if has_to_flush v then 0 else 1) } }
+part_topics (part.Change new_) t v = record t { host = Some (record { page = page_looked t.host; word = if v == word_looked t.host then new_ else v }) }

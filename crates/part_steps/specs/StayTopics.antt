@@ -1,6 +1,7 @@
 -- Where an actor is and how it holds the lock; what it keeps as it goes in and out of guest, section and lock.
-use Rattle.std.specs.Prelude.{◌-◌, Bool, true, false, ◌||◌, not, if◌then◌else◌, None}
+use Rattle.std.specs.Prelude.{Bool, true, false, ◌||◌, not, if◌then◌else◌, None}
 use Rattle.core_views.specs.declared.topics.Checked.TheVariants as checked
+use Rattle.core_views.specs.declared.topics.Flush.{Flush}
 use Rattle.core_views.specs.declared.topics.Hold.{Hold}
 use Rattle.core_views.specs.declared.topics.Hold.TheVariants.{Loose, Shared, Owing, Exclusive}
 use Rattle.core_views.specs.declared.topics.Invalidations.{Invalidations}
@@ -57,6 +58,10 @@ unchecked n = record n { checked = checked.Nothing }
 
 abbrev pub forgotten : Invalidations → Invalidations
 forgotten n = record n { snapshot = None; checked = checked.Nothing }
+
+-- No virtual processor was asked for a flush yet.
+abbrev pub no_flush : Flush
+no_flush = record { asked = 0; awaited = 0 }
 
 -- what is held where the actor goes into the guest, into a section, or out of them: of tables, slots and look-ups nothing
 abbrev pub begun : Stay → Topics → Topics

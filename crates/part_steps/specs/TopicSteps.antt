@@ -1,5 +1,5 @@
 -- What an actor holds of each part of the machine after a step: a function of the step's numbers, of what it held, and of what the step answered.
-use Rattle.std.specs.Prelude.{◌≡◌, ◌<◌, ◌≤◌, ◌+◌, ◌-◌, ◌%◌, ◌^◌, ℕ, true, ◌==◌, if◌then◌else◌, Some, is_some}
+use Rattle.std.specs.Prelude.{◌≡◌, ◌<◌, ◌≤◌, ◌+◌, ◌-◌, ◌%◌, ◌^◌, ℕ, true, ◌==◌, if◌then◌else◌, Some, None, is_some}
 use Rattle.core_views.specs.declared.kind.Kind.{Kind}
 use Rattle.core_views.specs.declared.kind.StepKind.{StepKind}
 use Rattle.core_views.specs.declared.kind.StepKind.TheVariants as kind
@@ -12,10 +12,10 @@ use Rattle.core_views.specs.Kinds.{kind_named}
 use Rattle.spte_words.specs.declared.area.Area.TheVariants as area
 use Rattle.spte_words.specs.Areas.{number_of, place}
 use Rattle.part_steps.specs.Tasks.{map_of}
-use Rattle.part_steps.specs.StayTopics.{unchecked, begun, let_go}
-use Rattle.part_steps.specs.WalkTopics.{is_in_table, walked, swapped, still_owned}
+use Rattle.part_steps.specs.StayTopics.{unchecked, begun, let_go, no_flush}
+use Rattle.part_steps.specs.WalkTopics.{gone_down, is_in_table, walked, swapped, still_owned}
 use Rattle.part_steps.specs.PageTopics.{searched, claimed, tried, filled_more, given_back, published}
-use Rattle.part_steps.specs.ControlTopics.{has_writer, in_section, controlled}
+use Rattle.part_steps.specs.ControlTopics.{has_to_flush, has_writer, in_section, controlled, stored}
 
 -- where the host words begin, and the words of the pool
 abbrev pub host_begins : Sizes → ℕ
@@ -40,11 +40,16 @@ topics_by kind.Slot z k t v = record t { search = if is_some t.search.set then s
 topics_by kind.Host z k t v = record t { host = Some (record { page = k.word - host_begins z; word = v }) }
 topics_by kind.Share z k t v = record t { hold = if has_writer v then Owing v else Shared; invalidations = unchecked t.invalidations }
 topics_by kind.Unshare z k t v = let_go t
-topics_by kind.Exclude z k t v = record t { hold = if v == 0 then Exclusive else t.hold; invalidations = unchecked t.invalidations }
+topics_by kind.Exclude z k t v = record t { hold = if v == 0 then Exclusive else t.hold; invalidations = unchecked t.invalidations; flush = if v == 0 then no_flush else t.flush }
 topics_by kind.Release z k t v = let_go t
 topics_by kind.Claim z k t v = record t { owned = claimed t.claim v; claim = tried t.claim v }
 topics_by kind.Fill z k t v = record t { owned = filled_more t.owned v }
 topics_by kind.Give z k t v = given_back t
+topics_by kind.Set z k t v = record t { invalidations = stored k.word t.invalidations v }
+topics_by kind.Zap z k t v = record t { walk = if is_in_table t.walk then gone_down None t.walk (index_in_page z k.word) 0 else t.walk }
+topics_by kind.Ask z k t v = record t { flush = record t.flush { asked = (k.word - number_of area.State) + 1 } }
+topics_by kind.Await z k t v = record t { flush = record t.flush { awaited = (k.word - number_of area.State) + (if has_to_flush v then 0 else 1) } }
+topics_by kind.Change z k t v = record t { host = Some (record { page = k.word - host_begins z; word = if v == k.old then k.new else v }) }
 topics_by kind.Publish z k t v = published t v
 topics_by kind.Watch z k t v = record t { watched = (k.word - number_of area.State) + (if in_section v then 0 else 1) }
 topics_by kind.Read z k t v = t

@@ -1,7 +1,7 @@
 //! What the lone words of the machine's control say, and the state words.
 ghost use Rattle.std.specs.Prelude.{◌≡◌};
 ghost use Rattle.part_steps.specs.StayTopics.{has_lock};
-ghost use Rattle.part_steps.specs.ControlTopics.{has_writer, in_section, is_word_of};
+ghost use Rattle.part_steps.specs.ControlTopics.{has_to_flush, has_writer, in_section, is_word_of};
 
 use core_views::Hold;
 use spte_words::Area;
@@ -15,6 +15,9 @@ pub(crate) const SECTION_BIT: u64 = 1 << 1;
 /// Bits 0 and 1 of a state word: its actor is in the guest.
 pub(crate) const GUEST_BITS: u64 = 1 | SECTION_BIT;
 
+/// Bit 2 of a state word: a flush is asked for.
+pub(crate) const REQUEST_BIT: u64 = 1 << 2;
+
 /// Whether a writer has the lock, by the lock's word.
 pub fn has_writer(lock: u64) -> bool
     ensures { result ≡ has_writer lock }
@@ -27,6 +30,14 @@ pub fn in_section(state: u64) -> bool
     ensures { result ≡ in_section state }
 {
     state / SECTION_BIT % 2 == 1
+}
+
+/// Whether a virtual processor is in the guest, and has yet to make the flush that is asked
+/// for, by its state word.
+pub fn has_to_flush(state: u64) -> bool
+    ensures { result ≡ has_to_flush state }
+{
+    state % 2 == 1 && state / REQUEST_BIT % 2 == 1
 }
 
 // Whether the actor has the lock, as a reader or alone.

@@ -9,7 +9,7 @@ mod slot_words;
 mod task;
 mod topics;
 
-pub use control_words::{WRITER, has_writer, in_section};
+pub use control_words::{WRITER, has_to_flush, has_writer, in_section};
 pub use needs::{has_needs, needs_line, next_watched};
 pub use part_step::{
     PartStep, entry_index, page_owned, part_kind, part_task, run_of, table_page, words_filled,

@@ -1,11 +1,12 @@
 //! Whether a hand holds what a step of a part needs.
-ghost use Rattle.std.specs.Prelude.{◌≡◌, ◌≢◌, ◌⊎◌, ◌≤◌, ◌<◌, ◌-◌, ◌^◌, ◌/◌, ◌%◌, ℕ, true, false, Some, is_some};
+ghost use Rattle.std.specs.Prelude.{◌≡◌, ◌≢◌, ◌⊎◌, ◌≤◌, ◌<◌, ◌-◌, ◌^◌, ◌/◌, ◌%◌, ℕ, true, false, Some, is_some, ◌+◌};
 ghost use Rattle.core_views.specs.declared.topics.OwnedPage.{OwnedPage};
 ghost use Rattle.spte_words.specs.Areas.{size_of};
+ghost use Rattle.spte_words.specs.HostWords.{with_writes_allowed};
 ghost use Rattle.part_steps.specs.PartBounds.{PartRests};
 ghost use Rattle.core_views.specs.Slots.{contains};
-ghost use Rattle.part_steps.specs.PartTasks.{role_filled, words_filled};
-ghost use Rattle.part_steps.specs.PartHoldings.{IsFresh, IsOver, MayEnter, MayGiveOld, MayPublish, OwnsTable, SawEntry, next_watched};
+ghost use Rattle.part_steps.specs.PartTasks.{role_filled, word_looked, words_filled};
+ghost use Rattle.part_steps.specs.PartHoldings.{IsFresh, IsOver, MayChange, MayCount, MayEndInvalidation, MayEnter, MayGiveOld, MayPublish, OwnsTable, SawEntry, next_watched};
 ghost use Rattle.part_steps.specs.PartSteps.{PartNeeds, needs_line};
 ghost use Rattle.part_steps.specs.SetWords.{set_role};
 ghost use Rattle.part_steps.specs.SlotWords.{page_of};
@@ -19,7 +20,7 @@ use core_views::{
     Actor, Checked, Hand, Hold, HostLook, Invalidations, MapClaim, OwnedPage, Slot, SlotSearch,
     Stay, TableWalk, Topics,
 };
-use spte_words::{Area, Spte, SpteKind};
+use spte_words::{Area, HostWord, Spte, SpteKind};
 
 // Whether the claim goes on to this word of the map.
 fn goes_on_to(word: u64, claim: &MapClaim) -> bool
@@ -132,14 +133,63 @@ fn may_give_old(hand: &Hand) -> bool
         && sizes.actors() <= next_watched(own, topics.watched)
 }
 
+// Whether this may be stored as the count of open invalidations.
+fn may_count(count: u64, topics: &Topics) -> bool
+    requires { topics.now.invalidations.count < 2 ^ 32 }
+    ensures { result ≡ true → MayCount count topics.now }
+{
+    let seen = &topics.invalidations;
+    let next = if seen.opened {
+        seen.count.saturating_sub(1)
+    } else {
+        seen.count + 1
+    };
+    topics.hold == Hold::Exclusive
+        && topics.stay == Stay::Outside
+        && !matches!(seen.checked, Checked::Nothing | Checked::Seq)
+        && count == next
+}
+
+// Whether this may be stored as the sequence number.
+fn may_raise(seq: u64, topics: &Topics) -> bool
+    requires { topics.now.invalidations.seq < 2 ^ 40 }
+    ensures { result ≡ true → MayEndInvalidation topics.now × (seq ≡ topics.now.invalidations.seq + 1) }
+{
+    topics.hold == Hold::Exclusive
+        && topics.stay == Stay::Outside
+        && topics.invalidations.opened
+        && topics.invalidations.checked == Checked::Seq
+        && seq == topics.invalidations.seq + 1
+}
+
+// Whether the host page that was looked up may be changed, to this word.
+fn may_change(new: u64, hand: &Hand) -> bool
+    ensures { result ≡ true → MayChange hand.now.core × (new ≡ with_writes_allowed (word_looked hand.now.core.topics.host)) }
+{
+    let sizes = &hand.progress().sizes;
+    let topics = hand.topics();
+    let (Some(look), Actor::Host(host)) = (topics.host, hand.progress().actor) else {
+        return false;
+    };
+    sizes.owns(host, look.page)
+        && topics.invalidations.opened
+        && sizes.vcpus <= topics.flush.asked
+        && sizes.vcpus <= topics.flush.awaited
+        && new == HostWord::from_word(look.word).with_writes_allowed().word()
+}
+
 /// Whether the step is one of lines alone, which no actor makes that has no line
-/// left: it exchanges an entry of the tables, or is of a publication.
+/// left: it changes an entry of the tables, or is of a publication, of an invalidation or of
+/// a change of a host page.
 pub fn needs_line(step: PartStep) -> bool
     ensures { result ≡ needs_line step }
 {
     match step {
-        PartStep::Link(_) | PartStep::Leaf(_) => true,
+        PartStep::Link(_) | PartStep::Leaf(_) | PartStep::Zap(_) => true,
         PartStep::Publish | PartStep::Clear | PartStep::GiveOld => true,
+        PartStep::SetStart(_) | PartStep::SetEnd(_) => true,
+        PartStep::SetCount(_) | PartStep::SetSeq(_) => true,
+        PartStep::Ask(_) | PartStep::Await(_) | PartStep::Change(_) => true,
         _ => false,
     }
 }
@@ -192,6 +242,22 @@ pub fn has_needs(hand: &Hand, step: PartStep) -> bool
         }
         PartStep::Publish => may_publish(topics),
         PartStep::Clear | PartStep::GiveOld => may_give_old(hand),
+        PartStep::SetStart(_) | PartStep::SetEnd(_) => topics.hold == Hold::Exclusive,
+        PartStep::SetCount(count) => may_count(count, topics),
+        PartStep::SetSeq(seq) => may_raise(seq, topics),
+        PartStep::Zap(gfn) => {
+            topics.hold == Hold::Exclusive
+                && topics.stay == Stay::Outside
+                && saw_entry(gfn, &topics.walk)
+                && Spte::from_word(topics.walk.entry).kind(topics.walk.level) == SpteKind::Leaf
+        }
+        PartStep::Ask(index) => index < sizes.vcpus && index == topics.flush.asked,
+        PartStep::Await(index) => {
+            index < topics.flush.asked
+                && index == topics.flush.awaited
+                && topics.stay == Stay::Outside
+        }
+        PartStep::Change(new) => may_change(new, hand),
         PartStep::Pause | PartStep::Slots | PartStep::Root => true,
         PartStep::Seq | PartStep::Count | PartStep::RangeStart | PartStep::RangeEnd => true,
     }

@@ -6,7 +6,7 @@ ghost use Rattle.core_views.specs.declared.topics.OwnedPage.{OwnedPage};
 ghost use Rattle.spte_words.specs.declared.area.Area.TheVariants as Area;
 ghost use Rattle.spte_words.specs.Areas.{IsWordMap, pool_index, size_of};
 ghost use Rattle.part_steps.specs.PartBounds.{PartRests};
-ghost use Rattle.part_steps.specs.PartTasks.{all_but, entry_index, entry_task, leaf_written, own_index, page_left, page_owned, part_kind, part_task, set_held, table_page, word_looked, words_filled, works};
+ghost use Rattle.part_steps.specs.PartTasks.{all_but, entry_index, entry_task, leaf_written, own_index, page_left, page_looked, page_owned, part_kind, part_task, set_held, table_page, word_looked, words_filled, works};
 ghost use Rattle.part_steps.specs.PartSteps.{PartNeeds};
 ghost use Rattle.part_steps.specs.SlotWords.{slot_index};
 ghost use Rattle.spte_words.specs.Entries.{level_span, table_word};
@@ -16,7 +16,7 @@ ghost use Rattle.part_steps.specs.PageTopics.{tried_bit};
 ghost use Rattle.part_steps.specs.ControlTopics.{guest_bits, section_bit};
 ghost use Rattle.part_steps.specs.declared.part_step.PartStep.TheVariants.{Enter, Leave, Begin, End, Clear};
 
-use crate::control_words::{GUEST_BITS, SECTION_BIT, WRITER};
+use crate::control_words::{GUEST_BITS, REQUEST_BIT, SECTION_BIT, WRITER};
 use crate::slot_words::{leaf_of, slot_word};
 use crate::task::{Task, kind_of, map_of};
 use crate::topics::tried_bit;
@@ -87,6 +87,22 @@ pub enum PartStep {
     Clear,
     /// Gives this page back.
     GiveOld,
+    /// Stores this guest frame as the first of the range of open invalidations.
+    SetStart(u64),
+    /// Stores this guest frame as the one after their range.
+    SetEnd(u64),
+    /// Stores this number of open invalidations: one more with its own, or one less.
+    SetCount(u64),
+    /// Stores this sequence number.
+    SetSeq(u64),
+    /// Zaps the leaf of this guest frame that its walk has come to.
+    Zap(u64),
+    /// Asks the virtual processor at this place for a flush.
+    Ask(u64),
+    /// Loads the state word of this virtual processor, which was asked.
+    Await(u64),
+    /// Exchanges the host word that was looked up for this one.
+    Change(u64),
 }
 
 // An operation that writes, or works with, this number.
@@ -301,6 +317,37 @@ fn leaf(topics: &Topics) -> u64
     leaf_of(&topics.search.slot, word)
 }
 
+// Swaps the guest frame's entry, in the table that the walk has come to, for an absent one.
+fn zap(map: &WordMap, walk: &TableWalk, gfn: u64, note: u64) -> Task
+    requires map { IsWordMap map.now }
+    requires from { 1 ≤ walk.now.level }
+    requires to { walk.now.level ≤ 4 }
+    requires page { table_page walk.now < map.now.pool }
+    ensures task { result ≡ works StepKind.Zap Area.Pool (pool_index (table_page walk.now) (entry_index gfn walk.now.level)) 0 note }
+    ensures within { result.index < size_of map.now result.area }
+{
+    let index = map.pool_index(table_page(walk), entry_index(gfn, walk.level));
+    work(StepKind::Zap, Area::Pool, index, 0, note)
+}
+
+// Exchanges the host word that was looked up.
+fn change(host: Option<HostLook>, new: u64, note: u64) -> Task
+    requires { is_some host ≡ true }
+    ensures { result ≡ record { kind = StepKind.Change; area = Area.Host; index = page_looked host; expected = word_looked host; written = new; may_end = note } }
+{
+    let Some(HostLook { page, word }) = host else {
+        unreachable!()
+    };
+    Task {
+        kind: StepKind::Change,
+        area: Area::Host,
+        index: page,
+        expected: word,
+        written: new,
+        may_end: note,
+    }
+}
+
 // Tries to take the lowest free page of those seen.
 fn claim(claim: &MapClaim, note: u64) -> Task
     requires { 0 < claim.now.seen }
@@ -367,6 +414,14 @@ pub fn part_task(hand: &Hand, step: PartStep, note: u64) -> Task
         PartStep::Watch(index) => Task::load(StepKind::Watch, Area::State, index, note),
         PartStep::Publish => publish(topics.owned, note),
         PartStep::Clear | PartStep::GiveOld => drop_old(step, map, topics.leaving, note),
+        PartStep::SetStart(gfn) => work(StepKind::Set, Area::RangeStart, 0, gfn, note),
+        PartStep::SetEnd(gfn) => work(StepKind::Set, Area::RangeEnd, 0, gfn, note),
+        PartStep::SetCount(count) => work(StepKind::Set, Area::Count, 0, count, note),
+        PartStep::SetSeq(seq) => work(StepKind::Set, Area::Seq, 0, seq, note),
+        PartStep::Zap(gfn) => zap(map, &topics.walk, gfn, note),
+        PartStep::Ask(index) => work(StepKind::Ask, Area::State, index, REQUEST_BIT, note),
+        PartStep::Await(index) => Task::load(StepKind::Await, Area::State, index, note),
+        PartStep::Change(new) => change(topics.host, new, note),
     }
 }
 

@@ -1,20 +1,22 @@
 //! What a step changes of what an actor holds of each part of the machine.
-ghost use Rattle.std.specs.Prelude.{◌≡◌, ◌≤◌, ◌<◌, ◌^◌, true, Some, is_some};
+ghost use Rattle.std.specs.Prelude.{◌≡◌, ◌≤◌, ◌<◌, ◌^◌, true, Some, is_some, if◌then◌else◌, ◌-◌, ◌==◌};
 ghost use Rattle.core_views.specs.declared.topics.OwnedPage.{OwnedPage};
 ghost use Rattle.core_views.specs.Kinds.{kind_named};
 ghost use Rattle.core_views.specs.Sizes.{AreSizes};
 ghost use Rattle.core_views.specs.declared.place.SlotField.TheVariants.{Flags};
 ghost use Rattle.core_views.specs.declared.kind.StepKind.TheVariants.{Walk, Swap};
+ghost use Rattle.spte_words.specs.Areas.{number_of};
+ghost use Rattle.spte_words.specs.declared.area.Area.TheVariants as Area;
 ghost use Rattle.part_steps.specs.StayTopics.{begun, let_go, may_search, may_walk};
-ghost use Rattle.part_steps.specs.WalkTopics.{gone_down, still_owned, swapped, walked};
+ghost use Rattle.part_steps.specs.WalkTopics.{gone_down, is_in_table, still_owned, swapped, walked};
 ghost use Rattle.part_steps.specs.PageTopics.{claimed, filled_more, is_won, published, searched, tried, tried_bit};
-ghost use Rattle.part_steps.specs.ControlTopics.{at_word, checked_after, controlled, count_checked, noted, range_checked, seq_checked, start_checked, takes_snapshot};
-ghost use Rattle.part_steps.specs.TopicSteps.{HasRoom, index_in_page, topics_after};
+ghost use Rattle.part_steps.specs.ControlTopics.{at_word, checked_after, controlled, count_checked, noted, range_checked, seq_checked, start_checked, stored, takes_snapshot};
+ghost use Rattle.part_steps.specs.TopicSteps.{HasRoom, host_begins, index_in_page, topics_after};
 
-use crate::control_words::{has_lock, has_writer, in_section, is_word_of};
+use crate::control_words::{has_lock, has_to_flush, has_writer, in_section, is_word_of};
 use crate::task::map_of;
 use core_views::{
-    Checked, Hold, HostLook, Invalidations, Kind, MapClaim, OwnedPage, Sizes, SlotField,
+    Checked, Flush, Hold, HostLook, Invalidations, Kind, MapClaim, OwnedPage, Sizes, SlotField,
     SlotSearch, Stay, StepKind, TableWalk, Topics,
 };
 use spte_words::{Area, SlotFlags, Spte, SpteKind};
@@ -281,12 +283,13 @@ fn range_checked(checked: Checked) -> Checked
     }
 }
 
-fn seq_checked(count: u64, checked: Checked) -> Checked
-    ensures { result ≡ seq_checked count checked }
+fn seq_checked(locked: bool, count: u64, checked: Checked) -> Checked
+    ensures { result ≡ seq_checked locked count checked }
 {
     match checked {
         Checked::Count if count == 0 => Checked::All,
         Checked::Range => Checked::All,
+        Checked::Nothing if locked => Checked::Seq,
         _ => Checked::Nothing,
     }
 }
@@ -302,7 +305,7 @@ fn checked_after(word: u32, hold: Hold, invalidations: &Invalidations) -> Checke
     } else if is_word_of(Area::RangeEnd, word) {
         range_checked(invalidations.checked)
     } else if is_word_of(Area::Seq, word) {
-        seq_checked(invalidations.count, invalidations.checked)
+        seq_checked(has_lock(hold), invalidations.count, invalidations.checked)
     } else {
         invalidations.checked
     }
@@ -325,6 +328,55 @@ fn note(word: u32, hold: Hold, invalidations: &mut Invalidations, found: u64)
         invalidations.start = found;
     } else if is_word_of(Area::RangeEnd, word) {
         invalidations.end = found;
+    }
+}
+
+// A word of the invalidations was stored.
+fn store(word: u32, invalidations: &mut Invalidations, written: u64)
+    ensures { invalidations.new ≡ stored word invalidations.old written }
+{
+    if is_word_of(Area::Count, word) {
+        invalidations.opened = invalidations.count < written;
+        invalidations.count = written;
+        invalidations.checked = Checked::Nothing;
+    } else if is_word_of(Area::RangeStart, word) {
+        invalidations.start = written;
+    } else if is_word_of(Area::RangeEnd, word) {
+        invalidations.end = written;
+    } else if is_word_of(Area::Seq, word) {
+        invalidations.seq = written;
+        invalidations.checked = Checked::Nothing;
+    }
+}
+
+// A leaf was zapped: an absent entry stands there.
+fn zap_entry(sizes: &Sizes, word: u32, walk: &mut TableWalk)
+    requires { AreSizes sizes.now }
+    ensures { walk.new ≡ (if is_in_table walk.old then gone_down None walk.old (index_in_page sizes.now word) 0 else walk.old) }
+{
+    if walk.level >= 1 {
+        walk.index = index_in_page(sizes, word);
+        walk.entry = 0;
+    }
+}
+
+// The place of the actor whose state word this is.
+fn state_index(word: u32) -> u64
+    ensures is { result ≡ word - number_of Area.State }
+    ensures below { result < 2 ^ 32 }
+{
+    word.saturating_sub(Area::State.number()) as u64
+}
+
+// A host word was to be exchanged.
+fn change_host(sizes: &Sizes, kind: Kind, found: u64) -> HostLook
+    requires { AreSizes sizes.now }
+    ensures { result ≡ record { page = kind.word - host_begins sizes.now; word = if found == kind.old then kind.new else found } }
+{
+    let begins = map_of(sizes).word_of(Area::Host, 0);
+    HostLook {
+        page: kind.word.saturating_sub(begins) as u64,
+        word: if found == kind.old { kind.new } else { found },
     }
 }
 
@@ -423,6 +475,10 @@ pub fn step_topics(sizes: &Sizes, kind: Kind, topics: &mut Topics, found: u64)
             topics.invalidations.checked = Checked::Nothing;
             if found == 0 {
                 topics.hold = Hold::Exclusive;
+                topics.flush = Flush {
+                    asked: 0,
+                    awaited: 0,
+                };
             }
         }
         StepKind::Claim => topics.owned = claim(&mut topics.claim, found),
@@ -435,9 +491,15 @@ pub fn step_topics(sizes: &Sizes, kind: Kind, topics: &mut Topics, found: u64)
             topics.claim.seen = 0;
         }
         StepKind::Publish => publish(topics, found),
+        StepKind::Set => store(kind.word, &mut topics.invalidations, found),
+        StepKind::Zap => zap_entry(sizes, kind.word, &mut topics.walk),
+        StepKind::Ask => topics.flush.asked = state_index(kind.word) + 1,
+        StepKind::Await => {
+            topics.flush.awaited = state_index(kind.word) + if has_to_flush(found) { 0 } else { 1 };
+        }
+        StepKind::Change => topics.host = Some(change_host(sizes, kind, found)),
         StepKind::Watch => {
-            let index = kind.word.saturating_sub(Area::State.number());
-            topics.watched = index as u64 + if in_section(found) { 0 } else { 1 };
+            topics.watched = state_index(kind.word) + if in_section(found) { 0 } else { 1 };
         }
         StepKind::Read | StepKind::Write | StepKind::Add => {}
     }

@@ -1,5 +1,5 @@
 -- What a slot line needs at each of its places, and what the step of its place makes.
-use Rattle.std.specs.Prelude.{◌≡◌, ◌<◌, ℕ, Bool, true, false, Option, Some, None, length}
+use Rattle.std.specs.Prelude.{◌≡◌, ◌<◌, ℕ, Option, length}
 use Rattle.core_views.specs.declared.hand.Seen.{Seen}
 use Rattle.core_views.specs.declared.place.SlotChangePlace.{SlotChangePlace}
 use Rattle.core_views.specs.declared.place.SlotChangePlace.TheVariants.{Count, Publish, Clear, Give}
@@ -9,12 +9,11 @@ use Rattle.mmu_core.specs.lines.SlotChangeKnows.{SlotChangeKnows}
 use Rattle.mmu_core.specs.lines.SlotChangeSteps.{slot_change_part}
 use Rattle.mmu_core.specs.machine.MayMake.{MayMake}
 use Rattle.mmu_core.specs.machine.Turns.{line_of}
-use Rattle.mmu_lock.specs.declared.lock.Lock.{Lock}
-use Rattle.mmu_lock.specs.declared.lock.Lock.TheVariants.{Got, Held as HeldBy}
 use Rattle.part_steps.specs.declared.part_step.PartStep.{PartStep}
 use Rattle.part_steps.specs.declared.part_step.PartStep.TheVariants as part
 use Rattle.step_seats.specs.Seats.{Seat}
 use Rattle.step_seats.specs.PartTurns.{MadePart}
+pub use Rattle.step_seats.specs.PartTurns.{ToldWay}
 
 -- The line is at this place, whose step its actor may make, and knows what the place asks.
 pub record IsAt (p : SlotChangePlace) (note : ℕ) (h : Held) : Type 0 where
@@ -22,22 +21,12 @@ pub record IsAt (p : SlotChangePlace) (note : ℕ) (h : Held) : Type 0 where
   pub may : MayMake (slot_change_part p h (line_of h).command) note h
   pub knows : SlotChangeKnows p h
 
--- Where the step waits, this is what it has seen in its way, and else there is nothing.
-abbrev pub ToldWay : Option Seen → Bool → Seen → Type 0
-ToldWay (Some seen) waits way = (waits ≡ true) × (seen ≡ way)
-ToldWay None waits way = waits ≡ false
-
 -- The step of the place was made, of which this was found (a fill, or a role: what it stored), and what is in its way is told.
 pub record MakesStep (way : Option Seen) (p : SlotChangePlace) (note : ℕ) (before after : Seat) : Type 0 where
   pub found : ℕ
   pub made : MadePart (slot_change_part p before.hand (line_of before.hand).command) note found before after
   pub told_way : ToldWay way (part_waits (slot_change_part p before.hand (line_of before.hand).command) before.hand.topics found)
       (part_seen (slot_change_part p before.hand (line_of before.hand).command) before.hand found)
-
--- what is in the way of who tries to hold the lock alone, on the lock's word
-abbrev pub lock_way : ℕ → Lock → Option Seen
-lock_way word Got = None
-lock_way word (HeldBy value) = Some (record { word = word; value = value })
 
 -- The place's step is this one, which no part makes, and which never waits.
 abbrev pub IsPlain : SlotChangePlace → PartStep → Type 0

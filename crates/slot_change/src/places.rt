@@ -4,27 +4,17 @@ ghost use Rattle.core_views.specs.Sizes.{AreSizes};
 ghost use Rattle.core_views.specs.declared.place.SlotChangePlace.TheVariants as at;
 ghost use Rattle.mmu_core.specs.lines.PartWaits.{part_seen};
 ghost use Rattle.part_steps.specs.declared.part_step.PartStep.TheVariants.{Release};
-ghost use Rattle.slot_change.specs.Places.{IsAt, IsPlain, MakesStep, lock_way};
+ghost use Rattle.slot_change.specs.Places.{IsAt, IsPlain, MakesStep};
 ghost use Rattle.step_seats.specs.Moves.{KeepsRoom};
 
 use core_views::{Hand, Seen, SlotChangePlace};
 use grace_period::Watch;
 use mmu_core::part_rests;
-use mmu_lock::{Lock, try_exclusive, unlock};
+use mmu_lock::{try_exclusive, unlock};
 use part_steps::{PartStep, SLOT_SET_ROLE, map_of, page_owned, set_word, words_filled};
 use spte_words::Area;
 use step_seats::{Stepper, make_part};
 use table_pool::{Claim, Fill};
-
-// What is in the way of a try for the lock, on the lock's word.
-fn lock_way(word: u32, lock: Lock) -> Option<Seen>
-    ensures { result ≡ lock_way word lock }
-{
-    match lock {
-        Lock::Got => None,
-        Lock::Held(value) => Some(Seen { word, value }),
-    }
-}
 
 // Claims a page for the new slot set.
 pub(crate) fn claim<S: Stepper>(s: &mut S, begun: bool, note: u64) -> Option<Seen>
@@ -77,7 +67,7 @@ pub(crate) fn exclude<S: Stepper>(s: &mut S, note: u64) -> Option<Seen>
 {
     part_rests(s.hand());
     let word = map_of(&s.hand().progress().sizes).word_of(Area::Lock, 0);
-    lock_way(word, try_exclusive(s, note))
+    try_exclusive(s, note).in_way(word)
 }
 
 // Gives the lock back, since invalidations are open: their number is in its way.

@@ -1,4 +1,7 @@
 -- What a turn of a line answers is how its step goes: it is done where the line is answered, and has more to do where the line begins anew.
+use Rattle.mmu_core.specs.lines.Rests.{Rests}
+use Rattle.core_views.specs.declared.kind.Kind.{Kind}
+use Rattle.mmu_core.specs.machine.Enabled.{Enabled}
 use Rattle.std.proofs.Common.{◌≡◌, ◌≢◌, ◌⊎◌, inl, inr, ◌<◌, ◌++◌, ◌∷◌, [], ℕ, List, length, refl, sym, subst, ap, ◌∙◌, arith}
 use Rattle.std.proofs.lemmas.List.{get_or_push}
 use Rattle.std.proofs.lemmas.Option.{unwrap_or-slice_get}
@@ -27,7 +30,7 @@ use Rattle.core_views.specs.declared.trace.Command.{Command}
 use Rattle.core_views.specs.declared.trace.Command.TheVariants.{Access}
 use Rattle.core_views.specs.declared.trace.Line.{Line}
 use Rattle.core_views.specs.declared.trace.Op.{Op}
-use Rattle.core_views.specs.Held.{Held}
+use Rattle.core_views.specs.Held.{Held, has_line}
 use Rattle.part_steps.specs.declared.part_step.PartStep.{PartStep}
 use Rattle.mmu_core.specs.lines.AccessSteps.{behind_fault}
 use Rattle.mmu_core.specs.machine.MayMake.{MayMake}
@@ -72,26 +75,34 @@ plain_case : (o : Outcome) (waits : Bool) → ((answer : Answer) → o ≡ outco
 plain_case (outcome.Goes q) waits free = inr (record { place = q; more = λ answer e. absurd (cc e); is = refl })
 plain_case (outcome.Ends answer) waits free = inl (record { answer = answer; done = refl; free = free answer refl; is = refl })
 
-over_case : (e : FaultEnd) → EndsSo (fault_turn (Ends e)) false (behind_fault (Ends e)) ⊎ GoesSo (fault_turn (Ends e)) (behind_fault (Ends e))
-over_case end_of.Installed = inr (record { place = place.Access (Enter true); more = λ answer e. absurd (cc e); is = refl })
-over_case end_of.Mmio = inl (record { answer = answers.Mmio; done = refl; free = refl; is = refl })
-over_case end_of.HostFault = inl (record { answer = answers.HostFault; done = refl; free = refl; is = refl })
-over_case end_of.Starved = inl (record { answer = answers.Starved; done = refl; free = refl; is = refl })
-over_case (end_of.Retry cause) = inr (record { place = place.Access (Enter false); more = λ answer e. absurd (cc e); is = refl })
+over_case : (e : FaultEnd) (waits : Bool) → ((answer : Answer) → behind_fault (Ends e) ≡ outcome.Ends answer → waits ≡ false)
+    → EndsSo (fault_turn (Ends e)) waits (behind_fault (Ends e)) ⊎ GoesSo (fault_turn (Ends e)) (behind_fault (Ends e))
+over_case end_of.Installed waits free = inr (record { place = place.Access (Enter true); more = λ answer e. absurd (cc e); is = refl })
+over_case end_of.Mmio waits free = inl (record { answer = answers.Mmio; done = refl; free = free answers.Mmio refl; is = refl })
+over_case end_of.HostFault waits free = inl (record { answer = answers.HostFault; done = refl; free = free answers.HostFault refl; is = refl })
+over_case end_of.Starved waits free = inl (record { answer = answers.Starved; done = refl; free = free answers.Starved refl; is = refl })
+over_case (end_of.Retry cause) waits free = inr (record { place = place.Access (Enter false); more = λ answer e. absurd (cc e); is = refl })
 
 going : (n : FaultNext) (q : FaultPlace) → n ≡ Goes q → GoesSo (fault_turn n) (behind_fault n)
 going n q is = record { place = place.Access (Fault q); more = λ answer e. absurd (cc (ap fault_turn is, e)); is = ap behind_fault is }
 
-fault_case : (p : FaultPlace) (gfn word : ℕ) (op : Op) (h : Held) (v : ℕ)
-    → EndsSo (line_turn (place.Access (Fault p)) (Access gfn word op) h v) (line_waits (place.Access (Fault p)) (Access gfn word op) h v) (outcome_at (place.Access (Fault p)) (Access gfn word op) h v)
+fault_case : (p : FaultPlace) (gfn word : ℕ) (op : Op) (h : Held) (v : ℕ) (waits : Bool)
+    → ((answer : Answer) → outcome_at (place.Access (Fault p)) (Access gfn word op) h v ≡ outcome.Ends answer → waits ≡ false)
+    → EndsSo (line_turn (place.Access (Fault p)) (Access gfn word op) h v) waits (outcome_at (place.Access (Fault p)) (Access gfn word op) h v)
     ⊎ GoesSo (line_turn (place.Access (Fault p)) (Access gfn word op) h v) (outcome_at (place.Access (Fault p)) (Access gfn word op) h v)
-fault_case (fault.End e) gfn word op h v = over_case e
-fault_case _ gfn word op h v = inr (going _ _ refl)
+fault_case (fault.End e) gfn word op h v waits free = over_case e waits free
+fault_case _ gfn word op h v waits free = inr (going _ _ refl)
 
-pub line_case : (p : Place) (c : Command) (h : Held) (v : ℕ)
-    → EndsSo (line_turn p c h v) (line_waits p c h v) (outcome_at p c h v) ⊎ GoesSo (line_turn p c h v) (outcome_at p c h v)
-line_case (place.Access (Fault p)) (Access gfn word op) h v = fault_case p gfn word op h v
-line_case p c h v = plain_case (outcome_at p c h v) (line_waits p c h v) (ends_free p c h v)
+pub line_case : (p : Place) (c : Command) (h : Held) (v : ℕ) (waits : Bool) → ((answer : Answer) → outcome_at p c h v ≡ outcome.Ends answer → waits ≡ false)
+    → EndsSo (line_turn p c h v) waits (outcome_at p c h v) ⊎ GoesSo (line_turn p c h v) (outcome_at p c h v)
+line_case (place.Access (Fault p)) (Access gfn word op) h v waits free = fault_case p gfn word op h v waits free
+line_case p c h v waits free = plain_case (outcome_at p c h v) waits free
+
+-- Where a line is left, the step that a hand allows is its next one, which rests on what it needs.
+line_rests : (h : Held) (k : Kind) → length h.answers < length h.lines → Enabled h k → Rests h
+unfolding Enabled
+line_rests h k left (inl next) = next.rests
+line_rests h k left (inr step) = let has : has_line h ≡ true = has_line_is h left in let none = step.none_left in absurd (cc (has, none))
 
 -- What is said of the line follows from its turn.
 pub says_line : (turn : Turn Answer) (waits : Bool) (way : Seen) (t : Turn Answer) (o : Outcome) (line : Line) (h g : Held) → Gives turn waits way t
@@ -114,7 +125,8 @@ turns_say turn before after left T =
     let v : ℕ = T.makes.found in
     let p : Place = place_at h.state.place h in
     let c : Command = (line_of h).command in
-    says_line turn (line_waits p c h v) (line_seen p c h v) (line_turn p c h v) (outcome_of h v) (line_of h) h g T.gives (line_case p c h v)
+    says_line turn (line_waits p c h v) (line_seen p c h v) (line_turn p c h v) (outcome_of h v) (line_of h) h g T.gives
+    (line_case p c h v (line_waits p c h v) (λ answer. ends_free p c h v answer (line_rests h T.makes.kind left T.makes.enabled).at))
     (subst (λ (x : Held). Comes (outcome_of h v) (line_of h) h x) (sym T.makes.hand) (next_comes h T.makes.kind v left))
 
 pub turns_same : (turn : Turn Answer) (before after : Seat) → TurnsLine turn before after → IsSameHand before.hand after.hand
@@ -145,11 +157,11 @@ turns_told turn before after left T =
 -- how the turn of the hand's line goes whose step found v
 abbrev Cases : Held → ℕ → Type 0
 Cases h v =
-    EndsSo (line_turn (place_at h.state.place h) (line_of h).command h v) (line_waits (place_at h.state.place h) (line_of h).command h v) (outcome_of h v)
+    EndsSo (line_turn (place_at h.state.place h) (line_of h).command h v) false (outcome_of h v)
     ⊎ GoesSo (line_turn (place_at h.state.place h) (line_of h).command h v) (outcome_of h v)
 
 cases : (h : Held) (v : ℕ) → Cases h v
-cases h v = line_case (place_at h.state.place h) (line_of h).command h v
+cases h v = line_case (place_at h.state.place h) (line_of h).command h v false (λ answer e. refl)
 
 -- A turn that says More leaves its line under way, and one that is done ends it with this answer.
 pub more_goes : (before after : Seat) (T : TurnsLine More before after) → (q : Place) × (outcome_of before.hand T.makes.found ≡ outcome.Goes q)

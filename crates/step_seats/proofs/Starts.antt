@@ -111,6 +111,18 @@ none_under_way z lines words hands start = λ i there.
     ap (λ (h : Held). h.state.place) (hand_at_start z lines words hands i start (omega (arith, count, there))) in
     λ under. absurd (subst IsUnderWay idle under)
 
+-- The words and hands of a trace's start are a start with its lines.
+pub start_of : (t : Trace) (z : Sizes) (words : List ℕ) (hands : List Handful) → IsTrace t → z ≡ sizes_of t.header → AreStartWords z words
+    → cores_of hands ≡ start_hands z t.lines (actors_of z) → IsStart z t.lines (world_of words hands)
+start_of t z words hands trace sizes made dealt = record {
+  sizes = subst AreSizes (sym sizes) (header_sizes t.header trace.header);
+  allowed = subst (λ x. All (λ line. IsCommandFor x line.actor line.command) t.lines) (sym sizes) trace.lines;
+  distinct = trace.distinct;
+  few = trace.few;
+  words = made;
+  hands = dealt;
+}
+
 -- The words and hands of a trace's start are a machine.
 pub machine_at_start : (t : Trace) (z : Sizes) (words : List ℕ) (hands : List Handful) → IsTrace t → z ≡ sizes_of t.header → AreStartWords z words
     → cores_of hands ≡ start_hands z t.lines (actors_of z) → IsMachine z words hands
@@ -121,10 +133,4 @@ machine_at_start t z words hands trace sizes made dealt = record {
 }
   where
     starts : IsStart z t.lines (world_of words hands)
-    starts = record {
-      sizes = subst AreSizes (sym sizes) (header_sizes t.header trace.header);
-      allowed = subst (λ x. All (λ line. IsCommandFor x line.actor line.command) t.lines) (sym sizes) trace.lines;
-      distinct = trace.distinct;
-      words = made;
-      hands = dealt;
-    }
+    starts = start_of t z words hands trace sizes made dealt

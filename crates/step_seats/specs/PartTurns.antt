@@ -6,7 +6,7 @@ use Rattle.part_steps.specs.declared.part_step.PartStep.{PartStep}
 use Rattle.part_steps.specs.PartTasks.{part_kind}
 use Rattle.part_steps.specs.PartTopics.{part_topics}
 use Rattle.mmu_core.specs.machine.Machine.{World}
-use Rattle.mmu_core.specs.lines.PartWaits.{part_waits}
+use Rattle.mmu_core.specs.lines.PartWaits.{part_seen, part_waits}
 use Rattle.mmu_core.specs.machine.Steps.{next}
 use Rattle.step_seats.specs.Moves.{Adds, Tells}
 use Rattle.step_seats.specs.Seats.{Seat}
@@ -52,3 +52,14 @@ pub record TurnsPart (turn_waits : Bool) (step : PartStep) (note : ℕ) (before 
 pub record MakesPart (step : PartStep) (note : ℕ) (before after : Seat) : Type 0 where
   pub found : ℕ
   pub made : MadePart step note found before after
+
+-- Where the step waits, this is what it has seen in its way, and else there is nothing.
+abbrev pub ToldWay : Option Seen → Bool → Seen → Type 0
+ToldWay (Some seen) waits way = (waits ≡ true) × (seen ≡ way)
+ToldWay None waits way = waits ≡ false
+
+-- The actor made this step of a part, of which this was found, and what is in its way is told.
+pub record MadeTelling (way : Option Seen) (step : PartStep) (note : ℕ) (before after : Seat) : Type 0 where
+  pub found : ℕ
+  pub made : MadePart step note found before after
+  pub told_way : ToldWay way (part_waits step before.hand.topics found) (part_seen step before.hand found)

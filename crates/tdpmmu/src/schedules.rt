@@ -68,7 +68,7 @@ const WARM_SCHEDULES: [(&str, &str); 34] = [
 ];
 
 // Whole traces behind the header with another pool, and what is printed.
-const TRACES: [(u64, &str, &str); 33] = [
+const TRACES: [(u64, &str, &str); 41] = [
     // No slot is set before the manager's turns.
     (
         64,
@@ -248,6 +248,92 @@ const TRACES: [(u64, &str, &str); 33] = [
         "vm slot 0 0 16 0\ngo\nv0 read 0x0\nvm slot 1 100 16 64\n> v0 claim\n> v0 claim\n> vm end\n",
         "2 vm done\n5 vm starved\n4 v0 starved\n",
     ),
+    // A host line answers, and changes nothing that a guest reads: of a page that is mapped,
+    // of one that isn't, of one in no slot, and of one that isn't the thread's.
+    (
+        64,
+        "vm slot 0 0 16 0\nv0 write 0x2000 7\nh0 allow 2\nh0 allow 3\nh0 allow 20\nh0 allow 1024\nv1 read 0x2000\ngo\n",
+        "2 vm done\n3 v0 frame 2 value 0\n4 h0 done\n5 h0 done\n6 h0 done\n7 h0 refused out-of-range\n8 v1 frame 2 value 7\n",
+    ),
+    // An invalidation has ended since the reader looked at the host's word: it begins its
+    // fault anew. Where none has, its first turns run to the answer.
+    (
+        64,
+        "vm slot 0 0 16 0\ngo\nv0 read 0x2000\nh0 allow 2\n> v0 host\n> h0 end\n> v0 end\n> v0 end\n",
+        "2 vm done\n5 h0 done\n4 v0 frame 2 value 0\n",
+    ),
+    (
+        64,
+        "vm slot 0 0 16 0\ngo\nv0 read 0x2000\nv1 write 0x2000 5\nh0 allow 2\n> v0 host\n> h0 end\n> v0 end\n> v1 end\n",
+        "2 vm done\n6 h0 done\n5 v1 frame 2 value 0\n4 v0 frame 2 value 5\n",
+    ),
+    // The page is within a range that is being invalidated: the reader begins anew until the
+    // invalidation has ended.
+    (
+        64,
+        "vm slot 0 0 16 0\nv0 write 0x2000 7\ngo\nh0 allow 2\nv0 read 0x2000\n> h0 change\n> v0 end\n> h0 end\n> v0 end\n",
+        "2 vm done\n3 v0 frame 2 value 0\n5 h0 done\n6 v0 frame 2 value 7\n",
+    ),
+    (
+        64,
+        "vm slot 0 0 16 0\nv0 write 0x2000 7\ngo\nh0 allow 2\nv0 read 0x3000\n> h0 change\n> v0 end\n",
+        "2 vm done\n3 v0 frame 2 value 0\n6 v0 frame 3 value 0\n5 h0 done\n",
+    ),
+    // The leaf is zapped while the reader is in the guest with its translation: the thread
+    // waits until the reader has left, and the reader still reads the page.
+    (
+        64,
+        "vm slot 0 0 16 0\nv0 write 0x2000 7\ngo\nv0 read 0x2000\nh0 allow 2\n> v0 2\n> h0 end\n> v0 end\n> h0 end\n",
+        "2 vm done\n3 v0 frame 2 value 0\n5 v0 frame 2 value 7\n6 h0 done\n",
+    ),
+    // A new slot set is published when no invalidation is open.
+    (
+        64,
+        "vm slot 0 0 16 0\ngo\nh0 allow 2\nvm slot 1 100 16 64\n> h0 change\n> vm end\n> h0 end\n> vm end\n",
+        "2 vm done\n4 h0 done\n5 vm done\n",
+    ),
+    // The thread finds the host page in no slot before the slot is published, and is answered.
+    (
+        64,
+        "go\nvm slot 0 0 16 0\nh0 allow 2\nv0 read 0x2000\n> h0 end\n> vm end\n> v0 end\n",
+        "4 h0 done\n3 vm done\n5 v0 frame 2 value 0\n",
+    ),
+];
+
+// Two host threads, of which the first has the host pages 0 to 7 and the second the others.
+const TWO_THREADS: [(&str, &str); 6] = [
+    // Each allows writes to pages of its own alone.
+    (
+        "h0 allow 12\nh1 allow 2\nh1 allow 8\nh0 allow 7\nh1 allow 1023\nh1 allow 1024\ngo\n",
+        "2 h0 refused out-of-range\n3 h1 refused out-of-range\n4 h1 done\n5 h0 done\n6 h1 done\n7 h1 refused out-of-range\n",
+    ),
+    // Guest frames 2 and 12 are invalidated: a fault of frame 13 goes on, and one of frame 7,
+    // between them, begins anew. After the first has ended the range is as wide as before.
+    (
+        "vm slot 0 0 16 0\nv0 write 0x2000 7\ngo\nh0 allow 2\nh1 allow 12\nv0 read 0x2000\nv1 read 0xd000\nv1 read 0x7000\n> h0 change\n> h1 change\n> v1 end\n> v1 end\n> h0 end\n> v0 end\n> h1 end\n> v0 end\n> v1 end\n",
+        "2 vm done\n3 v0 frame 2 value 0\n8 v1 frame 13 value 0\n5 h0 done\n6 h1 done\n7 v0 frame 2 value 7\n9 v1 frame 7 value 0\n",
+    ),
+    // An invalidation begins and ends while another one is open, and doesn't wait for it.
+    (
+        "vm slot 0 0 16 0\ngo\nh0 allow 2\nh1 allow 12\n> h0 change\n> h1 end\n",
+        "2 vm done\n5 h1 done\n4 h0 done\n",
+    ),
+    // A new slot set is published when both have ended.
+    (
+        "vm slot 0 0 16 0\ngo\nh0 allow 2\nh1 allow 12\nvm slot 1 100 16 64\n> h0 change\n> h1 change\n> vm end\n> h0 end\n> vm end\n> h1 end\n> vm end\n",
+        "2 vm done\n4 h0 done\n5 h1 done\n6 vm done\n",
+    ),
+    // The first has the lock while it waits for a processor in the guest, and the second waits
+    // for the lock.
+    (
+        "vm slot 0 0 16 0\nv0 write 0x2000 7\ngo\nv0 read 0x2000\nh0 allow 2\nh1 allow 12\n> v0 2\n> h0 end\n> h1 end\n> v0 end\n> h0 end\n> h1 end\n",
+        "2 vm done\n3 v0 frame 2 value 0\n5 v0 frame 2 value 7\n6 h0 done\n7 h1 done\n",
+    ),
+    // The page of the second is in no slot: it leaves the range of frame 2 as it is.
+    (
+        "vm slot 0 0 16 0\ngo\nh0 allow 2\nh1 allow 500\nv0 read 0x3000\nv1 read 0x2000\n> h0 change\n> h1 change\n> v0 end\n> v1 end\n> h0 end\n> h1 end\n> v1 end\n",
+        "2 vm done\n6 v0 frame 3 value 0\n4 h0 done\n5 h1 done\n7 v1 frame 2 value 0\n",
+    ),
 ];
 
 // The kinds of step that an item may name; `end` has a meaning of its own. The reader
@@ -317,6 +403,26 @@ fn follows_whole_traces(rt: HostRuntime) -> Result<(), Fail> {
             "tdp 1 vcpus 2 workers 1 pages 1024 frames 1040 words 1 pool {pool} cache 64 manual 0 hosts 0\n"
         )?;
         let (status, out) = run_on(&rt, alloc, &["tdpmmu", "weave"], &header, lines, &[], &[])?;
+        assert_eq!(rt; status, Status::Done, "on {lines}");
+        assert_eq!(rt; out.bytes(), text.as_bytes(), "on {lines}");
+    }
+    Ok(())
+}
+
+#[test]
+fn follows_two_host_threads(rt: HostRuntime) -> Result<(), Fail> {
+    const HEADER: &str =
+        "tdp 1 vcpus 2 workers 1 pages 1024 frames 1040 words 1 pool 64 cache 64 manual 0 hosts 0 8\n";
+    for (lines, text) in TWO_THREADS {
+        let (status, out) = run_on(
+            &rt,
+            rt.alloc(),
+            &["tdpmmu", "weave"],
+            HEADER,
+            lines,
+            &[],
+            &[],
+        )?;
         assert_eq!(rt; status, Status::Done, "on {lines}");
         assert_eq!(rt; out.bytes(), text.as_bytes(), "on {lines}");
     }

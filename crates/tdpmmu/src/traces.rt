@@ -2,7 +2,7 @@
 //! ends with a line of two dashes.
 
 /// How many traces the table has.
-pub const COUNT: usize = 113;
+pub const COUNT: usize = 115;
 
 /// The table.
 pub const TRACES: &str = "vcpus 1 workers 0 pages 1 frames 1 words 1
@@ -1458,5 +1458,31 @@ v0 write 2117688 0x8000000000000000
 v1 write 0x205038 0x8000000000000000
 vm slot 0xc 262655 6 0
 v0 add 0x205000 0x8000000000000000
+--
+vcpus 2 workers 1 pages 1024 frames 1040 words 1
+vm slot 0 0 16 0
+h0 allow 2
+v0 write 0x2000 7
+h0 allow 2
+v1 read 0x2000
+h0 allow 20
+h0 allow 1024
+h0 allow 0xffffffffffffffff
+v0 add 0x2000 1
+v1 read 0x2000
+vm slot 1 100 16 64
+h0 allow 64
+h0 allow 15
+v0 read 0x64000
+--
+vcpus 1 workers 0 pages 70 frames 70 words 2
+h0 allow 69
+h0 allow 70
+vm slot 0 0x7fffffff0 6 64 ro
+h0 allow 69
+v0 read 0x7fffffff5008
+h0 allow 69
+v0 write 0x7fffffff5008 1
+v0 read 0x7fffffff5008
 --
 ";

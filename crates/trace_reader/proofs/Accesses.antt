@@ -1,5 +1,5 @@
 -- The lines `vN read A`, `vN write A X` and `vN add A X`: what each says is read, and only that, and why it is refused.
-use Rattle.std.proofs.Common.{◌≡◌, ◌≤◌, ◌<◌, ◌+◌, ◌*◌, ◌^◌, inl, inr, ℕ, List, [], ◌∷◌, Bool, Result, Ok, Err, refl, subst, arith}
+use Rattle.std.proofs.Common.{◌≡◌, ◌≤◌, ◌<◌, ◌+◌, ◌*◌, ◌^◌, inl, inr, ℕ, List, [], ◌∷◌, Bool, Ok, refl, subst, arith}
 use Rattle.std.specs.Prelude.{codes}
 use Rattle.std.specs.Fmt.{decimal}
 use Rattle.core_views.specs.Text.{actor_name}
@@ -11,12 +11,10 @@ use Rattle.core_views.specs.declared.trace.Command.TheVariants.{Access}
 use Rattle.core_views.specs.declared.trace.Op.{Op}
 use Rattle.core_views.specs.declared.trace.Op.TheVariants.{Read, Write, Add}
 use Rattle.core_views.specs.declared.trace.Header.{Header}
-use Rattle.trace_reader.specs.declared.reason.Reason.{Reason}
-use Rattle.trace_reader.specs.declared.reason.Reason.TheVariants as reason
-use Rattle.trace_reader.specs.Forms.{◌>>=◌, Said, address, number, vcpu, read_form, write_form, add_form, by_command, by_form}
+use Rattle.trace_reader.specs.Operands.{◌>>=◌, address, number, vcpu}
+use Rattle.trace_reader.specs.Forms.{Said, read_form, write_form, add_form, by_command, by_form}
 use Rattle.trace_reader.specs.Grammar.{AreCommandWords, AreWords, IsAccessForm, IsActor, IsCommandForm, Spells}
-use Rattle.trace_reader.proofs.Judged.{IsPairSaid, Judged, Tells, judged, none, numbers}
-use Rattle.trace_reader.proofs.Names.{Names}
+use Rattle.trace_reader.proofs.Judged.{AreTwo, IsOne, IsPairSaid, Judged, Tells, judged, named_why, none}
 use Rattle.trace_reader.proofs.Operands.{IsNumber, address_found, address_number, address_spelled, bound, number_found, number_number, number_spelled, vcpu_found, vcpu_named, vcpu_names}
 use Rattle.trace_reader.proofs.PlainWords.{actor_word, spelled_word, text_word}
 use Rattle.trace_reader.proofs.Results.{then_ok}
@@ -26,36 +24,29 @@ abbrev pub IsVcpu : Actor → Type 0
 IsVcpu (Vcpu i) = Unit {0}
 IsVcpu _ = ⊥
 
--- There is one word, or there are two.
-abbrev pub IsOne : List (List ℕ) → Type 0
-IsOne rest = (x : List ℕ) × (rest ≡ x ∷ [])
-
-abbrev pub AreTwo : List (List ℕ) → Type 0
-AreTwo rest = (x y : List ℕ) × (rest ≡ x ∷ y ∷ [])
-
 -- With this command's word only a virtual processor has a form, which has these words after it.
 abbrev Only : List ℕ → List ℕ → List (List ℕ) → (List (List ℕ) → Type 0) → Type 0
 Only who command rest Fits = (a : Actor) → IsCommandForm (who ∷ command ∷ rest) a → (who ≡ actor_name a) × (IsVcpu a × Fits rest)
 
-unnamed : (w : List ℕ) (a : Actor) → ((i : ℕ) → i ≤ 15 → w ≡ 118 ∷ decimal i → ⊥) → w ≡ actor_name a → IsVcpu a → IsActor a → ⊥
-unnamed w (Vcpu i) never is vcpu le = never i le is
-unnamed w (Host i) never is vcpu le = vcpu
-unnamed w Manager never is vcpu le = vcpu
-unnamed w (Worker i) never is vcpu le = vcpu
+named : (who : List ℕ) (a : Actor) → who ≡ actor_name a → IsVcpu a → IsActor a → (i : ℕ) × (i ≤ 15) × (who ≡ 118 ∷ decimal i)
+named who (Vcpu i) e is le = (i, le, e)
+named who (Host i) e is le = absurd is
+named who Manager e is le = absurd is
+named who (Worker i) e is le = absurd is
 
--- Why an access is refused: its first word is looked at, then the numbers.
-access_why : (h : Header) (words : List (List ℕ)) (who : List ℕ) (r : Result ℕ Reason) (f : ℕ → Said) → Names 118 15 h.vcpus who r
+-- Why an access is refused.
+access_why : (h : Header) (words : List (List ℕ)) (who : List ℕ) (f : ℕ → Said)
     → ((i : ℕ) → who ≡ 118 ∷ decimal i → IsCommandForm words (Vcpu i)) → ((a : Actor) → IsCommandForm words a → (who ≡ actor_name a) × IsVcpu a)
-    → ((i : ℕ) → IsNumber (f i)) → Tells h words (r >>= f)
-access_why h words who (Ok i) f (le, lt, is) form only number = numbers h words (Vcpu i) (f i) (form i is) le lt (number i)
-access_why h words who (Err reason.Word) f never form only number = λ a has le. let (is, vcpu) = only a has in unnamed who a never is vcpu le
-access_why h words who (Err reason.Actor) f (i, le, never, is) form only number = (Vcpu i, form i is, le, never)
-access_why h words who (Err _) f never form only number = absurd never
+    → ((i : ℕ) → IsNumber (f i)) → Tells h words (vcpu h who >>= f)
+access_why h words who f form only number =
+    named_why h words who 118 15 h.vcpus Vcpu (vcpu h who) f
+    (record { is = λ i le. le; known = λ i lt. lt; below = λ i lt. lt; form = form; only = λ a has le. let (is, of) = only a has in named who a is of le })
+    (vcpu_names h who) number
 
 read_why : (h : Header) (who : List ℕ) (rest : List (List ℕ)) → Only who (codes "read") rest IsOne → Tells h (who ∷ codes "read" ∷ rest) (read_form h who rest)
 unfolding read_form
 read_why h who (x ∷ []) only =
-    access_why h (who ∷ codes "read" ∷ x ∷ []) who (vcpu h who) _ (vcpu_names h who) (λ i name. inl (x, rw name refl))
+    access_why h (who ∷ codes "read" ∷ x ∷ []) who _ (λ i name. inl (x, rw name refl))
     (λ a form. let (is, (vcpu, (y, e))) = only a form in (is, vcpu))
     (λ n. bound (address h x) _ (address_number h x) (λ a. tt))
 read_why h who [] only = none h (who ∷ codes "read" ∷ []) (λ a form. let (is, (vcpu, (y, e))) = only a form in cc)
@@ -65,7 +56,7 @@ write_why : (h : Header) (who : List ℕ) (rest : List (List ℕ)) → Only who 
     → Tells h (who ∷ codes "write" ∷ rest) (write_form h who rest)
 unfolding write_form
 write_why h who (x ∷ y ∷ []) only =
-    access_why h (who ∷ codes "write" ∷ x ∷ y ∷ []) who (vcpu h who) _ (vcpu_names h who) (λ i name. inr (inl (x, y, rw name refl)))
+    access_why h (who ∷ codes "write" ∷ x ∷ y ∷ []) who _ (λ i name. inr (inl (x, y, rw name refl)))
     (λ a form. let (is, (vcpu, (z, u, e))) = only a form in (is, vcpu))
     (λ n. bound (address h x) _ (address_number h x) (λ a. bound (number y) _ (number_number y) (λ v. tt)))
 write_why h who [] only = none h (who ∷ codes "write" ∷ []) (λ a form. let (is, (vcpu, (z, u, e))) = only a form in cc)
@@ -75,7 +66,7 @@ write_why h who (x ∷ y ∷ v ∷ more) only = none h (who ∷ codes "write" �
 add_why : (h : Header) (who : List ℕ) (rest : List (List ℕ)) → Only who (codes "add") rest AreTwo → Tells h (who ∷ codes "add" ∷ rest) (add_form h who rest)
 unfolding add_form
 add_why h who (x ∷ y ∷ []) only =
-    access_why h (who ∷ codes "add" ∷ x ∷ y ∷ []) who (vcpu h who) _ (vcpu_names h who) (λ i name. inr (inr (x, y, rw name refl)))
+    access_why h (who ∷ codes "add" ∷ x ∷ y ∷ []) who _ (λ i name. inr (inr (x, y, rw name refl)))
     (λ a form. let (is, (vcpu, (z, u, e))) = only a form in (is, vcpu))
     (λ n. bound (address h x) _ (address_number h x) (λ a. bound (number y) _ (number_number y) (λ v. tt)))
 add_why h who [] only = none h (who ∷ codes "add" ∷ []) (λ a form. let (is, (vcpu, (z, u, e))) = only a form in cc)

@@ -13,7 +13,8 @@ use Rattle.trace_reader.specs.declared.saying.Saying.{Saying}
 use Rattle.trace_reader.specs.declared.saying.Saying.TheVariants.{Does, Go, Schedules}
 use Rattle.trace_reader.specs.Forms.{is_empty, words_of}
 use Rattle.trace_reader.specs.Sayings.{IsSayingOf, Seen, by_first, by_words, said}
-use Rattle.trace_reader.specs.Grammar.{spaced, AreWordsOf, SaysLine, SaysUntil, IsWord, AreWords, HasForm}
+use Rattle.trace_reader.specs.Grammar.{spaced, IsWord, AreWords}
+use Rattle.trace_reader.specs.LineGrammar.{AreWordsOf, SaysLine, SaysUntil, HasForm}
 use Rattle.trace_reader.proofs.Items.{has_declared, kind_passes, kind_read}
 use Rattle.trace_reader.proofs.Results.{branch, both}
 use Rattle.trace_reader.proofs.Commands.{command_first, command_form, command_words, commanding}
@@ -28,7 +29,7 @@ until_word w (Made code) (never, named) =
     record { filled = grind (arith, nat_tests, t.0); plain = t.1 }
 
 pub say_words : (h : Header) (seen : Seen) (words : List (List ℕ)) (s : Saying) → IsHeader h → IsSayingOf h s → AreWordsOf seen words s → AreWords words
-say_words h seen words (Does a c) header range are = command_words seen.ids words a c (commanding h a c header.vcpus.1 range).0 are
+say_words h seen words (Does a c) header range are = command_words seen.ids words a c (commanding h a c header range).0 are
 say_words h seen words Go header range (first, e) = rw e (text_word (codes "go") (omega arith) refl, tt)
 say_words h seen words (Schedules item) header range (last, e, says) =
     rw e (text_word (codes ">") (omega arith) refl, (actor_word item.actor (has_declared h item.actor header range.actor).0, (until_word last item.until says, tt)))

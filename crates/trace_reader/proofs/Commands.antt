@@ -1,21 +1,27 @@
 -- The forms of an actor's line, each with one clause or one row in each lemma: what every line says is read, and only that,
 -- and why it is refused.
-use Rattle.std.proofs.Common.{◌≡◌, ◌≤◌, inl, inr, ℕ, List, [], ◌∷◌, Bool, true, false, Ok, refl, arith}
+use Rattle.std.proofs.Common.{◌≡◌, inl, inr, ℕ, List, [], ◌∷◌, Bool, true, false, Ok, refl}
 use Rattle.std.specs.Prelude.{codes}
 use Rattle.std.specs.Str.{bytes_eq}
 use Rattle.std.specs.declared.option.Option.{Option}
 use Rattle.std.specs.declared.option.Option.TheVariants.{Some, None}
 use Rattle.core_views.specs.Text.{actor_name}
-use Rattle.core_views.specs.Traces.{IsCommandOf, or_slot_id}
+use Rattle.core_views.specs.Sizes.{sizes_of}
+use Rattle.core_views.specs.Traces.{HasActor, IsCommandOf, IsHeader, or_slot_id}
 use Rattle.core_views.specs.declared.actor.Actor.{Actor}
-use Rattle.core_views.specs.declared.actor.Actor.TheVariants.{Vcpu, Manager}
+use Rattle.core_views.specs.declared.actor.Actor.TheVariants.{Vcpu, Host, Manager}
 use Rattle.core_views.specs.declared.trace.Command.{Command}
-use Rattle.core_views.specs.declared.trace.Command.TheVariants.{Access, SetSlot}
+use Rattle.core_views.specs.declared.trace.Command.TheVariants.{Access, ChangeHost, SetSlot}
+use Rattle.core_views.specs.declared.trace.HostChange.{HostChange}
+use Rattle.core_views.specs.declared.trace.HostChange.TheVariants.{Allow}
 use Rattle.core_views.specs.declared.trace.Header.{Header}
 use Rattle.trace_reader.specs.Forms.{by_command, by_form, slot_id}
-use Rattle.trace_reader.specs.Grammar.{AreCommandWords, AreWords, IsActor, IsCommandForm, IsDeclared}
-use Rattle.trace_reader.proofs.Accesses.{AreTwo, IsOne, IsVcpu, access_form, access_plain, access_reads, add_judged, read_judged, write_judged}
-use Rattle.trace_reader.proofs.Judged.{Judged, none, row}
+use Rattle.trace_reader.specs.Grammar.{AreCommandWords, AreWords, IsActor, IsCommandForm, IsDeclared, TellsChange}
+use Rattle.trace_reader.proofs.Accesses.{IsVcpu, access_form, access_plain, access_reads, add_judged, read_judged, write_judged}
+use Rattle.trace_reader.proofs.HostLines.{IsHost, change_known, host_judged, host_line_form, host_plain, host_reads}
+use Rattle.trace_reader.proofs.Items.{has_declared}
+use Rattle.trace_reader.proofs.Judged.{AreTwo, IsOne, Judged, none, row}
+use Rattle.trace_reader.proofs.Operands.{small_words}
 use Rattle.trace_reader.proofs.Results.{other_word, parts_same}
 use Rattle.trace_reader.proofs.SlotLines.{AreSetting, IsManager, slot_judged, slot_line_form, slot_plain, slot_reads}
 
@@ -30,17 +36,23 @@ IsRow command a rest =
     Either (bytes_eq command (codes "read")) (IsVcpu a × IsOne rest) (
     Either (bytes_eq command (codes "write")) (IsVcpu a × AreTwo rest) (
     Either (bytes_eq command (codes "add")) (IsVcpu a × AreTwo rest) (
-    Either (bytes_eq command (codes "slot")) (IsManager a × AreSetting rest) ⊥)))
+    Either (bytes_eq command (codes "slot")) (IsManager a × AreSetting rest) (
+    Either (bytes_eq command (codes "allow")) (IsHost a × IsOne rest) ⊥))))
 
 -- The words of a form are the actor's name, a command's word, and those of its row.
 abbrev HasRow : List (List ℕ) → Actor → Type 0
 HasRow words a = (command : List ℕ) × (rest : List (List ℕ)) × (words ≡ actor_name a ∷ command ∷ rest) × IsRow command a rest
+
+host_row : (i : ℕ) (command p : List ℕ) (change : HostChange) → TellsChange command change → IsRow command (Host i) (p ∷ [])
+host_row i command p Allow tells = rw tells (tt, (p, refl))
+host_row i command p _ tells = absurd tells
 
 has_row : (words : List (List ℕ)) (a : Actor) → IsCommandForm words a → HasRow words a
 has_row words (Vcpu i) (inl (x, e)) = (codes "read", x ∷ [], e, (tt, (x, refl)))
 has_row words (Vcpu i) (inr (inl (x, y, e))) = (codes "write", x ∷ y ∷ [], e, (tt, (x, y, refl)))
 has_row words (Vcpu i) (inr (inr (x, y, e))) = (codes "add", x ∷ y ∷ [], e, (tt, (x, y, refl)))
 has_row words Manager (i, b, p, k, read_only, e) = (codes "slot", _, e, (tt, (i, b, p, k, read_only, refl)))
+has_row words (Host i) (command, p, change, tells, e) = (command, p ∷ [], e, host_row i command p change tells)
 has_row words _ form = absurd form
 
 -- The first word of an actor's line is its name.
@@ -69,13 +81,16 @@ by_command_judged h seen who command rest =
     (λ is. rw is (add_judged h seen who rest (only who (codes "add") rest))) (λ add.
     row (Judged h seen (who ∷ command ∷ rest)) command (codes "slot") _ _ _ refl
     (λ is. rw is (slot_judged h seen who rest (only who (codes "slot") rest))) (λ slot.
+    row (Judged h seen (who ∷ command ∷ rest)) command (codes "allow") _ _ _ refl
+    (λ is. rw is (host_judged h seen who (codes "allow") Allow rest (λ n page lt. lt) refl (only who (codes "allow") rest))) (λ allow.
     none h (who ∷ command ∷ rest) (λ a form.
     let no : ⊥ = rw (
       other_word command (codes "read") read,
       other_word command (codes "write") write,
       other_word command (codes "add") add,
       other_word command (codes "slot") slot,
-    ) at (only who command rest a form).1 in no)))))
+      other_word command (codes "allow") allow,
+    ) at (only who command rest a form).1 in no))))))
 
 pub by_form_judged : (h : Header) (seen : ℕ → Bool) (words : List (List ℕ)) → Judged h seen words (by_form h seen words)
 unfolding by_form
@@ -84,29 +99,36 @@ by_form_judged h seen (w ∷ []) = none h (w ∷ []) (λ a form. let (command, r
 by_form_judged h seen (who ∷ command ∷ rest) = by_command_judged h seen who command rest
 
 -- What the words of a form say is read.
-pub reads : (h : Header) (seen : ℕ → Bool) (words : List (List ℕ)) (a : Actor) (c : Command) → h.vcpus ≤ 16 → h.words ≤ 8 → IsCommandOf h a c
+pub reads : (h : Header) (seen : ℕ → Bool) (words : List (List ℕ)) (a : Actor) (c : Command) → IsHeader h → IsCommandOf h a c
     → AreCommandWords seen words a c → by_form h seen words ≡ Ok (a, c)
-reads h seen words (Vcpu i) (Access gfn word op) vcpus few range are = access_reads h seen words i gfn word op vcpus few range are
-reads h seen words Manager (SetSlot id s) vcpus few range are = slot_reads h seen words id s range are
-reads h seen words _ _ vcpus few range are = absurd are
+reads h seen words (Vcpu i) (Access gfn word op) header range are = access_reads h seen words i gfn word op header.vcpus.1 (small_words h header) range are
+reads h seen words Manager (SetSlot id s) header range are = slot_reads h seen words id s range are
+reads h seen words (Host i) (ChangeHost page change) header range are = host_reads h seen words i page change header.hosts.count range are
+reads h seen words _ _ header range are = absurd are
 
 -- Words that say a command are of a form of its actor.
 pub command_form : (ids : ℕ → Bool) (words : List (List ℕ)) (a : Actor) (c : Command) → AreCommandWords ids words a c → IsCommandForm words a
 command_form ids words (Vcpu i) (Access gfn word op) are = access_form ids words i gfn word op are
 command_form ids words Manager (SetSlot id s) are = slot_line_form ids words id s are
+command_form ids words (Host i) (ChangeHost page change) are = host_line_form ids words i page change are
 command_form ids words _ _ are = absurd are
 
 -- They are words.
 pub command_words : (ids : ℕ → Bool) (words : List (List ℕ)) (a : Actor) (c : Command) → IsActor a → AreCommandWords ids words a c → AreWords words
 command_words ids words (Vcpu i) (Access gfn word op) le are = access_plain ids words i gfn word op le are
 command_words ids words Manager (SetSlot id s) le are = slot_plain ids words id s are
+command_words ids words (Host i) (ChangeHost page change) le are = host_plain ids words i page change le are
 command_words ids words _ _ le are = absurd are
 
 -- An actor that makes a command is declared.
-pub commanding : (h : Header) (a : Actor) (c : Command) → h.vcpus ≤ 16 → IsCommandOf h a c → IsActor a × IsDeclared h a
-commanding h (Vcpu i) (Access gfn word op) few range = (omega (arith, range.0), range.0)
-commanding h Manager (SetSlot id s) few range = (tt, tt)
-commanding h _ _ few range = absurd range
+commands : (h : Header) (a : Actor) (c : Command) → IsCommandOf h a c → HasActor (sizes_of h) a
+commands h (Vcpu i) (Access gfn word op) range = range.0
+commands h Manager (SetSlot id s) range = tt
+commands h (Host i) (ChangeHost page change) range = change_known h i page change range
+commands h _ _ range = absurd range
+
+pub commanding : (h : Header) (a : Actor) (c : Command) → IsHeader h → IsCommandOf h a c → IsActor a × IsDeclared h a
+commanding h a c header range = has_declared h a header (commands h a c range)
 
 -- An ID that a slot was set at is none.
 abbrev pub IsNewId : (ℕ → Bool) → Option ℕ → Type 0
@@ -116,6 +138,7 @@ IsNewId ids (Some id) = ids id ≡ false
 pub new_id : (ids : ℕ → Bool) (words : List (List ℕ)) (a : Actor) (c : Command) → AreCommandWords ids words a c → IsNewId ids (slot_id c)
 new_id ids words Manager (SetSlot id s) are = are.4
 new_id ids words (Vcpu i) (Access gfn word op) are = tt
+new_id ids words (Host i) (ChangeHost page change) are = tt
 new_id ids words _ _ are = absurd are
 
 -- this ID, if it is there, in front of these

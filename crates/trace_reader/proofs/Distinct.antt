@@ -12,10 +12,11 @@ use Rattle.core_views.specs.Traces.{or_slot_id, slot_ids}
 use Rattle.trace_reader.specs.declared.reason.Reason.{Reason}
 use Rattle.trace_reader.specs.declared.saying.Saying.{Saying}
 use Rattle.trace_reader.specs.declared.saying.Saying.TheVariants.{Does, Go, Schedules}
-use Rattle.trace_reader.specs.Forms.{◌>>=◌, has_id, is_empty, sets_at, slot_id}
+use Rattle.trace_reader.specs.Operands.{◌>>=◌}
+use Rattle.trace_reader.specs.Forms.{has_id, is_empty, sets_at, slot_id}
 use Rattle.trace_reader.specs.Sayings.{Seen, said}
 use Rattle.trace_reader.specs.Gathered.{lines_in}
-use Rattle.trace_reader.specs.Grammar.{SaysLine}
+use Rattle.trace_reader.specs.LineGrammar.{SaysLine}
 use Rattle.trace_reader.specs.Lines.{Raw, Told, after_checks, content, fault_of, is_skipped, line_of, lines_of, onto, none_seen, raw, seen_with, with_line}
 use Rattle.trace_reader.specs.Reading.{with_header}
 use Rattle.trace_reader.proofs.Bytes.{only_said}

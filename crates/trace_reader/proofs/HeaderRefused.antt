@@ -8,7 +8,7 @@ use Rattle.core_views.specs.declared.trace.Header.{Header}
 use Rattle.trace_reader.specs.declared.reason.Reason.{Reason}
 use Rattle.trace_reader.specs.declared.reason.Reason.TheVariants as reason
 use Rattle.trace_reader.specs.Numbers.{number_of}
-use Rattle.trace_reader.specs.Forms.{◌>>=◌}
+use Rattle.trace_reader.specs.Operands.{◌>>=◌}
 use Rattle.trace_reader.specs.Headers.{within, ranged, field, behind_version, are_sizes, sizes_of, rising, host_list, hosts_of, header_of}
 use Rattle.trace_reader.specs.HeaderGrammar.{IsHeaderSaid}
 use Rattle.trace_reader.proofs.HeaderSaid.{header_only}

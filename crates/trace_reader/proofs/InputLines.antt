@@ -9,12 +9,12 @@ use Rattle.core_views.specs.declared.trace.Header.{Header}
 use Rattle.trace_reader.specs.declared.reason.Reason.{Reason}
 use Rattle.trace_reader.specs.declared.saying.Saying.{Saying}
 use Rattle.trace_reader.specs.declared.saying.Saying.TheVariants.{Does, Go, Schedules}
-use Rattle.trace_reader.specs.Forms.{◌>>=◌}
+use Rattle.trace_reader.specs.Operands.{◌>>=◌}
 use Rattle.trace_reader.specs.Sayings.{Seen, is_there, said}
 use Rattle.trace_reader.specs.Lines.{Raw, Told, fault_of, after_checks, is_skipped, content, line_of, with_line, onto, raw, lines_of, seen_with}
 use Rattle.trace_reader.specs.Forms.{sets_at}
 use Rattle.trace_reader.specs.Gathered.{go_in, lines_in, one_more}
-use Rattle.trace_reader.specs.Grammar.{SaysLine}
+use Rattle.trace_reader.specs.LineGrammar.{SaysLine}
 use Rattle.trace_reader.specs.InputGrammar.{with_ends, IsText, IsSkipped, SayLines, PassesAll, LineFails, set_by}
 use Rattle.trace_reader.proofs.Prefix.{with_prefix}
 use Rattle.trace_reader.proofs.Loop.{not_empty, same_seen}

@@ -21,7 +21,8 @@ use Rattle.trace_reader.specs.declared.reason.Reason.{Reason}
 use Rattle.trace_reader.specs.declared.reason.Reason.TheVariants as reason
 use Rattle.trace_reader.specs.Numbers.{is_digit, number_of}
 use Rattle.trace_reader.specs.Items.{actor_said, begins, item_by, item_said, kind_names, kind_number, made, number_among, turns, until_said}
-use Rattle.trace_reader.specs.Grammar.{IsActor, IsDeclared, IsKindNamed, IsUntilForm, SaysUntil, Spells}
+use Rattle.trace_reader.specs.Grammar.{IsActor, IsDeclared, Spells}
+use Rattle.trace_reader.specs.LineGrammar.{IsKindNamed, IsUntilForm, SaysUntil}
 use Rattle.trace_reader.proofs.Names.{NamesActor, actor_judged, actor_read}
 use Rattle.trace_reader.proofs.Results.{both, branch, is_word, other_word, word_is}
 use Rattle.trace_reader.proofs.Spelled.{own, spelled, spelling}

@@ -1,5 +1,6 @@
 -- The words of an actor's line judged: what they say, or why they say nothing.
-use Rattle.std.proofs.Common.{◌≡◌, ℕ, List, Bool, true, false, cond, Ok, Err, refl}
+use Rattle.std.proofs.Common.{◌≡◌, ◌≤◌, ◌<◌, ℕ, List, [], ◌∷◌, Bool, true, false, cond, Result, Ok, Err, refl}
+use Rattle.std.specs.Fmt.{decimal}
 use Rattle.std.specs.Str.{bytes_eq}
 use Rattle.core_views.specs.Traces.{IsCommandOf}
 use Rattle.core_views.specs.declared.actor.Actor.{Actor}
@@ -8,7 +9,9 @@ use Rattle.core_views.specs.declared.trace.Header.{Header}
 use Rattle.trace_reader.specs.declared.reason.Reason.{Reason}
 use Rattle.trace_reader.specs.declared.reason.Reason.TheVariants as reason
 use Rattle.trace_reader.specs.Forms.{Said}
+use Rattle.trace_reader.specs.Operands.{◌>>=◌}
 use Rattle.trace_reader.specs.Grammar.{AreCommandWords, IsCommandForm, IsActor, IsDeclared}
+use Rattle.trace_reader.proofs.Names.{Names}
 use Rattle.trace_reader.proofs.Operands.{IsNumber}
 use Rattle.trace_reader.proofs.Results.{differs, word_is}
 
@@ -39,6 +42,31 @@ none h words never = λ a form is. never a form
 pub numbers : (h : Header) (words : List (List ℕ)) (a : Actor) (r : Said) → IsCommandForm words a → IsActor a → IsDeclared h a → IsNumber r → Tells h words r
 numbers h words a (Ok p) form is known number = tt
 numbers h words a (Err r) form is known number = rw number (a, form, is, known)
+
+-- Such words have a letter and an index for the actor's name: each index is an actor's, and no other actor has such words.
+pub record AreNamed (h : Header) (words : List (List ℕ)) (who : List ℕ) (letter most count : ℕ) (make : ℕ → Actor) : Type 0 where
+  pub is : (i : ℕ) → i ≤ most → IsActor (make i)
+  pub known : (i : ℕ) → i < count → IsDeclared h (make i)
+  pub below : (i : ℕ) → IsDeclared h (make i) → i < count
+  pub form : (i : ℕ) → who ≡ letter ∷ decimal i → IsCommandForm words (make i)
+  pub only : (a : Actor) → IsCommandForm words a → IsActor a → (i : ℕ) × (i ≤ most) × (who ≡ letter ∷ decimal i)
+
+-- Why they are refused: the actor's name is looked at, then the numbers.
+pub named_why : (h : Header) (words : List (List ℕ)) (who : List ℕ) (letter most count : ℕ) (make : ℕ → Actor) (r : Result ℕ Reason) (f : ℕ → Said)
+    → AreNamed h words who letter most count make → Names letter most count who r → ((i : ℕ) → IsNumber (f i)) → Tells h words (r >>= f)
+named_why h words who letter most count make (Ok i) f are (le, lt, is) number =
+    numbers h words (make i) (f i) (are.form i is) (are.is i le) (are.known i lt) (number i)
+named_why h words who letter most count make (Err reason.Word) f are never number = λ a form is. let (i, le, e) = are.only a form is in never i le e
+named_why h words who letter most count make (Err reason.Actor) f are (i, le, never, is) number =
+    (make i, are.form i is, are.is i le, λ d. never (are.below i d))
+named_why h words who letter most count make (Err _) f are never number = absurd never
+
+-- There is one word, or there are two.
+abbrev pub IsOne : List (List ℕ) → Type 0
+IsOne rest = (x : List ℕ) × (rest ≡ x ∷ [])
+
+abbrev pub AreTwo : List (List ℕ) → Type 0
+AreTwo rest = (x y : List ℕ) × (rest ≡ x ∷ y ∷ [])
 
 -- What words say, or why they say nothing.
 abbrev pub Judged : Header → (ℕ → Bool) → List (List ℕ) → Said → Type 0

@@ -14,7 +14,7 @@ use Rattle.core_views.specs.declared.trace.Header.{Header}
 use Rattle.trace_reader.specs.declared.reason.Reason.{Reason}
 use Rattle.trace_reader.specs.declared.reason.Reason.TheVariants as reason
 use Rattle.trace_reader.specs.Numbers.{decimal_number}
-use Rattle.trace_reader.specs.Forms.{◌>>=◌, declared, indexed}
+use Rattle.trace_reader.specs.Operands.{◌>>=◌, declared, indexed}
 use Rattle.trace_reader.specs.Items.{actor_said, begins}
 use Rattle.trace_reader.specs.Grammar.{IsActor, IsDeclared}
 use Rattle.trace_reader.proofs.Results.{heads_differ, word_is, is_word}

@@ -1,5 +1,5 @@
 -- The words after a command's word, and the actor's name: what they spell, and why one is refused.
-use Rattle.std.proofs.Common.{◌≡◌, ◌≤◌, ◌<◌, ◌+◌, ◌*◌, ◌/◌, ◌%◌, ◌^◌, inl, inr, ℕ, List, ◌∷◌, Bool, true, false, cond, Result, Ok, Err, refl, ap, arith, subst}
+use Rattle.std.proofs.Common.{◌≡◌, ◌≤◌, ◌<◌, ◌+◌, ◌*◌, ◌/◌, ◌%◌, ◌^◌, inl, inr, ℕ, List, ◌∷◌, Bool, true, false, cond, Result, Ok, Err, refl, ap, arith, subst, length}
 use Rattle.std.specs.Fmt.{decimal}
 use Rattle.std.proofs.lemmas.Bool.Decides.{nat_tests}
 use Rattle.std.specs.declared.option.Option.{Option}
@@ -7,7 +7,7 @@ use Rattle.std.specs.declared.option.Option.TheVariants.{Some, None}
 use Rattle.core_views.specs.Traces.{IsHeader}
 use Rattle.core_views.specs.declared.trace.Header.{Header}
 use Rattle.trace_reader.specs.Numbers.{number_of}
-use Rattle.trace_reader.specs.Forms.{number, or_number, is_address, access_at, address, vcpu, ◌>>=◌}
+use Rattle.trace_reader.specs.Operands.{number, or_number, is_address, access_at, address, host_thread, vcpu, ◌>>=◌}
 use Rattle.trace_reader.specs.Grammar.{Spells}
 use Rattle.trace_reader.proofs.Results.{branch}
 use Rattle.trace_reader.proofs.Spelled.{spelled, spelling}
@@ -19,6 +19,10 @@ use Rattle.trace_reader.specs.declared.reason.Reason.TheVariants as reason
 pub vcpu_named : (h : Header) (n : ℕ) → n < h.vcpus → h.vcpus ≤ 16 → vcpu h (118 ∷ decimal n) ≡ Ok n
 unfolding vcpu
 vcpu_named h n known few = index_named 118 15 h.vcpus n (omega arith) (omega arith) known
+
+pub host_named : (h : Header) (n : ℕ) → n < length h.hosts → length h.hosts ≤ 4 → host_thread h (104 ∷ decimal n) ≡ Ok n
+unfolding host_thread
+host_named h n known few = index_named 104 3 (length h.hosts) n (omega arith) (omega arith) known
 
 pub number_spelled : (w : List ℕ) (n : ℕ) → Spells w n → number w ≡ Ok n
 unfolding number
@@ -54,6 +58,13 @@ vcpu_names h w = index_judged 118 15 h.vcpus w (omega arith)
 
 pub vcpu_found : (h : Header) (w : List ℕ) (n : ℕ) → vcpu h w ≡ Ok n → (w ≡ 118 ∷ decimal n) × (n < h.vcpus)
 vcpu_found h w n e = let (low, known, is) = subst (Names 118 15 h.vcpus w) e (vcpu_names h w) in (is, known)
+
+pub host_names : (h : Header) (w : List ℕ) → Names 104 3 (length h.hosts) w (host_thread h w)
+unfolding host_thread
+host_names h w = index_judged 104 3 (length h.hosts) w (omega arith)
+
+pub host_found : (h : Header) (w : List ℕ) (n : ℕ) → host_thread h w ≡ Ok n → (w ≡ 104 ∷ decimal n) × (n < length h.hosts)
+host_found h w n e = let (low, known, is) = subst (Names 104 3 (length h.hosts) w) e (host_names h w) in (is, known)
 
 some_number : (o : Option ℕ) (n : ℕ) → or_number o ≡ Ok n → o ≡ Some n
 some_number None n e = cc

@@ -15,7 +15,8 @@ use Rattle.trace_reader.specs.declared.saying.Saying.TheVariants.{Does, Go, Sche
 use Rattle.trace_reader.specs.Forms.{is_empty, words_of}
 use Rattle.trace_reader.specs.Sayings.{Seen, by_first, by_words, said}
 use Rattle.trace_reader.specs.GrammarRefusals.{SaysNothingFor, IsLineReason}
-use Rattle.trace_reader.specs.Grammar.{AreWords, HasForm, IsActor, IsCommandForm, IsDeclared, IsFirstGo, IsItemForm, IsOfForm, SaysLine, item_words}
+use Rattle.trace_reader.specs.Grammar.{AreWords, IsActor, IsCommandForm, IsDeclared}
+use Rattle.trace_reader.specs.LineGrammar.{HasForm, IsFirstGo, IsItemForm, IsOfForm, SaysLine, item_words}
 use Rattle.trace_reader.proofs.Bytes.{say_words, cut_words, says, only_said}
 use Rattle.trace_reader.proofs.Commands.{command_first, command_form, commanding}
 use Rattle.trace_reader.proofs.Items.{has_declared, until_form}
@@ -132,7 +133,7 @@ IsKnown h seen bytes (Schedules item) = IsOfForm bytes item.actor × IsDeclared 
 
 line_form : (h : Header) (seen : Seen) (bytes : List ℕ) (s : Saying) → IsHeader h → SaysLine h seen bytes s → IsKnown h seen bytes s
 line_form h seen bytes (Does a c) header (range, (words, e, are)) =
-    let k = commanding h a c header.vcpus.1 range in
+    let k = commanding h a c header range in
     ((k.0, (words, e, say_words h seen words (Does a c) header range are, inl (command_form seen.ids words a c are))), k.1)
 line_form h seen bytes Go header (range, (words, e, (first, is))) = (first, rw (e, is) refl)
 line_form h seen bytes (Schedules item) header (range, (words, e, are)) =

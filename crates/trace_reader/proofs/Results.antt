@@ -4,7 +4,7 @@ use Rattle.std.specs.Str.{bytes_eq}
 use Rattle.std.proofs.lemmas.Bool.{eq-eqb}
 use Rattle.std.proofs.lemmas.Slice.Eq.{bytes_eq-Decides}
 use Rattle.trace_reader.specs.declared.reason.Reason.{Reason}
-use Rattle.trace_reader.specs.Forms.{◌>>=◌}
+use Rattle.trace_reader.specs.Operands.{◌>>=◌}
 
 pub branch : {A : Type 0} (b : Bool) (x y z : A) → cond b x y ≡ z → ((b ≡ true) × (x ≡ z)) ⊎ ((b ≡ false) × (y ≡ z))
 branch true x y z e = inl (refl, e)

@@ -1,5 +1,5 @@
--- The lines that are read have numbers that rise.
-use Rattle.std.proofs.Common.{◌≡◌, ◌≤◌, ◌<◌, ◌+◌, ℕ, List, [], ◌∷◌, length, get_or, map, subst, arith}
+-- The lines that are read have numbers that rise, so that they are 1,000,000 at most.
+use Rattle.std.proofs.Common.{◌≡◌, ◌≤◌, ◌<◌, ◌+◌, ◌-◌, ℕ, List, [], ◌∷◌, length, get_or, map, subst, arith}
 use Rattle.std.specs.List.Sorted.{IsStrictlyIncreasing}
 use Rattle.std.specs.Prelude.{Bool, true, false, if◌then◌else◌, Result, Ok, Err}
 use Rattle.std.specs.declared.option.Option.{Option}
@@ -12,9 +12,10 @@ use Rattle.trace_reader.specs.declared.saying.Saying.{Saying}
 use Rattle.trace_reader.specs.declared.saying.Saying.TheVariants.{Does, Go, Schedules}
 use Rattle.trace_reader.specs.Forms.{is_empty}
 use Rattle.trace_reader.specs.Gathered.{lines_in}
-use Rattle.trace_reader.specs.Lines.{Told, line_of, lines_of, none_seen, onto, raw, with_line}
+use Rattle.trace_reader.specs.Lines.{Raw, Told, after_checks, content, fault_of, line_of, lines_of, none_seen, onto, raw, with_line}
 use Rattle.trace_reader.specs.Reading.{with_header}
 use Rattle.trace_reader.specs.Sayings.{Seen}
+use Rattle.trace_reader.proofs.Checks.{Judged, judged}
 use Rattle.trace_reader.proofs.Ranges.{more_rises}
 
 -- the numbers of these lines
@@ -73,3 +74,73 @@ under_header h n (Err e) rising = tt
 
 pub read_rising : (h : Header) (n at : ℕ) (parts : List (List ℕ)) (t : Trace) → with_header h (lines_of h n at none_seen parts) ≡ Ok t → IsStrictlyIncreasing (numbers t.lines)
 read_rising h n at parts t is = subst HasRising is (under_header h n (lines_of h n at none_seen parts) (lines_rise h n at none_seen parts))
+
+-- So many lines, at most, have numbers from n on: the last number that a line may have is 1,000,000.
+abbrev AreFew : ℕ → Result (List Told) (ℕ × Reason) → Type 0
+AreFew n (Ok told) = length (lines_in told) ≤ 1000001 - n
+AreFew n (Err e) = Unit {0}
+
+-- A line that says something has one of those numbers.
+abbrev IsNumbered : ℕ → Result (Option Saying) Reason → Type 0
+IsNumbered n (Ok (Some s)) = n ≤ 1000000
+IsNumbered n (Ok None) = Unit {0}
+IsNumbered n (Err r) = Unit {0}
+
+numbered : (n : ℕ) (x : Result (Option Saying) Reason) → n ≤ 1000000 → IsNumbered n x
+numbered n (Ok (Some s)) le = le
+numbered n (Ok None) le = tt
+numbered n (Err r) le = tt
+
+line_numbered : (h : Header) (seen : Seen) (line : Raw) → IsNumbered line.number (line_of h seen line)
+unfolding line_of
+line_numbered h seen line = by (fault_of line) (judged line)
+  where
+    by : (fault : Option Reason) → Judged line fault → IsNumbered line.number (after_checks fault (content h seen line.bytes))
+    by (Some r) fails = tt
+    by None passes = numbered line.number (content h seen line.bytes) passes.1
+
+-- Line n is one line more, or none.
+one_more_line : (n : ℕ) (s : Saying) (told : List Told) → n ≤ 1000000 → length (lines_in told) ≤ 1000001 - (n + 1)
+    → length (lines_in ((n, s) ∷ told)) ≤ 1000001 - n
+one_more_line n (Does actor command) told le rest = omega arith
+one_more_line n Go told le rest = omega arith
+one_more_line n (Schedules item) told le rest = omega arith
+
+still_few : (n : ℕ) (x : Result (List Told) (ℕ × Reason)) → AreFew (n + 1) x → AreFew n x
+still_few n (Ok told) rest = omega arith
+still_few n (Err e) rest = tt
+
+onto_few : (n : ℕ) (seen : Seen) (read : Result (Option Saying) Reason) (rest : Seen → Result (List Told) (ℕ × Reason)) → IsNumbered n read
+    → ((now : Seen) → AreFew (n + 1) (rest now)) → AreFew n (onto n seen read rest)
+onto_few n seen (Err r) rest le all = tt
+onto_few n seen (Ok None) rest le all = still_few n (rest seen) (all seen)
+onto_few n seen (Ok (Some s)) rest le all = by (rest _) (all _)
+  where
+    by : (x : Result (List Told) (ℕ × Reason)) → AreFew (n + 1) x → AreFew n (with_line n (Some s) x)
+    by (Err e) more = tt
+    by (Ok told) more = one_more_line n s told le more
+
+lines_few : (h : Header) (n at : ℕ) (seen : Seen) (parts : List (List ℕ)) → AreFew n (lines_of h n at seen parts)
+unfolding lines_of
+lines_few h n at seen [] = omega arith
+lines_few h n at seen (last ∷ []) = by (is_empty last)
+  where
+    by : (b : Bool) → AreFew n (if b then Ok [] else onto n seen (line_of h seen (raw n at false last)) (λ now. Ok []))
+    by true = omega arith
+    by false = onto_few n seen (line_of h seen (raw n at false last)) (λ now. Ok []) (line_numbered h seen (raw n at false last)) (λ now. omega arith)
+lines_few h n at seen (x ∷ y ∷ more) =
+    onto_few n seen (line_of h seen (raw n at true x)) (λ now. lines_of h (n + 1) (at + (length x + 1)) now (y ∷ more))
+    (line_numbered h seen (raw n at true x)) (λ now. lines_few h (n + 1) (at + (length x + 1)) now (y ∷ more))
+
+abbrev HasFew : Result Trace (ℕ × Reason) → Type 0
+HasFew (Ok t) = length t.lines ≤ 1000000
+HasFew (Err e) = Unit {0}
+
+few_under_header : (h : Header) (n : ℕ) (x : Result (List Told) (ℕ × Reason)) → 1 ≤ n → AreFew n x → HasFew (with_header h x)
+few_under_header h n (Ok told) le few = omega arith
+few_under_header h n (Err e) le few = tt
+
+-- The lines that are read from line n on, after the header, are 1,000,000 at most.
+pub read_few : (h : Header) (n at : ℕ) (parts : List (List ℕ)) (t : Trace) → 1 ≤ n → with_header h (lines_of h n at none_seen parts) ≡ Ok t
+    → length t.lines ≤ 1000000
+read_few h n at parts t le is = subst HasFew is (few_under_header h n (lines_of h n at none_seen parts) le (lines_few h n at none_seen parts))

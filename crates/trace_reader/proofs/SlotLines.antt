@@ -12,7 +12,8 @@ use Rattle.core_views.specs.declared.trace.Command.TheVariants.{SetSlot}
 use Rattle.core_views.specs.declared.trace.Slot.{Slot}
 use Rattle.core_views.specs.declared.trace.Header.{Header}
 use Rattle.trace_reader.specs.declared.reason.Reason.TheVariants as reason
-use Rattle.trace_reader.specs.Forms.{number, is_slot, slot, new_number, setting, setting_form, slot_form, by_command, by_form}
+use Rattle.trace_reader.specs.Operands.{number}
+use Rattle.trace_reader.specs.Forms.{is_slot, slot, new_number, setting, setting_form, slot_form, by_command, by_form}
 use Rattle.trace_reader.specs.Grammar.{AreCommandWords, AreWords, IsCommandForm, IsSlotForm, Spells, ending}
 use Rattle.trace_reader.proofs.Judged.{IsPairSaid, Judged, Tells, judged, none, numbers, row}
 use Rattle.trace_reader.proofs.Operands.{IsNumber, bound, fits, number_found, number_number, number_spelled}

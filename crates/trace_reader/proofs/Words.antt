@@ -13,14 +13,15 @@ use Rattle.trace_reader.specs.declared.reason.Reason.{Reason}
 use Rattle.trace_reader.specs.declared.reason.Reason.TheVariants as reason
 use Rattle.trace_reader.specs.declared.saying.Saying.{Saying}
 use Rattle.trace_reader.specs.declared.saying.Saying.TheVariants.{Does, Go, Schedules}
-use Rattle.trace_reader.specs.Forms.{◌>>=◌, Said, by_form}
+use Rattle.trace_reader.specs.Operands.{◌>>=◌}
+use Rattle.trace_reader.specs.Forms.{Said, by_form}
 use Rattle.trace_reader.specs.Items.{item_said}
 use Rattle.trace_reader.specs.Sayings.{IsSayingOf, Seen, by_first, command_said, go_said, schedule_said}
-use Rattle.trace_reader.specs.Grammar.{AreCommandWords, AreWordsOf, HasForm, IsActor, IsCommandForm, IsDeclared, IsUntilForm, item_words}
+use Rattle.trace_reader.specs.Grammar.{AreCommandWords, IsActor, IsCommandForm, IsDeclared}
+use Rattle.trace_reader.specs.LineGrammar.{AreWordsOf, HasForm, IsUntilForm, item_words}
 use Rattle.trace_reader.proofs.Items.{ItemJudged, item_judged, item_read}
 use Rattle.trace_reader.proofs.Commands.{by_form_judged, command_first, command_form, reads}
 use Rattle.trace_reader.proofs.Judged.{Judged, Why}
-use Rattle.trace_reader.proofs.Operands.{small_words}
 use Rattle.trace_reader.proofs.Results.{differs, heads_differ, other_word, word_is}
 
 -- No actor is named `go` or `>`.
@@ -62,7 +63,7 @@ command_read : (h : Header) (seen : Seen) (words : List (List ℕ)) (a : Actor) 
 unfolding command_said
 command_read h seen words a c header range are =
     let (rest, e) = command_first words a (command_form seen.ids words a c are) in
-    let said : by_form h seen.ids words ≡ Ok (a, c) = reads h seen.ids words a c header.vcpus.1 (small_words h header) range are in
+    let said : by_form h seen.ids words ≡ Ok (a, c) = reads h seen.ids words a c header range are in
     let first = by_the_command h seen (actor_name a) rest (not_go a) (not_mark a) in
     rw e (first ∙ rw (← e, said) refl)
 

@@ -1,61 +1,22 @@
 -- What the words of an actor's line say: a table by the command's word, one row and one function for each form.
-use Rattle.std.specs.Prelude.{◌*◌, ◌/◌, ◌%◌, ◌^◌, ℕ, List, [], ◌∷◌, Bool, true, false, ◌&&◌, nat_lt, nat_le, ◌==◌, if◌then◌else◌, codes, length, Result, Ok, Err}
+use Rattle.std.specs.Prelude.{◌%◌, ◌<◌, ◌^◌, ℕ, List, [], ◌∷◌, Bool, true, false, ◌&&◌, nat_lt, nat_le, ◌==◌, if◌then◌else◌, codes, length, Result, Ok, Err}
 use Rattle.std.specs.List.{slice_split}
 use Rattle.std.specs.Str.{bytes_eq}
 use Rattle.std.specs.declared.option.Option.{Option}
 use Rattle.std.specs.declared.option.Option.TheVariants.{Some, None}
+use Rattle.core_views.specs.Traces.{IsCommandOf}
 use Rattle.core_views.specs.declared.actor.Actor.{Actor}
-use Rattle.core_views.specs.declared.actor.Actor.TheVariants.{Vcpu, Manager}
+use Rattle.core_views.specs.declared.actor.Actor.TheVariants.{Vcpu, Host, Manager}
 use Rattle.core_views.specs.declared.trace.Command.{Command}
-use Rattle.core_views.specs.declared.trace.Command.TheVariants.{Access, SetSlot}
+use Rattle.core_views.specs.declared.trace.Command.TheVariants.{Access, SetSlot, ChangeHost}
+use Rattle.core_views.specs.declared.trace.HostChange.{HostChange}
+use Rattle.core_views.specs.declared.trace.HostChange.TheVariants.{Allow}
 use Rattle.core_views.specs.declared.trace.Op.TheVariants.{Read, Write, Add}
 use Rattle.core_views.specs.declared.trace.Slot.{Slot}
 use Rattle.core_views.specs.declared.trace.Header.{Header}
 use Rattle.trace_reader.specs.declared.reason.Reason.{Reason}
 use Rattle.trace_reader.specs.declared.reason.Reason.TheVariants as reason
-use Rattle.trace_reader.specs.Numbers.{number_of, decimal_number}
-
-infixl 10 ◌>>=◌
--- the first refusal, or what the second step gives
-abbrev pub ◌>>=◌ : {A B : Type 0} → Result A Reason → (A → Result B Reason) → Result B Reason
-(Ok x) >>= f = f x
-(Err e) >>= f = Err e
-
--- the value, or `number` where there is none
-abbrev pub or_number : {A : Type 0} → Option A → Result A Reason
-or_number None = Err reason.Number
-or_number (Some x) = Ok x
-
--- the number that the word spells
-unfoldable pub number : List ℕ → Result ℕ Reason
-number w = or_number (number_of w)
-
--- the address of a content word, where each page has this many
-abbrev pub is_address : ℕ → ℕ → Bool
-is_address words a = nat_lt a (2 ^ 48) && (a % 8 == 0) && nat_lt (a % 4096) (8 * words)
-
--- the guest frame and the content word of an address
-abbrev pub access_at : ℕ → Option ℕ → Result (ℕ × ℕ) Reason
-access_at words None = Err reason.Number
-access_at words (Some a) = if is_address words a then Ok (a / 4096, a % 4096 / 8) else Err reason.Number
-
--- the guest frame and the content word of the address that the word spells
-unfoldable pub address : Header → List ℕ → Result (ℕ × ℕ) Reason
-address h w = access_at h.words (number_of w)
-
--- an index that an actor's name may have, below the count of those that are declared
-abbrev pub declared : ℕ → ℕ → Option ℕ → Result ℕ Reason
-declared most count None = Err reason.Word
-declared most count (Some n) = if nat_le n most then (if nat_lt n count then Ok n else Err reason.Actor) else Err reason.Word
-
--- the index in a name: the letter, and an index in decimal
-unfoldable pub indexed : ℕ → ℕ → ℕ → List ℕ → Result ℕ Reason
-indexed letter most count [] = Err reason.Word
-indexed letter most count (c ∷ ds) = if c == letter then declared most count (decimal_number ds) else Err reason.Word
-
--- the virtual processor that the word names: `v` and its index
-unfoldable pub vcpu : Header → List ℕ → Result ℕ Reason
-vcpu h w = indexed 118 15 h.vcpus w
+use Rattle.trace_reader.specs.Operands.{◌>>=◌, address, host_thread, number, vcpu}
 
 -- an actor and its command, or why there is none
 abbrev pub Said : Type 0
@@ -107,6 +68,15 @@ setting_form seen _ = Err reason.Word
 unfoldable pub slot_form : (ℕ → Bool) → List ℕ → List (List ℕ) → Said
 slot_form seen who rest = if bytes_eq who (codes "vm") then setting_form seen rest else Err reason.Word
 
+-- Each host thread may make this change by a line, of any page.
+abbrev pub HostsMake : Header → HostChange → Type 0
+HostsMake h change = (n page : ℕ) → n < length h.hosts → IsCommandOf h (Host n) (ChangeHost page change)
+
+-- `hN WORD P`, where the command's word tells this change
+unfoldable pub host_form : Header → HostChange → List ℕ → List (List ℕ) → Said
+host_form h change who (x ∷ []) = host_thread h who >>= λ n. number x >>= λ page. Ok (Host n, ChangeHost page change)
+host_form h change who _ = Err reason.Word
+
 -- what the words after a command's word say: one row for each form; `seen`: the IDs that slot lines before name
 unfoldable pub by_command : Header → (ℕ → Bool) → List ℕ → List ℕ → List (List ℕ) → Said
 by_command h seen who command rest =
@@ -114,6 +84,7 @@ by_command h seen who command rest =
     if bytes_eq command (codes "write") then write_form h who rest else
     if bytes_eq command (codes "add") then add_form h who rest else
     if bytes_eq command (codes "slot") then slot_form seen who rest else
+    if bytes_eq command (codes "allow") then host_form h Allow who rest else
     Err reason.Word
 
 -- what the words of an actor's line say: its name, the command's word, and the words after it

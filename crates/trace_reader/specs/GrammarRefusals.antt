@@ -7,7 +7,8 @@ use Rattle.trace_reader.specs.declared.reason.Reason.{Reason}
 use Rattle.trace_reader.specs.declared.reason.Reason.TheVariants as reason
 use Rattle.trace_reader.specs.declared.saying.Saying.{Saying}
 use Rattle.trace_reader.specs.Sayings.{Seen, said}
-use Rattle.trace_reader.specs.Grammar.{SaysLine, IsDeclared, IsOfForm, IsFirstGo}
+use Rattle.trace_reader.specs.Grammar.{IsDeclared}
+use Rattle.trace_reader.specs.LineGrammar.{SaysLine, IsOfForm, IsFirstGo}
 
 -- Why a line says nothing: it is of no form of any actor, and no first `go`; or of a form of an actor that the header
 -- doesn't declare; or of a form of one that it does, and yet says nothing.

@@ -8,7 +8,7 @@ use Rattle.trace_reader.specs.declared.reason.Reason.{Reason}
 use Rattle.trace_reader.specs.declared.reason.Reason.TheVariants as reason
 use Rattle.trace_reader.specs.declared.header.Sizes.{Sizes}
 use Rattle.trace_reader.specs.Numbers.{number_of}
-use Rattle.trace_reader.specs.Forms.{◌>>=◌}
+use Rattle.trace_reader.specs.Operands.{◌>>=◌}
 
 -- the function of the value, or the refusal
 abbrev pub mapped : {A B : Type 0} → (A → B) → Result A Reason → Result B Reason

@@ -13,7 +13,8 @@ use Rattle.trace_reader.specs.Forms.{sets_at}
 use Rattle.trace_reader.specs.Gathered.{Gathers}
 use Rattle.trace_reader.specs.Reading.{reading}
 use Rattle.trace_reader.specs.GrammarRefusals.{SaysNothingFor}
-use Rattle.trace_reader.specs.Grammar.{spaced, SaysLine}
+use Rattle.trace_reader.specs.Grammar.{spaced}
+use Rattle.trace_reader.specs.LineGrammar.{SaysLine}
 use Rattle.trace_reader.specs.HeaderGrammar.{IsHeaderSaid}
 
 -- the bytes of lines with these texts: LF stands behind each

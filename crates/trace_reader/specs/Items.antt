@@ -12,7 +12,7 @@ use Rattle.core_views.specs.declared.trace.Until.TheVariants.{Turns, Answered, M
 use Rattle.trace_reader.specs.declared.reason.Reason.{Reason}
 use Rattle.trace_reader.specs.declared.reason.Reason.TheVariants as reason
 use Rattle.trace_reader.specs.Numbers.{is_digit, number_of}
-use Rattle.trace_reader.specs.Forms.{◌>>=◌, indexed}
+use Rattle.trace_reader.specs.Operands.{◌>>=◌, indexed}
 
 -- the names of the kinds of step, in the order of their numbers, from 1
 abbrev pub kind_names : List (List ℕ)

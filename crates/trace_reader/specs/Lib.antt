@@ -1,5 +1,6 @@
 pub mod Reasons
 pub mod Numbers
+pub mod Operands
 pub mod Forms
 pub mod Items
 pub mod Sayings
@@ -10,6 +11,7 @@ pub mod Gathered
 pub mod Reading
 pub mod Runs
 pub mod Grammar
+pub mod LineGrammar
 pub mod GrammarRefusals
 pub mod HeaderGrammar
 pub mod InputGrammar

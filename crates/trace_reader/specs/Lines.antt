@@ -8,7 +8,8 @@ use Rattle.trace_reader.specs.declared.reason.Reason.{Reason}
 use Rattle.trace_reader.specs.declared.reason.Reason.TheVariants as reason
 use Rattle.trace_reader.specs.declared.saying.Saying.{Saying}
 use Rattle.trace_reader.specs.declared.saying.Saying.TheVariants.{Does, Go, Schedules}
-use Rattle.trace_reader.specs.Forms.{◌>>=◌, is_empty, sets_at}
+use Rattle.trace_reader.specs.Operands.{◌>>=◌}
+use Rattle.trace_reader.specs.Forms.{is_empty, sets_at}
 use Rattle.trace_reader.specs.Sayings.{Seen, said}
 
 -- the parts of an input: LF ends each but the last

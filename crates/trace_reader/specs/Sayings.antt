@@ -13,7 +13,8 @@ use Rattle.trace_reader.specs.declared.reason.Reason.{Reason}
 use Rattle.trace_reader.specs.declared.reason.Reason.TheVariants as reason
 use Rattle.trace_reader.specs.declared.saying.Saying.{Saying}
 use Rattle.trace_reader.specs.declared.saying.Saying.TheVariants.{Does, Go, Schedules}
-use Rattle.trace_reader.specs.Forms.{◌>>=◌, by_form, is_empty, words_of}
+use Rattle.trace_reader.specs.Operands.{◌>>=◌}
+use Rattle.trace_reader.specs.Forms.{by_form, is_empty, words_of}
 use Rattle.trace_reader.specs.Items.{item_said}
 
 -- By what the lines before it a line is judged: the IDs that slot lines name, and whether `go` was there.

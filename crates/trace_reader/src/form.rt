@@ -1,13 +1,14 @@
-ghost use Rattle.std.specs.Prelude.{◌≡◌, ◌≤◌, ◌<◌, ◌^◌, map, IfOk};
+ghost use Rattle.std.specs.Prelude.{◌≡◌, ◌≤◌, ◌<◌, ◌^◌, length, map, IfOk};
 ghost use Rattle.std.specs.BTreeSet.{contains};
 ghost use Rattle.std.specs.Ordering.{nat_cmp};
 ghost use Rattle.std.specs.Str.{bytes_eq};
 ghost use Rattle.core_views.specs.Traces.{IsCommandOf, IsSlotInRange};
-ghost use Rattle.trace_reader.specs.Forms.{indexed, vcpu, address, new_number, number as number_word, slot, setting, read_form, write_form, add_form, slot_form, by_command, by_form, slot_id as slot_id_of};
+ghost use Rattle.trace_reader.specs.Operands.{indexed, vcpu, host_thread, address, number as number_word};
+ghost use Rattle.trace_reader.specs.Forms.{new_number, slot, setting, read_form, write_form, add_form, slot_form, HostsMake, host_form, by_command, by_form, slot_id as slot_id_of};
 
 use crate::Reason;
 use crate::number::{decimal, number};
-use core_views::{Actor, Command, Header, Op, Slot};
+use core_views::{Actor, Command, Header, HostChange, Op, Slot};
 use std::collections::BTreeSet;
 
 /// Whether the word is this name.
@@ -17,14 +18,14 @@ pub fn is(word: &[u8], name: &str) -> bool
     word == name.as_bytes()
 }
 
-#[tactic(auto, unfolding(crate::specs::Forms::number))]
+#[tactic(auto, unfolding(crate::specs::Operands::number))]
 fn number_of(word: &[u8]) -> Result<u64, Reason>
     ensures { result ≡ number_word word.now }
 {
     number(word).ok_or(Reason::Number)
 }
 
-#[tactic(auto, unfolding(crate::specs::Forms::address))]
+#[tactic(auto, unfolding(crate::specs::Operands::address))]
 fn address_of(header: &Header, word: &[u8]) -> Result<(u64, u8), Reason>
     requires { header.now.words ≤ 8 }
     ensures value { result ≡ address header.now word.now }
@@ -41,7 +42,7 @@ fn address_of(header: &Header, word: &[u8]) -> Result<(u64, u8), Reason>
 
 /// The index in an actor's name: at most `most`, and below the count of those
 /// that are declared.
-#[tactic(auto, unfolding(crate::specs::Forms::indexed))]
+#[tactic(auto, unfolding(crate::specs::Operands::indexed))]
 pub fn index_of(letter: u8, most: u64, count: u64, word: &[u8]) -> Result<u8, Reason>
     requires { most ≤ 15 }
     ensures value { result ≡ indexed letter most count word.now }
@@ -65,12 +66,20 @@ pub fn index_of(letter: u8, most: u64, count: u64, word: &[u8]) -> Result<u8, Re
     }
 }
 
-#[tactic(auto, unfolding(crate::specs::Forms::vcpu))]
+#[tactic(auto, unfolding(crate::specs::Operands::vcpu))]
 fn vcpu_of(header: &Header, word: &[u8]) -> Result<u8, Reason>
     ensures value { result ≡ vcpu header.now word.now }
     ensures small { IfOk result (λ n. n < header.now.vcpus) }
 {
     index_of(b'v', 15, header.vcpus as u64, word)
+}
+
+#[tactic(auto, unfolding(crate::specs::Operands::host_thread))]
+fn host_thread_of(header: &Header, word: &[u8]) -> Result<u8, Reason>
+    ensures value { result ≡ host_thread header.now word.now }
+    ensures small { IfOk result (λ n. n < length header.now.hosts) }
+{
+    index_of(b'h', 3, header.hosts.as_slice().len() as u64, word)
 }
 
 #[tactic(auto, unfolding(crate::specs::Forms::read_form))]
@@ -190,6 +199,26 @@ fn slot_said(
     }
 }
 
+// A line that makes this change: the command's word tells which.
+#[tactic(auto, unfolding(crate::specs::Forms::host_form))]
+fn host_said(
+    header: &Header,
+    change: HostChange,
+    who: &[u8],
+    rest: &[&[u8]],
+) -> Result<(Actor, Command), Reason>
+    requires { HostsMake header.now change }
+    ensures value { result ≡ host_form header.now change who.now (map (λ w. w.now) rest.now) }
+    ensures allowed { IfOk result (λ x. IsCommandOf header.now x.0 x.1) }
+{
+    let [page] = rest else {
+        return Err(Reason::Word);
+    };
+    let index = host_thread_of(header, who)?;
+    let page = number_of(page)?;
+    Ok((Actor::Host(index), Command::ChangeHost { page, change }))
+}
+
 /// What the words after a command's word say: one row for each form.
 #[tactic(auto, unfolding(crate::specs::Forms::by_command))]
 fn command_said(
@@ -214,6 +243,9 @@ fn command_said(
     }
     if is(command, "slot") {
         return slot_said(header, seen, who, rest);
+    }
+    if is(command, "allow") {
+        return host_said(header, HostChange::Allow, who, rest);
     }
     Err(Reason::Word)
 }

@@ -1,5 +1,5 @@
 ghost use Rattle.trace_reader.specs.GrammarRefusals.{RefusesTheRest, RefusesForTheReason, RefusesForNoOther};
-ghost use Rattle.trace_reader.specs.Grammar.{ReadsWhatIsSaid, ReadsNothingElse};
+ghost use Rattle.trace_reader.specs.LineGrammar.{ReadsWhatIsSaid, ReadsNothingElse};
 ghost use Rattle.trace_reader.specs.InputGrammar.{ReadsTheTrace, ReadsNoOtherTrace, RefusesWhereItFails, RefusesNowhereElse};
 ghost use Rattle.trace_reader.specs.HeaderGrammar.{ReadsTheHeader, ReadsNoOtherHeader, RefusesOtherFirstLines};
 

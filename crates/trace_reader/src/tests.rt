@@ -1,5 +1,5 @@
 use crate::{Read, Reason, read_trace};
-use core_views::{Actor, Command, Line, Op, Slot};
+use core_views::{Actor, Command, HostChange, Line, Op, Slot};
 use std::alloc::{AllocError, Global};
 use std::test::Fail;
 use tdp_io::MemSource;
@@ -112,7 +112,20 @@ const TABLE: &str = "\
 2 word|&vm read 0;\n\
 2 word|&v16 read z;\n\
 2 word|&v2 look z;\n\
-2 word|&h0 move 1;\n\
+2 word|&h0 move 5;\n\
+2 word|&h0 evict 5;\n\
+2 word|&h0 protect 5;\n\
+2 word|&h0 allow;\n\
+2 word|&h0 allow 1 2;\n\
+2 word|&h0 Allow 5;\n\
+2 word|&h4 allow 5;\n\
+2 word|&h01 allow 5;\n\
+2 word|&h allow 5;\n\
+2 word|&H0 allow 5;\n\
+2 word|&v0 allow 3;\n\
+2 word|&vm allow 5;\n\
+2 word|&w0 allow 5;\n\
+2 word|&h4 allow z;\n\
 2 word|&vm slot;\n\
 2 word|&vm slot 0 0 1;\n\
 2 word|&vm slot 0 0 1 0 rw;\n\
@@ -151,6 +164,13 @@ const TABLE: &str = "\
 2 actor|&v15 read z;\n\
 2 actor|&v2 write z 1;\n\
 2 actor|&v3 add 0 z;\n\
+2 actor|<1 frames 1 words 1=h1 allow 5;\n\
+2 actor|&h2 allow 5;\n\
+2 actor|&h3 allow z;\n\
+2 number|&h0 allow 05;\n\
+2 number|&h0 allow z;\n\
+2 number|&h1 allow 0xFF;\n\
+2 number|&h0 allow 18446744073709551616;\n\
 2 number|&v0 read 01;\n\
 2 number|&v0 read 0x;\n\
 2 number|&v0 read 0xA;\n\
@@ -235,6 +255,11 @@ const TABLE: &str = "\
 1 lines|&vm slot 31 68719476735 1 64;\n\
 1 lines|&vm slot 18446744073709551615 68719476735 68719476735 68719476672;\n\
 1 lines|&vm slot 0x20 0 1 0 ro;\n\
+1 lines|&h0 allow 5;\n\
+1 lines|&h1 allow 0;\n\
+1 lines|&h0 allow 18446744073709551615;\n\
+1 lines|<32 frames 32 words 1 pool 4 cache 1 manual 0 hosts 0 8 16 24;h3 allow 0xff;\n\
+2 lines|&h1 allow 5;h1 allow 5;\n\
 1 lines|&#;v0 read 0;;\n\
 3 lines|&v0 read 0;%v1 add 0 1;\n\
 ";
@@ -302,7 +327,7 @@ fn is_refused(alloc: Global, bytes: Vec<u8>, line: u32, reason: Reason) -> Resul
 #[test]
 fn answers_the_table(rt: HostRuntime) -> Result<(), Fail> {
     let alloc = rt.alloc();
-    let mut cases = 0u8;
+    let mut cases = 0u16;
     for case in TABLE.split('\n') {
         if let Some((wanted, text)) = case.split_once('|') {
             let given = answer(alloc, input(alloc, text.as_bytes())?)?;
@@ -310,7 +335,7 @@ fn answers_the_table(rt: HostRuntime) -> Result<(), Fail> {
             cases = cases.saturating_add(1);
         }
     }
-    assert_eq!(rt; cases, 227);
+    assert_eq!(rt; cases, 252);
     Ok(())
 }
 
@@ -424,7 +449,7 @@ fn reads_a_trace(rt: HostRuntime) -> Result<(), Fail> {
     let alloc = rt.alloc();
     let bytes = behind(
         alloc,
-        "v1 read 0x12018\nv0 write 8 0xff\n\n# c\nv0 add 0 18446744073709551615\n",
+        "v1 read 0x12018\nv0 write 8 0xff\n\n# c\nv0 add 0 18446744073709551615\nh1 allow 0x2a\n",
     )?;
     let mut source = MemSource::new(bytes, Vec::new(alloc));
     let Read::Trace(trace) = read_trace(alloc, &mut source)? else {
@@ -472,6 +497,14 @@ fn reads_a_trace(rt: HostRuntime) -> Result<(), Fail> {
                 gfn: 0,
                 word: 0,
                 op: Op::Add(18_446_744_073_709_551_615),
+            },
+        },
+        Line {
+            number: 8,
+            actor: Actor::Host(1),
+            command: Command::ChangeHost {
+                page: 42,
+                change: HostChange::Allow,
             },
         },
     ];

@@ -1,2 +1,3 @@
 pub mod CachedBehind
 pub mod GuestWords
+pub mod Asking

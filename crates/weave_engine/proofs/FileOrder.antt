@@ -1,4 +1,5 @@
 -- Lines in file order: what has run of each actor's lines, and what is next.
+use Rattle.core_views.specs.declared.trace.HostChange.TheVariants.{Allow}
 use Rattle.std.proofs.Common.{◌≡◌, ◌≢◌, ◌<◌, ◌+◌, ◌-◌, ℕ, suc, List, [], ◌∷◌, ◌++◌, length, take, drop, get_or, refl, sym, ap, subst, ◌∙◌, arith, length-append, add-one}
 use Rattle.std.proofs.Math.Seq.{drop-cons, get_or-append_seam, take-suc}
 use Rattle.std.proofs.lemmas.List.{append-nil, take-append-drop}
@@ -7,10 +8,10 @@ use Rattle.std.proofs.lemmas.Option.{slice_get-get_or}
 use Rattle.std.proofs.lemmas.Bool.Decides.{nat_tests}
 use Rattle.std.specs.Prelude.{Bool, true, false, Some, ◌==◌, nat_lt, if◌then◌else◌, slice_get}
 use Rattle.core_views.specs.declared.actor.Actor.{Actor}
-use Rattle.core_views.specs.declared.actor.Actor.TheVariants.{Vcpu, Manager}
+use Rattle.core_views.specs.declared.actor.Actor.TheVariants.{Vcpu, Manager, Host}
 use Rattle.core_views.specs.declared.sizes.Sizes.{Sizes}
 use Rattle.core_views.specs.declared.trace.Command.{Command}
-use Rattle.core_views.specs.declared.trace.Command.TheVariants.{Access}
+use Rattle.core_views.specs.declared.trace.Command.TheVariants.{Access, ChangeHost}
 use Rattle.core_views.specs.declared.trace.Line.{Line}
 use Rattle.core_views.specs.Actors.{is_same}
 use Rattle.core_views.specs.Sizes.{actor_at, actors_of, index_of}
@@ -60,6 +61,7 @@ next_is actor lines i d lt is =
 pub maker_there : (z : Sizes) (actor : Actor) (command : Command) → IsCommandFor z actor command → index_of z actor < actors_of z
 maker_there z (Vcpu n) (Access gfn word op) may = let lt = may.0 in omega (arith, lt)
 maker_there z Manager command may = omega arith
+maker_there z (Host n) (ChangeHost page Allow) may = omega (arith, may)
 maker_there z _ _ may = absurd may
 
 vcpu_at : (z : Sizes) (n : ℕ) → n < z.vcpus → actor_at z n ≡ Vcpu n
@@ -72,9 +74,17 @@ manager_at z =
     let here : (z.vcpus + z.hosts == z.vcpus + z.hosts) ≡ true = grind (arith, nat_tests) in
     rw (past, behind, here) refl
 
+host_at : (z : Sizes) (n : ℕ) → n < z.hosts → actor_at z (z.vcpus + n) ≡ Host n
+host_at z n lt =
+    let same : z.vcpus + n - z.vcpus ≡ n = omega arith in
+    let past : nat_lt (z.vcpus + n) z.vcpus ≡ false = grind (arith, nat_tests) in
+    let there : nat_lt (z.vcpus + n - z.vcpus) z.hosts ≡ true = grind (arith, same, lt, nat_tests) in
+    rw (past, there) (ap Host same)
+
 pub maker_is : (z : Sizes) (actor : Actor) (command : Command) → IsCommandFor z actor command → actor_at z (index_of z actor) ≡ actor
 maker_is z (Vcpu n) (Access gfn word op) may = vcpu_at z n may.0
 maker_is z Manager command may = manager_at z
+maker_is z (Host n) (ChangeHost page Allow) may = host_at z n may
 maker_is z _ _ may = absurd may
 
 -- The actor at another place is another one.

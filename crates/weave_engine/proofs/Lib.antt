@@ -22,4 +22,3 @@ pub mod WeaveEnds
 pub mod Nearer
 pub mod Outputs
 pub mod StarvedScans
-pub mod NoHostLines

@@ -116,7 +116,7 @@ module _ (number : ℕ) (actor : Actor) where
   line_tells (place.Access p) (Access gfn word op) turn h v rests gives = access_tells_turn p turn gfn word op h v gives
   line_tells (place.Access p) _ turn h v rests gives = absurd rests
   line_tells p command turn h v rests gives =
-      plain_tells turn (line_waits p command h v) (line_seen p command h v) (outcome_at p command h v) (ends_free p command h v) gives
+      plain_tells turn (line_waits p command h v) (line_seen p command h v) (outcome_at p command h v) (λ answer. ends_free p command h v answer rests) gives
 
 -- the text of a step's answers
 text_of : (number : ℕ) (actor : Actor) (line : Line) (o : Outcome) → number ≡ line.number

@@ -138,9 +138,9 @@ made_turn before after w line whose turn is hand open_ own made =
 
 -- A turn that is done answers its line.
 done_ends : (answer : Answer) (h : Held) (v : ℕ) → AnswersBy (Done answer) h v → is_ended (outcome_of h v) ≡ true
-done_ends answer h v answers = by (line_case (place_at h.state.place h) (line_of h).command h v)
+done_ends answer h v answers = by (line_case (place_at h.state.place h) (line_of h).command h v false (λ answer e. refl))
   where
-    by : EndsSo (line_turn (place_at h.state.place h) (line_of h).command h v) (line_waits (place_at h.state.place h) (line_of h).command h v) (outcome_of h v)
+    by : EndsSo (line_turn (place_at h.state.place h) (line_of h).command h v) false (outcome_of h v)
         ⊎ GoesSo (line_turn (place_at h.state.place h) (line_of h).command h v) (outcome_of h v) → is_ended (outcome_of h v) ≡ true
     by (inl E) = ap is_ended E.is
     by (inr G) = absurd (G.more answer (sym answers.1))

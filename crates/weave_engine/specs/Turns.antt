@@ -1,4 +1,5 @@
 -- What a job is for, and what the line that it runs alone makes of the seat that it has.
+use Rattle.core_views.specs.HostChanges.{changes_host}
 use Rattle.std.specs.Prelude.{◌≡◌, ◌++◌, ℕ, List, Some, IfSome, true}
 use Rattle.core_views.specs.declared.answer.Answer.{Answer}
 use Rattle.core_views.specs.declared.kind.Kind.{Kind}
@@ -12,12 +13,13 @@ use Rattle.mmu_core.specs.machine.Machine.{Step, World, hand_in, run}
 use Rattle.step_seats.specs.Seats.{Seat}
 use Rattle.weave_engine.specs.Replays.{RunsAlone}
 use Rattle.weave_engine.specs.declared.job.LineJob.{LineJob}
-use Rattle.weave_engine.specs.declared.job.LineJob.TheVariants.{Access, SlotChange}
+use Rattle.weave_engine.specs.declared.job.LineJob.TheVariants.{Access, SlotChange, Host}
 
 -- The job is for this line, which so many lines of its actor come before.
 abbrev pub IsJobOf : LineJob → Line → ℕ → Type 0
 IsJobOf (Access job) line before = (job.index ≡ before) × (line.command ≡ command.Access job.gfn job.word job.op)
 IsJobOf (SlotChange job) line before = (job.index ≡ before) × (changes_slot line.command ≡ true)
+IsJobOf (Host job) line before = (job.index ≡ before) × (changes_host line.command ≡ true)
 
 -- The seat tells a world, whose hand its actor has, and in it the actor's line is alone.
 pub record IsAlone (seat : Seat) : Type 0 where

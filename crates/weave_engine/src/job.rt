@@ -7,7 +7,7 @@ ghost use Rattle.weave_engine.specs.Turns.{IsAlone, IsJobOf, RanAlone};
 ghost use Rattle.step_seats.specs.LineTurns.{Says, TurnsLine, answer_given, turn_told};
 
 use core_views::{Command, Hand, Line, NoMemory, Place};
-use mmu_core::knows;
+use host_events::HostJob;
 use slot_change::SlotJob;
 use step_seats::{Stepper, Turn};
 use vcpu_run::AccessJob;
@@ -17,6 +17,7 @@ use vcpu_run::AccessJob;
 pub enum LineJob {
     Access(AccessJob),
     SlotChange(SlotJob),
+    Host(HostJob),
 }
 
 impl LineJob {
@@ -26,7 +27,6 @@ impl LineJob {
         requires reached { ∥ HandReached hand.now.core ∥₁ }
         ensures { IsJobOf result (line_of hand.now.core) (length hand.now.core.answers) }
     {
-        knows(hand);
         let index = hand.answers().len();
         match &hand.line().command {
             Command::Access { gfn, word, op } => LineJob::Access(AccessJob {
@@ -35,7 +35,7 @@ impl LineJob {
                 word: *word,
                 op: *op,
             }),
-            Command::ChangeHost { .. } => unreachable!(),
+            Command::ChangeHost { .. } => LineJob::Host(HostJob { index }),
             Command::SetSlot { .. } => LineJob::SlotChange(SlotJob { index }),
         }
     }
@@ -56,6 +56,7 @@ impl LineJob {
         match self {
             LineJob::Access(job) => job.turn(s),
             LineJob::SlotChange(job) => job.turn(s),
+            LineJob::Host(job) => job.turn(s),
         }
     }
 }

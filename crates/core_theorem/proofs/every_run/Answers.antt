@@ -67,7 +67,7 @@ pub returns-clause-facts : goal.returns-clause-facts
 returns-clause-facts c z lines w ss R =
     let F = (every_flat z lines w ss R.start R.legal).refines in record {
       refines = F;
-      host = λ page there. (sound z lines w ss R).holds.hosts page there ∙ ap (λ (m : HostMap). host_word (m page).frame true (m page).writable 1) (sym F.host);
+      host = λ page there. (sound z lines w ss R).holds.hosts page there ∙ ap (λ (m : HostMap). host_word (m page).frame (m page).present (m page).writable 1) (sym F.host);
     }
 
 pub returns-clause-rest : goal.returns-clause-rest

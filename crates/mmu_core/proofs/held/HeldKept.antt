@@ -24,7 +24,7 @@ use Rattle.mmu_core.specs.invariant.HeldPart.{HeldPart}
 use Rattle.part_steps.specs.PartTasks.{entry_index, leaf_written, link_written, page_owned, table_page}
 use Rattle.part_steps.specs.PartTopics.{exchanged}
 use Rattle.mmu_core.specs.invariant.TopicsInvariant.{TopicsInvariant}
-use Rattle.part_steps.specs.StayTopics.{is_loose, begun, kept_search, let_go, may_search, may_walk, unchecked}
+use Rattle.part_steps.specs.StayTopics.{is_loose, begun, kept_search, let_go, may_search, may_walk, unchecked, no_flush}
 use Rattle.part_steps.specs.WalkTopics.{gone_down, linked_page}
 use Rattle.part_steps.specs.PageTopics.{searched, searched_at}
 use Rattle.part_steps.specs.ControlTopics.{at_root, at_set, has_writer}
@@ -98,7 +98,12 @@ shared_held stands t false w is H = record {
   no_set = λ f. H.no_set (ap (λ (h : Hold). may_search t.stay h) is ∙ f);
 }
 
-excluded_held : (stands : ℕ → Option Position) (t : Topics) (b : Bool) → HeldPart stands t → HeldPart stands (record t { hold = if b then Exclusive else t.hold; invalidations = unchecked t.invalidations })
+excluded_held : (stands : ℕ → Option Position) (t : Topics) (b : Bool) → HeldPart stands t
+    → HeldPart stands (record t {
+      hold = if b then Exclusive else t.hold;
+      invalidations = unchecked t.invalidations;
+      flush = if b then no_flush else t.flush;
+    })
 excluded_held stands t true H = record { table = H.table; no_table = λ f. absurd (never_or _ f); no_set = λ f. absurd (never_or _ f) }
 excluded_held stands t false H = record { table = H.table; no_table = H.no_table; no_set = H.no_set }
 
@@ -267,6 +272,10 @@ held_behind z v a note part.Root = λ S I. still_held z v a part.Root _ S I (roo
 held_behind z v a note (part.Walk gfn) = walk_held z v a note gfn
 held_behind z v a note (part.Link gfn) = link_held z v a note gfn
 held_behind z v a note (part.Leaf gfn) = leaf_held z v a note gfn
+held_behind z v a note (part.Zap gfn) = λ S I.
+    let j : ℕ = entry_index gfn (v.hand a).topics.walk.level in
+    still_held z v a (part.Zap gfn) _ S I (gone_held (stands I.up I.spot) (v.hand a).topics _ j 0 None refl refl refl refl
+    (walk_level z v a S.there I S.needs.2.over.there) tt (I.held a S.there))
 held_behind z v a note step = λ S I. still_held z v a step _ S I (same_held (stands I.up I.spot) (v.hand a).topics _ refl refl refl refl (I.held a S.there))
 
 pub held_kept : (z : Sizes) (v : View) (a : ℕ) (step : PartStep) (note : ℕ) → IsPart z v a step → (I : TopicsInvariant z v) → HeldAt z (stands_after z v a step I) (part_stepped a step note v)

@@ -1,6 +1,6 @@
 -- Each step of a part keeps what is said of what actors have loaded of slot sets, of the host and of the invalidations.
 use Rattle.std.proofs.Common.{◌≡◌, ◌+◌, ◌-◌, ◌<◌, ◌≤◌, ℕ, refl, sym, subst, ap, ◌∙◌, arith}
-use Rattle.std.specs.Prelude.{Bool, true, false, if◌then◌else◌, Option, Some, None, is_some}
+use Rattle.std.specs.Prelude.{◌==◌, Bool, true, false, if◌then◌else◌, Option, Some, None, is_some}
 use Rattle.core_views.specs.declared.place.SlotField.{SlotField}
 use Rattle.core_views.specs.declared.place.SlotField.TheVariants as field
 use Rattle.core_views.specs.declared.sizes.Sizes.{Sizes}
@@ -15,7 +15,7 @@ use Rattle.spte_words.specs.declared.area.Area.TheVariants as area
 use Rattle.spte_words.specs.Flags.{flags_live, flags_logged, flags_read_only}
 use Rattle.part_steps.specs.declared.part_step.PartStep.{PartStep}
 use Rattle.part_steps.specs.declared.part_step.PartStep.TheVariants as part
-use Rattle.part_steps.specs.PartTasks.{set_held}
+use Rattle.part_steps.specs.PartTasks.{set_held, word_looked, page_looked}
 use Rattle.part_steps.specs.PartTopics.{sequenced}
 use Rattle.mmu_core.specs.invariant.SearchPart.{HasFlags, HasLoaded, IsOnList, LookPart, SearchPart}
 use Rattle.part_steps.specs.SlotWords.{slot_at, slot_index}
@@ -30,7 +30,7 @@ use Rattle.mmu_core.proofs.machine.Columns.{at_upd}
 use Rattle.mmu_core.proofs.slots.LiveStays.{LiveStays, live_in_stays, slot_stays, still_live, words_live}
 use Rattle.mmu_core.proofs.machine.PartStepping.{IsPart}
 use Rattle.mmu_core.proofs.words.PartTopics.{behind_step, part_behind}
-use Rattle.mmu_core.proofs.words.PartWords.{areas_stay}
+use Rattle.mmu_core.proofs.words.HostStays.{exchanged_same, host_stays, seq_rises}
 use Rattle.mmu_core.proofs.held.OldSets.{held_words_stay}
 
 -- what is said of each hand's search and look-up, of a view
@@ -194,6 +194,22 @@ host_look z seq host page t there L = record {
     this : (look : HostLook) → Some (record { page = page; word = host page }) ≡ Some look → record { page = page; word = host page } ≡ look
     this look e = cc
 
+-- The exchange of a host word puts the word that was looked up, or finds another one: what it leaves is known from then on.
+changed_look : (z : Sizes) (seq : ℕ) (host : ℕ → ℕ) (t : Topics) (new_ : ℕ) → is_some t.host ≡ true → new_ ≡ word_looked t.host → LookPart z seq host t
+    → LookPart z seq host (record t { host = Some (record { page = page_looked t.host; word = if host (page_looked t.host) == word_looked t.host then new_ else host (page_looked t.host) }) })
+changed_look z seq host t new_ some same L =
+    subst (λ w. LookPart z seq host (record t { host = Some (record { page = page_looked t.host; word = w }) }))
+    (sym (exchanged_same t.host (host (page_looked t.host)) new_ same))
+    (host_look z seq host (page_looked t.host) t (by t.host refl some) L)
+  where
+    by : (x : Option HostLook) → t.host ≡ x → is_some x ≡ true → page_looked t.host < z.pages
+    by None is some = absurd (cc some)
+    by (Some look) is some = rw (ap page_looked is) (L.there look is)
+
+-- The sequence number rises.
+later_look : (z : Sizes) (seq more : ℕ) (host : ℕ → ℕ) (t : Topics) → seq ≤ more → LookPart z seq host t → LookPart z more host t
+later_look z seq more host t le L = record { there = L.there; is = L.is; snapshot = λ s e. let early = L.snapshot s e in omega (arith, le, early) }
+
 pub all_look : (z : Sizes) (v : View) (a : ℕ) (h : Held) → TopicsInvariant z v → LookPart z (v.words area.Seq 0) (v.words area.Host) h.topics → (i : ℕ) → i < actors_of z → LookPart z (v.words area.Seq 0) (v.words area.Host) (upd v.hand a h i).topics
 all_look z v a h I here = at_upd (λ i (k : Held). i < actors_of z → LookPart z (v.words area.Seq 0) (v.words area.Host) k.topics) v.hand a h (λ lt. here) (λ i ne. I.looks i)
 
@@ -208,10 +224,13 @@ looks_behind z v a note part.Begin S I = all_look z v a _ I (begun_look z _ _ _ 
 looks_behind z v a note part.End S I = all_look z v a _ I (begun_look z _ _ _ (v.hand a).topics)
 looks_behind z v a note part.Seq S I = all_look z v a _ I (sequenced_look z (v.words area.Seq 0) (v.words area.Host) (is_loose (v.hand a).topics.hold) (v.hand a).topics (I.looks a S.there))
 looks_behind z v a note (part.Host page) S I = all_look z v a _ I (host_look z (v.words area.Seq 0) (v.words area.Host) page (v.hand a).topics (subst (λ (y : Sizes). page < y.pages) S.sizes S.needs) (I.looks a S.there))
+looks_behind z v a note (part.Change new_) S I = all_look z v a _ I (changed_look z (v.words area.Seq 0) (v.words area.Host)
+    (v.hand a).topics new_ S.needs.0.looked S.replaces (I.looks a S.there))
 looks_behind z v a note _ S I = all_look z v a _ I (same_look z (v.words area.Seq 0) (v.words area.Host) (v.hand a).topics _ refl refl (I.looks a S.there))
 
 pub looks_kept : (z : Sizes) (v : View) (a : ℕ) (step : PartStep) (note : ℕ) → IsPart z v a step → TopicsInvariant z v → LooksAt z (part_stepped a step note v)
 looks_kept z v a step note S I =
     let in_old : LooksIn z (v.words area.Seq 0) (v.words area.Host) (part_stepped a step note v) = behind_step (LooksIn z (v.words area.Seq 0) (v.words area.Host)) z v a step note S (looks_behind z v a note step S I) in
-    subst (λ (c : ℕ → ℕ). LooksIn z (c 0) ((part_stepped a step note v).words area.Host) (part_stepped a step note v)) (sym (areas_stay v a step note area.Seq refl))
-    (subst (λ (c : ℕ → ℕ). LooksIn z (v.words area.Seq 0) c (part_stepped a step note v)) (sym (areas_stay v a step note area.Host refl)) in_old)
+    subst (λ (c : ℕ → ℕ). LooksIn z ((part_stepped a step note v).words area.Seq 0) c (part_stepped a step note v)) (sym (host_stays z v a step note S I))
+    (λ i lt. later_look z (v.words area.Seq 0) ((part_stepped a step note v).words area.Seq 0) (v.words area.Host)
+    ((part_stepped a step note v).hand i).topics (seq_rises z v a step note S I) (in_old i lt))

@@ -21,6 +21,8 @@ use Rattle.mmu_core.proofs.lines.AccessParts.{AreSmall}
 use Rattle.mmu_core.proofs.pages.FilledKept.{filled_kept}
 use Rattle.mmu_core.proofs.held.CountersKept.{counters_kept}
 use Rattle.mmu_core.proofs.held.HeldKept.{held_kept}
+use Rattle.mmu_core.proofs.held.InvalidationsKept.{checks_kept, counts_kept, few_kept}
+use Rattle.mmu_core.proofs.pages.LoadedKept.{loaded_kept}
 use Rattle.mmu_core.proofs.held.LockKept.{lock_kept}
 use Rattle.mmu_core.proofs.pages.LeavesOver.{leaves_kept}
 use Rattle.mmu_core.proofs.pages.Paths.{paths_kept}
@@ -56,6 +58,10 @@ topics_part_kept z v a step note S I = record {
   old_sets = old_sets_kept z v a step note S I;
   searches = searches_kept z v a step note S I;
   looks = looks_kept z v a step note S I;
+  counts = counts_kept z v a step note S I;
+  checks = checks_kept z v a step note S I;
+  loaded = loaded_kept z v a step note S I;
+  few_ended = few_kept z v a step note S I;
   counters = counters_kept z v a step note S I;
 }
 
@@ -69,8 +75,8 @@ topics_behind v a task = record {
 -- A touch stores in content alone, and leaves what actors hold.
 touch_kept : (z : Sizes) (v : View) (a : ℕ) (op : Op) (index : ℕ) → TopicsInvariant z v → TopicsInvariant z (topics_behind v a (touch_of op index))
 unfolding topics_after
-touch_kept z v a Read index P = same_topics z _ _ _ _ _ _ _ _ _ v.hand _ (column (λ (h : Held). h.topics) v.hand a _ refl) P
-touch_kept z v a _ index P = same_topics z _ _ _ _ _ _ _ _ _ v.hand _ (column (λ (h : Held). h.topics) v.hand a _ refl) P
+touch_kept z v a Read index P = same_topics z _ _ _ _ _ _ _ _ _ _ _ _ v.hand _ (column (λ (h : Held). h.topics) v.hand a _ refl) P
+touch_kept z v a _ index P = same_topics z _ _ _ _ _ _ _ _ _ _ _ _ v.hand _ (column (λ (h : Held). h.topics) v.hand a _ refl) P
 
 kept_by : (z : Sizes) (v : View) (a : ℕ) (task : Task) → StepIn z v a task → TopicsInvariant z v → TopicsInvariant z (topics_behind v a task)
 kept_by z v a _ (Makes step note S) P = topics_part_kept z v a step note S P
@@ -79,7 +85,7 @@ kept_by z v a _ (Touches op index) P = touch_kept z v a op index P
 -- Each step of a line keeps it.
 pub topics_line_kept : (z : Sizes) (v : View) (a : ℕ) (line : Line) (command : Command) (p : Place) → AreSmall v → IsStep z v a line command p → Invariant z v → TopicsInvariant z v → TopicsInvariant z (stepped a line command p v)
 topics_line_kept z v a line command p small S I P =
-    same_topics z _ _ _ _ _ _ _ _ _ behind.hand (upd v.hand a after) (λ t i. same i t) (kept_by z v a task (step_in z v a line command p small S I P) P)
+    same_topics z _ _ _ _ _ _ _ _ _ _ _ _ behind.hand (upd v.hand a after) (λ t i. same i t) (kept_by z v a task (step_in z v a line command p small S I P) P)
   where
     h : Held
     h = v.hand a

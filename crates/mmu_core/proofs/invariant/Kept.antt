@@ -1,4 +1,8 @@
 -- The step of a line, by its form: a step of a part is one that its actor may make, and the invariant holds after it.
+use Rattle.mmu_core.proofs.lines.HostMakes.{makes_host}
+use Rattle.mmu_core.specs.lines.HostSteps.{host_part}
+use Rattle.mmu_core.proofs.lines.HostKept.{own_host, host_kept}
+use Rattle.mmu_core.proofs.lines.HostKnown.{host_needs}
 use Rattle.std.proofs.Common.{◌≡◌, ℕ, refl, subst, sym, ◌<◌}
 use Rattle.std.specs.Prelude.{Some}
 use Rattle.core_views.specs.declared.actor.Actor.TheVariants.{Manager}
@@ -7,7 +11,7 @@ use Rattle.core_views.specs.declared.place.Place.{Place}
 use Rattle.core_views.specs.declared.place.Place.TheVariants as place
 use Rattle.core_views.specs.declared.sizes.Sizes.{Sizes}
 use Rattle.core_views.specs.declared.trace.Command.{Command}
-use Rattle.core_views.specs.declared.trace.Command.TheVariants.{Access}
+use Rattle.core_views.specs.declared.trace.Command.TheVariants.{Access, ChangeHost, SetSlot}
 use Rattle.core_views.specs.declared.trace.Line.{Line}
 use Rattle.core_views.specs.declared.place.SlotChangePlace.{SlotChangePlace}
 use Rattle.mmu_core.specs.lines.Forms.{outcome_at}
@@ -38,6 +42,10 @@ pub needs_at : (z : Sizes) (v : View) (a : ℕ) (line : Line) (command : Command
     → TopicsInvariant z v → NeedsAt p command (v.hand a)
 needs_at z v a line command place.Between S I P = tt
 needs_at z v a line command (place.Access p) S I P = tt
+needs_at z v a line (ChangeHost page change) (place.Host p) S I P =
+    host_needs p (v.hand a) page (part_rests_at z v a I P S.there) (step_knows z v a line (ChangeHost page change) (place.Host p) S I).1
+needs_at z v a line (Access gfn word op) (place.Host p) S I P = absurd S.holds
+needs_at z v a line (SetSlot id slot) (place.Host p) S I P = absurd S.holds
 needs_at z v a line command (place.SlotChange p) S I P = ((step_knows z v a line command (place.SlotChange p) S I).0, change_needs z v a line p command S I P)
 
 -- What its actor knows behind its step.
@@ -48,6 +56,7 @@ own_known place.Between line command z h words begun may R K left N = absurd beg
 own_known (place.Access p) line (Access gfn word op) z h words begun may R K left N =
     let V = access_vcpu z h.state.actor gfn word op may in own_access p line h gfn word op words V.0 V.1 R K
 own_known (place.SlotChange p) line command z h words begun may R K left N = own_slot_change p line h command words R K left N.1
+own_known (place.Host p) line (ChangeHost page change) z h words begun may R K left N = own_host p line h page change words R K left
 own_known _ line _ z h words begun may R K left N = absurd K
 
 -- The step of a line leaves its actor with what its next place asks, or at rest where the line is answered.
@@ -81,6 +90,8 @@ makes_at z v a line command place.Between small S I P = absurd S.begun
 makes_at z v a line (Access gfn word op) (place.Access p) small S I P = makes_parts z v a line p gfn word op small S I P
 makes_at z v a line command (place.SlotChange p) small S I P =
     one_step (IsPart z v a) (slot_change_part p (v.hand a) command) (makes_slot_change z v a line p command small S I P)
+makes_at z v a line (ChangeHost page change) (place.Host p) small S I P =
+    one_step (IsPart z v a) (host_part p page (v.hand a)) (makes_host z v a line p page change small S I P)
 makes_at z v a line _ _ small S I P = absurd S.holds
 
 -- Each step keeps the invariant.
@@ -92,6 +103,9 @@ step_kept z v a line (Access gfn word op) (place.Access p) small S I P =
 step_kept z v a line command (place.SlotChange p) small S I P =
     slot_change_kept z v a line p command S I P (makes_at z v a line command (place.SlotChange p) small S I P)
     (knows_behind z v a line command (place.SlotChange p) S I P)
+step_kept z v a line (ChangeHost page change) (place.Host p) small S I P =
+    host_kept z v a line p page change S I P (makes_at z v a line (ChangeHost page change) (place.Host p) small S I P)
+    (knows_behind z v a line (ChangeHost page change) (place.Host p) S I P)
 step_kept z v a line _ _ small S I P = absurd S.holds
 
 -- The hand for which a page leaves is the manager's.
@@ -101,4 +115,4 @@ leaver_is_manager z i k h O K L leaves = by h.state.place h.state.line.command r
   where
     by : (p : Place) (c : Command) → h.state.place ≡ p → h.state.line.command ≡ c → KnowsPart p c h → LeavesPart p h.topics → h.state.actor ≡ Manager
     by (place.SlotChange p) command at is K L = change_hand z i h p command O at is K.0
-    by _ c at is K L = let none = L refl in absurd (cc (none, leaves))
+    by _ c at is K L = let none = L.leaves refl in absurd (cc (none, leaves))

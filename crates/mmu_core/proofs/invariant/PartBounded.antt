@@ -6,7 +6,6 @@ use Rattle.std.proofs.lemmas.List.Elements.{All-weaker}
 use Rattle.core_views.specs.declared.cache.Translation.{Translation}
 use Rattle.core_views.specs.declared.sizes.Sizes.{Sizes}
 use Rattle.core_views.specs.declared.topics.HostLook.{HostLook}
-use Rattle.core_views.specs.declared.trace.Slot.{Slot as SlotOf}
 use Rattle.core_views.specs.Held.{Held}
 use Rattle.core_views.specs.Sizes.{AreSizes, actors_of, index_of}
 use Rattle.spte_words.specs.declared.area.Area.TheVariants as area
@@ -16,6 +15,7 @@ use Rattle.part_steps.specs.PartBounds.{IsAtLeafLevel}
 use Rattle.part_steps.specs.PartBounds.{CountersPart}
 use Rattle.mmu_core.specs.invariant.HeldPart.{HeldPart, HoldsOld}
 use Rattle.mmu_core.specs.invariant.Invariant.{HostWordsPart, Invariant, IsLeafFor, OwnLines}
+use Rattle.mmu_core.specs.invariant.SlotSetPart.{Fits}
 use Rattle.mmu_core.specs.invariant.LockPart.{SawWriter}
 use Rattle.part_steps.specs.PartBounds.{PartRests}
 use Rattle.part_steps.specs.PartTasks.{table_page}
@@ -40,7 +40,8 @@ part_rests_at z v i I P there = record {
   left = λ k is. subst (λ (y : Sizes). k < y.pool) (sym same) (left_there P.uses i k there is);
   filled = λ o is. (P.filled i o there is).most;
   counters = subst (λ y. CountersPart y h.topics) (sym same) (P.counters i there);
-  found = λ whole. subst (λ (y : Sizes). h.topics.search.slot.host + h.topics.search.slot.pages ≤ y.pages) (sym same) (found whole);
+  found = λ whole. subst (λ (y : Sizes). h.topics.search.slot.host + h.topics.search.slot.pages ≤ y.pages) (sym same) (found whole).pages;
+  frames = λ whole. (found whole).frames;
   cache = subst (λ n. 1 ≤ n) (sym O.cache) I.sizes.cache.0;
   levels = All-weaker (λ (t : Translation). (t.level ≡ 1) × IsLeafFor (v.words area.Pool) (v.words area.Host) (v.words area.Slots 0) t.gfn t.leaf) IsAtLeafLevel lowest h.cached.items (I.cached i there);
   looked = λ look is. subst (λ (y : Sizes). (look.page < y.pages) × (host_frame look.word < y.frames)) (sym same) (looked look is);
@@ -74,14 +75,14 @@ part_rests_at z v i I P there = record {
         by (inl e) = subst (λ n. n < z.pool) (sym e) (slots_there P.uses)
         by (inr O) = left_there P.uses O.by k O.there O.leaves
 
-    -- The slot that was loaded whole is live in the published set.
-    found : h.topics.search.whole ≡ true → h.topics.search.slot.host + h.topics.search.slot.pages ≤ z.pages
+    -- The slot that was loaded whole is live in the published set, so it fits the machine.
+    found : h.topics.search.whole ≡ true → Fits z h.topics.search.slot
     found whole =
         let S = P.searches i there in
         let own = S.held whole in
         let live : IsLiveIn (v.words area.Pool) (v.words area.Slots 0) (h.topics.search.id - 1) h.topics.search.slot =
         set_live z v i own.0 there P own.1 (h.topics.search.id - 1) h.topics.search.slot (S.whole own.0 own.1 whole).1 in
-        subst (λ (s : SlotOf). s.host + s.pages ≤ z.pages) live.is (I.set_part.fits (h.topics.search.id - 1) live.low live.live).pages
+        subst (Fits z) live.is (I.set_part.fits (h.topics.search.id - 1) live.low live.live)
 
     looked : (look : HostLook) → h.topics.host ≡ Some look → (look.page < z.pages) × (host_frame look.word < z.frames)
     looked look is =

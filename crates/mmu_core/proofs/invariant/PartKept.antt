@@ -1,4 +1,5 @@
 -- The steps of the parts keep what the lines rest on.
+use Rattle.mmu_core.proofs.lines.OpenedStays.{opens_none}
 use Rattle.circular_buffer.specs.Buffer.{Buffer}
 use Rattle.core_views.specs.declared.cache.Translation.{Translation}
 use Rattle.core_views.specs.declared.place.Place.{Place}
@@ -15,7 +16,7 @@ use Rattle.part_steps.specs.Tasks.{kind_of_task}
 use Rattle.mmu_core.specs.invariant.TopicsInvariant.{TopicsInvariant}
 use Rattle.mmu_core.specs.machine.View.{View, answer_in, part_stepped, upd}
 use Rattle.mmu_core.proofs.lines.CachedKept.{flushed_kept}
-use Rattle.std.proofs.Common.{◌≡◌, ℕ, sym, subst, refl, ◌∙◌}
+use Rattle.std.proofs.Common.{◌≡◌, ℕ, sym, subst, ◌∙◌}
 use Rattle.std.specs.Prelude.{false}
 use Rattle.core_views.specs.declared.trace.Command.{Command}
 use Rattle.core_views.specs.SlotSets.{MemorySlots}
@@ -25,8 +26,9 @@ use Rattle.part_steps.specs.PartSteps.{has_line, needs_line}
 use Rattle.mmu_core.proofs.slots.LiveStay.{StayLive, set_stays, translations_stay}
 use Rattle.mmu_core.proofs.slots.LiveStays.{SetStays, published_stays}
 use Rattle.mmu_core.proofs.held.OthersStay.{leaves_none, owned_stays}
-use Rattle.mmu_core.proofs.machine.PartStepping.{IsPart, idle_never, is_publish}
-use Rattle.mmu_core.proofs.words.PartWords.{areas_stay, role_stays, slots_are, slots_other_role, slots_same}
+use Rattle.mmu_core.proofs.machine.PartStepping.{IsPart, idle_never, is_publish, idle_untold}
+use Rattle.mmu_core.proofs.words.HostStays.{host_stays}
+use Rattle.mmu_core.proofs.words.PartWords.{role_stays, slots_are, slots_other_role, slots_same}
 use Rattle.mmu_core.proofs.slots.SlotsStay.{AllKnow, hand_moved, is_live_stays, is_live_was, record_stays}
 use Rattle.mmu_core.proofs.machine.Which.{has_line_is}
 use Rattle.mmu_core.proofs.lines.UsedTranslations.{flushed_room}
@@ -36,7 +38,7 @@ abbrev pub with_topics : Held → Topics → Buffer Translation → Held
 with_topics h t c = record { state = h.state; topics = t; cached = c; slots = h.slots; lines = h.lines; answers = h.answers }
 
 own_lines : (z : Sizes) (i : ℕ) (h : Held) (t : Topics) (c : Buffer Translation) → c.capacity ≡ h.cached.capacity → OwnLines z i h → OwnLines z i (with_topics h t c)
-own_lines z i h t c room O = record { cache = room ∙ O.cache; sizes = O.sizes; index = O.index; allowed = O.allowed; own = O.own; distinct = O.distinct; under = under h.state.place O.under; answered = O.answered; set = O.set }
+own_lines z i h t c room O = record { cache = room ∙ O.cache; sizes = O.sizes; index = O.index; allowed = O.allowed; own = O.own; distinct = O.distinct; under = under h.state.place O.under; few = O.few; answered = O.answered; set = O.set }
   where
     under : (p : Place) → UnderWay p h → UnderWay p (with_topics h t c)
     under place.Between e = tt
@@ -51,13 +53,16 @@ idle_holds z pool host set _ command h g none under = let has = has_line_is h un
 pub part_keeps_lines : (z : Sizes) (v : View) (a : ℕ) (step : PartStep) (note : ℕ) → IsPart z v a step → needs_line step ≡ false → has_line (v.hand a) ≡ false → Invariant z v → TopicsInvariant z v → AllKnow z (part_stepped a step note v).hand → Invariant z (part_stepped a step note v)
 part_keeps_lines z v a step note S free none I P knows =
     subst (λ n. InvariantOf z n (words area.Role) (words area.Pool) (words area.Host) (upd v.hand a after)) (sym (slots_are v a step note ∙ slots_same step h.topics set never))
-    (subst (λ (f : ℕ → ℕ). InvariantOf z set (words area.Role) (words area.Pool) f (upd v.hand a after)) (sym (areas_stay v a step note area.Host refl))
+    (subst (λ (f : ℕ → ℕ). InvariantOf z set (words area.Role) (words area.Pool) f (upd v.hand a after)) (sym (host_stays z v a step note S P))
     (hand_moved z set set (v.words area.Role) (words area.Role) (v.words area.Pool) (words area.Pool) (v.words area.Host) v.hand a after live
     (set_stays z (v.words area.Role) (words area.Role) (v.words area.Pool) set (words area.Pool) set (is_live_was set (v.words area.Pool) (words area.Pool) stays)
     (role_stays z v a step note S set (slots_other_role z v a step S P) ∙ I.set_part.role_is) I.set_part)
     (owned_stays z v a step note S P) (λ i lt ne is. recorded (v.hand i).slots (I.recorded i lt is)) (own_lines z a h after.topics after.cached (flushed_room (kind_of_task h.state.sizes t) h.cached x) (I.lines a S.there))
     (idle_holds z (words area.Pool) (v.words area.Host) set h.state.place h.state.line.command h after none (I.lines a S.there).under)
-    (λ may. leaves_none step h.state.sizes (own_index h) h.topics note x never (I.leaves a S.there may)) cached (λ is. recorded h.slots (I.recorded a S.there is)) knows I))
+    (record {
+      leaves = λ may. leaves_none step h.state.sizes (own_index h) h.topics note x never ((I.leaves a S.there).leaves may);
+      opens = λ may. opens_none step h note x S.needs (idle_untold step free) ((I.leaves a S.there).opens may);
+    }) cached (λ is. recorded h.slots (I.recorded a S.there is)) knows I))
   where
     h : Held
     h = v.hand a

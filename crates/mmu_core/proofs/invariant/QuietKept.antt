@@ -37,7 +37,8 @@ use Rattle.mmu_core.proofs.machine.Stepping.{IsStep}
 use Rattle.mmu_core.proofs.slots.LiveStay.{StayLive, set_stays}
 use Rattle.mmu_core.proofs.slots.LiveStays.{MakesParts, OwnedStays, access_never, SetStays, published_stays, touch_leaves_host, touch_leaves_pool, touch_leaves_role, touch_leaves_slots}
 use Rattle.mmu_core.proofs.slots.SlotsStay.{AllKnow, hand_moved, is_live_stays, is_live_was, record_stays}
-use Rattle.mmu_core.proofs.words.PartWords.{areas_stay, role_stays, slots_are, slots_other_role, slots_same}
+use Rattle.mmu_core.proofs.words.HostStays.{host_stays}
+use Rattle.mmu_core.proofs.words.PartWords.{role_stays, slots_are, slots_other_role, slots_same}
 
 -- The step of a part that a line makes at a place is one that its actor may make.
 abbrev pub MakesAt : Sizes → View → ℕ → Place → Command → Type 0
@@ -89,7 +90,7 @@ sets_stay z v a p command makes never P = by (part_at p command (v.hand a)) make
         let S = makes step refl in
         record {
           slots = slots_are v a step note ∙ slots_same step (v.hand a).topics (v.words area.Slots 0) (never step refl);
-          host = areas_stay v a step note area.Host refl;
+          host = host_stays z v a step note S P;
           role = role_stays z v a step note S (v.words area.Slots 0) (slots_other_role z v a step S P);
           pool = published_stays z v a step note S P;
           owned = owned_stays z v a step note S P;

@@ -1,4 +1,5 @@
 -- What a line rests on, from the invariant; and that the word of its next step is one of the words.
+use Rattle.core_views.specs.declared.trace.HostChange.TheVariants.{Move, Evict, Protect, Allow}
 use Rattle.std.proofs.Common.{◌≡◌, ◌⊎◌, inl, inr, ◌<◌, ◌≤◌, ◌+◌, ℕ, length, refl, sym, subst, ap, ◌∙◌, arith}
 use Rattle.std.specs.Prelude.{Bool, true, ◌&&◌, nat_le, nat_lt, Option, Some, None}
 use Rattle.std.proofs.Math.Logic.{∥∥₁_elim, ∥∥₁_map}
@@ -6,7 +7,7 @@ use Rattle.std.proofs.Props.{props}
 use Rattle.std.proofs.lemmas.Bool.{cases_lt}
 use Rattle.std.proofs.lemmas.Bool.Decides.{nat_tests}
 use Rattle.core_views.specs.declared.actor.Actor.{Actor}
-use Rattle.core_views.specs.declared.actor.Actor.TheVariants.{Vcpu}
+use Rattle.core_views.specs.declared.actor.Actor.TheVariants.{Vcpu, Host}
 use Rattle.core_views.specs.declared.place.AccessPlace.{AccessPlace}
 use Rattle.core_views.specs.declared.place.AccessPlace.TheVariants.{Enter, Walk, Touch, Leave, Fault}
 use Rattle.core_views.specs.declared.place.Place.{Place}
@@ -17,7 +18,7 @@ use Rattle.core_views.specs.declared.topics.Invalidations.{Invalidations}
 use Rattle.core_views.specs.declared.topics.OwnedPage.{OwnedPage}
 use Rattle.core_views.specs.declared.topics.Topics.{Topics}
 use Rattle.core_views.specs.declared.trace.Command.{Command}
-use Rattle.core_views.specs.declared.trace.Command.TheVariants.{Access}
+use Rattle.core_views.specs.declared.trace.Command.TheVariants.{Access, ChangeHost}
 use Rattle.core_views.specs.declared.trace.Line.{Line}
 use Rattle.core_views.specs.declared.trace.Op.{Op}
 use Rattle.core_views.specs.declared.trace.Op.TheVariants.{Read}
@@ -218,7 +219,8 @@ on_stays (Some step) gfn write h x = needs_stay step h x
 
 other_stays : (p : Place) (command : Command) (h : Held) → (RestsAt p command h → ⊥) ⊎ RestsOnPart p command h → ∥ RestsAt p command h ∥₁ → RestsAt p command h
 other_stays p command h (inl never) x = absurd (∥∥₁_elim x (hlevel props) never)
-other_stays p command h (inr P) x = P.rests (needs_stay P.step h (∥∥₁_map x P.needs))
+other_stays p command h (inr P) x =
+    P.rests (needs_stay P.step h (∥∥₁_map x (λ R. (P.needs R).0))) (∥∥₁_elim x P.more_prop (λ R. (P.needs R).1))
 
 at_stays : (p : Place) (command : Command) (h : Held) → ∥ RestsAt p command h ∥₁ → RestsAt p command h
 at_stays (place.Access p) (Access gfn word op) h x = on_stays (access_part p gfn h.topics) gfn (is_write op) h x
@@ -228,6 +230,10 @@ at_stays p command h x = other_stays p command h (other_rests p command h tt) x
 command_prop : (z : Sizes) (actor : Actor) (command : Command) → IsProp (IsCommandFor z actor command)
 command_prop z (Vcpu n) (Access gfn word op) = hlevel props
 command_prop z _ (Access gfn word op) = hlevel props
+command_prop z (Host n) (ChangeHost page Allow) = hlevel props
+command_prop z (Host n) (ChangeHost page Move) = hlevel props
+command_prop z (Host n) (ChangeHost page Evict) = hlevel props
+command_prop z (Host n) (ChangeHost page Protect) = hlevel props
 command_prop z _ _ = hlevel props
 
 pub part_rests_prop : (h : Held) → IsProp (PartRests h)

@@ -1,4 +1,5 @@
 -- The steps of an access keep the invariant.
+use Rattle.mmu_core.proofs.lines.OpenedStays.{access_opens_none}
 use Rattle.std.proofs.Common.{◌≡◌, ◌<◌, ℕ, refl, sym, subst, arith}
 use Rattle.std.specs.Prelude.{Bool, true, Option, Some, None}
 use Rattle.core_views.specs.declared.cache.Translation.{Translation}
@@ -105,7 +106,12 @@ access_kept z v a line p gfn word op S I P K makes knows =
       same = refl;
       more = omega (arith, none_done z v a line (Access gfn word op) (place.Access p) S refl, answers_more (access_outcome p h gfn op x) line h.answers);
       room = caches_room p h gfn op x;
-      leaves = λ may. access_leaves_none h p gfn word op x (step_leaves z v a line (Access gfn word op) (place.Access p) S I refl);
+      leaves =
+          let L = step_leaves z v a line (Access gfn word op) (place.Access p) S I in
+          record {
+            leaves = λ may. access_leaves_none h p gfn word op x (L.leaves refl);
+            opens = λ may. access_opens_none h p gfn word op x (λ step is. (makes step is).needs) (L.opens refl);
+          };
       holds = access_holds z v a line p gfn word op (hand_after line (Access gfn word op) (place.Access p) h x) S.there I P K refl;
       cached = cached_kept z v a line p gfn word op S.there I P K makes;
     }) knows

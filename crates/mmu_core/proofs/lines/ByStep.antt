@@ -38,7 +38,7 @@ other_step : (p : Place) (command : Command) (h : Held) → (RestsAt p command h
 other_step p command h (inl never) R = absurd (never R)
 other_step p command h (inr P) R =
     subst (λ (s : Option PartStep). StepAt command h (task_by s h (note_at p command h) (touch_at command h))) (sym P.at)
-    (Makes P.step (note_at p command h) (P.needs R))
+    (Makes P.step (note_at p command h) (P.needs R).0)
 
 pub step_at : (p : Place) (command : Command) (h : Held) → RestsAt p command h → StepAt command h (task_at p command h)
 step_at (place.Access p) (Access gfn word op) h R = access_step (access_part p gfn h.topics) h (access_note p) gfn word op R
@@ -51,7 +51,7 @@ step_needs p command h step R is = subst (λ (s : Option PartStep). IfSome s (λ
   where
     other : (q : Place) (c : Command) → (RestsAt q c h → ⊥) ⊎ RestsOnPart q c h → RestsAt q c h → IfSome (part_at q c h) (λ x. PartNeeds x h)
     other q c (inl rests_not) N = absurd (rests_not N)
-    other q c (inr P) N = subst (λ (s : Option PartStep). IfSome s (λ x. PartNeeds x h)) (sym P.at) (P.needs N)
+    other q c (inr P) N = subst (λ (s : Option PartStep). IfSome s (λ x. PartNeeds x h)) (sym P.at) (P.needs N).0
 
     needs : (q : Place) (c : Command) → RestsAt q c h → IfSome (part_at q c h) (λ x. PartNeeds x h)
     needs (place.Access q) (Access gfn word op) N = part_needs (access_part q gfn h.topics) gfn (is_write op) h N

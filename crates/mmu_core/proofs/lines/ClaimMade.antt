@@ -26,7 +26,7 @@ use Rattle.mmu_core.specs.declared.outcome.Outcome.TheVariants.{Ends}
 use Rattle.mmu_core.specs.lines.LockKnows.{HoldsLock}
 use Rattle.mmu_core.specs.lines.ClaimSteps.{claim_left, claim_next, claim_outcome, claim_part, map_word, tries_page, word_after_load}
 use Rattle.mmu_core.proofs.lines.FaultSame.{both}
-use Rattle.mmu_core.proofs.machine.PartStepping.{is_publish}
+use Rattle.mmu_core.proofs.machine.PartStepping.{is_told}
 
 -- the page that a claim tries, of which nothing is filled
 abbrev pub page_won : MapClaim → OwnedPage
@@ -81,11 +81,11 @@ claim_needs begun h S none low = by (tries_page begun h.topics.claim) refl
     by true is = let B = both begun (nat_lt 0 h.topics.claim.seen) is in (none, grind (arith, nat_tests), low B.0)
     by false is = loads begun is low
 
--- It publishes nothing.
-pub claim_never : (begun : Bool) (claim : MapClaim) → is_publish (claim_part begun claim) ≡ false
-claim_never begun claim = by (tries_page begun claim)
+-- It publishes nothing, and is no step of which a line says more than what it needs.
+pub claim_untold : (begun : Bool) (claim : MapClaim) → is_told (claim_part begun claim) ≡ false
+claim_untold begun claim = by (tries_page begun claim)
   where
-    by : (tries : Bool) → is_publish (if tries then part.Claim else part.Map (map_word begun claim)) ≡ false
+    by : (tries : Bool) → is_told (if tries then part.Claim else part.Map (map_word begun claim)) ≡ false
     by true = refl
     by false = refl
 

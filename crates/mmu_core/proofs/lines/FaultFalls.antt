@@ -51,7 +51,7 @@ search_falls : (b : Bool) (z : Sizes) (u : Topics) (n : ℕ) → (u.search.id ==
 search_falls true z u n is less = omega arith
 search_falls false z u n is less = let few = less refl in omega (arith, few)
 
-flags_fall : (live : Bool) (id : ℕ) → id ≤ 31 → ((if live then id else id + 1) == 32) ≡ false → 4 * (31 - (if live then id else id + 1)) + look_left (if live then field.Base else field.Flags) < 4 * (31 - id) + 4
+pub flags_fall : (live : Bool) (id : ℕ) → id ≤ 31 → ((if live then id else id + 1) == 32) ≡ false → 4 * (31 - (if live then id else id + 1)) + look_left (if live then field.Base else field.Flags) < 4 * (31 - id) + 4
 flags_fall true id low is = omega arith
 flags_fall false id low is = let lower : id + 1 ≢ 32 = grind (arith, nat_tests) in omega (arith, lower)
 

@@ -256,8 +256,12 @@ fault_known Leaf h gfn v write small R K A = leaf_known (v == h.topics.walk.entr
 fault_known (Unshare e) h gfn v write small R K A = unshare_known e h.state.sizes gfn write h.topics K.0 K.2
 fault_known (End e) h gfn v write small R K A = record { outside = refl; loose = K.1; owns_none = K.0.owns_none; no_table = refl; no_set = refl }
 
--- A fill answers what it stored, of a word or of the role.
+-- A store answers what it stored.
 pub parts_answer : (step : PartStep) (own : ℕ) (t : Topics) (note : ℕ) (words : Area → ℕ → ℕ) → CanAnswer step (answer_in (part_task step own t note) words)
 parts_answer (part.Fill value) own t note words = refl
 parts_answer (part.Role value) own t note words = refl
+parts_answer (part.SetStart value) own t note words = refl
+parts_answer (part.SetEnd value) own t note words = refl
+parts_answer (part.SetCount value) own t note words = refl
+parts_answer (part.SetSeq value) own t note words = refl
 parts_answer _ own t note words = tt

@@ -1,4 +1,12 @@
 -- What is so of the lines of every form: the one place where it is told by the form. A form of line writes a clause in each of these.
+use Rattle.mmu_core.specs.lines.HostKnows.{HostRests}
+use Rattle.core_views.specs.Traces.{IsCommandFor}
+use Rattle.mmu_core.specs.lines.HostSteps.{host_part}
+use Rattle.mmu_core.proofs.lines.HostPlaces.{host_goes, host_few, some_host_left, look_goes, host_knows_prop, host_free, host_fed, host_rests_prop}
+use Rattle.core_views.specs.declared.actor.Actor.{Actor}
+use Rattle.core_views.specs.declared.actor.Actor.TheVariants as actors
+use Rattle.core_views.specs.declared.trace.HostChange.{HostChange}
+use Rattle.core_views.specs.declared.trace.HostChange.TheVariants.{Move, Evict, Protect, Allow}
 use Rattle.std.proofs.Common.{◌≡◌, ◌⊎◌, inl, inr, ◌<◌, ◌≤◌, ℕ, refl, arith, ◌≢◌, Bool, ◌+◌}
 use Rattle.std.proofs.Props.{props}
 use Rattle.std.specs.Prelude.{Some, true, false}
@@ -16,9 +24,8 @@ use Rattle.core_views.specs.declared.place.Place.TheVariants as place
 use Rattle.core_views.specs.declared.sizes.Sizes.{Sizes}
 use Rattle.core_views.specs.declared.topics.Topics.{Topics}
 use Rattle.core_views.specs.declared.trace.Command.{Command}
-use Rattle.core_views.specs.declared.trace.Command.TheVariants.{Access, ChangeHost}
+use Rattle.core_views.specs.declared.trace.Command.TheVariants.{Access, ChangeHost, SetSlot}
 use Rattle.core_views.specs.declared.trace.Op.{Op}
-use Rattle.core_views.specs.HostChanges.{changes_host}
 use Rattle.core_views.specs.Held.{Held}
 use Rattle.core_views.specs.SlotCommands.{change_refusal, changes_slot}
 use Rattle.core_views.specs.Sizes.{AreSizes}
@@ -64,30 +71,38 @@ pub outcome_goes : (p : Place) (command : Command) (h : Held) (v : ℕ) → IsUn
 outcome_goes place.Between command h v begun = absurd begun
 outcome_goes (place.Access p) (Access gfn word op) h v begun = access_goes p h gfn op v
 outcome_goes (place.SlotChange p) command h v begun = (slot_change_goes p h v).0
+outcome_goes (place.Host p) (ChangeHost page change) h v begun = (host_goes p page h v).0
 outcome_goes _ _ h v begun = tt
 
 pub outcome_apart : (p : Place) (command : Command) (h : Held) (v : ℕ) → IsNoAccess p → GoesToNoAccess (outcome_at p command h v)
 outcome_apart (place.Access p) command h v other = absurd other
 outcome_apart (place.SlotChange p) command h v other = (slot_change_goes p h v).1
+outcome_apart (place.Host p) (ChangeHost page change) h v other = (host_goes p page h v).1
 outcome_apart _ _ h v other = tt
 
 -- ---- what its step needs
 
--- At a place of another form than an access a line rests on what the step of a part needs.
-pub record RestsOnPart (p : Place) (command : Command) (h : Held) : Type 0 where
+-- At a place of another form than an access a line rests on what the step of a part needs, and maybe on something more, which is a proposition.
+pub record RestsOnPart (p : Place) (command : Command) (h : Held) : Type 1 where
   pub step : PartStep
   pub at : part_at p command h ≡ Some step
-  pub needs : RestsAt p command h → PartNeeds step h
-  pub rests : PartNeeds step h → RestsAt p command h
+  pub more : Type 0
+  pub more_prop : IsProp more
+  pub needs : RestsAt p command h → PartNeeds step h × more
+  pub rests : PartNeeds step h → more → RestsAt p command h
 
 -- Or the place is one of another form than the line's.
 pub other_rests : (p : Place) (command : Command) (h : Held) → IsNoAccess p → (RestsAt p command h → ⊥) ⊎ RestsOnPart p command h
 other_rests (place.Access p) command h other = absurd other
-other_rests place.Between command h other = inr (record { step = part.Seq; at = refl; needs = λ R. tt; rests = λ N. tt })
+other_rests place.Between command h other = inr (record { step = part.Seq; at = refl; more = Unit {0}; more_prop = hlevel props; needs = λ R. (tt, tt); rests = λ N M. tt })
+other_rests (place.Host p) (ChangeHost page change) h other =
+    inr (record { step = host_part p page h; at = refl; more = HostRests p h; more_prop = host_rests_prop p h; needs = λ R. R; rests = λ N M. (N, M) })
+other_rests (place.Host p) (Access gfn word op) h other = inl (λ R. absurd R)
+other_rests (place.Host p) (SetSlot id slot) h other = inl (λ R. absurd R)
 other_rests (place.SlotChange p) command h other = by (changes_slot command) refl
   where
     by : (b : Bool) → changes_slot command ≡ b → (RestsAt (place.SlotChange p) command h → ⊥) ⊎ RestsOnPart (place.SlotChange p) command h
-    by true is = inr (record { step = slot_change_part p h command; at = refl; needs = λ R. R.1; rests = λ N. (is, N) })
+    by true is = inr (record { step = slot_change_part p h command; at = refl; more = Unit {0}; more_prop = hlevel props; needs = λ R. (R.1, tt); rests = λ N M. (is, N) })
     by false is = inl (λ R. let changes = R.0 in cc (changes, is))
 
 -- ---- how many steps it has left
@@ -102,6 +117,8 @@ place_few (place.SlotChange p) (Access gfn word op) y z pool host set h t holds 
     let few = slot_change_few p z t in let actors = S.actors in let pages = S.pool.1 in omega (arith, few, actors, pages)
 place_few (place.SlotChange p) command y z pool host set h t holds S most =
     let few = slot_change_few p z t in let actors = S.actors in omega (arith, few, actors)
+place_few (place.Host p) (ChangeHost page change) y z pool host set h t holds S most =
+    let few = host_few p z t most in let actors = S.actors in omega (arith, few, actors)
 place_few _ _ y z pool host set h t holds S most = absurd holds
 
 -- A slot line makes no more than an access.
@@ -114,29 +131,43 @@ pub some_left : (p : Place) (z : Sizes) (t : Topics) → IsUnderWay p → 0 < st
 some_left place.Between z t under = absurd under
 some_left (place.Access p) z t under = some_access_left p z t
 some_left (place.SlotChange p) z t under = some_change_left p z t
+some_left (place.Host p) z t under = some_host_left p z t
 
 -- ---- where it begins
 
 -- Its first step doesn't wait, and is no end of a fault that begins anew.
 pub first_goes : (z : Sizes) (slots : MemorySlots) (command : Command) (h : Held) (v : ℕ) → line_waits (first_place z slots command) command h v ≡ true → ⊥
 first_goes z slots (Access gfn word op) h v is = cc is
+first_goes z slots (ChangeHost page change) h v is = let goes = look_goes page h v in cc (is, goes)
 first_goes z slots command h v is = begins_at_once (change_refusal z command slots) command h v is
 
 pub first_no_end : (z : Sizes) (slots : MemorySlots) (command : Command) → begins_anew (first_place z slots command) ≡ true → ⊥
 first_no_end z slots (Access gfn word op) is = cc is
+first_no_end z slots (ChangeHost page change) is = cc is
 first_no_end z slots _ is = cc is
 
+-- A host thread allows writes to a page, and makes no other change yet.
+only_allows : (z : Sizes) (actor : Actor) (page : ℕ) (change : HostChange) → IsCommandFor z actor (ChangeHost page change) → change ≡ Allow
+only_allows z (actors.Host n) page Allow may = refl
+only_allows z (actors.Host n) page Move may = absurd may
+only_allows z (actors.Host n) page Evict may = absurd may
+only_allows z (actors.Host n) page Protect may = absurd may
+only_allows z (actors.Vcpu n) page change may = absurd may
+only_allows z actors.Manager page change may = absurd may
+only_allows z (actors.Worker n) page change may = absurd may
+
 -- Its actor, which was at rest, knows what its first place asks.
-pub first_known : (z : Sizes) (command : Command) (h : Held) → changes_host command ≡ false → IsAtRest h.topics
+pub first_known : (z : Sizes) (command : Command) (h : Held) (y : Sizes) (actor : Actor) → IsCommandFor y actor command → IsAtRest h.topics
     → KnowsPart (first_place z h.slots command) command h
-first_known z (Access gfn word op) h none R = R
-first_known z (ChangeHost page change) h none R = absurd (cc none)
-first_known z command h none R = (refl, slot_change_begins_known (change_refusal z command h.slots) h R)
+first_known z (Access gfn word op) h y actor may R = R
+first_known z (ChangeHost page change) h y actor may R = (only_allows y actor page change may, R)
+first_known z command h y actor may R = (refl, slot_change_begins_known (change_refusal z command h.slots) h R)
 
 -- Alone, it knows what its first place asks of the words.
 pub first_alone : (z : Sizes) (slots : MemorySlots) (command : Command) (words : Area → ℕ → ℕ) (t : Topics)
     → FormAlone (first_place z slots command) command words t
 first_alone z slots (Access gfn word op) words t = λ e. absurd (cc e)
+first_alone z slots (ChangeHost page change) words t = tt
 first_alone z slots _ words t = tt
 
 -- ---- what it knows
@@ -145,6 +176,9 @@ first_alone z slots _ words t = tt
 pub knows_prop : (p : Place) (command : Command) (h : Held) → IsNoAccess p → IsProp (KnowsPart p command h)
 knows_prop (place.Access p) command h other = absurd other
 knows_prop (place.SlotChange p) command h other = slot_change_knows_prop p command h
+knows_prop (place.Host p) (ChangeHost page change) h other = host_knows_prop p page change h
+knows_prop (place.Host p) (Access gfn word op) h other = hlevel props
+knows_prop (place.Host p) (SetSlot id slot) h other = hlevel props
 knows_prop _ _ h other = hlevel props
 
 -- No access stands at the place of another form.
@@ -152,12 +186,14 @@ pub other_knows : (p : Place) (gfn word : ℕ) (op : Op) (h : Held) → IsNoAcce
 other_knows (place.Access p) gfn word op h other begun K = absurd other
 other_knows place.Between gfn word op h other begun K = absurd begun
 other_knows (place.SlotChange p) gfn word op h other begun K = cc K.0
+other_knows (place.Host p) gfn word op h other begun K = absurd K
 
 -- ---- what a line has loaded or stored
 
 -- Where it begins: nothing.
 pub first_holds : (z : Sizes) (pool host : ℕ → ℕ) (set : ℕ) (command : Command) (h : Held) → Holds z pool host set (first_place z h.slots command) command h
 first_holds z pool host set (Access gfn word op) h = tt
+first_holds z pool host set (ChangeHost page change) h = tt
 first_holds z pool host set command h = slot_change_begins z pool host set command h (change_refusal z command h.slots) refl
 
 -- It stays, where live slots and the words of the line's own page do.
@@ -166,6 +202,7 @@ module _ (z : Sizes) (before : ℕ → ℕ) (set : ℕ) (after : ℕ → ℕ) (o
   loads_stay place.Between command e = tt
   loads_stay (place.Access p) (Access gfn word op) e = access_stays before set after other stay host p gfn h e
   loads_stay (place.SlotChange p) command e = slot_change_stays z before after h own p command e
+  loads_stay (place.Host p) (ChangeHost page change) e = tt
   loads_stay _ _ e = absurd e
 
 -- ---- what the manager's record accepts
@@ -182,13 +219,15 @@ accepts_at_prop _ _ z slots = hlevel props
 -- ---- how it ends
 
 -- The step that ends it doesn't wait.
-pub ends_free : (p : Place) (command : Command) (h : Held) (v : ℕ) (answer : Answer) → outcome_at p command h v ≡ Ends answer → line_waits p command h v ≡ false
-ends_free (place.Access p) (Access gfn word op) h v answer e = access_free p h gfn op v answer e
-ends_free (place.SlotChange p) command h v answer e = slot_change_free p h command v answer e
-ends_free _ _ h v answer e = absurd (cc e)
+pub ends_free : (p : Place) (command : Command) (h : Held) (v : ℕ) (answer : Answer) → RestsAt p command h → outcome_at p command h v ≡ Ends answer → line_waits p command h v ≡ false
+ends_free (place.Access p) (Access gfn word op) h v answer R e = access_free p h gfn op v answer e
+ends_free (place.SlotChange p) command h v answer R e = slot_change_free p h command v answer e
+ends_free (place.Host p) (ChangeHost page change) h v answer R e = host_free p page h v answer R.1 e
+ends_free _ _ h v answer R e = absurd (cc e)
 
 -- It tells an exit for want of a page only where it is answered so.
 pub tells_fed : (p : Place) (command : Command) (h : Held) (v : ℕ) → outcome_at p command h v ≢ Ends Starved → AreFed (tells_at p command h v)
 tells_fed (place.Access p) (Access gfn word op) h v other = access_fed p h gfn word op v other
 tells_fed (place.SlotChange p) command h v other = slot_change_fed p h command v other
+tells_fed (place.Host p) (ChangeHost page change) h v other = host_fed p page h v
 tells_fed _ _ h v other = tt

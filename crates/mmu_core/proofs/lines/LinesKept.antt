@@ -128,6 +128,7 @@ lines_behind z a h line s (Goes p) t c slots O is left same actor room answered 
   cache = room ∙ O.cache;
   index = ap (index_of z) actor ∙ O.index;
   allowed = O.allowed;
+  few = O.few;
   own = subst (λ x. All (λ (l : Line). l.actor ≡ x) h.lines) (sym actor) O.own;
   distinct = O.distinct;
   under = under_behind h line s p t c slots is left;
@@ -139,6 +140,7 @@ lines_behind z a h line s (Ends answer) t c slots O is left same actor room answ
   cache = room ∙ O.cache;
   index = ap (index_of z) actor ∙ O.index;
   allowed = O.allowed;
+  few = O.few;
   own = subst (λ x. All (λ (l : Line). l.actor ≡ x) h.lines) (sym actor) O.own;
   distinct = O.distinct;
   under = tt;

@@ -1,5 +1,6 @@
 -- What a line that stands outside holds after steps on the lock, on the count of invalidations and on the sequence number.
-use Rattle.std.proofs.Common.{◌≡◌, ◌∙◌, ◌==◌, ℕ, refl, ap}
+use Rattle.std.proofs.lemmas.Bool.Decides.{nat_tests}
+use Rattle.std.proofs.Common.{◌≡◌, ◌∙◌, ◌==◌, ℕ, refl, ap, nat_lt, arith}
 use Rattle.std.specs.Prelude.{Bool, true, false, ◌&&◌, not, if◌then◌else◌}
 use Rattle.core_views.specs.declared.topics.Hold.{Hold}
 use Rattle.core_views.specs.declared.topics.Hold.TheVariants.{Loose, Exclusive}
@@ -43,6 +44,12 @@ pub lock_tried : (t : Topics) (v : ℕ) → HoldsLock Loose t → (v == 0) ≡ f
 lock_tried t v K held =
     record { outside = K.outside; holds = ap (λ (b : Bool). if b then Exclusive else t.hold) held ∙ K.holds; no_table = K.no_table; no_set = K.no_set }
 
--- Who has the lock alone and finds a count that isn't 0 saw an invalidation open.
-pub sees_open : (t : Topics) (v : ℕ) → HoldsLock Exclusive t → (v == 0) ≡ false → saw_open (part_topics part.Count t v).invalidations ≡ true
-sees_open t v K some = ap (λ (k : Hold). was_counted (count_checked k) && not (v == 0)) K.holds ∙ ap not some
+-- Who has the lock alone, with no invalidation of its own, and finds a count that isn't 0 saw one open.
+pub sees_open : (t : Topics) (v : ℕ) → HoldsLock Exclusive t → t.invalidations.opened ≡ false → (v == 0) ≡ false
+    → saw_open (part_topics part.Count t v).invalidations ≡ true
+sees_open t v K closed some =
+    ap (λ (k : Hold). was_counted (count_checked k) && nat_lt (if t.invalidations.opened then 1 else 0) v) K.holds
+    ∙ (ap (λ (b : Bool). nat_lt (if b then 1 else 0) v) closed ∙ above)
+  where
+    above : nat_lt 0 v ≡ true
+    above = grind (arith, nat_tests)

@@ -27,7 +27,7 @@ use Rattle.mmu_core.specs.declared.share.ShareNext.{ShareNext}
 use Rattle.part_steps.specs.PartHoldings.{FoundSlot, HoldsSet}
 use Rattle.part_steps.specs.PartTopics.{part_topics, sequenced}
 use Rattle.part_steps.specs.SlotWords.{page_of}
-use Rattle.part_steps.specs.StayTopics.{is_loose, is_outside, is_section, kept_search, kept_walk}
+use Rattle.part_steps.specs.StayTopics.{is_loose, is_outside, is_section, kept_search, kept_walk, has_lock}
 use Rattle.part_steps.specs.PageTopics.{searched, searched_at}
 use Rattle.part_steps.specs.ControlTopics.{at_set, count_checked, range_checked, seq_checked, start_checked}
 use Rattle.mmu_core.proofs.lines.ShareMade.{ShareMade}
@@ -133,9 +133,10 @@ taken : (s : Option ℕ) → is_some s ≡ true → s ≡ Some (snapshot_taken s
 taken None is = absurd (cc is)
 taken (Some n) is = refl
 
-none_open : (n : Invalidations) (gfn : ℕ) → CheckKnows stage.Seq gfn n → (seq_checked n.count n.checked ≡ checked.All) × ((n.count ≡ 0) ⊎ (gfn < n.start) ⊎ (n.end ≤ gfn))
-none_open n gfn (inl c) = (ap (λ (x : Checked). seq_checked n.count x) c.0 ∙ ap (λ m. seq_checked m checked.Count) c.1, inl c.1)
-none_open n gfn (inr c) = (ap (λ (x : Checked). seq_checked n.count x) c.0, over c.1)
+none_open : (locked : Bool) (n : Invalidations) (gfn : ℕ) → CheckKnows stage.Seq gfn n
+    → (seq_checked locked n.count n.checked ≡ checked.All) × ((n.count ≡ 0) ⊎ (gfn < n.start) ⊎ (n.end ≤ gfn))
+none_open locked n gfn (inl c) = (ap (λ (x : Checked). seq_checked locked n.count x) c.0 ∙ ap (λ m. seq_checked locked m checked.Count) c.1, inl c.1)
+none_open locked n gfn (inr c) = (ap (λ (x : Checked). seq_checked locked n.count x) c.0, over c.1)
   where
     over : (gfn < n.start) ⊎ (n.end ≤ gfn) → (n.count ≡ 0) ⊎ (gfn < n.start) ⊎ (n.end ≤ gfn)
     over (inl lt) = inr (inl lt)
@@ -144,7 +145,7 @@ none_open n gfn (inr c) = (ap (λ (x : Checked). seq_checked n.count x) c.0, ove
 seq_by : (b : Bool) (z : Sizes) (gfn : ℕ) (write : Bool) (t : Topics) (v : ℕ) → (v == snapshot_taken t.invalidations.snapshot) ≡ b → Sharing gfn write t → t.owned ≡ None → CheckKnows stage.Seq gfn t.invalidations
     → FaultKnows (if b then Walk false else Unshare (Retry (Moved (snapshot_taken t.invalidations.snapshot) v))) z gfn write (sequenced false t v)
 seq_by true z gfn write t v is S none K =
-    let N = none_open t.invalidations gfn K in
+    let N = none_open (has_lock t.hold) t.invalidations gfn K in
     let same : v ≡ snapshot_taken t.invalidations.snapshot = grind (arith, nat_tests) in (
       record {
         sharing = same_sharing gfn write t _ refl refl refl refl refl S;

@@ -1,6 +1,6 @@
 -- Which steps of the parts leave it so that no invalidation was seen open, and that a claim has seen no page.
-use Rattle.std.proofs.Common.{◌≡◌, ℕ, refl}
-use Rattle.std.specs.Prelude.{Bool, true, false, ◌==◌, ◌&&◌, not, if◌then◌else◌}
+use Rattle.std.proofs.Common.{◌≡◌, ℕ, refl, nat_lt}
+use Rattle.std.specs.Prelude.{Bool, true, false, ◌==◌, ◌&&◌, if◌then◌else◌}
 use Rattle.core_views.specs.declared.topics.Checked.{Checked}
 use Rattle.core_views.specs.declared.topics.Checked.TheVariants as checked
 use Rattle.core_views.specs.declared.topics.Topics.{Topics}
@@ -8,7 +8,7 @@ use Rattle.part_steps.specs.declared.part_step.PartStep.{PartStep}
 use Rattle.part_steps.specs.declared.part_step.PartStep.TheVariants as part
 use Rattle.part_steps.specs.PartTopics.{part_topics}
 use Rattle.part_steps.specs.ControlTopics.{range_checked, seq_checked, start_checked}
-use Rattle.mmu_core.specs.lines.PartWaits.{saw_open, was_counted}
+use Rattle.mmu_core.specs.lines.PartWaits.{saw_open, was_counted, own_open}
 use Rattle.part_steps.specs.StayTopics.{has_lock}
 use Rattle.mmu_core.proofs.lines.FaultScans.{maps}
 
@@ -21,14 +21,19 @@ pub range_not_open : (c : Checked) (b : Bool) → (was_counted (range_checked c)
 range_not_open checked.Start b = refl
 range_not_open _ b = refl
 
-pub seq_not_open : (n : ℕ) (c : Checked) (b : Bool) → (was_counted (seq_checked n c) && b) ≡ false
-seq_not_open n checked.Count b = by (n == 0)
+pub seq_not_open : (locked : Bool) (n : ℕ) (c : Checked) (b : Bool) → (was_counted (seq_checked locked n c) && b) ≡ false
+seq_not_open locked n checked.Count b = by (n == 0)
   where
     by : (none : Bool) → (was_counted (if none then checked.All else checked.Nothing) && b) ≡ false
     by true = refl
     by false = refl
-seq_not_open n checked.Range b = refl
-seq_not_open n _ b = refl
+seq_not_open locked n checked.Range b = refl
+seq_not_open locked n checked.Nothing b = by locked
+  where
+    by : (has : Bool) → (was_counted (if has then checked.Seq else checked.Nothing) && b) ≡ false
+    by true = refl
+    by false = refl
+seq_not_open locked n _ b = refl
 
 -- The step loads the count of open invalidations.
 abbrev pub counts : PartStep → Bool
@@ -38,9 +43,11 @@ counts _ = false
 pub closed_on : (step : PartStep) (t : Topics) (v : ℕ) → counts step ≡ false → saw_open t.invalidations ≡ false
     → saw_open (part_topics step t v).invalidations ≡ false
 closed_on part.Count t v other closed = absurd (cc other)
-closed_on part.RangeStart t v other closed = start_not_open t.invalidations.checked (not (t.invalidations.count == 0))
-closed_on part.RangeEnd t v other closed = range_not_open t.invalidations.checked (not (t.invalidations.count == 0))
-closed_on part.Seq t v other closed = seq_not_open t.invalidations.count t.invalidations.checked (not (t.invalidations.count == 0))
+closed_on part.RangeStart t v other closed = start_not_open t.invalidations.checked (nat_lt (own_open t.invalidations) t.invalidations.count)
+closed_on part.RangeEnd t v other closed = range_not_open t.invalidations.checked (nat_lt (own_open t.invalidations) t.invalidations.count)
+closed_on part.Seq t v other closed = seq_not_open (has_lock t.hold) t.invalidations.count t.invalidations.checked (nat_lt (own_open t.invalidations) t.invalidations.count)
+closed_on (part.SetCount count) t v other closed = refl
+closed_on (part.SetSeq seq) t v other closed = refl
 closed_on part.Enter t v other closed = refl
 closed_on part.Leave t v other closed = refl
 closed_on part.Begin t v other closed = refl
@@ -59,7 +66,7 @@ counted_none false b is = refl
 pub closed_without : (step : PartStep) (t : Topics) (v : ℕ) → (has_lock t.hold ≡ false → saw_open t.invalidations ≡ false)
     → has_lock (part_topics step t v).hold ≡ false
     → saw_open (part_topics step t v).invalidations ≡ false
-closed_without part.Count t v closed none = counted_none (has_lock t.hold) (not (v == 0)) none
+closed_without part.Count t v closed none = counted_none (has_lock t.hold) (nat_lt (own_open t.invalidations) v) none
 closed_without part.Share t v closed none = refl
 closed_without part.Unshare t v closed none = refl
 closed_without part.Exclude t v closed none = refl

@@ -1,7 +1,7 @@
 -- What a hand must have for a step, and what its fields are behind it.
 use Rattle.std.proofs.Math.Nat.{div-le_self}
-use Rattle.std.proofs.Common.{◌≡◌, ◌<◌, ◌≤◌, ◌^◌, ◌⊎◌, inl, inr, ℕ, zero, suc, List, [], ◌∷◌, length, refl, sym, subst, ap, ◌∙◌, arith}
-use Rattle.std.specs.Prelude.{Bool, true, false, Some, None, is_some, slice_get}
+use Rattle.std.proofs.Common.{◌≡◌, ◌<◌, ◌^◌, ◌⊎◌, inl, inr, ℕ, length, refl, sym, subst, ap, ◌∙◌, arith}
+use Rattle.std.specs.Prelude.{Bool, true, false, Some, None}
 use Rattle.core_views.specs.declared.kind.Kind.{Kind}
 use Rattle.core_views.specs.declared.kind.StepKind.{StepKind}
 use Rattle.core_views.specs.declared.kind.StepKind.TheVariants as kind
@@ -36,7 +36,7 @@ use Rattle.mmu_core.proofs.lines.ByStep.{StepAt, step_at, Makes, Touches}
 use Rattle.mmu_core.proofs.machine.Sized.{loads_keep_sizes}
 use Rattle.mmu_core.specs.machine.Steps.{has_line, held_after, idle_after, line_after, line_at, next, next_line, place_at, standing, task_at, task_of}
 use Rattle.part_steps.specs.TopicSteps.{HasRoom, topics_after}
-use Rattle.mmu_core.proofs.machine.Which.{has_line_is, next_of_line, next_of_part}
+use Rattle.mmu_core.proofs.machine.Which.{next_of_line, next_of_part}
 
 pub enabled_sizes : (h : Held) (k : Kind) → Enabled h k → AreSizes h.state.sizes
 unfolding Enabled

@@ -8,14 +8,17 @@ use Rattle.spte_words.specs.declared.area.Area.{Area}
 use Rattle.spte_words.specs.declared.area.Area.TheVariants as area
 use Rattle.part_steps.specs.declared.part_step.PartStep.TheVariants as part
 use Rattle.part_steps.specs.declared.part_step.PartStep.{PartStep}
-use Rattle.part_steps.specs.PartTasks.{IsWithin, own_index, page_owned}
+use Rattle.part_steps.specs.PartTasks.{IsWithin, own_index, page_owned, word_looked}
 use Rattle.part_steps.specs.PartSteps.{PartNeeds, needs_line}
 use Rattle.mmu_core.specs.invariant.SlotSetPart.{IsLiveIn}
 use Rattle.mmu_core.specs.machine.View.{View}
 
--- A slot set that is published has each slot of the one before it.
+-- What a line says of its own step: a slot set that is published has each slot of the one before it; the sequence number stays far below 2 ^ 64; and a host
+-- word is exchanged for itself, since no line changes yet what the host maps a page to.
 abbrev pub Replaces : PartStep → (ℕ → ℕ) → ℕ → Topics → Type 0
 Replaces part.Publish pool slots t = (id : ℕ) (slot : SlotOf) → IsLiveIn pool slots id slot → IsLiveIn pool (page_owned t.owned) id slot
+Replaces (part.SetSeq seq) pool slots t = seq < 2 ^ 40
+Replaces (part.Change new_) pool slots t = new_ ≡ word_looked t.host
 Replaces _ pool slots t = Unit {0}
 
 -- The actor makes this step of a part, for its line or with no line left.
@@ -39,6 +42,27 @@ pub idle_never : (step : PartStep) → needs_line step ≡ false → is_publish 
 idle_never part.Publish free = absurd (cc free)
 idle_never _ free = refl
 
-pub replaces_none : (step : PartStep) (pool : ℕ → ℕ) (slots : ℕ) (t : Topics) → is_publish step ≡ false → Replaces step pool slots t
+-- It is a step of which a line says more than what it needs, or which opens or ends an invalidation of the actor's own.
+abbrev pub is_told : PartStep → Bool
+is_told part.Publish = true
+is_told (part.SetCount count) = true
+is_told (part.SetSeq seq) = true
+is_told (part.Change new_) = true
+is_told _ = false
+
+pub never_told : (step : PartStep) → is_told step ≡ false → is_publish step ≡ false
+never_told part.Publish untold = absurd (cc untold)
+never_told _ untold = refl
+
+pub idle_untold : (step : PartStep) → needs_line step ≡ false → is_told step ≡ false
+idle_untold part.Publish free = absurd (cc free)
+idle_untold (part.SetCount count) free = absurd (cc free)
+idle_untold (part.SetSeq seq) free = absurd (cc free)
+idle_untold (part.Change new_) free = absurd (cc free)
+idle_untold _ free = refl
+
+pub replaces_none : (step : PartStep) (pool : ℕ → ℕ) (slots : ℕ) (t : Topics) → is_told step ≡ false → Replaces step pool slots t
 replaces_none part.Publish pool slots t never = absurd (cc never)
+replaces_none (part.SetSeq seq) pool slots t never = absurd (cc never)
+replaces_none (part.Change new_) pool slots t never = absurd (cc never)
 replaces_none _ pool slots t never = tt

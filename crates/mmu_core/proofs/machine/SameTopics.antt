@@ -4,11 +4,11 @@ use Rattle.core_views.specs.declared.sizes.Sizes.{Sizes}
 use Rattle.core_views.specs.declared.topics.Topics.{Topics}
 use Rattle.core_views.specs.Held.{Held}
 use Rattle.core_views.specs.Sizes.{actors_of}
-use Rattle.mmu_core.specs.invariant.TopicsInvariant.{CountersPart, FilledPart, HeldPart, LockPart, LookPart, SawWriter, SearchPart, StatesPart, TopicsInvariantOf, SetsPart, OldSetsPart, PathPart, UsePart, stands}
+use Rattle.mmu_core.specs.invariant.TopicsInvariant.{CountersPart, FilledPart, HeldPart, LockPart, LookPart, SawWriter, SearchPart, StatesPart, TopicsInvariantOf, SetsPart, OldSetsPart, PathPart, UsePart, stands, CountPart, CheckedPart, LoadedPart}
 
-pub same_topics : (z : Sizes) (lock root slots seq : ℕ) (states map host role pool : ℕ → ℕ) (hand other : ℕ → Held) → ◌≡◌ {A = ℕ → Topics} (λ i. (other i).topics) (λ i. (hand i).topics)
-    → TopicsInvariantOf z lock root slots seq states map host role pool hand → TopicsInvariantOf z lock root slots seq states map host role pool other
-same_topics z lock root slots seq states map host role pool hand other same I = record {
+pub same_topics : (z : Sizes) (lock root slots seq count start end_ : ℕ) (states map host role pool : ℕ → ℕ) (hand other : ℕ → Held) → ◌≡◌ {A = ℕ → Topics} (λ i. (other i).topics) (λ i. (hand i).topics)
+    → TopicsInvariantOf z lock root slots seq count start end_ states map host role pool hand → TopicsInvariantOf z lock root slots seq count start end_ states map host role pool other
+same_topics z lock root slots seq count start end_ states map host role pool hand other same I = record {
   up = I.up;
   spot = I.spot;
   lock_part = subst (λ (t : ℕ → Topics). LockPart (actors_of z) lock (λ i. (t i).hold)) (sym same) I.lock_part;
@@ -24,5 +24,9 @@ same_topics z lock root slots seq states map host role pool hand other same I = 
   old_sets = subst (λ (t : ℕ → Topics). OldSetsPart (actors_of z) slots pool (λ i. (t i).leaving)) (sym same) I.old_sets;
   searches = subst (λ (t : ℕ → Topics). (i : ℕ) → i < actors_of z → SearchPart pool (t i).search) (sym same) I.searches;
   looks = subst (λ (t : ℕ → Topics). (i : ℕ) → i < actors_of z → LookPart z seq host (t i)) (sym same) I.looks;
+  counts = subst (λ (t : ℕ → Topics). CountPart (actors_of z) count (λ i. (t i).invalidations.opened)) (sym same) I.counts;
+  checks = subst (λ (t : ℕ → Topics). (i : ℕ) → i < actors_of z → CheckedPart count start end_ seq (t i)) (sym same) I.checks;
+  loaded = subst (λ (t : ℕ → Topics). (i : ℕ) → i < actors_of z → LoadedPart pool (t i)) (sym same) I.loaded;
+  few_ended = I.few_ended;
   counters = subst (λ (t : ℕ → Topics). (i : ℕ) → i < actors_of z → CountersPart z (t i)) (sym same) I.counters;
 }

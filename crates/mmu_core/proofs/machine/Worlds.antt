@@ -6,8 +6,11 @@ use Rattle.std.proofs.lemmas.Nat.{and_le_l, or_lt}
 use Rattle.core_views.specs.declared.kind.Operation.{Operation}
 use Rattle.core_views.specs.declared.kind.Operation.TheVariants as operation
 use Rattle.core_views.specs.Kinds.{after, operation_of_code, word_after}
-use Rattle.mmu_core.specs.invariant.Laws.{IsSound, NoneOpened}
-use Rattle.mmu_core.proofs.words.Control.{none_opened_kept, pause_stays}
+use Rattle.mmu_core.specs.invariant.InvalidationsPart.{EndsPart}
+use Rattle.mmu_core.specs.invariant.Laws.{IsSound}
+use Rattle.mmu_core.proofs.lines.AccessParts.{AreSmall}
+use Rattle.mmu_core.proofs.machine.EndsKept.{line_ends_kept, next_few, part_ends_kept}
+use Rattle.mmu_core.proofs.words.Control.{pause_stays}
 use Rattle.mmu_core.proofs.machine.Columns.{same_or}
 use Rattle.core_views.specs.declared.kind.Kind.{Kind}
 use Rattle.core_views.specs.declared.sizes.Sizes.{Sizes}
@@ -38,7 +41,7 @@ use Rattle.mmu_core.proofs.machine.Which.{has_line_is, is_next, is_part, next_of
 use Rattle.mmu_core.proofs.held.TopicsKept.{topics_line_kept, topics_part_kept}
 use Rattle.mmu_core.proofs.machine.Stepping.{IsStep, is_step as step_of_hand}
 use Rattle.mmu_core.proofs.machine.Views.{answered_is, view_behind}
-use Rattle.mmu_core.proofs.machine.PartStepping.{IsPart, idle_never, replaces_none}
+use Rattle.mmu_core.proofs.machine.PartStepping.{IsPart, replaces_none, idle_untold}
 
 -- A step writes a number below 2 ^ 64 where it found one.
 word_small : (o : Operation) (old_ new_ n : ℕ) → new_ < 2 ^ 64 → n < 2 ^ 64 → word_after o old_ new_ n < 2 ^ 64
@@ -151,7 +154,7 @@ takes_part z w s G may N =
         sizes = same;
         own_place = ap (λ y. index_of y h.state.actor) same ∙ O.index;
         needs = N.needs;
-        replaces = replaces_none N.step (word_in z w area.Pool) (word_in z w area.Slots 0) h.topics (idle_never N.step N.free);
+        replaces = replaces_none N.step (word_in z w area.Pool) (word_in z w area.Slots 0) h.topics (idle_untold N.step N.free);
         within = N.within;
         small = view_small z w G.small;
       };
@@ -169,9 +172,9 @@ takes z w s G may = by (has_line (hand_in mmu w s.actor)) refl
     by true has = inl (takes_line z w s G may (is_next (hand_in mmu w s.actor) s.kind may.enabled has))
     by false none = inr (takes_part z w s G may (is_part (hand_in mmu w s.actor) s.kind may.enabled none))
 
-part_opens_none : (z : Sizes) (v : View) (a : ℕ) (step : PartStep) (note : ℕ) → NoneOpened v.words → NoneOpened (part_stepped a step note v).words
-part_opens_none z v a step note none =
-    record { seq = ap (λ (f : ℕ → ℕ). f 0) (areas_stay v a step note area.Seq refl) ∙ none.seq; count = ap (λ (f : ℕ → ℕ). f 0) (areas_stay v a step note area.Count refl) ∙ none.count }
+-- The words of a sound world are small, and so is its next sequence number.
+pub are_small : (z : Sizes) (w : World Held) → IsSound z w → AreSmall (view z w)
+are_small z w G = record { each = view_small z w G.small; next_seq = next_few z (word_in z w area.Seq 0) (hand_in mmu w) G.holds.sizes G.holds.lines G.ends }
 
 pub good_step : (z : Sizes) (w : World Held) (s : Step Kind) → IsSound z w → May mmu w s → IsSound z (effect mmu w s)
 unfolding effect
@@ -188,16 +191,22 @@ good_step z w s G may = by (takes z w s G may)
       words = words_of_effect mmu w s ∙ G.words;
       hands = hands_of_effect mmu w s ∙ G.hands;
       small = small T.writes;
-      none_opened = subst (λ (v : View). NoneOpened v.words) (sym T.leads) (none_opened_kept z (view z w) s.actor (line_at h.state.place h) (line_at h.state.place h).command (place_at h.state.place h) (view_small z w G.small) T.is_step G.holds G.topics G.none_opened);
-      no_pause = subst (λ (v : View). v.words area.Pause 0 ≡ 0) (sym T.leads) (pause_stays z (view z w) s.actor (line_at h.state.place h) (line_at h.state.place h).command (place_at h.state.place h) (view_small z w G.small) T.is_step G.holds G.topics ∙ G.no_pause);
-      holds = subst (Invariant z) (sym T.leads) (step_kept z (view z w) s.actor (line_at h.state.place h) (line_at h.state.place h).command (place_at h.state.place h) (view_small z w G.small) T.is_step G.holds G.topics);
-      topics = subst (TopicsInvariant z) (sym T.leads) (topics_line_kept z (view z w) s.actor (line_at h.state.place h) (line_at h.state.place h).command (place_at h.state.place h) (view_small z w G.small) T.is_step G.holds G.topics);
+      ends = subst (λ (v : View). EndsPart z (v.words area.Seq 0) v.hand) (sym T.leads)
+          (line_ends_kept z (view z w) s.actor (line_at h.state.place h) (line_at h.state.place h).command (place_at h.state.place h)
+          (are_small z w G) T.is_step G.holds G.topics G.ends);
+      no_pause = subst (λ (v : View). v.words area.Pause 0 ≡ 0) (sym T.leads)
+          (pause_stays z (view z w) s.actor (line_at h.state.place h) (line_at h.state.place h).command (place_at h.state.place h)
+          (are_small z w G) T.is_step G.holds G.topics ∙ G.no_pause);
+      holds = subst (Invariant z) (sym T.leads) (step_kept z (view z w) s.actor (line_at h.state.place h) (line_at h.state.place h).command
+          (place_at h.state.place h) (are_small z w G) T.is_step G.holds G.topics);
+      topics = subst (TopicsInvariant z) (sym T.leads) (topics_line_kept z (view z w) s.actor (line_at h.state.place h) (line_at h.state.place h).command
+          (place_at h.state.place h) (are_small z w G) T.is_step G.holds G.topics);
     }
     by (inr T) = record {
       words = words_of_effect mmu w s ∙ G.words;
       hands = hands_of_effect mmu w s ∙ G.hands;
       small = small T.writes;
-      none_opened = subst (λ (v : View). NoneOpened v.words) (sym T.leads) (part_opens_none z (view z w) s.actor T.step T.note G.none_opened);
+      ends = subst (λ (v : View). EndsPart z (v.words area.Seq 0) v.hand) (sym T.leads) (part_ends_kept z (view z w) s.actor T.step T.note T.free G.ends);
       no_pause = subst (λ (v : View). v.words area.Pause 0 ≡ 0) (sym T.leads) (ap (λ (f : ℕ → ℕ). f 0) (areas_stay (view z w) s.actor T.step T.note area.Pause refl) ∙ G.no_pause);
       holds = subst (Invariant z) (sym T.leads) (part_keeps_lines z (view z w) s.actor T.step T.note T.is_part T.free T.none_left G.holds G.topics (part_knows_behind z (view z w) s.actor T.step T.note T.none_left G.holds));
       topics = subst (TopicsInvariant z) (sym T.leads) (topics_part_kept z (view z w) s.actor T.step T.note T.is_part G.topics);

@@ -191,6 +191,12 @@ module _ (z : Sizes) (v : View) (a : ℕ) (I : TopicsInvariant z v) (m : ℕ) (I
       own : (other : ℕ) → IsEntryOver (at t.walk.level t.walk.prefix) (entry_index gfn t.walk.level) other → other / level_span t.walk.level ≡ gfn / level_span t.walk.level
       own other O = let is = O.1 in let run = over.run in omega (arith, is, run)
 
+  -- A leaf is zapped.
+  zap_over : (gfn note : ℕ) → AllOver I.up I.spot ((part_stepped a (part.Zap gfn) note v).words area.Pool) m IsSo
+  zap_over gfn note =
+      over_stored I.up I.spot (v.words area.Pool) m IsSo table A (table_page t.walk) (entry_index gfn t.walk.level) 0 (omega arith)
+      (λ other O. subst (IsSo (I.spot (table_page t.walk)).level other) (sym absent_is) (light.absent (I.spot (table_page t.walk)).level other))
+
   link_over : (gfn note : ℕ) → IsPart z v a (part.Link gfn) → AllOver (up_after (part.Link gfn) a t v I.up) (spot_after (part.Link gfn) t v I.spot) ((part_stepped a (part.Link gfn) note v).words area.Pool) m IsSo
   link_over gfn note S =
       over_grown I.tree ((part_stepped a (part.Link gfn) note v).words area.Pool) m IsSo table light won (page_owned t.owned) (Under (table_page t.walk) (entry_index gfn t.walk.level)) (position_below gfn t) no_table_yet
@@ -229,4 +235,5 @@ over_step z v a (part.Link gfn) note S I m IsSo table light new_ A = link_over z
 over_step z v a (part.Leaf gfn) note S I m IsSo table light new_ A = leaf_over z v a I m IsSo table light A gfn note S new_
 over_step z v a (part.Fill value) note S I m IsSo table light new_ A =
     still_over z v a I m IsSo table light A (part.Fill value) note S refl (λ k is o owns e. let no = ap (λ l. is_table (I.up l)) (sym e) ∙ ap is_table (owned_use I.uses a o S.there owns) in absurd (cc (no, is)))
+over_step z v a (part.Zap gfn) note S I m IsSo table light new_ A = zap_over z v a I m IsSo table light A gfn note
 over_step z v a step note S I m IsSo table light new_ A = still_over z v a I m IsSo table light A step note S refl (λ k is. tt)

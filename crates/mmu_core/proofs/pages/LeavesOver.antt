@@ -22,6 +22,7 @@ use Rattle.mmu_core.proofs.pages.AllOver.{IsLight, OfNewLeaf, over_step, over_we
 use Rattle.mmu_core.proofs.slots.LiveStay.{StayLive, leaf_stays}
 use Rattle.mmu_core.proofs.slots.LiveStays.{live_in_stays, part_live_stays}
 use Rattle.mmu_core.proofs.machine.PartStepping.{IsPart}
+use Rattle.mmu_core.proofs.words.HostStays.{host_stays}
 use Rattle.mmu_core.proofs.words.PartWords.{areas_stay, slots_are, slots_behind}
 use Rattle.mmu_core.proofs.pages.Standing.{spot_after, spot_of, up_after}
 use Rattle.mmu_core.proofs.pages.TreeKept.{found_live, looked_word}
@@ -75,7 +76,7 @@ leaves_kept z v a step note S I =
     let behind : ℕ = slots_behind step (v.hand a).topics set in
     let host : ℕ → ℕ = v.words area.Host in
     subst (λ (r : ℕ → ℕ). AllOver up spot (w.words area.Pool) (r 0) (LeafIsFor (w.words area.Pool) (w.words area.Host) (w.words area.Slots 0))) (sym (areas_stay v a step note area.Root refl))
-    (subst (λ (h : ℕ → ℕ). AllOver up spot (w.words area.Pool) (v.words area.Root 0) (LeafIsFor (w.words area.Pool) h (w.words area.Slots 0))) (sym (areas_stay v a step note area.Host refl))
+    (subst (λ (h : ℕ → ℕ). AllOver up spot (w.words area.Pool) (v.words area.Root 0) (LeafIsFor (w.words area.Pool) h (w.words area.Slots 0))) (sym (host_stays z v a step note S I))
     (subst (λ s. AllOver up spot (w.words area.Pool) (v.words area.Root 0) (LeafIsFor (w.words area.Pool) host s)) (sym (slots_are v a step note))
     (over_weaker up spot (w.words area.Pool) (v.words area.Root 0) (LeafIsFor before host set) (LeafIsFor (w.words area.Pool) host behind)
     (λ level gfn word so leaf. let is = so leaf in (is.0, leaf_stays before set (w.words area.Pool) behind (live_behind z v a step note S I) host gfn word is.1))

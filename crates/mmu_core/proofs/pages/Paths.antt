@@ -98,6 +98,7 @@ part_goes part.Root t v = rooted_goes (may_walk t.stay t.hold) t.walk v
 part_goes (part.Walk gfn) t v = down_goes (linked_page (kind_of t.walk.level v)) t.walk _ v (omega arith)
 part_goes (part.Link gfn) t v = swap_goes (v == t.walk.entry) t.walk _ (link_written t) v (omega arith)
 part_goes (part.Leaf gfn) t v = swap_goes (v == t.walk.entry) t.walk _ (leaf_written t) v (omega arith)
+part_goes (part.Zap gfn) t v = down_goes None t.walk _ 0 (omega arith)
 part_goes _ t v = stays t.walk
 
 -- ---- The tables of a walk stand behind each step.

@@ -156,6 +156,35 @@ module _ (z : Sizes) (v : View) (a gfn note : ℕ) (I : TopicsInvariant z v) whe
       leaf : IsLeafAt (at t.walk.level t.walk.prefix) (leaf_written t)
       leaf = record { lowest = S.needs.1; leaf = leaf_is t S.needs.1 }
 
+  -- An entry of which a leaf was loaded that is there still is no link.
+  zapped : (S : IsPart z v a (part.Zap gfn)) → LiveStays (v.words area.Slots 0) (v.words area.Pool) (upd (v.words area.Pool) here 0)
+      → TreePart z.pool (v.words area.Root 0) (v.words area.Slots 0) (v.words area.Role) (upd (v.words area.Pool) here 0) I.up I.spot
+  zapped S live =
+      entry_stored I.tree (table_page t.walk) (at t.walk.level t.walk.prefix) index 0 at_walk (omega arith)
+      (record { entry = inl absent_is; no_link = by (I.tree.entries (table_page t.walk) (at t.walk.level t.walk.prefix) at_walk index (omega arith)) }) live
+    where
+      at_walk : stands I.up I.spot (table_page t.walk) ≡ Some (at t.walk.level t.walk.prefix)
+      at_walk = (I.held a S.there).table S.needs.2.over.there
+
+      still : v.words area.Pool here ≡ t.walk.entry
+      still =
+          let seen = S.needs.2.loaded in
+          ap (λ i. v.words area.Pool (pool_index (table_page t.walk) i)) (sym seen)
+          ∙ I.loaded a S.there S.needs.0 S.needs.1 S.needs.2.over.there (omega (arith, seen))
+
+      leaf : kind_of t.walk.level (v.words area.Pool here) ≡ entry_kind.Leaf
+      leaf = ap (kind_of t.walk.level) still ∙ S.needs.3
+
+      by : EntryPart I.up (table_page t.walk) (at t.walk.level t.walk.prefix) index (v.words area.Pool here) → (t.walk.level ≡ 1) ⊎ (v.words area.Pool here ≡ absent_word)
+      by (inl e) = inr e
+      by (inr (inl L)) =
+          let there = I.tree.there L.page (at (t.walk.level - 1) (t.walk.prefix * 512 + index))
+          (link_stands I.tree (table_page t.walk) (at t.walk.level t.walk.prefix) index (v.words area.Pool here) at_walk L) in
+          let links : kind_of t.walk.level (v.words area.Pool here) ≡ entry_kind.Table L.page =
+          ap (kind_of t.walk.level) L.is ∙ kind_of_table t.walk.level L.page L.upper (omega (arith, there.0, S.is_sizes.pool.1)) in
+          absurd (cc (leaf, links))
+      by (inr (inr L)) = inl L.lowest
+
 -- What the tables are behind each step; the root, the published set and the host's words stay.
 tree_behind : (z : Sizes) (v : View) (a : ℕ) (step : PartStep) (note : ℕ) → IsPart z v a step → (I : TopicsInvariant z v)
     → TreePart z.pool (v.words area.Root 0) (v.words area.Slots 0) ((part_stepped a step note v).words area.Role) ((part_stepped a step note v).words area.Pool) (up_after step a (v.hand a).topics v I.up) (spot_after step (v.hand a).topics v I.spot)
@@ -171,6 +200,7 @@ tree_behind z v a part.Clear note S I =
       left_elsewhere (v.hand a).topics S.needs.leaves k
           (λ l left e. left_no_table I.uses I.spot a l p S.there left (ap (stands I.up I.spot) e ∙ is)),
     ))
+tree_behind z v a (part.Zap gfn) note S I = zapped z v a gfn note I S (part_live_stays z v a (part.Zap gfn) note S I)
 tree_behind z v a step note S I = stay z v a step note S I refl (λ k p is. (tt, tt))
 
 -- A slot set is published that has each slot of the one before it.

@@ -32,10 +32,10 @@ use Rattle.part_steps.specs.Tasks.{map_of}
 use Rattle.mmu_core.specs.invariant.TopicsInvariant.{TopicsInvariant}
 use Rattle.mmu_core.specs.invariant.TreePart.{IsLiveIn}
 use Rattle.mmu_core.specs.machine.View.{View, part_stepped, stepped, words_after}
-use Rattle.mmu_core.proofs.lines.ClaimMade.{claim_never}
-use Rattle.mmu_core.proofs.machine.PartStepping.{IsPart, is_publish}
+use Rattle.mmu_core.proofs.lines.ClaimMade.{claim_untold}
+use Rattle.mmu_core.proofs.machine.PartStepping.{IsPart, is_publish, is_told, never_told}
 use Rattle.mmu_core.proofs.words.PartWords.{fill_elsewhere}
-use Rattle.mmu_core.proofs.lines.ShareMade.{share_never}
+use Rattle.mmu_core.proofs.lines.ShareMade.{share_untold}
 use Rattle.mmu_core.proofs.words.SlotFields.{is_number, same_slot}
 
 -- Each word of a slot that is live in the slot set of a page stays as it is.
@@ -117,35 +117,38 @@ touch_leaves_host words Read index = refl
 touch_leaves_host words _ index = refl
 
 -- No step of an access is a publication.
-never_by_fault : (p : FaultPlace) (gfn : ℕ) (t : Topics) → is_publish (fault_part p gfn t) ≡ false
-never_by_fault (fault.Find begun) gfn t = by begun
+untold_by_fault : (p : FaultPlace) (gfn : ℕ) (t : Topics) → is_told (fault_part p gfn t) ≡ false
+untold_by_fault (fault.Find begun) gfn t = by begun
   where
-    by : (b : Bool) → is_publish (if b then part.Slot else part.Slots) ≡ false
+    by : (b : Bool) → is_told (if b then part.Slot else part.Slots) ≡ false
     by true = refl
     by false = refl
-never_by_fault fault.Share gfn t = share_never t.hold
-never_by_fault (fault.Check stage.Count) gfn t = refl
-never_by_fault (fault.Check stage.Start) gfn t = refl
-never_by_fault (fault.Check stage.End) gfn t = refl
-never_by_fault (fault.Check stage.Seq) gfn t = refl
-never_by_fault (fault.Walk rooted) gfn t = by rooted
+untold_by_fault fault.Share gfn t = share_untold t.hold
+untold_by_fault (fault.Check stage.Count) gfn t = refl
+untold_by_fault (fault.Check stage.Start) gfn t = refl
+untold_by_fault (fault.Check stage.End) gfn t = refl
+untold_by_fault (fault.Check stage.Seq) gfn t = refl
+untold_by_fault (fault.Walk rooted) gfn t = by rooted
   where
-    by : (b : Bool) → is_publish (if b then part.Walk gfn else part.Root) ≡ false
+    by : (b : Bool) → is_told (if b then part.Walk gfn else part.Root) ≡ false
     by true = refl
     by false = refl
-never_by_fault (fault.Claim begun) gfn t = claim_never begun t.claim
-never_by_fault _ gfn t = refl
+untold_by_fault (fault.Claim begun) gfn t = claim_untold begun t.claim
+untold_by_fault _ gfn t = refl
 
-pub access_never : (p : AccessPlace) (gfn : ℕ) (t : Topics) (step : PartStep) → access_part p gfn t ≡ Some step → is_publish step ≡ false
-access_never p gfn t step is = by (access_part p gfn t) step is (none p)
+pub access_untold : (p : AccessPlace) (gfn : ℕ) (t : Topics) (step : PartStep) → access_part p gfn t ≡ Some step → is_told step ≡ false
+access_untold p gfn t step is = by (access_part p gfn t) step is (none p)
   where
     never : Option PartStep → Bool
     never None = false
-    never (Some step) = is_publish step
+    never (Some step) = is_told step
 
-    by : (o : Option PartStep) (step : PartStep) → o ≡ Some step → never o ≡ false → is_publish step ≡ false
+    by : (o : Option PartStep) (step : PartStep) → o ≡ Some step → never o ≡ false → is_told step ≡ false
     by o step is e = sym (ap never is) ∙ e
 
     none : (p : AccessPlace) → never (access_part p gfn t) ≡ false
-    none (access.Fault p) = never_by_fault p gfn t
+    none (access.Fault p) = untold_by_fault p gfn t
     none _ = refl
+
+pub access_never : (p : AccessPlace) (gfn : ℕ) (t : Topics) (step : PartStep) → access_part p gfn t ≡ Some step → is_publish step ≡ false
+access_never p gfn t step is = never_told step (access_untold p gfn t step is)

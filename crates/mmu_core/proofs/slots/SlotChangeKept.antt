@@ -1,4 +1,7 @@
 -- The steps of a line that changes a slot keep the invariant.
+use Rattle.part_steps.specs.declared.part_step.PartStep.TheVariants as part
+use Rattle.mmu_core.proofs.words.PartTopics.{part_topics_is, is_there}
+use Rattle.core_views.specs.declared.topics.Topics.{Topics}
 use Rattle.std.proofs.Common.{◌≡◌, ◌≤◌, ◌+◌, ℕ, length, refl, sym, subst, ap, ◌∙◌, arith}
 use Rattle.std.specs.Map.{keys_of}
 use Rattle.std.specs.Prelude.{true, false, if◌then◌else◌}
@@ -42,7 +45,7 @@ use Rattle.mmu_core.proofs.lines.LinesKept.{answered_kept, answers_length, lines
 use Rattle.mmu_core.proofs.lines.StepTopics.{knows_by}
 use Rattle.mmu_core.proofs.machine.Stepping.{IsStep, line_allowed}
 use Rattle.mmu_core.proofs.slots.SlotChangeKnown.{change_holds, change_leaves, slot_change_known, slot_change_needs}
-use Rattle.mmu_core.proofs.slots.SlotChangePlaces.{is_publication, change_never}
+use Rattle.mmu_core.proofs.slots.SlotChangePlaces.{is_publication, change_never, change_untold}
 use Rattle.mmu_core.proofs.slots.SlotsStay.{AllKnow, hand_moved}
 
 -- A hand that stands in a change of a slot is the manager's.
@@ -94,7 +97,11 @@ published_kept z v a line command S I P knows =
     hand_moved z set page (v.words area.Role) (v.words area.Role) pool pool (v.words area.Host) v.hand a after new_set.stay
     (new_set.set_part (v.words area.Role) role_is I.set_part)
     (λ i lt ne own is j low. refl) (λ i lt ne is. absurd (ne (one_manager z i a (v.hand i) h (I.lines i lt) O is manager))) own
-    (subst (λ c. Holds z pool (v.words area.Host) page (place.SlotChange Release) c after) (sym S.command_is) tt) (λ may. absurd (cc may))
+    (subst (λ c. Holds z pool (v.words area.Host) page (place.SlotChange Release) c after) (sym S.command_is) tt)
+    (record {
+      leaves = λ may. absurd (cc may);
+      opens = λ may. closed;
+    })
     (still_cached pool set pool page (v.words area.Host) (kind_of_task h.state.sizes (slot_change_task Publish h command)) h.cached set new_set.stay
     (I.cached a S.there))
     (λ is. record { same = new_set.list }) knows I
@@ -119,6 +126,11 @@ published_kept z v a line command S I P knows =
 
     K : KnowsPart (place.SlotChange Publish) command h
     K = step_knows z v a line command (place.SlotChange Publish) S I
+
+    closed : after.topics.invalidations.opened ≡ false
+    closed =
+        ap (λ (t : Topics). t.invalidations.opened) (part_topics_is h.state.sizes part.Publish (own_index h) h.topics 0 set (is_there part.Publish h K.1.1))
+        ∙ (step_leaves z v a line command (place.SlotChange Publish) S I).opens refl
 
     new_set : Publishes z pool set page command h.slots
     new_set = change_published z v a line command S I
@@ -160,7 +172,7 @@ pub change_replaces : (z : Sizes) (v : View) (a : ℕ) (line : Line) (p : SlotCh
     → Replaces (slot_change_part p (v.hand a) command) (v.words area.Pool) (v.words area.Slots 0) (v.hand a).topics
 change_replaces z v a line Publish command S I = (change_published z v a line command S I).stay
 change_replaces z v a line p command S I =
-    replaces_none (slot_change_part p (v.hand a) command) (v.words area.Pool) (v.words area.Slots 0) (v.hand a).topics (change_never p (v.hand a) command refl)
+    replaces_none (slot_change_part p (v.hand a) command) (v.words area.Pool) (v.words area.Slots 0) (v.hand a).topics (change_untold p (v.hand a) command refl)
 
 -- ---- what it knows after its step, and what its step needs
 

@@ -1,5 +1,6 @@
 -- A line that changes a slot has what each of its steps needs, and knows after it what its next place asks, and what it has filled then.
-use Rattle.std.proofs.Common.{◌≡◌, inr, ◌<◌, ◌^◌, ◌+◌, ◌==◌, ℕ, refl, ap, ◌∙◌, arith}
+use Rattle.mmu_core.specs.lines.ClaimSteps.{tries_page, map_word}
+use Rattle.std.proofs.Common.{◌≡◌, inr, ◌<◌, ◌^◌, ◌+◌, ◌==◌, ℕ, refl, ap, ◌∙◌, arith, false}
 use Rattle.std.specs.Prelude.{Bool, true, nat_lt, None}
 use Rattle.std.proofs.lemmas.Bool.{eqb-true}
 use Rattle.circular_buffer.specs.Buffer.{Buffer}
@@ -31,7 +32,7 @@ use Rattle.mmu_core.specs.declared.claim.ClaimNext.{ClaimNext}
 use Rattle.mmu_core.specs.declared.claim.ClaimNext.TheVariants as claims
 use Rattle.mmu_core.specs.declared.watch.WatchNext.{WatchNext}
 use Rattle.mmu_core.specs.lines.FaultLaws.{CanAnswer}
-use Rattle.mmu_core.specs.lines.Forms.{Holds, KnowsPart, LeavesPart}
+use Rattle.mmu_core.specs.lines.Forms.{Holds, KnowsPart, LeavesPart, may_leave}
 use Rattle.mmu_core.specs.lines.SlotChangeKnows.{FillsSet, SlotChangeHolds, SlotChangeKnows}
 use Rattle.mmu_core.specs.lines.SlotChangeSteps.{after_set_claim, after_watch, looked_at, slot_change_outcome, slot_change_part, slot_change_task, watch_next}
 use Rattle.mmu_core.specs.machine.Outcomes.{place_after}
@@ -105,8 +106,8 @@ module _ (line : Line) (h : Held) (command : Command) (cached : Buffer Translati
       let owns : OwnsSet (part_topics part.Count h.topics v) = same_set h.topics _ refl K.1 in
       let alone : h.topics.hold ≡ Exclusive = K.0.holds in
       one_place (λ q. Knows q (behind Count (part_topics part.Count h.topics v))) (v == 0) Publish Close
-      (λ e. (changes, (K.0, record { owns = owns; alone = alone; looked = ap count_checked alone; none_open = eqb-true v 0 e; none_leaves = left refl })))
-      (λ e. (changes, (K.0, owns, sees_open h.topics v K.0 e)))
+      (λ e. (changes, (K.0, record { owns = owns; alone = alone; looked = ap count_checked alone; none_open = eqb-true v 0 e; none_leaves = left.leaves refl })))
+      (λ e. (changes, (K.0, owns, sees_open h.topics v K.0 (left.opens refl) e)))
   slot_change_known Close R K left A = (changes, (lock_let_go Exclusive h.topics K.0, same_set h.topics _ refl K.1))
   slot_change_known Publish R K left A =
       (changes, (lock_publishes Exclusive h.topics v K.0, record { leaves = refl; owns_none = refl }, refl, K.1.none_open))
@@ -154,14 +155,23 @@ module _ (line : Line) (h : Held) (command : Command) (cached : Buffer Translati
 
   -- ---- which page leaves: after a step up to the publication none, and after the last one none any more
 
+  page_leaves : (p : SlotChangePlace) → SlotChangeKnows p h → (may_leave (place.SlotChange p) ≡ false → h.topics.leaving ≡ None)
+      → may_leave (place_after (slot_change_outcome p h v)) ≡ false → (part_topics (slot_change_part p h command) h.topics v).leaving ≡ None
+  page_leaves (Claim begun) K left =
+      λ may. claim_leaves h.state.sizes begun h.topics v _ _ _ (claim_made h.state.sizes begun h.topics v) ∙ left refl
+  page_leaves Publish K left = λ may. absurd (cc may)
+  page_leaves Release K left = left
+  page_leaves Watch K left =
+      each_watch (λ q. may_leave (place.SlotChange q) ≡ false → h.topics.leaving ≡ None) (watch_next h v) Watch Clear left left
+  page_leaves Clear K left = left
+  page_leaves Give K left = λ may. ap (λ x. still_leaving x h.topics.leaving) K.1.owns_none
+  page_leaves _ K left = λ may. left refl
+
+  -- No invalidation of its own is opened.
+  change_closed : (p : SlotChangePlace) → (part_topics (slot_change_part p h command) h.topics v).invalidations.opened ≡ h.topics.invalidations.opened
+  change_closed (Claim begun) = either_place (λ s. (part_topics s h.topics v).invalidations.opened ≡ h.topics.invalidations.opened) (tries_page begun h.topics.claim) part.Claim (part.Map (map_word begun h.topics.claim)) refl refl
+  change_closed _ = refl
+
   pub change_leaves : (p : SlotChangePlace) → SlotChangeKnows p h → LeavesPart (place.SlotChange p) h.topics
       → LeavesPart (place_after (slot_change_outcome p h v)) (part_topics (slot_change_part p h command) h.topics v)
-  change_leaves (Claim begun) K left =
-      λ may. claim_leaves h.state.sizes begun h.topics v _ _ _ (claim_made h.state.sizes begun h.topics v) ∙ left refl
-  change_leaves Publish K left = λ may. absurd (cc may)
-  change_leaves Release K left = left
-  change_leaves Watch K left =
-      each_watch (λ q. LeavesPart (place.SlotChange q) (part_topics (part.Watch (looked_at h)) h.topics v)) (watch_next h v) Watch Clear left left
-  change_leaves Clear K left = left
-  change_leaves Give K left = λ may. ap (λ x. still_leaving x h.topics.leaving) K.1.owns_none
-  change_leaves _ K left = λ may. left refl
+  change_leaves p K left = record { leaves = page_leaves p K left.leaves; opens = λ may. change_closed p ∙ left.opens refl }

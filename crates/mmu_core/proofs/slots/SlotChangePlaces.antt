@@ -27,10 +27,10 @@ use Rattle.mmu_core.specs.lines.SlotChangeKnows.{FillsSet, SlotChangeHolds, Reco
 use Rattle.mmu_core.specs.lines.SlotChangeSteps.{slot_change_left, slot_change_first, slot_change_outcome, slot_change_part, slot_change_tells, changed}
 use Rattle.mmu_core.proofs.lines.AccessEnds.{AreFed, exit_fed}
 use Rattle.mmu_core.proofs.lines.AccessLeft.{claim_few}
-use Rattle.mmu_core.proofs.lines.ClaimMade.{claim_free, claim_made, claim_never}
+use Rattle.mmu_core.proofs.lines.ClaimMade.{claim_free, claim_made, claim_untold}
 use Rattle.mmu_core.proofs.lines.EitherPlace.{each_claim}
 use Rattle.mmu_core.proofs.machine.GoesOn.{GoesToNoAccess, GoesUnderWay}
-use Rattle.mmu_core.proofs.machine.PartStepping.{is_publish}
+use Rattle.mmu_core.proofs.machine.PartStepping.{is_publish, is_told, never_told}
 use Rattle.mmu_core.proofs.slots.LiveStays.{OwnedStays}
 
 -- It publishes at one place alone.
@@ -38,10 +38,13 @@ abbrev pub is_publication : SlotChangePlace → Bool
 is_publication Publish = true
 is_publication _ = false
 
+pub change_untold : (p : SlotChangePlace) (h : Held) (command : Command) → is_publication p ≡ false → is_told (slot_change_part p h command) ≡ false
+change_untold Publish h command other = absurd (cc other)
+change_untold (Claim begun) h command other = claim_untold begun h.topics.claim
+change_untold _ h command other = refl
+
 pub change_never : (p : SlotChangePlace) (h : Held) (command : Command) → is_publication p ≡ false → is_publish (slot_change_part p h command) ≡ false
-change_never Publish h command other = absurd (cc other)
-change_never (Claim begun) h command other = claim_never begun h.topics.claim
-change_never _ h command other = refl
+change_never p h command other = never_told (slot_change_part p h command) (change_untold p h command other)
 
 -- ---- where it goes on to
 

@@ -16,6 +16,7 @@ use Rattle.mmu_core.specs.invariant.LockPart.{SawWriter}
 use Rattle.mmu_core.specs.machine.Enabled.{mmu}
 use Rattle.part_steps.specs.PartBounds.{CountersPart}
 use Rattle.mmu_core.specs.invariant.HeldPart.{HeldPart, PathPart}
+use Rattle.mmu_core.specs.invariant.InvalidationsPart.{CheckedPart, CountPart, LoadedPart}
 use Rattle.mmu_core.specs.invariant.LockPart.{LockPart, is_shared, readers, sharers, writers}
 use Rattle.mmu_core.specs.machine.Machine.{World, hand_in}
 use Rattle.part_steps.specs.PartSteps.{IsAtRest, counts}
@@ -192,7 +193,36 @@ look_first : (z : Sizes) (seq : ℕ) (host : ℕ → ℕ) → LookPart z seq hos
 look_first z seq host = record { there = λ look e. absurd (cc e); is = λ look e. absurd (cc e); snapshot = λ s e. absurd (cc e) }
 
 counters_first : (z : Sizes) → CountersPart z first_topics
-counters_first z = record { slots = omega arith; claim = omega arith; seen = omega arith; watched = omega arith; run = λ from. absurd (omega (arith, from)) }
+counters_first z = record {
+  slots = omega arith;
+  claim = omega arith;
+  seen = omega arith;
+  watched = omega arith;
+  run = λ from. absurd (omega (arith, from));
+  counted = omega arith;
+  seq = omega arith;
+  asked = omega arith;
+  range = (omega arith, omega arith);
+}
+
+checked_first : (count start end_ seq : ℕ) → CheckedPart count start end_ seq first_topics
+checked_first count start end_ seq = record {
+  counted = λ lock. absurd (cc lock);
+  started = λ lock. absurd (cc lock);
+  ended = λ lock. absurd (cc lock);
+  numbered = λ lock. absurd (cc lock);
+}
+
+loaded_first : (pool : ℕ → ℕ) → LoadedPart pool first_topics
+loaded_first pool = λ alone. absurd (cc alone)
+
+-- No invalidation is open, and none has ended.
+count_start : (z : Sizes) (lines : List Line) (w : World Held) → IsStart z lines w → CountPart (actors_of z) (word_in z w area.Count 0) (λ i. (hand_in mmu w i).topics.invalidations.opened)
+count_start z lines w start = word_at_start z w area.Count 0 0 start.words (λ l. refl) (λ e. refl)
+    ∙ sym (none_counted z lines w (λ t. t.invalidations.opened) start refl)
+
+pub seq_start : (z : Sizes) (lines : List Line) (w : World Held) → IsStart z lines w → word_in z w area.Seq 0 ≡ 0
+seq_start z lines w start = word_at_start z w area.Seq 0 0 start.words (λ l. refl) (λ e. refl)
 
 pub rest_first : IsAtRest first_topics
 rest_first = record { outside = refl; loose = refl; owns_none = refl; no_table = refl; no_set = refl }
@@ -214,5 +244,10 @@ start_topics z lines w start = record {
   old_sets = λ i k lt is. absurd (leaves_none z lines w i k start lt is);
   searches = λ i lt. subst (λ (t : Topics). SearchPart (word_in z w area.Pool) t.search) (sym (topics_are z lines w i start lt)) (search_first (word_in z w area.Pool));
   looks = λ i lt. subst (LookPart z (word_in z w area.Seq 0) (word_in z w area.Host)) (sym (topics_are z lines w i start lt)) (look_first z (word_in z w area.Seq 0) (word_in z w area.Host));
+  counts = count_start z lines w start;
+  checks = λ i lt. subst (CheckedPart (word_in z w area.Count 0) (word_in z w area.RangeStart 0) (word_in z w area.RangeEnd 0) (word_in z w area.Seq 0))
+      (sym (topics_are z lines w i start lt)) (checked_first _ _ _ _);
+  loaded = λ i lt. subst (LoadedPart (word_in z w area.Pool)) (sym (topics_are z lines w i start lt)) (loaded_first (word_in z w area.Pool));
+  few_ended = let none = seq_start z lines w start in omega (arith, none);
   counters = λ i lt. subst (CountersPart z) (sym (topics_are z lines w i start lt)) (counters_first z);
 }

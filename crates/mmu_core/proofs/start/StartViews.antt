@@ -70,8 +70,8 @@ start_words z = record {
   each = λ area i lt. first_at (word_of z) (total (map_of z)) (place (map_of z) area i) (place_below (map_of z) area i lt) ∙ word_is z area i lt (cases_lt (place (map_of z) area i) (total (map_of z)));
 }
 
-pub a_start : (z : Sizes) (lines : List Line) → AreSizes z → All (λ line. IsCommandFor z line.actor line.command) lines → IsDistinct (λ i j. i == j) (slot_ids lines) → (w : World Held) × IsStart z lines w
-a_start z lines sizes allowed distinct = (
+pub a_start : (z : Sizes) (lines : List Line) → AreSizes z → All (λ line. IsCommandFor z line.actor line.command) lines → IsDistinct (λ i j. i == j) (slot_ids lines) → length lines ≤ 1000000 → (w : World Held) × IsStart z lines w
+a_start z lines sizes allowed distinct few = (
   record { words = first_of (word_of z) (total (map_of z)); hands = start_hands z lines (actors_of z) },
-  record { sizes = sizes; allowed = allowed; distinct = distinct; words = start_words z; hands = refl },
+  record { sizes = sizes; allowed = allowed; distinct = distinct; few = few; words = start_words z; hands = refl },
 )

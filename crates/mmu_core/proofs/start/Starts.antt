@@ -37,7 +37,7 @@ use Rattle.mmu_core.specs.machine.View.{view, word_in}
 use Rattle.mmu_core.specs.machine.Worlds.{AreStartWords, HandReached, IsStart, Reachable, free_bits, least, start_word}
 pub use Rattle.mmu_core.proofs.start.StartWords.{hand_is, word_at_start}
 use Rattle.mmu_core.proofs.start.StartWords.{hands_count, least_low, pool_word}
-use Rattle.mmu_core.proofs.start.StartTopics.{rest_first, start_topics}
+use Rattle.mmu_core.proofs.start.StartTopics.{rest_first, seq_start, start_topics}
 use Rattle.mmu_core.proofs.lines.LinesKept.{AddsId, NoId, OneId, adds_id}
 use Rattle.mmu_core.proofs.invariant.RestsKept.{hand_rests, rests_stay}
 use Rattle.mmu_core.specs.invariant.Laws.{IsSound}
@@ -161,6 +161,15 @@ chosen_distinct actor (line ∷ lines) e = by (is_same actor line.actor) (chosen
         differ_with (or_slot_id line.command) (slot_ids lines) (slot_ids (lines_of actor lines)) (adds_id line.command) (λ P. chosen_ids P actor lines) rest e
     by false rest = rest (differ_behind (or_slot_id line.command) (slot_ids lines) (adds_id line.command) e)
 
+-- An actor has no more lines than there are.
+chosen_few : (actor : Actor) (lines : List Line) → length (lines_of actor lines) ≤ length lines
+chosen_few actor [] = omega arith
+chosen_few actor (line ∷ lines) = by (is_same actor line.actor) (chosen_few actor lines)
+  where
+    by : (b : Bool) → length (lines_of actor lines) ≤ length lines → length (if b then line ∷ lines_of actor lines else lines_of actor lines) ≤ suc (length lines)
+    by true le = omega (arith, le)
+    by false le = omega (arith, le)
+
 first_lines : (z : Sizes) (lines : List Line) (w : World Held) (i : ℕ) → IsStart z lines w → i < actors_of z → OwnLines z i (first_held z (actor_at z i) (lines_of (actor_at z i) lines))
 first_lines z lines w i start lt =
     let actor : Actor = actor_at z i in
@@ -173,6 +182,7 @@ first_lines z lines w i start lt =
       own = all_of (λ line. line.actor ≡ actor) (lines_of actor lines) (chosen_own actor lines);
       distinct = chosen_distinct actor lines start.distinct;
       under = tt;
+      few = omega (arith, chosen_few actor lines, start.few);
       answered = All-nil (Contains (slot_ids (take 0 (lines_of actor lines))));
       set = All-nil (IsSetBy (lines_of actor lines));
     }
@@ -222,7 +232,10 @@ start_good z lines w start = record {
   words = start.words.count;
   hands = ap length start.hands ∙ hands_count z lines (actors_of z);
   small = all_small z w.words start.sizes start.words;
-  none_opened = record { seq = word_at_start z w area.Seq 0 0 start.words (λ l. refl) (λ e. refl); count = word_at_start z w area.Count 0 0 start.words (λ l. refl) (λ e. refl) };
+  ends = record {
+    raised = let none = seq_start z lines w start in omega (arith, none);
+    answered = λ i lt. subst (λ (h : Held). length h.answers ≤ length h.lines) (sym (hand_is z lines w i start lt)) (omega arith);
+  };
   no_pause = word_at_start z w area.Pause 0 0 start.words (λ l. refl) (λ e. refl);
   holds = record {
     sizes = start.sizes;
@@ -236,7 +249,8 @@ start_good z lines w start = record {
     lines = λ i lt. subst (OwnLines z i) (sym (hand_is z lines w i start lt)) (first_lines z lines w i start lt);
     loads = λ i lt. subst (λ (h : Held). Holds z (word_in z w area.Pool) (word_in z w area.Host) (word_in z w area.Slots 0) h.state.place h.state.line.command h) (sym (hand_is z lines w i start lt)) tt;
     knows = λ i lt. subst (λ (h : Held). KnowsPart h.state.place h.state.line.command h) (sym (hand_is z lines w i start lt)) (λ has. rest_first);
-    leaves = λ i lt. subst (λ (h : Held). LeavesPart h.state.place h.topics) (sym (hand_is z lines w i start lt)) (λ may. refl);
+    leaves = λ i lt. subst (λ (h : Held). LeavesPart h.state.place h.topics) (sym (hand_is z lines w i start lt))
+        (record { leaves = λ may. refl; opens = λ may. refl });
     cached = λ i lt. subst (λ (h : Held). CachedPart (word_in z w area.Pool) (word_in z w area.Host) (word_in z w area.Slots 0) h.cached.items) (sym (hand_is z lines w i start lt))
         (All-nil (λ (t : Translation). (t.level ≡ 1) × IsLeafFor (word_in z w area.Pool) (word_in z w area.Host) (word_in z w area.Slots 0) t.gfn t.leaf));
     recorded = λ i lt is. subst (λ (h : Held). RecordPart (word_in z w area.Pool) (word_in z w area.Slots 0) h.slots) (sym (hand_is z lines w i start lt))

@@ -1,5 +1,5 @@
--- The words that no step stores in yet.
-use Rattle.std.proofs.Common.{◌≡◌, ℕ, refl, ap, ◌∙◌}
+-- The pause, a word that no step stores in yet.
+use Rattle.std.proofs.Common.{◌≡◌, ℕ, refl, ap}
 use Rattle.core_views.specs.declared.place.Place.{Place}
 use Rattle.core_views.specs.declared.sizes.Sizes.{Sizes}
 use Rattle.core_views.specs.declared.trace.Command.{Command}
@@ -11,7 +11,6 @@ use Rattle.spte_words.specs.declared.area.Area.TheVariants as area
 use Rattle.part_steps.specs.declared.task.Task.{Task}
 use Rattle.mmu_core.specs.lines.AccessSteps.{touch_of}
 use Rattle.mmu_core.specs.invariant.Invariant.{Invariant}
-use Rattle.mmu_core.specs.invariant.Laws.{NoneOpened}
 use Rattle.mmu_core.specs.lines.PartAt.{task_at}
 use Rattle.mmu_core.specs.invariant.TopicsInvariant.{TopicsInvariant}
 use Rattle.mmu_core.specs.machine.View.{View, stepped, words_after}
@@ -19,21 +18,6 @@ use Rattle.mmu_core.proofs.lines.AccessParts.{AreSmall}
 use Rattle.mmu_core.proofs.words.PartWords.{areas_stay}
 use Rattle.mmu_core.proofs.lines.StepIn.{StepIn, step_in, Makes, Touches}
 use Rattle.mmu_core.proofs.machine.Stepping.{IsStep}
-
-by_touch : (op : Op) (index : ℕ) (words : Area → ℕ → ℕ) → NoneOpened words → NoneOpened (words_after (touch_of op index) words)
-by_touch Read index words none = record { seq = none.seq; count = none.count }
-by_touch _ index words none = record { seq = none.seq; count = none.count }
-
-opened_by : (z : Sizes) (v : View) (a : ℕ) (task : Task) → StepIn z v a task → NoneOpened v.words → NoneOpened (words_after task v.words)
-opened_by z v a _ (Makes step note S) none =
-    record { seq = ap (λ (f : ℕ → ℕ). f 0) (areas_stay v a step note area.Seq refl) ∙ none.seq; count = ap (λ (f : ℕ → ℕ). f 0) (areas_stay v a step note area.Count refl) ∙ none.count }
-opened_by z v a _ (Touches op index) none = by_touch op index v.words none
-
--- Each step leaves sequence and count: it stores in other areas, or nothing.
-pub none_opened_kept : (z : Sizes) (v : View) (a : ℕ) (line : Line) (command : Command) (p : Place) → AreSmall v → IsStep z v a line command p → Invariant z v → TopicsInvariant z v → NoneOpened v.words → NoneOpened (stepped a line command p v).words
-none_opened_kept z v a line command p small S I P none = opened_by z v a (task_at p command (v.hand a)) (step_in z v a line command p small S I P) none
-
--- ---- nor the pause
 
 pause_touched : (op : Op) (index : ℕ) (words : Area → ℕ → ℕ) → words_after (touch_of op index) words area.Pause 0 ≡ words area.Pause 0
 pause_touched Read index words = refl

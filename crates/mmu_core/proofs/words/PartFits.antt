@@ -1,21 +1,25 @@
 -- The word of each step of a part is one of its area, and what it writes has 64 bits.
-use Rattle.std.proofs.Common.{◌≡◌, ◌<◌, ◌≤◌, ◌^◌, ◌%◌, ◌+◌, ◌-◌, ◌*◌, ℕ, refl, sym, subst, ap, arith}
-use Rattle.std.specs.Prelude.{true, Some, None, is_some, Option}
+use Rattle.std.proofs.Common.{◌≡◌, ◌<◌, ◌≤◌, ◌^◌, ◌%◌, ◌+◌, ◌-◌, ◌*◌, ℕ, refl, sym, subst, ap, arith, Bool}
+use Rattle.std.specs.Prelude.{Bool, true, false, Some, None, is_some, Option, if◌then◌else◌}
 use Rattle.std.proofs.Math.Pow.{pow-lt}
 use Rattle.core_views.specs.declared.place.SlotField.{SlotField}
 use Rattle.core_views.specs.declared.place.SlotField.TheVariants as field
+use Rattle.core_views.specs.declared.sizes.Sizes.{Sizes}
+use Rattle.core_views.specs.declared.topics.HostLook.{HostLook}
 use Rattle.core_views.specs.declared.topics.Topics.{Topics}
 use Rattle.core_views.specs.Held.{Held}
+use Rattle.core_views.specs.Sizes.{actors_of}
 use Rattle.spte_words.specs.declared.area.Area.TheVariants as area
 use Rattle.spte_words.specs.Areas.{size_of}
-use Rattle.spte_words.specs.HostWords.{host_allows_write, host_frame}
+use Rattle.spte_words.specs.HostWords.{host_allows_write, host_frame, host_level, host_present, with_writes_allowed}
 use Rattle.spte_words.proofs.Indices.{pool_within}
+use Rattle.spte_words.proofs.ReadsHost.{host_fits}
 use Rattle.spte_words.proofs.ReadsEntries.{leaf_fits, table_fits}
 use Rattle.part_steps.specs.declared.part_step.PartStep.{PartStep}
 use Rattle.part_steps.specs.declared.part_step.PartStep.TheVariants as part
 use Rattle.part_steps.specs.PartBounds.{PartRests}
-use Rattle.part_steps.specs.PartTasks.{IsWithin, all_but, leaf_written, link_written, own_index, page_owned, part_kind, part_task, set_held, table_page, word_looked, words_filled, page_left}
-use Rattle.part_steps.specs.PartHoldings.{LookedUp, OwnsTable, MayPublish, MayGiveOld}
+use Rattle.part_steps.specs.PartTasks.{IsWithin, all_but, leaf_written, link_written, own_index, page_owned, part_kind, part_task, set_held, table_page, word_looked, words_filled, page_left, page_looked}
+use Rattle.part_steps.specs.PartHoldings.{LookedUp, OwnsTable, MayPublish, MayGiveOld, MayChange, MayCount}
 use Rattle.part_steps.specs.PartSteps.{PartNeeds}
 use Rattle.part_steps.specs.SlotWords.{field_number, leaf_of, may_write, slot_index}
 use Rattle.part_steps.specs.Tasks.{map_of}
@@ -54,6 +58,18 @@ left_there h M R = by h.topics.leaving refl M.leaves
     by None is some = absurd (cc some)
     by (Some k) is some = rw (ap page_left is) (R.left k is)
 
+-- A virtual processor is one of the actors.
+vcpu_within : (index : ℕ) (z : Sizes) → index < z.vcpus → index < actors_of z
+vcpu_within index z lt = omega (arith, lt)
+
+-- the host page that was looked up is one of the machine's
+looked_there : (h : Held) → MayChange h → PartRests h → page_looked h.topics.host < h.state.sizes.pages
+looked_there h M R = by h.topics.host refl M.looked
+  where
+    by : (x : Option HostLook) → h.topics.host ≡ x → is_some x ≡ true → page_looked h.topics.host < h.state.sizes.pages
+    by None is some = absurd (cc some)
+    by (Some look) is some = rw (ap page_looked is) (R.looked look is).0
+
 pub part_within_by : (step : PartStep) (h : Held) (note : ℕ) → PartNeeds step h → PartRests h → IsWithinBy h step note
 part_within_by part.Enter h note N R = R.own_place
 part_within_by part.Leave h note N R = R.own_place
@@ -72,6 +88,10 @@ part_within_by (part.Host page) h note N R = N
 part_within_by (part.Watch index) h note N R = N.0
 part_within_by part.Clear h note N R = left_there h N R
 part_within_by part.GiveOld h note N R = let at = left_there h N R in omega (arith, at)
+part_within_by (part.Zap gfn) h note N R = pool_within (map_of h.state.sizes) (table_page h.topics.walk) _ (R.table N.2.over.there) (omega arith)
+part_within_by (part.Ask index) h note N R = vcpu_within index h.state.sizes N.0
+part_within_by (part.Await index) h note N R = vcpu_within index h.state.sizes (let few = R.counters.asked in omega (arith, few, N.0))
+part_within_by (part.Change new_) h note N R = looked_there h N.0 R
 part_within_by _ h note N R = omega arith
 
 pub part_within : (step : PartStep) (h : Held) → PartNeeds step h → PartRests h → IsWithin h step
@@ -103,6 +123,33 @@ leaf_small h U R =
 publish_small : (h : Held) → MayPublish h.topics → PartRests h → page_owned h.topics.owned < 2 ^ 64
 publish_small h M R = let page = page_there h (some_filled h.topics.owned 513 M.owns.whole (omega arith)) R in omega (arith, page, R.sizes.pool.1)
 
+-- The word of a frame of the machine, to which writes are allowed, has 64 bits.
+word_small : (word : ℕ) → host_frame word ≤ 2097152 → with_writes_allowed word < 2 ^ 64
+unfolding host_level
+word_small word few = host_fits (host_frame word) (host_present word) true (host_level word) (omega (arith, few)) (omega arith)
+
+-- The count that is stored is one more or one less than one that was loaded.
+count_small : (h : Held) (count : ℕ) → MayCount count h.topics → PartRests h → count < 2 ^ 64
+count_small h count M R = rw M.is (by h.topics.invalidations.opened)
+  where
+    n : ℕ
+    n = h.topics.invalidations.count
+
+    few : n ≤ 25
+    few = let counted = R.counters.counted in omega (arith, counted, R.sizes.actors.vcpus, R.sizes.actors.hosts, R.sizes.actors.workers)
+
+    by : (b : Bool) → (if b then n - 1 else n + 1) < 2 ^ 64
+    by true = omega (arith, few)
+    by false = omega (arith, few)
+
+-- The frame of a host word that was looked up is one of the machine's, so the word with writes allowed has 64 bits.
+allowed_small : (h : Held) → MayChange h → PartRests h → with_writes_allowed (word_looked h.topics.host) < 2 ^ 64
+allowed_small h M R = by h.topics.host refl M.looked
+  where
+    by : (x : Option HostLook) → h.topics.host ≡ x → is_some x ≡ true → with_writes_allowed (word_looked h.topics.host) < 2 ^ 64
+    by None is some = absurd (cc some)
+    by (Some look) is some = rw (ap word_looked is) (word_small look.word (omega (arith, (R.looked look is).1, R.sizes.frames.1)))
+
 pub part_small : (step : PartStep) (h : Held) (note : ℕ) → PartNeeds step h → PartRests h → (part_kind h step note).new < 2 ^ 64
 part_small part.Leave h note N R = not_small 3
 part_small part.End h note N R = not_small 2
@@ -115,4 +162,9 @@ part_small (part.Link gfn) h note N R = link_small h N.3 R
 part_small (part.Leaf gfn) h note N R = leaf_small h N.0.looked_up R
 part_small part.Publish h note N R = publish_small h N R
 part_small part.GiveOld h note N R = power_small (page_left h.topics.leaving % 64) (omega arith)
+part_small (part.SetStart gfn) h note N R = N.1
+part_small (part.SetEnd gfn) h note N R = N.1
+part_small (part.SetCount count) h note N R = count_small h count N R
+part_small (part.SetSeq seq) h note N R = let is = N.1 in let few = R.counters.seq in omega (arith, is, few)
+part_small (part.Change new_) h note N R = rw N.1 (allowed_small h N.0 R)
 part_small _ h note N R = omega arith

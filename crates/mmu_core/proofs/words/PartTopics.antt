@@ -14,24 +14,25 @@ use Rattle.part_steps.specs.declared.task.Task.{Task}
 use Rattle.mmu_core.specs.lines.Cached.{flushed}
 use Rattle.part_steps.specs.declared.part_step.PartStep.{PartStep}
 use Rattle.part_steps.specs.declared.part_step.PartStep.TheVariants as part
-use Rattle.part_steps.specs.PartTasks.{entry_index, entry_task, leaf_written, link_written, part_task, table_page}
+use Rattle.part_steps.specs.PartTasks.{entry_index, entry_task, leaf_written, link_written, part_task, table_page, word_looked, page_looked}
 use Rattle.part_steps.specs.PartSteps.{PartNeeds}
 use Rattle.part_steps.specs.PartTopics.{exchanged, part_topics}
 use Rattle.mmu_core.specs.machine.Steps.{idle_after}
 use Rattle.part_steps.specs.Tasks.{kind_of_task, map_of}
-use Rattle.part_steps.specs.StayTopics.{is_loose, kept_search, may_search, may_walk}
-use Rattle.part_steps.specs.WalkTopics.{is_in_table, still_owned, swapped, walked}
-use Rattle.part_steps.specs.ControlTopics.{at_root, at_set, at_word, controlled, count_checked, in_section, map_begins, map_ends, range_checked, seq_checked, start_checked}
+use Rattle.part_steps.specs.StayTopics.{is_loose, kept_search, may_search, may_walk, has_lock}
+use Rattle.part_steps.specs.WalkTopics.{is_in_table, still_owned, swapped, walked, gone_down}
+use Rattle.part_steps.specs.ControlTopics.{at_root, at_set, at_word, controlled, count_checked, in_section, map_begins, map_ends, range_checked, seq_checked, start_checked, has_to_flush}
 use Rattle.part_steps.specs.TopicSteps.{host_begins, index_in_page, topics_after}
 use Rattle.mmu_core.specs.machine.View.{View, answer_in, part_stepped, upd, words_after}
 use Rattle.mmu_core.proofs.machine.PartStepping.{IsPart}
 
--- the word of the map that the step loads, if it does, is there; and the table whose entry it loads or exchanges
+-- the word of the map that the step loads, if it does, is there; and the table whose entry it loads, exchanges or zaps
 abbrev pub IsThere : Sizes → Topics → PartStep → Type 0
 IsThere z t (part.Map word) = word < words_of_bits z.pool
 IsThere z t (part.Walk gfn) = 1 ≤ t.walk.level
 IsThere z t (part.Link gfn) = 1 ≤ t.walk.level
 IsThere z t (part.Leaf gfn) = 1 ≤ t.walk.level
+IsThere z t (part.Zap gfn) = 1 ≤ t.walk.level
 IsThere z t _ = Unit {0}
 
 -- The lone words stand before the map.
@@ -83,8 +84,9 @@ told_so root slots seq count start end_ pause claim t v = record t {
         if count then count_checked t.hold else
         if start then start_checked t.invalidations.checked else
         if end_ then range_checked t.invalidations.checked else
-        if seq then seq_checked t.invalidations.count t.invalidations.checked else
+        if seq then seq_checked (has_lock t.hold) t.invalidations.count t.invalidations.checked else
         t.invalidations.checked;
+    opened = t.invalidations.opened;
   };
   claim = claim;
   pause = if pause then v else t.pause;
@@ -144,6 +146,15 @@ swap_topics z gfn new_ note t v from =
     }) (in_table t.walk from)
     ∙ ap (λ i. exchanged (v == t.walk.entry) i new_ t v) (in_its_page z (table_page t.walk) (entry_index gfn t.walk.level) (omega arith))
 
+zap_topics : (z : Sizes) (own gfn : ℕ) (t : Topics) (note v : ℕ) → 1 ≤ t.walk.level → topics_after z (kind_of_task z (part_task (part.Zap gfn) own t note)) t v ≡ part_topics (part.Zap gfn) t v
+unfolding topics_after
+zap_topics z own gfn t note v from =
+    ap (λ (b : Bool). record t {
+      walk = if b then gone_down None t.walk
+          (index_in_page z (place (map_of z) area.Pool (pool_index (table_page t.walk) (entry_index gfn t.walk.level)))) 0 else t.walk;
+    }) (in_table t.walk from)
+    ∙ ap (λ i. record t { walk = gone_down None t.walk i 0 }) (in_its_page z (table_page t.walk) (entry_index gfn t.walk.level) (omega arith))
+
 -- The topics behind a step are those written out above.
 pub part_topics_is : (z : Sizes) (step : PartStep) (own : ℕ) (t : Topics) (note v : ℕ) → IsThere z t step → topics_after z (kind_of_task z (part_task step own t note)) t v ≡ part_topics step t v
 unfolding topics_after place
@@ -160,6 +171,12 @@ part_topics_is z (part.Link gfn) own t note v there = swap_topics z gfn (link_wr
 part_topics_is z (part.Leaf gfn) own t note v there = swap_topics z gfn (leaf_written t) note t v there
 part_topics_is z (part.Host page) own t note v there = ap (λ p. record t { host = Some (record { page = p; word = v }) }) (behind_host z page)
 part_topics_is z (part.Watch index) own t note v there = ap (λ i. record t { watched = i + (if in_section v then 0 else 1) }) (state_place z index)
+part_topics_is z (part.Zap gfn) own t note v there = zap_topics z own gfn t note v there
+part_topics_is z (part.Ask index) own t note v there = ap (λ i. record t { flush = record t.flush { asked = i + 1 } }) (state_place z index)
+part_topics_is z (part.Await index) own t note v there = ap (λ i. record t { flush = record t.flush { awaited = i + (if has_to_flush v then 0 else 1) } })
+    (state_place z index)
+part_topics_is z (part.Change new_) own t note v there =
+    ap (λ p. record t { host = Some (record { page = p; word = if v == word_looked t.host then new_ else v }) }) (behind_host z (page_looked t.host))
 part_topics_is z _ own t note v there = refl
 
 -- the hand behind the step, by the actor at this place
@@ -185,6 +202,7 @@ is_there (part.Map word) h N = N.1
 is_there (part.Walk gfn) h N = N.there
 is_there (part.Link gfn) h N = N.0.saw.over.there
 is_there (part.Leaf gfn) h N = N.0.saw.over.there
+is_there (part.Zap gfn) h N = N.2.over.there
 is_there _ h N = tt
 
 pub part_stepped_is : (z : Sizes) (v : View) (a : ℕ) (step : PartStep) (note : ℕ) → IsPart z v a step → part_stepped a step note v ≡ part_behind a step note v

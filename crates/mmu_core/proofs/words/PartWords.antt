@@ -28,6 +28,11 @@ stays area.PoolMap = false
 stays area.Role = false
 stays area.Slots = false
 stays area.Pool = false
+stays area.Seq = false
+stays area.Count = false
+stays area.RangeStart = false
+stays area.RangeEnd = false
+stays area.Host = false
 stays _ = true
 
 -- The area is none of those that a step of a part stores in.
@@ -38,6 +43,11 @@ record IsApart (b : Area) : Type 0 where
   role : (number_of b == number_of area.Role) ≡ false
   slots : (number_of b == number_of area.Slots) ≡ false
   pool : (number_of b == number_of area.Pool) ≡ false
+  seq : (number_of b == number_of area.Seq) ≡ false
+  count : (number_of b == number_of area.Count) ≡ false
+  start : (number_of b == number_of area.RangeStart) ≡ false
+  end_ : (number_of b == number_of area.RangeEnd) ≡ false
+  host : (number_of b == number_of area.Host) ≡ false
 
 apart : (b : Area) → stays b ≡ true → IsApart b
 apart area.Lock is = absurd (cc is)
@@ -46,7 +56,24 @@ apart area.PoolMap is = absurd (cc is)
 apart area.Role is = absurd (cc is)
 apart area.Slots is = absurd (cc is)
 apart area.Pool is = absurd (cc is)
-apart _ is = record { lock = refl; state = refl; map = refl; role = refl; slots = refl; pool = refl }
+apart area.Seq is = absurd (cc is)
+apart area.Count is = absurd (cc is)
+apart area.RangeStart is = absurd (cc is)
+apart area.RangeEnd is = absurd (cc is)
+apart area.Host is = absurd (cc is)
+apart _ is = record {
+  lock = refl;
+  state = refl;
+  map = refl;
+  role = refl;
+  slots = refl;
+  pool = refl;
+  seq = refl;
+  count = refl;
+  start = refl;
+  end_ = refl;
+  host = refl;
+}
 
 put_elsewhere : (words : Area → ℕ → ℕ) (stored b : Area) (i x : ℕ) → (number_of b == number_of stored) ≡ false → put words stored i x b ≡ words b
 put_elsewhere words stored b i x is = ap (λ (t : Bool). if t then upd (words b) i x else words b) is
@@ -69,9 +96,16 @@ words_stay (part.Link gfn) own t note words b A = put_elsewhere words area.Pool 
 words_stay (part.Leaf gfn) own t note words b A = put_elsewhere words area.Pool b _ _ A.pool
 words_stay (part.Fill value) own t note words b A = put_elsewhere words area.Pool b _ _ A.pool
 words_stay (part.Role value) own t note words b A = put_elsewhere words area.Role b _ _ A.role
+words_stay (part.SetStart gfn) own t note words b A = put_elsewhere words area.RangeStart b 0 _ A.start
+words_stay (part.SetEnd gfn) own t note words b A = put_elsewhere words area.RangeEnd b 0 _ A.end_
+words_stay (part.SetCount count) own t note words b A = put_elsewhere words area.Count b 0 _ A.count
+words_stay (part.SetSeq seq) own t note words b A = put_elsewhere words area.Seq b 0 _ A.seq
+words_stay (part.Zap gfn) own t note words b A = put_elsewhere words area.Pool b _ _ A.pool
+words_stay (part.Ask index) own t note words b A = put_elsewhere words area.State b index _ A.state
+words_stay (part.Change new_) own t note words b A = put_elsewhere words area.Host b _ _ A.host
 words_stay _ own t note words b A = refl
 
--- Whole areas stay: those of the machine's control but the lock and the published slot set, host words, content, the frame map and the log.
+-- Whole areas stay: the root, the pause, content, the frame map and the log.
 pub areas_stay : (v : View) (a : ℕ) (step : PartStep) (note : ℕ) (b : Area) → stays b ≡ true → (part_stepped a step note v).words b ≡ v.words b
 areas_stay v a step note b is = words_stay step (own_index (v.hand a)) (v.hand a).topics note v.words b (apart b is)
 
@@ -94,11 +128,12 @@ slots_are v a step note = slots_after step (own_index (v.hand a)) (v.hand a).top
 -- ---- a page that the step doesn't store in
 
 -- The step stores in no word of the page: in none of the page that the actor owns, where it fills that, and in none of the table that
--- its walk has come to, where it exchanges an entry.
+-- its walk has come to, where it exchanges or zaps an entry.
 abbrev pub IsElsewhere : PartStep → Topics → ℕ → Type 0
 IsElsewhere (part.Fill value) t k = (o : OwnedPage) → t.owned ≡ Some o → o.page ≢ k
 IsElsewhere (part.Link gfn) t k = table_page t.walk ≢ k
 IsElsewhere (part.Leaf gfn) t k = table_page t.walk ≢ k
+IsElsewhere (part.Zap gfn) t k = table_page t.walk ≢ k
 IsElsewhere _ t k = Unit {0}
 
 -- Nor in its role: it isn't the page whose role is stored, or taken.
@@ -116,10 +151,14 @@ pub fill_leaves : (page filled value : ℕ) (pool : ℕ → ℕ) (k j : ℕ) →
 fill_leaves page filled value pool k j low in_page differs =
     upd_other pool (pool_index page filled) (pool_index k j) value (λ e. let s = same_pool_word k page j filled in_page low e in differs (sym s.0) (sym s.1))
 
--- An exchange of an entry leaves each other page.
+-- An exchange of an entry leaves each other page, and so does what zaps one.
+entry_apart : (gfn x : ℕ) (walk : TableWalk) (pool : ℕ → ℕ) (k j : ℕ) → j < 512 → table_page walk ≢ k → upd pool (pool_index (table_page walk) (entry_index gfn walk.level)) x (pool_index k j) ≡ pool (pool_index k j)
+entry_apart gfn x walk pool k j low apart =
+    upd_other pool (pool_index (table_page walk) (entry_index gfn walk.level)) (pool_index k j) x
+    (λ e. let s = same_pool_word k (table_page walk) j (entry_index gfn walk.level) low (omega arith) e in apart (sym s.0))
+
 pub entry_leaves : (gfn new_ note : ℕ) (walk : TableWalk) (words : Area → ℕ → ℕ) (k j : ℕ) → j < 512 → table_page walk ≢ k → words_after (entry_task gfn new_ walk note) words area.Pool (pool_index k j) ≡ words area.Pool (pool_index k j)
-entry_leaves gfn new_ note walk words k j low apart =
-    upd_other (words area.Pool) (pool_index (table_page walk) (entry_index gfn walk.level)) (pool_index k j) _ (λ e. let s = same_pool_word k (table_page walk) j (entry_index gfn walk.level) low (omega arith) e in apart (sym s.0))
+entry_leaves gfn new_ note walk words k j low apart = entry_apart gfn _ walk (words area.Pool) k j low apart
 
 pub page_stays : (z : Sizes) (v : View) (a : ℕ) (step : PartStep) (note : ℕ) → IsPart z v a step → (k : ℕ) → IsElsewhere step (v.hand a).topics k → (j : ℕ) → j < 512
     → (part_stepped a step note v).words area.Pool (pool_index k j) ≡ v.words area.Pool (pool_index k j)
@@ -128,6 +167,7 @@ page_stays z v a (part.Fill value) note S k differs j low =
     fill_leaves (page_owned t.owned) (words_filled t.owned) value (v.words area.Pool) k j S.needs.0.1 low (λ e d. owned_elsewhere t S.needs.0.0 k differs e)
 page_stays z v a (part.Link gfn) note S k differs j low = entry_leaves gfn (link_written (v.hand a).topics) note (v.hand a).topics.walk v.words k j low differs
 page_stays z v a (part.Leaf gfn) note S k differs j low = entry_leaves gfn (leaf_written (v.hand a).topics) note (v.hand a).topics.walk v.words k j low differs
+page_stays z v a (part.Zap gfn) note S k differs j low = entry_apart gfn 0 (v.hand a).topics.walk (v.words area.Pool) k j low differs
 page_stays z v a _ note S k differs j low = refl
 
 pub role_stays : (z : Sizes) (v : View) (a : ℕ) (step : PartStep) (note : ℕ) → IsPart z v a step → (k : ℕ) → HasOtherRole step (v.hand a).topics k → (part_stepped a step note v).words area.Role k ≡ v.words area.Role k
@@ -160,6 +200,7 @@ pub slots_elsewhere : (z : Sizes) (v : View) (a : ℕ) (step : PartStep) → IsP
 slots_elsewhere z v a (part.Fill value) S I = λ o is. owned_not_slots I.uses a o S.there is
 slots_elsewhere z v a (part.Link gfn) S I = walks_elsewhere z v a S.there I S.needs.0.saw.over.there
 slots_elsewhere z v a (part.Leaf gfn) S I = walks_elsewhere z v a S.there I S.needs.0.saw.over.there
+slots_elsewhere z v a (part.Zap gfn) S I = walks_elsewhere z v a S.there I S.needs.2.over.there
 slots_elsewhere z v a _ S I = tt
 
 -- And its role.

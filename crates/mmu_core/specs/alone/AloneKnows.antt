@@ -34,5 +34,5 @@ FormAlone _ command words t = Unit {0}
 
 -- What its actor has seen stands, and so does what its form knows.
 pub record AloneKnows (p : Place) (command : Command) (words : Area → ℕ → ℕ) (t : Topics) : Type 0 where
-  pub seen : SeenStands (HasScan p) (words area.PoolMap) t
+  pub seen : SeenStands (HasScan p) words t
   pub form : FormAlone p command words t

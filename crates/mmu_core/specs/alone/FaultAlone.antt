@@ -83,14 +83,16 @@ abbrev pub AloneNext : FaultNext → ℕ → ℕ → (ℕ → ℕ) → ℕ → B
 AloneNext (Goes p) root set pool gfn write t = FaultAlone p root set pool gfn write t
 AloneNext (Ends e) root set pool gfn write t = EndAlone e root set pool gfn write
 
--- A fault of the actor at place a stands at this place of its order, while all other actors rest; what its actor has seen stands.
+-- A fault of the actor at place a stands at this place of its order, while all other actors rest; what its actor has seen stands, and it
+-- has no invalidation open.
 pub record FaultRunsAlone (z : Sizes) (w : World Held) (a : ℕ) (p : FaultPlace) (gfn : ℕ) (write : Bool) : Type 0 where
   pub sound : IsSound z w
   pub others : OthersRest a w
   pub there : a < actors_of z
   pub small : gfn < 2 ^ 36
   pub knows : FaultKnows p z gfn write (hand_in mmu w a).topics
-  pub seen : SeenStands (HasBegun p) (word_in z w area.PoolMap) (hand_in mmu w a).topics
+  pub seen : SeenStands (HasBegun p) (word_in z w) (hand_in mmu w a).topics
+  pub opens_none : (hand_in mmu w a).topics.invalidations.opened ≡ false
   pub alone : FaultAlone p (word_in z w area.Root 0) (word_in z w area.Slots 0) (word_in z w area.Pool) gfn write (hand_in mmu w a).topics
 
 -- The step of its place doesn't wait for another actor; after it the fault knows of the words what its next place asks, and what its actor has
@@ -107,7 +109,7 @@ pub record GoesThrough (z : Sizes) (words : Area → ℕ → ℕ) (a : ℕ) (t :
       let step : PartStep = fault_part p gfn t in
       let task : Task = part_task step a t note in
       let found : ℕ = answer_in task words in
-      SeenStands (BegunNext (fault_next p z gfn write t found)) (words_after task words area.PoolMap) (part_topics step t found)
+      SeenStands (BegunNext (fault_next p z gfn write t found)) (words_after task words) (part_topics step t found)
 
 -- A fault alone goes through: no step of it waits, it never begins anew; where it ends with an entry installed, links lead from the root to
 -- a leaf that allows the access; where it ends with MMIO, no slot has a page for the access; and it is starved only where no page is free.

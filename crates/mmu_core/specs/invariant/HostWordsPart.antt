@@ -1,4 +1,4 @@
--- Host words: the host map, which no step changes yet.
+-- Host words: the host map, of which each exchange leaves what was there.
 use Rattle.std.specs.Prelude.{◌≡◌, ◌<◌, ℕ, true}
 use Rattle.core_views.specs.declared.sizes.Sizes.{Sizes}
 use Rattle.spte_words.specs.HostWords.{host_word}

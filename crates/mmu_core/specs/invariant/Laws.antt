@@ -1,4 +1,5 @@
 -- What holds of every list of steps, from every start.
+use Rattle.mmu_core.specs.invariant.InvalidationsPart.{EndsPart}
 use Rattle.std.specs.Prelude.{◌≡◌, ◌<◌, ◌^◌, ℕ, List, length, slice_index}
 use Rattle.core_views.specs.declared.kind.Kind.{Kind}
 use Rattle.core_views.specs.declared.sizes.Sizes.{Sizes}
@@ -7,29 +8,23 @@ use Rattle.core_views.specs.Flat.{first_flat}
 use Rattle.core_views.specs.Held.{Held}
 use Rattle.core_views.specs.Lawful.{IsLawful}
 use Rattle.core_views.specs.Sizes.{actors_of}
-use Rattle.spte_words.specs.declared.area.Area.{Area}
 use Rattle.spte_words.specs.declared.area.Area.TheVariants as area
 use Rattle.spte_words.specs.Areas.{total}
 use Rattle.mmu_core.specs.machine.Enabled.{mmu}
 use Rattle.mmu_core.specs.invariant.Invariant.{Invariant}
-use Rattle.mmu_core.specs.machine.Machine.{Legal, Step, World, run}
+use Rattle.mmu_core.specs.machine.Machine.{Legal, Step, World, run, hand_in}
 use Rattle.part_steps.specs.Tasks.{map_of}
 use Rattle.mmu_core.specs.invariant.TopicsInvariant.{TopicsInvariant}
 use Rattle.mmu_core.specs.machine.View.{view, word_in}
 use Rattle.mmu_core.specs.machine.Worlds.{IsStart, history}
 
--- No invalidation was opened: their sequence number and their count are 0.
-pub record NoneOpened (words : Area → ℕ → ℕ) : Type 0 where
-  pub seq : words area.Seq 0 ≡ 0
-  pub count : words area.Count 0 ≡ 0
-
--- The words and hands are as many as the machine has, each word is a number below 2 ^ 64, no invalidation was opened and no pause set, and
+-- The words and hands are as many as the machine has, each word is a number below 2 ^ 64, each end of an invalidation belongs to a line, no pause was set, and
 -- every part of the invariant holds: what lines rest on, and what is held of the machine's parts.
 pub record IsSound (z : Sizes) (w : World Held) : Type 0 where
   pub words : length w.words ≡ total (map_of z)
   pub hands : length w.hands ≡ actors_of z
   pub small : (i : ℕ) → slice_index w.words i < 2 ^ 64
-  pub none_opened : NoneOpened (word_in z w)
+  pub ends : EndsPart z (word_in z w area.Seq 0) (hand_in mmu w)
   pub no_pause : word_in z w area.Pause 0 ≡ 0
   pub holds : Invariant z (view z w)
   pub topics : TopicsInvariant z (view z w)

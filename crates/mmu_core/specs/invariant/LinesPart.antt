@@ -1,5 +1,5 @@
 -- Lines: whose a hand is, and which of its lines is under way.
-use Rattle.std.specs.Prelude.{◌≡◌, ◌<◌, ◌+◌, ◌==◌, ℕ, List, All, length, map, take, if◌then◌else◌}
+use Rattle.std.specs.Prelude.{◌≡◌, ◌<◌, ◌+◌, ◌==◌, ℕ, List, All, length, map, take, if◌then◌else◌, ◌≤◌}
 use Rattle.std.specs.List.{Contains, IsDistinct}
 use Rattle.std.specs.Map.{keys_of}
 use Rattle.core_views.specs.declared.place.Place.{Place}
@@ -36,5 +36,6 @@ pub record OwnLines (z : Sizes) (i : ℕ) (h : Held) : Type 0 where
   pub own : All (λ line. line.actor ≡ h.state.actor) h.lines
   pub distinct : IsDistinct (λ i j. i == j) (slot_ids h.lines)
   pub under : UnderWay h.state.place h
+  pub few : length h.lines ≤ 1000000
   pub answered : All (Contains (slot_ids (take (lines_done h) h.lines))) (keys_of h.slots)
   pub set : All (IsSetBy h.lines) h.slots

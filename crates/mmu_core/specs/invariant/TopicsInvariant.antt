@@ -1,5 +1,5 @@
 -- What holds at every moment of the words of the machine's parts and of what actors hold of them.
-use Rattle.std.specs.Prelude.{◌<◌, ℕ}
+use Rattle.std.specs.Prelude.{◌^◌, ◌<◌, ℕ}
 use Rattle.core_views.specs.declared.sizes.Sizes.{Sizes}
 use Rattle.core_views.specs.Held.{Held}
 use Rattle.core_views.specs.Sizes.{actors_of}
@@ -8,6 +8,7 @@ use Rattle.mmu_core.specs.machine.View.{View}
 pub use Rattle.part_steps.specs.PartBounds.{CountersPart}
 pub use Rattle.mmu_core.specs.invariant.AllOver.{AllOver, LeafIsFor}
 pub use Rattle.mmu_core.specs.invariant.HeldPart.{HeldPart, HoldsOld, OldSetsPart, PathPart, SetsPart}
+pub use Rattle.mmu_core.specs.invariant.InvalidationsPart.{CheckedPart, CountPart, LoadedPart}
 pub use Rattle.mmu_core.specs.invariant.LockPart.{LockPart, SawWriter}
 pub use Rattle.mmu_core.specs.invariant.PoolPart.{FilledPart, IsFilled, UsePart, is_leaving}
 pub use Rattle.mmu_core.specs.invariant.SearchPart.{LookPart, SearchPart}
@@ -15,7 +16,7 @@ pub use Rattle.mmu_core.specs.invariant.StatesPart.{StatesPart}
 pub use Rattle.mmu_core.specs.invariant.TreePart.{Position, TreePart, Use, stands}
 
 -- All parts, of the columns of words and the column of hands; and what each page of the pool is, and where it stands if it is a table.
-pub record TopicsInvariantOf (z : Sizes) (lock root slots seq : ℕ) (states map host role pool : ℕ → ℕ) (hand : ℕ → Held) : Type 0 where
+pub record TopicsInvariantOf (z : Sizes) (lock root slots seq count start end_ : ℕ) (states map host role pool : ℕ → ℕ) (hand : ℕ → Held) : Type 0 where
   pub up : ℕ → Use
   pub spot : ℕ → Position
   pub lock_part : LockPart (actors_of z) lock (λ i. (hand i).topics.hold)
@@ -31,7 +32,11 @@ pub record TopicsInvariantOf (z : Sizes) (lock root slots seq : ℕ) (states map
   pub old_sets : OldSetsPart (actors_of z) slots pool (λ i. (hand i).topics.leaving)
   pub searches : (i : ℕ) → i < actors_of z → SearchPart pool (hand i).topics.search
   pub looks : (i : ℕ) → i < actors_of z → LookPart z seq host (hand i).topics
+  pub counts : CountPart (actors_of z) count (λ i. (hand i).topics.invalidations.opened)
+  pub checks : (i : ℕ) → i < actors_of z → CheckedPart count start end_ seq (hand i).topics
+  pub loaded : (i : ℕ) → i < actors_of z → LoadedPart pool (hand i).topics
+  pub few_ended : seq < 2 ^ 40
   pub counters : (i : ℕ) → i < actors_of z → CountersPart z (hand i).topics
 
 abbrev pub TopicsInvariant : Sizes → View → Type 0
-TopicsInvariant z v = TopicsInvariantOf z (v.words area.Lock 0) (v.words area.Root 0) (v.words area.Slots 0) (v.words area.Seq 0) (v.words area.State) (v.words area.PoolMap) (v.words area.Host) (v.words area.Role) (v.words area.Pool) v.hand
+TopicsInvariant z v = TopicsInvariantOf z (v.words area.Lock 0) (v.words area.Root 0) (v.words area.Slots 0) (v.words area.Seq 0) (v.words area.Count 0) (v.words area.RangeStart 0) (v.words area.RangeEnd 0) (v.words area.State) (v.words area.PoolMap) (v.words area.Host) (v.words area.Role) (v.words area.Pool) v.hand

@@ -1,4 +1,11 @@
 -- What each form of line says at its places: a clause a form in each table. The tables are filled in by the form's own files.
+use Rattle.mmu_core.specs.lines.InvalidateSteps.{is_counted}
+use Rattle.mmu_core.specs.lines.HostKnows.{HostKnows, HostRests}
+use Rattle.mmu_core.specs.lines.HostSteps.{host_left, host_note, host_outcome, host_part, host_tells}
+use Rattle.core_views.specs.declared.trace.HostChange.TheVariants.{Allow}
+use Rattle.core_views.specs.declared.place.EndPlace.TheVariants as ends
+use Rattle.core_views.specs.declared.place.HostPlace.TheVariants as host
+use Rattle.core_views.specs.declared.place.Place.TheVariants.{Host}
 use Rattle.std.specs.Prelude.{◌≡◌, ℕ, List, [], Option, Some, None, true, false, Bool}
 use Rattle.circular_buffer.specs.Buffer.{Buffer}
 use Rattle.core_views.specs.declared.cache.Translation.{Translation}
@@ -10,7 +17,7 @@ use Rattle.core_views.specs.declared.place.SlotChangePlace.TheVariants as change
 use Rattle.core_views.specs.declared.sizes.Sizes.{Sizes}
 use Rattle.core_views.specs.declared.topics.Topics.{Topics}
 use Rattle.core_views.specs.declared.trace.Command.{Command}
-use Rattle.core_views.specs.declared.trace.Command.TheVariants.{Access}
+use Rattle.core_views.specs.declared.trace.Command.TheVariants.{Access, ChangeHost}
 use Rattle.core_views.specs.Held.{Held, State}
 use Rattle.core_views.specs.SlotCommands.{change_refusal, changes_slot}
 use Rattle.core_views.specs.Slots.{is_write}
@@ -31,24 +38,28 @@ use Rattle.mmu_core.specs.lines.SlotChangeSteps.{slot_change_first, slot_change_
 -- where a line begins
 abbrev pub first_place : Sizes → MemorySlots → Command → Place
 first_place z slots (Access gfn word op) = place.Access (Enter false)
+first_place z slots (ChangeHost page change) = place.Host host.Look
 first_place z slots command = place.SlotChange (slot_change_first (change_refusal z command slots))
 
 -- the step of a part at each place; none where the guest touches
 abbrev pub part_at : Place → Command → Held → Option PartStep
 part_at (place.Access p) (Access gfn word op) h = access_part p gfn h.topics
 part_at (place.SlotChange p) command h = Some (slot_change_part p h command)
+part_at (place.Host p) (ChangeHost page change) h = Some (host_part p page h)
 part_at _ _ h = Some part.Seq
 
 -- 1 where the line may end with it
 abbrev pub note_at : Place → Command → Held → ℕ
 note_at (place.Access p) (Access gfn word op) h = access_note p
 note_at (place.SlotChange p) command h = slot_change_note p h
+note_at (place.Host p) (ChangeHost page change) h = host_note p page h
 note_at _ _ h = 0
 
 -- where the line stands after it
 abbrev pub outcome_at : Place → Command → Held → ℕ → Outcome
 outcome_at (place.Access p) (Access gfn word op) h v = access_outcome p h gfn op v
 outcome_at (place.SlotChange p) command h v = slot_change_outcome p h v
+outcome_at (place.Host p) (ChangeHost page change) h v = host_outcome p page h v
 outcome_at p _ h v = Goes p
 
 -- the most steps that a line has left where it stands, where nobody is in its way
@@ -56,6 +67,7 @@ abbrev pub steps_left : Place → Sizes → Topics → ℕ
 steps_left place.Between z t = 0
 steps_left (place.Access p) z t = access_left p z t
 steps_left (place.SlotChange p) z t = slot_change_left p z t
+steps_left (place.Host p) z t = host_left p z t
 
 -- ---- what a step makes besides
 
@@ -78,6 +90,7 @@ records_at _ _ slots = slots
 abbrev pub tells_at : Place → Command → Held → ℕ → List EventKind
 tells_at (place.Access p) (Access gfn word op) h v = access_tells p h gfn word op v
 tells_at (place.SlotChange p) command h v = slot_change_tells p h command v
+tells_at (place.Host p) (ChangeHost page change) h v = host_tells p page h v
 tells_at _ _ h v = []
 
 -- ---- what its actor knows there
@@ -86,6 +99,7 @@ tells_at _ _ h v = []
 abbrev pub RestsAt : Place → Command → Held → Type 0
 RestsAt (place.Access p) (Access gfn word op) h = RestsOn (access_part p gfn h.topics) gfn (is_write op) h
 RestsAt (place.SlotChange p) command h = (changes_slot command ≡ true) × PartNeeds (slot_change_part p h command) h
+RestsAt (place.Host p) (ChangeHost page change) h = PartNeeds (host_part p page h) h × HostRests p h
 RestsAt place.Between command h = Unit {0}
 RestsAt _ _ h = ⊥
 
@@ -99,6 +113,7 @@ abbrev pub KnowsPart : Place → Command → Held → Type 0
 KnowsPart place.Between command h = has_line h ≡ true → IsAtRest h.topics
 KnowsPart (place.Access p) (Access gfn word op) h = AccessKnows p gfn (is_write op) h
 KnowsPart (place.SlotChange p) command h = (changes_slot command ≡ true) × SlotChangeKnows p h
+KnowsPart (place.Host p) (ChangeHost page change) h = (change ≡ Allow) × HostKnows p page h
 KnowsPart _ _ h = ⊥
 
 -- A page leaves its use only after a publication, up to the end of the line.
@@ -109,12 +124,22 @@ may_leave (place.SlotChange change.Clear) = true
 may_leave (place.SlotChange change.Give) = true
 may_leave _ = false
 
-abbrev pub LeavesPart : Place → Topics → Type 0
-LeavesPart p t = may_leave p ≡ false → t.leaving ≡ None
+-- An invalidation of its own is open only from the store of one more to that of one less.
+abbrev pub may_open : Place → Bool
+may_open (place.Host (host.Begin p)) = is_counted p
+may_open (place.Host host.Change) = true
+may_open (place.Host (host.End ends.Release)) = false
+may_open (place.Host (host.End p)) = true
+may_open _ = false
+
+pub record LeavesPart (p : Place) (t : Topics) : Type 0 where
+  pub leaves : may_leave p ≡ false → t.leaving ≡ None
+  pub opens : may_open p ≡ false → t.invalidations.opened ≡ false
 
 -- Loads: what the line under way has loaded or stored agrees with the words of the pool and of the host, and with the published set.
 abbrev pub Holds : Sizes → (ℕ → ℕ) → (ℕ → ℕ) → ℕ → Place → Command → Held → Type 0
 Holds z pool host set (place.Access p) (Access gfn word op) h = AccessHolds pool host set p gfn h
 Holds z pool host set (place.SlotChange p) command h = SlotChangeHolds z pool p command h
+Holds z pool host set (place.Host p) (ChangeHost page change) h = Unit {0}
 Holds z pool host set place.Between command h = Unit {0}
 Holds z pool host set _ _ h = ⊥

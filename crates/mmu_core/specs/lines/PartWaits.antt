@@ -1,5 +1,5 @@
 -- Which steps of the parts wait for another actor, by what their actor holds and what they answer; and what such a step has seen.
-use Rattle.std.specs.Prelude.{◌≡◌, ◌≢◌, ◌<◌, ℕ, Bool, true, false, ◌==◌, ◌&&◌, not}
+use Rattle.std.specs.Prelude.{◌≡◌, ◌≢◌, ◌<◌, ℕ, Bool, true, false, ◌==◌, ◌&&◌, not, if◌then◌else◌, nat_lt}
 use Rattle.core_views.specs.declared.hand.Seen.{Seen}
 use Rattle.core_views.specs.declared.topics.Checked.{Checked}
 use Rattle.core_views.specs.declared.topics.Checked.TheVariants.{Count}
@@ -18,7 +18,7 @@ use Rattle.part_steps.specs.PartBounds.{PartRests}
 use Rattle.part_steps.specs.PartSteps.{PartNeeds}
 use Rattle.part_steps.specs.PartTasks.{own_index, part_kind}
 use Rattle.part_steps.specs.Tasks.{map_of}
-use Rattle.part_steps.specs.ControlTopics.{has_writer, in_section}
+use Rattle.part_steps.specs.ControlTopics.{has_writer, in_section, has_to_flush}
 
 -- The actor is to take itself out of the lock's readers: it saw a writer, in this word of the lock.
 abbrev pub is_owing : Hold → Bool
@@ -34,18 +34,23 @@ abbrev pub was_counted : Checked → Bool
 was_counted Count = true
 was_counted _ = false
 
--- It saw that some are open.
+-- how many of its own are open
+abbrev pub own_open : Invalidations → ℕ
+own_open n = if n.opened then 1 else 0
+
+-- It saw that others are open.
 abbrev pub saw_open : Invalidations → Bool
-saw_open n = was_counted n.checked && not (n.count == 0)
+saw_open n = was_counted n.checked && nat_lt (own_open n) n.count
 
 -- The step waits: it takes back the try for the lock that found a writer, the page that it tries is gone, it finds the lock taken, it gives the lock back
--- under which it saw invalidations open, or it finds another actor in the guest or in a section.
+-- under which it saw invalidations of others open, it finds another actor in the guest or in a section, or a virtual processor that has yet to flush.
 abbrev pub part_waits : PartStep → Topics → ℕ → Bool
 part_waits part.Unshare t v = is_owing t.hold
 part_waits part.Claim t v = not (is_won t.claim v)
 part_waits part.Exclude t v = not (v == 0)
 part_waits part.Release t v = saw_open t.invalidations
 part_waits (part.Watch index) t v = in_section v
+part_waits (part.Await index) t v = has_to_flush v
 part_waits _ t v = false
 
 -- What a step that waits has seen, and the word that it has seen it in: the lock's word with the writer, for which it takes itself out of the
@@ -57,7 +62,7 @@ part_seen step h v = record { word = (part_kind h step 0).word; value = v }
 
 -- What a step that waits has seen of another actor: taking itself out of the lock's readers, the lock's word with a writer; a claim, the map's word
 -- without the bit of the page that it tried, which was free; having the lock alone, the lock's word, which isn't 0; giving it back, how many
--- invalidations are open, above 0; and a watch, the state word of another actor in a section.
+-- invalidations are open, above 0; a watch, the state word of another actor in a section; and a flush, that of a virtual processor in the guest, of which it is asked.
 abbrev pub SawAnother : PartStep → Held → Seen → Type 0
 SawAnother part.Unshare h seen = (seen.word ≡ place (map_of h.state.sizes) area.Lock 0) × (has_writer seen.value ≡ true)
 SawAnother part.Claim h seen =
@@ -66,6 +71,7 @@ SawAnother part.Claim h seen =
     × (has_bit (tried_bit h.topics.claim) seen.value ≡ false)
 SawAnother part.Exclude h seen = (seen.word ≡ place (map_of h.state.sizes) area.Lock 0) × (seen.value ≢ 0)
 SawAnother part.Release h seen = (seen.word ≡ place (map_of h.state.sizes) area.Count 0) × (0 < seen.value)
+SawAnother (part.Await index) h seen = (seen.word ≡ place (map_of h.state.sizes) area.State index) × (has_to_flush seen.value ≡ true)
 SawAnother (part.Watch index) h seen =
     (seen.word ≡ place (map_of h.state.sizes) area.State index)
     × (index ≢ own_index h)

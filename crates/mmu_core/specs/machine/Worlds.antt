@@ -1,5 +1,5 @@
 -- The worlds of the machine: its start, and what a list of steps leads to and tells.
-use Rattle.std.specs.Prelude.{◌≡◌, ◌-◌, ◌*◌, ◌^◌, ◌<◌, ℕ, zero, suc, List, [], ◌∷◌, ◌++◌, All, length, true, nat_le, ◌==◌, if◌then◌else◌, slice_index}
+use Rattle.std.specs.Prelude.{◌≡◌, ◌-◌, ◌*◌, ◌^◌, ◌<◌, ℕ, zero, suc, List, [], ◌∷◌, ◌++◌, All, length, true, nat_le, ◌==◌, if◌then◌else◌, slice_index, ◌≤◌}
 use Rattle.std.specs.List.{IsDistinct}
 use Rattle.core_views.specs.declared.event.Event.{Event}
 use Rattle.core_views.specs.declared.kind.Kind.{Kind}
@@ -52,6 +52,7 @@ pub record IsStart (z : Sizes) (lines : List Line) (w : World Held) : Type 0 whe
   pub sizes : AreSizes z
   pub allowed : All (λ line. IsCommandFor z line.actor line.command) lines
   pub distinct : IsDistinct (λ i j. i == j) (slot_ids lines)
+  pub few : length lines ≤ 1000000
   pub words : AreStartWords z w.words
   pub hands : w.hands ≡ start_hands z lines (actors_of z)
 

@@ -115,17 +115,17 @@ module _ (z : Sizes) (w : World Held) (a : ℕ) (sound : IsSound z w) (others : 
   own : own_index h ≡ a
   own = ap (λ (y : Sizes). index_of y h.state.actor) (sound.holds.lines a there).sizes ∙ (sound.holds.lines a there).index
 
-  pub access_form : (p : AccessPlace) (gfn word : ℕ) (op : Op) → gfn < 2 ^ 36 → PartRests h → AccessKnows p gfn (is_write op) h
-      → AloneKnows (place.Access p) (Access gfn word op) words h.topics
+  pub access_form : (p : AccessPlace) (gfn word : ℕ) (op : Op) → gfn < 2 ^ 36 → PartRests h → h.topics.invalidations.opened ≡ false
+      → AccessKnows p gfn (is_write op) h → AloneKnows (place.Access p) (Access gfn word op) words h.topics
       → KnowsAfter z w a (place.Access p) (Access gfn word op)
-  access_form (Enter again) gfn word op small rests K L = L.form
-  access_form (Pause again) gfn word op small rests K L = pause_form gfn word op words (first_usable gfn (is_write op) h.cached.items) again _ L.form
-  access_form (Root again) gfn word op small rests K L =
+  access_form (Enter again) gfn word op small rests closed K L = L.form
+  access_form (Pause again) gfn word op small rests closed K L = pause_form gfn word op words (first_usable gfn (is_write op) h.cached.items) again _ L.form
+  access_form (Root again) gfn word op small rests closed K L =
       root_form gfn word op words again (may_walk h.topics.stay h.topics.hold) h.topics (ap (λ (s : Stay). may_walk s h.topics.hold) K.guest) L.form
-  access_form (Walk again) gfn word op small rests K L =
+  access_form (Walk again) gfn word op small rests closed K L =
       let v : ℕ = words area.Pool (pool_index (table_page h.topics.walk) (entry_index gfn h.topics.walk.level)) in
       walk_form gfn word op words (kind_of h.topics.walk.level v) (allows_access (is_write op) v) again h.topics v refl K.1.there rests.level refl L.form
-  access_form (Fault p) gfn word op small rests K L =
+  access_form (Fault p) gfn word op small rests closed K L =
       let note : ℕ = access_note (Fault p) in
       let v : ℕ = answer_in (access_task (Fault p) h gfn word op) words in
       let same = (sound.holds.lines a there).sizes in
@@ -137,6 +137,7 @@ module _ (z : Sizes) (w : World Held) (a : ℕ) (sound : IsSound z w) (others : 
         small = small;
         knows = subst (λ y. FaultKnows p y gfn (is_write op) h.topics) same K;
         seen = L.seen;
+        opens_none = closed;
         alone = L.form;
       } in
       let G : GoesThrough h.state.sizes words (own_index h) h.topics note p gfn (is_write op) =
@@ -144,6 +145,6 @@ module _ (z : Sizes) (w : World Held) (a : ℕ) (sound : IsSound z w) (others : 
       (subst (λ i. GoesThrough z words i h.topics note p gfn (is_write op)) (sym own) (goes_through z w a gfn note (is_write op) p runs)) in
       fault_form gfn word op (words_after (access_task (Fault p) h gfn word op) words) (fault_next p h.state.sizes gfn (is_write op) h.topics v)
       (part_topics (fault_part p gfn h.topics) h.topics v) G.next
-  access_form (Leave (leaving.Reached frame value)) gfn word op small rests K L = tt
-  access_form (Leave leaving.Faults) gfn word op small rests K L = tt
-  access_form Touch gfn word op small rests K L = tt
+  access_form (Leave (leaving.Reached frame value)) gfn word op small rests closed K L = tt
+  access_form (Leave leaving.Faults) gfn word op small rests closed K L = tt
+  access_form Touch gfn word op small rests closed K L = tt

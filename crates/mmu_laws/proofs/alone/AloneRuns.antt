@@ -17,7 +17,7 @@ use Rattle.spte_words.specs.declared.area.Area.TheVariants as area
 use Rattle.mmu_core.specs.declared.outcome.Outcome.{Outcome}
 use Rattle.mmu_core.specs.declared.outcome.Outcome.TheVariants.{Goes, Ends}
 use Rattle.mmu_core.specs.alone.AloneKnows.{AloneKnows}
-use Rattle.mmu_core.specs.lines.Forms.{may_leave, steps_left, outcome_at, KnowsPart}
+use Rattle.mmu_core.specs.lines.Forms.{LeavesPart, may_leave, may_open, steps_left, outcome_at, KnowsPart}
 use Rattle.mmu_core.specs.lines.Bounds.{most_steps}
 use Rattle.mmu_core.specs.machine.Enabled.{mmu}
 use Rattle.mmu_core.specs.invariant.Laws.{IsSound}
@@ -39,7 +39,7 @@ use Rattle.mmu_core.proofs.machine.Columns.{same_or, upd_other, upd_same}
 use Rattle.mmu_core.proofs.machine.Extend.{hands_of_effect}
 use Rattle.mmu_core.proofs.invariant.HandLeft.{hand_few, left_there}
 use Rattle.mmu_core.proofs.lines.Forms.{first_alone}
-use Rattle.mmu_core.proofs.lines.KnowsKept.{KnowsBehind, knows_at}
+use Rattle.mmu_core.proofs.lines.KnowsKept.{KnowsBehind, knows_at, step_leaves}
 use Rattle.mmu_core.proofs.invariant.Kept.{line_knows}
 use Rattle.mmu_core.proofs.invariant.PartBounded.{part_rests_at}
 use Rattle.mmu_core.proofs.machine.Which.{has_line_is, is_next}
@@ -49,7 +49,12 @@ use Rattle.mmu_core.proofs.machine.Worlds.{Takes, good_step, takes_line}
 standing_alone : (q : Place) (y : Sizes) (slots : MemorySlots) (command : Command) (words : Area → ℕ → ℕ) (t : Topics) → AloneKnows q command words t
     → AloneKnows (standing q y slots command) command words t
 standing_alone place.Between y slots command words t K = record {
-  seen = record { owes_none = K.seen.owes_none; saw_closed = K.seen.saw_closed; scan = λ has. absurd (begins_without y slots command has) };
+  seen = record {
+    owes_none = K.seen.owes_none;
+    saw_closed = K.seen.saw_closed;
+    scan = λ has. absurd (begins_without y slots command has);
+    snapshot = K.seen.snapshot;
+  };
   form = first_alone y slots command words t;
 }
 standing_alone _ y slots command words t K = K
@@ -61,6 +66,7 @@ between_alone command words t rests = record {
     owes_none = ap is_owing rests.loose;
     saw_closed = λ has. let loose = ap has_lock rests.loose in absurd (cc (loose, has));
     scan = λ has. absurd has;
+    snapshot = λ inside s is. let outside = rests.outside in absurd (cc (outside, inside));
   };
   form = tt;
 }
@@ -118,11 +124,19 @@ comes_nearer (Goes q) z w after a line g words sizes B H G rests = goes_on q z w
 comes_nearer (Ends answer) z w after a line g words sizes B H G rests =
     (B.sound, all, subst (λ (ws : Area → ℕ → ℕ). StarvedOnlyWithout answer z (ws area.PoolMap)) (sym B.words_are) (subst (λ y. StarvedOnlyWithout answer y (words area.PoolMap)) sizes G))
   where
-    -- no page leaves where no line is under way
+    -- its line is over
+    placed : (hand_in mmu after a).state.place ≡ place.Between
+    placed = ap (λ (x : Held). x.state.place) B.hand ∙ H.stands
+
+    -- So no page leaves, and no invalidation is open.
+    left : LeavesPart (hand_in mmu after a).state.place (hand_in mmu after a).topics
+    left = B.sound.holds.leaves a B.there
+
     own : HoldsNothing (hand_in mmu after a).topics
     own = record {
       rests = subst (λ (x : Held). IsAtRest x.topics) (sym B.hand) rests;
-      leaves_none = B.sound.holds.leaves a B.there (ap may_leave (ap (λ (x : Held). x.state.place) B.hand ∙ H.stands));
+      leaves_none = left.leaves (ap may_leave placed);
+      opens_none = left.opens (ap may_open placed);
     }
 
     all : AllRest after
@@ -161,7 +175,8 @@ module _ (z : Sizes) (w : World Held) (s : Step Kind) (L : LineAlone z w s.actor
   stepped_alone =
       let S = taken.is_step in
       alone_step z w a L.sound L.others L.there stood line.command S.begun (subst (λ c. IsCommandFor z c line.command) S.own S.allowed)
-      (part_rests_at z (view z w) a L.sound.holds L.sound.topics L.there) (is_next h s.kind may.enabled (has_line_is h L.left)).rests.at
+      (part_rests_at z (view z w) a L.sound.holds L.sound.topics L.there)
+      (step_leaves z (view z w) a line line.command stood S L.sound.holds) (is_next h s.kind may.enabled (has_line_is h L.left)).rests.at
       (knows_at z (view z w) a L.sound.holds L.there L.left)
       (standing_alone h.state.place h.state.sizes h.slots line.command words h.topics L.knows)
 

@@ -24,7 +24,7 @@ use Rattle.part_steps.specs.declared.part_step.PartStep.{PartStep}
 use Rattle.mmu_core.specs.lines.AccessSteps.{task_by, touch_of}
 use Rattle.mmu_core.specs.alone.AloneKnows.{AloneKnows, FormAlone}
 use Rattle.mmu_core.specs.machine.Enabled.{mmu}
-use Rattle.mmu_core.specs.lines.Forms.{KnowsPart, steps_left, note_at, part_at, RestsAt, outcome_at}
+use Rattle.mmu_core.specs.lines.Forms.{KnowsPart, LeavesPart, steps_left, note_at, part_at, RestsAt, outcome_at}
 use Rattle.mmu_core.specs.invariant.Laws.{IsSound}
 use Rattle.mmu_core.specs.machine.Machine.{World, hand_in}
 use Rattle.mmu_core.specs.alone.OthersRest.{OthersRest}
@@ -77,13 +77,17 @@ walks_installed : (p : Place) (command : Command) (words : Area → ℕ → ℕ)
 walks_installed (place.Access (Walk again)) (Access gfn word op) words t alone = alone
 walks_installed _ _ words t alone = tt
 
-touch_leaves : (op : Op) (index : ℕ) (words : Area → ℕ → ℕ) → words_after (touch_of op index) words area.PoolMap ≡ words area.PoolMap
-touch_leaves Read index words = refl
-touch_leaves _ index words = refl
+-- A touch leaves what its actor has seen.
+seen_touched : (before after : Type 0) (op : Op) (index : ℕ) (words : Area → ℕ → ℕ) (t : Topics) → SeenStands before words t → (after → before)
+    → SeenStands after (words_after (touch_of op index) words) t
+seen_touched before after Read index words t S keeps =
+    record { owes_none = S.owes_none; saw_closed = S.saw_closed; scan = λ has. S.scan (keeps has); snapshot = S.snapshot }
+seen_touched before after _ index words t S keeps =
+    record { owes_none = S.owes_none; saw_closed = S.saw_closed; scan = λ has. S.scan (keeps has); snapshot = S.snapshot }
 
 -- What the step comes to, put together.
 comes_alone : (o : Outcome) (command : Command) (y : Sizes) (words : Area → ℕ → ℕ) (t : Topics) (left : ℕ) → GoesUnderWay o
-    → SeenStands (HasScan (place_after o)) (words area.PoolMap) t → FormNext o command words t
+    → SeenStands (HasScan (place_after o)) words t → FormNext o command words t
     → Nearer o y t left → (o ≡ Ends Starved → NoneFreeBefore (words area.PoolMap) (words_of_bits y.pool)) → GoesAlone o command y words t left
 comes_alone (Goes p) command y words t left under seen form nearer starved = (under, record { seen = seen; form = form }, nearer)
 comes_alone (Ends answer) command y words t left under seen form nearer starved = λ e. starved (ap Ends e)
@@ -107,8 +111,8 @@ module _ (z : Sizes) (w : World Held) (a : ℕ) (sound : IsSound z w) (others : 
     abbrev o : Outcome
     o = outcome_at p command h v
 
-    abbrev map_after : ℕ → ℕ
-    map_after = words_after (task_at p command h) words area.PoolMap
+    abbrev after : Area → ℕ → ℕ
+    after = words_after (task_at p command h) words
 
     abbrev task_of : Option PartStep → Task
     task_of s = task_by s h (note_at p command h) (touch_at command h)
@@ -132,24 +136,23 @@ module _ (z : Sizes) (w : World Held) (a : ℕ) (sound : IsSound z w) (others : 
     -- What its actor has seen stands after it.
     module _ (has_scan : Type 0) (keeps : has_scan → KeepsAt p (part_at p command h)) where
       seen_by : (s : Option PartStep) → part_at p command h ≡ s
-          → SeenStands has_scan (words_after (task_of s) words area.PoolMap) (behind_part s h.topics (answer_in (task_of s) words))
+          → SeenStands has_scan (words_after (task_of s) words) (behind_part s h.topics (answer_in (task_of s) words))
       seen_by None at =
           let T = touched p command h at in
-          subst (λ (x : Task). SeenStands has_scan (words_after x words area.PoolMap) h.topics) (sym T.2)
-          (subst (λ (map : ℕ → ℕ). SeenStands has_scan map h.topics) (sym (touch_leaves T.0 T.1 words))
-          (record { owes_none = L.seen.owes_none; saw_closed = L.seen.saw_closed; scan = λ has. L.seen.scan (subst (KeepsAt p) at (keeps has)) }))
+          subst (λ (x : Task). SeenStands has_scan (words_after x words) h.topics) (sym T.2)
+          (seen_touched (HasScan p) has_scan T.0 T.1 words h.topics L.seen (λ has. subst (KeepsAt p) at (keeps has)))
       seen_by (Some step) at =
           let note : ℕ = note_at p command h in
           let u : ℕ → Topics = λ i. part_topics step h.topics (answer_in (part_task step i h.topics note) words) in
-          subst (λ i. SeenStands has_scan (words_after (part_task step i h.topics note) words area.PoolMap) (u i)) (sym own)
+          subst (λ i. SeenStands has_scan (words_after (part_task step i h.topics note) words) (u i)) (sym own)
           (seen_on z w a note sound others there (HasScan p) L.seen has_scan step (step_needs p command h step R at) (tries step at)
           (λ has. subst (KeepsAt p) at (keeps has)))
 
-      seen_after : SeenStands has_scan map_after (topics_at p command h words)
-      seen_after = subst (SeenStands has_scan map_after) (sym (topics_of_step p command h v R)) (seen_by (part_at p command h) refl)
+      seen_after : SeenStands has_scan after (topics_at p command h words)
+      seen_after = subst (SeenStands has_scan after) (sym (topics_of_step p command h v R)) (seen_by (part_at p command h) refl)
 
     -- It is starved only where no page is free.
-    starved_alone : o ≡ Ends Starved → NoneFreeBefore map_after (words_of_bits h.state.sizes.pool)
+    starved_alone : o ≡ Ends Starved → NoneFreeBefore (after area.PoolMap) (words_of_bits h.state.sizes.pool)
     starved_alone e i lt =
         let over = starves p command h v C K e in
         let past : words_of_bits h.state.sizes.pool ≤ (topics_at p command h words).claim.at =
@@ -164,25 +167,25 @@ module _ (z : Sizes) (w : World Held) (a : ℕ) (sound : IsSound z w) (others : 
 
     nearer : IsUnderWay p → IsCommandFor z h.state.actor command → PartRests h
         → Nearer o h.state.sizes (topics_at p command h words) (steps_left p h.state.sizes h.topics)
-    nearer begun may rests = place_nearer p command z h words begun may rests R K no_delay
+    nearer begun may rests = place_nearer p command z h words begun may rests R K (sound.topics.looks a there) no_delay
 
   -- ---- each line
 
-  form_after : (p : Place) (command : Command) → IsCommandFor z h.state.actor command → PartRests h → RestsAt p command h → KnowsPart p command h
-      → AloneKnows p command words h.topics
+  form_after : (p : Place) (command : Command) → IsCommandFor z h.state.actor command → PartRests h → LeavesPart p h.topics → RestsAt p command h
+      → KnowsPart p command h → AloneKnows p command words h.topics
       → KnowsAfter z w a p command
-  form_after (place.Access p) (Access gfn word op) may rests R K L =
-      access_form z w a sound others there p gfn word op (access_vcpu z h.state.actor gfn word op may).1 rests K L
-  form_after (place.Access p) _ may rests R K L = absurd R
-  form_after p command may rests R K L =
+  form_after (place.Access p) (Access gfn word op) may rests left R K L =
+      access_form z w a sound others there p gfn word op (access_vcpu z h.state.actor gfn word op may).1 rests (left.opens refl) K L
+  form_after (place.Access p) _ may rests left R K L = absurd R
+  form_after p command may rests left R K L =
       let v : ℕ = answer_in (task_at p command h) words in
       form_apart (outcome_at p command h v) command (words_after (task_at p command h) words) (behind_part (part_at p command h) h.topics v)
       (outcome_apart p command h v tt)
 
-  pub alone_step : (p : Place) (command : Command) → IsUnderWay p → IsCommandFor z h.state.actor command → PartRests h → RestsAt p command h
-      → KnowsPart p command h
+  pub alone_step : (p : Place) (command : Command) → IsUnderWay p → IsCommandFor z h.state.actor command → PartRests h → LeavesPart p h.topics
+      → RestsAt p command h → KnowsPart p command h
       → AloneKnows p command words h.topics → GoesOnAlone p command h words (topics_at p command h words)
-  alone_step p command begun may rests R K L =
+  alone_step p command begun may rests left R K L =
       let v : ℕ = answer_in (task_at p command h) words in
       let o : Outcome = outcome_at p command h v in
       let after : Area → ℕ → ℕ = words_after (task_at p command h) words in
@@ -191,6 +194,6 @@ module _ (z : Sizes) (w : World Held) (a : ℕ) (sound : IsSound z w) (others : 
         next =
             comes_alone o command h.state.sizes after (topics_at p command h words) (steps_left p h.state.sizes h.topics) (outcome_goes p command h v begun)
             (seen_after p command R K L (HasScan (place_after o)) (keeps_scan p command h v (claims_or_not p command h v R) K))
-            (subst (FormNext o command after) (sym (topics_of_step p command h v R)) (form_after p command may rests R K L))
+            (subst (FormNext o command after) (sym (topics_of_step p command h v R)) (form_after p command may rests left R K L))
             (nearer p command R K L begun may rests) (starved_alone p command R K L);
       }

@@ -43,6 +43,7 @@ use Rattle.mmu_core.proofs.lines.FaultScans.{fault_keeps, fault_tries}
 use Rattle.mmu_core.specs.lines.ScanPlaces.{BegunNext, HasBegun}
 use Rattle.mmu_core.specs.lines.ShareSteps.{is_trying}
 use Rattle.part_steps.specs.PartSteps.{PartNeeds}
+use Rattle.mmu_laws.proofs.alone.OthersOpen.{none_alone}
 use Rattle.mmu_laws.proofs.alone.PartAlone.{part_goes_alone, seen_on}
 use Rattle.mmu_core.proofs.lines.ClaimMade.{ClaimMade, claim_made}
 use Rattle.mmu_core.proofs.lines.ClaimMade as made
@@ -196,7 +197,8 @@ next_alone z w a gfn note write Share R =
 next_alone z w a gfn note write (Check stage.Count) R =
     let t : Topics = (hand_in mmu w a).topics in
     let v : ℕ = word_in z w area.Count 0 in
-    count_alone (word_in z w area.Root 0) (word_in z w area.Slots 0) (word_in z w area.Pool) gfn write v (part_topics part.Count t v) R.sound.none_opened.count
+    count_alone (word_in z w area.Root 0) (word_in z w area.Slots 0) (word_in z w area.Pool) gfn write v (part_topics part.Count t v)
+    (none_alone z w a R.sound R.others R.opens_none)
 next_alone z w a gfn note write (Check stage.Start) R = absurd R.alone
 next_alone z w a gfn note write (Check stage.End) R = absurd R.alone
 next_alone z w a gfn note write (Check stage.Seq) R =
@@ -205,7 +207,7 @@ next_alone z w a gfn note write (Check stage.Seq) R =
     let snapshot : Option ℕ = t.invalidations.snapshot in
     seq_alone (word_in z w area.Root 0) (word_in z w area.Slots 0) (word_in z w area.Pool) gfn write snapshot v
     (Unshare (Retry (Moved (snapshot_taken snapshot) v))) (part_topics part.Seq t v)
-    R.sound.none_opened.seq (R.sound.topics.looks a R.there).snapshot
+    R.knows.0.looked.snapshot (R.seen.snapshot R.knows.0.section)
 next_alone z w a gfn note write (Walk false) R = tt
 next_alone z w a gfn note write (Walk true) R =
     let t : Topics = (hand_in mmu w a).topics in

@@ -1,6 +1,6 @@
 -- What each place of a fault comes to that runs while all other actors rest, by what it finds there.
-use Rattle.std.proofs.Common.{◌≡◌, ◌≢◌, ◌≤◌, ℕ, refl, sym, subst, arith}
-use Rattle.std.specs.Prelude.{Bool, true, false, ◌==◌, if◌then◌else◌, Option, Some, None}
+use Rattle.std.proofs.Common.{◌≡◌, ◌≢◌, ℕ, refl, sym, subst, arith}
+use Rattle.std.specs.Prelude.{Bool, true, false, ◌==◌, if◌then◌else◌, Option, Some, None, is_some}
 use Rattle.std.proofs.lemmas.Bool.Decides.{nat_tests}
 use Rattle.core_views.specs.declared.place.CheckStage.TheVariants as stage
 use Rattle.core_views.specs.declared.place.FaultEnd.TheVariants.{Installed, HostFault}
@@ -41,11 +41,11 @@ module _ (root set : ℕ) (pool : ℕ → ℕ) (gfn : ℕ) (write : Bool) where
   pub count_alone : (v : ℕ) (u : Topics) → v ≡ 0 → FaultAlone (if v == 0 then Check stage.Seq else Check stage.Start) root set pool gfn write u
   count_alone v u none = subst (λ b. FaultAlone (if b then Check stage.Seq else Check stage.Start) root set pool gfn write u) (sym (is_it v 0 none)) tt
 
-  pub seq_alone : (snapshot : Option ℕ) (v : ℕ) (end_ : FaultPlace) (u : Topics) → v ≡ 0 → ((s : ℕ) → snapshot ≡ Some s → s ≤ v)
+  pub seq_alone : (snapshot : Option ℕ) (v : ℕ) (end_ : FaultPlace) (u : Topics) → is_some snapshot ≡ true → ((s : ℕ) → snapshot ≡ Some s → s ≡ v)
       → FaultAlone (if v == snapshot_taken snapshot then Walk false else end_) root set pool gfn write u
-  seq_alone None v end_ u none most = subst (λ b. FaultAlone (if b then Walk false else end_) root set pool gfn write u) (sym (is_it v 0 none)) tt
-  seq_alone (Some s) v end_ u none most =
-      subst (λ b. FaultAlone (if b then Walk false else end_) root set pool gfn write u) (sym (is_it v s (let le = most s refl in omega (arith, le, none)))) tt
+  seq_alone None v end_ u some still = absurd (cc some)
+  seq_alone (Some s) v end_ u some still =
+      subst (λ b. FaultAlone (if b then Walk false else end_) root set pool gfn write u) (sym (is_it v s (sym (still s refl)))) tt
 
   -- ---- the walk
 

@@ -1,11 +1,12 @@
 -- No step of a part waits while all other actors rest, whatever line it is of; and what its actor has seen of the words stands after it.
 use Rattle.std.proofs.Common.{◌≡◌, inl, inr, ◌+◌, ◌<◌, ℕ, refl, sym, subst, ap, ◌∙◌, arith}
-use Rattle.std.specs.Prelude.{Bool, true, false, ◌==◌, nat_lt, not, if◌then◌else◌}
+use Rattle.std.specs.Prelude.{Bool, true, false, ◌==◌, nat_lt, not, if◌then◌else◌, Some}
 use Rattle.std.proofs.lemmas.Bool.Decides.{nat_tests}
 use Rattle.core_views.specs.declared.sizes.Sizes.{Sizes}
 use Rattle.core_views.specs.declared.topics.Hold.{Hold}
 use Rattle.core_views.specs.declared.topics.Hold.TheVariants.{Shared, Owing, Exclusive}
 use Rattle.core_views.specs.declared.topics.MapClaim.{MapClaim}
+use Rattle.core_views.specs.declared.topics.Stay.TheVariants.{Section}
 use Rattle.core_views.specs.declared.topics.Topics.{Topics}
 use Rattle.core_views.specs.Held.{Held}
 use Rattle.core_views.specs.Sizes.{actors_of, index_of}
@@ -18,7 +19,7 @@ use Rattle.part_steps.specs.PartSteps.{GoesOnToWord, PartNeeds}
 use Rattle.part_steps.specs.PartTopics.{part_topics}
 use Rattle.part_steps.specs.PageTopics.{is_won}
 use Rattle.part_steps.specs.ControlTopics.{has_writer}
-use Rattle.part_steps.specs.StayTopics.{has_lock}
+use Rattle.part_steps.specs.StayTopics.{has_lock, is_loose}
 use Rattle.mmu_core.specs.alone.OthersRest.{OthersRest}
 use Rattle.mmu_core.specs.alone.SeenStands.{NoneFreeBefore, ScanStands, SeenStands}
 use Rattle.mmu_core.specs.invariant.Laws.{IsSound}
@@ -30,9 +31,9 @@ use Rattle.mmu_core.proofs.invariant.AloneLaws.{lock_free, outside_word}
 use Rattle.mmu_core.proofs.lines.ClaimMade.{saw_bit}
 use Rattle.mmu_core.proofs.lines.FaultScans.{KeepsScan, gives}
 use Rattle.mmu_core.proofs.lines.FaultScans as scans
-use Rattle.mmu_core.proofs.lines.PartsWait.{none_open}
 use Rattle.mmu_core.proofs.lines.ShareMade.{no_writer}
 use Rattle.mmu_laws.proofs.alone.FaultComes.{is_it}
+use Rattle.mmu_laws.proofs.alone.OthersOpen.{flushed_alone, none_more, own_alone}
 use Rattle.mmu_core.proofs.lines.NotOpen.{closed_on}
 
 -- ---- a scan of the map
@@ -91,14 +92,17 @@ module _ (z : Sizes) (w : World Held) (a note : ℕ) (sound : IsSound z w) (othe
   abbrev found : PartStep → ℕ
   found step = answer_in (part_task step a t note) words
 
+  abbrev after : PartStep → Area → ℕ → ℕ
+  after step = words_after (part_task step a t note) words
+
   abbrev map_after : PartStep → ℕ → ℕ
-  map_after step = words_after (part_task step a t note) words area.PoolMap
+  map_after step = after step area.PoolMap
 
   own : own_index h ≡ a
   own = ap (λ (y : Sizes). index_of y h.state.actor) (sound.holds.lines a there).sizes ∙ (sound.holds.lines a there).index
 
-  module _ (has_scan : Type 0) (S : SeenStands has_scan (words area.PoolMap) t) where
-    -- The lock is free, nobody else is in a section, and the page that is tried is there still.
+  module _ (has_scan : Type 0) (S : SeenStands has_scan words t) where
+    -- The lock is free, nobody else is in a section or has a flush to make, no invalidation of others is open, and the page that is tried is there still.
     pub part_goes_alone : (step : PartStep) → PartNeeds step h → (step ≡ part.Claim → has_scan) → part_waits step t (found step) ≡ false
     part_goes_alone part.Unshare N tries = S.owes_none
     part_goes_alone part.Claim N tries =
@@ -107,6 +111,10 @@ module _ (z : Sizes) (w : World Held) (a note : ℕ) (sound : IsSound z w) (othe
     part_goes_alone part.Release N tries = S.saw_closed (ap (λ (x : Hold). has_lock x) N)
     part_goes_alone (part.Watch index) N tries =
         outside_word z w a index sound others (subst (λ (y : Sizes). index < actors_of y) (sound.holds.lines a there).sizes N.0) (λ e. N.1 (e ∙ sym own))
+    part_goes_alone (part.Await index) N tries =
+        let few = N.0 in
+        let asked = (sound.topics.counters a there).asked in
+        flushed_alone z w a sound others index (omega (arith, few, asked)) N.2
     part_goes_alone _ N tries = refl
 
     -- The actor comes to owe no reader, since the lock is free.
@@ -117,14 +125,30 @@ module _ (z : Sizes) (w : World Held) (a note : ℕ) (sound : IsSound z w) (othe
     owes_on part.Release N = refl
     owes_on _ N = S.owes_none
 
-    -- It sees no invalidation open, since none is.
+    -- It sees no invalidation of others open, since none is.
     closed_after : (step : PartStep) → has_lock (part_topics step t (found step)).hold ≡ true → saw_open (part_topics step t (found step)).invalidations ≡ false
-    closed_after part.Count has = none_open (part_topics part.Count t (found part.Count)).invalidations sound.none_opened.count
+    closed_after part.Count has = none_more (part_topics part.Count t (found part.Count)).invalidations (own_alone z w a sound others)
     closed_after part.Share has = refl
     closed_after part.Unshare has = refl
     closed_after part.Exclude has = refl
     closed_after part.Release has = refl
     closed_after step has = closed_on step t (found step) refl (S.saw_closed has)
+
+    -- The snapshot that it has taken in a section is the sequence number, which it raises outside of sections alone.
+    taken_now : (loose : Bool) (s : ℕ) → (t.stay ≡ Section) → (if loose then Some (words area.Seq 0) else t.invalidations.snapshot) ≡ Some s
+        → s ≡ words area.Seq 0
+    taken_now true s inside is = cc is
+    taken_now false s inside is = S.snapshot inside s is
+
+    snapshot_on : (step : PartStep) → PartNeeds step h → (part_topics step t (found step)).stay ≡ Section → (s : ℕ)
+        → (part_topics step t (found step)).invalidations.snapshot ≡ Some s → s ≡ after step area.Seq 0
+    snapshot_on part.Enter N inside s is = absurd (cc is)
+    snapshot_on part.Leave N inside s is = absurd (cc is)
+    snapshot_on part.Begin N inside s is = absurd (cc is)
+    snapshot_on part.End N inside s is = absurd (cc is)
+    snapshot_on part.Seq N inside s is = taken_now (is_loose t.hold) s inside is
+    snapshot_on (part.SetSeq seq) N inside s is = let outside = N.0.outside in absurd (cc (outside, inside))
+    snapshot_on _ N inside s is = S.snapshot inside s is
 
     -- A scan stands, as long as the actor gives no page back.
     scan_on : (step : PartStep) → PartNeeds step h → ScanStands (words area.PoolMap) t.claim → gives step ≡ false → part_waits step t (found step) ≡ false
@@ -147,5 +171,10 @@ module _ (z : Sizes) (w : World Held) (a note : ℕ) (sound : IsSound z w) (othe
 
     -- So what it has seen stands after the step.
     pub seen_on : (next : Type 0) (step : PartStep) → PartNeeds step h → (step ≡ part.Claim → has_scan) → (next → KeepsScan has_scan step)
-        → SeenStands next (map_after step) (part_topics step t (found step))
-    seen_on next step N tries keeps = record { owes_none = owes_on step N; saw_closed = closed_after step; scan = λ has. scan_kept step N tries (keeps has) }
+        → SeenStands next (after step) (part_topics step t (found step))
+    seen_on next step N tries keeps = record {
+      owes_none = owes_on step N;
+      saw_closed = closed_after step;
+      scan = λ has. scan_kept step N tries (keeps has);
+      snapshot = snapshot_on step N;
+    }

@@ -1,7 +1,8 @@
 -- What each actor has seen that waits for another one, in every list of steps from a world in which it has seen nothing, whatever it does: of the lock the
 -- writer that it found, of the open invalidations their count, and of the pool's map the word that its claim has come to.
-use Rattle.std.proofs.Common.{◌≡◌, ◌≢◌, ◌⊎◌, inl, inr, ◌<◌, ◌≤◌, ◌+◌, ℕ, List, [], ◌∷◌, ◌++◌, refl, sym, subst, ap, ◌∙◌, arith}
-use Rattle.std.specs.Prelude.{Bool, true, false, ◌==◌, not, if◌then◌else◌}
+use Rattle.part_steps.specs.StayTopics.{has_lock}
+use Rattle.std.proofs.Common.{◌≡◌, ◌≢◌, ◌⊎◌, inl, inr, ◌<◌, ◌≤◌, ◌+◌, ℕ, List, [], ◌∷◌, ◌++◌, refl, sym, subst, ap, ◌∙◌, arith, nat_lt}
+use Rattle.std.specs.Prelude.{Bool, true, false, ◌==◌, if◌then◌else◌}
 use Rattle.std.proofs.lemmas.Bool.Decides.{nat_tests}
 use Rattle.core_views.specs.declared.kind.Kind.{Kind}
 use Rattle.core_views.specs.declared.sizes.Sizes.{Sizes}
@@ -24,7 +25,7 @@ use Rattle.mmu_laws.specs.causes.Causes.{Finds}
 use Rattle.mmu_core.specs.machine.Enabled.{mmu}
 use Rattle.mmu_core.specs.invariant.Laws.{IsSound}
 use Rattle.mmu_core.specs.machine.Machine.{Legal, May, Step, World, answered, effect, hand_in, run}
-use Rattle.mmu_core.specs.lines.PartWaits.{is_owing, saw_open}
+use Rattle.mmu_core.specs.lines.PartWaits.{is_owing, saw_open, own_open}
 use Rattle.mmu_laws.specs.causes.Waits.{FindsWriter, FoundCount, FoundWriter, IsOffLockAndCount, IsOffWord, LoadsCount, SawNothing, count_word, lock_word, pool_word}
 use Rattle.mmu_laws.proofs.causes.Changes.{Knows, knows_longer, made_longer, made_now, of_each_list}
 use Rattle.mmu_laws.proofs.causes.ClaimSeen.{mapped_saw, tried_saw}
@@ -129,10 +130,12 @@ module _ (z : Sizes) (w : World Held) (ss : List (Step Kind)) (s : Step Kind) (G
   counted_saw part.Count M S is =
       let finds : Finds a (count_word z) v u s = record { by_actor = refl; on = word_on z u s G may part.Count M; finds = load_finds z u s G may part.Count M tt } in
       made_now (LoadsCount z a t.hold v) (IsOffLockAndCount z a) w ss s (record { loads = ap (λ (k : Kind). k.code) M.is; finds = finds; under = refl })
-  counted_saw part.RangeStart M S is = let none = start_not_open t.invalidations.checked (not (t.invalidations.count == 0)) in absurd (cc (none, is))
-  counted_saw part.RangeEnd M S is = let none = range_not_open t.invalidations.checked (not (t.invalidations.count == 0)) in absurd (cc (none, is))
+  counted_saw part.RangeStart M S is = let none = start_not_open t.invalidations.checked (nat_lt (own_open t.invalidations) t.invalidations.count) in absurd (cc (none, is))
+  counted_saw part.RangeEnd M S is = let none = range_not_open t.invalidations.checked (nat_lt (own_open t.invalidations) t.invalidations.count) in absurd (cc (none, is))
   counted_saw part.Seq M S is =
-      let none = seq_not_open t.invalidations.count t.invalidations.checked (not (t.invalidations.count == 0)) in absurd (cc (none, is))
+      let none = seq_not_open (has_lock t.hold) t.invalidations.count t.invalidations.checked (nat_lt (own_open t.invalidations) t.invalidations.count) in absurd (cc (none, is))
+  counted_saw (part.SetCount count) M S is = absurd (cc is)
+  counted_saw (part.SetSeq seq) M S is = absurd (cc is)
   counted_saw part.Enter M S is = absurd (cc is)
   counted_saw part.Leave M S is = absurd (cc is)
   counted_saw part.Begin M S is = absurd (cc is)

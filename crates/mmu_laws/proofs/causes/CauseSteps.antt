@@ -50,11 +50,13 @@ IsLoad part.Root = Unit {0}
 IsLoad (part.Walk gfn) = Unit {0}
 IsLoad (part.Host page) = Unit {0}
 IsLoad (part.Watch index) = Unit {0}
+IsLoad (part.Await index) = Unit {0}
 IsLoad _ = ⊥
 
 pub load_leaves : (step : PartStep) (h : Held) (note n : ℕ) → IsLoad step → (after (part_kind h step note) n ≡ n) × (answer (part_kind h step note) n ≡ n)
 unfolding after answer
 load_leaves part.Pause h note n is = (refl, refl)
+load_leaves (part.Await index) h note n is = (refl, refl)
 load_leaves (part.Map word) h note n is = (refl, refl)
 load_leaves part.Slots h note n is = (refl, refl)
 load_leaves part.Slot h note n is = (refl, refl)

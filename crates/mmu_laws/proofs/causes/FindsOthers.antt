@@ -1,4 +1,9 @@
 -- Whom a step of an actor finds in its way: who has the lock where its word isn't 0, and who is inside where its state word says so.
+use Rattle.spte_words.specs.Bits.{has_bit}
+use Rattle.mmu_core.specs.invariant.StatesPart.{stay_bits}
+use Rattle.mmu_core.proofs.lines.FaultSame.{both}
+use Rattle.std.specs.Prelude.{◌%◌}
+use Rattle.core_views.specs.declared.topics.Stay.TheVariants.{Guest, Outside, Section}
 use Rattle.std.proofs.Common.{◌≡◌, ◌≢◌, ◌⊎◌, inl, inr, ◌<◌, ◌≤◌, ◌+◌, ◌*◌, ◌^◌, ℕ, refl, sym, subst, ap, ◌∙◌, arith}
 use Rattle.std.specs.Prelude.{true, false, ◌==◌, nat_le, not}
 use Rattle.std.proofs.lemmas.Bool.Decides.{nat_tests}
@@ -19,15 +24,21 @@ use Rattle.part_steps.specs.PartTasks.{own_index}
 use Rattle.part_steps.specs.PartSteps.{counts}
 use Rattle.mmu_core.specs.machine.Sums.{one_if}
 use Rattle.part_steps.specs.StayTopics.{is_alone, is_outside}
-use Rattle.part_steps.specs.ControlTopics.{has_writer, in_section}
+use Rattle.part_steps.specs.ControlTopics.{has_writer, in_section, has_to_flush}
 use Rattle.mmu_core.specs.machine.View.{word_in}
-use Rattle.mmu_laws.specs.causes.Waits.{FindsLockTaken, FindsOtherInside, FindsWriter}
+use Rattle.mmu_laws.specs.causes.Waits.{FindsLockTaken, FindsOtherInside, FindsWriter, FindsToFlush}
 use Rattle.mmu_core.proofs.invariant.AloneLaws.{part_found}
 use Rattle.mmu_core.proofs.machine.Columns.{same_or}
 use Rattle.mmu_core.proofs.held.LockKept.{few_actors}
 use Rattle.mmu_laws.proofs.causes.MadeSteps.{Makes, exchange_finds, in_machine, load_finds, own_sizes, word_on}
 use Rattle.mmu_core.proofs.held.StateTells.{word_tells}
 use Rattle.mmu_core.proofs.machine.SumsBelow.{Contributes, one_small, sum_le, sum_some}
+
+-- Whose state word has bit 0 is in the guest.
+in_guest : (stay : Stay) (n : ℕ) → n % 4 ≡ stay_bits stay → has_bit 0 n ≡ true → stay ≡ Guest
+in_guest Guest n is odd = refl
+in_guest Outside n is odd = absurd (grind (arith, nat_tests))
+in_guest Section n is odd = absurd (grind (arith, nat_tests))
 
 module _ (z : Sizes) (u : World Held) (s : Step Kind) (G : IsSound z u) (may : May mmu u s) where
   abbrev h : Held
@@ -130,3 +141,27 @@ module _ (z : Sizes) (u : World Held) (s : Step Kind) (G : IsSound z u) (may : M
 
       stands : v ≡ word_in z u area.State index
       stands = ap (answered mmu u) M.is ∙ part_found z u s.actor (part.Watch index) M.note G there M.needs
+
+  pub to_flush : (index : ℕ) → Makes h s (part.Await index) → has_to_flush v ≡ true → FindsToFlush z u s
+  to_flush index M is = record {
+    other = index;
+    there = low;
+    is_other = λ e. let own : h.topics.stay ≡ Guest = ap (λ (i : ℕ). (hand_in mmu u i).topics.stay) (sym e) ∙ guest in let outside = M.needs.2 in cc (own, outside);
+    on = word_on z u s G may (part.Await index) M;
+    tells = ap has_to_flush (load_finds z u s G may (part.Await index) M tt) ∙ is;
+    inside = guest;
+  }
+    where
+      low : index < z.vcpus
+      low = let few = (G.topics.counters s.actor there).asked in let lt = M.needs.0 in omega (arith, few, lt)
+
+      in_ : index < actors_of z
+      in_ = omega (arith, low)
+
+      stands : v ≡ word_in z u area.State index
+      stands = ap (answered mmu u) M.is ∙ part_found z u s.actor (part.Await index) M.note G there M.needs
+
+      guest : (hand_in mmu u index).topics.stay ≡ Guest
+      guest =
+          in_guest (hand_in mmu u index).topics.stay (word_in z u area.State index) (G.topics.states_part index in_).1
+          (both (has_bit 0 (word_in z u area.State index)) (has_bit 2 (word_in z u area.State index)) (ap has_to_flush (sym stands) ∙ is)).0

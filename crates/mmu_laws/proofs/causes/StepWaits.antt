@@ -1,7 +1,7 @@
 -- Each step of a part that waits has its cause, whoever makes it.
-use Rattle.std.proofs.Common.{◌≡◌, ◌<◌, ℕ, List, [], ◌∷◌, refl, sym, subst, ap, arith}
-use Rattle.std.specs.Prelude.{true, ◌==◌, ◌&&◌, not}
-use Rattle.std.proofs.lemmas.Bool.Decides.{nat_tests}
+use Rattle.mmu_laws.proofs.causes.WaitsSee.{more}
+use Rattle.std.proofs.Common.{◌≡◌, ◌<◌, ℕ, List, [], ◌∷◌, refl, sym, subst, ap}
+use Rattle.std.specs.Prelude.{true}
 use Rattle.core_views.specs.declared.kind.Kind.{Kind}
 use Rattle.core_views.specs.declared.sizes.Sizes.{Sizes}
 use Rattle.core_views.specs.declared.topics.Hold.{Hold}
@@ -13,12 +13,11 @@ use Rattle.part_steps.specs.declared.part_step.PartStep.TheVariants as part
 use Rattle.mmu_core.specs.machine.Enabled.{mmu}
 use Rattle.mmu_core.specs.invariant.Laws.{IsSound}
 use Rattle.mmu_core.specs.machine.Machine.{May, Step, World, answered, hand_in, run}
-use Rattle.mmu_core.specs.lines.PartWaits.{is_owing, part_waits, was_counted, word_owed}
+use Rattle.mmu_core.specs.lines.PartWaits.{is_owing, part_waits, word_owed, saw_open}
 use Rattle.mmu_laws.specs.causes.Waits.{FoundCount, FoundWriter, StepWaitIsCaused, StepWaitsAreByCause}
 use Rattle.mmu_laws.proofs.causes.ActorSaw.{ActorSaw, actor_saw}
 use Rattle.mmu_laws.proofs.causes.ClaimSeen.{page_taken}
-use Rattle.mmu_core.proofs.lines.FaultSame.{both}
-use Rattle.mmu_laws.proofs.causes.FindsOthers.{lock_taken, other_inside}
+use Rattle.mmu_laws.proofs.causes.FindsOthers.{lock_taken, other_inside, to_flush}
 use Rattle.mmu_laws.proofs.causes.MadeSteps.{Makes}
 use Rattle.mmu_laws.proofs.causes.StarvedScan.{legal_parts}
 use Rattle.mmu_core.proofs.machine.Worlds.{good_run}
@@ -40,18 +39,16 @@ module _ (z : Sizes) (w : World Held) (ss : List (Step Kind)) (s : Step Kind) (G
   owes (Owing word) is owing S = subst (λ m. FoundWriter z s.actor m w ss) (sym (ap word_owed is)) (S.owing word is)
   owes _ is owing S = absurd (cc owing)
 
-  saw_some : h.topics.hold ≡ Exclusive → (was_counted h.topics.invalidations.checked && not (h.topics.invalidations.count == 0)) ≡ true → Saw h.topics → FoundCount z s.actor Exclusive h.topics.invalidations.count w ss × (0 < h.topics.invalidations.count)
-  saw_some alone open_ S = let B = both (was_counted h.topics.invalidations.checked) (not (h.topics.invalidations.count == 0)) open_ in
-      (subst (λ hold. FoundCount z s.actor hold h.topics.invalidations.count w ss) alone (S.counted open_), more h.topics.invalidations.count B.1)
-    where
-      more : (n : ℕ) → not (n == 0) ≡ true → 0 < n
-      more n is = grind (arith, nat_tests)
+  saw_some : h.topics.hold ≡ Exclusive → saw_open h.topics.invalidations ≡ true → Saw h.topics
+      → FoundCount z s.actor Exclusive h.topics.invalidations.count w ss × (0 < h.topics.invalidations.count)
+  saw_some alone open_ S = (subst (λ hold. FoundCount z s.actor hold h.topics.invalidations.count w ss) alone (S.counted open_), more h.topics.invalidations open_)
 
   caused : (step : PartStep) → Makes h s step → part_waits step h.topics v ≡ true → Saw h.topics → StepWaitIsCaused step z w ss s
   caused part.Unshare M is S = owes h.topics.hold refl is S
   caused part.Claim M is S = page_taken z w ss s G may is M (S.claim M.needs.1)
   caused part.Exclude M is S = lock_taken z u s G may M is
   caused part.Release M is S = saw_some M.needs is S
+  caused (part.Await index) M is S = to_flush z u s G may index M is
   caused (part.Watch index) M is S = other_inside z u s G may index M is
   caused _ M is S = absurd (cc is)
 

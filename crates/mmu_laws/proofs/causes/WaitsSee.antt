@@ -1,5 +1,5 @@
 -- What a step of a part has seen that waits.
-use Rattle.std.proofs.Common.{◌≡◌, ◌≢◌, ◌<◌, ℕ, refl, sym, subst, arith}
+use Rattle.std.proofs.Common.{◌≡◌, ◌≢◌, ◌<◌, ℕ, refl, sym, subst, arith, nat_lt}
 use Rattle.std.specs.Prelude.{true, ◌==◌, not}
 use Rattle.std.proofs.lemmas.Bool.Decides.{nat_tests}
 use Rattle.core_views.specs.declared.topics.Hold.{Hold}
@@ -9,7 +9,7 @@ use Rattle.core_views.specs.Held.{Held}
 use Rattle.part_steps.specs.declared.part_step.PartStep.TheVariants as part
 use Rattle.part_steps.specs.ControlTopics.{has_writer}
 use Rattle.part_steps.specs.PageTopics.{is_won}
-use Rattle.mmu_core.specs.lines.PartWaits.{WaitsSeeAnother, is_owing, saw_open, was_counted, word_owed}
+use Rattle.mmu_core.specs.lines.PartWaits.{WaitsSeeAnother, is_owing, saw_open, was_counted, word_owed, own_open}
 use Rattle.mmu_core.proofs.lines.FaultSame.{both, is_not}
 
 -- It takes itself out of the lock's readers.
@@ -22,13 +22,17 @@ some : (n : ℕ) → not (n == 0) ≡ true → n ≢ 0
 some n is = grind (arith, nat_tests)
 
 -- It saw invalidations open.
-more : (n : Invalidations) → saw_open n ≡ true → 0 < n.count
-more n is = let above = some n.count (both (was_counted n.checked) (not (n.count == 0)) is).1 in omega (arith, above)
+pub more : (n : Invalidations) → saw_open n ≡ true → 0 < n.count
+more n is = above (own_open n) n.count (both (was_counted n.checked) (nat_lt (own_open n) n.count) is).1
+  where
+    above : (own n : ℕ) → nat_lt own n ≡ true → 0 < n
+    above own n is = grind (arith, nat_tests)
 
 pub waits_see_another : WaitsSeeAnother
 waits_see_another part.Unshare h v R needs is = (refl, owes h.topics.hold h refl is R.saw_writer)
 waits_see_another part.Claim h v R needs is = (refl, needs.1, is_not (is_won h.topics.claim v) is)
 waits_see_another part.Exclude h v R needs is = (refl, some v is)
 waits_see_another part.Release h v R needs is = (refl, more h.topics.invalidations is)
+waits_see_another (part.Await index) h v R needs is = (refl, is)
 waits_see_another (part.Watch index) h v R needs is = (refl, needs.1, is)
 waits_see_another _ h v R needs is = absurd (cc is)

@@ -1,11 +1,12 @@
 -- What the hands hold behind a list of steps is what its history tells; where all is answered it answers the trace.
+use Rattle.core_views.specs.declared.trace.HostChange.TheVariants.{Allow}
 use Rattle.std.proofs.Common.{◌≡◌, ◌⊎◌, inl, inr, ◌+◌, ◌-◌, ◌<◌, ◌≤◌, ℕ, List, [], ◌∷◌, ◌++◌, length, take, refl, sym, subst, ap, ◌∙◌, arith}
 use Rattle.std.specs.Prelude.{All, Bool, true, false, ◌==◌, map, nat_lt, if◌then◌else◌}
 use Rattle.std.proofs.lemmas.Bool.Decides.{nat_tests}
 use Rattle.std.proofs.lemmas.List.{append-nil, take_all}
 use Rattle.std.proofs.lemmas.List.Elements.{All-head, All-tail, All-weaker}
 use Rattle.core_views.specs.declared.actor.Actor.{Actor}
-use Rattle.core_views.specs.declared.actor.Actor.TheVariants.{Vcpu, Manager}
+use Rattle.core_views.specs.declared.actor.Actor.TheVariants.{Vcpu, Manager, Host}
 use Rattle.core_views.specs.declared.answer.AnsweredLine.{AnsweredLine}
 use Rattle.core_views.specs.declared.event.Event.{Event}
 use Rattle.core_views.specs.declared.kind.Kind.{Kind}
@@ -13,7 +14,7 @@ use Rattle.core_views.specs.declared.place.Place.{Place}
 use Rattle.core_views.specs.declared.place.Place.TheVariants as place
 use Rattle.core_views.specs.declared.sizes.Sizes.{Sizes}
 use Rattle.core_views.specs.declared.trace.Command.{Command}
-use Rattle.core_views.specs.declared.trace.Command.TheVariants.{Access}
+use Rattle.core_views.specs.declared.trace.Command.TheVariants.{Access, ChangeHost}
 use Rattle.core_views.specs.declared.trace.Line.{Line}
 use Rattle.core_views.specs.Actors.{is_same}
 use Rattle.core_views.specs.Held.{Held, first_held}
@@ -170,6 +171,9 @@ present : (z : Sizes) (actor : Actor) (command : Command) → IsCommandFor z act
 present z (Vcpu n) (Access gfn word op) may = (n, omega (arith, may.0), rw (less n z.vcpus may.0) refl)
 present z Manager command may =
     (z.vcpus + z.hosts, omega arith, rw (not_less (z.vcpus + z.hosts) z.vcpus (omega arith), not_less (z.vcpus + z.hosts - z.vcpus) z.hosts (omega arith), equal (z.vcpus + z.hosts)) refl)
+present z (Host n) (ChangeHost page Allow) may =
+    let same : z.vcpus + n - z.vcpus ≡ n = omega arith in
+    (z.vcpus + n, omega (arith, may), rw (not_less (z.vcpus + n) z.vcpus (omega arith), less (z.vcpus + n - z.vcpus) z.hosts (omega (arith, same, may))) (ap Host same))
 present z _ (Access gfn word op) may = absurd may
 present z _ _ may = absurd may
 

@@ -36,7 +36,7 @@ use Rattle.mmu_core.proofs.lines.KnowsKept.{step_knows}
 use Rattle.mmu_core.proofs.words.SlotLists.{none_below}
 use Rattle.mmu_core.proofs.start.Starts.{hand_is, none_live, start_good, word_at_start}
 use Rattle.mmu_core.proofs.machine.Which.{events_of_part, has_line_is}
-use Rattle.mmu_core.proofs.machine.Worlds.{Takes, TakesPart, good_step, takes, view_small}
+use Rattle.mmu_core.proofs.machine.Worlds.{Takes, TakesPart, good_step, takes, are_small}
 use Rattle.mmu_core.proofs.invariant.Kept.{makes_at}
 use Rattle.mmu_laws.proofs.flat.FlatKept.{flat_kept, told_events, told_is_events}
 use Rattle.mmu_laws.proofs.flat.FlatStill.{others_held, under_still}
@@ -105,7 +105,7 @@ run_flat z w f (s ∷ ss) G F legal = by (takes z w s G legal.0) (λ es F. run_f
     by (inl T) more =
         let es : List Event = told_events (view z w) s.actor (line_at h.state.place h) (line_at h.state.place h).command (place_at h.state.place h) in
         let is : events_of h (answered mmu w s.kind) ≡ es = ap (events_of h) T.answers ∙ sym (told_is_events z (view z w) s.actor (line_at h.state.place h) (place_at h.state.place h) T.is_step) in
-        let K = flat_kept z (view z w) f s.actor (line_at h.state.place h) (line_at h.state.place h).command (place_at h.state.place h) T.is_step G.holds G.topics (makes_at z (view z w) s.actor (line_at h.state.place h) (line_at h.state.place h).command (place_at h.state.place h) (view_small z w G.small) T.is_step G.holds G.topics)
+        let K = flat_kept z (view z w) f s.actor (line_at h.state.place h) (line_at h.state.place h).command (place_at h.state.place h) T.is_step G.holds G.topics (makes_at z (view z w) s.actor (line_at h.state.place h) (line_at h.state.place h).command (place_at h.state.place h) (are_small z w G) T.is_step G.holds G.topics)
         (step_knows z (view z w) s.actor (line_at h.state.place h) (line_at h.state.place h).command (place_at h.state.place h) T.is_step G.holds) G.no_pause F in
         let then_ = more es (subst (λ (v : View). FlatInvariant z v (after_all es f)) (sym T.leads) K.1) in
         subst Tells (sym is) (stays_flat z (run mmu (effect mmu w s) ss) f es (history (effect mmu w s) ss) K.0 then_)

@@ -1,4 +1,14 @@
 -- What each form of line tells of flat memory, a clause a form: its steps' events stand within the line and are lawful, and where it begins it is under way.
+use Rattle.mmu_laws.proofs.flat.HostFlat.{host_goes_on}
+use Rattle.part_steps.specs.PartTasks.{word_looked}
+use Rattle.std.specs.Prelude.{◌==◌}
+use Rattle.core_views.specs.HostChanges.{is_own}
+use Rattle.mmu_core.proofs.lines.EitherPlace.{either_place}
+use Rattle.mmu_core.specs.lines.HostSteps.{host_tells, entry_of, word_put, host_part}
+use Rattle.core_views.specs.declared.place.HostPlace.{HostPlace}
+use Rattle.core_views.specs.declared.place.HostPlace.TheVariants as host_at
+use Rattle.core_views.specs.declared.trace.Command.TheVariants.{ChangeHost}
+use Rattle.core_views.specs.declared.event.EventKind.TheVariants.{HostChanged, LookedAtHost}
 use Rattle.std.proofs.Common.{◌≡◌, ℕ, List, [], ◌∷◌, refl}
 use Rattle.std.specs.Prelude.{Bool, true, false, if◌then◌else◌, Option, Some, None}
 use Rattle.core_views.specs.declared.answer.Refusal.{Refusal}
@@ -69,10 +79,17 @@ slot_change_within (Claim begun) h command v = exit_within (slot_change_outcome 
 slot_change_within Publish h command v = change_within (slot_change h.slots command)
 slot_change_within _ h command v = tt
 
+host_within : (p : HostPlace) (page : ℕ) (h : Held) (v : ℕ) → AllWithin (host_tells p page h v)
+host_within host_at.Look page h v = either_place AllWithin (is_own h.state.sizes h.state.actor page) (LookedAtHost page ∷ []) [] (tt, tt) tt
+host_within host_at.Change page h v =
+    either_place AllWithin (v == word_looked h.topics.host) (HostChanged page (entry_of (word_put h.topics)) ∷ []) [] (tt, tt) tt
+host_within _ page h v = tt
+
 -- Besides its begin and its answer, a line tells only events that stand within it: a clause for each form of line.
 pub tells_within : (p : Place) (command : Command) (h : Held) (v : ℕ) → AllWithin (tells_at p command h v)
 tells_within (place.Access p) (Access gfn word op) h v = access_within p h gfn word op v
 tells_within (place.SlotChange p) command h v = slot_change_within p h command v
+tells_within (place.Host p) (ChangeHost page change) h v = host_within p page h v
 tells_within _ _ h v = tt
 
 -- The step of each place, once its line has begun.
@@ -84,12 +101,15 @@ step_goes z v a line (Access gfn word op) (place.Access p) f u S I P part K R =
     access_goes z v a line gfn word f.facts f.past u op p S I P (part_or z v a (access_part p gfn (v.hand a).topics) part) K R
 step_goes z v a line command (place.SlotChange p) f u S I P part K R =
     slot_change_goes z v a line command f.facts f.past u p K.0 S I P (part (slot_change_part p (v.hand a) command) refl) R
+step_goes z v a line (ChangeHost page change) (place.Host p) f u S I P part K R =
+    host_goes_on z v a line page change f.facts f.past u p K.0 K.1 S I P (part (host_part p page (v.hand a)) refl) R
 step_goes z v a line _ _ f u S I P part K R = absurd S.holds
 
 -- A line that begins is under way, and has done nothing.
 pub first_at : (pool : ℕ → ℕ) (z : Sizes) (slots : MemorySlots) (line : Line) (command : Command) (t : Topics) (u : LineUnderWay) → u.stage ≡ Fresh
     → u.line ≡ line → UnderAt pool (first_place z slots command) line command t u
 first_at pool z slots line (Access gfn word op) t u fresh is = (is, fresh)
+first_at pool z slots line (ChangeHost page change) t u fresh is = (is, fresh)
 first_at pool z slots line command t u fresh is = (is, first_set (change_refusal z command slots))
   where
     first_set : (r : Option Refusal) → SlotChangeUnder (slot_change_first r) u

@@ -1,6 +1,11 @@
 -- The steps of the examples, by computation.
+use Rattle.mmu_core.specs.invariant.Laws.{IsSound}
+use Rattle.mmu_core.specs.machine.Worlds.{IsStart}
+use Rattle.core_views.specs.Held.{Held}
+use Rattle.spte_words.specs.declared.area.Area.{Area}
+use Rattle.core_views.proofs.HeaderSizes.{four}
 use lib.Count.{count_trailing_zeros}
-use Rattle.std.proofs.Common.{ℕ, List, ◌<◌, ◌≤◌, ◌+◌, ◌/◌, ◌%◌, lit≤, ◌≡◌, [], ◌∷◌, refl, sym, subst, ap, ◌∙◌, arith, lit<}
+use Rattle.std.proofs.Common.{ℕ, List, ◌<◌, ◌≤◌, ◌+◌, ◌/◌, ◌%◌, lit≤, ◌≡◌, [], ◌∷◌, refl, sym, subst, ap, ◌∙◌, arith, lit<, length}
 use Rattle.std.proofs.lemmas.Fmt.{decimal_digit, decimal_step}
 use Rattle.std.specs.Fmt.{decimal}
 use Rattle.std.specs.List.{IsDistinct}
@@ -19,11 +24,11 @@ use Rattle.spte_words.specs.HostWords.{host_allows_write, host_frame, host_word}
 use Rattle.mmu_laws.specs.steps.ExampleRaces.{ExampleRaces, first_line, race_events, race_lines, race_order, second_line}
 use Rattle.mmu_laws.specs.steps.ExampleRuns.{ExamplePrints, ExampleRuns, add_line, forbidden_line, other_slot_line, outside_line, read_line, run_events, run_lines, run_order, sum_line, write_line}
 use Rattle.mmu_laws.specs.steps.ExampleStarves.{ExampleStarves, small_events, small_lines, small_order, small_sizes, starved_line, starved_set_line}
-use Rattle.mmu_laws.specs.steps.ExampleSteps.{RunDelays, RunTells, run_sizes, set_line, set_read_only_line, turns}
+use Rattle.mmu_laws.specs.steps.ExampleSteps.{RunDelays, RunTells, run_sizes, set_line, set_read_only_line, turns, RunLeaves}
 use Rattle.mmu_laws.specs.steps.ExampleWaits.{ExampleWaits, beside_line, wait_events, wait_lines, wait_order}
 use Rattle.mmu_core.specs.lines.Cached.{flushed}
 use Rattle.mmu_core.specs.machine.Enabled.{mmu}
-use Rattle.mmu_core.specs.machine.Machine.{run}
+use Rattle.mmu_core.specs.machine.Machine.{run, World}
 use Rattle.part_steps.specs.TopicSteps.{topics_after}
 use Rattle.mmu_core.specs.machine.View.{View, view}
 use Rattle.mmu_core.proofs.start.StartViews.{a_start, start_view, start_view_is}
@@ -31,28 +36,49 @@ use Rattle.mmu_core.proofs.start.Starts.{start_good}
 use Rattle.mmu_laws.proofs.steps.ViewRuns.{HaveLines, have_lines, have_lines_by, tale, turned_all, turns_are, turns_lead}
 
 -- What a run over words and hands as columns tells, a run of worlds tells.
-run_tells : (z : Sizes) (lines : List Line) (order : List ℕ) (events : List Event) → AreSizes z → All (λ line. IsCommandFor z line.actor line.command) lines → IsDistinct (λ i j. i == j) (slot_ids lines)
+run_tells : (z : Sizes) (lines : List Line) (order : List ℕ) (events : List Event) → AreSizes z → All (λ line. IsCommandFor z line.actor line.command) lines → IsDistinct (λ i j. i == j) (slot_ids lines) → length lines ≤ 1000000
     → have_lines z (start_view z lines) order ≡ true → tale (start_view z lines) order ≡ events → RunTells z lines order events
-run_tells z lines order events sizes allowed distinct has told =
-    let s = a_start z lines sizes allowed distinct in
+run_tells z lines order events sizes allowed distinct few has told =
+    let s = a_start z lines sizes allowed distinct few in
     let is : ◌≡◌ {A = View} (view z s.0) (start_view z lines) = start_view_is z lines s.0 s.1 in
     let have = subst (λ (v : View). HaveLines z v order) (sym is) (have_lines_by z (start_view z lines) order has) in
     let runs = turns_are z s.0 order (start_good z lines s.0 s.1) have in
     record { start = s.0; is_start = s.1; legal = runs.0; tells = runs.1 ∙ (ap (λ (v : View). tale v order) is ∙ told) }
 
 -- What an actor counts in such a run, it counts in a run of worlds.
-run_delays : (z : Sizes) (lines : List Line) (order : List ℕ) (events : List Event) (actor delays : ℕ) → AreSizes z → All (λ line. IsCommandFor z line.actor line.command) lines → IsDistinct (λ i j. i == j) (slot_ids lines)
+pub run_delays : (z : Sizes) (lines : List Line) (order : List ℕ) (events : List Event) (actor delays : ℕ) → AreSizes z → All (λ line. IsCommandFor z line.actor line.command) lines → IsDistinct (λ i j. i == j) (slot_ids lines) → length lines ≤ 1000000
     → have_lines z (start_view z lines) order ≡ true → tale (start_view z lines) order ≡ events → ((turned_all (start_view z lines) order).hand actor).state.delays ≡ delays → RunDelays z lines order events actor delays
-run_delays z lines order events actor delays sizes allowed distinct has told counts = record { tells = T; counts = ap (λ (v : View). (v.hand actor).state.delays) leads ∙ counts }
+run_delays z lines order events actor delays sizes allowed distinct few has told counts = record { tells = T; counts = ap (λ (v : View). (v.hand actor).state.delays) leads ∙ counts }
   where
     T : RunTells z lines order events
-    T = run_tells z lines order events sizes allowed distinct has told
+    T = run_tells z lines order events sizes allowed distinct few has told
 
     is : ◌≡◌ {A = View} (view z T.start) (start_view z lines)
     is = start_view_is z lines T.start T.is_start
 
     leads : ◌≡◌ {A = View} (view z (run mmu T.start (turns z T.start order))) (turned_all (start_view z lines) order)
     leads = turns_lead z T.start order (start_good z lines T.start T.is_start) (subst (λ (v : View). HaveLines z v order) (sym is) (have_lines_by z (start_view z lines) order has)) ∙ ap (λ (v : View). turned_all v order) is
+
+-- What a word holds after such a run, it holds in a run of worlds.
+pub run_leaves : (z : Sizes) (lines : List Line) (order : List ℕ) (a : Area) (index value : ℕ) → AreSizes z → All (λ line. IsCommandFor z line.actor line.command) lines → IsDistinct (λ i j. i == j) (slot_ids lines) → length lines ≤ 1000000
+    → have_lines z (start_view z lines) order ≡ true → (turned_all (start_view z lines) order).words a index ≡ value → RunLeaves z lines order a index value
+run_leaves z lines order a index value sizes allowed distinct few has holds =
+    record { start = s.0; is_start = s.1; legal = (turns_are z s.0 order good have).0; holds = ap (λ (v : View). v.words a index) leads ∙ holds }
+  where
+    s : (w : World Held) × IsStart z lines w
+    s = a_start z lines sizes allowed distinct few
+
+    good : IsSound z s.0
+    good = start_good z lines s.0 s.1
+
+    is : ◌≡◌ {A = View} (view z s.0) (start_view z lines)
+    is = start_view_is z lines s.0 s.1
+
+    have : HaveLines z (view z s.0) order
+    have = subst (λ (v : View). HaveLines z v order) (sym is) (have_lines_by z (start_view z lines) order has)
+
+    leads : ◌≡◌ {A = View} (view z (run mmu s.0 (turns z s.0 order))) (turned_all (start_view z lines) order)
+    leads = turns_lead z s.0 order good have ∙ ap (λ (v : View). turned_all v order) is
 
 -- ---- a pool that is large enough
 
@@ -66,7 +92,7 @@ unfolding flushed topics_after place kind_of level_span table_word frozen_word c
     flags_read_only flags_word host_allows_write host_frame host_word can_write is_leaf_at flags_logged count_trailing_zeros
 run_has_lines = refl
 
-run_in_range : AreSizes run_sizes
+pub run_in_range : AreSizes run_sizes
 run_in_range = record {
   actors = record { vcpus = omega arith; hosts = omega arith; workers = omega arith };
   some = omega arith;
@@ -76,12 +102,13 @@ run_in_range = record {
   content = omega arith;
   pool = (omega arith, omega arith);
   cache = (omega arith, omega arith);
+  firsts = four (λ page. page ≤ 128) 0 128 128 128 (omega arith) (omega arith) (omega arith) (omega arith);
 }
 
-abbrev May : Sizes → Line → Type 0
+abbrev pub May : Sizes → Line → Type 0
 May z line = IsCommandFor z line.actor line.command
 
-may_set : May run_sizes set_line
+pub may_set : May run_sizes set_line
 may_set = record { some = omega arith; pages = omega arith; base = omega arith; host = omega arith; aligned = omega arith }
 
 may_set_read_only : May run_sizes set_read_only_line
@@ -104,9 +131,9 @@ unfolding IsDistinct
 run_distinct = ((refl, tt), (tt, tt))
 
 pub example_runs : ExampleRuns
-example_runs = run_tells run_sizes run_lines run_order run_events run_in_range run_allowed run_distinct run_has_lines run_tale
+example_runs = run_tells run_sizes run_lines run_order run_events run_in_range run_allowed run_distinct (omega arith) run_has_lines run_tale
 
-two_digits : (n : ℕ) → 10 ≤ n → n < 100 → decimal n ≡ (48 + n / 10) ∷ (48 + n % 10) ∷ []
+pub two_digits : (n : ℕ) → 10 ≤ n → n < 100 → decimal n ≡ (48 + n / 10) ∷ (48 + n % 10) ∷ []
 two_digits n low high = rw (decimal_step n low (omega arith), decimal_digit (n / 10) (omega arith)) refl
 
 -- what it prints
@@ -137,6 +164,7 @@ small_in_range = record {
   content = omega arith;
   pool = (omega arith, omega arith);
   cache = (omega arith, omega arith);
+  firsts = four (λ page. page ≤ 128) 0 128 128 128 (omega arith) (omega arith) (omega arith) (omega arith);
 }
 
 small_allowed : All (May small_sizes) small_lines
@@ -154,7 +182,7 @@ unfolding line_text
 small_prints = simp (decimal_digit 0 (lit< tt), decimal_digit 2 (lit< tt), decimal_digit 3 (lit< tt), decimal_digit 4 (lit< tt))
 
 pub example_starves : ExampleStarves
-example_starves = (run_tells small_sizes small_lines small_order small_events small_in_range small_allowed small_distinct small_has_lines small_tale, small_prints)
+example_starves = (run_tells small_sizes small_lines small_order small_events small_in_range small_allowed small_distinct (omega arith) small_has_lines small_tale, small_prints)
 
 -- ---- two processors at one guest frame
 
@@ -183,7 +211,7 @@ unfolding line_text
 race_prints = simp (decimal_digit 0 (lit< tt), decimal_digit 1 (lit< tt), decimal_digit 2 (lit< tt), decimal_digit 3 (lit< tt), decimal_digit 4 (lit< tt), decimal_digit 7 (lit< tt), two_digits 65 (lit≤ tt) (lit< tt))
 
 pub example_races : ExampleRaces
-example_races = (run_tells run_sizes race_lines race_order race_events run_in_range race_allowed race_distinct race_has_lines race_tale, race_prints)
+example_races = (run_tells run_sizes race_lines race_order race_events run_in_range race_allowed race_distinct (omega arith) race_has_lines race_tale, race_prints)
 
 -- ---- a slot line beside a processor
 
@@ -213,4 +241,4 @@ unfolding IsDistinct
 wait_distinct = ((refl, tt), (tt, tt))
 
 pub example_waits : ExampleWaits
-example_waits = run_delays run_sizes wait_lines wait_order wait_events 3 3 run_in_range wait_allowed wait_distinct wait_has_lines wait_tale wait_counts
+example_waits = run_delays run_sizes wait_lines wait_order wait_events 3 3 run_in_range wait_allowed wait_distinct (omega arith) wait_has_lines wait_tale wait_counts

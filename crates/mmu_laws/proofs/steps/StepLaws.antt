@@ -48,6 +48,10 @@ pub record TellsPart (note : ℕ) (t : Task) : Type 0 where
 pub tells_part : (step : PartStep) (own : ℕ) (t : Topics) (note : ℕ) → TellsPart note (part_task step own t note)
 tells_part (part.Fill value) own t note = record { on = inl refl; note_is = refl }
 tells_part (part.Role value) own t note = record { on = inr refl; note_is = refl }
+tells_part (part.SetStart gfn) own t note = record { on = tt; note_is = refl }
+tells_part (part.SetEnd gfn) own t note = record { on = tt; note_is = refl }
+tells_part (part.SetCount count) own t note = record { on = tt; note_is = refl }
+tells_part (part.SetSeq seq) own t note = record { on = tt; note_is = refl }
 tells_part part.Pause own t note = record { on = tt; note_is = refl }
 tells_part (part.Map word) own t note = record { on = tt; note_is = refl }
 tells_part part.Slots own t note = record { on = tt; note_is = refl }

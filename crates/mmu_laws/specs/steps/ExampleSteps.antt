@@ -1,5 +1,7 @@
 -- Runs from a start, each step of them the next one of an actor: what they tell, and how often the last line was delayed. And the machine and
 -- the slots of the examples.
+use Rattle.spte_words.specs.declared.area.Area.{Area}
+use Rattle.mmu_core.specs.machine.View.{word_in}
 use Rattle.std.specs.Prelude.{◌≡◌, ℕ, List, [], ◌∷◌, true, false, Option, Some}
 use Rattle.core_views.specs.declared.event.Event.{Event}
 use Rattle.core_views.specs.declared.kind.Kind.{Kind}
@@ -30,6 +32,13 @@ pub record RunTells (z : Sizes) (lines : List Line) (order : List ℕ) (events :
 pub record RunDelays (z : Sizes) (lines : List Line) (order : List ℕ) (events : List Event) (actor delays : ℕ) : Type 0 where
   pub tells : RunTells z lines order events
   pub counts : (hand_in mmu (run mmu tells.start (turns z tells.start order)) actor).state.delays ≡ delays
+
+-- From a start with these lines the next steps of actors in this order can be made, and after them this word holds this number.
+pub record RunLeaves (z : Sizes) (lines : List Line) (order : List ℕ) (a : Area) (index value : ℕ) : Type 0 where
+  pub start : World Held
+  pub is_start : IsStart z lines start
+  pub legal : Legal mmu start (turns z start order)
+  pub holds : word_in z (run mmu start (turns z start order)) a index ≡ value
 
 -- A machine whose pool has as many pages as the lines below need: four, and one for a table of each level below the root.
 abbrev pub run_sizes : Sizes

@@ -12,6 +12,8 @@ use Rattle.core_views.specs.Kinds.{kind_named}
 use Rattle.spte_words.specs.declared.area.Area.{Area}
 use Rattle.spte_words.specs.declared.area.Area.TheVariants as area
 use Rattle.spte_words.specs.Areas.{place, size_of}
+use Rattle.spte_words.specs.HostWords.{host_level, with_writes_allowed}
+use Rattle.mmu_core.specs.lines.HostSteps.{entry_of}
 use Rattle.mmu_core.specs.declared.outcome.Outcome.{Outcome}
 use Rattle.mmu_core.specs.lines.AccessSteps.{ends_with}
 use Rattle.mmu_core.specs.lines.Cached.{asks_flush, with_leaf}
@@ -34,6 +36,14 @@ IsControl area.Pause = Unit {0}
 IsControl area.PoolMap = Unit {0}
 IsControl _ = ⊥
 
+-- The words of the invalidations.
+abbrev pub IsOfInvalidations : Area → Type 0
+IsOfInvalidations area.Seq = Unit {0}
+IsOfInvalidations area.Count = Unit {0}
+IsOfInvalidations area.RangeStart = Unit {0}
+IsOfInvalidations area.RangeEnd = Unit {0}
+IsOfInvalidations _ = ⊥
+
 -- Steps of the kind are on words of this area.
 abbrev pub IsOn : StepKind → Area → Type 0
 IsOn kind.Enter a = a ≡ area.State
@@ -41,6 +51,9 @@ IsOn kind.Leave a = a ≡ area.State
 IsOn kind.Begin a = a ≡ area.State
 IsOn kind.End a = a ≡ area.State
 IsOn kind.Watch a = a ≡ area.State
+IsOn kind.Ask a = a ≡ area.State
+IsOn kind.Await a = a ≡ area.State
+IsOn kind.Set a = IsOfInvalidations a
 IsOn kind.Control a = IsControl a
 IsOn kind.Share a = a ≡ area.Lock
 IsOn kind.Unshare a = a ≡ area.Lock
@@ -53,7 +66,9 @@ IsOn kind.Fill a = (a ≡ area.Pool) ⊎ (a ≡ area.Role)
 IsOn kind.Slot a = a ≡ area.Pool
 IsOn kind.Walk a = a ≡ area.Pool
 IsOn kind.Swap a = a ≡ area.Pool
+IsOn kind.Zap a = a ≡ area.Pool
 IsOn kind.Host a = a ≡ area.Host
+IsOn kind.Change a = a ≡ area.Host
 IsOn kind.Read a = a ≡ area.Content
 IsOn kind.Write a = a ≡ area.Content
 IsOn kind.Add a = a ≡ area.Content
@@ -98,3 +113,8 @@ CachesOneAtMost before after = (after ≡ before) ⊎ ((t : Translation) × (aft
 abbrev pub OthersCacheOneAtMost : Type 0
 OthersCacheOneAtMost =
     (h : Held) (k : Kind) (v : ℕ) → Enabled h k → (kind_named k.code ≡ kind.Enter → asks_flush v ≡ false) → CachesOneAtMost h.cached (next h k v).cached
+
+-- The host word that a host thread puts to allow writes is as the one before it, and allows writes.
+abbrev pub AllowedWordsTell : Type 0
+AllowedWordsTell =
+    (word : ℕ) → (entry_of (with_writes_allowed word) ≡ record (entry_of word) { writable = true }) × (host_level (with_writes_allowed word) ≡ host_level word)

@@ -2,26 +2,30 @@
 use Rattle.std.specs.Prelude.{◌≡◌, ◌≢◌, ℕ, List, ◌∷◌, ◌++◌}
 use Rattle.core_views.specs.declared.kind.Kind.{Kind}
 use Rattle.core_views.specs.declared.kind.StepKind.{StepKind}
+use Rattle.core_views.specs.declared.kind.StepKind.TheVariants as kind
 use Rattle.core_views.specs.declared.sizes.Sizes.{Sizes}
 use Rattle.core_views.specs.Held.{Held}
 use Rattle.core_views.specs.Kinds.{after, kind_named}
-use Rattle.spte_words.specs.declared.spte_kind.SpteKind.TheVariants.{Absent}
-use Rattle.spte_words.specs.Entries.{kind_of}
+use Rattle.spte_words.specs.declared.spte_kind.SpteKind.TheVariants.{Absent, Leaf}
+use Rattle.spte_words.specs.Entries.{absent_word, kind_of}
 use Rattle.mmu_core.specs.machine.Enabled.{mmu}
 use Rattle.mmu_core.specs.invariant.Laws.{IsSound}
 use Rattle.mmu_core.specs.machine.Machine.{May, Step, World, found, run}
 use Rattle.mmu_laws.specs.causes.Causes.{IsEntryOf}
 
--- A step of this kind takes an entry of the guest frame away. No kind does so yet: one that removes, freezes or protects entries has a row here.
+-- The step is on the word of an entry of the guest frame. It finds a leaf there, and leaves none.
+pub record TakesLeaf (z : Sizes) (gfn : ℕ) (w : World Held) (s : Step Kind) : Type 0 where
+  pub entry : IsEntryOf z gfn s.kind.word
+  pub was : kind_of entry.level (found mmu w s.kind) ≡ Leaf
+  pub is_gone : after s.kind (found mmu w s.kind) ≡ absent_word
+
+-- A step of this kind takes an entry of the guest frame away. One kind does so, which zaps a leaf: another that freezes or protects entries has a row here.
 abbrev pub TakesAway : StepKind → Sizes → ℕ → World Held → Step Kind → Type 0
+TakesAway kind.Zap z gfn w s = TakesLeaf z gfn w s
 TakesAway _ z gfn w s = ⊥
 
 abbrev pub Breaks : Sizes → ℕ → World Held → Step Kind → Type 0
 Breaks z gfn w s = TakesAway (kind_named s.kind.code) z gfn w s
-
--- So no step of the machine takes an entry away.
-abbrev pub NoStepBreaks : Type 0
-NoStepBreaks = (z : Sizes) (gfn : ℕ) (w : World Held) (s : Step Kind) → Breaks z gfn w s → ⊥
 
 -- The step is on the word of an entry of the guest frame. It finds an entry there that isn't absent, and leaves another number.
 pub record ChangesEntry (z : Sizes) (gfn : ℕ) (w : World Held) (s : Step Kind) : Type 0 where

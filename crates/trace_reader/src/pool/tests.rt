@@ -1,5 +1,5 @@
 use crate::need;
-use core_views::{Actor, Command, Header, Line, Lines, Op, Slot, Trace, Words};
+use core_views::{Actor, Command, Header, HostChange, Line, Lines, Op, Slot, Trace, Words};
 use std::alloc::Global;
 use std::test::Fail;
 
@@ -30,6 +30,14 @@ fn needs(alloc: Global, pages: u64, slots: &[(u64, u64)]) -> Result<u64, Fail> {
                 op: Op::Read
             },
         },
+        Line {
+            number: 3,
+            actor: Actor::Host(0),
+            command: Command::ChangeHost {
+                page: 9999,
+                change: HostChange::Allow
+            },
+        },
     ]?;
     for (base, size) in slots {
         let slot = Slot {
@@ -39,7 +47,7 @@ fn needs(alloc: Global, pages: u64, slots: &[(u64, u64)]) -> Result<u64, Fail> {
             read_only: false,
         };
         lines.push(Line {
-            number: 3,
+            number: 4,
             actor: Actor::Manager,
             command: Command::SetSlot { id: 0, slot },
         })?;

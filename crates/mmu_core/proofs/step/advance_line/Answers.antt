@@ -1,10 +1,10 @@
-use Rattle.std.proofs.Common.{◌≡◌, ◌∷◌, [], ◌++◌, length, ap, refl, subst, sym, ◌∙◌}
+use Rattle.std.proofs.Common.{length, ap, refl, subst, sym, ◌∙◌}
 use Rattle.core_views.specs.declared.place.Place.TheVariants.{Between}
 use Rattle.core_views.specs.declared.hand.Progress.{Progress}
 use Rattle.core_views.specs.declared.trace.Line.{Line}
-use Rattle.core_views.specs.Held.{Held, line_under, next_line}
+use Rattle.core_views.specs.Held.{Held, line_under}
 use Rattle.mmu_core.specs.declared.outcome.Outcome.{Outcome}
-use Rattle.mmu_core.specs.declared.outcome.Outcome.TheVariants.{Goes, Ends}
+use Rattle.mmu_core.specs.declared.outcome.Outcome.TheVariants.{Ends}
 use Rattle.mmu_core.specs.lines.AccessSteps.{use_found}
 use Rattle.mmu_core.specs.lines.Forms.{records_at}
 use Rattle.mmu_core.specs.machine.Outcomes.{answers_after, place_after}

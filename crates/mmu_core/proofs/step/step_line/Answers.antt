@@ -1,6 +1,5 @@
-use Rattle.std.proofs.Common.{◌≡◌, sym, ◌∙◌}
-use Rattle.std.specs.Prelude.{true, false}
-use Rattle.mmu_core.proofs.machine.Advancing.{accepts_here, begun_here, command_here, left_here, made_here, part_here, rests_at_here}
+use Rattle.std.proofs.Common.{sym, ◌∙◌}
+use Rattle.mmu_core.proofs.machine.Advancing.{accepts_here, begun_here, command_here, made_here, part_here, rests_at_here}
 use Rattle.mmu_core.proofs.step.step_line.Goals as goal
 
 pub advance_line-requires-clause-part : goal.advance_line-requires-clause-part

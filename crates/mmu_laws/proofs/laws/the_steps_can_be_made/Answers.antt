@@ -1,3 +1,4 @@
+use Rattle.mmu_laws.proofs.steps.ExampleHostRun.{example_host}
 use Rattle.mmu_core.specs.machine.Enabled.{mmu}
 use Rattle.mmu_core.specs.machine.Machine.{run}
 use Rattle.mmu_laws.proofs.steps.CanStep.{may_step}
@@ -27,3 +28,6 @@ returns-clause-races c = example_races
 
 pub returns-clause-slot_waits : goal.returns-clause-slot_waits
 returns-clause-slot_waits c = example_waits
+
+pub returns-clause-host : goal.returns-clause-host
+returns-clause-host c = example_host

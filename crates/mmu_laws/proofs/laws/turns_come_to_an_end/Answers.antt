@@ -1,8 +1,7 @@
 use Rattle.mmu_laws.proofs.turns.InstalledEntries.{installed_serve}
-use Rattle.mmu_laws.proofs.turns.LeavesStay.{breaking_changes_entries, leaves_stay}
+use Rattle.mmu_laws.proofs.turns.EntriesTaken.{breaking_changes_entries, leaves_stay}
 use Rattle.mmu_laws.proofs.turns.StepsBounded.{turns_bounded}
 use Rattle.mmu_laws.proofs.turns.DelayCases.{turns_come_nearer}
-use Rattle.mmu_laws.proofs.turns.Removal.{no_step_breaks}
 use Rattle.mmu_laws.proofs.laws.turns_come_to_an_end.Goals as goal
 
 pub returns-clause-nearer : goal.returns-clause-nearer
@@ -19,6 +18,3 @@ returns-clause-stay c = leaves_stay
 
 pub returns-clause-breaking : goal.returns-clause-breaking
 returns-clause-breaking c = breaking_changes_entries
-
-pub returns-clause-unbroken : goal.returns-clause-unbroken
-returns-clause-unbroken c = no_step_breaks

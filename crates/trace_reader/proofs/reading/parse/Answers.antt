@@ -1,8 +1,9 @@
+use Rattle.std.proofs.Common.{arith}
 use Rattle.std.proofs.lemmas.Result.{err_from_is_err_and}
 use Rattle.trace_reader.proofs.Begin.{begun, bad_head, bad_line, all_read}
 use Rattle.trace_reader.proofs.Distinct.{read_distinct}
 use Rattle.trace_reader.proofs.Ranges.{head_in_range}
-use Rattle.trace_reader.proofs.Rising.{read_rising}
+use Rattle.trace_reader.proofs.Rising.{read_few, read_rising}
 use Rattle.trace_reader.proofs.reading.parse.Goals as goal
 
 pub returns-in_err-header-clause-read : goal.returns-in_err-header-clause-read
@@ -25,4 +26,14 @@ returns-clause-read c =
 pub returns-clause-in_range : goal.returns-clause-in_range
 returns-clause-in_range c =
     let b = c.in_ok-body.ensures.allowed in
-    rw c.under.ensures (record { header = head_in_range _ c.in_ok-header.header c.in_ok-header.ensures.read; lines = b.lines; rising = read_rising c.in_ok-header.header 2 c.taken-size.result _ _ c.in_ok-body.ensures.read; distinct = read_distinct c.in_ok-header.header 2 c.taken-size.result _ _ c.in_ok-body.ensures.read; go = b.go; items = b.items })
+    let h = c.in_ok-header.header in
+    let said = c.in_ok-body.ensures.read in
+    rw c.under.ensures (record {
+      header = head_in_range _ h c.in_ok-header.ensures.read;
+      lines = b.lines;
+      rising = read_rising h 2 c.taken-size.result _ _ said;
+      distinct = read_distinct h 2 c.taken-size.result _ _ said;
+      few = read_few h 2 c.taken-size.result _ _ (omega arith) said;
+      go = b.go;
+      items = b.items;
+    })

@@ -1,7 +1,5 @@
 use Rattle.std.proofs.Common.{◌≡◌, false, length, string_bytes}
-use Rattle.mmu_core.specs.machine.Enabled.{mmu}
-use Rattle.mmu_core.specs.alone.LineAlone.{hand_left}
-use Rattle.mmu_core.specs.machine.Machine.{hand_in}
+use Rattle.mmu_laws.proofs.turns.OwnTurns.{turns_left}
 use Rattle.step_seats.specs.Machines.{world_in}
 use Rattle.weave_engine.proofs.Coming.{SoFar}
 use Rattle.weave_engine.proofs.TurnLists.{TurnsGoOn}
@@ -17,4 +15,4 @@ invariant-loop g l = record {
 }
 
 abbrev pub decreases-loop : goal.decreases-loop
-decreases-loop g l = hand_left (hand_in mmu (world_in l.machine) l.fn.index)
+decreases-loop g l = turns_left (world_in l.machine) l.fn.index

@@ -1,0 +1,35 @@
+-- What a line that changes a host page needs at each of its places, and what the step of its place makes.
+use Rattle.std.specs.Prelude.{◌≡◌, ◌<◌, ℕ, Option, length}
+use Rattle.core_views.specs.declared.hand.Seen.{Seen}
+use Rattle.core_views.specs.declared.place.HostPlace.{HostPlace}
+use Rattle.core_views.specs.declared.place.HostPlace.TheVariants.{Look}
+use Rattle.core_views.specs.declared.place.Place.TheVariants as place
+use Rattle.core_views.specs.declared.trace.Command.{Command}
+use Rattle.core_views.specs.declared.trace.Command.TheVariants.{ChangeHost}
+use Rattle.core_views.specs.Held.{Held}
+use Rattle.mmu_core.specs.lines.HostKnows.{HostKnows}
+use Rattle.mmu_core.specs.lines.HostSteps.{host_part}
+use Rattle.mmu_core.specs.machine.MayMake.{MayMake}
+use Rattle.step_seats.specs.PartTurns.{MadeTelling}
+use Rattle.step_seats.specs.Seats.{Seat}
+
+-- The command changes this host page.
+abbrev pub ChangesPage : ℕ → Command → Type 0
+ChangesPage page (ChangeHost of_page change) = of_page ≡ page
+ChangesPage page _ = ⊥
+
+-- A line under way says so itself: only a line that has begun is within its invalidation, or changes its page.
+abbrev pub StandsThere : HostPlace → Held → Type 0
+StandsThere Look h = Unit {0}
+StandsThere p h = h.state.place ≡ place.Host p
+
+-- The line of this page is at this place, whose step its actor may make, and knows what the place asks.
+pub record IsAt (p : HostPlace) (page note : ℕ) (h : Held) : Type 0 where
+  pub left : length h.answers < length h.lines
+  pub may : MayMake (host_part p page h) note h
+  pub knows : HostKnows p page h
+  pub stands : StandsThere p h
+
+-- The step of the place was made, and what is in its way is told.
+abbrev pub MakesStep : Option Seen → HostPlace → ℕ → ℕ → Seat → Seat → Type 0
+MakesStep way p page note before after = MadeTelling way (host_part p page before.hand) note before after

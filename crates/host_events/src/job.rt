@@ -1,0 +1,144 @@
+ghost use Rattle.std.specs.Prelude.{◌≡◌, ◌<◌, None, length, true};
+ghost use Rattle.core_views.specs.HostChanges.{changes_host, is_own};
+ghost use Rattle.core_views.specs.declared.place.HostPlace.TheVariants as at;
+ghost use Rattle.host_events.specs.HostLines.{ChangesPage, IsAt, MakesStep};
+ghost use Rattle.mmu_core.specs.lines.HostSteps.{word_put};
+ghost use Rattle.mmu_core.specs.machine.Turns.{IsSameHand, line_of};
+ghost use Rattle.step_seats.specs.LineTurns.{Says, TurnsLine, turn_told};
+ghost use Rattle.step_seats.specs.Moves.{KeepsRoom};
+
+use core_views::{Actor, Command, Hand, HostPlace, Seen, Topics};
+use host_map::{change, look};
+use invalidate_seq::Snapshot;
+use mmu_core::{host_note, host_place, knows, rests};
+use range_notifier::{BeginJob, EndJob};
+use spte_words::HostWord;
+use step_seats::{Stepper, Turn};
+
+/// The change of a host page, a step a turn. Where it stands is kept in the host thread's
+/// hand, which drives the job.
+#[derive(Clone, Copy, Debug, PartialEq, Eq, Drop)]
+pub struct HostJob {
+    /// The place of the line among the lines of its actor, from 0. The line itself is
+    /// the hand's.
+    pub index: usize,
+}
+
+// The host page that the hand's next line changes.
+fn page_of(hand: &Hand) -> u64
+    requires left { length hand.now.core.answers < length hand.now.core.lines }
+    requires changes { changes_host (line_of hand.now.core).command ≡ true }
+    ensures { ChangesPage result (line_of hand.now.core).command }
+{
+    match &hand.line().command {
+        Command::ChangeHost { page, .. } => *page,
+        _ => unreachable!(),
+    }
+}
+
+// Whether the page is the actor's own.
+fn is_own(hand: &Hand, page: u64) -> bool
+    ensures { result ≡ is_own hand.now.core.state.sizes hand.now.core.state.actor page }
+{
+    let progress = hand.progress();
+    match progress.actor {
+        Actor::Host(host) => progress.sizes.owns(host, page),
+        _ => false,
+    }
+}
+
+// The host word that is to stand in place of the one that was looked up: writes are allowed.
+fn word_put(topics: &Topics) -> u64
+    ensures { result ≡ word_put topics.now }
+{
+    let looked = match topics.host {
+        Some(look) => look.word,
+        None => 0,
+    };
+    HostWord::from_word(looked).with_writes_allowed().word()
+}
+
+// Looks at the page's host word; where the page isn't the actor's own, at the sequence number
+// alone, and the line is refused. It never waits.
+fn look_up<S: Stepper>(s: &mut S, page: u64, note: u64)
+    requires is_at { IsAt at.Look page note (S.seat s.old).hand }
+    requires reserved { 0 < (S.seat s.old).room }
+    ensures makes { MakesStep None at.Look page note (S.seat s.old) (S.seat s.new) }
+    ensures room { KeepsRoom (S.seat s.old) (S.seat s.new) }
+    ensures same { ((S.seat s.new).actor ≡ (S.seat s.old).actor) × (S.frame s.new ≡ S.frame s.old) }
+{
+    if is_own(s.hand(), page) {
+        let _ = look(s, page, note);
+    } else {
+        let _ = Snapshot::new().turn(s, note);
+    }
+}
+
+// Exchanges the page's host word; where another actor has changed it before, the next turn
+// tries again. It never waits.
+fn exchange<S: Stepper>(s: &mut S, page: u64, note: u64)
+    requires is_at { IsAt at.Change page note (S.seat s.old).hand }
+    requires reserved { 0 < (S.seat s.old).room }
+    ensures makes { MakesStep None at.Change page note (S.seat s.old) (S.seat s.new) }
+    ensures room { KeepsRoom (S.seat s.old) (S.seat s.new) }
+    ensures same { ((S.seat s.new).actor ≡ (S.seat s.old).actor) × (S.frame s.new ≡ S.frame s.old) }
+{
+    let word = word_put(s.hand().topics());
+    let _ = change(s, word, note);
+}
+
+// Makes the step of this place, and says what is in its way.
+fn step<S: Stepper>(s: &mut S, place: HostPlace, page: u64, note: u64) -> Option<Seen>
+    requires is_at { IsAt place page note (S.seat s.old).hand }
+    requires reserved { 0 < (S.seat s.old).room }
+    ensures makes { MakesStep result place page note (S.seat s.old) (S.seat s.new) }
+    ensures room { KeepsRoom (S.seat s.old) (S.seat s.new) }
+    ensures same { ((S.seat s.new).actor ≡ (S.seat s.old).actor) × (S.frame s.new ≡ S.frame s.old) }
+{
+    match place {
+        HostPlace::Look => {
+            look_up(s, page, note);
+            None
+        }
+        HostPlace::Begin(_) => BeginJob { page }.turn(s, note).in_way(),
+        HostPlace::Change => {
+            exchange(s, page, note);
+            None
+        }
+        HostPlace::End(_) => EndJob.turn(s, note).in_way(),
+    }
+}
+
+impl HostJob {
+    /// Makes the next step of the line, and says whether it is answered: `Done` after its
+    /// last step, where the hand has the answer. A page that isn't the actor's own is
+    /// refused with the first step. `Wait` where the lock's word isn't 0, or a virtual
+    /// processor is in the guest and has yet to flush; never `Retry`. It takes no memory
+    /// but the room that was reserved.
+    pub fn turn<S: Stepper>(&mut self, s: &mut S) -> Turn<()>
+        requires left { length (S.seat s.old).hand.answers < length (S.seat s.old).hand.lines }
+        requires next { self.old.index ≡ length (S.seat s.old).hand.answers }
+        requires changes { changes_host (line_of (S.seat s.old).hand).command ≡ true }
+        requires reserved { 0 < (S.seat s.old).room }
+        ensures turns { TurnsLine (turn_told result (S.seat s.old).hand (S.seat s.new).hand) (S.seat s.old) (S.seat s.new) }
+        ensures says { Says (turn_told result (S.seat s.old).hand (S.seat s.new).hand) (line_of (S.seat s.old).hand) (S.seat s.old).hand (S.seat s.new).hand }
+        ensures hand { IsSameHand (S.seat s.old).hand (S.seat s.new).hand }
+        ensures room { KeepsRoom (S.seat s.old) (S.seat s.new) }
+        ensures job { self.new ≡ self.old }
+        ensures same { ((S.seat s.new).actor ≡ (S.seat s.old).actor) × (S.frame s.new ≡ S.frame s.old) }
+    {
+        let hand = s.hand();
+        rests(hand);
+        knows(hand);
+        let place = host_place(hand);
+        let page = page_of(hand);
+        let note = host_note(place, page, hand);
+        if let Some(seen) = step(s, place, page, note) {
+            return Turn::Wait(seen);
+        }
+        match s.hand().answers().get(self.index) {
+            Some(_) => Turn::Done(()),
+            None => Turn::More,
+        }
+    }
+}

@@ -1,0 +1,12 @@
+//! One line of a host thread: a host page is changed, in the mapping that the host has of
+//! its pages (KVM's mmu_notifier.rst; api.rst, KVM_CAP_SYNC_MMU: changes in the backing of a
+//! slot are reflected into the guest), within an invalidation of the guest frame that a slot
+//! gives to the page.
+#![tactic(auto)]
+
+mod job;
+
+pub use job::HostJob;
+
+#[cfg(test)]
+mod tests;

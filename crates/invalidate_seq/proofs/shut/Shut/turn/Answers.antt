@@ -1,0 +1,19 @@
+use Rattle.std.proofs.Common.{refl}
+use Rattle.step_seats.proofs.Where.{telling, where_made}
+use Rattle.invalidate_seq.proofs.Storing.{shut_behind, shut_keeps, wrote}
+use Rattle.invalidate_seq.proofs.shut.Shut.turn.Goals as goal
+
+pub returns-clause-shuts : goal.returns-clause-shuts
+returns-clause-shuts g c =
+    let is = rw (c.topics.ensures, c.hand-hand.ensures.hand) at c.step-step.ensures in
+    let made = rw is at c.make_part.ensures.made in
+    shut_behind c.args.self.now.stage (g.S.Stepper.seat c.args.s.now).hand.topics (g.S.Stepper.seat c.make_part.new.s).hand.topics
+    c.make_part.result c.requires.alone (wrote _ _ _ _ _ c.requires.may.needs made) made.topics
+
+pub returns-clause-word : goal.returns-clause-word
+returns-clause-word g c =
+    let is = rw (c.topics.ensures, c.hand-hand.ensures.hand) at c.step-step.ensures in
+    let made = rw is at c.make_part.ensures.made in
+    where_made made
+    (λ w at has. shut_keeps _ _ (telling w (g.S.Stepper.seat c.args.s.now)) (telling _ (g.S.Stepper.seat c.make_part.new.s)) w _
+    c.args.self.now.stage c.requires.alone c.requires.may.needs refl refl at)

@@ -1,0 +1,144 @@
+-- The words of an invalidation's begin and end, each under the lock alone (kvm_main.c, kvm_mmu_invalidate_begin and kvm_mmu_invalidate_end; locking.rst,
+-- mmu_invalidate_seq and mmu_invalidate_in_progress): its begin widens the range of the open ones and counts one more, its end raises the sequence number
+-- and counts one less.
+use Rattle.std.specs.Prelude.{◌≡◌, ◌+◌, ◌-◌, ◌<◌, ◌≤◌, ℕ, ◌==◌, if◌then◌else◌, true, false, Option, Some, None, IfSome}
+use Rattle.core_views.specs.declared.place.CheckStage.{CheckStage}
+use Rattle.core_views.specs.declared.place.CheckStage.TheVariants as word_of
+use Rattle.core_views.specs.declared.topics.Checked.TheVariants as checked
+use Rattle.core_views.specs.declared.topics.Invalidations.{Invalidations}
+use Rattle.core_views.specs.declared.topics.Topics.{Topics}
+use Rattle.part_steps.specs.declared.part_step.PartStep.{PartStep}
+use Rattle.part_steps.specs.declared.part_step.PartStep.TheVariants as part
+use Rattle.mmu_core.specs.lines.InvalidateSteps.{greater, lesser}
+use Rattle.mmu_core.specs.machine.View.{word_in}
+use Rattle.step_seats.specs.PartTurns.{WherePartMade}
+use Rattle.step_seats.specs.Seats.{Seat}
+use Rattle.step_seats.specs.declared.turn.Turn.{Turn}
+use Rattle.step_seats.specs.declared.turn.Turn.TheVariants.{More, Done}
+use Rattle.invalidate_seq.specs.Checks.{LoadsOnly, area_of, loaded}
+use Rattle.invalidate_seq.specs.declared.open.Open.{Open}
+use Rattle.invalidate_seq.specs.declared.open.OpenStage.{OpenStage}
+use Rattle.invalidate_seq.specs.declared.open.OpenStage.TheVariants as opens
+use Rattle.invalidate_seq.specs.declared.shut.Shut.{Shut}
+use Rattle.invalidate_seq.specs.declared.shut.ShutStage.{ShutStage}
+use Rattle.invalidate_seq.specs.declared.shut.ShutStage.TheVariants as shuts
+
+-- The range of the open invalidations, with one more over this guest frame, or over none: from its first frame up to the frame after it. It is empty where
+-- there is neither.
+abbrev pub start_with : Option ℕ → Invalidations → ℕ
+start_with (Some gfn) n = if n.count == 0 then gfn else lesser n.start gfn
+start_with None n = if n.count == 0 then 0 else n.start
+
+abbrev pub end_with : Option ℕ → Invalidations → ℕ
+end_with (Some gfn) n = if n.count == 0 then gfn + 1 else greater n.end (gfn + 1)
+end_with None n = if n.count == 0 then 0 else n.end
+
+-- ---- its begin
+
+-- the step of each stage
+abbrev pub open_at : OpenStage → Option ℕ → Invalidations → PartStep
+open_at opens.Count gfn n = part.Count
+open_at opens.RangeStart gfn n = part.RangeStart
+open_at opens.RangeEnd gfn n = part.RangeEnd
+open_at opens.SetStart gfn n = part.SetStart (start_with gfn n)
+open_at opens.SetEnd gfn n = part.SetEnd (end_with gfn n)
+open_at opens.SetCount gfn n = part.SetCount (n.count + 1)
+
+abbrev pub open_step : Open → Topics → PartStep
+open_step job t = open_at job.stage job.gfn t.invalidations
+
+-- which word it is on
+abbrev pub open_word : OpenStage → CheckStage
+open_word opens.Count = word_of.Count
+open_word opens.RangeStart = word_of.Start
+open_word opens.RangeEnd = word_of.End
+open_word opens.SetStart = word_of.Start
+open_word opens.SetEnd = word_of.End
+open_word opens.SetCount = word_of.Count
+
+-- What is held after the stage's step: a load keeps its word, and a store what it stored. With the count, one more than was loaded, the actor's own is open.
+abbrev pub Opens : OpenStage → Option ℕ → Topics → Topics → Type 0
+Opens opens.Count gfn before after = LoadsOnly word_of.Count before after
+Opens opens.RangeStart gfn before after = LoadsOnly word_of.Start before after
+Opens opens.RangeEnd gfn before after = LoadsOnly word_of.End before after
+Opens opens.SetStart gfn before after = after ≡ record before { invalidations = record before.invalidations { start = start_with gfn before.invalidations } }
+Opens opens.SetEnd gfn before after = after ≡ record before { invalidations = record before.invalidations { end = end_with gfn before.invalidations } }
+Opens opens.SetCount gfn before after =
+    after ≡ record before { invalidations = record before.invalidations { count = before.invalidations.count + 1; checked = checked.Nothing; opened = true } }
+
+-- The stage that comes after it, where this number of open ones is known: the range is loaded where some are, and else it is stored at once.
+abbrev pub open_after : OpenStage → ℕ → OpenStage
+open_after opens.Count count = if count == 0 then opens.SetStart else opens.RangeStart
+open_after opens.RangeStart count = opens.RangeEnd
+open_after opens.RangeEnd count = opens.SetStart
+open_after opens.SetStart count = opens.SetEnd
+open_after opens.SetEnd count = opens.SetCount
+open_after opens.SetCount count = opens.SetCount
+
+-- It has begun once the count is stored, and not before.
+abbrev pub open_turn : OpenStage → Turn (Unit {0})
+open_turn opens.SetCount = Done tt
+open_turn _ = More
+
+-- the most turns that are left from a stage on
+abbrev pub opens_left : OpenStage → ℕ
+opens_left opens.Count = 6
+opens_left opens.RangeStart = 5
+opens_left opens.RangeEnd = 4
+opens_left opens.SetStart = 3
+opens_left opens.SetEnd = 2
+opens_left opens.SetCount = 1
+
+-- ---- its end
+
+abbrev pub shut_at : ShutStage → Invalidations → PartStep
+shut_at shuts.Seq n = part.Seq
+shut_at shuts.SetSeq n = part.SetSeq (n.seq + 1)
+shut_at shuts.Count n = part.Count
+shut_at shuts.SetCount n = part.SetCount (n.count - 1)
+
+abbrev pub shut_step : Shut → Topics → PartStep
+shut_step job t = shut_at job.stage t.invalidations
+
+abbrev pub shut_word : ShutStage → CheckStage
+shut_word shuts.Seq = word_of.Seq
+shut_word shuts.SetSeq = word_of.Seq
+shut_word shuts.Count = word_of.Count
+shut_word shuts.SetCount = word_of.Count
+
+-- The sequence number is raised by one, and one less is open: not the actor's own any more.
+abbrev pub Shuts : ShutStage → Topics → Topics → Type 0
+Shuts shuts.Seq before after = LoadsOnly word_of.Seq before after
+Shuts shuts.SetSeq before after =
+    after ≡ record before { invalidations = record before.invalidations { seq = before.invalidations.seq + 1; checked = checked.Nothing } }
+Shuts shuts.Count before after = LoadsOnly word_of.Count before after
+Shuts shuts.SetCount before after =
+    after ≡ record before { invalidations = record before.invalidations { count = before.invalidations.count - 1; checked = checked.Nothing; opened = false } }
+
+abbrev pub shut_after : ShutStage → ShutStage
+shut_after shuts.Seq = shuts.SetSeq
+shut_after shuts.SetSeq = shuts.Count
+shut_after shuts.Count = shuts.SetCount
+shut_after shuts.SetCount = shuts.SetCount
+
+abbrev pub shut_turn : ShutStage → Turn (Unit {0})
+shut_turn shuts.SetCount = Done tt
+shut_turn _ = More
+
+abbrev pub shuts_left : ShutStage → ℕ
+shuts_left shuts.Seq = 4
+shuts_left shuts.SetSeq = 3
+shuts_left shuts.Count = 2
+shuts_left shuts.SetCount = 1
+
+-- ---- the words of the machine
+
+-- Where the step was made, what is kept of this word is what the word holds after the step.
+abbrev pub KeepsWord : CheckStage → PartStep → ℕ → Seat → Seat → Type 0
+KeepsWord stage step note before after =
+    WherePartMade step note before after (λ w v. loaded stage after.hand.topics.invalidations ≡ word_in before.hand.state.sizes v (area_of stage) 0)
+
+-- A range from start up to end has the guest frame, if there is one, and the range of the open invalidations, if some are.
+pub record IsWidened (gfn : Option ℕ) (n : Invalidations) (start end : ℕ) : Type 0 where
+  pub frame : IfSome gfn (λ g. (start ≤ g) × (g < end))
+  pub open_ones : 0 < n.count → (start ≤ n.start) × (n.end ≤ end)

@@ -1,0 +1,67 @@
+-- Invalidations (kvm_main.c, mmu_invalidate_seq and mmu_invalidate_in_progress): how many are open, what an actor has loaded of them, and how many have ended.
+use Rattle.std.specs.Prelude.{◌≡◌, ◌≤◌, ◌<◌, ◌+◌, ℕ, Bool, true, false, if◌then◌else◌, length}
+use Rattle.core_views.specs.declared.place.EndPlace.TheVariants as ends
+use Rattle.core_views.specs.declared.place.HostPlace.TheVariants as host
+use Rattle.core_views.specs.declared.place.Place.{Place}
+use Rattle.core_views.specs.declared.place.Place.TheVariants as place
+use Rattle.core_views.specs.declared.sizes.Sizes.{Sizes}
+use Rattle.core_views.specs.declared.topics.Checked.{Checked}
+use Rattle.core_views.specs.declared.topics.Checked.TheVariants as checked
+use Rattle.core_views.specs.declared.topics.Hold.TheVariants.{Exclusive}
+use Rattle.core_views.specs.declared.topics.Stay.TheVariants.{Outside}
+use Rattle.core_views.specs.declared.topics.Topics.{Topics}
+use Rattle.core_views.specs.Held.{Held}
+use Rattle.core_views.specs.Sizes.{actors_of}
+use Rattle.spte_words.specs.Areas.{pool_index}
+use Rattle.part_steps.specs.PartHoldings.{knows_count}
+use Rattle.part_steps.specs.PartTasks.{table_page}
+use Rattle.part_steps.specs.StayTopics.{has_lock}
+use Rattle.mmu_core.specs.machine.Sums.{one_if, sum_below}
+
+-- The count is that of the actors that have an invalidation open.
+abbrev pub CountPart : ℕ → ℕ → (ℕ → Bool) → Type 0
+CountPart n count opened = count ≡ sum_below n (λ i. one_if (opened i))
+
+-- Since the actor has the lock the first guest frame of the range of open invalidations was loaded, and the one after the range.
+abbrev pub knows_start : Checked → Bool
+knows_start checked.Start = true
+knows_start checked.Range = true
+knows_start _ = false
+
+abbrev pub knows_end : Checked → Bool
+knows_end checked.Range = true
+knows_end _ = false
+
+-- And so was the sequence number.
+abbrev pub knows_seq : Checked → Bool
+knows_seq checked.All = true
+knows_seq checked.Seq = true
+knows_seq _ = false
+
+-- What was loaded of the invalidations since the actor has the lock is what their words hold.
+pub record CheckedPart (count start end_ seq : ℕ) (t : Topics) : Type 0 where
+  pub counted : has_lock t.hold ≡ true → knows_count t.invalidations.checked ≡ true → t.invalidations.count ≡ count
+  pub started : has_lock t.hold ≡ true → knows_start t.invalidations.checked ≡ true → t.invalidations.start ≡ start
+  pub ended : has_lock t.hold ≡ true → knows_end t.invalidations.checked ≡ true → t.invalidations.end ≡ end_
+  pub numbered : has_lock t.hold ≡ true → knows_seq t.invalidations.checked ≡ true → t.invalidations.seq ≡ seq
+
+-- The entry that an actor has loaded that has the lock alone, outside of every section, is in its table still.
+abbrev pub LoadedPart : (ℕ → ℕ) → Topics → Type 0
+LoadedPart pool t =
+    t.hold ≡ Exclusive → t.stay ≡ Outside → 1 ≤ t.walk.level → t.walk.index < 512 → pool (pool_index (table_page t.walk) t.walk.index) ≡ t.walk.entry
+
+-- The line has raised the sequence number.
+abbrev pub has_raised : Place → Bool
+has_raised (place.Host (host.End ends.Count)) = true
+has_raised (place.Host (host.End ends.SetCount)) = true
+has_raised (place.Host (host.End ends.Release)) = true
+has_raised _ = false
+
+-- how many lines of a hand may have raised it: those that are answered, and the one under way that has
+abbrev pub lines_raised : Held → ℕ
+lines_raised h = length h.answers + (if has_raised h.state.place then 1 else 0)
+
+-- The sequence number is no more than the lines that may have raised it, and no hand has more answers than lines.
+pub record EndsPart (z : Sizes) (seq : ℕ) (hand : ℕ → Held) : Type 0 where
+  pub raised : seq ≤ sum_below (actors_of z) (λ i. lines_raised (hand i))
+  pub answered : (i : ℕ) → i < actors_of z → length (hand i).answers ≤ length (hand i).lines

@@ -1,0 +1,174 @@
+-- Each event that a step tells is of its word, and of what it finds and leaves there.
+use Rattle.std.proofs.Common.{◌≡◌, ◌<◌, eqb-true, ℕ, List, [], ◌∷◌, refl, sym, subst, ap, arith}
+use Rattle.std.proofs.lemmas.List.Elements.{All-append, All-cons, All-map, All-nil}
+use Rattle.std.specs.Prelude.{All, Bool, Option, None, Some, true, false, ◌==◌, if◌then◌else◌}
+use Rattle.core_views.specs.declared.event.Event.{Event}
+use Rattle.core_views.specs.declared.event.EventKind.{EventKind}
+use Rattle.core_views.specs.declared.event.EventKind.TheVariants.{Answered, Begun, Exited, HostChanged, LookedAtHost, SlotChanged}
+use Rattle.core_views.specs.declared.kind.Kind.{Kind}
+use Rattle.core_views.specs.declared.place.AccessPlace.{AccessPlace}
+use Rattle.core_views.specs.declared.place.AccessPlace.TheVariants.{Fault, Pause, Touch}
+use Rattle.core_views.specs.declared.place.FaultPlace.TheVariants as fault
+use Rattle.core_views.specs.declared.place.HostPlace.{HostPlace}
+use Rattle.core_views.specs.declared.place.HostPlace.TheVariants.{Change, Look}
+use Rattle.core_views.specs.declared.place.Place.{Place}
+use Rattle.core_views.specs.declared.place.Place.TheVariants as place
+use Rattle.core_views.specs.declared.place.SlotChangePlace.{SlotChangePlace}
+use Rattle.core_views.specs.declared.place.SlotChangePlace.TheVariants.{Claim, Publish}
+use Rattle.core_views.specs.declared.sizes.Sizes.{Sizes}
+use Rattle.core_views.specs.declared.slot_set.MemorySlot.{MemorySlot}
+use Rattle.core_views.specs.declared.trace.Command.{Command}
+use Rattle.core_views.specs.declared.trace.Command.TheVariants.{Access, ChangeHost}
+use Rattle.core_views.specs.declared.trace.HostChange.{HostChange}
+use Rattle.core_views.specs.declared.trace.Line.{Line}
+use Rattle.core_views.specs.declared.trace.Op.{Op}
+use Rattle.core_views.specs.declared.trace.Op.TheVariants.{Add, Read, Write}
+use Rattle.core_views.specs.Held.{Held, has_line}
+use Rattle.core_views.specs.HostChanges.{is_own}
+use Rattle.mmu_core.specs.declared.outcome.Outcome.{Outcome}
+use Rattle.mmu_core.specs.declared.outcome.Outcome.TheVariants.{Ends, Goes}
+use Rattle.mmu_core.specs.invariant.Laws.{IsSound}
+use Rattle.part_steps.specs.PartTasks.{page_looked, word_looked}
+use Rattle.mmu_core.specs.lines.Forms.{KnowsPart, outcome_at, tells_at}
+use Rattle.mmu_core.specs.lines.SlotChangeSteps.{changed, slot_change_outcome}
+use Rattle.mmu_core.specs.machine.Enabled.{mmu}
+use Rattle.mmu_core.specs.machine.Machine.{May, Step, World, answered, hand_in}
+use Rattle.mmu_core.specs.machine.Outcomes.{answering}
+use Rattle.mmu_core.specs.lines.AccessSteps.{exiting, fault_over}
+use Rattle.mmu_core.specs.lines.HostKnows.{HostKnows}
+use Rattle.mmu_core.specs.lines.HostSteps.{entry_of, word_put}
+use Rattle.core_views.specs.declared.kind.StepKind.TheVariants as kind
+use Rattle.spte_words.specs.Areas.{place as place_of}
+use Rattle.spte_words.specs.declared.area.Area.TheVariants as area
+use Rattle.part_steps.specs.declared.part_step.PartStep.TheVariants as part
+use Rattle.part_steps.specs.Tasks.{map_of}
+use Rattle.part_steps.specs.PartTasks.{own_index, part_task, page_looked}
+use Rattle.core_views.specs.SlotCommands.{slot_change}
+use Rattle.core_views.specs.Sizes.{actors_of}
+use Rattle.mmu_core.specs.machine.Steps.{beginning, events_by, events_of, place_at, task_at, task_of}
+use Rattle.mmu_core.specs.machine.Turns.{line_of}
+use Rattle.mmu_core.specs.machine.View.{view}
+use Rattle.mmu_core.proofs.lines.KnowsKept.{knows_at}
+use Rattle.mmu_core.proofs.machine.Which.{is_next}
+use Rattle.part_steps.specs.Tasks.{kind_of_task}
+use Rattle.mmu_laws.specs.steps.EventLaws.{IsAt, MayTell}
+
+module _ (z : Sizes) (v : ℕ) where
+  -- What a step with these numbers may tell, all of it.
+  abbrev AllMay : Kind → List EventKind → Type 0
+  AllMay k events = All (MayTell z k v) events
+
+  one : (k : Kind) (event : EventKind) → MayTell z k v event → AllMay k (event ∷ [])
+  one k event may = All-cons (MayTell z k v) event [] may (All-nil (MayTell z k v))
+
+  none : (k : Kind) → AllMay k []
+  none k = All-nil (MayTell z k v)
+
+  begins_so : (k : Kind) (p : Place) (line : Line) → AllMay k (beginning p line)
+  begins_so k place.Between line = one k (Begun line) tt
+  begins_so k _ line = none k
+
+  answers_so : (k : Kind) (o : Outcome) (line : Line) → AllMay k (answering o line)
+  answers_so k (Goes p) line = none k
+  answers_so k (Ends answer) line = one k (Answered line.number answer) tt
+
+  exits_so : (k : Kind) (o : Outcome) → AllMay k (exiting o)
+  exits_so k (Goes p) = none k
+  exits_so k (Ends answer) = one k (Exited answer) tt
+
+-- ---- by the form of the line
+
+module _ (h : Held) (v : ℕ) where
+  abbrev z : Sizes
+  z = h.state.sizes
+
+  abbrev AllTold : Place → Command → Type 0
+  AllTold p command = AllMay z v (kind_of_task z (task_at p command h)) (tells_at p command h v)
+
+  touch_told : (gfn word : ℕ) (op : Op) → AllTold (place.Access Touch) (Access gfn word op)
+  touch_told gfn word Read = one z v _ _ (record { at = record { kind_is = refl; on = refl }; finds = refl })
+  touch_told gfn word (Write x) = one z v _ _ (record { at = record { kind_is = refl; on = refl }; finds = refl })
+  touch_told gfn word (Add x) = one z v _ _ (record { at = record { kind_is = refl; on = refl }; finds = refl })
+
+  find_told : (begun : Bool) (gfn word : ℕ) (op : Op) → AllTold (place.Access (Fault (fault.Find begun))) (Access gfn word op)
+  find_told true gfn word op = none z v _
+  find_told false gfn word op = one z v _ _ (record { kind_is = refl; on = refl })
+
+  access_told : (p : AccessPlace) (gfn word : ℕ) (op : Op) → AllTold (place.Access p) (Access gfn word op)
+  access_told (Pause again) gfn word op = one z v _ _ (record { kind_is = refl; on = refl })
+  access_told Touch gfn word op = touch_told gfn word op
+  access_told (Fault (fault.Find begun)) gfn word op = find_told begun gfn word op
+  access_told (Fault fault.Host) gfn word op = one z v _ _ (record { kind_is = refl; on = refl })
+  access_told (Fault (fault.End e)) gfn word op = exits_so z v _ (fault_over e)
+  access_told _ gfn word op = none z v _
+
+  changes_so : (k : Kind) (c : Option (ℕ × Option MemorySlot)) → IsAt z kind.Publish area.Slots 0 k → AllMay z v k (changed c)
+  changes_so k None at = none z v k
+  changes_so k (Some (id, slot)) at = one z v k (SlotChanged id slot) at
+
+  slot_change_told : (p : SlotChangePlace) (command : Command) → AllTold (place.SlotChange p) command
+  slot_change_told (Claim begun) command = exits_so z v _ (slot_change_outcome (Claim begun) h v)
+  slot_change_told Publish command = changes_so _ (slot_change h.slots command) (record { kind_is = refl; on = refl })
+  slot_change_told _ command = none z v _
+
+  look_told : (own : Bool) (page : ℕ) → is_own z h.state.actor page ≡ own
+      → AllMay z v (kind_of_task z (part_task (if own then part.Host page else part.Seq) (own_index h) h.topics (if own then 0 else 1))) (if own then LookedAtHost page ∷ [] else [])
+  look_told true page is = one z v _ _ (record { kind_is = refl; on = refl })
+  look_told false page is = none z v _
+
+  exchange_told : (won : Bool) (page : ℕ) (change : HostChange) → (v == word_looked h.topics.host) ≡ won → page_looked h.topics.host ≡ page
+      → AllMay z v (kind_of_task z (task_at (place.Host Change) (ChangeHost page change) h)) (if won then HostChanged page (entry_of (word_put h.topics)) ∷ [] else [])
+  exchange_told true page change is at =
+      one z v _ _ (record {
+        at = record { kind_is = refl; on = ap (λ (i : ℕ). place_of (map_of z) area.Host i) at };
+        won = eqb-true v (word_looked h.topics.host) is;
+        leaves = refl;
+      })
+  exchange_told false page change is at = none z v _
+
+  host_told : (p : HostPlace) (page : ℕ) (change : HostChange) → HostKnows p page h → AllTold (place.Host p) (ChangeHost page change)
+  host_told Look page change K = look_told (is_own z h.state.actor page) page refl
+  host_told Change page change K = exchange_told (v == word_looked h.topics.host) page change refl K.0.at
+  host_told _ page change K = none z v _
+
+  line_told : (p : Place) (command : Command) → KnowsPart p command h → AllTold p command
+  line_told (place.Access p) (Access gfn word op) K = access_told p gfn word op
+  line_told (place.SlotChange p) command K = slot_change_told p command
+  line_told (place.Host p) (ChangeHost page change) K = host_told p page change K.1
+  line_told _ _ K = none z v _
+
+  -- with its line's begin and its answer
+  all_told : KnowsPart (place_at h.state.place h) (line_of h).command h
+      → All (λ (e : Event). MayTell z (kind_of_task z (task_of h)) v e.kind) (events_by true h v)
+  all_told K =
+      let p : Place = place_at h.state.place h in
+      let k : Kind = kind_of_task z (task_of h) in
+      All-map (λ (e : Event). MayTell z k v e.kind) (λ (event : EventKind). record { actor = h.state.actor; kind = event }) _
+      (All-append (MayTell z k v) (beginning h.state.place (line_of h)) _ (begins_so z v k h.state.place (line_of h))
+      (All-append (MayTell z k v) (tells_at p (line_of h).command h v) _ (line_told p (line_of h).command K)
+      (answers_so z v k (outcome_at p (line_of h).command h v) (line_of h))))
+
+pub events_are_of_their_steps : (z : Sizes) (w : World Held) (s : Step Kind) → IsSound z w → May mmu w s
+    → All (λ (e : Event). MayTell z s.kind (answered mmu w s.kind) e.kind) (events_of (hand_in mmu w s.actor) (answered mmu w s.kind))
+unfolding events_of
+events_are_of_their_steps z w s G may = by (has_line h) refl
+  where
+    h : Held
+    h = hand_in mmu w s.actor
+
+    v : ℕ
+    v = answered mmu w s.kind
+
+    there : s.actor < actors_of z
+    there = omega (arith, may.there, G.hands)
+
+    same : h.state.sizes ≡ z
+    same = (G.holds.lines s.actor there).sizes
+
+    by : (b : Bool) → has_line h ≡ b → All (λ (e : Event). MayTell z s.kind v e.kind) (events_by b h v)
+    by false is = All-nil (λ (e : Event). MayTell z s.kind v e.kind)
+    by true is =
+        let N = is_next h s.kind may.enabled is in
+        subst (λ (k : Kind). All (λ (e : Event). MayTell z k v e.kind) (events_by true h v)) (sym N.is)
+        (subst (λ (y : Sizes). All (λ (e : Event). MayTell y (kind_of_task h.state.sizes (task_of h)) v e.kind) (events_by true h v)) same
+        (all_told h v (knows_at z (view z w) s.actor G.holds there N.left)))

@@ -1,0 +1,221 @@
+-- Each step of a line that changes a host page, and doesn't wait, leaves it fewer steps, beside other actors too: its exchange of the host word is won, since
+-- the word that it looked up is the word now.
+use Rattle.part_steps.specs.declared.part_step.PartStep.TheVariants as part
+use Rattle.spte_words.specs.declared.area.Area.TheVariants as area
+use Rattle.spte_words.specs.declared.spte_kind.SpteKind.TheVariants as entry_kind
+use Rattle.core_views.specs.declared.place.BeginPlace.TheVariants as begins
+use Rattle.core_views.specs.declared.place.EndPlace.TheVariants as ends
+use Rattle.core_views.specs.declared.place.HostPlace.TheVariants.{Look, Begin, Change, End}
+use Rattle.core_views.specs.declared.place.Place.TheVariants as place
+use Rattle.core_views.specs.declared.place.SlotField.TheVariants as field
+use Rattle.core_views.specs.declared.answer.Answer.TheVariants.{Refused}
+use Rattle.core_views.specs.declared.answer.Refusal.TheVariants.{OutOfRange}
+use Rattle.core_views.specs.declared.topics.Flush.{Flush}
+use Rattle.mmu_core.specs.declared.invalidate.BeginNext.TheVariants as begins_next
+use Rattle.mmu_core.specs.declared.invalidate.EndNext.TheVariants as ends_next
+use Rattle.mmu_core.specs.declared.outcome.Outcome.TheVariants.{Goes, Ends}
+use Rattle.mmu_core.specs.lines.AccessSteps.{task_by}
+use Rattle.mmu_core.specs.lines.PartAt.{task_at, touch_at}
+use Rattle.mmu_core.specs.lines.Forms.{note_at, part_at}
+use Rattle.mmu_core.specs.machine.View.{answer_in}
+use Rattle.mmu_core.specs.lines.HostSteps.{word_put}
+use Rattle.mmu_core.specs.lines.InvalidateSteps.{gfn_behind}
+use Rattle.mmu_core.proofs.lines.ByStep.{step_needs}
+use Rattle.mmu_core.proofs.lines.FaultFalls.{flags_fall}
+use Rattle.mmu_core.proofs.lines.FaultKnown.{above_lowest}
+use Rattle.mmu_core.proofs.lines.HostPlaces.{look_some}
+use Rattle.mmu_core.proofs.lines.InvalidateKnown.{may_search_alone, not_either}
+use Rattle.part_steps.specs.ControlTopics.{at_root, at_set, has_to_flush}
+use Rattle.part_steps.specs.PartTasks.{own_index, part_task}
+use Rattle.part_steps.specs.StayTopics.{may_search, may_walk}
+use Rattle.spte_words.specs.Flags.{flags_live}
+use Rattle.core_views.specs.HostChanges.{is_own}
+use Rattle.core_views.specs.Slots.{has_host_page}
+use Rattle.mmu_core.proofs.lines.EitherPlace.{either_place, one_place}
+use Rattle.mmu_core.specs.lines.FaultSteps.{is_last_word}
+use Rattle.mmu_core.specs.lines.FaultLeft.{find_left}
+use Rattle.part_steps.specs.PartTopics.{part_topics}
+use Rattle.part_steps.specs.WalkTopics.{gone_down, linked_page}
+use Rattle.mmu_core.specs.invariant.SearchPart.{LookPart}
+use Rattle.mmu_core.specs.lines.HostSteps.{host_part, after_end, host_outcome, after_begin, host_left}
+use Rattle.mmu_core.specs.lines.HostKnows.{HostKnows}
+use Rattle.mmu_core.specs.lines.PartWaits.{part_waits}
+use Rattle.mmu_laws.proofs.turns.Nearer.{Nearer}
+use Rattle.mmu_core.specs.lines.InvalidateKnows.{BeginKnows}
+use Rattle.spte_words.specs.Entries.{kind_of}
+use Rattle.part_steps.specs.StayTopics.{no_flush}
+use Rattle.mmu_core.specs.lines.InvalidateSteps.{begin_left, search_next, has_found, sweep_next, begin_part, end_part, begin_next, end_left, end_next}
+use Rattle.mmu_core.specs.lines.SearchLeft.{look_left}
+use Rattle.mmu_core.specs.lines.Forms.{RestsAt}
+use Rattle.part_steps.specs.PartSteps.{PartNeeds}
+use Rattle.part_steps.specs.PartBounds.{PartRests}
+use Rattle.part_steps.specs.PageTopics.{searched_at, searched}
+use Rattle.spte_words.specs.declared.area.Area.{Area}
+use Rattle.core_views.specs.declared.topics.Topics.{Topics}
+use Rattle.core_views.specs.declared.topics.SlotSearch.{SlotSearch}
+use Rattle.core_views.specs.declared.trace.Command.{Command}
+use Rattle.part_steps.specs.declared.task.Task.{Task}
+use Rattle.core_views.specs.Held.{Held}
+use Rattle.part_steps.specs.PartTasks.{page_looked, word_looked, entry_index}
+use Rattle.core_views.specs.declared.place.HostPlace.{HostPlace}
+use Rattle.core_views.specs.declared.place.EndPlace.{EndPlace}
+use Rattle.mmu_core.specs.declared.invalidate.EndNext.{EndNext}
+use Rattle.core_views.specs.declared.place.BeginPlace.{BeginPlace}
+use Rattle.spte_words.specs.declared.spte_kind.SpteKind.{SpteKind}
+use Rattle.core_views.specs.declared.sizes.Sizes.{Sizes}
+use Rattle.core_views.specs.declared.place.SlotField.{SlotField}
+use Rattle.mmu_core.specs.declared.invalidate.BeginNext.{BeginNext}
+use Rattle.core_views.specs.declared.place.Place.{Place}
+use Rattle.core_views.specs.declared.topics.HostLook.{HostLook}
+use Rattle.part_steps.specs.declared.part_step.PartStep.{PartStep}
+use Rattle.std.proofs.Common.{◌≡◌, ◌≢◌, ◌+◌, ◌-◌, ◌*◌, ◌<◌, ◌≤◌, ℕ, refl, ap, arith}
+use Rattle.std.specs.Prelude.{Bool, true, false, ◌==◌, ◌&&◌, ◌||◌, nat_lt, not, is_some, if◌then◌else◌, Option, Some, None}
+use Rattle.std.proofs.lemmas.Bool.Decides.{nat_tests}
+
+-- ---- the exchange
+
+-- Where the step is one that exchanges a host word, it finds the word that was looked up.
+abbrev pub Wins : Option PartStep → Topics → ℕ → Type 0
+Wins (Some (part.Change new_)) t v = (v == word_looked t.host) ≡ true
+Wins _ t v = Unit {0}
+
+is_word_now : (o : Option HostLook) (host : ℕ → ℕ) → ((look : HostLook) → o ≡ Some look → look.word ≡ host look.page) → is_some o ≡ true
+    → (host (page_looked o) == word_looked o) ≡ true
+is_word_now None host is some = absurd (cc some)
+is_word_now (Some look) host is some = let same : look.word ≡ host look.page = is look refl in grind (arith, nat_tests)
+
+part_wins : (step : PartStep) (own_ note : ℕ) (z : Sizes) (seq : ℕ) (h : Held) (words : Area → ℕ → ℕ) → PartNeeds step h
+    → LookPart z seq (words area.Host) h.topics → Wins (Some step) h.topics (answer_in (part_task step own_ h.topics note) words)
+part_wins (part.Change new_) own_ note z seq h words N looks = is_word_now h.topics.host (words area.Host) looks.is N.0.looked
+part_wins _ own_ note z seq h words N looks = tt
+
+wins_by : (s : Option PartStep) (note : ℕ) (touch : Task) (z : Sizes) (seq : ℕ) (h : Held) (words : Area → ℕ → ℕ)
+    → ((step : PartStep) → s ≡ Some step → PartNeeds step h) → LookPart z seq (words area.Host) h.topics
+    → Wins s h.topics (answer_in (task_by s h note touch) words)
+wins_by None note touch z seq h words needs looks = tt
+wins_by (Some step) note touch z seq h words needs looks = part_wins step (own_index h) note z seq h words (needs step refl) looks
+
+pub wins_at : (p : Place) (c : Command) (z : Sizes) (seq : ℕ) (h : Held) (words : Area → ℕ → ℕ) → RestsAt p c h → LookPart z seq (words area.Host) h.topics
+    → Wins (part_at p c h) h.topics (answer_in (task_at p c h) words)
+wins_at p c z seq h words R looks = wins_by (part_at p c h) (note_at p c h) (touch_at c h) z seq h words (λ step is. step_needs p c h step R is) looks
+
+-- ---- its begin
+
+-- how many steps the line has left after a step of the begin
+abbrev begin_left_after : BeginNext → Sizes → Topics → ℕ
+begin_left_after (begins_next.Goes p) z t = begin_left p z t
+begin_left_after begins_next.Begun z t = 0
+
+-- the search
+look_falls : (f : SlotField) (s : SlotSearch) (v : ℕ) → s.id ≤ 31 → ((searched_at f s v).id == 32) ≡ false
+    → 4 * (31 - (searched_at f s v).id) + look_left (searched_at f s v).next < 4 * (31 - s.id) + look_left f
+look_falls field.Flags s v low is = flags_fall (flags_live v) s.id low is
+look_falls field.Base s v low is = omega arith
+look_falls field.Pages s v low is = omega arith
+look_falls field.Host s v low is = let lower : s.id + 1 ≢ 32 = grind (arith, nat_tests) in omega (arith, lower)
+
+find_falls : (b : Bool) (z : Sizes) (page : ℕ) (t : Topics) (v : ℕ) → b ≡ true → t.search.id ≤ 31
+    → begin_left (search_next page t.search.next (searched t.search v)) z (record t { search = if b then searched t.search v else t.search })
+    < 2 * z.vcpus + 13 + find_left true t.search
+find_falls false z page t v is low = absurd (cc is)
+find_falls true z page t v is low =
+    one_place (λ q. begin_left q z (record t { search = searched t.search v }) < 2 * z.vcpus + 13 + find_left true t.search) over begins.Count
+    (begins.Find true)
+    (λ e. let some = look_some t.search.next in omega (arith, some))
+    (λ e. let less = look_falls t.search.next t.search v low
+    (not_either (is_last_word t.search.next && has_host_page page (searched t.search v).slot) ((searched t.search v).id == 32) e) in omega (arith, less))
+  where
+    over : Bool
+    over = (is_last_word t.search.next && has_host_page page (searched t.search v).slot) || ((searched t.search v).id == 32)
+
+-- the sweep
+root_falls : (b : Bool) (z : Sizes) (page : ℕ) (t : Topics) (v : ℕ) → t.flush ≡ no_flush
+    → begin_left (if has_found page t.search then begins.Walk true else begins.Ask) z (record t { walk = at_root b t.walk v }) < 2 * z.vcpus + 7
+root_falls b z page t v none =
+    let asked = ap (λ (f : Flush). f.asked) none in
+    either_place (λ q. begin_left q z (record t { walk = at_root b t.walk v }) < 2 * z.vcpus + 7) (has_found page t.search) (begins.Walk true) begins.Ask
+    (rooted b) (omega (arith, asked))
+  where
+    rooted : (c : Bool) → 2 * z.vcpus + (2 + (at_root c t.walk v).level) < 2 * z.vcpus + 7
+    rooted true = omega arith
+    rooted false = omega arith
+
+sweep_falls : (k : SpteKind) (z : Sizes) (gfn : ℕ) (t : Topics) (v : ℕ) → kind_of t.walk.level v ≡ k → 1 ≤ t.walk.level → t.flush ≡ no_flush
+    → begin_left (sweep_next k) z (record t { walk = gone_down (linked_page k) t.walk (entry_index gfn t.walk.level) v }) < 2 * z.vcpus + (2 + t.walk.level)
+sweep_falls (entry_kind.Table page) z gfn t v is from none = let upper = above_lowest t.walk.level v page from is in omega (arith, upper)
+sweep_falls entry_kind.Leaf z gfn t v is from none = omega (arith, from)
+sweep_falls _ z gfn t v is from none = let asked = ap (λ (f : Flush). f.asked) none in omega (arith, from, asked)
+
+-- the flush
+await_falls : (waits : Bool) (z : Sizes) (t : Topics) → waits ≡ false → t.flush.awaited < z.vcpus
+    → begin_left (if waits || nat_lt (t.flush.awaited + 1) z.vcpus then begins.Await else begins.Release) z
+    (record t { flush = record t.flush { awaited = t.flush.awaited + (if waits then 0 else 1) } })
+    < 1 + (z.vcpus - t.flush.awaited)
+await_falls true z t is lt = absurd (cc is)
+await_falls false z t is lt =
+    either_place (λ q. begin_left q z (record t { flush = record t.flush { awaited = t.flush.awaited + 1 } }) < 1 + (z.vcpus - t.flush.awaited))
+    (nat_lt (t.flush.awaited + 1) z.vcpus) begins.Await begins.Release
+    (omega (arith, lt)) (omega (arith, lt))
+
+begin_falls : (p : BeginPlace) (z : Sizes) (page : ℕ) (t : Topics) (v : ℕ) → BeginKnows p z page t → part_waits (begin_part p page t) t v ≡ false
+    → begin_left_after (begin_next p z page t v) z (part_topics (begin_part p page t) t v) < begin_left p z t
+begin_falls begins.Exclude z page t v K goes =
+    one_place (λ q. begin_left q z (part_topics part.Exclude t v) < 2 * z.vcpus + 143) (v == 0) (begins.Find false) begins.Exclude (λ e. omega arith)
+    (λ e. absurd (cc (goes, ap not e)))
+begin_falls (begins.Find true) z page t v K goes = let set = K.1 refl in find_falls (is_some t.search.set) z page t v set.0 set.1
+begin_falls (begins.Find false) z page t v K goes = slots_fall (may_search t.stay t.hold) (may_search_alone t K.0.with_lock.alone)
+  where
+    slots_fall : (b : Bool) → b ≡ true → 2 * z.vcpus + 13 + find_left true (at_set b t.search v) < 2 * z.vcpus + 13 + 129
+    slots_fall true is = omega arith
+    slots_fall false is = absurd (cc is)
+begin_falls begins.Count z page t v K goes =
+    either_place (λ q. begin_left q z (part_topics part.Count t v) < 2 * z.vcpus + 13) (v == 0) begins.SetStart begins.RangeStart (omega arith) (omega arith)
+begin_falls (begins.Walk true) z page t v K goes =
+    sweep_falls (kind_of t.walk.level v) z (gfn_behind page t.search.slot) t v refl (K.1 refl).there K.0.unasked
+begin_falls (begins.Walk false) z page t v K goes = root_falls (may_walk t.stay t.hold) z page t v K.0.unasked
+begin_falls begins.Zap z page t v K goes = let asked = ap (λ (f : Flush). f.asked) K.0.unasked in omega (arith, asked)
+begin_falls begins.Ask z page t v K goes =
+    let lt = K.1 in
+    one_place (λ q. begin_left q z (part_topics (part.Ask t.flush.asked) t v) < z.vcpus + 1 + (z.vcpus - t.flush.asked))
+    (nat_lt (t.flush.asked + 1) z.vcpus) begins.Ask begins.Await
+    (λ e. omega (arith, lt)) (λ e. omega (arith, lt))
+begin_falls begins.Await z page t v K goes = await_falls (has_to_flush v) z t goes K.2
+begin_falls begins.Release z page t v K goes = omega arith
+begin_falls _ z page t v K goes = omega arith
+
+-- ---- its end
+
+end_left_after : EndNext → ℕ
+end_left_after (ends_next.Goes p) = end_left p
+end_left_after ends_next.Ended = 0
+
+-- ---- each place
+
+begin_nearer : (next : BeginNext) (z : Sizes) (u : Topics) (n : ℕ) → begin_left_after next z u < n → Nearer (Goes (place.Host (after_begin next))) z u (n + 7)
+begin_nearer (begins_next.Goes p) z u n less = omega (arith, less)
+begin_nearer begins_next.Begun z u n less = omega (arith, less)
+
+end_nearer : (p : EndPlace) (z : Sizes) (t u : Topics) (v : ℕ) → part_waits (end_part p t) t v ≡ false → Nearer (after_end (end_next p v)) z u (end_left p)
+end_nearer ends.Exclude z t u v goes =
+    one_place (λ q. end_left q < 6) (v == 0) ends.Seq ends.Exclude (λ e. omega arith) (λ e. absurd (cc (goes, ap not e)))
+end_nearer ends.Seq z t u v goes = omega arith
+end_nearer ends.SetSeq z t u v goes = omega arith
+end_nearer ends.Count z t u v goes = omega arith
+end_nearer ends.SetCount z t u v goes = omega arith
+end_nearer ends.Release z t u v goes = tt
+
+pub host_nearer : (p : HostPlace) (page : ℕ) (h : Held) (v : ℕ) → PartRests h → HostKnows p page h → Wins (Some (host_part p page h)) h.topics v
+    → part_waits (host_part p page h) h.topics v ≡ false
+    → Nearer (host_outcome p page h v) h.state.sizes (part_topics (host_part p page h) h.topics v) (host_left p h.state.sizes h.topics)
+host_nearer Look page h v R K wins goes =
+    either_place (λ o. Nearer o h.state.sizes (part_topics (host_part Look page h) h.topics v) (2 * h.state.sizes.vcpus + 151))
+    (is_own h.state.sizes h.state.actor page) (Goes (place.Host (Begin begins.Exclude))) (Ends (Refused OutOfRange))
+    (omega arith) tt
+host_nearer (Begin p) page h v R K wins goes =
+    begin_nearer (begin_next p h.state.sizes page h.topics v) h.state.sizes _ (begin_left p h.state.sizes h.topics)
+    (begin_falls p h.state.sizes page h.topics v K.1 goes)
+host_nearer Change page h v R K wins goes =
+    one_place (λ q. Nearer (Goes (place.Host q)) h.state.sizes (part_topics (part.Change (word_put h.topics)) h.topics v) 7) (v == word_looked h.topics.host)
+    (End ends.Exclude) Change
+    (λ e. omega arith) (λ e. absurd (cc (wins, e)))
+host_nearer (End p) page h v R K wins goes = end_nearer p h.state.sizes h.topics _ v goes

@@ -1,0 +1,200 @@
+ghost use Rattle.std.specs.Prelude.{◌≡◌, ◌<◌, ◌≤◌, ◌+◌, ◌^◌, IfSome, Some, None, true, false};
+ghost use Rattle.core_views.specs.declared.place.BeginPlace.TheVariants as at;
+ghost use Rattle.mmu_core.specs.lines.InvalidateSteps.{begin_part, gfn_behind, has_found};
+ghost use Rattle.part_steps.specs.PartBounds.{PartRests};
+ghost use Rattle.range_notifier.specs.Notifying.{BeginsNext, GoesOn, IsInBegin, TurnsBegin, begin_at, frame_found, opens_at};
+ghost use Rattle.step_seats.specs.Moves.{KeepsRoom};
+ghost use Rattle.step_seats.specs.PartTurns.{MadeTelling, MakesPart};
+
+use crate::lock::{exclude, release};
+use core_views::{BeginPlace, Hand, HostPlace, Place, Seen, Slot, SlotSearch};
+use invalidate_seq::{Open, OpenStage};
+use memslots::FindPage;
+use mmu_core::part_rests;
+use part_steps::map_of;
+use step_seats::{Stepper, Turn};
+use tdp_walk::{Walk, zap};
+use vcpu_tlb::{ask_flush, await_flush};
+
+/// The begin of an invalidation, a step a turn. Where it stands is kept in the hand whose
+/// line it is of.
+#[derive(Clone, Copy, Debug, PartialEq, Eq, Drop)]
+pub struct BeginJob {
+    /// The host page that is to change.
+    pub page: u64,
+}
+
+// Where in the begin the hand's line stands.
+fn place_of(hand: &Hand) -> Option<BeginPlace>
+    ensures { result ≡ begin_at hand.now.core.state.place }
+{
+    match hand.progress().place {
+        Place::Host(HostPlace::Begin(place)) => Some(place),
+        _ => None,
+    }
+}
+
+// The guest frame that the slot gives to the host page.
+fn gfn_behind(page: u64, slot: &Slot) -> u64
+    requires { gfn_behind page slot.now < 2 ^ 64 }
+    ensures { result ≡ gfn_behind page slot.now }
+{
+    slot.base + page.saturating_sub(slot.host)
+}
+
+// The guest frame that the search has found for the host page.
+fn frame_found(page: u64, search: &SlotSearch) -> Option<u64>
+    requires { search.now.whole ≡ true → search.now.slot.base + search.now.slot.pages ≤ 2 ^ 36 }
+    ensures is { result ≡ frame_found page search.now }
+    ensures small { IfSome result (λ g. g < 2 ^ 36) }
+{
+    let slot = &search.slot;
+    if search.whole && slot.host <= page && page - slot.host < slot.pages {
+        Some(slot.base + (page - slot.host))
+    } else {
+        None
+    }
+}
+
+impl BeginJob {
+    // Searches the slot that has the host page. It never waits.
+    fn find<S: Stepper>(&self, s: &mut S, begun: bool, note: u64)
+        requires is_in { IsInBegin (at.Find begun) self.now.page note (S.seat s.old).hand }
+        requires reserved { 0 < (S.seat s.old).room }
+        ensures makes { MakesPart (begin_part (at.Find begun) self.now.page (S.seat s.old).hand.topics) note (S.seat s.old) (S.seat s.new) }
+        ensures room { KeepsRoom (S.seat s.old) (S.seat s.new) }
+        ensures same { ((S.seat s.new).actor ≡ (S.seat s.old).actor) × (S.frame s.new ≡ S.frame s.old) }
+    {
+        let mut find = FindPage {
+            page: self.page,
+            begun,
+        };
+        let _ = find.turn(s, note);
+    }
+
+    // Loads or stores the next word of the open invalidations. It never waits.
+    fn open<S: Stepper>(&self, s: &mut S, stage: OpenStage, note: u64)
+        requires is_in { IsInBegin (opens_at stage) self.now.page note (S.seat s.old).hand }
+        requires reserved { 0 < (S.seat s.old).room }
+        ensures makes { MakesPart (begin_part (opens_at stage) self.now.page (S.seat s.old).hand.topics) note (S.seat s.old) (S.seat s.new) }
+        ensures room { KeepsRoom (S.seat s.old) (S.seat s.new) }
+        ensures same { ((S.seat s.new).actor ≡ (S.seat s.old).actor) × (S.frame s.new ≡ S.frame s.old) }
+    {
+        part_rests(s.hand());
+        let gfn = frame_found(self.page, &s.hand().topics().search);
+        let mut open = Open { gfn, stage };
+        let _ = open.turn(s, note);
+    }
+
+    // Goes down to the entry of the page's guest frame. It never waits.
+    fn walk<S: Stepper>(&self, s: &mut S, rooted: bool, note: u64)
+        requires is_in { IsInBegin (at.Walk rooted) self.now.page note (S.seat s.old).hand }
+        requires reserved { 0 < (S.seat s.old).room }
+        ensures makes { MakesPart (begin_part (at.Walk rooted) self.now.page (S.seat s.old).hand.topics) note (S.seat s.old) (S.seat s.new) }
+        ensures room { KeepsRoom (S.seat s.old) (S.seat s.new) }
+        ensures same { ((S.seat s.new).actor ≡ (S.seat s.old).actor) × (S.frame s.new ≡ S.frame s.old) }
+    {
+        let gfn = if rooted {
+            gfn_behind(self.page, &s.hand().topics().search.slot)
+        } else {
+            0
+        };
+        let mut walk = Walk { gfn, rooted };
+        let _ = walk.turn(s, note);
+    }
+
+    // Zaps the frame's leaf. It never waits.
+    fn zap<S: Stepper>(&self, s: &mut S, note: u64)
+        requires is_in { IsInBegin at.Zap self.now.page note (S.seat s.old).hand }
+        requires reserved { 0 < (S.seat s.old).room }
+        ensures makes { MakesPart (begin_part at.Zap self.now.page (S.seat s.old).hand.topics) note (S.seat s.old) (S.seat s.new) }
+        ensures room { KeepsRoom (S.seat s.old) (S.seat s.new) }
+        ensures same { ((S.seat s.new).actor ≡ (S.seat s.old).actor) × (S.frame s.new ≡ S.frame s.old) }
+    {
+        let gfn = gfn_behind(self.page, &s.hand().topics().search.slot);
+        let _ = zap(s, gfn, note);
+    }
+
+    // Awaits the flush of the next virtual processor. Its state word is in the way where it
+    // is in the guest, and has yet to flush.
+    fn await_next<S: Stepper>(&self, s: &mut S, note: u64) -> Option<Seen>
+        requires is_in { IsInBegin at.Await self.now.page note (S.seat s.old).hand }
+        requires reserved { 0 < (S.seat s.old).room }
+        ensures makes { MadeTelling result (begin_part at.Await self.now.page (S.seat s.old).hand.topics) note (S.seat s.old) (S.seat s.new) }
+        ensures room { KeepsRoom (S.seat s.old) (S.seat s.new) }
+        ensures same { ((S.seat s.new).actor ≡ (S.seat s.old).actor) × (S.frame s.new ≡ S.frame s.old) }
+    {
+        let hand = s.hand();
+        part_rests(hand);
+        let index = hand.topics().flush.awaited;
+        let word = map_of(&hand.progress().sizes).word_of_state(index);
+        await_flush(s, index, note).in_way(word)
+    }
+
+    // Makes the step of a place that never waits for another actor.
+    fn go_on<S: Stepper>(&self, s: &mut S, place: BeginPlace, note: u64)
+        requires is_in { IsInBegin place self.now.page note (S.seat s.old).hand }
+        requires goes_on { GoesOn place }
+        requires reserved { 0 < (S.seat s.old).room }
+        ensures makes { MakesPart (begin_part place self.now.page (S.seat s.old).hand.topics) note (S.seat s.old) (S.seat s.new) }
+        ensures room { KeepsRoom (S.seat s.old) (S.seat s.new) }
+        ensures same { ((S.seat s.new).actor ≡ (S.seat s.old).actor) × (S.frame s.new ≡ S.frame s.old) }
+    {
+        match place {
+            BeginPlace::Find { begun } => self.find(s, begun, note),
+            BeginPlace::Count => self.open(s, OpenStage::Count, note),
+            BeginPlace::RangeStart => self.open(s, OpenStage::RangeStart, note),
+            BeginPlace::RangeEnd => self.open(s, OpenStage::RangeEnd, note),
+            BeginPlace::SetStart => self.open(s, OpenStage::SetStart, note),
+            BeginPlace::SetEnd => self.open(s, OpenStage::SetEnd, note),
+            BeginPlace::SetCount => self.open(s, OpenStage::SetCount, note),
+            BeginPlace::Walk { rooted } => self.walk(s, rooted, note),
+            BeginPlace::Zap => self.zap(s, note),
+            BeginPlace::Ask => ask_flush(s, s.hand().topics().flush.asked, note),
+            _ => unreachable!(),
+        }
+    }
+
+    // Makes the step of this place by the call of its part, and says what is in its way.
+    fn step<S: Stepper>(&self, s: &mut S, place: BeginPlace, note: u64) -> Option<Seen>
+        requires is_in { IsInBegin place self.now.page note (S.seat s.old).hand }
+        requires reserved { 0 < (S.seat s.old).room }
+        ensures makes { MadeTelling result (begin_part place self.now.page (S.seat s.old).hand.topics) note (S.seat s.old) (S.seat s.new) }
+        ensures room { KeepsRoom (S.seat s.old) (S.seat s.new) }
+        ensures same { ((S.seat s.new).actor ≡ (S.seat s.old).actor) × (S.frame s.new ≡ S.frame s.old) }
+    {
+        match place {
+            BeginPlace::Exclude => exclude(s, note),
+            BeginPlace::Await => self.await_next(s, note),
+            BeginPlace::Release => release(s, note),
+            _ => {
+                self.go_on(s, place, note);
+                None
+            }
+        }
+    }
+
+    /// Makes the next step of the hand's line, which stands in the begin of an
+    /// invalidation: it takes the lock alone, searches the slot that has the host page,
+    /// widens the range of open invalidations to the page's guest frame and counts one more,
+    /// zaps the frame's leaf, asks each virtual processor for a flush and awaits it, and
+    /// gives the lock back. `Done` once the lock is given back. `Wait` where the lock's
+    /// word isn't 0, or a virtual processor is in the guest and has yet to flush; never
+    /// `Retry`. It takes no memory.
+    pub fn turn<S: Stepper>(&self, s: &mut S, note: u64) -> Turn<()>
+        requires next { BeginsNext self.now note (S.seat s.old).hand }
+        requires reserved { 0 < (S.seat s.old).room }
+        ensures turned { TurnsBegin self.now result note (S.seat s.old) (S.seat s.new) }
+        ensures room { KeepsRoom (S.seat s.old) (S.seat s.new) }
+        ensures same { ((S.seat s.new).actor ≡ (S.seat s.old).actor) × (S.frame s.new ≡ S.frame s.old) }
+    {
+        let Some(place) = place_of(s.hand()) else {
+            unreachable!()
+        };
+        match self.step(s, place, note) {
+            Some(seen) => Turn::Wait(seen),
+            None if place == BeginPlace::Release => Turn::Done(()),
+            None => Turn::More,
+        }
+    }
+}

@@ -1,0 +1,48 @@
+//! The lock alone, for the begin and for the end of an invalidation.
+ghost use Rattle.std.specs.Prelude.{◌≡◌, ◌<◌};
+ghost use Rattle.mmu_core.specs.machine.MayMake.{MayMake};
+ghost use Rattle.part_steps.specs.declared.part_step.PartStep.TheVariants.{Exclude, Release};
+ghost use Rattle.step_seats.specs.Moves.{KeepsRoom};
+ghost use Rattle.step_seats.specs.PartTurns.{MadeTelling};
+
+use core_views::{Hold, Seen};
+use mmu_core::{part_rests, part_waits};
+use mmu_lock::{try_exclusive, unlock};
+use part_steps::{PartStep, map_of};
+use spte_words::Area;
+use step_seats::Stepper;
+
+// Tries to hold the lock alone. The lock's word is in the way where it isn't 0.
+pub(crate) fn exclude<S: Stepper>(s: &mut S, note: u64) -> Option<Seen>
+    requires may { MayMake Exclude note (S.seat s.old).hand }
+    requires reserved { 0 < (S.seat s.old).room }
+    ensures makes { MadeTelling result Exclude note (S.seat s.old) (S.seat s.new) }
+    ensures room { KeepsRoom (S.seat s.old) (S.seat s.new) }
+    ensures same { ((S.seat s.new).actor ≡ (S.seat s.old).actor) × (S.frame s.new ≡ S.frame s.old) }
+{
+    part_rests(s.hand());
+    let word = map_of(&s.hand().progress().sizes).word_of(Area::Lock, 0);
+    try_exclusive(s, note).in_way(word)
+}
+
+// Gives the lock back that the actor has alone. The count of open invalidations is in the
+// way where the check of a look-up had come to it alone, and others are open.
+pub(crate) fn release<S: Stepper>(s: &mut S, note: u64) -> Option<Seen>
+    requires may { MayMake Release note (S.seat s.old).hand }
+    requires reserved { 0 < (S.seat s.old).room }
+    ensures makes { MadeTelling result Release note (S.seat s.old) (S.seat s.new) }
+    ensures room { KeepsRoom (S.seat s.old) (S.seat s.new) }
+    ensures same { ((S.seat s.new).actor ≡ (S.seat s.old).actor) × (S.frame s.new ≡ S.frame s.old) }
+{
+    let hand = s.hand();
+    part_rests(hand);
+    let word = map_of(&hand.progress().sizes).word_of_count(0);
+    let value = hand.topics().invalidations.count;
+    let waits = part_waits(PartStep::Release, hand.topics(), 0);
+    unlock(s, note);
+    if waits {
+        Some(Seen { word, value })
+    } else {
+        None
+    }
+}

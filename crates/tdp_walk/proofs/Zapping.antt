@@ -1,0 +1,32 @@
+-- The entry that a zap leaves absent.
+use Rattle.std.proofs.Common.{ℕ, sym, ◌∙◌}
+use Rattle.core_views.specs.Held.{Held}
+use Rattle.spte_words.specs.declared.area.Area.TheVariants as area
+use Rattle.part_steps.specs.PartSteps.{PartNeeds}
+use Rattle.part_steps.specs.PartTasks.{own_index, part_task}
+use Rattle.part_steps.specs.declared.part_step.PartStep.TheVariants as part
+use Rattle.mmu_core.specs.machine.Machine.{World}
+use Rattle.mmu_core.specs.machine.View.{word_in}
+use Rattle.mmu_core.proofs.machine.Columns.{upd_other, upd_same}
+use Rattle.step_seats.specs.PartTurns.{MadePart}
+use Rattle.step_seats.specs.Seats.{Seat}
+use Rattle.step_seats.proofs.ToldWords.{StepsTo, told_both}
+use Rattle.step_seats.proofs.Where.{ToldBoth}
+use Rattle.tdp_walk.specs.Zaps.{ZapsEntry, entry_at}
+
+pub zapped_word : (gfn note found : ℕ) (before after : Seat) → PartNeeds (part.Zap gfn) before.hand → MadePart (part.Zap gfn) note found before after
+    → ToldBoth before.tells.world after.tells.world (ZapsEntry gfn found before.hand)
+zapped_word gfn note found before after needs made =
+    told_both before.tells.world after.tells.world before.actor note found (part.Zap gfn) before.hand (ZapsEntry gfn found before.hand) needs made.has
+    made.world each
+  where
+    each : (w u : World Held) → StepsTo before.hand.state.sizes (part_task (part.Zap gfn) (own_index before.hand) before.hand.topics note) found w u
+        → ZapsEntry gfn found before.hand w u
+    each w u S =
+        let words = word_in before.hand.state.sizes w area.Pool in
+        let at = entry_at gfn before.hand.topics in
+        record {
+          was = sym S.finds;
+          absent = S.leaves area.Pool at ∙ upd_same words at 0;
+          others = λ i apart. S.leaves area.Pool i ∙ upd_other words at i 0 apart;
+        }

@@ -1,0 +1,30 @@
+-- A zap of the leaf that a walk has come to (tdp_mmu.c, kvm_tdp_mmu_unmap_gfn_range and tdp_mmu_zap_leafs).
+use Rattle.std.specs.Prelude.{◌≡◌, ◌≢◌, ℕ}
+use Rattle.core_views.specs.declared.topics.Topics.{Topics}
+use Rattle.core_views.specs.Held.{Held}
+use Rattle.spte_words.specs.declared.area.Area.TheVariants as area
+use Rattle.spte_words.specs.Areas.{pool_index}
+use Rattle.part_steps.specs.declared.part_step.PartStep.TheVariants as part
+use Rattle.part_steps.specs.PartTasks.{entry_index, table_page}
+use Rattle.mmu_core.specs.machine.Machine.{World}
+use Rattle.mmu_core.specs.machine.View.{word_in}
+use Rattle.step_seats.specs.PartTurns.{WherePartMade}
+use Rattle.step_seats.specs.Seats.{Seat}
+
+-- The walk stays in its table, and has seen the entry absent. Nothing else that the actor holds has changed.
+abbrev pub zapped : ℕ → Topics → Topics
+zapped gfn t = record t { walk = record t.walk { index = entry_index gfn t.walk.level; entry = 0 } }
+
+-- where the guest frame's entry stands in the table that the walk has come to
+abbrev pub entry_at : ℕ → Topics → ℕ
+entry_at gfn t = pool_index (table_page t.walk) (entry_index gfn t.walk.level)
+
+-- The entry was this word before the zap, and is absent after it; each other word of the pool is what it was.
+pub record ZapsEntry (gfn found : ℕ) (h : Held) (w v : World Held) : Type 0 where
+  pub was : word_in h.state.sizes w area.Pool (entry_at gfn h.topics) ≡ found
+  pub absent : word_in h.state.sizes v area.Pool (entry_at gfn h.topics) ≡ 0
+  pub others : (i : ℕ) → i ≢ entry_at gfn h.topics → word_in h.state.sizes v area.Pool i ≡ word_in h.state.sizes w area.Pool i
+
+-- It was so where the zap was made.
+abbrev pub ZapsWhereMade : ℕ → ℕ → ℕ → Seat → Seat → Type 0
+ZapsWhereMade gfn found note before after = WherePartMade (part.Zap gfn) note before after (ZapsEntry gfn found before.hand)

@@ -1,0 +1,26 @@
+ghost use Rattle.std.specs.Prelude.{◌≡◌, ◌<◌};
+ghost use Rattle.mmu_core.specs.machine.MayMake.{MayMake};
+ghost use Rattle.part_steps.specs.declared.part_step.PartStep.TheVariants.{Zap};
+ghost use Rattle.step_seats.specs.Moves.{KeepsRoom};
+ghost use Rattle.step_seats.specs.PartTurns.{MadePart};
+ghost use Rattle.tdp_walk.specs.Zaps.{ZapsWhereMade, zapped};
+
+use part_steps::PartStep;
+use step_seats::{Stepper, make_part};
+
+/// Zaps the leaf of this guest frame (below 2^36) that the walk has come to: swaps the entry
+/// for an absent one, and answers the entry that was there (tdp_mmu.c, `tdp_mmu_zap_leafs`).
+/// The actor has the lock alone (locking.rst). Virtual processors may still have the
+/// translation cached: they are to be asked for a flush afterwards. It never waits and takes
+/// no memory.
+pub fn zap<S: Stepper>(s: &mut S, gfn: u64, note: u64) -> u64
+    requires may { MayMake (Zap gfn) note (S.seat s.old).hand }
+    requires reserved { 0 < (S.seat s.old).room }
+    ensures step { MadePart (Zap gfn) note result (S.seat s.old) (S.seat s.new) }
+    ensures walk { (S.seat s.new).hand.topics ≡ zapped gfn (S.seat s.old).hand.topics }
+    ensures told { ZapsWhereMade gfn result note (S.seat s.old) (S.seat s.new) }
+    ensures room { KeepsRoom (S.seat s.old) (S.seat s.new) }
+    ensures same { ((S.seat s.new).actor ≡ (S.seat s.old).actor) × (S.frame s.new ≡ S.frame s.old) }
+{
+    make_part(s, PartStep::Zap(gfn), note)
+}
