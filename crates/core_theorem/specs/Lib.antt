@@ -2,6 +2,7 @@ pub mod Runs
 pub mod Pages
 pub mod Walks
 pub mod Leaves
+pub mod OpenFrames
 pub mod Locks
 pub mod Holdings
 pub mod Delays

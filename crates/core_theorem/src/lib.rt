@@ -7,6 +7,7 @@ ghost use Rattle.core_theorem.specs.Delays.{DelaysHaveCauses, FaultsHaveCauses, 
 ghost use Rattle.core_theorem.specs.Holdings.{AnsweredLinesRest, HeldSetsAreKnown, NoneHoldsFreePages, PagesAreReusedAlone, ReturnedSetsAreCleared, WatchedHoldNoOldSet};
 ghost use Rattle.core_theorem.specs.Leaves.{HeldLeavesAgree, LinkedLeavesAgree, TranslationsAgree, UsedLeavesAgree};
 ghost use Rattle.core_theorem.specs.Locks.{LockIsKept};
+ghost use Rattle.core_theorem.specs.OpenFrames.{OpenFramesAreFlushed, OpenFramesAreOfThePage, OpenFramesAreRecorded, OpenFramesAreZapped};
 ghost use Rattle.core_theorem.specs.Pages.{EachPageHasOneUse};
 ghost use Rattle.core_theorem.specs.Runs.{TellsLawfully, WordsStandForFacts};
 ghost use Rattle.core_theorem.specs.Stays.{PauseIsSeenInStay};
@@ -23,9 +24,14 @@ ghost use Rattle.core_theorem.specs.Walks.{WalksHoldTables};
 /// it is over what slots and host say. `leaves`, `held`, `translations`, `used`: each leaf that is
 /// linked below the root, or below a table that a walk holds, each one that is cached,
 /// and the one by which an access is about to touch, is of the page that the slots give
-/// the guest frame, at the frame that the host gives this page. `lock`: the lock's word
-/// counts its readers and has the bit of its one writer, beside whom none has it as a
-/// reader. `grace`: what an actor holds of
+/// the guest frame, at the frame that the host gives this page. `recorded`: each guest
+/// frame that an open invalidation is of lies in the range of the open ones. `scopes`: it
+/// is of exactly the guest frames that the published slots give to its host page. `zapped`:
+/// once its actor has asked for a first flush, no links lead such a guest frame from the
+/// root to a leaf. `flushed`: a virtual processor whose flush was awaited, and which is in
+/// the guest or has no flush asked of it, has nothing cached of such a guest frame. `lock`:
+/// the lock's word counts its readers and has the bit of its one writer, beside whom none
+/// has it as a reader. `grace`: what an actor holds of
 /// tables and slot sets isn't free. `sets`, `watched`: a slot set that an actor holds
 /// is the published one, or an old one, held in a section and leaving for another
 /// actor, whose watch hasn't passed this one since; so whom a watch has passed holds no
@@ -49,7 +55,8 @@ ghost use Rattle.core_theorem.specs.Walks.{WalksHoldTables};
 /// virtual processor in the guest that has yet to flush.
 /// `at_start`, `between_lines`: what a step waits for was seen since any moment at which
 /// the actor had seen nothing, as at the start and, of an actor that has a line left,
-/// between its lines (tdp_mmu.c; locking.rst; mmu.rst).
+/// between its lines (tdp_mmu.c; locking.rst; mmu.rst; mmu_notifier.rst;
+/// vcpu-requests.rst).
 ///
 /// `counts`, `line_turns`: a line makes no more steps than its command allows
 /// (`most_steps`: an access 8,192, one for each pool page and one for each frame; each other
@@ -65,6 +72,10 @@ pub fn every_run()
     ensures held { HeldLeavesAgree }
     ensures translations { TranslationsAgree }
     ensures used { UsedLeavesAgree }
+    ensures recorded { OpenFramesAreRecorded }
+    ensures scopes { OpenFramesAreOfThePage }
+    ensures zapped { OpenFramesAreZapped }
+    ensures flushed { OpenFramesAreFlushed }
     ensures lock { LockIsKept }
     ensures grace { NoneHoldsFreePages }
     ensures sets { HeldSetsAreKnown }

@@ -71,9 +71,21 @@ pub enum Checked {
     Seq,
 }
 
+/// What an invalidation is of: a host page, and the guest frames that the slots give to it,
+/// from the first up to, but without, the one after the last. None where `end` is `start`.
+#[derive(Clone, Copy, Debug, PartialEq, Eq, Drop)]
+pub struct Invalidated {
+    /// The host page that is to change.
+    pub page: u64,
+    /// The first guest frame.
+    pub start: u64,
+    /// The guest frame after the last one.
+    pub end: u64,
+}
+
 /// What an actor loaded or stored of the invalidations: their sequence number before it
 /// looked up and since, how many are open, and the range of guest frames of these; and
-/// whether it has one open itself.
+/// what its own one is of, if it has one open itself.
 #[derive(Clone, Copy, Debug, PartialEq, Eq, Drop)]
 pub struct Invalidations {
     /// The sequence number before the look-up of this section, where it was taken.
@@ -90,6 +102,10 @@ pub struct Invalidations {
     pub checked: Checked,
     /// Whether one of the actor's own is among the open ones.
     pub opened: bool,
+    /// What the actor's own one is of, from its first store on.
+    pub own: Invalidated,
+    /// Whether the actor has raised the sequence number for its own one.
+    pub raised: bool,
 }
 
 /// A flush of what all virtual processors have cached (vcpu-requests.rst,
@@ -204,6 +220,12 @@ impl Topics {
                 seq: 0,
                 checked: Checked::Nothing,
                 opened: false,
+                own: Invalidated {
+                    page: 0,
+                    start: 0,
+                    end: 0,
+                },
+                raised: false,
             },
             walk: TableWalk {
                 level: 0,

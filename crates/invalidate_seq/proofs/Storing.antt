@@ -29,6 +29,7 @@ use Rattle.step_seats.specs.Where.{AnsweredThere, IsMadeIn, OfWorld}
 use Rattle.step_seats.proofs.ToldWords.{StepsTo, found_in, told_both}
 use Rattle.invalidate_seq.specs.Checks.{area_of, loaded}
 use Rattle.invalidate_seq.specs.Invalidating.{Opens, Shuts, open_at, open_word, shut_at, shut_word}
+use Rattle.invalidate_seq.specs.Stored.{counted, ended, raised, started}
 use Rattle.invalidate_seq.specs.declared.open.OpenStage.{OpenStage}
 use Rattle.invalidate_seq.specs.declared.open.OpenStage.TheVariants as opens
 use Rattle.invalidate_seq.specs.declared.shut.ShutStage.{ShutStage}
@@ -76,10 +77,6 @@ rises n = grind (arith, nat_tests)
 falls : (n : ℕ) → nat_lt n (n - 1) ≡ false
 falls n = grind (arith, nat_tests)
 
--- what is held once this count is stored
-abbrev counting : ℕ → Bool → Topics → Topics
-counting n opened t = record t { invalidations = record t.invalidations { count = n; checked = checked.Nothing; opened = opened } }
-
 has_the_lock : (h : Hold) → h ≡ Exclusive → has_lock h ≡ true
 has_the_lock h alone = ap has_lock alone
 
@@ -89,23 +86,22 @@ pub opened_behind : (stage : OpenStage) (gfn : Option ℕ) (before after : Topic
 opened_behind opens.Count gfn before after v alone is made = loads_only word_of.Count before after v (has_the_lock _ alone) made
 opened_behind opens.RangeStart gfn before after v alone is made = loads_only word_of.Start before after v (has_the_lock _ alone) made
 opened_behind opens.RangeEnd gfn before after v alone is made = loads_only word_of.End before after v (has_the_lock _ alone) made
-opened_behind opens.SetStart gfn before after v alone is made = made ∙ ap (λ n. record before { invalidations = record before.invalidations { start = n } }) is
-opened_behind opens.SetEnd gfn before after v alone is made = made ∙ ap (λ n. record before { invalidations = record before.invalidations { end = n } }) is
+opened_behind opens.SetStart gfn before after v alone is made = made ∙ ap (λ n. started n before) is
+opened_behind opens.SetEnd gfn before after v alone is made = made ∙ ap (λ n. ended n before) is
 opened_behind opens.SetCount gfn before after v alone is made =
     made
-    ∙ ap (λ n. counting n (nat_lt before.invalidations.count n) before) is
-    ∙ ap (λ (b : Bool). counting (before.invalidations.count + 1) b before) (rises before.invalidations.count)
+    ∙ ap (λ n. counted n (nat_lt before.invalidations.count n) before) is
+    ∙ ap (λ (b : Bool). counted (before.invalidations.count + 1) b before) (rises before.invalidations.count)
 
 pub shut_behind : (stage : ShutStage) (before after : Topics) (v : ℕ) → before.hold ≡ Exclusive → Wrote (shut_at stage before.invalidations) v
     → after ≡ part_topics (shut_at stage before.invalidations) before v → Shuts stage before after
 shut_behind shuts.Seq before after v alone is made = loads_only word_of.Seq before after v (has_the_lock _ alone) made
-shut_behind shuts.SetSeq before after v alone is made =
-    made ∙ ap (λ n. record before { invalidations = record before.invalidations { seq = n; checked = checked.Nothing } }) is
+shut_behind shuts.SetSeq before after v alone is made = made ∙ ap (λ n. raised n before) is
 shut_behind shuts.Count before after v alone is made = loads_only word_of.Count before after v (has_the_lock _ alone) made
 shut_behind shuts.SetCount before after v alone is made =
     made
-    ∙ ap (λ n. counting n (nat_lt before.invalidations.count n) before) is
-    ∙ ap (λ (b : Bool). counting (before.invalidations.count - 1) b before) (falls before.invalidations.count)
+    ∙ ap (λ n. counted n (nat_lt before.invalidations.count n) before) is
+    ∙ ap (λ (b : Bool). counted (before.invalidations.count - 1) b before) (falls before.invalidations.count)
 
 -- What is kept of a stage's word is what stands there after its step.
 module _ (z : Sizes) (own note v : ℕ) (before after : Topics) (w u : World Held) where

@@ -4,18 +4,18 @@
 use Rattle.std.specs.Prelude.{◌≡◌, ◌+◌, ◌-◌, ◌<◌, ◌≤◌, ℕ, ◌==◌, if◌then◌else◌, true, false, Option, Some, None, IfSome}
 use Rattle.core_views.specs.declared.place.CheckStage.{CheckStage}
 use Rattle.core_views.specs.declared.place.CheckStage.TheVariants as word_of
-use Rattle.core_views.specs.declared.topics.Checked.TheVariants as checked
 use Rattle.core_views.specs.declared.topics.Invalidations.{Invalidations}
 use Rattle.core_views.specs.declared.topics.Topics.{Topics}
 use Rattle.part_steps.specs.declared.part_step.PartStep.{PartStep}
 use Rattle.part_steps.specs.declared.part_step.PartStep.TheVariants as part
-use Rattle.mmu_core.specs.lines.InvalidateSteps.{greater, lesser}
+use Rattle.part_steps.specs.InvalidationRange.{greater, lesser}
 use Rattle.mmu_core.specs.machine.View.{word_in}
 use Rattle.step_seats.specs.PartTurns.{WherePartMade}
 use Rattle.step_seats.specs.Seats.{Seat}
 use Rattle.step_seats.specs.declared.turn.Turn.{Turn}
 use Rattle.step_seats.specs.declared.turn.Turn.TheVariants.{More, Done}
 use Rattle.invalidate_seq.specs.Checks.{LoadsOnly, area_of, loaded}
+use Rattle.invalidate_seq.specs.Stored.{counted, ended, raised, started}
 use Rattle.invalidate_seq.specs.declared.open.Open.{Open}
 use Rattle.invalidate_seq.specs.declared.open.OpenStage.{OpenStage}
 use Rattle.invalidate_seq.specs.declared.open.OpenStage.TheVariants as opens
@@ -56,15 +56,15 @@ open_word opens.SetStart = word_of.Start
 open_word opens.SetEnd = word_of.End
 open_word opens.SetCount = word_of.Count
 
--- What is held after the stage's step: a load keeps its word, and a store what it stored. With the count, one more than was loaded, the actor's own is open.
+-- What is held after the stage's step: a load keeps its word, and a store what it stored. With the range's start the actor's own invalidation is of the
+-- guest frame of the host page that was looked at; with the count, one more than was loaded, it is open, and the sequence number is yet to be raised for it.
 abbrev pub Opens : OpenStage → Option ℕ → Topics → Topics → Type 0
 Opens opens.Count gfn before after = LoadsOnly word_of.Count before after
 Opens opens.RangeStart gfn before after = LoadsOnly word_of.Start before after
 Opens opens.RangeEnd gfn before after = LoadsOnly word_of.End before after
-Opens opens.SetStart gfn before after = after ≡ record before { invalidations = record before.invalidations { start = start_with gfn before.invalidations } }
-Opens opens.SetEnd gfn before after = after ≡ record before { invalidations = record before.invalidations { end = end_with gfn before.invalidations } }
-Opens opens.SetCount gfn before after =
-    after ≡ record before { invalidations = record before.invalidations { count = before.invalidations.count + 1; checked = checked.Nothing; opened = true } }
+Opens opens.SetStart gfn before after = after ≡ started (start_with gfn before.invalidations) before
+Opens opens.SetEnd gfn before after = after ≡ ended (end_with gfn before.invalidations) before
+Opens opens.SetCount gfn before after = after ≡ counted (before.invalidations.count + 1) true before
 
 -- The stage that comes after it, where this number of open ones is known: the range is loaded where some are, and else it is stored at once.
 abbrev pub open_after : OpenStage → ℕ → OpenStage
@@ -106,14 +106,12 @@ shut_word shuts.SetSeq = word_of.Seq
 shut_word shuts.Count = word_of.Count
 shut_word shuts.SetCount = word_of.Count
 
--- The sequence number is raised by one, and one less is open: not the actor's own any more.
+-- The sequence number is raised by one, for the actor's own invalidation, and one less is open: not its own any more.
 abbrev pub Shuts : ShutStage → Topics → Topics → Type 0
 Shuts shuts.Seq before after = LoadsOnly word_of.Seq before after
-Shuts shuts.SetSeq before after =
-    after ≡ record before { invalidations = record before.invalidations { seq = before.invalidations.seq + 1; checked = checked.Nothing } }
+Shuts shuts.SetSeq before after = after ≡ raised (before.invalidations.seq + 1) before
 Shuts shuts.Count before after = LoadsOnly word_of.Count before after
-Shuts shuts.SetCount before after =
-    after ≡ record before { invalidations = record before.invalidations { count = before.invalidations.count - 1; checked = checked.Nothing; opened = false } }
+Shuts shuts.SetCount before after = after ≡ counted (before.invalidations.count - 1) false before
 
 abbrev pub shut_after : ShutStage → ShutStage
 shut_after shuts.Seq = shuts.SetSeq

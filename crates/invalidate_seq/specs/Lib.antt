@@ -1,2 +1,3 @@
 pub mod Checks
 pub mod Invalidating
+pub mod Stored

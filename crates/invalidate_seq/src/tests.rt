@@ -3,7 +3,9 @@ ghost use Rattle.std.specs.Prelude.{◌≡◌, [], ◌∷◌, IfOk};
 ghost use Rattle.core_views.specs.Traces.{IsTrace};
 
 use crate::{Check, Checked, Snapshot};
-use core_views::{Actor, CheckStage, Header, Hold, Invalidations, Lines, NoMemory, Trace, Words};
+use core_views::{
+    Actor, CheckStage, Header, Hold, Invalidated, Invalidations, Lines, NoMemory, Trace, Words,
+};
 use mmu_core::allows;
 use part_steps::PartStep;
 use std::alloc::Global;
@@ -82,6 +84,12 @@ fn answers_by_the_numbers_kept(rt: HostRuntime) {
         seq: 8,
         checked: core_views::Checked::Range,
         opened: false,
+        own: Invalidated {
+            page: 0,
+            start: 0,
+            end: 0,
+        },
+        raised: false,
     };
     let open = Turn::Done(Checked::Open {
         count: 2,

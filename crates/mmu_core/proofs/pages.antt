@@ -2,6 +2,7 @@ pub mod AllOver
 pub mod FilledKept
 pub mod LeavesOver
 pub mod LoadedKept
+pub mod ZappedKept
 pub mod OwnedBehind
 pub mod PoolKept
 pub mod PoolPages

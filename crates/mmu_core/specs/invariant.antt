@@ -8,6 +8,7 @@ pub mod LinesPart
 pub mod RecordPart
 pub mod LockPart
 pub mod InvalidationsPart
+pub mod InvalidatedPart
 pub mod StatesPart
 pub mod TreePart
 pub mod AllOver

@@ -3,7 +3,6 @@ pub mod AccessSteps
 pub mod FaultLeft
 pub mod FaultSteps
 pub mod SlotChangeSteps
-pub mod InvalidateRange
 pub mod InvalidateSteps
 pub mod HostSteps
 pub mod PartAt

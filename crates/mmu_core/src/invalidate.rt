@@ -1,11 +1,11 @@
 //! The steps that begin an invalidation and those that end it, which several kinds of line
 //! make in the same order.
 ghost use Rattle.std.specs.Prelude.{◌≡◌, ◌+◌, ◌≤◌, ◌<◌, ◌^◌, true};
-ghost use Rattle.mmu_core.specs.lines.InvalidateSteps.{begin_next, begin_part, end_next, end_part, gfn_behind, greater, has_found, lesser, range_end, range_start, search_next, sweep_next, sweeps};
+ghost use Rattle.mmu_core.specs.lines.InvalidateSteps.{begin_next, begin_part, end_next, end_part, gfn_behind, search_next, sweep_next, sweeps};
 ghost use Rattle.core_views.specs.declared.place.BeginPlace.TheVariants.{Find};
 
-use core_views::{BeginPlace, EndPlace, Hand, Sizes, Slot, SlotField, SlotSearch, Topics};
-use part_steps::{PartStep, has_to_flush, search};
+use core_views::{BeginPlace, EndPlace, Hand, Sizes, SlotField, SlotSearch, Topics};
+use part_steps::{PartStep, gfn_behind, has_found, has_to_flush, range_end, range_start, search};
 use spte_words::{Spte, SpteKind};
 
 /// Where the begin of an invalidation stands after a step.
@@ -24,51 +24,6 @@ pub enum EndNext {
     Goes(EndPlace),
     /// It has ended, and the lock is given back.
     Ended,
-}
-
-// The guest frame that the slot gives to the host page.
-fn gfn_behind(page: u64, slot: &Slot) -> u64
-    requires { gfn_behind page slot.now < 2 ^ 64 }
-    ensures { result ≡ gfn_behind page slot.now }
-{
-    slot.base + page.saturating_sub(slot.host)
-}
-
-// The search has found the slot with the host page.
-fn has_found(page: u64, search: &SlotSearch) -> bool
-    ensures { result ≡ has_found page search.now }
-{
-    search.whole && search.slot.host <= page && page - search.slot.host < search.slot.pages
-}
-
-// The first guest frame of the range of open invalidations, with that of the page.
-fn range_start(page: u64, topics: &Topics) -> u64
-    requires frames { topics.now.search.whole ≡ true → topics.now.search.slot.base + topics.now.search.slot.pages ≤ 2 ^ 36 }
-    ensures { result ≡ range_start page topics.now }
-{
-    let found = has_found(page, &topics.search);
-    let seen = &topics.invalidations;
-    match (seen.count == 0, found) {
-        (true, true) => gfn_behind(page, &topics.search.slot),
-        (true, false) => 0,
-        (false, true) => seen.start.min(gfn_behind(page, &topics.search.slot)),
-        (false, false) => seen.start,
-    }
-}
-
-// The guest frame after it.
-fn range_end(page: u64, topics: &Topics) -> u64
-    requires frames { topics.now.search.whole ≡ true → topics.now.search.slot.base + topics.now.search.slot.pages ≤ 2 ^ 36 }
-    ensures { result ≡ range_end page topics.now }
-{
-    let found = has_found(page, &topics.search);
-    let seen = &topics.invalidations;
-    match (seen.count == 0, found) {
-        (true, true) => gfn_behind(page, &topics.search.slot) + 1,
-        (true, false) => 0,
-        (false, true) => seen.end.max(gfn_behind(page, &topics.search.slot) + 1),
-        (false, false) => seen.end,
-    }
 }
 
 // After a word of the slots.

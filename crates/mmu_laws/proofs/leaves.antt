@@ -1,2 +1,3 @@
 pub mod LeadsDown
 pub mod LeafLaws
+pub mod OpenFrames

@@ -12,6 +12,7 @@ ghost use Rattle.mmu_core.specs.lines.PartWaits.{WaitsSeeAnother};
 ghost use Rattle.mmu_laws.specs.flat.Histories.{AnswersAreTold, EndsWhole, StaysWhole};
 ghost use Rattle.mmu_core.specs.invariant.Laws.{StaysSound, TellsLawfully};
 ghost use Rattle.mmu_laws.specs.leaves.LeafLaws.{CachedLeavesAgree, HeldLeavesAgree, LeavesAgree, UsedLeavesAgree};
+ghost use Rattle.mmu_laws.specs.leaves.OpenFrames.{OpenFramesAreFlushed, OpenFramesAreOfThePage, OpenFramesAreRecorded, OpenFramesAreZapped};
 ghost use Rattle.mmu_core.specs.alone.LineAlone.{LineBeginsAlone, LineEndsAlone, LineGoesThrough, NoneStarvedAlone};
 ghost use Rattle.mmu_core.specs.invariant.Scans.{StarvedLinesScan};
 ghost use Rattle.mmu_laws.specs.steps.EventLaws.{EventsAreOfTheirSteps};
@@ -153,12 +154,22 @@ pub fn the_pool_is_enough()
 /// touch is of the page that the slots give the guest frame, at the frame that the
 /// host gives this page, and allows writes exactly where the slots give a write
 /// this page and the host allows it (tdp_mmu.c, `tdp_mmu_map_handle_target_level`;
-/// mmu.rst, "Shadow pages").
+/// mmu.rst, "Shadow pages"). Each guest frame that an open invalidation is of lies in the
+/// range of the open ones. It is of exactly the guest frames that the published slots give
+/// to its host page. Once its actor has asked for a first flush, no links lead such a guest
+/// frame from the root to a leaf. And a virtual processor whose flush was awaited, and
+/// which is in the guest or has no flush asked of it, has nothing cached of such a guest
+/// frame (kvm_main.c, `kvm_mmu_invalidate_range_add`; tdp_mmu.c,
+/// `kvm_tdp_mmu_unmap_gfn_range`; vcpu-requests.rst, `KVM_REQ_TLB_FLUSH`).
 pub fn leaves_agree()
     ensures standing { LeavesAgree }
     ensures held { HeldLeavesAgree }
     ensures cached { CachedLeavesAgree }
     ensures used { UsedLeavesAgree }
+    ensures recorded { OpenFramesAreRecorded }
+    ensures scopes { OpenFramesAreOfThePage }
+    ensures zapped { OpenFramesAreZapped }
+    ensures flushed { OpenFramesAreFlushed }
 {}
 
 /// What a fault comes to that runs while all other actors rest, and no invalidation of

@@ -1,10 +1,11 @@
 -- What words of the machine tell an actor: the lock's, a state word, the pool's map, the root, the published set, the invalidations'.
-use Rattle.std.specs.Prelude.{◌+◌, ◌-◌, ◌^◌, ℕ, Bool, false, ◌==◌, ◌&&◌, ◌||◌, nat_le, nat_lt, not, if◌then◌else◌, Some, None}
+use Rattle.std.specs.Prelude.{◌+◌, ◌-◌, ◌^◌, ℕ, Bool, true, false, ◌==◌, ◌&&◌, ◌||◌, nat_le, nat_lt, not, if◌then◌else◌, Some, None}
 use Rattle.core_views.specs.declared.place.SlotField.TheVariants as field
 use Rattle.core_views.specs.declared.sizes.Sizes.{Sizes}
 use Rattle.core_views.specs.declared.topics.Checked.{Checked}
 use Rattle.core_views.specs.declared.topics.Checked.TheVariants as checked
 use Rattle.core_views.specs.declared.topics.Hold.{Hold}
+use Rattle.core_views.specs.declared.topics.Invalidated.{Invalidated}
 use Rattle.core_views.specs.declared.topics.Invalidations.{Invalidations}
 use Rattle.core_views.specs.declared.topics.MapClaim.{MapClaim}
 use Rattle.core_views.specs.declared.topics.SlotSearch.{SlotSearch}
@@ -93,26 +94,43 @@ checked_after word hold n =
 
 -- A word of the invalidations was loaded; the sequence number is the snapshot where the actor doesn't have the lock.
 abbrev pub noted : ℕ → Hold → Invalidations → ℕ → Invalidations
-noted word hold n v = record {
+noted word hold n v = record n {
   snapshot = if is_word_of area.Seq word && is_loose hold then Some v else n.snapshot;
   count = if is_word_of area.Count word then v else n.count;
   start = if is_word_of area.RangeStart word then v else n.start;
   end = if is_word_of area.RangeEnd word then v else n.end;
   seq = if is_word_of area.Seq word && not (is_loose hold) then v else n.seq;
   checked = checked_after word hold n;
-  opened = n.opened;
 }
 
--- A word of the invalidations was stored: where it is their count, one of the actor's own is open from then on if it rose. What was loaded of count
--- and sequence number before either is stored is known no more.
-abbrev pub stored : ℕ → Invalidations → ℕ → Invalidations
-stored word n v = record n {
+-- What is known of the words after the range's start was stored, and its end: the word itself, too.
+abbrev pub start_known : Checked → Checked
+start_known checked.Count = checked.Start
+start_known c = c
+
+abbrev pub end_known : Checked → Checked
+end_known checked.Start = checked.Range
+end_known c = c
+
+abbrev pub checked_stored : ℕ → Checked → Checked
+checked_stored word c =
+    if is_word_of area.Count word || is_word_of area.Seq word then checked.Nothing else
+    if is_word_of area.RangeStart word then start_known c else
+    if is_word_of area.RangeEnd word then end_known c else
+    c
+
+-- A word of the invalidations was stored: with the range's start the actor's own one is of these frames, where it is their count, its own is open from
+-- then on if it rose, and the sequence number is raised for its own. What was loaded of count and sequence number before either is stored is known no more.
+abbrev pub stored : ℕ → Invalidated → Invalidations → ℕ → Invalidations
+stored word own n v = record n {
   count = if is_word_of area.Count word then v else n.count;
   start = if is_word_of area.RangeStart word then v else n.start;
   end = if is_word_of area.RangeEnd word then v else n.end;
   seq = if is_word_of area.Seq word then v else n.seq;
-  checked = if is_word_of area.Count word || is_word_of area.Seq word then checked.Nothing else n.checked;
+  checked = checked_stored word n.checked;
   opened = if is_word_of area.Count word then nat_lt n.count v else n.opened;
+  own = if is_word_of area.RangeStart word then own else n.own;
+  raised = if is_word_of area.Count word then false else if is_word_of area.Seq word then true else n.raised;
 }
 
 -- A word of the pool's map was loaded: a claim has come to it, or to the next one where it is 0.

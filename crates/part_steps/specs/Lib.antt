@@ -4,10 +4,12 @@ pub mod SetWords
 pub mod StayTopics
 pub mod WalkTopics
 pub mod PageTopics
+pub mod InvalidationRange
 pub mod ControlTopics
 pub mod TopicSteps
 pub mod PartTasks
 pub mod PartHoldings
+pub mod InvalidationHoldings
 pub mod PartSteps
 pub mod PartTopics
 pub mod PartBounds

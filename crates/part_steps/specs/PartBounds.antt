@@ -1,6 +1,7 @@
 -- What the steps of the parts may rest on, from the hand alone: bounds.
 use Rattle.std.specs.Prelude.{◌≡◌, ◌+◌, ◌^◌, ◌<◌, ◌≤◌, ℕ, All, Some, true}
 use Rattle.core_views.specs.declared.topics.Hold.TheVariants.{Owing}
+use Rattle.core_views.specs.declared.place.SlotField.TheVariants.{Flags}
 use Rattle.core_views.specs.declared.topics.HostLook.{HostLook}
 use Rattle.core_views.specs.declared.topics.OwnedPage.{OwnedPage}
 use Rattle.core_views.specs.Held.{Held}
@@ -42,6 +43,7 @@ pub record PartRests (h : Held) : Type 0 where
   pub filled : (o : OwnedPage) → h.topics.owned ≡ Some o → o.filled ≤ 513
   pub counters : CountersPart h.state.sizes h.topics
   pub found : h.topics.search.whole ≡ true → h.topics.search.slot.host + h.topics.search.slot.pages ≤ h.state.sizes.pages
+  pub flags : h.topics.search.whole ≡ true → h.topics.search.next ≡ Flags
   pub frames : h.topics.search.whole ≡ true → h.topics.search.slot.base + h.topics.search.slot.pages ≤ 2 ^ 36
   pub cache : 1 ≤ h.cached.capacity
   pub levels : All IsAtLeafLevel h.cached.items

@@ -1,20 +1,18 @@
 -- What a hand holds that a step of a part needs: of pages, of the walk, of the look-up and of the invalidations.
-use Rattle.std.specs.Prelude.{◌≡◌, ◌+◌, ◌-◌, ◌/◌, ◌^◌, ◌<◌, ◌≤◌, ◌⊎◌, ℕ, Bool, true, false, ◌==◌, if◌then◌else◌, Some, None, is_some}
-use Rattle.core_views.specs.declared.topics.Checked.{Checked}
+use Rattle.std.specs.Prelude.{◌≡◌, ◌+◌, ◌/◌, ◌^◌, ◌<◌, ◌≤◌, ◌⊎◌, ℕ, true, ◌==◌, if◌then◌else◌, Some, None, is_some}
 use Rattle.core_views.specs.declared.topics.Checked.TheVariants as checked
 use Rattle.core_views.specs.declared.topics.Hold.TheVariants.{Shared, Exclusive}
 use Rattle.core_views.specs.declared.topics.Invalidations.{Invalidations}
-use Rattle.core_views.specs.declared.topics.Stay.TheVariants.{Outside, Section}
+use Rattle.core_views.specs.declared.topics.Stay.TheVariants.{Section}
 use Rattle.core_views.specs.declared.topics.TableWalk.{TableWalk}
 use Rattle.core_views.specs.declared.topics.Topics.{Topics}
 use Rattle.core_views.specs.Held.{Held}
-use Rattle.core_views.specs.HostChanges.{is_own}
 use Rattle.core_views.specs.Sizes.{actors_of}
 use Rattle.core_views.specs.Slots.{contains}
 use Rattle.spte_words.specs.Entries.{level_span}
 use Rattle.part_steps.specs.SetWords.{set_role}
 use Rattle.part_steps.specs.SlotWords.{page_of}
-use Rattle.part_steps.specs.PartTasks.{entry_index, words_filled, is_absent, role_filled, own_index, page_looked}
+use Rattle.part_steps.specs.PartTasks.{entry_index, words_filled, is_absent, role_filled, own_index}
 
 -- the actor whose state word comes next, where those before this place were looked at: each but the own
 abbrev pub next_watched : ℕ → ℕ → ℕ
@@ -96,33 +94,3 @@ pub record MayGiveOld (h : Held) : Type 0 where
   pub leaves : is_some h.topics.leaving ≡ true
   pub owns_none : h.topics.owned ≡ None
   pub watched : actors_of h.state.sizes ≤ next_watched (own_index h) h.topics.watched
-
--- The count of open invalidations was loaded since the actor has the lock.
-abbrev pub knows_count : Checked → Bool
-knows_count checked.Nothing = false
-knows_count checked.Seq = false
-knows_count _ = true
-
--- What may be stored as the count of open invalidations: it was loaded under the lock that the actor has alone, outside of every section, and it is one more with
--- the actor's own, or one less.
-pub record MayCount (count : ℕ) (t : Topics) : Type 0 where
-  pub alone : t.hold ≡ Exclusive
-  pub outside : t.stay ≡ Outside
-  pub knows : knows_count t.invalidations.checked ≡ true
-  pub is : count ≡ (if t.invalidations.opened then t.invalidations.count - 1 else t.invalidations.count + 1)
-
--- An actor whose own invalidation is open may raise the sequence number, which it has loaded under the lock that it has alone, outside of every section.
-pub record MayEndInvalidation (t : Topics) : Type 0 where
-  pub alone : t.hold ≡ Exclusive
-  pub outside : t.stay ≡ Outside
-  pub opened : t.invalidations.opened ≡ true
-  pub loaded : t.invalidations.checked ≡ checked.Seq
-
--- A host page may be changed: it is the actor's own, and was looked up; the actor's own invalidation is open, and each virtual processor was asked for a flush,
--- and awaited.
-pub record MayChange (h : Held) : Type 0 where
-  pub looked : is_some h.topics.host ≡ true
-  pub own_ : is_own h.state.sizes h.state.actor (page_looked h.topics.host) ≡ true
-  pub opened : h.topics.invalidations.opened ≡ true
-  pub asked : h.state.sizes.vcpus ≤ h.topics.flush.asked
-  pub awaited : h.state.sizes.vcpus ≤ h.topics.flush.awaited

@@ -1,5 +1,5 @@
 -- The steps of the machine's parts: what each needs of the hand, and which word it is on.
-use Rattle.std.specs.Prelude.{◌≡◌, ◌≢◌, ◌-◌, ◌^◌, ◌<◌, ◌≤◌, ◌⊎◌, ℕ, Bool, true, false, None, ◌+◌}
+use Rattle.std.specs.Prelude.{◌≡◌, ◌≢◌, ◌-◌, ◌^◌, ◌<◌, ◌≤◌, ◌⊎◌, ℕ, Bool, true, false, None, ◌+◌, ◌&&◌}
 use Rattle.core_views.specs.declared.actor.Actor.{Actor}
 use Rattle.core_views.specs.declared.actor.Actor.TheVariants.{Vcpu}
 use Rattle.core_views.specs.declared.topics.Hold.{Hold}
@@ -16,7 +16,10 @@ use Rattle.part_steps.specs.declared.part_step.PartStep.{PartStep}
 use Rattle.part_steps.specs.declared.part_step.PartStep.TheVariants as part
 use Rattle.spte_words.specs.HostWords.{with_writes_allowed}
 use Rattle.part_steps.specs.PartTasks.{own_index, word_looked}
-use Rattle.part_steps.specs.PartHoldings.{next_watched, OwnsPage, HasToFill, HasRoleToSet, HoldsSet, IsOver, OwnsTable, SawEntry, MayChange, MayCount, MayEndInvalidation, MayEnter, MayPublish, MayGiveOld}
+use Rattle.part_steps.specs.PartHoldings.{next_watched, OwnsPage, HasToFill, HasRoleToSet, HoldsSet, IsOver, OwnsTable, SawEntry, MayEnter, MayPublish, MayGiveOld}
+use Rattle.part_steps.specs.InvalidationHoldings.{MayAsk, MayChange, MayCount, MayEndInvalidation, MaySetEnd, MaySetStart}
+use Rattle.part_steps.specs.InvalidationRange.{has_found, page_looked}
+use Rattle.part_steps.specs.StayTopics.{is_alone}
 
 abbrev pub IsVcpu : Actor → Type 0
 IsVcpu (Vcpu n) = Unit {0}
@@ -68,7 +71,7 @@ PartNeeds (part.Fill value) h = HasToFill h.topics × (value < 2 ^ 64)
 PartNeeds (part.Role value) h = HasRoleToSet h.topics × (value < 2 ^ 64)
 PartNeeds part.Give h = OwnsPage h.topics
 PartNeeds part.Slots h = Unit {0}
-PartNeeds part.Slot h = HoldsSet h.topics × (h.topics.search.id ≤ 31)
+PartNeeds part.Slot h = HoldsSet h.topics × (h.topics.search.id ≤ 31) × ((is_alone h.topics.hold && has_found (page_looked h.topics.host) h.topics.search) ≡ false)
 PartNeeds part.Seq h = Unit {0}
 PartNeeds part.Count h = Unit {0}
 PartNeeds part.RangeStart h = Unit {0}
@@ -78,18 +81,18 @@ PartNeeds (part.Walk gfn) h = IsOver gfn h.topics.walk
 PartNeeds (part.Link gfn) h =
     MayEnter gfn h.topics × (2 ≤ h.topics.walk.level) × (kind_of h.topics.walk.level h.topics.walk.entry ≡ entry_kind.Absent) × OwnsTable (h.topics.walk.level - 1) h.topics
 PartNeeds (part.Leaf gfn) h = MayEnter gfn h.topics × (h.topics.walk.level ≡ 1)
-PartNeeds (part.Host page) h = page < h.state.sizes.pages
+PartNeeds (part.Host page) h = (page < h.state.sizes.pages) × (is_alone h.topics.hold ≡ false)
 PartNeeds (part.Watch index) h =
     (index < actors_of h.state.sizes) × (index ≢ own_index h) × ((index ≡ next_watched (own_index h) 0) ⊎ (index ≡ next_watched (own_index h) h.topics.watched))
 PartNeeds part.Publish h = MayPublish h.topics
 PartNeeds part.Clear h = MayGiveOld h
 PartNeeds part.GiveOld h = MayGiveOld h
-PartNeeds (part.SetStart gfn) h = (h.topics.hold ≡ Exclusive) × (gfn < 2 ^ 64)
-PartNeeds (part.SetEnd gfn) h = (h.topics.hold ≡ Exclusive) × (gfn < 2 ^ 64)
+PartNeeds (part.SetStart gfn) h = MaySetStart gfn h.topics × (gfn < 2 ^ 64)
+PartNeeds (part.SetEnd gfn) h = MaySetEnd gfn h.topics × (gfn < 2 ^ 64)
 PartNeeds (part.SetCount count) h = MayCount count h.topics
 PartNeeds (part.SetSeq seq) h = MayEndInvalidation h.topics × (seq ≡ h.topics.invalidations.seq + 1)
 PartNeeds (part.Zap gfn) h = (h.topics.hold ≡ Exclusive) × (h.topics.stay ≡ Outside) × SawEntry gfn h.topics.walk × (kind_of h.topics.walk.level h.topics.walk.entry ≡ entry_kind.Leaf)
-PartNeeds (part.Ask index) h = (index < h.state.sizes.vcpus) × (index ≡ h.topics.flush.asked)
+PartNeeds (part.Ask index) h = MayAsk index h
 PartNeeds (part.Await index) h = (index < h.topics.flush.asked) × (index ≡ h.topics.flush.awaited) × (h.topics.stay ≡ Outside)
 PartNeeds (part.Change new_) h = MayChange h × (new_ ≡ with_writes_allowed (word_looked h.topics.host))
 

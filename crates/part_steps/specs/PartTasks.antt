@@ -18,6 +18,7 @@ use Rattle.spte_words.specs.Entries.{level_span, table_word}
 use Rattle.part_steps.specs.declared.task.Task.{Task}
 use Rattle.part_steps.specs.declared.part_step.PartStep.{PartStep}
 use Rattle.part_steps.specs.declared.part_step.PartStep.TheVariants as part
+pub use Rattle.part_steps.specs.InvalidationRange.{page_looked}
 use Rattle.part_steps.specs.SlotWords.{leaf_of, slot_index}
 use Rattle.part_steps.specs.Tasks.{kind_of_task, loads, map_of}
 use Rattle.part_steps.specs.PageTopics.{tried_bit}
@@ -72,10 +73,6 @@ set_held (Some set) = set
 abbrev pub word_looked : Option HostLook → ℕ
 word_looked None = 0
 word_looked (Some look) = look.word
-
-abbrev pub page_looked : Option HostLook → ℕ
-page_looked None = 0
-page_looked (Some look) = look.page
 
 -- what a link to the owned page is, and the leaf of the page that was looked up
 abbrev pub link_written : Topics → ℕ

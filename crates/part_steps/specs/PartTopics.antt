@@ -1,16 +1,17 @@
 -- What an actor holds after each step of a part.
-use Rattle.std.specs.Prelude.{◌+◌, ℕ, Bool, false, ◌==◌, not, if◌then◌else◌, nat_lt, Some, None, is_some}
+use Rattle.std.specs.Prelude.{◌+◌, ℕ, Bool, true, false, ◌==◌, not, if◌then◌else◌, nat_lt, Some, None, is_some}
 use Rattle.core_views.specs.declared.topics.Checked.TheVariants as checked
 use Rattle.core_views.specs.declared.topics.Hold.TheVariants.{Owing, Shared, Exclusive}
 use Rattle.core_views.specs.declared.topics.Stay.TheVariants.{Outside, Guest, Section}
 use Rattle.core_views.specs.declared.topics.Topics.{Topics}
 use Rattle.part_steps.specs.declared.part_step.PartStep.{PartStep}
 use Rattle.part_steps.specs.declared.part_step.PartStep.TheVariants as part
+use Rattle.part_steps.specs.InvalidationRange.{invalidated}
 use Rattle.part_steps.specs.PartTasks.{entry_index, leaf_written, link_written, page_looked, word_looked}
 use Rattle.part_steps.specs.StayTopics.{begun, has_lock, is_loose, kept_search, let_go, may_search, may_walk, no_flush, unchecked}
 use Rattle.part_steps.specs.WalkTopics.{gone_down, still_owned, swapped, walked}
 use Rattle.part_steps.specs.PageTopics.{claimed, filled_more, given_back, published, searched, tried}
-use Rattle.part_steps.specs.ControlTopics.{at_root, at_set, count_checked, has_to_flush, has_writer, in_section, range_checked, seq_checked, start_checked}
+use Rattle.part_steps.specs.ControlTopics.{at_root, at_set, count_checked, end_known, has_to_flush, has_writer, in_section, range_checked, seq_checked, start_checked, start_known}
 
 -- The sequence number was loaded: without the lock it is the snapshot, with which a look-up begins; else the check's last word.
 abbrev pub sequenced : Bool → Topics → ℕ → Topics
@@ -59,11 +60,11 @@ part_topics (part.Watch index) t v = record t { watched = index + (if in_section
 part_topics part.Publish t v = published t v
 part_topics part.Clear t v = record t { owned = filled_more t.owned v }
 part_topics part.GiveOld t v = given_back t
-part_topics (part.SetStart gfn) t v = record t { invalidations = record t.invalidations { start = v } }
-part_topics (part.SetEnd gfn) t v = record t { invalidations = record t.invalidations { end = v } }
+part_topics (part.SetStart gfn) t v = record t { invalidations = record t.invalidations { start = v; checked = start_known t.invalidations.checked; own = invalidated t } }
+part_topics (part.SetEnd gfn) t v = record t { invalidations = record t.invalidations { end = v; checked = end_known t.invalidations.checked } }
 part_topics (part.SetCount count) t v =
-    record t { invalidations = record t.invalidations { count = v; checked = checked.Nothing; opened = nat_lt t.invalidations.count v } }
-part_topics (part.SetSeq seq) t v = record t { invalidations = record t.invalidations { seq = v; checked = checked.Nothing } }
+    record t { invalidations = record t.invalidations { count = v; checked = checked.Nothing; opened = nat_lt t.invalidations.count v; raised = false } }
+part_topics (part.SetSeq seq) t v = record t { invalidations = record t.invalidations { seq = v; checked = checked.Nothing; raised = true } }
 part_topics (part.Zap gfn) t v = record t { walk = gone_down None t.walk (entry_index gfn t.walk.level) 0 }
 part_topics (part.Ask index) t v = record t { flush = record t.flush { asked = index + 1 } }
 part_topics (part.Await index) t v = record t { flush = record t.flush { awaited = index + (if has_to_flush v then 0 else 1) } }

@@ -12,6 +12,7 @@ use Rattle.core_views.specs.Kinds.{kind_named}
 use Rattle.spte_words.specs.declared.area.Area.TheVariants as area
 use Rattle.spte_words.specs.Areas.{number_of, place}
 use Rattle.part_steps.specs.Tasks.{map_of}
+use Rattle.part_steps.specs.InvalidationRange.{invalidated}
 use Rattle.part_steps.specs.StayTopics.{unchecked, begun, let_go, no_flush}
 use Rattle.part_steps.specs.WalkTopics.{gone_down, is_in_table, walked, swapped, still_owned}
 use Rattle.part_steps.specs.PageTopics.{searched, claimed, tried, filled_more, given_back, published}
@@ -45,7 +46,7 @@ topics_by kind.Release z k t v = let_go t
 topics_by kind.Claim z k t v = record t { owned = claimed t.claim v; claim = tried t.claim v }
 topics_by kind.Fill z k t v = record t { owned = filled_more t.owned v }
 topics_by kind.Give z k t v = given_back t
-topics_by kind.Set z k t v = record t { invalidations = stored k.word t.invalidations v }
+topics_by kind.Set z k t v = record t { invalidations = stored k.word (invalidated t) t.invalidations v }
 topics_by kind.Zap z k t v = record t { walk = if is_in_table t.walk then gone_down None t.walk (index_in_page z k.word) 0 else t.walk }
 topics_by kind.Ask z k t v = record t { flush = record t.flush { asked = (k.word - number_of area.State) + 1 } }
 topics_by kind.Await z k t v = record t { flush = record t.flush { awaited = (k.word - number_of area.State) + (if has_to_flush v then 0 else 1) } }
@@ -71,4 +72,5 @@ HasRoom kind.Slot t = is_some t.search.set ≡ true → t.search.id ≤ 31
 HasRoom kind.Claim t = (0 < t.claim.seen) × (t.claim.at < 2 ^ 32)
 HasRoom kind.Walk t = 1 ≤ t.walk.level → t.walk.prefix < 2 ^ 36
 HasRoom kind.Swap t = 1 ≤ t.walk.level → t.walk.prefix < 2 ^ 36
+HasRoom kind.Set t = t.search.whole ≡ true → t.search.slot.base + t.search.slot.pages ≤ 2 ^ 36
 HasRoom _ t = Unit {0}

@@ -3,6 +3,7 @@
 #![tactic(auto)]
 
 mod control_words;
+mod invalidations;
 mod needs;
 mod part_step;
 mod slot_words;
@@ -10,6 +11,7 @@ mod task;
 mod topics;
 
 pub use control_words::{WRITER, has_to_flush, has_writer, in_section};
+pub use invalidations::{gfn_behind, has_found, invalidated, range_end, range_start};
 pub use needs::{has_needs, needs_line, next_watched};
 pub use part_step::{
     PartStep, entry_index, page_owned, part_kind, part_task, run_of, table_page, words_filled,

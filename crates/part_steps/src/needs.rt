@@ -6,13 +6,17 @@ ghost use Rattle.spte_words.specs.HostWords.{with_writes_allowed};
 ghost use Rattle.part_steps.specs.PartBounds.{PartRests};
 ghost use Rattle.core_views.specs.Slots.{contains};
 ghost use Rattle.part_steps.specs.PartTasks.{role_filled, word_looked, words_filled};
-ghost use Rattle.part_steps.specs.PartHoldings.{IsFresh, IsOver, MayChange, MayCount, MayEndInvalidation, MayEnter, MayGiveOld, MayPublish, OwnsTable, SawEntry, next_watched};
+ghost use Rattle.part_steps.specs.PartHoldings.{IsFresh, IsOver, MayEnter, MayGiveOld, MayPublish, OwnsTable, SawEntry, next_watched};
+ghost use Rattle.part_steps.specs.InvalidationHoldings.{MayChange};
 ghost use Rattle.part_steps.specs.PartSteps.{PartNeeds, needs_line};
 ghost use Rattle.part_steps.specs.SetWords.{set_role};
 ghost use Rattle.part_steps.specs.SlotWords.{page_of};
 ghost use Rattle.part_steps.specs.Tasks.{map_of};
 ghost use Rattle.part_steps.specs.declared.part_step.PartStep.TheVariants.{Enter, Leave, Begin, End, Clear};
 
+use crate::invalidations::{
+    has_found, may_ask, may_change, may_count, may_raise, may_set_end, may_set_start, page_looked,
+};
 use crate::part_step::{PartStep, entry_index, run_of, words_filled};
 use crate::slot_words::SLOT_SET_ROLE;
 use crate::task::map_of;
@@ -39,7 +43,7 @@ fn is_over(gfn: u64, walk: &TableWalk) -> bool
 }
 
 // Whether the guest frame's entry was loaded.
-fn saw_entry(gfn: u64, walk: &TableWalk) -> bool
+pub(crate) fn saw_entry(gfn: u64, walk: &TableWalk) -> bool
     requires { walk.now.level ≤ 4 }
     ensures { result ≡ true → SawEntry gfn walk.now }
 {
@@ -133,49 +137,16 @@ fn may_give_old(hand: &Hand) -> bool
         && sizes.actors() <= next_watched(own, topics.watched)
 }
 
-// Whether this may be stored as the count of open invalidations.
-fn may_count(count: u64, topics: &Topics) -> bool
-    requires { topics.now.invalidations.count < 2 ^ 32 }
-    ensures { result ≡ true → MayCount count topics.now }
-{
-    let seen = &topics.invalidations;
-    let next = if seen.opened {
-        seen.count.saturating_sub(1)
-    } else {
-        seen.count + 1
-    };
-    topics.hold == Hold::Exclusive
-        && topics.stay == Stay::Outside
-        && !matches!(seen.checked, Checked::Nothing | Checked::Seq)
-        && count == next
-}
-
-// Whether this may be stored as the sequence number.
-fn may_raise(seq: u64, topics: &Topics) -> bool
-    requires { topics.now.invalidations.seq < 2 ^ 40 }
-    ensures { result ≡ true → MayEndInvalidation topics.now × (seq ≡ topics.now.invalidations.seq + 1) }
-{
-    topics.hold == Hold::Exclusive
-        && topics.stay == Stay::Outside
-        && topics.invalidations.opened
-        && topics.invalidations.checked == Checked::Seq
-        && seq == topics.invalidations.seq + 1
-}
-
 // Whether the host page that was looked up may be changed, to this word.
-fn may_change(new: u64, hand: &Hand) -> bool
+fn may_change_to(new: u64, hand: &Hand) -> bool
     ensures { result ≡ true → MayChange hand.now.core × (new ≡ with_writes_allowed (word_looked hand.now.core.topics.host)) }
 {
-    let sizes = &hand.progress().sizes;
-    let topics = hand.topics();
-    let (Some(look), Actor::Host(host)) = (topics.host, hand.progress().actor) else {
-        return false;
-    };
-    sizes.owns(host, look.page)
-        && topics.invalidations.opened
-        && sizes.vcpus <= topics.flush.asked
-        && sizes.vcpus <= topics.flush.awaited
-        && new == HostWord::from_word(look.word).with_writes_allowed().word()
+    match hand.topics().host {
+        Some(look) => {
+            may_change(hand) && new == HostWord::from_word(look.word).with_writes_allowed().word()
+        }
+        None => false,
+    }
 }
 
 /// Whether the step is one of lines alone, which no actor makes that has no line
@@ -225,7 +196,12 @@ pub fn has_needs(hand: &Hand, step: PartStep) -> bool
         PartStep::Fill(_) => topics.owned.is_some() && words_filled(topics.owned) < 512,
         PartStep::Role(_) => words_filled(topics.owned) == 512,
         PartStep::Give => topics.owned.is_some(),
-        PartStep::Slot => topics.search.set.is_some() && topics.search.id <= 31,
+        PartStep::Slot => {
+            topics.search.set.is_some()
+                && topics.search.id <= 31
+                && !(topics.hold == Hold::Exclusive
+                    && has_found(page_looked(topics.host), &topics.search))
+        }
         PartStep::Walk(gfn) => is_over(gfn, &topics.walk),
         PartStep::Link(gfn) => {
             may_enter(gfn, topics)
@@ -234,7 +210,7 @@ pub fn has_needs(hand: &Hand, step: PartStep) -> bool
                 && owns_table(topics)
         }
         PartStep::Leaf(gfn) => may_enter(gfn, topics) && topics.walk.level == 1,
-        PartStep::Host(page) => page < sizes.pages,
+        PartStep::Host(page) => page < sizes.pages && topics.hold != Hold::Exclusive,
         PartStep::Watch(index) => {
             index < sizes.actors()
                 && index != own
@@ -242,7 +218,8 @@ pub fn has_needs(hand: &Hand, step: PartStep) -> bool
         }
         PartStep::Publish => may_publish(topics),
         PartStep::Clear | PartStep::GiveOld => may_give_old(hand),
-        PartStep::SetStart(_) | PartStep::SetEnd(_) => topics.hold == Hold::Exclusive,
+        PartStep::SetStart(gfn) => may_set_start(gfn, topics),
+        PartStep::SetEnd(gfn) => may_set_end(gfn, topics),
         PartStep::SetCount(count) => may_count(count, topics),
         PartStep::SetSeq(seq) => may_raise(seq, topics),
         PartStep::Zap(gfn) => {
@@ -251,13 +228,13 @@ pub fn has_needs(hand: &Hand, step: PartStep) -> bool
                 && saw_entry(gfn, &topics.walk)
                 && Spte::from_word(topics.walk.entry).kind(topics.walk.level) == SpteKind::Leaf
         }
-        PartStep::Ask(index) => index < sizes.vcpus && index == topics.flush.asked,
+        PartStep::Ask(index) => may_ask(index, hand),
         PartStep::Await(index) => {
             index < topics.flush.asked
                 && index == topics.flush.awaited
                 && topics.stay == Stay::Outside
         }
-        PartStep::Change(new) => may_change(new, hand),
+        PartStep::Change(new) => may_change_to(new, hand),
         PartStep::Pause | PartStep::Slots | PartStep::Root => true,
         PartStep::Seq | PartStep::Count | PartStep::RangeStart | PartStep::RangeEnd => true,
     }

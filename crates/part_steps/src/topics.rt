@@ -10,14 +10,15 @@ ghost use Rattle.spte_words.specs.declared.area.Area.TheVariants as Area;
 ghost use Rattle.part_steps.specs.StayTopics.{begun, let_go, may_search, may_walk};
 ghost use Rattle.part_steps.specs.WalkTopics.{gone_down, is_in_table, still_owned, swapped, walked};
 ghost use Rattle.part_steps.specs.PageTopics.{claimed, filled_more, is_won, published, searched, tried, tried_bit};
-ghost use Rattle.part_steps.specs.ControlTopics.{at_word, checked_after, controlled, count_checked, noted, range_checked, seq_checked, start_checked, stored, takes_snapshot};
+ghost use Rattle.part_steps.specs.ControlTopics.{at_word, checked_after, controlled, count_checked, end_known, noted, range_checked, seq_checked, start_checked, start_known, stored, takes_snapshot};
 ghost use Rattle.part_steps.specs.TopicSteps.{HasRoom, host_begins, index_in_page, topics_after};
 
 use crate::control_words::{has_lock, has_to_flush, has_writer, in_section, is_word_of};
+use crate::invalidations::invalidated;
 use crate::task::map_of;
 use core_views::{
-    Checked, Flush, Hold, HostLook, Invalidations, Kind, MapClaim, OwnedPage, Sizes, SlotField,
-    SlotSearch, Stay, StepKind, TableWalk, Topics,
+    Checked, Flush, Hold, HostLook, Invalidated, Invalidations, Kind, MapClaim, OwnedPage, Sizes,
+    SlotField, SlotSearch, Stay, StepKind, TableWalk, Topics,
 };
 use spte_words::{Area, SlotFlags, Spte, SpteKind};
 
@@ -331,21 +332,45 @@ fn note(word: u32, hold: Hold, invalidations: &mut Invalidations, found: u64)
     }
 }
 
-// A word of the invalidations was stored.
-fn store(word: u32, invalidations: &mut Invalidations, written: u64)
-    ensures { invalidations.new ≡ stored word invalidations.old written }
+// What is known of the words after the range's start was stored, and its end.
+fn start_known(checked: Checked) -> Checked
+    ensures { result ≡ start_known checked }
+{
+    match checked {
+        Checked::Count => Checked::Start,
+        other => other,
+    }
+}
+
+fn end_known(checked: Checked) -> Checked
+    ensures { result ≡ end_known checked }
+{
+    match checked {
+        Checked::Start => Checked::Range,
+        other => other,
+    }
+}
+
+// A word of the invalidations was stored, by an actor whose own one is of these frames.
+fn store(word: u32, own: Invalidated, invalidations: &mut Invalidations, written: u64)
+    ensures { invalidations.new ≡ stored word own invalidations.old written }
 {
     if is_word_of(Area::Count, word) {
         invalidations.opened = invalidations.count < written;
         invalidations.count = written;
         invalidations.checked = Checked::Nothing;
+        invalidations.raised = false;
     } else if is_word_of(Area::RangeStart, word) {
         invalidations.start = written;
+        invalidations.checked = start_known(invalidations.checked);
+        invalidations.own = own;
     } else if is_word_of(Area::RangeEnd, word) {
         invalidations.end = written;
+        invalidations.checked = end_known(invalidations.checked);
     } else if is_word_of(Area::Seq, word) {
         invalidations.seq = written;
         invalidations.checked = Checked::Nothing;
+        invalidations.raised = true;
     }
 }
 
@@ -491,7 +516,10 @@ pub fn step_topics(sizes: &Sizes, kind: Kind, topics: &mut Topics, found: u64)
             topics.claim.seen = 0;
         }
         StepKind::Publish => publish(topics, found),
-        StepKind::Set => store(kind.word, &mut topics.invalidations, found),
+        StepKind::Set => {
+            let own = invalidated(topics);
+            store(kind.word, own, &mut topics.invalidations, found);
+        }
         StepKind::Zap => zap_entry(sizes, kind.word, &mut topics.walk),
         StepKind::Ask => topics.flush.asked = state_index(kind.word) + 1,
         StepKind::Await => {

@@ -7,11 +7,11 @@ ghost use Rattle.step_seats.specs.Moves.{KeepsRoom};
 ghost use Rattle.step_seats.specs.PartTurns.{MadeTelling, MakesPart};
 
 use crate::lock::{exclude, release};
-use core_views::{BeginPlace, Hand, HostPlace, Place, Seen, Slot, SlotSearch};
+use core_views::{BeginPlace, Hand, HostPlace, Place, Seen, SlotSearch};
 use invalidate_seq::{Open, OpenStage};
 use memslots::FindPage;
 use mmu_core::part_rests;
-use part_steps::map_of;
+use part_steps::{gfn_behind, has_found, map_of};
 use step_seats::{Stepper, Turn};
 use tdp_walk::{Walk, zap};
 use vcpu_tlb::{ask_flush, await_flush};
@@ -34,23 +34,14 @@ fn place_of(hand: &Hand) -> Option<BeginPlace>
     }
 }
 
-// The guest frame that the slot gives to the host page.
-fn gfn_behind(page: u64, slot: &Slot) -> u64
-    requires { gfn_behind page slot.now < 2 ^ 64 }
-    ensures { result ≡ gfn_behind page slot.now }
-{
-    slot.base + page.saturating_sub(slot.host)
-}
-
 // The guest frame that the search has found for the host page.
 fn frame_found(page: u64, search: &SlotSearch) -> Option<u64>
     requires { search.now.whole ≡ true → search.now.slot.base + search.now.slot.pages ≤ 2 ^ 36 }
     ensures is { result ≡ frame_found page search.now }
     ensures small { IfSome result (λ g. g < 2 ^ 36) }
 {
-    let slot = &search.slot;
-    if search.whole && slot.host <= page && page - slot.host < slot.pages {
-        Some(slot.base + (page - slot.host))
+    if has_found(page, search) {
+        Some(gfn_behind(page, &search.slot))
     } else {
         None
     }

@@ -8,6 +8,7 @@ use Rattle.mmu_laws.proofs.turns.AnsweredRest.{answered_rests}
 use Rattle.mmu_laws.proofs.causes.Causes.{faults_begin_anew_by_cause}
 use Rattle.mmu_laws.proofs.flat.EveryHistory.{every_flat, every_history}
 use Rattle.mmu_laws.proofs.leaves.LeafLaws.{cached_leaves_agree, leaves_agree, used_leaves_agree}
+use Rattle.mmu_laws.proofs.leaves.OpenFrames.{open_frames_are_flushed, open_frames_are_of_the_page, open_frames_are_recorded, open_frames_are_zapped}
 use Rattle.mmu_laws.proofs.causes.StarvedScan.{legal_parts, starved_lines_scan}
 use Rattle.mmu_core.proofs.start.Starts.{start_good}
 use Rattle.core_theorem.proofs.Begins.{lines_are_open}
@@ -38,6 +39,20 @@ returns-clause-translations c z lines w ss R actor there = cached_leaves_agree z
 pub returns-clause-used : goal.returns-clause-used
 returns-clause-used c z lines w ss R actor gfn word op there stands command =
     used_leaves_agree z _ actor gfn word op (sound z lines w ss R) there stands command
+
+pub returns-clause-recorded : goal.returns-clause-recorded
+returns-clause-recorded c z lines w ss R actor gfn there opened is_in = open_frames_are_recorded z _ actor gfn (sound z lines w ss R) there opened is_in
+
+pub returns-clause-scopes : goal.returns-clause-scopes
+returns-clause-scopes c z lines w ss R actor there opened = open_frames_are_of_the_page z _ actor (sound z lines w ss R) there opened
+
+pub returns-clause-zapped : goal.returns-clause-zapped
+returns-clause-zapped c z lines w ss R actor gfn entry there opened asked is_in leads leaf =
+    open_frames_are_zapped z _ actor gfn entry (sound z lines w ss R) there opened asked is_in leads leaf
+
+pub returns-clause-flushed : goal.returns-clause-flushed
+returns-clause-flushed c z lines w ss R actor v there opened low awaited may =
+    open_frames_are_flushed z _ actor v (sound z lines w ss R) there opened low awaited may
 
 pub returns-clause-lock : goal.returns-clause-lock
 returns-clause-lock c z lines w ss R = (sound z lines w ss R).topics.lock_part

@@ -256,7 +256,7 @@ counters_behind z v a note part.Exclude = λ S I.
     (flush_few (v.words area.Lock 0 == 0) (v.hand a).topics.flush z.vcpus C.asked) C)
 counters_behind z v a note (part.Ask index) = λ S I.
     let C = I.counters a S.there in
-    let lt : index < z.vcpus = subst (λ (y : Sizes). index < y.vcpus) S.sizes S.needs.0 in
+    let lt : index < z.vcpus = subst (λ (y : Sizes). index < y.vcpus) S.sizes S.needs.low in
     all_count z v a _ I (numbered_counts z (v.hand a).topics _ refl refl refl refl (C.counted, C.seq, C.range) (omega (arith, lt)) C)
 counters_behind z v a note (part.Await index) = λ S I.
     let C = I.counters a S.there in all_count z v a _ I (numbered_counts z (v.hand a).topics _ refl refl refl refl (C.counted, C.seq, C.range) C.asked C)

@@ -123,7 +123,7 @@ slots_held : (slots : ℕ) (stands : ℕ → Option Position) (t : Topics) → H
 slots_held slots stands t H = record { table = H.table; no_table = H.no_table; no_set = λ f. ap (λ (b : Bool). (at_set b t.search slots).set) f }
 
 -- a search goes on in the same slot set
-searched_set : (f : SlotField) (s : SlotSearch) (v : ℕ) → (searched_at f s v).set ≡ s.set
+pub searched_set : (f : SlotField) (s : SlotSearch) (v : ℕ) → (searched_at f s v).set ≡ s.set
 searched_set field.Flags s v = refl
 searched_set _ s v = refl
 

@@ -14,9 +14,9 @@ use Rattle.core_views.specs.Sizes.{actors_of}
 use Rattle.spte_words.specs.declared.area.Area.TheVariants as area
 use Rattle.part_steps.specs.declared.part_step.PartStep.{PartStep}
 use Rattle.part_steps.specs.declared.part_step.PartStep.TheVariants as part
-use Rattle.part_steps.specs.ControlTopics.{count_checked, range_checked, seq_checked, start_checked}
-use Rattle.part_steps.specs.PartHoldings.{knows_count}
-use Rattle.part_steps.specs.PartTopics.{sequenced}
+use Rattle.part_steps.specs.ControlTopics.{count_checked, end_known, range_checked, seq_checked, start_checked, start_known}
+use Rattle.part_steps.specs.InvalidationHoldings.{knows_count}
+use Rattle.part_steps.specs.PartTopics.{part_topics, sequenced}
 use Rattle.part_steps.specs.StayTopics.{has_lock, is_alone, is_loose}
 use Rattle.mmu_core.specs.invariant.InvalidationsPart.{CheckedPart, CountPart, knows_end, knows_seq, knows_start}
 use Rattle.mmu_core.specs.invariant.LockPart.{LockPart, is_shared}
@@ -137,6 +137,17 @@ seq_only locked n checked.Nothing = by locked
 seq_only locked n checked.Range = (λ e. refl, λ e. cc e, λ e. cc e)
 seq_only locked n _ = (λ e. absurd (cc e), λ e. cc e, λ e. cc e)
 
+-- and after each store
+start_more : (c : Checked) → (knows_count (start_known c) ≡ true → knows_count c ≡ true) × (knows_end (start_known c) ≡ true → knows_end c ≡ true)
+    × (knows_seq (start_known c) ≡ true → knows_seq c ≡ true)
+start_more checked.Count = (λ e. refl, λ e. cc e, λ e. cc e)
+start_more _ = (λ e. e, λ e. e, λ e. e)
+
+end_more : (c : Checked) → (knows_count (end_known c) ≡ true → knows_count c ≡ true) × (knows_start (end_known c) ≡ true → knows_start c ≡ true)
+    × (knows_seq (end_known c) ≡ true → knows_seq c ≡ true)
+end_more checked.Start = (λ e. refl, λ e. refl, λ e. cc e)
+end_more _ = (λ e. e, λ e. e, λ e. e)
+
 not_loose : (h : Hold) → has_lock h ≡ true → is_loose h ≡ false
 not_loose Loose lock = absurd (cc lock)
 not_loose _ lock = refl
@@ -184,11 +195,21 @@ module _ (count start end_ seq : ℕ) (t : Topics) (C : CheckedPart count start 
     numbered = λ lock knows. ap (λ (b : Bool). if not b then seq else t.invalidations.seq) (not_loose t.hold lock);
   }
 
-  start_stored : (gfn : ℕ) → CheckedPart count gfn end_ seq (record t { invalidations = record t.invalidations { start = gfn } })
-  start_stored gfn = record { counted = C.counted; started = λ lock knows. refl; ended = C.ended; numbered = C.numbered }
+  start_stored : (gfn : ℕ) → CheckedPart count gfn end_ seq (part_topics (part.SetStart gfn) t gfn)
+  start_stored gfn = let more = start_more t.invalidations.checked in record {
+    counted = λ lock knows. C.counted lock (more.0 knows);
+    started = λ lock knows. refl;
+    ended = λ lock knows. C.ended lock (more.1 knows);
+    numbered = λ lock knows. C.numbered lock (more.2 knows);
+  }
 
-  end_stored : (gfn : ℕ) → CheckedPart count start gfn seq (record t { invalidations = record t.invalidations { end = gfn } })
-  end_stored gfn = record { counted = C.counted; started = C.started; ended = λ lock knows. refl; numbered = C.numbered }
+  end_stored : (gfn : ℕ) → CheckedPart count start gfn seq (part_topics (part.SetEnd gfn) t gfn)
+  end_stored gfn = let more = end_more t.invalidations.checked in record {
+    counted = λ lock knows. C.counted lock (more.0 knows);
+    started = λ lock knows. C.started lock (more.1 knows);
+    ended = λ lock knows. refl;
+    numbered = λ lock knows. C.numbered lock (more.2 knows);
+  }
 
   same_checked : (s : Topics) → s.hold ≡ t.hold → s.invalidations ≡ t.invalidations → CheckedPart count start end_ seq s
   same_checked s hold same = record {
@@ -237,9 +258,9 @@ checks_behind z v a note part.Seq = λ S I. all_checked z v a _ I (seq_loaded _ 
 checks_behind z v a note part.Count = λ S I. all_checked z v a _ I (count_loaded _ _ _ _ (v.hand a).topics (I.checks a S.there))
 checks_behind z v a note part.RangeStart = λ S I. all_checked z v a _ I (start_loaded _ _ _ _ (v.hand a).topics (I.checks a S.there))
 checks_behind z v a note part.RangeEnd = λ S I. all_checked z v a _ I (end_loaded _ _ _ _ (v.hand a).topics (I.checks a S.there))
-checks_behind z v a note (part.SetStart gfn) = λ S I. stored_checked z v a _ gfn _ _ _ S.there I S.needs.0
+checks_behind z v a note (part.SetStart gfn) = λ S I. stored_checked z v a _ gfn _ _ _ S.there I S.needs.0.opening.alone
     (start_stored _ _ _ _ (v.hand a).topics (I.checks a S.there) gfn)
-checks_behind z v a note (part.SetEnd gfn) = λ S I. stored_checked z v a _ _ gfn _ _ S.there I S.needs.0
+checks_behind z v a note (part.SetEnd gfn) = λ S I. stored_checked z v a _ _ gfn _ _ S.there I S.needs.0.opening.alone
     (end_stored _ _ _ _ (v.hand a).topics (I.checks a S.there) gfn)
 checks_behind z v a note (part.SetCount count) = λ S I. stored_checked z v a count _ _ _ _ S.there I S.needs.alone (unknown _ _ _ _ _ refl)
 checks_behind z v a note (part.SetSeq seq) = λ S I. stored_checked z v a _ _ _ seq _ S.there I S.needs.0.alone (unknown _ _ _ _ _ refl)

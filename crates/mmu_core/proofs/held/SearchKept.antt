@@ -82,7 +82,7 @@ pub at_set_search : (pool : ℕ → ℕ) (holds : Bool) (s : SlotSearch) (v : �
 at_set_search pool holds s v = record { listed = tt; loaded = λ k is. tt; whole = λ k is whole. absurd (cc whole); held = λ whole. absurd (cc whole); before_flags = λ whole. absurd (cc whole) }
 
 -- The search behind a load of its next word.
-searched_part : (f : SlotField) (pool : ℕ → ℕ) (set : ℕ) (s : SlotSearch) → s.next ≡ f → s.set ≡ Some set → s.id ≤ 31 → SearchPart pool s → SearchPart pool (searched_at f s (pool (slot_index set s.id f)))
+pub searched_part : (f : SlotField) (pool : ℕ → ℕ) (set : ℕ) (s : SlotSearch) → s.next ≡ f → s.set ≡ Some set → s.id ≤ 31 → SearchPart pool s → SearchPart pool (searched_at f s (pool (slot_index set s.id f)))
 searched_part field.Flags pool set s at own low P = by (flags_live (pool (slot_index set s.id field.Flags))) refl
   where
     found : ℕ
@@ -223,7 +223,7 @@ looks_behind z v a note part.Leave S I = all_look z v a _ I (begun_look z _ _ _ 
 looks_behind z v a note part.Begin S I = all_look z v a _ I (begun_look z _ _ _ (v.hand a).topics)
 looks_behind z v a note part.End S I = all_look z v a _ I (begun_look z _ _ _ (v.hand a).topics)
 looks_behind z v a note part.Seq S I = all_look z v a _ I (sequenced_look z (v.words area.Seq 0) (v.words area.Host) (is_loose (v.hand a).topics.hold) (v.hand a).topics (I.looks a S.there))
-looks_behind z v a note (part.Host page) S I = all_look z v a _ I (host_look z (v.words area.Seq 0) (v.words area.Host) page (v.hand a).topics (subst (λ (y : Sizes). page < y.pages) S.sizes S.needs) (I.looks a S.there))
+looks_behind z v a note (part.Host page) S I = all_look z v a _ I (host_look z (v.words area.Seq 0) (v.words area.Host) page (v.hand a).topics (subst (λ (y : Sizes). page < y.pages) S.sizes S.needs.0) (I.looks a S.there))
 looks_behind z v a note (part.Change new_) S I = all_look z v a _ I (changed_look z (v.words area.Seq 0) (v.words area.Host)
     (v.hand a).topics new_ S.needs.0.looked S.replaces (I.looks a S.there))
 looks_behind z v a note _ S I = all_look z v a _ I (same_look z (v.words area.Seq 0) (v.words area.Host) (v.hand a).topics _ refl refl (I.looks a S.there))

@@ -39,6 +39,11 @@ use Rattle.mmu_core.proofs.lines.StepIn.{StepIn, step_in, Makes, Touches}
 use Rattle.mmu_core.proofs.machine.Stepping.{IsStep}
 use Rattle.mmu_core.proofs.held.OldSets.{old_sets_kept}
 use Rattle.mmu_core.proofs.held.SetsKept.{sets_kept}
+use Rattle.mmu_core.proofs.held.KnownRange.{known_range_kept}
+use Rattle.mmu_core.proofs.held.OpenFrames.{ranges_kept}
+use Rattle.mmu_core.proofs.pages.ZappedKept.{zapped_kept}
+use Rattle.mmu_core.proofs.held.PassedKept.{passed_kept}
+use Rattle.mmu_core.proofs.held.ScopesKept.{scopes_kept}
 
 -- Each step of a part does.
 pub topics_part_kept : (z : Sizes) (v : View) (a : ℕ) (step : PartStep) (note : ℕ) → IsPart z v a step → TopicsInvariant z v → TopicsInvariant z (part_stepped a step note v)
@@ -60,7 +65,12 @@ topics_part_kept z v a step note S I = record {
   looks = looks_kept z v a step note S I;
   counts = counts_kept z v a step note S I;
   checks = checks_kept z v a step note S I;
+  known = known_range_kept z v a step note S I I.known;
   loaded = loaded_kept z v a step note S I;
+  ranges = ranges_kept z v a step note S I;
+  passed = passed_kept z v a step note S I;
+  scopes = scopes_kept z v a step note S I;
+  zapped = zapped_kept z v a step note S I (I.known a S.there);
   few_ended = few_kept z v a step note S I;
   counters = counters_kept z v a step note S I;
 }

@@ -41,6 +41,7 @@ part_rests_at z v i I P there = record {
   filled = λ o is. (P.filled i o there is).most;
   counters = subst (λ y. CountersPart y h.topics) (sym same) (P.counters i there);
   found = λ whole. subst (λ (y : Sizes). h.topics.search.slot.host + h.topics.search.slot.pages ≤ y.pages) (sym same) (found whole).pages;
+  flags = (P.searches i there).before_flags;
   frames = λ whole. (found whole).frames;
   cache = subst (λ n. 1 ≤ n) (sym O.cache) I.sizes.cache.0;
   levels = All-weaker (λ (t : Translation). (t.level ≡ 1) × IsLeafFor (v.words area.Pool) (v.words area.Host) (v.words area.Slots 0) t.gfn t.leaf) IsAtLeafLevel lowest h.cached.items (I.cached i there);

@@ -1,6 +1,6 @@
 -- What a fault knows at a place is what the step of this place needs.
 use Rattle.std.proofs.Common.{◌+◌, ◌^◌, ◌<◌, ℕ, refl, ap, arith}
-use Rattle.std.specs.Prelude.{Bool, true, false}
+use Rattle.std.specs.Prelude.{Bool, true, false, ◌&&◌}
 use Rattle.core_views.specs.declared.place.CheckStage.{CheckStage}
 use Rattle.core_views.specs.declared.place.CheckStage.TheVariants as stage
 use Rattle.core_views.specs.declared.place.FaultPlace.{FaultPlace}
@@ -17,6 +17,8 @@ use Rattle.part_steps.specs.SlotWords.{page_of}
 use Rattle.mmu_core.proofs.lines.ClaimMade.{claim_needs}
 use Rattle.mmu_core.proofs.lines.FaultSame.{over_it}
 use Rattle.mmu_core.proofs.lines.ShareMade.{share_needs}
+use Rattle.part_steps.specs.StayTopics.{is_alone}
+use Rattle.part_steps.specs.InvalidationRange.{has_found, page_looked}
 
 page_within : (gfn : ℕ) (h : Held) → PartRests h → FoundSlot gfn h.topics → page_of h.topics.search.slot gfn < h.state.sizes.pages
 page_within gfn h R F =
@@ -34,9 +36,10 @@ may_enter gfn write t E S = record { shares = E.sharing.shares; section = E.shar
 pub fault_needs : (p : FaultPlace) (h : Held) (gfn : ℕ) (write : Bool) → gfn < 2 ^ 36 → PartRests h → FaultKnows p h.state.sizes gfn write h.topics → PartNeeds (fault_part p gfn h.topics) h
 fault_needs Begin h gfn write small R K = K.outside
 fault_needs Snapshot h gfn write small R K = tt
-fault_needs (Find true) h gfn write small R K = K.1 refl
+fault_needs (Find true) h gfn write small R K =
+    let S = K.1 refl in (S.0, S.1, ap (λ (k : Hold). is_alone k && has_found (page_looked h.topics.host) h.topics.search) K.0.loose)
 fault_needs (Find false) h gfn write small R K = tt
-fault_needs Host h gfn write small R K = page_within gfn h R K.1
+fault_needs Host h gfn write small R K = (page_within gfn h R K.1, ap is_alone K.0.loose)
 fault_needs Share h gfn write small R K = share_needs h.topics.hold h refl K.1
 fault_needs (Check at) h gfn write small R K = check_needs at h
 fault_needs (Walk true) h gfn write small R K = K.2 refl

@@ -4,7 +4,7 @@ use Rattle.core_views.specs.declared.answer.Answer.TheVariants.{Refused}
 use Rattle.core_views.specs.declared.answer.Refusal.TheVariants.{OutOfRange}
 use Rattle.mmu_core.specs.declared.outcome.Outcome.TheVariants.{Goes, Ends}
 use Rattle.mmu_core.specs.declared.invalidate.BeginNext.TheVariants.{Goes}
-use Rattle.std.proofs.Common.{◌≡◌, ◌+◌, ◌<◌, ◌≤◌, ℕ, Bool, true, false, refl, subst, ap, ◌∙◌, arith, Option, is_some, None}
+use Rattle.std.proofs.Common.{◌≡◌, ◌+◌, ◌<◌, ◌≤◌, ℕ, Bool, true, false, refl, subst, ap, ◌∙◌, arith, Option, is_some, None, sym}
 use Rattle.std.specs.Prelude.{◌==◌, ◌&&◌, if◌then◌else◌, nat_lt, Some, slice_get, unwrap_or}
 use Rattle.circular_buffer.specs.Buffer.{Buffer}
 use Rattle.core_views.specs.declared.actor.Actor.{Actor}
@@ -46,11 +46,13 @@ use Rattle.mmu_core.specs.lines.PartWaits.{own_open, was_counted}
 use Rattle.mmu_core.specs.machine.Outcomes.{place_after}
 use Rattle.mmu_core.proofs.lines.EitherPlace.{either_place}
 use Rattle.mmu_core.proofs.lines.FaultSame.{over_it}
-use Rattle.mmu_core.proofs.lines.InvalidateKnown.{BeginComes, EndComes, begin_known, end_known}
+use Rattle.mmu_core.proofs.lines.InvalidateKnown.{BeginComes, EndComes, begin_known, ending_known}
 use Rattle.mmu_core.proofs.lines.InvalidateNeeds.{begin_needs, end_needs}
 use Rattle.mmu_core.proofs.lines.KnowsKept.{KnowsBehind}
 use Rattle.mmu_core.proofs.lines.LockHeld.{rests_by_seq}
 use Rattle.mmu_core.proofs.machine.HandWith.{hand_with}
+use Rattle.core_views.specs.declared.topics.Hold.TheVariants.{Loose}
+use Rattle.part_steps.specs.StayTopics.{is_alone}
 
 -- ---- what each step needs
 
@@ -69,9 +71,9 @@ own_low z (Host n) page S is =
     omega (arith, O.1, low)
 own_low z _ page S is = absurd (cc is)
 
-look_needs : (b : Bool) (page : ℕ) (h : Held) → (b ≡ true → page < h.state.sizes.pages) → PartNeeds (if b then part.Host page else part.Seq) h
-look_needs true page h low = low refl
-look_needs false page h low = tt
+look_needs : (b : Bool) (page : ℕ) (h : Held) → (b ≡ true → page < h.state.sizes.pages) → h.topics.hold ≡ Loose → PartNeeds (if b then part.Host page else part.Seq) h
+look_needs true page h low loose = (low refl, ap is_alone loose)
+look_needs false page h low loose = tt
 
 ends_rest : (p : EndPlace) (h : Held) → EndKnows p h.topics → HostRests (End p) h
 ends_rest ends.Release h K = ap (λ (c : Checked). was_counted c && nat_lt (own_open h.topics.invalidations) h.topics.invalidations.count) K.1
@@ -79,14 +81,16 @@ ends_rest _ h K = tt
 
 pub host_needs : (p : HostPlace) (h : Held) (page : ℕ) → PartRests h → HostKnows p page h → PartNeeds (host_part p page h) h × HostRests p h
 host_needs Look h page R K =
-    (look_needs (is_own h.state.sizes h.state.actor page) page h (λ e. own_low h.state.sizes h.state.actor page R.sizes e), tt)
-host_needs (Begin p) h page R K = (begin_needs p h page R K.1, tt)
+    (look_needs (is_own h.state.sizes h.state.actor page) page h (λ e. own_low h.state.sizes h.state.actor page R.sizes e) K.loose, tt)
+host_needs (Begin p) h page R K = (begin_needs p h page R K.0.at K.1, tt)
 host_needs Change h page R K = (
   (
     record {
       looked = K.0.looked;
       own_ = ap (is_own h.state.sizes h.state.actor) K.0.at ∙ K.0.own_;
       opened = K.1.opened.opened;
+      unraised = K.1.opened.unraised;
+      invalid = K.1.invalid ∙ sym K.0.at;
       asked = K.1.asked;
       awaited = K.1.awaited;
     },
@@ -123,7 +127,7 @@ module _ (line : Line) (h : Held) (page : ℕ) (change : HostChange) (cached : B
   begin_comes p (begins_next.Goes q) u same L C =
       (allows, (record { own_ = L.own_; looked = ap is_some same ∙ L.looked; at = ap page_looked same ∙ L.at }, C))
   begin_comes p begins_next.Begun u same L C =
-      (allows, (record { own_ = L.own_; looked = ap is_some same ∙ L.looked; at = ap page_looked same ∙ L.at }, record { opened = C.0; asked = C.1; awaited = C.2 }))
+      (allows, (record { own_ = L.own_; looked = ap is_some same ∙ L.looked; at = ap page_looked same ∙ L.at }, record { opened = C.0; invalid = C.1; asked = C.2; awaited = C.3 }))
 
   end_comes : (p : EndPlace) (next : EndNext) (u : Topics) → EndComes next u → KnowsBehind (after_end next) (ChangeHost page change) (behind (End p) u)
   end_comes p (ends_next.Goes q) u C = (allows, C)
@@ -141,7 +145,7 @@ module _ (line : Line) (h : Held) (page : ℕ) (change : HostChange) (cached : B
   host_known Look R K closed A = look_known (is_own h.state.sizes h.state.actor page) refl K (closed refl)
   host_known (Begin p) R K closed A =
       begin_comes p (begin_next p h.state.sizes page h.topics v) (part_topics (begin_part p page h.topics) h.topics v) (host_stays p) K.0
-      (begin_known p h.state.sizes page h.topics v R.sizes R.frames R.level K.1 A)
+      (begin_known p h.state.sizes page h.topics v R.sizes K.0.at R.flags R.frames R.level K.1 A)
   host_known Change R K closed A =
       let opened : IsOpen (part_topics (part.Change (word_put h.topics)) h.topics v) = record {
         rests = record {
@@ -152,23 +156,24 @@ module _ (line : Line) (h : Held) (page : ℕ) (change : HostChange) (cached : B
           no_set = K.1.opened.rests.no_set;
         };
         opened = K.1.opened.opened;
+        unraised = K.1.opened.unraised;
       } in
       either_place (λ q. Knows q (behind Change (part_topics (part.Change (word_put h.topics)) h.topics v))) (v == word_looked h.topics.host) (End ends.Exclude) Change
       (allows, opened)
-      (allows, (record { own_ = K.0.own_; looked = refl; at = K.0.at }, record { opened = opened; asked = K.1.asked; awaited = K.1.awaited }))
-  host_known (End p) R K closed A = end_comes p (end_next p v) (part_topics (end_part p h.topics) h.topics v) (end_known p h.topics v K A)
+      (allows, (record { own_ = K.0.own_; looked = refl; at = K.0.at }, record { opened = opened; invalid = K.1.invalid; asked = K.1.asked; awaited = K.1.awaited }))
+  host_known (End p) R K closed A = end_comes p (end_next p v) (part_topics (end_part p h.topics) h.topics v) (ending_known p h.topics v K A)
 
   -- ---- no page leaves, and its invalidation is open where its place says so
 
   uncounted : (p : BeginPlace) (z : Sizes) (t : Topics) → is_counted p ≡ false → BeginKnows p z page t → t.invalidations.opened ≡ false
   uncounted begins.Exclude z t is K = K.1
   uncounted (begins.Find begun) z t is K = K.0.with_lock.is
-  uncounted begins.Count z t is K = K.with_lock.is
-  uncounted begins.RangeStart z t is K = K.0.with_lock.is
-  uncounted begins.RangeEnd z t is K = K.0.with_lock.is
-  uncounted begins.SetStart z t is K = K.0.with_lock.is
-  uncounted begins.SetEnd z t is K = K.0.with_lock.is
-  uncounted begins.SetCount z t is K = K.0.with_lock.is
+  uncounted begins.Count z t is K = K.sweeping.with_lock.is
+  uncounted begins.RangeStart z t is K = K.0.sweeping.with_lock.is
+  uncounted begins.RangeEnd z t is K = K.0.sweeping.with_lock.is
+  uncounted begins.SetStart z t is K = K.0.sweeping.with_lock.is
+  uncounted begins.SetEnd z t is K = K.0.sweeping.with_lock.is
+  uncounted begins.SetCount z t is K = K.0.sweeping.with_lock.is
   uncounted _ z t is K = absurd (cc is)
 
   begin_leaves : (next : BeginNext) (z : Sizes) (u : Topics) → u.leaving ≡ None → BeginComes next z page u → LeavesPart (place.Host (after_begin next)) u
@@ -200,9 +205,9 @@ module _ (line : Line) (h : Held) (page : ℕ) (change : HostChange) (cached : B
   host_leaves Look R K left A = look_leaves (is_own h.state.sizes h.state.actor page) (left.leaves refl) (left.opens refl)
   host_leaves (Begin p) R K left A =
       begin_leaves (begin_next p h.state.sizes page h.topics v) h.state.sizes _ (begin_keeps p ∙ left.leaves refl)
-      (begin_known p h.state.sizes page h.topics v R.sizes R.frames R.level K.1 A)
+      (begin_known p h.state.sizes page h.topics v R.sizes K.0.at R.flags R.frames R.level K.1 A)
   host_leaves Change R K left A =
       either_place (λ q. LeavesPart (place.Host q) (part_topics (part.Change (word_put h.topics)) h.topics v)) (v == word_looked h.topics.host) (End ends.Exclude) Change
       (record { leaves = λ may. left.leaves refl; opens = λ may. absurd (cc may) })
       (record { leaves = λ may. left.leaves refl; opens = λ may. absurd (cc may) })
-  host_leaves (End p) R K left A = end_leaves (end_next p v) _ (end_keeps p ∙ left.leaves refl) (end_known p h.topics v K A)
+  host_leaves (End p) R K left A = end_leaves (end_next p v) _ (end_keeps p ∙ left.leaves refl) (ending_known p h.topics v K A)

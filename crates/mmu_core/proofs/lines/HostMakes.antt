@@ -33,8 +33,11 @@ use Rattle.mmu_core.proofs.lines.EitherPlace.{either_place}
 use Rattle.mmu_core.proofs.lines.HostKnown.{host_needs}
 use Rattle.mmu_core.proofs.lines.Raised.{few_raised}
 use Rattle.mmu_core.proofs.lines.KnowsKept.{step_knows}
-use Rattle.mmu_core.proofs.machine.PartStepping.{IsPart, Replaces}
+use Rattle.mmu_core.proofs.machine.PartStepping.{IsPart, Replaces, AreApart}
 use Rattle.mmu_core.proofs.machine.Stepping.{IsStep}
+use Rattle.mmu_core.specs.invariant.SlotSetPart.{SlotSetPart}
+use Rattle.core_views.specs.Slots.{has_host_page}
+use Rattle.part_steps.specs.SlotWords.{slot_at}
 
 -- The host word of a page that was looked up allows writes already.
 allowed_is : (p : ℕ) → with_writes_allowed (host_word p true true 1) ≡ host_word p true true 1
@@ -53,6 +56,12 @@ put_is z seq host t W L looked = by t.host L.there L.is looked
         let word : look.word ≡ host_word look.page true true 1 = is look refl ∙ W look.page (there look refl) in
         ap with_writes_allowed word ∙ (allowed_is look.page ∙ sym word)
 
+-- No two slots that are published share a host page.
+slots_apart : (z : Sizes) (set : ℕ) (role pool : ℕ → ℕ) → SlotSetPart z set role pool → AreApart pool set
+slots_apart z set role pool P page i j slot other live also has too =
+    let same : i ≡ j = P.host_apart page i j live.low also.low live.live also.live (ap (has_host_page page) live.is ∙ has) (ap (has_host_page page) also.is ∙ too) in
+    sym live.is ∙ ap (slot_at pool set) same ∙ also.is
+
 module _ (z : Sizes) (v : View) (a : ℕ) (page : ℕ) where
   abbrev Says : PartStep → Type 0
   Says step = Replaces step (v.words area.Pool) (v.words area.Slots 0) (v.hand a).topics
@@ -61,8 +70,10 @@ module _ (z : Sizes) (v : View) (a : ℕ) (page : ℕ) where
   host_says Look small I P there K = either_place Says (is_own (v.hand a).state.sizes (v.hand a).state.actor page) (part.Host page) part.Seq tt tt
   host_says (Begin (begins.Find begun)) small I P there K = either_place Says begun part.Slot part.Slots tt tt
   host_says (Begin (begins.Walk rooted)) small I P there K = either_place Says rooted (part.Walk _) part.Root tt tt
+  host_says (Begin begins.SetCount) small I P there K = slots_apart z (v.words area.Slots 0) (v.words area.Role) (v.words area.Pool) I.set_part
   host_says (Begin _) small I P there K = tt
   host_says Change small I P there K = put_is z (v.words area.Seq 0) (v.words area.Host) (v.hand a).topics I.hosts (P.looks a there) K.0.looked
+  host_says (End ends.SetCount) small I P there K = slots_apart z (v.words area.Slots 0) (v.words area.Role) (v.words area.Pool) I.set_part
   host_says (End ends.SetSeq) small I P there K = few_raised z v a small P there K.0.alone.alone K.1
   host_says (End ends.Exclude) small I P there K = tt
   host_says (End _) small I P there K = tt

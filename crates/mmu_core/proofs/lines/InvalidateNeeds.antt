@@ -2,7 +2,7 @@
 use Rattle.core_views.specs.declared.topics.Checked.{Checked}
 use Rattle.std.proofs.lemmas.Bool.Decides.{nat_tests}
 use Rattle.std.proofs.Common.{◌≡◌, ◌+◌, ◌-◌, ◌^◌, ◌<◌, ◌≤◌, ℕ, Bool, true, false, refl, sym, ap, ◌∙◌, arith}
-use Rattle.std.specs.Prelude.{◌==◌, if◌then◌else◌, nat_le}
+use Rattle.std.specs.Prelude.{◌==◌, if◌then◌else◌, nat_le, ◌&&◌}
 use Rattle.core_views.specs.declared.place.BeginPlace.{BeginPlace}
 use Rattle.core_views.specs.declared.place.BeginPlace.TheVariants as begins
 use Rattle.core_views.specs.declared.place.EndPlace.{EndPlace}
@@ -13,12 +13,14 @@ use Rattle.core_views.specs.declared.topics.Topics.{Topics}
 use Rattle.core_views.specs.Held.{Held}
 use Rattle.core_views.specs.Slots.{has_host_page}
 use Rattle.part_steps.specs.PartBounds.{PartRests}
-use Rattle.part_steps.specs.PartHoldings.{MayCount, knows_count}
+use Rattle.part_steps.specs.InvalidationHoldings.{MayCount, has_counted, has_widened, knows_count, IsOpening}
 use Rattle.part_steps.specs.PartSteps.{PartNeeds}
-use Rattle.mmu_core.specs.lines.InvalidateKnows.{BeginKnows, EndKnows, HasCounted, IsAloneWith, has_counted}
+use Rattle.mmu_core.specs.lines.InvalidateKnows.{BeginKnows, EndKnows, IsAloneWith, HasSearched}
 use Rattle.mmu_core.specs.lines.InvalidateSteps.{begin_part, end_part, gfn_behind, greater, has_found, lesser, range_end, range_start}
 use Rattle.mmu_core.proofs.lines.EitherPlace.{either_place}
 use Rattle.mmu_core.proofs.lines.FaultSame.{both, over_it}
+use Rattle.part_steps.specs.InvalidationRange.{page_looked, invalidated_by, has_searched, is_within_range}
+use Rattle.part_steps.specs.StayTopics.{is_alone}
 
 -- ---- what each step needs
 
@@ -63,40 +65,88 @@ end_small page t small frames = by (t.invalidations.count == 0) (has_found page 
     by false true low = let l = low refl in greater_small t.invalidations.end (gfn_behind page t.search.slot + 1) small (omega (arith, l))
     by false false low = small
 
-counted_known : (n : Invalidations) → HasCounted n → knows_count n.checked ≡ true
-counted_known n C = by n.checked C
-  where
-    by : (c : Checked) → has_counted c n.count ≡ true → knows_count c ≡ true
-    by checked.Count C = refl
-    by checked.Range C = refl
-    by checked.Start C = refl
-    by checked.All C = refl
-    by _ C = absurd (cc C)
+counted_known : (c : Checked) (count : ℕ) → has_counted c count ≡ true → knows_count c ≡ true
+counted_known checked.Count count C = refl
+counted_known checked.Range count C = refl
+counted_known checked.Start count C = refl
+counted_known checked.All count C = refl
+counted_known _ count C = absurd (cc C)
+
+-- Who has searched the slots for the page that it looked at may open an invalidation of it.
+opening : (page : ℕ) (t : Topics) → page_looked t.host ≡ page → HasSearched page t → IsOpening t
+opening page t same S = record {
+  alone = S.sweeping.with_lock.alone.alone;
+  outside = S.sweeping.with_lock.alone.outside;
+  closed = S.sweeping.with_lock.is;
+  holds_set = S.set;
+  searched = ap (λ p. has_searched p t.search) same ∙ S.searched;
+}
 
 -- What is stored as the count is as many as were open, and one, or without one.
-may_count : (count : ℕ) (opened : Bool) (t : Topics) → IsAloneWith opened t → knows_count t.invalidations.checked ≡ true
-    → count ≡ (if opened then t.invalidations.count - 1 else t.invalidations.count + 1) → MayCount count t
-may_count count opened t A knows is =
-    record { alone = A.alone.alone; outside = A.alone.outside; knows = knows; is = is ∙ sym (ap (λ (b : Bool). if b then t.invalidations.count - 1 else t.invalidations.count + 1) A.is) }
+one_more : (page : ℕ) (t : Topics) → page_looked t.host ≡ page → HasSearched page t → t.invalidations.checked ≡ checked.Range → t.invalidations.own ≡ invalidated_by page t.search
+    → is_within_range t.invalidations.own t.invalidations ≡ true → MayCount (t.invalidations.count + 1) t
+one_more page t same S known own_ within = record {
+  alone = S.sweeping.with_lock.alone.alone;
+  outside = S.sweeping.with_lock.alone.outside;
+  knows = ap knows_count known;
+  is = sym (ap (λ (b : Bool). if b then t.invalidations.count - 1 else t.invalidations.count + 1) S.sweeping.with_lock.is);
+  opens = λ closed. record {
+    opening = opening page t same S;
+    known = known;
+    own_ = own_ ∙ ap (λ p. invalidated_by p t.search) (sym same);
+    within = within;
+    unasked = S.sweeping.unasked;
+  };
+  closes = λ opened. absurd (let closed = S.sweeping.with_lock.is in cc (opened, closed));
+}
 
-pub begin_needs : (p : BeginPlace) (h : Held) (page : ℕ) → PartRests h → BeginKnows p h.state.sizes page h.topics → PartNeeds (begin_part p page h.topics) h
-begin_needs begins.Exclude h page R K = K.0.loose
-begin_needs (begins.Find true) h page R K = K.1 refl
-begin_needs begins.SetStart h page R K = (K.0.with_lock.alone.alone, start_small page h.topics R.counters.range.0 R.frames)
-begin_needs begins.SetEnd h page R K = (K.0.with_lock.alone.alone, end_small page h.topics R.counters.range.1 R.frames)
-begin_needs begins.SetCount h page R K = may_count (h.topics.invalidations.count + 1) false h.topics K.0.with_lock (counted_known h.topics.invalidations K.1) refl
-begin_needs (begins.Walk true) h page R K = K.1 refl
-begin_needs begins.Zap h page R K = (K.0.with_lock.alone.alone, K.0.with_lock.alone.outside, K.1.saw, K.1.leaf)
-begin_needs begins.Ask h page R K = (K.1, refl)
-begin_needs begins.Await h page R K = (let asked = K.1 in omega (arith, asked, K.2), refl, K.0.alone.outside)
-begin_needs begins.Release h page R K = K.0.alone.alone
-begin_needs (begins.Find false) h page R K = tt
-begin_needs (begins.Walk false) h page R K = tt
-begin_needs _ h page R K = tt
+one_less : (t : Topics) → IsAloneWith true t → t.invalidations.checked ≡ checked.Count → t.invalidations.raised ≡ true → MayCount (t.invalidations.count - 1) t
+one_less t A known raised = record {
+  alone = A.alone.alone;
+  outside = A.alone.outside;
+  knows = ap knows_count known;
+  is = sym (ap (λ (b : Bool). if b then t.invalidations.count - 1 else t.invalidations.count + 1) A.is);
+  opens = λ closed. absurd (let opened = A.is in cc (opened, closed));
+  closes = λ opened. raised;
+}
+
+pub begin_needs : (p : BeginPlace) (h : Held) (page : ℕ) → PartRests h → page_looked h.topics.host ≡ page → BeginKnows p h.state.sizes page h.topics
+    → PartNeeds (begin_part p page h.topics) h
+begin_needs begins.Exclude h page R same K = K.0.loose
+begin_needs (begins.Find true) h page R same K =
+    let S = K.1 refl in (S.0, S.1, ap (λ p. is_alone h.topics.hold && has_found p h.topics.search) same ∙ none_found (is_alone h.topics.hold) S.2)
+  where
+    none_found : {found : Bool} (alone : Bool) → found ≡ false → (alone && found) ≡ false
+    none_found true is = is
+    none_found false is = refl
+begin_needs begins.SetStart h page R same K = (
+  record { opening = opening page h.topics same K.0; counted = K.1; is = ap (λ p. range_start p h.topics) (sym same) },
+  start_small page h.topics R.counters.range.0 R.frames,
+)
+begin_needs begins.SetEnd h page R same K = (
+  record {
+    opening = opening page h.topics same K.0;
+    widened = K.1;
+    own_ = K.2 ∙ ap (λ p. invalidated_by p h.topics.search) (sym same);
+    is = ap (λ p. range_end p h.topics) (sym same);
+  },
+  end_small page h.topics R.counters.range.1 R.frames,
+)
+begin_needs begins.SetCount h page R same K = one_more page h.topics same K.0 K.1 K.2 K.3
+begin_needs (begins.Walk true) h page R same K = (K.1 refl).1
+begin_needs begins.Zap h page R same K =
+    (K.0.sweeping.with_lock.alone.alone, K.0.sweeping.with_lock.alone.outside, K.2.saw, K.2.leaf)
+begin_needs begins.Ask h page R same K =
+    record { low = K.2; next = refl; alone = K.0.alone.alone; outside = K.0.alone.outside; opened = K.0.is; swept = K.4 }
+begin_needs begins.Await h page R same K = (let asked = K.2 in let lt = K.3 in omega (arith, asked, lt), refl, K.0.alone.outside)
+begin_needs begins.Release h page R same K = K.0.alone.alone
+begin_needs (begins.Find false) h page R same K = tt
+begin_needs (begins.Walk false) h page R same K = tt
+begin_needs _ h page R same K = tt
 
 pub end_needs : (p : EndPlace) (h : Held) → EndKnows p h.topics → PartNeeds (end_part p h.topics) h
 end_needs ends.Exclude h K = K.rests.loose
-end_needs ends.SetSeq h K = (record { alone = K.0.alone.alone; outside = K.0.alone.outside; opened = K.0.is; loaded = K.1 }, refl)
-end_needs ends.SetCount h K = may_count (h.topics.invalidations.count - 1) true h.topics K.0 (ap knows_count K.1) refl
+end_needs ends.SetSeq h K = (record { alone = K.0.alone.alone; outside = K.0.alone.outside; opened = K.0.is; unraised = K.2; loaded = K.1 }, refl)
+end_needs ends.SetCount h K = one_less h.topics K.0 K.1 K.2
 end_needs ends.Release h K = K.0.alone.alone
 end_needs _ h K = tt

@@ -11,6 +11,7 @@ use Rattle.part_steps.specs.ControlTopics.{range_checked, seq_checked, start_che
 use Rattle.mmu_core.specs.lines.PartWaits.{saw_open, was_counted, own_open}
 use Rattle.part_steps.specs.StayTopics.{has_lock}
 use Rattle.mmu_core.proofs.lines.FaultScans.{maps}
+use Rattle.part_steps.specs.ControlTopics.{end_known, start_known}
 
 -- After a load of the range or of the sequence number the check is further than the count, or begins anew.
 pub start_not_open : (c : Checked) (b : Bool) → (was_counted (start_checked c) && b) ≡ false
@@ -35,6 +36,15 @@ seq_not_open locked n checked.Nothing b = by locked
     by false = refl
 seq_not_open locked n _ b = refl
 
+-- After a store of the range it is counted no more than before.
+pub start_known_open : (c : Checked) (b : Bool) → (was_counted c && b) ≡ false → (was_counted (start_known c) && b) ≡ false
+start_known_open checked.Count b closed = refl
+start_known_open _ b closed = closed
+
+pub end_known_open : (c : Checked) (b : Bool) → (was_counted c && b) ≡ false → (was_counted (end_known c) && b) ≡ false
+end_known_open checked.Start b closed = refl
+end_known_open _ b closed = closed
+
 -- The step loads the count of open invalidations.
 abbrev pub counts : PartStep → Bool
 counts part.Count = true
@@ -46,6 +56,8 @@ closed_on part.Count t v other closed = absurd (cc other)
 closed_on part.RangeStart t v other closed = start_not_open t.invalidations.checked (nat_lt (own_open t.invalidations) t.invalidations.count)
 closed_on part.RangeEnd t v other closed = range_not_open t.invalidations.checked (nat_lt (own_open t.invalidations) t.invalidations.count)
 closed_on part.Seq t v other closed = seq_not_open (has_lock t.hold) t.invalidations.count t.invalidations.checked (nat_lt (own_open t.invalidations) t.invalidations.count)
+closed_on (part.SetStart gfn) t v other closed = start_known_open t.invalidations.checked (nat_lt (own_open t.invalidations) t.invalidations.count) closed
+closed_on (part.SetEnd gfn) t v other closed = end_known_open t.invalidations.checked (nat_lt (own_open t.invalidations) t.invalidations.count) closed
 closed_on (part.SetCount count) t v other closed = refl
 closed_on (part.SetSeq seq) t v other closed = refl
 closed_on part.Enter t v other closed = refl

@@ -1,6 +1,6 @@
 -- What a hand must have for a step, and what its fields are behind it.
 use Rattle.std.proofs.Math.Nat.{div-le_self}
-use Rattle.std.proofs.Common.{◌≡◌, ◌<◌, ◌^◌, ◌⊎◌, inl, inr, ℕ, length, refl, sym, subst, ap, ◌∙◌, arith}
+use Rattle.std.proofs.Common.{◌≤◌, ◌≡◌, ◌<◌, ◌^◌, ◌⊎◌, inl, inr, ℕ, length, refl, sym, subst, ap, ◌∙◌, arith, ◌+◌}
 use Rattle.std.specs.Prelude.{Bool, true, false, Some, None}
 use Rattle.core_views.specs.declared.kind.Kind.{Kind}
 use Rattle.core_views.specs.declared.kind.StepKind.{StepKind}
@@ -37,6 +37,7 @@ use Rattle.mmu_core.proofs.machine.Sized.{loads_keep_sizes}
 use Rattle.mmu_core.specs.machine.Steps.{has_line, held_after, idle_after, line_after, line_at, next, next_line, place_at, standing, task_at, task_of}
 use Rattle.part_steps.specs.TopicSteps.{HasRoom, topics_after}
 use Rattle.mmu_core.proofs.machine.Which.{next_of_line, next_of_part}
+use Rattle.part_steps.specs.PartSteps.{needs_line}
 
 pub enabled_sizes : (h : Held) (k : Kind) → Enabled h k → AreSizes h.state.sizes
 unfolding Enabled
@@ -56,34 +57,43 @@ pub named_is : (k : StepKind) → kind_named (code_of k) ≡ k
 named_is kind.Enter = refl
 named_is _ = refl
 
-part_room : (step : PartStep) (h : Held) (note : ℕ) → AreSizes h.state.sizes → PartNeeds step h
+-- The guest frames of the slot that was found whole are small numbers.
+abbrev HasSmallFrames : Topics → Type 0
+HasSmallFrames t = t.search.whole ≡ true → t.search.slot.base + t.search.slot.pages ≤ 2 ^ 36
+
+part_room : (step : PartStep) (h : Held) (note : ℕ) → AreSizes h.state.sizes → PartNeeds step h → (needs_line step ≡ true → HasSmallFrames h.topics)
     → HasRoom (part_task step (own_index h) h.topics note).kind h.topics
-part_room (part.Fill value) h note z N = λ o is. let filled : words_filled h.topics.owned ≡ o.filled = ap words_filled is in omega (arith, filled, N.0.1)
-part_room (part.Role value) h note z N = λ o is. let filled : words_filled h.topics.owned ≡ o.filled = ap words_filled is in omega (arith, filled, N.0)
-part_room part.Slot h note z N = λ some. N.1
-part_room part.Claim h note z N = (N.1, omega (arith, N.2, z.pool.1))
-part_room (part.Walk gfn) h note z N = λ from. run_small gfn h.topics.walk N
-part_room (part.Link gfn) h note z N = λ from. run_small gfn h.topics.walk N.0.saw.over
-part_room (part.Leaf gfn) h note z N = λ from. run_small gfn h.topics.walk N.0.saw.over
-part_room part.Clear h note z N = λ o is. let e : None ≡ Some o = sym N.owns_none ∙ is in absurd (cc e)
-part_room _ h note z N = tt
+part_room (part.Fill value) h note z N small = λ o is. let filled : words_filled h.topics.owned ≡ o.filled = ap words_filled is in omega (arith, filled, N.0.1)
+part_room (part.Role value) h note z N small = λ o is. let filled : words_filled h.topics.owned ≡ o.filled = ap words_filled is in omega (arith, filled, N.0)
+part_room part.Slot h note z N small = λ some. N.1
+part_room part.Claim h note z N small = (N.1, omega (arith, N.2, z.pool.1))
+part_room (part.Walk gfn) h note z N small = λ from. run_small gfn h.topics.walk N
+part_room (part.Link gfn) h note z N small = λ from. run_small gfn h.topics.walk N.0.saw.over
+part_room (part.Leaf gfn) h note z N small = λ from. run_small gfn h.topics.walk N.0.saw.over
+part_room part.Clear h note z N small = λ o is. let e : None ≡ Some o = sym N.owns_none ∙ is in absurd (cc e)
+part_room (part.SetStart gfn) h note z N small = small refl
+part_room (part.SetEnd gfn) h note z N small = small refl
+part_room (part.SetCount count) h note z N small = small refl
+part_room (part.SetSeq seq) h note z N small = small refl
+part_room _ h note z N small = tt
 
 touch_room : (op : Op) (index : ℕ) (t : Topics) → HasRoom (touch_of op index).kind t
 touch_room Read index t = tt
 touch_room _ index t = tt
 
-room_by : (command : Command) (h : Held) (t : Task) → AreSizes h.state.sizes → StepAt command h t → HasRoom t.kind h.topics
-room_by command h _ z (Makes step note N) = part_room step h note z N
-room_by command h _ z (Touches gfn word op is R) = touch_room op _ h.topics
+room_by : (command : Command) (h : Held) (t : Task) → AreSizes h.state.sizes → HasSmallFrames h.topics → StepAt command h t → HasRoom t.kind h.topics
+room_by command h _ z small (Makes step note N) = part_room step h note z N (λ e. small)
+room_by command h _ z small (Touches gfn word op is R) = touch_room op _ h.topics
 
-task_room : (p : Place) (command : Command) (h : Held) → AreSizes h.state.sizes → RestsAt p command h → HasRoom (task_at p command h).kind h.topics
-task_room p command h z R = room_by command h (task_at p command h) z (step_at p command h R)
+task_room : (p : Place) (command : Command) (h : Held) → AreSizes h.state.sizes → HasSmallFrames h.topics → RestsAt p command h
+    → HasRoom (task_at p command h).kind h.topics
+task_room p command h z small R = room_by command h (task_at p command h) z small (step_at p command h R)
 
 room_of : (h : Held) (k : Kind) → IsNext h k ⊎ IsPartStep h k → HasRoom (kind_named k.code) h.topics
-room_of h k (inl e) = subst (λ (x : Kind). HasRoom (kind_named x.code) h.topics) (sym e.is) (subst (λ x. HasRoom x h.topics) (sym (named_is (task_of h).kind)) (task_room (place_at h.state.place h) (line_at h.state.place h).command h e.rests.part.sizes e.rests.at))
+room_of h k (inl e) = subst (λ (x : Kind). HasRoom (kind_named x.code) h.topics) (sym e.is) (subst (λ x. HasRoom x h.topics) (sym (named_is (task_of h).kind)) (task_room (place_at h.state.place h) (line_at h.state.place h).command h e.rests.part.sizes e.rests.part.frames e.rests.at))
 room_of h k (inr e) =
     subst (λ (x : Kind). HasRoom (kind_named x.code) h.topics) (sym e.is)
-    (subst (λ x. HasRoom x h.topics) (sym (named_is (part_task e.step (own_index h) h.topics e.note).kind)) (part_room e.step h e.note e.sizes e.needs))
+    (subst (λ x. HasRoom x h.topics) (sym (named_is (part_task e.step (own_index h) h.topics e.note).kind)) (part_room e.step h e.note e.sizes e.needs (λ line. absurd (let free = e.free in cc (free, line)))))
 
 pub enabled_room : (h : Held) (k : Kind) → Enabled h k → HasRoom (kind_named k.code) h.topics
 unfolding Enabled

@@ -12,11 +12,20 @@ use Rattle.part_steps.specs.PartTasks.{IsWithin, own_index, page_owned, word_loo
 use Rattle.part_steps.specs.PartSteps.{PartNeeds, needs_line}
 use Rattle.mmu_core.specs.invariant.SlotSetPart.{IsLiveIn}
 use Rattle.mmu_core.specs.machine.View.{View}
+use Rattle.core_views.specs.Slots.{has_host_page}
 
--- What a line says of its own step: a slot set that is published has each slot of the one before it; the sequence number stays far below 2 ^ 64; and a host
--- word is exchanged for itself, since no line changes yet what the host maps a page to.
+-- No two slots in this set have a host page in common.
+abbrev pub AreApart : (ℕ → ℕ) → ℕ → Type 0
+AreApart pool set =
+    (page i j : ℕ) (slot other : SlotOf) → IsLiveIn pool set i slot → IsLiveIn pool set j other → has_host_page page slot ≡ true → has_host_page page other ≡ true
+    → slot ≡ other
+
+-- What a line says of its own step: a slot set that is published has each slot of the one before it; where one more invalidation is counted, no two published
+-- slots share a host page; the sequence number stays far below 2 ^ 64; and a host word is exchanged for itself, since no line changes yet what the host maps a
+-- page to.
 abbrev pub Replaces : PartStep → (ℕ → ℕ) → ℕ → Topics → Type 0
 Replaces part.Publish pool slots t = (id : ℕ) (slot : SlotOf) → IsLiveIn pool slots id slot → IsLiveIn pool (page_owned t.owned) id slot
+Replaces (part.SetCount count) pool slots t = AreApart pool slots
 Replaces (part.SetSeq seq) pool slots t = seq < 2 ^ 40
 Replaces (part.Change new_) pool slots t = new_ ≡ word_looked t.host
 Replaces _ pool slots t = Unit {0}
@@ -63,6 +72,7 @@ idle_untold _ free = refl
 
 pub replaces_none : (step : PartStep) (pool : ℕ → ℕ) (slots : ℕ) (t : Topics) → is_told step ≡ false → Replaces step pool slots t
 replaces_none part.Publish pool slots t never = absurd (cc never)
+replaces_none (part.SetCount count) pool slots t never = absurd (cc never)
 replaces_none (part.SetSeq seq) pool slots t never = absurd (cc never)
 replaces_none (part.Change new_) pool slots t never = absurd (cc never)
 replaces_none _ pool slots t never = tt

@@ -4,7 +4,7 @@ use Rattle.core_views.specs.declared.sizes.Sizes.{Sizes}
 use Rattle.core_views.specs.declared.topics.Topics.{Topics}
 use Rattle.core_views.specs.Held.{Held}
 use Rattle.core_views.specs.Sizes.{actors_of}
-use Rattle.mmu_core.specs.invariant.TopicsInvariant.{CountersPart, FilledPart, HeldPart, LockPart, LookPart, SawWriter, SearchPart, StatesPart, TopicsInvariantOf, SetsPart, OldSetsPart, PathPart, UsePart, stands, CountPart, CheckedPart, LoadedPart}
+use Rattle.mmu_core.specs.invariant.TopicsInvariant.{CountersPart, FilledPart, HeldPart, LockPart, LookPart, SawWriter, SearchPart, StatesPart, TopicsInvariantOf, SetsPart, OldSetsPart, PathPart, UsePart, stands, CountPart, CheckedPart, KnownRangePart, LoadedPart, PassedPart, RangePart, ScopePart, ZappedPart}
 
 pub same_topics : (z : Sizes) (lock root slots seq count start end_ : ℕ) (states map host role pool : ℕ → ℕ) (hand other : ℕ → Held) → ◌≡◌ {A = ℕ → Topics} (λ i. (other i).topics) (λ i. (hand i).topics)
     → TopicsInvariantOf z lock root slots seq count start end_ states map host role pool hand → TopicsInvariantOf z lock root slots seq count start end_ states map host role pool other
@@ -26,7 +26,12 @@ same_topics z lock root slots seq count start end_ states map host role pool han
   looks = subst (λ (t : ℕ → Topics). (i : ℕ) → i < actors_of z → LookPart z seq host (t i)) (sym same) I.looks;
   counts = subst (λ (t : ℕ → Topics). CountPart (actors_of z) count (λ i. (t i).invalidations.opened)) (sym same) I.counts;
   checks = subst (λ (t : ℕ → Topics). (i : ℕ) → i < actors_of z → CheckedPart count start end_ seq (t i)) (sym same) I.checks;
+  known = subst (λ (t : ℕ → Topics). (i : ℕ) → i < actors_of z → KnownRangePart start end_ (t i)) (sym same) I.known;
   loaded = subst (λ (t : ℕ → Topics). (i : ℕ) → i < actors_of z → LoadedPart pool (t i)) (sym same) I.loaded;
+  ranges = subst (λ (t : ℕ → Topics). RangePart (actors_of z) start end_ t) (sym same) I.ranges;
+  passed = subst (λ (t : ℕ → Topics). (i : ℕ) → i < actors_of z → PassedPart pool (t i)) (sym same) I.passed;
+  scopes = subst (λ (t : ℕ → Topics). ScopePart (actors_of z) pool slots t) (sym same) I.scopes;
+  zapped = subst (λ (t : ℕ → Topics). ZappedPart (actors_of z) I.up I.spot pool root t) (sym same) I.zapped;
   few_ended = I.few_ended;
   counters = subst (λ (t : ℕ → Topics). (i : ℕ) → i < actors_of z → CountersPart z (t i)) (sym same) I.counters;
 }

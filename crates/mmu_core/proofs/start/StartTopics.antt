@@ -34,6 +34,8 @@ use Rattle.mmu_core.proofs.start.StartWords.{free_from_2, hand_is, none_behind, 
 use Rattle.mmu_core.proofs.machine.SumsBelow.{sum_none}
 use Rattle.mmu_core.proofs.pages.PoolPages.{among_tells, itself, other}
 use Rattle.mmu_core.proofs.pages.Standing.{one_position}
+use Rattle.mmu_core.specs.invariant.InvalidatedPart.{PassedPart}
+use Rattle.mmu_core.specs.invariant.InvalidationsPart.{KnownRangePart}
 
 -- what actors hold of the parts: nothing
 topics_are : (z : Sizes) (lines : List Line) (w : World Held) (i : ℕ) → IsStart z lines w → i < actors_of z → (hand_in mmu w i).topics ≡ first_topics
@@ -227,6 +229,11 @@ seq_start z lines w start = word_at_start z w area.Seq 0 0 start.words (λ l. re
 pub rest_first : IsAtRest first_topics
 rest_first = record { outside = refl; loose = refl; owns_none = refl; no_table = refl; no_set = refl }
 
+pub none_open_yet : (z : Sizes) (lines : List Line) (w : World Held) (i : ℕ) → IsStart z lines w → i < actors_of z
+    → (hand_in mmu w i).topics.invalidations.opened ≡ true → ⊥
+none_open_yet z lines w i start lt is =
+    let closed : (hand_in mmu w i).topics.invalidations.opened ≡ false = ap (λ (t : Topics). t.invalidations.opened) (topics_are z lines w i start lt) in cc (is, closed)
+
 pub start_topics : (z : Sizes) (lines : List Line) (w : World Held) → IsStart z lines w → TopicsInvariant z (view z w)
 start_topics z lines w start = record {
   up = start_up z.pool;
@@ -247,7 +254,12 @@ start_topics z lines w start = record {
   counts = count_start z lines w start;
   checks = λ i lt. subst (CheckedPart (word_in z w area.Count 0) (word_in z w area.RangeStart 0) (word_in z w area.RangeEnd 0) (word_in z w area.Seq 0))
       (sym (topics_are z lines w i start lt)) (checked_first _ _ _ _);
+  known = λ i lt. subst (KnownRangePart (word_in z w area.RangeStart 0) (word_in z w area.RangeEnd 0)) (sym (topics_are z lines w i start lt)) (λ lock. absurd (cc lock));
   loaded = λ i lt. subst (LoadedPart (word_in z w area.Pool)) (sym (topics_are z lines w i start lt)) (loaded_first (word_in z w area.Pool));
+  ranges = λ i gfn lt is within. absurd (none_open_yet z lines w i start lt is);
+  passed = λ i lt. subst (PassedPart (word_in z w area.Pool)) (sym (topics_are z lines w i start lt)) (λ alone. absurd (cc alone));
+  scopes = λ i lt is. absurd (none_open_yet z lines w i start lt is);
+  zapped = λ i lt is asked. absurd (none_open_yet z lines w i start lt is);
   few_ended = let none = seq_start z lines w start in omega (arith, none);
   counters = λ i lt. subst (CountersPart z) (sym (topics_are z lines w i start lt)) (counters_first z);
 }

@@ -29,7 +29,8 @@ use Rattle.spte_words.specs.Areas.{StandsSomewhere}
 use Rattle.spte_words.proofs.Places.{word_stands}
 use Rattle.spte_words.proofs.ReadsHost.{host_fits}
 use Rattle.mmu_core.specs.invariant.Invariant.{CachedPart, Holds, IsLeafFor, IsSetBy, KnowsPart, OwnLines, RecordPart, LeavesPart}
-use Rattle.mmu_core.specs.machine.Machine.{World}
+use Rattle.mmu_core.specs.machine.Enabled.{mmu}
+use Rattle.mmu_core.specs.machine.Machine.{World, hand_in}
 use Rattle.mmu_core.specs.lines.Rests.{Rests}
 use Rattle.part_steps.specs.SlotWords.{live_at}
 use Rattle.part_steps.specs.Tasks.{map_of}
@@ -236,6 +237,9 @@ start_good z lines w start = record {
     raised = let none = seq_start z lines w start in omega (arith, none);
     answered = λ i lt. subst (λ (h : Held). length h.answers ≤ length h.lines) (sym (hand_is z lines w i start lt)) (omega arith);
   };
+  flushes = λ i v lt low opened.
+      let closed : (hand_in mmu w i).topics.invalidations.opened ≡ false = ap (λ (h : Held). h.topics.invalidations.opened) (hand_is z lines w i start lt) in
+      absurd (cc (closed, opened));
   no_pause = word_at_start z w area.Pause 0 0 start.words (λ l. refl) (λ e. refl);
   holds = record {
     sizes = start.sizes;

@@ -19,7 +19,8 @@ use Rattle.part_steps.specs.declared.part_step.PartStep.{PartStep}
 use Rattle.part_steps.specs.declared.part_step.PartStep.TheVariants as part
 use Rattle.part_steps.specs.PartBounds.{PartRests}
 use Rattle.part_steps.specs.PartTasks.{IsWithin, all_but, leaf_written, link_written, own_index, page_owned, part_kind, part_task, set_held, table_page, word_looked, words_filled, page_left, page_looked}
-use Rattle.part_steps.specs.PartHoldings.{LookedUp, OwnsTable, MayPublish, MayGiveOld, MayChange, MayCount}
+use Rattle.part_steps.specs.InvalidationHoldings.{MayChange, MayCount}
+use Rattle.part_steps.specs.PartHoldings.{LookedUp, OwnsTable, MayPublish, MayGiveOld}
 use Rattle.part_steps.specs.PartSteps.{PartNeeds}
 use Rattle.part_steps.specs.SlotWords.{field_number, leaf_of, may_write, slot_index}
 use Rattle.part_steps.specs.Tasks.{map_of}
@@ -84,12 +85,12 @@ part_within_by part.Slot h note N R = slot_within h note N.0 N.1 R
 part_within_by (part.Walk gfn) h note N R = pool_within (map_of h.state.sizes) (table_page h.topics.walk) _ (R.table N.there) (omega arith)
 part_within_by (part.Link gfn) h note N R = pool_within (map_of h.state.sizes) (table_page h.topics.walk) _ (R.table N.0.saw.over.there) (omega arith)
 part_within_by (part.Leaf gfn) h note N R = pool_within (map_of h.state.sizes) (table_page h.topics.walk) _ (R.table N.0.saw.over.there) (omega arith)
-part_within_by (part.Host page) h note N R = N
+part_within_by (part.Host page) h note N R = N.0
 part_within_by (part.Watch index) h note N R = N.0
 part_within_by part.Clear h note N R = left_there h N R
 part_within_by part.GiveOld h note N R = let at = left_there h N R in omega (arith, at)
 part_within_by (part.Zap gfn) h note N R = pool_within (map_of h.state.sizes) (table_page h.topics.walk) _ (R.table N.2.over.there) (omega arith)
-part_within_by (part.Ask index) h note N R = vcpu_within index h.state.sizes N.0
+part_within_by (part.Ask index) h note N R = vcpu_within index h.state.sizes N.low
 part_within_by (part.Await index) h note N R = vcpu_within index h.state.sizes (let few = R.counters.asked in omega (arith, few, N.0))
 part_within_by (part.Change new_) h note N R = looked_there h N.0 R
 part_within_by _ h note N R = omega arith

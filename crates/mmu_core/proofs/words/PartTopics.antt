@@ -74,7 +74,7 @@ told_so root slots seq count start end_ pause claim t v = record t {
   walk = if root then at_root (may_walk t.stay t.hold) t.walk v else t.walk;
   search = if slots then at_set (may_search t.stay t.hold) t.search v else if seq && is_loose t.hold then kept_search false t.search else t.search;
   host = if seq && is_loose t.hold then None else t.host;
-  invalidations = record {
+  invalidations = record t.invalidations {
     snapshot = if seq && is_loose t.hold then Some v else t.invalidations.snapshot;
     count = if count then v else t.invalidations.count;
     start = if start then v else t.invalidations.start;
@@ -86,7 +86,6 @@ told_so root slots seq count start end_ pause claim t v = record t {
         if end_ then range_checked t.invalidations.checked else
         if seq then seq_checked (has_lock t.hold) t.invalidations.count t.invalidations.checked else
         t.invalidations.checked;
-    opened = t.invalidations.opened;
   };
   claim = claim;
   pause = if pause then v else t.pause;

@@ -13,7 +13,7 @@ use Rattle.core_views.specs.declared.topics.Topics.{Topics}
 use Rattle.core_views.specs.Held.{Held}
 use Rattle.core_views.specs.Sizes.{actors_of}
 use Rattle.spte_words.specs.Areas.{pool_index}
-use Rattle.part_steps.specs.PartHoldings.{knows_count}
+use Rattle.part_steps.specs.InvalidationHoldings.{knows_count}
 use Rattle.part_steps.specs.PartTasks.{table_page}
 use Rattle.part_steps.specs.StayTopics.{has_lock}
 use Rattle.mmu_core.specs.machine.Sums.{one_if, sum_below}
@@ -44,6 +44,11 @@ pub record CheckedPart (count start end_ seq : ℕ) (t : Topics) : Type 0 where
   pub started : has_lock t.hold ≡ true → knows_start t.invalidations.checked ≡ true → t.invalidations.start ≡ start
   pub ended : has_lock t.hold ≡ true → knows_end t.invalidations.checked ≡ true → t.invalidations.end ≡ end_
   pub numbered : has_lock t.hold ≡ true → knows_seq t.invalidations.checked ≡ true → t.invalidations.seq ≡ seq
+
+-- And so is the range that was loaded, where a check under the lock has come to its end with invalidations open.
+abbrev pub KnownRangePart : ℕ → ℕ → Topics → Type 0
+KnownRangePart start end_ t =
+    has_lock t.hold ≡ true → t.invalidations.checked ≡ checked.All → 0 < t.invalidations.count → (t.invalidations.start ≡ start) × (t.invalidations.end ≡ end_)
 
 -- The entry that an actor has loaded that has the lock alone, outside of every section, is in its table still.
 abbrev pub LoadedPart : (ℕ → ℕ) → Topics → Type 0

@@ -8,7 +8,8 @@ use Rattle.mmu_core.specs.machine.View.{View}
 pub use Rattle.part_steps.specs.PartBounds.{CountersPart}
 pub use Rattle.mmu_core.specs.invariant.AllOver.{AllOver, LeafIsFor}
 pub use Rattle.mmu_core.specs.invariant.HeldPart.{HeldPart, HoldsOld, OldSetsPart, PathPart, SetsPart}
-pub use Rattle.mmu_core.specs.invariant.InvalidationsPart.{CheckedPart, CountPart, LoadedPart}
+pub use Rattle.mmu_core.specs.invariant.InvalidationsPart.{CheckedPart, CountPart, KnownRangePart, LoadedPart}
+pub use Rattle.mmu_core.specs.invariant.InvalidatedPart.{PassedPart, RangePart, ScopePart, ZappedPart}
 pub use Rattle.mmu_core.specs.invariant.LockPart.{LockPart, SawWriter}
 pub use Rattle.mmu_core.specs.invariant.PoolPart.{FilledPart, IsFilled, UsePart, is_leaving}
 pub use Rattle.mmu_core.specs.invariant.SearchPart.{LookPart, SearchPart}
@@ -34,7 +35,12 @@ pub record TopicsInvariantOf (z : Sizes) (lock root slots seq count start end_ :
   pub looks : (i : ℕ) → i < actors_of z → LookPart z seq host (hand i).topics
   pub counts : CountPart (actors_of z) count (λ i. (hand i).topics.invalidations.opened)
   pub checks : (i : ℕ) → i < actors_of z → CheckedPart count start end_ seq (hand i).topics
+  pub known : (i : ℕ) → i < actors_of z → KnownRangePart start end_ (hand i).topics
   pub loaded : (i : ℕ) → i < actors_of z → LoadedPart pool (hand i).topics
+  pub ranges : RangePart (actors_of z) start end_ (λ i. (hand i).topics)
+  pub passed : (i : ℕ) → i < actors_of z → PassedPart pool (hand i).topics
+  pub scopes : ScopePart (actors_of z) pool slots (λ i. (hand i).topics)
+  pub zapped : ZappedPart (actors_of z) up spot pool root (λ i. (hand i).topics)
   pub few_ended : seq < 2 ^ 40
   pub counters : (i : ℕ) → i < actors_of z → CountersPart z (hand i).topics
 

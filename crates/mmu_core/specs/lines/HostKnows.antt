@@ -16,9 +16,10 @@ pub record LooksAt (page : ℕ) (h : Held) : Type 0 where
   pub looked : is_some h.topics.host ≡ true
   pub at : page_looked h.topics.host ≡ page
 
--- Its invalidation is open, and each virtual processor was asked for a flush, and awaited.
-pub record HasFlushed (h : Held) : Type 0 where
+-- Its invalidation of the page is open, and each virtual processor was asked for a flush, and awaited.
+pub record HasFlushed (page : ℕ) (h : Held) : Type 0 where
   pub opened : IsOpen h.topics
+  pub invalid : h.topics.invalidations.own.page ≡ page
   pub asked : h.state.sizes.vcpus ≤ h.topics.flush.asked
   pub awaited : h.state.sizes.vcpus ≤ h.topics.flush.awaited
 
@@ -31,5 +32,5 @@ HostRests _ h = Unit {0}
 abbrev pub HostKnows : HostPlace → ℕ → Held → Type 0
 HostKnows Look page h = IsAtRest h.topics
 HostKnows (Begin p) page h = LooksAt page h × BeginKnows p h.state.sizes page h.topics
-HostKnows Change page h = LooksAt page h × HasFlushed h
+HostKnows Change page h = LooksAt page h × HasFlushed page h
 HostKnows (End p) page h = EndKnows p h.topics

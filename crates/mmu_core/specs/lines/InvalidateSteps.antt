@@ -2,7 +2,7 @@
 -- kvm_mmu_invalidate_begin and kvm_mmu_invalidate_end; tdp_mmu.c, kvm_tdp_mmu_unmap_gfn_range; vcpu-requests.rst): under the lock alone the range of open
 -- invalidations is widened to the guest frame, one more is counted, the frame's leaf is zapped, and each virtual processor is asked for a flush and awaited;
 -- and later, under the lock alone again, the sequence number is raised, and one less is open.
-pub use Rattle.mmu_core.specs.lines.InvalidateRange.{gfn_behind, greater, has_found, lesser, range_end, range_start}
+pub use Rattle.part_steps.specs.InvalidationRange.{gfn_behind, greater, has_found, lesser, range_end, range_start}
 use Rattle.std.specs.Prelude.{◌+◌, ◌-◌, ◌*◌, ℕ, Bool, true, false, ◌==◌, ◌&&◌, ◌||◌, nat_lt, if◌then◌else◌}
 use Rattle.core_views.specs.declared.place.BeginPlace.{BeginPlace}
 use Rattle.core_views.specs.declared.place.BeginPlace.TheVariants as begins

@@ -2,10 +2,12 @@
 -- writer that it found, of the open invalidations their count, and of the pool's map the word that its claim has come to.
 use Rattle.part_steps.specs.StayTopics.{has_lock}
 use Rattle.std.proofs.Common.{◌≡◌, ◌≢◌, ◌⊎◌, inl, inr, ◌<◌, ◌≤◌, ◌+◌, ℕ, List, [], ◌∷◌, ◌++◌, refl, sym, subst, ap, ◌∙◌, arith, nat_lt}
-use Rattle.std.specs.Prelude.{Bool, true, false, ◌==◌, if◌then◌else◌}
+use Rattle.std.specs.Prelude.{Bool, true, false, ◌&&◌, ◌==◌, if◌then◌else◌}
 use Rattle.std.proofs.lemmas.Bool.Decides.{nat_tests}
 use Rattle.core_views.specs.declared.kind.Kind.{Kind}
 use Rattle.core_views.specs.declared.sizes.Sizes.{Sizes}
+use Rattle.core_views.specs.declared.topics.Checked.{Checked}
+use Rattle.core_views.specs.declared.topics.Checked.TheVariants as checked
 use Rattle.core_views.specs.declared.topics.Hold.TheVariants.{Loose, Shared, Owing, Exclusive}
 use Rattle.core_views.specs.declared.topics.Topics.{Topics}
 use Rattle.core_views.specs.Held.{Held}
@@ -19,13 +21,13 @@ use Rattle.part_steps.specs.PartTasks.{own_index, part_task}
 use Rattle.part_steps.specs.PartTopics.{part_topics}
 use Rattle.part_steps.specs.Tasks.{map_of}
 use Rattle.part_steps.specs.PageTopics.{is_won}
-use Rattle.part_steps.specs.ControlTopics.{has_writer}
+use Rattle.part_steps.specs.ControlTopics.{end_known, has_writer, start_known}
 use Rattle.part_steps.specs.TopicSteps.{topics_after}
 use Rattle.mmu_laws.specs.causes.Causes.{Finds}
 use Rattle.mmu_core.specs.machine.Enabled.{mmu}
 use Rattle.mmu_core.specs.invariant.Laws.{IsSound}
 use Rattle.mmu_core.specs.machine.Machine.{Legal, May, Step, World, answered, effect, hand_in, run}
-use Rattle.mmu_core.specs.lines.PartWaits.{is_owing, saw_open, own_open}
+use Rattle.mmu_core.specs.lines.PartWaits.{is_owing, saw_open, own_open, was_counted}
 use Rattle.mmu_laws.specs.causes.Waits.{FindsWriter, FoundCount, FoundWriter, IsOffLockAndCount, IsOffWord, LoadsCount, SawNothing, count_word, lock_word, pool_word}
 use Rattle.mmu_laws.proofs.causes.Changes.{Knows, knows_longer, made_longer, made_now, of_each_list}
 use Rattle.mmu_laws.proofs.causes.ClaimSeen.{mapped_saw, tried_saw}
@@ -44,6 +46,15 @@ pub record ActorSaw (z : Sizes) (w : World Held) (actor : ℕ) (t : Topics) (ss 
   pub counted : saw_open t.invalidations ≡ true → FoundCount z actor t.hold t.invalidations.count w ss
   pub claim : 0 < t.claim.seen → Knows (IsOffWord actor (pool_word z t.claim.at)) actor (pool_word z t.claim.at) t.claim.seen w ss u
   pub alone : 0 < t.claim.seen → t.claim.at < words_of_bits z.pool
+
+-- What is counted after a store of the range was counted before it.
+start_counted : (c : Checked) (b : Bool) → (was_counted (start_known c) && b) ≡ true → (was_counted c && b) ≡ true
+start_counted checked.Count b is = absurd (cc is)
+start_counted _ b is = is
+
+end_counted : (c : Checked) (b : Bool) → (was_counted (end_known c) && b) ≡ true → (was_counted c && b) ≡ true
+end_counted checked.Start b is = absurd (cc is)
+end_counted _ b is = is
 
 module _ (z : Sizes) (w : World Held) (ss : List (Step Kind)) (s : Step Kind) (G : IsSound z (run mmu w ss)) (may : May mmu (run mmu w ss) s) where
   abbrev a : ℕ
@@ -134,6 +145,12 @@ module _ (z : Sizes) (w : World Held) (ss : List (Step Kind)) (s : Step Kind) (G
   counted_saw part.RangeEnd M S is = let none = range_not_open t.invalidations.checked (nat_lt (own_open t.invalidations) t.invalidations.count) in absurd (cc (none, is))
   counted_saw part.Seq M S is =
       let none = seq_not_open (has_lock t.hold) t.invalidations.count t.invalidations.checked (nat_lt (own_open t.invalidations) t.invalidations.count) in absurd (cc (none, is))
+  counted_saw (part.SetStart gfn) M S is =
+      count_longer (part.SetStart gfn) M (λ e. cc e) (λ e. cc e) S
+      (start_counted t.invalidations.checked (nat_lt (own_open t.invalidations) t.invalidations.count) is)
+  counted_saw (part.SetEnd gfn) M S is =
+      count_longer (part.SetEnd gfn) M (λ e. cc e) (λ e. cc e) S
+      (end_counted t.invalidations.checked (nat_lt (own_open t.invalidations) t.invalidations.count) is)
   counted_saw (part.SetCount count) M S is = absurd (cc is)
   counted_saw (part.SetSeq seq) M S is = absurd (cc is)
   counted_saw part.Enter M S is = absurd (cc is)

@@ -199,7 +199,8 @@ module _ (z : Sizes) (v : View) (a : ℕ) (line : Line) (gfn word : ℕ) (op : O
       (
         R.under.1.0,
         host_noted (v.words area.Pool) gfn op (held_behind Host) (record u.notes { host = with_entry (page_of held.search.slot gfn) (facts.host (page_of held.search.slot gfn)) u.notes.host }) (sees_page R) (is_write op) (answered Host)
-            (host_writable z (v.words area.Host) (page_of held.search.slot gfn) I.hosts (subst (λ (y : Sizes). page_of held.search.slot gfn < y.pages) S.sizes S.needs)),
+            (host_writable z (v.words area.Host) (page_of held.search.slot gfn) I.hosts
+            (subst (λ (y : Sizes). page_of held.search.slot gfn < y.pages) S.sizes S.needs.0)),
       ),
     );
   }

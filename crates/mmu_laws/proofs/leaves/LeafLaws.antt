@@ -140,7 +140,8 @@ module _ {pages root set : ℕ} {role pool : ℕ → ℕ} {up : ℕ → Use} {sp
   lowest_table zero page at_page leads = (page, at_page, leads)
   lowest_table (suc level) page at_page leads = lowest_table level leads.0 (one_below level page leads.0 at_page leads.1) leads.2
 
-  from_root : gfn < 2 ^ 36 → LeadsTo pool 4 root gfn entry → (low : ℕ) × (stands up spot low ≡ Some (at 1 (gfn / level_span 1 / 512))) × (pool (pool_index low (entry_index gfn 1)) ≡ entry)
+  pub from_root : gfn < 2 ^ 36 → LeadsTo pool 4 root gfn entry
+      → (low : ℕ) × (stands up spot low ≡ Some (at 1 (gfn / level_span 1 / 512))) × (pool (pool_index low (entry_index gfn 1)) ≡ entry)
   from_root small leads =
       let first : 0 ≡ gfn / level_span 4 / 512 = rw span_4 (omega (arith, small)) in
       lowest_table 3 root (root_stands T ∙ ap (λ n. Some (at 4 n)) first) leads

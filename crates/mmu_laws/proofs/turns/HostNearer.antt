@@ -171,15 +171,15 @@ begin_falls (begins.Find false) z page t v K goes = slots_fall (may_search t.sta
 begin_falls begins.Count z page t v K goes =
     either_place (λ q. begin_left q z (part_topics part.Count t v) < 2 * z.vcpus + 13) (v == 0) begins.SetStart begins.RangeStart (omega arith) (omega arith)
 begin_falls (begins.Walk true) z page t v K goes =
-    sweep_falls (kind_of t.walk.level v) z (gfn_behind page t.search.slot) t v refl (K.1 refl).there K.0.unasked
-begin_falls (begins.Walk false) z page t v K goes = root_falls (may_walk t.stay t.hold) z page t v K.0.unasked
-begin_falls begins.Zap z page t v K goes = let asked = ap (λ (f : Flush). f.asked) K.0.unasked in omega (arith, asked)
+    sweep_falls (kind_of t.walk.level v) z (gfn_behind page t.search.slot) t v refl (K.1 refl).1.there K.0.sweeping.unasked
+begin_falls (begins.Walk false) z page t v K goes = root_falls (may_walk t.stay t.hold) z page t v K.0.sweeping.unasked
+begin_falls begins.Zap z page t v K goes = let asked = ap (λ (f : Flush). f.asked) K.0.sweeping.unasked in omega (arith, asked)
 begin_falls begins.Ask z page t v K goes =
-    let lt = K.1 in
+    let lt = K.2 in
     one_place (λ q. begin_left q z (part_topics (part.Ask t.flush.asked) t v) < z.vcpus + 1 + (z.vcpus - t.flush.asked))
     (nat_lt (t.flush.asked + 1) z.vcpus) begins.Ask begins.Await
     (λ e. omega (arith, lt)) (λ e. omega (arith, lt))
-begin_falls begins.Await z page t v K goes = await_falls (has_to_flush v) z t goes K.2
+begin_falls begins.Await z page t v K goes = await_falls (has_to_flush v) z t goes K.3
 begin_falls begins.Release z page t v K goes = omega arith
 begin_falls _ z page t v K goes = omega arith
 

@@ -1,0 +1,86 @@
+-- Open invalidations: which guest frames they are of, and that from the sweep on no leaf of these is left, and nothing cached of them once a flush was awaited
+-- (mmu_notifier.rst; tdp_mmu.c, kvm_tdp_mmu_unmap_gfn_range; vcpu-requests.rst).
+use Rattle.std.specs.Prelude.{◌≡◌, ◌<◌, ◌≤◌, ℕ, All, List, Bool, true, false, not, ◌||◌, Some}
+use Rattle.core_views.specs.declared.cache.Translation.{Translation}
+use Rattle.core_views.specs.declared.topics.Hold.TheVariants.{Exclusive}
+use Rattle.core_views.specs.declared.topics.Invalidated.{Invalidated}
+use Rattle.core_views.specs.declared.topics.Stay.{Stay}
+use Rattle.core_views.specs.declared.topics.Stay.TheVariants.{Guest, Outside}
+use Rattle.core_views.specs.declared.topics.Topics.{Topics}
+use Rattle.core_views.specs.declared.trace.Slot.{Slot as SlotOf}
+use Rattle.core_views.specs.Held.{Held}
+use Rattle.core_views.specs.Slots.{has_host_page}
+use Rattle.spte_words.specs.declared.spte_kind.SpteKind.TheVariants.{Leaf}
+use Rattle.spte_words.specs.Entries.{kind_of}
+use Rattle.part_steps.specs.InvalidationRange.{gfn_behind, page_looked}
+use Rattle.mmu_core.specs.invariant.AllOver.{AllOver}
+use Rattle.mmu_core.specs.invariant.SlotSetPart.{IsLiveIn}
+use Rattle.mmu_core.specs.invariant.TreePart.{Position, Use}
+use Rattle.mmu_core.specs.lines.Cached.{asks_flush}
+
+-- The guest frame is one of those that the invalidation is of.
+abbrev pub IsIn : Invalidated → ℕ → Type 0
+IsIn own_ gfn = (own_.start ≤ gfn) × (gfn < own_.end)
+
+-- ---- which frames they are of
+
+-- The range of open invalidations has the guest frames of each.
+abbrev pub RangePart : ℕ → ℕ → ℕ → (ℕ → Topics) → Type 0
+RangePart n start end_ topics =
+    (i gfn : ℕ) → i < n → (topics i).invalidations.opened ≡ true → IsIn (topics i).invalidations.own gfn → (start ≤ gfn) × (gfn < end_)
+
+-- Under the lock alone, a search has passed no slot with the host page that was looked at, but the one that it has found.
+abbrev pub PassedPart : (ℕ → ℕ) → Topics → Type 0
+PassedPart pool t =
+    t.hold ≡ Exclusive → t.stay ≡ Outside → (set : ℕ) → t.search.set ≡ Some set → (id : ℕ) (slot : SlotOf) → IsLiveIn pool set id slot → id < t.search.id
+    → has_host_page (page_looked t.host) slot ≡ true → (t.search.whole ≡ true) × (slot ≡ t.search.slot)
+
+-- A slot in this set gives the host page this guest frame.
+pub record Gives (pool : ℕ → ℕ) (set page gfn : ℕ) : Type 0 where
+  pub id : ℕ
+  pub slot : SlotOf
+  pub live : IsLiveIn pool set id slot
+  pub has : has_host_page page slot ≡ true
+  pub is : gfn ≡ gfn_behind page slot
+
+-- The invalidation is of the guest frames that the slots give to its page, and of no others.
+pub record IsOfPage (pool : ℕ → ℕ) (set : ℕ) (own_ : Invalidated) : Type 0 where
+  pub covers : (gfn : ℕ) → Gives pool set own_.page gfn → IsIn own_ gfn
+  pub only : (gfn : ℕ) → IsIn own_ gfn → Gives pool set own_.page gfn
+
+-- So is each open one, of the published slots.
+abbrev pub ScopePart : ℕ → (ℕ → ℕ) → ℕ → (ℕ → Topics) → Type 0
+ScopePart n pool slots topics = (i : ℕ) → i < n → (topics i).invalidations.opened ≡ true → IsOfPage pool slots (topics i).invalidations.own
+
+-- ---- what is left of their frames
+
+-- The entry is no leaf of its guest frames.
+abbrev pub IsNoLeafIn : Invalidated → ℕ → ℕ → ℕ → Type 0
+IsNoLeafIn own_ level gfn w = IsIn own_ gfn → kind_of level w ≡ Leaf → ⊥
+
+-- From the moment at which a first flush is asked for no links lead to a leaf of the frames of an open invalidation.
+abbrev pub ZappedPart : ℕ → (ℕ → Use) → (ℕ → Position) → (ℕ → ℕ) → ℕ → (ℕ → Topics) → Type 0
+ZappedPart n up spot pool root topics =
+    (i : ℕ) → i < n → (topics i).invalidations.opened ≡ true → 1 ≤ (topics i).flush.asked → AllOver up spot pool root (IsNoLeafIn (topics i).invalidations.own)
+
+-- What is cached is of none of its frames.
+abbrev pub IsClean : Invalidated → List Translation → Type 0
+IsClean own_ cached = All (λ t. IsIn own_ t.gfn → ⊥) cached
+
+-- What a virtual processor has cached may be used: it is in the guest, or no flush is asked of it.
+abbrev pub may_use : ℕ → Stay → Bool
+may_use state Guest = true
+may_use state _ = not (asks_flush state)
+
+-- A virtual processor that was asked for a flush since has made it, or is yet to; and once it was awaited it may use nothing of the frames. No more
+-- are awaited than were asked.
+pub record IsFlushed (own_ : Invalidated) (asked awaited v state : ℕ) (stay : Stay) (cached : List Translation) : Type 0 where
+  pub order : awaited ≤ asked
+  pub asks : v < asked → asks_flush state ≡ false → IsClean own_ cached
+  pub awaits : v < asked → v < awaited → may_use state stay ≡ true → IsClean own_ cached
+
+-- So are all, for each open invalidation.
+abbrev pub FlushPart : ℕ → ℕ → (ℕ → ℕ) → (ℕ → Held) → Type 0
+FlushPart n vcpus states hand =
+    (i v : ℕ) → i < n → v < vcpus → (hand i).topics.invalidations.opened ≡ true
+    → IsFlushed (hand i).topics.invalidations.own (hand i).topics.flush.asked (hand i).topics.flush.awaited v (states v) (hand v).topics.stay (hand v).cached.items

@@ -1,0 +1,129 @@
+-- What a hand holds that a step of an invalidation needs, and the change of a host page within one (kvm_main.c, kvm_mmu_invalidate_begin and
+-- kvm_mmu_invalidate_end).
+use Rattle.std.specs.Prelude.{◌≡◌, ◌+◌, ◌-◌, ◌<◌, ◌≤◌, ℕ, Bool, true, false, ◌==◌, nat_lt, if◌then◌else◌, is_some}
+use Rattle.core_views.specs.declared.topics.Checked.{Checked}
+use Rattle.core_views.specs.declared.topics.Checked.TheVariants as checked
+use Rattle.core_views.specs.declared.topics.Hold.TheVariants.{Exclusive}
+use Rattle.core_views.specs.declared.topics.Invalidated.{Invalidated}
+use Rattle.core_views.specs.declared.topics.Stay.TheVariants.{Outside}
+use Rattle.core_views.specs.declared.topics.TableWalk.{TableWalk}
+use Rattle.core_views.specs.declared.topics.Topics.{Topics}
+use Rattle.core_views.specs.Held.{Held}
+use Rattle.core_views.specs.HostChanges.{is_own}
+use Rattle.spte_words.specs.declared.spte_kind.SpteKind.{SpteKind}
+use Rattle.spte_words.specs.declared.spte_kind.SpteKind.TheVariants.{Absent, Frozen, Leaf, Table}
+use Rattle.spte_words.specs.Entries.{kind_of}
+use Rattle.part_steps.specs.InvalidationRange.{has_searched, invalidated, is_within_range, page_looked, range_end, range_start}
+use Rattle.part_steps.specs.PartHoldings.{HoldsSet, SawEntry}
+use Rattle.part_steps.specs.StayTopics.{no_flush}
+
+-- ---- what was loaded of their words
+
+-- The count of open invalidations was loaded since the actor has the lock.
+abbrev pub knows_count : Checked → Bool
+knows_count checked.Nothing = false
+knows_count checked.Seq = false
+knows_count _ = true
+
+-- It was loaded and is 0, or so was the range of those that are open.
+abbrev pub has_counted : Checked → ℕ → Bool
+has_counted checked.Count count = count == 0
+has_counted checked.Range count = nat_lt 0 count
+has_counted _ count = false
+
+-- And the start of the range was stored.
+abbrev pub has_widened : Checked → ℕ → Bool
+has_widened checked.Start count = count == 0
+has_widened checked.Range count = nat_lt 0 count
+has_widened _ count = false
+
+-- ---- the begin
+
+-- An actor may open an invalidation of its own: it has the lock alone, outside of every section, has none open, and has searched the slots for the host page
+-- that it looked at.
+pub record IsOpening (t : Topics) : Type 0 where
+  pub alone : t.hold ≡ Exclusive
+  pub outside : t.stay ≡ Outside
+  pub closed : t.invalidations.opened ≡ false
+  pub holds_set : HoldsSet t
+  pub searched : has_searched (page_looked t.host) t.search ≡ true
+
+-- The start of the range may be stored: the range is the one of the open invalidations, with the frame of the host page.
+pub record MaySetStart (gfn : ℕ) (t : Topics) : Type 0 where
+  pub opening : IsOpening t
+  pub counted : has_counted t.invalidations.checked t.invalidations.count ≡ true
+  pub is : gfn ≡ range_start (page_looked t.host) t
+
+-- And then its end.
+pub record MaySetEnd (gfn : ℕ) (t : Topics) : Type 0 where
+  pub opening : IsOpening t
+  pub widened : has_widened t.invalidations.checked t.invalidations.count ≡ true
+  pub own_ : t.invalidations.own ≡ invalidated t
+  pub is : gfn ≡ range_end (page_looked t.host) t
+
+-- One more may be counted with the actor's own: the range that is stored has its frame, and no virtual processor was asked for a flush yet.
+pub record MayOpen (t : Topics) : Type 0 where
+  pub opening : IsOpening t
+  pub known : t.invalidations.checked ≡ checked.Range
+  pub own_ : t.invalidations.own ≡ invalidated t
+  pub within : is_within_range t.invalidations.own t.invalidations ≡ true
+  pub unasked : t.flush ≡ no_flush
+
+-- What may be stored as the count of open invalidations: it was loaded under the lock that the actor has alone, outside of every section, and it is one more with
+-- the actor's own, or one less, once the sequence number is raised.
+pub record MayCount (count : ℕ) (t : Topics) : Type 0 where
+  pub alone : t.hold ≡ Exclusive
+  pub outside : t.stay ≡ Outside
+  pub knows : knows_count t.invalidations.checked ≡ true
+  pub is : count ≡ (if t.invalidations.opened then t.invalidations.count - 1 else t.invalidations.count + 1)
+  pub opens : t.invalidations.opened ≡ false → MayOpen t
+  pub closes : t.invalidations.opened ≡ true → t.invalidations.raised ≡ true
+
+-- The entry is a link or a leaf.
+abbrev pub leads_on : SpteKind → Bool
+leads_on (Table page) = true
+leads_on Leaf = true
+leads_on Absent = false
+leads_on Frozen = false
+
+-- The frame that an invalidation is of, if there is one, has an entry that was seen and leads nowhere.
+pub record SawNoLeaf (own : Invalidated) (walk : TableWalk) : Type 0 where
+  pub one : own.end ≡ own.start + 1
+  pub saw : SawEntry own.start walk
+  pub nowhere : leads_on (kind_of walk.level walk.entry) ≡ false
+
+abbrev pub IsSwept : Topics → Type 0
+IsSwept t = nat_lt t.invalidations.own.start t.invalidations.own.end ≡ true → SawNoLeaf t.invalidations.own t.walk
+
+-- The next virtual processor may be asked for a flush: under the lock that the actor has alone, with its own invalidation open; the first one once no leaf of
+-- the frame is left.
+pub record MayAsk (index : ℕ) (h : Held) : Type 0 where
+  pub low : index < h.state.sizes.vcpus
+  pub next : index ≡ h.topics.flush.asked
+  pub alone : h.topics.hold ≡ Exclusive
+  pub outside : h.topics.stay ≡ Outside
+  pub opened : h.topics.invalidations.opened ≡ true
+  pub swept : h.topics.flush.asked ≡ 0 → IsSwept h.topics
+
+-- ---- between begin and end
+
+-- A host page may be changed: it is the actor's own, was looked up, and is the one that the actor's own open invalidation is of; and each virtual processor was
+-- asked for a flush, and awaited.
+pub record MayChange (h : Held) : Type 0 where
+  pub looked : is_some h.topics.host ≡ true
+  pub own_ : is_own h.state.sizes h.state.actor (page_looked h.topics.host) ≡ true
+  pub opened : h.topics.invalidations.opened ≡ true
+  pub unraised : h.topics.invalidations.raised ≡ false
+  pub invalid : h.topics.invalidations.own.page ≡ page_looked h.topics.host
+  pub asked : h.state.sizes.vcpus ≤ h.topics.flush.asked
+  pub awaited : h.state.sizes.vcpus ≤ h.topics.flush.awaited
+
+-- ---- the end
+
+-- An actor whose own invalidation is open may raise the sequence number, once, which it has loaded under the lock that it has alone, outside of every section.
+pub record MayEndInvalidation (t : Topics) : Type 0 where
+  pub alone : t.hold ≡ Exclusive
+  pub outside : t.stay ≡ Outside
+  pub opened : t.invalidations.opened ≡ true
+  pub unraised : t.invalidations.raised ≡ false
+  pub loaded : t.invalidations.checked ≡ checked.Seq
