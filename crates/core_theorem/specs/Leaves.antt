@@ -1,5 +1,5 @@
 -- Leaves after a run: what is linked, what walks come to, what is cached and what an access uses agrees with slots and host.
-use Rattle.std.specs.Prelude.{◌≡◌, ◌/◌, ◌^◌, ◌<◌, ℕ, List, All, true}
+use Rattle.std.specs.Prelude.{◌≡◌, ◌/◌, ◌^◌, ◌<◌, ℕ, List, true}
 use Rattle.core_views.specs.declared.kind.Kind.{Kind}
 use Rattle.core_views.specs.declared.place.AccessPlace.TheVariants.{Touch}
 use Rattle.core_views.specs.declared.place.Place.TheVariants as place
@@ -16,7 +16,7 @@ use Rattle.spte_words.specs.Entries.{kind_of, level_span}
 use Rattle.mmu_core.specs.machine.Enabled.{mmu}
 use Rattle.mmu_core.specs.alone.FaultAlone.{LeadsTo}
 use Rattle.mmu_core.specs.lines.FaultSteps.{allows_access}
-use Rattle.mmu_laws.specs.leaves.LeafLaws.{LeafAgrees}
+use Rattle.mmu_laws.specs.leaves.LeafLaws.{CachedAgrees, LeafAgrees}
 use Rattle.mmu_core.specs.machine.Machine.{Step, World, hand_in, run}
 use Rattle.mmu_core.specs.machine.View.{word_in}
 use Rattle.core_theorem.specs.Runs.{IsRun}
@@ -38,13 +38,15 @@ abbrev pub HeldLeavesAgree : Type 0
 HeldLeavesAgree =
     (z : Sizes) (lines : List Line) (w : World Held) (ss : List (Step Kind)) → IsRun z lines w ss → (actor level gfn entry : ℕ) → actor < actors_of z
     → HoldsAt level (walk_of (run mmu w ss) actor) → gfn < 2 ^ 36 → gfn / level_span level / 512 ≡ run_at level (walk_of (run mmu w ss) actor)
-    → LeadsTo (word_in z (run mmu w ss) area.Pool) level (table_at level (walk_of (run mmu w ss) actor)) gfn entry → kind_of 1 entry ≡ entry_kind.Leaf → Agrees z (run mmu w ss) gfn entry
+    → LeadsTo (word_in z (run mmu w ss) area.Pool) level (table_at level (walk_of (run mmu w ss) actor)) gfn entry → kind_of 1 entry ≡ entry_kind.Leaf
+    → Agrees z (run mmu w ss) gfn entry
 
--- Each translation that an actor has cached agrees.
+-- Each translation that a virtual processor has cached, and may use, agrees; all that is cached is of the lowest level, at frames of the machine; and other
+-- actors have nothing cached.
 abbrev pub TranslationsAgree : Type 0
 TranslationsAgree =
     (z : Sizes) (lines : List Line) (w : World Held) (ss : List (Step Kind)) → IsRun z lines w ss → (actor : ℕ) → actor < actors_of z
-    → All (λ t. (t.level ≡ 1) × Agrees z (run mmu w ss) t.gfn t.leaf) (hand_in mmu (run mmu w ss) actor).cached.items
+    → CachedAgrees z (run mmu w ss) actor
 
 -- The leaf by which an access is about to touch agrees, and allows the access.
 abbrev pub UsedLeavesAgree : Type 0

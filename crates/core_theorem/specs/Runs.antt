@@ -27,7 +27,7 @@ TellsLawfully = (z : Sizes) (lines : List Line) (w : World Held) (ss : List (Ste
 -- The words of this world stand for these facts: published slots with their logs, content words and the pause; and each host word is what
 -- the host maps its page to.
 pub record StandsForFacts (z : Sizes) (w : World Held) (f : Facts) : Type 0 where
-  pub refines : Refines z (word_in z w area.Slots 0) (word_in z w area.Pool) (word_in z w area.Content) (word_in z w area.Pause 0) f
+  pub refines : Refines z (word_in z w area.Slots 0) (word_in z w area.Pool) (word_in z w area.Host) (word_in z w area.Content) (word_in z w area.Pause 0) f
   pub host : (page : ℕ) → page < z.pages → word_in z w area.Host page ≡ host_word (f.host page).frame (f.host page).present (f.host page).writable 1
 
 -- The words after a run stand for the facts that its history gives.

@@ -4,7 +4,8 @@
 
 ghost use Rattle.core_theorem.specs.Delays.{BetweenLinesSawNothing, StartsSawNothing};
 ghost use Rattle.core_theorem.specs.Delays.{DelaysHaveCauses, FaultsHaveCauses, StarvedLinesScanned, WaitsHaveCauses, WaitsInRunsSeeAnother};
-ghost use Rattle.core_theorem.specs.Holdings.{AnsweredLinesRest, HeldSetsAreKnown, NoneHoldsFreePages, PagesAreReusedAlone, ReturnedSetsAreCleared, WatchedHoldNoOldSet};
+ghost use Rattle.core_theorem.specs.Holdings.{AnsweredLinesRest, HeldSetsAreKnown, NoneHoldsFreePages, PagesAreReusedAlone, ReturnedSetsAreCleared};
+ghost use Rattle.core_theorem.specs.Holdings.{WatchedHoldNoOldSet};
 ghost use Rattle.core_theorem.specs.Leaves.{HeldLeavesAgree, LinkedLeavesAgree, TranslationsAgree, UsedLeavesAgree};
 ghost use Rattle.core_theorem.specs.Locks.{LockIsKept};
 ghost use Rattle.core_theorem.specs.OpenFrames.{OpenFramesAreFlushed, OpenFramesAreOfThePage, OpenFramesAreRecorded, OpenFramesAreZapped};
@@ -18,45 +19,45 @@ ghost use Rattle.core_theorem.specs.Walks.{WalksHoldTables};
 /// by one actor, linked by one entry of a table, the published slot set, an old slot set
 /// that is leaving for one actor, and none of the pool; and the tables, the root and what
 /// is linked below it, are each at a level and run of guest frames of its own. `walks`:
-/// in each such account of the pages, each table that a walk has gone through, and the one
-/// that it has come to, is at its level and for the run of guest frames that the walk is
-/// in, and each leaf below it, as each one below the root, says of every guest frame that
-/// it is over what slots and host say. `leaves`, `held`, `translations`, `used`: each leaf that is
-/// linked below the root, or below a table that a walk holds, each one that is cached,
-/// and the one by which an access is about to touch, is of the page that the slots give
-/// the guest frame, at the frame that the host gives this page. `recorded`: each guest
-/// frame that an open invalidation is of lies in the range of the open ones. `scopes`: it
-/// is of exactly the guest frames that the published slots give to its host page. `zapped`:
-/// once its actor has asked for a first flush, no links lead such a guest frame from the
-/// root to a leaf. `flushed`: a virtual processor whose flush was awaited, and which is in
-/// the guest or has no flush asked of it, has nothing cached of such a guest frame. `lock`:
-/// the lock's word counts its readers and has the bit of its one writer, beside whom none
-/// has it as a reader. `grace`: what an actor holds of
-/// tables and slot sets isn't free. `sets`, `watched`: a slot set that an actor holds
-/// is the published one, or an old one, held in a section and leaving for another
-/// actor, whose watch hasn't passed this one since; so whom a watch has passed holds no
-/// slot set that the watcher has taken out of use. `reuse`: a page that is taken from
-/// the pool or given back to it nobody else holds. `cleared`: where an old slot set is
-/// given back to the pool, its role word is 0. `rest`: whose line is answered holds
-/// nothing after it. `lawful`: each access, each exit and each answer is one that flat
-/// guest memory allows. `facts`: the words stand for the slots, host pages and contents
-/// that the events so far make of flat guest memory. `pause`: an access that is about to
-/// touch has looked at the pause since its actor entered the guest, and none was set.
-/// `begins_anew`, `waits`, `starved`: what stood in the way of a fault, and of each step
-/// that waits, whoever makes it, was another actor's, an open invalidation, or that each
-/// word of the pool's map was found with no page free since the line began; `delays`: so
-/// it is with each step that is counted as a delay of its line, since that line began, or
-/// this step is one of the stay in the guest after a fault that installed an entry, and
-/// finds no translation: since that fault began another actor took an entry of the guest
-/// frame away.
-/// `sees`: a step that waits has seen this: a writer in the lock's word, or that the lock
-/// isn't free, the map's word without the bit of the page that it tried, how many
-/// invalidations are open, the state word of another actor in a section, or that of a
-/// virtual processor in the guest that has yet to flush.
-/// `at_start`, `between_lines`: what a step waits for was seen since any moment at which
-/// the actor had seen nothing, as at the start and, of an actor that has a line left,
-/// between its lines (tdp_mmu.c; locking.rst; mmu.rst; mmu_notifier.rst;
-/// vcpu-requests.rst).
+/// in each such account of the pages, each table that a walk has gone through, and the
+/// one that it has come to, is at its level and for the run of guest frames that the walk
+/// is in, and each leaf below it, as each one below the root, says of every guest frame
+/// that it is over what slots and host say. `leaves`, `held`, `translations`, `used`:
+/// each leaf that is linked below the root, or below a table that a walk holds, each one
+/// that a virtual processor has cached and may use (in the guest, or with no flush asked
+/// of it), and the one by which an access is about to touch, is of the page that the
+/// slots give the guest frame, at the frame that the host gives this page; who is no
+/// virtual processor has nothing cached. `recorded`: each guest frame that an open
+/// invalidation is of lies in the range of the open ones. `scopes`: it is of exactly the
+/// guest frames that the published slots give to its host page. `zapped`: once its actor
+/// has asked for a first flush, no links lead such a guest frame from the root to a leaf.
+/// `flushed`: a virtual processor whose flush was awaited, and which is in the guest or
+/// has no flush asked of it, has nothing cached of such a guest frame. `lock`: the lock's
+/// word counts its readers and has the bit of its one writer, beside whom none has it as
+/// a reader. `grace`: what an actor holds of tables and slot sets isn't free. `sets`,
+/// `watched`: a slot set that an actor holds is the published one, or an old one, held in
+/// a section and leaving for another actor, whose watch hasn't passed this one since; so
+/// whom a watch has passed holds no slot set that the watcher has taken out of use.
+/// `reuse`: a page that is taken from the pool or given back to it nobody else holds.
+/// `cleared`: where an old slot set is given back to the pool, its role word is 0.
+/// `rest`: whose line is answered holds nothing after it. `lawful`: each access, each
+/// exit and each answer is one that flat guest memory allows. `facts`: the words stand
+/// for the slots, host pages and contents that the events so far make of flat guest
+/// memory. `pause`: an access that is about to touch has looked at the pause since its
+/// actor entered the guest, and none was set. `begins_anew`, `waits`, `starved`: what
+/// stood in the way of a fault, and of each step that waits, whoever makes it, was
+/// another actor's, an open invalidation, or that each word of the pool's map was found
+/// with no page free since the line began; `delays`: so it is with each step that is
+/// counted as a delay of its line, since that line began, or this step is one of the stay
+/// in the guest after a fault that installed an entry, and finds no translation: since
+/// that fault began another actor took an entry of the guest frame away. `sees`: a step
+/// that waits has seen this: a writer in the lock's word, or that the lock isn't free,
+/// the map's word without the bit of the page that it tried, how many invalidations are
+/// open, the state word of another actor in a section, or that of a virtual processor in
+/// the guest that has yet to flush. `at_start`, `between_lines`: what a step waits for
+/// was seen since any moment at which the actor had seen nothing, as at the start and, of
+/// an actor that has a line left, between its lines (tdp_mmu.c; locking.rst; mmu.rst;
+/// mmu_notifier.rst; vcpu-requests.rst).
 ///
 /// `counts`, `line_turns`: a line makes no more steps than its command allows
 /// (`most_steps`: an access 8,192, one for each pool page and one for each frame; each other

@@ -9,6 +9,7 @@ pub mod NextAlone
 pub mod AloneIsFlat
 pub mod StandsAlone
 pub mod HeaderSizes
+pub mod HostOwners
 pub mod Places
 pub mod Sound
 pub mod Holding

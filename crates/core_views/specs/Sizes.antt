@@ -63,6 +63,10 @@ pub record AreFewActors (z : Sizes) : Type 0 where
   pub hosts : z.hosts ≤ 4
   pub workers : z.workers ≤ 4
 
+-- The first page of each host thread isn't after that of the next one.
+pub record AreInOrder (z : Sizes) : Type 0 where
+  pub each : (host : ℕ) → first_page_in z.first_pages z.pages host ≤ first_page_in z.first_pages z.pages (host + 1)
+
 -- The sizes are in the ranges of a header.
 pub record AreSizes (z : Sizes) : Type 0 where
   pub actors : AreFewActors z
@@ -74,3 +78,4 @@ pub record AreSizes (z : Sizes) : Type 0 where
   pub pool : (4 ≤ z.pool) × (z.pool ≤ 16384)
   pub cache : (1 ≤ z.cache) × (z.cache ≤ 64)
   pub firsts : All (λ page. page ≤ z.pages) z.first_pages
+  pub rising : AreInOrder z

@@ -23,7 +23,7 @@ use Rattle.mmu_core.specs.lines.Rests.{Rests}
 use Rattle.mmu_core.specs.machine.MayMake.{MayMake}
 use Rattle.mmu_core.specs.machine.Steps.{place_at, standing}
 use Rattle.mmu_core.specs.machine.Turns.{line_of, outcome_of}
-use Rattle.host_events.specs.HostLines.{ChangesPage, IsAt, MakesStep, StandsThere}
+use Rattle.host_events.specs.HostLines.{ChangesPage, IsAt, MakesStep, StandsThere, MakesChange}
 use Rattle.step_seats.specs.LineTurns.{Gives, TurnsLine, line_seen, line_turn, turn_of, turn_told}
 use Rattle.step_seats.specs.PartTurns.{ToldWay}
 use Rattle.step_seats.specs.Seats.{Seat}
@@ -34,17 +34,16 @@ use Rattle.step_seats.proofs.LineParts.{place_may_make}
 use Rattle.step_seats.proofs.LineTurns.{made_line, turns_told}
 
 -- The hand's next line changes this page, and stands at this place.
-pub record StandsInLine (p : HostPlace) (page note : ℕ) (h : Held) : Type 0 where
-  pub change : HostChange
+pub record StandsInLine (p : HostPlace) (page : ℕ) (change : HostChange) (note : ℕ) (h : Held) : Type 0 where
   pub command : (line_of h).command ≡ ChangeHost page change
   pub stands : place_at h.state.place h ≡ place.Host p
-  pub is_at : IsAt p page note h
+  pub is_at : IsAt p page change note h
 
--- the change that a command makes of this page
-changes_page : (page : ℕ) (c : Command) → ChangesPage page c → (change : HostChange) × (c ≡ ChangeHost page change)
-changes_page page (ChangeHost of_page change) is = (change, ap (λ n. ChangeHost n change) is)
-changes_page page (Access gfn word op) is = absurd is
-changes_page page (SetSlot id slot) is = absurd is
+-- the command that makes this change of this page
+changes_page : (page : ℕ) (change : HostChange) (c : Command) → ChangesPage page c → MakesChange change c → c ≡ ChangeHost page change
+changes_page page change (ChangeHost of_page how) is made = ap (λ n. ChangeHost n how) is ∙ ap (ChangeHost page) made
+changes_page page change (Access gfn word op) is made = absurd is
+changes_page page change (SetSlot id slot) is made = absurd is
 
 -- A place behind the first one is where the hand says that its line stands.
 stands_there : (q : Place) (p : HostPlace) (page : ℕ) (change : HostChange) (h : Held) → h.state.place ≡ q
@@ -59,14 +58,14 @@ stands_there (place.Host a) (Begin x) page change h is stands = is ∙ stands
 stands_there (place.Host a) Change page change h is stands = is ∙ stands
 stands_there (place.Host a) (End x) page change h is stands = is ∙ stands
 
-pub stands_in_line : (p : HostPlace) (page note : ℕ) (h : Held) → length h.answers < length h.lines → Rests h → ChangesPage page (line_of h).command
+pub stands_in_line : (p : HostPlace) (page : ℕ) (change : HostChange) (note : ℕ) (h : Held) → length h.answers < length h.lines → Rests h
+    → ChangesPage page (line_of h).command → MakesChange change (line_of h).command
     → place_at h.state.place h ≡ place.Host p → KnowsPart (place_at h.state.place h) (line_of h).command h → note ≡ host_note p page h
-    → StandsInLine p page note h
-stands_in_line p page note h left rests changes stands knows is =
-    let (change, command) = changes_page page (line_of h).command changes in
-    let step : PartStep = host_part p page h in
+    → StandsInLine p page change note h
+stands_in_line p page change note h left rests changes makes stands knows is =
+    let command = changes_page page change (line_of h).command changes makes in
+    let step : PartStep = host_part p page change h in
     record {
-      change = change;
       command = command;
       stands = stands;
       is_at = record {
@@ -81,13 +80,13 @@ stands_in_line p page note h left rests changes stands knows is =
     }
 
 -- The step of its place was made.
-module _ (way : Option Seen) (p : HostPlace) (page note : ℕ) (before after : Seat) (L : StandsInLine p page note before.hand)
-    (M : MakesStep way p page note before after) where
+module _ (way : Option Seen) (p : HostPlace) (page : ℕ) (change : HostChange) (note : ℕ) (before after : Seat) (L : StandsInLine p page change note before.hand)
+    (M : MakesStep way p page change note before after) where
   abbrev step : PartStep
-  step = host_part p page before.hand
+  step = host_part p page change before.hand
 
   abbrev at_its_place : (Place → Command → Type 0) → Type 0
-  at_its_place P = P (place.Host p) (ChangeHost page L.change) → P (place_at before.hand.state.place before.hand) (line_of before.hand).command
+  at_its_place P = P (place.Host p) (ChangeHost page change) → P (place_at before.hand.state.place before.hand) (line_of before.hand).command
 
   goes_back : (P : Place → Command → Type 0) → at_its_place P
   goes_back P holds =

@@ -12,11 +12,17 @@ use Rattle.mmu_core.specs.lines.HostSteps.{host_part}
 use Rattle.mmu_core.specs.machine.MayMake.{MayMake}
 use Rattle.step_seats.specs.PartTurns.{MadeTelling}
 use Rattle.step_seats.specs.Seats.{Seat}
+use Rattle.core_views.specs.declared.trace.HostChange.{HostChange}
 
 -- The command changes this host page.
 abbrev pub ChangesPage : ℕ → Command → Type 0
 ChangesPage page (ChangeHost of_page change) = of_page ≡ page
 ChangesPage page _ = ⊥
+
+-- And it makes this change.
+abbrev pub MakesChange : HostChange → Command → Type 0
+MakesChange change (ChangeHost page how) = how ≡ change
+MakesChange change _ = ⊥
 
 -- A line under way says so itself: only a line that has begun is within its invalidation, or changes its page.
 abbrev pub StandsThere : HostPlace → Held → Type 0
@@ -24,12 +30,12 @@ StandsThere Look h = Unit {0}
 StandsThere p h = h.state.place ≡ place.Host p
 
 -- The line of this page is at this place, whose step its actor may make, and knows what the place asks.
-pub record IsAt (p : HostPlace) (page note : ℕ) (h : Held) : Type 0 where
+pub record IsAt (p : HostPlace) (page : ℕ) (change : HostChange) (note : ℕ) (h : Held) : Type 0 where
   pub left : length h.answers < length h.lines
-  pub may : MayMake (host_part p page h) note h
+  pub may : MayMake (host_part p page change h) note h
   pub knows : HostKnows p page h
   pub stands : StandsThere p h
 
 -- The step of the place was made, and what is in its way is told.
-abbrev pub MakesStep : Option Seen → HostPlace → ℕ → ℕ → Seat → Seat → Type 0
-MakesStep way p page note before after = MadeTelling way (host_part p page before.hand) note before after
+abbrev pub MakesStep : Option Seen → HostPlace → ℕ → HostChange → ℕ → Seat → Seat → Type 0
+MakesStep way p page change note before after = MadeTelling way (host_part p page change before.hand) note before after

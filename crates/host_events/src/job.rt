@@ -1,18 +1,17 @@
 ghost use Rattle.std.specs.Prelude.{◌≡◌, ◌<◌, None, length, true};
 ghost use Rattle.core_views.specs.HostChanges.{changes_host, is_own};
 ghost use Rattle.core_views.specs.declared.place.HostPlace.TheVariants as at;
-ghost use Rattle.host_events.specs.HostLines.{ChangesPage, IsAt, MakesStep};
+ghost use Rattle.host_events.specs.HostLines.{ChangesPage, IsAt, MakesChange, MakesStep};
 ghost use Rattle.mmu_core.specs.lines.HostSteps.{word_put};
 ghost use Rattle.mmu_core.specs.machine.Turns.{IsSameHand, line_of};
 ghost use Rattle.step_seats.specs.LineTurns.{Says, TurnsLine, turn_told};
 ghost use Rattle.step_seats.specs.Moves.{KeepsRoom};
 
-use core_views::{Actor, Command, Hand, HostPlace, Seen, Topics};
+use core_views::{Actor, Command, Hand, HostChange, HostPlace, Seen, Topics};
 use host_map::{change, look};
 use invalidate_seq::Snapshot;
-use mmu_core::{host_note, host_place, knows, rests};
+use mmu_core::{host_note, host_place, knows, rests, revised};
 use range_notifier::{BeginJob, EndJob};
-use spte_words::HostWord;
 use step_seats::{Stepper, Turn};
 
 /// The change of a host page, a step a turn. Where it stands is kept in the host thread's
@@ -36,6 +35,18 @@ fn page_of(hand: &Hand) -> u64
     }
 }
 
+// The change that it makes.
+fn change_of(hand: &Hand) -> HostChange
+    requires left { length hand.now.core.answers < length hand.now.core.lines }
+    requires changes { changes_host (line_of hand.now.core).command ≡ true }
+    ensures { MakesChange result (line_of hand.now.core).command }
+{
+    match &hand.line().command {
+        Command::ChangeHost { change, .. } => *change,
+        _ => unreachable!(),
+    }
+}
+
 // Whether the page is the actor's own.
 fn is_own(hand: &Hand, page: u64) -> bool
     ensures { result ≡ is_own hand.now.core.state.sizes hand.now.core.state.actor page }
@@ -47,23 +58,23 @@ fn is_own(hand: &Hand, page: u64) -> bool
     }
 }
 
-// The host word that is to stand in place of the one that was looked up: writes are allowed.
-fn word_put(topics: &Topics) -> u64
-    ensures { result ≡ word_put topics.now }
+// The host word that is to stand in place of the one that was looked up.
+fn word_put(change: HostChange, topics: &Topics) -> u64
+    ensures { result ≡ word_put change topics.now }
 {
     let looked = match topics.host {
         Some(look) => look.word,
         None => 0,
     };
-    HostWord::from_word(looked).with_writes_allowed().word()
+    revised(change, looked)
 }
 
 // Looks at the page's host word; where the page isn't the actor's own, at the sequence number
 // alone, and the line is refused. It never waits.
-fn look_up<S: Stepper>(s: &mut S, page: u64, note: u64)
-    requires is_at { IsAt at.Look page note (S.seat s.old).hand }
+fn look_up<S: Stepper>(s: &mut S, page: u64, change: HostChange, note: u64)
+    requires is_at { IsAt at.Look page change note (S.seat s.old).hand }
     requires reserved { 0 < (S.seat s.old).room }
-    ensures makes { MakesStep None at.Look page note (S.seat s.old) (S.seat s.new) }
+    ensures makes { MakesStep None at.Look page change note (S.seat s.old) (S.seat s.new) }
     ensures room { KeepsRoom (S.seat s.old) (S.seat s.new) }
     ensures same { ((S.seat s.new).actor ≡ (S.seat s.old).actor) × (S.frame s.new ≡ S.frame s.old) }
 {
@@ -76,33 +87,39 @@ fn look_up<S: Stepper>(s: &mut S, page: u64, note: u64)
 
 // Exchanges the page's host word; where another actor has changed it before, the next turn
 // tries again. It never waits.
-fn exchange<S: Stepper>(s: &mut S, page: u64, note: u64)
-    requires is_at { IsAt at.Change page note (S.seat s.old).hand }
+fn exchange<S: Stepper>(s: &mut S, page: u64, how: HostChange, note: u64)
+    requires is_at { IsAt at.Change page how note (S.seat s.old).hand }
     requires reserved { 0 < (S.seat s.old).room }
-    ensures makes { MakesStep None at.Change page note (S.seat s.old) (S.seat s.new) }
+    ensures makes { MakesStep None at.Change page how note (S.seat s.old) (S.seat s.new) }
     ensures room { KeepsRoom (S.seat s.old) (S.seat s.new) }
     ensures same { ((S.seat s.new).actor ≡ (S.seat s.old).actor) × (S.frame s.new ≡ S.frame s.old) }
 {
-    let word = word_put(s.hand().topics());
+    let word = word_put(how, s.hand().topics());
     let _ = change(s, word, note);
 }
 
 // Makes the step of this place, and says what is in its way.
-fn step<S: Stepper>(s: &mut S, place: HostPlace, page: u64, note: u64) -> Option<Seen>
-    requires is_at { IsAt place page note (S.seat s.old).hand }
+fn step<S: Stepper>(
+    s: &mut S,
+    place: HostPlace,
+    page: u64,
+    change: HostChange,
+    note: u64,
+) -> Option<Seen>
+    requires is_at { IsAt place page change note (S.seat s.old).hand }
     requires reserved { 0 < (S.seat s.old).room }
-    ensures makes { MakesStep result place page note (S.seat s.old) (S.seat s.new) }
+    ensures makes { MakesStep result place page change note (S.seat s.old) (S.seat s.new) }
     ensures room { KeepsRoom (S.seat s.old) (S.seat s.new) }
     ensures same { ((S.seat s.new).actor ≡ (S.seat s.old).actor) × (S.frame s.new ≡ S.frame s.old) }
 {
     match place {
         HostPlace::Look => {
-            look_up(s, page, note);
+            look_up(s, page, change, note);
             None
         }
         HostPlace::Begin(_) => BeginJob { page }.turn(s, note).in_way(),
         HostPlace::Change => {
-            exchange(s, page, note);
+            exchange(s, page, change, note);
             None
         }
         HostPlace::End(_) => EndJob.turn(s, note).in_way(),
@@ -132,8 +149,9 @@ impl HostJob {
         knows(hand);
         let place = host_place(hand);
         let page = page_of(hand);
+        let change = change_of(hand);
         let note = host_note(place, page, hand);
-        if let Some(seen) = step(s, place, page, note) {
+        if let Some(seen) = step(s, place, page, change, note) {
             return Turn::Wait(seen);
         }
         match s.hand().answers().get(self.index) {

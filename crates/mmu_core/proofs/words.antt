@@ -1,5 +1,6 @@
 pub mod Control
 pub mod HostStays
+pub mod HostFrames
 pub mod PartFits
 pub mod PartIndex
 pub mod PartTopics

@@ -2,7 +2,7 @@
 ghost use Rattle.std.specs.Prelude.{◌≡◌, ◌<◌, ◌^◌, true};
 ghost use Rattle.core_views.specs.HostChanges.{changes_host, is_own};
 ghost use Rattle.core_views.specs.declared.place.Place.TheVariants as place;
-ghost use Rattle.mmu_core.specs.lines.HostSteps.{after_begin, after_end, host_note, host_outcome, host_part, word_put};
+ghost use Rattle.mmu_core.specs.lines.HostSteps.{after_begin, after_end, host_note, host_outcome, host_part, revised};
 ghost use Rattle.mmu_core.specs.lines.InvalidateSteps.{gfn_behind, sweeps};
 ghost use Rattle.mmu_core.specs.lines.Rests.{Rests};
 ghost use Rattle.mmu_core.specs.machine.Steps.{place_at};
@@ -15,7 +15,9 @@ ghost use Rattle.spte_words.specs.Areas.{size_of};
 
 use crate::invalidate::{BeginNext, EndNext, begin_next, begin_part, end_next, end_part};
 use crate::outcome::Outcome;
-use core_views::{Actor, Answer, BeginPlace, EndPlace, Hand, HostPlace, Place, Refusal, Topics};
+use core_views::{
+    Actor, Answer, BeginPlace, EndPlace, Hand, HostChange, HostPlace, Place, Refusal, Topics,
+};
 use part_steps::{PartStep, Task, part_task};
 use spte_words::HostWord;
 
@@ -30,6 +32,18 @@ fn is_own(hand: &Hand, page: u64) -> bool
     }
 }
 
+/// The host word that the change puts in place of another one.
+pub fn revised(change: HostChange, word: u64) -> u64
+    ensures { result ≡ revised change word }
+{
+    let word = HostWord::from_word(word);
+    match change {
+        HostChange::Allow => word.with_writes(true).word(),
+        HostChange::Protect => word.with_writes(false).word(),
+        HostChange::Move | HostChange::Evict => word.word(),
+    }
+}
+
 // The host word that was looked up.
 fn word_looked(topics: &Topics) -> u64
     ensures { result ≡ word_looked topics.now.host }
@@ -41,20 +55,17 @@ fn word_looked(topics: &Topics) -> u64
 }
 
 /// The step of this place, for a line that changes the page.
-pub(crate) fn part(place: HostPlace, page: u64, hand: &Hand) -> PartStep
+pub(crate) fn part(place: HostPlace, page: u64, change: HostChange, hand: &Hand) -> PartStep
     requires part { PartRests hand.now.core }
-    requires needs { PartNeeds (host_part place page hand.now.core) hand.now.core }
-    ensures { result ≡ host_part place page hand.now.core }
+    requires needs { PartNeeds (host_part place page change hand.now.core) hand.now.core }
+    ensures { result ≡ host_part place page change hand.now.core }
 {
     let topics = hand.topics();
     match place {
         HostPlace::Look if is_own(hand, page) => PartStep::Host(page),
         HostPlace::Look => PartStep::Seq,
         HostPlace::Begin(place) => begin_part(place, page, topics),
-        HostPlace::Change => {
-            let word = HostWord::from_word(word_looked(topics));
-            PartStep::Change(word.with_writes_allowed().word())
-        }
+        HostPlace::Change => { PartStep::Change(revised(change, word_looked(topics))) }
         HostPlace::End(place) => end_part(place, topics),
     }
 }
@@ -71,13 +82,17 @@ pub fn note(place: HostPlace, page: u64, hand: &Hand) -> u64
 }
 
 /// What the step of this place is to do.
-pub(crate) fn task(place: HostPlace, page: u64, hand: &Hand) -> Task
+pub(crate) fn task(place: HostPlace, page: u64, change: HostChange, hand: &Hand) -> Task
     requires part { PartRests hand.now.core }
-    requires needs { PartNeeds (host_part place page hand.now.core) hand.now.core }
-    ensures task { result ≡ part_task (host_part place page hand.now.core) (own_index hand.now.core) hand.now.core.topics (host_note place page hand.now.core) }
+    requires needs { PartNeeds (host_part place page change hand.now.core) hand.now.core }
+    ensures task { result ≡ part_task (host_part place page change hand.now.core) (own_index hand.now.core) hand.now.core.topics (host_note place page hand.now.core) }
     ensures within { result.index < size_of (map_of hand.now.core.state.sizes) result.area }
 {
-    part_task(hand, part(place, page, hand), note(place, page, hand))
+    part_task(
+        hand,
+        part(place, page, change, hand),
+        note(place, page, hand),
+    )
 }
 
 // After a step of the invalidation's begin.
@@ -101,9 +116,15 @@ fn after_end(next: EndNext) -> Outcome
 }
 
 /// Where the line stands after the step of this place, which answered `found`.
-pub(crate) fn outcome(place: HostPlace, page: u64, hand: &Hand, found: u64) -> Outcome
+pub(crate) fn outcome(
+    place: HostPlace,
+    page: u64,
+    change: HostChange,
+    hand: &Hand,
+    found: u64,
+) -> Outcome
     requires rests { PartRests hand.now.core }
-    requires needs { PartNeeds (host_part place page hand.now.core) hand.now.core }
+    requires needs { PartNeeds (host_part place page change hand.now.core) hand.now.core }
     ensures { result ≡ host_outcome place page hand.now.core found }
 {
     let topics = hand.topics();

@@ -22,7 +22,7 @@ pub use access::{access_note, frame_used};
 pub use cached::lookup;
 pub use claim::ClaimNext;
 pub use fault::entry_word;
-pub use host::{host_place, note as host_note};
+pub use host::{host_place, note as host_note, revised};
 pub use invalidate::{BeginNext, EndNext};
 pub use laws::{knows, rests};
 pub use outcome::Outcome;

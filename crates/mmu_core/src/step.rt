@@ -63,7 +63,9 @@ fn task(place: Place, hand: &Hand, line: &Line) -> Task
             access::task(place, hand, *gfn, *word, *op)
         }
         (Place::SlotChange(place), command) => slot_change::task(place, hand, command),
-        (Place::Host(place), Command::ChangeHost { page, .. }) => host::task(place, *page, hand),
+        (Place::Host(place), Command::ChangeHost { page, change }) => {
+            host::task(place, *page, *change, hand)
+        }
         _ => unreachable!(),
     }
 }
@@ -93,8 +95,8 @@ pub(crate) fn part_of(place: Place, command: &Command, hand: &Hand) -> Option<Pa
     match (place, command) {
         (Place::Access(place), Command::Access { gfn, .. }) => access::part(place, *gfn, hand),
         (Place::SlotChange(place), command) => Some(slot_change::part(place, hand, command)),
-        (Place::Host(place), Command::ChangeHost { page, .. }) => {
-            Some(host::part(place, *page, hand))
+        (Place::Host(place), Command::ChangeHost { page, change }) => {
+            Some(host::part(place, *page, *change, hand))
         }
         _ => Some(PartStep::Seq),
     }
@@ -158,8 +160,8 @@ fn outcome(
             access::outcome(place, hand, *gfn, *op, found)
         }
         (Place::SlotChange(place), _) => { (slot_change::outcome(place, hand, found), None) }
-        (Place::Host(place), Command::ChangeHost { page, .. }) => {
-            (host::outcome(place, *page, hand, found), None)
+        (Place::Host(place), Command::ChangeHost { page, change }) => {
+            (host::outcome(place, *page, *change, hand, found), None)
         }
         _ => (Outcome::Goes(place), None),
     }

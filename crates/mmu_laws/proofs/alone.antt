@@ -5,6 +5,7 @@ pub mod AloneStep
 pub mod FaultComes
 pub mod FaultAlone
 pub mod FindAlone
+pub mod HostAlone
 pub mod GoesAlone
 pub mod OthersOpen
 pub mod PartAlone

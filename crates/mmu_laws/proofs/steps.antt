@@ -7,3 +7,4 @@ pub mod EventLaws
 pub mod InvalidationLaws
 pub mod ViewRuns
 pub mod ExampleHostRun
+pub mod ExampleProtectRun

@@ -8,3 +8,4 @@ pub mod ExampleStarves
 pub mod ExampleRaces
 pub mod ExampleWaits
 pub mod ExampleHost
+pub mod ExampleProtect

@@ -2,6 +2,7 @@ ghost use Rattle.mmu_laws.specs.causes.Causes.{FaultsBeginAnewByCause};
 ghost use Rattle.mmu_laws.specs.pool.Enough.{EachTableIsWanted, EnoughPages, TablesAreForTheirRuns};
 ghost use Rattle.mmu_laws.specs.steps.CanStep.{EachMayStep, EveryMachineStarts};
 ghost use Rattle.mmu_laws.specs.steps.ExampleHost.{ExampleHost};
+ghost use Rattle.mmu_laws.specs.steps.ExampleProtect.{ExampleProtect};
 ghost use Rattle.mmu_laws.specs.steps.ExampleRaces.{ExampleRaces};
 ghost use Rattle.mmu_laws.specs.steps.ExampleRuns.{ExamplePrints, ExampleRuns};
 ghost use Rattle.mmu_laws.specs.steps.ExampleStarves.{ExampleStarves};
@@ -17,7 +18,7 @@ ghost use Rattle.mmu_core.specs.alone.LineAlone.{LineBeginsAlone, LineEndsAlone,
 ghost use Rattle.mmu_core.specs.invariant.Scans.{StarvedLinesScan};
 ghost use Rattle.mmu_laws.specs.steps.EventLaws.{EventsAreOfTheirSteps};
 ghost use Rattle.mmu_laws.specs.steps.InvalidationLaws.{InvalidationsAreCounted, SequenceIsRaised};
-ghost use Rattle.mmu_laws.specs.steps.StepLaws.{AllowedWordsTell, EnteringFlushes, NotesTellEnds, OthersCacheOneAtMost, StepsAreOnTheirAreas};
+ghost use Rattle.mmu_laws.specs.steps.StepLaws.{EnteringFlushes, NotesTellEnds, OthersCacheOneAtMost, RevisedWordsTell, StepsAreOnTheirAreas};
 ghost use Rattle.mmu_laws.specs.turns.Breaking.{BreakingChangesEntries};
 ghost use Rattle.mmu_laws.specs.turns.Removal.{InstalledEntriesServe, LeavesStay};
 ghost use Rattle.mmu_laws.specs.turns.TurnLaws.{DelaysWaitBeginAnewOrMiss, StepsAreBounded, StepsAreCounted, TurnsAreBounded, TurnsComeNearer};
@@ -71,7 +72,9 @@ pub fn each_delay_has_its_cause()
 /// waits and begins anew; and a slot line beside a write waits for the page that the
 /// processor takes, for the lock that it shares, and until it has left the guest. A host
 /// thread's line zaps the leaf that a processor has cached, waits until this one has left the
-/// guest, and makes the fault of another processor begin anew.
+/// guest, and makes the fault of another processor begin anew. And where a host thread
+/// forbids writes to a page to which a fault had found them allowed, this fault begins anew and
+/// ends its write with a host fault; once writes are allowed again, a write goes through.
 pub fn the_steps_can_be_made()
     ensures starts { EveryMachineStarts }
     ensures goes_on { EachMayStep }
@@ -81,27 +84,28 @@ pub fn the_steps_can_be_made()
     ensures races { ExampleRaces }
     ensures slot_waits { ExampleWaits }
     ensures host { ExampleHost }
+    ensures protect { ExampleProtect }
 {}
 
-/// What a step's numbers tell of it: each step that a hand allows is on a word of
-/// the area that its kind is for, and the note of a line's step says whether the
-/// line is answered with it, whatever the step finds; but a slot line's load of
-/// the last word of the pool's map has note 1, and is its answer exactly where it
-/// finds 0. Who enters the guest with a flush asked for has nothing cached after
-/// that step; each other step leaves at most one more translation
-/// (vcpu-requests.rst, KVM_REQ_TLB_FLUSH). The host word that allows writes is of the same
-/// frame and level as the one before it, and present where that was. And each event that a
-/// step tells of the pause, of slots, host pages or memory is of the word that the step is on,
-/// and of what it found and left there. The sequence number of invalidations is raised by one,
-/// and only by an actor that has the lock alone and an invalidation open; how many are open
-/// rises by one with such an actor's own one, and falls by one with it (kvm_main.c,
-/// `kvm_mmu_invalidate_begin`, `kvm_mmu_invalidate_end`).
+/// What a step's numbers tell of it: each step that a hand allows is on a word of the
+/// area that its kind is for, and the note of a line's step says whether the line is
+/// answered with it, whatever the step finds; but a slot line's load of the last word of
+/// the pool's map has note 1, and is its answer exactly where it finds 0. Who enters the
+/// guest with a flush asked for has nothing cached after that step; each other step
+/// leaves at most one more translation (vcpu-requests.rst, KVM_REQ_TLB_FLUSH). The host
+/// word that is put to allow writes, or to forbid them, does so, and is of the same frame
+/// and level as the one before it, and present where that was. And each event that a step
+/// tells of the pause, of slots, host pages or memory is of the word that the step is on,
+/// and of what it found and left there. The sequence number of invalidations is raised by
+/// one, and only by an actor that has the lock alone and an invalidation open; how many
+/// are open rises by one with such an actor's own one, and falls by one with it
+/// (kvm_main.c, `kvm_mmu_invalidate_begin`, `kvm_mmu_invalidate_end`).
 pub fn steps_tell_what_they_are()
     ensures areas { StepsAreOnTheirAreas }
     ensures notes { NotesTellEnds }
     ensures flushes { EnteringFlushes }
     ensures caches { OthersCacheOneAtMost }
-    ensures allowed { AllowedWordsTell }
+    ensures revised { RevisedWordsTell }
     ensures events { EventsAreOfTheirSteps }
     ensures raised { SequenceIsRaised }
     ensures counted { InvalidationsAreCounted }
@@ -148,19 +152,22 @@ pub fn the_pool_is_enough()
     ensures enough { EnoughPages }
 {}
 
-/// Leaves agree with slots and host, in every sound world: each one to which links
-/// lead a guest frame from the root, or from the table over it that an actor's walk
-/// has come to, each one that is cached, and the one by which an access is about to
-/// touch is of the page that the slots give the guest frame, at the frame that the
-/// host gives this page, and allows writes exactly where the slots give a write
-/// this page and the host allows it (tdp_mmu.c, `tdp_mmu_map_handle_target_level`;
-/// mmu.rst, "Shadow pages"). Each guest frame that an open invalidation is of lies in the
-/// range of the open ones. It is of exactly the guest frames that the published slots give
-/// to its host page. Once its actor has asked for a first flush, no links lead such a guest
-/// frame from the root to a leaf. And a virtual processor whose flush was awaited, and
-/// which is in the guest or has no flush asked of it, has nothing cached of such a guest
-/// frame (kvm_main.c, `kvm_mmu_invalidate_range_add`; tdp_mmu.c,
-/// `kvm_tdp_mmu_unmap_gfn_range`; vcpu-requests.rst, `KVM_REQ_TLB_FLUSH`).
+/// Leaves agree with slots and host, in every sound world: each one to which links lead a
+/// guest frame from the root, or from the table over it that an actor's walk has come to,
+/// each one that a virtual processor may use of what it has cached, and the one by which
+/// an access is about to touch is of the page that the slots give the guest frame, at the
+/// frame that the host gives this page, and allows writes exactly where the slots give a
+/// write this page and the host allows it. A virtual processor may use all that it has
+/// cached while it is in the guest, or no flush is asked of it. What is cached else is of
+/// the lowest level too, at frames of the machine, and no other actor has anything cached
+/// (tdp_mmu.c, `tdp_mmu_map_handle_target_level`; mmu.rst, "Shadow pages"). Each guest
+/// frame that an open invalidation is of lies in the range of the open ones. It is of
+/// exactly the guest frames that the published slots give to its host page. Once its
+/// actor has asked for a first flush, no links lead such a guest frame from the root to a
+/// leaf. And a virtual processor whose flush was awaited, and which is in the guest or
+/// has no flush asked of it, has nothing cached of such a guest frame (kvm_main.c,
+/// `kvm_mmu_invalidate_range_add`; tdp_mmu.c, `kvm_tdp_mmu_unmap_gfn_range`;
+/// vcpu-requests.rst, `KVM_REQ_TLB_FLUSH`).
 pub fn leaves_agree()
     ensures standing { LeavesAgree }
     ensures held { HeldLeavesAgree }
@@ -173,11 +180,13 @@ pub fn leaves_agree()
 {}
 
 /// What a fault comes to that runs while all other actors rest, and no invalidation of
-/// its own actor is open: no step of it waits, it never begins anew, where it ends with an entry installed, links lead
-/// from the root to a leaf that allows the access, where it ends with MMIO, no slot
-/// has a page for the access, and where it is starved, each word of the pool's map
-/// is 0, up to where its claim came (tdp_mmu.c, `kvm_tdp_mmu_map`; locking.rst). And from each table over a guest frame links
-/// lead to the same entries as from the root.
+/// its own actor is open: no step of it waits, it never begins anew, where it ends with
+/// an entry installed, links lead from the root to a leaf that allows the access, where
+/// it ends with MMIO, no slot has a page for the access, where it ends with a host fault,
+/// a slot has a page for it, it is a write, and the page's host word forbids writes, and
+/// where it is starved, each word of the pool's map is 0, up to where its claim came
+/// (tdp_mmu.c, `kvm_tdp_mmu_map`; locking.rst). And from each table over a guest frame
+/// links lead to the same entries as from the root.
 pub fn a_fault_alone_goes_through()
     ensures through { FaultGoesThrough }
     ensures leads { LeadsDown }

@@ -1,6 +1,6 @@
 -- What a hand holds that a step of an invalidation needs, and the change of a host page within one (kvm_main.c, kvm_mmu_invalidate_begin and
 -- kvm_mmu_invalidate_end).
-use Rattle.std.specs.Prelude.{◌≡◌, ◌+◌, ◌-◌, ◌<◌, ◌≤◌, ℕ, Bool, true, false, ◌==◌, nat_lt, if◌then◌else◌, is_some}
+use Rattle.std.specs.Prelude.{◌≡◌, ◌+◌, ◌-◌, ◌<◌, ◌≤◌, ℕ, Bool, true, false, ◌==◌, ◌||◌, nat_lt, if◌then◌else◌, is_some}
 use Rattle.core_views.specs.declared.topics.Checked.{Checked}
 use Rattle.core_views.specs.declared.topics.Checked.TheVariants as checked
 use Rattle.core_views.specs.declared.topics.Hold.TheVariants.{Exclusive}
@@ -13,6 +13,7 @@ use Rattle.core_views.specs.HostChanges.{is_own}
 use Rattle.spte_words.specs.declared.spte_kind.SpteKind.{SpteKind}
 use Rattle.spte_words.specs.declared.spte_kind.SpteKind.TheVariants.{Absent, Frozen, Leaf, Table}
 use Rattle.spte_words.specs.Entries.{kind_of}
+use Rattle.spte_words.specs.HostWords.{with_writes}
 use Rattle.part_steps.specs.InvalidationRange.{has_searched, invalidated, is_within_range, page_looked, range_end, range_start}
 use Rattle.part_steps.specs.PartHoldings.{HoldsSet, SawEntry}
 use Rattle.part_steps.specs.StayTopics.{no_flush}
@@ -117,6 +118,10 @@ pub record MayChange (h : Held) : Type 0 where
   pub invalid : h.topics.invalidations.own.page ≡ page_looked h.topics.host
   pub asked : h.state.sizes.vcpus ≤ h.topics.flush.asked
   pub awaited : h.state.sizes.vcpus ≤ h.topics.flush.awaited
+
+-- The new host word allows writes to the page of the old one, or forbids them, and is the same else.
+abbrev pub revises : ℕ → ℕ → Bool
+revises word new_ = (new_ == with_writes true word) || (new_ == with_writes false word)
 
 -- ---- the end
 

@@ -14,10 +14,9 @@ use Rattle.spte_words.specs.Areas.{words_of_bits}
 use Rattle.spte_words.specs.Entries.{kind_of}
 use Rattle.part_steps.specs.declared.part_step.PartStep.{PartStep}
 use Rattle.part_steps.specs.declared.part_step.PartStep.TheVariants as part
-use Rattle.spte_words.specs.HostWords.{with_writes_allowed}
 use Rattle.part_steps.specs.PartTasks.{own_index, word_looked}
 use Rattle.part_steps.specs.PartHoldings.{next_watched, OwnsPage, HasToFill, HasRoleToSet, HoldsSet, IsOver, OwnsTable, SawEntry, MayEnter, MayPublish, MayGiveOld}
-use Rattle.part_steps.specs.InvalidationHoldings.{MayAsk, MayChange, MayCount, MayEndInvalidation, MaySetEnd, MaySetStart}
+use Rattle.part_steps.specs.InvalidationHoldings.{revises, MayAsk, MayChange, MayCount, MayEndInvalidation, MaySetEnd, MaySetStart}
 use Rattle.part_steps.specs.InvalidationRange.{has_found, page_looked}
 use Rattle.part_steps.specs.StayTopics.{is_alone}
 
@@ -94,7 +93,7 @@ PartNeeds (part.SetSeq seq) h = MayEndInvalidation h.topics × (seq ≡ h.topics
 PartNeeds (part.Zap gfn) h = (h.topics.hold ≡ Exclusive) × (h.topics.stay ≡ Outside) × SawEntry gfn h.topics.walk × (kind_of h.topics.walk.level h.topics.walk.entry ≡ entry_kind.Leaf)
 PartNeeds (part.Ask index) h = MayAsk index h
 PartNeeds (part.Await index) h = (index < h.topics.flush.asked) × (index ≡ h.topics.flush.awaited) × (h.topics.stay ≡ Outside)
-PartNeeds (part.Change new_) h = MayChange h × (new_ ≡ with_writes_allowed (word_looked h.topics.host))
+PartNeeds (part.Change new_) h = MayChange h × (revises (word_looked h.topics.host) new_ ≡ true)
 
 -- The actor holds nothing: it is outside, and has no lock, no page, no table and no slot set.
 pub record IsAtRest (t : Topics) : Type 0 where

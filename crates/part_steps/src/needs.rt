@@ -2,12 +2,11 @@
 ghost use Rattle.std.specs.Prelude.{◌≡◌, ◌≢◌, ◌⊎◌, ◌≤◌, ◌<◌, ◌-◌, ◌^◌, ◌/◌, ◌%◌, ℕ, true, false, Some, is_some, ◌+◌};
 ghost use Rattle.core_views.specs.declared.topics.OwnedPage.{OwnedPage};
 ghost use Rattle.spte_words.specs.Areas.{size_of};
-ghost use Rattle.spte_words.specs.HostWords.{with_writes_allowed};
 ghost use Rattle.part_steps.specs.PartBounds.{PartRests};
 ghost use Rattle.core_views.specs.Slots.{contains};
 ghost use Rattle.part_steps.specs.PartTasks.{role_filled, word_looked, words_filled};
 ghost use Rattle.part_steps.specs.PartHoldings.{IsFresh, IsOver, MayEnter, MayGiveOld, MayPublish, OwnsTable, SawEntry, next_watched};
-ghost use Rattle.part_steps.specs.InvalidationHoldings.{MayChange};
+ghost use Rattle.part_steps.specs.InvalidationHoldings.{MayChange, revises};
 ghost use Rattle.part_steps.specs.PartSteps.{PartNeeds, needs_line};
 ghost use Rattle.part_steps.specs.SetWords.{set_role};
 ghost use Rattle.part_steps.specs.SlotWords.{page_of};
@@ -139,11 +138,13 @@ fn may_give_old(hand: &Hand) -> bool
 
 // Whether the host page that was looked up may be changed, to this word.
 fn may_change_to(new: u64, hand: &Hand) -> bool
-    ensures { result ≡ true → MayChange hand.now.core × (new ≡ with_writes_allowed (word_looked hand.now.core.topics.host)) }
+    ensures { result ≡ true → MayChange hand.now.core × (revises (word_looked hand.now.core.topics.host) new ≡ true) }
 {
     match hand.topics().host {
         Some(look) => {
-            may_change(hand) && new == HostWord::from_word(look.word).with_writes_allowed().word()
+            let word = HostWord::from_word(look.word);
+            may_change(hand)
+                && (new == word.with_writes(true).word() || new == word.with_writes(false).word())
         }
         None => false,
     }

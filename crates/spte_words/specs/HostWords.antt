@@ -1,5 +1,5 @@
 -- Host words, one for each host page: bit 0 present, bit 1 writable, bits 2 and 3 the level of its mapping, bits 12 and up its frame.
-use Rattle.std.specs.Prelude.{◌+◌, ◌*◌, ◌/◌, ◌%◌, ◌^◌, ℕ, Bool, true}
+use Rattle.std.specs.Prelude.{◌+◌, ◌*◌, ◌/◌, ◌%◌, ◌^◌, ℕ, Bool}
 use Rattle.spte_words.specs.Bits.{has_bit, bit_if}
 
 unfoldable pub host_word : ℕ → Bool → Bool → ℕ → ℕ
@@ -17,6 +17,6 @@ host_level word = word / 2 ^ 2 % 2 ^ 2
 unfoldable pub host_frame : ℕ → ℕ
 host_frame word = word / 2 ^ 12
 
--- the host word of the same page, to which writes are allowed
-abbrev pub with_writes_allowed : ℕ → ℕ
-with_writes_allowed word = host_word (host_frame word) (host_present word) true (host_level word)
+-- the host word of the same page, to which writes are allowed, or aren't
+abbrev pub with_writes : Bool → ℕ → ℕ
+with_writes allowed word = host_word (host_frame word) (host_present word) allowed (host_level word)

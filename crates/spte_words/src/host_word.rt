@@ -1,5 +1,5 @@
 ghost use Rattle.std.specs.Prelude.{◌≡◌, ℕ, ◌<◌, ◌^◌};
-ghost use Rattle.spte_words.specs.HostWords.{host_word, host_present, host_allows_write, host_level, host_frame, with_writes_allowed};
+ghost use Rattle.spte_words.specs.HostWords.{host_word, host_present, host_allows_write, host_level, host_frame, with_writes};
 
 use crate::bit::bit_if;
 use std::marker::Model;
@@ -83,10 +83,10 @@ impl HostWord {
         (self.word / LEVEL % 4) as u8
     }
 
-    /// The same, with writes allowed to the page.
-    pub fn with_writes_allowed(self) -> HostWord
-        ensures { result ≡ with_writes_allowed self }
+    /// The same, with writes allowed to the page, or forbidden.
+    pub fn with_writes(self, allowed: bool) -> HostWord
+        ensures { result ≡ with_writes allowed self }
     {
-        HostWord::new(self.frame(), self.is_present(), true, self.level())
+        HostWord::new(self.frame(), self.is_present(), allowed, self.level())
     }
 }

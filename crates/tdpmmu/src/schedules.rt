@@ -68,7 +68,7 @@ const WARM_SCHEDULES: [(&str, &str); 34] = [
 ];
 
 // Whole traces behind the header with another pool, and what is printed.
-const TRACES: [(u64, &str, &str); 41] = [
+const TRACES: [(u64, &str, &str); 49] = [
     // No slot is set before the manager's turns.
     (
         64,
@@ -292,6 +292,60 @@ const TRACES: [(u64, &str, &str); 41] = [
         "vm slot 0 0 16 0\ngo\nh0 allow 2\nvm slot 1 100 16 64\n> h0 change\n> vm end\n> h0 end\n> vm end\n",
         "2 vm done\n4 h0 done\n5 vm done\n",
     ),
+    // The host forbids writes to a page: it is read, a write of it is a host fault, and one of
+    // the next page isn't. Once writes are allowed again it is written.
+    (
+        64,
+        "vm slot 0 0 16 0\nv0 write 0x2000 7\nh0 protect 2\nv1 read 0x2000\nv1 write 0x2000 8\nv0 add 0x2000 1\nv0 write 0x3000 1\nh0 allow 2\nv0 add 0x2000 1\ngo\n",
+        "2 vm done\n3 v0 frame 2 value 0\n4 h0 done\n5 v1 frame 2 value 7\n6 v1 hostfault\n7 v0 hostfault\n8 v0 frame 3 value 0\n9 h0 done\n10 v0 frame 2 value 7\n",
+    ),
+    // A leaf that was put while writes were forbidden is gone once they are allowed.
+    (
+        64,
+        "vm slot 0 0 16 0\nh0 protect 2\nv0 read 0x2000\nh0 allow 2\nv0 write 0x2000 3\nv1 read 0x2000\ngo\n",
+        "2 vm done\n3 h0 done\n4 v0 frame 2 value 0\n5 h0 done\n6 v0 frame 2 value 0\n7 v1 frame 2 value 3\n",
+    ),
+    // A read-only slot gives a write no page, whatever the host says.
+    (
+        64,
+        "vm slot 0 0 16 0 ro\nh0 protect 2\nv0 write 0x2000 1\nv0 read 0x2000\ngo\n",
+        "2 vm done\n3 h0 done\n4 v0 mmio\n5 v0 frame 2 value 0\n",
+    ),
+    // The writer is in the guest with its translation: the thread waits until it has left, so
+    // its write is before the change. The other writer comes after it.
+    (
+        64,
+        "vm slot 0 0 16 0\nv0 write 0x2000 7\ngo\nv0 write 0x2000 8\nh0 protect 2\nv1 write 0x2000 9\n> v0 2\n> h0 end\n> v0 end\n> h0 end\n> v1 end\n",
+        "2 vm done\n3 v0 frame 2 value 0\n5 v0 frame 2 value 7\n6 h0 done\n7 v1 hostfault\n",
+    ),
+    // The writer has looked at the host's word before the change: the number has moved, so it
+    // begins its fault anew, and finds that the host forbids the write.
+    (
+        64,
+        "vm slot 0 0 16 0\ngo\nv0 write 0x2000 5\nh0 protect 2\n> v0 host\n> h0 end\n> v0 end\n> v0 end\n",
+        "2 vm done\n5 h0 done\n4 v0 hostfault\n",
+    ),
+    // Between the change and the end of the invalidation a write is refused by the host's word,
+    // and a read begins anew for the open range.
+    (
+        64,
+        "vm slot 0 0 16 0\nv0 write 0x2000 7\ngo\nh0 protect 2\nv0 write 0x2000 8\nv1 read 0x2000\n> h0 change\n> v0 end\n> v1 end\n> h0 end\n> v1 end\n",
+        "2 vm done\n3 v0 frame 2 value 0\n6 v0 hostfault\n5 h0 done\n7 v1 frame 2 value 7\n",
+    ),
+    // The thread has the lock and awaits the flush: the writer, which found the page writable,
+    // waits for the lock, and begins anew.
+    (
+        64,
+        "vm slot 0 0 16 0\nv0 write 0x2000 7\ngo\nh0 protect 2\nv0 write 0x2000 8\n> h0 await\n> v0 end\n> h0 end\n> v0 end\n> v0 end\n",
+        "2 vm done\n3 v0 frame 2 value 0\n5 h0 done\n6 v0 hostfault\n",
+    ),
+    // The writer has put its leaf before the thread takes the lock, and finds no translation at
+    // its stay after that: the thread has zapped it.
+    (
+        64,
+        "vm slot 0 0 16 0\ngo\nv0 write 0x2000 5\nh0 protect 2\n> v0 swap\n> v0 swap\n> v0 swap\n> v0 swap\n> v0 unshare\n> h0 end\n> v0 end\n> v0 end\n",
+        "2 vm done\n5 h0 done\n4 v0 hostfault\n",
+    ),
     // The thread finds the host page in no slot before the slot is published, and is answered.
     (
         64,
@@ -301,7 +355,7 @@ const TRACES: [(u64, &str, &str); 41] = [
 ];
 
 // Two host threads, of which the first has the host pages 0 to 7 and the second the others.
-const TWO_THREADS: [(&str, &str); 6] = [
+const TWO_THREADS: [(&str, &str); 7] = [
     // Each allows writes to pages of its own alone.
     (
         "h0 allow 12\nh1 allow 2\nh1 allow 8\nh0 allow 7\nh1 allow 1023\nh1 allow 1024\ngo\n",
@@ -328,6 +382,11 @@ const TWO_THREADS: [(&str, &str); 6] = [
     (
         "vm slot 0 0 16 0\nv0 write 0x2000 7\ngo\nv0 read 0x2000\nh0 allow 2\nh1 allow 12\n> v0 2\n> h0 end\n> h1 end\n> v0 end\n> h0 end\n> h1 end\n",
         "2 vm done\n3 v0 frame 2 value 0\n5 v0 frame 2 value 7\n6 h0 done\n7 h1 done\n",
+    ),
+    // Both forbid writes, and the second is done while the first is open still.
+    (
+        "vm slot 0 0 16 0\ngo\nh0 protect 2\nh1 protect 12\nv0 write 0x2000 1\nv1 write 0xc000 1\n> h0 change\n> h1 end\n> v1 end\n> h0 end\n> v0 end\n",
+        "2 vm done\n5 h1 done\n7 v1 hostfault\n4 h0 done\n6 v0 hostfault\n",
     ),
     // The page of the second is in no slot: it leaves the range of frame 2 as it is.
     (

@@ -2,7 +2,7 @@
 //! ends with a line of two dashes.
 
 /// How many traces the table has.
-pub const COUNT: usize = 115;
+pub const COUNT: usize = 117;
 
 /// The table.
 pub const TRACES: &str = "vcpus 1 workers 0 pages 1 frames 1 words 1
@@ -1484,5 +1484,52 @@ v0 read 0x7fffffff5008
 h0 allow 69
 v0 write 0x7fffffff5008 1
 v0 read 0x7fffffff5008
+--
+vcpus 3 workers 0 pages 192 frames 192 words 2
+vm slot 0 0 64 0
+vm slot 1 1000 64 64 ro
+v0 write 0x5000 7
+h0 protect 5
+v1 read 0x5000
+v1 write 0x5000 8
+v0 add 0x5000 1
+v2 write 0x6008 1
+h0 protect 6
+h0 protect 6
+v2 add 0x6008 1
+h0 allow 5
+v0 add 0x5000 1
+v1 write 0x5008 2
+h0 allow 6
+v2 add 0x6008 1
+h0 protect 70
+v0 read 0x3ee000
+v0 write 0x3ee000 1
+h0 allow 70
+v0 read 0x3ee008
+h0 protect 191
+h0 protect 192
+vm slot 2 0x20000 64 128
+v1 write 0x2003f000 1
+v1 read 0x2003f000
+h0 allow 191
+v1 write 0x2003f000 18446744073709551615
+v2 add 0x2003f000 1
+v0 read 0x2003f008
+--
+vcpus 1 workers 2 pages 65 frames 65 words 8
+h0 protect 64
+vm slot 31 0xfffffffbf 65 0
+v0 write 0xfffffffff038 1
+v0 read 0xfffffffff038
+h0 protect 0
+v0 add 0xfffffffbf000 1
+h0 allow 64
+v0 write 0xfffffffff038 0xffffffffffffffff
+v0 add 0xfffffffff038 2
+h0 protect 64
+v0 read 0xfffffffff038
+h0 allow 0
+v0 add 0xfffffffbf000 1
 --
 ";

@@ -244,6 +244,9 @@ fn command_said(
     if is(command, "slot") {
         return slot_said(header, seen, who, rest);
     }
+    if is(command, "protect") {
+        return host_said(header, HostChange::Protect, who, rest);
+    }
     if is(command, "allow") {
         return host_said(header, HostChange::Allow, who, rest);
     }

@@ -114,7 +114,8 @@ const TABLE: &str = "\
 2 word|&v2 look z;\n\
 2 word|&h0 move 5;\n\
 2 word|&h0 evict 5;\n\
-2 word|&h0 protect 5;\n\
+2 word|&h0 protect;\n\
+2 word|&v0 protect 5;\n\
 2 word|&h0 allow;\n\
 2 word|&h0 allow 1 2;\n\
 2 word|&h0 Allow 5;\n\
@@ -168,6 +169,8 @@ const TABLE: &str = "\
 2 actor|&h2 allow 5;\n\
 2 actor|&h3 allow z;\n\
 2 number|&h0 allow 05;\n\
+2 number|&h0 protect 05;\n\
+2 actor|&h2 protect 5;\n\
 2 number|&h0 allow z;\n\
 2 number|&h1 allow 0xFF;\n\
 2 number|&h0 allow 18446744073709551616;\n\
@@ -256,6 +259,7 @@ const TABLE: &str = "\
 1 lines|&vm slot 18446744073709551615 68719476735 68719476735 68719476672;\n\
 1 lines|&vm slot 0x20 0 1 0 ro;\n\
 1 lines|&h0 allow 5;\n\
+1 lines|&h0 protect 5;\n\
 1 lines|&h1 allow 0;\n\
 1 lines|&h0 allow 18446744073709551615;\n\
 1 lines|<32 frames 32 words 1 pool 4 cache 1 manual 0 hosts 0 8 16 24;h3 allow 0xff;\n\

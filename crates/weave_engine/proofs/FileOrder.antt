@@ -1,5 +1,5 @@
 -- Lines in file order: what has run of each actor's lines, and what is next.
-use Rattle.core_views.specs.declared.trace.HostChange.TheVariants.{Allow}
+use Rattle.core_views.specs.declared.trace.HostChange.TheVariants.{Allow, Protect}
 use Rattle.std.proofs.Common.{◌≡◌, ◌≢◌, ◌<◌, ◌+◌, ◌-◌, ℕ, suc, List, [], ◌∷◌, ◌++◌, length, take, drop, get_or, refl, sym, ap, subst, ◌∙◌, arith, length-append, add-one}
 use Rattle.std.proofs.Math.Seq.{drop-cons, get_or-append_seam, take-suc}
 use Rattle.std.proofs.lemmas.List.{append-nil, take-append-drop}
@@ -62,6 +62,7 @@ pub maker_there : (z : Sizes) (actor : Actor) (command : Command) → IsCommandF
 maker_there z (Vcpu n) (Access gfn word op) may = let lt = may.0 in omega (arith, lt)
 maker_there z Manager command may = omega arith
 maker_there z (Host n) (ChangeHost page Allow) may = omega (arith, may)
+maker_there z (Host n) (ChangeHost page Protect) may = omega (arith, may)
 maker_there z _ _ may = absurd may
 
 vcpu_at : (z : Sizes) (n : ℕ) → n < z.vcpus → actor_at z n ≡ Vcpu n
@@ -85,6 +86,7 @@ pub maker_is : (z : Sizes) (actor : Actor) (command : Command) → IsCommandFor 
 maker_is z (Vcpu n) (Access gfn word op) may = vcpu_at z n may.0
 maker_is z Manager command may = manager_at z
 maker_is z (Host n) (ChangeHost page Allow) may = host_at z n may
+maker_is z (Host n) (ChangeHost page Protect) may = host_at z n may
 maker_is z _ _ may = absurd may
 
 -- The actor at another place is another one.

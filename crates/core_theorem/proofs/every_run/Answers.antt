@@ -1,12 +1,12 @@
 use Rattle.std.proofs.Common.{[], ◌∷◌, ◌++◌, ap, sym, ◌∙◌}
-use Rattle.std.specs.Prelude.{true}
-use Rattle.core_views.specs.Host.{HostMap}
+use Rattle.core_views.specs.declared.host.HostEntry.{HostEntry}
 use Rattle.spte_words.specs.HostWords.{host_word}
 use Rattle.mmu_core.specs.machine.Enabled.{mmu}
 use Rattle.mmu_core.specs.machine.Machine.{run}
 use Rattle.mmu_laws.proofs.turns.AnsweredRest.{answered_rests}
 use Rattle.mmu_laws.proofs.causes.Causes.{faults_begin_anew_by_cause}
 use Rattle.mmu_laws.proofs.flat.EveryHistory.{every_flat, every_history}
+use Rattle.mmu_laws.proofs.flat.PageFound.{entry_is}
 use Rattle.mmu_laws.proofs.leaves.LeafLaws.{cached_leaves_agree, leaves_agree, used_leaves_agree}
 use Rattle.mmu_laws.proofs.leaves.OpenFrames.{open_frames_are_flushed, open_frames_are_of_the_page, open_frames_are_recorded, open_frames_are_zapped}
 use Rattle.mmu_laws.proofs.causes.StarvedScan.{legal_parts, starved_lines_scan}
@@ -82,7 +82,9 @@ pub returns-clause-facts : goal.returns-clause-facts
 returns-clause-facts c z lines w ss R =
     let F = (every_flat z lines w ss R.start R.legal).refines in record {
       refines = F;
-      host = λ page there. (sound z lines w ss R).holds.hosts page there ∙ ap (λ (m : HostMap). host_word (m page).frame (m page).present (m page).writable 1) (sym F.host);
+      host = λ page there.
+          let is = (sound z lines w ss R).topics.hosts page there in
+          is ∙ ap (λ (e : HostEntry). host_word e.frame e.present e.writable 1) (sym (F.host page there ∙ entry_is page _ is));
     }
 
 pub returns-clause-rest : goal.returns-clause-rest
@@ -109,7 +111,8 @@ returns-clause-open_lines c = lines_are_open
 
 pub returns-clause-begins_anew : goal.returns-clause-begins_anew
 returns-clause-begins_anew c z lines w ss s cause gfn word op R stands command =
-    faults_begin_anew_by_cause z w ss s.actor gfn word op cause (start_good z lines w R.start) (before z lines w ss s R).legal (starts_between z lines w ss s R) stands command
+    faults_begin_anew_by_cause z w ss s.actor gfn word op cause (start_good z lines w R.start) (before z lines w ss s R).legal
+    (starts_between z lines w ss s R) stands command
 
 pub returns-clause-waits : goal.returns-clause-waits
 returns-clause-waits c = waits_have_causes

@@ -50,7 +50,7 @@ not_asks true e = absurd (cc e)
 not_asks false e = refl
 
 -- Where no flush is asked for it may be used.
-none_asked : (state : ℕ) (stay : Stay) → asks_flush state ≡ false → may_use state stay ≡ true
+pub none_asked : (state : ℕ) (stay : Stay) → asks_flush state ≡ false → may_use state stay ≡ true
 none_asked state Guest none = refl
 none_asked state Outside none = not_asks (asks_flush state) none
 none_asked state Section none = not_asks (asks_flush state) none
@@ -59,10 +59,15 @@ asks_none : (state : ℕ) → may_use state Outside ≡ true → asks_flush stat
 asks_none state may = asks_not (asks_flush state) may
 
 -- Where a flush is asked for it may be used in the guest alone, whatever the state word was before.
-used_asked : (state now : ℕ) (stay : Stay) → asks_flush now ≡ true → may_use now stay ≡ true → may_use state stay ≡ true
+pub used_asked : (state now : ℕ) (stay : Stay) → asks_flush now ≡ true → may_use now stay ≡ true → may_use state stay ≡ true
 used_asked state now Guest asks may = refl
 used_asked state now Outside asks may = let none = asks_none now may in absurd (cc (asks, none))
 used_asked state now Section asks may = let none = asks_none now may in absurd (cc (asks, none))
+
+-- Where it may be used once the guest or a section was left, or a section begun, it might be used before: each leaves what is asked.
+pub used_gone : (state now : ℕ) (stay behind : Stay) → asks_flush now ≡ asks_flush state → may_use now behind ≡ not (asks_flush now)
+    → may_use now behind ≡ true → may_use state stay ≡ true
+used_gone state now stay behind asks gone may = none_asked state stay (sym asks ∙ asks_not (asks_flush now) (sym gone ∙ may))
 
 -- Where it may be used, and there is no flush to make, none is asked for.
 used_flushed : (state : ℕ) (stay : Stay) → state % 4 ≡ stay_bits stay → has_to_flush state ≡ false → may_use state stay ≡ true
@@ -112,8 +117,7 @@ module _ {own_ : Invalidated} {asked awaited v state : ℕ} {stay : Stay} where
   -- It leaves the guest, or a section; or begins one.
   pub goes : {now : ℕ} {behind : Stay} {cached : List Translation} → asks_flush now ≡ asks_flush state → may_use now behind ≡ not (asks_flush now)
       → IsFlushed own_ asked awaited v state stay cached → IsFlushed own_ asked awaited v now behind cached
-  goes {now} asks outside = moved (λ none. sym asks ∙ none)
-      (λ may. none_asked state stay (sym asks ∙ asks_not (asks_flush now) (sym outside ∙ may))) (λ lt clean. clean)
+  goes {now} {behind} asks gone = moved (λ none. sym asks ∙ none) (used_gone state now stay behind asks gone) (λ lt clean. clean)
 
 -- ---- A change of the invalidation: of how many were asked, and of how many were awaited.
 

@@ -126,7 +126,7 @@ module _ (z : Sizes) (v : View) (a : ℕ) (I : TopicsInvariant z v) where
       (omega arith, subst (λ (p : Position). gfn / level_span p.level ≡ p.prefix * 512 + entry_index gfn walk.level) (sym here) (omega (arith, run))))
 
   -- So where a walk finds a leaf, and caches it, this is of none of these frames.
-  walk_keeps : (gfn : ℕ) (allowed : Bool) → IsPart z v a (part.Walk gfn)
+  pub walk_keeps : (gfn : ℕ) (allowed : Bool) → IsPart z v a (part.Walk gfn)
       → KeepsClean z v a (if is_found (kind_of walk.level (entry gfn)) allowed then with_leaf gfn walk.level (entry gfn) h.cached else h.cached)
   walk_keeps gfn allowed S i lt opened asked clean = by (is_found (kind_of walk.level (entry gfn)) allowed) refl
     where

@@ -36,7 +36,7 @@ abbrev pub FlushAt : Sizes → View → Type 0
 FlushAt z v = FlushPart (actors_of z) z.vcpus (v.words area.State) v.hand
 
 -- what is said of one virtual processor, for the invalidation of an actor that holds these topics, if it has one open
-abbrev FlushFor : Topics → ℕ → ℕ → Stay → List Translation → Type 0
+abbrev pub FlushFor : Topics → ℕ → ℕ → Stay → List Translation → Type 0
 FlushFor t v state stay cached =
     t.invalidations.opened ≡ true → IsFlushed t.invalidations.own t.flush.asked t.flush.awaited v state stay cached
 
@@ -67,6 +67,12 @@ counts_down : (was : Bool) (count now : ℕ) → was ≡ true → now ≡ (if wa
 counts_down true count now is now_is = grind (arith, nat_tests)
 counts_down false count now is now_is = absurd (cc is)
 
+-- The state word of a virtual processor of which a flush was asked just now asks for one.
+pub asked_there : (states : ℕ → ℕ) (index k : ℕ) → k ≡ index → asks_flush (upd states index (bit_or (states index) request_bit) k) ≡ true
+asked_there states index k e =
+    let word : ℕ = bit_or (states index) request_bit in
+    ap asks_flush (ap (upd states index word) e ∙ upd_same states index word) ∙ asked_word (states index)
+
 -- ---- Behind a step of a part.
 
 -- The step's actor has this cached, before a flush; and its hand is this one behind the step, but for what it holds and has cached.
@@ -95,12 +101,6 @@ module _ (z : Sizes) (v : View) (a note : ℕ) (c : Buffer Translation) (g : Hel
   abbrev behind : PartStep → Held
   behind step = record g { topics = topics step; cached = cached step }
 
-  -- The word of the virtual processor that is asked for a flush.
-  word_asked : (index k : ℕ) → k ≡ index → asks_flush (states (part.Ask index) k) ≡ true
-  word_asked index k e =
-      let word : ℕ = bit_or (before index) request_bit in
-      ap asks_flush (ap (upd before index word) e ∙ upd_same before index word) ∙ asked_word (before index)
-
   -- ---- The virtual processors, for one invalidation as it was.
 
   module _ {own_ : Invalidated} {asked awaited : ℕ} where
@@ -120,7 +120,7 @@ module _ (z : Sizes) (v : View) (a note : ℕ) (c : Buffer Translation) (g : Hel
     asked_of {stay} {kept} index k F = by (same_or k index)
       where
         by : (k ≡ index) ⊎ (k ≢ index) → IsFlushed own_ asked awaited k (states (part.Ask index) k) stay kept
-        by (inl e) = requested (word_asked index k e) F
+        by (inl e) = requested (asked_there before index k e) F
         by (inr ne) = elsewhere index k _ ne F
 
     -- Each but the step's actor.
@@ -154,7 +154,7 @@ module _ (z : Sizes) (v : View) (a note : ℕ) (c : Buffer Translation) (g : Hel
 
   -- So it does behind the step.
   shows : (step : PartStep) → TopicsInvariant z v → (k : ℕ) → k < actors_of z → Shows step k (states step k) (upd v.hand a (behind step) k).topics.stay
-  shows (part.Ask index) I k lt = word_asked index k
+  shows (part.Ask index) I k lt = asked_there before index k
   shows (part.Await index) I k lt = λ e. (ap before e, (states_frame (actors_of z) before v.hand a (behind (part.Await index)) refl I.states_part k lt).1)
   shows _ I k lt = tt
 

@@ -30,15 +30,11 @@ use Rattle.mmu_core.proofs.machine.Columns.{at_upd}
 use Rattle.mmu_core.proofs.slots.LiveStays.{LiveStays, live_in_stays, slot_stays, still_live, words_live}
 use Rattle.mmu_core.proofs.machine.PartStepping.{IsPart}
 use Rattle.mmu_core.proofs.words.PartTopics.{behind_step, part_behind}
-use Rattle.mmu_core.proofs.words.HostStays.{exchanged_same, host_stays, seq_rises}
 use Rattle.mmu_core.proofs.held.OldSets.{held_words_stay}
 
 -- what is said of each hand's search and look-up, of a view
 abbrev pub SearchesAt : Sizes → View → Type 0
 SearchesAt z v = (i : ℕ) → i < actors_of z → SearchPart (v.words area.Pool) (v.hand i).topics.search
-
-abbrev pub LooksAt : Sizes → View → Type 0
-LooksAt z v = (i : ℕ) → i < actors_of z → LookPart z (v.words area.Seq 0) (v.words area.Host) (v.hand i).topics
 
 -- ---- What was loaded of a slot stays what its words hold, where the words of live slots stay.
 
@@ -169,68 +165,3 @@ searches_kept z v a step note S I i lt =
     let in_old : SearchesIn z (v.words area.Pool) (part_stepped a step note v) = behind_step (SearchesIn z (v.words area.Pool)) z v a step note S (searches_behind z v a note step S I) in
     search_stays (v.words area.Pool) ((part_stepped a step note v).words area.Pool) ((part_stepped a step note v).hand i).topics.search
     (λ k is. words_live k (v.words area.Pool) ((part_stepped a step note v).words area.Pool) (held_words_stay z v a step note S I i k lt is)) (in_old i lt)
-
--- ---- The look-up behind each step.
-
-begun_look : (z : Sizes) (seq : ℕ) (host : ℕ → ℕ) (stay : Stay) (t : Topics) → LookPart z seq host (begun stay t)
-begun_look z seq host stay t = record { there = λ look e. absurd (cc e); is = λ look e. absurd (cc e); snapshot = λ s e. absurd (cc e) }
-
-pub same_look : (z : Sizes) (seq : ℕ) (host : ℕ → ℕ) (t s : Topics) → s.host ≡ t.host → s.invalidations.snapshot ≡ t.invalidations.snapshot → LookPart z seq host t → LookPart z seq host s
-same_look z seq host t s looked snapshot L = record { there = λ look e. L.there look (sym looked ∙ e); is = λ look e. L.is look (sym looked ∙ e); snapshot = λ n e. L.snapshot n (sym snapshot ∙ e) }
-
--- The snapshot is the sequence number, where it was loaded.
-pub sequenced_look : (z : Sizes) (seq : ℕ) (host : ℕ → ℕ) (without_lock : Bool) (t : Topics) → LookPart z seq host t → LookPart z seq host (sequenced without_lock t seq)
-sequenced_look z seq host true t L = record { there = λ look e. absurd (cc e); is = λ look e. absurd (cc e); snapshot = λ s e. let same : s ≡ seq = cc e in omega (arith, same) }
-sequenced_look z seq host false t L = same_look z seq host t (sequenced false t seq) refl refl L
-
--- The host word of a page was loaded.
-pub host_look : (z : Sizes) (seq : ℕ) (host : ℕ → ℕ) (page : ℕ) (t : Topics) → page < z.pages → LookPart z seq host t → LookPart z seq host (record t { host = Some (record { page = page; word = host page }) })
-host_look z seq host page t there L = record {
-  there = λ look e. subst (λ (l : HostLook). l.page < z.pages) (this look e) there;
-  is = λ look e. subst (λ (l : HostLook). l.word ≡ host l.page) (this look e) refl;
-  snapshot = L.snapshot;
-}
-  where
-    this : (look : HostLook) → Some (record { page = page; word = host page }) ≡ Some look → record { page = page; word = host page } ≡ look
-    this look e = cc
-
--- The exchange of a host word puts the word that was looked up, or finds another one: what it leaves is known from then on.
-changed_look : (z : Sizes) (seq : ℕ) (host : ℕ → ℕ) (t : Topics) (new_ : ℕ) → is_some t.host ≡ true → new_ ≡ word_looked t.host → LookPart z seq host t
-    → LookPart z seq host (record t { host = Some (record { page = page_looked t.host; word = if host (page_looked t.host) == word_looked t.host then new_ else host (page_looked t.host) }) })
-changed_look z seq host t new_ some same L =
-    subst (λ w. LookPart z seq host (record t { host = Some (record { page = page_looked t.host; word = w }) }))
-    (sym (exchanged_same t.host (host (page_looked t.host)) new_ same))
-    (host_look z seq host (page_looked t.host) t (by t.host refl some) L)
-  where
-    by : (x : Option HostLook) → t.host ≡ x → is_some x ≡ true → page_looked t.host < z.pages
-    by None is some = absurd (cc some)
-    by (Some look) is some = rw (ap page_looked is) (L.there look is)
-
--- The sequence number rises.
-later_look : (z : Sizes) (seq more : ℕ) (host : ℕ → ℕ) (t : Topics) → seq ≤ more → LookPart z seq host t → LookPart z more host t
-later_look z seq more host t le L = record { there = L.there; is = L.is; snapshot = λ s e. let early = L.snapshot s e in omega (arith, le, early) }
-
-pub all_look : (z : Sizes) (v : View) (a : ℕ) (h : Held) → TopicsInvariant z v → LookPart z (v.words area.Seq 0) (v.words area.Host) h.topics → (i : ℕ) → i < actors_of z → LookPart z (v.words area.Seq 0) (v.words area.Host) (upd v.hand a h i).topics
-all_look z v a h I here = at_upd (λ i (k : Held). i < actors_of z → LookPart z (v.words area.Seq 0) (v.words area.Host) k.topics) v.hand a h (λ lt. here) (λ i ne. I.looks i)
-
--- what was looked up of the words as they were
-abbrev LooksIn : Sizes → ℕ → (ℕ → ℕ) → View → Type 0
-LooksIn z seq host v = (i : ℕ) → i < actors_of z → LookPart z seq host (v.hand i).topics
-
-looks_behind : (z : Sizes) (v : View) (a note : ℕ) (step : PartStep) → IsPart z v a step → TopicsInvariant z v → LooksIn z (v.words area.Seq 0) (v.words area.Host) (part_behind a step note v)
-looks_behind z v a note part.Enter S I = all_look z v a _ I (begun_look z _ _ _ (v.hand a).topics)
-looks_behind z v a note part.Leave S I = all_look z v a _ I (begun_look z _ _ _ (v.hand a).topics)
-looks_behind z v a note part.Begin S I = all_look z v a _ I (begun_look z _ _ _ (v.hand a).topics)
-looks_behind z v a note part.End S I = all_look z v a _ I (begun_look z _ _ _ (v.hand a).topics)
-looks_behind z v a note part.Seq S I = all_look z v a _ I (sequenced_look z (v.words area.Seq 0) (v.words area.Host) (is_loose (v.hand a).topics.hold) (v.hand a).topics (I.looks a S.there))
-looks_behind z v a note (part.Host page) S I = all_look z v a _ I (host_look z (v.words area.Seq 0) (v.words area.Host) page (v.hand a).topics (subst (λ (y : Sizes). page < y.pages) S.sizes S.needs.0) (I.looks a S.there))
-looks_behind z v a note (part.Change new_) S I = all_look z v a _ I (changed_look z (v.words area.Seq 0) (v.words area.Host)
-    (v.hand a).topics new_ S.needs.0.looked S.replaces (I.looks a S.there))
-looks_behind z v a note _ S I = all_look z v a _ I (same_look z (v.words area.Seq 0) (v.words area.Host) (v.hand a).topics _ refl refl (I.looks a S.there))
-
-pub looks_kept : (z : Sizes) (v : View) (a : ℕ) (step : PartStep) (note : ℕ) → IsPart z v a step → TopicsInvariant z v → LooksAt z (part_stepped a step note v)
-looks_kept z v a step note S I =
-    let in_old : LooksIn z (v.words area.Seq 0) (v.words area.Host) (part_stepped a step note v) = behind_step (LooksIn z (v.words area.Seq 0) (v.words area.Host)) z v a step note S (looks_behind z v a note step S I) in
-    subst (λ (c : ℕ → ℕ). LooksIn z ((part_stepped a step note v).words area.Seq 0) c (part_stepped a step note v)) (sym (host_stays z v a step note S I))
-    (λ i lt. later_look z (v.words area.Seq 0) ((part_stepped a step note v).words area.Seq 0) (v.words area.Host)
-    ((part_stepped a step note v).hand i).topics (seq_rises z v a step note S I) (in_old i lt))

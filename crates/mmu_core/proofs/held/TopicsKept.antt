@@ -29,7 +29,9 @@ use Rattle.mmu_core.proofs.pages.Paths.{paths_kept}
 use Rattle.mmu_core.proofs.pages.PoolKept.{uses_kept}
 use Rattle.mmu_core.proofs.machine.SameTopics.{same_topics}
 use Rattle.mmu_core.proofs.held.SawWriterKept.{saw_kept}
-use Rattle.mmu_core.proofs.held.SearchKept.{looks_kept, searches_kept}
+use Rattle.mmu_core.proofs.held.LooksKept.{looks_kept, own_looks_kept}
+use Rattle.mmu_core.proofs.held.SearchKept.{searches_kept}
+use Rattle.mmu_core.proofs.words.HostStays.{hosts_kept}
 use Rattle.mmu_core.proofs.pages.Standing.{spot_after, up_after}
 use Rattle.mmu_core.proofs.held.StatesKept.{states_kept}
 use Rattle.mmu_core.proofs.machine.SumsBelow.{column}
@@ -62,7 +64,9 @@ topics_part_kept z v a step note S I = record {
   sets = sets_kept z v a step note S I;
   old_sets = old_sets_kept z v a step note S I;
   searches = searches_kept z v a step note S I;
+  hosts = hosts_kept z v a step note S I;
   looks = looks_kept z v a step note S I;
+  own_looks = own_looks_kept z v a step note S I;
   counts = counts_kept z v a step note S I;
   checks = checks_kept z v a step note S I;
   known = known_range_kept z v a step note S I I.known;
@@ -70,7 +74,7 @@ topics_part_kept z v a step note S I = record {
   ranges = ranges_kept z v a step note S I;
   passed = passed_kept z v a step note S I;
   scopes = scopes_kept z v a step note S I;
-  zapped = zapped_kept z v a step note S I (I.known a S.there);
+  zapped = zapped_kept z v a step note S I;
   few_ended = few_kept z v a step note S I;
   counters = counters_kept z v a step note S I;
 }

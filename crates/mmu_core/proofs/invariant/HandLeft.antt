@@ -36,5 +36,5 @@ pub hand_few : (z : Sizes) (v : View) (a : ℕ) → Invariant z v → TopicsInva
 hand_few z v a I P there left =
     let h : Held = v.hand a in
     let R : PartRests h = part_rests_at z v a I P there in
-    place_few (place_at h.state.place h) (line_of h).command z h.state.sizes (v.words area.Pool) (v.words area.Host) (v.words area.Slots 0) h h.topics
+    place_few (place_at h.state.place h) (line_of h).command z h.state.sizes (v.words area.Pool) (v.words area.Slots 0) h h.topics
     (is_step z v a I there left).holds R.sizes R.level

@@ -43,7 +43,7 @@ pub needs_at : (z : Sizes) (v : View) (a : ℕ) (line : Line) (command : Command
 needs_at z v a line command place.Between S I P = tt
 needs_at z v a line command (place.Access p) S I P = tt
 needs_at z v a line (ChangeHost page change) (place.Host p) S I P =
-    host_needs p (v.hand a) page (part_rests_at z v a I P S.there) (step_knows z v a line (ChangeHost page change) (place.Host p) S I).1
+    let K = step_knows z v a line (ChangeHost page change) (place.Host p) S I in host_needs p (v.hand a) page change (part_rests_at z v a I P S.there) K.0 K.1
 needs_at z v a line (Access gfn word op) (place.Host p) S I P = absurd S.holds
 needs_at z v a line (SetSlot id slot) (place.Host p) S I P = absurd S.holds
 needs_at z v a line command (place.SlotChange p) S I P = ((step_knows z v a line command (place.SlotChange p) S I).0, change_needs z v a line p command S I P)
@@ -91,7 +91,7 @@ makes_at z v a line (Access gfn word op) (place.Access p) small S I P = makes_pa
 makes_at z v a line command (place.SlotChange p) small S I P =
     one_step (IsPart z v a) (slot_change_part p (v.hand a) command) (makes_slot_change z v a line p command small S I P)
 makes_at z v a line (ChangeHost page change) (place.Host p) small S I P =
-    one_step (IsPart z v a) (host_part p page (v.hand a)) (makes_host z v a line p page change small S I P)
+    one_step (IsPart z v a) (host_part p page change (v.hand a)) (makes_host z v a line p page change small S I P)
 makes_at z v a line _ _ small S I P = absurd S.holds
 
 -- Each step keeps the invariant.

@@ -10,11 +10,12 @@ use Rattle.core_views.specs.Held.{Held}
 use Rattle.core_views.specs.Sizes.{AreSizes, actors_of, index_of}
 use Rattle.spte_words.specs.declared.area.Area.TheVariants as area
 use Rattle.spte_words.specs.HostWords.{host_frame}
-use Rattle.spte_words.proofs.ReadsHost.{host_has_frame}
+use Rattle.mmu_core.proofs.words.HostFrames.{frame_of_word}
+use Rattle.spte_words.specs.Entries.{frame_in}
 use Rattle.part_steps.specs.PartBounds.{IsAtLeafLevel}
 use Rattle.part_steps.specs.PartBounds.{CountersPart}
 use Rattle.mmu_core.specs.invariant.HeldPart.{HeldPart, HoldsOld}
-use Rattle.mmu_core.specs.invariant.Invariant.{HostWordsPart, Invariant, IsLeafFor, OwnLines}
+use Rattle.mmu_core.specs.invariant.Invariant.{Invariant, OwnLines}
 use Rattle.mmu_core.specs.invariant.SlotSetPart.{Fits}
 use Rattle.mmu_core.specs.invariant.LockPart.{SawWriter}
 use Rattle.part_steps.specs.PartBounds.{PartRests}
@@ -24,10 +25,6 @@ use Rattle.mmu_core.specs.invariant.TreePart.{IsLiveIn, stands}
 use Rattle.mmu_core.proofs.pages.PoolPages.{left_there, owned_there, slots_there}
 use Rattle.mmu_core.specs.machine.View.{View}
 use Rattle.mmu_core.proofs.held.OldSets.{set_live}
-
--- the host word of a page that the machine has
-pub host_at : (z : Sizes) (host : ℕ → ℕ) (p : ℕ) → AreSizes z → HostWordsPart z host → p < z.pages → host_frame (host p) < z.frames
-host_at z host p sizes hosts lt = rw (hosts p lt, host_has_frame p true true 1 (omega arith)) (omega (arith, sizes.frames.0))
 
 pub part_rests_at : (z : Sizes) (v : View) (i : ℕ) → Invariant z v → TopicsInvariant z v → i < actors_of z → PartRests (v.hand i)
 part_rests_at z v i I P there = record {
@@ -44,7 +41,7 @@ part_rests_at z v i I P there = record {
   flags = (P.searches i there).before_flags;
   frames = λ whole. (found whole).frames;
   cache = subst (λ n. 1 ≤ n) (sym O.cache) I.sizes.cache.0;
-  levels = All-weaker (λ (t : Translation). (t.level ≡ 1) × IsLeafFor (v.words area.Pool) (v.words area.Host) (v.words area.Slots 0) t.gfn t.leaf) IsAtLeafLevel lowest h.cached.items (I.cached i there);
+  levels = All-weaker (λ (t : Translation). (t.level ≡ 1) × (frame_in t.leaf < z.frames)) IsAtLeafLevel lowest h.cached.items (I.cached i there);
   looked = λ look is. subst (λ (y : Sizes). (look.page < y.pages) × (host_frame look.word < y.frames)) (sym same) (looked look is);
   saw_writer = λ word is. subst SawWriter is (P.saw_writer i there);
 }
@@ -61,7 +58,7 @@ part_rests_at z v i I P there = record {
     H : HeldPart (stands P.up P.spot) h.topics
     H = P.held i there
 
-    lowest : (t : Translation) → (t.level ≡ 1) × IsLeafFor (v.words area.Pool) (v.words area.Host) (v.words area.Slots 0) t.gfn t.leaf → IsAtLeafLevel t
+    lowest : (t : Translation) → (t.level ≡ 1) × (frame_in t.leaf < z.frames) → IsAtLeafLevel t
     lowest t is = let one = is.0 in (omega (arith, one), omega (arith, one))
 
     level : (0 < h.topics.walk.level) ⊎ (h.topics.walk.level ≤ 0) → h.topics.walk.level ≤ 4
@@ -88,4 +85,7 @@ part_rests_at z v i I P there = record {
     looked : (look : HostLook) → h.topics.host ≡ Some look → (look.page < z.pages) × (host_frame look.word < z.frames)
     looked look is =
         let L = P.looks i there in
-        (L.there look is, subst (λ n. n < z.frames) (ap host_frame (sym (L.is look is))) (host_at z (v.words area.Host) look.page I.sizes I.hosts (L.there look is)))
+        let frame = frame_of_word look.page look.word (L.is_word look is) in
+        let low = L.there look is in
+        let few = I.sizes.frames.0 in
+        (low, omega (arith, frame, low, few))

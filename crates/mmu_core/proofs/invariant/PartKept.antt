@@ -16,7 +16,7 @@ use Rattle.part_steps.specs.Tasks.{kind_of_task}
 use Rattle.mmu_core.specs.invariant.TopicsInvariant.{TopicsInvariant}
 use Rattle.mmu_core.specs.machine.View.{View, answer_in, part_stepped, upd}
 use Rattle.mmu_core.proofs.lines.CachedKept.{flushed_kept}
-use Rattle.std.proofs.Common.{◌≡◌, ℕ, sym, subst, ◌∙◌}
+use Rattle.std.proofs.Common.{◌≡◌, ℕ, sym, subst, ◌∙◌, ◌<◌}
 use Rattle.std.specs.Prelude.{false}
 use Rattle.core_views.specs.declared.trace.Command.{Command}
 use Rattle.core_views.specs.SlotSets.{MemorySlots}
@@ -32,6 +32,7 @@ use Rattle.mmu_core.proofs.words.PartWords.{role_stays, slots_are, slots_other_r
 use Rattle.mmu_core.proofs.slots.SlotsStay.{AllKnow, hand_moved, is_live_stays, is_live_was, record_stays}
 use Rattle.mmu_core.proofs.machine.Which.{has_line_is}
 use Rattle.mmu_core.proofs.lines.UsedTranslations.{flushed_room}
+use Rattle.spte_words.specs.Entries.{frame_in}
 
 -- a hand with other topics, and with other translations in its cache
 abbrev pub with_topics : Held → Topics → Buffer Translation → Held
@@ -45,24 +46,23 @@ own_lines z i h t c room O = record { cache = room ∙ O.cache; sizes = O.sizes;
     under _ e = e
 
 -- An actor that has no line left has none under way: nothing is loaded for it.
-idle_holds : (z : Sizes) (pool host : ℕ → ℕ) (set : ℕ) (q : Place) (command : Command) (h g : Held) → has_line h ≡ false → UnderWay q h → Holds z pool host set q command g
-idle_holds z pool host set place.Between command h g none under = tt
-idle_holds z pool host set _ command h g none under = let has = has_line_is h under.1 in absurd (cc (none, has))
+idle_holds : (z : Sizes) (pool : ℕ → ℕ) (set : ℕ) (q : Place) (command : Command) (h g : Held) → has_line h ≡ false → UnderWay q h → Holds z pool set q command g
+idle_holds z pool set place.Between command h g none under = tt
+idle_holds z pool set _ command h g none under = let has = has_line_is h under.1 in absurd (cc (none, has))
 
 -- A step of a part by an actor that has no line left.
 pub part_keeps_lines : (z : Sizes) (v : View) (a : ℕ) (step : PartStep) (note : ℕ) → IsPart z v a step → needs_line step ≡ false → has_line (v.hand a) ≡ false → Invariant z v → TopicsInvariant z v → AllKnow z (part_stepped a step note v).hand → Invariant z (part_stepped a step note v)
 part_keeps_lines z v a step note S free none I P knows =
-    subst (λ n. InvariantOf z n (words area.Role) (words area.Pool) (words area.Host) (upd v.hand a after)) (sym (slots_are v a step note ∙ slots_same step h.topics set never))
-    (subst (λ (f : ℕ → ℕ). InvariantOf z set (words area.Role) (words area.Pool) f (upd v.hand a after)) (sym (host_stays z v a step note S P))
-    (hand_moved z set set (v.words area.Role) (words area.Role) (v.words area.Pool) (words area.Pool) (v.words area.Host) v.hand a after live
+    subst (λ n. InvariantOf z n (words area.Role) (words area.Pool) (upd v.hand a after)) (sym (slots_are v a step note ∙ slots_same step h.topics set never))
+    (hand_moved z set set (v.words area.Role) (words area.Role) (v.words area.Pool) (words area.Pool) v.hand a after live
     (set_stays z (v.words area.Role) (words area.Role) (v.words area.Pool) set (words area.Pool) set (is_live_was set (v.words area.Pool) (words area.Pool) stays)
     (role_stays z v a step note S set (slots_other_role z v a step S P) ∙ I.set_part.role_is) I.set_part)
     (owned_stays z v a step note S P) (λ i lt ne is. recorded (v.hand i).slots (I.recorded i lt is)) (own_lines z a h after.topics after.cached (flushed_room (kind_of_task h.state.sizes t) h.cached x) (I.lines a S.there))
-    (idle_holds z (words area.Pool) (v.words area.Host) set h.state.place h.state.line.command h after none (I.lines a S.there).under)
+    (idle_holds z (words area.Pool) set h.state.place h.state.line.command h after none (I.lines a S.there).under)
     (record {
       leaves = λ may. leaves_none step h.state.sizes (own_index h) h.topics note x never ((I.leaves a S.there).leaves may);
       opens = λ may. opens_none step h note x S.needs (idle_untold step free) ((I.leaves a S.there).opens may);
-    }) cached (λ is. recorded h.slots (I.recorded a S.there is)) knows I))
+    }) cached (λ is. recorded h.slots (I.recorded a S.there is)) knows I)
   where
     h : Held
     h = v.hand a
@@ -94,7 +94,5 @@ part_keeps_lines z v a step note S free none I P knows =
     recorded : (slots : MemorySlots) → RecordPart (v.words area.Pool) set slots → RecordPart (words area.Pool) set slots
     recorded slots R = record_stays set (v.words area.Pool) (words area.Pool) stays slots R
 
-    cached : CachedPart (words area.Pool) (v.words area.Host) set after.cached.items
-    cached =
-        flushed_kept (λ (y : Translation). (y.level ≡ 1) × IsLeafFor (words area.Pool) (v.words area.Host) set y.gfn y.leaf) (kind_of_task h.state.sizes t) h.cached x
-        (translations_stay (v.words area.Pool) set (words area.Pool) set live (v.words area.Host) h.cached.items (I.cached a S.there))
+    cached : CachedPart z after.cached.items
+    cached = flushed_kept (λ (y : Translation). (y.level ≡ 1) × (frame_in y.leaf < z.frames)) (kind_of_task h.state.sizes t) h.cached x (I.cached a S.there)

@@ -1,5 +1,5 @@
 -- A step of a part that publishes nothing, of a line that caches nothing, keeps the invariant: a form says of it what its hand holds after it.
-use Rattle.std.proofs.Common.{◌≡◌, ◌+◌, ◌≤◌, ℕ, length, refl, sym, subst, ap, arith}
+use Rattle.std.proofs.Common.{◌≡◌, ◌+◌, ◌≤◌, ℕ, length, refl, sym, subst, ap, arith, ◌<◌}
 use Rattle.std.specs.Prelude.{Bool, true, false, if◌then◌else◌, Some}
 use Rattle.circular_buffer.specs.Buffer.{Buffer}
 use Rattle.core_views.specs.declared.cache.Translation.{Translation}
@@ -32,6 +32,7 @@ use Rattle.mmu_core.proofs.machine.HandWith.{hand_with}
 use Rattle.mmu_core.proofs.machine.Stepping.{IsStep, none_done}
 use Rattle.mmu_core.proofs.slots.LiveStay.{StayLive, translations_stay}
 use Rattle.mmu_core.proofs.slots.SlotsStay.{AllKnow, is_live_stays}
+use Rattle.spte_words.specs.Entries.{frame_in}
 
 same_step : {s step : PartStep} → Some s ≡ Some step → s ≡ step
 same_step e = cc e
@@ -40,12 +41,9 @@ same_step e = cc e
 pub one_step : (P : PartStep → Type 0) (step : PartStep) → P step → (s : PartStep) → Some step ≡ Some s → P s
 one_step P step so s is = subst P (same_step is) so
 
--- What is cached stays, or is flushed, where live slots stay.
-pub still_cached : (before : ℕ → ℕ) (set : ℕ) (after : ℕ → ℕ) (other : ℕ) (host : ℕ → ℕ) (k : Kind) (c : Buffer Translation) (x : ℕ)
-    → StayLive before set after other → CachedPart before host set c.items → CachedPart after host other (flushed k c x).items
-still_cached before set after other host k c x stay each =
-    flushed_kept (λ (t : Translation). (t.level ≡ 1) × IsLeafFor after host other t.gfn t.leaf) k c x
-    (translations_stay before set after other stay host c.items each)
+-- What is cached stays, or is flushed.
+pub still_cached : (z : Sizes) (k : Kind) (c : Buffer Translation) (x : ℕ) → CachedPart z c.items → CachedPart z (flushed k c x).items
+still_cached z k c x each = flushed_kept (λ (t : Translation). (t.level ≡ 1) × (frame_in t.leaf < z.frames)) k c x each
 
 -- ---- how many of the hand's lines have done what they do
 
@@ -85,7 +83,7 @@ pub record OfHand (z : Sizes) (v : View) (a : ℕ) (line : Line) (command : Comm
   pub counts : CountsMore p command (v.hand a) line x
   pub leaves : LeavesPart (place_after (outcome_at p command (v.hand a) x)) (behind_part (part_at p command (v.hand a)) (v.hand a).topics x)
   pub holds : (cached : Buffer Translation)
-      → Holds z (words_after (task_at p command (v.hand a)) v.words area.Pool) (v.words area.Host) (v.words area.Slots 0)
+      → Holds z (words_after (task_at p command (v.hand a)) v.words area.Pool) (v.words area.Slots 0)
       (place_after (outcome_at p command (v.hand a) x)) command
       (hand_with line command p (v.hand a) (behind_part (part_at p command (v.hand a)) (v.hand a).topics x) cached x)
 
@@ -100,12 +98,11 @@ quiet_hand z v a line command p S I P makes R Q knows =
       room = ap (λ (c : Buffer Translation). c.capacity) Q.caches;
       leaves = subst (LeavesPart (place_after o)) (sym held) Q.leaves;
       holds =
-          subst (λ (t : Topics). Holds z (words area.Pool) (v.words area.Host) set (place_after o) command (hand_with line command p h t cached x))
+          subst (λ (t : Topics). Holds z (words area.Pool) set (place_after o) command (hand_with line command p h t cached x))
           (sym held) (Q.holds cached);
       cached =
-          still_cached (v.words area.Pool) set (words area.Pool) set (v.words area.Host) kind_ (caches_at p command h x) x
-          (is_live_stays set (v.words area.Pool) (words area.Pool) W.pool)
-          (subst (λ (c : Buffer Translation). CachedPart (v.words area.Pool) (v.words area.Host) set c.items) (sym Q.caches) (I.cached a S.there));
+          still_cached z kind_ (caches_at p command h x) x
+          (subst (λ (c : Buffer Translation). CachedPart z c.items) (sym Q.caches) (I.cached a S.there));
     }) knows
   where
     h : Held

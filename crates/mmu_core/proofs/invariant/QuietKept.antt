@@ -56,10 +56,9 @@ touched _ _ h none = absurd (cc none)
 
 -- ---- what the words keep
 
--- Which slot set is published, its page and role, the host words, and the pages that other actors fill stay.
+-- Which slot set is published, its page and role, and the pages that other actors fill stay.
 pub record SetsStay (z : Sizes) (v : View) (a : ℕ) (words : Area → ℕ → ℕ) : Type 0 where
   pub slots : words area.Slots 0 ≡ v.words area.Slots 0
-  pub host : ◌≡◌ {A = ℕ → ℕ} (words area.Host) (v.words area.Host)
   pub role : words area.Role (v.words area.Slots 0) ≡ v.words area.Role (v.words area.Slots 0)
   pub pool : SetStays (v.words area.Slots 0) (v.words area.Pool) (words area.Pool)
   pub owned : (i : ℕ) → i < actors_of z → i ≢ a → OwnedStays (v.words area.Pool) (words area.Pool) (v.hand i)
@@ -77,7 +76,6 @@ sets_stay z v a p command makes never P = by (part_at p command (v.hand a)) make
     by_touch : (t : Task) (op : Op) (index : ℕ) → t ≡ touch_of op index → SetsStay z v a (words_after t v.words)
     by_touch t op index is = subst (λ (x : Task). SetsStay z v a (words_after x v.words)) (sym is) (record {
       slots = ap (λ (slots : ℕ → ℕ). slots 0) (touch_leaves_slots v.words op index);
-      host = touch_leaves_host v.words op index;
       role = ap (λ (role : ℕ → ℕ). role (v.words area.Slots 0)) (touch_leaves_role v.words op index);
       pool = λ j low. ap (λ (pool : ℕ → ℕ). pool (pool_index (v.words area.Slots 0) j)) (touch_leaves_pool v.words op index);
       owned = λ i lt ne o is j low. ap (λ (pool : ℕ → ℕ). pool (pool_index o.page j)) (touch_leaves_pool v.words op index);
@@ -90,7 +88,6 @@ sets_stay z v a p command makes never P = by (part_at p command (v.hand a)) make
         let S = makes step refl in
         record {
           slots = slots_are v a step note ∙ slots_same step (v.hand a).topics (v.words area.Slots 0) (never step refl);
-          host = host_stays z v a step note S P;
           role = role_stays z v a step note S (v.words area.Slots 0) (slots_other_role z v a step S P);
           pool = published_stays z v a step note S P;
           owned = owned_stays z v a step note S P;
@@ -108,8 +105,8 @@ pub record OfStep (z : Sizes) (v : View) (a : ℕ) (command : Command) (p : Plac
   pub more : lines_done (v.hand a) ≤ lines_done after
   pub room : (caches_at p command (v.hand a) x).capacity ≡ (v.hand a).cached.capacity
   pub leaves : LeavesPart after.state.place after.topics
-  pub holds : Holds z pool (v.words area.Host) (v.words area.Slots 0) after.state.place command after
-  pub cached : CachedPart pool (v.words area.Host) (v.words area.Slots 0) after.cached.items
+  pub holds : Holds z pool (v.words area.Slots 0) after.state.place command after
+  pub cached : CachedPart z after.cached.items
 
 -- the step of this place, and the hand after it
 abbrev pub QuietStep : Sizes → View → ℕ → Line → Command → Place → Type 0
@@ -123,13 +120,12 @@ pub quiet_kept : (z : Sizes) (v : View) (a : ℕ) (line : Line) (command : Comma
     → SetsStay z v a (words_after (task_at p command (v.hand a)) v.words) → QuietStep z v a line command p → AllKnow z (stepped a line command p v).hand
     → Invariant z (stepped a line command p v)
 quiet_kept z v a line command p S I W Q knows =
-    subst (λ n. InvariantOf z n (words area.Role) (words area.Pool) (words area.Host) (upd v.hand a after)) (sym W.slots)
-    (subst (λ (f : ℕ → ℕ). InvariantOf z set (words area.Role) (words area.Pool) f (upd v.hand a after)) (sym W.host)
-    (hand_moved z set set (v.words area.Role) (words area.Role) (v.words area.Pool) (words area.Pool) (v.words area.Host) v.hand a after live
+    subst (λ n. InvariantOf z n (words area.Role) (words area.Pool) (upd v.hand a after)) (sym W.slots)
+    (hand_moved z set set (v.words area.Role) (words area.Role) (v.words area.Pool) (words area.Pool) v.hand a after live
     (set_stays z (v.words area.Role) (words area.Role) (v.words area.Pool) set (words area.Pool) set (is_live_was set (v.words area.Pool) (words area.Pool) W.pool) (W.role ∙ I.set_part.role_is) I.set_part)
     W.owned (λ i lt ne is. recorded (v.hand i).slots (I.recorded i lt is)) own
-    (subst (λ c. Holds z (words area.Pool) (v.words area.Host) set after.state.place c after) (sym S.command_is) Q.holds) Q.leaves Q.cached
-    (λ is. subst (RecordPart (words area.Pool) set) (sym Q.same) (recorded h.slots (I.recorded a S.there (sym loaded.actor ∙ is)))) knows I))
+    (subst (λ c. Holds z (words area.Pool) set after.state.place c after) (sym S.command_is) Q.holds) Q.leaves Q.cached
+    (λ is. subst (RecordPart (words area.Pool) set) (sym Q.same) (recorded h.slots (I.recorded a S.there (sym loaded.actor ∙ is)))) knows I)
   where
     h : Held
     h = v.hand a

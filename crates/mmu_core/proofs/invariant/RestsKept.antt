@@ -54,60 +54,43 @@ use Rattle.part_steps.proofs.EntryTopics.{looked_at}
 use Rattle.mmu_core.proofs.lines.KnowsKept.{access_needs, access_vcpu, step_knows, NeedsAt}
 use Rattle.mmu_core.proofs.invariant.Kept.{needs_at}
 use Rattle.mmu_core.proofs.invariant.PartBounded.{part_rests_at}
-pub use Rattle.mmu_core.proofs.invariant.PartBounded.{host_at}
 use Rattle.mmu_core.proofs.words.PartFits.{part_within_by}
 use Rattle.mmu_core.proofs.machine.Stepping.{is_step}
 use Rattle.part_steps.specs.declared.task.Task.{Task}
 use Rattle.mmu_core.proofs.lines.Forms.{RestsOnPart, accepts_at, accepts_at_prop, other_rests}
 use Rattle.mmu_core.proofs.lines.ByStep.{StepAt, step_at, Makes, Touches}
-use Rattle.mmu_core.specs.invariant.Invariant.{Holds, HostWordsPart, Invariant, IsLeafFor, KnowsPart, SlotSetPart}
+use Rattle.mmu_core.specs.invariant.Invariant.{Holds, Invariant, KnowsPart, CachedPart}
 use Rattle.mmu_core.proofs.lines.UsedTranslations.{lowest_frame, uses_stays}
-
--- The leaf that an access uses is at a frame of the machine.
-leaf_there : (z : Sizes) (set : ℕ) (role pool host : ℕ → ℕ) (gfn leaf : ℕ) → AreSizes z → SlotSetPart z set role pool → HostWordsPart z host
-    → IsLeafFor pool host set gfn leaf → frame_in leaf < z.frames
-leaf_there z set role pool host gfn leaf sizes part hosts L =
-    let w : ℕ = host (page_of L.slot gfn) in
-    let h : host_frame w < z.frames = host_at z host (page_of L.slot gfn) sizes hosts page in
-    rw (L.is, leaf_frame 1 (host_frame w) (may_write L.slot w) (host_allows_write w) (may_write L.slot w) (omega (arith, h, sizes.frames.1))) h
-  where
-    bounds : (low high : ℕ) → (nat_le low gfn && nat_lt gfn high) ≡ true → (low ≤ gfn) × (gfn < high)
-    bounds low high test = (grind (arith, nat_tests), grind (arith, nat_tests))
-
-    page : page_of L.slot gfn < z.pages
-    page =
-        let fits : L.slot.host + L.slot.pages ≤ z.pages = subst (λ (s : SlotOf). s.host + s.pages ≤ z.pages) L.live.is (part.fits L.id L.live.low L.live.live).pages in
-        let inside = bounds L.slot.base (L.slot.base + L.slot.pages) L.holds in
-        omega (arith, fits, inside.0, inside.1)
+use Rattle.mmu_core.proofs.lines.CachedKept.{used_has}
+use Rattle.core_views.specs.declared.cache.Translation.{Translation}
 
 -- The next step of a line finds what it needs.
-access_rests : (p : AccessPlace) (z : Sizes) (v : View) (h : Held) (gfn word : ℕ) (op : Op) → Invariant z v → h.state.sizes ≡ z
+access_rests : (p : AccessPlace) (z : Sizes) (h : Held) (gfn word : ℕ) (op : Op) → CachedPart z h.cached.items → h.state.sizes ≡ z
     → IsCommandFor z h.state.actor (Access gfn word op) → PartRests h → AccessKnows p gfn (is_write op) h
-    → Holds z (v.words area.Pool) (v.words area.Host) (v.words area.Slots 0) (place.Access p) (Access gfn word op) h
     → RestsOn (access_part p gfn h.topics) gfn (is_write op) h
-access_rests Touch z v h gfn word op I same may R K e = record {
-  guest = K.0.guest;
-  uses = K.1;
-  level = (omega (arith, e.0), omega (arith, e.0));
-  frame =
-      let leaf_in : frame_in h.state.used.leaf < z.frames =
-      leaf_there z (v.words area.Slots 0) (v.words area.Role) (v.words area.Pool) (v.words area.Host) gfn h.state.used.leaf I.sizes I.set_part I.hosts e.1 in
-      subst (λ (y : Sizes). frame_used gfn h.state < y.frames) (sym same) (subst (λ n. n < z.frames) (sym (lowest_frame gfn h.state e.0)) leaf_in);
-}
-access_rests (Enter again) z v h gfn word op I same may R K e =
+access_rests Touch z h gfn word op cached same may R K =
+    let used = used_has (λ (t : Translation). (t.level ≡ 1) × (frame_in t.leaf < z.frames)) gfn (is_write op) h.cached.items h.state.used cached K.1 in
+    let one = used.0 in
+    record {
+      guest = K.0.guest;
+      uses = K.1;
+      level = (omega (arith, one), omega (arith, one));
+      frame = subst (λ (y : Sizes). frame_used gfn h.state < y.frames) (sym same) (subst (λ n. n < z.frames) (sym (lowest_frame gfn h.state one)) used.1);
+    }
+access_rests (Enter again) z h gfn word op cached same may R K =
     let V = access_vcpu z h.state.actor gfn word op may in access_needs (Enter again) h gfn (is_write op) V.0 V.1 R K
-access_rests (Walk again) z v h gfn word op I same may R K e = K.1
-access_rests (Leave how) z v h gfn word op I same may R K e = K.guest
-access_rests (Fault p) z v h gfn word op I same may R K e =
+access_rests (Walk again) z h gfn word op cached same may R K = K.1
+access_rests (Leave how) z h gfn word op cached same may R K = K.guest
+access_rests (Fault p) z h gfn word op cached same may R K =
     let V = access_vcpu z h.state.actor gfn word op may in access_needs (Fault p) h gfn (is_write op) V.0 V.1 R K
-access_rests _ z v h gfn word op I same may R K e = tt
+access_rests _ z h gfn word op cached same may R K = tt
 
-rests_at : (p : Place) (command : Command) (z : Sizes) (v : View) (h : Held) → Invariant z v → h.state.sizes ≡ z
+rests_at : (p : Place) (command : Command) (z : Sizes) (v : View) (h : Held) → CachedPart z h.cached.items → h.state.sizes ≡ z
     → IsCommandFor z h.state.actor command → PartRests h → KnowsPart p command h
-    → Holds z (v.words area.Pool) (v.words area.Host) (v.words area.Slots 0) p command h → NeedsAt p command h → RestsAt p command h
-rests_at (place.Access p) (Access gfn word op) z v h I same may R K e N = access_rests p z v h gfn word op I same may R K e
-rests_at (place.Access p) _ z v h I same may R K e N = absurd K
-rests_at p command z v h I same may R K e N = N
+    → Holds z (v.words area.Pool) (v.words area.Slots 0) p command h → NeedsAt p command h → RestsAt p command h
+rests_at (place.Access p) (Access gfn word op) z v h cached same may R K e N = access_rests p z h gfn word op cached same may R K
+rests_at (place.Access p) _ z v h cached same may R K e N = absurd K
+rests_at p command z v h cached same may R K e N = N
 
 pub hand_rests : (z : Sizes) (v : View) (a : ℕ) → Invariant z v → TopicsInvariant z v → a < actors_of z
     → length (v.hand a).answers < length (v.hand a).lines → Rests (v.hand a)
@@ -121,10 +104,10 @@ hand_rests z v a I P there left =
     record {
       part = R;
       line = subst (λ (y : Sizes). IsCommandFor y line.actor line.command) (sym same) S.allowed;
-      at = rests_at p line.command z v h I same (subst (λ (x : Actor). IsCommandFor z x line.command) S.own S.allowed) R (step_knows z v a line line.command p S I) S.holds (needs_at z v a line line.command p S I P);
+      at = rests_at p line.command z v h (I.cached a there) same (subst (λ (x : Actor). IsCommandFor z x line.command) S.own S.allowed) R (step_knows z v a line line.command p S I) S.holds (needs_at z v a line line.command p S I P);
       accepts =
           subst (λ (y : Sizes). AcceptsAt p line.command y h.slots) (sym same)
-          (accepts_at p line.command z (v.words area.Pool) (v.words area.Host) (v.words area.Slots 0) h S.holds);
+          (accepts_at p line.command z (v.words area.Pool) (v.words area.Slots 0) h S.holds);
     }
 
 -- What a line rests on holds where there merely is a world that shows it: each part of it has at most one proof, or can be decided.

@@ -35,7 +35,7 @@ use Rattle.mmu_core.specs.machine.View.{View, answer_in, hand_after, stepped}
 use Rattle.mmu_core.proofs.lines.CachedKept.{cached_kept, leaf_found, used_leaf}
 use Rattle.mmu_core.proofs.lines.LinesKept.{answers_more}
 use Rattle.mmu_core.proofs.machine.Stepping.{IsStep, none_done}
-use Rattle.mmu_core.specs.invariant.Invariant.{AccessHolds, Holds, Invariant, IsLeafFor}
+use Rattle.mmu_core.specs.invariant.Invariant.{Holds, Invariant, IsLeafFor}
 use Rattle.mmu_core.proofs.slots.LiveStays.{MakesParts}
 use Rattle.mmu_core.proofs.invariant.QuietKept.{access_sets_stay, quiet_kept}
 use Rattle.mmu_core.proofs.slots.SlotsStay.{AllKnow}
@@ -43,58 +43,22 @@ use Rattle.mmu_core.proofs.held.OthersStay.{access_leaves_none}
 use Rattle.mmu_core.proofs.lines.KnowsKept.{step_leaves}
 use Rattle.mmu_core.proofs.lines.UsedTranslations.{caches_room}
 
--- What an access has loaded where it stands behind a step, of the pool's words behind it: where it is to touch, the leaf that it uses agrees.
-abbrev HoldsBehind : Sizes → View → ℕ → Line → Place → ℕ → ℕ → Op → Outcome → Held → Type 0
-HoldsBehind z v a line p gfn word op o g =
-    Holds z ((stepped a line (Access gfn word op) p v).words area.Pool) (v.words area.Host) (v.words area.Slots 0) (place_after o) (Access gfn word op) g
+-- An access has loaded nothing that its places speak of.
+fault_holds : (z : Sizes) (pool : ℕ → ℕ) (set : ℕ) (n : FaultNext) (gfn word : ℕ) (op : Op) (g : Held)
+    → Holds z pool set (place_after (behind_fault n)) (Access gfn word op) g
+fault_holds z pool set (next_of.Goes q) gfn word op g = tt
+fault_holds z pool set (next_of.Ends end_of.Installed) gfn word op g = tt
+fault_holds z pool set (next_of.Ends end_of.Mmio) gfn word op g = tt
+fault_holds z pool set (next_of.Ends end_of.HostFault) gfn word op g = tt
+fault_holds z pool set (next_of.Ends end_of.Starved) gfn word op g = tt
+fault_holds z pool set (next_of.Ends (end_of.Retry cause)) gfn word op g = tt
 
--- after the pause: a translation that is used is cached
-pause_holds : (z : Sizes) (v : View) (a : ℕ) (again : Bool) (gfn : ℕ) (op : Op) (g : Held) (used : Option Translation) → a < actors_of z → Invariant z v
-    → first_usable gfn (is_write op) (v.hand a).cached.items ≡ used → g.state.used ≡ use_found used (v.hand a).state.used
-    → AccessHolds (v.words area.Pool) (v.words area.Host) (v.words area.Slots 0) (pause_next again used) gfn g
-pause_holds z v a again gfn op g None lt I is same = tt
-pause_holds z v a again gfn op g (Some t) lt I is same =
-    subst (λ (t : Translation). (t.level ≡ 1) × IsLeafFor (v.words area.Pool) (v.words area.Host) (v.words area.Slots 0) gfn t.leaf) (sym same)
-    (used_leaf (v.words area.Pool) (v.words area.Host) (v.words area.Slots 0) gfn (is_write op) (v.hand a).cached.items t (I.cached a lt) is)
-
--- after an entry: a leaf that allows the access is used
-walk_holds : (v : View) (again : Bool) (gfn level w : ℕ) (g : Held) (k : SpteKind) (allowed : Bool)
-    → g.state.used ≡ record { gfn = gfn; level = level; leaf = w }
-    → (k ≡ entry_kind.Leaf → IsLeafFor (v.words area.Pool) (v.words area.Host) (v.words area.Slots 0) gfn w × (level ≡ 1))
-    → AccessHolds (v.words area.Pool) (v.words area.Host) (v.words area.Slots 0) (stay_next again k allowed) gfn g
-walk_holds v again gfn level w g entry_kind.Leaf true same found =
-    subst (λ (t : Translation). (t.level ≡ 1) × IsLeafFor (v.words area.Pool) (v.words area.Host) (v.words area.Slots 0) gfn t.leaf) (sym same)
-    ((found refl).1, (found refl).0)
-walk_holds v again gfn level w g _ _ same found = tt
-
--- behind a fault: nothing
-fault_holds : (z : Sizes) (pool host : ℕ → ℕ) (set : ℕ) (n : FaultNext) (gfn word : ℕ) (op : Op) (g : Held)
-    → Holds z pool host set (place_after (behind_fault n)) (Access gfn word op) g
-fault_holds z pool host set (next_of.Goes q) gfn word op g = tt
-fault_holds z pool host set (next_of.Ends end_of.Installed) gfn word op g = tt
-fault_holds z pool host set (next_of.Ends end_of.Mmio) gfn word op g = tt
-fault_holds z pool host set (next_of.Ends end_of.HostFault) gfn word op g = tt
-fault_holds z pool host set (next_of.Ends end_of.Starved) gfn word op g = tt
-fault_holds z pool host set (next_of.Ends (end_of.Retry cause)) gfn word op g = tt
-
-access_holds : (z : Sizes) (v : View) (a : ℕ) (line : Line) (p : AccessPlace) (gfn word : ℕ) (op : Op) (g : Held) → a < actors_of z → Invariant z v
-    → TopicsInvariant z v → AccessKnows p gfn (is_write op) (v.hand a)
-    → g.state.used ≡ (access_loads p (v.hand a) gfn op (answer_in (access_task p (v.hand a) gfn word op) v.words)).used
-    → HoldsBehind z v a line (place.Access p) gfn word op (access_outcome p (v.hand a) gfn op (answer_in (access_task p (v.hand a) gfn word op) v.words)) g
-access_holds z v a line (Pause again) gfn word op g lt I P K leaf =
-    pause_holds z v a again gfn op g (first_usable gfn (is_write op) (v.hand a).cached.items) lt I refl leaf
-access_holds z v a line (Walk again) gfn word op g lt I P K leaf =
-    let h : Held = v.hand a in
-    let w : ℕ = v.words area.Pool (pool_index (table_page h.topics.walk) (entry_index gfn h.topics.walk.level)) in
-    walk_holds v again gfn h.topics.walk.level w g (kind_of h.topics.walk.level w) (allows_access (is_write op) w) leaf
-    (λ is. let found = leaf_found z v a gfn lt I P K.1 is in (found.1, found.0))
-access_holds z v a line (Leave (leaving.Reached frame value)) gfn word op g lt I P K leaf = tt
-access_holds z v a line (Leave leaving.Faults) gfn word op g lt I P K leaf = tt
-access_holds z v a line (Fault q) gfn word op g lt I P K leaf =
-    let h : Held = v.hand a in
-    fault_holds z ((stepped a line (Access gfn word op) (place.Access (Fault q)) v).words area.Pool) (v.words area.Host) (v.words area.Slots 0)
-    (fault_next q h.state.sizes gfn (is_write op) h.topics (answer_in (access_task (Fault q) h gfn word op) v.words)) gfn word op g
-access_holds z v a line _ gfn word op g lt I P K leaf = tt
+access_holds : (z : Sizes) (pool : ℕ → ℕ) (set : ℕ) (p : AccessPlace) (h : Held) (gfn word : ℕ) (op : Op) (x : ℕ) (g : Held)
+    → Holds z pool set (place_after (access_outcome p h gfn op x)) (Access gfn word op) g
+access_holds z pool set (Leave (leaving.Reached frame value)) h gfn word op x g = tt
+access_holds z pool set (Leave leaving.Faults) h gfn word op x g = tt
+access_holds z pool set (Fault q) h gfn word op x g = fault_holds z pool set (fault_next q h.state.sizes gfn (is_write op) h.topics x) gfn word op g
+access_holds z pool set _ h gfn word op x g = tt
 
 -- The invariant after each step of an access, where each actor knows after it what its place asks.
 pub access_kept : (z : Sizes) (v : View) (a : ℕ) (line : Line) (p : AccessPlace) (gfn word : ℕ) (op : Op)
@@ -112,8 +76,8 @@ access_kept z v a line p gfn word op S I P K makes knows =
             leaves = λ may. access_leaves_none h p gfn word op x (L.leaves refl);
             opens = λ may. access_opens_none h p gfn word op x (λ step is. (makes step is).needs) (L.opens refl);
           };
-      holds = access_holds z v a line p gfn word op (hand_after line (Access gfn word op) (place.Access p) h x) S.there I P K refl;
-      cached = cached_kept z v a line p gfn word op S.there I P K makes;
+      holds = access_holds z _ (v.words area.Slots 0) p h gfn word op x (hand_after line (Access gfn word op) (place.Access p) h x);
+      cached = cached_kept z v a line p gfn word op S.there I P K;
     }) knows
   where
     h : Held

@@ -1,4 +1,4 @@
--- What is cached, and the leaf that an access uses, is the leaf that slots and host give: as a walk finds it, and behind each step.
+-- What is cached: a leaf that a walk finds is the one that slots and host give; and each stays of the lowest level, at a frame of the machine.
 use Rattle.std.proofs.Common.{◌≡◌, ◌/◌, ◌<◌, ℕ, List, [], ◌∷◌, refl, sym, subst, ap, ◌∙◌, arith}
 use Rattle.std.proofs.lemmas.Bool.Decides.{nat_tests}
 use Rattle.std.proofs.lemmas.List.Elements.{All-cons, All-head, All-nil, All-tail, All-take}
@@ -24,7 +24,7 @@ use Rattle.spte_words.specs.declared.area.Area.TheVariants as area
 use Rattle.spte_words.specs.declared.spte_kind.SpteKind.{SpteKind}
 use Rattle.spte_words.specs.declared.spte_kind.SpteKind.TheVariants as entry_kind
 use Rattle.spte_words.specs.Areas.{pool_index}
-use Rattle.spte_words.specs.Entries.{kind_of, level_span}
+use Rattle.spte_words.specs.Entries.{kind_of, level_span, frame_in}
 use Rattle.spte_words.proofs.Spans.{span_1}
 use Rattle.part_steps.specs.declared.task.Task.{Task}
 use Rattle.mmu_core.specs.lines.AccessSteps.{access_caches, access_task, is_found}
@@ -42,6 +42,7 @@ pub use Rattle.mmu_core.proofs.slots.LiveStay.{leaf_stays, translations_stay}
 use Rattle.mmu_core.proofs.slots.LiveStays.{MakesParts}
 use Rattle.mmu_core.proofs.invariant.QuietKept.{access_sets_stay}
 use Rattle.mmu_core.proofs.slots.SlotsStay.{is_live_stays}
+use Rattle.mmu_core.proofs.words.HostFrames.{leaf_there}
 
 -- A step leaves what is cached, or flushes it.
 pub flushed_kept : (P : Translation → Type 0) (k : Kind) (c : Buffer Translation) (v : ℕ) → All P c.items → All P (flushed k c v).items
@@ -72,12 +73,12 @@ pub found_is_leaf : (k : SpteKind) (allowed : Bool) → is_found k allowed ≡ t
 found_is_leaf entry_kind.Leaf allowed is = refl
 found_is_leaf _ allowed is = absurd (cc is)
 
--- A leaf that agrees is cached before all others.
-with_leaf_kept : (pool host : ℕ → ℕ) (set gfn level leaf : ℕ) (c : Buffer Translation) → level ≡ 1 → IsLeafFor pool host set gfn leaf
-    → CachedPart pool host set c.items → CachedPart pool host set (with_leaf gfn level leaf c).items
-with_leaf_kept pool host set gfn level leaf c lowest agrees each =
-    All-take (λ (t : Translation). (t.level ≡ 1) × IsLeafFor pool host set t.gfn t.leaf) c.capacity (record { gfn = gfn; level = level; leaf = leaf } ∷ c.items)
-    (All-cons (λ (t : Translation). (t.level ≡ 1) × IsLeafFor pool host set t.gfn t.leaf) (record { gfn = gfn; level = level; leaf = leaf }) c.items (lowest, agrees) each)
+-- What holds of a new translation and of those before holds of all after it is cached.
+pub with_leaf_all : (P : Translation → Type 0) (gfn level leaf : ℕ) (c : Buffer Translation) → P (record { gfn = gfn; level = level; leaf = leaf }) → All P c.items
+    → All P (with_leaf gfn level leaf c).items
+with_leaf_all P gfn level leaf c new_ each =
+    All-take P c.capacity (record { gfn = gfn; level = level; leaf = leaf } ∷ c.items)
+    (All-cons P (record { gfn = gfn; level = level; leaf = leaf }) c.items new_ each)
 
 -- ---- a translation that is used
 
@@ -111,19 +112,26 @@ first_of : (a b : Bool) → (a && b) ≡ true → a ≡ true
 first_of true b e = refl
 first_of false b e = absurd (cc e)
 
--- The cached translation that an access uses is of the lowest level, and its leaf is that of the guest frame.
-pub used_leaf : (pool host : ℕ → ℕ) (set gfn : ℕ) (write : Bool) (ts : List Translation) (t : Translation) → CachedPart pool host set ts
-    → first_usable gfn write ts ≡ Some t → (t.level ≡ 1) × IsLeafFor pool host set gfn t.leaf
-used_leaf pool host set gfn write ts t each is =
-    let F = found_has (λ (t : Translation). (t.level ≡ 1) × IsLeafFor pool host set t.gfn t.leaf) (is_usable gfn write) ts t each is in
-    (F.0.0, subst (λ n. IsLeafFor pool host set n t.leaf) (covers_one gfn t.gfn t.level F.0.0 (first_of (covers gfn t) (allows write t) F.1)) F.0.1)
+-- What all cached translations have, the one has that an access uses.
+pub used_has : (P : Translation → Type 0) (gfn : ℕ) (write : Bool) (ts : List Translation) (t : Translation) → All P ts → first_usable gfn write ts ≡ Some t → P t
+used_has P gfn write ts t each is = (found_has P (is_usable gfn write) ts t each is).0
 
--- ---- behind a step of an access
+-- One that is of the lowest level is of the guest frame itself.
+pub used_leaf : (P : Translation → Type 0) (gfn : ℕ) (write : Bool) (ts : List Translation) (t : Translation) → All P ts → first_usable gfn write ts ≡ Some t
+    → t.level ≡ 1 → (gfn ≡ t.gfn) × P t
+used_leaf P gfn write ts t each is lowest =
+    let F = found_has P (is_usable gfn write) ts t each is in
+    (sym (covers_one gfn t.gfn t.level lowest (first_of (covers gfn t) (allows write t) F.1)), F.0)
 
--- What an access caches, where it stands so: a leaf that its walk found, before what was cached.
+-- ---- after a step of an access
+
+abbrev FitsMachine : Sizes → Translation → Type 0
+FitsMachine z t = (t.level ≡ 1) × (frame_in t.leaf < z.frames)
+
+-- What an access caches is a leaf that its walk found, before what was cached.
 pub caches_kept : (z : Sizes) (v : View) (a : ℕ) (p : AccessPlace) (gfn word : ℕ) (op : Op) → a < actors_of z → Invariant z v → TopicsInvariant z v
     → AccessKnows p gfn (is_write op) (v.hand a)
-    → CachedPart (v.words area.Pool) (v.words area.Host) (v.words area.Slots 0) (access_caches p (v.hand a) gfn op (answer_in (access_task p (v.hand a) gfn word op) v.words)).items
+    → CachedPart z (access_caches p (v.hand a) gfn op (answer_in (access_task p (v.hand a) gfn word op) v.words)).items
 caches_kept z v a (Walk again) gfn word op lt I P K =
     by (is_found (kind_of level w) (allows_access (is_write op) w)) (λ e. found_is_leaf (kind_of level w) (allows_access (is_write op) w) e)
   where
@@ -136,23 +144,20 @@ caches_kept z v a (Walk again) gfn word op lt I P K =
     w : ℕ
     w = v.words area.Pool (pool_index (table_page h.topics.walk) (entry_index gfn level))
 
-    by : (b : Bool) → (b ≡ true → kind_of level w ≡ entry_kind.Leaf)
-        → CachedPart (v.words area.Pool) (v.words area.Host) (v.words area.Slots 0) (if b then with_leaf gfn level w h.cached else h.cached).items
+    by : (b : Bool) → (b ≡ true → kind_of level w ≡ entry_kind.Leaf) → CachedPart z (if b then with_leaf gfn level w h.cached else h.cached).items
     by true leaf =
-        let found = leaf_found z v a gfn lt I P K.1 (leaf refl) in with_leaf_kept (v.words area.Pool) (v.words area.Host) (v.words area.Slots 0) gfn level w h.cached found.0 found.1 (I.cached a lt)
+        let found = leaf_found z v a gfn lt I P K.1 (leaf refl) in
+        with_leaf_all (FitsMachine z) gfn level w h.cached
+        (found.0, leaf_there z (v.words area.Slots 0) (v.words area.Role) (v.words area.Pool) (v.words area.Host) gfn w I.sizes I.set_part P.hosts found.1) (I.cached a lt)
     by false leaf = I.cached a lt
 caches_kept z v a _ gfn word op lt I P K = I.cached a lt
 
--- All that the actor has cached behind its step agrees.
+-- All that the actor has cached after its step is of the lowest level, at frames of the machine.
 pub cached_kept : (z : Sizes) (v : View) (a : ℕ) (line : Line) (p : AccessPlace) (gfn word : ℕ) (op : Op) → a < actors_of z → Invariant z v
-    → TopicsInvariant z v → AccessKnows p gfn (is_write op) (v.hand a) → MakesParts z v a p gfn
-    → CachedPart ((stepped a line (Access gfn word op) (place.Access p) v).words area.Pool) (v.words area.Host) (v.words area.Slots 0) (hand_after line (Access gfn word op) (place.Access p) (v.hand a) (answer_in (access_task p (v.hand a) gfn word op) v.words)).cached.items
-cached_kept z v a line p gfn word op lt I P K makes =
+    → TopicsInvariant z v → AccessKnows p gfn (is_write op) (v.hand a)
+    → CachedPart z (hand_after line (Access gfn word op) (place.Access p) (v.hand a) (answer_in (access_task p (v.hand a) gfn word op) v.words)).cached.items
+cached_kept z v a line p gfn word op lt I P K =
     let h : Held = v.hand a in
     let t : Task = access_task p h gfn word op in
     let x : ℕ = answer_in t v.words in
-    let after : ℕ → ℕ = (stepped a line (Access gfn word op) (place.Access p) v).words area.Pool in
-    let set : ℕ = v.words area.Slots 0 in
-    let stays = is_live_stays set (v.words area.Pool) after (access_sets_stay z v a p gfn word op makes P).pool in
-    flushed_kept (λ (y : Translation). (y.level ≡ 1) × IsLeafFor after (v.words area.Host) set y.gfn y.leaf) (kind_of_task h.state.sizes t) (access_caches p h gfn op x) x
-    (translations_stay (v.words area.Pool) set after set stays (v.words area.Host) (access_caches p h gfn op x).items (caches_kept z v a p gfn word op lt I P K))
+    flushed_kept (FitsMachine z) (kind_of_task h.state.sizes t) (access_caches p h gfn op x) x (caches_kept z v a p gfn word op lt I P K)

@@ -1,5 +1,5 @@
 -- What is so of the lines of every form: the one place where it is told by the form. A form of line writes a clause in each of these.
-use Rattle.mmu_core.specs.lines.HostKnows.{HostRests}
+use Rattle.mmu_core.specs.lines.HostKnows.{HostRests, IsMade}
 use Rattle.core_views.specs.Traces.{IsCommandFor}
 use Rattle.mmu_core.specs.lines.HostSteps.{host_part}
 use Rattle.mmu_core.proofs.lines.HostPlaces.{host_goes, host_few, some_host_left, look_goes, host_knows_prop, host_free, host_fed, host_rests_prop}
@@ -46,7 +46,7 @@ use Rattle.mmu_core.specs.lines.Rests.{IsUnderWay}
 use Rattle.mmu_core.specs.lines.SlotChangeSteps.{slot_change_part}
 use Rattle.mmu_core.proofs.lines.AccessLeft.{access_few, some_access_left}
 use Rattle.mmu_core.proofs.machine.GoesOn.{GoesToNoAccess, GoesUnderWay, IsNoAccess}
-use Rattle.mmu_core.proofs.slots.LiveStay.{StayLive, access_stays}
+use Rattle.mmu_core.proofs.slots.LiveStay.{StayLive}
 use Rattle.mmu_core.proofs.slots.LiveStays.{OwnedStays}
 use Rattle.mmu_core.proofs.slots.SlotChangePlaces.{accepts_prop, begins_at_once, slot_change_begins, slot_change_begins_known, slot_change_few, slot_change_goes, slot_change_knows_prop, slot_change_stays, change_accepts, some_change_left, slot_change_fed, slot_change_free}
 use Rattle.mmu_core.proofs.lines.AccessEnds.{AreFed, access_fed, access_free}
@@ -96,7 +96,7 @@ pub other_rests : (p : Place) (command : Command) (h : Held) → IsNoAccess p �
 other_rests (place.Access p) command h other = absurd other
 other_rests place.Between command h other = inr (record { step = part.Seq; at = refl; more = Unit {0}; more_prop = hlevel props; needs = λ R. (tt, tt); rests = λ N M. tt })
 other_rests (place.Host p) (ChangeHost page change) h other =
-    inr (record { step = host_part p page h; at = refl; more = HostRests p h; more_prop = host_rests_prop p h; needs = λ R. R; rests = λ N M. (N, M) })
+    inr (record { step = host_part p page change h; at = refl; more = HostRests p h; more_prop = host_rests_prop p h; needs = λ R. R; rests = λ N M. (N, M) })
 other_rests (place.Host p) (Access gfn word op) h other = inl (λ R. absurd R)
 other_rests (place.Host p) (SetSlot id slot) h other = inl (λ R. absurd R)
 other_rests (place.SlotChange p) command h other = by (changes_slot command) refl
@@ -108,18 +108,18 @@ other_rests (place.SlotChange p) command h other = by (changes_slot command) ref
 -- ---- how many steps it has left
 
 -- No more than its command allows.
-pub place_few : (p : Place) (command : Command) (y z : Sizes) (pool host : ℕ → ℕ) (set : ℕ) (h : Held) (t : Topics) → Holds y pool host set p command h
+pub place_few : (p : Place) (command : Command) (y z : Sizes) (pool : ℕ → ℕ) (set : ℕ) (h : Held) (t : Topics) → Holds y pool set p command h
     → AreSizes z → t.walk.level ≤ 4 → steps_left p z t ≤ most_steps z command
-place_few place.Between command y z pool host set h t holds S most = omega arith
-place_few (place.Access p) (Access gfn word op) y z pool host set h t holds S most =
+place_few place.Between command y z pool set h t holds S most = omega arith
+place_few (place.Access p) (Access gfn word op) y z pool set h t holds S most =
     let few = access_few p z t most in let pool = S.pool.1 in omega (arith, few, pool)
-place_few (place.SlotChange p) (Access gfn word op) y z pool host set h t holds S most =
+place_few (place.SlotChange p) (Access gfn word op) y z pool set h t holds S most =
     let few = slot_change_few p z t in let actors = S.actors in let pages = S.pool.1 in omega (arith, few, actors, pages)
-place_few (place.SlotChange p) command y z pool host set h t holds S most =
+place_few (place.SlotChange p) command y z pool set h t holds S most =
     let few = slot_change_few p z t in let actors = S.actors in omega (arith, few, actors)
-place_few (place.Host p) (ChangeHost page change) y z pool host set h t holds S most =
+place_few (place.Host p) (ChangeHost page change) y z pool set h t holds S most =
     let few = host_few p z t most in let actors = S.actors in omega (arith, few, actors)
-place_few _ _ y z pool host set h t holds S most = absurd holds
+place_few _ _ y z pool set h t holds S most = absurd holds
 
 -- A slot line makes no more than an access.
 pub most_small : (z : Sizes) (command : Command) → most_steps z command ≤ 8192 + z.pool + z.frames
@@ -138,7 +138,7 @@ some_left (place.Host p) z t under = some_host_left p z t
 -- Its first step doesn't wait, and is no end of a fault that begins anew.
 pub first_goes : (z : Sizes) (slots : MemorySlots) (command : Command) (h : Held) (v : ℕ) → line_waits (first_place z slots command) command h v ≡ true → ⊥
 first_goes z slots (Access gfn word op) h v is = cc is
-first_goes z slots (ChangeHost page change) h v is = let goes = look_goes page h v in cc (is, goes)
+first_goes z slots (ChangeHost page change) h v is = let goes = look_goes page change h v in cc (is, goes)
 first_goes z slots command h v is = begins_at_once (change_refusal z command slots) command h v is
 
 pub first_no_end : (z : Sizes) (slots : MemorySlots) (command : Command) → begins_anew (first_place z slots command) ≡ true → ⊥
@@ -146,21 +146,21 @@ first_no_end z slots (Access gfn word op) is = cc is
 first_no_end z slots (ChangeHost page change) is = cc is
 first_no_end z slots _ is = cc is
 
--- A host thread allows writes to a page, and makes no other change yet.
-only_allows : (z : Sizes) (actor : Actor) (page : ℕ) (change : HostChange) → IsCommandFor z actor (ChangeHost page change) → change ≡ Allow
-only_allows z (actors.Host n) page Allow may = refl
-only_allows z (actors.Host n) page Move may = absurd may
-only_allows z (actors.Host n) page Evict may = absurd may
-only_allows z (actors.Host n) page Protect may = absurd may
-only_allows z (actors.Vcpu n) page change may = absurd may
-only_allows z actors.Manager page change may = absurd may
-only_allows z (actors.Worker n) page change may = absurd may
+-- A host thread makes the changes that lines make.
+only_made : (z : Sizes) (actor : Actor) (page : ℕ) (change : HostChange) → IsCommandFor z actor (ChangeHost page change) → IsMade change
+only_made z (actors.Host n) page Allow may = tt
+only_made z (actors.Host n) page Protect may = tt
+only_made z (actors.Host n) page Move may = absurd may
+only_made z (actors.Host n) page Evict may = absurd may
+only_made z (actors.Vcpu n) page change may = absurd may
+only_made z actors.Manager page change may = absurd may
+only_made z (actors.Worker n) page change may = absurd may
 
 -- Its actor, which was at rest, knows what its first place asks.
 pub first_known : (z : Sizes) (command : Command) (h : Held) (y : Sizes) (actor : Actor) → IsCommandFor y actor command → IsAtRest h.topics
     → KnowsPart (first_place z h.slots command) command h
 first_known z (Access gfn word op) h y actor may R = R
-first_known z (ChangeHost page change) h y actor may R = (only_allows y actor page change may, R)
+first_known z (ChangeHost page change) h y actor may R = (only_made y actor page change may, R)
 first_known z command h y actor may R = (refl, slot_change_begins_known (change_refusal z command h.slots) h R)
 
 -- Alone, it knows what its first place asks of the words.
@@ -191,26 +191,26 @@ other_knows (place.Host p) gfn word op h other begun K = absurd K
 -- ---- what a line has loaded or stored
 
 -- Where it begins: nothing.
-pub first_holds : (z : Sizes) (pool host : ℕ → ℕ) (set : ℕ) (command : Command) (h : Held) → Holds z pool host set (first_place z h.slots command) command h
-first_holds z pool host set (Access gfn word op) h = tt
-first_holds z pool host set (ChangeHost page change) h = tt
-first_holds z pool host set command h = slot_change_begins z pool host set command h (change_refusal z command h.slots) refl
+pub first_holds : (z : Sizes) (pool : ℕ → ℕ) (set : ℕ) (command : Command) (h : Held) → Holds z pool set (first_place z h.slots command) command h
+first_holds z pool set (Access gfn word op) h = tt
+first_holds z pool set (ChangeHost page change) h = tt
+first_holds z pool set command h = slot_change_begins z pool set command h (change_refusal z command h.slots) refl
 
 -- It stays, where live slots and the words of the line's own page do.
-module _ (z : Sizes) (before : ℕ → ℕ) (set : ℕ) (after : ℕ → ℕ) (other : ℕ) (host : ℕ → ℕ) (h : Held) (stay : StayLive before set after other) (own : OwnedStays before after h) where
-  pub loads_stay : (p : Place) (command : Command) → Holds z before host set p command h → Holds z after host other p command h
+module _ (z : Sizes) (before : ℕ → ℕ) (set : ℕ) (after : ℕ → ℕ) (other : ℕ) (h : Held) (stay : StayLive before set after other) (own : OwnedStays before after h) where
+  pub loads_stay : (p : Place) (command : Command) → Holds z before set p command h → Holds z after other p command h
   loads_stay place.Between command e = tt
-  loads_stay (place.Access p) (Access gfn word op) e = access_stays before set after other stay host p gfn h e
+  loads_stay (place.Access p) (Access gfn word op) e = tt
   loads_stay (place.SlotChange p) command e = slot_change_stays z before after h own p command e
   loads_stay (place.Host p) (ChangeHost page change) e = tt
   loads_stay _ _ e = absurd e
 
 -- ---- what the manager's record accepts
 
-pub accepts_at : (p : Place) (command : Command) (z : Sizes) (pool host : ℕ → ℕ) (set : ℕ) (h : Held) → Holds z pool host set p command h
+pub accepts_at : (p : Place) (command : Command) (z : Sizes) (pool : ℕ → ℕ) (set : ℕ) (h : Held) → Holds z pool set p command h
     → AcceptsAt p command z h.slots
-accepts_at (place.SlotChange p) command z pool host set h e = change_accepts p command z pool h e
-accepts_at _ _ z pool host set h e = tt
+accepts_at (place.SlotChange p) command z pool set h e = change_accepts p command z pool h e
+accepts_at _ _ z pool set h e = tt
 
 pub accepts_at_prop : (p : Place) (command : Command) (z : Sizes) (slots : MemorySlots) → IsProp (AcceptsAt p command z slots)
 accepts_at_prop (place.SlotChange p) command z slots = accepts_prop p z command slots
@@ -222,12 +222,12 @@ accepts_at_prop _ _ z slots = hlevel props
 pub ends_free : (p : Place) (command : Command) (h : Held) (v : ℕ) (answer : Answer) → RestsAt p command h → outcome_at p command h v ≡ Ends answer → line_waits p command h v ≡ false
 ends_free (place.Access p) (Access gfn word op) h v answer R e = access_free p h gfn op v answer e
 ends_free (place.SlotChange p) command h v answer R e = slot_change_free p h command v answer e
-ends_free (place.Host p) (ChangeHost page change) h v answer R e = host_free p page h v answer R.1 e
+ends_free (place.Host p) (ChangeHost page change) h v answer R e = host_free p page change h v answer R.1 e
 ends_free _ _ h v answer R e = absurd (cc e)
 
 -- It tells an exit for want of a page only where it is answered so.
 pub tells_fed : (p : Place) (command : Command) (h : Held) (v : ℕ) → outcome_at p command h v ≢ Ends Starved → AreFed (tells_at p command h v)
 tells_fed (place.Access p) (Access gfn word op) h v other = access_fed p h gfn word op v other
 tells_fed (place.SlotChange p) command h v other = slot_change_fed p h command v other
-tells_fed (place.Host p) (ChangeHost page change) h v other = host_fed p page h v
+tells_fed (place.Host p) (ChangeHost page change) h v other = host_fed p page change h v
 tells_fed _ _ h v other = tt

@@ -22,14 +22,14 @@ use Rattle.mmu_core.proofs.lines.EitherPlace.{either_place}
 use Rattle.mmu_core.proofs.lines.FaultScans.{maps}
 use Rattle.mmu_core.proofs.lines.LineClaims.{Claims, ClaimsNot, to_no_scan}
 
-host_maps_not : (p : HostPlace) (page : ℕ) (h : Held) → maps (host_part p page h) ≡ false
-host_maps_not Look page h = either_place (λ s. maps s ≡ false) (is_own h.state.sizes h.state.actor page) (part.Host page) part.Seq refl refl
-host_maps_not (Begin (begins.Find begun)) page h = either_place (λ s. maps s ≡ false) begun part.Slot part.Slots refl refl
-host_maps_not (Begin (begins.Walk rooted)) page h = either_place (λ s. maps s ≡ false) rooted (part.Walk _) part.Root refl refl
-host_maps_not (Begin _) page h = refl
-host_maps_not Change page h = refl
-host_maps_not (End ends.Exclude) page h = refl
-host_maps_not (End _) page h = refl
+host_maps_not : (p : HostPlace) (page : ℕ) (change : HostChange) (h : Held) → maps (host_part p page change h) ≡ false
+host_maps_not Look page change h = either_place (λ s. maps s ≡ false) (is_own h.state.sizes h.state.actor page) (part.Host page) part.Seq refl refl
+host_maps_not (Begin (begins.Find begun)) page change h = either_place (λ s. maps s ≡ false) begun part.Slot part.Slots refl refl
+host_maps_not (Begin (begins.Walk rooted)) page change h = either_place (λ s. maps s ≡ false) rooted (part.Walk _) part.Root refl refl
+host_maps_not (Begin _) page change h = refl
+host_maps_not Change page change h = refl
+host_maps_not (End ends.Exclude) page change h = refl
+host_maps_not (End _) page change h = refl
 
 note_by_own : (b : Bool) → (if b then 0 else 1) ≡ ends_with (if b then Goes (place.Host (Begin begins.Exclude)) else Ends (Refused OutOfRange))
 note_by_own true = refl
@@ -55,4 +55,4 @@ pub host_claims_not : (page : ℕ) (change : HostChange) (h : Held) (v : ℕ) (p
     → Claims (place.Host p) (ChangeHost page change) h v ⊎ ClaimsNot (place.Host p) (ChangeHost page change) h v
 host_claims_not page change h v p =
     let none = scans_none p page h v in
-    to_no_scan (place.Host p) (ChangeHost page change) h v refl (host_maps_not p page h) (host_notes p page h v) none.0 none.1
+    to_no_scan (place.Host p) (ChangeHost page change) h v refl (host_maps_not p page change h) (host_notes p page h v) none.0 none.1

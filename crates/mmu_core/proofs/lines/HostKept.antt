@@ -5,7 +5,7 @@ use Rattle.mmu_core.specs.declared.outcome.Outcome.TheVariants.{Goes, Ends}
 use Rattle.mmu_core.proofs.slots.SlotsStay.{AllKnow}
 use Rattle.mmu_core.proofs.machine.Stepping.{IsStep}
 use Rattle.mmu_core.specs.machine.Outcomes.{place_after}
-use Rattle.std.proofs.Common.{◌≡◌, ℕ, Bool, false, refl}
+use Rattle.std.proofs.Common.{◌≡◌, ℕ, Bool, false, refl, true}
 use Rattle.std.specs.Prelude.{if◌then◌else◌}
 use Rattle.core_views.specs.declared.place.BeginPlace.TheVariants as begins
 use Rattle.core_views.specs.declared.place.EndPlace.TheVariants as ends
@@ -35,52 +35,68 @@ use Rattle.mmu_core.proofs.lines.HostKnown.{host_known, host_leaves, host_needs}
 use Rattle.mmu_core.proofs.lines.KnowsKept.{KnowsAfter, step_knows, step_leaves}
 use Rattle.mmu_core.proofs.lines.StepTopics.{knows_by}
 use Rattle.mmu_core.proofs.invariant.PartBounded.{part_rests_at}
-use Rattle.mmu_core.proofs.machine.PartStepping.{is_publish}
+use Rattle.mmu_core.proofs.machine.PartStepping.{is_publish, changes_word}
+use Rattle.spte_words.specs.declared.area.Area.TheVariants as area
 
 -- It publishes nothing.
 begin_never : (begun : Bool) (p q : PartStep) → is_publish p ≡ false → is_publish q ≡ false → is_publish (if begun then p else q) ≡ false
 begin_never begun p q one other = either_place (λ s. is_publish s ≡ false) begun p q one other
 
-pub host_never : (p : HostPlace) (page : ℕ) (h : Held) → is_publish (host_part p page h) ≡ false
-host_never Look page h = begin_never (is_own h.state.sizes h.state.actor page) (part.Host page) part.Seq refl refl
-host_never (Begin (begins.Find begun)) page h = begin_never begun part.Slot part.Slots refl refl
-host_never (Begin (begins.Walk rooted)) page h = begin_never rooted (part.Walk _) part.Root refl refl
-host_never (Begin _) page h = refl
-host_never Change page h = refl
-host_never (End ends.Exclude) page h = refl
-host_never (End _) page h = refl
+pub host_never : (p : HostPlace) (page : ℕ) (change : HostChange) (h : Held) → is_publish (host_part p page change h) ≡ false
+host_never Look page change h = begin_never (is_own h.state.sizes h.state.actor page) (part.Host page) part.Seq refl refl
+host_never (Begin (begins.Find begun)) page change h = begin_never begun part.Slot part.Slots refl refl
+host_never (Begin (begins.Walk rooted)) page change h = begin_never rooted (part.Walk _) part.Root refl refl
+host_never (Begin _) page change h = refl
+host_never Change page change h = refl
+host_never (End ends.Exclude) page change h = refl
+host_never (End _) page change h = refl
+
+-- And but for its change it changes no host word.
+abbrev pub is_change : HostPlace → Bool
+is_change Change = true
+is_change _ = false
+
+pub host_quiet : (p : HostPlace) (page : ℕ) (change : HostChange) (h : Held) → is_change p ≡ false → changes_word (host_part p page change h) ≡ false
+host_quiet Look page change h other =
+    either_place (λ s. changes_word s ≡ false) (is_own h.state.sizes h.state.actor page) (part.Host page) part.Seq refl refl
+host_quiet (Begin (begins.Find begun)) page change h other = either_place (λ s. changes_word s ≡ false) begun part.Slot part.Slots refl refl
+host_quiet (Begin (begins.Walk rooted)) page change h other = either_place (λ s. changes_word s ≡ false) rooted (part.Walk _) part.Root refl refl
+host_quiet (Begin _) page change h other = refl
+host_quiet Change page change h other = absurd (cc other)
+host_quiet (End ends.Exclude) page change h other = refl
+host_quiet (End _) page change h other = refl
 
 -- It has loaded nothing that its places speak of.
-host_holds : (p : HostPlace) (page : ℕ) (change : HostChange) (h g : Held) (x : ℕ) (z : Sizes) (pool host : ℕ → ℕ) (set : ℕ)
-    → Holds z pool host set (place_after (host_outcome p page h x)) (ChangeHost page change) g
-host_holds Look page change h g x z pool host set =
-    either_place (λ o. Holds z pool host set (place_after o) (ChangeHost page change) g) (is_own h.state.sizes h.state.actor page) (Goes (place.Host (Begin begins.Exclude))) (Ends (Refused OutOfRange)) tt tt
-host_holds (End ends.Release) page change h g x z pool host set = tt
-host_holds (End _) page change h g x z pool host set = tt
-host_holds _ page change h g x z pool host set = tt
+host_holds : (p : HostPlace) (page : ℕ) (change : HostChange) (h g : Held) (x : ℕ) (z : Sizes) (pool : ℕ → ℕ) (set : ℕ)
+    → Holds z pool set (place_after (host_outcome p page h x)) (ChangeHost page change) g
+host_holds Look page change h g x z pool set =
+    either_place (λ o. Holds z pool set (place_after o) (ChangeHost page change) g) (is_own h.state.sizes h.state.actor page) (Goes (place.Host (Begin begins.Exclude))) (Ends (Refused OutOfRange)) tt tt
+host_holds (End ends.Release) page change h g x z pool set = tt
+host_holds (End _) page change h g x z pool set = tt
+host_holds _ page change h g x z pool set = tt
 
 pub host_kept : (z : Sizes) (v : View) (a : ℕ) (line : Line) (p : HostPlace) (page : ℕ) (change : HostChange)
     → IsStep z v a line (ChangeHost page change) (place.Host p) → Invariant z v → TopicsInvariant z v → MakesAt z v a (place.Host p) (ChangeHost page change)
     → AllKnow z (stepped a line (ChangeHost page change) (place.Host p) v).hand → Invariant z (stepped a line (ChangeHost page change) (place.Host p) v)
 host_kept z v a line p page change S I P makes knows =
     let h : Held = v.hand a in
-    let x : ℕ = answer_in (part_task (host_part p page h) (own_index h) h.topics (host_note p page h)) v.words in
+    let x : ℕ = answer_in (part_task (host_part p page change h) (own_index h) h.topics (host_note p page h)) v.words in
     let K = step_knows z v a line (ChangeHost page change) (place.Host p) S I in
     let R = part_rests_at z v a I P S.there in
-    let A = parts_answer (host_part p page h) (own_index h) h.topics (host_note p page h) v.words in
-    quiet_hand z v a line (ChangeHost page change) (place.Host p) S I P makes (host_needs p h page R K.1) (record {
-      never = one_step (λ s. is_publish s ≡ false) (host_part p page h) (host_never p page h);
+    let A = parts_answer (host_part p page change h) (own_index h) h.topics (host_note p page h) v.words in
+    quiet_hand z v a line (ChangeHost page change) (place.Host p) S I P makes (host_needs p h page change R K.0 K.1) (record {
+      never = one_step (λ s. is_publish s ≡ false) (host_part p page change h) (host_never p page change h);
       same = refl;
       caches = refl;
       counts = λ may. absurd (cc may);
       leaves = host_leaves line h page change h.cached x K.0 p R K.1 (step_leaves z v a line (ChangeHost page change) (place.Host p) S I) A;
-      holds = λ cached. host_holds p page change h _ x z _ _ _;
+      holds = λ cached. host_holds p page change h _ x z _ (v.words area.Slots 0);
     }) knows
 
 pub own_host : (p : HostPlace) (line : Line) (h : Held) (page : ℕ) (change : HostChange) (words : Area → ℕ → ℕ) → PartRests h
     → KnowsPart (place.Host p) (ChangeHost page change) h → LeavesPart (place.Host p) h.topics
-    → KnowsAfter line (ChangeHost page change) (place.Host p) h (answer_in (part_task (host_part p page h) (own_index h) h.topics (host_note p page h)) words)
+    → KnowsAfter line (ChangeHost page change) (place.Host p) h (answer_in (part_task (host_part p page change h) (own_index h) h.topics (host_note p page h)) words)
 own_host p line h page change words R K left =
-    let v : ℕ = answer_in (part_task (host_part p page h) (own_index h) h.topics (host_note p page h)) words in
-    let A = parts_answer (host_part p page h) (own_index h) h.topics (host_note p page h) words in
-    knows_by (place.Host p) line (ChangeHost page change) h v (host_needs p h page R K.1) (λ cached. host_known line h page change cached v K.0 p R K.1 left.opens A)
+    let v : ℕ = answer_in (part_task (host_part p page change h) (own_index h) h.topics (host_note p page h)) words in
+    let A = parts_answer (host_part p page change h) (own_index h) h.topics (host_note p page h) words in
+    knows_by (place.Host p) line (ChangeHost page change) h v (host_needs p h page change R K.0 K.1) (λ cached. host_known line h page change cached v K.0 p R K.1 left.opens A)

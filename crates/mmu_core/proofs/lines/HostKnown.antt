@@ -4,8 +4,8 @@ use Rattle.core_views.specs.declared.answer.Answer.TheVariants.{Refused}
 use Rattle.core_views.specs.declared.answer.Refusal.TheVariants.{OutOfRange}
 use Rattle.mmu_core.specs.declared.outcome.Outcome.TheVariants.{Goes, Ends}
 use Rattle.mmu_core.specs.declared.invalidate.BeginNext.TheVariants.{Goes}
-use Rattle.std.proofs.Common.{◌≡◌, ◌+◌, ◌<◌, ◌≤◌, ℕ, Bool, true, false, refl, subst, ap, ◌∙◌, arith, Option, is_some, None, sym}
-use Rattle.std.specs.Prelude.{◌==◌, ◌&&◌, if◌then◌else◌, nat_lt, Some, slice_get, unwrap_or}
+use Rattle.std.proofs.Common.{◌≡◌, ◌+◌, ◌<◌, ◌≤◌, ℕ, Bool, true, false, refl, subst, ap, ◌∙◌, arith, Option, is_some, None, sym, eq-eqb}
+use Rattle.std.specs.Prelude.{◌==◌, ◌&&◌, if◌then◌else◌, nat_lt, Some, slice_get, unwrap_or, ◌||◌}
 use Rattle.circular_buffer.specs.Buffer.{Buffer}
 use Rattle.core_views.specs.declared.actor.Actor.{Actor}
 use Rattle.core_views.specs.declared.actor.Actor.TheVariants.{Host}
@@ -22,7 +22,7 @@ use Rattle.core_views.specs.declared.topics.Checked.{Checked}
 use Rattle.core_views.specs.declared.topics.Topics.{Topics}
 use Rattle.core_views.specs.declared.trace.Command.TheVariants.{ChangeHost}
 use Rattle.core_views.specs.declared.trace.HostChange.{HostChange}
-use Rattle.core_views.specs.declared.trace.HostChange.TheVariants.{Allow}
+use Rattle.core_views.specs.declared.trace.HostChange.TheVariants.{Allow, Evict, Move, Protect}
 use Rattle.core_views.specs.declared.trace.Line.{Line}
 use Rattle.core_views.specs.Held.{Held}
 use Rattle.core_views.specs.HostChanges.{is_own}
@@ -38,8 +38,8 @@ use Rattle.mmu_core.specs.declared.invalidate.EndNext.{EndNext}
 use Rattle.mmu_core.specs.declared.invalidate.EndNext.TheVariants as ends_next
 use Rattle.mmu_core.specs.lines.FaultLaws.{CanAnswer}
 use Rattle.mmu_core.specs.lines.Forms.{KnowsPart, LeavesPart, may_open}
-use Rattle.mmu_core.specs.lines.HostKnows.{HostKnows, HostRests, LooksAt}
-use Rattle.mmu_core.specs.lines.HostSteps.{after_begin, after_end, host_outcome, host_part, word_put}
+use Rattle.mmu_core.specs.lines.HostKnows.{HostKnows, HostRests, LooksAt, IsMade}
+use Rattle.mmu_core.specs.lines.HostSteps.{after_begin, after_end, host_outcome, host_part, word_put, revised}
 use Rattle.mmu_core.specs.lines.InvalidateKnows.{BeginKnows, EndKnows, IsOpen}
 use Rattle.mmu_core.specs.lines.InvalidateSteps.{begin_next, begin_part, end_next, end_part, is_counted}
 use Rattle.mmu_core.specs.lines.PartWaits.{own_open, was_counted}
@@ -53,6 +53,8 @@ use Rattle.mmu_core.proofs.lines.LockHeld.{rests_by_seq}
 use Rattle.mmu_core.proofs.machine.HandWith.{hand_with}
 use Rattle.core_views.specs.declared.topics.Hold.TheVariants.{Loose}
 use Rattle.part_steps.specs.StayTopics.{is_alone}
+use Rattle.part_steps.specs.InvalidationHoldings.{revises}
+use Rattle.spte_words.specs.HostWords.{with_writes}
 
 -- ---- what each step needs
 
@@ -79,11 +81,23 @@ ends_rest : (p : EndPlace) (h : Held) → EndKnows p h.topics → HostRests (End
 ends_rest ends.Release h K = ap (λ (c : Checked). was_counted c && nat_lt (own_open h.topics.invalidations) h.topics.invalidations.count) K.1
 ends_rest _ h K = tt
 
-pub host_needs : (p : HostPlace) (h : Held) (page : ℕ) → PartRests h → HostKnows p page h → PartNeeds (host_part p page h) h × HostRests p h
-host_needs Look h page R K =
+-- The word that a change puts allows writes to the page, or forbids them.
+revises_it : (change : HostChange) (word : ℕ) → IsMade change → revises word (revised change word) ≡ true
+revises_it Allow word made = ap (λ (b : Bool). b || (with_writes true word == with_writes false word)) (eq-eqb (with_writes true word) (with_writes true word) refl)
+revises_it Protect word made = or_same (with_writes false word == with_writes true word) (eq-eqb (with_writes false word) (with_writes false word) refl)
+  where
+    or_same : {b : Bool} (a : Bool) → b ≡ true → (a || b) ≡ true
+    or_same true is = refl
+    or_same false is = is
+revises_it Move word made = absurd made
+revises_it Evict word made = absurd made
+
+pub host_needs : (p : HostPlace) (h : Held) (page : ℕ) (change : HostChange) → PartRests h → IsMade change → HostKnows p page h
+    → PartNeeds (host_part p page change h) h × HostRests p h
+host_needs Look h page change R made K =
     (look_needs (is_own h.state.sizes h.state.actor page) page h (λ e. own_low h.state.sizes h.state.actor page R.sizes e) K.loose, tt)
-host_needs (Begin p) h page R K = (begin_needs p h page R K.0.at K.1, tt)
-host_needs Change h page R K = (
+host_needs (Begin p) h page change R made K = (begin_needs p h page R K.0.at K.1, tt)
+host_needs Change h page change R made K = (
   (
     record {
       looked = K.0.looked;
@@ -94,15 +108,15 @@ host_needs Change h page R K = (
       asked = K.1.asked;
       awaited = K.1.awaited;
     },
-    refl,
+    revises_it change (word_looked h.topics.host) made,
   ),
   tt,
 )
-host_needs (End p) h page R K = (end_needs p h K, ends_rest p h K)
+host_needs (End p) h page change R made K = (end_needs p h K, ends_rest p h K)
 
 -- ---- what is known after each step
 
-module _ (line : Line) (h : Held) (page : ℕ) (change : HostChange) (cached : Buffer Translation) (v : ℕ) (allows : change ≡ Allow) where
+module _ (line : Line) (h : Held) (page : ℕ) (change : HostChange) (cached : Buffer Translation) (v : ℕ) (allows : IsMade change) where
   -- the hand after the step of a place, with these topics
   abbrev behind : HostPlace → Topics → Held
   behind p t = hand_with line (ChangeHost page change) (place.Host p) h t cached v
@@ -140,14 +154,14 @@ module _ (line : Line) (h : Held) (page : ℕ) (change : HostChange) (cached : B
   host_stays _ = refl
 
   pub host_known : (p : HostPlace) → PartRests h → HostKnows p page h → (may_open (place.Host p) ≡ false → h.topics.invalidations.opened ≡ false)
-      → CanAnswer (host_part p page h) v
-      → KnowsBehind (host_outcome p page h v) (ChangeHost page change) (behind p (part_topics (host_part p page h) h.topics v))
+      → CanAnswer (host_part p page change h) v
+      → KnowsBehind (host_outcome p page h v) (ChangeHost page change) (behind p (part_topics (host_part p page change h) h.topics v))
   host_known Look R K closed A = look_known (is_own h.state.sizes h.state.actor page) refl K (closed refl)
   host_known (Begin p) R K closed A =
       begin_comes p (begin_next p h.state.sizes page h.topics v) (part_topics (begin_part p page h.topics) h.topics v) (host_stays p) K.0
       (begin_known p h.state.sizes page h.topics v R.sizes K.0.at R.flags R.frames R.level K.1 A)
   host_known Change R K closed A =
-      let opened : IsOpen (part_topics (part.Change (word_put h.topics)) h.topics v) = record {
+      let opened : IsOpen (part_topics (part.Change (word_put change h.topics)) h.topics v) = record {
         rests = record {
           outside = K.1.opened.rests.outside;
           loose = K.1.opened.rests.loose;
@@ -158,7 +172,7 @@ module _ (line : Line) (h : Held) (page : ℕ) (change : HostChange) (cached : B
         opened = K.1.opened.opened;
         unraised = K.1.opened.unraised;
       } in
-      either_place (λ q. Knows q (behind Change (part_topics (part.Change (word_put h.topics)) h.topics v))) (v == word_looked h.topics.host) (End ends.Exclude) Change
+      either_place (λ q. Knows q (behind Change (part_topics (part.Change (word_put change h.topics)) h.topics v))) (v == word_looked h.topics.host) (End ends.Exclude) Change
       (allows, opened)
       (allows, (record { own_ = K.0.own_; looked = refl; at = K.0.at }, record { opened = opened; invalid = K.1.invalid; asked = K.1.asked; awaited = K.1.awaited }))
   host_known (End p) R K closed A = end_comes p (end_next p v) (part_topics (end_part p h.topics) h.topics v) (ending_known p h.topics v K A)
@@ -200,14 +214,14 @@ module _ (line : Line) (h : Held) (page : ℕ) (change : HostChange) (cached : B
   look_leaves true none closed = record { leaves = λ may. none; opens = λ may. closed }
   look_leaves false none closed = record { leaves = λ may. none; opens = λ may. closed }
 
-  pub host_leaves : (p : HostPlace) → PartRests h → HostKnows p page h → LeavesPart (place.Host p) h.topics → CanAnswer (host_part p page h) v
-      → LeavesPart (place_after (host_outcome p page h v)) (part_topics (host_part p page h) h.topics v)
+  pub host_leaves : (p : HostPlace) → PartRests h → HostKnows p page h → LeavesPart (place.Host p) h.topics → CanAnswer (host_part p page change h) v
+      → LeavesPart (place_after (host_outcome p page h v)) (part_topics (host_part p page change h) h.topics v)
   host_leaves Look R K left A = look_leaves (is_own h.state.sizes h.state.actor page) (left.leaves refl) (left.opens refl)
   host_leaves (Begin p) R K left A =
       begin_leaves (begin_next p h.state.sizes page h.topics v) h.state.sizes _ (begin_keeps p ∙ left.leaves refl)
       (begin_known p h.state.sizes page h.topics v R.sizes K.0.at R.flags R.frames R.level K.1 A)
   host_leaves Change R K left A =
-      either_place (λ q. LeavesPart (place.Host q) (part_topics (part.Change (word_put h.topics)) h.topics v)) (v == word_looked h.topics.host) (End ends.Exclude) Change
+      either_place (λ q. LeavesPart (place.Host q) (part_topics (part.Change (word_put change h.topics)) h.topics v)) (v == word_looked h.topics.host) (End ends.Exclude) Change
       (record { leaves = λ may. left.leaves refl; opens = λ may. absurd (cc may) })
       (record { leaves = λ may. left.leaves refl; opens = λ may. absurd (cc may) })
   host_leaves (End p) R K left A = end_leaves (end_next p v) _ (end_keeps p ∙ left.leaves refl) (ending_known p h.topics v K A)

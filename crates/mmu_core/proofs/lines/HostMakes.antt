@@ -1,7 +1,6 @@
 -- A line that changes a host page makes at each place a step of a part that its actor may make.
 use Rattle.core_views.specs.Sizes.{actors_of}
-use Rattle.spte_words.proofs.ReadsHost.{host_has_frame, host_is_present, host_has_level}
-use Rattle.std.proofs.Common.{◌≡◌, ◌<◌, ℕ, Bool, true, refl, sym, ap, ◌∙◌, arith}
+use Rattle.std.proofs.Common.{◌≡◌, ◌<◌, ℕ, true, refl, sym, ap, ◌∙◌}
 use Rattle.std.specs.Prelude.{Option, Some, None, is_some}
 use Rattle.core_views.specs.declared.place.BeginPlace.TheVariants as begins
 use Rattle.core_views.specs.declared.place.EndPlace.TheVariants as ends
@@ -10,19 +9,16 @@ use Rattle.core_views.specs.declared.place.HostPlace.TheVariants.{Look, Begin, C
 use Rattle.core_views.specs.declared.place.Place.TheVariants as place
 use Rattle.core_views.specs.declared.sizes.Sizes.{Sizes}
 use Rattle.core_views.specs.declared.topics.HostLook.{HostLook}
-use Rattle.core_views.specs.declared.topics.Topics.{Topics}
 use Rattle.core_views.specs.declared.trace.Command.TheVariants.{ChangeHost}
 use Rattle.core_views.specs.declared.trace.HostChange.{HostChange}
 use Rattle.core_views.specs.declared.trace.Line.{Line}
 use Rattle.core_views.specs.HostChanges.{is_own}
 use Rattle.spte_words.specs.declared.area.Area.TheVariants as area
-use Rattle.spte_words.specs.HostWords.{host_word, with_writes_allowed, host_present, host_level}
 use Rattle.part_steps.specs.declared.part_step.PartStep.{PartStep}
 use Rattle.part_steps.specs.declared.part_step.PartStep.TheVariants as part
-use Rattle.part_steps.specs.PartTasks.{word_looked}
-use Rattle.mmu_core.specs.invariant.HostWordsPart.{HostWordsPart}
+use Rattle.part_steps.specs.PartTasks.{page_looked, word_looked}
+use Rattle.mmu_core.specs.invariant.HostWordsPart.{owns_page}
 use Rattle.mmu_core.specs.invariant.Invariant.{Invariant}
-use Rattle.mmu_core.specs.invariant.SearchPart.{LookPart}
 use Rattle.mmu_core.specs.invariant.TopicsInvariant.{TopicsInvariant}
 use Rattle.mmu_core.specs.lines.HostKnows.{HostKnows}
 use Rattle.mmu_core.specs.lines.HostSteps.{host_part, word_put}
@@ -38,49 +34,45 @@ use Rattle.mmu_core.proofs.machine.Stepping.{IsStep}
 use Rattle.mmu_core.specs.invariant.SlotSetPart.{SlotSetPart}
 use Rattle.core_views.specs.Slots.{has_host_page}
 use Rattle.part_steps.specs.SlotWords.{slot_at}
-
--- The host word of a page that was looked up allows writes already.
-allowed_is : (p : ℕ) → with_writes_allowed (host_word p true true 1) ≡ host_word p true true 1
-allowed_is p =
-    ap (λ (frame : ℕ). host_word frame (host_present (host_word p true true 1)) true (host_level (host_word p true true 1))) (host_has_frame p true true 1 (omega arith))
-    ∙ (ap (λ (b : Bool). host_word p b true (host_level (host_word p true true 1))) (host_is_present p true true 1)
-    ∙ ap (λ (level : ℕ). host_word p true true level) (host_has_level p true true 1 (omega arith)))
-
-pub put_is : (z : Sizes) (seq : ℕ) (host : ℕ → ℕ) (t : Topics) → HostWordsPart z host → LookPart z seq host t → is_some t.host ≡ true → word_put t ≡ word_looked t.host
-put_is z seq host t W L looked = by t.host L.there L.is looked
-  where
-    by : (o : Option HostLook) → ((look : HostLook) → o ≡ Some look → look.page < z.pages) → ((look : HostLook) → o ≡ Some look → look.word ≡ host look.page)
-        → is_some o ≡ true → with_writes_allowed (word_looked o) ≡ word_looked o
-    by None there is some = absurd (cc some)
-    by (Some look) there is some =
-        let word : look.word ≡ host_word look.page true true 1 = is look refl ∙ W look.page (there look refl) in
-        ap with_writes_allowed word ∙ (allowed_is look.page ∙ sym word)
+use Rattle.mmu_core.proofs.held.OwnPages.{changes_own}
 
 -- No two slots that are published share a host page.
 slots_apart : (z : Sizes) (set : ℕ) (role pool : ℕ → ℕ) → SlotSetPart z set role pool → AreApart pool set
 slots_apart z set role pool P page i j slot other live also has too =
-    let same : i ≡ j = P.host_apart page i j live.low also.low live.live also.live (ap (has_host_page page) live.is ∙ has) (ap (has_host_page page) also.is ∙ too) in
+    let same : i ≡ j =
+    P.host_apart page i j live.low also.low live.live also.live (ap (has_host_page page) live.is ∙ has) (ap (has_host_page page) also.is ∙ too) in
     sym live.is ∙ ap (slot_at pool set) same ∙ also.is
 
-module _ (z : Sizes) (v : View) (a : ℕ) (page : ℕ) where
+module _ (z : Sizes) (v : View) (a : ℕ) (page : ℕ) (change : HostChange) where
   abbrev Says : PartStep → Type 0
   Says step = Replaces step (v.words area.Pool) (v.words area.Slots 0) (v.hand a).topics
 
-  host_says : (p : HostPlace) → AreSmall v → Invariant z v → TopicsInvariant z v → a < actors_of z → HostKnows p page (v.hand a) → Says (host_part p page (v.hand a))
+  host_says : (p : HostPlace) → AreSmall v → Invariant z v → TopicsInvariant z v → a < actors_of z → HostKnows p page (v.hand a)
+      → Says (host_part p page change (v.hand a))
   host_says Look small I P there K = either_place Says (is_own (v.hand a).state.sizes (v.hand a).state.actor page) (part.Host page) part.Seq tt tt
   host_says (Begin (begins.Find begun)) small I P there K = either_place Says begun part.Slot part.Slots tt tt
   host_says (Begin (begins.Walk rooted)) small I P there K = either_place Says rooted (part.Walk _) part.Root tt tt
   host_says (Begin begins.SetCount) small I P there K = slots_apart z (v.words area.Slots 0) (v.words area.Role) (v.words area.Pool) I.set_part
   host_says (Begin _) small I P there K = tt
-  host_says Change small I P there K = put_is z (v.words area.Seq 0) (v.words area.Host) (v.hand a).topics I.hosts (P.looks a there) K.0.looked
   host_says (End ends.SetCount) small I P there K = slots_apart z (v.words area.Slots 0) (v.words area.Role) (v.words area.Pool) I.set_part
   host_says (End ends.SetSeq) small I P there K = few_raised z v a small P there K.0.alone.alone K.1
   host_says (End ends.Exclude) small I P there K = tt
   host_says (End _) small I P there K = tt
+  host_says Change small I P there K = tt
 
 pub makes_host : (z : Sizes) (v : View) (a : ℕ) (line : Line) (p : HostPlace) (page : ℕ) (change : HostChange) → AreSmall v
-    → IsStep z v a line (ChangeHost page change) (place.Host p) → Invariant z v → TopicsInvariant z v → IsPart z v a (host_part p page (v.hand a))
+    → IsStep z v a line (ChangeHost page change) (place.Host p) → Invariant z v → TopicsInvariant z v → IsPart z v a (host_part p page change (v.hand a))
 makes_host z v a line p page change small S I P =
     let K = step_knows z v a line (ChangeHost page change) (place.Host p) S I in
-    may_make z v a (host_part p page (v.hand a)) small I P S.there (host_needs p (v.hand a) page (part_rests_at z v a I P S.there) K.1).0
-    (host_says z v a page p small I P S.there K.1)
+    may_make z v a (host_part p page change (v.hand a)) small I P S.there (host_needs p (v.hand a) page change (part_rests_at z v a I P S.there) K.0 K.1).0
+    (host_says z v a page change p small I P S.there K.1)
+
+-- Whose change of its page is next exchanges the page's word: nobody else has changed it since it was looked up.
+pub change_won : (z : Sizes) (v : View) (a page : ℕ) (change : HostChange) → TopicsInvariant z v → IsPart z v a (host_part Change page change (v.hand a))
+    → v.words area.Host (page_looked (v.hand a).topics.host) ≡ word_looked (v.hand a).topics.host
+change_won z v a page change P S = looked (v.hand a).topics.host refl S.needs.0.looked (changes_own z v a (word_put change (v.hand a).topics) S)
+  where
+    looked : (o : Option HostLook) → (v.hand a).topics.host ≡ o → is_some o ≡ true → owns_page z a (page_looked o) ≡ true
+        → v.words area.Host (page_looked o) ≡ word_looked o
+    looked None is some own_ = absurd (cc some)
+    looked (Some look) is some own_ = sym (P.own_looks a look S.there is own_)

@@ -19,13 +19,13 @@ use Rattle.core_views.specs.declared.sizes.Sizes.{Sizes}
 use Rattle.core_views.specs.declared.topics.SlotSearch.{SlotSearch}
 use Rattle.core_views.specs.declared.topics.Topics.{Topics}
 use Rattle.core_views.specs.declared.trace.HostChange.{HostChange}
-use Rattle.core_views.specs.declared.trace.HostChange.TheVariants.{Allow}
+use Rattle.core_views.specs.declared.trace.HostChange.TheVariants.{Allow, Evict, Move, Protect}
 use Rattle.core_views.specs.Held.{Held}
 use Rattle.core_views.specs.HostChanges.{is_own}
 use Rattle.part_steps.specs.declared.part_step.PartStep.TheVariants as part
 use Rattle.mmu_core.specs.declared.outcome.Outcome.TheVariants.{Goes, Ends}
 use Rattle.mmu_core.specs.lines.FaultLeft.{find_left}
-use Rattle.mmu_core.specs.lines.HostKnows.{HostKnows, HostRests}
+use Rattle.mmu_core.specs.lines.HostKnows.{HostKnows, HostRests, IsMade}
 use Rattle.mmu_core.specs.lines.HostSteps.{host_left, host_outcome, host_part, host_tells, entry_of, word_put}
 use Rattle.mmu_core.specs.lines.PartWaits.{part_waits}
 use Rattle.mmu_core.specs.lines.SearchLeft.{look_left}
@@ -80,36 +80,48 @@ some_host_left _ z t = omega arith
 -- ---- how it ends
 
 -- Its first step doesn't wait.
-pub look_goes : (page : ℕ) (h : Held) (v : ℕ) → part_waits (host_part Look page h) h.topics v ≡ false
-look_goes page h v = neither_waits (is_own h.state.sizes h.state.actor page) (part.Host page) part.Seq h.topics v refl refl
+pub look_goes : (page : ℕ) (change : HostChange) (h : Held) (v : ℕ) → part_waits (host_part Look page change h) h.topics v ≡ false
+look_goes page change h v = neither_waits (is_own h.state.sizes h.state.actor page) (part.Host page) part.Seq h.topics v refl refl
 
 -- Nor does the step that ends it.
-pub host_free : (p : HostPlace) (page : ℕ) (h : Held) (v : ℕ) (answer : Answer) → HostRests p h → host_outcome p page h v ≡ Ends answer
-    → part_waits (host_part p page h) h.topics v ≡ false
-host_free Look page h v answer R e = look_goes page h v
-host_free (Begin p) page h v answer R e = absurd (cc e)
-host_free Change page h v answer R e = absurd (cc e)
-host_free (End ends.Release) page h v answer R e = R
-host_free (End _) page h v answer R e = absurd (cc e)
+pub host_free : (p : HostPlace) (page : ℕ) (change : HostChange) (h : Held) (v : ℕ) (answer : Answer) → HostRests p h → host_outcome p page h v ≡ Ends answer
+    → part_waits (host_part p page change h) h.topics v ≡ false
+host_free Look page change h v answer R e = look_goes page change h v
+host_free (Begin p) page change h v answer R e = absurd (cc e)
+host_free Change page change h v answer R e = absurd (cc e)
+host_free (End ends.Release) page change h v answer R e = R
+host_free (End _) page change h v answer R e = absurd (cc e)
 
 -- It tells no exit.
-pub host_fed : (p : HostPlace) (page : ℕ) (h : Held) (v : ℕ) → AreFed (host_tells p page h v)
-host_fed Look page h v = either_place AreFed (is_own h.state.sizes h.state.actor page) (LookedAtHost page ∷ []) [] (λ e. absurd (cc e), tt) tt
-host_fed Change page h v =
-    either_place AreFed (v == word_looked h.topics.host) (HostChanged page (entry_of (word_put h.topics)) ∷ []) [] (λ e. absurd (cc e), tt) tt
-host_fed _ page h v = tt
+pub host_fed : (p : HostPlace) (page : ℕ) (change : HostChange) (h : Held) (v : ℕ) → AreFed (host_tells p page change h v)
+host_fed Look page change h v = either_place AreFed (is_own h.state.sizes h.state.actor page) (LookedAtHost page ∷ []) [] (λ e. absurd (cc e), tt) tt
+host_fed Change page change h v =
+    either_place AreFed (v == word_looked h.topics.host) (HostChanged page (entry_of (word_put change h.topics)) ∷ []) [] (λ e. absurd (cc e), tt) tt
+host_fed _ page change h v = tt
 
 -- ---- what it knows is a proposition
 
-pub host_knows_prop : (p : HostPlace) (page : ℕ) (change : HostChange) (h : Held) → IsProp ((change ≡ Allow) × HostKnows p page h)
-host_knows_prop Look page change h = hlevel props
-host_knows_prop (Begin begins.Exclude) page change h = hlevel props
-host_knows_prop (Begin (begins.Find begun)) page change h = hlevel props
-host_knows_prop (Begin (begins.Walk rooted)) page change h = hlevel props
-host_knows_prop (Begin _) page change h = hlevel props
-host_knows_prop Change page change h = hlevel props
-host_knows_prop (End ends.Exclude) page change h = hlevel props
-host_knows_prop (End _) page change h = hlevel props
+made_prop : (change : HostChange) → IsProp (IsMade change)
+made_prop Allow = hlevel props
+made_prop Protect = hlevel props
+made_prop Move = hlevel props
+made_prop Evict = hlevel props
+
+knows_alone_prop : (p : HostPlace) (page : ℕ) (h : Held) → IsProp (HostKnows p page h)
+knows_alone_prop Look page h = hlevel props
+knows_alone_prop (Begin begins.Exclude) page h = hlevel props
+knows_alone_prop (Begin (begins.Find begun)) page h = hlevel props
+knows_alone_prop (Begin (begins.Walk rooted)) page h = hlevel props
+knows_alone_prop (Begin _) page h = hlevel props
+knows_alone_prop Change page h = hlevel props
+knows_alone_prop (End ends.Exclude) page h = hlevel props
+knows_alone_prop (End _) page h = hlevel props
+
+pub host_knows_prop : (p : HostPlace) (page : ℕ) (change : HostChange) (h : Held) → IsProp (IsMade change × HostKnows p page h)
+host_knows_prop p page change h = both_props (made_prop change) (knows_alone_prop p page h)
+  where
+    both_props : {A B : Type 0} → IsProp A → IsProp B → IsProp (A × B)
+    both_props a b = λ x y i. (a x.0 y.0 i, b x.1 y.1 i)
 
 pub host_rests_prop : (p : HostPlace) (h : Held) → IsProp (HostRests p h)
 host_rests_prop (End ends.Release) h = hlevel props

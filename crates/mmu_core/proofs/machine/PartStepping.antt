@@ -21,13 +21,11 @@ AreApart pool set =
     → slot ≡ other
 
 -- What a line says of its own step: a slot set that is published has each slot of the one before it; where one more invalidation is counted, no two published
--- slots share a host page; the sequence number stays far below 2 ^ 64; and a host word is exchanged for itself, since no line changes yet what the host maps a
--- page to.
+-- slots share a host page; and the sequence number stays far below 2 ^ 64.
 abbrev pub Replaces : PartStep → (ℕ → ℕ) → ℕ → Topics → Type 0
 Replaces part.Publish pool slots t = (id : ℕ) (slot : SlotOf) → IsLiveIn pool slots id slot → IsLiveIn pool (page_owned t.owned) id slot
 Replaces (part.SetCount count) pool slots t = AreApart pool slots
 Replaces (part.SetSeq seq) pool slots t = seq < 2 ^ 40
-Replaces (part.Change new_) pool slots t = new_ ≡ word_looked t.host
 Replaces _ pool slots t = Unit {0}
 
 -- The actor makes this step of a part, for its line or with no line left.
@@ -46,12 +44,21 @@ abbrev pub is_publish : PartStep → Bool
 is_publish part.Publish = true
 is_publish _ = false
 
--- A step that isn't one of lines alone publishes nothing.
+-- The step changes a host word.
+abbrev pub changes_word : PartStep → Bool
+changes_word (part.Change new_) = true
+changes_word _ = false
+
+-- A step that isn't one of lines alone publishes nothing, and changes no host word.
 pub idle_never : (step : PartStep) → needs_line step ≡ false → is_publish step ≡ false
 idle_never part.Publish free = absurd (cc free)
 idle_never _ free = refl
 
--- It is a step of which a line says more than what it needs, or which opens or ends an invalidation of the actor's own.
+pub idle_quiet : (step : PartStep) → needs_line step ≡ false → changes_word step ≡ false
+idle_quiet (part.Change new_) free = absurd (cc free)
+idle_quiet _ free = refl
+
+-- It is a step of which a line says more than what it needs, which opens or ends an invalidation of the actor's own, or which changes a host word.
 abbrev pub is_told : PartStep → Bool
 is_told part.Publish = true
 is_told (part.SetCount count) = true
@@ -62,6 +69,10 @@ is_told _ = false
 pub never_told : (step : PartStep) → is_told step ≡ false → is_publish step ≡ false
 never_told part.Publish untold = absurd (cc untold)
 never_told _ untold = refl
+
+pub quiet_told : (step : PartStep) → is_told step ≡ false → changes_word step ≡ false
+quiet_told (part.Change new_) untold = absurd (cc untold)
+quiet_told _ untold = refl
 
 pub idle_untold : (step : PartStep) → needs_line step ≡ false → is_told step ≡ false
 idle_untold part.Publish free = absurd (cc free)
@@ -74,5 +85,4 @@ pub replaces_none : (step : PartStep) (pool : ℕ → ℕ) (slots : ℕ) (t : To
 replaces_none part.Publish pool slots t never = absurd (cc never)
 replaces_none (part.SetCount count) pool slots t never = absurd (cc never)
 replaces_none (part.SetSeq seq) pool slots t never = absurd (cc never)
-replaces_none (part.Change new_) pool slots t never = absurd (cc never)
 replaces_none _ pool slots t never = tt

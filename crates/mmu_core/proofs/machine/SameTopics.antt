@@ -4,7 +4,7 @@ use Rattle.core_views.specs.declared.sizes.Sizes.{Sizes}
 use Rattle.core_views.specs.declared.topics.Topics.{Topics}
 use Rattle.core_views.specs.Held.{Held}
 use Rattle.core_views.specs.Sizes.{actors_of}
-use Rattle.mmu_core.specs.invariant.TopicsInvariant.{CountersPart, FilledPart, HeldPart, LockPart, LookPart, SawWriter, SearchPart, StatesPart, TopicsInvariantOf, SetsPart, OldSetsPart, PathPart, UsePart, stands, CountPart, CheckedPart, KnownRangePart, LoadedPart, PassedPart, RangePart, ScopePart, ZappedPart}
+use Rattle.mmu_core.specs.invariant.TopicsInvariant.{CountersPart, FilledPart, HeldPart, LockPart, LookPart, OwnLooksPart, SawWriter, SearchPart, StatesPart, TopicsInvariantOf, SetsPart, OldSetsPart, PathPart, UsePart, stands, CountPart, CheckedPart, KnownRangePart, LoadedPart, PassedPart, RangePart, ScopePart, ZappedPart}
 
 pub same_topics : (z : Sizes) (lock root slots seq count start end_ : ℕ) (states map host role pool : ℕ → ℕ) (hand other : ℕ → Held) → ◌≡◌ {A = ℕ → Topics} (λ i. (other i).topics) (λ i. (hand i).topics)
     → TopicsInvariantOf z lock root slots seq count start end_ states map host role pool hand → TopicsInvariantOf z lock root slots seq count start end_ states map host role pool other
@@ -23,7 +23,9 @@ same_topics z lock root slots seq count start end_ states map host role pool han
   sets = subst (λ (t : ℕ → Topics). SetsPart (actors_of z) slots t) (sym same) I.sets;
   old_sets = subst (λ (t : ℕ → Topics). OldSetsPart (actors_of z) slots pool (λ i. (t i).leaving)) (sym same) I.old_sets;
   searches = subst (λ (t : ℕ → Topics). (i : ℕ) → i < actors_of z → SearchPart pool (t i).search) (sym same) I.searches;
-  looks = subst (λ (t : ℕ → Topics). (i : ℕ) → i < actors_of z → LookPart z seq host (t i)) (sym same) I.looks;
+  hosts = I.hosts;
+  looks = subst (λ (t : ℕ → Topics). (i : ℕ) → i < actors_of z → LookPart z (actors_of z) seq host t (t i)) (sym same) I.looks;
+  own_looks = subst (λ (t : ℕ → Topics). OwnLooksPart z (actors_of z) host t) (sym same) I.own_looks;
   counts = subst (λ (t : ℕ → Topics). CountPart (actors_of z) count (λ i. (t i).invalidations.opened)) (sym same) I.counts;
   checks = subst (λ (t : ℕ → Topics). (i : ℕ) → i < actors_of z → CheckedPart count start end_ seq (t i)) (sym same) I.checks;
   known = subst (λ (t : ℕ → Topics). (i : ℕ) → i < actors_of z → KnownRangePart start end_ (t i)) (sym same) I.known;

@@ -32,7 +32,7 @@ pub record IsStep (z : Sizes) (v : View) (a : ℕ) (line : Line) (command : Comm
   pub begun : IsUnderWay p
   pub allowed : IsCommandFor z line.actor command
   pub own : line.actor ≡ (v.hand a).state.actor
-  pub holds : Holds z (v.words area.Pool) (v.words area.Host) (v.words area.Slots 0) p command (v.hand a)
+  pub holds : Holds z (v.words area.Pool) (v.words area.Slots 0) p command (v.hand a)
 
 pub line_is_next : (p : Place) (h : Held) → UnderWay p h → h.state.place ≡ p → line_at p h ≡ next_line h
 line_is_next place.Between h under is = refl
@@ -46,10 +46,10 @@ pub is_begun : (p : Place) (z : Sizes) (slots : MemorySlots) (command : Command)
 is_begun place.Between z slots command = first_is_begun z slots command
 is_begun _ z slots command = tt
 
-standing_holds : (z : Sizes) (pool host : ℕ → ℕ) (set : ℕ) (q : Place) (h : Held) → h.state.place ≡ q → Holds z pool host set q h.state.line.command h
-    → Holds z pool host set (standing q z h.slots (line_at q h).command) (line_at q h).command h
-standing_holds z pool host set place.Between h is holds = first_holds z pool host set (next_line h).command h
-standing_holds z pool host set _ h is holds = holds
+standing_holds : (z : Sizes) (pool : ℕ → ℕ) (set : ℕ) (q : Place) (h : Held) → h.state.place ≡ q → Holds z pool set q h.state.line.command h
+    → Holds z pool set (standing q z h.slots (line_at q h).command) (line_at q h).command h
+standing_holds z pool set place.Between h is holds = first_holds z pool set (next_line h).command h
+standing_holds z pool set _ h is holds = holds
 
 -- what holds of all lines of a hand holds of its next one
 pub next_has : (P : Line → Type 0) (h : Held) → All P h.lines → length h.answers < length h.lines → P (next_line h)
@@ -88,8 +88,8 @@ is_step z v a I there left =
       allowed = subst (λ l. IsCommandFor z l.actor l.command) (sym next) (next_has (λ l. IsCommandFor z l.actor l.command) h O.allowed left);
       own = subst (λ (l : Line). l.actor ≡ h.state.actor) (sym next) (next_has (λ l. l.actor ≡ h.state.actor) h O.own left);
       holds =
-          subst (λ y. Holds z (v.words area.Pool) (v.words area.Host) (v.words area.Slots 0) (standing h.state.place y h.slots (line_at h.state.place h).command) (line_at h.state.place h).command h) (sym O.sizes)
-          (standing_holds z (v.words area.Pool) (v.words area.Host) (v.words area.Slots 0) h.state.place h refl (I.loads a there));
+          subst (λ y. Holds z (v.words area.Pool) (v.words area.Slots 0) (standing h.state.place y h.slots (line_at h.state.place h).command) (line_at h.state.place h).command h) (sym O.sizes)
+          (standing_holds z (v.words area.Pool) (v.words area.Slots 0) h.state.place h refl (I.loads a there));
     }
 
 -- Where the step's place isn't behind a publication, the hand's isn't either.

@@ -10,6 +10,7 @@ use Rattle.mmu_core.specs.invariant.InvalidationsPart.{EndsPart}
 use Rattle.mmu_core.specs.invariant.Laws.{IsSound}
 use Rattle.mmu_core.proofs.lines.AccessParts.{AreSmall}
 use Rattle.mmu_core.proofs.held.FlushKept.{FlushAt, line_flushes_kept, part_flushes_kept}
+use Rattle.mmu_core.proofs.held.UsableKept.{UsableAt, line_usable_kept, part_usable_kept}
 use Rattle.mmu_core.proofs.machine.EndsKept.{line_ends_kept, next_few, part_ends_kept}
 use Rattle.mmu_core.proofs.words.Control.{pause_stays}
 use Rattle.mmu_core.proofs.machine.Columns.{same_or}
@@ -195,6 +196,8 @@ good_step z w s G may = by (takes z w s G may)
       ends = subst (λ (v : View). EndsPart z (v.words area.Seq 0) v.hand) (sym T.leads)
           (line_ends_kept z (view z w) s.actor (line_at h.state.place h) (line_at h.state.place h).command (place_at h.state.place h)
           (are_small z w G) T.is_step G.holds G.topics G.ends);
+      usable = subst (UsableAt z) (sym T.leads) (line_usable_kept z (view z w) s.actor (line_at h.state.place h) (line_at h.state.place h).command
+          (place_at h.state.place h) (are_small z w G) T.is_step G.holds G.topics G.flushes G.usable);
       flushes = subst (FlushAt z) (sym T.leads) (line_flushes_kept z (view z w) s.actor (line_at h.state.place h) (line_at h.state.place h).command
           (place_at h.state.place h) (are_small z w G) T.is_step G.holds G.topics G.flushes);
       no_pause = subst (λ (v : View). v.words area.Pause 0 ≡ 0) (sym T.leads)
@@ -210,6 +213,7 @@ good_step z w s G may = by (takes z w s G may)
       hands = hands_of_effect mmu w s ∙ G.hands;
       small = small T.writes;
       ends = subst (λ (v : View). EndsPart z (v.words area.Seq 0) v.hand) (sym T.leads) (part_ends_kept z (view z w) s.actor T.step T.note T.free G.ends);
+      usable = subst (UsableAt z) (sym T.leads) (part_usable_kept z (view z w) s.actor T.step T.note T.is_part G.topics G.flushes G.usable);
       flushes = subst (FlushAt z) (sym T.leads) (part_flushes_kept z (view z w) s.actor T.step T.note T.is_part G.topics G.flushes);
       no_pause = subst (λ (v : View). v.words area.Pause 0 ≡ 0) (sym T.leads) (ap (λ (f : ℕ → ℕ). f 0) (areas_stay (view z w) s.actor T.step T.note area.Pause refl) ∙ G.no_pause);
       holds = subst (Invariant z) (sym T.leads) (part_keeps_lines z (view z w) s.actor T.step T.note T.is_part T.free T.none_left G.holds G.topics (part_knows_behind z (view z w) s.actor T.step T.note T.none_left G.holds));

@@ -1,6 +1,6 @@
 -- Each leaf to which links lead from the root is the one that slots and host give the guest frames that it is over: each step of a part keeps it.
-use Rattle.std.proofs.Common.{◌≡◌, ◌+◌, ◌*◌, ◌/◌, ◌<◌, ℕ, refl, sym, subst, ap, ◌∙◌, arith}
-use Rattle.std.specs.Prelude.{◌-◌, Some}
+use Rattle.std.proofs.Common.{◌≡◌, ◌+◌, ◌*◌, ◌/◌, ◌<◌, ℕ, refl, sym, subst, ap, ◌∙◌, arith, ◌≤◌, ◌⊎◌, ◌≢◌, inl, inr}
+use Rattle.std.specs.Prelude.{◌-◌, Some, false}
 use Rattle.core_views.specs.declared.sizes.Sizes.{Sizes}
 use Rattle.core_views.specs.declared.topics.Topics.{Topics}
 use Rattle.spte_words.specs.declared.area.Area.TheVariants as area
@@ -12,7 +12,7 @@ use Rattle.spte_words.proofs.Spans.{span_1}
 use Rattle.part_steps.specs.declared.part_step.PartStep.{PartStep}
 use Rattle.part_steps.specs.declared.part_step.PartStep.TheVariants as part
 use Rattle.part_steps.specs.PartTasks.{leaf_written}
-use Rattle.part_steps.specs.SlotWords.{leaf_of}
+use Rattle.part_steps.specs.SlotWords.{leaf_of, page_of}
 use Rattle.mmu_core.specs.invariant.AllOver.{AllOver, LeafIsFor}
 use Rattle.mmu_core.specs.invariant.CachedPart.{IsLeafFor}
 use Rattle.mmu_core.specs.invariant.TopicsInvariant.{TopicsInvariant}
@@ -21,12 +21,16 @@ use Rattle.mmu_core.specs.machine.View.{View, part_stepped}
 use Rattle.mmu_core.proofs.pages.AllOver.{IsLight, OfNewLeaf, over_step, over_weaker}
 use Rattle.mmu_core.proofs.slots.LiveStay.{StayLive, leaf_stays}
 use Rattle.mmu_core.proofs.slots.LiveStays.{live_in_stays, part_live_stays}
-use Rattle.mmu_core.proofs.machine.PartStepping.{IsPart}
+use Rattle.mmu_core.proofs.machine.PartStepping.{IsPart, changes_word}
 use Rattle.mmu_core.proofs.words.HostStays.{host_stays}
 use Rattle.mmu_core.proofs.words.PartWords.{areas_stay, slots_are, slots_behind}
 use Rattle.mmu_core.proofs.pages.Standing.{spot_after, spot_of, up_after}
-use Rattle.mmu_core.proofs.pages.TreeKept.{found_live, looked_word}
+use Rattle.mmu_core.proofs.held.FreshFrames.{behind_it, looked_word}
+use Rattle.mmu_core.proofs.pages.TreeKept.{found_live}
 use Rattle.mmu_core.proofs.pages.TreePlaces.{all_reached}
+use Rattle.part_steps.specs.InvalidationRange.{page_looked}
+use Rattle.mmu_core.specs.invariant.InvalidatedPart.{Gives}
+use Rattle.mmu_core.proofs.machine.Columns.{upd_other, same_or}
 
 -- It says nothing of what is no leaf.
 pub leaves_light : (pool host : ℕ → ℕ) (set : ℕ) → IsLight (LeafIsFor pool host set)
@@ -60,14 +64,15 @@ new_leaf z v a (part.Leaf gfn) S I = λ other over leaf. (S.needs.1, subst (λ g
       slot = t.search.slot;
       live = found_live z v a gfn S.there I found.found;
       holds = found.found.holds;
-      is = ap (leaf_of t.search.slot) (looked_word z v a gfn S.there I found);
+      is = ap (leaf_of t.search.slot) (looked_word z v a gfn S.there I S.needs.0);
     }
 new_leaf z v a _ S I = tt
 
-pub leaves_kept : (z : Sizes) (v : View) (a : ℕ) (step : PartStep) (note : ℕ) → IsPart z v a step → (I : TopicsInvariant z v)
+-- After a step that changes no host word.
+quiet_leaves : (z : Sizes) (v : View) (a : ℕ) (step : PartStep) (note : ℕ) → IsPart z v a step → (I : TopicsInvariant z v) → changes_word step ≡ false
     → AllOver (up_after step a (v.hand a).topics v I.up) (spot_after step (v.hand a).topics v I.spot) ((part_stepped a step note v).words area.Pool) ((part_stepped a step note v).words area.Root 0)
     (LeafIsFor ((part_stepped a step note v).words area.Pool) ((part_stepped a step note v).words area.Host) ((part_stepped a step note v).words area.Slots 0))
-leaves_kept z v a step note S I =
+quiet_leaves z v a step note S I other =
     let w : View = part_stepped a step note v in
     let up : ℕ → Use = up_after step a (v.hand a).topics v I.up in
     let spot : ℕ → Position = spot_after step (v.hand a).topics v I.spot in
@@ -76,11 +81,47 @@ leaves_kept z v a step note S I =
     let behind : ℕ = slots_behind step (v.hand a).topics set in
     let host : ℕ → ℕ = v.words area.Host in
     subst (λ (r : ℕ → ℕ). AllOver up spot (w.words area.Pool) (r 0) (LeafIsFor (w.words area.Pool) (w.words area.Host) (w.words area.Slots 0))) (sym (areas_stay v a step note area.Root refl))
-    (subst (λ (h : ℕ → ℕ). AllOver up spot (w.words area.Pool) (v.words area.Root 0) (LeafIsFor (w.words area.Pool) h (w.words area.Slots 0))) (sym (host_stays z v a step note S I))
+    (subst (λ (h : ℕ → ℕ). AllOver up spot (w.words area.Pool) (v.words area.Root 0) (LeafIsFor (w.words area.Pool) h (w.words area.Slots 0))) (sym (host_stays v a step note other))
     (subst (λ s. AllOver up spot (w.words area.Pool) (v.words area.Root 0) (LeafIsFor (w.words area.Pool) host s)) (sym (slots_are v a step note))
     (over_weaker up spot (w.words area.Pool) (v.words area.Root 0) (LeafIsFor before host set) (LeafIsFor (w.words area.Pool) host behind)
     (λ level gfn word so leaf. let is = so leaf in (is.0, leaf_stays before set (w.words area.Pool) behind (live_behind z v a step note S I) host gfn word is.1))
     (over_step z v a step note S I (v.words area.Root 0) (LeafIsFor before host set) (ap is_table I.tree.top) (leaves_light before host set) (new_leaf z v a step S I) I.leaves))))
+
+-- Of a page that is changed there is no leaf: its guest frame was zapped.
+changed_leaves : (z : Sizes) (v : View) (a new_ note : ℕ) → IsPart z v a (part.Change new_) → (I : TopicsInvariant z v)
+    → AllOver I.up I.spot (v.words area.Pool) (v.words area.Root 0) (LeafIsFor (v.words area.Pool) ((part_stepped a (part.Change new_) note v).words area.Host) (v.words area.Slots 0))
+changed_leaves z v a new_ note S I table entry gfn R O leaf =
+    let is = I.leaves table entry gfn R O leaf in (is.0, by is.1 (same_or (page_of is.1.slot gfn) page))
+  where
+    page : ℕ
+    page = page_looked (v.hand a).topics.host
+
+    word : ℕ
+    word = v.words area.Pool (pool_index table entry)
+
+    asked : 1 ≤ (v.hand a).topics.flush.asked
+    asked = let some = S.is_sizes.some in let all = subst (λ (y : Sizes). y.vcpus ≤ (v.hand a).topics.flush.asked) S.sizes S.needs.0.asked in omega (arith, some, all)
+
+    by : (L : IsLeafFor (v.words area.Pool) (v.words area.Host) (v.words area.Slots 0) gfn word) → (page_of L.slot gfn ≡ page) ⊎ (page_of L.slot gfn ≢ page)
+        → IsLeafFor (v.words area.Pool) ((part_stepped a (part.Change new_) note v).words area.Host) (v.words area.Slots 0) gfn word
+    by L (inl e) =
+        let B = behind_it L.slot gfn L.holds in
+        let given : Gives (v.words area.Pool) (v.words area.Slots 0) (page_of L.slot gfn) gfn = record { id = L.id; slot = L.slot; live = L.live; has = B.0; is = B.1 } in
+        absurd (I.zapped a S.there S.needs.0.opened asked table entry gfn R O
+        ((I.scopes a S.there S.needs.0.opened).covers gfn (subst (λ p. Gives (v.words area.Pool) (v.words area.Slots 0) p gfn) (e ∙ sym S.needs.0.invalid) given)) leaf)
+    by L (inr ne) = record {
+      id = L.id;
+      slot = L.slot;
+      live = L.live;
+      holds = L.holds;
+      is = L.is ∙ ap (leaf_of L.slot) (sym (upd_other (v.words area.Host) page (page_of L.slot gfn) _ ne));
+    }
+
+pub leaves_kept : (z : Sizes) (v : View) (a : ℕ) (step : PartStep) (note : ℕ) → IsPart z v a step → (I : TopicsInvariant z v)
+    → AllOver (up_after step a (v.hand a).topics v I.up) (spot_after step (v.hand a).topics v I.spot) ((part_stepped a step note v).words area.Pool) ((part_stepped a step note v).words area.Root 0)
+    (LeafIsFor ((part_stepped a step note v).words area.Pool) ((part_stepped a step note v).words area.Host) ((part_stepped a step note v).words area.Slots 0))
+leaves_kept z v a (part.Change new_) note S I = changed_leaves z v a new_ note S I
+leaves_kept z v a step note S I = quiet_leaves z v a step note S I refl
 
 -- A leaf in a table that stands here is the one for each guest frame that its entry is over.
 pub leaf_for : (z : Sizes) (v : View) (I : TopicsInvariant z v) (k level prefix entry gfn : ℕ) → stands I.up I.spot k ≡ Some (at level prefix) → entry < 512 → gfn / level_span level ≡ prefix * 512 + entry

@@ -62,10 +62,6 @@ found_live z v a gfn lt I found =
     let held = (I.searches a lt).held found.whole in
     set_live z v a held.0 lt I held.1 (t.search.id - 1) t.search.slot ((I.searches a lt).whole held.0 held.1 found.whole).1
 
--- The word that was looked up is the host word of the page behind the guest frame.
-pub looked_word : (z : Sizes) (v : View) (a gfn : ℕ) → a < actors_of z → TopicsInvariant z v → LookedUp gfn (v.hand a).topics → word_looked (v.hand a).topics.host ≡ v.words area.Host (page_of (v.hand a).topics.search.slot gfn)
-looked_word z v a gfn lt I L = ap word_looked L.host ∙ (I.looks a lt).is (record { page = page_of (v.hand a).topics.search.slot gfn; word = L.word }) L.host
-
 -- What a fault puts into a table of the lowest level is a leaf.
 pub leaf_is : (t : Topics) → t.walk.level ≡ 1 → kind_of t.walk.level (leaf_written t) ≡ entry_kind.Leaf
 leaf_is t lowest =

@@ -37,6 +37,7 @@ use Rattle.mmu_core.proofs.pages.Standing.{at_spot, one_position, spot_after, up
 use Rattle.mmu_core.proofs.pages.TreePlaces.{IsLinked, all_reached, link_stands, linked, one_place, root_stands}
 use Rattle.mmu_core.proofs.words.PartTopics.{behind_step}
 use Rattle.mmu_core.proofs.words.PartWords.{areas_stay}
+use Rattle.mmu_core.proofs.held.FreshFrames.{fresh_in_none}
 
 -- It says nothing of what is no leaf.
 no_leaf_light : (own_ : Invalidated) → IsLight (IsNoLeafIn own_)
@@ -54,44 +55,13 @@ one_frame level other gfn lowest over =
     let frames : other / 1 ≡ gfn / 1 = subst (λ n. other / n ≡ gfn / n) one over in
     omega (arith, frames)
 
--- The actor knows the range.
-abbrev pub KnowsRange : View → ℕ → Type 0
-KnowsRange v a = KnownRangePart (v.words area.RangeStart 0) (v.words area.RangeEnd 0) (v.hand a).topics
-
--- A guest frame that was checked under the lock is in no open invalidation.
-pub fresh_in_none : (z : Sizes) (v : View) (a i gfn : ℕ) → TopicsInvariant z v → KnowsRange v a → a < actors_of z → i < actors_of z
-    → has_lock (v.hand a).topics.hold ≡ true → IsFresh gfn (v.hand a).topics.invalidations
-    → (v.hand i).topics.invalidations.opened ≡ true → IsIn (v.hand i).topics.invalidations.own gfn → ⊥
-fresh_in_none z v a i gfn I K there lt lock fresh is_open is_in = by fresh.none_over
-  where
-    n : Invalidations
-    n = (v.hand a).topics.invalidations
-
-    counted : n.count ≡ v.words area.Count 0
-    counted = (I.checks a there).counted lock (ap knows_count fresh.checked_all)
-
-    some : n.count ≢ 0
-    some none =
-        none_opened (actors_of z) (v.words area.Count 0) (λ j. (v.hand j).topics.invalidations.opened) i lt I.counts (sym counted ∙ none) is_open
-
-    known : (n.start ≡ v.words area.RangeStart 0) × (n.end ≡ v.words area.RangeEnd 0)
-    known = K lock fresh.checked_all (omega (arith, some))
-
-    range : (v.words area.RangeStart 0 ≤ gfn) × (gfn < v.words area.RangeEnd 0)
-    range = I.ranges i gfn lt is_open is_in
-
-    by : (n.count ≡ 0) ⊎ (gfn < n.start) ⊎ (n.end ≤ gfn) → ⊥
-    by (inl none) = absurd (some none)
-    by (inr (inl before)) = let start = known.0 in let from = range.0 in omega (arith, before, start, from)
-    by (inr (inr behind)) = let end_ = known.1 in let to = range.1 in omega (arith, behind, end_, to)
-
-new_leaf : (z : Sizes) (v : View) (a i : ℕ) (step : PartStep) → IsPart z v a step → TopicsInvariant z v → KnowsRange v a → i < actors_of z
+new_leaf : (z : Sizes) (v : View) (a i : ℕ) (step : PartStep) → IsPart z v a step → TopicsInvariant z v → i < actors_of z
     → (v.hand i).topics.invalidations.opened ≡ true → OfNewLeaf step (v.hand a).topics (IsNoLeafIn (v.hand i).topics.invalidations.own)
-new_leaf z v a i (part.Leaf gfn) S I K lt is_open = λ other over is_in leaf.
+new_leaf z v a i (part.Leaf gfn) S I lt is_open = λ other over is_in leaf.
     let same : other ≡ gfn = one_frame (v.hand a).topics.walk.level other gfn S.needs.1 over in
-    fresh_in_none z v a i gfn I K S.there lt (ap has_lock S.needs.0.shares) S.needs.0.fresh is_open
+    fresh_in_none z v a i gfn I S.there lt (ap has_lock S.needs.0.shares) S.needs.0.fresh is_open
     (subst (IsIn (v.hand i).topics.invalidations.own) same is_in)
-new_leaf z v a i _ S I K lt is_open = tt
+new_leaf z v a i _ S I lt is_open = tt
 
 -- ---- Where a seen entry leads nowhere, no links lead to a leaf over its frame.
 
@@ -248,29 +218,29 @@ abbrev OwnZapped : (z : Sizes) (v : View) → ℕ → PartStep → TopicsInvaria
 OwnZapped z v a step I t =
     t.invalidations.opened ≡ true → 1 ≤ t.flush.asked → ZappedIn z v I t.invalidations.own × OfNewLeaf step (v.hand a).topics (IsNoLeafIn t.invalidations.own)
 
-own_zapped : (z : Sizes) (v : View) (a note : ℕ) (step : PartStep) → IsPart z v a step → (I : TopicsInvariant z v) → KnowsRange v a
+own_zapped : (z : Sizes) (v : View) (a note : ℕ) (step : PartStep) → IsPart z v a step → (I : TopicsInvariant z v)
     → OwnZapped z v a step I (part_topics step (v.hand a).topics (answer_in (part_task step a (v.hand a).topics note) v.words))
-own_zapped z v a note (part.Ask index) S I K = λ is_open asked. (by is_open (same_or (v.hand a).topics.flush.asked 0), tt)
+own_zapped z v a note (part.Ask index) S I = λ is_open asked. (by is_open (same_or (v.hand a).topics.flush.asked 0), tt)
   where
     by : (v.hand a).topics.invalidations.opened ≡ true → ((v.hand a).topics.flush.asked ≡ 0) ⊎ ((v.hand a).topics.flush.asked ≢ 0)
         → ZappedIn z v I (v.hand a).topics.invalidations.own
     by is_open (inl none) = swept_zapped z v a index S I none
     by is_open (inr some) = I.zapped a S.there is_open (omega (arith, some))
-own_zapped z v a note part.Exclude S I K = λ is_open asked. (I.zapped a S.there is_open (asked_before _ (v.hand a).topics.flush asked), tt)
-own_zapped z v a note (part.Leaf gfn) S I K = λ is_open asked. (I.zapped a S.there is_open asked, new_leaf z v a a (part.Leaf gfn) S I K S.there is_open)
-own_zapped z v a note (part.SetStart gfn) S I K = λ is_open. absurd (let closed = S.needs.0.opening.closed in cc (closed, is_open))
-own_zapped z v a note (part.SetCount count) S I K = λ is_open asked. absurd (counted_unasked count (v.hand a).topics S.needs is_open asked)
-own_zapped z v a note _ S I K = λ is_open asked. (I.zapped a S.there is_open asked, tt)
+own_zapped z v a note part.Exclude S I = λ is_open asked. (I.zapped a S.there is_open (asked_before _ (v.hand a).topics.flush asked), tt)
+own_zapped z v a note (part.Leaf gfn) S I = λ is_open asked. (I.zapped a S.there is_open asked, new_leaf z v a a (part.Leaf gfn) S I S.there is_open)
+own_zapped z v a note (part.SetStart gfn) S I = λ is_open. absurd (let closed = S.needs.0.opening.closed in cc (closed, is_open))
+own_zapped z v a note (part.SetCount count) S I = λ is_open asked. absurd (counted_unasked count (v.hand a).topics S.needs is_open asked)
+own_zapped z v a note _ S I = λ is_open asked. (I.zapped a S.there is_open asked, tt)
 
 -- ---- Each step.
 
-pub zapped_kept : (z : Sizes) (v : View) (a : ℕ) (step : PartStep) (note : ℕ) → IsPart z v a step → (I : TopicsInvariant z v) → KnowsRange v a
+pub zapped_kept : (z : Sizes) (v : View) (a : ℕ) (step : PartStep) (note : ℕ) → IsPart z v a step → (I : TopicsInvariant z v)
     → ZappedPart (actors_of z) (up_after step a (v.hand a).topics v I.up) (spot_after step (v.hand a).topics v I.spot)
     ((part_stepped a step note v).words area.Pool) ((part_stepped a step note v).words area.Root 0) (λ i. ((part_stepped a step note v).hand i).topics)
-zapped_kept z v a step note S I K =
+zapped_kept z v a step note S I =
     behind_step (λ (w : View). (i : ℕ) → IsKept i (w.hand i)) z v a step note S
-    (at_upd IsKept v.hand a _ (λ lt is_open asked. let own = own_zapped z v a note step S I K is_open asked in carried behind.invalidations.own own.0 own.1)
-    (λ i ne lt is_open asked. carried (v.hand i).topics.invalidations.own (I.zapped i lt is_open asked) (new_leaf z v a i step S I K lt is_open)))
+    (at_upd IsKept v.hand a _ (λ lt is_open asked. let own = own_zapped z v a note step S I is_open asked in carried behind.invalidations.own own.0 own.1)
+    (λ i ne lt is_open asked. carried (v.hand i).topics.invalidations.own (I.zapped i lt is_open asked) (new_leaf z v a i step S I lt is_open)))
   where
     behind : Topics
     behind = part_topics step (v.hand a).topics (answer_in (part_task step a (v.hand a).topics note) v.words)

@@ -1,4 +1,4 @@
--- Where each live slot stays live, and the same, what accesses use and what is cached stays too.
+-- Where each live slot stays live, and the same, what is cached agrees still.
 use Rattle.std.proofs.Common.{◌≡◌, ◌≤◌, ℕ, List, refl, subst, ap, ◌∙◌}
 use Rattle.std.proofs.lemmas.List.Elements.{All-weaker}
 use Rattle.std.specs.Prelude.{true}
@@ -9,10 +9,11 @@ use Rattle.core_views.specs.declared.sizes.Sizes.{Sizes}
 use Rattle.core_views.specs.declared.trace.Slot.{Slot as SlotOf}
 use Rattle.core_views.specs.Held.{Held}
 use Rattle.core_views.specs.Slots.{contains, has_host_page}
-use Rattle.mmu_core.specs.invariant.Invariant.{AccessHolds, CachedPart, IsLeafFor, IsLiveIn, SlotSetPart}
+use Rattle.mmu_core.specs.invariant.Invariant.{IsLeafFor, IsLiveIn, SlotSetPart}
 use Rattle.part_steps.specs.SetWords.{set_role}
 use Rattle.mmu_core.specs.invariant.SlotSetPart.{Fits}
 use Rattle.part_steps.specs.SlotWords.{live_at, slot_at}
+use Rattle.mmu_core.specs.invariant.CachedPart.{AgreePart}
 
 -- Each slot that is live in one slot set is live in another one, and the same.
 abbrev pub StayLive : (ℕ → ℕ) → ℕ → (ℕ → ℕ) → ℕ → Type 0
@@ -28,14 +29,10 @@ module _ (before : ℕ → ℕ) (set : ℕ) (after : ℕ → ℕ) (other : ℕ) 
   pub leaf_stays : (host : ℕ → ℕ) (gfn leaf : ℕ) → IsLeafFor before host set gfn leaf → IsLeafFor after host other gfn leaf
   leaf_stays host gfn leaf L = record { id = L.id; slot = L.slot; live = stay L.id L.slot L.live; holds = L.holds; is = L.is }
 
-  pub translations_stay : (host : ℕ → ℕ) (ts : List Translation) → CachedPart before host set ts → CachedPart after host other ts
+  pub translations_stay : (host : ℕ → ℕ) (ts : List Translation) → AgreePart before host set ts → AgreePart after host other ts
   translations_stay host ts each =
-      All-weaker (λ (t : Translation). (t.level ≡ 1) × IsLeafFor before host set t.gfn t.leaf) (λ (t : Translation). (t.level ≡ 1) × IsLeafFor after host other t.gfn t.leaf)
-      (λ t is. (is.0, leaf_stays host t.gfn t.leaf is.1)) ts each
-
-  pub access_stays : (host : ℕ → ℕ) (p : AccessPlace) (gfn : ℕ) (h : Held) → AccessHolds before host set p gfn h → AccessHolds after host other p gfn h
-  access_stays host Touch gfn h leaf = (leaf.0, leaf_stays host gfn h.state.used.leaf leaf.1)
-  access_stays host _ gfn h none = tt
+      All-weaker (λ (t : Translation). IsLeafFor before host set t.gfn t.leaf) (λ (t : Translation). IsLeafFor after host other t.gfn t.leaf)
+      (λ t is. leaf_stays host t.gfn t.leaf is) ts each
 
 -- Each live slot was live, and the same: the set is one still.
 pub set_stays : (z : Sizes) (role behind before : ℕ → ℕ) (set : ℕ) (after : ℕ → ℕ) (other : ℕ) → StayLive after other before set → behind other ≡ set_role → SlotSetPart z set role before → SlotSetPart z other behind after

@@ -33,7 +33,7 @@ use Rattle.mmu_core.specs.invariant.TopicsInvariant.{TopicsInvariant}
 use Rattle.mmu_core.specs.invariant.TreePart.{IsLiveIn}
 use Rattle.mmu_core.specs.machine.View.{View, part_stepped, stepped, words_after}
 use Rattle.mmu_core.proofs.lines.ClaimMade.{claim_untold}
-use Rattle.mmu_core.proofs.machine.PartStepping.{IsPart, is_publish, is_told, never_told}
+use Rattle.mmu_core.proofs.machine.PartStepping.{IsPart, is_publish, is_told, never_told, changes_word, quiet_told}
 use Rattle.mmu_core.proofs.words.PartWords.{fill_elsewhere}
 use Rattle.mmu_core.proofs.lines.ShareMade.{share_untold}
 use Rattle.mmu_core.proofs.words.SlotFields.{is_number, same_slot}
@@ -152,3 +152,7 @@ access_untold p gfn t step is = by (access_part p gfn t) step is (none p)
 
 pub access_never : (p : AccessPlace) (gfn : ℕ) (t : Topics) (step : PartStep) → access_part p gfn t ≡ Some step → is_publish step ≡ false
 access_never p gfn t step is = never_told step (access_untold p gfn t step is)
+
+-- Nor does one change a host word.
+pub access_quiet : (p : AccessPlace) (gfn : ℕ) (t : Topics) (step : PartStep) → access_part p gfn t ≡ Some step → changes_word step ≡ false
+access_quiet p gfn t step is = quiet_told step (access_untold p gfn t step is)

@@ -85,7 +85,7 @@ quiet_change z v a line p command never S I P makes knows =
       caches = refl;
       counts = counts_more p command h line x;
       leaves = change_leaves line h command h.cached x K.0 p K.1 (step_leaves z v a line command (place.SlotChange p) S I);
-      holds = λ cached. change_holds line h command cached x K.0 z v.words (v.words area.Host) (v.words area.Slots 0) p K.1 S.holds;
+      holds = λ cached. change_holds line h command cached x K.0 z v.words (v.words area.Slots 0) p K.1 S.holds;
     }) knows
 
 -- ---- The publication: the set with the change is in use, and the record has it.
@@ -94,16 +94,15 @@ published_kept : (z : Sizes) (v : View) (a : ℕ) (line : Line) (command : Comma
     → Invariant z v → TopicsInvariant z v → AllKnow z (stepped a line command (place.SlotChange Publish) v).hand
     → Invariant z (stepped a line command (place.SlotChange Publish) v)
 published_kept z v a line command S I P knows =
-    hand_moved z set page (v.words area.Role) (v.words area.Role) pool pool (v.words area.Host) v.hand a after new_set.stay
+    hand_moved z set page (v.words area.Role) (v.words area.Role) pool pool v.hand a after new_set.stay
     (new_set.set_part (v.words area.Role) role_is I.set_part)
     (λ i lt ne own is j low. refl) (λ i lt ne is. absurd (ne (one_manager z i a (v.hand i) h (I.lines i lt) O is manager))) own
-    (subst (λ c. Holds z pool (v.words area.Host) page (place.SlotChange Release) c after) (sym S.command_is) tt)
+    (subst (λ c. Holds z pool page (place.SlotChange Release) c after) (sym S.command_is) tt)
     (record {
       leaves = λ may. absurd (cc may);
       opens = λ may. closed;
     })
-    (still_cached pool set pool page (v.words area.Host) (kind_of_task h.state.sizes (slot_change_task Publish h command)) h.cached set new_set.stay
-    (I.cached a S.there))
+    (still_cached z (kind_of_task h.state.sizes (slot_change_task Publish h command)) h.cached set (I.cached a S.there))
     (λ is. record { same = new_set.list }) knows I
   where
     h : Held

@@ -121,37 +121,37 @@ module _ (line : Line) (h : Held) (command : Command) (cached : Buffer Translati
 
   -- ---- what it has filled of the page
 
-  claim_holds : (z : Sizes) (pool host : ℕ → ℕ) (set : ℕ) (begun : Bool) (step : PartStep) (next : ClaimNext) (u : Topics)
+  claim_holds : (z : Sizes) (pool : ℕ → ℕ) (set : ℕ) (begun : Bool) (step : PartStep) (next : ClaimNext) (u : Topics)
       → ClaimMade h.state.sizes begun h.topics v step next u → change_refusal z command h.slots ≡ None
-      → Holds z pool host set (place_after (after_set_claim next)) command (behind (Claim begun) u)
-  claim_holds z pool host set begun _ _ _ (made.Won tries b some is) e =
+      → Holds z pool set (place_after (after_set_claim next)) command (behind (Claim begun) u)
+  claim_holds z pool set begun _ _ _ (made.Won tries b some is) e =
       record { accepted = e; filled = none_filled pool (set_word (slots_after command h.slots)) (page_won h.topics.claim) refl }
-  claim_holds z pool host set begun _ _ _ (made.SawNone not_ le) e = tt
-  claim_holds z pool host set begun _ _ _ _ e = e
+  claim_holds z pool set begun _ _ _ (made.SawNone not_ le) e = tt
+  claim_holds z pool set begun _ _ _ _ e = e
 
-  pub change_holds : (z : Sizes) (words : Area → ℕ → ℕ) (host : ℕ → ℕ) (set : ℕ) (p : SlotChangePlace) → SlotChangeKnows p h
+  pub change_holds : (z : Sizes) (words : Area → ℕ → ℕ) (set : ℕ) (p : SlotChangePlace) → SlotChangeKnows p h
       → SlotChangeHolds z (words area.Pool) p command h
-      → Holds z (words_after (slot_change_task p h command) words area.Pool) host set (place_after (slot_change_outcome p h v)) command
+      → Holds z (words_after (slot_change_task p h command) words area.Pool) set (place_after (slot_change_outcome p h v)) command
       (behind p (part_topics (slot_change_part p h command) h.topics v))
-  change_holds z words host set (Claim begun) K e =
-      claim_holds z (words_after (slot_change_task (Claim begun) h command) words area.Pool) host set begun _ _ _ (claim_made h.state.sizes begun h.topics v) e
-  change_holds z words host set Fill K e =
+  change_holds z words set (Claim begun) K e =
+      claim_holds z (words_after (slot_change_task (Claim begun) h command) words area.Pool) set begun _ _ _ (claim_made h.state.sizes begun h.topics v) e
+  change_holds z words set Fill K e =
       let pool : ℕ → ℕ = words_after (slot_change_task Fill h command) words area.Pool in
       let filled = one_more (words area.Pool) (set_word (slots_after command h.slots)) h.topics.owned v K.1.1 e.filled in
       let F : FillsSet z pool command h.slots (filled_more h.topics.owned v) = record { accepted = e.accepted; filled = filled } in
       either_place (λ q. SlotChangeHolds z pool q command (behind Fill (record h.topics { owned = filled_more h.topics.owned v })))
       (nat_lt (words_filled h.topics.owned + 1) 512) Fill Role F F
-  change_holds z words host set Role K e =
+  change_holds z words set Role K e =
       record { accepted = e.accepted; filled = all_filled (words area.Pool) (set_word (slots_after command h.slots)) h.topics.owned v K.1 e.filled }
-  change_holds z words host set Exclude K e =
+  change_holds z words set Exclude K e =
       either_place (λ q. SlotChangeHolds z (words area.Pool) q command (behind Exclude (part_topics part.Exclude h.topics v))) (v == 0) Count Exclude e e
-  change_holds z words host set Count K e =
+  change_holds z words set Count K e =
       either_place (λ q. SlotChangeHolds z (words area.Pool) q command (behind Count (part_topics part.Count h.topics v))) (v == 0) Publish Close e e
-  change_holds z words host set Close K e = e
-  change_holds z words host set Watch K e =
+  change_holds z words set Close K e = e
+  change_holds z words set Watch K e =
       each_watch (λ q. SlotChangeHolds z (words area.Pool) q command (behind Watch (part_topics (part.Watch (looked_at h)) h.topics v)))
       (watch_next h v) Watch Clear tt tt
-  change_holds z words host set _ K e = tt
+  change_holds z words set _ K e = tt
 
   -- ---- which page leaves: after a step up to the publication none, and after the last one none any more
 

@@ -30,7 +30,7 @@ use Rattle.mmu_core.proofs.lines.AccessLeft.{claim_few}
 use Rattle.mmu_core.proofs.lines.ClaimMade.{claim_free, claim_made, claim_untold}
 use Rattle.mmu_core.proofs.lines.EitherPlace.{each_claim}
 use Rattle.mmu_core.proofs.machine.GoesOn.{GoesToNoAccess, GoesUnderWay}
-use Rattle.mmu_core.proofs.machine.PartStepping.{is_publish, is_told, never_told}
+use Rattle.mmu_core.proofs.machine.PartStepping.{is_publish, is_told, never_told, changes_word, quiet_told}
 use Rattle.mmu_core.proofs.slots.LiveStays.{OwnedStays}
 
 -- It publishes at one place alone.
@@ -46,6 +46,9 @@ change_untold _ h command other = refl
 pub change_never : (p : SlotChangePlace) (h : Held) (command : Command) → is_publication p ≡ false → is_publish (slot_change_part p h command) ≡ false
 change_never p h command other = never_told (slot_change_part p h command) (change_untold p h command other)
 
+pub change_quiet : (p : SlotChangePlace) (h : Held) (command : Command) → is_publication p ≡ false → changes_word (slot_change_part p h command) ≡ false
+change_quiet p h command other = quiet_told (slot_change_part p h command) (change_untold p h command other)
+
 -- ---- where it goes on to
 
 pub slot_change_goes : (p : SlotChangePlace) (h : Held) (v : ℕ) → GoesUnderWay (slot_change_outcome p h v) × GoesToNoAccess (slot_change_outcome p h v)
@@ -57,10 +60,10 @@ slot_change_goes _ h v = (tt, tt)
 -- ---- what it has loaded
 
 -- Where it begins it has loaded nothing.
-pub slot_change_begins : (z : Sizes) (pool host : ℕ → ℕ) (set : ℕ) (command : Command) (h : Held) (r : Option Refusal) → change_refusal z command h.slots ≡ r
-    → Holds z pool host set (place.SlotChange (slot_change_first r)) command h
-slot_change_begins z pool host set command h None is = is
-slot_change_begins z pool host set command h (Some refusal) is = is
+pub slot_change_begins : (z : Sizes) (pool : ℕ → ℕ) (set : ℕ) (command : Command) (h : Held) (r : Option Refusal) → change_refusal z command h.slots ≡ r
+    → Holds z pool set (place.SlotChange (slot_change_first r)) command h
+slot_change_begins z pool set command h None is = is
+slot_change_begins z pool set command h (Some refusal) is = is
 
 -- What it has stored stays where the words of its own page do.
 module _ (z : Sizes) (before after : ℕ → ℕ) (h : Held) (own : OwnedStays before after h) where

@@ -57,22 +57,20 @@ abbrev pub AllKnow : Sizes → (ℕ → Held) → Type 0
 AllKnow z hand = (i : ℕ) → i < actors_of z → KnowsPart (hand i).state.place (hand i).state.line.command (hand i)
 
 -- Live slots stay, the published set is one, and one hand is another one.
-pub hand_moved : (z : Sizes) (set other : ℕ) (role behind before after host : ℕ → ℕ) (hand : ℕ → Held) (a : ℕ) (h : Held) → StayLive before set after other → SlotSetPart z other behind after
+pub hand_moved : (z : Sizes) (set other : ℕ) (role behind before after : ℕ → ℕ) (hand : ℕ → Held) (a : ℕ) (h : Held) → StayLive before set after other → SlotSetPart z other behind after
     → ((i : ℕ) → i < actors_of z → i ≢ a → OwnedStays before after (hand i)) → ((i : ℕ) → i < actors_of z → i ≢ a → (hand i).state.actor ≡ Manager → RecordPart after other (hand i).slots)
-    → OwnLines z a h → Holds z after host other h.state.place h.state.line.command h → LeavesPart h.state.place h.topics
-    → CachedPart after host other h.cached.items → (h.state.actor ≡ Manager → RecordPart after other h.slots) → AllKnow z (upd hand a h)
-    → InvariantOf z set role before host hand → InvariantOf z other behind after host (upd hand a h)
-hand_moved z set other role behind before after host hand a h stay part owned others own holds leaves cached recorded knows I = record {
+    → OwnLines z a h → Holds z after other h.state.place h.state.line.command h → LeavesPart h.state.place h.topics
+    → CachedPart z h.cached.items → (h.state.actor ≡ Manager → RecordPart after other h.slots) → AllKnow z (upd hand a h)
+    → InvariantOf z set role before hand → InvariantOf z other behind after (upd hand a h)
+hand_moved z set other role behind before after hand a h stay part owned others own holds leaves cached recorded knows I = record {
   sizes = I.sizes;
-  hosts = I.hosts;
   set_part = part;
   lines = at_upd (λ i x. i < actors_of z → OwnLines z i x) hand a h (λ lt. own) (λ i ne. I.lines i);
-  loads = at_upd (λ i (x : Held). i < actors_of z → Holds z after host other x.state.place x.state.line.command x) hand a h (λ lt. holds)
-      (λ i ne lt. loads_stay z before set after other host (hand i) stay (owned i lt ne) (hand i).state.place (hand i).state.line.command (I.loads i lt));
+  loads = at_upd (λ i (x : Held). i < actors_of z → Holds z after other x.state.place x.state.line.command x) hand a h (λ lt. holds)
+      (λ i ne lt. loads_stay z before set after other (hand i) stay (owned i lt ne) (hand i).state.place (hand i).state.line.command (I.loads i lt));
   knows = knows;
   leaves = at_upd (λ i (x : Held). i < actors_of z → LeavesPart x.state.place x.topics) hand a h (λ lt. leaves) (λ i ne. I.leaves i);
-  cached = at_upd (λ i (x : Held). i < actors_of z → CachedPart after host other x.cached.items) hand a h (λ lt. cached)
-      (λ i ne lt. translations_stay before set after other stay host (hand i).cached.items (I.cached i lt));
+  cached = at_upd (λ i (x : Held). i < actors_of z → CachedPart z x.cached.items) hand a h (λ lt. cached) (λ i ne. I.cached i);
   recorded = at_upd (λ i (x : Held). i < actors_of z → x.state.actor ≡ Manager → RecordPart after other x.slots) hand a h (λ lt. recorded)
       (λ i ne lt is. others i lt ne is);
 }

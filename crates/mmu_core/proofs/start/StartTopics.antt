@@ -36,6 +36,10 @@ use Rattle.mmu_core.proofs.pages.PoolPages.{among_tells, itself, other}
 use Rattle.mmu_core.proofs.pages.Standing.{one_position}
 use Rattle.mmu_core.specs.invariant.InvalidatedPart.{PassedPart}
 use Rattle.mmu_core.specs.invariant.InvalidationsPart.{KnownRangePart}
+use Rattle.mmu_core.specs.invariant.HostWordsPart.{HostWordsPart}
+use Rattle.spte_words.specs.HostWords.{host_word, host_allows_write}
+use Rattle.spte_words.proofs.ReadsHost.{host_is_writable}
+use Rattle.core_views.specs.declared.topics.HostLook.{HostLook}
 
 -- what actors hold of the parts: nothing
 topics_are : (z : Sizes) (lines : List Line) (w : World Held) (i : ℕ) → IsStart z lines w → i < actors_of z → (hand_in mmu w i).topics ≡ first_topics
@@ -191,8 +195,19 @@ held_first stands = record { table = λ from. absurd (omega (arith, from)); no_t
 search_first : (pool : ℕ → ℕ) → SearchPart pool first_topics.search
 search_first pool = record { listed = tt; loaded = λ k e. tt; whole = λ k e whole. absurd (cc whole); held = λ whole. absurd (cc whole); before_flags = λ whole. refl }
 
-look_first : (z : Sizes) (seq : ℕ) (host : ℕ → ℕ) → LookPart z seq host first_topics
-look_first z seq host = record { there = λ look e. absurd (cc e); is = λ look e. absurd (cc e); snapshot = λ s e. absurd (cc e) }
+look_first : (z : Sizes) (n seq : ℕ) (host : ℕ → ℕ) (topics : ℕ → Topics) → LookPart z n seq host topics first_topics
+look_first z n seq host topics =
+    record { there = λ look e. absurd (cc e); is_word = λ look e. absurd (cc e); still = λ look s e. absurd (cc e); snapshot = λ s e. absurd (cc e) }
+
+-- Each host word maps its page to its own frame, and allows writes.
+hosts_start : (z : Sizes) (lines : List Line) (w : World Held) → IsStart z lines w → HostWordsPart z (word_in z w area.Host)
+hosts_start z lines w start p lt =
+    let is = word_at_start z w area.Host p (host_word p true true 1) start.words (λ l. refl) (λ e. absurd (let t : nat_lt p z.pages ≡ true = grind (arith, nat_tests) in cc (e, t))) in
+    is ∙ ap (λ (b : Bool). host_word p true b 1) (sym (ap host_allows_write is ∙ host_is_writable p true true 1))
+
+looks_none : (z : Sizes) (lines : List Line) (w : World Held) (i : ℕ) (look : HostLook) → IsStart z lines w → i < actors_of z
+    → (hand_in mmu w i).topics.host ≡ Some look → ⊥
+looks_none z lines w i look start lt is = let none : (hand_in mmu w i).topics.host ≡ None = ap (λ (t : Topics). t.host) (topics_are z lines w i start lt) in cc (none, is)
 
 counters_first : (z : Sizes) → CountersPart z first_topics
 counters_first z = record {
@@ -250,7 +265,10 @@ start_topics z lines w start = record {
   sets = λ i k lt is. absurd (holds_none z lines w i k start lt is);
   old_sets = λ i k lt is. absurd (leaves_none z lines w i k start lt is);
   searches = λ i lt. subst (λ (t : Topics). SearchPart (word_in z w area.Pool) t.search) (sym (topics_are z lines w i start lt)) (search_first (word_in z w area.Pool));
-  looks = λ i lt. subst (LookPart z (word_in z w area.Seq 0) (word_in z w area.Host)) (sym (topics_are z lines w i start lt)) (look_first z (word_in z w area.Seq 0) (word_in z w area.Host));
+  hosts = hosts_start z lines w start;
+  looks = λ i lt. subst (LookPart z (actors_of z) (word_in z w area.Seq 0) (word_in z w area.Host) (λ j. (hand_in mmu w j).topics)) (sym (topics_are z lines w i start lt))
+      (look_first z (actors_of z) (word_in z w area.Seq 0) (word_in z w area.Host) (λ j. (hand_in mmu w j).topics));
+  own_looks = λ i look lt is. absurd (looks_none z lines w i look start lt is);
   counts = count_start z lines w start;
   checks = λ i lt. subst (CheckedPart (word_in z w area.Count 0) (word_in z w area.RangeStart 0) (word_in z w area.RangeEnd 0) (word_in z w area.Seq 0))
       (sym (topics_are z lines w i start lt)) (checked_first _ _ _ _);

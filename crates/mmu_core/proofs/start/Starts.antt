@@ -22,7 +22,7 @@ use Rattle.core_views.specs.Whole.{lines_of}
 use Rattle.spte_words.specs.declared.area.Area.{Area}
 use Rattle.spte_words.specs.declared.area.Area.TheVariants as area
 use Rattle.spte_words.specs.Areas.{size_of}
-use Rattle.spte_words.specs.Entries.{absent_word}
+use Rattle.spte_words.specs.Entries.{absent_word, frame_in}
 use Rattle.spte_words.specs.Flags.{flags_live}
 use Rattle.spte_words.specs.HostWords.{host_word}
 use Rattle.spte_words.specs.Areas.{StandsSomewhere}
@@ -42,6 +42,7 @@ use Rattle.mmu_core.proofs.start.StartTopics.{rest_first, seq_start, start_topic
 use Rattle.mmu_core.proofs.lines.LinesKept.{AddsId, NoId, OneId, adds_id}
 use Rattle.mmu_core.proofs.invariant.RestsKept.{hand_rests, rests_stay}
 use Rattle.mmu_core.specs.invariant.Laws.{IsSound}
+use Rattle.mmu_core.proofs.held.UsableSteps.{none_usable}
 use Rattle.mmu_core.proofs.machine.Worlds.{good_run}
 use Rattle.part_steps.specs.SetWords.{set_role}
 
@@ -237,13 +238,13 @@ start_good z lines w start = record {
     raised = let none = seq_start z lines w start in omega (arith, none);
     answered = λ i lt. subst (λ (h : Held). length h.answers ≤ length h.lines) (sym (hand_is z lines w i start lt)) (omega arith);
   };
+  usable = none_usable z (view z w) (λ i lt. ap (λ (h : Held). h.cached.items) (hand_is z lines w i start lt));
   flushes = λ i v lt low opened.
       let closed : (hand_in mmu w i).topics.invalidations.opened ≡ false = ap (λ (h : Held). h.topics.invalidations.opened) (hand_is z lines w i start lt) in
       absurd (cc (closed, opened));
   no_pause = word_at_start z w area.Pause 0 0 start.words (λ l. refl) (λ e. refl);
   holds = record {
     sizes = start.sizes;
-    hosts = λ p lt. word_at_start z w area.Host p (host_word p true true 1) start.words (λ l. refl) (λ e. let t = below p z.pages lt in absurd (cc (e, t)));
     set_part = record {
       role_is = role_at_start z w start.sizes start.words;
       fits = λ id low live. let e = none_live z w (word_in z w area.Slots 0) id start.words in absurd (cc (e, live));
@@ -251,12 +252,12 @@ start_good z lines w start = record {
       host_apart = λ page i j low under live more has too. let e = none_live z w (word_in z w area.Slots 0) i start.words in absurd (cc (e, live));
     };
     lines = λ i lt. subst (OwnLines z i) (sym (hand_is z lines w i start lt)) (first_lines z lines w i start lt);
-    loads = λ i lt. subst (λ (h : Held). Holds z (word_in z w area.Pool) (word_in z w area.Host) (word_in z w area.Slots 0) h.state.place h.state.line.command h) (sym (hand_is z lines w i start lt)) tt;
+    loads = λ i lt. subst (λ (h : Held). Holds z (word_in z w area.Pool) (word_in z w area.Slots 0) h.state.place h.state.line.command h) (sym (hand_is z lines w i start lt)) tt;
     knows = λ i lt. subst (λ (h : Held). KnowsPart h.state.place h.state.line.command h) (sym (hand_is z lines w i start lt)) (λ has. rest_first);
     leaves = λ i lt. subst (λ (h : Held). LeavesPart h.state.place h.topics) (sym (hand_is z lines w i start lt))
         (record { leaves = λ may. refl; opens = λ may. refl });
-    cached = λ i lt. subst (λ (h : Held). CachedPart (word_in z w area.Pool) (word_in z w area.Host) (word_in z w area.Slots 0) h.cached.items) (sym (hand_is z lines w i start lt))
-        (All-nil (λ (t : Translation). (t.level ≡ 1) × IsLeafFor (word_in z w area.Pool) (word_in z w area.Host) (word_in z w area.Slots 0) t.gfn t.leaf));
+    cached = λ i lt. subst (λ (h : Held). CachedPart z h.cached.items) (sym (hand_is z lines w i start lt))
+        (All-nil (λ (t : Translation). (t.level ≡ 1) × (frame_in t.leaf < z.frames)));
     recorded = λ i lt is. subst (λ (h : Held). RecordPart (word_in z w area.Pool) (word_in z w area.Slots 0) h.slots) (sym (hand_is z lines w i start lt))
         (record { same = sym (none_below (live_at (word_in z w area.Pool) (word_in z w area.Slots 0)) (memory_slot_at (word_in z w area.Pool) (word_in z w area.Slots 0)) 32 (λ id low. none_live z w (word_in z w area.Slots 0) id start.words)) });
   };

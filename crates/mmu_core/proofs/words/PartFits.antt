@@ -1,6 +1,6 @@
 -- The word of each step of a part is one of its area, and what it writes has 64 bits.
 use Rattle.std.proofs.Common.{◌≡◌, ◌<◌, ◌≤◌, ◌^◌, ◌%◌, ◌+◌, ◌-◌, ◌*◌, ℕ, refl, sym, subst, ap, arith, Bool}
-use Rattle.std.specs.Prelude.{Bool, true, false, Some, None, is_some, Option, if◌then◌else◌}
+use Rattle.std.specs.Prelude.{Bool, true, false, Some, None, is_some, Option, if◌then◌else◌, ◌||◌, ◌==◌}
 use Rattle.std.proofs.Math.Pow.{pow-lt}
 use Rattle.core_views.specs.declared.place.SlotField.{SlotField}
 use Rattle.core_views.specs.declared.place.SlotField.TheVariants as field
@@ -11,7 +11,7 @@ use Rattle.core_views.specs.Held.{Held}
 use Rattle.core_views.specs.Sizes.{actors_of}
 use Rattle.spte_words.specs.declared.area.Area.TheVariants as area
 use Rattle.spte_words.specs.Areas.{size_of}
-use Rattle.spte_words.specs.HostWords.{host_allows_write, host_frame, host_level, host_present, with_writes_allowed}
+use Rattle.spte_words.specs.HostWords.{host_allows_write, host_frame, host_level, host_present, with_writes}
 use Rattle.spte_words.proofs.Indices.{pool_within}
 use Rattle.spte_words.proofs.ReadsHost.{host_fits}
 use Rattle.spte_words.proofs.ReadsEntries.{leaf_fits, table_fits}
@@ -19,13 +19,14 @@ use Rattle.part_steps.specs.declared.part_step.PartStep.{PartStep}
 use Rattle.part_steps.specs.declared.part_step.PartStep.TheVariants as part
 use Rattle.part_steps.specs.PartBounds.{PartRests}
 use Rattle.part_steps.specs.PartTasks.{IsWithin, all_but, leaf_written, link_written, own_index, page_owned, part_kind, part_task, set_held, table_page, word_looked, words_filled, page_left, page_looked}
-use Rattle.part_steps.specs.InvalidationHoldings.{MayChange, MayCount}
+use Rattle.part_steps.specs.InvalidationHoldings.{MayChange, MayCount, revises}
 use Rattle.part_steps.specs.PartHoldings.{LookedUp, OwnsTable, MayPublish, MayGiveOld}
 use Rattle.part_steps.specs.PartSteps.{PartNeeds}
 use Rattle.part_steps.specs.SlotWords.{field_number, leaf_of, may_write, slot_index}
 use Rattle.part_steps.specs.Tasks.{map_of}
 use Rattle.part_steps.specs.PageTopics.{tried_bit}
 use Rattle.mmu_core.proofs.pages.Owned.{owned_some, some_filled}
+use Rattle.std.proofs.lemmas.Bool.Decides.{nat_tests}
 
 pub is_number : (f : SlotField) → field_number f ≤ 3
 is_number field.Base = omega arith
@@ -124,10 +125,18 @@ leaf_small h U R =
 publish_small : (h : Held) → MayPublish h.topics → PartRests h → page_owned h.topics.owned < 2 ^ 64
 publish_small h M R = let page = page_there h (some_filled h.topics.owned 513 M.owns.whole (omega arith)) R in omega (arith, page, R.sizes.pool.1)
 
--- The word of a frame of the machine, to which writes are allowed, has 64 bits.
-word_small : (word : ℕ) → host_frame word ≤ 2097152 → with_writes_allowed word < 2 ^ 64
+word_fits : (word : ℕ) (allowed : Bool) → host_frame word ≤ 2097152 → with_writes allowed word < 2 ^ 64
 unfolding host_level
-word_small word few = host_fits (host_frame word) (host_present word) true (host_level word) (omega (arith, few)) (omega arith)
+word_fits word allowed few = host_fits (host_frame word) (host_present word) allowed (host_level word) (omega (arith, few)) (omega arith)
+
+-- The word of a frame of the machine, to which writes are allowed or forbidden, has 64 bits.
+word_small : (word new_ : ℕ) → host_frame word ≤ 2097152 → revises word new_ ≡ true → new_ < 2 ^ 64
+word_small word new_ few is = by (new_ == with_writes true word) (new_ == with_writes false word) (λ e. grind (arith, nat_tests)) (λ e. grind (arith, nat_tests)) is
+  where
+    by : (x y : Bool) → (x ≡ true → new_ ≡ with_writes true word) → (y ≡ true → new_ ≡ with_writes false word) → (x || y) ≡ true → new_ < 2 ^ 64
+    by true y one other is = subst (λ n. n < 2 ^ 64) (sym (one refl)) (word_fits word true few)
+    by false true one other is = subst (λ n. n < 2 ^ 64) (sym (other refl)) (word_fits word false few)
+    by false false one other is = absurd (cc is)
 
 -- The count that is stored is one more or one less than one that was loaded.
 count_small : (h : Held) (count : ℕ) → MayCount count h.topics → PartRests h → count < 2 ^ 64
@@ -143,13 +152,13 @@ count_small h count M R = rw M.is (by h.topics.invalidations.opened)
     by true = omega (arith, few)
     by false = omega (arith, few)
 
--- The frame of a host word that was looked up is one of the machine's, so the word with writes allowed has 64 bits.
-allowed_small : (h : Held) → MayChange h → PartRests h → with_writes_allowed (word_looked h.topics.host) < 2 ^ 64
-allowed_small h M R = by h.topics.host refl M.looked
+-- The frame of a host word that was looked up is one of the machine's, so the word that is put in its place has 64 bits.
+changed_small : (h : Held) (new_ : ℕ) → MayChange h → revises (word_looked h.topics.host) new_ ≡ true → PartRests h → new_ < 2 ^ 64
+changed_small h new_ M is R = by h.topics.host refl M.looked is
   where
-    by : (x : Option HostLook) → h.topics.host ≡ x → is_some x ≡ true → with_writes_allowed (word_looked h.topics.host) < 2 ^ 64
-    by None is some = absurd (cc some)
-    by (Some look) is some = rw (ap word_looked is) (word_small look.word (omega (arith, (R.looked look is).1, R.sizes.frames.1)))
+    by : (x : Option HostLook) → h.topics.host ≡ x → is_some x ≡ true → revises (word_looked x) new_ ≡ true → new_ < 2 ^ 64
+    by None at some is = absurd (cc some)
+    by (Some look) at some is = word_small look.word new_ (omega (arith, (R.looked look at).1, R.sizes.frames.1)) is
 
 pub part_small : (step : PartStep) (h : Held) (note : ℕ) → PartNeeds step h → PartRests h → (part_kind h step note).new < 2 ^ 64
 part_small part.Leave h note N R = not_small 3
@@ -167,5 +176,5 @@ part_small (part.SetStart gfn) h note N R = N.1
 part_small (part.SetEnd gfn) h note N R = N.1
 part_small (part.SetCount count) h note N R = count_small h count N R
 part_small (part.SetSeq seq) h note N R = let is = N.1 in let few = R.counters.seq in omega (arith, is, few)
-part_small (part.Change new_) h note N R = rw N.1 (allowed_small h N.0 R)
+part_small (part.Change new_) h note N R = changed_small h new_ N.0 N.1 R
 part_small _ h note N R = omega arith

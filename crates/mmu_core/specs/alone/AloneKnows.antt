@@ -19,17 +19,18 @@ use Rattle.part_steps.specs.PartTasks.{table_page}
 abbrev pub StayAlone : Bool → ℕ → (ℕ → ℕ) → ℕ → Bool → Type 0
 StayAlone again root pool gfn write = again ≡ true → LeadsToLeaf pool 4 root gfn write
 
-abbrev pub AccessAlone : AccessPlace → ℕ → ℕ → (ℕ → ℕ) → ℕ → Bool → Topics → Type 0
-AccessAlone (Enter again) root set pool gfn write t = StayAlone again root pool gfn write
-AccessAlone (Pause again) root set pool gfn write t = StayAlone again root pool gfn write
-AccessAlone (Root again) root set pool gfn write t = StayAlone again root pool gfn write
-AccessAlone (Walk again) root set pool gfn write t = again ≡ true → LeadsToLeaf pool t.walk.level (table_page t.walk) gfn write
-AccessAlone (Fault p) root set pool gfn write t = FaultAlone p root set pool gfn write t
-AccessAlone _ root set pool gfn write t = Unit {0}
+abbrev pub AccessAlone : AccessPlace → ℕ → ℕ → (ℕ → ℕ) → (ℕ → ℕ) → ℕ → Bool → Topics → Type 0
+AccessAlone (Enter again) root set pool host gfn write t = StayAlone again root pool gfn write
+AccessAlone (Pause again) root set pool host gfn write t = StayAlone again root pool gfn write
+AccessAlone (Root again) root set pool host gfn write t = StayAlone again root pool gfn write
+AccessAlone (Walk again) root set pool host gfn write t = again ≡ true → LeadsToLeaf pool t.walk.level (table_page t.walk) gfn write
+AccessAlone (Fault p) root set pool host gfn write t = FaultAlone p root set pool host gfn write t
+AccessAlone _ root set pool host gfn write t = Unit {0}
 
 -- What a line of one form knows that no other does: an access, of the tables.
 abbrev pub FormAlone : Place → Command → (Area → ℕ → ℕ) → Topics → Type 0
-FormAlone (place.Access p) (Access gfn word op) words t = AccessAlone p (words area.Root 0) (words area.Slots 0) (words area.Pool) gfn (is_write op) t
+FormAlone (place.Access p) (Access gfn word op) words t =
+    AccessAlone p (words area.Root 0) (words area.Slots 0) (words area.Pool) (words area.Host) gfn (is_write op) t
 FormAlone _ command words t = Unit {0}
 
 -- What its actor has seen stands, and so does what its form knows.

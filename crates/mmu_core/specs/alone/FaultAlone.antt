@@ -3,20 +3,23 @@
 use Rattle.std.specs.Prelude.{◌≡◌, ◌/◌, ◌^◌, ◌<◌, ℕ, zero, suc, Bool, true, false, Some}
 use Rattle.core_views.specs.declared.place.CheckStage.TheVariants as stage
 use Rattle.core_views.specs.declared.place.FaultEnd.{FaultEnd}
-use Rattle.core_views.specs.declared.place.FaultEnd.TheVariants.{Installed, Mmio, Retry}
+use Rattle.core_views.specs.declared.place.FaultEnd.TheVariants.{HostFault, Installed, Mmio, Retry}
 use Rattle.core_views.specs.declared.place.FaultNext.{FaultNext}
 use Rattle.core_views.specs.declared.place.FaultNext.TheVariants.{Goes, Ends}
 use Rattle.core_views.specs.declared.place.FaultPlace.{FaultPlace}
 use Rattle.core_views.specs.declared.place.FaultPlace.TheVariants.{Find, Check, Claim, Fill, Role, Link, Give, Leaf, Unshare, End}
 use Rattle.core_views.specs.declared.sizes.Sizes.{Sizes}
 use Rattle.core_views.specs.declared.topics.Topics.{Topics}
+use Rattle.core_views.specs.declared.trace.Slot.{Slot}
 use Rattle.core_views.specs.Held.{Held}
 use Rattle.core_views.specs.Sizes.{actors_of}
+use Rattle.core_views.specs.Slots.{contains}
 use Rattle.spte_words.specs.declared.area.Area.{Area}
 use Rattle.spte_words.specs.declared.area.Area.TheVariants as area
 use Rattle.spte_words.specs.declared.spte_kind.SpteKind.TheVariants as entry_kind
 use Rattle.spte_words.specs.Areas.{pool_index}
 use Rattle.spte_words.specs.Entries.{kind_of, level_span}
+use Rattle.spte_words.specs.HostWords.{host_allows_write}
 use Rattle.part_steps.specs.declared.task.Task.{Task}
 use Rattle.part_steps.specs.declared.part_step.PartStep.{PartStep}
 use Rattle.mmu_core.specs.machine.Enabled.{mmu}
@@ -24,13 +27,14 @@ use Rattle.mmu_core.specs.lines.FaultKnows.{FaultKnows}
 use Rattle.mmu_core.specs.lines.FaultSteps.{allows_access, fault_next, fault_part}
 use Rattle.mmu_core.specs.lines.PartWaits.{part_waits}
 use Rattle.mmu_core.specs.invariant.Laws.{IsSound}
+use Rattle.mmu_core.specs.invariant.SlotSetPart.{IsLiveIn}
 use Rattle.mmu_core.specs.machine.Machine.{World, hand_in}
 use Rattle.mmu_core.specs.alone.OthersRest.{OthersRest}
 use Rattle.mmu_core.specs.alone.SeenStands.{SeenStands}
 use Rattle.mmu_core.specs.lines.ScanPlaces.{BegunNext, HasBegun}
 use Rattle.part_steps.specs.PartTasks.{entry_index, part_task, table_page}
 use Rattle.part_steps.specs.PartTopics.{part_topics}
-use Rattle.part_steps.specs.SlotWords.{NoneBelow, NoneHasPage}
+use Rattle.part_steps.specs.SlotWords.{NoneBelow, NoneHasPage, page_of}
 use Rattle.part_steps.specs.WalkTopics.{linked_page}
 use Rattle.mmu_core.specs.invariant.TreePart.{at, stands}
 use Rattle.mmu_core.specs.machine.View.{answer_in, word_in, words_after}
@@ -40,7 +44,8 @@ abbrev pub LeadsTo : (ℕ → ℕ) → ℕ → ℕ → ℕ → ℕ → Type 0
 LeadsTo pool zero page gfn entry = ⊥
 LeadsTo pool (suc zero) page gfn entry = pool (pool_index page (entry_index gfn 1)) ≡ entry
 LeadsTo pool (suc (suc level)) page gfn entry =
-    (below : ℕ) × (linked_page (kind_of (suc (suc level)) (pool (pool_index page (entry_index gfn (suc (suc level)))))) ≡ Some below) × LeadsTo pool (suc level) below gfn entry
+    (below : ℕ) × (linked_page (kind_of (suc (suc level)) (pool (pool_index page (entry_index gfn (suc (suc level)))))) ≡ Some below)
+    × LeadsTo pool (suc level) below gfn entry
 
 -- They lead to a leaf that allows the access.
 pub record LeadsToLeaf (pool : ℕ → ℕ) (level page gfn : ℕ) (write : Bool) : Type 0 where
@@ -53,35 +58,46 @@ pub record LeadsToLeaf (pool : ℕ → ℕ) (level page gfn : ℕ) (write : Bool
 abbrev pub EntryStands : (ℕ → ℕ) → ℕ → Topics → Type 0
 EntryStands pool gfn t = pool (pool_index (table_page t.walk) (entry_index gfn t.walk.level)) ≡ t.walk.entry
 
+-- A live slot of the set has a page for the access, which is a write, and the host word of this page forbids writes.
+pub record HostForbidsPage (set : ℕ) (pool host : ℕ → ℕ) (gfn : ℕ) (write : Bool) : Type 0 where
+  pub writes : write ≡ true
+  pub id : ℕ
+  pub slot : Slot
+  pub live : IsLiveIn pool set id slot
+  pub holds : contains gfn slot ≡ true
+  pub slot_allows : slot.read_only ≡ false
+  pub forbids : host_allows_write (host (page_of slot gfn)) ≡ false
+
 -- Where a fault has installed an entry, links lead to a leaf that allows the access; where it ends with MMIO, no live slot of the published
--- set has a page for the access; no fault begins anew.
-abbrev pub EndAlone : FaultEnd → ℕ → ℕ → (ℕ → ℕ) → ℕ → Bool → Type 0
-EndAlone Installed root set pool gfn write = LeadsToLeaf pool 4 root gfn write
-EndAlone Mmio root set pool gfn write = NoneHasPage gfn write pool set
-EndAlone (Retry cause) root set pool gfn write = ⊥
-EndAlone _ root set pool gfn write = Unit {0}
+-- set has a page for the access; where it ends with a host fault, the host forbids this write; no fault begins anew.
+abbrev pub EndAlone : FaultEnd → ℕ → ℕ → (ℕ → ℕ) → (ℕ → ℕ) → ℕ → Bool → Type 0
+EndAlone Installed root set pool host gfn write = LeadsToLeaf pool 4 root gfn write
+EndAlone Mmio root set pool host gfn write = NoneHasPage gfn write pool set
+EndAlone HostFault root set pool host gfn write = HostForbidsPage set pool host gfn write
+EndAlone (Retry cause) root set pool host gfn write = ⊥
+EndAlone _ root set pool host gfn write = Unit {0}
 
 -- What a fault knows of the words at each place, where no other actor is in its way: the slots before its search don't have the guest
 -- frame; the entry that it saw is as it saw it. It never comes to a range of guest frames, since no invalidation is open, and never gives
 -- a page back.
-abbrev pub FaultAlone : FaultPlace → ℕ → ℕ → (ℕ → ℕ) → ℕ → Bool → Topics → Type 0
-FaultAlone (Find begun) root set pool gfn write t = begun ≡ true → (t.search.set ≡ Some set) × NoneBelow gfn pool set t.search.id
-FaultAlone (Check stage.Start) root set pool gfn write t = ⊥
-FaultAlone (Check stage.End) root set pool gfn write t = ⊥
-FaultAlone (Claim begun) root set pool gfn write t = EntryStands pool gfn t
-FaultAlone Fill root set pool gfn write t = EntryStands pool gfn t
-FaultAlone Role root set pool gfn write t = EntryStands pool gfn t
-FaultAlone Link root set pool gfn write t = EntryStands pool gfn t
-FaultAlone Leaf root set pool gfn write t = EntryStands pool gfn t
-FaultAlone (Give e) root set pool gfn write t = ⊥
-FaultAlone (Unshare e) root set pool gfn write t = EndAlone e root set pool gfn write
-FaultAlone (End e) root set pool gfn write t = EndAlone e root set pool gfn write
-FaultAlone _ root set pool gfn write t = Unit {0}
+abbrev pub FaultAlone : FaultPlace → ℕ → ℕ → (ℕ → ℕ) → (ℕ → ℕ) → ℕ → Bool → Topics → Type 0
+FaultAlone (Find begun) root set pool host gfn write t = begun ≡ true → (t.search.set ≡ Some set) × NoneBelow gfn pool set t.search.id
+FaultAlone (Check stage.Start) root set pool host gfn write t = ⊥
+FaultAlone (Check stage.End) root set pool host gfn write t = ⊥
+FaultAlone (Claim begun) root set pool host gfn write t = EntryStands pool gfn t
+FaultAlone Fill root set pool host gfn write t = EntryStands pool gfn t
+FaultAlone Role root set pool host gfn write t = EntryStands pool gfn t
+FaultAlone Link root set pool host gfn write t = EntryStands pool gfn t
+FaultAlone Leaf root set pool host gfn write t = EntryStands pool gfn t
+FaultAlone (Give e) root set pool host gfn write t = ⊥
+FaultAlone (Unshare e) root set pool host gfn write t = EndAlone e root set pool host gfn write
+FaultAlone (End e) root set pool host gfn write t = EndAlone e root set pool host gfn write
+FaultAlone _ root set pool host gfn write t = Unit {0}
 
 -- what it knows of the words after a step
-abbrev pub AloneNext : FaultNext → ℕ → ℕ → (ℕ → ℕ) → ℕ → Bool → Topics → Type 0
-AloneNext (Goes p) root set pool gfn write t = FaultAlone p root set pool gfn write t
-AloneNext (Ends e) root set pool gfn write t = EndAlone e root set pool gfn write
+abbrev pub AloneNext : FaultNext → ℕ → ℕ → (ℕ → ℕ) → (ℕ → ℕ) → ℕ → Bool → Topics → Type 0
+AloneNext (Goes p) root set pool host gfn write t = FaultAlone p root set pool host gfn write t
+AloneNext (Ends e) root set pool host gfn write t = EndAlone e root set pool host gfn write
 
 -- A fault of the actor at place a stands at this place of its order, while all other actors rest; what its actor has seen stands, and it
 -- has no invalidation open.
@@ -93,7 +109,8 @@ pub record FaultRunsAlone (z : Sizes) (w : World Held) (a : ℕ) (p : FaultPlace
   pub knows : FaultKnows p z gfn write (hand_in mmu w a).topics
   pub seen : SeenStands (HasBegun p) (word_in z w) (hand_in mmu w a).topics
   pub opens_none : (hand_in mmu w a).topics.invalidations.opened ≡ false
-  pub alone : FaultAlone p (word_in z w area.Root 0) (word_in z w area.Slots 0) (word_in z w area.Pool) gfn write (hand_in mmu w a).topics
+  pub alone : FaultAlone p (word_in z w area.Root 0) (word_in z w area.Slots 0) (word_in z w area.Pool) (word_in z w area.Host) gfn write
+      (hand_in mmu w a).topics
 
 -- The step of its place doesn't wait for another actor; after it the fault knows of the words what its next place asks, and what its actor has
 -- seen stands: so where it is starved, each word of the map up to where its claim came is 0.
@@ -104,7 +121,8 @@ pub record GoesThrough (z : Sizes) (words : Area → ℕ → ℕ) (a : ℕ) (t :
       let task : Task = part_task step a t note in
       let found : ℕ = answer_in task words in
       let after : Area → ℕ → ℕ = words_after task words in
-      AloneNext (fault_next p z gfn write t found) (after area.Root 0) (after area.Slots 0) (after area.Pool) gfn write (part_topics step t found)
+      AloneNext (fault_next p z gfn write t found) (after area.Root 0) (after area.Slots 0) (after area.Pool) (after area.Host) gfn write
+      (part_topics step t found)
   pub seen :
       let step : PartStep = fault_part p gfn t in
       let task : Task = part_task step a t note in
@@ -112,7 +130,8 @@ pub record GoesThrough (z : Sizes) (words : Area → ℕ → ℕ) (a : ℕ) (t :
       SeenStands (BegunNext (fault_next p z gfn write t found)) (words_after task words) (part_topics step t found)
 
 -- A fault alone goes through: no step of it waits, it never begins anew; where it ends with an entry installed, links lead from the root to
--- a leaf that allows the access; where it ends with MMIO, no slot has a page for the access; and it is starved only where no page is free.
+-- a leaf that allows the access; where it ends with MMIO, no slot has a page for the access; where it ends with a host fault, a slot has one, whose
+-- host word forbids this write; and it is starved only where no page is free.
 abbrev pub FaultGoesThrough : Type 0
 FaultGoesThrough =
     (z : Sizes) (w : World Held) (a gfn note : ℕ) (write : Bool) (p : FaultPlace) → FaultRunsAlone z w a p gfn write
@@ -126,5 +145,6 @@ pub record LeadSame (pool : ℕ → ℕ) (root level page gfn entry : ℕ) : Typ
 -- Where a table stands over the guest frame, the links from the root lead through it.
 abbrev pub LeadsDown : Type 0
 LeadsDown =
-    (z : Sizes) (w : World Held) (gfn page level entry : ℕ) (sound : IsSound z w) → stands sound.topics.up sound.topics.spot page ≡ Some (at level (gfn / level_span level / 512))
+    (z : Sizes) (w : World Held) (gfn page level entry : ℕ) (sound : IsSound z w)
+    → stands sound.topics.up sound.topics.spot page ≡ Some (at level (gfn / level_span level / 512))
     → LeadSame (word_in z w area.Pool) (word_in z w area.Root 0) level page gfn entry

@@ -1,10 +1,12 @@
 -- Translations: what is cached, and what an access uses, agrees with slots and host.
-use Rattle.std.specs.Prelude.{◌≡◌, ℕ, All, List, true}
+use Rattle.std.specs.Prelude.{◌≡◌, ◌<◌, ℕ, All, List, true}
 use Rattle.core_views.specs.declared.cache.Translation.{Translation}
+use Rattle.core_views.specs.declared.sizes.Sizes.{Sizes}
 use Rattle.core_views.specs.declared.trace.Slot.{Slot as SlotOf}
 use Rattle.core_views.specs.Slots.{contains}
 use Rattle.mmu_core.specs.invariant.SlotSetPart.{IsLiveIn}
 use Rattle.part_steps.specs.SlotWords.{leaf_of, page_of}
+use Rattle.spte_words.specs.Entries.{frame_in}
 
 -- The word is the leaf of the page that the published slots, in this page, and the host give the guest frame.
 pub record IsLeafFor (pool host : ℕ → ℕ) (set gfn leaf : ℕ) : Type 0 where
@@ -14,6 +16,10 @@ pub record IsLeafFor (pool host : ℕ → ℕ) (set gfn leaf : ℕ) : Type 0 whe
   pub holds : contains gfn slot ≡ true
   pub is : leaf ≡ leaf_of slot (host (page_of slot gfn))
 
--- Each cached translation is of the lowest level, and is this leaf.
-abbrev pub CachedPart : (ℕ → ℕ) → (ℕ → ℕ) → ℕ → List Translation → Type 0
-CachedPart pool host set cached = All (λ t. (t.level ≡ 1) × IsLeafFor pool host set t.gfn t.leaf) cached
+-- Each cached translation is of the lowest level, at a frame of the machine.
+abbrev pub CachedPart : Sizes → List Translation → Type 0
+CachedPart z cached = All (λ t. (t.level ≡ 1) × (frame_in t.leaf < z.frames)) cached
+
+-- What is cached is this leaf, of each translation.
+abbrev pub AgreePart : (ℕ → ℕ) → (ℕ → ℕ) → ℕ → List Translation → Type 0
+AgreePart pool host set cached = All (λ t. IsLeafFor pool host set t.gfn t.leaf) cached

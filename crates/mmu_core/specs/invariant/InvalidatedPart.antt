@@ -1,6 +1,6 @@
 -- Open invalidations: which guest frames they are of, and that from the sweep on no leaf of these is left, and nothing cached of them once a flush was awaited
 -- (mmu_notifier.rst; tdp_mmu.c, kvm_tdp_mmu_unmap_gfn_range; vcpu-requests.rst).
-use Rattle.std.specs.Prelude.{◌≡◌, ◌<◌, ◌≤◌, ℕ, All, List, Bool, true, false, not, ◌||◌, Some}
+use Rattle.std.specs.Prelude.{◌≡◌, ◌<◌, ◌≤◌, ℕ, All, List, Bool, true, false, [], not, ◌||◌, Some}
 use Rattle.core_views.specs.declared.cache.Translation.{Translation}
 use Rattle.core_views.specs.declared.topics.Hold.TheVariants.{Exclusive}
 use Rattle.core_views.specs.declared.topics.Invalidated.{Invalidated}
@@ -14,6 +14,7 @@ use Rattle.spte_words.specs.declared.spte_kind.SpteKind.TheVariants.{Leaf}
 use Rattle.spte_words.specs.Entries.{kind_of}
 use Rattle.part_steps.specs.InvalidationRange.{gfn_behind, page_looked}
 use Rattle.mmu_core.specs.invariant.AllOver.{AllOver}
+use Rattle.mmu_core.specs.invariant.CachedPart.{AgreePart}
 use Rattle.mmu_core.specs.invariant.SlotSetPart.{IsLiveIn}
 use Rattle.mmu_core.specs.invariant.TreePart.{Position, Use}
 use Rattle.mmu_core.specs.lines.Cached.{asks_flush}
@@ -71,6 +72,11 @@ IsClean own_ cached = All (λ t. IsIn own_ t.gfn → ⊥) cached
 abbrev pub may_use : ℕ → Stay → Bool
 may_use state Guest = true
 may_use state _ = not (asks_flush state)
+
+-- What a virtual processor may use of what it has cached agrees with slots and host; other actors have nothing cached.
+pub record UsablePart (n vcpus : ℕ) (states pool host : ℕ → ℕ) (set : ℕ) (hand : ℕ → Held) : Type 0 where
+  pub agrees : (v : ℕ) → v < vcpus → may_use (states v) (hand v).topics.stay ≡ true → AgreePart pool host set (hand v).cached.items
+  pub others : (i : ℕ) → i < n → vcpus ≤ i → (hand i).cached.items ≡ []
 
 -- A virtual processor that was asked for a flush since has made it, or is yet to; and once it was awaited it may use nothing of the frames. No more
 -- are awaited than were asked.

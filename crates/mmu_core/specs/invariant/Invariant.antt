@@ -6,25 +6,22 @@ use Rattle.core_views.specs.Held.{Held}
 use Rattle.core_views.specs.Sizes.{AreSizes, actors_of}
 use Rattle.spte_words.specs.declared.area.Area.TheVariants as area
 use Rattle.mmu_core.specs.machine.View.{View}
-pub use Rattle.mmu_core.specs.invariant.HostWordsPart.{HostWordsPart}
 pub use Rattle.mmu_core.specs.invariant.SlotSetPart.{SlotSetPart, IsLiveIn}
 pub use Rattle.mmu_core.specs.invariant.CachedPart.{CachedPart, IsLeafFor}
 pub use Rattle.mmu_core.specs.lines.Forms.{KnowsPart, LeavesPart, Holds}
 pub use Rattle.mmu_core.specs.invariant.LinesPart.{IsSetBy, UnderWay, OwnLines, lines_done}
-pub use Rattle.mmu_core.specs.lines.AccessKnows.{AccessHolds}
 pub use Rattle.mmu_core.specs.invariant.RecordPart.{RecordPart}
 
 -- All parts, of the columns of words and the column of hands; the published slot set stands in this page.
-pub record InvariantOf (z : Sizes) (set : ℕ) (role pool host : ℕ → ℕ) (hand : ℕ → Held) : Type 0 where
+pub record InvariantOf (z : Sizes) (set : ℕ) (role pool : ℕ → ℕ) (hand : ℕ → Held) : Type 0 where
   pub sizes : AreSizes z
-  pub hosts : HostWordsPart z host
   pub set_part : SlotSetPart z set role pool
   pub lines : (i : ℕ) → i < actors_of z → OwnLines z i (hand i)
-  pub loads : (i : ℕ) → i < actors_of z → Holds z pool host set (hand i).state.place (hand i).state.line.command (hand i)
+  pub loads : (i : ℕ) → i < actors_of z → Holds z pool set (hand i).state.place (hand i).state.line.command (hand i)
   pub knows : (i : ℕ) → i < actors_of z → KnowsPart (hand i).state.place (hand i).state.line.command (hand i)
   pub leaves : (i : ℕ) → i < actors_of z → LeavesPart (hand i).state.place (hand i).topics
-  pub cached : (i : ℕ) → i < actors_of z → CachedPart pool host set (hand i).cached.items
+  pub cached : (i : ℕ) → i < actors_of z → CachedPart z (hand i).cached.items
   pub recorded : (i : ℕ) → i < actors_of z → (hand i).state.actor ≡ Manager → RecordPart pool set (hand i).slots
 
 abbrev pub Invariant : Sizes → View → Type 0
-Invariant z v = InvariantOf z (v.words area.Slots 0) (v.words area.Role) (v.words area.Pool) (v.words area.Host) v.hand
+Invariant z v = InvariantOf z (v.words area.Slots 0) (v.words area.Role) (v.words area.Pool) v.hand

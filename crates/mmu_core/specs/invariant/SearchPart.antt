@@ -1,5 +1,5 @@
 -- What an actor has loaded of a slot set, of the host and of the invalidations.
-use Rattle.std.specs.Prelude.{◌≡◌, ◌-◌, ◌<◌, ◌≤◌, ℕ, true, Some}
+use Rattle.std.specs.Prelude.{◌≡◌, ◌-◌, ◌<◌, ◌≤◌, ℕ, true, false, Some}
 use Rattle.core_views.specs.declared.place.SlotField.{SlotField}
 use Rattle.core_views.specs.declared.place.SlotField.TheVariants.{Base, Pages, Host, Flags}
 use Rattle.core_views.specs.declared.sizes.Sizes.{Sizes}
@@ -8,6 +8,7 @@ use Rattle.core_views.specs.declared.topics.SlotSearch.{SlotSearch}
 use Rattle.core_views.specs.declared.topics.Topics.{Topics}
 use Rattle.spte_words.specs.Flags.{flags_logged}
 use Rattle.part_steps.specs.SlotWords.{live_at, slot_at, slot_index}
+use Rattle.mmu_core.specs.invariant.HostWordsPart.{IsHostWord}
 use Rattle.mmu_core.specs.invariant.TreePart.{IsLiveIn}
 
 -- The slot under search is live, and its flags were loaded as the words of its slot set hold them.
@@ -35,8 +36,17 @@ pub record SearchPart (pool : ℕ → ℕ) (s : SlotSearch) : Type 0 where
   pub held : s.whole ≡ true → (k : ℕ) × (s.set ≡ Some k)
   pub before_flags : s.whole ≡ true → s.next ≡ Flags
 
--- The host word that was looked up is the host word of its page, and the snapshot isn't ahead of the sequence number.
-pub record LookPart (z : Sizes) (seq : ℕ) (host : ℕ → ℕ) (t : Topics) : Type 0 where
+-- An invalidation of the host page is open that hasn't raised the sequence number yet.
+pub record IsUnder (page : ℕ) (t : Topics) : Type 0 where
+  pub opened : t.invalidations.opened ≡ true
+  pub unraised : t.invalidations.raised ≡ false
+  pub of_page : t.invalidations.own.page ≡ page
+
+-- What was looked up of a host page is a word of the page; it is the page's own as long as the sequence number is that of the snapshot, and no invalidation of the
+-- page is open that hasn't raised it. The snapshot isn't ahead of the number.
+pub record LookPart (z : Sizes) (n seq : ℕ) (host : ℕ → ℕ) (topics : ℕ → Topics) (t : Topics) : Type 0 where
   pub there : (look : HostLook) → t.host ≡ Some look → look.page < z.pages
-  pub is : (look : HostLook) → t.host ≡ Some look → look.word ≡ host look.page
+  pub is_word : (look : HostLook) → t.host ≡ Some look → IsHostWord look.page look.word
+  pub still : (look : HostLook) (s : ℕ) → t.host ≡ Some look → t.invalidations.snapshot ≡ Some s → s ≡ seq → ((j : ℕ) → j < n → IsUnder look.page (topics j) → ⊥)
+      → look.word ≡ host look.page
   pub snapshot : (s : ℕ) → t.invalidations.snapshot ≡ Some s → s ≤ seq

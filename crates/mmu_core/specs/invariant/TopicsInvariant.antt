@@ -7,12 +7,13 @@ use Rattle.spte_words.specs.declared.area.Area.TheVariants as area
 use Rattle.mmu_core.specs.machine.View.{View}
 pub use Rattle.part_steps.specs.PartBounds.{CountersPart}
 pub use Rattle.mmu_core.specs.invariant.AllOver.{AllOver, LeafIsFor}
+pub use Rattle.mmu_core.specs.invariant.HostWordsPart.{HostWordsPart, IsHostWord, OwnLooksPart}
 pub use Rattle.mmu_core.specs.invariant.HeldPart.{HeldPart, HoldsOld, OldSetsPart, PathPart, SetsPart}
 pub use Rattle.mmu_core.specs.invariant.InvalidationsPart.{CheckedPart, CountPart, KnownRangePart, LoadedPart}
 pub use Rattle.mmu_core.specs.invariant.InvalidatedPart.{PassedPart, RangePart, ScopePart, ZappedPart}
 pub use Rattle.mmu_core.specs.invariant.LockPart.{LockPart, SawWriter}
 pub use Rattle.mmu_core.specs.invariant.PoolPart.{FilledPart, IsFilled, UsePart, is_leaving}
-pub use Rattle.mmu_core.specs.invariant.SearchPart.{LookPart, SearchPart}
+pub use Rattle.mmu_core.specs.invariant.SearchPart.{IsUnder, LookPart, SearchPart}
 pub use Rattle.mmu_core.specs.invariant.StatesPart.{StatesPart}
 pub use Rattle.mmu_core.specs.invariant.TreePart.{Position, TreePart, Use, stands}
 
@@ -32,7 +33,9 @@ pub record TopicsInvariantOf (z : Sizes) (lock root slots seq count start end_ :
   pub sets : SetsPart (actors_of z) slots (λ i. (hand i).topics)
   pub old_sets : OldSetsPart (actors_of z) slots pool (λ i. (hand i).topics.leaving)
   pub searches : (i : ℕ) → i < actors_of z → SearchPart pool (hand i).topics.search
-  pub looks : (i : ℕ) → i < actors_of z → LookPart z seq host (hand i).topics
+  pub hosts : HostWordsPart z host
+  pub looks : (i : ℕ) → i < actors_of z → LookPart z (actors_of z) seq host (λ j. (hand j).topics) (hand i).topics
+  pub own_looks : OwnLooksPart z (actors_of z) host (λ i. (hand i).topics)
   pub counts : CountPart (actors_of z) count (λ i. (hand i).topics.invalidations.opened)
   pub checks : (i : ℕ) → i < actors_of z → CheckedPart count start end_ seq (hand i).topics
   pub known : (i : ℕ) → i < actors_of z → KnownRangePart start end_ (hand i).topics

@@ -10,7 +10,6 @@ use Rattle.part_steps.specs.declared.part_step.PartStep.{PartStep}
 use Rattle.part_steps.specs.PartBounds.{IsAtLeafLevel}
 use Rattle.part_steps.specs.PartHoldings.{IsOver}
 use Rattle.part_steps.specs.PartSteps.{IsAtRest, PartNeeds}
-use Rattle.mmu_core.specs.invariant.CachedPart.{IsLeafFor}
 use Rattle.mmu_core.specs.lines.Cached.{UsesTranslation, frame_used}
 use Rattle.mmu_core.specs.lines.FaultKnows.{FaultKnows}
 
@@ -43,8 +42,3 @@ AccessKnows (Walk again) gfn write h = InGuest h.topics × IsOver gfn h.topics.w
 AccessKnows Touch gfn write h = InGuest h.topics × UsesTranslation gfn write h
 AccessKnows (Leave how) gfn write h = InGuest h.topics
 AccessKnows (Fault p) gfn write h = FaultKnows p h.state.sizes gfn write h.topics
-
--- The translation that an access uses is one of level 1, whose leaf agrees with slots and host, at its touch.
-abbrev pub AccessHolds : (ℕ → ℕ) → (ℕ → ℕ) → ℕ → AccessPlace → ℕ → Held → Type 0
-AccessHolds pool host set Touch gfn h = (h.state.used.level ≡ 1) × IsLeafFor pool host set gfn h.state.used.leaf
-AccessHolds pool host set _ gfn h = Unit {0}

@@ -1,8 +1,7 @@
 -- What each form of line says at its places: a clause a form in each table. The tables are filled in by the form's own files.
 use Rattle.mmu_core.specs.lines.InvalidateSteps.{is_counted}
-use Rattle.mmu_core.specs.lines.HostKnows.{HostKnows, HostRests}
+use Rattle.mmu_core.specs.lines.HostKnows.{HostKnows, HostRests, IsMade}
 use Rattle.mmu_core.specs.lines.HostSteps.{host_left, host_note, host_outcome, host_part, host_tells}
-use Rattle.core_views.specs.declared.trace.HostChange.TheVariants.{Allow}
 use Rattle.core_views.specs.declared.place.EndPlace.TheVariants as ends
 use Rattle.core_views.specs.declared.place.HostPlace.TheVariants as host
 use Rattle.core_views.specs.declared.place.Place.TheVariants.{Host}
@@ -27,7 +26,7 @@ use Rattle.part_steps.specs.declared.part_step.PartStep.TheVariants as part
 use Rattle.part_steps.specs.PartSteps.{IsAtRest, PartNeeds, has_line}
 use Rattle.mmu_core.specs.declared.outcome.Outcome.{Outcome}
 use Rattle.mmu_core.specs.declared.outcome.Outcome.TheVariants.{Goes}
-use Rattle.mmu_core.specs.lines.AccessKnows.{AccessHolds, AccessKnows, RestsOn}
+use Rattle.mmu_core.specs.lines.AccessKnows.{AccessKnows, RestsOn}
 use Rattle.mmu_core.specs.lines.AccessSteps.{access_caches, access_loads, access_note, access_outcome, access_part, access_tells}
 use Rattle.mmu_core.specs.lines.Bounds.{access_left}
 use Rattle.mmu_core.specs.lines.SlotChangeKnows.{RecordAccepts, SlotChangeHolds, SlotChangeKnows}
@@ -45,7 +44,7 @@ first_place z slots command = place.SlotChange (slot_change_first (change_refusa
 abbrev pub part_at : Place → Command → Held → Option PartStep
 part_at (place.Access p) (Access gfn word op) h = access_part p gfn h.topics
 part_at (place.SlotChange p) command h = Some (slot_change_part p h command)
-part_at (place.Host p) (ChangeHost page change) h = Some (host_part p page h)
+part_at (place.Host p) (ChangeHost page change) h = Some (host_part p page change h)
 part_at _ _ h = Some part.Seq
 
 -- 1 where the line may end with it
@@ -90,7 +89,7 @@ records_at _ _ slots = slots
 abbrev pub tells_at : Place → Command → Held → ℕ → List EventKind
 tells_at (place.Access p) (Access gfn word op) h v = access_tells p h gfn word op v
 tells_at (place.SlotChange p) command h v = slot_change_tells p h command v
-tells_at (place.Host p) (ChangeHost page change) h v = host_tells p page h v
+tells_at (place.Host p) (ChangeHost page change) h v = host_tells p page change h v
 tells_at _ _ h v = []
 
 -- ---- what its actor knows there
@@ -99,7 +98,7 @@ tells_at _ _ h v = []
 abbrev pub RestsAt : Place → Command → Held → Type 0
 RestsAt (place.Access p) (Access gfn word op) h = RestsOn (access_part p gfn h.topics) gfn (is_write op) h
 RestsAt (place.SlotChange p) command h = (changes_slot command ≡ true) × PartNeeds (slot_change_part p h command) h
-RestsAt (place.Host p) (ChangeHost page change) h = PartNeeds (host_part p page h) h × HostRests p h
+RestsAt (place.Host p) (ChangeHost page change) h = PartNeeds (host_part p page change h) h × HostRests p h
 RestsAt place.Between command h = Unit {0}
 RestsAt _ _ h = ⊥
 
@@ -113,7 +112,7 @@ abbrev pub KnowsPart : Place → Command → Held → Type 0
 KnowsPart place.Between command h = has_line h ≡ true → IsAtRest h.topics
 KnowsPart (place.Access p) (Access gfn word op) h = AccessKnows p gfn (is_write op) h
 KnowsPart (place.SlotChange p) command h = (changes_slot command ≡ true) × SlotChangeKnows p h
-KnowsPart (place.Host p) (ChangeHost page change) h = (change ≡ Allow) × HostKnows p page h
+KnowsPart (place.Host p) (ChangeHost page change) h = IsMade change × HostKnows p page h
 KnowsPart _ _ h = ⊥
 
 -- A page leaves its use only after a publication, up to the end of the line.
@@ -136,10 +135,10 @@ pub record LeavesPart (p : Place) (t : Topics) : Type 0 where
   pub leaves : may_leave p ≡ false → t.leaving ≡ None
   pub opens : may_open p ≡ false → t.invalidations.opened ≡ false
 
--- Loads: what the line under way has loaded or stored agrees with the words of the pool and of the host, and with the published set.
-abbrev pub Holds : Sizes → (ℕ → ℕ) → (ℕ → ℕ) → ℕ → Place → Command → Held → Type 0
-Holds z pool host set (place.Access p) (Access gfn word op) h = AccessHolds pool host set p gfn h
-Holds z pool host set (place.SlotChange p) command h = SlotChangeHolds z pool p command h
-Holds z pool host set (place.Host p) (ChangeHost page change) h = Unit {0}
-Holds z pool host set place.Between command h = Unit {0}
-Holds z pool host set _ _ h = ⊥
+-- Loads: what the line under way has loaded or stored agrees with the words of the pool, and with the published set.
+abbrev pub Holds : Sizes → (ℕ → ℕ) → ℕ → Place → Command → Held → Type 0
+Holds z pool set (place.Access p) (Access gfn word op) h = Unit {0}
+Holds z pool set (place.SlotChange p) command h = SlotChangeHolds z pool p command h
+Holds z pool set (place.Host p) (ChangeHost page change) h = Unit {0}
+Holds z pool set place.Between command h = Unit {0}
+Holds z pool set _ _ h = ⊥

@@ -3,12 +3,20 @@ use Rattle.std.specs.Prelude.{◌≡◌, ◌≤◌, ℕ, true, false, is_some}
 use Rattle.core_views.specs.declared.place.EndPlace.TheVariants as ends
 use Rattle.core_views.specs.declared.place.HostPlace.{HostPlace}
 use Rattle.core_views.specs.declared.place.HostPlace.TheVariants.{Look, Begin, Change, End}
+use Rattle.core_views.specs.declared.trace.HostChange.{HostChange}
+use Rattle.core_views.specs.declared.trace.HostChange.TheVariants.{Allow, Protect}
 use Rattle.core_views.specs.Held.{Held}
 use Rattle.core_views.specs.HostChanges.{is_own}
 use Rattle.part_steps.specs.PartSteps.{IsAtRest}
 use Rattle.part_steps.specs.PartTasks.{page_looked}
 use Rattle.mmu_core.specs.lines.InvalidateKnows.{BeginKnows, EndKnows, IsOpen}
 use Rattle.mmu_core.specs.lines.PartWaits.{saw_open}
+
+-- Lines make these changes.
+abbrev pub IsMade : HostChange → Type 0
+IsMade Allow = Unit {0}
+IsMade Protect = Unit {0}
+IsMade _ = ⊥
 
 -- The page is the actor's own, and its host word was looked up.
 pub record LooksAt (page : ℕ) (h : Held) : Type 0 where

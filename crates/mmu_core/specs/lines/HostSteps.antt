@@ -1,6 +1,6 @@
 -- The order of steps of a line that changes a host page (mmu_notifier.rst; api.rst, KVM_CAP_SYNC_MMU): it looks at the page's host word, and is refused where the
 -- page isn't the actor's own; within an invalidation of the guest frame that slots give to the page it exchanges the word.
-use Rattle.std.specs.Prelude.{◌+◌, ℕ, List, [], ◌∷◌, ◌==◌, if◌then◌else◌, ◌*◌}
+use Rattle.std.specs.Prelude.{◌+◌, ℕ, List, [], ◌∷◌, ◌==◌, if◌then◌else◌, ◌*◌, true, false}
 use Rattle.core_views.specs.declared.answer.Answer.TheVariants.{Done, Refused}
 use Rattle.core_views.specs.declared.answer.Refusal.TheVariants.{OutOfRange}
 use Rattle.core_views.specs.declared.event.EventKind.{EventKind}
@@ -12,6 +12,8 @@ use Rattle.core_views.specs.declared.place.HostPlace.{HostPlace}
 use Rattle.core_views.specs.declared.place.HostPlace.TheVariants.{Look, Begin, Change, End}
 use Rattle.core_views.specs.declared.place.Place.TheVariants.{Host}
 use Rattle.core_views.specs.declared.sizes.Sizes.{Sizes}
+use Rattle.core_views.specs.declared.trace.HostChange.{HostChange}
+use Rattle.core_views.specs.declared.trace.HostChange.TheVariants.{Allow, Protect}
 use Rattle.core_views.specs.declared.topics.Topics.{Topics}
 use Rattle.core_views.specs.Held.{Held}
 use Rattle.core_views.specs.HostChanges.{is_own}
@@ -24,23 +26,29 @@ use Rattle.mmu_core.specs.declared.outcome.Outcome.TheVariants.{Goes, Ends}
 use Rattle.part_steps.specs.declared.part_step.PartStep.{PartStep}
 use Rattle.part_steps.specs.declared.part_step.PartStep.TheVariants as part
 use Rattle.part_steps.specs.PartTasks.{word_looked}
-use Rattle.spte_words.specs.HostWords.{host_allows_write, host_frame, host_present, with_writes_allowed}
+use Rattle.spte_words.specs.HostWords.{host_allows_write, host_frame, host_present, with_writes}
 use Rattle.mmu_core.specs.lines.InvalidateSteps.{begin_left, begin_next, begin_part, end_left, end_next, end_part}
 
 -- the entry that a host word is
 abbrev pub entry_of : ℕ → HostEntry
 entry_of word = record { frame = host_frame word; present = host_present word; writable = host_allows_write word }
 
--- the host word that the line puts in place of the one that it looked at
-abbrev pub word_put : Topics → ℕ
-word_put t = with_writes_allowed (word_looked t.host)
+-- the host word that the change puts in place of another one
+abbrev pub revised : HostChange → ℕ → ℕ
+revised Allow word = with_writes true word
+revised Protect word = with_writes false word
+revised _ word = word
+
+-- the word that the line puts in place of the one that it looked at
+abbrev pub word_put : HostChange → Topics → ℕ
+word_put change t = revised change (word_looked t.host)
 
 -- the step of each place
-abbrev pub host_part : HostPlace → ℕ → Held → PartStep
-host_part Look page h = if is_own h.state.sizes h.state.actor page then part.Host page else part.Seq
-host_part (Begin p) page h = begin_part p page h.topics
-host_part Change page h = part.Change (word_put h.topics)
-host_part (End p) page h = end_part p h.topics
+abbrev pub host_part : HostPlace → ℕ → HostChange → Held → PartStep
+host_part Look page change h = if is_own h.state.sizes h.state.actor page then part.Host page else part.Seq
+host_part (Begin p) page change h = begin_part p page h.topics
+host_part Change page change h = part.Change (word_put change h.topics)
+host_part (End p) page change h = end_part p h.topics
 
 -- 1 where the line may end with the step
 abbrev pub host_note : HostPlace → ℕ → Held → ℕ
@@ -65,10 +73,10 @@ host_outcome Change page h v = Goes (Host (if v == word_looked h.topics.host the
 host_outcome (End p) page h v = after_end (end_next p v)
 
 -- What a step tells besides that its line begins or is answered: that it looked at its page, and that it changed it.
-abbrev pub host_tells : HostPlace → ℕ → Held → ℕ → List EventKind
-host_tells Look page h v = if is_own h.state.sizes h.state.actor page then LookedAtHost page ∷ [] else []
-host_tells Change page h v = if v == word_looked h.topics.host then HostChanged page (entry_of (word_put h.topics)) ∷ [] else []
-host_tells _ page h v = []
+abbrev pub host_tells : HostPlace → ℕ → HostChange → Held → ℕ → List EventKind
+host_tells Look page change h v = if is_own h.state.sizes h.state.actor page then LookedAtHost page ∷ [] else []
+host_tells Change page change h v = if v == word_looked h.topics.host then HostChanged page (entry_of (word_put change h.topics)) ∷ [] else []
+host_tells _ page change h v = []
 
 -- the most steps that it has left
 abbrev pub host_left : HostPlace → Sizes → Topics → ℕ

@@ -87,7 +87,7 @@ module _ (gfn word : ℕ) (op : Op) (words : Area → ℕ → ℕ) where
   walk_form entry_kind.Leaf false again t v is from most here stay = tt
   walk_form _ allowed again t v is from most here stay = tt
 
-  fault_form : (n : FaultNext) (t : Topics) → AloneNext n (words area.Root 0) (words area.Slots 0) (words area.Pool) gfn (is_write op) t
+  fault_form : (n : FaultNext) (t : Topics) → AloneNext n (words area.Root 0) (words area.Slots 0) (words area.Pool) (words area.Host) gfn (is_write op) t
       → Next (behind_fault n) t
   fault_form (next_of.Goes p) t alone = alone
   fault_form (next_of.Ends end_of.Installed) t alone = λ yes. alone

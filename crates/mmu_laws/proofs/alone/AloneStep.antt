@@ -43,7 +43,7 @@ use Rattle.mmu_core.specs.lines.Rests.{IsUnderWay}
 use Rattle.mmu_core.specs.lines.ScanPlaces.{HasScan}
 use Rattle.mmu_core.specs.machine.Outcomes.{place_after}
 use Rattle.mmu_core.specs.machine.Steps.{delays_at, task_at}
-use Rattle.mmu_core.specs.machine.View.{answer_in, word_in, words_after}
+use Rattle.mmu_core.specs.machine.View.{answer_in, word_in, words_after, view}
 use Rattle.mmu_core.proofs.invariant.QuietKept.{touched}
 use Rattle.mmu_core.proofs.lines.ByStep.{step_needs}
 use Rattle.mmu_core.proofs.lines.ClaimPlaces.{claims_or_not}
@@ -58,6 +58,7 @@ use Rattle.mmu_laws.proofs.alone.PartAlone.{part_goes_alone, seen_on}
 use Rattle.mmu_laws.proofs.turns.StayNearer.{Nearer, place_nearer}
 use Rattle.mmu_laws.proofs.turns.TurnsNearer.{no_miss, none_of}
 use Rattle.mmu_laws.proofs.alone.AccessAlone.{FormNext, KnowsAfter, access_form}
+use Rattle.mmu_core.proofs.held.OwnPages.{own_words}
 
 -- A line of another form knows nothing of its own.
 form_apart : (o : Outcome) (command : Command) (words : Area → ℕ → ℕ) (t : Topics) → GoesToNoAccess o → FormNext o command words t
@@ -167,7 +168,8 @@ module _ (z : Sizes) (w : World Held) (a : ℕ) (sound : IsSound z w) (others : 
 
     nearer : IsUnderWay p → IsCommandFor z h.state.actor command → PartRests h
         → Nearer o h.state.sizes (topics_at p command h words) (steps_left p h.state.sizes h.topics)
-    nearer begun may rests = place_nearer p command z h words begun may rests R K (sound.topics.looks a there) no_delay
+    nearer begun may rests = place_nearer p command z h words begun may rests R K
+        (own_words z (view z w) a sound.topics there (sound.holds.lines a there).sizes (sound.holds.lines a there).index) no_delay
 
   -- ---- each line
 

@@ -5,7 +5,8 @@ use Rattle.core_views.specs.declared.place.Cause.TheVariants.{Entry, Moved}
 use Rattle.core_views.specs.declared.place.CheckStage.TheVariants as stage
 use Rattle.core_views.specs.declared.place.FaultEnd.TheVariants.{Retry}
 use Rattle.core_views.specs.declared.place.FaultPlace.{FaultPlace}
-use Rattle.core_views.specs.declared.place.FaultPlace.TheVariants.{Begin, Snapshot, Find, Host, Share, Check, Walk, Claim, Fill, Role, Link, Give, Leaf, Unshare}
+use Rattle.core_views.specs.declared.place.FaultPlace.TheVariants.{Begin, Snapshot, Find, Host, Share, Check, Walk, Claim, Fill, Role, Link, Give}
+use Rattle.core_views.specs.declared.place.FaultPlace.TheVariants.{Leaf, Unshare}
 use Rattle.core_views.specs.declared.sizes.Sizes.{Sizes}
 use Rattle.core_views.specs.declared.topics.Hold.{Hold}
 use Rattle.core_views.specs.declared.topics.HostLook.{HostLook}
@@ -25,7 +26,8 @@ use Rattle.mmu_core.specs.machine.Enabled.{mmu}
 use Rattle.mmu_core.specs.declared.claim.ClaimNext.{ClaimNext}
 use Rattle.mmu_core.specs.alone.FaultAlone.{AloneNext, EntryStands, GoesThrough, LeadsTo, LeadsToLeaf, FaultRunsAlone}
 use Rattle.mmu_core.specs.lines.FaultKnows.{Entering, FaultKnows}
-use Rattle.mmu_core.specs.lines.FaultSteps.{allows_access, claim_next, entry_word, fault_next, fault_part, is_owing, share_next, share_part, snapshot_taken, claim_part}
+use Rattle.mmu_core.specs.lines.FaultSteps.{allows_access, claim_next, entry_word, fault_next, fault_part, is_owing, share_next, share_part}
+use Rattle.mmu_core.specs.lines.FaultSteps.{snapshot_taken, claim_part}
 use Rattle.mmu_core.specs.machine.Machine.{World, hand_in}
 use Rattle.part_steps.specs.PartTasks.{entry_index, leaf_written, page_owned, part_task, table_page, word_looked, words_filled}
 use Rattle.part_steps.specs.PartHoldings.{IsOver, LookedUp, SawEntry, HasToFill}
@@ -50,6 +52,7 @@ use Rattle.mmu_core.proofs.lines.ClaimMade as made
 use Rattle.mmu_core.proofs.machine.Columns.{upd_same}
 use Rattle.mmu_core.proofs.lines.FaultKnown.{allowed_leaf}
 use Rattle.mmu_laws.proofs.alone.FindAlone.{find_goes}
+use Rattle.mmu_laws.proofs.alone.HostAlone.{host_forbids}
 use Rattle.mmu_laws.proofs.leaves.LeadsDown.{leads_same}
 use Rattle.mmu_core.proofs.slots.LiveStays.{LiveStays}
 use Rattle.mmu_core.proofs.pages.Owned.{owned_some}
@@ -59,7 +62,8 @@ use Rattle.mmu_core.proofs.words.SlotFields.{is_number}
 use Rattle.mmu_core.proofs.pages.TreeKept.{leaf_is}
 use Rattle.mmu_core.proofs.pages.TreeStored.{entry_stored}
 use Rattle.core_views.specs.declared.topics.Stay.{Stay}
-use Rattle.mmu_laws.proofs.alone.FaultComes.{host_alone, share_alone, count_alone, seq_alone, installed, walk_alone, claim_alone, fill_alone, link_alone, leaf_alone, is_it}
+use Rattle.mmu_laws.proofs.alone.FaultComes.{host_alone, share_alone, count_alone, seq_alone, installed, walk_alone, claim_alone, fill_alone}
+use Rattle.mmu_laws.proofs.alone.FaultComes.{link_alone, leaf_alone, is_it}
 
 -- A step of the claim leaves the entry.
 entry_still : (z : Sizes) (gfn : ℕ) (begun : Bool) (t : Topics) (v : ℕ) (words : Area → ℕ → ℕ) (a note : ℕ) (step : PartStep) (next : ClaimNext) (u : Topics)
@@ -88,14 +92,19 @@ module _ (z : Sizes) (w : World Held) (a gfn note : ℕ) (write : Bool) (p : Fau
   entry_is from = R.sound.topics.tree.entries page (at t.walk.level t.walk.prefix) ((R.sound.topics.held a R.there).table from) index (omega arith)
 
   kinds : EntryPart R.sound.topics.up page (at t.walk.level t.walk.prefix) index (words area.Pool (pool_index page index))
-      → ((kind_of t.walk.level (words area.Pool (pool_index page index)) ≡ entry_kind.Leaf) → t.walk.level ≡ 1) × ((kind_of t.walk.level (words area.Pool (pool_index page index))) ≢ entry_kind.Frozen)
+      → ((kind_of t.walk.level (words area.Pool (pool_index page index)) ≡ entry_kind.Leaf) → t.walk.level ≡ 1)
+      × ((kind_of t.walk.level (words area.Pool (pool_index page index))) ≢ entry_kind.Frozen)
   kinds (inl e) =
-      let none : kind_of t.walk.level (words area.Pool (pool_index page index)) ≡ entry_kind.Absent = ap (kind_of t.walk.level) e ∙ kind_of_absent t.walk.level in
+      let none : kind_of t.walk.level (words area.Pool (pool_index page index)) ≡ entry_kind.Absent =
+      ap (kind_of t.walk.level) e ∙ kind_of_absent t.walk.level in
       (λ leaf. absurd (cc (none, leaf)), λ frozen. cc (none, frozen))
   kinds (inr (inl L)) =
       let most = R.sound.holds.sizes.pool.1 in
-      let low = (R.sound.topics.tree.there L.page _ (link_stands R.sound.topics.tree page (at t.walk.level t.walk.prefix) index (words area.Pool (pool_index page index)) ((R.sound.topics.held a R.there).table (let upper = L.upper in omega (arith, upper))) L)).0 in
-      let links : kind_of t.walk.level (words area.Pool (pool_index page index)) ≡ entry_kind.Table L.page = ap (kind_of t.walk.level) L.is ∙ kind_of_table t.walk.level L.page L.upper (omega (arith, low, most)) in
+      let low =
+      (R.sound.topics.tree.there L.page _ (link_stands R.sound.topics.tree page (at t.walk.level t.walk.prefix) index
+      (words area.Pool (pool_index page index)) ((R.sound.topics.held a R.there).table (let upper = L.upper in omega (arith, upper))) L)).0 in
+      let links : kind_of t.walk.level (words area.Pool (pool_index page index)) ≡ entry_kind.Table L.page =
+      ap (kind_of t.walk.level) L.is ∙ kind_of_table t.walk.level L.page L.upper (omega (arith, low, most)) in
       (λ leaf. absurd (cc (links, leaf)), λ frozen. cc (links, frozen))
   kinds (inr (inr L)) = let leaf = L.leaf in (λ is. L.lowest, λ frozen. cc (leaf, frozen))
 
@@ -128,11 +137,14 @@ module _ (z : Sizes) (w : World Held) (a gfn note : ℕ) (write : Bool) (p : Fau
   module _ (E : Entering gfn write t) (saw : SawEntry gfn t.walk) (low : t.walk.level ≡ 1) (stands : EntryStands (words area.Pool) gfn t) where
     stored : leafed ≡ upd (words area.Pool) (pool_index page index) (leaf_written t)
     stored =
-        ap (λ (b : Bool). upd (words area.Pool) (pool_index page index) (if b then leaf_written t else words area.Pool (pool_index page index))) (is_it (words area.Pool (pool_index page index)) t.walk.entry stands)
+        ap (λ (b : Bool). upd (words area.Pool) (pool_index page index) (if b then leaf_written t else words area.Pool (pool_index page index)))
+        (is_it (words area.Pool (pool_index page index)) t.walk.entry stands)
 
     slots_stay : LiveStays (words area.Slots 0) (words area.Pool) leafed
     slots_stay = record {
-      each = λ id f small live. let low_field = is_number f in entry_leaves gfn (leaf_written t) note t.walk words (words area.Slots 0) (4 * id + field_number f) (omega (arith, small, low_field)) (walks_elsewhere z (view z w) a R.there R.sound.topics saw.over.there);
+      each =
+          λ id f small live. let low_field = is_number f in entry_leaves gfn (leaf_written t) note t.walk words (words area.Slots 0)
+          (4 * id + field_number f) (omega (arith, small, low_field)) (walks_elsewhere z (view z w) a R.there R.sound.topics saw.over.there);
     }
 
     is_leaf : IsLeafAt (at t.walk.level t.walk.prefix) (leaf_written t)
@@ -140,7 +152,8 @@ module _ (z : Sizes) (w : World Held) (a gfn note : ℕ) (write : Bool) (p : Fau
 
     tree_leafed : TreePart z.pool (words area.Root 0) (words area.Slots 0) (words area.Role) leafed R.sound.topics.up R.sound.topics.spot
     tree_leafed =
-        subst (λ (pool : ℕ → ℕ). TreePart z.pool (words area.Root 0) (words area.Slots 0) (words area.Role) pool R.sound.topics.up R.sound.topics.spot) (sym stored)
+        subst (λ (pool : ℕ → ℕ). TreePart z.pool (words area.Root 0) (words area.Slots 0) (words area.Role) pool R.sound.topics.up
+        R.sound.topics.spot) (sym stored)
         (entry_stored R.sound.topics.tree page (at t.walk.level t.walk.prefix) index (leaf_written t)
         ((R.sound.topics.held a R.there).table saw.over.there) (omega arith)
         (record { entry = inr (inr is_leaf); no_link = inl low })
@@ -148,11 +161,14 @@ module _ (z : Sizes) (w : World Held) (a gfn note : ℕ) (write : Bool) (p : Fau
 
     leaf_leads : LeadsToLeaf leafed 4 (words area.Root 0) gfn write
     leaf_leads =
-        installed (words area.Root 0) (words area.Slots 0) leafed gfn write page t.walk.level (leaf_written t) low
-        (leads_same tree_leafed few gfn (leaf_written t) 1 page (all_reached R.sound.topics.tree page _ (lowest_over saw.over low)) (lowest_over saw.over low)).above
+        installed (words area.Root 0) (words area.Slots 0) leafed (words area.Host) gfn write page t.walk.level (leaf_written t) low
+        (leads_same tree_leafed few gfn (leaf_written t) 1 page (all_reached R.sound.topics.tree page _ (lowest_over saw.over low))
+        (lowest_over saw.over low)).above
         (ap (λ (pool : ℕ → ℕ). pool (pool_index page index)) stored ∙ upd_same (words area.Pool) (pool_index page index) (leaf_written t))
-        (kind_of_leaf 1 (host_frame (word_looked t.host)) (may_write t.search.slot (word_looked t.host)) (host_allows_write (word_looked t.host)) (may_write t.search.slot (word_looked t.host)) (omega arith) (omega arith))
-        (ap (λ (x : Option HostLook). allows_access write (leaf_of t.search.slot (word_looked x))) L.host ∙ allowed_leaf write t.search.slot L.word E.sharing.looked.allowed)
+        (kind_of_leaf 1 (host_frame (word_looked t.host)) (may_write t.search.slot (word_looked t.host)) (host_allows_write (word_looked t.host))
+        (may_write t.search.slot (word_looked t.host)) (omega arith) (omega arith))
+        (ap (λ (x : Option HostLook). allows_access write (leaf_of t.search.slot (word_looked x))) L.host
+        ∙ allowed_leaf write t.search.slot L.word E.sharing.looked.allowed)
       where
         L : LookedUp gfn t
         L = E.sharing.looked.looked_up
@@ -166,7 +182,8 @@ KnowsNext z w a gfn note write p =
     let task : Task = part_task (fault_part p gfn t) a t note in
     let found : ℕ = answer_in task (word_in z w) in
     let after : Area → ℕ → ℕ = words_after task (word_in z w) in
-    AloneNext (fault_next p z gfn write t found) (after area.Root 0) (after area.Slots 0) (after area.Pool) gfn write (part_topics (fault_part p gfn t) t found)
+    AloneNext (fault_next p z gfn write t found) (after area.Root 0) (after area.Slots 0) (after area.Pool) (after area.Host) gfn write
+    (part_topics (fault_part p gfn t) t found)
 
 trying_loose : (hold : Hold) → is_trying hold ≡ true → is_owing hold ≡ false → hold ≡ Loose
 trying_loose Loose try_ owes = refl
@@ -184,20 +201,22 @@ next_alone z w a gfn note write Host R =
     let t : Topics = (hand_in mmu w a).topics in
     let step : PartStep = part.Host (page_of t.search.slot gfn) in
     let v : ℕ = answer_in (part_task step a t note) (word_in z w) in
-    host_alone (word_in z w area.Root 0) (word_in z w area.Slots 0) (word_in z w area.Pool) gfn write (write && not (host_allows_write v))
-    (part_topics step t v)
+    host_alone (word_in z w area.Root 0) (word_in z w area.Slots 0) (word_in z w area.Pool) (word_in z w area.Host) gfn write
+    (write && not (host_allows_write v))
+    (part_topics step t v) (host_forbids z w a gfn write R)
 next_alone z w a gfn note write Share R =
     let t : Topics = (hand_in mmu w a).topics in
     let task : Task = part_task (share_part t.hold) a t note in
     let v : ℕ = answer_in task (word_in z w) in
     let after : Area → ℕ → ℕ = words_after task (word_in z w) in
     let loose : t.hold ≡ Loose = trying_loose t.hold R.knows.1 R.seen.owes_none in
-    share_alone (after area.Root 0) (after area.Slots 0) (after area.Pool) gfn write (share_next t.hold v) (part_topics (share_part t.hold) t v)
+    share_alone (after area.Root 0) (after area.Slots 0) (after area.Pool) (after area.Host) gfn write (share_next t.hold v)
+    (part_topics (share_part t.hold) t v)
     (share_comes t (word_in z w) a note _ _ _ (share_made t v R.knows.1) loose (lock_free z w a R.sound R.there R.others loose))
 next_alone z w a gfn note write (Check stage.Count) R =
     let t : Topics = (hand_in mmu w a).topics in
     let v : ℕ = word_in z w area.Count 0 in
-    count_alone (word_in z w area.Root 0) (word_in z w area.Slots 0) (word_in z w area.Pool) gfn write v (part_topics part.Count t v)
+    count_alone (word_in z w area.Root 0) (word_in z w area.Slots 0) (word_in z w area.Pool) (word_in z w area.Host) gfn write v (part_topics part.Count t v)
     (none_alone z w a R.sound R.others R.opens_none)
 next_alone z w a gfn note write (Check stage.Start) R = absurd R.alone
 next_alone z w a gfn note write (Check stage.End) R = absurd R.alone
@@ -205,7 +224,7 @@ next_alone z w a gfn note write (Check stage.Seq) R =
     let t : Topics = (hand_in mmu w a).topics in
     let v : ℕ = word_in z w area.Seq 0 in
     let snapshot : Option ℕ = t.invalidations.snapshot in
-    seq_alone (word_in z w area.Root 0) (word_in z w area.Slots 0) (word_in z w area.Pool) gfn write snapshot v
+    seq_alone (word_in z w area.Root 0) (word_in z w area.Slots 0) (word_in z w area.Pool) (word_in z w area.Host) gfn write snapshot v
     (Unshare (Retry (Moved (snapshot_taken snapshot) v))) (part_topics part.Seq t v)
     R.knows.0.looked.snapshot (R.seen.snapshot R.knows.0.section)
 next_alone z w a gfn note write (Walk false) R = tt
@@ -214,7 +233,8 @@ next_alone z w a gfn note write (Walk true) R =
     let over : IsOver gfn t.walk = R.knows.2 refl in
     let v : ℕ = word_in z w area.Pool (pool_index (table_page t.walk) (entry_index gfn t.walk.level)) in
     let k = kinds z w a gfn note write (Walk true) R (entry_is z w a gfn note write (Walk true) R over.there) in
-    walk_alone (word_in z w area.Root 0) (word_in z w area.Slots 0) (word_in z w area.Pool) gfn write (kind_of t.walk.level v) z t v refl refl
+    walk_alone (word_in z w area.Root 0) (word_in z w area.Slots 0) (word_in z w area.Pool) (word_in z w area.Host) gfn write (kind_of t.walk.level v)
+    z t v refl refl
     (above_now z w a gfn note write (Walk true) R over v) k.0 k.1
 next_alone z w a gfn note write (Claim begun) R =
     let t : Topics = (hand_in mmu w a).topics in
@@ -222,14 +242,14 @@ next_alone z w a gfn note write (Claim begun) R =
     let task : Task = part_task step a t note in
     let v : ℕ = answer_in task (word_in z w) in
     let after : Area → ℕ → ℕ = words_after task (word_in z w) in
-    claim_alone (after area.Root 0) (after area.Slots 0) (after area.Pool) gfn write (claim_next begun z t.claim v) (part_topics step t v)
+    claim_alone (after area.Root 0) (after area.Slots 0) (after area.Pool) (after area.Host) gfn write (claim_next begun z t.claim v) (part_topics step t v)
     (entry_still z gfn begun t v (word_in z w) a note _ _ _ (claim_made z begun t v) R.alone)
 next_alone z w a gfn note write Fill R =
     let t : Topics = (hand_in mmu w a).topics in
     let step : PartStep = part.Fill 0 in
     let task : Task = part_task step a t note in
     let after : Area → ℕ → ℕ = words_after task (word_in z w) in
-    fill_alone (after area.Root 0) (after area.Slots 0) (after area.Pool) gfn write (nat_lt (words_filled t.owned + 1) 512)
+    fill_alone (after area.Root 0) (after area.Slots 0) (after area.Pool) (after area.Host) gfn write (nat_lt (words_filled t.owned + 1) 512)
     (part_topics step t (answer_in task (word_in z w)))
     (fill_leaves_entry z w a gfn note write Fill R 0 R.knows.1.saw.over.there R.knows.2 ∙ R.alone)
 next_alone z w a gfn note write Role R = R.alone
@@ -237,7 +257,7 @@ next_alone z w a gfn note write Link R =
     let t : Topics = (hand_in mmu w a).topics in
     let v : ℕ = word_in z w area.Pool (pool_index (table_page t.walk) (entry_index gfn t.walk.level)) in
     let after : Area → ℕ → ℕ = words_after (part_task (part.Link gfn) a t note) (word_in z w) in
-    link_alone (after area.Root 0) (after area.Slots 0) (after area.Pool) gfn write (v == t.walk.entry)
+    link_alone (after area.Root 0) (after area.Slots 0) (after area.Pool) (after area.Host) gfn write (v == t.walk.entry)
     (Give (Retry (Entry (entry_word z gfn t.walk) t.walk.entry v))) (part_topics (part.Link gfn) t v)
     (is_it v t.walk.entry R.alone)
 next_alone z w a gfn note write (Give e) R = absurd R.alone
@@ -245,7 +265,7 @@ next_alone z w a gfn note write Leaf R =
     let t : Topics = (hand_in mmu w a).topics in
     let v : ℕ = word_in z w area.Pool (pool_index (table_page t.walk) (entry_index gfn t.walk.level)) in
     let after : Area → ℕ → ℕ = words_after (part_task (part.Leaf gfn) a t note) (word_in z w) in
-    leaf_alone (after area.Root 0) (after area.Slots 0) (after area.Pool) gfn write (v == t.walk.entry)
+    leaf_alone (after area.Root 0) (after area.Slots 0) (after area.Pool) (after area.Host) gfn write (v == t.walk.entry)
     (Unshare (Retry (Entry (entry_word z gfn t.walk) t.walk.entry v))) (part_topics (part.Leaf gfn) t v)
     (is_it v t.walk.entry R.alone) (leaf_leads z w a gfn note write Leaf R R.knows.0 R.knows.2 R.knows.3 R.alone)
 next_alone z w a gfn note write _ R = R.alone

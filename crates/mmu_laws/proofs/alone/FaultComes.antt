@@ -16,7 +16,7 @@ use Rattle.mmu_core.specs.declared.claim.ClaimNext.{ClaimNext}
 use Rattle.mmu_core.specs.declared.claim.ClaimNext.TheVariants as claims
 use Rattle.mmu_core.specs.declared.share.ShareNext.{ShareNext}
 use Rattle.mmu_core.specs.declared.share.ShareNext.TheVariants as shares
-use Rattle.mmu_core.specs.alone.FaultAlone.{EntryStands, FaultAlone, LeadsTo, LeadsToLeaf}
+use Rattle.mmu_core.specs.alone.FaultAlone.{EntryStands, FaultAlone, HostForbidsPage, LeadsTo, LeadsToLeaf}
 use Rattle.mmu_core.specs.lines.FaultSteps.{allows_access, snapshot_taken, walk_next, after_claim, after_share}
 use Rattle.part_steps.specs.PartTasks.{entry_index, table_page}
 use Rattle.part_steps.specs.WalkTopics.{gone_down, linked_page}
@@ -27,25 +27,26 @@ use Rattle.mmu_core.specs.invariant.TreePart.{stands}
 pub is_it : (v n : ℕ) → v ≡ n → (v == n) ≡ true
 is_it v n e = grind (arith, nat_tests)
 
-module _ (root set : ℕ) (pool : ℕ → ℕ) (gfn : ℕ) (write : Bool) where
+module _ (root set : ℕ) (pool host : ℕ → ℕ) (gfn : ℕ) (write : Bool) where
   -- ---- the host word, the lock and the check
 
-  pub host_alone : (b : Bool) (t : Topics) → FaultAlone (if b then End HostFault else Share) root set pool gfn write t
-  host_alone true t = tt
-  host_alone false t = tt
+  pub host_alone : (b : Bool) (t : Topics) → (b ≡ true → HostForbidsPage set pool host gfn write)
+      → FaultAlone (if b then End HostFault else Share) root set pool host gfn write t
+  host_alone true t forbids = forbids refl
+  host_alone false t forbids = tt
 
-  pub share_alone : (next : ShareNext) (u : Topics) → next ≡ shares.Shares → FaultAlone (after_share next) root set pool gfn write u
+  pub share_alone : (next : ShareNext) (u : Topics) → next ≡ shares.Shares → FaultAlone (after_share next) root set pool host gfn write u
   share_alone shares.Shares u is = tt
   share_alone shares.Tries u is = absurd (cc is)
 
-  pub count_alone : (v : ℕ) (u : Topics) → v ≡ 0 → FaultAlone (if v == 0 then Check stage.Seq else Check stage.Start) root set pool gfn write u
-  count_alone v u none = subst (λ b. FaultAlone (if b then Check stage.Seq else Check stage.Start) root set pool gfn write u) (sym (is_it v 0 none)) tt
+  pub count_alone : (v : ℕ) (u : Topics) → v ≡ 0 → FaultAlone (if v == 0 then Check stage.Seq else Check stage.Start) root set pool host gfn write u
+  count_alone v u none = subst (λ b. FaultAlone (if b then Check stage.Seq else Check stage.Start) root set pool host gfn write u) (sym (is_it v 0 none)) tt
 
   pub seq_alone : (snapshot : Option ℕ) (v : ℕ) (end_ : FaultPlace) (u : Topics) → is_some snapshot ≡ true → ((s : ℕ) → snapshot ≡ Some s → s ≡ v)
-      → FaultAlone (if v == snapshot_taken snapshot then Walk false else end_) root set pool gfn write u
+      → FaultAlone (if v == snapshot_taken snapshot then Walk false else end_) root set pool host gfn write u
   seq_alone None v end_ u some still = absurd (cc some)
   seq_alone (Some s) v end_ u some still =
-      subst (λ b. FaultAlone (if b then Walk false else end_) root set pool gfn write u) (sym (is_it v s (sym (still s refl)))) tt
+      subst (λ b. FaultAlone (if b then Walk false else end_) root set pool host gfn write u) (sym (is_it v s (sym (still s refl)))) tt
 
   -- ---- the walk
 
@@ -60,7 +61,7 @@ module _ (root set : ℕ) (pool : ℕ → ℕ) (gfn : ℕ) (write : Bool) where
       → allows_access write v ≡ allows → kind_of t.walk.level v ≡ entry_kind.Leaf → pool (pool_index (table_page t.walk) (entry_index gfn t.walk.level)) ≡ v
       → (t.walk.level ≡ 1 → LeadsTo pool 1 (table_page t.walk) gfn v → LeadsTo pool 4 root gfn v)
       → (kind_of t.walk.level v ≡ entry_kind.Leaf → t.walk.level ≡ 1)
-      → FaultAlone (if lowest then (if allows then Unshare Installed else Leaf) else end_) root set pool gfn write
+      → FaultAlone (if lowest then (if allows then Unshare Installed else Leaf) else end_) root set pool host gfn write
       (record t { walk = gone_down None t.walk (entry_index gfn t.walk.level) v })
   walk_leaf true true z t v end_ low may leaf is above only =
       let one : t.walk.level ≡ 1 = grind (arith, nat_tests) in
@@ -69,7 +70,8 @@ module _ (root set : ℕ) (pool : ℕ → ℕ) (gfn : ℕ) (write : Bool) where
   walk_leaf false allows z t v end_ low may leaf is above only = let one = only leaf in absurd (grind (arith, nat_tests))
 
   pub walk_none : (lowest : Bool) (t : Topics) (v : ℕ) → pool (pool_index (table_page t.walk) (entry_index gfn t.walk.level)) ≡ v
-      → FaultAlone (if lowest then Leaf else Claim false) root set pool gfn write (record t { walk = gone_down None t.walk (entry_index gfn t.walk.level) v })
+      → FaultAlone (if lowest then Leaf else Claim false) root set pool host gfn write
+      (record t { walk = gone_down None t.walk (entry_index gfn t.walk.level) v })
   walk_none true t v is = is
   walk_none false t v is = is
 
@@ -77,7 +79,7 @@ module _ (root set : ℕ) (pool : ℕ → ℕ) (gfn : ℕ) (write : Bool) where
       → pool (pool_index (table_page t.walk) (entry_index gfn t.walk.level)) ≡ v
       → (t.walk.level ≡ 1 → LeadsTo pool 1 (table_page t.walk) gfn v → LeadsTo pool 4 root gfn v)
       → (kind_of t.walk.level v ≡ entry_kind.Leaf → t.walk.level ≡ 1) → (kind_of t.walk.level v ≢ entry_kind.Frozen)
-      → FaultAlone (walk_next k z gfn write t.walk v) root set pool gfn write
+      → FaultAlone (walk_next k z gfn write t.walk v) root set pool host gfn write
       (record t { walk = gone_down (linked_page k) t.walk (entry_index gfn t.walk.level) v })
   walk_alone (entry_kind.Table page) z t v is here above only never = tt
   walk_alone entry_kind.Leaf z t v is here above only never = walk_leaf (t.walk.level == 1) (allows_access write v) z t v _ refl refl is here above only
@@ -86,22 +88,22 @@ module _ (root set : ℕ) (pool : ℕ → ℕ) (gfn : ℕ) (write : Bool) where
 
   -- ---- the claim
 
-  pub claim_alone : (next : ClaimNext) (u : Topics) → EntryStands pool gfn u → FaultAlone (after_claim next) root set pool gfn write u
+  pub claim_alone : (next : ClaimNext) (u : Topics) → EntryStands pool gfn u → FaultAlone (after_claim next) root set pool host gfn write u
   claim_alone claims.Goes u still = still
   claim_alone claims.Got u still = still
   claim_alone claims.Empty u still = tt
 
   -- ---- the stores
 
-  pub fill_alone : (few : Bool) (u : Topics) → EntryStands pool gfn u → FaultAlone (if few then Fill else Role) root set pool gfn write u
+  pub fill_alone : (few : Bool) (u : Topics) → EntryStands pool gfn u → FaultAlone (if few then Fill else Role) root set pool host gfn write u
   fill_alone true u stands = stands
   fill_alone false u stands = stands
 
-  pub link_alone : (won : Bool) (end_ : FaultPlace) (u : Topics) → won ≡ true → FaultAlone (if won then Walk true else end_) root set pool gfn write u
+  pub link_alone : (won : Bool) (end_ : FaultPlace) (u : Topics) → won ≡ true → FaultAlone (if won then Walk true else end_) root set pool host gfn write u
   link_alone true end_ u is = tt
   link_alone false end_ u is = absurd (cc is)
 
   pub leaf_alone : (won : Bool) (end_ : FaultPlace) (u : Topics) → won ≡ true → LeadsToLeaf pool 4 root gfn write
-      → FaultAlone (if won then Unshare Installed else end_) root set pool gfn write u
+      → FaultAlone (if won then Unshare Installed else end_) root set pool host gfn write u
   leaf_alone true end_ u is leads = leads
   leaf_alone false end_ u is leads = absurd (cc is)

@@ -30,7 +30,7 @@ use Rattle.part_steps.specs.PageTopics.{searched, searched_at}
 use Rattle.mmu_core.specs.machine.View.{answer_in, word_in}
 use Rattle.mmu_core.proofs.machine.Columns.{same_or}
 
-module _ (root set : ℕ) (pool : ℕ → ℕ) (gfn : ℕ) (write : Bool) where
+module _ (root set : ℕ) (pool host : ℕ → ℕ) (gfn : ℕ) (write : Bool) where
   -- A slot that doesn't have the guest frame is passed.
   no_more : (id : ℕ) → NoneBelow gfn pool set id → (live_at pool set id ≡ true → contains gfn (slot_at pool set id) ≡ false) → NoneBelow gfn pool set (id + 1)
   no_more id none here i lt live = by (same_or i id)
@@ -46,10 +46,10 @@ module _ (root set : ℕ) (pool : ℕ → ℕ) (gfn : ℕ) (write : Bool) where
 
   -- The search goes on with this ID, or is over.
   goes_on : (id : ℕ) (t : Topics) → t.search.set ≡ Some set → t.search.id ≡ id → NoneBelow gfn pool set id
-      → FaultAlone (if id == 32 then End Mmio else Find true) root set pool gfn write t
+      → FaultAlone (if id == 32 then End Mmio else Find true) root set pool host gfn write t
   goes_on id t held is none = by (id == 32) refl
     where
-      by : (last : Bool) → (id == 32) ≡ last → FaultAlone (if last then End Mmio else Find true) root set pool gfn write t
+      by : (last : Bool) → (id == 32) ≡ last → FaultAlone (if last then End Mmio else Find true) root set pool host gfn write t
       by true e = none_has id (grind (arith, nat_tests)) none
       by false e = λ _. (held, subst (NoneBelow gfn pool set) (sym is) none)
 
@@ -61,7 +61,7 @@ module _ (root set : ℕ) (pool : ℕ → ℕ) (gfn : ℕ) (write : Bool) where
   -- The slot is loaded whole: it has the guest frame, and forbids the access or not, or it is passed.
   whole_loaded : (z : Sizes) (role : ℕ → ℕ) (s : SlotSearch) (x : ℕ) (t : Topics) → SlotSetPart z set role pool → HasLoaded field.Host pool set s
       → s.id ≤ 31 → t.search.set ≡ Some set → t.search.id ≡ s.id + 1 → NoneBelow gfn pool set s.id
-      → FaultAlone (find_next gfn write field.Host (searched_at field.Host s x)) root set pool gfn write t
+      → FaultAlone (find_next gfn write field.Host (searched_at field.Host s x)) root set pool host gfn write t
   whole_loaded z role s x t P loaded low held search none = by (contains gfn slot) (write && s.slot.read_only) refl refl
     where
       slot : Slot
@@ -76,7 +76,7 @@ module _ (root set : ℕ) (pool : ℕ → ℕ) (gfn : ℕ) (write : Bool) where
           ap (λ n. write && (slot_at pool set n).read_only) same ∙ ap (λ b. write && b) (sym loaded.0.1) ∙ denied
 
       by : (holds denied : Bool) → contains gfn slot ≡ holds → (write && s.slot.read_only) ≡ denied
-          → FaultAlone (if holds then (if denied then End Mmio else Host) else (if s.id + 1 == 32 then End Mmio else Find true)) root set pool gfn write t
+          → FaultAlone (if holds then (if denied then End Mmio else Host) else (if s.id + 1 == 32 then End Mmio else Find true)) root set pool host gfn write t
       by true true holds denied = forbidden holds denied
       by true false holds denied = tt
       by false denied holds _ = goes_on (s.id + 1) t held search (no_more s.id none (λ live. sym same_frames ∙ holds))
@@ -85,9 +85,10 @@ module _ (root set : ℕ) (pool : ℕ → ℕ) (gfn : ℕ) (write : Bool) where
   pub find_alone : (f : SlotField) (z : Sizes) (role : ℕ → ℕ) (s : SlotSearch) (x : ℕ) (t : Topics) → SlotSetPart z set role pool
       → HasLoaded f pool set s → s.id ≤ 31
       → s.set ≡ Some set → x ≡ pool (slot_index set s.id f) → t.search ≡ searched_at f s x → NoneBelow gfn pool set s.id
-      → FaultAlone (find_next gfn write f (searched_at f s x)) root set pool gfn write t
+      → FaultAlone (find_next gfn write f (searched_at f s x)) root set pool host gfn write t
   find_alone field.Flags z role s x t P loaded low held is search none =
-      goes_on (if flags_live x then s.id else s.id + 1) t (ap (λ (r : SlotSearch). r.set) search ∙ held) (ap (λ (r : SlotSearch). r.id) search) (flags_passed (flags_live x) s.id (sym (ap flags_live is)) none)
+      goes_on (if flags_live x then s.id else s.id + 1) t (ap (λ (r : SlotSearch). r.set) search ∙ held) (ap (λ (r : SlotSearch). r.id) search)
+      (flags_passed (flags_live x) s.id (sym (ap flags_live is)) none)
   find_alone field.Host z role s x t P loaded low held is search none =
       whole_loaded z role s x t P loaded low (ap (λ (r : SlotSearch). r.set) search ∙ held) (ap (λ (r : SlotSearch). r.id) search) none
   find_alone _ z role s x t P loaded low held is search none =
@@ -96,11 +97,12 @@ module _ (root set : ℕ) (pool : ℕ → ℕ) (gfn : ℕ) (write : Bool) where
 -- the search's step in a sound world
 pub find_goes : (z : Sizes) (w : World Held) (a gfn note : ℕ) (write : Bool) → FaultRunsAlone z w a (Find true) gfn write
     → FaultAlone
-    (find_next gfn write (hand_in mmu w a).topics.search.next (searched (hand_in mmu w a).topics.search (answer_in (part_task part.Slot a (hand_in mmu w a).topics note) (word_in z w))))
-    (word_in z w area.Root 0) (word_in z w area.Slots 0) (word_in z w area.Pool) gfn write
+    (find_next gfn write (hand_in mmu w a).topics.search.next
+    (searched (hand_in mmu w a).topics.search (answer_in (part_task part.Slot a (hand_in mmu w a).topics note) (word_in z w))))
+    (word_in z w area.Root 0) (word_in z w area.Slots 0) (word_in z w area.Pool) (word_in z w area.Host) gfn write
     (part_topics part.Slot (hand_in mmu w a).topics (answer_in (part_task part.Slot a (hand_in mmu w a).topics note) (word_in z w)))
 find_goes z w a gfn note write R =
-    find_alone (words area.Root 0) (words area.Slots 0) (words area.Pool) gfn write t.search.next z (words area.Role) t.search v
+    find_alone (words area.Root 0) (words area.Slots 0) (words area.Pool) (words area.Host) gfn write t.search.next z (words area.Role) t.search v
     (part_topics part.Slot t v) R.sound.holds.set_part
     ((R.sound.topics.searches a R.there).loaded (words area.Slots 0) K.0) (R.knows.1 refl).1 K.0
     (ap (λ (set : Option ℕ). words area.Pool (slot_index (set_held set) t.search.id t.search.next)) K.0)

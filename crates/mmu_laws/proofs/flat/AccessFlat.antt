@@ -23,7 +23,7 @@ use Rattle.core_views.specs.Past.{Past}
 use Rattle.core_views.specs.Host.{HostMap, own_frames}
 use Rattle.core_views.specs.Lawful.{Tells}
 use Rattle.core_views.specs.Memory.{Memory, stored, with_word}
-use Rattle.core_views.specs.Names.{frame_at}
+use Rattle.core_views.specs.Names.{frame_at, frame_for}
 use Rattle.core_views.specs.Slots.{is_write, page_behind}
 use Rattle.core_views.specs.SlotSets.{flat_slots}
 use Rattle.spte_words.specs.declared.area.Area.{Area}
@@ -49,11 +49,20 @@ use Rattle.mmu_core.specs.machine.View.{View, answer_in, put, words_after}
 use Rattle.mmu_core.proofs.machine.Columns.{same_or, upd_same, upd_other}
 use Rattle.mmu_laws.proofs.flat.FaultFlat.{fault_goes}
 use Rattle.mmu_laws.proofs.flat.FlatSteps.{Goes, Leaves, Ready, StepGoes, answers_by, part_leaves, part_refines, refined_slots, refines_stay}
-use Rattle.mmu_laws.proofs.flat.PageFound.{frame_of_leaf, leaf_allows, page_in_machine, page_is_behind, word_in_page}
+use Rattle.mmu_laws.proofs.flat.PageFound.{frame_of_leaf, leaf_allows, page_in_machine, page_is_behind, word_in_page, entry_is}
 use Rattle.mmu_core.proofs.machine.PartStepping.{IsPart}
 use Rattle.mmu_core.proofs.machine.Stepping.{IsStep}
-use Rattle.mmu_core.proofs.slots.LiveStays.{access_never}
+use Rattle.mmu_core.proofs.slots.LiveStays.{access_never, access_quiet}
 use Rattle.mmu_core.proofs.lines.UsedTranslations.{lowest_frame, uses_allows}
+use Rattle.core_views.specs.declared.actor.Actor.{Actor}
+use Rattle.mmu_core.proofs.held.UsableSteps.{UsableAt}
+use Rattle.mmu_core.specs.lines.HostSteps.{entry_of}
+use Rattle.core_views.specs.Traces.{IsCommandFor}
+use Rattle.mmu_core.proofs.held.UsableKept.{used_agrees}
+use Rattle.core_views.specs.Sizes.{index_of}
+use Rattle.spte_words.specs.HostWords.{host_allows_write}
+use Rattle.core_views.specs.declared.actor.Actor.TheVariants.{Vcpu}
+use Rattle.core_views.specs.declared.actor.Actor.TheVariants as actors
 
 -- The step is one of a part, if it isn't the touch.
 abbrev pub IsPartOr : Sizes → View → ℕ → Option PartStep → Type 0
@@ -102,13 +111,10 @@ memory_behind z page word op memory content after page_in word_in is here there 
     case (inr e) f = other (λ same _. e same)
     case (inl e) (inr f) = other (λ _ same. f same)
 
--- Each page is present, and the host forbids nothing.
-frame_named : (op : Op) (page : ℕ) → frame_at own_frames op (Some page) ≡ Some page
-frame_named op page = by (is_write op)
-  where
-    by : (write : Bool) → (if (write && not true) || not true then None else Some page) ≡ Some page
-    by true = refl
-    by false = refl
+-- A page that is present, and of which the host forbids nothing to the operation, names its frame.
+frame_named : (op : Op) (page : ℕ) (writable : Bool) → (is_write op && not writable) ≡ false
+    → frame_for op (record { frame = page; present = true; writable = writable }) ≡ Some page
+frame_named op page writable allowed = ap (λ (b : Bool). if b || not true then None else Some page) allowed
 
 -- what a touch finds: the page behind the guest frame, and its word in memory
 record Touches (z : Sizes) (s : State) (gfn word : ℕ) (op : Op) (facts : Facts) : Type 0 where
@@ -116,28 +122,44 @@ record Touches (z : Sizes) (s : State) (gfn word : ℕ) (op : Op) (facts : Facts
   page_in : page < z.pages
   word_in : word < z.words
   frame : frame_used gfn s ≡ page
+  named : frame_for op (facts.host page) ≡ Some page
   behind_is : page_behind (flat_slots facts.slots) gfn op ≡ Some page
   index : content_index (map_of s.sizes) (frame_used gfn s) word ≡ content_index (map_of z) page word
 
+-- The actor of an access is a virtual processor.
+vcpu_low : (z : Sizes) (v : View) (a : ℕ) (line : Line) (gfn word : ℕ) (op : Op) (p : AccessPlace) → IsStep z v a line (Access gfn word op) (place.Access p) → Invariant z v → a < z.vcpus
+vcpu_low z v a line gfn word op p S I =
+    let may = subst (λ (x : Actor). IsCommandFor z x (Access gfn word op)) S.own S.allowed in
+    by (v.hand a).state.actor may (I.lines a S.there).index
+  where
+    by : (actor : Actor) → IsCommandFor z actor (Access gfn word op) → index_of z actor ≡ a → a < z.vcpus
+    by (Vcpu n) may is = let low = may.0 in omega (arith, low, is)
+    by (actors.Host n) may is = absurd may
+    by actors.Manager may is = absurd may
+    by (actors.Worker n) may is = absurd may
+
 touches : (z : Sizes) (v : View) (a : ℕ) (line : Line) (gfn word : ℕ) (op : Op) (facts : Facts) (u : LineUnderWay)
-    → IsStep z v a line (Access gfn word op) (place.Access Touch) → Invariant z v → AccessKnows Touch gfn (is_write op) (v.hand a)
+    → IsStep z v a line (Access gfn word op) (place.Access Touch) → Invariant z v → TopicsInvariant z v → UsableAt z v
+    → AccessKnows Touch gfn (is_write op) (v.hand a)
     → Ready z v line (Access gfn word op) (place.Access Touch) (v.hand a).topics facts u
     → Touches z (v.hand a).state gfn word op facts
-touches z v a line gfn word op facts u S I K R =
+touches z v a line gfn word op facts u S I P U K R =
     let s : State = (v.hand a).state in
-    let F : IsLeafFor (v.words area.Pool) (v.words area.Host) (v.words area.Slots 0) gfn s.used.leaf = S.holds.1 in
+    let used = used_agrees z v a gfn (is_write op) U (vcpu_low z v a line gfn word op (Touch) S I) K.0.guest (I.cached a S.there) K.1 in
+    let F : IsLeafFor (v.words area.Pool) (v.words area.Host) (v.words area.Slots 0) gfn s.used.leaf = used.1 in
     let page : ℕ = page_of F.slot gfn in
     let page_in : page < z.pages = page_in_machine z (v.words area.Slots 0) (v.words area.Role) (v.words area.Pool) F.id gfn F.slot I.set_part F.live F.holds in
-    let frame : frame_used gfn s ≡ page = lowest_frame gfn s S.holds.0 ∙ ap frame_in F.is
-    ∙ frame_of_leaf z (v.words area.Host) F.slot page I.sizes I.hosts page_in in
-    let allowed : (is_write op && F.slot.read_only) ≡ false = leaf_allows op F.slot (v.words area.Host page) s.used.leaf F.is
-    (uses_allows gfn (is_write op) (v.hand a) K.1) in
+    let frame : frame_used gfn s ≡ page = lowest_frame gfn s used.0 ∙ ap frame_in F.is
+    ∙ frame_of_leaf z (v.words area.Host) F.slot page I.sizes P.hosts page_in in
+    let allowed = leaf_allows op F.slot (v.words area.Host page) s.used.leaf F.is (uses_allows gfn (is_write op) (v.hand a) K.1) in
     record {
       page = page;
       page_in = page_in;
       word_in = word_in_page z line.actor gfn word op S.allowed;
       frame = frame;
-      behind_is = page_is_behind z (v.words area.Slots 0) (v.words area.Role) (v.words area.Pool) F.id gfn F.slot op (flat_slots facts.slots) I.set_part F.live F.holds allowed (refined_slots z (v.words area.Slots 0) (v.words area.Pool) (v.words area.Content) (v.words area.Pause 0) facts R.refines);
+      named = ap (frame_for op) (R.refines.host page page_in ∙ entry_is page (v.words area.Host page) (P.hosts page page_in))
+          ∙ frame_named op page (host_allows_write (v.words area.Host page)) allowed.1;
+      behind_is = page_is_behind z (v.words area.Slots 0) (v.words area.Role) (v.words area.Pool) F.id gfn F.slot op (flat_slots facts.slots) I.set_part F.live F.holds allowed.0 (refined_slots z (v.words area.Slots 0) (v.words area.Pool) (v.words area.Host) (v.words area.Content) (v.words area.Pause 0) facts R.refines);
       index = rw ((I.lines a S.there).sizes, frame) refl;
     }
 
@@ -145,21 +167,21 @@ touch_goes : (z : Sizes) (v : View) (a : ℕ) (line : Line) (gfn word : ℕ) (op
     (after : Area → ℕ → ℕ) (t : Topics)
     → IsStep z v a line (Access gfn word op) (place.Access Touch) → Ready z v line (Access gfn word op) (place.Access Touch) (v.hand a).topics facts u
     → (T : Touches z (v.hand a).state gfn word op facts)
-    → after area.Slots ≡ v.words area.Slots → after area.Pool ≡ v.words area.Pool → after area.Pause ≡ v.words area.Pause
+    → after area.Slots ≡ v.words area.Slots → after area.Pool ≡ v.words area.Pool → after area.Host ≡ v.words area.Host → after area.Pause ≡ v.words area.Pause
     → after area.Content (content_index (map_of (v.hand a).state.sizes) (frame_used gfn (v.hand a).state) word) ≡ stored op
     (v.words area.Content (content_index (map_of (v.hand a).state.sizes) (frame_used gfn (v.hand a).state) word))
     → ((i : ℕ) → i ≢ content_index (map_of (v.hand a).state.sizes) (frame_used gfn (v.hand a).state) word → after area.Content i ≡ v.words area.Content i)
     → let x : ℕ = v.words area.Content (content_index (map_of (v.hand a).state.sizes) (frame_used gfn (v.hand a).state) word) in
     Goes z (v.hand a).state.actor line (Access gfn word op) after (place.Access (Leave (leaving.Reached (frame_used gfn (v.hand a).state) x))) t
     (Accessed gfn word op (frame_used gfn (v.hand a).state) x ∷ []) facts past u
-touch_goes z v a line gfn word op facts past u after t S R T slots_is pool_is pause_is here there = record {
+touch_goes z v a line gfn word op facts past u after t S R T slots_is pool_is host_is pause_is here there = record {
   allowed = (
     (
       R.under.1.0,
       ap (λ (l : Line). l.command) R.under.0 ∙ S.command_is,
       R.under.1.1,
       record {
-        named = ap (frame_at facts.host op) T.behind_is ∙ ap (λ (host : HostMap). frame_at host op (Some T.page)) R.refines.host ∙ frame_named op T.page ∙ ap Some (sym T.frame);
+        named = ap (frame_at facts.host op) T.behind_is ∙ T.named ∙ ap Some (sym T.frame);
         page = T.page;
         behind = T.behind_is;
         value_is = R.refines.memory T.page word T.page_in T.word_in ∙ ap (v.words area.Content) (sym T.index);
@@ -169,7 +191,7 @@ touch_goes z v a line gfn word op facts past u after t S R T slots_is pool_is pa
   );
   refines = record {
     slots = R.refines.slots ∙ rw (slots_is, pool_is) refl;
-    host = R.refines.host;
+    host = λ p lt. R.refines.host p lt ∙ sym (ap (λ (g : ℕ → ℕ). entry_of (g p)) host_is);
     memory =
         subst (λ page. (p j : ℕ) → p < z.pages → j < z.words → touched page word op facts.memory p j ≡ after area.Content (content_index (map_of z) p j)) (sym T.behind_is)
         (memory_behind z T.page word op facts.memory (v.words area.Content) (after area.Content) T.page_in T.word_in R.refines.memory (rw T.index at here) (rw T.index at there));
@@ -186,7 +208,7 @@ module _ (z : Sizes) (v : View) (a : ℕ) (line : Line) (gfn word : ℕ) (facts 
   -- what a step of the access owes, from what its actor knows
   abbrev Owes : Op → AccessPlace → Type 0
   Owes op p =
-      IsStep z v a line (Access gfn word op) (place.Access p) → Invariant z v → TopicsInvariant z v → IsPartOr z v a (access_part p gfn (v.hand a).topics) → AccessKnows p gfn (is_write op) (v.hand a)
+      IsStep z v a line (Access gfn word op) (place.Access p) → Invariant z v → TopicsInvariant z v → UsableAt z v → IsPartOr z v a (access_part p gfn (v.hand a).topics) → AccessKnows p gfn (is_write op) (v.hand a)
       → Ready z v line (Access gfn word op) (place.Access p) (v.hand a).topics facts u → StepGoes z v a line (Access gfn word op) (place.Access p) facts past u
 
   abbrev words_behind : Op → AccessPlace → Area → ℕ → ℕ
@@ -200,18 +222,18 @@ module _ (z : Sizes) (v : View) (a : ℕ) (line : Line) (gfn word : ℕ) (facts 
       topics_after (v.hand a).state.sizes (kind_of_task (v.hand a).state.sizes (access_task p (v.hand a) gfn word op)) (v.hand a).topics (answered op p)
 
   touch_owes : (op : Op) → Owes op Touch
-  touch_owes Read S I P part_ K R =
+  touch_owes Read S I P U part_ K R =
       touch_goes z v a line gfn word Read facts past u v.words (held_behind Read Touch) S R
-      (touches z v a line gfn word Read facts u S I K R) refl refl refl refl (λ i apart. refl)
-  touch_owes (Write x) S I P part_ K R =
+      (touches z v a line gfn word Read facts u S I P U K R) refl refl refl refl refl (λ i apart. refl)
+  touch_owes (Write x) S I P U part_ K R =
       touch_goes z v a line gfn word (Write x) facts past u (put v.words area.Content (touched_index gfn (v.hand a).state word) x)
-      (held_behind (Write x) Touch) S R (touches z v a line gfn word (Write x) facts u S I K R) refl refl refl
+      (held_behind (Write x) Touch) S R (touches z v a line gfn word (Write x) facts u S I P U K R) refl refl refl refl
       (upd_same (v.words area.Content) (touched_index gfn (v.hand a).state word) x)
       (λ i apart. upd_other (v.words area.Content) (touched_index gfn (v.hand a).state word) i x apart)
-  touch_owes (Add x) S I P part_ K R =
+  touch_owes (Add x) S I P U part_ K R =
       let sum : ℕ = stored (Add x) (v.words area.Content (touched_index gfn (v.hand a).state word)) in
       touch_goes z v a line gfn word (Add x) facts past u (put v.words area.Content (touched_index gfn (v.hand a).state word) sum)
-      (held_behind (Add x) Touch) S R (touches z v a line gfn word (Add x) facts u S I K R) refl refl refl
+      (held_behind (Add x) Touch) S R (touches z v a line gfn word (Add x) facts u S I P U K R) refl refl refl refl
       (upd_same (v.words area.Content) (touched_index gfn (v.hand a).state word) sum)
       (λ i apart. upd_other (v.words area.Content) (touched_index gfn (v.hand a).state word) i sum apart)
 
@@ -225,13 +247,13 @@ module _ (z : Sizes) (v : View) (a : ℕ) (line : Line) (gfn word : ℕ) (facts 
     where
       L : Leaves v.words (words_behind op p)
       L = subst (λ o. Leaves v.words (words_after (task_by o (v.hand a) (access_note p) (touch_of op (touched_index gfn (v.hand a).state word))) v.words))
-          (sym is) (part_leaves z v a step (access_note p) S P (access_never p gfn (v.hand a).topics step is))
+          (sym is) (part_leaves z v a step (access_note p) S P (access_never p gfn (v.hand a).topics step is) (access_quiet p gfn (v.hand a).topics step is))
 
   -- The access is answered.
   reached_owes : (op : Op) (frame value : ℕ) → Owes op (Leave (leaving.Reached frame value))
-  reached_owes op frame value S I P part_ K R =
+  reached_owes op frame value S I P U part_ K R =
       answers_by z v a line (Access gfn word op) (access_task (Leave (leaving.Reached frame value)) (v.hand a) gfn word op) facts past u
-      (part_refines z v a part.Leave 1 facts part_ P refl R.refines) (Reached frame value) R.under.0
+      (part_refines z v a part.Leave 1 facts part_ P refl refl R.refines) (Reached frame value) R.under.0
       (subst (λ (stage : Stage). Tells z facts.slots (v.hand a).state.actor u.line.command stage (Reached frame value)) (sym R.under.1) refl)
 
   -- The line looks at the pause, which isn't set.
@@ -240,7 +262,7 @@ module _ (z : Sizes) (v : View) (a : ℕ) (line : Line) (gfn word : ℕ) (facts 
       → StepGoes z v a line (Access gfn word op) (place.Access (Pause again)) facts past u
   looks_at_pause op again S P R = record {
     allowed = (R.under.1, tt);
-    refines = refines_stay z v.words (words_behind op (Pause again)) facts (part_leaves z v a part.Pause 0 S P refl) R.refines;
+    refines = refines_stay z v.words (words_behind op (Pause again)) facts (part_leaves z v a part.Pause 0 S P refl refl) R.refines;
     under = (
       R.under.0,
       pause_under (words_behind op (Pause again) area.Pool) gfn op (held_behind op (Pause again)) (record u { notes = record u.notes { paused = Some facts.paused } }) again
@@ -249,16 +271,16 @@ module _ (z : Sizes) (v : View) (a : ℕ) (line : Line) (gfn word : ℕ) (facts 
   }
 
   pub access_goes : (op : Op) (p : AccessPlace) → Owes op p
-  access_goes op (Enter again) S I P part_ K R = quiet op (Enter again) (Pause again) part.Enter refl part_ I P R R.under
-  access_goes op (Pause again) S I P part_ K R = looks_at_pause op again part_ P R
-  access_goes op (Root again) S I P part_ K R = quiet op (Root again) (Walk again) part.Root refl part_ I P R R.under
-  access_goes op (Walk again) S I P part_ K R =
+  access_goes op (Enter again) S I P U part_ K R = quiet op (Enter again) (Pause again) part.Enter refl part_ I P R R.under
+  access_goes op (Pause again) S I P U part_ K R = looks_at_pause op again part_ P R
+  access_goes op (Root again) S I P U part_ K R = quiet op (Root again) (Walk again) part.Root refl part_ I P R R.under
+  access_goes op (Walk again) S I P U part_ K R =
       let k : SpteKind = kind_of (v.hand a).topics.walk.level (answered op (Walk again)) in
       let allowed : Bool = allows_access (is_write op) (answered op (Walk again)) in
       quiet op (Walk again) (stay_next again k allowed) (part.Walk gfn) refl part_ I P R
       (R.under.0, walk_under (words_behind op (Walk again) area.Pool) gfn op (held_behind op (Walk again)) u again k allowed R.under.1)
-  access_goes op Touch S I P part_ K R = touch_owes op S I P part_ K R
-  access_goes op (Leave (leaving.Reached frame value)) S I P part_ K R = reached_owes op frame value S I P part_ K R
-  access_goes op (Leave leaving.Faults) S I P part_ K R =
+  access_goes op Touch S I P U part_ K R = touch_owes op S I P U part_ K R
+  access_goes op (Leave (leaving.Reached frame value)) S I P U part_ K R = reached_owes op frame value S I P U part_ K R
+  access_goes op (Leave leaving.Faults) S I P U part_ K R =
       quiet op (Leave leaving.Faults) (Fault fault.Begin) part.Leave refl part_ I P R (R.under.0, (R.under.1, tt))
-  access_goes op (Fault p) S I P part_ K R = fault_goes z v a line gfn word op facts past u p S part_ I P K R
+  access_goes op (Fault p) S I P U part_ K R = fault_goes z v a line gfn word op facts past u p S part_ I P K R

@@ -1,5 +1,5 @@
 -- What the hands hold behind a list of steps is what its history tells; where all is answered it answers the trace.
-use Rattle.core_views.specs.declared.trace.HostChange.TheVariants.{Allow}
+use Rattle.core_views.specs.declared.trace.HostChange.TheVariants.{Allow, Protect}
 use Rattle.std.proofs.Common.{◌≡◌, ◌⊎◌, inl, inr, ◌+◌, ◌-◌, ◌<◌, ◌≤◌, ℕ, List, [], ◌∷◌, ◌++◌, length, take, refl, sym, subst, ap, ◌∙◌, arith}
 use Rattle.std.specs.Prelude.{All, Bool, true, false, ◌==◌, map, nat_lt, if◌then◌else◌}
 use Rattle.std.proofs.lemmas.Bool.Decides.{nat_tests}
@@ -166,14 +166,19 @@ not_less a b le = grind (arith, nat_tests)
 equal : (n : ℕ) → (n == n) ≡ true
 equal n = grind (arith, nat_tests)
 
+-- So has each host thread.
+host_present : (z : Sizes) (n : ℕ) → n < z.hosts → Present z (Host n)
+host_present z n may =
+    let same : z.vcpus + n - z.vcpus ≡ n = omega arith in
+    (z.vcpus + n, omega (arith, may), rw (not_less (z.vcpus + n) z.vcpus (omega arith), less (z.vcpus + n - z.vcpus) z.hosts (omega (arith, same, may))) (ap Host same))
+
 -- Each line's actor has one.
 present : (z : Sizes) (actor : Actor) (command : Command) → IsCommandFor z actor command → Present z actor
 present z (Vcpu n) (Access gfn word op) may = (n, omega (arith, may.0), rw (less n z.vcpus may.0) refl)
 present z Manager command may =
     (z.vcpus + z.hosts, omega arith, rw (not_less (z.vcpus + z.hosts) z.vcpus (omega arith), not_less (z.vcpus + z.hosts - z.vcpus) z.hosts (omega arith), equal (z.vcpus + z.hosts)) refl)
-present z (Host n) (ChangeHost page Allow) may =
-    let same : z.vcpus + n - z.vcpus ≡ n = omega arith in
-    (z.vcpus + n, omega (arith, may), rw (not_less (z.vcpus + n) z.vcpus (omega arith), less (z.vcpus + n - z.vcpus) z.hosts (omega (arith, same, may))) (ap Host same))
+present z (Host n) (ChangeHost page Allow) may = host_present z n may
+present z (Host n) (ChangeHost page Protect) may = host_present z n may
 present z _ (Access gfn word op) may = absurd may
 present z _ _ may = absurd may
 

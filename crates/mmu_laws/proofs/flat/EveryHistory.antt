@@ -1,5 +1,5 @@
 -- What every list of steps tells is lawful.
-use Rattle.std.proofs.Common.{◌≡◌, ◌⊎◌, inl, inr, ◌<◌, ℕ, List, [], ◌∷◌, ◌++◌, refl, sym, subst, ap, ◌∙◌}
+use Rattle.std.proofs.Common.{◌≡◌, ◌⊎◌, inl, inr, ◌<◌, ℕ, List, [], ◌∷◌, ◌++◌, refl, sym, subst, ap, ◌∙◌, true, nat_lt, arith, Bool}
 use Rattle.std.specs.Prelude.{◌==◌, false, not}
 use Rattle.core_views.specs.declared.event.Event.{Event}
 use Rattle.core_views.specs.declared.kind.Kind.{Kind}
@@ -40,7 +40,13 @@ use Rattle.mmu_core.proofs.machine.Worlds.{Takes, TakesPart, good_step, takes, a
 use Rattle.mmu_core.proofs.invariant.Kept.{makes_at}
 use Rattle.mmu_laws.proofs.flat.FlatKept.{flat_kept, told_events, told_is_events}
 use Rattle.mmu_laws.proofs.flat.FlatStill.{others_held, under_still}
-use Rattle.mmu_core.proofs.machine.PartStepping.{IsPart, idle_never}
+use Rattle.mmu_core.proofs.machine.PartStepping.{IsPart, idle_never, idle_quiet}
+use Rattle.mmu_core.specs.lines.HostSteps.{entry_of}
+use Rattle.core_views.specs.Host.{own_frames}
+use Rattle.spte_words.specs.HostWords.{host_word}
+use Rattle.std.proofs.lemmas.Bool.Decides.{nat_tests}
+use Rattle.mmu_laws.proofs.flat.PageFound.{entry_is}
+use Rattle.spte_words.proofs.ReadsHost.{host_is_writable}
 
 -- A hand with no line left has none under way.
 none_under : (p : Place) (h : Held) → UnderWay p h → has_line h ≡ false → p ≡ place.Between
@@ -71,7 +77,7 @@ part_keeps_flat z v f a step note S free none I P F = record {
     behind = idle_after h (kind_of_task h.state.sizes task) (answer_in task v.words)
 
     L : Leaves v.words words
-    L = part_leaves z v a step note S P (idle_never step free)
+    L = part_leaves z v a step note S P (idle_never step free) (idle_quiet step free)
 
     idle : a < actors_of z → h.state.place ≡ place.Between
     idle lt = none_under h.state.place h (I.lines a lt).under none
@@ -106,19 +112,27 @@ run_flat z w f (s ∷ ss) G F legal = by (takes z w s G legal.0) (λ es F. run_f
         let es : List Event = told_events (view z w) s.actor (line_at h.state.place h) (line_at h.state.place h).command (place_at h.state.place h) in
         let is : events_of h (answered mmu w s.kind) ≡ es = ap (events_of h) T.answers ∙ sym (told_is_events z (view z w) s.actor (line_at h.state.place h) (place_at h.state.place h) T.is_step) in
         let K = flat_kept z (view z w) f s.actor (line_at h.state.place h) (line_at h.state.place h).command (place_at h.state.place h) T.is_step G.holds G.topics (makes_at z (view z w) s.actor (line_at h.state.place h) (line_at h.state.place h).command (place_at h.state.place h) (are_small z w G) T.is_step G.holds G.topics)
-        (step_knows z (view z w) s.actor (line_at h.state.place h) (line_at h.state.place h).command (place_at h.state.place h) T.is_step G.holds) G.no_pause F in
+        (step_knows z (view z w) s.actor (line_at h.state.place h) (line_at h.state.place h).command (place_at h.state.place h) T.is_step G.holds) G.no_pause G.usable F in
         let then_ = more es (subst (λ (v : View). FlatInvariant z v (after_all es f)) (sym T.leads) K.1) in
         subst Tells (sym is) (stays_flat z (run mmu (effect mmu w s) ss) f es (history (effect mmu w s) ss) K.0 then_)
     by (inr T) more =
         let then_ = more [] (subst (λ (v : View). FlatInvariant z v f) (sym T.leads) (part_keeps_flat z (view z w) f s.actor T.step T.note T.is_part T.free T.none_left G.holds G.topics F)) in
         subst Tells (sym (events_of_part h (answered mmu w s.kind) T.none_left)) then_
 
+-- Each page is mapped to its own frame, and may be written.
+entry_at_start : (z : Sizes) (lines : List Line) (w : World Held) → IsStart z lines w → (p : ℕ) → p < z.pages → entry_of (word_in z w area.Host p) ≡ own_frames p
+entry_at_start z lines w start p lt =
+    let is = word_at_start z w area.Host p (host_word p true true 1) start.words (λ l. refl)
+    (λ e. absurd (let low : nat_lt p z.pages ≡ true = grind (arith, nat_tests) in cc (e, low))) in
+    ap entry_of is ∙ (entry_is p (host_word p true true 1) (ap (λ (b : Bool). host_word p true b 1) (sym (host_is_writable p true true 1)))
+    ∙ ap (λ (b : Bool). record { frame = p; present = true; writable = b }) (host_is_writable p true true 1))
+
 -- The start stands for the first flat state.
 start_flat : (z : Sizes) (lines : List Line) (w : World Held) → IsStart z lines w → FlatInvariant z (view z w) first_flat
 start_flat z lines w start = record {
   refines = record {
     slots = sym (none_below (live_at (word_in z w area.Pool) (word_in z w area.Slots 0)) (memory_slot_at (word_in z w area.Pool) (word_in z w area.Slots 0)) 32 (λ id low. none_live z w (word_in z w area.Slots 0) id start.words));
-    host = refl;
+    host = λ p lt. sym (entry_at_start z lines w start p lt);
     memory = λ p j lt below. sym (word_at_start z w area.Content _ 0 start.words (λ l. refl) (λ e. refl));
     paused = ap (λ n. not (n == 0)) (sym (word_at_start z w area.Pause 0 0 start.words (λ l. refl) (λ e. refl)));
   };

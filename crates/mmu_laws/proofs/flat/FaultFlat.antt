@@ -24,7 +24,7 @@ use Rattle.core_views.specs.Flat.{Facts, LineUnderWay, Notes}
 use Rattle.core_views.specs.Past.{Past}
 use Rattle.core_views.specs.declared.host.HostEntry.{HostEntry}
 use Rattle.core_views.specs.Host.{HostMap, HostNotes, is_denied, own_frames, with_entry}
-use Rattle.core_views.specs.Lawful.{MayLeave, SawPage}
+use Rattle.core_views.specs.Lawful.{MayLeave, SawPage, SawForbidden}
 use Rattle.core_views.specs.Slots.{is_write}
 use Rattle.spte_words.specs.declared.area.Area.{Area}
 use Rattle.spte_words.specs.declared.area.Area.TheVariants as area
@@ -49,7 +49,6 @@ use Rattle.mmu_core.specs.machine.View.{View, answer_in, words_after}
 use Rattle.mmu_laws.proofs.flat.FindFlat.{find_noted}
 use Rattle.mmu_core.proofs.lines.EitherPlace.{either_place}
 use Rattle.mmu_laws.proofs.flat.FlatSteps.{Goes, Ready, StepGoes, goes_by, leaves_by, part_refines, refined_slots}
-use Rattle.mmu_laws.proofs.flat.PageFound.{host_writable}
 use Rattle.mmu_core.proofs.machine.PartStepping.{IsPart}
 use Rattle.mmu_core.proofs.words.PartTopics.{part_topics_is}
 use Rattle.mmu_core.proofs.machine.Stepping.{IsStep}
@@ -60,7 +59,7 @@ use Rattle.part_steps.specs.ControlTopics.{at_set}
 use Rattle.part_steps.specs.TopicSteps.{topics_after}
 use Rattle.core_views.specs.declared.topics.SlotSearch.{SlotSearch}
 use Rattle.core_views.specs.declared.topics.Stay.{Stay}
-use Rattle.mmu_core.proofs.slots.LiveStays.{access_never}
+use Rattle.mmu_core.proofs.slots.LiveStays.{access_never, access_quiet}
 use Rattle.mmu_core.proofs.held.OldSets.{set_live}
 
 -- Where a fault stands after most of its steps the line has noted nothing, up to its look at the host, and from there on that it saw a page.
@@ -94,18 +93,15 @@ module _ (pool : ℕ → ℕ) (gfn : ℕ) (op : Op) (t : Topics) (notes : Notes)
   claim_noted saw claims.Goes = saw
   claim_noted saw _ = saw
 
-  -- The host allows the access.
-  host_noted : SawPage notes gfn op → (write : Bool) (x : ℕ) → host_allows_write x ≡ true
+  -- The host allows the access, or forbids the write.
+  host_noted : (write : Bool) (x : ℕ) → ((write && not (host_allows_write x)) ≡ false → SawPage notes gfn op)
+      → ((write && not (host_allows_write x)) ≡ true → SawForbidden notes gfn op)
       → Noted (if write && not (host_allows_write x) then End HostFault else Share)
-  host_noted saw true x allows = rw allows saw
-  host_noted saw false x allows = saw
-
-never_denied : (op : Op) (page : ℕ) → is_denied op (own_frames page) ≡ false
-never_denied op page = by (is_write op)
-  where
-    by : (write : Bool) → (write && not true) ≡ false
-    by true = refl
-    by false = refl
+  host_noted write x saw denied = by (write && not (host_allows_write x)) refl
+    where
+      by : (b : Bool) → (write && not (host_allows_write x)) ≡ b → Noted (if b then End HostFault else Share)
+      by true is = denied is
+      by false is = saw is
 
 entry_noted : (page : ℕ) (entry : HostEntry) (host : HostNotes) → with_entry page entry host page ≡ Some entry
 entry_noted page entry host = rw (eq-eqb page page refl) refl
@@ -131,7 +127,7 @@ module _ (z : Sizes) (v : View) (a : ℕ) (line : Line) (gfn word : ℕ) (op : O
       → Goes z (v.hand a).state.actor line (Access gfn word op) (words_behind p) (place.Access (Fault next)) (held_behind p) [] facts past u
   quiet p next S I P R noted =
       goes_by z v a line (Access gfn word op) (access_task (Fault p) (v.hand a) gfn word op) facts past u
-      (part_refines z v a (fault_part p gfn held) (access_note (Fault p)) facts S P (access_never (Fault p) gfn held (fault_part p gfn held) refl) R.refines)
+      (part_refines z v a (fault_part p gfn held) (access_note (Fault p)) facts S P (access_never (Fault p) gfn held (fault_part p gfn held) refl) (access_quiet (Fault p) gfn held (fault_part p gfn held) refl) R.refines)
       (place.Access (Fault next)) (R.under.0, (R.under.1.0, noted))
 
   -- The line looks at the slots: those of the published set, which its search holds now, and none of them is passed yet.
@@ -141,7 +137,7 @@ module _ (z : Sizes) (v : View) (a : ℕ) (line : Line) (gfn word : ℕ) (op : O
   looks K R = record {
     allowed = (R.under.1.0.0, tt);
     refines = R.refines;
-    under = (R.under.0, (R.under.1.0, record { set = v.words area.Slots 0; held = set_is; noted = ap Some (refined_slots z (v.words area.Slots 0) (v.words area.Pool) (v.words area.Content) (v.words area.Pause 0) facts R.refines); passed = λ k d lt low. absurd (omega (arith, first, low)) }));
+    under = (R.under.0, (R.under.1.0, record { set = v.words area.Slots 0; held = set_is; noted = ap Some (refined_slots z (v.words area.Slots 0) (v.words area.Pool) (v.words area.Host) (v.words area.Content) (v.words area.Pause 0) facts R.refines); passed = λ k d lt low. absurd (omega (arith, first, low)) }));
   }
     where
       behind : (held_behind (Find false)).search ≡ at_set (may_search held.stay held.hold) held.search (v.words area.Slots 0)
@@ -171,39 +167,64 @@ module _ (z : Sizes) (v : View) (a : ℕ) (line : Line) (gfn word : ℕ) (op : O
           ap (λ (t : Topics). t.search) (part_topics_is (v.hand a).state.sizes part.Slot (own_index (v.hand a)) held 0 (answered (Find true)) tt)
           ∙ ap (λ b. if b then searched held.search (answered (Find true)) else held.search) (K.1 refl).0
 
-  -- The line has seen a page, once it looks at the entry of the one that it has found: the host forbids nothing.
-  sees_page : Ready z v line (Access gfn word op) (place.Access (Fault Host)) held facts u
-      → SawPage (record u.notes { host = with_entry (page_of held.search.slot gfn) (facts.host (page_of held.search.slot gfn)) u.notes.host }) gfn op
-  sees_page R =
+  -- The page that it has found, and the notes once it looks at the host's entry of it.
+  abbrev page_found : ℕ
+  page_found = page_of held.search.slot gfn
+
+  abbrev noted_entry : Notes
+  noted_entry = record u.notes { host = with_entry page_found (facts.host page_found) u.notes.host }
+
+  -- Whether the host's entry denies the operation, its word says.
+  denied_is : Ready z v line (Access gfn word op) (place.Access (Fault Host)) held facts u → page_found < z.pages
+      → is_denied op (facts.host page_found) ≡ (is_write op && not (host_allows_write (v.words area.Host page_found)))
+  denied_is R low = ap (is_denied op) (R.refines.host page_found low)
+
+  sees_page : Ready z v line (Access gfn word op) (place.Access (Fault Host)) held facts u → is_denied op (facts.host page_found) ≡ false → SawPage noted_entry gfn op
+  sees_page R allows =
       let N = R.under.1.1 in
       record {
         runs = R.under.1.0.1;
         slots = N.slots;
         noted = N.noted;
-        page = page_of held.search.slot gfn;
+        page = page_found;
         behind = N.behind;
-        entry = facts.host (page_of held.search.slot gfn);
-        looked = entry_noted (page_of held.search.slot gfn) (facts.host (page_of held.search.slot gfn)) u.notes.host;
-        allows = ap (λ (m : HostMap). is_denied op (m (page_of held.search.slot gfn))) R.refines.host ∙ never_denied op (page_of held.search.slot gfn);
+        entry = facts.host page_found;
+        looked = entry_noted page_found (facts.host page_found) u.notes.host;
+        allows = allows;
       }
 
-  -- The line looks at the host word of the page, which allows writes.
-  looks_at_host : IsPart z v a (part.Host (page_of held.search.slot gfn)) → Invariant z v
-      → Ready z v line (Access gfn word op) (place.Access (Fault Host)) held facts u
+  sees_forbidden : Ready z v line (Access gfn word op) (place.Access (Fault Host)) held facts u → is_denied op (facts.host page_found) ≡ true
+      → SawForbidden noted_entry gfn op
+  sees_forbidden R forbids =
+      let N = R.under.1.1 in
+      record {
+        runs = R.under.1.0.1;
+        slots = N.slots;
+        noted = N.noted;
+        page = page_found;
+        behind = N.behind;
+        entry = facts.host page_found;
+        looked = entry_noted page_found (facts.host page_found) u.notes.host;
+        forbids = forbids;
+      }
+
+  -- The line looks at the host word of the page, which allows the access or forbids the write.
+  looks_at_host : IsPart z v a (part.Host page_found) → Ready z v line (Access gfn word op) (place.Access (Fault Host)) held facts u
       → StepGoes z v a line (Access gfn word op) (place.Access (Fault Host)) facts past u
-  looks_at_host S I R = record {
-    allowed = (R.under.1.0.0, tt);
-    refines = R.refines;
-    under = (
-      R.under.0,
-      (
-        R.under.1.0,
-        host_noted (v.words area.Pool) gfn op (held_behind Host) (record u.notes { host = with_entry (page_of held.search.slot gfn) (facts.host (page_of held.search.slot gfn)) u.notes.host }) (sees_page R) (is_write op) (answered Host)
-            (host_writable z (v.words area.Host) (page_of held.search.slot gfn) I.hosts
-            (subst (λ (y : Sizes). page_of held.search.slot gfn < y.pages) S.sizes S.needs.0)),
-      ),
-    );
-  }
+  looks_at_host S R =
+      let low : page_found < z.pages = subst (λ (y : Sizes). page_found < y.pages) S.sizes S.needs.0 in
+      record {
+        allowed = (R.under.1.0.0, tt);
+        refines = R.refines;
+        under = (
+          R.under.0,
+          (
+            R.under.1.0,
+            host_noted (v.words area.Pool) gfn op (held_behind Host) noted_entry (is_write op) (answered Host)
+                (λ e. sees_page R (denied_is R low ∙ e)) (λ e. sees_forbidden R (denied_is R low ∙ e)),
+          ),
+        );
+      }
 
   -- The line leaves the guest with what its fault ends with.
   leaves_with : (how : Answer) → line.command ≡ Access gfn word op → IsPart z v a part.End → Invariant z v → TopicsInvariant z v → (e : FaultEnd)
@@ -214,7 +235,7 @@ module _ (z : Sizes) (v : View) (a : ℕ) (line : Line) (gfn word : ℕ) (op : O
   leaves_with how is S I P e R may =
       let own : u.line.command ≡ Access gfn word op = ap (λ (l : Line). l.command) R.under.0 ∙ is in
       leaves_by z v a line (Access gfn word op) (access_task (Fault (End e)) (v.hand a) gfn word op) facts past u
-      (part_refines z v a part.End (access_note (Fault (End e))) facts S P refl R.refines) how R.under.0 R.under.1.0.0
+      (part_refines z v a part.End (access_note (Fault (End e))) facts S P refl refl R.refines) how R.under.0 R.under.1.0.0
       (subst (λ c. MayLeave z facts (v.hand a).state.actor c u.notes how) (sym own) may)
 
   -- Or it enters the guest again.
@@ -223,7 +244,7 @@ module _ (z : Sizes) (v : View) (a : ℕ) (line : Line) (gfn word : ℕ) (op : O
       → Goes z (v.hand a).state.actor line (Access gfn word op) (words_behind (End e)) (place.Access (Enter again)) (held_behind (End e)) [] facts past u
   goes_back again e S I P R =
       goes_by z v a line (Access gfn word op) (access_task (Fault (End e)) (v.hand a) gfn word op) facts past u
-      (part_refines z v a part.End (access_note (Fault (End e))) facts S P refl R.refines) (place.Access (Enter again)) (R.under.0, R.under.1.0.0)
+      (part_refines z v a part.End (access_note (Fault (End e))) facts S P refl refl R.refines) (place.Access (Enter again)) (R.under.0, R.under.1.0.0)
 
   ends : (e : FaultEnd) → line.command ≡ Access gfn word op → IsPart z v a part.End → Invariant z v → TopicsInvariant z v
       → Ready z v line (Access gfn word op) (place.Access (Fault (End e))) held facts u
@@ -242,7 +263,7 @@ module _ (z : Sizes) (v : View) (a : ℕ) (line : Line) (gfn word : ℕ) (op : O
   fault_goes Snapshot S part_ I P K R = quiet Snapshot (Find false) part_ I P R tt
   fault_goes (Find false) S part_ I P K R = looks K R
   fault_goes (Find true) S part_ I P K R = searches S part_ I P K R
-  fault_goes Host S part_ I P K R = looks_at_host part_ I R
+  fault_goes Host S part_ I P K R = looks_at_host part_ R
   fault_goes Share S part_ I P K R =
       let next : ShareNext = share_next held.hold (answered Share) in
       quiet Share (after_share next) part_ I P R (share_noted (words_behind Share area.Pool) gfn op (held_behind Share) u.notes R.under.1.1 next)

@@ -31,18 +31,20 @@ pub use Rattle.mmu_laws.specs.flat.FlatInvariant.{UnderAt}
 use Rattle.part_steps.specs.SlotWords.{memory_slots_below, slots_below}
 use Rattle.std.specs.Prelude.{◌==◌, false, not}
 use Rattle.mmu_core.proofs.slots.LiveStays.{SetStays, published_stays}
-use Rattle.mmu_core.proofs.machine.PartStepping.{IsPart, is_publish}
+use Rattle.mmu_core.proofs.machine.PartStepping.{IsPart, is_publish, changes_word}
 use Rattle.mmu_core.proofs.words.PartWords.{areas_stay, slots_are, slots_same}
 use Rattle.mmu_core.proofs.words.SlotLists.{flat_below}
 use Rattle.mmu_core.proofs.slots.SlotsStay.{memory_below_stay}
 use Rattle.core_views.specs.Flat.{Facts, Fresh, LineUnderWay}
 use Rattle.core_views.specs.Lawful.{MayLeave, Tells}
 use Rattle.core_views.specs.Past.{Past}
+use Rattle.mmu_core.specs.lines.HostSteps.{entry_of}
+use Rattle.mmu_core.proofs.words.HostStays.{host_stays}
 
 -- The line has begun and stands at this place; the facts are what the words say, and nothing is paused.
 pub record Ready (z : Sizes) (v : View) (line : Line) (command : Command) (p : Place) (t : Topics) (facts : Facts) (u : LineUnderWay) : Type 0 where
   pub runs : facts.paused ≡ false
-  pub refines : Refines z (v.words area.Slots 0) (v.words area.Pool) (v.words area.Content) (v.words area.Pause 0) facts
+  pub refines : Refines z (v.words area.Slots 0) (v.words area.Pool) (v.words area.Host) (v.words area.Content) (v.words area.Pause 0) facts
   pub under : UnderAt (v.words area.Pool) p line command t u
 
 -- What the step tells is allowed; after it the facts are what the words say, and the line stands at this place.
@@ -50,7 +52,7 @@ pub record Goes (z : Sizes) (actor : Actor) (line : Line) (command : Command) (a
     (facts : Facts) (past : Past)
     (u : LineUnderWay) : Type 0 where
   pub allowed : AreAllowed z actor kinds facts past u
-  pub refines : Refines z (after area.Slots 0) (after area.Pool) (after area.Content) (after area.Pause 0) (facts_behind kinds facts)
+  pub refines : Refines z (after area.Slots 0) (after area.Pool) (after area.Host) (after area.Content) (after area.Pause 0) (facts_behind kinds facts)
   pub under : UnderAt (after area.Pool) p line command t (line_behind kinds facts u)
 
 -- the same of the actor's step, once its line has begun
@@ -62,35 +64,38 @@ StepGoes z v a line command p facts past u =
     Goes z h.state.actor line command (words_after task v.words) (place_after (outcome_at p command h x)) (topics_after h.state.sizes (kind_of_task h.state.sizes task) h.topics x)
     (tells_at p command h x ++ answering (outcome_at p command h x) line) facts past u
 
--- A step leaves which slot set is published, the words of its page, all content, and the pause.
+-- A step leaves which slot set is published, the words of its page, the host words, all content, and the pause.
 pub record Leaves (before after : Area → ℕ → ℕ) : Type 0 where
   pub slots : after area.Slots 0 ≡ before area.Slots 0
   pub pool : SetStays (before area.Slots 0) (before area.Pool) (after area.Pool)
+  pub host : after area.Host ≡ before area.Host
   pub content : after area.Content ≡ before area.Content
   pub pause : after area.Pause ≡ before area.Pause
 
--- So does each step of a part but a publication.
+-- So does each step of a part but a publication and a change of a host word.
 pub part_leaves : (z : Sizes) (v : View) (a : ℕ) (step : PartStep) (note : ℕ) → IsPart z v a step → TopicsInvariant z v → is_publish step ≡ false
+    → changes_word step ≡ false
     → Leaves v.words ((part_stepped a step note v).words)
-part_leaves z v a step note S P never = record {
+part_leaves z v a step note S P never quiet = record {
   slots = slots_are v a step note ∙ slots_same step (v.hand a).topics (v.words area.Slots 0) never;
   pool = published_stays z v a step note S P;
+  host = host_stays v a step note quiet;
   content = areas_stay v a step note area.Content refl;
   pause = areas_stay v a step note area.Pause refl;
 }
 
 -- The facts' slots, without their dirty logs, are those of the set.
-pub refined_slots : (z : Sizes) (set : ℕ) (pool content : ℕ → ℕ) (pause : ℕ) (facts : Facts) → Refines z set pool content pause facts
+pub refined_slots : (z : Sizes) (set : ℕ) (pool host content : ℕ → ℕ) (pause : ℕ) (facts : Facts) → Refines z set pool host content pause facts
     → flat_slots facts.slots ≡ slots_below pool set 32
-refined_slots z set pool content pause facts R = ap flat_slots R.slots ∙ flat_below pool set 32
+refined_slots z set pool host content pause facts R = ap flat_slots R.slots ∙ flat_below pool set 32
 
 -- The words after it still stand for the same facts.
 pub refines_stay : (z : Sizes) (before after : Area → ℕ → ℕ) (facts : Facts) → Leaves before after
-    → Refines z (before area.Slots 0) (before area.Pool) (before area.Content) (before area.Pause 0) facts
-    → Refines z (after area.Slots 0) (after area.Pool) (after area.Content) (after area.Pause 0) facts
+    → Refines z (before area.Slots 0) (before area.Pool) (before area.Host) (before area.Content) (before area.Pause 0) facts
+    → Refines z (after area.Slots 0) (after area.Pool) (after area.Host) (after area.Content) (after area.Pause 0) facts
 refines_stay z before after facts L R = record {
   slots = R.slots ∙ sym (memory_below_stay (before area.Slots 0) (before area.Pool) (after area.Pool) L.pool 32 (omega arith)) ∙ ap (λ k. memory_slots_below (after area.Pool) k 32) (sym L.slots);
-  host = R.host;
+  host = λ p lt. R.host p lt ∙ sym (ap (λ (g : ℕ → ℕ). entry_of (g p)) L.host);
   memory = λ p j lt below. R.memory p j lt below ∙ sym (ap (λ (g : ℕ → ℕ). g (content_index (map_of z) p j)) L.content);
   paused = R.paused ∙ ap (λ (g : ℕ → ℕ). not (g 0 == 0)) (sym L.pause);
 }
@@ -101,14 +106,14 @@ refines_stay z before after facts L R = record {
 abbrev pub RefinesBy : Sizes → View → Task → Facts → Type 0
 RefinesBy z v task facts =
     let after : Area → ℕ → ℕ = words_after task v.words in
-    Refines z (after area.Slots 0) (after area.Pool) (after area.Content) (after area.Pause 0) facts
+    Refines z (after area.Slots 0) (after area.Pool) (after area.Host) (after area.Content) (after area.Pause 0) facts
 
 -- A step of a part that publishes nothing leaves them as they were.
 pub part_refines : (z : Sizes) (v : View) (a : ℕ) (step : PartStep) (note : ℕ) (facts : Facts) → IsPart z v a step → TopicsInvariant z v
-    → is_publish step ≡ false → Refines z (v.words area.Slots 0) (v.words area.Pool) (v.words area.Content) (v.words area.Pause 0) facts
+    → is_publish step ≡ false → changes_word step ≡ false → Refines z (v.words area.Slots 0) (v.words area.Pool) (v.words area.Host) (v.words area.Content) (v.words area.Pause 0) facts
     → RefinesBy z v (part_task step (own_index (v.hand a)) (v.hand a).topics note) facts
-part_refines z v a step note facts S P never R =
-    refines_stay z v.words ((part_stepped a step note v).words) facts (part_leaves z v a step note S P never) R
+part_refines z v a step note facts S P never quiet R =
+    refines_stay z v.words ((part_stepped a step note v).words) facts (part_leaves z v a step note S P never quiet) R
 
 -- what its actor holds after it
 abbrev pub topics_by : View → ℕ → Task → Topics

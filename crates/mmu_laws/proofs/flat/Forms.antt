@@ -48,6 +48,8 @@ use Rattle.mmu_laws.proofs.flat.AccessFlat.{access_goes}
 use Rattle.mmu_laws.proofs.flat.FlatSteps.{Ready, StepGoes, UnderAt}
 use Rattle.mmu_laws.proofs.flat.FlatStill.{part_or}
 use Rattle.mmu_laws.proofs.flat.SlotChangeFlat.{slot_change_goes}
+use Rattle.core_views.specs.declared.trace.HostChange.{HostChange}
+use Rattle.mmu_core.proofs.held.UsableSteps.{UsableAt}
 
 -- Each of the events stands within a line.
 abbrev pub AllWithin : List EventKind → Type 0
@@ -79,31 +81,31 @@ slot_change_within (Claim begun) h command v = exit_within (slot_change_outcome 
 slot_change_within Publish h command v = change_within (slot_change h.slots command)
 slot_change_within _ h command v = tt
 
-host_within : (p : HostPlace) (page : ℕ) (h : Held) (v : ℕ) → AllWithin (host_tells p page h v)
-host_within host_at.Look page h v = either_place AllWithin (is_own h.state.sizes h.state.actor page) (LookedAtHost page ∷ []) [] (tt, tt) tt
-host_within host_at.Change page h v =
-    either_place AllWithin (v == word_looked h.topics.host) (HostChanged page (entry_of (word_put h.topics)) ∷ []) [] (tt, tt) tt
-host_within _ page h v = tt
+host_within : (p : HostPlace) (page : ℕ) (change : HostChange) (h : Held) (v : ℕ) → AllWithin (host_tells p page change h v)
+host_within host_at.Look page change h v = either_place AllWithin (is_own h.state.sizes h.state.actor page) (LookedAtHost page ∷ []) [] (tt, tt) tt
+host_within host_at.Change page change h v =
+    either_place AllWithin (v == word_looked h.topics.host) (HostChanged page (entry_of (word_put change h.topics)) ∷ []) [] (tt, tt) tt
+host_within _ page change h v = tt
 
 -- Besides its begin and its answer, a line tells only events that stand within it: a clause for each form of line.
 pub tells_within : (p : Place) (command : Command) (h : Held) (v : ℕ) → AllWithin (tells_at p command h v)
 tells_within (place.Access p) (Access gfn word op) h v = access_within p h gfn word op v
 tells_within (place.SlotChange p) command h v = slot_change_within p h command v
-tells_within (place.Host p) (ChangeHost page change) h v = host_within p page h v
+tells_within (place.Host p) (ChangeHost page change) h v = host_within p page change h v
 tells_within _ _ h v = tt
 
 -- The step of each place, once its line has begun.
 pub step_goes : (z : Sizes) (v : View) (a : ℕ) (line : Line) (command : Command) (p : Place) (f : Flat) (u : LineUnderWay)
-    → IsStep z v a line command p → Invariant z v → TopicsInvariant z v → MakesAt z v a p command → KnowsPart p command (v.hand a)
+    → IsStep z v a line command p → Invariant z v → TopicsInvariant z v → MakesAt z v a p command → KnowsPart p command (v.hand a) → UsableAt z v
     → Ready z v line command p (v.hand a).topics f.facts u → StepGoes z v a line command p f.facts f.past u
-step_goes z v a line command place.Between f u S I P part K R = absurd S.begun
-step_goes z v a line (Access gfn word op) (place.Access p) f u S I P part K R =
-    access_goes z v a line gfn word f.facts f.past u op p S I P (part_or z v a (access_part p gfn (v.hand a).topics) part) K R
-step_goes z v a line command (place.SlotChange p) f u S I P part K R =
+step_goes z v a line command place.Between f u S I P part K U R = absurd S.begun
+step_goes z v a line (Access gfn word op) (place.Access p) f u S I P part K U R =
+    access_goes z v a line gfn word f.facts f.past u op p S I P U (part_or z v a (access_part p gfn (v.hand a).topics) part) K R
+step_goes z v a line command (place.SlotChange p) f u S I P part K U R =
     slot_change_goes z v a line command f.facts f.past u p K.0 S I P (part (slot_change_part p (v.hand a) command) refl) R
-step_goes z v a line (ChangeHost page change) (place.Host p) f u S I P part K R =
-    host_goes_on z v a line page change f.facts f.past u p K.0 K.1 S I P (part (host_part p page (v.hand a)) refl) R
-step_goes z v a line _ _ f u S I P part K R = absurd S.holds
+step_goes z v a line (ChangeHost page change) (place.Host p) f u S I P part K U R =
+    host_goes_on z v a line page change f.facts f.past u p K.0 K.1 S I P (part (host_part p page change (v.hand a)) refl) R
+step_goes z v a line _ _ f u S I P part K U R = absurd S.holds
 
 -- A line that begins is under way, and has done nothing.
 pub first_at : (pool : ℕ → ℕ) (z : Sizes) (slots : MemorySlots) (line : Line) (command : Command) (t : Topics) (u : LineUnderWay) → u.stage ≡ Fresh

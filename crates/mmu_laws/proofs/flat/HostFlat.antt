@@ -10,7 +10,7 @@ use Rattle.mmu_core.specs.invariant.Invariant.{Invariant}
 use Rattle.mmu_core.specs.declared.invalidate.EndNext.{EndNext}
 use Rattle.mmu_core.proofs.machine.Stepping.{IsStep}
 use Rattle.mmu_core.specs.invariant.TopicsInvariant.{TopicsInvariant}
-use Rattle.std.proofs.Common.{◌≡◌, ◌<◌, ℕ, [], ◌∷◌, ◌++◌, Bool, true, false, refl, sym, subst, ap, ◌∙◌, arith, is_some, eqb-true, eq-eqb}
+use Rattle.std.proofs.Common.{◌≡◌, ◌<◌, ℕ, [], ◌∷◌, ◌++◌, Bool, true, false, refl, sym, subst, ap, ◌∙◌, arith, is_some, eqb-true, eq-eqb, ◌⊎◌, ◌≢◌, inl, inr}
 use Rattle.std.specs.Prelude.{◌==◌, if◌then◌else◌, Option, Some, None}
 use Rattle.core_views.specs.declared.answer.Answer.TheVariants.{Done, Refused}
 use Rattle.core_views.specs.declared.answer.Refusal.TheVariants.{OutOfRange}
@@ -28,13 +28,13 @@ use Rattle.core_views.specs.declared.topics.Topics.{Topics}
 use Rattle.core_views.specs.declared.trace.Command.{Command}
 use Rattle.core_views.specs.declared.trace.Command.TheVariants.{ChangeHost}
 use Rattle.core_views.specs.declared.trace.HostChange.{HostChange}
-use Rattle.core_views.specs.declared.trace.HostChange.TheVariants.{Allow}
+use Rattle.core_views.specs.declared.trace.HostChange.TheVariants.{Allow, Evict, Move, Protect}
 use Rattle.core_views.specs.declared.trace.Line.{Line}
 use Rattle.core_views.specs.Flat.{Facts, LineUnderWay}
 use Rattle.core_views.specs.Flat as stage
 use Rattle.core_views.specs.Held.{Held}
 use Rattle.core_views.specs.Host.{HostMap, mapping, own_frames, with_entry}
-use Rattle.core_views.specs.HostChanges.{is_own, host_answer}
+use Rattle.core_views.specs.HostChanges.{is_own, host_answer, Changes}
 use Rattle.core_views.specs.Lawful.{Tells, answer_at_once}
 use Rattle.core_views.specs.Past.{Past}
 use Rattle.core_views.proofs.HostLines.{owned_answer}
@@ -48,44 +48,48 @@ use Rattle.part_steps.specs.PartTasks.{own_index, part_task, word_looked, page_l
 use Rattle.part_steps.specs.declared.task.Task.{Task}
 use Rattle.mmu_core.specs.invariant.HostWordsPart.{HostWordsPart}
 use Rattle.mmu_core.specs.invariant.SearchPart.{LookPart}
-use Rattle.mmu_core.specs.lines.HostKnows.{HostKnows}
-use Rattle.mmu_core.specs.lines.HostSteps.{after_begin, after_end, entry_of, host_note, host_part, word_put}
-use Rattle.mmu_core.specs.lines.InvalidateSteps.{begin_next, end_next}
-use Rattle.mmu_core.specs.machine.View.{View, answer_in}
-use Rattle.mmu_core.proofs.lines.HostKept.{host_never}
-use Rattle.mmu_core.proofs.lines.HostMakes.{put_is}
+use Rattle.mmu_core.specs.lines.HostKnows.{HostKnows, IsMade}
+use Rattle.mmu_core.specs.lines.HostSteps.{after_begin, after_end, entry_of, host_note, host_part, word_put, revised}
+use Rattle.mmu_core.specs.lines.InvalidateSteps.{begin_next, end_next, begin_part}
+use Rattle.mmu_core.specs.machine.View.{View, answer_in, words_after}
+use Rattle.mmu_core.proofs.lines.HostKept.{host_never, is_change, host_quiet}
+use Rattle.mmu_core.proofs.lines.HostMakes.{change_won}
 use Rattle.mmu_core.proofs.machine.PartStepping.{IsPart}
 use Rattle.mmu_laws.specs.flat.FlatInvariant.{HostUnder}
-use Rattle.mmu_laws.proofs.flat.FlatSteps.{GoesBy, Ready, RefinesBy, StepGoes, answers_by, goes_by, part_refines}
+use Rattle.mmu_laws.proofs.flat.FlatSteps.{GoesBy, Ready, RefinesBy, StepGoes, answers_by, goes_by, part_refines, topics_by}
+use Rattle.mmu_laws.proofs.steps.AllowedWords.{words_tell}
+use Rattle.core_views.specs.declared.place.BeginPlace.{BeginPlace}
+use Rattle.part_steps.specs.declared.part_step.PartStep.{PartStep}
+use Rattle.mmu_core.proofs.words.PartTopics.{IsThere, part_topics_is}
+use Rattle.mmu_core.proofs.machine.Columns.{upd_same, upd_other, same_or}
+use Rattle.mmu_core.proofs.lines.EitherPlace.{either_place}
+use Rattle.part_steps.specs.PartTopics.{part_topics}
+use Rattle.part_steps.specs.declared.part_step.PartStep.TheVariants as part
+use Rattle.std.proofs.lemmas.Bool.{eqb-false}
 
 -- ---- what the page is
 
--- The host word that is put is the one at which the page was looked: the page is at its own frame.
-looked_is : (z : Sizes) (seq : ℕ) (host : ℕ → ℕ) (page : ℕ) (t : Topics) → HostWordsPart z host → LookPart z seq host t → is_some t.host ≡ true
-    → page_looked t.host ≡ page → page < z.pages → word_looked t.host ≡ host_word page true true 1
-looked_is z seq host page t W L looked at low = by t.host L.is looked at
+-- A change revises what the host maps the page to.
+revised_entry : (change : HostChange) (word : ℕ) → IsMade change → (entry : HostEntry) → entry ≡ entry_of word
+    → (z : Sizes) (host : HostMap) (page : ℕ) → host page ≡ entry → Changes z host page change (entry_of (revised change word))
+revised_entry Allow word made entry is z host page at = (words_tell true word).0 ∙ ap (λ (e : HostEntry). record e { writable = true }) (sym is ∙ sym at)
+revised_entry Protect word made entry is z host page at = (words_tell false word).0 ∙ ap (λ (e : HostEntry). record e { writable = false }) (sym is ∙ sym at)
+revised_entry Move word made entry is z host page at = absurd made
+revised_entry Evict word made entry is z host page at = absurd made
+
+-- Such a line is answered done.
+answers_done : (change : HostChange) (page : ℕ) (entry : HostEntry) → IsMade change → host_answer (ChangeHost page change) entry ≡ Done
+answers_done Allow page entry made = refl
+answers_done Protect page entry made = refl
+answers_done Move page entry made = absurd made
+answers_done Evict page entry made = absurd made
+
+apart_false : (a b : ℕ) → (a ≡ b → ⊥) → (a == b) ≡ false
+apart_false a b never = by (a == b) refl
   where
-    by : (o : Option HostLook) → ((look : HostLook) → o ≡ Some look → look.word ≡ host look.page) → is_some o ≡ true → page_looked o ≡ page
-        → word_looked o ≡ host_word page true true 1
-    by None is some at = absurd (cc some)
-    by (Some look) is some at = is look refl ∙ ap host at ∙ W page low
-
-entry_is : (page : ℕ) → entry_of (host_word page true true 1) ≡ own_frames page
-entry_is page =
-    ap (λ (f : ℕ). record { frame = f; present = host_present (host_word page true true 1); writable = host_allows_write (host_word page true true 1) }) (host_has_frame page true true 1 (omega arith))
-    ∙ (ap (λ (b : Bool). record { frame = page; present = b; writable = host_allows_write (host_word page true true 1) }) (host_is_present page true true 1)
-    ∙ ap (λ (b : Bool). record { frame = page; present = true; writable = b }) (host_is_writable page true true 1))
-
--- A page that is mapped as it was leaves the map as it was.
-mapped_same : (page : ℕ) → ◌≡◌ {A = HostMap} (mapping page (own_frames page) own_frames) own_frames
-mapped_same page = λ t other. at other t
-  where
-    by : (other : ℕ) (b : Bool) → (b ≡ true → page ≡ other) → (if b then own_frames page else own_frames other) ≡ own_frames other
-    by other true same = ap own_frames (same refl)
-    by other false same = refl
-
-    at : (other : ℕ) → mapping page (own_frames page) own_frames other ≡ own_frames other
-    at other = by other (page == other) (eqb-true page other)
+    by : (x : Bool) → (a == b) ≡ x → (a == b) ≡ false
+    by true is = absurd (never (eqb-true a b is))
+    by false is = is
 
 noted_now : (page : ℕ) (entry : HostEntry) (noted : ℕ → Option HostEntry) → with_entry page entry noted page ≡ Some entry
 noted_now page entry noted = rw (eq-eqb page page refl) refl
@@ -98,22 +102,27 @@ module _ (z : Sizes) (v : View) (a : ℕ) (line : Line) (page : ℕ) (change : H
   h = v.hand a
 
   abbrev task : HostPlace → Task
-  task p = part_task (host_part p page h) (own_index h) h.topics (host_note p page h)
+  task p = part_task (host_part p page change h) (own_index h) h.topics (host_note p page h)
 
   abbrev ReadyAt : HostPlace → Type 0
   ReadyAt p = Ready z v line command (place.Host p) h.topics facts u
 
-  abbrev Under : HostPlace → Type 0
-  Under p = (u.line ≡ line) × HostUnder p page u
+  abbrev Under : HostPlace → Topics → Type 0
+  Under p t = (u.line ≡ line) × HostUnder p page t u
 
-  -- After each of its steps the words stand for the same facts.
-  still : (p : HostPlace) → IsPart z v a (host_part p page h) → TopicsInvariant z v → ReadyAt p → RefinesBy z v (task p) facts
-  still p S P R = part_refines z v a (host_part p page h) (host_note p page h) facts S P (host_never p page h) R.refines
+  -- what is held after the step of a place
+  abbrev after : HostPlace → Topics
+  after p = topics_by v a (task p)
+
+  -- After each of its steps but its change the words stand for the same facts.
+  still : (p : HostPlace) → is_change p ≡ false → IsPart z v a (host_part p page change h) → TopicsInvariant z v → ReadyAt p → RefinesBy z v (task p) facts
+  still p other S P R =
+      part_refines z v a (host_part p page change h) (host_note p page h) facts S P (host_never p page change h) (host_quiet p page change h other) R.refines
 
   -- It tells nothing, where it goes on at this place.
-  quiet : (p next : HostPlace) → IsPart z v a (host_part p page h) → TopicsInvariant z v → ReadyAt p → Under next
+  quiet : (p next : HostPlace) → is_change p ≡ false → IsPart z v a (host_part p page change h) → TopicsInvariant z v → ReadyAt p → Under next (after p)
       → GoesBy z v a line command (task p) (place.Host next) [] facts past u
-  quiet p next S P R under = goes_by z v a line command (task p) facts past u (still p S P R) (place.Host next) under
+  quiet p next other S P R under = goes_by z v a line command (task p) facts past u (still p other S P R) (place.Host next) under
 
   -- What the line is answered at once, by whether the page is its actor's own.
   at_once : (p : HostPlace) (own : Bool) → IsStep z v a line command (place.Host p) → Invariant z v → ReadyAt p → is_own h.state.sizes h.state.actor page ≡ own
@@ -123,85 +132,145 @@ module _ (z : Sizes) (v : View) (a : ℕ) (line : Line) (page : ℕ) (change : H
       ∙ ap owned_answer
       (ap (λ (y : Sizes). is_own y h.state.actor page) (sym (I.lines a S.there).sizes) ∙ is)
 
+  -- Its page is one of the machine's.
+  page_low : Invariant z v → a < actors_of z → is_own h.state.sizes h.state.actor page ≡ true → page < z.pages
+  page_low I there own_ = own_low z h.state.actor page I.sizes (ap (λ (y : Sizes). is_own y h.state.actor page) (sym (I.lines a there).sizes) ∙ own_)
+
   -- It looks at its page, or is refused.
   look_goes : (own : Bool) → is_own h.state.sizes h.state.actor page ≡ own → IsStep z v a line command (place.Host Look) → Invariant z v → ReadyAt Look
-      → RefinesBy z v (task Look) facts
+      → RefinesBy z v (task Look) facts → (own ≡ true → word_looked (after Look).host ≡ v.words area.Host page)
       → GoesBy z v a line command (task Look) (place_after (if own then outcome.Goes (place.Host (Begin begins.Exclude)) else outcome.Ends (Refused OutOfRange)))
       ((if own then LookedAtHost page ∷ [] else []) ++ answering (if own then outcome.Goes (place.Host (Begin begins.Exclude)) else outcome.Ends (Refused OutOfRange)) line) facts past u
-  look_goes true is S I R stands = record {
+  look_goes true is S I R stands looked = record {
     allowed = (R.under.1, tt);
     refines = stands;
-    under = (R.under.0, (R.under.1, noted_now page (facts.host page) u.notes.host ∙ ap (λ (m : HostMap). Some (m page)) R.refines.host));
+    under = (
+      R.under.0,
+      (
+        R.under.1,
+        noted_now page (facts.host page) u.notes.host ∙ ap Some (R.refines.host page (page_low I S.there is) ∙ ap entry_of (sym (looked refl))),
+      ),
+    );
   }
-  look_goes false is S I R stands =
+  look_goes false is S I R stands looked =
       answers_by z v a line command (task Look) facts past u stands (Refused OutOfRange) R.under.0
       (subst (λ s. Tells z facts.slots h.state.actor u.line.command s (Refused OutOfRange)) (sym R.under.1) (at_once Look false S I R is))
 
-  -- It changes its page, which is then as it was.
-  change_goes : (entry : HostEntry) → entry ≡ own_frames page → change ≡ Allow → HostKnows Change page h → IsStep z v a line command (place.Host Change)
-      → Invariant z v → ReadyAt Change → RefinesBy z v (task Change) facts
-      → GoesBy z v a line command (task Change) (place.Host (End ends.Exclude)) (HostChanged page entry ∷ []) facts past u
-  change_goes entry is allows K S I R stands = record {
-    allowed = (
-      (
-        R.under.1.0,
-        record {
-          change = Allow;
-          asked = ap (λ (l : Line). l.command) R.under.0 ∙ S.command_is ∙ ap (ChangeHost page) allows;
-          works = at_once Change true S I R K.0.own_;
-          seen = own_frames page;
-          looked = R.under.1.1;
-          agrees = (ap (λ (m : HostMap). (m page).frame) (sym R.refines.host), ap (λ (m : HostMap). (m page).writable) (sym R.refines.host));
-          changes = is ∙ ap (λ (m : HostMap). record (m page) { writable = true }) (sym R.refines.host);
-        },
-      ),
-      tt,
-    );
-    refines = record {
-      slots = stands.slots;
-      host = ap (λ (m : HostMap). mapping page entry m) R.refines.host ∙ (ap (λ (e : HostEntry). mapping page e own_frames) is ∙ mapped_same page);
-      memory = stands.memory;
-      paused = stands.paused;
-    };
-    under = (R.under.0, ap stage.HasChangedHost is);
-  }
+  -- What it holds after it has looked at its page.
+  looked_now : (own : Bool) → is_own h.state.sizes h.state.actor page ≡ own → own ≡ true → word_looked (after Look).host ≡ v.words area.Host page
+  looked_now own own_is so =
+      let is : is_own h.state.sizes h.state.actor page ≡ true = own_is ∙ so in
+      ap (λ (s : PartStep). word_looked (topics_by v a (part_task s (own_index h) h.topics (host_note Look page h))).host) (ap (λ (b : Bool). if b then part.Host page else part.Seq) is)
+      ∙ ap (λ (t : Topics). word_looked t.host) (part_topics_is h.state.sizes (part.Host page) (own_index h) h.topics (host_note Look page h) (v.words area.Host page) tt)
 
-  end_goes : (p : EndPlace) (next : EndNext) → change ≡ Allow → IsPart z v a (host_part (End p) page h) → TopicsInvariant z v → ReadyAt (End p)
+  -- The words after its change stand for the facts with it.
+  changed_refines : HostKnows Change page h → IsPart z v a (host_part Change page change h) → TopicsInvariant z v → ReadyAt Change
+      → RefinesBy z v (task Change) (record facts { host = mapping page (entry_of (word_put change h.topics)) facts.host })
+  changed_refines K S P R = record {
+    slots = R.refines.slots;
+    host = λ p lt. each p lt (same_or p page);
+    memory = R.refines.memory;
+    paused = R.refines.paused;
+  }
+    where
+      at_page : page_looked h.topics.host ≡ page
+      at_page = K.0.at
+
+      won : v.words area.Host (page_looked h.topics.host) ≡ word_looked h.topics.host
+      won = change_won z v a page change P S
+
+      -- what is left at the page
+      left : words_after (task Change) v.words area.Host page ≡ word_put change h.topics
+      left =
+          ap (λ p. words_after (task Change) v.words area.Host p) (sym at_page)
+          ∙ (upd_same (v.words area.Host) (page_looked h.topics.host) _
+          ∙ ap (λ (b : Bool). if b then word_put change h.topics else v.words area.Host (page_looked h.topics.host))
+          (eq-eqb (v.words area.Host (page_looked h.topics.host)) (word_looked h.topics.host) won))
+
+      each : (p : ℕ) → p < z.pages → (p ≡ page) ⊎ (p ≢ page)
+          → mapping page (entry_of (word_put change h.topics)) facts.host p ≡ entry_of (words_after (task Change) v.words area.Host p)
+      each p lt (inl e) =
+          ap (mapping page (entry_of (word_put change h.topics)) facts.host) e
+          ∙ (ap (λ (b : Bool). if b then entry_of (word_put change h.topics) else facts.host page) (eq-eqb page page refl)
+          ∙ (ap entry_of (sym left) ∙ ap (λ q. entry_of (words_after (task Change) v.words area.Host q)) (sym e)))
+      each p lt (inr ne) =
+          ap (λ (b : Bool). if b then entry_of (word_put change h.topics) else facts.host p) (apart_false page p (λ e. ne (sym e)))
+          ∙ (R.refines.host p lt
+          ∙ ap entry_of (sym (upd_other (v.words area.Host) (page_looked h.topics.host) p _ (λ e. ne (e ∙ at_page)))))
+
+  -- It changes its page, which was as it looked at it.
+  change_goes : IsMade change → HostKnows Change page h → IsStep z v a line command (place.Host Change) → Invariant z v → TopicsInvariant z v
+      → IsPart z v a (host_part Change page change h) → ReadyAt Change
+      → GoesBy z v a line command (task Change) (place.Host (End ends.Exclude)) (HostChanged page (entry_of (word_put change h.topics)) ∷ []) facts past u
+  change_goes made K S I P M R =
+      let low = page_low I S.there K.0.own_ in
+      let now_ : facts.host page ≡ entry_of (word_looked h.topics.host) =
+      R.refines.host page low ∙ ap entry_of (ap (v.words area.Host) (sym K.0.at) ∙ change_won z v a page change P M) in
+      record {
+        allowed = (
+          (
+            R.under.1.0,
+            record {
+              change = change;
+              asked = ap (λ (l : Line). l.command) R.under.0 ∙ S.command_is;
+              works = at_once Change true S I R K.0.own_;
+              seen = entry_of (word_looked h.topics.host);
+              looked = R.under.1.1;
+              agrees = (ap (λ (e : HostEntry). e.frame) (sym now_), ap (λ (e : HostEntry). e.writable) (sym now_));
+              changes = revised_entry change (word_looked h.topics.host) made (entry_of (word_looked h.topics.host)) refl z facts.host page now_;
+            },
+          ),
+          tt,
+        );
+        refines = changed_refines K M P R;
+        under = (R.under.0, (entry_of (word_put change h.topics), refl));
+      }
+
+  end_goes : (p : EndPlace) (next : EndNext) → IsMade change → IsPart z v a (host_part (End p) page change h) → TopicsInvariant z v → ReadyAt (End p)
       → IsStep z v a line command (place.Host (End p))
       → GoesBy z v a line command (task (End p)) (place_after (after_end next)) (answering (after_end next) line) facts past u
-  end_goes p (ends_next.Goes q) allows M P R S = quiet (End p) (End q) M P R R.under
-  end_goes p ends_next.Ended allows M P R S =
-      answers_by z v a line command (task (End p)) facts past u (still (End p) M P R) Done R.under.0
-      (subst (λ s. Tells z facts.slots h.state.actor u.line.command s Done) (sym R.under.1)
-      (sym (ap (λ (c : Command). host_answer c (own_frames page)) (ap (λ (l : Line). l.command) R.under.0 ∙ S.command_is ∙ ap (ChangeHost page) allows))))
+  end_goes p (ends_next.Goes q) made M P R S = quiet (End p) (End q) refl M P R R.under
+  end_goes p ends_next.Ended made M P R S =
+      answers_by z v a line command (task (End p)) facts past u (still (End p) refl M P R) Done R.under.0
+      (subst (λ s. Tells z facts.slots h.state.actor u.line.command s Done) (sym R.under.1.1)
+      (sym (ap (λ (c : Command). host_answer c R.under.1.0) (ap (λ (l : Line). l.command) R.under.0 ∙ S.command_is) ∙ answers_done change page R.under.1.0 made)))
 
-  -- Its exchange is won: nobody else changes the page.
-  won : Invariant z v → TopicsInvariant z v → a < actors_of z → HostKnows Change page h → answer_in (task Change) v.words ≡ word_looked h.topics.host
-  won I P there K = by h.topics.host (P.looks a there).is K.0.looked
+  -- The word that was looked at is no topic of the invalidation's begin.
+  still_looked : (p : BeginPlace) → HostKnows (Begin p) page h → (after (Begin p)).host ≡ h.topics.host
+  still_looked p K =
+      ap (λ (t : Topics). t.host) (part_topics_is h.state.sizes (begin_part p page h.topics) (own_index h) h.topics (host_note (Begin p) page h) _ (begin_there p K))
+      ∙ host_kept_by p _
     where
-      by : (o : Option HostLook) → ((look : HostLook) → o ≡ Some look → look.word ≡ v.words area.Host look.page) → is_some o ≡ true
-          → v.words area.Host (page_looked o) ≡ word_looked o
-      by None is some = absurd (cc some)
-      by (Some look) is some = sym (is look refl)
+      begin_there : (p : BeginPlace) → HostKnows (Begin p) page h → IsThere h.state.sizes h.topics (begin_part p page h.topics)
+      begin_there (begins.Find begun) K = either_place (IsThere h.state.sizes h.topics) begun part.Slot part.Slots tt tt
+      begin_there (begins.Walk true) K = (K.1.1 refl).1.there
+      begin_there (begins.Walk false) K = tt
+      begin_there begins.Zap K = K.1.2.saw.over.there
+      begin_there _ K = tt
 
-  pub host_goes_on : (p : HostPlace) → change ≡ Allow → HostKnows p page h → IsStep z v a line command (place.Host p) → Invariant z v
-      → TopicsInvariant z v → IsPart z v a (host_part p page h) → ReadyAt p → StepGoes z v a line command (place.Host p) facts past u
-  host_goes_on Look allows K S I P M R = look_goes (is_own h.state.sizes h.state.actor page) refl S I R (still Look M P R)
-  host_goes_on (Begin p) allows K S I P M R =
-      quiet (Begin p) (after_begin (begin_next p h.state.sizes page h.topics (answer_in (task (Begin p)) v.words))) M P R
-      (R.under.0, begun_under (begin_next p h.state.sizes page h.topics (answer_in (task (Begin p)) v.words)) R.under.1)
+      host_kept_by : (p : BeginPlace) (x : ℕ) → (part_topics (begin_part p page h.topics) h.topics x).host ≡ h.topics.host
+      host_kept_by (begins.Find begun) x = either_place (λ s. (part_topics s h.topics x).host ≡ h.topics.host) begun part.Slot part.Slots refl refl
+      host_kept_by (begins.Walk rooted) x = either_place (λ s. (part_topics s h.topics x).host ≡ h.topics.host) rooted (part.Walk _) part.Root refl refl
+      host_kept_by _ x = refl
+
+  pub host_goes_on : (p : HostPlace) → IsMade change → HostKnows p page h → IsStep z v a line command (place.Host p) → Invariant z v
+      → TopicsInvariant z v → IsPart z v a (host_part p page change h) → ReadyAt p → StepGoes z v a line command (place.Host p) facts past u
+  host_goes_on Look made K S I P M R =
+      look_goes (is_own h.state.sizes h.state.actor page) refl S I R (still Look refl M P R) (looked_now (is_own h.state.sizes h.state.actor page) refl)
+  host_goes_on (Begin p) made K S I P M R =
+      quiet (Begin p) (after_begin next_) refl M P R
+      (R.under.0, begun_under next_ (R.under.1.0, R.under.1.1 ∙ ap (λ o. Some (entry_of (word_looked o))) (sym (still_looked p K))))
     where
-      begun_under : (next : BeginNext) → (u.stage ≡ stage.Fresh) × (u.notes.host page ≡ Some (own_frames page)) → HostUnder (after_begin next) page u
+      next_ : BeginNext
+      next_ = begin_next p h.state.sizes page h.topics (answer_in (task (Begin p)) v.words)
+
+      begun_under : (next : BeginNext) → (u.stage ≡ stage.Fresh) × (u.notes.host page ≡ Some (entry_of (word_looked (after (Begin p)).host)))
+          → HostUnder (after_begin next) page (after (Begin p)) u
       begun_under (begins_next.Goes q) under = under
       begun_under begins_next.Begun under = under
-  host_goes_on Change allows K S I P M R =
+  host_goes_on Change made K S I P M R =
       subst (λ (b : Bool). GoesBy z v a line command (task Change) (place.Host (if b then End ends.Exclude else Change))
-      ((if b then HostChanged page (entry_of (word_put h.topics)) ∷ [] else []) ++ []) facts past u)
-      (sym (eq-eqb (answer_in (task Change) v.words) (word_looked h.topics.host) (won I P S.there K)))
-      (change_goes (entry_of (word_put h.topics)) (ap entry_of (put_is z (v.words area.Seq 0) (v.words area.Host) h.topics I.hosts (P.looks a S.there) K.0.looked
-      ∙ looked_is z (v.words area.Seq 0) (v.words area.Host) page h.topics I.hosts (P.looks a S.there) K.0.looked K.0.at (page_low S I K)) ∙ entry_is page)
-      allows K S I R (still Change M P R))
-    where
-      page_low : IsStep z v a line command (place.Host Change) → Invariant z v → HostKnows Change page h → page < z.pages
-      page_low S I K = own_low z h.state.actor page I.sizes (ap (λ (y : Sizes). is_own y h.state.actor page) (sym (I.lines a S.there).sizes) ∙ K.0.own_)
-  host_goes_on (End p) allows K S I P M R = end_goes p (end_next p (answer_in (task (End p)) v.words)) allows M P R S
+      ((if b then HostChanged page (entry_of (word_put change h.topics)) ∷ [] else []) ++ []) facts past u)
+      (sym (eq-eqb (v.words area.Host (page_looked h.topics.host)) (word_looked h.topics.host) (change_won z v a page change P M)))
+      (change_goes made K S I P M R)
+  host_goes_on (End p) made K S I P M R = end_goes p (end_next p (answer_in (task (End p)) v.words)) made M P R S

@@ -12,13 +12,16 @@ use Rattle.core_views.specs.Sizes.{AreSizes}
 use Rattle.core_views.specs.Slots.{Slots, contains, is_write, page_behind, page_in, slot_of}
 use Rattle.core_views.specs.Traces.{IsCommandFor}
 use Rattle.spte_words.specs.Entries.{can_write, frame_in}
-use Rattle.spte_words.specs.HostWords.{host_allows_write, host_frame}
+use Rattle.spte_words.specs.HostWords.{host_allows_write, host_frame, host_present}
 use Rattle.spte_words.proofs.ReadsEntries.{leaf_can_write, leaf_frame}
-use Rattle.spte_words.proofs.ReadsHost.{host_has_frame, host_is_writable}
+use Rattle.spte_words.proofs.ReadsHost.{host_has_frame, host_is_writable, host_is_present}
 use Rattle.mmu_core.specs.lines.FaultSteps.{allows_access}
-use Rattle.mmu_core.specs.invariant.Invariant.{HostWordsPart, IsLiveIn, SlotSetPart}
+use Rattle.mmu_core.specs.invariant.Invariant.{IsLiveIn, SlotSetPart}
+use Rattle.mmu_core.specs.invariant.HostWordsPart.{HostWordsPart, IsHostWord}
+use Rattle.mmu_core.proofs.words.HostFrames.{frame_of_word}
 use Rattle.part_steps.specs.SlotWords.{leaf_of, may_write, page_of, slot_at, slots_below}
 use Rattle.mmu_core.proofs.words.SlotLists.{only_one_holds, page_allowed}
+use Rattle.mmu_core.specs.lines.HostSteps.{entry_of}
 
 pub contains_bounds : (gfn : ℕ) (slot : Slot) → contains gfn slot ≡ true → (slot.base ≤ gfn) × (gfn < slot.base + slot.pages)
 contains_bounds gfn slot holds = bounds slot.base (slot.base + slot.pages) holds
@@ -40,24 +43,29 @@ page_in_machine z set role pool id gfn slot P L holds =
 
 -- A page's host word names its own number, and so does its leaf.
 pub frame_of_host : (z : Sizes) (host : ℕ → ℕ) (page : ℕ) → HostWordsPart z host → page < z.pages → host_frame (host page) ≡ page
-frame_of_host z host page P lt = ap host_frame (P page lt) ∙ host_has_frame page true true 1 (omega arith)
+frame_of_host z host page P lt = frame_of_word page (host page) (P page lt)
 
 pub frame_of_leaf : (z : Sizes) (host : ℕ → ℕ) (slot : Slot) (page : ℕ) → AreSizes z → HostWordsPart z host → page < z.pages → frame_in (leaf_of slot (host page)) ≡ page
 frame_of_leaf z host slot page sizes P lt =
     let own : host_frame (host page) ≡ page = frame_of_host z host page P lt in
     leaf_frame 1 (host_frame (host page)) (may_write slot (host page)) (host_allows_write (host page)) (may_write slot (host page)) (omega (arith, own, lt, sizes.pages)) ∙ own
 
--- And it allows writes.
-pub host_writable : (z : Sizes) (host : ℕ → ℕ) (page : ℕ) → HostWordsPart z host → page < z.pages → host_allows_write (host page) ≡ true
-host_writable z host page P lt = ap host_allows_write (P page lt) ∙ host_is_writable page true true 1
+-- What the host maps the page to, as its word says: present, at the page's own frame.
+pub entry_is : (page word : ℕ) → IsHostWord page word → entry_of word ≡ record { frame = page; present = true; writable = host_allows_write word }
+entry_is page word W =
+    ap (λ (f : ℕ). record { frame = f; present = host_present word; writable = host_allows_write word }) (frame_of_word page word W)
+    ∙ ap (λ (b : Bool). record { frame = page; present = b; writable = host_allows_write word }) (ap host_present W ∙ host_is_present page true (host_allows_write word) 1)
 
--- A leaf that allows the access is of a slot that allows it.
-not_denied : (write host read_only : Bool) → (not write || (host && not read_only)) ≡ true → (write && read_only) ≡ false
+-- A leaf that allows the access is of a slot that allows it, and of a host word that does.
+not_denied : (write host read_only : Bool) → (not write || (host && not read_only)) ≡ true → ((write && read_only) ≡ false) × ((write && not host) ≡ false)
 not_denied true true true e = absurd (cc e)
+not_denied true true false e = (refl, refl)
 not_denied true false true e = absurd (cc e)
-not_denied _ host _ e = refl
+not_denied true false false e = absurd (cc e)
+not_denied false host read_only e = (refl, refl)
 
-pub leaf_allows : (op : Op) (slot : Slot) (host leaf : ℕ) → leaf ≡ leaf_of slot host → allows_access (is_write op) leaf ≡ true → (is_write op && slot.read_only) ≡ false
+pub leaf_allows : (op : Op) (slot : Slot) (host leaf : ℕ) → leaf ≡ leaf_of slot host → allows_access (is_write op) leaf ≡ true
+    → ((is_write op && slot.read_only) ≡ false) × ((is_write op && not (host_allows_write host)) ≡ false)
 leaf_allows op slot host leaf is allows =
     not_denied (is_write op) (host_allows_write host) slot.read_only
     (subst (λ b. (not (is_write op) || b) ≡ true) (ap can_write is ∙ leaf_can_write 1 (host_frame host) (may_write slot host) (host_allows_write host) (may_write slot host)) allows)

@@ -29,7 +29,7 @@ use Rattle.mmu_core.specs.machine.Outcomes.{answering, place_after}
 use Rattle.mmu_core.specs.invariant.TopicsInvariant.{TopicsInvariant}
 use Rattle.mmu_core.proofs.slots.Changes.{change_published, is_change, record_of}
 use Rattle.mmu_core.proofs.machine.PartStepping.{IsPart}
-use Rattle.mmu_core.proofs.slots.SlotChangePlaces.{is_publication, change_never}
+use Rattle.mmu_core.proofs.slots.SlotChangePlaces.{is_publication, change_never, change_quiet}
 use Rattle.mmu_core.proofs.machine.Stepping.{IsStep}
 use Rattle.part_steps.specs.declared.task.Task.{Task}
 use Rattle.mmu_core.specs.lines.SlotChangeSteps.{after_set_claim, changed, slot_change_note, slot_change_part, slot_change_task, watch_next}
@@ -70,7 +70,7 @@ module _ (z : Sizes) (v : View) (a : ℕ) (line : Line) (command : Command) (fac
   -- After a step that publishes nothing the words stand for the same facts.
   still : (p : SlotChangePlace) → is_publication p ≡ false → MakesAt p → TopicsInvariant z v → ReadyAt p → RefinesBy z v (task p) facts
   still p never S P R =
-      part_refines z v a (slot_change_part p (v.hand a) command) (slot_change_note p (v.hand a)) facts S P (change_never p (v.hand a) command never) R.refines
+      part_refines z v a (slot_change_part p (v.hand a) command) (slot_change_note p (v.hand a)) facts S P (change_never p (v.hand a) command never) (change_quiet p (v.hand a) command never) R.refines
 
   -- It tells nothing, where it goes on at this place.
   quiet : (p next : SlotChangePlace) → is_publication p ≡ false → MakesAt p → TopicsInvariant z v → ReadyAt p → Under next

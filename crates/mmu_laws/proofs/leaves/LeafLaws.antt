@@ -1,6 +1,6 @@
 -- Each leaf that stands, is cached, or is used agrees with slots and host.
 use Rattle.std.proofs.Common.{◌≡◌, ◌+◌, ◌*◌, ◌/◌, ◌%◌, ◌^◌, ◌<◌, ◌≤◌, ℕ, zero, suc, refl, sym, subst, ap, ◌∙◌, arith}
-use Rattle.std.specs.Prelude.{All, Bool, true, false, ◌&&◌, not, if◌then◌else◌, Option, Some, None, is_some}
+use Rattle.std.specs.Prelude.{Bool, true, false, ◌&&◌, not, if◌then◌else◌, Option, Some, None, is_some}
 use Rattle.core_views.specs.declared.place.AccessPlace.TheVariants.{Touch}
 use Rattle.core_views.specs.declared.place.Place.{Place}
 use Rattle.core_views.specs.declared.place.Place.TheVariants as place
@@ -24,9 +24,10 @@ use Rattle.spte_words.proofs.Spans.{span_1, span_4}
 use Rattle.mmu_core.specs.machine.Enabled.{mmu}
 use Rattle.mmu_core.specs.alone.FaultAlone.{LeadsTo}
 use Rattle.mmu_core.specs.lines.FaultSteps.{allows_access}
-use Rattle.mmu_core.specs.invariant.Invariant.{Holds, HostWordsPart, IsLeafFor, KnowsPart, SlotSetPart}
+use Rattle.mmu_core.specs.invariant.HostWordsPart.{HostWordsPart}
+use Rattle.mmu_core.specs.invariant.Invariant.{IsLeafFor, KnowsPart, SlotSetPart}
 use Rattle.mmu_core.specs.invariant.Laws.{IsSound}
-use Rattle.mmu_laws.specs.leaves.LeafLaws.{LeafAgrees}
+use Rattle.mmu_laws.specs.leaves.LeafLaws.{LeafAgrees, CachedAgrees}
 use Rattle.mmu_core.specs.machine.Machine.{World, hand_in}
 use Rattle.part_steps.specs.PartTasks.{entry_index, table_page}
 use Rattle.part_steps.specs.PartHoldings.{IsOver}
@@ -42,6 +43,9 @@ use Rattle.mmu_laws.proofs.leaves.LeadsDown.{below_stands, leads_down, run_above
 use Rattle.mmu_laws.proofs.flat.PageFound.{frame_of_host, page_in_machine}
 use Rattle.mmu_core.proofs.words.SlotLists.{only_one_holds}
 use Rattle.mmu_core.proofs.lines.UsedTranslations.{uses_allows}
+use Rattle.mmu_core.proofs.machine.Stepping.{line_allowed}
+use Rattle.mmu_core.proofs.held.UsableKept.{vcpu_below, used_agrees}
+use Rattle.core_views.specs.Traces.{IsCommandFor}
 
 -- A write gets the page of its slot, where the slot isn't read-only.
 gets_page : (write read_only : Bool) (page : ℕ) → write ≡ true → is_some (if write && read_only then None else Some page) ≡ not read_only
@@ -50,15 +54,19 @@ gets_page true false page is = refl
 gets_page false read_only page is = absurd (cc is)
 
 -- The leaf of a page in its slot agrees.
-leaf_agrees : (z : Sizes) (set : ℕ) (role pool host : ℕ → ℕ) (gfn leaf : ℕ) → AreSizes z → HostWordsPart z host → SlotSetPart z set role pool → IsLeafFor pool host set gfn leaf → LeafAgrees set pool host gfn leaf
+leaf_agrees : (z : Sizes) (set : ℕ) (role pool host : ℕ → ℕ) (gfn leaf : ℕ) → AreSizes z → HostWordsPart z host → SlotSetPart z set role pool
+    → IsLeafFor pool host set gfn leaf → LeafAgrees set pool host gfn leaf
 leaf_agrees z set role pool host gfn leaf sizes hosts P L = record {
   page = page_of slot gfn;
   behind = ap (page_in gfn Read) found;
   frame = ap frame_in L.is ∙ leaf_frame 1 (host_frame word) (may_write slot word) (host_allows_write word) (may_write slot word) small;
   writes = λ op is. writes_are
-      ∙ ap (λ b. host_allows_write word && b) (sym (ap (λ (o : Option Slot). is_some (page_in gfn op o)) found ∙ gets_page (is_write op) slot.read_only (page_of slot gfn) is));
+      ∙ ap (λ b. host_allows_write word && b)
+      (sym (ap (λ (o : Option Slot). is_some (page_in gfn op o)) found ∙ gets_page (is_write op) slot.read_only (page_of slot gfn) is));
   host_bit = ap host_writable L.is ∙ leaf_host_writable 1 (host_frame word) (may_write slot word) (host_allows_write word) (may_write slot word) small;
-  mmu_bit = ap mmu_writable L.is ∙ leaf_mmu_writable 1 (host_frame word) (may_write slot word) (host_allows_write word) (may_write slot word) small ∙ sym writes_are;
+  mmu_bit =
+      ap mmu_writable L.is ∙ leaf_mmu_writable 1 (host_frame word) (may_write slot word) (host_allows_write word) (may_write slot word) small
+      ∙ sym writes_are;
 }
   where
     slot : Slot
@@ -81,20 +89,28 @@ leaf_agrees z set role pool host gfn leaf sizes hosts P L = record {
 
     found : slot_of (slots_below pool set 32) gfn ≡ Some slot
     found =
-        only_one_holds gfn pool set L.id 32 (omega (arith, L.live.low)) L.live.live holds (λ i lt live too. P.guest_apart gfn i L.id (omega arith) L.live.low live L.live.live too holds)
+        only_one_holds gfn pool set L.id 32 (omega (arith, L.live.low)) L.live.live holds
+        (λ i lt live too. P.guest_apart gfn i L.id (omega arith) L.live.low live L.live.live too holds)
         ∙ ap Some L.live.is
 
 -- So it says of its guest frame what slots and host say.
-leaf_says : (z : Sizes) (set : ℕ) (role pool host : ℕ → ℕ) (level gfn leaf : ℕ) → AreSizes z → HostWordsPart z host → SlotSetPart z set role pool → level ≡ 1 → IsLeafFor pool host set gfn leaf → LeafSays pool host set level gfn leaf
+leaf_says : (z : Sizes) (set : ℕ) (role pool host : ℕ → ℕ) (level gfn leaf : ℕ) → AreSizes z → HostWordsPart z host → SlotSetPart z set role pool
+    → level ≡ 1 → IsLeafFor pool host set gfn leaf → LeafSays pool host set level gfn leaf
 leaf_says z set role pool host level gfn leaf sizes hosts P lowest L = record {
   id = L.id;
   slot = slot;
   live = L.live;
   holds = L.holds;
-  frame = let one : level_span level ≡ 1 = ap level_span lowest ∙ span_1 in subst (λ n. host_frame word ≡ frame_in leaf + gfn % n) (sym one) (omega (arith, names));
+  frame =
+      let one : level_span level ≡ 1 = ap level_span lowest ∙ span_1 in
+      subst (λ n. host_frame word ≡ frame_in leaf + gfn % n) (sym one) (omega (arith, names));
   writes = λ is. sym (ap can_write L.is ∙ leaf_can_write 1 (host_frame word) (may_write slot word) (host_allows_write word) (may_write slot word)) ∙ is;
-  host_bit = λ is. sym (ap host_writable L.is ∙ leaf_host_writable 1 (host_frame word) (may_write slot word) (host_allows_write word) (may_write slot word) small) ∙ is;
-  mmu_bit = λ is. sym (ap mmu_writable L.is ∙ leaf_mmu_writable 1 (host_frame word) (may_write slot word) (host_allows_write word) (may_write slot word) small) ∙ is;
+  host_bit =
+      λ is. sym (ap host_writable L.is
+      ∙ leaf_host_writable 1 (host_frame word) (may_write slot word) (host_allows_write word) (may_write slot word) small) ∙ is;
+  mmu_bit =
+      λ is. sym (ap mmu_writable L.is
+      ∙ leaf_mmu_writable 1 (host_frame word) (may_write slot word) (host_allows_write word) (may_write slot word) small) ∙ is;
 }
   where
     slot : Slot
@@ -119,19 +135,24 @@ leaves_say z w sound k R table entry gfn Q O leaf =
     let I = sound.holds in
     let P = sound.topics in
     let is = P.leaves table entry gfn (reaches_on P.up (word_in z w area.Root 0) k table R Q) O leaf in
-    leaf_says z (word_in z w area.Slots 0) (word_in z w area.Role) (word_in z w area.Pool) (word_in z w area.Host) (P.spot table).level gfn (word_in z w area.Pool (pool_index table entry)) I.sizes I.hosts I.set_part is.0 is.1
+    leaf_says z (word_in z w area.Slots 0) (word_in z w area.Role) (word_in z w area.Pool) (word_in z w area.Host) (P.spot table).level gfn
+    (word_in z w area.Pool (pool_index table entry)) I.sizes P.hosts I.set_part is.0 is.1
 
 -- ---- where links lead
 
-module _ {pages root set : ℕ} {role pool : ℕ → ℕ} {up : ℕ → Use} {spot : ℕ → Position} (T : TreePart pages root set role pool up spot) (few : pages ≤ 2 ^ 32) (gfn entry : ℕ) where
+module _ {pages root set : ℕ} {role pool : ℕ → ℕ} {up : ℕ → Use} {spot : ℕ → Position} (T : TreePart pages root set role pool up spot)
+    (few : pages ≤ 2 ^ 32) (gfn entry : ℕ) where
   -- Behind a link of a table over the guest frame stands a table over it, one level below.
   one_below : (level page below : ℕ) → stands up spot page ≡ Some (at (suc (suc level)) (gfn / level_span (suc (suc level)) / 512))
-      → linked_page (kind_of (suc (suc level)) (pool (pool_index page (entry_index gfn (suc (suc level)))))) ≡ Some below → stands up spot below ≡ Some (at (suc level) (gfn / level_span (suc level) / 512))
-  one_below level page below at_page link = below_stands T few gfn entry level (gfn / level_span (suc (suc level)) / 512) page below at_page link ∙ ap (λ n. Some (at (suc level) n)) run
+      → linked_page (kind_of (suc (suc level)) (pool (pool_index page (entry_index gfn (suc (suc level)))))) ≡ Some below
+      → stands up spot below ≡ Some (at (suc level) (gfn / level_span (suc level) / 512))
+  one_below level page below at_page link =
+      below_stands T few gfn entry level (gfn / level_span (suc (suc level)) / 512) page below at_page link ∙ ap (λ n. Some (at (suc level) n)) run
     where
       run : gfn / level_span (suc (suc level)) / 512 * 512 + entry_index gfn (suc (suc level)) ≡ gfn / level_span (suc level) / 512
       run =
-          let next : gfn / level_span (suc level) / 512 ≡ gfn / level_span (suc (suc level)) = run_above gfn (suc level) (omega arith) ∙ ap (λ n. gfn / level_span n) (omega arith) in
+          let next : gfn / level_span (suc level) / 512 ≡ gfn / level_span (suc (suc level)) =
+          run_above gfn (suc level) (omega arith) ∙ ap (λ n. gfn / level_span n) (omega arith) in
           omega (arith, next)
 
   -- So the entry to which they lead is one of a table of the lowest level over the guest frame.
@@ -147,55 +168,64 @@ module _ {pages root set : ℕ} {role pool : ℕ → ℕ} {up : ℕ → Use} {sp
       lowest_table 3 root (root_stands T ∙ ap (λ n. Some (at 4 n)) first) leads
 
 -- A leaf of such a table is the guest frame's.
-standing_leaf : (z : Sizes) (w : World Held) (gfn entry low : ℕ) (sound : IsSound z w) → stands sound.topics.up sound.topics.spot low ≡ Some (at 1 (gfn / level_span 1 / 512)) → word_in z w area.Pool (pool_index low (entry_index gfn 1)) ≡ entry
+standing_leaf : (z : Sizes) (w : World Held) (gfn entry low : ℕ) (sound : IsSound z w) → stands sound.topics.up sound.topics.spot low
+    ≡ Some (at 1 (gfn / level_span 1 / 512)) → word_in z w area.Pool (pool_index low (entry_index gfn 1)) ≡ entry
     → kind_of 1 entry ≡ entry_kind.Leaf → IsLeafFor (word_in z w area.Pool) (word_in z w area.Host) (word_in z w area.Slots 0) gfn entry
 standing_leaf z w gfn entry low sound at_low is leaf =
     let P = sound.topics in
     subst (IsLeafFor (word_in z w area.Pool) (word_in z w area.Host) (word_in z w area.Slots 0) gfn) is
     (leaf_for z (view z w) P low 1 (gfn / level_span 1 / 512) (entry_index gfn 1) gfn at_low (omega arith) (omega arith) (ap (kind_of 1) is ∙ leaf)).1
 
-pub leaves_agree : (z : Sizes) (w : World Held) (gfn entry : ℕ) → IsSound z w → gfn < 2 ^ 36 → LeadsTo (word_in z w area.Pool) 4 (word_in z w area.Root 0) gfn entry → kind_of 1 entry ≡ entry_kind.Leaf
+pub leaves_agree : (z : Sizes) (w : World Held) (gfn entry : ℕ) → IsSound z w → gfn < 2 ^ 36
+    → LeadsTo (word_in z w area.Pool) 4 (word_in z w area.Root 0) gfn entry → kind_of 1 entry ≡ entry_kind.Leaf
     → LeafAgrees (word_in z w area.Slots 0) (word_in z w area.Pool) (word_in z w area.Host) gfn entry
 leaves_agree z w gfn entry sound small leads leaf =
     let I = sound.holds in
     let P = sound.topics in
     let low = from_root P.tree (let most = I.sizes.pool.1 in omega (arith, most)) gfn entry small leads in
-    leaf_agrees z (word_in z w area.Slots 0) (word_in z w area.Role) (word_in z w area.Pool) (word_in z w area.Host) gfn entry I.sizes I.hosts I.set_part (standing_leaf z w gfn entry low.0 sound low.1 low.2 leaf)
+    leaf_agrees z (word_in z w area.Slots 0) (word_in z w area.Role) (word_in z w area.Pool) (word_in z w area.Host) gfn entry I.sizes P.hosts
+    I.set_part (standing_leaf z w gfn entry low.0 sound low.1 low.2 leaf)
 
 -- From a table that is held links lead where they lead from the root.
 pub held_leaves_agree : (z : Sizes) (w : World Held) (actor gfn entry : ℕ) → IsSound z w → actor < actors_of z → IsOver gfn (hand_in mmu w actor).topics.walk
-    → LeadsTo (word_in z w area.Pool) (hand_in mmu w actor).topics.walk.level (table_page (hand_in mmu w actor).topics.walk) gfn entry → kind_of 1 entry ≡ entry_kind.Leaf
-    → LeafAgrees (word_in z w area.Slots 0) (word_in z w area.Pool) (word_in z w area.Host) gfn entry
+    → LeadsTo (word_in z w area.Pool) (hand_in mmu w actor).topics.walk.level (table_page (hand_in mmu w actor).topics.walk) gfn entry
+    → kind_of 1 entry ≡ entry_kind.Leaf → LeafAgrees (word_in z w area.Slots 0) (word_in z w area.Pool) (word_in z w area.Host) gfn entry
 held_leaves_agree z w actor gfn entry sound lt over leads leaf =
     let walk : TableWalk = (hand_in mmu w actor).topics.walk in
-    let at_page : stands sound.topics.up sound.topics.spot (table_page walk) ≡ Some (at walk.level (gfn / level_span walk.level / 512)) = (sound.topics.held actor lt).table over.there ∙ ap (λ n. Some (at walk.level n)) (sym over.run) in
+    let at_page : stands sound.topics.up sound.topics.spot (table_page walk) ≡ Some (at walk.level (gfn / level_span walk.level / 512)) =
+    (sound.topics.held actor lt).table over.there ∙ ap (λ n. Some (at walk.level n)) (sym over.run) in
     leaves_agree z w gfn entry sound over.small ((leads_down z w gfn (table_page walk) walk.level entry sound at_page).above leads) leaf
 
 -- ---- what is cached and used
 
-pub cached_leaves_agree : (z : Sizes) (w : World Held) (actor : ℕ) → IsSound z w → actor < actors_of z
-    → All (λ t. (t.level ≡ 1) × LeafAgrees (word_in z w area.Slots 0) (word_in z w area.Pool) (word_in z w area.Host) t.gfn t.leaf) (hand_in mmu w actor).cached.items
-cached_leaves_agree z w actor sound lt =
-    let I = sound.holds in
-    λ k d there. ((I.cached actor lt k d there).0, leaf_agrees z (word_in z w area.Slots 0) (word_in z w area.Role) (word_in z w area.Pool) (word_in z w area.Host) _ _ I.sizes I.hosts I.set_part (I.cached actor lt k d there).1)
+pub cached_leaves_agree : (z : Sizes) (w : World Held) (actor : ℕ) → IsSound z w → actor < actors_of z → CachedAgrees z w actor
+cached_leaves_agree z w actor sound lt = record {
+  lowest = sound.holds.cached actor lt;
+  agrees = λ low may k d there. leaf_agrees z (word_in z w area.Slots 0) (word_in z w area.Role) (word_in z w area.Pool) (word_in z w area.Host) _ _
+      sound.holds.sizes sound.topics.hosts sound.holds.set_part (sound.usable.agrees actor low may k d there);
+  others = sound.usable.others actor lt;
+}
 
--- at the touch
-at_touch : (z : Sizes) (pool host : ℕ → ℕ) (set : ℕ) (h : Held) (p : Place) (c : Command) (gfn word : ℕ) (op : Op) → p ≡ place.Access Touch → c ≡ Access gfn word op → Holds z pool host set p c h → KnowsPart p c h
-    → IsLeafFor pool host set gfn h.state.used.leaf × (allows_access (is_write op) h.state.used.leaf ≡ true)
-at_touch z pool host set h p c gfn word op at is holds knows =
-    let here : Holds z pool host set (place.Access Touch) (Access gfn word op) h = subst (λ (d : Command). Holds z pool host set (place.Access Touch) d h) is (subst (λ (q : Place). Holds z pool host set q c h) at holds) in
-    let knows_here : KnowsPart (place.Access Touch) (Access gfn word op) h = subst (λ (d : Command). KnowsPart (place.Access Touch) d h) is (subst (λ (q : Place). KnowsPart q c h) at knows) in
-    (here.1, uses_allows gfn (is_write op) h knows_here.1)
+-- what its access knows at the touch
+knows_touch : (h : Held) (p : Place) (c : Command) (gfn word : ℕ) (op : Op) → p ≡ place.Access Touch → c ≡ Access gfn word op → KnowsPart p c h
+    → KnowsPart (place.Access Touch) (Access gfn word op) h
+knows_touch h p c gfn word op at is knows =
+    subst (λ (d : Command). KnowsPart (place.Access Touch) d h) is (subst (λ (q : Place). KnowsPart q c h) at knows)
 
-pub used_leaves_agree : (z : Sizes) (w : World Held) (actor gfn word : ℕ) (op : Op) → IsSound z w → actor < actors_of z → (hand_in mmu w actor).state.place ≡ place.Access Touch
-    → (hand_in mmu w actor).state.line.command ≡ Access gfn word op
+pub used_leaves_agree : (z : Sizes) (w : World Held) (actor gfn word : ℕ) (op : Op) → IsSound z w → actor < actors_of z
+    → (hand_in mmu w actor).state.place ≡ place.Access Touch → (hand_in mmu w actor).state.line.command ≡ Access gfn word op
     → LeafAgrees (word_in z w area.Slots 0) (word_in z w area.Pool) (word_in z w area.Host) gfn (hand_in mmu w actor).state.used.leaf
     × (allows_access (is_write op) (hand_in mmu w actor).state.used.leaf ≡ true)
 used_leaves_agree z w actor gfn word op sound lt at is =
     let I = sound.holds in
     let h : Held = hand_in mmu w actor in
-    let T = at_touch z (word_in z w area.Pool) (word_in z w area.Host) (word_in z w area.Slots 0) h h.state.place h.state.line.command gfn word op at is (I.loads actor lt) (I.knows actor lt) in (
-      leaf_agrees z (word_in z w area.Slots 0) (word_in z w area.Role) (word_in z w area.Pool) (word_in z w area.Host) gfn h.state.used.leaf I.sizes I.hosts
-          I.set_part T.0,
-      T.1,
+    let O = I.lines actor lt in
+    let K = knows_touch h h.state.place h.state.line.command gfn word op at is (I.knows actor lt) in
+    let may : IsCommandFor z h.state.actor (Access gfn word op) =
+    subst (IsCommandFor z h.state.actor) is (line_allowed z actor h (place.Access Touch) O at tt) in
+    let low : actor < z.vcpus = subst (λ i. i < z.vcpus) O.index (vcpu_below z h.state.actor gfn word op may) in
+    let used = used_agrees z (view z w) actor gfn (is_write op) sound.usable low K.0.guest (I.cached actor lt) K.1 in (
+      leaf_agrees z (word_in z w area.Slots 0) (word_in z w area.Role) (word_in z w area.Pool) (word_in z w area.Host) gfn h.state.used.leaf I.sizes
+          sound.topics.hosts I.set_part used.1,
+      uses_allows gfn (is_write op) h K.1,
     )

@@ -112,12 +112,14 @@ module _ (h : Held) (v : ℕ) where
   slot_change_told _ command = none z v _
 
   look_told : (own : Bool) (page : ℕ) → is_own z h.state.actor page ≡ own
-      → AllMay z v (kind_of_task z (part_task (if own then part.Host page else part.Seq) (own_index h) h.topics (if own then 0 else 1))) (if own then LookedAtHost page ∷ [] else [])
+      → AllMay z v (kind_of_task z (part_task (if own then part.Host page else part.Seq) (own_index h) h.topics (if own then 0 else 1)))
+      (if own then LookedAtHost page ∷ [] else [])
   look_told true page is = one z v _ _ (record { kind_is = refl; on = refl })
   look_told false page is = none z v _
 
   exchange_told : (won : Bool) (page : ℕ) (change : HostChange) → (v == word_looked h.topics.host) ≡ won → page_looked h.topics.host ≡ page
-      → AllMay z v (kind_of_task z (task_at (place.Host Change) (ChangeHost page change) h)) (if won then HostChanged page (entry_of (word_put h.topics)) ∷ [] else [])
+      → AllMay z v (kind_of_task z (task_at (place.Host Change) (ChangeHost page change) h))
+      (if won then HostChanged page (entry_of (word_put change h.topics)) ∷ [] else [])
   exchange_told true page change is at =
       one z v _ _ (record {
         at = record { kind_is = refl; on = ap (λ (i : ℕ). place_of (map_of z) area.Host i) at };

@@ -5,14 +5,15 @@ use Rattle.core_views.specs.Held.{Held}
 use Rattle.spte_words.specs.declared.area.Area.{Area}
 use Rattle.core_views.proofs.HeaderSizes.{four}
 use lib.Count.{count_trailing_zeros}
-use Rattle.std.proofs.Common.{ℕ, List, ◌<◌, ◌≤◌, ◌+◌, ◌/◌, ◌%◌, lit≤, ◌≡◌, [], ◌∷◌, refl, sym, subst, ap, ◌∙◌, arith, lit<, length}
+use Rattle.std.proofs.Common.{ℕ, zero, suc, List, ◌<◌, ◌≤◌, ◌+◌, ◌/◌, ◌%◌, lit≤, ◌≡◌, [], ◌∷◌, refl, sym, subst, ap, ◌∙◌, arith, lit<, length}
+use Rattle.std.proofs.lemmas.Option.{slice_get_past}
 use Rattle.std.proofs.lemmas.Fmt.{decimal_digit, decimal_step}
 use Rattle.std.specs.Fmt.{decimal}
 use Rattle.std.specs.List.{IsDistinct}
-use Rattle.std.specs.Prelude.{◌==◌, All, codes, true}
+use Rattle.std.specs.Prelude.{◌==◌, All, Option, codes, true, unwrap_or}
 use Rattle.std.proofs.lemmas.List.Elements.{All-cons, All-nil}
 use Rattle.core_views.specs.declared.trace.Line.{Line}
-use Rattle.core_views.specs.Sizes.{AreSizes}
+use Rattle.core_views.specs.Sizes.{AreSizes, first_page_in}
 use Rattle.core_views.specs.Traces.{IsCommandFor, slot_ids}
 use Rattle.core_views.specs.declared.event.Event.{Event}
 use Rattle.core_views.specs.declared.sizes.Sizes.{Sizes}
@@ -22,7 +23,8 @@ use Rattle.spte_words.specs.Entries.{absent_word, can_write, frame_in, frozen_wo
 use Rattle.spte_words.specs.Flags.{flags_live, flags_logged, flags_read_only, flags_word}
 use Rattle.spte_words.specs.HostWords.{host_allows_write, host_frame, host_word}
 use Rattle.mmu_laws.specs.steps.ExampleRaces.{ExampleRaces, first_line, race_events, race_lines, race_order, second_line}
-use Rattle.mmu_laws.specs.steps.ExampleRuns.{ExamplePrints, ExampleRuns, add_line, forbidden_line, other_slot_line, outside_line, read_line, run_events, run_lines, run_order, sum_line, write_line}
+use Rattle.mmu_laws.specs.steps.ExampleRuns.{ExamplePrints, ExampleRuns, add_line, forbidden_line, other_slot_line, outside_line, read_line}
+use Rattle.mmu_laws.specs.steps.ExampleRuns.{run_events, run_lines, run_order, sum_line, write_line}
 use Rattle.mmu_laws.specs.steps.ExampleStarves.{ExampleStarves, small_events, small_lines, small_order, small_sizes, starved_line, starved_set_line}
 use Rattle.mmu_laws.specs.steps.ExampleSteps.{RunDelays, RunTells, run_sizes, set_line, set_read_only_line, turns, RunLeaves}
 use Rattle.mmu_laws.specs.steps.ExampleWaits.{ExampleWaits, beside_line, wait_events, wait_lines, wait_order}
@@ -36,7 +38,8 @@ use Rattle.mmu_core.proofs.start.Starts.{start_good}
 use Rattle.mmu_laws.proofs.steps.ViewRuns.{HaveLines, have_lines, have_lines_by, tale, turned_all, turns_are, turns_lead}
 
 -- What a run over words and hands as columns tells, a run of worlds tells.
-run_tells : (z : Sizes) (lines : List Line) (order : List ℕ) (events : List Event) → AreSizes z → All (λ line. IsCommandFor z line.actor line.command) lines → IsDistinct (λ i j. i == j) (slot_ids lines) → length lines ≤ 1000000
+run_tells : (z : Sizes) (lines : List Line) (order : List ℕ) (events : List Event) → AreSizes z
+    → All (λ line. IsCommandFor z line.actor line.command) lines → IsDistinct (λ i j. i == j) (slot_ids lines) → length lines ≤ 1000000
     → have_lines z (start_view z lines) order ≡ true → tale (start_view z lines) order ≡ events → RunTells z lines order events
 run_tells z lines order events sizes allowed distinct few has told =
     let s = a_start z lines sizes allowed distinct few in
@@ -46,9 +49,12 @@ run_tells z lines order events sizes allowed distinct few has told =
     record { start = s.0; is_start = s.1; legal = runs.0; tells = runs.1 ∙ (ap (λ (v : View). tale v order) is ∙ told) }
 
 -- What an actor counts in such a run, it counts in a run of worlds.
-pub run_delays : (z : Sizes) (lines : List Line) (order : List ℕ) (events : List Event) (actor delays : ℕ) → AreSizes z → All (λ line. IsCommandFor z line.actor line.command) lines → IsDistinct (λ i j. i == j) (slot_ids lines) → length lines ≤ 1000000
-    → have_lines z (start_view z lines) order ≡ true → tale (start_view z lines) order ≡ events → ((turned_all (start_view z lines) order).hand actor).state.delays ≡ delays → RunDelays z lines order events actor delays
-run_delays z lines order events actor delays sizes allowed distinct few has told counts = record { tells = T; counts = ap (λ (v : View). (v.hand actor).state.delays) leads ∙ counts }
+pub run_delays : (z : Sizes) (lines : List Line) (order : List ℕ) (events : List Event) (actor delays : ℕ) → AreSizes z
+    → All (λ line. IsCommandFor z line.actor line.command) lines → IsDistinct (λ i j. i == j) (slot_ids lines) → length lines ≤ 1000000
+    → have_lines z (start_view z lines) order ≡ true → tale (start_view z lines) order ≡ events
+    → ((turned_all (start_view z lines) order).hand actor).state.delays ≡ delays → RunDelays z lines order events actor delays
+run_delays z lines order events actor delays sizes allowed distinct few has told counts =
+    record { tells = T; counts = ap (λ (v : View). (v.hand actor).state.delays) leads ∙ counts }
   where
     T : RunTells z lines order events
     T = run_tells z lines order events sizes allowed distinct few has told
@@ -57,10 +63,12 @@ run_delays z lines order events actor delays sizes allowed distinct few has told
     is = start_view_is z lines T.start T.is_start
 
     leads : ◌≡◌ {A = View} (view z (run mmu T.start (turns z T.start order))) (turned_all (start_view z lines) order)
-    leads = turns_lead z T.start order (start_good z lines T.start T.is_start) (subst (λ (v : View). HaveLines z v order) (sym is) (have_lines_by z (start_view z lines) order has)) ∙ ap (λ (v : View). turned_all v order) is
+    leads = turns_lead z T.start order (start_good z lines T.start T.is_start) (subst (λ (v : View). HaveLines z v order) (sym is)
+        (have_lines_by z (start_view z lines) order has)) ∙ ap (λ (v : View). turned_all v order) is
 
 -- What a word holds after such a run, it holds in a run of worlds.
-pub run_leaves : (z : Sizes) (lines : List Line) (order : List ℕ) (a : Area) (index value : ℕ) → AreSizes z → All (λ line. IsCommandFor z line.actor line.command) lines → IsDistinct (λ i j. i == j) (slot_ids lines) → length lines ≤ 1000000
+pub run_leaves : (z : Sizes) (lines : List Line) (order : List ℕ) (a : Area) (index value : ℕ) → AreSizes z
+    → All (λ line. IsCommandFor z line.actor line.command) lines → IsDistinct (λ i j. i == j) (slot_ids lines) → length lines ≤ 1000000
     → have_lines z (start_view z lines) order ≡ true → (turned_all (start_view z lines) order).words a index ≡ value → RunLeaves z lines order a index value
 run_leaves z lines order a index value sizes allowed distinct few has holds =
     record { start = s.0; is_start = s.1; legal = (turns_are z s.0 order good have).0; holds = ap (λ (v : View). v.words a index) leads ∙ holds }
@@ -92,6 +100,20 @@ unfolding flushed topics_after place kind_of level_span table_word frozen_word c
     flags_read_only flags_word host_allows_write host_frame host_word can_write is_leaf_at flags_logged count_trailing_zeros
 run_has_lines = refl
 
+-- The one host thread has all pages.
+firsts_rise : (host : ℕ) → first_page_in (0 ∷ 128 ∷ 128 ∷ 128 ∷ []) 128 host ≤ first_page_in (0 ∷ 128 ∷ 128 ∷ 128 ∷ []) 128 (host + 1)
+firsts_rise zero = omega arith
+firsts_rise (suc zero) = omega arith
+firsts_rise (suc (suc zero)) = omega arith
+firsts_rise (suc (suc (suc n))) = let last = past (suc (suc (suc n)) + 1) (omega arith) in let here = from_third n in omega (arith, here, last)
+  where
+    past : (k : ℕ) → 4 ≤ k → first_page_in (0 ∷ 128 ∷ 128 ∷ 128 ∷ []) 128 k ≡ 128
+    past k le = ap (λ (o : Option ℕ). unwrap_or o 128) (slice_get_past (0 ∷ 128 ∷ 128 ∷ 128 ∷ []) k le)
+
+    from_third : (m : ℕ) → first_page_in (0 ∷ 128 ∷ 128 ∷ 128 ∷ []) 128 (suc (suc (suc m))) ≡ 128
+    from_third zero = refl
+    from_third (suc m) = past (suc (suc (suc (suc m)))) (omega arith)
+
 pub run_in_range : AreSizes run_sizes
 run_in_range = record {
   actors = record { vcpus = omega arith; hosts = omega arith; workers = omega arith };
@@ -103,6 +125,7 @@ run_in_range = record {
   pool = (omega arith, omega arith);
   cache = (omega arith, omega arith);
   firsts = four (λ page. page ≤ 128) 0 128 128 128 (omega arith) (omega arith) (omega arith) (omega arith);
+  rising = record { each = firsts_rise };
 }
 
 abbrev pub May : Sizes → Line → Type 0
@@ -116,9 +139,12 @@ may_set_read_only = record { some = omega arith; pages = omega arith; base = ome
 
 run_allowed : All (May run_sizes) run_lines
 run_allowed =
-    All-cons (May run_sizes) set_line (set_read_only_line ∷ outside_line ∷ write_line ∷ read_line ∷ add_line ∷ sum_line ∷ other_slot_line ∷ forbidden_line ∷ []) may_set
-    (All-cons (May run_sizes) set_read_only_line (outside_line ∷ write_line ∷ read_line ∷ add_line ∷ sum_line ∷ other_slot_line ∷ forbidden_line ∷ []) may_set_read_only
-    (All-cons (May run_sizes) outside_line (write_line ∷ read_line ∷ add_line ∷ sum_line ∷ other_slot_line ∷ forbidden_line ∷ []) (omega arith, omega arith, omega arith)
+    All-cons (May run_sizes) set_line
+    (set_read_only_line ∷ outside_line ∷ write_line ∷ read_line ∷ add_line ∷ sum_line ∷ other_slot_line ∷ forbidden_line ∷ []) may_set
+    (All-cons (May run_sizes) set_read_only_line (outside_line ∷ write_line ∷ read_line ∷ add_line ∷ sum_line ∷ other_slot_line ∷ forbidden_line ∷ [])
+    may_set_read_only
+    (All-cons (May run_sizes) outside_line (write_line ∷ read_line ∷ add_line ∷ sum_line ∷ other_slot_line ∷ forbidden_line ∷ [])
+    (omega arith, omega arith, omega arith)
     (All-cons (May run_sizes) write_line (read_line ∷ add_line ∷ sum_line ∷ other_slot_line ∷ forbidden_line ∷ []) (omega arith, omega arith, omega arith)
     (All-cons (May run_sizes) read_line (add_line ∷ sum_line ∷ other_slot_line ∷ forbidden_line ∷ []) (omega arith, omega arith, omega arith)
     (All-cons (May run_sizes) add_line (sum_line ∷ other_slot_line ∷ forbidden_line ∷ []) (omega arith, omega arith, omega arith)
@@ -140,7 +166,20 @@ two_digits n low high = rw (decimal_step n low (omega arith), decimal_digit (n /
 pub example_prints : ExamplePrints
 unfolding line_text
 example_prints =
-    simp (decimal_digit 0 (lit< tt), decimal_digit 1 (lit< tt), decimal_digit 2 (lit< tt), decimal_digit 3 (lit< tt), decimal_digit 4 (lit< tt), decimal_digit 5 (lit< tt), decimal_digit 6 (lit< tt), decimal_digit 7 (lit< tt), decimal_digit 8 (lit< tt), decimal_digit 9 (lit< tt), two_digits 10 (lit≤ tt) (lit< tt), two_digits 65 (lit≤ tt) (lit< tt))
+    simp (
+      decimal_digit 0 (lit< tt),
+      decimal_digit 1 (lit< tt),
+      decimal_digit 2 (lit< tt),
+      decimal_digit 3 (lit< tt),
+      decimal_digit 4 (lit< tt),
+      decimal_digit 5 (lit< tt),
+      decimal_digit 6 (lit< tt),
+      decimal_digit 7 (lit< tt),
+      decimal_digit 8 (lit< tt),
+      decimal_digit 9 (lit< tt),
+      two_digits 10 (lit≤ tt) (lit< tt),
+      two_digits 65 (lit≤ tt) (lit< tt),
+    )
 
 -- ---- a pool that is too small
 
@@ -165,6 +204,7 @@ small_in_range = record {
   pool = (omega arith, omega arith);
   cache = (omega arith, omega arith);
   firsts = four (λ page. page ≤ 128) 0 128 128 128 (omega arith) (omega arith) (omega arith) (omega arith);
+  rising = record { each = firsts_rise };
 }
 
 small_allowed : All (May small_sizes) small_lines
@@ -182,7 +222,10 @@ unfolding line_text
 small_prints = simp (decimal_digit 0 (lit< tt), decimal_digit 2 (lit< tt), decimal_digit 3 (lit< tt), decimal_digit 4 (lit< tt))
 
 pub example_starves : ExampleStarves
-example_starves = (run_tells small_sizes small_lines small_order small_events small_in_range small_allowed small_distinct (omega arith) small_has_lines small_tale, small_prints)
+example_starves = (
+  run_tells small_sizes small_lines small_order small_events small_in_range small_allowed small_distinct (omega arith) small_has_lines small_tale,
+  small_prints,
+)
 
 -- ---- two processors at one guest frame
 
@@ -208,10 +251,21 @@ race_distinct = (tt, tt)
 
 race_prints : text race_events ≡ codes "2 vm done\n3 v0 frame 65 value 0\n4 v1 frame 65 value 7\n"
 unfolding line_text
-race_prints = simp (decimal_digit 0 (lit< tt), decimal_digit 1 (lit< tt), decimal_digit 2 (lit< tt), decimal_digit 3 (lit< tt), decimal_digit 4 (lit< tt), decimal_digit 7 (lit< tt), two_digits 65 (lit≤ tt) (lit< tt))
+race_prints = simp (
+  decimal_digit 0 (lit< tt),
+  decimal_digit 1 (lit< tt),
+  decimal_digit 2 (lit< tt),
+  decimal_digit 3 (lit< tt),
+  decimal_digit 4 (lit< tt),
+  decimal_digit 7 (lit< tt),
+  two_digits 65 (lit≤ tt) (lit< tt),
+)
 
 pub example_races : ExampleRaces
-example_races = (run_tells run_sizes race_lines race_order race_events run_in_range race_allowed race_distinct (omega arith) race_has_lines race_tale, race_prints)
+example_races = (
+  run_tells run_sizes race_lines race_order race_events run_in_range race_allowed race_distinct (omega arith) race_has_lines race_tale,
+  race_prints,
+)
 
 -- ---- a slot line beside a processor
 
@@ -241,4 +295,5 @@ unfolding IsDistinct
 wait_distinct = ((refl, tt), (tt, tt))
 
 pub example_waits : ExampleWaits
-example_waits = run_delays run_sizes wait_lines wait_order wait_events 3 3 run_in_range wait_allowed wait_distinct (omega arith) wait_has_lines wait_tale wait_counts
+example_waits = run_delays run_sizes wait_lines wait_order wait_events 3 3 run_in_range wait_allowed wait_distinct (omega arith) wait_has_lines
+    wait_tale wait_counts

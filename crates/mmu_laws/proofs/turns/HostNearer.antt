@@ -1,5 +1,5 @@
 -- Each step of a line that changes a host page, and doesn't wait, leaves it fewer steps, beside other actors too: its exchange of the host word is won, since
--- the word that it looked up is the word now.
+-- the page is its actor's own, so that the word that it looked up is the word now.
 use Rattle.part_steps.specs.declared.part_step.PartStep.TheVariants as part
 use Rattle.spte_words.specs.declared.area.Area.TheVariants as area
 use Rattle.spte_words.specs.declared.spte_kind.SpteKind.TheVariants as entry_kind
@@ -36,7 +36,7 @@ use Rattle.mmu_core.specs.lines.FaultSteps.{is_last_word}
 use Rattle.mmu_core.specs.lines.FaultLeft.{find_left}
 use Rattle.part_steps.specs.PartTopics.{part_topics}
 use Rattle.part_steps.specs.WalkTopics.{gone_down, linked_page}
-use Rattle.mmu_core.specs.invariant.SearchPart.{LookPart}
+use Rattle.mmu_core.proofs.held.OwnPages.{OwnWords}
 use Rattle.mmu_core.specs.lines.HostSteps.{host_part, after_end, host_outcome, after_begin, host_left}
 use Rattle.mmu_core.specs.lines.HostKnows.{HostKnows}
 use Rattle.mmu_core.specs.lines.PartWaits.{part_waits}
@@ -66,9 +66,10 @@ use Rattle.core_views.specs.declared.sizes.Sizes.{Sizes}
 use Rattle.core_views.specs.declared.place.SlotField.{SlotField}
 use Rattle.mmu_core.specs.declared.invalidate.BeginNext.{BeginNext}
 use Rattle.core_views.specs.declared.place.Place.{Place}
+use Rattle.core_views.specs.declared.trace.HostChange.{HostChange}
 use Rattle.core_views.specs.declared.topics.HostLook.{HostLook}
 use Rattle.part_steps.specs.declared.part_step.PartStep.{PartStep}
-use Rattle.std.proofs.Common.{◌≡◌, ◌≢◌, ◌+◌, ◌-◌, ◌*◌, ◌<◌, ◌≤◌, ℕ, refl, ap, arith}
+use Rattle.std.proofs.Common.{◌≡◌, ◌≢◌, ◌+◌, ◌-◌, ◌*◌, ◌<◌, ◌≤◌, ℕ, refl, sym, ap, ◌∙◌, arith}
 use Rattle.std.specs.Prelude.{Bool, true, false, ◌==◌, ◌&&◌, ◌||◌, nat_lt, not, is_some, if◌then◌else◌, Option, Some, None}
 use Rattle.std.proofs.lemmas.Bool.Decides.{nat_tests}
 
@@ -84,20 +85,23 @@ is_word_now : (o : Option HostLook) (host : ℕ → ℕ) → ((look : HostLook) 
 is_word_now None host is some = absurd (cc some)
 is_word_now (Some look) host is some = let same : look.word ≡ host look.page = is look refl in grind (arith, nat_tests)
 
-part_wins : (step : PartStep) (own_ note : ℕ) (z : Sizes) (seq : ℕ) (h : Held) (words : Area → ℕ → ℕ) → PartNeeds step h
-    → LookPart z seq (words area.Host) h.topics → Wins (Some step) h.topics (answer_in (part_task step own_ h.topics note) words)
-part_wins (part.Change new_) own_ note z seq h words N looks = is_word_now h.topics.host (words area.Host) looks.is N.0.looked
-part_wins _ own_ note z seq h words N looks = tt
+part_wins : (step : PartStep) (own_ note : ℕ) (h : Held) (words : Area → ℕ → ℕ) → PartNeeds step h → OwnWords h (words area.Host)
+    → Wins (Some step) h.topics (answer_in (part_task step own_ h.topics note) words)
+part_wins (part.Change new_) own_ note h words N looks = is_word_now h.topics.host (words area.Host) looked N.0.looked
+  where
+    looked : (look : HostLook) → h.topics.host ≡ Some look → look.word ≡ words area.Host look.page
+    looked look is = looks look is (ap (λ (o : Option HostLook). is_own h.state.sizes h.state.actor (page_looked o)) (sym is) ∙ N.0.own_)
+part_wins _ own_ note h words N looks = tt
 
-wins_by : (s : Option PartStep) (note : ℕ) (touch : Task) (z : Sizes) (seq : ℕ) (h : Held) (words : Area → ℕ → ℕ)
-    → ((step : PartStep) → s ≡ Some step → PartNeeds step h) → LookPart z seq (words area.Host) h.topics
+wins_by : (s : Option PartStep) (note : ℕ) (touch : Task) (h : Held) (words : Area → ℕ → ℕ)
+    → ((step : PartStep) → s ≡ Some step → PartNeeds step h) → OwnWords h (words area.Host)
     → Wins s h.topics (answer_in (task_by s h note touch) words)
-wins_by None note touch z seq h words needs looks = tt
-wins_by (Some step) note touch z seq h words needs looks = part_wins step (own_index h) note z seq h words (needs step refl) looks
+wins_by None note touch h words needs looks = tt
+wins_by (Some step) note touch h words needs looks = part_wins step (own_index h) note h words (needs step refl) looks
 
-pub wins_at : (p : Place) (c : Command) (z : Sizes) (seq : ℕ) (h : Held) (words : Area → ℕ → ℕ) → RestsAt p c h → LookPart z seq (words area.Host) h.topics
+pub wins_at : (p : Place) (c : Command) (h : Held) (words : Area → ℕ → ℕ) → RestsAt p c h → OwnWords h (words area.Host)
     → Wins (part_at p c h) h.topics (answer_in (task_at p c h) words)
-wins_at p c z seq h words R looks = wins_by (part_at p c h) (note_at p c h) (touch_at c h) z seq h words (λ step is. step_needs p c h step R is) looks
+wins_at p c h words R looks = wins_by (part_at p c h) (note_at p c h) (touch_at c h) h words (λ step is. step_needs p c h step R is) looks
 
 -- ---- its begin
 
@@ -204,18 +208,18 @@ end_nearer ends.Count z t u v goes = omega arith
 end_nearer ends.SetCount z t u v goes = omega arith
 end_nearer ends.Release z t u v goes = tt
 
-pub host_nearer : (p : HostPlace) (page : ℕ) (h : Held) (v : ℕ) → PartRests h → HostKnows p page h → Wins (Some (host_part p page h)) h.topics v
-    → part_waits (host_part p page h) h.topics v ≡ false
-    → Nearer (host_outcome p page h v) h.state.sizes (part_topics (host_part p page h) h.topics v) (host_left p h.state.sizes h.topics)
-host_nearer Look page h v R K wins goes =
-    either_place (λ o. Nearer o h.state.sizes (part_topics (host_part Look page h) h.topics v) (2 * h.state.sizes.vcpus + 151))
+pub host_nearer : (p : HostPlace) (page : ℕ) (change : HostChange) (h : Held) (v : ℕ) → PartRests h → HostKnows p page h
+    → Wins (Some (host_part p page change h)) h.topics v → part_waits (host_part p page change h) h.topics v ≡ false
+    → Nearer (host_outcome p page h v) h.state.sizes (part_topics (host_part p page change h) h.topics v) (host_left p h.state.sizes h.topics)
+host_nearer Look page change h v R K wins goes =
+    either_place (λ o. Nearer o h.state.sizes (part_topics (host_part Look page change h) h.topics v) (2 * h.state.sizes.vcpus + 151))
     (is_own h.state.sizes h.state.actor page) (Goes (place.Host (Begin begins.Exclude))) (Ends (Refused OutOfRange))
     (omega arith) tt
-host_nearer (Begin p) page h v R K wins goes =
+host_nearer (Begin p) page change h v R K wins goes =
     begin_nearer (begin_next p h.state.sizes page h.topics v) h.state.sizes _ (begin_left p h.state.sizes h.topics)
     (begin_falls p h.state.sizes page h.topics v K.1 goes)
-host_nearer Change page h v R K wins goes =
-    one_place (λ q. Nearer (Goes (place.Host q)) h.state.sizes (part_topics (part.Change (word_put h.topics)) h.topics v) 7) (v == word_looked h.topics.host)
-    (End ends.Exclude) Change
+host_nearer Change page change h v R K wins goes =
+    one_place (λ q. Nearer (Goes (place.Host q)) h.state.sizes (part_topics (part.Change (word_put change h.topics)) h.topics v) 7)
+    (v == word_looked h.topics.host) (End ends.Exclude) Change
     (λ e. omega arith) (λ e. absurd (cc (wins, e)))
-host_nearer (End p) page h v R K wins goes = end_nearer p h.state.sizes h.topics _ v goes
+host_nearer (End p) page change h v R K wins goes = end_nearer p h.state.sizes h.topics _ v goes

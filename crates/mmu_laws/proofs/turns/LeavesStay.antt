@@ -42,7 +42,8 @@ use Rattle.mmu_core.proofs.words.PartWords.{areas_stay, page_stays}
 use Rattle.mmu_core.proofs.pages.PoolPages.{table_not_owned}
 use Rattle.mmu_core.proofs.pages.Standing.{entry_now}
 use Rattle.mmu_core.proofs.machine.SumsBelow.{upd_id}
-use Rattle.mmu_core.proofs.pages.TreeKept.{absent_entry, found_live, looked_word}
+use Rattle.mmu_core.proofs.held.FreshFrames.{looked_word}
+use Rattle.mmu_core.proofs.pages.TreeKept.{absent_entry, found_live}
 use Rattle.part_steps.specs.declared.task.Task.{Task}
 use Rattle.mmu_core.proofs.lines.StepIn.{StepIn, Makes, Touches}
 
@@ -174,7 +175,7 @@ module _ (z : Sizes) (v : View) (a gfn : ℕ) (J : Invariant z v) (I : TopicsInv
       J.set_part.guest_apart gfn (t.search.id - 1) L.id live.low L.live.low live.live L.live.live (ap (contains gfn) live.is ∙ may.looked_up.found.holds)
       (ap (contains gfn) L.live.is ∙ L.holds) in
       let slot : t.search.slot ≡ L.slot = sym live.is ∙ ap (slot_at pool (v.words area.Slots 0)) same ∙ L.live.is in
-      ap (leaf_of t.search.slot) (looked_word z v a gfn S.there I may.looked_up) ∙ ap (λ (s : Slot). leaf_of s (v.words area.Host (page_of s gfn))) slot
+      ap (leaf_of t.search.slot) (looked_word z v a gfn S.there I may) ∙ ap (λ (s : Slot). leaf_of s (v.words area.Host (page_of s gfn))) slot
       ∙ sym L.is
 
   leaf_was : (S : IsPart z v a (part.Leaf gfn)) → (leaf_written t ≡ pool here) ⊎ (pool here ≡ absent_word)

@@ -33,7 +33,7 @@ use Rattle.mmu_core.specs.lines.Bounds.{access_left, stay_left}
 use Rattle.mmu_core.specs.lines.Forms.{steps_left, KnowsPart, outcome_at, RestsAt, part_at}
 use Rattle.mmu_core.specs.lines.SlotChangeSteps.{slot_change_part}
 use Rattle.mmu_core.specs.lines.HostSteps.{host_part}
-use Rattle.mmu_core.specs.invariant.SearchPart.{LookPart}
+use Rattle.mmu_core.proofs.held.OwnPages.{OwnWords}
 use Rattle.spte_words.specs.declared.area.Area.TheVariants as area
 use Rattle.mmu_core.specs.lines.Cached.{first_usable}
 use Rattle.mmu_core.specs.lines.Delays.{begins_anew, is_delay, leaves_to_fault, walks_again}
@@ -131,7 +131,9 @@ module _ (h : Held) (gfn word : ℕ) (op : Op) (v : ℕ) (small : gfn < 2 ^ 36) 
       → is_delay (place.Access p) (Access gfn word op) h (access_outcome p h gfn op v) v ≡ false
       → Nearer (access_outcome p h gfn op v) h.state.sizes (behind_part (access_part p gfn h.topics) h.topics v) (access_left p h.state.sizes h.topics)
   access_nearer (Enter again) K on =
-      let same : stay_left again h.state.sizes (behind_part (access_part (Enter again) gfn h.topics) h.topics v) ≡ stay_left again h.state.sizes h.topics = refl in
+      let same : stay_left again h.state.sizes (behind_part (access_part (Enter again) gfn h.topics) h.topics v)
+      ≡ stay_left again h.state.sizes h.topics =
+      refl in
       omega (arith, same)
   access_nearer (Pause again) K on = pause_nearer (first_usable gfn (is_write op) h.cached.items) again h.state.sizes h.topics _
   access_nearer (Root again) K on =
@@ -146,10 +148,16 @@ module _ (h : Held) (gfn word : ℕ) (op : Op) (v : ℕ) (small : gfn < 2 ^ 36) 
       omega (arith, same)
   access_nearer (Fault p) K on =
       let o : Outcome = access_outcome (Fault p) h gfn op v in
-      let goes = first_of_none (part_waits (fault_part p gfn h.topics) h.topics v) (begins_anew (place.Access (Fault p)) || (walks_again (place.Access (Fault p)) && leaves_to_fault o)) on in
-      let more = second_of_none (part_waits (fault_part p gfn h.topics) h.topics v) (begins_anew (place.Access (Fault p)) || (walks_again (place.Access (Fault p)) && leaves_to_fault o)) on in
-      fault_nearer (fault_next p h.state.sizes gfn (is_write op) h.topics v) h.state.sizes (part_topics (fault_part p gfn h.topics) h.topics v) (fault_left p h.state.sizes h.topics)
-      (not_anew p h.state.sizes gfn (is_write op) h.topics v (first_of_none (begins_anew (place.Access (Fault p))) (walks_again (place.Access (Fault p)) && leaves_to_fault o) more)) (fault_falls p h gfn v (is_write op) small R K goes)
+      let goes =
+      first_of_none (part_waits (fault_part p gfn h.topics) h.topics v)
+      (begins_anew (place.Access (Fault p)) || (walks_again (place.Access (Fault p)) && leaves_to_fault o)) on in
+      let more =
+      second_of_none (part_waits (fault_part p gfn h.topics) h.topics v)
+      (begins_anew (place.Access (Fault p)) || (walks_again (place.Access (Fault p)) && leaves_to_fault o)) on in
+      fault_nearer (fault_next p h.state.sizes gfn (is_write op) h.topics v) h.state.sizes (part_topics (fault_part p gfn h.topics) h.topics v)
+      (fault_left p h.state.sizes h.topics)
+      (not_anew p h.state.sizes gfn (is_write op) h.topics v (first_of_none (begins_anew (place.Access (Fault p)))
+      (walks_again (place.Access (Fault p)) && leaves_to_fault o) more)) (fault_falls p h gfn v (is_write op) small R K goes)
 
 -- a clause for each form of line
 form_nearer : (p : Place) (c : Command) (z : Sizes) (h : Held) (v : ℕ) → IsUnderWay p → IsCommandFor z h.state.actor c → PartRests h → KnowsPart p c h
@@ -161,14 +169,14 @@ form_nearer (place.Access p) (Access gfn word op) z h v begun may rests K wins o
 form_nearer (place.SlotChange p) command z h v begun may rests K wins on =
     slot_change_nearer p h command v rests K.1 (first_of_none (part_waits (slot_change_part p h command) h.topics v) false on)
 form_nearer (place.Host p) (ChangeHost page change) z h v begun may rests K wins on =
-    host_nearer p page h v rests K.1 wins (first_of_none (part_waits (host_part p page h) h.topics v) false on)
+    host_nearer p page change h v rests K.1 wins (first_of_none (part_waits (host_part p page change h) h.topics v) false on)
 form_nearer _ _ z h v begun may rests K wins on = absurd K
 
--- So each step comes nearer that is no delay, where the host word that was looked up is the word now, as it is in every sound world.
-pub place_nearer : (p : Place) (c : Command) (z : Sizes) {seq : ℕ} (h : Held) (words : Area → ℕ → ℕ) → IsUnderWay p → IsCommandFor z h.state.actor c
-    → PartRests h → RestsAt p c h → KnowsPart p c h → LookPart z seq (words area.Host) h.topics → delays_at p c h (answer_in (task_at p c h) words) ≡ false
+-- So each step comes nearer that is no delay, where what its hand has looked up of its actor's own pages is their words, as in every sound world.
+pub place_nearer : (p : Place) (c : Command) (z : Sizes) (h : Held) (words : Area → ℕ → ℕ) → IsUnderWay p → IsCommandFor z h.state.actor c
+    → PartRests h → RestsAt p c h → KnowsPart p c h → OwnWords h (words area.Host) → delays_at p c h (answer_in (task_at p c h) words) ≡ false
     → Nearer (outcome_at p c h (answer_in (task_at p c h) words)) h.state.sizes (topics_at p c h words) (steps_left p h.state.sizes h.topics)
-place_nearer p c z {seq} h words begun may rests R K looks on =
+place_nearer p c z h words begun may rests R K looks on =
     let v : ℕ = answer_in (task_at p c h) words in
     subst (λ (t : Topics). Nearer (outcome_at p c h v) h.state.sizes t (steps_left p h.state.sizes h.topics)) (sym (topics_of_step p c h v R))
-    (form_nearer p c z h v begun may rests K (wins_at p c z seq h words R looks) on)
+    (form_nearer p c z h v begun may rests K (wins_at p c h words R looks) on)

@@ -145,9 +145,9 @@ module _ (z : Sizes) (w : World Held) (s : Step Kind) (G : IsSound z w) (may : M
         let u : View = view z (effect mmu w s) in
         let here : u.hand a ≡ after = hand_behind z w s G may T.has in
         let level : after.topics.walk.level ≤ 4 = subst (λ (g : Held). g.topics.walk.level ≤ 4) here (part_rests_at z u a next.holds next.topics there).level in
-        place_few (place_after (outcome_at stood line.command h x)) line.command z h.state.sizes (u.words area.Pool) (u.words area.Host)
+        place_few (place_after (outcome_at stood line.command h x)) line.command z h.state.sizes (u.words area.Pool)
         (u.words area.Slots 0) after after.topics
-        (subst (λ (g : Held). Holds z (u.words area.Pool) (u.words area.Host) (u.words area.Slots 0) g.state.place g.state.line.command g) here
+        (subst (λ (g : Held). Holds z (u.words area.Pool) (u.words area.Slots 0) g.state.place g.state.line.command g) here
         (next.holds.loads a there)) R.sizes level
 
     own_fits : CountFits after
@@ -167,11 +167,13 @@ module _ (z : Sizes) (w : World Held) (s : Step Kind) (G : IsSound z w) (may : M
 
     line_fits : AllFit z (effect mmu w s)
     line_fits =
-        subst (λ (v : View). (i : ℕ) → i < actors_of z → CountFits (v.hand i)) (sym T.leads) (at_upd (λ i (g : Held). i < actors_of z → CountFits g) (hand_in mmu w) a after (λ lt. own_fits) (λ i ne. A i))
+        subst (λ (v : View). (i : ℕ) → i < actors_of z → CountFits (v.hand i)) (sym T.leads)
+        (at_upd (λ i (g : Held). i < actors_of z → CountFits g) (hand_in mmu w) a after (λ lt. own_fits) (λ i ne. A i))
 
   part_fits : TakesPart z w s h → AllFit z (effect mmu w s)
   part_fits T =
-      subst (λ (v : View). (i : ℕ) → i < actors_of z → CountFits (v.hand i)) (sym T.leads) (at_upd (λ i (g : Held). i < actors_of z → CountFits g) (hand_in mmu w) a _
+      subst (λ (v : View). (i : ℕ) → i < actors_of z → CountFits (v.hand i)) (sym T.leads)
+      (at_upd (λ i (g : Held). i < actors_of z → CountFits g) (hand_in mmu w) a _
       (λ there. record { few = (A a there).few; with_left = λ under. absurd (idle_under h.state.place h T.none_left (G.holds.lines a there).under under) })
       (λ i ne. A i))
 
@@ -192,12 +194,15 @@ start_fits z lines w start i lt = subst CountFits (sym (hand_is z lines w i star
 pub counts_fit : (w : World Held) (a : ℕ) → Reachable w → a < length w.hands → CountFits (hand_in mmu w a)
 counts_fit w a r there =
     let G = good_run r.sizes r.start r.leads.steps (start_good r.sizes r.lines r.start r.is_start) r.leads.legal in
-    let all : AllFit r.sizes w = subst (AllFit r.sizes) r.leads.ends (fits_run r.sizes r.start r.leads.steps (start_good r.sizes r.lines r.start r.is_start) r.leads.legal (start_fits r.sizes r.lines r.start r.is_start)) in
+    let all : AllFit r.sizes w =
+    subst (AllFit r.sizes) r.leads.ends (fits_run r.sizes r.start r.leads.steps (start_good r.sizes r.lines r.start r.is_start) r.leads.legal
+    (start_fits r.sizes r.lines r.start r.is_start)) in
     let hands : length w.hands ≡ actors_of r.sizes = ap (λ (u : World Held). length u.hands) (sym r.leads.ends) ∙ G.hands in
     all a (omega (arith, there, hands))
 
 pub steps_counted_on : (w : World Held) (s : Step Kind) → Reachable w → May mmu w s → has_line (hand_in mmu w s.actor) ≡ true
-    → CountsOn (delays_at (place_at (hand_in mmu w s.actor).state.place (hand_in mmu w s.actor)) (line_of (hand_in mmu w s.actor)).command (hand_in mmu w s.actor) (answered mmu w s.kind)) (hand_in mmu w s.actor) (hand_in mmu (effect mmu w s) s.actor)
+    → CountsOn (delays_at (place_at (hand_in mmu w s.actor).state.place (hand_in mmu w s.actor)) (line_of (hand_in mmu w s.actor)).command
+    (hand_in mmu w s.actor) (answered mmu w s.kind)) (hand_in mmu w s.actor) (hand_in mmu (effect mmu w s) s.actor)
 steps_counted_on w s r may has =
     let G = reached_good w r in
     let fits : AllFit r.sizes w = λ i lt. counts_fit w i r (omega (arith, lt, G.hands)) in

@@ -49,6 +49,7 @@ use Rattle.mmu_core.proofs.invariant.PartBounded.{part_rests_at}
 use Rattle.mmu_laws.proofs.turns.StayNearer.{Nearer, place_nearer}
 use Rattle.mmu_core.proofs.machine.Which.{is_next}
 use Rattle.mmu_core.proofs.machine.Worlds.{Takes, good_step, takes_line}
+use Rattle.mmu_core.proofs.held.OwnPages.{own_words}
 
 -- ---- a stay after an installed entry finds it
 
@@ -160,7 +161,8 @@ module _ (z : Sizes) (w : World Held) (s : Step Kind) (G : IsSound z w) (may : M
       let S = taken.is_step in
       place_nearer stood line.command z h words S.begun (subst (λ y. IsCommandFor z y line.command) S.own S.allowed)
       (part_rests_at z (view z w) a G.holds G.topics there)
-      (is_next h s.kind may.enabled has).rests.at (knows_at z (view z w) a G.holds there S.left) (G.topics.looks a there) on
+      (is_next h s.kind may.enabled has).rests.at (knows_at z (view z w) a G.holds there S.left)
+      (own_words z (view z w) a G.topics there sizes (G.holds.lines a there).index) on
 
   -- Where it neither waits nor begins anew, and no stay misses with it, its line has fewer steps left after it.
   pub finds_nearer : line_waits stood line.command h (answered mmu w s.kind) ≡ false → begins_anew stood ≡ false

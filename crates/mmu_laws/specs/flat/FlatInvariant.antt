@@ -31,12 +31,15 @@ use Rattle.spte_words.specs.declared.area.Area.TheVariants as area
 use Rattle.part_steps.specs.SlotWords.{memory_slots_below, page_of, slots_below}
 use Rattle.part_steps.specs.Tasks.{map_of}
 use Rattle.mmu_core.specs.machine.View.{View}
+use Rattle.core_views.specs.declared.host.HostEntry.{HostEntry}
+use Rattle.mmu_core.specs.lines.HostSteps.{entry_of}
+use Rattle.part_steps.specs.PartTasks.{word_looked}
 
--- The slots are the live ones of the published set, in this page, each with its dirty log or without; each host page is at its own frame;
+-- The slots are the live ones of the published set, in this page, each with its dirty log or without; each host page is mapped as its word says;
 -- the content words are memory; and a pause is set where its word isn't 0.
-pub record Refines (z : Sizes) (set : ℕ) (pool content : ℕ → ℕ) (pause : ℕ) (f : Facts) : Type 0 where
+pub record Refines (z : Sizes) (set : ℕ) (pool hosts content : ℕ → ℕ) (pause : ℕ) (f : Facts) : Type 0 where
   pub slots : f.slots ≡ memory_slots_below pool set 32
-  pub host : ◌≡◌ {A = HostMap} f.host own_frames
+  pub host : (p : ℕ) → p < z.pages → f.host p ≡ entry_of (hosts p)
   pub memory : (p j : ℕ) → p < z.pages → j < z.words → f.memory p j ≡ content (content_index (map_of z) p j)
   pub paused : f.paused ≡ not (pause == 0)
 
@@ -93,19 +96,19 @@ SlotChangeUnder Clear u = u.stage ≡ HasChanged
 SlotChangeUnder Give u = u.stage ≡ HasChanged
 SlotChangeUnder _ u = u.stage ≡ Fresh
 
--- A host line has done nothing yet, up to its change, and from its first step on it has looked at its page, which is at its own frame; after it, it has changed
--- the page to what it was.
-abbrev pub HostUnder : HostPlace → ℕ → LineUnderWay → Type 0
-HostUnder host_at.Look page u = u.stage ≡ Fresh
-HostUnder (host_at.End p) page u = u.stage ≡ HasChangedHost (own_frames page)
-HostUnder _ page u = (u.stage ≡ Fresh) × (u.notes.host page ≡ Some (own_frames page))
+-- A host line has done nothing yet, up to its change, and from its first step on it has looked at its page, which its word maps so; after it, it has changed
+-- the page.
+abbrev pub HostUnder : HostPlace → ℕ → Topics → LineUnderWay → Type 0
+HostUnder host_at.Look page t u = u.stage ≡ Fresh
+HostUnder (host_at.End p) page t u = (entry : HostEntry) × (u.stage ≡ HasChangedHost entry)
+HostUnder _ page t u = (u.stage ≡ Fresh) × (u.notes.host page ≡ Some (entry_of (word_looked t.host)))
 
 -- The line under way is this one, with this command, at this place, and its actor holds these topics.
 abbrev pub UnderAt : (ℕ → ℕ) → Place → Line → Command → Topics → LineUnderWay → Type 0
 UnderAt pool place.Between line command t u = u.stage ≡ Idle
 UnderAt pool (place.Access p) line (Access gfn word op) t u = (u.line ≡ line) × AccessUnder pool p gfn op t u
 UnderAt pool (place.SlotChange p) line command t u = (u.line ≡ line) × SlotChangeUnder p u
-UnderAt pool (place.Host p) line (ChangeHost page change) t u = (u.line ≡ line) × HostUnder p page u
+UnderAt pool (place.Host p) line (ChangeHost page change) t u = (u.line ≡ line) × HostUnder p page t u
 UnderAt pool _ line command t u = ⊥
 
 -- The hand's line under way is the flat one.
@@ -113,6 +116,6 @@ abbrev pub UnderIs : (ℕ → ℕ) → Place → Command → Held → LineUnderW
 UnderIs pool p command h u = UnderAt pool p h.state.line command h.topics u
 
 pub record FlatInvariant (z : Sizes) (v : View) (f : Flat) : Type 0 where
-  pub refines : Refines z (v.words area.Slots 0) (v.words area.Pool) (v.words area.Content) (v.words area.Pause 0) f.facts
+  pub refines : Refines z (v.words area.Slots 0) (v.words area.Pool) (v.words area.Host) (v.words area.Content) (v.words area.Pause 0) f.facts
   pub under : (i : ℕ) → i < actors_of z
       → UnderIs (v.words area.Pool) (v.hand i).state.place (v.hand i).state.line.command (v.hand i) (f.under (v.hand i).state.actor)

@@ -1,5 +1,5 @@
 -- Which page a leaf is of and who may write by it, as slots and host say (tdp_mmu.c, `tdp_mmu_map_handle_target_level`; mmu.rst, "Shadow pages").
-use Rattle.std.specs.Prelude.{◌≡◌, ◌^◌, ◌<◌, ◌&&◌, ℕ, All, true, Some, is_some}
+use Rattle.std.specs.Prelude.{◌≡◌, ◌^◌, ◌<◌, ◌≤◌, ◌&&◌, ℕ, All, [], true, Some, is_some}
 use Rattle.core_views.specs.declared.place.AccessPlace.TheVariants.{Touch}
 use Rattle.core_views.specs.declared.place.Place.TheVariants as place
 use Rattle.core_views.specs.declared.sizes.Sizes.{Sizes}
@@ -16,6 +16,7 @@ use Rattle.spte_words.specs.HostWords.{host_allows_write, host_frame}
 use Rattle.mmu_core.specs.machine.Enabled.{mmu}
 use Rattle.mmu_core.specs.alone.FaultAlone.{LeadsTo}
 use Rattle.mmu_core.specs.lines.FaultSteps.{allows_access}
+use Rattle.mmu_core.specs.invariant.InvalidatedPart.{may_use}
 use Rattle.mmu_core.specs.invariant.Laws.{IsSound}
 use Rattle.mmu_core.specs.machine.Machine.{World, hand_in}
 use Rattle.part_steps.specs.PartTasks.{table_page}
@@ -44,14 +45,20 @@ LeavesAgree =
 abbrev pub HeldLeavesAgree : Type 0
 HeldLeavesAgree =
     (z : Sizes) (w : World Held) (actor gfn entry : ℕ) → IsSound z w → actor < actors_of z → IsOver gfn (hand_in mmu w actor).topics.walk
-    → LeadsTo (word_in z w area.Pool) (hand_in mmu w actor).topics.walk.level (table_page (hand_in mmu w actor).topics.walk) gfn entry → kind_of 1 entry ≡ entry_kind.Leaf
-    → LeafAgrees (word_in z w area.Slots 0) (word_in z w area.Pool) (word_in z w area.Host) gfn entry
+    → LeadsTo (word_in z w area.Pool) (hand_in mmu w actor).topics.walk.level (table_page (hand_in mmu w actor).topics.walk) gfn entry
+    → kind_of 1 entry ≡ entry_kind.Leaf → LeafAgrees (word_in z w area.Slots 0) (word_in z w area.Pool) (word_in z w area.Host) gfn entry
 
--- Each translation that an actor has cached agrees.
+-- What an actor has cached is of the lowest level, at frames of the machine. What a virtual processor may use of it agrees: all that it has cached, while it
+-- is in the guest or no flush is asked of it. An actor that is no virtual processor has nothing cached.
+pub record CachedAgrees (z : Sizes) (w : World Held) (actor : ℕ) : Type 0 where
+  pub lowest : All (λ t. (t.level ≡ 1) × (frame_in t.leaf < z.frames)) (hand_in mmu w actor).cached.items
+  pub agrees : actor < z.vcpus → may_use (word_in z w area.State actor) (hand_in mmu w actor).topics.stay ≡ true
+      → All (λ t. LeafAgrees (word_in z w area.Slots 0) (word_in z w area.Pool) (word_in z w area.Host) t.gfn t.leaf) (hand_in mmu w actor).cached.items
+  pub others : z.vcpus ≤ actor → (hand_in mmu w actor).cached.items ≡ []
+
+-- So it is of each actor.
 abbrev pub CachedLeavesAgree : Type 0
-CachedLeavesAgree =
-    (z : Sizes) (w : World Held) (actor : ℕ) → IsSound z w → actor < actors_of z
-    → All (λ t. (t.level ≡ 1) × LeafAgrees (word_in z w area.Slots 0) (word_in z w area.Pool) (word_in z w area.Host) t.gfn t.leaf) (hand_in mmu w actor).cached.items
+CachedLeavesAgree = (z : Sizes) (w : World Held) (actor : ℕ) → IsSound z w → actor < actors_of z → CachedAgrees z w actor
 
 -- The leaf by which an access is about to touch agrees, and allows the access.
 abbrev pub UsedLeavesAgree : Type 0

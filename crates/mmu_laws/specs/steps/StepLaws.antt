@@ -1,5 +1,5 @@
 -- What the numbers of a step tell: of which area its word is, whether its line ends with it, and what it leaves of what is cached.
-use Rattle.std.specs.Prelude.{◌≡◌, ◌<◌, ◌+◌, ◌⊎◌, ℕ, true, false, [], ◌==◌, if◌then◌else◌}
+use Rattle.std.specs.Prelude.{◌≡◌, ◌<◌, ◌+◌, ◌⊎◌, ℕ, Bool, true, false, [], ◌==◌, if◌then◌else◌}
 use Rattle.circular_buffer.specs.Buffer.{Buffer}
 use Rattle.core_views.specs.declared.cache.Translation.{Translation}
 use Rattle.core_views.specs.declared.kind.Kind.{Kind}
@@ -12,7 +12,7 @@ use Rattle.core_views.specs.Kinds.{kind_named}
 use Rattle.spte_words.specs.declared.area.Area.{Area}
 use Rattle.spte_words.specs.declared.area.Area.TheVariants as area
 use Rattle.spte_words.specs.Areas.{place, size_of}
-use Rattle.spte_words.specs.HostWords.{host_level, with_writes_allowed}
+use Rattle.spte_words.specs.HostWords.{host_level, with_writes}
 use Rattle.mmu_core.specs.lines.HostSteps.{entry_of}
 use Rattle.mmu_core.specs.declared.outcome.Outcome.{Outcome}
 use Rattle.mmu_core.specs.lines.AccessSteps.{ends_with}
@@ -114,7 +114,8 @@ abbrev pub OthersCacheOneAtMost : Type 0
 OthersCacheOneAtMost =
     (h : Held) (k : Kind) (v : ℕ) → Enabled h k → (kind_named k.code ≡ kind.Enter → asks_flush v ≡ false) → CachesOneAtMost h.cached (next h k v).cached
 
--- The host word that a host thread puts to allow writes is as the one before it, and allows writes.
-abbrev pub AllowedWordsTell : Type 0
-AllowedWordsTell =
-    (word : ℕ) → (entry_of (with_writes_allowed word) ≡ record (entry_of word) { writable = true }) × (host_level (with_writes_allowed word) ≡ host_level word)
+-- The host word that a host thread puts to allow writes, or to forbid them, is as the one before it, and allows writes or doesn't.
+abbrev pub RevisedWordsTell : Type 0
+RevisedWordsTell =
+    (allowed : Bool) (word : ℕ)
+    → (entry_of (with_writes allowed word) ≡ record (entry_of word) { writable = allowed }) × (host_level (with_writes allowed word) ≡ host_level word)

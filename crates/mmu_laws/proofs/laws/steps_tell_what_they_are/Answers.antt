@@ -1,6 +1,6 @@
 use Rattle.mmu_laws.proofs.steps.InvalidationLaws.{invalidations_are_counted, sequence_is_raised}
 use Rattle.mmu_laws.proofs.steps.EventLaws.{events_are_of_their_steps}
-use Rattle.mmu_laws.proofs.steps.AllowedWords.{allowed_words_tell}
+use Rattle.mmu_laws.proofs.steps.AllowedWords.{words_tell}
 use Rattle.mmu_laws.proofs.steps.Notes.{notes_tell_ends}
 use Rattle.mmu_laws.proofs.steps.StepLaws.{entering_flushes, others_cache_one, steps_are_on_their_areas}
 use Rattle.mmu_laws.proofs.laws.steps_tell_what_they_are.Goals as goal
@@ -17,8 +17,8 @@ returns-clause-flushes c = entering_flushes
 pub returns-clause-caches : goal.returns-clause-caches
 returns-clause-caches c = others_cache_one
 
-pub returns-clause-allowed : goal.returns-clause-allowed
-returns-clause-allowed c = allowed_words_tell
+pub returns-clause-revised : goal.returns-clause-revised
+returns-clause-revised c = words_tell
 
 pub returns-clause-events : goal.returns-clause-events
 returns-clause-events c = events_are_of_their_steps

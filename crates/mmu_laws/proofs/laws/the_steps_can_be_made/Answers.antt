@@ -1,4 +1,5 @@
 use Rattle.mmu_laws.proofs.steps.ExampleHostRun.{example_host}
+use Rattle.mmu_laws.proofs.steps.ExampleProtectRun.{example_protect}
 use Rattle.mmu_core.specs.machine.Enabled.{mmu}
 use Rattle.mmu_core.specs.machine.Machine.{run}
 use Rattle.mmu_laws.proofs.steps.CanStep.{may_step}
@@ -31,3 +32,6 @@ returns-clause-slot_waits c = example_waits
 
 pub returns-clause-host : goal.returns-clause-host
 returns-clause-host c = example_host
+
+pub returns-clause-protect : goal.returns-clause-protect
+returns-clause-protect c = example_protect

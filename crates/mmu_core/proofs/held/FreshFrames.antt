@@ -1,0 +1,88 @@
+-- What was checked under the lock, of open invalidations: none is of the guest frame, so none is of its page.
+use Rattle.std.proofs.Common.{◌≡◌, ◌≢◌, ◌⊎◌, inl, inr, ◌+◌, ◌-◌, ◌<◌, ◌≤◌, ℕ, refl, sym, subst, ap, ◌∙◌, arith}
+use Rattle.std.specs.Prelude.{true, false, Some, nat_le, ◌&&◌, nat_lt}
+use Rattle.std.proofs.lemmas.Bool.Decides.{nat_tests}
+use Rattle.core_views.specs.declared.sizes.Sizes.{Sizes}
+use Rattle.core_views.specs.declared.topics.Invalidations.{Invalidations}
+use Rattle.core_views.specs.declared.topics.HostLook.{HostLook}
+use Rattle.core_views.specs.declared.topics.Topics.{Topics}
+use Rattle.core_views.specs.declared.trace.Slot.{Slot as SlotOf}
+use Rattle.core_views.specs.Sizes.{actors_of}
+use Rattle.core_views.specs.Slots.{contains, has_host_page}
+use Rattle.spte_words.specs.declared.area.Area.TheVariants as area
+use Rattle.part_steps.specs.InvalidationHoldings.{knows_count}
+use Rattle.part_steps.specs.InvalidationRange.{gfn_behind}
+use Rattle.part_steps.specs.PartHoldings.{IsFresh, LookedUp, MayEnter}
+use Rattle.part_steps.specs.PartTasks.{word_looked}
+use Rattle.part_steps.specs.SlotWords.{page_of}
+use Rattle.part_steps.specs.StayTopics.{has_lock}
+use Rattle.mmu_core.specs.invariant.InvalidatedPart.{Gives, IsIn}
+use Rattle.mmu_core.specs.invariant.InvalidationsPart.{knows_seq}
+use Rattle.mmu_core.specs.invariant.SearchPart.{IsUnder}
+use Rattle.mmu_core.specs.invariant.TopicsInvariant.{TopicsInvariant}
+use Rattle.mmu_core.specs.machine.View.{View}
+use Rattle.mmu_core.proofs.held.OpenFrames.{none_opened}
+use Rattle.mmu_core.proofs.pages.TreeKept.{found_live}
+
+-- A guest frame that was checked under the lock is in no open invalidation.
+pub fresh_in_none : (z : Sizes) (v : View) (a i gfn : ℕ) → TopicsInvariant z v → a < actors_of z → i < actors_of z
+    → has_lock (v.hand a).topics.hold ≡ true → IsFresh gfn (v.hand a).topics.invalidations
+    → (v.hand i).topics.invalidations.opened ≡ true → IsIn (v.hand i).topics.invalidations.own gfn → ⊥
+fresh_in_none z v a i gfn I there lt lock fresh is_open is_in = by fresh.none_over
+  where
+    n : Invalidations
+    n = (v.hand a).topics.invalidations
+
+    counted : n.count ≡ v.words area.Count 0
+    counted = (I.checks a there).counted lock (ap knows_count fresh.checked_all)
+
+    some : n.count ≢ 0
+    some none =
+        none_opened (actors_of z) (v.words area.Count 0) (λ j. (v.hand j).topics.invalidations.opened) i lt I.counts (sym counted ∙ none) is_open
+
+    known : (n.start ≡ v.words area.RangeStart 0) × (n.end ≡ v.words area.RangeEnd 0)
+    known = I.known a there lock fresh.checked_all (omega (arith, some))
+
+    range : (v.words area.RangeStart 0 ≤ gfn) × (gfn < v.words area.RangeEnd 0)
+    range = I.ranges i gfn lt is_open is_in
+
+    by : (n.count ≡ 0) ⊎ (gfn < n.start) ⊎ (n.end ≤ gfn) → ⊥
+    by (inl none) = absurd (some none)
+    by (inr (inl before)) = let start = known.0 in let from = range.0 in omega (arith, before, start, from)
+    by (inr (inr behind)) = let end_ = known.1 in let to = range.1 in omega (arith, behind, end_, to)
+
+-- A slot that has the guest frame gives it to the page behind it.
+pub behind_it : (slot : SlotOf) (gfn : ℕ) → contains gfn slot ≡ true → (has_host_page (page_of slot gfn) slot ≡ true) × (gfn ≡ gfn_behind (page_of slot gfn) slot)
+behind_it slot gfn holds = by slot.base slot.pages slot.host holds
+  where
+    by : (base pages host : ℕ) → (nat_le base gfn && nat_lt gfn (base + pages)) ≡ true
+        → ((nat_le host (host + (gfn - base)) && nat_lt (host + (gfn - base)) (host + pages)) ≡ true) × (gfn ≡ base + (host + (gfn - base) - host))
+    by base pages host is = let bounds = within base pages is in (grind (arith, nat_tests, bounds.0, bounds.1), omega (arith, bounds.0))
+      where
+        within : (b p : ℕ) → (nat_le b gfn && nat_lt gfn (b + p)) ≡ true → (b ≤ gfn) × (gfn < b + p)
+        within b p e = (grind (arith, nat_tests), grind (arith, nat_tests))
+
+-- The word that was looked up is the host word of the page behind the guest frame, where a fault may store an entry of it.
+pub looked_word : (z : Sizes) (v : View) (a gfn : ℕ) → a < actors_of z → TopicsInvariant z v → MayEnter gfn (v.hand a).topics
+    → word_looked (v.hand a).topics.host ≡ v.words area.Host (page_of (v.hand a).topics.search.slot gfn)
+looked_word z v a gfn there I M =
+    ap word_looked M.looked_up.host
+    ∙ (I.looks a there).still (record { page = page_of slot gfn; word = M.looked_up.word }) t.invalidations.seq M.looked_up.host M.fresh.still
+    ((I.checks a there).numbered lock (ap knows_seq M.fresh.checked_all)) none
+  where
+    t : Topics
+    t = (v.hand a).topics
+
+    slot : SlotOf
+    slot = t.search.slot
+
+    lock : has_lock t.hold ≡ true
+    lock = ap has_lock M.shares
+
+    none : (j : ℕ) → j < actors_of z → IsUnder (page_of slot gfn) (v.hand j).topics → ⊥
+    none j lt U =
+        let B = behind_it slot gfn M.looked_up.found.holds in
+        let given : Gives (v.words area.Pool) (v.words area.Slots 0) (page_of slot gfn) gfn =
+        record { id = t.search.id - 1; slot = slot; live = found_live z v a gfn there I M.looked_up.found; has = B.0; is = B.1 } in
+        fresh_in_none z v a j gfn I there lt lock M.fresh U.opened
+        ((I.scopes j lt U.opened).covers gfn (subst (λ p. Gives (v.words area.Pool) (v.words area.Slots 0) p gfn) (sym U.of_page) given))

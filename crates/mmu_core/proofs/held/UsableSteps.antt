@@ -1,0 +1,241 @@
+-- Each step of a part keeps it that what a virtual processor may use of what it has cached agrees with slots and host.
+use Rattle.std.proofs.Common.{◌≡◌, ◌⊎◌, inl, inr, ◌<◌, ◌≤◌, ℕ, List, [], refl, sym, subst, ap, ◌∙◌, arith}
+use Rattle.std.specs.Prelude.{All, Bool, true, false, ◌≢◌, not, if◌then◌else◌}
+use Rattle.std.proofs.lemmas.List.Elements.{All-nil}
+use Rattle.circular_buffer.specs.Buffer.{Buffer, buffer}
+use Rattle.core_views.specs.declared.cache.Translation.{Translation}
+use Rattle.core_views.specs.declared.kind.Kind.{Kind}
+use Rattle.core_views.specs.declared.kind.StepKind.{StepKind}
+use Rattle.core_views.specs.declared.kind.StepKind.TheVariants as kind
+use Rattle.core_views.specs.declared.sizes.Sizes.{Sizes}
+use Rattle.core_views.specs.declared.topics.Invalidated.{Invalidated}
+use Rattle.core_views.specs.declared.topics.Stay.{Stay}
+use Rattle.core_views.specs.declared.topics.Stay.TheVariants.{Outside, Section}
+use Rattle.core_views.specs.declared.topics.Topics.{Topics}
+use Rattle.core_views.specs.Held.{Held}
+use Rattle.core_views.specs.Kinds.{kind_named}
+use Rattle.core_views.specs.Sizes.{actors_of}
+use Rattle.spte_words.specs.declared.area.Area.{Area}
+use Rattle.spte_words.specs.declared.area.Area.TheVariants as area
+use Rattle.part_steps.specs.declared.part_step.PartStep.{PartStep}
+use Rattle.part_steps.specs.declared.part_step.PartStep.TheVariants as part
+use Rattle.part_steps.specs.declared.task.Task.{Task}
+use Rattle.part_steps.specs.PartTasks.{page_looked, part_task}
+use Rattle.part_steps.specs.PartTopics.{part_topics}
+use Rattle.part_steps.specs.SlotWords.{leaf_of, page_of}
+use Rattle.part_steps.specs.Tasks.{kind_of_task}
+use Rattle.mmu_core.specs.invariant.CachedPart.{AgreePart, IsLeafFor}
+use Rattle.mmu_core.specs.invariant.InvalidatedPart.{Gives, IsClean, IsIn, IsOfPage, UsablePart, may_use}
+use Rattle.mmu_core.specs.invariant.TopicsInvariant.{TopicsInvariant}
+use Rattle.mmu_core.specs.lines.Cached.{asks_flush, flushed, flushed_by}
+use Rattle.mmu_core.specs.machine.View.{View, answer_in, part_stepped, upd, words_after}
+use Rattle.mmu_core.proofs.held.FlushChanges.{begun_asks, cached_more, ended_asks, left_asks, none_asked, used_asked, used_gone}
+use Rattle.mmu_core.proofs.held.FlushSteps.{FlushAt, FlushFor, KeepsClean, asked_there}
+use Rattle.mmu_core.proofs.held.FreshFrames.{behind_it}
+use Rattle.mmu_core.proofs.machine.Columns.{at_upd, same_or, upd_other, upd_same}
+use Rattle.mmu_core.proofs.machine.PartStepping.{IsPart}
+use Rattle.mmu_core.proofs.slots.LiveStay.{StayLive, translations_stay}
+use Rattle.mmu_core.proofs.slots.LiveStays.{live_in_stays, part_live_stays}
+use Rattle.mmu_core.proofs.words.PartWords.{slots_are, slots_behind}
+
+-- what may be used of what is cached, in a view
+abbrev pub UsableAt : Sizes → View → Type 0
+UsableAt z v = UsablePart (actors_of z) z.vcpus (v.words area.State) (v.words area.Pool) (v.words area.Host) (v.words area.Slots 0) v.hand
+
+-- What is cached agrees with slots and host, as these words have them.
+abbrev pub Agrees : (Area → ℕ → ℕ) → List Translation → Type 0
+Agrees words cached = AgreePart (words area.Pool) (words area.Host) (words area.Slots 0) cached
+
+-- ---- Slots and host change.
+
+-- An invalidation is of a page, and not of this guest frame: where the page's host word changes, the leaf of the guest frame is the same.
+leaf_elsewhere : (pool host : ℕ → ℕ) (set page x : ℕ) (own_ : Invalidated) (gfn leaf : ℕ) → IsOfPage pool set own_ → own_.page ≡ page
+    → (IsIn own_ gfn → ⊥) → IsLeafFor pool host set gfn leaf → IsLeafFor pool (upd host page x) set gfn leaf
+leaf_elsewhere pool host set page x own_ gfn leaf scope same out L = record {
+  id = L.id;
+  slot = L.slot;
+  live = L.live;
+  holds = L.holds;
+  is = L.is ∙ ap (leaf_of L.slot) (sym (upd_other host page (page_of L.slot gfn) x apart));
+}
+  where
+    apart : page_of L.slot gfn ≢ page
+    apart e =
+        let B = behind_it L.slot gfn L.holds in
+        let given : Gives pool set (page_of L.slot gfn) gfn = record { id = L.id; slot = L.slot; live = L.live; has = B.0; is = B.1 } in
+        out (scope.covers gfn (subst (λ p. Gives pool set p gfn) (e ∙ sym same) given))
+
+-- So what is cached agrees still, where nothing of it is of the invalidation's frames.
+agree_elsewhere : (pool host : ℕ → ℕ) (set page x : ℕ) (own_ : Invalidated) (cached : List Translation) → IsOfPage pool set own_
+    → own_.page ≡ page → IsClean own_ cached → AgreePart pool host set cached → AgreePart pool (upd host page x) set cached
+agree_elsewhere pool host set page x own_ cached scope same clean agrees k d lt =
+    leaf_elsewhere pool host set page x own_ _ _ scope same (clean k d lt) (agrees k d lt)
+
+-- What was live is live, and the same, in the slot set that is published behind the step.
+live_behind : (z : Sizes) (v : View) (a : ℕ) (step : PartStep) (note : ℕ) → IsPart z v a step → TopicsInvariant z v
+    → StayLive (v.words area.Pool) (v.words area.Slots 0) ((part_stepped a step note v).words area.Pool)
+    (slots_behind step (v.hand a).topics (v.words area.Slots 0))
+live_behind z v a part.Publish note S I = S.replaces
+live_behind z v a step note S I = λ id slot live.
+    live_in_stays (v.words area.Slots 0) (v.words area.Pool) ((part_stepped a step note v).words area.Pool) id slot (part_live_stays z v a step note S I) live
+
+-- Where the step changes a host word, nothing cached is of the frames of this invalidation.
+abbrev CleanFor : PartStep → Invalidated → List Translation → Type 0
+CleanFor (part.Change new_) own_ cached = IsClean own_ cached
+CleanFor _ own_ cached = Unit {0}
+
+-- Then what agrees agrees behind the step.
+agrees_behind : (z : Sizes) (v : View) (a : ℕ) (step : PartStep) (note : ℕ) (cached : List Translation) → IsPart z v a step → TopicsInvariant z v
+    → CleanFor step (v.hand a).topics.invalidations.own cached → Agrees v.words cached → Agrees (part_stepped a step note v).words cached
+agrees_behind z v a (part.Change new_) note cached S I clean agrees =
+    agree_elsewhere (v.words area.Pool) (v.words area.Host) (v.words area.Slots 0) (page_looked (v.hand a).topics.host) _ (v.hand a).topics.invalidations.own
+    cached (I.scopes a S.there S.needs.0.opened) S.needs.0.invalid clean agrees
+agrees_behind z v a step note cached S I clean agrees =
+    subst (λ s. AgreePart ((part_stepped a step note v).words area.Pool) (v.words area.Host) s cached) (sym (slots_are v a step note))
+    (translations_stay (v.words area.Pool) (v.words area.Slots 0) ((part_stepped a step note v).words area.Pool)
+    (slots_behind step (v.hand a).topics (v.words area.Slots 0)) (live_behind z v a step note S I) (v.words area.Host) cached agrees)
+
+-- ---- Who has something cached.
+
+-- It is said of each, where the actor at place a has this hand now and the words are these, if it is said of this actor and of each other virtual
+-- processor.
+each_usable : (z : Sizes) (v : View) (a : ℕ) (words : Area → ℕ → ℕ) (g : Held)
+    → (a < z.vcpus → may_use (words area.State a) g.topics.stay ≡ true → Agrees words g.cached.items)
+    → ((k : ℕ) → k < z.vcpus → k ≢ a → may_use (words area.State k) (v.hand k).topics.stay ≡ true → Agrees words (v.hand k).cached.items)
+    → (z.vcpus ≤ a → g.cached.items ≡ []) → UsableAt z v → UsableAt z (record { words = words; hand = upd v.hand a g })
+each_usable z v a words g own others none U = record {
+  agrees = λ k low. at_upd (λ k (y : Held). k < z.vcpus → may_use (words area.State k) y.topics.stay ≡ true → Agrees words y.cached.items) v.hand a g
+      own (λ k ne low. others k low ne) k low;
+  others = λ i lt. at_upd (λ i (y : Held). i < actors_of z → z.vcpus ≤ i → y.cached.items ≡ []) v.hand a g (λ lt. none) (λ i ne lt. U.others i lt) i lt;
+}
+
+-- So it is where nobody has anything cached.
+pub none_usable : (z : Sizes) (v : View) → ((i : ℕ) → i < actors_of z → (v.hand i).cached.items ≡ []) → UsableAt z v
+none_usable z v none = record {
+  agrees = λ k low may. subst (Agrees v.words) (sym (none k (omega (arith, low))))
+      (All-nil (λ (t : Translation). IsLeafFor (v.words area.Pool) (v.words area.Host) (v.words area.Slots 0) t.gfn t.leaf));
+  others = λ i lt high. none i lt;
+}
+
+-- What the actor at place a has cached before a flush: of the frames of an open invalidation, of which it was asked for a flush, there is nothing if there was
+-- nothing; it agrees where what is cached may be used; and there is none of it, where the actor is no virtual processor.
+pub record Caches (z : Sizes) (v : View) (a : ℕ) (c : Buffer Translation) : Type 0 where
+  pub keeps : KeepsClean z v a c
+  pub agrees : a < z.vcpus → may_use (v.words area.State a) (v.hand a).topics.stay ≡ true → Agrees v.words c.items
+  pub none : z.vcpus ≤ a → c.items ≡ []
+
+-- Such is what it has.
+pub has_cached : (z : Sizes) (v : View) (a : ℕ) → a < actors_of z → UsableAt z v → Caches z v a (v.hand a).cached
+has_cached z v a there U = record { keeps = λ i lt opened asked clean. clean; agrees = U.agrees a; none = U.others a there }
+
+-- A flush leaves none where there is none.
+flushed_none : (k : Kind) (c : Buffer Translation) (x : ℕ) → c.items ≡ [] → (flushed k c x).items ≡ []
+unfolding flushed
+flushed_none k c x none = by (kind_named k.code)
+  where
+    cleared : (b : Bool) → (if b then buffer [] c.capacity else c).items ≡ []
+    cleared true = refl
+    cleared false = none
+
+    by : (n : StepKind) → (flushed_by n c x).items ≡ []
+    by kind.Enter = cleared (asks_flush x)
+    by _ = none
+
+-- ---- Behind a step of a part.
+
+-- The step's actor has this cached, before a flush; and its hand is this one behind the step, but for what it holds and has cached.
+module _ (z : Sizes) (v : View) (a note : ℕ) (c : Buffer Translation) (g : Held) where
+  abbrev h : Held
+  h = v.hand a
+
+  abbrev before : ℕ → ℕ
+  before = v.words area.State
+
+  abbrev task : PartStep → Task
+  task step = part_task step a h.topics note
+
+  abbrev words : PartStep → Area → ℕ → ℕ
+  words step = words_after (task step) v.words
+
+  abbrev states : PartStep → ℕ → ℕ
+  states step = words step area.State
+
+  abbrev topics : PartStep → Topics
+  topics step = part_topics step h.topics (answer_in (task step) v.words)
+
+  abbrev cached : PartStep → Buffer Translation
+  cached step = flushed (kind_of_task h.state.sizes (task step)) c (answer_in (task step) v.words)
+
+  abbrev behind : PartStep → Held
+  behind step = record g { topics = topics step; cached = cached step }
+
+  -- Nothing of the frames of the actor's invalidation is cached, where its page's host word changes.
+  clean_for : {cached : List Translation} (step : PartStep) (k : ℕ) (stay : Stay) → IsPart z v a step → k < z.vcpus
+      → FlushFor h.topics k (before k) stay cached → may_use (before k) stay ≡ true → CleanFor step h.topics.invalidations.own cached
+  clean_for (part.Change new_) k stay S low F may =
+      let sizes : h.state.sizes.vcpus ≡ z.vcpus = ap (λ (y : Sizes). y.vcpus) S.sizes in
+      (F S.needs.0.opened).awaits (omega (arith, low, sizes, S.needs.0.asked)) (omega (arith, low, sizes, S.needs.0.awaited)) may
+  clean_for _ k stay S low F may = tt
+
+  agrees_after : (step : PartStep) (kept : List Translation) → IsPart z v a step → TopicsInvariant z v
+      → CleanFor step h.topics.invalidations.own kept → Agrees v.words kept → Agrees (words step) kept
+  agrees_after step kept S I clean agrees =
+      subst (λ i. Agrees (words_after (part_task step i h.topics note) v.words) kept) S.own_place (agrees_behind z v a step note kept S I clean agrees)
+
+  -- Another virtual processor that may use what it has cached might before.
+  used_elsewhere : (stay : Stay) (place k w : ℕ) → k ≢ place → may_use (upd before place w k) stay ≡ true → may_use (before k) stay ≡ true
+  used_elsewhere stay place k w ne may = ap (λ n. may_use n stay) (sym (upd_other before place k w ne)) ∙ may
+
+  used_of : (stay : Stay) (index k : ℕ) → may_use (states (part.Ask index) k) stay ≡ true → may_use (before k) stay ≡ true
+  used_of stay index k may = by (same_or k index)
+    where
+      by : (k ≡ index) ⊎ (k ≢ index) → may_use (before k) stay ≡ true
+      by (inl e) = used_asked (before k) (states (part.Ask index) k) stay (asked_there before index k e) may
+      by (inr ne) = used_elsewhere stay index k _ ne may
+
+  other_used : (step : PartStep) (stay : Stay) (k : ℕ) → k ≢ a → may_use (states step k) stay ≡ true → may_use (before k) stay ≡ true
+  other_used part.Enter stay k ne may = used_elsewhere stay a k _ ne may
+  other_used part.Leave stay k ne may = used_elsewhere stay a k _ ne may
+  other_used part.Begin stay k ne may = used_elsewhere stay a k _ ne may
+  other_used part.End stay k ne may = used_elsewhere stay a k _ ne may
+  other_used (part.Ask index) stay k ne may = used_of stay index k may
+  other_used _ stay k ne may = may
+
+  -- What is so of all that the actor itself has cached, where it may use it, is so behind the step.
+  module _ (P : Translation → Type 0) (all : may_use (before a) h.topics.stay ≡ true → All P c.items) where
+    gone : (w : ℕ) (stay : Stay) → asks_flush w ≡ asks_flush (before a) → may_use w stay ≡ not (asks_flush w)
+        → may_use (upd before a w a) stay ≡ true → All P c.items
+    gone w stay asks goes may = all (used_gone (before a) w h.topics.stay stay asks goes (ap (λ n. may_use n stay) (sym (upd_same before a w)) ∙ may))
+
+    own_used : (step : PartStep) → IsPart z v a step → may_use (states step a) (topics step).stay ≡ true → All P (cached step).items
+    unfolding flushed
+    own_used part.Enter S may = by (asks_flush (before a)) refl
+      where
+        by : (b : Bool) → asks_flush (before a) ≡ b → All P (if b then buffer [] c.capacity else c).items
+        by true asks = All-nil P
+        by false none = all (none_asked (before a) h.topics.stay none)
+    own_used part.Leave S may = gone _ Outside (left_asks (before a) (S.small area.State a)) refl may
+    own_used part.Begin S may = gone _ Section (begun_asks (before a)) refl may
+    own_used part.End S may = gone _ Outside (ended_asks (before a)) refl may
+    own_used (part.Ask index) S may = all (used_of h.topics.stay index a may)
+    own_used _ S may = all may
+
+  pub part_usable : (step : PartStep) → IsPart z v a step → TopicsInvariant z v → Caches z v a c → FlushAt z v → UsableAt z v
+      → UsableAt z (record { words = words step; hand = upd v.hand a (behind step) })
+  part_usable step S I C F U = each_usable z v a (words step) (behind step) own others (λ high. flushed_none _ c _ (C.none high)) U
+    where
+      own : a < z.vcpus → may_use (states step a) (topics step).stay ≡ true → Agrees (words step) (cached step).items
+      own low = own_used (λ (t : Translation). IsLeafFor (words step area.Pool) (words step area.Host) (words step area.Slots 0) t.gfn t.leaf)
+          (λ may. agrees_after step c.items S I
+          (clean_for step a h.topics.stay S low (λ opened. cached_more (C.keeps a S.there opened) (F a a S.there low opened)) may) (C.agrees low may)) step S
+
+      others : (k : ℕ) → k < z.vcpus → k ≢ a → may_use (states step k) (v.hand k).topics.stay ≡ true → Agrees (words step) (v.hand k).cached.items
+      others k low ne may =
+          let stay : Stay = (v.hand k).topics.stay in
+          let was : may_use (before k) stay ≡ true = other_used step stay k ne may in
+          agrees_after step (v.hand k).cached.items S I (clean_for step k stay S low (F a k S.there low) was) (U.agrees k low was)
+
+-- A touch leaves all but what is cached before it.
+pub touch_usable : (z : Sizes) (v : View) (a : ℕ) (c : Buffer Translation) (g : Held) → Caches z v a c → UsableAt z v
+    → UsableAt z (record { words = v.words; hand = upd v.hand a (record g { topics = (v.hand a).topics; cached = c }) })
+touch_usable z v a c g C U = each_usable z v a v.words (record g { topics = (v.hand a).topics; cached = c }) C.agrees (λ k low ne. U.agrees k low) C.none U
